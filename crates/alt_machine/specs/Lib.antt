@@ -1,0 +1,10 @@
+pub mod Forms
+pub mod Json
+pub mod Keys
+pub mod Operations
+pub mod Ops
+pub mod Outcomes
+pub mod Refusals
+pub mod Replies
+pub mod State
+pub mod Step

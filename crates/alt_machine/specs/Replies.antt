@@ -1,0 +1,48 @@
+-- The answers to requests that are carried out. They have status 200.
+use Rattle.std.specs.Prelude.{ℕ, Option, Some, None, List, [], ◌∷◌, ◌++◌, codes}
+use Rattle.serde_json.specs.Data.{Data, number, unsigned, string, array, object, item, no_items, Members, member, no_members, put}
+use Rattle.alt_value.specs.Tree.{Tree, text, Pairs}
+use Rattle.alt_machine.specs.Refusals.{Answer}
+
+-- a table's Amazon resource name
+abbrev pub table_arn : List ℕ → List ℕ
+table_arn name = codes "arn:aws:dynamodb:local:000000000000:table/" ++ name
+
+-- an attribute's name beside a word on it
+abbrev pub attribute : List ℕ → List ℕ → List ℕ → Data
+attribute key member_name word = object (member (codes "AttributeName") (string key) (member member_name (string word) no_members))
+
+-- the TableDescription of a table whose key is one text
+abbrev pub description : List ℕ → List ℕ → ℕ → List ℕ → Data
+description name key moment status = object
+    (member (codes "AttributeDefinitions") (array (item (attribute key (codes "AttributeType") (codes "S")) no_items))
+    (member (codes "CreationDateTime") (number (unsigned moment))
+    (member (codes "KeySchema") (array (item (attribute key (codes "KeyType") (codes "HASH")) no_items))
+    (member (codes "TableArn") (string (table_arn name))
+    (member (codes "TableName") (string name)
+    (member (codes "TableStatus") (string status) no_members))))))
+
+abbrev pub created : List ℕ → List ℕ → ℕ → Answer
+created name key moment = record { status = 200; body = object (member (codes "TableDescription") (description name key moment (codes "ACTIVE")) no_members) }
+
+-- a value as JSON
+abbrev pub tree_data : Tree → Data
+tree_data (text s) = object (member (codes "S") (string s) no_members)
+
+-- the members with these attributes put in
+abbrev pub members_with : Members → Pairs → Members
+members_with ms [] = ms
+members_with ms (p ∷ ps) = members_with (put p.0 (tree_data p.1) ms) ps
+
+-- an item as JSON
+abbrev pub item_data : Pairs → Data
+item_data ps = object (members_with no_members ps)
+
+-- an answer without members
+abbrev pub done : Answer
+done = record { status = 200; body = object no_members }
+
+-- the item that was found, if one was
+abbrev pub found : Option Pairs → Answer
+found None = done
+found (Some ps) = record { status = 200; body = object (member (codes "Item") (item_data ps) no_members) }

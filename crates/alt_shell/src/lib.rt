@@ -1,0 +1,9 @@
+//! The outside of a run besides its files: standard streams and a clock, on the moments of a disk. Connections are not
+//! built yet.
+#![tactic(auto)]
+
+mod memory;
+mod shell;
+
+pub use memory::MemoryShell;
+pub use shell::{CLOCK_END, Shell};

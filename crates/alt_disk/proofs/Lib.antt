@@ -1,0 +1,4 @@
+pub mod Calls
+pub mod Shapes
+mod Replay
+mod MemoryCalls

@@ -1,0 +1,51 @@
+-- How the list of calls goes on by one, and what shows of it at each moment.
+use Rattle.std.proofs.Common.{slice_index_or, ◌≡◌, ◌≢◌, ◌<◌, ◌≤◌, ◌==◌, nat_le, if◌then◌else◌, ⊎_elim, ℕ, List, [], ◌∷◌, ◌++◌, Option, refl, sym, ◌∙◌, ap, arith}
+use Rattle.std.proofs.lemmas.Bool.Decides.{nat_tests}
+use Rattle.std.proofs.lemmas.Bool.{cases_eq}
+use Rattle.std.proofs.lemmas.List.{append-nil}
+use Rattle.std.proofs.lemmas.List.Elements.{filter-append}
+use Rattle.std.specs.List.{All}
+use Rattle.alt_disk.specs.Memory.{Track, nothing, bytes_after, after, after_call, replay, until, Timed}
+use Rattle.alt_disk.specs.declared.made.Made.{Made}
+
+-- one call more is done last
+pub replay-push : (f : ℕ) (s : Track) (calls : List Made) (made : Made) → replay f s (calls ++ made ∷ []) ≡ after_call f made (replay f s calls)
+replay-push f s [] made = refl
+replay-push f s (m ∷ calls) made = replay-push f (after_call f m s) calls made
+
+-- a call acts on its own file
+pub call-own : (made : Made) (s : Track) → after_call made.file made s ≡ after made.deed s
+call-own made s = grind (arith, nat_tests)
+
+-- and on no other
+pub call-other : (f : ℕ) (made : Made) (s : Track) → f ≢ made.file → after_call f made s ≡ s
+call-other f made s other = grind (arith, nat_tests)
+
+test_same : {A : Type 0} (f g : ℕ) (x y : A) → f ≡ g → (if f == g then x else y) ≡ x
+test_same f g x y same = grind (arith, nat_tests)
+
+test_other : {A : Type 0} (f g : ℕ) (x y : A) → f ≢ g → (if f == g then x else y) ≡ y
+test_other f g x y other = grind (arith, nat_tests)
+
+-- files that are changed as the call says are still those of the list
+pub kept-push : (calls : List Made) (made : Made) (old new : ℕ → Option (List ℕ)) → ((f : ℕ) → old f ≡ (replay f nothing calls).bytes)
+    → ((g : ℕ) → new g ≡ (if made.file == g then bytes_after made.deed (old made.file) else old g)) → (f : ℕ) → new f ≡ (replay f nothing (calls ++ made ∷ [])).bytes
+kept-push calls made old new kept changed f = ⊎_elim
+    (λ (same : made.file ≡ f). changed f ∙ test_same made.file f _ _ same ∙ ap (λ (b : Option (List ℕ)). bytes_after made.deed b) (kept made.file)
+    ∙ ap (λ (s : Track). s.bytes) (sym (replay-push made.file nothing calls made ∙ call-own made _)) ∙ ap (λ (g : ℕ). (replay g nothing (calls ++ made ∷ [])).bytes) same)
+    (λ (other : made.file ≢ f). changed f ∙ test_other made.file f _ _ other ∙ kept f
+    ∙ ap (λ (s : Track). s.bytes) (sym (replay-push f nothing calls made ∙ call-other f made _ (λ same. other (sym same)))))
+    (cases_eq made.file f)
+
+-- a call of later doesn't show yet
+later_hides : (t : ℕ) (made : Made) → t < made.time → until t (made ∷ []) ≡ []
+later_hides t made late = grind (arith, nat_tests)
+
+-- what shows by a moment stays when a call of later is added
+pub until-push : (t : ℕ) (calls : List Made) (made : Made) → t < made.time → until t (calls ++ made ∷ []) ≡ until t calls
+until-push t calls made late =
+    filter-append (λ (m : Made). nat_le m.time t) calls (made ∷ []) ∙ ap (λ (l : List Made). until t calls ++ l) (later_hides t made late) ∙ append-nil (until t calls)
+
+-- calls that show by a moment show by each later one
+pub timed_later : (t u : ℕ) (calls : List Made) → All (Timed t) calls → t ≤ u → All (Timed u) calls
+timed_later t u calls timed le = λ k d below. let here : Timed t (slice_index_or calls k d) = timed k d below in omega (arith, here, le)

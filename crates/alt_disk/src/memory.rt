@@ -1,0 +1,214 @@
+//! A disk in memory. It keeps all writes, syncs and removals, so that each image that a stop may leave can be had of it.
+
+ghost use Rattle.std.specs.Prelude.{◌≡◌, ◌≤◌};
+ghost use Rattle.std.specs.List.{All};
+ghost use Rattle.alt_disk.specs.Memory.{Timed};
+
+use crate::buffer::{copy_from, write_deed};
+use crate::history::History;
+use crate::made::{Deed, Made};
+use crate::{Disk, DiskFault, Failed};
+use alt_base::NoMemory;
+use std::alloc::Global;
+
+/// The most bytes of a file.
+const MAX_SIZE: u64 = 1 << 62;
+
+/// A disk in memory, for tests and trials of stops. It tells its contents and is honest.
+#[derive(Drop)]
+pub struct MemoryDisk {
+    pub(crate) alloc: Global,
+    pub(crate) history: History,
+    pub(crate) fails: Vec<u64>,
+    pub(crate) moment: u64,
+    pub(crate) faults: u64,
+    pub(crate) reads: u64,
+    ghost timed: { All (Timed moment) history.calls.items },
+}
+
+impl MemoryDisk {
+    ghost use Rattle.std.specs.Prelude.{ℕ, ◌≢◌, ◌⊎◌, ◌+◌, ◌-◌, ◌^◌, ◌<◌, true, false, None, IsTrue, IfOk, OnOk, OnErr, is_ok};
+    ghost use Rattle.alt_disk.specs.Fates.{missing};
+    ghost use Rattle.alt_disk.specs.Disk.{Tick, Silent, Faulted, Same, now};
+    ghost use Rattle.alt_disk.specs.MemoryState.{state_of, fails_at};
+    ghost use Rattle.alt_disk.specs.Acted.{ActedSome, PushedSome};
+    ghost use Rattle.alt_base.specs.Counts.{Rose};
+
+    /// An empty disk.
+    pub fn new(alloc: Global) -> MemoryDisk
+        ensures empty { (f : ℕ) → (state_of result).file f ≡ None }
+        ensures images { (t f : ℕ) → (state_of result).fates t f ≡ missing }
+        ensures counts { ((state_of result).moment ≡ 0) × ((state_of result).faults ≡ 0) × ((state_of result).reads ≡ 0) }
+        ensures none_fails { (t : ℕ) → fails_at result t ≡ false }
+    {
+        MemoryDisk {
+            alloc,
+            history: History::new(alloc),
+            fails: Vec::new(alloc),
+            moment: 0,
+            faults: 0,
+            reads: 0,
+        }
+    }
+
+    /// Lets the call that is made at this moment fail.
+    pub fn fail(&mut self, moment: u64) -> Result<(), NoMemory>
+        ensures ok { OnOk result (fails_at self.new moment ≡ true) }
+        ensures others { (t : ℕ) → t ≢ moment → fails_at self.new t ≡ fails_at self.old t }
+        ensures stays { state_of self.new ≡ state_of self.old }
+        ensures err { OnErr result ((t : ℕ) → fails_at self.new t ≡ fails_at self.old t) }
+    {
+        self.fails.push(moment)?;
+        Ok(())
+    }
+
+    /// A call that does nothing to the files: it takes its moment, and may be one that is to fail.
+    pub fn tick(&mut self) -> Result<(), Failed>
+        ensures call { Silent (state_of self.old) (state_of self.new) (is_ok result) }
+        ensures to_fail { fails_at self.old (state_of self.old).moment ≡ true → is_ok result ≡ false }
+        ensures fails { (t : ℕ) → fails_at self.new t ≡ fails_at self.old t }
+    {
+        if self.start()? {
+            return Err(self.fault());
+        }
+        Ok(())
+    }
+
+    /// A fault that changes nothing but its count.
+    pub fn fault(&mut self) -> Failed
+        ensures call { Faulted (state_of self.old) (state_of self.new) }
+        ensures fails { (t : ℕ) → fails_at self.new t ≡ fails_at self.old t }
+    {
+        self.faults = self.faults.saturating_add(1);
+        Failed
+    }
+
+    // Counts a read, but at the last moment.
+    fn count_read(&mut self)
+        ensures stays { state_of self.new ≡ record (state_of self.old) { reads = self.new.reads } }
+        ensures later { self.old.reads ≤ self.new.reads }
+        ensures reads { self.new.reads ≤ self.old.reads + 1 }
+        ensures last { 2 ^ 64 - 1 ≤ self.old.moment → self.new.reads ≡ self.old.reads }
+        ensures fails { self.new.fails.items ≡ self.old.fails.items }
+    {
+        if self.moment < u64::MAX {
+            self.reads = self.reads.saturating_add(1);
+        }
+    }
+
+    // Makes a call on a file. `done` is what it does, none where there was no memory for it, and `failed` what it does where it
+    // is to fail.
+    fn make(&mut self, f: u32, done: Option<Deed>, failed: Option<Deed>) -> Result<(), Failed>
+        ensures ok { OnOk result (ActedSome (state_of self.old) (state_of self.new) f done) }
+        ensures err { OnErr result (Same (state_of self.old) (state_of self.new) ⊎ ActedSome (state_of self.old) (state_of self.new) f failed) }
+        ensures call { Tick (state_of self.old) (state_of self.new) (is_ok result) }
+        ensures to_fail { fails_at self.old (state_of self.old).moment ≡ true → is_ok result ≡ false }
+        ensures fails { (t : ℕ) → fails_at self.new t ≡ fails_at self.old t }
+    {
+        if self.start()? {
+            let _ = self.keep(f, failed);
+            return Err(self.fault());
+        }
+        self.keep(f, done)
+    }
+
+    // Keeps what a call did at this moment.
+    fn keep(&mut self, f: u32, deed: Option<Deed>) -> Result<(), Failed>
+        ensures ok { OnOk result (PushedSome self.old.history.calls.items self.new.history.calls.items self.old.moment f deed) }
+        ensures err { OnErr result ((self.new.history.calls.items ≡ self.old.history.calls.items) × Rose self.old.faults self.new.faults) }
+        ensures later { self.old.faults ≤ self.new.faults }
+        ensures moment { self.new.moment ≡ self.old.moment }
+        ensures reads { self.new.reads ≡ self.old.reads }
+        ensures fails { self.new.fails.items ≡ self.old.fails.items }
+    {
+        let Some(deed) = deed else {
+            self.faults = self.faults.saturating_add(1);
+            return Err(Failed);
+        };
+        let time = self.moment;
+        match self.history.add(Made {
+            time,
+            file: f,
+            deed,
+        }) {
+            Ok(()) => Ok(()),
+            Err(_) => {
+                self.faults = self.faults.saturating_add(1);
+                Err(Failed)
+            }
+        }
+    }
+
+    // Takes a call's moment, and says whether the call is to fail. At the last moment it fails.
+    fn start(&mut self) -> Result<bool, Failed>
+        ensures ok { IfOk result (λ to_fail. (to_fail ≡ fails_at self.old self.old.moment) × (self.old.moment < 2 ^ 64 - 1) × (self.new.moment ≡ self.old.moment + 1) × (self.new.faults ≡ self.old.faults)) }
+        ensures err { OnErr result ((self.new.moment ≡ self.old.moment) × (2 ^ 64 - 1 ≤ self.old.moment) × Rose self.old.faults self.new.faults) }
+        ensures later { self.old.faults ≤ self.new.faults }
+        ensures calls { self.new.history.calls.items ≡ self.old.history.calls.items }
+        ensures reads { self.new.reads ≡ self.old.reads }
+        ensures fails { self.new.fails.items ≡ self.old.fails.items }
+    {
+        if self.moment == u64::MAX {
+            self.faults = self.faults.saturating_add(1);
+            return Err(Failed);
+        }
+        let to_fail = self.fails.as_slice().contains(&self.moment);
+        self.moment += 1;
+        Ok(to_fail)
+    }
+}
+
+impl Disk for MemoryDisk {
+    ghost use Rattle.alt_disk.specs.MemoryState.{state_of};
+    ghost use Rattle.alt_disk.specs.Honest.{reads_as_image_of};
+
+    ghost state = { state_of };
+
+    ghost reads_as_image = { λ d trusted f. reads_as_image_of f d.moment d.history.calls.items d.timed };
+
+    fn names(&mut self, list: &mut Vec<u32>) -> Result<(), DiskFault> {
+        list.clear();
+        self.tick()?;
+        match self.history.names(list) {
+            Ok(()) => Ok(()),
+            Err(_) => {
+                list.clear();
+                Err(DiskFault::NoMemory)
+            }
+        }
+    }
+
+    fn size(&mut self, f: u32) -> Result<u64, Failed> {
+        self.tick()?;
+        let size = self.history.bytes(f).len() as u64;
+        if size > MAX_SIZE {
+            return Err(self.fault());
+        }
+        Ok(size)
+    }
+
+    fn read(&mut self, f: u32, at: u64, buf: &mut [u8]) -> Result<usize, Failed> {
+        self.count_read();
+        self.tick()?;
+        Ok(copy_from(self.history.bytes(f), at, buf))
+    }
+
+    fn write_at(&mut self, f: u32, at: u64, bytes: &[u8]) -> Result<(), Failed> {
+        let count = bytes.len() as u64;
+        let failed = Some(Deed::WriteFailed { at, count });
+        if at > MAX_SIZE || count > MAX_SIZE - at {
+            self.make(f, Some(Deed::WriteFailed { at, count }), failed)?;
+            return Err(self.fault());
+        }
+        let written = write_deed(self.alloc, at, bytes);
+        self.make(f, written, failed)
+    }
+
+    fn sync(&mut self, f: u32) -> Result<(), Failed> {
+        self.make(f, Some(Deed::Sync), None)
+    }
+
+    fn remove(&mut self, f: u32) -> Result<(), Failed> {
+        self.make(f, Some(Deed::Remove), Some(Deed::RemoveFailed))
+    }
+}

@@ -51,6 +51,14 @@ impl MemoryDisk {
         }
     }
 
+    /// Its moment, which counts the calls, and how many of them were reads.
+    pub fn counts(&self) -> (u64, u64)
+        ensures moment { result.0 ≡ (state_of self.now).moment }
+        ensures reads { result.1 ≡ (state_of self.now).reads }
+    {
+        (self.moment, self.reads)
+    }
+
     /// Lets the call that is made at this moment fail.
     pub fn fail(&mut self, moment: u64) -> Result<(), NoMemory>
         ensures ok { OnOk result (fails_at self.new moment ≡ true) }

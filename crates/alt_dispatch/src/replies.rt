@@ -76,12 +76,7 @@ fn description(
 }
 
 /// The reply to a CreateTable that made its table.
-pub(crate) fn created(
-    alloc: Global,
-    name: &str,
-    key: &str,
-    moment: u64,
-) -> Result<Reply, NoMemory>
+pub(crate) fn created(alloc: Global, name: &str, key: &str, moment: u64) -> Result<Reply, NoMemory>
     ensures { IfOk result (λ reply. answer_of reply ≡ created name.now key.now moment) }
 {
     let table = description(alloc, name, key, moment, "ACTIVE")?;

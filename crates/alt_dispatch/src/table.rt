@@ -24,11 +24,7 @@ fn some_text(attr: &Attr) -> Option<&str>
     match attr {
         Attr::S(text) => {
             let text = text.as_str();
-            if text.is_empty() {
-                None
-            } else {
-                Some(text)
-            }
+            if text.is_empty() { None } else { Some(text) }
         }
     }
 }

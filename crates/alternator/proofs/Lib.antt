@@ -1,0 +1,8 @@
+pub mod Cutting
+pub mod Folds
+pub mod Giving
+pub mod Logs
+pub mod Numbers
+pub mod Serving
+pub mod Splitting
+pub mod Turning

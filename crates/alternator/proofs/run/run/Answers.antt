@@ -1,0 +1,36 @@
+use Rattle.std.proofs.Common.{List, ℕ, []}
+use Rattle.alt_shell.proofs.Keeping.{keeps-then}
+use Rattle.alt_shell.specs.Log.{notes_of}
+use Rattle.alternator.specs.Runs.{AnswersSome}
+use Rattle.alternator.proofs.Logs.{noted_after, StillGrows-then}
+use Rattle.alternator.proofs.run.run.Goals as goal
+
+pub returns-in-Err-Failed-clause-some : goal.returns-in-Err-Failed-clause-some
+returns-in-Err-Failed-clause-some g c =
+    let state = g.S.Disk.state in
+    λ _. noted_after (state c.args.shell.now).beside (state c.replay.new.shell).beside (state c.note-in-Err-Failed.new.self).beside AnswersSome
+    c.in-Err-Failed.ensures.answered c.note-in-Err-Failed.ensures.log c.note-in-Err-Failed.ensures.moments
+
+pub returns-in-Err-NoMemory-clause-some : goal.returns-in-Err-NoMemory-clause-some
+returns-in-Err-NoMemory-clause-some g c =
+    let state = g.S.Disk.state in
+    λ _. noted_after (state c.args.shell.now).beside (state c.replay.new.shell).beside (state c.note-in-Err-NoMemory.new.self).beside AnswersSome
+    c.in-Err-NoMemory.ensures.answered c.note-in-Err-NoMemory.ensures.log c.note-in-Err-NoMemory.ensures.moments
+
+pub returns-in-Err-Failed-clause-notes : goal.returns-in-Err-Failed-clause-notes
+returns-in-Err-Failed-clause-notes g c =
+    let state = g.S.Disk.state in
+    StillGrows-then (notes_of (state c.args.shell.now).beside) (notes_of (state c.replay.new.shell).beside) (notes_of (state c.note-in-Err-Failed.new.self).beside) [] _
+    c.in-Err-Failed.ensures.passes.notes c.note-in-Err-Failed.ensures.noted
+
+pub returns-in-Err-NoMemory-clause-notes : goal.returns-in-Err-NoMemory-clause-notes
+returns-in-Err-NoMemory-clause-notes g c =
+    let state = g.S.Disk.state in
+    StillGrows-then (notes_of (state c.args.shell.now).beside) (notes_of (state c.replay.new.shell).beside) (notes_of (state c.note-in-Err-NoMemory.new.self).beside) [] _
+    c.in-Err-NoMemory.ensures.passes.notes c.note-in-Err-NoMemory.ensures.noted
+
+pub returns-in-Err-Failed-clause-disk : goal.returns-in-Err-Failed-clause-disk
+returns-in-Err-Failed-clause-disk g c = keeps-then _ _ _ c.replay.ensures.passes.keeps c.note-in-Err-Failed.ensures.call.keeps
+
+pub returns-in-Err-NoMemory-clause-disk : goal.returns-in-Err-NoMemory-clause-disk
+returns-in-Err-NoMemory-clause-disk g c = keeps-then _ _ _ c.replay.ensures.passes.keeps c.note-in-Err-NoMemory.ensures.call.keeps

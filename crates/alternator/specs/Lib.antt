@@ -1,0 +1,6 @@
+pub mod Host
+pub mod Lines
+pub mod LinesSoFar
+pub mod Out
+pub mod Runs
+pub mod Words

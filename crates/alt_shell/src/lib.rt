@@ -4,6 +4,8 @@
 
 mod memory;
 mod shell;
+#[cfg(test)]
+mod tests;
 
 pub use memory::MemoryShell;
 pub use shell::{CLOCK_END, Shell};

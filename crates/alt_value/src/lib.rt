@@ -4,6 +4,8 @@
 
 mod attr;
 mod item;
+#[cfg(test)]
+mod tests;
 mod text;
 
 pub use attr::Attr;

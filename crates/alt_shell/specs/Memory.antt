@@ -1,5 +1,5 @@
 -- What a shell in memory tells, and what it will give.
-use Rattle.std.specs.Prelude.{ℕ, List, [], ◌∷◌, ◌++◌, map, take, drop, if◌then◌else◌}
+use Rattle.std.specs.Prelude.{ℕ, List, map, if◌then◌else◌}
 use Rattle.alt_disk.specs.declared.memory.MemoryDisk.{MemoryDisk}
 use Rattle.alt_disk.specs.Disk.{DiskState, with_beside}
 use Rattle.alt_disk.specs.MemoryState.{state_of}
@@ -34,33 +34,3 @@ last_moment s = s.last
 -- the disk in it
 abbrev pub disk_in : MemoryShell → MemoryDisk
 disk_in s = s.disk
-
--- the pieces with one more; an empty one is none
-abbrev pub with_piece : List (List ℕ) → List ℕ → List (List ℕ)
-with_piece ps [] = ps
-with_piece ps (b ∷ bytes) = ps ++ (b ∷ bytes) ∷ []
-
--- the pieces behind this one, or what is left of it
-abbrev pub with_front : List ℕ → List (List ℕ) → List (List ℕ)
-with_front [] ps = ps
-with_front (b ∷ bytes) ps = (b ∷ bytes) ∷ ps
-
--- what a take of this many bytes at most gives: from the front piece alone, and nothing where no piece is left
-abbrev pub given_of : List (List ℕ) → ℕ → List ℕ
-given_of [] most = []
-given_of (p ∷ ps) most = take most p
-
--- the pieces behind what it gave
-abbrev pub pieces_behind : List (List ℕ) → ℕ → List (List ℕ)
-pieces_behind [] most = []
-pieces_behind (p ∷ ps) most = with_front (drop most p) ps
-
--- the moment that the clock tells next: the first that is left, else the last again
-abbrev pub told_of : List ℕ → ℕ → ℕ
-told_of [] last = last
-told_of (t ∷ ts) last = t
-
--- the piece in front, empty where none is left
-abbrev pub front_of : List (List ℕ) → List ℕ
-front_of [] = []
-front_of (p ∷ ps) = p

@@ -3,6 +3,7 @@
 #![tactic(auto)]
 
 mod memory;
+mod pieces;
 mod shell;
 #[cfg(test)]
 mod tests;

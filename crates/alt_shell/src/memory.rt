@@ -1,13 +1,15 @@
 //! A shell in memory, for tests: pieces of input, moments to tell, and a list of what was done. It tells everything.
 
-ghost use Rattle.std.specs.Prelude.{◌≡◌, ◌<◌, ◌≤◌, ◌^◌, ◌++◌, ◌∷◌, [], map, take, length, true, false, IfOk, OnErr, MatchResult};
+ghost use Rattle.std.specs.Prelude.{◌≡◌, ◌<◌, ◌≤◌, ◌^◌, ◌++◌, ◌∷◌, [], map, take, drop, length, true, false, IfOk, OnErr, MatchResult};
+ghost use Rattle.std.specs.List.{All};
 ghost use Rattle.alt_disk.specs.MemoryState.{state_of};
 ghost use Rattle.alt_shell.specs.Kept.{entry_by};
 ghost use Rattle.alt_shell.specs.declared.shell.TheConstants.{CLOCK_END};
+ghost use Rattle.alt_shell.specs.Pieces.{given_of, pieces_behind, told_of};
 ghost use Rattle.alt_shell.specs.Log.{said_in, entry, took, said, taken};
 
-use crate::Shell;
-use crate::shell::CLOCK_END;
+use crate::pieces::{advance, parts};
+use crate::shell::{CLOCK_END, Shell};
 use alt_base::NoMemory;
 use alt_disk::{Disk, DiskFault, Failed, MemoryDisk};
 use std::alloc::Global;
@@ -46,6 +48,8 @@ pub struct MemoryShell {
     noted: Vec<u8>,
     tells_notes: bool,
     ghost past: { last < CLOCK_END },
+    ghost times: { All (λ t. t < CLOCK_END) clock.items },
+    ghost filled: { All (λ p. 0 < length p.items) input.items },
     ghost kept: { said.items ≡ said_in (map entry_by calls.items) },
     ghost counted: { given ≡ length (taken (map entry_by calls.items)) },
     ghost lives: { given ≤ 2 ^ 62 },
@@ -53,7 +57,8 @@ pub struct MemoryShell {
 
 impl MemoryShell {
     ghost use Rattle.std.specs.Prelude.{Option, None, Some, MatchOption, IfSome};
-    ghost use Rattle.alt_shell.specs.Memory.{entries_by, log_of, pieces, clock_left, last_moment, disk_in, with_piece};
+    ghost use Rattle.alt_shell.specs.Memory.{entries_by, log_of, pieces, clock_left, last_moment, disk_in};
+    ghost use Rattle.alt_shell.specs.Pieces.{with_piece};
     ghost use Rattle.alt_shell.specs.Log.{log, notes_of};
 
     /// A shell over this disk, without input and moments, that has said and noted nothing.
@@ -141,7 +146,7 @@ impl MemoryShell {
     ghost use Rattle.std.specs.Prelude.{is_ok};
     ghost use Rattle.alt_disk.specs.Disk.{Faulted};
     ghost use Rattle.alt_shell.specs.Calls.{ShellCall};
-    ghost use Rattle.alt_shell.specs.Memory.{shell_state};
+    ghost use Rattle.alt_shell.specs.Memory.{shell_state, pieces};
 
     // Takes a moment, and fails where the disk's list says so.
     fn tick(&mut self) -> Result<(), Failed>
@@ -172,6 +177,9 @@ impl MemoryShell {
             ++ entry (state_of self.old.disk).moment (took (take n buf.new)) ∷ [])
             (λ _. map entry_by self.new.calls.items ≡ map entry_by self.old.calls.items) }
         ensures life { length (taken (map entry_by self.new.calls.items)) ≤ 2 ^ 62 }
+        ensures gives { MatchResult result
+            (λ n. (take n buf.new ≡ given_of (pieces self.old) (length buf.old)) × (pieces self.new ≡ pieces_behind (pieces self.old) (length buf.old)))
+            (λ _. pieces self.new ≡ pieces self.old) }
     {
         let (bytes, rest) = parts(self.alloc, &self.input, buf.len())?;
         let count = bytes.len();
@@ -185,11 +193,7 @@ impl MemoryShell {
             act: Act::Took(bytes),
         })?;
         self.given += count as u64;
-        if rest.is_empty() {
-            self.input.pop_front();
-        } else if let Some(front) = self.input.front_mut() {
-            *front = rest;
-        }
+        advance(&mut self.input, rest);
         Ok(count)
     }
 
@@ -249,7 +253,26 @@ impl Disk for MemoryShell {
 }
 
 impl Shell for MemoryShell {
-    fn take(&mut self, buf: &mut [u8]) -> Result<usize, Failed> {
+    ghost use Rattle.std.specs.Prelude.{is_ok, ◌↔◌};
+    ghost use Rattle.alt_shell.specs.Calls.{ShellCall, Aside, Takes};
+    ghost use Rattle.alt_shell.specs.Log.{Grows, StillGrows, notes_of, moments_of, WithinLife};
+    ghost use Rattle.alt_shell.specs.Memory.{shell_state, pieces, clock_left, last_moment};
+
+    fn take(&mut self, buf: &mut [u8]) -> Result<usize, Failed>
+        requires { 0 < length buf.old }
+        ensures count { IfOk result (λ n. n ≤ length buf.new) }
+        ensures taken { Takes (shell_state self.old) (shell_state self.new) result buf.new }
+        ensures life { WithinLife (shell_state self.old).beside → WithinLife (shell_state self.new).beside }
+        ensures call { ShellCall (shell_state self.old) (shell_state self.new) (is_ok result) }
+        ensures notes { StillGrows (notes_of (shell_state self.old).beside) (notes_of (shell_state self.new).beside) [] }
+        ensures moments { StillGrows (moments_of (shell_state self.old).beside) (moments_of (shell_state self.new).beside) [] }
+
+        // It gives bytes of the first piece alone, and nothing exactly where no piece is left.
+        ensures gives { MatchResult result
+            (λ n. (take n buf.new ≡ given_of (pieces self.old) (length buf.old)) × (pieces self.new ≡ pieces_behind (pieces self.old) (length buf.old)))
+            (λ _. pieces self.new ≡ pieces self.old) }
+        ensures end { IfOk result (λ n. (n ≡ 0) ↔ (pieces self.old ≡ [])) }
+    {
         self.tick()?;
         match self.give(buf) {
             Ok(count) => Ok(count),
@@ -271,31 +294,24 @@ impl Shell for MemoryShell {
         }
     }
 
-    fn now(&mut self) -> u64 {
+    fn now(&mut self) -> u64
+        ensures range { result < CLOCK_END }
+        ensures told { StillGrows (moments_of (shell_state self.old).beside) (moments_of (shell_state self.new).beside) (result ∷ []) }
+        ensures log { Grows (shell_state self.old).beside (shell_state self.new).beside [] }
+        ensures call { Aside (shell_state self.old) (shell_state self.new) }
+        ensures notes { StillGrows (notes_of (shell_state self.old).beside) (notes_of (shell_state self.new).beside) [] }
+
+        // It tells the first moment that is left, and where none is the last one again.
+        ensures moment { result ≡ told_of (clock_left self.old) (last_moment self.old) }
+        ensures left { clock_left self.new ≡ drop 1 (clock_left self.old) }
+        ensures last { last_moment self.new ≡ result }
+    {
         if let Some(moment) = self.clock.pop_front() {
-            self.last = moment.min(CLOCK_END - 1);
+            self.last = moment;
         }
         if self.told.push(self.last).is_err() {
             self.tells_clock = false;
         }
         self.last
     }
-}
-
-// The bytes to give of the first piece, and those that it has left.
-fn parts(
-    alloc: Global,
-    input: &VecDeque<Vec<u8>>,
-    most: usize,
-) -> Result<(Vec<u8>, Vec<u8>), NoMemory>
-    ensures { IfOk result (λ p. length p.0.items ≤ most) }
-{
-    let Some(piece) = input.front() else {
-        return Ok((Vec::new(alloc), Vec::new(alloc)));
-    };
-    let count = piece.len().min(most);
-    Ok((
-        Vec::from_slice(alloc, &piece[..count])?,
-        Vec::from_slice(alloc, &piece[count..])?,
-    ))
 }

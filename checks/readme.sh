@@ -1,0 +1,28 @@
+#!/usr/bin/env bash
+# Runs each example of the README through the built program and compares the replies. An example is a block marked
+# `sh`, followed by a block marked `text` with what it says. Moments are made equal first.
+set -u
+cd "$(dirname "$0")/.."
+work=$(mktemp -d)
+trap 'rm -rf "$work"' EXIT
+awk -v dir="$work" '
+  /^```sh$/   { n++; file = dir "/" n ".sh"; next }
+  /^```text$/ { if (n) { file = dir "/" n ".want"; printf "" > file } next }
+  /^```/      { file = ""; next }
+  file        { print > file }
+' README.md
+plain() { sed -E 's/"CreationDateTime":[0-9]+/"CreationDateTime":1700000000/g'; }
+passed=0
+failed=0
+for script in "$work"/*.sh; do
+  want=${script%.sh}.want
+  [ -e "$want" ] || continue
+  if diff <(plain <"$want") <(bash "$script" 2>/dev/null | plain); then
+    passed=$((passed + 1))
+  else
+    failed=$((failed + 1))
+    echo "differs: $(head -n 1 "$script")"
+  fi
+done
+echo "readme: $passed passed, $failed failed"
+[ "$failed" = 0 ] && [ "$passed" -gt 0 ]

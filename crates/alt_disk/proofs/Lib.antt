@@ -1,4 +1,5 @@
 pub mod Calls
 pub mod Shapes
+pub mod Runs
 mod Replay
 mod MemoryCalls

@@ -32,7 +32,7 @@ impl MemoryDisk {
     ghost use Rattle.alt_disk.specs.Disk.{Tick, Silent, Faulted, Same, now};
     ghost use Rattle.alt_disk.specs.MemoryState.{state_of, fails_at};
     ghost use Rattle.alt_disk.specs.Acted.{ActedSome, PushedSome};
-    ghost use Rattle.alt_base.specs.Counts.{Rose};
+    ghost use Rattle.alt_base.specs.Counts.{Rose, next_moment};
 
     /// An empty disk.
     pub fn new(alloc: Global) -> MemoryDisk
@@ -49,6 +49,13 @@ impl MemoryDisk {
             faults: 0,
             reads: 0,
         }
+    }
+
+    /// The disk's moment and how many of its calls were reads.
+    pub fn counts(&self) -> (u64, u64)
+        ensures { result ≡ ((state_of self.now).moment, (state_of self.now).reads) }
+    {
+        (self.moment, self.reads)
     }
 
     /// Lets the call that is made at this moment fail.
@@ -88,6 +95,7 @@ impl MemoryDisk {
         ensures stays { state_of self.new ≡ record (state_of self.old) { reads = self.new.reads } }
         ensures later { self.old.reads ≤ self.new.reads }
         ensures reads { self.new.reads ≤ self.old.reads + 1 }
+        ensures counted { self.old.moment < 2 ^ 64 - 1 → self.new.reads ≡ next_moment self.old.reads }
         ensures last { 2 ^ 64 - 1 ≤ self.old.moment → self.new.reads ≡ self.old.reads }
         ensures fails { self.new.fails.items ≡ self.old.fails.items }
     {
@@ -101,6 +109,7 @@ impl MemoryDisk {
     fn make(&mut self, f: u32, done: Option<Deed>, failed: Option<Deed>) -> Result<(), Failed>
         ensures ok { OnOk result (ActedSome (state_of self.old) (state_of self.new) f done) }
         ensures err { OnErr result (Same (state_of self.old) (state_of self.new) ⊎ ActedSome (state_of self.old) (state_of self.new) f failed) }
+        ensures unlisted { fails_at self.old (state_of self.old).moment ≡ false → OnErr result (Same (state_of self.old) (state_of self.new)) }
         ensures call { Tick (state_of self.old) (state_of self.new) (is_ok result) }
         ensures to_fail { fails_at self.old (state_of self.old).moment ≡ true → is_ok result ≡ false }
         ensures fails { (t : ℕ) → fails_at self.new t ≡ fails_at self.old t }
@@ -159,14 +168,24 @@ impl MemoryDisk {
 }
 
 impl Disk for MemoryDisk {
-    ghost use Rattle.alt_disk.specs.MemoryState.{state_of};
+    ghost use Rattle.std.specs.Prelude.{ℕ, ◌≢◌, ◌+◌, ◌-◌, ◌<◌, ◌^◌, [], true, false, None, length, IfOk, OnOk, OnErr, is_ok};
+    ghost use Rattle.alt_disk.specs.Disk.{IsNames, contents, answered, Tick, ReadCall, Same, Written, Synced, Removed, Read};
+    ghost use Rattle.alt_disk.specs.MemoryState.{state_of, fails_at};
     ghost use Rattle.alt_disk.specs.Honest.{reads_as_image_of};
+    ghost use Rattle.alt_base.specs.Counts.{next_moment};
 
     ghost state = { state_of };
 
     ghost reads_as_image = { λ d trusted f. reads_as_image_of f d.moment d.history.calls.items d.timed };
 
-    fn names(&mut self, list: &mut Vec<u32>) -> Result<(), DiskFault> {
+    fn names(&mut self, list: &mut Vec<u32>) -> Result<(), DiskFault>
+        ensures names { OnOk result (IsNames list.new.items (state_of self.old).file) }
+        ensures emptied { OnErr result (list.new.items ≡ []) }
+        ensures call { Tick (state_of self.old) (state_of self.new) (answered result) }
+        ensures same { Same (state_of self.old) (state_of self.new) }
+        ensures to_fail { fails_at self.old (state_of self.old).moment ≡ true → answered result ≡ false }
+        ensures fails { (t : ℕ) → fails_at self.new t ≡ fails_at self.old t }
+    {
         list.clear();
         self.tick()?;
         match self.history.names(list) {
@@ -178,7 +197,14 @@ impl Disk for MemoryDisk {
         }
     }
 
-    fn size(&mut self, f: u32) -> Result<u64, Failed> {
+    fn size(&mut self, f: u32) -> Result<u64, Failed>
+        ensures size { IfOk result (λ size. size ≡ length (contents (state_of self.old) f)) }
+        ensures bound { IfOk result (λ size. size ≤ 2 ^ 62) }
+        ensures call { Tick (state_of self.old) (state_of self.new) (is_ok result) }
+        ensures same { Same (state_of self.old) (state_of self.new) }
+        ensures to_fail { fails_at self.old (state_of self.old).moment ≡ true → is_ok result ≡ false }
+        ensures fails { (t : ℕ) → fails_at self.new t ≡ fails_at self.old t }
+    {
         self.tick()?;
         let size = self.history.bytes(f).len() as u64;
         if size > MAX_SIZE {
@@ -187,13 +213,30 @@ impl Disk for MemoryDisk {
         Ok(size)
     }
 
-    fn read(&mut self, f: u32, at: u64, buf: &mut [u8]) -> Result<usize, Failed> {
+    fn read(&mut self, f: u32, at: u64, buf: &mut [u8]) -> Result<usize, Failed>
+        ensures bytes { IfOk result (λ count. Read (contents (state_of self.old) f) at buf.old buf.new count) }
+        ensures bound { IfOk result (λ count. count ≤ length buf.old) }
+        ensures call { ReadCall (state_of self.old) (state_of self.new) (is_ok result) }
+        ensures same { Same (state_of self.old) (state_of self.new) }
+        ensures moment { (state_of self.new).moment ≡ next_moment (state_of self.old).moment }
+        ensures counted { (state_of self.old).moment < 2 ^ 64 - 1 → (state_of self.new).reads ≡ next_moment (state_of self.old).reads }
+        ensures to_fail { fails_at self.old (state_of self.old).moment ≡ true → is_ok result ≡ false }
+        ensures fails { (t : ℕ) → fails_at self.new t ≡ fails_at self.old t }
+    {
         self.count_read();
         self.tick()?;
         Ok(copy_from(self.history.bytes(f), at, buf))
     }
 
-    fn write_at(&mut self, f: u32, at: u64, bytes: &[u8]) -> Result<(), Failed> {
+    fn write_at(&mut self, f: u32, at: u64, bytes: &[u8]) -> Result<(), Failed>
+        requires { at ≤ length (contents (state_of self.old) f) }
+        ensures written { Written (state_of self.old) (state_of self.new) f at bytes.now (is_ok result) }
+        ensures fits { OnOk result (at + length bytes.now ≤ 2 ^ 62) }
+        ensures call { Tick (state_of self.old) (state_of self.new) (is_ok result) }
+        ensures unlisted { fails_at self.old (state_of self.old).moment ≡ false → at + length bytes.now ≤ 2 ^ 62 → OnErr result (Same (state_of self.old) (state_of self.new)) }
+        ensures to_fail { fails_at self.old (state_of self.old).moment ≡ true → is_ok result ≡ false }
+        ensures fails { (t : ℕ) → fails_at self.new t ≡ fails_at self.old t }
+    {
         let count = bytes.len() as u64;
         let failed = Some(Deed::WriteFailed { at, count });
         if at > MAX_SIZE || count > MAX_SIZE - at {
@@ -204,11 +247,28 @@ impl Disk for MemoryDisk {
         self.make(f, written, failed)
     }
 
-    fn sync(&mut self, f: u32) -> Result<(), Failed> {
+    fn sync(&mut self, f: u32) -> Result<(), Failed>
+        ensures synced { Synced (state_of self.old) (state_of self.new) f (is_ok result) }
+        ensures missing { (state_of self.old).file f ≡ None → Same (state_of self.old) (state_of self.new) }
+        ensures call { Tick (state_of self.old) (state_of self.new) (is_ok result) }
+        ensures same { (g : ℕ) → (state_of self.new).file g ≡ (state_of self.old).file g }
+        ensures err { OnErr result (Same (state_of self.old) (state_of self.new)) }
+        ensures to_fail { fails_at self.old (state_of self.old).moment ≡ true → is_ok result ≡ false }
+        ensures fails { (t : ℕ) → fails_at self.new t ≡ fails_at self.old t }
+    {
         self.make(f, Some(Deed::Sync), None)
     }
 
-    fn remove(&mut self, f: u32) -> Result<(), Failed> {
+    fn remove(&mut self, f: u32) -> Result<(), Failed>
+        ensures gone { OnOk result ((state_of self.new).file f ≡ None) }
+        ensures removed { Removed (state_of self.old) (state_of self.new) f (is_ok result) }
+        ensures missing { (state_of self.old).file f ≡ None → Same (state_of self.old) (state_of self.new) }
+        ensures call { Tick (state_of self.old) (state_of self.new) (is_ok result) }
+        ensures others { (g : ℕ) → g ≢ f → (state_of self.new).file g ≡ (state_of self.old).file g }
+        ensures unlisted { fails_at self.old (state_of self.old).moment ≡ false → OnErr result (Same (state_of self.old) (state_of self.new)) }
+        ensures to_fail { fails_at self.old (state_of self.old).moment ≡ true → is_ok result ≡ false }
+        ensures fails { (t : ℕ) → fails_at self.new t ≡ fails_at self.old t }
+    {
         self.make(f, Some(Deed::Remove), Some(Deed::RemoveFailed))
     }
 }

@@ -3,3 +3,4 @@ pub mod Shapes
 pub mod Runs
 mod Replay
 mod MemoryCalls
+mod Picking

@@ -7,3 +7,5 @@ pub mod Honest
 pub mod Runs
 pub mod Acted
 pub mod MemoryState
+pub mod Stopped
+pub mod Trace

@@ -4,3 +4,6 @@ pub mod Runs
 mod Replay
 mod MemoryCalls
 mod Picking
+mod Walk
+mod Settle
+mod PickedFits

@@ -2,7 +2,7 @@
 use Rattle.std.specs.Prelude.{◌-◌, ◌==◌, ◌||◌, cond, ℕ, zero, suc, Bool, true, false, List, [], ◌∷◌, ◌++◌, length, get_or, drop, Option, Some, None}
 use Rattle.alt_disk.specs.Fates.{Shape, Fates, missing, synced}
 use Rattle.alt_disk.specs.Disk.{bytes_or_none}
-use Rattle.alt_disk.specs.Memory.{Track, at_moment}
+use Rattle.alt_disk.specs.Memory.{Track, nothing, at_moment}
 use Rattle.alt_disk.specs.declared.memory.MemoryDisk.{MemoryDisk}
 
 -- the byte of choice that comes next, 0 where it has run out
@@ -128,3 +128,8 @@ files_at d moment f = at_moment moment f d.history.calls.items
 abbrev pub settled_fates : Option (List ℕ) → Fates
 settled_fates None = missing
 settled_fates (Some bytes) = synced bytes
+
+-- a file that was synced, or is missing for good
+abbrev pub settled : Option (List ℕ) → Track
+settled None = nothing
+settled (Some bytes) = record { bytes = Some bytes; fates = synced bytes; lengths = [] }

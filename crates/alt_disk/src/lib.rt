@@ -8,11 +8,8 @@ mod history;
 mod made;
 mod memory;
 mod pick;
+mod stopped;
 mod trace;
 
 pub use disk::{Disk, DiskFault, Failed};
-pub use history::History;
-pub use made::{Deed, Made};
 pub use memory::MemoryDisk;
-pub use pick::{Choice, Copy};
-pub use trace::{Outline, Trace};

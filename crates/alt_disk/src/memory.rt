@@ -7,6 +7,7 @@ ghost use Rattle.alt_disk.specs.Memory.{Timed};
 use crate::buffer::{copy_from, write_deed};
 use crate::history::History;
 use crate::made::{Deed, Made};
+use crate::stopped::settle_image;
 use crate::{Disk, DiskFault, Failed};
 use alt_base::NoMemory;
 use std::alloc::Global;
@@ -29,7 +30,8 @@ pub struct MemoryDisk {
 impl MemoryDisk {
     ghost use Rattle.std.specs.Prelude.{ℕ, ◌≢◌, ◌⊎◌, ◌+◌, ◌-◌, ◌^◌, ◌<◌, true, false, None, IsTrue, IfOk, OnOk, OnErr, is_ok};
     ghost use Rattle.alt_disk.specs.Fates.{missing};
-    ghost use Rattle.alt_disk.specs.Disk.{Tick, Silent, Faulted, Same, now};
+    ghost use Rattle.alt_disk.specs.Disk.{Tick, Silent, Faulted, Same, now, IsImage};
+    ghost use Rattle.alt_disk.specs.Stopped.{files_at, picked_image, settled_fates};
     ghost use Rattle.alt_disk.specs.MemoryState.{state_of, fails_at};
     ghost use Rattle.alt_disk.specs.Acted.{ActedSome, PushedSome};
     ghost use Rattle.alt_base.specs.Counts.{Rose, next_moment};
@@ -67,6 +69,30 @@ impl MemoryDisk {
     {
         self.fails.push(moment)?;
         Ok(())
+    }
+
+    /// The disk that a stop at a past moment leaves where `choice` picks what is open, with zeros where it runs out. Its bytes are
+    /// used file by file, in rising order of the files. Where it is open whether the file is there, one byte decides: 0 is
+    /// missing, 2 the old one of a file that was removed and made again, any other byte the file as last made. Then, where the
+    /// length is open, one byte decides: 1 is the length that a read of the picked file then gave or, where it had been removed,
+    /// just before; any other byte is that many bytes past the synced end. Then each open byte, in order of place, is one byte.
+    pub fn stopped(&self, moment: u64, choice: &[u8]) -> Result<MemoryDisk, NoMemory>
+        requires { moment ≤ (state_of self.now).moment }
+        ensures picked { IfOk result (λ d. (f : ℕ) → (state_of d).file f ≡ picked_image (files_at self.now moment) choice.now f) }
+        ensures image { IfOk result (λ d. IsImage (state_of self.now) moment (state_of d).file) }
+        ensures synced { IfOk result (λ d. (f : ℕ) → now (state_of d) f ≡ settled_fates ((state_of d).file f)) }
+        ensures counts { IfOk result (λ d. ((state_of d).moment ≡ 0) × ((state_of d).faults ≡ 0) × ((state_of d).reads ≡ 0)) }
+        ensures none_fails { IfOk result (λ d. (t : ℕ) → fails_at d t ≡ false) }
+    {
+        let history = settle_image(self.alloc, self.history.calls.as_slice(), moment, choice)?;
+        Ok(MemoryDisk {
+            alloc: self.alloc,
+            history,
+            fails: Vec::new(self.alloc),
+            moment: 0,
+            faults: 0,
+            reads: 0,
+        })
     }
 
     /// A call that does nothing to the files: it takes its moment, and may be one that is to fail.

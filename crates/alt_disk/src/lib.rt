@@ -13,3 +13,6 @@ mod trace;
 
 pub use disk::{Disk, DiskFault, Failed};
 pub use memory::MemoryDisk;
+
+#[cfg(test)]
+mod tests;

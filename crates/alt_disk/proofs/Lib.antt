@@ -1,4 +1,9 @@
 pub mod Calls
 pub mod Shapes
+pub mod Runs
 mod Replay
 mod MemoryCalls
+mod Picking
+mod Walk
+mod Settle
+mod PickedFits

@@ -1,6 +1,5 @@
 -- What a call of a disk in memory leaves, as its user sees it.
-use Rattle.std.proofs.Common.{slice_index_or, zero, suc, ◌≡◌, ◌≢◌, ◌<◌, ◌≤◌, ◌+◌, ◌-◌, ◌^◌, ℕ, Bool, true, false, List, [], ◌∷◌, ◌++◌, Option, Some, None, refl, sym, ◌∙◌, ap, subst, arith}
-use Rattle.std.proofs.lemmas.List.Elements.{All-append}
+use Rattle.std.proofs.Common.{◌≡◌, ◌≢◌, ◌<◌, ◌≤◌, ◌+◌, ◌-◌, ◌^◌, ℕ, Bool, true, false, List, [], ◌∷◌, ◌++◌, Option, Some, None, refl, sym, ◌∙◌, ap, subst, arith}
 use Rattle.std.specs.List.{All}
 use Rattle.alt_base.specs.Counts.{Rose, next_moment}
 use Rattle.alt_disk.specs.Fates.{Fates, Fits}
@@ -14,7 +13,7 @@ use Rattle.alt_disk.specs.declared.made.Deed.TheVariants.{Sync}
 use Rattle.alt_disk.specs.declared.made.Made.{Made}
 use Rattle.std.proofs.lemmas.Bool.{false≢true}
 use Rattle.alt_disk.proofs.Shapes.{synced_fits}
-use Rattle.alt_disk.proofs.Replay.{replay-push, call-own, call-other, until-push, timed_later}
+use Rattle.alt_disk.proofs.Replay.{replay-push, call-own, call-other, until-push, timed_later, timed_push}
 
 next_below : (m n : ℕ) → m < 2 ^ 64 - 1 → n ≡ m + 1 → n ≡ next_moment m
 next_below m n below is = grind arith
@@ -76,11 +75,7 @@ module _ (calls : List Made) (m fa fb ra rb : ℕ) (made : Made) (timed : All (T
   pushed = calls ++ made ∷ []
 
   all_timed : All (Timed (m + 1)) pushed
-  all_timed = All-append (Timed (m + 1)) calls (made ∷ []) (timed_later m (m + 1) calls timed (omega arith)) (λ k d below. one_timed k d below)
-    where
-      one_timed : (k : ℕ) (d : Made) → k < 1 → Timed (m + 1) (slice_index_or (made ∷ []) k d)
-      one_timed zero d below = omega (arith, at_end)
-      one_timed (suc k) d below = absurd (omega (arith, below))
+  all_timed = timed_push (m + 1) calls made (timed_later m (m + 1) calls timed (omega arith)) (omega (arith, at_end))
 
   -- the call's file
   own : replay made.file nothing pushed ≡ after made.deed (replay made.file nothing calls)

@@ -1,9 +1,9 @@
 -- How the list of calls goes on by one, and what shows of it at each moment.
-use Rattle.std.proofs.Common.{slice_index_or, ◌≡◌, ◌≢◌, ◌<◌, ◌≤◌, ◌==◌, nat_le, if◌then◌else◌, ⊎_elim, ℕ, List, [], ◌∷◌, ◌++◌, Option, refl, sym, ◌∙◌, ap, arith}
+use Rattle.std.proofs.Common.{slice_index_or, get_or, length, ◌≡◌, ◌≢◌, ◌<◌, ◌≤◌, ◌==◌, nat_le, if◌then◌else◌, ⊎_elim, ℕ, zero, suc, List, [], ◌∷◌, ◌++◌, Option, refl, sym, ◌∙◌, ap, arith}
 use Rattle.std.proofs.lemmas.Bool.Decides.{nat_tests}
 use Rattle.std.proofs.lemmas.Bool.{cases_eq}
 use Rattle.std.proofs.lemmas.List.{append-nil}
-use Rattle.std.proofs.lemmas.List.Elements.{filter-append}
+use Rattle.std.proofs.lemmas.List.Elements.{All-append, filter-append}
 use Rattle.std.specs.List.{All}
 use Rattle.alt_disk.specs.Memory.{Track, nothing, bytes_after, after, after_call, replay, until, Timed}
 use Rattle.alt_disk.specs.declared.made.Made.{Made}
@@ -21,10 +21,12 @@ call-own made s = grind (arith, nat_tests)
 pub call-other : (f : ℕ) (made : Made) (s : Track) → f ≢ made.file → after_call f made s ≡ s
 call-other f made s other = grind (arith, nat_tests)
 
-test_same : {A : Type 0} (f g : ℕ) (x y : A) → f ≡ g → (if f == g then x else y) ≡ x
+-- a choice by equal numbers
+pub test_same : {A : Type 0} (f g : ℕ) (x y : A) → f ≡ g → (if f == g then x else y) ≡ x
 test_same f g x y same = grind (arith, nat_tests)
 
-test_other : {A : Type 0} (f g : ℕ) (x y : A) → f ≢ g → (if f == g then x else y) ≡ y
+-- and by numbers that differ
+pub test_other : {A : Type 0} (f g : ℕ) (x y : A) → f ≢ g → (if f == g then x else y) ≡ y
 test_other f g x y other = grind (arith, nat_tests)
 
 -- files that are changed as the call says are still those of the list
@@ -49,3 +51,17 @@ until-push t calls made late =
 -- calls that show by a moment show by each later one
 pub timed_later : (t u : ℕ) (calls : List Made) → All (Timed t) calls → t ≤ u → All (Timed u) calls
 timed_later t u calls timed le = λ k d below. let here : Timed t (slice_index_or calls k d) = timed k d below in omega (arith, here, le)
+
+one_timed : (t k : ℕ) (made d : Made) → made.time ≤ t → k < 1 → Timed t (slice_index_or (made ∷ []) k d)
+one_timed t zero made d le below = le
+one_timed t (suc k) made d le below = absurd (omega (arith, below))
+
+-- one call more that shows by the moment
+pub timed_push : (t : ℕ) (calls : List Made) (made : Made) → All (Timed t) calls → made.time ≤ t → All (Timed t) (calls ++ made ∷ [])
+timed_push t calls made timed le = All-append (Timed t) calls (made ∷ []) timed (λ k d below. one_timed t k made d le below)
+
+-- an element has a place, whatever stands in where there is none
+pub get_or-any : {X : Type 0} (xs : List X) (i : ℕ) (d e : X) → i < length xs → get_or xs i d ≡ get_or xs i e
+get_or-any [] i d e less = absurd (omega (arith, less))
+get_or-any (x ∷ xs) zero d e less = refl
+get_or-any (x ∷ xs) (suc i) d e less = get_or-any xs i d e (omega (arith, less))

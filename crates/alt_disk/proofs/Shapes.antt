@@ -4,9 +4,11 @@ use Rattle.std.proofs.lemmas.Bool.{false≢true}
 use Rattle.std.proofs.lemmas.List.{append-nil}
 use Rattle.alt_disk.specs.Fates.{Fates, Fits, FitsBytes, synced, opened, wrote}
 
+-- bytes that are all known
 abbrev pub knows : List ℕ → List (Option ℕ)
 knows bytes = map (λ b. Some b) bytes
 
+-- known bytes are left as they are
 known_fits : (bytes c : List ℕ) → FitsBytes (knows bytes) false c → c ≡ bytes
 known_fits [] [] fits = refl
 known_fits [] (b ∷ c) fits = absurd (false≢true fits)
@@ -31,10 +33,12 @@ pub record Gapped (front : List ℕ) (n : ℕ) (back whole : List ℕ) : Type 0 
   pub rest : List ℕ
   pub is : whole ≡ front ++ gap ++ back ++ rest
 
+-- a range of no bytes opens nothing
 opened_none : (known : List (Option ℕ)) → opened zero zero known ≡ known
 opened_none [] = refl
 opened_none (k ∷ known) = refl
 
+-- a range opened behind a front leaves the front
 front_fits : (front : List ℕ) (back : List (Option ℕ)) (n : ℕ) (loose : Bool) (c : List ℕ) → FitsBytes (opened (length front) n (knows front ++ back)) loose c → Begins front c
 front_fits [] back n loose c fits = record { rest = c; is = refl }
 front_fits (x ∷ front) back n loose [] fits = absurd fits
@@ -42,6 +46,7 @@ front_fits (x ∷ front) back n loose (b ∷ c) fits =
     let more = front_fits front back n loose c fits.1 in
     record { rest = more.rest; is = λ i. fits.0 i ∷ more.is i }
 
+-- known bytes are left as they are, whatever follows
 back_fits : (back : List ℕ) (loose : Bool) (c : List ℕ) → FitsBytes (knows back) loose c → Begins back c
 back_fits [] loose c fits = record { rest = c; is = refl }
 back_fits (x ∷ back) loose [] fits = absurd fits
@@ -49,6 +54,7 @@ back_fits (x ∷ back) loose (b ∷ c) fits =
     let more = back_fits back loose c fits.1 in
     record { rest = more.rest; is = λ i. fits.0 i ∷ more.is i }
 
+-- a range opened between a front and a back leaves both
 gap_fits : (front gap back : List ℕ) (loose : Bool) (c : List ℕ) → FitsBytes (opened (length front) (length gap) (knows front ++ knows gap ++ knows back)) loose c → Gapped front (length gap) back c
 gap_fits [] [] back loose c fits =
     let more = back_fits back loose c (subst (λ (k : List (Option ℕ)). FitsBytes k loose c) (opened_none (knows back)) fits) in
@@ -62,6 +68,7 @@ gap_fits (x ∷ front) gap back loose (b ∷ c) fits =
     let more = gap_fits front gap back loose c fits.1 in
     record { gap = more.gap; size = more.size; rest = more.rest; is = λ i. fits.0 i ∷ more.is i }
 
+-- known bytes, in two parts
 known_append : (xs ys : List ℕ) → knows (xs ++ ys) ≡ knows xs ++ knows ys
 known_append [] ys = refl
 known_append (x ∷ xs) ys = ap (λ (l : List (Option ℕ)). Some x ∷ l) (known_append xs ys)
@@ -70,6 +77,7 @@ known_append (x ∷ xs) ys = ap (λ (l : List (Option ℕ)). Some x ∷ l) (know
 abbrev pub WroteOrNot : ℕ → ℕ → Fates → Fates → Bool → Type 0
 WroteOrNot at n old new ok = (new ≡ wrote at n old) ⊎ ((ok ≡ false) × (new ≡ old))
 
+-- a write behind a front, of a file that was synced
 front_at : (front back : List ℕ) (at n : ℕ) → at ≡ length front → (c : Option (List ℕ)) → Fits (wrote at n (synced (front ++ back))) c → (l : List ℕ) × (c ≡ Some l) × Begins front l
 front_at front back at n is None (inl fits) = absurd fits
 front_at front back at n is (Some c) (inl fits) =
@@ -78,6 +86,7 @@ front_at front back at n is (Some c) (inl fits) =
     (c, refl, front_fits front (knows back) n true c (subst (λ (a : ℕ). FitsBytes (opened a n (knows front ++ knows back)) true c) is here))
 front_at front back at n is c (inr none) = absurd none
 
+-- a write between a front and a back
 gap_at : (front gap back : List ℕ) (at n : ℕ) → at ≡ length front → n ≡ length gap → (c : Option (List ℕ)) → Fits (wrote at n (synced (front ++ gap ++ back))) c → (l : List ℕ) × (c ≡ Some l) × Gapped front (length gap) back l
 gap_at front gap back at n is size None (inl fits) = absurd fits
 gap_at front gap back at n is size (Some c) (inl fits) =
@@ -87,14 +96,14 @@ gap_at front gap back at n is size (Some c) (inl fits) =
     (c, refl, gap_fits front gap back true c (subst (λ (m : ℕ). FitsBytes (opened (length front) m (knows front ++ knows gap ++ knows back)) true c) size there))
 gap_at front gap back at n is size c (inr none) = absurd none
 
--- a write behind a front leaves the front
+-- the call of a write behind a front leaves the front, also where it failed
 pub front_stays : (front back : List ℕ) (at n : ℕ) (old new : Fates) (ok : Bool) → at ≡ length front → old ≡ synced (front ++ back) → WroteOrNot at n old new ok → (c : Option (List ℕ)) → Fits new c → (l : List ℕ) × (c ≡ Some l) × Begins front l
 front_stays front back at n old new ok is was (inl done) c fits =
     front_at front back at n is c (subst (λ (s : Fates). Fits s c) (done ∙ ap (wrote at n) was) fits)
 front_stays front back at n old new ok is was (inr not_done) c fits =
     (front ++ back, synced_fits (front ++ back) c (subst (λ (s : Fates). Fits s c) (not_done.1 ∙ was) fits), record { rest = back; is = refl })
 
--- and a write into a gap all but the gap
+-- and one into a gap all but the gap
 pub gap_stays : (front gap back : List ℕ) (at n : ℕ) (old new : Fates) (ok : Bool) → at ≡ length front → n ≡ length gap → old ≡ synced (front ++ gap ++ back) → WroteOrNot at n old new ok → (c : Option (List ℕ)) → Fits new c → (l : List ℕ) × (c ≡ Some l) × Gapped front (length gap) back l
 gap_stays front gap back at n old new ok is size was (inl done) c fits =
     gap_at front gap back at n is size c (subst (λ (s : Fates). Fits s c) (done ∙ ap (wrote at n) was) fits)

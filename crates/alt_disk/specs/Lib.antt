@@ -4,5 +4,8 @@ pub mod Memory
 pub mod Files
 pub mod Written
 pub mod Honest
+pub mod Runs
 pub mod Acted
 pub mod MemoryState
+pub mod Stopped
+pub mod Trace

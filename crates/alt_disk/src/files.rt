@@ -51,8 +51,8 @@ fn put(
     }
 }
 
-// Puts bytes in at a place, over what is there and past the end.
-fn overwrite(there: &mut Vec<u8>, at: u64, bytes: &[u8]) -> Result<(), AllocError>
+/// Puts bytes in at a place, over what is there and past the end.
+pub(crate) fn overwrite(there: &mut Vec<u8>, at: u64, bytes: &[u8]) -> Result<(), AllocError>
     ensures ok { OnOk result (there.new.items ≡ overwritten there.old.items at bytes.now) }
     ensures err { OnErr result (there.new.items ≡ there.old.items) }
 {

@@ -7,8 +7,12 @@ mod files;
 mod history;
 mod made;
 mod memory;
+mod pick;
+mod stopped;
+mod trace;
 
 pub use disk::{Disk, DiskFault, Failed};
-pub use history::History;
-pub use made::{Deed, Made};
 pub use memory::MemoryDisk;
+
+#[cfg(test)]
+mod tests;

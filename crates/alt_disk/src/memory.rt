@@ -7,6 +7,7 @@ ghost use Rattle.alt_disk.specs.Memory.{Timed};
 use crate::buffer::{copy_from, write_deed};
 use crate::history::History;
 use crate::made::{Deed, Made};
+use crate::stopped::settle_image;
 use crate::{Disk, DiskFault, Failed};
 use alt_base::NoMemory;
 use std::alloc::Global;
@@ -29,10 +30,11 @@ pub struct MemoryDisk {
 impl MemoryDisk {
     ghost use Rattle.std.specs.Prelude.{ℕ, ◌≢◌, ◌⊎◌, ◌+◌, ◌-◌, ◌^◌, ◌<◌, true, false, None, IsTrue, IfOk, OnOk, OnErr, is_ok};
     ghost use Rattle.alt_disk.specs.Fates.{missing};
-    ghost use Rattle.alt_disk.specs.Disk.{Tick, Silent, Faulted, Same, now};
+    ghost use Rattle.alt_disk.specs.Disk.{Tick, Silent, Faulted, Same, now, IsImage};
+    ghost use Rattle.alt_disk.specs.Stopped.{files_at, picked_image, settled_fates};
     ghost use Rattle.alt_disk.specs.MemoryState.{state_of, fails_at};
     ghost use Rattle.alt_disk.specs.Acted.{ActedSome, PushedSome};
-    ghost use Rattle.alt_base.specs.Counts.{Rose};
+    ghost use Rattle.alt_base.specs.Counts.{Rose, next_moment};
 
     /// An empty disk.
     pub fn new(alloc: Global) -> MemoryDisk
@@ -51,10 +53,9 @@ impl MemoryDisk {
         }
     }
 
-    /// Its moment, which counts the calls, and how many of them were reads.
+    /// The disk's moment and how many of its calls were reads.
     pub fn counts(&self) -> (u64, u64)
-        ensures moment { result.0 ≡ (state_of self.now).moment }
-        ensures reads { result.1 ≡ (state_of self.now).reads }
+        ensures { result ≡ ((state_of self.now).moment, (state_of self.now).reads) }
     {
         (self.moment, self.reads)
     }
@@ -68,6 +69,30 @@ impl MemoryDisk {
     {
         self.fails.push(moment)?;
         Ok(())
+    }
+
+    /// The disk that a stop at a past moment leaves where `choice` picks what is open, with zeros where it runs out. Its bytes are
+    /// used file by file, in rising order of the files. Where it is open whether the file is there, one byte decides: 0 is
+    /// missing, 2 the old one of a file that was removed and made again, any other byte the file as last made. Then, where the
+    /// length is open, one byte decides: 1 is the length that a read of the picked file then gave or, where it had been removed,
+    /// just before; any other byte is that many bytes past the synced end. Then each open byte, in order of place, is one byte.
+    pub fn stopped(&self, moment: u64, choice: &[u8]) -> Result<MemoryDisk, NoMemory>
+        requires { moment ≤ (state_of self.now).moment }
+        ensures picked { IfOk result (λ d. (f : ℕ) → (state_of d).file f ≡ picked_image (files_at self.now moment) choice.now f) }
+        ensures image { IfOk result (λ d. IsImage (state_of self.now) moment (state_of d).file) }
+        ensures synced { IfOk result (λ d. (f : ℕ) → now (state_of d) f ≡ settled_fates ((state_of d).file f)) }
+        ensures counts { IfOk result (λ d. ((state_of d).moment ≡ 0) × ((state_of d).faults ≡ 0) × ((state_of d).reads ≡ 0)) }
+        ensures none_fails { IfOk result (λ d. (t : ℕ) → fails_at d t ≡ false) }
+    {
+        let history = settle_image(self.alloc, self.history.calls.as_slice(), moment, choice)?;
+        Ok(MemoryDisk {
+            alloc: self.alloc,
+            history,
+            fails: Vec::new(self.alloc),
+            moment: 0,
+            faults: 0,
+            reads: 0,
+        })
     }
 
     /// A call that does nothing to the files: it takes its moment, and may be one that is to fail.
@@ -96,6 +121,7 @@ impl MemoryDisk {
         ensures stays { state_of self.new ≡ record (state_of self.old) { reads = self.new.reads } }
         ensures later { self.old.reads ≤ self.new.reads }
         ensures reads { self.new.reads ≤ self.old.reads + 1 }
+        ensures counted { self.old.moment < 2 ^ 64 - 1 → self.new.reads ≡ next_moment self.old.reads }
         ensures last { 2 ^ 64 - 1 ≤ self.old.moment → self.new.reads ≡ self.old.reads }
         ensures fails { self.new.fails.items ≡ self.old.fails.items }
     {
@@ -109,6 +135,7 @@ impl MemoryDisk {
     fn make(&mut self, f: u32, done: Option<Deed>, failed: Option<Deed>) -> Result<(), Failed>
         ensures ok { OnOk result (ActedSome (state_of self.old) (state_of self.new) f done) }
         ensures err { OnErr result (Same (state_of self.old) (state_of self.new) ⊎ ActedSome (state_of self.old) (state_of self.new) f failed) }
+        ensures unlisted { fails_at self.old (state_of self.old).moment ≡ false → OnErr result (Same (state_of self.old) (state_of self.new)) }
         ensures call { Tick (state_of self.old) (state_of self.new) (is_ok result) }
         ensures to_fail { fails_at self.old (state_of self.old).moment ≡ true → is_ok result ≡ false }
         ensures fails { (t : ℕ) → fails_at self.new t ≡ fails_at self.old t }
@@ -167,14 +194,24 @@ impl MemoryDisk {
 }
 
 impl Disk for MemoryDisk {
-    ghost use Rattle.alt_disk.specs.MemoryState.{state_of};
+    ghost use Rattle.std.specs.Prelude.{ℕ, ◌≢◌, ◌+◌, ◌-◌, ◌<◌, ◌^◌, [], true, false, None, length, IfOk, OnOk, OnErr, is_ok};
+    ghost use Rattle.alt_disk.specs.Disk.{IsNames, contents, answered, Tick, ReadCall, Same, Written, Synced, Removed, Read};
+    ghost use Rattle.alt_disk.specs.MemoryState.{state_of, fails_at};
     ghost use Rattle.alt_disk.specs.Honest.{reads_as_image_of};
+    ghost use Rattle.alt_base.specs.Counts.{next_moment};
 
     ghost state = { state_of };
 
     ghost reads_as_image = { λ d trusted f. reads_as_image_of f d.moment d.history.calls.items d.timed };
 
-    fn names(&mut self, list: &mut Vec<u32>) -> Result<(), DiskFault> {
+    fn names(&mut self, list: &mut Vec<u32>) -> Result<(), DiskFault>
+        ensures names { OnOk result (IsNames list.new.items (state_of self.old).file) }
+        ensures emptied { OnErr result (list.new.items ≡ []) }
+        ensures call { Tick (state_of self.old) (state_of self.new) (answered result) }
+        ensures same { Same (state_of self.old) (state_of self.new) }
+        ensures to_fail { fails_at self.old (state_of self.old).moment ≡ true → answered result ≡ false }
+        ensures fails { (t : ℕ) → fails_at self.new t ≡ fails_at self.old t }
+    {
         list.clear();
         self.tick()?;
         match self.history.names(list) {
@@ -186,7 +223,14 @@ impl Disk for MemoryDisk {
         }
     }
 
-    fn size(&mut self, f: u32) -> Result<u64, Failed> {
+    fn size(&mut self, f: u32) -> Result<u64, Failed>
+        ensures size { IfOk result (λ size. size ≡ length (contents (state_of self.old) f)) }
+        ensures bound { IfOk result (λ size. size ≤ 2 ^ 62) }
+        ensures call { Tick (state_of self.old) (state_of self.new) (is_ok result) }
+        ensures same { Same (state_of self.old) (state_of self.new) }
+        ensures to_fail { fails_at self.old (state_of self.old).moment ≡ true → is_ok result ≡ false }
+        ensures fails { (t : ℕ) → fails_at self.new t ≡ fails_at self.old t }
+    {
         self.tick()?;
         let size = self.history.bytes(f).len() as u64;
         if size > MAX_SIZE {
@@ -195,13 +239,30 @@ impl Disk for MemoryDisk {
         Ok(size)
     }
 
-    fn read(&mut self, f: u32, at: u64, buf: &mut [u8]) -> Result<usize, Failed> {
+    fn read(&mut self, f: u32, at: u64, buf: &mut [u8]) -> Result<usize, Failed>
+        ensures bytes { IfOk result (λ count. Read (contents (state_of self.old) f) at buf.old buf.new count) }
+        ensures bound { IfOk result (λ count. count ≤ length buf.old) }
+        ensures call { ReadCall (state_of self.old) (state_of self.new) (is_ok result) }
+        ensures same { Same (state_of self.old) (state_of self.new) }
+        ensures moment { (state_of self.new).moment ≡ next_moment (state_of self.old).moment }
+        ensures counted { (state_of self.old).moment < 2 ^ 64 - 1 → (state_of self.new).reads ≡ next_moment (state_of self.old).reads }
+        ensures to_fail { fails_at self.old (state_of self.old).moment ≡ true → is_ok result ≡ false }
+        ensures fails { (t : ℕ) → fails_at self.new t ≡ fails_at self.old t }
+    {
         self.count_read();
         self.tick()?;
         Ok(copy_from(self.history.bytes(f), at, buf))
     }
 
-    fn write_at(&mut self, f: u32, at: u64, bytes: &[u8]) -> Result<(), Failed> {
+    fn write_at(&mut self, f: u32, at: u64, bytes: &[u8]) -> Result<(), Failed>
+        requires { at ≤ length (contents (state_of self.old) f) }
+        ensures written { Written (state_of self.old) (state_of self.new) f at bytes.now (is_ok result) }
+        ensures fits { OnOk result (at + length bytes.now ≤ 2 ^ 62) }
+        ensures call { Tick (state_of self.old) (state_of self.new) (is_ok result) }
+        ensures unlisted { fails_at self.old (state_of self.old).moment ≡ false → at + length bytes.now ≤ 2 ^ 62 → OnErr result (Same (state_of self.old) (state_of self.new)) }
+        ensures to_fail { fails_at self.old (state_of self.old).moment ≡ true → is_ok result ≡ false }
+        ensures fails { (t : ℕ) → fails_at self.new t ≡ fails_at self.old t }
+    {
         let count = bytes.len() as u64;
         let failed = Some(Deed::WriteFailed { at, count });
         if at > MAX_SIZE || count > MAX_SIZE - at {
@@ -212,11 +273,28 @@ impl Disk for MemoryDisk {
         self.make(f, written, failed)
     }
 
-    fn sync(&mut self, f: u32) -> Result<(), Failed> {
+    fn sync(&mut self, f: u32) -> Result<(), Failed>
+        ensures synced { Synced (state_of self.old) (state_of self.new) f (is_ok result) }
+        ensures missing { (state_of self.old).file f ≡ None → Same (state_of self.old) (state_of self.new) }
+        ensures call { Tick (state_of self.old) (state_of self.new) (is_ok result) }
+        ensures same { (g : ℕ) → (state_of self.new).file g ≡ (state_of self.old).file g }
+        ensures err { OnErr result (Same (state_of self.old) (state_of self.new)) }
+        ensures to_fail { fails_at self.old (state_of self.old).moment ≡ true → is_ok result ≡ false }
+        ensures fails { (t : ℕ) → fails_at self.new t ≡ fails_at self.old t }
+    {
         self.make(f, Some(Deed::Sync), None)
     }
 
-    fn remove(&mut self, f: u32) -> Result<(), Failed> {
+    fn remove(&mut self, f: u32) -> Result<(), Failed>
+        ensures gone { OnOk result ((state_of self.new).file f ≡ None) }
+        ensures removed { Removed (state_of self.old) (state_of self.new) f (is_ok result) }
+        ensures missing { (state_of self.old).file f ≡ None → Same (state_of self.old) (state_of self.new) }
+        ensures call { Tick (state_of self.old) (state_of self.new) (is_ok result) }
+        ensures others { (g : ℕ) → g ≢ f → (state_of self.new).file g ≡ (state_of self.old).file g }
+        ensures unlisted { fails_at self.old (state_of self.old).moment ≡ false → OnErr result (Same (state_of self.old) (state_of self.new)) }
+        ensures to_fail { fails_at self.old (state_of self.old).moment ≡ true → is_ok result ≡ false }
+        ensures fails { (t : ℕ) → fails_at self.new t ≡ fails_at self.old t }
+    {
         self.make(f, Some(Deed::Remove), Some(Deed::RemoveFailed))
     }
 }

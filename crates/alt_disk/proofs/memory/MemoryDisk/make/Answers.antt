@@ -39,8 +39,8 @@ returns-clause-ok c =
     d.timed c.start.ensures.calls ok.2 c.keep-2.ensures.moment pushed)
     c.keep-2.ensures.ok
 
-pub returns-clause-err : goal.returns-clause-err
-returns-clause-err c =
+pub returns-clause-unlisted : goal.returns-clause-unlisted
+returns-clause-unlisted c unlisted =
     let d = c.args.self.now in
     let mid = c.start.new.self in
     let n = c.keep-2.new.self in
@@ -49,5 +49,12 @@ returns-clause-err c =
     (λ (lost : (n.history.calls.items ≡ mid.history.calls.items) × Rose mid.faults n.faults).
     let stays : n.history.calls.items ≡ d.history.calls.items = lost.0 ∙ c.start.ensures.calls in
     let later : d.moment ≤ n.moment = omega (arith, c.keep-2.ensures.moment, ok.2) in
-    inl (subst (λ (l : List Made). Same (state_of d) (memory_state l n.moment n.faults n.reads)) (sym stays) (same_list d.history.calls.items d.moment n.moment d.faults n.faults d.reads n.reads d.timed later)))
+    subst (λ (l : List Made). Same (state_of d) (memory_state l n.moment n.faults n.reads)) (sym stays) (same_list d.history.calls.items d.moment n.moment d.faults n.faults d.reads n.reads d.timed later))
     c.keep-2.ensures.err
+
+pub returns-clause-err : goal.returns-clause-err
+returns-clause-err c =
+    let d = c.args.self.now in
+    let n = c.keep-2.new.self in
+    let same = returns-clause-unlisted c (sym c.in_ok-start.ensures.ok.0 ∙ c.if-branch.false) in
+    on_err c.keep-2.result (λ (s : Same (state_of d) (state_of n)). inl s) same

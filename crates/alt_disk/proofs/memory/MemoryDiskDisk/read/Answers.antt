@@ -13,12 +13,12 @@ returns-in_err-tick-clause-call c =
     (read_call (state_of c.args.self.now) (state_of mid) (state_of c.tick.new.self) mid.reads false counted.stays counted.later counted.reads counted.last c.in_err-tick.ensures.call)
 
 pub returns-in_err-tick-clause-same : goal.returns-in_err-tick-clause-same
-returns-in_err-tick-clause-same c told =
+returns-in_err-tick-clause-same c =
     let mid = c.count_read.new.self in
     read_same (state_of c.args.self.now) (state_of mid) (state_of c.tick.new.self) mid.reads false c.count_read.ensures.stays c.in_err-tick.ensures.call
 
 pub returns-clause-bytes : goal.returns-clause-bytes
-returns-clause-bytes c told =
+returns-clause-bytes c =
     let mid = c.count_read.new.self in
     let same = read_same (state_of c.args.self.now) (state_of mid) (state_of c.tick.new.self) mid.reads true c.count_read.ensures.stays c.in_ok-tick.ensures.call in
     let is : c.bytes.result.now ≡ contents (state_of c.args.self.now) c.args.f = c.bytes.ensures ∙ ap bytes_or_none (same.file c.args.f) in
@@ -31,6 +31,6 @@ returns-clause-call c =
     read_call (state_of c.args.self.now) (state_of mid) (state_of c.tick.new.self) mid.reads true counted.stays counted.later counted.reads counted.last c.in_ok-tick.ensures.call
 
 pub returns-clause-same : goal.returns-clause-same
-returns-clause-same c told =
+returns-clause-same c =
     let mid = c.count_read.new.self in
     read_same (state_of c.args.self.now) (state_of mid) (state_of c.tick.new.self) mid.reads true c.count_read.ensures.stays c.in_ok-tick.ensures.call

@@ -9,7 +9,7 @@ use Rattle.alt_disk.proofs.MemoryCalls.{acted_synced, same_synced}
 use Rattle.alt_disk.proofs.memory.MemoryDiskDisk.sync.Goals as goal
 
 pub returns-clause-synced : goal.returns-clause-synced
-returns-clause-synced c trusted =
+returns-clause-synced c =
     let d = c.args.self.now in
     let f = c.args.f in
     let a : DiskState = state_of d in

@@ -1,6 +1,6 @@
 -- No reply has a float.
-use Rattle.std.proofs.Common.{◌≡◌, ℕ, List, [], ◌∷◌, Bool, true, false, cond, Option, Some, None, Ordering, Less, Equal, Greater, refl, sym, ap, ◌∙◌, nat_cmp}
-use Rattle.std.specs.Prelude.{length, nat_lt, ◌||◌, codes}
+use Rattle.std.proofs.Common.{◌≡◌, ℕ, List, [], ◌∷◌, Bool, true, false, cond, Option, Some, None, Ordering, Less, Equal, Greater, refl, ap, ◌∙◌, nat_cmp}
+use Rattle.std.specs.Prelude.{length, ◌||◌, codes}
 use Rattle.std.specs.Ordering.{match_ordering}
 use Rattle.std.specs.Cmp.Lexicographic.{slice_cmp}
 use Rattle.std.specs.FinMap as finite
@@ -65,7 +65,7 @@ plain-cond false x y p q = q
 plain-creates : (s : State) (moment : ℕ) (ask : Option (List ℕ × List ℕ)) → IsPlain (creates s moment ask)
 plain-creates s moment None = refl
 plain-creates s moment (Some ask) =
-    plain-cond (finite.contains_key s.tables ask.0) (refuses s E5) (record { state = with_table s ask.0 (new_table ask.1); answer = created ask.0 ask.1 moment }) refl refl
+    plain-cond (finite.contains_key s.tables ask.0) (refuses s E5) (record { state = with_table s ask.0 (new_table ask.1); answer = created ask.0 ask.1 moment; atoms = with_table s ask.0 (new_table ask.1) ∷ [] }) refl refl
 
 plain-puts_under : (s : State) (name : List ℕ) (item : Pairs) (t : Described) (k : Option (List ℕ)) → IsPlain (puts_under s name item t k)
 plain-puts_under s name item t None = refl

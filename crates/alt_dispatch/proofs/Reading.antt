@@ -1,5 +1,5 @@
 -- Reading a `Value` reads its data.
-use Rattle.std.proofs.Common.{◌≡◌, ℕ, ◌<◌, ◌≢◌, List, [], ◌∷◌, length, Option, Some, None, option_map, refl, sym, ap, ◌∙◌, arith, true, false, cond}
+use Rattle.std.proofs.Common.{◌≡◌, ℕ, ◌<◌, ◌≢◌, List, [], ◌∷◌, length, Some, None, option_map, refl, sym, ap, ◌∙◌, arith, true, false, cond}
 use Rattle.std.specs.Prelude.{option_and_then, is_some, unwrap_or, slice_get, String}
 use Rattle.std.proofs.lemmas.List.{drop_all}
 use Rattle.std.specs.declared.alloc.Global.{Global}
@@ -7,8 +7,8 @@ use Rattle.serde_json.specs.Events.{members_len}
 use Rattle.serde_json.proofs.Views.{members_len-members_view}
 use Rattle.std.specs.Str.{is_utf8, IsUtf8}
 use Rattle.std.proofs.lemmas.Str.{IsUtf8-from_is_utf8, is_utf8-from_IsUtf8}
-use Rattle.std.proofs.Common.{◌++◌, ◌+◌, ◌≤◌, zero, suc, append_assoc, drop, get_or, drop-cons, add-one}
-use Rattle.serde_json.specs.Data.{Data, item, no_items, Members, member, put}
+use Rattle.std.proofs.Common.{◌+◌, ◌≤◌, zero, suc, drop, get_or, drop-cons, add-one}
+use Rattle.serde_json.specs.Data.{Data, Members, member, put}
 use Rattle.alt_value.specs.Tree.{Tree, text, Pairs, put_pair}
 use Rattle.alt_machine.specs.Forms.{attr_form, attributes_with}
 use Rattle.alt_machine.specs.Replies.{tree_data, members_with}

@@ -1,15 +1,14 @@
 -- Maps in memory and the maps that they stand for.
-use Rattle.std.proofs.Common.{◌≡◌, ℕ, List, [], ◌∷◌, map, String, Global, BTreeMap, Ordering, Less, Equal, Greater, Option, Some, None, is_some, option_map, nat_cmp, is_eq, cond, Bool, true, false, string_bytes, string_cmp, refl, sym, ap, subst, ◌∙◌}
+use Rattle.std.proofs.Common.{◌≡◌, ℕ, List, [], ◌∷◌, map, String, Global, BTreeMap, Ordering, Less, Equal, Greater, Option, Some, None, is_some, option_map, nat_cmp, is_eq, cond, Bool, true, false, string_bytes, string_cmp, refl, sym, ap, ◌∙◌}
 use Rattle.std.proofs.lemmas.Cmp.{nat_list_cmp_total}
 use Rattle.std.specs.BTreeMap.{insert_entry, is_at, UpdatesBy, WritesThrough}
-use Rattle.std.specs.Prelude.{IsSome}
 use Rattle.std.specs.Cmp.{eq_by_cmp_equiv}
 use Rattle.std.specs.Str.{bytes_eq}
 use Rattle.std.proofs.lemmas.Map.Text.{btree_map_updates_text, is_eq-slice_cmp}
 use Rattle.std.specs.Cmp.Lexicographic.{slice_cmp}
-use Rattle.std.specs.Map.{lookup, set_value}
+use Rattle.std.specs.Map.{lookup}
 use Rattle.std.specs.FinMap as finite
-use Rattle.std.specs.FinMap.{FinMap, get, insert, from_entries, get-from_entries, get-insert, same_map, nat_cmp-IsAntisymmetric, slice_cmp-IsAntisymmetric}
+use Rattle.std.specs.FinMap.{get, insert, get-from_entries, get-insert, same_map, nat_cmp-IsAntisymmetric, slice_cmp-IsAntisymmetric}
 use Rattle.std.specs.FinMap.Entries.{find, put, by_order, find-put}
 use Rattle.std.specs.Ordering.{match_ordering}
 use Rattle.alt_machine.specs.State.{Texts}

@@ -4,6 +4,7 @@ ghost use Rattle.std.specs.Prelude.{◌≡◌, false, IfOk};
 ghost use Rattle.serde_json.specs.View.{view};
 ghost use Rattle.serde_json.specs.Written.{has_float};
 ghost use Rattle.alt_machine.specs.Operations.{operation_named};
+ghost use Rattle.alt_machine.specs.Outcomes.{last_state};
 ghost use Rattle.alt_machine.specs.Step.{step, operates};
 ghost use Rattle.alt_dispatch.specs.Stands.{state_of, answer_of};
 
@@ -30,7 +31,7 @@ pub fn operation_named(word: &[u8]) -> Option<Operation>
 }
 
 /// One request at a moment, in whole seconds since 1970: the reply and the new state are those of the machine's step.
-/// A refusal is a reply too, and leaves the state. After an error the tables are spent. The disk isn't called yet.
+/// The new state is also that after the last of the step's atoms. A refusal is a reply too, and leaves the state. After an error the tables are spent. The disk isn't called yet.
 pub fn answer<D: Disk>(
     alloc: Global,
     tables: &mut Tables,
@@ -43,6 +44,8 @@ pub fn answer<D: Disk>(
         (λ reply. answer_of reply ≡ (step (state_of tables.old) operation body.now moment).answer) }
     ensures state { IfOk result
         (λ reply. state_of tables.new ≡ (step (state_of tables.old) operation body.now moment).state) }
+    ensures atoms { IfOk result
+        (λ reply. state_of tables.new ≡ last_state (state_of tables.old) (step (state_of tables.old) operation body.now moment).atoms) }
     ensures plain { IfOk result (λ reply. has_float (view reply.body) ≡ false) }
     ensures disk { D.state disk.new ≡ D.state disk.old }
 {

@@ -1,10 +1,10 @@
 -- The form that a body must have as long as the rest isn't built: what it asks for, or none.
-use Rattle.std.specs.Prelude.{ℕ, List, [], length, Bool, true, false, ◌&&◌, ◌||◌, ◌==◌, nat_le, nat_lt, not, Option, Some, None, is_some, if◌then◌else◌, option_and_then, codes}
+use Rattle.std.specs.Prelude.{ℕ, List, [], length, Bool, false, ◌&&◌, ◌||◌, ◌==◌, nat_le, nat_lt, Option, Some, None, is_some, if◌then◌else◌, option_and_then, codes}
 use Rattle.std.specs.List.{list_all}
 use Rattle.std.specs.Str.{bytes_eq}
 use Rattle.serde_json.specs.Data.{Data, Members, no_members, member}
 use Rattle.serde_json.specs.Find.{get, as_object}
-use Rattle.alt_value.specs.Tree.{Tree, text, Pairs, put_pair}
+use Rattle.alt_value.specs.Tree.{text, Pairs, put_pair}
 use Rattle.alt_machine.specs.Json.{text_at, only_at, member_count}
 
 -- what a body of more than 1,024 bytes asks for isn't built

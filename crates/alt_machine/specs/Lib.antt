@@ -8,3 +8,4 @@ pub mod Refusals
 pub mod Replies
 pub mod State
 pub mod Step
+pub mod Writes

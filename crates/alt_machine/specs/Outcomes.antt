@@ -1,13 +1,25 @@
 -- What a request comes to.
+use Rattle.std.specs.Prelude.{List, [], ◌∷◌}
 use Rattle.alt_machine.specs.declared.Refusal.{Refusal}
 use Rattle.alt_machine.specs.Refusals.{Answer, refused}
 use Rattle.alt_machine.specs.State.{State}
 
--- the new state and the answer
+-- The new state, the answer, and the atoms: the single writes that the request makes, each by the state after it. A stop may
+-- come between two of them and never inside one.
 pub record Outcome : Type 0 where
   pub state : State
   pub answer : Answer
+  pub atoms : List State
 
 -- a refusal leaves the state itself
 abbrev pub refuses : State → Refusal → Outcome
-refuses s r = record { state = s; answer = refused r }
+refuses s r = record { state = s; answer = refused r; atoms = [] }
+
+-- a read leaves it too
+abbrev pub reads : State → Answer → Outcome
+reads s answer = record { state = s; answer = answer; atoms = [] }
+
+-- the state after these writes
+abbrev pub last_state : State → List State → State
+last_state s [] = s
+last_state s (t ∷ ts) = last_state t ts

@@ -1,5 +1,5 @@
 -- A take gives nothing exactly where no piece is left.
-use Rattle.std.proofs.Common.{◌≡◌, ◌<◌, ◌≤◌, ℕ, List, [], ◌∷◌, length, take, map, Vec, Global, sym, ap, ◌∙◌, arith, length-take, refl}
+use Rattle.std.proofs.Common.{◌≡◌, ◌<◌, ◌≤◌, ℕ, List, [], ◌∷◌, length, take, map, Vec, Global, ap, ◌∙◌, arith, length-take, refl}
 use Rattle.std.specs.Prelude.{◌↔◌}
 use Rattle.std.specs.List.{All}
 use Rattle.alt_shell.specs.Pieces.{front_of}

@@ -1,9 +1,9 @@
 -- What a stretch of a shell's own calls keeps of the disk, put together from single calls.
-use Rattle.std.proofs.Common.{◌≡◌, ◌≤◌, ◌<◌, ◌+◌, ◌-◌, ◌^◌, ℕ, Bool, false, List, min, max, refl, sym, ap, subst, ◌∙◌, arith, ◌⊎◌, inl, inr}
+use Rattle.std.proofs.Common.{◌≡◌, ◌≤◌, ◌+◌, ℕ, Bool, refl, ap, ◌∙◌, arith, ◌⊎◌, inl, inr}
 use Rattle.std.proofs.lemmas.Bool.{cases_lt}
-use Rattle.alt_base.specs.Counts.{Rose, next_moment}
-use Rattle.alt_disk.specs.Disk.{DiskState, Goes, Same, Silent, Tick, Faulted, now, with_beside}
-use Rattle.alt_shell.specs.Calls.{Keeps, ShellCall, Aside}
+use Rattle.alt_base.specs.Counts.{next_moment}
+use Rattle.alt_disk.specs.Disk.{DiskState, Silent, Faulted, now, with_beside}
+use Rattle.alt_shell.specs.Calls.{Keeps}
 use Rattle.alt_shell.specs.Log.{Log}
 
 -- the next moment is at most one later

@@ -1,5 +1,5 @@
 -- A value that is put among sorted attributes: what one comparison tells of the place.
-use Rattle.std.proofs.Common.{◌≡◌, ◌<◌, ℕ, suc, List, ◌∷◌, length, drop, get_or, drop-cons, Less, Equal, Greater, sym, ap, ◌∙◌, Ordering, nat_cmp}
+use Rattle.std.proofs.Common.{◌≡◌, ◌<◌, ℕ, suc, List, ◌∷◌, length, drop, get_or, drop-cons, Less, Equal, Greater, sym, ap, ◌∙◌, Ordering}
 use Rattle.std.specs.FinMap.{nat_cmp-IsAntisymmetric, slice_cmp-IsAntisymmetric}
 use Rattle.std.specs.FinMap.Entries.{by_order}
 use Rattle.alt_value.specs.Tree.{Tree, Pairs, put_pair, name_cmp}

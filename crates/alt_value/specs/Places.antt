@@ -1,5 +1,5 @@
 -- Where an item has a name, or would have it.
-use Rattle.std.specs.Prelude.{◌≡◌, ◌<◌, ◌≤◌, ℕ, List, length, insert, set, slice_index_or}
+use Rattle.std.specs.Prelude.{◌≡◌, ◌<◌, ◌≤◌, ℕ, List, length, insert, set}
 use Rattle.alt_value.specs.declared.item.Place.{Place}
 use Rattle.alt_value.specs.declared.item.Place.TheVariants.{At, Before}
 use Rattle.alt_value.specs.Tree.{Tree, Pairs, put_pair}

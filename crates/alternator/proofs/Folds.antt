@@ -1,9 +1,13 @@
 -- The fold over lines, one list of lines after another.
-use Rattle.std.proofs.Common.{◌≡◌, ◌≤◌, ℕ, suc, List, [], ◌∷◌, ◌++◌, length, Bool, true, false, cond, refl, sym, ap, ◌∙◌, append_assoc, append-nil, arith}
+use Rattle.std.proofs.Common.{◌≡◌, ◌≤◌, ℕ, suc, List, [], ◌∷◌, ◌++◌, length, true, false, cond, refl, sym, ap, ◌∙◌, append_assoc, arith}
 use Rattle.std.specs.Prelude.{◌==◌}
 use Rattle.std.specs.Str.Lines.{strip_carriage_return}
 use Rattle.alt_machine.specs.State.{State}
 use Rattle.alternator.specs.LinesSoFar.{whole_lines, rest_line}
+use Rattle.std.proofs.Common.{length-append, drop}
+use Rattle.std.proofs.lemmas.Bool.{le-leb}
+use Rattle.std.proofs.Math.Seq.{drop-append_seam}
+use Rattle.alternator.specs.Moments.{answered}
 use Rattle.alternator.specs.Out.{served, replies, after, line_of}
 
 suc-same : {m n : ℕ} → suc m ≡ suc n → m ≡ n
@@ -49,3 +53,15 @@ rest_line-append line (x ∷ a) b =
       | true ↦ rest_line-append [] a b
       | false ↦ rest_line-append (line ++ x ∷ []) a b
     ]
+
+-- where all replies were said, all requests were answered
+pub answered-replies : (s : State) (ls : List (List ℕ)) (ms : List ℕ) → length ms ≡ length ls → answered s ls ms (replies s ls ms) ≡ length ls
+answered-replies s [] ms e = refl
+answered-replies s (l ∷ ls) [] e = absurd (omega arith)
+answered-replies s (l ∷ ls) (m ∷ ms) e =
+    let reply = line_of (served s l m).answer in
+    let rest = replies (served s l m).state ls ms in
+    let fits : length reply ≤ length (reply ++ rest) = let k = length-append reply rest in omega (arith, k) in
+    ap (λ t. cond t (suc (answered (served s l m).state ls ms (drop (length reply) (reply ++ rest)))) 0) (le-leb (length reply) (length (reply ++ rest)) fits)
+    ∙ ap (λ (bytes : List ℕ). suc (answered (served s l m).state ls ms bytes)) (drop-append_seam reply rest)
+    ∙ ap suc (answered-replies (served s l m).state ls ms (suc-same e))

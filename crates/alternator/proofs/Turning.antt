@@ -1,13 +1,14 @@
 -- Taking and serving, one turn after another.
-use Rattle.std.proofs.Common.{◌≡◌, ◌≤◌, ◌<◌, ◌+◌, ℕ, List, [], ◌∷◌, ◌++◌, length, take, Bool, true, false, not, refl, sym, ap, subst, ◌∙◌, append_assoc, append-nil, arith, length-append, length-take}
+use Rattle.std.proofs.Common.{◌≡◌, ◌≤◌, ◌<◌, ◌+◌, ℕ, List, [], ◌∷◌, ◌++◌, length, Bool, true, false, refl, sym, ap, subst, ◌∙◌, append_assoc, append-nil, arith, length-append}
 use Rattle.std.specs.Prelude.{◌||◌}
 use Rattle.alt_machine.specs.State.{State, start}
-use Rattle.alt_shell.specs.Log.{Log, Grows, StillGrows, moments_of, entry, event_of, took, is_end, taken, said_in, ended}
+use Rattle.alt_shell.specs.Log.{Log, Grows, StillGrows, moments_of, entry, took, is_end, taken, said_in, ended}
 use Rattle.alternator.specs.Lines.{last_line, lines_of}
 use Rattle.alternator.specs.LinesSoFar.{whole_lines, rest_line}
 use Rattle.alternator.specs.Out.{replies, after, out}
 use Rattle.alternator.specs.Runs.{Calls, Serves, Breaks, Turns, TurnBreaks, Answers, AnswersSome}
-use Rattle.alternator.proofs.Folds.{replies-append, after-append, whole_lines-append, rest_line-append}
+use Rattle.alternator.specs.Moments.{answered}
+use Rattle.alternator.proofs.Folds.{replies-append, answered-replies, after-append, whole_lines-append, rest_line-append}
 use Rattle.alternator.proofs.Logs.{Grows-then, Grows-nil, StillGrows-then, StillGrows-nil}
 use Rattle.alternator.proofs.Splitting.{lines_of-so_far}
 use Rattle.alternator.proofs.Serving.{said_in-append, taken-append, ended-append}
@@ -113,24 +114,30 @@ module _ (a b c : Log) (t : State) (k : List ℕ) (p : Calls a b (Turns false st
   pub turns_end : (u : State) → Calls b c (Serves t (last_line k) u) → Calls a c Answers
   turns_end u q =
       let same : taken (p.entries ++ q.entries) ≡ taken p.entries = taken-append p.entries q.entries ∙ ap (λ bs. taken p.entries ++ bs) q.holds.silent ∙ append-nil (taken p.entries) in
+      let said : said_in (p.entries ++ q.entries) ≡ out true (taken (p.entries ++ q.entries)) (p.told ++ q.told) =
+      said_in-append p.entries q.entries ∙ ap (λ bs. bs ++ said_in q.entries) p.holds.said
+      ∙ ap (λ bs. replies start (whole_lines [] (taken p.entries)) p.told ++ bs) (q.holds.said ∙ ap (λ v. replies v (last_line k) q.told) p.holds.state)
+      ∙ sym (replies-append start (whole_lines [] (taken p.entries)) (last_line k) p.told q.told p.holds.count)
+      ∙ ap (λ r. replies start (whole_lines [] (taken p.entries) ++ last_line r) (p.told ++ q.told)) p.holds.rest
+      ∙ ap (λ ls. replies start ls (p.told ++ q.told)) (sym (lines_of-so_far true (taken p.entries)))
+      ∙ ap (λ bs. out true bs (p.told ++ q.told)) (sym same) in
+      let count : length (p.told ++ q.told) ≡ length (lines_of true (taken (p.entries ++ q.entries))) =
+      length-append p.told q.told ∙ ap (λ n. n + length q.told) p.holds.count ∙ ap (λ n. length (whole_lines [] (taken p.entries)) + n) q.holds.count
+      ∙ sym (length-append (whole_lines [] (taken p.entries)) (last_line k))
+      ∙ ap (λ r. length (whole_lines [] (taken p.entries) ++ last_line r)) p.holds.rest
+      ∙ ap length (sym (lines_of-so_far true (taken p.entries)))
+      ∙ ap (λ bs. length (lines_of true bs)) (sym same) in
       record {
         entries = p.entries ++ q.entries;
         told = p.told ++ q.told;
         grows = Grows-then a b c p.entries q.entries p.grows q.grows;
         tells = StillGrows-then (moments_of a) (moments_of b) (moments_of c) p.told q.told p.tells q.tells;
         holds = record {
-          said = said_in-append p.entries q.entries ∙ ap (λ bs. bs ++ said_in q.entries) p.holds.said
-              ∙ ap (λ bs. replies start (whole_lines [] (taken p.entries)) p.told ++ bs) (q.holds.said ∙ ap (λ v. replies v (last_line k) q.told) p.holds.state)
-              ∙ sym (replies-append start (whole_lines [] (taken p.entries)) (last_line k) p.told q.told p.holds.count)
-              ∙ ap (λ r. replies start (whole_lines [] (taken p.entries) ++ last_line r) (p.told ++ q.told)) p.holds.rest
-              ∙ ap (λ ls. replies start ls (p.told ++ q.told)) (sym (lines_of-so_far true (taken p.entries)))
-              ∙ ap (λ bs. out true bs (p.told ++ q.told)) (sym same);
-          count = length-append p.told q.told ∙ ap (λ n. n + length q.told) p.holds.count ∙ ap (λ n. length (whole_lines [] (taken p.entries)) + n) q.holds.count
-              ∙ sym (length-append (whole_lines [] (taken p.entries)) (last_line k))
-              ∙ ap (λ r. length (whole_lines [] (taken p.entries) ++ last_line r)) p.holds.rest
-              ∙ ap length (sym (lines_of-so_far true (taken p.entries)))
-              ∙ ap (λ bs. length (lines_of true bs)) (sym same);
+          said = said;
+          count = count;
           at_end = ended-append p.entries q.entries ∙ ap (λ e. e || ended q.entries) p.holds.ends;
+          every = ap (λ (bs : List ℕ). answered start (lines_of true (taken (p.entries ++ q.entries))) (p.told ++ q.told) bs) said
+              ∙ answered-replies start (lines_of true (taken (p.entries ++ q.entries))) (p.told ++ q.told) count;
         };
       }
 

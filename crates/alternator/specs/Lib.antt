@@ -1,6 +1,7 @@
 pub mod Host
 pub mod Lines
 pub mod LinesSoFar
+pub mod Moments
 pub mod Out
 pub mod Runs
 pub mod Words

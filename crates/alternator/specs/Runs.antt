@@ -2,11 +2,12 @@
 use Rattle.std.specs.Prelude.{◌≡◌, ◌≤◌, ℕ, List, [], length, Bool, false, true, not}
 use Rattle.alt_base.specs.Prefix.{IsPrefix}
 use Rattle.alt_disk.specs.Disk.{DiskState}
-use Rattle.alt_machine.specs.State.{State}
+use Rattle.alt_machine.specs.State.{State, start}
 use Rattle.alt_shell.specs.Calls.{Keeps}
 use Rattle.alt_shell.specs.Log.{Log, Grows, StillGrows, moments_of, notes_of, taken, said_in, ended}
 use Rattle.alternator.specs.Lines.{lines_of}
 use Rattle.alternator.specs.LinesSoFar.{whole_lines, rest_line}
+use Rattle.alternator.specs.Moments.{answered}
 use Rattle.alternator.specs.Out.{replies, after, out}
 
 -- The calls between two logs, as far as they are told: their entries and the moments told among them have P.
@@ -23,11 +24,12 @@ pub record Passes (old new : DiskState) : Type 0 where
   pub notes : StillGrows (notes_of old.beside) (notes_of new.beside) []
 
 -- The whole input was taken, and what was said is all of its Out. Each line has a moment of its own, no more and no fewer:
--- without that a body that asks for no moment and says nothing would meet the first fact.
+-- without that a body that asks for no moment and says nothing would meet the first fact. So each of them was answered.
 pub record Answers (entries : Log) (told : List ℕ) : Type 0 where
   pub said : said_in entries ≡ out true (taken entries) told
   pub count : length told ≡ length (lines_of true (taken entries))
   pub at_end : ended entries ≡ true
+  pub every : answered start (lines_of true (taken entries)) told (said_in entries) ≡ length (lines_of true (taken entries))
 
 -- What was said is a prefix of the Out of what was taken.
 pub record AnswersSome (entries : Log) (told : List ℕ) : Type 0 where

@@ -6,7 +6,7 @@ use Rattle.alt_value.specs.Tree.{Pairs}
 use Rattle.alt_machine.specs.declared.Refusal.TheVariants.{E4, V0, V23}
 use Rattle.alt_machine.specs.Forms.{fitting, entry_form}
 use Rattle.alt_machine.specs.Keys.{key_only}
-use Rattle.alt_machine.specs.Outcomes.{Outcome, refuses}
+use Rattle.alt_machine.specs.Outcomes.{Outcome, refuses, reads}
 use Rattle.alt_machine.specs.Refusals.{Answer, refused}
 use Rattle.alt_machine.specs.Replies.{found}
 use Rattle.alt_machine.specs.State.{State, Described}
@@ -23,7 +23,7 @@ answer_of t key = answer_at t (key_only t.key key)
 -- out of this table
 abbrev pub gets_from : State → Pairs → Option Described → Outcome
 gets_from s key None = refuses s E4
-gets_from s key (Some t) = record { state = s; answer = answer_of t key }
+gets_from s key (Some t) = reads s (answer_of t key)
 
 -- of a table's name and a key
 abbrev pub gets : State → Option (List ℕ × Pairs) → Outcome

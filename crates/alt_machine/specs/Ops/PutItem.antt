@@ -9,11 +9,12 @@ use Rattle.alt_machine.specs.Keys.{key_in}
 use Rattle.alt_machine.specs.Outcomes.{Outcome, refuses}
 use Rattle.alt_machine.specs.Replies.{done}
 use Rattle.alt_machine.specs.State.{State, Described, with_table, with_item}
+use Rattle.alt_machine.specs.Writes.{writes_item}
 
--- under this key
+-- under this key. A put of the item that is there leaves the state as it was, and is no write
 abbrev pub puts_under : State → List ℕ → Pairs → Described → Option (List ℕ) → Outcome
 puts_under s name item t None = refuses s V23
-puts_under s name item t (Some key) = record { state = with_table s name (with_item t key item); answer = done }
+puts_under s name item t (Some key) = record { state = with_table s name (with_item t key item); answer = done; atoms = writes_item s name t key item }
 
 -- into this table
 abbrev pub puts_into : State → List ℕ → Pairs → Option Described → Outcome

@@ -1,11 +1,9 @@
-use Rattle.std.proofs.Common.{◌≡◌, ◌<◌, ◌≤◌, ◌+◌, ap, sym, ◌∙◌, Some, List, ℕ, length, arith, drop}
-use Rattle.std.proofs.lemmas.List.{drop_all}
-use Rattle.serde_json.specs.Data.{Data, object, no_members, put, Members}
-use Rattle.serde_json.specs.View.{view, members_view}
+use Rattle.std.proofs.Common.{◌+◌, ap, sym, ◌∙◌, arith, drop}
+use Rattle.serde_json.specs.Data.{Data, object, put, Members}
+use Rattle.serde_json.specs.View.{members_view}
 use Rattle.serde_json.proofs.Views.{view-Object}
 use Rattle.alt_value.specs.Values.{tree_of}
-use Rattle.alt_value.specs.Tree.{Pairs, Tree}
-use Rattle.alt_machine.specs.Replies.{members_with, item_data}
+use Rattle.alt_machine.specs.Replies.{members_with}
 use Rattle.alt_dispatch.proofs.Reading.{members_more, members_end, past_end}
 use Rattle.alt_dispatch.proofs.items.item_data.Goals as goal
 use Rattle.alt_dispatch.proofs.items.item_data.Goals.{else-loop-place-test, then-loop-place-test+in_default}

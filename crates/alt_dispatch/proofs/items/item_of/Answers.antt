@@ -1,4 +1,4 @@
-use Rattle.std.proofs.Common.{◌≡◌, ap, sym, ◌∙◌, Some, string_bytes, List, ℕ}
+use Rattle.std.proofs.Common.{◌≡◌, ap, sym, ◌∙◌, Some, string_bytes}
 use Rattle.serde_json.specs.View.{view, members_view}
 use Rattle.alt_value.specs.Tree.{text, Pairs, put_pair}
 use Rattle.alt_machine.specs.Forms.{attr_form, attributes_with}

@@ -1,5 +1,5 @@
-use Rattle.std.proofs.Common.{◌≡◌, ◌<◌, ◌≤◌, ◌++◌, ◌∷◌, [], ℕ, suc, List, length, map, take, drop, get_or, sym, ap, ◌∙◌, arith, add-one, append_assoc, Less, Equal, Greater, refl}
-use Rattle.std.proofs.lemmas.List.{length-map, set_split, drop_all, take-append-drop}
+use Rattle.std.proofs.Common.{◌≡◌, ◌<◌, ◌++◌, ◌∷◌, [], ℕ, suc, List, length, map, take, drop, get_or, sym, ap, ◌∙◌, arith, add-one, append_assoc, Less, Equal, Greater}
+use Rattle.std.proofs.lemmas.List.{length-map, set_split}
 use Rattle.std.proofs.Math.ListN.{get_or-map}
 use Rattle.std.proofs.Math.Seq.{take-suc}
 use Rattle.alt_value.specs.Tree.{Tree, Pairs, put_pair, name_cmp}

@@ -1,11 +1,11 @@
-use Rattle.std.proofs.Common.{◌≡◌, ◌++◌, ◌∷◌, ℕ, List, map, take, drop, sym, ap, ◌∙◌, refl}
+use Rattle.std.proofs.Common.{◌≡◌, ◌++◌, ◌∷◌, ℕ, List, map, take, drop, sym, ap, ◌∙◌}
 use Rattle.std.proofs.lemmas.List.{map-set, map-append, take-map, drop-map}
 use Rattle.std.specs.List.{insert}
 use Rattle.std.specs.Prelude.{slice_set}
 use Rattle.alt_value.specs.declared.item.Pair.{Pair}
 use Rattle.alt_value.specs.declared.item.Place.TheVariants.{At, Before}
 use Rattle.alt_value.specs.Places.{Puts}
-use Rattle.alt_value.specs.Tree.{Tree, Pairs, put_pair}
+use Rattle.alt_value.specs.Tree.{Pairs}
 use Rattle.alt_value.specs.Values.{pair_of, tree_of}
 use Rattle.alt_value.proofs.item.put_among.Goals as goal
 

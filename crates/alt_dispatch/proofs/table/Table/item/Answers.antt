@@ -1,6 +1,5 @@
-use Rattle.std.proofs.Common.{◌∙◌, sym, ap, arith}
+use Rattle.std.proofs.Common.{ap, arith}
 use Rattle.std.specs.Prelude.{option_map}
-use Rattle.alt_dispatch.specs.Stands.{described}
 use Rattle.alt_dispatch.specs.Stands.{attributes}
 use Rattle.alt_dispatch.proofs.Standing.{get-texts_by}
 use Rattle.alt_dispatch.proofs.table.Table.item.Goals as goal

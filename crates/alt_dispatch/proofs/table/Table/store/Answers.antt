@@ -1,6 +1,5 @@
-use Rattle.std.proofs.Common.{List, ℕ, ap, ◌≡◌, refl, string_bytes}
+use Rattle.std.proofs.Common.{refl, string_bytes}
 use Rattle.alt_dispatch.specs.Stands.{attributes}
-use Rattle.alt_machine.specs.State.{Described, Texts}
 use Rattle.alt_dispatch.proofs.Standing.{texts_with}
 use Rattle.alt_dispatch.proofs.table.Table.store.Goals as goal
 

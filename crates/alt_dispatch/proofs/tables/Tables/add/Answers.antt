@@ -1,5 +1,5 @@
-use Rattle.std.proofs.Common.{List, ℕ, ap, ◌≡◌, ◌∙◌}
-use Rattle.alt_machine.specs.State.{State, Described, new_table}
+use Rattle.std.proofs.Common.{ap, ◌≡◌, ◌∙◌}
+use Rattle.alt_machine.specs.State.{new_table}
 use Rattle.alt_dispatch.specs.Stands.{described}
 use Rattle.alt_dispatch.proofs.Standing.{texts_with}
 use Rattle.alt_dispatch.proofs.tables.Tables.add.Goals as goal

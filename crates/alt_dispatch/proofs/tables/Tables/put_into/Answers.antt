@@ -1,5 +1,4 @@
-use Rattle.std.proofs.Common.{◌≡◌, ap, sym, ◌∙◌, Some, Option, List, ℕ, string_bytes}
-use Rattle.alt_dispatch.specs.Stands.{attributes}
+use Rattle.std.proofs.Common.{ap, sym, ◌∙◌, Option, List, ℕ}
 use Rattle.alt_machine.specs.State.{with_table, with_item, Described}
 use Rattle.alt_dispatch.specs.Stands.{described, state_of}
 use Rattle.alt_machine.specs.Keys.{key_in}

@@ -1,8 +1,7 @@
-use Rattle.std.proofs.Common.{ap, ◌∙◌, ◌≡◌, string_bytes, Some, None, Option, sym}
+use Rattle.std.proofs.Common.{ap, ◌∙◌, string_bytes}
 use Rattle.std.proofs.lemmas.Result.{on_ok_weaker}
-use Rattle.std.specs.Prelude.{option_map}
 use Rattle.alt_dispatch.specs.Stands.{attributes}
-use Rattle.alt_machine.specs.State.{State, Described, with_item}
+use Rattle.alt_machine.specs.State.{with_item}
 use Rattle.alt_dispatch.specs.Stands.{described}
 use Rattle.alt_dispatch.proofs.Standing.{texts_written, not_there}
 use Rattle.alt_dispatch.proofs.tables.Tables.store.Goals as goal

@@ -1,4 +1,4 @@
-use Rattle.std.proofs.Common.{◌≡◌, ◌∙◌, ap, length, take, List, ℕ}
+use Rattle.std.proofs.Common.{◌≡◌, ◌∙◌, ap, length, take}
 use Rattle.alt_shell.specs.declared.memory.MemoryShell.{MemoryShell}
 use Rattle.alt_shell.specs.Memory.{pieces}
 use Rattle.alt_shell.specs.Pieces.{given_of}

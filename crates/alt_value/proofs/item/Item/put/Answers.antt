@@ -1,7 +1,7 @@
-use Rattle.std.proofs.Common.{◌≡◌, subst, sym, T, map, List, ℕ, Ok, Err}
+use Rattle.std.proofs.Common.{◌≡◌, subst, sym, T, map, Ok, Err}
 use Rattle.std.proofs.lemmas.Cmp.{nat_list_cmp_total}
 use Rattle.std.specs.FinMap.Entries.{is_sorted, is_sorted-put}
-use Rattle.alt_value.specs.Tree.{Pairs, put_pair, name_cmp}
+use Rattle.alt_value.specs.Tree.{Pairs, name_cmp}
 use Rattle.alt_value.specs.Values.{pair_of, tree_of}
 use Rattle.alt_value.proofs.item.Item.put.Goals as goal
 

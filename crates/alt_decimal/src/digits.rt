@@ -1,0 +1,22 @@
+//! Decimal digits of whole numbers. A coefficient of 38 digits is split once by 10^19, and its halves are read in 64 bits.
+
+ghost use Rattle.std.specs.Prelude.{◌≡◌, ◌+◌, ◌*◌, ◌%◌, ◌^◌, ◌<◌, ◌≤◌};
+ghost use Rattle.alt_decimal.specs.Digits.{width as width_of, padded};
+
+/// Ten to the number of digits in a half of a coefficient.
+pub const HALF: u128 = 10_000_000_000_000_000_000;
+
+/// How many digits n has.
+pub fn width(n: u128) -> u32
+    ensures digits { result ≡ width_of n }
+{
+    if n == 0 { 0 } else { n.ilog10() + 1 }
+}
+
+/// Ten to the k.
+pub fn power(k: u32) -> u128
+    requires { k ≤ 38 }
+    ensures { result ≡ 10 ^ k }
+{
+    10u128.pow(k)
+}

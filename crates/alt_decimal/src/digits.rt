@@ -9,6 +9,7 @@ pub const HALF: u128 = 10_000_000_000_000_000_000;
 /// How many digits n has.
 pub fn width(n: u128) -> u32
     ensures digits { result ≡ width_of n }
+    ensures bound { result ≤ 39 }
 {
     if n == 0 { 0 } else { n.ilog10() + 1 }
 }
@@ -19,4 +20,12 @@ pub fn power(k: u32) -> u128
     ensures { result ≡ 10 ^ k }
 {
     10u128.pow(k)
+}
+
+/// n with zeros behind it, 38 digits in all at most.
+pub fn filled(n: u128, zeros: u32) -> u128
+    requires { width_of n + zeros ≤ 38 }
+    ensures { result ≡ n * 10 ^ zeros }
+{
+    n * power(zeros)
 }

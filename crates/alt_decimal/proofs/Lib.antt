@@ -1,3 +1,7 @@
+pub mod Fitting
+pub mod Halves
 pub mod Magnitudes
 pub mod Orders
+pub mod Signs
+pub mod Totals
 pub mod Widths

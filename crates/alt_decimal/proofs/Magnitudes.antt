@@ -8,7 +8,7 @@ use Rattle.alt_decimal.specs.Number.{with_sign, IsMagnitude, Fits}
 use Rattle.alt_decimal.specs.declared.Decimal.TheInside.{Inside}
 use Rattle.alt_decimal.specs.Form.{units_of, IsNormal}
 use Rattle.alt_decimal.specs.Normal.{ten_pow_pos, trimmed-mul, nat_abs-with_sign}
-use Rattle.alt_decimal.proofs.Widths.{width-le}
+use Rattle.alt_decimal.proofs.Widths.{width-le, width-pos, mul-ge, mul-lt}
 
 pub digit_count-above : (n : ℕ) → 0 < n → digit_count n ≡ width (trimmed n)
 unfolding digit_count
@@ -43,3 +43,20 @@ Fits-units_of d n = elim (cases_lt 0 d.coefficient) [
     inl h ↦ inr (IsMagnitude-units_of d n h)
   | inr h ↦ inl (units_of-zero d n (omega arith))
 ]
+
+-- a number with no zeros behind it
+pub digit_count-trimmed : (c : ℕ) → 0 < c % 10 → digit_count c ≡ width c
+digit_count-trimmed c h = let e : c ≡ c * 10 ^ 0 = omega arith in ap digit_count e ∙ digit_count-mul c 0 h
+
+-- the fields of a number that fits
+pub IsNormal-from : (negative : Bool) (c z : ℕ) → c < 10 ^ 38 → 0 < c % 10 → 37 < width c + z → width c + z ≤ 293
+    → IsNormal (record { negative = negative; coefficient = c; zeros = z })
+IsNormal-from negative c z few last low high = record {
+  digits = few;
+  no_zero_behind = λ _. last;
+  zero_sign = λ h. absurd (omega arith);
+  zero_zeros = λ h. absurd (omega arith);
+  few_zeros = omega (arith, width-pos c (omega arith));
+  least = λ h. mul-ge c z 37 h low;
+  below = mul-lt c z 293 high;
+}

@@ -49,7 +49,7 @@ nat_abs-with_sign false n = refl
 nat_abs-with_sign true zero = refl
 nat_abs-with_sign true (suc n) = refl
 
-not_below_zero : (n : ℕ) → is_negative (pos n) ≡ false
+pub not_below_zero : (n : ℕ) → is_negative (pos n) ≡ false
 not_below_zero n = grind arith
 
 pub is_negative-with_sign : (negative : Bool) (n : ℕ) → 0 < n → is_negative (with_sign negative n) ≡ negative

@@ -29,3 +29,38 @@ pub fn filled(n: u128, zeros: u32) -> u128
 {
     n * power(zeros)
 }
+
+/// n without the zeros behind it, and how many these are.
+pub fn stripped(n: u128) -> (u128, u32)
+    requires above { 0 < n }
+    requires few { n < 10 ^ 38 }
+    ensures value { n ≡ result.0 * 10 ^ result.1 }
+    ensures last { 0 < result.0 % 10 }
+    ensures bound { result.1 < 38 }
+{
+    let (high, low) = (n / HALF, (n % HALF) as u64);
+    if low == 0 {
+        let (c, zeros) = stripped_half(high as u64);
+        (c as u128, zeros + 19)
+    } else {
+        let (c, zeros) = stripped_half(low);
+        (high * power(19 - zeros) + c as u128, zeros)
+    }
+}
+
+// The same for a half.
+fn stripped_half(n: u64) -> (u64, u32)
+    requires above { 0 < n }
+    requires few { n < 10 ^ 19 }
+    ensures value { n ≡ result.0 * 10 ^ result.1 }
+    ensures last { 0 < result.0 % 10 }
+    ensures bound { result.1 < 19 }
+{
+    let mut c = n;
+    let mut zeros = 0;
+    while c % 10 == 0 {
+        c /= 10;
+        zeros += 1;
+    }
+    (c, zeros)
+}

@@ -1,7 +1,9 @@
+pub mod Coefficient
 pub mod Digits
 pub mod Form
 pub mod Normal
 pub mod Number
 pub mod NumberText
 pub mod Printed
+pub mod Reading
 pub mod Spelled

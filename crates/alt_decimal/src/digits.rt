@@ -1,6 +1,7 @@
 //! Decimal digits of whole numbers. A coefficient of 38 digits is split once by 10^19, and its halves are read in 64 bits.
 
-ghost use Rattle.std.specs.Prelude.{◌≡◌, ◌+◌, ◌*◌, ◌%◌, ◌^◌, ◌<◌, ◌≤◌};
+ghost use Rattle.std.specs.Prelude.{◌≡◌, length, ◌+◌, ◌*◌, ◌%◌, ◌^◌, ◌<◌, ◌≤◌};
+ghost use Rattle.std.specs.Str.Parse.{AllDigits, digits_value, digits_value_after};
 ghost use Rattle.alt_decimal.specs.Digits.{width as width_of, padded};
 
 /// Ten to the number of digits in a half of a coefficient.
@@ -63,4 +64,41 @@ fn stripped_half(n: u64) -> (u64, u32)
         zeros += 1;
     }
     (c, zeros)
+}
+
+/// The number that the digits write when they follow those of c.
+pub fn append(c: u128, digits: &[u8]) -> u128
+    requires digits { AllDigits 10 digits.now }
+    requires room { (c + 1) * 10 ^ length digits.now ≤ 10 ^ 38 }
+    ensures { result ≡ digits_value_after 10 c digits.now }
+{
+    if digits.len() <= 19 {
+        append_half(c, digits)
+    } else {
+        let (front, back) = digits.split_at(19);
+        append_half(append_half(c, front), back)
+    }
+}
+
+// The same for 19 digits at most.
+fn append_half(c: u128, digits: &[u8]) -> u128
+    requires digits { AllDigits 10 digits.now }
+    requires few { length digits.now ≤ 19 }
+    requires room { (c + 1) * 10 ^ length digits.now ≤ 10 ^ 38 }
+    ensures { result ≡ digits_value_after 10 c digits.now }
+{
+    c * power(digits.len() as u32) + half_value(digits) as u128
+}
+
+// The number that 19 digits at most write.
+fn half_value(digits: &[u8]) -> u64
+    requires digits { AllDigits 10 digits.now }
+    requires few { length digits.now ≤ 19 }
+    ensures { result ≡ digits_value 10 digits.now }
+{
+    let mut value: u64 = 0;
+    for digit in digits {
+        value = value * 10 + (*digit - b'0') as u64;
+    }
+    value
 }

@@ -5,4 +5,5 @@ pub mod Magnitudes
 pub mod Orders
 pub mod Signs
 pub mod Totals
+pub mod Values
 pub mod Widths

@@ -5,5 +5,6 @@ pub mod Magnitudes
 pub mod Orders
 pub mod Signs
 pub mod Totals
+pub mod Trimming
 pub mod Values
 pub mod Widths

@@ -1,3 +1,4 @@
+pub mod Coefficients
 pub mod Exponents
 pub mod Fitting
 pub mod Halves

@@ -102,3 +102,6 @@ HasRoom-back c xs ys all room =
     let v : digits_value_after 10 c xs + 1 ≤ (c + 1) * 10 ^ length xs = omega (arith, value_after c xs, digits_value-lt 10 xs all) in
     let p = mul-le-mul_right (10 ^ length ys) v in
     omega (arith, room, p, ap (λ q. (c + 1) * q) e)
+
+pub HasRoom-few : (ds : List ℕ) → length ds ≤ 38 → HasRoom 0 ds
+HasRoom-few ds few = omega (arith, ten_pow-le (length ds) 38 few)

@@ -4,6 +4,7 @@ pub mod Fitting
 pub mod Halves
 pub mod Magnitudes
 pub mod Orders
+pub mod Padded
 pub mod Reading
 pub mod Signs
 pub mod Totals

@@ -1,6 +1,7 @@
 pub mod Coefficient
 pub mod Digits
 pub mod Form
+pub mod Layout
 pub mod Normal
 pub mod Number
 pub mod NumberText

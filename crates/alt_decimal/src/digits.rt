@@ -2,7 +2,7 @@
 
 ghost use Rattle.std.specs.Prelude.{◌≡◌, length, ◌+◌, ◌*◌, ◌%◌, ◌^◌, ◌<◌, ◌≤◌};
 ghost use Rattle.std.specs.Str.Parse.{AllDigits, digits_value, digits_value_after};
-ghost use Rattle.alt_decimal.specs.Digits.{width as width_of, padded};
+ghost use Rattle.alt_decimal.specs.Digits.{width as width_of, padded, glyphs};
 
 /// Ten to the number of digits in a half of a coefficient.
 pub const HALF: u128 = 10_000_000_000_000_000_000;
@@ -101,4 +101,30 @@ fn half_value(digits: &[u8]) -> u64
         value = value * 10 + (*digit - b'0') as u64;
     }
     value
+}
+
+/// The 38 last digits of n, each with `zero` added to it.
+pub fn spread(n: u128, zero: u8) -> [u8; 38]
+    requires few { n < 10 ^ 38 }
+    requires room { zero ≤ 48 }
+    ensures { result ≡ glyphs zero (padded 38 n) }
+{
+    let mut digits = [0; 38];
+    put_half((n / HALF) as u64, zero, &mut digits[..19]);
+    put_half((n % HALF) as u64, zero, &mut digits[19..]);
+    digits
+}
+
+// Fills the slice with the last digits of n, each with `zero` added to it.
+fn put_half(n: u64, zero: u8, out: &mut [u8])
+    requires { zero ≤ 48 }
+    ensures { out.new ≡ glyphs zero (padded (length out.old) n) }
+{
+    let mut rest = n;
+    let mut at = out.len();
+    while at > 0 {
+        at -= 1;
+        out[at] = zero + (rest % 10) as u8;
+        rest /= 10;
+    }
 }

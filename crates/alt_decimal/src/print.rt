@@ -1,6 +1,6 @@
 //! Numbers are printed in plain decimal notation.
 
-ghost use Rattle.std.specs.Prelude.{◌≡◌, ◌+◌, ◌*◌, ◌^◌, ◌<◌, ◌≤◌, take, Ok, length, List, ◌++◌};
+ghost use Rattle.std.specs.Prelude.{◌≡◌, ◌+◌, ◌*◌, ◌^◌, ◌<◌, ◌≤◌, take, replicate, Ok, length, List, ◌++◌};
 ghost use Rattle.std.specs.Fmt.{sign_text as minus_if};
 ghost use Rattle.alt_decimal.specs.Printed.{printed};
 ghost use Rattle.alt_decimal.specs.Layout.{magnitude_text};
@@ -10,9 +10,6 @@ use crate::{Decimal, digits};
 
 // A unit is 10^-167: so many digits stand behind the point at most.
 const PLACES: u32 = 167;
-
-// The most zeros that stand together: those behind 1E+125.
-const ZEROS: [u8; 129] = [b'0'; 129];
 
 impl Decimal {
     /// Writes the number's printed form at the front of the buffer, and answers its length in bytes. What stood behind it in the
@@ -56,7 +53,7 @@ fn put_magnitude(buf: &mut [u8], at: usize, digits: &[u8], zeros: u32) -> usize
     let count = digits.len() as u32 + zeros;
     if PLACES <= zeros {
         let end = put(buf, at, digits);
-        put(buf, end, &ZEROS[..(zeros - PLACES) as usize])
+        put_zeros(buf, end, (zeros - PLACES) as usize)
     } else if PLACES < count {
         let (whole, fraction) = digits.split_at((count - PLACES) as usize);
         let end = put(buf, at, whole);
@@ -64,7 +61,7 @@ fn put_magnitude(buf: &mut [u8], at: usize, digits: &[u8], zeros: u32) -> usize
         put(buf, end, fraction)
     } else {
         let end = put(buf, at, b"0.");
-        let end = put(buf, end, &ZEROS[..(PLACES - count) as usize]);
+        let end = put_zeros(buf, end, (PLACES - count) as usize);
         put(buf, end, digits)
     }
 }
@@ -77,5 +74,16 @@ fn put(buf: &mut [u8], at: usize, bytes: &[u8]) -> usize
 {
     let end = at + bytes.len();
     buf[at..end].copy_from_slice(bytes);
+    end
+}
+
+// Writes so many zeros behind the first `at` bytes, and answers where they end.
+fn put_zeros(buf: &mut [u8], at: usize, count: usize) -> usize
+    requires { at + count ≤ length buf.old }
+    ensures text { take result buf.new ≡ take at buf.old ++ replicate count 48 }
+    ensures end { result ≡ at + count }
+{
+    let end = at + count;
+    buf[at..end].fill(b'0');
     end
 }

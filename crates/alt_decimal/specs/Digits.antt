@@ -1,5 +1,5 @@
 -- The decimal digits of whole numbers: how many zeros they end with, and what stands before these.
-use Rattle.std.specs.Prelude.{ℕ, zero, suc, ◌+◌, ◌-◌, ◌*◌, ◌/◌, ◌%◌, ◌^◌, ◌==◌, if◌then◌else◌, List, [], ◌∷◌, ◌++◌, length}
+use Rattle.std.specs.Prelude.{ℕ, zero, suc, ◌+◌, ◌-◌, ◌*◌, ◌/◌, ◌%◌, ◌^◌, ◌==◌, if◌then◌else◌, List, [], ◌∷◌, ◌++◌, length, map}
 use Rattle.std.specs.Int.Digits.{digits_of}
 
 -- how often ten divides n, at most k times
@@ -24,6 +24,10 @@ unfoldable pub digit_count : ℕ → ℕ
 digit_count n = if n == 0 then 1 else width (trimmed n)
 
 -- the last k digits of n, as many zeros in front as it takes
-abbrev pub padded : ℕ → ℕ → List ℕ
+unfoldable pub padded : ℕ → ℕ → List ℕ
 padded zero n = []
 padded (suc k) n = padded k (n / 10) ++ n % 10 ∷ []
+
+-- digits as bytes: each with the byte of the digit 0 added to it
+unfoldable pub glyphs : ℕ → List ℕ → List ℕ
+glyphs start digits = map (λ d. start + d) digits

@@ -16,6 +16,7 @@ pub record IsNormal (d : Inside) : Type 0 where
   pub no_zero_behind : 0 < d.coefficient → 0 < d.coefficient % 10
   pub zero_sign : d.coefficient ≡ 0 → d.negative ≡ false
   pub zero_zeros : d.coefficient ≡ 0 → d.zeros ≡ 0
+  pub few_zeros : d.zeros ≤ 292
   pub least : 0 < d.coefficient → 10 ^ 37 ≤ d.coefficient * 10 ^ d.zeros
   pub below : d.coefficient * 10 ^ d.zeros < 10 ^ 293
 

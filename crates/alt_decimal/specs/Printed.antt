@@ -1,13 +1,13 @@
 -- The one text that a number is printed as: plain decimal notation, without exponent and needless zeros.
-use Rattle.std.specs.Prelude.{ℕ, ◌+◌, ◌-◌, ◌/◌, ◌%◌, ◌^◌, ◌==◌, if◌then◌else◌, List, [], ◌∷◌, ◌++◌, take, map, ℤ, nat_abs}
+use Rattle.std.specs.Prelude.{ℕ, ◌+◌, ◌-◌, ◌/◌, ◌%◌, ◌^◌, ◌==◌, if◌then◌else◌, List, [], ◌∷◌, ◌++◌, take, ℤ, nat_abs}
 use Rattle.std.specs.Int.{is_negative}
 use Rattle.std.specs.Int.Digits.{digits_of}
 use Rattle.std.specs.Fmt.{sign_text as minus_if}
-use Rattle.alt_decimal.specs.Digits.{trailing_zeros, padded}
+use Rattle.alt_decimal.specs.Digits.{trailing_zeros, padded, glyphs}
 
 -- digits as the characters that write them
 abbrev pub ascii : List ℕ → List ℕ
-ascii digits = map (λ d. 48 + d) digits
+ascii digits = glyphs 48 digits
 
 -- a whole number, with `0` for zero
 unfoldable pub whole_text : ℕ → List ℕ

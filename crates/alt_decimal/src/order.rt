@@ -70,6 +70,9 @@ fn magnitude_order(a: u128, i: u32, b: u128, j: u32) -> Ordering
     requires few_b { b < 10 ^ 38 }
     requires zeros_a { i ≤ 293 }
     requires zeros_b { j ≤ 293 }
+    // zero has no zeros behind it
+    requires zero_a { a ≡ 0 → i ≡ 0 }
+    requires zero_b { b ≡ 0 → j ≡ 0 }
     ensures { result ≡ nat_cmp (a * 10 ^ i) (b * 10 ^ j) }
 {
     let first_a = digits::width(a) + i;
@@ -79,8 +82,8 @@ fn magnitude_order(a: u128, i: u32, b: u128, j: u32) -> Ordering
     } else if first_b < first_a {
         Ordering::Greater
     } else if j <= i {
-        (a * digits::power(i - j)).cmp(&b)
+        digits::filled(a, i - j).cmp(&b)
     } else {
-        a.cmp(&(b * digits::power(j - i)))
+        a.cmp(&digits::filled(b, j - i))
     }
 }

@@ -1,0 +1,15 @@
+pub mod Coefficients
+pub mod Exponents
+pub mod Fitting
+pub mod Halves
+pub mod Layouts
+pub mod Magnitudes
+pub mod Orders
+pub mod Padded
+pub mod Printing
+pub mod Reading
+pub mod Signs
+pub mod Totals
+pub mod Trimming
+pub mod Values
+pub mod Widths

@@ -1,4 +1,5 @@
 pub mod Coefficients
+pub mod Denoting
 pub mod Exponents
 pub mod Fitting
 pub mod Halves

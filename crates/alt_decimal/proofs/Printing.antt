@@ -8,10 +8,14 @@ use Rattle.std.proofs.lemmas.Bool.{cases_lt, ne_eqb, eq-eqb}
 use Rattle.std.specs.Int.Digits.{digits_of}
 use Rattle.std.proofs.lemmas.List.{append-nil}
 use Rattle.alt_decimal.specs.Digits.{width, padded, glyphs, trailing_zeros}
-use Rattle.alt_decimal.specs.Printed.{ascii, whole_text, fraction_text}
+use Rattle.std.specs.Prelude.{pos}
+use Rattle.std.specs.Fmt.{sign_text as minus_if}
+use Rattle.alt_decimal.specs.declared.Decimal.TheInside.{Inside}
+use Rattle.alt_decimal.specs.Form.{units_of, IsNormal}
+use Rattle.alt_decimal.specs.Printed.{ascii, whole_text, fraction_text, printed}
 use Rattle.alt_decimal.specs.Layout.{magnitude_text}
-use Rattle.alt_decimal.specs.Normal.{ten_pow_pos, trailing_zeros-mul, mul-ten_pow}
-use Rattle.alt_decimal.proofs.Widths.{width-mul, width-pos, width-le, width-gt, lt-width, width-low, case_pos, ten_pow-le, mul-zeros}
+use Rattle.alt_decimal.specs.Normal.{ten_pow_pos, trailing_zeros-mul, mul-ten_pow, nat_abs-with_sign, is_negative-with_sign}
+use Rattle.alt_decimal.proofs.Widths.{width-mul, width-pos, width-le, width-gt, lt-width, width-low, width-zero, case_pos, ten_pow-le, mul-zeros}
 use Rattle.alt_decimal.proofs.Padded.{padded-append, padded-mod, padded-mul, padded-wide, length-padded, length-glyphs, glyphs-append, digits_of-padded, glyphs-cons, glyphs-none}
 use Rattle.alt_decimal.proofs.Layouts.{text_whole, text_split, text_fraction}
 
@@ -68,6 +72,22 @@ unsigned-whole c z above h =
 
 -- ---- numbers with digits behind the point
 
+-- the digits before the last k
+width-div : (c k j : ℕ) → width c ≡ j + k → 0 < j → width (c / 10 ^ k) ≡ j
+width-div c k j e some =
+    let (i, is) = case_pos j some in
+    let low : 10 ^ i * 10 ^ k ≤ c = rw (← pow-add 10 i k) (width-low c (i + k) (omega (arith, e, is))) in
+    let high : c < 10 ^ j * 10 ^ k = rw (← pow-add 10 j k, ← e) (lt-width c) in
+    let long : 10 ^ i ≤ c / 10 ^ k = le-div (10 ^ i) c (10 ^ k) (ten_pow_pos k) low in
+    let short : c / 10 ^ k < 10 ^ j = div_below c (10 ^ k) (10 ^ j) (ten_pow_pos k) high in
+    omega (arith, width-gt i (c / 10 ^ k) long, width-le j (c / 10 ^ k) short, is)
+
+above_width : (n : ℕ) → 0 < width n → 0 < n
+above_width n h = elim (cases_lt 0 n) [
+    inl above ↦ above
+  | inr none ↦ let z : n ≡ 0 = omega arith in absurd (omega (arith, ap width z, width-zero, h))
+]
+
 module _ (c z k : ℕ) (sum : k + z ≡ 167) (some : 0 < k) (last : 0 < c % 10) where
   abbrev q : ℕ
   q = c / 10 ^ k
@@ -123,8 +143,8 @@ module _ (c z k : ℕ) (sum : k + z ≡ 167) (some : 0 < k) (last : 0 < c % 10) 
   pub unsigned-amid : (j : ℕ) → width c ≡ j + k → 0 < j → unsigned_text (c * 10 ^ z) ≡ magnitude_text (glyphs 48 (padded (width c) c)) z
   unsigned-amid j e j_pos =
       let d = glyphs 48 (padded (width c) c) in
-      let w : width q ≡ j = ? in
-      let q_pos : 0 < q = ? in
+      let w : width q ≡ j = width-div c k j e j_pos in
+      let q_pos : 0 < q = above_width q (omega (arith, w, j_pos)) in
       let whole : whole_text q ≡ glyphs 48 (padded j q) = whole_text-above q q_pos ∙ ap (λ i. glyphs 48 (padded i q)) w in
       let cut : d ≡ glyphs 48 (padded j q) ++ glyphs 48 (padded k c) =
           ap (λ i. glyphs 48 (padded i c)) e ∙ ap (glyphs 48) (padded-append j k c) ∙ glyphs-append 48 (padded j q) (padded k c) in
@@ -151,3 +171,44 @@ module _ (c z k : ℕ) (sum : k + z ≡ 167) (some : 0 < k) (last : 0 < c % 10) 
       ∙ ap (λ ds. ds ++ (46 ∷ glyphs 48 (padded k c))) whole_text-zero ∙ ap (λ ds. 48 ∷ 46 ∷ ds) filled
       ∙ ap (λ i. 48 ∷ 46 ∷ (replicate i 48 ++ d)) (sym n)
       ∙ sym (text_fraction d z (omega (arith, sum)) (omega (arith, length-digits (width c) c, e, sum)))
+
+-- ---- the printed form of a `Decimal`
+
+-- the bytes of a coefficient's digits
+abbrev pub digits_text : ℕ → List ℕ
+digits_text c = glyphs 48 (padded (width c) c)
+
+pub unsigned-text : (c z : ℕ) → 0 < c % 10 → unsigned_text (c * 10 ^ z) ≡ magnitude_text (digits_text c) z
+unsigned-text c z last = elim (cases_lt z 167) [
+    inl short ↦ elim (cases_lt (167 - z) (width c)) [
+      inl amid ↦ unsigned-amid c z (167 - z) (omega arith) (omega arith) last (width c - (167 - z)) (omega arith) (omega arith)
+    | inr below ↦ unsigned-below c z (167 - z) (omega arith) (omega arith) last (167 - z - width c) (omega arith)
+    ]
+  | inr long ↦ unsigned-whole c z (omega arith) long
+]
+
+pub printed-units_of : (d : Inside) → IsNormal d → 0 < d.coefficient → printed (units_of d) ≡ minus_if d.negative ++ magnitude_text (digits_text d.coefficient) d.zeros
+unfolding printed
+printed-units_of d n above =
+    let m = d.coefficient * 10 ^ d.zeros in
+    rw (is_negative-with_sign d.negative m (mul-pos above (ten_pow_pos d.zeros)), nat_abs-with_sign d.negative m)
+    (ap (λ ds. minus_if d.negative ++ ds) (unsigned-text d.coefficient d.zeros (n.no_zero_behind above)))
+
+pub printed-zero : printed (pos 0) ≡ 48 ∷ []
+unfolding printed whole_text fraction_text
+printed-zero = refl
+
+-- the digits of a coefficient that is filled up to 38
+pub front_digits : (c w : ℕ) → w ≡ width c → w ≤ 38 → take w (glyphs 48 (padded 38 (c * 10 ^ (38 - w)))) ≡ digits_text c
+front_digits c w e few =
+    let k = 38 - w in
+    let sum : 38 ≡ w + k = omega arith in
+    let cut : glyphs 48 (padded 38 (c * 10 ^ k)) ≡ glyphs 48 (padded w c) ++ glyphs 48 (padded k (c * 10 ^ k)) =
+        ap (λ i. glyphs 48 (padded i (c * 10 ^ k))) sum ∙ ap (glyphs 48) (padded-append w k (c * 10 ^ k))
+        ∙ ap (λ n. glyphs 48 (padded w n ++ padded k (c * 10 ^ k))) (mul-div_cancel c (ten_pow_pos k))
+        ∙ glyphs-append 48 (padded w c) (padded k (c * 10 ^ k)) in
+    ap (take w) cut ∙ ap (λ i. take i (glyphs 48 (padded w c) ++ glyphs 48 (padded k (c * 10 ^ k)))) (sym (length-digits w c))
+    ∙ take-append_seam (glyphs 48 (padded w c)) (glyphs 48 (padded k (c * 10 ^ k))) ∙ ap (λ i. glyphs 48 (padded i c)) e
+
+pub length-digits_text : (c : ℕ) → length (digits_text c) ≡ width c
+length-digits_text c = length-digits (width c) c

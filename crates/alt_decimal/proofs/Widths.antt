@@ -98,3 +98,16 @@ mul-ge n k m n_pos h =
 -- zeros behind zeros
 pub mul-zeros : (n c i j : ℕ) → n ≡ c * 10 ^ i → n * 10 ^ j ≡ c * 10 ^ (i + j)
 mul-zeros n c i j e = ap (λ m. m * 10 ^ j) e ∙ mul_assoc c (10 ^ i) (10 ^ j) ∙ ap (λ p. c * p) (sym (pow-add 10 i j))
+
+-- where the first digit of a number with zeros behind it stands, by its size
+pub mul-width_gt : (c k m : ℕ) → 10 ^ m ≤ c * 10 ^ k → m < width c + k
+mul-width_gt c k m h = elim (cases_lt m (width c + k)) [
+    inl lt ↦ lt
+  | inr le ↦ absurd (omega (arith, mul-lt c k (width c + k) (omega arith), ten_pow-le (width c + k) m le, h))
+]
+
+pub mul-width_le : (c k m : ℕ) → 0 < c → c * 10 ^ k < 10 ^ m → width c + k ≤ m
+mul-width_le c k m above h = elim (cases_lt m (width c + k)) [
+    inl lt ↦ absurd (omega (arith, mul-ge c k m above lt, h))
+  | inr le ↦ le
+]

@@ -7,6 +7,7 @@ pub mod Layouts
 pub mod Magnitudes
 pub mod Orders
 pub mod Padded
+pub mod Pairs
 pub mod Printing
 pub mod Reading
 pub mod Signs

@@ -11,6 +11,7 @@ pub mod Pairs
 pub mod Printing
 pub mod Reading
 pub mod Signs
+pub mod Spelling
 pub mod Totals
 pub mod Trimming
 pub mod Values

@@ -58,7 +58,9 @@ flip_next init bytes i h e =
     rw e (flip_step init i h ∙ ap (λ n. complement (take n init) ++ drop n init) next)
 
 -- a sign, a first digit's place and pairs, one after the other
-pub spelled_parts : (buf0 buf1 buf2 ps : List ℕ) (sign first r end : ℕ) → take 2 buf1 ≡ take 0 buf0 ++ sign ∷ first ∷ [] → 2 ≤ length buf1 → end ≡ 2 + length ps
-    → take r buf2 ≡ take end (put_mid 2 (end - 2) buf1 ps) ++ 0 ∷ [] → take r buf2 ≡ sign ∷ first ∷ (ps ++ 0 ∷ [])
-spelled_parts buf0 buf1 buf2 ps sign first r end front long is e =
-    e ∙ ap (λ ts. ts ++ 0 ∷ []) (take-put_mid 2 (end - 2) buf1 ps end is long ∙ ap (λ ts. ts ++ ps) front)
+pub spelled_parts : (buf1 buf2 ps qs : List ℕ) (sign first r at count : ℕ) → take at buf1 ≡ sign ∷ first ∷ [] → at ≤ length buf1 → length qs ≡ count → ps ≡ qs
+    → take r buf2 ≡ take (at + count) (put_mid at (at + count - at) buf1 ps) ++ 0 ∷ [] → take r buf2 ≡ sign ∷ first ∷ (qs ++ 0 ∷ [])
+spelled_parts buf1 buf2 ps qs sign first r at count front long some same e =
+    let len : length ps ≡ count = ap length same ∙ some in
+    e ∙ ap (λ ts. ts ++ 0 ∷ []) (take-put_mid at (at + count - at) buf1 ps (at + count) (omega (arith, len)) long ∙ ap (λ ts. ts ++ ps) front)
+    ∙ ap (λ ts. sign ∷ first ∷ (ts ++ 0 ∷ [])) same

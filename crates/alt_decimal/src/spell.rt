@@ -1,10 +1,10 @@
 //! The spelling of numbers in bytes whose order is that of the numbers.
 
-ghost use Rattle.std.specs.Prelude.{All, [], ◌∷◌, ◌+◌, ◌*◌, ◌<◌, ◌≡◌, ◌≤◌, ℤ, List, ℕ, Some, IfSome, ◌++◌, take, length};
+ghost use Rattle.std.specs.Prelude.{All, [], ◌∷◌, ◌+◌, ◌*◌, ◌%◌, ◌^◌, ◌<◌, ◌≡◌, ◌≤◌, ℤ, List, ℕ, Some, IfSome, ◌++◌, take, length};
 ghost use Rattle.std.specs.Ordering.{int_cmp, nat_cmp};
 ghost use Rattle.std.specs.Cmp.Lexicographic.{slice_cmp};
 ghost use Rattle.alt_decimal.specs.Number.{Fits};
-ghost use Rattle.alt_decimal.specs.Spelled.{spelled, pairs, complement};
+ghost use Rattle.alt_decimal.specs.Spelled.{spelled, pairs, complement, magnitude_bytes};
 
 use crate::print::put;
 use crate::{Decimal, digits};
@@ -27,16 +27,12 @@ impl Decimal {
         if self.coefficient == 0 {
             return put(buf, 0, &[AT_ZERO]);
         }
-        let width = digits::width(self.coefficient);
-        let digits = digits::spread(digits::filled(self.coefficient, 38 - width), 0);
-        let count = ((width + 1) / 2) as usize;
-        let first = (width + self.zeros - 38) as u8;
         if self.negative {
-            let end = put_spelling(buf, BELOW_ZERO, first, &digits[..2 * count], count);
+            let end = put_magnitude(buf, BELOW_ZERO, self.coefficient, self.zeros);
             flip(&mut buf[1..end]);
             end
         } else {
-            put_spelling(buf, ABOVE_ZERO, first, &digits[..2 * count], count)
+            put_magnitude(buf, ABOVE_ZERO, self.coefficient, self.zeros)
         }
     }
 
@@ -56,6 +52,25 @@ impl Decimal {
 pub fn spelling_order(a: &Decimal, b: &Decimal)
     ensures { slice_cmp nat_cmp (spelled a.now) (spelled b.now) ≡ int_cmp a.now b.now }
 {
+}
+
+// Writes the first byte and the bytes of a magnitude of c * 10^zeros units, and answers where they end.
+fn put_magnitude(buf: &mut [u8], sign: u8, c: u128, zeros: u32) -> usize
+    requires few { c < 10 ^ 38 }
+    requires last { 0 < c % 10 }
+    requires few_zeros { zeros ≤ 292 }
+    requires least { 10 ^ 37 ≤ c * 10 ^ zeros }
+    requires below { c * 10 ^ zeros < 10 ^ 293 }
+    requires room { 22 ≤ length buf.old }
+    ensures bytes { take result buf.new ≡ sign ∷ magnitude_bytes (c * 10 ^ zeros) }
+    ensures end { result ≡ 1 + length (magnitude_bytes (c * 10 ^ zeros)) }
+    ensures within { result ≤ 22 }
+{
+    let width = digits::width(c);
+    let digits = digits::spread(digits::filled(c, 38 - width), 0);
+    let count = ((width + 1) / 2) as usize;
+    let first = (width + zeros - 38) as u8;
+    put_spelling(buf, sign, first, &digits[..2 * count], count)
 }
 
 // Writes the first byte, the place of the first digit, the pairs of the digits and 0, and answers where they end.

@@ -4,7 +4,9 @@ use Rattle.std.specs.Prelude.{ℤ, pos, nat_abs}
 use Rattle.std.proofs.Math.Nat.{mul-pos, mul-div_cancel}
 use Rattle.std.proofs.Math.Seq.{take-append_seam, take-append-add}
 use Rattle.std.proofs.lemmas.Bool.{cases_lt, ne_eqb}
-use Rattle.std.proofs.lemmas.List.{get_or-take}
+use Rattle.std.proofs.lemmas.List.{get_or-take, drop-take, length-map}
+use Rattle.std.proofs.lemmas.Slice.{take-put_mid}
+use borrow.Rule.Slice.PartMut.{put_mid}
 use Rattle.std.proofs.lemmas.List.Elements.{All-nil, All-cons}
 use Rattle.std.specs.Int.Digits.{digits_of}
 use Rattle.alt_decimal.specs.declared.Decimal.TheInside.{Inside}
@@ -103,3 +105,22 @@ spelled-below d n above sign =
     let m = d.coefficient * 10 ^ d.zeros in
     let m_pos : 0 < m = mul-pos above (ten_pow_pos d.zeros) in
     rw (nat_abs-with_sign d.negative m, is_negative-with_sign d.negative m m_pos, sign, ne_eqb m 0 (λ z. omega (arith, m_pos, z))) refl
+
+-- ---- a negative number's bytes are flipped
+
+first_byte : (r x : ℕ) (buf m : List ℕ) → take r buf ≡ x ∷ m → take 1 buf ≡ x ∷ []
+first_byte zero x buf m e = cc
+first_byte (suc r) x [] m e = cc
+first_byte (suc r) x (b ∷ buf) m e = let same : b ≡ x = cc in ap (λ y. y ∷ []) same
+
+pub flipped : (r x : ℕ) (buf m f : List ℕ) → take r buf ≡ x ∷ m → r ≡ 1 + length m → r ≤ length buf → f ≡ complement (take (r - 1) (drop 1 buf))
+    → take r (put_mid 1 (r - 1) buf f) ≡ x ∷ complement m
+flipped r x buf m f e some within is =
+    let one : 1 + (r - 1) ≡ r = omega (arith, some) in
+    let rest : take (r - 1) (drop 1 buf) ≡ m = sym (drop-take 1 (r - 1) buf) ∙ ap (λ i. drop 1 (take i buf)) one ∙ ap (drop 1) e in
+    let f_is : f ≡ complement m = is ∙ ap complement rest in
+    let len : r ≡ 1 + length f = some ∙ ap (λ n. 1 + n) (sym (ap length f_is ∙ length-map m (λ b. 255 - b))) in
+    take-put_mid 1 (r - 1) buf f r len (omega (arith, some, within)) ∙ ap (λ ts. ts ++ f) (first_byte r x buf m e) ∙ ap (λ ts. x ∷ ts) f_is
+
+pub length-complement : (bs : List ℕ) → length (complement bs) ≡ length bs
+length-complement bs = length-map bs (λ b. 255 - b)

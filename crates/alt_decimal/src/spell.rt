@@ -35,23 +35,6 @@ impl Decimal {
             put_magnitude(buf, ABOVE_ZERO, self.coefficient, self.zeros)
         }
     }
-
-    /// Reads the spelling at the front of the bytes: the number, and the length of its spelling. None where no spelling stands
-    /// there.
-    pub fn unspell(bytes: &[u8]) -> Option<(Decimal, usize)>
-        ensures spelling { IfSome result (λ r. (take r.1 bytes.now ≡ spelled r.0) × Fits r.0) }
-        // Whatever follows a spelling, it is read; so None comes exactly where no spelling stands at the front.
-        ensures every { (z : ℤ) (rest : List ℕ) → Fits z → bytes.now ≡ spelled z ++ rest → result ≡ Some (z, length (spelled z)) }
-    {
-        let _ = bytes;
-        None
-    }
-}
-
-/// The order of the bytes of two spellings is the order of the numbers.
-pub fn spelling_order(a: &Decimal, b: &Decimal)
-    ensures { slice_cmp nat_cmp (spelled a.now) (spelled b.now) ≡ int_cmp a.now b.now }
-{
 }
 
 // Writes the first byte and the bytes of a magnitude of c * 10^zeros units, and answers where they end.

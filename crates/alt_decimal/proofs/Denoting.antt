@@ -1,5 +1,5 @@
 -- The printed form of a number reads as the number.
-use Rattle.std.proofs.Common.{◌≡◌, ℕ, zero, suc, ◌+◌, ◌-◌, ◌*◌, ◌/◌, ◌%◌, ◌^◌, ◌<◌, ◌≤◌, Bool, true, false, List, [], ◌∷◌, ◌++◌, length, take, drop, refl, sym, ap, ◌∙◌, subst, arith, replicate, length-append, length-take, length-drop, append_assoc, inl, inr, Ok, Err, Some, None, Option}
+use Rattle.std.proofs.Common.{◌≡◌, ℕ, zero, suc, ◌+◌, ◌-◌, ◌*◌, ◌/◌, ◌%◌, ◌^◌, ◌<◌, ◌≤◌, Bool, true, false, List, [], ◌∷◌, ◌++◌, length, take, drop, refl, sym, ap, ◌∙◌, subst, arith, replicate, length-append, length-take, length-drop, inl, inr, Ok, Some, None, Option}
 use Rattle.std.specs.Prelude.{ℤ, pos, Result}
 use Rattle.std.specs.Fmt.{sign_text as minus_if}
 use Rattle.std.specs.Char.{digit_value}
@@ -11,7 +11,7 @@ use Rattle.std.proofs.lemmas.Nat.{div_below}
 use Rattle.std.proofs.Math.Nat.{pow-suc}
 use Rattle.alt_decimal.specs.Digits.{width, padded, glyphs}
 use Rattle.alt_decimal.specs.Number.{with_sign, fitted}
-use Rattle.alt_decimal.specs.NumberText.{Sign, minus, unsigned, NumberText, IsNumberText, text_of, denoted, ReadsAs, sign_text, fraction_text, fraction_digits}
+use Rattle.alt_decimal.specs.NumberText.{Sign, minus, unsigned, ReadsAs, sign_text, fraction_text, fraction_digits}
 use Rattle.alt_decimal.specs.declared.fault.NumberFault.{NumberFault}
 use Rattle.alt_decimal.specs.declared.Decimal.TheInside.{Inside}
 use Rattle.alt_decimal.specs.Form.{units_of, IsNormal}
@@ -19,7 +19,7 @@ use Rattle.alt_decimal.specs.Printed.{printed}
 use Rattle.alt_decimal.specs.Layout.{magnitude_text}
 use Rattle.alt_decimal.proofs.Widths.{lt-width, width-le, width-pos, mul-width_gt, mul-width_le}
 use Rattle.alt_decimal.proofs.Padded.{padded-none, padded-last, glyphs-append, glyphs-cons, glyphs-none}
-use Rattle.alt_decimal.proofs.Values.{value_append, value_zeros_before, value_zeros_behind, AllDigits-append, AllDigits-front, AllDigits-back}
+use Rattle.alt_decimal.proofs.Values.{value_zeros_before, value_zeros_behind, AllDigits-append, AllDigits-front, AllDigits-back}
 use Rattle.alt_decimal.proofs.Fitting.{number, fitted-zero, fitted-ok, ok_units, fitted-shift}
 use Rattle.alt_decimal.proofs.Magnitudes.{digit_count-trimmed}
 use Rattle.alt_decimal.proofs.Layouts.{text_whole, text_split, text_fraction}
@@ -117,9 +117,9 @@ module _ (d : Inside) (n : IsNormal d) (above : 0 < d.coefficient) where
       let k = z - 167 in
       let whole = digits_text c ++ replicate k 48 in
       let value : digits_value 10 (whole ++ []) ≡ c * 10 ^ k =
-          ap (digits_value 10) (append-nil whole) ∙ value_zeros_behind (digits_text c) k ∙ ap (λ m. m * 10 ^ k) (value_digits c) in
+      ap (digits_value 10) (append-nil whole) ∙ value_zeros_behind (digits_text c) k ∙ ap (λ m. m * 10 ^ k) (value_digits c) in
       let answer : Ok (units_of d) ≡ fitted (number d.negative (digits_value 10 (whole ++ [])) 0 (0 + 0)) =
-          gives (k + 0) 0 (omega arith) (omega arith) ∙ sym (fitted-shift d.negative c k 0 0 last) ∙ ap (λ m. fitted (number d.negative m 0 0)) (sym value) in
+      gives (k + 0) 0 (omega arith) (omega arith) ∙ sym (fitted-shift d.negative c k 0 0 last) ∙ ap (λ m. fitted (number d.negative m 0 0)) (sym value) in
       subst (λ (ts : List ℕ). ReadsAs (minus_if d.negative ++ ts) (Ok (units_of d))) (append-nil whole ∙ sym (text_whole (digits_text c) z h))
       (reads_parts d.negative whole None (Ok (units_of d)) (AllDigits-append (digits_text c) (replicate k 48) all (AllDigits-zeros k)) tt
       (omega (arith, length-append (digits_text c) (replicate k 48), some)) answer)
@@ -133,8 +133,8 @@ module _ (d : Inside) (n : IsNormal d) (above : 0 < d.coefficient) where
       let both : AllDigits 10 (take i ds ++ drop i ds) = rw parts all in
       let len : 0 + length (drop i ds) ≡ 167 - z = omega (arith, length-drop i ds, k, h) in
       let answer : Ok (units_of d) ≡ fitted (number d.negative (digits_value 10 (take i ds ++ drop i ds)) 0 (0 + length (drop i ds))) =
-          gives 0 (167 - z) (omega (arith, h)) (omega arith) ∙ ap (λ m. fitted (number d.negative m 0 (167 - z))) (sym value)
-          ∙ ap (λ m. fitted (number d.negative (digits_value 10 (take i ds ++ drop i ds)) 0 m)) (sym len) in
+      gives 0 (167 - z) (omega (arith, h)) (omega arith) ∙ ap (λ m. fitted (number d.negative m 0 (167 - z))) (sym value)
+      ∙ ap (λ m. fitted (number d.negative (digits_value 10 (take i ds ++ drop i ds)) 0 m)) (sym len) in
       subst (λ (ts : List ℕ). ReadsAs (minus_if d.negative ++ ts) (Ok (units_of d))) (sym (text_split ds z h k))
       (reads_parts d.negative (take i ds) (Some (drop i ds)) (Ok (units_of d)) (AllDigits-front (take i ds) (drop i ds) both)
       (AllDigits-back (take i ds) (drop i ds) both) (omega (arith, length-take i ds, k)) answer)
@@ -147,18 +147,18 @@ module _ (d : Inside) (n : IsNormal d) (above : 0 < d.coefficient) where
       let value : digits_value 10 ((48 ∷ []) ++ fraction) ≡ c = value_zeros_before (suc j) ds ∙ value_digits c in
       let len : 0 + length fraction ≡ 167 - z = omega (arith, length-append (replicate j 48) ds, length-replicate {A = ℕ} j 48, k, h) in
       let answer : Ok (units_of d) ≡ fitted (number d.negative (digits_value 10 ((48 ∷ []) ++ fraction)) 0 (0 + length fraction)) =
-          gives 0 (167 - z) (omega (arith, h)) (omega arith) ∙ ap (λ m. fitted (number d.negative m 0 (167 - z))) (sym value)
-          ∙ ap (λ m. fitted (number d.negative (digits_value 10 ((48 ∷ []) ++ fraction)) 0 m)) (sym len) in
+      gives 0 (167 - z) (omega (arith, h)) (omega arith) ∙ ap (λ m. fitted (number d.negative m 0 (167 - z))) (sym value)
+      ∙ ap (λ m. fitted (number d.negative (digits_value 10 ((48 ∷ []) ++ fraction)) 0 m)) (sym len) in
       subst (λ (ts : List ℕ). ReadsAs (minus_if d.negative ++ ts) (Ok (units_of d))) (sym (text_fraction ds z h k))
       (reads_parts d.negative (48 ∷ []) (Some fraction) (Ok (units_of d)) (omega arith, tt)
       (AllDigits-append (replicate j 48) ds (AllDigits-zeros j) all) (omega arith) answer)
 
 pub reads_units : (d : Inside) (n : IsNormal d) → 0 < d.coefficient → ReadsAs (printed (units_of d)) (Ok (units_of d))
 reads_units d n above = rw (printed-units_of d n above) (elim (cases_lt d.zeros 167) [
-    inl short ↦ elim (cases_lt 167 (length (digits_text d.coefficient) + d.zeros)) [
-      inl amid ↦ reads_split d n above short amid
+  | inl short ↦ elim (cases_lt 167 (length (digits_text d.coefficient) + d.zeros)) [
+    | inl amid ↦ reads_split d n above short amid
     | inr below ↦ reads_fraction d n above short below
-    ]
+  ]
   | inr long ↦ reads_whole d n above long
 ])
 

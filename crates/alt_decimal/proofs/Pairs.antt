@@ -1,5 +1,5 @@
 -- Digits in pairs, and bytes subtracted from 255.
-use Rattle.std.proofs.Common.{◌≡◌, ◌≢◌, ℕ, zero, suc, ◌+◌, ◌-◌, ◌*◌, ◌/◌, ◌%◌, ◌^◌, ◌<◌, ◌≤◌, List, [], ◌∷◌, ◌++◌, length, get_or, take, drop, refl, sym, ap, ◌∙◌, subst, arith, append_assoc, length-append, length-take, length-set}
+use Rattle.std.proofs.Common.{◌≡◌, ℕ, zero, suc, ◌+◌, ◌-◌, ◌*◌, ◌<◌, ◌≤◌, List, [], ◌∷◌, ◌++◌, length, get_or, take, drop, refl, sym, ap, ◌∙◌, arith, append_assoc, length-take}
 use Rattle.std.proofs.Math.ListN.{set}
 use Rattle.std.proofs.Math.Seq.{take-suc-set}
 use Rattle.std.proofs.lemmas.List.{take_more}
@@ -37,8 +37,8 @@ pairs_step out ds i v written within even is =
     let a = get_or ds (2 * i) 0 in
     let b = get_or ds (2 * i + 1) 0 in
     let digits : take (2 * (i + 1)) ds ≡ take (2 * i) ds ++ a ∷ b ∷ [] =
-        ap (λ n. take n ds) two ∙ take_more ds (2 * i + 1) 0 (omega arith)
-        ∙ ap (λ ts. ts ++ b ∷ []) (take_more ds (2 * i) 0 (omega arith)) ∙ append_assoc (take (2 * i) ds) (a ∷ []) (b ∷ []) in
+    ap (λ n. take n ds) two ∙ take_more ds (2 * i + 1) 0 (omega arith)
+    ∙ ap (λ ts. ts ++ b ∷ []) (take_more ds (2 * i) 0 (omega arith)) ∙ append_assoc (take (2 * i) ds) (a ∷ []) (b ∷ []) in
     let len : length (take (2 * i) ds) ≡ 2 * i = omega (arith, length-take (2 * i) ds) in
     let next : i + 1 ≡ suc i = omega arith in
     ap (λ n. take n (set out i v)) next ∙ take-suc-set out i v within ∙ ap (λ ts. ts ++ v ∷ []) written ∙ ap (λ x. pairs (take (2 * i) ds) ++ x ∷ []) is

@@ -1,6 +1,6 @@
 -- The spelling of a number, by its coefficient and the zeros behind it.
-use Rattle.std.proofs.Common.{◌≡◌, ◌≢◌, ℕ, zero, suc, ◌+◌, ◌-◌, ◌*◌, ◌/◌, ◌%◌, ◌^◌, ◌<◌, ◌≤◌, Bool, true, false, List, [], ◌∷◌, ◌++◌, length, get_or, take, drop, map, All, refl, sym, ap, ◌∙◌, subst, arith, replicate, append_assoc, length-append, length-take, inl, inr}
-use Rattle.std.specs.Prelude.{ℤ, pos, nat_abs}
+use Rattle.std.proofs.Common.{◌≡◌, ℕ, zero, suc, ◌+◌, ◌-◌, ◌*◌, ◌/◌, ◌%◌, ◌^◌, ◌<◌, ◌≤◌, true, false, List, [], ◌∷◌, ◌++◌, length, take, drop, All, refl, sym, ap, ◌∙◌, arith, replicate, length-take, inl, inr}
+use Rattle.std.specs.Prelude.{pos}
 use Rattle.std.proofs.Math.Nat.{mul-pos, mul-div_cancel}
 use Rattle.std.proofs.Math.Seq.{take-append_seam, take-append-add}
 use Rattle.std.proofs.lemmas.Bool.{cases_lt, ne_eqb}
@@ -11,12 +11,12 @@ use Rattle.std.proofs.lemmas.List.Elements.{All-nil, All-cons}
 use Rattle.std.specs.Int.Digits.{digits_of}
 use Rattle.alt_decimal.specs.declared.Decimal.TheInside.{Inside}
 use Rattle.alt_decimal.specs.Form.{units_of, IsNormal}
-use Rattle.alt_decimal.specs.Digits.{width, padded, glyphs, trimmed}
+use Rattle.alt_decimal.specs.Digits.{width, padded, glyphs}
 use Rattle.alt_decimal.specs.Spelled.{pairs, complement, magnitude_bytes, spelled}
 use Rattle.alt_decimal.specs.Normal.{ten_pow_pos, trimmed-mul, nat_abs-with_sign, is_negative-with_sign}
-use Rattle.alt_decimal.proofs.Widths.{width-mul, width-le, mul-width_gt, mul-width_le, case_pos}
-use Rattle.alt_decimal.proofs.Padded.{padded-append, padded-mul, padded-first, padded-none, length-padded, length-glyphs, digits_of-padded, glyphs-cons, glyphs-none}
-use Rattle.alt_decimal.proofs.Pairs.{pairs-filled, length-pairs}
+use Rattle.alt_decimal.proofs.Widths.{width-mul, width-le, case_pos}
+use Rattle.alt_decimal.proofs.Padded.{padded-append, padded-mul, padded-first, padded-none, length-padded, digits_of-padded, glyphs-cons, glyphs-none}
+use Rattle.alt_decimal.proofs.Pairs.{pairs-filled}
 
 -- raw digits are their own bytes
 pub glyphs-raw : (ds : List ℕ) → glyphs 0 ds ≡ ds
@@ -48,10 +48,10 @@ pub pairs_front : (c w count : ℕ) → w ≡ width c → w ≤ 38 → count ≡
 pairs_front c w count e few half =
     let spec : pairs (padded w c) ≡ pairs (digits_of 10 c) = ap pairs (ap (λ i. padded i c) e ∙ sym (digits_of-padded c)) in
     ap (λ ds. pairs (take (2 * count) ds)) (filled_digits c w e few) ∙ elim (cases_lt w (2 * count)) [
-      inl odd ↦
-        let n : 2 * count ≡ w + 1 = omega arith in
-        ap pairs (front_odd c w count n (omega arith)) ∙ pairs-filled (count - 1) (padded w c) (omega (arith, length-padded w c)) ∙ spec
-    | inr even ↦ ap pairs (front_even c w count (omega arith)) ∙ spec
+      | inl odd ↦
+          let n : 2 * count ≡ w + 1 = omega arith in
+          ap pairs (front_odd c w count n (omega arith)) ∙ pairs-filled (count - 1) (padded w c) (omega (arith, length-padded w c)) ∙ spec
+      | inr even ↦ ap pairs (front_even c w count (omega arith)) ∙ spec
     ]
 
 -- each digit is below ten
@@ -82,7 +82,7 @@ module _ (sign c z : ℕ) (last : 0 < c % 10) (few : c < 10 ^ 38) where
   spelled_bytes w count first ds bytes e half place digits is =
       let short : w ≤ 38 = omega (arith, e, width-le 38 c few) in
       let ps : pairs ds ≡ pairs (digits_of 10 c) =
-          ap pairs digits ∙ ap (λ xs. pairs (take (2 * count) xs)) (glyphs-raw (padded 38 (c * 10 ^ (38 - w)))) ∙ pairs_front c w count e short half in
+      ap pairs digits ∙ ap (λ xs. pairs (take (2 * count) xs)) (glyphs-raw (padded 38 (c * 10 ^ (38 - w)))) ∙ pairs_front c w count e short half in
       is ∙ ap (λ xs. sign ∷ first ∷ (xs ++ 0 ∷ [])) ps ∙ ap (λ p. sign ∷ p ∷ (pairs (digits_of 10 c) ++ 0 ∷ [])) (place ∙ ap (λ i. i + z - 38) e)
       ∙ ap (λ xs. sign ∷ xs) (sym (magnitude_bytes-mul c z last))
 

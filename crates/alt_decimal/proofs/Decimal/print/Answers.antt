@@ -1,4 +1,4 @@
-use Rattle.std.proofs.Common.{◌≡◌, ◌<◌, ◌≤◌, ◌+◌, ◌*◌, ◌-◌, ◌^◌, ◌++◌, ℕ, List, length, take, refl, ap, sym, ◌∙◌, subst, arith, length-append, length-take}
+use Rattle.std.proofs.Common.{◌≡◌, ◌<◌, ◌≤◌, ◌+◌, ◌*◌, ◌-◌, ◌^◌, ◌++◌, ℕ, List, length, take, refl, ap, sym, ◌∙◌, arith, length-append, length-take}
 use Rattle.std.specs.Prelude.{ℤ}
 use Rattle.alt_decimal.specs.declared.Decimal.TheInside.{Inside}
 use Rattle.alt_decimal.specs.Form.{units_of, IsNormal}
@@ -6,7 +6,7 @@ use Rattle.std.specs.Fmt.{sign_text as minus_if}
 use Rattle.alt_decimal.specs.Digits.{width, padded, glyphs}
 use Rattle.alt_decimal.specs.Layout.{magnitude_text}
 use Rattle.alt_decimal.specs.Printed.{printed}
-use Rattle.alt_decimal.proofs.Printing.{printed-units_of, printed-zero, front_digits, digits_text, length-digits_text}
+use Rattle.alt_decimal.proofs.Printing.{printed-units_of, printed-zero, front_digits, digits_text}
 use Rattle.alt_decimal.proofs.Denoting.{reads_units, reads_zero}
 use Rattle.alt_decimal.proofs.Padded.{length-glyphs, length-padded}
 use Rattle.alt_decimal.proofs.Magnitudes.{units_of-zero}
@@ -23,7 +23,7 @@ pub spread-digits-requires-clause-few : goal.spread-digits-requires-clause-few
 spread-digits-requires-clause-few c =
     let k = 38 - c.width-count.result in
     let few : width c.self.inside.coefficient + k ≤ 38 =
-        omega (arith, width-le 38 c.self.inside.coefficient c.self.invariant.digits, c.width-count.ensures.digits) in
+    omega (arith, width-le 38 c.self.inside.coefficient c.self.invariant.digits, c.width-count.ensures.digits) in
     rw c.filled.ensures (mul-lt c.self.inside.coefficient k 38 few)
 
 spread_length : (ds : List ℕ) (n : ℕ) → ds ≡ glyphs 48 (padded 38 n) → length ds ≡ 38
@@ -38,27 +38,47 @@ slice_bounds-digits-end c =
 
 pub slice_bounds-put_magnitude-end-2 : goal.slice_bounds-put_magnitude-end-2
 slice_bounds-put_magnitude-end-2 c =
-    omega (arith, length-take c.width-count.result c.spread-digits.result, spread_length c.spread-digits.result _ c.spread-digits.ensures,
-    width-le 38 c.self.inside.coefficient c.self.invariant.digits, c.width-count.ensures.digits)
+    omega (
+      arith,
+      length-take c.width-count.result c.spread-digits.result,
+      spread_length c.spread-digits.result _ c.spread-digits.ensures,
+      width-le 38 c.self.inside.coefficient c.self.invariant.digits,
+      c.width-count.ensures.digits,
+    )
 
 pub put_magnitude-requires-clause-some : goal.put_magnitude-requires-clause-some
 put_magnitude-requires-clause-some c =
-    omega (arith, length-take c.width-count.result c.spread-digits.result, spread_length c.spread-digits.result _ c.spread-digits.ensures,
-    width-pos c.self.inside.coefficient (omega arith), c.width-count.ensures.digits)
+    omega (
+      arith,
+      length-take c.width-count.result c.spread-digits.result,
+      spread_length c.spread-digits.result _ c.spread-digits.ensures,
+      width-pos c.self.inside.coefficient (omega arith),
+      c.width-count.ensures.digits,
+    )
 
 pub put_magnitude-requires-clause-least : goal.put_magnitude-requires-clause-least
 put_magnitude-requires-clause-least c =
     let above : 0 < c.self.inside.coefficient = omega arith in
-    omega (arith, length-take c.width-count.result c.spread-digits.result, spread_length c.spread-digits.result _ c.spread-digits.ensures,
-    width-le 38 c.self.inside.coefficient c.self.invariant.digits, c.width-count.ensures.digits,
-    mul-width_gt c.self.inside.coefficient c.self.inside.zeros 37 (c.self.invariant.least above))
+    omega (
+      arith,
+      length-take c.width-count.result c.spread-digits.result,
+      spread_length c.spread-digits.result _ c.spread-digits.ensures,
+      width-le 38 c.self.inside.coefficient c.self.invariant.digits,
+      c.width-count.ensures.digits,
+      mul-width_gt c.self.inside.coefficient c.self.inside.zeros 37 (c.self.invariant.least above),
+    )
 
 pub put_magnitude-requires-clause-below : goal.put_magnitude-requires-clause-below
 put_magnitude-requires-clause-below c =
     let above : 0 < c.self.inside.coefficient = omega arith in
-    omega (arith, length-take c.width-count.result c.spread-digits.result, spread_length c.spread-digits.result _ c.spread-digits.ensures,
-    width-le 38 c.self.inside.coefficient c.self.invariant.digits, c.width-count.ensures.digits,
-    mul-width_le c.self.inside.coefficient c.self.inside.zeros 293 above c.self.invariant.below)
+    omega (
+      arith,
+      length-take c.width-count.result c.spread-digits.result,
+      spread_length c.spread-digits.result _ c.spread-digits.ensures,
+      width-le 38 c.self.inside.coefficient c.self.invariant.digits,
+      c.width-count.ensures.digits,
+      mul-width_le c.self.inside.coefficient c.self.inside.zeros 293 above c.self.invariant.below,
+    )
 
 -- what was written, piece by piece
 pieces : (d : Inside) (z : ℤ) (n : IsNormal d) (front digits : List ℕ) → units_of d ≡ z → 0 < d.coefficient → front ≡ minus_if d.negative → digits ≡ digits_text d.coefficient
@@ -70,7 +90,7 @@ returns-clause-text c =
     let above : 0 < c.self.inside.coefficient = omega arith in
     let few : c.width-count.result ≤ 38 = omega (arith, width-le 38 c.self.inside.coefficient c.self.invariant.digits, c.width-count.ensures.digits) in
     let digits = front_is c.self.inside.coefficient c.width-count.result c.filled.result c.spread-digits.result
-        c.width-count.ensures.digits few c.filled.ensures c.spread-digits.ensures in
+    c.width-count.ensures.digits few c.filled.ensures c.spread-digits.ensures in
     c.put_magnitude.ensures.text ∙ pieces c.self.inside c.args.self.now c.self.invariant _ _ c.self.view_is above c.put_sign-at.ensures.text digits
 
 pub returns-clause-length : goal.returns-clause-length
@@ -78,12 +98,17 @@ returns-clause-length c =
     let above : 0 < c.self.inside.coefficient = omega arith in
     let few : c.width-count.result ≤ 38 = omega (arith, width-le 38 c.self.inside.coefficient c.self.invariant.digits, c.width-count.ensures.digits) in
     let digits = front_is c.self.inside.coefficient c.width-count.result c.filled.result c.spread-digits.result
-        c.width-count.ensures.digits few c.filled.ensures c.spread-digits.ensures in
+    c.width-count.ensures.digits few c.filled.ensures c.spread-digits.ensures in
     let front = take c.width-count.result c.spread-digits.result in
     let whole : minus_if c.self.inside.negative ++ magnitude_text front c.self.inside.zeros ≡ printed c.args.self.now =
-        pieces c.self.inside c.args.self.now c.self.invariant (minus_if c.self.inside.negative) front c.self.view_is above refl digits in
-    omega (arith, c.put_magnitude.ensures.end, c.put_sign-at.ensures.end, ap length whole,
-    length-append (minus_if c.self.inside.negative) (magnitude_text front c.self.inside.zeros))
+    pieces c.self.inside c.args.self.now c.self.invariant (minus_if c.self.inside.negative) front c.self.view_is above refl digits in
+    omega (
+      arith,
+      c.put_magnitude.ensures.end,
+      c.put_sign-at.ensures.end,
+      ap length whole,
+      length-append (minus_if c.self.inside.negative) (magnitude_text front c.self.inside.zeros),
+    )
 
 pub returns-then-self-eq0-clause-length : goal.returns-then-self-eq0-clause-length
 returns-then-self-eq0-clause-length c =

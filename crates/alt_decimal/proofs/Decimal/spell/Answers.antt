@@ -1,5 +1,5 @@
-use Rattle.std.proofs.Common.{◌≡◌, ◌<◌, ◌≤◌, ◌+◌, ◌-◌, ◌*◌, ◌^◌, ℕ, List, ◌∷◌, [], length, take, refl, ap, sym, ◌∙◌, arith}
-use Rattle.alt_decimal.specs.Spelled.{spelled, magnitude_bytes, complement}
+use Rattle.std.proofs.Common.{◌<◌, ◌≤◌, ◌*◌, ◌^◌, ℕ, List, length, ap, sym, ◌∙◌, arith}
+use Rattle.alt_decimal.specs.Spelled.{spelled, magnitude_bytes}
 use Rattle.alt_decimal.proofs.Magnitudes.{units_of-zero}
 use Rattle.alt_decimal.proofs.Spelling.{spelled-zero, spelled-above, spelled-below, flipped, length-complement}
 use Rattle.alt_decimal.proofs.Decimal.spell.Goals as goal

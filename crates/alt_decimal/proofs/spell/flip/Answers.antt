@@ -1,4 +1,4 @@
-use Rattle.std.proofs.Common.{◌≡◌, arith}
+use Rattle.std.proofs.Common.{arith}
 use Rattle.alt_decimal.proofs.Pairs.{flip_next}
 use Rattle.alt_decimal.proofs.spell.flip.Goals as goal
 

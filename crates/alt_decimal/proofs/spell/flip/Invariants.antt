@@ -1,4 +1,4 @@
-use Rattle.std.proofs.Common.{◌≡◌, ◌++◌, length, take, drop}
+use Rattle.std.proofs.Common.{◌≡◌, ◌++◌, take, drop}
 use Rattle.alt_decimal.specs.Spelled.{complement}
 use Rattle.alt_decimal.proofs.spell.flip.Given as goal
 

@@ -3,7 +3,7 @@ use Rattle.alt_decimal.specs.Digits.{width, padded, glyphs}
 use Rattle.alt_decimal.specs.Spelled.{pairs, magnitude_bytes}
 use Rattle.alt_decimal.proofs.Spelling.{spelled_bytes, small_front}
 use Rattle.alt_decimal.proofs.Padded.{length-glyphs, length-padded}
-use Rattle.alt_decimal.proofs.Widths.{width-le, width-pos, mul-lt, mul-width_gt, mul-width_le}
+use Rattle.alt_decimal.proofs.Widths.{width-le, mul-lt, mul-width_gt, mul-width_le}
 use Rattle.alt_decimal.proofs.spell.put_magnitude.Goals as goal
 
 -- as many bytes as were written
@@ -71,10 +71,10 @@ pub returns-clause-end : goal.returns-clause-end
 returns-clause-end c =
     let m : List ℕ = magnitude_bytes (c.args.c * 10 ^ c.args.zeros) in
     let bytes : take c.put_spelling.result c.put_spelling.new.buf ≡ c.args.sign ∷ m =
-        bytes_are c.args.sign c.args.c c.args.zeros c.width-width.result c.put_spelling.result c.filled.result _ _ c.spread-digits.result c.put_spelling.new.buf
-        c.requires.last c.requires.few c.width-width.ensures.digits c.filled.ensures c.spread-digits.ensures refl refl c.put_spelling.ensures.bytes in
+    bytes_are c.args.sign c.args.c c.args.zeros c.width-width.result c.put_spelling.result c.filled.result _ _ c.spread-digits.result c.put_spelling.new.buf
+    c.requires.last c.requires.few c.width-width.ensures.digits c.filled.ensures c.spread-digits.ensures refl refl c.put_spelling.ensures.bytes in
     let within : c.put_spelling.result ≤ length c.put_spelling.new.buf =
-        omega (arith, c.put_spelling.ensures.end, width-le 38 c.args.c c.requires.few, c.width-width.ensures.digits, c.requires.room) in
+    omega (arith, c.put_spelling.ensures.end, width-le 38 c.args.c c.requires.few, c.width-width.ensures.digits, c.requires.room) in
     omega (arith, written_length c.put_spelling.result c.put_spelling.new.buf (c.args.sign ∷ m) bytes within)
 
 pub returns-clause-within : goal.returns-clause-within

@@ -1,4 +1,4 @@
-use Rattle.std.proofs.Common.{◌≡◌, ℕ, refl, length, length-set, arith}
+use Rattle.std.proofs.Common.{ℕ, refl, length-set, arith}
 use Rattle.alt_decimal.proofs.Pairs.{pairs_step}
 use Rattle.alt_decimal.proofs.spell.put_pairs.Goals as goal
 

@@ -1,4 +1,4 @@
-use Rattle.std.proofs.Common.{◌≡◌, arith}
+use Rattle.std.proofs.Common.{arith}
 use Rattle.alt_decimal.proofs.Pairs.{spelled_parts, length-pairs}
 use Rattle.alt_decimal.proofs.spell.put_spelling.Goals as goal
 

@@ -1,19 +1,19 @@
 -- The coefficient that trimmed digits write, and exponents past which every number is refused.
-use Rattle.std.proofs.Common.{◌≡◌, ◌≢◌, ℕ, zero, suc, ◌+◌, ◌-◌, ◌*◌, ◌%◌, ◌^◌, ◌<◌, ◌≤◌, Bool, List, [], ◌∷◌, ◌++◌, length, get_or, min, refl, sym, ap, ◌∙◌, subst, arith, replicate, length-append, append_assoc, inl, inr, Ok, Err}
+use Rattle.std.proofs.Common.{◌≡◌, ◌≢◌, ℕ, ◌+◌, ◌-◌, ◌*◌, ◌%◌, ◌^◌, ◌<◌, ◌≤◌, Bool, List, [], ◌∷◌, ◌++◌, length, get_or, min, refl, sym, ap, ◌∙◌, subst, arith, inl, inr, Ok, Err}
 use Rattle.std.specs.Prelude.{pos}
 use Rattle.std.proofs.lemmas.Bool.{cases_lt}
-use Rattle.std.specs.Str.Parse.{AllDigits, digits_value, digits_value_after}
+use Rattle.std.specs.Str.Parse.{AllDigits, digits_value}
 use Rattle.std.proofs.lemmas.Int.Digits.{digits_value-lt}
-use Rattle.alt_decimal.specs.Digits.{width, digit_count}
+use Rattle.alt_decimal.specs.Digits.{digit_count}
 use Rattle.alt_decimal.specs.Coefficient.{IsCoefficient, Trims}
 use Rattle.alt_decimal.specs.Number.{fitted}
 use Rattle.alt_decimal.specs.Reading.{capped}
-use Rattle.alt_decimal.specs.declared.fault.NumberFault.TheVariants.{TooManyDigits, TooLarge, TooSmall}
+use Rattle.alt_decimal.specs.declared.fault.NumberFault.TheVariants.{TooManyDigits}
 use Rattle.alt_decimal.proofs.Widths.{ten_pow-le, width-gt, width-le, case_pos}
 use Rattle.alt_decimal.proofs.Magnitudes.{digit_count-mul, digit_count-trimmed}
 use Rattle.alt_decimal.proofs.Fitting.{number, fitted-zero, fitted-many, fitted-large, fitted-small, fitted-shift}
 use Rattle.alt_decimal.proofs.Trimming.{zeros}
-use Rattle.alt_decimal.proofs.Values.{value_append, value_zeros_before, value_zeros_behind, value_first, value_last, AllDigits-append, AllDigits-front, AllDigits-back, HasRoom, HasRoom-back}
+use Rattle.alt_decimal.proofs.Values.{value_zeros_before, value_zeros_behind, value_first, value_last, AllDigits-append, AllDigits-front, AllDigits-back}
 
 -- a number above 0 has a digit
 some_digit : (ds : List ℕ) → 0 < digits_value 10 ds → 0 < length ds
@@ -86,7 +86,7 @@ module _ (negative : Bool) (c : ℕ) (few : c < 10 ^ 38) (last : 0 < c % 10) whe
 
   pub capped_up : (v k d : ℕ) → k < 2 ^ 65 → d < 2 ^ 65 → fitted (number negative c (k + min v (10 ^ 36)) d) ≡ fitted (number negative c (k + v) d)
   capped_up v k d room_k room_d = elim (cases_lt v (10 ^ 36)) [
-      inl lt ↦ rw (← capped_short v lt) refl
+    | inl lt ↦ rw (← capped_short v lt) refl
     | inr le ↦
         rw (← capped_long v le)
         (fitted-large negative c (k + 10 ^ 36) d (omega arith) few_c (omega arith)
@@ -95,7 +95,7 @@ module _ (negative : Bool) (c : ℕ) (few : c < 10 ^ 38) (last : 0 < c % 10) whe
 
   pub capped_down : (v k d : ℕ) → k < 2 ^ 65 → d < 2 ^ 65 → fitted (number negative c k (min v (10 ^ 36) + d)) ≡ fitted (number negative c k (v + d))
   capped_down v k d room_k room_d = elim (cases_lt v (10 ^ 36)) [
-      inl lt ↦ rw (← capped_short v lt) refl
+    | inl lt ↦ rw (← capped_short v lt) refl
     | inr le ↦
         let short = width-le 38 c few in
         rw (← capped_long v le)
@@ -120,7 +120,7 @@ no_digits = refl
 
 pub number_many : (negative : Bool) (n up down : ℕ) → 38 < digit_count n → fitted (number negative n up down) ≡ Err TooManyDigits
 number_many negative n up down many = elim (cases_lt 0 n) [
-    inl above ↦ fitted-many negative n up down above many
+  | inl above ↦ fitted-many negative n up down above many
   | inr none ↦ let z : n ≡ 0 = omega arith in absurd (omega (arith, ap digit_count z, no_digits, many))
 ]
 

@@ -1,9 +1,9 @@
 -- An exponent behind its letter: one digit or more, and nothing else.
-use Rattle.std.proofs.Common.{◌≡◌, ℕ, ◌+◌, ◌<◌, ◌≤◌, Bool, true, false, List, length, take, drop, refl, ap, sym, ◌∙◌, arith, Some, length-take, length-drop}
+use Rattle.std.proofs.Common.{◌≡◌, ℕ, ◌<◌, Bool, false, List, length, refl, arith, Some, length-take, length-drop}
 use Rattle.std.proofs.lemmas.Bool.{ne_eqb, le-ltb}
 use Rattle.std.specs.Float.Numeral.{digits_len}
 use Rattle.std.specs.Prelude.{◌==◌, nat_lt}
-use Rattle.alt_decimal.specs.NumberText.{Sign, Exponent}
+use Rattle.alt_decimal.specs.NumberText.{Sign}
 use Rattle.alt_decimal.specs.Reading.{front_digits, behind_digits, exponent_from}
 
 pub exponent_some : (upper : Bool) (sign : Sign) (bs : List ℕ) → 0 < length (front_digits bs) → length (behind_digits bs) ≡ 0

@@ -1,14 +1,13 @@
 -- Which answer `fitted` gives.
-use Rattle.std.proofs.Common.{◌≡◌, ℕ, zero, suc, ◌+◌, ◌-◌, ◌*◌, ◌/◌, ◌%◌, ◌^◌, ◌<◌, ◌≤◌, Bool, true, false, refl, sym, ap, ◌∙◌, subst, arith, inl, inr, Ok, Err}
-use Rattle.std.specs.Prelude.{ℤ, pos, negsuc, nat_abs, Result, ◌==◌}
+use Rattle.std.proofs.Common.{◌≡◌, ℕ, ◌+◌, ◌-◌, ◌*◌, ◌/◌, ◌%◌, ◌^◌, ◌<◌, ◌≤◌, Bool, false, refl, sym, ap, ◌∙◌, arith, inl, inr, Ok, Err}
+use Rattle.std.specs.Prelude.{ℤ, pos, negsuc, nat_abs, ◌==◌}
 use Rattle.std.proofs.lemmas.Bool.{ne_eqb}
 use Rattle.std.specs.Int.{is_negative}
 use Rattle.std.proofs.Math.Nat.{mul-pos, mul-div_cancel, mul_assoc}
 use Rattle.std.proofs.lemmas.Nat.{pow-add}
-use Rattle.alt_decimal.specs.declared.fault.NumberFault.{NumberFault}
 use Rattle.alt_decimal.specs.declared.fault.NumberFault.TheVariants.{TooManyDigits, TooLarge, TooSmall}
 use Rattle.alt_decimal.specs.Digits.{width, digit_count}
-use Rattle.alt_decimal.specs.Number.{Number, with_sign, fitted, fitted_units, of_units, Fits, IsMagnitude}
+use Rattle.alt_decimal.specs.Number.{Number, with_sign, fitted, fitted_units, Fits, IsMagnitude}
 use Rattle.alt_decimal.specs.Normal.{ten_pow_pos, nat_abs-with_sign, is_negative-with_sign, not_below_zero}
 use Rattle.alt_decimal.proofs.Magnitudes.{digit_count-mul, digit_count-trimmed}
 use Rattle.alt_decimal.proofs.Widths.{width-mul, width-le, width-gt}
@@ -44,7 +43,7 @@ pub ok_units : (c up down : ℕ) → down ≤ up + 167 → c * 10 ^ (up + 167 - 
 ok_units c up down h =
     let sum : up + 167 ≡ up + 167 - down + down = omega arith in
     let e : c * 10 ^ (up + 167) ≡ c * 10 ^ (up + 167 - down) * 10 ^ down =
-        ap (λ k. c * 10 ^ k) sum ∙ ap (λ p. c * p) (pow-add 10 (up + 167 - down) down) ∙ sym (mul_assoc c (10 ^ (up + 167 - down)) (10 ^ down)) in
+    ap (λ k. c * 10 ^ k) sum ∙ ap (λ p. c * p) (pow-add 10 (up + 167 - down) down) ∙ sym (mul_assoc c (10 ^ (up + 167 - down)) (10 ^ down)) in
     sym (ap (λ n. n / 10 ^ down) e ∙ mul-div_cancel (c * 10 ^ (up + 167 - down)) (ten_pow_pos down))
 
 -- the answer hangs on the digits, the place of the first, and the units
@@ -62,7 +61,7 @@ pub fitted-shift : (negative : Bool) (c k up down : ℕ) → 0 < c % 10
 fitted-shift negative c k up down last =
     let c_pos : 0 < c = omega arith in
     let units : c * 10 ^ k * 10 ^ (up + 167) ≡ c * 10 ^ (k + up + 167) =
-        mul_assoc c (10 ^ k) (10 ^ (up + 167)) ∙ ap (λ p. c * p) (sym (pow-add 10 k (up + 167))) ∙ ap (λ i. c * 10 ^ i) (omega arith) in
+    mul_assoc c (10 ^ k) (10 ^ (up + 167)) ∙ ap (λ p. c * p) (sym (pow-add 10 k (up + 167))) ∙ ap (λ i. c * 10 ^ i) (omega arith) in
     same_fitted negative (c * 10 ^ k) c up (k + up) down (mul-pos c_pos (ten_pow_pos k)) c_pos
     (digit_count-mul c k last ∙ sym (digit_count-trimmed c last))
     (omega (arith, width-mul c k c_pos)) units
@@ -106,6 +105,6 @@ fitted_units-magnitude z h =
 -- a number that fits is its own answer
 pub fitted_units-Fits : (z : ℤ) → Fits z → fitted_units z ≡ Ok z
 fitted_units-Fits z h = elim h [
-    inl none ↦ rw none (fitted-zero false 0 0 167 refl)
+  | inl none ↦ rw none (fitted-zero false 0 0 167 refl)
   | inr size ↦ fitted_units-magnitude z size
 ]

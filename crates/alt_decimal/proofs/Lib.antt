@@ -1,4 +1,5 @@
 pub mod Coefficients
+pub mod Denoting
 pub mod Exponents
 pub mod Fitting
 pub mod Halves
@@ -6,9 +7,11 @@ pub mod Layouts
 pub mod Magnitudes
 pub mod Orders
 pub mod Padded
+pub mod Pairs
 pub mod Printing
 pub mod Reading
 pub mod Signs
+pub mod Spelling
 pub mod Totals
 pub mod Trimming
 pub mod Values

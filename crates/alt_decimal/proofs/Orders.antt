@@ -1,15 +1,14 @@
 -- The order of numbers by their signs, by the place of their first digit, and by their digits.
-use Rattle.std.proofs.Common.{◌≡◌, ℕ, zero, suc, ◌+◌, ◌-◌, ◌*◌, ◌%◌, ◌^◌, ◌<◌, ◌≤◌, Bool, true, false, refl, sym, ap, ◌∙◌, arith, inl, inr}
-use Rattle.std.specs.Prelude.{ℤ, pos, negsuc, neg_ℤ}
+use Rattle.std.proofs.Common.{◌≡◌, ℕ, zero, suc, ◌+◌, ◌*◌, ◌^◌, ◌<◌, ◌≤◌, refl, sym, ap, ◌∙◌, arith, inl, inr}
+use Rattle.std.specs.Prelude.{pos, negsuc, neg_ℤ}
 use Rattle.std.specs.Ordering.{nat_cmp, int_cmp}
 use Rattle.std.specs.declared.cmp.Ordering.TheVariants.{Less, Equal, Greater}
-use Rattle.std.proofs.Math.Nat.{mul-lt-mul_of_pos_right, mul-le-mul_right, pow-le-pow_right, mul_assoc, pow-suc}
+use Rattle.std.proofs.Math.Nat.{mul-lt-mul_of_pos_right, mul-le-mul_right, pow-le-pow_right}
 use Rattle.std.proofs.lemmas.Nat.{pow-add}
 use Rattle.std.proofs.lemmas.Bool.{cases_order, cases_lt}
 use Rattle.alt_decimal.specs.Digits.{width}
-use Rattle.alt_decimal.specs.Number.{with_sign}
 use Rattle.alt_decimal.specs.Normal.{ten_pow_pos}
-use Rattle.alt_decimal.proofs.Widths.{width-le, lt-width, width-low, width-mul, width-pos, width-zero, case_pos}
+use Rattle.alt_decimal.proofs.Widths.{lt-width, width-low, width-pos, width-zero, case_pos}
 
 pub nat_cmp-less : (m n : ℕ) → m < n → nat_cmp m n ≡ Less
 nat_cmp-less m n h = grind arith
@@ -23,11 +22,11 @@ nat_cmp-greater m n h = grind arith
 -- a positive factor keeps the order
 pub nat_cmp-mul : (m n p : ℕ) → 0 < p → nat_cmp (m * p) (n * p) ≡ nat_cmp m n
 nat_cmp-mul m n p h = elim (cases_order m n) [
-    inl e ↦ nat_cmp-equal (m * p) (n * p) (ap (λ x. x * p) e) ∙ sym (nat_cmp-equal m n e)
+  | inl e ↦ nat_cmp-equal (m * p) (n * p) (ap (λ x. x * p) e) ∙ sym (nat_cmp-equal m n e)
   | inr o ↦ elim o [
-      inl lt ↦ nat_cmp-less (m * p) (n * p) (mul-lt-mul_of_pos_right lt h) ∙ sym (nat_cmp-less m n lt)
+    | inl lt ↦ nat_cmp-less (m * p) (n * p) (mul-lt-mul_of_pos_right lt h) ∙ sym (nat_cmp-less m n lt)
     | inr gt ↦ nat_cmp-greater (m * p) (n * p) (mul-lt-mul_of_pos_right gt h) ∙ sym (nat_cmp-greater m n gt)
-    ]
+  ]
 ]
 
 pub int_cmp-pos : (m n : ℕ) → int_cmp (pos m) (pos n) ≡ nat_cmp m n
@@ -62,7 +61,7 @@ lt-by_place a i b j h b_pos =
 -- the same, where only zero has no first digit
 pub lt-by_first : (a i b j : ℕ) → width a + i < width b + j → (b ≡ 0 → j ≡ 0) → a * 10 ^ i < b * 10 ^ j
 lt-by_first a i b j h zero_b = elim (cases_lt 0 b) [
-    inl above ↦ lt-by_place a i b j h above
+  | inl above ↦ lt-by_place a i b j h above
   | inr none ↦ let z : b ≡ 0 = omega arith in absurd (omega (arith, ap width z, width-zero, zero_b z))
 ]
 

@@ -1,7 +1,7 @@
 -- The last digits of numbers, and the digits of a number as its last ones.
-use Rattle.std.proofs.Common.{◌≡◌, ℕ, zero, suc, ◌+◌, ◌-◌, ◌*◌, ◌/◌, ◌%◌, ◌^◌, ◌<◌, ◌≤◌, List, [], ◌∷◌, ◌++◌, length, take, drop, length-take, length-drop, map, refl, sym, ap, ◌∙◌, subst, arith, replicate, length-append, append_assoc, inl, inr}
-use Rattle.std.proofs.Math.Nat.{pow-suc, div-div-eq-div-mul, add-mul-div_right, mul-mod_left, mul-div_cancel, zero-div, div-one, div-eq_of_lt}
-use Rattle.std.proofs.lemmas.Nat.{pow-add, div-add-mod'}
+use Rattle.std.proofs.Common.{◌≡◌, ℕ, zero, suc, ◌+◌, ◌-◌, ◌*◌, ◌/◌, ◌%◌, ◌^◌, ◌<◌, ◌≤◌, List, [], ◌∷◌, ◌++◌, length, take, drop, length-take, length-drop, refl, sym, ap, ◌∙◌, arith, replicate, length-append, append_assoc, inl, inr}
+use Rattle.std.proofs.Math.Nat.{pow-suc, div-div-eq-div-mul, div-one, div-eq_of_lt}
+use Rattle.std.proofs.lemmas.Nat.{div-add-mod'}
 use Rattle.std.proofs.lemmas.List.{append-nil, drop-set, replicate_more, map-append, length-map}
 use Rattle.std.proofs.Math.ListN.{set, length-set}
 use Rattle.std.proofs.Math.Seq.{take-append_seam}
@@ -86,7 +86,7 @@ no_items (d ∷ ds) h = absurd (omega arith)
 
 above_none : (n k : ℕ) → width n ≡ suc k → 0 < n
 above_none n k e = elim (cases_lt 0 n) [
-    inl above ↦ above
+  | inl above ↦ above
   | inr none ↦ let z : n ≡ 0 = omega arith in absurd (omega (arith, ap width z, width-zero, e))
 ]
 
@@ -158,7 +158,7 @@ halves xs zs ys ex ez =
     let front : take 19 (xs ++ zs) ≡ xs = ap (λ n. take n (xs ++ zs)) (sym ex) ∙ take-append_seam xs zs in
     let behind = drop 19 (drop 19 (xs ++ zs)) in
     let end : behind ≡ [] =
-        no_items behind (omega (arith, length-drop 19 (drop 19 (xs ++ zs)), length-drop 19 (xs ++ zs), length-append xs zs)) in
+    no_items behind (omega (arith, length-drop 19 (drop 19 (xs ++ zs)), length-drop 19 (xs ++ zs), length-append xs zs)) in
     ap (λ ts. ts ++ (ys ++ behind)) front ∙ ap (λ ts. xs ++ (ys ++ ts)) end ∙ ap (λ ts. xs ++ ts) (append-nil ys)
 
 pub spread_is : (z n : ℕ) (xs zs ys : List ℕ) → length zs ≡ 19 → xs ≡ glyphs z (padded 19 (n / 10 ^ 19))

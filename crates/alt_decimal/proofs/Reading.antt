@@ -1,5 +1,5 @@
 -- What `reading` cuts a text into is the number text that it is, and each number text is cut into its own parts.
-use Rattle.std.proofs.Common.{◌≡◌, ◌≢◌, ℕ, zero, suc, ◌+◌, ◌<◌, ◌≤◌, Bool, true, false, List, [], ◌∷◌, ◌++◌, length, get_or, take, drop, refl, sym, ap, ◌∙◌, subst, arith, inl, inr, Option, Some, None, Ok, Err, Result, length-append, append_assoc}
+use Rattle.std.proofs.Common.{◌≡◌, ◌≢◌, ℕ, zero, suc, ◌+◌, ◌<◌, ◌≤◌, Bool, true, false, List, [], ◌∷◌, ◌++◌, length, get_or, take, drop, refl, sym, ap, ◌∙◌, subst, arith, inl, inr, Option, Some, None, Err, Result}
 use Rattle.std.proofs.lemmas.Bool.{cases_Bool, cases_lt, eqb-true, eqb-false, eq-eqb, ne_eqb, ltb-false, or_cases, or_parts, le-ltb}
 use Rattle.std.proofs.lemmas.List.{append-nil}
 use Rattle.std.proofs.lemmas.List.Sums.{prefix_len-le-length}
@@ -13,7 +13,7 @@ use Rattle.alt_decimal.specs.declared.fault.NumberFault.TheVariants.{NotANumber}
 use Rattle.std.specs.Str.Parse.{digits_value}
 use Rattle.alt_decimal.specs.Number.{Number, fitted}
 use Rattle.alt_decimal.specs.NumberText.{Sign, minus, plus, unsigned, Exponent, NumberText, sign_text, fraction_text, exponent_text, text_of, fraction_digits, IsExponent, IsNumberText, is_minus, denoted, ReadsAs}
-use Rattle.alt_decimal.specs.Reading.{ExponentIs, exponent_digits, below_of, sign_of, behind_sign, front_digits, behind_digits, fraction_of, behind_fraction, exponent_from, exponent_of, with_exponent, reading_behind, reading}
+use Rattle.alt_decimal.specs.Reading.{ExponentIs, exponent_digits, below_of, sign_of, behind_sign, front_digits, behind_digits, fraction_of, behind_fraction, exponent_from, exponent_of, reading_behind, reading}
 
 -- ---- digits
 
@@ -57,7 +57,7 @@ AllDigits-take : (n : ℕ) (bs : List ℕ) → n ≤ digits_len bs → AllDigits
 AllDigits-take zero bs h = tt
 AllDigits-take (suc n) [] h = tt
 AllDigits-take (suc n) (b ∷ bs) h = elim (cases_Bool (is_ascii_digit b)) [
-    inl is ↦ (digit_of_byte b is, AllDigits-take n bs (omega (arith, rw is at h)))
+  | inl is ↦ (digit_of_byte b is, AllDigits-take n bs (omega (arith, rw is at h)))
   | inr isnt ↦ absurd (omega (arith, rw isnt at h))
 ]
 
@@ -156,7 +156,7 @@ NoSign-point (d ∷ w) f rest z some = absurd (omega arith)
 
 NoSign-text : (t : NumberText) → IsNumberText t → NoSign (t.whole ++ (fraction_text t.fraction ++ exponent_text t.exponent))
 NoSign-text t h = elim (cases_lt 0 (length t.whole)) [
-    inl some ↦ NoSign-digits t.whole _ some h.whole
+  | inl some ↦ NoSign-digits t.whole _ some h.whole
   | inr none ↦ NoSign-point t.whole t.fraction (exponent_text t.exponent) (omega arith) h.digit
 ]
 
@@ -169,7 +169,7 @@ reading-text_of t h =
     let behind : behind_digits (t.whole ++ tail) ≡ tail = behind_digits-append t.whole tail h.whole none in
     let fraction : fraction_of (behind_digits (t.whole ++ tail)) ≡ t.fraction = ap fraction_of behind ∙ fraction_of-text t.fraction t.exponent h.fraction in
     let exponent : exponent_of (behind_fraction (behind_digits (t.whole ++ tail))) ≡ Some t.exponent =
-        ap (λ bs. exponent_of (behind_fraction bs)) behind ∙ ap exponent_of (behind_fraction-text t.fraction t.exponent h.fraction) ∙ exponent_of-text t.exponent h.exponent in
+    ap (λ bs. exponent_of (behind_fraction bs)) behind ∙ ap exponent_of (behind_fraction-text t.fraction t.exponent h.fraction) ∙ exponent_of-text t.exponent h.exponent in
     rw (sign_of-append t.sign (t.whole ++ tail) (NoSign-text t h), behind_sign-append t.sign (t.whole ++ tail) (NoSign-text t h))
     (reading_some (t.whole ++ tail) t.sign t.exponent (rw (front, fraction) h.digit) exponent ∙ rw (front, fraction) refl)
 
@@ -178,14 +178,14 @@ reading-text_of t h =
 sign_parts : (bs : List ℕ) → bs ≡ sign_text (sign_of bs) ++ behind_sign bs
 sign_parts [] = refl
 sign_parts (b ∷ bs) = elim (cases_Bool (b == 45)) [
-    inl e ↦ rw e (ap (λ c. c ∷ bs) (eqb-true b 45 e))
+  | inl e ↦ rw e (ap (λ c. c ∷ bs) (eqb-true b 45 e))
   | inr e ↦ elim (cases_Bool (b == 43)) [ inl p ↦ rw (e, p) (ap (λ c. c ∷ bs) (eqb-true b 43 p)) | inr p ↦ rw (e, p) refl ]
 ]
 
 fraction_parts : (bs : List ℕ) → bs ≡ fraction_text (fraction_of bs) ++ behind_fraction bs
 fraction_parts [] = refl
 fraction_parts (b ∷ bs) = elim (cases_Bool (b == 46)) [
-    inl e ↦ rw e (ap (λ c. c ∷ bs) (eqb-true b 46 e) ∙ ap (λ xs. 46 ∷ xs) (parts_of (digits_len bs) bs))
+  | inl e ↦ rw e (ap (λ c. c ∷ bs) (eqb-true b 46 e) ∙ ap (λ xs. 46 ∷ xs) (parts_of (digits_len bs) bs))
   | inr e ↦ rw e refl
 ]
 
@@ -214,7 +214,7 @@ record IsExponentOf (upper : Bool) (s : Sign) (ds : List ℕ) (e : Option Expone
 
 exponent_from_parts : (upper : Bool) (s : Sign) (ds : List ℕ) (e : Option Exponent) → exponent_from upper s ds ≡ Some e → IsExponentOf upper s ds e
 exponent_from_parts upper s ds e h = elim (cases_Bool (digits_len ds == 0 || nat_lt (digits_len ds) (length ds))) [
-    inl bad ↦ absurd (none_some e (rw bad at h))
+  | inl bad ↦ absurd (none_some e (rw bad at h))
   | inr good ↦
       let p = or_parts (digits_len ds == 0) (nat_lt (digits_len ds) (length ds)) good in
       let some : digits_len ds ≡ 0 → ⊥ = eqb-false (digits_len ds) 0 p.0 in
@@ -225,7 +225,7 @@ exponent_from_parts upper s ds e h = elim (cases_Bool (digits_len ds == 0 || nat
 
 letter : (b : ℕ) → (b == 101 || b == 69) ≡ true → b ≡ (if b == 69 then 69 else 101)
 letter b h = elim (cases_Bool (b == 69)) [
-    inl e ↦ rw e (eqb-true b 69 e)
+  | inl e ↦ rw e (eqb-true b 69 e)
   | inr e ↦ elim (or_cases (b == 101) (b == 69) h) [ inl p ↦ rw e (eqb-true b 101 p) | inr p ↦ cc ]
 ]
 
@@ -244,7 +244,7 @@ exponent_some_parts b bs e is p = subst (ExponentParts (b ∷ bs)) p.is (record 
 exponent_parts : (bs : List ℕ) (e : Option Exponent) → exponent_of bs ≡ Some e → ExponentParts bs e
 exponent_parts [] e h = subst (ExponentParts []) (some_is None e h) (record { text = refl; formed = tt })
 exponent_parts (b ∷ bs) e h = elim (cases_Bool (b == 101 || b == 69)) [
-    inl is ↦ exponent_some_parts b bs e (letter b is) (exponent_from_parts (b == 69) (sign_of bs) (behind_sign bs) e (rw is at h))
+  | inl is ↦ exponent_some_parts b bs e (letter b is) (exponent_from_parts (b == 69) (sign_of bs) (behind_sign bs) e (rw is at h))
   | inr isnt ↦ absurd (none_some e (rw isnt at h))
 ]
 
@@ -264,8 +264,8 @@ pub ReadsAs-some : (text : List ℕ) (t : NumberText) (answer : Result ℤ Numbe
     → ReadsAs text answer
 ReadsAs-some text t answer h is e = record {
   number = λ t' h' is'.
-    let same : t ≡ t' = some_is t t' (sym (reading-text_of t h) ∙ ap reading (sym is ∙ is') ∙ reading-text_of t' h') in
-    e ∙ ap (λ u. fitted (denoted u)) same;
+      let same : t ≡ t' = some_is t t' (sym (reading-text_of t h) ∙ ap reading (sym is ∙ is') ∙ reading-text_of t' h') in
+      e ∙ ap (λ u. fitted (denoted u)) same;
   no_number = inr (t, h, is);
 }
 
@@ -298,9 +298,9 @@ module _ (text : List ℕ) where
   unfolding reading
   ReadsAs-broken broken =
       ReadsAs-none text (elim (cases_Bool (length (front_digits rest) + length (fraction_digits (fraction_of tail)) == 0)) [
-        inl e ↦ rw e refl
-      | inr e ↦ rw (e, broken) refl
-    ])
+        | inl e ↦ rw e refl
+        | inr e ↦ rw (e, broken) refl
+      ])
 
   pub ReadsAs-parts : (e : Option Exponent) (answer : Result ℤ NumberFault) → exponent_of (behind_fraction tail) ≡ Some e
       → 0 < length (front_digits rest) + length (fraction_digits (fraction_of tail)) → answer ≡ fitted (denoted (parts_with e)) → ReadsAs text answer

@@ -1,12 +1,12 @@
 -- Sums that have no room in 128 bits have over 38 digits.
-use Rattle.std.proofs.Common.{◌≡◌, ℕ, zero, suc, ◌+◌, ◌-◌, ◌*◌, ◌/◌, ◌%◌, ◌^◌, ◌<◌, ◌≤◌, Bool, true, false, refl, sym, ap, ◌∙◌, arith, inl, inr, Ok, Err}
-use Rattle.std.specs.Prelude.{ℤ, pos, ◌+ℤ◌}
+use Rattle.std.proofs.Common.{◌≡◌, ℕ, zero, suc, ◌+◌, ◌-◌, ◌*◌, ◌%◌, ◌^◌, ◌<◌, ◌≤◌, Bool, true, false, refl, sym, ap, ◌∙◌, arith, inl, inr, Err}
+use Rattle.std.specs.Prelude.{ℤ, ◌+ℤ◌}
 use Rattle.std.proofs.Math.Bool.{beq}
 use Rattle.std.proofs.lemmas.Bool.{cases_Bool}
 use Rattle.alt_decimal.specs.declared.fault.NumberFault.TheVariants.{TooManyDigits}
 use Rattle.alt_decimal.specs.Number.{with_sign, fitted_units}
 use Rattle.alt_decimal.proofs.Signs.{scaled_same, scaled_unlike}
-use Rattle.alt_decimal.proofs.Widths.{mul-zeros, mul-ten_less}
+use Rattle.alt_decimal.proofs.Widths.{mul-zeros}
 use Rattle.alt_decimal.proofs.Fitting.{fitted_units-many}
 use Rattle.alt_decimal.specs.Normal.{mul-ten_pow}
 
@@ -30,7 +30,7 @@ pub many_same : (an : Bool) (a k : ℕ) (bn : Bool) (b z : ℕ) → beq an bn �
 many_same an a k bn b z same last long =
     let x = a * 10 ^ suc k in
     let e : sum_at an a (suc k) bn b z ≡ with_sign an ((x + b) * 10 ^ z) =
-        sum_at-widened an a (suc k) bn b z x refl ∙ scaled_same an bn x b (x + b) (10 ^ z) same refl in
+    sum_at-widened an a (suc k) bn b z x refl ∙ scaled_same an bn x b (x + b) (10 ^ z) same refl in
     ap fitted_units e ∙ fitted_units-many an (x + b) z long (omega (arith, last_widened a k))
 
 -- Numbers of two signs, the wider far above the other.
@@ -40,14 +40,14 @@ many_unlike an a k bn b z unlike last long =
     let x = a * 10 ^ suc k in
     let less : b ≤ x = omega arith in
     let e : sum_at an a (suc k) bn b z ≡ with_sign an ((x - b) * 10 ^ z) =
-        sum_at-widened an a (suc k) bn b z x refl ∙ scaled_unlike an bn x b (10 ^ z) unlike less in
+    sum_at-widened an a (suc k) bn b z x refl ∙ scaled_unlike an bn x b (10 ^ z) unlike less in
     ap fitted_units e ∙ fitted_units-many an (x - b) z (omega arith) (omega (arith, last_widened a k))
 
 pub many_widened : (an : Bool) (a shift : ℕ) (bn : Bool) (b z : ℕ) → a < 10 ^ 38 → b < 10 ^ 38 → 0 < b % 10 → 2 ^ 128 ≤ a * 10 ^ shift
     → fitted_units (sum_at an a shift bn b z) ≡ Err TooManyDigits
 many_widened an a zero bn b z few_a few_b last long = absurd (omega (arith, long))
 many_widened an a (suc k) bn b z few_a few_b last long = elim (cases_Bool (beq an bn)) [
-    inl same ↦ many_same an a k bn b z same last (omega (arith, long))
+  | inl same ↦ many_same an a k bn b z same last (omega (arith, long))
   | inr unlike ↦ many_unlike an a k bn b z unlike last (omega (arith, long))
 ]
 

@@ -1,6 +1,6 @@
 -- The digits of a number text from the first to the last that is not 0.
-use Rattle.std.proofs.Common.{◌≡◌, ◌≢◌, ℕ, zero, suc, ◌+◌, ◌-◌, ◌*◌, ◌%◌, ◌^◌, ◌<◌, ◌≤◌, List, [], ◌∷◌, ◌++◌, length, get_or, refl, sym, ap, ◌∙◌, subst, arith, replicate, length-append, append_assoc}
-use Rattle.std.proofs.lemmas.List.{append-nil, replicate-append-replicate, length-replicate, get_or_append_left, get_or-append-add}
+use Rattle.std.proofs.Common.{◌≡◌, ◌≢◌, ℕ, ◌+◌, ◌-◌, ◌^◌, ◌<◌, List, [], ◌∷◌, ◌++◌, length, get_or, refl, ap, ◌∙◌, arith, replicate, length-append, append_assoc}
+use Rattle.std.proofs.lemmas.List.{append-nil, replicate-append-replicate, get_or-append-add}
 use Rattle.alt_decimal.specs.Coefficient.{Trims}
 
 -- so many zeros
@@ -44,7 +44,7 @@ trims_whole whole fraction w v f j k cut e_whole e_w e_fraction none first last 
     let v_is : v ++ f ≡ v = rw f_is (append-nil v) in
     let behind : zeros k ++ zeros cut ≡ zeros (cut + k) = replicate-append-replicate k cut 48 ∙ ap zeros (omega arith) in
     let all : whole ++ fraction ≡ zeros j ++ (v ++ f) ++ zeros (cut + k) =
-        rw (e_whole, e_w, e_fraction, f_is, ← behind) (simp (append_assoc, append-nil)) in
+    rw (e_whole, e_w, e_fraction, f_is, ← behind) (simp (append_assoc, append-nil)) in
     record {
       digits = (j, all);
       first = rw v_is (First-front v (zeros k) (rw (← e_w) first));
@@ -60,7 +60,7 @@ trims_fraction whole fraction w f g j i cut e_whole e_fraction e_f none first la
     let g_is : w ++ g ≡ g = rw w_is refl in
     let before : zeros j ++ zeros i ≡ zeros (j + i) = replicate-append-replicate j i 48 in
     let all : whole ++ fraction ≡ zeros (j + i) ++ (w ++ g) ++ zeros cut =
-        rw (e_whole, e_fraction, e_f, w_is, ← before) (simp (append_assoc, append-nil)) in
+    rw (e_whole, e_fraction, e_f, w_is, ← before) (simp (append_assoc, append-nil)) in
     record {
       digits = (j + i, all);
       first = rw g_is first;

@@ -1,5 +1,5 @@
 -- The number that digits write: parts one after another, zeros before and behind, the first digit and the last.
-use Rattle.std.proofs.Common.{◌≡◌, ◌≢◌, ℕ, zero, suc, ◌+◌, ◌-◌, ◌*◌, ◌%◌, ◌^◌, ◌<◌, ◌≤◌, List, [], ◌∷◌, ◌++◌, length, get_or, take, refl, sym, ap, ◌∙◌, subst, arith, replicate, length-append, inl, inr}
+use Rattle.std.proofs.Common.{◌≡◌, ◌≢◌, ℕ, zero, suc, ◌+◌, ◌*◌, ◌%◌, ◌^◌, ◌<◌, ◌≤◌, List, [], ◌∷◌, ◌++◌, length, get_or, refl, ap, ◌∙◌, arith, replicate, length-append, inl, inr}
 use Rattle.std.proofs.Math.Nat.{pow-suc, mul-le-mul_right, mul-le-mul_left}
 use Rattle.std.proofs.lemmas.Bool.{cases_lt}
 use Rattle.std.proofs.lemmas.Nat.{pow-add}
@@ -84,7 +84,7 @@ HasRoom c ds = (c + 1) * 10 ^ length ds ≤ 10 ^ 38
 
 pub few_digits : (c : ℕ) (ds : List ℕ) → HasRoom c ds → length ds ≤ 38
 few_digits c ds room = elim (cases_lt 38 (length ds)) [
-    inl lt ↦
+  | inl lt ↦
       let p : 1 * 10 ^ length ds ≤ (c + 1) * 10 ^ length ds = mul-le-mul_right (10 ^ length ds) (omega arith) in
       absurd (omega (arith, room, p, ten_pow-le 39 (length ds) lt))
   | inr le ↦ le

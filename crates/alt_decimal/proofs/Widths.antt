@@ -1,5 +1,5 @@
 -- How many digits a number has, by the powers of ten round it.
-use Rattle.std.proofs.Common.{◌≡◌, ℕ, zero, suc, ◌+◌, ◌-◌, ◌*◌, ◌/◌, ◌%◌, ◌^◌, ◌<◌, ◌≤◌, refl, sym, ap, ◌∙◌, subst, arith, length, inl, inr}
+use Rattle.std.proofs.Common.{◌≡◌, ℕ, zero, suc, ◌+◌, ◌*◌, ◌/◌, ◌%◌, ◌^◌, ◌<◌, ◌≤◌, refl, sym, ap, ◌∙◌, subst, arith, length, inl, inr}
 use Rattle.std.proofs.Math.Nat.{pow-suc, pow-le-pow_right, mul-le-mul_right, mul-lt-mul_of_pos_right, mul_assoc}
 use Rattle.std.proofs.lemmas.Nat.{pow-add}
 use Rattle.std.proofs.lemmas.Bool.{cases_lt}
@@ -32,7 +32,7 @@ lt-width n = let two : 2 ≤ 10 = omega arith in
 -- a number that reaches a power of ten has more digits than that
 pub width-gt : (k n : ℕ) → 10 ^ k ≤ n → k < width n
 width-gt k n h = elim (cases_lt k (width n)) [
-    inl lt ↦ lt
+  | inl lt ↦ lt
   | inr le ↦ let p : 10 ^ width n ≤ 10 ^ k = pow-le-pow_right (omega arith) le in absurd (omega (arith, lt-width n))
 ]
 
@@ -49,7 +49,7 @@ width-pos n h = width-gt 0 n (omega arith)
 -- the first digit is not 0
 pub width-low : (n k : ℕ) → width n ≡ suc k → 10 ^ k ≤ n
 width-low n k e = elim (cases_lt n (10 ^ k)) [
-    inl lt ↦ absurd (omega (arith, width-le k n lt))
+  | inl lt ↦ absurd (omega (arith, width-le k n lt))
   | inr le ↦ le
 ]
 
@@ -81,7 +81,7 @@ mul-lt n k m h =
 -- fewer zeros stand behind a number than it has digits
 pub zeros-lt : (c k m : ℕ) → 0 < c → c * 10 ^ k < 10 ^ m → k < m
 zeros-lt c k m h below = elim (cases_lt k m) [
-    inl lt ↦ lt
+  | inl lt ↦ lt
   | inr le ↦
       let p : 10 ^ m ≤ 10 ^ k = pow-le-pow_right (omega arith) le in
       let q : 1 * 10 ^ k ≤ c * 10 ^ k = mul-le-mul_right (10 ^ k) h in
@@ -98,3 +98,16 @@ mul-ge n k m n_pos h =
 -- zeros behind zeros
 pub mul-zeros : (n c i j : ℕ) → n ≡ c * 10 ^ i → n * 10 ^ j ≡ c * 10 ^ (i + j)
 mul-zeros n c i j e = ap (λ m. m * 10 ^ j) e ∙ mul_assoc c (10 ^ i) (10 ^ j) ∙ ap (λ p. c * p) (sym (pow-add 10 i j))
+
+-- where the first digit of a number with zeros behind it stands, by its size
+pub mul-width_gt : (c k m : ℕ) → 10 ^ m ≤ c * 10 ^ k → m < width c + k
+mul-width_gt c k m h = elim (cases_lt m (width c + k)) [
+  | inl lt ↦ lt
+  | inr le ↦ absurd (omega (arith, mul-lt c k (width c + k) (omega arith), ten_pow-le (width c + k) m le, h))
+]
+
+pub mul-width_le : (c k m : ℕ) → 0 < c → c * 10 ^ k < 10 ^ m → width c + k ≤ m
+mul-width_le c k m above h = elim (cases_lt m (width c + k)) [
+  | inl lt ↦ absurd (omega (arith, mul-ge c k m above lt, h))
+  | inr le ↦ le
+]

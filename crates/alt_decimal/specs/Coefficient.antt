@@ -1,5 +1,5 @@
 -- What reading makes of the digits of a number text, for private contracts.
-use Rattle.std.specs.Prelude.{◌≡◌, ◌≢◌, ℕ, ◌+◌, ◌-◌, ◌*◌, ◌%◌, ◌^◌, ◌<◌, ◌⊎◌, List, ◌++◌, length, replicate, slice_index}
+use Rattle.std.specs.Prelude.{◌≡◌, ◌≢◌, ℕ, ◌-◌, ◌*◌, ◌%◌, ◌^◌, ◌<◌, List, ◌++◌, length, replicate, slice_index}
 
 -- n is c with `zeros` zeros behind it, and the last digit of c is not 0; or both are 0
 pub record IsCoefficient (n c zeros : ℕ) : Type 0 where

@@ -1,5 +1,5 @@
 -- Where the point of a number stands among its digits, for private contracts.
-use Rattle.std.specs.Prelude.{ℕ, ◌+◌, ◌-◌, ◌≤◌, nat_le, nat_lt, if◌then◌else◌, List, [], ◌∷◌, ◌++◌, length, take, drop, replicate}
+use Rattle.std.specs.Prelude.{ℕ, ◌+◌, ◌-◌, nat_le, nat_lt, if◌then◌else◌, List, ◌∷◌, ◌++◌, length, take, drop, replicate}
 
 -- digits with zeros behind them in units of 10^-167, as text
 unfoldable pub magnitude_text : List ℕ → ℕ → List ℕ

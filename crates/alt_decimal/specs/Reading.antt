@@ -1,6 +1,6 @@
 -- How a text is cut into the parts of a number text, from the front on. `proofs/Reading.antt` shows that it is the grammar of
 -- `NumberText` that this reads.
-use Rattle.std.specs.Prelude.{◌≡◌, ℕ, ◌+◌, ◌^◌, ◌==◌, ◌||◌, ◌&&◌, nat_lt, min, if◌then◌else◌, Bool, false, List, [], ◌∷◌, length, take, drop, Option, Some, None}
+use Rattle.std.specs.Prelude.{◌≡◌, ℕ, ◌+◌, ◌^◌, ◌==◌, ◌||◌, nat_lt, min, if◌then◌else◌, Bool, false, List, [], ◌∷◌, length, take, drop, Option, Some, None}
 use Rattle.std.specs.Float.Numeral.{digits_len}
 use Rattle.std.specs.Str.Parse.{digits_value}
 use Rattle.alt_decimal.specs.NumberText.{Sign, minus, plus, unsigned, Exponent, NumberText, fraction_digits, is_minus}

@@ -8,14 +8,15 @@ mod print;
 mod read;
 mod spell;
 mod sum;
+#[cfg(test)]
+mod tests;
 
 ghost use Rattle.std.specs.Prelude.{◌≡◌, nat_abs, ◌≤◌};
 ghost use Rattle.alt_decimal.specs.Number.{Fits};
 ghost use Rattle.alt_decimal.specs.Digits.{digit_count};
 
-use std::marker::Model;
-
 pub use fault::NumberFault;
+use std::marker::Model;
 
 /// A number of at most 38 digits: zero, or of a magnitude from 1E-130 to 9.9999999999999999999999999999999999999E+125.
 ///

@@ -66,8 +66,8 @@ fn put_magnitude(buf: &mut [u8], at: usize, digits: &[u8], zeros: u32) -> usize
     }
 }
 
-// Writes the bytes behind the first `at`, and answers where they end.
-fn put(buf: &mut [u8], at: usize, bytes: &[u8]) -> usize
+/// Writes the bytes behind the first `at`, and answers where they end.
+pub fn put(buf: &mut [u8], at: usize, bytes: &[u8]) -> usize
     requires { at + length bytes.now ≤ length buf.old }
     ensures text { take result buf.new ≡ take at buf.old ++ bytes.now }
     ensures end { result ≡ at + length bytes.now }

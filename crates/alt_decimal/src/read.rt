@@ -81,9 +81,7 @@ fn split_fraction(text: &[u8]) -> (&[u8], &[u8])
 
 // Whether the exponent is negative, and its digits, none where there is no exponent; None where the text is no exponent.
 fn exponent_in(text: &[u8]) -> Option<(bool, &[u8])>
-    ensures {
-        MatchOption result (exponent_of text.now ≡ None) (λ r. ExponentIs (exponent_of text.now) r.0 r.1.now)
-    }
+    ensures { MatchOption result (exponent_of text.now ≡ None) (λ r. ExponentIs (exponent_of text.now) r.0 r.1.now) }
 {
     match text {
         [] => Some((false, text)),
@@ -94,10 +92,8 @@ fn exponent_in(text: &[u8]) -> Option<(bool, &[u8])>
 
 // The same behind the letter, in either case of that.
 fn exponent_behind(text: &[u8]) -> Option<(bool, &[u8])>
-    ensures {
-        (upper : Bool) → MatchOption result (exponent_from upper (sign_of text.now) (behind_sign text.now) ≡ None)
-        (λ r. ExponentIs (exponent_from upper (sign_of text.now) (behind_sign text.now)) r.0 r.1.now)
-    }
+    ensures { (upper : Bool) → MatchOption result (exponent_from upper (sign_of text.now) (behind_sign text.now) ≡ None)
+        (λ r. ExponentIs (exponent_from upper (sign_of text.now) (behind_sign text.now)) r.0 r.1.now) }
 {
     let (below, rest) = split_sign(text);
     let (digits, end) = split_digits(rest);
@@ -111,18 +107,22 @@ fn exponent_behind(text: &[u8]) -> Option<(bool, &[u8])>
 }
 
 // The number of these digits and this exponent, where it fits.
-fn number(negative: bool, whole: &[u8], fraction: &[u8], below: bool, exponent: &[u8]) -> Result<Decimal, NumberFault>
+fn number(
+    negative: bool,
+    whole: &[u8],
+    fraction: &[u8],
+    below: bool,
+    exponent: &[u8],
+) -> Result<Decimal, NumberFault>
     requires whole_digits { AllDigits 10 whole.now }
     requires fraction_digits { AllDigits 10 fraction.now }
     requires exponent_digits { AllDigits 10 exponent.now }
-    ensures {
-        result ≡ fitted (record {
-          negative = negative;
-          c = digits_value 10 (whole.now ++ fraction.now);
-          up = (if below then 0 else digits_value 10 exponent.now);
-          down = (if below then digits_value 10 exponent.now else 0) + length fraction.now;
-        })
-    }
+    ensures { result ≡ fitted (record {
+      negative = negative;
+      c = digits_value 10 (whole.now ++ fraction.now);
+      up = (if below then 0 else digits_value 10 exponent.now);
+      down = (if below then digits_value 10 exponent.now else 0) + length fraction.now;
+    }) }
 {
     let (c, behind) = match coefficient(whole, fraction) {
         Some(c) => c,
@@ -148,10 +148,8 @@ fn number(negative: bool, whole: &[u8], fraction: &[u8], below: bool, exponent: 
 fn coefficient(whole: &[u8], fraction: &[u8]) -> Option<(u128, u128)>
     requires whole_digits { AllDigits 10 whole.now }
     requires fraction_digits { AllDigits 10 fraction.now }
-    ensures {
-        MatchOption result (38 < digit_count (digits_value 10 (whole.now ++ fraction.now)))
-        (λ r. IsCoefficient (digits_value 10 (whole.now ++ fraction.now)) r.0 r.1)
-    }
+    ensures { MatchOption result (38 < digit_count (digits_value 10 (whole.now ++ fraction.now)))
+        (λ r. IsCoefficient (digits_value 10 (whole.now ++ fraction.now)) r.0 r.1) }
 {
     let (w, f, behind) = trimmed(whole, fraction);
     if w.len() as u128 + f.len() as u128 > 38 {

@@ -21,10 +21,24 @@ impl Decimal {
         }
         if other.zeros <= self.zeros {
             let shift = self.zeros - other.zeros;
-            total(self.negative, self.coefficient, shift, other.negative, other.coefficient, other.zeros)
+            total(
+                self.negative,
+                self.coefficient,
+                shift,
+                other.negative,
+                other.coefficient,
+                other.zeros,
+            )
         } else {
             let shift = other.zeros - self.zeros;
-            total(other.negative, other.coefficient, shift, self.negative, self.coefficient, self.zeros)
+            total(
+                other.negative,
+                other.coefficient,
+                shift,
+                self.negative,
+                self.coefficient,
+                self.zeros,
+            )
         }
     }
 
@@ -49,15 +63,20 @@ impl Decimal {
 
 // The sum of a * 10^(zeros + shift) and b * 10^zeros. Where it has no room in 128 bits its last digit is that of b, or of 10 - b,
 // so that it has over 38 digits.
-fn total(a_negative: bool, a: u128, shift: u32, b_negative: bool, b: u128, zeros: u32) -> Result<Decimal, NumberFault>
+fn total(
+    a_negative: bool,
+    a: u128,
+    shift: u32,
+    b_negative: bool,
+    b: u128,
+    zeros: u32,
+) -> Result<Decimal, NumberFault>
     requires few_a { a < 10 ^ 38 }
     requires few_b { b < 10 ^ 38 }
     requires last_a { 0 < a % 10 }
     requires last_b { 0 < b % 10 }
     requires few_zeros { zeros ≤ 292 }
-    ensures {
-        result ≡ fitted_units (with_sign a_negative (a * 10 ^ (zeros + shift)) +ℤ with_sign b_negative (b * 10 ^ zeros))
-    }
+    ensures { result ≡ fitted_units (with_sign a_negative (a * 10 ^ (zeros + shift)) +ℤ with_sign b_negative (b * 10 ^ zeros)) }
 {
     match widened(a, shift) {
         None => Err(NumberFault::TooManyDigits),
@@ -73,15 +92,17 @@ fn widened(a: u128, zeros: u32) -> Option<u128>
     requires { 0 < a }
     ensures { MatchOption result (2 ^ 128 ≤ a * 10 ^ zeros) (λ x. x ≡ a * 10 ^ zeros) }
 {
-    if zeros <= 38 { a.checked_mul(digits::power(zeros)) } else { None }
+    if zeros <= 38 {
+        a.checked_mul(digits::power(zeros))
+    } else {
+        None
+    }
 }
 
 // The sum of two magnitudes with their signs, at every scale p; None where it has no room in 128 bits.
 fn signed_sum(a_negative: bool, a: u128, b_negative: bool, b: u128) -> Option<(bool, u128)>
-    ensures {
-        MatchOption result ((a_negative ≡ b_negative) × (2 ^ 128 ≤ a + b))
-        (λ s. (p : ℕ) → with_sign a_negative (a * p) +ℤ with_sign b_negative (b * p) ≡ with_sign s.0 (s.1 * p))
-    }
+    ensures { MatchOption result ((a_negative ≡ b_negative) × (2 ^ 128 ≤ a + b))
+        (λ s. (p : ℕ) → with_sign a_negative (a * p) +ℤ with_sign b_negative (b * p) ≡ with_sign s.0 (s.1 * p)) }
 {
     if a_negative == b_negative {
         match a.checked_add(b) {

@@ -1,7 +1,5 @@
-use Rattle.std.proofs.Common.{rules, ◌≡◌, ◌∙◌, sym, ap, refl, arith, ◌<◌}
-use Rattle.std.specs.Prelude.{nat_abs}
+use Rattle.std.proofs.Common.{◌∙◌, sym, refl, arith, ◌<◌}
 use Rattle.alt_decimal.specs.Digits.{digit_count}
-use Rattle.alt_decimal.specs.Number.{Fits}
 use Rattle.alt_decimal.proofs.Widths.{width-le}
 use Rattle.alt_decimal.proofs.Magnitudes.{units_of-zero, digit_count-units_of, Fits-units_of}
 use Rattle.alt_decimal.proofs.Decimal.digits.Goals as goal

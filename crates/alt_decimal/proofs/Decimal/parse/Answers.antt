@@ -1,6 +1,5 @@
-use Rattle.std.proofs.Common.{◌≡◌, ◌<◌, ◌+◌, ◌++◌, ◌∙◌, sym, ap, arith, List, ℕ, length, Some, None}
+use Rattle.std.proofs.Common.{◌≡◌, ◌<◌, ◌+◌, sym, arith, ℕ, length}
 use Rattle.std.proofs.lemmas.Bool.{eqb-true, eqb-false}
-use Rattle.std.specs.Str.Parse.{AllDigits}
 use Rattle.alt_decimal.proofs.Reading.{AllDigits-front_digits, AllDigits-fraction_of, AllDigits-exponent, found_empty, found_broken, found}
 use Rattle.alt_decimal.proofs.Decimal.parse.Goals as goal
 use Rattle.alt_decimal.proofs.Decimal.parse.Goals.{else-is_empty-via-then-is_empty+else-is_empty-2, else-is_empty-via-else-is_empty}
@@ -37,8 +36,8 @@ returns-in-None c = record {
 pub returns-in-Some : goal.returns-in-Some
 returns-in-Some c =
     let some_digit : 0 < length c.split_digits.result.0.now + length c.split_fraction.result.0.now = elim c.else-is_empty.branch [
-      else-is_empty-via-then-is_empty+else-is_empty-2 w ↦ some_second _ _ (eqb-false _ 0 (sym w.if-is_empty-2.ensures))
-    | else-is_empty-via-else-is_empty w ↦ some_first _ _ (eqb-false _ 0 (sym w.if-is_empty.ensures))
+      | else-is_empty-via-then-is_empty+else-is_empty-2 w ↦ some_second _ _ (eqb-false _ 0 (sym w.if-is_empty-2.ensures))
+      | else-is_empty-via-else-is_empty w ↦ some_first _ _ (eqb-false _ 0 (sym w.if-is_empty.ensures))
     ] in
     record {
       reads = found c.args.text.now _ _ _ _ _ c.split_sign-negative.ensures.rest c.split_digits.ensures.digits c.split_digits.ensures.rest

@@ -1,6 +1,6 @@
-use Rattle.std.proofs.Common.{◌≡◌, ◌≤◌, ◌+◌, ◌*◌, ◌^◌, ◌++◌, ℕ, List, length, ◌∙◌, sym, ap, arith}
+use Rattle.std.proofs.Common.{ℕ, List, ◌∙◌, sym, ap, arith}
 use Rattle.std.specs.Str.Parse.{AllDigits, digits_value_after}
-use Rattle.alt_decimal.proofs.Values.{value_append, AllDigits-front, AllDigits-back, few_digits, HasRoom, HasRoom-front, HasRoom-back}
+use Rattle.alt_decimal.proofs.Values.{value_append, AllDigits-front, AllDigits-back, few_digits, HasRoom-front, HasRoom-back}
 use Rattle.alt_decimal.proofs.digits.append.Goals as goal
 
 pub append_half-requires-else-digits-le19-clause-room : goal.append_half-requires-else-digits-le19-clause-room

@@ -1,5 +1,5 @@
-use Rattle.std.proofs.Common.{◌≡◌, ◌∙◌, sym, ap, arith}
-use Rattle.alt_decimal.proofs.Values.{value_after, value_last}
+use Rattle.std.proofs.Common.{sym}
+use Rattle.alt_decimal.proofs.Values.{value_after}
 use Rattle.alt_decimal.proofs.digits.append_half.Goals as goal
 
 pub returns : goal.returns

@@ -1,5 +1,4 @@
-use Rattle.std.proofs.Common.{◌≡◌, ℕ, ◌<◌, ◌≤◌, ◌+◌, ◌*◌, ◌^◌, get_or, ◌∙◌, sym, ap, arith}
-use Rattle.std.specs.Char.{digit_value}
+use Rattle.std.proofs.Common.{ℕ, ◌<◌, ◌^◌, get_or, arith}
 use Rattle.std.proofs.lemmas.Nat.{pow-add}
 use Rattle.std.proofs.lemmas.Int.Digits.{digits_value_more}
 use Rattle.alt_decimal.proofs.Widths.{ten_pow-le}

@@ -1,5 +1,4 @@
-use Rattle.std.proofs.Common.{◌≡◌, ◌<◌, ◌+◌, ◌-◌, ◌/◌, ◌%◌, ◌^◌, ℕ, length, length-set, drop, ap, sym, ◌∙◌, arith}
-use Rattle.alt_decimal.specs.Digits.{padded, glyphs}
+use Rattle.std.proofs.Common.{◌+◌, ◌/◌, ◌%◌, ℕ, length, length-set, ap, ◌∙◌, arith}
 use Rattle.alt_decimal.proofs.Padded.{put_step, left_step, none_put, none_left}
 use Rattle.alt_decimal.proofs.digits.put_half.Goals as goal
 

@@ -1,4 +1,4 @@
-use Rattle.std.proofs.Common.{◌≡◌, ◌≤◌, ◌-◌, ◌+◌, ◌/◌, ◌^◌, ℕ, length, drop}
+use Rattle.std.proofs.Common.{◌≡◌, ◌≤◌, ◌-◌, ◌/◌, ◌^◌, length, drop}
 use Rattle.alt_decimal.specs.Digits.{padded, glyphs}
 use Rattle.alt_decimal.proofs.digits.put_half.Given as goal
 

@@ -1,6 +1,4 @@
-use Rattle.std.proofs.Common.{◌≡◌, ◌<◌, ◌*◌, ◌/◌, ◌+◌, ◌^◌, ◌∙◌, sym, suc, arith}
-use Rattle.std.proofs.Math.Nat.{pow-suc, mul_assoc}
-use Rattle.alt_decimal.specs.Normal.{mul-ten_pow}
+use Rattle.std.proofs.Common.{◌≡◌, ◌<◌, ◌*◌, ◌/◌, ◌+◌, ◌^◌, ◌∙◌, arith}
 use Rattle.alt_decimal.proofs.Widths.{zeros-lt, mul-ten_less}
 use Rattle.alt_decimal.proofs.digits.stripped_half.Goals as goal
 

@@ -1,4 +1,4 @@
-use Rattle.std.proofs.Common.{rules, ◌≡◌, sym, ◌∙◌, ap, arith}
+use Rattle.std.proofs.Common.{sym, ◌∙◌, ap, arith}
 use Rattle.alt_decimal.specs.Digits.{width as width_of}
 use Rattle.alt_decimal.proofs.Widths.{width_is, width-zero}
 use Rattle.alt_decimal.proofs.digits.width.Goals as goal

@@ -1,6 +1,6 @@
-use Rattle.std.proofs.Common.{◌≡◌, ℕ, ◌<◌, ◌+◌, ◌*◌, ◌^◌, ◌-◌, ◌≤◌, arith, ap, sym, ◌∙◌, nat_cmp}
+use Rattle.std.proofs.Common.{ℕ, ◌<◌, ◌+◌, ◌-◌, arith, ap, sym, ◌∙◌, nat_cmp}
 use Rattle.alt_decimal.specs.Digits.{width}
-use Rattle.alt_decimal.proofs.Widths.{width-le, width-zero}
+use Rattle.alt_decimal.proofs.Widths.{width-le}
 use Rattle.alt_decimal.proofs.Orders.{lt-by_first, nat_cmp-less, nat_cmp-greater, nat_cmp-filled, nat_cmp-filled_second}
 use Rattle.alt_decimal.proofs.order.magnitude_order.Goals as goal
 

@@ -1,5 +1,4 @@
-use Rattle.std.proofs.Common.{◌≡◌, ◌<◌, ◌≤◌, ◌+◌, ◌-◌, ◌++◌, ℕ, List, [], ◌∷◌, length, take, drop, ap, sym, ◌∙◌, arith, replicate, length-append}
-use Rattle.std.proofs.lemmas.List.{length-replicate}
+use Rattle.std.proofs.Common.{◌+◌, ◌-◌, ◌++◌, ℕ, List, [], ◌∷◌, length, take, drop, ap, sym, ◌∙◌, arith}
 use Rattle.alt_decimal.proofs.Layouts.{text_whole, text_split, text_fraction, length-text_whole, length-text_split, length-text_fraction, put_two, put_three}
 use Rattle.alt_decimal.proofs.print.put_magnitude.Goals as goal
 
@@ -23,9 +22,15 @@ returns-then-count-gt-PLACES-clause-text c =
 
 pub returns-then-count-gt-PLACES-clause-end : goal.returns-then-count-gt-PLACES-clause-end
 returns-then-count-gt-PLACES-clause-end c =
-    omega (arith, length-text_split c.args.digits.now c.args.zeros c.if-zeros-ge-PLACES.false c.if-count-gt-PLACES.true,
-    c.put.ensures.end, c.put-end-then-count-gt-PLACES-2.ensures.end, c.put-end-then-count-gt-PLACES.ensures.end,
-    c.split_at.ensures.front_len, c.split_at.ensures.back_len)
+    omega (
+      arith,
+      length-text_split c.args.digits.now c.args.zeros c.if-zeros-ge-PLACES.false c.if-count-gt-PLACES.true,
+      c.put.ensures.end,
+      c.put-end-then-count-gt-PLACES-2.ensures.end,
+      c.put-end-then-count-gt-PLACES.ensures.end,
+      c.split_at.ensures.front_len,
+      c.split_at.ensures.back_len,
+    )
 
 pub returns-else-count-gt-PLACES-clause-text : goal.returns-else-count-gt-PLACES-clause-text
 returns-else-count-gt-PLACES-clause-text c =
@@ -35,5 +40,10 @@ returns-else-count-gt-PLACES-clause-text c =
 
 pub returns-else-count-gt-PLACES-clause-end : goal.returns-else-count-gt-PLACES-clause-end
 returns-else-count-gt-PLACES-clause-end c =
-    omega (arith, length-text_fraction c.args.digits.now c.args.zeros c.if-zeros-ge-PLACES.false c.if-count-gt-PLACES.false,
-    c.put-else-count-gt-PLACES.ensures.end, c.put_zeros-end.ensures.end, c.put-end-else-count-gt-PLACES.ensures.end)
+    omega (
+      arith,
+      length-text_fraction c.args.digits.now c.args.zeros c.if-zeros-ge-PLACES.false c.if-count-gt-PLACES.false,
+      c.put-else-count-gt-PLACES.ensures.end,
+      c.put_zeros-end.ensures.end,
+      c.put-end-else-count-gt-PLACES.ensures.end,
+    )

@@ -1,7 +1,6 @@
-use Rattle.std.proofs.Common.{◌≡◌, ◌≤◌, ◌<◌, ◌+◌, ◌++◌, ℕ, List, length, length-append, sym, ap, ◌∙◌, arith}
+use Rattle.std.proofs.Common.{◌≡◌, ◌++◌, ℕ, length-append, sym, ap, ◌∙◌, arith}
 use Rattle.std.specs.Str.Parse.{AllDigits, digits_value, digits_value_after}
-use Rattle.alt_decimal.specs.Coefficient.{Trims}
-use Rattle.alt_decimal.proofs.Values.{value_append, AllDigits-front, AllDigits-back, HasRoom, HasRoom-front, HasRoom-back, HasRoom-few}
+use Rattle.alt_decimal.proofs.Values.{value_append, AllDigits-front, AllDigits-back, HasRoom-back, HasRoom-few}
 use Rattle.alt_decimal.proofs.Coefficients.{all_trimmed, many_trimmed, coefficient_trimmed}
 use Rattle.alt_decimal.proofs.read.coefficient.Goals as goal
 
@@ -23,7 +22,7 @@ append-requires-else-w-f-gt38-clause-room c =
     let w = c.trimmed-behind.result.0.now in
     let f = c.trimmed-behind.result.1.now in
     let front : AllDigits 10 w =
-        AllDigits-front w f (all_trimmed _ _ _ _ _ c.trimmed-behind.ensures c.requires.whole_digits c.requires.fraction_digits) in
+    AllDigits-front w f (all_trimmed _ _ _ _ _ c.trimmed-behind.ensures c.requires.whole_digits c.requires.fraction_digits) in
     rw c.append.ensures (HasRoom-back 0 w f front (HasRoom-few (w ++ f) (omega (arith, length-append w f))))
 
 pub returns-then-w-f-gt38 : goal.returns-then-w-f-gt38
@@ -36,5 +35,5 @@ returns-else-w-f-gt38 c =
     let w = c.trimmed-behind.result.0.now in
     let f = c.trimmed-behind.result.1.now in
     let value : c.append-else-w-f-gt38.result ≡ digits_value 10 (w ++ f) =
-        c.append-else-w-f-gt38.ensures ∙ ap (λ (v : ℕ). digits_value_after 10 v f) c.append.ensures ∙ sym (value_append 0 w f) in
+    c.append-else-w-f-gt38.ensures ∙ ap (λ (v : ℕ). digits_value_after 10 v f) c.append.ensures ∙ sym (value_append 0 w f) in
     rw value (coefficient_trimmed _ _ w f _ c.trimmed-behind.ensures c.requires.whole_digits c.requires.fraction_digits (omega (arith, length-append w f)))

@@ -1,4 +1,4 @@
-use Rattle.std.proofs.Common.{◌≡◌, ◌∙◌, sym, ℕ, length, arith, rules}
+use Rattle.std.proofs.Common.{sym, length, arith}
 use Rattle.std.specs.Char.{is_ascii_digit}
 use Rattle.std.proofs.lemmas.List.Sums.{prefix_len_is}
 use Rattle.alt_decimal.proofs.read.digits_end.Goals as goal

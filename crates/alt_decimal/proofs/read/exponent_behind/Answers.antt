@@ -1,4 +1,4 @@
-use Rattle.std.proofs.Common.{◌≡◌, ◌∙◌, sym, ap, ℕ, length, arith, ◌<◌, Some, List}
+use Rattle.std.proofs.Common.{◌≡◌, ◌∙◌, sym, ap, ℕ, length, arith, Some, List}
 use Rattle.alt_decimal.specs.Reading.{sign_of, behind_sign, front_digits, behind_digits}
 use Rattle.std.proofs.lemmas.Bool.{eqb-true, eqb-false}
 use Rattle.alt_decimal.proofs.Exponents.{exponent_some}

@@ -1,4 +1,4 @@
-use Rattle.std.proofs.Common.{◌≡◌, ◌≤◌, ◌++◌, List, ℕ, length, subst, ◌∙◌, sym, arith}
+use Rattle.std.proofs.Common.{◌≡◌, ◌++◌, List, ℕ, ◌∙◌, arith}
 use Rattle.std.specs.Str.Parse.{AllDigits}
 use Rattle.alt_decimal.proofs.Trimming.{zeros}
 use Rattle.alt_decimal.proofs.Values.{AllDigits-back, HasRoom-few}

@@ -1,4 +1,4 @@
-use Rattle.std.proofs.Common.{◌≡◌, ◌<◌, ◌∙◌, ◌++◌, ◌+◌, ap, sym, arith, ℕ, length}
+use Rattle.std.proofs.Common.{◌<◌, ◌∙◌, ◌+◌, ap, sym, arith, ℕ, length}
 use Rattle.std.specs.Str.Parse.{digits_value}
 use Rattle.alt_decimal.specs.Number.{fitted}
 use Rattle.alt_decimal.proofs.Fitting.{number}

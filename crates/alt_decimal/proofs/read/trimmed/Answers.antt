@@ -1,4 +1,4 @@
-use Rattle.std.proofs.Common.{◌≡◌, ◌<◌, ◌-◌, length, ℕ, sym, arith}
+use Rattle.std.proofs.Common.{◌≡◌, ◌-◌, length, sym, arith}
 use Rattle.std.proofs.lemmas.Bool.{eqb-true, eqb-false}
 use Rattle.alt_decimal.proofs.Trimming.{trims_whole, trims_fraction, trims_both}
 use Rattle.alt_decimal.proofs.read.trimmed.Goals as goal

@@ -1,6 +1,6 @@
-use Rattle.std.proofs.Common.{◌≡◌, ◌≤◌, ◌^◌, ◌%◌, ◌<◌, ◌+◌, ◌-◌, ℕ, sym, ◌∙◌, ap, arith, Ok}
+use Rattle.std.proofs.Common.{◌≤◌, ◌^◌, ◌%◌, ◌<◌, ℕ, sym, ◌∙◌, ap, arith, Ok}
 use Rattle.alt_decimal.specs.Number.{with_sign}
-use Rattle.alt_decimal.specs.Digits.{width, digit_count}
+use Rattle.alt_decimal.specs.Digits.{digit_count}
 use Rattle.alt_decimal.proofs.Widths.{width-le, width-pos}
 use Rattle.alt_decimal.proofs.Magnitudes.{IsNormal-from, digit_count-trimmed}
 use Rattle.alt_decimal.proofs.Fitting.{fitted-large, fitted-small, fitted-ok, ok_units}

@@ -1,4 +1,4 @@
-use Rattle.std.proofs.Common.{◌≡◌, ◌*◌, ◌+◌, ◌^◌, ℕ, ◌∙◌, sym, ap, arith}
+use Rattle.std.proofs.Common.{◌+◌, ℕ, ◌∙◌, sym, ap}
 use Rattle.alt_decimal.specs.Number.{with_sign, fitted_units}
 use Rattle.alt_decimal.proofs.Widths.{mul-zeros}
 use Rattle.alt_decimal.proofs.Fitting.{fitted_units-mul}

@@ -1,4 +1,4 @@
-use Rattle.std.proofs.Common.{◌≡◌, ap, ◌∙◌, sym, arith}
+use Rattle.std.proofs.Common.{arith}
 use Rattle.alt_decimal.proofs.Signs.{scaled_same, scaled_unlike, scaled_unlike_second}
 use Rattle.alt_decimal.proofs.sum.signed_sum.Goals as goal
 

@@ -1,5 +1,5 @@
-use Rattle.std.proofs.Common.{◌≡◌, ◌*◌, ◌+◌, ◌^◌, ℕ, ◌∙◌, sym, ap, arith}
-use Rattle.alt_decimal.specs.Number.{with_sign, fitted_units}
+use Rattle.std.proofs.Common.{◌^◌, ◌∙◌, sym, ap}
+use Rattle.alt_decimal.specs.Number.{fitted_units}
 use Rattle.alt_decimal.proofs.Totals.{many_widened, many_sum, sum_at-widened}
 use Rattle.alt_decimal.proofs.sum.total.Goals as goal
 

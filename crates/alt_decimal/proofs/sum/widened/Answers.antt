@@ -1,4 +1,4 @@
-use Rattle.std.proofs.Common.{◌≡◌, ◌≤◌, ◌*◌, ◌^◌, arith}
+use Rattle.std.proofs.Common.{◌≤◌, ◌*◌, ◌^◌, arith}
 use Rattle.std.proofs.Math.Nat.{mul-le-mul_right}
 use Rattle.alt_decimal.proofs.Widths.{ten_pow-le}
 use Rattle.alt_decimal.proofs.sum.widened.Goals as goal

@@ -1,13 +1,12 @@
 -- An item's entries, at the place of a name: look-ups, and what a change there leaves.
-use Rattle.std.proofs.Common.{◌≡◌, refl, sym, ap, subst, ◌∙◌, ℕ, zero, suc, ◌+◌, ◌<◌, ◌≤◌, Bool, true, false, cond, not, ◌&&◌, T, List, [], ◌∷◌, ◌++◌, length, get_or, set, take, drop, map, Option, Some, None, inl, inr, arith}
-use Rattle.std.specs.List.{insert, remove, filter}
+use Rattle.std.proofs.Common.{◌≡◌, refl, sym, ap, ◌∙◌, ℕ, zero, suc, ◌+◌, ◌<◌, ◌≤◌, Bool, true, false, cond, not, T, List, [], ◌∷◌, length, get_or, set, map, Some, None, inl, inr, arith}
+use Rattle.std.specs.List.{insert, remove}
 use Rattle.std.proofs.lemmas.List.{get_or_default}
 use Rattle.std.proofs.lemmas.Bool.{cases_order}
-use Rattle.std.specs.declared.cmp.Ordering.{Ordering}
 use Rattle.std.specs.declared.cmp.Ordering.TheVariants.{Less, Equal, Greater}
-use Rattle.std.specs.Ordering.{is_lt, is_eq, eq_by_cmp, ordering_index, ordering_reverse}
+use Rattle.std.specs.Ordering.{eq_by_cmp}
 use Rattle.std.specs.Cmp.{tied_itself}
-use Rattle.std.specs.FinMap.Entries.{by_order, find, put, where_key, below_all, is_sorted, is_sorted-put, is_sorted-where_key}
+use Rattle.std.specs.FinMap.Entries.{by_order, where_key, below_all, is_sorted, is_sorted-put, is_sorted-where_key}
 use Rattle.alt_value.specs.declared.attr.Attr.{Attr}
 use Rattle.alt_value.specs.declared.attr.Pair.{Pair as Entry}
 use Rattle.alt_value.specs.Members.{text_order}
@@ -15,7 +14,7 @@ use Rattle.alt_value.specs.Tree.{Tree, Pair}
 use Rattle.alt_value.specs.Stands.{tree_of, pair_of}
 use Rattle.alt_value.specs.Item.{IsItem, at_name, with_pair, without}
 use Rattle.alt_value.specs.Place.{StandsAt, GoesTo}
-use Rattle.alt_value.proofs.Places.{first, second, both, less, is_less, turned, less_tied, Rises, before_tied}
+use Rattle.alt_value.proofs.Places.{first, second, both, less, is_less, turned, Rises, before_tied}
 use Rattle.alt_value.proofs.Texts.{text_total, text_apart}
 
 abbrev name_of : Entry → List ℕ

@@ -1,5 +1,5 @@
 -- Lists of trees and of pairs, within trees.
-use Rattle.std.proofs.Common.{◌≡◌, refl, ap, ℕ, suc, List, [], ◌∷◌, length}
+use Rattle.std.proofs.Common.{◌≡◌, refl, ap, List, [], ◌∷◌}
 use Rattle.alt_value.specs.Tree.{Tree, Pair, trees_of, fields_of, elements, pairs}
 
 pub elements-trees_of : (ts : List Tree) → elements (trees_of ts) ≡ ts

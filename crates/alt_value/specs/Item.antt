@@ -1,5 +1,5 @@
 -- Items, and maps within values, as lists of pairs with rising names.
-use Rattle.std.specs.Prelude.{ℕ, Bool, not, T, List, [], Option}
+use Rattle.std.specs.Prelude.{ℕ, not, T, List, [], Option}
 use Rattle.std.specs.Ordering.{eq_by_cmp}
 use Rattle.std.specs.FinMap.Entries.{find, put, where_key, below_all, is_sorted}
 use Rattle.alt_value.specs.Members.{text_order}

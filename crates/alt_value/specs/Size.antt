@@ -1,5 +1,5 @@
 -- How large a value is, and how deep. Sizes count bytes as DynamoDB's Developer Guide does ("DynamoDB item sizes and formats").
-use Rattle.std.specs.Prelude.{ℕ, suc, ◌+◌, ◌-◌, nat_le, if◌then◌else◌, Option, Some, None, ◌/◌, max, ℤ, nat_abs, List, [], ◌∷◌, length, sum_by}
+use Rattle.std.specs.Prelude.{ℕ, suc, ◌+◌, ◌-◌, nat_le, if◌then◌else◌, Option, Some, None, ◌/◌, max, ℤ, nat_abs, List, length, sum_by}
 use Rattle.alt_decimal.specs.Digits.{digit_count}
 use Rattle.alt_value.specs.Tree.{Tree, S_tree, N_tree, B_tree, BOOL_tree, NULL_tree, SS_tree, NS_tree, BS_tree, L_tree, M_tree, Trees, no_trees, tree_then, Fields, no_fields, field_then, Pair, fields_of, elements, pairs}
 

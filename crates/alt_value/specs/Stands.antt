@@ -1,5 +1,4 @@
 -- The tree that a value stands for.
-use Rattle.std.specs.Prelude.{ℕ, List, map}
 use Rattle.alt_value.specs.declared.attr.Attr.{Attr}
 use Rattle.alt_value.specs.declared.attr.Attr.TheVariants.{S, N, B, Bool, Null, Ss, Ns, Bs, L, M}
 use Rattle.alt_value.specs.declared.attr.Pair.{Pair as Entry}

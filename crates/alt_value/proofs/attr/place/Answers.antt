@@ -1,6 +1,5 @@
 -- Each look halves what is left, and keeps the names before it below and those after it above.
-use Rattle.std.proofs.Common.{◌≡◌, sym, ap, ◌∙◌, ◌<◌, ◌≤◌, length, arith}
-use Rattle.std.specs.declared.cmp.Ordering.TheVariants.{Less, Equal, Greater}
+use Rattle.std.proofs.Common.{sym, ap, ◌∙◌, arith}
 use Rattle.alt_value.specs.Members.{text_order}
 use Rattle.alt_value.proofs.Entries.{before_more, after_more, stands_here}
 use Rattle.alt_value.proofs.attr.place.Goals as goal

@@ -1,5 +1,4 @@
-use Rattle.std.proofs.Common.{◌≡◌, refl, sym, ap, ◌∙◌, map, true, false, arith}
-use Rattle.std.specs.Prelude.{IsTrue}
+use Rattle.std.proofs.Common.{◌≡◌, refl, sym, ap, ◌∙◌, map, arith}
 use Rattle.alt_value.specs.Tree.{L_tree, M_tree, trees_of, fields_of}
 use Rattle.alt_value.specs.Stands.{tree_of, pair_of}
 use Rattle.alt_value.proofs.Same.{same_list, same_map}

@@ -1,6 +1,5 @@
 -- Where what is left is equal, the whole is.
-use Rattle.std.proofs.Common.{◌≡◌, drop, map, length}
-use Rattle.alt_value.specs.Stands.{tree_of, pair_of}
+use Rattle.std.proofs.Common.{◌≡◌, drop}
 use Rattle.alt_value.proofs.compare.+equal.Given as goal
 
 abbrev pub invariant-same_elements-loop-i : goal.invariant-same_elements-loop-i

@@ -1,6 +1,5 @@
 -- Sets are equal as their lists of members.
 use Rattle.std.proofs.Common.{◌≡◌, sym, ap, ◌∙◌}
-use Rattle.std.specs.Prelude.{IsTrue}
 use Rattle.alt_value.specs.Tree.{NS_tree}
 use Rattle.alt_value.specs.Stands.{tree_of}
 use Rattle.alt_value.proofs.Same.{numbers_decide}

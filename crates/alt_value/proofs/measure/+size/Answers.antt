@@ -1,7 +1,7 @@
 -- A list or a map takes 3, 1 for each element, and then its elements.
-use Rattle.std.proofs.Common.{◌≡◌, sym, ap, ◌∙◌, ◌+◌, length}
-use Rattle.alt_value.specs.Tree.{trees_of, fields_of, elements, pairs}
-use Rattle.alt_value.specs.Size.{elements_size, fields_size, left_after}
+use Rattle.std.proofs.Common.{◌∙◌, ◌+◌}
+use Rattle.alt_value.specs.Tree.{trees_of, fields_of}
+use Rattle.alt_value.specs.Size.{elements_size, fields_size}
 use Rattle.alt_value.proofs.Budget.{left_short, left_on}
 use Rattle.alt_value.proofs.Trees.{elements-trees_of, pairs-fields_of}
 use Rattle.alt_value.proofs.measure.+size.Goals as goal

@@ -1,4 +1,4 @@
-use Rattle.std.proofs.Common.{◌≡◌, drop, length}
+use Rattle.std.proofs.Common.{◌≡◌, drop}
 use Rattle.std.specs.List.{sum_by}
 use Rattle.alt_value.specs.Size.{left_after, number_size}
 use Rattle.alt_value.proofs.measure.left_of_numbers.Given as goal

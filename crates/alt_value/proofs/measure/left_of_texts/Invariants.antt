@@ -1,6 +1,6 @@
 use Rattle.std.proofs.Common.{◌≡◌, drop, length}
 use Rattle.std.specs.List.{sum_by}
-use Rattle.alt_value.specs.Size.{left_after, number_size}
+use Rattle.alt_value.specs.Size.{left_after}
 use Rattle.alt_value.proofs.measure.left_of_texts.Given as goal
 
 abbrev pub invariant-loop-member : goal.invariant-loop-member

@@ -1,8 +1,8 @@
 -- The search finds the entry of the name, or that there is none.
-use Rattle.std.proofs.Common.{◌≡◌, sym, ap, subst, ◌∙◌, map, Some}
+use Rattle.std.proofs.Common.{sym, ap, ◌∙◌, Some}
 use Rattle.alt_value.specs.declared.attr.Pair.{Pair}
-use Rattle.alt_value.specs.Stands.{tree_of, pair_of}
-use Rattle.alt_value.specs.Item.{IsItem, at_name, with_pair, without}
+use Rattle.alt_value.specs.Stands.{tree_of}
+use Rattle.alt_value.specs.Item.{at_name}
 use Rattle.alt_value.proofs.Entries.{at_name-stands, at_name-goes}
 use Rattle.alt_value.proofs.attr.Item.get.Goals as goal
 

@@ -1,8 +1,8 @@
 -- The entries change at the one place of the name.
-use Rattle.std.proofs.Common.{◌≡◌, sym, ap, subst, ◌∙◌, map, Some}
+use Rattle.std.proofs.Common.{◌≡◌, sym, ap, subst, ◌∙◌, map}
 use Rattle.alt_value.specs.declared.attr.Pair.{Pair}
 use Rattle.alt_value.specs.Stands.{tree_of, pair_of}
-use Rattle.alt_value.specs.Item.{IsItem, at_name, with_pair, without}
+use Rattle.alt_value.specs.Item.{IsItem, with_pair}
 use Rattle.alt_value.proofs.Entries.{with_pair-stands, with_pair-goes, IsItem-with_pair}
 use Rattle.alt_value.proofs.attr.Item.put.Goals as goal
 use Rattle.std.proofs.Common.{refl}

@@ -2,7 +2,7 @@
 use Rattle.std.proofs.Common.{◌≡◌, sym, ap, subst, ◌∙◌, map, Some}
 use Rattle.alt_value.specs.declared.attr.Pair.{Pair}
 use Rattle.alt_value.specs.Stands.{tree_of, pair_of}
-use Rattle.alt_value.specs.Item.{IsItem, at_name, with_pair, without}
+use Rattle.alt_value.specs.Item.{IsItem, at_name, without}
 use Rattle.alt_value.proofs.Entries.{at_name-stands, at_name-goes, without-stands, without-goes, IsItem-without}
 use Rattle.alt_value.proofs.attr.Item.remove.Goals as goal
 

@@ -1,7 +1,7 @@
 -- The search finds the member, or the one place where it rises.
-use Rattle.std.proofs.Common.{◌≡◌, refl, sym, ap, subst, ◌∙◌, not, T, true, false}
+use Rattle.std.proofs.Common.{◌≡◌, sym, ap, subst, ◌∙◌, not, T, false}
 use Rattle.std.specs.List.{insert}
-use Rattle.alt_value.specs.Members.{IsSet, is_rising, text_order, has_member, with_member}
+use Rattle.alt_value.specs.Members.{is_rising, text_order, has_member, with_member}
 use Rattle.alt_value.proofs.Places.{found, missed, is_rising-with_member}
 use Rattle.alt_value.proofs.Texts.{text_total}
 use Rattle.alt_value.proofs.bytes_set.BytesSet.add.Goals as goal

@@ -1,7 +1,7 @@
 -- The search finds the member, or the one place where it rises.
-use Rattle.std.proofs.Common.{◌≡◌, refl, sym, ap, subst, ◌∙◌, not, T, true, false}
+use Rattle.std.proofs.Common.{◌≡◌, refl, sym, ap, subst, ◌∙◌, not, T, false}
 use Rattle.std.specs.List.{insert}
-use Rattle.alt_value.specs.Members.{IsSet, is_rising, has_member, with_member}
+use Rattle.alt_value.specs.Members.{is_rising, has_member, with_member}
 use Rattle.alt_value.proofs.Places.{found, missed, is_rising-with_member}
 use Rattle.std.specs.Cmp.{int_cmp_total}
 use Rattle.std.specs.Ordering.{int_cmp}

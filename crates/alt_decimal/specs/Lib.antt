@@ -1,0 +1,10 @@
+pub mod Coefficient
+pub mod Digits
+pub mod Form
+pub mod Layout
+pub mod Normal
+pub mod Number
+pub mod NumberText
+pub mod Printed
+pub mod Reading
+pub mod Spelled

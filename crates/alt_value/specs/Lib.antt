@@ -1,0 +1,9 @@
+pub mod Item
+pub mod Members
+pub mod Order
+pub mod Place
+pub mod Size
+pub mod Stands
+pub mod Tree
+pub mod TreeCode
+pub mod TreeFalls

@@ -1,0 +1,165 @@
+-- How the logic stores a tree: as a tree of numbers that gives it back.
+use Rattle.std.specs.Prelude.{ℕ, zero, suc, ◌≡◌, refl, ℤ, pos, negsuc, Bool, true, false, List, [], ◌∷◌}
+use Rattle.std.specs.Coded.{Coded, code_by, coded_ℕ, coded_list, coded×}
+use Rattle.std.proofs.Common.{ap}
+use base.Stored.{Gv, gnil, gnum, gcons}
+use denote.Struct.Codes.{itself}
+use Rattle.alt_value.specs.Tree.{Tree, S_tree, N_tree, B_tree, BOOL_tree, NULL_tree, SS_tree, NS_tree, BS_tree, L_tree, M_tree, Trees, no_trees, tree_then, Fields, no_fields, field_then, Pair}
+
+abbrev pub number_in : Gv → ℕ
+number_in gnil = 0
+number_in (gnum n) = n
+number_in (gcons a b) = 0
+
+abbrev pub code_bytes : List ℕ → Gv
+code_bytes [] = gnil
+code_bytes (n ∷ ns) = gcons (gnum n) (code_bytes ns)
+
+abbrev pub bytes_in : Gv → List ℕ
+bytes_in gnil = []
+bytes_in (gnum n) = []
+bytes_in (gcons a b) = number_in a ∷ bytes_in b
+
+bytes_in-code_bytes : (s : List ℕ) → bytes_in (code_bytes s) ≡ s
+bytes_in-code_bytes [] = refl
+bytes_in-code_bytes (n ∷ ns) = ap (λ (t : List ℕ). n ∷ t) (bytes_in-code_bytes ns)
+
+abbrev pub code_texts : List (List ℕ) → Gv
+code_texts [] = gnil
+code_texts (s ∷ ss) = gcons (code_bytes s) (code_texts ss)
+
+abbrev pub texts_in : Gv → List (List ℕ)
+texts_in gnil = []
+texts_in (gnum n) = []
+texts_in (gcons a b) = bytes_in a ∷ texts_in b
+
+texts_in-code_texts : (ss : List (List ℕ)) → texts_in (code_texts ss) ≡ ss
+texts_in-code_texts [] = refl
+texts_in-code_texts (s ∷ ss) = λ i. bytes_in-code_bytes s i ∷ texts_in-code_texts ss i
+
+abbrev pub code_whole : ℤ → Gv
+code_whole (pos n) = gcons gnil (gnum n)
+code_whole (negsuc n) = gcons (gnum 1) (gnum n)
+
+abbrev pub signed_by : Gv → ℕ → ℤ
+signed_by gnil n = pos n
+signed_by (gnum k) n = negsuc n
+signed_by (gcons a b) n = negsuc n
+
+abbrev pub whole_in : Gv → ℤ
+whole_in gnil = pos 0
+whole_in (gnum n) = pos 0
+whole_in (gcons a b) = signed_by a (number_in b)
+
+whole_in-code_whole : (z : ℤ) → whole_in (code_whole z) ≡ z
+whole_in-code_whole (pos n) = refl
+whole_in-code_whole (negsuc n) = refl
+
+abbrev pub code_wholes : List ℤ → Gv
+code_wholes [] = gnil
+code_wholes (z ∷ zs) = gcons (code_whole z) (code_wholes zs)
+
+abbrev pub wholes_in : Gv → List ℤ
+wholes_in gnil = []
+wholes_in (gnum n) = []
+wholes_in (gcons a b) = whole_in a ∷ wholes_in b
+
+wholes_in-code_wholes : (zs : List ℤ) → wholes_in (code_wholes zs) ≡ zs
+wholes_in-code_wholes [] = refl
+wholes_in-code_wholes (z ∷ zs) = λ i. whole_in-code_whole z i ∷ wholes_in-code_wholes zs i
+
+abbrev pub code_truth : Bool → Gv
+code_truth false = gnil
+code_truth true = gnum 1
+
+abbrev pub truth_in : Gv → Bool
+truth_in gnil = false
+truth_in (gnum n) = true
+truth_in (gcons a b) = true
+
+truth_in-code_truth : (b : Bool) → truth_in (code_truth b) ≡ b
+truth_in-code_truth true = refl
+truth_in-code_truth false = refl
+
+abbrev mutual
+  pub code_tree : Tree → Gv
+  code_tree (S_tree s) = gcons (gnum 0) (code_bytes s)
+  code_tree (N_tree z) = gcons (gnum 1) (code_whole z)
+  code_tree (B_tree b) = gcons (gnum 2) (code_bytes b)
+  code_tree (BOOL_tree b) = gcons (gnum 3) (code_truth b)
+  code_tree NULL_tree = gcons (gnum 4) gnil
+  code_tree (SS_tree ss) = gcons (gnum 5) (code_texts ss)
+  code_tree (NS_tree zs) = gcons (gnum 6) (code_wholes zs)
+  code_tree (BS_tree bs) = gcons (gnum 7) (code_texts bs)
+  code_tree (L_tree ts) = gcons (gnum 8) (code_trees ts)
+  code_tree (M_tree fs) = gcons (gnum 9) (code_fields fs)
+
+  code_trees : Trees → Gv
+  code_trees no_trees = gnil
+  code_trees (tree_then t ts) = gcons (code_tree t) (code_trees ts)
+
+  code_fields : Fields → Gv
+  code_fields no_fields = gnil
+  code_fields (field_then name t fs) = gcons (code_bytes name) (gcons (code_tree t) (code_fields fs))
+
+-- the tree of that kind, by its number
+abbrev pub of_kind : ℕ → Gv → Trees → Fields → Tree
+of_kind zero g ts fs = S_tree (bytes_in g)
+of_kind (suc zero) g ts fs = N_tree (whole_in g)
+of_kind (suc (suc zero)) g ts fs = B_tree (bytes_in g)
+of_kind (suc (suc (suc zero))) g ts fs = BOOL_tree (truth_in g)
+of_kind (suc (suc (suc (suc zero)))) g ts fs = NULL_tree
+of_kind (suc (suc (suc (suc (suc zero))))) g ts fs = SS_tree (texts_in g)
+of_kind (suc (suc (suc (suc (suc (suc zero)))))) g ts fs = NS_tree (wholes_in g)
+of_kind (suc (suc (suc (suc (suc (suc (suc zero))))))) g ts fs = BS_tree (texts_in g)
+of_kind (suc (suc (suc (suc (suc (suc (suc (suc zero)))))))) g ts fs = L_tree ts
+of_kind (suc (suc (suc (suc (suc (suc (suc (suc (suc n))))))))) g ts fs = M_tree fs
+
+abbrev mutual
+  pub tree_in : Gv → Tree
+  tree_in gnil = NULL_tree
+  tree_in (gnum n) = NULL_tree
+  tree_in (gcons a b) = of_kind (number_in a) b (trees_in b) (fields_in b)
+
+  trees_in : Gv → Trees
+  trees_in gnil = no_trees
+  trees_in (gnum n) = no_trees
+  trees_in (gcons a b) = tree_then (tree_in a) (trees_in b)
+
+  fields_in : Gv → Fields
+  fields_in gnil = no_fields
+  fields_in (gnum n) = no_fields
+  fields_in (gcons a b) = fields_behind (bytes_in a) b
+
+  fields_behind : List ℕ → Gv → Fields
+  fields_behind name gnil = no_fields
+  fields_behind name (gnum n) = no_fields
+  fields_behind name (gcons a b) = field_then name (tree_in a) (fields_in b)
+
+mutual
+  pub tree_in-code_tree : (t : Tree) → tree_in (code_tree t) ≡ t
+  tree_in-code_tree (S_tree s) = ap S_tree (bytes_in-code_bytes s)
+  tree_in-code_tree (N_tree z) = ap N_tree (whole_in-code_whole z)
+  tree_in-code_tree (B_tree b) = ap B_tree (bytes_in-code_bytes b)
+  tree_in-code_tree (BOOL_tree b) = ap BOOL_tree (truth_in-code_truth b)
+  tree_in-code_tree NULL_tree = refl
+  tree_in-code_tree (SS_tree ss) = ap SS_tree (texts_in-code_texts ss)
+  tree_in-code_tree (NS_tree zs) = ap NS_tree (wholes_in-code_wholes zs)
+  tree_in-code_tree (BS_tree bs) = ap BS_tree (texts_in-code_texts bs)
+  tree_in-code_tree (L_tree ts) = ap L_tree (trees_in-code_trees ts)
+  tree_in-code_tree (M_tree fs) = ap M_tree (fields_in-code_fields fs)
+
+  trees_in-code_trees : (ts : Trees) → trees_in (code_trees ts) ≡ ts
+  trees_in-code_trees no_trees = refl
+  trees_in-code_trees (tree_then t ts) = λ i. tree_then (tree_in-code_tree t i) (trees_in-code_trees ts i)
+
+  fields_in-code_fields : (fs : Fields) → fields_in (code_fields fs) ≡ fs
+  fields_in-code_fields no_fields = refl
+  fields_in-code_fields (field_then name t fs) =
+      λ i. field_then (bytes_in-code_bytes name i) (tree_in-code_tree t i) (fields_in-code_fields fs i)
+
+abbrev pub coded_tree : Coded Tree
+coded_tree = code_by Gv itself code_tree tree_in tree_in-code_tree
+
+abbrev pub coded_pair : Coded Pair
+coded_pair = coded× (coded_list coded_ℕ) coded_tree

@@ -1,0 +1,234 @@
+//! Values of the ten kinds, and the lists and items that hold values.
+//!
+//! The four types hold one another. Each is seen through its tree: a list as its elements' trees, an item as its pairs.
+
+ghost use Rattle.std.specs.Prelude.{◌≡◌, [], ◌∷◌, ◌++◌, ◌<◌, length, slice_get, option_map, map, slice_set, slice_index_or, vec_len, IfOk, OnOk, OnErr, MatchResult};
+ghost use Rattle.alt_value.specs.Stands.{tree_of, pair_of};
+ghost use Rattle.alt_value.specs.Item.{IsItem, at_name, with_pair, without};
+ghost use Rattle.alt_value.specs.Members.{text_order};
+ghost use Rattle.alt_value.specs.declared.attr.Pair.{Pair as Entry};
+ghost use Rattle.alt_value.specs.Place.{StandsAt, GoesTo};
+
+use crate::{BytesSet, NumberSet, Text, TextSet};
+use alt_base::NoMemory;
+use alt_decimal::Decimal;
+use alt_fields::Bytes;
+use std::alloc::Global;
+use std::cmp::Ordering;
+use std::marker::Model;
+
+/// A value (DynamoDB API Reference, "AttributeValue"). No set in a value that is stored or sent is empty.
+#[cycle(attr)]
+#[derive(Drop)]
+pub enum Attr {
+    S(Text),
+    N(Decimal),
+    B(Bytes),
+    Bool(bool),
+    Null,
+    Ss(TextSet),
+    Ns(NumberSet),
+    Bs(BytesSet),
+    L(AttrList),
+    M(Item),
+}
+
+/// The elements of a list.
+#[cycle(attr)]
+#[derive(Drop)]
+pub struct AttrList {
+    pub(crate) elements: Vec<Attr>,
+}
+
+#[cycle(attr)]
+#[derive(Drop)]
+pub(crate) struct Pair {
+    pub(crate) name: Text,
+    pub(crate) value: Attr,
+}
+
+/// An item, or a map within a value: names that aren't empty, each with a value, in the byte order of the names.
+#[cycle(attr)]
+#[derive(Drop)]
+pub struct Item {
+    pub(crate) entries: Vec<Pair>,
+}
+
+impl Model for AttrList {
+    ghost use Rattle.std.specs.Prelude.{List, map};
+    ghost use Rattle.alt_value.specs.Tree.{Tree};
+    ghost use Rattle.std.specs.Coded.{coded_list};
+    ghost use Rattle.alt_value.specs.TreeCode.{coded_tree};
+
+    ghost Value = { List Tree };
+
+    ghost coded = { coded_list coded_tree };
+
+    ghost use Rattle.alt_value.specs.Stands.{tree_of};
+    ghost use Rattle.alt_value.specs.Tree.{trees_of};
+    ghost use Rattle.alt_value.specs.Size.{elements_depth};
+
+    ghost view = { λ a. map tree_of a.elements.items };
+
+    ghost size = { λ ts. elements_depth (trees_of ts) };
+
+    ghost use Rattle.alt_value.specs.TreeFalls.{elements_fall};
+
+    ghost size_decreases = { λ a h. elements_fall a.elements.items };
+}
+
+impl Model for Item {
+    ghost use Rattle.std.specs.Prelude.{List, map};
+    ghost use Rattle.alt_value.specs.Tree.{Pair};
+    ghost use Rattle.std.specs.Coded.{coded_list};
+    ghost use Rattle.alt_value.specs.TreeCode.{coded_pair};
+
+    ghost Value = { List Pair };
+
+    ghost coded = { coded_list coded_pair };
+
+    ghost use Rattle.alt_value.specs.Stands.{pair_of};
+    ghost use Rattle.alt_value.specs.Tree.{fields_of};
+    ghost use Rattle.alt_value.specs.Size.{fields_depth};
+    ghost use Rattle.alt_value.specs.Item.{IsItem};
+
+    ghost view = { λ a. map pair_of a.entries.items };
+
+    ghost invariant = { λ a. IsItem (map pair_of a.entries.items) };
+
+    ghost size = { λ ps. fields_depth (fields_of ps) };
+
+    ghost use Rattle.alt_value.specs.TreeFalls.{fields_fall};
+
+    ghost size_decreases = { λ a h. fields_fall a.entries.items };
+}
+
+impl AttrList {
+    /// The list without elements.
+    pub fn new(alloc: Global) -> Self
+        ensures empty { result ≡ [] }
+    {
+        AttrList {
+            elements: Vec::new(alloc),
+        }
+    }
+
+    /// How many elements there are.
+    pub fn len(&self) -> usize
+        ensures count { result ≡ length self.now }
+    {
+        self.elements.len()
+    }
+
+    /// The element at that place, None exactly past the last.
+    pub fn get(&self, i: usize) -> Option<&Attr>
+        ensures element { option_map (λ a. tree_of a.now) result ≡ slice_get self.now i }
+    {
+        self.elements.get(i)
+    }
+
+    /// Appends an element.
+    pub fn push(&mut self, a: Attr) -> Result<(), NoMemory>
+        ensures ok { OnOk result (self.new ≡ self.old ++ tree_of a ∷ []) }
+        ensures err { OnErr result (self.new ≡ self.old) }
+    {
+        self.elements.push(a)?;
+        Ok(())
+    }
+}
+
+impl Item {
+    /// The item without attributes.
+    pub fn new(alloc: Global) -> Self
+        ensures empty { result ≡ [] }
+    {
+        Item {
+            entries: Vec::new(alloc),
+        }
+    }
+
+    /// How many attributes there are.
+    pub fn len(&self) -> usize
+        ensures count { result ≡ length self.now }
+        // What is true of each item.
+        ensures item { IsItem self.now }
+    {
+        self.entries.len()
+    }
+
+    /// The pair at that place in name order, None exactly past the last.
+    pub fn at(&self, i: usize) -> Option<(&str, &Attr)>
+        ensures pair { option_map (λ p. (p.0.now, tree_of p.1.now)) result ≡ slice_get self.now i }
+    {
+        match self.entries.get(i) {
+            Some(entry) => Some((entry.name.as_str(), &entry.value)),
+            None => None,
+        }
+    }
+
+    /// The value of that name, None exactly where no attribute has the name.
+    pub fn get(&self, name: &str) -> Option<&Attr>
+        ensures value { option_map (λ a. tree_of a.now) result ≡ at_name name.now self.now }
+    {
+        match place(&self.entries, name) {
+            Ok(i) => Some(&self.entries[i].value),
+            Err(_) => None,
+        }
+    }
+
+    /// Puts a value at a name that isn't empty, in the place of the value that was there.
+    pub fn put(&mut self, name: &str, a: Attr) -> Result<(), NoMemory>
+        requires { 0 < length name.now }
+        ensures ok { OnOk result (self.new ≡ with_pair name.now (tree_of a) self.old) }
+        ensures err { OnErr result (self.new ≡ self.old) }
+    {
+        match place(&self.entries, name) {
+            Ok(i) => replace(&mut self.entries, i, a),
+            Err(i) => {
+                let name = Text::new(*self.entries.allocator(), name)?;
+                self.entries.insert(i, Pair { name, value: a })?;
+            }
+        }
+        Ok(())
+    }
+
+    /// Takes a name out and gives its value, None exactly where no attribute has the name, and then the item stays.
+    pub fn remove(&mut self, name: &str) -> Option<Attr>
+        ensures value { option_map tree_of result ≡ at_name name.now self.old }
+        ensures rest { self.new ≡ without name.now self.old }
+    {
+        match place(&self.entries, name) {
+            Ok(i) => {
+                let Pair { name: _, value } = self.entries.remove(i);
+                Some(value)
+            }
+            Err(_) => None,
+        }
+    }
+}
+
+/// Where a name stands, or where it is to go.
+fn place(entries: &Vec<Pair>, name: &str) -> Result<usize, usize>
+    requires { IsItem (map pair_of entries.now.items) }
+    ensures { MatchResult result (StandsAt name.now entries.now.items) (GoesTo name.now entries.now.items) }
+{
+    let mut low = 0;
+    let mut high = entries.len();
+    while low < high {
+        let middle = low + (high - low) / 2;
+        match entries[middle].name.as_str().cmp(name) {
+            Ordering::Less => low = middle + 1,
+            Ordering::Equal => return Ok(middle),
+            Ordering::Greater => high = middle,
+        }
+    }
+    Err(low)
+}
+
+/// Puts a value in the place of the one that stands there.
+fn replace(entries: &mut Vec<Pair>, i: usize, a: Attr)
+    requires { i < vec_len entries.old }
+    ensures { (d : Entry) → entries.new.items ≡ slice_set entries.old.items i (record (slice_index_or entries.old.items i d) { value = a }) }
+{
+    entries[i].value = a;
+}

@@ -1,0 +1,25 @@
+//! Values and items: DynamoDB's ten kinds of attribute values, in memory.
+#![tactic(auto)]
+
+mod attr;
+mod bytes_set;
+mod compare;
+mod copies;
+mod kind;
+mod measure;
+mod number_set;
+mod text;
+mod text_set;
+
+pub use attr::{Attr, AttrList, Item};
+pub use bytes_set::BytesSet;
+pub use compare::{equal, order};
+pub use copies::copy;
+pub use kind::KeyKind;
+pub use measure::{depth_within, item_size_within, size_within};
+pub use number_set::NumberSet;
+pub use text::Text;
+pub use text_set::TextSet;
+
+#[cfg(test)]
+mod tests;

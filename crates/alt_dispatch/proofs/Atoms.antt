@@ -3,11 +3,13 @@ use Rattle.std.proofs.Common.{◌≡◌, ℕ, List, [], ◌∷◌, Bool, true, f
 use Rattle.std.specs.Prelude.{◌&&◌, codes}
 use Rattle.std.proofs.lemmas.Cmp.{nat_list_cmp_total}
 use Rattle.std.specs.Cmp.Lexicographic.{slice_cmp}
-use Rattle.std.proofs.lemmas.Map.Text.{is_eq-slice_cmp}
+use Rattle.std.proofs.lemmas.Bool.{eqb-true}
+use Rattle.std.specs.Coded.{coded_list}
+use base.Stored.{Gv, gnil, gnum, gcons}
+use Rattle.alt_value.specs.TreeCode.{coded_pair}
 use Rattle.std.specs.FinMap as finite
 use Rattle.std.specs.FinMap.{get, insert, get-insert, nat_cmp-IsAntisymmetric, slice_cmp-IsAntisymmetric}
-use Rattle.std.specs.Str.{bytes_eq}
-use Rattle.alt_value.specs.Tree.{Tree, text, Pairs}
+use Rattle.alt_value.specs.Tree.{Pair}
 use Rattle.alt_machine.specs.declared.Operation.{Operation}
 use Rattle.alt_machine.specs.declared.Operation.TheVariants.{CreateTable, PutItem, GetItem}
 use Rattle.alt_machine.specs.declared.Refusal.TheVariants.{E5}
@@ -22,36 +24,31 @@ use Rattle.alt_machine.specs.Outcomes.{Outcome, refuses, last_state}
 use Rattle.alt_machine.specs.Replies.{created}
 use Rattle.alt_machine.specs.State.{State, Described, Texts, with_table, with_item, new_table}
 use Rattle.alt_machine.specs.Step.{step, operates, with_body}
-use Rattle.alt_machine.specs.Writes.{same_value, same_item, is_there}
+use Rattle.alt_machine.specs.Writes.{same_code, same_item, is_there}
 use Rattle.alt_dispatch.proofs.Standing.{same_texts}
 
 both : (a b : Bool) → (a && b) ≡ true → (a ≡ true) × (b ≡ true)
 both true b h = (refl, h)
 both false b h = absurd (let f : ⊥ = cc in f)
 
-bytes_are : (xs ys : List ℕ) → bytes_eq xs ys ≡ true → xs ≡ ys
-bytes_are xs ys h = slice_cmp-IsAntisymmetric nat_cmp-IsAntisymmetric xs ys (equal_of (slice_cmp nat_cmp xs ys) (is_eq-slice_cmp xs ys ∙ h))
-  where
-    equal_of : (o : Ordering) → is_eq o ≡ true → o ≡ Equal
-    equal_of Less e = absurd (let f : ⊥ = cc in f)
-    equal_of Equal e = refl
-    equal_of Greater e = absurd (let f : ⊥ = cc in f)
+-- two codes that the test finds the same are equal
+code_is : (a b : Gv) → same_code a b ≡ true → a ≡ b
+code_is gnil gnil h = refl
+code_is gnil (gnum n) h = absurd (let f : ⊥ = cc in f)
+code_is gnil (gcons c d) h = absurd (let f : ⊥ = cc in f)
+code_is (gnum m) gnil h = absurd (let f : ⊥ = cc in f)
+code_is (gnum m) (gnum n) h = ap gnum (eqb-true m n h)
+code_is (gnum m) (gcons c d) h = absurd (let f : ⊥ = cc in f)
+code_is (gcons a b) gnil h = absurd (let f : ⊥ = cc in f)
+code_is (gcons a b) (gnum n) h = absurd (let f : ⊥ = cc in f)
+code_is (gcons a b) (gcons c d) h =
+    let parts = both (same_code a c) (same_code b d) h in
+    let first = code_is a c parts.0 in
+    let second = code_is b d parts.1 in
+    λ i. gcons (first i) (second i)
 
--- two values that the test finds the same are equal
-value_is : (s t : Tree) → same_value s t ≡ true → s ≡ t
-value_is (text s) (text t) h = ap text (bytes_are s t h)
-
-item_is : (ps qs : Pairs) → same_item ps qs ≡ true → ps ≡ qs
-item_is [] [] h = refl
-item_is [] (q ∷ qs) h = absurd (let f : ⊥ = cc in f)
-item_is (p ∷ ps) [] h = absurd (let f : ⊥ = cc in f)
-item_is (p ∷ ps) (q ∷ qs) h =
-    let names = both (bytes_eq p.0 q.0) (same_value p.1 q.1 && same_item ps qs) h in
-    let rest = both (same_value p.1 q.1) (same_item ps qs) names.1 in
-    let name = bytes_are p.0 q.0 names.0 in
-    let value = value_is p.1 q.1 rest.0 in
-    let others = item_is ps qs rest.1 in
-    λ i. (name i, value i) ∷ others i
+item_is : (ps qs : List Pair) → same_item ps qs ≡ true → ps ≡ qs
+item_is ps qs h = (coded_list coded_pair).inj ps qs (code_is ((coded_list coded_pair).code ps) ((coded_list coded_pair).code qs) h)
 
 -- what is put where it stands changes nothing
 insert-same : {X : Type 0} (m : Texts X) (k : List ℕ) (x : X) → get m k ≡ Some x → insert m k x ≡ m
@@ -63,7 +60,7 @@ insert-same {X} m k x there = same_texts (insert m k x) m (λ q. get-insert nat_
     at q Equal e = sym there ∙ ap (get m) (sym (slice_cmp-IsAntisymmetric nat_cmp-IsAntisymmetric q k e))
 
 -- a put of the item that is there leaves the state
-write-same : (s : State) (name key : List ℕ) (t : Described) (item : Pairs) → get s.tables name ≡ Some t → get t.items key ≡ Some item → with_table s name (with_item t key item) ≡ s
+write-same : (s : State) (name key : List ℕ) (t : Described) (item : (List Pair)) → get s.tables name ≡ Some t → get t.items key ≡ Some item → with_table s name (with_item t key item) ≡ s
 write-same s name key t item table there =
     let items = insert-same t.items key item there in
     let same : with_item t key item ≡ t = λ i. record { key = t.key; items = items i } in
@@ -83,8 +80,8 @@ ends-creates s moment (Some ask) =
     ends-cond s (finite.contains_key s.tables ask.0) (refuses s E5)
     (record { state = with_table s ask.0 (new_table ask.1); answer = created ask.0 ask.1 moment; atoms = with_table s ask.0 (new_table ask.1) ∷ [] }) refl refl
 
-module _ (s : State) (name : List ℕ) (item : Pairs) where
-  written : (t : Described) (key : List ℕ) (old : Option Pairs) → get s.tables name ≡ Some t → get t.items key ≡ old
+module _ (s : State) (name : List ℕ) (item : (List Pair)) where
+  written : (t : Described) (key : List ℕ) (old : Option (List Pair)) → get s.tables name ≡ Some t → get t.items key ≡ old
       → with_table s name (with_item t key item) ≡ last_state s (cond (is_there item old) [] (with_table s name (with_item t key item) ∷ []))
   written t key None table there = refl
   written t key (Some old) table there =
@@ -101,15 +98,15 @@ module _ (s : State) (name : List ℕ) (item : Pairs) where
   ends-puts_into None table = refl
   ends-puts_into (Some t) table = ends-puts_under t (key_in t.key item) table
 
-ends-puts : (s : State) (ask : Option (List ℕ × Pairs)) → EndsWithAtoms s (puts s ask)
+ends-puts : (s : State) (ask : Option (List ℕ × List Pair)) → EndsWithAtoms s (puts s ask)
 ends-puts s None = refl
 ends-puts s (Some ask) = ends-puts_into s ask.0 ask.1 (get s.tables ask.0) refl
 
-ends-gets_from : (s : State) (key : Pairs) (t : Option Described) → EndsWithAtoms s (gets_from s key t)
+ends-gets_from : (s : State) (key : (List Pair)) (t : Option Described) → EndsWithAtoms s (gets_from s key t)
 ends-gets_from s key None = refl
 ends-gets_from s key (Some t) = refl
 
-ends-gets : (s : State) (ask : Option (List ℕ × Pairs)) → EndsWithAtoms s (gets s ask)
+ends-gets : (s : State) (ask : Option (List ℕ × List Pair)) → EndsWithAtoms s (gets s ask)
 ends-gets s None = refl
 ends-gets s (Some ask) = ends-gets_from s ask.1 (get s.tables ask.0)
 

@@ -6,7 +6,7 @@ use Rattle.std.specs.Cmp.Lexicographic.{slice_cmp}
 use Rattle.std.specs.FinMap as finite
 use Rattle.serde_json.specs.Data.{Data, Members, no_members, member, put}
 use Rattle.serde_json.specs.Written.{has_float, members_have_float}
-use Rattle.alt_value.specs.Tree.{Tree, text, Pairs}
+use Rattle.alt_value.specs.Tree.{Tree, Pair, S_tree, N_tree, B_tree, BOOL_tree, NULL_tree, SS_tree, NS_tree, BS_tree, L_tree, M_tree}
 use Rattle.alt_machine.specs.declared.Operation.{Operation}
 use Rattle.alt_machine.specs.declared.Operation.TheVariants.{CreateTable, PutItem, GetItem}
 use Rattle.alt_machine.specs.declared.Refusal.TheVariants.{E5}
@@ -48,13 +48,22 @@ plain-put k d no_members p q = ap (λ b. b || false) p
 plain-put k d (member l e ms) p q = put_at (slice_cmp nat_cmp k l) k l d e ms p q (plain-put k d ms p (tail_plain (has_float e) (members_have_float ms) q))
 
 plain-tree : (t : Tree) → has_float (tree_data t) ≡ false
-plain-tree (text s) = refl
+plain-tree (S_tree s) = refl
+plain-tree (N_tree z) = refl
+plain-tree (B_tree b) = refl
+plain-tree (BOOL_tree b) = refl
+plain-tree NULL_tree = refl
+plain-tree (SS_tree ss) = refl
+plain-tree (NS_tree zs) = refl
+plain-tree (BS_tree bs) = refl
+plain-tree (L_tree ts) = refl
+plain-tree (M_tree fs) = refl
 
-plain-members_with : (ms : Members) (ps : Pairs) → members_have_float ms ≡ false → members_have_float (members_with ms ps) ≡ false
+plain-members_with : (ms : Members) (ps : (List Pair)) → members_have_float ms ≡ false → members_have_float (members_with ms ps) ≡ false
 plain-members_with ms [] h = h
 plain-members_with ms (p ∷ ps) h = plain-members_with (put p.0 (tree_data p.1) ms) ps (plain-put p.0 (tree_data p.1) ms (plain-tree p.1) h)
 
-plain-found : (o : Option Pairs) → has_float (found o).body ≡ false
+plain-found : (o : Option (List Pair)) → has_float (found o).body ≡ false
 plain-found None = refl
 plain-found (Some ps) = ap (λ b. b || false) (plain-members_with no_members ps refl)
 
@@ -67,19 +76,19 @@ plain-creates s moment None = refl
 plain-creates s moment (Some ask) =
     plain-cond (finite.contains_key s.tables ask.0) (refuses s E5) (record { state = with_table s ask.0 (new_table ask.1); answer = created ask.0 ask.1 moment; atoms = with_table s ask.0 (new_table ask.1) ∷ [] }) refl refl
 
-plain-puts_under : (s : State) (name : List ℕ) (item : Pairs) (t : Described) (k : Option (List ℕ)) → IsPlain (puts_under s name item t k)
+plain-puts_under : (s : State) (name : List ℕ) (item : (List Pair)) (t : Described) (k : Option (List ℕ)) → IsPlain (puts_under s name item t k)
 plain-puts_under s name item t None = refl
 plain-puts_under s name item t (Some k) = refl
 
-plain-puts_into : (s : State) (name : List ℕ) (item : Pairs) (t : Option Described) → IsPlain (puts_into s name item t)
+plain-puts_into : (s : State) (name : List ℕ) (item : (List Pair)) (t : Option Described) → IsPlain (puts_into s name item t)
 plain-puts_into s name item None = refl
 plain-puts_into s name item (Some t) = plain-puts_under s name item t (key_in t.key item)
 
-plain-puts : (s : State) (ask : Option (List ℕ × Pairs)) → IsPlain (puts s ask)
+plain-puts : (s : State) (ask : Option (List ℕ × List Pair)) → IsPlain (puts s ask)
 plain-puts s None = refl
 plain-puts s (Some ask) = plain-puts_into s ask.0 ask.1 (finite.get s.tables ask.0)
 
-plain-gets_from : (s : State) (key : Pairs) (t : Option Described) → IsPlain (gets_from s key t)
+plain-gets_from : (s : State) (key : (List Pair)) (t : Option Described) → IsPlain (gets_from s key t)
 plain-gets_from s key None = refl
 plain-gets_from s key (Some t) = plain-at (key_only t.key key)
   where
@@ -87,7 +96,7 @@ plain-gets_from s key (Some t) = plain-at (key_only t.key key)
     plain-at None = refl
     plain-at (Some k) = plain-found (finite.get t.items k)
 
-plain-gets : (s : State) (ask : Option (List ℕ × Pairs)) → IsPlain (gets s ask)
+plain-gets : (s : State) (ask : Option (List ℕ × List Pair)) → IsPlain (gets s ask)
 plain-gets s None = refl
 plain-gets s (Some ask) = plain-gets_from s ask.1 (finite.get s.tables ask.0)
 

@@ -9,7 +9,8 @@ use Rattle.std.specs.Str.{is_utf8, IsUtf8}
 use Rattle.std.proofs.lemmas.Str.{IsUtf8-from_is_utf8, is_utf8-from_IsUtf8}
 use Rattle.std.proofs.Common.{◌+◌, ◌≤◌, zero, suc, drop, get_or, drop-cons, add-one}
 use Rattle.serde_json.specs.Data.{Data, Members, member, put}
-use Rattle.alt_value.specs.Tree.{Tree, text, Pairs, put_pair}
+use Rattle.alt_value.specs.Tree.{Tree, S_tree, Pair}
+use Rattle.alt_value.specs.Item.{with_pair}
 use Rattle.alt_machine.specs.Forms.{attr_form, attributes_with}
 use Rattle.alt_machine.specs.Replies.{tree_data, members_with}
 use Rattle.serde_json.specs.Find.{as_object}
@@ -50,14 +51,14 @@ pub object_only_none : (d : Data) → is_some (as_object d) ≡ false → object
 object_only_none d h = ap (λ b. cond b (Some d) None) h
 
 -- one attribute more is put in
-pub attributes_more : (k s : List ℕ) (d : Data) (ms : Members) (ps : Pairs) → attr_form k d ≡ Some s
-    → attributes_with ps (member k d ms) ≡ attributes_with (put_pair k (text s) ps) ms
-attributes_more k s d ms ps e = ap (option_and_then (λ t. attributes_with (put_pair k (text t) ps) ms)) e
+pub attributes_more : (k s : List ℕ) (d : Data) (ms : Members) (ps : (List Pair)) → attr_form k d ≡ Some s
+    → attributes_with ps (member k d ms) ≡ attributes_with (with_pair k (S_tree s) ps) ms
+attributes_more k s d ms ps e = ap (option_and_then (λ t. attributes_with (with_pair k (S_tree t) ps) ms)) e
 
 -- a member that isn't an attribute
-pub attributes_none : (k : List ℕ) (d : Data) (ms : Members) (ps : Pairs) → attr_form k d ≡ None
+pub attributes_none : (k : List ℕ) (d : Data) (ms : Members) (ps : (List Pair)) → attr_form k d ≡ None
     → attributes_with ps (member k d ms) ≡ None
-attributes_none k d ms ps e = ap (option_and_then (λ t. attributes_with (put_pair k (text t) ps) ms)) e
+attributes_none k d ms ps e = ap (option_and_then (λ t. attributes_with (with_pair k (S_tree t) ps) ms)) e
 
 -- an attribute has a name
 pub named_attribute : (k : List ℕ) (d : Data) (s : List ℕ) → attr_form k d ≡ Some s → 0 < length k
@@ -65,24 +66,24 @@ named_attribute [] d s e = absurd (let f : ⊥ = cc in f)
 named_attribute (b ∷ bs) d s e = omega arith
 
 -- the members with one pair more put in
-pub members_more : (ms : Members) (ps : Pairs) (i : ℕ) (p : List ℕ × Tree) → i < length ps → Some p ≡ slice_get ps i
+pub members_more : (ms : Members) (ps : (List Pair)) (i : ℕ) (p : List ℕ × Tree) → i < length ps → Some p ≡ slice_get ps i
     → members_with ms (drop i ps) ≡ members_with (put p.0 (tree_data p.1) ms) (drop (i + 1) ps)
 members_more ms ps i p h e =
     let is : get_or ps i p ≡ p = got ps i p e in
     ap (members_with ms) (drop-cons ps i p h) ∙ ap (λ j. members_with (put (get_or ps i p).0 (tree_data (get_or ps i p).1) ms) (drop j ps)) (sym (add-one i))
     ∙ ap (λ (q : List ℕ × Tree). members_with (put q.0 (tree_data q.1) ms) (drop (i + 1) ps)) is
   where
-    got : (qs : Pairs) (j : ℕ) (q : List ℕ × Tree) → Some q ≡ slice_get qs j → get_or qs j q ≡ q
+    got : (qs : (List Pair)) (j : ℕ) (q : List ℕ × Tree) → Some q ≡ slice_get qs j → get_or qs j q ≡ q
     got [] j q e = refl
     got (r ∷ qs) zero q e = let f : q ≡ r = cc in sym f
     got (r ∷ qs) (suc j) q e = got qs j q e
 
 -- all pairs are in
-pub members_end : (ms : Members) (ps : Pairs) (i : ℕ) → length ps ≤ i → ms ≡ members_with ms (drop i ps)
+pub members_end : (ms : Members) (ps : (List Pair)) (i : ℕ) → length ps ≤ i → ms ≡ members_with ms (drop i ps)
 members_end ms ps i h = ap (members_with ms) (sym (drop_all i ps h))
 
 -- where there is no pair, the pairs are over
-pub past_end : (ps : Pairs) (i : ℕ) → None ≡ slice_get ps i → length ps ≤ i
+pub past_end : (ps : (List Pair)) (i : ℕ) → None ≡ slice_get ps i → length ps ≤ i
 past_end [] i e = omega arith
 past_end (p ∷ ps) zero e = absurd (let f : ⊥ = cc in f)
 past_end (p ∷ ps) (suc i) e = let h = past_end ps i e in omega arith

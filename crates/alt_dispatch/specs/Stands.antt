@@ -3,7 +3,7 @@ use Rattle.std.specs.Prelude.{ℕ, List, map, String, string_bytes}
 use Rattle.std.specs.declared.alloc.Global.{Global}
 use Rattle.std.specs.FinMap as finite
 use Rattle.serde_json.specs.View.{view}
-use Rattle.alt_value.specs.Tree.{Pairs}
+use Rattle.alt_value.specs.Tree.{Pair}
 use Rattle.alt_machine.specs.Refusals.{Answer}
 use Rattle.alt_machine.specs.State.{State, Described, Texts}
 use Rattle.alt_dispatch.specs.declared.replies.Reply.{Reply}
@@ -19,7 +19,7 @@ abbrev pub texts_by : {X Y : Type 0} → (X → Y) → List (String Global × X)
 texts_by f es = finite.from_entries (map (entry_by f) es)
 
 -- an item is itself its list of pairs
-abbrev pub attributes : Pairs → Pairs
+abbrev pub attributes : List Pair → List Pair
 attributes ps = ps
 
 abbrev pub described : Table → Described

@@ -2,7 +2,7 @@
 
 ghost use Rattle.std.specs.Prelude.{◌≡◌, IfOk, option_map};
 ghost use Rattle.serde_json.specs.View.{view, members_view};
-ghost use Rattle.alt_value.specs.Values.{tree_of};
+ghost use Rattle.alt_value.specs.Stands.{tree_of};
 ghost use Rattle.alt_machine.specs.Forms.{attr_form, attributes_form, entry_form};
 ghost use Rattle.alt_machine.specs.Replies.{tree_data, item_data};
 
@@ -34,7 +34,7 @@ fn item_of(alloc: Global, members: &Map<String, Value>) -> Result<Option<Item>, 
         let Some(text) = attr_form(name.as_str(), value) else {
             return Ok(None);
         };
-        let attr = Attr::S(Text::of(alloc, text)?);
+        let attr = Attr::S(Text::new(alloc, text)?);
         item.put(name.as_str(), attr)?;
     }
     Ok(Some(item))
@@ -69,6 +69,7 @@ fn attr_data(alloc: Global, attr: &Attr) -> Result<Value, NoMemory>
 {
     match attr {
         Attr::S(text) => Ok(json!(in alloc; {"S": text.as_str()})?),
+        _ => Ok(Value::Null),
     }
 }
 

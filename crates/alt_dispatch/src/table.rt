@@ -1,7 +1,7 @@
 //! One table: the name of its key attribute, and its items by the value of that attribute.
 
 ghost use Rattle.std.specs.Prelude.{◌≡◌, IfOk, OnOk, option_map, string_bytes};
-ghost use Rattle.alt_value.specs.Values.{tree_of};
+ghost use Rattle.alt_value.specs.Stands.{tree_of};
 ghost use Rattle.alt_machine.specs.Keys.{some_text, key_in, key_only};
 
 use crate::{Reply, replies};
@@ -26,6 +26,7 @@ fn some_text(attr: &Attr) -> Option<&str>
             let text = text.as_str();
             if text.is_empty() { None } else { Some(text) }
         }
+        _ => None,
     }
 }
 

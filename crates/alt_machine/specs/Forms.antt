@@ -4,7 +4,8 @@ use Rattle.std.specs.List.{list_all}
 use Rattle.std.specs.Str.{bytes_eq}
 use Rattle.serde_json.specs.Data.{Data, Members, no_members, member}
 use Rattle.serde_json.specs.Find.{get, as_object}
-use Rattle.alt_value.specs.Tree.{text, Pairs, put_pair}
+use Rattle.alt_value.specs.Item.{with_pair}
+use Rattle.alt_value.specs.Tree.{Pair, S_tree}
 use Rattle.alt_machine.specs.Json.{text_at, only_at, member_count}
 
 -- what a body of more than 1,024 bytes asks for isn't built
@@ -45,16 +46,16 @@ abbrev pub attr_form : List ℕ → Data → Option (List ℕ)
 attr_form name d = if length name == 0 then None else (if member_count d == 1 then text_at (codes "S") d else None)
 
 -- these attributes, with those of the members put in
-abbrev pub attributes_with : Pairs → Members → Option Pairs
+abbrev pub attributes_with : List Pair → Members → Option (List Pair)
 attributes_with ps no_members = Some ps
-attributes_with ps (member k d ms) = option_and_then (λ s. attributes_with (put_pair k (text s) ps) ms) (attr_form k d)
+attributes_with ps (member k d ms) = option_and_then (λ s. attributes_with (with_pair k (S_tree s) ps) ms) (attr_form k d)
 
 -- the attributes of an object
-abbrev pub attributes_form : Members → Option Pairs
+abbrev pub attributes_form : Members → Option (List Pair)
 attributes_form = attributes_with []
 
 -- PutItem and GetItem: TableName and the attributes under this name, and nothing else
-abbrev pub entry_form : List ℕ → Data → Option (List ℕ × Pairs)
+abbrev pub entry_form : List ℕ → Data → Option (List ℕ × List Pair)
 entry_form what d =
     option_and_then (λ name.
     option_and_then (λ ps. if member_count d == 2 then Some (name, ps) else None)

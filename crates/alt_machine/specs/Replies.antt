@@ -1,7 +1,7 @@
 -- The answers to requests that are carried out. They have status 200.
 use Rattle.std.specs.Prelude.{ℕ, Option, Some, None, List, [], ◌∷◌, ◌++◌, codes}
-use Rattle.serde_json.specs.Data.{Data, number, unsigned, string, array, object, item, no_items, Members, member, no_members, put}
-use Rattle.alt_value.specs.Tree.{Tree, text, Pairs}
+use Rattle.serde_json.specs.Data.{Data, null, number, unsigned, string, array, object, item, no_items, Members, member, no_members, put}
+use Rattle.alt_value.specs.Tree.{Tree, Pair, S_tree, N_tree, B_tree, BOOL_tree, NULL_tree, SS_tree, NS_tree, BS_tree, L_tree, M_tree}
 use Rattle.alt_machine.specs.Refusals.{Answer}
 
 -- a table's Amazon resource name
@@ -25,17 +25,26 @@ description name key moment status = object
 abbrev pub created : List ℕ → List ℕ → ℕ → Answer
 created name key moment = record { status = 200; body = object (member (codes "TableDescription") (description name key moment (codes "ACTIVE")) no_members) }
 
--- a value as JSON
+-- a value as JSON. No request stores another kind than a text yet, and the others are null until their JSON is built
 abbrev pub tree_data : Tree → Data
-tree_data (text s) = object (member (codes "S") (string s) no_members)
+tree_data (S_tree s) = object (member (codes "S") (string s) no_members)
+tree_data (N_tree z) = null
+tree_data (B_tree b) = null
+tree_data (BOOL_tree b) = null
+tree_data NULL_tree = null
+tree_data (SS_tree ss) = null
+tree_data (NS_tree zs) = null
+tree_data (BS_tree bs) = null
+tree_data (L_tree ts) = null
+tree_data (M_tree fs) = null
 
 -- the members with these attributes put in
-abbrev pub members_with : Members → Pairs → Members
+abbrev pub members_with : Members → List Pair → Members
 members_with ms [] = ms
 members_with ms (p ∷ ps) = members_with (put p.0 (tree_data p.1) ms) ps
 
 -- an item as JSON
-abbrev pub item_data : Pairs → Data
+abbrev pub item_data : List Pair → Data
 item_data ps = object (members_with no_members ps)
 
 -- an answer without members
@@ -43,6 +52,6 @@ abbrev pub done : Answer
 done = record { status = 200; body = object no_members }
 
 -- the item that was found, if one was
-abbrev pub found : Option Pairs → Answer
+abbrev pub found : Option (List Pair) → Answer
 found None = done
 found (Some ps) = record { status = 200; body = object (member (codes "Item") (item_data ps) no_members) }

@@ -1,6 +1,7 @@
 -- One stretch of calls after another.
-use Rattle.std.proofs.Common.{ℕ, List, [], ◌++◌, Option, Some, None, sym, ap, ◌∙◌, append_assoc, append-nil, subst}
+use Rattle.std.proofs.Common.{◌≡◌, ℕ, List, [], ◌∷◌, ◌++◌, Option, Some, None, refl, sym, ap, ◌∙◌, append_assoc, append-nil, subst}
 use Rattle.alt_disk.specs.Disk.{DiskState}
+use Rattle.alt_shell.specs.Calls.{Keeps, ShellCall, Aside}
 use Rattle.alt_shell.specs.Log.{Log, Grows, GrowsBy, StillGrows, entries_of, notes_of, moments_of}
 use Rattle.alt_shell.proofs.Keeping.{keeps-none, keeps-then}
 use Rattle.alternator.specs.Runs.{Passes, Calls}

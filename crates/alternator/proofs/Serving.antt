@@ -1,13 +1,16 @@
 -- Serving lines, one after another.
-use Rattle.std.proofs.Common.{◌≡◌, ◌+◌, ℕ, List, [], ◌∷◌, ◌++◌, length, take, drop, Bool, true, false, refl, sym, ap, ◌∙◌, append_assoc, append-nil, arith, inl, inr, length-append, take-append-drop}
+use Rattle.std.proofs.Common.{◌≡◌, ◌≤◌, ◌+◌, ◌⊎◌, ℕ, List, [], ◌∷◌, ◌++◌, length, take, drop, Bool, true, false, refl, sym, ap, subst, ◌∙◌, append_assoc, append-nil, arith, inl, inr, length-append, take-append-drop}
 use Rattle.std.specs.Prelude.{◌||◌}
 use Rattle.std.proofs.lemmas.Grind.{flat_map-append}
 use Rattle.alt_machine.specs.State.{State}
-use Rattle.alt_shell.specs.Log.{Log, Grows, StillGrows, moments_of, entry, event_of, said, bytes_said, bytes_taken, is_end, taken, said_in, ended}
+use Rattle.alt_shell.specs.Log.{Log, Grows, StillGrows, moments_of, Event, entry, event_of, spelling, said, bytes_said, bytes_taken, is_end, taken, said_in, ended}
 use Rattle.alternator.specs.Out.{served, replies, after, line_of}
 use Rattle.alt_shell.specs.Calls.{SaysSome}
 use Rattle.alternator.specs.Runs.{Calls, Serves, Breaks}
+use Rattle.std.proofs.Common.{◌<◌, get_or}
+use Rattle.std.proofs.lemmas.List.{take_more}
 use Rattle.alternator.specs.Lines.{last_line}
+use Rattle.alternator.specs.LinesSoFar.{whole_lines, rest_line}
 use Rattle.alternator.proofs.Folds.{replies-append, after-append, replies-more}
 use Rattle.alternator.proofs.Logs.{Grows-then, Grows-nil, StillGrows-then, StillGrows-nil}
 

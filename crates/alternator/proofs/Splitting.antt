@@ -1,9 +1,9 @@
 -- The lines that are split at line feeds are those that a reader meets one after another.
 use Rattle.std.proofs.Common.{◌≡◌, ℕ, List, [], ◌∷◌, ◌++◌, map, Bool, true, false, cond, refl, sym, ap, ◌∙◌, append_assoc, append-nil}
 use Rattle.std.specs.Prelude.{◌==◌}
-use Rattle.std.specs.List.{onto_first}
+use Rattle.std.specs.List.{slice_split, onto_first}
 use Rattle.std.specs.Str.Lines.{strip_carriage_return}
-use Rattle.alternator.specs.Lines.{pieces, but_last, last_piece, last_line, lines_of}
+use Rattle.alternator.specs.Lines.{is_line_feed, pieces, but_last, last_piece, last_line, lines_of}
 use Rattle.alternator.specs.LinesSoFar.{whole_lines, rest_line}
 
 -- the pieces behind a part of the first one

@@ -1,8 +1,8 @@
 -- Taking and serving, one turn after another.
-use Rattle.std.proofs.Common.{◌≡◌, ◌≤◌, ◌<◌, ◌+◌, ℕ, List, [], ◌∷◌, ◌++◌, length, Bool, true, false, refl, sym, ap, subst, ◌∙◌, append_assoc, append-nil, arith, length-append}
+use Rattle.std.proofs.Common.{◌≡◌, ◌≤◌, ◌<◌, ◌+◌, ℕ, List, [], ◌∷◌, ◌++◌, length, take, Bool, true, false, not, refl, sym, ap, subst, ◌∙◌, append_assoc, append-nil, arith, length-append, length-take}
 use Rattle.std.specs.Prelude.{◌||◌}
 use Rattle.alt_machine.specs.State.{State, start}
-use Rattle.alt_shell.specs.Log.{Log, Grows, StillGrows, moments_of, entry, took, is_end, taken, said_in, ended}
+use Rattle.alt_shell.specs.Log.{Log, Grows, StillGrows, moments_of, entry, event_of, took, is_end, taken, said_in, ended}
 use Rattle.alternator.specs.Lines.{last_line, lines_of}
 use Rattle.alternator.specs.LinesSoFar.{whole_lines, rest_line}
 use Rattle.alternator.specs.Out.{replies, after, out}

@@ -1,6 +1,7 @@
-use Rattle.std.proofs.Common.{◌≡◌, ap, sym, ◌∙◌, Some, string_bytes}
+use Rattle.std.proofs.Common.{◌≡◌, ap, sym, ◌∙◌, Some, string_bytes, List}
 use Rattle.serde_json.specs.View.{view, members_view}
-use Rattle.alt_value.specs.Tree.{text, Pairs, put_pair}
+use Rattle.alt_value.specs.Tree.{S_tree, Pair}
+use Rattle.alt_value.specs.Item.{with_pair}
 use Rattle.alt_machine.specs.Forms.{attr_form, attributes_with}
 use Rattle.alt_dispatch.proofs.Reading.{attributes_more, named_attribute}
 use Rattle.alt_dispatch.proofs.items.item_of.Goals as goal
@@ -19,11 +20,11 @@ loop-name-preserved c =
     let left = members_view c.next.new.self in
     let read : attr_form name (view c.in-Some.value.now) ≡ Some value =
     sym (c.in-Some-attr_form.ensures ∙ ap (λ k. attr_form k (view c.in-Some.value.now)) c.as_str.ensures.value) in
-    let done : c.put.new.self ≡ put_pair name (text value) item =
+    let done : c.put.new.self ≡ with_pair name (S_tree value) item =
     c.in_ok-put.ensures.ok
-    ∙ ap (λ k. put_pair k (text c.in_ok-of.field-0) item) c.as_str-in-loop-name.ensures.value
-    ∙ ap (λ s. put_pair name (text s) item) c.in_ok-of.ensures in
+    ∙ ap (λ k. with_pair k (S_tree c.in_ok-new.field-0) item) c.as_str-in-loop-name.ensures.value
+    ∙ ap (λ s. with_pair name (S_tree s) item) c.in_ok-new.ensures.copied in
     c.loop-name.invariant
     ∙ ap (λ it. attributes_with item (members_view it)) c.in-Some.ensures.steps
     ∙ attributes_more name value (view c.in-Some.value.now) left item read
-    ∙ ap (λ (ps : Pairs). attributes_with ps left) (sym done)
+    ∙ ap (λ (ps : (List Pair)). attributes_with ps left) (sym done)

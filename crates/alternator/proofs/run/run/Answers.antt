@@ -1,4 +1,4 @@
-use Rattle.std.proofs.Common.{[]}
+use Rattle.std.proofs.Common.{List, ℕ, []}
 use Rattle.alt_shell.proofs.Keeping.{keeps-then}
 use Rattle.alt_shell.specs.Log.{notes_of}
 use Rattle.alternator.specs.Runs.{AnswersSome}

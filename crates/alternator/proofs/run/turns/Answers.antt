@@ -1,4 +1,4 @@
-use Rattle.std.proofs.Common.{List, ℕ, [], Bool, true, false, subst, sym}
+use Rattle.std.proofs.Common.{List, ℕ, [], Bool, true, false, ◌≡◌, subst, sym}
 use Rattle.std.proofs.lemmas.Result.{MatchResult-weaker}
 use Rattle.alt_machine.specs.State.{State, start}
 use Rattle.alt_dispatch.specs.Stands.{state_of}

@@ -1,4 +1,4 @@
-use Rattle.std.proofs.Common.{length, ◌≡◌, arith}
+use Rattle.std.proofs.Common.{List, ℕ, length, ◌≡◌, arith}
 use Rattle.alternator.proofs.Serving.{served_empty}
 use Rattle.alternator.proofs.serve.finish.Goals as goal
 

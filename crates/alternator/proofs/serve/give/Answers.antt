@@ -1,6 +1,6 @@
 use Rattle.alt_dispatch.specs.Stands.{state_of}
 use Rattle.alternator.proofs.Logs.{passes-none, passes-then}
-use Rattle.alternator.proofs.Giving.{gives_none, gives_line, gives_break}
+use Rattle.alternator.proofs.Giving.{gives_none, gives_line, gives_break, gives_all, gives_rest, gives_no_more}
 use Rattle.alternator.proofs.serve.give.Goals as goal
 
 pub loop-end-init : goal.loop-end-init

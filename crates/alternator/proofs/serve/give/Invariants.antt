@@ -1,4 +1,4 @@
-use Rattle.std.proofs.Common.{length}
+use Rattle.std.proofs.Common.{◌≡◌, length}
 use Rattle.alt_dispatch.specs.Stands.{state_of}
 use Rattle.alternator.specs.Runs.{Passes}
 use Rattle.alternator.proofs.Giving.{Gives}

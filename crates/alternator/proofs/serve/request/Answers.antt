@@ -1,4 +1,4 @@
-use Rattle.std.proofs.Common.{◌∙◌, ◌∷◌, [], subst, sym}
+use Rattle.std.proofs.Common.{◌≡◌, ◌∙◌, ◌∷◌, [], subst, sym, List, ℕ}
 use Rattle.alt_disk.specs.Disk.{DiskState}
 use Rattle.alt_shell.specs.Log.{Grows, StillGrows, moments_of}
 use Rattle.alternator.proofs.Serving.{served_one, broken_one}

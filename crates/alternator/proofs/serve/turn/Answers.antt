@@ -1,4 +1,4 @@
-use Rattle.std.proofs.Common.{◌<◌, length, take, length-take, arith}
+use Rattle.std.proofs.Common.{◌≡◌, ◌<◌, length, take, length-take, arith, List, ℕ}
 use Rattle.alternator.proofs.Turning.{turn_given, turn_broken}
 use Rattle.alternator.proofs.serve.turn.Goals as goal
 

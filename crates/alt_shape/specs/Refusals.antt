@@ -1,9 +1,11 @@
 -- What a refused client is told (DynamoDB Developer Guide, "Error handling with DynamoDB": the names
 -- of the exceptions; the messages and the one prefix are Alternator's own, docs/API.md).
 use Rattle.std.specs.Prelude.{ℕ, ◌≤◌, List, [], ◌∷◌, codes, slice_get, unwrap_or}
-use Rattle.serde_json.specs.Data.{Data, string, object, no_members, member}
+use Rattle.serde_json.specs.Data.{Data, string, object, Members, no_members, member}
+use Rattle.serde_json.specs.View.{view}
 use Rattle.alt_shape.specs.declared.refusal.Refusal.{Refusal}
 use Rattle.alt_shape.specs.declared.refusal.Refusal.TheVariants.{E1, E2, E4, E5, E6, E7, E8, Invalid}
+use Rattle.alt_shape.specs.declared.refusal.Reply.{Reply}
 use Rattle.alt_shape.specs.declared.rule.Broken.{Broken}
 use Rattle.alt_shape.specs.declared.rule.Broken.TheVariants.{WrongKind, Missing, OutOfRange}
 
@@ -80,9 +82,24 @@ message_of E7 = codes "too many tables"
 message_of E8 = codes "the change records were trimmed"
 message_of (Invalid number) = unwrap_or (slice_get messages number) []
 
--- the body of the reply
-abbrev pub told : Refusal → Data
-told r = object (member (codes "__type") (string (name_of r)) (member (codes "message") (string (message_of r)) no_members))
+-- ---- replies
+
+-- what a client is answered: a status and a body
+pub record Answer : Type 0 where
+  pub status : ℕ
+  pub body : Data
+
+-- the answer that a reply of the program stands for
+abbrev pub answer_of : Reply → Answer
+answer_of reply = record { status = reply.status; body = view reply.body }
+
+-- the answer to a request that wasn't refused
+abbrev pub answered : Members → Answer
+answered ms = record { status = 200; body = object ms }
+
+-- the answer to a request that was refused
+abbrev pub refused : Refusal → Answer
+refused r = record { status = 400; body = object (member (codes "__type") (string (name_of r)) (member (codes "message") (string (message_of r)) no_members)) }
 
 -- the refusal of a body that breaks a rule
 abbrev pub refusal_of : Broken → Refusal

@@ -1,17 +1,46 @@
--- When a member of an object breaks its rule, and which broken rule of a table comes first.
-use Rattle.std.specs.Prelude.{◌≡◌, ℕ, ℤ, pos, negsuc, ◌&&◌, ◌<◌, nat_le, List, Bool, true, false, if◌then◌else◌, Option, Some, None, is_some, option_and_then, slice_get}
-use Rattle.std.specs.Borrow.{Bor}
+-- The rules of an object's members, how a rule is broken, and which broken rule of a table comes first.
+use Rattle.std.specs.Prelude.{◌≡◌, ℕ, ℤ, pos, negsuc, ◌&&◌, ◌<◌, nat_le, List, [], ◌∷◌, map, Bool, true, false, if◌then◌else◌, Option, Some, None, is_some, option_and_then, slice_get}
 use Rattle.std.specs.List.{list_any}
 use Rattle.std.specs.Option.{option_map_or}
 use Rattle.std.specs.Str.{bytes_eq}
 use Rattle.serde_json.specs.Data.{Num, unsigned, negative, float, Data, null, boolean, number, string, array, object, Items, Members}
-use Rattle.serde_json.specs.Find.{get_member, as_bool, as_number, as_integer, as_str, as_array, as_object}
+use Rattle.serde_json.specs.Find.{get_member, as_bool, as_number, as_integer, as_u64, as_str, as_array, as_object}
 use Rattle.alt_shape.specs.declared.rule.Broken.{Broken}
 use Rattle.alt_shape.specs.declared.rule.Broken.TheVariants.{WrongKind, Missing, OutOfRange}
 use Rattle.alt_shape.specs.declared.rule.Kind.{Kind}
 use Rattle.alt_shape.specs.declared.rule.Kind.TheVariants.{Text, Whole, Truth, Object, Array, Word}
 use Rattle.alt_shape.specs.declared.rule.Rule.{Rule}
 use Rattle.alt_shape.specs.declared.rule.ShapeFault.{ShapeFault}
+
+-- what a value is to be
+pub data Form : Type 0 where
+  a_text : Form
+  a_whole : ℕ → ℕ → Form
+  a_truth : Form
+  an_object : Form
+  an_array : Form
+  a_word : List (List ℕ) → Form
+
+-- what is asked of the member of a name: its form, and whether it has to be there
+pub record Demand : Type 0 where
+  pub name : List ℕ
+  pub form : Form
+  pub must : Bool
+
+-- ---- the rules of the program, as demands
+
+abbrev pub form_of : Kind → Form
+form_of Text = a_text
+form_of (Whole least most) = a_whole least most
+form_of Truth = a_truth
+form_of Object = an_object
+form_of Array = an_array
+form_of (Word words) = a_word (map (λ w. w.now) words.now)
+
+abbrev pub demand_of : Rule → Demand
+demand_of rule = record { name = rule.name.now; form = form_of rule.kind; must = rule.must }
+
+-- ---- what a member holds
 
 -- a value that is there; `null` counts as absent
 abbrev pub unless_null : Option Data → Option Data
@@ -31,41 +60,57 @@ given name ms = unless_null (get_member name ms)
 abbrev pub integer_of : Data → Option ℤ
 integer_of d = option_and_then as_integer (as_number d)
 
--- the value has the JSON kind that the rule asks for
-abbrev pub has_kind : Kind → Data → Bool
-has_kind Text d = is_some (as_str d)
-has_kind (Whole least most) d = is_some (integer_of d)
-has_kind Truth d = is_some (as_bool d)
-has_kind Object d = is_some (as_object d)
-has_kind Array d = is_some (as_array d)
-has_kind (Word words) d = is_some (as_str d)
+-- the whole number that a value is, where it is one from 0 on
+abbrev pub natural_of : Data → Option ℕ
+natural_of d = option_and_then as_u64 (as_number d)
+
+-- ---- forms
+
+-- the value has the JSON kind of the form
+abbrev pub has_kind : Form → Data → Bool
+has_kind a_text d = is_some (as_str d)
+has_kind (a_whole least most) d = is_some (integer_of d)
+has_kind a_truth d = is_some (as_bool d)
+has_kind an_object d = is_some (as_object d)
+has_kind an_array d = is_some (as_array d)
+has_kind (a_word words) d = is_some (as_str d)
 
 -- an integer lies from `least` to `most`
 abbrev pub lies_within : ℕ → ℕ → ℤ → Bool
 lies_within least most (pos n) = nat_le least n && nat_le n most
 lies_within least most (negsuc n) = false
 
--- the whole number or the word of a value of that kind is in the kind's range
-abbrev pub in_range : Kind → Data → Bool
-in_range Text d = true
-in_range (Whole least most) d = option_map_or (lies_within least most) (integer_of d) false
-in_range Truth d = true
-in_range Object d = true
-in_range Array d = true
-in_range (Word words) d = option_map_or (λ s. list_any (λ w. bytes_eq w.now s) words.now) (as_str d) false
+-- a text is one of the words
+abbrev pub is_among : List (List ℕ) → List ℕ → Bool
+is_among words s = list_any (λ w. bytes_eq w s) words
 
--- how a member's value breaks the kind, if it does
-abbrev pub misfit_of : Kind → Data → Option Broken
-misfit_of kind d = if has_kind kind d then (if in_range kind d then None else Some OutOfRange) else Some WrongKind
+-- the integer or the text of a value of the form's kind is in the form's range
+abbrev pub in_range : Form → Data → Bool
+in_range a_text d = true
+in_range (a_whole least most) d = option_map_or (lies_within least most) (integer_of d) false
+in_range a_truth d = true
+in_range an_object d = true
+in_range an_array d = true
+in_range (a_word words) d = option_map_or (is_among words) (as_str d) false
 
--- how a rule is broken by what its member holds, if it is
-abbrev pub fault_of : Rule → Option Data → Option Broken
-fault_of rule None = if rule.must then Some Missing else None
-fault_of rule (Some d) = misfit_of rule.kind d
+-- ---- broken rules
+
+-- how a value breaks a form, if it does
+abbrev pub misfit_of : Form → Data → Option Broken
+misfit_of form d = if has_kind form d then (if in_range form d then None else Some OutOfRange) else Some WrongKind
+
+-- how a member that has to be there, or may be, breaks its form, if it does
+abbrev pub fault_of : Form → Bool → Option Data → Option Broken
+fault_of form must None = if must then Some Missing else None
+fault_of form must (Some d) = misfit_of form d
+
+-- how an object breaks a demand, if it does
+abbrev pub unmet_by : Members → Demand → Option Broken
+unmet_by ms d = fault_of d.form d.must (given d.name ms)
 
 -- how an object breaks a rule, if it does
 abbrev pub broken_by : Members → Rule → Option Broken
-broken_by ms rule = fault_of rule (given rule.name.now ms)
+broken_by ms rule = unmet_by ms (demand_of rule)
 
 -- how an object breaks the rule at a place of a table; None where it keeps it
 abbrev pub broken_at : List Rule → Members → ℕ → Option Broken
@@ -79,3 +124,13 @@ KeepsAll rules ms = (place : ℕ) → broken_at rules ms place ≡ None
 pub record IsFirst (rules : List Rule) (ms : Members) (fault : ShapeFault) : Type 0 where
   pub broken : broken_at rules ms fault.rule ≡ Some fault.broken
   pub least : (place : ℕ) → place < fault.rule → broken_at rules ms place ≡ None
+
+-- the first fault, and where there is none the second
+abbrev pub or_next : Option Broken → Option Broken → Option Broken
+or_next None second = second
+or_next (Some broken) second = Some broken
+
+-- how an object breaks the first demand that it breaks, in the order of the list
+abbrev pub first_unmet : List Demand → Members → Option Broken
+first_unmet [] ms = None
+first_unmet (d ∷ demands) ms = or_next (unmet_by ms d) (first_unmet demands ms)

@@ -1,11 +1,11 @@
 //! The first broken rule of a table, by one pass over its rules.
 
-ghost use Rattle.std.specs.Prelude.{◌≡◌, OnOk, IfErr, option_map, if◌then◌else◌, pos};
+ghost use Rattle.std.specs.Prelude.{◌≡◌, OnOk, IfErr, option_map, if◌then◌else◌, map, pos};
 ghost use Rattle.std.specs.List.{list_any};
 ghost use Rattle.std.specs.Str.{bytes_eq};
 ghost use Rattle.serde_json.specs.Find.{get_member};
 ghost use Rattle.serde_json.specs.View.{view, members_view};
-ghost use Rattle.alt_shape.specs.Shape.{given, lies_within, misfit_of, broken_by, KeepsAll, IsFirst};
+ghost use Rattle.alt_shape.specs.Shape.{a_whole, a_word, form_of, given, lies_within, is_among, misfit_of, broken_by, KeepsAll, IsFirst};
 
 use crate::rule::{Broken, Kind, Rule, ShapeFault};
 use serde_json::{Map, Value};
@@ -17,7 +17,10 @@ pub fn check(rules: &[Rule], body: &Map<String, Value>) -> Result<(), ShapeFault
 {
     for (place, rule) in rules.iter().enumerate() {
         if let Some(broken) = rule.broken_by(body) {
-            return Err(ShapeFault { rule: place, broken });
+            return Err(ShapeFault {
+                rule: place,
+                broken,
+            });
         }
     }
     Ok(())
@@ -53,7 +56,7 @@ fn member<'v>(body: &'v Map<String, Value>, name: &str) -> Option<&'v Value>
 
 impl Kind {
     fn misfit(&self, value: &Value) -> Option<Broken>
-        ensures { result ≡ misfit_of self.now (view value.now) }
+        ensures { result ≡ misfit_of (form_of self.now) (view value.now) }
     {
         match *self {
             Kind::Text => unless(value.is_string()),
@@ -73,7 +76,7 @@ fn unless(fits: bool) -> Option<Broken>
 }
 
 fn whole_misfit(value: &Value, least: u64, most: u64) -> Option<Broken>
-    ensures { result ≡ misfit_of (Kind.Whole least most) (view value.now) }
+    ensures { result ≡ misfit_of (a_whole least most) (view value.now) }
 {
     if let Some(n) = value.as_u64() {
         within(n, least, most)
@@ -94,8 +97,8 @@ fn within(n: u64, least: u64, most: u64) -> Option<Broken>
     }
 }
 
-fn word_misfit(value: &Value, words: &'static [&'static str]) -> Option<Broken>
-    ensures { result ≡ misfit_of (Kind.Word words.entry) (view value.now) }
+fn word_misfit(value: &Value, words: &[&str]) -> Option<Broken>
+    ensures { result ≡ misfit_of (a_word (map (λ w. w.now) words.now)) (view value.now) }
 {
     match value.as_str() {
         Some(text) if is_among(text, words) => None,
@@ -104,7 +107,14 @@ fn word_misfit(value: &Value, words: &'static [&'static str]) -> Option<Broken>
     }
 }
 
+#[tactic(auto, using(crate::proofs::Places::is_among_map))]
 fn is_among(text: &str, words: &[&str]) -> bool
+    ensures { result ≡ is_among (map (λ w. w.now) words.now) text.now }
+{
+    any_equals(words, text)
+}
+
+fn any_equals(words: &[&str], text: &str) -> bool
     ensures { result ≡ list_any (λ w. bytes_eq w.now text.now) words.now }
 {
     words.iter().any(|word| *word == text)

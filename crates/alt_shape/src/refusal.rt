@@ -1,15 +1,14 @@
 //! What a refused client is told: the status, the name and the message of each refusal.
 
+ghost use Rattle.std.specs.Prelude.{◌≡◌, false, IfOk};
+ghost use Rattle.serde_json.specs.View.{view, members_view};
+ghost use Rattle.serde_json.specs.Written.{has_float};
+ghost use Rattle.alt_shape.specs.Refusals.{IsKnown, name_of, message_of, answer_of, answered, refused, refusal_of};
+
 use crate::rule::{Broken, ShapeFault};
 use alt_base::NoMemory;
 use serde_json::{Map, Value, json};
 use std::alloc::Global;
-
-ghost use Rattle.std.specs.Prelude.{◌≡◌, false, IfOk, unwrap_or, slice_get};
-ghost use Rattle.serde_json.specs.Data.{object};
-ghost use Rattle.serde_json.specs.View.{view, members_view};
-ghost use Rattle.serde_json.specs.Written.{has_float};
-ghost use Rattle.alt_shape.specs.Refusals.{IsKnown, name_of, message_of, messages, told, refusal_of};
 
 /// Why a request is refused. Of several that apply a client is told the first, in the order that
 /// docs/API.md gives.
@@ -33,15 +32,23 @@ pub enum Refusal {
     Invalid(u8),
 }
 
-impl From<ShapeFault> for Refusal {
-    ghost from_gives = { λ fault refusal. refusal ≡ refusal_of fault.broken };
+impl From<Broken> for Refusal {
+    ghost from_gives = { λ broken refusal. refusal ≡ refusal_of broken };
 
-    fn from(fault: ShapeFault) -> Refusal {
-        match fault.broken {
+    fn from(broken: Broken) -> Refusal {
+        match broken {
             Broken::WrongKind => Refusal::E2,
             Broken::Missing => Refusal::Invalid(1),
             Broken::OutOfRange => Refusal::Invalid(2),
         }
+    }
+}
+
+impl From<ShapeFault> for Refusal {
+    ghost from_gives = { λ fault refusal. refusal ≡ refusal_of fault.broken };
+
+    fn from(fault: ShapeFault) -> Refusal {
+        Refusal::from(fault.broken)
     }
 }
 
@@ -55,8 +62,7 @@ pub struct Reply {
 impl Reply {
     /// The answer of an operation that wasn't refused: status 200 and an object of these members.
     pub fn answered(members: Map<String, Value>) -> Reply
-        ensures status { result.status ≡ 200 }
-        ensures body { view result.body ≡ object (members_view members.entries) }
+        ensures { answer_of result ≡ answered (members_view members.entries) }
     {
         Reply {
             status: 200,
@@ -69,8 +75,7 @@ impl Reply {
 /// and its `message`.
 pub fn refuse(alloc: Global, r: Refusal) -> Result<Reply, NoMemory>
     requires { IsKnown r }
-    ensures status { IfOk result (λ reply. reply.status ≡ 400) }
-    ensures body { IfOk result (λ reply. view reply.body ≡ told r) }
+    ensures told { IfOk result (λ reply. answer_of reply ≡ refused r) }
     ensures no_float { IfOk result (λ reply. has_float (view reply.body) ≡ false) }
 {
     let body = json!(in alloc; {"__type": type_text(r), "message": message_text(r)})?;

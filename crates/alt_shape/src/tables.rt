@@ -50,7 +50,10 @@ pub const SECONDARY_INDEX: [Rule; 3] = [
 
 /// The Projection of an index. Each element of NonKeyAttributes is a text.
 pub const PROJECTION: [Rule; 2] = [
-    required!("ProjectionType", Kind::Word(&["ALL", "KEYS_ONLY", "INCLUDE"])),
+    required!(
+        "ProjectionType",
+        Kind::Word(&["ALL", "KEYS_ONLY", "INCLUDE"])
+    ),
     optional!("NonKeyAttributes", Kind::Array),
 ];
 
@@ -72,7 +75,13 @@ pub const DELETE_TABLE: [Rule; 1] = [required!("TableName", Kind::Text)];
 /// ListTables.
 pub const LIST_TABLES: [Rule; 2] = [
     optional!("ExclusiveStartTableName", Kind::Text),
-    optional!("Limit", Kind::Whole { least: 1, most: 100 }),
+    optional!(
+        "Limit",
+        Kind::Whole {
+            least: 1,
+            most: 100
+        }
+    ),
 ];
 
 /// PutItem.
@@ -83,7 +92,10 @@ pub const PUT_ITEM: [Rule; 7] = [
     optional!("ExpressionAttributeNames", Kind::Object),
     optional!("ExpressionAttributeValues", Kind::Object),
     optional!("ReturnValues", Kind::Word(&["NONE", "ALL_OLD"])),
-    optional!("ReturnValuesOnConditionCheckFailure", Kind::Word(&["NONE", "ALL_OLD"])),
+    optional!(
+        "ReturnValuesOnConditionCheckFailure",
+        Kind::Word(&["NONE", "ALL_OLD"])
+    ),
 ];
 
 /// DeleteItem.
@@ -94,7 +106,10 @@ pub const DELETE_ITEM: [Rule; 7] = [
     optional!("ExpressionAttributeNames", Kind::Object),
     optional!("ExpressionAttributeValues", Kind::Object),
     optional!("ReturnValues", Kind::Word(&["NONE", "ALL_OLD"])),
-    optional!("ReturnValuesOnConditionCheckFailure", Kind::Word(&["NONE", "ALL_OLD"])),
+    optional!(
+        "ReturnValuesOnConditionCheckFailure",
+        Kind::Word(&["NONE", "ALL_OLD"])
+    ),
 ];
 
 /// UpdateItem.
@@ -109,7 +124,10 @@ pub const UPDATE_ITEM: [Rule; 8] = [
         "ReturnValues",
         Kind::Word(&["NONE", "ALL_OLD", "UPDATED_OLD", "ALL_NEW", "UPDATED_NEW"])
     ),
-    optional!("ReturnValuesOnConditionCheckFailure", Kind::Word(&["NONE", "ALL_OLD"])),
+    optional!(
+        "ReturnValuesOnConditionCheckFailure",
+        Kind::Word(&["NONE", "ALL_OLD"])
+    ),
 ];
 
 /// GetItem.
@@ -130,7 +148,13 @@ pub const QUERY: [Rule; 12] = [
     optional!("ProjectionExpression", Kind::Text),
     optional!("ExpressionAttributeNames", Kind::Object),
     optional!("ExpressionAttributeValues", Kind::Object),
-    optional!("Limit", Kind::Whole { least: 1, most: 2_147_483_647 }),
+    optional!(
+        "Limit",
+        Kind::Whole {
+            least: 1,
+            most: 2_147_483_647
+        }
+    ),
     optional!("ScanIndexForward", Kind::Truth),
     optional!("ExclusiveStartKey", Kind::Object),
     optional!("ConsistentRead", Kind::Truth),
@@ -153,7 +177,13 @@ pub const SCAN: [Rule; 12] = [
     optional!("ProjectionExpression", Kind::Text),
     optional!("ExpressionAttributeNames", Kind::Object),
     optional!("ExpressionAttributeValues", Kind::Object),
-    optional!("Limit", Kind::Whole { least: 1, most: 2_147_483_647 }),
+    optional!(
+        "Limit",
+        Kind::Whole {
+            least: 1,
+            most: 2_147_483_647
+        }
+    ),
     optional!("ExclusiveStartKey", Kind::Object),
     optional!("ConsistentRead", Kind::Truth),
     optional!(
@@ -165,8 +195,20 @@ pub const SCAN: [Rule; 12] = [
             "COUNT",
         ])
     ),
-    optional!("Segment", Kind::Whole { least: 0, most: 999_999 }),
-    optional!("TotalSegments", Kind::Whole { least: 1, most: 1_000_000 }),
+    optional!(
+        "Segment",
+        Kind::Whole {
+            least: 0,
+            most: 999_999
+        }
+    ),
+    optional!(
+        "TotalSegments",
+        Kind::Whole {
+            least: 1,
+            most: 1_000_000
+        }
+    ),
 ];
 
 /// BatchWriteItem. Each member of RequestItems is an array of write requests.
@@ -199,14 +241,26 @@ pub const KEYS_AND_ATTRIBUTES: [Rule; 4] = [
 pub const LIST_STREAMS: [Rule; 3] = [
     optional!("TableName", Kind::Text),
     optional!("ExclusiveStartStreamArn", Kind::Text),
-    optional!("Limit", Kind::Whole { least: 1, most: 100 }),
+    optional!(
+        "Limit",
+        Kind::Whole {
+            least: 1,
+            most: 100
+        }
+    ),
 ];
 
 /// DescribeStream.
 pub const DESCRIBE_STREAM: [Rule; 3] = [
     required!("StreamArn", Kind::Text),
     optional!("ExclusiveStartShardId", Kind::Text),
-    optional!("Limit", Kind::Whole { least: 1, most: 100 }),
+    optional!(
+        "Limit",
+        Kind::Whole {
+            least: 1,
+            most: 100
+        }
+    ),
 ];
 
 /// GetShardIterator.
@@ -215,7 +269,12 @@ pub const GET_SHARD_ITERATOR: [Rule; 4] = [
     required!("ShardId", Kind::Text),
     required!(
         "ShardIteratorType",
-        Kind::Word(&["TRIM_HORIZON", "LATEST", "AT_SEQUENCE_NUMBER", "AFTER_SEQUENCE_NUMBER"])
+        Kind::Word(&[
+            "TRIM_HORIZON",
+            "LATEST",
+            "AT_SEQUENCE_NUMBER",
+            "AFTER_SEQUENCE_NUMBER"
+        ])
     ),
     optional!("SequenceNumber", Kind::Text),
 ];
@@ -223,5 +282,11 @@ pub const GET_SHARD_ITERATOR: [Rule; 4] = [
 /// GetRecords.
 pub const GET_RECORDS: [Rule; 2] = [
     required!("ShardIterator", Kind::Text),
-    optional!("Limit", Kind::Whole { least: 1, most: 1000 }),
+    optional!(
+        "Limit",
+        Kind::Whole {
+            least: 1,
+            most: 1000
+        }
+    ),
 ];

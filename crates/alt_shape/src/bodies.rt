@@ -3,13 +3,12 @@
 //! in the order of the rules, in list order or by name in byte order, each followed by the objects
 //! inside it.
 
-ghost use Rattle.std.specs.Prelude.{◌≡◌, map};
+ghost use Rattle.std.specs.Prelude.{◌≡◌};
 ghost use Rattle.serde_json.specs.View.{members_view};
 ghost use Rattle.alt_shape.specs.Bodies as bodies;
-ghost use Rattle.alt_shape.specs.Shape.{demand_of, first_unmet};
 
-use crate::checking::check;
-use crate::rule::{Broken, Rule};
+use crate::checking::first_broken;
+use crate::rule::Broken;
 use crate::{inside, tables};
 use serde_json::{Map, Value};
 
@@ -144,14 +143,4 @@ pub fn batch_get_item(body: &Map<String, Value>) -> Option<Broken>
     ensures { result ≡ bodies.batch_get_item (members_view body.now.entries) }
 {
     first_broken(&tables::BATCH_GET_ITEM, body).or_else(|| inside::keys_and_attributes(body))
-}
-
-/// How an object breaks the first rule of a table that it breaks.
-pub(crate) fn first_broken(rules: &[Rule], body: &Map<String, Value>) -> Option<Broken>
-    ensures { result ≡ first_unmet (map demand_of rules.now) (members_view body.now.entries) }
-{
-    match check(rules, body) {
-        Ok(()) => None,
-        Err(fault) => Some(fault.broken),
-    }
 }

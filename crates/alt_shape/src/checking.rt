@@ -5,7 +5,7 @@ ghost use Rattle.std.specs.List.{list_any};
 ghost use Rattle.std.specs.Str.{bytes_eq};
 ghost use Rattle.serde_json.specs.Find.{get_member};
 ghost use Rattle.serde_json.specs.View.{view, members_view};
-ghost use Rattle.alt_shape.specs.Shape.{a_whole, a_word, form_of, given, lies_within, is_among, misfit_of, broken_by, KeepsAll, IsFirst};
+ghost use Rattle.alt_shape.specs.Shape.{a_whole, a_word, demand_of, form_of, given, lies_within, is_among, misfit_of, broken_by, KeepsAll, IsFirst, first_unmet};
 
 use crate::rule::{Broken, Kind, Rule, ShapeFault};
 use serde_json::{Map, Value};
@@ -24,6 +24,16 @@ pub fn check(rules: &[Rule], body: &Map<String, Value>) -> Result<(), ShapeFault
         }
     }
     Ok(())
+}
+
+/// How an object breaks the first rule of a table that it breaks.
+pub(crate) fn first_broken(rules: &[Rule], body: &Map<String, Value>) -> Option<Broken>
+    ensures { result ≡ first_unmet (map demand_of rules.now) (members_view body.now.entries) }
+{
+    match check(rules, body) {
+        Ok(()) => None,
+        Err(fault) => Some(fault.broken),
+    }
 }
 
 impl Rule {

@@ -4,9 +4,8 @@ ghost use Rattle.std.specs.Prelude.{◌≡◌, codes};
 ghost use Rattle.serde_json.specs.View.{view, items_view, members_view};
 ghost use Rattle.alt_shape.specs.Bodies as bodies;
 ghost use Rattle.alt_shape.specs.Bodies.{in_array, in_object, in_items, in_members, object_fault, array_fault, text_fault, key_fault};
-ghost use Rattle.alt_shape.specs.Shape.{first_unmet};
 
-use crate::bodies::first_broken;
+use crate::checking::first_broken;
 use crate::fields::array_at;
 use crate::rule::Broken;
 use crate::{field, tables};

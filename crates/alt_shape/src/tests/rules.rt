@@ -47,55 +47,69 @@ fn right_value(kind: Kind, alloc: Global) -> Result<Value, AllocError> {
 /// No place of any table.
 const NONE: usize = 99;
 
-#[test]
-fn the_first_broken_rule_is_reported(rt: HostRuntime) -> Result<(), Fail> {
-    let all: [&[Rule]; 25] = [
-        &tables::CREATE_TABLE,
-        &tables::KEY_SCHEMA_ELEMENT,
-        &tables::ATTRIBUTE_DEFINITION,
-        &tables::SECONDARY_INDEX,
-        &tables::PROJECTION,
-        &tables::STREAM_SPECIFICATION,
-        &tables::DESCRIBE_TABLE,
-        &tables::DELETE_TABLE,
-        &tables::LIST_TABLES,
-        &tables::PUT_ITEM,
-        &tables::DELETE_ITEM,
-        &tables::UPDATE_ITEM,
-        &tables::GET_ITEM,
-        &tables::QUERY,
-        &tables::SCAN,
-        &tables::BATCH_WRITE_ITEM,
-        &tables::WRITE_REQUEST,
-        &tables::PUT_REQUEST,
-        &tables::DELETE_REQUEST,
-        &tables::BATCH_GET_ITEM,
-        &tables::KEYS_AND_ATTRIBUTES,
-        &tables::LIST_STREAMS,
-        &tables::DESCRIBE_STREAM,
-        &tables::GET_SHARD_ITERATOR,
-        &tables::GET_RECORDS,
-    ];
-    for rules in all {
-        assert_eq!(rt;
-            check(rules, &body_of(rt.alloc(), rules, [NONE, NONE])?),
-            Ok(())
-        );
-        for rule in 0..rules.len() {
-            let first = Err(ShapeFault {
-                rule,
-                broken: Broken::WrongKind,
-            });
-            assert_eq!(rt;
-                check(rules, &body_of(rt.alloc(), rules, [rule, rule])?),
-                first
-            );
-            assert_eq!(rt;
-                check(rules, &body_of(rt.alloc(), rules, [rule, rules.len() - 1])?),
-                first
-            );
+/// Whether each rule of a table is reported where it is broken alone, and where the last one is broken too.
+fn reports_the_first(alloc: Global, rules: &[Rule]) -> Result<bool, AllocError> {
+    if check(rules, &body_of(alloc, rules, [NONE, NONE])?).is_err() {
+        return Ok(false);
+    }
+    let last = rules.len().saturating_sub(1);
+    for rule in 0..rules.len() {
+        let first = Err(ShapeFault {
+            rule,
+            broken: Broken::WrongKind,
+        });
+        if check(rules, &body_of(alloc, rules, [rule, rule])?) != first {
+            return Ok(false);
+        }
+        if check(rules, &body_of(alloc, rules, [rule, last])?) != first {
+            return Ok(false);
         }
     }
+    Ok(true)
+}
+
+#[test]
+fn the_first_broken_rule_of_tables_is_reported(rt: HostRuntime) -> Result<(), Fail> {
+    assert!(rt; reports_the_first(rt.alloc(), &tables::CREATE_TABLE)?);
+    assert!(rt; reports_the_first(rt.alloc(), &tables::KEY_SCHEMA_ELEMENT)?);
+    assert!(rt; reports_the_first(rt.alloc(), &tables::ATTRIBUTE_DEFINITION)?);
+    assert!(rt; reports_the_first(rt.alloc(), &tables::SECONDARY_INDEX)?);
+    assert!(rt; reports_the_first(rt.alloc(), &tables::PROJECTION)?);
+    assert!(rt; reports_the_first(rt.alloc(), &tables::STREAM_SPECIFICATION)?);
+    assert!(rt; reports_the_first(rt.alloc(), &tables::DESCRIBE_TABLE)?);
+    assert!(rt; reports_the_first(rt.alloc(), &tables::DELETE_TABLE)?);
+    assert!(rt; reports_the_first(rt.alloc(), &tables::LIST_TABLES)?);
+    Ok(())
+}
+
+#[test]
+fn the_first_broken_rule_of_writes_is_reported(rt: HostRuntime) -> Result<(), Fail> {
+    assert!(rt; reports_the_first(rt.alloc(), &tables::PUT_ITEM)?);
+    assert!(rt; reports_the_first(rt.alloc(), &tables::DELETE_ITEM)?);
+    assert!(rt; reports_the_first(rt.alloc(), &tables::UPDATE_ITEM)?);
+    Ok(())
+}
+
+#[test]
+fn the_first_broken_rule_of_reads_is_reported(rt: HostRuntime) -> Result<(), Fail> {
+    assert!(rt; reports_the_first(rt.alloc(), &tables::GET_ITEM)?);
+    assert!(rt; reports_the_first(rt.alloc(), &tables::QUERY)?);
+    assert!(rt; reports_the_first(rt.alloc(), &tables::SCAN)?);
+    Ok(())
+}
+
+#[test]
+fn the_first_broken_rule_of_batches_and_streams_is_reported(rt: HostRuntime) -> Result<(), Fail> {
+    assert!(rt; reports_the_first(rt.alloc(), &tables::BATCH_WRITE_ITEM)?);
+    assert!(rt; reports_the_first(rt.alloc(), &tables::WRITE_REQUEST)?);
+    assert!(rt; reports_the_first(rt.alloc(), &tables::PUT_REQUEST)?);
+    assert!(rt; reports_the_first(rt.alloc(), &tables::DELETE_REQUEST)?);
+    assert!(rt; reports_the_first(rt.alloc(), &tables::BATCH_GET_ITEM)?);
+    assert!(rt; reports_the_first(rt.alloc(), &tables::KEYS_AND_ATTRIBUTES)?);
+    assert!(rt; reports_the_first(rt.alloc(), &tables::LIST_STREAMS)?);
+    assert!(rt; reports_the_first(rt.alloc(), &tables::DESCRIBE_STREAM)?);
+    assert!(rt; reports_the_first(rt.alloc(), &tables::GET_SHARD_ITERATOR)?);
+    assert!(rt; reports_the_first(rt.alloc(), &tables::GET_RECORDS)?);
     Ok(())
 }
 

@@ -1,0 +1,4 @@
+pub mod Checked
+pub mod Places
+pub mod Plain
+pub mod Walks

@@ -1,0 +1,257 @@
+-- How the body of each operation first breaks its shape, the objects inside it included: DynamoDB API
+-- Reference, the "Request Parameters" of each action (docs/API.md).
+use Rattle.std.specs.Prelude.{ℕ, List, [], ◌∷◌, true, false, Option, Some, None, codes, if◌then◌else◌, is_some, option_and_then}
+use Rattle.std.specs.Option.{option_map_or}
+use Rattle.serde_json.specs.Data.{Data, Items, no_items, item, Members, no_members, member}
+use Rattle.serde_json.specs.Find.{as_str, as_array, as_object}
+use Rattle.alt_shape.specs.declared.rule.Broken.{Broken}
+use Rattle.alt_shape.specs.declared.rule.Broken.TheVariants.{WrongKind}
+use Rattle.alt_shape.specs.Shape.{Form, a_text, a_whole, a_truth, an_object, an_array, a_word, Demand, given, or_next, first_unmet}
+
+-- ---- demands
+
+abbrev pub required : List ℕ → Form → Demand
+required name form = record { name = name; form = form; must = true }
+
+abbrev pub optional : List ℕ → Form → Demand
+optional name form = record { name = name; form = form; must = false }
+
+-- ---- inside a value
+
+-- the first fault of a list
+abbrev pub first_of : List (Option Broken) → Option Broken
+first_of [] = None
+first_of (fault ∷ faults) = or_next fault (first_of faults)
+
+-- the first fault among the items of an array, in list order
+abbrev pub in_items : (Data → Option Broken) → Items → Option Broken
+in_items fault no_items = None
+in_items fault (item d ds) = or_next (fault d) (in_items fault ds)
+
+-- the first fault among the members of an object, by name in byte order
+abbrev pub in_members : (Data → Option Broken) → Members → Option Broken
+in_members fault no_members = None
+in_members fault (member name d ms) = or_next (fault d) (in_members fault ms)
+
+-- a value that has to be a text
+abbrev pub text_fault : Data → Option Broken
+text_fault d = if is_some (as_str d) then None else Some WrongKind
+
+-- a value that has to be an object
+abbrev pub key_fault : Data → Option Broken
+key_fault d = if is_some (as_object d) then None else Some WrongKind
+
+-- a value that has to be an object whose members have no fault
+abbrev pub object_fault : (Members → Option Broken) → Data → Option Broken
+object_fault inside d = option_map_or inside (as_object d) (Some WrongKind)
+
+-- a value that has to be an array whose items have no fault
+abbrev pub array_fault : (Items → Option Broken) → Data → Option Broken
+array_fault inside d = option_map_or inside (as_array d) (Some WrongKind)
+
+-- a member that is an array, where it is there
+abbrev pub in_array : List ℕ → (Items → Option Broken) → Members → Option Broken
+in_array name inside ms = option_map_or inside (option_and_then as_array (given name ms)) None
+
+-- a member that is an object, where it is there
+abbrev pub in_object : List ℕ → (Members → Option Broken) → Members → Option Broken
+in_object name inside ms = option_map_or inside (option_and_then as_object (given name ms)) None
+
+-- ---- operations on tables
+
+abbrev pub create_table_demands : List Demand
+create_table_demands =
+    required (codes "TableName") a_text ∷
+    required (codes "KeySchema") an_array ∷
+    required (codes "AttributeDefinitions") an_array ∷
+    optional (codes "LocalSecondaryIndexes") an_array ∷
+    optional (codes "GlobalSecondaryIndexes") an_array ∷
+    optional (codes "StreamSpecification") an_object ∷ []
+
+abbrev pub key_schema_element : Members → Option Broken
+key_schema_element = first_unmet (
+    required (codes "AttributeName") a_text ∷
+    required (codes "KeyType") (a_word (codes "HASH" ∷ codes "RANGE" ∷ [])) ∷ [])
+
+abbrev pub key_schema : Items → Option Broken
+key_schema = in_items (object_fault key_schema_element)
+
+abbrev pub attribute_definition : Members → Option Broken
+attribute_definition = first_unmet (
+    required (codes "AttributeName") a_text ∷
+    required (codes "AttributeType") (a_word (codes "S" ∷ codes "N" ∷ codes "B" ∷ [])) ∷ [])
+
+abbrev pub projection : Members → Option Broken
+projection ms = first_of (
+    first_unmet (
+    required (codes "ProjectionType") (a_word (codes "ALL" ∷ codes "KEYS_ONLY" ∷ codes "INCLUDE" ∷ [])) ∷
+    optional (codes "NonKeyAttributes") an_array ∷ []) ms ∷
+    in_array (codes "NonKeyAttributes") (in_items text_fault) ms ∷ [])
+
+abbrev pub secondary_index : Members → Option Broken
+secondary_index ms = first_of (
+    first_unmet (
+    required (codes "IndexName") a_text ∷
+    required (codes "KeySchema") an_array ∷
+    required (codes "Projection") an_object ∷ []) ms ∷
+    in_array (codes "KeySchema") key_schema ms ∷
+    in_object (codes "Projection") projection ms ∷ [])
+
+abbrev pub stream_specification : Members → Option Broken
+stream_specification = first_unmet (
+    required (codes "StreamEnabled") a_truth ∷
+    optional (codes "StreamViewType") (a_word (codes "KEYS_ONLY" ∷ codes "NEW_IMAGE" ∷ codes "OLD_IMAGE" ∷ codes "NEW_AND_OLD_IMAGES" ∷ [])) ∷ [])
+
+unfoldable pub create_table : Members → Option Broken
+create_table ms = first_of (
+    first_unmet create_table_demands ms ∷
+    in_array (codes "KeySchema") key_schema ms ∷
+    in_array (codes "AttributeDefinitions") (in_items (object_fault attribute_definition)) ms ∷
+    in_array (codes "LocalSecondaryIndexes") (in_items (object_fault secondary_index)) ms ∷
+    in_array (codes "GlobalSecondaryIndexes") (in_items (object_fault secondary_index)) ms ∷
+    in_object (codes "StreamSpecification") stream_specification ms ∷ [])
+
+unfoldable pub describe_table : Members → Option Broken
+describe_table = first_unmet (required (codes "TableName") a_text ∷ [])
+
+unfoldable pub delete_table : Members → Option Broken
+delete_table = first_unmet (required (codes "TableName") a_text ∷ [])
+
+unfoldable pub list_tables : Members → Option Broken
+list_tables = first_unmet (
+    optional (codes "ExclusiveStartTableName") a_text ∷
+    optional (codes "Limit") (a_whole 1 100) ∷ [])
+
+-- ---- operations on an item
+
+-- the members of every write of one item, after those that are its own
+abbrev pub write_demands : List (List ℕ) → List Demand
+write_demands return_values =
+    optional (codes "ConditionExpression") a_text ∷
+    optional (codes "ExpressionAttributeNames") an_object ∷
+    optional (codes "ExpressionAttributeValues") an_object ∷
+    optional (codes "ReturnValues") (a_word return_values) ∷
+    optional (codes "ReturnValuesOnConditionCheckFailure") (a_word (codes "NONE" ∷ codes "ALL_OLD" ∷ [])) ∷ []
+
+unfoldable pub put_item : Members → Option Broken
+put_item = first_unmet (
+    required (codes "TableName") a_text ∷
+    required (codes "Item") an_object ∷
+    write_demands (codes "NONE" ∷ codes "ALL_OLD" ∷ []))
+
+unfoldable pub delete_item : Members → Option Broken
+delete_item = first_unmet (
+    required (codes "TableName") a_text ∷
+    required (codes "Key") an_object ∷
+    write_demands (codes "NONE" ∷ codes "ALL_OLD" ∷ []))
+
+unfoldable pub update_item : Members → Option Broken
+update_item = first_unmet (
+    required (codes "TableName") a_text ∷
+    required (codes "Key") an_object ∷
+    optional (codes "UpdateExpression") a_text ∷
+    write_demands (codes "NONE" ∷ codes "ALL_OLD" ∷ codes "UPDATED_OLD" ∷ codes "ALL_NEW" ∷ codes "UPDATED_NEW" ∷ []))
+
+unfoldable pub get_item : Members → Option Broken
+get_item = first_unmet (
+    required (codes "TableName") a_text ∷
+    required (codes "Key") an_object ∷
+    optional (codes "ProjectionExpression") a_text ∷
+    optional (codes "ExpressionAttributeNames") an_object ∷
+    optional (codes "ConsistentRead") a_truth ∷ [])
+
+-- ---- Query and Scan
+
+abbrev pub selections : List (List ℕ)
+selections = codes "ALL_ATTRIBUTES" ∷ codes "ALL_PROJECTED_ATTRIBUTES" ∷ codes "SPECIFIC_ATTRIBUTES" ∷ codes "COUNT" ∷ []
+
+unfoldable pub query : Members → Option Broken
+query = first_unmet (
+    required (codes "TableName") a_text ∷
+    optional (codes "IndexName") a_text ∷
+    required (codes "KeyConditionExpression") a_text ∷
+    optional (codes "FilterExpression") a_text ∷
+    optional (codes "ProjectionExpression") a_text ∷
+    optional (codes "ExpressionAttributeNames") an_object ∷
+    optional (codes "ExpressionAttributeValues") an_object ∷
+    optional (codes "Limit") (a_whole 1 2147483647) ∷
+    optional (codes "ScanIndexForward") a_truth ∷
+    optional (codes "ExclusiveStartKey") an_object ∷
+    optional (codes "ConsistentRead") a_truth ∷
+    optional (codes "Select") (a_word selections) ∷ [])
+
+unfoldable pub scan : Members → Option Broken
+scan = first_unmet (
+    required (codes "TableName") a_text ∷
+    optional (codes "IndexName") a_text ∷
+    optional (codes "FilterExpression") a_text ∷
+    optional (codes "ProjectionExpression") a_text ∷
+    optional (codes "ExpressionAttributeNames") an_object ∷
+    optional (codes "ExpressionAttributeValues") an_object ∷
+    optional (codes "Limit") (a_whole 1 2147483647) ∷
+    optional (codes "ExclusiveStartKey") an_object ∷
+    optional (codes "ConsistentRead") a_truth ∷
+    optional (codes "Select") (a_word selections) ∷
+    optional (codes "Segment") (a_whole 0 999999) ∷
+    optional (codes "TotalSegments") (a_whole 1 1000000) ∷ [])
+
+-- ---- batches
+
+abbrev pub put_request : Members → Option Broken
+put_request = first_unmet (required (codes "Item") an_object ∷ [])
+
+abbrev pub delete_request : Members → Option Broken
+delete_request = first_unmet (required (codes "Key") an_object ∷ [])
+
+abbrev pub write_request : Members → Option Broken
+write_request ms = first_of (
+    first_unmet (
+    optional (codes "PutRequest") an_object ∷
+    optional (codes "DeleteRequest") an_object ∷ []) ms ∷
+    in_object (codes "PutRequest") put_request ms ∷
+    in_object (codes "DeleteRequest") delete_request ms ∷ [])
+
+unfoldable pub batch_write_item : Members → Option Broken
+batch_write_item ms = first_of (
+    first_unmet (required (codes "RequestItems") an_object ∷ []) ms ∷
+    in_object (codes "RequestItems") (in_members (array_fault (in_items (object_fault write_request)))) ms ∷ [])
+
+abbrev pub keys_and_attributes : Members → Option Broken
+keys_and_attributes ms = first_of (
+    first_unmet (
+    required (codes "Keys") an_array ∷
+    optional (codes "ProjectionExpression") a_text ∷
+    optional (codes "ExpressionAttributeNames") an_object ∷
+    optional (codes "ConsistentRead") a_truth ∷ []) ms ∷
+    in_array (codes "Keys") (in_items key_fault) ms ∷ [])
+
+unfoldable pub batch_get_item : Members → Option Broken
+batch_get_item ms = first_of (
+    first_unmet (required (codes "RequestItems") an_object ∷ []) ms ∷
+    in_object (codes "RequestItems") (in_members (object_fault keys_and_attributes)) ms ∷ [])
+
+-- ---- streams
+
+unfoldable pub list_streams : Members → Option Broken
+list_streams = first_unmet (
+    optional (codes "TableName") a_text ∷
+    optional (codes "ExclusiveStartStreamArn") a_text ∷
+    optional (codes "Limit") (a_whole 1 100) ∷ [])
+
+unfoldable pub describe_stream : Members → Option Broken
+describe_stream = first_unmet (
+    required (codes "StreamArn") a_text ∷
+    optional (codes "ExclusiveStartShardId") a_text ∷
+    optional (codes "Limit") (a_whole 1 100) ∷ [])
+
+unfoldable pub get_shard_iterator : Members → Option Broken
+get_shard_iterator = first_unmet (
+    required (codes "StreamArn") a_text ∷
+    required (codes "ShardId") a_text ∷
+    required (codes "ShardIteratorType") (a_word (codes "TRIM_HORIZON" ∷ codes "LATEST" ∷ codes "AT_SEQUENCE_NUMBER" ∷ codes "AFTER_SEQUENCE_NUMBER" ∷ [])) ∷
+    optional (codes "SequenceNumber") a_text ∷ [])
+
+unfoldable pub get_records : Members → Option Broken
+get_records = first_unmet (
+    required (codes "ShardIterator") a_text ∷
+    optional (codes "Limit") (a_whole 1 1000) ∷ [])

@@ -1,0 +1,22 @@
+//! The shape of a request's body, and the refusals: which member breaks its rule first, and what a
+//! refused client is told.
+#![tactic(auto)]
+
+pub mod bodies;
+mod checking;
+mod fields;
+mod inside;
+mod refusal;
+mod rule;
+pub mod tables;
+
+pub use checking::check;
+pub use fields::{
+    array_at, object_at, required_array, required_object, required_text, required_truth, text_at,
+    truth_at, whole_at,
+};
+pub use refusal::{Refusal, Reply, refuse};
+pub use rule::{Broken, Kind, Rule, ShapeFault};
+
+#[cfg(test)]
+mod tests;

@@ -1,0 +1,165 @@
+//! What a refused client is told: the status, the name and the message of each refusal.
+
+ghost use Rattle.std.specs.Prelude.{◌≡◌, false, IfOk};
+ghost use Rattle.serde_json.specs.View.{view, members_view};
+ghost use Rattle.serde_json.specs.Written.{has_float};
+ghost use Rattle.alt_shape.specs.Refusals.{IsKnown, name_of, message_of, answer_of, answered, refused, refusal_of};
+
+use crate::rule::{Broken, ShapeFault};
+use alt_base::NoMemory;
+use serde_json::{Map, Value, json};
+use std::alloc::Global;
+
+/// Why a request is refused. Of several that apply a client is told the first, in the order that
+/// docs/API.md gives.
+#[derive(Clone, Copy, Debug, PartialEq, Eq)]
+pub enum Refusal {
+    /// UnknownOperationException.
+    E1,
+    /// SerializationException: the body, or a part of it, has another JSON kind.
+    E2,
+    /// ResourceNotFoundException: no such table or stream.
+    E4,
+    /// ResourceInUseException: the table is there already.
+    E5,
+    /// ConditionalCheckFailedException.
+    E6,
+    /// LimitExceededException: as many tables are there as may be.
+    E7,
+    /// TrimmedDataAccessException: the records asked for were trimmed.
+    E8,
+    /// ValidationException, with the message of that number.
+    Invalid(u8),
+}
+
+impl From<Broken> for Refusal {
+    ghost from_gives = { λ broken refusal. refusal ≡ refusal_of broken };
+
+    fn from(broken: Broken) -> Refusal {
+        match broken {
+            Broken::WrongKind => Refusal::E2,
+            Broken::Missing => Refusal::Invalid(1),
+            Broken::OutOfRange => Refusal::Invalid(2),
+        }
+    }
+}
+
+impl From<ShapeFault> for Refusal {
+    ghost from_gives = { λ fault refusal. refusal ≡ refusal_of fault.broken };
+
+    fn from(fault: ShapeFault) -> Refusal {
+        Refusal::from(fault.broken)
+    }
+}
+
+/// What a client is answered: an HTTP status and a JSON object.
+#[derive(Debug, PartialEq, Drop)]
+pub struct Reply {
+    pub status: u16,
+    pub body: Value,
+}
+
+impl Reply {
+    /// The answer of an operation that wasn't refused: status 200 and an object of these members.
+    pub fn answered(members: Map<String, Value>) -> Reply
+        ensures { answer_of result ≡ answered (members_view members.entries) }
+    {
+        Reply {
+            status: 200,
+            body: Value::Object(members),
+        }
+    }
+}
+
+/// The reply to a request that is refused: status 400, and an object with the refusal's `__type`
+/// and its `message`.
+pub fn refuse(alloc: Global, r: Refusal) -> Result<Reply, NoMemory>
+    requires { IsKnown r }
+    ensures told { IfOk result (λ reply. answer_of reply ≡ refused r) }
+    ensures no_float { IfOk result (λ reply. has_float (view reply.body) ≡ false) }
+{
+    let body = json!(in alloc; {"__type": type_text(r), "message": message_text(r)})?;
+    Ok(Reply { status: 400, body })
+}
+
+macro_rules! exception {
+    ($name:literal) => {
+        concat!("com.amazonaws.dynamodb.v20120810#", $name)
+    };
+}
+
+fn type_text(r: Refusal) -> &'static str
+    ensures { result.now ≡ name_of r }
+{
+    match r {
+        Refusal::E1 => exception!("UnknownOperationException"),
+        Refusal::E2 => exception!("SerializationException"),
+        Refusal::E4 => exception!("ResourceNotFoundException"),
+        Refusal::E5 => exception!("ResourceInUseException"),
+        Refusal::E6 => exception!("ConditionalCheckFailedException"),
+        Refusal::E7 => exception!("LimitExceededException"),
+        Refusal::E8 => exception!("TrimmedDataAccessException"),
+        Refusal::Invalid(_) => exception!("ValidationException"),
+    }
+}
+
+fn message_text(r: Refusal) -> &'static str
+    requires { IsKnown r }
+    ensures { result.now ≡ message_of r }
+{
+    match r {
+        Refusal::E1 => "unknown operation",
+        Refusal::E2 => "the body cannot be read",
+        Refusal::E4 => "Requested resource not found",
+        Refusal::E5 => "table already exists",
+        Refusal::E6 => "The conditional request failed",
+        Refusal::E7 => "too many tables",
+        Refusal::E8 => "the change records were trimmed",
+        Refusal::Invalid(number) => invalid_text(number),
+    }
+}
+
+fn invalid_text(number: u8) -> &'static str
+    requires { IsKnown (Refusal.Invalid number) }
+    ensures { result.now ≡ message_of (Refusal.Invalid number) }
+{
+    match number {
+        0 => "not built yet",
+        1 => "a required member is missing",
+        2 => "a member is out of its range",
+        3 => "members do not go together",
+        4 => "bad table or index name",
+        5 => "bad key schema or attribute definitions",
+        6 => "bad index",
+        7 => "an attribute value needs one known kind",
+        8 => "not a number",
+        9 => "a number has more than 38 digits",
+        10 => "a number is too large",
+        11 => "a number is too small",
+        12 => "bad base64",
+        13 => "an empty set",
+        14 => "a repeated member in a set",
+        15 => "NULL must be true",
+        16 => "nested too deep",
+        17 => "no such index",
+        18 => "bad expression",
+        19 => "undefined name or value",
+        20 => "unused name or value",
+        21 => "expression too large",
+        22 => "overlapping paths or a repeated clause",
+        23 => "bad key",
+        24 => "key too long",
+        25 => "bad index key",
+        26 => "an update of a key attribute",
+        27 => "bad path or kind in an update",
+        28 => "item too large",
+        29 => "bad key condition",
+        30 => "bad start key",
+        31 => "bad batch",
+        32 => "bad stream argument",
+        33 => "bad time to live",
+        34 => "bad index update",
+        35 => "bad legacy parameter",
+        _ => unreachable!(),
+    }
+}

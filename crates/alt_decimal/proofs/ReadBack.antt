@@ -1,6 +1,7 @@
 -- The bytes of a magnitude are read back, and what is read has these bytes.
 use Rattle.std.proofs.Common.{◌≡◌, ◌≢◌, ℕ, zero, suc, ◌+◌, ◌-◌, ◌*◌, ◌/◌, ◌%◌, ◌^◌, ◌<◌, ◌≤◌, Bool, true, false, List, [], ◌∷◌, ◌++◌, length, get_or, take, drop, map, refl, sym, ap, ◌∙◌, subst, arith, append_assoc, length-append, length-take, inl, inr, Some, Option}
-use Rattle.std.specs.Prelude.{ℤ, nat_abs, if◌then◌else◌, ◌⊎◌}
+use Rattle.std.specs.Int.{is_negative}
+use Rattle.std.specs.Prelude.{ℤ, pos, nat_abs, if◌then◌else◌, ◌⊎◌}
 use Rattle.std.proofs.Math.Nat.{mul-pos, pow-suc}
 use Rattle.std.proofs.Math.Seq.{take-append_seam}
 use Rattle.std.proofs.lemmas.Nat.{pow-add}
@@ -16,7 +17,8 @@ use Rattle.alt_decimal.proofs.Widths.{width-le, width-pos, lt-width, width-low, 
 use Rattle.alt_decimal.proofs.Magnitudes.{digit_count-mul}
 use Rattle.alt_decimal.proofs.Padded.{digits_of-padded, padded-last, length-padded}
 use Rattle.alt_decimal.proofs.Pairs.{pairs-filled}
-use Rattle.alt_decimal.proofs.Spelling.{magnitude_bytes-mul}
+use Rattle.alt_decimal.proofs.Spelling.{magnitude_bytes-mul, spelled-zero}
+use Rattle.alt_decimal.proofs.Fitting.{with_sign-nat_abs}
 use Rattle.alt_decimal.proofs.Trimmed.{Trimmed, trimmed_of}
 use Rattle.alt_decimal.proofs.Unspelling.{IsPairs, pairs_below, pairs_padded, AreOf, pairs_of}
 
@@ -340,3 +342,149 @@ module _ (negative : Bool) (m : ℕ) (size : IsMagnitude m) (t : Trimmed m) (b :
             omega (arith, d.place, byte_place, high negative m size t, ap width same) in
         d.is ∙ ap (λ u. with_sign negative (u * 10 ^ d.behind)) same ∙ ap (λ i. with_sign negative (co negative m size t * 10 ^ i)) behind
         ∙ ap (with_sign negative) (sym t.is)
+
+-- ---- the same, by what the reader's calls gave
+
+module _ (negative : Bool) (m : ℕ) (size : IsMagnitude m) (rest : List ℕ) where
+  trimmed_m : Trimmed m
+  trimmed_m = trimmed_of m (omega (arith, size.least))
+
+  shape : raws negative (magnitude_bytes m) ++ rest
+      ≡ raw negative (place negative m size trimmed_m) ∷ (raws negative (ps negative m size trimmed_m ++ 0 ∷ []) ++ rest)
+  shape = ap (λ ts. raws negative ts ++ rest) (bytes_of negative m size trimmed_m)
+
+  module _ (b : ℕ) (bs : List ℕ) (is : b ∷ bs ≡ raws negative (magnitude_bytes m) ++ rest) where
+    first_is : b ≡ raw negative (place negative m size trimmed_m)
+    first_is = let e = is ∙ shape in cc
+
+    rest_is : bs ≡ raws negative (ps negative m size trimmed_m ++ 0 ∷ []) ++ rest
+    rest_is = let e = is ∙ shape in cc
+
+    none_here : ((n : ℕ) → Ends (raws negative bs) n → ⊥) → ⊥
+    none_here none = none (fill negative m size trimmed_m).n (ends negative m size trimmed_m b bs rest first_is rest_is)
+
+    module _ (c n : ℕ) (e : Ends (raws negative bs) n) (value : c ≡ pairs_value_after 0 (take n (raws negative bs))) where
+      bad_here : (IsWhole c n → ⊥) → ⊥
+      bad_here bad = bad (whole negative m size trimmed_m b bs rest first_is rest_is c n e value)
+
+      right_here : (z : ℤ) → Decodes negative (raw negative b) c n z
+          → (let found : Option (ℤ × ℕ) = Some (z, n + 3) in found ≡ Some (with_sign negative m, 1 + length (magnitude_bytes m)))
+      right_here z d =
+          let same : z ≡ with_sign negative m = right negative m size trimmed_m b bs rest first_is rest_is c n e value z d in
+          let len : n + 3 ≡ 1 + length (magnitude_bytes m) =
+              ap (λ k. k + 3) (same_n negative m size trimmed_m b bs rest first_is rest_is c n e value) ∙ sym (length-magnitude negative m size trimmed_m) in
+          rw (same, len) refl
+
+
+pub every_empty : (negative : Bool) (m : ℕ) (size : IsMagnitude m) (bytes rest : List ℕ) → length bytes < 1 → bytes ≡ raws negative (magnitude_bytes m) ++ rest → ⊥
+every_empty negative m size bytes rest none is = omega (arith, none, ap length (is ∙ shape negative m size rest))
+
+pub every_none : (negative : Bool) (m : ℕ) (size : IsMagnitude m) (bytes rest : List ℕ) → 1 ≤ length bytes → bytes ≡ raws negative (magnitude_bytes m) ++ rest
+    → ((n : ℕ) → Ends (raws negative (take (length bytes - 1) (drop 1 bytes))) n → ⊥) → ⊥
+every_none negative m size [] rest some is none = absurd (omega arith)
+every_none negative m size (b ∷ bs) rest some is none =
+    none_here negative m size rest b bs is (subst (λ (ts : List ℕ). (n : ℕ) → Ends (raws negative ts) n → ⊥) (rest_of b bs) none)
+
+pub every_bad : (negative : Bool) (m : ℕ) (size : IsMagnitude m) (bytes rest : List ℕ) (c n : ℕ) → 1 ≤ length bytes → bytes ≡ raws negative (magnitude_bytes m) ++ rest
+    → Ends (raws negative (take (length bytes - 1) (drop 1 bytes))) n × (c ≡ pairs_value_after 0 (take n (raws negative (take (length bytes - 1) (drop 1 bytes)))))
+    → (IsWhole c n → ⊥) → ⊥
+every_bad negative m size [] rest c n some is e bad = absurd (omega arith)
+every_bad negative m size (b ∷ bs) rest c n some is e bad =
+    let Held : List ℕ → Type 0 = λ (ts : List ℕ). Ends (raws negative ts) n × (c ≡ pairs_value_after 0 (take n (raws negative ts))) in
+    let h : Held bs = subst Held (rest_of b bs) e in
+    bad_here negative m size rest b bs is c n h.0 h.1 bad
+
+pub every_right : (negative : Bool) (m : ℕ) (size : IsMagnitude m) (bytes rest : List ℕ) (c n r : ℕ) (z : ℤ) → 1 ≤ length bytes → bytes ≡ raws negative (magnitude_bytes m) ++ rest
+    → r ≡ raw negative (get_or bytes 0 0)
+    → Ends (raws negative (take (length bytes - 1) (drop 1 bytes))) n × (c ≡ pairs_value_after 0 (take n (raws negative (take (length bytes - 1) (drop 1 bytes)))))
+    → Decodes negative r c n z
+    → (let found : Option (ℤ × ℕ) = Some (z, n + 3) in found ≡ Some (with_sign negative m, 1 + length (magnitude_bytes m)))
+every_right negative m size [] rest c n r z some is first e d = absurd (omega arith)
+every_right negative m size (b ∷ bs) rest c n r z some is first e d =
+    let Held : List ℕ → Type 0 = λ (ts : List ℕ). Ends (raws negative ts) n × (c ≡ pairs_value_after 0 (take n (raws negative ts))) in
+    let h : Held bs = subst Held (rest_of b bs) e in
+    right_here negative m size rest b bs is c n h.0 h.1 z (subst (λ (p : ℕ). Decodes negative p c n z) first d)
+
+-- ---- whole spellings
+
+suc_is : (n : ℕ) → suc n ≡ 1 + n
+suc_is n = omega arith
+
+sign_byte : (s negative : Bool) → (let a : ℕ = if s then 1 else 3 in a ≡ (if negative then 1 else 3)) → s ≡ negative
+sign_byte true true e = refl
+sign_byte false false e = refl
+sign_byte true false e = absurd (omega (arith, e))
+sign_byte false true e = absurd (omega (arith, e))
+
+-- a number above or below zero, by its sign and its magnitude
+module _ (z : ℤ) (size : IsMagnitude (nat_abs z)) where
+  spelled-magnitude : spelled z ≡ (if is_negative z then 1 else 3) ∷ raws (is_negative z) (magnitude_bytes (nat_abs z))
+  spelled-magnitude =
+      ap spelled (sym (with_sign-nat_abs z)) ∙ spelled-with_sign (is_negative z) (nat_abs z) (omega (arith, size.least))
+
+  length-spelled : length (spelled z) ≡ 1 + length (magnitude_bytes (nat_abs z))
+  length-spelled = ap length spelled-magnitude ∙ ap (λ n. suc n) (length-map (magnitude_bytes (nat_abs z)) (raw (is_negative z))) ∙ suc_is _
+
+  -- read behind the first byte
+  read_signed : (negative : Bool) (b : ℕ) (bs rest : List ℕ) (result : Option (ℤ × ℕ)) → b ≡ (if negative then 1 else 3) → b ∷ bs ≡ spelled z ++ rest
+      → ((m : ℕ) (after : List ℕ) → IsMagnitude m → bs ≡ raws negative (magnitude_bytes m) ++ after
+          → result ≡ Some (with_sign negative m, 1 + length (magnitude_bytes m)))
+      → result ≡ Some (z, length (spelled z))
+  read_signed negative b bs rest result first is read =
+      let parts : b ∷ bs ≡ (if is_negative z then 1 else 3) ∷ (raws (is_negative z) (magnitude_bytes (nat_abs z)) ++ rest) =
+          is ∙ ap (λ ts. ts ++ rest) spelled-magnitude in
+      let byte : b ≡ (if is_negative z then 1 else 3) = cc in
+      let same : is_negative z ≡ negative = sign_byte (is_negative z) negative (sym byte ∙ first) in
+      let behind : bs ≡ raws (is_negative z) (magnitude_bytes (nat_abs z)) ++ rest = cc in
+      let found = read (nat_abs z) rest size (behind ∙ ap (λ s. raws s (magnitude_bytes (nat_abs z)) ++ rest) same) in
+      let number : with_sign negative (nat_abs z) ≡ z = ap (λ s. with_sign s (nat_abs z)) (sym same) ∙ with_sign-nat_abs z in
+      found ∙ ap (λ y. Some (y, 1 + length (magnitude_bytes (nat_abs z)))) number ∙ ap (λ n. Some (z, n)) (sym length-spelled)
+
+  first_of : (b : ℕ) (bs rest : List ℕ) → b ∷ bs ≡ spelled z ++ rest → b ≡ (if is_negative z then 1 else 3)
+  first_of b bs rest is = let e = is ∙ ap (λ ts. ts ++ rest) spelled-magnitude in cc
+
+zero_first : (b : ℕ) (bs rest : List ℕ) → b ∷ bs ≡ spelled (pos 0) ++ rest → b ≡ 2
+zero_first b bs rest is = let e = is ∙ ap (λ ts. ts ++ rest) spelled-zero in cc
+
+not_two : (s : Bool) → (let a : ℕ = if s then 1 else 3 in a ≡ 2) → ⊥
+not_two true e = omega (arith, e)
+not_two false e = omega (arith, e)
+
+one_or_three : (s : Bool) (b : ℕ) → b ≡ (if s then 1 else 3) → (b ≡ 1) ⊎ (b ≡ 3)
+one_or_three true b e = inl e
+one_or_three false b e = inr e
+
+pub every_signed : (negative : Bool) (bytes rest : List ℕ) (z : ℤ) (result : Option (ℤ × ℕ)) → 1 ≤ length bytes → get_or bytes 0 0 ≡ (if negative then 1 else 3)
+    → Fits z → bytes ≡ spelled z ++ rest
+    → ((m : ℕ) (after : List ℕ) → IsMagnitude m → take (length bytes - 1) (drop 1 bytes) ≡ raws negative (magnitude_bytes m) ++ after
+        → result ≡ Some (with_sign negative m, 1 + length (magnitude_bytes m)))
+    → result ≡ Some (z, length (spelled z))
+every_signed negative [] rest z result some first fits is read = absurd (omega arith)
+every_signed negative (b ∷ bs) rest z result some first fits is read = elim fits [
+    inl none ↦ absurd (not_two negative (sym first ∙ zero_first b bs rest (is ∙ ap (λ y. spelled y ++ rest) none)))
+  | inr size ↦ read_signed z size negative b bs rest result first is (λ m after s e. read m after s (rest_of b bs ∙ e))
+]
+
+pub every_zero : (bytes rest : List ℕ) (z y : ℤ) → 1 ≤ length bytes → get_or bytes 0 0 ≡ 2 → Fits z → bytes ≡ spelled z ++ rest → y ≡ pos 0
+    → (let found : Option (ℤ × ℕ) = Some (y, 1) in found ≡ Some (z, length (spelled z)))
+every_zero [] rest z y some first fits is zero_is = absurd (omega arith)
+every_zero (b ∷ bs) rest z y some first fits is zero_is = elim fits [
+    inl none ↦ rw (zero_is, none) (ap (λ n. Some (pos 0, n)) (sym (ap length spelled-zero)))
+  | inr size ↦ absurd (not_two (is_negative z) (sym (first_of z size b bs rest is) ∙ first))
+]
+
+-- the first byte of a spelling is one of three
+pub first_bytes : (bytes rest : List ℕ) (z : ℤ) → Fits z → bytes ≡ spelled z ++ rest → (0 < length bytes) × ((get_or bytes 0 0 ≡ 2) ⊎ ((get_or bytes 0 0 ≡ 1) ⊎ (get_or bytes 0 0 ≡ 3)))
+first_bytes [] rest z fits is = elim fits [
+    inl none ↦ absurd (omega (arith, ap length (is ∙ ap (λ y. spelled y ++ rest) none ∙ ap (λ ts. ts ++ rest) spelled-zero)))
+  | inr size ↦ absurd (omega (arith, ap length (is ∙ ap (λ ts. ts ++ rest) (spelled-magnitude z size))))
+]
+first_bytes (b ∷ bs) rest z fits is = elim fits [
+    inl none ↦ (omega arith, inl (zero_first b bs rest (is ∙ ap (λ y. spelled y ++ rest) none)))
+  | inr size ↦ (omega arith, inr (one_or_three (is_negative z) b (first_of z size b bs rest is)))
+]
+
+-- the bytes of zero
+pub zero_bytes : (bytes : List ℕ) (y : ℤ) → 1 ≤ length bytes → get_or bytes 0 0 ≡ 2 → y ≡ pos 0 → (take 1 bytes ≡ spelled y) × Fits y
+zero_bytes [] y some first zero_is = absurd (omega arith)
+zero_bytes (b ∷ bs) y some first zero_is = (ap (λ x. x ∷ []) first ∙ sym (ap spelled zero_is ∙ spelled-zero), inl zero_is)

@@ -48,10 +48,18 @@ impl Decimal {
         }
     {
         match bytes {
-            [1, rest @ ..] => read_magnitude(rest, true),
-            [2, ..] => Some((zero(), 1)),
-            [3, rest @ ..] => read_magnitude(rest, false),
-            _ => None,
+            [first, rest @ ..] => {
+                if *first == AT_ZERO {
+                    Some((zero(), 1))
+                } else if *first == BELOW_ZERO {
+                    read_magnitude(rest, true)
+                } else if *first == ABOVE_ZERO {
+                    read_magnitude(rest, false)
+                } else {
+                    None
+                }
+            }
+            [] => None,
         }
     }
 }

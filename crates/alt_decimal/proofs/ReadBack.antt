@@ -1,19 +1,19 @@
 -- The bytes of a magnitude are read back, and what is read has these bytes.
-use Rattle.std.proofs.Common.{◌≡◌, ◌≢◌, ℕ, zero, suc, ◌+◌, ◌-◌, ◌*◌, ◌/◌, ◌%◌, ◌^◌, ◌<◌, ◌≤◌, Bool, true, false, List, [], ◌∷◌, ◌++◌, length, get_or, take, drop, map, refl, sym, ap, ◌∙◌, subst, arith, append_assoc, length-append, length-take, inl, inr, Some, Option}
+use Rattle.std.proofs.Common.{◌≡◌, ℕ, zero, suc, ◌+◌, ◌-◌, ◌*◌, ◌/◌, ◌%◌, ◌^◌, ◌<◌, ◌≤◌, Bool, true, false, List, [], ◌∷◌, ◌++◌, length, get_or, take, drop, refl, sym, ap, ◌∙◌, subst, arith, append_assoc, length-append, length-take, inl, inr, Some, Option}
 use Rattle.std.specs.Int.{is_negative}
 use Rattle.std.specs.Prelude.{ℤ, pos, nat_abs, if◌then◌else◌, ◌⊎◌}
 use Rattle.std.proofs.Math.Nat.{mul-pos, pow-suc}
 use Rattle.std.proofs.Math.Seq.{take-append_seam}
 use Rattle.std.proofs.lemmas.Nat.{pow-add}
-use Rattle.std.proofs.lemmas.List.{take_more, get_or-map, length-map, map-append, get_or_append_left, get_or-append-add}
-use Rattle.std.proofs.lemmas.Bool.{cases_order, cases_lt, cases_eq, ne_eqb}
+use Rattle.std.proofs.lemmas.List.{take_more, length-map, map-append, get_or_append_left, get_or-append-add}
+use Rattle.std.proofs.lemmas.Bool.{cases_order, cases_eq, ne_eqb}
 use Rattle.std.specs.Int.Digits.{digits_of}
 use Rattle.alt_decimal.specs.Digits.{width, padded, digit_count}
 use Rattle.alt_decimal.specs.Number.{with_sign, Fits, IsMagnitude}
-use Rattle.alt_decimal.specs.Spelled.{pairs, complement, magnitude_bytes, spelled}
+use Rattle.alt_decimal.specs.Spelled.{pairs, magnitude_bytes, spelled}
 use Rattle.alt_decimal.specs.Unspelled.{raw, raws, pairs_value_after, IsPair, Ends, IsWhole, Decodes, IsSpelledAt}
 use Rattle.alt_decimal.specs.Normal.{ten_pow_pos, nat_abs-with_sign, is_negative-with_sign}
-use Rattle.alt_decimal.proofs.Widths.{width-le, width-pos, lt-width, width-low, mul-ge, mul-lt, mul-width_gt, mul-width_le, width-mul, case_pos, ten_pow-le}
+use Rattle.alt_decimal.proofs.Widths.{width-le, width-pos, lt-width, width-low, mul-ge, mul-lt, mul-width_gt, mul-width_le, case_pos, ten_pow-le}
 use Rattle.alt_decimal.proofs.Magnitudes.{digit_count-mul}
 use Rattle.alt_decimal.proofs.Padded.{digits_of-padded, padded-last, length-padded}
 use Rattle.alt_decimal.proofs.Pairs.{pairs-filled}
@@ -72,11 +72,11 @@ Ends-below bs n e = subst (λ (k : ℕ). pairs_value_after 0 (take n bs) < 10 ^ 
 
 Ends-same : (bs : List ℕ) (m n : ℕ) → Ends bs m → Ends bs n → m ≡ n
 Ends-same bs m n e f = elim (cases_order m n) [
-    inl same ↦ same
+  | inl same ↦ same
   | inr other ↦ elim other [
-      inl lt ↦ absurd (omega (arith, (f.pairs m lt).0, e.at_end))
+    | inl lt ↦ absurd (omega (arith, (f.pairs m lt).0, e.at_end))
     | inr gt ↦ absurd (omega (arith, (e.pairs n gt).0, f.at_end))
-    ]
+  ]
 ]
 
 pairs-at : (ps : List ℕ) → IsPairs ps → (k : ℕ) → k < length ps → IsPair (get_or ps k 0)
@@ -103,7 +103,7 @@ pub record Filled (t c n : ℕ) : Type 0 where
 
 pairs-Filled : (t c n : ℕ) → 0 < n → ((t ≡ c) × (width t ≡ 2 * n)) ⊎ ((c ≡ t * 10) × (width t + 1 ≡ 2 * n)) → pairs (digits_of 10 t) ≡ pairs (padded (2 * n) c)
 pairs-Filled t c n some h = elim h [
-    inl e ↦ ap pairs (digits_of-padded t) ∙ ap (λ i. pairs (padded i t)) e.1 ∙ ap (λ m. pairs (padded (2 * n) m)) e.0
+  | inl e ↦ ap pairs (digits_of-padded t) ∙ ap (λ i. pairs (padded i t)) e.1 ∙ ap (λ m. pairs (padded (2 * n) m)) e.0
   | inr e ↦
       let w = width t in
       let suc_w : 2 * n ≡ suc w = omega (arith, e.1) in
@@ -157,7 +157,7 @@ module _ (negative : Bool) (first : ℕ) (rest : List ℕ) (c n : ℕ) (z : ℤ)
       let place : width t + d.behind - 38 ≡ raw negative first = omega (arith, d.place) in
       let two : n + 2 ≡ suc (n + 1) = omega arith in
       let front : take n bs ++ 0 ∷ [] ≡ take (n + 1) bs =
-          ap (λ b. take n bs ++ b ∷ []) (sym e.at_end) ∙ sym (take_more bs n 0 e.within) in
+      ap (λ b. take n bs ++ b ∷ []) (sym e.at_end) ∙ sym (take_more bs n 0 e.within) in
       magnitude_bytes-mul t d.behind d.last ∙ ap (λ p. p ∷ (pairs (digits_of 10 t) ++ 0 ∷ [])) place
       ∙ ap (λ ps. raw negative first ∷ (ps ++ 0 ∷ [])) read_pairs ∙ ap (λ ps. raw negative first ∷ ps) (front ∙ sym (raws-take negative (n + 1) rest))
       ∙ ap (λ i. raws negative (take i (first ∷ rest))) (sym two)
@@ -209,7 +209,7 @@ pub record Filling (t : ℕ) : Type 0 where
 
 pub filling : (t : ℕ) → Filling t
 filling t = elim (cases_eq (width t % 2) 0) [
-    inl even ↦ record { c = t; n = width t / 2; digits = inl (refl, omega (arith, even)) }
+  | inl even ↦ record { c = t; n = width t / 2; digits = inl (refl, omega (arith, even)) }
   | inr odd ↦ record { c = t * 10; n = (width t + 1) / 2; digits = inr (refl, omega (arith, odd)) }
 ]
 
@@ -222,13 +222,13 @@ module _ (t : ℕ) (last : 0 < t % 10) (few : t < 10 ^ 38) (f : Filling t) where
 
   filled_below : f.c < 10 ^ (2 * f.n)
   filled_below = elim f.digits [
-      inl h ↦ rw (← h.0, ← h.1) (lt-width t)
+    | inl h ↦ rw (← h.0, ← h.1) (lt-width t)
     | inr h ↦ rw (← h.1, h.0) (omega (arith, lt-width t, pow-add 10 (width t) 1))
   ]
 
   filled_whole : IsWhole f.c f.n
   filled_whole = elim f.digits [
-      inl h ↦
+    | inl h ↦
         let (w, e) = case_pos (width t) (width-pos t (omega (arith, last))) in
         let i : 2 * f.n - 1 ≡ w = omega (arith, h.1, e) in
         record { some = filled_some; first = rw (i, ← h.0) (width-low t w e); last = rw (← h.0) (λ z. omega (arith, z, last)) }
@@ -244,7 +244,7 @@ module _ (t : ℕ) (last : 0 < t % 10) (few : t < 10 ^ 38) (f : Filling t) where
   -- and the coefficient is told by it
   filled_same : (u : ℕ) → 0 < u % 10 → ((u ≡ f.c) × (width u ≡ 2 * f.n)) ⊎ ((f.c ≡ u * 10) × (width u + 1 ≡ 2 * f.n)) → u ≡ t
   filled_same u last_u h = elim f.digits [
-      inl g ↦ elim h [ inl k ↦ k.0 ∙ sym g.0 | inr k ↦ absurd (omega (arith, g.0, k.0, last)) ]
+    | inl g ↦ elim h [ inl k ↦ k.0 ∙ sym g.0 | inr k ↦ absurd (omega (arith, g.0, k.0, last)) ]
     | inr g ↦ elim h [ inl k ↦ absurd (omega (arith, g.0, k.0, last_u)) | inr k ↦ omega (arith, g.0, k.0) ]
   ]
 
@@ -337,9 +337,9 @@ module _ (negative : Bool) (m : ℕ) (size : IsMagnitude m) (t : Trimmed m) (b :
     pub right : (z : ℤ) → Decodes negative (raw negative b) c n z → z ≡ with_sign negative m
     right z d =
         let same : d.coefficient ≡ co negative m size t =
-            filled_same (co negative m size t) t.last (few_co negative m size t) held d.coefficient d.last (rw (← same_c, ← same_n) d.digits) in
+        filled_same (co negative m size t) t.last (few_co negative m size t) held d.coefficient d.last (rw (← same_c, ← same_n) d.digits) in
         let behind : d.behind ≡ be negative m size t =
-            omega (arith, d.place, byte_place, high negative m size t, ap width same) in
+        omega (arith, d.place, byte_place, high negative m size t, ap width same) in
         d.is ∙ ap (λ u. with_sign negative (u * 10 ^ d.behind)) same ∙ ap (λ i. with_sign negative (co negative m size t * 10 ^ i)) behind
         ∙ ap (with_sign negative) (sym t.is)
 
@@ -372,9 +372,8 @@ module _ (negative : Bool) (m : ℕ) (size : IsMagnitude m) (rest : List ℕ) wh
       right_here z d =
           let same : z ≡ with_sign negative m = right negative m size trimmed_m b bs rest first_is rest_is c n e value z d in
           let len : n + 3 ≡ 1 + length (magnitude_bytes m) =
-              ap (λ k. k + 3) (same_n negative m size trimmed_m b bs rest first_is rest_is c n e value) ∙ sym (length-magnitude negative m size trimmed_m) in
+          ap (λ k. k + 3) (same_n negative m size trimmed_m b bs rest first_is rest_is c n e value) ∙ sym (length-magnitude negative m size trimmed_m) in
           rw (same, len) refl
-
 
 pub every_empty : (negative : Bool) (m : ℕ) (size : IsMagnitude m) (bytes rest : List ℕ) → length bytes < 1 → bytes ≡ raws negative (magnitude_bytes m) ++ rest → ⊥
 every_empty negative m size bytes rest none is = omega (arith, none, ap length (is ∙ shape negative m size rest))
@@ -428,11 +427,11 @@ module _ (z : ℤ) (size : IsMagnitude (nat_abs z)) where
   -- read behind the first byte
   read_signed : (negative : Bool) (b : ℕ) (bs rest : List ℕ) (result : Option (ℤ × ℕ)) → b ≡ (if negative then 1 else 3) → b ∷ bs ≡ spelled z ++ rest
       → ((m : ℕ) (after : List ℕ) → IsMagnitude m → bs ≡ raws negative (magnitude_bytes m) ++ after
-          → result ≡ Some (with_sign negative m, 1 + length (magnitude_bytes m)))
+      → result ≡ Some (with_sign negative m, 1 + length (magnitude_bytes m)))
       → result ≡ Some (z, length (spelled z))
   read_signed negative b bs rest result first is read =
       let parts : b ∷ bs ≡ (if is_negative z then 1 else 3) ∷ (raws (is_negative z) (magnitude_bytes (nat_abs z)) ++ rest) =
-          is ∙ ap (λ ts. ts ++ rest) spelled-magnitude in
+      is ∙ ap (λ ts. ts ++ rest) spelled-magnitude in
       let byte : b ≡ (if is_negative z then 1 else 3) = cc in
       let same : is_negative z ≡ negative = sign_byte (is_negative z) negative (sym byte ∙ first) in
       let behind : bs ≡ raws (is_negative z) (magnitude_bytes (nat_abs z)) ++ rest = cc in
@@ -457,11 +456,11 @@ one_or_three false b e = inr e
 pub every_signed : (negative : Bool) (bytes rest : List ℕ) (z : ℤ) (result : Option (ℤ × ℕ)) → 1 ≤ length bytes → get_or bytes 0 0 ≡ (if negative then 1 else 3)
     → Fits z → bytes ≡ spelled z ++ rest
     → ((m : ℕ) (after : List ℕ) → IsMagnitude m → take (length bytes - 1) (drop 1 bytes) ≡ raws negative (magnitude_bytes m) ++ after
-        → result ≡ Some (with_sign negative m, 1 + length (magnitude_bytes m)))
+    → result ≡ Some (with_sign negative m, 1 + length (magnitude_bytes m)))
     → result ≡ Some (z, length (spelled z))
 every_signed negative [] rest z result some first fits is read = absurd (omega arith)
 every_signed negative (b ∷ bs) rest z result some first fits is read = elim fits [
-    inl none ↦ absurd (not_two negative (sym first ∙ zero_first b bs rest (is ∙ ap (λ y. spelled y ++ rest) none)))
+  | inl none ↦ absurd (not_two negative (sym first ∙ zero_first b bs rest (is ∙ ap (λ y. spelled y ++ rest) none)))
   | inr size ↦ read_signed z size negative b bs rest result first is (λ m after s e. read m after s (rest_of b bs ∙ e))
 ]
 
@@ -469,18 +468,18 @@ pub every_zero : (bytes rest : List ℕ) (z y : ℤ) → 1 ≤ length bytes → 
     → (let found : Option (ℤ × ℕ) = Some (y, 1) in found ≡ Some (z, length (spelled z)))
 every_zero [] rest z y some first fits is zero_is = absurd (omega arith)
 every_zero (b ∷ bs) rest z y some first fits is zero_is = elim fits [
-    inl none ↦ rw (zero_is, none) (ap (λ n. Some (pos 0, n)) (sym (ap length spelled-zero)))
+  | inl none ↦ rw (zero_is, none) (ap (λ n. Some (pos 0, n)) (sym (ap length spelled-zero)))
   | inr size ↦ absurd (not_two (is_negative z) (sym (first_of z size b bs rest is) ∙ first))
 ]
 
 -- the first byte of a spelling is one of three
 pub first_bytes : (bytes rest : List ℕ) (z : ℤ) → Fits z → bytes ≡ spelled z ++ rest → (0 < length bytes) × ((get_or bytes 0 0 ≡ 2) ⊎ ((get_or bytes 0 0 ≡ 1) ⊎ (get_or bytes 0 0 ≡ 3)))
 first_bytes [] rest z fits is = elim fits [
-    inl none ↦ absurd (omega (arith, ap length (is ∙ ap (λ y. spelled y ++ rest) none ∙ ap (λ ts. ts ++ rest) spelled-zero)))
+  | inl none ↦ absurd (omega (arith, ap length (is ∙ ap (λ y. spelled y ++ rest) none ∙ ap (λ ts. ts ++ rest) spelled-zero)))
   | inr size ↦ absurd (omega (arith, ap length (is ∙ ap (λ ts. ts ++ rest) (spelled-magnitude z size))))
 ]
 first_bytes (b ∷ bs) rest z fits is = elim fits [
-    inl none ↦ (omega arith, inl (zero_first b bs rest (is ∙ ap (λ y. spelled y ++ rest) none)))
+  | inl none ↦ (omega arith, inl (zero_first b bs rest (is ∙ ap (λ y. spelled y ++ rest) none)))
   | inr size ↦ (omega arith, inr (one_or_three (is_negative z) b (first_of z size b bs rest is)))
 ]
 

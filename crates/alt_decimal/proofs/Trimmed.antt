@@ -1,8 +1,6 @@
 -- Each number above 0 is its digits without the zeros behind, and these zeros.
-use Rattle.std.proofs.Common.{◌≡◌, ℕ, zero, suc, ◌+◌, ◌-◌, ◌*◌, ◌/◌, ◌%◌, ◌^◌, ◌<◌, ◌≤◌, refl, sym, ap, ◌∙◌, arith, inl, inr}
-use Rattle.std.specs.Prelude.{◌==◌}
-use Rattle.std.proofs.lemmas.Bool.{cases_eq, ne_eqb, eq-eqb}
-use Rattle.alt_decimal.specs.Digits.{zeros_within}
+use Rattle.std.proofs.Common.{◌≡◌, ℕ, zero, suc, ◌*◌, ◌/◌, ◌%◌, ◌^◌, ◌<◌, ◌≤◌, sym, ap, ◌∙◌, arith, inl, inr}
+use Rattle.std.proofs.lemmas.Bool.{cases_eq}
 use Rattle.alt_decimal.specs.Normal.{mul-ten_pow}
 
 -- n is c with so many zeros behind it
@@ -15,7 +13,7 @@ pub record Trimmed (n : ℕ) : Type 0 where
 trimmed_within : (f n : ℕ) → 0 < n → n ≤ f → Trimmed n
 trimmed_within zero n some h = absurd (omega arith)
 trimmed_within (suc f) n some h = elim (cases_eq (n % 10) 0) [
-    inl none ↦
+  | inl none ↦
       let t : Trimmed (n / 10) = trimmed_within f (n / 10) (omega (arith, none)) (omega arith) in
       let e : n ≡ n / 10 * 10 = omega (arith, none) in
       record { coefficient = t.coefficient; behind = suc t.behind; is = e ∙ ap (λ m. m * 10) t.is ∙ sym (mul-ten_pow t.coefficient t.behind); last = t.last }

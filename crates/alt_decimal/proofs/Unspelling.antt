@@ -1,7 +1,6 @@
 -- Pairs of digits are read back.
-use Rattle.std.proofs.Common.{◌≡◌, ◌≢◌, ℕ, zero, suc, ◌+◌, ◌-◌, ◌*◌, ◌/◌, ◌%◌, ◌^◌, ◌<◌, ◌≤◌, Bool, true, false, List, [], ◌∷◌, ◌++◌, length, get_or, take, drop, map, refl, sym, ap, ◌∙◌, subst, arith, append_assoc, length-append, length-take, inl, inr}
-use Rattle.std.specs.Prelude.{ℤ}
-use Rattle.std.proofs.Math.Nat.{mul-le-mul_right, mul-lt-mul_of_pos_right, div-one}
+use Rattle.std.proofs.Common.{◌≡◌, ℕ, zero, suc, ◌+◌, ◌-◌, ◌*◌, ◌/◌, ◌%◌, ◌^◌, ◌<◌, ◌≤◌, Bool, List, [], ◌∷◌, ◌++◌, length, get_or, take, refl, sym, ap, ◌∙◌, arith, inl, inr}
+use Rattle.std.proofs.Math.Nat.{mul-le-mul_right}
 use Rattle.std.proofs.lemmas.Nat.{pow-add, div-mul-add, div-add-mod', mod_below, div_below}
 use Rattle.std.proofs.lemmas.List.{take_more, get_or-map}
 use Rattle.std.proofs.lemmas.Bool.{cases_order}
@@ -10,7 +9,7 @@ use Rattle.alt_decimal.specs.Spelled.{pairs}
 use Rattle.alt_decimal.specs.Unspelled.{raw, raws, pairs_value_after, IsPair, Ends}
 use Rattle.alt_decimal.specs.Normal.{ten_pow_pos}
 use Rattle.alt_decimal.proofs.Widths.{ten_pow-le}
-use Rattle.alt_decimal.proofs.Padded.{padded-append, padded-low, padded-mod, padded-last, padded-none, padded-first}
+use Rattle.alt_decimal.proofs.Padded.{padded-append, padded-low, padded-mod, padded-last, padded-none}
 
 -- each byte is that of a pair
 abbrev pub IsPairs : List ℕ → Type 0
@@ -98,18 +97,18 @@ raws-at negative bytes i h = get_or-map (raw negative) bytes i 0 0 h
 -- no 0 stands behind a byte that is no pair
 pub no_end : (bs : List ℕ) (i : ℕ) → ((k : ℕ) → k < i → IsPair (get_or bs k 0)) → 100 < get_or bs i 0 → (n : ℕ) → Ends bs n → ⊥
 no_end bs i pairs_before over n e = elim (cases_order n i) [
-    inl same ↦ omega (arith, over, e.at_end, ap (λ k. get_or bs k 0) same)
+  | inl same ↦ omega (arith, over, e.at_end, ap (λ k. get_or bs k 0) same)
   | inr other ↦ elim other [
-      inl before ↦ omega (arith, (pairs_before n before).0, e.at_end)
+    | inl before ↦ omega (arith, (pairs_before n before).0, e.at_end)
     | inr behind ↦ omega (arith, (e.pairs i behind).1, over)
-    ]
+  ]
 ]
 
 -- one more pair is read
 pub pairs_more : (bs : List ℕ) (i c p : ℕ) → i < length bs → p ≡ get_or bs i 0 → c ≡ pairs_value_after 0 (take i bs) → c * 100 + (p - 1) ≡ pairs_value_after 0 (take (i + 1) bs)
 pairs_more bs i c p h at value =
     let more : pairs_value_after 0 (take (i + 1) bs) ≡ pairs_value_after (pairs_value_after 0 (take i bs)) (get_or bs i 0 ∷ []) =
-        ap (pairs_value_after 0) (take_more bs i 0 h) ∙ pairs_after-append 0 (take i bs) (get_or bs i 0 ∷ []) in
+    ap (pairs_value_after 0) (take_more bs i 0 h) ∙ pairs_after-append 0 (take i bs) (get_or bs i 0 ∷ []) in
     ap (λ v. v * 100 + (p - 1)) value ∙ ap (λ q. pairs_value_after 0 (take i bs) * 100 + (q - 1)) at ∙ sym more
 
 pub below_more_pairs : (i c p : ℕ) → c < 10 ^ (2 * i) → p ≤ 100 → 0 < p → c * 100 + (p - 1) < 10 ^ (2 * (i + 1))

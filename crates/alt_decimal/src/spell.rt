@@ -42,10 +42,8 @@ impl Decimal {
     pub fn unspell(bytes: &[u8]) -> Option<(Decimal, usize)>
         ensures spelling { IfSome result (λ r. (take r.1 bytes.now ≡ spelled r.0) × Fits r.0) }
         // Whatever follows a spelling, it is read; so None comes exactly where no spelling stands at the front.
-        ensures every {
-            (z : ℤ) (rest : List ℕ) → Fits z → bytes.now ≡ spelled z ++ rest
-            → result ≡ Some (z, length (spelled z))
-        }
+        ensures every { (z : ℤ) (rest : List ℕ) → Fits z → bytes.now ≡ spelled z ++ rest
+            → result ≡ Some (z, length (spelled z)) }
     {
         match bytes {
             [first, rest @ ..] => {
@@ -77,10 +75,8 @@ fn zero() -> Decimal
 // Reads the bytes of a magnitude behind the first byte: the number, and the length of its spelling.
 fn read_magnitude(bytes: &[u8], negative: bool) -> Option<(Decimal, usize)>
     ensures spelling { IfSome result (λ r. IsSpelledAt negative bytes.now r.0 r.1) }
-    ensures every {
-        (m : ℕ) (rest : List ℕ) → IsMagnitude m → bytes.now ≡ raws negative (magnitude_bytes m) ++ rest
-        → result ≡ Some (with_sign negative m, 1 + length (magnitude_bytes m))
-    }
+    ensures every { (m : ℕ) (rest : List ℕ) → IsMagnitude m → bytes.now ≡ raws negative (magnitude_bytes m) ++ rest
+        → result ≡ Some (with_sign negative m, 1 + length (magnitude_bytes m)) }
 {
     match bytes {
         [first, rest @ ..] => match read_pairs(rest, negative) {
@@ -103,10 +99,8 @@ fn raw(negative: bool, byte: u8) -> u8
 
 // The number that the pairs write, and how many they are; None where no 0 stands behind at most 19 pairs.
 fn read_pairs(bytes: &[u8], negative: bool) -> Option<(u128, usize)>
-    ensures {
-        MatchOption result ((n : ℕ) → Ends (raws negative bytes.now) n → ⊥)
-        (λ r. Ends (raws negative bytes.now) r.1 × (r.0 ≡ pairs_value_after 0 (take r.1 (raws negative bytes.now))))
-    }
+    ensures { MatchOption result ((n : ℕ) → Ends (raws negative bytes.now) n → ⊥)
+        (λ r. Ends (raws negative bytes.now) r.1 × (r.0 ≡ pairs_value_after 0 (take r.1 (raws negative bytes.now)))) }
 {
     let mut c: u128 = 0;
     for (i, byte) in bytes.iter().enumerate() {

@@ -1,4 +1,4 @@
-use Rattle.std.proofs.Common.{◌≡◌, ◌≤◌, ℕ, get_or, true, false, inl, inr, arith}
+use Rattle.std.proofs.Common.{true, false, inl, inr, arith}
 use Rattle.alt_decimal.proofs.ReadBack.{every_signed, every_zero, first_bytes, zero_bytes}
 use Rattle.alt_decimal.proofs.Decimal.unspell.Goals as goal
 
@@ -27,6 +27,6 @@ pub returns-else-first-eq-ABOVE_ZERO-clause-every : goal.returns-else-first-eq-A
 returns-else-first-eq-ABOVE_ZERO-clause-every c = λ z rest fits is.
     let one = first_bytes c.args.bytes.now rest z fits is in
     absurd (elim one.1 [
-      inl two ↦ c.if-first-eq-AT_ZERO.false two
-    | inr odd ↦ elim odd [ inl low ↦ c.if-first-eq-BELOW_ZERO.false low | inr high ↦ c.if-first-eq-ABOVE_ZERO.false high ]
+      | inl two ↦ c.if-first-eq-AT_ZERO.false two
+      | inr odd ↦ elim odd [ inl low ↦ c.if-first-eq-BELOW_ZERO.false low | inr high ↦ c.if-first-eq-ABOVE_ZERO.false high ]
     ])

@@ -1,4 +1,4 @@
-use Rattle.std.proofs.Common.{◌≡◌, ◌<◌, ◌≤◌, ◌*◌, ◌-◌, ◌^◌, ◌%◌, ◌∙◌, sym, subst, arith, ℕ}
+use Rattle.std.proofs.Common.{◌≤◌, ◌*◌, ◌-◌, ◌^◌, arith}
 use Rattle.alt_decimal.proofs.Decodings.{normal_even, normal_odd, decodes_even, decodes_odd}
 use Rattle.alt_decimal.proofs.spell.decode.Goals as goal
 

@@ -1,4 +1,4 @@
-use Rattle.std.proofs.Common.{◌≡◌, arith}
+use Rattle.std.proofs.Common.{arith}
 use Rattle.alt_decimal.proofs.ReadBack.{Ends-below, IsSpelledAt-read, every_empty, every_none, every_bad, every_right}
 use Rattle.alt_decimal.proofs.spell.read_magnitude.Goals as goal
 

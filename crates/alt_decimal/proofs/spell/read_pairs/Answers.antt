@@ -1,4 +1,4 @@
-use Rattle.std.proofs.Common.{◌≡◌, ◌<◌, ◌≤◌, ℕ, List, length, get_or, ◌∙◌, sym, arith, below_more}
+use Rattle.std.proofs.Common.{◌≡◌, ◌<◌, ℕ, List, get_or, ◌∙◌, sym, arith, below_more}
 use Rattle.std.proofs.lemmas.List.{length-map}
 use Rattle.alt_decimal.specs.Unspelled.{raw, raws, IsPair}
 use Rattle.alt_decimal.proofs.Unspelling.{raws-at, no_end, pairs_more, below_more_pairs, room_more}

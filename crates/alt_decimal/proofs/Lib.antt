@@ -14,6 +14,7 @@ pub mod ReadBack
 pub mod Reading
 pub mod Signs
 pub mod Spelling
+pub mod SpellingOrder
 pub mod Totals
 pub mod Trimming
 pub mod Trimmed

@@ -217,7 +217,7 @@ module _ (t : ℕ) (last : 0 < t % 10) (few : t < 10 ^ 38) (f : Filling t) where
   filled_some : 0 < f.n
   filled_some = elim f.digits [ inl h ↦ omega (arith, h.1, width-pos t (omega (arith, last))) | inr h ↦ omega (arith, h.1) ]
 
-  filled_few : f.n ≤ 19
+  pub filled_few : f.n ≤ 19
   filled_few = elim f.digits [ inl h ↦ omega (arith, h.1, width-le 38 t few) | inr h ↦ omega (arith, h.1, width-le 38 t few) ]
 
   filled_below : f.c < 10 ^ (2 * f.n)
@@ -226,7 +226,7 @@ module _ (t : ℕ) (last : 0 < t % 10) (few : t < 10 ^ 38) (f : Filling t) where
     | inr h ↦ rw (← h.1, h.0) (omega (arith, lt-width t, pow-add 10 (width t) 1))
   ]
 
-  filled_whole : IsWhole f.c f.n
+  pub filled_whole : IsWhole f.c f.n
   filled_whole = elim f.digits [
     | inl h ↦
         let (w, e) = case_pos (width t) (width-pos t (omega (arith, last))) in
@@ -238,7 +238,7 @@ module _ (t : ℕ) (last : 0 < t % 10) (few : t < 10 ^ 38) (f : Filling t) where
         record { some = filled_some; first = rw (i, h.0, pow-suc 10 w) (omega (arith, width-low t w e)); last = rw h.0 (λ z. omega (arith, z, last)) }
   ]
 
-  filled_pairs : AreOf f.n f.c (pairs (digits_of 10 t))
+  pub filled_pairs : AreOf f.n f.c (pairs (digits_of 10 t))
   filled_pairs = rw (pairs-Filled t f.c f.n filled_some f.digits) (pairs_of f.n f.c filled_below)
 
   -- and the coefficient is told by it

@@ -16,7 +16,7 @@ abbrev pub IsPairs : List ℕ → Type 0
 IsPairs [] = Unit {0}
 IsPairs (b ∷ bs) = IsPair b × IsPairs bs
 
-hundred : (n : ℕ) → 10 ^ (2 * suc n) ≡ 10 ^ (2 * n) * 100
+pub hundred : (n : ℕ) → 10 ^ (2 * suc n) ≡ 10 ^ (2 * n) * 100
 hundred n = let e : 2 * suc n ≡ 2 * n + 2 = omega arith in ap (λ i. 10 ^ i) e ∙ pow-add 10 (2 * n) 2
 
 -- pairs behind a number shift it

@@ -8,6 +8,7 @@ ghost use Rattle.alt_decimal.specs.Spelled.{spelled, pairs, complement, magnitud
 ghost use Rattle.alt_decimal.specs.Unspelled.{raw as raw_of, raws, pairs_value_after, Ends, IsWhole, Decodes, IsSpelledAt};
 
 use crate::print::put;
+use std::cmp::Ordering;
 use crate::{Decimal, digits};
 
 // The first byte of a spelling: of a negative number, of zero and of a positive one.
@@ -60,6 +61,16 @@ impl Decimal {
             [] => None,
         }
     }
+}
+
+/// The order of two numbers, which is that of the bytes of their spellings.
+pub fn spelling_order(a: &Decimal, b: &Decimal) -> Ordering
+    ensures numbers { result ≡ int_cmp a.now b.now }
+    ensures spellings { result ≡ slice_cmp nat_cmp (spelled a.now) (spelled b.now) }
+{
+    let _ = &a.negative;
+    let _ = &b.negative;
+    a.order(b)
 }
 
 fn zero() -> Decimal

@@ -1,3 +1,4 @@
+pub mod Apart
 pub mod Coefficients
 pub mod Decodings
 pub mod Denoting

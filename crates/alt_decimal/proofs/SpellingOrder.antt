@@ -1,8 +1,8 @@
 -- The byte order of spellings is the order of numbers.
-use Rattle.std.proofs.Common.{◌≡◌, ◌≢◌, ℕ, zero, suc, ◌+◌, ◌-◌, ◌*◌, ◌/◌, ◌%◌, ◌^◌, ◌<◌, ◌≤◌, Bool, true, false, List, [], ◌∷◌, ◌++◌, length, map, refl, sym, ap, ◌∙◌, subst, arith, inl, inr}
+use Rattle.std.proofs.Common.{◌≡◌, ◌≢◌, ℕ, zero, suc, ◌+◌, ◌-◌, ◌*◌, ◌%◌, ◌^◌, ◌<◌, ◌≤◌, List, [], ◌∷◌, ◌++◌, length, refl, sym, ap, ◌∙◌, arith, inl, inr}
 use Rattle.std.specs.Prelude.{ℤ, pos, neg_ℤ}
 use Rattle.std.specs.Ordering.{nat_cmp, int_cmp}
-use Rattle.std.specs.declared.cmp.Ordering.TheVariants.{Less, Equal, Greater}
+use Rattle.std.specs.declared.cmp.Ordering.TheVariants.{Less, Greater}
 use Rattle.std.specs.Cmp.Lexicographic.{slice_cmp}
 use Rattle.std.proofs.Math.Nat.{mul_assoc, mul-pos, mul-lt-mul_of_pos_right, mul-le-mul_right}
 use Rattle.std.proofs.lemmas.Nat.{pow-add}
@@ -14,7 +14,7 @@ use Rattle.alt_decimal.specs.Number.{with_sign}
 use Rattle.alt_decimal.specs.declared.Decimal.TheInside.{Inside}
 use Rattle.alt_decimal.specs.Form.{units_of, IsNormal}
 use Rattle.alt_decimal.specs.Spelled.{pairs, complement, magnitude_bytes, spelled}
-use Rattle.alt_decimal.specs.Unspelled.{pairs_value_after, IsPair, IsWhole}
+use Rattle.alt_decimal.specs.Unspelled.{pairs_value_after, IsWhole}
 use Rattle.alt_decimal.specs.Normal.{ten_pow_pos}
 use Rattle.alt_decimal.proofs.Widths.{width-le, mul-width_gt, mul-width_le, mul-zeros}
 use Rattle.alt_decimal.proofs.Orders.{nat_cmp-less, nat_cmp-equal, nat_cmp-greater, nat_cmp-mul, int_cmp-pos, int_cmp-neg, int_cmp-neg_pos, int_cmp-pos_neg, lt-by_place}
@@ -34,11 +34,11 @@ cmp_same x y xs ys h = rw (nat_cmp-equal x y h) refl
 
 nat_cmp-add : (a x y : ℕ) → nat_cmp (a + x) (a + y) ≡ nat_cmp x y
 nat_cmp-add a x y = elim (cases_order x y) [
-    inl e ↦ nat_cmp-equal (a + x) (a + y) (omega (arith, e)) ∙ sym (nat_cmp-equal x y e)
+  | inl e ↦ nat_cmp-equal (a + x) (a + y) (omega (arith, e)) ∙ sym (nat_cmp-equal x y e)
   | inr o ↦ elim o [
-      inl lt ↦ nat_cmp-less (a + x) (a + y) (omega (arith, lt)) ∙ sym (nat_cmp-less x y lt)
+    | inl lt ↦ nat_cmp-less (a + x) (a + y) (omega (arith, lt)) ∙ sym (nat_cmp-less x y lt)
     | inr gt ↦ nat_cmp-greater (a + x) (a + y) (omega (arith, gt)) ∙ sym (nat_cmp-greater x y gt)
-    ]
+  ]
 ]
 
 -- ---- pairs, and 0 behind them
@@ -63,7 +63,7 @@ filled_to-cons k p ps le =
     let same : 2 * (suc k - suc (length ps)) ≡ j = omega arith in
     let split : 2 * length ps + j ≡ 2 * k = omega (arith, le) in
     let shift : (p - 1) * 10 ^ (2 * length ps) * 10 ^ j ≡ (p - 1) * 10 ^ (2 * k) =
-        mul_assoc (p - 1) (10 ^ (2 * length ps)) (10 ^ j) ∙ ap (λ q. (p - 1) * q) (sym (pow-add 10 (2 * length ps) j) ∙ ap (λ i. 10 ^ i) split) in
+    mul_assoc (p - 1) (10 ^ (2 * length ps)) (10 ^ j) ∙ ap (λ q. (p - 1) * q) (sym (pow-add 10 (2 * length ps) j) ∙ ap (λ i. 10 ^ i) split) in
     let value : pairs_value_after 0 (p ∷ ps) ≡ (p - 1) * 10 ^ (2 * length ps) + pairs_value_after 0 ps = omega (arith, pairs_after (0 * 100 + (p - 1)) ps) in
     ap (λ i. pairs_value_after 0 (p ∷ ps) * 10 ^ i) same ∙ ap (λ v. v * 10 ^ j) value ∙ omega (arith, shift)
 
@@ -98,16 +98,16 @@ pairs_cmp (suc k) (p ∷ ps) (q ∷ qs) hp hq lp lq sp sq =
     let bp : filled_to k ps < 10 ^ (2 * k) = filled_to-below k ps hp.1 (omega arith) in
     let bq : filled_to k qs < 10 ^ (2 * k) = filled_to-below k qs hq.1 (omega arith) in
     elim (cases_order p q) [
-      inl e ↦
-        cmp_same p q (ps ++ 0 ∷ []) (qs ++ 0 ∷ []) e
-        ∙ pairs_cmp k ps qs hp.1 hq.1 (omega arith) (omega arith) (Solid-rest p ps sp) (Solid-rest q qs sq)
-        ∙ sym (nat_cmp-add ((p - 1) * 10 ^ (2 * k)) (filled_to k ps) (filled_to k qs))
-        ∙ ap (λ r. nat_cmp ((p - 1) * 10 ^ (2 * k) + filled_to k ps) ((r - 1) * 10 ^ (2 * k) + filled_to k qs)) e
-        ∙ sym (ap (λ m. nat_cmp m (filled_to (suc k) (q ∷ qs))) fp ∙ ap (nat_cmp ((p - 1) * 10 ^ (2 * k) + filled_to k ps)) fq)
-    | inr o ↦ elim o [
-        inl lt ↦ cmp_less p q (ps ++ 0 ∷ []) (qs ++ 0 ∷ []) lt
+      | inl e ↦
+          cmp_same p q (ps ++ 0 ∷ []) (qs ++ 0 ∷ []) e
+          ∙ pairs_cmp k ps qs hp.1 hq.1 (omega arith) (omega arith) (Solid-rest p ps sp) (Solid-rest q qs sq)
+          ∙ sym (nat_cmp-add ((p - 1) * 10 ^ (2 * k)) (filled_to k ps) (filled_to k qs))
+          ∙ ap (λ r. nat_cmp ((p - 1) * 10 ^ (2 * k) + filled_to k ps) ((r - 1) * 10 ^ (2 * k) + filled_to k qs)) e
+          ∙ sym (ap (λ m. nat_cmp m (filled_to (suc k) (q ∷ qs))) fp ∙ ap (nat_cmp ((p - 1) * 10 ^ (2 * k) + filled_to k ps)) fq)
+      | inr o ↦ elim o [
+        | inl lt ↦ cmp_less p q (ps ++ 0 ∷ []) (qs ++ 0 ∷ []) lt
             ∙ sym (nat_cmp-less (filled_to (suc k) (p ∷ ps)) (filled_to (suc k) (q ∷ qs)) (rw (fp, fq) (value_less p q (10 ^ (2 * k)) (filled_to k ps) (filled_to k qs) hp.0.0 lt bp)))
-      | inr gt ↦ cmp_greater p q (ps ++ 0 ∷ []) (qs ++ 0 ∷ []) gt
+        | inr gt ↦ cmp_greater p q (ps ++ 0 ∷ []) (qs ++ 0 ∷ []) gt
             ∙ sym (nat_cmp-greater (filled_to (suc k) (p ∷ ps)) (filled_to (suc k) (q ∷ qs)) (rw (fp, fq) (value_less q p (10 ^ (2 * k)) (filled_to k qs) (filled_to k ps) hq.0.0 gt bq)))
       ]
     ]
@@ -115,11 +115,11 @@ pairs_cmp (suc k) (p ∷ ps) (q ∷ qs) hp hq lp lq sp sq =
 -- ---- magnitudes
 
 -- a coefficient that fits and its zeros
-record Fitting (t z : ℕ) : Type 0 where
-  last : 0 < t % 10
-  few : t < 10 ^ 38
-  high : 37 < width t + z
-  most : width t + z ≤ 293
+pub record Fitting (t z : ℕ) : Type 0 where
+  pub last : 0 < t % 10
+  pub few : t < 10 ^ 38
+  pub high : 37 < width t + z
+  pub most : width t + z ≤ 293
 
 -- its pairs write it, filled up to 38 digits
 filled_coefficient : (t z : ℕ) → Fitting t z → filled_to 19 (pairs (digits_of 10 t)) ≡ t * 10 ^ (38 - width t)
@@ -129,13 +129,13 @@ filled_coefficient t z f =
     let le : h.n ≤ 19 = filled_few t f.last f.few h in
     ap (λ v. v * 10 ^ (2 * (19 - length (pairs (digits_of 10 t))))) a.value ∙ ap (λ i. h.c * 10 ^ (2 * (19 - i))) a.count
     ∙ elim h.digits [
-      inl e ↦
-        let i : 2 * (19 - h.n) ≡ 38 - width t = omega (arith, e.1, le) in
-        ap (λ j. h.c * 10 ^ j) i ∙ ap (λ c. c * 10 ^ (38 - width t)) (sym e.0)
-    | inr e ↦
-        let i : 38 - width t ≡ 1 + 2 * (19 - h.n) = omega (arith, e.1, le) in
-        ap (λ c. c * 10 ^ (2 * (19 - h.n))) e.0 ∙ mul_assoc t 10 (10 ^ (2 * (19 - h.n)))
-        ∙ ap (λ x. t * x) (sym (pow-add 10 1 (2 * (19 - h.n)))) ∙ ap (λ j. t * 10 ^ j) (sym i)
+      | inl e ↦
+          let i : 2 * (19 - h.n) ≡ 38 - width t = omega (arith, e.1, le) in
+          ap (λ j. h.c * 10 ^ j) i ∙ ap (λ c. c * 10 ^ (38 - width t)) (sym e.0)
+      | inr e ↦
+          let i : 38 - width t ≡ 1 + 2 * (19 - h.n) = omega (arith, e.1, le) in
+          ap (λ c. c * 10 ^ (2 * (19 - h.n))) e.0 ∙ mul_assoc t 10 (10 ^ (2 * (19 - h.n)))
+          ∙ ap (λ x. t * x) (sym (pow-add 10 1 (2 * (19 - h.n)))) ∙ ap (λ j. t * 10 ^ j) (sym i)
     ]
 
 solid_coefficient : (t z : ℕ) → Fitting t z → Solid (pairs (digits_of 10 t))
@@ -145,7 +145,7 @@ solid_coefficient t z f = λ some z.
     let w : IsWhole h.c h.n = filled_whole t f.last f.few h in
     w.last (sym (ap (λ v. v % 100) a.value) ∙ z)
 
-all_coefficient : (t z : ℕ) → Fitting t z → IsPairs (pairs (digits_of 10 t))
+pub all_coefficient : (t z : ℕ) → Fitting t z → IsPairs (pairs (digits_of 10 t))
 all_coefficient t z f = let a = filled_pairs t f.last f.few (filling t) in a.all
 
 few_coefficient : (t z : ℕ) → Fitting t z → length (pairs (digits_of 10 t)) ≤ 19
@@ -166,18 +166,18 @@ magnitude_cmp t y u z f g =
     let qs = pairs (digits_of 10 u) in
     ap (λ m. slice_cmp nat_cmp m (magnitude_bytes (u * 10 ^ z))) bf ∙ ap (slice_cmp nat_cmp ((width t + y - 38) ∷ (ps ++ 0 ∷ []))) bg
     ∙ elim (cases_order (width t + y) (width u + z)) [
-      inl e ↦
-        cmp_same (width t + y - 38) (width u + z - 38) (ps ++ 0 ∷ []) (qs ++ 0 ∷ []) (ap (λ i. i - 38) e)
-        ∙ pairs_cmp 19 ps qs (all_coefficient t y f) (all_coefficient u z g) (few_coefficient t y f) (few_coefficient u z g) (solid_coefficient t y f) (solid_coefficient u z g)
-        ∙ ap (λ m. nat_cmp m (filled_to 19 qs)) (filled_coefficient t y f) ∙ ap (nat_cmp (t * 10 ^ (38 - width t))) (filled_coefficient u z g)
-        ∙ sym (nat_cmp-mul (t * 10 ^ (38 - width t)) (u * 10 ^ (38 - width u)) (10 ^ (width t + y)) (ten_pow_pos (width t + y)))
-        ∙ ap (λ m. nat_cmp m (u * 10 ^ (38 - width u) * 10 ^ (width t + y))) (scaled t y (width t + y) f refl)
-        ∙ ap (nat_cmp (t * 10 ^ y * 10 ^ 38)) (scaled u z (width t + y) g e)
-        ∙ nat_cmp-mul (t * 10 ^ y) (u * 10 ^ z) (10 ^ 38) (ten_pow_pos 38)
-    | inr o ↦ elim o [
-        inl lt ↦ cmp_less (width t + y - 38) (width u + z - 38) (ps ++ 0 ∷ []) (qs ++ 0 ∷ []) (omega (arith, lt, f.high))
+      | inl e ↦
+          cmp_same (width t + y - 38) (width u + z - 38) (ps ++ 0 ∷ []) (qs ++ 0 ∷ []) (ap (λ i. i - 38) e)
+          ∙ pairs_cmp 19 ps qs (all_coefficient t y f) (all_coefficient u z g) (few_coefficient t y f) (few_coefficient u z g) (solid_coefficient t y f) (solid_coefficient u z g)
+          ∙ ap (λ m. nat_cmp m (filled_to 19 qs)) (filled_coefficient t y f) ∙ ap (nat_cmp (t * 10 ^ (38 - width t))) (filled_coefficient u z g)
+          ∙ sym (nat_cmp-mul (t * 10 ^ (38 - width t)) (u * 10 ^ (38 - width u)) (10 ^ (width t + y)) (ten_pow_pos (width t + y)))
+          ∙ ap (λ m. nat_cmp m (u * 10 ^ (38 - width u) * 10 ^ (width t + y))) (scaled t y (width t + y) f refl)
+          ∙ ap (nat_cmp (t * 10 ^ y * 10 ^ 38)) (scaled u z (width t + y) g e)
+          ∙ nat_cmp-mul (t * 10 ^ y) (u * 10 ^ z) (10 ^ 38) (ten_pow_pos 38)
+      | inr o ↦ elim o [
+        | inl lt ↦ cmp_less (width t + y - 38) (width u + z - 38) (ps ++ 0 ∷ []) (qs ++ 0 ∷ []) (omega (arith, lt, f.high))
             ∙ sym (nat_cmp-less (t * 10 ^ y) (u * 10 ^ z) (lt-by_place t y u z lt (omega (arith, g.last))))
-      | inr gt ↦ cmp_greater (width t + y - 38) (width u + z - 38) (ps ++ 0 ∷ []) (qs ++ 0 ∷ []) (omega (arith, gt, g.high))
+        | inr gt ↦ cmp_greater (width t + y - 38) (width u + z - 38) (ps ++ 0 ∷ []) (qs ++ 0 ∷ []) (omega (arith, gt, g.high))
             ∙ sym (nat_cmp-greater (t * 10 ^ y) (u * 10 ^ z) (lt-by_place u z t y gt (omega (arith, f.last))))
       ]
     ]
@@ -186,11 +186,11 @@ magnitude_cmp t y u z f g =
 
 flip_nat : (x y : ℕ) → x < 256 → y < 256 → nat_cmp (255 - x) (255 - y) ≡ nat_cmp y x
 flip_nat x y hx hy = elim (cases_order x y) [
-    inl e ↦ nat_cmp-equal (255 - x) (255 - y) (omega (arith, e)) ∙ sym (nat_cmp-equal y x (sym e))
+  | inl e ↦ nat_cmp-equal (255 - x) (255 - y) (omega (arith, e)) ∙ sym (nat_cmp-equal y x (sym e))
   | inr o ↦ elim o [
-      inl lt ↦ nat_cmp-greater (255 - x) (255 - y) (omega (arith, lt, hy)) ∙ sym (nat_cmp-greater y x lt)
+    | inl lt ↦ nat_cmp-greater (255 - x) (255 - y) (omega (arith, lt, hy)) ∙ sym (nat_cmp-greater y x lt)
     | inr gt ↦ nat_cmp-less (255 - x) (255 - y) (omega (arith, gt, hx)) ∙ sym (nat_cmp-less y x gt)
-    ]
+  ]
 ]
 
 flip_pairs : (ps qs : List ℕ) → IsPairs ps → IsPairs qs
@@ -203,7 +203,7 @@ flip_pairs (p ∷ ps) (q ∷ qs) hp hq =
 
 flip_magnitude : (t y u z : ℕ) → Fitting t y → Fitting u z
     → slice_cmp nat_cmp (complement (magnitude_bytes (t * 10 ^ y))) (complement (magnitude_bytes (u * 10 ^ z)))
-        ≡ slice_cmp nat_cmp (magnitude_bytes (u * 10 ^ z)) (magnitude_bytes (t * 10 ^ y))
+    ≡ slice_cmp nat_cmp (magnitude_bytes (u * 10 ^ z)) (magnitude_bytes (t * 10 ^ y))
 flip_magnitude t y u z f g =
     let a = width t + y - 38 in
     let b = width u + z - 38 in
@@ -214,7 +214,7 @@ flip_magnitude t y u z f g =
 -- ---- numbers
 
 -- how a number looks, and its spelling
-data Look (u : ℤ) : Type 0 where
+pub data Look (u : ℤ) : Type 0 where
   at_zero : u ≡ pos 0 → spelled u ≡ 2 ∷ [] → Look u
   over : (t z : ℕ) → Fitting t z → u ≡ pos (t * 10 ^ z) → spelled u ≡ 3 ∷ magnitude_bytes (t * 10 ^ z) → Look u
   under : (t z : ℕ) → Fitting t z → u ≡ neg_ℤ (pos (t * 10 ^ z)) → spelled u ≡ 1 ∷ complement (magnitude_bytes (t * 10 ^ z)) → Look u
@@ -265,13 +265,13 @@ look_above d n above =
       most = mul-width_le d.coefficient d.zeros 293 above n.below;
     } in
     elim (cases_Bool d.negative) [
-      inl neg ↦ under d.coefficient d.zeros f (ap (λ s. with_sign s (d.coefficient * 10 ^ d.zeros)) neg) (spelled-below d n above neg)
-    | inr plus ↦ over d.coefficient d.zeros f (ap (λ s. with_sign s (d.coefficient * 10 ^ d.zeros)) plus) (spelled-above d n above plus)
+      | inl neg ↦ under d.coefficient d.zeros f (ap (λ s. with_sign s (d.coefficient * 10 ^ d.zeros)) neg) (spelled-below d n above neg)
+      | inr plus ↦ over d.coefficient d.zeros f (ap (λ s. with_sign s (d.coefficient * 10 ^ d.zeros)) plus) (spelled-above d n above plus)
     ]
 
-look : (d : Inside) → IsNormal d → Look (units_of d)
+pub look : (d : Inside) → IsNormal d → Look (units_of d)
 look d n = elim (cases_lt 0 d.coefficient) [
-    inl above ↦ look_above d n above
+  | inl above ↦ look_above d n above
   | inr none ↦
       let z : d.coefficient ≡ 0 = omega (arith, none) in
       let e : units_of d ≡ pos 0 = units_of-zero d n z in

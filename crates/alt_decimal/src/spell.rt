@@ -8,8 +8,8 @@ ghost use Rattle.alt_decimal.specs.Spelled.{spelled, pairs, complement, magnitud
 ghost use Rattle.alt_decimal.specs.Unspelled.{raw as raw_of, raws, pairs_value_after, Ends, IsWhole, Decodes, IsSpelledAt};
 
 use crate::print::put;
-use std::cmp::Ordering;
 use crate::{Decimal, digits};
+use std::cmp::Ordering;
 
 // The first byte of a spelling: of a negative number, of zero and of a positive one.
 const BELOW_ZERO: u8 = 1;
@@ -67,6 +67,8 @@ impl Decimal {
 pub fn spelling_order(a: &Decimal, b: &Decimal) -> Ordering
     ensures numbers { result ≡ int_cmp a.now b.now }
     ensures spellings { result ≡ slice_cmp nat_cmp (spelled a.now) (spelled b.now) }
+    // No spelling is a prefix of another.
+    ensures apart { (after rest : List ℕ) → spelled a.now ++ after ≡ spelled b.now ++ rest → a.now ≡ b.now }
 {
     let _ = &a.negative;
     let _ = &b.negative;

@@ -70,6 +70,7 @@ pub fn spelling_order(a: &Decimal, b: &Decimal) -> Ordering
     // No spelling is a prefix of another.
     ensures apart { (after rest : List ℕ) → spelled a.now ++ after ≡ spelled b.now ++ rest → a.now ≡ b.now }
 {
+    // The proof sees the parts of both numbers by these two lines; they do nothing.
     let _ = &a.negative;
     let _ = &b.negative;
     a.order(b)

@@ -1,4 +1,6 @@
+pub mod Apart
 pub mod Coefficients
+pub mod Decodings
 pub mod Denoting
 pub mod Exponents
 pub mod Fitting
@@ -9,10 +11,14 @@ pub mod Orders
 pub mod Padded
 pub mod Pairs
 pub mod Printing
+pub mod ReadBack
 pub mod Reading
 pub mod Signs
 pub mod Spelling
+pub mod SpellingOrder
 pub mod Totals
 pub mod Trimming
+pub mod Trimmed
+pub mod Unspelling
 pub mod Values
 pub mod Widths

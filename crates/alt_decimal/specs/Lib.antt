@@ -8,3 +8,4 @@ pub mod NumberText
 pub mod Printed
 pub mod Reading
 pub mod Spelled
+pub mod Unspelled

@@ -16,6 +16,7 @@ ghost use Rattle.alt_decimal.specs.Number.{Fits};
 ghost use Rattle.alt_decimal.specs.Digits.{digit_count};
 
 pub use fault::NumberFault;
+pub use spell::spelling_order;
 use std::marker::Model;
 
 /// A number of at most 38 digits: zero, or of a magnitude from 1E-130 to 9.9999999999999999999999999999999999999E+125.

@@ -34,6 +34,14 @@ fn spells(rt: &impl Abort, text: &str, want: &[u8]) {
     let mut buf = [0; 22];
     let end = number(text).spell(&mut buf);
     assert_eq!(rt; &buf[..end], want);
+    match Decimal::unspell(&buf) {
+        Some((back, length)) => assert!(rt; back == number(text) && length == end),
+        None => assert!(rt; false),
+    }
+}
+
+fn is_no_spelling(rt: &impl Abort, bytes: &[u8]) {
+    assert!(rt; Decimal::unspell(bytes).is_none());
 }
 
 fn adds(rt: &impl Abort, a: &str, b: &str, want: &str) {
@@ -147,4 +155,17 @@ fn spellings_by_their_bytes(rt: HostRuntime) {
     spells(&rt, "1.05", b"\x03\x82\x0b\x33\x00");
     spells(&rt, "-1", b"\x01\x7d\xf4\xff");
     spells(&rt, "0", b"\x02");
+}
+
+#[test]
+fn other_bytes_are_no_spellings(rt: HostRuntime) {
+    is_no_spelling(&rt, b"");
+    is_no_spelling(&rt, b"\x04\x82\x5b\x00");
+    is_no_spelling(&rt, b"\x03");
+    is_no_spelling(&rt, b"\x03\x82\x00");
+    is_no_spelling(&rt, b"\x03\x82\x5b");
+    is_no_spelling(&rt, b"\x03\x82\x66\x00");
+    is_no_spelling(&rt, b"\x03\x82\x5b\x01\x00");
+    is_no_spelling(&rt, b"\x03\x82\x05\x00");
+    is_no_spelling(&rt, b"\x01\x7d\xf4\x00");
 }

@@ -1,5 +1,6 @@
 pub mod Calls
 pub mod Shapes
+pub mod Settled
 pub mod Runs
 mod Replay
 mod MemoryCalls

@@ -39,7 +39,7 @@ opened_none [] = refl
 opened_none (k ∷ known) = refl
 
 -- a range opened behind a front leaves the front
-front_fits : (front : List ℕ) (back : List (Option ℕ)) (n : ℕ) (loose : Bool) (c : List ℕ) → FitsBytes (opened (length front) n (knows front ++ back)) loose c → Begins front c
+pub front_fits : (front : List ℕ) (back : List (Option ℕ)) (n : ℕ) (loose : Bool) (c : List ℕ) → FitsBytes (opened (length front) n (knows front ++ back)) loose c → Begins front c
 front_fits [] back n loose c fits = record { rest = c; is = refl }
 front_fits (x ∷ front) back n loose [] fits = absurd fits
 front_fits (x ∷ front) back n loose (b ∷ c) fits =
@@ -69,7 +69,7 @@ gap_fits (x ∷ front) gap back loose (b ∷ c) fits =
     record { gap = more.gap; size = more.size; rest = more.rest; is = λ i. fits.0 i ∷ more.is i }
 
 -- known bytes, in two parts
-known_append : (xs ys : List ℕ) → knows (xs ++ ys) ≡ knows xs ++ knows ys
+pub known_append : (xs ys : List ℕ) → knows (xs ++ ys) ≡ knows xs ++ knows ys
 known_append [] ys = refl
 known_append (x ∷ xs) ys = ap (λ (l : List (Option ℕ)). Some x ∷ l) (known_append xs ys)
 

@@ -44,6 +44,10 @@ now s f = s.fates s.moment f
 abbrev pub IsImage : DiskState → ℕ → (ℕ → Option (List ℕ)) → Type 0
 IsImage s t image = (f : ℕ) → Fits (s.fates t f) (image f)
 
+-- a stop now leaves of a file what reads give
+abbrev pub IsSettled : DiskState → ℕ → Type 0
+IsSettled s f = (left : Option (List ℕ)) → Fits (now s f) left → left ≡ s.file f
+
 -- the disk with another list beside its files
 abbrev pub with_beside : List (ℕ × List ℕ) → DiskState → DiskState
 with_beside beside s = record s { beside = beside }

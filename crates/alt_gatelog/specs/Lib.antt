@@ -1,0 +1,3 @@
+pub mod Log
+pub mod InHand
+pub mod Parse

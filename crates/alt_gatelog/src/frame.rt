@@ -1,0 +1,71 @@
+//! An entry as it stands in the file: its gate, its length in eight bytes, and its bytes.
+
+ghost use Rattle.std.specs.Prelude.{◌≡◌, ◌≢◌, true, false, ◌<◌, ◌≤◌, ◌+◌, ◌-◌, ◌^◌, ◌∷◌, ◌++◌, [], ℕ, List, IfOk, IfSome, IfNone, length, take, drop};
+ghost use Rattle.std.specs.Int.{w64, to_be_bytes};
+ghost use Rattle.alt_gatelog.specs.Log.{framed, header, IsCut};
+ghost use Rattle.alt_gatelog.specs.Parse.{GateIs, HasRoom};
+
+use std::alloc::{AllocError, Global};
+
+/// What stands at a gate's place.
+#[derive(Drop)]
+pub(crate) enum Gate {
+    /// A closed gate, which ends the log.
+    Closed,
+    /// An open gate, and an entry of this many bytes.
+    Open(u64),
+}
+
+/// What an append writes behind the closed gate: the entry with its length, and the next closed gate.
+pub(crate) fn frame(alloc: Global, bytes: &[u8]) -> Result<Vec<u8>, AllocError>
+    ensures block { IfOk result (λ block. block.items ≡ framed bytes.now ++ 0 ∷ []) }
+    ensures short { IfOk result (λ block. length bytes.now + 9 ≡ length block.items) }
+    ensures fits { length bytes.now < 2 ^ 64 }
+{
+    let mut block = Vec::with_capacity(alloc, bytes.len() + 9)?;
+    block.extend_from_slice(&(bytes.len() as u64).to_be_bytes())?;
+    block.extend_from_slice(bytes)?;
+    block.push(0)?;
+    Ok(block)
+}
+
+/// Whether these bytes are the header of a log.
+pub(crate) fn is_header(head: &[u8]) -> bool
+    ensures yes { result ≡ true → head.now ≡ header }
+    ensures no { result ≡ false → head.now ≢ header }
+{
+    head == b"ALTLOG01".as_slice()
+}
+
+/// What stands at a gate's place, by its first nine bytes and how many bytes there are to the file's end. None where the file ends
+/// too early.
+pub(crate) fn gate_of(head: &[u8], left: u64) -> Option<Gate>
+    ensures some { IfSome result (λ gate. (bytes : List ℕ) (at : ℕ) → head.now ≡ take 9 (drop at bytes) → left ≡ length bytes - at → GateIs bytes at gate) }
+    ensures none { IfNone result ((bytes : List ℕ) (at : ℕ) → head.now ≡ take 9 (drop at bytes) → left ≡ length bytes - at → IsCut (drop at bytes)) }
+    ensures room { IfSome result (λ gate. HasRoom left gate) }
+{
+    if head.is_empty() || left == 0 {
+        return None;
+    }
+    if head[0] != 1 {
+        return Some(Gate::Closed);
+    }
+    if head.len() < 9 || left < 9 {
+        return None;
+    }
+    let length = number_of(&head[1..9]);
+    if length > left - 9 {
+        return None;
+    }
+    Some(Gate::Open(length))
+}
+
+// The number that eight bytes stand for.
+fn number_of(bytes: &[u8]) -> u64
+    requires { length bytes.now ≡ 8 }
+    ensures { to_be_bytes w64 result ≡ bytes.now }
+{
+    u64::from_be_bytes([
+        bytes[0], bytes[1], bytes[2], bytes[3], bytes[4], bytes[5], bytes[6], bytes[7],
+    ])
+}

@@ -1,0 +1,155 @@
+//! The log in hand. An entry's gate stands closed on the disk before anything is written behind it, and is opened by a write of its
+//! own, so that a stop leaves each entry whole or not at all.
+
+ghost use Rattle.std.specs.Prelude.{◌≡◌, ◌<◌, ◌^◌};
+ghost use Rattle.std.specs.List.{All};
+
+use crate::durable::write_and_sync;
+use crate::fault::LogFault;
+use crate::frame::frame;
+use crate::read::{size_of_log, walk};
+use alt_disk::{Disk, DiskFault};
+use std::alloc::Global;
+
+/// A gated log: the places of its entries, which lie on the disk.
+#[derive(Drop)]
+pub struct GateLog {
+    pub(crate) alloc: Global,
+    pub(crate) file: u32,
+    pub(crate) gate: u64,
+    pub(crate) places: Vec<u64>,
+    ghost small: { gate < 2 ^ 62 },
+    ghost within: { All (λ at. at < 2 ^ 62) places.items },
+}
+
+impl GateLog {
+    ghost use Rattle.std.specs.Prelude.{ℕ, List, [], ◌∷◌, ◌++◌, None, IfOk, IfErr, OnOk, OnErr, IsErrOf, IsTrue, ⊤, length, get_or, ◌+◌, ◌==◌, if◌then◌else◌};
+    ghost use Rattle.alt_base.specs.Counts.{Rose};
+    ghost use Rattle.alt_disk.specs.Disk.{IsTrusted, Goes, contents};
+    ghost use Rattle.alt_disk.specs.Runs.{Run, Quiet};
+    ghost use Rattle.alt_gatelog.specs.Log.{IsLog, BeforeOrAfter, ExplainsLog};
+    ghost use Rattle.alt_gatelog.specs.InHand.{file_of, count_of, place_of, Reads, SameLog, Stands};
+    ghost use Rattle.alt_gatelog.specs.Parse.{HasNoLog, IsNoDamage, IsDamageAt};
+
+    /// Makes an empty log in a missing file.
+    pub fn make<D: Disk>(alloc: Global, disk: &mut D, f: u32) -> Result<GateLog, DiskFault>
+        requires { IsTrusted (D.state disk.old) → (D.state disk.old).file f ≡ None }
+        ensures file { IfOk result (λ log. file_of log ≡ f) }
+        ensures made { IfOk result (λ log. IsTrusted (D.state disk.old) → Stands (D.state disk.new) log []) }
+        ensures any_moment { IsTrusted (D.state disk.old) → Run (D.state disk.old) (D.state disk.new) f (λ _ _. ⊤) }
+        ensures goes { Goes (D.state disk.old) (D.state disk.new) }
+        ensures cause { IsErrOf result DiskFault.Failed → Rose (D.state disk.old).faults (D.state disk.new).faults }
+    {
+        write_and_sync(disk, f, 0, b"ALTLOG01\0")?;
+        Ok(GateLog {
+            alloc,
+            file: f,
+            gate: 8,
+            places: Vec::new(alloc),
+        })
+    }
+
+    /// Adds an entry. At Ok a stop from then on leaves a file that has it. At Failed recover the log again before the next entry,
+    /// since the file may read with the entry or without.
+    pub fn append<D: Disk>(&mut self, disk: &mut D, bytes: &[u8]) -> Result<(), DiskFault>
+        requires { IsTrusted (D.state disk.old) → (entries : List (List ℕ)) × Stands (D.state disk.old) self.old entries }
+        ensures file { file_of self.new ≡ file_of self.old }
+
+        // At Ok the list is the old one with the entry, as the disk reads and in what a stop leaves.
+        ensures ok { OnOk result (IsTrusted (D.state disk.old) → (entries : List (List ℕ)) → Stands (D.state disk.old) self.old entries
+            → Stands (D.state disk.new) self.new (entries ++ bytes.now ∷ [])) }
+        ensures err { OnErr result (SameLog self.old self.new) }
+
+        // A stop at any moment of the call leaves the list from before it, or with the entry, and other files as they were.
+        ensures any_moment { IsTrusted (D.state disk.old) → (entries : List (List ℕ)) → Stands (D.state disk.old) self.old entries
+            → Run (D.state disk.old) (D.state disk.new) (file_of self.old) (BeforeOrAfter entries bytes.now) }
+        ensures no_memory { IsErrOf result DiskFault.NoMemory → D.state disk.new ≡ D.state disk.old }
+        ensures goes { Goes (D.state disk.old) (D.state disk.new) }
+        ensures cause { IsErrOf result DiskFault.Failed → Rose (D.state disk.old).faults (D.state disk.new).faults }
+    {
+        let block = frame(self.alloc, bytes)?;
+        self.places.reserve(1)?;
+        write_and_sync(disk, self.file, self.gate + 1, block.as_slice())?;
+        write_and_sync(disk, self.file, self.gate, &[1])?;
+        self.places.push_reserved(self.gate);
+        self.gate += block.len() as u64;
+        Ok(())
+    }
+
+    /// How many entries there are.
+    pub fn entries(&self) -> usize
+        ensures { result ≡ count_of self.now }
+    {
+        self.places.len()
+    }
+
+    /// Reads the log of a file. It holds the places of the entries, and no entry.
+    pub fn recover<D: Disk>(alloc: Global, disk: &mut D, f: u32) -> Result<GateLog, LogFault>
+        ensures file { IfOk result (λ log. file_of log ≡ f) }
+        ensures reads { IfOk result (λ log. IsTrue (D.state disk.old).tells → (entries : List (List ℕ)) × Reads (D.state disk.new) log entries) }
+        ensures damaged { IsTrue (D.state disk.old).tells → IfErr result (ExplainsLog f (contents (D.state disk.old) f)) }
+        ensures no_log { IsTrue (D.state disk.old).tells → IfErr result (HasNoLog (contents (D.state disk.old) f)) }
+        ensures quiet { IsTrue (D.state disk.old).tells → Quiet (D.state disk.old) (D.state disk.new) }
+        ensures goes { Goes (D.state disk.old) (D.state disk.new) }
+        ensures cause { IsErrOf result LogFault.Failed → Rose (D.state disk.old).faults (D.state disk.new).faults }
+    {
+        match size_of_log(disk, f) {
+            Ok(size) => walk(alloc, disk, f, size),
+            Err(fault) => Err(fault),
+        }
+    }
+
+    /// Adds the bytes of an entry to `out`, which an error leaves as it was. It reads no other entry.
+    pub fn entry<D: Disk>(
+        &mut self,
+        disk: &mut D,
+        i: usize,
+        out: &mut Vec<u8>,
+    ) -> Result<(), LogFault>
+        requires { i < count_of self.old }
+        ensures ok { OnOk result (IsTrue (D.state disk.old).tells → (entries : List (List ℕ)) → Reads (D.state disk.old) self.old entries
+            → out.new.items ≡ out.old.items ++ get_or entries i []) }
+        ensures err { OnErr result (out.new.items ≡ out.old.items) }
+        ensures undamaged { IsTrue (D.state disk.old).tells → (entries : List (List ℕ)) → Reads (D.state disk.old) self.old entries → IfErr result IsNoDamage }
+        ensures damaged { IfErr result (IsDamageAt (file_of self.old) (place_of self.old i)) }
+        ensures list { self.new ≡ self.old }
+        ensures quiet { IsTrue (D.state disk.old).tells → Quiet (D.state disk.old) (D.state disk.new) }
+        ensures goes { Goes (D.state disk.old) (D.state disk.new) }
+        ensures cause { IsErrOf result LogFault.Failed → Rose (D.state disk.old).faults (D.state disk.new).faults }
+    {
+        let at = self.places[i];
+        let next = self.next_gate(i);
+        let length = next.saturating_sub(at + 9) as usize;
+        let start = out.len();
+        out.resize(start + length, 0)?;
+        match disk.read(self.file, at + 9, &mut out[start..]) {
+            Ok(count) => {
+                if count == length {
+                    return Ok(());
+                }
+                out.truncate(start);
+                Err(LogFault::Damaged {
+                    file: self.file,
+                    at,
+                })
+            }
+            Err(_) => {
+                out.truncate(start);
+                Err(LogFault::Failed)
+            }
+        }
+    }
+
+    // The place of the gate behind an entry.
+    fn next_gate(&self, i: usize) -> u64
+        requires { i < count_of self.now }
+        ensures next { result ≡ (if i + 1 == count_of self.now then self.now.gate else place_of self.now (i + 1)) }
+        ensures bound { result < 2 ^ 62 }
+    {
+        if i + 1 == self.places.len() {
+            self.gate
+        } else {
+            self.places[i + 1]
+        }
+    }
+}

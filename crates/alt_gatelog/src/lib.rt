@@ -1,0 +1,14 @@
+//! A log of entries in one file of a disk. A stop at any moment leaves each entry whole or not at all.
+#![tactic(auto)]
+
+mod durable;
+mod fault;
+mod frame;
+mod gatelog;
+mod read;
+
+pub use fault::LogFault;
+pub use gatelog::GateLog;
+
+#[cfg(test)]
+mod tests;

@@ -1,0 +1,92 @@
+//! Reads a log, gate by gate: the header, and nine bytes at the place of each gate.
+
+ghost use Rattle.std.specs.Prelude.{◌≡◌, ◌≤◌, ◌+◌, ◌-◌, ◌^◌, ◌<◌, ℕ, List, IfOk, IfErr, IsErrOf, IsTrue, length, take};
+ghost use Rattle.alt_base.specs.Counts.{Rose};
+ghost use Rattle.alt_disk.specs.Disk.{Goes, contents};
+ghost use Rattle.alt_disk.specs.Runs.{Quiet};
+ghost use Rattle.alt_gatelog.specs.Log.{header, ExplainsLog};
+ghost use Rattle.alt_gatelog.specs.InHand.{file_of, IsReadAs};
+ghost use Rattle.alt_gatelog.specs.Parse.{GateIs, HasRoom, IsCutAt, HasNoHeader};
+
+use crate::fault::LogFault;
+use crate::frame::{Gate, gate_of, is_header};
+use crate::gatelog::GateLog;
+use alt_disk::Disk;
+use std::alloc::Global;
+
+/// The size of a file that begins with the header.
+pub(crate) fn size_of_log<D: Disk>(disk: &mut D, f: u32) -> Result<u64, LogFault>
+    ensures size { IsTrue (D.state disk.old).tells → IfOk result (λ size. size ≡ length (contents (D.state disk.old) f)) }
+    ensures header { IsTrue (D.state disk.old).tells → IfOk result (λ size. take 8 (contents (D.state disk.old) f) ≡ header) }
+    ensures bound { IfOk result (λ size. (8 ≤ size) × (size ≤ 2 ^ 62)) }
+    ensures damaged { IsTrue (D.state disk.old).tells → IfErr result (HasNoHeader f (contents (D.state disk.old) f)) }
+    ensures quiet { IsTrue (D.state disk.old).tells → Quiet (D.state disk.old) (D.state disk.new) }
+    ensures goes { Goes (D.state disk.old) (D.state disk.new) }
+    ensures cause { IsErrOf result LogFault.Failed → Rose (D.state disk.old).faults (D.state disk.new).faults }
+{
+    let size = disk.size(f)?;
+    if size < 8 {
+        return Err(LogFault::Damaged { file: f, at: 0 });
+    }
+    let mut head = [0u8; 8];
+    let count = disk.read(f, 0, &mut head)?;
+    if !is_header(&head[..count]) {
+        return Err(LogFault::Damaged { file: f, at: 0 });
+    }
+    Ok(size)
+}
+
+/// What stands at a gate's place in a file of this size.
+pub(crate) fn gate_at<D: Disk>(disk: &mut D, f: u32, at: u64, size: u64) -> Result<Gate, LogFault>
+    requires { at ≤ size }
+    ensures gate { IsTrue (D.state disk.old).tells → size ≡ length (contents (D.state disk.old) f) → IfOk result (GateIs (contents (D.state disk.old) f) at) }
+    ensures damaged { IsTrue (D.state disk.old).tells → size ≡ length (contents (D.state disk.old) f) → IfErr result (IsCutAt f at (contents (D.state disk.old) f)) }
+    ensures room { IfOk result (HasRoom (size - at)) }
+    ensures quiet { IsTrue (D.state disk.old).tells → Quiet (D.state disk.old) (D.state disk.new) }
+    ensures goes { Goes (D.state disk.old) (D.state disk.new) }
+    ensures cause { IsErrOf result LogFault.Failed → Rose (D.state disk.old).faults (D.state disk.new).faults }
+{
+    let mut head = [0u8; 9];
+    let count = disk.read(f, at, &mut head)?;
+    match gate_of(&head[..count], size - at) {
+        Some(gate) => Ok(gate),
+        None => Err(LogFault::Damaged { file: f, at }),
+    }
+}
+
+/// The log of a file of this size that begins with the header.
+pub(crate) fn walk<D: Disk>(
+    alloc: Global,
+    disk: &mut D,
+    f: u32,
+    size: u64,
+) -> Result<GateLog, LogFault>
+    requires bound { (8 ≤ size) × (size ≤ 2 ^ 62) }
+    requires size { IsTrue (D.state disk.old).tells → size ≡ length (contents (D.state disk.old) f) }
+    requires header { IsTrue (D.state disk.old).tells → take 8 (contents (D.state disk.old) f) ≡ header }
+    ensures file { IfOk result (λ log. file_of log ≡ f) }
+    ensures reads { IfOk result (λ log. IsTrue (D.state disk.old).tells → (entries : List (List ℕ)) × IsReadAs (contents (D.state disk.old) f) log entries) }
+    ensures damaged { IsTrue (D.state disk.old).tells → IfErr result (ExplainsLog f (contents (D.state disk.old) f)) }
+    ensures quiet { IsTrue (D.state disk.old).tells → Quiet (D.state disk.old) (D.state disk.new) }
+    ensures goes { Goes (D.state disk.old) (D.state disk.new) }
+    ensures cause { IsErrOf result LogFault.Failed → Rose (D.state disk.old).faults (D.state disk.new).faults }
+{
+    let mut places = Vec::new(alloc);
+    let mut at = 8;
+    'gates: loop {
+        match gate_at(disk, f, at, size) {
+            Ok(Gate::Closed) => break 'gates,
+            Ok(Gate::Open(length)) => {
+                places.push(at)?;
+                at += 9 + length;
+            }
+            Err(fault) => return Err(fault),
+        }
+    }
+    Ok(GateLog {
+        alloc,
+        file: f,
+        gate: at,
+        places,
+    })
+}

@@ -1,0 +1,10 @@
+-- The members found and the items left give what all the items give.
+use Rattle.std.proofs.Common.{◌≡◌, [], drop}
+use Rattle.serde_json.specs.View.{items_view}
+use Rattle.std.specs.Ordering.{int_cmp}
+use Rattle.alt_codec.specs.Scalars.{number_in}
+use Rattle.alt_codec.specs.Sets.{members_with}
+use Rattle.alt_codec.proofs.sets.number_members.Given as goal
+
+abbrev pub invariant-loop-item : goal.invariant-loop-item
+invariant-loop-item l = members_with int_cmp number_in [] (items_view l.items) ≡ members_with int_cmp number_in l.set (items_view (drop l.item-index l.items))

@@ -1,0 +1,5 @@
+pub mod Numbers
+pub mod Reading
+pub mod Scalars
+pub mod Sets
+pub mod Steps

@@ -1,9 +1,44 @@
 //! Logs over a disk in memory: stops and failures at each call of an append, the ways of being damaged, and sizes.
 
+ghost use Rattle.std.specs.Prelude.{◌≡◌, None, IfSome};
+ghost use Rattle.alt_disk.specs.Disk.{IsTrusted};
+ghost use Rattle.alt_disk.specs.MemoryState.{state_of};
+
 use super::*;
-use alt_disk::{Disk, MemoryDisk};
-use std::alloc::Global;
+use alt_disk::{Disk, DiskFault, MemoryDisk};
+use std::alloc::{AllocError, Global};
 use std::test::Fail;
+
+// A log of file 2 with two entries.
+fn log_with<D: Disk>(
+    alloc: Global,
+    disk: &mut D,
+    first: &[u8],
+    second: &[u8],
+) -> Result<GateLog, DiskFault>
+    requires { IsTrusted (D.state disk.old) → (D.state disk.old).file 2 ≡ None }
+{
+    let mut log = GateLog::make(alloc, disk, 2)?;
+    log.append(disk, first)?;
+    log.append(disk, second)?;
+    Ok(log)
+}
+
+// So many sevens.
+fn sevens(alloc: Global, count: usize) -> Result<Vec<u8>, AllocError> {
+    vec![in alloc; 7u8; count]
+}
+
+// An empty disk on which the call at this moment fails.
+fn failing_disk(alloc: Global, call: u64) -> Option<MemoryDisk>
+    ensures { IfSome result (λ disk. (state_of disk).file 2 ≡ None) }
+{
+    let mut disk = MemoryDisk::new(alloc);
+    if disk.fail(call).is_err() {
+        return None;
+    }
+    Some(disk)
+}
 
 // Whether the log has this entry.
 fn has_entry(
@@ -20,46 +55,62 @@ fn has_entry(
     log.entry(disk, i, &mut out).is_ok() && out.as_slice() == want
 }
 
-// How many entries the log of file 2 has, none where it isn't a log.
-fn count_of_log(alloc: Global, disk: &mut MemoryDisk) -> Option<usize> {
-    match GateLog::recover(alloc, disk, 2) {
+// How many entries the log of this file has, none where it isn't a log.
+fn count_of_log(alloc: Global, disk: &mut MemoryDisk, f: u32) -> Option<usize> {
+    match GateLog::recover(alloc, disk, f) {
         Ok(log) => Some(log.entries()),
         Err(_) => None,
     }
 }
 
-#[test]
-fn entries_are_read_again(rt: HostRuntime) {
-    let alloc = rt.alloc();
-    let mut disk = MemoryDisk::new(alloc);
-    let made = GateLog::make(alloc, &mut disk, 2);
-    assert!(rt; made.is_ok());
-    if let Ok(mut log) = made {
-        assert!(rt; log.append(&mut disk, b"one").is_ok());
-        assert!(rt; log.append(&mut disk, b"").is_ok());
-        assert!(rt; has_entry(alloc, &mut disk, &mut log, 0, b"one"));
-        let found = GateLog::recover(alloc, &mut disk, 2);
-        assert!(rt; found.is_ok());
-        if let Ok(mut again) = found {
-            assert_eq!(rt; again.entries(), 2);
-            assert!(rt; has_entry(alloc, &mut disk, &mut again, 0, b"one"));
-            assert!(rt; has_entry(alloc, &mut disk, &mut again, 1, b""));
+// Whether a stop at this moment leaves a log with so many entries.
+fn leaves_within(
+    alloc: Global,
+    disk: &MemoryDisk,
+    moment: u64,
+    choice: &[u8],
+    least: usize,
+    most: usize,
+) -> bool {
+    let now = disk.counts().0;
+    match disk.stopped(moment.min(now), choice) {
+        Ok(mut left) => {
+            let count = count_of_log(alloc, &mut left, 2);
+            count >= Some(least) && count <= Some(most)
         }
+        Err(_) => false,
     }
+}
+
+#[test]
+fn entries_are_read_again(rt: HostRuntime) -> Result<(), Fail> {
+    let alloc = rt.alloc();
+    let large = sevens(alloc, 4 << 20)?;
+    let Some(mut disk) = failing_disk(alloc, 1000) else {
+        assert!(rt; false);
+        return Ok(());
+    };
+    match log_with(alloc, &mut disk, large.as_slice(), b"") {
+        Ok(mut log) => {
+            assert_eq!(rt; log.entries(), 2);
+            assert!(rt; has_entry(alloc, &mut disk, &mut log, 0, large.as_slice()));
+            assert!(rt; has_entry(alloc, &mut disk, &mut log, 1, b""));
+        }
+        Err(_) => assert!(rt; false),
+    }
+    assert_eq!(rt; count_of_log(alloc, &mut disk, 2), Some(2));
+    Ok(())
 }
 
 #[test]
 fn a_stop_at_each_call_leaves_each_entry_whole_or_not_at_all(rt: HostRuntime) {
     let alloc = rt.alloc();
-    let mut disk = MemoryDisk::new(alloc);
-    let made = GateLog::make(alloc, &mut disk, 2);
-    assert!(rt; made.is_ok());
-    if let Ok(mut log) = made {
-        assert!(rt; log.append(&mut disk, b"one").is_ok());
-        assert!(rt; log.append(&mut disk, b"two").is_ok());
-    }
-    let now = disk.counts().0;
-    assert_eq!(rt; now, 10);
+    let Some(mut disk) = failing_disk(alloc, 1000) else {
+        assert!(rt; false);
+        return;
+    };
+    assert!(rt; log_with(alloc, &mut disk, b"one", b"two").is_ok());
+    assert_eq!(rt; disk.counts().0, 10);
     // the moment, and the least and the most entries that a stop then leaves
     let rows = [
         (2, 0, 0),
@@ -74,16 +125,10 @@ fn a_stop_at_each_call_leaves_each_entry_whole_or_not_at_all(rt: HostRuntime) {
     ];
     for (moment, least, most) in rows {
         // all zeros; a gate that is open, and the length of a read; a gate of another byte, and more behind the end
-        let choices: [&[u8]; 3] = [&[], &[1, 1, 1, 1, 1, 1, 1, 1, 1], &[90, 7, 7, 7, 7, 7]];
-        for choice in choices {
-            match disk.stopped(moment.min(now), choice) {
-                Ok(mut left) => {
-                    let count = count_of_log(alloc, &mut left);
-                    assert!(rt; count >= Some(least) && count <= Some(most), "at {moment}");
-                }
-                Err(_) => assert!(rt; false),
-            }
-        }
+        let zeros = leaves_within(alloc, &disk, moment, &[], least, most);
+        let ones = leaves_within(alloc, &disk, moment, &[1, 1, 1, 1, 1, 1, 1], least, most);
+        let others = leaves_within(alloc, &disk, moment, &[90, 7, 7, 7, 7, 7], least, most);
+        assert!(rt; zeros && ones && others, "at {moment}");
     }
 }
 
@@ -91,17 +136,15 @@ fn a_stop_at_each_call_leaves_each_entry_whole_or_not_at_all(rt: HostRuntime) {
 fn an_append_whose_call_fails_leaves_the_list_or_the_entry_too(rt: HostRuntime) {
     let alloc = rt.alloc();
     for call in 2..6 {
-        let mut disk = MemoryDisk::new(alloc);
-        assert!(rt; disk.fail(call).is_ok());
-        let made = GateLog::make(alloc, &mut disk, 2);
-        assert!(rt; made.is_ok());
-        if let Ok(mut log) = made {
-            assert!(rt; log.append(&mut disk, b"one").is_err());
-            assert_eq!(rt; log.entries(), 0);
+        match failing_disk(alloc, call) {
+            Some(mut disk) => {
+                assert!(rt; log_with(alloc, &mut disk, b"one", b"two").is_err());
+                let count = count_of_log(alloc, &mut disk, 2);
+                let most = if call == 5 { 1 } else { 0 };
+                assert!(rt; count >= Some(0) && count <= Some(most), "call {call}");
+            }
+            None => assert!(rt; false),
         }
-        let count = count_of_log(alloc, &mut disk);
-        let most = if call == 5 { 1 } else { 0 };
-        assert!(rt; count >= Some(0) && count <= Some(most), "call {call}");
     }
 }
 
@@ -132,16 +175,9 @@ fn damage_is_named_by_its_place(rt: HostRuntime) {
 }
 
 #[test]
-fn a_large_entry_and_many_small_ones_are_read(rt: HostRuntime) -> Result<(), Fail> {
+fn ten_thousand_entries_are_read(rt: HostRuntime) -> Result<(), Fail> {
     let alloc = rt.alloc();
     let mut disk = MemoryDisk::new(alloc);
-    let large = vec![in alloc; 7u8; 4 << 20]?;
-    let made = GateLog::make(alloc, &mut disk, 2);
-    assert!(rt; made.is_ok());
-    if let Ok(mut log) = made {
-        assert!(rt; log.append(&mut disk, large.as_slice()).is_ok());
-        assert!(rt; has_entry(alloc, &mut disk, &mut log, 0, large.as_slice()));
-    }
     let mut bytes = Vec::new(alloc);
     bytes.extend_from_slice(b"ALTLOG01")?;
     for i in 0..10_000u32 {
@@ -150,11 +186,6 @@ fn a_large_entry_and_many_small_ones_are_read(rt: HostRuntime) -> Result<(), Fai
     }
     bytes.push(0)?;
     assert!(rt; disk.write_at(3, 0, bytes.as_slice()).is_ok());
-    let found = GateLog::recover(alloc, &mut disk, 3);
-    assert!(rt; found.is_ok());
-    if let Ok(mut log) = found {
-        assert_eq!(rt; log.entries(), 10_000);
-        assert!(rt; has_entry(alloc, &mut disk, &mut log, 9_999, b"\0\0\x27\x0f"));
-    }
+    assert_eq!(rt; count_of_log(alloc, &mut disk, 3), Some(10_000));
     Ok(())
 }

@@ -1,7 +1,9 @@
 -- What a stop leaves around a write and its sync.
-use Rattle.std.proofs.Common.{◌≡◌, ⊎_elim, inl, inr, length, ℕ, List, Result, Ok, Err, OnOk, is_ok, Bool, true, false, refl, ◌∙◌, subst}
+use Rattle.std.proofs.Common.{◌≡◌, ◌⊎◌, ◌<◌, ◌≤◌, ◌+◌, ◌-◌, ◌^◌, arith, sym, ⊎_elim, inl, inr, length, ℕ, List, Result, Ok, Err, OnOk, is_ok, Bool, true, false, refl, ◌∙◌, subst}
 use Rattle.alt_disk.specs.Fates.{Fates, Fits, wrote}
-use Rattle.alt_disk.specs.Disk.{DiskState, Call, Written, Synced, now, contents, overwritten}
+use Rattle.std.proofs.lemmas.Bool.{false≢true}
+use Rattle.alt_base.specs.Counts.{next_moment}
+use Rattle.alt_disk.specs.Disk.{DiskState, Tick, Call, Written, Synced, now, contents, overwritten}
 use Rattle.alt_disk.specs.Runs.{RunSoFar}
 use Rattle.alt_disk.proofs.Runs.{begun, after_call, after_sync}
 use Rattle.alt_gatelog.specs.InHand.{AroundWrite, Lasts}
@@ -30,3 +32,20 @@ module _ (s0 : DiskState) (f at : ℕ) (bytes : List ℕ) where
 pub when_ok : {T E X : Type 0} (r : Result T E) → (is_ok r ≡ true → X) → OnOk r X
 when_ok (Ok x) leads = leads refl
 when_ok (Err e) leads = tt
+
+below_or_last : (m : ℕ) → (m < 2 ^ 64 - 1) ⊎ (2 ^ 64 - 1 ≤ m)
+below_or_last m = grind arith
+
+next_is : (m n : ℕ) → m < 2 ^ 64 - 1 → n ≡ next_moment m → n ≡ m + 1
+next_is m n below is = grind arith
+
+-- a call that succeeded took one moment
+pub tick_one : (a b : DiskState) → Tick a b true → b.moment ≡ a.moment + 1
+tick_one a b tick = ⊎_elim
+    (λ (below : a.moment < 2 ^ 64 - 1). next_is a.moment b.moment below tick.moment)
+    (λ (last : 2 ^ 64 - 1 ≤ a.moment). absurd (false≢true (sym (tick.ended last).0)))
+    (below_or_last a.moment)
+
+-- and two took two
+pub tick_two : (a b c : DiskState) → Tick a b true → Tick b c true → c.moment ≡ a.moment + 2
+tick_two a b c first then = let one = tick_one a b first in let two = tick_one b c then in omega (arith, one, two)

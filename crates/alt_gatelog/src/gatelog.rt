@@ -37,6 +37,7 @@ impl GateLog {
         ensures file { IfOk result (λ log. file_of log ≡ f) }
         ensures made { IfOk result (λ log. IsTrusted (D.state disk.old) → Stands (D.state disk.new) log []) }
         ensures any_moment { IsTrusted (D.state disk.old) → Run (D.state disk.old) (D.state disk.new) f (λ _ _. ⊤) }
+        ensures calls { OnOk result ((D.state disk.new).moment ≡ (D.state disk.old).moment + 2) }
         ensures goes { Goes (D.state disk.old) (D.state disk.new) }
         ensures cause { IsErrOf result DiskFault.Failed → Rose (D.state disk.old).faults (D.state disk.new).faults }
     {
@@ -64,6 +65,7 @@ impl GateLog {
         ensures any_moment { IsTrusted (D.state disk.old) → (entries : List (List ℕ)) → Stands (D.state disk.old) self.old entries
             → Run (D.state disk.old) (D.state disk.new) (file_of self.old) (BeforeOrAfter entries bytes.now) }
         ensures no_memory { IsErrOf result DiskFault.NoMemory → D.state disk.new ≡ D.state disk.old }
+        ensures calls { OnOk result ((D.state disk.new).moment ≡ (D.state disk.old).moment + 4) }
         ensures goes { Goes (D.state disk.old) (D.state disk.new) }
         ensures cause { IsErrOf result DiskFault.Failed → Rose (D.state disk.old).faults (D.state disk.new).faults }
     {

@@ -5,6 +5,8 @@ cd "$(dirname "$0")/.."
 passed=0
 failed=0
 request='Fly {}'
+# Where it isn't built yet, it is built here, and says so.
+./alternator . 0 replay 65536 4 </dev/null >/dev/null
 # expect NAME STATUS NOTE COMMAND..
 expect() {
   local name=$1 status=$2 note=$3 got noted

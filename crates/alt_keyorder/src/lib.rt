@@ -1,0 +1,15 @@
+//! Keys as bytes: key parts, whose byte order is the order of keys, tokens, and ranges of keys.
+#![tactic(auto)]
+
+mod digest;
+mod order;
+mod part;
+mod range;
+
+pub use digest::token;
+pub use order::part_order;
+pub use part::key_part;
+pub use range::{KeyRange, after_all};
+
+#[cfg(test)]
+mod tests;

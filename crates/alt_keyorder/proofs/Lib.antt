@@ -1,3 +1,4 @@
 pub mod Bounds
 pub mod Escaping
 pub mod Parts
+pub mod Unclosed

@@ -1,5 +1,5 @@
 -- Key bytes, whose byte order is the order of keys (docs/formats/key-bytes.md).
-use Rattle.std.specs.Prelude.{◌≡◌, ℕ, zero, suc, List, [], ◌∷◌, ◌++◌}
+use Rattle.std.specs.Prelude.{◌≡◌, ℕ, zero, suc, Bool, if◌then◌else◌, List, [], ◌∷◌, ◌++◌, length}
 use Rattle.std.specs.Str.{IsUtf8}
 use Rattle.std.specs.Ordering.{ordering_then}
 use Rattle.std.specs.declared.cmp.Ordering.{Ordering}
@@ -54,3 +54,29 @@ IsPartOrder t u o = (x y : List ℕ) → text_order (key_bytes t ++ x) (key_byte
 -- the key part of one value begins bytes that the part of the other begins only where they are one value
 abbrev pub AreApart : Tree → Tree → Type 0
 AreApart t u = (x y : List ℕ) → key_bytes t ++ x ≡ key_bytes u ++ y → t ≡ u
+
+-- the key part of a value of that kind stands at the front, and has so many bytes
+pub record IsPart (kind : KeyKind) (bytes : List ℕ) (t : Tree) (len : ℕ) : Type 0 where
+  pub key : IsKeyOf kind t
+  pub behind : List ℕ
+  pub is : bytes ≡ key_bytes t ++ behind
+  pub count : len ≡ length (key_bytes t)
+
+-- no key part of that kind stands at the front
+abbrev pub NoPart : KeyKind → List ℕ → Type 0
+NoPart kind bytes = (t : Tree) (behind : List ℕ) → IsKeyOf kind t → bytes ≡ key_bytes t ++ behind → ⊥
+
+-- no closed bytes stand at the front
+abbrev pub IsUnclosed : List ℕ → Type 0
+IsUnclosed bytes = (s behind : List ℕ) → bytes ≡ closed s ++ behind → ⊥
+
+-- these closed bytes stand at the front, and have so many bytes
+pub record IsClosedAt (bytes s : List ℕ) (len : ℕ) : Type 0 where
+  pub behind : List ℕ
+  pub is : bytes ≡ closed s ++ behind
+  pub count : len ≡ length (closed s)
+
+-- before the first 0 stands the front, and behind it the mark: 255, or else 0
+pub record IsCut (bytes front : List ℕ) (goes_on : Bool) (after : List ℕ) : Type 0 where
+  pub is : bytes ≡ front ++ 0 ∷ (if goes_on then 255 else 0) ∷ after
+  pub clean : IsClean front

@@ -5,11 +5,13 @@ mod digest;
 mod order;
 mod part;
 mod range;
+mod take;
 
 pub use digest::token;
 pub use order::part_order;
 pub use part::key_part;
 pub use range::{KeyRange, after_all};
+pub use take::take_part;
 
 #[cfg(test)]
 mod tests;

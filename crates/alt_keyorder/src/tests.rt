@@ -1,9 +1,9 @@
 //! Key parts, tokens and bounds as docs/formats/key-bytes.md shows them.
 
-use crate::{KeyRange, after_all, key_part, part_order, token};
+use crate::{KeyRange, after_all, key_part, part_order, take_part, token};
 use alt_decimal::Decimal;
 use alt_fields::Bytes;
-use alt_value::{Attr, Text};
+use alt_value::{Attr, KeyKind, Text};
 use std::test::Fail;
 
 #[test]
@@ -66,4 +66,52 @@ fn a_bound_is_above_what_begins_with_the_prefix(rt: HostRuntime) -> Result<(), F
     assert_eq!(rt; after_all(rt.alloc(), b"\xff")?.is_none(), true);
     assert_eq!(rt; after_all(rt.alloc(), b"")?.is_none(), true);
     Ok(())
+}
+
+#[test]
+fn parts_are_taken_whatever_follows(rt: HostRuntime) -> Result<(), Fail> {
+    let bytes = b"ab\x00\x00\x00\xffc\x00\xff\x00\x00\x03\x82\x60\x00more";
+    assert_eq!(rt;
+        place(take_part(rt.alloc(), KeyKind::S, bytes, 0)?),
+        Some(4)
+    );
+    assert_eq!(rt;
+        place(take_part(rt.alloc(), KeyKind::B, bytes, 4)?),
+        Some(11)
+    );
+    assert_eq!(rt;
+        place(take_part(rt.alloc(), KeyKind::N, bytes, 11)?),
+        Some(15)
+    );
+    Ok(())
+}
+
+#[test]
+fn other_bytes_are_no_part(rt: HostRuntime) -> Result<(), Fail> {
+    let table: [(KeyKind, &[u8]); 9] = [
+        (KeyKind::B, b"a\x00"),
+        (KeyKind::B, b"a\x00\xfe\x00\x00"),
+        (KeyKind::B, b"a"),
+        (KeyKind::B, b""),
+        (KeyKind::S, b"\xff\x00\x00"),
+        (KeyKind::N, b"\x03\x82\x00\x00"),
+        (KeyKind::N, b"\x03\x82\x65\x00"),
+        (KeyKind::N, b"\x03\x82\x5b\x01\x00"),
+        (KeyKind::N, b"\x04"),
+    ];
+    for (kind, bytes) in &table {
+        assert_eq!(rt; place(take_part(rt.alloc(), *kind, *bytes, 0)?), None);
+    }
+    assert_eq!(rt;
+        place(take_part(rt.alloc(), KeyKind::B, b"\x00\x00", 3)?),
+        None
+    );
+    Ok(())
+}
+
+fn place(taken: Option<(Attr, usize)>) -> Option<usize> {
+    match taken {
+        Some((_, end)) => Some(end),
+        None => None,
+    }
 }

@@ -1,0 +1,4 @@
+pub mod Bounds
+pub mod Escaping
+pub mod Parts
+pub mod Unclosed

@@ -1,0 +1,4 @@
+pub mod CellBytes
+pub mod KeyBytes
+pub mod Range
+pub mod Token

@@ -1,0 +1,39 @@
+//! The order of key bytes is the order of keys.
+
+ghost use Rattle.std.specs.Prelude.{◌≡◌, IfSome};
+ghost use Rattle.alt_value.specs.Order.{tree_order};
+ghost use Rattle.alt_value.specs.Stands.{tree_of};
+ghost use Rattle.alt_value.specs.Tree.{N_tree};
+ghost use Rattle.alt_keyorder.specs.KeyBytes.{IsPartOrder, AreApart};
+
+use alt_decimal::{Decimal, spelling_order};
+use alt_value::{Attr, order};
+use std::cmp::Ordering;
+
+/// The order of two texts, two numbers or two binaries, which is that of their key parts, whatever follows these. None
+/// exactly where the values aren't both of one of these kinds.
+pub fn part_order(a: &Attr, b: &Attr) -> Option<Ordering>
+    ensures values { result ≡ tree_order (tree_of a.now) (tree_of b.now) }
+    // The bytes that follow decide exactly where the values are equal.
+    ensures parts { IfSome result (IsPartOrder (tree_of a.now) (tree_of b.now)) }
+    // No part of a kind is a prefix of another of that kind.
+    ensures apart { IfSome result (λ o. AreApart (tree_of a.now) (tree_of b.now)) }
+{
+    match a {
+        Attr::N(number) => order_of_numbers(number, b),
+        Attr::S(_) => order(a, b),
+        Attr::B(_) => order(a, b),
+        _ => None,
+    }
+}
+
+fn order_of_numbers(number: &Decimal, b: &Attr) -> Option<Ordering>
+    ensures values { result ≡ tree_order (N_tree number.now) (tree_of b.now) }
+    ensures parts { IfSome result (IsPartOrder (N_tree number.now) (tree_of b.now)) }
+    ensures apart { IfSome result (λ o. AreApart (N_tree number.now) (tree_of b.now)) }
+{
+    match b {
+        Attr::N(other) => Some(spelling_order(number, other)),
+        _ => None,
+    }
+}

@@ -1,0 +1,134 @@
+//! A worked description: its bytes, its indexes, and the rows of items in these.
+
+use crate::{
+    IndexList, IndexSchema, KeyAttr, KeyAttrList, Projection, TableSchema, TextList, View,
+    index_item, index_keys_fit, index_named, schema_bytes,
+};
+use alt_base::NoMemory;
+use alt_value::{Attr, Item, KeyKind, Text};
+use std::alloc::Global;
+use std::test::Fail;
+
+fn key(alloc: Global, name: &str, kind: KeyKind) -> Result<KeyAttr, NoMemory> {
+    let name = Text::new(alloc, name)?;
+    Ok(KeyAttr { name, kind })
+}
+
+/// Table `T` of HASH k and RANGE r, with a local index `L` by a that keeps b, a global index `G` by g that
+/// keeps the keys alone, and a stream.
+fn table(alloc: Global) -> Result<TableSchema, NoMemory> {
+    let mut names = TextList::new(alloc);
+    names.push(Text::new(alloc, "b")?)?;
+    let mut locals = IndexList::new(alloc);
+    locals.push(IndexSchema {
+        name: Text::new(alloc, "L")?,
+        hash: key(alloc, "k", KeyKind::S)?,
+        range: Some(key(alloc, "a", KeyKind::S)?),
+        projection: Projection::Include(names),
+        family: 8,
+    })?;
+    let mut globals = IndexList::new(alloc);
+    globals.push(IndexSchema {
+        name: Text::new(alloc, "G")?,
+        hash: key(alloc, "g", KeyKind::S)?,
+        range: None,
+        projection: Projection::KeysOnly,
+        family: 9,
+    })?;
+    let mut definitions = KeyAttrList::new(alloc);
+    definitions.push(key(alloc, "k", KeyKind::S)?)?;
+    Ok(TableSchema {
+        name: Text::new(alloc, "T")?,
+        definitions,
+        hash: key(alloc, "k", KeyKind::S)?,
+        range: Some(key(alloc, "r", KeyKind::N)?),
+        locals,
+        globals,
+        view: Some(View::NewImage),
+        stream_family: Some(10),
+        created: 5,
+        number: 6,
+        family: 7,
+    })
+}
+
+fn text_item(alloc: Global, names: &[&str], text: &str) -> Result<Item, NoMemory> {
+    let mut item = Item::new(alloc);
+    for name in names {
+        if !name.is_empty() {
+            item.put(name, Attr::S(Text::new(alloc, text)?))?;
+        }
+    }
+    Ok(item)
+}
+
+#[test]
+fn a_description_has_these_bytes(rt: HostRuntime) -> Result<(), Fail> {
+    let alloc = rt.alloc();
+    let mut out = Vec::new(alloc);
+    schema_bytes(&table(alloc)?, &mut out)?;
+    let head =
+        b"\x00\x00\x00\x00\x00\x00\x00\x01T\x00\x00\x00\x00\x00\x00\x00\x05\x00\x00\x00\x00\x00\x00\x00\x06\x00\x00\x00\x07\x02\x00\x00\x00\x0a";
+    let keys =
+        b"\x00\x00\x00\x00\x00\x00\x00\x01\x00\x00\x00\x00\x00\x00\x00\x01k\x01\x00\x00\x00\x00\x00\x00\x00\x01k\x01\x00\x00\x00\x00\x00\x00\x00\x01r";
+    let local =
+        b"\x00\x00\x00\x00\x00\x00\x00\x01\x00\x00\x00\x00\x00\x00\x00\x01L\x00\x00\x00\x08\x00\x00\x00\x00\x00\x00\x00\x01k\x01\x00\x00\x00\x00\x00\x00\x00\x01a\x03\x00\x00\x00\x00\x00\x00\x00\x01\x00\x00\x00\x00\x00\x00\x00\x01b";
+    let global =
+        b"\x00\x00\x00\x00\x00\x00\x00\x01\x00\x00\x00\x00\x00\x00\x00\x01G\x00\x00\x00\x09\x00\x00\x00\x00\x00\x00\x00\x01g\x00\x02";
+    let mut wanted = Vec::new(alloc);
+    wanted.extend_from_slice(head)?;
+    wanted.extend_from_slice(keys)?;
+    wanted.extend_from_slice(local)?;
+    wanted.extend_from_slice(global)?;
+    assert_eq!(rt; out.as_slice(), wanted.as_slice());
+    Ok(())
+}
+
+#[test]
+fn the_local_indexes_come_first(rt: HostRuntime) -> Result<(), Fail> {
+    let t = table(rt.alloc())?;
+    assert_eq!(rt; index_named(&t, "L"), Some(0));
+    assert_eq!(rt; index_named(&t, "G"), Some(1));
+    assert_eq!(rt; index_named(&t, "T"), None);
+    Ok(())
+}
+
+#[test]
+fn an_index_key_is_of_its_kind_and_not_empty(rt: HostRuntime) -> Result<(), Fail> {
+    let alloc = rt.alloc();
+    let t = table(alloc)?;
+    assert_eq!(rt;
+        index_keys_fit(&t, &text_item(alloc, &["k", "z"], "x")?),
+        true
+    );
+    assert_eq!(rt;
+        index_keys_fit(&t, &text_item(alloc, &["k", "g"], "x")?),
+        true
+    );
+    assert_eq!(rt;
+        index_keys_fit(&t, &text_item(alloc, &["z", "g"], "")?),
+        false
+    );
+    let mut item = text_item(alloc, &["k"], "x")?;
+    item.put("g", Attr::Null)?;
+    assert_eq!(rt; index_keys_fit(&t, &item), false);
+    Ok(())
+}
+
+#[test]
+fn a_row_keeps_keys_and_the_names_included(rt: HostRuntime) -> Result<(), Fail> {
+    let alloc = rt.alloc();
+    let t = table(alloc)?;
+    let item = text_item(alloc, &["k", "r", "a", "b", "c", "g"], "x")?;
+    if let Some(local) = index_item(alloc, &t, 0, &item)? {
+        assert_eq!(rt; local.len(), 4);
+        assert_eq!(rt; local.get("c").is_none(), true);
+    }
+    if let Some(global) = index_item(alloc, &t, 1, &item)? {
+        assert_eq!(rt; global.len(), 3);
+        assert_eq!(rt; global.get("g").is_some(), true);
+    }
+    let none = index_item(alloc, &t, 1, &text_item(alloc, &["k", "r", "a"], "x")?)?;
+    assert_eq!(rt; none.is_none(), true);
+    Ok(())
+}

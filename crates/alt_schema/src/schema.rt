@@ -39,8 +39,8 @@ pub struct IndexSchema {
 }
 
 /// A table: its name, the attributes defined, its key, its local and global indexes, what its stream
-/// shows if it has one, with the family of the stream's rows; the moment at which it was made in
-/// milliseconds, the number of that write, and the family of its rows. The indexes are numbered from 0,
+/// shows if it has one, with the family of the stream's rows; the moment at which it was made, in
+/// seconds since 1970 began in UTC, the number of that write, and the family of its rows. The indexes are numbered from 0,
 /// the local ones first.
 #[derive(Drop)]
 pub struct TableSchema {

@@ -14,34 +14,58 @@ fn key(alloc: Global, name: &str, kind: KeyKind) -> Result<KeyAttr, NoMemory> {
     Ok(KeyAttr { name, kind })
 }
 
-/// Table `T` of HASH k and RANGE r, with a local index `L` by a that keeps b, a global index `G` by g that
-/// keeps the keys alone, and a stream.
-fn table(alloc: Global) -> Result<TableSchema, NoMemory> {
+/// An index `L` by a that keeps b.
+fn locals(alloc: Global) -> Result<IndexList, NoMemory> {
     let mut names = TextList::new(alloc);
     names.push(Text::new(alloc, "b")?)?;
-    let mut locals = IndexList::new(alloc);
-    locals.push(IndexSchema {
+    let index = IndexSchema {
         name: Text::new(alloc, "L")?,
         hash: key(alloc, "k", KeyKind::S)?,
         range: Some(key(alloc, "a", KeyKind::S)?),
         projection: Projection::Include(names),
         family: 8,
-    })?;
-    let mut globals = IndexList::new(alloc);
-    globals.push(IndexSchema {
+    };
+    list_of(alloc, index)
+}
+
+/// An index `G` by g that keeps the keys alone.
+fn globals(alloc: Global) -> Result<IndexList, NoMemory> {
+    let index = IndexSchema {
         name: Text::new(alloc, "G")?,
         hash: key(alloc, "g", KeyKind::S)?,
         range: None,
         projection: Projection::KeysOnly,
         family: 9,
-    })?;
-    let mut definitions = KeyAttrList::new(alloc);
-    definitions.push(key(alloc, "k", KeyKind::S)?)?;
+    };
+    list_of(alloc, index)
+}
+
+fn list_of(alloc: Global, index: IndexSchema) -> Result<IndexList, NoMemory> {
+    let mut list = IndexList::new(alloc);
+    list.push(index)?;
+    Ok(list)
+}
+
+/// Of which k alone is defined.
+fn definitions(alloc: Global) -> Result<KeyAttrList, NoMemory> {
+    let mut list = KeyAttrList::new(alloc);
+    list.push(key(alloc, "k", KeyKind::S)?)?;
+    Ok(list)
+}
+
+/// Table `T` of HASH k and RANGE r, with both indexes and a stream.
+fn table(alloc: Global) -> Result<TableSchema, NoMemory> {
+    let name = Text::new(alloc, "T")?;
+    let definitions = definitions(alloc)?;
+    let hash = key(alloc, "k", KeyKind::S)?;
+    let range = Some(key(alloc, "r", KeyKind::N)?);
+    let locals = locals(alloc)?;
+    let globals = globals(alloc)?;
     Ok(TableSchema {
-        name: Text::new(alloc, "T")?,
+        name,
         definitions,
-        hash: key(alloc, "k", KeyKind::S)?,
-        range: Some(key(alloc, "r", KeyKind::N)?),
+        hash,
+        range,
         locals,
         globals,
         view: Some(View::NewImage),

@@ -1,8 +1,8 @@
-//! A worked description: its bytes, its indexes, and the rows of items in these.
+//! A worked description: its bytes, its indexes, and keys of items in these.
 
 use crate::{
     IndexList, IndexSchema, KeyAttr, KeyAttrList, Projection, TableSchema, TextList, View,
-    index_item, index_keys_fit, index_named, schema_bytes,
+    index_keys_fit, index_named, schema_bytes,
 };
 use alt_base::NoMemory;
 use alt_value::{Attr, Item, KeyKind, Text};
@@ -136,23 +136,5 @@ fn an_index_key_is_of_its_kind_and_not_empty(rt: HostRuntime) -> Result<(), Fail
     let mut item = text_item(alloc, &["k"], "x")?;
     item.put("g", Attr::Null)?;
     assert_eq!(rt; index_keys_fit(&t, &item), false);
-    Ok(())
-}
-
-#[test]
-fn a_row_keeps_keys_and_the_names_included(rt: HostRuntime) -> Result<(), Fail> {
-    let alloc = rt.alloc();
-    let t = table(alloc)?;
-    let item = text_item(alloc, &["k", "r", "a", "b", "c", "g"], "x")?;
-    if let Some(local) = index_item(alloc, &t, 0, &item)? {
-        assert_eq!(rt; local.len(), 4);
-        assert_eq!(rt; local.get("c").is_none(), true);
-    }
-    if let Some(global) = index_item(alloc, &t, 1, &item)? {
-        assert_eq!(rt; global.len(), 3);
-        assert_eq!(rt; global.get("g").is_some(), true);
-    }
-    let none = index_item(alloc, &t, 1, &text_item(alloc, &["k", "r", "a"], "x")?)?;
-    assert_eq!(rt; none.is_none(), true);
     Ok(())
 }

@@ -1,0 +1,105 @@
+-- What an item's row in an index is, and which items an index takes (DynamoDB Developer Guide, "Using Global Secondary
+-- Indexes", "Attribute projections").
+use Rattle.std.specs.Prelude.{ℕ, ◌≤◌, Bool, true, false, ◌&&◌, ◌||◌, nat_lt, nat_le, if◌then◌else◌, List, [], ◌∷◌, ◌++◌, length, Option, Some, None, is_some}
+use Rattle.std.specs.List.{list_any, list_all}
+use Rattle.std.specs.Str.{bytes_eq}
+use Rattle.std.specs.FinMap.Entries.{where_key}
+use Rattle.alt_value.specs.Members.{text_order}
+use Rattle.alt_value.specs.Tree.{Tree, S_tree, N_tree, B_tree, Pair}
+use Rattle.alt_value.specs.Item.{at_name}
+use Rattle.alt_value.specs.declared.kind.KeyKind.{KeyKind}
+use Rattle.alt_value.specs.declared.kind.KeyKind.TheVariants.{S, N, B}
+use Rattle.alt_schema.specs.declared.schema.KeyAttr.{KeyAttr}
+use Rattle.alt_schema.specs.declared.schema.Projection.{Projection}
+use Rattle.alt_schema.specs.declared.schema.Projection.TheVariants.{All, KeysOnly, Include}
+use Rattle.alt_schema.specs.declared.schema.IndexSchema.{IndexSchema}
+use Rattle.alt_schema.specs.declared.schema.TableSchema.{TableSchema}
+
+-- the indexes of a table, numbered from 0: the local ones first
+abbrev pub indexes : TableSchema → List IndexSchema
+indexes s = s.locals ++ s.globals
+
+-- whether an index has that name
+abbrev pub is_named : List ℕ → IndexSchema → Bool
+is_named name index = bytes_eq index.name name
+
+-- whether a name is one of those
+abbrev pub stands_in : List (List ℕ) → List ℕ → Bool
+stands_in names name = list_any (λ other. bytes_eq other name) names
+
+-- whether a test holds of the RANGE attribute, where there is one
+abbrev pub of_range : (KeyAttr → Bool) → Bool → Option KeyAttr → Bool
+of_range test without None = without
+of_range test without (Some range) = test range
+
+-- ---- which items are in an index
+
+abbrev pub has_part : List Pair → KeyAttr → Bool
+has_part item key = is_some (at_name key.name item)
+
+-- the item has all key attributes of the index
+abbrev pub is_in_index : IndexSchema → List Pair → Bool
+is_in_index index item = has_part item index.hash && of_range (has_part item) true index.range
+
+-- ---- what the index keeps of them
+
+abbrev pub has_key_name : List ℕ → KeyAttr → Bool
+has_key_name name key = bytes_eq key.name name
+
+-- whether an attribute of that name is a key of these
+abbrev pub is_key : KeyAttr → Option KeyAttr → List ℕ → Bool
+is_key hash range name = has_key_name name hash || of_range (has_key_name name) false range
+
+-- whether a projection names the attribute
+abbrev pub is_included : Projection → List ℕ → Bool
+is_included All name = true
+is_included KeysOnly name = false
+is_included (Include names) name = stands_in names name
+
+-- whether an attribute is projected; the keys of the table and of the index always are
+abbrev pub is_projected : TableSchema → IndexSchema → List ℕ → Bool
+is_projected s index name = is_included index.projection name || (is_key s.hash s.range name || is_key index.hash index.range name)
+
+-- the item cut to the projected attributes
+abbrev pub cut : TableSchema → IndexSchema → List Pair → List Pair
+cut s index item = where_key text_order (is_projected s index) item
+
+-- an item's row in an index, if it is in it
+abbrev pub index_row : TableSchema → List Pair → IndexSchema → Option (List Pair)
+index_row s item index = if is_in_index index item then Some (cut s index item) else None
+
+-- ---- whether index keys are keys
+
+-- the bytes of a key: some, and not too many
+abbrev pub is_key_length : ℕ → ℕ → Bool
+is_key_length most n = nat_lt 0 n && nat_le n most
+
+-- whether a value can be a key of that kind
+abbrev pub is_key_value : ℕ → KeyKind → Tree → Bool
+is_key_value most S (S_tree text) = is_key_length most (length text)
+is_key_value most N (N_tree number) = true
+is_key_value most B (B_tree bytes) = is_key_length most (length bytes)
+is_key_value most kind other = false
+
+-- no value, or one that can be a key of that kind
+abbrev pub is_key_or_none : ℕ → KeyKind → Option Tree → Bool
+is_key_or_none most kind None = true
+is_key_or_none most kind (Some value) = is_key_value most kind value
+
+-- where the item has a key attribute, its value can be a key
+abbrev pub part_fits : ℕ → List Pair → KeyAttr → Bool
+part_fits most item key = is_key_or_none most key.kind (at_name key.name item)
+
+-- the longest HASH and RANGE keys, in bytes (Developer Guide, "Service, account, and table quotas")
+abbrev pub longest_hash : ℕ
+longest_hash = 2048
+
+abbrev pub longest_range : ℕ
+longest_range = 1024
+
+abbrev pub index_fits : List Pair → IndexSchema → Bool
+index_fits item index = part_fits longest_hash item index.hash && of_range (part_fits longest_range item) true index.range
+
+-- each key attribute of an index that the item has can be a key
+abbrev pub keys_fit : TableSchema → List Pair → Bool
+keys_fit s item = list_all (index_fits item) (indexes s)

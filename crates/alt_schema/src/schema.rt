@@ -1,0 +1,58 @@
+//! The description of a table and of its indexes, as plain records.
+
+use crate::{IndexList, KeyAttrList, TextList};
+use alt_value::{KeyKind, Text};
+
+/// A key attribute: its name and its kind (DynamoDB API Reference, "AttributeDefinition").
+#[derive(Drop)]
+pub struct KeyAttr {
+    pub name: Text,
+    pub kind: KeyKind,
+}
+
+/// What a stream's records show of an item (API Reference, "StreamSpecification", StreamViewType).
+#[derive(Clone, Copy, Debug, PartialEq, Eq)]
+pub enum View {
+    KeysOnly,
+    NewImage,
+    OldImage,
+    NewAndOldImages,
+}
+
+/// Which attributes an index keeps beside the keys (API Reference, "Projection"): all, none, or those
+/// named.
+#[derive(Drop)]
+pub enum Projection {
+    All,
+    KeysOnly,
+    Include(TextList),
+}
+
+/// An index: its name, its key, what it keeps, and the family of its rows.
+#[derive(Drop)]
+pub struct IndexSchema {
+    pub name: Text,
+    pub hash: KeyAttr,
+    pub range: Option<KeyAttr>,
+    pub projection: Projection,
+    pub family: u32,
+}
+
+/// A table: its name, the attributes defined, its key, its local and global indexes, what its stream
+/// shows if it has one, with the family of the stream's rows; the moment at which it was made, in
+/// seconds since 1970 began in UTC, the number of that write, and the family of its rows. The indexes are numbered from 0,
+/// the local ones first.
+#[derive(Drop)]
+pub struct TableSchema {
+    pub name: Text,
+    pub definitions: KeyAttrList,
+    pub hash: KeyAttr,
+    pub range: Option<KeyAttr>,
+    pub locals: IndexList,
+    pub globals: IndexList,
+    pub view: Option<View>,
+    pub stream_family: Option<u32>,
+    pub created: u64,
+    pub number: u64,
+    pub family: u32,
+}

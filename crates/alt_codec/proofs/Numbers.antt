@@ -1,12 +1,10 @@
 -- A text's number is the one that it reads as.
-use Rattle.std.proofs.Common.{◌≡◌, refl, sym, ap, ◌∙◌, ℕ, ◌+◌, ◌<◌, Bool, true, false, ◌⊎◌, inl, inr, List, length, Option, Some, None, Result, Err, arith}
+use Rattle.std.proofs.Common.{◌≡◌, refl, sym, ap, ◌∙◌, ℕ, ◌+◌, true, false, inl, inr, List, length, Option, Some, None, Result, arith}
 use Rattle.std.specs.Prelude.{ℤ, ◌==◌}
-use Rattle.std.proofs.lemmas.Bool.{cases_Bool, eqb-true, eqb-false}
+use Rattle.std.proofs.lemmas.Bool.{cases_Bool, eqb-false}
 use Rattle.alt_decimal.specs.declared.fault.NumberFault.{NumberFault}
-use Rattle.alt_decimal.specs.declared.fault.NumberFault.TheVariants.{NotANumber}
-use Rattle.alt_decimal.specs.Number.{fitted}
-use Rattle.alt_decimal.specs.NumberText.{NumberText, IsNumberText, Exponent, ReadsAs, text_of, denoted, fraction_digits}
-use Rattle.alt_decimal.specs.Reading.{reading, sign_of, behind_sign, front_digits, behind_digits, fraction_of, behind_fraction, exponent_of}
+use Rattle.alt_decimal.specs.NumberText.{Exponent, ReadsAs, fraction_digits}
+use Rattle.alt_decimal.specs.Reading.{reading, behind_sign, front_digits, behind_digits, fraction_of, behind_fraction, exponent_of}
 use Rattle.alt_decimal.proofs.Reading.{ReadsAs-none, ReadsAs-parts, parts_with}
 use Rattle.alt_codec.specs.Numbers.{number_of, of_text}
 

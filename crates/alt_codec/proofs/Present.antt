@@ -1,13 +1,13 @@
 -- The one member that isn't null.
-use Rattle.std.proofs.Common.{◌≡◌, refl, sym, ap, ◌∙◌, ℕ, Bool, true, false, List, [], ◌∷◌, Option, Some, None, Result, Ok, Err, cond}
-use Rattle.serde_json.specs.Data.{Data, null, boolean, number, string, array, object, Items, Members, no_members, member}
+use Rattle.std.proofs.Common.{◌≡◌, refl, sym, ap, ◌∙◌, ℕ, Bool, true, false, List, [], ◌∷◌, Option, Some, None, Ok, Err, cond}
+use Rattle.serde_json.specs.Data.{Data, null, boolean, number, string, array, object, Members, no_members, member}
 use Rattle.serde_json.specs.Find.{as_object, as_array, as_null}
 use Rattle.std.specs.Prelude.{length, ◌==◌, is_some}
 use Rattle.serde_json.specs.View.{items_view}
 use Rattle.serde_json.specs.declared.value.Value.{Value}
 use Rattle.alt_codec.specs.Sets.{set_items}
 use Rattle.alt_codec.specs.declared.fault.ValueFault.TheVariants as fault
-use Rattle.alt_codec.specs.Reading.{Answer, value_in, only_member, first_member, only_present, all_null, is_null, payload_in}
+use Rattle.alt_codec.specs.Reading.{Answer, value_in, only_member, only_present, all_null, payload_in}
 
 -- the answer of the one member that is there
 pub of_present : ℕ → Option (List ℕ × Data) → Answer

@@ -3,3 +3,4 @@ pub mod Reading
 pub mod Scalars
 pub mod Sets
 pub mod Steps
+pub mod Writing

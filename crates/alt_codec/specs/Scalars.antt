@@ -1,5 +1,5 @@
 -- Texts, numbers and binaries in JSON, and the kinds without elements.
-use Rattle.std.specs.Prelude.{ℕ, ℤ, Bool, true, false, List, Result, Ok, Err}
+use Rattle.std.specs.Prelude.{ℕ, ℤ, true, false, List, Result, Ok, Err}
 use Rattle.base64.specs.Engines.{standard}
 use Rattle.base64.specs.GeneralPurpose.{decode_of}
 use Rattle.base64.specs.declared.decode.DecodeError.{DecodeError}

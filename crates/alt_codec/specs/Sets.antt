@@ -1,5 +1,5 @@
 -- Reading a set: its members in list order, each with its own fault before its repeat.
-use Rattle.std.specs.Prelude.{ℕ, List, [], Bool, Result, Ok, Err, if◌then◌else◌}
+use Rattle.std.specs.Prelude.{List, [], Result, Ok, Err, if◌then◌else◌}
 use Rattle.std.specs.declared.cmp.Ordering.{Ordering}
 use Rattle.serde_json.specs.Data.{Data, null, boolean, number, string, array, object, Items, no_items, item}
 use Rattle.alt_value.specs.Members.{has_member, with_member}

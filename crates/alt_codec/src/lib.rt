@@ -5,9 +5,11 @@ mod fault;
 mod reading;
 mod scalars;
 mod sets;
+mod writing;
 
 pub use fault::ValueFault;
 pub use reading::{attr_of_json, item_of_json};
+pub use writing::{json_of_attr, json_of_item};
 
 #[cfg(test)]
 mod tests;

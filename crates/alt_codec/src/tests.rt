@@ -1,6 +1,6 @@
-//! Worked values and their faults, nesting on both sides of its limit, and an item.
+//! Worked values and their faults, nesting on both sides of its limit, an item, and values written as JSON.
 
-use crate::{ValueFault, attr_of_json, item_of_json};
+use crate::{ValueFault, attr_of_json, item_of_json, json_of_attr, json_of_item};
 use alt_decimal::NumberFault;
 use alt_value::depth_within;
 use serde_json::Value;
@@ -87,5 +87,25 @@ fn an_item_is_read(rt: HostRuntime) -> Result<(), Fail> {
     assert_eq!(rt; bare, Some(ValueFault::EmptyName));
     let list = item_of_json(rt.alloc(), &Value::from_str(rt.alloc(), "[]")?).err();
     assert_eq!(rt; list, Some(ValueFault::WrongJson));
+    Ok(())
+}
+
+#[test]
+fn values_are_written(rt: HostRuntime) -> Result<(), Fail> {
+    let text = r#"{"SS":["b","a"]}"#;
+    let set = attr_of_json(rt.alloc(), &Value::from_str(rt.alloc(), text)?)
+        .ok()
+        .ok_or("a set")?;
+    let written = json_of_attr(rt.alloc(), &set)?.to_string(rt.alloc())?;
+    assert_eq!(rt; written.as_str(), r#"{"SS":["a","b"]}"#);
+    let text =
+        r#"{"n":{"N":"-0012.500E1"},"l":{"L":[{"NS":["10","9.0"]},{"NULL":true}]},"b":{"BS":["Ag==","AAH/"]}}"#;
+    let item = item_of_json(rt.alloc(), &Value::from_str(rt.alloc(), text)?)
+        .ok()
+        .ok_or("an item")?;
+    let written = json_of_item(rt.alloc(), &item)?.to_string(rt.alloc())?;
+    let expected =
+        r#"{"b":{"BS":["AAH/","Ag=="]},"l":{"L":[{"NS":["9","10"]},{"NULL":true}]},"n":{"N":"-125"}}"#;
+    assert_eq!(rt; written.as_str(), expected);
     Ok(())
 }

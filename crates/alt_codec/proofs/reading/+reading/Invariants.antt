@@ -1,5 +1,5 @@
 -- What was read so far and what is left give what the whole gives; each level nests once less.
-use Rattle.std.proofs.Common.{◌≡◌, ◌+◌, ◌*◌, ◌++◌, ℕ, [], drop}
+use Rattle.std.proofs.Common.{◌≡◌, ◌+◌, ◌*◌, ◌++◌, [], drop}
 use Rattle.serde_json.specs.View.{items_view, members_view}
 use Rattle.alt_codec.specs.Reading.{elements_in, fields_in}
 use Rattle.alt_codec.specs.Steps.{map_ok}

@@ -1,5 +1,5 @@
 -- What was found and what is left give what the whole gives.
-use Rattle.std.proofs.Common.{◌≡◌, ℕ, List}
+use Rattle.std.proofs.Common.{◌≡◌}
 use Rattle.std.specs.Option.{option_map}
 use Rattle.serde_json.specs.View.{view, members_view}
 use Rattle.alt_codec.specs.Reading.{only_present}

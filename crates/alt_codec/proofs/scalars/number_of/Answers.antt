@@ -1,7 +1,6 @@
 -- The text reads as one number alone.
-use Rattle.std.proofs.Common.{◌≡◌, ap, sym, ◌∙◌}
-use Rattle.serde_json.specs.View.{view}
-use Rattle.alt_codec.specs.Scalars.{text_in, or_bad_number}
+use Rattle.std.proofs.Common.{ap, sym, ◌∙◌}
+use Rattle.alt_codec.specs.Scalars.{or_bad_number}
 use Rattle.alt_codec.specs.Numbers.{number_of}
 use Rattle.alt_codec.specs.Steps.{and_then}
 use Rattle.alt_codec.proofs.Numbers.{reads-number_of}

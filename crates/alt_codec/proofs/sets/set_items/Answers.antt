@@ -1,5 +1,5 @@
 -- The items of an array that isn't empty.
-use Rattle.std.proofs.Common.{◌≡◌, ap, sym, ◌∙◌, length}
+use Rattle.std.proofs.Common.{ap, sym, ◌∙◌, length}
 use Rattle.std.specs.Prelude.{Ok, ◌==◌}
 use Rattle.serde_json.specs.View.{view, items_view}
 use Rattle.alt_codec.proofs.Present.{items_from}

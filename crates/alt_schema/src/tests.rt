@@ -1,8 +1,8 @@
-//! A worked description: its bytes, its indexes, and keys of items in these.
+//! A worked description: its bytes, its indexes, and the rows of items in these.
 
 use crate::{
     IndexList, IndexSchema, KeyAttr, KeyAttrList, Projection, TableSchema, TextList, View,
-    index_keys_fit, index_named, schema_bytes,
+    index_item, index_keys_fit, index_named, schema_bytes,
 };
 use alt_base::NoMemory;
 use alt_value::{Attr, Item, KeyKind, Text};
@@ -136,5 +136,27 @@ fn an_index_key_is_of_its_kind_and_not_empty(rt: HostRuntime) -> Result<(), Fail
     let mut item = text_item(alloc, &["k"], "x")?;
     item.put("g", Attr::Null)?;
     assert_eq!(rt; index_keys_fit(&t, &item), false);
+    Ok(())
+}
+
+// The row of an item in the index of a name.
+fn row(alloc: Global, t: &TableSchema, name: &str, item: &Item) -> Result<Option<Item>, NoMemory> {
+    match index_named(t, name) {
+        Some(index) => index_item(alloc, t, index, item),
+        None => Ok(None),
+    }
+}
+
+#[test]
+fn a_row_keeps_keys_and_the_names_included(rt: HostRuntime) -> Result<(), Fail> {
+    let alloc = rt.alloc();
+    let t = table(alloc)?;
+    let item = text_item(alloc, &["k", "r", "a", "b", "c", "g"], "x")?;
+    let local = row(alloc, &t, "L", &item)?;
+    assert!(rt; local.is_some_and(|row| row.len() == 4));
+    let global = row(alloc, &t, "G", &item)?;
+    assert!(rt; global.is_some_and(|row| row.len() == 3));
+    let none = row(alloc, &t, "G", &text_item(alloc, &["k", "r", "a"], "x")?)?;
+    assert!(rt; none.is_none());
     Ok(())
 }

@@ -4,3 +4,4 @@ pub mod Ascii
 pub mod Deep
 pub mod Plain
 pub mod Written
+pub mod ReadBack

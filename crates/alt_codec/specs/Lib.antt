@@ -4,3 +4,5 @@ pub mod Scalars
 pub mod Sets
 pub mod Steps
 pub mod Writing
+pub mod ReadBack
+pub mod Returning

@@ -8,7 +8,9 @@ ghost use Rattle.serde_json.specs.View.{view, items_view, members_view};
 ghost use Rattle.serde_json.specs.Written.{has_float};
 ghost use Rattle.alt_decimal.specs.Printed.{printed};
 ghost use Rattle.alt_value.specs.Stands.{tree_of};
-ghost use Rattle.alt_value.specs.Tree.{trees_of, fields_of};
+ghost use Rattle.alt_value.specs.Tree.{SS_tree, NS_tree, BS_tree, trees_of, fields_of};
+ghost use Rattle.alt_codec.specs.ReadBack.{ReadsAs, ReadsAsItem};
+ghost use Rattle.alt_codec.specs.Returning.{NumberReturns, Returns, ItemReturns, Each};
 ghost use Rattle.alt_codec.specs.Writing.{of_kind as one_member, strings, json_of, json_items, json_members, json_of_pairs};
 
 use alt_base::NoMemory;
@@ -22,6 +24,8 @@ use std::alloc::Global;
 /// Sets are written in value order, numbers in plain notation and binaries in padded base64.
 pub fn json_of_attr(alloc: Global, a: &Attr) -> Result<Value, NoMemory>
     ensures json { IfOk result (λ v. view v ≡ json_of (tree_of a.now)) }
+    // Reading gives the value back, where no set in it is empty and it nests no deeper than may be read.
+    ensures read_back { IfOk result (λ v. ReadsAs 32 (view v) (tree_of a.now)) }
     // So its text is the compact one.
     ensures no_float { IfOk result (λ v. has_float (view v) ≡ false) }
 {
@@ -31,6 +35,8 @@ pub fn json_of_attr(alloc: Global, a: &Attr) -> Result<Value, NoMemory>
 /// The JSON tree of an item: an object of its names, each with its value's tree.
 pub fn json_of_item(alloc: Global, i: &Item) -> Result<Value, NoMemory>
     ensures json { IfOk result (λ v. view v ≡ json_of_pairs i.now) }
+    // Reading gives the item back, where no set in it is empty and it nests no deeper than may be read.
+    ensures read_back { IfOk result (λ v. ReadsAsItem 32 (view v) i.now) }
     ensures no_float { IfOk result (λ v. has_float (view v) ≡ false) }
 {
     Ok(Value::Object(json_of_members(alloc, i)?))
@@ -38,7 +44,8 @@ pub fn json_of_item(alloc: Global, i: &Item) -> Result<Value, NoMemory>
 
 #[cycle(writing)]
 fn json_of_value(alloc: Global, a: &Attr) -> Result<Value, NoMemory>
-    ensures { IfOk result (λ v. view v ≡ json_of (tree_of a.now)) }
+    ensures json { IfOk result (λ v. view v ≡ json_of (tree_of a.now)) }
+    ensures read_back { IfOk result (λ _. Returns (tree_of a.now)) }
 {
     match a {
         Attr::S(text) => of_kind(
@@ -64,7 +71,8 @@ fn json_of_value(alloc: Global, a: &Attr) -> Result<Value, NoMemory>
 
 #[cycle(writing)]
 fn json_of_elements(alloc: Global, list: &AttrList) -> Result<Vec<Value>, NoMemory>
-    ensures { IfOk result (λ vs. items_view vs.items ≡ json_items (trees_of list.now)) }
+    ensures json { IfOk result (λ vs. items_view vs.items ≡ json_items (trees_of list.now)) }
+    ensures read_back { IfOk result (λ _. Each Returns list.now) }
 {
     let mut values = Vec::with_capacity(alloc, list.len())?;
     for place in 0..list.len() {
@@ -78,7 +86,8 @@ fn json_of_elements(alloc: Global, list: &AttrList) -> Result<Vec<Value>, NoMemo
 
 #[cycle(writing)]
 fn json_of_members(alloc: Global, i: &Item) -> Result<Map<String, Value>, NoMemory>
-    ensures { IfOk result (λ m. members_view m.entries ≡ json_members (fields_of i.now)) }
+    ensures json { IfOk result (λ m. members_view m.entries ≡ json_members (fields_of i.now)) }
+    ensures read_back { IfOk result (λ _. ItemReturns i.now) }
 {
     let mut members = Map::new(alloc);
     for place in 0..i.len() {
@@ -102,7 +111,8 @@ fn of_kind(alloc: Global, kind: &str, payload: Value) -> Result<Value, NoMemory>
 
 /// A number in plain notation.
 fn number_text(alloc: Global, number: &Decimal) -> Result<String, NoMemory>
-    ensures { IfOk result (λ s. string_bytes s ≡ printed number.now) }
+    ensures text { IfOk result (λ s. string_bytes s ≡ printed number.now) }
+    ensures read_back { IfOk result (λ _. NumberReturns number.now) }
 {
     let mut text = [0; 176];
     let len = number.print(&mut text);
@@ -110,7 +120,8 @@ fn number_text(alloc: Global, number: &Decimal) -> Result<String, NoMemory>
 }
 
 fn json_of_texts(alloc: Global, set: &TextSet) -> Result<Vec<Value>, NoMemory>
-    ensures { IfOk result (λ vs. items_view vs.items ≡ strings set.now) }
+    ensures json { IfOk result (λ vs. items_view vs.items ≡ strings set.now) }
+    ensures read_back { IfOk result (λ _. Returns (SS_tree set.now)) }
 {
     let mut values = Vec::with_capacity(alloc, set.len())?;
     for place in 0..set.len() {
@@ -123,7 +134,8 @@ fn json_of_texts(alloc: Global, set: &TextSet) -> Result<Vec<Value>, NoMemory>
 }
 
 fn json_of_numbers(alloc: Global, set: &NumberSet) -> Result<Vec<Value>, NoMemory>
-    ensures { IfOk result (λ vs. items_view vs.items ≡ strings (map printed set.now)) }
+    ensures json { IfOk result (λ vs. items_view vs.items ≡ strings (map printed set.now)) }
+    ensures read_back { IfOk result (λ _. Returns (NS_tree set.now)) }
 {
     let mut values = Vec::with_capacity(alloc, set.len())?;
     for place in 0..set.len() {
@@ -136,7 +148,8 @@ fn json_of_numbers(alloc: Global, set: &NumberSet) -> Result<Vec<Value>, NoMemor
 }
 
 fn json_of_byte_strings(alloc: Global, set: &BytesSet) -> Result<Vec<Value>, NoMemory>
-    ensures { IfOk result (λ vs. items_view vs.items ≡ strings (map (encode_of standard) set.now)) }
+    ensures json { IfOk result (λ vs. items_view vs.items ≡ strings (map (encode_of standard) set.now)) }
+    ensures read_back { IfOk result (λ _. Returns (BS_tree set.now)) }
 {
     let mut values = Vec::with_capacity(alloc, set.len())?;
     for place in 0..set.len() {

@@ -1,4 +1,5 @@
 pub mod Bounds
 pub mod Escaping
 pub mod Parts
+pub mod Places
 pub mod Unclosed

@@ -1,4 +1,4 @@
-pub mod CellBytes
 pub mod KeyBytes
+pub mod Place
 pub mod Range
 pub mod Token

@@ -3,7 +3,7 @@ use Rattle.std.specs.Prelude.{ℕ, take}
 use Rattle.std.specs.Int.{w64, from_be_bytes}
 use Rattle.sha2.specs.Sha256.{sha256}
 use Rattle.alt_value.specs.Tree.{Tree}
-use Rattle.alt_keyorder.specs.CellBytes.{cell_bytes}
+use Rattle.alt_value.specs.CellBytes.{cell_bytes}
 
 -- the number of the first 8 bytes, high byte first, of the SHA-256 (FIPS 180-4) of its cell bytes
 unfoldable pub token_of : Tree → ℕ

@@ -7,7 +7,7 @@ ghost use Rattle.sha2.specs.Sha256.{sha256};
 ghost use Rattle.alt_fields.specs.Field.{field};
 ghost use Rattle.alt_decimal.specs.Spelled.{spelled};
 ghost use Rattle.alt_value.specs.Stands.{tree_of};
-ghost use Rattle.alt_keyorder.specs.CellBytes.{cell_bytes};
+ghost use Rattle.alt_value.specs.CellBytes.{cell_bytes};
 ghost use Rattle.alt_keyorder.specs.KeyBytes.{IsKey};
 ghost use Rattle.alt_keyorder.specs.Token.{token_of};
 

@@ -5,6 +5,7 @@ ghost use Rattle.alt_value.specs.Order.{tree_order};
 ghost use Rattle.alt_value.specs.Stands.{tree_of};
 ghost use Rattle.alt_value.specs.Tree.{N_tree};
 ghost use Rattle.alt_keyorder.specs.KeyBytes.{IsPartOrder, AreApart};
+ghost use Rattle.alt_keyorder.specs.Place.{KeysLieAsPlaces, KeysTellPlaces};
 
 use alt_decimal::{Decimal, spelling_order};
 use alt_value::{Attr, order};
@@ -26,6 +27,13 @@ pub fn part_order(a: &Attr, b: &Attr) -> Option<Ordering>
         _ => None,
     }
 }
+
+/// The laws of the key bytes of places (docs/formats/key-bytes.md): those of two places in one table or one index lie as the
+/// places do, part by part, and are equal only for equal places. It does nothing.
+pub fn place_laws()
+    ensures order { KeysLieAsPlaces }
+    ensures one { KeysTellPlaces }
+{}
 
 fn order_of_numbers(number: &Decimal, b: &Attr) -> Option<Ordering>
     ensures values { result ≡ tree_order (N_tree number.now) (tree_of b.now) }

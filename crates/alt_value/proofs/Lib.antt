@@ -5,3 +5,4 @@ pub mod Trees
 pub mod Budget
 pub mod Same
 pub mod Pointwise
+pub mod Gathered

@@ -136,7 +136,7 @@ module _ {K : Type 0} (R : K → K → Ordering) (o : IsTotalOrder R) where
       rw (turned y x Less (before 0 y (omega arith)))
       (has_member-absent x ys i (omega arith) (later_before (λ y. y) x y ys i before) (later_after (λ y. y) x y ys i after))
 
-  below_each_below : (x y : K) (ys : List K) → R x y ≡ Less → T (is_below_each R y ys) → T (is_below_each R x ys)
+  pub below_each_below : (x y : K) (ys : List K) → R x y ≡ Less → T (is_below_each R y ys) → T (is_below_each R x ys)
   below_each_below x y [] p h = tt
   below_each_below x y (z ∷ zs) p h =
       both _ _ (is_less _ (o.trans x y z p (less _ (first _ _ h)))) (below_each_below x y zs p (second _ _ h))

@@ -1,3 +1,4 @@
+pub mod CellBytes
 pub mod Item
 pub mod Members
 pub mod Order

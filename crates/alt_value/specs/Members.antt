@@ -1,5 +1,5 @@
 -- Sets as lists of members in value order, without repeats.
-use Rattle.std.specs.Prelude.{ℕ, Bool, true, ◌&&◌, T, List, [], ◌∷◌}
+use Rattle.std.specs.Prelude.{ℕ, Bool, true, ◌&&◌, not, if◌then◌else◌, T, List, [], ◌∷◌, Option, Some, None}
 use Rattle.std.specs.List.{list_any}
 use Rattle.std.specs.declared.cmp.Ordering.{Ordering}
 use Rattle.std.specs.Ordering.{nat_cmp, is_lt, is_eq}
@@ -31,3 +31,17 @@ module _ {K : Type 0} (R : K → K → Ordering) where
   abbrev pub with_member : K → List K → List K
   with_member x [] = x ∷ []
   with_member x (y ∷ ys) = by_order (R x y) (x ∷ y ∷ ys) (y ∷ ys) (y ∷ with_member x ys)
+
+  -- no two of them are equal
+  abbrev pub are_apart : List K → Bool
+  are_apart [] = true
+  are_apart (x ∷ xs) = not (has_member x xs) && are_apart xs
+
+  -- the members of a list, in value order
+  abbrev pub gathered : List K → List K
+  gathered [] = []
+  gathered (x ∷ xs) = with_member x (gathered xs)
+
+  -- the set that a list writes in any order; none where two of them are equal
+  unfoldable pub set_of : List K → Option (List K)
+  set_of xs = if are_apart xs then Some (gathered xs) else None

@@ -1,8 +1,9 @@
 //! Sets of byte strings.
 
 ghost use Rattle.std.specs.Prelude.{◌≡◌, [], length, not, slice_get, option_map, IfOk, OnOk, OnErr};
-ghost use Rattle.alt_value.specs.Members.{IsSet, has_member, with_member, text_order};
+ghost use Rattle.alt_value.specs.Members.{IsSet, has_member, with_member, set_of, text_order};
 
+use crate::gather::gather;
 use alt_base::NoMemory;
 use alt_fields::Bytes;
 use std::alloc::Global;
@@ -33,6 +34,19 @@ impl BytesSet {
     {
         BytesSet {
             members: Vec::new(alloc),
+        }
+    }
+
+    /// The set of those byte strings, which come in any order. None exactly where two of them are equal. It sorts once, where `add` makes
+    /// room for each.
+    pub fn from_members(members: Vec<Bytes>) -> Option<BytesSet>
+        ensures set { result ≡ set_of text_order members.items }
+    {
+        let mut members = members;
+        if gather(&mut members) {
+            Some(BytesSet { members })
+        } else {
+            None
         }
     }
 

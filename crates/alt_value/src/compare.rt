@@ -157,7 +157,7 @@ fn is_map(map: &Item, b: &Attr) -> bool
     ensures { IsTrue result ↔ (M_tree (fields_of map.now) ≡ tree_of b.now) }
 {
     match b {
-        Attr::M(other) => same_fields(map, other),
+        Attr::M(other) => item_equal(map, other),
         _ => false,
     }
 }
@@ -177,9 +177,10 @@ fn same_elements(a: &AttrList, b: &AttrList) -> bool
     true
 }
 
+/// Whether two items are one item: the same names, each with one value.
 #[cycle(equal)]
-fn same_fields(a: &Item, b: &Item) -> bool
-    ensures { IsTrue result ↔ (a.now ≡ b.now) }
+pub fn item_equal(a: &Item, b: &Item) -> bool
+    ensures same { IsTrue result ↔ (a.now ≡ b.now) }
 {
     if a.entries.len() != b.entries.len() {
         return false;

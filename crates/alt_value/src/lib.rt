@@ -5,6 +5,7 @@ mod attr;
 mod bytes_set;
 mod compare;
 mod copies;
+mod gather;
 mod kind;
 mod measure;
 mod number_set;
@@ -13,7 +14,7 @@ mod text_set;
 
 pub use attr::{Attr, AttrList, Item};
 pub use bytes_set::BytesSet;
-pub use compare::{equal, order};
+pub use compare::{equal, item_equal, order};
 pub use copies::copy;
 pub use kind::KeyKind;
 pub use measure::{depth_within, item_size_within, size_within};

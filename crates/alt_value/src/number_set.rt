@@ -2,8 +2,9 @@
 
 ghost use Rattle.std.specs.Prelude.{◌≡◌, [], length, not, slice_get, option_map, IfOk, OnOk, OnErr};
 ghost use Rattle.std.specs.Ordering.{int_cmp};
-ghost use Rattle.alt_value.specs.Members.{IsSet, has_member, with_member};
+ghost use Rattle.alt_value.specs.Members.{IsSet, has_member, with_member, set_of};
 
+use crate::gather::gather;
 use alt_base::NoMemory;
 use alt_decimal::Decimal;
 use std::alloc::Global;
@@ -35,6 +36,19 @@ impl NumberSet {
     {
         NumberSet {
             members: Vec::new(alloc),
+        }
+    }
+
+    /// The set of those numbers, which come in any order. None exactly where two of them are equal. It sorts once, where `add` makes
+    /// room for each.
+    pub fn from_members(members: Vec<Decimal>) -> Option<NumberSet>
+        ensures set { result ≡ set_of int_cmp members.items }
+    {
+        let mut members = members;
+        if gather(&mut members) {
+            Some(NumberSet { members })
+        } else {
+            None
         }
     }
 

@@ -90,6 +90,30 @@ fn sets_keep_their_members_in_value_order(rt: HostRuntime) -> Result<(), Fail> {
 }
 
 #[test]
+fn members_in_any_order_are_a_set_where_none_is_twice(rt: HostRuntime) -> Result<(), Fail> {
+    let alloc = rt.alloc();
+    let mut texts = Vec::new(alloc);
+    for text in ["b", "ab", "", "a"] {
+        texts.push(Text::new(alloc, text)?)?;
+    }
+    let set = TextSet::from_members(texts).ok_or("a set")?;
+    assert_eq!(rt; set.len(), 4);
+    assert_eq!(rt; set.get(2), Some("ab"));
+    let mut numbers = Vec::new(alloc);
+    for text in [b"1".as_slice(), b"2", b"1.0"] {
+        numbers.push(Decimal::parse(text).ok().ok_or("a number")?)?;
+    }
+    assert_eq!(rt; NumberSet::from_members(numbers).is_none(), true);
+    let mut binaries = Vec::new(alloc);
+    for bytes in [b"\x80".as_slice(), b"\x7f"] {
+        binaries.push(Bytes::new(alloc, bytes)?)?;
+    }
+    let set = BytesSet::from_members(binaries).ok_or("a set")?;
+    assert_eq!(rt; set.get(0) == Some(b"\x7f".as_slice()), true);
+    Ok(())
+}
+
+#[test]
 fn values_of_one_kind_are_ordered(rt: HostRuntime) -> Result<(), Fail> {
     let nine = number(b"9")?;
     let ten = number(b"10.0")?;

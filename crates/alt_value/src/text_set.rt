@@ -1,9 +1,10 @@
 //! Sets of texts.
 
 ghost use Rattle.std.specs.Prelude.{◌≡◌, [], length, not, slice_get, option_map, IfOk, OnOk, OnErr};
-ghost use Rattle.alt_value.specs.Members.{IsSet, has_member, with_member, text_order};
+ghost use Rattle.alt_value.specs.Members.{IsSet, has_member, with_member, set_of, text_order};
 
 use crate::Text;
+use crate::gather::gather;
 use alt_base::NoMemory;
 use std::alloc::Global;
 use std::marker::Model;
@@ -33,6 +34,19 @@ impl TextSet {
     {
         TextSet {
             members: Vec::new(alloc),
+        }
+    }
+
+    /// The set of those texts, which come in any order. None exactly where two of them are equal. It sorts once, where `add` makes
+    /// room for each.
+    pub fn from_members(members: Vec<Text>) -> Option<TextSet>
+        ensures set { result ≡ set_of text_order members.items }
+    {
+        let mut members = members;
+        if gather(&mut members) {
+            Some(TextSet { members })
+        } else {
+            None
         }
     }
 

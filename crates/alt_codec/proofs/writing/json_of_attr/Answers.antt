@@ -4,4 +4,4 @@ use Rattle.alt_codec.proofs.Plain.{written_plain}
 use Rattle.alt_codec.proofs.writing.json_of_attr.Goals as goal
 
 pub returns-clause-no_float : goal.returns-clause-no_float
-returns-clause-no_float c = written_plain c.json_of_value.result (tree_of c.args.a.now) c.json_of_value.ensures
+returns-clause-no_float c = written_plain c.json_of_value.result (tree_of c.args.a.now) c.json_of_value.ensures.json

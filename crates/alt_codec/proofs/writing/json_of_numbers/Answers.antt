@@ -4,20 +4,35 @@ use Rattle.serde_json.specs.Data.{string}
 use Rattle.serde_json.specs.View.{view}
 use Rattle.serde_json.specs.declared.value.Value.{String as Text}
 use Rattle.alt_decimal.specs.Printed.{printed}
+use Rattle.alt_codec.specs.Returning.{NumberReturns}
+use Rattle.alt_codec.proofs.ReadBack.{numbers_return, each_more, each_whole}
 use Rattle.alt_codec.proofs.Written.{written_more, written_whole, past_end, text_written, items_of-texts}
 use Rattle.alt_codec.proofs.writing.json_of_numbers.Goals as goal
 use Rattle.alt_codec.proofs.writing.json_of_numbers.Goals.{else-loop-place-test, then-loop-place-test+in_default}
 
 pub loop-place-preserved : goal.loop-place-preserved
-loop-place-preserved c =
-    ap (map view) c.in_ok-push.ensures.items
-    ∙ written_more (λ z. string (printed z)) c.args.set.now c.loop-place.place c.in-Some.number c.loop-place.values.items (Text c.in_ok-number_text.field-0) c.loop-place.invariant c.in-Some.ensures.member (text_written c.in_ok-number_text.field-0 (printed c.in-Some.number) c.in_ok-number_text.ensures)
+loop-place-preserved c = record {
+  written =
+      ap (map view) c.in_ok-push.ensures.items
+      ∙ written_more (λ z. string (printed z)) c.args.set.now c.loop-place.place c.in-Some.number c.loop-place.values.items (Text c.in_ok-number_text.field-0) c.loop-place.invariant.written c.in-Some.ensures.member (text_written c.in_ok-number_text.field-0 (printed c.in-Some.number) c.in_ok-number_text.ensures.text);
+  returns = each_more NumberReturns c.args.set.now c.loop-place.place c.in-Some.number c.loop-place.invariant.returns c.in-Some.ensures.member
+      (c.in_ok-number_text.ensures.read_back);
+}
 
-pub returns : goal.returns
-returns c =
+pub returns-clause-json : goal.returns-clause-json
+returns-clause-json c =
     let ss = c.args.set.now in
     let i = c.loop-place.place in
     elim c.loop-place-test.branch [
-      | else-loop-place-test w ↦ written_whole (λ z. string (printed z)) ss i c.loop-place.values.items c.loop-place.invariant (omega (arith, c.len-place-end.ensures.count))
-      | then-loop-place-test+in_default w ↦ written_whole (λ z. string (printed z)) ss i c.loop-place.values.items c.loop-place.invariant (past_end ss i w.in_default.ensures.member)
+      | else-loop-place-test w ↦ written_whole (λ z. string (printed z)) ss i c.loop-place.values.items c.loop-place.invariant.written (omega (arith, c.len-place-end.ensures.count))
+      | then-loop-place-test+in_default w ↦ written_whole (λ z. string (printed z)) ss i c.loop-place.values.items c.loop-place.invariant.written (past_end ss i w.in_default.ensures.member)
     ] ∙ items_of-texts printed ss
+
+pub returns-clause-read_back : goal.returns-clause-read_back
+returns-clause-read_back c =
+    let ss = c.args.set.now in
+    let i = c.loop-place.place in
+    numbers_return ss c.len-place-end.ensures.rising (elim c.loop-place-test.branch [
+      | else-loop-place-test w ↦ each_whole NumberReturns ss i c.loop-place.invariant.returns (omega (arith, c.len-place-end.ensures.count))
+      | then-loop-place-test+in_default w ↦ each_whole NumberReturns ss i c.loop-place.invariant.returns (past_end ss i w.in_default.ensures.member)
+    ])

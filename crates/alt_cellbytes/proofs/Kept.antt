@@ -1,0 +1,20 @@
+-- A stop of a piece is a stop of the value that it is a piece of.
+use Rattle.std.proofs.Common.{◌≡◌, ap, ◌∙◌, ℕ, ◌+◌, List, ◌∷◌, ◌++◌, length}
+use Rattle.alt_value.specs.CellBytes.{counted}
+use Rattle.alt_cellbytes.specs.Places.{IsStop}
+use Rattle.alt_cellbytes.specs.declared.fault.Stop.{Stop}
+use Rattle.alt_cellbytes.specs.declared.fault.Stop.TheVariants.{Left, NoMemory}
+use Rattle.alt_cellbytes.proofs.Fields.{length-counted}
+
+pub stop_map : (P Q : ℕ → Type 0) (s : Stop) → ((n : ℕ) → P n → Q n) → IsStop P s → IsStop Q s
+stop_map P Q (Left n) f h = f n h
+stop_map P Q NoMemory f h = tt
+
+pub kind_is : (k n : ℕ) (bytes tail : List ℕ) → k ≡ n → bytes ≡ tail → k ∷ bytes ≡ n ∷ tail
+kind_is k n bytes tail e f = cc
+
+pub length-told : (n : ℕ) (bytes more : List ℕ) → bytes ≡ counted n ++ more → length bytes ≡ 8 + length more
+length-told n bytes more e = ap length e ∙ length-counted n more
+
+pub zero_told : (count : ℕ) (bytes more : List ℕ) → count ≡ 0 → bytes ≡ counted count ++ more → bytes ≡ counted 0 ++ more
+zero_told count bytes more z e = e ∙ ap (λ n. counted n ++ more) z

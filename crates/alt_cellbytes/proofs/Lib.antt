@@ -1,0 +1,11 @@
+pub mod Lists
+pub mod Fields
+pub mod Rising
+pub mod Shapes
+pub mod Apart
+pub mod Stopped
+pub mod Cuts
+pub mod OneMore
+pub mod Kept
+pub mod Deep
+pub mod Wholes

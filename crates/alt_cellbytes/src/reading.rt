@@ -1,0 +1,214 @@
+//! Reading cell bytes.
+//!
+//! Lists and maps are read by calls within calls, so the stack that is used grows with the depth of the bytes. What is written
+//! has at most the depth of the values that are stored.
+
+ghost use Rattle.std.specs.Prelude.{◌≡◌, ◌≢◌, ◌≤◌, ◌∷◌, ℕ, Err, ◌++◌, [], ◌↔◌, length, IsTrue, IfOk, IfErr};
+ghost use Rattle.std.specs.List.{AllByRecursion, flat_map};
+ghost use Rattle.alt_fields.specs.Field.{field};
+ghost use Rattle.alt_value.specs.CellBytes.{cell_bytes};
+ghost use Rattle.alt_value.specs.Item.{IsItem};
+ghost use Rattle.alt_value.specs.Stands.{tree_of};
+ghost use Rattle.alt_value.specs.Tree.{NULL_tree, Tree};
+ghost use Rattle.alt_cellbytes.specs.Places.{IsBadAt, IsReadAs, NoValue, IsStop, Stops, StopsHere, NoMember, NoField, IsNextName, NoElement, NoEntry, AreEntries, entry_bytes};
+ghost use Rattle.alt_cellbytes.specs.Values.{AreApart, IsShort, IsValue};
+
+use crate::fault::Stop;
+use crate::members::{take_binaries, take_numbers, take_texts};
+use crate::pieces::{take_count, take_field, take_number, take_text, take_truth};
+use alt_fields::{Bytes, BytesFault};
+use alt_value::{Attr, AttrList, Item, Text};
+use std::alloc::Global;
+
+/// The value whose cell bytes the bytes are.
+///
+/// Else `Bad`, with the first place where they can't go on as those of a value, or where something stands behind it.
+pub fn attr_of(alloc: Global, bytes: &[u8]) -> Result<Attr, BytesFault>
+    ensures value { IfOk result (λ a. IsValue (tree_of a) × (bytes.now ≡ cell_bytes (tree_of a))) }
+    // Whatever value's cell bytes they are, it is read, unless memory is wanting.
+    ensures taken { (t : Tree) → IsValue t → bytes.now ≡ cell_bytes t → IsReadAs t result }
+    ensures place { (at : ℕ) → result ≡ Err (BytesFault.Bad at) → IsBadAt bytes.now at × NoValue bytes.now }
+    // One spelling a value, and none a prefix of another.
+    ensures apart { AreApart }
+{
+    match take_value(alloc, bytes) {
+        Ok((a, rest)) => {
+            if rest.is_empty() {
+                Ok(a)
+            } else {
+                Err(BytesFault::Bad {
+                    at: bytes.len() - rest.len(),
+                })
+            }
+        }
+        Err(Stop::Left(left)) => Err(BytesFault::Bad {
+            at: bytes.len() - left,
+        }),
+        Err(Stop::NoMemory) => Err(BytesFault::NoMemory),
+    }
+}
+
+/// The value at the front of the bytes, and what follows it.
+#[cycle(reading)]
+fn take_value(alloc: Global, bytes: &[u8]) -> Result<(Attr, &[u8]), Stop>
+    ensures value { IfOk result (λ p. IsValue (tree_of p.0) × (bytes.now ≡ cell_bytes (tree_of p.0) ++ p.1.now)) }
+    ensures stop { IfErr result (IsStop (Stops bytes.now)) }
+{
+    match bytes {
+        [kind, rest @ ..] => match *kind {
+            9 => take_list(alloc, rest),
+            10 => take_map(alloc, rest),
+            kind => take_flat(alloc, kind, rest),
+        },
+        [] => Err(Stop::Left(0)),
+    }
+}
+
+/// The list behind its first byte.
+#[cycle(reading)]
+fn take_list(alloc: Global, bytes: &[u8]) -> Result<(Attr, &[u8]), Stop>
+    ensures value { IfOk result (λ p. IsValue (tree_of p.0) × (9 ∷ bytes.now ≡ cell_bytes (tree_of p.0) ++ p.1.now)) }
+    ensures stop { IfErr result (IsStop (Stops (9 ∷ bytes.now))) }
+{
+    let (count, rest) = take_count(bytes)?;
+    match take_elements(alloc, count, rest) {
+        Ok((list, rest)) => Ok((Attr::L(list), rest)),
+        Err(stop) => Err(stop),
+    }
+}
+
+/// So many elements, and what follows them.
+#[cycle(reading)]
+fn take_elements(alloc: Global, count: u64, bytes: &[u8]) -> Result<(AttrList, &[u8]), Stop>
+    ensures elements { IfOk result (λ p. (length p.0 ≡ count) × AllByRecursion IsValue p.0
+        × (bytes.now ≡ flat_map cell_bytes p.0 ++ p.1.now)) }
+    ensures stop { IfErr result (IsStop (NoElement count bytes.now)) }
+{
+    let mut list = AttrList::new(alloc);
+    let mut rest = bytes;
+    for _done in 0..count {
+        match take_value(alloc, rest) {
+            Ok((element, behind)) => {
+                list.push(element)?;
+                rest = behind;
+            }
+            Err(stop) => return Err(stop),
+        }
+    }
+    Ok((list, rest))
+}
+
+/// The map behind its first byte.
+#[cycle(reading)]
+fn take_map(alloc: Global, bytes: &[u8]) -> Result<(Attr, &[u8]), Stop>
+    ensures value { IfOk result (λ p. IsValue (tree_of p.0) × (10 ∷ bytes.now ≡ cell_bytes (tree_of p.0) ++ p.1.now)) }
+    ensures stop { IfErr result (IsStop (Stops (10 ∷ bytes.now))) }
+{
+    let (count, rest) = take_count(bytes)?;
+    match take_entries(alloc, count, rest) {
+        Ok((map, rest)) => Ok((Attr::M(map), rest)),
+        Err(stop) => Err(stop),
+    }
+}
+
+/// So many entries, and what follows them.
+#[cycle(reading)]
+fn take_entries(alloc: Global, count: u64, bytes: &[u8]) -> Result<(Item, &[u8]), Stop>
+    ensures entries { IfOk result (λ p. (length p.0 ≡ count) × AreEntries p.0 × (bytes.now ≡ flat_map entry_bytes p.0 ++ p.1.now)) }
+    ensures stop { IfErr result (IsStop (NoEntry count bytes.now)) }
+{
+    let mut map = Item::new(alloc);
+    let mut rest = bytes;
+    for _done in 0..count {
+        let (name, behind) = next_name(&map, rest)?;
+        match take_value(alloc, behind) {
+            Ok((value, after)) => {
+                map.put(name, value)?;
+                rest = after;
+            }
+            Err(stop) => return Err(stop),
+        }
+    }
+    Ok((map, rest))
+}
+
+/// A name that stands above those so far.
+fn next_name<'a>(map: &Item, bytes: &'a [u8]) -> Result<(&'a str, &'a [u8]), Stop>
+    ensures name { IfOk result (λ p. IsShort p.0.now × IsNextName map.now p.0.now × (bytes.now ≡ field p.0.now ++ p.1.now)) }
+    ensures stop { IfErr result (IsStop (NoField (IsNextName map.now) bytes.now)) }
+{
+    let (name, rest) = take_text(bytes)?;
+    if is_next_name(map, name) {
+        Ok((name, rest))
+    } else {
+        Err(Stop::Left(bytes.len()))
+    }
+}
+
+fn is_next_name(map: &Item, name: &str) -> bool
+    ensures { IsTrue result ↔ IsItem (map.now ++ (name.now, NULL_tree) ∷ []) }
+{
+    let count = map.len();
+    if count == 0 {
+        return !name.is_empty();
+    }
+    match map.at(count - 1) {
+        Some((last, _)) => last < name,
+        None => true,
+    }
+}
+
+/// A value of a kind without elements, behind its first byte.
+fn take_flat(alloc: Global, kind: u8, bytes: &[u8]) -> Result<(Attr, &[u8]), Stop>
+    requires { (kind ≢ 9) × (kind ≢ 10) }
+    ensures value { IfOk result (λ p. IsValue (tree_of p.0) × (kind ∷ bytes.now ≡ cell_bytes (tree_of p.0) ++ p.1.now)) }
+    ensures stop { IfErr result (IsStop (StopsHere (kind ∷ bytes.now))) }
+{
+    match kind {
+        1 => {
+            let (text, rest) = take_text(bytes)?;
+            Ok((Attr::S(Text::new(alloc, text)?), rest))
+        }
+        2 => match take_number(bytes) {
+            Ok((number, rest)) => Ok((Attr::N(number), rest)),
+            Err(stop) => Err(stop),
+        },
+        3 => {
+            let (binary, rest) = take_field(bytes)?;
+            Ok((Attr::B(Bytes::new(alloc, binary)?), rest))
+        }
+        4 => {
+            let (truth, rest) = take_truth(bytes)?;
+            Ok((Attr::Bool(truth), rest))
+        }
+        5 => Ok((Attr::Null, bytes)),
+        6 | 7 | 8 => take_set(alloc, kind, bytes),
+        _ => Err(Stop::Left(bytes.len() + 1)),
+    }
+}
+
+/// A set, behind its first byte.
+fn take_set(alloc: Global, kind: u8, bytes: &[u8]) -> Result<(Attr, &[u8]), Stop>
+    requires { (6 ≤ kind) × (kind ≤ 8) }
+    ensures value { IfOk result (λ p. IsValue (tree_of p.0) × (kind ∷ bytes.now ≡ cell_bytes (tree_of p.0) ++ p.1.now)) }
+    ensures stop { IfErr result (IsStop (StopsHere (kind ∷ bytes.now))) }
+{
+    let (count, rest) = take_count(bytes)?;
+    if count == 0 {
+        return Err(Stop::Left(bytes.len()));
+    }
+    match kind {
+        6 => match take_texts(alloc, count, rest) {
+            Ok((set, rest)) => Ok((Attr::Ss(set), rest)),
+            Err(stop) => Err(stop),
+        },
+        7 => match take_numbers(alloc, count, rest) {
+            Ok((set, rest)) => Ok((Attr::Ns(set), rest)),
+            Err(stop) => Err(stop),
+        },
+        _ => match take_binaries(alloc, count, rest) {
+            Ok((set, rest)) => Ok((Attr::Bs(set), rest)),
+            Err(stop) => Err(stop),
+        },
+    }
+}

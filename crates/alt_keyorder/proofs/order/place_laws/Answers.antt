@@ -1,0 +1,9 @@
+-- The laws of places.
+use Rattle.alt_keyorder.proofs.Places.{keys-lie, keys-tell}
+use Rattle.alt_keyorder.proofs.order.place_laws.Goals as goal
+
+pub returns-clause-order : goal.returns-clause-order
+returns-clause-order c = keys-lie
+
+pub returns-clause-one : goal.returns-clause-one
+returns-clause-one c = keys-tell

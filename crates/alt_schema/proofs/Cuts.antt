@@ -1,8 +1,8 @@
 -- An item cut to some of its names, place by place.
-use Rattle.std.proofs.Common.{◌≡◌, refl, sym, ap, ◌∙◌, ℕ, zero, suc, ◌+◌, ◌<◌, Bool, true, false, cond, T, List, [], ◌∷◌, length, take, Option, Some, None, subst, arith}
-use Rattle.std.specs.declared.cmp.Ordering.TheVariants.{Less, Equal, Greater}
+use Rattle.std.proofs.Common.{◌≡◌, refl, sym, ap, ◌∙◌, ℕ, zero, suc, ◌<◌, Bool, true, false, cond, T, List, [], ◌∷◌, length, take, Some, None, arith}
+use Rattle.std.specs.declared.cmp.Ordering.TheVariants.{Less, Greater}
 use Rattle.std.specs.List.{slice_get}
-use Rattle.std.specs.FinMap.Entries.{by_order, where_key, below_all, is_sorted}
+use Rattle.std.specs.FinMap.Entries.{where_key, below_all, is_sorted}
 use Rattle.alt_value.specs.Members.{text_order}
 use Rattle.alt_value.specs.Tree.{Tree, Pair}
 use Rattle.alt_value.specs.Item.{IsItem, with_pair}

@@ -1,3 +1,14 @@
 pub mod Pieces
 pub mod Numbers
 pub mod Cuts
+pub mod Differ
+pub mod Labels
+pub mod Walks
+pub mod NewDescriptions
+pub mod Plain
+pub mod Shown
+pub mod Wholes
+pub mod WholeLists
+pub mod WholeDescriptions
+pub mod Steady
+pub mod Elements

@@ -48,8 +48,8 @@ impl Rule {
     }
 }
 
-/// The member of that name, unless it is `null`.
-pub(crate) fn given<'v>(body: &'v Map<String, Value>, name: &str) -> Option<&'v Value>
+/// The value of the member of that name; none where the member is absent. One whose value is `null` counts as absent.
+pub fn given<'v>(body: &'v Map<String, Value>, name: &str) -> Option<&'v Value>
     ensures { option_map (λ v. view v.now) result
         ≡ given name.now (members_view body.now.entries) }
 {

@@ -10,7 +10,7 @@ mod refusal;
 mod rule;
 pub mod tables;
 
-pub use checking::check;
+pub use checking::{check, given};
 pub use fields::{
     array_at, object_at, required_array, required_object, required_text, required_truth, text_at,
     truth_at, whole_at,

@@ -1,5 +1,5 @@
 -- The six parts of a description, one behind another.
-use Rattle.std.proofs.Common.{◌≡◌, ◌∙◌, ◌∷◌, ◌++◌, ap}
+use Rattle.std.proofs.Common.{◌∙◌, ◌∷◌, ◌++◌, ap}
 use Rattle.std.proofs.lemmas.Result.{on_ok_weaker}
 use Rattle.alt_schema.specs.Format.{counted, view_byte, stream_bytes, definition_bytes, index_bytes, keys_bytes, head_bytes, description_bytes}
 use Rattle.alt_schema.proofs.Pieces.{six_pieces, prefix_trans, on_err_map}

@@ -1,5 +1,5 @@
 -- The local indexes come first.
-use Rattle.std.proofs.Common.{◌≡◌, sym, ap, ◌∙◌, length}
+use Rattle.std.proofs.Common.{sym, ap, ◌∙◌, length}
 use Rattle.alt_schema.specs.Indexes.{is_named}
 use Rattle.alt_schema.proofs.Numbers.{in_both, position_left, position_right}
 use Rattle.alt_schema.proofs.index.index_named.Goals as goal

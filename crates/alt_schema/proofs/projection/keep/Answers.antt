@@ -1,5 +1,5 @@
 -- The attribute at this place, put in or left out.
-use Rattle.std.proofs.Common.{◌≡◌, ◌∙◌, ◌+◌, sym, ap, add-one, take}
+use Rattle.std.proofs.Common.{◌∙◌, sym, ap, add-one, take}
 use Rattle.alt_value.specs.Item.{with_pair}
 use Rattle.alt_schema.specs.Indexes.{is_projected, cut}
 use Rattle.alt_schema.proofs.Cuts.{name_not_empty, kept, skipped, pair_within}

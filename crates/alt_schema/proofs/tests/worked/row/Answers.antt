@@ -1,10 +1,10 @@
 -- The number of a named index is below that of the indexes.
-use Rattle.std.proofs.Common.{◌≡◌, ◌<◌, ℕ, List, length, Bool, true, false, cond, Option, Some, None, refl, sym, ap, ◌∙◌, subst}
+use Rattle.std.proofs.Common.{◌≡◌, ◌<◌, ℕ, List, length, Bool, true, false, cond, Option, Some, None, refl, sym, ap, subst}
 use Rattle.std.specs.Prelude.{nat_lt, unwrap_or}
 use Rattle.std.specs.List.{position, position_or_len}
 use Rattle.std.proofs.lemmas.Bool.{ltb-true}
 use Rattle.alt_schema.specs.Indexes.{indexes, is_named}
-use Rattle.alt_schema.proofs.tests.row.Goals as goal
+use Rattle.alt_schema.proofs.tests.worked.row.Goals as goal
 
 place_below : {X : Type 0} (p : X → Bool) (xs : List X) (i : ℕ) → position p xs ≡ Some i → i < length xs
 place_below p xs i e =

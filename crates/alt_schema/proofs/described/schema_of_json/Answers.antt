@@ -1,0 +1,10 @@
+-- What isn't refused is described anew.
+use Rattle.std.proofs.Common.{sym, ◌∙◌, subst}
+use Rattle.alt_schema.specs.Described.{IsNew}
+use Rattle.alt_schema.proofs.NewDescriptions.{new_description}
+use Rattle.alt_schema.proofs.described.schema_of_json.Goals as goal
+
+pub returns-in_ok-described-in-None-clause-valid : goal.returns-in_ok-described-in-None-clause-valid
+returns-in_ok-described-in-None-clause-valid c =
+    subst IsNew (sym c.in_ok-described-in-None.ensures)
+    (new_description c.in_ok-stated.stated (sym c.refused_for.ensures.first ∙ c.in-None.is) c.args.moment c.args.number c.args.family)

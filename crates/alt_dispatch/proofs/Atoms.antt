@@ -1,124 +1,92 @@
--- The state after a request is that after the last of its atoms.
-use Rattle.std.proofs.Common.{◌≡◌, ℕ, List, [], ◌∷◌, Bool, true, false, cond, Option, Some, None, length, refl, sym, ap, ◌∙◌, is_eq, nat_cmp, Ordering, Less, Equal, Greater}
-use Rattle.std.specs.Prelude.{◌&&◌, codes}
-use Rattle.std.proofs.lemmas.Cmp.{nat_list_cmp_total}
-use Rattle.std.specs.Cmp.Lexicographic.{slice_cmp}
-use Rattle.std.proofs.lemmas.Bool.{eqb-true}
-use Rattle.std.specs.Coded.{coded_list}
-use base.Stored.{Gv, gnil, gnum, gcons}
-use Rattle.alt_value.specs.TreeCode.{coded_pair}
-use Rattle.std.specs.FinMap as finite
-use Rattle.std.specs.FinMap.{get, insert, get-insert, nat_cmp-IsAntisymmetric, slice_cmp-IsAntisymmetric}
-use Rattle.alt_value.specs.Tree.{Pair}
+-- The state after a request is that after the last of its atoms, and a read leaves it.
+use Rattle.std.proofs.Common.{◌≡◌, ℕ, List, [], ◌∷◌, Option, Some, None, refl}
+use Rattle.std.specs.Prelude.{codes}
+use Rattle.serde_json.specs.Data.{Members}
 use Rattle.alt_machine.specs.declared.Operation.{Operation}
-use Rattle.alt_machine.specs.declared.Operation.TheVariants.{CreateTable, PutItem, GetItem}
-use Rattle.alt_machine.specs.declared.Refusal.TheVariants.{E5}
-use Rattle.serde_json.specs.Data.{Data}
-use Rattle.alt_machine.specs.Forms.{create_form, entry_form, fitting}
+use Rattle.alt_machine.specs.declared.Operation.TheVariants.{CreateTable, DescribeTable, ListTables, DeleteTable, PutItem, GetItem}
 use Rattle.alt_machine.specs.Json.{body_of}
-use Rattle.alt_machine.specs.Keys.{key_in}
-use Rattle.alt_machine.specs.Ops.CreateTable.{creates}
-use Rattle.alt_machine.specs.Ops.GetItem.{gets, gets_from}
-use Rattle.alt_machine.specs.Ops.PutItem.{puts, puts_into, puts_under}
-use Rattle.alt_machine.specs.Outcomes.{Outcome, refuses, last_state}
-use Rattle.alt_machine.specs.Replies.{created}
-use Rattle.alt_machine.specs.State.{State, Described, Texts, with_table, with_item, new_table}
+use Rattle.alt_machine.specs.Ops.CreateTable.{create_table}
+use Rattle.alt_machine.specs.Ops.CreateTable as create
+use Rattle.alt_machine.specs.Ops.DeleteTable.{delete_table}
+use Rattle.alt_machine.specs.Ops.DeleteTable as delete
+use Rattle.alt_machine.specs.Ops.DescribeTable.{describe_table}
+use Rattle.alt_machine.specs.Ops.DescribeTable as describe
+use Rattle.alt_machine.specs.Ops.GetItem.{get_item}
+use Rattle.alt_machine.specs.Ops.GetItem as get
+use Rattle.alt_machine.specs.Ops.ListTables.{list_tables}
+use Rattle.alt_machine.specs.Ops.ListTables as list
+use Rattle.alt_machine.specs.Ops.PutItem.{put_item}
+use Rattle.alt_machine.specs.Ops.PutItem as put
+use Rattle.alt_machine.specs.Members.{table_name, table_at, pairs_at}
+use Rattle.alt_machine.specs.Outcomes.{Outcome, last_state, does, reads, unless_refused}
+use Rattle.alt_machine.specs.Refusals.{first_refusal}
+use Rattle.alt_machine.specs.Replies.{done, answers, found}
+use Rattle.alt_machine.specs.Writes.{writes_to}
+use Rattle.alt_schema.specs.Json.{description_json}
+use Rattle.alt_machine.specs.State.{State}
 use Rattle.alt_machine.specs.Step.{step, operates, with_body}
-use Rattle.alt_machine.specs.Writes.{same_code, same_item, is_there}
-use Rattle.alt_dispatch.proofs.Standing.{same_texts}
-
-both : (a b : Bool) → (a && b) ≡ true → (a ≡ true) × (b ≡ true)
-both true b h = (refl, h)
-both false b h = absurd (let f : ⊥ = cc in f)
-
--- two codes that the test finds the same are equal
-code_is : (a b : Gv) → same_code a b ≡ true → a ≡ b
-code_is gnil gnil h = refl
-code_is gnil (gnum n) h = absurd (let f : ⊥ = cc in f)
-code_is gnil (gcons c d) h = absurd (let f : ⊥ = cc in f)
-code_is (gnum m) gnil h = absurd (let f : ⊥ = cc in f)
-code_is (gnum m) (gnum n) h = ap gnum (eqb-true m n h)
-code_is (gnum m) (gcons c d) h = absurd (let f : ⊥ = cc in f)
-code_is (gcons a b) gnil h = absurd (let f : ⊥ = cc in f)
-code_is (gcons a b) (gnum n) h = absurd (let f : ⊥ = cc in f)
-code_is (gcons a b) (gcons c d) h =
-    let parts = both (same_code a c) (same_code b d) h in
-    let first = code_is a c parts.0 in
-    let second = code_is b d parts.1 in
-    λ i. gcons (first i) (second i)
-
-item_is : (ps qs : List Pair) → same_item ps qs ≡ true → ps ≡ qs
-item_is ps qs h = (coded_list coded_pair).inj ps qs (code_is ((coded_list coded_pair).code ps) ((coded_list coded_pair).code qs) h)
-
--- what is put where it stands changes nothing
-insert-same : {X : Type 0} (m : Texts X) (k : List ℕ) (x : X) → get m k ≡ Some x → insert m k x ≡ m
-insert-same {X} m k x there = same_texts (insert m k x) m (λ q. get-insert nat_list_cmp_total m k x q ∙ at q (slice_cmp nat_cmp q k) refl)
-  where
-    at : (q : List ℕ) (o : Ordering) → slice_cmp nat_cmp q k ≡ o → cond (is_eq o) (Some x) (get m q) ≡ get m q
-    at q Less e = refl
-    at q Greater e = refl
-    at q Equal e = sym there ∙ ap (get m) (sym (slice_cmp-IsAntisymmetric nat_cmp-IsAntisymmetric q k e))
-
--- a put of the item that is there leaves the state
-write-same : (s : State) (name key : List ℕ) (t : Described) (item : (List Pair)) → get s.tables name ≡ Some t → get t.items key ≡ Some item → with_table s name (with_item t key item) ≡ s
-write-same s name key t item table there =
-    let items = insert-same t.items key item there in
-    let same : with_item t key item ≡ t = λ i. record { key = t.key; items = items i } in
-    let tables = ap (insert s.tables name) same ∙ insert-same s.tables name t table in
-    λ i. record { tables = tables i }
+use Rattle.alt_shape.specs.Refusals.{Answer}
+use Rattle.alt_shape.specs.declared.refusal.Refusal.{Refusal}
 
 abbrev pub EndsWithAtoms : State → Outcome → Type 0
 EndsWithAtoms s o = o.state ≡ last_state s o.atoms
 
-ends-cond : (s : State) (b : Bool) (x y : Outcome) → EndsWithAtoms s x → EndsWithAtoms s y → EndsWithAtoms s (cond b x y)
-ends-cond s true x y p q = p
-ends-cond s false x y p q = q
+ends : (s : State) (r : Option Refusal) (o : Outcome) → EndsWithAtoms s o → EndsWithAtoms s (unless_refused s r o)
+ends s None o e = e
+ends s (Some r) o e = refl
 
-ends-creates : (s : State) (moment : ℕ) (ask : Option (List ℕ × List ℕ)) → EndsWithAtoms s (creates s moment ask)
-ends-creates s moment None = refl
-ends-creates s moment (Some ask) =
-    ends-cond s (finite.contains_key s.tables ask.0) (refuses s E5)
-    (record { state = with_table s ask.0 (new_table ask.1); answer = created ask.0 ask.1 moment; atoms = with_table s ask.0 (new_table ask.1) ∷ [] }) refl refl
+kept : (s : State) (r : Option Refusal) (a : Answer) → (unless_refused s r (reads s a)).state ≡ s
+kept s None a = refl
+kept s (Some r) a = refl
 
-module _ (s : State) (name : List ℕ) (item : (List Pair)) where
-  written : (t : Described) (key : List ℕ) (old : Option (List Pair)) → get s.tables name ≡ Some t → get t.items key ≡ old
-      → with_table s name (with_item t key item) ≡ last_state s (cond (is_there item old) [] (with_table s name (with_item t key item) ∷ []))
-  written t key None table there = refl
-  written t key (Some old) table there =
-      elim (same_item item old) as (λ b. same_item item old ≡ b → with_table s name (with_item t key item) ≡ last_state s (cond b [] (with_table s name (with_item t key item) ∷ []))) [
-        | true ↦ λ e. write-same s name key t item table (there ∙ ap Some (sym (item_is item old e)))
-        | false ↦ λ e. refl
-      ] refl
+ends-create : (s : State) (moment : ℕ) (ms : Members) → EndsWithAtoms s (create_table s moment ms)
+unfolding create_table
+ends-create s moment ms = ends s (first_refusal (create.refusals s ms)) (does s (create.with_table s (create.made s moment ms) ∷ []) (answers (codes "TableDescription") (description_json (create.made s moment ms) (codes "ACTIVE")))) refl
 
-  ends-puts_under : (t : Described) (k : Option (List ℕ)) → get s.tables name ≡ Some t → EndsWithAtoms s (puts_under s name item t k)
-  ends-puts_under t None table = refl
-  ends-puts_under t (Some key) table = written t key (get t.items key) table refl
+ends-delete : (s : State) (ms : Members) → EndsWithAtoms s (delete_table s ms)
+unfolding delete_table
+ends-delete s ms = ends s (first_refusal (delete.refusals s ms)) (does s (delete.without_table s (table_name ms) ∷ []) (delete.deleted (table_at s ms))) refl
 
-  ends-puts_into : (t : Option Described) → get s.tables name ≡ t → EndsWithAtoms s (puts_into s name item t)
-  ends-puts_into None table = refl
-  ends-puts_into (Some t) table = ends-puts_under t (key_in t.key item) table
+ends-describe : (s : State) (ms : Members) → EndsWithAtoms s (describe_table s ms)
+unfolding describe_table
+ends-describe s ms = ends s (first_refusal (describe.refusals s ms)) (reads s (describe.described (table_at s ms))) refl
 
-ends-puts : (s : State) (ask : Option (List ℕ × List Pair)) → EndsWithAtoms s (puts s ask)
-ends-puts s None = refl
-ends-puts s (Some ask) = ends-puts_into s ask.0 ask.1 (get s.tables ask.0) refl
+ends-list : (s : State) (ms : Members) → EndsWithAtoms s (list_tables s ms)
+unfolding list_tables
+ends-list s ms = ends s (first_refusal (list.refusals ms)) (reads s (list.page_of (list.page_length ms) (list.names_after (list.start_name ms) s.tables))) refl
 
-ends-gets_from : (s : State) (key : (List Pair)) (t : Option Described) → EndsWithAtoms s (gets_from s key t)
-ends-gets_from s key None = refl
-ends-gets_from s key (Some t) = refl
+ends-put : (s : State) (ms : Members) → EndsWithAtoms s (put_item s ms)
+unfolding put_item
+ends-put s ms = ends s (first_refusal (put.refusals s ms)) (does s (writes_to s (table_name ms) (pairs_at (codes "Item") ms) (Some (pairs_at (codes "Item") ms)) (table_at s ms)) done) refl
 
-ends-gets : (s : State) (ask : Option (List ℕ × List Pair)) → EndsWithAtoms s (gets s ask)
-ends-gets s None = refl
-ends-gets s (Some ask) = ends-gets_from s ask.1 (get s.tables ask.0)
+ends-get : (s : State) (ms : Members) → EndsWithAtoms s (get_item s ms)
+unfolding get_item
+ends-get s ms = ends s (first_refusal (get.refusals s ms)) (reads s (found (get.item_in (table_at s ms) (pairs_at (codes "Key") ms)))) refl
 
-ends-operates : (s : State) (op : Operation) (size moment : ℕ) (d : Data) → EndsWithAtoms s (operates s op size moment d)
-ends-operates s CreateTable size moment d = ends-creates s moment (fitting size (create_form d))
-ends-operates s PutItem size moment d = ends-puts s (fitting size (entry_form (codes "Item") d))
-ends-operates s GetItem size moment d = ends-gets s (fitting size (entry_form (codes "Key") d))
+pub describe_reads : (s : State) (ms : Members) → (describe_table s ms).state ≡ s
+unfolding describe_table
+describe_reads s ms = kept s (first_refusal (describe.refusals s ms)) (describe.described (table_at s ms))
 
-ends-with_body : (s : State) (op : Operation) (size moment : ℕ) (d : Option Data) → EndsWithAtoms s (with_body s op size moment d)
-ends-with_body s op size moment None = refl
-ends-with_body s op size moment (Some d) = ends-operates s op size moment d
+pub list_reads : (s : State) (ms : Members) → (list_tables s ms).state ≡ s
+unfolding list_tables
+list_reads s ms = kept s (first_refusal (list.refusals ms)) (list.page_of (list.page_length ms) (list.names_after (list.start_name ms) s.tables))
+
+pub get_reads : (s : State) (ms : Members) → (get_item s ms).state ≡ s
+unfolding get_item
+get_reads s ms = kept s (first_refusal (get.refusals s ms)) (found (get.item_in (table_at s ms) (pairs_at (codes "Key") ms)))
+
+ends-operates : (s : State) (op : Operation) (moment : ℕ) (ms : Members) → EndsWithAtoms s (operates s op moment ms)
+ends-operates s CreateTable moment ms = ends-create s moment ms
+ends-operates s DescribeTable moment ms = ends-describe s ms
+ends-operates s ListTables moment ms = ends-list s ms
+ends-operates s DeleteTable moment ms = ends-delete s ms
+ends-operates s PutItem moment ms = ends-put s ms
+ends-operates s GetItem moment ms = ends-get s ms
+
+ends-with_body : (s : State) (op : Operation) (moment : ℕ) (ms : Option Members) → EndsWithAtoms s (with_body s op moment ms)
+ends-with_body s op moment None = refl
+ends-with_body s op moment (Some ms) = ends-operates s op moment ms
 
 pub ends_with_atoms : (s : State) (op : Option Operation) (body : List ℕ) (moment : ℕ) → EndsWithAtoms s (step s op body moment)
 ends_with_atoms s None body moment = refl
-ends_with_atoms s (Some op) body moment = ends-with_body s op (length body) moment (body_of body)
+ends_with_atoms s (Some op) body moment = ends-with_body s op moment (body_of body)

@@ -1,11 +1,13 @@
-pub mod Forms
 pub mod Json
 pub mod Keys
+pub mod Members
 pub mod Operations
 pub mod Ops
 pub mod Outcomes
 pub mod Refusals
 pub mod Replies
+pub mod Spent
 pub mod State
 pub mod Step
+pub mod Valid
 pub mod Writes

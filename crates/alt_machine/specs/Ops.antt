@@ -1,4 +1,7 @@
--- A file for each operation: what it asks of a body, its refusals in their order, its new state and its answer.
+-- A file for each operation: its refusals in their order, its new state and its answer.
 pub mod CreateTable
+pub mod DeleteTable
+pub mod DescribeTable
 pub mod GetItem
+pub mod ListTables
 pub mod PutItem

@@ -1,5 +1,5 @@
 -- The fold over lines, one list of lines after another.
-use Rattle.std.proofs.Common.{◌≡◌, ◌≤◌, ℕ, suc, List, [], ◌∷◌, ◌++◌, length, Bool, true, false, cond, refl, sym, ap, ◌∙◌, append_assoc, append-nil, arith}
+use Rattle.std.proofs.Common.{◌≡◌, ◌≤◌, ℕ, suc, List, [], ◌∷◌, ◌++◌, length, Bool, true, false, cond, Option, Some, None, refl, sym, ap, ◌∙◌, append_assoc, append-nil, arith}
 use Rattle.std.specs.Prelude.{◌==◌}
 use Rattle.std.specs.Str.Lines.{strip_carriage_return}
 use Rattle.alt_machine.specs.State.{State}
@@ -8,7 +8,11 @@ use Rattle.std.proofs.Common.{length-append, drop}
 use Rattle.std.proofs.lemmas.Bool.{le-leb}
 use Rattle.std.proofs.Math.Seq.{drop-append_seam}
 use Rattle.alternator.specs.Moments.{answered}
-use Rattle.alternator.specs.Out.{served, replies, after, line_of}
+use Rattle.alternator.specs.Out.{served, replies, after, wanted, wanted_by, or_next, line_of}
+
+first_none : (v w : Option ℕ) → or_next v w ≡ None → (v ≡ None) × (w ≡ None)
+first_none None w e = (refl, e)
+first_none (Some n) w e = absurd (let f : ⊥ = cc in f)
 
 suc-same : {m n : ℕ} → suc m ≡ suc n → m ≡ n
 suc-same e = omega arith
@@ -28,6 +32,24 @@ after-append s [] ks [] ns e = refl
 after-append s [] ks (m ∷ ms) ns e = absurd (omega arith)
 after-append s (l ∷ ls) ks [] ns e = absurd (omega arith)
 after-append s (l ∷ ls) ks (m ∷ ms) ns e = after-append (served s l m).state ls ks ms ns (suc-same e)
+
+pub wanted-append : (s : State) (ls ks : List (List ℕ)) (ms ns : List ℕ) → length ms ≡ length ls → wanted s ls ms ≡ None
+    → wanted s (ls ++ ks) (ms ++ ns) ≡ wanted (after s ls ms) ks ns
+wanted-append s [] ks [] ns e h = refl
+wanted-append s [] ks (m ∷ ms) ns e h = absurd (omega arith)
+wanted-append s (l ∷ ls) ks [] ns e h = absurd (omega arith)
+wanted-append s (l ∷ ls) ks (m ∷ ms) ns e h =
+    let here = first_none (wanted_by s l m) (wanted (served s l m).state ls ms) h in
+    ap (λ w. or_next w (wanted (served s l m).state (ls ++ ks) (ms ++ ns))) here.0
+    ∙ wanted-append (served s l m).state ls ks ms ns (suc-same e) here.1
+
+-- lines past the moments want nothing
+pub wanted-more : (s : State) (ls ks : List (List ℕ)) (ms : List ℕ) → length ms ≤ length ls → wanted s (ls ++ ks) ms ≡ wanted s ls ms
+wanted-more s [] [] [] h = refl
+wanted-more s [] (k ∷ ks) [] h = refl
+wanted-more s [] ks (m ∷ ms) h = absurd (omega arith)
+wanted-more s (l ∷ ls) ks [] h = refl
+wanted-more s (l ∷ ls) ks (m ∷ ms) h = ap (or_next (wanted_by s l m)) (wanted-more (served s l m).state ls ks ms (omega arith))
 
 -- lines past the moments are not answered
 pub replies-more : (s : State) (ls ks : List (List ℕ)) (ms : List ℕ) → length ms ≤ length ls → replies s (ls ++ ks) ms ≡ replies s ls ms

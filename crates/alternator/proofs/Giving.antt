@@ -1,5 +1,5 @@
 -- Bytes of the input, line by line.
-use Rattle.std.proofs.Common.{◌≡◌, ℕ, List, [], ◌∷◌, ◌++◌, refl, sym, ap, subst, ◌∙◌, append_assoc, append-nil}
+use Rattle.std.proofs.Common.{◌≡◌, ℕ, List, [], ◌∷◌, ◌++◌, refl, sym, ap, subst, ◌∙◌, append_assoc, append-nil, Option, None}
 use Rattle.std.specs.Str.Lines.{strip_carriage_return}
 use Rattle.alt_machine.specs.State.{State}
 use Rattle.alt_shell.specs.Log.{Log}
@@ -34,10 +34,10 @@ module _ (a b : Log) (s t : State) (line0 bytes line left : List ℕ) (given : G
     }
 
     -- serving it broke off
-    pub gives_break : Calls b c (Breaks t (strip_carriage_return (line ++ front) ∷ [])) → Calls a c (Breaks s (whole_lines line0 bytes))
-    gives_break q = subst (λ (ls : List (List ℕ)). Calls a c (Breaks s ls)) (sym all_lines)
-        (break_more a c s (given.done ++ strip_carriage_return (line ++ front) ∷ []) (whole_lines [] back)
-        (served_break a b c s t given.done (strip_carriage_return (line ++ front) ∷ []) given.served q))
+    pub gives_break : (number : Option ℕ) → Calls b c (Breaks number t (strip_carriage_return (line ++ front) ∷ [])) → Calls a c (Breaks number s (whole_lines line0 bytes))
+    gives_break number q = subst (λ (ls : List (List ℕ)). Calls a c (Breaks number s ls)) (sym all_lines)
+        (break_more a c number s (given.done ++ strip_carriage_return (line ++ front) ∷ []) (whole_lines [] back)
+        (served_break a b c number s t given.done (strip_carriage_return (line ++ front) ∷ []) given.served q))
 
   -- no line feed is left
   module _ (uncut : Uncut left) where
@@ -48,5 +48,5 @@ module _ (a b : Log) (s t : State) (line0 bytes line left : List ℕ) (given : G
     pub gives_rest : rest_line line0 bytes ≡ line ++ left
     gives_rest = given.rest ∙ uncut.rest line
 
-    pub gives_no_more : Calls a b (Breaks s (whole_lines line0 bytes))
+    pub gives_no_more : Calls a b (Breaks None s (whole_lines line0 bytes))
     gives_no_more = served_broken a b s t (whole_lines line0 bytes) gives_all

@@ -1,3 +1,4 @@
+pub mod Faults
 pub mod Host
 pub mod Lines
 pub mod LinesSoFar

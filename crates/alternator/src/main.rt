@@ -1,4 +1,4 @@
-//! Alternator: the interface of Amazon DynamoDB over a store in one folder. So far it answers three operations, over
+//! Alternator: the interface of Amazon DynamoDB over a store in one folder. So far it answers six operations, over
 //! tables in memory and requests as lines.
 #![tactic(auto)]
 

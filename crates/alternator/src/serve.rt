@@ -1,18 +1,20 @@
 //! Serving lines: from the bytes taken to the replies said. Each function says of the calls that it made which lines they
 //! served, or of which their text is a prefix, so that a run is put together from them.
 
-ghost use Rattle.std.specs.Prelude.{◌≡◌, ◌<◌, ◌^◌, ◌-◌, ◌∷◌, ◌++◌, [], length, OnOk, IsErrOf, MatchResult};
+ghost use Rattle.std.specs.Prelude.{◌≡◌, ◌≢◌, ℕ, Option, ◌<◌, ◌^◌, ◌-◌, ◌∷◌, ◌++◌, [], length, OnOk, IsErrOf, MatchResult};
 ghost use Rattle.std.specs.Str.Lines.{strip_carriage_return};
 ghost use Rattle.alt_base.specs.Counts.{Rose};
-ghost use Rattle.alt_dispatch.specs.Stands.{state_of};
+ghost use Rattle.alt_tables.specs.Stands.{state_of};
+ghost use Rattle.alt_tables.specs.Faults.{IsCausedBy};
+ghost use Rattle.alternator.specs.Faults.{number_of, IsFirst};
 ghost use Rattle.alternator.specs.Lines.{last_line};
 ghost use Rattle.alternator.specs.LinesSoFar.{whole_lines, rest_line};
 ghost use Rattle.alternator.specs.Runs.{Calls, Passes, Serves, Breaks, Turns, TurnBreaks};
 
 use crate::lines::cut;
 use crate::reply::reply_text;
-use alt_dispatch::Tables;
 use alt_shell::Shell;
+use alt_tables::{TableFault, Tables};
 use std::alloc::Global;
 
 /// Why a run ends early.
@@ -22,6 +24,19 @@ pub(crate) enum RunFault {
     Failed,
     /// Memory was refused.
     NoMemory,
+    /// A write would need this number, or a new table this family, and it is never given out.
+    Spent { number: u64 },
+}
+
+/// A fault of the tables ends the run.
+fn fault_of(fault: TableFault) -> RunFault
+    ensures other { result ≢ RunFault.Failed }
+    ensures cause { (wanted : Option ℕ) → IsCausedBy wanted fault → IsFirst (number_of result) wanted }
+{
+    match fault {
+        TableFault::NoMemory => RunFault::NoMemory,
+        TableFault::Spent { number } => RunFault::Spent { number },
+    }
 }
 
 /// One request: its line is answered at the moment that the clock tells.
@@ -33,13 +48,14 @@ pub(crate) fn request<S: Shell>(
 ) -> Result<(), RunFault>
     ensures served { MatchResult result
         (λ _. Calls (S.state shell.old).beside (S.state shell.new).beside (Serves (state_of tables.old) (strip_carriage_return line.now ∷ []) (state_of tables.new)))
-        (λ _. Calls (S.state shell.old).beside (S.state shell.new).beside (Breaks (state_of tables.old) (strip_carriage_return line.now ∷ []))) }
+        (λ f. Calls (S.state shell.old).beside (S.state shell.new).beside (Breaks (number_of f) (state_of tables.old) (strip_carriage_return line.now ∷ []))) }
     ensures cause { IsErrOf result RunFault.Failed → Rose (S.state shell.old).faults (S.state shell.new).faults }
     ensures passes { Passes (S.state shell.old) (S.state shell.new) }
 {
     let moment = shell.now();
-    let Ok(text) = reply_text(alloc, tables, shell, line, moment) else {
-        return Err(RunFault::NoMemory);
+    let text = match reply_text(alloc, tables, shell, line, moment) {
+        Ok(text) => text,
+        Err(fault) => return Err(fault_of(fault)),
     };
     match shell.say(text.as_bytes()) {
         Ok(()) => Ok(()),
@@ -57,7 +73,7 @@ fn end_line<S: Shell>(
 ) -> Result<(), RunFault>
     ensures served { MatchResult result
         (λ _. Calls (S.state shell.old).beside (S.state shell.new).beside (Serves (state_of tables.old) (strip_carriage_return (line.old.items ++ end.now) ∷ []) (state_of tables.new)))
-        (λ _. Calls (S.state shell.old).beside (S.state shell.new).beside (Breaks (state_of tables.old) (strip_carriage_return (line.old.items ++ end.now) ∷ []))) }
+        (λ f. Calls (S.state shell.old).beside (S.state shell.new).beside (Breaks (number_of f) (state_of tables.old) (strip_carriage_return (line.old.items ++ end.now) ∷ []))) }
     ensures line { OnOk result (line.new.items ≡ []) }
     ensures cause { IsErrOf result RunFault.Failed → Rose (S.state shell.old).faults (S.state shell.new).faults }
     ensures passes { Passes (S.state shell.old) (S.state shell.new) }
@@ -87,7 +103,7 @@ pub(crate) fn give<S: Shell>(
 ) -> Result<(), RunFault>
     ensures served { MatchResult result
         (λ _. Calls (S.state shell.old).beside (S.state shell.new).beside (Serves (state_of tables.old) (whole_lines line.old.items bytes.now) (state_of tables.new)))
-        (λ _. Calls (S.state shell.old).beside (S.state shell.new).beside (Breaks (state_of tables.old) (whole_lines line.old.items bytes.now))) }
+        (λ f. Calls (S.state shell.old).beside (S.state shell.new).beside (Breaks (number_of f) (state_of tables.old) (whole_lines line.old.items bytes.now))) }
     ensures line { OnOk result (line.new.items ≡ rest_line line.old.items bytes.now) }
     ensures cause { IsErrOf result RunFault.Failed → Rose (S.state shell.old).faults (S.state shell.new).faults }
     ensures passes { Passes (S.state shell.old) (S.state shell.new) }
@@ -115,7 +131,7 @@ pub(crate) fn finish<S: Shell>(
 ) -> Result<(), RunFault>
     ensures served { MatchResult result
         (λ _. Calls (S.state shell.old).beside (S.state shell.new).beside (Serves (state_of tables.old) (last_line line.now) (state_of tables.new)))
-        (λ _. Calls (S.state shell.old).beside (S.state shell.new).beside (Breaks (state_of tables.old) (last_line line.now))) }
+        (λ f. Calls (S.state shell.old).beside (S.state shell.new).beside (Breaks (number_of f) (state_of tables.old) (last_line line.now))) }
     ensures cause { IsErrOf result RunFault.Failed → Rose (S.state shell.old).faults (S.state shell.new).faults }
     ensures passes { Passes (S.state shell.old) (S.state shell.new) }
 {
@@ -136,7 +152,7 @@ pub(crate) fn turn<S: Shell>(
     requires { 0 < length buf.old }
     ensures turned { MatchResult result
         (λ more. Calls (S.state shell.old).beside (S.state shell.new).beside (Turns more (state_of tables.old) line.old.items (state_of tables.new) line.new.items))
-        (λ _. Calls (S.state shell.old).beside (S.state shell.new).beside (TurnBreaks (state_of tables.old) line.old.items)) }
+        (λ f. Calls (S.state shell.old).beside (S.state shell.new).beside (TurnBreaks (number_of f) (state_of tables.old) line.old.items)) }
     ensures within { OnOk result ((S.state shell.old).moment < 2 ^ 64 - 1) }
     ensures time { OnOk result ((S.state shell.old).moment < (S.state shell.new).moment) }
     ensures cause { IsErrOf result RunFault.Failed → Rose (S.state shell.old).faults (S.state shell.new).faults }

@@ -26,11 +26,16 @@ const E4: &str =
 const E5: &str =
     "400 {\"__type\":\"com.amazonaws.dynamodb.v20120810#ResourceInUseException\",\"message\":\"table already exists\"}\n";
 
-const V0: &str =
-    "400 {\"__type\":\"com.amazonaws.dynamodb.v20120810#ValidationException\",\"message\":\"not built yet\"}\n";
-
-const V23: &str =
-    "400 {\"__type\":\"com.amazonaws.dynamodb.v20120810#ValidationException\",\"message\":\"bad key\"}\n";
+/// The reply of a ValidationException with this message.
+macro_rules! invalid {
+    ($message:literal) => {
+        concat!(
+            "400 {\"__type\":\"com.amazonaws.dynamodb.v20120810#ValidationException\",\"message\":\"",
+            $message,
+            "\"}\n"
+        )
+    };
+}
 
 fn words(alloc: Global, words: &[&str]) -> Result<Vec<String>, NoMemory> {
     let mut list = Vec::new(alloc);
@@ -106,22 +111,185 @@ fn an_item_that_was_put_is_found_without_the_old_one(rt: HostRuntime) -> Result<
     Ok(())
 }
 
+// In each body but the last nearly everything is wrong, and from one to the next one thing is mended.
 #[test]
-fn the_first_refusal_is_given(rt: HostRuntime) -> Result<(), Fail> {
+fn a_put_is_refused_by_the_first_test_that_fails(rt: HostRuntime) -> Result<(), Fail> {
     let pieces = [
         CREATE,
         "fly {\n",
         "PutItem {\n",
-        "PutItem {\"TableName\":\"Tob\",\"Item\":{\"k\":{\"S\":\"\"}},\"ReturnValues\":\"NONE\"}\n",
+        "PutItem {\"TableName\":\"T!\",\"Item\":5,\"Expected\":{},\"ReturnValues\":\"SOME\"}\n",
+        "PutItem {\"TableName\":\"T!\",\"Item\":null,\"Expected\":{},\"ReturnValues\":\"SOME\"}\n",
+        "PutItem {\"TableName\":\"T!\",\"Item\":{\"k\":{\"S\":1}},\"Expected\":{},\"ReturnValues\":\"SOME\"}\n",
+        "PutItem {\"TableName\":\"T!\",\"Item\":{\"k\":{\"S\":1}},\"Expected\":{},\"ReturnValues\":\"NONE\"}\n",
+        "PutItem {\"TableName\":\"T!\",\"Item\":{\"k\":{\"S\":1}},\"ReturnValues\":\"NONE\"}\n",
+        "PutItem {\"TableName\":\"T!\",\"Item\":{\"k\":{\"S\":1}}}\n",
+        "PutItem {\"TableName\":\"Tob\",\"Item\":{\"k\":{\"S\":1}}}\n",
         "PutItem {\"TableName\":\"Tob\",\"Item\":{\"k\":{\"S\":\"\"}}}\n",
         "PutItem {\"TableName\":\"Tab\",\"Item\":{\"k\":{\"S\":\"\"}}}\n",
-        "PutItem {\"TableName\":\"Tab\",\"Item\":{\"r\":{\"S\":\"a\"}}}\n",
-        "GetItem {\"TableName\":\"Tab\",\"Key\":{\"k\":{\"S\":\"a\"},\"r\":{\"S\":\"a\"}}}\n",
-        "GetItem {\"TableName\":\"Tab\",\"Key\":{\"k\":{\"S\":null}}}\n",
+        "PutItem {\"TableName\":\"Tab\",\"Item\":{\"k\":{\"S\":\"a\"}}}\n",
         "\n",
     ];
-    let replies = [CREATED, E1, E2, V0, E4, V23, V23, V23, V0, E1];
+    let replies = [
+        CREATED,
+        E1,
+        E2,
+        E2,
+        invalid!("a required member is missing"),
+        invalid!("a member is out of its range"),
+        invalid!("members do not go together"),
+        invalid!("not built yet"),
+        invalid!("bad table or index name"),
+        E2,
+        E4,
+        invalid!("bad key"),
+        "200 {}\n",
+        E1,
+    ];
     assert!(rt; says(rt.alloc(), &pieces, &replies)?);
+    Ok(())
+}
+
+#[test]
+fn a_get_is_refused_by_the_first_test_that_fails(rt: HostRuntime) -> Result<(), Fail> {
+    let pieces = [
+        CREATE,
+        "GetItem {\"TableName\":\"T!\",\"ConsistentRead\":1,\"AttributesToGet\":[],\"ProjectionExpression\":\"k\"}\n",
+        "GetItem {\"TableName\":\"T!\",\"Key\":{\"k\":{}},\"ConsistentRead\":1,\"AttributesToGet\":[],\"ProjectionExpression\":\"k\"}\n",
+        "GetItem {\"TableName\":\"T!\",\"Key\":{\"k\":{}},\"AttributesToGet\":[],\"ProjectionExpression\":\"k\"}\n",
+        "GetItem {\"TableName\":\"T!\",\"Key\":{\"k\":{}},\"ProjectionExpression\":\"k\"}\n",
+        "GetItem {\"TableName\":\"T!\",\"Key\":{\"k\":{}}}\n",
+        "GetItem {\"TableName\":\"Tob\",\"Key\":{\"k\":{}}}\n",
+        "GetItem {\"TableName\":\"Tob\",\"Key\":{\"k\":{\"S\":\"a\"},\"r\":{\"S\":\"a\"}}}\n",
+        "GetItem {\"TableName\":\"Tab\",\"Key\":{\"k\":{\"S\":\"a\"},\"r\":{\"S\":\"a\"}}}\n",
+        "GetItem {\"TableName\":\"Tab\",\"Key\":{\"k\":{\"N\":\"1\"}}}\n",
+        "GetItem {\"TableName\":\"Tab\",\"Key\":{\"k\":{\"S\":\"a\"}}}\n",
+    ];
+    let replies = [
+        CREATED,
+        invalid!("a required member is missing"),
+        E2,
+        invalid!("members do not go together"),
+        invalid!("not built yet"),
+        invalid!("bad table or index name"),
+        invalid!("an attribute value needs one known kind"),
+        E4,
+        invalid!("bad key"),
+        invalid!("bad key"),
+        "200 {}\n",
+    ];
+    assert!(rt; says(rt.alloc(), &pieces, &replies)?);
+    Ok(())
+}
+
+#[test]
+fn a_table_is_refused_by_the_first_test_that_fails(rt: HostRuntime) -> Result<(), Fail> {
+    let pieces = [
+        CREATE,
+        "CreateTable {\"TableName\":\"T!\",\"KeySchema\":[],\"AttributeDefinitions\":[5],\"StreamSpecification\":{\"StreamEnabled\":true}}\n",
+        "CreateTable {\"TableName\":\"T!\",\"KeySchema\":[],\"AttributeDefinitions\":[],\"StreamSpecification\":{\"StreamEnabled\":true}}\n",
+        "CreateTable {\"TableName\":\"T!\",\"KeySchema\":[],\"AttributeDefinitions\":[],\"LocalSecondaryIndexes\":[{\"IndexName\":\"i\",\"KeySchema\":[],\"Projection\":{\"ProjectionType\":\"ALL\"}}]}\n",
+        "CreateTable {\"TableName\":\"T!\",\"KeySchema\":[],\"AttributeDefinitions\":[]}\n",
+        "CreateTable {\"TableName\":\"Tab\",\"KeySchema\":[],\"AttributeDefinitions\":[]}\n",
+        "CreateTable {\"TableName\":\"Tab\",\"KeySchema\":[{\"AttributeName\":\"k\",\"KeyType\":\"HASH\"}],\"AttributeDefinitions\":[{\"AttributeName\":\"k\",\"AttributeType\":\"S\"},{\"AttributeName\":\"x\",\"AttributeType\":\"S\"}]}\n",
+        CREATE,
+        "DeleteTable {\"TableName\":\"ab\"}\n",
+        "DescribeTable {\"TableName\":\"Tob\"}\n",
+    ];
+    let replies = [
+        CREATED,
+        E2,
+        invalid!("members do not go together"),
+        invalid!("not built yet"),
+        invalid!("bad table or index name"),
+        invalid!("bad key schema or attribute definitions"),
+        invalid!("bad key schema or attribute definitions"),
+        E5,
+        invalid!("bad table or index name"),
+        E4,
+    ];
+    assert!(rt; says(rt.alloc(), &pieces, &replies)?);
+    Ok(())
+}
+
+#[test]
+fn values_go_in_and_come_out(rt: HostRuntime) -> Result<(), Fail> {
+    let pieces = [
+        CREATE,
+        "PutItem {\"TableName\":\"Tab\",\"Item\":{\"k\":{\"S\":\"a\"},\"n\":{\"N\":\"-0012.500E1\"},\"s\":{\"BS\":[\"Yg==\",\"YQ==\"]}}}\n",
+        "GetItem {\"TableName\":\"Tab\",\"Key\":{\"k\":{\"S\":\"a\"}}}\n",
+        "PutItem {\"TableName\":\"Tab\",\"Item\":{\"k\":{\"S\":\"a\"},\"n\":{\"N\":\"1E+126\"}}}\n",
+        "PutItem {\"TableName\":\"Tab\",\"Item\":{\"k\":{\"S\":\"a\"},\"n\":{\"N\":\"1E-131\"}}}\n",
+        "PutItem {\"TableName\":\"Tab\",\"Item\":{\"k\":{\"S\":\"a\"},\"n\":{\"N\":\"1E\"}}}\n",
+        "PutItem {\"TableName\":\"Tab\",\"Item\":{\"k\":{\"S\":\"a\"},\"n\":{\"SS\":[\"x\",\"x\"]}}}\n",
+        "PutItem {\"TableName\":\"Tab\",\"Item\":{\"k\":{\"S\":\"a\"},\"n\":{\"SS\":[]}}}\n",
+        "PutItem {\"TableName\":\"Tab\",\"Item\":{\"k\":{\"S\":\"a\"},\"n\":{\"NULL\":false}}}\n",
+        "PutItem {\"TableName\":\"Tab\",\"Item\":{\"k\":{\"S\":\"a\"},\"n\":{\"S\":\"x\",\"N\":\"1\"}}}\n",
+        "PutItem {\"TableName\":\"Tab\",\"Item\":{\"k\":{\"S\":\"a\"},\"n\":{\"B\":\"A\"}}}\n",
+    ];
+    let replies = [
+        CREATED,
+        "200 {}\n",
+        "200 {\"Item\":{\"k\":{\"S\":\"a\"},\"n\":{\"N\":\"-125\"},\"s\":{\"BS\":[\"YQ==\",\"Yg==\"]}}}\n",
+        invalid!("a number is too large"),
+        invalid!("a number is too small"),
+        invalid!("not a number"),
+        invalid!("a repeated member in a set"),
+        invalid!("an empty set"),
+        invalid!("NULL must be true"),
+        invalid!("an attribute value needs one known kind"),
+        invalid!("bad base64"),
+    ];
+    assert!(rt; says(rt.alloc(), &pieces, &replies)?);
+    Ok(())
+}
+
+const CREATE_RANGE: &str =
+    "CreateTable {\"TableName\":\"Rng\",\"KeySchema\":[{\"AttributeName\":\"k\",\"KeyType\":\"HASH\"},{\"AttributeName\":\"r\",\"KeyType\":\"RANGE\"}],\"AttributeDefinitions\":[{\"AttributeName\":\"k\",\"AttributeType\":\"S\"},{\"AttributeName\":\"r\",\"AttributeType\":\"N\"}]}\n";
+
+const RANGE_ACTIVE: &str =
+    "{\"AttributeDefinitions\":[{\"AttributeName\":\"k\",\"AttributeType\":\"S\"},{\"AttributeName\":\"r\",\"AttributeType\":\"N\"}],\"CreationDateTime\":1700000000,\"KeySchema\":[{\"AttributeName\":\"k\",\"KeyType\":\"HASH\"},{\"AttributeName\":\"r\",\"KeyType\":\"RANGE\"}],\"TableArn\":\"arn:aws:dynamodb:local:000000000000:table/Rng\",\"TableName\":\"Rng\",\"TableStatus\":\"ACTIVE\"}}\n";
+
+#[test]
+fn a_table_that_was_deleted_is_empty_when_it_is_made_again(rt: HostRuntime) -> Result<(), Fail> {
+    let alloc = rt.alloc();
+    let get =
+        "GetItem {\"TableName\":\"Rng\",\"Key\":{\"k\":{\"S\":\"a\"},\"r\":{\"N\":\"1.0\"}}}\n";
+    let pieces = [
+        CREATE_RANGE,
+        CREATE,
+        "DescribeTable {\"TableName\":\"Rng\"}\n",
+        "ListTables {\"Limit\":1}\n",
+        "ListTables {\"ExclusiveStartTableName\":\"Rng\"}\n",
+        "PutItem {\"TableName\":\"Rng\",\"Item\":{\"k\":{\"S\":\"a\"},\"r\":{\"N\":\"1\"}}}\n",
+        get,
+        "DeleteTable {\"TableName\":\"Tab\"}\n",
+        "DeleteTable {\"TableName\":\"Rng\"}\n",
+        get,
+        CREATE_RANGE,
+        get,
+        "ListTables {}\n",
+    ];
+    let described = format!(in alloc; "200 {{\"Table\":{RANGE_ACTIVE}")?;
+    let made = format!(in alloc; "200 {{\"TableDescription\":{RANGE_ACTIVE}")?;
+    let deleted = made.replace(alloc, "ACTIVE", "DELETING")?;
+    let gone = String::from_str(alloc, CREATED)?.replace(alloc, "ACTIVE", "DELETING")?;
+    let replies = [
+        made.as_str(),
+        CREATED,
+        described.as_str(),
+        "200 {\"LastEvaluatedTableName\":\"Rng\",\"TableNames\":[\"Rng\"]}\n",
+        "200 {\"TableNames\":[\"Tab\"]}\n",
+        "200 {}\n",
+        "200 {\"Item\":{\"k\":{\"S\":\"a\"},\"r\":{\"N\":\"1\"}}}\n",
+        gone.as_str(),
+        deleted.as_str(),
+        E4,
+        made.as_str(),
+        "200 {}\n",
+        "200 {\"TableNames\":[\"Rng\"]}\n",
+    ];
+    assert!(rt; says(alloc, &pieces, &replies)?);
     Ok(())
 }
 
@@ -135,7 +303,8 @@ fn lines_are_cut_anywhere(rt: HostRuntime) -> Result<(), Fail> {
         "\r\n",
         "GetItem {}",
     ];
-    assert!(rt; says(rt.alloc(), &pieces, &[E1, E2, E1, E1, V0])?);
+    let missing = invalid!("a required member is missing");
+    assert!(rt; says(rt.alloc(), &pieces, &[E1, E2, E1, E1, missing])?);
     assert!(rt; says(rt.alloc(), &["Fly {}\n"], &[E1])?);
     assert!(rt; says(rt.alloc(), &[], &[])?);
     Ok(())

@@ -1,35 +1,48 @@
--- GetItem: answers the item at a key and leaves the state, or refuses by V0, then E4, then V23.
-use Rattle.std.specs.Prelude.{ℕ, List, Option, Some, None, codes}
+-- GetItem: answers the item of a key (DynamoDB API Reference, "GetItem").
+use Rattle.std.specs.Prelude.{ℕ, List, [], ◌∷◌, ◌++◌, Option, Some, None, codes}
 use Rattle.std.specs.FinMap as map
-use Rattle.serde_json.specs.Data.{Data}
+use Rattle.serde_json.specs.Data.{Members}
+use Rattle.alt_shape.specs.Bodies as bodies
+use Rattle.alt_shape.specs.declared.refusal.Refusal.{Refusal}
+use Rattle.alt_shape.specs.declared.refusal.Refusal.TheVariants.{Invalid}
+use Rattle.alt_schema.specs.Rules.{is_name}
 use Rattle.alt_value.specs.Tree.{Pair}
-use Rattle.alt_machine.specs.declared.Refusal.TheVariants.{E4, V0, V23}
-use Rattle.alt_machine.specs.Forms.{fitting, entry_form}
-use Rattle.alt_machine.specs.Keys.{key_only}
-use Rattle.alt_machine.specs.Outcomes.{Outcome, refuses, reads}
-use Rattle.alt_machine.specs.Refusals.{Answer, refused}
+use Rattle.alt_machine.specs.Keys.{is_key, key_fits, place_of}
+use Rattle.alt_machine.specs.Members.{gives_any, table_name, table_at, item_at, pairs_at}
+use Rattle.alt_machine.specs.Outcomes.{Outcome, reads, unless_refused}
+use Rattle.alt_machine.specs.Refusals.{first_refusal, refuse_if, refuse_unless, of_shape, of_table, of_values}
 use Rattle.alt_machine.specs.Replies.{found}
-use Rattle.alt_machine.specs.State.{State, Described}
+use Rattle.alt_machine.specs.State.{State, Table}
 
--- the answer at this key
-abbrev pub answer_at : Described → Option (List ℕ) → Answer
-answer_at t None = refused V23
-answer_at t (Some key) = found (map.get t.items key)
+-- members of an older interface, and those that aren't built yet
+abbrev pub legacy : List (List ℕ)
+legacy = codes "AttributesToGet" ∷ []
 
--- the answer to these key attributes
-abbrev pub answer_of : Described → List Pair → Answer
-answer_of t key = answer_at t (key_only t.key key)
+abbrev pub unbuilt : List (List ℕ)
+unbuilt = codes "ProjectionExpression" ∷ codes "ExpressionAttributeNames" ∷ []
 
--- out of this table
-abbrev pub gets_from : State → List Pair → Option Described → Outcome
-gets_from s key None = refuses s E4
-gets_from s key (Some t) = reads s (answer_of t key)
+abbrev pub of_key : List Pair → Table → List (Option Refusal)
+of_key key t =
+    refuse_unless (is_key t.description key) (Invalid 23) ∷
+    refuse_unless (key_fits t.description key) (Invalid 24) ∷ []
 
--- of a table's name and a key
-abbrev pub gets : State → Option (List ℕ × List Pair) → Outcome
-gets s None = refuses s V0
-gets s (Some ask) = gets_from s ask.1 (map.get s.tables ask.0)
+-- what the body alone says
+unfoldable pub of_body : Members → List (Option Refusal)
+of_body ms =
+    of_shape (bodies.get_item ms) ∷
+    refuse_if (gives_any legacy ms) (Invalid 3) ∷
+    refuse_if (gives_any unbuilt ms) (Invalid 0) ∷
+    refuse_unless (is_name (table_name ms)) (Invalid 4) ∷ []
 
--- of a body of this many bytes
-abbrev pub get_item : State → ℕ → Data → Outcome
-get_item s size d = gets s (fitting size (entry_form (codes "Key") d))
+abbrev pub refusals : State → Members → List (Option Refusal)
+refusals s ms = of_body ms ++ (
+    of_values (item_at (codes "Key") ms) ∷
+    of_table (table_at s ms) (of_key (pairs_at (codes "Key") ms)) ∷ [])
+
+-- the item of a key in a table, if both are there
+abbrev pub item_in : Option Table → List Pair → Option (List Pair)
+item_in None key = None
+item_in (Some t) key = map.get t.items (place_of t.description key)
+
+unfoldable pub get_item : State → Members → Outcome
+get_item s ms = unless_refused s (first_refusal (refusals s ms)) (reads s (found (item_in (table_at s ms) (pairs_at (codes "Key") ms))))

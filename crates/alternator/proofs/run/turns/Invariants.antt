@@ -1,5 +1,5 @@
 use Rattle.std.proofs.Common.{◌-◌, ◌^◌, [], true}
-use Rattle.alt_dispatch.specs.Stands.{state_of}
+use Rattle.alt_tables.specs.Stands.{state_of}
 use Rattle.alt_machine.specs.State.{start}
 use Rattle.alternator.specs.Runs.{Calls, Passes, Turns}
 use Rattle.alternator.proofs.run.turns.Given as goal

@@ -1,4 +1,4 @@
-use Rattle.alt_dispatch.specs.Stands.{state_of}
+use Rattle.alt_tables.specs.Stands.{state_of}
 use Rattle.alternator.proofs.Logs.{passes-none, passes-then}
 use Rattle.alternator.proofs.Giving.{gives_none, gives_line, gives_break, gives_all, gives_rest, gives_no_more}
 use Rattle.alternator.proofs.serve.give.Goals as goal
@@ -18,4 +18,4 @@ pub returns-in-Err-clause-served : goal.returns-in-Err-clause-served
 returns-in-Err-clause-served g c =
     let state = g.S.Disk.state in
     gives_break (state c.args.shell.now).beside (state c.loop-end.shell).beside (state_of c.args.tables.now) (state_of c.loop-end.tables) c.args.line.now.items c.args.bytes.now c.loop-end.line.items c.loop-end.rest.now c.loop-end.invariant.0
-    (state c.end_line.new.shell).beside c.in-Some.end.now c.in-Some.behind.now c.in-Some.ensures c.in-Err.ensures.served
+    (state c.end_line.new.shell).beside c.in-Some.end.now c.in-Some.behind.now c.in-Some.ensures _ c.in-Err.ensures.served

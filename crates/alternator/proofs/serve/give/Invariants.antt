@@ -1,5 +1,5 @@
 use Rattle.std.proofs.Common.{◌≡◌, length}
-use Rattle.alt_dispatch.specs.Stands.{state_of}
+use Rattle.alt_tables.specs.Stands.{state_of}
 use Rattle.alternator.specs.Runs.{Passes}
 use Rattle.alternator.proofs.Giving.{Gives}
 use Rattle.alternator.proofs.serve.give.Given as goal

@@ -13,7 +13,7 @@ returns-in-Ok-say-clause-served g c =
     (subst (λ (d : DiskState). Grows old d.beside []) same c.now-moment.ensures.log)
     (subst (λ (d : DiskState). StillGrows (moments_of old) (moments_of d.beside) (c.now-moment.result ∷ [])) same c.now-moment.ensures.told)
     c.in-Ok-say.ensures.said c.in-Ok-say.ensures.moments
-    (c.as_bytes.ensures.value ∙ c.in-Ok.ensures.text) c.in-Ok.ensures.state
+    (c.as_bytes.ensures.value ∙ c.in-Ok.ensures.text) c.in-Ok.ensures.state c.in-Ok.ensures.enough
 
 pub returns-clause-served : goal.returns-clause-served
 returns-clause-served g c =
@@ -23,5 +23,5 @@ returns-clause-served g c =
     broken_one old (state c.reply_text.new.disk).beside _ _ _ _ c.now-moment.result c.as_bytes.result.now
     (subst (λ (d : DiskState). Grows old d.beside []) same c.now-moment.ensures.log)
     (subst (λ (d : DiskState). StillGrows (moments_of old) (moments_of d.beside) (c.now-moment.result ∷ [])) same c.now-moment.ensures.told)
-    c.in-Err.ensures.said c.in-Err.ensures.moments
+    c.in-Err-say.ensures.said c.in-Err-say.ensures.moments
     (c.as_bytes.ensures.value ∙ c.in-Ok.ensures.text)

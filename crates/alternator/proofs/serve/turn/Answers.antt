@@ -16,4 +16,4 @@ returns-in-Err-clause-turned g c =
     let bytes = take c.in-Ok.count c.take.new.buf in
     let some : 0 < length bytes = omega (arith, length-take c.in-Ok.count c.take.new.buf, c.in-Ok.ensures.count) in
     turn_broken (state c.args.shell.now).beside (state c.take.new.self).beside (state c.give.new.shell).beside _ c.args.line.now.items bytes (state c.take.new.self).moment some
-    c.in-Ok.ensures.taken c.in-Ok.ensures.moments c.in-Err.ensures.served
+    c.in-Ok.ensures.taken c.in-Ok.ensures.moments _ c.in-Err.ensures.served

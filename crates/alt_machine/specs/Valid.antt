@@ -1,0 +1,105 @@
+-- What holds of every state that the machine comes to from the empty store.
+use Rattle.std.specs.Prelude.{◌≡◌, ◌≤◌, ◌<◌, ◌&&◌, ◌||◌, ℕ, Bool, true, false, not, nat_lt, nat_le, T, List, length, Option, Some, None}
+use Rattle.std.specs.List.{list_all, list_any}
+use Rattle.std.specs.Str.{bytes_eq}
+use Rattle.std.specs.FinMap as map
+use Rattle.alt_codec.specs.ReadBack.{fields_full}
+use Rattle.alt_schema.specs.Described.{IsNew}
+use Rattle.alt_schema.specs.Indexes.{indexes, is_key, keys_fit, of_range}
+use Rattle.alt_schema.specs.Rules.{is_name, most_included}
+use Rattle.alt_schema.specs.declared.schema.IndexSchema.{IndexSchema}
+use Rattle.alt_schema.specs.declared.schema.KeyAttr.{KeyAttr}
+use Rattle.alt_schema.specs.declared.schema.Projection.{Projection}
+use Rattle.alt_schema.specs.declared.schema.Projection.TheVariants.{All, KeysOnly, Include}
+use Rattle.alt_schema.specs.declared.schema.TableSchema.{TableSchema}
+use Rattle.alt_value.specs.Item.{IsItem}
+use Rattle.alt_value.specs.Size.{item_size, fields_depth}
+use Rattle.alt_value.specs.Tree.{Pair, fields_of}
+use Rattle.alt_machine.specs.Keys.{has_key, key_fits, place_of}
+use Rattle.alt_machine.specs.Ops.CreateTable.{family_after, most_tables}
+use Rattle.alt_machine.specs.Ops.PutItem.{largest_item}
+use Rattle.alt_machine.specs.Spent.{last_family, last_number}
+use Rattle.alt_machine.specs.State.{State, Table}
+
+-- ---- items
+
+-- the most lists and maps around a value of an item (Developer Guide, "Service, account, and table quotas")
+abbrev pub deepest : ℕ
+deepest = 32
+
+-- An item of a table stands at the place of its key. It has the key, its keys fit in the table and in the indexes, it isn't too
+-- large, no value in it is too deep, no set in it is empty, and its names rise, none of them empty.
+pub record IsStored (d : TableSchema) (place : List ℕ) (item : List Pair) : Type 0 where
+  pub stands : place ≡ place_of d item
+  pub has : has_key d item ≡ true
+  pub fits : key_fits d item ≡ true
+  pub index_keys : keys_fit d item ≡ true
+  pub size : item_size item ≤ largest_item
+  pub depth : fields_depth (fields_of item) ≤ deepest
+  pub full : T (fields_full (fields_of item))
+  pub names : IsItem item
+
+-- ---- descriptions
+
+-- HASH, and perhaps RANGE, of two different names, none of them empty
+abbrev pub is_pair : KeyAttr → Option KeyAttr → Bool
+is_pair hash range = nat_lt 0 (length hash.name) && of_range (λ r. nat_lt 0 (length r.name) && not (bytes_eq hash.name r.name)) true range
+
+-- both are there, of two different names
+abbrev pub are_two : Option KeyAttr → Option KeyAttr → Bool
+are_two None j = false
+are_two (Some r) None = false
+are_two (Some r) (Some j) = not (bytes_eq j.name r.name)
+
+-- a local index has the HASH key of its table and another RANGE key
+abbrev pub is_local : KeyAttr → Option KeyAttr → IndexSchema → Bool
+is_local hash range i = bytes_eq i.hash.name hash.name && are_two range i.range
+
+-- a projection that names attributes names 1 to 20, and each name has bytes
+abbrev pub names_few : Projection → Bool
+names_few All = true
+names_few KeysOnly = true
+names_few (Include names) = nat_lt 0 (length names) && (nat_le (length names) most_included && list_all (λ n. nat_lt 0 (length n)) names)
+
+-- a name is that of a key attribute of the table or of an index
+abbrev pub is_used : TableSchema → List ℕ → Bool
+is_used d name = is_key d.hash d.range name || list_any (λ i. is_key i.hash i.range name) (indexes d)
+
+-- A description as CreateTable makes it: the table and its indexes have names; keys, local indexes and projections are as they
+-- have to be; at most 5 local and 20 global indexes of different names; exactly the key attributes are defined, and none twice;
+-- and the families in a row from the table's.
+pub record IsMade (d : TableSchema) : Type 0 where
+  pub spelled : is_name d.name ≡ true
+  pub indexes_spelled : list_all (λ i. is_name i.name) (indexes d) ≡ true
+  pub keys : is_pair d.hash d.range ≡ true
+  pub index_keys : list_all (λ i. is_pair i.hash i.range) (indexes d) ≡ true
+  pub used : list_all (λ a. is_used d a.name) d.definitions ≡ true
+  pub locals : list_all (is_local d.hash d.range) d.locals ≡ true
+  pub projections : list_all (λ i. names_few i.projection) (indexes d) ≡ true
+  pub new : IsNew d
+
+-- ---- tables
+
+-- A table stands under its own name. Its number was taken before, and so were its families.
+pub record IsTable (s : State) (name : List ℕ) (t : Table) : Type 0 where
+  pub named : t.description.name ≡ name
+  pub made : IsMade t.description
+  pub number : (1 ≤ t.description.number) × (t.description.number < s.next_number)
+  pub families : (1 ≤ t.description.family) × (family_after t.description ≤ s.next_family)
+  pub items : (place : List ℕ) (item : List Pair) → map.get t.items place ≡ Some item → IsStored t.description place item
+
+-- a family is the table's, or of one of its indexes or its stream
+abbrev pub HasFamily : TableSchema → ℕ → Type 0
+HasFamily d family = (d.family ≤ family) × (family < family_after d)
+
+-- There are at most 256 tables, each of them as it is to be; a number is of one table alone, and so is a family; and the next
+-- number and the next family are in their ranges.
+pub record IsValid (s : State) : Type 0 where
+  pub few : map.len s.tables ≤ most_tables
+  pub tables : (name : List ℕ) (t : Table) → map.get s.tables name ≡ Some t → IsTable s name t
+  pub numbers : (name other : List ℕ) (t u : Table) → map.get s.tables name ≡ Some t → map.get s.tables other ≡ Some u
+      → t.description.number ≡ u.description.number → name ≡ other
+  pub families : (name other : List ℕ) (t u : Table) (family : ℕ) → map.get s.tables name ≡ Some t → map.get s.tables other ≡ Some u
+      → HasFamily t.description family → HasFamily u.description family → name ≡ other
+  pub next_number : (1 ≤ s.next_number) × (s.next_number ≤ last_number)
+  pub next_family : (1 ≤ s.next_family) × (s.next_family ≤ last_family)

@@ -1,0 +1,12 @@
+-- The names so far and those after the last of them are the names after the start.
+use Rattle.std.proofs.Common.{◌≡◌, ◌++◌, length}
+use denote.Text.{Utf8}
+use denote.Shadow.{shadow}
+use Rattle.alt_machine.specs.Ops.ListTables.{names_after}
+use Rattle.alt_tables.specs.Stands.{state_of}
+use Rattle.alt_ops_table.proofs.list.page_after.Given as goal
+
+abbrev pub invariant-loop : goal.invariant-loop
+invariant-loop l = shadow (Utf8 l.last)
+    × (length l.names.items ≡ l.counter)
+    × (l.names.items ++ names_after l.last (state_of l.tables).tables ≡ names_after l.start (state_of l.tables).tables)

@@ -1,0 +1,45 @@
+//! Why a request had no answer at all.
+
+ghost use Rattle.std.specs.Prelude.{◌≡◌};
+
+use alt_base::NoMemory;
+use std::alloc::{AllocError, AllocFailed};
+
+/// What ends a run in the middle of a request.
+#[derive(Clone, Copy, Debug, PartialEq, Eq, Drop)]
+pub enum TableFault {
+    /// A write would need a number, or a new table a family, that is never given out: this number, or this family.
+    Spent { number: u64 },
+    /// Memory was refused.
+    NoMemory,
+}
+
+impl From<NoMemory> for TableFault {
+    ghost use Rattle.alt_tables.specs.declared.faults.TableFault.TheVariants as fault;
+
+    ghost from_gives = { λ _ f. f ≡ fault.NoMemory };
+
+    fn from(_: NoMemory) -> Self {
+        TableFault::NoMemory
+    }
+}
+
+impl From<AllocError> for TableFault {
+    ghost use Rattle.alt_tables.specs.declared.faults.TableFault.TheVariants as fault;
+
+    ghost from_gives = { λ _ f. f ≡ fault.NoMemory };
+
+    fn from(_: AllocError) -> Self {
+        TableFault::NoMemory
+    }
+}
+
+impl<T: Drop> From<AllocFailed<T>> for TableFault {
+    ghost use Rattle.alt_tables.specs.declared.faults.TableFault.TheVariants as fault;
+
+    ghost from_gives = { λ _ f. f ≡ fault.NoMemory };
+
+    fn from(_: AllocFailed<T>) -> Self {
+        TableFault::NoMemory
+    }
+}

@@ -81,3 +81,7 @@ module _ (tables : Texts Table) where
       by : (o : Option Table) → option_map (λ t. t.description) o ≡ None → o ≡ None
       by None e = refl
       by (Some t) e = absurd (let f : ⊥ = cc in f)
+
+-- the entries of the descriptions are those of the tables
+pub entries-descriptions : (tables : Texts Table) → entries (descriptions tables) ≡ map (λ e. (e.0, e.1.description)) (entries tables)
+entries-descriptions tables = entries-from_sorted text_order (each (λ (t : Table). t.description) (entries tables)) (sorted tables)

@@ -9,7 +9,8 @@ use Rattle.alt_machine.specs.Ops.PutItem.{rules, of_item, puts, put_item}
 use Rattle.alt_machine.specs.Outcomes.{writes, refuses}
 use Rattle.alt_machine.specs.Refusals.{first_answer}
 use Rattle.alt_machine.specs.Replies.{done}
-use Rattle.alt_machine.specs.State.{State, Table}
+use Rattle.std.specs.FinMap as map
+use Rattle.alt_machine.specs.State.{State, Table, Texts}
 use Rattle.alt_machine.specs.Targets.{on_item, IsPlaced}
 use Rattle.alt_machine.specs.Valid.{IsStored}
 use Rattle.alt_machine.specs.Writes.{item_writes}
@@ -39,3 +40,12 @@ module _ (s : State) (moment : ℕ) (ms : Members) (item : List Pair) (t : Table
 pub may_be_put : (tests : List (Option Answer)) (ms : Members) (d : TableSchema) (item : List Pair) (place : List ℕ) → IsPlaced tests Item ms d item place
     → first_answer (of_item d item) ≡ None → IsStored d place item
 may_be_put tests ms d item place placed free = may_stand d place item (is_read (codes "Item") ms item placed.read) placed.at placed.fits free
+
+-- the description that the catalog has, before a call that keeps it and after
+pub same_description : (old new : Texts TableSchema) (name : List ℕ) (d e : TableSchema) → new ≡ old → map.get old name ≡ Some d → map.get new name ≡ Some e → d ≡ e
+same_description old new name d e same at there = let both : Some d ≡ Some e = sym at ∙ ap (λ m. map.get m name) (sym same) ∙ there in cc
+
+-- the same writes, by equal names and places
+pub same_writes : (s : State) (moment : ℕ) (t : Table) (name other place at : List ℕ) (item : Option (List Pair)) → name ≡ other → place ≡ at
+    → item_writes s moment name t place item ≡ item_writes s moment other t at item
+same_writes s moment t name other place at item e f = λ i. item_writes s moment (e i) t (f i) item

@@ -13,7 +13,7 @@ ghost use Rattle.alt_tables.specs.Stands.{Stands};
 use alt_codec::json_of_item;
 use alt_disk::Disk;
 use alt_machine::Sought;
-use alt_request::{Rules, Stop, done, item_target, one_member, table_name};
+use alt_request::{Rules, Stop, Target, done, item_target, one_member, table_name};
 use alt_shape::{Reply, bodies};
 use alt_tables::{TableFault, Tables};
 use alt_value::Item;
@@ -41,7 +41,11 @@ pub fn get_item<D: Disk>(
     let _ = moment;
     let broken = bodies::get_item(body);
     let target = item_target(alloc, tables, body, broken, &RULES, Sought::Key)?;
-    let found = tables.find(disk, table_name(body), target.place)?;
+    let Target {
+        item: _key, place, ..
+    } = target;
+    let name = table_name(body);
+    let found = tables.find(disk, name, place)?;
     item_reply(alloc, &found.item)
 }
 

@@ -9,7 +9,7 @@ ghost use Rattle.alt_tables.specs.Stands.{Stands};
 
 use alt_disk::Disk;
 use alt_machine::{LARGEST_ITEM, Sought};
-use alt_request::{Rules, Stop, done, item_target, table_name};
+use alt_request::{Rules, Stop, Target, done, item_target, table_name};
 use alt_schema::{TableSchema, index_keys_fit};
 use alt_shape::{Refusal, Reply, bodies};
 use alt_tables::Tables;
@@ -45,9 +45,10 @@ pub fn put_item<D: Disk>(
     let broken = bodies::put_item(body);
     let target = item_target(alloc, tables, body, broken, &RULES, Sought::Item)?;
     item_refusal(target.schema, &target.item)?;
+    let Target { item, place, .. } = target;
     let name = table_name(body);
-    let found = tables.find(disk, name, target.place)?;
-    tables.write(disk, name, found, Some(target.item), moment)?;
+    let found = tables.find(disk, name, place)?;
+    tables.write(disk, name, found, Some(item), moment)?;
     Ok(done(alloc))
 }
 

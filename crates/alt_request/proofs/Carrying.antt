@@ -56,8 +56,8 @@ module _ (outcome : State → Outcome) (old now : State → Type 0) where
 
   -- a request that its body's tests refuse
   pub untested : (tests : List (Option Answer)) (stop : Stop) → Tested {X = Unit {0}} tests (Err stop)
-      → ((s : State) (r : Refusal) → first_answer tests ≡ Some (refused r) → outcome s ≡ refuses r) → ((s : State) → old s → now s) → Carries outcome old now (Err stop)
-  untested tests (Refused r) h is stays = refused_so r h.1 (λ s stands. is s r h.0) stays
+      → ((s : State) → old s → (r : Refusal) → first_answer tests ≡ Some (refused r) → outcome s ≡ refuses r) → ((s : State) → old s → now s) → Carries outcome old now (Err stop)
+  untested tests (Refused r) h is stays = refused_so r h.1 (λ s stands. is s stands r h.0) stays
   untested tests (Fault f) h is stays = faulted f h stays
 
   pub faulted_as : (stop : Stop) → IsMemory stop → ((s : State) → old s → now s) → Carries outcome old now (Err stop)

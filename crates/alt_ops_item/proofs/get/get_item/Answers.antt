@@ -26,7 +26,9 @@ returns-in_err-target-clause-carried g c =
     c.from_residual.result c.in_err-target.field-0.0 c.from_residual.ensures c.in_err-target.ensures.target (λ s stands. stands)
 
 pub find-requires : goal.find-requires
-find-requires g c = ap (λ n. is_some (map.get (catalog_of c.args.tables.now) n)) c.table_name.ensures.name ∙ ap is_some c.in_ok-target.ensures.target.there
+find-requires g c = record {
+  there = ap (λ n. is_some (map.get (catalog_of c.args.tables.now) n)) c.table_name-name.ensures.name ∙ ap is_some c.in_ok-target.ensures.target.there;
+}
 
 pub returns-in_err-found-clause-carried : goal.returns-in_err-found-clause-carried
 returns-in_err-found-clause-carried g c =
@@ -34,7 +36,7 @@ returns-in_err-found-clause-carried g c =
     subst (Carries (λ s. get_item s ms) (Stands (g.D.Disk.state c.args.disk.now) c.args.tables.now) (Stands (g.D.Disk.state c.find.new.disk) c.find.new.self))
     (sym (err_is c.from_residual-in_err-found.result (Fault c.in_err-found.field-0.0) c.from_residual-in_err-found.ensures))
     (faulted (λ s. get_item s ms) (Stands (g.D.Disk.state c.args.disk.now) c.args.tables.now) (Stands (g.D.Disk.state c.find.new.disk) c.find.new.self)
-    c.in_err-found.field-0.0 c.in_err-found.ensures.cause c.in_err-found.ensures.stays)
+    c.in_err-found.field-0.0 c.in_err-found.ensures.cause (λ s stands. (c.in_err-found.ensures.stays s).0 stands))
 
 pub returns-clause-carried : goal.returns-clause-carried
 returns-clause-carried g c =
@@ -45,4 +47,4 @@ returns-clause-carried g c =
     (get_is ms c.get_item-broken.result c.get_item-broken.ensures) c.in_ok-target.target c.in_ok-target.ensures.target s stands in
     at.3 ∙ ap (λ o. says (item_answer o)) (
     ap (map.get at.0.items) (sym c.in_ok-found.ensures.place)
-    ∙ sym (c.in_ok-found.ensures.item s stands at.0 (ap (map.get s.tables) c.table_name.ensures.name ∙ at.1)))) c.in_ok-found.ensures.stays
+    ∙ sym (c.in_ok-found.ensures.item s stands at.0 (ap (map.get s.tables) c.table_name-name.ensures.name ∙ at.1)))) (λ s stands. (c.in_ok-found.ensures.stays s).0 stands)

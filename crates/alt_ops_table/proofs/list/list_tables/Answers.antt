@@ -17,7 +17,7 @@ returns-in_err-unfit-clause-carried g c =
     subst (Carries (λ s. list_tables s ms) (Stands (g.D.Disk.state c.args.disk.now) c.args.tables.now) (Stands (g.D.Disk.state c.args.disk.now) c.args.tables.now))
     (sym (err_is c.from_residual.result c.in_err-unfit.field-0.0 c.from_residual.ensures))
     (untested (λ s. list_tables s ms) (Stands (g.D.Disk.state c.args.disk.now) c.args.tables.now) (Stands (g.D.Disk.state c.args.disk.now) c.args.tables.now)
-    (of_body ms) c.in_err-unfit.field-0.0 c.in_err-unfit.ensures.tested (λ s r e. list-refused s ms r e) (λ s stands. stands))
+    (of_body ms) c.in_err-unfit.field-0.0 c.in_err-unfit.ensures.tested (λ s stands r e. list-refused s ms r e) (λ s stands. stands))
 
 pub returns-in-Ok-clause-carried : goal.returns-in-Ok-clause-carried
 returns-in-Ok-clause-carried g c =

@@ -1,7 +1,9 @@
 pub mod BatchLaws
 pub mod CellLaws
+pub mod ChangeLaws
 pub mod Entries
 pub mod FormatLaws
 pub mod Front
+pub mod GivenLaws
 pub mod RowLaws
 pub mod ShownLaws

@@ -15,10 +15,10 @@ use Rattle.alt_cells.specs.Cells.{cell_cmp, value_cmp, greater}
 use Rattle.alt_cells.specs.Joined.{either}
 use Rattle.alt_cells.specs.Rows.{join_row}
 use Rattle.alt_cells.specs.Shown.{value_shown, shown_at, columns_shown, row_shown}
-use Rattle.alt_cells.specs.Changes.{Columns, row_of_change, given_to, with_columns, as_shown, columns_of, written, IsBelow, change_between, CanShow}
+use Rattle.alt_cells.specs.Changes.{Columns, cell_at, row_of_change, given_to, with_columns, as_shown, columns_of, written, IsBelow, change_between, CanShow}
 use Rattle.alt_cells.proofs.Entries.{either_none}
 use Rattle.alt_cells.proofs.CellLaws.{key_total, key_exact}
-use Rattle.alt_cells.proofs.GivenLaws.{cell_at, get-cells_given, get-with_columns, columns_between, columns_made}
+use Rattle.alt_cells.proofs.GivenLaws.{get-cells_given, get-with_columns, columns_between, columns_made}
 use Rattle.alt_cells.proofs.RowLaws.{get-joined_map}
 use Rattle.alt_cells.proofs.ShownLaws.{is_sorted-entries_shown, find-shown_at}
 

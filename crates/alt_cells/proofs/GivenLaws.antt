@@ -9,19 +9,15 @@ use Rattle.std.specs.declared.cmp.Ordering.{Ordering}
 use Rattle.std.specs.declared.cmp.Ordering.TheVariants.{Less, Equal, Greater}
 use Rattle.std.specs.Ordering.{eq_by_cmp, ordering_then}
 use Rattle.std.specs.FinMap.{get, get-from_sorted, get-insert, get-remove, get-empty, get-entries, entries, entries_sorted, empty, same_map}
-use Rattle.std.specs.FinMap.Entries.{find, find-where_key, is_sorted, is_sorted-where_key, where_key, by_order}
+use Rattle.std.specs.FinMap.Entries.{find, find-where_key, is_sorted, is_sorted-where_key, where_key, by_order, below_all}
 use Rattle.alt_cells.specs.declared.cell.Cell.{Cell}
 use Rattle.alt_cells.specs.Keys.{key_cmp}
 use Rattle.alt_cells.specs.Cells.{cell_cmp, value_cmp, greater}
 use Rattle.alt_cells.specs.Joined.{either}
-use Rattle.alt_cells.specs.Changes.{Columns, Given, one_cell, cells_given, tied, given_to, with_column, with_columns, differs, is_changed, with_value, without_value, changed_cells, gone_cells}
-use Rattle.alt_cells.proofs.Entries.{equal, first, second, below_tied, find_below}
+use Rattle.alt_cells.specs.Changes.{Columns, Given, cell_at, one_cell, cells_given, tied, given_to, with_column, with_columns, differs, is_changed, with_value, without_value, changed_cells, gone_cells}
+use Rattle.alt_cells.proofs.Entries.{equal, both, first, second, below_tied, find_below}
 use Rattle.alt_cells.proofs.CellLaws.{key_total, key_exact}
 use Rattle.alt_cells.proofs.RowLaws.{get-joined_map}
-
--- the cell of a write
-abbrev pub cell_at : ℕ → Option (List ℕ) → Cell
-cell_at number v = record { at = number; value = v }
 
 -- names that tie are equal
 same_name : (q name : List ℕ) → eq_by_cmp key_cmp q name ≡ true → q ≡ name
@@ -81,21 +77,47 @@ get-with_columns (e ∷ es) m q =
     at_name false t behind = behind
 
 -- of names that rise each stands once
-given_to-map : (g : List ℕ → Option (List ℕ)) (q : List ℕ) (es : List (List ℕ × List ℕ))
-    → T (is_sorted key_cmp es) → given_to q (map (λ e. (e.0, g e.1)) es) ≡ option_map g (find key_cmp q es)
-given_to-map g q [] h = refl
-given_to-map g q (e ∷ es) h =
-    at_name (eq_by_cmp key_cmp q e.0) refl (given_to-map g q es (second _ _ h))
+pub given_to-rising : (q : List ℕ) (es : Given) → T (is_sorted key_cmp es) → given_to q es ≡ find key_cmp q es
+given_to-rising q [] h = refl
+given_to-rising q (e ∷ es) h =
+    at_name (eq_by_cmp key_cmp q e.0) refl (given_to-rising q es (second _ _ h))
   where
-    at_name : (b : Bool) → eq_by_cmp key_cmp q e.0 ≡ b
-        → given_to q (map (λ e. (e.0, g e.1)) es) ≡ option_map g (find key_cmp q es)
-        → cond b (Some (tied (g e.1) (given_to q (map (λ e. (e.0, g e.1)) es)))) (given_to q (map (λ e. (e.0, g e.1)) es))
-        ≡ option_map g (cond b (Some e.1) (find key_cmp q es))
+    at_name : (b : Bool) → eq_by_cmp key_cmp q e.0 ≡ b → given_to q es ≡ find key_cmp q es
+        → cond b (Some (tied e.1 (given_to q es))) (given_to q es) ≡ cond b (Some e.1) (find key_cmp q es)
     at_name true t behind =
         let ties = equal (key_cmp q e.0) (subst T (sym t) tt) in
         let none = find_below key_cmp key_total q es (below_tied key_cmp key_total q e.0 es ties (first _ _ h)) in
-        ap (λ o. Some (tied (g e.1) o)) (behind ∙ ap (option_map g) none)
+        ap (λ o. Some (tied e.1 o)) (behind ∙ none)
     at_name false t behind = behind
+
+-- a name below all names is below them with other values
+below-map : {A B : Type 0} (g : A → B) (name : List ℕ) (es : List (List ℕ × A))
+    → T (below_all key_cmp name es) → T (below_all key_cmp name (map (λ e. (e.0, g e.1)) es))
+below-map g name [] h = tt
+below-map g name (e ∷ es) h = both _ _ (first _ _ h) (below-map g name es (second _ _ h))
+
+-- names that rise do so with other values
+pub sorted-map : {A B : Type 0} (g : A → B) (es : List (List ℕ × A))
+    → T (is_sorted key_cmp es) → T (is_sorted key_cmp (map (λ e. (e.0, g e.1)) es))
+sorted-map g [] h = tt
+sorted-map g (e ∷ es) h = both _ _ (below-map g e.0 es (first _ _ h)) (sorted-map g es (second _ _ h))
+
+-- the value of a name, where each value is changed alike
+pub find-map : {A B : Type 0} (g : A → B) (q : List ℕ) (es : List (List ℕ × A))
+    → find key_cmp q (map (λ e. (e.0, g e.1)) es) ≡ option_map g (find key_cmp q es)
+find-map g q [] = refl
+find-map g q (e ∷ es) = at_name (eq_by_cmp key_cmp q e.0) (find-map g q es)
+  where
+    at_name : (b : Bool) → find key_cmp q (map (λ e. (e.0, g e.1)) es) ≡ option_map g (find key_cmp q es)
+        → cond b (Some (g e.1)) (find key_cmp q (map (λ e. (e.0, g e.1)) es))
+        ≡ option_map g (cond b (Some e.1) (find key_cmp q es))
+    at_name true behind = refl
+    at_name false behind = behind
+
+-- so of rising names each is given its own
+given_to-map : (g : List ℕ → Option (List ℕ)) (q : List ℕ) (es : List (List ℕ × List ℕ))
+    → T (is_sorted key_cmp es) → given_to q (map (λ e. (e.0, g e.1)) es) ≡ option_map g (find key_cmp q es)
+given_to-map g q es h = given_to-rising q (map (λ e. (e.0, g e.1)) es) (sorted-map g es h) ∙ find-map g q es
 
 -- the same of those that pass a test
 given_by_key : (p : List ℕ → Bool) (g : List ℕ → Option (List ℕ)) (m : Columns) (q : List ℕ)

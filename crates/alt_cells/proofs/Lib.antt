@@ -5,5 +5,12 @@ pub mod Entries
 pub mod FormatLaws
 pub mod Front
 pub mod GivenLaws
+pub mod Kept
+pub mod OfChange
+pub mod OneRow
+pub mod Pieces
+pub mod Rising
 pub mod RowLaws
+pub mod Searched
 pub mod ShownLaws
+pub mod Stopped

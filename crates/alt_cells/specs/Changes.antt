@@ -1,5 +1,5 @@
 -- What a row change is in cells, what a row shows after it, and the change that turns one row into another.
-use Rattle.std.specs.Prelude.{◌≡◌, ◌<◌, ◌==◌, ◌++◌, ℕ, List, [], ◌∷◌, Bool, true, false, not, map, if◌then◌else◌, Option, Some, None, is_none}
+use Rattle.std.specs.Prelude.{◌≡◌, ◌<◌, ◌+◌, ◌==◌, ◌++◌, ℕ, List, [], ◌∷◌, Bool, true, false, not, map, if◌then◌else◌, Option, Some, None, is_none}
 use Rattle.std.specs.Option.{option_map_or}
 use Rattle.std.specs.Ordering.{eq_by_cmp}
 use Rattle.std.specs.Str.{bytes_eq}
@@ -11,6 +11,8 @@ use Rattle.alt_cells.specs.declared.row.RowCells.{RowCells}
 use Rattle.alt_cells.specs.Keys.{key_cmp}
 use Rattle.alt_cells.specs.Cells.{cell_cmp, value_cmp, greater}
 use Rattle.alt_cells.specs.Joined.{joined_map}
+use Rattle.alt_cells.specs.Rows.{join_row}
+use Rattle.alt_cells.specs.Shown.{row_shown}
 
 -- columns with their values
 abbrev pub Columns : Type 0
@@ -22,9 +24,13 @@ Given = List (List ℕ × Option (List ℕ))
 
 -- ---- in cells
 
--- a row with the one cell that a write makes of a name and what it gives it
+-- the cell of a write that gives a value, or none
+abbrev pub cell_at : ℕ → Option (List ℕ) → Cell
+cell_at number v = record { at = number; value = v }
+
+-- the one cell that a write makes of a name and what it gives it
 abbrev pub one_cell : ℕ → List ℕ × Option (List ℕ) → FinMap key_cmp Cell
-one_cell number e = from_sorted ((e.0, record { at = number; value = e.1 }) ∷ [])
+one_cell number e = from_sorted ((e.0, cell_at number e.1) ∷ [])
 
 -- the cells that a write gives, joined: of several of one name the winner stays
 abbrev pub cells_given : ℕ → Given → FinMap key_cmp Cell
@@ -125,3 +131,20 @@ change_between family key old new = record { family = family; key = key; clear =
 -- it can be shown: a row has a column
 abbrev pub CanShow : Option Columns → Type 0
 CanShow o = as_shown (columns_of o) ≡ o
+
+-- ---- laws
+
+-- after a change of a later write a row shows what the change makes of what it showed
+abbrev pub ShowsChanges : Type 0
+ShowsChanges = (number : ℕ) (row : RowCells) (c : RowChange) → IsBelow number row
+    → row_shown (join_row row (row_of_change number c)) ≡ written c (row_shown row)
+
+-- a row below a number is below the next one after a change of that number
+abbrev pub StaysBelow : Type 0
+StaysBelow = (number : ℕ) (row : RowCells) (c : RowChange) → IsBelow number row
+    → IsBelow (number + 1) (join_row row (row_of_change number c))
+
+-- the change between two rows turns what is shown of the one into the other
+abbrev pub TurnsRows : Type 0
+TurnsRows = (family : ℕ) (key : List ℕ) (old new : Option Columns) → CanShow new
+    → written (change_between family key old new) old ≡ new

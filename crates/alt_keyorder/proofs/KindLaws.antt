@@ -1,5 +1,5 @@
 -- Values by their kind, and their key parts.
-use Rattle.std.proofs.Common.{◌≡◌, refl, sym, ap, ◌∙◌, ℕ, List, [], ◌∷◌, ◌++◌, append_assoc, Option, Some, None}
+use Rattle.std.proofs.Common.{◌≡◌, refl, sym, ap, ◌∙◌, ℕ, List, [], ◌∷◌, ◌++◌, append_assoc, length, Option, Some, None}
 use Rattle.std.specs.Prelude.{ℤ}
 use Rattle.std.specs.List.{AllByRecursion, flat_map}
 use Rattle.std.specs.Ordering.{int_cmp, ordering_then}
@@ -14,7 +14,7 @@ use Rattle.alt_value.specs.declared.kind.KeyKind.TheVariants.{S, N, B}
 use Rattle.alt_value.specs.Members.{text_order}
 use Rattle.alt_value.specs.Order.{tree_order}
 use Rattle.alt_value.specs.Tree.{Tree, S_tree, N_tree, B_tree}
-use Rattle.alt_keyorder.specs.KeyBytes.{closed, key_bytes, IsPartOrder}
+use Rattle.alt_keyorder.specs.KeyBytes.{closed, key_bytes, IsKeyOf, IsPart, IsPartOrder}
 use Rattle.alt_keyorder.specs.Kinds.{IsOfKind, AreOfKinds}
 use Rattle.alt_keyorder.specs.Laws.{OnePart, PartsLie}
 use Rattle.alt_keyorder.specs.Place.{then_order, parts_order, IsKeyValue}
@@ -127,3 +127,19 @@ one_parts (c ∷ cs) (t ∷ ts) (u ∷ us) x y h k e =
     ∙ append_assoc (key_bytes u) (flat_map key_bytes us) y) in
     let others = one_parts cs ts us x y h.1 k.1 first.1 in
     ((λ i. first.0 i ∷ others.0 i), others.1)
+
+-- ---- what was taken
+
+-- a key attribute's value of a kind is of that kind
+key_of_kind : (kind : KeyKind) (t : Tree) → IsKeyOf kind t → IsOfKind kind t
+key_of_kind S (S_tree s) h = tt
+key_of_kind N (N_tree z) h = h
+key_of_kind B (B_tree b) h = tt
+key_of_kind kind t h = absurd h
+
+-- the value that was taken is the one whose part stands there
+pub taken_is : (kind : KeyKind) (bytes : List ℕ) (u : Tree) (len : ℕ) (t : Tree) (behind : List ℕ) → IsPart kind bytes u len
+    → IsKeyOf kind t → bytes ≡ key_bytes t ++ behind → (u ≡ t) × (len ≡ length (key_bytes t))
+taken_is kind bytes u len t behind part key e =
+    let same = one_part kind u t part.behind behind (key_of_kind kind u part.key) (key_of_kind kind t key) (sym part.is ∙ e) in
+    (same.0, part.count ∙ ap (λ v. length (key_bytes v)) same.0)

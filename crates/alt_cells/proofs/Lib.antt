@@ -8,7 +8,6 @@ pub mod GivenLaws
 pub mod Kept
 pub mod OfChange
 pub mod OneRow
-pub mod Pieces
 pub mod Rising
 pub mod RowLaws
 pub mod Searched

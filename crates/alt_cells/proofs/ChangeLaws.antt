@@ -27,13 +27,15 @@ use Rattle.alt_cells.proofs.ShownLaws.{is_sorted-entries_shown, find-shown_at}
 -- a later cell wins
 later_wins : (old new : Cell) → old.at < new.at → greater cell_cmp old new ≡ new
 later_wins old new h =
-    ap (λ r. by_order (ordering_then r (value_cmp old.value new.value)) new old old) (earlier old.at new.at h)
+    ap (λ r. by_order (ordering_then r (value_cmp old.value new.value)) new old old)
+    (earlier old.at new.at h)
   where
     earlier : (m n : ℕ) → m < n → nat_cmp m n ≡ Less
     earlier m n h = grind (arith, nat_tests)
 
 -- with a row tombstone of the write, or none, a cell of the write is shown
-stays_shown : (gone : Option ℕ) (number : ℕ) (v : Option (List ℕ)) → ((g : ℕ) → gone ≡ Some g → g ≤ number)
+stays_shown : (gone : Option ℕ) (number : ℕ) (v : Option (List ℕ))
+    → ((g : ℕ) → gone ≡ Some g → g ≤ number)
     → value_shown gone (cell_at number v) ≡ v
 stays_shown None number v h = refl
 stays_shown (Some g) number v h = ap (λ b. if b then None else v) (not_later number g (h g refl))
@@ -68,25 +70,30 @@ shown_here gone number (Some c) v k h =
     ap (value_shown gone) (later_wins c (cell_at number v) (k c refl)) ∙ stays_shown gone number v h
 
 -- the value shown at a column after a change: that of the change, or else what was shown if the row isn't cleared
-shown_by : (clear : Bool) (gone : Option ℕ) (number : ℕ) (o : Option Cell) (v : Option (Option (List ℕ)))
+shown_by : (clear : Bool) (gone : Option ℕ) (number : ℕ) (o : Option Cell)
+    (v : Option (Option (List ℕ)))
     → ((g : ℕ) → gone ≡ Some g → g < number) → ((c : Cell) → o ≡ Some c → c.at < number)
     → option_and_then (value_shown (either max gone (if clear then Some number else None)))
     (either (greater cell_cmp) o (option_map (cell_at number) v))
     ≡ unwrap_or v (if clear then None else option_and_then (value_shown gone) o)
 shown_by true gone number o None h k =
-    (λ i. option_and_then (value_shown (latest gone number h i)) (either_none (greater cell_cmp) o i))
+    (λ i. option_and_then (value_shown (latest gone number h i))
+    (either_none (greater cell_cmp) o i))
     ∙ is_gone number o k
 shown_by false gone number o None h k =
-    (λ i. option_and_then (value_shown (either_none max gone i)) (either_none (greater cell_cmp) o i))
+    (λ i. option_and_then (value_shown (either_none max gone i))
+    (either_none (greater cell_cmp) o i))
 shown_by true gone number o (Some v) h k =
-    ap (λ g. option_and_then (value_shown g) (either (greater cell_cmp) o (Some (cell_at number v))))
+    ap (λ g. option_and_then (value_shown g)
+    (either (greater cell_cmp) o (Some (cell_at number v))))
     (latest gone number h)
     ∙ shown_here (Some number) number o v k (λ g e. same_number number g e)
   where
     same_number : (m g : ℕ) → Some m ≡ Some g → g ≤ m
     same_number m g e = let same : m ≡ g = ap (λ o. unwrap_or o 0) e in omega arith
 shown_by false gone number o (Some v) h k =
-    ap (λ g. option_and_then (value_shown g) (either (greater cell_cmp) o (Some (cell_at number v))))
+    ap (λ g. option_and_then (value_shown g)
+    (either (greater cell_cmp) o (Some (cell_at number v))))
     (either_none max gone)
     ∙ shown_here gone number o v k (λ g e. let l = h g e in omega arith)
 
@@ -96,7 +103,8 @@ shown_by false gone number o (Some v) h k =
 pub get-columns_shown : (row : RowCells) (q : List ℕ) → get (columns_shown row) q ≡ shown_at row q
 unfolding columns_shown
 get-columns_shown row q =
-    get-from_sorted key_cmp _ q (is_sorted-entries_shown row.gone (entries row.cells) (entries_sorted row.cells))
+    get-from_sorted key_cmp _ q
+    (is_sorted-entries_shown row.gone (entries row.cells) (entries_sorted row.cells))
     ∙ find-shown_at row q
 
 -- what is shown at a column after a change
@@ -107,7 +115,8 @@ shown_after number row c q below =
     ap (option_and_then (value_shown (either max row.gone (if c.clear then Some number else None))))
     (get-joined_map key_cmp key_total (greater cell_cmp) row.cells (row_of_change number c).cells q
     ∙ ap (either (greater cell_cmp) (get row.cells q)) (get-cells_given number c.cells q))
-    ∙ shown_by c.clear row.gone number (get row.cells q) (given_to q c.cells) below.gone (below.cells q)
+    ∙ shown_by c.clear row.gone number (get row.cells q) (given_to q c.cells) below.gone
+    (below.cells q)
 
 -- the columns of what is shown
 pub columns_of-as_shown : (m : Columns) → columns_of (as_shown m) ≡ m
@@ -130,17 +139,20 @@ CanShow-row_shown row =
 
 -- what was shown at a column, unless the row is cleared
 base : (clear : Bool) (row : RowCells) (q : List ℕ)
-    → (if clear then None else shown_at row q) ≡ get (if clear then empty else columns_of (row_shown row)) q
+    → (if clear then None else shown_at row q)
+    ≡ get (if clear then empty else columns_of (row_shown row)) q
 base true row q = sym (get-empty key_cmp q)
 base false row q =
     sym (get-columns_shown row q)
-    ∙ ap (λ m. get m q) (sym (ap columns_of (row_shown_as row) ∙ columns_of-as_shown (columns_shown row)))
+    ∙ ap (λ m. get m q)
+    (sym (ap columns_of (row_shown_as row) ∙ columns_of-as_shown (columns_shown row)))
 
 -- What a row shows after a change of a later write is what the change makes of what it showed.
 pub row_shown-written : (number : ℕ) (row : RowCells) (c : RowChange) → IsBelow number row
     → row_shown (join_row row (row_of_change number c)) ≡ written c (row_shown row)
 row_shown-written number row c below =
-    row_shown_as (join_row row (row_of_change number c)) ∙ ap as_shown (same_map key_total key_exact _ _ (λ q.
+    row_shown_as (join_row row (row_of_change number c))
+    ∙ ap as_shown (same_map key_total key_exact _ _ (λ q.
     get-columns_shown (join_row row (row_of_change number c)) q ∙ shown_after number row c q below
     ∙ ap (unwrap_or (given_to q c.cells)) (base c.clear row q)
     ∙ sym (get-with_columns c.cells (if c.clear then empty else columns_of (row_shown row)) q)))
@@ -162,7 +174,8 @@ IsBelow-join number row c below = record { gone = gone c.clear row.gone below.go
         omega arith
     gone false o h g e = let l = h g (sym (either_none max o) ∙ e) in omega arith
 
-    at_most : (o : Option Cell) (v : Option (Option (List ℕ))) → ((c : Cell) → o ≡ Some c → c.at < number) → (d : Cell)
+    at_most : (o : Option Cell) (v : Option (Option (List ℕ)))
+        → ((c : Cell) → o ≡ Some c → c.at < number) → (d : Cell)
         → either (greater cell_cmp) o (option_map (cell_at number) v) ≡ Some d → d.at < number + 1
     at_most o None h d e = let l = h d (sym (either_none (greater cell_cmp) o) ∙ e) in omega arith
     at_most None (Some v) h d e = let same : number ≡ d.at = ap time_of e in omega arith
@@ -171,10 +184,12 @@ IsBelow-join number row c below = record { gone = gone c.clear row.gone below.go
         let same : number ≡ d.at = ap time_of (wins ∙ e) in
         omega arith
 
-    cells : (q : List ℕ) (d : Cell) → get (join_row row (row_of_change number c)).cells q ≡ Some d → d.at < number + 1
+    cells : (q : List ℕ) (d : Cell) → get (join_row row (row_of_change number c)).cells q ≡ Some d
+        → d.at < number + 1
     cells q d e =
         at_most (get row.cells q) (given_to q c.cells) (below.cells q) d
-        (sym (get-joined_map key_cmp key_total (greater cell_cmp) row.cells (row_of_change number c).cells q
+        (sym (get-joined_map key_cmp key_total (greater cell_cmp) row.cells
+        (row_of_change number c).cells q
         ∙ ap (either (greater cell_cmp) (get row.cells q)) (get-cells_given number c.cells q)) ∙ e)
 
 -- ---- the change between two rows

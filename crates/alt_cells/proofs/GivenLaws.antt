@@ -25,14 +25,17 @@ same_name q name t = key_exact q name (equal (key_cmp q name) (subst T (sym t) t
 
 -- the winner of two cells of one write is of that write, and has the value that wins
 greater_tied : (number : ℕ) (v w : Option (List ℕ))
-    → greater cell_cmp (cell_at number v) (cell_at number w) ≡ cell_at number (greater value_cmp v w)
+    → greater cell_cmp (cell_at number v) (cell_at number w)
+    ≡ cell_at number (greater value_cmp v w)
 greater_tied number v w =
-    ap (λ r. by_order (ordering_then r (value_cmp v w)) (cell_at number w) (cell_at number v) (cell_at number v))
+    ap (λ r. by_order (ordering_then r (value_cmp v w)) (cell_at number w) (cell_at number v)
+    (cell_at number v))
     (tied_itself nat_cmp_total number)
     ∙ chosen (value_cmp v w)
   where
     chosen : (r : Ordering)
-        → by_order r (cell_at number w) (cell_at number v) (cell_at number v) ≡ cell_at number (by_order r w v v)
+        → by_order r (cell_at number w) (cell_at number v) (cell_at number v)
+        ≡ cell_at number (by_order r w v v)
     chosen Less = refl
     chosen Equal = refl
     chosen Greater = refl
@@ -42,13 +45,16 @@ pub get-cells_given : (number : ℕ) (cells : Given) (q : List ℕ)
     → get (cells_given number cells) q ≡ option_map (cell_at number) (given_to q cells)
 get-cells_given number [] q = get-empty key_cmp q
 get-cells_given number (e ∷ es) q =
-    get-joined_map key_cmp key_total (greater cell_cmp) (one_cell number e) (cells_given number es) q
+    get-joined_map key_cmp key_total (greater cell_cmp) (one_cell number e)
+    (cells_given number es) q
     ∙ (λ i. either (greater cell_cmp)
-    (get-from_sorted key_cmp ((e.0, cell_at number e.1) ∷ []) q tt i) (get-cells_given number es q i))
+    (get-from_sorted key_cmp ((e.0, cell_at number e.1) ∷ []) q tt i)
+    (get-cells_given number es q i))
     ∙ at_name (eq_by_cmp key_cmp q e.0) (given_to q es)
   where
     at_name : (b : Bool) (o : Option (Option (List ℕ)))
-        → either (greater cell_cmp) (cond b (Some (cell_at number e.1)) None) (option_map (cell_at number) o)
+        → either (greater cell_cmp) (cond b (Some (cell_at number e.1)) None)
+        (option_map (cell_at number) o)
         ≡ option_map (cell_at number) (cond b (Some (tied e.1 o)) o)
     at_name true None = refl
     at_name true (Some w) = ap (λ c. Some c) (greater_tied number e.1 w)
@@ -77,16 +83,20 @@ get-with_columns (e ∷ es) m q =
     at_name false t behind = behind
 
 -- of names that rise each stands once
-pub given_to-rising : (q : List ℕ) (es : Given) → T (is_sorted key_cmp es) → given_to q es ≡ find key_cmp q es
+pub given_to-rising : (q : List ℕ) (es : Given) → T (is_sorted key_cmp es)
+    → given_to q es ≡ find key_cmp q es
 given_to-rising q [] h = refl
 given_to-rising q (e ∷ es) h =
     at_name (eq_by_cmp key_cmp q e.0) refl (given_to-rising q es (second _ _ h))
   where
     at_name : (b : Bool) → eq_by_cmp key_cmp q e.0 ≡ b → given_to q es ≡ find key_cmp q es
-        → cond b (Some (tied e.1 (given_to q es))) (given_to q es) ≡ cond b (Some e.1) (find key_cmp q es)
+        → cond b (Some (tied e.1 (given_to q es))) (given_to q es)
+        ≡ cond b (Some e.1) (find key_cmp q es)
     at_name true t behind =
         let ties = equal (key_cmp q e.0) (subst T (sym t) tt) in
-        let none = find_below key_cmp key_total q es (below_tied key_cmp key_total q e.0 es ties (first _ _ h)) in
+        let none =
+        find_below key_cmp key_total q es
+        (below_tied key_cmp key_total q e.0 es ties (first _ _ h)) in
         ap (λ o. Some (tied e.1 o)) (behind ∙ none)
     at_name false t behind = behind
 
@@ -100,7 +110,8 @@ below-map g name (e ∷ es) h = both _ _ (first _ _ h) (below-map g name es (sec
 pub sorted-map : {A B : Type 0} (g : A → B) (es : List (List ℕ × A))
     → T (is_sorted key_cmp es) → T (is_sorted key_cmp (map (λ e. (e.0, g e.1)) es))
 sorted-map g [] h = tt
-sorted-map g (e ∷ es) h = both _ _ (below-map g e.0 es (first _ _ h)) (sorted-map g es (second _ _ h))
+sorted-map g (e ∷ es) h =
+    both _ _ (below-map g e.0 es (first _ _ h)) (sorted-map g es (second _ _ h))
 
 -- the value of a name, where each value is changed alike
 pub find-map : {A B : Type 0} (g : A → B) (q : List ℕ) (es : List (List ℕ × A))
@@ -108,7 +119,8 @@ pub find-map : {A B : Type 0} (g : A → B) (q : List ℕ) (es : List (List ℕ 
 find-map g q [] = refl
 find-map g q (e ∷ es) = at_name (eq_by_cmp key_cmp q e.0) (find-map g q es)
   where
-    at_name : (b : Bool) → find key_cmp q (map (λ e. (e.0, g e.1)) es) ≡ option_map g (find key_cmp q es)
+    at_name : (b : Bool)
+        → find key_cmp q (map (λ e. (e.0, g e.1)) es) ≡ option_map g (find key_cmp q es)
         → cond b (Some (g e.1)) (find key_cmp q (map (λ e. (e.0, g e.1)) es))
         ≡ option_map g (cond b (Some e.1) (find key_cmp q es))
     at_name true behind = refl
@@ -116,27 +128,32 @@ find-map g q (e ∷ es) = at_name (eq_by_cmp key_cmp q e.0) (find-map g q es)
 
 -- so of rising names each is given its own
 given_to-map : (g : List ℕ → Option (List ℕ)) (q : List ℕ) (es : List (List ℕ × List ℕ))
-    → T (is_sorted key_cmp es) → given_to q (map (λ e. (e.0, g e.1)) es) ≡ option_map g (find key_cmp q es)
-given_to-map g q es h = given_to-rising q (map (λ e. (e.0, g e.1)) es) (sorted-map g es h) ∙ find-map g q es
+    → T (is_sorted key_cmp es)
+    → given_to q (map (λ e. (e.0, g e.1)) es) ≡ option_map g (find key_cmp q es)
+given_to-map g q es h = given_to-rising q (map (λ e. (e.0, g e.1)) es) (sorted-map g es h)
+    ∙ find-map g q es
 
 -- the same of those that pass a test
 given_by_key : (p : List ℕ → Bool) (g : List ℕ → Option (List ℕ)) (m : Columns) (q : List ℕ)
     → given_to q (map (λ e. (e.0, g e.1)) (where_key key_cmp p (entries m)))
     ≡ option_map g (cond (p q) (get m q) None)
 given_by_key p g m q =
-    given_to-map g q (where_key key_cmp p (entries m)) (is_sorted-where_key key_cmp p (entries m) (entries_sorted m))
+    given_to-map g q (where_key key_cmp p (entries m))
+    (is_sorted-where_key key_cmp p (entries m) (entries_sorted m))
     ∙ ap (option_map g)
     (find-where_key key_cmp p q (λ x e. ap p (sym (key_exact q x e))) (entries m)
     ∙ ap (λ o. cond (p q) o None) (sym (get-entries m q)))
 
 -- what the first of two lists gives to a column to which the second gives nothing
-given_first : (q : List ℕ) (es fs : Given) → given_to q fs ≡ None → given_to q (es ++ fs) ≡ given_to q es
+given_first : (q : List ℕ) (es fs : Given) → given_to q fs ≡ None
+    → given_to q (es ++ fs) ≡ given_to q es
 given_first q [] fs h = h
 given_first q (e ∷ es) fs h =
     ap (λ o. cond (eq_by_cmp key_cmp q e.0) (Some (tied e.1 o)) o) (given_first q es fs h)
 
 -- what the second of two lists gives to a column to which the first gives nothing
-given_second : (q : List ℕ) (es fs : Given) → given_to q es ≡ None → given_to q (es ++ fs) ≡ given_to q fs
+given_second : (q : List ℕ) (es fs : Given) → given_to q es ≡ None
+    → given_to q (es ++ fs) ≡ given_to q fs
 given_second q [] fs h = refl
 given_second q (e ∷ es) fs h = at_name (eq_by_cmp key_cmp q e.0) h (given_second q es fs)
   where
@@ -160,7 +177,8 @@ new_value (Some u) v = by_test (bytes_eq u v) refl
 -- what a column shows, by what it showed and is to show
 turned : (q : List ℕ) (es fs : Given) (o n : Option (List ℕ))
     → given_to q es ≡ option_map (λ v. Some v) (cond (option_map_or (differs o) n false) n None)
-    → given_to q fs ≡ option_map (λ v. None) (cond (is_none n) o None) → unwrap_or (given_to q (es ++ fs)) o ≡ n
+    → given_to q fs ≡ option_map (λ v. None) (cond (is_none n) o None)
+    → unwrap_or (given_to q (es ++ fs)) o ≡ n
 turned q es fs None None a b = ap (λ g. unwrap_or g None) (given_second q es fs a ∙ b)
 turned q es fs (Some u) None a b = ap (λ g. unwrap_or g (Some u)) (given_second q es fs a ∙ b)
 turned q es fs o (Some v) a b = ap (λ g. unwrap_or g o) (given_first q es fs b ∙ a) ∙ new_value o v
@@ -175,10 +193,12 @@ columns_between old new q =
     (given_by_key (λ q. is_none (get new q)) (λ v. None) old q)
 
 -- all columns of a row that is made
-pub columns_made : (new : Columns) (q : List ℕ) → get (with_columns (map with_value (entries new)) empty) q ≡ get new q
+pub columns_made : (new : Columns) (q : List ℕ)
+    → get (with_columns (map with_value (entries new)) empty) q ≡ get new q
 columns_made new q =
     get-with_columns (map with_value (entries new)) empty q
-    ∙ (λ i. unwrap_or (given_to-map (λ v. Some v) q (entries new) (entries_sorted new) i) (get-empty key_cmp q i))
+    ∙ (λ i. unwrap_or (given_to-map (λ v. Some v) q (entries new) (entries_sorted new) i)
+    (get-empty key_cmp q i))
     ∙ ap (λ o. unwrap_or (option_map (λ v. Some v) o) None) (sym (get-entries new q))
     ∙ as_it_is (get new q)
   where

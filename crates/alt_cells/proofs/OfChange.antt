@@ -20,23 +20,29 @@ abbrev pub entry_given : ℕ → List ℕ × Option (List ℕ) → List ℕ × C
 entry_given number e = (e.0, cell_at number e.1)
 
 -- where the names rise, the cells of a change are those of the names, one by one
-pub cells_given-rising : (number : ℕ) (es : Given) (m : FinMap key_cmp Cell) → T (is_sorted key_cmp es)
+pub cells_given-rising : (number : ℕ) (es : Given) (m : FinMap key_cmp Cell)
+    → T (is_sorted key_cmp es)
     → entries m ≡ map (entry_given number) es → m ≡ cells_given number es
 cells_given-rising number es m h is = same_map key_total key_exact _ _ (λ q.
     get-entries m q ∙ ap (find key_cmp q) is ∙ find-map (cell_at number) q es
-    ∙ ap (option_map (cell_at number)) (sym (given_to-rising q es h)) ∙ sym (get-cells_given number es q))
+    ∙ ap (option_map (cell_at number)) (sym (given_to-rising q es h))
+    ∙ sym (get-cells_given number es q))
 
 -- the cells of two lists are those of each, joined
 cells_given-append : (number : ℕ) (es fs : Given)
-    → cells_given number (es ++ fs) ≡ joined_map (greater cell_cmp) (cells_given number es) (cells_given number fs)
+    → cells_given number (es ++ fs)
+    ≡ joined_map (greater cell_cmp) (cells_given number es) (cells_given number fs)
 cells_given-append number [] fs =
-    sym (joined_map-empty key_cmp key_total (greater cell_cmp) key_exact IsJoin-winner (cells_given number fs))
+    sym (joined_map-empty key_cmp key_total (greater cell_cmp) key_exact IsJoin-winner
+    (cells_given number fs))
 cells_given-append number (e ∷ es) fs =
     ap (joined_map (greater cell_cmp) (one_cell number e)) (cells_given-append number es fs)
     ∙ sym (cells_join.assoc (one_cell number e) (cells_given number es) (cells_given number fs))
 
 -- so halves may be joined
-pub cells_given-halves : (number n : ℕ) (es : Given) → joined_map (greater cell_cmp) (cells_given number (take n es))
+pub cells_given-halves : (number n : ℕ) (es : Given)
+    → joined_map (greater cell_cmp) (cells_given number (take n es))
     (cells_given number (drop n es)) ≡ cells_given number es
 cells_given-halves number n es =
-    sym (cells_given-append number (take n es) (drop n es)) ∙ ap (cells_given number) (take-append-drop n es)
+    sym (cells_given-append number (take n es) (drop n es))
+    ∙ ap (cells_given number) (take-append-drop n es)

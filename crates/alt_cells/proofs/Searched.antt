@@ -51,7 +51,8 @@ neither r e (inr g) = cc
 
 module _ {K X : Type 0} (R : K → K → Ordering) (o : IsTotalOrder R) where
   -- a key below all is below that at each place
-  below_place : (x : K) (es : List (K × X)) (k : ℕ) (d : K × X) → T (below_all R x es) → k < length es
+  below_place : (x : K) (es : List (K × X)) (k : ℕ) (d : K × X) → T (below_all R x es)
+      → k < length es
       → R x (get_or es k d).0 ≡ Less
   below_place x [] k d h within = absurd (omega arith)
   below_place x (e ∷ es) zero d h within = less _ (first _ _ h)
@@ -63,25 +64,41 @@ module _ {K X : Type 0} (R : K → K → Ordering) (o : IsTotalOrder R) where
   searchable x [] h i j d at_most within = absurd (omega arith)
   searchable x (e ∷ es) h zero zero d at_most within = omega arith
   searchable x (e ∷ es) h zero (suc j) d at_most within =
-      index_rises R o e.0 (get_or es j d).0 x _ (below_place e.0 es j d (first _ _ h) (omega arith)) refl
+      index_rises R o e.0 (get_or es j d).0 x _
+      (below_place e.0 es j d (first _ _ h) (omega arith)) refl
   searchable x (e ∷ es) h (suc i) zero d at_most within = absurd (omega arith)
   searchable x (e ∷ es) h (suc i) (suc j) d at_most within =
       searchable x es (second _ _ h) i j d (omega arith) (omega arith)
 
   -- where a key is below x, so are those before it
-  pub before_more : (x : K) (es : List (K × X)) (i : ℕ) (e : K × X) → T (is_sorted R es) → i < length es
-      → e ≡ get_or es i e → R e.0 x ≡ Less → (k : ℕ) (d : K × X) → k < i + 1 → R (get_or es k d).0 x ≡ Less
+  pub before_more : (x : K) (es : List (K × X)) (i : ℕ) (e : K × X) → T (is_sorted R es)
+      → i < length es
+      → e ≡ get_or es i e → R e.0 x ≡ Less → (k : ℕ) (d : K × X) → k < i + 1
+      → R (get_or es k d).0 x ≡ Less
   before_more x es i e h within at less k d before =
       let last : get_or es i d ≡ e = get_or_default es i d e within ∙ sym at in
-      index_less _ (omega (arith, searchable x es h k i d (omega arith) within, ap (λ f. ordering_index (R f.0 x)) last, ap ordering_index less))
+      index_less _
+      (omega (
+        arith,
+        searchable x es h k i d (omega arith) within,
+        ap (λ f. ordering_index (R f.0 x)) last,
+        ap ordering_index less,
+      ))
 
   -- where a key is above x, so are those behind it
-  pub after_more : (x : K) (es : List (K × X)) (i : ℕ) (e : K × X) → T (is_sorted R es) → i < length es
+  pub after_more : (x : K) (es : List (K × X)) (i : ℕ) (e : K × X) → T (is_sorted R es)
+      → i < length es
       → e ≡ get_or es i e → R e.0 x ≡ Greater → (k : ℕ) (d : K × X) → i ≤ k → k < length es
       → R (get_or es k d).0 x ≡ Greater
   after_more x es i e h within at more k d behind below =
       let first : get_or es i d ≡ e = get_or_default es i d e within ∙ sym at in
-      index_greater _ (omega (arith, searchable x es h i k d behind below, ap (λ f. ordering_index (R f.0 x)) first, ap ordering_index more))
+      index_greater _
+      (omega (
+        arith,
+        searchable x es h i k d behind below,
+        ap (λ f. ordering_index (R f.0 x)) first,
+        ap ordering_index more,
+      ))
 
   -- at the place of a key that ties stands what is found
   pub find_at : (x : K) (es : List (K × X)) (i : ℕ) (d : K × X) → T (is_sorted R es) → i < length es
@@ -92,7 +109,8 @@ module _ {K X : Type 0} (R : K → K → Ordering) (o : IsTotalOrder R) where
   find_at x (e ∷ es) (suc i) d h within tied =
       let before = below_place e.0 es i d (first _ _ h) (omega arith) in
       let below : R e.0 x ≡ Less = sym (alike_right o (get_or es i d).0 x e.0 tied) ∙ before in
-      ap (λ b. cond b (Some e.1) (find R x es)) (apart (R x e.0) (λ t. not_both (R e.0 x) below (tied_back o x e.0 t)))
+      ap (λ b. cond b (Some e.1) (find R x es))
+      (apart (R x e.0) (λ t. not_both (R e.0 x) below (tied_back o x e.0 t)))
       ∙ find_at x es i d (second _ _ h) (omega arith) tied
     where
       not_both : (r : Ordering) → r ≡ Less → r ≡ Equal → ⊥
@@ -100,7 +118,8 @@ module _ {K X : Type 0} (R : K → K → Ordering) (o : IsTotalOrder R) where
 
   -- where no key ties, nothing is found
   pub find_nowhere : (x : K) (es : List (K × X))
-      → ((k : ℕ) (d : K × X) → k < length es → R (get_or es k d).0 x ≡ Equal → ⊥) → find R x es ≡ None
+      → ((k : ℕ) (d : K × X) → k < length es → R (get_or es k d).0 x ≡ Equal → ⊥)
+      → find R x es ≡ None
   find_nowhere x [] h = refl
   find_nowhere x (e ∷ es) h =
       ap (λ b. cond b (Some e.1) (find R x es))
@@ -110,7 +129,8 @@ module _ {K X : Type 0} (R : K → K → Ordering) (o : IsTotalOrder R) where
   -- between those below x and those above it no key ties
   pub find_between : (x : K) (es : List (K × X)) (i : ℕ)
       → ((k : ℕ) (d : K × X) → k < i → R (get_or es k d).0 x ≡ Less)
-      → ((k : ℕ) (d : K × X) → i ≤ k → k < length es → R (get_or es k d).0 x ≡ Greater) → find R x es ≡ None
+      → ((k : ℕ) (d : K × X) → i ≤ k → k < length es → R (get_or es k d).0 x ≡ Greater)
+      → find R x es ≡ None
   find_between x es i before after = find_nowhere x es (λ k d within tied. elim (cases_order k i) [
     | inl at ↦ neither _ tied (inr (after k d (omega arith) within))
     | inr (inl earlier) ↦ neither _ tied (inl (before k d earlier))
@@ -119,7 +139,8 @@ module _ {K X : Type 0} (R : K → K → Ordering) (o : IsTotalOrder R) where
 
   -- keys that rise from each place to the next
   pub sorted_adjacent : (es : List (K × X))
-      → ((k : ℕ) (d : K × X) → suc k < length es → R (get_or es k d).0 (get_or es (suc k) d).0 ≡ Less)
+      → ((k : ℕ) (d : K × X) → suc k < length es
+      → R (get_or es k d).0 (get_or es (suc k) d).0 ≡ Less)
       → T (is_sorted R es)
   sorted_adjacent [] h = tt
   sorted_adjacent (e ∷ []) h = tt
@@ -131,7 +152,8 @@ module _ {K X : Type 0} (R : K → K → Ordering) (o : IsTotalOrder R) where
 -- ---- what a search of a map's entries answers
 
 -- at the place that was found stands the value of the key
-pub found : {X : Type 0} (es xs : List (List ℕ × X)) (m : FinMap key_cmp X) (q : List ℕ) (i : ℕ) (e : List ℕ × X)
+pub found : {X : Type 0} (es xs : List (List ℕ × X)) (m : FinMap key_cmp X) (q : List ℕ) (i : ℕ)
+    (e : List ℕ × X)
     → xs ≡ es → from_sorted es ≡ m → T (is_sorted key_cmp es) → i < length xs
     → HoldsAt (λ y. key_cmp y.0 q ≡ Equal) xs i → e ≡ get_or es i e → Some e.1 ≡ get m q
 found es xs m q i e same is sorted within tied at =
@@ -142,16 +164,20 @@ found es xs m q i e same is sorted within tied at =
 
 -- where nothing is found, there is no value
 pub missed : {X : Type 0} (es xs : List (List ℕ × X)) (m : FinMap key_cmp X) (q : List ℕ)
-    → xs ≡ es → from_sorted es ≡ m → T (is_sorted key_cmp es) → find key_cmp q xs ≡ None → None ≡ get m q
+    → xs ≡ es → from_sorted es ≡ m → T (is_sorted key_cmp es) → find key_cmp q xs ≡ None
+    → None ≡ get m q
 missed es xs m q same is sorted none =
-    sym none ∙ ap (find key_cmp q) same ∙ sym (get-from_sorted key_cmp es q sorted) ∙ ap (λ m. get m q) is
+    sym none ∙ ap (find key_cmp q) same ∙ sym (get-from_sorted key_cmp es q sorted)
+    ∙ ap (λ m. get m q) is
 
 -- an entry of a map is what the map has at its key
-pub get_entry : {X : Type 0} (m : FinMap key_cmp X) (xs : List (List ℕ × X)) (n : ℕ) (e : List ℕ × X)
+pub get_entry : {X : Type 0} (m : FinMap key_cmp X) (xs : List (List ℕ × X)) (n : ℕ)
+    (e : List ℕ × X)
     → xs ≡ entries m → n < length xs → e ≡ get_or xs n e → get m e.0 ≡ Some e.1
 get_entry m xs n e same within at =
     let here : e ≡ get_or (entries m) n e = at ∙ ap (λ l. get_or l n e) same in
     let ties = ap (λ f. key_cmp f.0 e.0) (sym here) ∙ tied_itself key_total e.0 in
     get-entries m e.0
-    ∙ find_at key_cmp key_total e.0 (entries m) n e (entries_sorted m) (omega (arith, within, ap length same)) ties
+    ∙ find_at key_cmp key_total e.0 (entries m) n e (entries_sorted m)
+    (omega (arith, within, ap length same)) ties
     ∙ ap (λ f. Some f.1) (sym here)

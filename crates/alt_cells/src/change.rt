@@ -98,8 +98,8 @@ impl RowChange {
         old: Option<&ShownRow>,
         new: Option<&ShownRow>,
     ) -> Result<RowChange, NoMemory>
-        ensures { IfOk result (λ change. change
-            ≡ change_between family key (option_map (λ r. r.now) old.entry) (option_map (λ r. r.now) new.entry)) }
+        ensures { IfOk result (λ change. change ≡ change_between family key
+            (option_map (λ r. r.now) old.entry) (option_map (λ r. r.now) new.entry)) }
     {
         let cells = cells_between(alloc, old, new)?;
         let clear = old.is_some() != new.is_some();

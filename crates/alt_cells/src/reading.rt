@@ -16,12 +16,15 @@ use std::alloc::Global;
 
 /// The row whose bytes the bytes are.
 ///
-/// Else `Bad`, with the first place where they can't go on as those of a row, or where something stands behind it.
+/// Else `Bad`, with the first place where they can't go on as those of a row, or where something stands
+/// behind it.
 pub fn row_of(alloc: Global, bytes: &[u8]) -> Result<RowCells, BytesFault>
     ensures row { IfOk result (λ row. IsHeldRow row × (bytes.now ≡ bytes_of_row row)) }
     // Whatever row's bytes they are, it is read, unless memory is wanting.
-    ensures taken { (row : RowCells) → IsHeldRow row → bytes.now ≡ bytes_of_row row → IsReadAs row result }
-    ensures place { (at : ℕ) → result ≡ Err (BytesFault.Bad at) → IsBadAt bytes.now at × NoRow bytes.now }
+    ensures taken { (row : RowCells) → IsHeldRow row → bytes.now ≡ bytes_of_row row
+        → IsReadAs row result }
+    ensures place { (at : ℕ) → result ≡ Err (BytesFault.Bad at)
+        → IsBadAt bytes.now at × NoRow bytes.now }
 {
     match take_row(alloc, bytes) {
         Ok((row, rest)) => {
@@ -61,7 +64,8 @@ fn take_row(alloc: Global, bytes: &[u8]) -> Result<(RowCells, &[u8]), Stop>
 
 /// So many cells, and what follows them.
 fn take_cells(alloc: Global, count: u64, bytes: &[u8]) -> Result<(Vec<(Bytes, Cell)>, &[u8]), Stop>
-    ensures cells { IfOk result (λ p. (length p.0.items ≡ count) × AreCells p.0.items × (bytes.now ≡ flat_map cell_bytes p.0.items ++ p.1.now)) }
+    ensures cells { IfOk result (λ p. (length p.0.items ≡ count) × AreCells p.0.items
+        × (bytes.now ≡ flat_map cell_bytes p.0.items ++ p.1.now)) }
     ensures stop { IfErr result (IsStop (NoCells count bytes.now)) }
 {
     let mut cells = Vec::new(alloc);
@@ -88,7 +92,8 @@ fn take_cell<'a>(
     bytes: &'a [u8],
 ) -> Result<(Bytes, Cell, &'a [u8]), Stop>
     requires { AreCells done.now }
-    ensures cell { IfOk result (λ p. IsHeldCell (p.0, p.1) × IsNextName done.now p.0 × (bytes.now ≡ cell_bytes (p.0, p.1) ++ p.2.now)) }
+    ensures cell { IfOk result (λ p. IsHeldCell (p.0, p.1) × IsNextName done.now p.0
+        × (bytes.now ≡ cell_bytes (p.0, p.1) ++ p.2.now)) }
     ensures stop { IfErr result (IsStop (NoCell done.now bytes.now)) }
 {
     let (name, numbered) = next_name(done, bytes)?;
@@ -102,7 +107,8 @@ fn take_cell<'a>(
 /// A name that stands above those so far, and what follows it.
 fn next_name<'a>(done: &[(Bytes, Cell)], bytes: &'a [u8]) -> Result<(&'a [u8], &'a [u8]), Stop>
     requires { AreCells done.now }
-    ensures name { IfOk result (λ p. (length p.0.now < 2 ^ 64) × IsNextName done.now p.0.now × (bytes.now ≡ field p.0.now ++ p.1.now)) }
+    ensures name { IfOk result (λ p. (length p.0.now < 2 ^ 64) × IsNextName done.now p.0.now
+        × (bytes.now ≡ field p.0.now ++ p.1.now)) }
     ensures stop { IfErr result (IsStop (NoName done.now bytes.now)) }
 {
     let (name, rest) = take_field(bytes)?;
@@ -125,7 +131,8 @@ fn is_next_name(done: &[(Bytes, Cell)], name: &[u8]) -> bool
 
 /// A row's tombstone, and what follows it.
 fn take_tombstone(bytes: &[u8]) -> Result<(Option<u64>, &[u8]), Stop>
-    ensures tombstone { IfOk result (λ p. IsHeldNumber p.0 × (bytes.now ≡ tombstone_bytes p.0 ++ p.1.now)) }
+    ensures tombstone { IfOk result (λ p. IsHeldNumber p.0
+        × (bytes.now ≡ tombstone_bytes p.0 ++ p.1.now)) }
     ensures stop { IfErr result (IsStop (NoFlagged NoNumber bytes.now)) }
 {
     match bytes {
@@ -143,7 +150,8 @@ fn take_tombstone(bytes: &[u8]) -> Result<(Option<u64>, &[u8]), Stop>
 
 /// A cell's value, and what follows it.
 fn take_value(alloc: Global, bytes: &[u8]) -> Result<(Option<Bytes>, &[u8]), Stop>
-    ensures value { IfOk result (λ p. IfSome p.0 (λ v. length v < 2 ^ 64) × (bytes.now ≡ value_bytes p.0 ++ p.1.now)) }
+    ensures value { IfOk result (λ p. IfSome p.0 (λ v. length v < 2 ^ 64)
+        × (bytes.now ≡ value_bytes p.0 ++ p.1.now)) }
     ensures stop { IfErr result (IsStop (NoFlagged NoField bytes.now)) }
 {
     match bytes {
@@ -161,7 +169,8 @@ fn take_value(alloc: Global, bytes: &[u8]) -> Result<(Option<Bytes>, &[u8]), Sto
 
 /// A number, and what follows it.
 fn take_number(bytes: &[u8]) -> Result<(u64, &[u8]), Stop>
-    ensures number { IfOk result (λ p. (p.0 < 2 ^ 64) × (bytes.now ≡ to_be_bytes w64 p.0 ++ p.1.now)) }
+    ensures number { IfOk result (λ p. (p.0 < 2 ^ 64)
+        × (bytes.now ≡ to_be_bytes w64 p.0 ++ p.1.now)) }
     ensures stop { IfErr result (IsStop (NoNumber bytes.now)) }
 {
     match take_u64(bytes, 0) {
@@ -175,7 +184,8 @@ fn take_number(bytes: &[u8]) -> Result<(u64, &[u8]), Stop>
 
 /// The content of a field, and what follows it.
 fn take_field(bytes: &[u8]) -> Result<(&[u8], &[u8]), Stop>
-    ensures field { IfOk result (λ p. (length p.0.now < 2 ^ 64) × (bytes.now ≡ field p.0.now ++ p.1.now)) }
+    ensures field { IfOk result (λ p. (length p.0.now < 2 ^ 64)
+        × (bytes.now ≡ field p.0.now ++ p.1.now)) }
     ensures stop { IfErr result (IsStop (NoField bytes.now)) }
 {
     match take_bytes(bytes, 0) {

@@ -10,6 +10,7 @@ pub returns : goal.returns
 returns t c =
     let number = c.args.number in
     c.in_ok-join.ensures.ok
-    ∙ (λ i. joined_map (greater cell_cmp) ((c.in_ok-cells.ensures ∙ ap (cells_given number) c.split_at.ensures.front) i)
+    ∙ (λ i. joined_map (greater cell_cmp)
+    ((c.in_ok-cells.ensures ∙ ap (cells_given number) c.split_at.ensures.front) i)
     ((c.in_ok-more.ensures ∙ ap (cells_given number) c.split_at.ensures.back) i))
     ∙ cells_given-halves number (length c.args.given.now / 2) c.args.given.now

@@ -17,15 +17,20 @@ loop-name-preserved c =
     let n = c.loop-name.name-index in
     let e = c.loop-name-item.result in
     let test = ap (λ o. option_map_or (differs (get old e.0)) o false)
-    (get_entry new items n e c.as_slice-name-items.ensures c.loop-name-test.true c.loop-name-item.is)
+    (get_entry new items n e c.as_slice-name-items.ensures c.loop-name-test.true
+    c.loop-name-item.is)
     ∙ sym c.has_value.ensures in
     elim c.if-not-has_value.branch [
       | then-not-has_value+in_ok-give w ↦
           w.cells-is ∙ w.in_ok-give.ensures
-          ∙ kept (λ f. is_changed old new f.0) with_value items n e c.args.cells.now c.loop-name.cells
-          c.loop-name-test.true c.loop-name-item.is (test ∙ ap not w.if-not-has_value.true) c.loop-name.invariant
+          ∙ kept (λ f. is_changed old new f.0) with_value items n e c.args.cells.now
+          c.loop-name.cells
+          c.loop-name-test.true c.loop-name-item.is
+          (test ∙ ap not w.if-not-has_value.true) c.loop-name.invariant
       | else-not-has_value w ↦
           w.cells-is
-          ∙ left_out (λ f. is_changed old new f.0) with_value items n e c.args.cells.now c.loop-name.cells
-          c.loop-name-test.true c.loop-name-item.is (test ∙ ap not w.if-not-has_value.false) c.loop-name.invariant
+          ∙ left_out
+          (λ f. is_changed old new f.0) with_value items n e c.args.cells.now c.loop-name.cells
+          c.loop-name-test.true c.loop-name-item.is
+          (test ∙ ap not w.if-not-has_value.false) c.loop-name.invariant
     ]

@@ -7,4 +7,5 @@ use Rattle.alt_cells.proofs.change.give_changed.Given as goal
 
 abbrev pub invariant-loop-name : goal.invariant-loop-name
 invariant-loop-name l = l.cells
-    ≡ l.fn.cells ++ map with_value (where_key key_cmp (is_changed l.old l.new) (take l.name-index l.name-items))
+    ≡ l.fn.cells ++ map with_value
+    (where_key key_cmp (is_changed l.old l.new) (take l.name-index l.name-items))

@@ -9,4 +9,5 @@ use Rattle.alt_cells.proofs.change.remove_gone.Given as goal
 
 abbrev pub invariant-loop-name : goal.invariant-loop-name
 invariant-loop-name l = l.cells
-    ≡ l.fn.cells ++ map without_value (where_key key_cmp (λ q. is_none (get l.new q)) (take l.name-index l.name-items))
+    ≡ l.fn.cells ++ map without_value
+    (where_key key_cmp (λ q. is_none (get l.new q)) (take l.name-index l.name-items))

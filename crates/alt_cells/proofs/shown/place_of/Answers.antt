@@ -11,7 +11,8 @@ loop-low-preserved-in-Less c =
     let middle = c.loop-low.low + (c.loop-low.high - c.loop-low.low) / 2 in
     let e = c.index-entries-middle.result in
     let name = c.args.name.now in
-    let less : key_cmp e.0 name ≡ Less = cc (c.as_slice.ensures.same, c.cmp.ensures, c.in-Less.is) in record {
+    let less : key_cmp e.0 name ≡ Less =
+    cc (c.as_slice.ensures.same, c.cmp.ensures, c.in-Less.is) in record {
       within = c.loop-low.invariant.within;
       order = omega arith;
       before = before_more key_cmp key_total name c.args.entries.now middle e c.requires
@@ -24,7 +25,8 @@ loop-low-preserved c =
     let middle = c.loop-low.low + (c.loop-low.high - c.loop-low.low) / 2 in
     let e = c.index-entries-middle.result in
     let name = c.args.name.now in
-    let more : key_cmp e.0 name ≡ Greater = cc (c.as_slice.ensures.same, c.cmp.ensures, c.in-Greater.is) in record {
+    let more : key_cmp e.0 name ≡ Greater =
+    cc (c.as_slice.ensures.same, c.cmp.ensures, c.in-Greater.is) in record {
       within = omega (arith, c.loop-low.invariant.within);
       order = omega arith;
       before = c.loop-low.invariant.before;
@@ -34,5 +36,7 @@ loop-low-preserved c =
 
 pub returns-clause-none : goal.returns-clause-none
 returns-clause-none c =
-    find_between key_cmp key_total c.args.name.now c.args.entries.now c.loop-low.low c.loop-low.invariant.before
-    (λ k d behind within. c.loop-low.invariant.after k d (omega (arith, behind, c.loop-low.invariant.order)) within)
+    find_between key_cmp key_total c.args.name.now c.args.entries.now c.loop-low.low
+    c.loop-low.invariant.before
+    (λ k d behind within. c.loop-low.invariant.after k d
+    (omega (arith, behind, c.loop-low.invariant.order)) within)

@@ -8,7 +8,8 @@ abbrev pub invariant-loop-low : goal.invariant-loop-low
 invariant-loop-low l = record {
   within : l.high ≤ length l.entries;
   order : l.low ≤ l.high;
-  before : (k : ℕ) (d : List ℕ × List ℕ) → k < l.low → key_cmp (get_or l.entries k d).0 l.name ≡ Less;
+  before : (k : ℕ) (d : List ℕ × List ℕ) → k < l.low
+      → key_cmp (get_or l.entries k d).0 l.name ≡ Less;
   after : (k : ℕ) (d : List ℕ × List ℕ) → l.high ≤ k → k < length l.entries
       → key_cmp (get_or l.entries k d).0 l.name ≡ Greater;
 }

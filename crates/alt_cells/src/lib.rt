@@ -20,6 +20,3 @@ pub use map::CellMap;
 pub use reading::row_of;
 pub use row::RowCells;
 pub use shown::ShownRow;
-
-#[cfg(test)]
-mod tests;

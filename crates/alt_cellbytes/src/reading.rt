@@ -158,12 +158,7 @@ fn take_map(alloc: Global, most: usize, bytes: &[u8]) -> Result<(Attr, &[u8]), S
 
 /// So many entries, and what follows them.
 #[cycle(reading)]
-fn take_entries(
-    alloc: Global,
-    most: usize,
-    count: u64,
-    bytes: &[u8],
-) -> Result<(Item, &[u8]), Stop>
+fn take_entries(alloc: Global, most: usize, count: u64, bytes: &[u8]) -> Result<(Item, &[u8]), Stop>
     ensures entries { IfOk result (λ p. (length p.0 ≡ count) × AreEntries p.0
         × AllByRecursion (λ e. depth e.1 ≤ most) p.0 × (bytes.now ≡ flat_map entry_bytes p.0 ++ p.1.now)) }
     ensures stop { IfErr result (IsStopAt (NoEntry count bytes.now)

@@ -25,7 +25,7 @@ pub fn take_part(
     // Whatever value's part stands there, that value is taken.
     ensures taken { (t : Tree) (behind : List ℕ) → IsKeyOf kind t
         → drop at bytes.now ≡ key_bytes t ++ behind → IfOk result
-            (λ r. MatchOption r ⊥ (λ p. (tree_of p.0 ≡ t) × (p.1 ≡ at + length (key_bytes t)))) }
+        (λ r. MatchOption r ⊥ (λ p. (tree_of p.0 ≡ t) × (p.1 ≡ at + length (key_bytes t)))) }
 {
     if at > bytes.len() {
         return Ok(None);

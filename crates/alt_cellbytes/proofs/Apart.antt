@@ -18,6 +18,7 @@ use Rattle.alt_value.proofs.Trees.{elements-trees_of, pairs-fields_of}
 use Rattle.alt_cellbytes.proofs.Shapes.{kind_of, behind_count, list_bytes, map_bytes, texts_bytes, numbers_bytes-set, binaries_bytes, trees_of-elements, fields_of-pairs, all_values, all_entries}
 use Rattle.alt_fields.proofs.Apart.{front, back, IsApart, same_many, number-apart, field-apart, all_map}
 
+-- fields of texts and byte strings, and spelled numbers, are apart
 pub text_apart : (s : List ℕ) → IsText s → IsApart field IsText s
 text_apart s h = λ t x y k e. field-apart s t x y h.1 k.1 e
 
@@ -37,6 +38,7 @@ counted_many spell P ks ls x y m n a b e =
     (flat_map spell ls ++ y) m n e in
     same_many spell P ks ls x y a b c.0 c.1
 
+-- so are truth bytes
 truths_apart : (a b : Bool) (x y : List ℕ) → truth_byte a ∷ x ≡ truth_byte b ∷ y → (a ≡ b) × (x ≡ y)
 truths_apart true true x y e = (refl, back 1 1 x y e)
 truths_apart false false x y e = (refl, back 0 0 x y e)
@@ -60,6 +62,7 @@ map_front fs x =
     ∙ ap (λ s. 10 ∷ s) (append_assoc (counted (length (pairs fs)))
     (flat_map entry_bytes (pairs fs)) x)
 
+-- an entry is apart where its value is
 entry_apart : (name : List ℕ) (t : Tree) → IsText name → IsApart cell_bytes HasBytes t
     → IsApart entry_bytes IsEntry (name, t)
 entry_apart name t h a = λ q x y k e.
@@ -142,6 +145,7 @@ mutual
     fields_apart fs h.2,
   )
 
+-- so each entry is
 pub pair_apart : (p : Pair) → IsEntry p → IsApart entry_bytes IsEntry p
 pair_apart p h = entry_apart p.0 p.1 h.0 (value_apart p.1 h.1)
 

@@ -11,6 +11,7 @@ use Rattle.alt_value.specs.Tree.{Tree, Pair}
 use Rattle.alt_value.proofs.Places.{less, is_less}
 use Rattle.alt_cellbytes.proofs.Rising.{rising_more, above_last, item_more, name_above}
 
+-- where no member stands, and what a test of an order tells
 past_at : {A : Type 0} (xs : List A) (i : ℕ) → None ≡ slice_get xs i → length xs ≤ i
 past_at [] i e = omega arith
 past_at (x ∷ xs) zero e = absurd (let f : ⊥ = cc in f)

@@ -25,11 +25,13 @@ within_list : (ts : List Tree) (u : Tree) (us : List Tree)
 within_list [] u us = omega arith
 within_list (t ∷ ts) u us = omega (arith, within_list ts u us)
 
+-- and of an entry behind others
 within_map : (ps : List Pair) (q : Pair) (qs : List Pair)
     → depth q.1 ≤ fields_depth (fields_of (ps ++ q ∷ qs))
 within_map [] q qs = omega arith
 within_map (p ∷ ps) q qs = omega (arith, within_map ps q qs)
 
+-- what stands in a list or a map is less deep
 pub element_below : (t : Tree) (ks ts : List Tree) (u : Tree) (us : List Tree) (n : ℕ)
     → t ≡ L_tree (trees_of ks)
     → ks ≡ ts ++ u ∷ us → depth t ≤ suc n → depth u ≤ n
@@ -60,6 +62,7 @@ pub elements_within : (n : ℕ) (ts : List Tree) → AllByRecursion (λ t. depth
 elements_within n [] h = omega arith
 elements_within n (t ∷ ts) h = omega (arith, h.0, elements_within n ts h.1)
 
+-- and a map of no deeper values
 pub fields_within : (n : ℕ) (ps : List Pair) → AllByRecursion (λ p. depth p.1 ≤ n) ps
     → fields_depth (fields_of ps) ≤ n
 fields_within n [] h = omega arith

@@ -29,6 +29,7 @@ field-refuted P bytes left stops s behind short right is = elim stops [
       other.4 (rw same.0 right)
 ]
 
+-- no more bytes are left than there are
 pub field-left : (P : List ℕ → Type 0) (bytes : List ℕ) (left : ℕ) → NoField P bytes left
     → left ≤ length bytes
 field-left P bytes left stops = elim stops [
@@ -54,6 +55,7 @@ number-refuted P bytes left stops z behind fits right is = elim stops [
       other.4 (rw same.0 right)
 ]
 
+-- nor where a number stops
 left_if : (b : Bool) (n left : ℕ) → left ≡ (if b then 0 else n) → left ≤ n
 left_if true n left e = omega (arith, e)
 left_if false n left e = omega (arith, e)

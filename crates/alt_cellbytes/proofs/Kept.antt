@@ -25,6 +25,7 @@ both_map P Q C D (Left n) f g h = f n h
 both_map P Q C D (Deep n) f g h = g n h
 both_map P Q C D NoMemory f g h = tt
 
+-- a kind with what is behind it, and a count
 pub kind_is : (k n : ℕ) (bytes tail : List ℕ) → k ≡ n → bytes ≡ tail → k ∷ bytes ≡ n ∷ tail
 kind_is k n bytes tail e f = cc
 

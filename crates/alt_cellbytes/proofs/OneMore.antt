@@ -19,6 +19,7 @@ use Rattle.alt_cellbytes.proofs.Rising.{with_member-last, with_pair-last, item_o
 
 -- ---- read
 
+-- one member more, and its bytes behind the others
 pub length-snoc : {A : Type 0} (xs : List A) (x : A) (n : ℕ) → length xs ≡ n
     → length (xs ++ x ∷ []) ≡ n + 1
 length-snoc xs x n e = omega (arith, e, length-append xs (x ∷ []))
@@ -45,6 +46,7 @@ module _ {K : Type 0} (R : K → K → Ordering) (o : IsTotalOrder R) (spell : K
 
 -- ---- written
 
+-- one element more, and all of them
 take_suc : {A : Type 0} (xs : List A) (i : ℕ) (x : A) → Some x ≡ slice_get xs i
     → take (suc i) xs ≡ take i xs ++ x ∷ []
 take_suc [] i x e = absurd (let f : ⊥ = cc in f)
@@ -57,6 +59,7 @@ take_whole [] (suc i) e = refl
 take_whole (x ∷ xs) zero e = absurd (let f : ⊥ = cc in f)
 take_whole (x ∷ xs) (suc i) e = ap (λ zs. x ∷ zs) (take_whole xs i e)
 
+-- one spelling more is written, and all of them
 pub wrote_more : {K : Type 0} (spell : K → List ℕ) (xs : List K) (i : ℕ) (x : K)
     (first out new : List ℕ) → out ≡ first ++ flat_map spell (take i xs)
     → Some x ≡ slice_get xs i → new ≡ out ++ spell x
@@ -90,17 +93,10 @@ begins first more out new e p = (
       ∙ append_assoc first more p.0,
 )
 
-pub on_err_holds : {T E P : Type 0} (r : Result T E) → P → OnErr r P
-on_err_holds (Ok x) p = tt
-on_err_holds (Err e) p = p
-
 -- a name and then its value
 pub wrote_entry : (a b out one two : List ℕ) → one ≡ out ++ a → two ≡ one ++ b
     → two ≡ out ++ (a ++ b)
 wrote_entry a b out one two p q = q ∙ ap (λ s. s ++ b) p ∙ append_assoc out a b
-
-pub prefix_trans : (a b c : List ℕ) → IsPrefix a b → IsPrefix b c → IsPrefix a c
-prefix_trans a b c p q = (p.0 ++ q.0, q.1 ∙ ap (λ xs. xs ++ q.0) p.1 ∙ append_assoc a p.0 q.0)
 
 -- ---- entries
 

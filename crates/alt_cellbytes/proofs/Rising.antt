@@ -70,6 +70,7 @@ module _ {K : Type 0} (R : K → K → Ordering) (o : IsTotalOrder R) where
 
 -- ---- maps
 
+-- the names of pairs, and that they rise
 abbrev names : List Pair → List (List ℕ)
 names ps = map (λ p. p.0) ps
 
@@ -94,6 +95,7 @@ item_from ps h = (
   subst T (names_below [] ps) (first _ _ h),
 )
 
+-- items by the names of their pairs
 item_to : (ps : List Pair) → IsItem ps → IsSet text_order ([] ∷ names ps)
 item_to ps h = both _ _ (subst T (sym (names_below [] ps)) h.1)
     (subst T (sym (names_rising ps)) h.0)
@@ -108,6 +110,7 @@ more_to : (ps : List Pair) (name : List ℕ) (t : Tree) → IsItem (ps ++ (name,
 more_to ps name t h = subst (λ ns. IsSet text_order ([] ∷ ns)) (names_more ps name t)
     (item_to (ps ++ (name, t) ∷ []) h)
 
+-- the name at a place
 name_at : (ps : List Pair) (i : ℕ) (p : Pair) → Some p ≡ slice_get ps i
     → Some p.0 ≡ slice_get (names ps) i
 name_at [] i p e = absurd (let f : ⊥ = cc in f)
@@ -133,6 +136,7 @@ item_first [] name t n lt = more_from [] name t
     (rising_more text_order text_total ([] ∷ []) 0 [] name tt refl refl lt)
 item_first (p ∷ ps) name t n lt = absurd (omega (arith, n))
 
+-- a next name is above the last one, and is none that is empty
 pub name_above : (ps : List Pair) (i : ℕ) (l : Pair) (name : List ℕ) (t : Tree)
     → IsItem (ps ++ (name, t) ∷ []) → Some l ≡ slice_get ps i → text_order l.0 name ≡ Less
 name_above ps i l name t h e = above_last text_order text_total ([] ∷ names ps) (suc i) l.0 name
@@ -148,6 +152,7 @@ pub item_other : (ps : List Pair) (name : List ℕ) (t u : Tree) → IsItem (ps 
     → IsItem (ps ++ (name, u) ∷ [])
 item_other ps name t u h = more_from ps name u (more_to ps name t h)
 
+-- the first of an item's pairs are an item
 pub item_front : (ps qs : List Pair) → IsItem (ps ++ qs) → IsItem ps
 item_front ps qs h =
     item_from ps (rising_front text_order text_total ([] ∷ names ps) (names qs)
@@ -157,6 +162,7 @@ item_front ps qs h =
     names_append [] qs = refl
     names_append (p ∷ ps) qs = ap (λ ns. p.0 ∷ ns) (names_append ps qs)
 
+-- a pair that is put behind the others
 put_last : (ps : List Pair) (name : List ℕ) (t : Tree) → IsSet text_order (names ps ++ name ∷ [])
     → put text_order name t ps ≡ ps ++ (name, t) ∷ []
 put_last [] name t h = refl

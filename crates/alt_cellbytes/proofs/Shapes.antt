@@ -13,6 +13,7 @@ use Rattle.alt_fields.proofs.Apart.{front, back}
 
 -- ---- lists and maps, seen as lists
 
+-- trees and fields are lists of trees and pairs
 pub trees_of-elements : (ts : Trees) → trees_of (elements ts) ≡ ts
 trees_of-elements no_trees = refl
 trees_of-elements (tree_then t ts) = ap (λ us. tree_then t us) (trees_of-elements ts)
@@ -21,6 +22,7 @@ pub fields_of-pairs : (fs : Fields) → fields_of (pairs fs) ≡ fs
 fields_of-pairs no_fields = refl
 fields_of-pairs (field_then name t fs) = ap (λ gs. field_then name t gs) (fields_of-pairs fs)
 
+-- values of a list, and entries of a map
 pub all_values : (ts : List Tree) → HaveBytes (trees_of ts) → AllByRecursion HasBytes ts
 all_values [] h = tt
 all_values (t ∷ ts) h = (h.0, all_values ts h.1)
@@ -39,6 +41,7 @@ entries_all (p ∷ ps) h = (h.0.0, h.0.1, entries_all ps h.1)
 
 -- ---- shapes
 
+-- members one behind another
 pub fields_shape : (ss : List (List ℕ)) → fields_bytes ss ≡ flat_map field ss
 fields_shape [] = refl
 fields_shape (s ∷ ss) = ap (λ t. field s ++ t) (fields_shape ss)
@@ -70,6 +73,7 @@ pub binaries_bytes : (bs : List (List ℕ)) → cell_bytes (BS_tree bs)
     ≡ 8 ∷ (counted (length bs) ++ flat_map field bs)
 binaries_bytes bs = ap (λ s. 8 ∷ (counted (length bs) ++ s)) (fields_shape bs)
 
+-- the bytes of a set, a list and a map, with their members as lists
 pub list_bytes : (ts : List Tree) → cell_bytes (L_tree (trees_of ts))
     ≡ 9 ∷ (counted (length ts) ++ flat_map cell_bytes ts)
 list_bytes ts =
@@ -109,6 +113,7 @@ KindIs (suc (suc (suc (suc (suc (suc (suc (suc (suc (suc zero)))))))))) t more x
     (ps : List Pair) × (t ≡ M_tree (fields_of ps)) × (more ≡ behind_count entry_bytes ps x)
 KindIs (suc (suc (suc (suc (suc (suc (suc (suc (suc (suc (suc n))))))))))) t more x = ⊥
 
+-- the kind that a first byte tells
 at_kind : (k n : ℕ) (t : Tree) (more tail x : List ℕ) → k ∷ more ≡ n ∷ tail → KindIs n t more x
     → KindIs k t more x
 at_kind k n t more tail x e h = subst (λ j. KindIs j t more x) (sym (front k n more tail e)) h

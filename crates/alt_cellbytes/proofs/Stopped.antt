@@ -50,6 +50,7 @@ here : {A : Type 0} (P : A → Type 0) (ks : List A) (l : A) (ms : List A)
     → AllByRecursion P (ks ++ l ∷ ms) → P l
 here P ks l ms h = (all_back P ks (l ∷ ms) h).0
 
+-- the next member of a set can be the next
 next_text : (ks : List (List ℕ)) (l : List ℕ) (ms : List (List ℕ)) (more x : List ℕ) (left : ℕ)
     → AreRising IsText text_order (ks ++ l ∷ ms)
     → more ≡ field l ++ x → NoField (IsNextText ks) more left → ⊥
@@ -77,6 +78,7 @@ next_number ks l ms more x left are is non =
     (rising_front int_cmp int_cmp_total (ks ++ l ∷ []) ms
     (subst (IsSet int_cmp) (snoc_is ks l ms) are.1)) is
 
+-- and so can the next name of a map
 next_name_of : (ks : List Pair) (l : Pair) (ms : List Pair) → AreEntries (ks ++ l ∷ ms)
     → IsEntry l × IsNextName ks l.0
 next_name_of ks l ms are =
@@ -136,6 +138,7 @@ set_kind (suc (suc (suc (suc (suc (suc (suc (suc zero)))))))) t more x lo hi v k
 set_kind (suc (suc (suc (suc (suc (suc (suc (suc (suc n))))))))) t more x lo hi v k =
     absurd (omega (arith, hi))
 
+-- other first bytes, and other truth bytes, are of no value
 no_such_kind : (kind : ℕ) (t : Tree) (more x : List ℕ) → 10 < kind → KindIs kind t more x → ⊥
 no_such_kind zero t more x lo k = absurd (omega (arith, lo))
 no_such_kind (suc zero) t more x lo k = absurd (omega (arith, lo))
@@ -182,6 +185,7 @@ map_value ps v = (
   (all_entries ps v.2, subst IsItem (pairs-fields_of ps) v.1),
 )
 
+-- the elements of a list that is a value
 list_value : (ts : List Tree) → HasBytes (L_tree (trees_of ts))
     → (length ts < 2 ^ 64) × AllByRecursion HasBytes ts
 list_value ts v = (subst (λ us. length us < 2 ^ 64) (elements-trees_of ts) v.0, all_values ts v.1)
@@ -240,6 +244,7 @@ here-refuted bytes left (no_name count more small is non) t x v e =
         member-refuted entry_bytes IsEntry AreEntries _ pair_apart
         (λ ks h. h.0) next_name ls count bytes x left n are is non
 
+-- three pieces in front of a rest
 behind : (a b c : List ℕ) (x y : List ℕ) → x ≡ (a ++ b) ++ c → x ≡ y → a ++ (b ++ c) ≡ y
 behind a b c x y e f = sym (append_assoc a b c) ∙ sym e ∙ f
 
@@ -339,6 +344,7 @@ counted-left : (kind count : ℕ) (bytes more : List ℕ) (left : ℕ)
 counted-left kind count bytes more left is h =
     omega (arith, ap length is, length-counted count more, h)
 
+-- no more bytes are left than there are
 here-left : (bytes : List ℕ) (left : ℕ) → StopsHere bytes left → left ≤ length bytes
 here-left bytes left (no_kind non l) = omega (arith, l)
 here-left bytes left (no_text more is non) = omega (arith, ap length is, field-left _ more left non)
@@ -454,6 +460,7 @@ map_within H J count bytes more left f small is non =
     ∙ ap (λ m. 10 ∷ m) (sym (append_assoc (counted count)
     (flat_map entry_bytes non.done ++ field name) rest))) non.stops.5
 
+-- a list or a map stops where an element or a value does
 pub list_stops : (count : ℕ) (bytes more : List ℕ) (left : ℕ) → count < 2 ^ 64
     → bytes ≡ 9 ∷ (counted count ++ more)
     → NoElementOf Stops count more left → Stops bytes left
@@ -477,6 +484,7 @@ one_around : (most : ℕ) → 0 < most → (a : Around) (around : List Around) (
     → (length (a ∷ around) ≡ most) × IsNested here × (left ≡ length here)
 one_around most some a around here left h = (omega (arith, h.0, some), h.1, h.2)
 
+-- and is nested too deep where one is
 pub list_deep : (most count : ℕ) (bytes more : List ℕ) (left : ℕ) → 0 < most → count < 2 ^ 64
     → bytes ≡ 9 ∷ (counted count ++ more) → NoElementOf (TooDeep (most - 1)) count more left
     → TooDeep most bytes left

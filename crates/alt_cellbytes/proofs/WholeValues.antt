@@ -7,6 +7,7 @@ use Rattle.alt_fields.proofs.Apart.{all_map}
 use Rattle.alt_value.specs.CellBytes.{cell_bytes, counted}
 use Rattle.alt_value.specs.Size.{depth, elements_depth, fields_depth}
 use Rattle.alt_value.specs.Tree.{Tree, S_tree, N_tree, B_tree, BOOL_tree, NULL_tree, SS_tree, NS_tree, BS_tree, L_tree, M_tree, Trees, no_trees, tree_then, Fields, no_fields, field_then, elements, pairs}
+use Rattle.alt_value.proofs.Places.{both, first, second}
 use Rattle.alt_value.specs.Values.{IsValue, AreValues, AreFields, is_full, sets_full, elements_full, fields_full, IsWhole}
 use Rattle.alt_cellbytes.specs.Places.{entry_bytes}
 use Rattle.alt_cellbytes.specs.Values.{HasBytes, HaveBytes, FieldsHaveBytes}
@@ -20,19 +21,6 @@ some_member (k ∷ ks) h = omega arith
 is_some : {K : Type 0} (ks : List K) → 0 < length ks → T (is_full ks)
 is_some [] h = absurd (omega arith)
 is_some (k ∷ ks) h = tt
-
--- tests of both, and what they tell
-both : (a b : Bool) → T a → T b → T (a && b)
-both true b p q = q
-both false b p q = p
-
-first : (a b : Bool) → T (a && b) → T a
-first true b p = tt
-first false b p = p
-
-second : (a b : Bool) → T (a && b) → T b
-second true b p = p
-second false b p = absurd p
 
 mutual
   has_bytes : (t : Tree) → IsValue t → T (sets_full t) → HasBytes t
@@ -96,6 +84,7 @@ mutual
 
 -- each level of a value takes a byte at least
 mutual
+  -- so its depth is no more than its bytes
   pub depth-short : (t : Tree) → depth t ≤ length (cell_bytes t)
   depth-short (S_tree s) = omega arith
   depth-short (N_tree z) = omega arith

@@ -17,6 +17,7 @@ use Rattle.alt_cellbytes.proofs.Stopped.{stops-refuted, stops-left, deep-left}
 
 -- ---- written
 
+-- a list or a map that was written
 pub put_list : {T E : Type 0} (r : Result T E) (ts : List Tree) (t : Tree) (old new : List ℕ)
     → t ≡ L_tree (trees_of ts)
     → OnOk r (new ≡ old ++ 9 ∷ (counted (length ts) ++ flat_map cell_bytes ts))
@@ -33,6 +34,7 @@ put_map r ps t old new is h = on_ok_weaker r (λ e. e
 
 -- ---- read
 
+-- a list or a map that was read
 pub list_whole : (ts : List Tree) (count : ℕ) (bytes rest behind : List ℕ) → count < 2 ^ 64
     → bytes ≡ counted count ++ rest → length ts ≡ count
     → AllByRecursion HasBytes ts → rest ≡ flat_map cell_bytes ts ++ behind
@@ -80,6 +82,7 @@ head_tail (b ∷ bytes) h = ap (λ s. b ∷ s) (ap (λ n. take n bytes) (omega a
 abbrev pub NoneHas : List ℕ → Type 0
 NoneHas bytes = (t : Tree) → HasBytes t → bytes ≡ cell_bytes t → ⊥
 
+-- the place of a stop, and of what stands behind a whole value
 pub stop_place : (bytes : List ℕ) (left at : ℕ) → Stops bytes left → at ≡ length bytes - left
     → IsBadAt bytes at × NoneHas bytes
 stop_place bytes left at s e = (
@@ -116,6 +119,7 @@ pub same_read : (bytes : List ℕ) (t u : Tree) → HasBytes t → HasBytes u �
     → bytes ≡ cell_bytes u → t ≡ u
 same_read bytes t u v w e f = (cell_bytes-apart t u [] [] v w (ap (λ s. s ++ []) (sym e ∙ f))).0
 
+-- the whole bytes, and whether something is behind
 pub nothing_left : (bytes rest : List ℕ) (t : Tree) → bytes ≡ cell_bytes t ++ rest → length rest ≡ 0
     → bytes ≡ cell_bytes t
 nothing_left bytes [] t e n = e ∙ append-nil (cell_bytes t)

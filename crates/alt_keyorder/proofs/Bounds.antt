@@ -16,6 +16,7 @@ pub record IsEnd (front prefix : List ℕ) : Type 0 where
   pub is : prefix ≡ front ++ behind
   pub full : IsFull behind
 
+-- bytes up to the bound, where it is at the front, and behind it
 pub end_at_first : (s : List ℕ) → IsEnd s s
 end_at_first s = record { behind = []; is = sym (append-nil s); full = tt }
 
@@ -27,6 +28,7 @@ end_before front before prefix last e high h = record {
   full = (high, h.full);
 }
 
+-- the bound of bytes that begin with it
 pub bound_here : (front before prefix : List ℕ) (last : ℕ) → front ≡ before ++ last ∷ []
     → last < 255 → IsEnd front prefix → IsBoundOf before last prefix
 bound_here front before prefix last e low h = record {
@@ -36,6 +38,7 @@ bound_here front before prefix last e low h = record {
   below = low;
 }
 
+-- bytes of which each is 255
 pub all_full : (prefix : List ℕ) → IsEnd [] prefix → IsFull prefix
 all_full prefix h = rw h.is h.full
 
@@ -53,6 +56,7 @@ pub text_order-front : (f s t : List ℕ) → text_order (f ++ s) (f ++ t) ≡ t
 text_order-front [] s t = refl
 text_order-front (x ∷ f) s t = rw (nat_cmp-equal x x refl) (text_order-front f s t)
 
+-- bytes are up to those that go on from them
 pub up_to_append : (s r : List ℕ) → IsUpTo s (s ++ r)
 up_to_append [] [] = equal-greater
 up_to_append [] (x ∷ r) = less-greater
@@ -72,6 +76,7 @@ above_full (x ∷ t) (y ∷ k) full bytes h = elim (cases_order x y) [
   ]
 ]
 
+-- nothing is below no bytes
 never_below_nothing : (k : List ℕ) → IsBelow k [] → ⊥
 never_below_nothing [] h = let e : Equal ≡ Less = h in absurd (cc)
 never_below_nothing (x ∷ k) h = greater-less h
@@ -136,6 +141,7 @@ under_from_range f x p b k h e bytes low high =
     let under = between f x h.behind k h.full bytes (subst P h.is low) (subst Q e high) in
     (under.0, under.1 ∙ ap (λ s. s ++ under.0) (sym h.is))
 
+-- the keys under a prefix are those of the range
 pub range_from_under : (f : List ℕ) (x : ℕ) (p b k : List ℕ) → IsBoundOf f x p
     → b ≡ f ++ (x + 1) ∷ []
     → IsPrefix p k → IsUpTo p k × IsBelow k b
@@ -146,6 +152,7 @@ range_from_under f x p b k h e under = (
       ∙ below_bound f x h.behind under.0,
 )
 
+-- where all bytes are 255 there is no end
 pub full_range : (p k : List ℕ) → IsPrefix p k → IsUpTo p k
 full_range p k under = let P : List ℕ → Type 0 = λ s. IsUpTo p s in
     subst P (sym under.1) (up_to_append p under.0)

@@ -29,6 +29,7 @@ cut [] i h at = absurd (omega arith)
 cut (x ∷ s) zero h at = ap (λ (y : ℕ). y ∷ s) at
 cut (x ∷ s) (suc i) h at = ap (λ (t : List ℕ). x ∷ t) (cut s i (omega arith) at)
 
+-- what was found before the first 0, and behind it
 pub clean_as : (s : List ℕ) (i : ℕ) (front : List ℕ) → ((k : ℕ) → k < i → get_or s k 0 ≡ 0 → ⊥)
     → i < length s → front ≡ take i s → IsClean front
 clean_as s i front before h e = let P : List ℕ

@@ -11,6 +11,7 @@ use Rattle.alt_value.specs.Order.{tree_order}
 use Rattle.alt_value.specs.Tree.{Tree, S_tree, N_tree, B_tree, BOOL_tree, NULL_tree, SS_tree, NS_tree, BS_tree, L_tree, M_tree}
 use Rattle.alt_keyorder.specs.KeyBytes.{closed, IsPartOrder, AreApart}
 
+-- numbers by their order
 pub nat_cmp-less : (m n : ℕ) → m < n → nat_cmp m n ≡ Less
 nat_cmp-less m n h = grind arith
 
@@ -20,6 +21,7 @@ nat_cmp-equal m n h = grind arith
 pub nat_cmp-greater : (m n : ℕ) → n < m → nat_cmp m n ≡ Greater
 nat_cmp-greater m n h = grind arith
 
+-- one order after another
 pub then-assoc : (o p q : Ordering) → ordering_then (ordering_then o p) q
     ≡ ordering_then o (ordering_then p q)
 then-assoc Less p q = refl
@@ -31,6 +33,7 @@ then-equal Less p h = h
 then-equal Equal p h = refl
 then-equal Greater p h = h
 
+-- bytes tie with themselves
 pub text_order-refl : (s : List ℕ) → text_order s s ≡ Equal
 text_order-refl [] = refl
 text_order-refl (x ∷ s) = rw (nat_cmp-equal x x refl) (text_order-refl s)
@@ -50,12 +53,14 @@ closed-order (suc a ∷ s) (suc b ∷ t) x y =
     ap (ordering_then (nat_cmp (suc a) (suc b))) (closed-order s t x y)
     ∙ sym (then-assoc (nat_cmp (suc a) (suc b)) (text_order s t) (text_order x y))
 
+-- closed bytes are those of one list
 pub closed-apart : (s t x y : List ℕ) → closed s ++ x ≡ closed t ++ y → s ≡ t
 closed-apart s t x y e =
     exact_bytes s t (then-equal (text_order s t) (text_order x y)
     (sym (closed-order s t x y) ∙ ap (λ u. text_order u (closed t ++ y)) e
     ∙ text_order-refl (closed t ++ y)))
 
+-- equal lists, by their parts
 back : (x y : ℕ) (xs ys : List ℕ) → x ∷ xs ≡ y ∷ ys → xs ≡ ys
 back x y xs ys e = cc
 
@@ -85,6 +90,7 @@ apart-order (a ∷ p) (b ∷ q) x y apart = elim (cases_order a b) [
 pub text_parts : (s t : List ℕ) → IsPartOrder (S_tree s) (S_tree t) (text_order s t)
 text_parts s t = λ x y. closed-order s t x y
 
+-- parts of texts and of binaries are apart
 pub text_apart : (s t : List ℕ) → AreApart (S_tree s) (S_tree t)
 text_apart s t = λ x y e. ap S_tree (closed-apart s t x y e)
 
@@ -101,6 +107,7 @@ pub binary_law : (s : List ℕ) (u : Tree) → IfSome (tree_order (B_tree s) u)
 binary_law s (B_tree t) = text_parts s t
 binary_law s u = tt
 
+-- the same of two that have an order
 pub text_apart_law : (s : List ℕ) (u : Tree) → IfSome (tree_order (S_tree s) u)
     (λ o. AreApart (S_tree s) u)
 text_apart_law s (S_tree t) = text_apart s t
@@ -111,6 +118,7 @@ pub binary_apart_law : (s : List ℕ) (u : Tree)
 binary_apart_law s (B_tree t) = binary_apart s t
 binary_apart_law s u = tt
 
+-- the laws of values that are told otherwise
 pub from_texts : (r : Option Ordering) (a b : Tree) (s : List ℕ) → r ≡ tree_order a b → a ≡ S_tree s
     → IfSome r (IsPartOrder a b)
 from_texts r a b s e is = rw (e, is) (text_law s b)

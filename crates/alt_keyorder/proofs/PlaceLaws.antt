@@ -121,6 +121,7 @@ same_bytes : (kinds : List KeyKind) (p q : Place) → IsPlaceOf kinds p → IsPl
     → place_bytes p ≡ place_bytes q → p ≡ q
 same_bytes kinds p q h k e = (one_place kinds p q [] [] h k (ap (λ s. s ++ []) e)).0
 
+-- equal key bytes of a table are those of equal keys, and lie as their places
 pub table_tell : TableKeysTell
 table_tell h r hash range other beside k l e =
     let same = same_bytes (kinds_of h r) _ _ (in_table h r hash range k)
@@ -134,6 +135,7 @@ pub table_lie : TableKeysLie
 table_lie h r hash range other beside k l =
     places_lie (kinds_of h r) _ _ (in_table h r hash range k) (in_table h r other beside l)
 
+-- the same of an index
 pub index_tell : IndexKeysTell
 index_tell ih ir h r a b c d e f g i ka kc ke kg same =
     let place = same_bytes (kinds_of ih ir ++ kinds_of h r) _ _ (in_index ih ir h r a b c d ka kc)
@@ -168,6 +170,7 @@ with_range hash (Some range) = regroup (to_be_bytes w64 (token_of hash)) (key_by
     regroup : (a b c : List ℕ) → a ++ (b ++ (c ++ [])) ≡ (a ++ (b ++ [])) ++ c
     regroup a b c = simp (append_assoc, append-nil)
 
+-- the keys with a HASH value begin with its bytes
 pub hash_begins : HashKeysBegin
 hash_begins h hash other range k l = (
   (λ e. (

@@ -64,6 +64,7 @@ one_byte k B C small whole below m n x y =
     (sym (lexical (byte_at k m) (byte_at k n) (m % B) (n % B) B (small m) (small n))
     ∙ (λ i. nat_cmp (whole m i) (whole n i)))
 
+-- from no byte up to eight of them
 no_byte : LieBelow 0 1
 no_byte m n x y = ap (λ o. ordering_then o (text_order x y))
     (sym (nat_cmp-equal (m % 1) (n % 1) (omega arith)))
@@ -126,6 +127,7 @@ part_law (N_tree z) u k l = number_law z u k l
 part_law (B_tree b) u k l = binary_law b u
 part_law t u k l = absurd k
 
+-- equal options have equal values
 same_some : (o p : Ordering) → Some o ≡ Some p → o ≡ p
 same_some o p e = cc
 
@@ -158,6 +160,7 @@ record Both (a b : Option Ordering) (o : Ordering) : Type 0 where
   b_is : b ≡ Some second
   is : ordering_then first second ≡ o
 
+-- of two orders one after another, each
 both_of : (a b : Option Ordering) (o : Ordering) → then_order a b ≡ Some o → Both a b o
 both_of (Some p) (Some q) o e = record {
   first = p;
@@ -170,6 +173,7 @@ both_of (Some p) (Some q) o e = record {
 both_of (Some p) None o e = absurd (let f : ⊥ = cc in f)
 both_of None b o e = absurd (let f : ⊥ = cc in f)
 
+-- the parts of two places lie so
 parts_law : (ts us : List Tree) (o : Ordering) (x y : List ℕ) → AllByRecursion IsKeyValue ts
     → AllByRecursion IsKeyValue us → parts_order ts us ≡ Some o
     → text_order (flat_map key_bytes ts ++ x) (flat_map key_bytes us ++ y)
@@ -188,6 +192,7 @@ parts_law (t ∷ ts) (u ∷ us) o x y k l e =
     ∙ sym (then-assoc d.first d.second (text_order x y))
     ∙ ap (λ p. ordering_then p (text_order x y)) d.is
 
+-- the key bytes of two places lie as the places do
 pub keys-lie : KeysLieAsPlaces
 keys-lie p q o x y hp hq e =
     let d = both_of (Some (nat_cmp p.token q.token)) (parts_order p.parts q.parts) o e in
@@ -200,6 +205,7 @@ keys-lie p q o x y hp hq e =
     ∙ sym (then-assoc d.first d.second (text_order x y))
     ∙ ap (λ r. ordering_then r (text_order x y)) d.is
 
+-- parts that tie are one list
 tied_parts : (ts us : List Tree) → AllByRecursion IsKeyValue ts → parts_order ts us ≡ Some Equal
     → ts ≡ us
 tied_parts [] [] k e = refl
@@ -217,6 +223,7 @@ tied_parts (t ∷ ts) (u ∷ us) k e =
     then-second Equal p e h = h
     then-second Greater p e h = absurd (let f : ⊥ = cc in f)
 
+-- tokens that tie are equal, and places are their parts
 nat_tied : (m n : ℕ) → nat_cmp m n ≡ Equal → m ≡ n
 nat_tied m n e = grind arith
 

@@ -35,6 +35,7 @@ taken-below (suc n) (b ∷ bs) (suc i) h = taken-below n bs i h.1
 told-below : (bs : List ℕ) → ((i : ℕ) → get_or bs i 0 < 256) → from_be_bytes w64 bs < 2 ^ 64
 told-below bs h = omega (arith, h 0, h 1, h 2, h 3, h 4, h 5, h 6, h 7)
 
+-- a token is made of the first 8 bytes of a digest
 pub token_fits : TokensFit
 unfolding token_of
 token_fits t = told-below (take 8 (sha256 (cell_bytes t)))

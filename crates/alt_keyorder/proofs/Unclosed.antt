@@ -13,6 +13,7 @@ use Rattle.alt_value.specs.declared.kind.KeyKind.{KeyKind}
 use Rattle.alt_value.specs.declared.kind.KeyKind.TheVariants.{S, N, B}
 use Rattle.alt_value.specs.Tree.{S_tree, N_tree, B_tree, BOOL_tree, NULL_tree, SS_tree, NS_tree, BS_tree, L_tree, M_tree}
 
+-- equal lists have equal first elements and equal rests
 first : (x y : ℕ) (xs ys : List ℕ) → x ∷ xs ≡ y ∷ ys → x ≡ y
 first x y xs ys e = cc
 
@@ -34,16 +35,19 @@ strip (suc a ∷ c) [] tail r e = absurd (let f : suc a ≡ 0 = first _ _ _ _ e 
 strip (suc a ∷ c) (zero ∷ t) tail r e = absurd (let f : suc a ≡ 0 = first _ _ _ _ e in omega arith)
 strip (suc a ∷ c) (suc b ∷ t) tail r e = strip c t tail r (back _ _ _ _ e)
 
+-- behind escaped bytes nothing is closed where nothing was
 pub unclosed_behind : (bytes c rest : List ℕ) → bytes ≡ escaped c ++ rest → IsUnclosed rest
     → IsUnclosed bytes
 unclosed_behind bytes c rest is none = λ s behind e. let u = strip c s rest behind (sym is ∙ e) in
     none u.0 behind u.1
 
+-- closed bytes are some
 nothing_closed : (t r : List ℕ) → [] ≡ closed t ++ r → ⊥
 nothing_closed [] r e = nothing _ _ e
 nothing_closed (zero ∷ t) r e = nothing _ _ e
 nothing_closed (suc b ∷ t) r e = nothing _ _ e
 
+-- one byte that is no 0
 clean_step : (s : List ℕ) (b : ℕ) (t r : List ℕ) → IsUnclosed s → suc b ∷ s ≡ closed t ++ r → ⊥
 clean_step s b [] r none e = let f : suc b ≡ 0 = first _ _ _ _ e in omega arith
 clean_step s b (zero ∷ t) r none e = let f : suc b ≡ 0 = first _ _ _ _ e in omega arith
@@ -68,6 +72,7 @@ marked (suc a ∷ front) behind (zero ∷ t) r clean e =
     absurd (let f : suc a ≡ 0 = first _ _ _ _ e in omega arith)
 marked (suc a ∷ front) behind (suc b ∷ t) r clean e = marked front behind t r clean (back _ _ _ _ e)
 
+-- behind the first 0 another byte stands, or none
 pub unmarked : (s front : List ℕ) (mark : ℕ) (after : List ℕ) → s ≡ front ++ 0 ∷ mark ∷ after
     → IsClean front → (mark ≡ 0 → ⊥) → (mark ≡ 255 → ⊥) → IsUnclosed s
 unmarked s front mark after is clean no_end no_escape = λ t r e.
@@ -109,6 +114,7 @@ read_end bytes c rest front after len is cut clean count =
           omega (arith, count, ap length whole, length-append (closed (c ++ front)) after);
     }
 
+-- the same of what stands behind the first 0
 pub unfinished_at : (s front behind : List ℕ) → s ≡ front ++ 0 ∷ behind → IsClean front
     → length behind < 1 → IsUnclosed s
 unfinished_at s front [] is clean none = unfinished s front is clean
@@ -121,6 +127,7 @@ unmarked_at s front [] is clean some no_escape no_end = absurd (omega arith)
 unmarked_at s front (x ∷ behind) is clean some no_escape no_end =
     unmarked s front x behind is clean no_end no_escape
 
+-- a step of reading, by the mark behind the 0
 pub read_on : (bytes c rest front after : List ℕ) (g : Bool) → bytes ≡ escaped c ++ rest
     → IsCut rest front g after → g ≡ true
     → bytes ≡ escaped ((c ++ front) ++ 0 ∷ []) ++ after
@@ -137,6 +144,7 @@ read_whole bytes c rest front after g len is cut e count =
 
 -- ---- parts
 
+-- a number with the length of its spelling
 abbrev found : ℤ → ℕ → Option (ℤ × ℕ)
 found z n = Some (z, n)
 
@@ -148,6 +156,7 @@ second : (z y : ℤ) (m n : ℕ) → found z m ≡ found y n → m ≡ n
 unfolding count_found
 second z y m n e = ap count_found e
 
+-- a number that was read is the part at the front
 pub number_part : (bytes : List ℕ) (z : ℤ) (len : ℕ) → take len bytes ≡ spelled z → Fits z
     → ((y : ℤ) (rest : List ℕ) → Fits y → bytes ≡ spelled y ++ rest
     → found z len ≡ found y (length (spelled y))) → IsPart N bytes (N_tree z) len
@@ -170,6 +179,7 @@ no_text bytes s len at bad (S_tree t) behind key e =
     bad (subst P (sym (closed-apart s t at.behind behind (sym at.is ∙ e))) key)
 no_text bytes s len at bad t behind key e = absurd key
 
+-- no part stands where there are no bytes
 nothing_spelled : (z : ℤ) (r : List ℕ) → [] ≡ spelled z ++ r → ⊥
 unfolding spelled
 nothing_spelled z r =

@@ -1,4 +1,5 @@
--- Nothing is nested deeper than there are bytes, so all that is said of values nested so deep at most holds of all.
+-- Nothing is nested deeper than there are bytes, so what is said of values that are nested so deep
+-- at most holds of all.
 use Rattle.std.proofs.Common.{◌≡◌, ◌≤◌, ◌⊎◌, length, ap, inl, inr, arith, ℕ, List, ◌+◌, Result, Ok, Err}
 use Rattle.std.specs.Prelude.{IfOk}
 use Rattle.std.proofs.lemmas.Result.{IfOk-weaker}

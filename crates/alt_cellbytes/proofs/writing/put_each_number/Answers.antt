@@ -1,6 +1,7 @@
 -- A member more is written; past the last all are.
 use Rattle.alt_decimal.specs.Spelled.{spelled}
-use Rattle.alt_cellbytes.proofs.OneMore.{wrote_more, wrote_whole, begins, on_err_holds}
+use Rattle.alt_base.proofs.Prefixes.{on_err_holds}
+use Rattle.alt_cellbytes.proofs.OneMore.{wrote_more, wrote_whole, begins}
 use Rattle.alt_cellbytes.proofs.writing.put_each_number.Goals as goal
 
 pub returns-in_err-put_spelled-clause-begun : goal.returns-in_err-put_spelled-clause-begun

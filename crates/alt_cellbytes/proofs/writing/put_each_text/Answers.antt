@@ -1,7 +1,8 @@
 -- A member more is written; past the last all are.
 use Rattle.std.proofs.Common.{ap, ◌∙◌, ◌++◌}
 use Rattle.alt_fields.specs.Field.{field}
-use Rattle.alt_cellbytes.proofs.OneMore.{wrote_more, wrote_whole, begins, on_err_holds}
+use Rattle.alt_base.proofs.Prefixes.{on_err_holds}
+use Rattle.alt_cellbytes.proofs.OneMore.{wrote_more, wrote_whole, begins}
 use Rattle.alt_cellbytes.proofs.writing.put_each_text.Goals as goal
 
 pub returns-in_err-put_bytes-clause-begun : goal.returns-in_err-put_bytes-clause-begun

@@ -51,7 +51,7 @@ with_digits s z = elim (exponent s) as (λ o. exponent s ≡ o → ReadsAs s (nu
   | Some e ↦ λ f. parts s e z f
 ] refl
 
-reads : (s : List ℕ) → ReadsAs s (number_of s)
+pub reads : (s : List ℕ) → ReadsAs s (number_of s)
 reads s = elim (cases_Bool (digit_count s == 0)) [
   | inl e ↦ no_reading s (none_at_all s e)
   | inr e ↦ with_digits s e

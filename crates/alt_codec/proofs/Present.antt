@@ -10,7 +10,7 @@ use Rattle.alt_codec.specs.declared.fault.ValueFault.TheVariants as fault
 use Rattle.alt_codec.specs.Reading.{Answer, value_in, only_member, only_present, all_null, payload_in}
 
 -- the answer of the one member that is there
-pub of_present : ℕ → Option (List ℕ × Data) → Answer
+unfoldable pub of_present : ℕ → Option (List ℕ × Data) → Answer
 of_present room None = Err fault.NotOneMember
 of_present room (Some p) = payload_in room p.0 p.1
 

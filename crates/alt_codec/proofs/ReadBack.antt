@@ -24,7 +24,7 @@ use Rattle.alt_value.proofs.Places.{first, second, less, turned}
 use Rattle.alt_value.proofs.Texts.{text_total, text_apart}
 use Rattle.alt_codec.specs.declared.fault.ValueFault.{ValueFault}
 use Rattle.alt_codec.specs.Reading.{value_in, elements_in, fields_in, if_room}
-use Rattle.alt_codec.specs.ReadBack.{is_full, elements_full, fields_full}
+use Rattle.alt_value.specs.Values.{is_full, elements_full, fields_full}
 use Rattle.alt_codec.specs.Returning.{NumberReturns, BytesReturn, Returns, ItemReturns, Each}
 use Rattle.alt_codec.specs.Scalars.{text_in, number_in, binary_in, or_bad_number, or_bad_base64}
 use Rattle.alt_codec.specs.Sets.{sound, first_fault, told, members_in, then_sound, or_later}
@@ -102,7 +102,7 @@ binaries_return bs rising h room full fits =
 
 -- ---- lists
 
-some_room : {A : Type 0} (room : ℕ) (r : Result A ValueFault) → 0 < room → if_room room r ≡ r
+pub some_room : {A : Type 0} (room : ℕ) (r : Result A ValueFault) → 0 < room → if_room room r ≡ r
 some_room room r h = rw (ne_eqb room 0 (λ z. omega (arith, z, h))) refl
 
 elements_in-written : (ts : List Tree) → Each Returns ts → (room : ℕ) → T (elements_full (trees_of ts)) → elements_depth (trees_of ts) ≤ room

@@ -1,6 +1,6 @@
 -- Which value a JSON tree stands for, by cases over the ten kinds, and else its one fault: the first on a walk that tests a
 -- value before its elements, a list by rising index and a map by name in byte order (DynamoDB API Reference, "AttributeValue").
-use Rattle.std.specs.Prelude.{ℕ, ◌-◌, Bool, true, false, List, [], ◌∷◌, codes, ◌==◌, length, Result, Ok, Err, Option, Some, None, if◌then◌else◌}
+use Rattle.std.specs.Prelude.{ℕ, ◌-◌, Bool, true, false, ◌&&◌, List, [], ◌∷◌, codes, ◌==◌, length, Result, Ok, Err, Option, Some, None, if◌then◌else◌}
 use Rattle.std.specs.Str.{bytes_eq}
 use Rattle.std.specs.Ordering.{int_cmp}
 use Rattle.serde_json.specs.Data.{Data, null, boolean, number, string, array, object, Items, no_items, item, Members, no_members, member}
@@ -16,15 +16,19 @@ use Rattle.alt_codec.specs.Steps.{and_then, map_ok}
 abbrev pub Answer : Type 0
 Answer = Result Tree ValueFault
 
+-- a JSON tree is null
+abbrev pub is_null : Data → Bool
+is_null null = true
+is_null (boolean b) = false
+is_null (number n) = false
+is_null (string s) = false
+is_null (array ds) = false
+is_null (object ms) = false
+
 -- each member is null, and so counts as absent
 abbrev pub all_null : Members → Bool
 all_null no_members = true
-all_null (member name null ms) = all_null ms
-all_null (member name (boolean b) ms) = false
-all_null (member name (number n) ms) = false
-all_null (member name (string s) ms) = false
-all_null (member name (array ds) ms) = false
-all_null (member name (object os) ms) = false
+all_null (member name d ms) = is_null d && all_null ms
 
 -- the value of a kind without nested values; no other name is one of a kind
 abbrev pub flat_in : List ℕ → Data → Answer
@@ -52,10 +56,10 @@ if_room room answer = if room == 0 then Err fault.TooDeep else answer
 abbrev mutual
   pub value_in : ℕ → Data → Answer
   value_in room null = Err fault.WrongJson
-  value_in room (boolean b) = Err fault.NotOneMember
-  value_in room (number n) = Err fault.NotOneMember
-  value_in room (string s) = Err fault.NotOneMember
-  value_in room (array ds) = Err fault.NotOneMember
+  value_in room (boolean b) = Err fault.WrongJson
+  value_in room (number n) = Err fault.WrongJson
+  value_in room (string s) = Err fault.WrongJson
+  value_in room (array ds) = Err fault.WrongJson
   value_in room (object ms) = only_member room ms
 
   -- a null member counts as absent; another has to be the only one
@@ -82,14 +86,6 @@ abbrev mutual
   fields_in room found no_members = Ok found
   fields_in room found (member name d ms) =
       if length name == 0 then Err fault.EmptyName else and_then (λ t. fields_in room (with_pair name t found) ms) (value_in room d)
-
-abbrev pub is_null : Data → Bool
-is_null null = true
-is_null (boolean b) = false
-is_null (number n) = false
-is_null (string s) = false
-is_null (array ds) = false
-is_null (object ms) = false
 
 -- the one member that isn't null
 abbrev pub only_present : Members → Option (List ℕ × Data)

@@ -50,8 +50,10 @@ AreMembersOf P (item d ds) [] = ⊥
 AreMembersOf P (item d ds) (k ∷ ks) = IsMemberOf P d k × AreMembersOf P ds ks
 
 -- the items of a set: one at least, for members in any order of which no two are equal
-abbrev pub IsSetOf : {K : Type 0} → (K → K → Ordering) → (List ℕ → K → Type 0) → Items → List K → Type 0
-IsSetOf {K} R P ds set = (ks : List K) × AreMembersOf P ds ks × (0 < length ks) × (set_of R ks ≡ Some set)
+abbrev pub IsSetOf : {K : Type 0} → (K → K → Ordering) → (List ℕ → K → Type 0) → Items → List K
+    → Type 0
+IsSetOf {K} R P ds set = (ks : List K) × AreMembersOf P ds ks × (0 < length ks)
+    × (set_of R ks ≡ Some set)
 
 -- the item with these pairs more, put in one after another
 abbrev pub with_pairs : List Pair → List Pair → List Pair
@@ -61,36 +63,49 @@ with_pairs found (p ∷ ps) = with_pairs (with_pair p.0 p.1 found) ps
 mutual
   -- a value: lists and maps in it nest so many levels at most
   pub data JsonOf : ℕ → Data → Tree → Type 0 where
-    is_text : (room : ℕ) (ms : Members) (s : List ℕ) → IsOnly ms (codes "S") (string s) → JsonOf room (object ms) (S_tree s)
-    is_number : (room : ℕ) (ms : Members) (text : List ℕ) (z : ℤ) → IsOnly ms (codes "N") (string text) → IsNumberOf text z
+    is_text : (room : ℕ) (ms : Members) (s : List ℕ) → IsOnly ms (codes "S") (string s)
+        → JsonOf room (object ms) (S_tree s)
+    is_number : (room : ℕ) (ms : Members) (text : List ℕ) (z : ℤ)
+        → IsOnly ms (codes "N") (string text) → IsNumberOf text z
         → JsonOf room (object ms) (N_tree z)
-    is_binary : (room : ℕ) (ms : Members) (text b : List ℕ) → IsOnly ms (codes "B") (string text) → IsBinaryOf text b
+    is_binary : (room : ℕ) (ms : Members) (text b : List ℕ) → IsOnly ms (codes "B") (string text)
+        → IsBinaryOf text b
         → JsonOf room (object ms) (B_tree b)
-    is_truth : (room : ℕ) (ms : Members) (b : Bool) → IsOnly ms (codes "BOOL") (boolean b) → JsonOf room (object ms) (BOOL_tree b)
-    is_none : (room : ℕ) (ms : Members) → IsOnly ms (codes "NULL") (boolean true) → JsonOf room (object ms) NULL_tree
-    is_texts : (room : ℕ) (ms : Members) (ds : Items) (ss : List (List ℕ)) → IsOnly ms (codes "SS") (array ds)
+    is_truth : (room : ℕ) (ms : Members) (b : Bool) → IsOnly ms (codes "BOOL") (boolean b)
+        → JsonOf room (object ms) (BOOL_tree b)
+    is_none : (room : ℕ) (ms : Members) → IsOnly ms (codes "NULL") (boolean true)
+        → JsonOf room (object ms) NULL_tree
+    is_texts : (room : ℕ) (ms : Members) (ds : Items) (ss : List (List ℕ))
+        → IsOnly ms (codes "SS") (array ds)
         → IsSetOf text_order IsTextOf ds ss → JsonOf room (object ms) (SS_tree ss)
-    is_numbers : (room : ℕ) (ms : Members) (ds : Items) (zs : List ℤ) → IsOnly ms (codes "NS") (array ds)
+    is_numbers : (room : ℕ) (ms : Members) (ds : Items) (zs : List ℤ)
+        → IsOnly ms (codes "NS") (array ds)
         → IsSetOf int_cmp IsNumberOf ds zs → JsonOf room (object ms) (NS_tree zs)
-    is_binaries : (room : ℕ) (ms : Members) (ds : Items) (bs : List (List ℕ)) → IsOnly ms (codes "BS") (array ds)
+    is_binaries : (room : ℕ) (ms : Members) (ds : Items) (bs : List (List ℕ))
+        → IsOnly ms (codes "BS") (array ds)
         → IsSetOf text_order IsBinaryOf ds bs → JsonOf room (object ms) (BS_tree bs)
-    is_list : (room : ℕ) (ms : Members) (ds : Items) (ts : List Tree) → IsOnly ms (codes "L") (array ds) → ElementsOf room ds ts
+    is_list : (room : ℕ) (ms : Members) (ds : Items) (ts : List Tree)
+        → IsOnly ms (codes "L") (array ds) → ElementsOf room ds ts
         → JsonOf (suc room) (object ms) (L_tree (trees_of ts))
-    is_map : (room : ℕ) (ms os : Members) (ps : List Pair) → IsOnly ms (codes "M") (object os) → PairsOf room os ps
+    is_map : (room : ℕ) (ms os : Members) (ps : List Pair) → IsOnly ms (codes "M") (object os)
+        → PairsOf room os ps
         → JsonOf (suc room) (object ms) (M_tree (fields_of (with_pairs [] ps)))
 
   -- the elements of a list, place by place
   pub data ElementsOf : ℕ → Items → List Tree → Type 0 where
     no_elements : (room : ℕ) → ElementsOf room no_items []
-    element_then : (room : ℕ) (d : Data) (ds : Items) (t : Tree) (ts : List Tree) → JsonOf room d t → ElementsOf room ds ts
+    element_then : (room : ℕ) (d : Data) (ds : Items) (t : Tree) (ts : List Tree) → JsonOf room d t
+        → ElementsOf room ds ts
         → ElementsOf room (item d ds) (t ∷ ts)
 
   -- the pairs of a map: each name that isn't empty, with the value that its JSON stands for
   pub data PairsOf : ℕ → Members → List Pair → Type 0 where
     no_pairs : (room : ℕ) → PairsOf room no_members []
-    pair_then : (room : ℕ) (name : List ℕ) (d : Data) (ms : Members) (t : Tree) (ps : List Pair) → 0 < length name → JsonOf room d t
+    pair_then : (room : ℕ) (name : List ℕ) (d : Data) (ms : Members) (t : Tree) (ps : List Pair)
+        → 0 < length name → JsonOf room d t
         → PairsOf room ms ps → PairsOf room (member name d ms) ((name, t) ∷ ps)
 
 -- an object stands for the item of its pairs
 abbrev pub ItemJsonOf : ℕ → Data → List Pair → Type 0
-ItemJsonOf room d i = (ms : Members) × (ps : List Pair) × (d ≡ object ms) × PairsOf room ms ps × (i ≡ with_pairs [] ps)
+ItemJsonOf room d i = (ms : Members) × (ps : List Pair) × (d ≡ object ms) × PairsOf room ms ps
+    × (i ≡ with_pairs [] ps)

@@ -13,7 +13,8 @@ ReadsAs room d t = T (sets_full t) → depth t ≤ room → value_in room d ≡ 
 
 -- the JSON is read as that item
 abbrev pub ReadsAsItem : ℕ → Data → List Pair → Type 0
-ReadsAsItem room d item = T (fields_full (fields_of item)) → fields_depth (fields_of item) ≤ room → item_in room d ≡ Ok item
+ReadsAsItem room d item = T (fields_full (fields_of item)) → fields_depth (fields_of item) ≤ room
+    → item_in room d ≡ Ok item
 
 -- so it stands for that value
 abbrev pub StandsFor : ℕ → Data → Tree → Type 0

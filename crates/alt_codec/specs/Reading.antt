@@ -13,6 +13,7 @@ use Rattle.alt_codec.specs.Scalars.{text_in, number_in, binary_in, truth_in, nul
 use Rattle.alt_codec.specs.Sets.{members_in}
 use Rattle.alt_codec.specs.Steps.{and_then, map_ok}
 
+-- a value or a fault
 abbrev pub Answer : Type 0
 Answer = Result Tree ValueFault
 
@@ -69,46 +70,63 @@ abbrev mutual
 
   pub first_member : Answer → Bool → ℕ → List ℕ → Data → Answer
   first_member others alone room name null = others
-  first_member others alone room name (boolean b) = if alone then by_kind name (Err fault.WrongJson) (Err fault.WrongJson) (flat_in name (boolean b)) else Err fault.NotOneMember
-  first_member others alone room name (number n) = if alone then by_kind name (Err fault.WrongJson) (Err fault.WrongJson) (flat_in name (number n)) else Err fault.NotOneMember
-  first_member others alone room name (string s) = if alone then by_kind name (Err fault.WrongJson) (Err fault.WrongJson) (flat_in name (string s)) else Err fault.NotOneMember
+  first_member others alone room name (boolean b) =
+      if alone then by_kind name (Err fault.WrongJson) (Err fault.WrongJson)
+      (flat_in name (boolean b)) else Err fault.NotOneMember
+  first_member others alone room name (number n) =
+      if alone then by_kind name (Err fault.WrongJson) (Err fault.WrongJson)
+      (flat_in name (number n)) else Err fault.NotOneMember
+  first_member others alone room name (string s) =
+      if alone then by_kind name (Err fault.WrongJson) (Err fault.WrongJson)
+      (flat_in name (string s)) else Err fault.NotOneMember
   first_member others alone room name (array ds) =
-      if alone then by_kind name (if_room room (map_ok (λ ts. L_tree (trees_of ts)) (elements_in (room - 1) ds))) (Err fault.WrongJson) (flat_in name (array ds)) else Err fault.NotOneMember
+      if alone then by_kind name (if_room room
+      (map_ok (λ ts. L_tree (trees_of ts)) (elements_in (room - 1) ds))) (Err fault.WrongJson)
+      (flat_in name (array ds)) else Err fault.NotOneMember
   first_member others alone room name (object ms) =
-      if alone then by_kind name (Err fault.WrongJson) (if_room room (map_ok (λ ps. M_tree (fields_of ps)) (fields_in (room - 1) [] ms))) (flat_in name (object ms)) else Err fault.NotOneMember
+      if alone then by_kind name (Err fault.WrongJson)
+      (if_room room (map_ok (λ ps. M_tree (fields_of ps)) (fields_in (room - 1) [] ms)))
+      (flat_in name (object ms)) else Err fault.NotOneMember
 
   pub elements_in : ℕ → Items → Result (List Tree) ValueFault
   elements_in room no_items = Ok []
-  elements_in room (item d ds) = and_then (λ t. map_ok (λ ts. t ∷ ts) (elements_in room ds)) (value_in room d)
+  elements_in room (item d ds) = and_then (λ t. map_ok (λ ts. t ∷ ts) (elements_in room ds))
+      (value_in room d)
 
   -- The pairs of a map, each put to those found so far. A name is tested before the value that it has.
   pub fields_in : ℕ → List Pair → Members → Result (List Pair) ValueFault
   fields_in room found no_members = Ok found
   fields_in room found (member name d ms) =
-      if length name == 0 then Err fault.EmptyName else and_then (λ t. fields_in room (with_pair name t found) ms) (value_in room d)
+      if length name == 0 then Err fault.EmptyName
+      else and_then (λ t. fields_in room (with_pair name t found) ms) (value_in room d)
 
 -- the one member that isn't null
 abbrev pub only_present : Members → Option (List ℕ × Data)
 only_present no_members = None
-only_present (member name d ms) = if is_null d then only_present ms else (if all_null ms then Some (name, d) else None)
+only_present (member name d ms) = if is_null d then only_present ms
+    else (if all_null ms then Some (name, d) else None)
 
 -- what a kind's payload stands for, by the kind's name
 abbrev pub list_in : ℕ → Data → Answer
-list_in room (array ds) = if_room room (map_ok (λ ts. L_tree (trees_of ts)) (elements_in (room - 1) ds))
+list_in room (array ds) = if_room room (map_ok (λ ts. L_tree (trees_of ts))
+    (elements_in (room - 1) ds))
 list_in room null = Err fault.WrongJson
 list_in room (boolean b) = Err fault.WrongJson
 list_in room (number n) = Err fault.WrongJson
 list_in room (string s) = Err fault.WrongJson
 list_in room (object ms) = Err fault.WrongJson
 
+-- a map is an object of values, where there is room for it
 abbrev pub map_in : ℕ → Data → Answer
-map_in room (object ms) = if_room room (map_ok (λ ps. M_tree (fields_of ps)) (fields_in (room - 1) [] ms))
+map_in room (object ms) = if_room room (map_ok (λ ps. M_tree (fields_of ps))
+    (fields_in (room - 1) [] ms))
 map_in room null = Err fault.WrongJson
 map_in room (boolean b) = Err fault.WrongJson
 map_in room (number n) = Err fault.WrongJson
 map_in room (string s) = Err fault.WrongJson
 map_in room (array ds) = Err fault.WrongJson
 
+-- by the name of the kind
 abbrev pub payload_in : ℕ → List ℕ → Data → Answer
 payload_in room name d = by_kind name (list_in room d) (map_in room d) (flat_in name d)
 

@@ -21,7 +21,8 @@ use std::alloc::Global;
 /// The value of a kind's name and its payload, where the kind is none of lists and maps.
 pub(crate) fn flat_of(alloc: Global, name: &str, v: &Value) -> Result<Attr, ValueFault>
     ensures value { IfOk result (λ a. flat_in name.now (view v.now) ≡ Ok (tree_of a)) }
-    ensures fault { IfErr result (λ f. f ≢ ValueFault.NoMemory → flat_in name.now (view v.now) ≡ Err f) }
+    ensures fault { IfErr result (λ f. f ≢ ValueFault.NoMemory
+        → flat_in name.now (view v.now) ≡ Err f) }
 {
     match name {
         "S" => text_value(alloc, v),

@@ -23,7 +23,8 @@ pub fn attr_of_json(alloc: Global, v: &Value) -> Result<Attr, ValueFault>
     ensures fault { IfErr result (λ f. f ≢ ValueFault.NoMemory → value_in 32 (view v.now) ≡ Err f) }
     // So it is the value exactly where the JSON stands for one.
     ensures json { IfOk result (λ a. JsonOf 32 (view v.now) (tree_of a)) }
-    ensures none { IfErr result (λ f. f ≢ ValueFault.NoMemory → (t : Tree) → JsonOf 32 (view v.now) t → ⊥) }
+    ensures none { IfErr result (λ f. f ≢ ValueFault.NoMemory → (t : Tree)
+        → JsonOf 32 (view v.now) t → ⊥) }
     // What is read is a value, and no set in it is empty.
     ensures whole { IfOk result (λ a. IsWhole (tree_of a)) }
 {
@@ -42,7 +43,8 @@ pub fn item_of_json(alloc: Global, v: &Value) -> Result<Item, ValueFault>
     ensures fault { IfErr result (λ f. f ≢ ValueFault.NoMemory → item_in 32 (view v.now) ≡ Err f) }
     // So it is the item exactly where the JSON stands for one.
     ensures json { IfOk result (λ i. ItemJsonOf 32 (view v.now) i) }
-    ensures none { IfErr result (λ f. f ≢ ValueFault.NoMemory → (i : List Pair) → ItemJsonOf 32 (view v.now) i → ⊥) }
+    ensures none { IfErr result (λ f. f ≢ ValueFault.NoMemory → (i : List Pair)
+        → ItemJsonOf 32 (view v.now) i → ⊥) }
     // What is read is an item of values, and no set in it is empty.
     ensures whole { IfOk result IsWholeItem }
 {
@@ -59,16 +61,17 @@ fn item_at(alloc: Global, v: &Value) -> Result<Item, ValueFault>
     ensures value { IfOk result (λ i. item_in 32 (view v.now) ≡ Ok i) }
     ensures fault { IfErr result (λ f. f ≢ ValueFault.NoMemory → item_in 32 (view v.now) ≡ Err f) }
 {
-    match v.as_object() {
-        Some(members) => fields_at(alloc, members, LEVELS),
-        None => Err(ValueFault::WrongJson),
-    }
+    let Some(members) = v.as_object() else {
+        return Err(ValueFault::WrongJson);
+    };
+    fields_at(alloc, members, LEVELS)
 }
 
 /// The one member that isn't null.
 #[tactic(auto, using(crate::proofs::Present::found_null, crate::proofs::Present::found_first, crate::proofs::Present::found_second, crate::proofs::Present::found_end, crate::proofs::Present::found_none))]
 fn only_present(members: &Map<String, Value>) -> Option<(&str, &Value)>
-    ensures { option_map (λ p. (p.0.now, view p.1.now)) result ≡ the_only_present (members_view members.now.entries) }
+    ensures { option_map (λ p. (p.0.now, view p.1.now)) result
+        ≡ the_only_present (members_view members.now.entries) }
 {
     let mut found = None;
     for (name, v) in members {
@@ -85,14 +88,15 @@ fn only_present(members: &Map<String, Value>) -> Option<(&str, &Value)>
 #[cycle(reading)]
 fn value_at(alloc: Global, v: &Value, room: u32) -> Result<Attr, ValueFault>
     ensures value { IfOk result (λ a. value_in room (view v.now) ≡ Ok (tree_of a)) }
-    ensures fault { IfErr result (λ f. f ≢ ValueFault.NoMemory → value_in room (view v.now) ≡ Err f) }
+    ensures fault { IfErr result (λ f. f ≢ ValueFault.NoMemory
+        → value_in room (view v.now) ≡ Err f) }
 {
-    let Some(members) = v.as_object() else {
-        return Err(ValueFault::WrongJson);
-    };
-    match only_present(members) {
-        Some((name, payload)) => payload_at(alloc, name, payload, room),
-        None => Err(ValueFault::NotOneMember),
+    match v.as_object() {
+        Some(members) => match only_present(members) {
+            Some((name, payload)) => payload_at(alloc, name, payload, room),
+            None => Err(ValueFault::NotOneMember),
+        },
+        None => Err(ValueFault::WrongJson),
     }
 }
 
@@ -100,7 +104,8 @@ fn value_at(alloc: Global, v: &Value, room: u32) -> Result<Attr, ValueFault>
 #[cycle(reading)]
 fn payload_at(alloc: Global, name: &str, v: &Value, room: u32) -> Result<Attr, ValueFault>
     ensures value { IfOk result (λ a. payload_in room name.now (view v.now) ≡ Ok (tree_of a)) }
-    ensures fault { IfErr result (λ f. f ≢ ValueFault.NoMemory → payload_in room name.now (view v.now) ≡ Err f) }
+    ensures fault { IfErr result (λ f. f ≢ ValueFault.NoMemory
+        → payload_in room name.now (view v.now) ≡ Err f) }
 {
     match name {
         "L" => list_at(alloc, v, room),
@@ -112,7 +117,8 @@ fn payload_at(alloc: Global, name: &str, v: &Value, room: u32) -> Result<Attr, V
 #[cycle(reading)]
 fn list_at(alloc: Global, v: &Value, room: u32) -> Result<Attr, ValueFault>
     ensures value { IfOk result (λ a. list_in room (view v.now) ≡ Ok (tree_of a)) }
-    ensures fault { IfErr result (λ f. f ≢ ValueFault.NoMemory → list_in room (view v.now) ≡ Err f) }
+    ensures fault { IfErr result (λ f. f ≢ ValueFault.NoMemory
+        → list_in room (view v.now) ≡ Err f) }
 {
     let Some(items) = v.as_array() else {
         return Err(ValueFault::WrongJson);
@@ -129,7 +135,8 @@ fn list_at(alloc: Global, v: &Value, room: u32) -> Result<Attr, ValueFault>
 #[cycle(reading)]
 fn elements_at(alloc: Global, items: &[Value], room: u32) -> Result<AttrList, ValueFault>
     ensures value { IfOk result (λ l. elements_in room (items_view items.now) ≡ Ok l) }
-    ensures fault { IfErr result (λ f. f ≢ ValueFault.NoMemory → elements_in room (items_view items.now) ≡ Err f) }
+    ensures fault { IfErr result (λ f. f ≢ ValueFault.NoMemory
+        → elements_in room (items_view items.now) ≡ Err f) }
 {
     let mut list = AttrList::new(alloc);
     for v in items {
@@ -159,7 +166,8 @@ fn map_at(alloc: Global, v: &Value, room: u32) -> Result<Attr, ValueFault>
 #[cycle(reading)]
 fn fields_at(alloc: Global, members: &Map<String, Value>, room: u32) -> Result<Item, ValueFault>
     ensures value { IfOk result (λ i. fields_in room [] (members_view members.now.entries) ≡ Ok i) }
-    ensures fault { IfErr result (λ f. f ≢ ValueFault.NoMemory → fields_in room [] (members_view members.now.entries) ≡ Err f) }
+    ensures fault { IfErr result (λ f. f ≢ ValueFault.NoMemory
+        → fields_in room [] (members_view members.now.entries) ≡ Err f) }
 {
     let mut item = Item::new(alloc);
     for (name, v) in members {

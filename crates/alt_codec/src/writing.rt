@@ -150,7 +150,8 @@ fn json_of_numbers(alloc: Global, set: &NumberSet) -> Result<Vec<Value>, NoMemor
 }
 
 fn json_of_byte_strings(alloc: Global, set: &BytesSet) -> Result<Vec<Value>, NoMemory>
-    ensures json { IfOk result (λ vs. items_view vs.items ≡ strings (map (encode_of standard) set.now)) }
+    ensures json { IfOk result (λ vs. items_view vs.items
+        ≡ strings (map (encode_of standard) set.now)) }
     ensures read_back { IfOk result (λ _. Returns (BS_tree set.now)) }
 {
     let mut values = Vec::with_capacity(alloc, set.len())?;

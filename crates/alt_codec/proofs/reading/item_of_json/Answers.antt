@@ -14,9 +14,11 @@ returns-in-Ok-clause-json c = item-there 32 (view c.args.v.now) c.in-Ok.item c.i
 pub returns-in-Ok-clause-whole : goal.returns-in-Ok-clause-whole
 returns-in-Ok-clause-whole c = (
   c.len-count.ensures.values,
-  at_ok (λ i. T (fields_full (fields_of i))) (item_in 32 (view c.args.v.now)) c.in-Ok.item c.in-Ok.ensures.value
+  at_ok (λ i. T (fields_full (fields_of i))) (item_in 32 (view c.args.v.now)) c.in-Ok.item
+      c.in-Ok.ensures.value
       (item_full 32 (view c.args.v.now)),
 )
 
 pub returns-in-Err-clause-none : goal.returns-in-Err-clause-none
-returns-in-Err-clause-none c = λ found. no_item (view c.args.v.now) c.in-Err.fault (c.in-Err.ensures.fault found)
+returns-in-Err-clause-none c = λ found. no_item (view c.args.v.now) c.in-Err.fault
+    (c.in-Err.ensures.fault found)

@@ -10,10 +10,12 @@ use Rattle.alt_codec.proofs.writing.json_of_item.Goals as goal
 
 pub returns-clause-no_float : goal.returns-clause-no_float
 returns-clause-no_float c =
-    ap has_float (view-Object c.in_ok-json_of_members.field-0) ∙ ap members_have_float c.in_ok-json_of_members.ensures.json ∙ pairs_plain c.args.i.now
+    ap has_float (view-Object c.in_ok-json_of_members.field-0)
+    ∙ ap members_have_float c.in_ok-json_of_members.ensures.json ∙ pairs_plain c.args.i.now
 
 pub returns-clause-stands : goal.returns-clause-stands
 returns-clause-stands c = λ full fits.
     item-there 32 _ c.args.i.now
-    (ap (item_in 32) (view-Object c.in_ok-json_of_members.field-0 ∙ ap object c.in_ok-json_of_members.ensures.json)
+    (ap (item_in 32) (view-Object c.in_ok-json_of_members.field-0
+    ∙ ap object c.in_ok-json_of_members.ensures.json)
     ∙ c.in_ok-json_of_members.ensures.read_back 32 full fits)

@@ -38,6 +38,7 @@ tick_fault a b c tick fault = record {
     goes = goes_on a b c tick.call.goes fault.goes;
     step = omega (arith, tick.call.step, fault.moment);
     cause = λ _. omega (arith, tick.call.goes.faults, fault.rose);
+    well = λ ok. absurd (false≢true ok);
   };
   moment = fault.moment ∙ tick.moment;
   reads = fault.reads ∙ tick.reads;

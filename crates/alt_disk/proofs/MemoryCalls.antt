@@ -1,17 +1,18 @@
 -- What a call of a disk in memory leaves, as its user sees it.
-use Rattle.std.proofs.Common.{◌≡◌, ◌≢◌, ◌<◌, ◌≤◌, ◌+◌, ◌-◌, ◌^◌, ℕ, Bool, true, false, List, [], ◌∷◌, ◌++◌, Option, Some, None, refl, sym, ◌∙◌, ap, subst, arith}
+use Rattle.std.proofs.Common.{◌≡◌, ◌⊎◌, inl, inr, ◌≢◌, ◌<◌, ◌≤◌, ◌+◌, ◌-◌, ◌^◌, ℕ, Bool, true, false, List, [], ◌∷◌, ◌++◌, Option, Some, None, refl, sym, ◌∙◌, ap, subst, arith}
 use Rattle.std.specs.List.{All}
 use Rattle.alt_base.specs.Counts.{Rose, next_moment}
 use Rattle.alt_disk.specs.Fates.{Fates, Fits}
 use Rattle.alt_disk.specs.Disk.{DiskState, Tick, Silent, ReadCall, Synced, Same, now}
 use Rattle.alt_disk.specs.Memory.{Track, nothing, after, replay, at_moment, Timed, fates_after}
 use Rattle.alt_disk.specs.MemoryState.{memory_state}
-use Rattle.alt_disk.specs.Acted.{Acted, ActedSome, PushedSome}
+use Rattle.alt_disk.specs.Acted.{Acted, ActedSome, CountsAs, PushedSome, KeptSome}
 use Rattle.alt_disk.specs.Honest.{until-all}
 use Rattle.alt_disk.specs.declared.made.Deed.{Deed}
 use Rattle.alt_disk.specs.declared.made.Deed.TheVariants.{Sync}
 use Rattle.alt_disk.specs.declared.made.Made.{Made}
 use Rattle.std.proofs.lemmas.Bool.{false≢true}
+use Rattle.alt_disk.proofs.Calls.{same_on}
 use Rattle.alt_disk.proofs.Shapes.{synced_fits}
 use Rattle.alt_disk.proofs.Replay.{replay-push, call-own, call-other, until-push, timed_later, timed_push}
 
@@ -33,9 +34,10 @@ same_list calls m n fa fb ra rb timed le = record {
 }
 
 -- a call that keeps nothing
-pub silent_call : (calls new : List Made) (m n fa fb ra rb : ℕ) (ok : Bool) → All (Timed m) calls → new ≡ calls → m < 2 ^ 64 - 1 → n ≡ m + 1 → rb ≡ ra → fa ≤ fb → (ok ≡ false → Rose fa fb)
-    → Silent (memory_state calls m fa ra) (memory_state new n fb rb) ok
-silent_call calls new m n fa fb ra rb ok timed stays below next reads later rose =
+pub silent_call : (calls new : List Made) (m n fa fb ra rb : ℕ) (ok : Bool) → All (Timed m) calls
+    → new ≡ calls → m < 2 ^ 64 - 1 → n ≡ m + 1 → rb ≡ ra → fa ≤ fb → (ok ≡ false → Rose fa fb)
+    → (ok ≡ true → fb ≡ fa) → Silent (memory_state calls m fa ra) (memory_state new n fb rb) ok
+silent_call calls new m n fa fb ra rb ok timed stays below next reads later rose well =
     subst (λ (l : List Made). Silent (memory_state calls m fa ra) (memory_state l n fb rb) ok) (sym stays)
     (record {
       tick = record {
@@ -43,6 +45,7 @@ silent_call calls new m n fa fb ra rb ok timed stays below next reads later rose
           goes = record { tells = refl; honest = refl; beside = refl; anchors = refl; later = omega arith; faults = later; past = λ t f le. refl };
           step = omega (arith, next_below m n below next);
           cause = rose;
+          well = well;
         };
         moment = next_below m n below next;
         reads = reads;
@@ -62,6 +65,7 @@ last_call calls new m n fa fb ra rb timed stays last same reads later rose =
           goes = record { tells = refl; honest = refl; beside = refl; anchors = refl; later = omega arith; faults = later; past = λ t f le. refl };
           step = omega (arith, next_last m n last same);
           cause = λ _. rose;
+          well = λ ok. absurd (false≢true ok);
         };
         moment = next_last m n last same;
         reads = reads;
@@ -101,8 +105,9 @@ module _ (calls : List Made) (m fa fb ra rb : ℕ) (made : Made) (timed : All (T
   }
 
   -- it leaves the images of the past
-  pub tick_call : (ok : Bool) → m < 2 ^ 64 - 1 → rb ≡ ra → fa ≤ fb → (ok ≡ false → Rose fa fb) → Tick (memory_state calls m fa ra) (memory_state pushed (m + 1) fb rb) ok
-  tick_call ok below reads later rose = record {
+  pub tick_call : (ok : Bool) → m < 2 ^ 64 - 1 → rb ≡ ra → fa ≤ fb → (ok ≡ false → Rose fa fb)
+      → (ok ≡ true → fb ≡ fa) → Tick (memory_state calls m fa ra) (memory_state pushed (m + 1) fb rb) ok
+  tick_call ok below reads later rose well = record {
     call = record {
       goes = record {
         tells = refl;
@@ -115,6 +120,7 @@ module _ (calls : List Made) (m fa fb ra rb : ℕ) (made : Made) (timed : All (T
       };
       step = omega (arith, next_below m (m + 1) below refl);
       cause = rose;
+      well = well;
     };
     moment = next_below m (m + 1) below refl;
     reads = reads;
@@ -134,14 +140,15 @@ acted_some calls mid new m mid_m n fa fb ra rb f (Some deed) timed same_calls sa
 
 -- and its moment
 pub tick_some : (calls mid new : List Made) (m mid_m n fa fb ra rb f : ℕ) (deed : Option Deed) (ok : Bool) → All (Timed m) calls → mid ≡ calls → mid_m ≡ m + 1 → n ≡ mid_m
-    → PushedSome mid new mid_m f deed → m < 2 ^ 64 - 1 → rb ≡ ra → fa ≤ fb → (ok ≡ false → Rose fa fb) → Tick (memory_state calls m fa ra) (memory_state new n fb rb) ok
-tick_some calls mid new m mid_m n fa fb ra rb f None ok timed same_calls same_m same_n pushed below reads later rose = absurd pushed
-tick_some calls mid new m mid_m n fa fb ra rb f (Some deed) ok timed same_calls same_m same_n pushed below reads later rose =
+    → PushedSome mid new mid_m f deed → m < 2 ^ 64 - 1 → rb ≡ ra → fa ≤ fb → (ok ≡ false → Rose fa fb)
+    → (ok ≡ true → fb ≡ fa) → Tick (memory_state calls m fa ra) (memory_state new n fb rb) ok
+tick_some calls mid new m mid_m n fa fb ra rb f None ok timed same_calls same_m same_n pushed below reads later rose well = absurd pushed
+tick_some calls mid new m mid_m n fa fb ra rb f (Some deed) ok timed same_calls same_m same_n pushed below reads later rose well =
     let made : Made = record { time = m + 1; file = f; deed = deed } in
     let whole : new ≡ calls ++ made ∷ [] = pushed ∙ (λ i. same_calls i ++ record { time = same_m i; file = f; deed = deed } ∷ []) in
     let moment : n ≡ m + 1 = same_n ∙ same_m in
     subst (λ (l : List Made). Tick (memory_state calls m fa ra) (memory_state l n fb rb) ok) (sym whole)
-    (subst (λ (k : ℕ). Tick (memory_state calls m fa ra) (memory_state (calls ++ made ∷ []) k fb rb) ok) (sym moment) (tick_call calls m fa fb ra rb made timed refl ok below reads later rose))
+    (subst (λ (k : ℕ). Tick (memory_state calls m fa ra) (memory_state (calls ++ made ∷ []) k fb rb) ok) (sym moment) (tick_call calls m fa fb ra rb made timed refl ok below reads later rose well))
 
 -- a fault behind a call that was kept leaves it
 pub acted_fault : (a b c : DiskState) (f : ℕ) (deed : Option Deed) → ActedSome a b f deed → Same b c → ActedSome a c f deed
@@ -151,6 +158,29 @@ acted_fault a b c f (Some deed) acted same = record {
   file = same.file f ∙ acted.file;
   fates = same.fates f ∙ acted.fates;
 }
+
+-- a call that failed by the list, and counts as what was kept
+pub counts_some : (calls mid new : List Made) (m mid_m n fa fb ra rb f : ℕ) (deed : Option Deed)
+    → All (Timed m) calls → mid ≡ calls → mid_m ≡ m + 1 → n ≡ mid_m → KeptSome mid new mid_m f deed
+    → CountsAs (memory_state calls m fa ra) (memory_state new n fb rb) f deed
+counts_some calls mid new m mid_m n fa fb ra rb f None timed same_calls same_m same_n kept =
+    let later : m ≤ n = omega (arith, same_m, same_n) in
+    subst (λ (l : List Made). Same (memory_state calls m fa ra) (memory_state l n fb rb))
+    (sym (kept ∙ same_calls)) (same_list calls m n fa fb ra rb timed later)
+counts_some calls mid new m mid_m n fa fb ra rb f (Some deed) timed same_calls same_m same_n kept =
+    acted_some calls mid new m mid_m n fa fb ra rb f (Some deed) timed same_calls same_m same_n kept
+
+-- a fault behind it leaves that
+pub counts_fault : (a b c : DiskState) (f : ℕ) (deed : Option Deed) → CountsAs a b f deed → Same b c
+    → CountsAs a c f deed
+counts_fault a b c f None counts same = same_on a b c counts same
+counts_fault a b c f (Some deed) counts same = acted_fault a b c f (Some deed) counts same
+
+-- it counts as nothing or as something
+pub counts_either : (a b : DiskState) (f : ℕ) (deed : Option Deed) → CountsAs a b f deed
+    → Same a b ⊎ ActedSome a b f deed
+counts_either a b f None counts = inl counts
+counts_either a b f (Some deed) counts = inr counts
 
 -- a sync that was kept
 pub acted_synced : (a b : DiskState) (f : ℕ) → Fits (now a f) (a.file f) → Acted a b f Sync → Synced a b f true
@@ -175,8 +205,10 @@ same_synced a b f same = record {
 }
 
 -- a read is a call that leaves the files and may count itself
-pub read_call : (a b c : DiskState) (reads : ℕ) (ok : Bool) → b ≡ record a { reads = reads } → a.reads ≤ reads → reads ≤ a.reads + 1 → (2 ^ 64 - 1 ≤ a.moment → reads ≡ a.reads) → Silent b c ok → ReadCall a c ok
-read_call a b c reads ok counted later step last silent =
+pub read_call : (a b c : DiskState) (reads f at most : ℕ) (ok : Bool) → b ≡ record a { reads = reads }
+    → a.reads ≤ reads → reads ≤ a.reads + 1 → (2 ^ 64 - 1 ≤ a.moment → reads ≡ a.reads) → Silent b c ok
+    → ReadCall a c f at most ok
+read_call a b c reads f at most ok counted later step last silent =
     let call : Silent (record a { reads = reads }) c ok = subst (λ (s : DiskState). Silent s c ok) counted silent in
     record {
       call = record {
@@ -191,6 +223,7 @@ read_call a b c reads ok counted later step last silent =
         };
         step = call.tick.call.step;
         cause = call.tick.call.cause;
+        well = call.tick.call.well;
       };
       reads = (omega (arith, call.tick.reads, later), omega (arith, call.tick.reads, step));
       ended = λ ends. (call.tick.reads ∙ last ends, λ _. (call.tick.ended ends).0);

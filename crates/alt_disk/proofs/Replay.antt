@@ -5,7 +5,7 @@ use Rattle.std.proofs.lemmas.Bool.{cases_eq}
 use Rattle.std.proofs.lemmas.List.{append-nil}
 use Rattle.std.proofs.lemmas.List.Elements.{All-append, filter-append}
 use Rattle.std.specs.List.{All}
-use Rattle.alt_disk.specs.Memory.{Track, nothing, bytes_after, after, after_call, replay, until, Timed}
+use Rattle.alt_disk.specs.Memory.{Track, nothing, bytes_after, after, after_call, replay, until, Timed, LeavesReads}
 use Rattle.alt_disk.specs.declared.made.Made.{Made}
 
 -- one call more is done last
@@ -52,13 +52,34 @@ until-push t calls made late =
 pub timed_later : (t u : ℕ) (calls : List Made) → All (Timed t) calls → t ≤ u → All (Timed u) calls
 timed_later t u calls timed le = λ k d below. let here : Timed t (slice_index_or calls k d) = timed k d below in omega (arith, here, le)
 
-one_timed : (t k : ℕ) (made d : Made) → made.time ≤ t → k < 1 → Timed t (slice_index_or (made ∷ []) k d)
-one_timed t zero made d le below = le
-one_timed t (suc k) made d le below = absurd (omega (arith, below))
+-- what holds of a call holds of each in a list of it alone
+one_all : (P : Made → Type 0) (k : ℕ) (made d : Made) → P made → k < 1 → P (slice_index_or (made ∷ []) k d)
+one_all P zero made d holds below = holds
+one_all P (suc k) made d holds below = absurd (omega (arith, below))
+
+-- what holds of each call and of one more
+pub all_push : (P : Made → Type 0) (calls : List Made) (made : Made) → All P calls → P made
+    → All P (calls ++ made ∷ [])
+all_push P calls made all holds =
+    All-append P calls (made ∷ []) all (λ k d below. one_all P k made d holds below)
 
 -- one call more that shows by the moment
-pub timed_push : (t : ℕ) (calls : List Made) (made : Made) → All (Timed t) calls → made.time ≤ t → All (Timed t) (calls ++ made ∷ [])
-timed_push t calls made timed le = All-append (Timed t) calls (made ∷ []) timed (λ k d below. one_timed t k made d le below)
+pub timed_push : (t : ℕ) (calls : List Made) (made : Made) → All (Timed t) calls → made.time ≤ t
+    → All (Timed t) (calls ++ made ∷ [])
+timed_push t calls made timed le = all_push (Timed t) calls made timed le
+
+-- files that a call leaves as they read are still those of the list
+pub kept-leaves : (calls : List Made) (made : Made) (file : ℕ → Option (List ℕ))
+    → ((f : ℕ) → file f ≡ (replay f nothing calls).bytes) → LeavesReads made.deed
+    → (f : ℕ) → file f ≡ (replay f nothing (calls ++ made ∷ [])).bytes
+kept-leaves calls made file kept leaves = kept-push calls made file file kept stays
+  where
+    stays : (g : ℕ) → file g ≡ (if made.file == g then bytes_after made.deed (file made.file) else file g)
+    stays g = ⊎_elim
+        (λ (same : made.file ≡ g). ap file (sym same) ∙ sym (leaves (file made.file))
+        ∙ sym (test_same made.file g _ _ same))
+        (λ (other : made.file ≢ g). sym (test_other made.file g _ _ other))
+        (cases_eq made.file g)
 
 -- an element has a place, whatever stands in where there is none
 pub get_or-any : {X : Type 0} (xs : List X) (i : ℕ) (d e : X) → i < length xs → get_or xs i d ≡ get_or xs i e

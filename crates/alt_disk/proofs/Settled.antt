@@ -1,5 +1,5 @@
 -- A file of which a stop leaves what reads give, and what a write into it may leave then.
-use Rattle.std.proofs.Common.{◌≡◌, inl, inr, ℕ, Bool, true, false, List, [], ◌∷◌, ◌++◌, length, Option, Some, None, refl, sym, ◌∙◌, subst}
+use Rattle.std.proofs.Common.{◌≡◌, lit<, inl, inr, ℕ, Bool, true, false, List, [], ◌∷◌, ◌++◌, length, Option, Some, None, refl, sym, ◌∙◌, subst}
 use Rattle.alt_disk.specs.Fates.{Shape, Fates, Fits, FitsShape, FitsBytes, synced, opened, wrote}
 use Rattle.alt_disk.specs.Disk.{DiskState, IsSettled, now}
 use Rattle.alt_disk.proofs.Shapes.{knows, known_append, front_fits, synced_fits, Begins, WroteOrNot}
@@ -12,18 +12,20 @@ some_bytes (None ∷ known) = 0 ∷ some_bytes known
 
 some_fits : (known : List (Option ℕ)) (loose : Bool) → FitsBytes known loose (some_bytes known)
 unfolding some_bytes
-some_fits [] loose = tt
+some_fits [] true = tt
+some_fits [] false = refl
 some_fits (Some b ∷ known) loose = (refl, some_fits known loose)
-some_fits (None ∷ known) loose = (tt, some_fits known loose)
+some_fits (None ∷ known) loose = (lit< tt, some_fits known loose)
 
 -- a shape that fits one list of bytes alone has nothing open
 only_bytes : (known : List (Option ℕ)) (loose : Bool) (bytes : List ℕ) → ((c : List ℕ) → FitsBytes known loose c → c ≡ bytes) → (known ≡ knows bytes) × (loose ≡ false)
+unfolding some_bytes
 only_bytes [] false [] only = (refl, refl)
-only_bytes [] true [] only = absurd (let longer : 0 ∷ [] ≡ [] = only (0 ∷ []) refl in cc longer)
-only_bytes [] loose (b ∷ bytes) only = absurd (let none : [] ≡ b ∷ bytes = only [] tt in cc none)
+only_bytes [] true [] only = absurd (let longer : 0 ∷ [] ≡ [] = only (0 ∷ []) (lit< tt, tt) in cc longer)
+only_bytes [] loose (b ∷ bytes) only = absurd (let none : [] ≡ b ∷ bytes = only [] (some_fits [] loose) in cc none)
 only_bytes (None ∷ known) loose bytes only = absurd
-    (let zeros : 0 ∷ some_bytes known ≡ bytes = only (0 ∷ some_bytes known) (tt, some_fits known loose) in
-    let ones : 1 ∷ some_bytes known ≡ bytes = only (1 ∷ some_bytes known) (tt, some_fits known loose) in cc (zeros, ones))
+    (let zeros : 0 ∷ some_bytes known ≡ bytes = only (0 ∷ some_bytes known) (lit< tt, some_fits known loose) in
+    let ones : 1 ∷ some_bytes known ≡ bytes = only (1 ∷ some_bytes known) (lit< tt, some_fits known loose) in cc (zeros, ones))
 only_bytes (Some x ∷ known) loose [] only = absurd (let longer : x ∷ some_bytes known ≡ [] = only (x ∷ some_bytes known) (refl, some_fits known loose) in cc longer)
 only_bytes (Some x ∷ known) loose (b ∷ bytes) only =
     let first : x ≡ b = (let whole : x ∷ some_bytes known ≡ b ∷ bytes = only (x ∷ some_bytes known) (refl, some_fits known loose) in cc whole) in

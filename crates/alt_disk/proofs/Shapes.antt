@@ -10,8 +10,7 @@ knows bytes = map (λ b. Some b) bytes
 
 -- known bytes are left as they are
 known_fits : (bytes c : List ℕ) → FitsBytes (knows bytes) false c → c ≡ bytes
-known_fits [] [] fits = refl
-known_fits [] (b ∷ c) fits = absurd (false≢true fits)
+known_fits [] c fits = fits
 known_fits (x ∷ bytes) [] fits = absurd fits
 known_fits (x ∷ bytes) (b ∷ c) fits = λ i. fits.0 i ∷ known_fits bytes c fits.1 i
 

@@ -67,7 +67,7 @@ pub trait Disk {
     fn read(&mut self, f: u32, at: u64, buf: &mut [u8]) -> Result<usize, Failed>
         ensures bytes { IsTrue (state self.old).tells → IfOk result (λ count. Read (contents (state self.old) f) at buf.old buf.new count) }
         ensures bound { IfOk result (λ count. count ≤ length buf.old) }
-        ensures call { ReadCall (state self.old) (state self.new) (is_ok result) }
+        ensures call { ReadCall (state self.old) (state self.new) f at (length buf.old) (is_ok result) }
         ensures same { IsTrue (state self.old).tells → Same (state self.old) (state self.new) };
 
     /// Writes over what is there and past the end, and makes a missing file. Until the file's next sync a stop may leave any

@@ -21,12 +21,11 @@ pub(crate) fn apply(
 {
     match deed {
         Deed::Write { at, bytes } => put(alloc, files, f, *at, bytes.as_slice()),
-        Deed::WriteFailed { .. } => put(alloc, files, f, 0, &[]),
         Deed::Remove => {
             files.remove(&f);
             Ok(())
         }
-        Deed::Sync | Deed::RemoveFailed => Ok(()),
+        Deed::Sync | Deed::WriteFailed { .. } | Deed::RemoveFailed => Ok(()),
     }
 }
 

@@ -1,6 +1,6 @@
 //! The disk that a stop leaves: a new disk in memory with the image that a choice picks, all of it synced.
 
-ghost use Rattle.std.specs.Prelude.{◌≡◌, ◌==◌, if◌then◌else◌, ℕ, true, IfOk, OnOk};
+ghost use Rattle.std.specs.Prelude.{◌≡◌, ◌<◌, ◌==◌, if◌then◌else◌, ℕ, true, IfOk, IfSome, OnOk};
 ghost use Rattle.std.specs.BTreeSet.{contains, keys};
 ghost use Rattle.std.specs.List.{All, list_any};
 ghost use Rattle.std.specs.List.Sorted.{IsStrictlySortedBy};
@@ -55,22 +55,29 @@ fn settle_files(
 
 // One file, of which no call was made yet.
 fn settle_file(history: &mut History, f: u32, file: Option<Vec<u8>>) -> Result<(), AllocError>
+    requires bytes { IfSome file (λ bytes. All (λ b. b < 256) bytes.items) }
     requires none { replay f nothing history.old.calls.items ≡ nothing }
     requires timed { All (Timed 0) history.old.calls.items }
     ensures file { OnOk result ((g : ℕ) → replay g nothing history.new.calls.items ≡ (if f == g then settled (option_items file) else replay g nothing history.old.calls.items)) }
     ensures timed { All (Timed 0) history.new.calls.items }
 {
     if let Some(bytes) = file {
-        history.add(Made {
-            time: 0,
-            file: f,
-            deed: Deed::Write { at: 0, bytes },
-        })?;
-        history.add(Made {
-            time: 0,
-            file: f,
-            deed: Deed::Sync,
-        })?;
+        history.add(
+            Made {
+                time: 0,
+                file: f,
+                deed: Deed::Write { at: 0, bytes },
+            },
+            0,
+        )?;
+        history.add(
+            Made {
+                time: 0,
+                file: f,
+                deed: Deed::Sync,
+            },
+            0,
+        )?;
     }
     Ok(())
 }

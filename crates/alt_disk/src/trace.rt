@@ -58,7 +58,7 @@ fn after_deed(alloc: Global, deed: &Deed, trace: Trace) -> Result<Trace, AllocEr
 {
     match deed {
         Deed::Write { at, bytes } => { after_write(alloc, trace, *at, bytes.as_slice()) }
-        Deed::WriteFailed { at, count } => after_failed_write(alloc, trace, *at, *count),
+        Deed::WriteFailed { at, count } => after_open(alloc, trace, *at, *count),
         Deed::Sync => after_sync(alloc, trace),
         Deed::Remove => after_remove(trace),
         Deed::RemoveFailed => after_failed_remove(trace),
@@ -78,19 +78,6 @@ fn after_write(alloc: Global, trace: Trace, at: u64, bytes: &[u8]) -> Result<Tra
         lengths: trace.lengths,
     };
     after_open(alloc, found, at, bytes.len() as u64)
-}
-
-// A write that failed. It makes a missing file, which reads as empty.
-fn after_failed_write(alloc: Global, trace: Trace, at: u64, count: u64) -> Result<Trace, AllocError>
-    ensures { IfOk result (λ t. let s = track_of trace in track_of t ≡ record { bytes = Some (bytes_or_none s.bytes); fates = wrote at count s.fates; lengths = s.lengths }) }
-{
-    let found = Trace {
-        bytes: Some(bytes_or_empty(alloc, trace.bytes)),
-        last: trace.last,
-        others: trace.others,
-        lengths: trace.lengths,
-    };
-    after_open(alloc, found, at, count)
 }
 
 // The bytes of a file, none where it is missing.

@@ -4,7 +4,7 @@ use Rattle.alt_disk.specs.Memory.{Track, at_moment}
 use Rattle.alt_disk.specs.Stopped.{files_at, choice_at, picked_image, settled, settled_fates}
 use Rattle.alt_disk.specs.declared.made.Made.{Made}
 use Rattle.alt_disk.proofs.MemoryCalls.{now_whole}
-use Rattle.alt_disk.proofs.PickedFits.{picked_fits}
+use Rattle.alt_disk.proofs.PickedFits.{picked_fits, choice_bytes, fitting_bytes}
 use Rattle.alt_disk.proofs.memory.MemoryDisk.stopped.Goals as goal
 
 settled-bytes : (file : Option (List ℕ)) → (settled file).bytes ≡ file
@@ -24,7 +24,7 @@ returns-clause-picked c f =
 pub returns-clause-image : goal.returns-clause-image
 returns-clause-image c f =
     let files : ℕ → Track = files_at c.args.self.now c.args.moment in
-    subst (λ (file : Option (List ℕ)). Fits (files f).fates file) (sym (returns-clause-picked c f)) (picked_fits (files f) (choice_at files f c.args.choice.now))
+    subst (λ (file : Option (List ℕ)). Fits (files f).fates file) (sym (returns-clause-picked c f)) (picked_fits (files f) (choice_at files f c.args.choice.now) (choice_bytes files f c.args.choice.now (fitting_bytes c.args.choice.now c.type_inv.choice)))
 
 pub returns-clause-synced : goal.returns-clause-synced
 returns-clause-synced c f =

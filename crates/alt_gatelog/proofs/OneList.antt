@@ -4,12 +4,12 @@ use Rattle.std.proofs.lemmas.List.{take_at, drop_at}
 use Rattle.std.proofs.lemmas.Nat.{from_be_bytes-to_be_bytes_8}
 use Rattle.std.specs.Int.{w64, to_be_bytes, from_be_bytes}
 use Rattle.std.specs.List.{AllByRecursion}
-use Rattle.alt_gatelog.specs.Log.{header, framed, behind_gates, log_front, IsLog, IsShortEntry, IsCut, IsDamaged, ExplainsLog}
+use Rattle.alt_gatelog.specs.Log.{Form, header, framed, behind_gates, log_front, IsLog, IsShortEntry, IsCut, IsDamaged, ExplainsLog}
 use Rattle.alt_gatelog.specs.Log.IsDamaged.{no_header, ends_inside}
 use Rattle.alt_gatelog.specs.Parse.{HasNoLog, HasNoHeader}
 use Rattle.alt_gatelog.specs.declared.fault.LogFault.{LogFault}
 use Rattle.alt_gatelog.specs.declared.fault.LogFault.TheVariants.{Damaged, Failed, NoMemory}
-use Rattle.alt_gatelog.proofs.Append.{length-framed}
+use Rattle.alt_gatelog.proofs.Append.{length-framed, length-header}
 
 -- a framed entry is its length in eight bytes, and then itself
 framed-front : (entry rest : List ℕ) → take 8 (framed entry ++ rest) ≡ to_be_bytes w64 (length entry)
@@ -70,48 +70,64 @@ same_entries (x ∷ a) (y ∷ b) rest more short_a short_b none_a none_b same =
     let others = same_entries a b rest more short_a.1 short_b.1 none_a none_b first.1 in
     ((λ i. first.0 i ∷ others.0 i), others.1)
 
-same_fronts : (a b : List (List ℕ)) (rest more : List ℕ) → AllByRecursion IsShortEntry a → AllByRecursion IsShortEntry b → NoEntry rest → NoEntry more
-    → log_front a ++ rest ≡ log_front b ++ more → (a ≡ b) × (rest ≡ more)
-unfolding header
-same_fronts a b rest more short_a short_b none_a none_b same = same_entries a b rest more short_a short_b none_a none_b (ap (drop 8) same)
+-- what stands behind the header
+behind_header : (form : Form) (entries : List (List ℕ)) (rest : List ℕ)
+    → drop 8 (log_front form entries ++ rest) ≡ behind_gates entries ++ rest
+behind_header form entries rest =
+    ap (drop 8) (append_assoc (header form) (behind_gates entries) rest)
+    ∙ drop_at (header form) (behind_gates entries ++ rest) 8 (length-header form)
+
+-- two logs that begin alike have one list
+same_fronts : (form : Form) (a b : List (List ℕ)) (rest more : List ℕ) → AllByRecursion IsShortEntry a → AllByRecursion IsShortEntry b → NoEntry rest → NoEntry more
+    → log_front form a ++ rest ≡ log_front form b ++ more → (a ≡ b) × (rest ≡ more)
+same_fronts form a b rest more short_a short_b none_a none_b same =
+    same_entries a b rest more short_a short_b none_a none_b
+    (sym (behind_header form a rest) ∙ ap (drop 8) same ∙ behind_header form b more)
 
 -- a file is a gated log of one list
-pub one_list : (file : Option (List ℕ)) (a b : List (List ℕ)) → IsLog a file → IsLog b file → a ≡ b
-one_list file a b first second =
-    let bytes : Some (log_front a ++ first.gate ∷ first.rest) ≡ Some (log_front b ++ second.gate ∷ second.rest) = sym first.is ∙ second.is in
-    (same_fronts a b (first.gate ∷ first.rest) (second.gate ∷ second.rest) first.lengths second.lengths (closed_none first.gate first.rest first.closed) (closed_none second.gate second.rest second.closed)
-    (let inner : log_front a ++ first.gate ∷ first.rest ≡ log_front b ++ second.gate ∷ second.rest = cc bytes in inner)).0
+pub one_list : (form : Form) (file : Option (List ℕ)) (a b : List (List ℕ))
+    → IsLog form a file → IsLog form b file → a ≡ b
+one_list form file a b first second =
+    let bytes : Some (log_front form a ++ first.gate ∷ first.rest) ≡ Some (log_front form b ++ second.gate ∷ second.rest) = sym first.is ∙ second.is in
+    (same_fronts form a b (first.gate ∷ first.rest) (second.gate ∷ second.rest) first.lengths second.lengths (closed_none first.gate first.rest first.closed) (closed_none second.gate second.rest second.closed)
+    (let inner : log_front form a ++ first.gate ∷ first.rest ≡ log_front form b ++ second.gate ∷ second.rest = cc bytes in inner)).0
 
-header_there : (entries : List (List ℕ)) (rest : List ℕ) → take 8 (log_front entries ++ rest) ≡ header
-unfolding header
-header_there entries rest = refl
+-- a log begins with the header
+header_there : (form : Form) (entries : List (List ℕ)) (rest : List ℕ)
+    → take 8 (log_front form entries ++ rest) ≡ header form
+header_there form entries rest =
+    ap (take 8) (append_assoc (header form) (behind_gates entries) rest)
+    ∙ take_at (header form) (behind_gates entries ++ rest) 8 (length-header form)
 
 log_cut : (entries : List (List ℕ)) (gate : ℕ) (rest : List ℕ) → gate ≢ 1 → IsCut (gate ∷ rest) → ⊥
 log_cut entries gate rest closed cut = closed cut.0
 
 -- damaged bytes are none
-pub damaged_no_log : (at : ℕ) (bytes : List ℕ) → IsDamaged at bytes → (entries : List (List ℕ)) → IsLog entries (Some bytes) → ⊥
-damaged_no_log at bytes (no_header is none) entries log =
-    let whole : Some bytes ≡ Some (log_front entries ++ log.gate ∷ log.rest) = log.is in
-    let inner : bytes ≡ log_front entries ++ log.gate ∷ log.rest = cc whole in
-    none (ap (take 8) inner ∙ header_there entries (log.gate ∷ log.rest))
-damaged_no_log at bytes (ends_inside read rest is lengths place cut) entries log =
-    let whole : Some bytes ≡ Some (log_front entries ++ log.gate ∷ log.rest) = log.is in
-    let inner : log_front entries ++ log.gate ∷ log.rest ≡ log_front read ++ rest = (let both : bytes ≡ log_front entries ++ log.gate ∷ log.rest = cc whole in sym both) ∙ is in
-    let same = same_fronts entries read (log.gate ∷ log.rest) rest log.lengths lengths (closed_none log.gate log.rest log.closed) (cut_none rest cut) inner in
+pub damaged_no_log : (form : Form) (at : ℕ) (bytes : List ℕ) → IsDamaged form at bytes
+    → (entries : List (List ℕ)) → IsLog form entries (Some bytes) → ⊥
+damaged_no_log form at bytes (no_header is none) entries log =
+    let whole : Some bytes ≡ Some (log_front form entries ++ log.gate ∷ log.rest) = log.is in
+    let inner : bytes ≡ log_front form entries ++ log.gate ∷ log.rest = cc whole in
+    none (ap (take 8) inner ∙ header_there form entries (log.gate ∷ log.rest))
+damaged_no_log form at bytes (ends_inside read rest is lengths place cut) entries log =
+    let whole : Some bytes ≡ Some (log_front form entries ++ log.gate ∷ log.rest) = log.is in
+    let inner : log_front form entries ++ log.gate ∷ log.rest ≡ log_front form read ++ rest = (let both : bytes ≡ log_front form entries ++ log.gate ∷ log.rest = cc whole in sym both) ∙ is in
+    let same = same_fronts form entries read (log.gate ∷ log.rest) rest log.lengths lengths (closed_none log.gate log.rest log.closed) (cut_none rest cut) inner in
     log_cut entries log.gate log.rest log.closed (subst IsCut (sym same.1) cut)
 
 -- so a fault that names damage says that there is no log
-pub explains_none : (f : ℕ) (bytes : List ℕ) (fault : LogFault) → ExplainsLog f bytes fault → HasNoLog bytes fault
-explains_none f bytes (Damaged file at) explained = damaged_no_log at bytes explained.1
-explains_none f bytes Failed explained = tt
-explains_none f bytes NoMemory explained = tt
+pub explains_none : (form : Form) (f : ℕ) (bytes : List ℕ) (fault : LogFault) → ExplainsLog form f bytes fault
+    → HasNoLog form bytes fault
+explains_none form f bytes (Damaged file at) explained = damaged_no_log form at bytes explained.1
+explains_none form f bytes Failed explained = tt
+explains_none form f bytes NoMemory explained = tt
 
 -- and so does one that misses the header
-pub no_header_none : (f : ℕ) (bytes : List ℕ) (fault : LogFault) → HasNoHeader f bytes fault → HasNoLog bytes fault
-no_header_none f bytes (Damaged file at) missing = damaged_no_log at bytes (no_header missing.1 missing.2)
-no_header_none f bytes Failed missing = tt
-no_header_none f bytes NoMemory missing = tt
+pub no_header_none : (form : Form) (f : ℕ) (bytes : List ℕ) (fault : LogFault) → HasNoHeader form f bytes fault
+    → HasNoLog form bytes fault
+no_header_none form f bytes (Damaged file at) missing = damaged_no_log form at bytes (no_header missing.1 missing.2)
+no_header_none form f bytes Failed missing = tt
+no_header_none form f bytes NoMemory missing = tt
 
 -- whatever follows from a fault
 pub if_err : {T E : Type 0} (r : Result T E) (P Q : E → Type 0) → ((e : E) → P e → Q e) → IfErr r P → IfErr r Q

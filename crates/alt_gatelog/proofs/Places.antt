@@ -5,9 +5,9 @@ use Rattle.std.proofs.lemmas.Bool.Decides.{nat_tests}
 use Rattle.std.proofs.lemmas.List.{append-nil, take_at, drop_at, take_all, drop_all}
 use Rattle.std.specs.Int.{w64, to_be_bytes}
 use Rattle.alt_disk.specs.Disk.{DiskState, Read, contents, bytes_or_none}
-use Rattle.alt_gatelog.specs.Log.{header, framed, behind_gates, gates_from}
+use Rattle.alt_gatelog.specs.Log.{Form, header, framed, behind_gates, gates_from, gate_place}
 use Rattle.alt_gatelog.specs.InHand.{ReadsAs}
-use Rattle.alt_gatelog.proofs.Append.{length-framed, length-front}
+use Rattle.alt_gatelog.proofs.Append.{length-framed, length-front, length-header}
 
 -- each entry has a gate
 pub length-gates : (at : ℕ) (entries : List (List ℕ)) → length (gates_from at entries) ≡ length entries
@@ -61,36 +61,52 @@ next_last at (e ∷ x ∷ entries) (suc i) is =
     let size : at + length (1 ∷ framed e ++ behind_gates (x ∷ entries)) ≡ (at + 9 + length e) + length (behind_gates (x ∷ entries)) = omega (arith, length-append (framed e) (behind_gates (x ∷ entries)), length-framed e) in
     size ∙ inner
 
+-- a gate stands right behind the entries before its own
+gate_behind : (at : ℕ) (entries : List (List ℕ)) (i : ℕ) → i < length entries
+    → get_or (gates_from at entries) i 0 ≡ at + length (behind_gates (take i entries))
+gate_behind at [] i less = absurd (omega (arith, less))
+gate_behind at (e ∷ entries) zero less = omega arith
+gate_behind at (e ∷ entries) (suc i) less =
+    omega (
+      arith,
+      gate_behind (at + 9 + length e) entries i (omega (arith, less)),
+      length-append (framed e) (behind_gates (take i entries)),
+      length-framed e,
+    )
+
 by_test : (a b x y z : ℕ) → (a ≡ b → x ≡ z) → (a ≢ b → y ≡ z) → (if a == b then x else y) ≡ z
 by_test a b x y z same other = ⊎_elim
     (λ (is : a ≡ b). (let chosen : (if a == b then x else y) ≡ x = grind (arith, nat_tests, is) in chosen) ∙ same is)
     (λ (is : a ≢ b). (let chosen : (if a == b then x else y) ≡ y = grind (arith, nat_tests, is) in chosen) ∙ other is)
     (cases_eq a b)
 
-module _ (s : DiskState) (f at : ℕ) (places : List ℕ) (entries : List (List ℕ)) (reads : ReadsAs s f at places entries) (i : ℕ) (less : i < length places) where
+module _ (form : Form) (s : DiskState) (f at : ℕ) (places : List ℕ) (entries : List (List ℕ)) (reads : ReadsAs form s f at places entries) (i : ℕ) (less : i < length places) where
   within : i < length entries
   within = omega (arith, less, ap length reads.are_at, length-gates 8 entries)
 
   gate_is : get_or places i 0 ≡ get_or (gates_from 8 entries) i 0
   gate_is = ap (λ (l : List ℕ). get_or l i 0) reads.are_at
 
+  -- an entry's gate stands where the list says
+  pub place_is : get_or places i 0 ≡ gate_place form entries i
+  place_is = gate_is ∙ gate_behind 8 entries i within ∙ sym (length-front form (take i entries))
+
   -- the gate behind an entry
   pub next_is : (if i + 1 == length places then at else get_or places (i + 1) 0) ≡ get_or places i 0 + (9 + length (get_or entries i []))
   next_is = by_test (i + 1) (length places) at (get_or places (i + 1) 0) (get_or places i 0 + (9 + length (get_or entries i [])))
-      (λ last. let inner = next_last 8 entries i (omega (arith, last, ap length reads.are_at, length-gates 8 entries)) in omega (arith, inner, reads.is_at, length-front entries, gate_is))
+      (λ last. let inner = next_last 8 entries i (omega (arith, last, ap length reads.are_at, length-gates 8 entries)) in omega (arith, inner, reads.is_at, length-front form entries, gate_is))
       (λ other.
       let inner = next_inner 8 entries i (i + 1) (let e : i + 1 ≡ i + 1 = refl in e) (omega (arith, other, within, ap length reads.are_at, length-gates 8 entries)) in
       ap (λ (l : List ℕ). get_or l (i + 1) 0) reads.are_at ∙ inner ∙ ap (λ (n : ℕ). n + (9 + length (get_or entries i []))) (sym gate_is))
 
   -- and the entry itself
   pub entry_is : EntryAt (contents s f) (get_or places i 0) (get_or entries i [])
-  unfolding header
   entry_is =
-      let inner = entry_within 8 entries i header (reads.gate ∷ reads.rest) within refl in
+      let inner = entry_within 8 entries i (header form) (reads.gate ∷ reads.rest) within (length-header form) in
       record {
         front = inner.front;
         more = inner.more;
-        is = ap bytes_or_none reads.file ∙ append_assoc header (behind_gates entries) (reads.gate ∷ reads.rest) ∙ inner.is;
+        is = ap bytes_or_none reads.file ∙ append_assoc (header form) (behind_gates entries) (reads.gate ∷ reads.rest) ∙ inner.is;
         place = inner.place ∙ ap (λ (n : ℕ). n + 9) (sym gate_is);
       }
 

@@ -1,9 +1,10 @@
-use Rattle.std.proofs.Common.{◌≡◌, ◌<◌, ◌+◌, ◌-◌, ℕ, List, [], ◌++◌, length, length-drop, get_or, take, drop, sym, ◌∙◌, ap, subst, arith}
+use Rattle.std.proofs.Common.{◌≡◌, ◌<◌, ◌+◌, ◌-◌, ℕ, List, [], ◌++◌, length, length-drop, get_or, take, drop, refl, sym, ◌∙◌, ap, subst, arith}
 use Rattle.std.proofs.lemmas.Grind.{get_or_default_zero}
 use Rattle.std.proofs.lemmas.List.{length-take, take_all, take_at}
 use Rattle.std.proofs.Math.ListN.{replicate}
 use Rattle.alt_disk.specs.Disk.{DiskState, contents}
-use Rattle.alt_gatelog.proofs.Places.{EntryAt, next_is, entry_is, count_all, read_entry, read_behind}
+use Rattle.alt_gatelog.specs.Log.{first_form}
+use Rattle.alt_gatelog.proofs.Places.{EntryAt, place_is, next_is, entry_is, count_all, read_entry, read_behind}
 use Rattle.alt_gatelog.proofs.gatelog.GateLog.entry.Goals as goal
 
 -- the front of a buffer that was made longer
@@ -26,8 +27,8 @@ returns-then-count-length-clause-ok g c told entries reads =
     let n = c.saturating_sub-length.result in
     let less : i < length log.places.items = omega (arith, c.requires) in
     let place : get_or log.places.items i 0 ≡ at = sym (c.index-at.ensures ∙ get_or_default_zero log.places.items i at less) in
-    let here : EntryAt (contents s log.file) at entry = subst (λ (p : ℕ). EntryAt (contents s log.file) p entry) place (entry_is s log.file log.gate log.places.items entries reads i less) in
-    let next : c.next_gate-next.result ≡ at + (9 + length entry) = c.next_gate-next.ensures.next ∙ next_is s log.file log.gate log.places.items entries reads i less ∙ ap (λ (p : ℕ). p + (9 + length entry)) place in
+    let here : EntryAt (contents s log.file) at entry = subst (λ (p : ℕ). EntryAt (contents s log.file) p entry) place (entry_is first_form s log.file log.gate log.places.items entries reads i less) in
+    let next : c.next_gate-next.result ≡ at + (9 + length entry) = c.next_gate-next.ensures.next ∙ next_is first_form s log.file log.gate log.places.items entries reads i less ∙ ap (λ (p : ℕ). p + (9 + length entry)) place in
     let long : length whole ≡ start + n = omega (arith, c.deref_mut.ensures.len, c.in_ok-resize.ensures.len) in
     let size : length (take (length whole - start) (drop start whole)) ≡ length entry = omega (arith, length-take (length whole - start) (drop start whole), length-drop start whole, long, next, c.saturating_sub-length.ensures) in
     let read : buf ≡ entry = read_entry (contents s log.file) at entry here (take (length whole - start) (drop start whole)) buf c.in-Ok.count (c.in-Ok.ensures.bytes told) size c.read.auto.buf in
@@ -49,9 +50,19 @@ returns-else-count-length-clause-undamaged g c told entries reads =
     let n = c.saturating_sub-length.result in
     let less : i < length log.places.items = omega (arith, c.requires) in
     let place : get_or log.places.items i 0 ≡ at = sym (c.index-at.ensures ∙ get_or_default_zero log.places.items i at less) in
-    let here : EntryAt (contents s log.file) at entry = subst (λ (p : ℕ). EntryAt (contents s log.file) p entry) place (entry_is s log.file log.gate log.places.items entries reads i less) in
-    let next : c.next_gate-next.result ≡ at + (9 + length entry) = c.next_gate-next.ensures.next ∙ next_is s log.file log.gate log.places.items entries reads i less ∙ ap (λ (p : ℕ). p + (9 + length entry)) place in
+    let here : EntryAt (contents s log.file) at entry = subst (λ (p : ℕ). EntryAt (contents s log.file) p entry) place (entry_is first_form s log.file log.gate log.places.items entries reads i less) in
+    let next : c.next_gate-next.result ≡ at + (9 + length entry) = c.next_gate-next.ensures.next ∙ next_is first_form s log.file log.gate log.places.items entries reads i less ∙ ap (λ (p : ℕ). p + (9 + length entry)) place in
     let long : length whole ≡ start + n = omega (arith, c.deref_mut.ensures.len, c.in_ok-resize.ensures.len) in
     let size : length (take (length whole - start) (drop start whole)) ≡ length entry = omega (arith, length-take (length whole - start) (drop start whole), length-drop start whole, long, next, c.saturating_sub-length.ensures) in
     let all = count_all (contents s log.file) at entry here (take (length whole - start) (drop start whole)) c.read.new.buf c.in-Ok.count (c.in-Ok.ensures.bytes told) size in
     c.if-count-length.false (omega (arith, all, next, c.saturating_sub-length.ensures))
+
+pub returns-else-count-length-clause-damaged : goal.returns-else-count-length-clause-damaged
+returns-else-count-length-clause-damaged g c s entries reads =
+    let log = c.args.self.now in
+    let i = c.args.i in
+    let at = c.index-at.result.now in
+    let less : i < length log.places.items = omega (arith, c.requires) in
+    let place : get_or log.places.items i 0 ≡ at =
+    sym (c.index-at.ensures ∙ get_or_default_zero log.places.items i at less) in
+    (refl, sym place ∙ place_is first_form s log.file log.gate log.places.items entries reads i less)

@@ -35,7 +35,8 @@ open_fits : (n : ℕ) (loose : Bool) (choice : List ℕ) → AreBytes choice →
     → FitsBytes [] loose (filled (open_bytes n) choice)
 open_fits n true choice bytes none = open_are n choice bytes
 open_fits zero false choice bytes none = refl
-open_fits (suc n) false choice bytes none = absurd (let e : suc n ≡ 0 = none refl in omega (arith, e))
+open_fits (suc n) false choice bytes none = absurd
+    (let e : suc n ≡ 0 = none refl in omega (arith, e))
 
 -- filled bytes fit their shape
 filled_fits : (known : List (Option ℕ)) (n : ℕ) (loose : Bool) (choice : List ℕ) → AreBytes choice
@@ -43,9 +44,13 @@ filled_fits : (known : List (Option ℕ)) (n : ℕ) (loose : Bool) (choice : Lis
 filled_fits [] n loose choice bytes none = open_fits n loose choice bytes none
 filled_fits (Some b ∷ known) n loose choice bytes none =
     (refl, filled_fits known n loose choice bytes none)
-filled_fits (None ∷ known) n loose choice bytes none =
-    (next_byte choice bytes, filled_fits known n loose (drop 1 choice) (behind_next choice bytes) none)
+filled_fits (None ∷ known) n loose choice bytes none = (
+  next_byte choice bytes,
+  filled_fits known n loose (drop 1 choice)
+      (behind_next choice bytes) none,
+)
 
+-- without a loose end nothing is past the end
 past_none : (loose : Bool) (a b : ℕ) → loose ≡ false → cond loose a b ≡ b
 past_none true a b none = absurd (false≢true (sym none))
 past_none false a b none = refl
@@ -53,48 +58,78 @@ past_none false a b none = refl
 -- a stop may leave this file, whatever its open bytes are
 abbrev LeftOf : Fates → Option Generation → Type 0
 LeftOf fates None = Fits fates None
-LeftOf fates (Some g) = (bytes : List ℕ) → FitsBytes g.shape.known g.shape.loose bytes → Fits fates (Some bytes)
+LeftOf fates (Some g) = (bytes : List ℕ) → FitsBytes g.shape.known g.shape.loose bytes
+    → Fits fates (Some bytes)
 
+-- whatever its open bytes are, this file fits one of these shapes
 abbrev AmongOthers : List (Option Shape) → Generation → Type 0
-AmongOthers others g = (bytes : List ℕ) → FitsBytes g.shape.known g.shape.loose bytes → FitsAny others (Some bytes)
+AmongOthers others g = (bytes : List ℕ) → FitsBytes g.shape.known g.shape.loose bytes
+    → FitsAny others (Some bytes)
 
-one_more : (s : Option Shape) (others : List (Option Shape)) (gs : List Generation) → AllByRecursion (AmongOthers others) gs → AllByRecursion (AmongOthers (s ∷ others)) gs
+-- one shape more
+one_more : (s : Option Shape) (others : List (Option Shape)) (gs : List Generation)
+    → AllByRecursion (AmongOthers others) gs → AllByRecursion (AmongOthers (s ∷ others)) gs
 one_more s others [] all = all
 one_more s others (g ∷ gs) all = (λ bytes fits. inr (all.0 bytes fits), one_more s others gs all.1)
 
-removed_left : (others : List (Option Shape)) (sizes : List ℕ) → AllByRecursion (AmongOthers others) (removed_ones others sizes)
+-- each of those that were removed fits one of them
+removed_left : (others : List (Option Shape)) (sizes : List ℕ)
+    → AllByRecursion (AmongOthers others) (removed_ones others sizes)
 removed_left [] sizes = tt
-removed_left (None ∷ others) sizes = one_more None others (removed_ones others sizes) (removed_left others sizes)
-removed_left (Some s ∷ others) sizes = (λ bytes fits. inl fits, one_more (Some s) others (removed_ones others (drop 1 sizes)) (removed_left others (drop 1 sizes)))
+removed_left (None ∷ others) sizes = one_more None others (removed_ones others sizes)
+    (removed_left others sizes)
+removed_left (Some s ∷ others) sizes = (
+  λ bytes fits. inl fits,
+  one_more (Some s) others (removed_ones others (drop 1 sizes))
+      (removed_left others (drop 1 sizes)),
+)
 
-all_left : (last : Option Shape) (others : List (Option Shape)) (gs : List Generation) → AllByRecursion (AmongOthers others) gs → AllByRecursion (λ g. LeftOf (record { last = last; others = others }) (Some g)) gs
+-- so a stop may leave each of them
+all_left : (last : Option Shape) (others : List (Option Shape)) (gs : List Generation)
+    → AllByRecursion (AmongOthers others) gs → AllByRecursion
+    (λ g. LeftOf (record { last = last; others = others }) (Some g)) gs
 all_left last others [] all = all
-all_left last others (g ∷ gs) all = (λ bytes fits. inr (all.0 bytes fits), all_left last others gs all.1)
+all_left last others (g ∷ gs) all = (
+  λ bytes fits. inr (all.0 bytes fits),
+  all_left last others gs all.1,
+)
 
-generations_left : (last : Option Shape) (others : List (Option Shape)) (size : ℕ) (gs : List Generation) → AllByRecursion (AmongOthers others) gs
-    → AllByRecursion (λ g. LeftOf (record { last = last; others = others }) (Some g)) (with_last last size gs)
+-- and the one that is there
+generations_left : (last : Option Shape) (others : List (Option Shape)) (size : ℕ)
+    (gs : List Generation) → AllByRecursion (AmongOthers others) gs
+    → AllByRecursion (λ g. LeftOf (record { last = last; others = others }) (Some g))
+    (with_last last size gs)
 generations_left None others size gs all = all_left None others gs all
-generations_left (Some s) others size gs all = (λ bytes fits. inl fits, all_left (Some s) others gs all)
+generations_left (Some s) others size gs all =
+    (λ bytes fits. inl fits, all_left (Some s) others gs all)
 
+-- where one of them is missing, so may the file be
 other_missing : (others : List (Option Shape)) → any_missing others ≡ true → FitsAny others None
 other_missing [] miss = absurd (false≢true miss)
 other_missing (None ∷ others) miss = inl tt
 other_missing (Some s ∷ others) miss = inr (other_missing others miss)
 
 -- where a stop may leave no file, it may
-missing_left : (last : Option Shape) (others : List (Option Shape)) → (is_missing last || any_missing others) ≡ true → Fits (record { last = last; others = others }) None
+missing_left : (last : Option Shape) (others : List (Option Shape))
+    → (is_missing last || any_missing others) ≡ true
+    → Fits (record { last = last; others = others }) None
 missing_left None others miss = inl tt
 missing_left (Some s) others miss = inr (other_missing others miss)
 
 -- and where there is no file to leave
-none_left : (last : Option Shape) (others : List (Option Shape)) (size : ℕ) (gs : List Generation) → with_last last size gs ≡ [] → Fits (record { last = last; others = others }) None
+none_left : (last : Option Shape) (others : List (Option Shape)) (size : ℕ) (gs : List Generation)
+    → with_last last size gs ≡ [] → Fits (record { last = last; others = others }) None
 none_left None others size gs none = inl tt
 none_left (Some s) others size gs none = cc
 
-by_byte_left : (fates : Fates) (byte : ℕ) (last : Generation) (more : List Generation) → LeftOf fates None → AllByRecursion (λ g. LeftOf fates (Some g)) (last ∷ more) → LeftOf fates (by_byte byte last more)
+-- whichever a byte decides on may be left
+by_byte_left : (fates : Fates) (byte : ℕ) (last : Generation) (more : List Generation)
+    → LeftOf fates None → AllByRecursion (λ g. LeftOf fates (Some g)) (last ∷ more)
+    → LeftOf fates (by_byte byte last more)
 by_byte_left fates byte last more none all = by_tests (byte == 0) (byte == 2)
   where
-    old_left : (gs : List Generation) → AllByRecursion (λ g. LeftOf fates (Some g)) gs → LeftOf fates (Some (old_or last gs))
+    old_left : (gs : List Generation) → AllByRecursion (λ g. LeftOf fates (Some g)) gs
+        → LeftOf fates (Some (old_or last gs))
     old_left [] left = all.0
     old_left (g ∷ gs) left = left.0
 
@@ -103,13 +138,18 @@ by_byte_left fates byte last more none all = by_tests (byte == 0) (byte == 2)
     by_tests false true = old_left more all.1
     by_tests false false = all.0
 
-chosen_left : (fates : Fates) (miss : Bool) (gs : List Generation) (choice : List ℕ) → (miss ≡ true → Fits fates None) → (gs ≡ [] → Fits fates None) → AllByRecursion (λ g. LeftOf fates (Some g)) gs → LeftOf fates (chosen miss gs choice)
+-- whichever is chosen may be left
+chosen_left : (fates : Fates) (miss : Bool) (gs : List Generation) (choice : List ℕ)
+    → (miss ≡ true → Fits fates None) → (gs ≡ [] → Fits fates None)
+    → AllByRecursion (λ g. LeftOf fates (Some g)) gs → LeftOf fates (chosen miss gs choice)
 chosen_left fates miss [] choice may none all = none refl
 chosen_left fates false (last ∷ more) choice may none all = all.0
-chosen_left fates true (last ∷ more) choice may none all = by_byte_left fates (next choice) last more (may refl) all
+chosen_left fates true (last ∷ more) choice may none all =
+    by_byte_left fates (next choice) last more (may refl) all
 
 -- the choice behind the byte that decides the length
-behind_length_bytes : (g : Generation) (choice : List ℕ) → AreBytes choice → AreBytes (behind_length g choice)
+behind_length_bytes : (g : Generation) (choice : List ℕ) → AreBytes choice
+    → AreBytes (behind_length g choice)
 behind_length_bytes g choice bytes = by_loose g.shape.loose
   where
     by_loose : (loose : Bool) → AreBytes (cond loose (drop 1 choice) choice)
@@ -132,10 +172,12 @@ behind_filled_bytes (None ∷ known) choice bytes =
     behind_filled_bytes known (drop 1 choice) (behind_next choice bytes)
 
 -- and behind a whole file
-behind_left_bytes : (o : Option Generation) (choice : List ℕ) → AreBytes choice → AreBytes (behind_left o choice)
+behind_left_bytes : (o : Option Generation) (choice : List ℕ) → AreBytes choice
+    → AreBytes (behind_left o choice)
 behind_left_bytes None choice bytes = bytes
 behind_left_bytes (Some g) choice bytes =
-    behind_filled_bytes (laid g choice) (behind_length g choice) (behind_length_bytes g choice bytes)
+    behind_filled_bytes (laid g choice) (behind_length g choice)
+    (behind_length_bytes g choice bytes)
 
 -- the choice that is left for a file are bytes
 pub choice_bytes : (files : ℕ → Track) (f : ℕ) (choice : List ℕ) → AreBytes choice
@@ -146,10 +188,12 @@ choice_bytes files (suc f) choice bytes =
     let here : List ℕ = choice_at files f choice in
     behind_left_bytes (chosen (may_miss s.fates) (generations s) here)
     (behind_chosen (may_miss s.fates) (generations s) here)
-    (behind_chosen_bytes (may_miss s.fates) (generations s) here (choice_bytes files f choice bytes))
+    (behind_chosen_bytes (may_miss s.fates) (generations s) here
+    (choice_bytes files f choice bytes))
 
 -- the file that is left, whatever the choice is
-file_left : (fates : Fates) (o : Option Generation) (choice : List ℕ) → AreBytes choice → LeftOf fates o
+file_left : (fates : Fates) (o : Option Generation) (choice : List ℕ) → AreBytes choice
+    → LeftOf fates o
     → Fits fates (left_file o choice)
 file_left fates None choice bytes left = left
 file_left fates (Some g) choice bytes left =
@@ -162,9 +206,11 @@ pub picked_fits : (s : Track) (choice : List ℕ) → AreBytes choice → Fits s
 picked_fits s choice bytes =
     let removed = removed_ones s.fates.others s.lengths in
     let size = length (bytes_or_none s.bytes) in
-    file_left s.fates (chosen (may_miss s.fates) (generations s) choice) (behind_chosen (may_miss s.fates) (generations s) choice)
+    file_left s.fates (chosen (may_miss s.fates) (generations s) choice)
+    (behind_chosen (may_miss s.fates) (generations s) choice)
     (behind_chosen_bytes (may_miss s.fates) (generations s) choice bytes)
     (chosen_left s.fates (may_miss s.fates) (generations s) choice
     (missing_left s.fates.last s.fates.others)
     (none_left s.fates.last s.fates.others size removed)
-    (generations_left s.fates.last s.fates.others size removed (removed_left s.fates.others s.lengths)))
+    (generations_left s.fates.last s.fates.others size removed
+    (removed_left s.fates.others s.lengths)))

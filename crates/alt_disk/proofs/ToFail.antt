@@ -23,12 +23,23 @@ count_first m t fails = refl
 pub later_fails : (m : ℕ) (fails : List ℕ) → to_fail_from (m + 1) fails ≤ to_fail_from m fails
 later_fails m [] = omega arith
 later_fails m (t ∷ fails) =
-    omega (arith, count_first m t fails, count_first (m + 1) t fails, of_one m t, later_fails m fails)
+    omega (
+      arith,
+      count_first m t fails,
+      count_first (m + 1) t fails,
+      of_one m t,
+      later_fails m fails,
+    )
 
 -- they are at most all
 pub few_fail : (m : ℕ) (fails : List ℕ) → to_fail_from m fails ≤ length fails
 few_fail m [] = omega arith
-few_fail m (t ∷ fails) = omega (arith, count_first m t fails, at_most_one (nat_le m t), few_fail m fails)
+few_fail m (t ∷ fails) = omega (
+  arith,
+  count_first m t fails,
+  at_most_one (nat_le m t),
+  few_fail m fails,
+)
   where
     at_most_one : (b : Bool) → cond b 1 0 ≤ 1
     at_most_one true = omega arith
@@ -39,7 +50,13 @@ by_first : (m t : ℕ) (fails : List ℕ) (b : Bool) → (t == m) ≡ b
     → (b ≡ false → to_fail_from (m + 1) fails < to_fail_from m fails)
     → to_fail_from (m + 1) (t ∷ fails) < to_fail_from m (t ∷ fails)
 by_first m t fails true this behind =
-    omega (arith, count_first m t fails, count_first (m + 1) t fails, of_this m t this, later_fails m fails)
+    omega (
+      arith,
+      count_first m t fails,
+      count_first (m + 1) t fails,
+      of_this m t this,
+      later_fails m fails,
+    )
 by_first m t fails false other behind =
     omega (arith, count_first m t fails, count_first (m + 1) t fails, of_one m t, behind refl)
 

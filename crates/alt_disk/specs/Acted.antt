@@ -24,9 +24,11 @@ CountsAs old new f (Some deed) = Acted old new f deed
 -- there was a call to keep, and the list has it
 abbrev pub PushedSome : List Made → List Made → ℕ → ℕ → Option Deed → Type 0
 PushedSome old new time f None = ⊥
-PushedSome old new time f (Some deed) = new ≡ old ++ record { time = time; file = f; deed = deed } ∷ []
+PushedSome old new time f (Some deed) = new ≡ old
+    ++ record { time = time; file = f; deed = deed } ∷ []
 
 -- the list has it, or is as before where there was none
 abbrev pub KeptSome : List Made → List Made → ℕ → ℕ → Option Deed → Type 0
 KeptSome old new time f None = new ≡ old
-KeptSome old new time f (Some deed) = new ≡ old ++ record { time = time; file = f; deed = deed } ∷ []
+KeptSome old new time f (Some deed) = new ≡ old
+    ++ record { time = time; file = f; deed = deed } ∷ []

@@ -150,7 +150,9 @@ pub record Synced (old new : DiskState) (f : ℕ) (ok : Bool) : Type 0 where
 -- What a removal does to an honest disk: at Ok the file is gone, and a stop may bring it back. One that failed was made or not.
 pub record Removed (old new : DiskState) (f : ℕ) (ok : Bool) : Type 0 where
   pub others : Others old new f
-  pub done : (bytes : List ℕ) → ok ≡ true → old.file f ≡ Some bytes → now new f ≡ removed (now old f)
+  pub done : (bytes : List ℕ) → ok ≡ true → old.file f ≡ Some bytes
+      → now new f ≡ removed (now old f)
   pub failed : ok ≡ false
-      → ((new.file f ≡ old.file f) × ((now new f ≡ now old f) ⊎ (now new f ≡ half_removed (now old f))))
+      → ((new.file f ≡ old.file f) × ((now new f ≡ now old f)
+      ⊎ (now new f ≡ half_removed (now old f))))
       ⊎ ((new.file f ≡ None) × (now new f ≡ removed (now old f)))

@@ -52,7 +52,10 @@ Fits fates file = FitsShape fates.last file ⊎ FitsAny fates.others file
 
 -- after a sync: these bytes and no others
 abbrev pub synced : List ℕ → Fates
-synced bytes = record { last = Some (record { known = map (λ b. Some b) bytes; loose = false }); others = [] }
+synced bytes = record {
+  last = Some (record { known = map (λ b. Some b) bytes; loose = false });
+  others = [];
+}
 
 -- a file that never was
 abbrev pub missing : Fates
@@ -67,8 +70,16 @@ opened (suc at) n (k ∷ known) = k ∷ opened at n known
 
 -- a write opens a range and the end, or makes a missing file, which a stop may leave out
 abbrev pub wrote_shape : ℕ → ℕ → Option Shape → List (Option Shape) → Fates
-wrote_shape at n None others = record { last = Some (record { known = []; loose = true }); others = None ∷ others }
-wrote_shape at n (Some s) others = record { last = Some (record { known = opened at n s.known; loose = true }); others = others }
+wrote_shape at n None others = record {
+  last = Some (record { known = []; loose = true });
+  others =
+      None ∷ others;
+}
+wrote_shape at n (Some s) others = record {
+  last =
+      Some (record { known = opened at n s.known; loose = true });
+  others = others;
+}
 
 -- after a write of so many bytes at a place, also one that failed
 abbrev pub wrote : ℕ → ℕ → Fates → Fates

@@ -30,7 +30,8 @@ bytes_overwritten : (old : List ℕ) (at : ℕ) (new : List ℕ) → AreBytes ol
     → AreBytes (overwritten old at new)
 bytes_overwritten old at new were are =
     bytes_append (take at old ++ new) (drop (at + length new) old)
-    (bytes_append (take at old) new (front at old were) are) (bytes_behind (at + length new) old were)
+    (bytes_append (take at old) new (front at old were) are)
+    (bytes_behind (at + length new) old were)
   where
     front : (n : ℕ) (c : List ℕ) → AreBytes c → AreBytes (take n c)
     front zero c bytes = tt
@@ -61,7 +62,8 @@ opened_fits (k ∷ known) loose (b ∷ c) (suc at) n bytes fits =
     (fits.0, opened_fits known loose c at n bytes.1 fits.1)
 
 -- bytes put in at the front fit where the front is opened
-start_fits : (known : List (Option ℕ)) (loose : Bool) (old new : List ℕ) → AreBytes old → AreBytes new
+start_fits : (known : List (Option ℕ)) (loose : Bool) (old new : List ℕ) → AreBytes old
+    → AreBytes new
     → FitsBytes known loose old
     → FitsBytes (opened zero (length new) known) true (new ++ drop (length new) old)
 start_fits [] loose old new were are fits =
@@ -78,7 +80,8 @@ overwritten_fits : (known : List (Option ℕ)) (loose : Bool) (old : List ℕ) (
 overwritten_fits [] loose old at new were are fits = bytes_overwritten old at new were are
 overwritten_fits (k ∷ known) loose [] at new were are fits = absurd fits
 overwritten_fits (k ∷ known) loose (b ∷ old) zero new were are fits =
-    let P : ℕ → Type 0 = λ n. FitsBytes (opened zero (length new) (k ∷ known)) true (new ++ drop n (b ∷ old)) in
+    let P : ℕ → Type 0 = λ n. FitsBytes (opened zero (length new) (k ∷ known)) true
+    (new ++ drop n (b ∷ old)) in
     let same : length new ≡ 0 + length new = omega arith in
     subst P same (start_fits (k ∷ known) loose (b ∷ old) new were are fits)
 overwritten_fits (k ∷ known) loose (b ∷ old) (suc at) new were are fits =
@@ -98,7 +101,8 @@ Agrees None fates = AgreesMissing fates.last fates.others
 Agrees (Some bytes) fates = AreBytes bytes × FitsShape fates.last (Some bytes)
 
 -- a write of what is there
-shape_wrote : (last : Option Shape) (others : List (Option Shape)) (old : List ℕ) (at : ℕ) (new : List ℕ)
+shape_wrote : (last : Option Shape) (others : List (Option Shape)) (old : List ℕ) (at : ℕ)
+    (new : List ℕ)
     → AreBytes old → AreBytes new → FitsShape last (Some old)
     → FitsShape (wrote_shape at (length new) last others).last (Some (overwritten old at new))
 shape_wrote None others old at new were are fits = absurd fits
@@ -141,11 +145,16 @@ agrees_after : (deed : Deed) (bytes : Option (List ℕ)) (fates : Fates) (length
 agrees_after (Write at new) None fates lengths wrote agrees =
     let are : AreBytes new.items = recursion_from_All (λ (b : ℕ). b < 256) new.items wrote in
     let none : List ℕ = [] in
-    let bytes : AreBytes (overwritten none at new.items) = bytes_overwritten none at new.items tt are in
-    (bytes, made_wrote fates.last fates.others at (length new.items) (overwritten [] at new.items) bytes agrees)
+    let bytes : AreBytes (overwritten none at new.items) =
+    bytes_overwritten none at new.items tt are in (
+      bytes,
+      made_wrote fates.last fates.others at (length new.items)
+          (overwritten [] at new.items) bytes agrees,
+    )
 agrees_after (Write at new) (Some old) fates lengths wrote agrees =
     let are : AreBytes new.items = recursion_from_All (λ (b : ℕ). b < 256) new.items wrote in
-    let bytes : AreBytes (overwritten old at new.items) = bytes_overwritten old at new.items agrees.0 are in
+    let bytes : AreBytes (overwritten old at new.items) =
+    bytes_overwritten old at new.items agrees.0 are in
     (bytes, shape_wrote fates.last fates.others old at new.items agrees.0 are agrees.1)
 agrees_after (WriteFailed at count) None fates lengths are agrees =
     made_failed fates.last fates.others at count agrees
@@ -190,12 +199,16 @@ pub replay_fits : (f : ℕ) (calls : List Made) → AllByRecursion HasBytes call
     → Fits (replay f nothing calls).fates (replay f nothing calls).bytes
 replay_fits f calls are = agrees_fits _ _ (agrees_replay f nothing calls are tt)
 
-one_shows : (t : ℕ) (made : Made) (rest : List Made) → Timed t made → (cond (nat_le made.time t) (made ∷ rest) rest) ≡ made ∷ rest
+-- a call that shows by a moment is kept
+one_shows : (t : ℕ) (made : Made) (rest : List Made) → Timed t made
+    → (cond (nat_le made.time t) (made ∷ rest) rest) ≡ made ∷ rest
 one_shows t made rest timed = grind (arith, nat_tests)
 
+-- where each does, all are
 all_show : (t : ℕ) (calls : List Made) → AllByRecursion (Timed t) calls → until t calls ≡ calls
 all_show t [] timed = refl
-all_show t (made ∷ calls) timed = one_shows t made (until t calls) timed.0 ∙ ap (λ (l : List Made). made ∷ l) (all_show t calls timed.1)
+all_show t (made ∷ calls) timed = one_shows t made (until t calls) timed.0
+    ∙ ap (λ (l : List Made). made ∷ l) (all_show t calls timed.1)
 
 -- where all calls show, the moment is the last
 pub until-all : (t : ℕ) (calls : List Made) → All (Timed t) calls → until t calls ≡ calls

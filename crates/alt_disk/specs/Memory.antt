@@ -48,7 +48,12 @@ nothing = record { bytes = None; fates = missing; lengths = [] }
 
 -- a file after a call on it
 abbrev pub after : Deed → Track → Track
-after deed s = record { bytes = bytes_after deed s.bytes; fates = fates_after deed s.bytes s.fates; lengths = lengths_after deed s.bytes s.lengths }
+after deed s = record {
+  bytes = bytes_after deed s.bytes;
+  fates =
+      fates_after deed s.bytes s.fates;
+  lengths = lengths_after deed s.bytes s.lengths;
+}
 
 -- a call is of one file
 abbrev pub after_call : ℕ → Made → Track → Track

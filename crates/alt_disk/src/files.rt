@@ -16,7 +16,8 @@ pub(crate) fn apply(
     f: u32,
     deed: &Deed,
 ) -> Result<(), AllocError>
-    ensures ok { OnOk result ((g : ℕ) → file_in files.new g ≡ (if f == g then bytes_after deed.now (file_in files.old f) else file_in files.old g)) }
+    ensures ok { OnOk result ((g : ℕ) → file_in files.new g
+        ≡ (if f == g then bytes_after deed.now (file_in files.old f) else file_in files.old g)) }
     ensures err { OnErr result ((g : ℕ) → file_in files.new g ≡ file_in files.old g) }
 {
     match deed {
@@ -37,7 +38,9 @@ fn put(
     at: u64,
     bytes: &[u8],
 ) -> Result<(), AllocError>
-    ensures ok { OnOk result ((g : ℕ) → file_in files.new g ≡ (if f == g then Some (overwritten (bytes_or_none (file_in files.old f)) at bytes.now) else file_in files.old g)) }
+    ensures ok { OnOk result ((g : ℕ) → file_in files.new g
+        ≡ (if f == g then Some (overwritten (bytes_or_none (file_in files.old f)) at bytes.now)
+        else file_in files.old g)) }
     ensures err { OnErr result ((g : ℕ) → file_in files.new g ≡ file_in files.old g) }
 {
     match files.get_mut(&f) {

@@ -39,7 +39,8 @@ impl History {
         requires { HasBytes made }
         ensures ok { OnOk result (self.new.calls.items ≡ self.old.calls.items ++ made ∷ []) }
         ensures err { OnErr result (self.new.calls.items ≡ self.old.calls.items) }
-        ensures spare { OnOk result (length self.new.calls.items + spare ≤ vec_capacity self.new.calls) }
+        ensures spare { OnOk result (length self.new.calls.items + spare ≤ vec_capacity
+            self.new.calls) }
         ensures room { vec_capacity self.old.calls ≤ vec_capacity self.new.calls }
     {
         let Some(room) = spare.checked_add(1) else {
@@ -64,7 +65,8 @@ impl History {
 
     /// Takes the room for so many more calls.
     pub(crate) fn reserve(&mut self, spare: usize) -> Result<(), AllocError>
-        ensures spare { OnOk result (length self.new.calls.items + spare ≤ vec_capacity self.new.calls) }
+        ensures spare { OnOk result (length self.new.calls.items + spare ≤ vec_capacity
+            self.new.calls) }
         ensures calls { self.new.calls.items ≡ self.old.calls.items }
         ensures room { vec_capacity self.old.calls ≤ vec_capacity self.new.calls }
     {
@@ -84,7 +86,8 @@ impl History {
     /// Fills an empty list with the numbers of the files there, rising.
     pub(crate) fn names(&self, list: &mut Vec<u32>) -> Result<(), AllocError>
         requires { list.old.items ≡ [] }
-        ensures { OnOk result (IsNames list.new.items (λ f. (replay f nothing self.now.calls.items).bytes)) }
+        ensures { OnOk result (IsNames list.new.items
+            (λ f. (replay f nothing self.now.calls.items).bytes)) }
     {
         for f in self.files.keys() {
             list.push(*f)?;

@@ -26,7 +26,8 @@ pub struct MemoryDisk {
     pub(crate) faults: u64,
     pub(crate) reads: u64,
     ghost timed: { All (Timed moment) history.calls.items },
-    ghost room: { length history.calls.items + to_fail_from moment fails.items ≤ vec_capacity history.calls },
+    ghost room: { length history.calls.items + to_fail_from moment fails.items ≤ vec_capacity
+        history.calls },
 }
 
 impl MemoryDisk {
@@ -43,7 +44,8 @@ impl MemoryDisk {
     pub fn new(alloc: Global) -> MemoryDisk
         ensures empty { (f : ℕ) → (state_of result).file f ≡ None }
         ensures images { (t f : ℕ) → (state_of result).fates t f ≡ missing }
-        ensures counts { ((state_of result).moment ≡ 0) × ((state_of result).faults ≡ 0) × ((state_of result).reads ≡ 0) }
+        ensures counts { ((state_of result).moment ≡ 0) × ((state_of result).faults ≡ 0)
+            × ((state_of result).reads ≡ 0) }
         ensures none_fails { (t : ℕ) → fails_at result t ≡ false }
     {
         MemoryDisk {
@@ -132,7 +134,8 @@ impl MemoryDisk {
         ensures stays { state_of self.new ≡ record (state_of self.old) { reads = self.new.reads } }
         ensures later { self.old.reads ≤ self.new.reads }
         ensures reads { self.new.reads ≤ self.old.reads + 1 }
-        ensures counted { self.old.moment < 2 ^ 64 - 1 → self.new.reads ≡ next_moment self.old.reads }
+        ensures counted { self.old.moment < 2 ^ 64 - 1
+            → self.new.reads ≡ next_moment self.old.reads }
         ensures last { 2 ^ 64 - 1 ≤ self.old.moment → self.new.reads ≡ self.old.reads }
         ensures fails { self.new.fails.items ≡ self.old.fails.items }
     {
@@ -149,7 +152,8 @@ impl MemoryDisk {
         requires reads { IfSome failed (λ deed. LeavesReads deed) }
         ensures ok { OnOk result (ActedSome (state_of self.old) (state_of self.new) f done) }
         ensures listed { fails_at self.old (state_of self.old).moment ≡ true
-            → (state_of self.old).moment < 2 ^ 64 - 1 → CountsAs (state_of self.old) (state_of self.new) f failed }
+            → (state_of self.old).moment < 2 ^ 64 - 1
+            → CountsAs (state_of self.old) (state_of self.new) f failed }
         ensures unlisted { fails_at self.old (state_of self.old).moment ≡ false
             → OnErr result (Same (state_of self.old) (state_of self.new)) }
         ensures err { OnErr result (Same (state_of self.old) (state_of self.new)
@@ -169,10 +173,12 @@ impl MemoryDisk {
     // Keeps what a call counts as that failed at this moment by the list.
     fn keep_failed(&mut self, f: u32, failed: Option<Deed>)
         requires room { length self.old.history.calls.items
-            + to_fail_from self.old.moment self.old.fails.items < vec_capacity self.old.history.calls }
+            + to_fail_from self.old.moment self.old.fails.items < vec_capacity
+            self.old.history.calls }
         requires bytes { IfSome failed (λ deed. WritesBytes deed) }
         requires reads { IfSome failed (λ deed. LeavesReads deed) }
-        ensures calls { KeptSome self.old.history.calls.items self.new.history.calls.items self.old.moment f failed }
+        ensures calls { KeptSome self.old.history.calls.items self.new.history.calls.items
+            self.old.moment f failed }
         ensures moment { self.new.moment ≡ self.old.moment }
         ensures faults { self.new.faults ≡ self.old.faults }
         ensures reads { self.new.reads ≡ self.old.reads }
@@ -191,7 +197,8 @@ impl MemoryDisk {
     // Keeps what a call did at this moment.
     fn keep(&mut self, f: u32, deed: Option<Deed>) -> Result<(), Failed>
         requires { IfSome deed (λ deed. WritesBytes deed) }
-        ensures ok { OnOk result (PushedSome self.old.history.calls.items self.new.history.calls.items
+        ensures ok { OnOk result (PushedSome self.old.history.calls.items
+            self.new.history.calls.items
             self.old.moment f deed) }
         ensures err { OnErr result ((self.new.history.calls.items ≡ self.old.history.calls.items)
             × Rose self.old.faults self.new.faults) }
@@ -229,7 +236,8 @@ impl MemoryDisk {
             × (self.old.moment < 2 ^ 64 - 1) × (self.new.moment ≡ self.old.moment + 1)
             × (self.new.faults ≡ self.old.faults)) }
         ensures room { IfOk result (λ to_fail. to_fail ≡ true → length self.new.history.calls.items
-            + to_fail_from self.new.moment self.new.fails.items < vec_capacity self.new.history.calls) }
+            + to_fail_from self.new.moment self.new.fails.items < vec_capacity
+            self.new.history.calls) }
         ensures err { OnErr result ((self.new.moment ≡ self.old.moment)
             × (2 ^ 64 - 1 ≤ self.old.moment) × Rose self.old.faults self.new.faults) }
         ensures later { self.old.faults ≤ self.new.faults }

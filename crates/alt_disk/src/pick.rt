@@ -77,7 +77,8 @@ fn has_none(others: &[Option<Outline>]) -> bool
 
 // The files that a stop may leave, the one last made first.
 fn copies(alloc: Global, trace: Trace) -> Result<Vec<Copy>, AllocError>
-    ensures { IfOk result (λ copies. map generation_of copies.items ≡ generations (track_of trace)) }
+    ensures { IfOk result (λ copies. map generation_of copies.items
+        ≡ generations (track_of trace)) }
 {
     let Trace {
         bytes,
@@ -103,7 +104,9 @@ fn add_removed(
     others: Vec<Option<Outline>>,
     lengths: &[u64],
 ) -> Result<(), AllocError>
-    ensures { IfOk result (λ _. map generation_of found.new.items ≡ map generation_of found.old.items ++ removed_ones (map option_shape others.items) lengths.now) }
+    ensures { IfOk result (λ _. map generation_of found.new.items
+        ≡ map generation_of found.old.items ++ removed_ones
+        (map option_shape others.items) lengths.now) }
 {
     let mut rest = lengths;
     for other in others {
@@ -118,8 +121,10 @@ fn add_removed(
 
 // Which of them is left, by a byte where there may be one or none.
 fn choose(copies: Vec<Copy>, miss: bool, choice: &mut Choice) -> Option<Copy>
-    ensures copy { option_generation result ≡ chosen miss (map generation_of copies.items) choice.old.rest.now }
-    ensures rest { choice.new.rest.now ≡ behind_chosen miss (map generation_of copies.items) choice.old.rest.now }
+    ensures copy { option_generation result ≡ chosen miss
+        (map generation_of copies.items) choice.old.rest.now }
+    ensures rest { choice.new.rest.now ≡ behind_chosen miss
+        (map generation_of copies.items) choice.old.rest.now }
 {
     let mut copies = copies.into_iter();
     let Some(last) = copies.next() else {
@@ -153,7 +158,8 @@ fn fill(alloc: Global, copy: &Copy, choice: &mut Choice) -> Result<Vec<u8>, Allo
 // How many bytes it has past its synced end.
 fn length_past(copy: &Copy, choice: &mut Choice) -> u64
     ensures past { result ≡ past_end (generation_of copy.now) choice.old.rest.now }
-    ensures rest { choice.new.rest.now ≡ behind_length (generation_of copy.now) choice.old.rest.now }
+    ensures rest { choice.new.rest.now ≡ behind_length
+        (generation_of copy.now) choice.old.rest.now }
 {
     if !copy.outline.loose {
         return 0;
@@ -170,8 +176,10 @@ fn fill_known(
     known: &[Option<u8>],
     choice: &mut Choice,
 ) -> Result<(), AllocError>
-    ensures bytes { IfOk result (λ _. bytes.new.items ≡ bytes.old.items ++ filled known.now choice.old.rest.now) }
-    ensures rest { IfOk result (λ _. choice.new.rest.now ≡ behind_filled known.now choice.old.rest.now) }
+    ensures bytes { IfOk result (λ _. bytes.new.items
+        ≡ bytes.old.items ++ filled known.now choice.old.rest.now) }
+    ensures rest { IfOk result (λ _. choice.new.rest.now
+        ≡ behind_filled known.now choice.old.rest.now) }
 {
     for byte in known {
         match byte {

@@ -67,7 +67,13 @@ fn after_deed(alloc: Global, deed: &Deed, trace: Trace) -> Result<Trace, AllocEr
 
 // A write.
 fn after_write(alloc: Global, trace: Trace, at: u64, bytes: &[u8]) -> Result<Trace, AllocError>
-    ensures { IfOk result (λ t. let s = track_of trace in track_of t ≡ record { bytes = Some (overwritten (bytes_or_none s.bytes) at bytes.now); fates = wrote at (length bytes.now) s.fates; lengths = s.lengths }) }
+    ensures { IfOk result (λ t. let s = track_of trace in track_of t
+        ≡ record {
+          bytes = Some (overwritten (bytes_or_none s.bytes) at bytes.now);
+          fates =
+              wrote at (length bytes.now) s.fates;
+          lengths = s.lengths;
+        }) }
 {
     let mut there = bytes_or_empty(alloc, trace.bytes);
     overwrite(&mut there, at, bytes)?;
@@ -92,7 +98,8 @@ fn bytes_or_empty(alloc: Global, bytes: Option<Vec<u8>>) -> Vec<u8>
 
 // What a write does to what a stop may leave.
 fn after_open(alloc: Global, trace: Trace, at: u64, count: u64) -> Result<Trace, AllocError>
-    ensures { IfOk result (λ t. let s = track_of trace in track_of t ≡ record s { fates = wrote at count s.fates }) }
+    ensures { IfOk result (λ t. let s = track_of trace in track_of t
+        ≡ record s { fates = wrote at count s.fates }) }
 {
     let Trace {
         bytes,

@@ -23,7 +23,8 @@ abbrev pub place_of : GateLog → ℕ → ℕ
 place_of log i = get_or log.places.items i 0
 
 -- bytes that are a gated log of these entries, with the closed gate and the entries' gates at these places
-pub record LogAs (form : Form) (bytes : List ℕ) (at : ℕ) (places : List ℕ) (entries : List (List ℕ)) : Type 0 where
+pub record LogAs (form : Form) (bytes : List ℕ) (at : ℕ) (places : List ℕ)
+    (entries : List (List ℕ)) : Type 0 where
   pub gate : ℕ
   pub closed : gate ≢ 1
   pub rest : List ℕ
@@ -37,7 +38,8 @@ abbrev pub IsReadAs : List ℕ → GateLog → List (List ℕ) → Type 0
 IsReadAs bytes log entries = LogAs (form_of log) bytes log.gate log.places.items entries
 
 -- a file that reads as a gated log of these entries, with the closed gate and the entries' gates at these places
-pub record ReadsAs (form : Form) (s : DiskState) (f at : ℕ) (places : List ℕ) (entries : List (List ℕ)) : Type 0 where
+pub record ReadsAs (form : Form) (s : DiskState) (f at : ℕ) (places : List ℕ)
+    (entries : List (List ℕ)) : Type 0 where
   pub gate : ℕ
   pub closed : gate ≢ 1
   pub rest : List ℕ
@@ -51,7 +53,8 @@ abbrev pub Reads : DiskState → GateLog → List (List ℕ) → Type 0
 Reads s log entries = ReadsAs (form_of log) s log.file log.gate log.places.items entries
 
 -- and a stop leaves its file as it reads
-pub record StandsAs (form : Form) (s : DiskState) (f at : ℕ) (places : List ℕ) (entries : List (List ℕ)) : Type 0 where
+pub record StandsAs (form : Form) (s : DiskState) (f at : ℕ) (places : List ℕ)
+    (entries : List (List ℕ)) : Type 0 where
   pub reads : ReadsAs form s f at places entries
   pub settled : IsSettled s f
 

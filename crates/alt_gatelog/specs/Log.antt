@@ -64,7 +64,8 @@ BeforeOrAfter form entries entry t file =
 -- behind whole entries there is the end, or an open gate with no whole entry behind it
 abbrev pub IsCut : List ℕ → Type 0
 IsCut [] = Unit {0}
-IsCut (gate ∷ rest) = (gate ≡ 1) × ((length rest < 8) ⊎ (length rest < 8 + from_be_bytes w64 (take 8 rest)))
+IsCut (gate ∷ rest) = (gate ≡ 1) × ((length rest < 8)
+    ⊎ (length rest < 8 + from_be_bytes w64 (take 8 rest)))
 
 -- the bytes are no gated log of a form from this place on: they have no header, or end there
 pub data IsDamaged (form : Form) (at : ℕ) (bytes : List ℕ) : Type 0 where

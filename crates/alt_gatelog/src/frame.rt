@@ -40,8 +40,10 @@ pub(crate) fn is_header(head: &[u8]) -> bool
 /// What stands at a gate's place, by its first nine bytes and how many bytes there are to the file's end. None where the file ends
 /// too early.
 pub(crate) fn gate_of(head: &[u8], left: u64) -> Option<Gate>
-    ensures some { IfSome result (λ gate. (bytes : List ℕ) (at : ℕ) → head.now ≡ take 9 (drop at bytes) → left ≡ length bytes - at → GateIs bytes at gate) }
-    ensures none { IfNone result ((bytes : List ℕ) (at : ℕ) → head.now ≡ take 9 (drop at bytes) → left ≡ length bytes - at → IsCut (drop at bytes)) }
+    ensures some { IfSome result (λ gate. (bytes : List ℕ) (at : ℕ)
+        → head.now ≡ take 9 (drop at bytes) → left ≡ length bytes - at → GateIs bytes at gate) }
+    ensures none { IfNone result ((bytes : List ℕ) (at : ℕ) → head.now ≡ take 9 (drop at bytes)
+        → left ≡ length bytes - at → IsCut (drop at bytes)) }
     ensures room { IfSome result (λ gate. HasRoom left gate) }
 {
     if head.is_empty() || left == 0 {

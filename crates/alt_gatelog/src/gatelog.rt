@@ -82,7 +82,8 @@ impl GateLog {
         // Other files stay as they were, in reads and in what a stop leaves.
         ensures others { IsTrusted (D.state disk.old)
             → Run (D.state disk.old) (D.state disk.new) (file_of self.old) (λ _ _. ⊤) }
-        ensures no_memory { IsErrOf result DiskFault.NoMemory → D.state disk.new ≡ D.state disk.old }
+        ensures no_memory { IsErrOf result DiskFault.NoMemory
+            → D.state disk.new ≡ D.state disk.old }
         ensures calls { OnOk result ((D.state disk.new).moment ≡ (D.state disk.old).moment + 4) }
         ensures goes { Goes (D.state disk.old) (D.state disk.new) }
         ensures cause { IsErrOf result DiskFault.Failed
@@ -145,7 +146,8 @@ impl GateLog {
         ensures undamaged { IsTrue (D.state disk.old).tells → (entries : List (List ℕ))
             → Reads (D.state disk.old) self.old entries → IfErr result IsNoDamage }
         ensures damaged { (s : DiskState) (entries : List (List ℕ)) → Reads s self.old entries
-            → IfErr result (IsDamageAt (file_of self.old) (gate_place (form_of self.old) entries i)) }
+            → IfErr result (IsDamageAt (file_of self.old)
+            (gate_place (form_of self.old) entries i)) }
         ensures list { self.new ≡ self.old }
         ensures quiet { IsTrue (D.state disk.old).tells
             → Quiet (D.state disk.old) (D.state disk.new) }

@@ -9,7 +9,9 @@ use Rattle.std.specs.List.{All}
 use Rattle.alt_shell.specs.Log.{Log, entry, event_of, took, is_end, bytes_said, bytes_taken, ended, said_in, taken}
 use Rattle.alt_shell.specs.Pieces.{front_of, replaced}
 
-pub ends : (vs : List (Vec ℕ Global)) (bytes : List ℕ) (n most : ℕ) → All (λ v. 0 < length v.items) vs
+-- a take gives nothing exactly where no piece is left
+pub ends : (vs : List (Vec ℕ Global)) (bytes : List ℕ) (n most : ℕ)
+    → All (λ v. 0 < length v.items) vs
     → 0 < most → n ≡ length bytes → bytes ≡ take most (front_of (map (λ v. v.items) vs))
     → (n ≡ 0) ↔ (map (λ v. v.items) vs ≡ [])
 ends [] bytes n most filled some size same =
@@ -30,7 +32,8 @@ pub none_behind : (vs ws : List (Vec ℕ Global)) (rest : List ℕ) → map (λ 
     → map (λ v. v.items) ws ≡ replaced (map (λ v. v.items) vs) rest → length ws ≡ 0
 none_behind vs [] rest none is = refl
 none_behind vs (w ∷ ws) rest none is =
-    let empty : map (λ v. v.items) (w ∷ ws) ≡ [] = is ∙ ap (λ (ps : List (List ℕ)). replaced ps rest) none in
+    let empty : map (λ v. v.items) (w ∷ ws) ≡ [] =
+    is ∙ ap (λ (ps : List (List ℕ)). replaced ps rest) none in
     absurd (let f : ⊥ = cc in f)
 
 -- a test of a number for zero
@@ -51,17 +54,20 @@ one_ends moment told (b ∷ bytes) n is = sym (no (n == 0) refl)
     no true test = absurd (let none = is_zero n test in omega (arith, is, none))
     no false test = refl
 
+-- what was, and leads to what is now, adds nothing to it
 or_later : (was now : Bool) → (was ≡ true → now ≡ true) → (was || now) ≡ now
 or_later true now leads = sym (leads refl)
 or_later false now leads = refl
 
 -- whether the end was taken, after a take that gave nothing where it had been
 pub ended_push : (es new : Log) (moment told : ℕ) (bytes : List ℕ) (n : ℕ) → n ≡ length bytes
-    → new ≡ es ++ entry moment told (took bytes) ∷ [] → (ended es ≡ true → n ≡ 0) → (n == 0) ≡ ended new
+    → new ≡ es ++ entry moment told (took bytes) ∷ [] → (ended es ≡ true → n ≡ 0)
+    → (n == 0) ≡ ended new
 ended_push es new moment told bytes n size is final =
     sym (or_later (ended es) (n == 0) (λ was. zero_is n (final was)))
     ∙ ap (λ (b : Bool). ended es || b) (sym (one_ends moment told bytes n size))
-    ∙ sym (list_any-append (λ (e : ℕ × List ℕ). is_end (event_of e.1)) es (entry moment told (took bytes) ∷ []))
+    ∙ sym (list_any-append (λ (e : ℕ × List ℕ). is_end (event_of e.1)) es
+    (entry moment told (took bytes) ∷ []))
     ∙ ap ended (sym is)
 
 -- the bytes said after a take
@@ -69,14 +75,17 @@ pub said_push : (es new : Log) (moment told : ℕ) (bytes : List ℕ)
     → new ≡ es ++ entry moment told (took bytes) ∷ [] → said_in new ≡ said_in es
 said_push es new moment told bytes is =
     ap said_in is
-    ∙ flat_map-append (λ (e : ℕ × List ℕ). bytes_said (event_of e.1)) es (entry moment told (took bytes) ∷ [])
+    ∙ flat_map-append (λ (e : ℕ × List ℕ). bytes_said (event_of e.1)) es
+    (entry moment told (took bytes) ∷ [])
     ∙ append-nil (said_in es)
 
 -- the bytes taken after it
 pub taken_push : (es new : Log) (moment told : ℕ) (bytes : List ℕ)
-    → new ≡ es ++ entry moment told (took bytes) ∷ [] → length (taken new) ≡ length (taken es) + length bytes
+    → new ≡ es ++ entry moment told (took bytes) ∷ []
+    → length (taken new) ≡ length (taken es) + length bytes
 taken_push es new moment told bytes is =
     ap (λ (l : Log). length (taken l)) is
-    ∙ ap length (flat_map-append (λ (e : ℕ × List ℕ). bytes_taken (event_of e.1)) es (entry moment told (took bytes) ∷ []))
+    ∙ ap length (flat_map-append (λ (e : ℕ × List ℕ). bytes_taken (event_of e.1)) es
+    (entry moment told (took bytes) ∷ []))
     ∙ length-append (taken es) (bytes ++ [])
     ∙ ap (λ (l : List ℕ). length (taken es) + length l) (append-nil bytes)

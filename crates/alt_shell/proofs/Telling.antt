@@ -4,7 +4,8 @@ use Rattle.std.proofs.Common.{Option, Some, None, refl, sym, ap, ◌∙◌, appe
 use Rattle.alt_shell.specs.Log.{Log, Grows, GrowsBy, StillGrows, Tells, with_told, most_told, entries_of}
 
 -- entries and then more entries, where they are told
-GrowsBy-then : (a b c : Option Log) (x y : Log) → GrowsBy a b x → GrowsBy b c y → GrowsBy a c (x ++ y)
+GrowsBy-then : (a b c : Option Log) (x y : Log) → GrowsBy a b x → GrowsBy b c y
+    → GrowsBy a c (x ++ y)
 GrowsBy-then None b c x y p q = tt
 GrowsBy-then (Some es) None c x y p q = absurd p
 GrowsBy-then (Some es) (Some fs) None x y p q = absurd q
@@ -52,13 +53,15 @@ with_told-then : (a x y : List ℕ) → with_told (with_told a x) y ≡ with_tol
 with_told-then a x y =
     let room : ℕ = most_told - length a in
     let front : List ℕ = take room x in
-    let left : most_told - length (a ++ front) ≡ room - length front = omega (arith, length-append a front) in
+    let left : most_told - length (a ++ front) ≡ room - length front =
+    omega (arith, length-append a front) in
     append_assoc a front (take (most_told - length (a ++ front)) y)
     ∙ ap (λ (k : ℕ). a ++ (front ++ take k y)) left
     ∙ ap (λ (l : List ℕ). a ++ l) (sym (take-two room x y))
 
 -- so in logs
-pub Tells-then : (a b c : Option (List ℕ)) (x y : List ℕ) → Tells a b x → Tells b c y → Tells a c (x ++ y)
+pub Tells-then : (a b c : Option (List ℕ)) (x y : List ℕ) → Tells a b x → Tells b c y
+    → Tells a c (x ++ y)
 Tells-then None None None x y p q = tt
 Tells-then None None (Some z) x y p q = absurd q
 Tells-then None (Some v) c x y p q = absurd p

@@ -53,8 +53,10 @@ pub(crate) struct Kept {
     ghost then_other: { is_some first ≡ false → is_some second ≡ false },
     ghost none_behind: { is_some second ≡ false → length behind.items ≡ 0 },
     ghost no_third: { is_some second ≡ true → (take_failed ≡ true) × (say_failed ≡ true) },
-    ghost takes: { take_failed ≡ takes_failed (entries_in before.items first between.items second behind.items) },
-    ghost says: { say_failed ≡ says_failed (entries_in before.items first between.items second behind.items) },
+    ghost takes: { take_failed ≡ takes_failed
+        (entries_in before.items first between.items second behind.items) },
+    ghost says: { say_failed ≡ says_failed (entries_in before.items first between.items second
+        behind.items) },
 }
 
 impl Kept {
@@ -79,7 +81,8 @@ impl Kept {
 
     /// Adds a call. After an error nothing was added.
     pub(crate) fn push(&mut self, call: Call) -> Result<(), NoMemory>
-        ensures ok { OnOk result (kept_entries self.new ≡ kept_entries self.old ++ entry_by call ∷ []) }
+        ensures ok { OnOk result (kept_entries self.new
+            ≡ kept_entries self.old ++ entry_by call ∷ []) }
         ensures err { OnErr result (kept_entries self.new ≡ kept_entries self.old) }
     {
         if self.second.is_some() {
@@ -95,7 +98,8 @@ impl Kept {
     /// Adds a call that failed, where it is the first of its stream. It takes no memory.
     pub(crate) fn miss(&mut self, missed: Missed)
         ensures { (kept_entries self.new ≡ kept_entries self.old ++ entry_of_missed missed ∷ [])
-            ⊎ ((fails_of missed.stream (kept_entries self.old) ≡ true) × (kept_entries self.new ≡ kept_entries self.old)) }
+            ⊎ ((fails_of missed.stream (kept_entries self.old) ≡ true)
+            × (kept_entries self.new ≡ kept_entries self.old)) }
     {
         let seen = match missed.stream {
             Stream::Input => self.take_failed,

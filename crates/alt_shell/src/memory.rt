@@ -71,7 +71,8 @@ impl MemoryShell {
     /// Adds a piece of standard input. A take gives bytes of one piece alone; an empty piece is none, and so is one behind an end that
     /// was taken.
     pub fn input(&mut self, piece: &[u8]) -> Result<(), NoMemory>
-        ensures ok { IfOk result (λ _. pieces self.new ≡ (if ended (entries_by self.old) then pieces self.old
+        ensures ok { IfOk result (λ _. pieces self.new
+            ≡ (if ended (entries_by self.old) then pieces self.old
             else with_piece (pieces self.old) piece.now)) }
         ensures err { OnErr result (pieces self.new ≡ pieces self.old) }
         ensures log { log_of self.new ≡ log_of self.old }
@@ -103,7 +104,8 @@ impl MemoryShell {
     /// The bytes said, with `None` on standard output. There are no talks yet, and what was said of a talk that wasn't is
     /// empty.
     pub fn said(&self, talk: Option<usize>) -> &[u8]
-        ensures { MatchOption talk (result.now ≡ said_in (entries_by self.now)) (λ _. result.now ≡ []) }
+        ensures { MatchOption talk (result.now ≡ said_in (entries_by self.now))
+            (λ _. result.now ≡ []) }
     {
         match talk {
             None => &self.said,
@@ -141,11 +143,14 @@ impl MemoryShell {
     fn begin(&mut self, stream: Stream) -> Result<(), Failed>
         ensures call { ShellCall (shell_state self.old) (shell_state self.new) (is_ok result) }
         ensures ok { OnOk result (self.new ≡ record self.old { disk = self.new.disk }) }
-        ensures err { OnErr result (Adds (shell_state self.old) (shell_state self.new) (failed_of stream)
+        ensures err { OnErr result (Adds (shell_state self.old) (shell_state self.new)
+            (failed_of stream)
             ⊎ Untold (shell_state self.old) (shell_state self.new) (fails_of stream)) }
-        ensures notes { (self.new.noted.items ≡ self.old.noted.items) × (self.new.tells_notes ≡ self.old.tells_notes) }
+        ensures notes { (self.new.noted.items ≡ self.old.noted.items)
+            × (self.new.tells_notes ≡ self.old.tells_notes) }
         ensures told { told_by self.new.clock ≡ told_by self.old.clock }
-        ensures bytes { OnErr result ((said_in (entries_by self.new) ≡ said_in (entries_by self.old))
+        ensures bytes { OnErr result ((said_in (entries_by self.new)
+            ≡ said_in (entries_by self.old))
             × (taken (entries_by self.new) ≡ taken (entries_by self.old))) }
         ensures input { SameInput self.old self.new }
         ensures to_fail { fails_at self.old.disk (state_of self.old.disk).moment ≡ true
@@ -166,8 +171,10 @@ impl MemoryShell {
     // Tells that a call of this stream failed, where it is the first.
     fn miss(&mut self, stream: Stream)
         ensures told { (entries_by self.new ≡ entries_by self.old
-            ++ entry (state_of self.old.disk).moment (length (told_by self.old.clock)) (failed_of stream) ∷ [])
-            ⊎ ((fails_of stream (entries_by self.old) ≡ true) × (entries_by self.new ≡ entries_by self.old)) }
+            ++ entry (state_of self.old.disk).moment (length (told_by self.old.clock))
+            (failed_of stream) ∷ [])
+            ⊎ ((fails_of stream (entries_by self.old) ≡ true)
+            × (entries_by self.new ≡ entries_by self.old)) }
         ensures bytes { (said_in (entries_by self.new) ≡ said_in (entries_by self.old))
             × (taken (entries_by self.new) ≡ taken (entries_by self.old)) }
         ensures disk { self.new.disk ≡ self.old.disk }
@@ -188,8 +195,10 @@ impl MemoryShell {
     // Fails a call of this stream that found no memory.
     fn lose(&mut self, stream: Stream) -> Failed
         ensures told { (entries_by self.new ≡ entries_by self.old
-            ++ entry (state_of self.old.disk).moment (length (told_by self.old.clock)) (failed_of stream) ∷ [])
-            ⊎ ((fails_of stream (entries_by self.old) ≡ true) × (entries_by self.new ≡ entries_by self.old)) }
+            ++ entry (state_of self.old.disk).moment (length (told_by self.old.clock))
+            (failed_of stream) ∷ [])
+            ⊎ ((fails_of stream (entries_by self.old) ≡ true)
+            × (entries_by self.new ≡ entries_by self.old)) }
         ensures bytes { (said_in (entries_by self.new) ≡ said_in (entries_by self.old))
             × (taken (entries_by self.new) ≡ taken (entries_by self.old)) }
         ensures fault { Faulted (state_of self.old.disk) (state_of self.new.disk) }
@@ -213,7 +222,8 @@ impl MemoryShell {
         ensures count { IfOk result (λ n. n ≤ length buf.new) }
         ensures log { MatchResult result
             (λ n. entries_by self.new ≡ entries_by self.old
-            ++ entry (state_of self.old.disk).moment (length (told_by self.old.clock)) (took (take n buf.new)) ∷ [])
+            ++ entry (state_of self.old.disk).moment (length (told_by self.old.clock))
+            (took (take n buf.new)) ∷ [])
             (λ _. entries_by self.new ≡ entries_by self.old) }
         ensures life { length (taken (entries_by self.new)) ≤ 2 ^ 62 }
         ensures gives { MatchResult result
@@ -250,7 +260,8 @@ impl MemoryShell {
         ensures tells { self.new.tells_notes ≡ self.old.tells_notes }
         ensures log { MatchResult result
             (λ _. entries_by self.new ≡ entries_by self.old
-            ++ entry (state_of self.old.disk).moment (length (told_by self.old.clock)) (said bytes.now) ∷ [])
+            ++ entry (state_of self.old.disk).moment (length (told_by self.old.clock))
+            (said bytes.now) ∷ [])
             (λ _. entries_by self.new ≡ entries_by self.old) }
         ensures taken { taken (entries_by self.new) ≡ taken (entries_by self.old) }
         ensures input { SameInput self.old self.new }
@@ -315,8 +326,10 @@ impl Shell for MemoryShell {
         ensures life { WithinLife (shell_state self.old).beside
             → WithinLife (shell_state self.new).beside }
         ensures call { ShellCall (shell_state self.old) (shell_state self.new) (is_ok result) }
-        ensures notes { notes_of (shell_state self.new).beside ≡ notes_of (shell_state self.old).beside }
-        ensures moments { moments_of (shell_state self.new).beside ≡ moments_of (shell_state self.old).beside }
+        ensures notes { notes_of (shell_state self.new).beside
+            ≡ notes_of (shell_state self.old).beside }
+        ensures moments { moments_of (shell_state self.new).beside
+            ≡ moments_of (shell_state self.old).beside }
 
         // It gives bytes of the first piece alone, and nothing exactly where no piece is left.
         ensures gives { MatchResult result
@@ -324,7 +337,8 @@ impl Shell for MemoryShell {
             × (pieces self.new ≡ pieces_behind (pieces self.old) (length buf.old)))
             (λ _. pieces self.new ≡ pieces self.old) }
         ensures end { IfOk result (λ n. (n ≡ 0) ↔ (pieces self.old ≡ [])) }
-        ensures clock { (clock_left self.new ≡ clock_left self.old) × (last_moment self.new ≡ last_moment self.old) }
+        ensures clock { (clock_left self.new ≡ clock_left self.old)
+            × (last_moment self.new ≡ last_moment self.old) }
         ensures to_fail { fails_at self.old.disk (shell_state self.old).moment ≡ true
             → is_ok result ≡ false }
         ensures fails { (t : ℕ) → fails_at self.new.disk t ≡ fails_at self.old.disk t }
@@ -343,8 +357,10 @@ impl Shell for MemoryShell {
         ensures life { WithinLife (shell_state self.old).beside
             → WithinLife (shell_state self.new).beside }
         ensures call { ShellCall (shell_state self.old) (shell_state self.new) (is_ok result) }
-        ensures notes { notes_of (shell_state self.new).beside ≡ notes_of (shell_state self.old).beside }
-        ensures moments { moments_of (shell_state self.new).beside ≡ moments_of (shell_state self.old).beside }
+        ensures notes { notes_of (shell_state self.new).beside
+            ≡ notes_of (shell_state self.old).beside }
+        ensures moments { moments_of (shell_state self.new).beside
+            ≡ moments_of (shell_state self.old).beside }
 
         // One that fails says nothing.
         ensures err { OnErr result (said_in (entries_by self.new) ≡ said_in (entries_by self.old)) }
@@ -367,7 +383,8 @@ impl Shell for MemoryShell {
             (notes_of (shell_state self.new).beside) bytes.now }
         ensures log { Grows (shell_state self.old).beside (shell_state self.new).beside [] }
         ensures call { Aside (shell_state self.old) (shell_state self.new) }
-        ensures moments { moments_of (shell_state self.new).beside ≡ moments_of (shell_state self.old).beside }
+        ensures moments { moments_of (shell_state self.new).beside
+            ≡ moments_of (shell_state self.old).beside }
         ensures input { SameInput self.old self.new }
         ensures disk { self.new.disk ≡ self.old.disk }
     {
@@ -382,7 +399,8 @@ impl Shell for MemoryShell {
             (moments_of (shell_state self.new).beside) (result ∷ []) }
         ensures log { Grows (shell_state self.old).beside (shell_state self.new).beside [] }
         ensures call { Aside (shell_state self.old) (shell_state self.new) }
-        ensures notes { notes_of (shell_state self.new).beside ≡ notes_of (shell_state self.old).beside }
+        ensures notes { notes_of (shell_state self.new).beside
+            ≡ notes_of (shell_state self.old).beside }
 
         // It tells the first moment that is left, and where none is the last one again.
         ensures moment { result ≡ told_of (clock_left self.old) (last_moment self.old) }

@@ -8,6 +8,7 @@ returns c = record {
   one_list = one_list;
   damaged = damaged_no_log;
   in_each_image = in_each_image;
-  elsewhere = λ a b log entries f stands run other. stays a b log entries f (λ _ _. ⊤) stands run other;
+  elsewhere = λ a b log entries f stands run other. stays a b log entries f
+      (λ _ _. ⊤) stands run other;
   quiet = stands_quiet;
 }

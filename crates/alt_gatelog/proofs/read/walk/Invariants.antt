@@ -16,7 +16,8 @@ invariant-gates g l =
       well : (state l.disk).faults ≡ (state l.fn.disk).faults;
       goes : Goes (state l.fn.disk) (state l.disk);
       quiet : IsTrue (state l.fn.disk).tells → Quiet (state l.fn.disk) (state l.disk);
-      read : IsTrue (state l.fn.disk).tells → ReadSoFar first_form (contents (state l.fn.disk) l.f) l.at l.places.items;
+      read : IsTrue (state l.fn.disk).tells → ReadSoFar first_form
+          (contents (state l.fn.disk) l.f) l.at l.places.items;
     }
 
 -- the bytes that are left

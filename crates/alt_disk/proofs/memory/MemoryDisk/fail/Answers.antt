@@ -12,6 +12,14 @@ pub invariant_of-self-2-clause-room : goal.invariant_of-self-2-clause-room
 invariant_of-self-2-clause-room c =
     let d = c.args.self.now in
     let new = c.push.new.self in
-    omega (arith, few_fail d.moment new.items, new.ok.0, d.fails.ok.0, c.push.ensures.len,
-    at_most_one (is_ok c.push.result) (vec_len d.fails), c.in-Some.ensures.1, c.len.ensures,
-    c.in_ok-reserve.ensures.spare)
+    omega (
+      arith,
+      few_fail d.moment new.items,
+      new.ok.0,
+      d.fails.ok.0,
+      c.push.ensures.len,
+      at_most_one (is_ok c.push.result) (vec_len d.fails),
+      c.in-Some.ensures.1,
+      c.len.ensures,
+      c.in_ok-reserve.ensures.spare,
+    )

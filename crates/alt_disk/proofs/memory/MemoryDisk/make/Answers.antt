@@ -15,8 +15,10 @@ returns-then-branch-clause-listed c is below =
     let n = c.keep_failed.new.self in
     let ok = c.in_ok-start.ensures.ok in
     counts_fault (state_of d) (state_of n) (state_of c.fault.new.self) c.args.f c.args.failed
-    (counts_some d.history.calls.items mid.history.calls.items n.history.calls.items d.moment mid.moment
-    n.moment d.faults n.faults d.reads n.reads c.args.f c.args.failed d.timed c.start.ensures.calls ok.2
+    (counts_some d.history.calls.items mid.history.calls.items n.history.calls.items d.moment
+    mid.moment
+    n.moment d.faults n.faults d.reads n.reads c.args.f c.args.failed d.timed c.start.ensures.calls
+    ok.2
     c.keep_failed.ensures.moment c.keep_failed.ensures.calls) c.fault.ensures.call.same
 
 pub returns-then-branch-clause-err : goal.returns-then-branch-clause-err
@@ -27,8 +29,10 @@ returns-then-branch-clause-err c =
     let ok = c.in_ok-start.ensures.ok in
     counts_either (state_of d) (state_of c.fault.new.self) c.args.f c.args.failed
     (counts_fault (state_of d) (state_of n) (state_of c.fault.new.self) c.args.f c.args.failed
-    (counts_some d.history.calls.items mid.history.calls.items n.history.calls.items d.moment mid.moment
-    n.moment d.faults n.faults d.reads n.reads c.args.f c.args.failed d.timed c.start.ensures.calls ok.2
+    (counts_some d.history.calls.items mid.history.calls.items n.history.calls.items d.moment
+    mid.moment
+    n.moment d.faults n.faults d.reads n.reads c.args.f c.args.failed d.timed c.start.ensures.calls
+    ok.2
     c.keep_failed.ensures.moment c.keep_failed.ensures.calls) c.fault.ensures.call.same)
 
 pub returns-clause-ok : goal.returns-clause-ok
@@ -38,9 +42,12 @@ returns-clause-ok c =
     let n = c.keep.new.self in
     let ok = c.in_ok-start.ensures.ok in
     on_ok c.keep.result
-    (λ (pushed : PushedSome mid.history.calls.items n.history.calls.items mid.moment c.args.f c.args.done).
-    acted_some d.history.calls.items mid.history.calls.items n.history.calls.items d.moment mid.moment
-    n.moment d.faults n.faults d.reads n.reads c.args.f c.args.done d.timed c.start.ensures.calls ok.2
+    (λ (pushed : PushedSome mid.history.calls.items n.history.calls.items mid.moment c.args.f
+    c.args.done).
+    acted_some d.history.calls.items mid.history.calls.items n.history.calls.items d.moment
+    mid.moment
+    n.moment d.faults n.faults d.reads n.reads c.args.f c.args.done d.timed c.start.ensures.calls
+    ok.2
     c.keep.ensures.moment pushed)
     c.keep.ensures.ok
 
@@ -54,8 +61,10 @@ returns-clause-unlisted c unlisted =
     (λ (lost : (n.history.calls.items ≡ mid.history.calls.items) × Rose mid.faults n.faults).
     let stays : n.history.calls.items ≡ d.history.calls.items = lost.0 ∙ c.start.ensures.calls in
     let later : d.moment ≤ n.moment = omega (arith, c.keep.ensures.moment, ok.2) in
-    subst (λ (l : List Made). Same (state_of d) (memory_state l n.moment n.faults n.reads)) (sym stays)
-    (same_list d.history.calls.items d.moment n.moment d.faults n.faults d.reads n.reads d.timed later))
+    subst (λ (l : List Made). Same (state_of d) (memory_state l n.moment n.faults n.reads))
+    (sym stays)
+    (same_list d.history.calls.items d.moment n.moment d.faults n.faults d.reads n.reads d.timed
+    later))
     c.keep.ensures.err
 
 pub returns-clause-err : goal.returns-clause-err

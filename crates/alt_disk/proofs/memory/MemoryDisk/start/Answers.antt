@@ -13,7 +13,7 @@ pub returns-clause-room : goal.returns-clause-room
 returns-clause-room c is =
     let d = c.args.self.now in
     let listed : list_any (λ t. t == d.moment) d.fails.items ≡ true =
-        ap (λ (l : List ℕ). list_any (λ t. t == d.moment) l) (sym c.as_slice.ensures.value)
-        ∙ sym c.contains-to_fail.ensures.value ∙ is in
+    ap (λ (l : List ℕ). list_any (λ t. t == d.moment) l) (sym c.as_slice.ensures.value)
+    ∙ sym c.contains-to_fail.ensures.value ∙ is in
     let less = one_failed d.moment d.fails.items listed in
     omega (arith, d.room, less)

@@ -6,13 +6,15 @@ use Rattle.alt_shell.proofs.clock.Clock.tell.Goals as goal
 pub invariant_of-self-2-clause-counted : goal.invariant_of-self-2-clause-counted
 invariant_of-self-2-clause-counted c =
     let d = c.args.self.now in
-    count_another d.past.items c.push_reserved.new.self.items d.count d.times d.last c.min-more.result
+    count_another d.past.items c.push_reserved.new.self.items d.count d.times d.last
+    c.min-more.result
     c.in-Some.moment c.push_reserved.ensures.items d.counted
 
 pub returns-clause-told : goal.returns-clause-told
 returns-clause-told c =
     let d = c.args.self.now in
-    tell_another d.past.items c.push_reserved.new.self.items d.count d.times d.last c.min-more.result
+    tell_another d.past.items c.push_reserved.new.self.items d.count d.times d.last
+    c.min-more.result
     c.in-Some.moment c.push_reserved.ensures.items d.counted c.min-more.ensures
 
 pub invariant_of-self-2-clause-all_below : goal.invariant_of-self-2-clause-all_below

@@ -14,7 +14,8 @@ pub invariant_of-self-2-clause-no_more : goal.invariant_of-self-2-clause-no_more
 invariant_of-self-2-clause-no_more c zero =
     let d = c.args.self.now in
     let bytes = c.in_ok-bytes.bytes in
-    let ending = ends d.input.items bytes.items c.len-count.result (length c.args.buf.now) d.filled c.requires
+    let ending = ends d.input.items bytes.items c.len-count.result
+    (length c.args.buf.now) d.filled c.requires
     (c.len-count.ensures ∙ bytes.ok.0) c.in_ok-bytes.ensures.0 in
     none_behind d.input.items c.advance.new.input.items c.in_ok-bytes.rest.items
     (ending.0 (is_zero c.len-count.result zero)) c.advance.ensures.pieces
@@ -23,16 +24,19 @@ pub invariant_of-self-2-clause-ends : goal.invariant_of-self-2-clause-ends
 invariant_of-self-2-clause-ends c =
     let d = c.args.self.now in
     let bytes = c.in_ok-bytes.bytes in
-    let ending = ends d.input.items bytes.items c.len-count.result (length c.args.buf.now) d.filled c.requires
+    let ending = ends d.input.items bytes.items c.len-count.result
+    (length c.args.buf.now) d.filled c.requires
     (c.len-count.ensures ∙ bytes.ok.0) c.in_ok-bytes.ensures.0 in
-    ended_push (kept_entries d.kept) (kept_entries c.push.new.self) c.counts-moment.result.0 d.clock.count
+    ended_push (kept_entries d.kept) (kept_entries c.push.new.self) c.counts-moment.result.0
+    d.clock.count
     bytes.items c.len-count.result (c.len-count.ensures ∙ bytes.ok.0) c.in_ok-push.ensures.ok
     (λ was. ending.1 (none_left d.input.items (d.no_more (d.ends ∙ was))))
 
 pub invariant_of-self-2-clause-spoken : goal.invariant_of-self-2-clause-spoken
 invariant_of-self-2-clause-spoken c =
     let d = c.args.self.now in
-    d.spoken ∙ sym (said_push (kept_entries d.kept) (kept_entries c.push.new.self) c.counts-moment.result.0
+    d.spoken ∙ sym (said_push (kept_entries d.kept)
+    (kept_entries c.push.new.self) c.counts-moment.result.0
     d.clock.count c.in_ok-bytes.bytes.items c.in_ok-push.ensures.ok)
 
 pub invariant_of-self-2-clause-counted : goal.invariant_of-self-2-clause-counted

@@ -6,7 +6,8 @@ use Rattle.alt_shell.proofs.memory.MemoryShell.miss.Goals as goal
 pub invariant_of-self : goal.invariant_of-self
 invariant_of-self c =
     let d = c.args.self.now in
-    let stays = missed_silent (kept_entries d.kept) (kept_entries c.miss.new.self) _ _ c.miss.ensures in
+    let stays = missed_silent (kept_entries d.kept)
+    (kept_entries c.miss.new.self) _ _ c.miss.ensures in
     record {
       filled = d.filled;
       ends = d.ends ∙ sym stays.ended_stays;
@@ -19,5 +20,6 @@ invariant_of-self c =
 pub returns-clause-bytes : goal.returns-clause-bytes
 returns-clause-bytes c =
     let d = c.args.self.now in
-    let stays = missed_silent (kept_entries d.kept) (kept_entries c.miss.new.self) _ _ c.miss.ensures in
+    let stays = missed_silent (kept_entries d.kept)
+    (kept_entries c.miss.new.self) _ _ c.miss.ensures in
     (stays.said, stays.taken_stays)

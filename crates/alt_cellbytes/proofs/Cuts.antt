@@ -1,26 +1,15 @@
--- Pieces cut from the front of bytes.
+-- A member or a name that is tested against the last one.
 use Rattle.std.proofs.Common.{◌≡◌, ◌≢◌, refl, sym, ap, subst, ◌∙◌, ℕ, zero, suc, ◌-◌, ◌≤◌, List, [], ◌∷◌, ◌++◌, length, take, drop, Some, None, T, arith}
 use Rattle.std.specs.Prelude.{Bool, true, false, IsTrue, slice_get}
 use Rattle.std.specs.Cmp.{IsTotalOrder}
-use Rattle.std.specs.Int.{w64, to_be_bytes}
 use Rattle.std.specs.Ordering.{is_lt}
 use Rattle.std.specs.declared.cmp.Ordering.{Ordering}
-use Rattle.std.proofs.lemmas.List.{take-append-drop}
 use native.Mathlib.Numerals.{unary_clauses}
-use Rattle.alt_fields.specs.Field.{StandsAt}
-use Rattle.alt_fields.proofs.Numbers.{stands_within}
 use Rattle.alt_value.specs.Item.{IsItem}
 use Rattle.alt_value.specs.Members.{IsSet, text_order}
 use Rattle.alt_value.specs.Tree.{Tree, Pair}
 use Rattle.alt_value.proofs.Places.{less, is_less}
 use Rattle.alt_cellbytes.proofs.Rising.{rising_more, above_last, item_more, name_above}
-
-pub count_within : (bytes : List ℕ) (n end : ℕ) → StandsAt bytes 0 (to_be_bytes w64 n) → end ≡ 8 → end ≤ length bytes
-count_within bytes n end at e = omega (arith, stands_within bytes (to_be_bytes w64 n) 0 8 at refl (omega arith), e)
-
-pub cut_front : (bytes piece rest : List ℕ) (end : ℕ) → StandsAt bytes 0 piece → end ≡ length piece → rest ≡ drop end bytes → bytes ≡ piece ++ rest
-cut_front bytes piece rest end at e r =
-    sym (take-append-drop end bytes) ∙ ap (λ s. s ++ drop end bytes) (ap (λ n. take n bytes) e ∙ at) ∙ ap (λ s. piece ++ s) (sym r)
 
 past_at : {A : Type 0} (xs : List A) (i : ℕ) → None ≡ slice_get xs i → length xs ≤ i
 past_at [] i e = omega arith

@@ -1,18 +1,20 @@
 -- One member more, read or written.
-use Rattle.std.proofs.Common.{◌≡◌, refl, sym, ap, subst, ◌∙◌, ℕ, zero, suc, ◌+◌, ◌<◌, List, [], ◌∷◌, ◌++◌, length, take, Some, None, arith, add-one, append_assoc, length-append, Result, Ok, Err, OnErr}
+use Rattle.std.proofs.Common.{◌≡◌, refl, sym, ap, subst, ◌∙◌, ℕ, zero, suc, ◌+◌, ◌<◌, ◌≤◌, List, [], ◌∷◌, ◌++◌, length, take, Some, None, arith, add-one, append_assoc, length-append, Result, Ok, Err, OnErr}
 use Rattle.std.specs.Prelude.{slice_get}
 use Rattle.std.specs.Cmp.{IsTotalOrder}
-use Rattle.std.specs.List.{flat_map}
+use Rattle.std.specs.List.{flat_map, AllByRecursion}
 use Rattle.std.specs.declared.cmp.Ordering.{Ordering}
 use Rattle.alt_base.specs.Prefix.{IsPrefix}
 use Rattle.alt_fields.specs.Field.{field}
 use Rattle.alt_value.specs.CellBytes.{cell_bytes}
 use Rattle.alt_value.specs.Item.{with_pair}
+use Rattle.alt_value.specs.Size.{depth}
 use Rattle.alt_value.specs.Members.{IsSet, with_member}
 use Rattle.alt_value.specs.Tree.{Tree, NULL_tree, Pair}
 use Rattle.alt_cellbytes.specs.Places.{IsEntry, AreEntries, IsNextName, entry_bytes}
-use Rattle.alt_cellbytes.specs.Values.{AreMembers, IsShort, IsValue}
-use Rattle.alt_cellbytes.proofs.Lists.{all_append, flat_map_snoc}
+use Rattle.alt_fields.specs.Bytes.{IsShort}
+use Rattle.alt_cellbytes.specs.Values.{AreRising, HasBytes}
+use Rattle.alt_fields.proofs.Apart.{all_append, flat_map_snoc}
 use Rattle.alt_cellbytes.proofs.Rising.{with_member-last, with_pair-last, item_other, name_some}
 
 -- ---- read
@@ -25,13 +27,13 @@ pub bytes-snoc : {K : Type 0} (spell : K → List ℕ) (P : K → Type 0) (ks : 
 bytes-snoc spell P ks k bytes rest behind is e = is ∙ ap (λ s. flat_map spell ks ++ s) e ∙ flat_map_snoc spell P ks k behind
 
 module _ {K : Type 0} (R : K → K → Ordering) (o : IsTotalOrder R) (spell : K → List ℕ) (P : K → Type 0) where
-  pub one_more : (set new : List K) (k : K) (n : ℕ) (bytes rest behind : List ℕ) → length set ≡ n → AreMembers P R set → bytes ≡ flat_map spell set ++ rest
+  pub one_more : (set new : List K) (k : K) (n : ℕ) (bytes rest behind : List ℕ) → length set ≡ n → AreRising P R set → bytes ≡ flat_map spell set ++ rest
       → P k → IsSet R (set ++ k ∷ []) → rest ≡ spell k ++ behind → new ≡ with_member R k set
-      → (length new ≡ n + 1) × (AreMembers P R new) × (bytes ≡ flat_map spell new ++ behind)
+      → (length new ≡ n + 1) × (AreRising P R new) × (bytes ≡ flat_map spell new ++ behind)
   one_more set new k n bytes rest behind count are is right rising e added =
       let last : new ≡ set ++ k ∷ [] = added ∙ with_member-last R o set k rising in (
         ap length last ∙ length-snoc set k n count,
-        subst (AreMembers P R) (sym last) (all_append P set (k ∷ []) are.0 (right, tt), rising),
+        subst (AreRising P R) (sym last) (all_append P set (k ∷ []) are.0 (right, tt), rising),
         bytes-snoc spell P set k bytes rest behind is e ∙ ap (λ ks. flat_map spell ks ++ behind) (sym last),
       )
 
@@ -84,7 +86,7 @@ prefix_trans a b c p q = (p.0 ++ q.0, q.1 ∙ ap (λ xs. xs ++ q.0) p.1 ∙ appe
 
 -- one entry more of a map
 pub entry_more : (ps new : List Pair) (name : List ℕ) (t : Tree) (n : ℕ) (bytes rest within behind : List ℕ) → length ps ≡ n → AreEntries ps
-    → bytes ≡ flat_map entry_bytes ps ++ rest → IsShort name → IsNextName ps name → rest ≡ field name ++ within → IsValue t → within ≡ cell_bytes t ++ behind
+    → bytes ≡ flat_map entry_bytes ps ++ rest → IsShort name → IsNextName ps name → rest ≡ field name ++ within → HasBytes t → within ≡ cell_bytes t ++ behind
     → new ≡ with_pair name t ps → (length new ≡ n + 1) × (AreEntries new) × (bytes ≡ flat_map entry_bytes new ++ behind)
 entry_more ps new name t n bytes rest within behind count are is short next at value there added =
     let last : new ≡ ps ++ (name, t) ∷ [] = added ∙ with_pair-last ps name t NULL_tree next.1 in (
@@ -93,6 +95,14 @@ entry_more ps new name t n bytes rest within behind count are is short next at v
       bytes-snoc entry_bytes IsEntry ps (name, t) bytes rest behind is (at ∙ ap (λ s. field name ++ s) there ∙ sym (append_assoc (field name) (cell_bytes t) behind))
           ∙ ap (λ qs. flat_map entry_bytes qs ++ behind) (sym last),
     )
+
+-- and nothing in it is nested deeper
+pub entry_shallow : (n : ℕ) (ps new : List Pair) (name : List ℕ) (t : Tree) → AllByRecursion (λ e. depth e.1 ≤ n) ps
+    → IsNextName ps name → depth t ≤ n → new ≡ with_pair name t ps → AllByRecursion (λ e. depth e.1 ≤ n) new
+entry_shallow n ps new name t shallow next d added =
+    let last : new ≡ ps ++ (name, t) ∷ [] = added ∙ with_pair-last ps name t NULL_tree next.1 in
+    subst (λ (qs : List Pair). AllByRecursion (λ e. depth e.1 ≤ n) qs) (sym last)
+    (all_append (λ (e : Pair). depth e.1 ≤ n) ps ((name, t) ∷ []) shallow (d, tt))
 
 -- no next name is empty
 pub name_length : (ps : List Pair) (name : List ℕ) → IsNextName ps name → 0 < length name

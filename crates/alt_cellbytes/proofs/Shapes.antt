@@ -6,9 +6,10 @@ use Rattle.alt_decimal.specs.Spelled.{spelled}
 use Rattle.alt_fields.specs.Field.{field}
 use Rattle.alt_value.specs.CellBytes.{cell_bytes, counted, truth_byte, fields_bytes, numbers_bytes}
 use Rattle.alt_value.specs.Tree.{Tree, S_tree, N_tree, B_tree, BOOL_tree, NULL_tree, SS_tree, NS_tree, BS_tree, L_tree, M_tree, Trees, no_trees, tree_then, Fields, no_fields, field_then, Pair, trees_of, fields_of, elements, pairs}
+use Rattle.alt_value.proofs.Trees.{elements-trees_of, pairs-fields_of}
 use Rattle.alt_cellbytes.specs.Places.{entry_bytes, IsEntry}
-use Rattle.alt_cellbytes.specs.Values.{IsValue, AreValues, AreFields}
-use Rattle.alt_cellbytes.proofs.Lists.{front, back}
+use Rattle.alt_cellbytes.specs.Values.{HasBytes, HaveBytes, FieldsHaveBytes}
+use Rattle.alt_fields.proofs.Apart.{front, back}
 
 -- ---- lists and maps, seen as lists
 
@@ -16,31 +17,23 @@ pub trees_of-elements : (ts : Trees) → trees_of (elements ts) ≡ ts
 trees_of-elements no_trees = refl
 trees_of-elements (tree_then t ts) = ap (λ us. tree_then t us) (trees_of-elements ts)
 
-pub elements-trees_of : (ts : List Tree) → elements (trees_of ts) ≡ ts
-elements-trees_of [] = refl
-elements-trees_of (t ∷ ts) = ap (λ us. t ∷ us) (elements-trees_of ts)
-
 pub fields_of-pairs : (fs : Fields) → fields_of (pairs fs) ≡ fs
 fields_of-pairs no_fields = refl
 fields_of-pairs (field_then name t fs) = ap (λ gs. field_then name t gs) (fields_of-pairs fs)
 
-pub pairs-fields_of : (ps : List Pair) → pairs (fields_of ps) ≡ ps
-pairs-fields_of [] = refl
-pairs-fields_of (p ∷ ps) = ap (λ qs. p ∷ qs) (pairs-fields_of ps)
-
-pub all_values : (ts : List Tree) → AreValues (trees_of ts) → AllByRecursion IsValue ts
+pub all_values : (ts : List Tree) → HaveBytes (trees_of ts) → AllByRecursion HasBytes ts
 all_values [] h = tt
 all_values (t ∷ ts) h = (h.0, all_values ts h.1)
 
-pub values_all : (ts : List Tree) → AllByRecursion IsValue ts → AreValues (trees_of ts)
+pub values_all : (ts : List Tree) → AllByRecursion HasBytes ts → HaveBytes (trees_of ts)
 values_all [] h = tt
 values_all (t ∷ ts) h = (h.0, values_all ts h.1)
 
-pub all_entries : (ps : List Pair) → AreFields (fields_of ps) → AllByRecursion IsEntry ps
+pub all_entries : (ps : List Pair) → FieldsHaveBytes (fields_of ps) → AllByRecursion IsEntry ps
 all_entries [] h = tt
 all_entries (p ∷ ps) h = ((h.0, h.1), all_entries ps h.2)
 
-pub entries_all : (ps : List Pair) → AllByRecursion IsEntry ps → AreFields (fields_of ps)
+pub entries_all : (ps : List Pair) → AllByRecursion IsEntry ps → FieldsHaveBytes (fields_of ps)
 entries_all [] h = tt
 entries_all (p ∷ ps) h = (h.0.0, h.0.1, entries_all ps h.1)
 

@@ -8,7 +8,9 @@ ghost use Rattle.alt_decimal.specs.Spelled.{spelled};
 ghost use Rattle.alt_fields.specs.Field.{field};
 ghost use Rattle.alt_value.specs.Members.{IsSet, text_order};
 ghost use Rattle.alt_cellbytes.specs.Places.{IsStop, NoField, NoNumber, IsNextText, NoText, NoNumberMember, NoBinary};
-ghost use Rattle.alt_cellbytes.specs.Values.{IsShort, IsText, AreMembers};
+ghost use Rattle.alt_fields.specs.Bytes.{IsShort};
+ghost use Rattle.alt_value.specs.Values.{IsText};
+ghost use Rattle.alt_cellbytes.specs.Values.{AreRising};
 
 use crate::fault::Stop;
 use crate::pieces::{take_field, take_number, take_text};
@@ -18,7 +20,7 @@ use std::alloc::Global;
 
 /// So many texts, and what follows them.
 pub(crate) fn take_texts(alloc: Global, count: u64, bytes: &[u8]) -> Result<(TextSet, &[u8]), Stop>
-    ensures members { IfOk result (λ p. (length p.0 ≡ count) × AreMembers IsText text_order p.0
+    ensures members { IfOk result (λ p. (length p.0 ≡ count) × AreRising IsText text_order p.0
         × (bytes.now ≡ flat_map field p.0 ++ p.1.now)) }
     ensures stop { IfErr result (IsStop (NoText count bytes.now)) }
 {
@@ -65,7 +67,7 @@ pub(crate) fn take_numbers(
     count: u64,
     bytes: &[u8],
 ) -> Result<(NumberSet, &[u8]), Stop>
-    ensures members { IfOk result (λ p. (length p.0 ≡ count) × AreMembers Fits int_cmp p.0
+    ensures members { IfOk result (λ p. (length p.0 ≡ count) × AreRising Fits int_cmp p.0
         × (bytes.now ≡ flat_map spelled p.0 ++ p.1.now)) }
     ensures stop { IfErr result (IsStop (NoNumberMember count bytes.now)) }
 {
@@ -120,7 +122,7 @@ pub(crate) fn take_binaries(
     count: u64,
     bytes: &[u8],
 ) -> Result<(BytesSet, &[u8]), Stop>
-    ensures members { IfOk result (λ p. (length p.0 ≡ count) × AreMembers IsShort text_order p.0
+    ensures members { IfOk result (λ p. (length p.0 ≡ count) × AreRising IsShort text_order p.0
         × (bytes.now ≡ flat_map field p.0 ++ p.1.now)) }
     ensures stop { IfErr result (IsStop (NoBinary count bytes.now)) }
 {

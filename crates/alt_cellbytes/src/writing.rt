@@ -1,22 +1,35 @@
 //! Writing cell bytes.
 
-ghost use Rattle.std.specs.Prelude.{◌≡◌, ◌∷◌, ◌++◌, [], length, OnOk, OnErr};
+ghost use Rattle.std.specs.Prelude.{◌≡◌, ◌∷◌, ◌++◌, [], length, OnOk, OnErr, T};
 ghost use Rattle.std.specs.List.{flat_map};
 ghost use Rattle.alt_base.specs.Prefix.{IsPrefix};
 ghost use Rattle.alt_decimal.specs.Spelled.{spelled};
 ghost use Rattle.alt_fields.specs.Field.{field};
 ghost use Rattle.alt_value.specs.CellBytes.{cell_bytes, counted, truth_byte};
 ghost use Rattle.alt_value.specs.Stands.{tree_of};
+ghost use Rattle.alt_value.specs.Values.{sets_full};
+ghost use Rattle.alt_cellbytes.specs.Values.{AreBytesOf};
 ghost use Rattle.alt_cellbytes.specs.Places.{entry_bytes};
 
 use alt_base::NoMemory;
 use alt_decimal::Decimal;
 use alt_fields::{put_bytes, put_u64};
-use alt_value::{Attr, AttrList, BytesSet, Item, NumberSet, TextSet};
+use alt_value::{Attr, AttrList, BytesSet, Item, NumberSet, TextSet, held};
 
 /// Appends the cell bytes of a value. Where memory is wanting, the front of them may stand there.
-#[cycle(writing)]
 pub fn bytes_of(a: &Attr, out: &mut Vec<u8>) -> Result<(), NoMemory>
+    ensures appended { OnOk result (out.new.items ≡ out.old.items ++ cell_bytes (tree_of a.now)) }
+    ensures begun { OnErr result (IsPrefix out.old.items out.new.items) }
+    // What was written is read as the value again, unless it has an empty set.
+    ensures again { T (sets_full (tree_of a.now))
+        → AreBytesOf (cell_bytes (tree_of a.now)) (tree_of a.now) }
+{
+    held(a);
+    put_value(a, out)
+}
+
+#[cycle(writing)]
+fn put_value(a: &Attr, out: &mut Vec<u8>) -> Result<(), NoMemory>
     ensures appended { OnOk result (out.new.items ≡ out.old.items ++ cell_bytes (tree_of a.now)) }
     ensures begun { OnErr result (IsPrefix out.old.items out.new.items) }
 {
@@ -167,7 +180,7 @@ fn put_each_element(out: &mut Vec<u8>, list: &AttrList) -> Result<(), NoMemory>
         let Some(element) = list.get(place) else {
             break;
         };
-        bytes_of(element, out)?;
+        put_value(element, out)?;
     }
     Ok(())
 }
@@ -191,7 +204,7 @@ fn put_each_entry(out: &mut Vec<u8>, map: &Item) -> Result<(), NoMemory>
             break;
         };
         put_bytes(out, name.as_bytes())?;
-        bytes_of(value, out)?;
+        put_value(value, out)?;
     }
     Ok(())
 }

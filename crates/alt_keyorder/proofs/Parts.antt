@@ -87,51 +87,19 @@ binary_apart s t = λ x y e. ap B_tree (closed-apart s t x y e)
 -- two texts or two binaries
 pub text_law : (s : List ℕ) (u : Tree) → IfSome (tree_order (S_tree s) u) (IsPartOrder (S_tree s) u)
 text_law s (S_tree t) = text_parts s t
-text_law s (N_tree z) = tt
-text_law s (B_tree b) = tt
-text_law s (BOOL_tree b) = tt
-text_law s NULL_tree = tt
-text_law s (SS_tree ss) = tt
-text_law s (NS_tree zs) = tt
-text_law s (BS_tree bs) = tt
-text_law s (L_tree ts) = tt
-text_law s (M_tree fs) = tt
+text_law s u = tt
 
 pub binary_law : (s : List ℕ) (u : Tree) → IfSome (tree_order (B_tree s) u) (IsPartOrder (B_tree s) u)
-binary_law s (S_tree t) = tt
-binary_law s (N_tree z) = tt
 binary_law s (B_tree t) = text_parts s t
-binary_law s (BOOL_tree b) = tt
-binary_law s NULL_tree = tt
-binary_law s (SS_tree ss) = tt
-binary_law s (NS_tree zs) = tt
-binary_law s (BS_tree bs) = tt
-binary_law s (L_tree ts) = tt
-binary_law s (M_tree fs) = tt
+binary_law s u = tt
 
 pub text_apart_law : (s : List ℕ) (u : Tree) → IfSome (tree_order (S_tree s) u) (λ o. AreApart (S_tree s) u)
 text_apart_law s (S_tree t) = text_apart s t
-text_apart_law s (N_tree z) = tt
-text_apart_law s (B_tree b) = tt
-text_apart_law s (BOOL_tree b) = tt
-text_apart_law s NULL_tree = tt
-text_apart_law s (SS_tree ss) = tt
-text_apart_law s (NS_tree zs) = tt
-text_apart_law s (BS_tree bs) = tt
-text_apart_law s (L_tree ts) = tt
-text_apart_law s (M_tree fs) = tt
+text_apart_law s u = tt
 
 pub binary_apart_law : (s : List ℕ) (u : Tree) → IfSome (tree_order (B_tree s) u) (λ o. AreApart (B_tree s) u)
-binary_apart_law s (S_tree t) = tt
-binary_apart_law s (N_tree z) = tt
 binary_apart_law s (B_tree t) = binary_apart s t
-binary_apart_law s (BOOL_tree b) = tt
-binary_apart_law s NULL_tree = tt
-binary_apart_law s (SS_tree ss) = tt
-binary_apart_law s (NS_tree zs) = tt
-binary_apart_law s (BS_tree bs) = tt
-binary_apart_law s (L_tree ts) = tt
-binary_apart_law s (M_tree fs) = tt
+binary_apart_law s u = tt
 
 pub from_texts : (r : Option Ordering) (a b : Tree) (s : List ℕ) → r ≡ tree_order a b → a ≡ S_tree s → IfSome r (IsPartOrder a b)
 from_texts r a b s e is = rw (e, is) (text_law s b)

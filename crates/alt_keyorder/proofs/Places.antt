@@ -9,22 +9,15 @@ use Rattle.std.specs.declared.cmp.Ordering.TheVariants.{Less, Equal, Greater}
 use Rattle.std.proofs.Math.Nat.{mul-le-mul_right}
 use Rattle.std.proofs.lemmas.Bool.{cases_order}
 use Rattle.std.proofs.lemmas.Map.Lookups.{exact_bytes, exact_signed}
-use Rattle.alt_decimal.specs.Digits.{width, digit_count}
-use Rattle.alt_decimal.specs.Form.{units_of, IsNormal}
-use Rattle.alt_decimal.specs.Number.{Fits, IsMagnitude, with_sign}
+use Rattle.alt_decimal.specs.Number.{Fits}
 use Rattle.alt_decimal.specs.Spelled.{spelled}
-use Rattle.alt_decimal.specs.declared.Decimal.TheInside.{Inside}
-use Rattle.alt_decimal.proofs.Apart.{spelled-apart}
-use Rattle.alt_decimal.proofs.Fitting.{with_sign-nat_abs}
-use Rattle.alt_decimal.proofs.Magnitudes.{digit_count-mul, IsNormal-from}
-use Rattle.alt_decimal.proofs.SpellingOrder.{spelled_cmp}
-use Rattle.alt_decimal.proofs.Trimmed.{Trimmed, trimmed_of}
-use Rattle.alt_decimal.proofs.Widths.{ten_pow-le, lt-width, mul-width_gt, mul-width_le}
+use Rattle.alt_decimal.proofs.Normals.{spelled_apart, spelled_order}
 use Rattle.alt_value.specs.Members.{text_order}
 use Rattle.alt_value.specs.Order.{tree_order}
 use Rattle.alt_value.specs.Tree.{Tree, S_tree, N_tree, B_tree, BOOL_tree, NULL_tree, SS_tree, NS_tree, BS_tree, L_tree, M_tree}
 use Rattle.alt_keyorder.specs.KeyBytes.{key_bytes, IsPartOrder}
-use Rattle.alt_keyorder.specs.Place.{Place, then_order, parts_order, place_bytes, IsKeyValue, KeysLieAsPlaces, KeysTellPlaces}
+use Rattle.alt_keyorder.specs.Laws.{KeysLieAsPlaces, KeysTellPlaces}
+use Rattle.alt_keyorder.specs.Place.{Place, then_order, parts_order, place_order, place_bytes, IsKeyValue, IsPlace}
 use Rattle.alt_keyorder.proofs.Parts.{nat_cmp-less, nat_cmp-equal, nat_cmp-greater, then-assoc, then-equal, text_order-refl, apart-order, text_law, binary_law}
 
 -- ---- numbers of 8 bytes
@@ -98,78 +91,24 @@ token-order m n x y hm hn =
 
 -- ---- numbers that fit, spelled
 
-record Normal (z : ℤ) : Type 0 where
-  fields : Inside
-  normal : IsNormal fields
-  is : units_of fields ≡ z
-
-zero_normal : Normal (pos 0)
-zero_normal = record {
-  fields = record { negative = false; coefficient = 0; zeros = 0 };
-  normal = record {
-    digits = omega arith;
-    no_zero_behind = λ h. absurd (omega (arith, h));
-    zero_sign = λ h. refl;
-    zero_zeros = λ h. refl;
-    few_zeros = omega arith;
-    least = λ h. absurd (omega (arith, h));
-    below = omega arith;
-  };
-  is = refl;
-}
-
-magnitude_normal : (z : ℤ) → IsMagnitude (nat_abs z) → Normal z
-magnitude_normal z m =
-    let t : Trimmed (nat_abs z) = trimmed_of (nat_abs z) (omega (arith, m.least)) in
-    let c = t.coefficient in
-    let k = t.behind in
-    let digits : width c ≤ 38 = omega (arith, m.few_digits, ap digit_count t.is, digit_count-mul c k t.last) in
-    let few : c < 10 ^ 38 = omega (arith, lt-width c, ten_pow-le (width c) 38 digits) in
-    let low : 37 < width c + k = mul-width_gt c k 37 (rw (← t.is) m.least) in
-    let high : width c + k ≤ 293 = mul-width_le c k 293 (omega (arith, t.last)) (rw (← t.is) m.below) in
-    record {
-      fields = record { negative = is_negative z; coefficient = c; zeros = k };
-      normal = IsNormal-from (is_negative z) c k few t.last low high;
-      is = ap (with_sign (is_negative z)) (sym t.is) ∙ with_sign-nat_abs z;
-    }
-
-normal_of : (z : ℤ) → Fits z → Normal z
-normal_of z h = elim h [ inl e ↦ rw e zero_normal | inr m ↦ magnitude_normal z m ]
-
-number_parts : (u v : ℤ) → Fits u → Fits v → IsPartOrder (N_tree u) (N_tree v) (int_cmp u v)
+-- numbers lie as their parts do
+pub number_parts : (u v : ℤ) → Fits u → Fits v → IsPartOrder (N_tree u) (N_tree v) (int_cmp u v)
 number_parts u v fu fv x y =
-    let a = normal_of u fu in
-    let b = normal_of v fv in
-    let order : int_cmp u v ≡ text_order (spelled u) (spelled v) = rw (← a.is, ← b.is) (spelled_cmp a.fields b.fields a.normal b.normal) in
-    apart-order (spelled u) (spelled v) x y
-    (λ r s e. ap spelled (sym a.is ∙ spelled-apart a.fields b.fields a.normal b.normal r s (rw (a.is, b.is) e) ∙ b.is))
-    ∙ ap (λ o. ordering_then o (text_order x y)) (sym order)
+    apart-order (spelled u) (spelled v) x y (λ r s e. ap spelled (spelled_apart u v r s fu fv e).0)
+    ∙ ap (λ o. ordering_then o (text_order x y)) (sym (spelled_order u v fu fv))
 
 -- ---- parts
 
+-- a number beside another key value, and any two key values
 number_law : (z : ℤ) (u : Tree) → Fits z → IsKeyValue u → IfSome (tree_order (N_tree z) u) (IsPartOrder (N_tree z) u)
-number_law z (S_tree s) h k = tt
 number_law z (N_tree v) h k = number_parts z v h k
-number_law z (B_tree b) h k = tt
-number_law z (BOOL_tree b) h k = tt
-number_law z NULL_tree h k = tt
-number_law z (SS_tree ss) h k = tt
-number_law z (NS_tree zs) h k = tt
-number_law z (BS_tree bs) h k = tt
-number_law z (L_tree ts) h k = tt
-number_law z (M_tree fs) h k = tt
+number_law z u h k = tt
 
 part_law : (t u : Tree) → IsKeyValue t → IsKeyValue u → IfSome (tree_order t u) (IsPartOrder t u)
 part_law (S_tree s) u k l = text_law s u
 part_law (N_tree z) u k l = number_law z u k l
 part_law (B_tree b) u k l = binary_law b u
-part_law (BOOL_tree b) u k l = absurd k
-part_law NULL_tree u k l = absurd k
-part_law (SS_tree ss) u k l = absurd k
-part_law (NS_tree zs) u k l = absurd k
-part_law (BS_tree bs) u k l = absurd k
-part_law (L_tree ts) u k l = absurd k
-part_law (M_tree fs) u k l = absurd k
+part_law t u k l = absurd k
 
 same_some : (o p : Ordering) → Some o ≡ Some p → o ≡ p
 same_some o p e = cc
@@ -177,51 +116,21 @@ same_some o p e = cc
 -- parts that tie are one value
 tied_texts : (s : List ℕ) (u : Tree) → tree_order (S_tree s) u ≡ Some Equal → S_tree s ≡ u
 tied_texts s (S_tree t) e = ap S_tree (exact_bytes s t (same_some (text_order s t) Equal e))
-tied_texts s (N_tree v) e = absurd (let f : ⊥ = cc in f)
-tied_texts s (B_tree b) e = absurd (let f : ⊥ = cc in f)
-tied_texts s (BOOL_tree b) e = absurd (let f : ⊥ = cc in f)
-tied_texts s NULL_tree e = absurd (let f : ⊥ = cc in f)
-tied_texts s (SS_tree ss) e = absurd (let f : ⊥ = cc in f)
-tied_texts s (NS_tree zs) e = absurd (let f : ⊥ = cc in f)
-tied_texts s (BS_tree bs) e = absurd (let f : ⊥ = cc in f)
-tied_texts s (L_tree ts) e = absurd (let f : ⊥ = cc in f)
-tied_texts s (M_tree fs) e = absurd (let f : ⊥ = cc in f)
+tied_texts s u e = absurd (let f : ⊥ = cc in f)
 
 tied_numbers : (z : ℤ) (u : Tree) → tree_order (N_tree z) u ≡ Some Equal → N_tree z ≡ u
-tied_numbers z (S_tree t) e = absurd (let f : ⊥ = cc in f)
 tied_numbers z (N_tree v) e = ap N_tree (exact_signed z v (same_some (int_cmp z v) Equal e))
-tied_numbers z (B_tree b) e = absurd (let f : ⊥ = cc in f)
-tied_numbers z (BOOL_tree b) e = absurd (let f : ⊥ = cc in f)
-tied_numbers z NULL_tree e = absurd (let f : ⊥ = cc in f)
-tied_numbers z (SS_tree ss) e = absurd (let f : ⊥ = cc in f)
-tied_numbers z (NS_tree zs) e = absurd (let f : ⊥ = cc in f)
-tied_numbers z (BS_tree bs) e = absurd (let f : ⊥ = cc in f)
-tied_numbers z (L_tree ts) e = absurd (let f : ⊥ = cc in f)
-tied_numbers z (M_tree fs) e = absurd (let f : ⊥ = cc in f)
+tied_numbers z u e = absurd (let f : ⊥ = cc in f)
 
 tied_binaries : (s : List ℕ) (u : Tree) → tree_order (B_tree s) u ≡ Some Equal → B_tree s ≡ u
-tied_binaries s (S_tree t) e = absurd (let f : ⊥ = cc in f)
-tied_binaries s (N_tree v) e = absurd (let f : ⊥ = cc in f)
 tied_binaries s (B_tree b) e = ap B_tree (exact_bytes s b (same_some (text_order s b) Equal e))
-tied_binaries s (BOOL_tree b) e = absurd (let f : ⊥ = cc in f)
-tied_binaries s NULL_tree e = absurd (let f : ⊥ = cc in f)
-tied_binaries s (SS_tree ss) e = absurd (let f : ⊥ = cc in f)
-tied_binaries s (NS_tree zs) e = absurd (let f : ⊥ = cc in f)
-tied_binaries s (BS_tree bs) e = absurd (let f : ⊥ = cc in f)
-tied_binaries s (L_tree ts) e = absurd (let f : ⊥ = cc in f)
-tied_binaries s (M_tree fs) e = absurd (let f : ⊥ = cc in f)
+tied_binaries s u e = absurd (let f : ⊥ = cc in f)
 
 tied : (t u : Tree) → IsKeyValue t → tree_order t u ≡ Some Equal → t ≡ u
 tied (S_tree s) u k e = tied_texts s u e
 tied (N_tree z) u k e = tied_numbers z u e
 tied (B_tree b) u k e = tied_binaries b u e
-tied (BOOL_tree b) u k e = absurd k
-tied NULL_tree u k e = absurd k
-tied (SS_tree ss) u k e = absurd k
-tied (NS_tree zs) u k e = absurd k
-tied (BS_tree bs) u k e = absurd k
-tied (L_tree ts) u k e = absurd k
-tied (M_tree fs) u k e = absurd k
+tied t u k e = absurd k
 
 -- ---- places
 
@@ -287,11 +196,18 @@ then-Equal Less p h = absurd (let f : ⊥ = cc in f)
 then-Equal Equal p h = (refl, h)
 then-Equal Greater p h = absurd (let f : ⊥ = cc in f)
 
+-- places that tie are one place
+pub tied_places : (p q : Place) → AllByRecursion IsKeyValue p.parts → place_order p q ≡ Some Equal → p ≡ q
+tied_places p q keys e =
+    let d = both_of (Some (nat_cmp p.token q.token)) (parts_order p.parts q.parts) Equal e in
+    let both = then-Equal d.first d.second d.is in
+    same_place p q (nat_tied p.token q.token (same_some (nat_cmp p.token q.token) d.first d.a_is ∙ both.0))
+    (tied_parts p.parts q.parts keys (d.b_is ∙ ap (λ (r : Ordering). Some r) both.1))
+
+-- key bytes that are equal are those of places that tie
 pub keys-tell : KeysTellPlaces
 keys-tell p q o hp hq e same =
-    let d = both_of (Some (nat_cmp p.token q.token)) (parts_order p.parts q.parts) o e in
     let equal : ordering_then o Equal ≡ Equal =
-    sym (keys-lie p q o [] [] hp hq e) ∙ ap (λ b. text_order (b ++ []) (place_bytes q ++ [])) same ∙ text_order-refl (place_bytes q ++ []) in
-    let both = then-Equal d.first d.second (d.is ∙ then-equal o Equal equal) in
-    same_place p q (nat_tied p.token q.token (same_some (nat_cmp p.token q.token) d.first d.a_is ∙ both.0))
-    (tied_parts p.parts q.parts hp.parts (d.b_is ∙ ap (λ (r : Ordering). Some r) both.1))
+    sym (keys-lie p q o [] [] hp hq e) ∙ ap (λ b. text_order (b ++ []) (place_bytes q ++ [])) same
+    ∙ text_order-refl (place_bytes q ++ []) in
+    tied_places p q hp.parts (e ∙ ap (λ (r : Ordering). Some r) (then-equal o Equal equal))

@@ -132,15 +132,7 @@ number_part bytes z len e fits every =
 pub no_text : (bytes s : List ℕ) (len : ℕ) → IsClosedAt bytes s len → (IsUtf8 s → ⊥) → NoPart S bytes
 no_text bytes s len at bad (S_tree t) behind key e =
     let P : List ℕ → Type 0 = λ u. IsUtf8 u in bad (subst P (sym (closed-apart s t at.behind behind (sym at.is ∙ e))) key)
-no_text bytes s len at bad (N_tree z) behind key e = key
-no_text bytes s len at bad (B_tree b) behind key e = key
-no_text bytes s len at bad (BOOL_tree b) behind key e = key
-no_text bytes s len at bad NULL_tree behind key e = key
-no_text bytes s len at bad (SS_tree ss) behind key e = key
-no_text bytes s len at bad (NS_tree zs) behind key e = key
-no_text bytes s len at bad (BS_tree bs) behind key e = key
-no_text bytes s len at bad (L_tree ts) behind key e = key
-no_text bytes s len at bad (M_tree fs) behind key e = key
+no_text bytes s len at bad t behind key e = absurd key
 
 nothing_spelled : (z : ℤ) (r : List ℕ) → [] ≡ spelled z ++ r → ⊥
 unfolding spelled
@@ -157,33 +149,7 @@ no_part_of_nothing : (kind : KeyKind) → NoPart kind []
 no_part_of_nothing S (S_tree t) behind key e = nothing_closed t behind e
 no_part_of_nothing N (N_tree z) behind key e = nothing_spelled z behind e
 no_part_of_nothing B (B_tree t) behind key e = nothing_closed t behind e
-no_part_of_nothing S (N_tree z) behind key e = key
-no_part_of_nothing S (B_tree b) behind key e = key
-no_part_of_nothing S (BOOL_tree b) behind key e = key
-no_part_of_nothing S NULL_tree behind key e = key
-no_part_of_nothing S (SS_tree ss) behind key e = key
-no_part_of_nothing S (NS_tree zs) behind key e = key
-no_part_of_nothing S (BS_tree bs) behind key e = key
-no_part_of_nothing S (L_tree ts) behind key e = key
-no_part_of_nothing S (M_tree fs) behind key e = key
-no_part_of_nothing N (S_tree z) behind key e = key
-no_part_of_nothing N (B_tree b) behind key e = key
-no_part_of_nothing N (BOOL_tree b) behind key e = key
-no_part_of_nothing N NULL_tree behind key e = key
-no_part_of_nothing N (SS_tree ss) behind key e = key
-no_part_of_nothing N (NS_tree zs) behind key e = key
-no_part_of_nothing N (BS_tree bs) behind key e = key
-no_part_of_nothing N (L_tree ts) behind key e = key
-no_part_of_nothing N (M_tree fs) behind key e = key
-no_part_of_nothing B (S_tree z) behind key e = key
-no_part_of_nothing B (N_tree b) behind key e = key
-no_part_of_nothing B (BOOL_tree b) behind key e = key
-no_part_of_nothing B NULL_tree behind key e = key
-no_part_of_nothing B (SS_tree ss) behind key e = key
-no_part_of_nothing B (NS_tree zs) behind key e = key
-no_part_of_nothing B (BS_tree bs) behind key e = key
-no_part_of_nothing B (L_tree ts) behind key e = key
-no_part_of_nothing B (M_tree fs) behind key e = key
+no_part_of_nothing kind t behind key e = absurd key
 
 pub no_part_past : (kind : KeyKind) (bytes : List ℕ) (at : ℕ) → length bytes < at → NoPart kind (drop at bytes)
 no_part_past kind [] zero past = absurd (omega arith)

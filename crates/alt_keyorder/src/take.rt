@@ -1,8 +1,9 @@
 //! Reading key parts.
 
-ghost use Rattle.std.specs.Prelude.{◌+◌, ◌-◌, ◌≤◌, length, drop, IfOk, MatchOption};
+ghost use Rattle.std.specs.Prelude.{◌≡◌, ◌+◌, ◌-◌, ◌++◌, ℕ, List, length, drop, IfOk, MatchOption};
 ghost use Rattle.alt_value.specs.Stands.{tree_of};
-ghost use Rattle.alt_keyorder.specs.KeyBytes.{IsClosedAt, IsCut, IsPart, IsUnclosed, NoPart};
+ghost use Rattle.alt_value.specs.Tree.{Tree};
+ghost use Rattle.alt_keyorder.specs.KeyBytes.{IsClosedAt, IsCut, IsKeyOf, IsPart, IsUnclosed, NoPart, key_bytes};
 
 use crate::part::cut_at_zero;
 use alt_base::NoMemory;
@@ -19,8 +20,12 @@ pub fn take_part(
     bytes: &[u8],
     at: usize,
 ) -> Result<Option<(Attr, usize)>, NoMemory>
-    ensures { IfOk result (λ r. MatchOption r (NoPart kind (drop at bytes.now))
+    ensures part { IfOk result (λ r. MatchOption r (NoPart kind (drop at bytes.now))
         (λ p. IsPart kind (drop at bytes.now) (tree_of p.0) (p.1 - at))) }
+    // Whatever value's part stands there, that value is taken.
+    ensures taken { (t : Tree) (behind : List ℕ) → IsKeyOf kind t
+        → drop at bytes.now ≡ key_bytes t ++ behind → IfOk result
+            (λ r. MatchOption r ⊥ (λ p. (tree_of p.0 ≡ t) × (p.1 ≡ at + length (key_bytes t)))) }
 {
     if at > bytes.len() {
         return Ok(None);

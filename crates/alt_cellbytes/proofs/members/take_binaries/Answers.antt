@@ -2,7 +2,7 @@
 use Rattle.alt_fields.specs.Field.{field}
 use Rattle.alt_value.specs.Members.{text_order}
 use Rattle.alt_value.proofs.Texts.{text_total}
-use Rattle.alt_cellbytes.specs.Values.{IsShort}
+use Rattle.alt_fields.specs.Bytes.{IsShort}
 use Rattle.alt_cellbytes.proofs.OneMore.{one_more}
 use Rattle.alt_cellbytes.proofs.members.take_binaries.Goals as goal
 

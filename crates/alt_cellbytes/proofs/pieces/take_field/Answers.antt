@@ -1,7 +1,7 @@
 -- What stands behind a field.
 use Rattle.std.proofs.Common.{arith}
 use Rattle.alt_fields.specs.Field.{field}
-use Rattle.alt_cellbytes.proofs.Cuts.{cut_front}
+use Rattle.alt_fields.proofs.Apart.{cut_front}
 use Rattle.alt_cellbytes.proofs.pieces.take_field.Goals as goal
 
 pub returns-in-Ok-clause-field : goal.returns-in-Ok-clause-field

@@ -1,0 +1,4 @@
+pub mod Feeds
+pub mod Lines
+pub mod Reader
+pub mod Unread

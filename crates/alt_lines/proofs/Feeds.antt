@@ -1,8 +1,8 @@
 -- Where line feeds stand, and the lines that they end.
-use Rattle.std.proofs.Common.{◌≢◌, subst, get_or, Option, None, Some, ◌≡◌, ◌<◌, ◌≤◌, ◌+◌, ◌-◌, ℕ, zero, suc, List, [], ◌∷◌, ◌++◌, length, take, drop, map, Bool, true, false, cond, refl, sym, ap, ◌∙◌, append_assoc, append-nil, arith, add-one}
+use Rattle.std.proofs.Common.{◌≢◌, subst, get_or, Option, None, Some, ◌≡◌, ◌<◌, ◌≤◌, ◌+◌, ◌-◌, ℕ, zero, suc, List, [], ◌∷◌, ◌++◌, length, take, drop, map, Bool, true, false, cond, refl, sym, ap, ◌∙◌, append_assoc, append-nil, arith}
 use Rattle.memchr.specs.Find.{IsFirstByte, is_byte}
-use Rattle.std.specs.Prelude.{MatchOption, All, ◌==◌, nat_le, slice_index}
-use Rattle.std.specs.List.{slice_split, onto_first}
+use Rattle.std.specs.Prelude.{MatchOption, ◌==◌, nat_le, slice_index}
+use Rattle.std.specs.List.{onto_first}
 use Rattle.std.specs.Str.Lines.{strip_carriage_return}
 use Rattle.std.proofs.lemmas.List.{length-append, length-drop, length-take, take-append-drop, drop-drop, get_or-drop, get_or-take}
 use Rattle.std.proofs.Math.Seq.{take-add}

@@ -1,12 +1,12 @@
 -- What is taken from a reader, over the bytes that it holds.
-use Rattle.std.proofs.Common.{◌-◌, take, drop, subst, ◌≡◌, ◌<◌, ◌≤◌, ◌+◌, ℕ, suc, List, [], ◌∷◌, ◌++◌, length, map, Bool, true, false, cond, refl, sym, ap, ◌∙◌, append_assoc, append-nil, arith}
+use Rattle.std.proofs.Common.{◌-◌, take, drop, subst, ◌≡◌, ◌<◌, ◌≤◌, ◌+◌, ℕ, suc, List, [], ◌∷◌, ◌++◌, length, Bool, true, false, cond, refl, sym, ap, ◌∙◌, append_assoc, append-nil, arith}
 use Rattle.std.proofs.lemmas.Bool.Decides.{nat_tests}
-use Rattle.std.specs.Prelude.{nat_lt, All, replicate, Option, None, Some, Result, Ok, Err, IfOk, OnOk, IfSome, IsSomeAnd}
+use Rattle.std.specs.Prelude.{nat_lt, Option, None, Some, Result, Ok, Err, IfOk, OnOk, IfSome, IsSomeAnd}
 use Rattle.std.specs.List.{copy_within}
 use Rattle.std.proofs.lemmas.List.{length-append, length-replicate, length-drop}
 use Rattle.std.proofs.lemmas.List.Edits.{paste_all}
 use Rattle.std.proofs.Math.Seq.{take-append_seam}
-use Rattle.std.proofs.lemmas.List.Elements.{All-append, All-replicate, All-nil}
+use Rattle.std.proofs.lemmas.List.Elements.{All-append, All-replicate}
 use Rattle.alt_lines.specs.Lines.{is_line_feed, Line, too_long, read_line, lines_of}
 use Rattle.alt_lines.specs.Unread.{Unread, too_many, TakesLine, HasNone, Tells}
 use Rattle.alt_lines.specs.declared.feed.Cut.{Cut}
@@ -102,6 +102,7 @@ has_none_long most past line plain long =
     by_past : (p : Bool) → AllPlain line → AllPlain (cond p (too_many most) [] ++ line)
     by_past true plain' = All-append (λ b. is_line_feed b ≡ false) (too_many most) line (many_plain most) plain'
     by_past false plain' = plain'
+
     long_by : (p : Bool) → (p ≡ false → most < length line) → most < length (cond p (too_many most) [] ++ line)
     long_by true h = many_long most line
     long_by false h = h refl

@@ -1,5 +1,5 @@
 -- What a reader of lines has not given out yet, and what its calls do to that.
-use Rattle.std.specs.Prelude.{◌≡◌, ℕ, suc, List, [], ◌∷◌, ◌++◌, ◌≤◌, length, replicate, Bool, false, if◌then◌else◌}
+use Rattle.std.specs.Prelude.{◌≡◌, ℕ, suc, List, [], ◌∷◌, ◌++◌, ◌≤◌, length, replicate, Bool, false}
 use Rattle.alt_lines.specs.Lines.{Line, whole, too_long, lines_of}
 use Rattle.alt_lines.specs.declared.feed.Cut.{Cut}
 use Rattle.alt_lines.specs.declared.feed.Cut.TheVariants.{Whole, TooLong}

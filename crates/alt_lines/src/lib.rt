@@ -4,7 +4,12 @@
 #![tactic(auto)]
 
 mod feed;
+mod generator;
+mod pieces;
+mod put;
 mod reader;
+mod requests;
 
 pub use feed::Cut;
+pub use generator::Trial;
 pub use reader::{LONGEST_LINE, Lines};

@@ -140,10 +140,13 @@ impl Lines {
         requires within { next ≤ length self.old.held.items }
         ensures told { IfOk result (λ found. IsSomeAnd found (λ cut.
             Tells (if self.old.past then too_long
-                else read_line self.old.most (slice_range self.old.held.items self.old.start end))
+            else read_line self.old.most (slice_range self.old.held.items self.old.start end))
             cut out.old.items out.new.items)) }
         ensures moved { OnOk result (unread self.new ≡ record {
-            most = self.old.most; bytes = drop next self.old.held.items; ended = self.old.ended }) }
+          most = self.old.most;
+          bytes = drop next self.old.held.items;
+          ended = self.old.ended;
+        }) }
         ensures err { OnErr result ((out.new.items ≡ out.old.items) × (unread self.new ≡ unread self.old)) }
     {
         match read(self.past, self.most, &self.held[self.start..end], out) {

@@ -1,4 +1,4 @@
-use Rattle.std.proofs.Common.{◌≡◌, ◌<◌, ◌≤◌, ◌++◌, ℕ, List, length, Bool, true, false, cond, refl, sym, ap, ◌∙◌, subst, arith}
+use Rattle.std.proofs.Common.{◌≡◌, ℕ, List, Bool, true, false, cond, refl, sym, ap, ◌∙◌, subst, arith}
 use Rattle.alt_lines.specs.declared.feed.Cut.TheVariants.{Whole, TooLong}
 use Rattle.alt_lines.specs.Lines.{Line, too_long, whole, read_line}
 use Rattle.alt_lines.specs.Unread.{Tells}

@@ -1,7 +1,6 @@
-use Rattle.std.proofs.Common.{◌≡◌, ◌++◌, ◌-◌, [], ℕ, List, length, take, drop, cond, ap, sym, ◌∙◌, refl}
+use Rattle.std.proofs.Common.{◌≡◌, ◌-◌, ℕ, List, length, take, drop, ap, ◌∙◌}
 use Rattle.std.specs.List.{copy_within}
 use Rattle.alt_lines.specs.Reader.{unread}
-use Rattle.alt_lines.specs.Unread.{Unread, too_many}
 use Rattle.alt_lines.proofs.Reading.{moved_front, held}
 use Rattle.alt_lines.proofs.reader.Lines.forget.Goals as goal
 

@@ -1,9 +1,9 @@
-use Rattle.std.proofs.Common.{◌≡◌, ◌<◌, ◌≤◌, ◌+◌, ◌-◌, ◌++◌, ◌∷◌, [], ℕ, suc, List, length, take, drop, true, false, cond, sym, ap, subst, ◌∙◌, arith}
+use Rattle.std.proofs.Common.{◌≡◌, ◌≤◌, ◌+◌, ◌-◌, ℕ, suc, List, length, take, drop, cond, sym, ap, subst, ◌∙◌, arith}
 use Rattle.std.proofs.lemmas.List.{length-drop, take_rest, drop-drop}
 use Rattle.alt_lines.specs.Feeds.{AllPlain, EndsAt}
 use Rattle.alt_lines.specs.Lines.{too_long, read_line}
 use Rattle.alt_lines.specs.Reader.{unread}
-use Rattle.alt_lines.specs.Unread.{Unread, TakesLine}
+use Rattle.alt_lines.specs.Unread.{TakesLine}
 use Rattle.alt_lines.proofs.Feeds.{AllPlain-between, AllPlain-both, EndsAt-behind}
 use Rattle.alt_lines.proofs.Reading.{held, takes, line_told}
 use Rattle.alt_lines.proofs.reader.Lines.line.Goals as goal

@@ -1,4 +1,3 @@
-use Rattle.std.proofs.Common.{◌∙◌, ap, drop, List, ℕ}
 use Rattle.alt_lines.specs.Reader.{unread}
 use Rattle.alt_lines.proofs.reader.Lines.new.Goals as goal
 

@@ -1,8 +1,8 @@
-use Rattle.std.proofs.Common.{◌≡◌, ◌<◌, ◌≤◌, ◌-◌, ◌++◌, [], ℕ, List, length, take, drop, true, false, cond, sym, ap, subst, ◌∙◌, arith}
+use Rattle.std.proofs.Common.{◌≡◌, ◌<◌, ◌-◌, [], ℕ, List, length, take, drop, false, cond, sym, ap, subst, ◌∙◌, arith}
 use Rattle.std.proofs.lemmas.List.{length-drop, take_rest, drop_all}
 use Rattle.alt_lines.specs.Lines.{too_long, read_line}
 use Rattle.alt_lines.specs.Reader.{unread}
-use Rattle.alt_lines.specs.Unread.{Unread, TakesLine}
+use Rattle.alt_lines.specs.Unread.{TakesLine}
 use Rattle.alt_lines.proofs.Reading.{held, takes_last, line_told, below-true}
 use Rattle.alt_lines.proofs.reader.Lines.rest.Goals as goal
 use Rattle.alt_lines.proofs.reader.Lines.rest.Goals.{then-self-2, else-self-2}

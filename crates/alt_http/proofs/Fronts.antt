@@ -1,18 +1,18 @@
 -- Heads end in a line feed. So a head at the front ends within the longest front that does, and what becomes of that front
 -- becomes of the bytes.
-use Rattle.std.proofs.Common.{◌≡◌, ◌<◌, ◌≤◌, ◌+◌, ◌*◌, ◌-◌, ℕ, suc, zero, min, List, [], ◌∷◌, ◌++◌, length, take, drop, get_or, Bool, true, false, refl, sym, ap, subst, ◌∙◌, append_assoc, append-nil, arith, inl, inr, Option, None, Some}
+use Rattle.std.proofs.Common.{◌≡◌, ◌<◌, ◌≤◌, ◌+◌, ◌*◌, ℕ, suc, zero, min, List, [], ◌∷◌, ◌++◌, length, take, drop, Bool, true, false, refl, sym, ap, subst, ◌∙◌, append_assoc, append-nil, arith, inl, inr, Option, None, Some}
 use Rattle.std.specs.Prelude.{◌⊎◌, All, IsTrue, ◌==◌, MatchOption, slice_index}
 use Rattle.std.specs.List.{flat_map}
 use Rattle.std.proofs.lemmas.List.{length-append, length-drop, length-take, get_or-drop, take_all}
-use Rattle.std.proofs.lemmas.List.Elements.{All-append, All-nil, All-cons, All-head, All-tail, All-take, All-weaker, All-from_get_or}
+use Rattle.std.proofs.lemmas.List.Elements.{All-cons, All-head, All-tail, All-take, All-weaker, All-from_get_or}
 use Rattle.std.proofs.lemmas.Bool.{cases_lt}
 use Rattle.std.proofs.Math.Seq.{take-append_seam}
 use Rattle.memchr.specs.Find.{IsLastByte, is_byte}
-use Rattle.httparse.specs.Grammar.{is_uri_byte, AllPass, LineEnd, crlf, lf, print_end, print_blank, print_version, Field, print_field, IsField, print_section, RequestHead, print_request, ReadsRequest, HasNoRequest, NeverHasRequest, EndsInTarget, MayBecomeRequest}
+use Rattle.httparse.specs.Grammar.{is_uri_byte, LineEnd, crlf, lf, print_end, print_blank, print_version, Field, print_field, IsField, print_section, RequestHead, print_request, ReadsRequest, HasNoRequest, NeverHasRequest, EndsInTarget, MayBecomeRequest}
 use Rattle.httparse.specs.Spans.{RequestExceeds}
 use Rattle.httparse.proofs.GrammarLemmas.{ReadsRequest-append}
 use Rattle.alt_http.specs.Feeds.{IsPlain, EndsAt, IsLastFront}
-use Rattle.alt_http.specs.Heads.{window, HasHead, HasNoHead, IsFront, MayBecomeHead, IsBad, CanGoOn}
+use Rattle.alt_http.specs.Heads.{window, HasHead, IsFront, IsBad, CanGoOn}
 
 -- two ways to cut one list: one front goes on where the other ends
 pub prefix_split : (p front r rest : List ℕ) → p ++ r ≡ front ++ rest

@@ -1,5 +1,5 @@
 -- What is answered for bytes is one thing, and stays when more come.
-use Rattle.std.proofs.Common.{◌≡◌, ◌<◌, ◌≤◌, ◌+◌, ◌-◌, ℕ, suc, List, [], ◌∷◌, ◌++◌, length, take, drop, map, refl, sym, ap, subst, ◌∙◌, append_assoc, append-nil, arith, inl, inr, Option, None, Some, Bool}
+use Rattle.std.proofs.Common.{◌≡◌, ◌≤◌, ◌+◌, ◌-◌, ℕ, List, [], ◌∷◌, ◌++◌, length, take, drop, refl, sym, ap, subst, ◌∙◌, append_assoc, append-nil, arith, inl, inr, Option, None, Some, Bool}
 use Rattle.std.specs.Prelude.{All, ◌==◌, false}
 use Rattle.std.proofs.lemmas.List.{length-append, length-take, take_all, take-append-le}
 use Rattle.std.proofs.lemmas.Bool.{cases_lt}
@@ -8,10 +8,9 @@ use Rattle.std.proofs.lemmas.List.Elements.{All-weaker, All-nil}
 use Rattle.httparse.specs.declared.spans.HeaderSpan.{HeaderSpan}
 use Rattle.httparse.specs.declared.spans.RequestSpans.{RequestSpans}
 use Rattle.httparse.specs.Grammar.{RequestHead, print_request, ReadsRequest}
-use Rattle.httparse.specs.Spans.{IsWithin, IsHeaderWithin, IsRequestAt, IsRequestWithin}
+use Rattle.httparse.specs.Spans.{IsHeaderWithin, IsRequestAt}
 use Rattle.httparse.proofs.GrammarLemmas.{ReadsRequest-append, request_unique}
-use Rattle.alt_http.specs.Feeds.{IsLastFront}
-use Rattle.alt_http.specs.Heads.{window, most_of_head, HasHead, HasNoHead, IsFront, IsBad, CanGoOn}
+use Rattle.alt_http.specs.Heads.{window, most_of_head, HasHead, IsFront, IsBad, CanGoOn}
 use Rattle.alt_http.specs.Judged.{Parts, parts_of, refusal_of, answered, judged, LiesIn, Stays, IsScan, by_head, by_bad, by_size, by_more}
 use Rattle.alt_http.specs.Spans.{parts_at}
 use Rattle.alt_http.specs.declared.outcome.Scan.{Scan}
@@ -77,9 +76,11 @@ IsScan_unique bytes a b (by_more x m e) (by_more y n f) = e ∙ sym f
 window_more : (bytes more : List ℕ) → (s : List ℕ) × (window (bytes ++ more) ≡ window bytes ++ s)
 window_more bytes more = elim (cases_lt most_of_head (length bytes)) [
   | inl long ↦ ([], take-append-le most_of_head bytes more (omega arith) ∙ sym (append-nil (window bytes)))
-  | inr short ↦ (take (most_of_head - length bytes) more,
-      let sum : most_of_head ≡ length bytes + (most_of_head - length bytes) = omega arith in ap (λ (n : ℕ). take n (bytes ++ more)) sum ∙ take-append-add bytes more (most_of_head - length bytes)
-      ∙ ap (λ (l : List ℕ). l ++ take (most_of_head - length bytes) more) (sym (take_all most_of_head bytes short)))
+  | inr short ↦ (
+    take (most_of_head - length bytes) more,
+    let sum : most_of_head ≡ length bytes + (most_of_head - length bytes) = omega arith in ap (λ (n : ℕ). take n (bytes ++ more)) sum ∙ take-append-add bytes more (most_of_head - length bytes)
+        ∙ ap (λ (l : List ℕ). l ++ take (most_of_head - length bytes) more) (sym (take_all most_of_head bytes short)),
+  )
 ]
 
 window_full : (bytes more : List ℕ) → most_of_head ≤ length bytes → window (bytes ++ more) ≡ window bytes

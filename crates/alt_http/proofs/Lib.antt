@@ -1,3 +1,5 @@
+pub mod Dating
 pub mod Fronts
 pub mod Laws
+pub mod Printing
 pub mod Walks

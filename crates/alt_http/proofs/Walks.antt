@@ -1,5 +1,5 @@
 -- Walks over lists by an index: what is left decides as the whole does.
-use Rattle.std.proofs.Common.{◌≡◌, ◌<◌, ◌≤◌, ◌+◌, ◌*◌, ◌-◌, ℕ, min, subst, Option, Some, None, List, [], ◌∷◌, length, drop, get_or, Bool, true, false, cond, refl, sym, ap, ◌∙◌, arith}
+use Rattle.std.proofs.Common.{◌≡◌, ◌<◌, ◌≤◌, ◌+◌, ◌*◌, ◌-◌, ℕ, min, subst, Some, None, List, [], ◌∷◌, length, drop, get_or, Bool, true, false, cond, refl, sym, ap, ◌∙◌, arith}
 use Rattle.std.proofs.lemmas.List.{drop_more}
 use Rattle.std.proofs.lemmas.Bool.Decides.{nat_tests}
 use Rattle.std.proofs.lemmas.List.Folds.{list_all_at}
@@ -63,14 +63,21 @@ length_other (v ∷ vs) first is other =
     let test : list_any (is_other_length v) (v ∷ vs) ≡ true = ap (λ (l : List ℕ). list_any (is_other_length l) (v ∷ vs)) same ∙ sym other in
     ap (λ (t : Bool). cond t (Some 8) (cond (nat_lt most_of_body (digits_value 10 v)) (Some 9) None)) test
 
+-- the two tests of lengths, where they are known
+by_tests : (v : List ℕ) (vs : List (List ℕ)) (other long : Bool) → list_any (is_other_length v) (v ∷ vs) ≡ other → nat_lt most_of_body (digits_value 10 v) ≡ long
+    → length_refusal (v ∷ vs) ≡ cond other (Some 8) (cond long (Some 9) None)
+by_tests v vs other long a b = λ i. cond (a i) (Some 8) (cond (b i) (Some 9) None)
+
+same_first : (v first : List ℕ) (vs : List (List ℕ)) (t : Bool) → v ≡ first → t ≡ list_any (is_other_length first) (v ∷ vs) → list_any (is_other_length v) (v ∷ vs) ≡ t
+same_first v first vs t same is = ap (λ (l : List ℕ). list_any (is_other_length l) (v ∷ vs)) same ∙ sym is
+
 pub length_long : (values : List (List ℕ)) (first : List ℕ) → Some first ≡ first_of values → false ≡ list_any (is_other_length first) values
     → 16777216 < min (digits_value 10 first) 16777217 → length_refusal values ≡ Some 9
 length_long [] first is none long = cc
 length_long (v ∷ vs) first is none long =
     let same : v ≡ first = cc in
-    let test : list_any (is_other_length v) (v ∷ vs) ≡ false = ap (λ (l : List ℕ). list_any (is_other_length l) (v ∷ vs)) same ∙ sym none in
-    ap (λ (t : Bool). cond t (Some 8) (cond (nat_lt most_of_body (digits_value 10 v)) (Some 9) None)) test
-    ∙ ap (λ (t : Bool). cond t (Some 9) None) (above (digits_value 10 v) (subst (λ (l : List ℕ). 16777216 < min (digits_value 10 l) 16777217) (sym same) long))
+    by_tests v vs false true (same_first v first vs false same none)
+    (above (digits_value 10 v) (subst (λ (l : List ℕ). 16777216 < min (digits_value 10 l) 16777217) (sym same) long))
   where
     above : (n : ℕ) → 16777216 < min n 16777217 → nat_lt 16777216 n ≡ true
     above n h = let more : 16777216 < n = omega arith in grind (arith, nat_tests)
@@ -81,14 +88,14 @@ pub length_fits : (values : List (List ℕ)) (first : List ℕ) → Some first �
 length_fits [] first is none fits = cc
 length_fits (v ∷ vs) first is none fits =
     let same : v ≡ first = cc in
-    let test : list_any (is_other_length v) (v ∷ vs) ≡ false = ap (λ (l : List ℕ). list_any (is_other_length l) (v ∷ vs)) same ∙ sym none in
-    (ap (λ (t : Bool). cond t (Some 8) (cond (nat_lt most_of_body (digits_value 10 v)) (Some 9) None)) test
-    ∙ ap (λ (t : Bool). cond t (Some 9) None) (within (digits_value 10 v) (subst (λ (l : List ℕ). min (digits_value 10 l) 16777217 ≤ 16777216) (sym same) fits)),
-    ap (λ (l : List ℕ). min (digits_value 10 l) 16777217) (sym same)
-    ∙ uncapped (digits_value 10 v) (subst (λ (l : List ℕ). min (digits_value 10 l) 16777217 ≤ 16777216) (sym same) fits))
+    let few = subst (λ (l : List ℕ). min (digits_value 10 l) 16777217 ≤ 16777216) (sym same) fits in (
+      by_tests v vs false false (same_first v first vs false same none) (within (digits_value 10 v) few),
+      ap (λ (l : List ℕ). min (digits_value 10 l) 16777217) (sym same) ∙ uncapped (digits_value 10 v) few,
+    )
   where
     within : (n : ℕ) → min n 16777217 ≤ 16777216 → nat_lt 16777216 n ≡ false
     within n h = let few : n ≤ 16777216 = omega arith in grind (arith, nat_tests)
+
     uncapped : (n : ℕ) → min n 16777217 ≤ 16777216 → min n 16777217 ≡ n
     uncapped n h = omega arith
 

@@ -1,6 +1,5 @@
 -- What the header fields of a head say (docs/formats/http.md).
-use Rattle.std.specs.Prelude.{ℕ, Bool, true, not, ◌&&◌, ◌||◌, List, [], ◌∷◌, Option, None, Some, if◌then◌else◌, codes}
-use Rattle.std.specs.List.{list_any}
+use Rattle.std.specs.Prelude.{ℕ, Bool, List, [], ◌∷◌, Option, None, Some, if◌then◌else◌}
 use Rattle.std.specs.Str.{str_eq_ignore_ascii_case}
 
 -- the name of a field, and its value without spaces and tabs at both ends

@@ -1,7 +1,10 @@
 pub mod Asked
+pub mod Dates
 pub mod Feeds
 pub mod Fields
 pub mod Heads
 pub mod Judged
 pub mod Lengths
+pub mod Pieces
+pub mod Replies
 pub mod Spans

@@ -51,7 +51,11 @@ pub(crate) fn has_value(buf: &[u8], headers: &[HeaderSpan], name: &[u8], test: T
 }
 
 /// The value of the first field with this name.
-pub(crate) fn first_value<'b>(buf: &'b [u8], headers: &[HeaderSpan], name: &[u8]) -> Option<&'b [u8]>
+pub(crate) fn first_value<'b>(
+    buf: &'b [u8],
+    headers: &[HeaderSpan],
+    name: &[u8],
+) -> Option<&'b [u8]>
     requires { All (IsHeaderWithin (length buf.now)) headers.now }
     ensures { found_value result ≡ first_of (values_named name.now (fields_at buf.now headers.now)) }
 {

@@ -39,7 +39,7 @@ fn checked(buf: &[u8], fields: &[HeaderSpan], head: RequestSpans) -> Result<u64,
     requires path_in { IsWithin (length buf.now) head.path }
     ensures { MatchResult result
         (λ n. (refusal_of (parts_at buf.now fields.now head) ≡ None)
-            × (n ≡ body_length (values_named (codes "content-length") (fields_at buf.now fields.now))))
+        × (n ≡ body_length (values_named (codes "content-length") (fields_at buf.now fields.now))))
         (λ k. refusal_of (parts_at buf.now fields.now head) ≡ Some k) }
 {
     if has_value(buf, fields, b"transfer-encoding", Test::Any) {
@@ -70,7 +70,11 @@ fn checked_length(buf: &[u8], fields: &[HeaderSpan]) -> Result<u64, u8>
         return Err(8);
     }
     let length = length_of(first);
-    if length > LONGEST_BODY { Err(9) } else { Ok(length) }
+    if length > LONGEST_BODY {
+        Err(9)
+    } else {
+        Ok(length)
+    }
 }
 
 /// A head that isn't refused.
@@ -93,5 +97,11 @@ fn taken_head(
     };
     let expect = has_value(buf, fields, b"expect", Test::Is(b"100-continue"));
     let close = head.version == 0 || has_value(buf, fields, b"connection", Test::Is(b"close"));
-    Ok(Scan::Head { taken: head.len, target, length: body, expect, close })
+    Ok(Scan::Head {
+        taken: head.len,
+        target,
+        length: body,
+        expect,
+        close,
+    })
 }

@@ -4,11 +4,13 @@
 #![tactic(auto)]
 
 mod fields;
-
 mod judging;
 mod lengths;
 mod outcome;
 mod reading;
+mod replying;
 
+pub use lengths::LONGEST_BODY;
 pub use outcome::Scan;
 pub use reading::{LONGEST_HEAD, scan};
+pub use replying::{CONTINUE, refusal_body, refusal_status, reply};

@@ -63,7 +63,11 @@ fn without_head(bytes: &[u8]) -> Scan
     requires { CanGoOn bytes.now }
     ensures { IsScan bytes.now result }
 {
-    if bytes.len() < LONGEST_HEAD { Scan::More } else { Scan::Refused(2) }
+    if bytes.len() < LONGEST_HEAD {
+        Scan::More
+    } else {
+        Scan::Refused(2)
+    }
 }
 
 fn read(alloc: Global, bytes: &[u8], front: &[u8]) -> Result<Scan, NoMemory>

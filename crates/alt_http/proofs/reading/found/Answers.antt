@@ -1,8 +1,6 @@
-use Rattle.std.proofs.Common.{◌≡◌, List, ℕ, Result, Ok, Err, IfOk}
-use Rattle.alt_http.specs.declared.outcome.Scan.{Scan}
-use Rattle.alt_http.specs.Judged.{IsScan, judged}
-use Rattle.alt_http.specs.Spans.{parts_at}
-use Rattle.alt_http.proofs.Laws.{found_head, fields_within}
+use Rattle.std.proofs.Common.{Result, Ok, Err, IfOk}
+use Rattle.alt_http.specs.Judged.{IsScan}
+use Rattle.alt_http.proofs.Laws.{found_head}
 use Rattle.alt_http.proofs.reading.found.Goals as goal
 
 if_ok : {T E : Type 0} (r : Result T E) (P Q : T → Type 0) → ((x : T) → P x → Q x) → IfOk r P → IfOk r Q

@@ -1,6 +1,5 @@
-use Rattle.std.proofs.Common.{◌+◌, Some, None, List, ℕ, take, subst, sym, arith}
+use Rattle.std.proofs.Common.{◌+◌, Some, None, List, ℕ, take, subst, sym}
 use Rattle.alt_http.specs.Feeds.{EndsAt, IsLastFront, IsPlain}
-use Rattle.alt_http.specs.Heads.{window}
 use Rattle.alt_http.proofs.Fronts.{last_feed, last_front}
 use Rattle.alt_http.proofs.reading.last_front.Goals as goal
 

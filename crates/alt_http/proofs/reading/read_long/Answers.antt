@@ -1,4 +1,4 @@
-use Rattle.std.proofs.Common.{◌≡◌, ◌<◌, ◌*◌, length, Ok, Err, ap, subst, sym, refl, ◌∙◌, arith}
+use Rattle.std.proofs.Common.{◌<◌, ◌*◌, length, Ok, Err, ap, subst, refl, ◌∙◌, arith}
 use Rattle.httparse.specs.Outcome.{OnPartial, OnInvalid}
 use Rattle.httparse.specs.Grammar.{HasNoRequest, MayBecomeRequest, NeverHasRequest}
 use Rattle.alt_http.specs.Judged.{by_bad}

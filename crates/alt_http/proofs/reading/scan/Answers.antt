@@ -1,5 +1,4 @@
 use Rattle.std.proofs.Common.{◌≡◌, [], List, ℕ, subst, Result, Ok, Err, IfOk}
-use Rattle.alt_http.specs.declared.outcome.Scan.{Scan}
 use Rattle.alt_http.specs.declared.outcome.Scan.TheVariants.{More}
 use Rattle.alt_http.specs.Judged.{IsScan, Stays, LiesIn}
 use Rattle.alt_http.proofs.Laws.{IsScan_unique, IsScan_nothing, IsScan_final, IsScan_within}

@@ -1,5 +1,5 @@
 -- What is answered for bytes is one thing, and stays when more come.
-use Rattle.std.proofs.Common.{◌≡◌, ◌≤◌, ◌+◌, ◌-◌, ℕ, List, [], ◌∷◌, ◌++◌, length, take, drop, refl, sym, ap, subst, ◌∙◌, append_assoc, append-nil, arith, inl, inr, Option, None, Some, Bool}
+use Rattle.std.proofs.Common.{◌≡◌, ◌<◌, ◌≤◌, ◌+◌, ◌-◌, ℕ, List, [], ◌∷◌, ◌++◌, length, take, drop, refl, sym, ap, subst, ◌∙◌, append_assoc, append-nil, arith, inl, inr, Option, None, Some, Bool}
 use Rattle.std.specs.Prelude.{All, ◌==◌, false}
 use Rattle.std.proofs.lemmas.List.{length-append, length-take, take_all, take-append-le}
 use Rattle.std.proofs.lemmas.Bool.{cases_lt}
@@ -10,12 +10,13 @@ use Rattle.httparse.specs.declared.spans.RequestSpans.{RequestSpans}
 use Rattle.httparse.specs.Grammar.{RequestHead, print_request, ReadsRequest}
 use Rattle.httparse.specs.Spans.{IsHeaderWithin, IsRequestAt}
 use Rattle.httparse.proofs.GrammarLemmas.{ReadsRequest-append, request_unique}
+use Rattle.alt_http.specs.Feeds.{IsPlain}
 use Rattle.alt_http.specs.Heads.{window, most_of_head, HasHead, IsFront, IsBad, CanGoOn}
 use Rattle.alt_http.specs.Judged.{Parts, parts_of, refusal_of, answered, judged, LiesIn, Stays, IsScan, by_head, by_bad, by_size, by_more}
 use Rattle.alt_http.specs.Spans.{parts_at}
 use Rattle.alt_http.specs.declared.outcome.Scan.{Scan}
 use Rattle.alt_http.specs.declared.outcome.Scan.TheVariants.{More, Refused, Head}
-use Rattle.alt_http.proofs.Fronts.{head_in_window, head_ends, prefix_split, go_on_plain}
+use Rattle.alt_http.proofs.Fronts.{within_front, head_in_window, head_ends, prefix_split, go_on_plain}
 
 -- ---- a head that spans tell
 
@@ -114,6 +115,37 @@ IsScan_stays bytes more scan (by_more x few e) final = absurd (final e)
 -- of no bytes more are needed
 pub IsScan_nothing : IsScan [] More
 IsScan_nothing = by_more (go_on_plain [] (All-nil (λ b. (b == 10) ≡ false))) (omega arith) refl
+
+-- ---- bytes without a line feed
+
+-- a head isn't answered by More
+no_more : (p : Parts) (o : Option ℕ) → More ≡ answered p o → ⊥
+no_more p (Some n) e = cc
+no_more p None e = cc
+
+-- a head of bytes stands before the plain ones at their end
+plain_head : (bytes plain : List ℕ) (h : RequestHead) (r : List ℕ) → IsPlain plain → length (bytes ++ plain) < most_of_head → ReadsRequest (window (bytes ++ plain)) h r → HasHead bytes h
+plain_head bytes plain h r is few reads =
+    let e = length-append bytes plain in
+    let ends = head_ends h in
+    let inside = within_front ends.line (print_request h) bytes plain r ends.is is (sym reads.1 ∙ take_all most_of_head (bytes ++ plain) (omega arith)) in
+    (inside.0, (reads.0, take_all most_of_head bytes (omega (arith, e)) ∙ inside.1))
+
+plain_front : (bytes plain front : List ℕ) → IsPlain plain → length (bytes ++ plain) < most_of_head → IsFront (bytes ++ plain) front → IsFront bytes front
+plain_front bytes plain front is few is_front =
+    let e = length-append bytes plain in
+    let inside = within_front is_front.line front bytes plain is_front.rest is_front.ends is (sym is_front.parts ∙ take_all most_of_head (bytes ++ plain) (omega arith)) in
+    record { line = is_front.line; ends = is_front.ends; rest = inside.0; parts = take_all most_of_head bytes (omega (arith, e)) ∙ inside.1 }
+
+-- More stays where no line feed comes, below the limit.
+pub IsScan_plain : (bytes plain : List ℕ) → IsScan bytes More → IsPlain plain → length (bytes ++ plain) < most_of_head → IsScan (bytes ++ plain) More
+IsScan_plain bytes plain (by_head h x e) is few = absurd (no_more (parts_of h) (refusal_of (parts_of h)) e)
+IsScan_plain bytes plain (by_bad x e) is few = cc
+IsScan_plain bytes plain (by_size x n e) is few = cc
+IsScan_plain bytes plain (by_more on n e) is few = by_more (record {
+  none = λ h r reads. let head = plain_head bytes plain h r is few reads in on.none h head.0 head.1;
+  each = λ front is_front. on.each front (plain_front bytes plain front is few is_front);
+}) few refl
 
 -- ---- the bytes of a head
 

@@ -6,5 +6,6 @@ pub mod Heads
 pub mod Judged
 pub mod Lengths
 pub mod Pieces
+pub mod Reading
 pub mod Replies
 pub mod Spans

@@ -12,5 +12,5 @@ mod replying;
 
 pub use lengths::LONGEST_BODY;
 pub use outcome::Scan;
-pub use reading::{LONGEST_HEAD, scan};
+pub use reading::{LONGEST_HEAD, is_still_more, scan};
 pub use replying::{CONTINUE, refusal_body, refusal_status, reply};

@@ -1,11 +1,13 @@
 //! The head at the front of bytes. Only the longest front that ends in a line feed is read, since a head ends in one.
 
-ghost use Rattle.std.specs.Prelude.{◌≡◌, [], IfOk, MatchOption};
+ghost use Rattle.std.specs.Prelude.{◌≡◌, ◌≤◌, [], length, take, IfOk, MatchOption};
+ghost use Rattle.std.specs.Bool.{OnTrue};
 ghost use Rattle.httparse.specs.Spans.{IsRequestOf, IsRequestWithin};
 ghost use Rattle.alt_http.specs.Feeds.{IsLastFront, IsPlain};
 ghost use Rattle.alt_http.specs.Heads.{CanGoOn};
 ghost use Rattle.alt_http.specs.Heads as heads;
 ghost use Rattle.alt_http.specs.Judged.{IsScan, LiesIn, Stays};
+ghost use Rattle.alt_http.specs.Reading.{scan_of};
 
 use crate::judging::judge;
 use crate::outcome::Scan;
@@ -24,12 +26,31 @@ const USUAL_FIELDS: usize = 64;
 /// What stands at the front of the bytes. It is the same however they came, so it is to be asked for again only where a line
 /// feed came, or where the bytes reach the limit of a head.
 pub fn scan(alloc: Global, bytes: &[u8]) -> Result<Scan, NoMemory>
-    ensures answer { IfOk result (IsScan bytes.now) }
+    // The answer, read byte by byte; and it is the one that httparse's grammar gives.
+    ensures answer { IfOk result (λ scan. scan ≡ scan_of bytes.now) }
+    ensures meant { IfOk result (IsScan bytes.now) }
+
+    // What a server stands on.
     ensures nothing { bytes.now ≡ [] → IfOk result (λ scan. scan ≡ Scan.More) }
     ensures stays { IfOk result (Stays bytes.now) }
     ensures within { IfOk result (LiesIn bytes.now) }
 {
     answer(alloc, bytes)
+}
+
+/// Whether bytes that were answered by `More` when there were `seen` of them are still answered so: where no line feed came since, and
+/// the limit of a head isn't reached. So a server that takes a head in small pieces scans once a line.
+pub fn is_still_more(bytes: &[u8], seen: usize) -> bool
+    requires { seen ≤ length bytes.now }
+    ensures { OnTrue result (scan_of (take seen bytes.now) ≡ Scan.More → scan_of bytes.now ≡ Scan.More) }
+{
+    bytes.len() < LONGEST_HEAD && has_no_feed(&bytes[seen..])
+}
+
+fn has_no_feed(bytes: &[u8]) -> bool
+    ensures { OnTrue result (IsPlain bytes.now) }
+{
+    memrchr(b'\n', bytes).is_none()
 }
 
 fn answer(alloc: Global, bytes: &[u8]) -> Result<Scan, NoMemory>

@@ -8,6 +8,7 @@ mod print;
 mod read;
 mod spell;
 mod sum;
+mod whole;
 #[cfg(test)]
 mod tests;
 

@@ -1,6 +1,7 @@
 //! A byte string of its own, seen as the list of its bytes, in their lexicographic order.
 
-ghost use Rattle.std.specs.Prelude.{◌≡◌, IfOk};
+ghost use Rattle.std.specs.Prelude.{◌≡◌, length as count, IfOk};
+ghost use Rattle.alt_fields.specs.Bytes.{IsBytes};
 
 use alt_base::NoMemory;
 use std::alloc::Global;
@@ -56,6 +57,22 @@ impl Bytes {
     {
         self.items.as_slice()
     }
+
+    /// How many bytes there are.
+    pub fn len(&self) -> usize
+        ensures count { result ≡ count self.now }
+        // What is true of each byte string.
+        ensures bytes { IsBytes self.now }
+    {
+        length(self.as_slice())
+    }
+}
+
+fn length(bytes: &[u8]) -> usize
+    ensures count { result ≡ count bytes.now }
+    ensures bytes { IsBytes bytes.now }
+{
+    bytes.len()
 }
 
 impl PartialEq for Bytes {

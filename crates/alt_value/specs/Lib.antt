@@ -8,3 +8,4 @@ pub mod Stands
 pub mod Tree
 pub mod TreeCode
 pub mod TreeFalls
+pub mod Values

@@ -1,6 +1,7 @@
 //! A text of its own, seen as the list of its bytes in UTF-8.
 
-ghost use Rattle.std.specs.Prelude.{◌≡◌, IfOk};
+ghost use Rattle.std.specs.Prelude.{◌≡◌, length, IfOk};
+ghost use Rattle.alt_value.specs.Values.{IsText};
 
 use alt_base::NoMemory;
 use std::alloc::Global;
@@ -40,6 +41,16 @@ impl Text {
         ensures same { result.now ≡ self.now }
     {
         self.inner.as_str()
+    }
+
+    /// How many bytes the text has.
+    pub fn len(&self) -> usize
+        ensures count { result ≡ length self.now }
+        // What is true of each text.
+        ensures text { IsText self.now }
+    {
+        let text = self.as_str();
+        text.len()
     }
 }
 

@@ -4,13 +4,17 @@
 mod boxed;
 mod cond;
 mod items;
+mod lexer;
 mod path;
+mod token;
 mod update;
 mod view;
 
 pub use boxed::Boxed;
 pub use cond::{Comparison, Cond, CondList, Operand, OperandList};
 pub use items::Items;
+pub use lexer::{At, Lexer};
 pub use path::{Path, PathPart, Paths};
+pub use token::{Keyword, Mark, Token, same_keyword, same_mark};
 pub use update::{Action, Sum, Term, Update};
 pub use view::AttrView;

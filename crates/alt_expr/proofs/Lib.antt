@@ -1,0 +1,4 @@
+pub mod Longest
+pub mod Numbers
+pub mod Suffix
+pub mod Tokenized

@@ -1,4 +1,6 @@
+pub mod HoldsLaws
 pub mod Longest
 pub mod Numbers
+pub mod SameValues
 pub mod Suffix
 pub mod Tokenized

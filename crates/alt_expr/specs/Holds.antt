@@ -30,17 +30,17 @@ abbrev mutual
   same NULL_tree NULL_tree = true
   same (SS_tree ss) (SS_tree ts) = pointwise bytes_eq ss ts
   same (NS_tree ys) (NS_tree zs) = pointwise int_eq ys zs
-  same (BS_tree as) (BS_tree bs) = pointwise bytes_eq as bs
+  same (BS_tree bs) (BS_tree cs) = pointwise bytes_eq bs cs
   same (L_tree ss) (L_tree ts) = same_elements ss ts
   same (M_tree es) (M_tree fs) = same_fields es fs
   same _ _ = false
 
-  same_elements : Trees → Trees → Bool
+  pub same_elements : Trees → Trees → Bool
   same_elements no_trees no_trees = true
   same_elements (tree_then s ss) (tree_then t ts) = same s t && same_elements ss ts
   same_elements _ _ = false
 
-  same_fields : Fields → Fields → Bool
+  pub same_fields : Fields → Fields → Bool
   same_fields no_fields no_fields = true
   same_fields (field_then m s es) (field_then n t fs) = bytes_eq m n && same s t && same_fields es fs
   same_fields _ _ = false

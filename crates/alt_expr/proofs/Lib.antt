@@ -1,3 +1,4 @@
+pub mod Grouped
 pub mod HoldsLaws
 pub mod Longest
 pub mod Numbers

@@ -3,6 +3,7 @@
 
 mod boxed;
 mod cond;
+mod groups;
 mod items;
 mod lexer;
 mod locating;
@@ -13,6 +14,7 @@ mod view;
 
 pub use boxed::Boxed;
 pub use cond::{Comparison, Cond, CondList, Operand, OperandList};
+pub use groups::gathered;
 pub use items::Items;
 pub use lexer::{At, Lexer};
 pub use locating::{located, part, stepped};

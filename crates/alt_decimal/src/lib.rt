@@ -64,4 +64,11 @@ impl Decimal {
             digits::width(self.coefficient)
         }
     }
+
+    /// What is true of each `Decimal`. The call does nothing: a caller makes it where a proof needs the fact.
+    pub fn held(&self)
+        ensures fits { Fits self.now }
+    {
+        let _coefficient = self.coefficient;
+    }
 }

@@ -1,7 +1,8 @@
 -- Where a key stands, or is to stand, in a list whose keys rise.
-use Rattle.std.proofs.Common.{◌≡◌, refl, sym, ap, subst, ◌∙◌, ℕ, zero, suc, ◌<◌, ◌≤◌, Bool, true, false, ◌&&◌, ◌||◌, T, List, [], ◌∷◌, length, get_or, inl, inr, arith}
+use Rattle.std.proofs.Common.{◌≡◌, refl, sym, ap, subst, ◌∙◌, ℕ, zero, suc, ◌<◌, ◌≤◌, Bool, true, false, ◌&&◌, ◌||◌, T, List, [], ◌∷◌, length, get_or, inl, inr, Result, Ok, Err, arith}
 use Rattle.std.specs.List.{insert}
-use Rattle.std.specs.List.Sorted.{IsNonDecreasingBy, IsPartitionPoint}
+use Rattle.std.specs.List.Sorted.{IsNonDecreasingBy, IsPartitionPoint, IsBinarySearchResult, IsSearchInRange}
+use Rattle.std.specs.Result.{is_ok}
 use Rattle.std.specs.declared.cmp.Ordering.{Ordering}
 use Rattle.std.specs.declared.cmp.Ordering.TheVariants.{Less, Equal, Greater}
 use Rattle.std.specs.Ordering.{is_lt, is_eq, ordering_index, ordering_reverse}
@@ -141,7 +142,8 @@ module _ {K : Type 0} (R : K → K → Ordering) (o : IsTotalOrder R) where
   below_each_below x y (z ∷ zs) p h =
       both _ _ (is_less _ (o.trans x y z p (less _ (first _ _ h)))) (below_each_below x y zs p (second _ _ h))
 
-  below_with_member : (y x : K) (ys : List K) → R y x ≡ Less → T (is_below_each R y ys) → T (is_below_each R y (with_member R x ys))
+  -- what is below each of them and below x is below each, x more
+  pub below_with_member : (y x : K) (ys : List K) → R y x ≡ Less → T (is_below_each R y ys) → T (is_below_each R y (with_member R x ys))
   below_with_member y x [] p h = both _ _ (is_less _ p) tt
   below_with_member y x (z ∷ zs) p h =
       elim (R x z) as (λ r. T (is_below_each R y (by_order r (x ∷ z ∷ zs) (z ∷ zs) (z ∷ with_member R x zs)))) [
@@ -176,3 +178,9 @@ module _ {K : Type 0} (R : K → K → Ordering) (o : IsTotalOrder R) where
       let before : Before (λ y. y) m zs i = λ k d below. part.0 k d (omega arith) below in
       let after : After (λ y. y) m zs i = part.1 in
       rw (← e, ← g, ← f) (with_member-absent m zs i within before after, has_member-absent m zs i within before after)
+
+  -- what a search for m in a set answers, tells whether it is a member
+  pub searched : (m : K) (zs xs ys : List K) (r : Result ℕ ℕ) → zs ≡ xs → xs ≡ ys → T (is_rising R xs) → IsSearchInRange r (length zs)
+      → IsBinarySearchResult (λ y. R y m) zs r → is_ok r ≡ has_member R m ys
+  searched m zs xs ys (Ok i) f g rising within tied = sym (found m m zs xs ys i refl f g rising within tied).1
+  searched m zs xs ys (Err i) f g rising within parts = sym (missed m m zs xs ys i refl f g rising within parts).1

@@ -2,8 +2,6 @@
 
 ghost use Rattle.std.specs.Prelude.{◌≡◌};
 ghost use Rattle.std.specs.List.{list_any};
-ghost use Rattle.std.specs.Ordering.{int_cmp};
-ghost use Rattle.alt_value.specs.Members.{has_member, text_order};
 ghost use Rattle.alt_value.specs.Stands.{tree_of};
 ghost use Rattle.alt_value.specs.Tree.{B_tree};
 ghost use Rattle.alt_expr.specs.Holds as spec;
@@ -11,9 +9,7 @@ ghost use Rattle.alt_condeval.specs.Denoted.{stands_for};
 
 use crate::compared::same;
 use crate::denoted::Denoted;
-use alt_decimal::Decimal;
-use alt_fields::Bytes;
-use alt_value::{Attr, AttrList, BytesSet, NumberSet, Text, TextSet};
+use alt_value::{Attr, AttrList};
 use memchr::memmem;
 
 /// A text begins with a text, or a binary with a binary.
@@ -59,15 +55,15 @@ fn has(a: &Attr, b: &Attr) -> bool
             _ => false,
         },
         Attr::Ss(set) => match b {
-            Attr::S(member) => in_texts(member, set),
+            Attr::S(member) => set.has(member),
             _ => false,
         },
         Attr::Ns(set) => match b {
-            Attr::N(member) => in_numbers(member, set),
+            Attr::N(member) => set.has(member),
             _ => false,
         },
         Attr::Bs(set) => match b {
-            Attr::B(member) => in_binaries(member, set),
+            Attr::B(member) => set.has(member),
             _ => false,
         },
         Attr::L(list) => has_element(list, b),
@@ -99,22 +95,4 @@ fn stands_in(needle: &[u8], bytes: &[u8]) -> bool
     ensures { result ≡ spec.stands_in needle.now bytes.now }
 {
     memmem::find(bytes, needle).is_some()
-}
-
-fn in_texts(member: &Text, set: &TextSet) -> bool
-    ensures { result ≡ has_member text_order member.now set.now }
-{
-    false
-}
-
-fn in_numbers(member: &Decimal, set: &NumberSet) -> bool
-    ensures { result ≡ has_member int_cmp member.now set.now }
-{
-    false
-}
-
-fn in_binaries(member: &Bytes, set: &BytesSet) -> bool
-    ensures { result ≡ has_member text_order member.now set.now }
-{
-    false
 }

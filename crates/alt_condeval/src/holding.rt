@@ -22,7 +22,11 @@ pub fn holds<V: AttrView>(cond: &Cond, view: &V) -> bool
         Cond::Not(inner) => !holds(inner.get(), view),
         Cond::Compare(by, a, b) => compares(*by, &value_of(a, view), &value_of(b, view)),
         Cond::Between(a, low, high) => {
-            is_between(&value_of(a, view), &value_of(low, view), &value_of(high, view))
+            is_between(
+                &value_of(a, view),
+                &value_of(low, view),
+                &value_of(high, view),
+            )
         }
         Cond::Among(a, operands) => is_among(&value_of(a, view), operands.as_slice(), view),
         Cond::Exists(path) => located(path.as_slice(), view).is_some(),

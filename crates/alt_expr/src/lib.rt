@@ -3,7 +3,7 @@
 
 mod boxed;
 mod cond;
-mod groups;
+mod grouping;
 mod items;
 mod lexer;
 mod locating;
@@ -14,7 +14,7 @@ mod view;
 
 pub use boxed::Boxed;
 pub use cond::{Comparison, Cond, CondList, Operand, OperandList};
-pub use groups::gathered;
+pub use grouping::{gathered, groups};
 pub use items::Items;
 pub use lexer::{At, Lexer};
 pub use locating::{located, part, stepped};

@@ -1,33 +1,29 @@
 -- What paths choose of a map, name by name.
-use Rattle.std.proofs.Common.{◌≡◌, refl, sym, ap, subst, ◌∙◌, ℕ, suc, Bool, true, false, cond, ◌&&◌, T, List, [], ◌∷◌, ◌++◌, map, Option, Some, None, arith}
-use Rattle.std.specs.Prelude.{option_and_then, filter}
+use Rattle.std.proofs.Common.{◌≡◌, ◌<◌, length, refl, sym, ap, subst, ◌∙◌, ℕ, suc, Bool, true, false, cond, ◌&&◌, T, List, [], ◌∷◌, ◌++◌, map, Option, Some, None, arith}
+use Rattle.std.specs.Prelude.{option_and_then, filter, ◌==◌}
 use Rattle.std.specs.Str.{bytes_eq}
 use Rattle.std.specs.Ordering.{eq_by_cmp, is_eq, is_lt, nat_cmp}
-use Rattle.std.specs.Cmp.{IsTotalOrder, tied_itself}
+use Rattle.std.specs.Cmp.{IsTotalOrder, tied_itself, unsigned_ties, nat_eq_equiv}
 use Rattle.std.specs.Cmp.Lexicographic.{texts_ties, nat_list_eq_equiv}
 use Rattle.std.specs.declared.cmp.Ordering.{Ordering}
 use Rattle.std.specs.declared.cmp.Ordering.TheVariants.{Less, Equal, Greater}
-use Rattle.std.specs.FinMap.Entries.{find, find-put, find_below, below_all, is_sorted, same_entries}
+use Rattle.std.specs.FinMap.Entries.{find-put, below_all, is_sorted, same_entries}
+use Rattle.std.proofs.lemmas.Option.{none-some}
 use Rattle.alt_value.specs.Item.{IsItem, at_name, with_pair}
 use Rattle.alt_value.specs.Members.{text_order}
 use Rattle.alt_value.specs.Tree.{Tree, S_tree, N_tree, B_tree, BOOL_tree, NULL_tree, SS_tree, NS_tree, BS_tree, L_tree, M_tree, Trees, no_trees, tree_then, Fields, no_fields, field_then, Pair, fields_of, pairs}
+use Rattle.alt_value.proofs.Places.{first, second, both, less}
 use Rattle.alt_value.proofs.Texts.{text_total, text_apart}
 use Rattle.alt_expr.specs.declared.path.PathPart.{PathPart}
 use Rattle.alt_expr.specs.declared.path.PathPart.TheVariants.{Name, Index}
 use Rattle.alt_expr.specs.Projected.{same_step, behind, under, chosen, chosen_elements, chosen_fields, pair_then, element_then, some_list, some_map, projected}
-use Rattle.alt_projection.specs.Ways.{named_ways, put_if}
+use Rattle.alt_projection.specs.Ways.{named_ways, indexed_ways, put_if}
 
-first : (a b : Bool) → T (a && b) → T a
-first true b h = tt
-first false b h = h
-
-second : (a b : Bool) → T (a && b) → T b
-second true b h = h
-second false b h = absurd h
-
-both : (a b : Bool) → T a → T b → T (a && b)
-both true b h g = g
-both false b h g = h
+-- a name below all others isn't there
+not_there : (q : List ℕ) (ps : List Pair) → T (below_all text_order q ps) → at_name q ps ≡ None
+not_there q [] h = refl
+not_there q (p ∷ ps) h =
+    ap (λ r. cond (is_eq r) (Some p.1) (at_name q ps)) (less (text_order q p.0) (first _ _ h)) ∙ not_there q ps (second _ _ h)
 
 -- ---- no paths choose nothing
 
@@ -69,18 +65,16 @@ named-under name ((Name n ∷ rest) ∷ ways) =
 
 -- ---- looking up a name
 
-or_else : Option Tree → Option Tree → Option Tree
+abbrev pub or_else : Option Tree → Option Tree → Option Tree
 or_else None o = o
 or_else (Some t) o = Some t
 
 picked : (q name : List ℕ) (o : Option Tree) (fs : Fields)
     → at_name q (pairs (pair_then name o fs)) ≡ cond (eq_by_cmp text_order q name) (or_else o (at_name q (pairs fs))) (at_name q (pairs fs))
-unfolding or_else
 picked q name None fs = elim (eq_by_cmp text_order q name) as (λ b. at_name q (pairs fs) ≡ cond b (at_name q (pairs fs)) (at_name q (pairs fs))) [ true ↦ refl | false ↦ refl ]
 picked q name (Some t) fs = refl
 
 or_else-none : (o : Option Tree) → or_else o None ≡ o
-unfolding or_else
 or_else-none None = refl
 or_else-none (Some t) = refl
 
@@ -103,7 +97,7 @@ at_name-projected paths q (p ∷ ps) h =
     ≡ option_and_then (chosen (under (Name q) paths)) (cond b (Some p.1) (at_name q ps))) [
       | true ↦ λ e.
           let same : q ≡ p.0 = text_apart q p.0 (equal (text_order q p.0) e) in
-          let gone : at_name q ps ≡ None = find_below text_order text_total q ps (below_tied q p.0 ps same (first _ _ h)) in
+          let gone : at_name q ps ≡ None = not_there q ps (below_tied q p.0 ps same (first _ _ h)) in
           ap (or_else (chosen (under (Name p.0) paths) p.1)) (rest ∙ ap (option_and_then (chosen (under (Name q) paths))) gone)
           ∙ or_else-none (chosen (under (Name p.0) paths) p.1) ∙ ap (λ (m : List ℕ). chosen (under (Name m) paths) p.1) (sym same)
       | false ↦ λ e. rest
@@ -143,12 +137,10 @@ projected-from paths item out is_item is_out each =
 
 pub at_name-put_if : (q name : List ℕ) (o : Option Tree) (ps : List Pair)
     → at_name q (put_if name o ps) ≡ cond (eq_by_cmp text_order q name) (or_else o (at_name q ps)) (at_name q ps)
-unfolding or_else
 at_name-put_if q name None ps = elim (eq_by_cmp text_order q name) as (λ b. at_name q ps ≡ cond b (at_name q ps) (at_name q ps)) [ true ↦ refl | false ↦ refl ]
 at_name-put_if q name (Some t) ps = find-put text_order text_total q name t ps
 
 either : (w o : Option Tree) (b : Bool) → o ≡ cond b w None → or_else w o ≡ w
-unfolding or_else
 either None o true e = e
 either None o false e = e
 either (Some t) o b e = refl
@@ -183,3 +175,21 @@ module _ (paths : List (List PathPart)) (item : List Pair) where
         | true ↦ λ e. refl
         | false ↦ λ e. sym (ap (λ (us : List (List PathPart)). option_and_then (chosen us) (at_name q item)) (rest q e) ∙ none_of (at_name q item))
       ] refl)
+
+-- the same of an index
+pub indexed-under : (k : ℕ) (ways : List (List PathPart)) → map (λ p. p.1) (filter (λ p. eq_by_cmp nat_cmp p.0 k) (indexed_ways ways)) ≡ under (Index k) ways
+indexed-under k [] = refl
+indexed-under k ([] ∷ ways) = indexed-under k ways
+indexed-under k ((Name n ∷ rest) ∷ ways) = indexed-under k ways
+indexed-under k ((Index j ∷ rest) ∷ ways) =
+    elim (k == j) as (λ b. eq_by_cmp nat_cmp j k ≡ b
+      → map (λ p. p.1) (cond (eq_by_cmp nat_cmp j k) ((j, rest) ∷ filter (λ p. eq_by_cmp nat_cmp p.0 k) (indexed_ways ways)) (filter (λ p. eq_by_cmp nat_cmp p.0 k) (indexed_ways ways)))
+      ≡ cond b (rest ∷ []) [] ++ under (Index k) ways) [
+      | true ↦ λ e. rw e (ap (λ (l : List (List PathPart)). rest ∷ l) (indexed-under k ways))
+      | false ↦ λ e. rw e (indexed-under k ways)
+    ] (sym (unsigned_ties j k) ∙ nat_eq_equiv.symm j k)
+
+-- a name that is there isn't empty
+pub name-some : (name : List ℕ) (t : Tree) (ps : List Pair) → IsItem ps → at_name name ps ≡ Some t → 0 < length name
+name-some [] t ps h e = absurd (none-some t (sym (not_there [] ps h.1) ∙ e))
+name-some (c ∷ cs) t ps h e = omega arith

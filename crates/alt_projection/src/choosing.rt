@@ -9,7 +9,7 @@ ghost use Rattle.alt_projection.specs.Ways.{put_if};
 
 use crate::stepping::{by_index, by_name};
 use alt_base::NoMemory;
-use alt_expr::{PathPart, gathered};
+use alt_expr::{PathPart, groups};
 use alt_value::{Attr, AttrList, Item, copy};
 use std::alloc::Global;
 
@@ -74,11 +74,13 @@ fn some_map(map: Item) -> Option<Attr>
 pub fn chosen_fields(alloc: Global, ways: &[&[PathPart]], item: &Item) -> Result<Item, NoMemory>
     ensures { IfOk result (λ i. i ≡ spec.projected (map (λ w. w.now) ways.now) item.now) }
 {
+    let _held = item.len();
     let mut out = Item::new(alloc);
-    let groups = gathered(alloc, by_name(alloc, ways)?)?;
-    for (name, behind) in &groups {
+    let named = groups(alloc, by_name(alloc, ways)?)?;
+    for (name, behind) in &named {
         put_chosen(alloc, &mut out, *name, behind.as_slice(), item)?;
     }
+    let _whole = out.len();
     Ok(out)
 }
 
@@ -94,6 +96,7 @@ fn put_chosen(
     ensures { OnOk result (out.new
         ≡ put_if name.now (option_and_then (spec.chosen (map (λ w. w.now) ways.now)) (at_name name.now item.now)) out.old) }
 {
+    let _held = item.len();
     match item.get(name) {
         Some(value) => match chosen(alloc, ways, value) {
             Ok(Some(part)) => out.put(name, part),
@@ -114,8 +117,8 @@ fn chosen_elements(
     ensures { IfOk result (λ l. l ≡ elements (spec.chosen_elements (map (λ w. w.now) ways.now) 0 (trees_of list.now))) }
 {
     let mut out = AttrList::new(alloc);
-    let groups = gathered(alloc, by_index(alloc, ways)?)?;
-    for (i, behind) in &groups {
+    let indexed = groups(alloc, by_index(alloc, ways)?)?;
+    for (i, behind) in &indexed {
         push_chosen(alloc, &mut out, *i, behind.as_slice(), list)?;
     }
     Ok(out)

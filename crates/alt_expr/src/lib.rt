@@ -1,20 +1,30 @@
 //! Expressions: their tokens, their trees, and what the trees mean.
 #![tactic(auto)]
 
+mod all;
 mod boxed;
 mod cond;
+mod fault;
 mod items;
 mod lexer;
+mod names;
+mod nesting;
 mod path;
 mod token;
 mod update;
+mod values;
 mod view;
 
+pub use all::tokens;
 pub use boxed::Boxed;
 pub use cond::{Comparison, Cond, CondList, Operand, OperandList};
+pub use fault::ExprFault;
 pub use items::Items;
 pub use lexer::{At, Lexer};
+pub use names::Names;
+pub use nesting::is_too_deep;
 pub use path::{Path, PathPart, Paths};
 pub use token::{Keyword, Mark, Token, same_keyword, same_mark};
 pub use update::{Action, Sum, Term, Update};
+pub use values::Values;
 pub use view::AttrView;

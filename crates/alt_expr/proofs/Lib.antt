@@ -4,4 +4,5 @@ pub mod Longest
 pub mod Numbers
 pub mod Suffix
 pub mod Tokenized
+pub mod Turns
 pub mod Words

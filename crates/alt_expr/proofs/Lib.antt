@@ -1,7 +1,12 @@
 pub mod Copied
 pub mod Deep
+pub mod Lists
 pub mod Longest
 pub mod Numbers
+pub mod Once
+pub mod PathFound
+pub mod PathRead
+pub mod Seen
 pub mod Suffix
 pub mod Tokenized
 pub mod Turns

@@ -150,6 +150,23 @@ in_brackets p = do
   expect m.RightRound
   pure x
 
+-- ---- lists
+
+-- further ones, each behind a comma
+unfoldable pub listed_from : {A : Type 0} → Parser A → ℕ → List A → Parser (List A)
+listed_from one zero found = refuse
+listed_from one (suc n) found = do
+  more ← eat m.Comma
+  if more then (do
+    x ← one
+    listed_from one n (found ++ x ∷ [])) else pure found
+
+-- one or more, with commas between
+unfoldable pub listed : {A : Type 0} → Parser A → Parser (List A)
+listed one = λ i. (do
+  x ← one
+  listed_from one (length i) (x ∷ [])) i
+
 -- ---- what a function that parses ensures: the outcome, unless memory fails
 
 abbrev pub Reads : {A : Type 0} → Outcome A → Result A ExprFault → List Tok → Type 0

@@ -4,6 +4,7 @@ pub mod Lists
 pub mod Longest
 pub mod Numbers
 pub mod Once
+pub mod Parsing
 pub mod PathFound
 pub mod PathRead
 pub mod Seen

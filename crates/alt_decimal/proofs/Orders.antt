@@ -24,8 +24,10 @@ pub nat_cmp-mul : (m n p : ℕ) → 0 < p → nat_cmp (m * p) (n * p) ≡ nat_cm
 nat_cmp-mul m n p h = elim (cases_order m n) [
   | inl e ↦ nat_cmp-equal (m * p) (n * p) (ap (λ x. x * p) e) ∙ sym (nat_cmp-equal m n e)
   | inr o ↦ elim o [
-    | inl lt ↦ nat_cmp-less (m * p) (n * p) (mul-lt-mul_of_pos_right lt h) ∙ sym (nat_cmp-less m n lt)
-    | inr gt ↦ nat_cmp-greater (m * p) (n * p) (mul-lt-mul_of_pos_right gt h) ∙ sym (nat_cmp-greater m n gt)
+    | inl lt ↦ nat_cmp-less (m * p) (n * p) (mul-lt-mul_of_pos_right lt h)
+        ∙ sym (nat_cmp-less m n lt)
+    | inr gt ↦ nat_cmp-greater (m * p) (n * p) (mul-lt-mul_of_pos_right gt h)
+        ∙ sym (nat_cmp-greater m n gt)
   ]
 ]
 
@@ -53,25 +55,31 @@ int_cmp-pos_neg m (suc n) h = refl
 pub lt-by_place : (a i b j : ℕ) → width a + i < width b + j → 0 < b → a * 10 ^ i < b * 10 ^ j
 lt-by_place a i b j h b_pos =
     let (w, e) = case_pos (width b) (width-pos b b_pos) in
-    let below : a * 10 ^ i < 10 ^ width a * 10 ^ i = mul-lt-mul_of_pos_right (lt-width a) (ten_pow_pos i) in
+    let below : a * 10 ^ i < 10 ^ width a * 10 ^ i =
+    mul-lt-mul_of_pos_right (lt-width a) (ten_pow_pos i) in
     let above : 10 ^ w * 10 ^ j ≤ b * 10 ^ j = mul-le-mul_right (10 ^ j) (width-low b w e) in
-    let between : 10 ^ (width a + i) ≤ 10 ^ (w + j) = pow-le-pow_right (omega arith) (omega arith) in
+    let between : 10 ^ (width a + i) ≤ 10 ^ (w + j) =
+    pow-le-pow_right (omega arith) (omega arith) in
     omega (arith, pow-add 10 (width a) i, pow-add 10 w j)
 
 -- the same, where only zero has no first digit
-pub lt-by_first : (a i b j : ℕ) → width a + i < width b + j → (b ≡ 0 → j ≡ 0) → a * 10 ^ i < b * 10 ^ j
+pub lt-by_first : (a i b j : ℕ) → width a + i < width b + j → (b ≡ 0 → j ≡ 0)
+    → a * 10 ^ i < b * 10 ^ j
 lt-by_first a i b j h zero_b = elim (cases_lt 0 b) [
   | inl above ↦ lt-by_place a i b j h above
-  | inr none ↦ let z : b ≡ 0 = omega arith in absurd (omega (arith, ap width z, width-zero, zero_b z))
+  | inr none ↦ let z : b ≡ 0 = omega arith in
+      absurd (omega (arith, ap width z, width-zero, zero_b z))
 ]
 
 -- where they stand at one place, the zeros that both have do not matter
-pub nat_cmp-filled : (a b i j k : ℕ) → i ≡ j + k → nat_cmp (a * 10 ^ k) b ≡ nat_cmp (a * 10 ^ i) (b * 10 ^ j)
+pub nat_cmp-filled : (a b i j k : ℕ) → i ≡ j + k
+    → nat_cmp (a * 10 ^ k) b ≡ nat_cmp (a * 10 ^ i) (b * 10 ^ j)
 nat_cmp-filled a b i j k e =
     let p : a * 10 ^ i ≡ a * 10 ^ k * 10 ^ j = rw (e, pow-add 10 j k) (omega arith) in
     rw p (sym (nat_cmp-mul (a * 10 ^ k) b (10 ^ j) (ten_pow_pos j)))
 
-pub nat_cmp-filled_second : (a b i j k : ℕ) → j ≡ i + k → nat_cmp a (b * 10 ^ k) ≡ nat_cmp (a * 10 ^ i) (b * 10 ^ j)
+pub nat_cmp-filled_second : (a b i j k : ℕ) → j ≡ i + k
+    → nat_cmp a (b * 10 ^ k) ≡ nat_cmp (a * 10 ^ i) (b * 10 ^ j)
 nat_cmp-filled_second a b i j k e =
     let p : b * 10 ^ j ≡ b * 10 ^ k * 10 ^ i = rw (e, pow-add 10 i k) (omega arith) in
     rw p (sym (nat_cmp-mul a (b * 10 ^ k) (10 ^ i) (ten_pow_pos i)))

@@ -24,7 +24,8 @@ padded-last k n = refl
 pub length-padded : (k n : ℕ) → length (padded k n) ≡ k
 unfolding padded
 length-padded zero n = refl
-length-padded (suc k) n = length-append (padded k (n / 10)) (n % 10 ∷ []) ∙ omega (arith, length-padded k (n / 10))
+length-padded (suc k) n = length-append (padded k (n / 10)) (n % 10 ∷ [])
+    ∙ omega (arith, length-padded k (n / 10))
 
 -- a shift by k digits, and one more
 shifted : (n k : ℕ) → n / 10 / 10 ^ k ≡ n / 10 ^ suc k
@@ -40,11 +41,14 @@ padded-first (suc k) n =
     ∙ rw (shifted n k, padded-last k n) refl
 
 pub padded-append : (j k n : ℕ) → padded (j + k) n ≡ padded j (n / 10 ^ k) ++ padded k n
-padded-append j zero n = rw (padded-none n, append-nil, div-one n) (ap (λ i. padded i n) (omega arith))
+padded-append j zero n = rw (padded-none n, append-nil, div-one n)
+    (ap (λ i. padded i n) (omega arith))
 padded-append j (suc k) n =
     let e : j + suc k ≡ suc (j + k) = omega arith in
-    ap (λ i. padded i n) e ∙ padded-last (j + k) n ∙ ap (λ ds. ds ++ n % 10 ∷ []) (padded-append j k (n / 10))
-    ∙ rw (shifted n k, padded-last k n) (append_assoc (padded j (n / 10 ^ suc k)) (padded k (n / 10)) (n % 10 ∷ []))
+    ap (λ i. padded i n) e ∙ padded-last (j + k) n
+    ∙ ap (λ ds. ds ++ n % 10 ∷ []) (padded-append j k (n / 10))
+    ∙ rw (shifted n k, padded-last k n) (append_assoc (padded j (n / 10 ^ suc k))
+    (padded k (n / 10)) (n % 10 ∷ []))
 
 -- what stands before the last k digits does not matter
 pub padded-low : (k q r : ℕ) → padded k (q * 10 ^ k + r) ≡ padded k r
@@ -53,7 +57,8 @@ padded-low (suc k) q r =
     let e : q * 10 ^ suc k ≡ q * 10 ^ k * 10 = mul-ten_pow q k in
     let high : (q * 10 ^ suc k + r) / 10 ≡ q * 10 ^ k + r / 10 = omega (arith, e) in
     let low : (q * 10 ^ suc k + r) % 10 ≡ r % 10 = omega (arith, e) in
-    padded-last k (q * 10 ^ suc k + r) ∙ rw (high, low) (ap (λ ds. ds ++ r % 10 ∷ []) (padded-low k q (r / 10))) ∙ sym (padded-last k r)
+    padded-last k (q * 10 ^ suc k + r) ∙ rw (high, low)
+    (ap (λ ds. ds ++ r % 10 ∷ []) (padded-low k q (r / 10))) ∙ sym (padded-last k r)
 
 pub padded-mod : (k n : ℕ) → padded k (n % 10 ^ k) ≡ padded k n
 padded-mod k n =
@@ -101,7 +106,8 @@ digits_of-padded_at (suc k) n e =
     let above : 0 < n = above_none n k e in
     let two : 2 ≤ 10 = omega arith in
     let shorter : width (n / 10) ≡ k = omega (arith, e, width-step n above) in
-    digits_of_step 10 n two above ∙ ap (λ ds. ds ++ n % 10 ∷ []) (digits_of-padded_at k (n / 10) shorter) ∙ sym (padded-last k n)
+    digits_of_step 10 n two above ∙ ap (λ ds. ds ++ n % 10 ∷ [])
+    (digits_of-padded_at k (n / 10) shorter) ∙ sym (padded-last k n)
 
 pub digits_of-padded : (n : ℕ) → digits_of 10 n ≡ padded (width n) n
 digits_of-padded n = digits_of-padded_at (width n) n refl
@@ -125,18 +131,24 @@ unfolding glyphs
 length-glyphs z xs = length-map xs (λ d. z + d)
 
 -- one more digit is written before the last ones
-pub put_step : (z n at v : ℕ) (out : List ℕ) → 0 < at → at ≤ length out → drop at out ≡ glyphs z (padded (length out - at) n)
+pub put_step : (z n at v : ℕ) (out : List ℕ) → 0 < at → at ≤ length out
+    → drop at out ≡ glyphs z (padded (length out - at) n)
     → v ≡ z + n / 10 ^ (length out - at) % 10
-    → drop (at - 1) (set out (at - 1) v) ≡ glyphs z (padded (length (set out (at - 1) v) - (at - 1)) n)
+    → drop (at - 1) (set out (at - 1) v) ≡ glyphs z
+    (padded (length (set out (at - 1) v) - (at - 1)) n)
 put_step z n at v out some within written is =
     let k = length out - at in
     let next : at - 1 + 1 ≡ at = omega arith in
-    let count : length (set out (at - 1) v) - (at - 1) ≡ suc k = omega (arith, length-set out (at - 1) v) in
+    let count : length (set out (at - 1) v) - (at - 1) ≡ suc k =
+    omega (arith, length-set out (at - 1) v) in
     drop-set out (at - 1) v (omega arith)
-    ∙ ap (λ i. v ∷ drop i out) next ∙ ap (λ ds. v ∷ ds) written ∙ ap (λ d. d ∷ glyphs z (padded k n)) is
-    ∙ sym (glyphs-cons z (n / 10 ^ k % 10) (padded k n)) ∙ ap (glyphs z) (sym (padded-first k n)) ∙ ap (λ i. glyphs z (padded i n)) (sym count)
+    ∙ ap (λ i. v ∷ drop i out) next ∙ ap (λ ds. v ∷ ds) written
+    ∙ ap (λ d. d ∷ glyphs z (padded k n)) is
+    ∙ sym (glyphs-cons z (n / 10 ^ k % 10) (padded k n)) ∙ ap (glyphs z) (sym (padded-first k n))
+    ∙ ap (λ i. glyphs z (padded i n)) (sym count)
 
-pub none_put : (z n : ℕ) (out : List ℕ) → drop (length out) out ≡ glyphs z (padded (length out - length out) n)
+pub none_put : (z n : ℕ) (out : List ℕ) → drop (length out) out
+    ≡ glyphs z (padded (length out - length out) n)
 none_put z n out =
     let none : length out - length out ≡ 0 = omega arith in
     no_items (drop (length out) out) (omega (arith, length-drop (length out) out))
@@ -146,26 +158,48 @@ pub none_left : (n k : ℕ) → n ≡ n / 10 ^ (k - k)
 none_left n k = let none : k - k ≡ 0 = omega arith in rw (none, div-one n) refl
 
 -- and what is left is one digit shorter
-pub left_step : (n at v : ℕ) (out : List ℕ) → 0 < at → at ≤ length out → n / 10 ^ (length out - at) / 10 ≡ n / 10 ^ (length (set out (at - 1) v) - (at - 1))
+pub left_step : (n at v : ℕ) (out : List ℕ) → 0 < at → at ≤ length out
+    → n / 10 ^ (length out - at) / 10 ≡ n / 10 ^ (length (set out (at - 1) v) - (at - 1))
 left_step n at v out some within =
     let k = length out - at in
-    let count : suc k ≡ length (set out (at - 1) v) - (at - 1) = omega (arith, length-set out (at - 1) v) in
+    let count : suc k ≡ length (set out (at - 1) v) - (at - 1) =
+    omega (arith, length-set out (at - 1) v) in
     shifted_last n k ∙ ap (λ i. n / 10 ^ i) count
 
 -- the two halves of 38 digits
-pub halves : (xs zs ys : List ℕ) → length xs ≡ 19 → length zs ≡ 19 → put_mid 19 19 (xs ++ zs) ys ≡ xs ++ ys
+pub halves : (xs zs ys : List ℕ) → length xs ≡ 19 → length zs ≡ 19
+    → put_mid 19 19 (xs ++ zs) ys ≡ xs ++ ys
 halves xs zs ys ex ez =
-    let front : take 19 (xs ++ zs) ≡ xs = ap (λ n. take n (xs ++ zs)) (sym ex) ∙ take-append_seam xs zs in
+    let front : take 19 (xs ++ zs) ≡ xs = ap (λ n. take n (xs ++ zs)) (sym ex)
+    ∙ take-append_seam xs zs in
     let behind = drop 19 (drop 19 (xs ++ zs)) in
     let end : behind ≡ [] =
-    no_items behind (omega (arith, length-drop 19 (drop 19 (xs ++ zs)), length-drop 19 (xs ++ zs), length-append xs zs)) in
-    ap (λ ts. ts ++ (ys ++ behind)) front ∙ ap (λ ts. xs ++ (ys ++ ts)) end ∙ ap (λ ts. xs ++ ts) (append-nil ys)
+    no_items behind (omega (
+      arith,
+      length-drop 19 (drop 19 (xs ++ zs)),
+      length-drop 19 (xs ++ zs),
+      length-append xs zs,
+    )) in
+    ap (λ ts. ts ++ (ys ++ behind)) front ∙ ap (λ ts. xs ++ (ys ++ ts)) end
+    ∙ ap (λ ts. xs ++ ts) (append-nil ys)
 
-pub spread_is : (z n : ℕ) (xs zs ys : List ℕ) → length zs ≡ 19 → xs ≡ glyphs z (padded 19 (n / 10 ^ 19))
-    → ys ≡ glyphs z (padded (length (take 19 (drop 19 (xs ++ zs)))) (n % 10 ^ 19)) → put_mid 19 19 (xs ++ zs) ys ≡ glyphs z (padded 38 n)
+pub spread_is : (z n : ℕ) (xs zs ys : List ℕ) → length zs ≡ 19
+    → xs ≡ glyphs z (padded 19 (n / 10 ^ 19))
+    → ys ≡ glyphs z (padded (length (take 19 (drop 19 (xs ++ zs)))) (n % 10 ^ 19))
+    → put_mid 19 19 (xs ++ zs) ys ≡ glyphs z (padded 38 n)
 spread_is z n xs zs ys ez ex ey =
-    let first : length xs ≡ 19 = ap length ex ∙ length-glyphs z (padded 19 (n / 10 ^ 19)) ∙ length-padded 19 (n / 10 ^ 19) in
-    let room : length (take 19 (drop 19 (xs ++ zs))) ≡ 19 = omega (arith, length-take 19 (drop 19 (xs ++ zs)), length-drop 19 (xs ++ zs), length-append xs zs) in
-    let second : ys ≡ glyphs z (padded 19 n) = ey ∙ ap (λ k. glyphs z (padded k (n % 10 ^ 19))) room ∙ ap (glyphs z) (padded-mod 19 n) in
-    halves xs zs ys first ez ∙ ap (λ ts. ts ++ ys) ex ∙ ap (λ ts. glyphs z (padded 19 (n / 10 ^ 19)) ++ ts) second
-    ∙ sym (glyphs-append z (padded 19 (n / 10 ^ 19)) (padded 19 n)) ∙ ap (glyphs z) (sym (padded-append 19 19 n))
+    let first : length xs ≡ 19 = ap length ex ∙ length-glyphs z (padded 19 (n / 10 ^ 19))
+    ∙ length-padded 19 (n / 10 ^ 19) in
+    let room : length (take 19 (drop 19 (xs ++ zs))) ≡ 19 =
+    omega (
+      arith,
+      length-take 19 (drop 19 (xs ++ zs)),
+      length-drop 19 (xs ++ zs),
+      length-append xs zs,
+    ) in
+    let second : ys ≡ glyphs z (padded 19 n) =
+    ey ∙ ap (λ k. glyphs z (padded k (n % 10 ^ 19))) room ∙ ap (glyphs z) (padded-mod 19 n) in
+    halves xs zs ys first ez ∙ ap (λ ts. ts ++ ys) ex
+    ∙ ap (λ ts. glyphs z (padded 19 (n / 10 ^ 19)) ++ ts) second
+    ∙ sym (glyphs-append z (padded 19 (n / 10 ^ 19)) (padded 19 n))
+    ∙ ap (glyphs z) (sym (padded-append 19 19 n))

@@ -16,8 +16,20 @@ trimmed_within (suc f) n some h = elim (cases_eq (n % 10) 0) [
   | inl none ↦
       let t : Trimmed (n / 10) = trimmed_within f (n / 10) (omega (arith, none)) (omega arith) in
       let e : n ≡ n / 10 * 10 = omega (arith, none) in
-      record { coefficient = t.coefficient; behind = suc t.behind; is = e ∙ ap (λ m. m * 10) t.is ∙ sym (mul-ten_pow t.coefficient t.behind); last = t.last }
-  | inr digit ↦ record { coefficient = n; behind = 0; is = omega arith; last = omega (arith, digit) }
+      record {
+        coefficient = t.coefficient;
+        behind = suc t.behind;
+        is =
+            e ∙ ap (λ m. m * 10) t.is ∙ sym (mul-ten_pow t.coefficient t.behind);
+        last = t.last;
+      }
+  | inr digit ↦ record {
+    coefficient = n;
+    behind = 0;
+    is = omega arith;
+    last =
+        omega (arith, digit);
+  }
 ]
 
 pub trimmed_of : (n : ℕ) → 0 < n → Trimmed n

@@ -33,11 +33,16 @@ lt-width n = let two : 2 ≤ 10 = omega arith in
 pub width-gt : (k n : ℕ) → 10 ^ k ≤ n → k < width n
 width-gt k n h = elim (cases_lt k (width n)) [
   | inl lt ↦ lt
-  | inr le ↦ let p : 10 ^ width n ≤ 10 ^ k = pow-le-pow_right (omega arith) le in absurd (omega (arith, lt-width n))
+  | inr le ↦ let p : 10 ^ width n ≤ 10 ^ k = pow-le-pow_right (omega arith) le in
+      absurd (omega (arith, lt-width n))
 ]
 
 pub width_is : (k n : ℕ) → 10 ^ k ≤ n → n < 10 * 10 ^ k → width n ≡ k + 1
-width_is k n low high = omega (arith, width-gt k n low, width-le (suc k) n (rw pow-suc (omega arith)))
+width_is k n low high = omega (
+  arith,
+  width-gt k n low,
+  width-le (suc k) n (rw pow-suc (omega arith)),
+)
 
 pub width-zero : width 0 ≡ 0
 unfolding width
@@ -74,7 +79,8 @@ width-mul a k h = let (w, e) = case_pos (width a) (width-pos a h) in width-mul_f
 -- a number with zeros behind it, by its length
 pub mul-lt : (n k m : ℕ) → width n + k ≤ m → n * 10 ^ k < 10 ^ m
 mul-lt n k m h =
-    let below : n * 10 ^ k < 10 ^ width n * 10 ^ k = mul-lt-mul_of_pos_right (lt-width n) (ten_pow_pos k) in
+    let below : n * 10 ^ k < 10 ^ width n * 10 ^ k =
+    mul-lt-mul_of_pos_right (lt-width n) (ten_pow_pos k) in
     let longest : 10 ^ (width n + k) ≤ 10 ^ m = pow-le-pow_right (omega arith) h in
     omega (arith, pow-add 10 (width n) k)
 
@@ -97,13 +103,19 @@ mul-ge n k m n_pos h =
 
 -- zeros behind zeros
 pub mul-zeros : (n c i j : ℕ) → n ≡ c * 10 ^ i → n * 10 ^ j ≡ c * 10 ^ (i + j)
-mul-zeros n c i j e = ap (λ m. m * 10 ^ j) e ∙ mul_assoc c (10 ^ i) (10 ^ j) ∙ ap (λ p. c * p) (sym (pow-add 10 i j))
+mul-zeros n c i j e = ap (λ m. m * 10 ^ j) e ∙ mul_assoc c (10 ^ i) (10 ^ j)
+    ∙ ap (λ p. c * p) (sym (pow-add 10 i j))
 
 -- where the first digit of a number with zeros behind it stands, by its size
 pub mul-width_gt : (c k m : ℕ) → 10 ^ m ≤ c * 10 ^ k → m < width c + k
 mul-width_gt c k m h = elim (cases_lt m (width c + k)) [
   | inl lt ↦ lt
-  | inr le ↦ absurd (omega (arith, mul-lt c k (width c + k) (omega arith), ten_pow-le (width c + k) m le, h))
+  | inr le ↦ absurd (omega (
+    arith,
+    mul-lt c k (width c + k) (omega arith),
+    ten_pow-le (width c + k) m le,
+    h,
+  ))
 ]
 
 pub mul-width_le : (c k m : ℕ) → 0 < c → c * 10 ^ k < 10 ^ m → width c + k ≤ m

@@ -8,8 +8,7 @@ mod print;
 mod read;
 mod spell;
 mod sum;
-#[cfg(test)]
-mod tests;
+mod whole;
 
 ghost use Rattle.std.specs.Prelude.{◌≡◌, nat_abs, ◌≤◌};
 ghost use Rattle.alt_decimal.specs.Number.{Fits};

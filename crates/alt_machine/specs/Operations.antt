@@ -1,15 +1,20 @@
 -- The names of the operations.
-use Rattle.std.specs.Prelude.{ℕ, List, Option, Some, None, if◌then◌else◌, codes}
+use Rattle.std.specs.Prelude.{ℕ, List, [], ◌∷◌, Option, option_map, codes}
+use Rattle.std.specs.List.{find}
 use Rattle.std.specs.Str.{bytes_eq}
 use Rattle.alt_machine.specs.declared.Operation.{Operation}
 use Rattle.alt_machine.specs.declared.Operation.TheVariants.{CreateTable, DescribeTable, ListTables, DeleteTable, PutItem, GetItem}
 
--- the built operation of that name
+-- the operations that are built
+abbrev pub operations : List (List ℕ × Operation)
+operations =
+    (codes "CreateTable", CreateTable) ∷
+    (codes "DescribeTable", DescribeTable) ∷
+    (codes "ListTables", ListTables) ∷
+    (codes "DeleteTable", DeleteTable) ∷
+    (codes "PutItem", PutItem) ∷
+    (codes "GetItem", GetItem) ∷ []
+
+-- the operation of that name, if it is built
 abbrev pub operation_named : List ℕ → Option Operation
-operation_named word =
-    if bytes_eq word (codes "CreateTable") then Some CreateTable
-    else (if bytes_eq word (codes "DescribeTable") then Some DescribeTable
-    else (if bytes_eq word (codes "ListTables") then Some ListTables
-    else (if bytes_eq word (codes "DeleteTable") then Some DeleteTable
-    else (if bytes_eq word (codes "PutItem") then Some PutItem
-    else (if bytes_eq word (codes "GetItem") then Some GetItem else None)))))
+operation_named word = option_map (λ p. p.1) (find (λ p. bytes_eq p.0 word) operations)

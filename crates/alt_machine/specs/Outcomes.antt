@@ -1,34 +1,60 @@
 -- What a request comes to.
-use Rattle.std.specs.Prelude.{List, [], ◌∷◌, Option, Some, None}
+use Rattle.std.specs.Prelude.{ℕ, List, [], ◌∷◌, take, Option, Some, None, Result, Ok, Err}
 use Rattle.alt_shape.specs.declared.refusal.Refusal.{Refusal}
 use Rattle.alt_shape.specs.Refusals.{Answer, refused}
+use Rattle.alt_machine.specs.Refusals.{first_answer}
 use Rattle.alt_machine.specs.State.{State}
 
--- The new state, the answer, and the atoms: the single writes that the request makes, each by the state after it. A stop may
--- come between two of them and never inside one.
+-- what each write of a request wants: nothing, a number, or for a new table a number and 27 families
+pub data Wants : Type 0 where
+  nothing : Wants
+  a_number : Wants
+  a_table : Wants
+
+-- The answer, and the atoms: the single writes that the request makes, each by the state after it. A stop may come between two
+-- of them and never inside one. The state after the request is that after the last of them.
 pub record Outcome : Type 0 where
-  pub state : State
   pub answer : Answer
   pub atoms : List State
+  pub wants : Wants
 
 -- the state after these writes
 abbrev pub last_state : State → List State → State
 last_state s [] = s
 last_state s (t ∷ ts) = last_state t ts
 
--- a refusal leaves the state itself
-abbrev pub refuses : State → Refusal → Outcome
-refuses s r = record { state = s; answer = refused r; atoms = [] }
+-- the state after the first of these writes, so many of them
+abbrev pub state_after : ℕ → State → List State → State
+state_after k s atoms = last_state s (take k atoms)
 
--- a read leaves it too
-abbrev pub reads : State → Answer → Outcome
-reads s answer = record { state = s; answer = answer; atoms = [] }
+-- an answer without a write: of a read, or a refusal
+abbrev pub says : Answer → Outcome
+says answer = record { answer = answer; atoms = []; wants = nothing }
 
--- these writes, and an answer
-abbrev pub does : State → List State → Answer → Outcome
-does s atoms answer = record { state = last_state s atoms; answer = answer; atoms = atoms }
+-- these writes and an answer
+abbrev pub writes : List State → Answer → Outcome
+writes atoms answer = record { answer = answer; atoms = atoms; wants = a_number }
 
--- what a request comes to where it is refused, and where it isn't
-abbrev pub unless_refused : State → Option Refusal → Outcome → Outcome
-unless_refused s None outcome = outcome
-unless_refused s (Some r) outcome = refuses s r
+-- the one write that makes a table, and an answer
+abbrev pub makes : State → Answer → Outcome
+makes s answer = record { answer = answer; atoms = s ∷ []; wants = a_table }
+
+-- a refusal
+abbrev pub refuses : Refusal → Outcome
+refuses r = says (refused r)
+
+-- ---- tests
+
+-- the first answer of the tests that apply, and what comes where none does
+abbrev pub answer_or : Option Answer → Outcome → Outcome
+answer_or None outcome = outcome
+answer_or (Some answer) outcome = says answer
+
+-- the refusal of the first test that applies, and what comes where none does
+abbrev pub unless_refused : List (Option Answer) → Outcome → Outcome
+unless_refused tests outcome = answer_or (first_answer tests) outcome
+
+-- what comes of what a test found, or its refusal
+abbrev pub with_found : {A : Type 0} → Result A Answer → (A → Outcome) → Outcome
+with_found (Ok x) go = go x
+with_found (Err answer) go = says answer

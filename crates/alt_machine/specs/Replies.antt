@@ -14,6 +14,6 @@ abbrev pub answers : List ℕ → Data → Answer
 answers name d = answered (member name d no_members)
 
 -- the item that was found, if one was
-abbrev pub found : Option (List Pair) → Answer
-found None = done
-found (Some item) = answers (codes "Item") (json_of_pairs item)
+abbrev pub item_answer : Option (List Pair) → Answer
+item_answer None = done
+item_answer (Some item) = answers (codes "Item") (json_of_pairs item)

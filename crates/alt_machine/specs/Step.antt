@@ -1,10 +1,10 @@
--- One request: the first refusal that applies, E1, then E2, then those of its operation; else the operation itself.
+-- One request: refused where its operation or its body can't be read, and else what its operation makes of its members.
 use Rattle.std.specs.Prelude.{ℕ, List, Option, Some, None}
 use Rattle.serde_json.specs.Data.{Members}
-use Rattle.alt_shape.specs.declared.refusal.Refusal.TheVariants.{E1, E2}
+use Rattle.alt_shape.specs.Refusals.{unknown_operation, unreadable}
 use Rattle.alt_machine.specs.declared.Operation.{Operation}
 use Rattle.alt_machine.specs.declared.Operation.TheVariants.{CreateTable, DescribeTable, ListTables, DeleteTable, PutItem, GetItem}
-use Rattle.alt_machine.specs.Json.{body_of}
+use Rattle.alt_machine.specs.Members.{body_of}
 use Rattle.alt_machine.specs.Ops.CreateTable.{create_table}
 use Rattle.alt_machine.specs.Ops.DeleteTable.{delete_table}
 use Rattle.alt_machine.specs.Ops.DescribeTable.{describe_table}
@@ -20,14 +20,15 @@ operates s CreateTable moment ms = create_table s moment ms
 operates s DescribeTable moment ms = describe_table s ms
 operates s ListTables moment ms = list_tables s ms
 operates s DeleteTable moment ms = delete_table s ms
-operates s PutItem moment ms = put_item s ms
+operates s PutItem moment ms = put_item s moment ms
 operates s GetItem moment ms = get_item s ms
 
+-- an operation on a body, if that is one
 abbrev pub with_body : State → Operation → ℕ → Option Members → Outcome
-with_body s op moment None = refuses s E2
+with_body s op moment None = refuses unreadable
 with_body s op moment (Some ms) = operates s op moment ms
 
--- the new state and the answer of a request at a moment
+-- what a request of an operation, if it is built, and a body comes to at a moment
 abbrev pub step : State → Option Operation → List ℕ → ℕ → Outcome
-step s None body moment = refuses s E1
+step s None body moment = refuses unknown_operation
 step s (Some op) body moment = with_body s op moment (body_of body)

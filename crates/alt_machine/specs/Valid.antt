@@ -1,25 +1,23 @@
 -- What holds of every state that the machine comes to from the empty store.
-use Rattle.std.specs.Prelude.{◌≡◌, ◌≤◌, ◌<◌, ◌&&◌, ◌||◌, ℕ, Bool, true, false, not, nat_lt, nat_le, T, List, length, Option, Some, None}
+use Rattle.std.specs.Prelude.{◌≡◌, ◌≢◌, ◌≤◌, ◌<◌, ◌&&◌, ◌||◌, ℕ, Bool, true, false, not, nat_lt, nat_le, T, List, [], length, Option, Some, None, All, AllPairs, Contains}
 use Rattle.std.specs.List.{list_all, list_any}
 use Rattle.std.specs.Str.{bytes_eq}
 use Rattle.std.specs.FinMap as map
-use Rattle.alt_codec.specs.ReadBack.{fields_full}
-use Rattle.alt_schema.specs.Described.{IsNew}
+use Rattle.alt_schema.specs.Described.{IsDescription}
 use Rattle.alt_schema.specs.Indexes.{indexes, is_key, keys_fit, of_range}
-use Rattle.alt_schema.specs.Rules.{is_name, most_included}
+use Rattle.alt_schema.specs.Rules.{is_name, all_differ, most_locals, most_globals, most_included}
 use Rattle.alt_schema.specs.declared.schema.IndexSchema.{IndexSchema}
 use Rattle.alt_schema.specs.declared.schema.KeyAttr.{KeyAttr}
 use Rattle.alt_schema.specs.declared.schema.Projection.{Projection}
-use Rattle.alt_schema.specs.declared.schema.Projection.TheVariants.{All, KeysOnly, Include}
+use Rattle.alt_schema.specs.declared.schema.Projection.TheVariants as projects
 use Rattle.alt_schema.specs.declared.schema.TableSchema.{TableSchema}
 use Rattle.alt_value.specs.Item.{IsItem}
 use Rattle.alt_value.specs.Size.{item_size, fields_depth}
 use Rattle.alt_value.specs.Tree.{Pair, fields_of}
-use Rattle.alt_machine.specs.Keys.{has_key, key_fits, place_of}
-use Rattle.alt_machine.specs.Ops.CreateTable.{family_after, most_tables}
-use Rattle.alt_machine.specs.Ops.PutItem.{largest_item}
-use Rattle.alt_machine.specs.Spent.{last_family, last_number}
-use Rattle.alt_machine.specs.State.{State, Table}
+use Rattle.alt_value.specs.Values.{IsItemOfValues, fields_full}
+use Rattle.alt_machine.specs.declared.TheConstants.{LARGEST_ITEM, MOST_TABLES, NUMBERS_END, FAMILIES_END}
+use Rattle.alt_machine.specs.Keys.{key_fits, place_of}
+use Rattle.alt_machine.specs.State.{State, Table, families_of}
 
 -- ---- items
 
@@ -27,14 +25,13 @@ use Rattle.alt_machine.specs.State.{State, Table}
 abbrev pub deepest : ℕ
 deepest = 32
 
--- An item of a table stands at the place of its key. It has the key, its keys fit in the table and in the indexes, it isn't too
--- large, no value in it is too deep, no set in it is empty, and its names rise, none of them empty.
+-- An item of a table stands at the place of its key. Its keys fit in the table and in the indexes, it isn't too large, no value in
+-- it is too deep, no set in it is empty, and its names rise, none of them empty.
 pub record IsStored (d : TableSchema) (place : List ℕ) (item : List Pair) : Type 0 where
-  pub stands : place ≡ place_of d item
-  pub has : has_key d item ≡ true
+  pub stands : place_of d item ≡ Some place
   pub fits : key_fits d item ≡ true
   pub index_keys : keys_fit d item ≡ true
-  pub size : item_size item ≤ largest_item
+  pub size : item_size item ≤ LARGEST_ITEM
   pub depth : fields_depth (fields_of item) ≤ deepest
   pub full : T (fields_full (fields_of item))
   pub names : IsItem item
@@ -57,49 +54,56 @@ is_local hash range i = bytes_eq i.hash.name hash.name && are_two range i.range
 
 -- a projection that names attributes names 1 to 20, and each name has bytes
 abbrev pub names_few : Projection → Bool
-names_few All = true
-names_few KeysOnly = true
-names_few (Include names) = nat_lt 0 (length names) && (nat_le (length names) most_included && list_all (λ n. nat_lt 0 (length n)) names)
+names_few projects.All = true
+names_few projects.KeysOnly = true
+names_few (projects.Include names) = nat_lt 0 (length names) && (nat_le (length names) most_included && list_all (λ n. nat_lt 0 (length n)) names)
 
 -- a name is that of a key attribute of the table or of an index
 abbrev pub is_used : TableSchema → List ℕ → Bool
 is_used d name = is_key d.hash d.range name || list_any (λ i. is_key i.hash i.range name) (indexes d)
 
--- A description as CreateTable makes it: the table and its indexes have names; keys, local indexes and projections are as they
--- have to be; at most 5 local and 20 global indexes of different names; exactly the key attributes are defined, and none twice;
--- and the families in a row from the table's.
+-- A description as it is made: the table and its indexes have names; keys, local indexes and projections are as they have to be; at
+-- most 5 local and 20 global indexes of different names; and exactly the key attributes are defined, none of them twice.
 pub record IsMade (d : TableSchema) : Type 0 where
   pub spelled : is_name d.name ≡ true
   pub indexes_spelled : list_all (λ i. is_name i.name) (indexes d) ≡ true
+  pub indexes_differ : all_differ (λ i. i.name) (indexes d) ≡ true
   pub keys : is_pair d.hash d.range ≡ true
   pub index_keys : list_all (λ i. is_pair i.hash i.range) (indexes d) ≡ true
   pub used : list_all (λ a. is_used d a.name) d.definitions ≡ true
   pub locals : list_all (is_local d.hash d.range) d.locals ≡ true
   pub projections : list_all (λ i. names_few i.projection) (indexes d) ≡ true
-  pub new : IsNew d
+  pub locals_few : length d.locals ≤ most_locals
+  pub globals_few : length d.globals ≤ most_globals
+  pub whole : IsDescription d
 
 -- ---- tables
 
--- A table stands under its own name. Its number was taken before, and so were its families.
+-- A table stands under its own name. Its number was taken before, and so were its families, of which no two are the same. It has
+-- no changes, since a table with a stream isn't built yet.
 pub record IsTable (s : State) (name : List ℕ) (t : Table) : Type 0 where
   pub named : t.description.name ≡ name
   pub made : IsMade t.description
   pub number : (1 ≤ t.description.number) × (t.description.number < s.next_number)
-  pub families : (1 ≤ t.description.family) × (family_after t.description ≤ s.next_family)
+  pub families : All (λ f. (1 ≤ f) × (f < s.next_family)) (families_of t.description)
+  pub differ : AllPairs (λ f g. f ≢ g) (families_of t.description)
   pub items : (place : List ℕ) (item : List Pair) → map.get t.items place ≡ Some item → IsStored t.description place item
-
--- a family is the table's, or of one of its indexes or its stream
-abbrev pub HasFamily : TableSchema → ℕ → Type 0
-HasFamily d family = (d.family ≤ family) × (family < family_after d)
+  pub changes : t.changes ≡ []
 
 -- There are at most 256 tables, each of them as it is to be; a number is of one table alone, and so is a family; and the next
 -- number and the next family are in their ranges.
 pub record IsValid (s : State) : Type 0 where
-  pub few : map.len s.tables ≤ most_tables
+  pub few : map.len s.tables ≤ MOST_TABLES
   pub tables : (name : List ℕ) (t : Table) → map.get s.tables name ≡ Some t → IsTable s name t
   pub numbers : (name other : List ℕ) (t u : Table) → map.get s.tables name ≡ Some t → map.get s.tables other ≡ Some u
       → t.description.number ≡ u.description.number → name ≡ other
   pub families : (name other : List ℕ) (t u : Table) (family : ℕ) → map.get s.tables name ≡ Some t → map.get s.tables other ≡ Some u
-      → HasFamily t.description family → HasFamily u.description family → name ≡ other
-  pub next_number : (1 ≤ s.next_number) × (s.next_number ≤ last_number)
-  pub next_family : (1 ≤ s.next_family) × (s.next_family ≤ last_family)
+      → Contains (families_of t.description) family → Contains (families_of u.description) family → name ≡ other
+  pub next_number : (1 ≤ s.next_number) × (s.next_number ≤ NUMBERS_END)
+  pub next_family : (1 ≤ s.next_family) × (s.next_family ≤ FAMILIES_END)
+
+-- Each item of the state is one that a program can hold: its texts are UTF-8, its numbers fit, and so on at every level. What is read
+-- from memory is such, and what is read from JSON as data need not be, so it is told beside what is valid.
+pub record IsHeldState (s : State) : Type 0 where
+  pub items : (name place : List ℕ) (t : Table) (item : List Pair) → map.get s.tables name ≡ Some t → map.get t.items place ≡ Some item
+      → IsItemOfValues item

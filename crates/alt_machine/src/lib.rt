@@ -1,8 +1,12 @@
 //! The plain machine that the server is proved to be: what a request does to a state of maps, and what it answers.
 //!
-//! The definitions stand in `specs/`, and nothing in them calls the program. This file has the names that they and the
-//! program share, and no function.
+//! The definitions stand in `specs/`, and nothing in them calls the program. This file has the names and the limits that they
+//! and the program share, and no function that does anything.
 #![tactic(auto)]
+
+ghost use Rattle.alt_machine.specs.Laws.{StepsKeepValid};
+ghost use Rattle.alt_machine.specs.State.{start};
+ghost use Rattle.alt_machine.specs.Valid.{IsValid};
 
 /// An operation that is built (DynamoDB API Reference, "Actions").
 #[derive(Clone, Copy, Debug, PartialEq, Eq)]
@@ -14,3 +18,35 @@ pub enum Operation {
     PutItem,
     GetItem,
 }
+
+/// What a request has of an item: all of it, at its member Item, or the key alone, at Key.
+#[derive(Clone, Copy, Debug, PartialEq, Eq)]
+pub enum Sought {
+    Item,
+    Key,
+}
+
+/// The numbers of writes are below 2^62 - 1.
+pub const NUMBERS_END: u64 = 4_611_686_018_427_387_903;
+
+/// The families of tables are below 2^32 - 1.
+pub const FAMILIES_END: u32 = 4_294_967_295;
+
+/// As many families as the largest table has: its own, those of 25 indexes and its stream's.
+pub const MOST_FAMILIES: u32 = 27;
+
+/// The most tables.
+pub const MOST_TABLES: usize = 256;
+
+/// The names on a page of ListTables where the request doesn't say how many.
+pub const PAGE_LENGTH: u64 = 100;
+
+/// The most bytes of an item (Developer Guide, "Service, account, and table quotas").
+pub const LARGEST_ITEM: u64 = 409_600;
+
+/// The laws of the machine: the state of an empty store is valid, and each request leads from a valid state to valid ones. It
+/// does nothing.
+pub fn state_laws()
+    ensures start { IsValid start }
+    ensures steps { StepsKeepValid }
+{}

@@ -4,11 +4,15 @@ pub mod Cuts
 pub mod Differ
 pub mod Labels
 pub mod Walks
+pub mod NamedLemmas
+pub mod Used
 pub mod NewDescriptions
 pub mod Plain
 pub mod Shown
 pub mod Wholes
+pub mod Fields
 pub mod WholeLists
 pub mod WholeDescriptions
 pub mod Steady
+pub mod Stopped
 pub mod Elements

@@ -1,4 +1,3 @@
-pub mod Checked
 pub mod Places
 pub mod Plain
 pub mod Walks

@@ -11,6 +11,7 @@ use Rattle.serde_json.specs.Written.{has_float, items_have_float, members_have_f
 pub no_float_either : (a b : Bool) → a ≡ false → b ≡ false → (a || b) ≡ false
 no_float_either a b p q = ap (λ x. x || b) p ∙ q
 
+-- where none of two has one, the first and the second have none
 no_float_first : (a b : Bool) → (a || b) ≡ false → a ≡ false
 no_float_first true b h = h
 no_float_first false b h = refl
@@ -20,17 +21,28 @@ no_float_second true b h = absurd (cc)
 no_float_second false b h = h
 
 -- an array with one more item
-pub items_have_float-item : (d : Data) (ds : Items) → has_float d ≡ false → items_have_float ds ≡ false → items_have_float (item d ds) ≡ false
+pub items_have_float-item : (d : Data) (ds : Items) → has_float d ≡ false → items_have_float ds
+    ≡ false → items_have_float (item d ds) ≡ false
 items_have_float-item d ds p q = no_float_either (has_float d) (items_have_float ds) p q
 
-put_at : (o : Ordering) (k l : List ℕ) (d e : Data) (ms : Members) → has_float d ≡ false → (has_float e || members_have_float ms) ≡ false → members_have_float (put k d ms) ≡ false
-    → members_have_float (match_ordering o (member k d (member l e ms)) (member l d ms) (member l e (put k d ms))) ≡ false
-put_at Less k l d e ms p q r = no_float_either (has_float d) (has_float e || members_have_float ms) p q
-put_at Equal k l d e ms p q r = no_float_either (has_float d) (members_have_float ms) p (no_float_second (has_float e) (members_have_float ms) q)
-put_at Greater k l d e ms p q r = no_float_either (has_float e) (members_have_float (put k d ms)) (no_float_first (has_float e) (members_have_float ms) q) r
+-- a member put before another, in its place or behind it
+put_at : (o : Ordering) (k l : List ℕ) (d e : Data) (ms : Members) → has_float d ≡ false
+    → (has_float e || members_have_float ms) ≡ false → members_have_float (put k d ms) ≡ false
+    → members_have_float (match_ordering o (member k d (member l e ms)) (member l d ms)
+    (member l e (put k d ms))) ≡ false
+put_at Less k l d e ms p q r =
+    no_float_either (has_float d) (has_float e || members_have_float ms) p q
+put_at Equal k l d e ms p q r =
+    no_float_either (has_float d) (members_have_float ms) p
+    (no_float_second (has_float e) (members_have_float ms) q)
+put_at Greater k l d e ms p q r =
+    no_float_either (has_float e) (members_have_float (put k d ms))
+    (no_float_first (has_float e) (members_have_float ms) q) r
 
 -- an object with a member put into it
-pub members_have_float-put : (k : List ℕ) (d : Data) (ms : Members) → has_float d ≡ false → members_have_float ms ≡ false → members_have_float (put k d ms) ≡ false
+pub members_have_float-put : (k : List ℕ) (d : Data) (ms : Members) → has_float d ≡ false
+    → members_have_float ms ≡ false → members_have_float (put k d ms) ≡ false
 members_have_float-put k d no_members p q = no_float_either (has_float d) false p refl
 members_have_float-put k d (member l e ms) p q =
-    put_at (slice_cmp nat_cmp k l) k l d e ms p q (members_have_float-put k d ms p (no_float_second (has_float e) (members_have_float ms) q))
+    put_at (slice_cmp nat_cmp k l) k l d e ms p q
+    (members_have_float-put k d ms p (no_float_second (has_float e) (members_have_float ms) q))

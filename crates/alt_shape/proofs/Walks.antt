@@ -7,13 +7,18 @@ use Rattle.alt_shape.specs.declared.rule.Broken.{Broken}
 use Rattle.alt_shape.specs.Bodies.{in_items}
 use Rattle.alt_shape.specs.Shape.{or_next}
 
-in_items_from_suc : (fault : Data → Option Broken) (vs : List Value) (i : ℕ) (v : Value) → i < length vs
-    → in_items fault (items_view (drop i vs)) ≡ or_next (fault (view (get_or vs i v))) (in_items fault (items_view (drop (suc i) vs)))
+-- the same, with the next place as `suc i`
+in_items_from_suc : (fault : Data → Option Broken) (vs : List Value) (i : ℕ) (v : Value)
+    → i < length vs
+    → in_items fault (items_view (drop i vs))
+    ≡ or_next (fault (view (get_or vs i v))) (in_items fault (items_view (drop (suc i) vs)))
 in_items_from_suc fault [] i v h = absurd (omega arith)
 in_items_from_suc fault (x ∷ vs) zero v h = refl
 in_items_from_suc fault (x ∷ vs) (suc i) v h = in_items_from_suc fault vs i v (omega arith)
 
 -- the fault of the items from a place on is that of the item there, and else of those after it
-pub in_items_from : (fault : Data → Option Broken) (vs : List Value) (i : ℕ) (v : Value) → i < length vs
-    → in_items fault (items_view (drop i vs)) ≡ or_next (fault (view (get_or vs i v))) (in_items fault (items_view (drop (i + 1) vs)))
+pub in_items_from : (fault : Data → Option Broken) (vs : List Value) (i : ℕ) (v : Value)
+    → i < length vs
+    → in_items fault (items_view (drop i vs))
+    ≡ or_next (fault (view (get_or vs i v))) (in_items fault (items_view (drop (i + 1) vs)))
 in_items_from fault vs i v h = rw add-one (in_items_from_suc fault vs i v h)

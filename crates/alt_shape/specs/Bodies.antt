@@ -10,9 +10,11 @@ use Rattle.alt_shape.specs.Shape.{Form, a_text, a_whole, a_truth, an_object, an_
 
 -- ---- demands
 
+-- a member that has to be there
 abbrev pub required : List ℕ → Form → Demand
 required name form = record { name = name; form = form; must = true }
 
+-- a member that may be there
 abbrev pub optional : List ℕ → Form → Demand
 optional name form = record { name = name; form = form; must = false }
 
@@ -59,6 +61,7 @@ in_object name inside ms = option_map_or inside (option_and_then as_object (give
 
 -- ---- operations on tables
 
+-- the members of a CreateTable's body
 abbrev pub create_table_demands : List Demand
 create_table_demands =
     required (codes "TableName") a_text ∷
@@ -68,26 +71,32 @@ create_table_demands =
     optional (codes "GlobalSecondaryIndexes") an_array ∷
     optional (codes "StreamSpecification") an_object ∷ []
 
+-- an element of a key schema: an attribute's name and HASH or RANGE
 abbrev pub key_schema_element : Members → Option Broken
 key_schema_element = first_unmet (
     required (codes "AttributeName") a_text ∷
     required (codes "KeyType") (a_word (codes "HASH" ∷ codes "RANGE" ∷ [])) ∷ [])
 
+-- the elements of a key schema, in list order
 abbrev pub key_schema : Items → Option Broken
 key_schema = in_items (object_fault key_schema_element)
 
+-- a defined attribute: its name and its type
 abbrev pub attribute_definition : Members → Option Broken
 attribute_definition = first_unmet (
     required (codes "AttributeName") a_text ∷
     required (codes "AttributeType") (a_word (codes "S" ∷ codes "N" ∷ codes "B" ∷ [])) ∷ [])
 
+-- a Projection: its type, and the names that it includes, which are texts
 abbrev pub projection : Members → Option Broken
 projection ms = first_of (
     first_unmet (
-    required (codes "ProjectionType") (a_word (codes "ALL" ∷ codes "KEYS_ONLY" ∷ codes "INCLUDE" ∷ [])) ∷
+    required (codes "ProjectionType")
+    (a_word (codes "ALL" ∷ codes "KEYS_ONLY" ∷ codes "INCLUDE" ∷ [])) ∷
     optional (codes "NonKeyAttributes") an_array ∷ []) ms ∷
     in_array (codes "NonKeyAttributes") (in_items text_fault) ms ∷ [])
 
+-- an index: its own members, then its key schema, then its projection
 abbrev pub secondary_index : Members → Option Broken
 secondary_index ms = first_of (
     first_unmet (
@@ -97,11 +106,17 @@ secondary_index ms = first_of (
     in_array (codes "KeySchema") key_schema ms ∷
     in_object (codes "Projection") projection ms ∷ [])
 
+-- the words of StreamViewType
+abbrev pub views : List (List ℕ)
+views = codes "KEYS_ONLY" ∷ codes "NEW_IMAGE" ∷ codes "OLD_IMAGE" ∷ codes "NEW_AND_OLD_IMAGES" ∷ []
+
+-- whether there is a stream, and what it shows
 abbrev pub stream_specification : Members → Option Broken
 stream_specification = first_unmet (
     required (codes "StreamEnabled") a_truth ∷
-    optional (codes "StreamViewType") (a_word (codes "KEYS_ONLY" ∷ codes "NEW_IMAGE" ∷ codes "OLD_IMAGE" ∷ codes "NEW_AND_OLD_IMAGES" ∷ [])) ∷ [])
+    optional (codes "StreamViewType") (a_word views) ∷ [])
 
+-- CreateTable: its own members, then the objects inside them in their order
 unfoldable pub create_table : Members → Option Broken
 create_table ms = first_of (
     first_unmet create_table_demands ms ∷
@@ -111,12 +126,15 @@ create_table ms = first_of (
     in_array (codes "GlobalSecondaryIndexes") (in_items (object_fault secondary_index)) ms ∷
     in_object (codes "StreamSpecification") stream_specification ms ∷ [])
 
+-- DescribeTable names a table
 unfoldable pub describe_table : Members → Option Broken
 describe_table = first_unmet (required (codes "TableName") a_text ∷ [])
 
+-- DeleteTable names a table
 unfoldable pub delete_table : Members → Option Broken
 delete_table = first_unmet (required (codes "TableName") a_text ∷ [])
 
+-- ListTables says where to start and how many to list, from 1 to 100
 unfoldable pub list_tables : Members → Option Broken
 list_tables = first_unmet (
     optional (codes "ExclusiveStartTableName") a_text ∷
@@ -131,27 +149,34 @@ write_demands return_values =
     optional (codes "ExpressionAttributeNames") an_object ∷
     optional (codes "ExpressionAttributeValues") an_object ∷
     optional (codes "ReturnValues") (a_word return_values) ∷
-    optional (codes "ReturnValuesOnConditionCheckFailure") (a_word (codes "NONE" ∷ codes "ALL_OLD" ∷ [])) ∷ []
+    optional (codes "ReturnValuesOnConditionCheckFailure")
+    (a_word (codes "NONE" ∷ codes "ALL_OLD" ∷ [])) ∷ []
 
+-- PutItem gives an item
 unfoldable pub put_item : Members → Option Broken
 put_item = first_unmet (
     required (codes "TableName") a_text ∷
     required (codes "Item") an_object ∷
     write_demands (codes "NONE" ∷ codes "ALL_OLD" ∷ []))
 
+-- DeleteItem gives a key
 unfoldable pub delete_item : Members → Option Broken
 delete_item = first_unmet (
     required (codes "TableName") a_text ∷
     required (codes "Key") an_object ∷
     write_demands (codes "NONE" ∷ codes "ALL_OLD" ∷ []))
 
+-- UpdateItem gives a key and what to do with its item
 unfoldable pub update_item : Members → Option Broken
 update_item = first_unmet (
     required (codes "TableName") a_text ∷
     required (codes "Key") an_object ∷
     optional (codes "UpdateExpression") a_text ∷
-    write_demands (codes "NONE" ∷ codes "ALL_OLD" ∷ codes "UPDATED_OLD" ∷ codes "ALL_NEW" ∷ codes "UPDATED_NEW" ∷ []))
+    write_demands (
+    codes "NONE" ∷ codes "ALL_OLD" ∷ codes "UPDATED_OLD" ∷ codes "ALL_NEW" ∷
+    codes "UPDATED_NEW" ∷ []))
 
+-- GetItem gives a key and what to show of its item
 unfoldable pub get_item : Members → Option Broken
 get_item = first_unmet (
     required (codes "TableName") a_text ∷
@@ -162,9 +187,13 @@ get_item = first_unmet (
 
 -- ---- Query and Scan
 
+-- the words of Select
 abbrev pub selections : List (List ℕ)
-selections = codes "ALL_ATTRIBUTES" ∷ codes "ALL_PROJECTED_ATTRIBUTES" ∷ codes "SPECIFIC_ATTRIBUTES" ∷ codes "COUNT" ∷ []
+selections =
+    codes "ALL_ATTRIBUTES" ∷ codes "ALL_PROJECTED_ATTRIBUTES" ∷ codes "SPECIFIC_ATTRIBUTES" ∷
+    codes "COUNT" ∷ []
 
+-- Query gives a condition on keys, and what to show of the items found
 unfoldable pub query : Members → Option Broken
 query = first_unmet (
     required (codes "TableName") a_text ∷
@@ -180,6 +209,7 @@ query = first_unmet (
     optional (codes "ConsistentRead") a_truth ∷
     optional (codes "Select") (a_word selections) ∷ [])
 
+-- Scan says which part of a table to walk through, and what to show of it
 unfoldable pub scan : Members → Option Broken
 scan = first_unmet (
     required (codes "TableName") a_text ∷
@@ -197,12 +227,15 @@ scan = first_unmet (
 
 -- ---- batches
 
+-- a put in a batch gives an item
 abbrev pub put_request : Members → Option Broken
 put_request = first_unmet (required (codes "Item") an_object ∷ [])
 
+-- a delete in a batch gives a key
 abbrev pub delete_request : Members → Option Broken
 delete_request = first_unmet (required (codes "Key") an_object ∷ [])
 
+-- a write in a batch: a put, then a delete
 abbrev pub write_request : Members → Option Broken
 write_request ms = first_of (
     first_unmet (
@@ -211,11 +244,14 @@ write_request ms = first_of (
     in_object (codes "PutRequest") put_request ms ∷
     in_object (codes "DeleteRequest") delete_request ms ∷ [])
 
+-- BatchWriteItem gives writes by table
 unfoldable pub batch_write_item : Members → Option Broken
 batch_write_item ms = first_of (
     first_unmet (required (codes "RequestItems") an_object ∷ []) ms ∷
-    in_object (codes "RequestItems") (in_members (array_fault (in_items (object_fault write_request)))) ms ∷ [])
+    in_object (codes "RequestItems")
+    (in_members (array_fault (in_items (object_fault write_request)))) ms ∷ [])
 
+-- the reads of one table in a batch: its own members, then the keys
 abbrev pub keys_and_attributes : Members → Option Broken
 keys_and_attributes ms = first_of (
     first_unmet (
@@ -225,6 +261,7 @@ keys_and_attributes ms = first_of (
     optional (codes "ConsistentRead") a_truth ∷ []) ms ∷
     in_array (codes "Keys") (in_items key_fault) ms ∷ [])
 
+-- BatchGetItem gives reads by table
 unfoldable pub batch_get_item : Members → Option Broken
 batch_get_item ms = first_of (
     first_unmet (required (codes "RequestItems") an_object ∷ []) ms ∷
@@ -232,25 +269,35 @@ batch_get_item ms = first_of (
 
 -- ---- streams
 
+-- ListStreams says whose streams, where to start, and how many to list
 unfoldable pub list_streams : Members → Option Broken
 list_streams = first_unmet (
     optional (codes "TableName") a_text ∷
     optional (codes "ExclusiveStartStreamArn") a_text ∷
     optional (codes "Limit") (a_whole 1 100) ∷ [])
 
+-- DescribeStream names a stream, and where to start among its shards
 unfoldable pub describe_stream : Members → Option Broken
 describe_stream = first_unmet (
     required (codes "StreamArn") a_text ∷
     optional (codes "ExclusiveStartShardId") a_text ∷
     optional (codes "Limit") (a_whole 1 100) ∷ [])
 
+-- the words of ShardIteratorType
+abbrev pub iterator_types : List (List ℕ)
+iterator_types =
+    codes "TRIM_HORIZON" ∷ codes "LATEST" ∷ codes "AT_SEQUENCE_NUMBER" ∷
+    codes "AFTER_SEQUENCE_NUMBER" ∷ []
+
+-- GetShardIterator names a shard and a place in it
 unfoldable pub get_shard_iterator : Members → Option Broken
 get_shard_iterator = first_unmet (
     required (codes "StreamArn") a_text ∷
     required (codes "ShardId") a_text ∷
-    required (codes "ShardIteratorType") (a_word (codes "TRIM_HORIZON" ∷ codes "LATEST" ∷ codes "AT_SEQUENCE_NUMBER" ∷ codes "AFTER_SEQUENCE_NUMBER" ∷ [])) ∷
+    required (codes "ShardIteratorType") (a_word iterator_types) ∷
     optional (codes "SequenceNumber") a_text ∷ [])
 
+-- GetRecords gives an iterator, and how many records to read, from 1 to 1,000
 unfoldable pub get_records : Members → Option Broken
 get_records = first_unmet (
     required (codes "ShardIterator") a_text ∷

@@ -60,6 +60,180 @@ messages =
     codes "bad index update" ∷
     codes "bad legacy parameter" ∷ []
 
+-- ---- the refusals by name
+
+-- "unknown operation"
+abbrev pub unknown_operation : Refusal
+unknown_operation = E1
+
+-- "the body cannot be read"
+abbrev pub unreadable : Refusal
+unreadable = E2
+
+-- "Requested resource not found"
+abbrev pub not_found : Refusal
+not_found = E4
+
+-- "table already exists"
+abbrev pub table_exists : Refusal
+table_exists = E5
+
+-- "The conditional request failed"
+abbrev pub condition_failed : Refusal
+condition_failed = E6
+
+-- "too many tables"
+abbrev pub too_many_tables : Refusal
+too_many_tables = E7
+
+-- "the change records were trimmed"
+abbrev pub trimmed : Refusal
+trimmed = E8
+
+-- "not built yet"
+abbrev pub not_built : Refusal
+not_built = Invalid 0
+
+-- "a required member is missing"
+abbrev pub member_missing : Refusal
+member_missing = Invalid 1
+
+-- "a member is out of its range"
+abbrev pub out_of_range : Refusal
+out_of_range = Invalid 2
+
+-- "members do not go together"
+abbrev pub not_together : Refusal
+not_together = Invalid 3
+
+-- "bad table or index name"
+abbrev pub bad_name : Refusal
+bad_name = Invalid 4
+
+-- "bad key schema or attribute definitions"
+abbrev pub bad_key_schema : Refusal
+bad_key_schema = Invalid 5
+
+-- "bad index"
+abbrev pub bad_index : Refusal
+bad_index = Invalid 6
+
+-- "an attribute value needs one known kind"
+abbrev pub not_one_kind : Refusal
+not_one_kind = Invalid 7
+
+-- "not a number"
+abbrev pub not_a_number : Refusal
+not_a_number = Invalid 8
+
+-- "a number has more than 38 digits"
+abbrev pub too_many_digits : Refusal
+too_many_digits = Invalid 9
+
+-- "a number is too large"
+abbrev pub number_too_large : Refusal
+number_too_large = Invalid 10
+
+-- "a number is too small"
+abbrev pub number_too_small : Refusal
+number_too_small = Invalid 11
+
+-- "bad base64"
+abbrev pub bad_base64 : Refusal
+bad_base64 = Invalid 12
+
+-- "an empty set"
+abbrev pub empty_set : Refusal
+empty_set = Invalid 13
+
+-- "a repeated member in a set"
+abbrev pub repeat_in_set : Refusal
+repeat_in_set = Invalid 14
+
+-- "NULL must be true"
+abbrev pub null_not_true : Refusal
+null_not_true = Invalid 15
+
+-- "nested too deep"
+abbrev pub nested_too_deep : Refusal
+nested_too_deep = Invalid 16
+
+-- "no such index"
+abbrev pub no_such_index : Refusal
+no_such_index = Invalid 17
+
+-- "bad expression"
+abbrev pub bad_expression : Refusal
+bad_expression = Invalid 18
+
+-- "undefined name or value"
+abbrev pub undefined_name : Refusal
+undefined_name = Invalid 19
+
+-- "unused name or value"
+abbrev pub unused_name : Refusal
+unused_name = Invalid 20
+
+-- "expression too large"
+abbrev pub expression_too_large : Refusal
+expression_too_large = Invalid 21
+
+-- "overlapping paths or a repeated clause"
+abbrev pub overlapping_paths : Refusal
+overlapping_paths = Invalid 22
+
+-- "bad key"
+abbrev pub bad_key : Refusal
+bad_key = Invalid 23
+
+-- "key too long"
+abbrev pub key_too_long : Refusal
+key_too_long = Invalid 24
+
+-- "bad index key"
+abbrev pub bad_index_key : Refusal
+bad_index_key = Invalid 25
+
+-- "an update of a key attribute"
+abbrev pub key_update : Refusal
+key_update = Invalid 26
+
+-- "bad path or kind in an update"
+abbrev pub bad_update : Refusal
+bad_update = Invalid 27
+
+-- "item too large"
+abbrev pub item_too_large : Refusal
+item_too_large = Invalid 28
+
+-- "bad key condition"
+abbrev pub bad_key_condition : Refusal
+bad_key_condition = Invalid 29
+
+-- "bad start key"
+abbrev pub bad_start_key : Refusal
+bad_start_key = Invalid 30
+
+-- "bad batch"
+abbrev pub bad_batch : Refusal
+bad_batch = Invalid 31
+
+-- "bad stream argument"
+abbrev pub bad_stream_argument : Refusal
+bad_stream_argument = Invalid 32
+
+-- "bad time to live"
+abbrev pub bad_time_to_live : Refusal
+bad_time_to_live = Invalid 33
+
+-- "bad index update"
+abbrev pub bad_index_update : Refusal
+bad_index_update = Invalid 34
+
+-- "bad legacy parameter"
+abbrev pub bad_legacy_parameter : Refusal
+bad_legacy_parameter = Invalid 35
+
 -- a refusal that has a message
 abbrev pub IsKnown : Refusal → Type 0
 IsKnown E1 = Unit {0}
@@ -99,10 +273,15 @@ answered ms = record { status = 200; body = object ms }
 
 -- the answer to a request that was refused
 abbrev pub refused : Refusal → Answer
-refused r = record { status = 400; body = object (member (codes "__type") (string (name_of r)) (member (codes "message") (string (message_of r)) no_members)) }
+refused r = record {
+  status = 400;
+  body = object
+      (member (codes "__type") (string (name_of r))
+      (member (codes "message") (string (message_of r)) no_members));
+}
 
 -- the refusal of a body that breaks a rule
 abbrev pub refusal_of : Broken → Refusal
-refusal_of WrongKind = E2
-refusal_of Missing = Invalid 1
-refusal_of OutOfRange = Invalid 2
+refusal_of WrongKind = unreadable
+refusal_of Missing = member_missing
+refusal_of OutOfRange = out_of_range

@@ -29,6 +29,7 @@ pub record Demand : Type 0 where
 
 -- ---- the rules of the program, as demands
 
+-- the form of a rule's kind
 abbrev pub form_of : Kind → Form
 form_of Text = a_text
 form_of (Whole least most) = a_whole least most
@@ -37,6 +38,7 @@ form_of Object = an_object
 form_of Array = an_array
 form_of (Word words) = a_word (map (λ w. w.now) words.now)
 
+-- what a rule asks
 abbrev pub demand_of : Rule → Demand
 demand_of rule = record { name = rule.name.now; form = form_of rule.kind; must = rule.must }
 
@@ -97,7 +99,8 @@ in_range (a_word words) d = option_map_or (is_among words) (as_str d) false
 
 -- how a value breaks a form, if it does
 abbrev pub misfit_of : Form → Data → Option Broken
-misfit_of form d = if has_kind form d then (if in_range form d then None else Some OutOfRange) else Some WrongKind
+misfit_of form d =
+    if has_kind form d then (if in_range form d then None else Some OutOfRange) else Some WrongKind
 
 -- how a member that has to be there, or may be, breaks its form, if it does
 abbrev pub fault_of : Form → Bool → Option Data → Option Broken

@@ -1,6 +1,6 @@
 //! Reading the members of a body whose rules hold.
 
-ghost use Rattle.std.specs.Prelude.{◌≡◌, Some, IsSome, option_map, option_and_then};
+ghost use Rattle.std.specs.Prelude.{◌≡◌, option_map, option_and_then};
 ghost use Rattle.serde_json.specs.Find.{as_bool, as_str, as_array, as_object};
 ghost use Rattle.serde_json.specs.View.{view, items_view, members_view};
 ghost use Rattle.alt_shape.specs.Shape.{given, natural_of};
@@ -48,45 +48,9 @@ pub fn array_at<'v>(body: &'v Map<String, Value>, name: &str) -> Option<&'v Vec<
     given(body, name)?.as_array()
 }
 
-/// The text at a name at which a text stands.
-pub fn required_text<'v>(body: &'v Map<String, Value>, name: &str) -> &'v str
-    requires { IsSome (option_and_then as_str (given name.now (members_view body.now.entries))) }
-    ensures { Some result.now
-        ≡ option_and_then as_str (given name.now (members_view body.now.entries)) }
-{
-    text_at(body, name).unwrap()
-}
-
-/// The truth value at a name at which one stands.
-pub fn required_truth(body: &Map<String, Value>, name: &str) -> bool
-    requires { IsSome (option_and_then as_bool (given name.now (members_view body.now.entries))) }
-    ensures { Some result
-        ≡ option_and_then as_bool (given name.now (members_view body.now.entries)) }
-{
-    truth_at(body, name).unwrap()
-}
-
-/// The object at a name at which one stands.
-pub fn required_object<'v>(body: &'v Map<String, Value>, name: &str) -> &'v Map<String, Value>
-    requires { IsSome (option_and_then as_object (given name.now (members_view body.now.entries))) }
-    ensures { Some (members_view result.now.entries)
-        ≡ option_and_then as_object (given name.now (members_view body.now.entries)) }
-{
-    object_at(body, name).unwrap()
-}
-
-/// The array at a name at which one stands.
-pub fn required_array<'v>(body: &'v Map<String, Value>, name: &str) -> &'v Vec<Value>
-    requires { IsSome (option_and_then as_array (given name.now (members_view body.now.entries))) }
-    ensures { Some (items_view result.now.items)
-        ≡ option_and_then as_array (given name.now (members_view body.now.entries)) }
-{
-    array_at(body, name).unwrap()
-}
-
-/// Reads a member of a body that `check` let pass, by the name and the kind of its rule:
-/// `field!(body, "Limit": whole)` is there or not, and `field!(body, "TableName": required text)`
-/// is there. A kind is `text` (of a word too), `whole`, `truth`, `object` or `array`.
+/// Reads a member of a body that `check` let pass, by the name and the kind of its rule, as
+/// `field!(body, "Limit": whole)`. A kind is `text` (of a word too), `whole`, `truth`, `object` or
+/// `array`. Of a body that `check` let pass the answer is None exactly where the member is absent.
 #[macro_export]
 macro_rules! field {
     ($body:expr, $name:literal : text) => {
@@ -103,17 +67,5 @@ macro_rules! field {
     };
     ($body:expr, $name:literal : array) => {
         $crate::array_at($body, $name)
-    };
-    ($body:expr, $name:literal : required text) => {
-        $crate::required_text($body, $name)
-    };
-    ($body:expr, $name:literal : required truth) => {
-        $crate::required_truth($body, $name)
-    };
-    ($body:expr, $name:literal : required object) => {
-        $crate::required_object($body, $name)
-    };
-    ($body:expr, $name:literal : required array) => {
-        $crate::required_array($body, $name)
     };
 }

@@ -13,7 +13,8 @@ use serde_json::{Map, Value};
 
 /// The elements of KeySchema, of a table or of an index.
 pub(crate) fn key_schema(owner: &Map<String, Value>) -> Option<Broken>
-    ensures { result ≡ in_array (codes "KeySchema") (bodies.key_schema) (members_view owner.now.entries) }
+    ensures { result ≡ in_array (codes "KeySchema") (bodies.key_schema)
+        (members_view owner.now.entries) }
 {
     match field!(owner, "KeySchema": array) {
         Some(elements) => each_key_schema_element(elements),
@@ -44,7 +45,8 @@ fn key_schema_element(element: &Value) -> Option<Broken>
 
 /// The elements of AttributeDefinitions.
 pub(crate) fn attribute_definitions(owner: &Map<String, Value>) -> Option<Broken>
-    ensures { result ≡ in_array (codes "AttributeDefinitions") (in_items (object_fault bodies.attribute_definition)) (members_view owner.now.entries) }
+    ensures { result ≡ in_array (codes "AttributeDefinitions")
+        (in_items (object_fault bodies.attribute_definition)) (members_view owner.now.entries) }
 {
     match field!(owner, "AttributeDefinitions": array) {
         Some(elements) => each_attribute_definition(elements),
@@ -54,7 +56,8 @@ pub(crate) fn attribute_definitions(owner: &Map<String, Value>) -> Option<Broken
 
 #[tactic(auto, using(crate::proofs::Walks::in_items_from))]
 fn each_attribute_definition(elements: &[Value]) -> Option<Broken>
-    ensures { result ≡ in_items (object_fault bodies.attribute_definition) (items_view elements.now) }
+    ensures { result ≡ in_items (object_fault bodies.attribute_definition)
+        (items_view elements.now) }
 {
     for element in elements {
         if let Some(broken) = attribute_definition(element) {
@@ -75,7 +78,8 @@ fn attribute_definition(element: &Value) -> Option<Broken>
 
 /// The indexes of LocalSecondaryIndexes or GlobalSecondaryIndexes, each with what is inside it.
 pub(crate) fn indexes(owner: &Map<String, Value>, name: &str) -> Option<Broken>
-    ensures { result ≡ in_array (name.now) (in_items (object_fault bodies.secondary_index)) (members_view owner.now.entries) }
+    ensures { result ≡ in_array (name.now) (in_items (object_fault bodies.secondary_index))
+        (members_view owner.now.entries) }
 {
     match array_at(owner, name) {
         Some(elements) => each_index(elements),
@@ -114,7 +118,8 @@ fn index_members(index: &Map<String, Value>) -> Option<Broken>
 
 /// The Projection of an index.
 fn projection(owner: &Map<String, Value>) -> Option<Broken>
-    ensures { result ≡ in_object (codes "Projection") (bodies.projection) (members_view owner.now.entries) }
+    ensures { result ≡ in_object (codes "Projection") (bodies.projection)
+        (members_view owner.now.entries) }
 {
     match field!(owner, "Projection": object) {
         Some(members) => projection_members(members),
@@ -130,7 +135,8 @@ fn projection_members(projection: &Map<String, Value>) -> Option<Broken>
 
 /// The elements of NonKeyAttributes, which are texts.
 fn non_key_attributes(owner: &Map<String, Value>) -> Option<Broken>
-    ensures { result ≡ in_array (codes "NonKeyAttributes") (in_items text_fault) (members_view owner.now.entries) }
+    ensures { result ≡ in_array (codes "NonKeyAttributes") (in_items text_fault)
+        (members_view owner.now.entries) }
 {
     match field!(owner, "NonKeyAttributes": array) {
         Some(elements) => each_text(elements),
@@ -162,7 +168,8 @@ fn text(element: &Value) -> Option<Broken>
 
 /// The StreamSpecification of a table.
 pub(crate) fn stream_specification(owner: &Map<String, Value>) -> Option<Broken>
-    ensures { result ≡ in_object (codes "StreamSpecification") (bodies.stream_specification) (members_view owner.now.entries) }
+    ensures { result ≡ in_object (codes "StreamSpecification") (bodies.stream_specification)
+        (members_view owner.now.entries) }
 {
     match field!(owner, "StreamSpecification": object) {
         Some(members) => first_broken(&tables::STREAM_SPECIFICATION, members),
@@ -195,7 +202,8 @@ fn each_table_of_writes(tables: &Map<String, Value>) -> Option<Broken>
 }
 
 fn table_of_writes(requests: &Value) -> Option<Broken>
-    ensures { result ≡ array_fault (in_items (object_fault bodies.write_request)) (view requests.now) }
+    ensures { result ≡ array_fault (in_items (object_fault bodies.write_request))
+        (view requests.now) }
 {
     match requests.as_array() {
         Some(elements) => each_write_request(elements),
@@ -294,7 +302,8 @@ fn table_of_keys_members(asked: &Map<String, Value>) -> Option<Broken>
 
 /// The elements of Keys, which are objects.
 fn keys(owner: &Map<String, Value>) -> Option<Broken>
-    ensures { result ≡ in_array (codes "Keys") (in_items key_fault) (members_view owner.now.entries) }
+    ensures { result ≡ in_array (codes "Keys") (in_items key_fault)
+        (members_view owner.now.entries) }
 {
     match field!(owner, "Keys": array) {
         Some(elements) => each_key(elements),

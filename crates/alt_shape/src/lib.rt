@@ -11,12 +11,6 @@ mod rule;
 pub mod tables;
 
 pub use checking::{check, given};
-pub use fields::{
-    array_at, object_at, required_array, required_object, required_text, required_truth, text_at,
-    truth_at, whole_at,
-};
+pub use fields::{array_at, object_at, text_at, truth_at, whole_at};
 pub use refusal::{Refusal, Reply, refuse};
 pub use rule::{Broken, Kind, Rule, ShapeFault};
-
-#[cfg(test)]
-mod tests;

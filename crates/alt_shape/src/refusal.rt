@@ -32,14 +32,146 @@ pub enum Refusal {
     Invalid(u8),
 }
 
+/// The refusals by name, each with its message.
+impl Refusal {
+    /// "unknown operation".
+    pub const UNKNOWN_OPERATION: Refusal = Refusal::E1;
+
+    /// "the body cannot be read".
+    pub const UNREADABLE: Refusal = Refusal::E2;
+
+    /// "Requested resource not found".
+    pub const NOT_FOUND: Refusal = Refusal::E4;
+
+    /// "table already exists".
+    pub const TABLE_EXISTS: Refusal = Refusal::E5;
+
+    /// "The conditional request failed".
+    pub const CONDITION_FAILED: Refusal = Refusal::E6;
+
+    /// "too many tables".
+    pub const TOO_MANY_TABLES: Refusal = Refusal::E7;
+
+    /// "the change records were trimmed".
+    pub const TRIMMED: Refusal = Refusal::E8;
+
+    /// "not built yet".
+    pub const NOT_BUILT: Refusal = Refusal::Invalid(0);
+
+    /// "a required member is missing".
+    pub const MEMBER_MISSING: Refusal = Refusal::Invalid(1);
+
+    /// "a member is out of its range".
+    pub const OUT_OF_RANGE: Refusal = Refusal::Invalid(2);
+
+    /// "members do not go together".
+    pub const NOT_TOGETHER: Refusal = Refusal::Invalid(3);
+
+    /// "bad table or index name".
+    pub const BAD_NAME: Refusal = Refusal::Invalid(4);
+
+    /// "bad key schema or attribute definitions".
+    pub const BAD_KEY_SCHEMA: Refusal = Refusal::Invalid(5);
+
+    /// "bad index".
+    pub const BAD_INDEX: Refusal = Refusal::Invalid(6);
+
+    /// "an attribute value needs one known kind".
+    pub const NOT_ONE_KIND: Refusal = Refusal::Invalid(7);
+
+    /// "not a number".
+    pub const NOT_A_NUMBER: Refusal = Refusal::Invalid(8);
+
+    /// "a number has more than 38 digits".
+    pub const TOO_MANY_DIGITS: Refusal = Refusal::Invalid(9);
+
+    /// "a number is too large".
+    pub const NUMBER_TOO_LARGE: Refusal = Refusal::Invalid(10);
+
+    /// "a number is too small".
+    pub const NUMBER_TOO_SMALL: Refusal = Refusal::Invalid(11);
+
+    /// "bad base64".
+    pub const BAD_BASE64: Refusal = Refusal::Invalid(12);
+
+    /// "an empty set".
+    pub const EMPTY_SET: Refusal = Refusal::Invalid(13);
+
+    /// "a repeated member in a set".
+    pub const REPEAT_IN_SET: Refusal = Refusal::Invalid(14);
+
+    /// "NULL must be true".
+    pub const NULL_NOT_TRUE: Refusal = Refusal::Invalid(15);
+
+    /// "nested too deep".
+    pub const NESTED_TOO_DEEP: Refusal = Refusal::Invalid(16);
+
+    /// "no such index".
+    pub const NO_SUCH_INDEX: Refusal = Refusal::Invalid(17);
+
+    /// "bad expression".
+    pub const BAD_EXPRESSION: Refusal = Refusal::Invalid(18);
+
+    /// "undefined name or value".
+    pub const UNDEFINED_NAME: Refusal = Refusal::Invalid(19);
+
+    /// "unused name or value".
+    pub const UNUSED_NAME: Refusal = Refusal::Invalid(20);
+
+    /// "expression too large".
+    pub const EXPRESSION_TOO_LARGE: Refusal = Refusal::Invalid(21);
+
+    /// "overlapping paths or a repeated clause".
+    pub const OVERLAPPING_PATHS: Refusal = Refusal::Invalid(22);
+
+    /// "bad key".
+    pub const BAD_KEY: Refusal = Refusal::Invalid(23);
+
+    /// "key too long".
+    pub const KEY_TOO_LONG: Refusal = Refusal::Invalid(24);
+
+    /// "bad index key".
+    pub const BAD_INDEX_KEY: Refusal = Refusal::Invalid(25);
+
+    /// "an update of a key attribute".
+    pub const KEY_UPDATE: Refusal = Refusal::Invalid(26);
+
+    /// "bad path or kind in an update".
+    pub const BAD_UPDATE: Refusal = Refusal::Invalid(27);
+
+    /// "item too large".
+    pub const ITEM_TOO_LARGE: Refusal = Refusal::Invalid(28);
+
+    /// "bad key condition".
+    pub const BAD_KEY_CONDITION: Refusal = Refusal::Invalid(29);
+
+    /// "bad start key".
+    pub const BAD_START_KEY: Refusal = Refusal::Invalid(30);
+
+    /// "bad batch".
+    pub const BAD_BATCH: Refusal = Refusal::Invalid(31);
+
+    /// "bad stream argument".
+    pub const BAD_STREAM_ARGUMENT: Refusal = Refusal::Invalid(32);
+
+    /// "bad time to live".
+    pub const BAD_TIME_TO_LIVE: Refusal = Refusal::Invalid(33);
+
+    /// "bad index update".
+    pub const BAD_INDEX_UPDATE: Refusal = Refusal::Invalid(34);
+
+    /// "bad legacy parameter".
+    pub const BAD_LEGACY_PARAMETER: Refusal = Refusal::Invalid(35);
+}
+
 impl From<Broken> for Refusal {
     ghost from_gives = { λ broken refusal. refusal ≡ refusal_of broken };
 
     fn from(broken: Broken) -> Refusal {
         match broken {
-            Broken::WrongKind => Refusal::E2,
-            Broken::Missing => Refusal::Invalid(1),
-            Broken::OutOfRange => Refusal::Invalid(2),
+            Broken::WrongKind => Refusal::UNREADABLE,
+            Broken::Missing => Refusal::MEMBER_MISSING,
+            Broken::OutOfRange => Refusal::OUT_OF_RANGE,
         }
     }
 }

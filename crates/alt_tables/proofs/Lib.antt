@@ -2,6 +2,6 @@ pub mod Maps
 pub mod Named
 pub mod Sorted
 pub mod Listed
-pub mod Same
-pub mod Writing
-pub mod Starting
+pub mod Standing
+pub mod Catalog
+pub mod Making

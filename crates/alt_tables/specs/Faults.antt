@@ -1,9 +1,31 @@
--- What a call that gives no answer tells.
-use Rattle.std.specs.Prelude.{◌≡◌, ℕ, Option, Some}
+-- What a call that gives no answer tells, and what it leaves.
+use Rattle.std.specs.Prelude.{◌≡◌, ℕ, List, Some, None, Result, Ok, Err}
+use Rattle.alt_machine.specs.Outcomes.{Wants, last_state, state_after}
+use Rattle.alt_machine.specs.State.{State}
+use Rattle.alt_machine.specs.Wanted.{lack_among}
 use Rattle.alt_tables.specs.declared.faults.TableFault.{TableFault}
 use Rattle.alt_tables.specs.declared.faults.TableFault.TheVariants.{Spent, NoMemory}
 
--- That is the fault of what is wanted and can't be had. Want of memory may come at any time.
-abbrev pub IsCausedBy : Option ℕ → TableFault → Type 0
-IsCausedBy wanted (Spent number) = wanted ≡ Some number
-IsCausedBy wanted NoMemory = Unit {0}
+-- Below, `now` says for which states the tables stand after a call, and `s` is a state for which they stood before it.
+
+-- These writes are made: the tables stand for the state after the last of them, and none of them lacked a number or a family.
+pub record AreMade (now : State → Type 0) (wants : Wants) (s : State) (atoms : List State) : Type 0 where
+  pub state : now (last_state s atoms)
+  pub enough : lack_among wants s atoms ≡ None
+
+-- The writes broke off: where a number or a family can't be had, just before the one that lacks it, the first that does; and for want
+-- of memory, which may come at any time, after some of them, from none to all.
+abbrev pub BreakOff : (State → Type 0) → Wants → State → List State → TableFault → Type 0
+BreakOff now wants s atoms (Spent number) =
+    (before : ℕ) × (lack_among wants s atoms ≡ Some (record { number = number; before = before })) × now (state_after before s atoms)
+BreakOff now wants s atoms NoMemory = (k : ℕ) × now (state_after k s atoms)
+
+-- A call that makes these writes makes them all, or breaks off with the fault.
+abbrev pub Writes : {A : Type 0} → (State → Type 0) → Wants → State → List State → Result A TableFault → Type 0
+Writes now wants s atoms (Ok x) = AreMade now wants s atoms
+Writes now wants s atoms (Err fault) = BreakOff now wants s atoms fault
+
+-- The fault is one that a call has which writes nothing.
+abbrev pub IsReadFault : TableFault → Type 0
+IsReadFault (Spent number) = ⊥
+IsReadFault NoMemory = Unit {0}

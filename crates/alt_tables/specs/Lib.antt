@@ -1,4 +1,5 @@
 pub mod Codes
 pub mod Faults
+pub mod Found
 pub mod Order
 pub mod Stands

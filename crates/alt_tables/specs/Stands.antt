@@ -1,11 +1,47 @@
 -- What the tables in memory stand for.
-use Rattle.alt_machine.specs.State.{State, Table}
+use Rattle.std.specs.Prelude.{◌≡◌, ℕ, []}
+use Rattle.alt_disk.specs.Disk.{DiskState}
+use Rattle.alt_machine.specs.State.{State, Table, Texts, descriptions}
+use Rattle.alt_machine.specs.Valid.{IsValid}
+use Rattle.alt_schema.specs.declared.schema.TableSchema.{TableSchema}
 use Rattle.alt_tables.specs.declared.list.TableEntry.{TableEntry}
 use Rattle.alt_tables.specs.declared.tables.Tables.{Tables}
 
+-- a table as the machine has it
 abbrev pub table_of : TableEntry → Table
-table_of e = record { description = e.schema; items = e.items }
+table_of e = record { description = e.schema; items = e.items; changes = [] }
 
--- the state of the machine
+-- ---- what is known of the tables without the disk
+
+-- the descriptions by the names of their tables
+abbrev pub catalog_of : Tables → Texts TableSchema
+catalog_of t = descriptions t.list
+
+-- the number of the next write
+abbrev pub number_of : Tables → ℕ
+number_of t = t.number
+
+-- the family that the next table gets
+abbrev pub family_of : Tables → ℕ
+family_of t = t.family
+
+-- ---- the state
+
+-- the state of tables whose items are in memory
 abbrev pub state_of : Tables → State
 state_of t = record { tables = t.list; next_number = t.number; next_family = t.family }
+
+-- The tables and the disk beneath them stand for a valid state of the machine: it has the tables that are known, and the next number
+-- and the next family; and the items that are kept are its items. They are in memory, so nothing is asked of the disk yet.
+pub record Stands (disk : DiskState) (t : Tables) (s : State) : Type 0 where
+  pub catalog : catalog_of t ≡ descriptions s.tables
+  pub number : number_of t ≡ s.next_number
+  pub family : family_of t ≡ s.next_family
+  pub rows : state_of t ≡ s
+  pub valid : IsValid s
+
+-- What is known without the disk stayed.
+pub record KeepsCatalog (old new : Tables) : Type 0 where
+  pub catalog : catalog_of new ≡ catalog_of old
+  pub number : number_of new ≡ number_of old
+  pub family : family_of new ≡ family_of old

@@ -5,10 +5,10 @@ mod faults;
 mod items;
 mod list;
 mod place;
+mod rows;
 mod tables;
 
 pub use faults::TableFault;
+pub use place::place_of;
+pub use rows::Found;
 pub use tables::Tables;
-
-#[cfg(test)]
-mod tests;

@@ -1,30 +1,73 @@
 //! The place of an item in its table.
 
-ghost use Rattle.std.specs.Prelude.{◌≡◌, true, IfOk};
-ghost use Rattle.alt_machine.specs.Keys.{has_key, place_of};
+ghost use Rattle.std.specs.Prelude.{◌≡◌, ◌++◌, IfOk, OnOk, option_map};
+ghost use Rattle.std.specs.Int.{w64, to_be_bytes};
+ghost use Rattle.alt_keyorder.specs.KeyBytes.{IsKey, key_bytes};
+ghost use Rattle.alt_keyorder.specs.Token.{token_of};
+ghost use Rattle.alt_machine.specs.Keys.{can_be_key, key_value, place_of};
+ghost use Rattle.alt_value.specs.Stands.{tree_of};
 
 use alt_base::NoMemory;
 use alt_fields::{Bytes, put_u64};
 use alt_keyorder::{key_part, token};
-use alt_schema::TableSchema;
-use alt_value::Item;
+use alt_schema::{KeyAttr, TableSchema};
+use alt_value::{Attr, Item, KeyKind};
 use std::alloc::Global;
 
-/// The place that its key gives an item: the token of the HASH value, then the parts of the HASH and RANGE values
-/// (docs/formats/key-bytes.md).
-pub(crate) fn place_of(alloc: Global, schema: &TableSchema, item: &Item) -> Result<Bytes, NoMemory>
-    requires { has_key schema.now item.now ≡ true }
-    ensures place { IfOk result (λ b. b ≡ place_of schema.now item.now) }
+/// The place that its key gives an item, `None` exactly where the item hasn't all of its key: the token of the HASH value, and then
+/// the parts of the HASH and RANGE values (docs/formats/key-bytes.md).
+pub fn place_of(alloc: Global, schema: &TableSchema, item: &Item) -> Result<Option<Bytes>, NoMemory>
+    ensures place { IfOk result (λ place. place ≡ place_of schema.now item.now) }
 {
+    let Some(hash) = key_value(item, &schema.hash) else {
+        return Ok(None);
+    };
     let mut out = Vec::new(alloc);
-    if let Some(hash) = item.get(schema.hash.name.as_str()) {
-        put_u64(&mut out, token(hash))?;
-        key_part(hash, &mut out)?;
+    put_hash(hash, &mut out)?;
+    if let Some(key) = &schema.range {
+        let Some(range) = key_value(item, key) else {
+            return Ok(None);
+        };
+        key_part(range, &mut out)?;
     }
-    if let Some(range) = &schema.range {
-        if let Some(value) = item.get(range.name.as_str()) {
-            key_part(value, &mut out)?;
-        }
+    Ok(Some(Bytes::from_vec(out)))
+}
+
+/// Appends the token and the part of a HASH value.
+fn put_hash(hash: &Attr, out: &mut Vec<u8>) -> Result<(), NoMemory>
+    requires { IsKey (tree_of hash.now) }
+    ensures { OnOk result (out.new.items ≡ out.old.items ++ (to_be_bytes w64 (token_of (tree_of hash.now)) ++ key_bytes (tree_of hash.now))) }
+{
+    put_u64(out, token(hash))?;
+    key_part(hash, out)
+}
+
+/// The value of a key attribute, where it is there and can be a key.
+fn key_value<'i>(item: &'i Item, key: &KeyAttr) -> Option<&'i Attr>
+    ensures { option_map (λ a. tree_of a.now) result ≡ key_value item.now key.now }
+{
+    match item.get(key.name.as_str()) {
+        Some(value) if can_be_key(key.kind, value) => Some(value),
+        _ => None,
     }
-    Ok(Bytes::from_vec(out))
+}
+
+/// Whether it is a value of that kind that isn't empty.
+fn can_be_key(kind: KeyKind, value: &Attr) -> bool
+    ensures { result ≡ can_be_key kind (tree_of value.now) }
+{
+    match kind {
+        KeyKind::S => match value {
+            Attr::S(text) => !text.as_str().is_empty(),
+            _ => false,
+        },
+        KeyKind::N => match value {
+            Attr::N(_) => true,
+            _ => false,
+        },
+        KeyKind::B => match value {
+            Attr::B(bytes) => !bytes.as_slice().is_empty(),
+            _ => false,
+        },
+    }
 }

@@ -12,27 +12,32 @@ use Rattle.alt_value.proofs.Entries.{IsItem-with_pair, IsItem-without}
 use Rattle.alt_value.proofs.Trees.{elements-trees_of, pairs-fields_of}
 
 -- a value behind others
-AreValues-push : (ts : List Tree) (t : Tree) → AreValues (trees_of ts) → IsValue t → AreValues (trees_of (ts ++ t ∷ []))
+AreValues-push : (ts : List Tree) (t : Tree) → AreValues (trees_of ts) → IsValue t
+    → AreValues (trees_of (ts ++ t ∷ []))
 AreValues-push [] t h v = (v, tt)
 AreValues-push (u ∷ us) t h v = (h.0, AreValues-push us t h.1 v)
 
 -- a list of values with one more, where it isn't too long
-pub IsListOfValues-push : (ts : List Tree) (t : Tree) → IsListOfValues ts → IsValue t → IsShort (ts ++ t ∷ [])
+pub IsListOfValues-push : (ts : List Tree) (t : Tree) → IsListOfValues ts → IsValue t
+    → IsShort (ts ++ t ∷ [])
     → IsListOfValues (ts ++ t ∷ [])
 IsListOfValues-push ts t h v short = (AreValues-push ts t h.0 v, short)
 
-AreFields-with_pair : (name : List ℕ) (t : Tree) (ps : List Pair) → IsText name → IsValue t → AreFields (fields_of ps)
+AreFields-with_pair : (name : List ℕ) (t : Tree) (ps : List Pair) → IsText name → IsValue t
+    → AreFields (fields_of ps)
     → AreFields (fields_of (with_pair name t ps))
 AreFields-with_pair name t [] n v h = (n, v, tt)
 AreFields-with_pair name t (q ∷ qs) n v h =
-    elim (text_order name q.0) as (λ o. AreFields (fields_of (by_order o ((name, t) ∷ q ∷ qs) ((q.0, t) ∷ qs) (q ∷ with_pair name t qs)))) [
+    elim (text_order name q.0) as (λ o. AreFields
+    (fields_of (by_order o ((name, t) ∷ q ∷ qs) ((q.0, t) ∷ qs) (q ∷ with_pair name t qs)))) [
       | Less ↦ (n, v, h)
       | Equal ↦ (h.0, v, h.2)
       | Greater ↦ (h.0, h.1, AreFields-with_pair name t qs n v h.2)
     ]
 
 -- an item with that value at a text that isn't empty, where it isn't too long
-pub IsItemOfValues-with_pair : (name : List ℕ) (t : Tree) (ps : List Pair) → 0 < length name → IsText name → IsValue t
+pub IsItemOfValues-with_pair : (name : List ℕ) (t : Tree) (ps : List Pair) → 0 < length name
+    → IsText name → IsValue t
     → IsShort (with_pair name t ps) → IsItemOfValues ps → IsItemOfValues (with_pair name t ps)
 IsItemOfValues-with_pair name t ps some n v short h = record {
   names = IsItem-with_pair name t ps some h.names;
@@ -40,10 +45,12 @@ IsItemOfValues-with_pair name t ps some n v short h = record {
   count = short;
 }
 
-AreFields-where : (p : List ℕ → Bool) (qs : List Pair) → AreFields (fields_of qs) → AreFields (fields_of (where_key text_order p qs))
+AreFields-where : (p : List ℕ → Bool) (qs : List Pair) → AreFields (fields_of qs)
+    → AreFields (fields_of (where_key text_order p qs))
 AreFields-where p [] h = tt
 AreFields-where p (q ∷ qs) h =
-    elim (p q.0) as (λ b. AreFields (fields_of (cond b (q ∷ where_key text_order p qs) (where_key text_order p qs)))) [
+    elim (p q.0) as (λ b. AreFields (fields_of
+    (cond b (q ∷ where_key text_order p qs) (where_key text_order p qs)))) [
       | true ↦ (h.0, h.1, AreFields-where p qs h.2)
       | false ↦ AreFields-where p qs h.2
     ]
@@ -51,17 +58,21 @@ AreFields-where p (q ∷ qs) h =
 fewer-where : (p : List ℕ → Bool) (qs : List Pair) → length (where_key text_order p qs) ≤ length qs
 fewer-where p [] = omega arith
 fewer-where p (q ∷ qs) =
-    elim (p q.0) as (λ b. length (cond b (q ∷ where_key text_order p qs) (where_key text_order p qs)) ≤ suc (length qs)) [
+    elim (p q.0) as (λ b. length (cond b (q ∷ where_key text_order p qs)
+    (where_key text_order p qs)) ≤ suc (length qs)) [
       | true ↦ omega (arith, fewer-where p qs)
       | false ↦ omega (arith, fewer-where p qs)
     ]
 
 -- an item without a name
-pub IsItemOfValues-without : (name : List ℕ) (ps : List Pair) → IsItemOfValues ps → IsItemOfValues (without name ps)
+pub IsItemOfValues-without : (name : List ℕ) (ps : List Pair) → IsItemOfValues ps
+    → IsItemOfValues (without name ps)
 IsItemOfValues-without name ps h = record {
   names = IsItem-without name ps h.names;
   fields = AreFields-where (λ other. not (eq_by_cmp text_order name other)) ps h.fields;
-  count = let few : length (without name ps) ≤ length ps = fewer-where (λ other. not (eq_by_cmp text_order name other)) ps in omega (arith, few, h.count);
+  count = let few : length (without name ps) ≤ length ps =
+      fewer-where (λ other. not (eq_by_cmp text_order name other)) ps in
+      omega (arith, few, h.count);
 }
 
 -- the list of values, and the map of an item's pairs, is a value

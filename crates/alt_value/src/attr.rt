@@ -263,7 +263,8 @@ impl Item {
 /// Where a name stands, or where it is to go.
 fn place(entries: &Vec<Pair>, name: &str) -> Result<usize, usize>
     requires { IsItem (map pair_of entries.now.items) }
-    ensures { MatchResult result (StandsAt name.now entries.now.items) (GoesTo name.now entries.now.items) }
+    ensures { MatchResult result (StandsAt name.now entries.now.items)
+        (GoesTo name.now entries.now.items) }
 {
     let mut low = 0;
     let mut high = entries.len();
@@ -281,7 +282,11 @@ fn place(entries: &Vec<Pair>, name: &str) -> Result<usize, usize>
 /// Puts a value in the place of the one that stands there.
 fn replace(entries: &mut Vec<Pair>, i: usize, a: Attr)
     requires { i < vec_len entries.old }
-    ensures { (d : Entry) → entries.new.items ≡ slice_set entries.old.items i (record (slice_index_or entries.old.items i d) { value = a }) }
+    ensures { (d : Entry) → entries.new.items
+        ≡ slice_set entries.old.items i (record (slice_index_or entries.old.items i d) {
+          value =
+              a;
+        }) }
 {
     entries[i].value = a;
 }

@@ -1,22 +1,23 @@
 -- CreateTable: adds an empty table and answers its description (DynamoDB API Reference, "CreateTable").
-use Rattle.std.specs.Prelude.{ℕ, ◌+◌, ◌≤◌, nat_le, Bool, true, false, ◌==◌, List, [], ◌∷◌, ◌++◌, length, Option, Some, None, is_some, option_and_then, unwrap_or, if◌then◌else◌, codes}
+use Rattle.std.specs.Prelude.{ℕ, ◌+◌, nat_le, Bool, true, false, not, List, [], ◌∷◌, length, Option, is_some, option_and_then, unwrap_or, codes, ◌||◌}
 use Rattle.std.specs.Option.{option_map_or}
 use Rattle.std.specs.FinMap as map
 use Rattle.serde_json.specs.Data.{Members, Items, no_items, item}
 use Rattle.serde_json.specs.Find.{as_array, as_bool, as_object}
 use Rattle.alt_shape.specs.Bodies as bodies
+use Rattle.alt_shape.specs.Refusals.{Answer, not_together, not_built, table_exists, too_many_tables}
 use Rattle.alt_shape.specs.Shape.{given}
-use Rattle.alt_shape.specs.declared.refusal.Refusal.{Refusal}
-use Rattle.alt_shape.specs.declared.refusal.Refusal.TheVariants.{E5, E7, Invalid}
 use Rattle.alt_schema.specs.Described.{description_of}
 use Rattle.alt_schema.specs.Json.{description_json}
-use Rattle.alt_schema.specs.Rules as rules
+use Rattle.alt_schema.specs.Rules.{refusal_of}
 use Rattle.alt_schema.specs.declared.schema.TableSchema.{TableSchema}
-use Rattle.alt_machine.specs.Members.{table_name, table_at}
-use Rattle.alt_machine.specs.Outcomes.{Outcome, does, unless_refused}
-use Rattle.alt_machine.specs.Refusals.{first_refusal, refuse_if, of_shape}
+use Rattle.alt_machine.specs.declared.TheConstants.{MOST_TABLES}
+use Rattle.alt_machine.specs.Body.{of_shape}
+use Rattle.alt_machine.specs.Members.{table_name}
+use Rattle.alt_machine.specs.Outcomes.{Outcome, makes, unless_refused}
+use Rattle.alt_machine.specs.Refusals.{refuse_if, refuse_by}
 use Rattle.alt_machine.specs.Replies.{answers}
-use Rattle.alt_machine.specs.State.{State, new_table}
+use Rattle.alt_machine.specs.State.{State, new_table, families_of}
 
 -- ---- members that don't go together, and what isn't built yet
 
@@ -24,14 +25,24 @@ use Rattle.alt_machine.specs.State.{State, new_table}
 abbrev pub enables : Members → Option Bool
 enables ms = option_and_then as_bool (given (codes "StreamEnabled") ms)
 
--- a stream shows something exactly where it is enabled
+-- whether it is said what the stream shows
+abbrev pub shows : Members → Bool
+shows ms = is_some (given (codes "StreamViewType") ms)
+
+-- a stream shows something exactly where it is enabled; that is so or it isn't
+abbrev pub is_odd : Bool → Bool → Bool
+is_odd true shows = not shows
+is_odd false shows = shows
+
+-- a stream that is enabled and shows nothing, or the other way round
 abbrev pub mismatched : Members → Bool
-mismatched ms = option_map_or (λ on. if on then (if is_some (given (codes "StreamViewType") ms) then false else true) else is_some (given (codes "StreamViewType") ms)) (enables ms) false
+mismatched ms = option_map_or (λ on. is_odd on (shows ms)) (enables ms) false
 
 -- the object at StreamSpecification passes a test
 abbrev pub of_stream : (Members → Bool) → Members → Bool
 of_stream test ms = option_map_or test (option_and_then as_object (given (codes "StreamSpecification") ms)) false
 
+-- an array has elements
 abbrev pub some_items : Items → Bool
 some_items no_items = false
 some_items (item d ds) = true
@@ -43,45 +54,41 @@ lists_any name ms = option_map_or some_items (option_and_then as_array (given na
 -- an index or a stream is asked for; they aren't built yet
 abbrev pub is_unbuilt : Members → Bool
 is_unbuilt ms =
-    if lists_any (codes "LocalSecondaryIndexes") ms then true
-    else (if lists_any (codes "GlobalSecondaryIndexes") ms then true
-    else of_stream (λ specification. unwrap_or (enables specification) false) ms)
+    lists_any (codes "LocalSecondaryIndexes") ms
+    || (lists_any (codes "GlobalSecondaryIndexes") ms || of_stream (λ specification. unwrap_or (enables specification) false) ms)
 
 -- ---- the operation
 
--- the most tables
-abbrev pub most_tables : ℕ
-most_tables = 256
-
 -- what the body alone says, before its names, keys and indexes are read
-abbrev pub of_body : Members → List (Option Refusal)
+abbrev pub of_body : Members → List (Option Answer)
 of_body ms =
     of_shape (bodies.create_table ms) ∷
-    refuse_if (of_stream mismatched ms) (Invalid 3) ∷
-    refuse_if (is_unbuilt ms) (Invalid 0) ∷ []
+    refuse_if (of_stream mismatched ms) not_together ∷
+    refuse_if (is_unbuilt ms) not_built ∷ []
 
-abbrev pub refusals : State → Members → List (Option Refusal)
-refusals s ms = of_body ms ++ (
-    rules.refusal_of ms ∷
-    refuse_if (is_some (table_at s ms)) E5 ∷
-    refuse_if (nat_le most_tables (map.len s.tables)) E7 ∷ [])
+-- what it says of names, keys and indexes, and then what the tables say
+abbrev pub of_tables : State → Members → List (Option Answer)
+of_tables s ms =
+    refuse_by (refusal_of ms) ∷
+    refuse_if (map.contains_key s.tables (table_name ms)) table_exists ∷
+    refuse_if (nat_le MOST_TABLES (map.len s.tables)) too_many_tables ∷ []
 
--- the family after those of a table: its own, one for each index and one for its stream
-abbrev pub family_after : TableSchema → ℕ
-family_after d = d.family + (1 + (length d.locals + (length d.globals + option_map_or (λ _. 1) d.view 0)))
-
--- the state with an empty table of this description
+-- the state with an empty table of this description, which takes the next number and the next families
 abbrev pub with_table : State → TableSchema → State
 with_table s d = record {
   tables = map.insert s.tables d.name (new_table d);
   next_number = s.next_number + 1;
-  next_family = family_after d;
+  next_family = s.next_family + length (families_of d);
 }
 
--- the description of the table that is made
-abbrev pub made : State → ℕ → Members → TableSchema
-made s moment ms = description_of ms moment s.next_number s.next_family
+-- a description, as it is answered
+abbrev pub created : TableSchema → Answer
+created d = answers (codes "TableDescription") (description_json d (codes "ACTIVE"))
+
+-- the table of this description is made
+abbrev pub creates : State → TableSchema → Outcome
+creates s d = makes (with_table s d) (created d)
 
 unfoldable pub create_table : State → ℕ → Members → Outcome
-create_table s moment ms = unless_refused s (first_refusal (refusals s ms))
-    (does s (with_table s (made s moment ms) ∷ []) (answers (codes "TableDescription") (description_json (made s moment ms) (codes "ACTIVE"))))
+create_table s moment ms = unless_refused (of_body ms) (unless_refused (of_tables s ms)
+    (creates s (description_of ms moment s.next_number s.next_family)))

@@ -5,4 +5,5 @@ use Rattle.alt_shape.proofs.checking.check.Given as goal
 
 -- the rules before this place are kept
 abbrev pub invariant-loop-place : goal.invariant-loop-place
-invariant-loop-place l = (k : ℕ) → k < l.place → broken_at l.rules (members_view l.body.entries) k ≡ None
+invariant-loop-place l = (k : ℕ) → k < l.place → broken_at l.rules (members_view l.body.entries) k
+    ≡ None

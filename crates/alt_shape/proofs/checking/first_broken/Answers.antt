@@ -5,7 +5,10 @@ use Rattle.alt_shape.proofs.Places.{first_unmet_none, first_unmet_some}
 use Rattle.alt_shape.proofs.checking.first_broken.Goals as goal
 
 pub returns-in-Ok : goal.returns-in-Ok
-returns-in-Ok c = sym (first_unmet_none c.args.rules.now (members_view c.args.body.now.entries) c.in-Ok.ensures.ok)
+returns-in-Ok c = sym (first_unmet_none c.args.rules.now
+    (members_view c.args.body.now.entries) c.in-Ok.ensures.ok)
 
 pub returns-in-Err : goal.returns-in-Err
-returns-in-Err c = sym (first_unmet_some c.args.rules.now (members_view c.args.body.now.entries) _ _ c.in-Err.ensures.first.broken c.in-Err.ensures.first.least)
+returns-in-Err c = sym (first_unmet_some c.args.rules.now
+    (members_view c.args.body.now.entries) _ _ c.in-Err.ensures.first.broken
+    c.in-Err.ensures.first.least)

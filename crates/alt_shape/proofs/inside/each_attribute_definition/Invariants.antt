@@ -6,4 +6,6 @@ use Rattle.alt_shape.proofs.inside.each_attribute_definition.Given as goal
 
 -- the first fault of all the elements is that of those from here on
 abbrev pub invariant-loop-element : goal.invariant-loop-element
-invariant-loop-element l = in_items (object_fault bodies.attribute_definition) (items_view l.elements) ≡ in_items (object_fault bodies.attribute_definition) (items_view (drop l.element-index l.elements))
+invariant-loop-element l = in_items (object_fault bodies.attribute_definition)
+    (items_view l.elements) ≡ in_items (object_fault bodies.attribute_definition)
+    (items_view (drop l.element-index l.elements))

@@ -6,4 +6,6 @@ use Rattle.alt_shape.proofs.inside.each_table_of_keys.Given as goal
 
 -- the first fault of all the tables is that of those that are left
 abbrev pub invariant-loop-asked : goal.invariant-loop-asked
-invariant-loop-asked l = in_members (object_fault bodies.keys_and_attributes) (members_view l.tables.entries) ≡ in_members (object_fault bodies.keys_and_attributes) (members_view l.asked-iterator)
+invariant-loop-asked l = in_members (object_fault bodies.keys_and_attributes)
+    (members_view l.tables.entries)
+    ≡ in_members (object_fault bodies.keys_and_attributes) (members_view l.asked-iterator)

@@ -6,4 +6,7 @@ use Rattle.alt_shape.proofs.inside.each_table_of_writes.Given as goal
 
 -- the first fault of all the tables is that of those that are left
 abbrev pub invariant-loop-requests : goal.invariant-loop-requests
-invariant-loop-requests l = in_members (array_fault (in_items (object_fault bodies.write_request))) (members_view l.tables.entries) ≡ in_members (array_fault (in_items (object_fault bodies.write_request))) (members_view l.requests-iterator)
+invariant-loop-requests l = in_members (array_fault (in_items (object_fault bodies.write_request)))
+    (members_view l.tables.entries)
+    ≡ in_members (array_fault (in_items (object_fault bodies.write_request)))
+    (members_view l.requests-iterator)

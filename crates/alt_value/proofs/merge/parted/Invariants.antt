@@ -8,7 +8,8 @@ abbrev pub invariant-loop-i : goal.invariant-loop-i
 invariant-loop-i g l = record {
   left : l.i ≤ length l.taken;
   right : l.j ≤ length l.set;
-  gives : Gives g.K.Ord.cmp g.met.K.Ord.total (without_members g.K.Ord.cmp) l.taken l.set l.out.items l.i l.j;
+  gives : Gives g.K.Ord.cmp g.met.K.Ord.total
+      (without_members g.K.Ord.cmp) l.taken l.set l.out.items l.i l.j;
 }
 
 abbrev pub decreases-loop-i : goal.decreases-loop-i

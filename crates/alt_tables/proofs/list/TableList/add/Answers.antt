@@ -1,5 +1,5 @@
 -- The new entry goes to the place of its name.
-use Rattle.std.proofs.Common.{◌≡◌, sym, ap, ◌∙◌, ℕ, List}
+use Rattle.std.proofs.Common.{◌≡◌, sym, ap, ◌∙◌, ℕ, List, []}
 use Rattle.std.specs.FinMap as map
 use Rattle.alt_machine.specs.State.{Table, Texts}
 use Rattle.alt_tables.specs.declared.list.TableEntry.{TableEntry}
@@ -31,4 +31,4 @@ returns-clause-ok c =
     (inserted c).1
     ∙ ap (λ (m : Texts Table). map.insert m c.as_str.result.now (table_of (new_entry c))) c.self.view_is
     ∙ ap (λ (n : List ℕ). map.insert c.args.self.now n (table_of (new_entry c))) c.as_str.ensures.same
-    ∙ ap (λ (items : Texts _). map.insert c.args.self.now c.args.schema.name (record { description = c.args.schema; items = items })) c.new-items.ensures.empty
+    ∙ ap (λ (items : Texts _). map.insert c.args.self.now c.args.schema.name (record { description = c.args.schema; items = items; changes = [] })) c.new-items.ensures.empty

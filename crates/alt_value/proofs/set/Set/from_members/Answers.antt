@@ -7,6 +7,7 @@ use Rattle.alt_value.proofs.set.Set.from_members.Goals as goal
 pub invariant_of-result : goal.invariant_of-result
 invariant_of-result g c = (
   subst (AllByRecursion g.K.Member.IsMember) c.as_slice.ensures.value c.each_held.ensures,
-  is_rising-told g.K.Ord.cmp g.met.K.Ord.total _ _ c.gather-risen.result c.if-risen.true c.gather-risen.ensures,
+  is_rising-told g.K.Ord.cmp g.met.K.Ord.total _ _ c.gather-risen.result c.if-risen.true
+      c.gather-risen.ensures,
   omega (arith, c.as_slice.ensures.len, c.as_slice.type_inv),
 )

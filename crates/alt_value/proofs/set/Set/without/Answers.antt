@@ -13,6 +13,8 @@ parted-requires g c = (
 
 pub invariant_of-result : goal.invariant_of-result
 invariant_of-result g c =
-    are-without_members g.K.Ord.cmp g.met.K.Ord.total g.K.Member.IsMember c.as_slice.result.now c.as_slice-2.result.now c.in_ok-members.members.items c.in_ok-members.ensures
-    (subst (AreMembers g.K.Member.IsMember g.K.Ord.cmp) (sym c.as_slice-2.ensures.same) c.as_slice-2.ensures.members)
+    are-without_members g.K.Ord.cmp g.met.K.Ord.total g.K.Member.IsMember c.as_slice.result.now
+    c.as_slice-2.result.now c.in_ok-members.members.items c.in_ok-members.ensures
+    (subst (AreMembers g.K.Member.IsMember g.K.Ord.cmp)
+    (sym c.as_slice-2.ensures.same) c.as_slice-2.ensures.members)
     (omega (arith, c.len-count.type_inv, c.len-count.ensures))

@@ -1,0 +1,14 @@
+pub mod Families
+pub mod Tests
+pub mod Same
+pub mod Lacks
+pub mod ReadItems
+pub mod Looks
+pub mod Descriptions
+pub mod States
+pub mod Chains
+pub mod Targets
+pub mod Made
+pub mod Creations
+pub mod Puts
+pub mod Steps

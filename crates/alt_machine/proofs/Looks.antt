@@ -1,0 +1,33 @@
+-- What is found after a change of a finite map of texts.
+use Rattle.std.proofs.Common.{◌≡◌, refl, sym, ◌∙◌, ℕ, Bool, true, false, cond, List, Some, None, inl, inr, ◌⊎◌, is_eq}
+use Rattle.std.specs.declared.cmp.Ordering.{Ordering}
+use Rattle.std.specs.declared.cmp.Ordering.TheVariants.{Less, Equal, Greater}
+use Rattle.std.specs.FinMap.{get-insert, get-remove, get-empty}
+use Rattle.std.specs.FinMap as map
+use Rattle.alt_machine.specs.State.{Texts}
+use Rattle.alt_value.specs.Members.{text_order}
+use Rattle.alt_value.proofs.Texts.{text_total, text_apart}
+
+same_Some : {A : Type 0} (x y : A) → Some x ≡ Some y → x ≡ y
+same_Some x y e = cc
+
+module _ {X : Type 0} (m : Texts X) (k q : List ℕ) (x : X) where
+  -- what is found after an insertion is what was put there, or was there
+  pub at_insert : (v : X) → map.get (map.insert m k v) q ≡ Some x → ((q ≡ k) × (v ≡ x)) ⊎ (map.get m q ≡ Some x)
+  at_insert v e = by_order (text_order q k) refl (sym (get-insert text_total m k v q) ∙ e)
+    where
+      by_order : (o : Ordering) → text_order q k ≡ o → cond (is_eq o) (Some v) (map.get m q) ≡ Some x → ((q ≡ k) × (v ≡ x)) ⊎ (map.get m q ≡ Some x)
+      by_order Less t f = inr f
+      by_order Equal t f = inl (text_apart q k t, same_Some v x f)
+      by_order Greater t f = inr f
+
+  -- what is found after a removal was there
+  pub at_remove : map.get (map.remove m k) q ≡ Some x → map.get m q ≡ Some x
+  at_remove e = by_test (is_eq (text_order q k)) (sym (get-remove text_total m k q) ∙ e)
+    where
+      by_test : (b : Bool) → cond b None (map.get m q) ≡ Some x → map.get m q ≡ Some x
+      by_test true f = absurd (let g : ⊥ = cc in g)
+      by_test false f = f
+
+pub not_there : {X : Type 0} (k : List ℕ) (x : X) → map.get (map.empty {X = X} {R = text_order}) k ≡ Some x → ⊥
+not_there {X} k x e = let f : None ≡ Some x = sym (get-empty {X = X} text_order k) ∙ e in cc

@@ -1,0 +1,4 @@
+pub mod Carrying
+pub mod Named
+pub mod Reaching
+pub mod Walks

@@ -1,0 +1,61 @@
+-- Each step in turn, as the machine has it.
+use Rattle.std.proofs.Common.{List, Option, sym, subst, arith}
+use Rattle.std.specs.FinMap as map
+use Rattle.serde_json.specs.Data.{Members}
+use Rattle.serde_json.specs.View.{members_view}
+use Rattle.alt_machine.specs.Body.{body_refusals}
+use Rattle.alt_machine.specs.Members.{table_name}
+use Rattle.alt_machine.specs.Targets.{place_in}
+use Rattle.alt_request.specs.Steps.{rules_of}
+use Rattle.alt_request.specs.Targets.{OnItem}
+use Rattle.alt_request.specs.declared.body.Rules.{Rules}
+use Rattle.alt_shape.specs.Refusals.{Answer}
+use Rattle.alt_shape.specs.declared.rule.Broken.{Broken}
+use Rattle.alt_request.proofs.Named.{some_found}
+use Rattle.alt_request.proofs.Reaching.{err_is, no_table, no_place, too_long}
+use Rattle.alt_shape.specs.Refusals.{not_found, bad_key}
+use Rattle.alt_tables.specs.Stands.{catalog_of}
+use Rattle.alt_request.proofs.targets.item_target.Goals as goal
+
+abbrev tests_of : Option Broken → Rules → Members → List (Option Answer)
+tests_of broken rules ms = body_refusals broken (rules_of rules) ms
+
+pub returns-in_err-schema : goal.returns-in_err-schema
+returns-in_err-schema c = record {
+  target = subst (λ r. OnItem (tests_of c.args.broken c.args.rules.now (members_view c.args.body.now.entries)) c.args.sought (catalog_of c.args.tables.now) (members_view c.args.body.now.entries) r)
+      (sym (err_is c.from_residual-in_err-schema.result c.in_err-schema.field-0.0 c.from_residual-in_err-schema.ensures))
+      (no_table (tests_of c.args.broken c.args.rules.now (members_view c.args.body.now.entries)) c.args.sought (catalog_of c.args.tables.now) (members_view c.args.body.now.entries) c.in_ok-body_refusal.ensures.tested
+      c.in_ok-item.item c.in_ok-item.ensures.read c.in_err-schema.field-0.0 c.in_err-schema.ensures.found);
+}
+
+pub returns-in_err-place : goal.returns-in_err-place
+returns-in_err-place c = record {
+  target = subst (λ r. OnItem (tests_of c.args.broken c.args.rules.now (members_view c.args.body.now.entries)) c.args.sought (catalog_of c.args.tables.now) (members_view c.args.body.now.entries) r)
+      (sym (err_is c.from_residual-in_err-place.result c.in_err-place.field-0.0 c.from_residual-in_err-place.ensures))
+      (no_place (tests_of c.args.broken c.args.rules.now (members_view c.args.body.now.entries)) c.args.sought (catalog_of c.args.tables.now) (members_view c.args.body.now.entries) c.in_ok-body_refusal.ensures.tested
+      c.in_ok-item.item c.in_ok-item.ensures.read c.in_ok-schema.schema.now c.in_ok-schema.ensures.found c.in_err-place.field-0.0 c.in_err-place.ensures.place);
+}
+
+pub returns-then-not-key_fits : goal.returns-then-not-key_fits
+returns-then-not-key_fits c = record {
+  target = (
+      omega arith,
+      too_long (tests_of c.args.broken c.args.rules.now (members_view c.args.body.now.entries)) c.args.sought (catalog_of c.args.tables.now) (members_view c.args.body.now.entries) c.in_ok-body_refusal.ensures.tested
+          c.in_ok-item.item c.in_ok-item.ensures.read c.in_ok-schema.schema.now c.in_ok-schema.ensures.found c.in_ok-place.place c.in_ok-place.ensures.place
+          (sym c.if-not-key_fits.ensures.fits),
+    );
+}
+
+pub returns : goal.returns
+returns c = record {
+  target = record {
+    description = c.in_ok-schema.schema.now;
+    there = some_found not_found (map.get (catalog_of c.args.tables.now) (table_name (members_view c.args.body.now.entries))) c.in_ok-schema.schema.now c.in_ok-schema.ensures.found;
+    placed = record {
+      body = c.in_ok-body_refusal.ensures.tested;
+      read = c.in_ok-item.ensures.read;
+      at = some_found bad_key (place_in c.args.sought c.in_ok-schema.schema.now c.in_ok-item.item) c.in_ok-place.place c.in_ok-place.ensures.place;
+      fits = sym c.if-not-key_fits.ensures.fits;
+    };
+  };
+}

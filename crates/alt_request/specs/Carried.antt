@@ -1,0 +1,37 @@
+-- The contract of an operation.
+use Rattle.std.specs.Prelude.{◌≡◌, false, Option, Some, None, Result, Ok, Err}
+use Rattle.serde_json.specs.View.{view}
+use Rattle.serde_json.specs.Written.{has_float}
+use Rattle.alt_machine.specs.Outcomes.{Outcome, last_state}
+use Rattle.alt_machine.specs.State.{State}
+use Rattle.alt_machine.specs.Wanted.{wanted}
+use Rattle.alt_request.specs.declared.stop.Stop.{Stop}
+use Rattle.alt_request.specs.declared.stop.Stop.TheVariants.{Refused, Fault}
+use Rattle.alt_shape.specs.Refusals.{Answer, answer_of, refused, IsKnown}
+use Rattle.alt_shape.specs.declared.refusal.Reply.{Reply}
+use Rattle.alt_tables.specs.Faults.{BreakOff}
+
+-- Below, `old` and `now` say for which states the tables stand before and after a call.
+
+-- The answer is that of the outcome, the tables stand for the state after its last write, and no write lacked a number or a family.
+pub record IsAnswered (now : State → Type 0) (s : State) (outcome : Outcome) (answer : Answer) : Type 0 where
+  pub reply : answer ≡ outcome.answer
+  pub state : now (last_state s outcome.atoms)
+  pub enough : wanted s outcome ≡ None
+
+-- A reply and a refusal are the outcome's answer; after a fault the writes broke off.
+abbrev pub Does : (State → Type 0) → State → Outcome → Result Reply Stop → Type 0
+Does now s outcome (Ok reply) = IsAnswered now s outcome (answer_of reply)
+Does now s outcome (Err (Refused r)) = IsAnswered now s outcome (refused r)
+Does now s outcome (Err (Fault fault)) = BreakOff now outcome.wants s outcome.atoms fault
+
+-- No float stands in a reply, so its text is the compact one, and a refusal has a message.
+abbrev pub IsPlain : Result Reply Stop → Type 0
+IsPlain (Ok reply) = has_float (view reply.body) ≡ false
+IsPlain (Err (Refused r)) = IsKnown r
+IsPlain (Err (Fault fault)) = Unit {0}
+
+-- A call carries a request out, which has this outcome in each state for which the tables stood.
+pub record Carries (outcome : State → Outcome) (old now : State → Type 0) (result : Result Reply Stop) : Type 0 where
+  pub does : (s : State) → old s → Does now s (outcome s) result
+  pub plain : IsPlain result

@@ -1,0 +1,39 @@
+-- What an operation goes on with, as the machine does in each state that has these tables.
+use Rattle.std.specs.Prelude.{◌≡◌, ℕ, List, Option, Some, None, Result, Ok, Err}
+use Rattle.std.specs.Borrow.{Bor}
+use Rattle.std.specs.FinMap as map
+use Rattle.serde_json.specs.Data.{Members}
+use Rattle.alt_machine.specs.declared.Sought.{Sought}
+use Rattle.alt_machine.specs.Members.{table_name}
+use Rattle.alt_machine.specs.Outcomes.{Outcome, refuses}
+use Rattle.alt_machine.specs.Refusals.{first_answer}
+use Rattle.alt_machine.specs.State.{State, Table, Texts, descriptions}
+use Rattle.alt_machine.specs.Targets.{on_table, on_item, IsPlaced}
+use Rattle.alt_request.specs.declared.stop.Stop.{Stop}
+use Rattle.alt_request.specs.declared.stop.Stop.TheVariants.{Refused, Fault}
+use Rattle.alt_request.specs.declared.targets.Target.{Target}
+use Rattle.alt_schema.specs.declared.schema.TableSchema.{TableSchema}
+use Rattle.alt_shape.specs.Refusals.{Answer, IsKnown}
+use Rattle.alt_tables.specs.Faults.{IsReadFault}
+use Rattle.alt_value.specs.Tree.{Pair}
+
+-- Nothing refuses the body, and that is the description of the table that it names; or the machine refuses the request too, whatever
+-- its operation goes on to do.
+abbrev pub OnTable : List (Option Answer) → Texts TableSchema → Members → Result (Bor TableSchema) Stop → Type 0
+OnTable tests catalog ms (Ok d) = (first_answer tests ≡ None) × (map.get catalog (table_name ms) ≡ Some d.now)
+OnTable tests catalog ms (Err (Refused r)) =
+    IsKnown r × ((s : State) (go : Table → Outcome) → descriptions s.tables ≡ catalog → on_table tests s ms go ≡ refuses r)
+OnTable tests catalog ms (Err (Fault f)) = IsReadFault f
+
+-- the item or the key has its place in the table that is named
+pub record IsAt (tests : List (Option Answer)) (sought : Sought) (catalog : Texts TableSchema) (ms : Members) (target : Target) : Type 0 where
+  pub description : TableSchema
+  pub there : map.get catalog (table_name ms) ≡ Some description
+  pub placed : IsPlaced tests sought ms description target.item target.place
+
+-- That is so; or the machine refuses the request too, whatever its operation goes on to do.
+abbrev pub OnItem : List (Option Answer) → Sought → Texts TableSchema → Members → Result Target Stop → Type 0
+OnItem tests sought catalog ms (Ok target) = IsAt tests sought catalog ms target
+OnItem tests sought catalog ms (Err (Refused r)) =
+    IsKnown r × ((s : State) (go : List Pair → Table → List ℕ → Outcome) → descriptions s.tables ≡ catalog → on_item tests sought s ms go ≡ refuses r)
+OnItem tests sought catalog ms (Err (Fault f)) = IsReadFault f

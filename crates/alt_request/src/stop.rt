@@ -1,0 +1,45 @@
+//! How an operation stops before its end.
+
+ghost use Rattle.std.specs.Prelude.{◌≡◌};
+
+use alt_base::NoMemory;
+use alt_shape::Refusal;
+use alt_tables::TableFault;
+
+/// A request is refused, or a fault ends the run.
+#[derive(Clone, Copy, Debug, PartialEq, Eq, Drop)]
+pub enum Stop {
+    Refused(Refusal),
+    Fault(TableFault),
+}
+
+impl From<Refusal> for Stop {
+    ghost use Rattle.alt_request.specs.declared.stop.Stop.TheVariants as stop;
+
+    ghost from_gives = { λ refusal s. s ≡ stop.Refused refusal };
+
+    fn from(refusal: Refusal) -> Self {
+        Stop::Refused(refusal)
+    }
+}
+
+impl From<TableFault> for Stop {
+    ghost use Rattle.alt_request.specs.declared.stop.Stop.TheVariants as stop;
+
+    ghost from_gives = { λ fault s. s ≡ stop.Fault fault };
+
+    fn from(fault: TableFault) -> Self {
+        Stop::Fault(fault)
+    }
+}
+
+impl From<NoMemory> for Stop {
+    ghost use Rattle.alt_request.specs.declared.stop.Stop.TheVariants as stop;
+    ghost use Rattle.alt_tables.specs.declared.faults.TableFault.TheVariants as fault;
+
+    ghost from_gives = { λ _ s. s ≡ stop.Fault fault.NoMemory };
+
+    fn from(_: NoMemory) -> Self {
+        Stop::Fault(TableFault::NoMemory)
+    }
+}

@@ -1,0 +1,63 @@
+//! What an operation goes on with: the table that its body names, or an item or a key and its place there.
+
+ghost use Rattle.std.specs.Prelude.{◌≡◌};
+ghost use Rattle.serde_json.specs.View.{members_view};
+ghost use Rattle.alt_machine.specs.Body.{body_refusals};
+ghost use Rattle.alt_request.specs.Steps.{rules_of};
+ghost use Rattle.alt_request.specs.Targets.{OnTable, OnItem};
+ghost use Rattle.alt_tables.specs.Stands.{catalog_of};
+
+use crate::body::{Rules, body_refusal, table_of};
+use crate::items::{item_at, key_fits, place_in};
+use crate::stop::Stop;
+use alt_fields::Bytes;
+use alt_machine::Sought;
+use alt_schema::TableSchema;
+use alt_shape::{Broken, Refusal};
+use alt_tables::Tables;
+use alt_value::Item;
+use serde_json::{Map, Value};
+use std::alloc::Global;
+
+/// An item or a key, and its place in its table.
+#[derive(Drop)]
+pub struct Target {
+    pub item: Item,
+    pub place: Bytes,
+}
+
+/// The table that a body names, where nothing refuses the body.
+pub fn table_target<'t>(
+    tables: &'t Tables,
+    body: &Map<String, Value>,
+    broken: Option<Broken>,
+    rules: &Rules,
+) -> Result<&'t TableSchema, Stop>
+    ensures target { OnTable (body_refusals broken (rules_of rules.now) (members_view body.now.entries))
+        (catalog_of tables.now) (members_view body.now.entries) result }
+{
+    body_refusal(broken, rules, body)?;
+    table_of(tables, body)
+}
+
+/// The item or the key in a body and its place in the table that the body names, where nothing refuses them.
+pub fn item_target(
+    alloc: Global,
+    tables: &Tables,
+    body: &Map<String, Value>,
+    broken: Option<Broken>,
+    rules: &Rules,
+    sought: Sought,
+) -> Result<Target, Stop>
+    ensures target { OnItem (body_refusals broken (rules_of rules.now) (members_view body.now.entries)) sought
+        (catalog_of tables.now) (members_view body.now.entries) result }
+{
+    body_refusal(broken, rules, body)?;
+    let item = item_at(alloc, body, sought)?;
+    let schema = table_of(tables, body)?;
+    let place = place_in(alloc, sought, schema, &item)?;
+    if !key_fits(schema, &item) {
+        return Err(Stop::Refused(Refusal::KEY_TOO_LONG));
+    }
+    Ok(Target { item, place })
+}

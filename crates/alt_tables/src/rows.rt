@@ -1,0 +1,115 @@
+//! The items of tables: what stands at a place, and what is to stand there.
+
+ghost use Rattle.std.specs.Prelude.{◌≡◌, true, None, Some, IfOk, IfErr, IfSome, OnOk, option_map};
+ghost use Rattle.std.specs.FinMap as map;
+ghost use Rattle.alt_machine.specs.Outcomes.{a_number};
+ghost use Rattle.alt_machine.specs.Same.{is_same};
+ghost use Rattle.alt_machine.specs.State.{State, Table};
+ghost use Rattle.alt_machine.specs.Valid.{IsStored};
+ghost use Rattle.alt_machine.specs.Writes.{item_writes};
+ghost use Rattle.alt_schema.specs.declared.schema.TableSchema.{TableSchema};
+ghost use Rattle.alt_tables.specs.Faults.{IsReadFault, Writes};
+ghost use Rattle.alt_tables.specs.Found.{IsFoundIn, number_taken};
+ghost use Rattle.alt_tables.specs.Stands.{Stands, KeepsCatalog, catalog_of, number_of};
+
+use crate::TableFault;
+use crate::tables::Tables;
+use alt_base::NoMemory;
+use alt_disk::Disk;
+use alt_fields::Bytes;
+use alt_machine::NUMBERS_END;
+use alt_value::{Item, item_equal};
+
+/// What was found at a place of a table. A write takes it back.
+#[derive(Drop)]
+pub struct Found {
+    pub place: Bytes,
+    pub item: Option<Item>,
+}
+
+impl Tables {
+    /// What stands at a place of a table that is there.
+    pub fn find<D: Disk>(
+        &mut self,
+        disk: &mut D,
+        table: &str,
+        place: Bytes,
+    ) -> Result<Found, TableFault>
+        requires there { map.contains_key (catalog_of self.old) table.now ≡ true }
+        ensures place { IfOk result (λ found. found.place ≡ place) }
+        ensures item { (s : State) → Stands (D.state disk.old) self.old s → IfOk result (IsFoundIn s table.now) }
+        ensures stays { (s : State) → Stands (D.state disk.old) self.old s → Stands (D.state disk.new) self.new s }
+        ensures catalog { KeepsCatalog self.old self.new }
+        ensures cause { IfErr result IsReadFault }
+        ensures disk { D.state disk.new ≡ D.state disk.old }
+    {
+        let _ = disk;
+        let Some(entry) = self.list.get(table) else {
+            return Ok(Found { place, item: None });
+        };
+        let item = match copy_of(entry.items.get(&place)) {
+            Ok(item) => item,
+            Err(_) => return Err(TableFault::NoMemory),
+        };
+        Ok(Found { place, item })
+    }
+
+    /// Leaves `new` at the place of what was found in a table that is there, or nothing. The answer is the number that the write
+    /// took, and `None` exactly where there was nothing to write.
+    pub fn write<D: Disk>(
+        &mut self,
+        disk: &mut D,
+        table: &str,
+        found: Found,
+        new: Option<Item>,
+        moment: u64,
+    ) -> Result<Option<u64>, TableFault>
+        requires there { map.contains_key (catalog_of self.old) table.now ≡ true }
+        requires found { (s : State) → Stands (D.state disk.old) self.old s → IsFoundIn s table.now found }
+        requires new { (d : TableSchema) → map.get (catalog_of self.old) table.now ≡ Some d → IfSome new (IsStored d found.place) }
+        ensures writes { (s : State) (t : Table) → Stands (D.state disk.old) self.old s → map.get s.tables table.now ≡ Some t
+            → Writes (Stands (D.state disk.new) self.new) a_number s (item_writes s moment table.now t found.place new) result }
+        ensures number { (s : State) (t : Table) → Stands (D.state disk.old) self.old s → map.get s.tables table.now ≡ Some t
+            → IfOk result (λ n. n ≡ number_taken (number_of self.old) (item_writes s moment table.now t found.place new)) }
+        ensures disk { D.state disk.new ≡ D.state disk.old }
+    {
+        let _ = disk;
+        let _ = moment;
+        if same(&found.item, &new) {
+            return Ok(None);
+        }
+        if self.number >= NUMBERS_END {
+            return Err(TableFault::Spent {
+                number: self.number,
+            });
+        }
+        match self.list.write(table, found.place, new) {
+            Ok(()) => {}
+            Err(_) => return Err(TableFault::NoMemory),
+        }
+        let number = self.number;
+        self.number += 1;
+        Ok(Some(number))
+    }
+}
+
+/// An item of its own, where one is given.
+fn copy_of(item: Option<&Item>) -> Result<Option<Item>, NoMemory>
+    ensures { IfOk result (λ o. o ≡ option_map (λ i. i.now) item.entry) }
+{
+    match item {
+        Some(item) => Ok(Some(item.copy()?)),
+        None => Ok(None),
+    }
+}
+
+/// Whether both are one item, or neither is there.
+fn same(old: &Option<Item>, new: &Option<Item>) -> bool
+    ensures { result ≡ is_same old.now new.now }
+{
+    match (old, new) {
+        (None, None) => true,
+        (Some(old), Some(new)) => item_equal(old, new),
+        _ => false,
+    }
+}

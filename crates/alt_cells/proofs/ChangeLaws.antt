@@ -5,7 +5,7 @@ use Rattle.std.proofs.lemmas.Bool.Decides.{nat_tests}
 use Rattle.std.specs.Prelude.{◌==◌, if◌then◌else◌, option_and_then, option_map, unwrap_or, nat_lt}
 use Rattle.std.specs.declared.cmp.Ordering.TheVariants.{Less}
 use Rattle.std.specs.Ordering.{nat_cmp, ordering_then}
-use Rattle.std.specs.FinMap.{FinMap, entries, entries_sorted, empty, get, len, get-from_sorted, get-empty, len-empty, empty_of_len, same_map}
+use Rattle.std.specs.FinMap.{entries, entries_sorted, empty, get, len, get-from_sorted, get-empty, len-empty, empty_of_len, same_map}
 use Rattle.std.specs.FinMap.Entries.{by_order}
 use Rattle.alt_cells.specs.declared.batch.RowChange.{RowChange}
 use Rattle.alt_cells.specs.declared.cell.Cell.{Cell}
@@ -15,7 +15,7 @@ use Rattle.alt_cells.specs.Cells.{cell_cmp, value_cmp, greater}
 use Rattle.alt_cells.specs.Joined.{either}
 use Rattle.alt_cells.specs.Rows.{join_row}
 use Rattle.alt_cells.specs.Shown.{value_shown, shown_at, columns_shown, row_shown}
-use Rattle.alt_cells.specs.Changes.{Columns, cell_at, row_of_change, given_to, with_columns, as_shown, columns_of, written, IsBelow, change_between, CanShow}
+use Rattle.alt_cells.specs.Changes.{Columns, cell_at, row_of_change, given_to, as_shown, columns_of, written, IsBelow, change_between, CanShow}
 use Rattle.alt_cells.proofs.Entries.{either_none}
 use Rattle.alt_cells.proofs.CellLaws.{key_total, key_exact}
 use Rattle.alt_cells.proofs.GivenLaws.{get-cells_given, get-with_columns, columns_between, columns_made}
@@ -69,7 +69,8 @@ shown_here gone number None v k h = stays_shown gone number v h
 shown_here gone number (Some c) v k h =
     ap (value_shown gone) (later_wins c (cell_at number v) (k c refl)) ∙ stays_shown gone number v h
 
--- the value shown at a column after a change: that of the change, or else what was shown if the row isn't cleared
+-- the value shown at a column after a change: that of the change, or else what was shown, unless the
+-- row is cleared
 shown_by : (clear : Bool) (gone : Option ℕ) (number : ℕ) (o : Option Cell)
     (v : Option (Option (List ℕ)))
     → ((g : ℕ) → gone ≡ Some g → g < number) → ((c : Cell) → o ≡ Some c → c.at < number)

@@ -8,13 +8,12 @@ use Rattle.std.specs.Cmp.Lexicographic.{bytes_decides}
 use Rattle.std.specs.declared.cmp.Ordering.{Ordering}
 use Rattle.std.specs.declared.cmp.Ordering.TheVariants.{Less, Equal, Greater}
 use Rattle.std.specs.Ordering.{eq_by_cmp, ordering_then}
-use Rattle.std.specs.FinMap.{get, get-from_sorted, get-insert, get-remove, get-empty, get-entries, entries, entries_sorted, empty, same_map}
+use Rattle.std.specs.FinMap.{get, get-from_sorted, get-insert, get-remove, get-empty, get-entries, entries, entries_sorted, empty}
 use Rattle.std.specs.FinMap.Entries.{find, find-where_key, is_sorted, is_sorted-where_key, where_key, by_order, below_all}
-use Rattle.alt_cells.specs.declared.cell.Cell.{Cell}
 use Rattle.alt_cells.specs.Keys.{key_cmp}
 use Rattle.alt_cells.specs.Cells.{cell_cmp, value_cmp, greater}
 use Rattle.alt_cells.specs.Joined.{either}
-use Rattle.alt_cells.specs.Changes.{Columns, Given, cell_at, one_cell, cells_given, tied, given_to, with_column, with_columns, differs, is_changed, with_value, without_value, changed_cells, gone_cells}
+use Rattle.alt_cells.specs.Changes.{Columns, Given, cell_at, one_cell, cells_given, tied, given_to, with_column, with_columns, differs, is_changed, with_value, changed_cells, gone_cells}
 use Rattle.alt_cells.proofs.Entries.{equal, both, first, second, below_tied, find_below}
 use Rattle.alt_cells.proofs.CellLaws.{key_total, key_exact}
 use Rattle.alt_cells.proofs.RowLaws.{get-joined_map}

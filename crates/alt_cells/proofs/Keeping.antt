@@ -1,8 +1,7 @@
 -- Calls on sources, one after another.
 use Rattle.std.proofs.Common.{◌≤◌, ℕ, Bool, IsTrue, refl, sym, subst, ◌∙◌, arith}
 use Rattle.alt_base.specs.Counts.{Rose}
-use Rattle.alt_disk.specs.Disk.{DiskState, Goes, IsTrusted}
-use Rattle.alt_disk.specs.Runs.{Quiet}
+use Rattle.alt_disk.specs.Disk.{DiskState, Goes}
 use Rattle.alt_disk.proofs.Calls.{goes_refl, goes_on}
 use Rattle.alt_disk.proofs.Runs.{quiet_start, quiet_then, tells_of, trusted_on}
 use Rattle.alt_cells.specs.declared.source.SourceFault.{SourceFault}
@@ -26,8 +25,13 @@ cause_then a b c NoMemory goes cause = tt
 module _ {S M : Type 0} (Holds : DiskState → S → M → Type 0) (reads_of : S → ℕ → Bool) where
   -- no call, and two calls one after another, of which the second may fail
   pub keeps_refl : (s : DiskState) (x : S) → Keeps Holds reads_of s s x x
-  keeps_refl s x = record { holds = λ t m h. h; reads = refl; goes = goes_refl s; quiet =
-      λ t. quiet_start s }
+  keeps_refl s x = record {
+    holds = λ t m h. h;
+    reads = refl;
+    goes = goes_refl s;
+    quiet =
+        λ t. quiet_start s;
+  }
 
   pub keeps_then : (a b c : DiskState) (x y z : S) → Keeps Holds reads_of a b x y
       → Keeps Holds reads_of b c y z → Keeps Holds reads_of a c x z

@@ -1,17 +1,15 @@
 -- The cells that a change makes, as they are put together: names that rise, and halves.
-use Rattle.std.proofs.Common.{◌≡◌, ℕ, Bool, true, false, cond, T, List, [], ◌∷◌, ◌++◌, map, Option, Some, None, refl, sym, ap, ◌∙◌, take, drop}
+use Rattle.std.proofs.Common.{◌≡◌, ℕ, T, List, [], ◌∷◌, ◌++◌, map, Option, sym, ap, ◌∙◌, take, drop}
 use Rattle.std.proofs.lemmas.List.{take-append-drop}
 use Rattle.std.specs.Prelude.{option_map}
-use Rattle.std.specs.Ordering.{eq_by_cmp, is_lt}
 use Rattle.std.specs.FinMap.{FinMap, entries, get-entries, same_map}
-use Rattle.std.specs.FinMap.Entries.{find, is_sorted, below_all}
+use Rattle.std.specs.FinMap.Entries.{find, is_sorted}
 use Rattle.alt_cells.specs.declared.cell.Cell.{Cell}
 use Rattle.alt_cells.specs.Keys.{key_cmp}
 use Rattle.alt_cells.specs.Cells.{cell_cmp, greater}
-use Rattle.alt_cells.specs.Joined.{joined_map, IsJoin}
-use Rattle.alt_cells.specs.Changes.{Given, cell_at, one_cell, cells_given, given_to}
+use Rattle.alt_cells.specs.Joined.{joined_map}
+use Rattle.alt_cells.specs.Changes.{Given, cell_at, one_cell, cells_given}
 use Rattle.alt_cells.proofs.CellLaws.{key_total, key_exact, IsJoin-winner}
-use Rattle.alt_cells.proofs.Entries.{both, first, second}
 use Rattle.alt_cells.proofs.GivenLaws.{find-map, given_to-rising, get-cells_given}
 use Rattle.alt_cells.proofs.RowLaws.{cells_join, joined_map-empty}
 

@@ -1,5 +1,5 @@
 -- Entries whose keys rise, by their places: what a search by halves finds in them.
-use Rattle.std.proofs.Common.{◌≡◌, ◌⊎◌, inl, inr, ℕ, zero, suc, ◌+◌, ◌<◌, ◌≤◌, Bool, true, false, cond, T, List, [], ◌∷◌, length, get_or, Some, None, refl, sym, ap, subst, ◌∙◌, arith}
+use Rattle.std.proofs.Common.{◌≡◌, ◌⊎◌, inl, inr, ℕ, zero, suc, ◌+◌, ◌<◌, ◌≤◌, false, cond, T, List, [], ◌∷◌, length, get_or, Some, None, refl, sym, ap, subst, ◌∙◌, arith}
 use Rattle.std.proofs.lemmas.Bool.{cases_order}
 use Rattle.std.proofs.lemmas.List.{get_or_default}
 use Rattle.std.specs.List.{HoldsAt}
@@ -8,11 +8,11 @@ use Rattle.std.specs.FinMap.{FinMap, get, from_sorted, get-from_sorted, entries,
 use Rattle.std.specs.Cmp.{IsTotalOrder, tied_back, tied_itself, alike_right}
 use Rattle.std.specs.declared.cmp.Ordering.{Ordering}
 use Rattle.std.specs.declared.cmp.Ordering.TheVariants.{Less, Equal, Greater}
-use Rattle.std.specs.Ordering.{ordering_index, eq_by_cmp, is_eq}
+use Rattle.std.specs.Ordering.{ordering_index, is_eq}
 use Rattle.std.specs.FinMap.Entries.{find, is_sorted, below_all}
 use Rattle.alt_cells.specs.Keys.{key_cmp}
 use Rattle.alt_cells.proofs.CellLaws.{key_total}
-use Rattle.alt_cells.proofs.Entries.{both, first, second, less, is_less, equal, below_less}
+use Rattle.alt_cells.proofs.Entries.{both, first, second, less, is_less, below_less}
 
 -- the largest of the three indexes
 index_top : (r : Ordering) → ordering_index r ≤ 2

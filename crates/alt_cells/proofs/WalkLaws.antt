@@ -8,6 +8,7 @@ use Rattle.std.specs.BTreeMap.Range.{entries_between, range_contains}
 use Rattle.std.specs.FinMap.{entries, entries_sorted, get, get-entries, empty, get-empty, IsAntisymmetric}
 use Rattle.std.specs.FinMap.Entries.{find, is_sorted, below_all, is_sorted-where_key, find-where_key, find-append, same_entries}
 use Rattle.std.proofs.lemmas.Grind.{reverse_onto}
+use Rattle.alt_cells.specs.declared.row.RowCells.{RowCells}
 use Rattle.alt_cells.specs.Keys.{key_cmp}
 use Rattle.alt_cells.specs.Joined.{either, joined, joined_map}
 use Rattle.alt_cells.specs.Rows.{join_row}
@@ -64,10 +65,10 @@ module _ {K X : Type 0} (R : K → K → Ordering) (o : IsTotalOrder R) where
   find-reverse q [] h = refl
   find-reverse q (e ∷ es) h =
       ap (find (flip_args R) q) (reverse_onto es e [])
-          ∙ find-append (flip_args R) (back_total o) (reverse es) e.0 e.1 q
-          (find-reverse e.0 es (second _ _ h) ∙ find_below R o e.0 es (first _ _ h))
+      ∙ find-append (flip_args R) (back_total o) (reverse es) e.0 e.1 q
+      (find-reverse e.0 es (second _ _ h) ∙ find_below R o e.0 es (first _ _ h))
       ∙ (λ i. cond ((eq_by_cmp_equiv o).symm e.0 q i) (Some e.1)
-          (find-reverse q es (second _ _ h) i))
+      (find-reverse q es (second _ _ h) i))
 
 -- the keys that a walk reaches from a place
 abbrev in_reach : Bool → Option (List ℕ) → List ℕ → Bool
@@ -96,10 +97,10 @@ find-rows_from rows from true q = find-where_key key_cmp (in_reach true from) q
     (sym (get-entries rows q))
 find-rows_from rows from false q =
     find-reverse key_cmp key_total q (entries_between key_cmp (first_bound false from)
-        (last_bound false from) (entries rows))
-        (is_sorted-where_key key_cmp (in_reach false from) (entries rows) (entries_sorted rows))
+    (last_bound false from) (entries rows))
+    (is_sorted-where_key key_cmp (in_reach false from) (entries rows) (entries_sorted rows))
     ∙ find-where_key key_cmp (in_reach false from) q (reach_alike false from q) (entries rows)
-        ∙ ap (λ x. cond (in_reach false from q) x None) (sym (get-entries rows q))
+    ∙ ap (λ x. cond (in_reach false from q) x None) (sym (get-entries rows q))
 
 -- two rows joined, where they are reached
 either_cond : {X : Type 0} (f : X → X → X) (b : Bool) (x y : Option X)
@@ -117,18 +118,18 @@ rows_from-joined m n from forward =
     let left = is_sorted-rows_from m from forward in
     let right = is_sorted-rows_from n from forward in
     same_entries R o (walk_exact forward) (rows_from (joined_map join_row m n) from forward)
-        (joined R join_row (rows_from m from forward) (rows_from n from forward))
-        (is_sorted-rows_from (joined_map join_row m n) from forward)
-        (is_sorted-joined R o join_row (rows_from m from forward)
-        (rows_from n from forward) left right)
+    (joined R join_row (rows_from m from forward) (rows_from n from forward))
+    (is_sorted-rows_from (joined_map join_row m n) from forward)
+    (is_sorted-joined R o join_row (rows_from m from forward)
+    (rows_from n from forward) left right)
     (λ q. find-rows_from (joined_map join_row m n) from forward q
     ∙ ap (λ x. cond (in_reach forward from q) x None)
-        (get-joined_map key_cmp key_total join_row m n q)
+    (get-joined_map key_cmp key_total join_row m n q)
     ∙ either_cond join_row (in_reach forward from q) (get m q) (get n q)
     ∙ sym (find-joined R o join_row q (rows_from m from forward)
-        (rows_from n from forward) left right
-        ∙ (λ i. either join_row (find-rows_from m from forward q i)
-        (find-rows_from n from forward q i))))
+    (rows_from n from forward) left right
+    ∙ (λ i. either join_row (find-rows_from m from forward q i)
+    (find-rows_from n from forward q i))))
 
 -- of no rows it is nothing
 pub rows_from-empty : (from : Option (List ℕ)) (forward : Bool) → rows_from empty from forward ≡ []
@@ -136,8 +137,8 @@ rows_from-empty from forward = same_entries (walk_cmp forward) (walk_total forwa
     (walk_exact forward) (rows_from empty from forward) []
     (is_sorted-rows_from empty from forward) tt
     (λ q. find-rows_from empty from forward q
-        ∙ ap (λ x. cond (in_reach forward from q) x None) (get-empty key_cmp q)
-        ∙ none (in_reach forward from q))
+    ∙ ap (λ x. cond (in_reach forward from q) x None) (get-empty key_cmp q)
+    ∙ none (in_reach forward from q))
   where
     none : (b : Bool) → cond {A = Option RowCells} b None None ≡ None
     none true = refl

@@ -58,7 +58,7 @@ pub trait RowSource<D: Disk> {
         ensures sought { IsTrue (D.state disk.old).tells
             → (rows : RowMap) → holds (D.state disk.old) self.old rows
             → OnOk result (left (D.state disk.new) self.new
-                (rows_from rows (option_copied from.entry) forward)) }
+            (rows_from rows (option_copied from.entry) forward)) }
         ensures keeps { Keeps holds reads (D.state disk.old) (D.state disk.new) self.old self.new }
         ensures well { IsTrue (answered_by result)
             → (D.state disk.new).faults ≡ (D.state disk.old).faults }

@@ -183,13 +183,19 @@ fn ends_at(alloc: Global, kind: KeyKind, bytes: &[u8], at: usize, expected: Opti
 #[test]
 fn parts_are_taken_whatever_follows(rt: HostRuntime) {
     for (kind, at, end) in &TAKEN {
-        assert!(rt; ends_at(rt.alloc(), *kind, PARTS, *at, *end), "{kind:?} at {at}");
+        assert!(rt;
+            ends_at(rt.alloc(), *kind, PARTS, *at, *end),
+            "{kind:?} at {at}"
+        );
     }
 }
 
 #[test]
 fn other_bytes_are_no_part(rt: HostRuntime) {
     for (kind, bytes) in &OTHERS {
-        assert!(rt; ends_at(rt.alloc(), *kind, bytes, 0, None), "{kind:?}: {bytes:?}");
+        assert!(rt;
+            ends_at(rt.alloc(), *kind, bytes, 0, None),
+            "{kind:?}: {bytes:?}"
+        );
     }
 }

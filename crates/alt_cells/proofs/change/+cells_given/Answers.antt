@@ -1,5 +1,5 @@
 -- The cells of the halves, joined.
-use Rattle.std.proofs.Common.{◌/◌, length, ap, ◌∙◌, sym}
+use Rattle.std.proofs.Common.{◌/◌, length, ap, ◌∙◌}
 use Rattle.alt_cells.specs.Cells.{cell_cmp, greater}
 use Rattle.alt_cells.specs.Joined.{joined_map}
 use Rattle.alt_cells.specs.Changes.{cells_given}

@@ -1,5 +1,5 @@
 -- A column more, which changed or not.
-use Rattle.std.proofs.Common.{◌≡◌, true, false, ap, ◌∙◌, sym}
+use Rattle.std.proofs.Common.{false, ap, ◌∙◌, sym}
 use Rattle.std.specs.Prelude.{not}
 use Rattle.std.specs.FinMap.{get}
 use Rattle.std.specs.Option.{option_map_or}

@@ -1,5 +1,5 @@
 -- A name more that is above the last one, and names that rise from each place to the next.
-use Rattle.std.proofs.Common.{◌≡◌, ◌+◌, ◌<◌, ◌⊎◌, inl, inr, ℕ, List, Option, get_or, ap, subst, sym, arith, suc, add-one}
+use Rattle.std.proofs.Common.{arith, add-one}
 use Rattle.alt_cells.specs.Keys.{key_cmp}
 use Rattle.alt_cells.proofs.CellLaws.{key_total}
 use Rattle.alt_cells.proofs.Searched.{sorted_adjacent}

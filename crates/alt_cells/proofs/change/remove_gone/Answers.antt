@@ -1,5 +1,5 @@
 -- A column more, which the new row has or not.
-use Rattle.std.proofs.Common.{◌≡◌, Bool, true, false, Option, Some, None, refl, ap, ◌∙◌, sym}
+use Rattle.std.proofs.Common.{◌≡◌, Bool, true, false, Option, Some, None, ap, ◌∙◌, sym}
 use Rattle.std.specs.Prelude.{is_none, is_some, not, option_map}
 use Rattle.std.specs.FinMap.{get}
 use Rattle.alt_cells.specs.Changes.{without_value}

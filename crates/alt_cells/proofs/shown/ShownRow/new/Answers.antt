@@ -1,5 +1,5 @@
 -- No entries are the empty map.
-use Rattle.std.proofs.Common.{◌≡◌, [], ap, ◌∙◌}
+use Rattle.std.proofs.Common.{[], ap, ◌∙◌}
 use Rattle.std.specs.FinMap.{from_sorted, entries, entries-from_sorted}
 use Rattle.alt_cells.specs.Keys.{key_cmp}
 use Rattle.alt_cells.proofs.RowLaws.{from_sorted-nil}

@@ -1,6 +1,6 @@
 -- The names still rise, and the new one is the last.
 use Rattle.std.proofs.Common.{◌≡◌, ◌++◌, ◌∷◌, [], T, ap, ◌∙◌, sym, subst}
-use Rattle.std.specs.FinMap.{entries, from_sorted, entries-from_sorted}
+use Rattle.std.specs.FinMap.{entries, entries-from_sorted}
 use Rattle.std.specs.FinMap.Entries.{is_sorted}
 use Rattle.alt_cells.specs.Keys.{key_cmp}
 use Rattle.alt_cells.proofs.shown.ShownRow.push.Goals as goal

@@ -21,6 +21,7 @@ abbrev Without : ℕ → List ℕ → Type 0
 Without e [] = Unit {0}
 Without e (b ∷ bs) = (b ≢ e) × Without e bs
 
+-- two byte strings, and what follows them, are the same
 record Same (xs ys r s : List ℕ) : Type 0 where
   lists : xs ≡ ys
   rests : r ≡ s
@@ -37,6 +38,7 @@ ends_same e (x ∷ xs) (y ∷ ys) r s hx hy is =
     let t = ends_same e xs ys r s hx.1 hy.1 rest in
     record { lists = rw first (ap (λ ts. y ∷ ts) t.lists); rests = t.rests }
 
+-- pairs have no closing byte, nor have flipped ones
 pairs_without : (ps : List ℕ) → IsPairs ps → Without 0 ps
 pairs_without [] h = tt
 pairs_without (p ∷ ps) h = (λ z. omega (arith, h.0, z), pairs_without ps h.1)
@@ -52,6 +54,7 @@ plain_shape t z f r =
     ap (λ ts. ts ++ r) (magnitude_bytes-mul t z f.last)
     ∙ ap (λ ts. (width t + z - 38) ∷ ts) (append_assoc (pairs (digits_of 10 t)) (0 ∷ []) r)
 
+-- bytes of a magnitude below zero, and what follows them
 flipped_shape : (t z : ℕ) → Fitting t z → (r : List ℕ)
     → complement (magnitude_bytes (t * 10 ^ z)) ++ r
     ≡ (255 - (width t + z - 38)) ∷ (complement (pairs (digits_of 10 t)) ++ 255 ∷ r)
@@ -62,12 +65,14 @@ flipped_shape t z f r =
     ∙ ap (λ ts. (255 - (width t + z - 38)) ∷ ts)
     (append_assoc (complement (pairs (digits_of 10 t))) (255 ∷ []) r)
 
+-- the first of a list, and the rest
 front : (x y : ℕ) (xs ys : List ℕ) → x ∷ xs ≡ y ∷ ys → x ≡ y
 front x y xs ys e = cc
 
 back : (x y : ℕ) (xs ys : List ℕ) → x ∷ xs ≡ y ∷ ys → xs ≡ ys
 back x y xs ys e = cc
 
+-- spellings that begin differently, kind by kind
 apart : (u v : ℤ) (x y : ℕ) (xs ys r s : List ℕ) → spelled u ≡ x ∷ xs → spelled v ≡ y ∷ ys
     → spelled u ++ r ≡ spelled v ++ s → x ∷ (xs ++ r) ≡ y ∷ (ys ++ s)
 apart u v x y xs ys r s e f is = sym (ap (λ ts. ts ++ r) e) ∙ is ∙ ap (λ ts. ts ++ s) f
@@ -117,10 +122,12 @@ looks_apart u v r s (under t y g e a) (under t' z h f b) is =
     ≡ complement (magnitude_bytes (t' * 10 ^ z)) = sym (append-nil _) ∙ plain ∙ append-nil _ in
     record { lists = a ∙ ap (λ ts. 1 ∷ ts) same ∙ sym b; rests = w.rests }
 
+-- a list ties with itself
 cmp_refl : (xs : List ℕ) → slice_cmp nat_cmp xs xs ≡ Equal
 cmp_refl [] = refl
 cmp_refl (x ∷ xs) = rw (nat_cmp-equal x x refl) (cmp_refl xs)
 
+-- no spelling is a prefix of another, whatever follows
 pub spelled-apart : (d e : Inside) → IsNormal d → IsNormal e → (r s : List ℕ)
     → spelled (units_of d) ++ r ≡ spelled (units_of e) ++ s → units_of d ≡ units_of e
 spelled-apart d e n m r s is =

@@ -72,12 +72,14 @@ module _ (whole fraction w f : List ℕ) (behind : ℕ) (t : Trims whole fractio
 
 -- ---- exponents
 
+-- an exponent at both sides of its cap
 capped_short : (v : ℕ) → v < 10 ^ 36 → v ≡ min v (10 ^ 36)
 capped_short v h = omega arith
 
 capped_long : (v : ℕ) → 10 ^ 36 ≤ v → 10 ^ 36 ≡ min v (10 ^ 36)
 capped_long v h = omega arith
 
+-- the value of few digits behind zeros
 pub capped_few : (digits short : List ℕ) (j : ℕ) → digits ≡ zeros j ++ short → AllDigits 10 short
     → length short ≤ 36 → digits_value 10 short ≡ capped digits
 capped_few digits short j e all few =
@@ -87,6 +89,7 @@ capped_few digits short j e all few =
     omega (arith, digits_value-lt 10 short all, ten_pow-le (length short) 36 few) in
     rw same (capped_short (digits_value 10 short) below)
 
+-- many digits pass the cap
 pub capped_many : (digits short : List ℕ) (j : ℕ) → digits ≡ zeros j ++ short → AllDigits 10 short
     → (0 < length short → get_or short 0 0 ≢ 48) → 36 < length short
     → 10 ^ 36 ≡ capped digits
@@ -127,6 +130,7 @@ module _ (negative : Bool) (c : ℕ) (few : c < 10 ^ 38) (last : 0 < c % 10) whe
 
 -- ---- the number of digits and an exponent
 
+-- zeros in sums and products
 zero_times : (p : ℕ) → 0 * p ≡ 0
 zero_times p = omega arith
 
@@ -140,6 +144,7 @@ no_digits : digit_count 0 ≡ 1
 unfolding digit_count
 no_digits = refl
 
+-- too many digits, whatever the exponent
 pub number_many : (negative : Bool) (n up down : ℕ) → 38 < digit_count n
     → fitted (number negative n up down) ≡ Err TooManyDigits
 number_many negative n up down many = elim (cases_lt 0 n) [

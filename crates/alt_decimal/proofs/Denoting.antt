@@ -28,6 +28,7 @@ use Rattle.alt_decimal.proofs.Reading.{ReadsAs-some}
 
 -- ---- digits and their bytes
 
+-- the digit of a byte
 digit_glyph : (d : ℕ) → d < 10 → digit_value (48 + d) ≡ d
 digit_glyph d h = grind arith
 
@@ -44,6 +45,7 @@ AllDigits-glyphs (suc k) n =
     (digits_push 10 (glyphs 48 (padded k (n / 10))) (48 + n % 10) (AllDigits-glyphs k (n / 10))
     (rw (digit_glyph (n % 10) small) small))
 
+-- the number of digits as bytes
 value_glyphs : (k n : ℕ) → n < 10 ^ k → digits_value 10 (glyphs 48 (padded k n)) ≡ n
 value_glyphs zero n h = rw (padded-none n, glyphs-none 48) (omega (arith, h))
 value_glyphs (suc k) n h =
@@ -58,6 +60,7 @@ value_glyphs (suc k) n h =
     (digits_value_push 10 (glyphs 48 (padded k (n / 10))) (48 + n % 10)
     ∙ omega (arith, value_glyphs k (n / 10) shorter, digit_glyph (n % 10) small))
 
+-- of all digits of a number
 value_digits : (c : ℕ) → digits_value 10 (digits_text c) ≡ c
 value_digits c = value_glyphs (width c) c (lt-width c)
 
@@ -67,6 +70,7 @@ AllDigits-zeros (suc k) = (omega arith, AllDigits-zeros k)
 
 -- ---- the sign
 
+-- the sign that is printed
 abbrev sign_for : Bool → Sign
 sign_for true = minus
 sign_for false = unsigned
@@ -192,6 +196,7 @@ module _ (d : Inside) (n : IsNormal d) (above : 0 < d.coefficient) where
       (reads_parts d.negative (48 ∷ []) (Some fraction) (Ok (units_of d)) (omega arith, tt)
       (AllDigits-append (replicate j 48) ds (AllDigits-zeros j) all) (omega arith) answer)
 
+-- a printed number reads as itself
 pub reads_units : (d : Inside) (n : IsNormal d) → 0 < d.coefficient
     → ReadsAs (printed (units_of d)) (Ok (units_of d))
 reads_units d n above = rw (printed-units_of d n above) (elim (cases_lt d.zeros 167) [
@@ -202,6 +207,7 @@ reads_units d n above = rw (printed-units_of d n above) (elim (cases_lt d.zeros 
   | inr long ↦ reads_whole d n above long
 ])
 
+-- and so does zero
 pub reads_zero : ReadsAs (printed (pos 0)) (Ok (pos 0))
 reads_zero = rw printed-zero (reads_parts false (48 ∷ []) None (Ok (pos 0)) (omega arith, tt) tt
     (omega arith) (sym (fitted-zero false 0 0 0 refl)))

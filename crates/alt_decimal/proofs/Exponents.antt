@@ -6,6 +6,7 @@ use Rattle.std.specs.Prelude.{◌==◌, nat_lt}
 use Rattle.alt_decimal.specs.NumberText.{Sign}
 use Rattle.alt_decimal.specs.Reading.{front_digits, behind_digits, exponent_from}
 
+-- digits to the end are an exponent
 pub exponent_some : (upper : Bool) (sign : Sign) (bs : List ℕ) → 0 < length (front_digits bs)
     → length (behind_digits bs) ≡ 0
     → exponent_from upper sign bs ≡ Some (Some (record { upper = upper; sign = sign; digits = bs }))

@@ -12,31 +12,37 @@ use Rattle.alt_decimal.specs.Normal.{ten_pow_pos, nat_abs-with_sign, is_negative
 use Rattle.alt_decimal.proofs.Magnitudes.{digit_count-mul, digit_count-trimmed}
 use Rattle.alt_decimal.proofs.Widths.{width-mul, width-le, width-gt}
 
+-- a number by its parts
 abbrev pub number : Bool → ℕ → ℕ → ℕ → Number
 number negative c up down = record { negative = negative; c = c; up = up; down = down }
 
+-- zero fits
 pub fitted-zero : (negative : Bool) (c up down : ℕ) → c ≡ 0
     → fitted (number negative c up down) ≡ Ok (pos 0)
 unfolding fitted
 fitted-zero negative c up down z = grind arith
 
+-- too many digits
 pub fitted-many : (negative : Bool) (c up down : ℕ) → 0 < c → 38 < digit_count c
     → fitted (number negative c up down) ≡ Err TooManyDigits
 unfolding fitted
 fitted-many negative c up down h many = grind arith
 
+-- a first digit that stands too high
 pub fitted-large : (negative : Bool) (c up down : ℕ) → 0 < c → digit_count c ≤ 38
     → 126 + down < width c + up
     → fitted (number negative c up down) ≡ Err TooLarge
 unfolding fitted
 fitted-large negative c up down h few far = grind arith
 
+-- one that stands too low
 pub fitted-small : (negative : Bool) (c up down : ℕ) → 0 < c → digit_count c ≤ 38
     → width c + up ≤ 126 + down → width c + up + 129 < down
     → fitted (number negative c up down) ≡ Err TooSmall
 unfolding fitted
 fitted-small negative c up down h few near far = grind arith
 
+-- the units of a number that fits
 pub fitted-ok : (negative : Bool) (c up down : ℕ) → 0 < c → digit_count c ≤ 38
     → width c + up ≤ 126 + down → down ≤ width c + up + 129
     → fitted (number negative c up down) ≡ Ok (with_sign negative (c * 10 ^ (up + 167) / 10 ^ down))
@@ -109,6 +115,7 @@ fitted_units-none negative n p z =
     fitted-zero (is_negative (with_sign negative (n * p))) _ 0 167
     (nat_abs-with_sign negative (n * p) ∙ none)
 
+-- a number is its magnitude with its sign
 pub with_sign-nat_abs : (z : ℤ) → with_sign (is_negative z) (nat_abs z) ≡ z
 with_sign-nat_abs (pos n) = rw (not_below_zero n) refl
 with_sign-nat_abs (negsuc n) = refl

@@ -10,6 +10,7 @@ use Rattle.alt_decimal.specs.Form.{units_of, IsNormal}
 use Rattle.alt_decimal.specs.Normal.{ten_pow_pos, trimmed-mul, nat_abs-with_sign}
 use Rattle.alt_decimal.proofs.Widths.{width-le, width-pos, mul-ge, mul-lt}
 
+-- the digits of a number above zero
 pub digit_count-above : (n : ℕ) → 0 < n → digit_count n ≡ width (trimmed n)
 unfolding digit_count
 digit_count-above n h = grind arith
@@ -20,6 +21,7 @@ digit_count-mul a k h =
     let a_pos : 0 < a = omega arith in
     digit_count-above (a * 10 ^ k) (mul-pos a_pos (ten_pow_pos k)) ∙ ap width (trimmed-mul a k h)
 
+-- the magnitude of a `Decimal`
 size_of : (d : Inside) → nat_abs (units_of d) ≡ d.coefficient * 10 ^ d.zeros
 size_of d = nat_abs-with_sign d.negative (d.coefficient * 10 ^ d.zeros)
 
@@ -29,9 +31,11 @@ pub digit_count-units_of : (d : Inside) → IsNormal d → 0 < d.coefficient
 digit_count-units_of d n h = ap digit_count (size_of d)
     ∙ digit_count-mul d.coefficient d.zeros (n.no_zero_behind h)
 
+-- no coefficient, no units
 pub units_of-zero : (d : Inside) → IsNormal d → d.coefficient ≡ 0 → units_of d ≡ pos 0
 units_of-zero d n h = rw (h, n.zero_sign h) (ap pos (omega arith))
 
+-- else the magnitude fits
 pub IsMagnitude-units_of : (d : Inside) → IsNormal d → 0 < d.coefficient
     → IsMagnitude (nat_abs (units_of d))
 IsMagnitude-units_of d n h = record {

@@ -10,12 +10,15 @@ use Rattle.alt_decimal.specs.Digits.{width}
 use Rattle.alt_decimal.specs.Normal.{ten_pow_pos}
 use Rattle.alt_decimal.proofs.Widths.{lt-width, width-low, width-pos, width-zero, case_pos}
 
+-- the order of naturals, by the three cases
 pub nat_cmp-less : (m n : ℕ) → m < n → nat_cmp m n ≡ Less
 nat_cmp-less m n h = grind arith
 
+-- the same
 pub nat_cmp-equal : (m n : ℕ) → m ≡ n → nat_cmp m n ≡ Equal
 nat_cmp-equal m n h = grind arith
 
+-- the greater
 pub nat_cmp-greater : (m n : ℕ) → n < m → nat_cmp m n ≡ Greater
 nat_cmp-greater m n h = grind arith
 
@@ -31,22 +34,26 @@ nat_cmp-mul m n p h = elim (cases_order m n) [
   ]
 ]
 
+-- the order of whole numbers, by their signs
 pub int_cmp-pos : (m n : ℕ) → int_cmp (pos m) (pos n) ≡ nat_cmp m n
 int_cmp-pos m n = grind arith
 
 int_cmp-negsuc : (m n : ℕ) → int_cmp (negsuc m) (negsuc n) ≡ nat_cmp (suc n) (suc m)
 int_cmp-negsuc m n = grind arith
 
+-- below zero the other way round
 pub int_cmp-neg : (m n : ℕ) → int_cmp (neg_ℤ (pos m)) (neg_ℤ (pos n)) ≡ nat_cmp n m
 int_cmp-neg zero zero = refl
 int_cmp-neg zero (suc n) = sym (nat_cmp-greater (suc n) 0 (omega arith))
 int_cmp-neg (suc m) zero = sym (nat_cmp-less 0 (suc m) (omega arith))
 int_cmp-neg (suc m) (suc n) = int_cmp-negsuc m n
 
+-- below zero is below
 pub int_cmp-neg_pos : (m n : ℕ) → 0 < m → int_cmp (neg_ℤ (pos m)) (pos n) ≡ Less
 int_cmp-neg_pos zero n h = absurd (omega arith)
 int_cmp-neg_pos (suc m) n h = refl
 
+-- and above it above
 pub int_cmp-pos_neg : (m n : ℕ) → 0 < n → int_cmp (pos m) (neg_ℤ (pos n)) ≡ Greater
 int_cmp-pos_neg m zero h = absurd (omega arith)
 int_cmp-pos_neg m (suc n) h = refl
@@ -78,6 +85,7 @@ nat_cmp-filled a b i j k e =
     let p : a * 10 ^ i ≡ a * 10 ^ k * 10 ^ j = rw (e, pow-add 10 j k) (omega arith) in
     rw p (sym (nat_cmp-mul (a * 10 ^ k) b (10 ^ j) (ten_pow_pos j)))
 
+-- coefficients filled up to one place
 pub nat_cmp-filled_second : (a b i j k : ℕ) → j ≡ i + k
     → nat_cmp a (b * 10 ^ k) ≡ nat_cmp (a * 10 ^ i) (b * 10 ^ j)
 nat_cmp-filled_second a b i j k e =

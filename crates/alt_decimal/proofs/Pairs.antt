@@ -25,6 +25,7 @@ pairs-filled zero (a ∷ b ∷ xs) e = absurd (omega arith)
 pairs-filled (suc n) (a ∷ b ∷ xs) e = ap (λ ps. (10 * a + b + 1) ∷ ps)
     (pairs-filled n xs (omega arith))
 
+-- so many pairs as half the digits
 pub length-pairs : (n : ℕ) (xs : List ℕ) → length xs ≡ 2 * n → length (pairs xs) ≡ n
 length-pairs zero [] e = refl
 length-pairs zero (a ∷ xs) e = absurd (omega arith)
@@ -60,6 +61,7 @@ flip_step [] i h = absurd (omega arith)
 flip_step (x ∷ xs) zero h = refl
 flip_step (x ∷ xs) (suc i) h = ap (λ ts. (255 - x) ∷ ts) (flip_step xs i (omega arith))
 
+-- the bytes flipped so far, and the next
 pub flip_next : (init bytes : List ℕ) (i : ℕ) → i < length init
     → bytes ≡ complement (take i init) ++ drop i init
     → set bytes i (255 - get_or bytes i 0) ≡ complement (take (i + 1) init) ++ drop (i + 1) init

@@ -53,6 +53,7 @@ digits-mul c k =
     ∙ ap (λ n. padded (width c) n ++ padded k (c * 10 ^ k)) (mul-div_cancel c (ten_pow_pos k))
     ∙ ap (λ ds. padded (width c) c ++ ds) (padded-mul k c)
 
+-- a whole number, printed
 pub unsigned-whole : (c z : ℕ) → 0 < c → 167 ≤ z
     → unsigned_text (c * 10 ^ z) ≡ magnitude_text (glyphs 48 (padded (width c) c)) z
 unsigned-whole c z above h =
@@ -88,6 +89,7 @@ width-div c k j e some =
     let short : c / 10 ^ k < 10 ^ j = div_below c (10 ^ k) (10 ^ j) (ten_pow_pos k) high in
     omega (arith, width-gt i (c / 10 ^ k) long, width-le j (c / 10 ^ k) short, is)
 
+-- what has a digit is above zero
 above_width : (n : ℕ) → 0 < width n → 0 < n
 above_width n h = elim (cases_lt 0 n) [
   | inl above ↦ above
@@ -202,6 +204,7 @@ module _ (c z k : ℕ) (sum : k + z ≡ 167) (some : 0 < k) (last : 0 < c % 10) 
 abbrev pub digits_text : ℕ → List ℕ
 digits_text c = glyphs 48 (padded (width c) c)
 
+-- a number above zero, printed without a sign
 pub unsigned-text : (c z : ℕ) → 0 < c % 10 → unsigned_text (c * 10 ^ z)
     ≡ magnitude_text (digits_text c) z
 unsigned-text c z last = elim (cases_lt z 167) [
@@ -214,6 +217,7 @@ unsigned-text c z last = elim (cases_lt z 167) [
   | inr long ↦ unsigned-whole c z (omega arith) long
 ]
 
+-- a number that isn't zero, printed
 pub printed-units_of : (d : Inside) → IsNormal d → 0 < d.coefficient
     → printed (units_of d) ≡ minus_if d.negative
     ++ magnitude_text (digits_text d.coefficient) d.zeros
@@ -227,6 +231,7 @@ printed-units_of d n above =
     (ap (λ ds. minus_if d.negative ++ ds) (unsigned-text d.coefficient d.zeros
     (n.no_zero_behind above)))
 
+-- zero, printed
 pub printed-zero : printed (pos 0) ≡ 48 ∷ []
 unfolding printed whole_text fraction_text
 printed-zero = refl
@@ -248,5 +253,6 @@ front_digits c w e few =
     ∙ take-append_seam (glyphs 48 (padded w c)) (glyphs 48 (padded k (c * 10 ^ k)))
     ∙ ap (λ i. glyphs 48 (padded i c)) e
 
+-- as many bytes as digits
 pub length-digits_text : (c : ℕ) → length (digits_text c) ≡ width c
 length-digits_text c = length-digits (width c) c

@@ -24,6 +24,7 @@ use Rattle.alt_decimal.proofs.Unspelling.{IsPairs, pairs_below, pairs_padded, Ar
 
 -- ---- bytes flipped twice
 
+-- each number is a byte
 abbrev Bytes : List ℕ → Type 0
 Bytes [] = Unit {0}
 Bytes (b ∷ bs) = (b < 256) × Bytes bs
@@ -51,12 +52,14 @@ Bytes-take zero bs h = tt
 Bytes-take (suc n) [] h = tt
 Bytes-take (suc n) (b ∷ bs) h = (h.0, Bytes-take n bs h.1)
 
+-- place by place
 pub Bytes-at : (bs : List ℕ) → ((i : ℕ) → get_or bs i 0 < 256) → Bytes bs
 Bytes-at [] h = tt
 Bytes-at (b ∷ bs) h = (h 0, Bytes-at bs (λ i. h (suc i)))
 
 -- ---- where the pairs end
 
+-- what stands before the end are pairs
 pairs_before : (n : ℕ) (bs : List ℕ) → n ≤ length bs → ((k : ℕ) → k < n → IsPair (get_or bs k 0))
     → IsPairs (take n bs)
 pairs_before zero bs le h = tt
@@ -66,12 +69,14 @@ pairs_before (suc n) (b ∷ bs) le h = (
   pairs_before n bs (omega arith) (λ k lt. h (suc k) (omega arith)),
 )
 
+-- where the bytes end behind pairs
 pub Ends-pairs : (bs : List ℕ) (n : ℕ) → Ends bs n → IsPairs (take n bs)
 Ends-pairs bs n e = pairs_before n bs (omega (arith, e.within)) e.pairs
 
 Ends-length : (bs : List ℕ) (n : ℕ) → Ends bs n → length (take n bs) ≡ n
 Ends-length bs n e = omega (arith, length-take n bs, e.within)
 
+-- their number has as many digits as they
 pub Ends-below : (bs : List ℕ) (n : ℕ) → Ends bs n → pairs_value_after 0 (take n bs) < 10 ^ (2 * n)
 Ends-below bs n e = subst (λ (k : ℕ). pairs_value_after 0 (take n bs) < 10 ^ (2 * k))
     (Ends-length bs n e) (pairs_below (take n bs) (Ends-pairs bs n e))
@@ -129,9 +134,11 @@ raw-byte : (negative : Bool) (b : ℕ) → b < 256 → raw negative b < 256
 raw-byte true b h = omega arith
 raw-byte false b h = h
 
+-- a length with its first byte
 three : (n : ℕ) → n + 2 ≡ n + 3 - 1
 three n = omega arith
 
+-- a number that isn't zero, spelled
 pub spelled-with_sign : (negative : Bool) (m : ℕ) → 0 < m
     → spelled (with_sign negative m) ≡ (if negative then 1 else 3) ∷ raws negative
     (magnitude_bytes m)
@@ -211,6 +218,7 @@ module _ (negative : Bool) (first : ℕ) (rest : List ℕ) (c n : ℕ) (z : ℤ)
     some = omega arith;
   }
 
+-- all of a list, and all behind its first
 take_all : (bs : List ℕ) → take (length bs) bs ≡ bs
 take_all [] = refl
 take_all (b ∷ bs) = ap (λ ts. b ∷ ts) (take_all bs)
@@ -245,6 +253,7 @@ pub record Filling (t : ℕ) : Type 0 where
   pub n : ℕ
   pub digits : ((t ≡ c) × (width t ≡ 2 * n)) ⊎ ((c ≡ t * 10) × (width t + 1 ≡ 2 * n))
 
+-- what fills up the last pair
 pub filling : (t : ℕ) → Filling t
 filling t = elim (cases_eq (width t % 2) 0) [
   | inl even ↦ record { c = t; n = width t / 2; digits = inl (refl, omega (arith, even)) }
@@ -466,11 +475,13 @@ module _ (negative : Bool) (m : ℕ) (size : IsMagnitude m) (rest : List ℕ) wh
           ∙ sym (length-magnitude negative m size trimmed_m) in
           rw (same, len) refl
 
+-- each spelling is read: not from no bytes
 pub every_empty : (negative : Bool) (m : ℕ) (size : IsMagnitude m) (bytes rest : List ℕ)
     → length bytes < 1 → bytes ≡ raws negative (magnitude_bytes m) ++ rest → ⊥
 every_empty negative m size bytes rest none is =
     omega (arith, none, ap length (is ∙ shape negative m size rest))
 
+-- nor where no pair stands
 pub every_none : (negative : Bool) (m : ℕ) (size : IsMagnitude m) (bytes rest : List ℕ)
     → 1 ≤ length bytes → bytes ≡ raws negative (magnitude_bytes m) ++ rest
     → ((n : ℕ) → Ends (raws negative (take (length bytes - 1) (drop 1 bytes))) n → ⊥) → ⊥
@@ -479,6 +490,7 @@ every_none negative m size (b ∷ bs) rest some is none =
     none_here negative m size rest b bs is (subst
     (λ (ts : List ℕ). (n : ℕ) → Ends (raws negative ts) n → ⊥) (rest_of b bs) none)
 
+-- nor where the pairs are wrong
 pub every_bad : (negative : Bool) (m : ℕ) (size : IsMagnitude m) (bytes rest : List ℕ) (c n : ℕ)
     → 1 ≤ length bytes → bytes ≡ raws negative (magnitude_bytes m) ++ rest
     → Ends (raws negative (take (length bytes - 1) (drop 1 bytes))) n
@@ -492,6 +504,7 @@ every_bad negative m size (b ∷ bs) rest c n some is e bad =
     let h : Held bs = subst Held (rest_of b bs) e in
     bad_here negative m size rest b bs is c n h.0 h.1 bad
 
+-- and else as its number
 pub every_right : (negative : Bool) (m : ℕ) (size : IsMagnitude m) (bytes rest : List ℕ) (c n r : ℕ)
     (z : ℤ) → 1 ≤ length bytes → bytes ≡ raws negative (magnitude_bytes m) ++ rest
     → r ≡ raw negative (get_or bytes 0 0)
@@ -511,9 +524,11 @@ every_right negative m size (b ∷ bs) rest c n r z some is first e d =
 
 -- ---- whole spellings
 
+-- one more, on the left
 suc_is : (n : ℕ) → suc n ≡ 1 + n
 suc_is n = omega arith
 
+-- the first byte tells the sign
 sign_byte : (s negative : Bool) → (let a : ℕ = if s then 1 else 3 in
     a ≡ (if negative then 1 else 3)) → s ≡ negative
 sign_byte true true e = refl
@@ -557,6 +572,7 @@ module _ (z : ℤ) (size : IsMagnitude (nat_abs z)) where
       → b ≡ (if is_negative z then 1 else 3)
   first_of b bs rest is = let e = is ∙ ap (λ ts. ts ++ rest) spelled-magnitude in cc
 
+-- that of zero is its own
 zero_first : (b : ℕ) (bs rest : List ℕ) → b ∷ bs ≡ spelled (pos 0) ++ rest → b ≡ 2
 zero_first b bs rest is = let e = is ∙ ap (λ ts. ts ++ rest) spelled-zero in cc
 
@@ -568,6 +584,7 @@ one_or_three : (s : Bool) (b : ℕ) → b ≡ (if s then 1 else 3) → (b ≡ 1)
 one_or_three true b e = inl e
 one_or_three false b e = inr e
 
+-- each spelling with a sign is read
 pub every_signed : (negative : Bool) (bytes rest : List ℕ) (z : ℤ) (result : Option (ℤ × ℕ))
     → 1 ≤ length bytes → get_or bytes 0 0 ≡ (if negative then 1 else 3)
     → Fits z → bytes ≡ spelled z ++ rest
@@ -583,6 +600,7 @@ every_signed negative (b ∷ bs) rest z result some first fits is read = elim fi
       (λ m after s e. read m after s (rest_of b bs ∙ e))
 ]
 
+-- and that of zero
 pub every_zero : (bytes rest : List ℕ) (z y : ℤ) → 1 ≤ length bytes → get_or bytes 0 0 ≡ 2 → Fits z
     → bytes ≡ spelled z ++ rest → y ≡ pos 0
     → (let found : Option (ℤ × ℕ) = Some (y, 1) in found ≡ Some (z, length (spelled z)))

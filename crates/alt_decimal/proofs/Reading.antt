@@ -17,24 +17,29 @@ use Rattle.alt_decimal.specs.Reading.{ExponentIs, exponent_digits, below_of, sig
 
 -- ---- digits
 
+-- digits and their bytes
 digit_byte : (c : ℕ) → digit_value c < 10 → is_ascii_digit c ≡ true
 digit_byte c h = let r = digit_from_value c h in grind (arith, r)
 
 digit_of_byte : (c : ℕ) → is_ascii_digit c ≡ true → digit_value c < 10
 digit_of_byte c h = grind arith
 
+-- no digit stands at the front
 abbrev NoDigit : List ℕ → Type 0
 NoDigit bs = is_ascii_digit (get_or bs 0 0) ≡ false
 
+-- so none is counted there
 no_digits : (bs : List ℕ) → NoDigit bs → digits_len bs ≡ 0
 no_digits [] h = refl
 no_digits (b ∷ bs) h = rw h refl
 
+-- digits up to a byte that is none are all counted
 all_digits : (ds rest : List ℕ) → AllDigits 10 ds → NoDigit rest
     → digits_len (ds ++ rest) ≡ length ds
 all_digits [] rest all h = no_digits rest h
 all_digits (d ∷ ds) rest all h = rw (digit_byte d all.0) (omega (arith, all_digits ds rest all.1 h))
 
+-- the front of a list, and what is behind it
 take_front : (ds rest : List ℕ) → take (length ds) (ds ++ rest) ≡ ds
 take_front [] rest = refl
 take_front (d ∷ ds) rest = ap (λ xs. d ∷ xs) (take_front ds rest)
@@ -53,6 +58,7 @@ behind_digits-append : (ds rest : List ℕ) → AllDigits 10 ds → NoDigit rest
 behind_digits-append ds rest all h = ap (λ n. drop n (ds ++ rest)) (all_digits ds rest all h)
     ∙ drop_front ds rest
 
+-- a list is its front and its rest
 parts_of : (n : ℕ) (bs : List ℕ) → bs ≡ take n bs ++ drop n bs
 parts_of zero bs = refl
 parts_of (suc n) [] = refl
@@ -66,11 +72,13 @@ AllDigits-take (suc n) (b ∷ bs) h = elim (cases_Bool (is_ascii_digit b)) [
   | inr isnt ↦ absurd (omega (arith, rw isnt at h))
 ]
 
+-- what is cut off at the front are digits
 pub AllDigits-front_digits : (bs : List ℕ) → AllDigits 10 (front_digits bs)
 AllDigits-front_digits bs = AllDigits-take (digits_len bs) bs (omega arith)
 
 -- ---- signs
 
+-- no sign stands at the front
 record NoSign (bs : List ℕ) : Type 0 where
   no_minus : get_or bs 0 0 ≢ 45
   no_plus : get_or bs 0 0 ≢ 43
@@ -198,6 +206,7 @@ NoSign-text t h = elim (cases_lt 0 (length t.whole)) [
   | inr none ↦ NoSign-point t.whole t.fraction (exponent_text t.exponent) (omega arith) h.digit
 ]
 
+-- a number text is cut into its parts
 pub reading-text_of : (t : NumberText) → IsNumberText t → reading (text_of t) ≡ Some t
 unfolding reading
 reading-text_of t h =
@@ -223,6 +232,7 @@ reading-text_of t h =
 
 -- ---- the parts make up the text
 
+-- what was cut is the text again, part by part
 sign_parts : (bs : List ℕ) → bs ≡ sign_text (sign_of bs) ++ behind_sign bs
 sign_parts [] = refl
 sign_parts (b ∷ bs) = elim (cases_Bool (b == 45)) [
@@ -234,6 +244,7 @@ sign_parts (b ∷ bs) = elim (cases_Bool (b == 45)) [
   ]
 ]
 
+-- the fraction and what is behind it
 fraction_parts : (bs : List ℕ) → bs ≡ fraction_text (fraction_of bs) ++ behind_fraction bs
 fraction_parts [] = refl
 fraction_parts (b ∷ bs) = elim (cases_Bool (b == 46)) [
@@ -242,11 +253,13 @@ fraction_parts (b ∷ bs) = elim (cases_Bool (b == 46)) [
   | inr e ↦ rw e refl
 ]
 
+-- a fraction has digits alone
 pub AllDigits-fraction_of : (bs : List ℕ) → AllDigits 10 (fraction_digits (fraction_of bs))
 AllDigits-fraction_of [] = tt
 AllDigits-fraction_of (b ∷ bs) = elim (cases_Bool (b == 46))
     [ inl e ↦ rw e (AllDigits-front_digits bs) | inr e ↦ rw e tt ]
 
+-- all of a list
 take_all : (bs : List ℕ) → take (length bs) bs ≡ bs
 take_all [] = refl
 take_all (b ∷ bs) = ap (λ xs. b ∷ xs) (take_all bs)
@@ -255,17 +268,20 @@ take_all (b ∷ bs) = ap (λ xs. b ∷ xs) (take_all bs)
 whole_digits : (ds : List ℕ) → length ds ≤ digits_len ds → AllDigits 10 ds
 whole_digits ds h = subst (AllDigits 10) (take_all ds) (AllDigits-take (length ds) ds h)
 
+-- an option that is there
 some_is : {A : Type 0} (x y : A) → Some x ≡ Some y → x ≡ y
 some_is x y e = cc
 
 none_some : {A : Type 0} (y : A) → None ≡ Some y → ⊥
 none_some y e = cc
 
+-- an exponent of these digits
 record IsExponentOf (upper : Bool) (s : Sign) (ds : List ℕ) (e : Option Exponent) : Type 0 where
   is : Some (record { upper = upper; sign = s; digits = ds }) ≡ e
   some : 0 < length ds
   all : AllDigits 10 ds
 
+-- it was cut off with them
 exponent_from_parts : (upper : Bool) (s : Sign) (ds : List ℕ) (e : Option Exponent)
     → exponent_from upper s ds ≡ Some e → IsExponentOf upper s ds e
 exponent_from_parts upper s ds e h = elim (cases_Bool
@@ -284,6 +300,7 @@ exponent_from_parts upper s ds e h = elim (cases_Bool
           }
     ]
 
+-- the letter of an exponent
 letter : (b : ℕ) → (b == 101 || b == 69) ≡ true → b ≡ (if b == 69 then 69 else 101)
 letter b h = elim (cases_Bool (b == 69)) [
   | inl e ↦ rw e (eqb-true b 69 e)
@@ -295,6 +312,7 @@ record ExponentParts (bs : List ℕ) (e : Option Exponent) : Type 0 where
   text : bs ≡ exponent_text e
   formed : IsExponent e
 
+-- an exponent is its letter, sign and digits
 exponent_some_parts : (b : ℕ) (bs : List ℕ) (e : Option Exponent)
     → b ≡ (if b == 69 then 69 else 101)
     → IsExponentOf (b == 69) (sign_of bs) (behind_sign bs) e → ExponentParts (b ∷ bs) e
@@ -303,6 +321,7 @@ exponent_some_parts b bs e is p = subst (ExponentParts (b ∷ bs)) p.is (record 
   formed = (p.some, p.all);
 })
 
+-- or there is none
 exponent_parts : (bs : List ℕ) (e : Option Exponent) → exponent_of bs ≡ Some e → ExponentParts bs e
 exponent_parts [] e h = subst (ExponentParts []) (some_is None e h)
     (record { text = refl; formed = tt })
@@ -312,6 +331,7 @@ exponent_parts (b ∷ bs) e h = elim (cases_Bool (b == 101 || b == 69)) [
   | inr isnt ↦ absurd (none_some e (rw isnt at h))
 ]
 
+-- an exponent has digits alone
 pub AllDigits-exponent : (bs : List ℕ) (e : Option Exponent) → exponent_of bs ≡ Some e
     → AllDigits 10 (exponent_digits e)
 AllDigits-exponent bs None h = tt
@@ -319,12 +339,14 @@ AllDigits-exponent bs (Some e) h = (exponent_parts bs (Some e) h).formed.1
 
 -- ---- what a text reads as
 
+-- a text that can't be cut is no number
 pub ReadsAs-none : (text : List ℕ) → reading text ≡ None → ReadsAs text (Err NotANumber)
 ReadsAs-none text none = record {
   number = λ t h e. absurd (none_some t (sym none ∙ ap reading e ∙ reading-text_of t h));
   no_number = inl refl;
 }
 
+-- one that can reads as its parts denote
 pub ReadsAs-some : (text : List ℕ) (t : NumberText) (answer : Result ℤ NumberFault) → IsNumberText t
     → text ≡ text_of t → answer ≡ fitted (denoted t)
     → ReadsAs text answer

@@ -40,6 +40,7 @@ front_even c w count e =
     ap (λ i. take i (padded w c ++ replicate (38 - w) 0)) (e ∙ sym (length-padded w c))
     ∙ take-append_seam (padded w c) (replicate (38 - w) 0)
 
+-- the pairs at the front, where the digits are odd in number
 front_odd : (c w count : ℕ) → 2 * count ≡ w + 1 → w < 38
     → take (2 * count) (padded w c ++ replicate (38 - w) 0) ≡ padded w c ++ 0 ∷ []
 front_odd c w count e few =
@@ -49,6 +50,7 @@ front_odd c w count e few =
     ∙ take-append-add (padded w c) (replicate (38 - w) 0) 1
     ∙ ap (λ i. padded w c ++ take 1 (replicate i 0)) is
 
+-- the pairs of a coefficient stand at the front of 38 digits
 pub pairs_front : (c w count : ℕ) → w ≡ width c → w ≤ 38 → count ≡ (w + 1) / 2
     → pairs (take (2 * count) (padded 38 (c * 10 ^ (38 - w)))) ≡ pairs (digits_of 10 c)
 pairs_front c w count e few half =
@@ -67,6 +69,7 @@ pairs_front c w count e few half =
 abbrev Small : ℕ → Type 0
 Small d = d < 10
 
+-- digits are below ten
 small_padded : (k n : ℕ) → All Small (padded k n)
 small_padded zero n = rw (padded-none n) (All-nil Small)
 small_padded (suc k) n = rw (padded-first k n)
@@ -77,10 +80,12 @@ All-take n xs all = λ k d h.
     let within : k < n = omega (arith, h, length-take n xs) in
     rw (get_or-take n xs k d within) (all k d (omega (arith, h, length-take n xs)))
 
+-- so are those at the front
 pub small_front : (n f : ℕ) (ds : List ℕ) → ds ≡ glyphs 0 (padded 38 f) → All Small (take n ds)
 small_front n f ds e = rw (e, glyphs-raw (padded 38 f))
     (All-take n (padded 38 f) (small_padded 38 f))
 
+-- the bytes of a magnitude, by coefficient and zeros
 pub magnitude_bytes-mul : (c z : ℕ) → 0 < c % 10
     → magnitude_bytes (c * 10 ^ z) ≡ (width c + z - 38) ∷ (pairs (digits_of 10 c) ++ 0 ∷ [])
 unfolding magnitude_bytes
@@ -104,10 +109,12 @@ module _ (sign c z : ℕ) (last : 0 < c % 10) (few : c < 10 ^ 38) where
 
 -- ---- the spelling of a `Decimal`
 
+-- zero, spelled
 pub spelled-zero : spelled (pos 0) ≡ 2 ∷ []
 unfolding spelled
 spelled-zero = refl
 
+-- a number above zero
 pub spelled-above : (d : Inside) → IsNormal d → 0 < d.coefficient → d.negative ≡ false
     → spelled (units_of d) ≡ 3 ∷ magnitude_bytes (d.coefficient * 10 ^ d.zeros)
 unfolding spelled
@@ -121,6 +128,7 @@ spelled-above d n above sign =
       ne_eqb m 0 (λ z. omega (arith, m_pos, z)),
     ) refl
 
+-- and one below
 pub spelled-below : (d : Inside) → IsNormal d → 0 < d.coefficient → d.negative ≡ true
     → spelled (units_of d) ≡ 1 ∷ complement (magnitude_bytes (d.coefficient * 10 ^ d.zeros))
 unfolding spelled
@@ -136,11 +144,13 @@ spelled-below d n above sign =
 
 -- ---- a negative number's bytes are flipped
 
+-- the first byte alone
 first_byte : (r x : ℕ) (buf m : List ℕ) → take r buf ≡ x ∷ m → take 1 buf ≡ x ∷ []
 first_byte zero x buf m e = cc
 first_byte (suc r) x [] m e = cc
 first_byte (suc r) x (b ∷ buf) m e = let same : b ≡ x = cc in ap (λ y. y ∷ []) same
 
+-- the bytes behind the first, flipped
 pub flipped : (r x : ℕ) (buf m f : List ℕ) → take r buf ≡ x ∷ m → r ≡ 1 + length m → r ≤ length buf
     → f ≡ complement (take (r - 1) (drop 1 buf))
     → take r (put_mid 1 (r - 1) buf f) ≡ x ∷ complement m
@@ -154,5 +164,6 @@ flipped r x buf m f e some within is =
     take-put_mid 1 (r - 1) buf f r len (omega (arith, some, within))
     ∙ ap (λ ts. ts ++ f) (first_byte r x buf m e) ∙ ap (λ ts. x ∷ ts) f_is
 
+-- flipping keeps the length
 pub length-complement : (bs : List ℕ) → length (complement bs) ≡ length bs
 length-complement bs = length-map bs (λ b. 255 - b)

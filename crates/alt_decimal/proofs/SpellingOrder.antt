@@ -26,6 +26,7 @@ use Rattle.alt_decimal.proofs.ReadBack.{Filling, filling, filled_pairs, filled_w
 cmp_less : (x y : ℕ) (xs ys : List ℕ) → x < y → slice_cmp nat_cmp (x ∷ xs) (y ∷ ys) ≡ Less
 cmp_less x y xs ys h = rw (nat_cmp-less x y h) refl
 
+-- two lists by their first members
 cmp_greater : (x y : ℕ) (xs ys : List ℕ) → y < x → slice_cmp nat_cmp (x ∷ xs) (y ∷ ys) ≡ Greater
 cmp_greater x y xs ys h = rw (nat_cmp-greater x y h) refl
 
@@ -86,11 +87,13 @@ Solid-rest p (q ∷ ps) h = λ some z.
 Solid-pos : (ps : List ℕ) → Solid ps → 0 < length ps → 0 < pairs_value_after 0 ps
 Solid-pos ps h some = let n = h some in omega (arith, n)
 
+-- a greater pair outweighs what follows
 value_less : (p q b x y : ℕ) → 0 < p → p < q → x < b → (p - 1) * b + x < (q - 1) * b + y
 value_less p q b x y some lt h =
     let i : p - 1 + 1 ≤ q - 1 = omega (arith, some, lt) in
     omega (arith, mul-le-mul_right b i, h)
 
+-- pairs are ordered as their numbers
 pub pairs_cmp : (k : ℕ) (ps qs : List ℕ) → IsPairs ps → IsPairs qs → length ps ≤ k → length qs ≤ k
     → Solid ps → Solid qs
     → slice_cmp nat_cmp (ps ++ 0 ∷ []) (qs ++ 0 ∷ []) ≡ nat_cmp (filled_to k ps) (filled_to k qs)
@@ -163,6 +166,7 @@ filled_coefficient t z f =
           ∙ ap (λ x. t * x) (sym (pow-add 10 1 (2 * (19 - h.n)))) ∙ ap (λ j. t * 10 ^ j) (sym i)
     ]
 
+-- the pairs of a coefficient end with no empty one
 solid_coefficient : (t z : ℕ) → Fitting t z → Solid (pairs (digits_of 10 t))
 solid_coefficient t z f = λ some z.
     let h : Filling t = filling t in
@@ -170,14 +174,17 @@ solid_coefficient t z f = λ some z.
     let w : IsWhole h.c h.n = filled_whole t f.last f.few h in
     w.last (sym (ap (λ v. v % 100) a.value) ∙ z)
 
+-- they are pairs
 pub all_coefficient : (t z : ℕ) → Fitting t z → IsPairs (pairs (digits_of 10 t))
 all_coefficient t z f = let a = filled_pairs t f.last f.few (filling t) in a.all
 
+-- and few
 few_coefficient : (t z : ℕ) → Fitting t z → length (pairs (digits_of 10 t)) ≤ 19
 few_coefficient t z f =
     let a = filled_pairs t f.last f.few (filling t) in
     omega (arith, a.count, filled_few t f.last f.few (filling t))
 
+-- coefficients at one place
 scaled : (t z s : ℕ) → Fitting t z → s ≡ width t + z
     → t * 10 ^ (38 - width t) * 10 ^ s ≡ t * 10 ^ z * 10 ^ 38
 scaled t z s f e =
@@ -185,6 +192,7 @@ scaled t z s f e =
     mul-zeros (t * 10 ^ (38 - width t)) t (38 - width t) s refl ∙ ap (λ j. t * 10 ^ j) i
     ∙ sym (mul-zeros (t * 10 ^ z) t z 38 refl)
 
+-- magnitudes are ordered as their bytes
 magnitude_cmp : (t y u z : ℕ) → Fitting t y → Fitting u z
     → slice_cmp nat_cmp (magnitude_bytes (t * 10 ^ y)) (magnitude_bytes (u * 10 ^ z))
     ≡ nat_cmp (t * 10 ^ y) (u * 10 ^ z)
@@ -224,6 +232,7 @@ magnitude_cmp t y u z f g =
 
 -- ---- flipped bytes
 
+-- flipped bytes are ordered the other way round
 flip_nat : (x y : ℕ) → x < 256 → y < 256 → nat_cmp (255 - x) (255 - y) ≡ nat_cmp y x
 flip_nat x y hx hy = elim (cases_order x y) [
   | inl e ↦ nat_cmp-equal (255 - x) (255 - y) (omega (arith, e)) ∙ sym (nat_cmp-equal y x (sym e))
@@ -234,6 +243,7 @@ flip_nat x y hx hy = elim (cases_order x y) [
   ]
 ]
 
+-- and so are flipped pairs
 flip_pairs : (ps qs : List ℕ) → IsPairs ps → IsPairs qs
     → slice_cmp nat_cmp (complement (ps ++ 0 ∷ [])) (complement (qs ++ 0 ∷ []))
     ≡ slice_cmp nat_cmp (qs ++ 0 ∷ []) (ps ++ 0 ∷ [])
@@ -245,6 +255,7 @@ flip_pairs (p ∷ ps) [] hp hq = cmp_less (255 - p) 255 (complement (ps ++ 0 ∷
 flip_pairs (p ∷ ps) (q ∷ qs) hp hq =
     rw (flip_nat p q (omega (arith, hp.0)) (omega (arith, hq.0)), flip_pairs ps qs hp.1 hq.1) refl
 
+-- and magnitudes below zero
 flip_magnitude : (t y u z : ℕ) → Fitting t y → Fitting u z
     → slice_cmp nat_cmp (complement (magnitude_bytes (t * 10 ^ y)))
     (complement (magnitude_bytes (u * 10 ^ z)))
@@ -271,9 +282,11 @@ pub data Look (u : ℤ) : Type 0 where
   under : (t z : ℕ) → Fitting t z → u ≡ neg_ℤ (pos (t * 10 ^ z))
       → spelled u ≡ 1 ∷ complement (magnitude_bytes (t * 10 ^ z)) → Look u
 
+-- a magnitude is above zero
 above_zero : (t z : ℕ) → Fitting t z → 0 < t * 10 ^ z
 above_zero t z f = mul-pos (omega (arith, f.last)) (ten_pow_pos z)
 
+-- two spellings, and two numbers, by what they are
 both : (u v : ℤ) (x y : List ℕ) → spelled u ≡ x → spelled v ≡ y
     → slice_cmp nat_cmp (spelled u) (spelled v) ≡ slice_cmp nat_cmp x y
 both u v x y e f = ap (λ s. slice_cmp nat_cmp s (spelled v)) e ∙ ap (slice_cmp nat_cmp x) f
@@ -281,6 +294,7 @@ both u v x y e f = ap (λ s. slice_cmp nat_cmp s (spelled v)) e ∙ ap (slice_cm
 numbers : (u v a b : ℤ) → u ≡ a → v ≡ b → int_cmp a b ≡ int_cmp u v
 numbers u v a b e f = sym (ap (λ s. int_cmp s v) e ∙ ap (int_cmp a) f)
 
+-- two spellings by the signs of their numbers
 looks_cmp : (u v : ℤ) → Look u → Look v → slice_cmp nat_cmp (spelled u) (spelled v) ≡ int_cmp u v
 looks_cmp u v (at_zero e s) (at_zero f r) = both u v _ _ s r
     ∙ sym (int_cmp-pos 0 0 ∙ nat_cmp-equal 0 0 refl) ∙ numbers u v (pos 0) (pos 0) e f
@@ -322,6 +336,7 @@ looks_cmp u v (under t y g e s) (under t' z h f r) =
     ∙ sym (int_cmp-neg (t * 10 ^ y) (t' * 10 ^ z))
     ∙ numbers u v (neg_ℤ (pos (t * 10 ^ y))) (neg_ℤ (pos (t' * 10 ^ z))) e f
 
+-- each number looks like one of these
 look_above : (d : Inside) → IsNormal d → 0 < d.coefficient → Look (units_of d)
 look_above d n above =
     let f : Fitting d.coefficient d.zeros = record {
@@ -337,6 +352,7 @@ look_above d n above =
           (ap (λ s. with_sign s (d.coefficient * 10 ^ d.zeros)) plus) (spelled-above d n above plus)
     ]
 
+-- zero too
 pub look : (d : Inside) → IsNormal d → Look (units_of d)
 look d n = elim (cases_lt 0 d.coefficient) [
   | inl above ↦ look_above d n above
@@ -346,6 +362,7 @@ look d n = elim (cases_lt 0 d.coefficient) [
       at_zero e (ap spelled e ∙ spelled-zero)
 ]
 
+-- so spellings are ordered as their numbers
 pub spelled_cmp : (d e : Inside) → IsNormal d → IsNormal e
     → int_cmp (units_of d) (units_of e) ≡ slice_cmp nat_cmp (spelled (units_of d))
     (spelled (units_of e))

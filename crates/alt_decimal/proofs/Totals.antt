@@ -15,6 +15,7 @@ abbrev pub sum_at : Bool → ℕ → ℕ → Bool → ℕ → ℕ → ℤ
 sum_at an a shift bn b zeros = with_sign an (a * 10 ^ (zeros + shift)) +ℤ with_sign bn
     (b * 10 ^ zeros)
 
+-- a sum at one place
 pub sum_at-widened : (an : Bool) (a shift : ℕ) (bn : Bool) (b z x : ℕ) → x ≡ a * 10 ^ shift
     → sum_at an a shift bn b z ≡ with_sign an (x * 10 ^ z) +ℤ with_sign bn (b * 10 ^ z)
 sum_at-widened an a shift bn b z x e =
@@ -48,6 +49,7 @@ many_unlike an a k bn b z unlike last long =
     ap fitted_units e ∙ fitted_units-many an (x - b) z (omega arith)
     (omega (arith, last_widened a k))
 
+-- a coefficient that grows past 128 bits has too many digits
 pub many_widened : (an : Bool) (a shift : ℕ) (bn : Bool) (b z : ℕ) → a < 10 ^ 38 → b < 10 ^ 38
     → 0 < b % 10 → 2 ^ 128 ≤ a * 10 ^ shift
     → fitted_units (sum_at an a shift bn b z) ≡ Err TooManyDigits
@@ -63,6 +65,7 @@ beq-same true true e = refl
 beq-same false true e = cc
 beq-same true false e = cc
 
+-- and so has its sum
 pub many_sum : (an : Bool) (a shift : ℕ) (bn : Bool) (b z : ℕ) → a < 10 ^ 38 → b < 10 ^ 38
     → 0 < b % 10 → an ≡ bn → 2 ^ 128 ≤ a * 10 ^ shift + b
     → fitted_units (sum_at an a shift bn b z) ≡ Err TooManyDigits

@@ -10,6 +10,7 @@ pub record Trimmed (n : ℕ) : Type 0 where
   pub is : n ≡ coefficient * 10 ^ behind
   pub last : 0 < coefficient % 10
 
+-- a number without its zeros, in so many steps
 trimmed_within : (f n : ℕ) → 0 < n → n ≤ f → Trimmed n
 trimmed_within zero n some h = absurd (omega arith)
 trimmed_within (suc f) n some h = elim (cases_eq (n % 10) 0) [
@@ -32,5 +33,6 @@ trimmed_within (suc f) n some h = elim (cases_eq (n % 10) 0) [
   }
 ]
 
+-- each number above zero is one with zeros behind it
 pub trimmed_of : (n : ℕ) → 0 < n → Trimmed n
 trimmed_of n h = trimmed_within n n h (omega arith)

@@ -7,12 +7,15 @@ use Rattle.alt_decimal.specs.Coefficient.{Trims}
 abbrev pub zeros : ℕ → List ℕ
 zeros k = replicate k 48
 
+-- the first digit isn't 0
 abbrev pub First : List ℕ → Type 0
 First ds = 0 < length ds → get_or ds 0 0 ≢ 48
 
+-- nor is the last
 abbrev pub Last : List ℕ → Type 0
 Last ds = 0 < length ds → get_or ds (length ds - 1) 0 ≢ 48
 
+-- a list without members
 empty : (ds : List ℕ) → length ds ≡ 0 → ds ≡ []
 empty [] h = refl
 empty (d ∷ ds) h = absurd (omega arith)
@@ -25,6 +28,7 @@ First-append : (w ys : List ℕ) → 0 < length w → First w → First (w ++ ys
 First-append [] ys some h = absurd (omega arith)
 First-append (d ∷ w) ys some h = λ _. h some
 
+-- the last of two lists is that of the second
 at_end : (xs ys : List ℕ) → 0 < length ys → get_or (xs ++ ys) (length (xs ++ ys) - 1) 0
     ≡ get_or ys (length ys - 1) 0
 at_end xs ys some =

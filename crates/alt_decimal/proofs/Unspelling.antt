@@ -16,6 +16,7 @@ abbrev pub IsPairs : List ℕ → Type 0
 IsPairs [] = Unit {0}
 IsPairs (b ∷ bs) = IsPair b × IsPairs bs
 
+-- one pair more is a factor of a hundred
 pub hundred : (n : ℕ) → 10 ^ (2 * suc n) ≡ 10 ^ (2 * n) * 100
 hundred n = let e : 2 * suc n ≡ 2 * n + 2 = omega arith in ap (λ i. 10 ^ i) e ∙ pow-add 10 (2 * n) 2
 
@@ -28,11 +29,13 @@ pairs_after c (b ∷ bs) =
     ap (λ q. c * q) (hundred (length bs)) in
     omega (arith, p, pairs_after (c * 100 + (b - 1)) bs, pairs_after (0 * 100 + (b - 1)) bs)
 
+-- the number of pairs behind others
 pub pairs_after-append : (c : ℕ) (xs ys : List ℕ)
     → pairs_value_after c (xs ++ ys) ≡ pairs_value_after (pairs_value_after c xs) ys
 pairs_after-append c [] ys = refl
 pairs_after-append c (x ∷ xs) ys = pairs_after-append (c * 100 + (x - 1)) xs ys
 
+-- pairs have as many digits as they
 pub pairs_below : (bs : List ℕ) → IsPairs bs → pairs_value_after 0 bs < 10 ^ (2 * length bs)
 pairs_below [] h = omega arith
 pairs_below (b ∷ bs) h =
@@ -78,6 +81,7 @@ pub record AreOf (n v : ℕ) (bs : List ℕ) : Type 0 where
   pub count : length bs ≡ n
   pub value : pairs_value_after 0 bs ≡ v
 
+-- the pairs of a number have that number
 pub pairs_of : (n v : ℕ) → v < 10 ^ (2 * n) → AreOf n v (pairs (padded (2 * n) v))
 pairs_of zero v h =
     let none : padded (2 * 0) v ≡ [] = padded-none v in
@@ -108,6 +112,7 @@ pairs_of (suc n) v h =
 
 -- ---- the loop over the bytes
 
+-- a byte as it was, at its place
 pub raws-at : (negative : Bool) (bytes : List ℕ) (i : ℕ) → i < length bytes
     → get_or (raws negative bytes) i 0 ≡ raw negative (get_or bytes i 0)
 raws-at negative bytes i h = get_or-map (raw negative) bytes i 0 0 h
@@ -135,6 +140,7 @@ pairs_more bs i c p h at value =
     ap (λ v. v * 100 + (p - 1)) value ∙ ap (λ q. pairs_value_after 0 (take i bs) * 100 + (q - 1)) at
     ∙ sym more
 
+-- one pair more has two digits more
 pub below_more_pairs : (i c p : ℕ) → c < 10 ^ (2 * i) → p ≤ 100 → 0 < p
     → c * 100 + (p - 1) < 10 ^ (2 * (i + 1))
 below_more_pairs i c p h most some =
@@ -142,5 +148,6 @@ below_more_pairs i c p h most some =
     let e : 10 ^ (2 * (i + 1)) ≡ 10 ^ (2 * i) * 100 = ap (λ k. 10 ^ (2 * k)) next ∙ hundred i in
     omega (arith, e, h)
 
+-- and there is room for it
 pub room_more : (i c : ℕ) → c < 10 ^ (2 * i) → i < 19 → c < 10 ^ 36
 room_more i c h few = omega (arith, h, ten_pow-le (2 * i) 36 (omega arith))

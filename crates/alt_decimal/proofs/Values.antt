@@ -29,20 +29,24 @@ value_after c (d ∷ ds) =
       value_after (0 * 10 + digit_value d) ds,
     )
 
+-- the number of digits behind others
 pub value_append : (c : ℕ) (xs ys : List ℕ) → digits_value_after 10 c (xs ++ ys)
     ≡ digits_value_after 10 (digits_value_after 10 c xs) ys
 value_append c [] ys = refl
 value_append c (x ∷ xs) ys = value_append (c * 10 + digit_value x) xs ys
 
+-- zeros in front don't matter
 pub value_zeros_before : (k : ℕ) (ds : List ℕ)
     → digits_value 10 (replicate k 48 ++ ds) ≡ digits_value 10 ds
 value_zeros_before zero ds = refl
 value_zeros_before (suc k) ds = value_zeros_before k ds
 
+-- zeros behind a number
 value_zeros : (c k : ℕ) → digits_value_after 10 c (replicate k 48) ≡ c * 10 ^ k
 value_zeros c zero = omega arith
 value_zeros c (suc k) = value_zeros (c * 10 + 0) k ∙ omega (arith, ap (λ q. c * q) (pow-suc 10 k))
 
+-- and behind digits
 pub value_zeros_behind : (ds : List ℕ) (k : ℕ)
     → digits_value 10 (ds ++ replicate k 48) ≡ digits_value 10 ds * 10 ^ k
 value_zeros_behind ds k = value_append 0 ds (replicate k 48) ∙ value_zeros (digits_value 10 ds) k
@@ -53,10 +57,12 @@ pub AllDigits-append : (xs ys : List ℕ) → AllDigits 10 xs → AllDigits 10 y
 AllDigits-append [] ys p q = q
 AllDigits-append (x ∷ xs) ys p q = (p.0, AllDigits-append xs ys p.1 q)
 
+-- parts of digits are digits
 pub AllDigits-front : (xs ys : List ℕ) → AllDigits 10 (xs ++ ys) → AllDigits 10 xs
 AllDigits-front [] ys p = tt
 AllDigits-front (x ∷ xs) ys p = (p.0, AllDigits-front xs ys p.1)
 
+-- and so is the rest
 pub AllDigits-back : (xs ys : List ℕ) → AllDigits 10 (xs ++ ys) → AllDigits 10 ys
 AllDigits-back [] ys p = p
 AllDigits-back (x ∷ xs) ys p = AllDigits-back xs ys p.1
@@ -84,12 +90,14 @@ value_last_after c (d ∷ e ∷ ds) zero all h = absurd (omega arith)
 value_last_after c (d ∷ e ∷ ds) (suc n) all h =
     value_last_after (c * 10 + digit_value d) (e ∷ ds) n all.1 (omega arith)
 
+-- the digit at a place
 pub AllDigits-at : (ds : List ℕ) (n : ℕ) → AllDigits 10 ds → n < length ds
     → digit_value (get_or ds n 0) < 10
 AllDigits-at [] n all h = absurd (omega arith)
 AllDigits-at (d ∷ ds) zero all h = all.0
 AllDigits-at (d ∷ ds) (suc n) all h = AllDigits-at ds n all.1 (omega arith)
 
+-- a last digit that isn't 0
 pub value_last : (ds : List ℕ) (n : ℕ) → AllDigits 10 ds → length ds ≡ suc n → get_or ds n 0 ≢ 48
     → 0 < digits_value 10 ds % 10
 value_last ds n all h last =
@@ -106,6 +114,7 @@ value_last ds n all h last =
 abbrev pub HasRoom : ℕ → List ℕ → Type 0
 HasRoom c ds = (c + 1) * 10 ^ length ds ≤ 10 ^ 38
 
+-- where there is room, there are few digits
 pub few_digits : (c : ℕ) (ds : List ℕ) → HasRoom c ds → length ds ≤ 38
 few_digits c ds room = elim (cases_lt 38 (length ds)) [
   | inl lt ↦
@@ -115,6 +124,7 @@ few_digits c ds room = elim (cases_lt 38 (length ds)) [
   | inr le ↦ le
 ]
 
+-- there is room for a part
 pub HasRoom-front : (c : ℕ) (xs ys : List ℕ) → HasRoom c (xs ++ ys) → HasRoom c xs
 HasRoom-front c xs ys room =
     let e : 10 ^ length (xs ++ ys) ≡ 10 ^ length xs * 10 ^ length ys =
@@ -123,6 +133,7 @@ HasRoom-front c xs ys room =
     mul-le-mul_left ((c + 1) * 10 ^ length xs) (ten_pow_pos (length ys)) in
     omega (arith, room, p, ap (λ q. (c + 1) * q) e)
 
+-- and for the rest behind it
 pub HasRoom-back : (c : ℕ) (xs ys : List ℕ) → AllDigits 10 xs → HasRoom c (xs ++ ys)
     → HasRoom (digits_value_after 10 c xs) ys
 HasRoom-back c xs ys all room =
@@ -133,5 +144,6 @@ HasRoom-back c xs ys all room =
     let p = mul-le-mul_right (10 ^ length ys) v in
     omega (arith, room, p, ap (λ q. (c + 1) * q) e)
 
+-- few digits have room
 pub HasRoom-few : (ds : List ℕ) → length ds ≤ 38 → HasRoom 0 ds
 HasRoom-few ds few = omega (arith, ten_pow-le (length ds) 38 few)

@@ -8,6 +8,7 @@ use Rattle.std.proofs.lemmas.Int.Digits.{length-digits_of-le, number_lt, number_
 use Rattle.alt_decimal.specs.Digits.{width}
 use Rattle.alt_decimal.specs.Normal.{ten_pow_pos}
 
+-- powers of ten rise
 pub ten_pow-le : (i j : ℕ) → i ≤ j → 10 ^ i ≤ 10 ^ j
 ten_pow-le i j h = pow-le-pow_right {n = 10} (omega arith) {i = i} {j = j} h
 
@@ -23,6 +24,7 @@ pub width-le : (k n : ℕ) → n < 10 ^ k → width n ≤ k
 unfolding width
 width-le k n h = length-digits_of-le 10 k n (omega arith) h
 
+-- a number has no more digits than it has
 pub lt-width : (n : ℕ) → n < 10 ^ width n
 unfolding width
 lt-width n = let two : 2 ≤ 10 = omega arith in
@@ -37,6 +39,7 @@ width-gt k n h = elim (cases_lt k (width n)) [
       absurd (omega (arith, lt-width n))
 ]
 
+-- how many digits, by two powers of ten
 pub width_is : (k n : ℕ) → 10 ^ k ≤ n → n < 10 * 10 ^ k → width n ≡ k + 1
 width_is k n low high = omega (
   arith,
@@ -44,10 +47,12 @@ width_is k n low high = omega (
   width-le (suc k) n (rw pow-suc (omega arith)),
 )
 
+-- zero has none
 pub width-zero : width 0 ≡ 0
 unfolding width
 width-zero = refl
 
+-- a number above zero has one
 pub width-pos : (n : ℕ) → 0 < n → 0 < width n
 width-pos n h = width-gt 0 n (omega arith)
 
@@ -58,6 +63,7 @@ width-low n k e = elim (cases_lt n (10 ^ k)) [
   | inr le ↦ le
 ]
 
+-- a number above zero is one more than another
 pub case_pos : (n : ℕ) → 0 < n → (w : ℕ) × (n ≡ suc w)
 case_pos zero h = absurd (omega arith)
 case_pos (suc w) h = (w, refl)
@@ -94,6 +100,7 @@ zeros-lt c k m h below = elim (cases_lt k m) [
       absurd (omega (arith, p, q, below))
 ]
 
+-- a number with zeros behind it, from below
 pub mul-ge : (n k m : ℕ) → 0 < n → m < width n + k → 10 ^ m ≤ n * 10 ^ k
 mul-ge n k m n_pos h =
     let (w, e) = case_pos (width n) (width-pos n n_pos) in
@@ -118,6 +125,7 @@ mul-width_gt c k m h = elim (cases_lt m (width c + k)) [
   ))
 ]
 
+-- and from above
 pub mul-width_le : (c k m : ℕ) → 0 < c → c * 10 ^ k < 10 ^ m → width c + k ≤ m
 mul-width_le c k m above h = elim (cases_lt m (width c + k)) [
   | inl lt ↦ absurd (omega (arith, mul-ge c k m above lt, h))

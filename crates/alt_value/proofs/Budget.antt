@@ -7,6 +7,7 @@ use Rattle.alt_value.specs.Size.{left_after}
 enough : (budget n : ℕ) → n ≤ budget → left_after budget n ≡ Some (budget - n)
 enough budget n h = rw (le-leb n budget h) refl
 
+-- one that isn't
 wanting : (budget n : ℕ) → budget < n → left_after budget n ≡ None
 wanting budget n h = rw (lt-leb n budget h) refl
 

@@ -93,6 +93,7 @@ name_before : (name : List ℕ) (e : Entry) → text_order e.name name ≡ Great
     → text_order name e.name ≡ Less
 name_before name e h = turned text_order text_total e.name name Greater h
 
+-- a name ties with itself
 name_itself : (name other : List ℕ) → other ≡ name → text_order name other ≡ Equal
 name_itself name other e = rw e (tied_itself text_total name)
 
@@ -105,6 +106,7 @@ later_stands name e es i s = record {
   before = λ k d below. s.before (suc k) d (omega arith);
 }
 
+-- nor does a name that goes there
 later_goes : (name : List ℕ) (e : Entry) (es : List Entry) (i : ℕ) → GoesTo name (e ∷ es) (suc i)
     → GoesTo name es i
 later_goes name e es i g = record {
@@ -113,6 +115,7 @@ later_goes name e es i g = record {
   after = λ k d from below. g.after (suc k) d (omega arith) (omega arith);
 }
 
+-- nor one that goes in front of all
 none_left : (name : List ℕ) (e : Entry) (es : List Entry) → GoesTo name (e ∷ es) zero
     → GoesTo name es zero
 none_left name e es g = record {

@@ -16,10 +16,12 @@ pub first : (a b : Bool) → T (a && b) → T a
 first true b p = tt
 first false b p = p
 
+-- and so does the second
 pub second : (a b : Bool) → T (a && b) → T b
 second true b p = p
 second false b p = absurd p
 
+-- and both where each does
 pub both : (a b : Bool) → T a → T b → T (a && b)
 both true b p q = q
 both false b p q = p
@@ -30,6 +32,7 @@ less Less p = refl
 less Equal p = absurd p
 less Greater p = absurd p
 
+-- and says so where it is
 pub is_less : (r : Ordering) → r ≡ Less → T (is_lt r)
 is_less r e = subst (λ s. T (is_lt s)) (sym e) tt
 

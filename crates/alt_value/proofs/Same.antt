@@ -12,6 +12,7 @@ use Rattle.alt_value.proofs.Trees.{elements-trees_of, pairs-fields_of}
 pub texts_decide : (xs ys : List (List ℕ)) → Decides (pointwise (pointwise nat_eq) xs ys) (xs ≡ ys)
 texts_decide xs ys = pointwise_decides bytes_decides xs ys
 
+-- and lists of numbers
 pub numbers_decide : (xs ys : List ℤ) → Decides (pointwise int_eq xs ys) (xs ≡ ys)
 numbers_decide xs ys = pointwise_decides Decides-int_eq xs ys
 

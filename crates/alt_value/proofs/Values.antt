@@ -79,6 +79,7 @@ IsItemOfValues-without name ps h = record {
 pub IsValue-list : (ts : List Tree) → IsListOfValues ts → IsValue (L_tree (trees_of ts))
 IsValue-list ts h = (h.0, subst IsShort (sym (elements-trees_of ts)) h.1)
 
+-- so is the map of an item's pairs
 pub IsValue-map : (ps : List Pair) → IsItemOfValues ps → IsValue (M_tree (fields_of ps))
 IsValue-map ps h = (
   subst IsItem (sym (pairs-fields_of ps)) h.names,

@@ -19,7 +19,8 @@ length-fielded : (s x : List ℕ) → length (field s ++ x) ≡ 8 + length s + l
 length-fielded s x = omega (arith, length-append (field s) x, length-field s)
 
 -- where a right field stands, there is one
-pub field-refuted : (P : List ℕ → Type 0) (bytes : List ℕ) (left : ℕ) → NoField P bytes left → (s behind : List ℕ) → IsShort s → P s
+pub field-refuted : (P : List ℕ → Type 0) (bytes : List ℕ) (left : ℕ) → NoField P bytes left
+    → (s behind : List ℕ) → IsShort s → P s
     → bytes ≡ field s ++ behind → ⊥
 field-refuted P bytes left stops s behind short right is = elim stops [
   | inl cut ↦ field_whole bytes s behind short is cut.0
@@ -28,32 +29,39 @@ field-refuted P bytes left stops s behind short right is = elim stops [
       other.4 (rw same.0 right)
 ]
 
-pub field-left : (P : List ℕ → Type 0) (bytes : List ℕ) (left : ℕ) → NoField P bytes left → left ≤ length bytes
+-- no more bytes are left than there are
+pub field-left : (P : List ℕ → Type 0) (bytes : List ℕ) (left : ℕ) → NoField P bytes left
+    → left ≤ length bytes
 field-left P bytes left stops = elim stops [
   | inl cut ↦ omega (arith, cut.1)
   | inr other ↦ omega (arith, other.5)
 ]
 
 -- a field with fewer contents
-pub field-fewer : (P Q : List ℕ → Type 0) (bytes : List ℕ) (left : ℕ) → ((s : List ℕ) → Q s → P s) → NoField P bytes left → NoField Q bytes left
+pub field-fewer : (P Q : List ℕ → Type 0) (bytes : List ℕ) (left : ℕ) → ((s : List ℕ) → Q s → P s)
+    → NoField P bytes left → NoField Q bytes left
 field-fewer P Q bytes left all stops = elim stops [
   | inl cut ↦ inl cut
   | inr other ↦ inr (other.0, other.1, other.2, other.3, (λ q. other.4 (all other.0 q)), other.5)
 ]
 
 -- where a right number stands, there is one
-pub number-refuted : (P : ℤ → Type 0) (bytes : List ℕ) (left : ℕ) → NoNumber P bytes left → (z : ℤ) (behind : List ℕ) → Fits z → P z
+pub number-refuted : (P : ℤ → Type 0) (bytes : List ℕ) (left : ℕ) → NoNumber P bytes left
+    → (z : ℤ) (behind : List ℕ) → Fits z → P z
     → bytes ≡ spelled z ++ behind → ⊥
 number-refuted P bytes left stops z behind fits right is = elim stops [
   | inl none ↦ none.0 z behind fits is
-  | inr other ↦ let same = spelled_apart other.0 z other.1 behind other.2 fits (sym other.3 ∙ is) in other.4 (rw same.0 right)
+  | inr other ↦ let same = spelled_apart other.0 z other.1 behind other.2 fits (sym other.3 ∙ is) in
+      other.4 (rw same.0 right)
 ]
 
+-- nor where a number stops
 left_if : (b : Bool) (n left : ℕ) → left ≡ (if b then 0 else n) → left ≤ n
 left_if true n left e = omega (arith, e)
 left_if false n left e = omega (arith, e)
 
-pub number-left : (P : ℤ → Type 0) (bytes : List ℕ) (left : ℕ) → NoNumber P bytes left → left ≤ length bytes
+pub number-left : (P : ℤ → Type 0) (bytes : List ℕ) (left : ℕ) → NoNumber P bytes left
+    → left ≤ length bytes
 number-left P bytes left stops = elim stops [
   | inl none ↦ left_if (is_cut_number bytes) (length bytes) left none.1
   | inr other ↦ omega (arith, other.5)

@@ -7,6 +7,7 @@ use Rattle.alt_fields.proofs.Apart.{all_map}
 use Rattle.alt_value.specs.CellBytes.{cell_bytes, counted}
 use Rattle.alt_value.specs.Size.{depth, elements_depth, fields_depth}
 use Rattle.alt_value.specs.Tree.{Tree, S_tree, N_tree, B_tree, BOOL_tree, NULL_tree, SS_tree, NS_tree, BS_tree, L_tree, M_tree, Trees, no_trees, tree_then, Fields, no_fields, field_then, elements, pairs}
+use Rattle.alt_value.proofs.Places.{both, first, second}
 use Rattle.alt_value.specs.Values.{IsValue, AreValues, AreFields, is_full, sets_full, elements_full, fields_full, IsWhole}
 use Rattle.alt_cellbytes.specs.Places.{entry_bytes}
 use Rattle.alt_cellbytes.specs.Values.{HasBytes, HaveBytes, FieldsHaveBytes}
@@ -21,19 +22,6 @@ is_some : {K : Type 0} (ks : List K) → 0 < length ks → T (is_full ks)
 is_some [] h = absurd (omega arith)
 is_some (k ∷ ks) h = tt
 
--- tests of both, and what they tell
-both : (a b : Bool) → T a → T b → T (a && b)
-both true b p q = q
-both false b p q = p
-
-first : (a b : Bool) → T (a && b) → T a
-first true b p = tt
-first false b p = p
-
-second : (a b : Bool) → T (a && b) → T b
-second true b p = p
-second false b p = absurd p
-
 mutual
   has_bytes : (t : Tree) → IsValue t → T (sets_full t) → HasBytes t
   has_bytes (S_tree s) v full = v
@@ -43,19 +31,28 @@ mutual
   has_bytes NULL_tree v full = tt
   has_bytes (SS_tree ss) v full = (some_member ss full, v.2, (v.0, v.1))
   has_bytes (NS_tree zs) v full = (some_member zs full, v.2, (v.0, v.1))
-  has_bytes (BS_tree bs) v full = (some_member bs full, v.2, (all_map IsBytes IsShort bs (λ b h. h.1) v.0, v.1))
+  has_bytes (BS_tree bs) v full = (
+    some_member bs full,
+    v.2,
+    (all_map IsBytes IsShort bs (λ b h. h.1) v.0, v.1),
+  )
   has_bytes (L_tree ts) v full = (v.1, have_bytes ts v.0 full)
   has_bytes (M_tree fs) v full = (v.2, v.0, fields_have fs v.1 full)
 
   have_bytes : (ts : Trees) → AreValues ts → T (elements_full ts) → HaveBytes ts
   have_bytes no_trees v full = tt
-  have_bytes (tree_then t ts) v full =
-      (has_bytes t v.0 (first (sets_full t) (elements_full ts) full), have_bytes ts v.1 (second (sets_full t) (elements_full ts) full))
+  have_bytes (tree_then t ts) v full = (
+    has_bytes t v.0 (first (sets_full t) (elements_full ts) full),
+    have_bytes ts v.1 (second (sets_full t) (elements_full ts) full),
+  )
 
   fields_have : (fs : Fields) → AreFields fs → T (fields_full fs) → FieldsHaveBytes fs
   fields_have no_fields v full = tt
-  fields_have (field_then name t fs) v full =
-      (v.0, has_bytes t v.1 (first (sets_full t) (fields_full fs) full), fields_have fs v.2 (second (sets_full t) (fields_full fs) full))
+  fields_have (field_then name t fs) v full = (
+    v.0,
+    has_bytes t v.1 (first (sets_full t) (fields_full fs) full),
+    fields_have fs v.2 (second (sets_full t) (fields_full fs) full),
+  )
 
 -- a value that is stored or sent has cell bytes
 pub whole_has : (t : Tree) → IsWhole t → HasBytes t
@@ -77,14 +74,17 @@ mutual
 
   full_elements : (ts : Trees) → HaveBytes ts → T (elements_full ts)
   full_elements no_trees h = tt
-  full_elements (tree_then t ts) h = both (sets_full t) (elements_full ts) (full_of t h.0) (full_elements ts h.1)
+  full_elements (tree_then t ts) h = both (sets_full t) (elements_full ts) (full_of t h.0)
+      (full_elements ts h.1)
 
   full_fields : (fs : Fields) → FieldsHaveBytes fs → T (fields_full fs)
   full_fields no_fields h = tt
-  full_fields (field_then name t fs) h = both (sets_full t) (fields_full fs) (full_of t h.1) (full_fields fs h.2)
+  full_fields (field_then name t fs) h = both (sets_full t) (fields_full fs) (full_of t h.1)
+      (full_fields fs h.2)
 
 -- each level of a value takes a byte at least
 mutual
+  -- so its depth is no more than its bytes
   pub depth-short : (t : Tree) → depth t ≤ length (cell_bytes t)
   depth-short (S_tree s) = omega arith
   depth-short (N_tree z) = omega arith
@@ -97,18 +97,43 @@ mutual
   depth-short (L_tree ts) =
       let n = length (elements ts) in
       let behind = flat_map cell_bytes (elements ts) in
-      omega (arith, elements-short ts, ap length (list_front ts []), length-append (cell_bytes (L_tree ts)) [], length-append (counted n) (behind ++ []), length-append behind [])
+      omega (
+        arith,
+        elements-short ts,
+        ap length (list_front ts []),
+        length-append (cell_bytes (L_tree ts)) [],
+        length-append (counted n) (behind ++ []),
+        length-append behind [],
+      )
   depth-short (M_tree fs) =
       let n = length (pairs fs) in
       let behind = flat_map entry_bytes (pairs fs) in
-      omega (arith, fields-short fs, ap length (map_front fs []), length-append (cell_bytes (M_tree fs)) [], length-append (counted n) (behind ++ []), length-append behind [])
+      omega (
+        arith,
+        fields-short fs,
+        ap length (map_front fs []),
+        length-append (cell_bytes (M_tree fs)) [],
+        length-append (counted n) (behind ++ []),
+        length-append behind [],
+      )
 
   elements-short : (ts : Trees) → elements_depth ts ≤ length (flat_map cell_bytes (elements ts))
   elements-short no_trees = omega arith
   elements-short (tree_then t ts) =
-      omega (arith, depth-short t, elements-short ts, length-append (cell_bytes t) (flat_map cell_bytes (elements ts)))
+      omega (
+        arith,
+        depth-short t,
+        elements-short ts,
+        length-append (cell_bytes t) (flat_map cell_bytes (elements ts)),
+      )
 
   fields-short : (fs : Fields) → fields_depth fs ≤ length (flat_map entry_bytes (pairs fs))
   fields-short no_fields = omega arith
   fields-short (field_then name t fs) =
-      omega (arith, depth-short t, fields-short fs, length-append (entry_bytes (name, t)) (flat_map entry_bytes (pairs fs)), length-append (field name) (cell_bytes t))
+      omega (
+        arith,
+        depth-short t,
+        fields-short fs,
+        length-append (entry_bytes (name, t)) (flat_map entry_bytes (pairs fs)),
+        length-append (field name) (cell_bytes t),
+      )

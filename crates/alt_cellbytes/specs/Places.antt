@@ -43,6 +43,7 @@ abbrev pub is_unclosed : ℕ → List ℕ → Bool
 is_unclosed close [] = true
 is_unclosed close (place ∷ pairs) = nat_lt (length pairs) 20 && not (list_any (λ b. b == close) pairs)
 
+-- the bytes end before a number does
 abbrev pub is_cut_number : List ℕ → Bool
 is_cut_number [] = true
 is_cut_number (b ∷ bytes) = if b == 1 then is_unclosed 255 bytes else if b == 3 then is_unclosed 0 bytes else false
@@ -86,12 +87,15 @@ pub record NoMember {K : Type 0} (spell : K → List ℕ) (Are : List K → Type
 abbrev pub IsNextText : List (List ℕ) → List ℕ → Type 0
 IsNextText ss s = IsUtf8 s × IsSet text_order (ss ++ s ∷ [])
 
+-- fewer texts than were told, and behind them none that could be the next
 abbrev pub NoText : ℕ → List ℕ → ℕ → Type 0
 NoText = NoMember field (AreRising IsText text_order) (λ ss. NoField (IsNextText ss))
 
+-- the same of numbers
 abbrev pub NoNumberMember : ℕ → List ℕ → ℕ → Type 0
 NoNumberMember = NoMember spelled (AreRising Fits int_cmp) (λ zs. NoNumber (λ z. IsSet int_cmp (zs ++ z ∷ [])))
 
+-- and of byte strings
 abbrev pub NoBinary : ℕ → List ℕ → ℕ → Type 0
 NoBinary = NoMember field (AreRising IsShort text_order) (λ bs. NoField (λ b. IsSet text_order (bs ++ b ∷ [])))
 
@@ -103,12 +107,15 @@ IsNextName ps name = IsUtf8 name × IsItem (ps ++ (name, NULL_tree) ∷ [])
 abbrev pub IsEntry : Pair → Type 0
 IsEntry p = IsText p.0 × HasBytes p.1
 
+-- each is one, and the names are those of an item
 abbrev pub AreEntries : List Pair → Type 0
 AreEntries ps = AllByRecursion IsEntry ps × IsItem ps
 
+-- a name as a field, and then the cell bytes of its value
 abbrev pub entry_bytes : Pair → List ℕ
 entry_bytes p = field p.0 ++ cell_bytes p.1
 
+-- fewer entries than were told, and behind them no name that could be the next
 abbrev pub NoName : ℕ → List ℕ → ℕ → Type 0
 NoName = NoMember entry_bytes AreEntries (λ ps. NoField (IsNextName ps))
 
@@ -135,14 +142,17 @@ pub data Around : Type 0 where
   in_list : ℕ → List Tree → Around
   in_map : ℕ → List Pair → List ℕ → Around
 
+-- the bytes of what is open up to the value that is next
 abbrev pub around_bytes : Around → List ℕ
 around_bytes (in_list count ts) = 9 ∷ (counted count ++ flat_map cell_bytes ts)
 around_bytes (in_map count ps name) = 10 ∷ (counted count ++ (flat_map entry_bytes ps ++ field name))
 
+-- it tells more than stands there, and what stands there is right
 abbrev pub IsAround : Around → Type 0
 IsAround (in_list count ts) = (count < 2 ^ 64) × (length ts < count) × AllByRecursion HasBytes ts
 IsAround (in_map count ps name) = (count < 2 ^ 64) × (length ps < count) × AreEntries ps × IsShort name × IsNextName ps name
 
+-- one within the other
 abbrev pub all_around : List Around → List ℕ
 all_around [] = []
 all_around (a ∷ around) = around_bytes a ++ all_around around

@@ -11,6 +11,3 @@ mod writing;
 
 pub use reading::{attr_of, attr_within};
 pub use writing::bytes_of;
-
-#[cfg(test)]
-mod tests;

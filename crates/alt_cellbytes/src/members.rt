@@ -89,7 +89,8 @@ pub(crate) fn take_numbers(
 fn next_number<'a>(set: &NumberSet, bytes: &'a [u8]) -> Result<(Decimal, &'a [u8]), Stop>
     ensures number { IfOk result (λ p. Fits p.0 × IsSet int_cmp (set.now ++ p.0 ∷ [])
         × (bytes.now ≡ spelled p.0 ++ p.1.now)) }
-    ensures stop { IfErr result (IsStop (NoNumber (λ z. IsSet int_cmp (set.now ++ z ∷ [])) bytes.now)) }
+    ensures stop { IfErr result
+        (IsStop (NoNumber (λ z. IsSet int_cmp (set.now ++ z ∷ [])) bytes.now)) }
 {
     match take_number(bytes) {
         Ok((number, rest)) => {
@@ -140,7 +141,8 @@ pub(crate) fn take_binaries(
 fn next_binary<'a>(set: &BytesSet, bytes: &'a [u8]) -> Result<(&'a [u8], &'a [u8]), Stop>
     ensures binary { IfOk result (λ p. IsShort p.0.now × IsSet text_order (set.now ++ p.0.now ∷ [])
         × (bytes.now ≡ field p.0.now ++ p.1.now)) }
-    ensures stop { IfErr result (IsStop (NoField (λ b. IsSet text_order (set.now ++ b ∷ [])) bytes.now)) }
+    ensures stop { IfErr result
+        (IsStop (NoField (λ b. IsSet text_order (set.now ++ b ∷ [])) bytes.now)) }
 {
     let (binary, rest) = take_field(bytes)?;
     if is_next_binary(set, binary) {

@@ -123,7 +123,8 @@ fn take_elements(
     bytes: &[u8],
 ) -> Result<(AttrList, &[u8]), Stop>
     ensures elements { IfOk result (λ p. (length p.0 ≡ count) × AllByRecursion HasBytes p.0
-        × AllByRecursion (λ t. depth t ≤ most) p.0 × (bytes.now ≡ flat_map cell_bytes p.0 ++ p.1.now)) }
+        × AllByRecursion (λ t. depth t ≤ most) p.0
+        × (bytes.now ≡ flat_map cell_bytes p.0 ++ p.1.now)) }
     ensures stop { IfErr result (IsStopAt (NoElementOf Stops count bytes.now)
         (NoElementOf (TooDeep most) count bytes.now)) }
 {
@@ -147,7 +148,8 @@ fn take_map(alloc: Global, most: usize, bytes: &[u8]) -> Result<(Attr, &[u8]), S
     requires { 0 < most }
     ensures value { IfOk result (λ p. HasBytes (tree_of p.0) × (depth (tree_of p.0) ≤ most)
         × (10 ∷ bytes.now ≡ cell_bytes (tree_of p.0) ++ p.1.now)) }
-    ensures stop { IfErr result (IsStopAt (Stops (10 ∷ bytes.now)) (TooDeep most (10 ∷ bytes.now))) }
+    ensures stop { IfErr result
+        (IsStopAt (Stops (10 ∷ bytes.now)) (TooDeep most (10 ∷ bytes.now))) }
 {
     let (count, rest) = take_count(bytes)?;
     match take_entries(alloc, most - 1, count, rest) {
@@ -158,14 +160,10 @@ fn take_map(alloc: Global, most: usize, bytes: &[u8]) -> Result<(Attr, &[u8]), S
 
 /// So many entries, and what follows them.
 #[cycle(reading)]
-fn take_entries(
-    alloc: Global,
-    most: usize,
-    count: u64,
-    bytes: &[u8],
-) -> Result<(Item, &[u8]), Stop>
+fn take_entries(alloc: Global, most: usize, count: u64, bytes: &[u8]) -> Result<(Item, &[u8]), Stop>
     ensures entries { IfOk result (λ p. (length p.0 ≡ count) × AreEntries p.0
-        × AllByRecursion (λ e. depth e.1 ≤ most) p.0 × (bytes.now ≡ flat_map entry_bytes p.0 ++ p.1.now)) }
+        × AllByRecursion (λ e. depth e.1 ≤ most) p.0
+        × (bytes.now ≡ flat_map entry_bytes p.0 ++ p.1.now)) }
     ensures stop { IfErr result (IsStopAt (NoEntry count bytes.now)
         (NoEntryOf (TooDeep most) count bytes.now)) }
 {

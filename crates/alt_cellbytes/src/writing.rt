@@ -100,7 +100,9 @@ fn put_head(out: &mut Vec<u8>, kind: u8, count: usize) -> Result<(), NoMemory>
 }
 
 fn put_texts(out: &mut Vec<u8>, set: &TextSet) -> Result<(), NoMemory>
-    ensures appended { OnOk result (out.new.items ≡ out.old.items ++ 6 ∷ (counted (length set.now) ++ flat_map field set.now)) }
+    ensures appended { OnOk result
+        (out.new.items ≡ out.old.items
+        ++ 6 ∷ (counted (length set.now) ++ flat_map field set.now)) }
     ensures begun { OnErr result (IsPrefix out.old.items out.new.items) }
 {
     put_head(out, 6, set.len())?;
@@ -121,7 +123,9 @@ fn put_each_text(out: &mut Vec<u8>, set: &TextSet) -> Result<(), NoMemory>
 }
 
 fn put_numbers(out: &mut Vec<u8>, set: &NumberSet) -> Result<(), NoMemory>
-    ensures appended { OnOk result (out.new.items ≡ out.old.items ++ 7 ∷ (counted (length set.now) ++ flat_map spelled set.now)) }
+    ensures appended { OnOk result
+        (out.new.items ≡ out.old.items
+        ++ 7 ∷ (counted (length set.now) ++ flat_map spelled set.now)) }
     ensures begun { OnErr result (IsPrefix out.old.items out.new.items) }
 {
     put_head(out, 7, set.len())?;
@@ -142,7 +146,9 @@ fn put_each_number(out: &mut Vec<u8>, set: &NumberSet) -> Result<(), NoMemory>
 }
 
 fn put_binaries(out: &mut Vec<u8>, set: &BytesSet) -> Result<(), NoMemory>
-    ensures appended { OnOk result (out.new.items ≡ out.old.items ++ 8 ∷ (counted (length set.now) ++ flat_map field set.now)) }
+    ensures appended { OnOk result
+        (out.new.items ≡ out.old.items
+        ++ 8 ∷ (counted (length set.now) ++ flat_map field set.now)) }
     ensures begun { OnErr result (IsPrefix out.old.items out.new.items) }
 {
     put_head(out, 8, set.len())?;
@@ -164,7 +170,9 @@ fn put_each_binary(out: &mut Vec<u8>, set: &BytesSet) -> Result<(), NoMemory>
 
 #[cycle(writing)]
 fn put_elements(out: &mut Vec<u8>, list: &AttrList) -> Result<(), NoMemory>
-    ensures appended { OnOk result (out.new.items ≡ out.old.items ++ 9 ∷ (counted (length list.now) ++ flat_map cell_bytes list.now)) }
+    ensures appended { OnOk result
+        (out.new.items ≡ out.old.items
+        ++ 9 ∷ (counted (length list.now) ++ flat_map cell_bytes list.now)) }
     ensures begun { OnErr result (IsPrefix out.old.items out.new.items) }
 {
     put_head(out, 9, list.len())?;
@@ -187,7 +195,9 @@ fn put_each_element(out: &mut Vec<u8>, list: &AttrList) -> Result<(), NoMemory>
 
 #[cycle(writing)]
 fn put_entries(out: &mut Vec<u8>, map: &Item) -> Result<(), NoMemory>
-    ensures appended { OnOk result (out.new.items ≡ out.old.items ++ 10 ∷ (counted (length map.now) ++ flat_map entry_bytes map.now)) }
+    ensures appended { OnOk result
+        (out.new.items ≡ out.old.items
+        ++ 10 ∷ (counted (length map.now) ++ flat_map entry_bytes map.now)) }
     ensures begun { OnErr result (IsPrefix out.old.items out.new.items) }
 {
     put_head(out, 10, map.len())?;

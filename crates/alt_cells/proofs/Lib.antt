@@ -5,6 +5,7 @@ pub mod Entries
 pub mod FormatLaws
 pub mod Front
 pub mod GivenLaws
+pub mod Keeping
 pub mod Kept
 pub mod OfChange
 pub mod OneRow
@@ -13,3 +14,4 @@ pub mod RowLaws
 pub mod Searched
 pub mod ShownLaws
 pub mod Stopped
+pub mod WalkLaws

@@ -11,6 +11,7 @@ mod reading;
 mod rest;
 mod row;
 mod shown;
+mod source;
 mod stop;
 
 pub use batch::{Batch, CellList, RowChange};
@@ -20,3 +21,4 @@ pub use map::CellMap;
 pub use reading::row_of;
 pub use row::RowCells;
 pub use shown::ShownRow;
+pub use source::{RowSource, SourceFault};

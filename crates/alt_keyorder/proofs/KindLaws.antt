@@ -41,7 +41,8 @@ key_value N t h = let v = number_of t h in rw v.1 v.2
 key_value B t h = let v = binary_of t h in rw v.1 tt
 
 -- and so are all the parts of a place
-pub key_values_of : (kinds : List KeyKind) (ts : List Tree) → AreOfKinds kinds ts → AllByRecursion IsKeyValue ts
+pub key_values_of : (kinds : List KeyKind) (ts : List Tree) → AreOfKinds kinds ts
+    → AllByRecursion IsKeyValue ts
 key_values_of [] [] h = tt
 key_values_of [] (t ∷ ts) h = absurd h
 key_values_of (k ∷ ks) [] h = absurd h
@@ -68,7 +69,8 @@ one_part S t u x y h k e =
 one_part N t u x y h k e =
     let a = number_of t h in
     let b = number_of u k in
-    let same = spelled_apart a.0 b.0 x y a.2 b.2 (told_as t u (N_tree a.0) (N_tree b.0) x y a.1 b.1 e) in
+    let same = spelled_apart a.0 b.0 x y a.2 b.2
+    (told_as t u (N_tree a.0) (N_tree b.0) x y a.1 b.1 e) in
     (a.1 ∙ ap N_tree same.0 ∙ sym b.1, same.1)
 one_part B t u x y h k e =
     let a = binary_of t h in
@@ -77,7 +79,8 @@ one_part B t u x y h k e =
     (a.1 ∙ ap B_tree same.0 ∙ sym b.1, same.1)
 
 -- the order of values that are told otherwise
-lie_as : (t u v w : Tree) (o : Ordering) → t ≡ v → u ≡ w → tree_order v w ≡ Some o → IsPartOrder v w o
+lie_as : (t u v w : Tree) (o : Ordering) → t ≡ v → u ≡ w → tree_order v w ≡ Some o
+    → IsPartOrder v w o
     → (o : Ordering) × (tree_order t u ≡ Some o) × IsPartOrder t u o
 lie_as t u v w o a b e p = (
   o,
@@ -90,18 +93,22 @@ pub parts_lie : PartsLie
 parts_lie S t u h k =
     let a = text_of t h in
     let b = text_of u k in
-    lie_as t u (S_tree a.0) (S_tree b.0) (text_order a.0 b.0) a.1 b.1 refl (λ x y. closed-order a.0 b.0 x y)
+    lie_as t u (S_tree a.0) (S_tree b.0) (text_order a.0 b.0) a.1 b.1 refl
+    (λ x y. closed-order a.0 b.0 x y)
 parts_lie N t u h k =
     let a = number_of t h in
     let b = number_of u k in
-    lie_as t u (N_tree a.0) (N_tree b.0) (int_cmp a.0 b.0) a.1 b.1 refl (number_parts a.0 b.0 a.2 b.2)
+    lie_as t u (N_tree a.0) (N_tree b.0) (int_cmp a.0 b.0) a.1 b.1 refl
+    (number_parts a.0 b.0 a.2 b.2)
 parts_lie B t u h k =
     let a = binary_of t h in
     let b = binary_of u k in
-    lie_as t u (B_tree a.0) (B_tree b.0) (text_order a.0 b.0) a.1 b.1 refl (λ x y. closed-order a.0 b.0 x y)
+    lie_as t u (B_tree a.0) (B_tree b.0) (text_order a.0 b.0) a.1 b.1 refl
+    (λ x y. closed-order a.0 b.0 x y)
 
 -- parts of the same kinds have an order
-pub parts_have_order : (kinds : List KeyKind) (ts us : List Tree) → AreOfKinds kinds ts → AreOfKinds kinds us
+pub parts_have_order : (kinds : List KeyKind) (ts us : List Tree) → AreOfKinds kinds ts
+    → AreOfKinds kinds us
     → (o : Ordering) × (parts_order ts us ≡ Some o)
 parts_have_order [] [] [] h k = (Equal, refl)
 parts_have_order [] [] (u ∷ us) h k = absurd k
@@ -114,7 +121,8 @@ parts_have_order (c ∷ cs) (t ∷ ts) (u ∷ us) h k =
     (ordering_then first.0 others.0, (λ i. then_order (first.1 i) (others.1 i)))
 
 -- whatever follows them, parts are those of one list of values of the kinds
-pub one_parts : (kinds : List KeyKind) (ts us : List Tree) (x y : List ℕ) → AreOfKinds kinds ts → AreOfKinds kinds us
+pub one_parts : (kinds : List KeyKind) (ts us : List Tree) (x y : List ℕ) → AreOfKinds kinds ts
+    → AreOfKinds kinds us
     → flat_map key_bytes ts ++ x ≡ flat_map key_bytes us ++ y → (ts ≡ us) × (x ≡ y)
 one_parts [] [] [] x y h k e = (refl, e)
 one_parts [] [] (u ∷ us) x y h k e = absurd k
@@ -138,8 +146,10 @@ key_of_kind B (B_tree b) h = tt
 key_of_kind kind t h = absurd h
 
 -- the value that was taken is the one whose part stands there
-pub taken_is : (kind : KeyKind) (bytes : List ℕ) (u : Tree) (len : ℕ) (t : Tree) (behind : List ℕ) → IsPart kind bytes u len
+pub taken_is : (kind : KeyKind) (bytes : List ℕ) (u : Tree) (len : ℕ) (t : Tree) (behind : List ℕ)
+    → IsPart kind bytes u len
     → IsKeyOf kind t → bytes ≡ key_bytes t ++ behind → (u ≡ t) × (len ≡ length (key_bytes t))
 taken_is kind bytes u len t behind part key e =
-    let same = one_part kind u t part.behind behind (key_of_kind kind u part.key) (key_of_kind kind t key) (sym part.is ∙ e) in
+    let same = one_part kind u t part.behind behind (key_of_kind kind u part.key)
+    (key_of_kind kind t key) (sym part.is ∙ e) in
     (same.0, part.count ∙ ap (λ v. length (key_bytes v)) same.0)

@@ -45,6 +45,7 @@ pub record Lie (p q : Place) : Type 0 where
   pub bytes : text_order (place_bytes p) (place_bytes q) ≡ order
   pub ties : order ≡ Equal → p ≡ q
 
+-- Places whose parts are of the same kinds lie so.
 abbrev pub PlacesLie : Type 0
 PlacesLie = (kinds : List KeyKind) (p q : Place) → IsPlaceOf kinds p → IsPlaceOf kinds q → Lie p q
 

@@ -12,6 +12,3 @@ pub use order::{key_laws, part_laws, part_order, place_laws};
 pub use part::key_part;
 pub use range::{KeyRange, after_all};
 pub use take::take_part;
-
-#[cfg(test)]
-mod tests;

@@ -47,18 +47,6 @@ impl Set<Text> {
             .is_ok()
     }
 
-    /// Whether a text is a member.
-    pub fn contains(&self, m: &str) -> bool
-        ensures member { result ≡ has_member text_order m.now self.now }
-    {
-        for member in &self.members {
-            if m.cmp(member.as_str()).is_eq() {
-                return true;
-            }
-        }
-        false
-    }
-
     /// Puts a member in at its place. False exactly where it was there, and then the set stays.
     pub fn add(&mut self, m: &str) -> Result<bool, NoMemory>
         ensures fresh { IfOk result (λ fresh. fresh ≡ not (has_member text_order m.now self.old)) }

@@ -1,4 +1,5 @@
--- Nothing is nested deeper than there are bytes, so all that is said of values nested so deep at most holds of all.
+-- Nothing is nested deeper than there are bytes, so what is said of values that are nested so deep
+-- at most holds of all.
 use Rattle.std.proofs.Common.{◌≡◌, ◌≤◌, ◌⊎◌, length, ap, inl, inr, arith, ℕ, List, ◌+◌, Result, Ok, Err}
 use Rattle.std.specs.Prelude.{IfOk}
 use Rattle.std.proofs.lemmas.Result.{IfOk-weaker}
@@ -11,12 +12,14 @@ use Rattle.alt_cellbytes.proofs.WholeValues.{whole_has, depth-short}
 use Rattle.alt_cellbytes.proofs.reading.attr_of.Goals as goal
 
 -- a place that isn't of what is nested too deep
-not_deep : (bytes : List ℕ) (at : ℕ) → IsBadAt bytes at ⊎ IsDeepAt (length bytes) bytes at → IsBadAt bytes at
+not_deep : (bytes : List ℕ) (at : ℕ) → IsBadAt bytes at ⊎ IsDeepAt (length bytes) bytes at
+    → IsBadAt bytes at
 not_deep bytes at (inl bad) = bad
 not_deep bytes at (inr deep) = absurd (never_deep bytes deep.0 deep.1)
 
 pub returns-clause-value : goal.returns-clause-value
-returns-clause-value c = IfOk-weaker c.attr_within.result _ _ (λ a h. (h.0, h.2)) c.attr_within.ensures.value
+returns-clause-value c = IfOk-weaker c.attr_within.result _ _
+    (λ a h. (h.0, h.2)) c.attr_within.ensures.value
 
 pub returns-clause-taken : goal.returns-clause-taken
 returns-clause-taken c = λ t w e.

@@ -46,7 +46,8 @@ returns-else-is_empty-clause-none c = λ at f t w d e.
 
 pub returns-in-Err-Left-clause-taken : goal.returns-in-Err-Left-clause-taken
 returns-in-Err-Left-clause-taken c = λ t w d e.
-    absurd ((stop_place c.args.bytes.now c.in-Err-Left.left _ (search rules) refl).1 t (whole_has t w) e)
+    absurd ((stop_place c.args.bytes.now c.in-Err-Left.left _ (search rules) refl).1 t
+    (whole_has t w) e)
 
 pub returns-in-Err-Left-clause-place : goal.returns-in-Err-Left-clause-place
 returns-in-Err-Left-clause-place c = λ at e.
@@ -59,7 +60,8 @@ returns-in-Err-Left-clause-none c = λ at f t w d e.
 
 pub returns-in-Err-Deep-clause-taken : goal.returns-in-Err-Deep-clause-taken
 returns-in-Err-Deep-clause-taken c = λ t w d e.
-    absurd (deep-refuted c.args.most c.args.bytes.now c.in-Err-Deep.left (search rules) t [] (whole_has t w) d
+    absurd (deep-refuted c.args.most c.args.bytes.now c.in-Err-Deep.left (search rules) t []
+    (whole_has t w) d
     (e ∙ sym (append-nil (cell_bytes t))))
 
 pub returns-in-Err-Deep-clause-place : goal.returns-in-Err-Deep-clause-place
@@ -69,5 +71,6 @@ returns-in-Err-Deep-clause-place c = λ at e.
 
 pub returns-in-Err-Deep-clause-none : goal.returns-in-Err-Deep-clause-none
 returns-in-Err-Deep-clause-none c = λ at f t w d e.
-    deep-refuted c.args.most c.args.bytes.now c.in-Err-Deep.left (search rules) t [] (whole_has t w) d
+    deep-refuted c.args.most c.args.bytes.now c.in-Err-Deep.left (search rules) t []
+    (whole_has t w) d
     (e ∙ sym (append-nil (cell_bytes t)))

@@ -11,5 +11,6 @@ returns-clause-again c = λ full.
     let value = c.held.ensures.value in (
       (value, full),
       refl,
-      (λ u w e. (cell_bytes-apart u t [] [] (whole_has u w) (whole_has t (value, full)) (ap (λ s. s ++ []) (sym e))).0),
+      (λ u w e. (cell_bytes-apart u t [] [] (whole_has u w) (whole_has t (value, full))
+          (ap (λ s. s ++ []) (sym e))).0),
     )

@@ -277,34 +277,100 @@ impl MemoryShell {
 }
 
 impl Disk for MemoryShell {
-    ghost use Rattle.alt_shell.specs.Memory.{shell_state};
+    ghost use Rattle.std.specs.Prelude.{ℕ, ◌≢◌, ◌+◌, None, IsTrue, OnOk, is_ok};
     ghost use Rattle.alt_disk.specs.Honest.{reads_as_image_of};
+    ghost use Rattle.alt_disk.specs.Disk.{IsNames, contents, answered, Tick, ReadCall, Same, Written, Synced, Removed, Read};
+    ghost use Rattle.alt_disk.specs.MemoryState.{fails_at};
+    ghost use Rattle.alt_shell.specs.Memory.{shell_state};
 
     ghost state = { shell_state };
 
     ghost reads_as_image = { λ s trusted f. reads_as_image_of s.disk f };
 
-    fn names(&mut self, list: &mut Vec<u32>) -> Result<(), DiskFault> {
+    // Each of these calls is the disk's, and leaves all of the shell but its disk, and the disk's list of calls that are to fail.
+
+    fn names(&mut self, list: &mut Vec<u32>) -> Result<(), DiskFault>
+        ensures names { OnOk result (IsNames list.new.items (shell_state self.old).file) }
+        ensures emptied { OnErr result (list.new.items ≡ []) }
+        ensures call { Tick (shell_state self.old) (shell_state self.new) (answered result) }
+        ensures same { Same (shell_state self.old) (shell_state self.new) }
+        ensures stays { self.new ≡ record self.old { disk = self.new.disk } }
+        ensures to_fail { fails_at self.old.disk (shell_state self.old).moment ≡ true
+            → answered result ≡ false }
+        ensures fails { (t : ℕ) → fails_at self.new.disk t ≡ fails_at self.old.disk t }
+    {
         self.disk.names(list)
     }
 
-    fn size(&mut self, f: u32) -> Result<u64, Failed> {
+    fn size(&mut self, f: u32) -> Result<u64, Failed>
+        ensures size { IfOk result (λ size. size ≡ length (contents (shell_state self.old) f)) }
+        ensures bound { IfOk result (λ size. size ≤ 2 ^ 62) }
+        ensures call { Tick (shell_state self.old) (shell_state self.new) (is_ok result) }
+        ensures same { Same (shell_state self.old) (shell_state self.new) }
+        ensures stays { self.new ≡ record self.old { disk = self.new.disk } }
+        ensures to_fail { fails_at self.old.disk (shell_state self.old).moment ≡ true
+            → is_ok result ≡ false }
+        ensures fails { (t : ℕ) → fails_at self.new.disk t ≡ fails_at self.old.disk t }
+    {
         self.disk.size(f)
     }
 
-    fn read(&mut self, f: u32, at: u64, buf: &mut [u8]) -> Result<usize, Failed> {
+    fn read(&mut self, f: u32, at: u64, buf: &mut [u8]) -> Result<usize, Failed>
+        ensures bytes { IfOk result (λ count.
+            Read (contents (shell_state self.old) f) at buf.old buf.new count) }
+        ensures bound { IfOk result (λ count. count ≤ length buf.old) }
+        ensures call { ReadCall (shell_state self.old) (shell_state self.new) f at (length buf.old)
+            (is_ok result) }
+        ensures same { Same (shell_state self.old) (shell_state self.new) }
+        ensures stays { self.new ≡ record self.old { disk = self.new.disk } }
+        ensures to_fail { fails_at self.old.disk (shell_state self.old).moment ≡ true
+            → is_ok result ≡ false }
+        ensures fails { (t : ℕ) → fails_at self.new.disk t ≡ fails_at self.old.disk t }
+    {
         self.disk.read(f, at, buf)
     }
 
-    fn write_at(&mut self, f: u32, at: u64, bytes: &[u8]) -> Result<(), Failed> {
+    fn write_at(&mut self, f: u32, at: u64, bytes: &[u8]) -> Result<(), Failed>
+        requires { at ≤ length (contents (shell_state self.old) f) }
+        ensures written { Written (shell_state self.old) (shell_state self.new) f at bytes.now
+            (is_ok result) }
+        ensures fits { OnOk result (at + length bytes.now ≤ 2 ^ 62) }
+        ensures call { Tick (shell_state self.old) (shell_state self.new) (is_ok result) }
+        ensures stays { self.new ≡ record self.old { disk = self.new.disk } }
+        ensures to_fail { fails_at self.old.disk (shell_state self.old).moment ≡ true
+            → is_ok result ≡ false }
+        ensures fails { (t : ℕ) → fails_at self.new.disk t ≡ fails_at self.old.disk t }
+    {
         self.disk.write_at(f, at, bytes)
     }
 
-    fn sync(&mut self, f: u32) -> Result<(), Failed> {
+    fn sync(&mut self, f: u32) -> Result<(), Failed>
+        ensures synced { Synced (shell_state self.old) (shell_state self.new) f (is_ok result) }
+        ensures missing { (shell_state self.old).file f ≡ None
+            → Same (shell_state self.old) (shell_state self.new) }
+        ensures call { Tick (shell_state self.old) (shell_state self.new) (is_ok result) }
+        ensures same { (g : ℕ) → (shell_state self.new).file g ≡ (shell_state self.old).file g }
+        ensures stays { self.new ≡ record self.old { disk = self.new.disk } }
+        ensures to_fail { fails_at self.old.disk (shell_state self.old).moment ≡ true
+            → is_ok result ≡ false }
+        ensures fails { (t : ℕ) → fails_at self.new.disk t ≡ fails_at self.old.disk t }
+    {
         self.disk.sync(f)
     }
 
-    fn remove(&mut self, f: u32) -> Result<(), Failed> {
+    fn remove(&mut self, f: u32) -> Result<(), Failed>
+        ensures gone { OnOk result ((shell_state self.new).file f ≡ None) }
+        ensures removed { Removed (shell_state self.old) (shell_state self.new) f (is_ok result) }
+        ensures missing { (shell_state self.old).file f ≡ None
+            → Same (shell_state self.old) (shell_state self.new) }
+        ensures call { Tick (shell_state self.old) (shell_state self.new) (is_ok result) }
+        ensures others { (g : ℕ) → g ≢ f
+            → (shell_state self.new).file g ≡ (shell_state self.old).file g }
+        ensures stays { self.new ≡ record self.old { disk = self.new.disk } }
+        ensures to_fail { fails_at self.old.disk (shell_state self.old).moment ≡ true
+            → is_ok result ≡ false }
+        ensures fails { (t : ℕ) → fails_at self.new.disk t ≡ fails_at self.old.disk t }
+    {
         self.disk.remove(f)
     }
 }

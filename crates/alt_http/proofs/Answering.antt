@@ -1,22 +1,22 @@
 -- The answer as a function is the answer.
-use Rattle.std.proofs.Common.{◌≡◌, ◌<◌, ◌≤◌, ◌+◌, ℕ, List, [], ◌∷◌, ◌++◌, length, take, drop, Bool, true, false, cond, refl, sym, ap, subst, ◌∙◌, append_assoc, arith, inl, inr, Option}
-use Rattle.std.specs.Prelude.{◌⊎◌, ◌==◌, ◌||◌, nat_lt}
+use Rattle.std.proofs.Common.{◌≡◌, ◌<◌, ◌≤◌, ℕ, List, [], ◌∷◌, ◌++◌, length, take, drop, Bool, true, false, cond, refl, sym, ap, subst, ◌∙◌, arith, inl, inr, Option}
+use Rattle.std.specs.Prelude.{◌==◌, ◌||◌, nat_lt}
 use Rattle.std.proofs.lemmas.Bool.Decides.{nat_tests}
 use Rattle.std.proofs.lemmas.List.{take-append-drop}
 use Rattle.std.proofs.lemmas.List.Elements.{All-nil, All-cons}
-use Rattle.httparse.specs.Grammar.{RequestHead, ReadsRequest, HasNoRequest, NeverHasRequest, MayBecomeRequest}
+use Rattle.httparse.specs.Grammar.{ReadsRequest}
 use Rattle.httparse.specs.Pieces.{Then, Section, RequestStart, Begins, Never, Completes}
 use Rattle.httparse.proofs.GrammarLemmas.{request_from_pieces, ReadsRequest-append}
 use Rattle.httparse.proofs.HeadLemmas.{request_not_yet, request_never}
 use Rattle.httparse.proofs.OpenLemmas.{request_may, Completes_first, line_blank, some_section}
 use Rattle.httparse.proofs.PieceLemmas.{Never_elim}
 use Rattle.alt_http.specs.Feeds.{IsPlain, IsLastFront}
-use Rattle.alt_http.specs.Heads.{window, most_of_head, HasHead, IsFront, CanGoOn}
+use Rattle.alt_http.specs.Heads.{window, most_of_head, CanGoOn}
 use Rattle.alt_http.specs.Judged.{parts_of, judged, IsScan, by_head, by_bad, by_size, by_more}
 use Rattle.alt_http.specs.Reading.{Read, got, short, never, by_read, Lines, head_of, read_head, front_of, scan_of}
 use Rattle.alt_http.specs.declared.outcome.Scan.{Scan}
 use Rattle.alt_http.specs.declared.outcome.Scan.TheVariants.{More, Refused, Head}
-use Rattle.alt_http.proofs.Fronts.{EndsInFeed, head_in_window, go_on, go_on_plain, bad}
+use Rattle.alt_http.proofs.Fronts.{EndsInFeed, go_on, go_on_plain, bad}
 use Rattle.alt_http.proofs.Laws.{IsScan_unique, IsScan_nothing, IsScan_stays, IsScan_within, IsScan_plain}
 use Rattle.alt_http.proofs.Readers.{blank_cut, Reads, Reads-head, IsTail}
 

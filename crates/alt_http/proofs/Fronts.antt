@@ -98,13 +98,13 @@ uri_plain b uri = by_test (b == 10) refl
         let no : IsTrue (is_uri_byte 10) = subst (λ (n : ℕ). IsTrue (is_uri_byte n)) feed uri in cc
 
 -- a front that ends in a line feed doesn't end in a target
-not_in_target : (front line : List ℕ) → front ≡ line ++ 10 ∷ [] → EndsInTarget front → ⊥
+pub not_in_target : (front line : List ℕ) → front ≡ line ++ 10 ∷ [] → EndsInTarget front → ⊥
 not_in_target front line ends x =
     let plain : IsPlain (32 ∷ x.2) = All-cons (λ b. (b == 10) ≡ false) 32 x.2 refl (All-weaker (λ b. IsTrue (is_uri_byte b)) (λ b. (b == 10) ≡ false) uri_plain x.2 x.4) in
     let none : 32 ∷ x.2 ≡ [] = plain_end line (print_blank x.0 ++ x.1) (32 ∷ x.2) (sym ends ∙ x.5) plain in cc
 
 -- a front of the bytes is a front of the longest one
-front_in_front : (bytes front other : List ℕ) (last : IsLastFront bytes front) (is_front : IsFront bytes other) → (s : List ℕ) × (front ≡ other ++ s)
+pub front_in_front : (bytes front other : List ℕ) (last : IsLastFront bytes front) (is_front : IsFront bytes other) → (s : List ℕ) × (front ≡ other ++ s)
 front_in_front bytes front other last is_front =
     let inside = within_front is_front.line other front last.is_front.rest is_front.rest is_front.ends last.plain (sym is_front.parts ∙ last.is_front.parts) in
     (inside.0, inside.1)

@@ -87,7 +87,7 @@ window_more bytes more = elim (cases_lt most_of_head (length bytes)) [
 window_full : (bytes more : List ℕ) → most_of_head ≤ length bytes → window (bytes ++ more) ≡ window bytes
 window_full bytes more full = take-append-le most_of_head bytes more full
 
-front_stays : (bytes more front : List ℕ) → IsFront bytes front → IsFront (bytes ++ more) front
+pub front_stays : (bytes more front : List ℕ) → IsFront bytes front → IsFront (bytes ++ more) front
 front_stays bytes more front is_front =
     let w = window_more bytes more in record {
       line = is_front.line;
@@ -119,7 +119,7 @@ IsScan_nothing = by_more (go_on_plain [] (All-nil (λ b. (b == 10) ≡ false))) 
 -- ---- bytes without a line feed
 
 -- a head isn't answered by More
-no_more : (p : Parts) (o : Option ℕ) → More ≡ answered p o → ⊥
+pub no_more : (p : Parts) (o : Option ℕ) → More ≡ answered p o → ⊥
 no_more p (Some n) e = cc
 no_more p None e = cc
 

@@ -1,18 +1,18 @@
 -- The reading of a head byte by byte agrees with httparse's grammar, piece by piece.
-use Rattle.std.proofs.Common.{◌≡◌, ◌≢◌, ◌<◌, ◌≤◌, ◌+◌, ◌-◌, ℕ, zero, suc, List, [], ◌∷◌, ◌++◌, length, Bool, true, false, cond, refl, sym, ap, subst, ◌∙◌, append_assoc, append-nil, arith, inl, inr, codes, flat_map}
-use Rattle.std.specs.Prelude.{◌⊎◌, ◌==◌, ◌&&◌, nat_lt, IsUtf8, ⊤}
+use Rattle.std.proofs.Common.{◌≡◌, ◌≢◌, ◌<◌, ◌≤◌, ◌+◌, ℕ, zero, suc, List, [], ◌∷◌, ◌++◌, length, Bool, true, false, cond, refl, sym, ap, subst, ◌∙◌, append_assoc, append-nil, arith, inl, inr, codes, flat_map}
+use Rattle.std.specs.Prelude.{◌⊎◌, ◌==◌, ◌&&◌, nat_lt, ⊤}
 use Rattle.std.specs.Str.{is_utf8}
 use Rattle.std.proofs.lemmas.Str.{IsUtf8-from_is_utf8, is_utf8-from_IsUtf8}
 use Rattle.std.proofs.lemmas.Bool.Decides.{nat_tests}
 use Rattle.std.proofs.lemmas.List.{length-append, append_cancel_left}
 use Rattle.std.proofs.lemmas.List.Elements.{All-nil, All-push}
 use Rattle.httparse.specs.Grammar.{is_token_byte, is_uri_byte, is_value_byte, AllPass, LineEnd, crlf, lf, print_end, print_blank, print_version, Field, print_field}
-use Rattle.httparse.specs.Pieces.{Piece, Begins, Then, Refutes, NotYet, Never, Completes, Stops, is_newline, Bytes, Newline, Blank, BlankLines, Word, Method, Target, Version, Text, FieldLine, FieldLines, BeginsLine, CompletesLine, Section, RequestStart}
+use Rattle.httparse.specs.Pieces.{Piece, Begins, Then, Refutes, NotYet, Never, Completes, Stops, is_newline, Bytes, Newline, Blank, BlankLines, Word, Method, Target, Version, Text, FieldLine, FieldLines, Section, RequestStart}
 use Rattle.httparse.proofs.RunLemmas.{run_unique, run_unstopped}
-use Rattle.httparse.proofs.PieceLemmas.{IsDeterministic, Refutes_by, Refutes_first, Refutes_next, Never_intro, Never_elim, NotYet_intro, NotYet_elim, print_end_unique, newline_not_stopped, Stops-FieldLine, Word_deterministic, Newline_deterministic, Blank_deterministic, Method_deterministic, Target_deterministic, Version_deterministic, Name_deterministic, RequestStart_deterministic, space_ends_token, colon_ends_token, Stops_value, FieldLines_push}
+use Rattle.httparse.proofs.PieceLemmas.{IsDeterministic, Refutes_by, Refutes_first, Refutes_next, Never_intro, NotYet_intro, Stops-FieldLine, Word_deterministic, Blank_deterministic, Method_deterministic, Target_deterministic, Version_deterministic, Name_deterministic, RequestStart_deterministic, space_ends_token, colon_ends_token, Stops_value, FieldLines_push}
 use Rattle.httparse.proofs.ReadLemmas.{Blank_open, Blank_newline, Blank_after, blank_more, Target_word, Version_bytes, FieldLine_row, FieldLine_done, BeginsLine_either, Section_after, Section_done}
-use Rattle.httparse.proofs.OpenLemmas.{Completes_first, Completes_next, Completes_blank, some_newline, some_bytes, some_method, some_target, some_version, some_text, some_section, Newline_after_cr, Word_cut, letter_is_token, Version_after_bytes, Version_before_digit, FieldLine_of_row, Section_after_lines, Section_of_line, BlankLines_after, line_blank}
-use Rattle.alt_http.specs.Reading.{Read, got, short, never, by_read, and_then, then_read, read_end, read_blank, read_word, read_method, read_target, read_bytes, read_minor, read_version, read_value, read_field, read_fields, read_start, read_head}
+use Rattle.httparse.proofs.OpenLemmas.{Completes_first, Completes_next, some_newline, some_bytes, some_target, some_version, some_text, some_section, Newline_after_cr, Word_cut, letter_is_token, Version_after_bytes, Version_before_digit, FieldLine_of_row, Section_after_lines, Section_of_line, BlankLines_after, line_blank}
+use Rattle.alt_http.specs.Reading.{Read, got, short, never, by_read, then_read, read_end, read_blank, read_word, read_method, read_target, read_bytes, read_minor, read_version, read_value, read_field, read_fields, read_start, read_head}
 use Rattle.alt_http.proofs.Fronts.{EndsInFeed, prefix_split}
 
 -- nothing, or bytes that end in a line feed
@@ -78,10 +78,10 @@ end_after_cr : (e : LineEnd) (b c : ℕ) (text rest : List ℕ) → Newline e (b
 end_after_cr crlf b c text rest h x y = let feed : c ≡ 10 = cc in grind arith
 end_after_cr lf b c text rest h x y = let feed : b ≡ 10 = cc in grind arith
 
-is_feed : (b : ℕ) → (b == 10) ≡ true → b ≡ 10
+pub is_feed : (b : ℕ) → (b == 10) ≡ true → b ≡ 10
 is_feed b h = grind arith
 
-is_cr : (b : ℕ) → (b == 13) ≡ true → b ≡ 13
+pub is_cr : (b : ℕ) → (b == 13) ≡ true → b ≡ 13
 is_cr b h = grind arith
 
 cut_cr : (e : LineEnd) (b : ℕ) (rest : List ℕ) → Newline e (b ∷ []) rest → (b == 10) ≡ false → ⊥
@@ -196,7 +196,7 @@ pub Word_front : (test : ℕ → Bool) (stop : ℕ) → IsFront (Word test stop)
 Word_front test stop word text rest h = (word ++ stop ∷ [], h.2 ∙ sym (append_assoc word (stop ∷ []) rest))
 
 -- where the bytes end before the word does, all of them pass
-word_short : (test : ℕ → Bool) (stop : ℕ) (word text : List ℕ) → AllPass test word → read_word test stop word text ≡ short → AllPass test (word ++ text)
+pub word_short : (test : ℕ → Bool) (stop : ℕ) (word text : List ℕ) → AllPass test word → read_word test stop word text ≡ short → AllPass test (word ++ text)
 unfolding read_word
 word_short test stop word [] all is = subst (AllPass test) (sym (append-nil word)) all
 word_short test stop word (b ∷ text) all is =
@@ -255,7 +255,7 @@ bytes_more e b wanted text short same read = (
 )
 bytes_more e b wanted text never same read = Refutes_by (λ more h. (tt, h.1, cc)) read
 
-Reads-bytes : (wanted text : List ℕ) → Reads (Bytes wanted) text (read_bytes wanted text)
+pub Reads-bytes : (wanted text : List ℕ) → Reads (Bytes wanted) text (read_bytes wanted text)
 unfolding read_bytes
 Reads-bytes [] text = refl
 Reads-bytes (e ∷ wanted) [] = (NotYet_intro (λ h. cc), λ tail. some_bytes (e ∷ wanted))

@@ -1,6 +1,6 @@
 -- A head read from the front of bytes, byte by byte. Each part is read, or the bytes end before it does, or it never will be;
 -- what the parts are says httparse's grammar, with which this reading is proved to agree.
-use Rattle.std.specs.Prelude.{ℕ, zero, suc, ◌+◌, Bool, ◌&&◌, ◌||◌, ◌==◌, List, [], ◌∷◌, ◌++◌, length, if◌then◌else◌, nat_lt, codes, ⊤}
+use Rattle.std.specs.Prelude.{ℕ, zero, suc, Bool, ◌&&◌, ◌||◌, ◌==◌, List, [], ◌∷◌, ◌++◌, length, if◌then◌else◌, nat_lt, codes, ⊤}
 use Rattle.std.specs.Str.{is_utf8}
 use Rattle.httparse.specs.Grammar.{is_token_byte, is_uri_byte, is_value_byte, LineEnd, crlf, lf, Field, RequestHead}
 use Rattle.alt_http.specs.Heads.{window, most_of_head}

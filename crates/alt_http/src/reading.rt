@@ -63,7 +63,7 @@ fn answer(alloc: Global, bytes: &[u8]) -> Result<Scan, NoMemory>
 }
 
 /// The longest front, within the limit of a head, that ends in a line feed.
-fn last_front(bytes: &[u8]) -> Option<&[u8]>
+pub(crate) fn last_front(bytes: &[u8]) -> Option<&[u8]>
     ensures { MatchOption result (IsPlain (heads.window bytes.now)) (λ front. IsLastFront bytes.now front.now) }
 {
     let within = window(bytes);
@@ -80,7 +80,7 @@ fn window(bytes: &[u8]) -> &[u8]
 }
 
 /// The answer where no head stands at the front, and one may still.
-fn without_head(bytes: &[u8]) -> Scan
+pub(crate) fn without_head(bytes: &[u8]) -> Scan
     requires { CanGoOn bytes.now }
     ensures { IsScan bytes.now result }
 {
@@ -91,7 +91,7 @@ fn without_head(bytes: &[u8]) -> Scan
     }
 }
 
-fn read(alloc: Global, bytes: &[u8], front: &[u8]) -> Result<Scan, NoMemory>
+pub(crate) fn read(alloc: Global, bytes: &[u8], front: &[u8]) -> Result<Scan, NoMemory>
     requires { IsLastFront bytes.now front.now }
     ensures { IfOk result (IsScan bytes.now) }
 {

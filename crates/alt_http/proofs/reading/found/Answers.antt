@@ -1,4 +1,3 @@
-use Rattle.std.proofs.Common.{Result, Ok, Err, IfOk}
 use Rattle.std.proofs.lemmas.Result.{IfOk-weaker}
 use Rattle.alt_http.specs.Judged.{IsScan}
 use Rattle.alt_http.proofs.Laws.{found_head}

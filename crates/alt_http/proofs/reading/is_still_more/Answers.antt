@@ -1,4 +1,4 @@
-use Rattle.std.proofs.Common.{List, ℕ, Bool, true, false, drop, subst}
+use Rattle.std.proofs.Common.{Bool, true, false, subst}
 use Rattle.std.specs.Bool.{OnTrue}
 use Rattle.std.proofs.lemmas.List.{take_rest}
 use Rattle.alt_http.specs.Feeds.{IsPlain}

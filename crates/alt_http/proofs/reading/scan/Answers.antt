@@ -1,4 +1,4 @@
-use Rattle.std.proofs.Common.{◌≡◌, [], List, ℕ, subst, Result, Ok, Err, IfOk}
+use Rattle.std.proofs.Common.{◌≡◌, [], List, ℕ, subst}
 use Rattle.std.proofs.lemmas.Result.{IfOk-weaker}
 use Rattle.alt_http.specs.declared.outcome.Scan.TheVariants.{More}
 use Rattle.alt_http.specs.Judged.{IsScan, Stays, LiesIn}

@@ -16,7 +16,7 @@ use Rattle.serde_json.specs.Data.{string, item}
 use Rattle.alt_codec.specs.Writing.{strings}
 use Rattle.alt_schema.specs.Json.{items_by}
 use Rattle.alt_machine.specs.Ops.ListTables.{names_after}
-use Rattle.alt_machine.specs.State.{Table, Texts}
+use Rattle.alt_machine.specs.State.{Texts}
 use Rattle.alt_value.specs.Members.{text_order}
 use Rattle.alt_value.proofs.Places.{first, second, less}
 use Rattle.alt_value.proofs.Texts.{text_total}
@@ -93,13 +93,13 @@ module _ {X : Type 0} where
   next name k [] s h = absurd (let f : ⊥ = cc in f)
   next name k (p ∷ ps) s h = by_test (is_lt (text_order name p.0)) name k p ps refl s h (λ e. next name k ps (second _ _ s) e)
 
-pub names-next : (last k : List ℕ) (m : Texts Table) → Some k ≡ slice_get (names_after last m) 0 → names_after last m ≡ k ∷ names_after k m
+pub names-next : {X : Type 0} (last k : List ℕ) (m : Texts X) → Some k ≡ slice_get (names_after last m) 0 → names_after last m ≡ k ∷ names_after k m
 names-next last k m h = (next last k (map.entries m) (entries_sorted m) (sym h)).1
 
 -- ---- a page
 
 -- a name more
-pub named_more : (start last k : List ℕ) (m : Texts Table) (ns more : List (List ℕ)) → Some k ≡ slice_get (names_after last m) 0
+pub named_more : {X : Type 0} (start last k : List ℕ) (m : Texts X) (ns more : List (List ℕ)) → Some k ≡ slice_get (names_after last m) 0
     → more ≡ ns ++ k ∷ [] → ns ++ names_after last m ≡ names_after start m → more ++ names_after k m ≡ names_after start m
 named_more start last k m ns more at is before =
     ap (λ l. l ++ names_after k m) is ∙ append_assoc ns (k ∷ []) (names_after k m) ∙ ap (λ l. ns ++ l) (sym (names-next last k m at)) ∙ before

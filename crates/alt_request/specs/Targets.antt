@@ -27,9 +27,8 @@ OnTable tests catalog ms (Err (Fault f)) = IsReadFault f
 
 -- the item or the key has its place in the table that is named
 pub record IsAt (tests : List (Option Answer)) (sought : Sought) (catalog : Texts TableSchema) (ms : Members) (target : Target) : Type 0 where
-  pub description : TableSchema
-  pub there : map.get catalog (table_name ms) ≡ Some description
-  pub placed : IsPlaced tests sought ms description target.item target.place
+  pub there : map.get catalog (table_name ms) ≡ Some target.schema.now
+  pub placed : IsPlaced tests sought ms target.schema.now target.item target.place
 
 -- That is so; or the machine refuses the request too, whatever its operation goes on to do.
 abbrev pub OnItem : List (Option Answer) → Sought → Texts TableSchema → Members → Result Target Stop → Type 0

@@ -19,9 +19,10 @@ use alt_value::Item;
 use serde_json::{Map, Value};
 use std::alloc::Global;
 
-/// An item or a key, and its place in its table.
+/// An item or a key, the description of its table, and its place there.
 #[derive(Drop)]
-pub struct Target {
+pub struct Target<'t> {
+    pub schema: &'t TableSchema,
     pub item: Item,
     pub place: Bytes,
 }
@@ -41,14 +42,14 @@ pub fn table_target<'t>(
 }
 
 /// The item or the key in a body and its place in the table that the body names, where nothing refuses them.
-pub fn item_target(
+pub fn item_target<'t>(
     alloc: Global,
-    tables: &Tables,
+    tables: &'t Tables,
     body: &Map<String, Value>,
     broken: Option<Broken>,
     rules: &Rules,
     sought: Sought,
-) -> Result<Target, Stop>
+) -> Result<Target<'t>, Stop>
     ensures target { OnItem (body_refusals broken (rules_of rules.now) (members_view body.now.entries)) sought
         (catalog_of tables.now) (members_view body.now.entries) result }
 {
@@ -59,5 +60,9 @@ pub fn item_target(
     if !key_fits(schema, &item) {
         return Err(Stop::Refused(Refusal::KEY_TOO_LONG));
     }
-    Ok(Target { item, place })
+    Ok(Target {
+        schema,
+        item,
+        place,
+    })
 }

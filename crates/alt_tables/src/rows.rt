@@ -1,6 +1,6 @@
 //! The items of tables: what stands at a place, and what is to stand there.
 
-ghost use Rattle.std.specs.Prelude.{◌≡◌, true, None, Some, IfOk, IfErr, IfSome, OnOk, option_map};
+ghost use Rattle.std.specs.Prelude.{◌≡◌, ◌↔◌, true, None, Some, IfOk, IfErr, IfSome, OnOk, option_map};
 ghost use Rattle.std.specs.FinMap as map;
 ghost use Rattle.alt_machine.specs.Outcomes.{a_number};
 ghost use Rattle.alt_machine.specs.Same.{is_same};
@@ -38,7 +38,7 @@ impl Tables {
         requires there { map.contains_key (catalog_of self.old) table.now ≡ true }
         ensures place { IfOk result (λ found. found.place ≡ place) }
         ensures item { (s : State) → Stands (D.state disk.old) self.old s → IfOk result (IsFoundIn s table.now) }
-        ensures stays { (s : State) → Stands (D.state disk.old) self.old s → Stands (D.state disk.new) self.new s }
+        ensures stays { (s : State) → Stands (D.state disk.old) self.old s ↔ Stands (D.state disk.new) self.new s }
         ensures catalog { KeepsCatalog self.old self.new }
         ensures cause { IfErr result IsReadFault }
         ensures disk { D.state disk.new ≡ D.state disk.old }

@@ -11,13 +11,17 @@ use Rattle.alt_shape.specs.Shape.{given, natural_of}
 use Rattle.alt_schema.specs.Stated.{text_of}
 use Rattle.alt_value.specs.Members.{text_order}
 use Rattle.alt_machine.specs.declared.TheConstants.{PAGE_LENGTH}
-use Rattle.alt_machine.specs.Body.{of_names, body_refusals}
+use Rattle.alt_machine.specs.Body.{Rules, of_names, body_refusals}
 use Rattle.alt_machine.specs.Outcomes.{Outcome, says, unless_refused}
 use Rattle.alt_machine.specs.State.{State, Texts}
 
+-- all its members are taken
+abbrev pub rules : Rules
+rules = of_names (codes "ExclusiveStartTableName" ∷ [])
+
 -- what the body alone says
 abbrev pub of_body : Members → List (Option Answer)
-of_body ms = body_refusals (bodies.list_tables ms) (of_names (codes "ExclusiveStartTableName" ∷ [])) ms
+of_body ms = body_refusals (bodies.list_tables ms) rules ms
 
 -- the name to start after, the empty one where none is given: it is before all names
 abbrev pub start_name : Members → List ℕ

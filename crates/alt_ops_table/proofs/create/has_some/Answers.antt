@@ -1,6 +1,6 @@
 -- A vector's length is that of its items.
 use Rattle.std.proofs.Common.{arith}
-use Rattle.alt_ops_table.proofs.Refusing.{some-items}
+use Rattle.alt_ops_table.proofs.Asking.{some-items}
 use Rattle.alt_ops_table.proofs.create.has_some.Goals as goal
 
 pub returns : goal.returns

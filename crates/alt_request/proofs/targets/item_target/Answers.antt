@@ -49,7 +49,6 @@ returns-then-not-key_fits c = record {
 pub returns : goal.returns
 returns c = record {
   target = record {
-    description = c.in_ok-schema.schema.now;
     there = some_found not_found (map.get (catalog_of c.args.tables.now) (table_name (members_view c.args.body.now.entries))) c.in_ok-schema.schema.now c.in_ok-schema.ensures.found;
     placed = record {
       body = c.in_ok-body_refusal.ensures.tested;

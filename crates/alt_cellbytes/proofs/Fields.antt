@@ -1,5 +1,5 @@
 -- Where a count, a field or a spelled number stops, none that is right stands.
-use Rattle.std.proofs.Common.{◌≡◌, sym, ap, ◌∙◌, ℕ, ◌+◌, ◌<◌, ◌≤◌, List, ◌++◌, length, inl, inr, arith, length-append, false}
+use Rattle.std.proofs.Common.{◌≡◌, sym, ◌∙◌, ℕ, ◌+◌, ◌≤◌, List, ◌++◌, length, inl, inr, arith, length-append, false}
 use Rattle.std.specs.Prelude.{ℤ, Bool, true, if◌then◌else◌}
 use Rattle.alt_decimal.specs.Number.{Fits}
 use Rattle.alt_decimal.specs.Spelled.{spelled}
@@ -8,7 +8,7 @@ use Rattle.alt_fields.specs.Bytes.{IsShort}
 use Rattle.alt_fields.specs.Field.{field}
 use Rattle.alt_fields.proofs.Apart.{field-apart, field_whole, length-field}
 use Rattle.alt_value.specs.CellBytes.{counted}
-use Rattle.alt_cellbytes.specs.Places.{IsCut, NoField, NoNumber, is_cut_number}
+use Rattle.alt_cellbytes.specs.Places.{NoField, NoNumber, is_cut_number}
 
 -- how long a count is with what follows it
 pub length-counted : (n : ℕ) (x : List ℕ) → length (counted n ++ x) ≡ 8 + length x

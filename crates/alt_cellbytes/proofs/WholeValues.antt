@@ -1,6 +1,6 @@
 -- A value that is stored or sent has cell bytes, and no set is empty in one that has them.
-use Rattle.std.proofs.Common.{◌≡◌, sym, ap, ◌∙◌, ℕ, ◌<◌, ◌≤◌, Bool, true, false, ◌&&◌, T, List, [], ◌∷◌, ◌++◌, length, length-append, arith}
-use Rattle.std.specs.List.{AllByRecursion, flat_map}
+use Rattle.std.proofs.Common.{ap, ◌<◌, ◌≤◌, T, List, [], ◌∷◌, ◌++◌, length, length-append, arith}
+use Rattle.std.specs.List.{flat_map}
 use Rattle.alt_fields.specs.Bytes.{IsShort, IsBytes}
 use Rattle.alt_fields.specs.Field.{field}
 use Rattle.alt_fields.proofs.Apart.{all_map}

@@ -8,7 +8,7 @@ use Rattle.std.proofs.lemmas.List.{append-nil}
 use Rattle.std.proofs.lemmas.Map.Lookups.{exact_bytes}
 use Rattle.alt_value.specs.Members.{text_order}
 use Rattle.alt_value.specs.Order.{tree_order}
-use Rattle.alt_value.specs.Tree.{Tree, S_tree, N_tree, B_tree, BOOL_tree, NULL_tree, SS_tree, NS_tree, BS_tree, L_tree, M_tree}
+use Rattle.alt_value.specs.Tree.{Tree, S_tree, B_tree}
 use Rattle.alt_keyorder.specs.KeyBytes.{closed, IsPartOrder, AreApart}
 
 -- numbers by their order

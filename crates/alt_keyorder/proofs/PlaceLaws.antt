@@ -1,19 +1,18 @@
 -- The laws of places, in tables and in indexes.
-use Rattle.std.proofs.Common.{◌≡◌, refl, sym, ap, ◌∙◌, ◌↔◌, ℕ, List, [], ◌∷◌, ◌++◌, append_assoc, Option, Some, None}
+use Rattle.std.proofs.Common.{◌≡◌, refl, sym, ap, ◌∙◌, ℕ, List, [], ◌∷◌, ◌++◌, append_assoc, Option, Some, None}
 use Rattle.std.proofs.lemmas.List.{append-nil}
 use Rattle.std.specs.Int.{w64, to_be_bytes}
 use Rattle.std.specs.List.{flat_map}
 use Rattle.std.specs.Ordering.{nat_cmp, ordering_then}
 use Rattle.std.specs.declared.cmp.Ordering.{Ordering}
 use Rattle.std.specs.declared.cmp.Ordering.TheVariants.{Less, Equal, Greater}
-use Rattle.alt_base.specs.Prefix.{IsPrefix}
 use Rattle.alt_fields.proofs.Apart.{number-apart}
 use Rattle.alt_value.specs.declared.kind.KeyKind.{KeyKind}
 use Rattle.alt_value.specs.Members.{text_order}
 use Rattle.alt_value.specs.Tree.{Tree}
 use Rattle.alt_keyorder.specs.KeyBytes.{key_bytes}
-use Rattle.alt_keyorder.specs.Kinds.{IsOfKind, AreOfKinds, IsKeyFor, IsPlaceOf}
-use Rattle.alt_keyorder.specs.Laws.{Lie, PlacesLie, OnePlace, TableKeysTell, TableKeysLie, HashKeysBegin, IndexKeysTell, IndexKeysLie}
+use Rattle.alt_keyorder.specs.Kinds.{AreOfKinds, IsKeyFor, IsPlaceOf}
+use Rattle.alt_keyorder.specs.Laws.{PlacesLie, OnePlace, TableKeysTell, TableKeysLie, HashKeysBegin, IndexKeysTell, IndexKeysLie}
 use Rattle.alt_keyorder.specs.Place.{Place, key_values, place_bytes, place_in_table, place_in_index, then_order, IsPlace}
 use Rattle.alt_keyorder.specs.Token.{token_of}
 use Rattle.alt_keyorder.proofs.KindLaws.{key_values_of, parts_have_order, one_parts}

@@ -1,7 +1,7 @@
 -- The byte order of key bytes is the order of places.
-use Rattle.std.proofs.Common.{◌≡◌, refl, sym, ap, subst, ◌∙◌, ℕ, suc, ◌+◌, ◌*◌, ◌%◌, ◌^◌, ◌<◌, ◌≤◌, List, [], ◌∷◌, ◌++◌, inl, inr, arith, append_assoc, Option, Some, None, IfSome, false}
-use Rattle.std.specs.Prelude.{ℤ, pos, nat_abs}
-use Rattle.std.specs.Int.{w64, to_be_bytes, byte_at, bytes_high_first, is_negative}
+use Rattle.std.proofs.Common.{◌≡◌, refl, sym, ap, subst, ◌∙◌, ℕ, suc, ◌+◌, ◌*◌, ◌%◌, ◌^◌, ◌<◌, ◌≤◌, List, [], ◌∷◌, ◌++◌, inl, inr, arith, append_assoc, Option, Some, None, IfSome}
+use Rattle.std.specs.Prelude.{ℤ}
+use Rattle.std.specs.Int.{w64, to_be_bytes, byte_at, bytes_high_first}
 use Rattle.std.specs.List.{AllByRecursion, flat_map}
 use Rattle.std.specs.Ordering.{nat_cmp, int_cmp, ordering_then}
 use Rattle.std.specs.declared.cmp.Ordering.{Ordering}
@@ -14,10 +14,10 @@ use Rattle.alt_decimal.specs.Spelled.{spelled}
 use Rattle.alt_decimal.proofs.Normals.{spelled_apart, spelled_order}
 use Rattle.alt_value.specs.Members.{text_order}
 use Rattle.alt_value.specs.Order.{tree_order}
-use Rattle.alt_value.specs.Tree.{Tree, S_tree, N_tree, B_tree, BOOL_tree, NULL_tree, SS_tree, NS_tree, BS_tree, L_tree, M_tree}
+use Rattle.alt_value.specs.Tree.{Tree, S_tree, N_tree, B_tree}
 use Rattle.alt_keyorder.specs.KeyBytes.{key_bytes, IsPartOrder}
 use Rattle.alt_keyorder.specs.Laws.{KeysLieAsPlaces, KeysTellPlaces}
-use Rattle.alt_keyorder.specs.Place.{Place, then_order, parts_order, place_order, place_bytes, IsKeyValue, IsPlace}
+use Rattle.alt_keyorder.specs.Place.{Place, then_order, parts_order, place_order, place_bytes, IsKeyValue}
 use Rattle.alt_keyorder.proofs.Parts.{nat_cmp-less, nat_cmp-equal, nat_cmp-greater, then-assoc, then-equal, text_order-refl, apart-order, text_law, binary_law}
 
 -- ---- numbers of 8 bytes

@@ -1,12 +1,11 @@
 -- A token is a number of 8 bytes.
-use Rattle.std.proofs.Common.{◌≡◌, ℕ, zero, suc, ◌<◌, ◌^◌, List, [], ◌∷◌, ◌++◌, take, get_or, arith}
+use Rattle.std.proofs.Common.{ℕ, zero, suc, ◌<◌, ◌^◌, List, [], ◌∷◌, take, get_or, arith}
 use Rattle.std.specs.List.{AllByRecursion}
 use Rattle.std.specs.Int.{w32, w64, to_be_bytes, from_be_bytes}
 use Rattle.std.specs.Prelude.{slice_index}
 use Rattle.sha2.specs.Sha256.{digest_bytes, sha256}
 use Rattle.alt_fields.proofs.Apart.{all_append}
 use Rattle.alt_value.specs.CellBytes.{cell_bytes}
-use Rattle.alt_value.specs.Tree.{Tree}
 use Rattle.alt_keyorder.specs.Laws.{TokensFit}
 use Rattle.alt_keyorder.specs.Token.{token_of}
 

@@ -11,7 +11,7 @@ use Rattle.alt_decimal.specs.Number.{Fits}
 use Rattle.alt_decimal.specs.Spelled.{spelled, complement, magnitude_bytes}
 use Rattle.alt_value.specs.declared.kind.KeyKind.{KeyKind}
 use Rattle.alt_value.specs.declared.kind.KeyKind.TheVariants.{S, N, B}
-use Rattle.alt_value.specs.Tree.{S_tree, N_tree, B_tree, BOOL_tree, NULL_tree, SS_tree, NS_tree, BS_tree, L_tree, M_tree}
+use Rattle.alt_value.specs.Tree.{S_tree, N_tree, B_tree}
 
 -- equal lists have equal first elements and equal rests
 first : (x y : ℕ) (xs ys : List ℕ) → x ∷ xs ≡ y ∷ ys → x ≡ y

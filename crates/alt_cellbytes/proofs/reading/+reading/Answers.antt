@@ -1,5 +1,5 @@
 -- An element or an entry more; a list or a map that is whole; and where one stops.
-use Rattle.std.proofs.Common.{◌≡◌, ◌≤◌, ◌-◌, refl, ap, subst, ◌∙◌, List, ℕ, ◌∷◌, ◌++◌, rules, arith}
+use Rattle.std.proofs.Common.{◌-◌, refl, ap, subst, ◌∙◌, List, ℕ, ◌∷◌, ◌++◌, rules, arith}
 use Rattle.std.specs.List.{flat_map}
 use Rattle.std.proofs.lemmas.Result.{err_from_is_err_and, IfErr-weaker}
 use Rattle.alt_value.specs.Item.{with_pair}

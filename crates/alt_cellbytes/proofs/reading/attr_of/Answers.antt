@@ -1,10 +1,7 @@
 -- Nothing is nested deeper than there are bytes, so what is said of values that are nested so deep
 -- at most holds of all.
-use Rattle.std.proofs.Common.{◌≡◌, ◌≤◌, ◌⊎◌, length, ap, inl, inr, arith, ℕ, List, ◌+◌, Result, Ok, Err}
-use Rattle.std.specs.Prelude.{IfOk}
+use Rattle.std.proofs.Common.{◌⊎◌, length, ap, inl, inr, arith, ℕ, List}
 use Rattle.std.proofs.lemmas.Result.{IfOk-weaker}
-use Rattle.alt_value.specs.CellBytes.{cell_bytes}
-use Rattle.alt_value.specs.Stands.{tree_of}
 use Rattle.alt_cellbytes.specs.Places.{IsBadAt, IsDeepAt}
 use Rattle.alt_cellbytes.proofs.Apart.{cell_bytes-apart}
 use Rattle.alt_cellbytes.proofs.Stopped.{never_deep}

@@ -1,9 +1,8 @@
 -- The whole is one value, or stops within it, or is nested too deep, or goes on behind it.
-use Rattle.std.proofs.Common.{◌≡◌, ◌-◌, List, ℕ, ◌++◌, [], inl, inr, refl, sym, ◌∙◌, length, rules}
+use Rattle.std.proofs.Common.{◌-◌, [], inl, inr, refl, sym, ◌∙◌, length, rules}
 use Rattle.std.proofs.lemmas.List.{append-nil}
 use Rattle.alt_value.specs.CellBytes.{cell_bytes}
 use Rattle.alt_value.specs.Stands.{tree_of}
-use Rattle.alt_value.specs.Tree.{Tree}
 use Rattle.alt_cellbytes.proofs.Stopped.{deep-refuted}
 use Rattle.alt_cellbytes.proofs.WholeValues.{whole_has, full_of}
 use Rattle.alt_cellbytes.proofs.Wholes.{one_place, same_read, nothing_left, zero_from, some_from, stop_place, behind_place, deep_place}

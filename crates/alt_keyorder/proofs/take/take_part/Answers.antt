@@ -1,5 +1,5 @@
 -- Behind the end there is no part, and elsewhere the one at the front of the rest.
-use Rattle.std.proofs.Common.{◌≡◌, ◌+◌, ap, ◌∙◌}
+use Rattle.std.proofs.Common.{◌+◌, ap, ◌∙◌}
 use Rattle.alt_value.specs.Stands.{tree_of}
 use Rattle.alt_keyorder.proofs.KindLaws.{taken_is}
 use Rattle.alt_keyorder.proofs.Unclosed.{no_part_past}

@@ -1,34 +1,25 @@
--- Pieces cut from the front of bytes.
-use Rattle.std.proofs.Common.{◌≡◌, ◌≢◌, refl, sym, ap, subst, ◌∙◌, ℕ, zero, suc, ◌-◌, ◌≤◌, List, [], ◌∷◌, ◌++◌, length, take, drop, Some, None, T, arith}
+-- A member or a name that is tested against the last one.
+use Rattle.std.proofs.Common.{◌≡◌, ◌≢◌, refl, sym, subst, ℕ, zero, suc, ◌-◌, ◌≤◌, List, [], ◌∷◌, ◌++◌, length, Some, None, T, arith}
 use Rattle.std.specs.Prelude.{Bool, true, false, IsTrue, slice_get}
 use Rattle.std.specs.Cmp.{IsTotalOrder}
-use Rattle.std.specs.Int.{w64, to_be_bytes}
 use Rattle.std.specs.Ordering.{is_lt}
 use Rattle.std.specs.declared.cmp.Ordering.{Ordering}
-use Rattle.std.proofs.lemmas.List.{take-append-drop}
 use native.Mathlib.Numerals.{unary_clauses}
-use Rattle.alt_fields.specs.Field.{StandsAt}
-use Rattle.alt_fields.proofs.Numbers.{stands_within}
 use Rattle.alt_value.specs.Item.{IsItem}
 use Rattle.alt_value.specs.Members.{IsSet, text_order}
 use Rattle.alt_value.specs.Tree.{Tree, Pair}
 use Rattle.alt_value.proofs.Places.{less, is_less}
 use Rattle.alt_cellbytes.proofs.Rising.{rising_more, above_last, item_more, name_above}
 
-pub count_within : (bytes : List ℕ) (n end : ℕ) → StandsAt bytes 0 (to_be_bytes w64 n) → end ≡ 8 → end ≤ length bytes
-count_within bytes n end at e = omega (arith, stands_within bytes (to_be_bytes w64 n) 0 8 at refl (omega arith), e)
-
-pub cut_front : (bytes piece rest : List ℕ) (end : ℕ) → StandsAt bytes 0 piece → end ≡ length piece → rest ≡ drop end bytes → bytes ≡ piece ++ rest
-cut_front bytes piece rest end at e r =
-    sym (take-append-drop end bytes) ∙ ap (λ s. s ++ drop end bytes) (ap (λ n. take n bytes) e ∙ at) ∙ ap (λ s. piece ++ s) (sym r)
-
+-- where no member stands, and what a test of an order tells
 past_at : {A : Type 0} (xs : List A) (i : ℕ) → None ≡ slice_get xs i → length xs ≤ i
 past_at [] i e = omega arith
 past_at (x ∷ xs) zero e = absurd (let f : ⊥ = cc in f)
 past_at (x ∷ xs) (suc i) e = omega (arith, past_at xs i e)
 
 -- the last member is there
-pub past : {A : Type 0} (xs : List A) (count : ℕ) → count ≡ length xs → count ≢ 0 → None ≡ slice_get xs (count - 1) → ⊥
+pub past : {A : Type 0} (xs : List A) (count : ℕ) → count ≡ length xs → count ≢ 0
+    → None ≡ slice_get xs (count - 1) → ⊥
 past xs zero n some e = some refl
 past xs (suc i) n some e = omega (arith, n, past_at xs (suc i - 1) e)
 
@@ -40,29 +31,35 @@ is_True : (b : Bool) → T b → IsTrue b
 is_True true t = refl
 is_True false t = absurd t
 
-truth : (b : Bool) (r : Ordering) → b ≡ is_lt r → IsTrue b → r ≡ Rattle.std.specs.declared.cmp.Ordering.TheVariants.Less
+truth : (b : Bool) (r : Ordering) → b ≡ is_lt r → IsTrue b
+    → r ≡ Rattle.std.specs.declared.cmp.Ordering.TheVariants.Less
 truth b r e t = less r (is_T (is_lt r) (subst IsTrue e t))
 
 module _ {K : Type 0} (R : K → K → Ordering) (o : IsTotalOrder R) where
   -- a test against the last member
-  pub next_tested : (xs : List K) (count : ℕ) (l y : K) (b : Bool) → IsSet R xs → count ≡ length xs → count ≢ 0 → Some l ≡ slice_get xs (count - 1)
-      → b ≡ is_lt (R l y) → (IsTrue b → IsSet R (xs ++ y ∷ [])) × (IsSet R (xs ++ y ∷ []) → IsTrue b)
+  pub next_tested : (xs : List K) (count : ℕ) (l y : K) (b : Bool) → IsSet R xs → count ≡ length xs
+      → count ≢ 0 → Some l ≡ slice_get xs (count - 1)
+      → b ≡ is_lt (R l y) → (IsTrue b → IsSet R (xs ++ y ∷ []))
+      × (IsSet R (xs ++ y ∷ []) → IsTrue b)
   next_tested xs zero l y b h n some e is = absurd (some refl)
   next_tested xs (suc i) l y b h n some e is =
       let here : Some l ≡ slice_get xs i = simp unary_clauses at e in (
         (λ t. rising_more R o xs i l y h (omega (arith, n)) here (truth b (R l y) is t)),
-        (λ s. subst IsTrue (sym is) (is_True (is_lt (R l y)) (is_less (R l y) (above_last R o xs i l y s here)))),
+        (λ s. subst IsTrue (sym is) (is_True (is_lt (R l y))
+            (is_less (R l y) (above_last R o xs i l y s here)))),
       )
 
 -- a test of a name against the last one
-pub name_tested : (ps : List Pair) (count : ℕ) (l : Pair) (name : List ℕ) (t : Tree) (b : Bool) → IsItem ps → count ≡ length ps → count ≢ 0
+pub name_tested : (ps : List Pair) (count : ℕ) (l : Pair) (name : List ℕ) (t : Tree) (b : Bool)
+    → IsItem ps → count ≡ length ps → count ≢ 0
     → Some l ≡ slice_get ps (count - 1) → b ≡ is_lt (text_order l.0 name)
     → (IsTrue b → IsItem (ps ++ (name, t) ∷ [])) × (IsItem (ps ++ (name, t) ∷ []) → IsTrue b)
 name_tested ps zero l name t b h n some e is = absurd (some refl)
 name_tested ps (suc i) l name t b h n some e is =
     let here : Some l ≡ slice_get ps i = simp unary_clauses at e in (
       (λ p. item_more ps i l name t h (omega (arith, n)) here (truth b (text_order l.0 name) is p)),
-      (λ s. subst IsTrue (sym is) (is_True (is_lt (text_order l.0 name)) (is_less (text_order l.0 name) (name_above ps i l name t s here)))),
+      (λ s. subst IsTrue (sym is) (is_True (is_lt (text_order l.0 name))
+          (is_less (text_order l.0 name) (name_above ps i l name t s here)))),
     )
 
 pub not_both : (b : Bool) → b ≡ false → IsTrue b → ⊥

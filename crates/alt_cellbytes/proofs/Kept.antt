@@ -1,20 +1,38 @@
 -- A stop of a piece is a stop of the value that it is a piece of.
 use Rattle.std.proofs.Common.{◌≡◌, ap, ◌∙◌, ℕ, ◌+◌, List, ◌∷◌, ◌++◌, length}
 use Rattle.alt_value.specs.CellBytes.{counted}
-use Rattle.alt_cellbytes.specs.Places.{IsStop}
+use Rattle.alt_cellbytes.specs.Places.{IsStop, IsStopAt}
 use Rattle.alt_cellbytes.specs.declared.fault.Stop.{Stop}
-use Rattle.alt_cellbytes.specs.declared.fault.Stop.TheVariants.{Left, NoMemory}
+use Rattle.alt_cellbytes.specs.declared.fault.Stop.TheVariants.{Left, Deep, NoMemory}
 use Rattle.alt_cellbytes.proofs.Fields.{length-counted}
 
+-- where only bytes can stop, what follows of a stop
 pub stop_map : (P Q : ℕ → Type 0) (s : Stop) → ((n : ℕ) → P n → Q n) → IsStop P s → IsStop Q s
 stop_map P Q (Left n) f h = f n h
+stop_map P Q (Deep n) f h = absurd h
 stop_map P Q NoMemory f h = tt
 
+-- and the same where a value may also be nested too deep
+pub stop_into : (P Q D : ℕ → Type 0) (s : Stop) → ((n : ℕ) → P n → Q n) → IsStop P s
+    → IsStopAt Q D s
+stop_into P Q D (Left n) f h = f n h
+stop_into P Q D (Deep n) f h = absurd h
+stop_into P Q D NoMemory f h = tt
+
+pub both_map : (P Q C D : ℕ → Type 0) (s : Stop) → ((n : ℕ) → P n → Q n) → ((n : ℕ) → C n → D n)
+    → IsStopAt P C s → IsStopAt Q D s
+both_map P Q C D (Left n) f g h = f n h
+both_map P Q C D (Deep n) f g h = g n h
+both_map P Q C D NoMemory f g h = tt
+
+-- a kind with what is behind it, and a count
 pub kind_is : (k n : ℕ) (bytes tail : List ℕ) → k ≡ n → bytes ≡ tail → k ∷ bytes ≡ n ∷ tail
 kind_is k n bytes tail e f = cc
 
-pub length-told : (n : ℕ) (bytes more : List ℕ) → bytes ≡ counted n ++ more → length bytes ≡ 8 + length more
+pub length-told : (n : ℕ) (bytes more : List ℕ) → bytes ≡ counted n ++ more
+    → length bytes ≡ 8 + length more
 length-told n bytes more e = ap length e ∙ length-counted n more
 
-pub zero_told : (count : ℕ) (bytes more : List ℕ) → count ≡ 0 → bytes ≡ counted count ++ more → bytes ≡ counted 0 ++ more
+pub zero_told : (count : ℕ) (bytes more : List ℕ) → count ≡ 0 → bytes ≡ counted count ++ more
+    → bytes ≡ counted 0 ++ more
 zero_told count bytes more z e = e ∙ ap (λ n. counted n ++ more) z

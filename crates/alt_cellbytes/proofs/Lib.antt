@@ -1,11 +1,11 @@
-pub mod Lists
+pub mod Apart
+pub mod Cuts
+pub mod Deep
 pub mod Fields
+pub mod Kept
+pub mod OneMore
 pub mod Rising
 pub mod Shapes
-pub mod Apart
 pub mod Stopped
-pub mod Cuts
-pub mod OneMore
-pub mod Kept
-pub mod Deep
+pub mod WholeValues
 pub mod Wholes

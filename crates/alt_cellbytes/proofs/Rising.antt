@@ -13,7 +13,8 @@ use Rattle.alt_value.proofs.Places.{first, second, both, less, is_less}
 use Rattle.alt_value.proofs.Texts.{text_total}
 
 module _ {K : Type 0} (R : K → K → Ordering) (o : IsTotalOrder R) where
-  below_front : (x : K) (xs ys : List K) → T (is_below_each R x (xs ++ ys)) → T (is_below_each R x xs)
+  below_front : (x : K) (xs ys : List K) → T (is_below_each R x (xs ++ ys))
+      → T (is_below_each R x xs)
   below_front x [] ys h = tt
   below_front x (z ∷ xs) ys h = both _ _ (first _ _ h) (below_front x xs ys (second _ _ h))
 
@@ -21,49 +22,60 @@ module _ {K : Type 0} (R : K → K → Ordering) (o : IsTotalOrder R) where
   below_last x [] y h = less _ (first _ _ h)
   below_last x (z ∷ xs) y h = below_last x xs y (second _ _ h)
 
-  below_more : (x : K) (xs : List K) (y : K) → T (is_below_each R x xs) → R x y ≡ Less → T (is_below_each R x (xs ++ y ∷ []))
+  below_more : (x : K) (xs : List K) (y : K) → T (is_below_each R x xs) → R x y ≡ Less
+      → T (is_below_each R x (xs ++ y ∷ []))
   below_more x [] y h l = both _ _ (is_less _ l) tt
   below_more x (z ∷ xs) y h l = both _ _ (first _ _ h) (below_more x xs y (second _ _ h) l)
 
-  below_at : (x : K) (xs : List K) (i : ℕ) (l : K) → T (is_below_each R x xs) → Some l ≡ slice_get xs i → R x l ≡ Less
+  below_at : (x : K) (xs : List K) (i : ℕ) (l : K) → T (is_below_each R x xs)
+      → Some l ≡ slice_get xs i → R x l ≡ Less
   below_at x [] i l h e = absurd (let f : ⊥ = cc in f)
   below_at x (z ∷ xs) zero l h e = let f : l ≡ z = cc in rw f (less _ (first _ _ h))
   below_at x (z ∷ xs) (suc i) l h e = below_at x xs i l (second _ _ h) e
 
   pub rising_front : (xs ys : List K) → IsSet R (xs ++ ys) → IsSet R xs
   rising_front [] ys h = tt
-  rising_front (x ∷ xs) ys h = both _ _ (below_front x xs ys (first _ _ h)) (rising_front xs ys (second _ _ h))
+  rising_front (x ∷ xs) ys h = both _ _ (below_front x xs ys (first _ _ h))
+      (rising_front xs ys (second _ _ h))
 
   -- one more that is above the last one
-  pub rising_more : (xs : List K) (i : ℕ) (l y : K) → IsSet R xs → i + 1 ≡ length xs → Some l ≡ slice_get xs i → R l y ≡ Less → IsSet R (xs ++ y ∷ [])
+  pub rising_more : (xs : List K) (i : ℕ) (l y : K) → IsSet R xs → i + 1 ≡ length xs
+      → Some l ≡ slice_get xs i → R l y ≡ Less → IsSet R (xs ++ y ∷ [])
   rising_more [] i l y h n e lt = absurd (omega (arith, n))
-  rising_more (x ∷ []) zero l y h n e lt = let f : l ≡ x = cc in both _ _ (below_more x [] y tt (ap (λ k. R k y) (sym f) ∙ lt)) tt
+  rising_more (x ∷ []) zero l y h n e lt = let f : l ≡ x = cc in
+      both _ _ (below_more x [] y tt (ap (λ k. R k y) (sym f) ∙ lt)) tt
   rising_more (x ∷ []) (suc i) l y h n e lt = absurd (omega (arith, n))
   rising_more (x ∷ z ∷ xs) zero l y h n e lt = absurd (omega (arith, n))
   rising_more (x ∷ z ∷ xs) (suc i) l y h n e lt =
       both _ _
-      (below_more x (z ∷ xs) y (first _ _ h) (o.trans x l y (below_at x (z ∷ xs) i l (first _ _ h) e) lt))
+      (below_more x (z ∷ xs) y (first _ _ h) (o.trans x l y
+      (below_at x (z ∷ xs) i l (first _ _ h) e) lt))
       (rising_more (z ∷ xs) i l y (second _ _ h) (omega (arith, n)) e lt)
 
   -- what goes on a rising list is above its last one
-  pub above_last : (xs : List K) (i : ℕ) (l y : K) → IsSet R (xs ++ y ∷ []) → Some l ≡ slice_get xs i → R l y ≡ Less
+  pub above_last : (xs : List K) (i : ℕ) (l y : K) → IsSet R (xs ++ y ∷ [])
+      → Some l ≡ slice_get xs i → R l y ≡ Less
   above_last [] i l y h e = absurd (let f : ⊥ = cc in f)
   above_last (x ∷ xs) zero l y h e = let f : l ≡ x = cc in rw f (below_last x xs y (first _ _ h))
   above_last (x ∷ xs) (suc i) l y h e = above_last xs i l y (second _ _ h) e
 
   -- a member above all others stands at the end
-  pub with_member-last : (xs : List K) (y : K) → IsSet R (xs ++ y ∷ []) → with_member R y xs ≡ xs ++ y ∷ []
+  pub with_member-last : (xs : List K) (y : K) → IsSet R (xs ++ y ∷ [])
+      → with_member R y xs ≡ xs ++ y ∷ []
   with_member-last [] y h = refl
   with_member-last (x ∷ xs) y h =
-      let above : R y x ≡ Greater = o.antisymm y x ∙ ap ordering_reverse (below_last x xs y (first _ _ h)) in
+      let above : R y x ≡ Greater = o.antisymm y x
+      ∙ ap ordering_reverse (below_last x xs y (first _ _ h)) in
       rw above (ap (λ zs. x ∷ zs) (with_member-last xs y (second _ _ h)))
 
 -- ---- maps
 
+-- the names of pairs, and that they rise
 abbrev names : List Pair → List (List ℕ)
 names ps = map (λ p. p.0) ps
 
-names_below : (x : List ℕ) (ps : List Pair) → is_below_each text_order x (names ps) ≡ below_all text_order x ps
+names_below : (x : List ℕ) (ps : List Pair) → is_below_each text_order x (names ps)
+    ≡ below_all text_order x ps
 names_below x [] = refl
 names_below x (p ∷ ps) = ap (λ b. is_lt (text_order x p.0) && b) (names_below x ps)
 
@@ -71,24 +83,36 @@ names_rising : (ps : List Pair) → is_rising text_order (names ps) ≡ is_sorte
 names_rising [] = refl
 names_rising (p ∷ ps) = rw (names_below p.0 ps, names_rising ps) refl
 
-names_more : (ps : List Pair) (name : List ℕ) (t : Tree) → names (ps ++ (name, t) ∷ []) ≡ names ps ++ name ∷ []
+names_more : (ps : List Pair) (name : List ℕ) (t : Tree)
+    → names (ps ++ (name, t) ∷ []) ≡ names ps ++ name ∷ []
 names_more [] name t = refl
 names_more (p ∷ ps) name t = ap (λ ns. p.0 ∷ ns) (names_more ps name t)
 
 -- the pairs of a map are those whose names rise from above the empty one
 item_from : (ps : List Pair) → IsSet text_order ([] ∷ names ps) → IsItem ps
-item_from ps h = (subst T (names_rising ps) (second _ _ h), subst T (names_below [] ps) (first _ _ h))
+item_from ps h = (
+  subst T (names_rising ps) (second _ _ h),
+  subst T (names_below [] ps) (first _ _ h),
+)
 
+-- items by the names of their pairs
 item_to : (ps : List Pair) → IsItem ps → IsSet text_order ([] ∷ names ps)
-item_to ps h = both _ _ (subst T (sym (names_below [] ps)) h.1) (subst T (sym (names_rising ps)) h.0)
+item_to ps h = both _ _ (subst T (sym (names_below [] ps)) h.1)
+    (subst T (sym (names_rising ps)) h.0)
 
-more_from : (ps : List Pair) (name : List ℕ) (t : Tree) → IsSet text_order (([] ∷ names ps) ++ name ∷ []) → IsItem (ps ++ (name, t) ∷ [])
-more_from ps name t h = item_from (ps ++ (name, t) ∷ []) (subst (λ ns. IsSet text_order ([] ∷ ns)) (sym (names_more ps name t)) h)
+more_from : (ps : List Pair) (name : List ℕ) (t : Tree)
+    → IsSet text_order (([] ∷ names ps) ++ name ∷ []) → IsItem (ps ++ (name, t) ∷ [])
+more_from ps name t h = item_from (ps ++ (name, t) ∷ [])
+    (subst (λ ns. IsSet text_order ([] ∷ ns)) (sym (names_more ps name t)) h)
 
-more_to : (ps : List Pair) (name : List ℕ) (t : Tree) → IsItem (ps ++ (name, t) ∷ []) → IsSet text_order (([] ∷ names ps) ++ name ∷ [])
-more_to ps name t h = subst (λ ns. IsSet text_order ([] ∷ ns)) (names_more ps name t) (item_to (ps ++ (name, t) ∷ []) h)
+more_to : (ps : List Pair) (name : List ℕ) (t : Tree) → IsItem (ps ++ (name, t) ∷ [])
+    → IsSet text_order (([] ∷ names ps) ++ name ∷ [])
+more_to ps name t h = subst (λ ns. IsSet text_order ([] ∷ ns)) (names_more ps name t)
+    (item_to (ps ++ (name, t) ∷ []) h)
 
-name_at : (ps : List Pair) (i : ℕ) (p : Pair) → Some p ≡ slice_get ps i → Some p.0 ≡ slice_get (names ps) i
+-- the name at a place
+name_at : (ps : List Pair) (i : ℕ) (p : Pair) → Some p ≡ slice_get ps i
+    → Some p.0 ≡ slice_get (names ps) i
 name_at [] i p e = absurd (let f : ⊥ = cc in f)
 name_at (q ∷ ps) zero p e = let f : p ≡ q = cc in ap (λ (r : Pair). Some r.0) f
 name_at (q ∷ ps) (suc i) p e = name_at ps i p e
@@ -98,39 +122,56 @@ length-names [] = refl
 length-names (p ∷ ps) = ap suc (length-names ps)
 
 -- a name above the last one
-pub item_more : (ps : List Pair) (i : ℕ) (l : Pair) (name : List ℕ) (t : Tree) → IsItem ps → i + 1 ≡ length ps → Some l ≡ slice_get ps i
+pub item_more : (ps : List Pair) (i : ℕ) (l : Pair) (name : List ℕ) (t : Tree) → IsItem ps
+    → i + 1 ≡ length ps → Some l ≡ slice_get ps i
     → text_order l.0 name ≡ Less → IsItem (ps ++ (name, t) ∷ [])
 item_more ps i l name t h n e lt =
-    more_from ps name t (rising_more text_order text_total ([] ∷ names ps) (suc i) l.0 name (item_to ps h) (omega (arith, n, length-names ps)) (name_at ps i l e) lt)
+    more_from ps name t (rising_more text_order text_total ([] ∷ names ps) (suc i) l.0 name
+    (item_to ps h) (omega (arith, n, length-names ps)) (name_at ps i l e) lt)
 
 -- the first name is not empty
-pub item_first : (ps : List Pair) (name : List ℕ) (t : Tree) → length ps ≡ 0 → text_order [] name ≡ Less → IsItem (ps ++ (name, t) ∷ [])
-item_first [] name t n lt = more_from [] name t (rising_more text_order text_total ([] ∷ []) 0 [] name tt refl refl lt)
+pub item_first : (ps : List Pair) (name : List ℕ) (t : Tree) → length ps ≡ 0
+    → text_order [] name ≡ Less → IsItem (ps ++ (name, t) ∷ [])
+item_first [] name t n lt = more_from [] name t
+    (rising_more text_order text_total ([] ∷ []) 0 [] name tt refl refl lt)
 item_first (p ∷ ps) name t n lt = absurd (omega (arith, n))
 
-pub name_above : (ps : List Pair) (i : ℕ) (l : Pair) (name : List ℕ) (t : Tree) → IsItem (ps ++ (name, t) ∷ []) → Some l ≡ slice_get ps i → text_order l.0 name ≡ Less
-name_above ps i l name t h e = above_last text_order text_total ([] ∷ names ps) (suc i) l.0 name (more_to ps name t h) (name_at ps i l e)
+-- a next name is above the last one, and is none that is empty
+pub name_above : (ps : List Pair) (i : ℕ) (l : Pair) (name : List ℕ) (t : Tree)
+    → IsItem (ps ++ (name, t) ∷ []) → Some l ≡ slice_get ps i → text_order l.0 name ≡ Less
+name_above ps i l name t h e = above_last text_order text_total ([] ∷ names ps) (suc i) l.0 name
+    (more_to ps name t h) (name_at ps i l e)
 
-pub name_some : (ps : List Pair) (name : List ℕ) (t : Tree) → IsItem (ps ++ (name, t) ∷ []) → text_order [] name ≡ Less
-name_some ps name t h = above_last text_order text_total ([] ∷ names ps) 0 [] name (more_to ps name t h) refl
+pub name_some : (ps : List Pair) (name : List ℕ) (t : Tree) → IsItem (ps ++ (name, t) ∷ [])
+    → text_order [] name ≡ Less
+name_some ps name t h = above_last text_order text_total ([] ∷ names ps) 0 [] name
+    (more_to ps name t h) refl
 
 -- the value of the last name is of no concern
-pub item_other : (ps : List Pair) (name : List ℕ) (t u : Tree) → IsItem (ps ++ (name, t) ∷ []) → IsItem (ps ++ (name, u) ∷ [])
+pub item_other : (ps : List Pair) (name : List ℕ) (t u : Tree) → IsItem (ps ++ (name, t) ∷ [])
+    → IsItem (ps ++ (name, u) ∷ [])
 item_other ps name t u h = more_from ps name u (more_to ps name t h)
 
+-- the first of an item's pairs are an item
 pub item_front : (ps qs : List Pair) → IsItem (ps ++ qs) → IsItem ps
 item_front ps qs h =
-    item_from ps (rising_front text_order text_total ([] ∷ names ps) (names qs) (subst (λ ns. IsSet text_order ([] ∷ ns)) (names_append ps qs) (item_to (ps ++ qs) h)))
+    item_from ps (rising_front text_order text_total ([] ∷ names ps) (names qs)
+    (subst (λ ns. IsSet text_order ([] ∷ ns)) (names_append ps qs) (item_to (ps ++ qs) h)))
   where
     names_append : (ps qs : List Pair) → names (ps ++ qs) ≡ names ps ++ names qs
     names_append [] qs = refl
     names_append (p ∷ ps) qs = ap (λ ns. p.0 ∷ ns) (names_append ps qs)
 
-put_last : (ps : List Pair) (name : List ℕ) (t : Tree) → IsSet text_order (names ps ++ name ∷ []) → put text_order name t ps ≡ ps ++ (name, t) ∷ []
+-- a pair that is put behind the others
+put_last : (ps : List Pair) (name : List ℕ) (t : Tree) → IsSet text_order (names ps ++ name ∷ [])
+    → put text_order name t ps ≡ ps ++ (name, t) ∷ []
 put_last [] name t h = refl
 put_last (p ∷ ps) name t h =
-    let above : text_order name p.0 ≡ Greater = text_total.antisymm name p.0 ∙ ap ordering_reverse (below_last text_order text_total p.0 (names ps) name (first _ _ h)) in
+    let above : text_order name p.0 ≡ Greater =
+    text_total.antisymm name p.0 ∙ ap ordering_reverse
+    (below_last text_order text_total p.0 (names ps) name (first _ _ h)) in
     rw above (ap (λ qs. p ∷ qs) (put_last ps name t (second _ _ h)))
 
-pub with_pair-last : (ps : List Pair) (name : List ℕ) (t u : Tree) → IsItem (ps ++ (name, u) ∷ []) → with_pair name t ps ≡ ps ++ (name, t) ∷ []
+pub with_pair-last : (ps : List Pair) (name : List ℕ) (t u : Tree) → IsItem (ps ++ (name, u) ∷ [])
+    → with_pair name t ps ≡ ps ++ (name, t) ∷ []
 with_pair-last ps name t u h = put_last ps name t (second _ _ (more_to ps name u h))

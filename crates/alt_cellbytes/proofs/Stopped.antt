@@ -1,5 +1,5 @@
 -- Where bytes stop, no value stands, and a stop within is a stop of the whole.
-use Rattle.std.proofs.Common.{◌≡◌, refl, sym, ap, subst, ◌∙◌, ℕ, zero, suc, ◌<◌, ◌≤◌, ◌^◌, List, [], ◌∷◌, ◌++◌, length, inl, inr, arith, append_assoc, length-append}
+use Rattle.std.proofs.Common.{◌≡◌, refl, sym, ap, subst, ◌∙◌, ℕ, zero, suc, ◌<◌, ◌≤◌, ◌^◌, ◌+◌, ◌-◌, List, [], ◌∷◌, ◌++◌, length, inl, inr, arith, append_assoc, length-append}
 use Rattle.std.specs.Prelude.{ℤ, Bool, true, false}
 use Rattle.std.specs.List.{AllByRecursion, flat_map}
 use Rattle.std.specs.Ordering.{int_cmp}
@@ -8,28 +8,37 @@ use Rattle.alt_decimal.specs.Spelled.{spelled}
 use Rattle.alt_fields.specs.Field.{field}
 use Rattle.alt_value.specs.CellBytes.{cell_bytes, counted, truth_byte}
 use Rattle.alt_value.specs.Item.{IsItem}
+use Rattle.alt_value.specs.Size.{depth}
 use Rattle.alt_value.specs.Members.{IsSet, text_order}
 use Rattle.alt_value.specs.Tree.{Tree, NULL_tree, L_tree, M_tree, Pair, trees_of, fields_of}
 use Rattle.alt_value.proofs.Texts.{text_total}
 use Rattle.std.proofs.lemmas.Cmp.{int_cmp_total}
-use Rattle.alt_cellbytes.specs.Places.{NoField, NoNumber, NoTruth, NoKind, NoMember, IsNextText, IsNextName, NoName, NoElement, NoEntry, NoEntryValue, IsEntry, AreEntries, entry_bytes, StopsHere, no_kind, no_text, no_number, no_binary, no_truth, no_count, empty_set, no_text_member, no_number_member, no_binary_member, no_name, Around, in_list, in_map, around_bytes, IsAround, all_around, Stops}
-use Rattle.alt_cellbytes.specs.Values.{IsShort, IsText, AreMembers, IsWholeSet, IsValue}
-use Rattle.alt_cellbytes.proofs.Lists.{front, nothing, IsApart, further, all_back}
-use Rattle.alt_cellbytes.proofs.Fields.{counted-apart, field-apart, field-refuted, field-left, number-refuted, number-left, length-counted}
+use Rattle.alt_cellbytes.specs.Places.{NoField, NoNumber, NoTruth, NoKind, NoMember, IsNextText, IsNextName, NoName, NoElementOf, NoEntry, NoEntryOf, Within, IsNested, TooDeep, IsEntry, AreEntries, entry_bytes, StopsHere, no_kind, no_text, no_number, no_binary, no_truth, no_count, empty_set, no_text_member, no_number_member, no_binary_member, no_name, Around, in_list, in_map, around_bytes, IsAround, all_around, Stops}
+use Rattle.alt_fields.specs.Bytes.{IsShort}
+use Rattle.alt_value.specs.Values.{IsText}
+use Rattle.alt_cellbytes.specs.Values.{AreRising, IsWholeSet, HasBytes}
+use Rattle.alt_fields.proofs.Apart.{front, nothing, IsApart, further, all_back, all_map, number-apart, field-apart}
+use Rattle.alt_cellbytes.proofs.Fields.{field-refuted, field-left, number-refuted, number-left, length-counted}
 use Rattle.alt_cellbytes.proofs.Rising.{rising_front, item_front, item_other}
-use Rattle.alt_cellbytes.proofs.Shapes.{KindIs, kind_of, behind_count, not_nothing, elements-trees_of, pairs-fields_of, all_values, all_entries}
-use Rattle.alt_cellbytes.proofs.Apart.{all_from, text_apart, binary_apart, number_apart, value_apart, pair_apart}
+use Rattle.alt_value.proofs.Trees.{elements-trees_of, pairs-fields_of}
+use Rattle.alt_cellbytes.proofs.Shapes.{KindIs, kind_of, behind_count, not_nothing, all_values, all_entries}
+use Rattle.alt_cellbytes.proofs.Deep.{element_below, entry_below}
+use Rattle.alt_cellbytes.proofs.Apart.{text_apart, binary_apart, number_apart, value_apart, pair_apart}
 
 -- ---- no value stands there
 
 -- Where the members of a whole set, list or map stand, no fewer stop.
-member-refuted : {K : Type 0} (spell : K → List ℕ) (P : K → Type 0) (Are : List K → Type 0) (NoNext : List K → List ℕ → ℕ → Type 0)
+member-refuted : {K : Type 0} (spell : K → List ℕ) (P : K → Type 0) (Are : List K → Type 0)
+    (NoNext : List K → List ℕ → ℕ → Type 0)
     → ((k : K) → P k → IsApart spell P k) → ((ks : List K) → Are ks → AllByRecursion P ks)
-    → ((ks : List K) (l : K) (ms : List K) (more x : List ℕ) (left : ℕ) → Are (ks ++ l ∷ ms) → more ≡ spell l ++ x → NoNext ks more left → ⊥)
-    → (ls : List K) (count : ℕ) (bytes x : List ℕ) (left : ℕ) → count ≡ length ls → Are ls → bytes ≡ flat_map spell ls ++ x
+    → ((ks : List K) (l : K) (ms : List K) (more x : List ℕ) (left : ℕ) → Are (ks ++ l ∷ ms)
+    → more ≡ spell l ++ x → NoNext ks more left → ⊥)
+    → (ls : List K) (count : ℕ) (bytes x : List ℕ) (left : ℕ) → count ≡ length ls → Are ls
+    → bytes ≡ flat_map spell ls ++ x
     → NoMember spell Are NoNext count bytes left → ⊥
 member-refuted spell P Are NoNext apart each next ls count bytes x left n are is non =
-    let t = further spell P non.done ls non.more x (all_from P (IsApart spell P) non.done apart (each non.done non.are)) (each ls are)
+    let t = further spell P non.done ls non.more x
+    (all_map P (IsApart spell P) non.done apart (each non.done non.are)) (each ls are)
     (omega (arith, non.few, n)) (sym non.is ∙ is) in
     next non.done t.next t.others non.more _ left (subst Are t.is are) t.there non.stops
 
@@ -37,40 +46,62 @@ member-refuted spell P Are NoNext apart each next ls count bytes x left n are is
 snoc_is : {A : Type 0} (ks : List A) (l : A) (ms : List A) → ks ++ l ∷ ms ≡ (ks ++ l ∷ []) ++ ms
 snoc_is ks l ms = sym (append_assoc ks (l ∷ []) ms)
 
-here : {A : Type 0} (P : A → Type 0) (ks : List A) (l : A) (ms : List A) → AllByRecursion P (ks ++ l ∷ ms) → P l
+here : {A : Type 0} (P : A → Type 0) (ks : List A) (l : A) (ms : List A)
+    → AllByRecursion P (ks ++ l ∷ ms) → P l
 here P ks l ms h = (all_back P ks (l ∷ ms) h).0
 
-next_text : (ks : List (List ℕ)) (l : List ℕ) (ms : List (List ℕ)) (more x : List ℕ) (left : ℕ) → AreMembers IsText text_order (ks ++ l ∷ ms)
+-- the next member of a set can be the next
+next_text : (ks : List (List ℕ)) (l : List ℕ) (ms : List (List ℕ)) (more x : List ℕ) (left : ℕ)
+    → AreRising IsText text_order (ks ++ l ∷ ms)
     → more ≡ field l ++ x → NoField (IsNextText ks) more left → ⊥
 next_text ks l ms more x left are is non =
     let t : IsText l = here IsText ks l ms are.0 in
-    let rising : IsSet text_order (ks ++ l ∷ []) = rising_front text_order text_total (ks ++ l ∷ []) ms (subst (IsSet text_order) (snoc_is ks l ms) are.1) in
+    let rising : IsSet text_order (ks ++ l ∷ []) =
+    rising_front text_order text_total (ks ++ l ∷ []) ms
+    (subst (IsSet text_order) (snoc_is ks l ms) are.1) in
     field-refuted (IsNextText ks) more left non l x t.1 (t.0, rising) is
 
-next_binary : (ks : List (List ℕ)) (l : List ℕ) (ms : List (List ℕ)) (more x : List ℕ) (left : ℕ) → AreMembers IsShort text_order (ks ++ l ∷ ms)
+next_binary : (ks : List (List ℕ)) (l : List ℕ) (ms : List (List ℕ)) (more x : List ℕ) (left : ℕ)
+    → AreRising IsShort text_order (ks ++ l ∷ ms)
     → more ≡ field l ++ x → NoField (λ b. IsSet text_order (ks ++ b ∷ [])) more left → ⊥
 next_binary ks l ms more x left are is non =
-    field-refuted (λ b. IsSet text_order (ks ++ b ∷ [])) more left non l x (here IsShort ks l ms are.0)
-    (rising_front text_order text_total (ks ++ l ∷ []) ms (subst (IsSet text_order) (snoc_is ks l ms) are.1)) is
+    field-refuted (λ b. IsSet text_order (ks ++ b ∷ [])) more left non l x
+    (here IsShort ks l ms are.0)
+    (rising_front text_order text_total (ks ++ l ∷ []) ms
+    (subst (IsSet text_order) (snoc_is ks l ms) are.1)) is
 
-next_number : (ks : List ℤ) (l : ℤ) (ms : List ℤ) (more x : List ℕ) (left : ℕ) → AreMembers Fits int_cmp (ks ++ l ∷ ms)
+next_number : (ks : List ℤ) (l : ℤ) (ms : List ℤ) (more x : List ℕ) (left : ℕ)
+    → AreRising Fits int_cmp (ks ++ l ∷ ms)
     → more ≡ spelled l ++ x → NoNumber (λ z. IsSet int_cmp (ks ++ z ∷ [])) more left → ⊥
 next_number ks l ms more x left are is non =
-    number-refuted _ more left non l x (here Fits ks l ms are.0) (rising_front int_cmp int_cmp_total (ks ++ l ∷ []) ms (subst (IsSet int_cmp) (snoc_is ks l ms) are.1)) is
+    number-refuted _ more left non l x (here Fits ks l ms are.0)
+    (rising_front int_cmp int_cmp_total (ks ++ l ∷ []) ms
+    (subst (IsSet int_cmp) (snoc_is ks l ms) are.1)) is
 
-next_name_of : (ks : List Pair) (l : Pair) (ms : List Pair) → AreEntries (ks ++ l ∷ ms) → IsEntry l × IsNextName ks l.0
+-- and so can the next name of a map
+next_name_of : (ks : List Pair) (l : Pair) (ms : List Pair) → AreEntries (ks ++ l ∷ ms)
+    → IsEntry l × IsNextName ks l.0
 next_name_of ks l ms are =
-    let e : IsEntry l = here IsEntry ks l ms are.0 in
-    (e, (e.0.0, item_other ks l.0 l.1 NULL_tree (item_front (ks ++ l ∷ []) ms (subst IsItem (snoc_is ks l ms) are.1))))
+    let e : IsEntry l = here IsEntry ks l ms are.0 in (
+      e,
+      (
+        e.0.0,
+        item_other ks l.0 l.1 NULL_tree
+            (item_front (ks ++ l ∷ []) ms (subst IsItem (snoc_is ks l ms) are.1)),
+      ),
+    )
 
-next_name : (ks : List Pair) (l : Pair) (ms : List Pair) (more x : List ℕ) (left : ℕ) → AreEntries (ks ++ l ∷ ms)
+next_name : (ks : List Pair) (l : Pair) (ms : List Pair) (more x : List ℕ) (left : ℕ)
+    → AreEntries (ks ++ l ∷ ms)
     → more ≡ entry_bytes l ++ x → NoField (IsNextName ks) more left → ⊥
 next_name ks l ms more x left are is non =
     let e = next_name_of ks l ms are in
-    field-refuted (IsNextName ks) more left non l.0 (cell_bytes l.1 ++ x) e.0.0.1 e.1 (is ∙ append_assoc (field l.0) (cell_bytes l.1) x)
+    field-refuted (IsNextName ks) more left non l.0 (cell_bytes l.1 ++ x) e.0.0.1 e.1
+    (is ∙ append_assoc (field l.0) (cell_bytes l.1) x)
 
 -- behind the first byte of a set, a list or a map a count stands
-counted_kind : (kind : ℕ) (t : Tree) (more x : List ℕ) → 6 ≤ kind → KindIs kind t more x → (n : ℕ) × (rest : List ℕ) × (more ≡ counted n ++ rest)
+counted_kind : (kind : ℕ) (t : Tree) (more x : List ℕ) → 6 ≤ kind → KindIs kind t more x
+    → (n : ℕ) × (rest : List ℕ) × (more ≡ counted n ++ rest)
 counted_kind zero t more x lo k = absurd k
 counted_kind (suc zero) t more x lo k = absurd (omega (arith, lo))
 counted_kind (suc (suc zero)) t more x lo k = absurd (omega (arith, lo))
@@ -79,13 +110,18 @@ counted_kind (suc (suc (suc (suc zero)))) t more x lo k = absurd (omega (arith, 
 counted_kind (suc (suc (suc (suc (suc zero))))) t more x lo k = absurd (omega (arith, lo))
 counted_kind (suc (suc (suc (suc (suc (suc zero)))))) t more x lo k = (length k.0, _, k.2)
 counted_kind (suc (suc (suc (suc (suc (suc (suc zero))))))) t more x lo k = (length k.0, _, k.2)
-counted_kind (suc (suc (suc (suc (suc (suc (suc (suc zero)))))))) t more x lo k = (length k.0, _, k.2)
-counted_kind (suc (suc (suc (suc (suc (suc (suc (suc (suc zero))))))))) t more x lo k = (length k.0, _, k.2)
-counted_kind (suc (suc (suc (suc (suc (suc (suc (suc (suc (suc zero)))))))))) t more x lo k = (length k.0, _, k.2)
-counted_kind (suc (suc (suc (suc (suc (suc (suc (suc (suc (suc (suc n))))))))))) t more x lo k = absurd k
+counted_kind (suc (suc (suc (suc (suc (suc (suc (suc zero)))))))) t more x lo k =
+    (length k.0, _, k.2)
+counted_kind (suc (suc (suc (suc (suc (suc (suc (suc (suc zero))))))))) t more x lo k =
+    (length k.0, _, k.2)
+counted_kind (suc (suc (suc (suc (suc (suc (suc (suc (suc (suc zero)))))))))) t more x lo k =
+    (length k.0, _, k.2)
+counted_kind (suc (suc (suc (suc (suc (suc (suc (suc (suc (suc (suc n))))))))))) t more x lo k =
+    absurd k
 
 -- and the count of a set is above 0
-set_kind : (kind : ℕ) (t : Tree) (more x : List ℕ) → 6 ≤ kind → kind ≤ 8 → IsValue t → KindIs kind t more x
+set_kind : (kind : ℕ) (t : Tree) (more x : List ℕ) → 6 ≤ kind → kind ≤ 8 → HasBytes t
+    → KindIs kind t more x
     → (n : ℕ) × (rest : List ℕ) × (0 < n) × (n < 2 ^ 64) × (more ≡ counted n ++ rest)
 set_kind zero t more x lo hi v k = absurd k
 set_kind (suc zero) t more x lo hi v k = absurd (omega (arith, lo))
@@ -93,11 +129,16 @@ set_kind (suc (suc zero)) t more x lo hi v k = absurd (omega (arith, lo))
 set_kind (suc (suc (suc zero))) t more x lo hi v k = absurd (omega (arith, lo))
 set_kind (suc (suc (suc (suc zero)))) t more x lo hi v k = absurd (omega (arith, lo))
 set_kind (suc (suc (suc (suc (suc zero))))) t more x lo hi v k = absurd (omega (arith, lo))
-set_kind (suc (suc (suc (suc (suc (suc zero)))))) t more x lo hi v k = let w = subst IsValue k.1 v in (length k.0, _, w.0, w.1, k.2)
-set_kind (suc (suc (suc (suc (suc (suc (suc zero))))))) t more x lo hi v k = let w = subst IsValue k.1 v in (length k.0, _, w.0, w.1, k.2)
-set_kind (suc (suc (suc (suc (suc (suc (suc (suc zero)))))))) t more x lo hi v k = let w = subst IsValue k.1 v in (length k.0, _, w.0, w.1, k.2)
-set_kind (suc (suc (suc (suc (suc (suc (suc (suc (suc n))))))))) t more x lo hi v k = absurd (omega (arith, hi))
+set_kind (suc (suc (suc (suc (suc (suc zero)))))) t more x lo hi v k = let w =
+    subst HasBytes k.1 v in (length k.0, _, w.0, w.1, k.2)
+set_kind (suc (suc (suc (suc (suc (suc (suc zero))))))) t more x lo hi v k = let w =
+    subst HasBytes k.1 v in (length k.0, _, w.0, w.1, k.2)
+set_kind (suc (suc (suc (suc (suc (suc (suc (suc zero)))))))) t more x lo hi v k = let w =
+    subst HasBytes k.1 v in (length k.0, _, w.0, w.1, k.2)
+set_kind (suc (suc (suc (suc (suc (suc (suc (suc (suc n))))))))) t more x lo hi v k =
+    absurd (omega (arith, hi))
 
+-- other first bytes, and other truth bytes, are of no value
 no_such_kind : (kind : ℕ) (t : Tree) (more x : List ℕ) → 10 < kind → KindIs kind t more x → ⊥
 no_such_kind zero t more x lo k = absurd (omega (arith, lo))
 no_such_kind (suc zero) t more x lo k = absurd (omega (arith, lo))
@@ -106,10 +147,14 @@ no_such_kind (suc (suc (suc zero))) t more x lo k = absurd (omega (arith, lo))
 no_such_kind (suc (suc (suc (suc zero)))) t more x lo k = absurd (omega (arith, lo))
 no_such_kind (suc (suc (suc (suc (suc zero))))) t more x lo k = absurd (omega (arith, lo))
 no_such_kind (suc (suc (suc (suc (suc (suc zero)))))) t more x lo k = absurd (omega (arith, lo))
-no_such_kind (suc (suc (suc (suc (suc (suc (suc zero))))))) t more x lo k = absurd (omega (arith, lo))
-no_such_kind (suc (suc (suc (suc (suc (suc (suc (suc zero)))))))) t more x lo k = absurd (omega (arith, lo))
-no_such_kind (suc (suc (suc (suc (suc (suc (suc (suc (suc zero))))))))) t more x lo k = absurd (omega (arith, lo))
-no_such_kind (suc (suc (suc (suc (suc (suc (suc (suc (suc (suc zero)))))))))) t more x lo k = absurd (omega (arith, lo))
+no_such_kind (suc (suc (suc (suc (suc (suc (suc zero))))))) t more x lo k =
+    absurd (omega (arith, lo))
+no_such_kind (suc (suc (suc (suc (suc (suc (suc (suc zero)))))))) t more x lo k =
+    absurd (omega (arith, lo))
+no_such_kind (suc (suc (suc (suc (suc (suc (suc (suc (suc zero))))))))) t more x lo k =
+    absurd (omega (arith, lo))
+no_such_kind (suc (suc (suc (suc (suc (suc (suc (suc (suc (suc zero)))))))))) t more x lo k =
+    absurd (omega (arith, lo))
 no_such_kind (suc (suc (suc (suc (suc (suc (suc (suc (suc (suc (suc n))))))))))) t more x lo k = k
 
 kindless : (bytes : List ℕ) (t : Tree) (x : List ℕ) → NoKind bytes → bytes ≡ cell_bytes t ++ x → ⊥
@@ -125,32 +170,39 @@ truthless (c ∷ more) x true non e = omega (arith, non, front c 1 more x e)
 truthless (c ∷ more) x false non e = omega (arith, non, front c 0 more x e)
 
 -- the count that was told is that of the value
-told_count : {K : Type 0} (spell : K → List ℕ) (ks : List K) (count : ℕ) (more x : List ℕ) → count < 2 ^ 64 → length ks < 2 ^ 64
-    → counted count ++ more ≡ behind_count spell ks x → (count ≡ length ks) × (more ≡ flat_map spell ks ++ x)
-told_count spell ks count more x m n e = counted-apart count (length ks) more (flat_map spell ks ++ x) m n e
+told_count : {K : Type 0} (spell : K → List ℕ) (ks : List K) (count : ℕ) (more x : List ℕ)
+    → count < 2 ^ 64 → length ks < 2 ^ 64
+    → counted count ++ more ≡ behind_count spell ks x
+    → (count ≡ length ks) × (more ≡ flat_map spell ks ++ x)
+told_count spell ks count more x m n e = number-apart count (length ks) more
+    (flat_map spell ks ++ x) m n e
 
 -- the pairs of a map that is a value
-map_value : (ps : List Pair) → IsValue (M_tree (fields_of ps)) → (length ps < 2 ^ 64) × AreEntries ps
+map_value : (ps : List Pair) → HasBytes (M_tree (fields_of ps))
+    → (length ps < 2 ^ 64) × AreEntries ps
 map_value ps v = (
   subst (λ qs. length qs < 2 ^ 64) (pairs-fields_of ps) v.0,
   (all_entries ps v.2, subst IsItem (pairs-fields_of ps) v.1),
 )
 
-list_value : (ts : List Tree) → IsValue (L_tree (trees_of ts)) → (length ts < 2 ^ 64) × AllByRecursion IsValue ts
+-- the elements of a list that is a value
+list_value : (ts : List Tree) → HasBytes (L_tree (trees_of ts))
+    → (length ts < 2 ^ 64) × AllByRecursion HasBytes ts
 list_value ts v = (subst (λ us. length us < 2 ^ 64) (elements-trees_of ts) v.0, all_values ts v.1)
 
-here-refuted : (bytes : List ℕ) (left : ℕ) → StopsHere bytes left → (t : Tree) (x : List ℕ) → IsValue t → bytes ≡ cell_bytes t ++ x → ⊥
+here-refuted : (bytes : List ℕ) (left : ℕ) → StopsHere bytes left → (t : Tree) (x : List ℕ)
+    → HasBytes t → bytes ≡ cell_bytes t ++ x → ⊥
 here-refuted bytes left (no_kind non l) t x v e = kindless bytes t x non e
 here-refuted bytes left (no_text more is non) t x v e =
     let k = kind_of t 1 more x (sym is ∙ e) in
-    let w : IsText k.0 = subst IsValue k.1 v in
+    let w : IsText k.0 = subst HasBytes k.1 v in
     field-refuted _ more left non k.0 x w.1 w.0 k.2
 here-refuted bytes left (no_number more is non) t x v e =
     let k = kind_of t 2 more x (sym is ∙ e) in
-    number-refuted _ more left non k.0 x (subst IsValue k.1 v) tt k.2
+    number-refuted _ more left non k.0 x (subst HasBytes k.1 v) tt k.2
 here-refuted bytes left (no_binary more is non) t x v e =
     let k = kind_of t 3 more x (sym is ∙ e) in
-    field-refuted _ more left non k.0 x (subst IsValue k.1 v) tt k.2
+    field-refuted _ more left non k.0 x (subst HasBytes k.1 v) tt k.2
 here-refuted bytes left (no_truth more is non l) t x v e =
     let k = kind_of t 4 more x (sym is ∙ e) in
     truthless more x k.0 non k.2
@@ -158,129 +210,331 @@ here-refuted bytes left (no_count kind more lo hi is non) t x v e =
     let k = counted_kind kind t more x lo (kind_of t kind more x (sym is ∙ e)) in
     omega (arith, non.0, ap length k.2, length-counted k.0 k.1)
 here-refuted bytes left (empty_set kind more lo hi is l) t x v e =
-    let k = set_kind kind t (counted 0 ++ more) x lo hi v (kind_of t kind (counted 0 ++ more) x (sym is ∙ e)) in
-    let c = counted-apart 0 k.0 more k.1 (omega arith) k.3 k.4 in
+    let k = set_kind kind t (counted 0 ++ more) x lo hi v
+    (kind_of t kind (counted 0 ++ more) x (sym is ∙ e)) in
+    let c = number-apart 0 k.0 more k.1 (omega arith) k.3 k.4 in
     omega (arith, c.0, k.2)
 here-refuted bytes left (no_text_member count more small is non) t x v e =
     let k = kind_of t 6 (counted count ++ more) x (sym is ∙ e) in
-    let w : IsWholeSet IsText text_order k.0 = subst IsValue k.1 v in
+    let w : IsWholeSet IsText text_order k.0 = subst HasBytes k.1 v in
     let c = told_count field k.0 count more x small w.1 k.2 in
-    member-refuted field IsText (AreMembers IsText text_order) _ text_apart (λ ks h. h.0) next_text k.0 count more x left c.0 w.2 c.1 non
+    member-refuted field IsText (AreRising IsText text_order) _ text_apart
+    (λ ks h. h.0) next_text k.0 count more x left c.0 w.2 c.1 non
 here-refuted bytes left (no_number_member count more small is non) t x v e =
     let k = kind_of t 7 (counted count ++ more) x (sym is ∙ e) in
-    let w : IsWholeSet Fits int_cmp k.0 = subst IsValue k.1 v in
+    let w : IsWholeSet Fits int_cmp k.0 = subst HasBytes k.1 v in
     let c = told_count spelled k.0 count more x small w.1 k.2 in
-    member-refuted spelled Fits (AreMembers Fits int_cmp) _ number_apart (λ ks h. h.0) next_number k.0 count more x left c.0 w.2 c.1 non
+    member-refuted spelled Fits (AreRising Fits int_cmp) _ number_apart
+    (λ ks h. h.0) next_number k.0 count more x left c.0 w.2 c.1 non
 here-refuted bytes left (no_binary_member count more small is non) t x v e =
     let k = kind_of t 8 (counted count ++ more) x (sym is ∙ e) in
-    let w : IsWholeSet IsShort text_order k.0 = subst IsValue k.1 v in
+    let w : IsWholeSet IsShort text_order k.0 = subst HasBytes k.1 v in
     let c = told_count field k.0 count more x small w.1 k.2 in
-    member-refuted field IsShort (AreMembers IsShort text_order) _ binary_apart (λ ks h. h.0) next_binary k.0 count more x left c.0 w.2 c.1 non
+    member-refuted field IsShort (AreRising IsShort text_order) _ binary_apart
+    (λ ks h. h.0) next_binary k.0 count more x left c.0 w.2 c.1 non
 here-refuted bytes left (no_name count more small is non) t x v e =
     let k = kind_of t 10 (counted count ++ more) x (sym is ∙ e) in
-    let w = map_value k.0 (subst IsValue k.1 v) in
+    let w = map_value k.0 (subst HasBytes k.1 v) in
     let c = told_count entry_bytes k.0 count more x small w.0 k.2 in
     name-refuted k.0 count more x left c.0 w.1 c.1 non
   where
-    name-refuted : (ls : List Pair) (count : ℕ) (bytes x : List ℕ) (left : ℕ) → count ≡ length ls → AreEntries ls → bytes ≡ flat_map entry_bytes ls ++ x → NoName count bytes left → ⊥
+    name-refuted : (ls : List Pair) (count : ℕ) (bytes x : List ℕ) (left : ℕ) → count ≡ length ls
+        → AreEntries ls → bytes ≡ flat_map entry_bytes ls ++ x → NoName count bytes left → ⊥
     name-refuted ls count bytes x left n are is non =
-        member-refuted entry_bytes IsEntry AreEntries _ pair_apart (λ ks h. h.0) next_name ls count bytes x left n are is non
+        member-refuted entry_bytes IsEntry AreEntries _ pair_apart
+        (λ ks h. h.0) next_name ls count bytes x left n are is non
 
+-- three pieces in front of a rest
 behind : (a b c : List ℕ) (x y : List ℕ) → x ≡ (a ++ b) ++ c → x ≡ y → a ++ (b ++ c) ≡ y
 behind a b c x y e f = sym (append_assoc a b c) ∙ sym e ∙ f
 
-around-refuted : (around : List Around) (within bytes : List ℕ) (left : ℕ) → AllByRecursion IsAround around → bytes ≡ all_around around ++ within
-    → StopsHere within left → (t : Tree) (x : List ℕ) → IsValue t → bytes ≡ cell_bytes t ++ x → ⊥
-around-refuted [] within bytes left opened is stops t x v e = here-refuted within left stops t x v (sym is ∙ e)
-around-refuted (in_list count ts ∷ around) within bytes left opened is stops t x v e =
+-- Within what is open there, no value begins that is nested so deep at most, where none does at the place.
+around-refuted : (around : List Around) (within bytes : List ℕ) (room : ℕ)
+    → ((t : Tree) (x : List ℕ) → HasBytes t → depth t ≤ room → within ≡ cell_bytes t ++ x → ⊥)
+    → AllByRecursion IsAround around → bytes ≡ all_around around ++ within
+    → (t : Tree) (x : List ℕ) → HasBytes t → depth t ≤ room + length around
+    → bytes ≡ cell_bytes t ++ x → ⊥
+around-refuted [] within bytes room none opened is t x v d e =
+    none t x v (omega (arith, d)) (sym is ∙ e)
+around-refuted (in_list count ts ∷ around) within bytes room none opened is t x v d e =
     let rest = all_around around ++ within in
     let f : 9 ∷ (counted count ++ (flat_map cell_bytes ts ++ rest)) ≡ cell_bytes t ++ x =
-    ap (λ s. 9 ∷ s) (sym (append_assoc (counted count) (flat_map cell_bytes ts) rest)) ∙ sym (append_assoc (around_bytes (in_list count ts)) (all_around around) within) ∙ sym is ∙ e in
+    ap (λ s. 9 ∷ s) (sym (append_assoc (counted count) (flat_map cell_bytes ts) rest))
+    ∙ sym (append_assoc (around_bytes (in_list count ts)) (all_around around) within) ∙ sym is
+    ∙ e in
     let k = kind_of t 9 _ x f in
-    let w = list_value k.0 (subst IsValue k.1 v) in
+    let w = list_value k.0 (subst HasBytes k.1 v) in
     let c = told_count cell_bytes k.0 count (flat_map cell_bytes ts ++ rest) x opened.0.0 w.0 k.2 in
-    let g = further cell_bytes IsValue ts k.0 rest x (all_from IsValue (IsApart cell_bytes IsValue) ts value_apart opened.0.2) w.1 (omega (arith, opened.0.1, c.0)) c.1 in
-    around-refuted around within rest left opened.1 refl stops g.next _ (here IsValue ts g.next g.others (subst (AllByRecursion IsValue) g.is w.1)) g.there
-around-refuted (in_map count ps name ∷ around) within bytes left opened is stops t x v e =
+    let g = further cell_bytes HasBytes ts k.0 rest x
+    (all_map HasBytes (IsApart cell_bytes HasBytes) ts value_apart opened.0.2) w.1
+    (omega (arith, opened.0.1, c.0)) c.1 in
+    around-refuted around within rest room none opened.1 refl g.next _
+    (here HasBytes ts g.next g.others (subst (AllByRecursion HasBytes) g.is w.1))
+    (element_below t k.0 ts g.next g.others (room + length around) k.1 g.is (omega (arith, d)))
+    g.there
+around-refuted (in_map count ps name ∷ around) within bytes room none opened is t x v d e =
     let rest = all_around around ++ within in
-    let f : 10 ∷ (counted count ++ (flat_map entry_bytes ps ++ (field name ++ rest))) ≡ cell_bytes t ++ x =
-    ap (λ s. 10 ∷ (counted count ++ s)) (sym (append_assoc (flat_map entry_bytes ps) (field name) rest))
-    ∙ ap (λ s. 10 ∷ s) (sym (append_assoc (counted count) (flat_map entry_bytes ps ++ field name) rest))
-    ∙ sym (append_assoc (around_bytes (in_map count ps name)) (all_around around) within) ∙ sym is ∙ e in
+    let f : 10 ∷ (counted count ++ (flat_map entry_bytes ps ++ (field name ++ rest)))
+    ≡ cell_bytes t ++ x =
+    ap (λ s. 10 ∷ (counted count ++ s)) (sym (append_assoc (flat_map entry_bytes ps)
+    (field name) rest))
+    ∙ ap (λ s. 10 ∷ s) (sym (append_assoc (counted count)
+    (flat_map entry_bytes ps ++ field name) rest))
+    ∙ sym (append_assoc (around_bytes (in_map count ps name)) (all_around around) within) ∙ sym is
+    ∙ e in
     let k = kind_of t 10 _ x f in
-    let w = map_value k.0 (subst IsValue k.1 v) in
-    let c = told_count entry_bytes k.0 count (flat_map entry_bytes ps ++ (field name ++ rest)) x opened.0.0 w.0 k.2 in
-    let g = further entry_bytes IsEntry ps k.0 (field name ++ rest) x (all_from IsEntry (IsApart entry_bytes IsEntry) ps pair_apart opened.0.2.0) w.1.0 (omega (arith, opened.0.1, c.0)) c.1 in
-    let p : IsEntry g.next = here IsEntry ps g.next g.others (subst (AllByRecursion IsEntry) g.is w.1.0) in
-    let h = field-apart name g.next.0 rest _ opened.0.3 p.0.1 (g.there ∙ append_assoc (field g.next.0) (cell_bytes g.next.1) _) in
-    around-refuted around within rest left opened.1 refl stops g.next.1 _ p.1 h.1
+    let w = map_value k.0 (subst HasBytes k.1 v) in
+    let c = told_count entry_bytes k.0 count (flat_map entry_bytes ps ++ (field name ++ rest)) x
+    opened.0.0 w.0 k.2 in
+    let g = further entry_bytes IsEntry ps k.0 (field name ++ rest) x
+    (all_map IsEntry (IsApart entry_bytes IsEntry) ps pair_apart opened.0.2.0) w.1.0
+    (omega (arith, opened.0.1, c.0)) c.1 in
+    let p : IsEntry g.next = here IsEntry ps g.next g.others
+    (subst (AllByRecursion IsEntry) g.is w.1.0) in
+    let h = field-apart name g.next.0 rest _ opened.0.3 p.0.1
+    (g.there ∙ append_assoc (field g.next.0) (cell_bytes g.next.1) _) in
+    around-refuted around within rest room none opened.1 refl g.next.1 _ p.1
+    (entry_below t k.0 ps g.next g.others (room + length around) k.1 g.is (omega (arith, d))) h.1
 
 -- bytes that stop begin with no value's cell bytes
-pub stops-refuted : (bytes : List ℕ) (left : ℕ) → Stops bytes left → (t : Tree) (x : List ℕ) → IsValue t → bytes ≡ cell_bytes t ++ x → ⊥
-stops-refuted bytes left s t x v e = around-refuted s.around s.here bytes left s.open_there s.is s.stops t x v e
+pub stops-refuted : (bytes : List ℕ) (left : ℕ) → Stops bytes left
+    → (t : Tree) (x : List ℕ) → HasBytes t → bytes ≡ cell_bytes t ++ x → ⊥
+stops-refuted bytes left s t x v e =
+    around-refuted s.around s.here bytes (depth t)
+    (λ u y w d f. here-refuted s.here left s.stops u y w f)
+    s.open_there s.is t x v (omega arith) e
+
+-- a list or a map is nested at least once
+nested-refuted : (within : List ℕ) → IsNested within → (t : Tree) (x : List ℕ) → depth t ≤ 0
+    → within ≡ cell_bytes t ++ x → ⊥
+nested-refuted [] n t x d e = n
+nested-refuted (b ∷ within) n t x d e = elim n [
+  | inl list ↦
+      let k = kind_of t 9 within x (sym (ap (λ c. c ∷ within) list) ∙ e) in
+      omega (arith, d, ap depth k.1)
+  | inr map ↦
+      let k = kind_of t 10 within x (sym (ap (λ c. c ∷ within) map) ∙ e) in
+      omega (arith, d, ap depth k.1)
+]
+
+-- what is nested too deep begins with no value's cell bytes that isn't
+pub deep-refuted : (most : ℕ) (bytes : List ℕ) (left : ℕ) → TooDeep most bytes left
+    → (t : Tree) (x : List ℕ) → HasBytes t → depth t ≤ most → bytes ≡ cell_bytes t ++ x → ⊥
+deep-refuted most bytes left s t x v d e =
+    around-refuted s.around s.here bytes 0 (λ u y w f g. nested-refuted s.here s.stops.1 u y f g)
+    s.open_there s.is t x v (omega (arith, d, s.stops.0)) e
 
 -- ---- a stop is within the bytes
 
-member-left : {K : Type 0} (spell : K → List ℕ) (Are : List K → Type 0) (NoNext : List K → List ℕ → ℕ → Type 0)
+member-left : {K : Type 0} (spell : K → List ℕ) (Are : List K → Type 0)
+    (NoNext : List K → List ℕ → ℕ → Type 0)
     → ((ks : List K) (more : List ℕ) (left : ℕ) → NoNext ks more left → left ≤ length more)
-    → (count : ℕ) (bytes : List ℕ) (left : ℕ) → NoMember spell Are NoNext count bytes left → left ≤ length bytes
+    → (count : ℕ) (bytes : List ℕ) (left : ℕ) → NoMember spell Are NoNext count bytes left
+    → left ≤ length bytes
 member-left spell Are NoNext bound count bytes left non =
-    omega (arith, bound non.done non.more left non.stops, ap length non.is, length-append (flat_map spell non.done) non.more)
+    omega (
+      arith,
+      bound non.done non.more left non.stops,
+      ap length non.is,
+      length-append (flat_map spell non.done) non.more,
+    )
 
-counted-left : (kind count : ℕ) (bytes more : List ℕ) (left : ℕ) → bytes ≡ kind ∷ (counted count ++ more) → left ≤ length more → left ≤ length bytes
-counted-left kind count bytes more left is h = omega (arith, ap length is, length-counted count more, h)
+counted-left : (kind count : ℕ) (bytes more : List ℕ) (left : ℕ)
+    → bytes ≡ kind ∷ (counted count ++ more) → left ≤ length more → left ≤ length bytes
+counted-left kind count bytes more left is h =
+    omega (arith, ap length is, length-counted count more, h)
 
+-- no more bytes are left than there are
 here-left : (bytes : List ℕ) (left : ℕ) → StopsHere bytes left → left ≤ length bytes
 here-left bytes left (no_kind non l) = omega (arith, l)
 here-left bytes left (no_text more is non) = omega (arith, ap length is, field-left _ more left non)
-here-left bytes left (no_number more is non) = omega (arith, ap length is, number-left _ more left non)
-here-left bytes left (no_binary more is non) = omega (arith, ap length is, field-left _ more left non)
+here-left bytes left (no_number more is non) =
+    omega (arith, ap length is, number-left _ more left non)
+here-left bytes left (no_binary more is non) =
+    omega (arith, ap length is, field-left _ more left non)
 here-left bytes left (no_truth more is non l) = omega (arith, ap length is, l)
 here-left bytes left (no_count kind more lo hi is non) = omega (arith, non.1)
-here-left bytes left (empty_set kind more lo hi is l) = omega (arith, ap length is, length-counted 0 more, l)
+here-left bytes left (empty_set kind more lo hi is l) =
+    omega (arith, ap length is, length-counted 0 more, l)
 here-left bytes left (no_text_member count more small is non) =
-    counted-left 6 count bytes more left is (member-left field _ _ (λ ks m l h. field-left (IsNextText ks) m l h) count more left non)
+    counted-left 6 count bytes more left is (member-left field _ _
+    (λ ks m l h. field-left (IsNextText ks) m l h) count more left non)
 here-left bytes left (no_number_member count more small is non) =
-    counted-left 7 count bytes more left is (member-left spelled _ _ (λ ks m l h. number-left _ m l h) count more left non)
+    counted-left 7 count bytes more left is (member-left spelled _ _
+    (λ ks m l h. number-left _ m l h) count more left non)
 here-left bytes left (no_binary_member count more small is non) =
-    counted-left 8 count bytes more left is (member-left field _ _ (λ ks m l h. field-left _ m l h) count more left non)
+    counted-left 8 count bytes more left is (member-left field _ _
+    (λ ks m l h. field-left _ m l h) count more left non)
 here-left bytes left (no_name count more small is non) =
-    counted-left 10 count bytes more left is (member-left entry_bytes _ _ (λ ks m l h. field-left (IsNextName ks) m l h) count more left non)
+    counted-left 10 count bytes more left is (member-left entry_bytes _ _
+    (λ ks m l h. field-left (IsNextName ks) m l h) count more left non)
+
+-- what is left is within the bytes
+within-left : (H : List Around → List ℕ → ℕ → Type 0) (bytes : List ℕ) (left : ℕ)
+    → ((around : List Around) (here : List ℕ) → H around here left → left ≤ length here)
+    → Within H bytes left
+    → left ≤ length bytes
+within-left H bytes left bound s =
+    omega (
+      arith,
+      bound s.around s.here s.stops,
+      ap length s.is,
+      length-append (all_around s.around) s.here,
+    )
 
 pub stops-left : (bytes : List ℕ) (left : ℕ) → Stops bytes left → left ≤ length bytes
-stops-left bytes left s = omega (arith, here-left s.here left s.stops, ap length s.is, length-append (all_around s.around) s.here)
+stops-left bytes left s = within-left (λ around. StopsHere) bytes left
+    (λ around here h. here-left here left h) s
+
+pub deep-left : (most : ℕ) (bytes : List ℕ) (left : ℕ) → TooDeep most bytes left
+    → left ≤ length bytes
+deep-left most bytes left s =
+    within-left (λ around here left. (length around ≡ most) × IsNested here × (left ≡ length here))
+    bytes left
+    (λ around here h. omega (arith, h.2)) s
 
 -- ---- stops of a value, of its elements and entries
 
+-- at a piece of its own
 pub stops_here : (bytes : List ℕ) (left : ℕ) → StopsHere bytes left → Stops bytes left
-stops_here bytes left h = record { around = []; here = bytes; open_there = tt; is = refl; stops = h }
+stops_here bytes left h = record {
+  around = [];
+  here = bytes;
+  open_there = tt;
+  is = refl;
+  stops =
+      h;
+}
+
+-- where nothing more may be nested
+pub deep_here : (bytes : List ℕ) (most : ℕ) → most ≡ 0 → IsNested bytes
+    → TooDeep most bytes (length bytes)
+deep_here bytes most z n = record {
+  around = [];
+  here = bytes;
+  open_there = tt;
+  is = refl;
+  stops = (sym z, n, refl);
+}
 
 -- within a value that is next there
-pub stops_within : (a : Around) (bytes more : List ℕ) (left : ℕ) → IsAround a → bytes ≡ around_bytes a ++ more → Stops more left → Stops bytes left
-stops_within a bytes more left opened is s = record {
+within_next : (H J : List Around → List ℕ → ℕ → Type 0) (a : Around) (bytes more : List ℕ)
+    (left : ℕ)
+    → ((around : List Around) (here : List ℕ) → H around here left → J (a ∷ around) here left)
+    → IsAround a → bytes ≡ around_bytes a ++ more → Within H more left → Within J bytes left
+within_next H J a bytes more left f opened is s = record {
   around = a ∷ s.around;
   here = s.here;
   open_there = (opened, s.open_there);
-  is = is ∙ ap (λ m. around_bytes a ++ m) s.is ∙ sym (append_assoc (around_bytes a) (all_around s.around) s.here);
-  stops = s.stops;
+  is = is ∙ ap (λ m. around_bytes a ++ m) s.is
+      ∙ sym (append_assoc (around_bytes a) (all_around s.around) s.here);
+  stops = f s.around s.here s.stops;
 }
 
-pub list_stops : (count : ℕ) (bytes : List ℕ) (more : List ℕ) (left : ℕ) → count < 2 ^ 64 → bytes ≡ 9 ∷ (counted count ++ more) → NoElement count more left → Stops bytes left
-list_stops count bytes more left small is non =
-    stops_within (in_list count non.done) bytes non.more left (small, non.few, non.are)
-    (is ∙ ap (λ m. 9 ∷ (counted count ++ m)) non.is ∙ ap (λ m. 9 ∷ m) (sym (append_assoc (counted count) (flat_map cell_bytes non.done) non.more))) non.stops
+-- of an element of a list, and of a value of a map
+list_within : (H J : List Around → List ℕ → ℕ → Type 0) (count : ℕ) (bytes more : List ℕ) (left : ℕ)
+    → ((a : Around) (around : List Around) (here : List ℕ) → H around here left
+    → J (a ∷ around) here left)
+    → count < 2 ^ 64 → bytes ≡ 9 ∷ (counted count ++ more) → NoElementOf (Within H) count more left
+    → Within J bytes left
+list_within H J count bytes more left f small is non =
+    within_next H J (in_list count non.done) bytes non.more left (f (in_list count non.done))
+    (small, non.few, non.are)
+    (is ∙ ap (λ m. 9 ∷ (counted count ++ m)) non.is
+    ∙ ap (λ m. 9 ∷ m) (sym (append_assoc (counted count) (flat_map cell_bytes non.done) non.more)))
+    non.stops
 
-value_stops : (count : ℕ) (bytes more : List ℕ) (left : ℕ) → count < 2 ^ 64 → bytes ≡ 10 ∷ (counted count ++ more)
-    → NoMember entry_bytes AreEntries NoEntryValue count more left → Stops bytes left
-value_stops count bytes more left small is non =
+map_within : (H J : List Around → List ℕ → ℕ → Type 0) (count : ℕ) (bytes more : List ℕ) (left : ℕ)
+    → ((a : Around) (around : List Around) (here : List ℕ) → H around here left
+    → J (a ∷ around) here left)
+    → count < 2 ^ 64 → bytes ≡ 10 ∷ (counted count ++ more) → NoEntryOf (Within H) count more left
+    → Within J bytes left
+map_within H J count bytes more left f small is non =
     let name = non.stops.0 in
     let rest = non.stops.1 in
-    stops_within (in_map count non.done name) bytes rest left (small, non.few, non.are, non.stops.2, non.stops.3)
-    (is ∙ ap (λ m. 10 ∷ (counted count ++ m)) (non.is ∙ ap (λ m. flat_map entry_bytes non.done ++ m) non.stops.4 ∙ sym (append_assoc (flat_map entry_bytes non.done) (field name) rest))
-    ∙ ap (λ m. 10 ∷ m) (sym (append_assoc (counted count) (flat_map entry_bytes non.done ++ field name) rest))) non.stops.5
+    within_next H J (in_map count non.done name) bytes rest left (f (in_map count non.done name))
+    (small, non.few, non.are, non.stops.2, non.stops.3)
+    (is ∙ ap (λ m. 10 ∷ (counted count ++ m))
+    (non.is ∙ ap (λ m. flat_map entry_bytes non.done ++ m) non.stops.4
+    ∙ sym (append_assoc (flat_map entry_bytes non.done) (field name) rest))
+    ∙ ap (λ m. 10 ∷ m) (sym (append_assoc (counted count)
+    (flat_map entry_bytes non.done ++ field name) rest))) non.stops.5
 
-pub map_stops : (count : ℕ) (bytes more : List ℕ) (left : ℕ) → count < 2 ^ 64 → bytes ≡ 10 ∷ (counted count ++ more) → NoEntry count more left → Stops bytes left
+-- a list or a map stops where an element or a value does
+pub list_stops : (count : ℕ) (bytes more : List ℕ) (left : ℕ) → count < 2 ^ 64
+    → bytes ≡ 9 ∷ (counted count ++ more)
+    → NoElementOf Stops count more left → Stops bytes left
+list_stops count bytes more left small is non =
+    list_within (λ around. StopsHere) (λ around. StopsHere) count bytes more left
+    (λ a around here h. h) small is non
+
+pub map_stops : (count : ℕ) (bytes more : List ℕ) (left : ℕ) → count < 2 ^ 64
+    → bytes ≡ 10 ∷ (counted count ++ more)
+    → NoEntry count more left → Stops bytes left
 map_stops count bytes more left small is non = elim non [
   | inl name ↦ stops_here bytes left (no_name count more small is name)
-  | inr value ↦ value_stops count bytes more left small is value
+  | inr value ↦
+      map_within (λ around. StopsHere) (λ around. StopsHere) count bytes more left
+      (λ a around here h. h) small is value
 ]
+
+-- one list or map more around what is nested too deep
+one_around : (most : ℕ) → 0 < most → (a : Around) (around : List Around) (here : List ℕ) (left : ℕ)
+    → (length around ≡ most - 1) × IsNested here × (left ≡ length here)
+    → (length (a ∷ around) ≡ most) × IsNested here × (left ≡ length here)
+one_around most some a around here left h = (omega (arith, h.0, some), h.1, h.2)
+
+-- and is nested too deep where one is
+pub list_deep : (most count : ℕ) (bytes more : List ℕ) (left : ℕ) → 0 < most → count < 2 ^ 64
+    → bytes ≡ 9 ∷ (counted count ++ more) → NoElementOf (TooDeep (most - 1)) count more left
+    → TooDeep most bytes left
+list_deep most count bytes more left some small is non =
+    list_within (λ around here left. (length around ≡ most - 1) × IsNested here
+    × (left ≡ length here))
+    (λ around here left. (length around ≡ most) × IsNested here × (left ≡ length here)) count bytes
+    more left
+    (λ a around here h. one_around most some a around here left h) small is non
+
+pub map_deep : (most count : ℕ) (bytes more : List ℕ) (left : ℕ) → 0 < most → count < 2 ^ 64
+    → bytes ≡ 10 ∷ (counted count ++ more) → NoEntryOf (TooDeep (most - 1)) count more left
+    → TooDeep most bytes left
+map_deep most count bytes more left some small is non =
+    map_within (λ around here left. (length around ≡ most - 1) × IsNested here
+    × (left ≡ length here))
+    (λ around here left. (length around ≡ most) × IsNested here × (left ≡ length here)) count bytes
+    more left
+    (λ a around here h. one_around most some a around here left h) small is non
+
+-- what is open takes a byte at least
+around-long : (around : List Around) → length around ≤ length (all_around around)
+around-long [] = omega arith
+around-long (in_list count ts ∷ around) =
+    omega (
+      arith,
+      around-long around,
+      length-append (around_bytes (in_list count ts))
+          (all_around around),
+    )
+around-long (in_map count ps name ∷ around) =
+    omega (
+      arith,
+      around-long around,
+      length-append (around_bytes (in_map count ps name))
+          (all_around around),
+    )
+
+-- so nothing is nested deeper than there are bytes
+pub never_deep : (bytes : List ℕ) (left : ℕ) → TooDeep (length bytes) bytes left → ⊥
+never_deep bytes left s =
+    omega (
+      arith,
+      s.stops.0,
+      around-long s.around,
+      ap length s.is,
+      length-append (all_around s.around) s.here,
+      nested-long s.here s.stops.1,
+    )
+  where
+    nested-long : (here : List ℕ) → IsNested here → 0 < length here
+    nested-long [] n = absurd n
+    nested-long (b ∷ here) n = omega arith

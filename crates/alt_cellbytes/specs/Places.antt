@@ -16,11 +16,14 @@ use Rattle.alt_value.specs.declared.attr.Attr.{Attr}
 use Rattle.alt_value.specs.Stands.{tree_of}
 use Rattle.alt_value.specs.CellBytes.{cell_bytes, counted}
 use Rattle.alt_value.specs.Item.{IsItem}
+use Rattle.alt_value.specs.Size.{depth}
 use Rattle.alt_value.specs.Members.{IsSet, text_order}
 use Rattle.alt_value.specs.Tree.{Tree, NULL_tree, Pair}
-use Rattle.alt_cellbytes.specs.Values.{IsShort, IsText, AreMembers, IsValue}
+use Rattle.alt_fields.specs.Bytes.{IsShort}
+use Rattle.alt_value.specs.Values.{IsText, IsWhole}
+use Rattle.alt_cellbytes.specs.Values.{AreRising, HasBytes}
 use Rattle.alt_cellbytes.specs.declared.fault.Stop.{Stop}
-use Rattle.alt_cellbytes.specs.declared.fault.Stop.TheVariants.{Left, NoMemory}
+use Rattle.alt_cellbytes.specs.declared.fault.Stop.TheVariants.{Left, Deep, NoMemory}
 
 -- ---- one piece
 
@@ -40,6 +43,7 @@ abbrev pub is_unclosed : ℕ → List ℕ → Bool
 is_unclosed close [] = true
 is_unclosed close (place ∷ pairs) = nat_lt (length pairs) 20 && not (list_any (λ b. b == close) pairs)
 
+-- the bytes end before a number does
 abbrev pub is_cut_number : List ℕ → Bool
 is_cut_number [] = true
 is_cut_number (b ∷ bytes) = if b == 1 then is_unclosed 255 bytes else if b == 3 then is_unclosed 0 bytes else false
@@ -83,14 +87,17 @@ pub record NoMember {K : Type 0} (spell : K → List ℕ) (Are : List K → Type
 abbrev pub IsNextText : List (List ℕ) → List ℕ → Type 0
 IsNextText ss s = IsUtf8 s × IsSet text_order (ss ++ s ∷ [])
 
+-- fewer texts than were told, and behind them none that could be the next
 abbrev pub NoText : ℕ → List ℕ → ℕ → Type 0
-NoText = NoMember field (AreMembers IsText text_order) (λ ss. NoField (IsNextText ss))
+NoText = NoMember field (AreRising IsText text_order) (λ ss. NoField (IsNextText ss))
 
+-- the same of numbers
 abbrev pub NoNumberMember : ℕ → List ℕ → ℕ → Type 0
-NoNumberMember = NoMember spelled (AreMembers Fits int_cmp) (λ zs. NoNumber (λ z. IsSet int_cmp (zs ++ z ∷ [])))
+NoNumberMember = NoMember spelled (AreRising Fits int_cmp) (λ zs. NoNumber (λ z. IsSet int_cmp (zs ++ z ∷ [])))
 
+-- and of byte strings
 abbrev pub NoBinary : ℕ → List ℕ → ℕ → Type 0
-NoBinary = NoMember field (AreMembers IsShort text_order) (λ bs. NoField (λ b. IsSet text_order (bs ++ b ∷ [])))
+NoBinary = NoMember field (AreRising IsShort text_order) (λ bs. NoField (λ b. IsSet text_order (bs ++ b ∷ [])))
 
 -- the names that a map can go on with
 abbrev pub IsNextName : List Pair → List ℕ → Type 0
@@ -98,14 +105,17 @@ IsNextName ps name = IsUtf8 name × IsItem (ps ++ (name, NULL_tree) ∷ [])
 
 -- the pairs of a map: names in UTF-8 that rise, none of them empty, each with a value
 abbrev pub IsEntry : Pair → Type 0
-IsEntry p = IsText p.0 × IsValue p.1
+IsEntry p = IsText p.0 × HasBytes p.1
 
+-- each is one, and the names are those of an item
 abbrev pub AreEntries : List Pair → Type 0
 AreEntries ps = AllByRecursion IsEntry ps × IsItem ps
 
+-- a name as a field, and then the cell bytes of its value
 abbrev pub entry_bytes : Pair → List ℕ
 entry_bytes p = field p.0 ++ cell_bytes p.1
 
+-- fewer entries than were told, and behind them no name that could be the next
 abbrev pub NoName : ℕ → List ℕ → ℕ → Type 0
 NoName = NoMember entry_bytes AreEntries (λ ps. NoField (IsNextName ps))
 
@@ -132,55 +142,88 @@ pub data Around : Type 0 where
   in_list : ℕ → List Tree → Around
   in_map : ℕ → List Pair → List ℕ → Around
 
+-- the bytes of what is open up to the value that is next
 abbrev pub around_bytes : Around → List ℕ
 around_bytes (in_list count ts) = 9 ∷ (counted count ++ flat_map cell_bytes ts)
 around_bytes (in_map count ps name) = 10 ∷ (counted count ++ (flat_map entry_bytes ps ++ field name))
 
+-- it tells more than stands there, and what stands there is right
 abbrev pub IsAround : Around → Type 0
-IsAround (in_list count ts) = (count < 2 ^ 64) × (length ts < count) × AllByRecursion IsValue ts
+IsAround (in_list count ts) = (count < 2 ^ 64) × (length ts < count) × AllByRecursion HasBytes ts
 IsAround (in_map count ps name) = (count < 2 ^ 64) × (length ps < count) × AreEntries ps × IsShort name × IsNextName ps name
 
+-- one within the other
 abbrev pub all_around : List Around → List ℕ
 all_around [] = []
 all_around (a ∷ around) = around_bytes a ++ all_around around
 
--- Within what is open there, a value stops at a piece of its own.
-pub record Stops (bytes : List ℕ) (left : ℕ) : Type 0 where
+-- What is open around a place, and that this stands there.
+pub record Within (Here : List Around → List ℕ → ℕ → Type 0) (bytes : List ℕ) (left : ℕ) : Type 0 where
   pub around : List Around
   pub here : List ℕ
   pub open_there : AllByRecursion IsAround around
   pub is : bytes ≡ all_around around ++ here
-  pub stops : StopsHere here left
+  pub stops : Here around here left
 
--- fewer elements than were told, and behind them bytes that stop
-abbrev pub NoElement : ℕ → List ℕ → ℕ → Type 0
-NoElement = NoMember cell_bytes (AllByRecursion IsValue) (λ ts. Stops)
+-- Within what is open there, a value stops at a piece of its own.
+abbrev pub Stops : List ℕ → ℕ → Type 0
+Stops = Within (λ around. StopsHere)
 
--- behind a next name stand bytes that stop
-abbrev pub NoEntryValue : List Pair → List ℕ → ℕ → Type 0
-NoEntryValue ps bytes left =
-    (name more : List ℕ) × IsShort name × IsNextName ps name × (bytes ≡ field name ++ more) × Stops more left
+-- a list or a map begins there
+abbrev pub IsNested : List ℕ → Type 0
+IsNested [] = ⊥
+IsNested (b ∷ bytes) = (b ≡ 9) ⊎ (b ≡ 10)
+
+-- Within as many lists and maps as may be, another one begins.
+abbrev pub TooDeep : ℕ → List ℕ → ℕ → Type 0
+TooDeep most = Within (λ around here left. (length around ≡ most) × IsNested here × (left ≡ length here))
+
+-- fewer elements than were told, and behind them bytes that stop so
+abbrev pub NoElementOf : (List ℕ → ℕ → Type 0) → ℕ → List ℕ → ℕ → Type 0
+NoElementOf Stop = NoMember cell_bytes (AllByRecursion HasBytes) (λ ts. Stop)
+
+-- behind a next name stand bytes that stop so
+abbrev pub NoEntryValue : (List ℕ → ℕ → Type 0) → List Pair → List ℕ → ℕ → Type 0
+NoEntryValue Stop ps bytes left =
+    (name more : List ℕ) × IsShort name × IsNextName ps name × (bytes ≡ field name ++ more) × Stop more left
+
+-- fewer entries than were told, and behind them a next name and then bytes that stop so
+abbrev pub NoEntryOf : (List ℕ → ℕ → Type 0) → ℕ → List ℕ → ℕ → Type 0
+NoEntryOf Stop = NoMember entry_bytes AreEntries (NoEntryValue Stop)
 
 -- fewer entries than were told, and behind them no next name, or one and then bytes that stop
 abbrev pub NoEntry : ℕ → List ℕ → ℕ → Type 0
-NoEntry count bytes left = NoName count bytes left ⊎ NoMember entry_bytes AreEntries NoEntryValue count bytes left
+NoEntry count bytes left = NoName count bytes left ⊎ NoEntryOf Stops count bytes left
 
 -- No cell bytes: they stop before a value is whole, or something stands behind it.
 abbrev pub IsBadAt : List ℕ → ℕ → Type 0
 IsBadAt bytes at =
     ((left : ℕ) × Stops bytes left × (at + left ≡ length bytes))
-    ⊎ ((t : Tree) × IsValue t × (behind : List ℕ) × (0 < length behind) × (bytes ≡ cell_bytes t ++ behind) × (at ≡ length (cell_bytes t)))
+    ⊎ ((t : Tree) × HasBytes t × (behind : List ℕ) × (0 < length behind) × (bytes ≡ cell_bytes t ++ behind) × (at ≡ length (cell_bytes t)))
+
+-- A list or a map within as many as may be.
+abbrev pub IsDeepAt : ℕ → List ℕ → ℕ → Type 0
+IsDeepAt most bytes at = (left : ℕ) × TooDeep most bytes left × (at + left ≡ length bytes)
 
 -- the bytes are no value's cell bytes
 abbrev pub NoValue : List ℕ → Type 0
-NoValue bytes = (t : Tree) → IsValue t → bytes ≡ cell_bytes t → ⊥
+NoValue bytes = (t : Tree) → IsWhole t → bytes ≡ cell_bytes t → ⊥
+
+-- the bytes are no value's cell bytes that is nested so little
+abbrev pub NoValueWithin : ℕ → List ℕ → Type 0
+NoValueWithin most bytes = (t : Tree) → IsWhole t → depth t ≤ most → bytes ≡ cell_bytes t → ⊥
 
 -- that value, or else want of memory
 abbrev pub IsReadAs : Tree → Result Attr BytesFault → Type 0
 IsReadAs t (Ok a) = tree_of a ≡ t
 IsReadAs t (Err e) = e ≡ fault.NoMemory
 
+-- where it stops by bytes that are left, the first holds of them, and where it stops at a value that is nested too deep, the second
+abbrev pub IsStopAt : (ℕ → Type 0) → (ℕ → Type 0) → Stop → Type 0
+IsStopAt P D (Left n) = P n
+IsStopAt P D (Deep n) = D n
+IsStopAt P D NoMemory = Unit {0}
+
 -- where it stops by bytes that are left, this holds of them
 abbrev pub IsStop : (ℕ → Type 0) → Stop → Type 0
-IsStop P (Left n) = P n
-IsStop P NoMemory = Unit {0}
+IsStop P = IsStopAt P (λ n. ⊥)

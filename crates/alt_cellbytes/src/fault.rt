@@ -2,10 +2,12 @@
 
 use alt_base::NoMemory;
 
-/// Why no value was read: the bytes stop with so many left from the place on, or memory was wanting.
+/// Why no value was read: the bytes stop with so many left from the place on, a value that is nested too
+/// deep begins there, or memory was wanting.
 #[derive(Clone, Copy, Debug, PartialEq, Eq)]
 pub(crate) enum Stop {
     Left(usize),
+    Deep(usize),
     NoMemory,
 }
 

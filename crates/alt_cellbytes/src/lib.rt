@@ -9,8 +9,5 @@ mod pieces;
 mod reading;
 mod writing;
 
-pub use reading::attr_of;
+pub use reading::{attr_of, attr_within};
 pub use writing::bytes_of;
-
-#[cfg(test)]
-mod tests;

@@ -8,7 +8,9 @@ ghost use Rattle.alt_decimal.specs.Spelled.{spelled};
 ghost use Rattle.alt_fields.specs.Field.{field};
 ghost use Rattle.alt_value.specs.Members.{IsSet, text_order};
 ghost use Rattle.alt_cellbytes.specs.Places.{IsStop, NoField, NoNumber, IsNextText, NoText, NoNumberMember, NoBinary};
-ghost use Rattle.alt_cellbytes.specs.Values.{IsShort, IsText, AreMembers};
+ghost use Rattle.alt_fields.specs.Bytes.{IsShort};
+ghost use Rattle.alt_value.specs.Values.{IsText};
+ghost use Rattle.alt_cellbytes.specs.Values.{AreRising};
 
 use crate::fault::Stop;
 use crate::pieces::{take_field, take_number, take_text};
@@ -18,7 +20,7 @@ use std::alloc::Global;
 
 /// So many texts, and what follows them.
 pub(crate) fn take_texts(alloc: Global, count: u64, bytes: &[u8]) -> Result<(TextSet, &[u8]), Stop>
-    ensures members { IfOk result (λ p. (length p.0 ≡ count) × AreMembers IsText text_order p.0
+    ensures members { IfOk result (λ p. (length p.0 ≡ count) × AreRising IsText text_order p.0
         × (bytes.now ≡ flat_map field p.0 ++ p.1.now)) }
     ensures stop { IfErr result (IsStop (NoText count bytes.now)) }
 {
@@ -65,7 +67,7 @@ pub(crate) fn take_numbers(
     count: u64,
     bytes: &[u8],
 ) -> Result<(NumberSet, &[u8]), Stop>
-    ensures members { IfOk result (λ p. (length p.0 ≡ count) × AreMembers Fits int_cmp p.0
+    ensures members { IfOk result (λ p. (length p.0 ≡ count) × AreRising Fits int_cmp p.0
         × (bytes.now ≡ flat_map spelled p.0 ++ p.1.now)) }
     ensures stop { IfErr result (IsStop (NoNumberMember count bytes.now)) }
 {
@@ -87,7 +89,8 @@ pub(crate) fn take_numbers(
 fn next_number<'a>(set: &NumberSet, bytes: &'a [u8]) -> Result<(Decimal, &'a [u8]), Stop>
     ensures number { IfOk result (λ p. Fits p.0 × IsSet int_cmp (set.now ++ p.0 ∷ [])
         × (bytes.now ≡ spelled p.0 ++ p.1.now)) }
-    ensures stop { IfErr result (IsStop (NoNumber (λ z. IsSet int_cmp (set.now ++ z ∷ [])) bytes.now)) }
+    ensures stop { IfErr result
+        (IsStop (NoNumber (λ z. IsSet int_cmp (set.now ++ z ∷ [])) bytes.now)) }
 {
     match take_number(bytes) {
         Ok((number, rest)) => {
@@ -120,7 +123,7 @@ pub(crate) fn take_binaries(
     count: u64,
     bytes: &[u8],
 ) -> Result<(BytesSet, &[u8]), Stop>
-    ensures members { IfOk result (λ p. (length p.0 ≡ count) × AreMembers IsShort text_order p.0
+    ensures members { IfOk result (λ p. (length p.0 ≡ count) × AreRising IsShort text_order p.0
         × (bytes.now ≡ flat_map field p.0 ++ p.1.now)) }
     ensures stop { IfErr result (IsStop (NoBinary count bytes.now)) }
 {
@@ -138,7 +141,8 @@ pub(crate) fn take_binaries(
 fn next_binary<'a>(set: &BytesSet, bytes: &'a [u8]) -> Result<(&'a [u8], &'a [u8]), Stop>
     ensures binary { IfOk result (λ p. IsShort p.0.now × IsSet text_order (set.now ++ p.0.now ∷ [])
         × (bytes.now ≡ field p.0.now ++ p.1.now)) }
-    ensures stop { IfErr result (IsStop (NoField (λ b. IsSet text_order (set.now ++ b ∷ [])) bytes.now)) }
+    ensures stop { IfErr result
+        (IsStop (NoField (λ b. IsSet text_order (set.now ++ b ∷ [])) bytes.now)) }
 {
     let (binary, rest) = take_field(bytes)?;
     if is_next_binary(set, binary) {

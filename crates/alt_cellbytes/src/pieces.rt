@@ -7,7 +7,8 @@ ghost use Rattle.alt_decimal.specs.Spelled.{spelled};
 ghost use Rattle.alt_fields.specs.Field.{field};
 ghost use Rattle.alt_value.specs.CellBytes.{counted, truth_byte};
 ghost use Rattle.alt_cellbytes.specs.Places.{IsCut, IsStop, NoCount, NoField, NoNumber, NoTruth, is_cut_number as is_cut, is_unclosed as lacks_end};
-ghost use Rattle.alt_cellbytes.specs.Values.{IsShort, IsText};
+ghost use Rattle.alt_fields.specs.Bytes.{IsShort};
+ghost use Rattle.alt_value.specs.Values.{IsText};
 
 use crate::fault::Stop;
 use alt_decimal::Decimal;

@@ -1,22 +1,35 @@
 //! Writing cell bytes.
 
-ghost use Rattle.std.specs.Prelude.{◌≡◌, ◌∷◌, ◌++◌, [], length, OnOk, OnErr};
+ghost use Rattle.std.specs.Prelude.{◌≡◌, ◌∷◌, ◌++◌, [], length, OnOk, OnErr, T};
 ghost use Rattle.std.specs.List.{flat_map};
 ghost use Rattle.alt_base.specs.Prefix.{IsPrefix};
 ghost use Rattle.alt_decimal.specs.Spelled.{spelled};
 ghost use Rattle.alt_fields.specs.Field.{field};
 ghost use Rattle.alt_value.specs.CellBytes.{cell_bytes, counted, truth_byte};
 ghost use Rattle.alt_value.specs.Stands.{tree_of};
+ghost use Rattle.alt_value.specs.Values.{sets_full};
+ghost use Rattle.alt_cellbytes.specs.Values.{AreBytesOf};
 ghost use Rattle.alt_cellbytes.specs.Places.{entry_bytes};
 
 use alt_base::NoMemory;
 use alt_decimal::Decimal;
 use alt_fields::{put_bytes, put_u64};
-use alt_value::{Attr, AttrList, BytesSet, Item, NumberSet, TextSet};
+use alt_value::{Attr, AttrList, BytesSet, Item, NumberSet, TextSet, held};
 
 /// Appends the cell bytes of a value. Where memory is wanting, the front of them may stand there.
-#[cycle(writing)]
 pub fn bytes_of(a: &Attr, out: &mut Vec<u8>) -> Result<(), NoMemory>
+    ensures appended { OnOk result (out.new.items ≡ out.old.items ++ cell_bytes (tree_of a.now)) }
+    ensures begun { OnErr result (IsPrefix out.old.items out.new.items) }
+    // What was written is read as the value again, unless it has an empty set.
+    ensures again { T (sets_full (tree_of a.now))
+        → AreBytesOf (cell_bytes (tree_of a.now)) (tree_of a.now) }
+{
+    held(a);
+    put_value(a, out)
+}
+
+#[cycle(writing)]
+fn put_value(a: &Attr, out: &mut Vec<u8>) -> Result<(), NoMemory>
     ensures appended { OnOk result (out.new.items ≡ out.old.items ++ cell_bytes (tree_of a.now)) }
     ensures begun { OnErr result (IsPrefix out.old.items out.new.items) }
 {
@@ -87,7 +100,9 @@ fn put_head(out: &mut Vec<u8>, kind: u8, count: usize) -> Result<(), NoMemory>
 }
 
 fn put_texts(out: &mut Vec<u8>, set: &TextSet) -> Result<(), NoMemory>
-    ensures appended { OnOk result (out.new.items ≡ out.old.items ++ 6 ∷ (counted (length set.now) ++ flat_map field set.now)) }
+    ensures appended { OnOk result
+        (out.new.items ≡ out.old.items
+        ++ 6 ∷ (counted (length set.now) ++ flat_map field set.now)) }
     ensures begun { OnErr result (IsPrefix out.old.items out.new.items) }
 {
     put_head(out, 6, set.len())?;
@@ -108,7 +123,9 @@ fn put_each_text(out: &mut Vec<u8>, set: &TextSet) -> Result<(), NoMemory>
 }
 
 fn put_numbers(out: &mut Vec<u8>, set: &NumberSet) -> Result<(), NoMemory>
-    ensures appended { OnOk result (out.new.items ≡ out.old.items ++ 7 ∷ (counted (length set.now) ++ flat_map spelled set.now)) }
+    ensures appended { OnOk result
+        (out.new.items ≡ out.old.items
+        ++ 7 ∷ (counted (length set.now) ++ flat_map spelled set.now)) }
     ensures begun { OnErr result (IsPrefix out.old.items out.new.items) }
 {
     put_head(out, 7, set.len())?;
@@ -129,7 +146,9 @@ fn put_each_number(out: &mut Vec<u8>, set: &NumberSet) -> Result<(), NoMemory>
 }
 
 fn put_binaries(out: &mut Vec<u8>, set: &BytesSet) -> Result<(), NoMemory>
-    ensures appended { OnOk result (out.new.items ≡ out.old.items ++ 8 ∷ (counted (length set.now) ++ flat_map field set.now)) }
+    ensures appended { OnOk result
+        (out.new.items ≡ out.old.items
+        ++ 8 ∷ (counted (length set.now) ++ flat_map field set.now)) }
     ensures begun { OnErr result (IsPrefix out.old.items out.new.items) }
 {
     put_head(out, 8, set.len())?;
@@ -151,7 +170,9 @@ fn put_each_binary(out: &mut Vec<u8>, set: &BytesSet) -> Result<(), NoMemory>
 
 #[cycle(writing)]
 fn put_elements(out: &mut Vec<u8>, list: &AttrList) -> Result<(), NoMemory>
-    ensures appended { OnOk result (out.new.items ≡ out.old.items ++ 9 ∷ (counted (length list.now) ++ flat_map cell_bytes list.now)) }
+    ensures appended { OnOk result
+        (out.new.items ≡ out.old.items
+        ++ 9 ∷ (counted (length list.now) ++ flat_map cell_bytes list.now)) }
     ensures begun { OnErr result (IsPrefix out.old.items out.new.items) }
 {
     put_head(out, 9, list.len())?;
@@ -167,14 +188,16 @@ fn put_each_element(out: &mut Vec<u8>, list: &AttrList) -> Result<(), NoMemory>
         let Some(element) = list.get(place) else {
             break;
         };
-        bytes_of(element, out)?;
+        put_value(element, out)?;
     }
     Ok(())
 }
 
 #[cycle(writing)]
 fn put_entries(out: &mut Vec<u8>, map: &Item) -> Result<(), NoMemory>
-    ensures appended { OnOk result (out.new.items ≡ out.old.items ++ 10 ∷ (counted (length map.now) ++ flat_map entry_bytes map.now)) }
+    ensures appended { OnOk result
+        (out.new.items ≡ out.old.items
+        ++ 10 ∷ (counted (length map.now) ++ flat_map entry_bytes map.now)) }
     ensures begun { OnErr result (IsPrefix out.old.items out.new.items) }
 {
     put_head(out, 10, map.len())?;
@@ -191,7 +214,7 @@ fn put_each_entry(out: &mut Vec<u8>, map: &Item) -> Result<(), NoMemory>
             break;
         };
         put_bytes(out, name.as_bytes())?;
-        bytes_of(value, out)?;
+        put_value(value, out)?;
     }
     Ok(())
 }

@@ -1,7 +1,17 @@
 pub mod BatchLaws
 pub mod CellLaws
+pub mod ChangeLaws
 pub mod Entries
 pub mod FormatLaws
 pub mod Front
+pub mod GivenLaws
+pub mod Keeping
+pub mod Kept
+pub mod OfChange
+pub mod OneRow
+pub mod Rising
 pub mod RowLaws
+pub mod Searched
 pub mod ShownLaws
+pub mod Stopped
+pub mod WalkLaws

@@ -4,18 +4,21 @@
 
 mod batch;
 mod cell;
+mod change;
 mod format;
 mod map;
+mod reading;
 mod rest;
 mod row;
 mod shown;
+mod source;
+mod stop;
 
 pub use batch::{Batch, CellList, RowChange};
 pub use cell::Cell;
 pub use format::row_bytes;
 pub use map::CellMap;
+pub use reading::row_of;
 pub use row::RowCells;
 pub use shown::ShownRow;
-
-#[cfg(test)]
-mod tests;
+pub use source::{RowSource, SourceFault};

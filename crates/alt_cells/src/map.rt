@@ -2,8 +2,9 @@
 
 ghost use Rattle.std.specs.Prelude.{◌≡◌, ◌+◌, ◌≤◌, ℕ, List, IfOk, OnOk, OnErr, [], ◌∷◌, ◌++◌, T, length, vec_len, vec_capacity};
 ghost use Rattle.std.specs.FinMap as map;
+ghost use Rattle.std.specs.FinMap.Entries.{is_sorted};
 ghost use Rattle.alt_cells.specs.Cells.{cell_cmp, greater};
-ghost use Rattle.alt_cells.specs.Joined.{joined_map, joined, joined_front};
+ghost use Rattle.alt_cells.specs.Joined.{either, joined_map, joined, joined_front};
 ghost use Rattle.alt_cells.specs.Keys.{key_cmp};
 
 use crate::Cell;
@@ -58,6 +59,14 @@ impl CellMap {
         Ok(CellMap { entries })
     }
 
+    /// The map of cells whose names rise.
+    pub(crate) fn from_rising(entries: Vec<(Bytes, Cell)>) -> CellMap
+        requires { T (is_sorted key_cmp entries.items) }
+        ensures { map.entries result ≡ entries.items }
+    {
+        CellMap { entries }
+    }
+
     /// The names with their cells, in order.
     pub fn as_slice(&self) -> &[(Bytes, Cell)]
         ensures entries { result.now ≡ map.entries self.now }
@@ -80,6 +89,9 @@ impl CellMap {
     /// wanting, the map is as it was. Its own cells are moved and not copied.
     pub fn join(&mut self, other: &CellMap) -> Result<(), NoMemory>
         ensures ok { OnOk result (self.new ≡ joined_map (greater cell_cmp) self.old other.now) }
+        // Column by column: of two cells the one that wins, and a lone one stays.
+        ensures columns { OnOk result ((column : List ℕ) → map.get self.new column
+            ≡ either (greater cell_cmp) (map.get self.old column) (map.get other.now column)) }
         ensures err { OnErr result (self.new ≡ self.old) }
     {
         let alloc = *self.entries.allocator();

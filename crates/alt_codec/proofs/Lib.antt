@@ -5,3 +5,5 @@ pub mod Deep
 pub mod Plain
 pub mod Written
 pub mod ReadBack
+pub mod Fits
+pub mod Relation

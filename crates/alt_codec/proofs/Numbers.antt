@@ -20,15 +20,19 @@ one_answer s q r a b = elim a.no_number [
 
 -- how many digits stand before the exponent
 abbrev digit_count : List ℕ → ℕ
-digit_count s = length (front_digits (behind_sign s)) + length (fraction_digits (fraction_of (behind_digits (behind_sign s))))
+digit_count s = length (front_digits (behind_sign s)) + length
+    (fraction_digits (fraction_of (behind_digits (behind_sign s))))
 
+-- the exponent behind them, if there is one
 abbrev exponent : List ℕ → Option (Option Exponent)
 exponent s = exponent_of (behind_fraction (behind_digits (behind_sign s)))
 
+-- a text that isn't cut into parts is no number
 no_reading : (s : List ℕ) → reading s ≡ None → ReadsAs s (number_of s)
 unfolding number_of
 no_reading s none = rw none (ReadsAs-none s none)
 
+-- no part, and parts that fail
 none_at_all : (s : List ℕ) → (digit_count s == 0) ≡ true → reading s ≡ None
 unfolding reading
 none_at_all s e = rw e refl
@@ -37,25 +41,32 @@ no_exponent : (s : List ℕ) → (digit_count s == 0) ≡ false → exponent s �
 unfolding reading
 no_exponent s e f = rw (e, f) refl
 
-parts_read : (s : List ℕ) (e : Option Exponent) → (digit_count s == 0) ≡ false → exponent s ≡ Some e → reading s ≡ Some (parts_with s e)
+-- the parts, with an exponent or without
+parts_read : (s : List ℕ) (e : Option Exponent) → (digit_count s == 0) ≡ false → exponent s ≡ Some e
+    → reading s ≡ Some (parts_with s e)
 unfolding reading
 parts_read s e z f = rw (z, f) refl
 
-parts : (s : List ℕ) (e : Option Exponent) → (digit_count s == 0) ≡ false → exponent s ≡ Some e → ReadsAs s (number_of s)
+parts : (s : List ℕ) (e : Option Exponent) → (digit_count s == 0) ≡ false → exponent s ≡ Some e
+    → ReadsAs s (number_of s)
 unfolding number_of
-parts s e z f = ReadsAs-parts s e (of_text (reading s)) f (omega (arith, eqb-false (digit_count s) 0 z)) (ap of_text (parts_read s e z f))
+parts s e z f = ReadsAs-parts s e (of_text (reading s)) f
+    (omega (arith, eqb-false (digit_count s) 0 z)) (ap of_text (parts_read s e z f))
 
+-- with a digit at least
 with_digits : (s : List ℕ) → (digit_count s == 0) ≡ false → ReadsAs s (number_of s)
 with_digits s z = elim (exponent s) as (λ o. exponent s ≡ o → ReadsAs s (number_of s)) [
   | None ↦ λ f. no_reading s (no_exponent s z f)
   | Some e ↦ λ f. parts s e z f
 ] refl
 
-reads : (s : List ℕ) → ReadsAs s (number_of s)
+-- the number that the cut gives is the one that the grammar gives
+pub reads : (s : List ℕ) → ReadsAs s (number_of s)
 reads s = elim (cases_Bool (digit_count s == 0)) [
   | inl e ↦ no_reading s (none_at_all s e)
   | inr e ↦ with_digits s e
 ]
 
+-- so what a text reads as by the grammar is what the cut gives
 pub reads-number_of : (s : List ℕ) (r : Result ℤ NumberFault) → ReadsAs s r → number_of s ≡ r
 reads-number_of s r h = one_answer s (number_of s) r (reads s) h

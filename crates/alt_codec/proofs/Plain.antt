@@ -12,6 +12,7 @@ use Rattle.base64.specs.GeneralPurpose.{encode_of}
 use Rattle.alt_decimal.specs.Printed.{printed}
 use Rattle.alt_codec.specs.Writing.{strings, json_of, json_items, json_members, json_of_pairs}
 
+-- no text is a float
 strings_plain : (ss : List (List ℕ)) → items_have_float (strings ss) ≡ false
 strings_plain [] = refl
 strings_plain (s ∷ ss) = strings_plain ss
@@ -40,9 +41,12 @@ mutual
   fields_plain no_fields = refl
   fields_plain (field_then name t fs) = rw (json_plain t) (fields_plain fs)
 
+-- nor stands one in an item
 pub pairs_plain : (ps : List Pair) → has_float (json_of_pairs ps) ≡ false
 pairs_plain ps = fields_plain (fields_of ps)
 
-pub written_plain : (r : Result Value NoMemory) (t : Tree) → IfOk r (λ v. view v ≡ json_of t) → IfOk r (λ v. has_float (view v) ≡ false)
+-- nor in what was written, where it was
+pub written_plain : (r : Result Value NoMemory) (t : Tree) → IfOk r (λ v. view v ≡ json_of t)
+    → IfOk r (λ v. has_float (view v) ≡ false)
 written_plain (Ok v) t h = ap has_float h ∙ json_plain t
 written_plain (Err e) t h = h

@@ -15,34 +15,43 @@ use Rattle.alt_value.specs.Tree.{Tree, Pair, trees_of, fields_of}
 use Rattle.alt_value.proofs.Places.{first, second, less}
 use Rattle.alt_codec.specs.Writing.{strings, json_of, json_items, json_members}
 
-take_suc : {A : Type 0} (xs : List A) (i : ℕ) (x : A) → Some x ≡ slice_get xs i → take (suc i) xs ≡ take i xs ++ x ∷ []
+-- one member more
+take_suc : {A : Type 0} (xs : List A) (i : ℕ) (x : A) → Some x ≡ slice_get xs i
+    → take (suc i) xs ≡ take i xs ++ x ∷ []
 take_suc [] i x e = absurd (let f : ⊥ = cc in f)
 take_suc (y ∷ xs) zero x e = let f : x ≡ y = cc in rw f refl
 take_suc (y ∷ xs) (suc i) x e = ap (λ zs. y ∷ zs) (take_suc xs i x e)
 
-pub take_more : {A : Type 0} (xs : List A) (i : ℕ) (x : A) → Some x ≡ slice_get xs i → take (i + 1) xs ≡ take i xs ++ x ∷ []
+-- the members before a place and the one there
+pub take_more : {A : Type 0} (xs : List A) (i : ℕ) (x : A) → Some x ≡ slice_get xs i
+    → take (i + 1) xs ≡ take i xs ++ x ∷ []
 take_more xs i x e = ap (λ j. take j xs) (add-one i) ∙ take_suc xs i x e
 
+-- all members stand before the end
 pub take_whole : {A : Type 0} (xs : List A) (i : ℕ) → length xs ≤ i → take i xs ≡ xs
 take_whole [] zero h = refl
 take_whole [] (suc i) h = refl
 take_whole (x ∷ xs) zero h = absurd (omega arith)
 take_whole (x ∷ xs) (suc i) h = ap (λ zs. x ∷ zs) (take_whole xs i (omega arith))
 
+-- a place without a member is past the end
 pub past_end : {A : Type 0} (xs : List A) (i : ℕ) → None ≡ slice_get xs i → length xs ≤ i
 past_end [] i e = omega arith
 past_end (x ∷ xs) zero e = absurd (let f : ⊥ = cc in f)
 past_end (x ∷ xs) (suc i) e = omega (arith, past_end xs i e)
 
 -- a text is written, whose bytes are these
-pub text_written : (s : String Global) (bytes : List ℕ) → string_bytes s ≡ bytes → view (Text s) ≡ string bytes
+pub text_written : (s : String Global) (bytes : List ℕ) → string_bytes s ≡ bytes
+    → view (Text s) ≡ string bytes
 text_written s bytes e =
     let is : view (Text s) ≡ string (string_bytes s) = search (rules, the_lemmas) in
     is ∙ ap string e
 
 -- one more element is written
-pub written_more : {A : Type 0} (write : A → Data) (xs : List A) (i : ℕ) (x : A) (vs : List Value) (v : Value) → map view vs ≡ map write (take i xs)
-    → Some x ≡ slice_get xs i → view v ≡ write x → map view (vs ++ v ∷ []) ≡ map write (take (i + 1) xs)
+pub written_more : {A : Type 0} (write : A → Data) (xs : List A) (i : ℕ) (x : A) (vs : List Value)
+    (v : Value) → map view vs ≡ map write (take i xs)
+    → Some x ≡ slice_get xs i → view v ≡ write x
+    → map view (vs ++ v ∷ []) ≡ map write (take (i + 1) xs)
 written_more write xs i x vs v before e here =
     map-append view vs (v ∷ [])
     ∙ ap (λ ds. ds ++ view v ∷ []) before
@@ -50,40 +59,60 @@ written_more write xs i x vs v before e here =
     ∙ sym (ap (map write) (take_more xs i x e) ∙ map-append write (take i xs) (x ∷ []))
 
 -- all elements are written
-pub written_whole : {A : Type 0} (write : A → Data) (xs : List A) (i : ℕ) (vs : List Value) → map view vs ≡ map write (take i xs)
+pub written_whole : {A : Type 0} (write : A → Data) (xs : List A) (i : ℕ) (vs : List Value)
+    → map view vs ≡ map write (take i xs)
     → length xs ≤ i → items_view vs ≡ items_of (map write xs)
 written_whole write xs i vs before h = ap items_of (before ∙ ap (map write) (take_whole xs i h))
 
-pub items_of-texts : {A : Type 0} (f : A → List ℕ) (xs : List A) → items_of (map (λ x. string (f x)) xs) ≡ strings (map f xs)
+-- texts made of members are written as strings
+pub items_of-texts : {A : Type 0} (f : A → List ℕ) (xs : List A)
+    → items_of (map (λ x. string (f x)) xs) ≡ strings (map f xs)
 items_of-texts f [] = refl
 items_of-texts f (x ∷ xs) = ap (λ ds. item (string (f x)) ds) (items_of-texts f xs)
 
+-- and so are texts
 pub items_of-strings : (ss : List (List ℕ)) → items_of (map (λ s. string s) ss) ≡ strings ss
 items_of-strings [] = refl
 items_of-strings (s ∷ ss) = ap (λ ds. item (string s) ds) (items_of-strings ss)
 
+-- and trees as elements
 pub items_of-trees : (ts : List Tree) → items_of (map json_of ts) ≡ json_items (trees_of ts)
 items_of-trees [] = refl
 items_of-trees (t ∷ ts) = ap (λ ds. item (json_of t) ds) (items_of-trees ts)
 
-below_there : (x : List ℕ) (ps : List Pair) (i : ℕ) (p : Pair) → T (below_all text_order x ps) → Some p ≡ slice_get ps i → text_order x p.0 ≡ Less
+-- a name below each is below the one at a place
+below_there : (x : List ℕ) (ps : List Pair) (i : ℕ) (p : Pair) → T (below_all text_order x ps)
+    → Some p ≡ slice_get ps i → text_order x p.0 ≡ Less
 below_there x [] i p h e = absurd (let f : ⊥ = cc in f)
-below_there x (q ∷ ps) zero p h e = let f : p ≡ q = cc in rw f (less (text_order x q.0) (first (is_lt (text_order x q.0)) (below_all text_order x ps) h))
-below_there x (q ∷ ps) (suc i) p h e = below_there x ps i p (second (is_lt (text_order x q.0)) (below_all text_order x ps) h) e
+below_there x (q ∷ ps) zero p h e = let f : p ≡ q = cc in
+    rw f (less (text_order x q.0) (first (is_lt (text_order x q.0)) (below_all text_order x ps) h))
+below_there x (q ∷ ps) (suc i) p h e = below_there x ps i p
+    (second (is_lt (text_order x q.0)) (below_all text_order x ps) h) e
 
-put_suc : (ps : List Pair) (i : ℕ) (p : Pair) → T (is_sorted text_order ps) → Some p ≡ slice_get ps i
-    → put p.0 (json_of p.1) (json_members (fields_of (take i ps))) ≡ json_members (fields_of (take (suc i) ps))
+-- a pair behind those before it
+put_suc : (ps : List Pair) (i : ℕ) (p : Pair) → T (is_sorted text_order ps)
+    → Some p ≡ slice_get ps i
+    → put p.0 (json_of p.1) (json_members (fields_of (take i ps)))
+    ≡ json_members (fields_of (take (suc i) ps))
 put_suc [] i p h e = absurd (let f : ⊥ = cc in f)
 put_suc (q ∷ ps) zero p h e = let f : p ≡ q = cc in rw f refl
 put_suc (q ∷ ps) (suc i) p h e =
     let above : slice_cmp nat_cmp p.0 q.0 ≡ Greater =
-    nat_list_cmp_total.antisymm p.0 q.0 ∙ ap ordering_reverse (below_there q.0 ps i p (first (below_all text_order q.0 ps) (is_sorted text_order ps) h) e) in
-    rw above (ap (λ ms. member q.0 (json_of q.1) ms) (put_suc ps i p (second (below_all text_order q.0 ps) (is_sorted text_order ps) h) e))
+    nat_list_cmp_total.antisymm p.0 q.0 ∙ ap ordering_reverse
+    (below_there q.0 ps i p (first (below_all text_order q.0 ps) (is_sorted text_order ps) h) e)
+    in
+    rw above (ap (λ ms. member q.0 (json_of q.1) ms)
+    (put_suc ps i p (second (below_all text_order q.0 ps) (is_sorted text_order ps) h) e))
 
 -- one more pair is written, whose name is above those before it
-pub put_more : (ps : List Pair) (i : ℕ) (p : Pair) → T (is_sorted text_order ps) → Some p ≡ slice_get ps i
-    → put p.0 (json_of p.1) (json_members (fields_of (take i ps))) ≡ json_members (fields_of (take (i + 1) ps))
-put_more ps i p h e = put_suc ps i p h e ∙ ap (λ j. json_members (fields_of (take j ps))) (sym (add-one i))
+pub put_more : (ps : List Pair) (i : ℕ) (p : Pair) → T (is_sorted text_order ps)
+    → Some p ≡ slice_get ps i
+    → put p.0 (json_of p.1) (json_members (fields_of (take i ps)))
+    ≡ json_members (fields_of (take (i + 1) ps))
+put_more ps i p h e = put_suc ps i p h e ∙ ap (λ j. json_members (fields_of (take j ps)))
+    (sym (add-one i))
 
-pub put_whole : (ps : List Pair) (i : ℕ) → length ps ≤ i → json_members (fields_of (take i ps)) ≡ json_members (fields_of ps)
+-- all pairs are written
+pub put_whole : (ps : List Pair) (i : ℕ) → length ps ≤ i
+    → json_members (fields_of (take i ps)) ≡ json_members (fields_of ps)
 put_whole ps i h = ap (λ qs. json_members (fields_of qs)) (take_whole ps i h)

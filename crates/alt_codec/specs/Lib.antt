@@ -1,8 +1,9 @@
+pub mod JsonOf
 pub mod Numbers
+pub mod ReadBack
 pub mod Reading
+pub mod Returning
 pub mod Scalars
 pub mod Sets
 pub mod Steps
 pub mod Writing
-pub mod ReadBack
-pub mod Returning

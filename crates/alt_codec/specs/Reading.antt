@@ -1,6 +1,6 @@
 -- Which value a JSON tree stands for, by cases over the ten kinds, and else its one fault: the first on a walk that tests a
 -- value before its elements, a list by rising index and a map by name in byte order (DynamoDB API Reference, "AttributeValue").
-use Rattle.std.specs.Prelude.{ℕ, ◌-◌, Bool, true, false, List, [], ◌∷◌, codes, ◌==◌, length, Result, Ok, Err, Option, Some, None, if◌then◌else◌}
+use Rattle.std.specs.Prelude.{ℕ, ◌-◌, Bool, true, false, ◌&&◌, List, [], ◌∷◌, codes, ◌==◌, length, Result, Ok, Err, Option, Some, None, if◌then◌else◌}
 use Rattle.std.specs.Str.{bytes_eq}
 use Rattle.std.specs.Ordering.{int_cmp}
 use Rattle.serde_json.specs.Data.{Data, null, boolean, number, string, array, object, Items, no_items, item, Members, no_members, member}
@@ -13,18 +13,23 @@ use Rattle.alt_codec.specs.Scalars.{text_in, number_in, binary_in, truth_in, nul
 use Rattle.alt_codec.specs.Sets.{members_in}
 use Rattle.alt_codec.specs.Steps.{and_then, map_ok}
 
+-- a value or a fault
 abbrev pub Answer : Type 0
 Answer = Result Tree ValueFault
+
+-- a JSON tree is null
+abbrev pub is_null : Data → Bool
+is_null null = true
+is_null (boolean b) = false
+is_null (number n) = false
+is_null (string s) = false
+is_null (array ds) = false
+is_null (object ms) = false
 
 -- each member is null, and so counts as absent
 abbrev pub all_null : Members → Bool
 all_null no_members = true
-all_null (member name null ms) = all_null ms
-all_null (member name (boolean b) ms) = false
-all_null (member name (number n) ms) = false
-all_null (member name (string s) ms) = false
-all_null (member name (array ds) ms) = false
-all_null (member name (object os) ms) = false
+all_null (member name d ms) = is_null d && all_null ms
 
 -- the value of a kind without nested values; no other name is one of a kind
 abbrev pub flat_in : List ℕ → Data → Answer
@@ -52,10 +57,10 @@ if_room room answer = if room == 0 then Err fault.TooDeep else answer
 abbrev mutual
   pub value_in : ℕ → Data → Answer
   value_in room null = Err fault.WrongJson
-  value_in room (boolean b) = Err fault.NotOneMember
-  value_in room (number n) = Err fault.NotOneMember
-  value_in room (string s) = Err fault.NotOneMember
-  value_in room (array ds) = Err fault.NotOneMember
+  value_in room (boolean b) = Err fault.WrongJson
+  value_in room (number n) = Err fault.WrongJson
+  value_in room (string s) = Err fault.WrongJson
+  value_in room (array ds) = Err fault.WrongJson
   value_in room (object ms) = only_member room ms
 
   -- a null member counts as absent; another has to be the only one
@@ -65,54 +70,63 @@ abbrev mutual
 
   pub first_member : Answer → Bool → ℕ → List ℕ → Data → Answer
   first_member others alone room name null = others
-  first_member others alone room name (boolean b) = if alone then by_kind name (Err fault.WrongJson) (Err fault.WrongJson) (flat_in name (boolean b)) else Err fault.NotOneMember
-  first_member others alone room name (number n) = if alone then by_kind name (Err fault.WrongJson) (Err fault.WrongJson) (flat_in name (number n)) else Err fault.NotOneMember
-  first_member others alone room name (string s) = if alone then by_kind name (Err fault.WrongJson) (Err fault.WrongJson) (flat_in name (string s)) else Err fault.NotOneMember
+  first_member others alone room name (boolean b) =
+      if alone then by_kind name (Err fault.WrongJson) (Err fault.WrongJson)
+      (flat_in name (boolean b)) else Err fault.NotOneMember
+  first_member others alone room name (number n) =
+      if alone then by_kind name (Err fault.WrongJson) (Err fault.WrongJson)
+      (flat_in name (number n)) else Err fault.NotOneMember
+  first_member others alone room name (string s) =
+      if alone then by_kind name (Err fault.WrongJson) (Err fault.WrongJson)
+      (flat_in name (string s)) else Err fault.NotOneMember
   first_member others alone room name (array ds) =
-      if alone then by_kind name (if_room room (map_ok (λ ts. L_tree (trees_of ts)) (elements_in (room - 1) ds))) (Err fault.WrongJson) (flat_in name (array ds)) else Err fault.NotOneMember
+      if alone then by_kind name (if_room room
+      (map_ok (λ ts. L_tree (trees_of ts)) (elements_in (room - 1) ds))) (Err fault.WrongJson)
+      (flat_in name (array ds)) else Err fault.NotOneMember
   first_member others alone room name (object ms) =
-      if alone then by_kind name (Err fault.WrongJson) (if_room room (map_ok (λ ps. M_tree (fields_of ps)) (fields_in (room - 1) [] ms))) (flat_in name (object ms)) else Err fault.NotOneMember
+      if alone then by_kind name (Err fault.WrongJson)
+      (if_room room (map_ok (λ ps. M_tree (fields_of ps)) (fields_in (room - 1) [] ms)))
+      (flat_in name (object ms)) else Err fault.NotOneMember
 
   pub elements_in : ℕ → Items → Result (List Tree) ValueFault
   elements_in room no_items = Ok []
-  elements_in room (item d ds) = and_then (λ t. map_ok (λ ts. t ∷ ts) (elements_in room ds)) (value_in room d)
+  elements_in room (item d ds) = and_then (λ t. map_ok (λ ts. t ∷ ts) (elements_in room ds))
+      (value_in room d)
 
   -- The pairs of a map, each put to those found so far. A name is tested before the value that it has.
   pub fields_in : ℕ → List Pair → Members → Result (List Pair) ValueFault
   fields_in room found no_members = Ok found
   fields_in room found (member name d ms) =
-      if length name == 0 then Err fault.EmptyName else and_then (λ t. fields_in room (with_pair name t found) ms) (value_in room d)
-
-abbrev pub is_null : Data → Bool
-is_null null = true
-is_null (boolean b) = false
-is_null (number n) = false
-is_null (string s) = false
-is_null (array ds) = false
-is_null (object ms) = false
+      if length name == 0 then Err fault.EmptyName
+      else and_then (λ t. fields_in room (with_pair name t found) ms) (value_in room d)
 
 -- the one member that isn't null
 abbrev pub only_present : Members → Option (List ℕ × Data)
 only_present no_members = None
-only_present (member name d ms) = if is_null d then only_present ms else (if all_null ms then Some (name, d) else None)
+only_present (member name d ms) = if is_null d then only_present ms
+    else (if all_null ms then Some (name, d) else None)
 
 -- what a kind's payload stands for, by the kind's name
 abbrev pub list_in : ℕ → Data → Answer
-list_in room (array ds) = if_room room (map_ok (λ ts. L_tree (trees_of ts)) (elements_in (room - 1) ds))
+list_in room (array ds) = if_room room (map_ok (λ ts. L_tree (trees_of ts))
+    (elements_in (room - 1) ds))
 list_in room null = Err fault.WrongJson
 list_in room (boolean b) = Err fault.WrongJson
 list_in room (number n) = Err fault.WrongJson
 list_in room (string s) = Err fault.WrongJson
 list_in room (object ms) = Err fault.WrongJson
 
+-- a map is an object of values, where there is room for it
 abbrev pub map_in : ℕ → Data → Answer
-map_in room (object ms) = if_room room (map_ok (λ ps. M_tree (fields_of ps)) (fields_in (room - 1) [] ms))
+map_in room (object ms) = if_room room (map_ok (λ ps. M_tree (fields_of ps))
+    (fields_in (room - 1) [] ms))
 map_in room null = Err fault.WrongJson
 map_in room (boolean b) = Err fault.WrongJson
 map_in room (number n) = Err fault.WrongJson
 map_in room (string s) = Err fault.WrongJson
 map_in room (array ds) = Err fault.WrongJson
 
+-- by the name of the kind
 abbrev pub payload_in : ℕ → List ℕ → Data → Answer
 payload_in room name d = by_kind name (list_in room d) (map_in room d) (flat_in name d)
 

@@ -12,6 +12,7 @@ use Rattle.alt_codec.specs.Writing.{json_of, json_of_pairs}
 abbrev pub NumberReturns : ℤ → Type 0
 NumberReturns z = number_of (printed z) ≡ Ok z
 
+-- bytes are read back from their base64
 abbrev pub BytesReturn : List ℕ → Type 0
 BytesReturn b = decode_of standard (encode_of standard b) ≡ Ok b
 
@@ -19,6 +20,7 @@ BytesReturn b = decode_of standard (encode_of standard b) ≡ Ok b
 abbrev pub Returns : Tree → Type 0
 Returns t = (room : ℕ) → ReadsAs room (json_of t) t
 
+-- and so is an item
 abbrev pub ItemReturns : List Pair → Type 0
 ItemReturns item = (room : ℕ) → ReadsAsItem room (json_of_pairs item) item
 

@@ -20,6 +20,7 @@ text_in (number n) = Err fault.WrongJson
 text_in (array ds) = Err fault.WrongJson
 text_in (object ms) = Err fault.WrongJson
 
+-- a number, or why it is none, as a fault of the value
 abbrev pub or_bad_number : Result ℤ NumberFault → Result ℤ ValueFault
 or_bad_number (Ok z) = Ok z
 or_bad_number (Err f) = Err (fault.BadNumber f)
@@ -28,6 +29,7 @@ or_bad_number (Err f) = Err (fault.BadNumber f)
 abbrev pub number_in : Data → Result ℤ ValueFault
 number_in d = and_then (λ s. or_bad_number (number_of s)) (text_in d)
 
+-- bytes, or that they are no base64
 abbrev pub or_bad_base64 : Result (List ℕ) DecodeError → Result (List ℕ) ValueFault
 or_bad_base64 (Ok b) = Ok b
 or_bad_base64 (Err e) = Err fault.BadBase64
@@ -36,6 +38,7 @@ or_bad_base64 (Err e) = Err fault.BadBase64
 abbrev pub binary_in : Data → Result (List ℕ) ValueFault
 binary_in d = and_then (λ s. or_bad_base64 (decode_of standard s)) (text_in d)
 
+-- a truth value is sent as one
 abbrev pub truth_in : Data → Result Tree ValueFault
 truth_in (boolean b) = Ok (BOOL_tree b)
 truth_in null = Err fault.WrongJson
@@ -44,6 +47,7 @@ truth_in (string s) = Err fault.WrongJson
 truth_in (array ds) = Err fault.WrongJson
 truth_in (object ms) = Err fault.WrongJson
 
+-- NULL is sent as true
 abbrev pub null_in : Data → Result Tree ValueFault
 null_in (boolean true) = Ok NULL_tree
 null_in (boolean false) = Err fault.NullNotTrue

@@ -10,10 +10,12 @@ use Rattle.alt_value.specs.Tree.{Tree, S_tree, N_tree, B_tree, BOOL_tree, NULL_t
 abbrev pub of_kind : List ℕ → Data → Data
 of_kind kind payload = object (member kind payload no_members)
 
+-- an array of texts
 abbrev pub strings : List (List ℕ) → Items
 strings [] = no_items
 strings (s ∷ ss) = item (string s) (strings ss)
 
+-- kind by kind; a number in plain notation, a binary in padded base64
 abbrev mutual
   pub json_of : Tree → Data
   json_of (S_tree s) = of_kind (codes "S") (string s)
@@ -35,5 +37,6 @@ abbrev mutual
   json_members no_fields = no_members
   json_members (field_then name t fs) = member name (json_of t) (json_members fs)
 
+-- an item is written as the object of its names
 abbrev pub json_of_pairs : List Pair → Data
 json_of_pairs pairs = object (json_members (fields_of pairs))

@@ -2,6 +2,7 @@
 #![tactic(auto)]
 
 mod fault;
+mod flat;
 mod reading;
 mod scalars;
 mod sets;
@@ -10,6 +11,3 @@ mod writing;
 pub use fault::ValueFault;
 pub use reading::{attr_of_json, item_of_json};
 pub use writing::{json_of_attr, json_of_item};
-
-#[cfg(test)]
-mod tests;

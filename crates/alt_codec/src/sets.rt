@@ -47,7 +47,8 @@ fn unless_fault<S: Drop>(set: Option<S>, fault: Option<ValueFault>) -> Result<S,
 /// A set of texts.
 pub fn text_set_of(alloc: Global, v: &Value) -> Result<TextSet, ValueFault>
     ensures value { IfOk result (λ s. members_in text_order text_in (view v.now) ≡ Ok s) }
-    ensures fault { IfErr result (λ f. f ≢ ValueFault.NoMemory → members_in text_order text_in (view v.now) ≡ Err f) }
+    ensures fault { IfErr result (λ f. f ≢ ValueFault.NoMemory
+        → members_in text_order text_in (view v.now) ≡ Err f) }
 {
     let (texts, fault) = texts_of(alloc, set_items(v)?)?;
     unless_fault(TextSet::from_members(texts), fault)
@@ -71,7 +72,8 @@ fn texts_of(alloc: Global, items: &[Value]) -> Result<(Vec<Text>, Option<ValueFa
 /// A set of numbers.
 pub fn number_set_of(alloc: Global, v: &Value) -> Result<NumberSet, ValueFault>
     ensures value { IfOk result (λ s. members_in int_cmp number_in (view v.now) ≡ Ok s) }
-    ensures fault { IfErr result (λ f. f ≢ ValueFault.NoMemory → members_in int_cmp number_in (view v.now) ≡ Err f) }
+    ensures fault { IfErr result (λ f. f ≢ ValueFault.NoMemory
+        → members_in int_cmp number_in (view v.now) ≡ Err f) }
 {
     let (numbers, fault) = numbers_of(alloc, set_items(v)?)?;
     unless_fault(NumberSet::from_members(numbers), fault)
@@ -98,7 +100,8 @@ fn numbers_of(
 /// A set of binaries.
 pub fn bytes_set_of(alloc: Global, v: &Value) -> Result<BytesSet, ValueFault>
     ensures value { IfOk result (λ s. members_in text_order binary_in (view v.now) ≡ Ok s) }
-    ensures fault { IfErr result (λ f. f ≢ ValueFault.NoMemory → members_in text_order binary_in (view v.now) ≡ Err f) }
+    ensures fault { IfErr result (λ f. f ≢ ValueFault.NoMemory
+        → members_in text_order binary_in (view v.now) ≡ Err f) }
 {
     let (binaries, fault) = binaries_of(alloc, set_items(v)?)?;
     unless_fault(BytesSet::from_members(binaries), fault)

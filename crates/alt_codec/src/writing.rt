@@ -9,7 +9,7 @@ ghost use Rattle.serde_json.specs.Written.{has_float};
 ghost use Rattle.alt_decimal.specs.Printed.{printed};
 ghost use Rattle.alt_value.specs.Stands.{tree_of};
 ghost use Rattle.alt_value.specs.Tree.{SS_tree, NS_tree, BS_tree, trees_of, fields_of};
-ghost use Rattle.alt_codec.specs.ReadBack.{ReadsAs, ReadsAsItem};
+ghost use Rattle.alt_codec.specs.ReadBack.{ReadsAs, ReadsAsItem, StandsFor, StandsForItem};
 ghost use Rattle.alt_codec.specs.Returning.{NumberReturns, Returns, ItemReturns, Each};
 ghost use Rattle.alt_codec.specs.Writing.{of_kind as one_member, strings, json_of, json_items, json_members, json_of_pairs};
 
@@ -24,7 +24,8 @@ use std::alloc::Global;
 /// Sets are written in value order, numbers in plain notation and binaries in padded base64.
 pub fn json_of_attr(alloc: Global, a: &Attr) -> Result<Value, NoMemory>
     ensures json { IfOk result (λ v. view v ≡ json_of (tree_of a.now)) }
-    // Reading gives the value back, where no set in it is empty and it nests no deeper than may be read.
+    // It stands for the value, and reading gives that back, where no set in it is empty and it nests no deeper than may be read.
+    ensures stands { IfOk result (λ v. StandsFor 32 (view v) (tree_of a.now)) }
     ensures read_back { IfOk result (λ v. ReadsAs 32 (view v) (tree_of a.now)) }
     // So its text is the compact one.
     ensures no_float { IfOk result (λ v. has_float (view v) ≡ false) }
@@ -35,7 +36,8 @@ pub fn json_of_attr(alloc: Global, a: &Attr) -> Result<Value, NoMemory>
 /// The JSON tree of an item: an object of its names, each with its value's tree.
 pub fn json_of_item(alloc: Global, i: &Item) -> Result<Value, NoMemory>
     ensures json { IfOk result (λ v. view v ≡ json_of_pairs i.now) }
-    // Reading gives the item back, where no set in it is empty and it nests no deeper than may be read.
+    // It stands for the item, and reading gives that back, where no set in it is empty and it nests no deeper than may be read.
+    ensures stands { IfOk result (λ v. StandsForItem 32 (view v) i.now) }
     ensures read_back { IfOk result (λ v. ReadsAsItem 32 (view v) i.now) }
     ensures no_float { IfOk result (λ v. has_float (view v) ≡ false) }
 {
@@ -148,7 +150,8 @@ fn json_of_numbers(alloc: Global, set: &NumberSet) -> Result<Vec<Value>, NoMemor
 }
 
 fn json_of_byte_strings(alloc: Global, set: &BytesSet) -> Result<Vec<Value>, NoMemory>
-    ensures json { IfOk result (λ vs. items_view vs.items ≡ strings (map (encode_of standard) set.now)) }
+    ensures json { IfOk result (λ vs. items_view vs.items
+        ≡ strings (map (encode_of standard) set.now)) }
     ensures read_back { IfOk result (λ _. Returns (BS_tree set.now)) }
 {
     let mut values = Vec::with_capacity(alloc, set.len())?;

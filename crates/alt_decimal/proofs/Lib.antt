@@ -7,6 +7,7 @@ pub mod Fitting
 pub mod Halves
 pub mod Layouts
 pub mod Magnitudes
+pub mod Normals
 pub mod Orders
 pub mod Padded
 pub mod Pairs
@@ -17,8 +18,8 @@ pub mod Signs
 pub mod Spelling
 pub mod SpellingOrder
 pub mod Totals
-pub mod Trimming
 pub mod Trimmed
+pub mod Trimming
 pub mod Unspelling
 pub mod Values
 pub mod Widths

@@ -17,23 +17,29 @@ use Rattle.alt_decimal.specs.Reading.{ExponentIs, exponent_digits, below_of, sig
 
 -- ---- digits
 
+-- digits and their bytes
 digit_byte : (c : ℕ) → digit_value c < 10 → is_ascii_digit c ≡ true
 digit_byte c h = let r = digit_from_value c h in grind (arith, r)
 
 digit_of_byte : (c : ℕ) → is_ascii_digit c ≡ true → digit_value c < 10
 digit_of_byte c h = grind arith
 
+-- no digit stands at the front
 abbrev NoDigit : List ℕ → Type 0
 NoDigit bs = is_ascii_digit (get_or bs 0 0) ≡ false
 
+-- so none is counted there
 no_digits : (bs : List ℕ) → NoDigit bs → digits_len bs ≡ 0
 no_digits [] h = refl
 no_digits (b ∷ bs) h = rw h refl
 
-all_digits : (ds rest : List ℕ) → AllDigits 10 ds → NoDigit rest → digits_len (ds ++ rest) ≡ length ds
+-- digits up to a byte that is none are all counted
+all_digits : (ds rest : List ℕ) → AllDigits 10 ds → NoDigit rest
+    → digits_len (ds ++ rest) ≡ length ds
 all_digits [] rest all h = no_digits rest h
 all_digits (d ∷ ds) rest all h = rw (digit_byte d all.0) (omega (arith, all_digits ds rest all.1 h))
 
+-- the front of a list, and what is behind it
 take_front : (ds rest : List ℕ) → take (length ds) (ds ++ rest) ≡ ds
 take_front [] rest = refl
 take_front (d ∷ ds) rest = ap (λ xs. d ∷ xs) (take_front ds rest)
@@ -42,12 +48,17 @@ drop_front : (ds rest : List ℕ) → drop (length ds) (ds ++ rest) ≡ rest
 drop_front [] rest = refl
 drop_front (d ∷ ds) rest = drop_front ds rest
 
-front_digits-append : (ds rest : List ℕ) → AllDigits 10 ds → NoDigit rest → front_digits (ds ++ rest) ≡ ds
-front_digits-append ds rest all h = ap (λ n. take n (ds ++ rest)) (all_digits ds rest all h) ∙ take_front ds rest
+front_digits-append : (ds rest : List ℕ) → AllDigits 10 ds → NoDigit rest
+    → front_digits (ds ++ rest) ≡ ds
+front_digits-append ds rest all h = ap (λ n. take n (ds ++ rest)) (all_digits ds rest all h)
+    ∙ take_front ds rest
 
-behind_digits-append : (ds rest : List ℕ) → AllDigits 10 ds → NoDigit rest → behind_digits (ds ++ rest) ≡ rest
-behind_digits-append ds rest all h = ap (λ n. drop n (ds ++ rest)) (all_digits ds rest all h) ∙ drop_front ds rest
+behind_digits-append : (ds rest : List ℕ) → AllDigits 10 ds → NoDigit rest
+    → behind_digits (ds ++ rest) ≡ rest
+behind_digits-append ds rest all h = ap (λ n. drop n (ds ++ rest)) (all_digits ds rest all h)
+    ∙ drop_front ds rest
 
+-- a list is its front and its rest
 parts_of : (n : ℕ) (bs : List ℕ) → bs ≡ take n bs ++ drop n bs
 parts_of zero bs = refl
 parts_of (suc n) [] = refl
@@ -61,11 +72,13 @@ AllDigits-take (suc n) (b ∷ bs) h = elim (cases_Bool (is_ascii_digit b)) [
   | inr isnt ↦ absurd (omega (arith, rw isnt at h))
 ]
 
+-- what is cut off at the front are digits
 pub AllDigits-front_digits : (bs : List ℕ) → AllDigits 10 (front_digits bs)
 AllDigits-front_digits bs = AllDigits-take (digits_len bs) bs (omega arith)
 
 -- ---- signs
 
+-- no sign stands at the front
 record NoSign (bs : List ℕ) : Type 0 where
   no_minus : get_or bs 0 0 ≢ 45
   no_plus : get_or bs 0 0 ≢ 43
@@ -76,7 +89,8 @@ sign_of-append plus rest h = refl
 sign_of-append unsigned [] h = refl
 sign_of-append unsigned (b ∷ bs) h = rw (ne_eqb b 45 h.no_minus, ne_eqb b 43 h.no_plus) refl
 
-behind_sign-append : (s : Sign) (rest : List ℕ) → NoSign rest → behind_sign (sign_text s ++ rest) ≡ rest
+behind_sign-append : (s : Sign) (rest : List ℕ) → NoSign rest
+    → behind_sign (sign_text s ++ rest) ≡ rest
 behind_sign-append minus rest h = refl
 behind_sign-append plus rest h = refl
 behind_sign-append unsigned [] h = refl
@@ -84,39 +98,50 @@ behind_sign-append unsigned (b ∷ bs) h = rw (ne_eqb b 45 h.no_minus, ne_eqb b 
 
 -- a digit is no sign
 NoSign-digit : (d : ℕ) (ds : List ℕ) → digit_value d < 10 → NoSign (d ∷ ds)
-NoSign-digit d ds h = let r = digit_from_value d h in record { no_minus = λ e. omega (arith, r, e); no_plus = λ e. omega (arith, r, e) }
+NoSign-digit d ds h = let r = digit_from_value d h in
+    record { no_minus = λ e. omega (arith, r, e); no_plus = λ e. omega (arith, r, e) }
 
 -- ---- the fraction and the exponent
 
 NoDigit-exponent : (e : Option Exponent) → NoDigit (exponent_text e)
 NoDigit-exponent None = refl
-NoDigit-exponent (Some e) = elim (cases_Bool e.upper) [ inl up ↦ rw up refl | inr low ↦ rw low refl ]
+NoDigit-exponent (Some e) = elim (cases_Bool e.upper)
+    [ inl up ↦ rw up refl | inr low ↦ rw low refl ]
 
-NoDigit-fraction : (f : Option (List ℕ)) (e : Option Exponent) → NoDigit (fraction_text f ++ exponent_text e)
+NoDigit-fraction : (f : Option (List ℕ)) (e : Option Exponent)
+    → NoDigit (fraction_text f ++ exponent_text e)
 NoDigit-fraction None e = NoDigit-exponent e
 NoDigit-fraction (Some ds) e = refl
 
 fraction_of-exponent : (e : Option Exponent) → fraction_of (exponent_text e) ≡ None
 fraction_of-exponent None = refl
-fraction_of-exponent (Some e) = elim (cases_Bool e.upper) [ inl up ↦ rw up refl | inr low ↦ rw low refl ]
+fraction_of-exponent (Some e) = elim (cases_Bool e.upper)
+    [ inl up ↦ rw up refl | inr low ↦ rw low refl ]
 
-behind_fraction-exponent : (e : Option Exponent) → behind_fraction (exponent_text e) ≡ exponent_text e
+behind_fraction-exponent : (e : Option Exponent)
+    → behind_fraction (exponent_text e) ≡ exponent_text e
 behind_fraction-exponent None = refl
-behind_fraction-exponent (Some e) = elim (cases_Bool e.upper) [ inl up ↦ rw up refl | inr low ↦ rw low refl ]
+behind_fraction-exponent (Some e) = elim (cases_Bool e.upper)
+    [ inl up ↦ rw up refl | inr low ↦ rw low refl ]
 
-fraction_of-text : (f : Option (List ℕ)) (e : Option Exponent) → AllDigits 10 (fraction_digits f) → fraction_of (fraction_text f ++ exponent_text e) ≡ f
+fraction_of-text : (f : Option (List ℕ)) (e : Option Exponent) → AllDigits 10 (fraction_digits f)
+    → fraction_of (fraction_text f ++ exponent_text e) ≡ f
 fraction_of-text None e all = fraction_of-exponent e
-fraction_of-text (Some ds) e all = ap Some (front_digits-append ds (exponent_text e) all (NoDigit-exponent e))
+fraction_of-text (Some ds) e all = ap Some (front_digits-append ds (exponent_text e) all
+    (NoDigit-exponent e))
 
-behind_fraction-text : (f : Option (List ℕ)) (e : Option Exponent) → AllDigits 10 (fraction_digits f)
+behind_fraction-text : (f : Option (List ℕ)) (e : Option Exponent)
+    → AllDigits 10 (fraction_digits f)
     → behind_fraction (fraction_text f ++ exponent_text e) ≡ exponent_text e
 behind_fraction-text None e all = behind_fraction-exponent e
-behind_fraction-text (Some ds) e all = behind_digits-append ds (exponent_text e) all (NoDigit-exponent e)
+behind_fraction-text (Some ds) e all = behind_digits-append ds (exponent_text e) all
+    (NoDigit-exponent e)
 
 exponent_from-digits : (upper : Bool) (s : Sign) (ds : List ℕ) → 0 < length ds → AllDigits 10 ds
     → exponent_from upper s ds ≡ Some (Some (record { upper = upper; sign = s; digits = ds }))
 exponent_from-digits upper s ds some all =
-    let len : digits_len ds ≡ length ds = ap digits_len (sym (append-nil ds)) ∙ all_digits ds [] all refl in
+    let len : digits_len ds ≡ length ds = ap digits_len (sym (append-nil ds))
+    ∙ all_digits ds [] all refl in
     let first : (digits_len ds == 0) ≡ false = ne_eqb _ 0 (λ z. omega (arith, len, z)) in
     let whole : nat_lt (digits_len ds) (length ds) ≡ false = le-ltb _ _ (omega (arith, len)) in
     rw (first, whole) refl
@@ -125,18 +150,25 @@ NoSign-digits : (ds rest : List ℕ) → 0 < length ds → AllDigits 10 ds → N
 NoSign-digits [] rest some all = absurd (omega arith)
 NoSign-digits (d ∷ ds) rest some all = NoSign-digit d (ds ++ rest) all.0
 
-exponent_of-behind : (e : Exponent) → IsExponent (Some e) → exponent_from e.upper (sign_of (sign_text e.sign ++ e.digits)) (behind_sign (sign_text e.sign ++ e.digits)) ≡ Some (Some e)
+exponent_of-behind : (e : Exponent) → IsExponent (Some e)
+    → exponent_from e.upper (sign_of (sign_text e.sign ++ e.digits))
+    (behind_sign (sign_text e.sign ++ e.digits)) ≡ Some (Some e)
 exponent_of-behind e h =
-    let none : NoSign e.digits = subst NoSign (append-nil e.digits) (NoSign-digits e.digits [] h.0 h.1) in
-    rw (sign_of-append e.sign e.digits none, behind_sign-append e.sign e.digits none) (exponent_from-digits e.upper e.sign e.digits h.0 h.1)
+    let none : NoSign e.digits = subst NoSign (append-nil e.digits)
+    (NoSign-digits e.digits [] h.0 h.1) in
+    rw (sign_of-append e.sign e.digits none, behind_sign-append e.sign e.digits none)
+    (exponent_from-digits e.upper e.sign e.digits h.0 h.1)
 
-exponent_of-case : (upper : Bool) (ds : List ℕ) → exponent_of ((if upper then 69 else 101) ∷ ds) ≡ exponent_from upper (sign_of ds) (behind_sign ds)
+exponent_of-case : (upper : Bool) (ds : List ℕ)
+    → exponent_of ((if upper then 69 else 101) ∷ ds)
+    ≡ exponent_from upper (sign_of ds) (behind_sign ds)
 exponent_of-case true ds = refl
 exponent_of-case false ds = refl
 
 exponent_of-text : (e : Option Exponent) → IsExponent e → exponent_of (exponent_text e) ≡ Some e
 exponent_of-text None h = refl
-exponent_of-text (Some e) h = exponent_of-case e.upper (sign_text e.sign ++ e.digits) ∙ exponent_of-behind e h
+exponent_of-text (Some e) h = exponent_of-case e.upper (sign_text e.sign ++ e.digits)
+    ∙ exponent_of-behind e h
 
 -- ---- each number text is cut into its parts
 
@@ -144,55 +176,90 @@ module _ (bs : List ℕ) where
   reading_some : (s : Sign) (e : Option Exponent)
       → 0 < length (front_digits bs) + length (fraction_digits (fraction_of (behind_digits bs)))
       → exponent_of (behind_fraction (behind_digits bs)) ≡ Some e
-      → reading_behind s bs ≡ Some (record { sign = s; whole = front_digits bs; fraction = fraction_of (behind_digits bs); exponent = e })
+      → reading_behind s bs ≡ Some (record {
+        sign = s;
+        whole = front_digits bs;
+        fraction =
+            fraction_of (behind_digits bs);
+        exponent = e;
+      })
   reading_some s e some is =
-      let digit : (length (front_digits bs) + length (fraction_digits (fraction_of (behind_digits bs))) == 0) ≡ false = ne_eqb _ 0 (λ z. omega (arith, some, z)) in
+      let digit : (length (front_digits bs) + length
+      (fraction_digits (fraction_of (behind_digits bs))) == 0) ≡ false =
+      ne_eqb _ 0 (λ z. omega (arith, some, z)) in
       rw (digit, is) refl
 
-NoSign-point : (w : List ℕ) (f : Option (List ℕ)) (rest : List ℕ) → length w ≡ 0 → 0 < length w + length (fraction_digits f) → NoSign (w ++ (fraction_text f ++ rest))
+NoSign-point : (w : List ℕ) (f : Option (List ℕ)) (rest : List ℕ) → length w ≡ 0
+    → 0 < length w + length (fraction_digits f) → NoSign (w ++ (fraction_text f ++ rest))
 NoSign-point [] None rest z some = absurd (omega arith)
-NoSign-point [] (Some ds) rest z some = record { no_minus = λ e. omega (arith, e); no_plus = λ e. omega (arith, e) }
+NoSign-point [] (Some ds) rest z some = record {
+  no_minus = λ e. omega (arith, e);
+  no_plus =
+      λ e. omega (arith, e);
+}
 NoSign-point (d ∷ w) f rest z some = absurd (omega arith)
 
-NoSign-text : (t : NumberText) → IsNumberText t → NoSign (t.whole ++ (fraction_text t.fraction ++ exponent_text t.exponent))
+NoSign-text : (t : NumberText) → IsNumberText t
+    → NoSign (t.whole ++ (fraction_text t.fraction ++ exponent_text t.exponent))
 NoSign-text t h = elim (cases_lt 0 (length t.whole)) [
   | inl some ↦ NoSign-digits t.whole _ some h.whole
   | inr none ↦ NoSign-point t.whole t.fraction (exponent_text t.exponent) (omega arith) h.digit
 ]
 
+-- a number text is cut into its parts
 pub reading-text_of : (t : NumberText) → IsNumberText t → reading (text_of t) ≡ Some t
 unfolding reading
 reading-text_of t h =
     let tail = fraction_text t.fraction ++ exponent_text t.exponent in
     let none = NoDigit-fraction t.fraction t.exponent in
-    let front : front_digits (t.whole ++ tail) ≡ t.whole = front_digits-append t.whole tail h.whole none in
-    let behind : behind_digits (t.whole ++ tail) ≡ tail = behind_digits-append t.whole tail h.whole none in
-    let fraction : fraction_of (behind_digits (t.whole ++ tail)) ≡ t.fraction = ap fraction_of behind ∙ fraction_of-text t.fraction t.exponent h.fraction in
-    let exponent : exponent_of (behind_fraction (behind_digits (t.whole ++ tail))) ≡ Some t.exponent =
-    ap (λ bs. exponent_of (behind_fraction bs)) behind ∙ ap exponent_of (behind_fraction-text t.fraction t.exponent h.fraction) ∙ exponent_of-text t.exponent h.exponent in
-    rw (sign_of-append t.sign (t.whole ++ tail) (NoSign-text t h), behind_sign-append t.sign (t.whole ++ tail) (NoSign-text t h))
-    (reading_some (t.whole ++ tail) t.sign t.exponent (rw (front, fraction) h.digit) exponent ∙ rw (front, fraction) refl)
+    let front : front_digits (t.whole ++ tail) ≡ t.whole =
+    front_digits-append t.whole tail h.whole none in
+    let behind : behind_digits (t.whole ++ tail) ≡ tail =
+    behind_digits-append t.whole tail h.whole none in
+    let fraction : fraction_of (behind_digits (t.whole ++ tail)) ≡ t.fraction =
+    ap fraction_of behind ∙ fraction_of-text t.fraction t.exponent h.fraction in
+    let exponent : exponent_of (behind_fraction (behind_digits (t.whole ++ tail)))
+    ≡ Some t.exponent =
+    ap (λ bs. exponent_of (behind_fraction bs)) behind
+    ∙ ap exponent_of (behind_fraction-text t.fraction t.exponent h.fraction)
+    ∙ exponent_of-text t.exponent h.exponent in
+    rw (
+      sign_of-append t.sign (t.whole ++ tail) (NoSign-text t h),
+      behind_sign-append t.sign (t.whole ++ tail) (NoSign-text t h),
+    )
+    (reading_some (t.whole ++ tail) t.sign t.exponent (rw (front, fraction) h.digit) exponent
+    ∙ rw (front, fraction) refl)
 
 -- ---- the parts make up the text
 
+-- what was cut is the text again, part by part
 sign_parts : (bs : List ℕ) → bs ≡ sign_text (sign_of bs) ++ behind_sign bs
 sign_parts [] = refl
 sign_parts (b ∷ bs) = elim (cases_Bool (b == 45)) [
   | inl e ↦ rw e (ap (λ c. c ∷ bs) (eqb-true b 45 e))
-  | inr e ↦ elim (cases_Bool (b == 43)) [ inl p ↦ rw (e, p) (ap (λ c. c ∷ bs) (eqb-true b 43 p)) | inr p ↦ rw (e, p) refl ]
+  | inr e ↦ elim (cases_Bool (b == 43)) [
+    | inl p ↦ rw (e, p)
+        (ap (λ c. c ∷ bs) (eqb-true b 43 p))
+    | inr p ↦ rw (e, p) refl
+  ]
 ]
 
+-- the fraction and what is behind it
 fraction_parts : (bs : List ℕ) → bs ≡ fraction_text (fraction_of bs) ++ behind_fraction bs
 fraction_parts [] = refl
 fraction_parts (b ∷ bs) = elim (cases_Bool (b == 46)) [
-  | inl e ↦ rw e (ap (λ c. c ∷ bs) (eqb-true b 46 e) ∙ ap (λ xs. 46 ∷ xs) (parts_of (digits_len bs) bs))
+  | inl e ↦ rw e (ap (λ c. c ∷ bs) (eqb-true b 46 e)
+      ∙ ap (λ xs. 46 ∷ xs) (parts_of (digits_len bs) bs))
   | inr e ↦ rw e refl
 ]
 
+-- a fraction has digits alone
 pub AllDigits-fraction_of : (bs : List ℕ) → AllDigits 10 (fraction_digits (fraction_of bs))
 AllDigits-fraction_of [] = tt
-AllDigits-fraction_of (b ∷ bs) = elim (cases_Bool (b == 46)) [ inl e ↦ rw e (AllDigits-front_digits bs) | inr e ↦ rw e tt ]
+AllDigits-fraction_of (b ∷ bs) = elim (cases_Bool (b == 46))
+    [ inl e ↦ rw e (AllDigits-front_digits bs) | inr e ↦ rw e tt ]
 
+-- all of a list
 take_all : (bs : List ℕ) → take (length bs) bs ≡ bs
 take_all [] = refl
 take_all (b ∷ bs) = ap (λ xs. b ∷ xs) (take_all bs)
@@ -201,28 +268,39 @@ take_all (b ∷ bs) = ap (λ xs. b ∷ xs) (take_all bs)
 whole_digits : (ds : List ℕ) → length ds ≤ digits_len ds → AllDigits 10 ds
 whole_digits ds h = subst (AllDigits 10) (take_all ds) (AllDigits-take (length ds) ds h)
 
+-- an option that is there
 some_is : {A : Type 0} (x y : A) → Some x ≡ Some y → x ≡ y
 some_is x y e = cc
 
 none_some : {A : Type 0} (y : A) → None ≡ Some y → ⊥
 none_some y e = cc
 
+-- an exponent of these digits
 record IsExponentOf (upper : Bool) (s : Sign) (ds : List ℕ) (e : Option Exponent) : Type 0 where
   is : Some (record { upper = upper; sign = s; digits = ds }) ≡ e
   some : 0 < length ds
   all : AllDigits 10 ds
 
-exponent_from_parts : (upper : Bool) (s : Sign) (ds : List ℕ) (e : Option Exponent) → exponent_from upper s ds ≡ Some e → IsExponentOf upper s ds e
-exponent_from_parts upper s ds e h = elim (cases_Bool (digits_len ds == 0 || nat_lt (digits_len ds) (length ds))) [
-  | inl bad ↦ absurd (none_some e (rw bad at h))
-  | inr good ↦
-      let p = or_parts (digits_len ds == 0) (nat_lt (digits_len ds) (length ds)) good in
-      let some : digits_len ds ≡ 0 → ⊥ = eqb-false (digits_len ds) 0 p.0 in
-      let long : length ds ≤ digits_len ds = ltb-false (digits_len ds) (length ds) p.1 in
-      let most : digits_len ds ≤ length ds = prefix_len-le-length is_ascii_digit ds in
-      record { is = some_is _ e (rw good at h); some = omega (arith, some, most); all = whole_digits ds long }
-]
+-- it was cut off with them
+exponent_from_parts : (upper : Bool) (s : Sign) (ds : List ℕ) (e : Option Exponent)
+    → exponent_from upper s ds ≡ Some e → IsExponentOf upper s ds e
+exponent_from_parts upper s ds e h = elim (cases_Bool
+    (digits_len ds == 0 || nat_lt (digits_len ds) (length ds))) [
+      | inl bad ↦ absurd (none_some e (rw bad at h))
+      | inr good ↦
+          let p = or_parts (digits_len ds == 0) (nat_lt (digits_len ds) (length ds)) good in
+          let some : digits_len ds ≡ 0 → ⊥ = eqb-false (digits_len ds) 0 p.0 in
+          let long : length ds ≤ digits_len ds = ltb-false (digits_len ds) (length ds) p.1 in
+          let most : digits_len ds ≤ length ds = prefix_len-le-length is_ascii_digit ds in
+          record {
+            is = some_is _ e (rw good at h);
+            some = omega (arith, some, most);
+            all =
+                whole_digits ds long;
+          }
+    ]
 
+-- the letter of an exponent
 letter : (b : ℕ) → (b == 101 || b == 69) ≡ true → b ≡ (if b == 69 then 69 else 101)
 letter b h = elim (cases_Bool (b == 69)) [
   | inl e ↦ rw e (eqb-true b 69 e)
@@ -234,37 +312,48 @@ record ExponentParts (bs : List ℕ) (e : Option Exponent) : Type 0 where
   text : bs ≡ exponent_text e
   formed : IsExponent e
 
-exponent_some_parts : (b : ℕ) (bs : List ℕ) (e : Option Exponent) → b ≡ (if b == 69 then 69 else 101)
+-- an exponent is its letter, sign and digits
+exponent_some_parts : (b : ℕ) (bs : List ℕ) (e : Option Exponent)
+    → b ≡ (if b == 69 then 69 else 101)
     → IsExponentOf (b == 69) (sign_of bs) (behind_sign bs) e → ExponentParts (b ∷ bs) e
 exponent_some_parts b bs e is p = subst (ExponentParts (b ∷ bs)) p.is (record {
   text = ap (λ c. c ∷ bs) is ∙ ap (λ xs. (if b == 69 then 69 else 101) ∷ xs) (sign_parts bs);
   formed = (p.some, p.all);
 })
 
+-- or there is none
 exponent_parts : (bs : List ℕ) (e : Option Exponent) → exponent_of bs ≡ Some e → ExponentParts bs e
-exponent_parts [] e h = subst (ExponentParts []) (some_is None e h) (record { text = refl; formed = tt })
+exponent_parts [] e h = subst (ExponentParts []) (some_is None e h)
+    (record { text = refl; formed = tt })
 exponent_parts (b ∷ bs) e h = elim (cases_Bool (b == 101 || b == 69)) [
-  | inl is ↦ exponent_some_parts b bs e (letter b is) (exponent_from_parts (b == 69) (sign_of bs) (behind_sign bs) e (rw is at h))
+  | inl is ↦ exponent_some_parts b bs e (letter b is)
+      (exponent_from_parts (b == 69) (sign_of bs) (behind_sign bs) e (rw is at h))
   | inr isnt ↦ absurd (none_some e (rw isnt at h))
 ]
 
-pub AllDigits-exponent : (bs : List ℕ) (e : Option Exponent) → exponent_of bs ≡ Some e → AllDigits 10 (exponent_digits e)
+-- an exponent has digits alone
+pub AllDigits-exponent : (bs : List ℕ) (e : Option Exponent) → exponent_of bs ≡ Some e
+    → AllDigits 10 (exponent_digits e)
 AllDigits-exponent bs None h = tt
 AllDigits-exponent bs (Some e) h = (exponent_parts bs (Some e) h).formed.1
 
 -- ---- what a text reads as
 
+-- a text that can't be cut is no number
 pub ReadsAs-none : (text : List ℕ) → reading text ≡ None → ReadsAs text (Err NotANumber)
 ReadsAs-none text none = record {
   number = λ t h e. absurd (none_some t (sym none ∙ ap reading e ∙ reading-text_of t h));
   no_number = inl refl;
 }
 
-pub ReadsAs-some : (text : List ℕ) (t : NumberText) (answer : Result ℤ NumberFault) → IsNumberText t → text ≡ text_of t → answer ≡ fitted (denoted t)
+-- one that can reads as its parts denote
+pub ReadsAs-some : (text : List ℕ) (t : NumberText) (answer : Result ℤ NumberFault) → IsNumberText t
+    → text ≡ text_of t → answer ≡ fitted (denoted t)
     → ReadsAs text answer
 ReadsAs-some text t answer h is e = record {
   number = λ t' h' is'.
-      let same : t ≡ t' = some_is t t' (sym (reading-text_of t h) ∙ ap reading (sym is ∙ is') ∙ reading-text_of t' h') in
+      let same : t ≡ t' = some_is t t' (sym (reading-text_of t h) ∙ ap reading (sym is ∙ is')
+      ∙ reading-text_of t' h') in
       e ∙ ap (λ u. fitted (denoted u)) same;
   no_number = inr (t, h, is);
 }
@@ -279,31 +368,44 @@ module _ (text : List ℕ) where
   tail = behind_digits rest
 
   abbrev pub parts_with : Option Exponent → NumberText
-  parts_with e = record { sign = sign_of text; whole = front_digits rest; fraction = fraction_of tail; exponent = e }
+  parts_with e = record {
+    sign = sign_of text;
+    whole = front_digits rest;
+    fraction =
+        fraction_of tail;
+    exponent = e;
+  }
 
-  text_parts : (e : Option Exponent) → ExponentParts (behind_fraction tail) e → text ≡ text_of (parts_with e)
+  text_parts : (e : Option Exponent) → ExponentParts (behind_fraction tail) e
+      → text ≡ text_of (parts_with e)
   text_parts e p =
       sign_parts text ∙ ap (λ xs. sign_text (sign_of text) ++ xs) (parts_of (digits_len rest) rest
-      ∙ ap (λ xs. front_digits rest ++ xs) (fraction_parts tail ∙ ap (λ xs. fraction_text (fraction_of tail) ++ xs) p.text))
+      ∙ ap (λ xs. front_digits rest ++ xs) (fraction_parts tail
+      ∙ ap (λ xs. fraction_text (fraction_of tail) ++ xs) p.text))
 
   -- no digit before the exponent
-  pub ReadsAs-empty : length (front_digits rest) ≡ 0 → length (fraction_digits (fraction_of tail)) ≡ 0 → ReadsAs text (Err NotANumber)
+  pub ReadsAs-empty : length (front_digits rest) ≡ 0
+      → length (fraction_digits (fraction_of tail)) ≡ 0 → ReadsAs text (Err NotANumber)
   unfolding reading
   ReadsAs-empty no_whole no_fraction =
-      let none : (length (front_digits rest) + length (fraction_digits (fraction_of tail)) == 0) ≡ true = eq-eqb _ 0 (omega (arith, no_whole, no_fraction)) in
+      let none : (length (front_digits rest) + length (fraction_digits (fraction_of tail)) == 0)
+      ≡ true = eq-eqb _ 0 (omega (arith, no_whole, no_fraction)) in
       ReadsAs-none text (rw none refl)
 
   -- something else than an exponent behind the digits
   pub ReadsAs-broken : exponent_of (behind_fraction tail) ≡ None → ReadsAs text (Err NotANumber)
   unfolding reading
   ReadsAs-broken broken =
-      ReadsAs-none text (elim (cases_Bool (length (front_digits rest) + length (fraction_digits (fraction_of tail)) == 0)) [
+      ReadsAs-none text (elim (cases_Bool (length (front_digits rest) + length
+      (fraction_digits (fraction_of tail)) == 0)) [
         | inl e ↦ rw e refl
         | inr e ↦ rw (e, broken) refl
       ])
 
-  pub ReadsAs-parts : (e : Option Exponent) (answer : Result ℤ NumberFault) → exponent_of (behind_fraction tail) ≡ Some e
-      → 0 < length (front_digits rest) + length (fraction_digits (fraction_of tail)) → answer ≡ fitted (denoted (parts_with e)) → ReadsAs text answer
+  pub ReadsAs-parts : (e : Option Exponent) (answer : Result ℤ NumberFault)
+      → exponent_of (behind_fraction tail) ≡ Some e
+      → 0 < length (front_digits rest) + length (fraction_digits (fraction_of tail))
+      → answer ≡ fitted (denoted (parts_with e)) → ReadsAs text answer
   ReadsAs-parts e answer is some gives =
       let p = exponent_parts (behind_fraction tail) e is in
       let formed : IsNumberText (parts_with e) = record {
@@ -316,7 +418,8 @@ module _ (text : List ℕ) where
 
 -- ---- the same, by what the calls of the reader gave
 
-module _ (text r1 whole r2 fraction r3 : List ℕ) (e1 : r1 ≡ behind_sign text) (e2 : whole ≡ front_digits r1) (e3 : r2 ≡ behind_digits r1)
+module _ (text r1 whole r2 fraction r3 : List ℕ) (e1 : r1 ≡ behind_sign text)
+    (e2 : whole ≡ front_digits r1) (e3 : r2 ≡ behind_digits r1)
     (e4 : fraction ≡ fraction_digits (fraction_of r2)) (e5 : r3 ≡ behind_fraction r2) where
   whole_is : whole ≡ front_digits (rest text)
   whole_is = e2 ∙ ap front_digits e1
@@ -331,7 +434,8 @@ module _ (text r1 whole r2 fraction r3 : List ℕ) (e1 : r1 ≡ behind_sign text
   end_is = e5 ∙ ap behind_fraction tail_is
 
   pub found_empty : length whole ≡ 0 → length fraction ≡ 0 → ReadsAs text (Err NotANumber)
-  found_empty no_whole no_fraction = ReadsAs-empty text (sym (ap length whole_is) ∙ no_whole) (sym (ap length fraction_is) ∙ no_fraction)
+  found_empty no_whole no_fraction = ReadsAs-empty text (sym (ap length whole_is) ∙ no_whole)
+      (sym (ap length fraction_is) ∙ no_fraction)
 
   pub found_broken : exponent_of r3 ≡ None → ReadsAs text (Err NotANumber)
   found_broken broken = ReadsAs-broken text (ap exponent_of (sym end_is) ∙ broken)
@@ -348,7 +452,8 @@ module _ (text r1 whole r2 fraction r3 : List ℕ) (e1 : r1 ≡ behind_sign text
   same_number None = rw (← whole_is, ← fraction_is) refl
   same_number (Some e) = rw (← whole_is, ← fraction_is) refl
 
-  pub found : (negative below : Bool) (digits : List ℕ) (answer : Result ℤ NumberFault) → negative ≡ is_minus (sign_of text)
+  pub found : (negative below : Bool) (digits : List ℕ) (answer : Result ℤ NumberFault)
+      → negative ≡ is_minus (sign_of text)
       → ExponentIs (exponent_of r3) below digits → 0 < length whole + length fraction
       → answer ≡ fitted (record {
         negative = negative;
@@ -358,5 +463,6 @@ module _ (text r1 whole r2 fraction r3 : List ℕ) (e1 : r1 ≡ behind_sign text
       })
       → ReadsAs text answer
   found negative below digits answer sign (e, is, same_below, same_digits) some gives =
-      ReadsAs-parts text e answer (ap exponent_of (sym end_is) ∙ is) (rw (← whole_is, ← fraction_is) some)
+      ReadsAs-parts text e answer (ap exponent_of (sym end_is) ∙ is)
+      (rw (← whole_is, ← fraction_is) some)
       (gives ∙ rw (sign, same_below, same_digits) refl ∙ ap fitted (same_number e))

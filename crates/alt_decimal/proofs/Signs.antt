@@ -6,26 +6,31 @@ use Rattle.std.proofs.Math.Nat.{mul-le-mul_right}
 use Rattle.std.proofs.Math.Bool.{beq}
 use Rattle.alt_decimal.specs.Number.{with_sign}
 
+-- zero and a number
 pub zero_plus : (z : ℤ) → pos 0 +ℤ z ≡ z
 zero_plus z = omega (arith, ints)
 
+-- a number and zero
 pub plus_zero : (z : ℤ) → z +ℤ pos 0 ≡ z
 plus_zero z = omega (arith, ints)
 
 -- of one sign
-pub sum-same : (negative : Bool) (x y : ℕ) → with_sign negative x +ℤ with_sign negative y ≡ with_sign negative (x + y)
+pub sum-same : (negative : Bool) (x y : ℕ) → with_sign negative x +ℤ with_sign negative y
+    ≡ with_sign negative (x + y)
 sum-same false x y = refl
 sum-same true x y = omega (arith, ints)
 
 -- of two signs, the greater first
-pub sum-unlike : (a b : Bool) (x y : ℕ) → a ≢ b → y ≤ x → with_sign a x +ℤ with_sign b y ≡ with_sign a (x - y)
+pub sum-unlike : (a b : Bool) (x y : ℕ) → a ≢ b → y ≤ x
+    → with_sign a x +ℤ with_sign b y ≡ with_sign a (x - y)
 sum-unlike false false x y h le = absurd (h refl)
 sum-unlike true true x y h le = absurd (h refl)
 sum-unlike false true x y h le = omega (arith, ints)
 sum-unlike true false x y h le = omega (arith, ints)
 
 -- and last
-pub sum-unlike_second : (a b : Bool) (x y : ℕ) → a ≢ b → x ≤ y → with_sign a x +ℤ with_sign b y ≡ with_sign b (y - x)
+pub sum-unlike_second : (a b : Bool) (x y : ℕ) → a ≢ b → x ≤ y
+    → with_sign a x +ℤ with_sign b y ≡ with_sign b (y - x)
 sum-unlike_second false false x y h le = absurd (h refl)
 sum-unlike_second true true x y h le = absurd (h refl)
 sum-unlike_second false true x y h le = omega (arith, ints)
@@ -51,14 +56,17 @@ sub-mul x y p le =
     let e : x * p ≡ (y + (x - y)) * p = ap (λ k. k * p) d in
     omega (arith, e)
 
+-- numbers of unlike signs, at one place
 pub scaled_unlike : (a b : Bool) (x y p : ℕ) → beq a b ≡ false → y ≤ x
     → with_sign a (x * p) +ℤ with_sign b (y * p) ≡ with_sign a ((x - y) * p)
 scaled_unlike a b x y p h le =
     let e : x * p - y * p ≡ (x - y) * p = sub-mul x y p le in
     sum-unlike a b (x * p) (y * p) (beq-unlike a b h) (mul-le-mul_right p le) ∙ ap (with_sign a) e
 
+-- the second of which is the greater
 pub scaled_unlike_second : (a b : Bool) (x y p : ℕ) → beq a b ≡ false → x ≤ y
     → with_sign a (x * p) +ℤ with_sign b (y * p) ≡ with_sign b ((y - x) * p)
 scaled_unlike_second a b x y p h le =
     let e : y * p - x * p ≡ (y - x) * p = sub-mul y x p le in
-    sum-unlike_second a b (x * p) (y * p) (beq-unlike a b h) (mul-le-mul_right p le) ∙ ap (with_sign b) e
+    sum-unlike_second a b (x * p) (y * p) (beq-unlike a b h) (mul-le-mul_right p le)
+    ∙ ap (with_sign b) e

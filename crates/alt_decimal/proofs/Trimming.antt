@@ -7,12 +7,15 @@ use Rattle.alt_decimal.specs.Coefficient.{Trims}
 abbrev pub zeros : ℕ → List ℕ
 zeros k = replicate k 48
 
+-- the first digit isn't 0
 abbrev pub First : List ℕ → Type 0
 First ds = 0 < length ds → get_or ds 0 0 ≢ 48
 
+-- nor is the last
 abbrev pub Last : List ℕ → Type 0
 Last ds = 0 < length ds → get_or ds (length ds - 1) 0 ≢ 48
 
+-- a list without members
 empty : (ds : List ℕ) → length ds ≡ 0 → ds ≡ []
 empty [] h = refl
 empty (d ∷ ds) h = absurd (omega arith)
@@ -25,9 +28,12 @@ First-append : (w ys : List ℕ) → 0 < length w → First w → First (w ++ ys
 First-append [] ys some h = absurd (omega arith)
 First-append (d ∷ w) ys some h = λ _. h some
 
-at_end : (xs ys : List ℕ) → 0 < length ys → get_or (xs ++ ys) (length (xs ++ ys) - 1) 0 ≡ get_or ys (length ys - 1) 0
+-- the last of two lists is that of the second
+at_end : (xs ys : List ℕ) → 0 < length ys → get_or (xs ++ ys) (length (xs ++ ys) - 1) 0
+    ≡ get_or ys (length ys - 1) 0
 at_end xs ys some =
-    let e : length (xs ++ ys) - 1 ≡ length xs + (length ys - 1) = omega (arith, length-append xs ys) in
+    let e : length (xs ++ ys) - 1 ≡ length xs + (length ys - 1) =
+    omega (arith, length-append xs ys) in
     rw e (get_or-append-add xs ys (length ys - 1) 0)
 
 Last-append : (xs ys : List ℕ) → 0 < length ys → Last ys → Last (xs ++ ys)
@@ -37,12 +43,14 @@ Last-back : (xs ys : List ℕ) → Last (xs ++ ys) → Last ys
 Last-back xs ys h = λ some. rw (← at_end xs ys some) (h (omega (arith, length-append xs ys)))
 
 -- the fraction has zeros alone
-pub trims_whole : (whole fraction w v f : List ℕ) (j k cut : ℕ) → whole ≡ zeros j ++ w → w ≡ v ++ zeros k → fraction ≡ f ++ zeros cut
+pub trims_whole : (whole fraction w v f : List ℕ) (j k cut : ℕ) → whole ≡ zeros j ++ w
+    → w ≡ v ++ zeros k → fraction ≡ f ++ zeros cut
     → length f ≡ 0 → First w → Last v → cut + k < 2 ^ 65 → Trims whole fraction v f (cut + k)
 trims_whole whole fraction w v f j k cut e_whole e_w e_fraction none first last room =
     let f_is : f ≡ [] = empty f none in
     let v_is : v ++ f ≡ v = rw f_is (append-nil v) in
-    let behind : zeros k ++ zeros cut ≡ zeros (cut + k) = replicate-append-replicate k cut 48 ∙ ap zeros (omega arith) in
+    let behind : zeros k ++ zeros cut ≡ zeros (cut + k) =
+    replicate-append-replicate k cut 48 ∙ ap zeros (omega arith) in
     let all : whole ++ fraction ≡ zeros j ++ (v ++ f) ++ zeros (cut + k) =
     rw (e_whole, e_w, e_fraction, f_is, ← behind) (simp (append_assoc, append-nil)) in
     record {
@@ -53,7 +61,8 @@ trims_whole whole fraction w v f j k cut e_whole e_w e_fraction none first last 
     }
 
 -- the whole digits are zeros alone
-pub trims_fraction : (whole fraction w f g : List ℕ) (j i cut : ℕ) → whole ≡ zeros j ++ w → fraction ≡ f ++ zeros cut → f ≡ zeros i ++ g
+pub trims_fraction : (whole fraction w f g : List ℕ) (j i cut : ℕ) → whole ≡ zeros j ++ w
+    → fraction ≡ f ++ zeros cut → f ≡ zeros i ++ g
     → length w ≡ 0 → First g → Last f → cut < 2 ^ 65 → Trims whole fraction w g cut
 trims_fraction whole fraction w f g j i cut e_whole e_fraction e_f none first last room =
     let w_is : w ≡ [] = empty w none in
@@ -69,7 +78,8 @@ trims_fraction whole fraction w f g j i cut e_whole e_fraction e_f none first la
     }
 
 -- both have other digits
-pub trims_both : (whole fraction w f : List ℕ) (j cut : ℕ) → whole ≡ zeros j ++ w → fraction ≡ f ++ zeros cut
+pub trims_both : (whole fraction w f : List ℕ) (j cut : ℕ) → whole ≡ zeros j ++ w
+    → fraction ≡ f ++ zeros cut
     → 0 < length w → 0 < length f → First w → Last f → cut < 2 ^ 65 → Trims whole fraction w f cut
 trims_both whole fraction w f j cut e_whole e_fraction some_w some_f first last room = record {
   digits = (j, rw (e_whole, e_fraction) (simp append_assoc));

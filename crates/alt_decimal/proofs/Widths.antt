@@ -8,6 +8,7 @@ use Rattle.std.proofs.lemmas.Int.Digits.{length-digits_of-le, number_lt, number_
 use Rattle.alt_decimal.specs.Digits.{width}
 use Rattle.alt_decimal.specs.Normal.{ten_pow_pos}
 
+-- powers of ten rise
 pub ten_pow-le : (i j : ℕ) → i ≤ j → 10 ^ i ≤ 10 ^ j
 ten_pow-le i j h = pow-le-pow_right {n = 10} (omega arith) {i = i} {j = j} h
 
@@ -23,6 +24,7 @@ pub width-le : (k n : ℕ) → n < 10 ^ k → width n ≤ k
 unfolding width
 width-le k n h = length-digits_of-le 10 k n (omega arith) h
 
+-- a number has no more digits than it has
 pub lt-width : (n : ℕ) → n < 10 ^ width n
 unfolding width
 lt-width n = let two : 2 ≤ 10 = omega arith in
@@ -33,16 +35,24 @@ lt-width n = let two : 2 ≤ 10 = omega arith in
 pub width-gt : (k n : ℕ) → 10 ^ k ≤ n → k < width n
 width-gt k n h = elim (cases_lt k (width n)) [
   | inl lt ↦ lt
-  | inr le ↦ let p : 10 ^ width n ≤ 10 ^ k = pow-le-pow_right (omega arith) le in absurd (omega (arith, lt-width n))
+  | inr le ↦ let p : 10 ^ width n ≤ 10 ^ k = pow-le-pow_right (omega arith) le in
+      absurd (omega (arith, lt-width n))
 ]
 
+-- how many digits, by two powers of ten
 pub width_is : (k n : ℕ) → 10 ^ k ≤ n → n < 10 * 10 ^ k → width n ≡ k + 1
-width_is k n low high = omega (arith, width-gt k n low, width-le (suc k) n (rw pow-suc (omega arith)))
+width_is k n low high = omega (
+  arith,
+  width-gt k n low,
+  width-le (suc k) n (rw pow-suc (omega arith)),
+)
 
+-- zero has none
 pub width-zero : width 0 ≡ 0
 unfolding width
 width-zero = refl
 
+-- a number above zero has one
 pub width-pos : (n : ℕ) → 0 < n → 0 < width n
 width-pos n h = width-gt 0 n (omega arith)
 
@@ -53,6 +63,7 @@ width-low n k e = elim (cases_lt n (10 ^ k)) [
   | inr le ↦ le
 ]
 
+-- a number above zero is one more than another
 pub case_pos : (n : ℕ) → 0 < n → (w : ℕ) × (n ≡ suc w)
 case_pos zero h = absurd (omega arith)
 case_pos (suc w) h = (w, refl)
@@ -74,7 +85,8 @@ width-mul a k h = let (w, e) = case_pos (width a) (width-pos a h) in width-mul_f
 -- a number with zeros behind it, by its length
 pub mul-lt : (n k m : ℕ) → width n + k ≤ m → n * 10 ^ k < 10 ^ m
 mul-lt n k m h =
-    let below : n * 10 ^ k < 10 ^ width n * 10 ^ k = mul-lt-mul_of_pos_right (lt-width n) (ten_pow_pos k) in
+    let below : n * 10 ^ k < 10 ^ width n * 10 ^ k =
+    mul-lt-mul_of_pos_right (lt-width n) (ten_pow_pos k) in
     let longest : 10 ^ (width n + k) ≤ 10 ^ m = pow-le-pow_right (omega arith) h in
     omega (arith, pow-add 10 (width n) k)
 
@@ -88,6 +100,7 @@ zeros-lt c k m h below = elim (cases_lt k m) [
       absurd (omega (arith, p, q, below))
 ]
 
+-- a number with zeros behind it, from below
 pub mul-ge : (n k m : ℕ) → 0 < n → m < width n + k → 10 ^ m ≤ n * 10 ^ k
 mul-ge n k m n_pos h =
     let (w, e) = case_pos (width n) (width-pos n n_pos) in
@@ -97,15 +110,22 @@ mul-ge n k m n_pos h =
 
 -- zeros behind zeros
 pub mul-zeros : (n c i j : ℕ) → n ≡ c * 10 ^ i → n * 10 ^ j ≡ c * 10 ^ (i + j)
-mul-zeros n c i j e = ap (λ m. m * 10 ^ j) e ∙ mul_assoc c (10 ^ i) (10 ^ j) ∙ ap (λ p. c * p) (sym (pow-add 10 i j))
+mul-zeros n c i j e = ap (λ m. m * 10 ^ j) e ∙ mul_assoc c (10 ^ i) (10 ^ j)
+    ∙ ap (λ p. c * p) (sym (pow-add 10 i j))
 
 -- where the first digit of a number with zeros behind it stands, by its size
 pub mul-width_gt : (c k m : ℕ) → 10 ^ m ≤ c * 10 ^ k → m < width c + k
 mul-width_gt c k m h = elim (cases_lt m (width c + k)) [
   | inl lt ↦ lt
-  | inr le ↦ absurd (omega (arith, mul-lt c k (width c + k) (omega arith), ten_pow-le (width c + k) m le, h))
+  | inr le ↦ absurd (omega (
+    arith,
+    mul-lt c k (width c + k) (omega arith),
+    ten_pow-le (width c + k) m le,
+    h,
+  ))
 ]
 
+-- and from above
 pub mul-width_le : (c k m : ℕ) → 0 < c → c * 10 ^ k < 10 ^ m → width c + k ≤ m
 mul-width_le c k m above h = elim (cases_lt m (width c + k)) [
   | inl lt ↦ absurd (omega (arith, mul-ge c k m above lt, h))

@@ -10,7 +10,8 @@ pub record IsCoefficient (n c zeros : ℕ) : Type 0 where
 
 -- The digits w and f are those of whole and fraction from the first to the last that is not 0.
 pub record Trims (whole fraction w f : List ℕ) (behind : ℕ) : Type 0 where
-  pub digits : (before : ℕ) × (whole ++ fraction ≡ replicate before 48 ++ (w ++ f) ++ replicate behind 48)
+  pub digits : (before : ℕ) × (whole ++ fraction
+      ≡ replicate before 48 ++ (w ++ f) ++ replicate behind 48)
   pub first : 0 < length (w ++ f) → slice_index (w ++ f) 0 ≢ 48
   pub last : 0 < length (w ++ f) → slice_index (w ++ f) (length (w ++ f) - 1) ≢ 48
   pub room : behind < 2 ^ 65

@@ -6,5 +6,6 @@ unfoldable pub magnitude_text : List ℕ → ℕ → List ℕ
 magnitude_text digits zeros =
     if nat_le 167 zeros then digits ++ replicate (zeros - 167) 48
     else if nat_lt 167 (length digits + zeros)
-    then take (length digits + zeros - 167) digits ++ (46 ∷ drop (length digits + zeros - 167) digits)
+    then take (length digits + zeros - 167) digits
+    ++ (46 ∷ drop (length digits + zeros - 167) digits)
     else 48 ∷ 46 ∷ (replicate (167 - (length digits + zeros)) 48 ++ digits)

@@ -30,6 +30,10 @@ fitted n =
     else if nat_lt (width n.c + n.up + 129) n.down then Err TooSmall
     else Ok (with_sign n.negative (n.c * 10 ^ (n.up + 167) / 10 ^ n.down))
 
+-- the whole number n, in units
+abbrev pub units_in : ℕ → ℤ
+units_in n = pos (n * 10 ^ 167)
+
 -- a whole number of units
 abbrev pub of_units : ℤ → Number
 of_units z = record { negative = is_negative z; c = nat_abs z; up = 0; down = 167 }

@@ -27,6 +27,7 @@ pub record NumberText : Type 0 where
   pub fraction : Option (List ℕ)
   pub exponent : Option Exponent
 
+-- the sign as it is written
 abbrev pub sign_text : Sign → List ℕ
 sign_text minus = 45 ∷ []
 sign_text plus = 43 ∷ []
@@ -37,6 +38,7 @@ abbrev pub fraction_text : Option (List ℕ) → List ℕ
 fraction_text None = []
 fraction_text (Some digits) = 46 ∷ digits
 
+-- `e` or `E`, the sign and the digits of an exponent
 abbrev pub exponent_text : Option Exponent → List ℕ
 exponent_text None = []
 exponent_text (Some e) = (if e.upper then 69 else 101) ∷ (sign_text e.sign ++ e.digits)
@@ -45,6 +47,7 @@ exponent_text (Some e) = (if e.upper then 69 else 101) ∷ (sign_text e.sign ++ 
 abbrev pub text_of : NumberText → List ℕ
 text_of t = sign_text t.sign ++ (t.whole ++ (fraction_text t.fraction ++ exponent_text t.exponent))
 
+-- the digits behind the point, if there is one
 abbrev pub fraction_digits : Option (List ℕ) → List ℕ
 fraction_digits None = []
 fraction_digits (Some digits) = digits
@@ -61,6 +64,7 @@ pub record IsNumberText (t : NumberText) : Type 0 where
   pub digit : 0 < length t.whole + length (fraction_digits t.fraction)
   pub exponent : IsExponent t.exponent
 
+-- whether a sign is a minus
 abbrev pub is_minus : Sign → Bool
 is_minus minus = true
 is_minus plus = false
@@ -71,6 +75,7 @@ abbrev pub tens_up : Option Exponent → ℕ
 tens_up None = 0
 tens_up (Some e) = if is_minus e.sign then 0 else digits_value 10 e.digits
 
+-- by how many tens it divides
 abbrev pub tens_down : Option Exponent → ℕ
 tens_down None = 0
 tens_down (Some e) = if is_minus e.sign then digits_value 10 e.digits else 0
@@ -88,4 +93,5 @@ denoted t = record {
 -- text is not a number. The answer to a number text is never NotANumber, so the two cases exclude each other.
 pub record ReadsAs (text : List ℕ) (answer : Result ℤ NumberFault) : Type 0 where
   pub number : (t : NumberText) → IsNumberText t → text ≡ text_of t → answer ≡ fitted (denoted t)
-  pub no_number : (answer ≡ Err NotANumber) ⊎ ((t : NumberText) × IsNumberText t × (text ≡ text_of t))
+  pub no_number : (answer ≡ Err NotANumber) ⊎ ((t : NumberText) × IsNumberText t
+      × (text ≡ text_of t))

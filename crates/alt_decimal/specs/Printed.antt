@@ -19,4 +19,5 @@ fraction_text n = if n == 0 then [] else 46 ∷ ascii (take (167 - trailing_zero
 
 -- `-` before a negative number; `0` before the point of a number below 1
 unfoldable pub printed : ℤ → List ℕ
-printed z = minus_if (is_negative z) ++ (whole_text (nat_abs z / 10 ^ 167) ++ fraction_text (nat_abs z % 10 ^ 167))
+printed z = minus_if (is_negative z) ++ (whole_text (nat_abs z / 10 ^ 167)
+    ++ fraction_text (nat_abs z % 10 ^ 167))

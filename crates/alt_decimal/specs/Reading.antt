@@ -5,10 +5,12 @@ use Rattle.std.specs.Float.Numeral.{digits_len}
 use Rattle.std.specs.Str.Parse.{digits_value}
 use Rattle.alt_decimal.specs.NumberText.{Sign, minus, plus, unsigned, Exponent, NumberText, fraction_digits, is_minus}
 
+-- the sign at the front
 abbrev pub sign_of : List ℕ → Sign
 sign_of [] = unsigned
 sign_of (b ∷ bs) = if b == 45 then minus else if b == 43 then plus else unsigned
 
+-- what stands behind it
 abbrev pub behind_sign : List ℕ → List ℕ
 behind_sign [] = []
 behind_sign (b ∷ bs) = if b == 45 then bs else if b == 43 then bs else b ∷ bs
@@ -17,6 +19,7 @@ behind_sign (b ∷ bs) = if b == 45 then bs else if b == 43 then bs else b ∷ b
 abbrev pub front_digits : List ℕ → List ℕ
 front_digits bs = take (digits_len bs) bs
 
+-- what stands behind the digits at the front
 abbrev pub behind_digits : List ℕ → List ℕ
 behind_digits bs = drop (digits_len bs) bs
 
@@ -25,6 +28,7 @@ abbrev pub fraction_of : List ℕ → Option (List ℕ)
 fraction_of [] = None
 fraction_of (b ∷ bs) = if b == 46 then Some (front_digits bs) else None
 
+-- what stands behind the fraction at the front
 abbrev pub behind_fraction : List ℕ → List ℕ
 behind_fraction [] = []
 behind_fraction (b ∷ bs) = if b == 46 then behind_digits bs else b ∷ bs
@@ -38,24 +42,30 @@ exponent_from upper sign bs =
 -- the exponent that a text is, or no exponent where it is empty
 abbrev pub exponent_of : List ℕ → Option (Option Exponent)
 exponent_of [] = Some None
-exponent_of (b ∷ bs) = if b == 101 || b == 69 then exponent_from (b == 69) (sign_of bs) (behind_sign bs) else None
+exponent_of (b ∷ bs) = if b == 101 || b == 69 then exponent_from (b == 69) (sign_of bs)
+    (behind_sign bs) else None
 
+-- whether an exponent is below zero
 abbrev pub below_of : Option Exponent → Bool
 below_of None = false
 below_of (Some e) = is_minus e.sign
 
+-- the digits of an exponent, if there is one
 abbrev pub exponent_digits : Option Exponent → List ℕ
 exponent_digits None = []
 exponent_digits (Some e) = e.digits
 
 -- there is such an exponent, or none
 abbrev pub ExponentIs : Option (Option Exponent) → Bool → List ℕ → Type 0
-ExponentIs o below digits = (e : Option Exponent) × (o ≡ Some e) × (below ≡ below_of e) × (digits ≡ exponent_digits e)
+ExponentIs o below digits = (e : Option Exponent) × (o ≡ Some e) × (below ≡ below_of e)
+    × (digits ≡ exponent_digits e)
 
 -- the parts with that exponent
-abbrev pub with_exponent : Sign → List ℕ → Option (List ℕ) → Option (Option Exponent) → Option NumberText
+abbrev pub with_exponent : Sign → List ℕ → Option (List ℕ) → Option (Option Exponent)
+    → Option NumberText
 with_exponent sign whole fraction None = None
-with_exponent sign whole fraction (Some e) = Some (record { sign = sign; whole = whole; fraction = fraction; exponent = e })
+with_exponent sign whole fraction (Some e) = Some
+    (record { sign = sign; whole = whole; fraction = fraction; exponent = e })
 
 -- behind the sign
 abbrev pub reading_behind : Sign → List ℕ → Option NumberText

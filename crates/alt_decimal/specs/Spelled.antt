@@ -8,9 +8,11 @@ use Rattle.alt_decimal.specs.Digits.{width, trimmed}
 abbrev pub below_zero : ℕ
 below_zero = 1
 
+-- the first byte of the spelling of zero
 abbrev pub at_zero : ℕ
 at_zero = 2
 
+-- that of a number above zero
 abbrev pub above_zero : ℕ
 above_zero = 3
 
@@ -29,6 +31,7 @@ magnitude_bytes m = (width m - 38) ∷ (pairs (digits_of 10 (trimmed m)) ++ 0 �
 abbrev pub complement : List ℕ → List ℕ
 complement bytes = map (λ b. 255 - b) bytes
 
+-- zero is one byte; below zero all bytes but the first are flipped
 unfoldable pub spelled : ℤ → List ℕ
 spelled z =
     if nat_abs z == 0 then at_zero ∷ []

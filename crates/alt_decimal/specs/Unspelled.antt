@@ -8,6 +8,7 @@ use Rattle.alt_decimal.specs.Spelled.{spelled}
 abbrev pub raw : Bool → ℕ → ℕ
 raw negative b = if negative then 255 - b else b
 
+-- each of these bytes as it was
 abbrev pub raws : Bool → List ℕ → List ℕ
 raws negative bytes = map (raw negative) bytes
 
@@ -42,7 +43,8 @@ pub record Decodes (negative : Bool) (first c count : ℕ) (z : ℤ) : Type 0 wh
   pub last : 0 < coefficient % 10
   pub few : coefficient < 10 ^ 38
   pub place : width coefficient + behind ≡ first + 38
-  pub digits : ((coefficient ≡ c) × (width coefficient ≡ 2 * count)) ⊎ ((c ≡ coefficient * 10) × (width coefficient + 1 ≡ 2 * count))
+  pub digits : ((coefficient ≡ c) × (width coefficient ≡ 2 * count))
+      ⊎ ((c ≡ coefficient * 10) × (width coefficient + 1 ≡ 2 * count))
 
 -- behind the first byte stand the bytes of a spelling of z, which has `len` bytes with the first
 pub record IsSpelledAt (negative : Bool) (bytes : List ℕ) (z : ℤ) (len : ℕ) : Type 0 where

@@ -8,8 +8,7 @@ mod print;
 mod read;
 mod spell;
 mod sum;
-#[cfg(test)]
-mod tests;
+mod whole;
 
 ghost use Rattle.std.specs.Prelude.{◌≡◌, nat_abs, ◌≤◌};
 ghost use Rattle.alt_decimal.specs.Number.{Fits};
@@ -62,5 +61,12 @@ impl Decimal {
         } else {
             digits::width(self.coefficient)
         }
+    }
+
+    /// What is true of each `Decimal`. The call does nothing: a caller makes it where a proof needs the fact.
+    pub fn held(&self)
+        ensures fits { Fits self.now }
+    {
+        let _coefficient = self.coefficient;
     }
 }

@@ -81,7 +81,8 @@ fn split_fraction(text: &[u8]) -> (&[u8], &[u8])
 
 // Whether the exponent is negative, and its digits, none where there is no exponent; None where the text is no exponent.
 fn exponent_in(text: &[u8]) -> Option<(bool, &[u8])>
-    ensures { MatchOption result (exponent_of text.now ≡ None) (λ r. ExponentIs (exponent_of text.now) r.0 r.1.now) }
+    ensures { MatchOption result (exponent_of text.now ≡ None)
+        (λ r. ExponentIs (exponent_of text.now) r.0 r.1.now) }
 {
     match text {
         [] => Some((false, text)),
@@ -92,8 +93,10 @@ fn exponent_in(text: &[u8]) -> Option<(bool, &[u8])>
 
 // The same behind the letter, in either case of that.
 fn exponent_behind(text: &[u8]) -> Option<(bool, &[u8])>
-    ensures { (upper : Bool) → MatchOption result (exponent_from upper (sign_of text.now) (behind_sign text.now) ≡ None)
-        (λ r. ExponentIs (exponent_from upper (sign_of text.now) (behind_sign text.now)) r.0 r.1.now) }
+    ensures { (upper : Bool) → MatchOption result
+        (exponent_from upper (sign_of text.now) (behind_sign text.now) ≡ None)
+        (λ r. ExponentIs (exponent_from upper (sign_of text.now) (behind_sign text.now)) r.0
+        r.1.now) }
 {
     let (below, rest) = split_sign(text);
     let (digits, end) = split_digits(rest);
@@ -180,7 +183,8 @@ fn trimmed<'a>(whole: &'a [u8], fraction: &'a [u8]) -> (&'a [u8], &'a [u8], u128
 
 // The digits without the zeros that they begin with.
 fn behind_zeros(digits: &[u8]) -> &[u8]
-    ensures zeros { digits.now ≡ replicate (length digits.now - length result.now) 48 ++ result.now }
+    ensures zeros { digits.now ≡ replicate (length digits.now - length result.now) 48
+        ++ result.now }
     ensures within { length result.now ≤ length digits.now }
     ensures first { 0 < length result.now → slice_index result.now 0 ≢ 48 }
 {
@@ -193,7 +197,8 @@ fn behind_zeros(digits: &[u8]) -> &[u8]
 
 // The digits without the zeros that they end with.
 fn before_zeros(digits: &[u8]) -> &[u8]
-    ensures zeros { digits.now ≡ result.now ++ replicate (length digits.now - length result.now) 48 }
+    ensures zeros { digits.now ≡ result.now ++ replicate
+        (length digits.now - length result.now) 48 }
     ensures within { length result.now ≤ length digits.now }
     ensures last { 0 < length result.now → slice_index result.now (length result.now - 1) ≢ 48 }
 {

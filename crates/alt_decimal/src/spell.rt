@@ -68,7 +68,8 @@ pub fn spelling_order(a: &Decimal, b: &Decimal) -> Ordering
     ensures numbers { result ≡ int_cmp a.now b.now }
     ensures spellings { result ≡ slice_cmp nat_cmp (spelled a.now) (spelled b.now) }
     // No spelling is a prefix of another.
-    ensures apart { (after rest : List ℕ) → spelled a.now ++ after ≡ spelled b.now ++ rest → a.now ≡ b.now }
+    ensures apart { (after rest : List ℕ) → spelled a.now ++ after ≡ spelled b.now ++ rest
+        → a.now ≡ b.now }
 {
     // The proof sees the parts of both numbers by these two lines; they do nothing.
     let _ = &a.negative;
@@ -89,7 +90,8 @@ fn zero() -> Decimal
 // Reads the bytes of a magnitude behind the first byte: the number, and the length of its spelling.
 fn read_magnitude(bytes: &[u8], negative: bool) -> Option<(Decimal, usize)>
     ensures spelling { IfSome result (λ r. IsSpelledAt negative bytes.now r.0 r.1) }
-    ensures every { (m : ℕ) (rest : List ℕ) → IsMagnitude m → bytes.now ≡ raws negative (magnitude_bytes m) ++ rest
+    ensures every { (m : ℕ) (rest : List ℕ) → IsMagnitude m
+        → bytes.now ≡ raws negative (magnitude_bytes m) ++ rest
         → result ≡ Some (with_sign negative m, 1 + length (magnitude_bytes m)) }
 {
     match bytes {
@@ -114,7 +116,8 @@ fn raw(negative: bool, byte: u8) -> u8
 // The number that the pairs write, and how many they are; None where no 0 stands behind at most 19 pairs.
 fn read_pairs(bytes: &[u8], negative: bool) -> Option<(u128, usize)>
     ensures { MatchOption result ((n : ℕ) → Ends (raws negative bytes.now) n → ⊥)
-        (λ r. Ends (raws negative bytes.now) r.1 × (r.0 ≡ pairs_value_after 0 (take r.1 (raws negative bytes.now)))) }
+        (λ r. Ends (raws negative bytes.now) r.1
+        × (r.0 ≡ pairs_value_after 0 (take r.1 (raws negative bytes.now)))) }
 {
     let mut c: u128 = 0;
     for (i, byte) in bytes.iter().enumerate() {

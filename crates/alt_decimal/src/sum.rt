@@ -76,7 +76,8 @@ fn total(
     requires last_a { 0 < a % 10 }
     requires last_b { 0 < b % 10 }
     requires few_zeros { zeros ≤ 292 }
-    ensures { result ≡ fitted_units (with_sign a_negative (a * 10 ^ (zeros + shift)) +ℤ with_sign b_negative (b * 10 ^ zeros)) }
+    ensures { result ≡ fitted_units (with_sign a_negative
+        (a * 10 ^ (zeros + shift)) +ℤ with_sign b_negative (b * 10 ^ zeros)) }
 {
     match widened(a, shift) {
         None => Err(NumberFault::TooManyDigits),
@@ -102,7 +103,8 @@ fn widened(a: u128, zeros: u32) -> Option<u128>
 // The sum of two magnitudes with their signs, at every scale p; None where it has no room in 128 bits.
 fn signed_sum(a_negative: bool, a: u128, b_negative: bool, b: u128) -> Option<(bool, u128)>
     ensures { MatchOption result ((a_negative ≡ b_negative) × (2 ^ 128 ≤ a + b))
-        (λ s. (p : ℕ) → with_sign a_negative (a * p) +ℤ with_sign b_negative (b * p) ≡ with_sign s.0 (s.1 * p)) }
+        (λ s. (p : ℕ) → with_sign a_negative (a * p) +ℤ with_sign b_negative (b * p)
+        ≡ with_sign s.0 (s.1 * p)) }
 {
     if a_negative == b_negative {
         match a.checked_add(b) {

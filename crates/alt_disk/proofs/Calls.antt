@@ -4,13 +4,23 @@ use Rattle.std.proofs.lemmas.Bool.{false≢true}
 use Rattle.alt_disk.specs.Disk.{DiskState, Goes, Tick, Silent, Faulted, Same}
 
 -- an answer is one or the other, with what holds of it
-pub split : {T E X Y : Type 0} (r : Result T E) → OnOk r X → OnErr r Y → ((is_ok r ≡ true) × X) ⊎ ((is_ok r ≡ false) × Y)
+pub split : {T E X Y : Type 0} (r : Result T E) → OnOk r X → OnErr r Y
+    → ((is_ok r ≡ true) × X) ⊎ ((is_ok r ≡ false) × Y)
 split (Ok x) ok err = inl (refl, ok)
 split (Err e) ok err = inr (refl, err)
 
 -- no call
 pub goes_refl : (s : DiskState) → Goes s s
-goes_refl s = record { tells = refl; honest = refl; beside = refl; anchors = refl; later = omega arith; faults = omega arith; past = λ t f le. refl }
+goes_refl s = record {
+  tells = refl;
+  honest = refl;
+  beside = refl;
+  anchors = refl;
+  later =
+      omega arith;
+  faults = omega arith;
+  past = λ t f le. refl;
+}
 
 -- one run of calls after another
 pub goes_on : (a b c : DiskState) → Goes a b → Goes b c → Goes a c
@@ -24,12 +34,17 @@ goes_on a b c first then = record {
   past = λ t f le. then.past t f (omega (arith, le, first.later)) ∙ first.past t f le;
 }
 
+-- no call leaves all files
 pub same_refl : (s : DiskState) → Same s s
 same_refl s = record { file = λ g. refl; fates = λ g. refl }
 
 -- files that stay twice stay
 pub same_on : (a b c : DiskState) → Same a b → Same b c → Same a c
-same_on a b c first then = record { file = λ g. then.file g ∙ first.file g; fates = λ g. then.fates g ∙ first.fates g }
+same_on a b c first then = record {
+  file = λ g. then.file g ∙ first.file g;
+  fates =
+      λ g. then.fates g ∙ first.fates g;
+}
 
 -- a fault in a call makes it one that failed
 pub tick_fault : (a b c : DiskState) → Tick a b true → Faulted b c → Tick a c false
@@ -38,6 +53,7 @@ tick_fault a b c tick fault = record {
     goes = goes_on a b c tick.call.goes fault.goes;
     step = omega (arith, tick.call.step, fault.moment);
     cause = λ _. omega (arith, tick.call.goes.faults, fault.rose);
+    well = λ ok. absurd (false≢true ok);
   };
   moment = fault.moment ∙ tick.moment;
   reads = fault.reads ∙ tick.reads;

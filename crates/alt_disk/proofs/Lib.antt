@@ -3,6 +3,7 @@ pub mod Shapes
 pub mod Settled
 pub mod Runs
 mod Replay
+mod ToFail
 mod MemoryCalls
 mod Picking
 mod Walk

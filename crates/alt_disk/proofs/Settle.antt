@@ -16,7 +16,8 @@ drop-nil (suc n) = refl
 
 -- bytes put into an empty file
 overwritten-nil : (bytes : List ℕ) → overwritten [] 0 bytes ≡ bytes
-overwritten-nil bytes = ap (λ (l : List ℕ). bytes ++ l) (drop-nil (0 + length bytes)) ∙ append-nil bytes
+overwritten-nil bytes = ap (λ (l : List ℕ). bytes ++ l) (drop-nil (0 + length bytes))
+    ∙ append-nil bytes
 
 module _ (f : ℕ) (bytes : Vec ℕ Global) where
   -- the two calls
@@ -30,10 +31,13 @@ module _ (f : ℕ) (bytes : Vec ℕ Global) where
   settles = ap (λ (l : List ℕ). settled (Some l)) (overwritten-nil bytes.items)
 
   -- settle the file, and leave the others
-  pub settle_two : (old mid new : List Made) → mid ≡ old ++ written_call ∷ [] → new ≡ mid ++ synced_call ∷ [] → replay f nothing old ≡ nothing
-      → (g : ℕ) → replay g nothing new ≡ (if f == g then settled (Some bytes.items) else replay g nothing old)
+  pub settle_two : (old mid new : List Made) → mid ≡ old ++ written_call ∷ []
+      → new ≡ mid ++ synced_call ∷ [] → replay f nothing old ≡ nothing
+      → (g : ℕ) → replay g nothing new ≡ (if f == g then settled
+      (Some bytes.items) else replay g nothing old)
   settle_two old mid new is_mid is_new none g = ⊎_elim
-      (λ (same : f ≡ g). ap (λ (x : ℕ). replay x nothing new) (sym same) ∙ own ∙ sym (test_same f g _ _ same))
+      (λ (same : f ≡ g). ap (λ (x : ℕ). replay x nothing new) (sym same) ∙ own
+      ∙ sym (test_same f g _ _ same))
       (λ (other : f ≢ g). others (λ same. other (sym same)) ∙ sym (test_other f g _ _ other))
       (cases_eq f g)
     where
@@ -41,10 +45,17 @@ module _ (f : ℕ) (bytes : Vec ℕ Global) where
       whole = is_new ∙ ap (λ (l : List Made). l ++ synced_call ∷ []) is_mid
 
       own : replay f nothing new ≡ settled (Some bytes.items)
-      own = ap (λ (l : List Made). replay f nothing l) whole ∙ replay-push f nothing (old ++ written_call ∷ []) synced_call ∙ call-own synced_call (replay f nothing (old ++ written_call ∷ []))
-          ∙ ap (λ (s : Track). after Sync s) (replay-push f nothing old written_call ∙ call-own written_call (replay f nothing old) ∙ ap (λ (s : Track). after (Write 0 bytes) s) none)
+      own = ap (λ (l : List Made). replay f nothing l) whole
+          ∙ replay-push f nothing (old ++ written_call ∷ []) synced_call
+          ∙ call-own synced_call (replay f nothing (old ++ written_call ∷ []))
+          ∙ ap (λ (s : Track). after Sync s) (replay-push f nothing old written_call
+          ∙ call-own written_call (replay f nothing old)
+          ∙ ap (λ (s : Track). after (Write 0 bytes) s) none)
           ∙ settles
 
       others : g ≢ f → replay g nothing new ≡ replay g nothing old
-      others other = ap (λ (l : List Made). replay g nothing l) whole ∙ replay-push g nothing (old ++ written_call ∷ []) synced_call ∙ call-other g synced_call (replay g nothing (old ++ written_call ∷ [])) other
-          ∙ replay-push g nothing old written_call ∙ call-other g written_call (replay g nothing old) other
+      others other = ap (λ (l : List Made). replay g nothing l) whole
+          ∙ replay-push g nothing (old ++ written_call ∷ []) synced_call
+          ∙ call-other g synced_call (replay g nothing (old ++ written_call ∷ [])) other
+          ∙ replay-push g nothing old written_call
+          ∙ call-other g written_call (replay g nothing old) other

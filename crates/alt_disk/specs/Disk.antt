@@ -11,7 +11,8 @@ use Rattle.alt_disk.specs.declared.disk.DiskFault.TheVariants.{Failed, NoMemory}
 
 -- The disk as its user sees it. `file` is what reads give of each file, `fates` what a stop at each moment may leave of it;
 -- both mean nothing where the disk doesn't tell them. `beside` is what a shell keeps beside the files, with its moments.
--- `anchors` are the borrows behind which the disk stands.
+-- `cached` says of a read, by its file, its place and the buffer's length, whether a cache before the disk answers it; a disk
+-- without a cache has none. `anchors` are the borrows behind which the disk stands.
 pub record DiskState : Type 0 where
   pub tells : Bool
   pub honest : Bool
@@ -21,6 +22,7 @@ pub record DiskState : Type 0 where
   pub faults : ℕ
   pub reads : ℕ
   pub beside : List (ℕ × List ℕ)
+  pub cached : ℕ → ℕ → ℕ → Bool
   pub anchors : List ℕ
 
 -- it is honest and tells its contents
@@ -72,12 +74,13 @@ pub record Others (old new : DiskState) (f : ℕ) : Type 0 where
   pub file : (g : ℕ) → g ≢ f → new.file g ≡ old.file g
   pub fates : (g : ℕ) → g ≢ f → now new g ≡ now old g
 
--- One call of any kind, which answered something else than Failed where `ok`. The moment goes on by at most one, and Failed
--- comes only where the faults rose.
+-- One call of any kind, which answered something else than Failed where `ok`. The moment goes on by at most one, Failed comes
+-- only where the faults rose, and any other answer leaves their count.
 pub record Call (old new : DiskState) (ok : Bool) : Type 0 where
   pub goes : Goes old new
   pub step : new.moment ≤ next_moment old.moment
   pub cause : ok ≡ false → Rose old.faults new.faults
+  pub well : ok ≡ true → new.faults ≡ old.faults
 
 -- One call that isn't a read: it takes exactly one moment. At the last one it fails, and changes nothing but the faults.
 pub record Tick (old new : DiskState) (ok : Bool) : Type 0 where
@@ -91,11 +94,13 @@ pub record Silent (old new : DiskState) (ok : Bool) : Type 0 where
   pub tick : Tick old new ok
   pub same : Same old new
 
--- One read. At the last moment it counts no more, and fails but where a cache may answer, which only a disk behind a borrow has.
-pub record ReadCall (old new : DiskState) (ok : Bool) : Type 0 where
+-- One read of a file from a place on, of so many bytes at most. At the last moment it counts no more, and fails unless a cache
+-- answers it.
+pub record ReadCall (old new : DiskState) (f at most : ℕ) (ok : Bool) : Type 0 where
   pub call : Call old new ok
   pub reads : (old.reads ≤ new.reads) × (new.reads ≤ old.reads + 1)
-  pub ended : 2 ^ 64 - 1 ≤ old.moment → (new.reads ≡ old.reads) × (old.anchors ≡ [] → ok ≡ false)
+  pub ended : 2 ^ 64 - 1 ≤ old.moment
+      → (new.reads ≡ old.reads) × (old.cached f at most ≡ false → ok ≡ false)
 
 -- a fault and nothing else
 pub record Faulted (old new : DiskState) : Type 0 where
@@ -125,12 +130,14 @@ pub record Read (bytes : List ℕ) (at : ℕ) (old new : List ℕ) (count : ℕ)
 abbrev pub overwritten : List ℕ → ℕ → List ℕ → List ℕ
 overwritten old at bytes = take at old ++ bytes ++ drop (at + length bytes) old
 
--- What a write does to an honest disk: at Ok the file reads as before with the bytes put in. One that failed counts as written
--- for a stop, or it was not begun.
+-- What a write does to an honest disk: at Ok the file reads as before with the bytes put in. After one that failed it reads as
+-- before in front of the place, and for a stop it counts as written, or it was not begun.
 pub record Written (old new : DiskState) (f at : ℕ) (bytes : List ℕ) (ok : Bool) : Type 0 where
   pub others : Others old new f
   pub file : ok ≡ true → new.file f ≡ Some (overwritten (contents old f) at bytes)
-  pub fates : (now new f ≡ wrote at (length bytes) (now old f)) ⊎ ((ok ≡ false) × (now new f ≡ now old f))
+  pub before : ok ≡ false → take at (contents new f) ≡ take at (contents old f)
+  pub fates : (now new f ≡ wrote at (length bytes) (now old f))
+      ⊎ ((ok ≡ false) × (now new f ≡ now old f))
 
 -- What a sync does to an honest disk: at Ok a stop leaves of a file that is there what reads give. One that failed makes
 -- nothing last.
@@ -143,6 +150,9 @@ pub record Synced (old new : DiskState) (f : ℕ) (ok : Bool) : Type 0 where
 -- What a removal does to an honest disk: at Ok the file is gone, and a stop may bring it back. One that failed was made or not.
 pub record Removed (old new : DiskState) (f : ℕ) (ok : Bool) : Type 0 where
   pub others : Others old new f
-  pub done : (bytes : List ℕ) → ok ≡ true → old.file f ≡ Some bytes → now new f ≡ removed (now old f)
-  pub failed : ok ≡ false → ((new.file f ≡ old.file f) × ((now new f ≡ now old f) ⊎ (now new f ≡ half_removed (now old f))))
+  pub done : (bytes : List ℕ) → ok ≡ true → old.file f ≡ Some bytes
+      → now new f ≡ removed (now old f)
+  pub failed : ok ≡ false
+      → ((new.file f ≡ old.file f) × ((now new f ≡ now old f)
+      ⊎ (now new f ≡ half_removed (now old f))))
       ⊎ ((new.file f ≡ None) × (now new f ≡ removed (now old f)))

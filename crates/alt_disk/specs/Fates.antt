@@ -1,5 +1,7 @@
 -- What a stop may leave of one file, as data, and how each call changes it.
-use Rattle.std.specs.Prelude.{◌≡◌, ◌⊎◌, ℕ, zero, suc, Bool, true, false, IsTrue, List, [], ◌∷◌, map, Option, Some, None, IfSome}
+use Rattle.std.specs.Prelude.{◌≡◌, ◌⊎◌, ◌<◌, ℕ, zero, suc, Bool, true, false}
+use Rattle.std.specs.Prelude.{List, [], ◌∷◌, map, Option, Some, None}
+use Rattle.std.specs.List.{AllByRecursion}
 
 -- a file as a stop may leave it: the bytes up to its end at the last sync, each known or open; behind them nothing, or, where
 -- it is loose, any bytes at any length
@@ -12,12 +14,25 @@ pub record Fates : Type 0 where
   pub last : Option Shape
   pub others : List (Option Shape)
 
+-- numbers that are bytes, each below 256
+abbrev pub AreBytes : List ℕ → Type 0
+AreBytes bytes = AllByRecursion (λ b. b < 256) bytes
+
+-- a byte that may stand where this one is known, or any where none is
+abbrev pub FitsByte : Option ℕ → ℕ → Type 0
+FitsByte None b = b < 256
+FitsByte (Some known) b = b ≡ known
+
+-- what may stand behind the last known byte: nothing, or, at a loose end, any bytes
+abbrev pub FitsBehind : Bool → List ℕ → Type 0
+FitsBehind false bytes = bytes ≡ []
+FitsBehind true bytes = AreBytes bytes
+
 -- bytes that a file of this shape may have
 abbrev pub FitsBytes : List (Option ℕ) → Bool → List ℕ → Type 0
-FitsBytes [] loose [] = Unit {0}
-FitsBytes [] loose (b ∷ bytes) = IsTrue loose
+FitsBytes [] loose bytes = FitsBehind loose bytes
 FitsBytes (k ∷ known) loose [] = ⊥
-FitsBytes (k ∷ known) loose (b ∷ bytes) = IfSome k (λ x. b ≡ x) × FitsBytes known loose bytes
+FitsBytes (k ∷ known) loose (b ∷ bytes) = FitsByte k b × FitsBytes known loose bytes
 
 -- it is missing where it may be, or has bytes that it may have
 abbrev pub FitsShape : Option Shape → Option (List ℕ) → Type 0
@@ -37,7 +52,10 @@ Fits fates file = FitsShape fates.last file ⊎ FitsAny fates.others file
 
 -- after a sync: these bytes and no others
 abbrev pub synced : List ℕ → Fates
-synced bytes = record { last = Some (record { known = map (λ b. Some b) bytes; loose = false }); others = [] }
+synced bytes = record {
+  last = Some (record { known = map (λ b. Some b) bytes; loose = false });
+  others = [];
+}
 
 -- a file that never was
 abbrev pub missing : Fates
@@ -52,8 +70,16 @@ opened (suc at) n (k ∷ known) = k ∷ opened at n known
 
 -- a write opens a range and the end, or makes a missing file, which a stop may leave out
 abbrev pub wrote_shape : ℕ → ℕ → Option Shape → List (Option Shape) → Fates
-wrote_shape at n None others = record { last = Some (record { known = []; loose = true }); others = None ∷ others }
-wrote_shape at n (Some s) others = record { last = Some (record { known = opened at n s.known; loose = true }); others = others }
+wrote_shape at n None others = record {
+  last = Some (record { known = []; loose = true });
+  others =
+      None ∷ others;
+}
+wrote_shape at n (Some s) others = record {
+  last =
+      Some (record { known = opened at n s.known; loose = true });
+  others = others;
+}
 
 -- after a write of so many bytes at a place, also one that failed
 abbrev pub wrote : ℕ → ℕ → Fates → Fates

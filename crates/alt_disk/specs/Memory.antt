@@ -1,16 +1,16 @@
 -- What a disk in memory is, by the list of its writes, syncs and removals.
-use Rattle.std.specs.Prelude.{◌≤◌, ◌==◌, nat_le, cond, ℕ, List, [], ◌∷◌, length, Option, Some, None}
-use Rattle.std.specs.List.{filter}
+use Rattle.std.specs.Prelude.{◌≡◌, ◌+◌, ◌<◌, ◌≤◌, ◌==◌, nat_le, cond, ℕ, List, [], ◌∷◌, length, Option, Some, None}
+use Rattle.std.specs.List.{All, filter}
 use Rattle.alt_disk.specs.Fates.{Fates, missing, synced, wrote, removed, half_removed}
 use Rattle.alt_disk.specs.Disk.{overwritten, bytes_or_none}
 use Rattle.alt_disk.specs.declared.made.Deed.{Deed}
 use Rattle.alt_disk.specs.declared.made.Deed.TheVariants.{Write, WriteFailed, Sync, Remove, RemoveFailed}
 use Rattle.alt_disk.specs.declared.made.Made.{Made}
 
--- what reads give of a file after a call on it; a write that failed makes a missing file, which reads as empty
+-- what reads give of a file after a call on it; a call that failed leaves it
 abbrev pub bytes_after : Deed → Option (List ℕ) → Option (List ℕ)
 bytes_after (Write at bytes) old = Some (overwritten (bytes_or_none old) at bytes.items)
-bytes_after (WriteFailed at count) old = Some (bytes_or_none old)
+bytes_after (WriteFailed at count) old = old
 bytes_after Sync old = old
 bytes_after Remove old = None
 bytes_after RemoveFailed old = old
@@ -48,7 +48,12 @@ nothing = record { bytes = None; fates = missing; lengths = [] }
 
 -- a file after a call on it
 abbrev pub after : Deed → Track → Track
-after deed s = record { bytes = bytes_after deed s.bytes; fates = fates_after deed s.bytes s.fates; lengths = lengths_after deed s.bytes s.lengths }
+after deed s = record {
+  bytes = bytes_after deed s.bytes;
+  fates =
+      fates_after deed s.bytes s.fates;
+  lengths = lengths_after deed s.bytes s.lengths;
+}
 
 -- a call is of one file
 abbrev pub after_call : ℕ → Made → Track → Track
@@ -70,3 +75,28 @@ at_moment t f calls = replay f nothing (until t calls)
 -- a call that shows by a moment
 abbrev pub Timed : ℕ → Made → Type 0
 Timed t made = made.time ≤ t
+
+-- the bytes that it wrote
+abbrev pub bytes_written : Deed → List ℕ
+bytes_written (Write at bytes) = bytes.items
+bytes_written (WriteFailed at count) = []
+bytes_written Sync = []
+bytes_written Remove = []
+bytes_written RemoveFailed = []
+
+-- what it wrote are bytes
+abbrev pub WritesBytes : Deed → Type 0
+WritesBytes deed = All (λ b. b < 256) (bytes_written deed)
+
+-- what a call wrote are bytes
+abbrev pub HasBytes : Made → Type 0
+HasBytes made = WritesBytes made.deed
+
+-- what it did leaves every file as it reads
+abbrev pub LeavesReads : Deed → Type 0
+LeavesReads deed = (bytes : Option (List ℕ)) → bytes_after deed bytes ≡ bytes
+
+-- how many calls from a moment on are still to fail by the list
+abbrev pub to_fail_from : ℕ → List ℕ → ℕ
+to_fail_from moment [] = 0
+to_fail_from moment (t ∷ fails) = cond (nat_le moment t) 1 0 + to_fail_from moment fails

@@ -1,5 +1,5 @@
 -- A disk in memory as its user sees it.
-use Rattle.std.specs.Prelude.{◌==◌, ℕ, Bool, true, List, []}
+use Rattle.std.specs.Prelude.{◌==◌, ℕ, Bool, true, false, List, []}
 use Rattle.std.specs.List.{list_any}
 use Rattle.alt_disk.specs.Disk.{DiskState}
 use Rattle.alt_disk.specs.Memory.{nothing, replay, at_moment}
@@ -17,6 +17,7 @@ memory_state calls moment faults reads = record {
   faults = faults;
   reads = reads;
   beside = [];
+  cached = λ f at most. false;
   anchors = [];
 }
 

@@ -18,7 +18,11 @@ pub record Generation : Type 0 where
 abbrev pub removed_ones : List (Option Shape) → List ℕ → List Generation
 removed_ones [] sizes = []
 removed_ones (None ∷ others) sizes = removed_ones others sizes
-removed_ones (Some shape ∷ others) sizes = record { shape = shape; size = next sizes } ∷ removed_ones others (drop 1 sizes)
+removed_ones (Some shape ∷ others) sizes = record {
+  shape = shape;
+  size =
+      next sizes;
+} ∷ removed_ones others (drop 1 sizes)
 
 -- with the one that is there
 abbrev pub with_last : Option Shape → ℕ → List Generation → List Generation
@@ -27,7 +31,8 @@ with_last (Some shape) size removed = record { shape = shape; size = size } ∷ 
 
 -- the files that a stop may leave under a number, the one last made first
 abbrev pub generations : Track → List Generation
-generations s = with_last s.fates.last (length (bytes_or_none s.bytes)) (removed_ones s.fates.others s.lengths)
+generations s = with_last s.fates.last (length (bytes_or_none s.bytes))
+    (removed_ones s.fates.others s.lengths)
 
 -- a file that may be missing
 abbrev pub is_missing : Option Shape → Bool
@@ -66,7 +71,8 @@ behind_chosen true (last ∷ more) choice = drop 1 choice
 
 -- how many bytes the file has past its synced end: a byte decides where that is open, and 1 is up to what a read gave
 abbrev pub past_end : Generation → List ℕ → ℕ
-past_end g choice = cond g.shape.loose (cond (next choice == 1) (g.size - length g.shape.known) (next choice)) 0
+past_end g choice = cond g.shape.loose (cond (next choice == 1) (g.size - length g.shape.known)
+    (next choice)) 0
 
 -- the choice behind that
 abbrev pub behind_length : Generation → List ℕ → List ℕ
@@ -105,11 +111,13 @@ behind_left (Some g) choice = behind_filled (laid g choice) (behind_length g cho
 
 -- the file that the choice picks
 abbrev pub picked : Track → List ℕ → Option (List ℕ)
-picked s choice = left_file (chosen (may_miss s.fates) (generations s) choice) (behind_chosen (may_miss s.fates) (generations s) choice)
+picked s choice = left_file (chosen (may_miss s.fates) (generations s) choice)
+    (behind_chosen (may_miss s.fates) (generations s) choice)
 
 -- the choice that is left for the files behind
 abbrev pub behind_picked : Track → List ℕ → List ℕ
-behind_picked s choice = behind_left (chosen (may_miss s.fates) (generations s) choice) (behind_chosen (may_miss s.fates) (generations s) choice)
+behind_picked s choice = behind_left (chosen (may_miss s.fates) (generations s) choice)
+    (behind_chosen (may_miss s.fates) (generations s) choice)
 
 -- the choice that is left for a file by those below it
 abbrev pub choice_at : (ℕ → Track) → ℕ → List ℕ → List ℕ

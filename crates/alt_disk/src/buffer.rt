@@ -2,6 +2,7 @@
 
 ghost use Rattle.std.specs.Prelude.{IfSome};
 ghost use Rattle.alt_disk.specs.Disk.{Read};
+ghost use Rattle.alt_disk.specs.Memory.{WritesBytes};
 ghost use Rattle.alt_disk.specs.Written.{IsWrite};
 
 use crate::made::Deed;
@@ -22,7 +23,8 @@ pub(crate) fn copy_from(bytes: &[u8], at: u64, buf: &mut [u8]) -> usize
 
 /// A write of these bytes, none where there is no memory for it.
 pub(crate) fn write_deed(alloc: Global, at: u64, bytes: &[u8]) -> Option<Deed>
-    ensures { IfSome result (λ deed. IsWrite at bytes.now deed) }
+    ensures write { IfSome result (λ deed. IsWrite at bytes.now deed) }
+    ensures bytes { IfSome result (λ deed. WritesBytes deed) }
 {
     match bytes.to_vec(alloc) {
         Ok(bytes) => Some(Deed::Write { at, bytes }),

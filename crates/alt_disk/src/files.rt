@@ -16,17 +16,17 @@ pub(crate) fn apply(
     f: u32,
     deed: &Deed,
 ) -> Result<(), AllocError>
-    ensures ok { OnOk result ((g : ℕ) → file_in files.new g ≡ (if f == g then bytes_after deed.now (file_in files.old f) else file_in files.old g)) }
+    ensures ok { OnOk result ((g : ℕ) → file_in files.new g
+        ≡ (if f == g then bytes_after deed.now (file_in files.old f) else file_in files.old g)) }
     ensures err { OnErr result ((g : ℕ) → file_in files.new g ≡ file_in files.old g) }
 {
     match deed {
         Deed::Write { at, bytes } => put(alloc, files, f, *at, bytes.as_slice()),
-        Deed::WriteFailed { .. } => put(alloc, files, f, 0, &[]),
         Deed::Remove => {
             files.remove(&f);
             Ok(())
         }
-        Deed::Sync | Deed::RemoveFailed => Ok(()),
+        Deed::Sync | Deed::WriteFailed { .. } | Deed::RemoveFailed => Ok(()),
     }
 }
 
@@ -38,7 +38,9 @@ fn put(
     at: u64,
     bytes: &[u8],
 ) -> Result<(), AllocError>
-    ensures ok { OnOk result ((g : ℕ) → file_in files.new g ≡ (if f == g then Some (overwritten (bytes_or_none (file_in files.old f)) at bytes.now) else file_in files.old g)) }
+    ensures ok { OnOk result ((g : ℕ) → file_in files.new g
+        ≡ (if f == g then Some (overwritten (bytes_or_none (file_in files.old f)) at bytes.now)
+        else file_in files.old g)) }
     ensures err { OnErr result ((g : ℕ) → file_in files.new g ≡ file_in files.old g) }
 {
     match files.get_mut(&f) {

@@ -13,6 +13,3 @@ mod trace;
 
 pub use disk::{Disk, DiskFault, Failed};
 pub use memory::MemoryDisk;
-
-#[cfg(test)]
-mod tests;

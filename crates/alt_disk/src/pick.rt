@@ -1,7 +1,7 @@
 //! The file that a choice picks of what a stop may leave.
 
-ghost use Rattle.std.specs.Prelude.{◌≡◌, ◌++◌, [], ℕ, Some, None, IfOk, map, drop, List, is_none};
-ghost use Rattle.std.specs.List.{list_any};
+ghost use Rattle.std.specs.Prelude.{◌≡◌, ◌<◌, ◌++◌, [], ℕ, Some, None, IfOk, IfSome, map, drop, List, is_none};
+ghost use Rattle.std.specs.List.{All, list_any};
 ghost use Rattle.alt_disk.specs.Files.{option_items};
 ghost use Rattle.alt_disk.specs.Trace.{track_of, option_shape, generation_of, option_generation};
 ghost use Rattle.alt_disk.specs.Stopped.{next, generations, removed_ones, may_miss, any_missing, chosen, behind_chosen, past_end, behind_length, filled, behind_filled, open_bytes, left_file, behind_left, picked, behind_picked};
@@ -44,8 +44,11 @@ pub(crate) fn pick(
     trace: Trace,
     choice: &mut Choice,
 ) -> Result<Option<Vec<u8>>, AllocError>
-    ensures file { IfOk result (λ file. option_items file ≡ picked (track_of trace) choice.old.rest.now) }
-    ensures rest { IfOk result (λ file. choice.new.rest.now ≡ behind_picked (track_of trace) choice.old.rest.now) }
+    ensures file { IfOk result (λ file.
+        option_items file ≡ picked (track_of trace) choice.old.rest.now) }
+    ensures rest { IfOk result (λ _.
+        choice.new.rest.now ≡ behind_picked (track_of trace) choice.old.rest.now) }
+    ensures below { IfOk result (λ file. IfSome file (λ bytes. All (λ b. b < 256) bytes.items)) }
 {
     let miss = may_be_missing(&trace);
     let copies = copies(alloc, trace)?;
@@ -74,7 +77,8 @@ fn has_none(others: &[Option<Outline>]) -> bool
 
 // The files that a stop may leave, the one last made first.
 fn copies(alloc: Global, trace: Trace) -> Result<Vec<Copy>, AllocError>
-    ensures { IfOk result (λ copies. map generation_of copies.items ≡ generations (track_of trace)) }
+    ensures { IfOk result (λ copies. map generation_of copies.items
+        ≡ generations (track_of trace)) }
 {
     let Trace {
         bytes,
@@ -100,7 +104,9 @@ fn add_removed(
     others: Vec<Option<Outline>>,
     lengths: &[u64],
 ) -> Result<(), AllocError>
-    ensures { IfOk result (λ _. map generation_of found.new.items ≡ map generation_of found.old.items ++ removed_ones (map option_shape others.items) lengths.now) }
+    ensures { IfOk result (λ _. map generation_of found.new.items
+        ≡ map generation_of found.old.items ++ removed_ones
+        (map option_shape others.items) lengths.now) }
 {
     let mut rest = lengths;
     for other in others {
@@ -115,8 +121,10 @@ fn add_removed(
 
 // Which of them is left, by a byte where there may be one or none.
 fn choose(copies: Vec<Copy>, miss: bool, choice: &mut Choice) -> Option<Copy>
-    ensures copy { option_generation result ≡ chosen miss (map generation_of copies.items) choice.old.rest.now }
-    ensures rest { choice.new.rest.now ≡ behind_chosen miss (map generation_of copies.items) choice.old.rest.now }
+    ensures copy { option_generation result ≡ chosen miss
+        (map generation_of copies.items) choice.old.rest.now }
+    ensures rest { choice.new.rest.now ≡ behind_chosen miss
+        (map generation_of copies.items) choice.old.rest.now }
 {
     let mut copies = copies.into_iter();
     let Some(last) = copies.next() else {
@@ -134,8 +142,11 @@ fn choose(copies: Vec<Copy>, miss: bool, choice: &mut Choice) -> Option<Copy>
 
 // The bytes of the file that is left.
 fn fill(alloc: Global, copy: &Copy, choice: &mut Choice) -> Result<Vec<u8>, AllocError>
-    ensures bytes { IfOk result (λ bytes. Some bytes.items ≡ left_file (Some (generation_of copy.now)) choice.old.rest.now) }
-    ensures rest { IfOk result (λ bytes. choice.new.rest.now ≡ behind_left (Some (generation_of copy.now)) choice.old.rest.now) }
+    ensures bytes { IfOk result (λ bytes.
+        Some bytes.items ≡ left_file (Some (generation_of copy.now)) choice.old.rest.now) }
+    ensures rest { IfOk result (λ _.
+        choice.new.rest.now ≡ behind_left (Some (generation_of copy.now)) choice.old.rest.now) }
+    ensures below { IfOk result (λ bytes. All (λ b. b < 256) bytes.items) }
 {
     let past = length_past(copy, choice);
     let mut bytes = Vec::new(alloc);
@@ -147,7 +158,8 @@ fn fill(alloc: Global, copy: &Copy, choice: &mut Choice) -> Result<Vec<u8>, Allo
 // How many bytes it has past its synced end.
 fn length_past(copy: &Copy, choice: &mut Choice) -> u64
     ensures past { result ≡ past_end (generation_of copy.now) choice.old.rest.now }
-    ensures rest { choice.new.rest.now ≡ behind_length (generation_of copy.now) choice.old.rest.now }
+    ensures rest { choice.new.rest.now ≡ behind_length
+        (generation_of copy.now) choice.old.rest.now }
 {
     if !copy.outline.loose {
         return 0;
@@ -164,8 +176,10 @@ fn fill_known(
     known: &[Option<u8>],
     choice: &mut Choice,
 ) -> Result<(), AllocError>
-    ensures bytes { IfOk result (λ _. bytes.new.items ≡ bytes.old.items ++ filled known.now choice.old.rest.now) }
-    ensures rest { IfOk result (λ _. choice.new.rest.now ≡ behind_filled known.now choice.old.rest.now) }
+    ensures bytes { IfOk result (λ _. bytes.new.items
+        ≡ bytes.old.items ++ filled known.now choice.old.rest.now) }
+    ensures rest { IfOk result (λ _. choice.new.rest.now
+        ≡ behind_filled known.now choice.old.rest.now) }
 {
     for byte in known {
         match byte {
@@ -178,8 +192,11 @@ fn fill_known(
 
 // Adds so many open bytes.
 fn fill_open(bytes: &mut Vec<u8>, count: u64, choice: &mut Choice) -> Result<(), AllocError>
-    ensures bytes { IfOk result (λ _. bytes.new.items ≡ bytes.old.items ++ filled (open_bytes count) choice.old.rest.now) }
-    ensures rest { IfOk result (λ _. choice.new.rest.now ≡ behind_filled (open_bytes count) choice.old.rest.now) }
+    ensures bytes { IfOk result (λ _.
+        bytes.new.items ≡ bytes.old.items ++ filled (open_bytes count) choice.old.rest.now) }
+    ensures rest { IfOk result (λ _.
+        choice.new.rest.now ≡ behind_filled (open_bytes count) choice.old.rest.now) }
+    ensures below { IfOk result (λ _. All (λ b. b < 256) bytes.new.items) }
 {
     for _ in 0..count {
         bytes.push(choice.next())?;

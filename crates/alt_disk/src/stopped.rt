@@ -1,6 +1,6 @@
 //! The disk that a stop leaves: a new disk in memory with the image that a choice picks, all of it synced.
 
-ghost use Rattle.std.specs.Prelude.{◌≡◌, ◌==◌, if◌then◌else◌, ℕ, true, IfOk, OnOk};
+ghost use Rattle.std.specs.Prelude.{◌≡◌, ◌<◌, ◌==◌, if◌then◌else◌, ℕ, true, IfOk, IfSome, OnOk};
 ghost use Rattle.std.specs.BTreeSet.{contains, keys};
 ghost use Rattle.std.specs.List.{All, list_any};
 ghost use Rattle.std.specs.List.Sorted.{IsStrictlySortedBy};
@@ -23,7 +23,9 @@ pub(crate) fn settle_image(
     moment: u64,
     choice: &[u8],
 ) -> Result<History, AllocError>
-    ensures image { IfOk result (λ settled_calls. (f : ℕ) → replay f nothing settled_calls.calls.items ≡ settled (picked_image (λ g. at_moment moment g calls.now) choice.now f)) }
+    ensures image { IfOk result (λ settled_calls. (f : ℕ)
+        → replay f nothing settled_calls.calls.items
+        ≡ settled (picked_image (λ g. at_moment moment g calls.now) choice.now f)) }
     ensures timed { IfOk result (λ settled_calls. All (Timed 0) settled_calls.calls.items) }
 {
     let numbers = file_numbers(alloc, calls)?;
@@ -40,7 +42,9 @@ fn settle_files(
 ) -> Result<History, AllocError>
     requires rising { IsStrictlySortedBy nat_cmp numbers.now }
     requires all { All (λ made. list_any (λ g. made.file == g) numbers.now ≡ true) calls.now }
-    ensures image { IfOk result (λ settled_calls. (f : ℕ) → replay f nothing settled_calls.calls.items ≡ settled (picked_image (λ g. at_moment moment g calls.now) choice.now f)) }
+    ensures image { IfOk result (λ settled_calls. (f : ℕ)
+        → replay f nothing settled_calls.calls.items
+        ≡ settled (picked_image (λ g. at_moment moment g calls.now) choice.now f)) }
     ensures timed { IfOk result (λ settled_calls. All (Timed 0) settled_calls.calls.items) }
 {
     let mut history = History::new(alloc);
@@ -55,22 +59,31 @@ fn settle_files(
 
 // One file, of which no call was made yet.
 fn settle_file(history: &mut History, f: u32, file: Option<Vec<u8>>) -> Result<(), AllocError>
+    requires bytes { IfSome file (λ bytes. All (λ b. b < 256) bytes.items) }
     requires none { replay f nothing history.old.calls.items ≡ nothing }
     requires timed { All (Timed 0) history.old.calls.items }
-    ensures file { OnOk result ((g : ℕ) → replay g nothing history.new.calls.items ≡ (if f == g then settled (option_items file) else replay g nothing history.old.calls.items)) }
+    ensures file { OnOk result ((g : ℕ) → replay g nothing history.new.calls.items
+        ≡ (if f == g then settled (option_items file) else replay g nothing
+        history.old.calls.items)) }
     ensures timed { All (Timed 0) history.new.calls.items }
 {
     if let Some(bytes) = file {
-        history.add(Made {
-            time: 0,
-            file: f,
-            deed: Deed::Write { at: 0, bytes },
-        })?;
-        history.add(Made {
-            time: 0,
-            file: f,
-            deed: Deed::Sync,
-        })?;
+        history.add(
+            Made {
+                time: 0,
+                file: f,
+                deed: Deed::Write { at: 0, bytes },
+            },
+            0,
+        )?;
+        history.add(
+            Made {
+                time: 0,
+                file: f,
+                deed: Deed::Sync,
+            },
+            0,
+        )?;
     }
     Ok(())
 }
@@ -78,7 +91,8 @@ fn settle_file(history: &mut History, f: u32, file: Option<Vec<u8>>) -> Result<(
 // The numbers of the files of which a call was made, rising.
 fn file_numbers(alloc: Global, calls: &[Made]) -> Result<Vec<u32>, AllocError>
     ensures rising { IfOk result (λ numbers. IsStrictlySortedBy nat_cmp numbers.items) }
-    ensures all { IfOk result (λ numbers. All (λ made. list_any (λ g. made.file == g) numbers.items ≡ true) calls.now) }
+    ensures all { IfOk result (λ numbers. All
+        (λ made. list_any (λ g. made.file == g) numbers.items ≡ true) calls.now) }
 {
     let set = file_set(alloc, calls)?;
     keys_of(alloc, &set)

@@ -58,7 +58,7 @@ fn after_deed(alloc: Global, deed: &Deed, trace: Trace) -> Result<Trace, AllocEr
 {
     match deed {
         Deed::Write { at, bytes } => { after_write(alloc, trace, *at, bytes.as_slice()) }
-        Deed::WriteFailed { at, count } => after_failed_write(alloc, trace, *at, *count),
+        Deed::WriteFailed { at, count } => after_open(alloc, trace, *at, *count),
         Deed::Sync => after_sync(alloc, trace),
         Deed::Remove => after_remove(trace),
         Deed::RemoveFailed => after_failed_remove(trace),
@@ -67,7 +67,13 @@ fn after_deed(alloc: Global, deed: &Deed, trace: Trace) -> Result<Trace, AllocEr
 
 // A write.
 fn after_write(alloc: Global, trace: Trace, at: u64, bytes: &[u8]) -> Result<Trace, AllocError>
-    ensures { IfOk result (λ t. let s = track_of trace in track_of t ≡ record { bytes = Some (overwritten (bytes_or_none s.bytes) at bytes.now); fates = wrote at (length bytes.now) s.fates; lengths = s.lengths }) }
+    ensures { IfOk result (λ t. let s = track_of trace in track_of t
+        ≡ record {
+          bytes = Some (overwritten (bytes_or_none s.bytes) at bytes.now);
+          fates =
+              wrote at (length bytes.now) s.fates;
+          lengths = s.lengths;
+        }) }
 {
     let mut there = bytes_or_empty(alloc, trace.bytes);
     overwrite(&mut there, at, bytes)?;
@@ -78,19 +84,6 @@ fn after_write(alloc: Global, trace: Trace, at: u64, bytes: &[u8]) -> Result<Tra
         lengths: trace.lengths,
     };
     after_open(alloc, found, at, bytes.len() as u64)
-}
-
-// A write that failed. It makes a missing file, which reads as empty.
-fn after_failed_write(alloc: Global, trace: Trace, at: u64, count: u64) -> Result<Trace, AllocError>
-    ensures { IfOk result (λ t. let s = track_of trace in track_of t ≡ record { bytes = Some (bytes_or_none s.bytes); fates = wrote at count s.fates; lengths = s.lengths }) }
-{
-    let found = Trace {
-        bytes: Some(bytes_or_empty(alloc, trace.bytes)),
-        last: trace.last,
-        others: trace.others,
-        lengths: trace.lengths,
-    };
-    after_open(alloc, found, at, count)
 }
 
 // The bytes of a file, none where it is missing.
@@ -105,7 +98,8 @@ fn bytes_or_empty(alloc: Global, bytes: Option<Vec<u8>>) -> Vec<u8>
 
 // What a write does to what a stop may leave.
 fn after_open(alloc: Global, trace: Trace, at: u64, count: u64) -> Result<Trace, AllocError>
-    ensures { IfOk result (λ t. let s = track_of trace in track_of t ≡ record s { fates = wrote at count s.fates }) }
+    ensures { IfOk result (λ t. let s = track_of trace in track_of t
+        ≡ record s { fates = wrote at count s.fates }) }
 {
     let Trace {
         bytes,

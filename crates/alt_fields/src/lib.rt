@@ -11,6 +11,3 @@ mod take;
 pub use bytes::{Bytes, BytesFault};
 pub use put::{put_bytes, put_u32, put_u64};
 pub use take::{Short, take_bytes, take_u32, take_u64};
-
-#[cfg(test)]
-mod tests;

@@ -2,21 +2,34 @@
 use Rattle.std.proofs.Common.{◌≡◌, ◌≢◌, ℕ, List, Option, sym, ◌∙◌, subst, arith}
 use Rattle.alt_disk.specs.Fates.{Fates, Fits}
 use Rattle.alt_disk.specs.Disk.{DiskState, Same, now}
-use Rattle.alt_disk.specs.Runs.{Run}
+use Rattle.alt_disk.specs.Runs.{Run, Quiet}
+use Rattle.alt_disk.proofs.Runs.{quiet_same}
 use Rattle.alt_gatelog.specs.Log.{IsLog}
-use Rattle.alt_gatelog.specs.InHand.{Reads, Stands}
+use Rattle.alt_gatelog.specs.InHand.{form_of, Reads, Stands}
 use Rattle.alt_gatelog.specs.declared.gatelog.GateLog.{GateLog}
 
 -- the file of a log that reads as a list is a gated log of it
-pub reads_log : (s : DiskState) (log : GateLog) (entries : List (List ℕ)) → Reads s log entries → IsLog entries (s.file log.file)
-reads_log s log entries reads = record { gate = reads.gate; closed = reads.closed; rest = reads.rest; is = reads.file; lengths = reads.lengths }
+pub reads_log : (s : DiskState) (log : GateLog) (entries : List (List ℕ)) → Reads s log entries
+    → IsLog (form_of log) entries (s.file log.file)
+reads_log s log entries reads = record {
+  gate = reads.gate;
+  closed = reads.closed;
+  rest =
+      reads.rest;
+  is = reads.file;
+  lengths = reads.lengths;
+}
 
 -- each stop leaves the log's file with its entries
-pub in_each_image : (s : DiskState) (log : GateLog) (entries : List (List ℕ)) → Stands s log entries → (left : Option (List ℕ)) → Fits (now s log.file) left → IsLog entries left
-in_each_image s log entries stands left fits = subst (IsLog entries) (sym (stands.settled left fits)) (reads_log s log entries stands.reads)
+pub in_each_image : (s : DiskState) (log : GateLog) (entries : List (List ℕ)) → Stands s log entries
+    → (left : Option (List ℕ)) → Fits (now s log.file) left → IsLog (form_of log) entries left
+in_each_image s log entries stands left fits =
+    subst (IsLog (form_of log) entries) (sym (stands.settled left fits))
+    (reads_log s log entries stands.reads)
 
 -- where the file reads as before, so does the log
-pub reads_stays : (a b : DiskState) (log : GateLog) (entries : List (List ℕ)) → b.file log.file ≡ a.file log.file → Reads a log entries → Reads b log entries
+pub reads_stays : (a b : DiskState) (log : GateLog) (entries : List (List ℕ))
+    → b.file log.file ≡ a.file log.file → Reads a log entries → Reads b log entries
 reads_stays a b log entries same reads = record {
   gate = reads.gate;
   closed = reads.closed;
@@ -28,15 +41,28 @@ reads_stays a b log entries same reads = record {
 }
 
 -- where no file changes a log stands as it stood
-pub stands_same : (a b : DiskState) (log : GateLog) (entries : List (List ℕ)) → Same a b → Stands a log entries → Stands b log entries
+pub stands_same : (a b : DiskState) (log : GateLog) (entries : List (List ℕ)) → Same a b
+    → Stands a log entries → Stands b log entries
 stands_same a b log entries same stands = record {
   reads = reads_stays a b log entries (same.file log.file) stands.reads;
-  settled = λ left fits. stands.settled left (subst (λ (x : Fates). Fits x left) (same.fates log.file) fits) ∙ sym (same.file log.file);
+  settled = λ left fits. stands.settled left (subst (λ (x : Fates). Fits x left)
+      (same.fates log.file) fits) ∙ sym (same.file log.file);
 }
 
 -- and calls on another file leave it
-pub stays : (a b : DiskState) (log : GateLog) (entries : List (List ℕ)) (f : ℕ) (P : ℕ → Option (List ℕ) → Type 0) → Stands a log entries → Run a b f P → log.file ≢ f → Stands b log entries
+pub stays : (a b : DiskState) (log : GateLog) (entries : List (List ℕ)) (f : ℕ)
+    (P : ℕ → Option (List ℕ) → Type 0) → Stands a log entries → Run a b f P → log.file ≢ f
+    → Stands b log entries
 stays a b log entries f P stands run other = record {
   reads = reads_stays a b log entries (run.file log.file other) stands.reads;
-  settled = λ left fits. stands.settled left (subst (λ (x : Fates). Fits x left) (run.fates b.moment log.file other run.later (omega arith)) fits) ∙ sym (run.file log.file other);
+  settled = λ left fits. stands.settled left (subst (λ (x : Fates). Fits x left)
+      (run.fates b.moment log.file other run.later (omega arith)) fits)
+      ∙ sym (run.file log.file other);
 }
+
+-- and so do calls that leave every file
+pub stands_quiet : (a b : DiskState) (log : GateLog) (entries : List (List ℕ))
+    → Stands a log entries → Quiet a b
+    → Stands b log entries
+stands_quiet a b log entries stands quiet = stands_same a b log entries
+    (quiet_same a b quiet) stands

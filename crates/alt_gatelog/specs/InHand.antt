@@ -1,10 +1,14 @@
 -- A log in hand, and the disk on which its file lies.
-use Rattle.std.specs.Prelude.{◌≡◌, ◌≢◌, ◌⊎◌, ℕ, List, ◌∷◌, ◌++◌, length, get_or, Option, Some}
+use Rattle.std.specs.Prelude.{◌≡◌, ◌≢◌, ◌⊎◌, ℕ, List, length, get_or, Option, Some}
 use Rattle.std.specs.List.{AllByRecursion}
 use Rattle.alt_disk.specs.Fates.{Fits, synced, wrote}
 use Rattle.alt_disk.specs.Disk.{DiskState, IsSettled, now}
-use Rattle.alt_gatelog.specs.Log.{log_front, gates_from, IsShortEntry}
+use Rattle.alt_gatelog.specs.Log.{Form, first_form, log_front, log_bytes, gates_from, IsShortEntry}
 use Rattle.alt_gatelog.specs.declared.gatelog.GateLog.{GateLog}
+
+-- its form, the one that there is today
+abbrev pub form_of : GateLog → Form
+form_of log = first_form
 
 -- the number of its file
 abbrev pub file_of : GateLog → ℕ
@@ -19,41 +23,44 @@ abbrev pub place_of : GateLog → ℕ → ℕ
 place_of log i = get_or log.places.items i 0
 
 -- bytes that are a gated log of these entries, with the closed gate and the entries' gates at these places
-pub record LogAs (bytes : List ℕ) (at : ℕ) (places : List ℕ) (entries : List (List ℕ)) : Type 0 where
+pub record LogAs (form : Form) (bytes : List ℕ) (at : ℕ) (places : List ℕ)
+    (entries : List (List ℕ)) : Type 0 where
   pub gate : ℕ
   pub closed : gate ≢ 1
   pub rest : List ℕ
-  pub is : bytes ≡ log_front entries ++ gate ∷ rest
+  pub is : bytes ≡ log_bytes form entries gate rest
   pub lengths : AllByRecursion IsShortEntry entries
-  pub is_at : at ≡ length (log_front entries)
+  pub is_at : at ≡ length (log_front form entries)
   pub are_at : places ≡ gates_from 8 entries
 
 -- the log is that of these bytes
 abbrev pub IsReadAs : List ℕ → GateLog → List (List ℕ) → Type 0
-IsReadAs bytes log entries = LogAs bytes log.gate log.places.items entries
+IsReadAs bytes log entries = LogAs (form_of log) bytes log.gate log.places.items entries
 
 -- a file that reads as a gated log of these entries, with the closed gate and the entries' gates at these places
-pub record ReadsAs (s : DiskState) (f at : ℕ) (places : List ℕ) (entries : List (List ℕ)) : Type 0 where
+pub record ReadsAs (form : Form) (s : DiskState) (f at : ℕ) (places : List ℕ)
+    (entries : List (List ℕ)) : Type 0 where
   pub gate : ℕ
   pub closed : gate ≢ 1
   pub rest : List ℕ
-  pub file : s.file f ≡ Some (log_front entries ++ gate ∷ rest)
+  pub file : s.file f ≡ Some (log_bytes form entries gate rest)
   pub lengths : AllByRecursion IsShortEntry entries
-  pub is_at : at ≡ length (log_front entries)
+  pub is_at : at ≡ length (log_front form entries)
   pub are_at : places ≡ gates_from 8 entries
 
 -- the log in hand is that of its file as it reads, a gated log of these entries
 abbrev pub Reads : DiskState → GateLog → List (List ℕ) → Type 0
-Reads s log entries = ReadsAs s log.file log.gate log.places.items entries
+Reads s log entries = ReadsAs (form_of log) s log.file log.gate log.places.items entries
 
 -- and a stop leaves its file as it reads
-pub record StandsAs (s : DiskState) (f at : ℕ) (places : List ℕ) (entries : List (List ℕ)) : Type 0 where
-  pub reads : ReadsAs s f at places entries
+pub record StandsAs (form : Form) (s : DiskState) (f at : ℕ) (places : List ℕ)
+    (entries : List (List ℕ)) : Type 0 where
+  pub reads : ReadsAs form s f at places entries
   pub settled : IsSettled s f
 
 -- the log in hand stands for these entries, in reads and in what a stop now leaves
 abbrev pub Stands : DiskState → GateLog → List (List ℕ) → Type 0
-Stands s log entries = StandsAs s log.file log.gate log.places.items entries
+Stands s log entries = StandsAs (form_of log) s log.file log.gate log.places.items entries
 
 -- it is the same log: a call left it as it was
 pub record SameLog (old new : GateLog) : Type 0 where

@@ -1,3 +1,4 @@
 pub mod Log
 pub mod InHand
 pub mod Parse
+pub mod Laws

@@ -1,13 +1,17 @@
 -- What a gated log is: a header, entries behind open gates, and a closed gate (docs/formats/gated-log.md).
-use Rattle.std.specs.Prelude.{◌≡◌, ◌≢◌, ◌⊎◌, ◌+◌, ◌<◌, ◌^◌, ℕ, List, [], ◌∷◌, ◌++◌, length, take, Option, Some}
+use Rattle.std.specs.Prelude.{◌≡◌, ◌≢◌, ◌⊎◌, ◌+◌, ◌<◌, ◌^◌, ℕ, List, [], ◌∷◌, ◌++◌, length, take, drop, Option, Some}
 use Rattle.std.specs.List.{AllByRecursion}
 use Rattle.std.specs.Int.{w64, to_be_bytes, from_be_bytes}
 use Rattle.alt_gatelog.specs.declared.fault.LogFault.{LogFault}
 use Rattle.alt_gatelog.specs.declared.fault.LogFault.TheVariants.{Damaged, Failed, NoMemory}
 
--- the bytes `ALTLOG01`
-unfoldable pub header : List ℕ
-header = 65 ∷ 76 ∷ 84 ∷ 76 ∷ 79 ∷ 71 ∷ 48 ∷ 49 ∷ []
+-- a form of gated logs, which its header names; there is one today
+pub data Form : Type 0 where
+  first_form : Form
+
+-- the eight bytes that a log of a form begins with: `ALTLOG01`
+unfoldable pub header : Form → List ℕ
+header first_form = 65 ∷ 76 ∷ 84 ∷ 76 ∷ 79 ∷ 71 ∷ 48 ∷ 49 ∷ []
 
 -- an entry's length in eight bytes, and its bytes
 unfoldable pub framed : List ℕ → List ℕ
@@ -19,8 +23,21 @@ behind_gates [] = []
 behind_gates (entry ∷ entries) = 1 ∷ framed entry ++ behind_gates entries
 
 -- all of a log before its closed gate
-abbrev pub log_front : List (List ℕ) → List ℕ
-log_front entries = header ++ behind_gates entries
+abbrev pub log_front : Form → List (List ℕ) → List ℕ
+log_front form entries = header form ++ behind_gates entries
+
+-- a log of these entries, behind which a gate stands that is closed by this byte, and then the rest
+abbrev pub log_bytes : Form → List (List ℕ) → ℕ → List ℕ → List ℕ
+log_bytes form entries gate rest = log_front form entries ++ gate ∷ rest
+
+-- the bytes after one more entry was added to these: it ends with the closed gate 00, and behind it stands what stood there
+abbrev pub log_after : Form → List (List ℕ) → List ℕ → List ℕ → List ℕ
+log_after form entries entry rest =
+    log_bytes form (entries ++ entry ∷ []) 0 (drop (length entry + 9) rest)
+
+-- the place of an entry's gate, right behind the entries before it
+abbrev pub gate_place : Form → List (List ℕ) → ℕ → ℕ
+gate_place form entries i = length (log_front form (take i entries))
 
 -- the place of each entry's gate, the first at this place
 abbrev pub gates_from : ℕ → List (List ℕ) → List ℕ
@@ -31,30 +48,34 @@ gates_from at (entry ∷ entries) = at ∷ gates_from (at + 9 + length entry) en
 abbrev pub IsShortEntry : List ℕ → Type 0
 IsShortEntry entry = length entry < 2 ^ 64
 
--- the file is a gated log of these entries
-pub record IsLog (entries : List (List ℕ)) (file : Option (List ℕ)) : Type 0 where
+-- the file is a gated log of this form and of these entries
+pub record IsLog (form : Form) (entries : List (List ℕ)) (file : Option (List ℕ)) : Type 0 where
   pub gate : ℕ
   pub closed : gate ≢ 1
   pub rest : List ℕ
-  pub is : file ≡ Some (log_front entries ++ gate ∷ rest)
+  pub is : file ≡ Some (log_bytes form entries gate rest)
   pub lengths : AllByRecursion IsShortEntry entries
 
 -- the list before, or with one entry more
-abbrev pub BeforeOrAfter : List (List ℕ) → List ℕ → ℕ → Option (List ℕ) → Type 0
-BeforeOrAfter entries entry t file = IsLog entries file ⊎ IsLog (entries ++ entry ∷ []) file
+abbrev pub BeforeOrAfter : Form → List (List ℕ) → List ℕ → ℕ → Option (List ℕ) → Type 0
+BeforeOrAfter form entries entry t file =
+    IsLog form entries file ⊎ IsLog form (entries ++ entry ∷ []) file
 
 -- behind whole entries there is the end, or an open gate with no whole entry behind it
 abbrev pub IsCut : List ℕ → Type 0
 IsCut [] = Unit {0}
-IsCut (gate ∷ rest) = (gate ≡ 1) × ((length rest < 8) ⊎ (length rest < 8 + from_be_bytes w64 (take 8 rest)))
+IsCut (gate ∷ rest) = (gate ≡ 1) × ((length rest < 8)
+    ⊎ (length rest < 8 + from_be_bytes w64 (take 8 rest)))
 
--- the bytes are no gated log from this place on: they have no header, or end there
-pub data IsDamaged (at : ℕ) (bytes : List ℕ) : Type 0 where
-  no_header : at ≡ 0 → (take 8 bytes ≡ header → ⊥) → IsDamaged at bytes
-  ends_inside : (entries : List (List ℕ)) (rest : List ℕ) → bytes ≡ log_front entries ++ rest → AllByRecursion IsShortEntry entries → at ≡ length (log_front entries) → IsCut rest → IsDamaged at bytes
+-- the bytes are no gated log of a form from this place on: they have no header, or end there
+pub data IsDamaged (form : Form) (at : ℕ) (bytes : List ℕ) : Type 0 where
+  no_header : at ≡ 0 → (take 8 bytes ≡ header form → ⊥) → IsDamaged form at bytes
+  ends_inside : (entries : List (List ℕ)) (rest : List ℕ) → bytes ≡ log_front form entries ++ rest
+      → AllByRecursion IsShortEntry entries → at ≡ length (log_front form entries) → IsCut rest
+      → IsDamaged form at bytes
 
 -- a fault of this file's bytes names the place where they are no gated log
-abbrev pub ExplainsLog : ℕ → List ℕ → LogFault → Type 0
-ExplainsLog f bytes (Damaged file at) = (file ≡ f) × IsDamaged at bytes
-ExplainsLog f bytes Failed = Unit {0}
-ExplainsLog f bytes NoMemory = Unit {0}
+abbrev pub ExplainsLog : Form → ℕ → List ℕ → LogFault → Type 0
+ExplainsLog form f bytes (Damaged file at) = (file ≡ f) × IsDamaged form at bytes
+ExplainsLog form f bytes Failed = Unit {0}
+ExplainsLog form f bytes NoMemory = Unit {0}

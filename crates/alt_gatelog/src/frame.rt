@@ -2,7 +2,7 @@
 
 ghost use Rattle.std.specs.Prelude.{◌≡◌, ◌≢◌, true, false, ◌<◌, ◌≤◌, ◌+◌, ◌-◌, ◌^◌, ◌∷◌, ◌++◌, [], ℕ, List, IfOk, IfSome, IfNone, length, take, drop};
 ghost use Rattle.std.specs.Int.{w64, to_be_bytes};
-ghost use Rattle.alt_gatelog.specs.Log.{framed, header, IsCut};
+ghost use Rattle.alt_gatelog.specs.Log.{first_form, framed, header, IsCut};
 ghost use Rattle.alt_gatelog.specs.Parse.{GateIs, HasRoom};
 
 use std::alloc::{AllocError, Global};
@@ -31,8 +31,8 @@ pub(crate) fn frame(alloc: Global, bytes: &[u8]) -> Result<Vec<u8>, AllocError>
 
 /// Whether these bytes are the header of a log.
 pub(crate) fn is_header(head: &[u8]) -> bool
-    ensures yes { result ≡ true → head.now ≡ header }
-    ensures no { result ≡ false → head.now ≢ header }
+    ensures yes { result ≡ true → head.now ≡ header first_form }
+    ensures no { result ≡ false → head.now ≢ header first_form }
 {
     head == b"ALTLOG01".as_slice()
 }
@@ -40,8 +40,10 @@ pub(crate) fn is_header(head: &[u8]) -> bool
 /// What stands at a gate's place, by its first nine bytes and how many bytes there are to the file's end. None where the file ends
 /// too early.
 pub(crate) fn gate_of(head: &[u8], left: u64) -> Option<Gate>
-    ensures some { IfSome result (λ gate. (bytes : List ℕ) (at : ℕ) → head.now ≡ take 9 (drop at bytes) → left ≡ length bytes - at → GateIs bytes at gate) }
-    ensures none { IfNone result ((bytes : List ℕ) (at : ℕ) → head.now ≡ take 9 (drop at bytes) → left ≡ length bytes - at → IsCut (drop at bytes)) }
+    ensures some { IfSome result (λ gate. (bytes : List ℕ) (at : ℕ)
+        → head.now ≡ take 9 (drop at bytes) → left ≡ length bytes - at → GateIs bytes at gate) }
+    ensures none { IfNone result ((bytes : List ℕ) (at : ℕ) → head.now ≡ take 9 (drop at bytes)
+        → left ≡ length bytes - at → IsCut (drop at bytes)) }
     ensures room { IfSome result (λ gate. HasRoom left gate) }
 {
     if head.is_empty() || left == 0 {

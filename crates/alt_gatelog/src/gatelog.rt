@@ -23,23 +23,29 @@ pub struct GateLog {
 }
 
 impl GateLog {
-    ghost use Rattle.std.specs.Prelude.{ℕ, List, [], ◌∷◌, ◌++◌, None, IfOk, IfErr, OnOk, OnErr, IsErrOf, IsTrue, ⊤, length, get_or, ◌+◌, ◌==◌, if◌then◌else◌};
+    ghost use Rattle.std.specs.Prelude.{ℕ, List, [], ◌∷◌, ◌++◌, None, Some, IfOk, IfErr, OnOk, OnErr, IsErrOf, IsTrue, ⊤, length, get_or, ◌+◌, ◌==◌, if◌then◌else◌};
     ghost use Rattle.alt_base.specs.Counts.{Rose};
-    ghost use Rattle.alt_disk.specs.Disk.{IsTrusted, Goes, contents};
+    ghost use Rattle.alt_disk.specs.Disk.{DiskState, IsTrusted, Goes, contents};
     ghost use Rattle.alt_disk.specs.Runs.{Run, Quiet};
-    ghost use Rattle.alt_gatelog.specs.Log.{IsLog, BeforeOrAfter, ExplainsLog};
-    ghost use Rattle.alt_gatelog.specs.InHand.{file_of, count_of, place_of, Reads, SameLog, Stands};
+    ghost use Rattle.alt_gatelog.specs.Log.{first_form, log_bytes, log_after, gate_place, BeforeOrAfter, ExplainsLog};
+    ghost use Rattle.alt_gatelog.specs.InHand.{file_of, form_of, count_of, place_of, Reads, SameLog, Stands};
     ghost use Rattle.alt_gatelog.specs.Parse.{HasNoLog, IsNoDamage, IsDamageAt};
 
-    /// Makes an empty log in a missing file.
+    /// Makes an empty log in a missing file, which then has nine bytes.
     pub fn make<D: Disk>(alloc: Global, disk: &mut D, f: u32) -> Result<GateLog, DiskFault>
         requires { IsTrusted (D.state disk.old) → (D.state disk.old).file f ≡ None }
         ensures file { IfOk result (λ log. file_of log ≡ f) }
-        ensures made { IfOk result (λ log. IsTrusted (D.state disk.old) → Stands (D.state disk.new) log []) }
-        ensures any_moment { IsTrusted (D.state disk.old) → Run (D.state disk.old) (D.state disk.new) f (λ _ _. ⊤) }
+        ensures made { IfOk result (λ log. IsTrusted (D.state disk.old)
+            → Stands (D.state disk.new) log []) }
+        ensures bytes { IfOk result (λ log. IsTrusted (D.state disk.old)
+            → (D.state disk.new).file f ≡ Some (log_bytes (form_of log) [] 0 [])) }
+        ensures any_moment { IsTrusted (D.state disk.old)
+            → Run (D.state disk.old) (D.state disk.new) f (λ _ _. ⊤) }
         ensures calls { OnOk result ((D.state disk.new).moment ≡ (D.state disk.old).moment + 2) }
         ensures goes { Goes (D.state disk.old) (D.state disk.new) }
-        ensures cause { IsErrOf result DiskFault.Failed → Rose (D.state disk.old).faults (D.state disk.new).faults }
+        ensures cause { IsErrOf result DiskFault.Failed
+            → Rose (D.state disk.old).faults (D.state disk.new).faults }
+        ensures well { OnOk result ((D.state disk.new).faults ≡ (D.state disk.old).faults) }
     {
         write_and_sync(disk, f, 0, b"ALTLOG01\0")?;
         Ok(GateLog {
@@ -53,21 +59,36 @@ impl GateLog {
     /// Adds an entry. At Ok a stop from then on leaves a file that has it. At Failed recover the log again before the next entry,
     /// since the file may read with the entry or without.
     pub fn append<D: Disk>(&mut self, disk: &mut D, bytes: &[u8]) -> Result<(), DiskFault>
-        requires { IsTrusted (D.state disk.old) → (entries : List (List ℕ)) × Stands (D.state disk.old) self.old entries }
+        requires { IsTrusted (D.state disk.old)
+            → (entries : List (List ℕ)) × Reads (D.state disk.old) self.old entries }
         ensures file { file_of self.new ≡ file_of self.old }
 
-        // At Ok the list is the old one with the entry, as the disk reads and in what a stop leaves.
-        ensures ok { OnOk result (IsTrusted (D.state disk.old) → (entries : List (List ℕ)) → Stands (D.state disk.old) self.old entries
+        // At Ok the list is the old one with the entry, as the disk reads and in what a stop leaves, and ends with the closed gate 00.
+        ensures ok { OnOk result (IsTrusted (D.state disk.old) → (entries : List (List ℕ))
+            → Reads (D.state disk.old) self.old entries
             → Stands (D.state disk.new) self.new (entries ++ bytes.now ∷ [])) }
+        ensures bytes { OnOk result (IsTrusted (D.state disk.old) → (entries : List (List ℕ))
+            → (reads : Reads (D.state disk.old) self.old entries)
+            → (D.state disk.new).file (file_of self.old)
+            ≡ Some (log_after (form_of self.old) entries bytes.now reads.rest)) }
         ensures err { OnErr result (SameLog self.old self.new) }
 
-        // A stop at any moment of the call leaves the list from before it, or with the entry, and other files as they were.
-        ensures any_moment { IsTrusted (D.state disk.old) → (entries : List (List ℕ)) → Stands (D.state disk.old) self.old entries
-            → Run (D.state disk.old) (D.state disk.new) (file_of self.old) (BeforeOrAfter entries bytes.now) }
-        ensures no_memory { IsErrOf result DiskFault.NoMemory → D.state disk.new ≡ D.state disk.old }
+        // Where a stop left the log so before, one at any moment of the call leaves the list from before it, or with the entry.
+        ensures any_moment { IsTrusted (D.state disk.old) → (entries : List (List ℕ))
+            → Stands (D.state disk.old) self.old entries
+            → Run (D.state disk.old) (D.state disk.new) (file_of self.old)
+            (BeforeOrAfter (form_of self.old) entries bytes.now) }
+
+        // Other files stay as they were, in reads and in what a stop leaves.
+        ensures others { IsTrusted (D.state disk.old)
+            → Run (D.state disk.old) (D.state disk.new) (file_of self.old) (λ _ _. ⊤) }
+        ensures no_memory { IsErrOf result DiskFault.NoMemory
+            → D.state disk.new ≡ D.state disk.old }
         ensures calls { OnOk result ((D.state disk.new).moment ≡ (D.state disk.old).moment + 4) }
         ensures goes { Goes (D.state disk.old) (D.state disk.new) }
-        ensures cause { IsErrOf result DiskFault.Failed → Rose (D.state disk.old).faults (D.state disk.new).faults }
+        ensures cause { IsErrOf result DiskFault.Failed
+            → Rose (D.state disk.old).faults (D.state disk.new).faults }
+        ensures well { OnOk result ((D.state disk.new).faults ≡ (D.state disk.old).faults) }
     {
         let block = frame(self.alloc, bytes)?;
         self.places.reserve(1)?;
@@ -80,7 +101,9 @@ impl GateLog {
 
     /// How many entries there are.
     pub fn entries(&self) -> usize
-        ensures { result ≡ count_of self.now }
+        ensures count { result ≡ count_of self.now }
+        ensures list { (s : DiskState) (entries : List (List ℕ)) → Reads s self.now entries
+            → result ≡ length entries }
     {
         self.places.len()
     }
@@ -88,12 +111,19 @@ impl GateLog {
     /// Reads the log of a file. It holds the places of the entries, and no entry.
     pub fn recover<D: Disk>(alloc: Global, disk: &mut D, f: u32) -> Result<GateLog, LogFault>
         ensures file { IfOk result (λ log. file_of log ≡ f) }
-        ensures reads { IfOk result (λ log. IsTrue (D.state disk.old).tells → (entries : List (List ℕ)) × Reads (D.state disk.new) log entries) }
-        ensures damaged { IsTrue (D.state disk.old).tells → IfErr result (ExplainsLog f (contents (D.state disk.old) f)) }
-        ensures no_log { IsTrue (D.state disk.old).tells → IfErr result (HasNoLog (contents (D.state disk.old) f)) }
-        ensures quiet { IsTrue (D.state disk.old).tells → Quiet (D.state disk.old) (D.state disk.new) }
+        ensures reads { IfOk result (λ log. IsTrue (D.state disk.old).tells
+            → (entries : List (List ℕ)) × Reads (D.state disk.new) log entries) }
+        ensures damaged { IsTrue (D.state disk.old).tells
+            → IfErr result (ExplainsLog first_form f (contents (D.state disk.old) f)) }
+        ensures no_log { IsTrue (D.state disk.old).tells
+            → IfErr result (HasNoLog first_form (contents (D.state disk.old) f)) }
+        ensures quiet { IsTrue (D.state disk.old).tells
+            → Quiet (D.state disk.old) (D.state disk.new) }
         ensures goes { Goes (D.state disk.old) (D.state disk.new) }
-        ensures cause { IsErrOf result LogFault.Failed → Rose (D.state disk.old).faults (D.state disk.new).faults }
+        ensures cause { IsErrOf result LogFault.Failed
+            → Rose (D.state disk.old).faults (D.state disk.new).faults }
+        ensures well { (IsErrOf result LogFault.Failed → ⊥)
+            → (D.state disk.new).faults ≡ (D.state disk.old).faults }
     {
         match size_of_log(disk, f) {
             Ok(size) => walk(alloc, disk, f, size),
@@ -109,15 +139,23 @@ impl GateLog {
         out: &mut Vec<u8>,
     ) -> Result<(), LogFault>
         requires { i < count_of self.old }
-        ensures ok { OnOk result (IsTrue (D.state disk.old).tells → (entries : List (List ℕ)) → Reads (D.state disk.old) self.old entries
+        ensures ok { OnOk result (IsTrue (D.state disk.old).tells → (entries : List (List ℕ))
+            → Reads (D.state disk.old) self.old entries
             → out.new.items ≡ out.old.items ++ get_or entries i []) }
         ensures err { OnErr result (out.new.items ≡ out.old.items) }
-        ensures undamaged { IsTrue (D.state disk.old).tells → (entries : List (List ℕ)) → Reads (D.state disk.old) self.old entries → IfErr result IsNoDamage }
-        ensures damaged { IfErr result (IsDamageAt (file_of self.old) (place_of self.old i)) }
+        ensures undamaged { IsTrue (D.state disk.old).tells → (entries : List (List ℕ))
+            → Reads (D.state disk.old) self.old entries → IfErr result IsNoDamage }
+        ensures damaged { (s : DiskState) (entries : List (List ℕ)) → Reads s self.old entries
+            → IfErr result (IsDamageAt (file_of self.old)
+            (gate_place (form_of self.old) entries i)) }
         ensures list { self.new ≡ self.old }
-        ensures quiet { IsTrue (D.state disk.old).tells → Quiet (D.state disk.old) (D.state disk.new) }
+        ensures quiet { IsTrue (D.state disk.old).tells
+            → Quiet (D.state disk.old) (D.state disk.new) }
         ensures goes { Goes (D.state disk.old) (D.state disk.new) }
-        ensures cause { IsErrOf result LogFault.Failed → Rose (D.state disk.old).faults (D.state disk.new).faults }
+        ensures cause { IsErrOf result LogFault.Failed
+            → Rose (D.state disk.old).faults (D.state disk.new).faults }
+        ensures well { (IsErrOf result LogFault.Failed → ⊥)
+            → (D.state disk.new).faults ≡ (D.state disk.old).faults }
     {
         let at = self.places[i];
         let next = self.next_gate(i);
@@ -145,7 +183,8 @@ impl GateLog {
     // The place of the gate behind an entry.
     fn next_gate(&self, i: usize) -> u64
         requires { i < count_of self.now }
-        ensures next { result ≡ (if i + 1 == count_of self.now then self.now.gate else place_of self.now (i + 1)) }
+        ensures next { result ≡ (if i + 1 == count_of self.now then self.now.gate
+            else place_of self.now (i + 1)) }
         ensures bound { result < 2 ^ 62 }
     {
         if i + 1 == self.places.len() {

@@ -5,10 +5,9 @@ mod durable;
 mod fault;
 mod frame;
 mod gatelog;
+mod laws;
 mod read;
 
 pub use fault::LogFault;
 pub use gatelog::GateLog;
-
-#[cfg(test)]
-mod tests;
+pub use laws::log_laws;

@@ -4,7 +4,7 @@ ghost use Rattle.std.specs.Prelude.{◌≡◌, ◌≤◌, ◌+◌, ◌-◌, ◌^
 ghost use Rattle.alt_base.specs.Counts.{Rose};
 ghost use Rattle.alt_disk.specs.Disk.{Goes, contents};
 ghost use Rattle.alt_disk.specs.Runs.{Quiet};
-ghost use Rattle.alt_gatelog.specs.Log.{header, ExplainsLog};
+ghost use Rattle.alt_gatelog.specs.Log.{first_form, header, ExplainsLog};
 ghost use Rattle.alt_gatelog.specs.InHand.{file_of, IsReadAs};
 ghost use Rattle.alt_gatelog.specs.Parse.{GateIs, HasRoom, IsCutAt, HasNoHeader};
 
@@ -16,13 +16,20 @@ use std::alloc::Global;
 
 /// The size of a file that begins with the header.
 pub(crate) fn size_of_log<D: Disk>(disk: &mut D, f: u32) -> Result<u64, LogFault>
-    ensures size { IsTrue (D.state disk.old).tells → IfOk result (λ size. size ≡ length (contents (D.state disk.old) f)) }
-    ensures header { IsTrue (D.state disk.old).tells → IfOk result (λ size. take 8 (contents (D.state disk.old) f) ≡ header) }
+    ensures size { IsTrue (D.state disk.old).tells
+        → IfOk result (λ size. size ≡ length (contents (D.state disk.old) f)) }
+    ensures header { IsTrue (D.state disk.old).tells
+        → IfOk result (λ size. take 8 (contents (D.state disk.old) f) ≡ header first_form) }
     ensures bound { IfOk result (λ size. (8 ≤ size) × (size ≤ 2 ^ 62)) }
-    ensures damaged { IsTrue (D.state disk.old).tells → IfErr result (HasNoHeader f (contents (D.state disk.old) f)) }
-    ensures quiet { IsTrue (D.state disk.old).tells → Quiet (D.state disk.old) (D.state disk.new) }
+    ensures damaged { IsTrue (D.state disk.old).tells
+        → IfErr result (HasNoHeader first_form f (contents (D.state disk.old) f)) }
+    ensures quiet { IsTrue (D.state disk.old).tells
+        → Quiet (D.state disk.old) (D.state disk.new) }
     ensures goes { Goes (D.state disk.old) (D.state disk.new) }
-    ensures cause { IsErrOf result LogFault.Failed → Rose (D.state disk.old).faults (D.state disk.new).faults }
+    ensures cause { IsErrOf result LogFault.Failed
+        → Rose (D.state disk.old).faults (D.state disk.new).faults }
+    ensures well { (IsErrOf result LogFault.Failed → ⊥)
+        → (D.state disk.new).faults ≡ (D.state disk.old).faults }
 {
     let size = disk.size(f)?;
     if size < 8 {
@@ -39,12 +46,20 @@ pub(crate) fn size_of_log<D: Disk>(disk: &mut D, f: u32) -> Result<u64, LogFault
 /// What stands at a gate's place in a file of this size.
 pub(crate) fn gate_at<D: Disk>(disk: &mut D, f: u32, at: u64, size: u64) -> Result<Gate, LogFault>
     requires { at ≤ size }
-    ensures gate { IsTrue (D.state disk.old).tells → size ≡ length (contents (D.state disk.old) f) → IfOk result (GateIs (contents (D.state disk.old) f) at) }
-    ensures damaged { IsTrue (D.state disk.old).tells → size ≡ length (contents (D.state disk.old) f) → IfErr result (IsCutAt f at (contents (D.state disk.old) f)) }
+    ensures gate { IsTrue (D.state disk.old).tells
+        → size ≡ length (contents (D.state disk.old) f)
+        → IfOk result (GateIs (contents (D.state disk.old) f) at) }
+    ensures damaged { IsTrue (D.state disk.old).tells
+        → size ≡ length (contents (D.state disk.old) f)
+        → IfErr result (IsCutAt f at (contents (D.state disk.old) f)) }
     ensures room { IfOk result (HasRoom (size - at)) }
-    ensures quiet { IsTrue (D.state disk.old).tells → Quiet (D.state disk.old) (D.state disk.new) }
+    ensures quiet { IsTrue (D.state disk.old).tells
+        → Quiet (D.state disk.old) (D.state disk.new) }
     ensures goes { Goes (D.state disk.old) (D.state disk.new) }
-    ensures cause { IsErrOf result LogFault.Failed → Rose (D.state disk.old).faults (D.state disk.new).faults }
+    ensures cause { IsErrOf result LogFault.Failed
+        → Rose (D.state disk.old).faults (D.state disk.new).faults }
+    ensures well { (IsErrOf result LogFault.Failed → ⊥)
+        → (D.state disk.new).faults ≡ (D.state disk.old).faults }
 {
     let mut head = [0u8; 9];
     let count = disk.read(f, at, &mut head)?;
@@ -62,14 +77,22 @@ pub(crate) fn walk<D: Disk>(
     size: u64,
 ) -> Result<GateLog, LogFault>
     requires bound { (8 ≤ size) × (size ≤ 2 ^ 62) }
-    requires size { IsTrue (D.state disk.old).tells → size ≡ length (contents (D.state disk.old) f) }
-    requires header { IsTrue (D.state disk.old).tells → take 8 (contents (D.state disk.old) f) ≡ header }
+    requires size { IsTrue (D.state disk.old).tells
+        → size ≡ length (contents (D.state disk.old) f) }
+    requires header { IsTrue (D.state disk.old).tells
+        → take 8 (contents (D.state disk.old) f) ≡ header first_form }
     ensures file { IfOk result (λ log. file_of log ≡ f) }
-    ensures reads { IfOk result (λ log. IsTrue (D.state disk.old).tells → (entries : List (List ℕ)) × IsReadAs (contents (D.state disk.old) f) log entries) }
-    ensures damaged { IsTrue (D.state disk.old).tells → IfErr result (ExplainsLog f (contents (D.state disk.old) f)) }
-    ensures quiet { IsTrue (D.state disk.old).tells → Quiet (D.state disk.old) (D.state disk.new) }
+    ensures reads { IfOk result (λ log. IsTrue (D.state disk.old).tells
+        → (entries : List (List ℕ)) × IsReadAs (contents (D.state disk.old) f) log entries) }
+    ensures damaged { IsTrue (D.state disk.old).tells
+        → IfErr result (ExplainsLog first_form f (contents (D.state disk.old) f)) }
+    ensures quiet { IsTrue (D.state disk.old).tells
+        → Quiet (D.state disk.old) (D.state disk.new) }
     ensures goes { Goes (D.state disk.old) (D.state disk.new) }
-    ensures cause { IsErrOf result LogFault.Failed → Rose (D.state disk.old).faults (D.state disk.new).faults }
+    ensures cause { IsErrOf result LogFault.Failed
+        → Rose (D.state disk.old).faults (D.state disk.new).faults }
+    ensures well { (IsErrOf result LogFault.Failed → ⊥)
+        → (D.state disk.new).faults ≡ (D.state disk.old).faults }
 {
     let mut places = Vec::new(alloc);
     let mut at = 8;

@@ -16,17 +16,21 @@ pub record IsEnd (front prefix : List ℕ) : Type 0 where
   pub is : prefix ≡ front ++ behind
   pub full : IsFull behind
 
+-- bytes up to the bound, where it is at the front, and behind it
 pub end_at_first : (s : List ℕ) → IsEnd s s
 end_at_first s = record { behind = []; is = sym (append-nil s); full = tt }
 
-pub end_before : (front before prefix : List ℕ) (last : ℕ) → front ≡ before ++ last ∷ [] → last ≡ 255 → IsEnd front prefix → IsEnd before prefix
+pub end_before : (front before prefix : List ℕ) (last : ℕ) → front ≡ before ++ last ∷ []
+    → last ≡ 255 → IsEnd front prefix → IsEnd before prefix
 end_before front before prefix last e high h = record {
   behind = last ∷ h.behind;
   is = h.is ∙ ap (λ s. s ++ h.behind) e ∙ append_assoc before (last ∷ []) h.behind;
   full = (high, h.full);
 }
 
-pub bound_here : (front before prefix : List ℕ) (last : ℕ) → front ≡ before ++ last ∷ [] → last < 255 → IsEnd front prefix → IsBoundOf before last prefix
+-- the bound of bytes that begin with it
+pub bound_here : (front before prefix : List ℕ) (last : ℕ) → front ≡ before ++ last ∷ []
+    → last < 255 → IsEnd front prefix → IsBoundOf before last prefix
 bound_here front before prefix last e low h = record {
   behind = h.behind;
   is = h.is ∙ ap (λ s. s ++ h.behind) e ∙ append_assoc before (last ∷ []) h.behind;
@@ -34,6 +38,7 @@ bound_here front before prefix last e low h = record {
   below = low;
 }
 
+-- bytes of which each is 255
 pub all_full : (prefix : List ℕ) → IsEnd [] prefix → IsFull prefix
 all_full prefix h = rw h.is h.full
 
@@ -51,6 +56,7 @@ pub text_order-front : (f s t : List ℕ) → text_order (f ++ s) (f ++ t) ≡ t
 text_order-front [] s t = refl
 text_order-front (x ∷ f) s t = rw (nat_cmp-equal x x refl) (text_order-front f s t)
 
+-- bytes are up to those that go on from them
 pub up_to_append : (s r : List ℕ) → IsUpTo s (s ++ r)
 up_to_append [] [] = equal-greater
 up_to_append [] (x ∷ r) = less-greater
@@ -70,12 +76,14 @@ above_full (x ∷ t) (y ∷ k) full bytes h = elim (cases_order x y) [
   ]
 ]
 
+-- nothing is below no bytes
 never_below_nothing : (k : List ℕ) → IsBelow k [] → ⊥
 never_below_nothing [] h = let e : Equal ≡ Less = h in absurd (cc)
 never_below_nothing (x ∷ k) h = greater-less h
 
 -- what lies between a prefix and its bound begins with the prefix
-pub between : (f : List ℕ) (x : ℕ) (t k : List ℕ) → IsFull t → AreBytes k → IsUpTo (f ++ x ∷ t) k → IsBelow k (f ++ (x + 1) ∷ []) → IsPrefix (f ++ x ∷ t) k
+pub between : (f : List ℕ) (x : ℕ) (t k : List ℕ) → IsFull t → AreBytes k → IsUpTo (f ++ x ∷ t) k
+    → IsBelow k (f ++ (x + 1) ∷ []) → IsPrefix (f ++ x ∷ t) k
 between [] x t [] full bytes h below = absurd (h refl)
 between [] x t (y ∷ k) full bytes h below = elim (cases_order x y) [
   | inl e ↦
@@ -95,7 +103,8 @@ between [] x t (y ∷ k) full bytes h below = elim (cases_order x y) [
 between (a ∷ f) x t [] full bytes h below = absurd (h refl)
 between (a ∷ f) x t (y ∷ k) full bytes h below = elim (cases_order a y) [
   | inl e ↦
-      let more = between f x t k full bytes.1 (rw (nat_cmp-equal a y e) at h) (rw (nat_cmp-equal y a (sym e)) at below) in
+      let more = between f x t k full bytes.1 (rw (nat_cmp-equal a y e) at h)
+      (rw (nat_cmp-equal y a (sym e)) at below) in
       (more.0, (λ i. sym e i ∷ more.1 i))
   | inr o ↦ elim o [
     | inl lt ↦ absurd (greater-less (rw (nat_cmp-greater y a lt) at below))
@@ -104,10 +113,12 @@ between (a ∷ f) x t (y ∷ k) full bytes h below = elim (cases_order a y) [
 ]
 
 -- what begins with a prefix lies below its bound
-pub below_bound : (f : List ℕ) (x : ℕ) (t r : List ℕ) → IsBelow ((f ++ x ∷ t) ++ r) (f ++ (x + 1) ∷ [])
+pub below_bound : (f : List ℕ) (x : ℕ) (t r : List ℕ)
+    → IsBelow ((f ++ x ∷ t) ++ r) (f ++ (x + 1) ∷ [])
 below_bound f x t r =
     ap (λ s. text_order s (f ++ (x + 1) ∷ [])) (append_assoc f (x ∷ t) r)
-    ∙ text_order-front f ((x ∷ t) ++ r) ((x + 1) ∷ []) ∙ rw (nat_cmp-less x (x + 1) (omega arith)) refl
+    ∙ text_order-front f ((x ∷ t) ++ r) ((x + 1) ∷ [])
+    ∙ rw (nat_cmp-less x (x + 1) (omega arith)) refl
 
 full-last : (f : List ℕ) (x : ℕ) (t : List ℕ) → IsFull (f ++ x ∷ t) → x ≡ 255
 full-last [] x t full = full.0
@@ -115,12 +126,14 @@ full-last (y ∷ f) x t full = full-last f x t full.1
 
 pub bound-not_full : (f : List ℕ) (x : ℕ) (p : List ℕ) → IsBoundOf f x p → IsFull p → ⊥
 bound-not_full f x p h full =
-    let e : x ≡ 255 = full-last f x h.behind (let P : List ℕ → Type 0 = λ s. IsFull s in subst P h.is full) in
+    let e : x ≡ 255 = full-last f x h.behind (let P : List ℕ
+    → Type 0 = λ s. IsFull s in subst P h.is full) in
     let low = h.below in
     omega (arith, e, low)
 
 -- the keys under a prefix lie from it on and below its bound
-pub under_from_range : (f : List ℕ) (x : ℕ) (p b k : List ℕ) → IsBoundOf f x p → b ≡ f ++ (x + 1) ∷ [] → AreBytes k
+pub under_from_range : (f : List ℕ) (x : ℕ) (p b k : List ℕ) → IsBoundOf f x p
+    → b ≡ f ++ (x + 1) ∷ [] → AreBytes k
     → IsUpTo p k → IsBelow k b → IsPrefix p k
 under_from_range f x p b k h e bytes low high =
     let P : List ℕ → Type 0 = λ s. IsUpTo s k in
@@ -128,25 +141,32 @@ under_from_range f x p b k h e bytes low high =
     let under = between f x h.behind k h.full bytes (subst P h.is low) (subst Q e high) in
     (under.0, under.1 ∙ ap (λ s. s ++ under.0) (sym h.is))
 
-pub range_from_under : (f : List ℕ) (x : ℕ) (p b k : List ℕ) → IsBoundOf f x p → b ≡ f ++ (x + 1) ∷ []
+-- the keys under a prefix are those of the range
+pub range_from_under : (f : List ℕ) (x : ℕ) (p b k : List ℕ) → IsBoundOf f x p
+    → b ≡ f ++ (x + 1) ∷ []
     → IsPrefix p k → IsUpTo p k × IsBelow k b
 range_from_under f x p b k h e under = (
   (let P : List ℕ → Type 0 = λ s. IsUpTo p s in subst P (sym under.1) (up_to_append p under.0)),
-  ap (λ s. text_order s b) (under.1 ∙ ap (λ s. s ++ under.0) h.is) ∙ ap (text_order ((f ++ x ∷ h.behind) ++ under.0)) e
+  ap (λ s. text_order s b) (under.1 ∙ ap (λ s. s ++ under.0) h.is)
+      ∙ ap (text_order ((f ++ x ∷ h.behind) ++ under.0)) e
       ∙ below_bound f x h.behind under.0,
 )
 
+-- where all bytes are 255 there is no end
 pub full_range : (p k : List ℕ) → IsPrefix p k → IsUpTo p k
-full_range p k under = let P : List ℕ → Type 0 = λ s. IsUpTo p s in subst P (sym under.1) (up_to_append p under.0)
+full_range p k under = let P : List ℕ → Type 0 = λ s. IsUpTo p s in
+    subst P (sym under.1) (up_to_append p under.0)
 
 less-not_greater : (s t : List ℕ) → IsBelow s t → IsUpTo s t
 less-not_greater s t h = λ g. less-greater (sym h ∙ g)
 
 -- no bytes below the bound are above all keys under the prefix
-pub bound_least : (f : List ℕ) (x : ℕ) (p b c : List ℕ) → IsBoundOf f x p → b ≡ f ++ (x + 1) ∷ [] → AreBytes c
+pub bound_least : (f : List ℕ) (x : ℕ) (p b c : List ℕ) → IsBoundOf f x p → b ≡ f ++ (x + 1) ∷ []
+    → AreBytes c
     → ((k : List ℕ) → IsPrefix p k → IsBelow k c) → IsUpTo b c
 bound_least f x p b c h e bytes above = λ greater.
     let lower : IsBelow c b = nat_list_cmp_total.antisymm c b ∙ ap ordering_reverse greater in
-    let under = under_from_range f x p b c h e bytes (less-not_greater p c (above p ([], sym (append-nil p)))) lower in
+    let under = under_from_range f x p b c h e bytes
+    (less-not_greater p c (above p ([], sym (append-nil p)))) lower in
     let same : Less ≡ Equal = sym (above c under) ∙ text_order-refl c in
     absurd (cc)

@@ -8,9 +8,10 @@ use Rattle.std.proofs.lemmas.List.{append-nil}
 use Rattle.std.proofs.lemmas.Map.Lookups.{exact_bytes}
 use Rattle.alt_value.specs.Members.{text_order}
 use Rattle.alt_value.specs.Order.{tree_order}
-use Rattle.alt_value.specs.Tree.{Tree, S_tree, N_tree, B_tree, BOOL_tree, NULL_tree, SS_tree, NS_tree, BS_tree, L_tree, M_tree}
+use Rattle.alt_value.specs.Tree.{Tree, S_tree, B_tree}
 use Rattle.alt_keyorder.specs.KeyBytes.{closed, IsPartOrder, AreApart}
 
+-- numbers by their order
 pub nat_cmp-less : (m n : ℕ) → m < n → nat_cmp m n ≡ Less
 nat_cmp-less m n h = grind arith
 
@@ -20,7 +21,9 @@ nat_cmp-equal m n h = grind arith
 pub nat_cmp-greater : (m n : ℕ) → n < m → nat_cmp m n ≡ Greater
 nat_cmp-greater m n h = grind arith
 
-pub then-assoc : (o p q : Ordering) → ordering_then (ordering_then o p) q ≡ ordering_then o (ordering_then p q)
+-- one order after another
+pub then-assoc : (o p q : Ordering) → ordering_then (ordering_then o p) q
+    ≡ ordering_then o (ordering_then p q)
 then-assoc Less p q = refl
 then-assoc Equal p q = refl
 then-assoc Greater p q = refl
@@ -30,12 +33,14 @@ then-equal Less p h = h
 then-equal Equal p h = refl
 then-equal Greater p h = h
 
+-- bytes tie with themselves
 pub text_order-refl : (s : List ℕ) → text_order s s ≡ Equal
 text_order-refl [] = refl
 text_order-refl (x ∷ s) = rw (nat_cmp-equal x x refl) (text_order-refl s)
 
 -- closed bytes, and what follows them
-pub closed-order : (s t x y : List ℕ) → text_order (closed s ++ x) (closed t ++ y) ≡ ordering_then (text_order s t) (text_order x y)
+pub closed-order : (s t x y : List ℕ) → text_order (closed s ++ x) (closed t ++ y)
+    ≡ ordering_then (text_order s t) (text_order x y)
 closed-order [] [] x y = refl
 closed-order [] (zero ∷ t) x y = refl
 closed-order [] (suc b ∷ t) x y = rw (nat_cmp-less 0 (suc b) (omega arith)) refl
@@ -45,13 +50,17 @@ closed-order (zero ∷ s) (zero ∷ t) x y = closed-order s t x y
 closed-order (zero ∷ s) (suc b ∷ t) x y = rw (nat_cmp-less 0 (suc b) (omega arith)) refl
 closed-order (suc a ∷ s) (zero ∷ t) x y = rw (nat_cmp-greater (suc a) 0 (omega arith)) refl
 closed-order (suc a ∷ s) (suc b ∷ t) x y =
-    ap (ordering_then (nat_cmp (suc a) (suc b))) (closed-order s t x y) ∙ sym (then-assoc (nat_cmp (suc a) (suc b)) (text_order s t) (text_order x y))
+    ap (ordering_then (nat_cmp (suc a) (suc b))) (closed-order s t x y)
+    ∙ sym (then-assoc (nat_cmp (suc a) (suc b)) (text_order s t) (text_order x y))
 
+-- closed bytes are those of one list
 pub closed-apart : (s t x y : List ℕ) → closed s ++ x ≡ closed t ++ y → s ≡ t
 closed-apart s t x y e =
     exact_bytes s t (then-equal (text_order s t) (text_order x y)
-    (sym (closed-order s t x y) ∙ ap (λ u. text_order u (closed t ++ y)) e ∙ text_order-refl (closed t ++ y)))
+    (sym (closed-order s t x y) ∙ ap (λ u. text_order u (closed t ++ y)) e
+    ∙ text_order-refl (closed t ++ y)))
 
+-- equal lists, by their parts
 back : (x y : ℕ) (xs ys : List ℕ) → x ∷ xs ≡ y ∷ ys → xs ≡ ys
 back x y xs ys e = cc
 
@@ -62,11 +71,14 @@ cons x y xs ys e f = cc
 pub apart-order : (p q x y : List ℕ) → ((r s : List ℕ) → p ++ r ≡ q ++ s → p ≡ q)
     → text_order (p ++ x) (q ++ y) ≡ ordering_then (text_order p q) (text_order x y)
 apart-order [] [] x y apart = refl
-apart-order [] (b ∷ q) x y apart = let e : [] ≡ b ∷ q = apart (b ∷ q) [] (sym (append-nil (b ∷ q))) in absurd (cc)
-apart-order (a ∷ p) [] x y apart = let e : a ∷ p ≡ [] = apart [] (a ∷ p) (append-nil (a ∷ p)) in absurd (cc)
+apart-order [] (b ∷ q) x y apart = let e : [] ≡ b ∷ q =
+    apart (b ∷ q) [] (sym (append-nil (b ∷ q))) in absurd (cc)
+apart-order (a ∷ p) [] x y apart = let e : a ∷ p ≡ [] = apart [] (a ∷ p) (append-nil (a ∷ p)) in
+    absurd (cc)
 apart-order (a ∷ p) (b ∷ q) x y apart = elim (cases_order a b) [
   | inl e ↦
-      let more = apart-order p q x y (λ r s is. back a b p q (apart r s (cons a b (p ++ r) (q ++ s) e is))) in
+      let more = apart-order p q x y (λ r s is. back a b p q
+      (apart r s (cons a b (p ++ r) (q ++ s) e is))) in
       rw (nat_cmp-equal a b e) more
   | inr o ↦ elim o [
     | inl lt ↦ rw (nat_cmp-less a b lt) refl
@@ -78,6 +90,7 @@ apart-order (a ∷ p) (b ∷ q) x y apart = elim (cases_order a b) [
 pub text_parts : (s t : List ℕ) → IsPartOrder (S_tree s) (S_tree t) (text_order s t)
 text_parts s t = λ x y. closed-order s t x y
 
+-- parts of texts and of binaries are apart
 pub text_apart : (s t : List ℕ) → AreApart (S_tree s) (S_tree t)
 text_apart s t = λ x y e. ap S_tree (closed-apart s t x y e)
 
@@ -87,60 +100,37 @@ binary_apart s t = λ x y e. ap B_tree (closed-apart s t x y e)
 -- two texts or two binaries
 pub text_law : (s : List ℕ) (u : Tree) → IfSome (tree_order (S_tree s) u) (IsPartOrder (S_tree s) u)
 text_law s (S_tree t) = text_parts s t
-text_law s (N_tree z) = tt
-text_law s (B_tree b) = tt
-text_law s (BOOL_tree b) = tt
-text_law s NULL_tree = tt
-text_law s (SS_tree ss) = tt
-text_law s (NS_tree zs) = tt
-text_law s (BS_tree bs) = tt
-text_law s (L_tree ts) = tt
-text_law s (M_tree fs) = tt
+text_law s u = tt
 
-pub binary_law : (s : List ℕ) (u : Tree) → IfSome (tree_order (B_tree s) u) (IsPartOrder (B_tree s) u)
-binary_law s (S_tree t) = tt
-binary_law s (N_tree z) = tt
+pub binary_law : (s : List ℕ) (u : Tree) → IfSome (tree_order (B_tree s) u)
+    (IsPartOrder (B_tree s) u)
 binary_law s (B_tree t) = text_parts s t
-binary_law s (BOOL_tree b) = tt
-binary_law s NULL_tree = tt
-binary_law s (SS_tree ss) = tt
-binary_law s (NS_tree zs) = tt
-binary_law s (BS_tree bs) = tt
-binary_law s (L_tree ts) = tt
-binary_law s (M_tree fs) = tt
+binary_law s u = tt
 
-pub text_apart_law : (s : List ℕ) (u : Tree) → IfSome (tree_order (S_tree s) u) (λ o. AreApart (S_tree s) u)
+-- the same of two that have an order
+pub text_apart_law : (s : List ℕ) (u : Tree) → IfSome (tree_order (S_tree s) u)
+    (λ o. AreApart (S_tree s) u)
 text_apart_law s (S_tree t) = text_apart s t
-text_apart_law s (N_tree z) = tt
-text_apart_law s (B_tree b) = tt
-text_apart_law s (BOOL_tree b) = tt
-text_apart_law s NULL_tree = tt
-text_apart_law s (SS_tree ss) = tt
-text_apart_law s (NS_tree zs) = tt
-text_apart_law s (BS_tree bs) = tt
-text_apart_law s (L_tree ts) = tt
-text_apart_law s (M_tree fs) = tt
+text_apart_law s u = tt
 
-pub binary_apart_law : (s : List ℕ) (u : Tree) → IfSome (tree_order (B_tree s) u) (λ o. AreApart (B_tree s) u)
-binary_apart_law s (S_tree t) = tt
-binary_apart_law s (N_tree z) = tt
+pub binary_apart_law : (s : List ℕ) (u : Tree)
+    → IfSome (tree_order (B_tree s) u) (λ o. AreApart (B_tree s) u)
 binary_apart_law s (B_tree t) = binary_apart s t
-binary_apart_law s (BOOL_tree b) = tt
-binary_apart_law s NULL_tree = tt
-binary_apart_law s (SS_tree ss) = tt
-binary_apart_law s (NS_tree zs) = tt
-binary_apart_law s (BS_tree bs) = tt
-binary_apart_law s (L_tree ts) = tt
-binary_apart_law s (M_tree fs) = tt
+binary_apart_law s u = tt
 
-pub from_texts : (r : Option Ordering) (a b : Tree) (s : List ℕ) → r ≡ tree_order a b → a ≡ S_tree s → IfSome r (IsPartOrder a b)
+-- the laws of values that are told otherwise
+pub from_texts : (r : Option Ordering) (a b : Tree) (s : List ℕ) → r ≡ tree_order a b → a ≡ S_tree s
+    → IfSome r (IsPartOrder a b)
 from_texts r a b s e is = rw (e, is) (text_law s b)
 
-pub from_binaries : (r : Option Ordering) (a b : Tree) (s : List ℕ) → r ≡ tree_order a b → a ≡ B_tree s → IfSome r (IsPartOrder a b)
+pub from_binaries : (r : Option Ordering) (a b : Tree) (s : List ℕ) → r ≡ tree_order a b
+    → a ≡ B_tree s → IfSome r (IsPartOrder a b)
 from_binaries r a b s e is = rw (e, is) (binary_law s b)
 
-pub apart_from_texts : (r : Option Ordering) (a b : Tree) (s : List ℕ) → r ≡ tree_order a b → a ≡ S_tree s → IfSome r (λ o. AreApart a b)
+pub apart_from_texts : (r : Option Ordering) (a b : Tree) (s : List ℕ) → r ≡ tree_order a b
+    → a ≡ S_tree s → IfSome r (λ o. AreApart a b)
 apart_from_texts r a b s e is = rw (e, is) (text_apart_law s b)
 
-pub apart_from_binaries : (r : Option Ordering) (a b : Tree) (s : List ℕ) → r ≡ tree_order a b → a ≡ B_tree s → IfSome r (λ o. AreApart a b)
+pub apart_from_binaries : (r : Option Ordering) (a b : Tree) (s : List ℕ) → r ≡ tree_order a b
+    → a ≡ B_tree s → IfSome r (λ o. AreApart a b)
 apart_from_binaries r a b s e is = rw (e, is) (binary_apart_law s b)

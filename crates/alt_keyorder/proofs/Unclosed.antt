@@ -11,8 +11,9 @@ use Rattle.alt_decimal.specs.Number.{Fits}
 use Rattle.alt_decimal.specs.Spelled.{spelled, complement, magnitude_bytes}
 use Rattle.alt_value.specs.declared.kind.KeyKind.{KeyKind}
 use Rattle.alt_value.specs.declared.kind.KeyKind.TheVariants.{S, N, B}
-use Rattle.alt_value.specs.Tree.{S_tree, N_tree, B_tree, BOOL_tree, NULL_tree, SS_tree, NS_tree, BS_tree, L_tree, M_tree}
+use Rattle.alt_value.specs.Tree.{S_tree, N_tree, B_tree}
 
+-- equal lists have equal first elements and equal rests
 first : (x y : ℕ) (xs ys : List ℕ) → x ∷ xs ≡ y ∷ ys → x ≡ y
 first x y xs ys e = cc
 
@@ -23,23 +24,30 @@ nothing : (x : ℕ) (xs : List ℕ) → [] ≡ x ∷ xs → ⊥
 nothing x xs e = absurd (cc)
 
 -- behind escaped bytes closed bytes go on
-strip : (c t tail r : List ℕ) → escaped c ++ tail ≡ closed t ++ r → (u : List ℕ) × (tail ≡ closed u ++ r)
+strip : (c t tail r : List ℕ) → escaped c ++ tail ≡ closed t ++ r
+    → (u : List ℕ) × (tail ≡ closed u ++ r)
 strip [] t tail r e = (t, e)
-strip (zero ∷ c) [] tail r e = absurd (let f : 255 ≡ 0 = first _ _ _ _ (back _ _ _ _ e) in omega arith)
+strip (zero ∷ c) [] tail r e = absurd (let f : 255 ≡ 0 = first _ _ _ _ (back _ _ _ _ e) in
+    omega arith)
 strip (zero ∷ c) (zero ∷ t) tail r e = strip c t tail r (back _ _ _ _ (back _ _ _ _ e))
 strip (zero ∷ c) (suc b ∷ t) tail r e = absurd (let f : 0 ≡ suc b = first _ _ _ _ e in omega arith)
 strip (suc a ∷ c) [] tail r e = absurd (let f : suc a ≡ 0 = first _ _ _ _ e in omega arith)
 strip (suc a ∷ c) (zero ∷ t) tail r e = absurd (let f : suc a ≡ 0 = first _ _ _ _ e in omega arith)
 strip (suc a ∷ c) (suc b ∷ t) tail r e = strip c t tail r (back _ _ _ _ e)
 
-pub unclosed_behind : (bytes c rest : List ℕ) → bytes ≡ escaped c ++ rest → IsUnclosed rest → IsUnclosed bytes
-unclosed_behind bytes c rest is none = λ s behind e. let u = strip c s rest behind (sym is ∙ e) in none u.0 behind u.1
+-- behind escaped bytes nothing is closed where nothing was
+pub unclosed_behind : (bytes c rest : List ℕ) → bytes ≡ escaped c ++ rest → IsUnclosed rest
+    → IsUnclosed bytes
+unclosed_behind bytes c rest is none = λ s behind e. let u = strip c s rest behind (sym is ∙ e) in
+    none u.0 behind u.1
 
+-- closed bytes are some
 nothing_closed : (t r : List ℕ) → [] ≡ closed t ++ r → ⊥
 nothing_closed [] r e = nothing _ _ e
 nothing_closed (zero ∷ t) r e = nothing _ _ e
 nothing_closed (suc b ∷ t) r e = nothing _ _ e
 
+-- one byte that is no 0
 clean_step : (s : List ℕ) (b : ℕ) (t r : List ℕ) → IsUnclosed s → suc b ∷ s ≡ closed t ++ r → ⊥
 clean_step s b [] r none e = let f : suc b ≡ 0 = first _ _ _ _ e in omega arith
 clean_step s b (zero ∷ t) r none e = let f : suc b ≡ 0 = first _ _ _ _ e in omega arith
@@ -58,11 +66,15 @@ marked [] behind [] r clean e = (r, inl (back _ _ _ _ e))
 marked [] behind (zero ∷ t) r clean e = (closed t ++ r, inr (back _ _ _ _ e))
 marked [] behind (suc b ∷ t) r clean e = absurd (let f : 0 ≡ suc b = first _ _ _ _ e in omega arith)
 marked (zero ∷ front) behind t r clean e = absurd clean
-marked (suc a ∷ front) behind [] r clean e = absurd (let f : suc a ≡ 0 = first _ _ _ _ e in omega arith)
-marked (suc a ∷ front) behind (zero ∷ t) r clean e = absurd (let f : suc a ≡ 0 = first _ _ _ _ e in omega arith)
+marked (suc a ∷ front) behind [] r clean e = absurd
+    (let f : suc a ≡ 0 = first _ _ _ _ e in omega arith)
+marked (suc a ∷ front) behind (zero ∷ t) r clean e =
+    absurd (let f : suc a ≡ 0 = first _ _ _ _ e in omega arith)
 marked (suc a ∷ front) behind (suc b ∷ t) r clean e = marked front behind t r clean (back _ _ _ _ e)
 
-pub unmarked : (s front : List ℕ) (mark : ℕ) (after : List ℕ) → s ≡ front ++ 0 ∷ mark ∷ after → IsClean front → (mark ≡ 0 → ⊥) → (mark ≡ 255 → ⊥) → IsUnclosed s
+-- behind the first 0 another byte stands, or none
+pub unmarked : (s front : List ℕ) (mark : ℕ) (after : List ℕ) → s ≡ front ++ 0 ∷ mark ∷ after
+    → IsClean front → (mark ≡ 0 → ⊥) → (mark ≡ 255 → ⊥) → IsUnclosed s
 unmarked s front mark after is clean no_end no_escape = λ t r e.
     let m = marked front (mark ∷ after) t r clean (sym is ∙ e) in
     elim m.1 [ inl f ↦ no_end (first _ _ _ _ f) | inr f ↦ no_escape (first _ _ _ _ f) ]
@@ -73,44 +85,66 @@ unfinished s front is clean = λ t r e.
     elim m.1 [ inl f ↦ nothing _ _ f | inr f ↦ nothing _ _ f ]
 
 -- one step of reading
-pub read_step : (bytes c rest front after : List ℕ) → bytes ≡ escaped c ++ rest → rest ≡ front ++ 0 ∷ 255 ∷ after → IsClean front
+pub read_step : (bytes c rest front after : List ℕ) → bytes ≡ escaped c ++ rest
+    → rest ≡ front ++ 0 ∷ 255 ∷ after → IsClean front
     → bytes ≡ escaped ((c ++ front) ++ 0 ∷ []) ++ after
 read_step bytes c rest front after is cut clean =
     let e : escaped ((c ++ front) ++ 0 ∷ []) ≡ (escaped c ++ front) ++ 0 ∷ 255 ∷ [] =
-    escaped-append (c ++ front) (0 ∷ []) ∙ ap (λ s. s ++ 0 ∷ 255 ∷ []) (escaped-append c front ∙ ap (λ s. escaped c ++ s) (escaped-clean front clean)) in
-    let f : ((escaped c ++ front) ++ 0 ∷ 255 ∷ []) ++ after ≡ escaped c ++ (front ++ 0 ∷ 255 ∷ after) = simp append_assoc in
+    escaped-append (c ++ front) (0 ∷ []) ∙ ap (λ s. s ++ 0 ∷ 255 ∷ [])
+    (escaped-append c front ∙ ap (λ s. escaped c ++ s) (escaped-clean front clean)) in
+    let f : ((escaped c ++ front) ++ 0 ∷ 255 ∷ []) ++ after
+    ≡ escaped c ++ (front ++ 0 ∷ 255 ∷ after) = simp append_assoc in
     is ∙ ap (λ s. escaped c ++ s) cut ∙ sym f ∙ ap (λ s. s ++ after) (sym e)
 
 -- the last step
-pub read_end : (bytes c rest front after : List ℕ) (len : ℕ) → bytes ≡ escaped c ++ rest → rest ≡ front ++ 0 ∷ 0 ∷ after → IsClean front
+pub read_end : (bytes c rest front after : List ℕ) (len : ℕ) → bytes ≡ escaped c ++ rest
+    → rest ≡ front ++ 0 ∷ 0 ∷ after → IsClean front
     → len ≡ length bytes - length after → IsClosedAt bytes (c ++ front) len
 read_end bytes c rest front after len is cut clean count =
-    let e : escaped (c ++ front) ≡ escaped c ++ front = escaped-append c front ∙ ap (λ s. escaped c ++ s) (escaped-clean front clean) in
-    let f : ((escaped c ++ front) ++ 0 ∷ 0 ∷ []) ++ after ≡ escaped c ++ (front ++ 0 ∷ 0 ∷ after) = simp append_assoc in
-    let whole : bytes ≡ closed (c ++ front) ++ after = is ∙ ap (λ s. escaped c ++ s) cut ∙ sym f ∙ ap (λ s. (s ++ 0 ∷ 0 ∷ []) ++ after) (sym e) in
-    record { behind = after; is = whole; count = omega (arith, count, ap length whole, length-append (closed (c ++ front)) after) }
+    let e : escaped (c ++ front) ≡ escaped c ++ front =
+    escaped-append c front ∙ ap (λ s. escaped c ++ s) (escaped-clean front clean) in
+    let f : ((escaped c ++ front) ++ 0 ∷ 0 ∷ []) ++ after ≡ escaped c ++ (front ++ 0 ∷ 0 ∷ after) =
+    simp append_assoc in
+    let whole : bytes ≡ closed (c ++ front) ++ after =
+    is ∙ ap (λ s. escaped c ++ s) cut ∙ sym f ∙ ap (λ s. (s ++ 0 ∷ 0 ∷ []) ++ after) (sym e) in
+    record {
+      behind = after;
+      is = whole;
+      count =
+          omega (arith, count, ap length whole, length-append (closed (c ++ front)) after);
+    }
 
-pub unfinished_at : (s front behind : List ℕ) → s ≡ front ++ 0 ∷ behind → IsClean front → length behind < 1 → IsUnclosed s
+-- the same of what stands behind the first 0
+pub unfinished_at : (s front behind : List ℕ) → s ≡ front ++ 0 ∷ behind → IsClean front
+    → length behind < 1 → IsUnclosed s
 unfinished_at s front [] is clean none = unfinished s front is clean
 unfinished_at s front (x ∷ behind) is clean none = absurd (omega arith)
 
-pub unmarked_at : (s front behind : List ℕ) → s ≡ front ++ 0 ∷ behind → IsClean front → 1 ≤ length behind
+pub unmarked_at : (s front behind : List ℕ) → s ≡ front ++ 0 ∷ behind → IsClean front
+    → 1 ≤ length behind
     → (get_or behind 0 0 ≡ 255 → ⊥) → (get_or behind 0 0 ≡ 0 → ⊥) → IsUnclosed s
 unmarked_at s front [] is clean some no_escape no_end = absurd (omega arith)
-unmarked_at s front (x ∷ behind) is clean some no_escape no_end = unmarked s front x behind is clean no_end no_escape
+unmarked_at s front (x ∷ behind) is clean some no_escape no_end =
+    unmarked s front x behind is clean no_end no_escape
 
-pub read_on : (bytes c rest front after : List ℕ) (g : Bool) → bytes ≡ escaped c ++ rest → IsCut rest front g after → g ≡ true
+-- a step of reading, by the mark behind the 0
+pub read_on : (bytes c rest front after : List ℕ) (g : Bool) → bytes ≡ escaped c ++ rest
+    → IsCut rest front g after → g ≡ true
     → bytes ≡ escaped ((c ++ front) ++ 0 ∷ []) ++ after
 read_on bytes c rest front after g is cut e =
-    read_step bytes c rest front after is (cut.is ∙ ap (λ (b : Bool). front ++ 0 ∷ (if b then 255 else 0) ∷ after) e) cut.clean
+    read_step bytes c rest front after is (cut.is
+    ∙ ap (λ (b : Bool). front ++ 0 ∷ (if b then 255 else 0) ∷ after) e) cut.clean
 
-pub read_whole : (bytes c rest front after : List ℕ) (g : Bool) (len : ℕ) → bytes ≡ escaped c ++ rest → IsCut rest front g after → g ≡ false
+pub read_whole : (bytes c rest front after : List ℕ) (g : Bool) (len : ℕ)
+    → bytes ≡ escaped c ++ rest → IsCut rest front g after → g ≡ false
     → len ≡ length bytes - length after → IsClosedAt bytes (c ++ front) len
 read_whole bytes c rest front after g len is cut e count =
-    read_end bytes c rest front after len is (cut.is ∙ ap (λ (b : Bool). front ++ 0 ∷ (if b then 255 else 0) ∷ after) e) cut.clean count
+    read_end bytes c rest front after len is (cut.is
+    ∙ ap (λ (b : Bool). front ++ 0 ∷ (if b then 255 else 0) ∷ after) e) cut.clean count
 
 -- ---- parts
 
+-- a number with the length of its spelling
 abbrev found : ℤ → ℕ → Option (ℤ × ℕ)
 found z n = Some (z, n)
 
@@ -122,70 +156,52 @@ second : (z y : ℤ) (m n : ℕ) → found z m ≡ found y n → m ≡ n
 unfolding count_found
 second z y m n e = ap count_found e
 
+-- a number that was read is the part at the front
 pub number_part : (bytes : List ℕ) (z : ℤ) (len : ℕ) → take len bytes ≡ spelled z → Fits z
-    → ((y : ℤ) (rest : List ℕ) → Fits y → bytes ≡ spelled y ++ rest → found z len ≡ found y (length (spelled y))) → IsPart N bytes (N_tree z) len
+    → ((y : ℤ) (rest : List ℕ) → Fits y → bytes ≡ spelled y ++ rest
+    → found z len ≡ found y (length (spelled y))) → IsPart N bytes (N_tree z) len
 number_part bytes z len e fits every =
-    let whole : bytes ≡ spelled z ++ drop len bytes = sym (take-append-drop len bytes) ∙ ap (λ s. s ++ drop len bytes) e in
-    record { key = fits; behind = drop len bytes; is = whole; count = second z z len (length (spelled z)) (every z (drop len bytes) fits whole) }
+    let whole : bytes ≡ spelled z ++ drop len bytes =
+    sym (take-append-drop len bytes) ∙ ap (λ s. s ++ drop len bytes) e in
+    record {
+      key = fits;
+      behind = drop len bytes;
+      is = whole;
+      count =
+          second z z len (length (spelled z)) (every z (drop len bytes) fits whole);
+    }
 
 -- closed bytes that are no UTF-8 are no part of a text
-pub no_text : (bytes s : List ℕ) (len : ℕ) → IsClosedAt bytes s len → (IsUtf8 s → ⊥) → NoPart S bytes
+pub no_text : (bytes s : List ℕ) (len : ℕ) → IsClosedAt bytes s len → (IsUtf8 s → ⊥)
+    → NoPart S bytes
 no_text bytes s len at bad (S_tree t) behind key e =
-    let P : List ℕ → Type 0 = λ u. IsUtf8 u in bad (subst P (sym (closed-apart s t at.behind behind (sym at.is ∙ e))) key)
-no_text bytes s len at bad (N_tree z) behind key e = key
-no_text bytes s len at bad (B_tree b) behind key e = key
-no_text bytes s len at bad (BOOL_tree b) behind key e = key
-no_text bytes s len at bad NULL_tree behind key e = key
-no_text bytes s len at bad (SS_tree ss) behind key e = key
-no_text bytes s len at bad (NS_tree zs) behind key e = key
-no_text bytes s len at bad (BS_tree bs) behind key e = key
-no_text bytes s len at bad (L_tree ts) behind key e = key
-no_text bytes s len at bad (M_tree fs) behind key e = key
+    let P : List ℕ → Type 0 = λ u. IsUtf8 u in
+    bad (subst P (sym (closed-apart s t at.behind behind (sym at.is ∙ e))) key)
+no_text bytes s len at bad t behind key e = absurd key
 
+-- no part stands where there are no bytes
 nothing_spelled : (z : ℤ) (r : List ℕ) → [] ≡ spelled z ++ r → ⊥
 unfolding spelled
 nothing_spelled z r =
-    elim (nat_abs z == 0) as (λ b. [] ≡ (if b then 2 ∷ [] else if is_negative z then 1 ∷ complement (magnitude_bytes (nat_abs z)) else 3 ∷ magnitude_bytes (nat_abs z)) ++ r → ⊥) [
+    elim (nat_abs z == 0) as (λ b. [] ≡ (if b then 2 ∷ [] else if is_negative z then 1 ∷ complement
+    (magnitude_bytes (nat_abs z)) else 3 ∷ magnitude_bytes (nat_abs z)) ++ r → ⊥) [
       | true ↦ (λ e. nothing _ _ e)
-      | false ↦ elim (is_negative z) as (λ n. [] ≡ (if n then 1 ∷ complement (magnitude_bytes (nat_abs z)) else 3 ∷ magnitude_bytes (nat_abs z)) ++ r → ⊥) [
-        | true ↦ (λ e. nothing _ _ e)
-        | false ↦ (λ e. nothing _ _ e)
-      ]
+      | false ↦ elim (is_negative z) as (λ n. []
+          ≡ (if n then 1 ∷ complement (magnitude_bytes (nat_abs z)) else 3 ∷ magnitude_bytes
+          (nat_abs z)) ++ r → ⊥) [
+            | true ↦ (λ e. nothing _ _ e)
+            | false ↦ (λ e. nothing _ _ e)
+          ]
     ]
 
 no_part_of_nothing : (kind : KeyKind) → NoPart kind []
 no_part_of_nothing S (S_tree t) behind key e = nothing_closed t behind e
 no_part_of_nothing N (N_tree z) behind key e = nothing_spelled z behind e
 no_part_of_nothing B (B_tree t) behind key e = nothing_closed t behind e
-no_part_of_nothing S (N_tree z) behind key e = key
-no_part_of_nothing S (B_tree b) behind key e = key
-no_part_of_nothing S (BOOL_tree b) behind key e = key
-no_part_of_nothing S NULL_tree behind key e = key
-no_part_of_nothing S (SS_tree ss) behind key e = key
-no_part_of_nothing S (NS_tree zs) behind key e = key
-no_part_of_nothing S (BS_tree bs) behind key e = key
-no_part_of_nothing S (L_tree ts) behind key e = key
-no_part_of_nothing S (M_tree fs) behind key e = key
-no_part_of_nothing N (S_tree z) behind key e = key
-no_part_of_nothing N (B_tree b) behind key e = key
-no_part_of_nothing N (BOOL_tree b) behind key e = key
-no_part_of_nothing N NULL_tree behind key e = key
-no_part_of_nothing N (SS_tree ss) behind key e = key
-no_part_of_nothing N (NS_tree zs) behind key e = key
-no_part_of_nothing N (BS_tree bs) behind key e = key
-no_part_of_nothing N (L_tree ts) behind key e = key
-no_part_of_nothing N (M_tree fs) behind key e = key
-no_part_of_nothing B (S_tree z) behind key e = key
-no_part_of_nothing B (N_tree b) behind key e = key
-no_part_of_nothing B (BOOL_tree b) behind key e = key
-no_part_of_nothing B NULL_tree behind key e = key
-no_part_of_nothing B (SS_tree ss) behind key e = key
-no_part_of_nothing B (NS_tree zs) behind key e = key
-no_part_of_nothing B (BS_tree bs) behind key e = key
-no_part_of_nothing B (L_tree ts) behind key e = key
-no_part_of_nothing B (M_tree fs) behind key e = key
+no_part_of_nothing kind t behind key e = absurd key
 
-pub no_part_past : (kind : KeyKind) (bytes : List ℕ) (at : ℕ) → length bytes < at → NoPart kind (drop at bytes)
+pub no_part_past : (kind : KeyKind) (bytes : List ℕ) (at : ℕ) → length bytes < at
+    → NoPart kind (drop at bytes)
 no_part_past kind [] zero past = absurd (omega arith)
 no_part_past kind [] (suc n) past = no_part_of_nothing kind
 no_part_past kind (x ∷ bytes) zero past = absurd (omega arith)

@@ -1,12 +1,11 @@
 -- Where an item stands among the items of a table or of an index, and its key bytes.
-use Rattle.std.specs.Prelude.{◌≡◌, ℕ, ◌<◌, ◌^◌, List, [], ◌∷◌, ◌++◌, Option, Some, None}
+use Rattle.std.specs.Prelude.{ℕ, ◌<◌, ◌^◌, List, [], ◌∷◌, ◌++◌, Option, Some, None}
 use Rattle.std.specs.Int.{w64, to_be_bytes}
 use Rattle.std.specs.List.{AllByRecursion, flat_map}
 use Rattle.std.specs.Ordering.{nat_cmp, ordering_then}
 use Rattle.std.specs.declared.cmp.Ordering.{Ordering}
 use Rattle.std.specs.declared.cmp.Ordering.TheVariants.{Equal}
 use Rattle.alt_decimal.specs.Number.{Fits}
-use Rattle.alt_value.specs.Members.{text_order}
 use Rattle.alt_value.specs.Order.{tree_order}
 use Rattle.alt_value.specs.Tree.{Tree, S_tree, N_tree, B_tree}
 use Rattle.alt_keyorder.specs.KeyBytes.{key_bytes}
@@ -63,13 +62,3 @@ IsKeyValue _ = ⊥
 pub record IsPlace (p : Place) : Type 0 where
   pub token : p.token < 2 ^ 64
   pub parts : AllByRecursion IsKeyValue p.parts
-
--- The byte order of key bytes is the order of places, whatever follows: what follows decides exactly where the places are equal.
-abbrev pub KeysLieAsPlaces : Type 0
-KeysLieAsPlaces =
-    (p q : Place) (o : Ordering) (x y : List ℕ) → IsPlace p → IsPlace q → place_order p q ≡ Some o
-    → text_order (place_bytes p ++ x) (place_bytes q ++ y) ≡ ordering_then o (text_order x y)
-
--- Key bytes of places that can be compared are equal only for equal places.
-abbrev pub KeysTellPlaces : Type 0
-KeysTellPlaces = (p q : Place) (o : Ordering) → IsPlace p → IsPlace q → place_order p q ≡ Some o → place_bytes p ≡ place_bytes q → p ≡ q

@@ -3,13 +3,15 @@ use Rattle.std.specs.Prelude.{◌≡◌, ◌≢◌, ◌<◌, ℕ, List, [], ◌�
 use Rattle.std.specs.declared.cmp.Ordering.TheVariants.{Less, Greater}
 use Rattle.alt_value.specs.Members.{text_order}
 
--- bytes before others, and bytes not above others
+-- bytes before others
 abbrev pub IsBelow : List ℕ → List ℕ → Type 0
 IsBelow k l = text_order k l ≡ Less
 
+-- bytes that are not above others
 abbrev pub IsUpTo : List ℕ → List ℕ → Type 0
 IsUpTo k l = text_order k l ≢ Greater
 
+-- bytes below an end, where there is one
 abbrev pub IsBelowEnd : List ℕ → Option (List ℕ) → Type 0
 IsBelowEnd k None = Unit {0}
 IsBelowEnd k (Some to) = IsBelow k to

@@ -8,10 +8,7 @@ mod range;
 mod take;
 
 pub use digest::token;
-pub use order::{part_order, place_laws};
+pub use order::{key_laws, part_laws, part_order, place_laws};
 pub use part::key_part;
 pub use range::{KeyRange, after_all};
 pub use take::take_part;
-
-#[cfg(test)]
-mod tests;

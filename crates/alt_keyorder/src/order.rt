@@ -5,7 +5,8 @@ ghost use Rattle.alt_value.specs.Order.{tree_order};
 ghost use Rattle.alt_value.specs.Stands.{tree_of};
 ghost use Rattle.alt_value.specs.Tree.{N_tree};
 ghost use Rattle.alt_keyorder.specs.KeyBytes.{IsPartOrder, AreApart};
-ghost use Rattle.alt_keyorder.specs.Place.{KeysLieAsPlaces, KeysTellPlaces};
+ghost use Rattle.alt_keyorder.specs.Laws.{OnePart, PartsLie, TokensFit, KeysLieAsPlaces, KeysTellPlaces, PlacesLie, OnePlace};
+ghost use Rattle.alt_keyorder.specs.Laws.{TableKeysTell, TableKeysLie, HashKeysBegin, IndexKeysTell, IndexKeysLie};
 
 use alt_decimal::{Decimal, spelling_order};
 use alt_value::{Attr, order};
@@ -28,11 +29,30 @@ pub fn part_order(a: &Attr, b: &Attr) -> Option<Ordering>
     }
 }
 
-/// The laws of the key bytes of places (docs/formats/key-bytes.md): those of two places in one table or one index lie as the
-/// places do, part by part, and are equal only for equal places. It does nothing.
+/// The laws of key parts (docs/formats/key-bytes.md) over all values, also such as no program holds. It
+/// does nothing.
+pub fn part_laws()
+    ensures one { OnePart }
+    ensures order { PartsLie }
+    ensures tokens { TokensFit }
+{}
+
+/// The laws of the key bytes of places: those of two places in one table or one index lie as the places
+/// do, part by part, and are equal only for equal places. It does nothing.
 pub fn place_laws()
     ensures order { KeysLieAsPlaces }
     ensures one { KeysTellPlaces }
+    ensures kinds { PlacesLie }
+    ensures one_of_kinds { OnePlace }
+{}
+
+/// The same laws for the keys of a table, and of an index with those of its table. It does nothing.
+pub fn key_laws()
+    ensures table_tells { TableKeysTell }
+    ensures table_lies { TableKeysLie }
+    ensures hash_begins { HashKeysBegin }
+    ensures index_tells { IndexKeysTell }
+    ensures index_lies { IndexKeysLie }
 {}
 
 fn order_of_numbers(number: &Decimal, b: &Attr) -> Option<Ordering>

@@ -54,7 +54,8 @@ fn put_closed(out: &mut Vec<u8>, bytes: &[u8]) -> Result<(), NoMemory>
 
 /// What stands before the first 0 and behind it, None exactly where there is no 0.
 pub(crate) fn cut_at_zero(bytes: &[u8]) -> Option<(&[u8], &[u8])>
-    ensures { MatchOption result (IsClean bytes.now) (λ p. (bytes.now ≡ p.0.now ++ 0 ∷ p.1.now) × IsClean p.0.now) }
+    ensures { MatchOption result (IsClean bytes.now)
+        (λ p. (bytes.now ≡ p.0.now ++ 0 ∷ p.1.now) × IsClean p.0.now) }
 {
     match memchr(0, bytes) {
         Some(i) => {

@@ -34,7 +34,8 @@ impl KeyRange {
 pub fn after_all(alloc: Global, prefix: &[u8]) -> Result<Option<Bytes>, NoMemory>
     ensures none { IfOk result (λ r. IsNone r ↔ IsFull prefix.now) }
     // The keys under the prefix are those from the prefix on and, where there is a bound, below it.
-    ensures keys { IfOk result (λ r. (k : List ℕ) → AreBytes k → IsPrefix prefix.now k ↔ IsInRange prefix.now r k) }
+    ensures keys { IfOk result (λ r. (k : List ℕ) → AreBytes k
+        → IsPrefix prefix.now k ↔ IsInRange prefix.now r k) }
     ensures least { IfOk result (λ r. IfSome r (λ b. (c : List ℕ) → AreBytes c
         → ((k : List ℕ) → IsPrefix prefix.now k → IsBelow k c) → IsUpTo b c)) }
 {

@@ -1,8 +1,9 @@
 //! Reading key parts.
 
-ghost use Rattle.std.specs.Prelude.{◌+◌, ◌-◌, ◌≤◌, length, drop, IfOk, MatchOption};
+ghost use Rattle.std.specs.Prelude.{◌≡◌, ◌+◌, ◌-◌, ◌++◌, ℕ, List, length, drop, IfOk, MatchOption};
 ghost use Rattle.alt_value.specs.Stands.{tree_of};
-ghost use Rattle.alt_keyorder.specs.KeyBytes.{IsClosedAt, IsCut, IsPart, IsUnclosed, NoPart};
+ghost use Rattle.alt_value.specs.Tree.{Tree};
+ghost use Rattle.alt_keyorder.specs.KeyBytes.{IsClosedAt, IsCut, IsKeyOf, IsPart, IsUnclosed, NoPart, key_bytes};
 
 use crate::part::cut_at_zero;
 use alt_base::NoMemory;
@@ -19,8 +20,12 @@ pub fn take_part(
     bytes: &[u8],
     at: usize,
 ) -> Result<Option<(Attr, usize)>, NoMemory>
-    ensures { IfOk result (λ r. MatchOption r (NoPart kind (drop at bytes.now))
+    ensures part { IfOk result (λ r. MatchOption r (NoPart kind (drop at bytes.now))
         (λ p. IsPart kind (drop at bytes.now) (tree_of p.0) (p.1 - at))) }
+    // Whatever value's part stands there, that value is taken.
+    ensures taken { (t : Tree) (behind : List ℕ) → IsKeyOf kind t
+        → drop at bytes.now ≡ key_bytes t ++ behind → IfOk result
+        (λ r. MatchOption r ⊥ (λ p. (tree_of p.0 ≡ t) × (p.1 ≡ at + length (key_bytes t)))) }
 {
     if at > bytes.len() {
         return Ok(None);
@@ -37,7 +42,8 @@ fn part_at_front(
     kind: KeyKind,
     bytes: &[u8],
 ) -> Result<Option<(Attr, usize)>, NoMemory>
-    ensures { IfOk result (λ r. MatchOption r (NoPart kind bytes.now) (λ p. IsPart kind bytes.now (tree_of p.0) p.1)) }
+    ensures { IfOk result (λ r. MatchOption r (NoPart kind bytes.now)
+        (λ p. IsPart kind bytes.now (tree_of p.0) p.1)) }
 {
     match kind {
         KeyKind::S => text_at_front(alloc, bytes),
@@ -47,7 +53,8 @@ fn part_at_front(
 }
 
 fn text_at_front(alloc: Global, bytes: &[u8]) -> Result<Option<(Attr, usize)>, NoMemory>
-    ensures { IfOk result (λ r. MatchOption r (NoPart KeyKind.S bytes.now) (λ p. IsPart KeyKind.S bytes.now (tree_of p.0) p.1)) }
+    ensures { IfOk result (λ r. MatchOption r (NoPart KeyKind.S bytes.now)
+        (λ p. IsPart KeyKind.S bytes.now (tree_of p.0) p.1)) }
 {
     match read_closed(alloc, bytes)? {
         Some((content, len)) => match std::str::from_utf8(content.as_slice()) {
@@ -59,7 +66,8 @@ fn text_at_front(alloc: Global, bytes: &[u8]) -> Result<Option<(Attr, usize)>, N
 }
 
 fn number_at_front(bytes: &[u8]) -> Option<(Attr, usize)>
-    ensures { MatchOption result (NoPart KeyKind.N bytes.now) (λ p. IsPart KeyKind.N bytes.now (tree_of p.0) p.1) }
+    ensures { MatchOption result (NoPart KeyKind.N bytes.now)
+        (λ p. IsPart KeyKind.N bytes.now (tree_of p.0) p.1) }
 {
     match Decimal::unspell(bytes) {
         Some((number, len)) => Some((Attr::N(number), len)),
@@ -68,7 +76,8 @@ fn number_at_front(bytes: &[u8]) -> Option<(Attr, usize)>
 }
 
 fn binary_at_front(alloc: Global, bytes: &[u8]) -> Result<Option<(Attr, usize)>, NoMemory>
-    ensures { IfOk result (λ r. MatchOption r (NoPart KeyKind.B bytes.now) (λ p. IsPart KeyKind.B bytes.now (tree_of p.0) p.1)) }
+    ensures { IfOk result (λ r. MatchOption r (NoPart KeyKind.B bytes.now)
+        (λ p. IsPart KeyKind.B bytes.now (tree_of p.0) p.1)) }
 {
     match read_closed(alloc, bytes)? {
         Some((content, len)) => Ok(Some((Attr::B(Bytes::from_vec(content)), len))),
@@ -78,7 +87,8 @@ fn binary_at_front(alloc: Global, bytes: &[u8]) -> Result<Option<(Attr, usize)>,
 
 /// The bytes whose closed form stands at the front, and its length.
 fn read_closed(alloc: Global, bytes: &[u8]) -> Result<Option<(Vec<u8>, usize)>, NoMemory>
-    ensures { IfOk result (λ r. MatchOption r (IsUnclosed bytes.now) (λ p. IsClosedAt bytes.now p.0.items p.1)) }
+    ensures { IfOk result (λ r. MatchOption r (IsUnclosed bytes.now)
+        (λ p. IsClosedAt bytes.now p.0.items p.1)) }
 {
     let mut content = Vec::new(alloc);
     let mut rest = bytes;
@@ -95,7 +105,8 @@ fn read_closed(alloc: Global, bytes: &[u8]) -> Result<Option<(Vec<u8>, usize)>, 
 
 /// What stands before the first 0, whether 255 or 0 is behind it, and what follows that.
 fn cut_at_mark(bytes: &[u8]) -> Option<(&[u8], bool, &[u8])>
-    ensures { MatchOption result (IsUnclosed bytes.now) (λ p. IsCut bytes.now p.0.now p.1 p.2.now) }
+    ensures { MatchOption result (IsUnclosed bytes.now)
+        (λ p. IsCut bytes.now p.0.now p.1 p.2.now) }
 {
     match cut_at_zero(bytes) {
         Some((front, behind)) => match behind {

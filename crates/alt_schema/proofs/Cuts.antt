@@ -10,7 +10,8 @@ use Rattle.alt_value.proofs.Places.{first, second, less, turned}
 use Rattle.alt_value.proofs.Texts.{text_total}
 
 -- a name that is below all is below each
-below_get : (x : List ℕ) (ps : List Pair) (i : ℕ) (name : List ℕ) (t : Tree) → T (below_all text_order x ps) → slice_get ps i ≡ Some (name, t)
+below_get : (x : List ℕ) (ps : List Pair) (i : ℕ) (name : List ℕ) (t : Tree)
+    → T (below_all text_order x ps) → slice_get ps i ≡ Some (name, t)
     → text_order x name ≡ Less
 below_get x [] i name t h at = cc
 below_get x (p ∷ ps) zero name t h at =
@@ -18,12 +19,14 @@ below_get x (p ∷ ps) zero name t h at =
     ap (λ (q : Pair). text_order x q.0) (sym same) ∙ less _ (first _ _ h)
 below_get x (p ∷ ps) (suc i) name t h at = below_get x ps i name t (second _ _ h) at
 
+-- a name behind the empty one has a byte
 not_empty : (name : List ℕ) → text_order [] name ≡ Less → 0 < length name
 not_empty [] h = cc
 not_empty (c ∷ cs) h = omega arith
 
 -- no name of an item is empty
-pub name_not_empty : (ps : List Pair) (i : ℕ) (name : List ℕ) (t : Tree) → IsItem ps → slice_get ps i ≡ Some (name, t) → 0 < length name
+pub name_not_empty : (ps : List Pair) (i : ℕ) (name : List ℕ) (t : Tree) → IsItem ps
+    → slice_get ps i ≡ Some (name, t) → 0 < length name
 name_not_empty ps i name t item at = not_empty name (below_get [] ps i name t item.1 at)
 
 -- within the item there is a pair
@@ -34,23 +37,30 @@ pair_within (p ∷ ps) (suc i) h none = pair_within ps i (omega arith) none
 
 module _ (test : List ℕ → Bool) where
   -- one more that passes is put behind those before it
-  pub kept : (ps : List Pair) (i : ℕ) (name : List ℕ) (t : Tree) → T (is_sorted text_order ps) → slice_get ps i ≡ Some (name, t) → test name ≡ true
-      → with_pair name t (where_key text_order test (take i ps)) ≡ where_key text_order test (take (suc i) ps)
+  pub kept : (ps : List Pair) (i : ℕ) (name : List ℕ) (t : Tree) → T (is_sorted text_order ps)
+      → slice_get ps i ≡ Some (name, t) → test name ≡ true
+      → with_pair name t (where_key text_order test (take i ps))
+      ≡ where_key text_order test (take (suc i) ps)
   kept [] i name t h at passes = cc
   kept (p ∷ ps) zero name t h at passes =
       let same : p ≡ (name, t) = cc in
       rw (same, passes) refl
   kept (p ∷ ps) (suc i) name t h at passes =
-      let above : text_order name p.0 ≡ Greater = turned text_order text_total p.0 name Less (below_get p.0 ps i name t (first _ _ h) at) in
+      let above : text_order name p.0 ≡ Greater =
+      turned text_order text_total p.0 name Less (below_get p.0 ps i name t (first _ _ h) at) in
       let rest = kept ps i name t (second _ _ h) at passes in
-      elim (test p.0) as (λ b. with_pair name t (cond b (p ∷ where_key text_order test (take i ps)) (where_key text_order test (take i ps)))
-      ≡ cond b (p ∷ where_key text_order test (take (suc i) ps)) (where_key text_order test (take (suc i) ps))) [
+      elim (test p.0) as (λ b. with_pair name t
+      (cond b (p ∷ where_key text_order test (take i ps))
+      (where_key text_order test (take i ps)))
+      ≡ cond b (p ∷ where_key text_order test (take (suc i) ps))
+      (where_key text_order test (take (suc i) ps))) [
         | true ↦ rw above (ap (λ (qs : List Pair). p ∷ qs) rest)
         | false ↦ rest
       ]
 
   -- one more that doesn't pass is left out
-  pub skipped : (ps : List Pair) (i : ℕ) (name : List ℕ) (t : Tree) → slice_get ps i ≡ Some (name, t) → test name ≡ false
+  pub skipped : (ps : List Pair) (i : ℕ) (name : List ℕ) (t : Tree) → slice_get ps i
+      ≡ Some (name, t) → test name ≡ false
       → where_key text_order test (take i ps) ≡ where_key text_order test (take (suc i) ps)
   skipped [] i name t at fails = cc
   skipped (p ∷ ps) zero name t at fails =

@@ -1,4 +1,5 @@
--- Reading looks at what it reads alone: what is behind doesn't matter, and where it stops, no more bytes help.
+-- Reading looks at what it reads alone: what is behind doesn't matter, and where it stops, no more
+-- bytes help.
 use Rattle.std.proofs.Common.{◌≡◌, refl, sym, ap, subst, ◌∙◌, ℕ, zero, suc, ◌+◌, ◌-◌, ◌<◌, Bool, true, false, cond, ◌&&◌, ◌==◌, nat_le, if◌then◌else◌, List, [], ◌∷◌, ◌++◌, length, take, drop, Option, Some, None, arith, append_assoc, length-append}
 use Rattle.std.specs.Int.{w32, w64, from_be_bytes}
 use Rattle.std.specs.List.{find}
@@ -6,8 +7,9 @@ use Rattle.std.specs.Option.{option_map_or}
 use Rattle.std.specs.Str.{is_utf8}
 use Rattle.std.proofs.lemmas.List.{append-nil, take-append-drop, length-take-le, take_at, drop_at}
 use Rattle.alt_schema.specs.Described.{key_attr, IsDescription}
-use Rattle.alt_schema.specs.Format.{kind_byte, view_byte, description_bytes}
-use Rattle.alt_schema.specs.Parts.{Read, got, stops, followed_by, read_bytes, read_u64, read_u32, read_field, read_name, any_name, read_byte, read_more, read_counted, kinds, read_definition, read_key, truth_byte, truths, read_range, projection_byte, projections, read_included, read_projection, read_index, views, read_stream, read_head, read_keyed, read_description, left_of, IsAtEnd, IsBadAt, IsHeld, StopsAt}
+use Rattle.alt_schema.specs.Format.{kind_byte, view_byte, description_bytes, truth_byte, projection_byte}
+use Rattle.alt_schema.specs.Held.{IsHeld}
+use Rattle.alt_schema.specs.Parts.{Read, got, stops, followed_by, read_bytes, read_u64, read_u32, read_field, read_name, any_name, read_byte, read_more, read_counted, kinds, read_definition, read_key, truths, read_range, projections, read_included, read_projection, read_index, views, read_stream, read_head, read_keyed, read_description, left_of, StopsAt}
 use Rattle.alt_schema.specs.Rules.{is_defined}
 use Rattle.alt_schema.specs.declared.schema.KeyAttr.{KeyAttr}
 use Rattle.alt_schema.specs.declared.schema.Projection.{Projection}
@@ -18,7 +20,8 @@ use Rattle.alt_schema.proofs.Wholes.{got_value, got_rest, no_stop, both_got, wit
 use Rattle.alt_schema.proofs.WholeDescriptions.{description_read}
 
 -- bytes that give a value: a piece of theirs does, whatever follows
-pub record Gives {A : Type 0} (R : List ℕ → Read A) (bytes : List ℕ) (v : A) (rest : List ℕ) : Type 0 where
+pub record Gives {A : Type 0} (R : List ℕ → Read A) (bytes : List ℕ) (v : A)
+    (rest : List ℕ) : Type 0 where
   pub piece : List ℕ
   pub is : bytes ≡ piece ++ rest
   pub alone : (z : List ℕ) → R (piece ++ z) ≡ got v z
@@ -32,29 +35,40 @@ pub record Halts {A : Type 0} (R : List ℕ → Read A) (bytes : List ℕ) (n : 
   pub cut : R front ≡ stops 0
   pub no_more : 0 < n → (z : List ℕ) → R (bytes ++ z) ≡ stops (n + length z)
 
+-- reading looks at what it reads alone
 pub record Steady {A : Type 0} (R : List ℕ → Read A) : Type 0 where
   pub gives : (bytes : List ℕ) (v : A) (rest : List ℕ) → R bytes ≡ got v rest → Gives R bytes v rest
   pub halts : (bytes : List ℕ) (n : ℕ) → R bytes ≡ stops n → Halts R bytes n
 
-no_got : {A : Type 0} (x : A) (r : List ℕ) (n : ℕ) → got x r ≡ stops n → ⊥
+-- what was got isn't a stop
+pub no_got : {A : Type 0} (x : A) (r : List ℕ) (n : ℕ) → got x r ≡ stops n → ⊥
 no_got x r n e = cc
 
-stop_count : {A : Type 0} (m n : ℕ) → (let r : Read A = stops m in r) ≡ stops n → m ≡ n
+-- a stop has one place
+pub stop_count : {A : Type 0} (m n : ℕ) → (let r : Read A = stops m in r) ≡ stops n → m ≡ n
 stop_count m n e = cc
 
+-- a value that is made of nothing
 pure : {A : Type 0} (v : A) → Steady (λ r. got v r)
 pure v = record {
-  gives = λ bytes w rest e. record { piece = []; is = got_rest v w bytes rest e; alone = λ z. ap (λ x. got x z) (got_value v w bytes rest e) };
+  gives = λ bytes w rest e. record {
+    piece = [];
+    is = got_rest v w bytes rest e;
+    alone =
+        λ z. ap (λ x. got x z) (got_value v w bytes rest e);
+  };
   halts = λ bytes n e. absurd (no_got v bytes n e);
 }
 
 -- ---- one part behind another
 
-module _ {A B : Type 0} (next : A → List ℕ → Read B) (R : List ℕ → Read A) (first : Steady R) (second : (x : A) → Steady (next x)) where
+module _ {A B : Type 0} (next : A → List ℕ → Read B) (R : List ℕ → Read A) (first : Steady R)
+    (second : (x : A) → Steady (next x)) where
   both : List ℕ → Read B
   both bytes = followed_by next (R bytes)
 
-  gives_both : (bytes : List ℕ) (v : B) (rest : List ℕ) → followed_by next (R bytes) ≡ got v rest → Gives (λ b. followed_by next (R b)) bytes v rest
+  gives_both : (bytes : List ℕ) (v : B) (rest : List ℕ) → followed_by next (R bytes) ≡ got v rest
+      → Gives (λ b. followed_by next (R b)) bytes v rest
   gives_both bytes v rest e =
       let b = both_got next (R bytes) v rest e in
       let p = first.gives bytes b.x b.mid b.first in
@@ -62,10 +76,12 @@ module _ {A B : Type 0} (next : A → List ℕ → Read B) (R : List ℕ → Rea
       record {
         piece = p.piece ++ q.piece;
         is = p.is ∙ ap (λ m. p.piece ++ m) q.is ∙ sym (append_assoc p.piece q.piece rest);
-        alone = λ z. ap (λ m. followed_by next (R m)) (append_assoc p.piece q.piece z) ∙ ap (followed_by next) (p.alone (q.piece ++ z)) ∙ q.alone z;
+        alone = λ z. ap (λ m. followed_by next (R m)) (append_assoc p.piece q.piece z)
+            ∙ ap (followed_by next) (p.alone (q.piece ++ z)) ∙ q.alone z;
       }
 
-  halts_first : (bytes : List ℕ) (n : ℕ) → R bytes ≡ stops n → Halts (λ b. followed_by next (R b)) bytes n
+  halts_first : (bytes : List ℕ) (n : ℕ) → R bytes ≡ stops n
+      → Halts (λ b. followed_by next (R b)) bytes n
   halts_first bytes n e =
       let h = first.halts bytes n e in
       record {
@@ -77,7 +93,8 @@ module _ {A B : Type 0} (next : A → List ℕ → Read B) (R : List ℕ → Rea
         no_more = λ some z. ap (followed_by next) (h.no_more some z);
       }
 
-  halts_second : (bytes : List ℕ) (x : A) (mid : List ℕ) (n : ℕ) → R bytes ≡ got x mid → next x mid ≡ stops n → Halts (λ b. followed_by next (R b)) bytes n
+  halts_second : (bytes : List ℕ) (x : A) (mid : List ℕ) (n : ℕ) → R bytes ≡ got x mid → next x mid
+      ≡ stops n → Halts (λ b. followed_by next (R b)) bytes n
   halts_second bytes x mid n e f =
       let p = first.gives bytes x mid e in
       let h = (second x).halts mid n f in
@@ -87,26 +104,37 @@ module _ {A B : Type 0} (next : A → List ℕ → Read B) (R : List ℕ → Rea
         is = p.is ∙ ap (λ m. p.piece ++ m) h.is ∙ sym (append_assoc p.piece h.front h.back);
         left = h.left;
         cut = ap (followed_by next) (p.alone h.front) ∙ h.cut;
-        no_more = λ some z. ap (λ m. followed_by next (R m)) (ap (λ m. m ++ z) p.is ∙ append_assoc p.piece mid z) ∙ ap (followed_by next) (p.alone (mid ++ z)) ∙ h.no_more some z;
+        no_more = λ some z. ap (λ m. followed_by next (R m))
+            (ap (λ m. m ++ z) p.is ∙ append_assoc p.piece mid z)
+            ∙ ap (followed_by next) (p.alone (mid ++ z)) ∙ h.no_more some z;
       }
 
-  halts_both : (bytes : List ℕ) (r : Read A) (n : ℕ) → R bytes ≡ r → followed_by next r ≡ stops n → Halts (λ b. followed_by next (R b)) bytes n
+  halts_both : (bytes : List ℕ) (r : Read A) (n : ℕ) → R bytes ≡ r → followed_by next r ≡ stops n
+      → Halts (λ b. followed_by next (R b)) bytes n
   halts_both bytes (got x mid) n e f = halts_second bytes x mid n e f
   halts_both bytes (stops m) n e f = halts_first bytes n (e ∙ ap stops (stop_count m n f))
 
   pub steady_both : Steady (λ b. followed_by next (R b))
-  steady_both = record { gives = gives_both; halts = λ bytes n e. halts_both bytes (R bytes) n refl e }
+  steady_both = record {
+    gives = gives_both;
+    halts =
+        λ bytes n e. halts_both bytes (R bytes) n refl e;
+  }
 
 -- ---- single parts
 
-outside : {A : Type 0} (k m : ℕ) (x : A) (r : List ℕ) (n : ℕ) → (if nat_le k m then got x r else stops 0) ≡ stops n → 0 ≡ n
+-- where there weren't bytes enough, it stops at the end
+outside : {A : Type 0} (k m : ℕ) (x : A) (r : List ℕ) (n : ℕ)
+    → (if nat_le k m then got x r else stops 0) ≡ stops n → 0 ≡ n
 outside k m x r n e =
     (elim (nat_le k m) as (λ b. cond b (got x r) (stops 0) ≡ stops n → 0 ≡ n) [
       | true ↦ λ f. absurd (no_got x r n f)
       | false ↦ λ f. stop_count 0 n f
     ]) e
 
-halts_at_end : {A : Type 0} (R : List ℕ → Read A) (bytes : List ℕ) (n : ℕ) → R bytes ≡ stops n → 0 ≡ n → Halts R bytes n
+-- a stop at the end
+halts_at_end : {A : Type 0} (R : List ℕ → Read A) (bytes : List ℕ) (n : ℕ) → R bytes ≡ stops n → 0
+    ≡ n → Halts R bytes n
 halts_at_end R bytes n e z = record {
   front = bytes;
   back = [];
@@ -117,7 +145,8 @@ halts_at_end R bytes n e z = record {
 }
 
 -- so many bytes, of which a value is made
-fixed : {A : Type 0} (k : ℕ) (f : List ℕ → A) → Steady (λ b. if nat_le k (length b) then got (f (take k b)) (drop k b) else stops 0)
+fixed : {A : Type 0} (k : ℕ) (f : List ℕ → A)
+    → Steady (λ b. if nat_le k (length b) then got (f (take k b)) (drop k b) else stops 0)
 fixed k f = record {
   gives = λ bytes v rest e.
       let w = within k (length bytes) (got (f (take k bytes)) (drop k bytes)) 0 v rest e in
@@ -126,52 +155,72 @@ fixed k f = record {
         piece = take k bytes;
         is = sym (take-append-drop k bytes) ∙ ap (λ m. take k bytes ++ m) (got_rest _ _ _ _ w.1);
         alone = λ z.
-            ap (λ b. cond b (got (f (take k (take k bytes ++ z))) (drop k (take k bytes ++ z))) (stops 0)) (le_true k (length (take k bytes ++ z)) (omega (arith, n, length-append (take k bytes) z)))
+            ap (λ b. cond b (got (f (take k (take k bytes ++ z))) (drop k (take k bytes ++ z)))
+            (stops 0)) (le_true k (length (take k bytes ++ z))
+            (omega (arith, n, length-append (take k bytes) z)))
             ∙ (λ j. got (f (take_at (take k bytes) z k n j)) (drop_at (take k bytes) z k n j))
             ∙ ap (λ x. got x z) (got_value _ _ _ _ w.1);
       };
-  halts = λ bytes n e. halts_at_end _ bytes n e (outside k (length bytes) (f (take k bytes)) (drop k bytes) n e);
+  halts = λ bytes n e. halts_at_end _ bytes n e
+      (outside k (length bytes) (f (take k bytes)) (drop k bytes) n e);
 }
 
+-- numbers
 u64 : Steady read_u64
 unfolding read_u64
 u64 = fixed 8 (from_be_bytes w64)
 
+-- the same of 4 bytes
 u32 : Steady read_u32
 unfolding read_u32
 u32 = fixed 4 (from_be_bytes w32)
 
+-- so many bytes
 content : (n : ℕ) → Steady (read_bytes n)
 unfolding read_bytes
 content n = fixed n (λ b. b)
 
+-- fields
 field_steady : Steady read_field
 unfolding read_field
 field_steady = steady_both read_bytes read_u64 u64 content
 
-name_fails : (test : List ℕ → Bool) (x mid : List ℕ) (k n : ℕ) → (if is_utf8 x && test x then got x mid else stops k) ≡ stops n → ((is_utf8 x && test x) ≡ false) × (k ≡ n)
+-- a text that isn't taken failed its test
+pub name_fails : (test : List ℕ → Bool) (x mid : List ℕ) (k n : ℕ)
+    → (if is_utf8 x && test x then got x mid else stops k) ≡ stops n
+    → ((is_utf8 x && test x) ≡ false) × (k ≡ n)
 name_fails test x mid k n e =
-    (elim (is_utf8 x && test x) as (λ b. (is_utf8 x && test x) ≡ b → cond b (got x mid) (stops k) ≡ stops n → ((is_utf8 x && test x) ≡ false) × (k ≡ n)) [
+    (elim (is_utf8 x && test x) as
+    (λ b. (is_utf8 x && test x) ≡ b → cond b (got x mid) (stops k) ≡ stops n
+    → ((is_utf8 x && test x) ≡ false) × (k ≡ n)) [
       | true ↦ λ t f. absurd (no_got x mid n f)
       | false ↦ λ t f. (t, stop_count k n f)
     ]) refl e
 
-name_gives : (test : List ℕ → Bool) (bytes v rest : List ℕ) → read_name test bytes ≡ got v rest → Gives (read_name test) bytes v rest
+-- a text that is read, whatever follows
+name_gives : (test : List ℕ → Bool) (bytes v rest : List ℕ) → read_name test bytes ≡ got v rest
+    → Gives (read_name test) bytes v rest
 unfolding read_name
 name_gives test bytes v rest e =
-    let b = both_got (λ s r. if is_utf8 s && test s then got s r else stops (length bytes)) (read_field bytes) v rest e in
+    let b = both_got (λ s r. if is_utf8 s && test s then got s r else stops (length bytes))
+    (read_field bytes) v rest e in
     let p = field_steady.gives bytes b.x b.mid b.first in
     let q = passes (is_utf8 b.x && test b.x) (got b.x b.mid) (length bytes) v rest b.second in
     record {
       piece = p.piece;
       is = p.is ∙ ap (λ m. p.piece ++ m) (got_rest _ _ _ _ q.1);
       alone = λ z.
-          ap (followed_by (λ s r. if is_utf8 s && test s then got s r else stops (length (p.piece ++ z)))) (p.alone z)
-          ∙ ap (λ t. cond t (got b.x z) (stops (length (p.piece ++ z)))) q.0 ∙ ap (λ x. got x z) (got_value _ _ _ _ q.1);
+          ap (followed_by (λ s r. if is_utf8 s
+          && test s then got s r else stops (length (p.piece ++ z)))) (p.alone z)
+          ∙ ap (λ t. cond t (got b.x z) (stops (length (p.piece ++ z)))) q.0
+          ∙ ap (λ x. got x z) (got_value _ _ _ _ q.1);
     }
 
-name_halts : (test : List ℕ → Bool) (bytes : List ℕ) (r : Read (List ℕ)) (n : ℕ) → read_field bytes ≡ r
-    → followed_by (λ s q. if is_utf8 s && test s then got s q else stops (length bytes)) r ≡ stops n → Halts (read_name test) bytes n
+-- where no text is read, whatever follows
+name_halts : (test : List ℕ → Bool) (bytes : List ℕ) (r : Read (List ℕ)) (n : ℕ) → read_field bytes
+    ≡ r
+    → followed_by (λ s q. if is_utf8 s && test s then got s q else stops (length bytes)) r ≡ stops n
+    → Halts (read_name test) bytes n
 unfolding read_name read_field read_u64
 name_halts test bytes (stops m) n e f =
     let h = field_steady.halts bytes m e in
@@ -181,9 +230,12 @@ name_halts test bytes (stops m) n e f =
       back = h.back;
       is = h.is;
       left = h.left ∙ same;
-      cut = ap (followed_by (λ s q. if is_utf8 s && test s then got s q else stops (length h.front))) h.cut;
+      cut = ap (followed_by (λ s q. if is_utf8 s
+          && test s then got s q else stops (length h.front))) h.cut;
       no_more = λ some z.
-          ap (followed_by (λ s q. if is_utf8 s && test s then got s q else stops (length (bytes ++ z)))) (h.no_more (subst (λ k. 0 < k) (sym same) some) z)
+          ap (followed_by (λ s q. if is_utf8 s
+          && test s then got s q else stops (length (bytes ++ z))))
+          (h.no_more (subst (λ k. 0 < k) (sym same) some) z)
           ∙ ap (λ k. stops (k + length z)) same;
     }
 name_halts test bytes (got x mid) n e f =
@@ -196,27 +248,47 @@ name_halts test bytes (got x mid) n e f =
       left = t.1;
       cut = refl;
       no_more = λ some z.
-          ap (followed_by (λ s q. if is_utf8 s && test s then got s q else stops (length (bytes ++ z)))) (ap read_field (ap (λ m. m ++ z) p.is ∙ append_assoc p.piece mid z) ∙ p.alone (mid ++ z))
-          ∙ ap (λ b. cond b (got x (mid ++ z)) (stops (length (bytes ++ z)))) t.0 ∙ ap stops (length-append bytes z ∙ ap (λ k. k + length z) t.1);
+          ap (followed_by (λ s q. if is_utf8 s
+          && test s then got s q else stops (length (bytes ++ z))))
+          (ap read_field (ap (λ m. m ++ z) p.is ∙ append_assoc p.piece mid z)
+          ∙ p.alone (mid ++ z))
+          ∙ ap (λ b. cond b (got x (mid ++ z)) (stops (length (bytes ++ z)))) t.0
+          ∙ ap stops (length-append bytes z ∙ ap (λ k. k + length z) t.1);
     }
 
+-- texts that pass a test
 name : (test : List ℕ → Bool) → Steady (read_name test)
 unfolding read_name
-name test = record { gives = name_gives test; halts = λ bytes n e. name_halts test bytes (read_field bytes) n refl e }
+name test = record {
+  gives = name_gives test;
+  halts =
+      λ bytes n e. name_halts test bytes (read_field bytes) n refl e;
+}
 
-none_stops : {A : Type 0} (o : Option A) (rest : List ℕ) (k n : ℕ) → option_map_or (λ x. got x rest) o (stops k) ≡ stops n → (o ≡ None) × (k ≡ n)
+-- a byte that stops stands for none
+pub none_stops : {A : Type 0} (o : Option A) (rest : List ℕ) (k n : ℕ)
+    → option_map_or (λ x. got x rest) o (stops k) ≡ stops n → (o ≡ None) × (k ≡ n)
 none_stops None rest k n e = (refl, stop_count k n e)
 none_stops (Some x) rest k n e = absurd (no_got x rest n e)
 
-byte_gives : {A : Type 0} (byte_of : A → ℕ) (values : List A) (bytes : List ℕ) (v : A) (rest : List ℕ) → read_byte byte_of values bytes ≡ got v rest
+-- a byte that is read, whatever follows
+byte_gives : {A : Type 0} (byte_of : A → ℕ) (values : List A) (bytes : List ℕ) (v : A)
+    (rest : List ℕ) → read_byte byte_of values bytes ≡ got v rest
     → Gives (read_byte byte_of values) bytes v rest
 unfolding read_byte
 byte_gives byte_of values [] v rest e = absurd (no_stop 0 v rest e)
 byte_gives byte_of values (b ∷ bytes) v rest e =
     let s = some_got (find (λ y. b == byte_of y) values) bytes (suc (length bytes)) v rest e in
-    record { piece = b ∷ []; is = ap (λ m. b ∷ m) s.1; alone = λ z. ap (λ o. option_map_or (λ x. got x z) o (stops (suc (length z)))) s.0 }
+    record {
+      piece = b ∷ [];
+      is = ap (λ m. b ∷ m) s.1;
+      alone =
+          λ z. ap (λ o. option_map_or (λ x. got x z) o (stops (suc (length z)))) s.0;
+    }
 
-byte_halts : {A : Type 0} (byte_of : A → ℕ) (values : List A) (bytes : List ℕ) (n : ℕ) → read_byte byte_of values bytes ≡ stops n
+-- where no byte is read, whatever follows
+byte_halts : {A : Type 0} (byte_of : A → ℕ) (values : List A) (bytes : List ℕ) (n : ℕ)
+    → read_byte byte_of values bytes ≡ stops n
     → Halts (read_byte byte_of values) bytes n
 unfolding read_byte
 byte_halts byte_of values [] n e = halts_at_end (read_byte byte_of values) [] n e (stop_count 0 n e)
@@ -229,118 +301,163 @@ byte_halts byte_of values (b ∷ bytes) n e =
       left = s.1;
       cut = refl;
       no_more = λ some z.
-          ap (λ o. option_map_or (λ x. got x (bytes ++ z)) o (stops (suc (length (bytes ++ z))))) s.0
+          ap (λ o. option_map_or (λ x. got x (bytes ++ z)) o (stops (suc (length (bytes ++ z)))))
+          s.0
           ∙ ap stops (length-append (b ∷ bytes) z ∙ ap (λ k. k + length z) s.1);
     }
 
+-- bytes that stand for some values
 byte : {A : Type 0} (byte_of : A → ℕ) (values : List A) → Steady (read_byte byte_of values)
-byte byte_of values = record { gives = byte_gives byte_of values; halts = byte_halts byte_of values }
+byte byte_of values = record {
+  gives = byte_gives byte_of values;
+  halts =
+      byte_halts byte_of values;
+}
 
-more : {A : Type 0} (R : List A → List ℕ → Read A) → ((before : List A) → Steady (R before)) → (n : ℕ) (before : List A) → Steady (read_more R n before)
+-- so many parts
+more : {A : Type 0} (R : List A → List ℕ → Read A) → ((before : List A) → Steady (R before))
+    → (n : ℕ) (before : List A) → Steady (read_more R n before)
 unfolding read_more
 more R each zero before = pure before
-more R each (suc n) before = steady_both (λ x rest. read_more R n (before ++ x ∷ []) rest) (R before) (each before) (λ x. more R each n (before ++ x ∷ []))
+more R each (suc n) before = steady_both (λ x rest. read_more R n (before ++ x ∷ []) rest)
+    (R before) (each before) (λ x. more R each n (before ++ x ∷ []))
 
-many : {A : Type 0} (R : List A → List ℕ → Read A) → ((before : List A) → Steady (R before)) → Steady (read_counted R)
+-- a count and so many parts
+many : {A : Type 0} (R : List A → List ℕ → Read A) → ((before : List A) → Steady (R before))
+    → Steady (read_counted R)
 unfolding read_counted
 many R each = steady_both (λ n rest. read_more R n [] rest) read_u64 u64 (λ n. more R each n [])
 
 -- ---- the parts of a description
 
+-- definitions
 definition : (before : List KeyAttr) → Steady (read_definition before)
 unfolding read_definition
-definition before = steady_both _ _ (name _) (λ x. steady_both _ _ (byte kind_byte kinds) (λ kind. pure _))
+definition before = steady_both _ _ (name _)
+    (λ x. steady_both _ _ (byte kind_byte kinds) (λ kind. pure _))
 
+-- keys
 key : (ds : List KeyAttr) → Steady (read_key ds)
 unfolding read_key
 key ds = steady_both _ _ (name (is_defined ds)) (λ x. pure (key_attr ds x))
 
+-- the name of a RANGE key
 range_next : (ds : List KeyAttr) (there : Bool)
-    → Steady (λ rest. if there then followed_by (λ k q. got (Some k) q) (read_key ds rest) else got None rest)
+    → Steady (λ rest. if there then followed_by (λ k q. got (Some k) q)
+    (read_key ds rest) else got None rest)
 range_next ds true = steady_both (λ k q. got (Some k) q) (read_key ds) (key ds) (λ k. pure (Some k))
 range_next ds false = pure None
 
+-- RANGE keys
 range : (ds : List KeyAttr) → Steady (read_range ds)
 unfolding read_range
 range ds = steady_both _ _ (byte truth_byte truths) (range_next ds)
 
+-- the names of a projection
 included : (p : Projection) → Steady (read_included p)
 unfolding read_included
 included All = pure All
 included KeysOnly = pure KeysOnly
-included (Include names) = steady_both _ _ (many (λ before. read_name any_name) (λ before. name any_name)) (λ given. pure (Include given))
+included (Include names) = steady_both _ _
+    (many (λ before. read_name any_name) (λ before. name any_name)) (λ given. pure (Include given))
 
+-- projections
 projection : Steady read_projection
 unfolding read_projection
 projection = steady_both read_included _ (byte projection_byte projections) included
 
+-- indexes
 index : (ds : List KeyAttr) → Steady (read_index ds)
 unfolding read_index
 index ds =
-    steady_both _ _ (name any_name) (λ x. steady_both _ _ u32 (λ f. steady_both _ _ (key ds) (λ h. steady_both _ _ (range ds)
+    steady_both _ _ (name any_name)
+    (λ x. steady_both _ _ u32 (λ f. steady_both _ _ (key ds) (λ h. steady_both _ _ (range ds)
     (λ r. steady_both _ _ projection (λ p. pure _)))))
 
+-- the family of a stream
 stream : (v : Option View) → Steady (read_stream v)
 unfolding read_stream
 stream None = pure None
 stream (Some w) = steady_both _ _ u32 (λ f. pure (Some f))
 
+-- heads
 head : Steady read_head
 unfolding read_head
 head =
-    steady_both _ _ (name any_name) (λ x. steady_both _ _ u64 (λ c. steady_both _ _ u64 (λ n. steady_both _ _ u32
+    steady_both _ _ (name any_name)
+    (λ x. steady_both _ _ u64 (λ c. steady_both _ _ u64 (λ n. steady_both _ _ u32
     (λ f. steady_both _ _ (byte view_byte views) (λ v. steady_both _ _ (stream v) (λ s. pure _))))))
 
+-- what stands on the definitions
 keyed : (ds : List KeyAttr) → Steady (read_keyed ds)
 unfolding read_keyed
 keyed ds =
-    steady_both _ _ (key ds) (λ h. steady_both _ _ (range ds) (λ r. steady_both _ _ (many (λ before. read_index ds) (λ before. index ds))
+    steady_both _ _ (key ds) (λ h. steady_both _ _ (range ds)
+    (λ r. steady_both _ _ (many (λ before. read_index ds) (λ before. index ds))
     (λ l. steady_both _ _ (many (λ before. read_index ds) (λ before. index ds)) (λ g. pure _))))
 
+-- descriptions
 description : Steady read_description
 unfolding read_description
-description = steady_both _ _ head (λ h. steady_both _ _ (many read_definition definition) (λ ds. steady_both _ _ (keyed ds) (λ k. pure _)))
+description = steady_both _ _ head
+    (λ h. steady_both _ _ (many read_definition definition)
+    (λ ds. steady_both _ _ (keyed ds) (λ k. pure _)))
 
 -- ---- the place
 
+-- one count
 some_count : (m n : ℕ) → Some m ≡ Some n → m ≡ n
 some_count m n e = cc
 
+-- none isn't one
 none_some : (n : ℕ) → None ≡ Some n → ⊥
 none_some n e = cc
 
+-- a list with a front isn't empty
 not_nil : (b : ℕ) (rest : List ℕ) → b ∷ rest ≡ [] → ⊥
 not_nil b rest e = cc
 
-no_description : (bytes z : List ℕ) (s : TableSchema) → IsDescription s → IsHeld s → description_bytes s ≡ bytes ++ z → read_description (bytes ++ z) ≡ got s []
-no_description bytes z s d h e = ap read_description (sym e ∙ sym (append-nil (description_bytes s))) ∙ description_read s [] d h
+-- bytes with which a description begins are read as it
+no_description : (bytes z : List ℕ) (s : TableSchema) → IsDescription s → IsHeld s
+    → description_bytes s ≡ bytes ++ z → read_description (bytes ++ z) ≡ got s []
+no_description bytes z s d h e =
+    ap read_description (sym e ∙ sym (append-nil (description_bytes s))) ∙ description_read s [] d h
 
-bad_from : (bytes : List ℕ) (at left : ℕ) (r : Read TableSchema) → read_description bytes ≡ r → left_of r ≡ Some left → at ≡ length bytes - left → IsBadAt bytes at
-bad_from bytes at left (got s []) e l p = absurd (none_some left l)
-bad_from bytes at left (got s (b ∷ rest)) e l p =
+-- the place is within the bytes, and where bytes stand there, no description begins with them all
+pub record FirstPlace (bytes : List ℕ) (at left : ℕ) : Type 0 where
+  pub within : at + left ≡ length bytes
+  pub no_further : at < length bytes → (s : TableSchema) (more : List ℕ) → IsDescription s
+      → IsHeld s → description_bytes s ≡ bytes ++ more → ⊥
+
+-- the place from what was read
+first_from : (bytes : List ℕ) (at left : ℕ) (r : Read TableSchema) → read_description bytes ≡ r
+    → left_of r ≡ Some left → at ≡ length bytes - left → FirstPlace bytes at left
+first_from bytes at left (got s []) e l p = absurd (none_some left l)
+first_from bytes at left (got s (b ∷ rest)) e l p =
     let g = description.gives bytes s (b ∷ rest) e in
     let n : suc (length rest) ≡ left = some_count _ _ l in
     record {
-      front = g.piece;
-      back = b ∷ rest;
-      is = g.is;
-      place = omega (arith, p, n, ap length g.is, length-append g.piece (b ∷ rest));
-      fine = subst IsAtEnd (sym (ap read_description (sym (append-nil g.piece)) ∙ g.alone [])) tt;
+      within = omega (arith, p, n, ap length g.is, length-append g.piece (b ∷ rest));
       no_further = λ some t z d h f.
-          not_nil b (rest ++ z) (got_rest s t ((b ∷ rest) ++ z) [] (sym (ap read_description (ap (λ m. m ++ z) g.is ∙ append_assoc g.piece (b ∷ rest) z) ∙ g.alone ((b ∷ rest) ++ z)) ∙ no_description bytes z t d h f));
+          not_nil b (rest ++ z)
+          (got_rest s t ((b ∷ rest) ++ z) []
+          (sym (ap read_description
+          (ap (λ m. m ++ z) g.is ∙ append_assoc g.piece (b ∷ rest) z)
+          ∙ g.alone ((b ∷ rest) ++ z))
+          ∙ no_description bytes z t d h f));
     }
-bad_from bytes at left (stops m) e l p =
+first_from bytes at left (stops m) e l p =
     let h = description.halts bytes m e in
     let n : m ≡ left = some_count m left l in
+    let inside : at + left ≡ length bytes
+    = omega (arith, p, n, h.left, ap length h.is, length-append h.front h.back) in
     record {
-      front = h.front;
-      back = h.back;
-      is = h.is;
-      place = omega (arith, p, n, h.left, ap length h.is, length-append h.front h.back);
-      fine = subst IsAtEnd (sym h.cut) tt;
+      within = inside;
       no_further = λ some t z d k f.
-          no_stop (m + length z) t [] (sym (h.no_more (subst (λ j. 0 < j) h.left some) z) ∙ no_description bytes z t d k f);
+          no_stop (m + length z) t []
+          (sym (h.no_more (omega (arith, inside, n, some)) z) ∙ no_description bytes z t d k f);
     }
 
-pub bad_at : (bytes : List ℕ) (at : ℕ) → StopsAt bytes at → IsBadAt bytes at
-bad_at bytes at s = bad_from bytes at s.0 (read_description bytes) refl s.1 s.2
+-- the place that is told
+pub first_place : (bytes : List ℕ) (at : ℕ) (s : StopsAt bytes at) → FirstPlace bytes at s.0
+first_place bytes at s = first_from bytes at s.0 (read_description bytes) refl s.1 s.2

@@ -7,27 +7,28 @@ use Rattle.std.specs.Str.{bytes_eq}
 use Rattle.std.proofs.lemmas.List.{append-nil}
 use Rattle.alt_schema.specs.Format.{each, counted}
 use Rattle.alt_schema.specs.Parts.{Read, got, followed_by, read_u64, read_more, read_counted}
+use Rattle.alt_schema.specs.Places.{AllNext}
 use Rattle.alt_schema.specs.Rules.{is_defined, all_differ}
 use Rattle.alt_schema.specs.declared.schema.KeyAttr.{KeyAttr}
+use Rattle.alt_schema.proofs.Bools.{neither, not_true}
 use Rattle.alt_schema.proofs.NewDescriptions.{left, right}
 use Rattle.alt_schema.proofs.Wholes.{Small, small_back, got_value, got_rest, both_got, u64_got, u64_read}
 
--- each of a list in view of those before it
-abbrev pub AllNext : {A : Type 0} → (List A → A → Type 0) → List A → List A → Type 0
-AllNext P before [] = Unit {0}
-AllNext P before (x ∷ xs) = P before x × AllNext P (before ++ x ∷ []) xs
-
-module _ {A : Type 0} (bytes_of : A → List ℕ) (P : List A → A → Type 0) (R : List A → List ℕ → Read A) where
+module _ {A : Type 0} (bytes_of : A → List ℕ) (P : List A → A → Type 0)
+    (R : List A → List ℕ → Read A) where
   -- so many stand there, behind those before
-  pub record Many (n : ℕ) (before : List A) (bytes : List ℕ) (xs : List A) (rest : List ℕ) : Type 0 where
+  pub record Many (n : ℕ) (before : List A) (bytes : List ℕ) (xs : List A)
+      (rest : List ℕ) : Type 0 where
     pub new : List A
     pub is : xs ≡ before ++ new
     pub many : length new ≡ n
     pub stands : bytes ≡ each bytes_of new ++ rest
     pub good : AllNext P before new
 
-  module _ (sound : (before : List A) (b : List ℕ) (x : A) (r : List ℕ) → Small b → R before b ≡ got x r → (b ≡ bytes_of x ++ r) × P before x) where
-    many_got : (n : ℕ) (before : List A) (bytes : List ℕ) (xs : List A) (rest : List ℕ) → Small bytes → read_more R n before bytes ≡ got xs rest
+  module _ (sound : (before : List A) (b : List ℕ) (x : A) (r : List ℕ) → Small b → R before b
+      ≡ got x r → (b ≡ bytes_of x ++ r) × P before x) where
+    many_got : (n : ℕ) (before : List A) (bytes : List ℕ) (xs : List A) (rest : List ℕ)
+        → Small bytes → read_more R n before bytes ≡ got xs rest
         → Many n before bytes xs rest
     unfolding read_more
     many_got zero before bytes xs rest small e = record {
@@ -40,50 +41,64 @@ module _ {A : Type 0} (bytes_of : A → List ℕ) (P : List A → A → Type 0) 
     many_got (suc n) before bytes xs rest small e =
         let b = both_got (λ x r. read_more R n (before ++ x ∷ []) r) (R before bytes) xs rest e in
         let s = sound before bytes b.x b.mid small b.first in
-        let m = many_got n (before ++ b.x ∷ []) b.mid xs rest (small_back (bytes_of b.x) b.mid (subst Small s.0 small)) b.second in
+        let m = many_got n (before ++ b.x ∷ []) b.mid xs rest
+        (small_back (bytes_of b.x) b.mid (subst Small s.0 small)) b.second in
         record {
           new = b.x ∷ m.new;
           is = m.is ∙ append_assoc before (b.x ∷ []) m.new;
           many = ap suc m.many;
-          stands = s.0 ∙ ap (λ z. bytes_of b.x ++ z) m.stands ∙ sym (append_assoc (bytes_of b.x) (each bytes_of m.new) rest);
+          stands = s.0 ∙ ap (λ z. bytes_of b.x ++ z) m.stands
+              ∙ sym (append_assoc (bytes_of b.x) (each bytes_of m.new) rest);
           good = (s.1, m.good);
         }
 
-    pub counted_got : (bytes : List ℕ) (xs : List A) (rest : List ℕ) → Small bytes → read_counted R bytes ≡ got xs rest
+    pub counted_got : (bytes : List ℕ) (xs : List A) (rest : List ℕ) → Small bytes
+        → read_counted R bytes ≡ got xs rest
         → (bytes ≡ counted bytes_of xs ++ rest) × AllNext P [] xs
     unfolding read_counted
     counted_got bytes xs rest small e =
         let b = both_got (λ n r. read_more R n [] r) (read_u64 bytes) xs rest e in
         let s = u64_got bytes b.x b.mid small b.first in
-        let m = many_got b.x [] b.mid xs rest (small_back (to_be_bytes w64 b.x) b.mid (subst Small s small)) b.second in (
-          s ∙ (λ j. to_be_bytes w64 (sym m.many j) ++ m.stands j) ∙ ap (λ zs. to_be_bytes w64 (length zs) ++ (each bytes_of zs ++ rest)) (sym m.is)
+        let m = many_got b.x [] b.mid xs rest
+        (small_back (to_be_bytes w64 b.x) b.mid (subst Small s small)) b.second in (
+          s ∙ (λ j. to_be_bytes w64 (sym m.many j) ++ m.stands j)
+              ∙ ap (λ zs. to_be_bytes w64 (length zs) ++ (each bytes_of zs ++ rest)) (sym m.is)
               ∙ sym (append_assoc (to_be_bytes w64 (length xs)) (each bytes_of xs) rest),
           subst (AllNext P []) (sym m.is) m.good,
         )
 
-  module _ (complete : (before : List A) (x : A) (r : List ℕ) → P before x → R before (bytes_of x ++ r) ≡ got x r) where
-    many_read : (xs before : List A) (rest : List ℕ) → AllNext P before xs → read_more R (length xs) before (each bytes_of xs ++ rest) ≡ got (before ++ xs) rest
+  module _ (complete : (before : List A) (x : A) (r : List ℕ) → P before x
+      → R before (bytes_of x ++ r) ≡ got x r) where
+    many_read : (xs before : List A) (rest : List ℕ) → AllNext P before xs
+        → read_more R (length xs) before (each bytes_of xs ++ rest) ≡ got (before ++ xs) rest
     unfolding read_more
     many_read [] before rest h = ap (λ l. got l rest) (sym (append-nil before))
     many_read (x ∷ xs) before rest h =
         ap (followed_by (λ y r. read_more R (length xs) (before ++ y ∷ []) r))
-        (ap (R before) (append_assoc (bytes_of x) (each bytes_of xs) rest) ∙ complete before x (each bytes_of xs ++ rest) h.0)
-        ∙ many_read xs (before ++ x ∷ []) rest h.1 ∙ ap (λ l. got l rest) (append_assoc before (x ∷ []) xs)
+        (ap (R before) (append_assoc (bytes_of x) (each bytes_of xs) rest)
+        ∙ complete before x (each bytes_of xs ++ rest) h.0)
+        ∙ many_read xs (before ++ x ∷ []) rest h.1
+        ∙ ap (λ l. got l rest) (append_assoc before (x ∷ []) xs)
 
-    pub counted_read : (xs : List A) (rest : List ℕ) → length xs < 2 ^ 64 → AllNext P [] xs → read_counted R (counted bytes_of xs ++ rest) ≡ got xs rest
+    pub counted_read : (xs : List A) (rest : List ℕ) → length xs < 2 ^ 64 → AllNext P [] xs
+        → read_counted R (counted bytes_of xs ++ rest) ≡ got xs rest
     unfolding read_counted
     counted_read xs rest h good =
-        ap (λ b. followed_by (λ n r. read_more R n [] r) (read_u64 b)) (append_assoc (to_be_bytes w64 (length xs)) (each bytes_of xs) rest)
-        ∙ ap (followed_by (λ n r. read_more R n [] r)) (u64_read (length xs) (each bytes_of xs ++ rest) h)
+        ap (λ b. followed_by (λ n r. read_more R n [] r) (read_u64 b))
+        (append_assoc (to_be_bytes w64 (length xs)) (each bytes_of xs) rest)
+        ∙ ap (followed_by (λ n r. read_more R n [] r))
+        (u64_read (length xs) (each bytes_of xs ++ rest) h)
         ∙ many_read xs [] rest good
 
 -- ---- those of which nothing before tells
 
-pub all_next : {A : Type 0} (P : A → Type 0) (xs before : List A) → AllByRecursion P xs → AllNext (λ b. P) before xs
+pub all_next : {A : Type 0} (P : A → Type 0) (xs before : List A) → AllByRecursion P xs
+    → AllNext (λ b. P) before xs
 all_next P [] before h = tt
 all_next P (x ∷ xs) before h = (h.0, all_next P xs (before ++ x ∷ []) h.1)
 
-pub next_all : {A : Type 0} (P : A → Type 0) (xs before : List A) → AllNext (λ b. P) before xs → AllByRecursion P xs
+pub next_all : {A : Type 0} (P : A → Type 0) (xs before : List A) → AllNext (λ b. P) before xs
+    → AllByRecursion P xs
 next_all P [] before h = tt
 next_all P (x ∷ xs) before h = (h.0, next_all P xs (before ++ x ∷ []) h.1)
 
@@ -96,46 +111,55 @@ either_false : (a b : Bool) → (a || b) ≡ false → (a ≡ false) × (b ≡ f
 either_false true b h = cc
 either_false false b h = (refl, h)
 
-neither : (a b : Bool) → a ≡ false → b ≡ false → (a || b) ≡ false
-neither true b p q = p
-neither false b p q = q
-
-not_true : (a : Bool) → not a ≡ true → a ≡ false
-not_true true h = cc
-not_true false h = refl
-
 -- one more whose name is new
-differ_more : (before : List KeyAttr) (d : KeyAttr) → all_differ (λ k. k.name) before ≡ true → is_defined before d.name ≡ false
+pub differ_more : (before : List KeyAttr) (d : KeyAttr) → all_differ (λ k. k.name) before ≡ true
+    → is_defined before d.name ≡ false
     → all_differ (λ k. k.name) (before ++ d ∷ []) ≡ true
 differ_more [] d h new = refl
 differ_more (b ∷ before) d h new =
     let e = either_false (bytes_eq b.name d.name) (is_defined before d.name) new in
-    let none : list_any (λ y. bytes_eq y.name b.name) (before ++ d ∷ []) ≡ false = last_other before b d (not_true _ (left _ _ h)) e.0 in
+    let none : list_any (λ y. bytes_eq y.name b.name) (before ++ d ∷ []) ≡ false =
+    last_other before b d (not_true _ (left _ _ h)) e.0 in
     λ j. not (none j) && differ_more before d (right _ _ h) e.1 j
   where
-    last_other : (xs : List KeyAttr) (b d : KeyAttr) → list_any (λ y. bytes_eq y.name b.name) xs ≡ false → bytes_eq b.name d.name ≡ false
+    last_other : (xs : List KeyAttr) (b d : KeyAttr) → list_any (λ y. bytes_eq y.name b.name) xs
+        ≡ false → bytes_eq b.name d.name ≡ false
         → list_any (λ y. bytes_eq y.name b.name) (xs ++ d ∷ []) ≡ false
     last_other [] b d h e = neither _ false (nat_list_eq_equiv.symm d.name b.name ∙ e) refl
     last_other (x ∷ xs) b d h e =
-        let f = either_false (bytes_eq x.name b.name) (list_any (λ y. bytes_eq y.name b.name) xs) h in
+        let f = either_false (bytes_eq x.name b.name)
+        (list_any (λ y. bytes_eq y.name b.name) xs) h in
         neither _ _ f.0 (last_other xs b d f.1 e)
 
-pub next_differ : (ds before : List KeyAttr) → all_differ (λ k. k.name) before ≡ true → AllNext HasNewName before ds → all_differ (λ k. k.name) (before ++ ds) ≡ true
+pub next_differ : (ds before : List KeyAttr) → all_differ (λ k. k.name) before ≡ true
+    → AllNext HasNewName before ds → all_differ (λ k. k.name) (before ++ ds) ≡ true
 next_differ [] before h new = ap (all_differ (λ k. k.name)) (append-nil before) ∙ h
 next_differ (d ∷ ds) before h new =
-    ap (all_differ (λ k. k.name)) (sym (append_assoc before (d ∷ []) ds)) ∙ next_differ ds (before ++ d ∷ []) (differ_more before d h new.0) new.1
+    ap (all_differ (λ k. k.name)) (sym (append_assoc before (d ∷ []) ds))
+    ∙ next_differ ds (before ++ d ∷ []) (differ_more before d h new.0) new.1
 
 -- the name of one that follows isn't that of one before
-not_before : (before : List KeyAttr) (d : KeyAttr) (ds : List KeyAttr) → all_differ (λ k. k.name) (before ++ d ∷ ds) ≡ true → is_defined before d.name ≡ false
+pub not_before : (before : List KeyAttr) (d : KeyAttr) (ds : List KeyAttr)
+    → all_differ (λ k. k.name) (before ++ d ∷ ds) ≡ true → is_defined before d.name ≡ false
 not_before [] d ds h = refl
 not_before (b ∷ before) d ds h =
-    neither _ _ (nat_list_eq_equiv.symm b.name d.name ∙ later before b d ds (not_true _ (left _ _ h))) (not_before before d ds (right _ _ h))
+    neither _ _ (nat_list_eq_equiv.symm b.name d.name
+    ∙ later before b d ds (not_true _ (left _ _ h))) (not_before before d ds (right _ _ h))
   where
-    later : (xs : List KeyAttr) (b d : KeyAttr) (ds : List KeyAttr) → list_any (λ y. bytes_eq y.name b.name) (xs ++ d ∷ ds) ≡ false → bytes_eq d.name b.name ≡ false
-    later [] b d ds h = (either_false (bytes_eq d.name b.name) (list_any (λ y. bytes_eq y.name b.name) ds) h).0
-    later (x ∷ xs) b d ds h = later xs b d ds (either_false (bytes_eq x.name b.name) (list_any (λ y. bytes_eq y.name b.name) (xs ++ d ∷ ds)) h).1
+    later : (xs : List KeyAttr) (b d : KeyAttr) (ds : List KeyAttr)
+        → list_any (λ y. bytes_eq y.name b.name) (xs ++ d ∷ ds) ≡ false → bytes_eq d.name b.name
+        ≡ false
+    later [] b d ds h = (either_false (bytes_eq d.name b.name)
+        (list_any (λ y. bytes_eq y.name b.name) ds) h).0
+    later (x ∷ xs) b d ds h = later xs b d ds
+        (either_false (bytes_eq x.name b.name)
+        (list_any (λ y. bytes_eq y.name b.name) (xs ++ d ∷ ds)) h).1
 
-pub differ_next : (ds before : List KeyAttr) → all_differ (λ k. k.name) (before ++ ds) ≡ true → AllNext HasNewName before ds
+pub differ_next : (ds before : List KeyAttr) → all_differ (λ k. k.name) (before ++ ds) ≡ true
+    → AllNext HasNewName before ds
 differ_next [] before h = tt
-differ_next (d ∷ ds) before h =
-    (not_before before d ds h, differ_next ds (before ++ d ∷ []) (ap (all_differ (λ k. k.name)) (append_assoc before (d ∷ []) ds) ∙ h))
+differ_next (d ∷ ds) before h = (
+  not_before before d ds h,
+  differ_next ds (before ++ d ∷ [])
+      (ap (all_differ (λ k. k.name)) (append_assoc before (d ∷ []) ds) ∙ h),
+)

@@ -4,6 +4,7 @@ use Rattle.std.specs.List.{list_any, list_all, find}
 use Rattle.std.specs.Option.{option_map_or}
 use Rattle.std.specs.Str.{bytes_eq}
 use Rattle.serde_json.specs.Data.{Members}
+use Rattle.alt_shape.specs.Refusals.{IsKnown}
 use Rattle.alt_value.specs.declared.kind.KeyKind.{KeyKind}
 use Rattle.alt_value.specs.declared.kind.KeyKind.TheVariants.{S, N, B}
 use Rattle.alt_schema.specs.Indexes.{indexes, of_range}
@@ -24,8 +25,10 @@ use Rattle.alt_schema.specs.declared.stated.Stated.{Stated}
 
 -- the kind that a name is defined with; each name that is used is defined
 abbrev pub kind_in : List KeyAttr → List ℕ → KeyKind
-kind_in definitions name = option_map_or (λ d. d.kind) (find (λ d. bytes_eq d.name name) definitions) S
+kind_in definitions name = option_map_or (λ d. d.kind)
+    (find (λ d. bytes_eq d.name name) definitions) S
 
+-- the key attribute of a name, with its kind
 abbrev pub key_attr : List KeyAttr → List ℕ → KeyAttr
 key_attr definitions name = record { name = name; kind = kind_in definitions name }
 
@@ -37,10 +40,12 @@ hash_of definitions keys = key_attr definitions (option_map_or (λ e. e.name) (s
 abbrev pub range_of : List KeyAttr → List Element → Option KeyAttr
 range_of definitions keys = option_map (λ e. key_attr definitions e.name) (slice_get keys 1)
 
+-- the names given, or else all or the keys alone
 abbrev pub projection_for : List ℕ → Option (List (List ℕ)) → Projection
 projection_for word (Some names) = Include names
 projection_for word None = if bytes_eq word (codes "ALL") then All else KeysOnly
 
+-- an index with the keys and the projection that are stated
 abbrev pub index_for : List KeyAttr → ℕ → StatedIndex → IndexSchema
 index_for definitions family i = record {
   name = i.name;
@@ -53,7 +58,8 @@ index_for definitions family i = record {
 -- the indexes of a list, with families from the given one on
 abbrev pub indexes_from : List KeyAttr → ℕ → List StatedIndex → List IndexSchema
 indexes_from definitions family [] = []
-indexes_from definitions family (i ∷ is) = index_for definitions family i ∷ indexes_from definitions (suc family) is
+indexes_from definitions family (i ∷ is) = index_for definitions family i
+    ∷ indexes_from definitions (suc family) is
 
 -- the table takes the given family, and then come local indexes, global indexes and stream
 unfoldable pub described_by : Stated → ℕ → ℕ → ℕ → TableSchema
@@ -82,8 +88,14 @@ abbrev pub HasCause : Members → SchemaFault → Type 0
 HasCause body (Refused r) = refusal_of body ≡ Some r
 HasCause body NoMemory = Unit {0}
 
+-- a refusal is one of those that have a message
+abbrev pub IsKnownFault : SchemaFault → Type 0
+IsKnownFault (Refused r) = IsKnown r
+IsKnownFault NoMemory = Unit {0}
+
 -- ---- what each description is
 
+-- two kinds are the same
 abbrev pub same_kind : KeyKind → KeyKind → Bool
 same_kind S S = true
 same_kind N N = true
@@ -92,10 +104,13 @@ same_kind k l = false
 
 -- the attribute is one of those, with its kind
 abbrev pub is_one_of : List KeyAttr → KeyAttr → Bool
-is_one_of definitions k = list_any (λ d. bytes_eq d.name k.name && same_kind d.kind k.kind) definitions
+is_one_of definitions k = list_any
+    (λ d. bytes_eq d.name k.name && same_kind d.kind k.kind) definitions
 
+-- the keys of a table or an index are defined ones
 abbrev pub keys_defined : List KeyAttr → KeyAttr → Option KeyAttr → Bool
-keys_defined definitions hash range = is_one_of definitions hash && of_range (is_one_of definitions) true range
+keys_defined definitions hash range = is_one_of definitions hash
+    && of_range (is_one_of definitions) true range
 
 -- It has a family for a stream exactly where it has a stream; no attribute is defined twice, and each key attribute of the table
 -- and of an index is a defined one.

@@ -34,6 +34,7 @@ of_range test without (Some range) = test range
 
 -- ---- which items are in an index
 
+-- the item has the key attribute
 abbrev pub has_part : List Pair → KeyAttr → Bool
 has_part item key = is_some (at_name key.name item)
 
@@ -43,6 +44,7 @@ is_in_index index item = has_part item index.hash && of_range (has_part item) tr
 
 -- ---- what the index keeps of them
 
+-- the key attribute has that name
 abbrev pub has_key_name : List ℕ → KeyAttr → Bool
 has_key_name name key = bytes_eq key.name name
 
@@ -58,7 +60,8 @@ is_included (Include names) name = stands_in names name
 
 -- whether an attribute is projected; the keys of the table and of the index always are
 abbrev pub is_projected : TableSchema → IndexSchema → List ℕ → Bool
-is_projected s index name = is_included index.projection name || (is_key s.hash s.range name || is_key index.hash index.range name)
+is_projected s index name = is_included index.projection name
+    || (is_key s.hash s.range name || is_key index.hash index.range name)
 
 -- the item cut to the projected attributes
 abbrev pub cut : TableSchema → IndexSchema → List Pair → List Pair
@@ -94,11 +97,14 @@ part_fits most item key = is_key_or_none most key.kind (at_name key.name item)
 abbrev pub longest_hash : ℕ
 longest_hash = 2048
 
+-- and the longest RANGE key
 abbrev pub longest_range : ℕ
 longest_range = 1024
 
+-- each key attribute of the index that the item has can be a key
 abbrev pub index_fits : List Pair → IndexSchema → Bool
-index_fits item index = part_fits longest_hash item index.hash && of_range (part_fits longest_range item) true index.range
+index_fits item index = part_fits longest_hash item index.hash
+    && of_range (part_fits longest_range item) true index.range
 
 -- each key attribute of an index that the item has can be a key
 abbrev pub keys_fit : TableSchema → List Pair → Bool

@@ -19,9 +19,11 @@ use Rattle.alt_schema.specs.declared.schema.TableSchema.{TableSchema}
 unfoldable pub label : ℕ → List ℕ
 label n = replicate (21 - length (decimal n)) 48 ++ decimal n
 
+-- the name of a table as a resource
 abbrev pub table_arn : List ℕ → List ℕ
 table_arn name = codes "arn:aws:dynamodb:local:000000000000:table/" ++ name
 
+-- the name of an index as a resource
 abbrev pub index_arn : List ℕ → List ℕ → List ℕ
 index_arn table name = table_arn table ++ (codes "/index/" ++ name)
 
@@ -48,32 +50,43 @@ member_if name (Some d) ms = member name d ms
 
 -- ---- attributes, keys and projections
 
+-- the word of a kind
 abbrev pub kind_word : KeyKind → List ℕ
 kind_word S = codes "S"
 kind_word N = codes "N"
 kind_word B = codes "B"
 
+-- a defined attribute
 abbrev pub definition_json : KeyAttr → Data
-definition_json d = object (member (codes "AttributeName") (string d.name) (member (codes "AttributeType") (string (kind_word d.kind)) no_members))
+definition_json d = object (member (codes "AttributeName") (string d.name)
+    (member (codes "AttributeType") (string (kind_word d.kind)) no_members))
 
+-- a key attribute in its role
 abbrev pub key_json : List ℕ → KeyAttr → Data
-key_json role k = object (member (codes "AttributeName") (string k.name) (member (codes "KeyType") (string role) no_members))
+key_json role k = object (member (codes "AttributeName") (string k.name)
+    (member (codes "KeyType") (string role) no_members))
 
+-- the RANGE key, where there is one
 abbrev pub range_items : Option KeyAttr → Items
 range_items None = no_items
 range_items (Some k) = item (key_json (codes "RANGE") k) no_items
 
+-- the keys of a table or an index
 abbrev pub key_schema_json : KeyAttr → Option KeyAttr → Data
 key_schema_json hash range = array (item (key_json (codes "HASH") hash) (range_items range))
 
+-- what an index keeps
 abbrev pub projection_json : Projection → Data
 projection_json All = object (member (codes "ProjectionType") (string (codes "ALL")) no_members)
-projection_json KeysOnly = object (member (codes "ProjectionType") (string (codes "KEYS_ONLY")) no_members)
+projection_json KeysOnly = object
+    (member (codes "ProjectionType") (string (codes "KEYS_ONLY")) no_members)
 projection_json (Include names) =
-    object (member (codes "NonKeyAttributes") (array (items_by (λ name. string name) names)) (member (codes "ProjectionType") (string (codes "INCLUDE")) no_members))
+    object (member (codes "NonKeyAttributes") (array (items_by (λ name. string name) names))
+    (member (codes "ProjectionType") (string (codes "INCLUDE")) no_members))
 
 -- ---- indexes and the stream
 
+-- what each index shows
 abbrev pub index_members : List ℕ → IndexSchema → Members
 index_members table i =
     member (codes "IndexArn") (string (index_arn table i.name))
@@ -81,6 +94,7 @@ index_members table i =
     (member (codes "KeySchema") (key_schema_json i.hash i.range)
     (member (codes "Projection") (projection_json i.projection) no_members)))
 
+-- a local index
 abbrev pub local_json : List ℕ → IndexSchema → Data
 local_json table i = object (index_members table i)
 
@@ -93,14 +107,17 @@ global_json table i =
     (member (codes "KeySchema") (key_schema_json i.hash i.range)
     (member (codes "Projection") (projection_json i.projection) no_members)))))
 
+-- the word for what a stream shows
 abbrev pub view_word : View → List ℕ
 view_word view_keys = codes "KEYS_ONLY"
 view_word NewImage = codes "NEW_IMAGE"
 view_word OldImage = codes "OLD_IMAGE"
 view_word NewAndOldImages = codes "NEW_AND_OLD_IMAGES"
 
+-- a stream that shows so much
 abbrev pub specification_json : View → Data
-specification_json v = object (member (codes "StreamEnabled") (boolean true) (member (codes "StreamViewType") (string (view_word v)) no_members))
+specification_json v = object (member (codes "StreamEnabled") (boolean true)
+    (member (codes "StreamViewType") (string (view_word v)) no_members))
 
 -- ---- the whole
 
@@ -111,7 +128,8 @@ description_json s status = object
     (member (codes "CreationDateTime") (number (unsigned s.created))
     (member_if (codes "GlobalSecondaryIndexes") (array_if_any (global_json s.name) s.globals)
     (member (codes "KeySchema") (key_schema_json s.hash s.range)
-    (member_if (codes "LatestStreamArn") (option_map (λ v. string (stream_arn s.name s.number)) s.view)
+    (member_if (codes "LatestStreamArn")
+    (option_map (λ v. string (stream_arn s.name s.number)) s.view)
     (member_if (codes "LatestStreamLabel") (option_map (λ v. string (label s.number)) s.view)
     (member_if (codes "LocalSecondaryIndexes") (array_if_any (local_json s.name) s.locals)
     (member_if (codes "StreamSpecification") (option_map specification_json s.view)
@@ -140,8 +158,10 @@ lasting_members s status =
 abbrev pub with_stream_members : TableSchema → View → Members → Members
 with_stream_members s v ms =
     put (codes "StreamSpecification") (specification_json v)
-    (put (codes "LatestStreamLabel") (string (label s.number)) (put (codes "LatestStreamArn") (string (stream_arn s.name s.number)) ms))
+    (put (codes "LatestStreamLabel") (string (label s.number))
+    (put (codes "LatestStreamArn") (string (stream_arn s.name s.number)) ms))
 
+-- the same, where there is a stream
 abbrev pub with_stream : TableSchema → Option View → Members → Members
 with_stream s None ms = ms
 with_stream s (Some v) ms = with_stream_members s v ms

@@ -1,7 +1,10 @@
 pub mod Described
 pub mod Format
+pub mod Held
 pub mod Indexes
 pub mod Json
+pub mod Named
 pub mod Parts
+pub mod Places
 pub mod Rules
 pub mod Stated

@@ -2,21 +2,19 @@
 --
 -- Bytes give a value and what is behind it. Or they stop, with so many bytes left from the place on: none where a part is cut off by
 -- the end, and else those from the beginning of the part that is none.
-use Rattle.std.specs.Prelude.{◌≡◌, ℕ, zero, suc, ◌-◌, ◌<◌, ◌^◌, Bool, true, false, not, ◌&&◌, ◌==◌, nat_le, if◌then◌else◌, List, [], ◌∷◌, ◌++◌, length, take, drop, Option, Some, None, Result, Ok, Err}
+use Rattle.std.specs.Prelude.{◌≡◌, ℕ, zero, suc, ◌-◌, Bool, true, false, not, ◌&&◌, ◌==◌, nat_le, if◌then◌else◌, List, [], ◌∷◌, ◌++◌, length, take, drop, Option, Some, None}
 use Rattle.std.specs.Int.{w32, w64, from_be_bytes}
-use Rattle.std.specs.List.{find, AllByRecursion}
+use Rattle.std.specs.List.{find}
 use Rattle.std.specs.Option.{option_map_or}
-use Rattle.std.specs.Str.{is_utf8, IsUtf8}
+use Rattle.std.specs.Str.{is_utf8}
 use Rattle.alt_value.specs.declared.kind.KeyKind.{KeyKind}
 use Rattle.alt_value.specs.declared.kind.KeyKind.TheVariants.{S, N, B}
-use Rattle.alt_schema.specs.declared.parsing.Head.{Head}
-use Rattle.alt_schema.specs.declared.parsing.Keyed.{Keyed}
-use Rattle.alt_schema.specs.declared.parts.Stop.{Stop}
-use Rattle.alt_schema.specs.declared.parts.Stop.TheVariants.{Left, NoMemory}
-use Rattle.alt_fields.specs.declared.bytes.BytesFault.{BytesFault}
-use Rattle.alt_fields.specs.declared.bytes.BytesFault.TheVariants.{Bad, NoMemory as NoRoom}
-use Rattle.alt_schema.specs.Described.{key_attr, IsDescription}
-use Rattle.alt_schema.specs.Format.{kind_byte, view_byte, description_bytes}
+use Rattle.alt_schema.specs.declared.bytes.parsing.Head.{Head}
+use Rattle.alt_schema.specs.declared.bytes.parsing.Keyed.{Keyed}
+use Rattle.alt_schema.specs.declared.bytes.parts.Stop.{Stop}
+use Rattle.alt_schema.specs.declared.bytes.parts.Stop.TheVariants.{Left, NoMemory}
+use Rattle.alt_schema.specs.Described.{key_attr}
+use Rattle.alt_schema.specs.Format.{kind_byte, truth_byte, projection_byte, view_byte}
 use Rattle.alt_schema.specs.Rules.{is_defined}
 use Rattle.alt_schema.specs.declared.schema.KeyAttr.{KeyAttr}
 use Rattle.alt_schema.specs.declared.schema.Projection.{Projection}
@@ -26,6 +24,7 @@ use Rattle.alt_schema.specs.declared.schema.View.TheVariants.{KeysOnly as view_k
 use Rattle.alt_schema.specs.declared.schema.IndexSchema.{IndexSchema}
 use Rattle.alt_schema.specs.declared.schema.TableSchema.{TableSchema}
 
+-- what reading comes to
 pub data Read (A : Type 0) : Type 0 where
   got : A → List ℕ → Read A
   stops : ℕ → Read A
@@ -41,28 +40,37 @@ followed_by next (stops left) = stops left
 unfoldable pub read_bytes : ℕ → List ℕ → Read (List ℕ)
 read_bytes n bytes = if nat_le n (length bytes) then got (take n bytes) (drop n bytes) else stops 0
 
+-- a number of 8 bytes, high byte first
 unfoldable pub read_u64 : List ℕ → Read ℕ
-read_u64 bytes = if nat_le 8 (length bytes) then got (from_be_bytes w64 (take 8 bytes)) (drop 8 bytes) else stops 0
+read_u64 bytes = if nat_le 8 (length bytes) then got (from_be_bytes w64 (take 8 bytes))
+    (drop 8 bytes) else stops 0
 
+-- a number of 4 bytes, high byte first
 unfoldable pub read_u32 : List ℕ → Read ℕ
-read_u32 bytes = if nat_le 4 (length bytes) then got (from_be_bytes w32 (take 4 bytes)) (drop 4 bytes) else stops 0
+read_u32 bytes = if nat_le 4 (length bytes) then got (from_be_bytes w32 (take 4 bytes))
+    (drop 4 bytes) else stops 0
 
+-- the content of a field
 unfoldable pub read_field : List ℕ → Read (List ℕ)
 read_field bytes = followed_by read_bytes (read_u64 bytes)
 
 -- a field whose content is a text that passes a test
 unfoldable pub read_name : (List ℕ → Bool) → List ℕ → Read (List ℕ)
-read_name test bytes = followed_by (λ s rest. if is_utf8 s && test s then got s rest else stops (length bytes)) (read_field bytes)
+read_name test bytes = followed_by
+    (λ s rest. if is_utf8 s && test s then got s rest else stops (length bytes)) (read_field bytes)
 
 -- the byte of one of these
 unfoldable pub read_byte : {A : Type 0} → (A → ℕ) → List A → List ℕ → Read A
 read_byte byte_of values [] = stops 0
-read_byte byte_of values (b ∷ rest) = option_map_or (λ x. got x rest) (find (λ x. b == byte_of x) values) (stops (suc (length rest)))
+read_byte byte_of values (b ∷ rest) =
+    option_map_or (λ x. got x rest) (find (λ x. b == byte_of x) values) (stops (suc (length rest)))
 
 -- so many parts more behind those before, each read in view of those before it
-unfoldable pub read_more : {A : Type 0} → (List A → List ℕ → Read A) → ℕ → List A → List ℕ → Read (List A)
+unfoldable pub read_more : {A : Type 0} → (List A → List ℕ → Read A) → ℕ → List A → List ℕ
+    → Read (List A)
 read_more read zero before bytes = got before bytes
-read_more read (suc n) before bytes = followed_by (λ x rest. read_more read n (before ++ x ∷ []) rest) (read before bytes)
+read_more read (suc n) before bytes =
+    followed_by (λ x rest. read_more read n (before ++ x ∷ []) rest) (read before bytes)
 
 -- a count, and so many parts
 unfoldable pub read_counted : {A : Type 0} → (List A → List ℕ → Read A) → List ℕ → Read (List A)
@@ -70,40 +78,39 @@ read_counted read bytes = followed_by (λ n rest. read_more read n [] rest) (rea
 
 -- ---- the parts of a description
 
+-- each text passes
 abbrev pub any_name : List ℕ → Bool
 any_name name = true
 
+-- the kinds that have a byte
 abbrev pub kinds : List KeyKind
 kinds = S ∷ N ∷ B ∷ []
 
 -- a name that no definition before has, and its kind
 unfoldable pub read_definition : List KeyAttr → List ℕ → Read KeyAttr
 read_definition before bytes =
-    followed_by (λ name rest. followed_by (λ kind behind. got (record { name = name; kind = kind }) behind) (read_byte kind_byte kinds rest))
+    followed_by (λ name rest. followed_by
+    (λ kind behind. got (record { name = name; kind = kind }) behind)
+    (read_byte kind_byte kinds rest))
     (read_name (λ name. not (is_defined before name)) bytes)
 
 -- a name that is defined, with its kind
 unfoldable pub read_key : List KeyAttr → List ℕ → Read KeyAttr
-read_key definitions bytes = followed_by (λ name rest. got (key_attr definitions name) rest) (read_name (is_defined definitions) bytes)
+read_key definitions bytes = followed_by (λ name rest. got (key_attr definitions name) rest)
+    (read_name (is_defined definitions) bytes)
 
-abbrev pub truth_byte : Bool → ℕ
-truth_byte false = 0
-truth_byte true = 1
-
+-- the truth values that have a byte
 abbrev pub truths : List Bool
 truths = false ∷ true ∷ []
 
 -- 00, or 01 and a key
 unfoldable pub read_range : List KeyAttr → List ℕ → Read (Option KeyAttr)
 read_range definitions bytes =
-    followed_by (λ there rest. if there then followed_by (λ key behind. got (Some key) behind) (read_key definitions rest) else got None rest)
+    followed_by (λ there rest. if there then followed_by (λ key behind. got (Some key) behind)
+    (read_key definitions rest) else got None rest)
     (read_byte truth_byte truths bytes)
 
-abbrev pub projection_byte : Projection → ℕ
-projection_byte All = 1
-projection_byte KeysOnly = 2
-projection_byte (Include names) = 3
-
+-- a projection of each kind that has a byte
 abbrev pub projections : List Projection
 projections = All ∷ KeysOnly ∷ Include [] ∷ []
 
@@ -112,17 +119,30 @@ unfoldable pub read_included : Projection → List ℕ → Read Projection
 read_included All bytes = got All bytes
 read_included KeysOnly bytes = got KeysOnly bytes
 read_included (Include names) bytes =
-    followed_by (λ given rest. got (Include given) rest) (read_counted (λ before. read_name any_name) bytes)
+    followed_by (λ given rest. got (Include given) rest)
+    (read_counted (λ before. read_name any_name) bytes)
 
+-- the byte of a projection, and its names
 unfoldable pub read_projection : List ℕ → Read Projection
 read_projection bytes = followed_by read_included (read_byte projection_byte projections bytes)
 
+-- an index, part by part
 unfoldable pub read_index : List KeyAttr → List ℕ → Read IndexSchema
 read_index definitions bytes =
-    followed_by (λ name b1. followed_by (λ family b2. followed_by (λ hash b3. followed_by (λ range b4. followed_by (λ projection b5.
-    got (record { name = name; hash = hash; range = range; projection = projection; family = family }) b5)
-    (read_projection b4)) (read_range definitions b3)) (read_key definitions b2)) (read_u32 b1)) (read_name any_name bytes)
+    followed_by (λ name b1. followed_by
+    (λ family b2. followed_by (λ hash b3. followed_by (λ range b4. followed_by (λ projection b5.
+    got (record {
+      name = name;
+      hash = hash;
+      range = range;
+      projection = projection;
+      family =
+          family;
+    }) b5)
+    (read_projection b4)) (read_range definitions b3)) (read_key definitions b2)) (read_u32 b1))
+    (read_name any_name bytes)
 
+-- what a stream can show, or that there is none
 abbrev pub views : List (Option View)
 views = None ∷ Some view_keys ∷ Some NewImage ∷ Some OldImage ∷ Some NewAndOldImages ∷ []
 
@@ -134,17 +154,28 @@ read_stream (Some view) bytes = followed_by (λ family rest. got (Some family) r
 -- the name, the moment, the number, the family and the stream
 unfoldable pub read_head : List ℕ → Read Head
 read_head bytes =
-    followed_by (λ name b1. followed_by (λ created b2. followed_by (λ number b3. followed_by (λ family b4. followed_by (λ view b5.
+    followed_by (λ name b1. followed_by
+    (λ created b2. followed_by (λ number b3. followed_by (λ family b4. followed_by (λ view b5.
     followed_by (λ stream b6.
-    got (record { name = name; created = created; number = number; family = family; view = view; stream_family = stream }) b6)
-    (read_stream view b5)) (read_byte view_byte views b4)) (read_u32 b3)) (read_u64 b2)) (read_u64 b1)) (read_name any_name bytes)
+    got (record {
+      name = name;
+      created = created;
+      number = number;
+      family = family;
+      view = view;
+      stream_family = stream;
+    }) b6)
+    (read_stream view b5)) (read_byte view_byte views b4)) (read_u32 b3)) (read_u64 b2))
+    (read_u64 b1)) (read_name any_name bytes)
 
 -- the key, the local indexes and the global ones
 unfoldable pub read_keyed : List KeyAttr → List ℕ → Read Keyed
 read_keyed definitions bytes =
-    followed_by (λ hash b1. followed_by (λ range b2. followed_by (λ locals b3. followed_by (λ globals b4.
+    followed_by (λ hash b1. followed_by
+    (λ range b2. followed_by (λ locals b3. followed_by (λ globals b4.
     got (record { hash = hash; range = range; locals = locals; globals = globals }) b4)
-    (read_counted (λ before. read_index definitions) b3)) (read_counted (λ before. read_index definitions) b2)) (read_range definitions b1))
+    (read_counted (λ before. read_index definitions) b3))
+    (read_counted (λ before. read_index definitions) b2)) (read_range definitions b1))
     (read_key definitions bytes)
 
 -- the parts as one description
@@ -163,9 +194,11 @@ joined head definitions keyed = record {
   family = head.family;
 }
 
+-- a description, part by part
 unfoldable pub read_description : List ℕ → Read TableSchema
 read_description bytes =
-    followed_by (λ head b1. followed_by (λ definitions b2. followed_by (λ keyed b3. got (joined head definitions keyed) b3)
+    followed_by (λ head b1. followed_by
+    (λ definitions b2. followed_by (λ keyed b3. got (joined head definitions keyed) b3)
     (read_keyed definitions b2)) (read_counted read_definition b1)) (read_head bytes)
 
 -- ---- where bytes that are no description stop
@@ -178,78 +211,10 @@ left_of (stops left) = Some left
 
 -- the first place where the bytes can't go on as a description
 abbrev pub StopsAt : List ℕ → ℕ → Type 0
-StopsAt bytes at = (left : ℕ) × (left_of (read_description bytes) ≡ Some left) × (at ≡ length bytes - left)
+StopsAt bytes at = (left : ℕ) × (left_of (read_description bytes) ≡ Some left)
+    × (at ≡ length bytes - left)
 
 -- a stop within the program is the one that is read
 abbrev pub StopsAs : {A : Type 0} → Read A → Stop → Type 0
 StopsAs r (Left n) = r ≡ stops n
 StopsAs r NoMemory = Unit {0}
-
--- ---- descriptions whose bytes are read again
-
--- a text of the program: UTF-8, of a length that 8 bytes tell
-abbrev pub IsHeldText : List ℕ → Type 0
-IsHeldText s = (length s < 2 ^ 64) × IsUtf8 s
-
--- where there is one, it is such a one
-abbrev pub Where : {A : Type 0} → (A → Type 0) → Option A → Type 0
-Where P None = Unit {0}
-Where P (Some x) = P x
-
-abbrev pub IsHeldList : List (List ℕ) → Type 0
-IsHeldList names = (length names < 2 ^ 64) × AllByRecursion IsHeldText names
-
-abbrev pub IsHeldProjection : Projection → Type 0
-IsHeldProjection All = Unit {0}
-IsHeldProjection KeysOnly = Unit {0}
-IsHeldProjection (Include names) = IsHeldList names
-
-pub record IsHeldIndex (i : IndexSchema) : Type 0 where
-  pub name : IsHeldText i.name
-  pub family : i.family < 2 ^ 32
-  pub hash : IsHeldText i.hash.name
-  pub range : Where (λ k. IsHeldText k.name) i.range
-  pub projection : IsHeldProjection i.projection
-
--- a description as the program can hold it: texts are UTF-8, and numbers, lengths and counts fit
-pub record IsHeld (s : TableSchema) : Type 0 where
-  pub name : IsHeldText s.name
-  pub created : s.created < 2 ^ 64
-  pub number : s.number < 2 ^ 64
-  pub family : s.family < 2 ^ 32
-  pub stream_family : Where (λ f. f < 2 ^ 32) s.stream_family
-  pub definitions : (length s.definitions < 2 ^ 64) × AllByRecursion (λ d. IsHeldText d.name) s.definitions
-  pub hash : IsHeldText s.hash.name
-  pub range : Where (λ k. IsHeldText k.name) s.range
-  pub locals : (length s.locals < 2 ^ 64) × AllByRecursion IsHeldIndex s.locals
-  pub globals : (length s.globals < 2 ^ 64) × AllByRecursion IsHeldIndex s.globals
-
--- bytes are read as that description, unless memory is wanting
-abbrev pub IsReadAs : TableSchema → Result TableSchema BytesFault → Type 0
-IsReadAs s (Ok t) = t ≡ s
-IsReadAs s (Err (Bad at)) = ⊥
-IsReadAs s (Err NoRoom) = Unit {0}
-
--- no two descriptions have the same bytes
-abbrev pub OneSpelling : Type 0
-OneSpelling =
-    (s t : TableSchema) → IsDescription s → IsHeld s → IsDescription t → IsHeld t → description_bytes s ≡ description_bytes t → s ≡ t
-
--- ---- the place where bytes stop
-
--- nothing is wrong up to the end: a description, or one that is cut off there
-abbrev pub IsAtEnd : Read TableSchema → Type 0
-IsAtEnd (got s []) = Unit {0}
-IsAtEnd (got s (b ∷ rest)) = ⊥
-IsAtEnd (stops zero) = Unit {0}
-IsAtEnd (stops (suc left)) = ⊥
-
--- The first place where bytes can't go on: nothing is wrong up to it, and where bytes stand behind it, no description begins with
--- them all.
-pub record IsBadAt (bytes : List ℕ) (at : ℕ) : Type 0 where
-  pub front : List ℕ
-  pub back : List ℕ
-  pub is : bytes ≡ front ++ back
-  pub place : at ≡ length front
-  pub fine : IsAtEnd (read_description front)
-  pub no_further : 0 < length back → (s : TableSchema) (more : List ℕ) → IsDescription s → IsHeld s → description_bytes s ≡ bytes ++ more → ⊥

@@ -38,41 +38,59 @@ at_most_one (Some x) = x ∷ []
 
 -- ---- key schemas and definitions
 
+-- an element of a key schema: a name and a role
 abbrev pub element_in : Members → Element
-element_in ms = record { name = text_of (codes "AttributeName") ms; role = text_of (codes "KeyType") ms }
+element_in ms = record {
+  name = text_of (codes "AttributeName") ms;
+  role =
+      text_of (codes "KeyType") ms;
+}
 
+-- the element that a value states, if it is an object
 abbrev pub element_of : Data → List Element
 element_of d = at_most_one (option_map element_in (as_object d))
 
+-- the elements of a key schema
 abbrev pub key_schema_of : Members → List Element
 key_schema_of = stated_at element_of (codes "KeySchema")
 
 -- the kind of a word: S, N or B
 abbrev pub kind_named : List ℕ → KeyKind
-kind_named word = if bytes_eq word (codes "S") then S else (if bytes_eq word (codes "N") then N else B)
+kind_named word = if bytes_eq word (codes "S") then S else
+    (if bytes_eq word (codes "N") then N else B)
 
+-- an attribute with its kind
 abbrev pub definition_in : Members → KeyAttr
-definition_in ms = record { name = text_of (codes "AttributeName") ms; kind = kind_named (text_of (codes "AttributeType") ms) }
+definition_in ms = record {
+  name = text_of (codes "AttributeName") ms;
+  kind =
+      kind_named (text_of (codes "AttributeType") ms);
+}
 
+-- the definition that a value states, if it is an object
 abbrev pub definition_of : Data → List KeyAttr
 definition_of d = at_most_one (option_map definition_in (as_object d))
 
+-- the attributes that are defined
 abbrev pub definitions_of : Members → List KeyAttr
 definitions_of = stated_at definition_of (codes "AttributeDefinitions")
 
 -- ---- indexes
 
+-- the text that a value is, if it is one
 abbrev pub word_of : Data → List (List ℕ)
 word_of d = at_most_one (as_str d)
 
 -- the names of NonKeyAttributes, where the member is there
 abbrev pub included_in : Members → Option (List (List ℕ))
-included_in ms = option_map (stated_by word_of) (option_and_then as_array (given (codes "NonKeyAttributes") ms))
+included_in ms = option_map (stated_by word_of)
+    (option_and_then as_array (given (codes "NonKeyAttributes") ms))
 
 -- the object at Projection
 abbrev pub projection_of : Members → Option Members
 projection_of ms = option_and_then as_object (given (codes "Projection") ms)
 
+-- an index: its name, its key schema and its projection
 abbrev pub index_in : Members → StatedIndex
 index_in ms = record {
   name = text_of (codes "IndexName") ms;
@@ -81,11 +99,13 @@ index_in ms = record {
   includes = option_and_then included_in (projection_of ms);
 }
 
+-- the index that a value states, if it is an object
 abbrev pub index_of : Data → List StatedIndex
 index_of d = at_most_one (option_map index_in (as_object d))
 
 -- ---- the stream
 
+-- what a word says that a stream shows
 abbrev pub view_named : List ℕ → Option View
 view_named word =
     if bytes_eq word (codes "KEYS_ONLY") then Some KeysOnly
@@ -96,13 +116,17 @@ view_named word =
 -- what an enabled stream shows
 abbrev pub view_in : Members → Option View
 view_in ms =
-    if unwrap_or (option_and_then as_bool (given (codes "StreamEnabled") ms)) false then view_named (text_of (codes "StreamViewType") ms) else None
+    if unwrap_or (option_and_then as_bool (given (codes "StreamEnabled") ms)) false then view_named
+    (text_of (codes "StreamViewType") ms) else None
 
+-- what the table's stream shows, where it is enabled
 abbrev pub view_of : Members → Option View
-view_of ms = option_and_then view_in (option_and_then as_object (given (codes "StreamSpecification") ms))
+view_of ms = option_and_then view_in
+    (option_and_then as_object (given (codes "StreamSpecification") ms))
 
 -- ---- the whole body
 
+-- all that the body states
 abbrev pub stated : Members → Stated
 stated ms = record {
   name = text_of (codes "TableName") ms;

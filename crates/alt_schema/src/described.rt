@@ -5,7 +5,7 @@ ghost use Rattle.std.specs.List.{find};
 ghost use Rattle.std.specs.Option.{option_map_or};
 ghost use Rattle.std.specs.Str.{bytes_eq};
 ghost use Rattle.serde_json.specs.View.{members_view};
-ghost use Rattle.alt_schema.specs.Described.{kind_in, key_attr, hash_of, range_of, projection_for, index_for, indexes_from, described_by, description_of, HasCause, IsNew};
+ghost use Rattle.alt_schema.specs.Described.{kind_in, key_attr, hash_of, range_of, projection_for, index_for, indexes_from, described_by, description_of, HasCause, IsKnownFault, IsNew};
 ghost use Rattle.alt_schema.specs.Rules.{refusal_of, refused_for};
 
 use crate::reading::stated_of_json;
@@ -53,9 +53,11 @@ pub fn schema_of_json(
         ≡ description_of (members_view body.now.entries) moment number family) }
     ensures valid { IfOk result IsNew }
     ensures cause { IfErr result (HasCause (members_view body.now.entries)) }
+    ensures known { IfErr result IsKnownFault }
 {
     let stated = stated_of_json(alloc, body)?;
-    match refused_for(&stated) {
+    let refused = refused_for(alloc, &stated)?;
+    match refused {
         Some(refusal) => Err(SchemaFault::Refused(refusal)),
         None => Ok(described(alloc, stated, moment, number, family)?),
     }
@@ -106,14 +108,15 @@ fn kind_in(definitions: &[KeyAttr], name: &str) -> KeyKind
 }
 
 fn definition_named<'d>(definitions: &'d [KeyAttr], name: &str) -> Option<&'d KeyAttr>
-    ensures { option_map (λ d. d.now) result ≡ find (λ d. bytes_eq d.name name.now) definitions.now }
+    ensures { option_map (λ d. d.now) result
+        ≡ find (λ d. bytes_eq d.name name.now) definitions.now }
 {
     definitions
         .iter()
         .find(|definition| definition.name.as_str() == name)
 }
 
-pub fn key_attr(alloc: Global, definitions: &[KeyAttr], name: &str) -> Result<KeyAttr, NoMemory>
+fn key_attr(alloc: Global, definitions: &[KeyAttr], name: &str) -> Result<KeyAttr, NoMemory>
     ensures { IfOk result (λ k. k ≡ key_attr definitions.now name.now) }
 {
     Ok(KeyAttr {

@@ -239,7 +239,8 @@ fn locals_json(
     table: &str,
     indexes: &[IndexSchema],
 ) -> Result<Option<Value>, NoMemory>
-    ensures { IfOk result (λ o. option_map view o ≡ array_if_any (local_json table.now) indexes.now) }
+    ensures { IfOk result (λ o. option_map view o
+        ≡ array_if_any (local_json table.now) indexes.now) }
 {
     if indexes.is_empty() {
         return Ok(None);
@@ -248,7 +249,8 @@ fn locals_json(
 }
 
 fn each_local(alloc: Global, table: &str, indexes: &[IndexSchema]) -> Result<Vec<Value>, NoMemory>
-    ensures { IfOk result (λ vs. items_view vs.items ≡ items_by (local_json table.now) indexes.now) }
+    ensures { IfOk result (λ vs. items_view vs.items
+        ≡ items_by (local_json table.now) indexes.now) }
 {
     let mut values = Vec::with_capacity(alloc, indexes.len())?;
     for index in indexes {
@@ -289,7 +291,8 @@ fn globals_json(
     table: &str,
     indexes: &[IndexSchema],
 ) -> Result<Option<Value>, NoMemory>
-    ensures { IfOk result (λ o. option_map view o ≡ array_if_any (global_json table.now) indexes.now) }
+    ensures { IfOk result (λ o. option_map view o
+        ≡ array_if_any (global_json table.now) indexes.now) }
 {
     if indexes.is_empty() {
         return Ok(None);
@@ -298,7 +301,8 @@ fn globals_json(
 }
 
 fn each_global(alloc: Global, table: &str, indexes: &[IndexSchema]) -> Result<Vec<Value>, NoMemory>
-    ensures { IfOk result (λ vs. items_view vs.items ≡ items_by (global_json table.now) indexes.now) }
+    ensures { IfOk result (λ vs. items_view vs.items
+        ≡ items_by (global_json table.now) indexes.now) }
 {
     let mut values = Vec::with_capacity(alloc, indexes.len())?;
     for index in indexes {

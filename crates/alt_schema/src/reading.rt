@@ -137,7 +137,8 @@ fn indexes_of(
     owner: &Map<String, Value>,
     name: &str,
 ) -> Result<StatedIndexList, NoMemory>
-    ensures { IfOk result (λ is. is ≡ stated_at index_of name.now (members_view owner.now.entries)) }
+    ensures { IfOk result (λ is. is
+        ≡ stated_at index_of name.now (members_view owner.now.entries)) }
 {
     match array_at(owner, name) {
         Some(values) => indexes(alloc, values),
@@ -180,7 +181,8 @@ fn index_in(alloc: Global, members: &Map<String, Value>) -> Result<StatedIndex, 
 /// The word of an index's projection.
 fn projects(alloc: Global, projection: Option<&Map<String, Value>>) -> Result<Text, NoMemory>
     ensures { IfOk result (λ s. s
-        ≡ option_map_or (text_of (codes "ProjectionType")) (option_map (λ m. members_view m.now.entries) projection.entry) []) }
+        ≡ option_map_or (text_of (codes "ProjectionType"))
+        (option_map (λ m. members_view m.now.entries) projection.entry) []) }
 {
     match projection {
         Some(members) => text_of(alloc, members, "ProjectionType"),
@@ -194,7 +196,8 @@ fn includes(
     projection: Option<&Map<String, Value>>,
 ) -> Result<Option<TextList>, NoMemory>
     ensures { IfOk result (λ ns. ns
-        ≡ option_and_then included_in (option_map (λ m. members_view m.now.entries) projection.entry)) }
+        ≡ option_and_then included_in
+        (option_map (λ m. members_view m.now.entries) projection.entry)) }
 {
     match projection {
         Some(members) => included_in(alloc, members),

@@ -1,15 +1,19 @@
 //! Tests what the body of a CreateTable states: the names, then the key schemas and definitions, then
 //! the indexes.
 
-ghost use Rattle.std.specs.Prelude.{◌≡◌, ◌&&◌, ◌++◌, codes, length, nat_lt, nat_le};
+ghost use Rattle.std.specs.Prelude.{◌≡◌, ◌&&◌, ◌++◌, true, codes, length, nat_lt, nat_le, is_some, IfOk};
 ghost use Rattle.std.specs.List.{list_any, list_all};
 ghost use Rattle.std.specs.Str.{bytes_eq};
+ghost use Rattle.alt_schema.specs.Named.{kind_at, AreOf, HasMore};
 ghost use Rattle.alt_schema.specs.Rules.{is_name_byte, is_name, names_fit, plays, is_key_schema, is_used_in, is_used, is_defined, in_each_schema, all_differ, defines_exactly, keys_fit_together, is_projection, most_included, is_local_to, indexes_fit, refused_for};
 
+use crate::named::{Kinds, kinds_of};
 use crate::stated::{Element, Stated, StatedIndex};
 use crate::{KeyAttr, TextList};
+use alt_base::NoMemory;
 use alt_shape::Refusal;
 use alt_value::Text;
+use std::alloc::Global;
 
 /// The most local indexes of a table (Developer Guide, "Service, account, and table quotas", as the
 /// next two).
@@ -23,17 +27,17 @@ const MOST_INCLUDED: usize = 20;
 
 /// Why what a body states is refused: a name, a key schema or the definitions, or an index.
 #[tactic(auto, unfolding(crate::specs::Rules::refused_for))]
-pub fn refused_for(b: &Stated) -> Option<Refusal>
-    ensures first { result ≡ refused_for b.now }
+pub fn refused_for(alloc: Global, b: &Stated) -> Result<Option<Refusal>, NoMemory>
+    ensures first { IfOk result (λ refusal. refusal ≡ refused_for b.now) }
 {
     if !names_fit(b) {
-        Some(Refusal::Invalid(4))
-    } else if !keys_fit_together(b) {
-        Some(Refusal::Invalid(5))
+        Ok(Some(Refusal::BAD_NAME))
+    } else if !keys_fit_together(alloc, b)? {
+        Ok(Some(Refusal::BAD_KEY_SCHEMA))
     } else if !indexes_fit(b) {
-        Some(Refusal::Invalid(6))
+        Ok(Some(Refusal::BAD_INDEX))
     } else {
-        None
+        Ok(None)
     }
 }
 
@@ -75,10 +79,14 @@ fn is_name_byte(b: u8) -> bool
 
 // ---- key schemas and definitions
 
-fn keys_fit_together(b: &Stated) -> bool
-    ensures { result ≡ keys_fit_together b.now }
+fn keys_fit_together(alloc: Global, b: &Stated) -> Result<bool, NoMemory>
+    ensures { IfOk result (λ fit. fit ≡ keys_fit_together b.now) }
 {
-    all_key_schemas(b) && defines_exactly(b)
+    if all_key_schemas(b) {
+        defines_exactly(alloc, b)
+    } else {
+        Ok(false)
+    }
 }
 
 fn all_key_schemas(b: &Stated) -> bool
@@ -119,90 +127,100 @@ fn plays(element: &Element, role: &str) -> bool
 }
 
 /// The definitions name exactly the attributes that are used, each once.
-fn defines_exactly(b: &Stated) -> bool
-    ensures { result ≡ defines_exactly b.now }
+fn defines_exactly(alloc: Global, b: &Stated) -> Result<bool, NoMemory>
+    ensures { IfOk result (λ exactly. exactly ≡ defines_exactly b.now) }
 {
-    let definitions = b.definitions.as_slice();
-    definitions_differ(definitions) && used_exactly(definitions, b)
+    match kinds_of(alloc, b.definitions.as_slice())? {
+        Some(kinds) => uses_exactly(alloc, &kinds, b),
+        None => Ok(false),
+    }
 }
 
-fn used_exactly(definitions: &[KeyAttr], b: &Stated) -> bool
-    ensures { result ≡ (list_all (λ d. is_used b.now d.name) definitions.now
-        && in_each_schema (list_all (λ e. is_defined definitions.now e.name)) b.now) }
+/// Each attribute that is defined is used, and each that is used is defined.
+fn uses_exactly<'b>(alloc: Global, kinds: &Kinds<'b>, b: &'b Stated) -> Result<bool, NoMemory>
+    requires { AreOf kinds.now b.now.definitions }
+    ensures { IfOk result (λ exactly. exactly
+        ≡ (list_all (λ d. is_used b.now d.name) b.now.definitions
+        && in_each_schema (list_all (λ e. is_defined b.now.definitions e.name)) b.now)) }
 {
-    all_used(definitions, b) && all_defined(definitions, b)
+    let mut used = Kinds::new(alloc);
+    if add_used(&mut used, kinds, b)? {
+        Ok(all_among(b.definitions.as_slice(), &used))
+    } else {
+        Ok(false)
+    }
 }
 
-fn definitions_differ(definitions: &[KeyAttr]) -> bool
-    ensures { result ≡ all_differ (λ d. d.name) definitions.now }
+fn all_among(definitions: &[KeyAttr], used: &Kinds) -> bool
+    ensures { result ≡ list_all (λ d. is_some (kind_at used.now d.name)) definitions.now }
 {
-    for (i, definition) in definitions.iter().enumerate() {
-        if is_defined(&definitions[i + 1..], definition.name.as_str()) {
-            return false;
+    definitions.iter().all(|definition| used.kind_of(definition.name.as_str()).is_some())
+}
+
+/// Puts the names that are used to those given, as long as each has a kind.
+fn add_used<'b>(used: &mut Kinds<'b>, kinds: &Kinds<'b>, b: &'b Stated) -> Result<bool, NoMemory>
+    ensures all { IfOk result (λ all. all
+        ≡ in_each_schema (list_all (λ e. is_some (kind_at kinds.now e.name))) b.now) }
+    ensures used { IfOk result (λ all. all ≡ true → HasMore used.old used.new (is_used b.now)) }
+{
+    if !add_keys(used, kinds, b.keys.as_slice())? {
+        return Ok(false);
+    }
+    if !add_indexes(used, kinds, b.locals.as_slice())? {
+        return Ok(false);
+    }
+    add_indexes(used, kinds, b.globals.as_slice())
+}
+
+fn add_indexes<'b>(
+    used: &mut Kinds<'b>,
+    kinds: &Kinds<'b>,
+    indexes: &'b [StatedIndex],
+) -> Result<bool, NoMemory>
+    ensures all { IfOk result (λ all. all
+        ≡ list_all (λ i. list_all (λ e. is_some (kind_at kinds.now e.name)) i.keys) indexes.now) }
+    ensures used { IfOk result (λ all. all ≡ true
+        → HasMore used.old used.new (λ name. list_any (λ i. is_used_in name i.keys) indexes.now)) }
+{
+    for index in indexes {
+        if !add_keys(used, kinds, index.keys.as_slice())? {
+            return Ok(false);
         }
     }
-    true
+    Ok(true)
 }
 
-pub fn is_defined(definitions: &[KeyAttr], name: &str) -> bool
-    ensures { result ≡ is_defined definitions.now name.now }
+fn add_keys<'b>(
+    used: &mut Kinds<'b>,
+    kinds: &Kinds<'b>,
+    keys: &'b [Element],
+) -> Result<bool, NoMemory>
+    ensures all { IfOk result (λ all. all
+        ≡ list_all (λ e. is_some (kind_at kinds.now e.name)) keys.now) }
+    ensures used { IfOk result (λ all. all ≡ true
+        → HasMore used.old used.new (λ name. is_used_in name keys.now)) }
 {
-    definitions
-        .iter()
-        .any(|definition| definition.name.as_str() == name)
+    for element in keys {
+        if !add_name(used, kinds, element.name.as_str())? {
+            return Ok(false);
+        }
+    }
+    Ok(true)
 }
 
-fn all_used(definitions: &[KeyAttr], b: &Stated) -> bool
-    ensures { result ≡ list_all (λ d. is_used b.now d.name) definitions.now }
+/// Puts a name to those given, if it has a kind.
+fn add_name<'b>(used: &mut Kinds<'b>, kinds: &Kinds<'b>, name: &'b str) -> Result<bool, NoMemory>
+    ensures all { IfOk result (λ there. there ≡ is_some (kind_at kinds.now name.now)) }
+    ensures used { IfOk result (λ there. there ≡ true
+        → HasMore used.old used.new (bytes_eq name.now)) }
 {
-    definitions
-        .iter()
-        .all(|definition| is_used(b, definition.name.as_str()))
-}
-
-fn is_used(b: &Stated, name: &str) -> bool
-    ensures { result ≡ is_used b.now name.now }
-{
-    is_used_in(b.keys.as_slice(), name)
-        || indexes_use(b.locals.as_slice(), name)
-        || indexes_use(b.globals.as_slice(), name)
-}
-
-fn indexes_use(indexes: &[StatedIndex], name: &str) -> bool
-    ensures { result ≡ list_any (λ i. is_used_in name.now i.keys) indexes.now }
-{
-    indexes
-        .iter()
-        .any(|index| is_used_in(index.keys.as_slice(), name))
-}
-
-fn is_used_in(keys: &[Element], name: &str) -> bool
-    ensures { result ≡ is_used_in name.now keys.now }
-{
-    keys.iter().any(|element| element.name.as_str() == name)
-}
-
-fn all_defined(definitions: &[KeyAttr], b: &Stated) -> bool
-    ensures { result ≡ in_each_schema (list_all (λ e. is_defined definitions.now e.name)) b.now }
-{
-    schema_defined(definitions, b.keys.as_slice())
-        && schemas_defined(definitions, b.locals.as_slice())
-        && schemas_defined(definitions, b.globals.as_slice())
-}
-
-fn schemas_defined(definitions: &[KeyAttr], indexes: &[StatedIndex]) -> bool
-    ensures { result ≡ list_all (λ i. list_all (λ e. is_defined definitions.now e.name) i.keys) indexes.now }
-{
-    indexes
-        .iter()
-        .all(|index| schema_defined(definitions, index.keys.as_slice()))
-}
-
-fn schema_defined(definitions: &[KeyAttr], keys: &[Element]) -> bool
-    ensures { result ≡ list_all (λ e. is_defined definitions.now e.name) keys.now }
-{
-    keys.iter()
-        .all(|element| is_defined(definitions, element.name.as_str()))
+    match kinds.kind_of(name) {
+        Some(kind) => {
+            used.add(name, kind)?;
+            Ok(true)
+        }
+        None => Ok(false),
+    }
 }
 
 // ---- indexes
@@ -289,7 +307,9 @@ fn is_projection(word: &str, names: &Option<TextList>) -> bool
 }
 
 fn can_be_included(names: &[Text]) -> bool
-    ensures { result ≡ (nat_lt 0 (length names.now) && (nat_le (length names.now) most_included && list_all (λ n. nat_lt 0 (length n)) names.now)) }
+    ensures { result ≡ (nat_lt 0 (length names.now)
+        && (nat_le (length names.now) most_included
+        && list_all (λ n. nat_lt 0 (length n)) names.now)) }
 {
     0 < names.len() && names.len() <= MOST_INCLUDED && none_empty(names)
 }

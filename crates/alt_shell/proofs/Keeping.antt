@@ -10,6 +10,7 @@ use Rattle.alt_shell.specs.Log.{Log}
 pub next_moment-step : (t : ℕ) → next_moment t ≤ t + 1
 next_moment-step t = omega arith
 
+-- and not earlier
 pub next_moment-later : (t : ℕ) → t ≤ next_moment t
 next_moment-later t = omega arith
 
@@ -22,16 +23,19 @@ between a b t lo hi step =
     ]
 
 -- what stays at two moments, one after the other, stays at each between them
-fates_stay : (old new : DiskState) → ((t g : ℕ) → t ≤ old.moment → new.fates t g ≡ old.fates t g) → ((g : ℕ) → now new g ≡ now old g) → new.moment ≤ old.moment + 1
+fates_stay : (old new : DiskState) → ((t g : ℕ) → t ≤ old.moment → new.fates t g ≡ old.fates t g)
+    → ((g : ℕ) → now new g ≡ now old g) → new.moment ≤ old.moment + 1
     → (t g : ℕ) → old.moment ≤ t → t ≤ new.moment → new.fates t g ≡ now old g
 fates_stay old new past same step t g lo hi =
     elim (between old.moment new.moment t lo hi step) [
-      | inl e ↦ past t g (let h : t ≤ old.moment = omega (arith, e) in h) ∙ ap (λ (u : ℕ). old.fates u g) e
+      | inl e ↦ past t g (let h : t ≤ old.moment = omega (arith, e) in h)
+          ∙ ap (λ (u : ℕ). old.fates u g) e
       | inr e ↦ ap (λ (u : ℕ). new.fates u g) e ∙ same g
     ]
 
 -- a silent call on the disk below leaves all of it
-pub keeps-silent : (old new : DiskState) (ok : Bool) (before after : Log) → Silent old new ok → Keeps (with_beside before old) (with_beside after new)
+pub keeps-silent : (old new : DiskState) (ok : Bool) (before after : Log) → Silent old new ok
+    → Keeps (with_beside before old) (with_beside after new)
 keeps-silent old new ok before after h =
     let goes = h.tick.call.goes in
     let step : new.moment ≤ old.moment + 1 = let e = h.tick.moment in omega (arith, e) in
@@ -48,7 +52,8 @@ keeps-silent old new ok before after h =
     }
 
 -- so does a fault
-pub keeps-faulted : (old new : DiskState) (before after : Log) → Faulted old new → Keeps (with_beside before old) (with_beside after new)
+pub keeps-faulted : (old new : DiskState) (before after : Log) → Faulted old new
+    → Keeps (with_beside before old) (with_beside after new)
 keeps-faulted old new before after h =
     let goes = h.goes in
     let step : new.moment ≤ old.moment + 1 = let e = h.moment in omega (arith, e) in

@@ -1,2 +1,5 @@
 pub mod Keeping
+pub mod Telling
 pub mod Ending
+mod Ticking
+mod Missing

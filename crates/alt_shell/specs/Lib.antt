@@ -3,3 +3,5 @@ pub mod Kept
 pub mod Log
 pub mod Memory
 pub mod Pieces
+pub mod States
+pub mod Told

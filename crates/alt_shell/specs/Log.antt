@@ -1,34 +1,59 @@
--- What a shell tells of its calls, as it lies beside the disk: four heads, which stand for what is told as of now, and then
--- one entry for each call that took or said something, with the moment at which it ended. A log without its four heads tells
--- nothing.
-use Rattle.std.specs.Prelude.{◌≡◌, ◌≤◌, ◌^◌, ℕ, zero, suc, List, [], ◌∷◌, ◌++◌, length, Option, Some, None, ⊤, Bool, true, false, nat_le}
+-- What a shell tells of its calls, as it lies beside the disk: a head that is kept for connections, three heads for what is told as of
+-- now, and then one entry for each call that took or said something or failed. A log without its four heads tells nothing.
+use Rattle.std.specs.Prelude.{◌≡◌, ◌≤◌, ◌-◌, ◌^◌, ◌==◌, ℕ, zero, suc, List, [], ◌∷◌, ◌++◌, length, take}
+use Rattle.std.specs.Prelude.{Option, Some, None, ⊤, Bool, true, false, nat_le, if◌then◌else◌}
 use Rattle.std.specs.List.{flat_map, list_any, filter}
 
+-- a list of pairs of a number and a list of numbers
 abbrev pub Log : Type 0
 Log = List (ℕ × List ℕ)
 
--- what a call did
+-- ---- events and entries
+
+-- what one call did; a say that failed said these bytes, some from the front of its own
 pub data Event : Type 0 where
   took : List ℕ → Event
   said : List ℕ → Event
+  take_failed : Event
+  say_failed : List ℕ → Event
 
-abbrev pub spelling : Event → List ℕ
-spelling (took bytes) = 0 ∷ bytes
-spelling (said bytes) = 1 ∷ bytes
+-- an event in numbers: its tag, how many moments had been told by then, and its bytes
+abbrev pub spelling : ℕ → Event → List ℕ
+spelling told (took bytes) = 0 ∷ told ∷ bytes
+spelling told (said bytes) = 1 ∷ told ∷ bytes
+spelling told take_failed = 2 ∷ told ∷ []
+spelling told (say_failed bytes) = 3 ∷ told ∷ bytes
 
-abbrev pub event_of : List ℕ → Event
-event_of [] = said []
-event_of (zero ∷ bytes) = took bytes
-event_of (suc k ∷ bytes) = said bytes
+-- the event of a tag and bytes, if there is one
+abbrev pub by_tag : ℕ → List ℕ → Option Event
+by_tag tag bytes =
+    if tag == 0 then Some (took bytes)
+    else (if tag == 1 then Some (said bytes)
+    else (if tag == 2 then Some take_failed
+    else (if tag == 3 then Some (say_failed bytes) else None)))
 
--- an entry of the log
-abbrev pub entry : ℕ → Event → ℕ × List ℕ
-entry moment event = (moment, spelling event)
+-- the event that numbers spell; where the tag isn't known there is none
+abbrev pub event_of : List ℕ → Option Event
+event_of [] = None
+event_of (tag ∷ []) = None
+event_of (tag ∷ told ∷ bytes) = by_tag tag bytes
 
--- a log: the heads of the notes, of the moments that the clock told, of the last answer to a wait for a connection and of the
--- failed calls, and the entries. The last two heads have no meaning yet
+-- how many moments had been told by then
+abbrev pub told_by_then : List ℕ → ℕ
+told_by_then [] = 0
+told_by_then (tag ∷ []) = 0
+told_by_then (tag ∷ told ∷ bytes) = told
+
+-- an entry of the log: the moment at which the call ended, and what it did
+abbrev pub entry : ℕ → ℕ → Event → ℕ × List ℕ
+entry moment told event = (moment, spelling told event)
+
+-- ---- heads
+
+-- a log: the head kept for connections, those of the notes and of the moments that the clock told, the one kept for the last answer to a
+-- wait for a connection, and the entries
 abbrev pub log : ℕ × List ℕ → ℕ × List ℕ → Log → Log
-log notes moments entries = notes ∷ moments ∷ (0, []) ∷ (0, []) ∷ entries
+log notes moments entries = (0, []) ∷ notes ∷ moments ∷ (0, []) ∷ entries
 
 -- the entries, where they are told
 abbrev pub entries_of : Log → Option Log
@@ -48,7 +73,7 @@ GrowsBy (Some es) (Some fs) more = fs ≡ es ++ more
 abbrev pub Grows : Log → Log → Log → Type 0
 Grows old new more = GrowsBy (entries_of old) (entries_of new) more
 
--- what a head of the log tells, if it still does
+-- what a head of the log tells, if it does
 abbrev pub head_tells : ℕ × List ℕ → Option (List ℕ)
 head_tells (zero, values) = None
 head_tells (suc k, values) = Some values
@@ -56,13 +81,8 @@ head_tells (suc k, values) = Some values
 -- what was noted
 abbrev pub notes_of : Log → Option (List ℕ)
 notes_of [] = None
-notes_of (h ∷ es) = head_tells h
-
--- the moments that the clock told
-abbrev pub moments_of : Log → Option (List ℕ)
-moments_of [] = None
-moments_of (h ∷ []) = None
-moments_of (h ∷ i ∷ es) = head_tells i
+notes_of (h ∷ []) = None
+notes_of (h ∷ i ∷ es) = head_tells i
 
 -- what is still told was told before, and has these values more
 abbrev pub StillGrows : Option (List ℕ) → Option (List ℕ) → List ℕ → Type 0
@@ -70,31 +90,108 @@ StillGrows old None more = ⊤
 StillGrows None (Some new) more = ⊥
 StillGrows (Some old) (Some new) more = new ≡ old ++ more
 
+-- the moments that the clock told
+abbrev pub moments_of : Log → Option (List ℕ)
+moments_of [] = None
+moments_of (h ∷ []) = None
+moments_of (h ∷ i ∷ []) = None
+moments_of (h ∷ i ∷ j ∷ es) = head_tells j
+
+-- a log tells this many moments at most, the first ones
+abbrev pub most_told : ℕ
+most_told = 2 ^ 64 - 1
+
+-- moments with more behind them, as far as a log tells them
+abbrev pub with_told : List ℕ → List ℕ → List ℕ
+with_told old more = old ++ take (most_told - length old) more
+
+-- moments are told where they were told before, and now these more
+abbrev pub Tells : Option (List ℕ) → Option (List ℕ) → List ℕ → Type 0
+Tells None None more = ⊤
+Tells None (Some new) more = ⊥
+Tells (Some old) None more = ⊥
+Tells (Some old) (Some new) more = new ≡ with_told old more
+
+-- how many moments are told
+abbrev pub count_told : Option (List ℕ) → ℕ
+count_told None = 0
+count_told (Some moments) = length moments
+
+-- how many moments a log tells
+abbrev pub told_count : Log → ℕ
+told_count log = count_told (moments_of log)
+
 -- ---- what the entries say
 
-abbrev pub bytes_taken : Event → List ℕ
-bytes_taken (took bytes) = bytes
-bytes_taken (said bytes) = []
+-- the bytes that an event took
+abbrev pub bytes_taken : Option Event → List ℕ
+bytes_taken None = []
+bytes_taken (Some (took bytes)) = bytes
+bytes_taken (Some (said bytes)) = []
+bytes_taken (Some take_failed) = []
+bytes_taken (Some (say_failed bytes)) = []
 
-abbrev pub bytes_said : Event → List ℕ
-bytes_said (took bytes) = []
-bytes_said (said bytes) = bytes
+-- the bytes that it said
+abbrev pub bytes_said : Option Event → List ℕ
+bytes_said None = []
+bytes_said (Some (took bytes)) = []
+bytes_said (Some (said bytes)) = bytes
+bytes_said (Some take_failed) = []
+bytes_said (Some (say_failed bytes)) = bytes
 
 -- a take that gave nothing is the end of the input
-abbrev pub is_end : Event → Bool
-is_end (took []) = true
-is_end (took (x ∷ bytes)) = false
-is_end (said bytes) = false
+abbrev pub is_end : Option Event → Bool
+is_end None = false
+is_end (Some (took [])) = true
+is_end (Some (took (x ∷ bytes))) = false
+is_end (Some (said bytes)) = false
+is_end (Some take_failed) = false
+is_end (Some (say_failed bytes)) = false
 
--- the bytes taken, the bytes said, and whether the end was taken
+-- a take that failed
+abbrev pub is_take_failed : Option Event → Bool
+is_take_failed None = false
+is_take_failed (Some (took bytes)) = false
+is_take_failed (Some (said bytes)) = false
+is_take_failed (Some take_failed) = true
+is_take_failed (Some (say_failed bytes)) = false
+
+-- a say that failed
+abbrev pub is_say_failed : Option Event → Bool
+is_say_failed None = false
+is_say_failed (Some (took bytes)) = false
+is_say_failed (Some (said bytes)) = false
+is_say_failed (Some take_failed) = false
+is_say_failed (Some (say_failed bytes)) = true
+
+-- the bytes taken
 abbrev pub taken : Log → List ℕ
 taken es = flat_map (λ e. bytes_taken (event_of e.1)) es
 
+-- the bytes said
 abbrev pub said_in : Log → List ℕ
 said_in es = flat_map (λ e. bytes_said (event_of e.1)) es
 
+-- whether the end was taken
 abbrev pub ended : Log → Bool
 ended es = list_any (λ e. is_end (event_of e.1)) es
+
+-- whether a take failed
+abbrev pub takes_failed : Log → Bool
+takes_failed es = list_any (λ e. is_take_failed (event_of e.1)) es
+
+-- whether a say failed
+abbrev pub says_failed : Log → Bool
+says_failed es = list_any (λ e. is_say_failed (event_of e.1)) es
+
+-- a test of the entries where they are told
+abbrev pub tested : (Log → Bool) → Option Log → Bool
+tested test None = false
+tested test (Some es) = test es
+
+-- whether the end was taken, as far as that is told
+abbrev pub has_ended : Log → Bool
+has_ended log = tested ended (entries_of log)
 
 -- the entries of the calls that had ended by a moment
 abbrev pub until : ℕ → Log → Log
@@ -105,5 +202,6 @@ abbrev pub WithinLifeBy : Option Log → Type 0
 WithinLifeBy None = ⊤
 WithinLifeBy (Some es) = length (taken es) ≤ 2 ^ 62
 
+-- so in a log
 abbrev pub WithinLife : Log → Type 0
 WithinLife log = WithinLifeBy (entries_of log)

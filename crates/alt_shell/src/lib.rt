@@ -2,11 +2,11 @@
 //! built yet.
 #![tactic(auto)]
 
+mod clock;
+mod kept;
 mod memory;
 mod pieces;
 mod shell;
-#[cfg(test)]
-mod tests;
 
 pub use memory::MemoryShell;
 pub use shell::{CLOCK_END, Shell};

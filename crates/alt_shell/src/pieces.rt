@@ -29,8 +29,10 @@ pub(crate) fn parts(
 
 /// Leaves the rest of the first piece, or the pieces behind it where there is no rest.
 pub(crate) fn advance(input: &mut VecDeque<Vec<u8>>, rest: Vec<u8>)
-    ensures pieces { map (λ v. v.items) input.new.items ≡ replaced (map (λ v. v.items) input.old.items) rest.items }
-    ensures filled { All (λ p. 0 < length p.items) input.old.items → All (λ p. 0 < length p.items) input.new.items }
+    ensures pieces { map (λ v. v.items) input.new.items
+        ≡ replaced (map (λ v. v.items) input.old.items) rest.items }
+    ensures filled { All (λ p. 0 < length p.items) input.old.items
+        → All (λ p. 0 < length p.items) input.new.items }
 {
     if rest.is_empty() {
         input.pop_front();

@@ -6,3 +6,5 @@ pub mod Budget
 pub mod Same
 pub mod Pointwise
 pub mod Gathered
+pub mod Merged
+pub mod Values

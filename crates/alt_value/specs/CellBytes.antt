@@ -5,6 +5,7 @@ use Rattle.alt_fields.specs.Field.{field}
 use Rattle.alt_decimal.specs.Spelled.{spelled}
 use Rattle.alt_value.specs.Tree.{Tree, S_tree, N_tree, B_tree, BOOL_tree, NULL_tree, SS_tree, NS_tree, BS_tree, L_tree, M_tree, Trees, no_trees, tree_then, Fields, no_fields, field_then, elements, pairs}
 
+-- 0 for false, 1 for true
 abbrev pub truth_byte : Bool → ℕ
 truth_byte false = 0
 truth_byte true = 1

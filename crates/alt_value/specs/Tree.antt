@@ -31,18 +31,22 @@ mutual
 abbrev pub Pair : Type 0
 Pair = List ℕ × Tree
 
+-- a list of trees as the elements of a list
 abbrev pub trees_of : List Tree → Trees
 trees_of [] = no_trees
 trees_of (t ∷ ts) = tree_then t (trees_of ts)
 
+-- a list of pairs as the pairs of a map
 abbrev pub fields_of : List Pair → Fields
 fields_of [] = no_fields
 fields_of (p ∷ ps) = field_then p.0 p.1 (fields_of ps)
 
+-- the elements of a list, as a list of trees
 abbrev pub elements : Trees → List Tree
 elements no_trees = []
 elements (tree_then t ts) = t ∷ elements ts
 
+-- the pairs of a map, as a list of pairs
 abbrev pub pairs : Fields → List Pair
 pairs no_fields = []
 pairs (field_then name t fs) = (name, t) ∷ pairs fs

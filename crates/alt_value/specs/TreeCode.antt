@@ -6,15 +6,18 @@ use base.Stored.{Gv, gnil, gnum, gcons}
 use denote.Struct.Codes.{itself}
 use Rattle.alt_value.specs.Tree.{Tree, S_tree, N_tree, B_tree, BOOL_tree, NULL_tree, SS_tree, NS_tree, BS_tree, L_tree, M_tree, Trees, no_trees, tree_then, Fields, no_fields, field_then, Pair}
 
+-- the number of a leaf
 abbrev pub number_in : Gv → ℕ
 number_in gnil = 0
 number_in (gnum n) = n
 number_in (gcons a b) = 0
 
+-- a list of numbers, a pair for each
 abbrev pub code_bytes : List ℕ → Gv
 code_bytes [] = gnil
 code_bytes (n ∷ ns) = gcons (gnum n) (code_bytes ns)
 
+-- the list of numbers that was coded so
 abbrev pub bytes_in : Gv → List ℕ
 bytes_in gnil = []
 bytes_in (gnum n) = []
@@ -24,10 +27,12 @@ bytes_in-code_bytes : (s : List ℕ) → bytes_in (code_bytes s) ≡ s
 bytes_in-code_bytes [] = refl
 bytes_in-code_bytes (n ∷ ns) = ap (λ (t : List ℕ). n ∷ t) (bytes_in-code_bytes ns)
 
+-- a list of lists of numbers
 abbrev pub code_texts : List (List ℕ) → Gv
 code_texts [] = gnil
 code_texts (s ∷ ss) = gcons (code_bytes s) (code_texts ss)
 
+-- the lists that were coded so
 abbrev pub texts_in : Gv → List (List ℕ)
 texts_in gnil = []
 texts_in (gnum n) = []
@@ -37,15 +42,18 @@ texts_in-code_texts : (ss : List (List ℕ)) → texts_in (code_texts ss) ≡ ss
 texts_in-code_texts [] = refl
 texts_in-code_texts (s ∷ ss) = λ i. bytes_in-code_bytes s i ∷ texts_in-code_texts ss i
 
+-- a whole number: its sign, and how far it is from 0 or from -1
 abbrev pub code_whole : ℤ → Gv
 code_whole (pos n) = gcons gnil (gnum n)
 code_whole (negsuc n) = gcons (gnum 1) (gnum n)
 
+-- a whole number by its sign
 abbrev pub signed_by : Gv → ℕ → ℤ
 signed_by gnil n = pos n
 signed_by (gnum k) n = negsuc n
 signed_by (gcons a b) n = negsuc n
 
+-- the whole number that was coded so
 abbrev pub whole_in : Gv → ℤ
 whole_in gnil = pos 0
 whole_in (gnum n) = pos 0
@@ -55,10 +63,12 @@ whole_in-code_whole : (z : ℤ) → whole_in (code_whole z) ≡ z
 whole_in-code_whole (pos n) = refl
 whole_in-code_whole (negsuc n) = refl
 
+-- a list of whole numbers
 abbrev pub code_wholes : List ℤ → Gv
 code_wholes [] = gnil
 code_wholes (z ∷ zs) = gcons (code_whole z) (code_wholes zs)
 
+-- the whole numbers that were coded so
 abbrev pub wholes_in : Gv → List ℤ
 wholes_in gnil = []
 wholes_in (gnum n) = []
@@ -68,10 +78,12 @@ wholes_in-code_wholes : (zs : List ℤ) → wholes_in (code_wholes zs) ≡ zs
 wholes_in-code_wholes [] = refl
 wholes_in-code_wholes (z ∷ zs) = λ i. whole_in-code_whole z i ∷ wholes_in-code_wholes zs i
 
+-- a truth value
 abbrev pub code_truth : Bool → Gv
 code_truth false = gnil
 code_truth true = gnum 1
 
+-- the truth value that was coded so
 abbrev pub truth_in : Gv → Bool
 truth_in gnil = false
 truth_in (gnum n) = true
@@ -81,6 +93,7 @@ truth_in-code_truth : (b : Bool) → truth_in (code_truth b) ≡ b
 truth_in-code_truth true = refl
 truth_in-code_truth false = refl
 
+-- a tree: the number of its kind, and its parts
 abbrev mutual
   pub code_tree : Tree → Gv
   code_tree (S_tree s) = gcons (gnum 0) (code_bytes s)
@@ -100,7 +113,8 @@ abbrev mutual
 
   code_fields : Fields → Gv
   code_fields no_fields = gnil
-  code_fields (field_then name t fs) = gcons (code_bytes name) (gcons (code_tree t) (code_fields fs))
+  code_fields (field_then name t fs) = gcons (code_bytes name)
+      (gcons (code_tree t) (code_fields fs))
 
 -- the tree of that kind, by its number
 abbrev pub of_kind : ℕ → Gv → Trees → Fields → Tree
@@ -115,6 +129,7 @@ of_kind (suc (suc (suc (suc (suc (suc (suc zero))))))) g ts fs = BS_tree (texts_
 of_kind (suc (suc (suc (suc (suc (suc (suc (suc zero)))))))) g ts fs = L_tree ts
 of_kind (suc (suc (suc (suc (suc (suc (suc (suc (suc n))))))))) g ts fs = M_tree fs
 
+-- the tree that was coded so
 abbrev mutual
   pub tree_in : Gv → Tree
   tree_in gnil = NULL_tree
@@ -151,15 +166,19 @@ mutual
 
   trees_in-code_trees : (ts : Trees) → trees_in (code_trees ts) ≡ ts
   trees_in-code_trees no_trees = refl
-  trees_in-code_trees (tree_then t ts) = λ i. tree_then (tree_in-code_tree t i) (trees_in-code_trees ts i)
+  trees_in-code_trees (tree_then t ts) = λ i. tree_then (tree_in-code_tree t i)
+      (trees_in-code_trees ts i)
 
   fields_in-code_fields : (fs : Fields) → fields_in (code_fields fs) ≡ fs
   fields_in-code_fields no_fields = refl
   fields_in-code_fields (field_then name t fs) =
-      λ i. field_then (bytes_in-code_bytes name i) (tree_in-code_tree t i) (fields_in-code_fields fs i)
+      λ i. field_then (bytes_in-code_bytes name i) (tree_in-code_tree t i)
+      (fields_in-code_fields fs i)
 
+-- trees have a code
 abbrev pub coded_tree : Coded Tree
 coded_tree = code_by Gv itself code_tree tree_in tree_in-code_tree
 
+-- and so do pairs
 abbrev pub coded_pair : Coded Pair
 coded_pair = coded× (coded_list coded_ℕ) coded_tree

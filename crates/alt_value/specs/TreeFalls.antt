@@ -10,6 +10,7 @@ use Rattle.alt_value.specs.Size.{depth, elements_depth, fields_depth}
 use Rattle.alt_value.specs.Tree.{trees_of, fields_of}
 use Rattle.alt_value.specs.Stands.{tree_of, pair_of}
 
+-- a value is stored no deeper than its tree is
 deep-le-depth : (a : Attr) → deep-Attr a ≤ depth (tree_of a)
 deep-le-depth (S s) = omega arith
 deep-le-depth (N z) = omega arith
@@ -22,10 +23,14 @@ deep-le-depth (Bs ss) = omega arith
 deep-le-depth (L ts) = omega arith
 deep-le-depth (M ps) = omega arith
 
-pub elements_fall : (xs : List Attr) → max (most (λ x. deep-Attr x) xs) 0 ≤ elements_depth (trees_of (map tree_of xs))
+-- nor are the elements of a list
+pub elements_fall : (xs : List Attr) → max (most (λ x. deep-Attr x) xs) 0 ≤ elements_depth
+    (trees_of (map tree_of xs))
 elements_fall [] = omega arith
 elements_fall (x ∷ xs) = omega (arith, deep-le-depth x, elements_fall xs)
 
-pub fields_fall : (ps : List Pair) → max (most (λ p. deep-Pair p) ps) 0 ≤ fields_depth (fields_of (map pair_of ps))
+-- nor are the values of an item
+pub fields_fall : (ps : List Pair) → max (most (λ p. deep-Pair p) ps) 0 ≤ fields_depth
+    (fields_of (map pair_of ps))
 fields_fall [] = omega arith
 fields_fall (p ∷ ps) = omega (arith, deep-le-depth p.value, fields_fall ps)

@@ -9,7 +9,7 @@ use Rattle.alt_decimal.specs.Number.{Fits}
 use Rattle.alt_fields.specs.Bytes.{IsShort, IsBytes}
 use Rattle.alt_value.specs.Item.{IsItem}
 use Rattle.alt_value.specs.Members.{IsSet, text_order}
-use Rattle.alt_value.specs.Tree.{Tree, S_tree, N_tree, B_tree, BOOL_tree, NULL_tree, SS_tree, NS_tree, BS_tree, L_tree, M_tree, Trees, no_trees, tree_then, Fields, no_fields, field_then, Pair, fields_of, elements, pairs}
+use Rattle.alt_value.specs.Tree.{Tree, S_tree, N_tree, B_tree, BOOL_tree, NULL_tree, SS_tree, NS_tree, BS_tree, L_tree, M_tree, Trees, no_trees, tree_then, Fields, no_fields, field_then, Pair, trees_of, fields_of, elements, pairs}
 
 -- a text is UTF-8
 abbrev pub IsText : List ℕ → Type 0
@@ -43,6 +43,10 @@ abbrev mutual
   pub AreFields : Fields → Type 0
   AreFields no_fields = Unit {0}
   AreFields (field_then name t fs) = IsText name × IsValue t × AreFields fs
+
+-- the elements of a list: each is a value
+abbrev pub IsListOfValues : List Tree → Type 0
+IsListOfValues ts = AreValues (trees_of ts) × IsShort ts
 
 -- an item is the pairs of a map: its names rise, none is empty, each is a text and has a value
 pub record IsItemOfValues (item : List Pair) : Type 0 where

@@ -8,6 +8,7 @@ ghost use Rattle.alt_value.specs.Item.{IsItem, at_name, with_pair, without};
 ghost use Rattle.alt_value.specs.Members.{text_order};
 ghost use Rattle.alt_value.specs.declared.attr.Pair.{Pair as Entry};
 ghost use Rattle.alt_value.specs.Place.{StandsAt, GoesTo};
+ghost use Rattle.alt_value.specs.Values.{IsText, IsValue, IsListOfValues, IsItemOfValues};
 
 use crate::{BytesSet, NumberSet, Text, TextSet};
 use alt_base::NoMemory;
@@ -67,8 +68,11 @@ impl Model for AttrList {
     ghost use Rattle.alt_value.specs.Stands.{tree_of};
     ghost use Rattle.alt_value.specs.Tree.{trees_of};
     ghost use Rattle.alt_value.specs.Size.{elements_depth};
+    ghost use Rattle.alt_value.specs.Values.{IsListOfValues};
 
     ghost view = { λ a. map tree_of a.elements.items };
+
+    ghost invariant = { λ a. IsListOfValues (map tree_of a.elements.items) };
 
     ghost size = { λ ts. elements_depth (trees_of ts) };
 
@@ -90,17 +94,55 @@ impl Model for Item {
     ghost use Rattle.alt_value.specs.Stands.{pair_of};
     ghost use Rattle.alt_value.specs.Tree.{fields_of};
     ghost use Rattle.alt_value.specs.Size.{fields_depth};
-    ghost use Rattle.alt_value.specs.Item.{IsItem};
+    ghost use Rattle.alt_value.specs.Values.{IsItemOfValues};
 
     ghost view = { λ a. map pair_of a.entries.items };
 
-    ghost invariant = { λ a. IsItem (map pair_of a.entries.items) };
+    ghost invariant = { λ a. IsItemOfValues (map pair_of a.entries.items) };
 
     ghost size = { λ ps. fields_depth (fields_of ps) };
 
     ghost use Rattle.alt_value.specs.TreeFalls.{fields_fall};
 
     ghost size_decreases = { λ a h. fields_fall a.entries.items };
+}
+
+/// What is true of each value that the program has. The call looks at the outermost level alone and does nothing: a caller makes it
+/// where a proof needs the fact.
+pub fn held(a: &Attr)
+    ensures value { IsValue (tree_of a.now) }
+{
+    match a {
+        Attr::S(text) => {
+            let _count = text.len();
+        }
+        Attr::N(number) => number.held(),
+        Attr::B(bytes) => {
+            let _count = bytes.len();
+        }
+        Attr::Bool(_) | Attr::Null => {}
+        Attr::Ss(set) => {
+            let _count = set.len();
+        }
+        Attr::Ns(set) => {
+            let _count = set.len();
+        }
+        Attr::Bs(set) => {
+            let _count = set.len();
+        }
+        Attr::L(list) => {
+            let _count = list.len();
+        }
+        Attr::M(map) => {
+            let _count = map.len();
+        }
+    }
+}
+
+fn text_held(text: &str)
+    ensures { IsText text.now }
+{
+    let _count = text.len();
 }
 
 impl AttrList {
@@ -116,6 +158,8 @@ impl AttrList {
     /// How many elements there are.
     pub fn len(&self) -> usize
         ensures count { result ≡ length self.now }
+        // What is true of each list.
+        ensures values { IsListOfValues self.now }
     {
         self.elements.len()
     }
@@ -132,7 +176,9 @@ impl AttrList {
         ensures ok { OnOk result (self.new ≡ self.old ++ tree_of a ∷ []) }
         ensures err { OnErr result (self.new ≡ self.old) }
     {
+        held(&a);
         self.elements.push(a)?;
+        let _count = self.elements.len();
         Ok(())
     }
 }
@@ -152,6 +198,7 @@ impl Item {
         ensures count { result ≡ length self.now }
         // What is true of each item.
         ensures item { IsItem self.now }
+        ensures values { IsItemOfValues self.now }
     {
         self.entries.len()
     }
@@ -182,11 +229,17 @@ impl Item {
         ensures ok { OnOk result (self.new ≡ with_pair name.now (tree_of a) self.old) }
         ensures err { OnErr result (self.new ≡ self.old) }
     {
+        held(&a);
+        text_held(name);
         match place(&self.entries, name) {
-            Ok(i) => replace(&mut self.entries, i, a),
+            Ok(i) => {
+                replace(&mut self.entries, i, a);
+                let _count = self.entries.len();
+            }
             Err(i) => {
                 let name = Text::new(*self.entries.allocator(), name)?;
                 self.entries.insert(i, Pair { name, value: a })?;
+                let _count = self.entries.len();
             }
         }
         Ok(())
@@ -210,7 +263,8 @@ impl Item {
 /// Where a name stands, or where it is to go.
 fn place(entries: &Vec<Pair>, name: &str) -> Result<usize, usize>
     requires { IsItem (map pair_of entries.now.items) }
-    ensures { MatchResult result (StandsAt name.now entries.now.items) (GoesTo name.now entries.now.items) }
+    ensures { MatchResult result (StandsAt name.now entries.now.items)
+        (GoesTo name.now entries.now.items) }
 {
     let mut low = 0;
     let mut high = entries.len();
@@ -228,7 +282,11 @@ fn place(entries: &Vec<Pair>, name: &str) -> Result<usize, usize>
 /// Puts a value in the place of the one that stands there.
 fn replace(entries: &mut Vec<Pair>, i: usize, a: Attr)
     requires { i < vec_len entries.old }
-    ensures { (d : Entry) → entries.new.items ≡ slice_set entries.old.items i (record (slice_index_or entries.old.items i d) { value = a }) }
+    ensures { (d : Entry) → entries.new.items
+        ≡ slice_set entries.old.items i (record (slice_index_or entries.old.items i d) {
+          value =
+              a;
+        }) }
 {
     entries[i].value = a;
 }

@@ -1,75 +1,41 @@
 //! Sets of byte strings.
 
-ghost use Rattle.std.specs.Prelude.{◌≡◌, [], length, not, slice_get, option_map, IfOk, OnOk, OnErr};
-ghost use Rattle.alt_value.specs.Members.{IsSet, has_member, with_member, set_of, text_order};
+ghost use Rattle.std.specs.Prelude.{◌≡◌, not, slice_get, option_map, IfOk, OnOk, OnErr};
+ghost use Rattle.alt_value.specs.Members.{has_member, with_member, text_order};
 
-use crate::gather::gather;
+use crate::set::{Member, Set};
 use alt_base::NoMemory;
 use alt_fields::Bytes;
-use std::alloc::Global;
-use std::marker::Model;
 
-/// A set of byte strings, in value order (DynamoDB API Reference, "AttributeValue", BS). Contracts see the list of its
-/// members, which rise.
-#[derive(Debug, Drop)]
-pub struct BytesSet {
-    members: Vec<Bytes>,
+/// A set of byte strings, in value order (DynamoDB API Reference, "AttributeValue", BS).
+pub type BytesSet = Set<Bytes>;
+
+impl Member for Bytes {
+    ghost use Rattle.alt_fields.specs.Bytes.{IsBytes};
+    ghost use Rattle.std.specs.FinMap.{slice_cmp-IsAntisymmetric, nat_cmp-IsAntisymmetric};
+
+    ghost IsMember = { IsBytes };
+
+    fn member_held(&self) {
+        let _count = self.len();
+    }
+
+    fn copy_member(&self) -> Result<Bytes, NoMemory> {
+        self.copy()
+    }
+
+    ghost apart = { slice_cmp-IsAntisymmetric nat_cmp-IsAntisymmetric };
 }
 
-impl Model for BytesSet {
-    ghost use Rattle.std.specs.Prelude.{ℕ, List};
-    ghost use Rattle.alt_value.specs.Members.{IsSet, text_order};
-
-    ghost Value = { List (List ℕ) };
-
-    ghost view = { λ s. s.members.items };
-
-    ghost invariant = { λ s. IsSet text_order s.members.items };
-}
-
-impl BytesSet {
-    /// The empty set.
-    pub fn new(alloc: Global) -> Self
-        ensures empty { result ≡ [] }
-    {
-        BytesSet {
-            members: Vec::new(alloc),
-        }
-    }
-
-    /// The set of those byte strings, which come in any order. None exactly where two of them are equal. It sorts once, where `add` makes
-    /// room for each.
-    pub fn from_members(members: Vec<Bytes>) -> Option<BytesSet>
-        ensures set { result ≡ set_of text_order members.items }
-    {
-        let mut members = members;
-        if gather(&mut members) {
-            Some(BytesSet { members })
-        } else {
-            None
-        }
-    }
-
-    /// How many members there are.
-    pub fn len(&self) -> usize
-        ensures count { result ≡ length self.now }
-        // What is true of each set.
-        ensures rising { IsSet text_order self.now }
-    {
-        self.members.len()
-    }
-
-    pub(crate) fn as_slice(&self) -> &[Bytes]
-        ensures { result.now ≡ self.now }
-    {
-        self.members.as_slice()
-    }
-
+impl Set<Bytes> {
     /// The member at that place in value order, None exactly past the last.
     pub fn get(&self, i: usize) -> Option<&[u8]>
         ensures member { option_map (λ m. m.now) result ≡ slice_get self.now i }
     {
-        Some(self.members.get(i)?.as_slice())
+        match self.as_slice().get(i) {
+            Some(member) => Some(member.as_slice()),
+            None => None,
+        }
     }
 
     /// Puts a member in at its place. False exactly where it was there, and then the set stays.
@@ -78,31 +44,7 @@ impl BytesSet {
         ensures ok { OnOk result (self.new ≡ with_member text_order m.now self.old) }
         ensures err { OnErr result (self.new ≡ self.old) }
     {
-        let member = Bytes::new(*self.members.allocator(), m)?;
-        match self.members.binary_search(&member) {
-            Ok(_) => Ok(false),
-            Err(place) => {
-                self.members.insert(place, member)?;
-                Ok(true)
-            }
-        }
+        let member = Bytes::new(self.alloc(), m)?;
+        self.put(member)
     }
-
-    /// A copy of the set.
-    pub fn copy(&self) -> Result<BytesSet, NoMemory>
-        ensures same { IfOk result (λ s. s ≡ self.now) }
-    {
-        let members = copy_of(&self.members)?;
-        Ok(BytesSet { members })
-    }
-}
-
-fn copy_of(members: &Vec<Bytes>) -> Result<Vec<Bytes>, NoMemory>
-    ensures { IfOk result (λ out. out.items ≡ members.now.items) }
-{
-    let mut out = Vec::with_capacity(*members.allocator(), members.len())?;
-    for member in members {
-        out.push(member.copy()?)?;
-    }
-    Ok(out)
 }

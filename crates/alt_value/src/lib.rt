@@ -8,11 +8,13 @@ mod copies;
 mod gather;
 mod kind;
 mod measure;
+mod merge;
 mod number_set;
+mod set;
 mod text;
 mod text_set;
 
-pub use attr::{Attr, AttrList, Item};
+pub use attr::{Attr, AttrList, Item, held};
 pub use bytes_set::BytesSet;
 pub use compare::{equal, item_equal, order};
 pub use copies::copy;
@@ -21,6 +23,3 @@ pub use measure::{depth_within, item_size_within, size_within};
 pub use number_set::NumberSet;
 pub use text::Text;
 pub use text_set::TextSet;
-
-#[cfg(test)]
-mod tests;

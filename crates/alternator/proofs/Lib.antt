@@ -1,8 +1,7 @@
-pub mod Cutting
-pub mod Folds
-pub mod Giving
-pub mod Logs
+pub mod EndingLaws
+pub mod Hands
 pub mod Numbers
+pub mod Passing
+pub mod Pulling
 pub mod Serving
-pub mod Splitting
-pub mod Turning
+pub mod TurnLaws

@@ -1,14 +1,14 @@
--- What was said and taken up to a moment of a run, and how many requests were answered by then.
-use Rattle.std.specs.Prelude.{ℕ, suc, List, [], ◌∷◌, length, drop, Bool, nat_le, if◌then◌else◌}
-use Rattle.alt_machine.specs.State.{State, start}
+-- What was said and taken up to a moment of a run, and which turns were answered by then.
+use Rattle.std.specs.Prelude.{ℕ, List, [], ◌∷◌, length, drop, Bool, nat_le, if◌then◌else◌}
+use Rattle.alt_machine.specs.State.{State}
 use Rattle.alt_shell.specs.Log.{Log, until, said_in, taken, ended}
-use Rattle.alternator.specs.Lines.{lines_of}
-use Rattle.alternator.specs.Out.{line_of, served}
+use Rattle.alternator.specs.Turns.{Turn, turns, asks}
 
--- the bytes said and the bytes taken by a moment, of the entries that a run added
+-- the bytes said by a moment, of the entries that a run added
 abbrev pub said_by : ℕ → Log → List ℕ
 said_by t entries = said_in (until t entries)
 
+-- the bytes taken by a moment
 abbrev pub taken_by : ℕ → Log → List ℕ
 taken_by t entries = taken (until t entries)
 
@@ -16,14 +16,12 @@ taken_by t entries = taken (until t entries)
 abbrev pub ended_by : ℕ → Log → Bool
 ended_by t entries = ended (until t entries)
 
--- of these lines, each at the next moment, how many have their whole replies in the bytes said
-abbrev pub answered : State → List (List ℕ) → List ℕ → List ℕ → ℕ
-answered s [] moments bytes = 0
-answered s (l ∷ ls) [] bytes = 0
-answered s (l ∷ ls) (m ∷ ms) bytes =
-    if nat_le (length (line_of (served s l m).answer)) (length bytes)
-    then suc (answered (served s l m).state ls ms (drop (length (line_of (served s l m).answer)) bytes)) else 0
+-- the turns, from the first on, whose whole texts stand in the bytes said
+abbrev pub answered : List Turn → List ℕ → List Turn
+answered [] bytes = []
+answered (t ∷ ts) bytes =
+    if nat_le (length t.text) (length bytes) then t ∷ answered ts (drop (length t.text) bytes) else []
 
--- the number of requests up to and including the last one whose whole text was said by a moment
-abbrev pub answered_by : ℕ → Log → List ℕ → ℕ
-answered_by t entries told = answered start (lines_of (ended_by t entries) (taken_by t entries)) told (said_by t entries)
+-- the turns that were answered by a moment, of a run from a state
+abbrev pub answered_by : State → ℕ → Log → List ℕ → List Turn
+answered_by s t entries told = answered (turns s (asks (ended_by t entries) (taken_by t entries)) told) (said_by t entries)

@@ -1,5 +1,5 @@
 -- The words of the command line.
-use Rattle.std.specs.Prelude.{ℕ, ◌+◌, ◌-◌, ◌*◌, ◌==◌, ◌&&◌, List, [], ◌∷◌, map, Bool, true, false, Option, Some, None, if◌then◌else◌, nat_le, ◌++◌, decimal, codes, String, string_bytes, option_and_then}
+use Rattle.std.specs.Prelude.{ℕ, ◌+◌, ◌-◌, ◌*◌, ◌==◌, ◌&&◌, List, [], ◌∷◌, map, Bool, true, false, Option, Some, None, if◌then◌else◌, nat_le, codes, String, string_bytes, option_and_then}
 use Rattle.std.specs.declared.alloc.Global.{Global}
 use Rattle.std.specs.Char.{is_ascii_digit}
 use Rattle.std.specs.Str.{bytes_eq}
@@ -15,6 +15,7 @@ number_of [] = None
 number_of (d ∷ []) = digits_from 0 (d ∷ [])
 number_of (d ∷ e ∷ ds) = if d == 48 then None else digits_from 0 (d ∷ e ∷ ds)
 
+-- a number from the least to the most
 abbrev pub is_within : ℕ → ℕ → Option ℕ → Bool
 is_within least most None = false
 is_within least most (Some n) = nat_le least n && nat_le n most
@@ -35,13 +36,6 @@ port_of [] = None
 port_of (folder ∷ []) = None
 port_of (folder ∷ port ∷ words) = option_and_then small_port (number_of port)
 
+-- words as bytes
 abbrev pub bytes_of : List (String Global) → List (List ℕ)
 bytes_of words = map string_bytes words
-
--- what a run with this status notes
-abbrev pub note_of : ℕ → List ℕ
-note_of status = if status == 0 then [] else (if status == 1 then codes "alternator: words\n" else (if status == 4 then codes "alternator: device\n" else codes "alternator: memory\n"))
-
--- what a run notes that ends since this number is spent
-abbrev pub spent_note : ℕ → List ℕ
-spent_note number = codes "alternator: numbers spent: " ++ (decimal number ++ 10 ∷ [])

@@ -2,7 +2,7 @@
 //! tables in memory and requests as lines.
 #![tactic(auto)]
 
-mod host;
+mod ending;
 mod lines;
 mod reply;
 mod run;
@@ -11,25 +11,38 @@ mod serve;
 mod tests;
 mod words;
 
-use host::HostShell;
+use alt_disk::DiskFault;
+use alt_host::HostShell;
 use std::alloc::{AllocError, Global};
 use std::env;
 use std::process::ExitCode;
-use words::port_of;
+use words::{is_replay, port_of};
 
-/// Takes the folder and the port off the front of the words, and ends with the status of the run of the others.
+/// Takes the folder and the port off the front of the words, and ends with the status of the run of the others. Where the words are
+/// wrong, the folder isn't touched.
 fn main(rt: HostRuntime) -> ExitCode {
     let alloc = rt.alloc();
-    let Ok(words) = words_of(&rt, alloc) else {
-        let _ = rt.eprint("alternator: memory\n");
-        return ExitCode::from(5);
+    let own: Result<_, _> = rt.clone();
+    let (Ok(words), Ok(own)) = (words_of(&rt, alloc), own) else {
+        return noted(&rt, "alternator: memory\n", 5);
     };
-    if port_of(&words).is_none() {
-        let _ = rt.eprint("alternator: words\n");
-        return ExitCode::from(1);
+    let (Some(port), [folder, _, rest @ ..]) = (port_of(&words), words.as_slice()) else {
+        return noted(&rt, "alternator: words\n", 1);
+    };
+    if !is_replay(rest) {
+        return noted(&rt, "alternator: words\n", 1);
     }
-    let mut shell = HostShell::new(rt);
-    ExitCode::from(run::run(alloc, words.get(2..).unwrap_or(&[]), &mut shell))
+    match HostShell::new(own, alloc, folder.as_str(), port) {
+        Ok(mut shell) => ExitCode::from(run::run(alloc, rest, &mut shell)),
+        Err(DiskFault::Failed) => noted(&rt, "alternator: device\n", 4),
+        Err(DiskFault::NoMemory) => noted(&rt, "alternator: memory\n", 5),
+    }
+}
+
+/// Tells the operator why the program ends before its run.
+fn noted(rt: &HostRuntime, note: &str, status: u8) -> ExitCode {
+    let _ = rt.eprint(note);
+    ExitCode::from(status)
 }
 
 fn words_of(rt: &HostRuntime, alloc: Global) -> Result<Vec<String>, AllocError> {

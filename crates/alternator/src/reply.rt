@@ -1,15 +1,16 @@
-//! The line that answers a line.
+//! The text that answers a request.
 
-ghost use Rattle.std.specs.Prelude.{◌≡◌, false, None, IfOk, IfErr, OnOk, string_bytes};
-ghost use Rattle.std.specs.Str.Lines.{strip_carriage_return};
+ghost use Rattle.std.specs.Prelude.{◌≡◌, false, None, IfOk, IfErr, IsErrOf, OnOk, string_bytes};
 ghost use Rattle.serde_json.specs.View.{view};
 ghost use Rattle.serde_json.specs.Written.{has_float};
+ghost use Rattle.alt_machine.specs.State.{State};
 ghost use Rattle.alt_shape.specs.Refusals.{answer_of};
-ghost use Rattle.alt_tables.specs.Faults.{IsCausedBy};
-ghost use Rattle.alt_tables.specs.Stands.{state_of};
-ghost use Rattle.alternator.specs.Out.{served, wanted_by, line_of};
+ghost use Rattle.alt_tables.specs.Stands.{Stands};
+ghost use Rattle.alternator.specs.Faults.{IsCausedBy};
+ghost use Rattle.alternator.specs.declared.serve.RunFault.TheVariants.{Failed};
+ghost use Rattle.alternator.specs.Turns.{carried_out, after_turn, line_of};
 
-use crate::lines::{parts, stripped};
+use crate::serve::RunFault;
 use alt_base::NoMemory;
 use alt_disk::Disk;
 use alt_dispatch::{answer, operation_named};
@@ -17,7 +18,7 @@ use alt_shape::Reply;
 use alt_tables::{TableFault, Tables};
 use std::alloc::Global;
 
-// The line of a reply.
+/// The line of a reply.
 fn line_of(alloc: Global, reply: &Reply) -> Result<String, NoMemory>
     requires { has_float (view reply.now.body) ≡ false }
     ensures { IfOk result (λ s. string_bytes s ≡ line_of (answer_of reply.now)) }
@@ -27,25 +28,32 @@ fn line_of(alloc: Global, reply: &Reply) -> Result<String, NoMemory>
     Ok(format!(in alloc; "{status} {text}\n")?)
 }
 
-/// The text that answers a line, which is carried out at a moment.
+/// The text that answers a request, which is carried out at a moment.
 pub(crate) fn reply_text<D: Disk>(
     alloc: Global,
     tables: &mut Tables,
     disk: &mut D,
-    line: &[u8],
+    name: &[u8],
+    body: &[u8],
     moment: u64,
-) -> Result<String, TableFault>
-    ensures text { IfOk result
-        (λ s. string_bytes s ≡ line_of (served (state_of tables.old) (strip_carriage_return line.now) moment).answer) }
-    ensures state { OnOk result
-        (state_of tables.new ≡ (served (state_of tables.old) (strip_carriage_return line.now) moment).state) }
-    ensures enough { OnOk result (wanted_by (state_of tables.old) (strip_carriage_return line.now) moment ≡ None) }
-    ensures cause { IfErr result (IsCausedBy (wanted_by (state_of tables.old) (strip_carriage_return line.now) moment)) }
+) -> Result<String, RunFault>
+    ensures text { (s : State) → Stands (D.state disk.old) tables.old s → IfOk result
+        (λ text. string_bytes text ≡ (carried_out s name.now body.now moment).text) }
+    ensures state { (s : State) → Stands (D.state disk.old) tables.old s → OnOk result
+        (Stands (D.state disk.new) tables.new (after_turn s (carried_out s name.now body.now moment))) }
+    ensures enough { (s : State) → Stands (D.state disk.old) tables.old s → OnOk result
+        ((carried_out s name.now body.now moment).lacks ≡ None) }
+    ensures cause { (s : State) → Stands (D.state disk.old) tables.old s → IfErr result
+        (IsCausedBy (carried_out s name.now body.now moment).lacks) }
+    ensures other { IsErrOf result Failed → ⊥ }
     ensures disk { D.state disk.new ≡ D.state disk.old }
 {
-    let (name, body) = parts(stripped(line));
     match answer(alloc, tables, disk, operation_named(name), body, moment) {
-        Ok(reply) => Ok(line_of(alloc, &reply)?),
-        Err(fault) => Err(fault),
+        Ok(reply) => match line_of(alloc, &reply) {
+            Ok(text) => Ok(text),
+            Err(_) => Err(RunFault::NoMemory),
+        },
+        Err(TableFault::NoMemory) => Err(RunFault::NoMemory),
+        Err(TableFault::Spent { number }) => Err(RunFault::Spent { number }),
     }
 }

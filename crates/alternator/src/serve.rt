@@ -1,20 +1,22 @@
 //! Serving lines: from the bytes taken to the replies said. Each function says of the calls that it made which lines they
-//! served, or of which their text is a prefix, so that a run is put together from them.
+//! served, or where among them it broke off, so that a run is put together from them.
 
-ghost use Rattle.std.specs.Prelude.{◌≡◌, ◌≢◌, ℕ, Option, ◌<◌, ◌^◌, ◌-◌, ◌∷◌, ◌++◌, [], length, OnOk, IsErrOf, MatchResult};
-ghost use Rattle.std.specs.Str.Lines.{strip_carriage_return};
+ghost use Rattle.std.specs.Prelude.{◌≡◌, ◌<◌, ◌^◌, ◌-◌, ◌∷◌, [], true, false, Some, None, length, IfOk, IfErr, IfSome, IfNone, OnOk, IsErrOf, MatchResult};
 ghost use Rattle.alt_base.specs.Counts.{Rose};
-ghost use Rattle.alt_tables.specs.Stands.{state_of};
-ghost use Rattle.alt_tables.specs.Faults.{IsCausedBy};
-ghost use Rattle.alternator.specs.Faults.{number_of, IsFirst};
-ghost use Rattle.alternator.specs.Lines.{last_line};
-ghost use Rattle.alternator.specs.LinesSoFar.{whole_lines, rest_line};
-ghost use Rattle.alternator.specs.Runs.{Calls, Passes, Serves, Breaks, Turns, TurnBreaks};
+ghost use Rattle.alt_lines.specs.Lines.{Line};
+ghost use Rattle.alt_lines.specs.Reader.{unread};
+ghost use Rattle.alt_lines.specs.Unread.{HasNone, TakesLine, Tells};
+ghost use Rattle.alt_machine.specs.State.{State};
+ghost use Rattle.alt_tables.specs.Stands.{Stands};
+ghost use Rattle.alternator.specs.Faults.{number_of};
+ghost use Rattle.alternator.specs.Runs.{Calls, Passes, Reaches, ServesAtHand, BreaksAtHand, HandsOut, GoesOrEnds, GoesSome, asked_now};
+ghost use Rattle.alternator.specs.Turns.{request, unread as no_request, asked_of};
 
-use crate::lines::cut;
+use crate::lines::parts;
 use crate::reply::reply_text;
+use alt_lines::{Cut, Lines};
 use alt_shell::Shell;
-use alt_tables::{TableFault, Tables};
+use alt_tables::Tables;
 use std::alloc::Global;
 
 /// Why a run ends early.
@@ -28,34 +30,26 @@ pub(crate) enum RunFault {
     Spent { number: u64 },
 }
 
-/// A fault of the tables ends the run.
-fn fault_of(fault: TableFault) -> RunFault
-    ensures other { result ≢ RunFault.Failed }
-    ensures cause { (wanted : Option ℕ) → IsCausedBy wanted fault → IsFirst (number_of result) wanted }
-{
-    match fault {
-        TableFault::NoMemory => RunFault::NoMemory,
-        TableFault::Spent { number } => RunFault::Spent { number },
-    }
-}
-
-/// One request: its line is answered at the moment that the clock tells.
-pub(crate) fn request<S: Shell>(
+/// One request: it is answered at the moment that the clock tells.
+fn answer_request<S: Shell>(
     alloc: Global,
     tables: &mut Tables,
-    line: &[u8],
+    name: &[u8],
+    body: &[u8],
     shell: &mut S,
 ) -> Result<(), RunFault>
-    ensures served { MatchResult result
-        (λ _. Calls (S.state shell.old).beside (S.state shell.new).beside (Serves (state_of tables.old) (strip_carriage_return line.now ∷ []) (state_of tables.new)))
-        (λ f. Calls (S.state shell.old).beside (S.state shell.new).beside (Breaks (number_of f) (state_of tables.old) (strip_carriage_return line.now ∷ []))) }
+    ensures served { (s : State) → Stands (S.state shell.old) tables.old s → MatchResult result
+        (λ _. Reaches (S.state shell.old) (S.state shell.new) tables.new
+            (ServesAtHand s (request name.now body.now ∷ [])))
+        (λ f. Calls (S.state shell.old).beside (S.state shell.new).beside
+            (BreaksAtHand (number_of f) s (request name.now body.now ∷ []))) }
     ensures cause { IsErrOf result RunFault.Failed → Rose (S.state shell.old).faults (S.state shell.new).faults }
     ensures passes { Passes (S.state shell.old) (S.state shell.new) }
 {
     let moment = shell.now();
-    let text = match reply_text(alloc, tables, shell, line, moment) {
+    let text = match reply_text(alloc, tables, shell, name, body, moment) {
         Ok(text) => text,
-        Err(fault) => return Err(fault_of(fault)),
+        Err(fault) => return Err(fault),
     };
     match shell.say(text.as_bytes()) {
         Ok(()) => Ok(()),
@@ -63,98 +57,110 @@ pub(crate) fn request<S: Shell>(
     }
 }
 
-/// The end of a line, of which this much stood before. The whole line is served.
-fn end_line<S: Shell>(
-    alloc: Global,
-    tables: &mut Tables,
-    line: &mut Vec<u8>,
-    end: &[u8],
-    shell: &mut S,
-) -> Result<(), RunFault>
-    ensures served { MatchResult result
-        (λ _. Calls (S.state shell.old).beside (S.state shell.new).beside (Serves (state_of tables.old) (strip_carriage_return (line.old.items ++ end.now) ∷ []) (state_of tables.new)))
-        (λ f. Calls (S.state shell.old).beside (S.state shell.new).beside (Breaks (number_of f) (state_of tables.old) (strip_carriage_return (line.old.items ++ end.now) ∷ []))) }
-    ensures line { OnOk result (line.new.items ≡ []) }
+/// A line that is too long to be read: it is told so, at no moment.
+fn turn_away<S: Shell>(tables: &Tables, shell: &mut S) -> Result<(), RunFault>
+    ensures served { (s : State) → Stands (S.state shell.old) tables.now s → MatchResult result
+        (λ _. Reaches (S.state shell.old) (S.state shell.new) tables.now
+            (ServesAtHand s (no_request ∷ [])))
+        (λ f. Calls (S.state shell.old).beside (S.state shell.new).beside
+            (BreaksAtHand (number_of f) s (no_request ∷ []))) }
     ensures cause { IsErrOf result RunFault.Failed → Rose (S.state shell.old).faults (S.state shell.new).faults }
     ensures passes { Passes (S.state shell.old) (S.state shell.new) }
 {
-    if line.is_empty() {
-        return request(alloc, tables, end, shell);
-    }
-    if line.extend_from_slice(end).is_err() {
-        return Err(RunFault::NoMemory);
-    }
-    match request(alloc, tables, line, shell) {
-        Ok(()) => {
-            line.clear();
-            Ok(())
-        }
-        Err(fault) => Err(fault),
+    match shell.say(b"413 {\"message\":\"request too long\"}\n") {
+        Ok(()) => Ok(()),
+        Err(_) => Err(RunFault::Failed),
     }
 }
 
-/// Bytes of the input: the lines that are whole now are served, and the rest is kept for the next line.
-pub(crate) fn give<S: Shell>(
+/// A line that was taken from the reader.
+fn answer_line<S: Shell>(
     alloc: Global,
     tables: &mut Tables,
-    line: &mut Vec<u8>,
-    bytes: &[u8],
+    cut: Cut,
+    line: &[u8],
     shell: &mut S,
 ) -> Result<(), RunFault>
-    ensures served { MatchResult result
-        (λ _. Calls (S.state shell.old).beside (S.state shell.new).beside (Serves (state_of tables.old) (whole_lines line.old.items bytes.now) (state_of tables.new)))
-        (λ f. Calls (S.state shell.old).beside (S.state shell.new).beside (Breaks (number_of f) (state_of tables.old) (whole_lines line.old.items bytes.now))) }
-    ensures line { OnOk result (line.new.items ≡ rest_line line.old.items bytes.now) }
+    ensures served { (taken : Line) → Tells taken cut [] line.now →
+        (s : State) → Stands (S.state shell.old) tables.old s → MatchResult result
+        (λ _. Reaches (S.state shell.old) (S.state shell.new) tables.new
+            (ServesAtHand s (asked_of taken ∷ [])))
+        (λ f. Calls (S.state shell.old).beside (S.state shell.new).beside
+            (BreaksAtHand (number_of f) s (asked_of taken ∷ []))) }
     ensures cause { IsErrOf result RunFault.Failed → Rose (S.state shell.old).faults (S.state shell.new).faults }
     ensures passes { Passes (S.state shell.old) (S.state shell.new) }
 {
-    let mut rest = bytes;
-    while let Some((end, behind)) = cut(rest) {
-        match end_line(alloc, tables, line, end, shell) {
-            Ok(()) => {}
-            Err(fault) => return Err(fault),
+    match cut {
+        Cut::Whole => {
+            let (name, body) = parts(line);
+            answer_request(alloc, tables, name, body, shell)
         }
-        rest = behind;
+        Cut::TooLong => turn_away(tables, shell),
     }
-    match line.extend_from_slice(rest) {
-        Ok(()) => Ok(()),
+}
+
+/// The next line that is whole, in the emptied buffer.
+fn next_line(lines: &mut Lines, line: &mut Vec<u8>) -> Result<Option<Cut>, RunFault>
+    ensures some { IfOk result (λ found. IfSome found (λ cut. (taken : Line)
+        × Tells taken cut [] line.new.items × TakesLine taken (unread lines.old) (unread lines.new))) }
+    ensures none { IfOk result (λ found. IfNone found (HasNone (unread lines.old) (unread lines.new))) }
+    ensures err { IfErr result (λ fault. fault ≡ RunFault.NoMemory) }
+{
+    line.clear();
+    match lines.line(line) {
+        Ok(found) => Ok(found),
         Err(_) => Err(RunFault::NoMemory),
     }
 }
 
-/// The last line, where one stands without its line feed.
-pub(crate) fn finish<S: Shell>(
+/// Serves the lines that are whole.
+pub(crate) fn at_hand<S: Shell>(
     alloc: Global,
     tables: &mut Tables,
-    line: &[u8],
+    lines: &mut Lines,
+    line: &mut Vec<u8>,
     shell: &mut S,
 ) -> Result<(), RunFault>
-    ensures served { MatchResult result
-        (λ _. Calls (S.state shell.old).beside (S.state shell.new).beside (Serves (state_of tables.old) (last_line line.now) (state_of tables.new)))
-        (λ f. Calls (S.state shell.old).beside (S.state shell.new).beside (Breaks (number_of f) (state_of tables.old) (last_line line.now))) }
+    ensures served { (s : State) → Stands (S.state shell.old) tables.old s → MatchResult result
+        (λ _. Reaches (S.state shell.old) (S.state shell.new) tables.new
+            (ServesAtHand s (asked_now (unread lines.old))))
+        (λ f. Calls (S.state shell.old).beside (S.state shell.new).beside
+            (BreaksAtHand (number_of f) s (asked_now (unread lines.old)))) }
+    ensures lines { OnOk result (HandsOut (unread lines.old) (unread lines.new)) }
     ensures cause { IsErrOf result RunFault.Failed → Rose (S.state shell.old).faults (S.state shell.new).faults }
     ensures passes { Passes (S.state shell.old) (S.state shell.new) }
 {
-    if line.is_empty() {
-        return Ok(());
+    'lines: loop {
+        match next_line(lines, line) {
+            Ok(Some(cut)) => match answer_line(alloc, tables, cut, line, shell) {
+                Ok(()) => {}
+                Err(fault) => return Err(fault),
+            },
+            Ok(None) => return Ok(()),
+            Err(fault) => return Err(fault),
+        }
     }
-    request(alloc, tables, line, shell)
 }
 
 /// Takes more of the input, and serves the lines that are whole then. It answers whether there was more.
-pub(crate) fn turn<S: Shell>(
+pub(crate) fn pull<S: Shell>(
     alloc: Global,
     tables: &mut Tables,
+    lines: &mut Lines,
     line: &mut Vec<u8>,
     buf: &mut [u8],
     shell: &mut S,
 ) -> Result<bool, RunFault>
-    requires { 0 < length buf.old }
-    ensures turned { MatchResult result
-        (λ more. Calls (S.state shell.old).beside (S.state shell.new).beside (Turns more (state_of tables.old) line.old.items (state_of tables.new) line.new.items))
-        (λ f. Calls (S.state shell.old).beside (S.state shell.new).beside (TurnBreaks (number_of f) (state_of tables.old) line.old.items)) }
-    ensures within { OnOk result ((S.state shell.old).moment < 2 ^ 64 - 1) }
+    requires room { 0 < length buf.old }
+    requires going { (unread lines.old).ended ≡ false }
+    ensures went { (s : State) → Stands (S.state shell.old) tables.old s → MatchResult result
+        (λ more. Reaches (S.state shell.old) (S.state shell.new) tables.new
+            (λ t. GoesOrEnds more s (unread lines.old) t (unread lines.new)))
+        (λ f. Calls (S.state shell.old).beside (S.state shell.new).beside
+            (GoesSome (number_of f) s (unread lines.old))) }
+    ensures going { IfOk result (λ more. more ≡ true → (unread lines.new).ended ≡ false) }
     ensures time { OnOk result ((S.state shell.old).moment < (S.state shell.new).moment) }
+    ensures within { OnOk result ((S.state shell.old).moment < 2 ^ 64 - 1) }
     ensures cause { IsErrOf result RunFault.Failed → Rose (S.state shell.old).faults (S.state shell.new).faults }
     ensures passes { Passes (S.state shell.old) (S.state shell.new) }
 {
@@ -162,9 +168,16 @@ pub(crate) fn turn<S: Shell>(
         return Err(RunFault::Failed);
     };
     if count == 0 {
-        return Ok(false);
+        lines.end();
+        return match at_hand(alloc, tables, lines, line, shell) {
+            Ok(()) => Ok(false),
+            Err(fault) => Err(fault),
+        };
     }
-    match give(alloc, tables, line, &buf[..count], shell) {
+    let Ok(()) = lines.give(&buf[..count]) else {
+        return Err(RunFault::NoMemory);
+    };
+    match at_hand(alloc, tables, lines, line, shell) {
         Ok(()) => Ok(true),
         Err(fault) => Err(fault),
     }

@@ -1,3 +1,5 @@
 mod bodies;
+mod created;
 mod refusals;
 mod rules;
+mod worked;

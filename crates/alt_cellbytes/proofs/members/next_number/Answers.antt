@@ -12,6 +12,8 @@ returns-else-is_next_number-clause-stop c =
       c.in-Ok.rest.now,
       c.in-Ok.ensures.number.0,
       c.in-Ok.ensures.number.1,
-      (λ s. not_both _ c.if-is_next_number.false (c.is_next_number.ensures.1 (subst (λ z. IsSet int_cmp (c.args.set.now ++ z ∷ [])) (search rules) s))),
+      (λ s. not_both _ c.if-is_next_number.false
+          (c.is_next_number.ensures.1 (subst (λ z. IsSet int_cmp (c.args.set.now ++ z ∷ []))
+          (search rules) s))),
       refl,
     )

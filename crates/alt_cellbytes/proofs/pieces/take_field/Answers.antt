@@ -1,12 +1,13 @@
 -- What stands behind a field.
 use Rattle.std.proofs.Common.{arith}
 use Rattle.alt_fields.specs.Field.{field}
-use Rattle.alt_cellbytes.proofs.Cuts.{cut_front}
+use Rattle.alt_fields.proofs.Apart.{cut_front}
 use Rattle.alt_cellbytes.proofs.pieces.take_field.Goals as goal
 
 pub returns-in-Ok-clause-field : goal.returns-in-Ok-clause-field
 returns-in-Ok-clause-field c = (
   omega (arith, c.in-Ok.ensures.ok.1, c.split_at.ensures.back_len),
-  cut_front c.args.bytes.now (field c.in-Ok.content.now) c.split_at.result.1.now c.in-Ok.end c.in-Ok.ensures.ok.0
+  cut_front c.args.bytes.now (field c.in-Ok.content.now) c.split_at.result.1.now c.in-Ok.end
+      c.in-Ok.ensures.ok.0
       (omega (arith, c.in-Ok.ensures.ok.1)) c.split_at.ensures.back,
 )

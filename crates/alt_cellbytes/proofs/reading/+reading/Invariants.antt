@@ -1,15 +1,17 @@
 -- The elements so far, and the bytes behind them; each call has fewer bytes.
-use Rattle.std.proofs.Common.{◌≡◌, ◌+◌, ◌*◌, ◌++◌, length}
+use Rattle.std.proofs.Common.{◌≡◌, ◌≤◌, ◌+◌, ◌*◌, ◌++◌, length}
 use Rattle.std.specs.List.{AllByRecursion, flat_map}
 use Rattle.alt_value.specs.CellBytes.{cell_bytes}
+use Rattle.alt_value.specs.Size.{depth}
 use Rattle.alt_cellbytes.specs.Places.{AreEntries, entry_bytes}
-use Rattle.alt_cellbytes.specs.Values.{IsValue}
+use Rattle.alt_cellbytes.specs.Values.{HasBytes}
 use Rattle.alt_cellbytes.proofs.reading.+reading.Given as goal
 
 abbrev pub invariant-take_elements-loop-done : goal.invariant-take_elements-loop-done
 invariant-take_elements-loop-done l = record {
   count : length l.list ≡ l._done;
-  members : AllByRecursion IsValue l.list;
+  members : AllByRecursion HasBytes l.list;
+  shallow : AllByRecursion (λ t. depth t ≤ l.most) l.list;
   bytes : l.bytes ≡ flat_map cell_bytes l.list ++ l.rest;
 }
 
@@ -17,6 +19,7 @@ abbrev pub invariant-take_entries-loop-done : goal.invariant-take_entries-loop-d
 invariant-take_entries-loop-done l = record {
   count : length l.map ≡ l._done;
   members : AreEntries l.map;
+  shallow : AllByRecursion (λ e. depth e.1 ≤ l.most) l.map;
   bytes : l.bytes ≡ flat_map entry_bytes l.map ++ l.rest;
 }
 

@@ -9,13 +9,15 @@ use Rattle.alt_cellbytes.specs.Places.{entry_bytes}
 use Rattle.alt_cellbytes.proofs.writing.+writing.Given as goal
 
 abbrev pub invariant-put_each_element-loop-place : goal.invariant-put_each_element-loop-place
-invariant-put_each_element-loop-place l = l.out.items ≡ l.fn.out.items ++ flat_map cell_bytes (take l.place l.list)
+invariant-put_each_element-loop-place l = l.out.items
+    ≡ l.fn.out.items ++ flat_map cell_bytes (take l.place l.list)
 
 abbrev pub invariant-put_each_entry-loop-place : goal.invariant-put_each_entry-loop-place
-invariant-put_each_entry-loop-place l = l.out.items ≡ l.fn.out.items ++ flat_map entry_bytes (take l.place l.map)
+invariant-put_each_entry-loop-place l = l.out.items
+    ≡ l.fn.out.items ++ flat_map entry_bytes (take l.place l.map)
 
-abbrev pub decreases-bytes_of : goal.decreases-bytes_of
-decreases-bytes_of l = 3 * depth (tree_of l.a.now) + 1
+abbrev pub decreases-put_value : goal.decreases-put_value
+decreases-put_value l = 3 * depth (tree_of l.a.now) + 1
 
 abbrev pub decreases-put_elements : goal.decreases-put_elements
 decreases-put_elements l = 3 * elements_depth (trees_of l.list.now) + 3

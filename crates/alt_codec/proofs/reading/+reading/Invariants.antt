@@ -7,11 +7,13 @@ use Rattle.alt_codec.proofs.reading.+reading.Given as goal
 
 abbrev pub invariant-elements_at-loop-v : goal.invariant-elements_at-loop-v
 invariant-elements_at-loop-v l =
-    elements_in l.room (items_view l.items) ≡ map_ok (λ ts. l.list ++ ts) (elements_in l.room (items_view (drop l.v-index l.items)))
+    elements_in l.room (items_view l.items) ≡ map_ok (λ ts. l.list ++ ts)
+    (elements_in l.room (items_view (drop l.v-index l.items)))
 
 abbrev pub invariant-fields_at-loop-name : goal.invariant-fields_at-loop-name
 invariant-fields_at-loop-name l =
-    fields_in l.room [] (members_view l.members.entries) ≡ fields_in l.room l.item (members_view l.name-iterator)
+    fields_in l.room [] (members_view l.members.entries)
+    ≡ fields_in l.room l.item (members_view l.name-iterator)
 
 abbrev pub decreases-elements_at : goal.decreases-elements_at
 decreases-elements_at l = 4 * l.room + 4

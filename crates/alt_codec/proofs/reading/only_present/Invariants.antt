@@ -8,4 +8,6 @@ use Rattle.alt_codec.proofs.reading.only_present.Given as goal
 
 abbrev pub invariant-loop-name : goal.invariant-loop-name
 invariant-loop-name l =
-    only_present (members_view l.members.entries) ≡ found_with (option_map (λ p. (p.0.now, view p.1.now)) l.found) (members_view l.name-iterator)
+    only_present (members_view l.members.entries)
+    ≡ found_with (option_map (λ p. (p.0.now, view p.1.now)) l.found)
+    (members_view l.name-iterator)

@@ -7,6 +7,8 @@ use Rattle.alt_codec.proofs.sets.binaries_of.Given as goal
 
 abbrev pub invariant-loop-item : goal.invariant-loop-item
 invariant-loop-item l = record {
-  members : sound binary_in (items_view l.items) ≡ l.binaries.items ++ sound binary_in (items_view (drop l.item-index l.items));
-  fault : first_fault binary_in (items_view l.items) ≡ first_fault binary_in (items_view (drop l.item-index l.items));
+  members : sound binary_in (items_view l.items)
+      ≡ l.binaries.items ++ sound binary_in (items_view (drop l.item-index l.items));
+  fault : first_fault binary_in (items_view l.items)
+      ≡ first_fault binary_in (items_view (drop l.item-index l.items));
 }

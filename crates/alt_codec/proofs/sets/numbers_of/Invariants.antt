@@ -7,6 +7,8 @@ use Rattle.alt_codec.proofs.sets.numbers_of.Given as goal
 
 abbrev pub invariant-loop-item : goal.invariant-loop-item
 invariant-loop-item l = record {
-  members : sound number_in (items_view l.items) ≡ l.numbers.items ++ sound number_in (items_view (drop l.item-index l.items));
-  fault : first_fault number_in (items_view l.items) ≡ first_fault number_in (items_view (drop l.item-index l.items));
+  members : sound number_in (items_view l.items)
+      ≡ l.numbers.items ++ sound number_in (items_view (drop l.item-index l.items));
+  fault : first_fault number_in (items_view l.items)
+      ≡ first_fault number_in (items_view (drop l.item-index l.items));
 }

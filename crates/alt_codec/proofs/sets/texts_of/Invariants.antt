@@ -7,6 +7,8 @@ use Rattle.alt_codec.proofs.sets.texts_of.Given as goal
 
 abbrev pub invariant-loop-item : goal.invariant-loop-item
 invariant-loop-item l = record {
-  members : sound text_in (items_view l.items) ≡ l.texts.items ++ sound text_in (items_view (drop l.item-index l.items));
-  fault : first_fault text_in (items_view l.items) ≡ first_fault text_in (items_view (drop l.item-index l.items));
+  members : sound text_in (items_view l.items)
+      ≡ l.texts.items ++ sound text_in (items_view (drop l.item-index l.items));
+  fault : first_fault text_in (items_view l.items)
+      ≡ first_fault text_in (items_view (drop l.item-index l.items));
 }

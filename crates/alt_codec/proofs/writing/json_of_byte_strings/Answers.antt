@@ -15,9 +15,15 @@ pub loop-place-preserved : goal.loop-place-preserved
 loop-place-preserved c = record {
   written =
       ap (map view) c.in_ok-push.ensures.items
-      ∙ written_more (λ b. string (encode_of standard b)) c.args.set.now c.loop-place.place c.in-Some.bytes.now c.loop-place.values.items (Text c.in_ok-encode.field-0) c.loop-place.invariant.written c.in-Some.ensures.member (text_written c.in_ok-encode.field-0 (encode_of standard c.in-Some.bytes.now) c.in_ok-encode.ensures.text);
-  returns = each_more BytesReturn c.args.set.now c.loop-place.place c.in-Some.bytes.now c.loop-place.invariant.returns c.in-Some.ensures.member
-      (bytes_back _ c.in-Some.bytes.now c.in_ok-encode.ensures.text c.in_ok-encode.ensures.round_trip);
+      ∙ written_more (λ b. string (encode_of standard b)) c.args.set.now c.loop-place.place
+      c.in-Some.bytes.now c.loop-place.values.items
+      (Text c.in_ok-encode.field-0) c.loop-place.invariant.written c.in-Some.ensures.member
+      (text_written c.in_ok-encode.field-0
+      (encode_of standard c.in-Some.bytes.now) c.in_ok-encode.ensures.text);
+  returns = each_more BytesReturn c.args.set.now c.loop-place.place c.in-Some.bytes.now
+      c.loop-place.invariant.returns c.in-Some.ensures.member
+      (bytes_back _ c.in-Some.bytes.now c.in_ok-encode.ensures.text
+      c.in_ok-encode.ensures.round_trip);
 }
 
 pub returns-clause-json : goal.returns-clause-json
@@ -25,8 +31,12 @@ returns-clause-json c =
     let ss = c.args.set.now in
     let i = c.loop-place.place in
     elim c.loop-place-test.branch [
-      | else-loop-place-test w ↦ written_whole (λ b. string (encode_of standard b)) ss i c.loop-place.values.items c.loop-place.invariant.written (omega (arith, c.len-place-end.ensures.count))
-      | then-loop-place-test+in_default w ↦ written_whole (λ b. string (encode_of standard b)) ss i c.loop-place.values.items c.loop-place.invariant.written (past_end ss i w.in_default.ensures.member)
+      | else-loop-place-test w ↦ written_whole
+          (λ b. string (encode_of standard b)) ss i c.loop-place.values.items
+          c.loop-place.invariant.written (omega (arith, c.len-place-end.ensures.count))
+      | then-loop-place-test+in_default w ↦ written_whole
+          (λ b. string (encode_of standard b)) ss i c.loop-place.values.items
+          c.loop-place.invariant.written (past_end ss i w.in_default.ensures.member)
     ] ∙ items_of-texts (encode_of standard) ss
 
 pub returns-clause-read_back : goal.returns-clause-read_back
@@ -34,6 +44,8 @@ returns-clause-read_back c =
     let ss = c.args.set.now in
     let i = c.loop-place.place in
     binaries_return ss c.len-place-end.ensures.rising (elim c.loop-place-test.branch [
-      | else-loop-place-test w ↦ each_whole BytesReturn ss i c.loop-place.invariant.returns (omega (arith, c.len-place-end.ensures.count))
-      | then-loop-place-test+in_default w ↦ each_whole BytesReturn ss i c.loop-place.invariant.returns (past_end ss i w.in_default.ensures.member)
+      | else-loop-place-test w ↦ each_whole BytesReturn ss i c.loop-place.invariant.returns
+          (omega (arith, c.len-place-end.ensures.count))
+      | then-loop-place-test+in_default w ↦ each_whole BytesReturn ss i
+          c.loop-place.invariant.returns (past_end ss i w.in_default.ensures.member)
     ])

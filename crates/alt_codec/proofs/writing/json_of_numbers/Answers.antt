@@ -14,8 +14,13 @@ pub loop-place-preserved : goal.loop-place-preserved
 loop-place-preserved c = record {
   written =
       ap (map view) c.in_ok-push.ensures.items
-      ∙ written_more (λ z. string (printed z)) c.args.set.now c.loop-place.place c.in-Some.number c.loop-place.values.items (Text c.in_ok-number_text.field-0) c.loop-place.invariant.written c.in-Some.ensures.member (text_written c.in_ok-number_text.field-0 (printed c.in-Some.number) c.in_ok-number_text.ensures.text);
-  returns = each_more NumberReturns c.args.set.now c.loop-place.place c.in-Some.number c.loop-place.invariant.returns c.in-Some.ensures.member
+      ∙ written_more (λ z. string (printed z)) c.args.set.now c.loop-place.place c.in-Some.number
+      c.loop-place.values.items (Text c.in_ok-number_text.field-0)
+      c.loop-place.invariant.written c.in-Some.ensures.member
+      (text_written c.in_ok-number_text.field-0
+      (printed c.in-Some.number) c.in_ok-number_text.ensures.text);
+  returns = each_more NumberReturns c.args.set.now c.loop-place.place c.in-Some.number
+      c.loop-place.invariant.returns c.in-Some.ensures.member
       (c.in_ok-number_text.ensures.read_back);
 }
 
@@ -24,8 +29,12 @@ returns-clause-json c =
     let ss = c.args.set.now in
     let i = c.loop-place.place in
     elim c.loop-place-test.branch [
-      | else-loop-place-test w ↦ written_whole (λ z. string (printed z)) ss i c.loop-place.values.items c.loop-place.invariant.written (omega (arith, c.len-place-end.ensures.count))
-      | then-loop-place-test+in_default w ↦ written_whole (λ z. string (printed z)) ss i c.loop-place.values.items c.loop-place.invariant.written (past_end ss i w.in_default.ensures.member)
+      | else-loop-place-test w ↦ written_whole
+          (λ z. string (printed z)) ss i c.loop-place.values.items c.loop-place.invariant.written
+          (omega (arith, c.len-place-end.ensures.count))
+      | then-loop-place-test+in_default w ↦ written_whole
+          (λ z. string (printed z)) ss i c.loop-place.values.items c.loop-place.invariant.written
+          (past_end ss i w.in_default.ensures.member)
     ] ∙ items_of-texts printed ss
 
 pub returns-clause-read_back : goal.returns-clause-read_back
@@ -33,6 +42,8 @@ returns-clause-read_back c =
     let ss = c.args.set.now in
     let i = c.loop-place.place in
     numbers_return ss c.len-place-end.ensures.rising (elim c.loop-place-test.branch [
-      | else-loop-place-test w ↦ each_whole NumberReturns ss i c.loop-place.invariant.returns (omega (arith, c.len-place-end.ensures.count))
-      | then-loop-place-test+in_default w ↦ each_whole NumberReturns ss i c.loop-place.invariant.returns (past_end ss i w.in_default.ensures.member)
+      | else-loop-place-test w ↦ each_whole NumberReturns ss i c.loop-place.invariant.returns
+          (omega (arith, c.len-place-end.ensures.count))
+      | then-loop-place-test+in_default w ↦ each_whole NumberReturns ss i
+          c.loop-place.invariant.returns (past_end ss i w.in_default.ensures.member)
     ])

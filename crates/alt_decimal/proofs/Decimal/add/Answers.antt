@@ -16,10 +16,20 @@ sum_zero d n = rw (plus_zero (units_of d)) (fitted_units-Fits (units_of d) (Fits
 
 pub returns-then-self-eq0 : goal.returns-then-self-eq0
 returns-then-self-eq0 c =
-    rw (← c.self.view_is, ← c.other.view_is, units_of-zero c.self.inside c.self.invariant c.if-self-eq0.true)
+    rw (
+      ← c.self.view_is,
+      ← c.other.view_is,
+      units_of-zero c.self.inside c.self.invariant
+          c.if-self-eq0.true,
+    )
     (sym (zero_sum c.other.inside c.other.invariant))
 
 pub returns-then-other-eq0 : goal.returns-then-other-eq0
 returns-then-other-eq0 c =
-    rw (← c.self.view_is, ← c.other.view_is, units_of-zero c.other.inside c.other.invariant c.if-other-eq0.true)
+    rw (
+      ← c.self.view_is,
+      ← c.other.view_is,
+      units_of-zero c.other.inside c.other.invariant
+          c.if-other-eq0.true,
+    )
     (sym (sum_zero c.self.inside c.self.invariant))

@@ -12,11 +12,17 @@ returns-then-self-eq0-clause-count c =
 pub returns-else-self-eq0-clause-count : goal.returns-else-self-eq0-clause-count
 returns-else-self-eq0-clause-count c =
     let above : 0 < c.self.inside.coefficient = omega arith in
-    rw (← c.self.view_is) (c.width.ensures.digits ∙ sym (digit_count-units_of c.self.inside c.self.invariant above))
+    rw (← c.self.view_is) (c.width.ensures.digits
+    ∙ sym (digit_count-units_of c.self.inside c.self.invariant above))
 
 pub returns-else-self-eq0-clause-few : goal.returns-else-self-eq0-clause-few
 returns-else-self-eq0-clause-few c =
-    omega (arith, width-le 38 c.self.inside.coefficient c.self.invariant.digits, c.width.ensures.digits)
+    omega (
+      arith,
+      width-le 38 c.self.inside.coefficient c.self.invariant.digits,
+      c.width.ensures.digits,
+    )
 
 pub returns-else-self-eq0-clause-fits : goal.returns-else-self-eq0-clause-fits
-returns-else-self-eq0-clause-fits c = rw (← c.self.view_is) (Fits-units_of c.self.inside c.self.invariant)
+returns-else-self-eq0-clause-fits c = rw (← c.self.view_is)
+    (Fits-units_of c.self.inside c.self.invariant)

@@ -14,27 +14,45 @@ use Rattle.alt_decimal.proofs.Widths.{width-le, width-pos, mul-lt, mul-width_gt,
 use Rattle.alt_decimal.proofs.Decimal.print.Goals as goal
 
 pub overflow_sub-count : goal.overflow_sub-count
-overflow_sub-count c = omega (arith, width-le 38 c.self.inside.coefficient c.self.invariant.digits, c.width-count.ensures.digits)
+overflow_sub-count c = omega (
+  arith,
+  width-le 38 c.self.inside.coefficient c.self.invariant.digits,
+  c.width-count.ensures.digits,
+)
 
 pub filled-requires : goal.filled-requires
-filled-requires c = omega (arith, width-le 38 c.self.inside.coefficient c.self.invariant.digits, c.width-count.ensures.digits)
+filled-requires c = omega (
+  arith,
+  width-le 38 c.self.inside.coefficient c.self.invariant.digits,
+  c.width-count.ensures.digits,
+)
 
 pub spread-digits-requires-clause-few : goal.spread-digits-requires-clause-few
 spread-digits-requires-clause-few c =
     let k = 38 - c.width-count.result in
     let few : width c.self.inside.coefficient + k ≤ 38 =
-    omega (arith, width-le 38 c.self.inside.coefficient c.self.invariant.digits, c.width-count.ensures.digits) in
+    omega (
+      arith,
+      width-le 38 c.self.inside.coefficient c.self.invariant.digits,
+      c.width-count.ensures.digits,
+    ) in
     rw c.filled.ensures (mul-lt c.self.inside.coefficient k 38 few)
 
 spread_length : (ds : List ℕ) (n : ℕ) → ds ≡ glyphs 48 (padded 38 n) → length ds ≡ 38
 spread_length ds n e = ap length e ∙ length-glyphs 48 (padded 38 n) ∙ length-padded 38 n
 
-front_is : (c w f : ℕ) (ds : List ℕ) → w ≡ width c → w ≤ 38 → f ≡ c * 10 ^ (38 - w) → ds ≡ glyphs 48 (padded 38 f) → take w ds ≡ digits_text c
+front_is : (c w f : ℕ) (ds : List ℕ) → w ≡ width c → w ≤ 38 → f ≡ c * 10 ^ (38 - w)
+    → ds ≡ glyphs 48 (padded 38 f) → take w ds ≡ digits_text c
 front_is c w f ds e few filled is = rw (is, filled) (front_digits c w e few)
 
 pub slice_bounds-digits-end : goal.slice_bounds-digits-end
 slice_bounds-digits-end c =
-    omega (arith, spread_length c.spread-digits.result _ c.spread-digits.ensures, width-le 38 c.self.inside.coefficient c.self.invariant.digits, c.width-count.ensures.digits)
+    omega (
+      arith,
+      spread_length c.spread-digits.result _ c.spread-digits.ensures,
+      width-le 38 c.self.inside.coefficient c.self.invariant.digits,
+      c.width-count.ensures.digits,
+    )
 
 pub slice_bounds-put_magnitude-end-2 : goal.slice_bounds-put_magnitude-end-2
 slice_bounds-put_magnitude-end-2 c =
@@ -81,27 +99,41 @@ put_magnitude-requires-clause-below c =
     )
 
 -- what was written, piece by piece
-pieces : (d : Inside) (z : ℤ) (n : IsNormal d) (front digits : List ℕ) → units_of d ≡ z → 0 < d.coefficient → front ≡ minus_if d.negative → digits ≡ digits_text d.coefficient
+pieces : (d : Inside) (z : ℤ) (n : IsNormal d) (front digits : List ℕ) → units_of d ≡ z
+    → 0 < d.coefficient → front ≡ minus_if d.negative → digits ≡ digits_text d.coefficient
     → front ++ magnitude_text digits d.zeros ≡ printed z
 pieces d z n front digits view above e1 e2 = rw (e1, e2, ← view) (sym (printed-units_of d n above))
 
 pub returns-clause-text : goal.returns-clause-text
 returns-clause-text c =
     let above : 0 < c.self.inside.coefficient = omega arith in
-    let few : c.width-count.result ≤ 38 = omega (arith, width-le 38 c.self.inside.coefficient c.self.invariant.digits, c.width-count.ensures.digits) in
-    let digits = front_is c.self.inside.coefficient c.width-count.result c.filled.result c.spread-digits.result
+    let few : c.width-count.result ≤ 38 = omega (
+      arith,
+      width-le 38 c.self.inside.coefficient c.self.invariant.digits,
+      c.width-count.ensures.digits,
+    ) in
+    let digits = front_is c.self.inside.coefficient c.width-count.result c.filled.result
+    c.spread-digits.result
     c.width-count.ensures.digits few c.filled.ensures c.spread-digits.ensures in
-    c.put_magnitude.ensures.text ∙ pieces c.self.inside c.args.self.now c.self.invariant _ _ c.self.view_is above c.put_sign-at.ensures.text digits
+    c.put_magnitude.ensures.text ∙ pieces c.self.inside c.args.self.now c.self.invariant _ _
+    c.self.view_is above c.put_sign-at.ensures.text digits
 
 pub returns-clause-length : goal.returns-clause-length
 returns-clause-length c =
     let above : 0 < c.self.inside.coefficient = omega arith in
-    let few : c.width-count.result ≤ 38 = omega (arith, width-le 38 c.self.inside.coefficient c.self.invariant.digits, c.width-count.ensures.digits) in
-    let digits = front_is c.self.inside.coefficient c.width-count.result c.filled.result c.spread-digits.result
+    let few : c.width-count.result ≤ 38 = omega (
+      arith,
+      width-le 38 c.self.inside.coefficient c.self.invariant.digits,
+      c.width-count.ensures.digits,
+    ) in
+    let digits = front_is c.self.inside.coefficient c.width-count.result c.filled.result
+    c.spread-digits.result
     c.width-count.ensures.digits few c.filled.ensures c.spread-digits.ensures in
     let front = take c.width-count.result c.spread-digits.result in
-    let whole : minus_if c.self.inside.negative ++ magnitude_text front c.self.inside.zeros ≡ printed c.args.self.now =
-    pieces c.self.inside c.args.self.now c.self.invariant (minus_if c.self.inside.negative) front c.self.view_is above refl digits in
+    let whole : minus_if c.self.inside.negative ++ magnitude_text front c.self.inside.zeros
+    ≡ printed c.args.self.now =
+    pieces c.self.inside c.args.self.now c.self.invariant
+    (minus_if c.self.inside.negative) front c.self.view_is above refl digits in
     omega (
       arith,
       c.put_magnitude.ensures.end,
@@ -112,15 +144,20 @@ returns-clause-length c =
 
 pub returns-then-self-eq0-clause-length : goal.returns-then-self-eq0-clause-length
 returns-then-self-eq0-clause-length c =
-    c.put.ensures.end ∙ sym (ap length (ap printed (sym c.self.view_is ∙ units_of-zero c.self.inside c.self.invariant c.if-self-eq0.true) ∙ printed-zero))
+    c.put.ensures.end ∙ sym (ap length (ap printed
+    (sym c.self.view_is ∙ units_of-zero c.self.inside c.self.invariant c.if-self-eq0.true)
+    ∙ printed-zero))
 
 pub returns-then-self-eq0-clause-text : goal.returns-then-self-eq0-clause-text
 returns-then-self-eq0-clause-text c =
-    c.put.ensures.text ∙ sym (ap printed (sym c.self.view_is ∙ units_of-zero c.self.inside c.self.invariant c.if-self-eq0.true) ∙ printed-zero)
+    c.put.ensures.text ∙ sym (ap printed (sym c.self.view_is
+    ∙ units_of-zero c.self.inside c.self.invariant c.if-self-eq0.true) ∙ printed-zero)
 
 pub returns-clause-denotes : goal.returns-clause-denotes
-returns-clause-denotes c = rw (← c.self.view_is) (reads_units c.self.inside c.self.invariant (omega arith))
+returns-clause-denotes c = rw (← c.self.view_is)
+    (reads_units c.self.inside c.self.invariant (omega arith))
 
 pub returns-then-self-eq0-clause-denotes : goal.returns-then-self-eq0-clause-denotes
 returns-then-self-eq0-clause-denotes c =
-    rw (← c.self.view_is, units_of-zero c.self.inside c.self.invariant c.if-self-eq0.true) reads_zero
+    rw (← c.self.view_is, units_of-zero c.self.inside c.self.invariant c.if-self-eq0.true)
+    reads_zero

@@ -6,7 +6,8 @@ use Rattle.alt_decimal.proofs.digits.append.Goals as goal
 pub append_half-requires-else-digits-le19-clause-room : goal.append_half-requires-else-digits-le19-clause-room
 append_half-requires-else-digits-le19-clause-room c =
     let parts = c.split_at.ensures.by_index.0 in
-    HasRoom-front c.args.c c.split_at.result.0.now c.split_at.result.1.now (rw (← parts) c.requires.room)
+    HasRoom-front c.args.c c.split_at.result.0.now c.split_at.result.1.now
+    (rw (← parts) c.requires.room)
 
 pub append_half-requires-else-digits-le19-2-clause-digits : goal.append_half-requires-else-digits-le19-2-clause-digits
 append_half-requires-else-digits-le19-2-clause-digits c =
@@ -15,14 +16,20 @@ append_half-requires-else-digits-le19-2-clause-digits c =
 
 pub append_half-requires-else-digits-le19-2-clause-few : goal.append_half-requires-else-digits-le19-2-clause-few
 append_half-requires-else-digits-le19-2-clause-few c =
-    omega (arith, c.split_at.ensures.back_len, few_digits c.args.c c.args.digits.now c.requires.room)
+    omega (
+      arith,
+      c.split_at.ensures.back_len,
+      few_digits c.args.c c.args.digits.now c.requires.room,
+    )
 
 pub append_half-requires-else-digits-le19-2-clause-room : goal.append_half-requires-else-digits-le19-2-clause-room
 append_half-requires-else-digits-le19-2-clause-room c =
     let parts = c.split_at.ensures.by_index.0 in
-    let front : AllDigits 10 c.split_at.result.0.now = AllDigits-front _ c.split_at.result.1.now (rw (← parts) c.requires.digits) in
+    let front : AllDigits 10 c.split_at.result.0.now =
+    AllDigits-front _ c.split_at.result.1.now (rw (← parts) c.requires.digits) in
     rw c.append_half-else-digits-le19.ensures
-    (HasRoom-back c.args.c c.split_at.result.0.now c.split_at.result.1.now front (rw (← parts) c.requires.room))
+    (HasRoom-back c.args.c c.split_at.result.0.now c.split_at.result.1.now front
+    (rw (← parts) c.requires.room))
 
 pub returns-else-digits-le19 : goal.returns-else-digits-le19
 returns-else-digits-le19 c =
@@ -30,4 +37,5 @@ returns-else-digits-le19 c =
     let ys = c.split_at.result.1.now in
     c.append_half-else-digits-le19-2.ensures
     ∙ ap (λ (v : ℕ). digits_value_after 10 v ys) c.append_half-else-digits-le19.ensures
-    ∙ sym (value_append c.args.c xs ys) ∙ ap (λ (ds : List ℕ). digits_value_after 10 c.args.c ds) (sym c.split_at.ensures.by_index.0)
+    ∙ sym (value_append c.args.c xs ys) ∙ ap (λ (ds : List ℕ). digits_value_after 10 c.args.c ds)
+    (sym c.split_at.ensures.by_index.0)

@@ -3,4 +3,5 @@ use Rattle.alt_decimal.proofs.Values.{value_after}
 use Rattle.alt_decimal.proofs.digits.append_half.Goals as goal
 
 pub returns : goal.returns
-returns c = rw (c.power.ensures, c.half_value.ensures) (sym (value_after c.args.c c.args.digits.now))
+returns c = rw (c.power.ensures, c.half_value.ensures)
+    (sym (value_after c.args.c c.args.digits.now))

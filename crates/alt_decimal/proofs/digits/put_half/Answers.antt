@@ -15,7 +15,10 @@ loop-at-preserved c =
     let out = c.loop-at.out in
     let invariant = c.loop-at.invariant in
     record {
-      written = put_step c.args.zero c.args.n at _ out (omega arith) invariant.within invariant.written (ap (λ (r : ℕ). c.args.zero + r % 10) invariant.left);
-      left = ap (λ (r : ℕ). r / 10) invariant.left ∙ left_step c.args.n at _ out (omega arith) invariant.within;
+      written = put_step c.args.zero c.args.n at _ out
+          (omega arith) invariant.within invariant.written
+          (ap (λ (r : ℕ). c.args.zero + r % 10) invariant.left);
+      left = ap (λ (r : ℕ). r / 10) invariant.left
+          ∙ left_step c.args.n at _ out (omega arith) invariant.within;
       within = omega (arith, length-set {A = ℕ});
     }

@@ -16,4 +16,5 @@ returns-else-low-eq0-clause-value c =
 pub returns-else-low-eq0-clause-last : goal.returns-else-low-eq0-clause-last
 returns-else-low-eq0-clause-last c =
     let half = c.stripped_half-c-else-low-eq0 in
-    rw c.power.ensures (last_high (c.args.n / 10 ^ 19) half.result.0 half.result.1 half.ensures.last half.ensures.bound)
+    rw c.power.ensures (last_high (c.args.n / 10 ^ 19) half.result.0 half.result.1 half.ensures.last
+    half.ensures.bound)

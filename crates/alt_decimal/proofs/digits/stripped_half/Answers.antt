@@ -7,7 +7,8 @@ loop-c-preserved c =
     let n = c.loop-c.c in
     let z = c.loop-c.zeros in
     let above : 0 < n / 10 = omega (arith, c.loop-c.invariant.above) in
-    let value : c.args.n ≡ n / 10 * 10 ^ (z + 1) = c.loop-c.invariant.value ∙ mul-ten_less n z c.loop-c-test.true in
+    let value : c.args.n ≡ n / 10 * 10 ^ (z + 1) =
+    c.loop-c.invariant.value ∙ mul-ten_less n z c.loop-c-test.true in
     record {
       value = value;
       above = above;

@@ -5,8 +5,10 @@ use Rattle.alt_decimal.proofs.read.digits_end.Goals as goal
 
 pub returns-then-not-is_ascii_digit-clause-count : goal.returns-then-not-is_ascii_digit-clause-count
 returns-then-not-is_ascii_digit-clause-count c =
-    sym (prefix_len_is is_ascii_digit c.args.text.now c.loop-i.i 0 (omega arith) c.loop-i.invariant (λ _. sym c.if-not-is_ascii_digit.ensures.value))
+    sym (prefix_len_is is_ascii_digit c.args.text.now c.loop-i.i 0 (omega arith) c.loop-i.invariant
+    (λ _. sym c.if-not-is_ascii_digit.ensures.value))
 
 pub returns-clause-count : goal.returns-clause-count
 returns-clause-count c =
-    sym (prefix_len_is is_ascii_digit c.args.text.now (length c.args.text.now) 0 (omega arith) (λ k h. c.loop-i.invariant k (omega arith)) (λ h. absurd (omega arith)))
+    sym (prefix_len_is is_ascii_digit c.args.text.now (length c.args.text.now) 0 (omega arith)
+    (λ k h. c.loop-i.invariant k (omega arith)) (λ h. absurd (omega arith)))

@@ -16,13 +16,19 @@ returns-then-below c =
     let places = length c.args.fraction.now in
     let above : 0 < c.in-Some.c.0 = omega (arith, c.if-c-eq0.false) in
     rw c.if-below.true
-    (c.fit.ensures ∙ ap (λ (tens : ℕ). fitted (number c.args.negative c.in-Some.c.0 c.in-Some.c.1 (tens + places))) c.exponent_value-tens.ensures
-    ∙ number_below c.args.negative _ _ _ c.in-Some.ensures (digits_value 10 c.args.exponent.now) places (omega arith) above)
+    (c.fit.ensures ∙ ap (λ (tens : ℕ). fitted
+    (number c.args.negative c.in-Some.c.0 c.in-Some.c.1 (tens + places)))
+    c.exponent_value-tens.ensures
+    ∙ number_below c.args.negative _ _ _ c.in-Some.ensures
+    (digits_value 10 c.args.exponent.now) places (omega arith) above)
 
 pub returns-else-below : goal.returns-else-below
 returns-else-below c =
     let places = length c.args.fraction.now in
     let above : 0 < c.in-Some.c.0 = omega (arith, c.if-c-eq0.false) in
     rw c.if-below.false
-    (c.fit-else-below.ensures ∙ ap (λ (tens : ℕ). fitted (number c.args.negative c.in-Some.c.0 (c.in-Some.c.1 + tens) places)) c.exponent_value-tens.ensures
-    ∙ number_above c.args.negative _ _ _ c.in-Some.ensures (digits_value 10 c.args.exponent.now) places (omega arith) above)
+    (c.fit-else-below.ensures ∙ ap (λ (tens : ℕ). fitted
+    (number c.args.negative c.in-Some.c.0 (c.in-Some.c.1 + tens) places))
+    c.exponent_value-tens.ensures
+    ∙ number_above c.args.negative _ _ _ c.in-Some.ensures
+    (digits_value 10 c.args.exponent.now) places (omega arith) above)

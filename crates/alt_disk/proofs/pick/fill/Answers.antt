@@ -11,11 +11,16 @@ returns-clause-bytes c =
     let known = c.as_slice.result.now in
     let first = c.length_past-past.new.choice.rest.now in
     let past = c.length_past-past.result in
-    let front : c.fill_known.new.bytes.items ≡ filled known first = c.in_ok-fill_known.ensures.bytes ∙ ap (λ (l : List ℕ). l ++ filled known first) c.new-bytes.ensures.items in
+    let front : c.fill_known.new.bytes.items ≡ filled known first =
+    c.in_ok-fill_known.ensures.bytes ∙ ap
+    (λ (l : List ℕ). l ++ filled known first) c.new-bytes.ensures.items in
     let both : c.fill_open.new.bytes.items ≡ filled (known ++ open_bytes past) first =
-    c.in_ok-fill_open.ensures.bytes ∙ (λ i. front i ++ filled (open_bytes past) (c.in_ok-fill_known.ensures.rest i)) ∙ sym (filled-append known (open_bytes past) first) in
+    c.in_ok-fill_open.ensures.bytes ∙ (λ i. front i
+    ++ filled (open_bytes past) (c.in_ok-fill_known.ensures.rest i))
+    ∙ sym (filled-append known (open_bytes past) first) in
     let whole : c.fill_open.new.bytes.items ≡ filled (laid g choice) (behind_length g choice) =
-    both ∙ (λ i. filled (c.as_slice.ensures.value i ++ open_bytes (c.length_past-past.ensures.past i)) (c.length_past-past.ensures.rest i)) in
+    both ∙ (λ i. filled (c.as_slice.ensures.value i
+    ++ open_bytes (c.length_past-past.ensures.past i)) (c.length_past-past.ensures.rest i)) in
     ap (λ (l : List ℕ). Some l) whole
 
 pub returns-clause-rest : goal.returns-clause-rest
@@ -23,5 +28,7 @@ returns-clause-rest c =
     let known = c.as_slice.result.now in
     let first = c.length_past-past.new.choice.rest.now in
     let past = c.length_past-past.result in
-    c.in_ok-fill_open.ensures.rest ∙ ap (λ (l : List ℕ). behind_filled (open_bytes past) l) c.in_ok-fill_known.ensures.rest ∙ sym (behind-append known (open_bytes past) first)
-    ∙ (λ i. behind_filled (c.as_slice.ensures.value i ++ open_bytes (c.length_past-past.ensures.past i)) (c.length_past-past.ensures.rest i))
+    c.in_ok-fill_open.ensures.rest ∙ ap (λ (l : List ℕ). behind_filled (open_bytes past) l)
+    c.in_ok-fill_known.ensures.rest ∙ sym (behind-append known (open_bytes past) first)
+    ∙ (λ i. behind_filled (c.as_slice.ensures.value i
+    ++ open_bytes (c.length_past-past.ensures.past i)) (c.length_past-past.ensures.rest i))

@@ -8,6 +8,8 @@ use Rattle.alt_disk.proofs.pick.may_be_missing.Goals as goal
 
 pub returns-in-Some : goal.returns-in-Some
 returns-in-Some c =
-    c.has_none.ensures ∙ ap (λ (others : List (Option Outline)). list_any (λ other. is_none other) others) c.as_slice.ensures.value
+    c.has_none.ensures ∙ ap (λ (others : List (Option Outline)). list_any
+    (λ other. is_none other) others) c.as_slice.ensures.value
     ∙ any_is c.args.trace.now.others.items
-    ∙ ap (λ (last : Option Outline). is_missing (option_shape last) || any_missing (map option_shape c.args.trace.now.others.items)) (sym c.in-Some.is)
+    ∙ ap (λ (last : Option Outline). is_missing (option_shape last) || any_missing
+    (map option_shape c.args.trace.now.others.items)) (sym c.in-Some.is)

@@ -20,6 +20,10 @@ listed_is f (n ∷ ns) = λ i. equal_is f n i || listed_is f ns i
 pub returns-clause-all : goal.returns-clause-all
 returns-clause-all c = IfOk-weaker c.keys_of.result
     (λ (numbers : Vec ℕ Global). numbers.items ≡ keys c.in_ok-set.set)
-    (λ (numbers : Vec ℕ Global). All {X = Made} (λ made. list_any {X = ℕ} (λ g. made.file == g) numbers.items ≡ true) c.args.calls.now)
-    (λ numbers is k d less. ap (λ (l : List ℕ). list_any (λ g. (slice_index_or c.args.calls.now k d).file == g) l) is ∙ listed_is (slice_index_or c.args.calls.now k d).file (keys c.in_ok-set.set) ∙ c.in_ok-set.ensures k d less)
+    (λ (numbers : Vec ℕ Global). All {X = Made}
+    (λ made. list_any {X = ℕ} (λ g. made.file == g) numbers.items ≡ true) c.args.calls.now)
+    (λ numbers is k d less. ap (λ (l : List ℕ). list_any
+    (λ g. (slice_index_or c.args.calls.now k d).file == g) l) is
+    ∙ listed_is (slice_index_or c.args.calls.now k d).file (keys c.in_ok-set.set)
+    ∙ c.in_ok-set.ensures k d less)
     c.keys_of.ensures.keys

@@ -19,9 +19,13 @@ loop-made-preserved c k d less =
     ⊎_elim
     (λ (same : k ≡ c.loop-made.made-index).
     let is : (slice_index_or calls k d).file ≡ c.made-item.result.file =
-    ap (λ (i : ℕ). (slice_index_or calls i d).file) same ∙ ap (λ (m : Made). m.file) (get_or-any calls c.loop-made.made-index d c.made-item.result (omega arith) ∙ sym c.made-item.is) in
+    ap (λ (i : ℕ). (slice_index_or calls i d).file) same
+    ∙ ap (λ (m : Made). m.file) (get_or-any calls c.loop-made.made-index d c.made-item.result
+    (omega arith) ∙ sym c.made-item.is) in
     subst Has (sym is) updates.1)
     (λ (other : k ≢ c.loop-made.made-index).
     let f = (slice_index_or calls k d).file in
-    updates.0 f ∙ either_true (is_at (nat_cmp c.made-item.result.file) f) (contains nat_cmp c.loop-made.set f) (c.loop-made.invariant k d (omega (arith, less, other))))
+    updates.0 f ∙ either_true (is_at (nat_cmp c.made-item.result.file) f)
+    (contains nat_cmp c.loop-made.set f) (c.loop-made.invariant k d
+    (omega (arith, less, other))))
     (cases_eq k c.loop-made.made-index)

@@ -3,12 +3,14 @@ use Rattle.alt_disk.proofs.Picking.{opened-nothing, opened-more, opened-within}
 use Rattle.alt_disk.proofs.trace.open_range.Goals as goal
 
 pub loop-i-init : goal.loop-i-init
-loop-i-init c = sym (opened-nothing c.min-from.result (c.min-from.result - c.min-from.result) c.args.outline.known.items (omega arith))
+loop-i-init c = sym (opened-nothing c.min-from.result
+    (c.min-from.result - c.min-from.result) c.args.outline.known.items (omega arith))
 
 pub loop-i-preserved : goal.loop-i-preserved
 loop-i-preserved c =
     let known = c.args.outline.known.items in
-    ap (λ (l : List (Option ℕ)). slice_set l c.loop-i.i None) c.loop-i.invariant ∙ opened-more known c.min-from.result c.loop-i.i (omega arith) (omega arith)
+    ap (λ (l : List (Option ℕ)). slice_set l c.loop-i.i None) c.loop-i.invariant
+    ∙ opened-more known c.min-from.result c.loop-i.i (omega arith) (omega arith)
 
 pub returns-clause-known : goal.returns-clause-known
 returns-clause-known c =

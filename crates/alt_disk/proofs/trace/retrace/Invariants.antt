@@ -5,4 +5,5 @@ use Rattle.alt_disk.proofs.trace.retrace.Given as goal
 
 -- what is found so far goes on to what is found in all
 abbrev pub invariant-loop-made : goal.invariant-loop-made
-invariant-loop-made l = replay l.f (track_of l.found) (until l.moment (drop l.made-index l.calls)) ≡ at_moment l.moment l.f l.calls
+invariant-loop-made l = replay l.f (track_of l.found) (until l.moment (drop l.made-index l.calls))
+    ≡ at_moment l.moment l.f l.calls

@@ -12,7 +12,8 @@ returns-in_err-chunk-clause-again c = λ v fits stands.
 
 pub returns-clause-ok : goal.returns-clause-ok
 returns-clause-ok c = (
-  stands_8 c.args.bytes.now c.args.at c.from_be_bytes.result (λ i. omega (arith, c.type_inv.bytes i)) c.in_ok-chunk.ensures.ok.1
+  stands_8 c.args.bytes.now c.args.at c.from_be_bytes.result
+      (λ i. omega (arith, c.type_inv.bytes i)) c.in_ok-chunk.ensures.ok.1
       (c.from_be_bytes.ensures ∙ ap (from_be_bytes w64) c.in_ok-chunk.ensures.ok.0),
   refl,
 )

@@ -3,9 +3,12 @@ use Rattle.std.specs.List.{All}
 use Rattle.alt_disk.specs.Disk.{DiskState, contents, bytes_or_none}
 use Rattle.alt_disk.proofs.Calls.{goes_on}
 use Rattle.alt_disk.proofs.Runs.{quiet_then}
+use Rattle.alt_gatelog.specs.Log.{first_form}
 use Rattle.alt_gatelog.specs.Parse.{GateIs, HasRoom, HasEntry, IsCutAt}
 use Rattle.alt_gatelog.specs.declared.frame.Gate.TheVariants.{Open}
 use Rattle.alt_gatelog.proofs.Append.{below_push}
+use Rattle.alt_gatelog.specs.declared.fault.LogFault.TheVariants.{Failed}
+use Rattle.alt_gatelog.proofs.Around.{ok_is_none}
 use Rattle.alt_gatelog.proofs.Entries.{ReadSoFar, read_more, cut_explains}
 use Rattle.alt_gatelog.proofs.read.walk.Goals as goal
 
@@ -17,8 +20,10 @@ returns-in-Err-clause-damaged g c told =
     let inv = c.gates.invariant in
     let told_b : IsTrue b.tells = subst (λ v. IsTrue v) (sym inv.goes.tells) told in
     let same : contents b f ≡ contents a f = ap bytes_or_none ((inv.quiet told).file f) in
-    let cut = subst (λ (bytes : List ℕ). IsCutAt f c.gates.at bytes c.in-Err.fault) same (c.in-Err.ensures.damaged told_b (c.requires.size told ∙ ap length (sym same))) in
-    cut_explains f c.gates.at (contents a f) c.gates.places.items c.in-Err.fault (inv.read told) cut
+    let cut = subst (λ (bytes : List ℕ). IsCutAt f c.gates.at bytes c.in-Err.fault) same
+    (c.in-Err.ensures.damaged told_b (c.requires.size told ∙ ap length (sym same))) in
+    cut_explains first_form f c.gates.at (contents a f) c.gates.places.items c.in-Err.fault
+    (inv.read told) cut
 
 pub gates-preserved : goal.gates-preserved
 gates-preserved g c =
@@ -35,12 +40,19 @@ gates-preserved g c =
     let same = λ (told : IsTrue a.tells). ap bytes_or_none ((inv.quiet told).file f) in
     record {
       within = omega (arith, room, inv.within);
-      small = subst (All (λ at. at < 2 ^ 62)) (sym c.in_ok-push-in-Ok-Open.ensures.items) (below_push c.gates.places.items c.gates.at inv.small (omega (arith, room, c.requires.bound.1)));
+      small = subst (All (λ at. at < 2 ^ 62)) (sym c.in_ok-push-in-Ok-Open.ensures.items)
+          (below_push c.gates.places.items c.gates.at inv.small
+          (omega (arith, room, c.requires.bound.1)));
+      well = gate.well (ok_is_none c.in-Ok-Open.field-0 Failed) ∙ inv.well;
       goes = goes_on a b d inv.goes c.gate_at.ensures.goes;
       quiet = λ told. quiet_then a b d (inv.quiet told) (c.gate_at.ensures.quiet (told_b told));
       read = λ told.
-          let here = subst (GateIs (contents b f) c.gates.at) c.in-Ok-Open.field-0-is (gate.gate (told_b told) (c.requires.size told ∙ ap length (sym (same told)))) in
-          let has : HasEntry (contents a f) c.gates.at n = subst (λ (bytes : List ℕ). HasEntry bytes c.gates.at n) (same told) here in
-          subst (ReadSoFar (contents a f) (c.gates.at + (9 + n))) (sym c.in_ok-push-in-Ok-Open.ensures.items)
-          (read_more (contents a f) c.gates.at n c.gates.places.items (omega (arith, room, c.requires.bound.1)) (inv.read told) has);
+          let here = subst (GateIs (contents b f) c.gates.at) c.in-Ok-Open.field-0-is
+          (gate.gate (told_b told) (c.requires.size told ∙ ap length (sym (same told)))) in
+          let has : HasEntry (contents a f) c.gates.at n =
+          subst (λ (bytes : List ℕ). HasEntry bytes c.gates.at n) (same told) here in
+          subst (ReadSoFar first_form (contents a f) (c.gates.at + (9 + n)))
+          (sym c.in_ok-push-in-Ok-Open.ensures.items)
+          (read_more first_form (contents a f) c.gates.at n c.gates.places.items
+          (omega (arith, room, c.requires.bound.1)) (inv.read told) has);
     }

@@ -1,7 +1,8 @@
-use Rattle.std.proofs.Common.{◌≤◌, ◌<◌, ◌^◌, ◌-◌, IsTrue}
+use Rattle.std.proofs.Common.{◌≡◌, ◌≤◌, ◌<◌, ◌^◌, ◌-◌, IsTrue}
 use Rattle.std.specs.List.{All}
 use Rattle.alt_disk.specs.Disk.{Goes, contents}
 use Rattle.alt_disk.specs.Runs.{Quiet}
+use Rattle.alt_gatelog.specs.Log.{first_form}
 use Rattle.alt_gatelog.proofs.Entries.{ReadSoFar}
 use Rattle.alt_gatelog.proofs.read.walk.Given as goal
 
@@ -12,9 +13,11 @@ invariant-gates g l =
     record {
       within : l.at ≤ l.size;
       small : All (λ at. at < 2 ^ 62) l.places.items;
+      well : (state l.disk).faults ≡ (state l.fn.disk).faults;
       goes : Goes (state l.fn.disk) (state l.disk);
       quiet : IsTrue (state l.fn.disk).tells → Quiet (state l.fn.disk) (state l.disk);
-      read : IsTrue (state l.fn.disk).tells → ReadSoFar (contents (state l.fn.disk) l.f) l.at l.places.items;
+      read : IsTrue (state l.fn.disk).tells → ReadSoFar first_form
+          (contents (state l.fn.disk) l.f) l.at l.places.items;
     }
 
 -- the bytes that are left

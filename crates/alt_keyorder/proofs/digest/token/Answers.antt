@@ -5,4 +5,7 @@ use Rattle.alt_keyorder.proofs.digest.token.Goals as goal
 
 pub returns : goal.returns
 unfolding token_of
-returns c = record { token = c.first_eight.ensures ∙ ap (λ d. from_be_bytes w64 (take 8 d)) c.digest_of-digest.ensures }
+returns c = record {
+  token = c.first_eight.ensures
+      ∙ ap (λ d. from_be_bytes w64 (take 8 d)) c.digest_of-digest.ensures;
+}

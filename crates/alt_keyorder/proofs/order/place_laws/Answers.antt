@@ -1,4 +1,5 @@
 -- The laws of places.
+use Rattle.alt_keyorder.proofs.PlaceLaws.{places_lie, one_place}
 use Rattle.alt_keyorder.proofs.Places.{keys-lie, keys-tell}
 use Rattle.alt_keyorder.proofs.order.place_laws.Goals as goal
 
@@ -7,3 +8,9 @@ returns-clause-order c = keys-lie
 
 pub returns-clause-one : goal.returns-clause-one
 returns-clause-one c = keys-tell
+
+pub returns-clause-kinds : goal.returns-clause-kinds
+returns-clause-kinds c = places_lie
+
+pub returns-clause-one_of_kinds : goal.returns-clause-one_of_kinds
+returns-clause-one_of_kinds c = one_place

@@ -7,4 +7,5 @@ pub returns-in-Some : goal.returns-in-Some
 returns-in-Some c =
     let at = rw c.in-Some.is at c.in_ok-content.ensures in
     let P : List ℕ → Type 0 = λ s. IsUtf8 s in
-    no_text c.args.bytes.now c.in-Some.content.items c.in-Some.len at (λ u. c.in-Err.ensures.cases.0 (subst P (sym c.as_slice.ensures.value) u))
+    no_text c.args.bytes.now c.in-Some.content.items c.in-Some.len at
+    (λ u. c.in-Err.ensures.cases.0 (subst P (sym c.as_slice.ensures.value) u))

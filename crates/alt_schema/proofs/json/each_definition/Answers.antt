@@ -5,4 +5,5 @@ use Rattle.alt_schema.proofs.json.each_definition.Goals as goal
 
 pub returns : goal.returns
 returns c =
-    shown_whole definition_json c.args.definitions.now c.loop-definition.definition-index c.loop-definition.values.items c.loop-definition-test.false c.loop-definition.invariant
+    shown_whole definition_json c.args.definitions.now c.loop-definition.definition-index
+    c.loop-definition.values.items c.loop-definition-test.false c.loop-definition.invariant

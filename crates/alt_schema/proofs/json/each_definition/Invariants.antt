@@ -5,4 +5,5 @@ use Rattle.alt_schema.specs.Json.{definition_json}
 use Rattle.alt_schema.proofs.json.each_definition.Given as goal
 
 abbrev pub invariant-loop-definition : goal.invariant-loop-definition
-invariant-loop-definition l = map view l.values.items ≡ map definition_json (take l.definition-index l.definitions)
+invariant-loop-definition l = map view l.values.items
+    ≡ map definition_json (take l.definition-index l.definitions)

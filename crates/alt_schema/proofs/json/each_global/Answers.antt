@@ -5,4 +5,5 @@ use Rattle.alt_schema.proofs.json.each_global.Goals as goal
 
 pub returns : goal.returns
 returns c =
-    shown_whole (global_json c.args.table.now) c.args.indexes.now c.loop-index.index-index c.loop-index.values.items c.loop-index-test.false c.loop-index.invariant
+    shown_whole (global_json c.args.table.now) c.args.indexes.now c.loop-index.index-index
+    c.loop-index.values.items c.loop-index-test.false c.loop-index.invariant

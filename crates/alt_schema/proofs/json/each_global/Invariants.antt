@@ -5,4 +5,5 @@ use Rattle.alt_schema.specs.Json.{global_json}
 use Rattle.alt_schema.proofs.json.each_global.Given as goal
 
 abbrev pub invariant-loop-index : goal.invariant-loop-index
-invariant-loop-index l = map view l.values.items ≡ map (global_json l.table) (take l.index-index l.indexes)
+invariant-loop-index l = map view l.values.items
+    ≡ map (global_json l.table) (take l.index-index l.indexes)

@@ -5,4 +5,5 @@ use Rattle.alt_schema.specs.Json.{local_json}
 use Rattle.alt_schema.proofs.json.each_local.Given as goal
 
 abbrev pub invariant-loop-index : goal.invariant-loop-index
-invariant-loop-index l = map view l.values.items ≡ map (local_json l.table) (take l.index-index l.indexes)
+invariant-loop-index l = map view l.values.items
+    ≡ map (local_json l.table) (take l.index-index l.indexes)

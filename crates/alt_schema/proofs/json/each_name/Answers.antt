@@ -5,4 +5,5 @@ use Rattle.alt_schema.proofs.json.each_name.Goals as goal
 
 pub returns : goal.returns
 returns c =
-    shown_whole (λ name. string name) c.args.names.now c.loop-name.name-index c.loop-name.values.items c.loop-name-test.false c.loop-name.invariant
+    shown_whole (λ name. string name) c.args.names.now c.loop-name.name-index
+    c.loop-name.values.items c.loop-name-test.false c.loop-name.invariant

@@ -5,4 +5,5 @@ use Rattle.serde_json.specs.Data.{string}
 use Rattle.alt_schema.proofs.json.each_name.Given as goal
 
 abbrev pub invariant-loop-name : goal.invariant-loop-name
-invariant-loop-name l = map view l.values.items ≡ map (λ name. string name) (take l.name-index l.names)
+invariant-loop-name l = map view l.values.items
+    ≡ map (λ name. string name) (take l.name-index l.names)

@@ -5,4 +5,5 @@ use Rattle.alt_schema.specs.Stated.{stated_by, word_of}
 use Rattle.alt_schema.proofs.reading.texts.Given as goal
 
 abbrev pub invariant-loop-value : goal.invariant-loop-value
-invariant-loop-value l = l.list ++ stated_by word_of (items_view (drop l.value-index l.values)) ≡ stated_by word_of (items_view l.values)
+invariant-loop-value l = l.list ++ stated_by word_of (items_view (drop l.value-index l.values))
+    ≡ stated_by word_of (items_view l.values)

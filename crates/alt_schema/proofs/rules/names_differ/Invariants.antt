@@ -4,4 +4,5 @@ use Rattle.alt_schema.specs.Rules.{all_differ}
 use Rattle.alt_schema.proofs.rules.names_differ.Given as goal
 
 abbrev pub invariant-loop-i : goal.invariant-loop-i
-invariant-loop-i l = all_differ (λ x. x.name) (l.locals ++ l.globals) ≡ all_differ (λ x. x.name) (drop l.i l.locals ++ l.globals)
+invariant-loop-i l = all_differ (λ x. x.name) (l.locals ++ l.globals)
+    ≡ all_differ (λ x. x.name) (drop l.i l.locals ++ l.globals)

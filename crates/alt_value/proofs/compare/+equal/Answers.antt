@@ -23,26 +23,34 @@ pub same_elements-returns-then-not-equal : goal.same_elements-returns-then-not-e
 same_elements-returns-then-not-equal t c = (
   λ no. cc,
   λ e. c.if-not-equal.ensures.same.1
-      (differ_seen tree_of c.deref-element-items.result.now c.b.inside.elements.items c.args.a.now c.args.b.now c.loop-i.i c.element-item.result c.index.result.now
-      (ap (map tree_of) c.deref-element-items.ensures.value ∙ c.a.view_is) c.b.view_is (omega arith) (omega arith) c.element-item.is c.index.ensures e),
+      (differ_seen tree_of c.deref-element-items.result.now c.b.inside.elements.items c.args.a.now
+      c.args.b.now c.loop-i.i c.element-item.result c.index.result.now
+      (ap (map tree_of) c.deref-element-items.ensures.value ∙ c.a.view_is) c.b.view_is (omega arith)
+      (omega arith) c.element-item.is c.index.ensures e),
 )
 
 pub same_elements-loop-i-preserved : goal.same_elements-loop-i-preserved
 same_elements-loop-i-preserved t c = λ rest. c.loop-i.invariant
-    (same_step tree_of c.deref-element-items.result.now c.b.inside.elements.items c.args.a.now c.args.b.now c.loop-i.i c.element-item.result c.index.result.now
-    (ap (map tree_of) c.deref-element-items.ensures.value ∙ c.a.view_is) c.b.view_is (omega arith) (omega arith) c.element-item.is c.index.ensures (c.if-not-equal.ensures.same.0 refl) rest)
+    (same_step tree_of c.deref-element-items.result.now c.b.inside.elements.items c.args.a.now
+    c.args.b.now c.loop-i.i c.element-item.result c.index.result.now
+    (ap (map tree_of) c.deref-element-items.ensures.value ∙ c.a.view_is) c.b.view_is (omega arith)
+    (omega arith) c.element-item.is c.index.ensures (c.if-not-equal.ensures.same.0 refl) rest)
 
 pub item_equal-returns-then-not-same_pair : goal.item_equal-returns-then-not-same_pair
 item_equal-returns-then-not-same_pair t c = record {
   same = (
     λ no. cc,
     λ e. c.if-not-same_pair.ensures.1
-        (differ_seen pair_of c.deref-entry-items.result.now c.b.inside.entries.items c.args.a.now c.args.b.now c.loop-i.i c.entry-item.result c.index.result.now
-        (ap (map pair_of) c.deref-entry-items.ensures.value ∙ c.a.view_is) c.b.view_is (omega arith) (omega arith) c.entry-item.is c.index.ensures e),
+        (differ_seen pair_of c.deref-entry-items.result.now c.b.inside.entries.items c.args.a.now
+        c.args.b.now c.loop-i.i c.entry-item.result c.index.result.now
+        (ap (map pair_of) c.deref-entry-items.ensures.value ∙ c.a.view_is) c.b.view_is (omega arith)
+        (omega arith) c.entry-item.is c.index.ensures e),
   );
 }
 
 pub item_equal-loop-i-preserved : goal.item_equal-loop-i-preserved
 item_equal-loop-i-preserved t c = λ rest. c.loop-i.invariant
-    (same_step pair_of c.deref-entry-items.result.now c.b.inside.entries.items c.args.a.now c.args.b.now c.loop-i.i c.entry-item.result c.index.result.now
-    (ap (map pair_of) c.deref-entry-items.ensures.value ∙ c.a.view_is) c.b.view_is (omega arith) (omega arith) c.entry-item.is c.index.ensures (c.if-not-same_pair.ensures.0 refl) rest)
+    (same_step pair_of c.deref-entry-items.result.now c.b.inside.entries.items c.args.a.now
+    c.args.b.now c.loop-i.i c.entry-item.result c.index.result.now
+    (ap (map pair_of) c.deref-entry-items.ensures.value ∙ c.a.view_is) c.b.view_is (omega arith)
+    (omega arith) c.entry-item.is c.index.ensures (c.if-not-same_pair.ensures.0 refl) rest)

@@ -9,8 +9,10 @@ pub returns-in-Bs : goal.returns-in-Bs
 returns-in-Bs c =
     let decided = texts_decide c.as_slice.result.now c.as_slice-in-Bs.result.now in
     let seen : tree_of c.args.b.now ≡ BS_tree c.in-Bs.other = ap tree_of c.in-Bs.is in (
-      λ yes. ap BS_tree (sym c.as_slice.ensures ∙ decided.0 (sym c.eq.ensures ∙ yes) ∙ c.as_slice-in-Bs.ensures) ∙ sym seen,
+      λ yes. ap BS_tree (sym c.as_slice.ensures.same ∙ decided.0 (sym c.eq.ensures ∙ yes)
+          ∙ c.as_slice-in-Bs.ensures.same) ∙ sym seen,
       λ e. let same : BS_tree c.args.set.now ≡ BS_tree c.in-Bs.other = e ∙ seen in
           let members : c.args.set.now ≡ c.in-Bs.other = cc in
-          c.eq.ensures ∙ decided.1 (c.as_slice.ensures ∙ members ∙ sym c.as_slice-in-Bs.ensures),
+          c.eq.ensures ∙ decided.1 (c.as_slice.ensures.same ∙ members
+          ∙ sym c.as_slice-in-Bs.ensures.same),
     )

@@ -9,8 +9,10 @@ pub returns-in-Ns : goal.returns-in-Ns
 returns-in-Ns c =
     let decided = numbers_decide c.as_slice.result.now c.as_slice-in-Ns.result.now in
     let seen : tree_of c.args.b.now ≡ NS_tree c.in-Ns.other = ap tree_of c.in-Ns.is in (
-      λ yes. ap NS_tree (sym c.as_slice.ensures ∙ decided.0 (sym c.eq.ensures ∙ yes) ∙ c.as_slice-in-Ns.ensures) ∙ sym seen,
+      λ yes. ap NS_tree (sym c.as_slice.ensures.same ∙ decided.0 (sym c.eq.ensures ∙ yes)
+          ∙ c.as_slice-in-Ns.ensures.same) ∙ sym seen,
       λ e. let same : NS_tree c.args.set.now ≡ NS_tree c.in-Ns.other = e ∙ seen in
           let members : c.args.set.now ≡ c.in-Ns.other = cc in
-          c.eq.ensures ∙ decided.1 (c.as_slice.ensures ∙ members ∙ sym c.as_slice-in-Ns.ensures),
+          c.eq.ensures ∙ decided.1 (c.as_slice.ensures.same ∙ members
+          ∙ sym c.as_slice-in-Ns.ensures.same),
     )

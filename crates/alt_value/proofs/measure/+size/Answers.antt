@@ -8,18 +8,24 @@ use Rattle.alt_value.proofs.measure.+size.Goals as goal
 
 pub left_of_list-returns-in_err-left : goal.left_of_list-returns-in_err-left
 left_of_list-returns-in_err-left t c =
-    rw (elements-trees_of c.args.list.now, ← c.len.ensures.count) (c.from_residual.ensures ∙ left_short c.args.left (3 + c.len.result) _ c.in_err-left.ensures)
+    rw (elements-trees_of c.args.list.now, ← c.len.ensures.count)
+    (c.from_residual.ensures ∙ left_short c.args.left
+    (3 + c.len.result) _ c.in_err-left.ensures)
 
 pub left_of_list-returns : goal.left_of_list-returns
 left_of_list-returns t c =
     rw (elements-trees_of c.args.list.now, ← c.len.ensures.count)
-    (c.left_of_elements.ensures ∙ left_on c.args.left (3 + c.len.result) (elements_size (trees_of c.args.list.now)) c.in_ok-left.left c.in_ok-left.ensures)
+    (c.left_of_elements.ensures ∙ left_on c.args.left (3 + c.len.result)
+    (elements_size (trees_of c.args.list.now)) c.in_ok-left.left c.in_ok-left.ensures)
 
 pub left_of_map-returns-in_err-left : goal.left_of_map-returns-in_err-left
 left_of_map-returns-in_err-left t c =
-    rw (pairs-fields_of c.args.map.now, ← c.len.ensures.count) (c.from_residual.ensures ∙ left_short c.args.left (3 + c.len.result) _ c.in_err-left.ensures)
+    rw (pairs-fields_of c.args.map.now, ← c.len.ensures.count)
+    (c.from_residual.ensures ∙ left_short c.args.left
+    (3 + c.len.result) _ c.in_err-left.ensures)
 
 pub left_of_map-returns : goal.left_of_map-returns
 left_of_map-returns t c =
     rw (pairs-fields_of c.args.map.now, ← c.len.ensures.count)
-    (c.left_of_fields.ensures ∙ left_on c.args.left (3 + c.len.result) (fields_size (fields_of c.args.map.now)) c.in_ok-left.left c.in_ok-left.ensures)
+    (c.left_of_fields.ensures ∙ left_on c.args.left (3 + c.len.result)
+    (fields_size (fields_of c.args.map.now)) c.in_ok-left.left c.in_ok-left.ensures)

@@ -11,7 +11,9 @@ returns-then-branch-clause-call c =
     let n = c.start.new.self in
     let ok = c.in_ok-start.ensures.ok in
     silent_fault (state_of d) (state_of n) (state_of c.fault.new.self)
-    (silent_call d.history.calls.items n.history.calls.items d.moment n.moment d.faults n.faults d.reads n.reads true d.timed c.start.ensures.calls ok.1 ok.2 c.start.ensures.reads c.start.ensures.later (λ no. absurd (false≢true (sym no))))
+    (silent_call d.history.calls.items n.history.calls.items d.moment n.moment d.faults n.faults
+    d.reads n.reads true d.timed c.start.ensures.calls ok.1 ok.2 c.start.ensures.reads
+    c.start.ensures.later (λ no. absurd (false≢true (sym no))) (λ _. ok.3))
     c.fault.ensures.call
 
 pub returns-clause-call : goal.returns-clause-call
@@ -19,4 +21,6 @@ returns-clause-call c =
     let d = c.args.self.now in
     let n = c.start.new.self in
     let ok = c.in_ok-start.ensures.ok in
-    silent_call d.history.calls.items n.history.calls.items d.moment n.moment d.faults n.faults d.reads n.reads true d.timed c.start.ensures.calls ok.1 ok.2 c.start.ensures.reads c.start.ensures.later (λ no. absurd (false≢true (sym no)))
+    silent_call d.history.calls.items n.history.calls.items d.moment n.moment d.faults n.faults
+    d.reads n.reads true d.timed c.start.ensures.calls ok.1 ok.2 c.start.ensures.reads
+    c.start.ensures.later (λ no. absurd (false≢true (sym no))) (λ _. ok.3)

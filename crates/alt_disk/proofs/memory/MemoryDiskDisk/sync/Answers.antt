@@ -15,7 +15,11 @@ returns-clause-synced c =
     let a : DiskState = state_of d in
     let b : DiskState = state_of c.make.new.self in
     ⊎_elim
-    (λ (done : (is_ok c.make.result ≡ true) × Acted a b f Sync). subst (λ (ok : Bool). Synced a b f ok) (sym done.0) (acted_synced a b f (reads_as_image_of f d.moment d.history.calls.items d.timed) done.1))
+    (λ (done : (is_ok c.make.result ≡ true) × Acted a b f Sync). subst
+    (λ (ok : Bool). Synced a b f ok) (sym done.0)
+    (acted_synced a b f (reads_as_image_of d f) done.1))
     (λ (failed : (is_ok c.make.result ≡ false) × (Same a b ⊎ ActedSome a b f None)).
-    subst (λ (ok : Bool). Synced a b f ok) (sym failed.0) (⊎_elim (λ (same : Same a b). same_synced a b f same) (λ (none : ActedSome a b f None). absurd none) failed.1))
+    subst (λ (ok : Bool). Synced a b f ok) (sym failed.0)
+    (⊎_elim (λ (same : Same a b). same_synced a b f same)
+    (λ (none : ActedSome a b f None). absurd none) failed.1))
     (split c.make.result c.make.ensures.ok c.make.ensures.err)

@@ -4,9 +4,9 @@ use Rattle.alt_disk.specs.Fates.{synced}
 use Rattle.alt_disk.specs.Disk.{DiskState, IsTrusted, contents, overwritten}
 use Rattle.alt_disk.specs.Runs.{Run}
 use Rattle.alt_disk.proofs.Runs.{trusted_on}
-use Rattle.alt_gatelog.specs.Log.{framed}
+use Rattle.alt_gatelog.specs.Log.{first_form, framed}
 use Rattle.alt_gatelog.specs.InHand.{AroundWrite, Lasts}
-use Rattle.alt_gatelog.proofs.Append.{first_run, second_run, staged_is, opened_is, stands_after, below_push}
+use Rattle.alt_gatelog.proofs.Append.{first_run, second_run, staged_is, opened_is, after_is, stands_after, below_push}
 use Rattle.alt_gatelog.proofs.gatelog.GateLog.append.Goals as goal
 
 pub returns-in_err-write_and_sync-clause-any_moment : goal.returns-in_err-write_and_sync-clause-any_moment
@@ -15,9 +15,12 @@ returns-in_err-write_and_sync-clause-any_moment g c trusted entries stands =
     let entry = c.args.bytes.now in
     let s0 : DiskState = g.D.Disk.state c.args.disk.now in
     let s1 : DiskState = g.D.Disk.state c.write_and_sync.new.disk in
-    let block : c.as_slice.result.now ≡ framed entry ++ 0 ∷ [] = c.as_slice.ensures.value ∙ c.in_ok-block.ensures.block in
-    first_run s0 log.file log.gate log.places.items entries entry c.in_ok-block.ensures.fits stands s1
-    (subst (λ (b : List ℕ). Run s0 s1 log.file (AroundWrite s0 log.file (log.gate + 1) (length b))) block (c.write_and_sync.ensures.any_moment trusted))
+    let block : c.as_slice.result.now ≡ framed entry ++ 0 ∷ [] =
+    c.as_slice.ensures.value ∙ c.in_ok-block.ensures.block in
+    first_run first_form s0 log.file log.gate log.places.items entries entry
+    c.in_ok-block.ensures.fits stands.reads stands.settled s1
+    (subst (λ (b : List ℕ). Run s0 s1 log.file (AroundWrite s0 log.file (log.gate + 1) (length b)))
+    block (c.write_and_sync.ensures.any_moment trusted))
 
 pub returns-in_err-write_and_sync-2-clause-any_moment : goal.returns-in_err-write_and_sync-2-clause-any_moment
 returns-in_err-write_and_sync-2-clause-any_moment g c trusted entries stands =
@@ -27,13 +30,19 @@ returns-in_err-write_and_sync-2-clause-any_moment g c trusted entries stands =
     let s1 : DiskState = g.D.Disk.state c.write_and_sync.new.disk in
     let s2 : DiskState = g.D.Disk.state c.write_and_sync-2.new.disk in
     let trusted_1 : IsTrusted s1 = trusted_on s0 s1 c.write_and_sync.ensures.goes trusted in
-    let block : c.as_slice.result.now ≡ framed entry ++ 0 ∷ [] = c.as_slice.ensures.value ∙ c.in_ok-block.ensures.block in
+    let block : c.as_slice.result.now ≡ framed entry ++ 0 ∷ [] =
+    c.as_slice.ensures.value ∙ c.in_ok-block.ensures.block in
     let short = c.in_ok-block.ensures.fits in
-    let first : Run s0 s1 log.file (AroundWrite s0 log.file (log.gate + 1) (length (framed entry ++ 0 ∷ []))) =
-    subst (λ (b : List ℕ). Run s0 s1 log.file (AroundWrite s0 log.file (log.gate + 1) (length b))) block (c.write_and_sync.ensures.any_moment trusted) in
-    let written = ap (λ (b : List ℕ). overwritten (contents s0 log.file) (log.gate + 1) b) block ∙ staged_is s0 log.file log.gate log.places.items entries entry short stands in
+    let first : Run s0 s1 log.file (AroundWrite s0 log.file (log.gate + 1)
+    (length (framed entry ++ 0 ∷ []))) =
+    subst (λ (b : List ℕ). Run s0 s1 log.file (AroundWrite s0 log.file (log.gate + 1) (length b)))
+    block (c.write_and_sync.ensures.any_moment trusted) in
+    let written = ap (λ (b : List ℕ). overwritten (contents s0 log.file) (log.gate + 1) b) block
+    ∙ staged_is first_form s0 log.file log.gate log.places.items entries entry short
+    stands.reads in
     let kept = (c.in_ok-write_and_sync.ensures.ok trusted).kept ∙ ap synced written in
-    second_run s0 log.file log.gate log.places.items entries entry short stands s1 s2 first kept (c.write_and_sync-2.ensures.any_moment trusted_1)
+    second_run first_form s0 log.file log.gate log.places.items entries entry short stands.reads
+    stands.settled s1 s2 first kept (c.write_and_sync-2.ensures.any_moment trusted_1)
 
 pub returns-clause-any_moment : goal.returns-clause-any_moment
 returns-clause-any_moment g c trusted entries stands =
@@ -43,35 +52,76 @@ returns-clause-any_moment g c trusted entries stands =
     let s1 : DiskState = g.D.Disk.state c.write_and_sync.new.disk in
     let s2 : DiskState = g.D.Disk.state c.write_and_sync-2.new.disk in
     let trusted_1 : IsTrusted s1 = trusted_on s0 s1 c.write_and_sync.ensures.goes trusted in
-    let block : c.as_slice.result.now ≡ framed entry ++ 0 ∷ [] = c.as_slice.ensures.value ∙ c.in_ok-block.ensures.block in
+    let block : c.as_slice.result.now ≡ framed entry ++ 0 ∷ [] =
+    c.as_slice.ensures.value ∙ c.in_ok-block.ensures.block in
     let short = c.in_ok-block.ensures.fits in
-    let first : Run s0 s1 log.file (AroundWrite s0 log.file (log.gate + 1) (length (framed entry ++ 0 ∷ []))) =
-    subst (λ (b : List ℕ). Run s0 s1 log.file (AroundWrite s0 log.file (log.gate + 1) (length b))) block (c.write_and_sync.ensures.any_moment trusted) in
-    let written = ap (λ (b : List ℕ). overwritten (contents s0 log.file) (log.gate + 1) b) block ∙ staged_is s0 log.file log.gate log.places.items entries entry short stands in
+    let first : Run s0 s1 log.file (AroundWrite s0 log.file (log.gate + 1)
+    (length (framed entry ++ 0 ∷ []))) =
+    subst (λ (b : List ℕ). Run s0 s1 log.file (AroundWrite s0 log.file (log.gate + 1) (length b)))
+    block (c.write_and_sync.ensures.any_moment trusted) in
+    let written = ap (λ (b : List ℕ). overwritten (contents s0 log.file) (log.gate + 1) b) block
+    ∙ staged_is first_form s0 log.file log.gate log.places.items entries entry short
+    stands.reads in
     let kept = (c.in_ok-write_and_sync.ensures.ok trusted).kept ∙ ap synced written in
-    second_run s0 log.file log.gate log.places.items entries entry short stands s1 s2 first kept (c.write_and_sync-2.ensures.any_moment trusted_1)
+    second_run first_form s0 log.file log.gate log.places.items entries entry short stands.reads
+    stands.settled s1 s2 first kept (c.write_and_sync-2.ensures.any_moment trusted_1)
 
 pub returns-clause-ok : goal.returns-clause-ok
-returns-clause-ok g c trusted entries stands =
+returns-clause-ok g c trusted entries reads =
     let log = c.args.self.now in
     let entry = c.args.bytes.now in
     let s0 : DiskState = g.D.Disk.state c.args.disk.now in
     let s1 : DiskState = g.D.Disk.state c.write_and_sync.new.disk in
     let s2 : DiskState = g.D.Disk.state c.write_and_sync-2.new.disk in
     let trusted_1 : IsTrusted s1 = trusted_on s0 s1 c.write_and_sync.ensures.goes trusted in
-    let block : c.as_slice.result.now ≡ framed entry ++ 0 ∷ [] = c.as_slice.ensures.value ∙ c.in_ok-block.ensures.block in
+    let block : c.as_slice.result.now ≡ framed entry ++ 0 ∷ [] =
+    c.as_slice.ensures.value ∙ c.in_ok-block.ensures.block in
     let short = c.in_ok-block.ensures.fits in
     let first = c.in_ok-write_and_sync.ensures.ok trusted in
-    let written = ap (λ (b : List ℕ). overwritten (contents s0 log.file) (log.gate + 1) b) block ∙ staged_is s0 log.file log.gate log.places.items entries entry short stands in
-    let lasts = subst (Lasts s2 log.file) (opened_is s0 log.file log.gate log.places.items entries entry short stands s1 (first.file ∙ ap (λ (l : List ℕ). Some l) written)) (c.in_ok-write_and_sync-2.ensures.ok trusted_1) in
-    stands_after s0 log.file log.gate log.places.items entries entry short stands s2 (log.gate + c.len.result) c.push_reserved.new.self.items lasts
+    let written = ap (λ (b : List ℕ). overwritten (contents s0 log.file) (log.gate + 1) b) block
+    ∙ staged_is first_form s0 log.file log.gate log.places.items entries entry short reads in
+    let lasts = subst (Lasts s2 log.file) (opened_is first_form s0 log.file log.gate
+    log.places.items entries entry short reads s1
+    (first.file ∙ ap (λ (l : List ℕ). Some l) written))
+    (c.in_ok-write_and_sync-2.ensures.ok trusted_1) in
+    stands_after first_form s0 log.file log.gate log.places.items entries entry short reads s2
+    (log.gate + c.len.result) c.push_reserved.new.self.items lasts
     (omega (arith, c.len.ensures, c.in_ok-block.ensures.short))
-    (c.push_reserved.ensures.items ∙ ap (λ (l : List ℕ). l ++ log.gate ∷ []) c.reserve.ensures.items)
+    (c.push_reserved.ensures.items ∙ ap (λ (l : List ℕ). l ++ log.gate ∷ [])
+    c.reserve.ensures.items)
+
+pub returns-clause-bytes : goal.returns-clause-bytes
+returns-clause-bytes g c trusted entries reads =
+    let log = c.args.self.now in
+    let entry = c.args.bytes.now in
+    let s0 : DiskState = g.D.Disk.state c.args.disk.now in
+    let s1 : DiskState = g.D.Disk.state c.write_and_sync.new.disk in
+    let trusted_1 : IsTrusted s1 = trusted_on s0 s1 c.write_and_sync.ensures.goes trusted in
+    let block : c.as_slice.result.now ≡ framed entry ++ 0 ∷ [] =
+    c.as_slice.ensures.value ∙ c.in_ok-block.ensures.block in
+    let short = c.in_ok-block.ensures.fits in
+    let first = c.in_ok-write_and_sync.ensures.ok trusted in
+    let written = ap (λ (b : List ℕ). overwritten (contents s0 log.file) (log.gate + 1) b) block
+    ∙ staged_is first_form s0 log.file log.gate log.places.items entries entry short reads in
+    let opened = opened_is first_form s0 log.file log.gate log.places.items entries entry short
+    reads s1
+    (first.file ∙ ap (λ (l : List ℕ). Some l) written) in
+    (c.in_ok-write_and_sync-2.ensures.ok trusted_1).file
+    ∙ ap (λ (l : List ℕ). Some l)
+    (opened ∙ after_is first_form s0 log.file log.gate log.places.items entries entry short reads)
 
 pub invariant_of-self-2 : goal.invariant_of-self-2
 invariant_of-self-2 g c =
     let log = c.args.self.now in
     record {
-      small = omega (arith, c.in_ok-write_and_sync.ensures.fits, c.as_slice.ensures.len, c.len.ensures);
-      within = subst (All (λ at. at < 2 ^ 62)) (sym (c.push_reserved.ensures.items ∙ ap (λ (l : List ℕ). l ++ log.gate ∷ []) c.reserve.ensures.items)) (below_push log.places.items log.gate log.within log.small);
+      small = omega (
+        arith,
+        c.in_ok-write_and_sync.ensures.fits,
+        c.as_slice.ensures.len,
+        c.len.ensures,
+      );
+      within = subst (All (λ at. at < 2 ^ 62))
+          (sym (c.push_reserved.ensures.items
+          ∙ ap (λ (l : List ℕ). l ++ log.gate ∷ []) c.reserve.ensures.items))
+          (below_push log.places.items log.gate log.within log.small);
     }

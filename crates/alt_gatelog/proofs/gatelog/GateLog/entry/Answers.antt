@@ -1,16 +1,19 @@
-use Rattle.std.proofs.Common.{◌≡◌, ◌<◌, ◌+◌, ◌-◌, ℕ, List, [], ◌++◌, length, length-drop, get_or, take, drop, sym, ◌∙◌, ap, subst, arith}
+use Rattle.std.proofs.Common.{◌≡◌, ◌<◌, ◌+◌, ◌-◌, ℕ, List, [], ◌++◌, length, length-drop, get_or, take, drop, refl, sym, ◌∙◌, ap, subst, arith}
 use Rattle.std.proofs.lemmas.Grind.{get_or_default_zero}
 use Rattle.std.proofs.lemmas.List.{length-take, take_all, take_at}
 use Rattle.std.proofs.Math.ListN.{replicate}
 use Rattle.alt_disk.specs.Disk.{DiskState, contents}
-use Rattle.alt_gatelog.proofs.Places.{EntryAt, next_is, entry_is, count_all, read_entry, read_behind}
+use Rattle.alt_gatelog.specs.Log.{first_form}
+use Rattle.alt_gatelog.proofs.Places.{EntryAt, place_is, next_is, entry_is, count_all, read_entry, read_behind}
 use Rattle.alt_gatelog.proofs.gatelog.GateLog.entry.Goals as goal
 
 -- the front of a buffer that was made longer
-front_of : (start more : ℕ) (old items : List ℕ) → start ≡ length old → items ≡ take (start + more) old ++ replicate (start + more - start) 0 → take start items ≡ old
+front_of : (start more : ℕ) (old items : List ℕ) → start ≡ length old
+    → items ≡ take (start + more) old ++ replicate (start + more - start) 0 → take start items ≡ old
 front_of start more old items is made =
     let whole : take (start + more) old ≡ old = take_all (start + more) old (omega (arith, is)) in
-    ap (take start) made ∙ (λ i. take start (whole i ++ replicate (start + more - start) 0)) ∙ take_at old (replicate (start + more - start) 0) start (sym is)
+    ap (take start) made ∙ (λ i. take start (whole i ++ replicate (start + more - start) 0))
+    ∙ take_at old (replicate (start + more - start) 0) start (sym is)
 
 pub returns-then-count-length-clause-ok : goal.returns-then-count-length-clause-ok
 returns-then-count-length-clause-ok g c told entries reads =
@@ -25,16 +28,43 @@ returns-then-count-length-clause-ok g c told entries reads =
     let start = c.len-start.result in
     let n = c.saturating_sub-length.result in
     let less : i < length log.places.items = omega (arith, c.requires) in
-    let place : get_or log.places.items i 0 ≡ at = sym (c.index-at.ensures ∙ get_or_default_zero log.places.items i at less) in
-    let here : EntryAt (contents s log.file) at entry = subst (λ (p : ℕ). EntryAt (contents s log.file) p entry) place (entry_is s log.file log.gate log.places.items entries reads i less) in
-    let next : c.next_gate-next.result ≡ at + (9 + length entry) = c.next_gate-next.ensures.next ∙ next_is s log.file log.gate log.places.items entries reads i less ∙ ap (λ (p : ℕ). p + (9 + length entry)) place in
-    let long : length whole ≡ start + n = omega (arith, c.deref_mut.ensures.len, c.in_ok-resize.ensures.len) in
-    let size : length (take (length whole - start) (drop start whole)) ≡ length entry = omega (arith, length-take (length whole - start) (drop start whole), length-drop start whole, long, next, c.saturating_sub-length.ensures) in
-    let read : buf ≡ entry = read_entry (contents s log.file) at entry here (take (length whole - start) (drop start whole)) buf c.in-Ok.count (c.in-Ok.ensures.bytes told) size c.read.auto.buf in
-    let made = c.in_ok-resize.ensures.items ∙ ap (λ (k : ℕ). take (start + n) c.args.out.now.items ++ replicate (start + n - k) 0) (sym c.len-start.ensures) in
+    let place : get_or log.places.items i 0 ≡ at =
+    sym (c.index-at.ensures ∙ get_or_default_zero log.places.items i at less) in
+    let here : EntryAt (contents s log.file) at entry =
+    subst (λ (p : ℕ). EntryAt (contents s log.file) p entry) place
+    (entry_is first_form s log.file log.gate log.places.items entries reads i less) in
+    let next : c.next_gate-next.result ≡ at + (9 + length entry) =
+    c.next_gate-next.ensures.next ∙ next_is first_form s log.file log.gate log.places.items
+    entries reads i less ∙ ap (λ (p : ℕ). p + (9 + length entry)) place in
+    let long : length whole ≡ start + n = omega
+    (arith, c.deref_mut.ensures.len, c.in_ok-resize.ensures.len) in
+    let size : length (take (length whole - start) (drop start whole)) ≡ length entry =
+    omega (
+      arith,
+      length-take (length whole - start) (drop start whole),
+      length-drop start whole,
+      long,
+      next,
+      c.saturating_sub-length.ensures,
+    ) in
+    let read : buf ≡ entry = read_entry (contents s log.file) at entry here
+    (take (length whole - start) (drop start whole)) buf c.in-Ok.count
+    (c.in-Ok.ensures.bytes told) size c.read.auto.buf in
+    let made = c.in_ok-resize.ensures.items ∙ ap
+    (λ (k : ℕ). take (start + n) c.args.out.now.items ++ replicate (start + n - k) 0)
+    (sym c.len-start.ensures) in
     let same : length whole ≡ length items = ap length c.deref_mut.ensures.value in
-    read_behind c.resize.new.self.len start whole items c.args.out.now.items buf c.deref_mut.ensures.value (omega (arith, c.in_ok-resize.ensures.len, long, same)) (omega (arith, c.len-start.ensures))
-    (front_of start n c.args.out.now.items items (omega (arith, c.len-start.ensures)) made) (omega (arith, c.read.auto.buf, length-take (length whole - start) (drop start whole), length-drop start whole, same)) (omega (arith, same, long))
+    read_behind c.resize.new.self.len start whole items c.args.out.now.items buf
+    c.deref_mut.ensures.value (omega (arith, c.in_ok-resize.ensures.len, long, same))
+    (omega (arith, c.len-start.ensures))
+    (front_of start n c.args.out.now.items items (omega (arith, c.len-start.ensures)) made)
+    (omega (
+      arith,
+      c.read.auto.buf,
+      length-take (length whole - start) (drop start whole),
+      length-drop start whole,
+      same,
+    )) (omega (arith, same, long))
     ∙ ap (λ (l : List ℕ). c.args.out.now.items ++ l) read
 
 pub returns-else-count-length-clause-undamaged : goal.returns-else-count-length-clause-undamaged
@@ -48,10 +78,39 @@ returns-else-count-length-clause-undamaged g c told entries reads =
     let start = c.len-start.result in
     let n = c.saturating_sub-length.result in
     let less : i < length log.places.items = omega (arith, c.requires) in
-    let place : get_or log.places.items i 0 ≡ at = sym (c.index-at.ensures ∙ get_or_default_zero log.places.items i at less) in
-    let here : EntryAt (contents s log.file) at entry = subst (λ (p : ℕ). EntryAt (contents s log.file) p entry) place (entry_is s log.file log.gate log.places.items entries reads i less) in
-    let next : c.next_gate-next.result ≡ at + (9 + length entry) = c.next_gate-next.ensures.next ∙ next_is s log.file log.gate log.places.items entries reads i less ∙ ap (λ (p : ℕ). p + (9 + length entry)) place in
-    let long : length whole ≡ start + n = omega (arith, c.deref_mut.ensures.len, c.in_ok-resize.ensures.len) in
-    let size : length (take (length whole - start) (drop start whole)) ≡ length entry = omega (arith, length-take (length whole - start) (drop start whole), length-drop start whole, long, next, c.saturating_sub-length.ensures) in
-    let all = count_all (contents s log.file) at entry here (take (length whole - start) (drop start whole)) c.read.new.buf c.in-Ok.count (c.in-Ok.ensures.bytes told) size in
+    let place : get_or log.places.items i 0 ≡ at =
+    sym (c.index-at.ensures ∙ get_or_default_zero log.places.items i at less) in
+    let here : EntryAt (contents s log.file) at entry =
+    subst (λ (p : ℕ). EntryAt (contents s log.file) p entry) place
+    (entry_is first_form s log.file log.gate log.places.items entries reads i less) in
+    let next : c.next_gate-next.result ≡ at + (9 + length entry) =
+    c.next_gate-next.ensures.next ∙ next_is first_form s log.file log.gate log.places.items
+    entries reads i less ∙ ap (λ (p : ℕ). p + (9 + length entry)) place in
+    let long : length whole ≡ start + n = omega
+    (arith, c.deref_mut.ensures.len, c.in_ok-resize.ensures.len) in
+    let size : length (take (length whole - start) (drop start whole)) ≡ length entry =
+    omega (
+      arith,
+      length-take (length whole - start) (drop start whole),
+      length-drop start whole,
+      long,
+      next,
+      c.saturating_sub-length.ensures,
+    ) in
+    let all = count_all (contents s log.file) at entry here
+    (take (length whole - start) (drop start whole)) c.read.new.buf c.in-Ok.count
+    (c.in-Ok.ensures.bytes told) size in
     c.if-count-length.false (omega (arith, all, next, c.saturating_sub-length.ensures))
+
+pub returns-else-count-length-clause-damaged : goal.returns-else-count-length-clause-damaged
+returns-else-count-length-clause-damaged g c s entries reads =
+    let log = c.args.self.now in
+    let i = c.args.i in
+    let at = c.index-at.result.now in
+    let less : i < length log.places.items = omega (arith, c.requires) in
+    let place : get_or log.places.items i 0 ≡ at =
+    sym (c.index-at.ensures ∙ get_or_default_zero log.places.items i at less) in (
+      refl,
+      sym place ∙ place_is first_form s log.file log.gate log.places.items entries reads i
+          less,
+    )

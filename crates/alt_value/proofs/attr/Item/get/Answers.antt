@@ -9,11 +9,13 @@ use Rattle.alt_value.proofs.attr.Item.get.Goals as goal
 pub returns-in-Ok : goal.returns-in-Ok
 returns-in-Ok c = record {
   value = ap (λ (e : Pair). Some (tree_of e.value)) c.index.ensures
-      ∙ sym (at_name-stands c.args.name.now c.self.inside.entries.items c.in-Ok.i c.index.result.now c.in-Ok.ensures)
+      ∙ sym (at_name-stands c.args.name.now c.self.inside.entries.items c.in-Ok.i c.index.result.now
+      c.in-Ok.ensures)
       ∙ ap (at_name c.args.name.now) c.self.view_is;
 }
 
 pub returns-in-Err : goal.returns-in-Err
 returns-in-Err c = record {
-  value = sym (at_name-goes c.args.name.now c.self.inside.entries.items c.in-Err.field-0 c.in-Err.ensures) ∙ ap (at_name c.args.name.now) c.self.view_is;
+  value = sym (at_name-goes c.args.name.now c.self.inside.entries.items c.in-Err.field-0
+      c.in-Err.ensures) ∙ ap (at_name c.args.name.now) c.self.view_is;
 }

@@ -1,0 +1,111 @@
+#!/usr/bin/env bash
+# Instructions to scan a head of 700 bytes, to write a reply, and to scan heads that come byte by byte, by a small program that is
+# made in a copy of the repository, since a source file stands only in a crate. Not part of the gate.
+set -eu
+cd "$(dirname "$0")/.."
+copy=$(mktemp -d)
+trap 'rm -rf "$copy"' EXIT
+git archive HEAD crates/alt_base crates/alt_fields crates/alt_http | tar -x -C "$copy"
+printf 'alt_base:\nalt_fields: alt_base\nalt_http: alt_base alt_fields httparse httpdate itoa memchr\n' >"$copy/crates.txt"
+(cd "$copy" && rt new crates/http_rounds start_io >/dev/null)
+rm -rf "$copy"/crates/http_rounds/{src,stdin,stdout,proofs,specs}
+mkdir "$copy/crates/http_rounds/src"
+echo 'http_rounds: alt_http' >>"$copy/crates.txt"
+cat >"$copy/crates/http_rounds/src/main.rt" <<'RATTLE'
+//! By the number of its words: scans of a head, replies, a head byte by byte, a head of many short lines byte by byte.
+#![tactic(auto)]
+
+use alt_http::{Scan, is_still_more, reply, scan};
+use std::alloc::Global;
+use std::env;
+
+static HEAD: &[u8] = b"POST / HTTP/1.1\r\nHost: 127.0.0.1:35623\r\nAccept-Encoding: identity\r\nX-Amz-Target: DynamoDB_20120810.ListTables\r\nContent-Type: application/x-amz-json-1.0\r\nUser-Agent: aws-cli/1.45.11 md/Botocore#1.43.11 ua/2.1 os/linux#6.18.44-fc-v857 md/arch#x86_64 lang/python#3.11.7 md/pyimpl#CPython m/D,C cfg/retry-mode#legacy botocore/1.43.11\r\nX-Amz-Date: 20261127T094008Z\r\nAuthorization: AWS4-HMAC-SHA256 Credential=x/20261127/us-east-1/dynamodb/aws4_request, SignedHeaders=content-type;host;x-amz-date;x-amz-target, Signature=578953d744d24ab874ba8c73c75a050452685e17665c41ccda6ab077b439faa2\r\namz-sdk-invocation-id: f3c0c27c-8727-437b-83a8-3e0c48ac7151\r\namz-sdk-request: attempt=1\r\nContent-Length: 2\r\n\r\n";
+
+fn taken(found: &Scan) -> usize {
+    match found {
+        Scan::Head { taken, .. } => *taken,
+        Scan::Refused(number) => *number as usize,
+        Scan::More => 0,
+    }
+}
+
+fn scans(alloc: Global, rounds: u32) -> usize {
+    let mut sum: usize = 0;
+    for _ in 0..rounds {
+        if let Ok(found) = scan(alloc, HEAD) {
+            sum = sum.wrapping_add(taken(&found));
+        }
+    }
+    sum
+}
+
+fn replies(alloc: Global, rounds: u32) -> usize {
+    let mut out = Vec::new(alloc);
+    let mut sum: usize = 0;
+    for round in 0..rounds {
+        out.clear();
+        if reply(200, 1_700_000_000 + round as u64, false, b"{\"TableNames\":[]}", &mut out).is_ok() {
+            sum = sum.wrapping_add(out.len());
+        }
+    }
+    sum
+}
+
+fn byte_by_byte(alloc: Global, head: &[u8]) -> usize {
+    let mut seen = 0;
+    let mut sum: usize = 0;
+    for end in 1..head.len() {
+        let bytes = &head[..end];
+        if seen <= bytes.len() && !is_still_more(bytes, seen) {
+            if let Ok(found) = scan(alloc, bytes) {
+                sum = sum.wrapping_add(taken(&found));
+            }
+            seen = end;
+        }
+    }
+    sum
+}
+
+fn short_lines(alloc: Global) -> usize {
+    let mut head = Vec::new(alloc);
+    let mut whole = head.extend_from_slice(b"POST / HTTP/1.1\n").is_ok();
+    for _ in 0..5455 {
+        whole = whole & head.extend_from_slice(b"a:\n").is_ok();
+    }
+    if whole { byte_by_byte(alloc, &head) } else { 0 }
+}
+
+fn main(rt: HostRuntime) {
+    let words = match env::args(&rt) {
+        Ok(args) => args.count(),
+        Err(_) => 0,
+    };
+    let mut sum: usize = 0;
+    if words == 2 {
+        sum = scans(rt.alloc(), 10_000);
+    } else if words == 3 {
+        sum = replies(rt.alloc(), 10_000);
+    } else if words == 4 {
+        for _ in 0..100 {
+            sum = sum.wrapping_add(byte_by_byte(rt.alloc(), HEAD));
+        }
+    } else if words == 5 {
+        sum = short_lines(rt.alloc());
+    }
+    let _ = println!(rt; "{sum}");
+}
+RATTLE
+(cd "$copy/crates/http_rounds" && rt run >"$copy/log" 2>&1) || { cat "$copy/log" >&2; exit 1; }
+program=$copy/crates/http_rounds/out/http_rounds
+count() {
+  valgrind --tool=callgrind --callgrind-out-file=/dev/null "$program" "$@" 2>"$copy/err" >/dev/null
+  awk '/Collected/ { print $4 }' "$copy/err"
+}
+none=$(count)
+scan=$((($(count 1) - none) / 10000))
+echo "a scan of a head of 700 bytes: $scan instructions"
+echo "a reply with 17 bytes of body: $((($(count 1 2) - none) / 10000)) instructions"
+bytes=$((($(count 1 2 3) - none) / 100))
+echo "that head byte by byte: $bytes instructions, $((bytes / scan)) scans"
+short=$(($(count 1 2 3 4) - none))
+echo "a head of 16,381 bytes in lines of three, byte by byte: $short instructions"

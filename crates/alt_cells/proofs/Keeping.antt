@@ -1,0 +1,51 @@
+-- Calls on sources, one after another.
+use Rattle.std.proofs.Common.{◌≤◌, ℕ, Bool, IsTrue, refl, sym, subst, ◌∙◌, arith}
+use Rattle.alt_base.specs.Counts.{Rose}
+use Rattle.alt_disk.specs.Disk.{DiskState, Goes}
+use Rattle.alt_disk.proofs.Calls.{goes_refl, goes_on}
+use Rattle.alt_disk.proofs.Runs.{quiet_start, quiet_then, tells_of, trusted_on}
+use Rattle.alt_cells.specs.declared.source.SourceFault.{SourceFault}
+use Rattle.alt_cells.specs.declared.source.SourceFault.TheVariants.{Damaged, Failed, NoMemory}
+use Rattle.alt_cells.specs.Walks.{Keeps, Fails, HasCause}
+
+-- a disk that tells its contents goes on to do so
+pub tells_on : (a b : DiskState) → Goes a b → IsTrue a.tells → IsTrue b.tells
+tells_on a b goes tells = subst (λ (v : Bool). IsTrue v) (sym goes.tells) tells
+
+-- what rose in a later call rose in both
+rose_then : (a b c : ℕ) → a ≤ b → Rose b c → Rose a c
+rose_then a b c le rose = grind arith
+
+cause_then : (a b c : DiskState) (fault : SourceFault) → Goes a b → HasCause b c fault
+    → HasCause a c fault
+cause_then a b c (Damaged f at) goes cause = tt
+cause_then a b c Failed goes cause = rose_then _ _ _ goes.faults cause
+cause_then a b c NoMemory goes cause = tt
+
+module _ {S M : Type 0} (Holds : DiskState → S → M → Type 0) (reads_of : S → ℕ → Bool) where
+  -- no call, and two calls one after another, of which the second may fail
+  pub keeps_refl : (s : DiskState) (x : S) → Keeps Holds reads_of s s x x
+  keeps_refl s x = record {
+    holds = λ t m h. h;
+    reads = refl;
+    goes = goes_refl s;
+    quiet =
+        λ t. quiet_start s;
+  }
+
+  pub keeps_then : (a b c : DiskState) (x y z : S) → Keeps Holds reads_of a b x y
+      → Keeps Holds reads_of b c y z → Keeps Holds reads_of a c x z
+  keeps_then a b c x y z first then = record {
+    holds = λ t m h. then.holds (tells_on a b first.goes t) m (first.holds t m h);
+    reads = then.reads ∙ first.reads;
+    goes = goes_on a b c first.goes then.goes;
+    quiet = λ t. quiet_then a b c (first.quiet t) (then.quiet (tells_on a b first.goes t));
+  }
+
+  pub fails_then : (a b c : DiskState) (x y : S) (fault : SourceFault)
+      → Keeps Holds reads_of a b x y → Fails Holds b c y fault → Fails Holds a c x fault
+  fails_then a b c x y fault first fails = record {
+    cause = cause_then a b c fault first.goes fails.cause;
+    sound = λ trusted m h. fails.sound (trusted_on a b first.goes trusted) m
+        (first.holds (tells_of a trusted) m h);
+  }

@@ -1,0 +1,17 @@
+pub mod Copied
+pub mod Deep
+pub mod Grouped
+pub mod HoldsLaws
+pub mod Lists
+pub mod Longest
+pub mod Numbers
+pub mod Once
+pub mod Parsing
+pub mod PathFound
+pub mod PathRead
+pub mod SameValues
+pub mod Seen
+pub mod Suffix
+pub mod Tokenized
+pub mod Turns
+pub mod Words

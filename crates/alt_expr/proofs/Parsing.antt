@@ -1,0 +1,147 @@
+-- From the tokens of a text to the text: which fault is the first, and that the tree is its own.
+use Rattle.std.proofs.Common.{◌≡◌, ◌≢◌, refl, sym, ap, subst, ◌∙◌, ℕ, ◌<◌, ◌≤◌, ◌⊎◌, inl, inr, Bool, true, false, List, [], ◌∷◌, length, Ok, Err, arith}
+use Rattle.std.specs.Prelude.{Result, ⊤}
+use Rattle.std.specs.List.{list_any}
+use Rattle.alt_expr.specs.Tokens.{Tok}
+use Rattle.alt_expr.specs.Given.{Given, is_unknown}
+use Rattle.alt_expr.specs.Lexed.{Lexes}
+use Rattle.alt_expr.specs.Nesting.{TooDeep}
+use Rattle.alt_expr.specs.Faults.{Language, IsFirst, NoneApplies, Answers, fault_order, HasFault, IsTreeOf, Parsed}
+use Rattle.alt_expr.specs.Read.{IsOf, IsTree, ReadsWhole, TokensHave, ReadTokens}
+use Rattle.alt_expr.specs.declared.fault.ExprFault.{ExprFault}
+use Rattle.alt_expr.specs.declared.fault.ExprFault.TheVariants as fault
+use Rattle.alt_expr.proofs.Once.{tokens_once}
+
+-- ---- answers by other words for the same faults
+
+module _ (P Q : ExprFault → Type 0) (to : (f : ExprFault) → P f → Q f) (back : (f : ExprFault) → Q f → P f) where
+  first_as : (es : List ExprFault) (f : ExprFault) → IsFirst P es f → IsFirst Q es f
+  first_as [] f h = h
+  first_as (e ∷ es) f (inl h) = inl (h.0, to e h.1)
+  first_as (e ∷ es) f (inr h) = inr ((λ q. h.0 (back e q)), first_as es f h.1)
+
+  none_as : (es : List ExprFault) → NoneApplies P es → NoneApplies Q es
+  none_as [] h = tt
+  none_as (e ∷ es) h = ((λ q. h.0 (back e q)), none_as es h.1)
+
+  pub answers_as : {A : Type 0} (T U : A → Type 0) → ((a : A) → T a → U a) → (r : Result A ExprFault) → Answers P T r → Answers Q U r
+  answers_as T U tree (Ok a) h = (none_as fault_order h.0, tree a h.1)
+  answers_as T U tree (Err fault.TooLong) h = first_as fault_order fault.TooLong h
+  answers_as T U tree (Err fault.TooDeep) h = first_as fault_order fault.TooDeep h
+  answers_as T U tree (Err fault.Syntax) h = first_as fault_order fault.Syntax h
+  answers_as T U tree (Err fault.Undefined) h = first_as fault_order fault.Undefined h
+  answers_as T U tree (Err fault.TooMany) h = first_as fault_order fault.TooMany h
+  answers_as T U tree (Err fault.RepeatedClause) h = first_as fault_order fault.RepeatedClause h
+  answers_as T U tree (Err fault.Overlap) h = first_as fault_order fault.Overlap h
+  answers_as T U tree (Err fault.NoMemory) h = tt
+
+module _ {D A : Type 0} (L : Language D A) (g : Given) where
+  -- ---- from tokens to the text
+
+  module _ (text : List ℕ) (toks : List Tok) (whole : Bool) (lexes : Lexes text toks whole) where
+    by_tokens : (d : D) → whole ≡ true → toks ≡ L.toks d → Lexes text (L.toks d) true
+    by_tokens d w is = subst (λ v. Lexes text (L.toks d) v) w (subst (λ ts. Lexes text ts whole) is lexes)
+
+    once : (d : D) → Lexes text (L.toks d) true → (toks ≡ L.toks d) × (whole ≡ true)
+    once d l = tokens_once text toks (L.toks d) whole true lexes l
+
+    to_text : (f : ExprFault) → TokensHave L g toks whole f → HasFault L g text f
+    to_text fault.TooLong h = absurd h
+    to_text fault.TooDeep h = (toks, whole, lexes, h)
+    to_text fault.Syntax h = λ p. let o = once p.0 p.1 in h (o.1, (p.0, o.0))
+    to_text fault.Undefined h = (h.1.0, by_tokens h.1.0 h.0 h.1.1, h.1.2)
+    to_text fault.TooMany h = (h.1.0, by_tokens h.1.0 h.0 h.1.1, h.1.2)
+    to_text fault.RepeatedClause h = (h.1.0, by_tokens h.1.0 h.0 h.1.1, h.1.2)
+    to_text fault.Overlap h = (h.1.0, by_tokens h.1.0 h.0 h.1.1, h.1.2)
+    to_text fault.NoMemory h = h
+
+    to_tokens : length text ≤ 4096 → (f : ExprFault) → HasFault L g text f → TokensHave L g toks whole f
+    to_tokens short fault.TooLong h = absurd (omega (arith, short, h))
+    to_tokens short fault.TooDeep h = subst TooDeep (sym (tokens_once text toks h.0 whole h.1 lexes h.2).0) h.3
+    to_tokens short fault.Syntax h = λ p. h (p.1.0, by_tokens p.1.0 p.0 p.1.1)
+    to_tokens short fault.Undefined h = let o = once h.0 h.1 in (o.1, (h.0, o.0, h.2))
+    to_tokens short fault.TooMany h = let o = once h.0 h.1 in (o.1, (h.0, o.0, h.2))
+    to_tokens short fault.RepeatedClause h = let o = once h.0 h.1 in (o.1, (h.0, o.0, h.2))
+    to_tokens short fault.Overlap h = let o = once h.0 h.1 in (o.1, (h.0, o.0, h.2))
+    to_tokens short fault.NoMemory h = h
+
+    -- the answer by the tokens is that by the text
+    pub parsed_by_tokens : length text ≤ 4096 → (r : Result A ExprFault) → ReadTokens L g toks whole r → Parsed L g text r
+    parsed_by_tokens short r h =
+        answers_as (TokensHave L g toks whole) (HasFault L g text) to_text (to_tokens short) _ (IsTreeOf L g text)
+        (λ a t. (t.1.0, by_tokens t.1.0 t.0 t.1.1, t.1.2)) r h
+
+  -- a text that is too long
+  pub parsed_too_long : (text : List ℕ) → 4096 < length text → Parsed L g text (Err fault.TooLong)
+  parsed_too_long text long = inl (refl, long)
+
+  -- ---- which fault of the tokens is the first
+
+  module _ (toks : List Tok) (whole : Bool) where
+    no_length : TokensHave L g toks whole fault.TooLong → ⊥
+    no_length h = h
+
+    pub read_too_deep : TooDeep toks → ReadTokens L g toks whole (Err fault.TooDeep)
+    read_too_deep deep = inr (no_length, inl (refl, deep))
+
+    pub read_cut : (TooDeep toks → ⊥) → whole ≡ false → ReadTokens L g toks whole (Err fault.Syntax)
+    read_cut shallow cut = inr (no_length, inr (shallow, inl (refl, λ p. let e : true ≡ false = sym p.0 ∙ cut in absurd (cc))))
+
+    pub read_syntax : (TooDeep toks → ⊥) → (IsOf L g toks → ⊥) → ReadTokens L g toks whole (Err fault.Syntax)
+    read_syntax shallow none = inr (no_length, inr (shallow, inl (refl, λ p. none p.1)))
+
+    -- an error of the reader
+    pub read_err : (f : ExprFault) → (TooDeep toks → ⊥) → ReadsWhole L g toks (Err f) → ReadTokens L g toks whole (Err f)
+    read_err fault.TooLong shallow h = let e = (h (λ e. cc)).0 in absurd (cc)
+    read_err fault.TooDeep shallow h = let e = (h (λ e. cc)).0 in absurd (cc)
+    read_err fault.Syntax shallow h = read_syntax shallow (h (λ e. cc)).1
+    read_err fault.Undefined shallow h = let e = (h (λ e. cc)).0 in absurd (cc)
+    read_err fault.TooMany shallow h = let e = (h (λ e. cc)).0 in absurd (cc)
+    read_err fault.RepeatedClause shallow h = let e = (h (λ e. cc)).0 in absurd (cc)
+    read_err fault.Overlap shallow h = let e = (h (λ e. cc)).0 in absurd (cc)
+    read_err fault.NoMemory shallow h = tt
+
+    module _ (shallow : TooDeep toks → ⊥) (is_whole : whole ≡ true) (a : A) (tree : IsTree L g toks a)
+        (one_tree : (d e : D) → L.toks d ≡ L.toks e → L.tree g d ≡ L.tree g e) where
+      has_syntax : TokensHave L g toks whole fault.Syntax → ⊥
+      has_syntax h = h (is_whole, (tree.0, tree.1))
+
+      -- the tree of a phrase with these tokens
+      same_tree : (d : D) → toks ≡ L.toks d → L.tree g d ≡ a
+      same_tree d is = one_tree d tree.0 (sym is ∙ tree.1) ∙ sym tree.2
+
+      differ : (b : Bool) → b ≡ true → b ≡ false → ⊥
+      differ b p q = cc
+
+      pub read_undefined : list_any (is_unknown g) toks ≡ true → ReadTokens L g toks whole (Err fault.Undefined)
+      read_undefined h =
+          inr (no_length, inr (shallow, inr (has_syntax, inl (refl, (is_whole, (tree.0, tree.1, subst (λ ts. list_any (is_unknown g) ts ≡ true) tree.1 h))))))
+
+      module _ (known : list_any (is_unknown g) toks ≡ false) where
+        no_unknown : TokensHave L g toks whole fault.Undefined → ⊥
+        no_unknown h = differ _ (subst (λ ts. list_any (is_unknown g) ts ≡ true) (sym h.1.1) h.1.2) known
+
+        pub read_too_many : L.is_crowded a ≡ true → ReadTokens L g toks whole (Err fault.TooMany)
+        read_too_many h =
+            inr (no_length, inr (shallow, inr (has_syntax, inr (no_unknown, inl (refl, (is_whole, (tree.0, tree.1, subst (λ b. L.is_crowded b ≡ true) tree.2 h)))))))
+
+        module _ (few : L.is_crowded a ≡ false) where
+          not_crowded : TokensHave L g toks whole fault.TooMany → ⊥
+          not_crowded h = differ _ (subst (λ b. L.is_crowded b ≡ true) (same_tree h.1.0 h.1.1) h.1.2) few
+
+          module _ (told : (d : D) → toks ≡ L.toks d → L.repeats d ≡ L.repeats tree.0) where
+            pub read_repeated : L.repeats tree.0 ≡ true → ReadTokens L g toks whole (Err fault.RepeatedClause)
+            read_repeated h =
+                inr (no_length, inr (shallow, inr (has_syntax, inr (no_unknown, inr (not_crowded, inl (refl, (is_whole, (tree.0, tree.1, h))))))))
+
+            module _ (apart : L.repeats tree.0 ≡ false) where
+              no_repeat : TokensHave L g toks whole fault.RepeatedClause → ⊥
+              no_repeat h = differ _ (sym (told h.1.0 h.1.1) ∙ h.1.2) apart
+
+              pub read_overlap : L.overlaps a ≡ true → ReadTokens L g toks whole (Err fault.Overlap)
+              read_overlap h =
+                  inr (no_length, inr (shallow, inr (has_syntax, inr (no_unknown, inr (not_crowded, inr (no_repeat, inl (refl, (is_whole, (tree.0, tree.1, subst (λ b. L.overlaps b ≡ true) tree.2 h)))))))))
+
+              pub read_tree : L.overlaps a ≡ false → ReadTokens L g toks whole (Ok a)
+              read_tree h =
+                  ((no_length, (shallow, (has_syntax, (no_unknown, (not_crowded, (no_repeat, ((λ o. differ _ (subst (λ b. L.overlaps b ≡ true) (same_tree o.1.0 o.1.1) o.1.2) h), tt))))))), (is_whole, tree))

@@ -1,0 +1,55 @@
+-- Given words one by one.
+use Rattle.std.proofs.Common.{◌≡◌, refl, sym, ap, ◌∙◌, ℕ, zero, suc, ◌+◌, Bool, true, false, ◌&&◌, ◌||◌, not, ◌⊎◌, inl, inr, List, [], ◌∷◌, drop, Option, Some, None, OnOk, Result, Ok, Err, add-one}
+use Rattle.std.proofs.Math.Seq.{drop-nil}
+use Rattle.std.specs.Prelude.{slice_get}
+use Rattle.std.specs.Option.{option_map_or}
+use Rattle.std.specs.List.{list_any, list_all}
+use Rattle.std.specs.declared.cmp.Ordering.TheVariants.{Less, Equal, Greater}
+use Rattle.std.specs.FinMap.Entries.{by_order}
+use Rattle.alt_value.specs.Item.{with_pair}
+use Rattle.alt_value.specs.Members.{text_order, has_member}
+use Rattle.alt_value.specs.Tree.{Tree, Pair}
+use Rattle.alt_expr.specs.Given.{has_unused, is_name, are_names}
+
+abbrev stays : List (List ℕ) → Pair → Bool
+stays used p = not (has_member text_order p.0 used)
+
+unused_step : (given : List Pair) (used : List (List ℕ)) (i : ℕ)
+    → has_unused (drop i given) used ≡ (option_map_or (stays used) (slice_get given i) false || has_unused (drop (suc i) given) used)
+unused_step [] used zero = refl
+unused_step [] used (suc i) = refl
+unused_step (p ∷ ps) used zero = refl
+unused_step (p ∷ ps) used (suc i) = unused_step ps used i
+
+-- the word at a place, and those behind it
+pub unused_on : (given : List Pair) (used : List (List ℕ)) (i : ℕ)
+    → has_unused (drop i given) used ≡ (option_map_or (stays used) (slice_get given i) false || has_unused (drop (i + 1) given) used)
+unused_on given used i = rw add-one (unused_step given used i)
+
+and_both : (a b : Bool) → a ≡ true → b ≡ true → (a && b) ≡ true
+and_both true b p q = q
+and_both false b p q = p
+
+and_first : (a b : Bool) → (a && b) ≡ true → a ≡ true
+and_first true b p = refl
+and_first false b p = p
+
+and_second : (a b : Bool) → (a && b) ≡ true → b ≡ true
+and_second true b p = p
+and_second false b p = absurd (cc)
+
+-- names with one name more are names
+pub are_names-with_pair : (w : List ℕ) (t : Tree) (ps : List Pair) → is_name t ≡ true → are_names ps ≡ true → are_names (with_pair w t ps) ≡ true
+are_names-with_pair w t [] name names = and_both _ _ name refl
+are_names-with_pair w t (p ∷ ps) name names =
+    elim (text_order w p.0) as (λ o. are_names (by_order o ((w, t) ∷ p ∷ ps) ((p.0, t) ∷ ps) (p ∷ with_pair w t ps)) ≡ true) [
+      | Less ↦ and_both _ _ name names
+      | Equal ↦ and_both _ _ name (and_second (is_name p.1) _ names)
+      | Greater ↦ and_both _ _ (and_first _ _ names) (are_names-with_pair w t ps name (and_second (is_name p.1) _ names))
+    ]
+
+-- the same of an answer
+pub names_put : {E : Type 0} (r : Result (Unit {0}) E) (w : List ℕ) (t : Tree) (old new : List Pair) → is_name t ≡ true → are_names old ≡ true
+    → OnOk r (new ≡ with_pair w t old) → OnOk r (are_names new ≡ true)
+names_put (Ok u) w t old new name names is = rw is (are_names-with_pair w t old name names)
+names_put (Err e) w t old new name names is = tt

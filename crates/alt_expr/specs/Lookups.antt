@@ -1,0 +1,13 @@
+-- The names and values over which a text is read.
+use Rattle.alt_expr.specs.Given.{Given}
+use Rattle.alt_expr.specs.NamesGiven.{given_names, given_values}
+use Rattle.alt_expr.specs.declared.lookups.Lookups.{Lookups}
+use Rattle.alt_expr.specs.declared.names.Names.{Names}
+use Rattle.alt_expr.specs.declared.values.Values.{Values}
+
+-- what names and values give together
+abbrev pub given_by : Names → Values → Given
+given_by n v = record { names = given_names n; values = given_values v }
+
+abbrev pub given_to : Lookups → Given
+given_to l = given_by l.names.now l.values.now

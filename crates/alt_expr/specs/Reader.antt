@@ -1,0 +1,174 @@
+-- What each function of a parser reads: the tree at the front of the tokens, and the tokens after it. It is a reader that takes
+-- one token after the other; that it meets the grammar is proved of each parser as a whole.
+use Rattle.std.specs.Prelude.{◌≡◌, ◌≢◌, ℕ, zero, suc, Bool, true, false, ◌&&◌, if◌then◌else◌, List, [], ◌∷◌, ◌++◌, length, map, drop, Option, Some, None, Result, Ok, Err}
+use Rattle.std.specs.Str.{bytes_eq}
+use Rattle.alt_value.specs.Tree.{Pair}
+use Rattle.alt_expr.specs.Tokens.{Tok, key, word, hash, index, mark, tok_of, is_mark, is_key}
+use Rattle.alt_expr.specs.Given.{name_of}
+use Rattle.alt_expr.specs.declared.token.Keyword.{Keyword}
+use Rattle.alt_expr.specs.declared.token.Mark.{Mark}
+use Rattle.alt_expr.specs.declared.token.Mark.TheVariants as m
+use Rattle.alt_expr.specs.declared.cursor.Cursor.{Cursor}
+use Rattle.alt_expr.specs.declared.fault.ExprFault.{ExprFault}
+use Rattle.alt_expr.specs.declared.fault.ExprFault.TheVariants.{Syntax, NoMemory}
+use Rattle.alt_expr.specs.declared.path.PathPart.{PathPart}
+use Rattle.alt_expr.specs.declared.path.PathPart.TheVariants as p
+
+-- the tokens before a cursor
+abbrev pub left : Cursor → List Tok
+left t = map tok_of t.rest.now
+
+abbrev pub Outcome : Type 0 → Type 0
+Outcome A = Option (A × List Tok)
+
+abbrev pub Parser : Type 0 → Type 0
+Parser A = List Tok → Outcome A
+
+abbrev pub and_then : {A B : Type 0} → Outcome A → (A → Parser B) → Outcome B
+and_then None f = None
+and_then (Some p) f = f p.0 p.1
+
+infixl 10 ◌>>=◌
+abbrev pub ◌>>=◌ : {A B : Type 0} → Parser A → (A → Parser B) → Parser B
+p >>= f = λ i. and_then (p i) f
+
+infixl 10 ◌>>◌
+abbrev pub ◌>>◌ : {A B : Type 0} → Parser A → Parser B → Parser B
+p >> q = p >>= (λ _. q)
+
+abbrev pub pure : {A : Type 0} → A → Parser A
+pure a = λ i. Some (a, i)
+
+infixr 11 ◌<$>◌
+abbrev pub ◌<$>◌ : {A B : Type 0} → (A → B) → Parser A → Parser B
+f <$> p = p >>= (λ x. pure (f x))
+
+abbrev pub refuse : {A : Type 0} → Parser A
+refuse = λ i. None
+
+-- ---- the next tokens
+
+abbrev pub is_word : List ℕ → Tok → Bool
+is_word name (word w) = bytes_eq w name
+is_word name _ = false
+
+abbrev pub is_any_word : Tok → Bool
+is_any_word (word w) = true
+is_any_word _ = false
+
+abbrev pub first_is : (Tok → Bool) → List Tok → Bool
+first_is p [] = false
+first_is p (t ∷ ts) = p t
+
+unfoldable pub sees_mark : Mark → List Tok → Bool
+sees_mark m i = first_is (is_mark m) i
+
+unfoldable pub sees_key : Keyword → List Tok → Bool
+sees_key k i = first_is (is_key k) i
+
+-- a word, and a round bracket behind it
+unfoldable pub calls : List ℕ → List Tok → Bool
+calls name i = first_is (is_word name) i && sees_mark m.LeftRound (drop 1 i)
+
+unfoldable pub is_call : List Tok → Bool
+is_call i = first_is is_any_word i && sees_mark m.LeftRound (drop 1 i)
+
+unfoldable pub after_mark : Mark → List Tok → List Tok
+after_mark m i = if sees_mark m i then drop 1 i else i
+
+unfoldable pub after_key : Keyword → List Tok → List Tok
+after_key k i = if sees_key k i then drop 1 i else i
+
+abbrev pub eat : Mark → Parser Bool
+eat m = λ i. Some (sees_mark m i, after_mark m i)
+
+abbrev pub eat_key : Keyword → Parser Bool
+eat_key k = λ i. Some (sees_key k i, after_key k i)
+
+unfoldable pub expect : Mark → Parser (Unit {0})
+expect m = λ i. if sees_mark m i then Some (tt, drop 1 i) else None
+
+unfoldable pub expect_key : Keyword → Parser (Unit {0})
+expect_key k = λ i. if sees_key k i then Some (tt, drop 1 i) else None
+
+abbrev pub skip : ℕ → Parser (Unit {0})
+skip n = λ i. Some (tt, drop n i)
+
+-- ---- paths
+
+abbrev pub name_at : List Pair → List Tok → Outcome (List ℕ)
+name_at names (word w ∷ ts) = Some (w, ts)
+name_at names (hash w ∷ ts) = Some (name_of names w, ts)
+name_at names _ = None
+
+unfoldable pub name : List Pair → Parser (List ℕ)
+name = name_at
+
+abbrev pub index_at : List Tok → Outcome ℕ
+index_at (index n ∷ ts) = Some (n, ts)
+index_at _ = None
+
+unfoldable pub number : Parser ℕ
+number = index_at
+
+unfoldable pub index_part : Parser PathPart
+index_part = do
+  x ← number
+  expect m.RightSquare
+  pure (p.Index x)
+
+-- a further part of a path, if one comes next
+unfoldable pub part : List Pair → Parser (Option PathPart)
+part names = do
+  dot ← eat m.Dot
+  if dot then (do
+    x ← name names
+    pure (Some (p.Name x))) else (do
+      square ← eat m.LeftSquare
+      if square then (do
+        x ← index_part
+        pure (Some x)) else pure None)
+
+abbrev pub parts_on : (List PathPart → Parser (List PathPart)) → List PathPart → Option PathPart → Parser (List PathPart)
+parts_on more found (Some x) = more (found ++ x ∷ [])
+parts_on more found None = pure found
+
+unfoldable pub parts_from : List Pair → ℕ → List PathPart → Parser (List PathPart)
+parts_from names zero found = refuse
+parts_from names (suc n) found = do
+  next ← part names
+  parts_on (parts_from names n) found next
+
+unfoldable pub path : List Pair → Parser (List PathPart)
+path names = λ i. (do
+  x ← name names
+  parts_from names (length i) (p.Name x ∷ [])) i
+
+unfoldable pub in_brackets : {A : Type 0} → Parser A → Parser A
+in_brackets p = do
+  x ← p
+  expect m.RightRound
+  pure x
+
+-- ---- lists
+
+-- further ones, each behind a comma
+unfoldable pub listed_from : {A : Type 0} → Parser A → ℕ → List A → Parser (List A)
+listed_from one zero found = refuse
+listed_from one (suc n) found = do
+  more ← eat m.Comma
+  if more then (do
+    x ← one
+    listed_from one n (found ++ x ∷ [])) else pure found
+
+-- one or more, with commas between
+unfoldable pub listed : {A : Type 0} → Parser A → Parser (List A)
+listed one = λ i. (do
+  x ← one
+  listed_from one (length i) (x ∷ [])) i
+
+-- ---- what a function that parses ensures: the outcome, unless memory fails
+
+abbrev pub Reads : {A : Type 0} → Outcome A → Result A ExprFault → List Tok → Type 0
+Reads outcome (Ok a) new = outcome ≡ Some (a, new)
+Reads outcome (Err e) new = e ≢ NoMemory → (outcome ≡ None) × (e ≡ Syntax)

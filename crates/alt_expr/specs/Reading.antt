@@ -1,0 +1,11 @@
+-- How far a lexer has read.
+use Rattle.std.specs.Prelude.{ℕ, List}
+use Rattle.alt_expr.specs.declared.lexer.Lexer.{Lexer}
+
+-- the text that a lexer reads
+abbrev pub text_of : Lexer → List ℕ
+text_of l = l.whole.now
+
+-- what a lexer has still to read
+abbrev pub left_of : Lexer → List ℕ
+left_of l = l.rest.now

@@ -1,0 +1,13 @@
+//! What follows of gated logs from their definitions, for the callers' proofs.
+
+ghost use Rattle.alt_gatelog.specs.Laws.{OneList, DamagedIsNone, InEachImage, StaysElsewhere, StaysQuiet};
+
+/// A file is a log of one list at most, and of none where it is damaged. Where a log in hand stands each stop leaves its file with its
+/// entries, and it stands on while other files change or nothing does.
+pub fn log_laws()
+    ensures one_list { OneList }
+    ensures damaged { DamagedIsNone }
+    ensures in_each_image { InEachImage }
+    ensures elsewhere { StaysElsewhere }
+    ensures quiet { StaysQuiet }
+{}

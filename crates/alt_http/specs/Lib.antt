@@ -1,0 +1,12 @@
+pub mod Asked
+pub mod Dates
+pub mod Feeds
+pub mod Fields
+pub mod Heads
+pub mod Judged
+pub mod Lengths
+pub mod Pieces
+pub mod Reading
+pub mod Replies
+pub mod SoFar
+pub mod Spans

@@ -1,0 +1,12 @@
+-- A reader of lines as contracts see it.
+use Rattle.std.specs.Prelude.{[], ◌++◌, drop, if◌then◌else◌}
+use Rattle.alt_lines.specs.Unread.{Unread, too_many}
+use Rattle.alt_lines.specs.declared.reader.Lines.{Lines}
+
+-- what it has not given out yet
+unfoldable pub unread : Lines → Unread
+unread lines = record {
+  most = lines.most;
+  bytes = (if lines.past then too_many lines.most else []) ++ drop lines.start lines.held.items;
+  ended = lines.ended;
+}

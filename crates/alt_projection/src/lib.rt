@@ -1,0 +1,8 @@
+//! Projections: the paths of a text, and what they choose of an item.
+#![tactic(auto)]
+
+mod choosing;
+mod projecting;
+mod stepping;
+
+pub use projecting::project;

@@ -1,0 +1,121 @@
+//! The calls that a shell in memory keeps. The first failed call of each stream takes no memory: it stands in a field of its own, between
+//! the calls before it and those behind it.
+
+ghost use Rattle.std.specs.Prelude.{◌≡◌, true, false, length, is_some};
+ghost use Rattle.alt_shell.specs.Log.{takes_failed, says_failed};
+ghost use Rattle.alt_shell.specs.Kept.{entries_in};
+
+use alt_base::NoMemory;
+use std::alloc::Global;
+
+/// What a call did.
+#[derive(Drop)]
+pub(crate) enum Act {
+    Took(Vec<u8>),
+    Said(Vec<u8>),
+}
+
+/// A call, with the moment at which it ended and how many moments had been told.
+#[derive(Drop)]
+pub(crate) struct Call {
+    pub(crate) moment: u64,
+    pub(crate) told: u64,
+    pub(crate) act: Act,
+}
+
+/// One of the standard streams.
+#[derive(Clone, Copy, Drop)]
+pub(crate) enum Stream {
+    Input,
+    Output,
+}
+
+/// A call of a stream that failed, with the moment at which it ended and how many moments had been told.
+#[derive(Clone, Copy, Drop)]
+pub(crate) struct Missed {
+    pub(crate) moment: u64,
+    pub(crate) told: u64,
+    pub(crate) stream: Stream,
+}
+
+/// The calls in the order in which they were made: those before the first failure, that failure, those up to the first failure of the
+/// other stream, that failure, and those behind it.
+#[derive(Drop)]
+pub(crate) struct Kept {
+    pub(crate) before: Vec<Call>,
+    pub(crate) first: Option<Missed>,
+    pub(crate) between: Vec<Call>,
+    pub(crate) second: Option<Missed>,
+    pub(crate) behind: Vec<Call>,
+    pub(crate) take_failed: bool,
+    pub(crate) say_failed: bool,
+    ghost one_first: { is_some first ≡ false → length between.items ≡ 0 },
+    ghost then_other: { is_some first ≡ false → is_some second ≡ false },
+    ghost none_behind: { is_some second ≡ false → length behind.items ≡ 0 },
+    ghost no_third: { is_some second ≡ true → (take_failed ≡ true) × (say_failed ≡ true) },
+    ghost takes: { take_failed ≡ takes_failed
+        (entries_in before.items first between.items second behind.items) },
+    ghost says: { say_failed ≡ says_failed (entries_in before.items first between.items second
+        behind.items) },
+}
+
+impl Kept {
+    ghost use Rattle.std.specs.Prelude.{[], ◌∷◌, ◌++◌, ◌⊎◌, OnOk, OnErr};
+    ghost use Rattle.alt_shell.specs.Kept.{entry_by, entry_of_missed, fails_of};
+    ghost use Rattle.alt_shell.specs.States.{kept_entries};
+
+    /// No calls.
+    pub(crate) fn new(alloc: Global) -> Self
+        ensures { kept_entries result ≡ [] }
+    {
+        Kept {
+            before: Vec::new(alloc),
+            first: None,
+            between: Vec::new(alloc),
+            second: None,
+            behind: Vec::new(alloc),
+            take_failed: false,
+            say_failed: false,
+        }
+    }
+
+    /// Adds a call. After an error nothing was added.
+    pub(crate) fn push(&mut self, call: Call) -> Result<(), NoMemory>
+        ensures ok { OnOk result (kept_entries self.new
+            ≡ kept_entries self.old ++ entry_by call ∷ []) }
+        ensures err { OnErr result (kept_entries self.new ≡ kept_entries self.old) }
+    {
+        if self.second.is_some() {
+            self.behind.push(call)?;
+        } else if self.first.is_some() {
+            self.between.push(call)?;
+        } else {
+            self.before.push(call)?;
+        }
+        Ok(())
+    }
+
+    /// Adds a call that failed, where it is the first of its stream. It takes no memory.
+    pub(crate) fn miss(&mut self, missed: Missed)
+        ensures { (kept_entries self.new ≡ kept_entries self.old ++ entry_of_missed missed ∷ [])
+            ⊎ ((fails_of missed.stream (kept_entries self.old) ≡ true)
+            × (kept_entries self.new ≡ kept_entries self.old)) }
+    {
+        let seen = match missed.stream {
+            Stream::Input => self.take_failed,
+            Stream::Output => self.say_failed,
+        };
+        if seen {
+            return;
+        }
+        match missed.stream {
+            Stream::Input => self.take_failed = true,
+            Stream::Output => self.say_failed = true,
+        }
+        if self.first.is_none() {
+            self.first = Some(missed);
+        } else {
+            self.second = Some(missed);
+        }
+    }
+}

@@ -1,0 +1,59 @@
+-- The turns of lines, one list of lines after another.
+use Rattle.std.proofs.Common.{◌≡◌, ◌≤◌, ◌+◌, ℕ, suc, List, [], ◌∷◌, ◌++◌, length, Bool, true, cond, Option, Some, None, refl, sym, ap, ◌∙◌, append_assoc, append-nil, arith, length-append, drop}
+use Rattle.std.proofs.lemmas.Bool.{le-leb}
+use Rattle.std.proofs.lemmas.Grind.{flat_map-append}
+use Rattle.std.proofs.Math.Seq.{drop-append_seam}
+use Rattle.alt_machine.specs.State.{State}
+use Rattle.alt_machine.specs.Wanted.{Lack}
+use Rattle.alternator.specs.Moments.{answered}
+use Rattle.alternator.specs.Turns.{Asked, request, unread, Turn, turns, turned_away, carried_out, text_of, after, after_turn, or_next, wanted, requests}
+
+same_suc : {m n : ℕ} → suc m ≡ suc n → m ≡ n
+same_suc e = omega arith
+
+-- requests of lines and more lines
+pub requests-append : (ls ks : List Asked) → requests (ls ++ ks) ≡ requests ls + requests ks
+requests-append [] ks = omega arith
+requests-append (request name body ∷ ls) ks = let h = requests-append ls ks in omega (arith, h)
+requests-append (unread ∷ ls) ks = requests-append ls ks
+
+-- the turns of lines and more lines are those of the first, and then those of the others from the state that the first left
+pub turns-append : (s : State) (ls ks : List Asked) (ms ns : List ℕ) → length ms ≡ requests ls
+    → turns s (ls ++ ks) (ms ++ ns) ≡ turns s ls ms ++ turns (after s (turns s ls ms)) ks ns
+turns-append s [] ks [] ns e = refl
+turns-append s [] ks (m ∷ ms) ns e = absurd (omega arith)
+turns-append s (request name body ∷ ls) ks [] ns e = absurd (omega arith)
+turns-append s (request name body ∷ ls) ks (m ∷ ms) ns e =
+    ap (λ ts. carried_out s name body m ∷ ts)
+    (turns-append (after_turn s (carried_out s name body m)) ls ks ms ns (same_suc e))
+turns-append s (unread ∷ ls) ks ms ns e = ap (λ ts. turned_away ∷ ts) (turns-append s ls ks ms ns e)
+
+-- what is said in all
+pub text_of-append : (ts us : List Turn) → text_of (ts ++ us) ≡ text_of ts ++ text_of us
+text_of-append ts us = flat_map-append (λ (t : Turn). t.text) ts us
+
+-- the state after all
+pub after-append : (s : State) (ts us : List Turn) → after s (ts ++ us) ≡ after (after s ts) us
+after-append s [] us = refl
+after-append s (t ∷ ts) us = after-append (after_turn s t) ts us
+
+first_none : (v w : Option Lack) → or_next v w ≡ None → (v ≡ None) × (w ≡ None)
+first_none None w e = (refl, e)
+first_none (Some n) w e = absurd (let f : ⊥ = cc in f)
+
+-- what is wanted where the first turns had all that they wanted
+pub wanted-append : (ts us : List Turn) → wanted ts ≡ None → wanted (ts ++ us) ≡ wanted us
+wanted-append [] us e = refl
+wanted-append (t ∷ ts) us e =
+    let here = first_none t.lacks (wanted ts) e in
+    ap (λ w. or_next w (wanted (ts ++ us))) here.0 ∙ wanted-append ts us here.1
+
+-- where all texts were said, all turns were answered
+pub answered-all : (ts : List Turn) → answered ts (text_of ts) ≡ ts
+answered-all [] = refl
+answered-all (t ∷ ts) =
+    let rest = text_of ts in
+    let fits : length t.text ≤ length (t.text ++ rest) = let k = length-append t.text rest in omega (arith, k) in
+    ap (λ b. cond b (t ∷ answered ts (drop (length t.text) (t.text ++ rest))) []) (le-leb (length t.text) (length (t.text ++ rest)) fits)
+    ∙ ap (λ (bytes : List ℕ). t ∷ answered ts bytes) (drop-append_seam t.text rest)
+    ∙ ap (λ us. t ∷ us) (answered-all ts)

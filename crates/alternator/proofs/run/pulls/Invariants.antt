@@ -1,0 +1,16 @@
+use Rattle.std.proofs.Common.{◌≡◌, ◌-◌, ◌^◌, false}
+use Rattle.alt_lines.specs.Reader.{unread}
+use Rattle.alt_machine.specs.State.{start}
+use Rattle.alternator.specs.Runs.{Passes, Reaches, Goes}
+use Rattle.alternator.proofs.Pulling.{fresh}
+use Rattle.alternator.proofs.run.pulls.Given as goal
+
+abbrev pub invariant-pulls : goal.invariant-pulls
+invariant-pulls g l =
+    let state = g.S.Disk.state in
+    Reaches (state l.initial.shell) (state l.shell) l.tables (λ t. Goes start fresh t (unread l.lines))
+    × Passes (state l.initial.shell) (state l.shell)
+    × ((unread l.lines).ended ≡ false)
+
+abbrev pub decreases-pulls : goal.decreases-pulls
+decreases-pulls g l = 2 ^ 64 - 1 - (g.S.Disk.state l.shell).moment

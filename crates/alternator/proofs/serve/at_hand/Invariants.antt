@@ -1,0 +1,15 @@
+use Rattle.std.proofs.Common.{length}
+use Rattle.alt_lines.specs.Reader.{unread}
+use Rattle.alt_lines.specs.Unread.{lines_now}
+use Rattle.alternator.specs.Runs.{Passes}
+use Rattle.alternator.proofs.Hands.{Hands}
+use Rattle.alternator.proofs.serve.at_hand.Given as goal
+
+abbrev pub invariant-lines : goal.invariant-lines
+invariant-lines g l =
+    let state = g.S.Disk.state in
+    Hands (state l.initial.shell) l.initial.tables (state l.shell) l.tables (unread l.initial.lines) (unread l.lines)
+    × Passes (state l.initial.shell) (state l.shell)
+
+abbrev pub decreases-lines : goal.decreases-lines
+decreases-lines g l = length (lines_now (unread l.lines))

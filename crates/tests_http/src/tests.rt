@@ -1,0 +1,6 @@
+//! Rows from outside: the tables of the specification, and heads that clients send.
+mod clients;
+mod heads;
+mod lines;
+mod replies;
+mod trial;

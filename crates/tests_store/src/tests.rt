@@ -1,0 +1,5 @@
+//! The tests, crate by crate.
+
+mod disk;
+mod gatelog;
+mod shell;

@@ -1,0 +1,5 @@
+mod decimals;
+mod fields;
+mod json;
+mod sets;
+mod values;

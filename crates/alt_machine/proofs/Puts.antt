@@ -21,7 +21,7 @@ use Rattle.alt_machine.specs.Writes.{item_writes, after_item}
 use Rattle.alt_machine.proofs.Chains.{Steps, AreSteps, no_steps, one_step, steps-unless}
 use Rattle.alt_machine.proofs.Targets.{steps-on_item}
 use Rattle.alt_machine.proofs.Lacks.{number_room}
-use Rattle.alt_machine.proofs.ReadItems.{item_names, item_depth, item_full}
+use Rattle.alt_codec.proofs.Fits.{item_names, item_depth, item_full}
 use Rattle.alt_machine.proofs.States.{after_item_valid, with_item_stored}
 use Rattle.alt_machine.proofs.Tests.{unless_holds}
 use Rattle.alt_schema.specs.Indexes.{keys_fit}

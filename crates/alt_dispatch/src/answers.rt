@@ -1,11 +1,11 @@
 //! The way of a request: its operation, its body as JSON, and then the operation itself.
 
-ghost use Rattle.std.specs.Prelude.{◌≡◌, false, IfOk, OnOk, option_map};
+ghost use Rattle.std.specs.Prelude.{◌≡◌, false, IfOk, OnOk, map, option_map};
 ghost use Rattle.std.specs.List.{find};
 ghost use Rattle.std.specs.Str.{bytes_eq};
 ghost use Rattle.serde_json.specs.View.{view, members_view};
 ghost use Rattle.serde_json.specs.Written.{has_float};
-ghost use Rattle.alt_machine.specs.Operations.{operation_named};
+ghost use Rattle.alt_machine.specs.Operations.{named_in, operation_named};
 ghost use Rattle.alt_machine.specs.Outcomes.{last_state};
 ghost use Rattle.alt_machine.specs.State.{State};
 ghost use Rattle.alt_machine.specs.Step.{step, operates};
@@ -43,14 +43,18 @@ pub fn operation_named(word: &[u8]) -> Option<Operation>
 }
 
 fn named_among(operations: &[(&'static str, Operation)], word: &[u8]) -> Option<Operation>
+    ensures { result ≡ named_in (map (λ p. (p.0.now, p.1)) operations.now) word.now }
+{
+    operation_in(operations, word)
+}
+
+fn operation_in(operations: &[(&'static str, Operation)], word: &[u8]) -> Option<Operation>
     ensures { result ≡ option_map (λ p. p.1) (find (λ p. bytes_eq p.0.now word.now) operations.now) }
 {
-    for (name, operation) in operations {
-        if name.as_bytes() == word {
-            return Some(*operation);
-        }
-    }
-    None
+    let entry = operations
+        .iter()
+        .find(|entry| entry.0.as_bytes() == word)?;
+    Some(entry.1)
 }
 
 /// One request at a moment, in whole seconds since 1970: the reply is that of the machine's step, and the tables then stand for the

@@ -22,21 +22,25 @@ module _ (now : State → Type 0) (s : State) (outcome : Outcome) where
   take_whole (x ∷ xs) = ap (λ ys. x ∷ ys) (take_whole xs)
 
   -- where the refusal isn't told for want of memory, nothing was written
-  untold : (answer : Answer) → IsAnswered now s outcome answer → Settles now s outcome (Err NoMemory)
+  untold : (answer : Answer) → IsAnswered now s outcome answer
+      → Settles now s outcome (Err NoMemory)
   untold answer h = (
     length outcome.atoms,
     ap (lack_among outcome.wants s) (take_whole outcome.atoms) ∙ h.enough,
     subst (λ atoms. now (last_state s atoms)) (sym (take_whole outcome.atoms)) h.state,
   )
 
-  pub settled : (carried : Result Reply Stop) (told : Result Reply TableFault) → Does now s outcome carried → Tells carried told → Settles now s outcome told
+  pub settled : (carried : Result Reply Stop) (told : Result Reply TableFault)
+      → Does now s outcome carried → Tells carried told → Settles now s outcome told
   settled (Ok reply) told h is = subst (Settles now s outcome) (sym is) h
   settled (Err (Refused r)) (Ok reply) h is = subst (IsAnswered now s outcome) (sym is) h
-  settled (Err (Refused r)) (Err fault) h is = subst (λ f. Settles now s outcome (Err f)) (sym is) (untold (refused r) h)
+  settled (Err (Refused r)) (Err fault) h is =
+      subst (λ f. Settles now s outcome (Err f)) (sym is) (untold (refused r) h)
   settled (Err (Fault f)) told h is = subst (Settles now s outcome) (sym is) h
 
 -- what the tables then stand for is valid
-pub settled_valid : (now : State → Type 0) (s : State) (outcome : Outcome) (told : Result Reply TableFault) → ((r : State) → now r → IsValid r)
+pub settled_valid : (now : State → Type 0) (s : State) (outcome : Outcome)
+    (told : Result Reply TableFault) → ((r : State) → now r → IsValid r)
     → Settles now s outcome told → OnOk told (IsValid (last_state s outcome.atoms))
 settled_valid now s outcome (Ok reply) valid h = valid (last_state s outcome.atoms) h.state
 settled_valid now s outcome (Err fault) valid h = tt

@@ -49,11 +49,10 @@ fn named_among(operations: &[(&'static str, Operation)], word: &[u8]) -> Option<
 }
 
 fn operation_in(operations: &[(&'static str, Operation)], word: &[u8]) -> Option<Operation>
-    ensures { result ≡ option_map (λ p. p.1) (find (λ p. bytes_eq p.0.now word.now) operations.now) }
+    ensures { result ≡ option_map (λ p. p.1) (find
+        (λ p. bytes_eq p.0.now word.now) operations.now) }
 {
-    let entry = operations
-        .iter()
-        .find(|entry| entry.0.as_bytes() == word)?;
+    let entry = operations.iter().find(|entry| entry.0.as_bytes() == word)?;
     Some(entry.1)
 }
 
@@ -70,7 +69,8 @@ pub fn answer<D: Disk>(
     // Ok has the answer and leaves the state after the last write, and none of the writes lacked a number or a family; an error has its
     // cause, and leaves the state after some of the writes.
     ensures settles { (s : State) → Stands (D.state disk.old) tables.old s
-        → Settles (Stands (D.state disk.new) tables.new) s (step s operation body.now moment) result }
+        → Settles (Stands (D.state disk.new) tables.new) s
+        (step s operation body.now moment) result }
     // What holds of every state from the empty store on goes on to hold.
     ensures valid { (s : State) → Stands (D.state disk.old) tables.old s
         → OnOk result (IsValid (last_state s (step s operation body.now moment).atoms)) }

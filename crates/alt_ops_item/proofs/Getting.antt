@@ -9,6 +9,7 @@ use Rattle.alt_machine.specs.Targets.{on_item}
 use Rattle.alt_shape.specs.Bodies as bodies
 use Rattle.alt_shape.specs.declared.rule.Broken.{Broken}
 
-pub get_is : (ms : Members) (broken : Option Broken) → broken ≡ bodies.get_item ms → (s : State) → get_item s ms ≡ on_item (body_refusals broken rules ms) Key s ms gets
+pub get_is : (ms : Members) (broken : Option Broken) → broken ≡ bodies.get_item ms → (s : State)
+    → get_item s ms ≡ on_item (body_refusals broken rules ms) Key s ms gets
 unfolding get_item
 get_is ms broken e s = λ i. on_item (body_refusals (sym e i) rules ms) Key s ms gets

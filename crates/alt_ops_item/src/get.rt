@@ -42,7 +42,9 @@ pub fn get_item<D: Disk>(
     let broken = bodies::get_item(body);
     let target = item_target(alloc, tables, body, broken, &RULES, Sought::Key)?;
     let Target {
-        item: _key, place, ..
+        item: _key,
+        place,
+        ..
     } = target;
     let name = table_name(body);
     let found = tables.find(disk, name, place)?;

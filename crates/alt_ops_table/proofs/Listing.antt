@@ -21,19 +21,23 @@ use Rattle.std.specs.List.{filter}
 use Rattle.std.specs.Ordering.{is_lt}
 use Rattle.alt_value.specs.Members.{text_order}
 
-pub list-refused : (s : State) (ms : Members) (r : Refusal) → first_answer (of_body ms) ≡ Some (refused r) → list_tables s ms ≡ refuses r
+pub list-refused : (s : State) (ms : Members) (r : Refusal)
+    → first_answer (of_body ms) ≡ Some (refused r) → list_tables s ms ≡ refuses r
 unfolding list_tables
 list-refused s ms r e = stopped (of_body ms) _ (refused r) e
 
 -- the page of the names in the catalog
-pub list-page : (s : State) (ms : Members) (catalog : Texts TableSchema) → catalog ≡ descriptions s.tables → first_answer (of_body ms) ≡ None
+pub list-page : (s : State) (ms : Members) (catalog : Texts TableSchema)
+    → catalog ≡ descriptions s.tables → first_answer (of_body ms) ≡ None
     → list_tables s ms ≡ says (page_of (page_length ms) (names_after (start_name ms) catalog))
 unfolding list_tables
 list-page s ms catalog same free = passed (of_body ms) _ free
-    ∙ ap (λ names. says (page_of (page_length ms) (filter (λ name. is_lt (text_order (start_name ms) name)) names)))
+    ∙ ap (λ names. says (page_of (page_length ms)
+    (filter (λ name. is_lt (text_order (start_name ms) name)) names)))
     (sym (keys-descriptions s.tables) ∙ ap (λ m. map.keys m) (sym same))
 
-pub page-listed : (more : Bool) (names all : List (List ℕ)) (most : ℕ) → names ≡ take most all → more ≡ nat_lt most (length all)
+pub page-listed : (more : Bool) (names all : List (List ℕ)) (most : ℕ) → names ≡ take most all
+    → more ≡ nat_lt most (length all)
     → listed (if more then last_or None names else None) names ≡ page_of most all
 page-listed more names all most e f = λ i. listed (if f i then last_or None (e i) else None) (e i)
 
@@ -46,18 +50,22 @@ strings_plain (s ∷ ss) = strings_plain ss
 or_false : (b : Bool) → b ≡ false → (b || false) ≡ false
 or_false b e = rw e refl
 
-listed_plain : (last : Option (List ℕ)) (names : List (List ℕ)) → has_float (listed last names).body ≡ false
+listed_plain : (last : Option (List ℕ)) (names : List (List ℕ))
+    → has_float (listed last names).body ≡ false
 listed_plain None names = or_false _ (strings_plain names)
 listed_plain (Some l) names = or_false _ (strings_plain names)
 
-pub reply_plain : (reply : Reply) (last : Option (List ℕ)) (names : List (List ℕ)) → answer_of reply ≡ listed last names → has_float (view reply.body) ≡ false
+pub reply_plain : (reply : Reply) (last : Option (List ℕ)) (names : List (List ℕ))
+    → answer_of reply ≡ listed last names → has_float (view reply.body) ≡ false
 reply_plain reply last names e = ap (λ (a : Answer). has_float a.body) e ∙ listed_plain last names
 
-pub page_plain : {E : Type 0} (r : Result Reply E) (last : Option (List ℕ)) (names : List (List ℕ)) → IfOk r (λ reply. answer_of reply ≡ listed last names)
+pub page_plain : {E : Type 0} (r : Result Reply E) (last : Option (List ℕ)) (names : List (List ℕ))
+    → IfOk r (λ reply. answer_of reply ≡ listed last names)
     → IfOk r (λ reply. has_float (view reply.body) ≡ false)
 page_plain (Ok reply) last names h = reply_plain reply last names h
 page_plain (Err e) last names h = tt
 
-pub page_said : {E : Type 0} (r : Result Reply E) (a b : Answer) → a ≡ b → IfOk r (λ reply. answer_of reply ≡ a) → IfOk r (λ reply. answer_of reply ≡ b)
+pub page_said : {E : Type 0} (r : Result Reply E) (a b : Answer) → a ≡ b
+    → IfOk r (λ reply. answer_of reply ≡ a) → IfOk r (λ reply. answer_of reply ≡ b)
 page_said (Ok reply) a b e h = h ∙ e
 page_said (Err x) a b e h = tt

@@ -33,5 +33,7 @@ pub record IsToBeMade (tables : Tables) (moment : ℕ) (ms : Members) (d : Table
 -- That is so; or the machine refuses the request too.
 abbrev pub IsAsked : Tables → ℕ → Members → Result TableSchema Stop → Type 0
 IsAsked tables moment ms (Ok d) = IsToBeMade tables moment ms d
-IsAsked tables moment ms (Err (Refused r)) = IsKnown r × ((s : State) → descriptions s.tables ≡ catalog_of tables → create_table s moment ms ≡ refuses r)
+IsAsked tables moment ms (Err (Refused r)) = IsKnown r
+    × ((s : State) → descriptions s.tables ≡ catalog_of tables
+    → create_table s moment ms ≡ refuses r)
 IsAsked tables moment ms (Err (Fault f)) = IsReadFault f

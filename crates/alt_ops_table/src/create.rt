@@ -142,7 +142,8 @@ fn has_some(items: &Vec<Value>) -> bool
 }
 
 fn enables_stream(body: &Map<String, Value>) -> bool
-    ensures { result ≡ of_stream (λ specification. unwrap_or (enables specification) false) (members_view body.now.entries) }
+    ensures { result ≡ of_stream (λ specification. unwrap_or (enables specification) false)
+        (members_view body.now.entries) }
 {
     match object_at(body, "StreamSpecification") {
         Some(specification) => truth_at(specification, "StreamEnabled").unwrap_or(false),

@@ -71,7 +71,8 @@ fn answer_of_page(
     body: &Map<String, Value>,
 ) -> Result<Reply, NoMemory>
     ensures reply { IfOk result (λ reply. answer_of reply
-        ≡ page_of (page_length (members_view body.now.entries)) (names_after (start_name (members_view body.now.entries)) (catalog_of tables.now))) }
+        ≡ page_of (page_length (members_view body.now.entries))
+        (names_after (start_name (members_view body.now.entries)) (catalog_of tables.now))) }
     ensures plain { IfOk result (λ reply. has_float (view reply.body) ≡ false) }
 {
     let page = page_after(alloc, tables, start_name(body), page_length(body))?;
@@ -94,8 +95,10 @@ fn page_length(body: &Map<String, Value>) -> u64
 
 /// The first `most` names after that one, each found from the one before.
 fn page_after(alloc: Global, tables: &Tables, start: &str, most: u64) -> Result<Page, NoMemory>
-    ensures names { IfOk result (λ p. p.names.items ≡ take most (names_after start.now (catalog_of tables.now))) }
-    ensures more { IfOk result (λ p. p.more ≡ nat_lt most (length (names_after start.now (catalog_of tables.now)))) }
+    ensures names { IfOk result (λ p. p.names.items
+        ≡ take most (names_after start.now (catalog_of tables.now))) }
+    ensures more { IfOk result (λ p. p.more ≡ nat_lt most
+        (length (names_after start.now (catalog_of tables.now)))) }
 {
     let mut names = Vec::new(alloc);
     let mut last = start;
@@ -113,7 +116,8 @@ fn page_after(alloc: Global, tables: &Tables, start: &str, most: u64) -> Result<
 /// The last name of a page, where it isn't the last of all.
 #[tactic(auto, using(crate::proofs::Pages::last_get))]
 fn last_name(page: &Page) -> Option<&str>
-    ensures { option_map (λ s. s.now) result ≡ (if page.now.more then last_or None page.now.names.items else None) }
+    ensures { option_map (λ s. s.now) result ≡ (if page.now.more then last_or None
+        page.now.names.items else None) }
 {
     if !page.more {
         return None;
@@ -124,7 +128,8 @@ fn last_name(page: &Page) -> Option<&str>
 /// The reply of a page.
 fn listed(alloc: Global, page: &Page) -> Result<Reply, NoMemory>
     ensures reply { IfOk result (λ reply. answer_of reply
-        ≡ listed (if page.now.more then last_or None page.now.names.items else None) page.now.names.items) }
+        ≡ listed (if page.now.more then last_or None page.now.names.items else None)
+        page.now.names.items) }
 {
     let names = json_of_texts(alloc, page.names.as_slice())?;
     let mut members = Map::new(alloc);

@@ -21,7 +21,8 @@ pub(crate) fn described(
     schema: &TableSchema,
     status: &str,
 ) -> Result<Reply, Stop>
-    ensures reply { IfOk result (λ reply. answer_of reply ≡ answers member.now (description_json schema.now status.now)) }
+    ensures reply { IfOk result (λ reply. answer_of reply
+        ≡ answers member.now (description_json schema.now status.now)) }
     ensures plain { IfOk result (λ reply. has_float (view reply.body) ≡ false) }
     ensures cause { IfErr result IsMemory }
 {

@@ -34,7 +34,8 @@ pub fn table_target<'t>(
     broken: Option<Broken>,
     rules: &Rules,
 ) -> Result<&'t TableSchema, Stop>
-    ensures target { OnTable (body_refusals broken (rules_of rules.now) (members_view body.now.entries))
+    ensures target { OnTable (body_refusals broken (rules_of rules.now)
+        (members_view body.now.entries))
         (catalog_of tables.now) (members_view body.now.entries) result }
 {
     body_refusal(broken, rules, body)?;
@@ -50,7 +51,8 @@ pub fn item_target<'t>(
     rules: &Rules,
     sought: Sought,
 ) -> Result<Target<'t>, Stop>
-    ensures target { OnItem (body_refusals broken (rules_of rules.now) (members_view body.now.entries)) sought
+    ensures target { OnItem (body_refusals broken (rules_of rules.now)
+        (members_view body.now.entries)) sought
         (catalog_of tables.now) (members_view body.now.entries) result }
 {
     body_refusal(broken, rules, body)?;

@@ -39,8 +39,10 @@ impl Tables {
     ) -> Result<Found, TableFault>
         requires there { map.contains_key (catalog_of self.old) table.now ≡ true }
         ensures place { IfOk result (λ found. found.place ≡ place) }
-        ensures item { (s : State) → Stands (D.state disk.old) self.old s → IfOk result (IsFoundIn s table.now) }
-        ensures stays { (s : State) → Stands (D.state disk.old) self.old s ↔ Stands (D.state disk.new) self.new s }
+        ensures item { (s : State) → Stands (D.state disk.old) self.old s
+            → IfOk result (IsFoundIn s table.now) }
+        ensures stays { (s : State) → Stands (D.state disk.old) self.old s ↔ Stands
+            (D.state disk.new) self.new s }
         ensures catalog { KeepsCatalog self.old self.new }
         ensures cause { IfErr result IsReadFault }
         ensures disk { D.state disk.new ≡ D.state disk.old }
@@ -67,12 +69,18 @@ impl Tables {
         moment: u64,
     ) -> Result<Option<u64>, TableFault>
         requires there { map.contains_key (catalog_of self.old) table.now ≡ true }
-        requires found { (s : State) → Stands (D.state disk.old) self.old s → IsFoundIn s table.now found }
-        requires new { (d : TableSchema) → map.get (catalog_of self.old) table.now ≡ Some d → IfSome new (IsStored d found.place) }
-        ensures writes { (s : State) (t : Table) → Stands (D.state disk.old) self.old s → map.get s.tables table.now ≡ Some t
-            → Writes (Stands (D.state disk.new) self.new) a_number s (item_writes s moment table.now t found.place new) result }
-        ensures number { (s : State) (t : Table) → Stands (D.state disk.old) self.old s → map.get s.tables table.now ≡ Some t
-            → IfOk result (λ n. n ≡ number_taken (number_of self.old) (item_writes s moment table.now t found.place new)) }
+        requires found { (s : State) → Stands (D.state disk.old) self.old s
+            → IsFoundIn s table.now found }
+        requires new { (d : TableSchema) → map.get (catalog_of self.old) table.now ≡ Some d
+            → IfSome new (IsStored d found.place) }
+        ensures writes { (s : State) (t : Table) → Stands (D.state disk.old) self.old s
+            → map.get s.tables table.now ≡ Some t
+            → Writes (Stands (D.state disk.new) self.new) a_number s
+            (item_writes s moment table.now t found.place new) result }
+        ensures number { (s : State) (t : Table) → Stands (D.state disk.old) self.old s
+            → map.get s.tables table.now ≡ Some t
+            → IfOk result (λ n. n ≡ number_taken (number_of self.old)
+            (item_writes s moment table.now t found.place new)) }
         ensures disk { D.state disk.new ≡ D.state disk.old }
     {
         let _ = disk;
@@ -104,10 +112,14 @@ impl Tables {
         key: &Item,
     ) -> Result<Option<Item>, TableFault>
         requires there { map.contains_key (catalog_of self.old) table.now ≡ true }
-        requires key { (d : TableSchema) → map.get (catalog_of self.old) table.now ≡ Some d → IsSome (place_of d key.now) }
-        ensures item { (s : State) (t : Table) (place : List ℕ) → Stands (D.state disk.old) self.old s → map.get s.tables table.now ≡ Some t
-            → place_of t.description key.now ≡ Some place → IfOk result (λ o. o ≡ map.get t.items place) }
-        ensures stays { (s : State) → Stands (D.state disk.old) self.old s ↔ Stands (D.state disk.new) self.new s }
+        requires key { (d : TableSchema) → map.get (catalog_of self.old) table.now ≡ Some d
+            → IsSome (place_of d key.now) }
+        ensures item { (s : State) (t : Table) (place : List ℕ)
+            → Stands (D.state disk.old) self.old s → map.get s.tables table.now ≡ Some t
+            → place_of t.description key.now ≡ Some place
+            → IfOk result (λ o. o ≡ map.get t.items place) }
+        ensures stays { (s : State) → Stands (D.state disk.old) self.old s ↔ Stands
+            (D.state disk.new) self.new s }
         ensures catalog { KeepsCatalog self.old self.new }
         ensures cause { IfErr result IsReadFault }
         ensures disk { D.state disk.new ≡ D.state disk.old }
@@ -134,13 +146,20 @@ impl Tables {
         moment: u64,
     ) -> Result<Option<u64>, TableFault>
         requires there { map.contains_key (catalog_of self.old) table.now ≡ true }
-        requires key { (d : TableSchema) → map.get (catalog_of self.old) table.now ≡ Some d → IsSome (place_of d key.now) }
-        requires old { (s : State) (t : Table) (place : List ℕ) → Stands (D.state disk.old) self.old s → map.get s.tables table.now ≡ Some t
-            → place_of t.description key.now ≡ Some place → option_map (λ i. i.now) old ≡ map.get t.items place }
-        requires new { (d : TableSchema) (place : List ℕ) → map.get (catalog_of self.old) table.now ≡ Some d
-            → place_of d key.now ≡ Some place → IfSome (option_map (λ i. i.now) new) (IsStored d place) }
-        ensures writes { (s : State) (t : Table) (place : List ℕ) → Stands (D.state disk.old) self.old s → map.get s.tables table.now ≡ Some t
-            → place_of t.description key.now ≡ Some place → Writes (Stands (D.state disk.new) self.new) a_number s
+        requires key { (d : TableSchema) → map.get (catalog_of self.old) table.now ≡ Some d
+            → IsSome (place_of d key.now) }
+        requires old { (s : State) (t : Table) (place : List ℕ)
+            → Stands (D.state disk.old) self.old s → map.get s.tables table.now ≡ Some t
+            → place_of t.description key.now ≡ Some place
+            → option_map (λ i. i.now) old ≡ map.get t.items place }
+        requires new { (d : TableSchema) (place : List ℕ)
+            → map.get (catalog_of self.old) table.now ≡ Some d
+            → place_of d key.now ≡ Some place
+            → IfSome (option_map (λ i. i.now) new) (IsStored d place) }
+        ensures writes { (s : State) (t : Table) (place : List ℕ)
+            → Stands (D.state disk.old) self.old s → map.get s.tables table.now ≡ Some t
+            → place_of t.description key.now ≡ Some place
+            → Writes (Stands (D.state disk.new) self.new) a_number s
             (item_writes s moment table.now t place (option_map (λ i. i.now) new.entry)) result }
         ensures disk { D.state disk.new ≡ D.state disk.old }
     {
@@ -160,8 +179,10 @@ impl Tables {
     /// The place of a key in a table that is there.
     fn place_in(&self, table: &str, key: &Item) -> Result<Bytes, TableFault>
         requires there { map.contains_key (catalog_of self.now) table.now ≡ true }
-        requires key { (d : TableSchema) → map.get (catalog_of self.now) table.now ≡ Some d → IsSome (place_of d key.now) }
-        ensures place { IfOk result (λ place. (d : TableSchema) → map.get (catalog_of self.now) table.now ≡ Some d
+        requires key { (d : TableSchema) → map.get (catalog_of self.now) table.now ≡ Some d
+            → IsSome (place_of d key.now) }
+        ensures place { IfOk result (λ place. (d : TableSchema)
+            → map.get (catalog_of self.now) table.now ≡ Some d
             → place_of d key.now ≡ Some place) }
         ensures cause { IfErr result (λ fault. fault ≡ TableFault.NoMemory) }
     {

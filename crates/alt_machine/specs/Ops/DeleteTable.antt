@@ -31,4 +31,5 @@ abbrev pub deleted : TableSchema → Answer
 deleted d = answers (codes "TableDescription") (description_json d (codes "DELETING"))
 
 unfoldable pub delete_table : State → Members → Outcome
-delete_table s ms = on_table (of_body ms) s ms (λ t. writes (without_table s (table_name ms) ∷ []) (deleted t.description))
+delete_table s ms = on_table (of_body ms) s ms
+    (λ t. writes (without_table s (table_name ms) ∷ []) (deleted t.description))

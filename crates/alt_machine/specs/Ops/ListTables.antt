@@ -43,11 +43,13 @@ continues most names = if nat_lt most (length names) then last_or None (take mos
 abbrev pub listed : Option (List ℕ) → List (List ℕ) → Answer
 listed None page = answered (member (codes "TableNames") (array (strings page)) no_members)
 listed (Some last) page =
-    answered (member (codes "LastEvaluatedTableName") (string last) (member (codes "TableNames") (array (strings page)) no_members))
+    answered (member (codes "LastEvaluatedTableName") (string last)
+    (member (codes "TableNames") (array (strings page)) no_members))
 
 -- the first names of those, as many as a page takes
 abbrev pub page_of : ℕ → List (List ℕ) → Answer
 page_of most names = listed (continues most names) (take most names)
 
 unfoldable pub list_tables : State → Members → Outcome
-list_tables s ms = unless_refused (of_body ms) (says (page_of (page_length ms) (names_after (start_name ms) s.tables)))
+list_tables s ms = unless_refused (of_body ms)
+    (says (page_of (page_length ms) (names_after (start_name ms) s.tables)))

@@ -21,30 +21,44 @@ use Rattle.alt_ops_item.proofs.get.get_item.Goals as goal
 pub returns-in_err-target-clause-carried : goal.returns-in_err-target-clause-carried
 returns-in_err-target-clause-carried g c =
     let ms : Members = members_view c.args.body.now.entries in
-    item_passed (g.D.Disk.state c.args.disk.now) c.args.tables.now (body_refusals c.get_item-broken.result rules ms) ms (λ s. get_item s ms) Key (λ s. gets)
-    (get_is ms c.get_item-broken.result c.get_item-broken.ensures) (Stands (g.D.Disk.state c.args.disk.now) c.args.tables.now)
-    c.from_residual.result c.in_err-target.field-0.0 c.from_residual.ensures c.in_err-target.ensures.target (λ s stands. stands)
+    item_passed (g.D.Disk.state c.args.disk.now) c.args.tables.now
+    (body_refusals c.get_item-broken.result rules ms) ms (λ s. get_item s ms) Key (λ s. gets)
+    (get_is ms c.get_item-broken.result c.get_item-broken.ensures)
+    (Stands (g.D.Disk.state c.args.disk.now) c.args.tables.now)
+    c.from_residual.result c.in_err-target.field-0.0 c.from_residual.ensures
+    c.in_err-target.ensures.target (λ s stands. stands)
 
 pub find-requires : goal.find-requires
 find-requires g c = record {
-  there = ap (λ n. is_some (map.get (catalog_of c.args.tables.now) n)) c.table_name-name.ensures.name ∙ ap is_some c.in_ok-target.ensures.target.there;
+  there = ap (λ n. is_some (map.get (catalog_of c.args.tables.now) n))
+      c.table_name-name.ensures.name ∙ ap is_some c.in_ok-target.ensures.target.there;
 }
 
 pub returns-in_err-found-clause-carried : goal.returns-in_err-found-clause-carried
 returns-in_err-found-clause-carried g c =
     let ms : Members = members_view c.args.body.now.entries in
-    subst (Carries (λ s. get_item s ms) (Stands (g.D.Disk.state c.args.disk.now) c.args.tables.now) (Stands (g.D.Disk.state c.find.new.disk) c.find.new.self))
-    (sym (err_is c.from_residual-in_err-found.result (Fault c.in_err-found.field-0.0) c.from_residual-in_err-found.ensures))
-    (faulted (λ s. get_item s ms) (Stands (g.D.Disk.state c.args.disk.now) c.args.tables.now) (Stands (g.D.Disk.state c.find.new.disk) c.find.new.self)
-    c.in_err-found.field-0.0 c.in_err-found.ensures.cause (λ s stands. (c.in_err-found.ensures.stays s).0 stands))
+    subst (Carries (λ s. get_item s ms) (Stands (g.D.Disk.state c.args.disk.now) c.args.tables.now)
+    (Stands (g.D.Disk.state c.find.new.disk) c.find.new.self))
+    (sym (err_is c.from_residual-in_err-found.result
+    (Fault c.in_err-found.field-0.0) c.from_residual-in_err-found.ensures))
+    (faulted (λ s. get_item s ms) (Stands (g.D.Disk.state c.args.disk.now) c.args.tables.now)
+    (Stands (g.D.Disk.state c.find.new.disk) c.find.new.self)
+    c.in_err-found.field-0.0 c.in_err-found.ensures.cause
+    (λ s stands. (c.in_err-found.ensures.stays s).0 stands))
 
 pub returns-clause-carried : goal.returns-clause-carried
 returns-clause-carried g c =
     let ms : Members = members_view c.args.body.now.entries in
-    said_or_not (λ s. get_item s ms) (Stands (g.D.Disk.state c.args.disk.now) c.args.tables.now) (Stands (g.D.Disk.state c.find.new.disk) c.find.new.self)
-    c.item_reply.result (item_answer c.in_ok-found.found.item) c.item_reply.ensures.reply c.item_reply.ensures.plain c.item_reply.ensures.cause (λ s stands.
-    let at = item_reached (g.D.Disk.state c.args.disk.now) c.args.tables.now (body_refusals c.get_item-broken.result rules ms) ms (λ s. get_item s ms) Key (λ s. gets)
-    (get_is ms c.get_item-broken.result c.get_item-broken.ensures) c.in_ok-target.target c.in_ok-target.ensures.target s stands in
+    said_or_not (λ s. get_item s ms) (Stands (g.D.Disk.state c.args.disk.now) c.args.tables.now)
+    (Stands (g.D.Disk.state c.find.new.disk) c.find.new.self)
+    c.item_reply.result (item_answer c.in_ok-found.found.item) c.item_reply.ensures.reply
+    c.item_reply.ensures.plain c.item_reply.ensures.cause (λ s stands.
+    let at = item_reached (g.D.Disk.state c.args.disk.now) c.args.tables.now
+    (body_refusals c.get_item-broken.result rules ms) ms (λ s. get_item s ms) Key (λ s. gets)
+    (get_is ms c.get_item-broken.result c.get_item-broken.ensures) c.in_ok-target.target
+    c.in_ok-target.ensures.target s stands in
     at.3 ∙ ap (λ o. says (item_answer o)) (
     ap (map.get at.0.items) (sym c.in_ok-found.ensures.place)
-    ∙ sym (c.in_ok-found.ensures.item s stands at.0 (ap (map.get s.tables) c.table_name-name.ensures.name ∙ at.1)))) (λ s stands. (c.in_ok-found.ensures.stays s).0 stands)
+    ∙ sym (c.in_ok-found.ensures.item s stands at.0
+    (ap (map.get s.tables) c.table_name-name.ensures.name ∙ at.1))))
+    (λ s stands. (c.in_ok-found.ensures.stays s).0 stands)

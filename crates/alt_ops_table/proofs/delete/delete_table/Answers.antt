@@ -21,44 +21,62 @@ use Rattle.alt_tables.specs.Stands.{Stands}
 use Rattle.alt_ops_table.proofs.delete.delete_table.Goals as goal
 
 is : (ms : Members) (broken : Option Broken) → broken ≡ bodies.delete_table ms → (s : State)
-    → delete_table s ms ≡ on_table (body_refusals broken rules ms) s ms (λ t. writes (without_table s (table_name ms) ∷ []) (deleted t.description))
+    → delete_table s ms ≡ on_table (body_refusals broken rules ms) s ms
+    (λ t. writes (without_table s (table_name ms) ∷ []) (deleted t.description))
 unfolding delete_table
-is ms broken e s = λ i. on_table (body_refusals (sym e i) rules ms) s ms (λ t. writes (without_table s (table_name ms) ∷ []) (deleted t.description))
+is ms broken e s = λ i. on_table (body_refusals (sym e i) rules ms) s ms
+    (λ t. writes (without_table s (table_name ms) ∷ []) (deleted t.description))
 
 pub returns-in_err-schema-clause-carried : goal.returns-in_err-schema-clause-carried
 returns-in_err-schema-clause-carried g c =
     let ms : Members = members_view c.args.body.now.entries in
-    table_passed (g.D.Disk.state c.args.disk.now) c.args.tables.now (body_refusals c.delete_table.result rules ms) ms (λ s. delete_table s ms)
-    (λ s t. writes (without_table s (table_name ms) ∷ []) (deleted t.description)) (is ms c.delete_table.result c.delete_table.ensures)
+    table_passed (g.D.Disk.state c.args.disk.now) c.args.tables.now
+    (body_refusals c.delete_table.result rules ms) ms (λ s. delete_table s ms)
+    (λ s t. writes (without_table s (table_name ms) ∷ []) (deleted t.description))
+    (is ms c.delete_table.result c.delete_table.ensures)
     (Stands (g.D.Disk.state c.args.disk.now) c.args.tables.now)
-    c.from_residual.result c.in_err-schema.field-0.0 c.from_residual.ensures c.in_err-schema.ensures.target (λ s stands. stands)
+    c.from_residual.result c.in_err-schema.field-0.0 c.from_residual.ensures
+    c.in_err-schema.ensures.target (λ s stands. stands)
 
 pub returns-in_err-drop_table-clause-carried : goal.returns-in_err-drop_table-clause-carried
 returns-in_err-drop_table-clause-carried g c =
     let ms : Members = members_view c.args.body.now.entries in
-    let now : State → Type 0 = Stands (g.D.Disk.state c.drop_table.new.disk) c.drop_table.new.self in
-    subst (Carries (λ s. delete_table s ms) (Stands (g.D.Disk.state c.args.disk.now) c.args.tables.now) now)
-    (sym (err_is c.from_residual-in_err-drop_table.result (Fault c.in_err-drop_table.field-0.0) c.from_residual-in_err-drop_table.ensures))
-    (broke_off (λ s. delete_table s ms) (Stands (g.D.Disk.state c.args.disk.now) c.args.tables.now) now c.in_err-drop_table.field-0.0 a_number (λ s stands.
-    let at = table_reached (g.D.Disk.state c.args.disk.now) c.args.tables.now (body_refusals c.delete_table.result rules ms) ms (λ s. delete_table s ms)
-    (λ s t. writes (without_table s (table_name ms) ∷ []) (deleted t.description)) (is ms c.delete_table.result c.delete_table.ensures)
+    let now : State → Type 0 = Stands (g.D.Disk.state c.drop_table.new.disk) c.drop_table.new.self
+    in
+    subst (Carries (λ s. delete_table s ms) (Stands
+    (g.D.Disk.state c.args.disk.now) c.args.tables.now) now)
+    (sym (err_is c.from_residual-in_err-drop_table.result
+    (Fault c.in_err-drop_table.field-0.0) c.from_residual-in_err-drop_table.ensures))
+    (broke_off (λ s. delete_table s ms) (Stands (g.D.Disk.state c.args.disk.now) c.args.tables.now)
+    now c.in_err-drop_table.field-0.0 a_number (λ s stands.
+    let at = table_reached (g.D.Disk.state c.args.disk.now) c.args.tables.now
+    (body_refusals c.delete_table.result rules ms) ms (λ s. delete_table s ms)
+    (λ s t. writes (without_table s (table_name ms) ∷ []) (deleted t.description))
+    (is ms c.delete_table.result c.delete_table.ensures)
     c.in_ok-schema.schema c.in_ok-schema.ensures.target s stands in (
       without_table s (table_name ms) ∷ [],
       deleted at.0.description,
       at.3,
-      subst (λ (name : List ℕ). BreakOff now a_number s (without_table s name ∷ []) c.in_err-drop_table.field-0.0) c.table_name.ensures.name
+      subst (λ (name : List ℕ). BreakOff now a_number s
+          (without_table s name ∷ []) c.in_err-drop_table.field-0.0) c.table_name.ensures.name
           (c.in_err-drop_table.ensures.writes s stands),
     )))
 
 pub returns-clause-carried : goal.returns-clause-carried
 returns-clause-carried g c =
     let ms : Members = members_view c.args.body.now.entries in
-    let now : State → Type 0 = Stands (g.D.Disk.state c.drop_table.new.disk) c.drop_table.new.self in
-    wrote (λ s. delete_table s ms) (Stands (g.D.Disk.state c.args.disk.now) c.args.tables.now) now c.in_ok-reply.reply c.in_ok-reply.ensures.plain a_number (λ s stands.
-    let at = table_reached (g.D.Disk.state c.args.disk.now) c.args.tables.now (body_refusals c.delete_table.result rules ms) ms (λ s. delete_table s ms)
-    (λ s t. writes (without_table s (table_name ms) ∷ []) (deleted t.description)) (is ms c.delete_table.result c.delete_table.ensures)
+    let now : State → Type 0 = Stands (g.D.Disk.state c.drop_table.new.disk) c.drop_table.new.self
+    in
+    wrote (λ s. delete_table s ms) (Stands (g.D.Disk.state c.args.disk.now) c.args.tables.now) now
+    c.in_ok-reply.reply c.in_ok-reply.ensures.plain a_number (λ s stands.
+    let at = table_reached (g.D.Disk.state c.args.disk.now) c.args.tables.now
+    (body_refusals c.delete_table.result rules ms) ms (λ s. delete_table s ms)
+    (λ s t. writes (without_table s (table_name ms) ∷ []) (deleted t.description))
+    (is ms c.delete_table.result c.delete_table.ensures)
     c.in_ok-schema.schema c.in_ok-schema.ensures.target s stands in (
       without_table s (table_name ms) ∷ [],
-      at.3 ∙ ap (λ a. writes (without_table s (table_name ms) ∷ []) a) (ap (λ (d : TableSchema). deleted d) at.2 ∙ sym c.in_ok-reply.ensures.reply),
-      subst (λ (name : List ℕ). AreMade now a_number s (without_table s name ∷ [])) c.table_name.ensures.name (c.in_ok-drop_table.ensures.writes s stands),
+      at.3 ∙ ap (λ a. writes (without_table s (table_name ms) ∷ []) a)
+          (ap (λ (d : TableSchema). deleted d) at.2 ∙ sym c.in_ok-reply.ensures.reply),
+      subst (λ (name : List ℕ). AreMade now a_number s (without_table s name ∷ []))
+          c.table_name.ensures.name (c.in_ok-drop_table.ensures.writes s stands),
     ))

@@ -8,7 +8,9 @@ use Rattle.alt_ops_table.proofs.list.answer_of_page.Goals as goal
 pub returns-clause-reply : goal.returns-clause-reply
 returns-clause-reply c = page_said c.listed.result _ _
     (page-listed _ _ _ _ c.in_ok-page.ensures.names c.in_ok-page.ensures.more
-    ∙ (λ i. page_of (c.page_length.ensures i) (names_after (c.start_name.ensures i) (catalog_of c.args.tables.now)))) c.listed.ensures.reply
+    ∙ (λ i. page_of (c.page_length.ensures i)
+    (names_after (c.start_name.ensures i) (catalog_of c.args.tables.now))))
+    c.listed.ensures.reply
 
 pub returns-clause-plain : goal.returns-clause-plain
 returns-clause-plain c = page_plain c.listed.result _ _ c.listed.ensures.reply

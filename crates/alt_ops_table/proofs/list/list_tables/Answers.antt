@@ -14,14 +14,20 @@ use Rattle.alt_ops_table.proofs.list.list_tables.Goals as goal
 pub returns-in_err-unfit-clause-carried : goal.returns-in_err-unfit-clause-carried
 returns-in_err-unfit-clause-carried g c =
     let ms : Members = members_view c.args.body.now.entries in
-    subst (Carries (λ s. list_tables s ms) (Stands (g.D.Disk.state c.args.disk.now) c.args.tables.now) (Stands (g.D.Disk.state c.args.disk.now) c.args.tables.now))
+    subst (Carries (λ s. list_tables s ms) (Stands
+    (g.D.Disk.state c.args.disk.now) c.args.tables.now)
+    (Stands (g.D.Disk.state c.args.disk.now) c.args.tables.now))
     (sym (err_is c.from_residual.result c.in_err-unfit.field-0.0 c.from_residual.ensures))
-    (untested (λ s. list_tables s ms) (Stands (g.D.Disk.state c.args.disk.now) c.args.tables.now) (Stands (g.D.Disk.state c.args.disk.now) c.args.tables.now)
-    (of_body ms) c.in_err-unfit.field-0.0 c.in_err-unfit.ensures.tested (λ s stands r e. list-refused s ms r e) (λ s stands. stands))
+    (untested (λ s. list_tables s ms) (Stands (g.D.Disk.state c.args.disk.now) c.args.tables.now)
+    (Stands (g.D.Disk.state c.args.disk.now) c.args.tables.now)
+    (of_body ms) c.in_err-unfit.field-0.0 c.in_err-unfit.ensures.tested
+    (λ s stands r e. list-refused s ms r e) (λ s stands. stands))
 
 pub returns-in-Ok-clause-carried : goal.returns-in-Ok-clause-carried
 returns-in-Ok-clause-carried g c =
     let ms : Members = members_view c.args.body.now.entries in
-    said (λ s. list_tables s ms) (Stands (g.D.Disk.state c.args.disk.now) c.args.tables.now) (Stands (g.D.Disk.state c.args.disk.now) c.args.tables.now)
+    said (λ s. list_tables s ms) (Stands (g.D.Disk.state c.args.disk.now) c.args.tables.now)
+    (Stands (g.D.Disk.state c.args.disk.now) c.args.tables.now)
     c.in-Ok.reply c.in-Ok.ensures.plain
-    (λ s stands. list-page s ms (catalog_of c.args.tables.now) stands.catalog c.in_ok-unfit.ensures.tested ∙ ap says (sym c.in-Ok.ensures.reply)) (λ s stands. stands)
+    (λ s stands. list-page s ms (catalog_of c.args.tables.now) stands.catalog
+    c.in_ok-unfit.ensures.tested ∙ ap says (sym c.in-Ok.ensures.reply)) (λ s stands. stands)

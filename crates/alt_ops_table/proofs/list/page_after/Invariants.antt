@@ -9,4 +9,5 @@ use Rattle.alt_ops_table.proofs.list.page_after.Given as goal
 abbrev pub invariant-loop : goal.invariant-loop
 invariant-loop l = shadow (Utf8 l.last)
     × (length l.names.items ≡ l.counter)
-    × (l.names.items ++ names_after l.last (catalog_of l.tables) ≡ names_after l.start (catalog_of l.tables))
+    × (l.names.items ++ names_after l.last (catalog_of l.tables)
+    ≡ names_after l.start (catalog_of l.tables))

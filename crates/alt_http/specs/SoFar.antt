@@ -1,5 +1,5 @@
--- Bytes of a head that were read before: they end in a line feed, and more are needed. These words serve the clauses of private
--- functions alone.
+-- Bytes of a head that were read before: they end in a line feed, and more are needed. These
+-- words serve the clauses of private functions alone.
 use Rattle.std.specs.Prelude.{◌≡◌, ◌≤◌, ℕ, false, List, [], ◌∷◌, ◌++◌, length, take}
 use Rattle.httparse.specs.Grammar.{LineEnd, print_end, print_blank, Field}
 use Rattle.httparse.specs.Pieces.{is_newline, FieldLines, RequestStart}

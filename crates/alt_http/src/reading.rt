@@ -42,7 +42,8 @@ pub fn scan(alloc: Global, bytes: &[u8]) -> Result<Scan, NoMemory>
 /// the limit of a head isn't reached. So a server that takes a head in small pieces scans once a line.
 pub fn is_still_more(bytes: &[u8], seen: usize) -> bool
     requires { seen ≤ length bytes.now }
-    ensures { OnTrue result (scan_of (take seen bytes.now) ≡ Scan.More → scan_of bytes.now ≡ Scan.More) }
+    ensures { OnTrue result (scan_of (take seen bytes.now) ≡ Scan.More
+        → scan_of bytes.now ≡ Scan.More) }
 {
     bytes.len() < LONGEST_HEAD && has_no_feed(&bytes[seen..])
 }
@@ -64,7 +65,8 @@ fn answer(alloc: Global, bytes: &[u8]) -> Result<Scan, NoMemory>
 
 /// The longest front, within the limit of a head, that ends in a line feed.
 pub(crate) fn last_front(bytes: &[u8]) -> Option<&[u8]>
-    ensures { MatchOption result (IsPlain (heads.window bytes.now)) (λ front. IsLastFront bytes.now front.now) }
+    ensures { MatchOption result (IsPlain (heads.window bytes.now))
+        (λ front. IsLastFront bytes.now front.now) }
 {
     let within = window(bytes);
     match memrchr(b'\n', within) {

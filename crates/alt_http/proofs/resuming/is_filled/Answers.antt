@@ -11,4 +11,5 @@ returns-then-lines-size-ne13-clause-blank c blank =
 pub returns-then-size-ge3-clause-blank : goal.returns-then-size-ge3-clause-blank
 returns-then-size-ge3-clause-blank c blank =
     let lines = c.args.lines.now in
-    c.is_other-then-size-ge3.ensures ∙ ap not (blank_at lines (length lines - 3) blank (omega arith))
+    c.is_other-then-size-ge3.ensures ∙ ap not
+    (blank_at lines (length lines - 3) blank (omega arith))

@@ -13,8 +13,10 @@ without_head-requires c =
     let cut = take (length front - before) (drop before front) in
     let partial = c.in-Ok-Partial.is ∙ ap Ok c.in-Ok-Partial.field-0-is in
     fields_on c.args.bytes.now front before c.requires.resumed c.requires.within
-    (subst HasNoSection new (subst (λ (r : _). OnPartial r (HasNoSection cut)) partial c.parse_headers.ensures.partial))
-    (subst MayBecomeSection new (subst (λ (r : _). OnPartial r (MayBecomeSection cut)) partial c.parse_headers.ensures.unfinished))
+    (subst HasNoSection new (subst (λ (r : _). OnPartial r (HasNoSection cut)) partial
+    c.parse_headers.ensures.partial))
+    (subst MayBecomeSection new (subst (λ (r : _). OnPartial r (MayBecomeSection cut)) partial
+    c.parse_headers.ensures.unfinished))
 
 pub returns-in-Err : goal.returns-in-Err
 returns-in-Err c =

@@ -13,8 +13,10 @@ without_head-requires c =
     let cut = take (length front - before) (drop before front) in
     let partial = c.in-Ok-Partial.is ∙ ap Ok c.in-Ok-Partial.field-0-is in
     start_on c.args.bytes.now front before c.requires.resumed c.requires.more c.requires.blank
-    (subst HasNoRequest new (subst (λ (r : _). OnPartial r (HasNoRequest cut)) partial c.parse_request.ensures.partial))
-    (subst MayBecomeRequest new (subst (λ (r : _). OnPartial r (MayBecomeRequest cut)) partial c.parse_request.ensures.unfinished))
+    (subst HasNoRequest new (subst (λ (r : _). OnPartial r (HasNoRequest cut)) partial
+    c.parse_request.ensures.partial))
+    (subst MayBecomeRequest new (subst (λ (r : _). OnPartial r (MayBecomeRequest cut)) partial
+    c.parse_request.ensures.unfinished))
 
 pub returns-in-Err : goal.returns-in-Err
 returns-in-Err c =

@@ -6,4 +6,5 @@ pub without_head-requires : goal.without_head-requires
 without_head-requires c = go_on_plain c.args.bytes.now c.in_default.ensures
 
 pub resume-requires : goal.resume-requires
-resume-requires c = resumes c.args.bytes.now c.in-Some.front.now c.in-Some-last_front.old.now c.args.seen c.in-Some.ensures c.requires.more c.in-Some-last_front.ensures.is_front
+resume-requires c = resumes c.args.bytes.now c.in-Some.front.now c.in-Some-last_front.old.now
+    c.args.seen c.in-Some.ensures c.requires.more c.in-Some-last_front.ensures.is_front

@@ -1,6 +1,5 @@
 -- What a stop may leave after a write or a sync, as lists of bytes.
 use Rattle.std.proofs.Common.{◌≡◌, ◌⊎◌, inl, inr, ℕ, zero, suc, Bool, true, false, List, [], ◌∷◌, ◌++◌, length, map, Option, Some, None, refl, sym, ◌∙◌, ap, subst}
-use Rattle.std.proofs.lemmas.Bool.{false≢true}
 use Rattle.std.proofs.lemmas.List.{append-nil}
 use Rattle.alt_disk.specs.Fates.{Fates, Fits, FitsBytes, synced, opened, wrote}
 

@@ -1,7 +1,4 @@
-use Rattle.std.proofs.Common.{arith, sym, subst}
-use Rattle.std.specs.List.{All}
-use Rattle.alt_disk.specs.Memory.{Timed}
-use Rattle.alt_disk.proofs.Replay.{timed_push}
+use Rattle.std.proofs.Common.{arith}
 use Rattle.alt_disk.proofs.ToFail.{few_fail}
 use Rattle.alt_disk.proofs.memory.MemoryDisk.keep.Goals as goal
 

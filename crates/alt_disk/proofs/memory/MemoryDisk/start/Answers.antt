@@ -1,6 +1,5 @@
 use Rattle.std.proofs.Common.{◌≡◌, ◌==◌, ℕ, List, true, arith, ap, sym, ◌∙◌}
 use Rattle.std.specs.List.{list_any}
-use Rattle.alt_disk.proofs.Replay.{timed_later}
 use Rattle.alt_disk.proofs.ToFail.{later_fails, one_failed}
 use Rattle.alt_disk.proofs.memory.MemoryDisk.start.Goals as goal
 

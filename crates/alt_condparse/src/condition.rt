@@ -11,7 +11,11 @@ use alt_expr::{Boxed, Cond, Cursor, ExprFault, Items, Keyword, Mark};
 
 /// A condition, in which NOT and brackets stand at most so deep in one another.
 #[cycle(condition)]
-pub(crate) fn any(given: &Lookups<'_>, tokens: &mut Cursor<'_>, depth: usize) -> Result<Cond, ExprFault>
+pub(crate) fn any(
+    given: &Lookups<'_>,
+    tokens: &mut Cursor<'_>,
+    depth: usize,
+) -> Result<Cond, ExprFault>
     ensures { Reads (spec.any (spec.one (given_to given.now) depth) (left tokens.old)) result (left tokens.new) }
 {
     let turns = tokens.len();

@@ -54,7 +54,7 @@ refusal_of p =
     else (if not (bytes_eq p.method (codes "POST")) then Some 4
     else (if not (bytes_eq p.target (codes "/")) then Some 5
     else (if has_value (codes "content-encoding") (λ v. not (is_word (codes "identity") v)) p
-        then Some 6
+    then Some 6
     else length_refusal (values_named (codes "content-length") p.fields))))
 
 -- the length of the body, where the head isn't refused
@@ -85,10 +85,10 @@ judged p = answered p (refusal_of p)
 -- head would have too many bytes, and else that more are needed.
 pub data IsScan (bytes : List ℕ) (scan : Scan) : Type 0 where
   by_head : (h : RequestHead) → HasHead bytes h → scan ≡ judged (parts_of h)
-    → IsScan bytes scan
+      → IsScan bytes scan
   by_bad : IsBad bytes → scan ≡ Refused 1 → IsScan bytes scan
   by_size : CanGoOn bytes → most_of_head ≤ length bytes → scan ≡ Refused 2
-    → IsScan bytes scan
+      → IsScan bytes scan
   by_more : CanGoOn bytes → length bytes < most_of_head → scan ≡ More → IsScan bytes scan
 
 -- a refusal and a head stay the answer, whatever bytes come behind

@@ -63,7 +63,7 @@ read_method bytes = read_word is_token_byte 32 [] bytes
 abbrev pub read_target : List ℕ → Read (List ℕ)
 read_target bytes =
     and_then (read_word is_uri_byte 32 [] bytes)
-        (λ target rest. if is_utf8 target then got target rest else never)
+    (λ target rest. if is_utf8 target then got target rest else never)
 
 -- these bytes
 unfoldable pub read_bytes : List ℕ → List ℕ → Read ⊤
@@ -109,7 +109,7 @@ Lines = (List LineEnd × (List ℕ × (List ℕ × (ℕ × LineEnd)))) × (List 
 unfoldable pub read_start : List ℕ → Read (List LineEnd × (List ℕ × (List ℕ × (ℕ × LineEnd))))
 read_start bytes =
     then_read (read_blank [] bytes) (λ a. then_read (read_method a) (λ b.
-        then_read (read_target b) (λ c. then_read (read_version c) read_end)))
+    then_read (read_target b) (λ c. then_read (read_version c) read_end)))
 
 -- a head
 unfoldable pub read_head : List ℕ → Read Lines

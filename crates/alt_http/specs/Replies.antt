@@ -12,7 +12,7 @@ joined (part ∷ parts) = part ++ joined parts
 abbrev pub is_status : ℕ → Bool
 is_status status =
     list_any (λ s. s == status)
-        (200 ∷ 400 ∷ 404 ∷ 405 ∷ 411 ∷ 413 ∷ 415 ∷ 431 ∷ 501 ∷ [])
+    (200 ∷ 400 ∷ 404 ∷ 405 ∷ 411 ∷ 413 ∷ 415 ∷ 431 ∷ 501 ∷ [])
 
 -- the phrase behind a status
 abbrev pub phrase : ℕ → List ℕ

@@ -227,12 +227,15 @@ module _ (a b c : DiskState) (t1 : Tables) (s : State) (u v : Unread) (p : Reach
   -- and then to the end
   pub goes_ends : (t2 : Tables) → Reaches b c t2 (λ t. Ends p.to v t) → Calls a.beside c.beside (λ es ms. (t : State) × Ends s u t es ms)
   goes_ends t2 q = calls_then a.beside b.beside c.beside {P = Goes s u p.to v} {Q = Ends p.to v q.to} {R = λ es ms. (t : State) × Ends s u t es ms}
-      (λ es fs ms ns x y. (q.to, record {
-        serves = subst (λ (ls : List Asked). Serves s ls q.to (es ++ fs) (ms ++ ns))
-            (sym (ap (λ (bs : List ℕ). asked_later u bs true) (taken-append es fs) ∙ x.lines (taken fs) true))
-            (serves_then s p.to q.to x.done (asked_later v (taken fs) true) es fs ms ns x.serves y.serves);
-        at_end = ended-append es fs ∙ ap (λ (e : Bool). e || ended fs) x.goes_on ∙ y.at_end;
-      }))
+      (λ es fs ms ns x y. (
+        q.to,
+        record {
+          serves = subst (λ (ls : List Asked). Serves s ls q.to (es ++ fs) (ms ++ ns))
+              (sym (ap (λ (bs : List ℕ). asked_later u bs true) (taken-append es fs) ∙ x.lines (taken fs) true))
+              (serves_then s p.to q.to x.done (asked_later v (taken fs) true) es fs ms ns x.serves y.serves);
+          at_end = ended-append es fs ∙ ap (λ (e : Bool). e || ended fs) x.goes_on ∙ y.at_end;
+        },
+      ))
       p.calls q.calls
 
   -- and then a break

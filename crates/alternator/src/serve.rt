@@ -40,9 +40,9 @@ fn answer_request<S: Shell>(
 ) -> Result<(), RunFault>
     ensures served { (s : State) → Stands (S.state shell.old) tables.old s → MatchResult result
         (λ _. Reaches (S.state shell.old) (S.state shell.new) tables.new
-            (ServesAtHand s (request name.now body.now ∷ [])))
+        (ServesAtHand s (request name.now body.now ∷ [])))
         (λ f. Calls (S.state shell.old).beside (S.state shell.new).beside
-            (BreaksAtHand (number_of f) s (request name.now body.now ∷ []))) }
+        (BreaksAtHand (number_of f) s (request name.now body.now ∷ []))) }
     ensures cause { IsErrOf result RunFault.Failed → Rose (S.state shell.old).faults (S.state shell.new).faults }
     ensures passes { Passes (S.state shell.old) (S.state shell.new) }
 {
@@ -61,9 +61,9 @@ fn answer_request<S: Shell>(
 fn turn_away<S: Shell>(tables: &Tables, shell: &mut S) -> Result<(), RunFault>
     ensures served { (s : State) → Stands (S.state shell.old) tables.now s → MatchResult result
         (λ _. Reaches (S.state shell.old) (S.state shell.new) tables.now
-            (ServesAtHand s (no_request ∷ [])))
+        (ServesAtHand s (no_request ∷ [])))
         (λ f. Calls (S.state shell.old).beside (S.state shell.new).beside
-            (BreaksAtHand (number_of f) s (no_request ∷ []))) }
+        (BreaksAtHand (number_of f) s (no_request ∷ []))) }
     ensures cause { IsErrOf result RunFault.Failed → Rose (S.state shell.old).faults (S.state shell.new).faults }
     ensures passes { Passes (S.state shell.old) (S.state shell.new) }
 {
@@ -84,9 +84,9 @@ fn answer_line<S: Shell>(
     ensures served { (taken : Line) → Tells taken cut [] line.now →
         (s : State) → Stands (S.state shell.old) tables.old s → MatchResult result
         (λ _. Reaches (S.state shell.old) (S.state shell.new) tables.new
-            (ServesAtHand s (asked_of taken ∷ [])))
+        (ServesAtHand s (asked_of taken ∷ [])))
         (λ f. Calls (S.state shell.old).beside (S.state shell.new).beside
-            (BreaksAtHand (number_of f) s (asked_of taken ∷ []))) }
+        (BreaksAtHand (number_of f) s (asked_of taken ∷ []))) }
     ensures cause { IsErrOf result RunFault.Failed → Rose (S.state shell.old).faults (S.state shell.new).faults }
     ensures passes { Passes (S.state shell.old) (S.state shell.new) }
 {
@@ -123,9 +123,9 @@ pub(crate) fn at_hand<S: Shell>(
 ) -> Result<(), RunFault>
     ensures served { (s : State) → Stands (S.state shell.old) tables.old s → MatchResult result
         (λ _. Reaches (S.state shell.old) (S.state shell.new) tables.new
-            (ServesAtHand s (asked_now (unread lines.old))))
+        (ServesAtHand s (asked_now (unread lines.old))))
         (λ f. Calls (S.state shell.old).beside (S.state shell.new).beside
-            (BreaksAtHand (number_of f) s (asked_now (unread lines.old)))) }
+        (BreaksAtHand (number_of f) s (asked_now (unread lines.old)))) }
     ensures lines { OnOk result (HandsOut (unread lines.old) (unread lines.new)) }
     ensures cause { IsErrOf result RunFault.Failed → Rose (S.state shell.old).faults (S.state shell.new).faults }
     ensures passes { Passes (S.state shell.old) (S.state shell.new) }
@@ -155,9 +155,9 @@ pub(crate) fn pull<S: Shell>(
     requires going { (unread lines.old).ended ≡ false }
     ensures went { (s : State) → Stands (S.state shell.old) tables.old s → MatchResult result
         (λ more. Reaches (S.state shell.old) (S.state shell.new) tables.new
-            (λ t. GoesOrEnds more s (unread lines.old) t (unread lines.new)))
+        (λ t. GoesOrEnds more s (unread lines.old) t (unread lines.new)))
         (λ f. Calls (S.state shell.old).beside (S.state shell.new).beside
-            (GoesSome (number_of f) s (unread lines.old))) }
+        (GoesSome (number_of f) s (unread lines.old))) }
     ensures going { IfOk result (λ more. more ≡ true → (unread lines.new).ended ≡ false) }
     ensures time { OnOk result ((S.state shell.old).moment < (S.state shell.new).moment) }
     ensures within { OnOk result ((S.state shell.old).moment < 2 ^ 64 - 1) }

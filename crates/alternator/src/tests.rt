@@ -64,7 +64,14 @@ fn says(alloc: Global, pieces: &[&str], replies: &[&str]) -> bool {
 
 static CUTS: [(&[&str], &[&str]); 3] = [
     (
-        &["F", "ly {}\r", "\nGetItem ", "[\r\r\nFly\n", "\r\n", "GetItem {}"],
+        &[
+            "F",
+            "ly {}\r",
+            "\nGetItem ",
+            "[\r\r\nFly\n",
+            "\r\n",
+            "GetItem {}",
+        ],
         &[UNKNOWN, UNREADABLE, UNKNOWN, UNKNOWN, MISSING],
     ),
     (&["Fly {}\n"], &[UNKNOWN]),

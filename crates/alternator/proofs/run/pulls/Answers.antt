@@ -24,8 +24,8 @@ pulls-preserved g c =
     let state = g.S.Disk.state in
     let front = c.pulls.invariant.0 in
     let went = subst (λ (more : Bool). Reaches (state c.pulls.shell) (state c.pull.new.shell) c.pull.new.tables
-        (λ t. GoesOrEnds more front.to (unread c.pulls.lines) t (unread c.pull.new.lines)))
-        c.in-Ok-true.field-0-test (c.in-Ok-true.ensures.went front.to front.stands) in (
+    (λ t. GoesOrEnds more front.to (unread c.pulls.lines) t (unread c.pull.new.lines)))
+    c.in-Ok-true.field-0-test (c.in-Ok-true.ensures.went front.to front.stands) in (
       goes_then (state c.args.shell.now) (state c.pulls.shell) (state c.pull.new.shell) c.pulls.tables start fresh (unread c.pulls.lines) front
           c.pull.new.tables (unread c.pull.new.lines) went,
       passes_then _ _ _ c.pulls.invariant.1 c.pull.ensures.passes,
@@ -37,8 +37,8 @@ returns-in-Ok-false-clause-answered g c =
     let state = g.S.Disk.state in
     let front = c.pulls.invariant.0 in
     let went = subst (λ (more : Bool). Reaches (state c.pulls.shell) (state c.pull.new.shell) c.pull.new.tables
-        (λ t. GoesOrEnds more front.to (unread c.pulls.lines) t (unread c.pull.new.lines)))
-        c.in-Ok-false.field-0-test (c.in-Ok-false.ensures.went front.to front.stands) in
+    (λ t. GoesOrEnds more front.to (unread c.pulls.lines) t (unread c.pull.new.lines)))
+    c.in-Ok-false.field-0-test (c.in-Ok-false.ensures.went front.to front.stands) in
     calls_as (state c.args.shell.now).beside (state c.pull.new.shell).beside
     {P = λ es ms. (t : State) × Ends start fresh t es ms} {Q = Answers start}
     (λ es ms x. answers_all start x.0 es ms x.1)

@@ -46,7 +46,7 @@ pub returns-in-Err-clause-served : goal.returns-in-Err-clause-served
 returns-in-Err-clause-served g c = λ s stands.
     let state = g.S.Disk.state in
     subst (λ (number : Option ℕ). Calls (state c.args.shell.now).beside (state c.lines.shell).beside
-        (BreaksAtHand number s (asked_now (unread c.args.lines.now))))
+    (BreaksAtHand number s (asked_now (unread c.args.lines.now))))
     (sym (ap number_of c.in-Err.ensures.err))
     (hands_memory (state c.args.shell.now) c.args.tables.now (state c.lines.shell) c.lines.tables
     (unread c.args.lines.now) (unread c.lines.lines) c.lines.invariant.0 s stands)

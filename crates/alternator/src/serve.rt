@@ -43,7 +43,8 @@ fn answer_request<S: Shell>(
         (ServesAtHand s (request name.now body.now ∷ [])))
         (λ f. Calls (S.state shell.old).beside (S.state shell.new).beside
         (BreaksAtHand (number_of f) s (request name.now body.now ∷ []))) }
-    ensures cause { IsErrOf result RunFault.Failed → Rose (S.state shell.old).faults (S.state shell.new).faults }
+    ensures cause { IsErrOf result RunFault.Failed
+        → Rose (S.state shell.old).faults (S.state shell.new).faults }
     ensures passes { Passes (S.state shell.old) (S.state shell.new) }
 {
     let moment = shell.now();
@@ -64,7 +65,8 @@ fn turn_away<S: Shell>(tables: &Tables, shell: &mut S) -> Result<(), RunFault>
         (ServesAtHand s (no_request ∷ [])))
         (λ f. Calls (S.state shell.old).beside (S.state shell.new).beside
         (BreaksAtHand (number_of f) s (no_request ∷ []))) }
-    ensures cause { IsErrOf result RunFault.Failed → Rose (S.state shell.old).faults (S.state shell.new).faults }
+    ensures cause { IsErrOf result RunFault.Failed
+        → Rose (S.state shell.old).faults (S.state shell.new).faults }
     ensures passes { Passes (S.state shell.old) (S.state shell.new) }
 {
     match shell.say(b"413 {\"message\":\"request too long\"}\n") {
@@ -87,7 +89,8 @@ fn answer_line<S: Shell>(
         (ServesAtHand s (asked_of taken ∷ [])))
         (λ f. Calls (S.state shell.old).beside (S.state shell.new).beside
         (BreaksAtHand (number_of f) s (asked_of taken ∷ []))) }
-    ensures cause { IsErrOf result RunFault.Failed → Rose (S.state shell.old).faults (S.state shell.new).faults }
+    ensures cause { IsErrOf result RunFault.Failed
+        → Rose (S.state shell.old).faults (S.state shell.new).faults }
     ensures passes { Passes (S.state shell.old) (S.state shell.new) }
 {
     match cut {
@@ -102,8 +105,10 @@ fn answer_line<S: Shell>(
 /// The next line that is whole, in the emptied buffer.
 fn next_line(lines: &mut Lines, line: &mut Vec<u8>) -> Result<Option<Cut>, RunFault>
     ensures some { IfOk result (λ found. IfSome found (λ cut. (taken : Line)
-        × Tells taken cut [] line.new.items × TakesLine taken (unread lines.old) (unread lines.new))) }
-    ensures none { IfOk result (λ found. IfNone found (HasNone (unread lines.old) (unread lines.new))) }
+        × Tells taken cut [] line.new.items × TakesLine taken (unread lines.old)
+        (unread lines.new))) }
+    ensures none { IfOk result (λ found. IfNone found
+        (HasNone (unread lines.old) (unread lines.new))) }
     ensures err { IfErr result (λ fault. fault ≡ RunFault.NoMemory) }
 {
     line.clear();
@@ -127,7 +132,8 @@ pub(crate) fn at_hand<S: Shell>(
         (λ f. Calls (S.state shell.old).beside (S.state shell.new).beside
         (BreaksAtHand (number_of f) s (asked_now (unread lines.old)))) }
     ensures lines { OnOk result (HandsOut (unread lines.old) (unread lines.new)) }
-    ensures cause { IsErrOf result RunFault.Failed → Rose (S.state shell.old).faults (S.state shell.new).faults }
+    ensures cause { IsErrOf result RunFault.Failed
+        → Rose (S.state shell.old).faults (S.state shell.new).faults }
     ensures passes { Passes (S.state shell.old) (S.state shell.new) }
 {
     'lines: loop {
@@ -161,7 +167,8 @@ pub(crate) fn pull<S: Shell>(
     ensures going { IfOk result (λ more. more ≡ true → (unread lines.new).ended ≡ false) }
     ensures time { OnOk result ((S.state shell.old).moment < (S.state shell.new).moment) }
     ensures within { OnOk result ((S.state shell.old).moment < 2 ^ 64 - 1) }
-    ensures cause { IsErrOf result RunFault.Failed → Rose (S.state shell.old).faults (S.state shell.new).faults }
+    ensures cause { IsErrOf result RunFault.Failed
+        → Rose (S.state shell.old).faults (S.state shell.new).faults }
     ensures passes { Passes (S.state shell.old) (S.state shell.new) }
 {
     let Ok(count) = shell.take(buf) else {

@@ -169,7 +169,7 @@ fn has_port(alloc: Global, given: &[&str], port: Option<u16>) -> bool {
 #[test]
 fn the_port_is_the_second_word(rt: HostRuntime) -> Result<(), Fail> {
     for row in &PORTS {
-        assert!(rt; has_port(rt.alloc(), &[".", row.0], row.1), "{row.0}");
+        assert!(rt; has_port(rt.alloc(), &[".", row.0], row.1), "{}", row.0);
     }
     assert!(rt; has_port(rt.alloc(), &["."], None));
     Ok(())

@@ -1,5 +1,5 @@
 -- Rows in memory, and how many bytes were put.
-use Rattle.std.specs.Prelude.{ℕ, ◌+◌, ◌^◌, min, List, Option, refl}
+use Rattle.std.specs.Prelude.{ℕ, ◌+◌, ◌^◌, min, Option, refl}
 use Rattle.std.specs.Coded.{Coded, code_by, coded×, coded_ℕ, coded_list, coded_option}
 use Rattle.std.specs.FinMap.{FinMap, code}
 use Rattle.alt_cells.specs.declared.cell.Cell.{Cell}

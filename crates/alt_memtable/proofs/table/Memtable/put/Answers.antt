@@ -1,5 +1,5 @@
 -- The row that was put is joined to the one of its key.
-use Rattle.std.proofs.Common.{◌≡◌, List, ℕ, [], ◌∷◌, Some, ap, ◌∙◌}
+use Rattle.std.proofs.Common.{List, ℕ, [], ◌∷◌, ap, ◌∙◌}
 use Rattle.std.specs.FinMap.{from_sorted}
 use Rattle.alt_cells.specs.Joined.{joined_map}
 use Rattle.alt_cells.specs.Keys.{key_cmp}

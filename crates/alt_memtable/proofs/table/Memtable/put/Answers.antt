@@ -1,0 +1,19 @@
+-- The row that was put is joined to the one of its key.
+use Rattle.std.proofs.Common.{List, ℕ, [], ◌∷◌, ap, ◌∙◌}
+use Rattle.std.specs.FinMap.{from_sorted}
+use Rattle.alt_cells.specs.Joined.{joined_map}
+use Rattle.alt_cells.specs.Keys.{key_cmp}
+use Rattle.alt_cells.specs.Rows.{join_row}
+use Rattle.alt_memtable.proofs.Putting.{put_joined}
+use Rattle.alt_memtable.proofs.table.Memtable.put.Goals as goal
+
+pub returns-clause-rows : goal.returns-clause-rows
+returns-clause-rows c =
+    let es = c.self.inside.rows.entries in
+    let row = c.args.row.now in
+    ap (from_sorted {R = key_cmp}) c.in_ok-insert.ensures.entries
+    ∙ put_joined es c.in_ok-key.key row c.in_ok-joined.joined c.in_ok-insert.ensures.was_ordered
+    c.in_ok-joined.ensures
+    ∙ ap (λ (k : List ℕ). joined_map join_row (from_sorted es) (from_sorted ((k, row) ∷ [])))
+    c.in_ok-key.ensures.copied
+    ∙ ap (λ v. joined_map join_row v.0 (from_sorted ((c.args.key.now, row) ∷ []))) c.self.view_is

@@ -1,0 +1,128 @@
+//! Rows that were put, joined by key.
+
+ghost use Rattle.std.specs.Prelude.{◌≡◌, ◌+◌, ℕ, [], ◌∷◌, OnOk, OnErr, IfOk, Some, length, option_map};
+ghost use Rattle.std.specs.BTreeMap.{get as tree_get};
+ghost use Rattle.std.specs.FinMap as map;
+ghost use Rattle.alt_disk.specs.Disk.{DiskState};
+ghost use Rattle.alt_cells.specs.Format.{bytes_of_row};
+ghost use Rattle.alt_cells.specs.Joined.{either, joined_map};
+ghost use Rattle.alt_cells.specs.Keys.{key_cmp};
+ghost use Rattle.alt_cells.specs.Rows.{join_row};
+ghost use Rattle.alt_memtable.specs.Rows.{more_bytes};
+ghost use Rattle.alt_memtable.specs.Walk.{walk_holds};
+
+use crate::MemWalk;
+use crate::size::{with_more, with_row};
+use alt_base::NoMemory;
+use alt_cells::RowCells;
+use alt_fields::Bytes;
+use std::alloc::Global;
+use std::collections::BTreeMap;
+use std::marker::Model;
+
+/// Rows by key, and a count of the bytes that were put.
+#[derive(Drop)]
+pub struct Memtable {
+    alloc: Global,
+    rows: BTreeMap<Bytes, RowCells>,
+    bytes: u64,
+}
+
+impl Model for Memtable {
+    ghost use Rattle.std.specs.Prelude.{ℕ, ◌≤◌};
+    ghost use Rattle.std.specs.FinMap as map;
+    ghost use Rattle.alt_cells.specs.Keys.{key_cmp};
+    ghost use Rattle.alt_cells.specs.Walks.{RowMap};
+    ghost use Rattle.alt_memtable.specs.Rows.{coded_table, most_bytes};
+
+    ghost Value = { RowMap × ℕ };
+
+    ghost coded = { coded_table };
+
+    ghost view = { λ t. (map.from_sorted {R = key_cmp} t.rows.entries, t.bytes) };
+
+    ghost invariant = { λ t. t.bytes ≤ most_bytes };
+}
+
+impl Memtable {
+    pub fn new(alloc: Global) -> Memtable
+        ensures rows { result.0 ≡ map.empty }
+        ensures bytes { result.1 ≡ 0 }
+    {
+        Memtable {
+            alloc,
+            rows: BTreeMap::new(alloc),
+            bytes: 0,
+        }
+    }
+
+    /// Joins a row to the one of its key. Where memory is wanting, the table is as it was.
+    pub fn put(&mut self, key: &[u8], row: &RowCells) -> Result<(), NoMemory>
+        ensures rows { OnOk result (self.new.0
+            ≡ joined_map join_row self.old.0 (map.from_sorted ((key.now, row.now) ∷ []))) }
+        ensures bytes { OnOk result (self.new.1
+            ≡ more_bytes self.old.1 (length key.now + length (bytes_of_row row.now))) }
+        ensures err { OnErr result (self.new ≡ self.old) }
+    {
+        let bytes = with_row(with_more(self.bytes, key.len()), row);
+        let key = Bytes::new(self.alloc, key)?;
+        let joined = joined_row(&self.rows, &key, row)?;
+        self.rows.insert(key, joined)?;
+        self.bytes = bytes;
+        Ok(())
+    }
+
+    /// The row of a key, None exactly where none was put.
+    pub fn get(&self, key: &Bytes) -> Option<&RowCells>
+        ensures row { option_map (λ r. r.now) result ≡ map.get self.now.0 key.now }
+    {
+        let _count = self.rows.len();
+        self.rows.get(key)
+    }
+
+    /// How many bytes were put, keys and rows, up to 2^62.
+    pub fn bytes(&self) -> u64
+        ensures { result ≡ self.now.1 }
+    {
+        self.bytes
+    }
+
+    pub fn clear(&mut self)
+        ensures rows { self.new.0 ≡ map.empty }
+        ensures bytes { self.new.1 ≡ 0 }
+    {
+        self.rows = BTreeMap::new(self.alloc);
+        self.bytes = 0;
+    }
+
+    /// A walk over the rows, as they stand while it lasts.
+    pub fn walk(&self) -> MemWalk<'_>
+        ensures { (s : DiskState) → walk_holds s result self.now.0 }
+    {
+        MemWalk {
+            alloc: self.alloc,
+            rows: &self.rows,
+            range: self.rows.range(..),
+            forward: true,
+        }
+    }
+}
+
+/// The row with the one of the key that is there already.
+fn joined_row(
+    rows: &BTreeMap<Bytes, RowCells>,
+    key: &Bytes,
+    row: &RowCells,
+) -> Result<RowCells, NoMemory>
+    ensures { IfOk result (λ new. Some new
+        ≡ either join_row (tree_get key_cmp rows.now key.now) (Some row.now)) }
+{
+    match rows.get(key) {
+        Some(old) => {
+            let mut new = old.copy()?;
+            new.join(row)?;
+            Ok(new)
+        }
+        None => row.copy(),
+    }
+}

@@ -3,10 +3,11 @@
 ghost use Rattle.std.specs.Prelude.{◌≡◌, ◌∷◌, ◌++◌, []};
 ghost use Rattle.alt_expr.specs.Reader.{left, Reads};
 ghost use Rattle.alt_condparse.specs.Reader as spec;
-ghost use Rattle.alt_condparse.specs.Lookups.{given_to};
+ghost use Rattle.alt_expr.specs.Lookups.{given_to};
 
-use crate::lookups::Lookups;
+
 use alt_expr::{
+    Lookups,
     Cursor, ExprFault, Mark, Operand, OperandList, Items, Token, read_path, read_path_in_brackets,
 };
 

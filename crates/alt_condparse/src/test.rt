@@ -3,12 +3,13 @@
 ghost use Rattle.std.specs.Prelude.{◌≡◌};
 ghost use Rattle.alt_expr.specs.Reader.{left, Reads};
 ghost use Rattle.alt_condparse.specs.Reader as spec;
-ghost use Rattle.alt_condparse.specs.Lookups.{given_to};
+ghost use Rattle.alt_expr.specs.Lookups.{given_to};
 ghost use Rattle.alt_expr.specs.declared.cond.Cond.TheVariants as cond;
 
-use crate::lookups::Lookups;
+
 use crate::operand::{operand, operands};
 use alt_expr::{
+    Lookups,
     Comparison, Cond, Cursor, ExprFault, Keyword, Mark, Operand, Token, read_path,
     read_path_in_brackets,
 };

@@ -2,6 +2,7 @@ pub mod Copied
 pub mod Deep
 pub mod Lists
 pub mod Longest
+pub mod Noting
 pub mod Numbers
 pub mod Once
 pub mod Parsing

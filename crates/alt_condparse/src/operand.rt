@@ -3,11 +3,11 @@
 ghost use Rattle.std.specs.Prelude.{◌≡◌, ◌∷◌, ◌++◌, []};
 ghost use Rattle.alt_expr.specs.Reader.{left, Reads};
 ghost use Rattle.alt_condparse.specs.Reader as spec;
-ghost use Rattle.alt_condparse.specs.Lookups.{given_to};
+ghost use Rattle.alt_expr.specs.Lookups.{given_to};
 
-use crate::lookups::Lookups;
 use alt_expr::{
-    Cursor, ExprFault, Items, Mark, Operand, OperandList, Token, read_path, read_path_in_brackets,
+    Cursor, ExprFault, Items, Lookups, Mark, Operand, OperandList, Token, read_path,
+    read_path_in_brackets,
 };
 
 /// A path, a `:` word or a size.

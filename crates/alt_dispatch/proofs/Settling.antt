@@ -1,16 +1,14 @@
 -- What was carried out settles the request, once its refusal is told.
-use Rattle.std.proofs.Common.{◌≡◌, refl, sym, ap, subst, ◌∙◌, ℕ, List, [], ◌∷◌, length, take, Option, Some, None, option_map, Result, Ok, Err, OnOk, Bor, Bool, true, false, cond}
-use Rattle.std.specs.List.{find}
-use Rattle.std.specs.Str.{bytes_eq}
-use Rattle.alt_machine.specs.Outcomes.{Outcome, last_state, state_after}
+use Rattle.std.proofs.Common.{◌≡◌, refl, sym, ap, subst, ◌∙◌, List, [], ◌∷◌, length, take, Result, Ok, Err, OnOk}
+use Rattle.alt_machine.specs.Outcomes.{Outcome, last_state}
 use Rattle.alt_machine.specs.State.{State}
 use Rattle.alt_machine.specs.Valid.{IsValid}
 use Rattle.alt_machine.specs.Wanted.{lack_among}
 use Rattle.alt_dispatch.specs.Settled.{Settles, Tells}
-use Rattle.alt_request.specs.Carried.{IsAnswered, Does, Carries}
+use Rattle.alt_request.specs.Carried.{IsAnswered, Does}
 use Rattle.alt_request.specs.declared.stop.Stop.{Stop}
 use Rattle.alt_request.specs.declared.stop.Stop.TheVariants.{Refused, Fault}
-use Rattle.alt_shape.specs.Refusals.{Answer, answer_of, refused}
+use Rattle.alt_shape.specs.Refusals.{Answer, refused}
 use Rattle.alt_shape.specs.declared.refusal.Reply.{Reply}
 use Rattle.alt_tables.specs.declared.faults.TableFault.{TableFault}
 use Rattle.alt_tables.specs.declared.faults.TableFault.TheVariants.{NoMemory}

@@ -1,5 +1,5 @@
 -- The refusals of a CreateTable, step by step, and what it comes to.
-use Rattle.std.proofs.Common.{◌≡◌, refl, sym, ap, subst, ◌∙◌, ℕ, zero, suc, ◌+◌, ◌<◌, ◌≤◌, take, Err, Bool, true, false, cond, not, nat_le, List, [], ◌∷◌, length, Option, Some, None, option_map, is_some, Bor, arith}
+use Rattle.std.proofs.Common.{◌≡◌, refl, sym, ap, subst, ◌∙◌, ℕ, zero, suc, ◌+◌, ◌<◌, ◌≤◌, take, Err, Bool, true, false, cond, not, nat_le, List, [], ◌∷◌, length, Option, Some, None, option_map, is_some, arith}
 use Rattle.std.specs.Prelude.{◌==◌}
 use Rattle.std.proofs.lemmas.Bool.{eqb-true, le-leb}
 use Rattle.std.specs.FinMap as map
@@ -10,7 +10,7 @@ use Rattle.alt_disk.specs.Disk.{DiskState}
 use Rattle.alt_machine.specs.declared.TheConstants.{MOST_TABLES, MOST_FAMILIES, FAMILIES_END}
 use Rattle.alt_machine.specs.Members.{table_name}
 use Rattle.alt_machine.specs.Ops.CreateTable.{some_items, of_body, of_tables, creates, create_table}
-use Rattle.alt_machine.specs.Outcomes.{Outcome, says, refuses, unless_refused, a_table, state_after}
+use Rattle.alt_machine.specs.Outcomes.{Outcome, refuses, unless_refused, a_table, state_after}
 use Rattle.alt_machine.specs.Refusals.{first_answer, refuse_if, refuse_by}
 use Rattle.alt_machine.specs.State.{State, Texts, descriptions}
 use Rattle.alt_machine.proofs.Descriptions.{there-descriptions, len-descriptions}
@@ -34,7 +34,7 @@ use Rattle.alt_schema.specs.Described.{description_of, described_by}
 use Rattle.alt_schema.specs.Rules as rules
 use Rattle.alt_schema.specs.Stated.{stated}
 use Rattle.alt_schema.specs.declared.schema.TableSchema.{TableSchema}
-use Rattle.alt_shape.specs.Refusals.{Answer, refused, table_exists, too_many_tables, IsKnown}
+use Rattle.alt_shape.specs.Refusals.{refused, table_exists, too_many_tables, IsKnown}
 use Rattle.alt_shape.specs.declared.refusal.Refusal.{Refusal}
 use Rattle.alt_shape.specs.declared.refusal.Refusal.TheVariants.{Invalid}
 

@@ -3,11 +3,10 @@ use Rattle.std.specs.Prelude.{◌≡◌, ℕ, ◌<◌, None, Result, Ok, Err}
 use Rattle.std.specs.FinMap as map
 use Rattle.serde_json.specs.Data.{Members}
 use Rattle.alt_machine.specs.declared.TheConstants.{MOST_TABLES}
-use Rattle.alt_machine.specs.Ops.CreateTable.{of_body, of_tables, create_table}
+use Rattle.alt_machine.specs.Ops.CreateTable.{of_body, create_table}
 use Rattle.alt_machine.specs.Outcomes.{refuses}
 use Rattle.alt_machine.specs.Refusals.{first_answer}
 use Rattle.alt_machine.specs.State.{State, descriptions}
-use Rattle.alt_machine.specs.Valid.{IsMade}
 use Rattle.alt_machine.specs.Wanted.{table_lack}
 use Rattle.alt_request.specs.declared.stop.Stop.{Stop}
 use Rattle.alt_request.specs.declared.stop.Stop.TheVariants.{Refused, Fault}

@@ -1,5 +1,5 @@
 -- How an operation ends: refused, with a fault before it writes, with an answer, or as its write did.
-use Rattle.std.proofs.Common.{◌≡◌, refl, sym, ap, subst, ◌∙◌, ℕ, false, List, [], Option, Some, None, Result, Ok, Err, IfOk, IfErr, Bor}
+use Rattle.std.proofs.Common.{◌≡◌, refl, sym, ap, subst, ◌∙◌, ℕ, false, List, Option, Some, Result, Ok, Err, IfOk, IfErr, Bor}
 use Rattle.std.specs.Result.{IsErr, IsErrAnd}
 use Rattle.std.specs.FinMap as map
 use Rattle.serde_json.specs.Data.{Members}
@@ -8,12 +8,11 @@ use Rattle.serde_json.specs.Written.{has_float}
 use Rattle.alt_disk.specs.Disk.{DiskState}
 use Rattle.alt_machine.specs.declared.Sought.{Sought}
 use Rattle.alt_machine.specs.Members.{table_name}
-use Rattle.alt_machine.specs.Outcomes.{Outcome, says, refuses, last_state, state_after, Wants}
+use Rattle.alt_machine.specs.Outcomes.{Outcome, says, refuses, Wants}
 use Rattle.alt_machine.specs.State.{State, Table}
 use Rattle.alt_machine.specs.Targets.{on_table, on_item, IsPlaced}
 use Rattle.alt_machine.proofs.Targets.{table-target, item-target}
-use Rattle.alt_machine.specs.Wanted.{wanted}
-use Rattle.alt_request.specs.Carried.{IsAnswered, Does, IsPlain, Carries}
+use Rattle.alt_request.specs.Carried.{Does, Carries}
 use Rattle.alt_machine.specs.Refusals.{first_answer}
 use Rattle.alt_request.specs.Steps.{IsMemory, Tested}
 use Rattle.alt_request.specs.Targets.{OnTable, OnItem, IsAt}
@@ -25,7 +24,7 @@ use Rattle.alt_request.specs.declared.stop.Stop.TheVariants.{Refused, Fault}
 use Rattle.alt_shape.specs.Refusals.{Answer, answer_of, refused, IsKnown}
 use Rattle.alt_shape.specs.declared.refusal.Refusal.{Refusal}
 use Rattle.alt_shape.specs.declared.refusal.Reply.{Reply}
-use Rattle.alt_tables.specs.Faults.{AreMade, BreakOff, Writes, IsReadFault}
+use Rattle.alt_tables.specs.Faults.{AreMade, BreakOff, IsReadFault}
 use Rattle.alt_tables.specs.Stands.{Stands, catalog_of}
 use Rattle.alt_tables.specs.declared.tables.Tables.{Tables}
 use Rattle.alt_schema.specs.declared.schema.TableSchema.{TableSchema}

@@ -1,5 +1,5 @@
 -- The table that is named, in each state that has the tables of a catalog.
-use Rattle.std.proofs.Common.{◌≡◌, refl, sym, ap, ◌∙◌, ℕ, List, Option, Some, None, Result, Ok, Err}
+use Rattle.std.proofs.Common.{◌≡◌, refl, ap, ◌∙◌, ℕ, List, Option, Some, None, Ok, Err}
 use Rattle.std.specs.FinMap as map
 use Rattle.alt_machine.specs.Refusals.{or_refused}
 use Rattle.alt_machine.specs.State.{State, Table, Texts, descriptions}

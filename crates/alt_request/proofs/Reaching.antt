@@ -1,21 +1,20 @@
 -- Whether a table, or an item and its place, is reached: the machine stops at the same step.
-use Rattle.std.proofs.Common.{◌≡◌, refl, sym, ap, subst, ◌∙◌, ℕ, false, List, Option, Some, None, Result, Ok, Err, Bor}
+use Rattle.std.proofs.Common.{◌≡◌, sym, ap, ◌∙◌, ℕ, false, List, Option, None, Result, Ok, Err, Bor}
 use Rattle.std.specs.Result.{IsErr, IsErrAnd}
 use Rattle.std.specs.FinMap as map
 use Rattle.serde_json.specs.Data.{Members}
 use Rattle.alt_machine.specs.declared.Sought.{Sought}
 use Rattle.alt_machine.specs.Keys.{key_fits}
-use Rattle.alt_machine.specs.Members.{table_name, table_at, item_at}
+use Rattle.alt_machine.specs.Members.{table_name, item_at}
 use Rattle.alt_machine.specs.Outcomes.{Outcome, refuses}
 use Rattle.alt_machine.specs.Refusals.{first_answer, or_refused}
 use Rattle.alt_machine.specs.State.{State, Table, Texts, descriptions}
-use Rattle.alt_machine.specs.Targets.{on_table, on_item, member_of, place_in}
+use Rattle.alt_machine.specs.Targets.{on_item, member_of, place_in}
 use Rattle.alt_machine.proofs.Targets.{table-missed, item-no_table, item-no_place, item-too_long}
 use Rattle.alt_request.specs.Steps.{Comes}
-use Rattle.alt_request.specs.Targets.{OnTable, OnItem, IsAt}
+use Rattle.alt_request.specs.Targets.{OnTable, OnItem}
 use Rattle.alt_request.specs.declared.stop.Stop.{Stop}
 use Rattle.alt_request.specs.declared.stop.Stop.TheVariants.{Refused, Fault}
-use Rattle.alt_request.specs.declared.targets.Target.{Target}
 use Rattle.alt_request.proofs.Named.{some_found, none_found, table_found, table_missed}
 use Rattle.alt_schema.specs.declared.schema.TableSchema.{TableSchema}
 use Rattle.alt_shape.specs.Refusals.{Answer, refused, not_found, bad_key, key_too_long}

@@ -1,5 +1,5 @@
 -- The contract of an operation.
-use Rattle.std.specs.Prelude.{◌≡◌, false, Option, Some, None, Result, Ok, Err}
+use Rattle.std.specs.Prelude.{◌≡◌, false, None, Result, Ok, Err}
 use Rattle.serde_json.specs.View.{view}
 use Rattle.serde_json.specs.Written.{has_float}
 use Rattle.alt_machine.specs.Outcomes.{Outcome, last_state}

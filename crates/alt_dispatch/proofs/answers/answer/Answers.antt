@@ -1,6 +1,5 @@
 -- What was carried out, once its refusal is told.
 use Rattle.alt_machine.specs.Step.{step}
-use Rattle.alt_machine.specs.State.{State}
 use Rattle.alt_dispatch.proofs.Settling.{settled, settled_valid}
 use Rattle.alt_tables.specs.Stands.{Stands}
 use Rattle.alt_dispatch.proofs.answers.answer.Goals as goal

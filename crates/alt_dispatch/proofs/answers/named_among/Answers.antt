@@ -1,5 +1,5 @@
 -- An entry of the program is one of the machine.
-use Rattle.std.proofs.Common.{◌≡◌, refl, ap, ◌∙◌, ℕ, List, [], ◌∷◌, map, Option, Some, None, option_map, Bor, Bool, true, false, cond}
+use Rattle.std.proofs.Common.{◌≡◌, refl, ◌∙◌, ℕ, List, [], ◌∷◌, map, Some, option_map, Bor, true, false, cond}
 use Rattle.std.specs.List.{find}
 use Rattle.std.specs.Str.{bytes_eq}
 use Rattle.alt_machine.specs.declared.Operation.{Operation}

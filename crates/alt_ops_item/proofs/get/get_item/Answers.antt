@@ -1,5 +1,5 @@
 -- The key isn't reached, or what stands at its place is answered.
-use Rattle.std.proofs.Common.{◌≡◌, sym, ap, subst, ◌∙◌, is_some, Option, List, ℕ, Err}
+use Rattle.std.proofs.Common.{sym, ap, subst, ◌∙◌, is_some}
 use Rattle.std.specs.FinMap as map
 use Rattle.serde_json.specs.Data.{Members}
 use Rattle.serde_json.specs.View.{members_view}
@@ -8,14 +8,12 @@ use Rattle.alt_machine.specs.Body.{body_refusals}
 use Rattle.alt_machine.specs.Ops.GetItem.{rules, gets, get_item}
 use Rattle.alt_machine.specs.Outcomes.{says}
 use Rattle.alt_machine.specs.Replies.{item_answer}
-use Rattle.alt_machine.specs.State.{State, Table}
 use Rattle.alt_ops_item.proofs.Getting.{get_is}
 use Rattle.alt_request.specs.Carried.{Carries}
 use Rattle.alt_request.specs.declared.stop.Stop.TheVariants.{Fault}
 use Rattle.alt_request.proofs.Carrying.{faulted, said_or_not, item_passed, item_reached}
 use Rattle.alt_request.proofs.Reaching.{err_is}
 use Rattle.alt_tables.specs.Stands.{Stands, catalog_of}
-use Rattle.alt_value.specs.Tree.{Pair}
 use Rattle.alt_ops_item.proofs.get.get_item.Goals as goal
 
 pub returns-in_err-target-clause-carried : goal.returns-in_err-target-clause-carried

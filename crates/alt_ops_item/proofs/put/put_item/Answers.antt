@@ -1,5 +1,5 @@
 -- The item isn't reached or is refused in its table, or it is written.
-use Rattle.std.proofs.Common.{◌≡◌, sym, ap, subst, ◌∙◌, is_some, Option, Some, List, ℕ, Ok, Err}
+use Rattle.std.proofs.Common.{◌≡◌, sym, ap, subst, ◌∙◌, is_some, Some, List, ℕ}
 use Rattle.std.specs.FinMap as map
 use Rattle.serde_json.specs.Data.{Members}
 use Rattle.serde_json.specs.View.{members_view}
@@ -9,7 +9,7 @@ use Rattle.alt_machine.specs.Members.{table_name}
 use Rattle.alt_machine.specs.Ops.PutItem.{rules, of_item, puts, put_item}
 use Rattle.alt_machine.specs.Outcomes.{writes, a_number}
 use Rattle.alt_machine.specs.Replies.{done}
-use Rattle.alt_machine.specs.State.{State, Table}
+use Rattle.alt_machine.specs.State.{State}
 use Rattle.alt_machine.specs.Valid.{IsStored}
 use Rattle.alt_machine.specs.Writes.{item_writes}
 use Rattle.alt_ops_item.proofs.Putting.{put_is, puts-refused, puts-written, may_be_put, same_description, same_writes}

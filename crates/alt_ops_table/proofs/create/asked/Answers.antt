@@ -1,15 +1,12 @@
 -- Each test in turn, as the machine has it.
-use Rattle.std.proofs.Common.{◌≡◌, sym, ap, subst, ◌∙◌, Err, None, is_some, false, true, arith, ℕ}
+use Rattle.std.proofs.Common.{sym, ap, subst, ◌∙◌, is_some, arith, ℕ}
 use Rattle.std.specs.FinMap as map
 use Rattle.serde_json.specs.Data.{Members}
 use Rattle.serde_json.specs.View.{members_view}
-use Rattle.alt_machine.specs.Members.{table_name}
-use Rattle.alt_machine.specs.Wanted.{table_lack}
 use Rattle.alt_ops_table.specs.Asked.{IsAsked}
 use Rattle.alt_ops_table.proofs.Asking.{known, unfit_asked, name-described, create-refused, create-exists, create-many, some_there, none_there, free_family}
 use Rattle.alt_request.proofs.Reaching.{err_is}
 use Rattle.alt_schema.specs.Described.{HasCause, description_of}
-use Rattle.alt_schema.specs.declared.schema.TableSchema.{TableSchema}
 use Rattle.alt_tables.specs.Stands.{catalog_of, number_of, family_of}
 use Rattle.alt_ops_table.proofs.create.asked.Goals as goal
 

@@ -1,8 +1,8 @@
 -- Refused, or the table is made.
-use Rattle.std.proofs.Common.{◌≡◌, refl, sym, ap, subst, ◌∙◌, [], ◌∷◌, Ok, Err}
+use Rattle.std.proofs.Common.{sym, ap, subst, ◌∙◌, [], ◌∷◌}
 use Rattle.serde_json.specs.Data.{Members}
 use Rattle.serde_json.specs.View.{members_view}
-use Rattle.alt_machine.specs.Ops.CreateTable.{with_table, created, creates, create_table}
+use Rattle.alt_machine.specs.Ops.CreateTable.{with_table, created, create_table}
 use Rattle.alt_machine.specs.Outcomes.{makes, a_table}
 use Rattle.alt_machine.specs.State.{State}
 use Rattle.alt_ops_table.proofs.Asking.{asked_stops, to_be_made, is_made, has_number, has_family, made_alike, broken_alike, lacks_nothing}

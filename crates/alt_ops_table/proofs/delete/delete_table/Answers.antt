@@ -1,5 +1,5 @@
 -- The table isn't reached, or it is taken out and its description answered.
-use Rattle.std.proofs.Common.{◌≡◌, sym, ap, subst, ◌∙◌, ℕ, List, [], ◌∷◌, Option, Ok, Err}
+use Rattle.std.proofs.Common.{◌≡◌, sym, ap, subst, ◌∙◌, ℕ, List, [], ◌∷◌, Option}
 use Rattle.serde_json.specs.Data.{Members}
 use Rattle.serde_json.specs.View.{members_view}
 use Rattle.alt_machine.specs.Body.{body_refusals}
@@ -14,7 +14,6 @@ use Rattle.alt_request.proofs.Carrying.{table_passed, table_reached, broke_off, 
 use Rattle.alt_request.proofs.Reaching.{err_is}
 use Rattle.alt_schema.specs.declared.schema.TableSchema.{TableSchema}
 use Rattle.alt_shape.specs.Bodies as bodies
-use Rattle.alt_shape.specs.Refusals.{answer_of}
 use Rattle.alt_shape.specs.declared.rule.Broken.{Broken}
 use Rattle.alt_tables.specs.Faults.{AreMade, BreakOff}
 use Rattle.alt_tables.specs.Stands.{Stands}

@@ -1,4 +1,0 @@
-pub mod Complete
-pub mod CrowdedLaws
-pub mod Sound
-pub mod Whole

@@ -1,0 +1,58 @@
+//! Operands, read from tokens.
+
+ghost use Rattle.std.specs.Prelude.{◌≡◌, ◌∷◌, ◌++◌, []};
+ghost use Rattle.alt_expr.specs.Reader.{left, Reads};
+ghost use Rattle.alt_condparse.specs.Reader as spec;
+ghost use Rattle.alt_expr.specs.Lookups.{given_to};
+
+use alt_expr::{
+    Cursor, ExprFault, Items, Lookups, Mark, Operand, OperandList, Token, read_path,
+    read_path_in_brackets,
+};
+
+/// A path, a `:` word or a size.
+#[tactic(auto, unfolding(crate::specs::Reader::operand))]
+pub(crate) fn operand(given: &Lookups<'_>, tokens: &mut Cursor<'_>) -> Result<Operand, ExprFault>
+    ensures { Reads (spec.operand (given_to given.now) (left tokens.old)) result (left tokens.new) }
+{
+    match tokens.peek() {
+        Some(Token::ColonWord(word)) => {
+            tokens.skip(1);
+            Ok(Operand::Value(given.values.copied(word)?))
+        }
+        _ => named(given, tokens),
+    }
+}
+
+#[tactic(auto, unfolding(crate::specs::Reader::named))]
+fn named(given: &Lookups<'_>, tokens: &mut Cursor<'_>) -> Result<Operand, ExprFault>
+    ensures { Reads (spec.named (given_to given.now) (left tokens.old)) result (left tokens.new) }
+{
+    if tokens.calls("size") {
+        tokens.skip(2);
+        return Ok(Operand::Size(read_path_in_brackets(given.alloc, given.names, tokens)?));
+    }
+    if tokens.is_call() {
+        return Err(ExprFault::Syntax);
+    }
+    Ok(Operand::At(read_path(given.alloc, given.names, tokens)?))
+}
+
+/// One or more operands with commas between.
+pub(crate) fn operands(
+    given: &Lookups<'_>,
+    tokens: &mut Cursor<'_>,
+) -> Result<OperandList, ExprFault>
+    ensures { Reads (spec.operands (given_to given.now) (left tokens.old)) result (left tokens.new) }
+{
+    let turns = tokens.len();
+    let mut found = Items::new(given.alloc);
+    found.push(operand(given, tokens)?)?;
+    for _turn in 0..turns {
+        if !tokens.eat(Mark::Comma) {
+            return Ok(found);
+        }
+        found.push(operand(given, tokens)?)?;
+    }
+    Err(ExprFault::Syntax)
+}

@@ -79,8 +79,8 @@ unfolding calls
 others = (refl, refl, refl, refl, refl)
 
 -- a test that begins with an operand
-from_operand : (g : Given) (a : OperandPhrase) (more : List Tok) → Ends more → r.test g (operand_toks a ++ more) ≡ r.tail g (operand_tree g a) more
-unfolding r.test r.operand_test
+from_operand : (g : Given) (a : OperandPhrase) (more : List Tok) → Ends more → r.whole_test g (operand_toks a ++ more) ≡ r.tail g (operand_tree g a) more
+unfolding r.whole_test r.operand_test
 from_operand g a more e =
     rw (
       no_call_operand (codes "attribute_exists") others.0 a more e,
@@ -125,8 +125,8 @@ kind_read g p a rest =
       operand_read g a (mark m.RightRound ∷ rest) (ends_close rest),
     ) refl
 
-test_read : (g : Given) (d : TestPhrase) (rest : List Tok) → Ends rest → r.test g (test_toks d ++ rest) ≡ Some (test_tree g d, rest)
-unfolding r.test r.operand_test calls r.tail r.sees_comparison r.between after_key sees_key expect_key sees_mark
+test_read : (g : Given) (d : TestPhrase) (rest : List Tok) → Ends rest → r.whole_test g (test_toks d ++ rest) ≡ Some (test_tree g d, rest)
+unfolding r.whole_test r.operand_test calls r.tail r.sees_comparison r.between after_key sees_key expect_key sees_mark
 test_read g (compared a by b) rest e =
     let more = mark (mark_of by) ∷ (operand_toks b ++ rest) in
     append_assoc_at a (mark (mark_of by) ∷ operand_toks b) rest
@@ -134,13 +134,13 @@ test_read g (compared a by b) rest e =
     ∙ tail_read g by (operand_tree g a) (operand_toks b ++ rest)
     ∙ rw (operand_read g b rest e) refl
   where
-    append_assoc_at : (a : OperandPhrase) (xs rest : List Tok) → r.test g ((operand_toks a ++ xs) ++ rest) ≡ r.test g (operand_toks a ++ (xs ++ rest))
-    append_assoc_at a xs rest = ap (r.test g) (append_assoc (operand_toks a) xs rest)
+    append_assoc_at : (a : OperandPhrase) (xs rest : List Tok) → r.whole_test g ((operand_toks a ++ xs) ++ rest) ≡ r.whole_test g (operand_toks a ++ (xs ++ rest))
+    append_assoc_at a xs rest = ap (r.whole_test g) (append_assoc (operand_toks a) xs rest)
 test_read g (between a low high) rest e =
     let inner = operand_toks low ++ key k.And ∷ operand_toks high in
     let more = key k.Between ∷ (inner ++ rest) in
     let behind = key k.And ∷ (operand_toks high ++ rest) in
-    ap (r.test g) (append_assoc (operand_toks a) (key k.Between ∷ inner) rest)
+    ap (r.whole_test g) (append_assoc (operand_toks a) (key k.Between ∷ inner) rest)
     ∙ from_operand g a more (ends_key k.Between _)
     ∙ rw (
       append_assoc (operand_toks low) (key k.And ∷ operand_toks high) rest,
@@ -150,7 +150,7 @@ test_read g (between a low high) rest e =
 test_read g (among a b bs) rest e =
     let inner = mark m.LeftRound ∷ (operands_toks b bs ++ mark m.RightRound ∷ []) in
     let more = key k.Among ∷ (inner ++ rest) in
-    ap (r.test g) (append_assoc (operand_toks a) (key k.Among ∷ inner) rest)
+    ap (r.whole_test g) (append_assoc (operand_toks a) (key k.Among ∷ inner) rest)
     ∙ from_operand g a more (ends_key k.Among _)
     ∙ among_read g (operand_tree g a) b bs rest
 test_read g (exists d) rest e = rw (path_in_brackets g.names d rest) refl

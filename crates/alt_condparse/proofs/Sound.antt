@@ -220,8 +220,8 @@ operand_test_sound g i x rest h = elim (either_way (calls (codes "attribute_type
   ]
 ]
 
-test_sound : (g : Given) (i : List Tok) (x : Cond) (rest : List Tok) → r.test g i ≡ Some (x, rest) → Derived test_toks (test_tree g) i x rest
-unfolding r.test
+test_sound : (g : Given) (i : List Tok) (x : Cond) (rest : List Tok) → r.whole_test g i ≡ Some (x, rest) → Derived test_toks (test_tree g) i x rest
+unfolding r.whole_test
 test_sound g i x rest h = elim (either_way (calls (codes "attribute_exists") i)) [
   | inl seen ↦
       let s = path_call g (codes "attribute_exists") cond.Exists i x rest seen (simp seen at h) in

@@ -99,8 +99,8 @@ operand_test g = λ i. if calls (codes "attribute_type") i then (skip 2 >> kind 
     else if calls (codes "contains") i then (skip 2 >> pair g cond.Contains) i
     else (operand g >>= tail g) i
 
-unfoldable pub test : Given → Parser Cond
-test g = λ i. if calls (codes "attribute_exists") i then (skip 2 >> (cond.Exists <$> in_brackets (path g.names))) i
+unfoldable pub whole_test : Given → Parser Cond
+whole_test g = λ i. if calls (codes "attribute_exists") i then (skip 2 >> (cond.Exists <$> in_brackets (path g.names))) i
     else if calls (codes "attribute_not_exists") i then (skip 2 >> (cond.NotExists <$> in_brackets (path g.names))) i
     else operand_test g i
 
@@ -130,7 +130,7 @@ any one = joined (all one) k.Or cond.Any
 unfoldable pub prim : Given → Parser Cond → Parser Cond
 prim g one = do
   group ← eat m.LeftRound
-  if group then in_brackets (any one) else test g
+  if group then in_brackets (any one) else whole_test g
 
 -- a condition without AND and OR, to a depth
 unfoldable pub one : Given → ℕ → Parser Cond

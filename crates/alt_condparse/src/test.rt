@@ -13,9 +13,9 @@ use alt_expr::{
 };
 
 /// A condition without NOT, AND, OR and brackets of its own.
-#[tactic(auto, unfolding(crate::specs::Reader::test))]
+#[tactic(auto, unfolding(crate::specs::Reader::whole_test))]
 pub(crate) fn test(given: &Lookups<'_>, tokens: &mut Cursor<'_>) -> Result<Cond, ExprFault>
-    ensures { Reads (spec.test (given_to given.now) (left tokens.old)) result (left tokens.new) }
+    ensures { Reads (spec.whole_test (given_to given.now) (left tokens.old)) result (left tokens.new) }
 {
     if tokens.calls("attribute_exists") {
         tokens.skip(2);

@@ -15,7 +15,7 @@ cat >"$copy/crates/http_rounds/src/main.rt" <<'RATTLE'
 //! By the number of its words: scans of a head, replies, a head byte by byte, a head of many short lines byte by byte.
 #![tactic(auto)]
 
-use alt_http::{Scan, is_still_more, reply, scan};
+use alt_http::{Scan, reply, scan, scan_more};
 use std::alloc::Global;
 use std::env;
 
@@ -53,17 +53,15 @@ fn replies(alloc: Global, rounds: u32) -> usize {
 
 fn byte_by_byte(alloc: Global, head: &[u8]) -> usize {
     let mut seen = 0;
-    let mut sum: usize = 0;
-    for end in 1..head.len() {
-        let bytes = &head[..end];
-        if seen <= bytes.len() && !is_still_more(bytes, seen) {
-            if let Ok(found) = scan(alloc, bytes) {
-                sum = sum.wrapping_add(taken(&found));
-            }
-            seen = end;
+    for place in 0..head.len() {
+        match scan_more(alloc, &head[..place + 1], seen) {
+            Ok(Scan::More) => seen = place + 1,
+            Ok(Scan::Refused(number)) => return number as usize,
+            Ok(Scan::Head { taken, .. }) => return taken,
+            Err(_) => return 0,
         }
     }
-    sum
+    seen
 }
 
 fn short_lines(alloc: Global) -> usize {
@@ -95,6 +93,20 @@ fn main(rt: HostRuntime) {
     let _ = println!(rt; "{sum}");
 }
 RATTLE
+# What a caller keeps of scan_more: the bytes before were answered by More.
+proofs=$copy/crates/http_rounds/proofs/byte_by_byte
+mkdir -p "$proofs"
+cat >"$proofs/Invariants.antt" <<'ANTT'
+use Rattle.std.proofs.Common.{◌≡◌, ◌≤◌, take}
+use Rattle.alt_http.specs.Reading.{scan_of}
+use Rattle.alt_http.specs.declared.outcome.Scan.TheVariants.{More}
+use Rattle.http_rounds.proofs.byte_by_byte.Given as goal
+
+abbrev pub invariant-loop-place : goal.invariant-loop-place
+invariant-loop-place l = record { behind : l.seen ≤ l.place; more : scan_of (take l.seen l.head) ≡ More }
+ANTT
+sed -e 's/tests_http.proofs.tests.pieces.answered_at/http_rounds.proofs.byte_by_byte/' -e 's/c.args.bytes.now/c.args.head.now/' \
+  crates/tests_http/proofs/tests/pieces/answered_at/Answers.antt >"$proofs/Answers.antt"
 (cd "$copy/crates/http_rounds" && rt run >"$copy/log" 2>&1) || { cat "$copy/log" >&2; exit 1; }
 program=$copy/crates/http_rounds/out/http_rounds
 count() {

@@ -1,5 +1,5 @@
 -- The reader answers a value exactly where the JSON stands for it.
-use Rattle.std.proofs.Common.{◌≡◌, refl, sym, ap, subst, subst₂, ◌∙◌, ℕ, zero, suc, ◌+◌, ◌-◌, ◌<◌, Bool, true, false, cond, T, List, [], ◌∷◌, length, Option, Some, None, Result, Ok, Err, IfOk, inl, inr, arith}
+use Rattle.std.proofs.Common.{◌≡◌, refl, sym, ap, subst, subst₂, ◌∙◌, ℕ, zero, suc, ◌-◌, ◌<◌, Bool, true, false, cond, List, [], ◌∷◌, length, Option, Some, None, Result, Ok, Err, IfOk, inl, inr, arith}
 use Rattle.std.specs.Prelude.{ℤ, ◌==◌, ◌⊎◌, codes}
 use Rattle.std.specs.Ordering.{int_cmp}
 use Rattle.std.specs.Str.{bytes_eq}
@@ -19,7 +19,7 @@ use Rattle.alt_codec.specs.declared.fault.ValueFault.{ValueFault}
 use Rattle.alt_codec.specs.declared.fault.ValueFault.TheVariants as fault
 use Rattle.alt_codec.specs.JsonOf.{present, IsOnly, IsTextOf, IsNumberOf, IsBinaryOf, IsMemberOf, AreMembersOf, IsSetOf, with_pairs, JsonOf, is_text, is_number, is_binary, is_truth, is_none, is_texts, is_numbers, is_binaries, is_list, is_map, ElementsOf, no_elements, element_then, PairsOf, no_pairs, pair_then, ItemJsonOf}
 use Rattle.alt_codec.specs.Numbers.{number_of}
-use Rattle.alt_codec.specs.Reading.{Answer, all_null, only_present, value_in, payload_in, list_in, map_in, flat_in, if_room, elements_in, fields_in, item_in}
+use Rattle.alt_codec.specs.Reading.{all_null, only_present, value_in, payload_in, list_in, map_in, flat_in, if_room, elements_in, fields_in, item_in}
 use Rattle.alt_codec.specs.Scalars.{text_in, number_in, binary_in, truth_in, null_in, or_bad_number, or_bad_base64}
 use Rattle.alt_codec.specs.Sets.{members_in, told, sound, first_fault, then_sound, or_later}
 use Rattle.alt_codec.specs.Steps.{and_then, map_ok}

@@ -326,7 +326,7 @@ mutual
       ap (r.all (r.one g n)) (append_assoc (not_toks d) (key k.And ∷ and_toks a) rest)
       ∙ all_is (r.one g n) i
       ∙ join_first (r.one g n) k.And cond.All i behind rest (not_tree g d) _ (not_read g d n (key k.And ∷ behind) (omega arith) (ends_key k.And behind)) (sees_itself behind).0
-        (ands_read g a n (length i) (not_tree g d ∷ []) rest (omega arith) (omega (arith, length-append (not_toks d) (key k.And ∷ behind), length-append (and_toks a) rest)) e no_and)
+      (ands_read g a n (length i) (not_tree g d ∷ []) rest (omega arith) (omega (arith, length-append (not_toks d) (key k.And ∷ behind), length-append (and_toks a) rest)) e no_and)
       ∙ ap (λ x. Some (x, rest)) (all_of_more g d a)
 
   -- the members after the first
@@ -352,7 +352,7 @@ mutual
       ap (r.any (r.one g n)) (append_assoc (and_toks a) (key k.Or ∷ cond_toks o) rest)
       ∙ any_is (r.one g n) i
       ∙ join_first (r.all (r.one g n)) k.Or cond.Any i behind rest (all_of (and_trees g a)) _ (and_read g a n (key k.Or ∷ behind) (omega arith) (ends_key k.Or behind) (sees_itself behind).2) (sees_itself behind).1
-        (ors_read g o n (length i) (all_of (and_trees g a) ∷ []) rest (omega arith) (omega (arith, length-append (and_toks a) (key k.Or ∷ behind), length-append (cond_toks o) rest)) e no_and no_or)
+      (ors_read g o n (length i) (all_of (and_trees g a) ∷ []) rest (omega arith) (omega (arith, length-append (and_toks a) (key k.Or ∷ behind), length-append (cond_toks o) rest)) e no_and no_or)
       ∙ ap (λ x. Some (x, rest)) (any_of_more g a o)
 
   -- the members after the first

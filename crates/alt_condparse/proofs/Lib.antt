@@ -1,2 +1,4 @@
 pub mod Complete
+pub mod CrowdedLaws
 pub mod Sound
+pub mod Whole

@@ -105,7 +105,7 @@ among_sound g a i x rest seen h =
     let list = operands_toks l.first l.others in
     tail (among a l.first l.others) (key k.Among ∷ mark m.LeftRound ∷ (list ++ mark m.RightRound ∷ [])) refl
     (key_seen k.Among i seen ∙ ap (λ z. key k.Among ∷ z)
-      (expected m.LeftRound _ u.0.0 _ u.1 ∙ ap (λ z. mark m.LeftRound ∷ z) (l.tokens ∙ ap (λ z. list ++ z) close ∙ sym (append_assoc list (mark m.RightRound ∷ []) rest))))
+    (expected m.LeftRound _ u.0.0 _ u.1 ∙ ap (λ z. mark m.LeftRound ∷ z) (l.tokens ∙ ap (λ z. list ++ z) close ∙ sym (append_assoc list (mark m.RightRound ∷ []) rest))))
     (sym e.0 ∙ ap (cond.Among (operand_tree g a)) (sym f.0 ∙ l.stands))
 
 compared_sound : (g : Given) (a : OperandPhrase) (i : List Tok) (by : Option Comparison) (x : Cond) (rest : List Tok) → r.sees_comparison i ≡ by → r.compared g (operand_tree g a) by i ≡ Some (x, rest) → Tails g a i x rest
@@ -153,7 +153,7 @@ pair_sound g f i x rest h =
     let e = some_pair _ _ v.2 in
     let close : u.0.1 ≡ mark m.RightRound ∷ rest = expected m.RightRound _ v.0.0 _ v.1 ∙ ap (λ z. mark m.RightRound ∷ z) e.1 in
     let comma : s.0.1 ≡ mark m.Comma ∷ (operand_toks b.by ++ mark m.RightRound ∷ rest) =
-        expected m.Comma _ t.0.0 _ t.1 ∙ ap (λ z. mark m.Comma ∷ z) (b.tokens ∙ ap (λ z. operand_toks b.by ++ z) close) in
+    expected m.Comma _ t.0.0 _ t.1 ∙ ap (λ z. mark m.Comma ∷ z) (b.tokens ∙ ap (λ z. operand_toks b.by ++ z) close) in
     record {
       a = a.by;
       b = b.by;
@@ -179,7 +179,7 @@ kind_sound g i x rest h =
     let e = some_pair _ _ v.2 in
     let close : u.0.1 ≡ mark m.RightRound ∷ rest = expected m.RightRound _ v.0.0 _ v.1 ∙ ap (λ z. mark m.RightRound ∷ z) e.1 in
     let comma : s.0.1 ≡ mark m.Comma ∷ (operand_toks b.by ++ mark m.RightRound ∷ rest) =
-        expected m.Comma _ t.0.0 _ t.1 ∙ ap (λ z. mark m.Comma ∷ z) (b.tokens ∙ ap (λ z. operand_toks b.by ++ z) close) in
+    expected m.Comma _ t.0.0 _ t.1 ∙ ap (λ z. mark m.Comma ∷ z) (b.tokens ∙ ap (λ z. operand_toks b.by ++ z) close) in
     record {
       p = p.by;
       a = b.by;

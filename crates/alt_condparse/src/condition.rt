@@ -3,15 +3,18 @@
 ghost use Rattle.std.specs.Prelude.{◌≡◌, ◌∷◌, ◌++◌, []};
 ghost use Rattle.alt_expr.specs.Reader.{left, Reads};
 ghost use Rattle.alt_condparse.specs.Reader as spec;
-ghost use Rattle.alt_condparse.specs.Lookups.{given_to};
+ghost use Rattle.alt_expr.specs.Lookups.{given_to};
 
-use crate::lookups::Lookups;
 use crate::test::test;
-use alt_expr::{Boxed, Cond, Cursor, ExprFault, Items, Keyword, Mark};
+use alt_expr::{Boxed, Cond, Cursor, ExprFault, Items, Keyword, Lookups, Mark};
 
 /// A condition, in which NOT and brackets stand at most so deep in one another.
 #[cycle(condition)]
-pub(crate) fn any(given: &Lookups<'_>, tokens: &mut Cursor<'_>, depth: usize) -> Result<Cond, ExprFault>
+pub(crate) fn any(
+    given: &Lookups<'_>,
+    tokens: &mut Cursor<'_>,
+    depth: usize,
+) -> Result<Cond, ExprFault>
     ensures { Reads (spec.any (spec.one (given_to given.now) depth) (left tokens.old)) result (left tokens.new) }
 {
     let turns = tokens.len();

@@ -2,6 +2,9 @@
 #![tactic(auto)]
 
 mod condition;
-mod lookups;
+mod crowded;
 mod operand;
 mod test;
+mod text;
+
+pub use text::parse;

@@ -3,11 +3,11 @@
 ghost use Rattle.std.specs.Prelude.{◌≡◌, ◌∷◌, ◌++◌, []};
 ghost use Rattle.alt_expr.specs.Reader.{left, Reads};
 ghost use Rattle.alt_condparse.specs.Reader as spec;
-ghost use Rattle.alt_condparse.specs.Lookups.{given_to};
+ghost use Rattle.alt_expr.specs.Lookups.{given_to};
 
-use crate::lookups::Lookups;
 use alt_expr::{
-    Cursor, ExprFault, Mark, Operand, OperandList, Items, Token, read_path, read_path_in_brackets,
+    Cursor, ExprFault, Items, Lookups, Mark, Operand, OperandList, Token, read_path,
+    read_path_in_brackets,
 };
 
 /// A path, a `:` word or a size.
@@ -39,7 +39,10 @@ fn named(given: &Lookups<'_>, tokens: &mut Cursor<'_>) -> Result<Operand, ExprFa
 }
 
 /// One or more operands with commas between.
-pub(crate) fn operands(given: &Lookups<'_>, tokens: &mut Cursor<'_>) -> Result<OperandList, ExprFault>
+pub(crate) fn operands(
+    given: &Lookups<'_>,
+    tokens: &mut Cursor<'_>,
+) -> Result<OperandList, ExprFault>
     ensures { Reads (spec.operands (given_to given.now) (left tokens.old)) result (left tokens.new) }
 {
     let turns = tokens.len();

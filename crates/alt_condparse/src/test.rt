@@ -3,13 +3,12 @@
 ghost use Rattle.std.specs.Prelude.{◌≡◌};
 ghost use Rattle.alt_expr.specs.Reader.{left, Reads};
 ghost use Rattle.alt_condparse.specs.Reader as spec;
-ghost use Rattle.alt_condparse.specs.Lookups.{given_to};
+ghost use Rattle.alt_expr.specs.Lookups.{given_to};
 ghost use Rattle.alt_expr.specs.declared.cond.Cond.TheVariants as cond;
 
-use crate::lookups::Lookups;
 use crate::operand::{operand, operands};
 use alt_expr::{
-    Comparison, Cond, Cursor, ExprFault, Keyword, Mark, Operand, Token, read_path,
+    Comparison, Cond, Cursor, ExprFault, Keyword, Lookups, Mark, Operand, Token, read_path,
     read_path_in_brackets,
 };
 

@@ -6,10 +6,11 @@ use Rattle.std.proofs.lemmas.Str.{IsUtf8-from_is_utf8, is_utf8-from_IsUtf8}
 use Rattle.serde_json.specs.Data.{Data}
 use Rattle.serde_json.specs.Find.{as_object}
 use Rattle.serde_json.specs.Read.{read}
-use Rattle.alt_machine.specs.Json.{body_of}
+use Rattle.alt_machine.specs.Members.{body_of}
 
 -- text that reads as this
-pub body_of_read : (bytes : List ℕ) (d : Data) → IsUtf8 bytes → read bytes ≡ Some d → body_of bytes ≡ as_object d
+pub body_of_read : (bytes : List ℕ) (d : Data) → IsUtf8 bytes → read bytes ≡ Some d
+    → body_of bytes ≡ as_object d
 body_of_read bytes d valid reads =
     ap (λ b. cond b (option_and_then as_object (read bytes)) None) (is_utf8-from_IsUtf8 bytes valid)
     ∙ ap (option_and_then as_object) reads
@@ -17,7 +18,8 @@ body_of_read bytes d valid reads =
 -- bytes that are no text, or no JSON
 pub body_of_none : (bytes : List ℕ) → (IsUtf8 bytes → read bytes ≡ None) → body_of bytes ≡ None
 body_of_none bytes fails =
-    elim (is_utf8 bytes) as (λ b. is_utf8 bytes ≡ b → cond b (option_and_then as_object (read bytes)) None ≡ None) [
+    elim (is_utf8 bytes) as (λ b. is_utf8 bytes ≡ b
+    → cond b (option_and_then as_object (read bytes)) None ≡ None) [
       | true ↦ λ e. ap (option_and_then as_object) (fails (IsUtf8-from_is_utf8 bytes e))
       | false ↦ λ e. refl
     ] refl

@@ -1,51 +1,63 @@
 //! The way of a request: its operation, its body as JSON, and then the operation itself.
 
-ghost use Rattle.std.specs.Prelude.{◌≡◌, false, None, IfOk, IfErr, OnOk, OnErr};
+ghost use Rattle.std.specs.Prelude.{◌≡◌, false, IfOk, OnOk, map, option_map};
+ghost use Rattle.std.specs.List.{find};
+ghost use Rattle.std.specs.Str.{bytes_eq};
 ghost use Rattle.serde_json.specs.View.{view, members_view};
 ghost use Rattle.serde_json.specs.Written.{has_float};
-ghost use Rattle.alt_machine.specs.Operations.{operation_named};
+ghost use Rattle.alt_machine.specs.Operations.{named_in, operation_named};
 ghost use Rattle.alt_machine.specs.Outcomes.{last_state};
-ghost use Rattle.alt_machine.specs.Spent.{spent, by_operation};
+ghost use Rattle.alt_machine.specs.State.{State};
 ghost use Rattle.alt_machine.specs.Step.{step, operates};
 ghost use Rattle.alt_machine.specs.Valid.{IsValid};
-ghost use Rattle.alt_shape.specs.Refusals.{answer_of};
-ghost use Rattle.alt_tables.specs.Faults.{IsCausedBy};
-ghost use Rattle.alt_tables.specs.Stands.{state_of};
+ghost use Rattle.alt_dispatch.specs.Settled.{Settles, Tells};
+ghost use Rattle.alt_request.specs.Carried.{Carries, IsPlain};
+ghost use Rattle.alt_tables.specs.Stands.{Stands};
 
 use crate::bodies;
 use alt_disk::Disk;
 use alt_machine::Operation;
 use alt_ops_item::{get_item, put_item};
 use alt_ops_table::{create_table, delete_table, describe_table, list_tables};
+use alt_request::Stop;
 use alt_shape::{Refusal, Reply, refuse};
 use alt_tables::{TableFault, Tables};
 use serde_json::{Map, Value};
 use std::alloc::Global;
 
+/// The operations that are built, by name.
+static OPERATIONS: [(&str, Operation); 6] = [
+    ("CreateTable", Operation::CreateTable),
+    ("DescribeTable", Operation::DescribeTable),
+    ("ListTables", Operation::ListTables),
+    ("DeleteTable", Operation::DeleteTable),
+    ("PutItem", Operation::PutItem),
+    ("GetItem", Operation::GetItem),
+];
+
 /// The built operation of that name, `None` exactly where there is none.
 pub fn operation_named(word: &[u8]) -> Option<Operation>
     ensures named { result ≡ operation_named word.now }
 {
-    if word == b"CreateTable".as_slice() {
-        Some(Operation::CreateTable)
-    } else if word == b"DescribeTable".as_slice() {
-        Some(Operation::DescribeTable)
-    } else if word == b"ListTables".as_slice() {
-        Some(Operation::ListTables)
-    } else if word == b"DeleteTable".as_slice() {
-        Some(Operation::DeleteTable)
-    } else if word == b"PutItem".as_slice() {
-        Some(Operation::PutItem)
-    } else if word == b"GetItem".as_slice() {
-        Some(Operation::GetItem)
-    } else {
-        None
-    }
+    named_among(&OPERATIONS, word)
 }
 
-/// One request at a moment, in whole seconds since 1970: the reply and the new state are those of the machine's step. The new
-/// state is also that after the last of the step's atoms. A refusal is a reply too, and leaves the state. After an error the
-/// tables are as they were. The disk isn't called yet.
+fn named_among(operations: &[(&'static str, Operation)], word: &[u8]) -> Option<Operation>
+    ensures { result ≡ named_in (map (λ p. (p.0.now, p.1)) operations.now) word.now }
+{
+    operation_in(operations, word)
+}
+
+fn operation_in(operations: &[(&'static str, Operation)], word: &[u8]) -> Option<Operation>
+    ensures { result ≡ option_map (λ p. p.1) (find
+        (λ p. bytes_eq p.0.now word.now) operations.now) }
+{
+    let entry = operations.iter().find(|entry| entry.0.as_bytes() == word)?;
+    Some(entry.1)
+}
+
+/// One request at a moment, in whole seconds since 1970: the reply is that of the machine's step, and the tables then stand for the
+/// state after the last of its writes. A refusal is a reply too, and leaves the state. The disk isn't called yet.
 pub fn answer<D: Disk>(
     alloc: Global,
     tables: &mut Tables,
@@ -54,21 +66,35 @@ pub fn answer<D: Disk>(
     body: &[u8],
     moment: u64,
 ) -> Result<Reply, TableFault>
-    ensures reply { IfOk result
-        (λ reply. answer_of reply ≡ (step (state_of tables.old) operation body.now moment).answer) }
-    ensures state { OnOk result
-        (state_of tables.new ≡ (step (state_of tables.old) operation body.now moment).state) }
-    ensures atoms { OnOk result
-        (state_of tables.new ≡ last_state (state_of tables.old) (step (state_of tables.old) operation body.now moment).atoms) }
+    // Ok has the answer and leaves the state after the last write, and none of the writes lacked a number or a family; an error has its
+    // cause, and leaves the state after some of the writes.
+    ensures settles { (s : State) → Stands (D.state disk.old) tables.old s
+        → Settles (Stands (D.state disk.new) tables.new) s
+        (step s operation body.now moment) result }
     // What holds of every state from the empty store on goes on to hold.
-    ensures valid { IsValid (state_of tables.old) → OnOk result (IsValid (state_of tables.new)) }
-    ensures stays { OnErr result (state_of tables.new ≡ state_of tables.old) }
+    ensures valid { (s : State) → Stands (D.state disk.old) tables.old s
+        → OnOk result (IsValid (last_state s (step s operation body.now moment).atoms)) }
     ensures plain { IfOk result (λ reply. has_float (view reply.body) ≡ false) }
-    ensures enough { OnOk result (spent (state_of tables.old) operation body.now moment ≡ None) }
-    ensures cause { IfErr result (IsCausedBy (spent (state_of tables.old) operation body.now moment)) }
     ensures disk { D.state disk.new ≡ D.state disk.old }
 {
-    respond(alloc, tables, disk, operation, body, moment)
+    let carried = respond(alloc, tables, disk, operation, body, moment);
+    told(alloc, carried)
+}
+
+/// A refusal as the reply that tells it.
+fn told(alloc: Global, carried: Result<Reply, Stop>) -> Result<Reply, TableFault>
+    requires { IsPlain carried }
+    ensures told { Tells carried result }
+    ensures plain { IfOk result (λ reply. has_float (view reply.body) ≡ false) }
+{
+    match carried {
+        Ok(reply) => Ok(reply),
+        Err(Stop::Refused(refusal)) => match refuse(alloc, refusal) {
+            Ok(reply) => Ok(reply),
+            Err(_) => Err(TableFault::NoMemory),
+        },
+        Err(Stop::Fault(fault)) => Err(fault),
+    }
 }
 
 fn respond<D: Disk>(
@@ -78,24 +104,19 @@ fn respond<D: Disk>(
     operation: Option<Operation>,
     body: &[u8],
     moment: u64,
-) -> Result<Reply, TableFault>
-    ensures reply { IfOk result
-        (λ reply. answer_of reply ≡ (step (state_of tables.old) operation body.now moment).answer) }
-    ensures state { OnOk result
-        (state_of tables.new ≡ (step (state_of tables.old) operation body.now moment).state) }
-    ensures stays { OnErr result (state_of tables.new ≡ state_of tables.old) }
-    ensures plain { IfOk result (λ reply. has_float (view reply.body) ≡ false) }
-    ensures enough { OnOk result (spent (state_of tables.old) operation body.now moment ≡ None) }
-    ensures cause { IfErr result (IsCausedBy (spent (state_of tables.old) operation body.now moment)) }
+) -> Result<Reply, Stop>
+    ensures carried { Carries (λ s. step s operation body.now moment)
+        (Stands (D.state disk.old) tables.old) (Stands (D.state disk.new) tables.new) result }
     ensures disk { D.state disk.new ≡ D.state disk.old }
 {
     let Some(operation) = operation else {
-        return Ok(refuse(alloc, Refusal::E1)?);
+        return Err(Stop::Refused(Refusal::UNKNOWN_OPERATION));
     };
-    let Some(members) = bodies::body_of(alloc, body)? else {
-        return Ok(refuse(alloc, Refusal::E2)?);
-    };
-    carry_out(alloc, tables, disk, operation, &members, moment)
+    match bodies::body_of(alloc, body) {
+        Ok(Some(members)) => carry_out(alloc, tables, disk, operation, &members, moment),
+        Ok(None) => Err(Stop::Refused(Refusal::UNREADABLE)),
+        Err(_) => Err(Stop::Fault(TableFault::NoMemory)),
+    }
 }
 
 fn carry_out<D: Disk>(
@@ -105,17 +126,9 @@ fn carry_out<D: Disk>(
     operation: Operation,
     body: &Map<String, Value>,
     moment: u64,
-) -> Result<Reply, TableFault>
-    ensures reply { IfOk result (λ reply. answer_of reply
-        ≡ (operates (state_of tables.old) operation moment (members_view body.now.entries)).answer) }
-    ensures state { OnOk result (state_of tables.new
-        ≡ (operates (state_of tables.old) operation moment (members_view body.now.entries)).state) }
-    ensures stays { OnErr result (state_of tables.new ≡ state_of tables.old) }
-    ensures plain { IfOk result (λ reply. has_float (view reply.body) ≡ false) }
-    ensures enough { OnOk result (by_operation (state_of tables.old) operation
-        (operates (state_of tables.old) operation moment (members_view body.now.entries)).atoms ≡ None) }
-    ensures cause { IfErr result (IsCausedBy (by_operation (state_of tables.old) operation
-        (operates (state_of tables.old) operation moment (members_view body.now.entries)).atoms)) }
+) -> Result<Reply, Stop>
+    ensures carried { Carries (λ s. operates s operation moment (members_view body.now.entries))
+        (Stands (D.state disk.old) tables.old) (Stands (D.state disk.new) tables.new) result }
     ensures disk { D.state disk.new ≡ D.state disk.old }
 {
     match operation {

@@ -3,7 +3,7 @@
 ghost use Rattle.std.specs.Prelude.{◌≡◌, IfOk, option_map};
 ghost use Rattle.serde_json.specs.Find.{as_object};
 ghost use Rattle.serde_json.specs.View.{view, members_view};
-ghost use Rattle.alt_machine.specs.Json.{body_of};
+ghost use Rattle.alt_machine.specs.Members.{body_of};
 
 use alt_base::NoMemory;
 use serde_json::{Map, Value};

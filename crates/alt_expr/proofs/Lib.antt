@@ -4,6 +4,7 @@ pub mod Grouped
 pub mod HoldsLaws
 pub mod Lists
 pub mod Longest
+pub mod Noting
 pub mod Numbers
 pub mod Once
 pub mod Parsing

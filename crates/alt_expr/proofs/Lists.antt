@@ -41,7 +41,7 @@ module _ {D T : Type 0} (toks : D → List Tok) (tree : D → T) (one : Parser T
     unfolding listed
     listed_read d ds rest f none =
         let room : length ds < length ((toks d ++ more_toks ds) ++ rest) =
-          omega (arith, some d, enough ds, length-append (toks d ++ more_toks ds) rest, length-append (toks d) (more_toks ds)) in
+        omega (arith, some d, enough ds, length-append (toks d ++ more_toks ds) rest, length-append (toks d) (more_toks ds)) in
         rw (between_is d ds)
         (rw (append_assoc (toks d) (more_toks ds) rest, reads d (more_toks ds ++ rest) (fits_more ds rest f))
         (from_read ds _ (tree d ∷ []) rest (rw (append_assoc (toks d) (more_toks ds) rest) at room) f none))

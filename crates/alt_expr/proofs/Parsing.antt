@@ -67,12 +67,14 @@ module _ {D A : Type 0} (L : Language D A) (g : Given) where
 
     -- the answer by the tokens is that by the text
     pub parsed_by_tokens : length text ≤ 4096 → (r : Result A ExprFault) → ReadTokens L g toks whole r → Parsed L g text r
+    unfolding ReadTokens Parsed
     parsed_by_tokens short r h =
         answers_as (TokensHave L g toks whole) (HasFault L g text) to_text (to_tokens short) _ (IsTreeOf L g text)
         (λ a t. (t.1.0, by_tokens t.1.0 t.0 t.1.1, t.1.2)) r h
 
   -- a text that is too long
   pub parsed_too_long : (text : List ℕ) → 4096 < length text → Parsed L g text (Err fault.TooLong)
+  unfolding Parsed
   parsed_too_long text long = inl (refl, long)
 
   -- ---- which fault of the tokens is the first
@@ -82,16 +84,20 @@ module _ {D A : Type 0} (L : Language D A) (g : Given) where
     no_length h = h
 
     pub read_too_deep : TooDeep toks → ReadTokens L g toks whole (Err fault.TooDeep)
+    unfolding ReadTokens
     read_too_deep deep = inr (no_length, inl (refl, deep))
 
     pub read_cut : (TooDeep toks → ⊥) → whole ≡ false → ReadTokens L g toks whole (Err fault.Syntax)
+    unfolding ReadTokens
     read_cut shallow cut = inr (no_length, inr (shallow, inl (refl, λ p. let e : true ≡ false = sym p.0 ∙ cut in absurd (cc))))
 
     pub read_syntax : (TooDeep toks → ⊥) → (IsOf L g toks → ⊥) → ReadTokens L g toks whole (Err fault.Syntax)
+    unfolding ReadTokens
     read_syntax shallow none = inr (no_length, inr (shallow, inl (refl, λ p. none p.1)))
 
     -- an error of the reader
     pub read_err : (f : ExprFault) → (TooDeep toks → ⊥) → ReadsWhole L g toks (Err f) → ReadTokens L g toks whole (Err f)
+    unfolding ReadTokens ReadsWhole
     read_err fault.TooLong shallow h = let e = (h (λ e. cc)).0 in absurd (cc)
     read_err fault.TooDeep shallow h = let e = (h (λ e. cc)).0 in absurd (cc)
     read_err fault.Syntax shallow h = read_syntax shallow (h (λ e. cc)).1
@@ -114,6 +120,7 @@ module _ {D A : Type 0} (L : Language D A) (g : Given) where
       differ b p q = cc
 
       pub read_undefined : list_any (is_unknown g) toks ≡ true → ReadTokens L g toks whole (Err fault.Undefined)
+      unfolding ReadTokens
       read_undefined h =
           inr (no_length, inr (shallow, inr (has_syntax, inl (refl, (is_whole, (tree.0, tree.1, subst (λ ts. list_any (is_unknown g) ts ≡ true) tree.1 h))))))
 
@@ -122,6 +129,7 @@ module _ {D A : Type 0} (L : Language D A) (g : Given) where
         no_unknown h = differ _ (subst (λ ts. list_any (is_unknown g) ts ≡ true) (sym h.1.1) h.1.2) known
 
         pub read_too_many : L.is_crowded a ≡ true → ReadTokens L g toks whole (Err fault.TooMany)
+        unfolding ReadTokens
         read_too_many h =
             inr (no_length, inr (shallow, inr (has_syntax, inr (no_unknown, inl (refl, (is_whole, (tree.0, tree.1, subst (λ b. L.is_crowded b ≡ true) tree.2 h)))))))
 
@@ -131,6 +139,7 @@ module _ {D A : Type 0} (L : Language D A) (g : Given) where
 
           module _ (told : (d : D) → toks ≡ L.toks d → L.repeats d ≡ L.repeats tree.0) where
             pub read_repeated : L.repeats tree.0 ≡ true → ReadTokens L g toks whole (Err fault.RepeatedClause)
+            unfolding ReadTokens
             read_repeated h =
                 inr (no_length, inr (shallow, inr (has_syntax, inr (no_unknown, inr (not_crowded, inl (refl, (is_whole, (tree.0, tree.1, h))))))))
 
@@ -139,9 +148,34 @@ module _ {D A : Type 0} (L : Language D A) (g : Given) where
               no_repeat h = differ _ (sym (told h.1.0 h.1.1) ∙ h.1.2) apart
 
               pub read_overlap : L.overlaps a ≡ true → ReadTokens L g toks whole (Err fault.Overlap)
+              unfolding ReadTokens
               read_overlap h =
                   inr (no_length, inr (shallow, inr (has_syntax, inr (no_unknown, inr (not_crowded, inr (no_repeat, inl (refl, (is_whole, (tree.0, tree.1, subst (λ b. L.overlaps b ≡ true) tree.2 h)))))))))
 
               pub read_tree : L.overlaps a ≡ false → ReadTokens L g toks whole (Ok a)
+              unfolding ReadTokens
               read_tree h =
                   ((no_length, (shallow, (has_syntax, (no_unknown, (not_crowded, (no_repeat, ((λ o. differ _ (subst (λ b. L.overlaps b ≡ true) (same_tree o.1.0 o.1.1) o.1.2) h), tt))))))), (is_whole, tree))
+
+  -- ---- reading to the end
+
+  module _ (toks : List Tok) where
+    -- what is read to the end is the tree
+    pub whole_tree : (a : A) → IsTree L g toks a → ReadsWhole L g toks (Ok a)
+    unfolding ReadsWhole
+    whole_tree a t = t
+
+    -- what isn't of the grammar
+    pub whole_none : (f : ExprFault) → (f ≢ fault.NoMemory → (f ≡ fault.Syntax) × (IsOf L g toks → ⊥)) → ReadsWhole L g toks (Err f)
+    unfolding ReadsWhole
+    whole_none f h = h
+
+    -- the tree that was read
+    pub tree_read : (a : A) → ReadsWhole L g toks (Ok a) → IsTree L g toks a
+    unfolding ReadsWhole
+    tree_read a t = t
+
+    -- the tokens of what was parsed reach the end
+    pub reaches_end : (whole : Bool) (a : A) → ReadTokens L g toks whole (Ok a) → whole ≡ true
+    unfolding ReadTokens
+    reaches_end whole a t = t.1.0

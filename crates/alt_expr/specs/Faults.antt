@@ -61,15 +61,15 @@ module _ {D A : Type 0} (L : Language D A) (g : Given) (text : List ℕ) where
   IsTreeOf a = (d : D) × Derives d × (a ≡ L.tree g d)
 
   -- what a parser answers of the text
-  abbrev pub Parsed : Result A ExprFault → Type 0
+  unfoldable pub Parsed : Result A ExprFault → Type 0
   Parsed result = Answers HasFault IsTreeOf result
 
 -- the words of a text that was parsed are noted; where it wasn't, none is
-abbrev pub NotesHashes : {A : Type 0} → List ℕ → Names → Names → Result A ExprFault → Type 0
+unfoldable pub NotesHashes : {A : Type 0} → List ℕ → Names → Names → Result A ExprFault → Type 0
 NotesHashes text old new (Ok a) = (toks : List Tok) × Lexes text toks true × (used_names new ≡ with_hashes toks (used_names old))
 NotesHashes text old new (Err f) = f ≢ fault.NoMemory → used_names new ≡ used_names old
 
-abbrev pub NotesColons : {A : Type 0} → List ℕ → Values → Values → Result A ExprFault → Type 0
+unfoldable pub NotesColons : {A : Type 0} → List ℕ → Values → Values → Result A ExprFault → Type 0
 NotesColons text old new (Ok a) = (toks : List Tok) × Lexes text toks true × (used_values new ≡ with_colons toks (used_values old))
 NotesColons text old new (Err f) = f ≢ fault.NoMemory → used_values new ≡ used_values old
 

@@ -6,5 +6,5 @@ use Rattle.alt_expr.specs.Crowded.{is_crowded}
 use Rattle.alt_expr.specs.declared.cond.Cond.{Cond}
 
 -- conditions
-abbrev pub conditions : Language CondPhrase Cond
+unfoldable pub conditions : Language CondPhrase Cond
 conditions = record { toks = cond_toks; tree = cond_tree; is_crowded = is_crowded; repeats = λ d. false; overlaps = λ c. false }

@@ -17,7 +17,7 @@ module _ {D A : Type 0} (L : Language D A) (g : Given) (toks : List Tok) where
   IsTree a = (d : D) × (toks ≡ L.toks d) × (a ≡ L.tree g d)
 
   -- a tree exactly where the tokens are those of a phrase
-  abbrev pub ReadsWhole : Result A ExprFault → Type 0
+  unfoldable pub ReadsWhole : Result A ExprFault → Type 0
   ReadsWhole (Ok a) = IsTree a
   ReadsWhole (Err f) = f ≢ fault.NoMemory → (f ≡ fault.Syntax) × (IsOf → ⊥)
 
@@ -32,5 +32,5 @@ module _ {D A : Type 0} (L : Language D A) (g : Given) (toks : List Tok) where
   TokensHave whole fault.Overlap = (whole ≡ true) × ((d : D) × (toks ≡ L.toks d) × (L.overlaps (L.tree g d) ≡ true))
   TokensHave whole fault.NoMemory = ⊥
 
-  abbrev pub ReadTokens : Bool → Result A ExprFault → Type 0
+  unfoldable pub ReadTokens : Bool → Result A ExprFault → Type 0
   ReadTokens whole result = Answers (TokensHave whole) (λ a. (whole ≡ true) × IsTree a) result

@@ -94,7 +94,11 @@ impl Names {
 }
 
 /// Puts the names of the words that aren't empty, and tells whether the empty word is given.
-fn put_names(alloc: Global, given: &mut Item, members: &Map<String, Value>) -> Result<bool, NoMemory>
+fn put_names(
+    alloc: Global,
+    given: &mut Item,
+    members: &Map<String, Value>,
+) -> Result<bool, NoMemory>
     requires members { gives_names (members_view members.now.entries) ≡ true }
     requires names { are_names given.old ≡ true }
     ensures given { OnOk result (given.new ≡ names_in given.old (members_view members.now.entries)) }

@@ -21,21 +21,34 @@ use Rattle.alt_http.proofs.Fronts.{within_front, head_in_window, head_ends, pref
 -- ---- a head that spans tell
 
 -- spans within a part of the bytes lie within them
-pub fields_within : (n m : ℕ) (headers : List HeaderSpan) → n ≤ m → All (IsHeaderWithin n) headers → All (IsHeaderWithin m) headers
+pub fields_within : (n m : ℕ) (headers : List HeaderSpan) → n ≤ m → All (IsHeaderWithin n) headers
+    → All (IsHeaderWithin m) headers
 fields_within n m headers le all =
     All-weaker (IsHeaderWithin n) (IsHeaderWithin m)
-    (λ h x. ((x.0.0, (let y = x.0.1 in omega arith)), (x.1.0, (let y = x.1.1 in omega arith)))) headers all
+    (λ h x. ((x.0.0, (let y = x.0.1 in omega arith)), (x.1.0, (let y = x.1.1 in omega arith))))
+    headers all
 
 -- the parts that spans tell are those of the head
-pub parts_same : (buf : List ℕ) (headers : List HeaderSpan) (spans : RequestSpans) (h : RequestHead) → IsRequestAt buf headers spans h
+pub parts_same : (buf : List ℕ) (headers : List HeaderSpan) (spans : RequestSpans) (h : RequestHead)
+    → IsRequestAt buf headers spans h
     → parts_at buf (take spans.headers headers) spans ≡ parts_of h
 parts_same buf headers spans h at =
-    λ i. record { size = at.len i; method = at.method i; target = at.path i; minor = at.version i; fields = at.fields i }
+    λ i. record {
+      size = at.len i;
+      method = at.method i;
+      target = at.path i;
+      minor =
+          at.version i;
+      fields = at.fields i;
+    }
 
-pub found_head : (bytes front : List ℕ) (headers : List HeaderSpan) (spans : RequestSpans) (scan : Scan) → IsFront bytes front
-    → (h : RequestHead) × IsRequestAt front headers spans h → scan ≡ judged (parts_at front (take spans.headers headers) spans) → IsScan bytes scan
+pub found_head : (bytes front : List ℕ) (headers : List HeaderSpan) (spans : RequestSpans)
+    (scan : Scan) → IsFront bytes front
+    → (h : RequestHead) × IsRequestAt front headers spans h
+    → scan ≡ judged (parts_at front (take spans.headers headers) spans) → IsScan bytes scan
 found_head bytes front headers spans scan is_front found is =
-    by_head found.0 (head_in_window bytes front is_front found.0 (drop spans.len front) found.1.reads)
+    by_head found.0 (head_in_window bytes front is_front found.0
+    (drop spans.len front) found.1.reads)
     (is ∙ ap judged (parts_same front headers spans found.0 found.1))
 
 -- ---- one answer
@@ -50,11 +63,13 @@ bad_no_head bytes h head bad =
     ]
 
 bad_no_more : (bytes : List ℕ) → CanGoOn bytes → IsBad bytes → ⊥
-bad_no_more bytes on bad = let may = on.each bad.front bad.is_front in bad.never may.more may.head [] may.reads
+bad_no_more bytes on bad = let may = on.each bad.front bad.is_front in
+    bad.never may.more may.head [] may.reads
 
 pub IsScan_unique : (bytes : List ℕ) (a b : Scan) → IsScan bytes a → IsScan bytes b → a ≡ b
 IsScan_unique bytes a b (by_head h x e) (by_head k y f) =
-    let same = request_unique (window bytes) h k x.0 y.0 x.1 y.1 in e ∙ ap (λ (g : RequestHead). judged (parts_of g)) same.0 ∙ sym f
+    let same = request_unique (window bytes) h k x.0 y.0 x.1 y.1 in
+    e ∙ ap (λ (g : RequestHead). judged (parts_of g)) same.0 ∙ sym f
 IsScan_unique bytes a b (by_head h x e) (by_bad y f) = absurd (bad_no_head bytes h x y)
 IsScan_unique bytes a b (by_head h x e) (by_size y n f) = absurd (y.none h x.0 x.1)
 IsScan_unique bytes a b (by_head h x e) (by_more y n f) = absurd (y.none h x.0 x.1)
@@ -76,38 +91,67 @@ IsScan_unique bytes a b (by_more x m e) (by_more y n f) = e ∙ sym f
 -- the window of more bytes begins with that of the first
 window_more : (bytes more : List ℕ) → (s : List ℕ) × (window (bytes ++ more) ≡ window bytes ++ s)
 window_more bytes more = elim (cases_lt most_of_head (length bytes)) [
-  | inl long ↦ ([], take-append-le most_of_head bytes more (omega arith) ∙ sym (append-nil (window bytes)))
+  | inl long ↦ (
+    [],
+    take-append-le most_of_head bytes more (omega arith)
+        ∙ sym (append-nil (window bytes)),
+  )
   | inr short ↦ (
     take (most_of_head - length bytes) more,
-    let sum : most_of_head ≡ length bytes + (most_of_head - length bytes) = omega arith in ap (λ (n : ℕ). take n (bytes ++ more)) sum ∙ take-append-add bytes more (most_of_head - length bytes)
-        ∙ ap (λ (l : List ℕ). l ++ take (most_of_head - length bytes) more) (sym (take_all most_of_head bytes short)),
+    let sum : most_of_head ≡ length bytes + (most_of_head - length bytes) = omega arith in
+        ap (λ (n : ℕ). take n (bytes ++ more)) sum
+        ∙ take-append-add bytes more (most_of_head - length bytes)
+        ∙ ap (λ (l : List ℕ). l ++ take (most_of_head - length bytes) more)
+        (sym (take_all most_of_head bytes short)),
   )
 ]
 
-window_full : (bytes more : List ℕ) → most_of_head ≤ length bytes → window (bytes ++ more) ≡ window bytes
+window_full : (bytes more : List ℕ) → most_of_head ≤ length bytes
+    → window (bytes ++ more) ≡ window bytes
 window_full bytes more full = take-append-le most_of_head bytes more full
 
-front_stays : (bytes more front : List ℕ) → IsFront bytes front → IsFront (bytes ++ more) front
+pub front_stays : (bytes more front : List ℕ) → IsFront bytes front → IsFront (bytes ++ more) front
 front_stays bytes more front is_front =
     let w = window_more bytes more in record {
       line = is_front.line;
       ends = is_front.ends;
       rest = is_front.rest ++ w.0;
-      parts = w.1 ∙ ap (λ (l : List ℕ). l ++ w.0) is_front.parts ∙ append_assoc front is_front.rest w.0;
+      parts = w.1 ∙ ap (λ (l : List ℕ). l ++ w.0) is_front.parts
+          ∙ append_assoc front is_front.rest w.0;
     }
 
-full_stays : (bytes more : List ℕ) → most_of_head ≤ length bytes → CanGoOn bytes → CanGoOn (bytes ++ more)
+full_stays : (bytes more : List ℕ) → most_of_head ≤ length bytes → CanGoOn bytes
+    → CanGoOn (bytes ++ more)
 full_stays bytes more full on = record {
-  none = λ h r reads. on.none h r (subst (λ (l : List ℕ). ReadsRequest l h r) (window_full bytes more full) reads);
-  each = λ front is_front. on.each front (record { line = is_front.line; ends = is_front.ends; rest = is_front.rest; parts = sym (window_full bytes more full) ∙ is_front.parts });
+  none = λ h r reads. on.none h r (subst (λ (l : List ℕ). ReadsRequest l h r)
+      (window_full bytes more full) reads);
+  each = λ front is_front. on.each front (record {
+    line = is_front.line;
+    ends =
+        is_front.ends;
+    rest = is_front.rest;
+    parts =
+        sym (window_full bytes more full) ∙ is_front.parts;
+  });
 }
 
 -- What isn't More stays, whatever comes.
-pub IsScan_stays : (bytes more : List ℕ) (scan : Scan) → IsScan bytes scan → (scan ≡ More → ⊥) → IsScan (bytes ++ more) scan
+pub IsScan_stays : (bytes more : List ℕ) (scan : Scan) → IsScan bytes scan → (scan ≡ More → ⊥)
+    → IsScan (bytes ++ more) scan
 IsScan_stays bytes more scan (by_head h x e) final =
     let w = window_more bytes more in
-    by_head h (x.0 ++ w.0, subst (λ (l : List ℕ). ReadsRequest l h (x.0 ++ w.0)) (sym w.1) (ReadsRequest-append (window bytes) h x.0 w.0 x.1)) e
-IsScan_stays bytes more scan (by_bad x e) final = by_bad (record { front = x.front; is_front = front_stays bytes more x.front x.is_front; never = x.never }) e
+    by_head h (
+      x.0 ++ w.0,
+      subst (λ (l : List ℕ). ReadsRequest l h (x.0 ++ w.0)) (sym w.1)
+          (ReadsRequest-append (window bytes) h x.0 w.0 x.1),
+    ) e
+IsScan_stays bytes more scan (by_bad x e) final =
+    by_bad (record {
+      front = x.front;
+      is_front = front_stays bytes more x.front x.is_front;
+      never =
+          x.never;
+    }) e
 IsScan_stays bytes more scan (by_size x full e) final =
     let n = length-append bytes more in by_size (full_stays bytes more full x) (omega (arith, n)) e
 IsScan_stays bytes more scan (by_more x few e) final = absurd (final e)
@@ -119,27 +163,40 @@ IsScan_nothing = by_more (go_on_plain [] (All-nil (λ b. (b == 10) ≡ false))) 
 -- ---- bytes without a line feed
 
 -- a head isn't answered by More
-no_more : (p : Parts) (o : Option ℕ) → More ≡ answered p o → ⊥
+pub no_more : (p : Parts) (o : Option ℕ) → More ≡ answered p o → ⊥
 no_more p (Some n) e = cc
 no_more p None e = cc
 
 -- a head of bytes stands before the plain ones at their end
-plain_head : (bytes plain : List ℕ) (h : RequestHead) (r : List ℕ) → IsPlain plain → length (bytes ++ plain) < most_of_head → ReadsRequest (window (bytes ++ plain)) h r → HasHead bytes h
+plain_head : (bytes plain : List ℕ) (h : RequestHead) (r : List ℕ) → IsPlain plain
+    → length (bytes ++ plain) < most_of_head → ReadsRequest (window (bytes ++ plain)) h r
+    → HasHead bytes h
 plain_head bytes plain h r is few reads =
     let e = length-append bytes plain in
     let ends = head_ends h in
-    let inside = within_front ends.line (print_request h) bytes plain r ends.is is (sym reads.1 ∙ take_all most_of_head (bytes ++ plain) (omega arith)) in
+    let inside = within_front ends.line (print_request h) bytes plain r ends.is is
+    (sym reads.1 ∙ take_all most_of_head (bytes ++ plain) (omega arith)) in
     (inside.0, (reads.0, take_all most_of_head bytes (omega (arith, e)) ∙ inside.1))
 
-plain_front : (bytes plain front : List ℕ) → IsPlain plain → length (bytes ++ plain) < most_of_head → IsFront (bytes ++ plain) front → IsFront bytes front
+plain_front : (bytes plain front : List ℕ) → IsPlain plain → length (bytes ++ plain) < most_of_head
+    → IsFront (bytes ++ plain) front → IsFront bytes front
 plain_front bytes plain front is few is_front =
     let e = length-append bytes plain in
-    let inside = within_front is_front.line front bytes plain is_front.rest is_front.ends is (sym is_front.parts ∙ take_all most_of_head (bytes ++ plain) (omega arith)) in
-    record { line = is_front.line; ends = is_front.ends; rest = inside.0; parts = take_all most_of_head bytes (omega (arith, e)) ∙ inside.1 }
+    let inside = within_front is_front.line front bytes plain is_front.rest is_front.ends is
+    (sym is_front.parts ∙ take_all most_of_head (bytes ++ plain) (omega arith)) in
+    record {
+      line = is_front.line;
+      ends = is_front.ends;
+      rest = inside.0;
+      parts =
+          take_all most_of_head bytes (omega (arith, e)) ∙ inside.1;
+    }
 
 -- More stays where no line feed comes, below the limit.
-pub IsScan_plain : (bytes plain : List ℕ) → IsScan bytes More → IsPlain plain → length (bytes ++ plain) < most_of_head → IsScan (bytes ++ plain) More
-IsScan_plain bytes plain (by_head h x e) is few = absurd (no_more (parts_of h) (refusal_of (parts_of h)) e)
+pub IsScan_plain : (bytes plain : List ℕ) → IsScan bytes More → IsPlain plain
+    → length (bytes ++ plain) < most_of_head → IsScan (bytes ++ plain) More
+IsScan_plain bytes plain (by_head h x e) is few =
+    absurd (no_more (parts_of h) (refusal_of (parts_of h)) e)
 IsScan_plain bytes plain (by_bad x e) is few = cc
 IsScan_plain bytes plain (by_size x n e) is few = cc
 IsScan_plain bytes plain (by_more on n e) is few = by_more (record {
@@ -149,7 +206,8 @@ IsScan_plain bytes plain (by_more on n e) is few = by_more (record {
 
 -- ---- the bytes of a head
 
-sized : (p : Parts) (o : Option ℕ) (taken : ℕ) (target : Option (List ℕ)) (body : ℕ) (expect close : Bool)
+sized : (p : Parts) (o : Option ℕ) (taken : ℕ) (target : Option (List ℕ)) (body : ℕ)
+    (expect close : Bool)
     → Head taken target body expect close ≡ answered p o → taken ≡ p.size
 sized p (Some n) taken target body expect close e = cc
 sized p None taken target body expect close e = cc
@@ -159,7 +217,8 @@ pub IsScan_within : (bytes : List ℕ) (scan : Scan) → IsScan bytes scan → L
 IsScan_within bytes More is = tt
 IsScan_within bytes (Refused n) is = tt
 IsScan_within bytes (Head taken target body expect close) (by_head h x e) =
-    let size : taken ≡ length (print_request h) = sized (parts_of h) (refusal_of (parts_of h)) taken target body expect close e in
+    let size : taken ≡ length (print_request h) =
+    sized (parts_of h) (refusal_of (parts_of h)) taken target body expect close e in
     let ends = head_ends h in
     let some = ap length ends.is in
     let one = length-append ends.line (10 ∷ []) in
@@ -175,4 +234,5 @@ IsScan_within bytes (Head taken target body expect close) (by_more x n e) = cc
 pub IsScan_final : (bytes : List ℕ) (scan : Scan) → IsScan bytes scan → Stays bytes scan
 IsScan_final bytes More is = tt
 IsScan_final bytes (Refused n) is = λ more. IsScan_stays bytes more (Refused n) is (λ e. cc)
-IsScan_final bytes (Head taken target body expect close) is = λ more. IsScan_stays bytes more (Head taken target body expect close) is (λ e. cc)
+IsScan_final bytes (Head taken target body expect close) is =
+    λ more. IsScan_stays bytes more (Head taken target body expect close) is (λ e. cc)

@@ -1,7 +1,9 @@
 pub mod Answering
+pub mod Continuing
 pub mod Dating
 pub mod Fronts
 pub mod Laws
 pub mod Printing
 pub mod Readers
+pub mod Shortness
 pub mod Walks

@@ -5,16 +5,21 @@ use Rattle.alt_http.specs.declared.replying.Piece.{Piece}
 use Rattle.alt_http.specs.Pieces.{piece_text, printed}
 
 -- one more piece
-pub printed-append : (pieces : List Piece) (piece : Piece) → printed (pieces ++ piece ∷ []) ≡ printed pieces ++ piece_text piece
+pub printed-append : (pieces : List Piece) (piece : Piece)
+    → printed (pieces ++ piece ∷ []) ≡ printed pieces ++ piece_text piece
 printed-append [] piece = append-nil (piece_text piece)
 printed-append (first ∷ pieces) piece =
-    ap (λ (l : List ℕ). piece_text first ++ l) (printed-append pieces piece) ∙ sym (append_assoc (piece_text first) (printed pieces) (piece_text piece))
+    ap (λ (l : List ℕ). piece_text first ++ l) (printed-append pieces piece)
+    ∙ sym (append_assoc (piece_text first) (printed pieces) (piece_text piece))
 
 -- one more of the pieces of a list
-pub printed-take : (pieces : List Piece) (k : ℕ) (piece : Piece) → k < length pieces → get_or pieces k piece ≡ piece
+pub printed-take : (pieces : List Piece) (k : ℕ) (piece : Piece) → k < length pieces
+    → get_or pieces k piece ≡ piece
     → printed (take (k + 1) pieces) ≡ printed (take k pieces) ++ piece_text piece
 printed-take pieces k piece below is =
-    ap (λ (n : ℕ). printed (take n pieces)) (add-one k) ∙ ap printed (take-suc pieces k piece below ∙ ap (λ (p : Piece). take k pieces ++ p ∷ []) is)
+    ap (λ (n : ℕ). printed (take n pieces)) (add-one k)
+    ∙ ap printed (take-suc pieces k piece below
+    ∙ ap (λ (p : Piece). take k pieces ++ p ∷ []) is)
     ∙ printed-append (take k pieces) piece
 
 -- what a call ensures where it succeeded

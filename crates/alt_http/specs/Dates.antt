@@ -4,8 +4,8 @@ use Rattle.httpdate.specs.declared.parts.Parts.{Parts}
 use Rattle.httpdate.specs.Calendar.{days_in_year, days_in_month, weekday}
 use Rattle.httpdate.specs.Text.{imf_fixdate}
 
--- Of so many days that have passed since the start of period k, how many of the next n periods are over, counted from k, and
--- the days of the one that isn't.
+-- Of so many days that have passed since the start of period k, how many of the next n periods
+-- are over, counted from k, and the days of the one that isn't.
 abbrev pub periods_past : (ℕ → ℕ) → ℕ → ℕ → ℕ → ℕ × ℕ
 periods_past days_in zero k days = (k, days)
 periods_past days_in (suc n) k days =

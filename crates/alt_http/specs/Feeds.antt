@@ -1,4 +1,5 @@
--- The last line feed of the bytes in which a head has to end. These words serve the clauses of private functions alone.
+-- The last line feed of the bytes in which a head has to end. These words serve the clauses of
+-- private functions alone.
 use Rattle.std.specs.Prelude.{◌≡◌, ◌<◌, ◌==◌, ℕ, suc, false, List, [], ◌∷◌, ◌++◌, length, take, drop, All}
 use Rattle.alt_http.specs.Heads.{IsFront}
 

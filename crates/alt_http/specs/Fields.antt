@@ -13,7 +13,8 @@ is_word word text = str_eq_ignore_ascii_case text word
 -- the values of the fields with this name, in their order
 abbrev pub values_named : List ℕ → List Header → List (List ℕ)
 values_named name [] = []
-values_named name (h ∷ hs) = if is_word name h.0 then h.1 ∷ values_named name hs else values_named name hs
+values_named name (h ∷ hs) =
+    if is_word name h.0 then h.1 ∷ values_named name hs else values_named name hs
 
 -- the first of these values
 abbrev pub first_of : List (List ℕ) → Option (List ℕ)

@@ -1,5 +1,5 @@
--- Where a head stands at the front of bytes, and what can become of bytes that have none (docs/formats/http.md). A head is what
--- httparse reads: its grammar says which bytes are one.
+-- Where a head stands at the front of bytes, and what can become of bytes that have none
+-- (docs/formats/http.md). A head is what httparse reads: its grammar says which bytes are one.
 use Rattle.std.specs.Prelude.{◌≡◌, ℕ, List, [], ◌∷◌, ◌++◌, take}
 use Rattle.httparse.specs.Grammar.{RequestHead, ReadsRequest, HasNoRequest, NeverHasRequest}
 

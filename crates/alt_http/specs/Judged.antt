@@ -1,4 +1,5 @@
--- What is answered for bytes: the refusals of a head in their order, else what it says of the request (docs/formats/http.md).
+-- What is answered for bytes: the refusals of a head in their order, else what it says of the
+-- request (docs/formats/http.md).
 use Rattle.std.specs.Prelude.{◌≡◌, ◌≤◌, ◌<◌, ℕ, Bool, true, not, ◌||◌, ◌==◌, List, [], ◌∷◌, ◌++◌, length, map, Option, None, Some, if◌then◌else◌, nat_lt, codes}
 use Rattle.std.specs.List.{list_any}
 use Rattle.std.specs.Str.{bytes_eq}
@@ -11,7 +12,8 @@ use Rattle.alt_http.specs.Lengths.{is_other_length}
 use Rattle.alt_http.specs.declared.outcome.Scan.{Scan}
 use Rattle.alt_http.specs.declared.outcome.Scan.TheVariants.{More, Refused, Head}
 
--- the parts of a head that count: how many bytes it has, the words of its first line, and its fields
+-- the parts of a head that count: how many bytes it has, the words of its first line, and its
+-- fields
 pub record Parts : Type 0 where
   pub size : ℕ
   pub method : List ℕ
@@ -37,8 +39,8 @@ has_value name passes p = list_any passes (values_named name p.fields)
 abbrev pub most_of_body : ℕ
 most_of_body = 16777216
 
--- The refusals by the lengths that the fields give: none is there, one is no number or another than the first, or it is over
--- the limit.
+-- The refusals by the lengths that the fields give: none is there, one is no number or another
+-- than the first, or it is over the limit.
 abbrev pub length_refusal : List (List ℕ) → Option ℕ
 length_refusal [] = Some 7
 length_refusal (v ∷ vs) =
@@ -51,7 +53,8 @@ refusal_of p =
     if has_value (codes "transfer-encoding") (λ v. true) p then Some 3
     else (if not (bytes_eq p.method (codes "POST")) then Some 4
     else (if not (bytes_eq p.target (codes "/")) then Some 5
-    else (if has_value (codes "content-encoding") (λ v. not (is_word (codes "identity") v)) p then Some 6
+    else (if has_value (codes "content-encoding") (λ v. not (is_word (codes "identity") v)) p
+    then Some 6
     else length_refusal (values_named (codes "content-length") p.fields))))
 
 -- the length of the body, where the head isn't refused
@@ -78,19 +81,22 @@ answered p None = taken_head_of (body_length (values_named (codes "content-lengt
 abbrev pub judged : Parts → Scan
 judged p = answered p (refusal_of p)
 
--- What is answered for bytes: by the head at their front; else 1 where they are bad, 2 where a head would have too many bytes,
--- and else that more are needed.
+-- What is answered for bytes: by the head at their front; else 1 where they are bad, 2 where a
+-- head would have too many bytes, and else that more are needed.
 pub data IsScan (bytes : List ℕ) (scan : Scan) : Type 0 where
-  by_head : (h : RequestHead) → HasHead bytes h → scan ≡ judged (parts_of h) → IsScan bytes scan
+  by_head : (h : RequestHead) → HasHead bytes h → scan ≡ judged (parts_of h)
+      → IsScan bytes scan
   by_bad : IsBad bytes → scan ≡ Refused 1 → IsScan bytes scan
-  by_size : CanGoOn bytes → most_of_head ≤ length bytes → scan ≡ Refused 2 → IsScan bytes scan
+  by_size : CanGoOn bytes → most_of_head ≤ length bytes → scan ≡ Refused 2
+      → IsScan bytes scan
   by_more : CanGoOn bytes → length bytes < most_of_head → scan ≡ More → IsScan bytes scan
 
 -- a refusal and a head stay the answer, whatever bytes come behind
 abbrev pub Stays : List ℕ → Scan → Type 0
 Stays bytes More = Unit {0}
 Stays bytes (Refused n) = (more : List ℕ) → IsScan (bytes ++ more) (Refused n)
-Stays bytes (Head taken target body expect close) = (more : List ℕ) → IsScan (bytes ++ more) (Head taken target body expect close)
+Stays bytes (Head taken target body expect close) =
+    (more : List ℕ) → IsScan (bytes ++ more) (Head taken target body expect close)
 
 -- a head has a byte or more, and all of them are there
 abbrev pub LiesIn : List ℕ → Scan → Type 0

@@ -15,4 +15,5 @@ without_zeros (b ∷ text) = if b == 48 then without_zeros text else b ∷ text
 
 -- the text is no number, or another one; `3` and `03` are the same
 abbrev pub is_other_length : List ℕ → List ℕ → Bool
-is_other_length first text = not (is_length text) || not (bytes_eq (without_zeros text) (without_zeros first))
+is_other_length first text =
+    not (is_length text) || not (bytes_eq (without_zeros text) (without_zeros first))

@@ -8,4 +8,5 @@ pub mod Lengths
 pub mod Pieces
 pub mod Reading
 pub mod Replies
+pub mod SoFar
 pub mod Spans

@@ -1,4 +1,5 @@
--- The parts of a head, one behind the other. These words serve the clauses of private functions alone.
+-- The parts of a head, one behind the other. These words serve the clauses of private functions
+-- alone.
 use Rattle.std.specs.Prelude.{ℕ, List, map, decimal}
 use Rattle.alt_http.specs.Replies.{joined}
 use Rattle.alt_http.specs.declared.replying.Piece.{Piece}

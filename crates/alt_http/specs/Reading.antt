@@ -1,6 +1,7 @@
--- A head read from the front of bytes, byte by byte. Each part is read, or the bytes end before it does, or it never will be;
--- what the parts are says httparse's grammar, with which this reading is proved to agree.
-use Rattle.std.specs.Prelude.{ℕ, zero, suc, ◌+◌, Bool, ◌&&◌, ◌||◌, ◌==◌, List, [], ◌∷◌, ◌++◌, length, if◌then◌else◌, nat_lt, codes, ⊤}
+-- A head read from the front of bytes, byte by byte. Each part is read, or the bytes end before
+-- it does, or it never will be; what the parts are says httparse's grammar, with which this
+-- reading is proved to agree.
+use Rattle.std.specs.Prelude.{ℕ, zero, suc, Bool, ◌&&◌, ◌||◌, ◌==◌, List, [], ◌∷◌, ◌++◌, length, if◌then◌else◌, nat_lt, codes, ⊤}
 use Rattle.std.specs.Str.{is_utf8}
 use Rattle.httparse.specs.Grammar.{is_token_byte, is_uri_byte, is_value_byte, LineEnd, crlf, lf, Field, RequestHead}
 use Rattle.alt_http.specs.Heads.{window, most_of_head}
@@ -8,7 +9,8 @@ use Rattle.alt_http.specs.Judged.{parts_of, judged}
 use Rattle.alt_http.specs.declared.outcome.Scan.{Scan}
 use Rattle.alt_http.specs.declared.outcome.Scan.TheVariants.{More, Refused}
 
--- a part and the bytes behind it; or the bytes are too short for it; or it can't stand there, whatever follows
+-- a part and the bytes behind it; or the bytes are too short for it; or it can't stand there,
+-- whatever follows
 pub data Read (A : Type 0) : Type 0 where
   got : A → List ℕ → Read A
   short : Read A
@@ -33,12 +35,14 @@ abbrev pub read_end : List ℕ → Read LineEnd
 read_end [] = short
 read_end (b ∷ []) = if b == 10 then got lf [] else (if b == 13 then short else never)
 read_end (b ∷ c ∷ bytes) =
-    if b == 10 then got lf (c ∷ bytes) else (if (b == 13) && (c == 10) then got crlf bytes else never)
+    if b == 10 then got lf (c ∷ bytes)
+    else (if (b == 13) && (c == 10) then got crlf bytes else never)
 
 -- the empty lines before the first line, behind those that were read
 unfoldable pub read_blank : List LineEnd → List ℕ → Read (List LineEnd)
 read_blank ends [] = short
-read_blank ends (b ∷ []) = if b == 10 then short else (if b == 13 then short else got ends (b ∷ []))
+read_blank ends (b ∷ []) =
+    if b == 10 then short else (if b == 13 then short else got ends (b ∷ []))
 read_blank ends (b ∷ c ∷ bytes) =
     if b == 10 then read_blank (ends ++ lf ∷ []) (c ∷ bytes)
     else (if b == 13 then (if c == 10 then read_blank (ends ++ crlf ∷ []) bytes else never)
@@ -57,7 +61,9 @@ read_method bytes = read_word is_token_byte 32 [] bytes
 
 -- a target, which is UTF-8, and the space behind it
 abbrev pub read_target : List ℕ → Read (List ℕ)
-read_target bytes = and_then (read_word is_uri_byte 32 [] bytes) (λ target rest. if is_utf8 target then got target rest else never)
+read_target bytes =
+    and_then (read_word is_uri_byte 32 [] bytes)
+    (λ target rest. if is_utf8 target then got target rest else never)
 
 -- these bytes
 unfoldable pub read_bytes : List ℕ → List ℕ → Read ⊤
@@ -87,7 +93,8 @@ read_field bytes =
     and_then (then_read (read_word is_token_byte 58 [] bytes) (read_value []))
     (λ f rest. got (record { name = f.0; raw = f.1.0; end = f.1.1 }) rest)
 
--- the lines of fields up to the empty line, behind those that were read; there are fewer than so many bytes
+-- the lines of fields up to the empty line, behind those that were read; there are fewer than so
+-- many bytes
 unfoldable pub read_fields : ℕ → List Field → List ℕ → Read (List Field × LineEnd)
 read_fields zero fields bytes = never
 read_fields (suc n) fields bytes =
@@ -101,7 +108,8 @@ Lines = (List LineEnd × (List ℕ × (List ℕ × (ℕ × LineEnd)))) × (List 
 -- a first line behind its empty lines
 unfoldable pub read_start : List ℕ → Read (List LineEnd × (List ℕ × (List ℕ × (ℕ × LineEnd))))
 read_start bytes =
-    then_read (read_blank [] bytes) (λ a. then_read (read_method a) (λ b. then_read (read_target b) (λ c. then_read (read_version c) read_end)))
+    then_read (read_blank [] bytes) (λ a. then_read (read_method a) (λ b.
+    then_read (read_target b) (λ c. then_read (read_version c) read_end)))
 
 -- a head
 unfoldable pub read_head : List ℕ → Read Lines
@@ -122,9 +130,11 @@ head_of t = record {
 -- the longest front that ends in a line feed, or nothing
 unfoldable pub front_of : List ℕ → List ℕ
 front_of [] = []
-front_of (b ∷ bytes) = if (b == 10) || nat_lt 0 (length (front_of bytes)) then b ∷ front_of bytes else []
+front_of (b ∷ bytes) =
+    if (b == 10) || nat_lt 0 (length (front_of bytes)) then b ∷ front_of bytes else []
 
--- What is answered for bytes, as a function. Only the longest front that ends in a line feed is read, since a head ends in one.
+-- What is answered for bytes, as a function. Only the longest front that ends in a line feed is
+-- read, since a head ends in one.
 unfoldable pub scan_of : List ℕ → Scan
 scan_of bytes =
     by_read (read_head (front_of (window bytes))) (λ t rest. judged (parts_of (head_of t)))

@@ -10,7 +10,9 @@ joined (part ∷ parts) = part ++ joined parts
 
 -- the statuses that are ever said
 abbrev pub is_status : ℕ → Bool
-is_status status = list_any (λ s. s == status) (200 ∷ 400 ∷ 404 ∷ 405 ∷ 411 ∷ 413 ∷ 415 ∷ 431 ∷ 501 ∷ [])
+is_status status =
+    list_any (λ s. s == status)
+    (200 ∷ 400 ∷ 404 ∷ 405 ∷ 411 ∷ 413 ∷ 415 ∷ 431 ∷ 501 ∷ [])
 
 -- the phrase behind a status
 abbrev pub phrase : ℕ → List ℕ

@@ -1,4 +1,5 @@
--- A head as the spans of its parts tell it. These words serve the clauses of private functions alone.
+-- A head as the spans of its parts tell it. These words serve the clauses of private functions
+-- alone.
 use Rattle.std.specs.Prelude.{ℕ, List, map}
 use Rattle.httparse.specs.declared.spans.HeaderSpan.{HeaderSpan}
 use Rattle.httparse.specs.declared.spans.RequestSpans.{RequestSpans}

@@ -40,7 +40,8 @@ fn is_word(word: &[u8], text: &[u8]) -> bool
 /// Whether some field with this name has a value that passes.
 pub(crate) fn has_value(buf: &[u8], headers: &[HeaderSpan], name: &[u8], test: Test) -> bool
     requires { All (IsHeaderWithin (length buf.now)) headers.now }
-    ensures { result ≡ list_any (passes test.entry) (values_named name.now (fields_at buf.now headers.now)) }
+    ensures { result ≡ list_any (passes test.entry)
+        (values_named name.now (fields_at buf.now headers.now)) }
 {
     for header in headers {
         if is_word(name, header.name.of(buf)) && value_passes(test, header.value.of(buf)) {
@@ -57,7 +58,8 @@ pub(crate) fn first_value<'b>(
     name: &[u8],
 ) -> Option<&'b [u8]>
     requires { All (IsHeaderWithin (length buf.now)) headers.now }
-    ensures { found_value result ≡ first_of (values_named name.now (fields_at buf.now headers.now)) }
+    ensures { found_value result ≡ first_of (values_named name.now
+        (fields_at buf.now headers.now)) }
 {
     for header in headers {
         if is_word(name, header.name.of(buf)) {

@@ -9,8 +9,10 @@ mod lengths;
 mod outcome;
 mod reading;
 mod replying;
+mod resuming;
 
 pub use lengths::LONGEST_BODY;
 pub use outcome::Scan;
 pub use reading::{LONGEST_HEAD, is_still_more, scan};
 pub use replying::{CONTINUE, refusal_body, refusal_status, reply};
+pub use resuming::scan_more;

@@ -42,7 +42,8 @@ pub fn scan(alloc: Global, bytes: &[u8]) -> Result<Scan, NoMemory>
 /// the limit of a head isn't reached. So a server that takes a head in small pieces scans once a line.
 pub fn is_still_more(bytes: &[u8], seen: usize) -> bool
     requires { seen ≤ length bytes.now }
-    ensures { OnTrue result (scan_of (take seen bytes.now) ≡ Scan.More → scan_of bytes.now ≡ Scan.More) }
+    ensures { OnTrue result (scan_of (take seen bytes.now) ≡ Scan.More
+        → scan_of bytes.now ≡ Scan.More) }
 {
     bytes.len() < LONGEST_HEAD && has_no_feed(&bytes[seen..])
 }
@@ -63,8 +64,9 @@ fn answer(alloc: Global, bytes: &[u8]) -> Result<Scan, NoMemory>
 }
 
 /// The longest front, within the limit of a head, that ends in a line feed.
-fn last_front(bytes: &[u8]) -> Option<&[u8]>
-    ensures { MatchOption result (IsPlain (heads.window bytes.now)) (λ front. IsLastFront bytes.now front.now) }
+pub(crate) fn last_front(bytes: &[u8]) -> Option<&[u8]>
+    ensures { MatchOption result (IsPlain (heads.window bytes.now))
+        (λ front. IsLastFront bytes.now front.now) }
 {
     let within = window(bytes);
     match memrchr(b'\n', within) {
@@ -80,7 +82,7 @@ fn window(bytes: &[u8]) -> &[u8]
 }
 
 /// The answer where no head stands at the front, and one may still.
-fn without_head(bytes: &[u8]) -> Scan
+pub(crate) fn without_head(bytes: &[u8]) -> Scan
     requires { CanGoOn bytes.now }
     ensures { IsScan bytes.now result }
 {
@@ -91,7 +93,7 @@ fn without_head(bytes: &[u8]) -> Scan
     }
 }
 
-fn read(alloc: Global, bytes: &[u8], front: &[u8]) -> Result<Scan, NoMemory>
+pub(crate) fn read(alloc: Global, bytes: &[u8], front: &[u8]) -> Result<Scan, NoMemory>
     requires { IsLastFront bytes.now front.now }
     ensures { IfOk result (IsScan bytes.now) }
 {

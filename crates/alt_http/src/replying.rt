@@ -30,7 +30,8 @@ pub fn reply(
 ) -> Result<(), NoMemory>
     requires known { IsTrue (replies.is_status status) }
     requires dated { moment < 253_402_300_800 }
-    ensures ok { OnOk result (out.new.items ≡ out.old.items ++ replies.reply_text status moment close body.now) }
+    ensures ok { OnOk result (out.new.items ≡ out.old.items
+        ++ replies.reply_text status moment close body.now) }
     ensures err { OnErr result (out.new.items ≡ out.old.items) }
 {
     let before = out.len();
@@ -52,7 +53,8 @@ fn put_head(
     close: bool,
     length: usize,
 ) -> Result<(), NoMemory>
-    ensures ok { OnOk result (out.new.items ≡ out.old.items ++ replies.head_text status date close length) }
+    ensures ok { OnOk result (out.new.items ≡ out.old.items
+        ++ replies.head_text status date close length) }
     ensures err { OnErr result (out.new.items ≡ out.old.items) }
 {
     put_all(

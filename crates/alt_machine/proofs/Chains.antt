@@ -22,33 +22,38 @@ pub no_steps : (wants : Wants) (s : State) → AreSteps wants s []
 unfolding AreSteps
 no_steps wants s = tt
 
-pub one_step : (wants : Wants) (s t : State) → (IsValid s → lack_of wants s ≡ None → IsValid t) → AreSteps wants s (t ∷ [])
+pub one_step : (wants : Wants) (s t : State) → (IsValid s → lack_of wants s ≡ None → IsValid t)
+    → AreSteps wants s (t ∷ [])
 unfolding AreSteps
 one_step wants s t h = (h, tt)
 
 -- ---- behind a test
 
-pub steps-unless : (s : State) (tests : List (Option Answer)) (outcome : Outcome) → (first_answer tests ≡ None → Steps s outcome) → Steps s (unless_refused tests outcome)
+pub steps-unless : (s : State) (tests : List (Option Answer)) (outcome : Outcome)
+    → (first_answer tests ≡ None → Steps s outcome) → Steps s (unless_refused tests outcome)
 steps-unless s tests outcome h = by (first_answer tests) refl
   where
     by : (o : Option Answer) → first_answer tests ≡ o → Steps s (answer_or o outcome)
     by None e = h e
     by (Some a) e = no_steps _ s
 
-pub steps-found : {A : Type 0} (s : State) (r : Result A Answer) (go : A → Outcome) → ((x : A) → r ≡ Ok x → Steps s (go x)) → Steps s (with_found r go)
+pub steps-found : {A : Type 0} (s : State) (r : Result A Answer) (go : A → Outcome)
+    → ((x : A) → r ≡ Ok x → Steps s (go x)) → Steps s (with_found r go)
 steps-found s r go h = by r refl
   where
     by : (q : Result _ Answer) → r ≡ q → Steps s (with_found q go)
     by (Ok x) e = h x e
     by (Err a) e = no_steps _ s
 
-pub found_is : {A : Type 0} (r : Refusal) (o : Option A) (x : A) → or_refused r o ≡ Ok x → o ≡ Some x
+pub found_is : {A : Type 0} (r : Refusal) (o : Option A) (x : A) → or_refused r o ≡ Ok x
+    → o ≡ Some x
 found_is r None x e = absurd (let f : ⊥ = cc in f)
 found_is r (Some y) x e = ap Some (let f : y ≡ x = cc in f)
 
 -- ---- all of them
 
-pub first_valid : (wants : Wants) (k : ℕ) (s : State) (ts : List State) → AreSteps wants s ts → lack_among wants s (take k ts) ≡ None → IsValid s → IsValid (last_state s (take k ts))
+pub first_valid : (wants : Wants) (k : ℕ) (s : State) (ts : List State) → AreSteps wants s ts
+    → lack_among wants s (take k ts) ≡ None → IsValid s → IsValid (last_state s (take k ts))
 unfolding AreSteps
 first_valid wants zero s ts h e v = v
 first_valid wants (suc k) s [] h e v = v

@@ -27,28 +27,39 @@ not_refused (Some r) e = absurd (let f : ⊥ = cc in f)
 
 module _ (s : State) (ms : Members) (free : first_answer (of_tables s ms) ≡ None) where
   -- what holds where the tables refuse nothing
-  schema_taken : (refusal_of ms ≡ None) × (first_answer (refuse_if (map.contains_key s.tables (table_name ms)) table_exists ∷ refuse_if (nat_le MOST_TABLES (map.len s.tables)) too_many_tables ∷ []) ≡ None)
-  schema_taken = let front = rest_none (refuse_by (refusal_of ms)) _ free in (not_refused (refusal_of ms) front.0, front.1)
+  schema_taken : (refusal_of ms ≡ None) × (first_answer
+      (refuse_if (map.contains_key s.tables (table_name ms))
+      table_exists ∷ refuse_if (nat_le MOST_TABLES (map.len s.tables)) too_many_tables ∷ []) ≡ None)
+  schema_taken = let front = rest_none (refuse_by (refusal_of ms)) _ free in
+      (not_refused (refusal_of ms) front.0, front.1)
 
   pub is_taken : refusal_of ms ≡ None
   is_taken = schema_taken.0
 
-  room_test : (map.contains_key s.tables (table_name ms) ≡ false) × (first_answer (refuse_if (nat_le MOST_TABLES (map.len s.tables)) too_many_tables ∷ []) ≡ None)
+  room_test : (map.contains_key s.tables (table_name ms) ≡ false)
+      × (first_answer (refuse_if (nat_le MOST_TABLES (map.len s.tables)) too_many_tables ∷ [])
+      ≡ None)
   room_test = if_fails (map.contains_key s.tables (table_name ms)) table_exists _ schema_taken.1
 
   pub is_absent : map.contains_key s.tables (table_name ms) ≡ false
   is_absent = room_test.0
 
   pub has_room : map.len s.tables < MOST_TABLES
-  has_room = not_full MOST_TABLES (map.len s.tables) (if_fails (nat_le MOST_TABLES (map.len s.tables)) too_many_tables _ room_test.1).0
+  has_room = not_full MOST_TABLES (map.len s.tables)
+      (if_fails (nat_le MOST_TABLES (map.len s.tables)) too_many_tables _ room_test.1).0
 
 pub create_steps : (s : State) (moment : ℕ) (ms : Members) → Steps s (create_table s moment ms)
 unfolding create_table
 create_steps s moment ms =
-    steps-unless s (of_body ms) (unless_refused (of_tables s ms) (creates s (description_of ms moment s.next_number s.next_family))) (λ body.
-    steps-unless s (of_tables s ms) (creates s (description_of ms moment s.next_number s.next_family)) (λ free.
-    one_step a_table s (with_table s (description_of ms moment s.next_number s.next_family)) (λ v enough.
+    steps-unless s (of_body ms) (unless_refused (of_tables s ms)
+    (creates s (description_of ms moment s.next_number s.next_family))) (λ body.
+    steps-unless s (of_tables s ms) (creates s
+    (description_of ms moment s.next_number s.next_family)) (λ free.
+    one_step a_table s (with_table s (description_of ms moment s.next_number s.next_family))
+    (λ v enough.
     with_table_valid s (description_of ms moment s.next_number s.next_family) v
-    (made_is ms moment s.next_number s.next_family (is_taken s ms free)) (made_new ms moment s.next_number s.next_family (is_taken s ms free))
-    (made_number ms moment s.next_number s.next_family) (made_family ms moment s.next_number s.next_family)
+    (made_is ms moment s.next_number s.next_family (is_taken s ms free))
+    (made_new ms moment s.next_number s.next_family (is_taken s ms free))
+    (made_number ms moment s.next_number s.next_family)
+    (made_family ms moment s.next_number s.next_family)
     (has_room s ms free) (table_room s enough))))

@@ -40,10 +40,12 @@ row-append f zero k = rw (zero_left k, add_nothing f) refl
     add_nothing m = omega arith
 row-append f (suc n) k = let later : f + suc n ≡ suc f + n = omega arith in
     let more : suc (n + k) ≡ suc n + k = omega arith in
-    ap (λ rest. f ∷ rest) (ap (λ m. row (suc f) n ++ row m k) later ∙ row-append (suc f) n k) ∙ ap (λ m. row f m) more
+    ap (λ rest. f ∷ rest) (ap (λ m. row (suc f) n ++ row m k) later ∙ row-append (suc f) n k)
+    ∙ ap (λ m. row f m) more
 
 -- the row of a stream: one number, or none
-stream_row : {V : Type 0} (f : ℕ) (view : Option V) (stream : Option ℕ) → stream ≡ option_map (λ v. f) view
+stream_row : {V : Type 0} (f : ℕ) (view : Option V) (stream : Option ℕ)
+    → stream ≡ option_map (λ v. f) view
     → option_map_or (λ g. g ∷ []) stream [] ≡ row f (option_map_or (λ v. 1) view 0)
 unfolding row
 stream_row f None stream e = ap (λ s. option_map_or (λ g. g ∷ []) s []) e
@@ -61,8 +63,10 @@ module _ (d : TableSchema) (new : IsNew d) where
   is_row : families_of d ≡ row d.family (count d)
   unfolding row count
   is_row = ap (λ rest. d.family ∷ rest) (
-      (λ i. new.families i ++ stream_row (d.family + 1 + length (indexes d)) d.view d.stream_family new.stream_family i)
-      ∙ ap (λ front. front ++ row (d.family + 1 + length (indexes d)) (option_map_or (λ v. 1) d.view 0)) (from_on-row (d.family + 1) (indexes d))
+      (λ i. new.families i ++ stream_row (d.family + 1 + length (indexes d)) d.view d.stream_family
+      new.stream_family i)
+      ∙ ap (λ front. front ++ row (d.family + 1 + length (indexes d))
+      (option_map_or (λ v. 1) d.view 0)) (from_on-row (d.family + 1) (indexes d))
       ∙ row-append (d.family + 1) (length (indexes d)) (option_map_or (λ v. 1) d.view 0)
       ∙ ap (λ f. row f (length (indexes d) + option_map_or (λ v. 1) d.view 0)) (omega arith))
 
@@ -72,18 +76,33 @@ module _ (d : TableSchema) (new : IsNew d) where
   -- 27 at most
   pub families_few : length (families_of d) ≤ 27
   unfolding count
-  families_few = omega (arith, how_many, length-append d.locals d.globals, new.locals, new.globals, one_stream d.view)
+  families_few = omega (
+    arith,
+    how_many,
+    length-append d.locals d.globals,
+    new.locals,
+    new.globals,
+    one_stream d.view,
+  )
 
-  at_place : (i x : ℕ) → i < length (families_of d) → slice_index_or (families_of d) i x ≡ d.family + i
-  at_place i x within = ap (λ fs. slice_index_or fs i x) is_row ∙ row-at d.family (count d) i x (omega (arith, how_many))
+  at_place : (i x : ℕ) → i < length (families_of d)
+      → slice_index_or (families_of d) i x ≡ d.family + i
+  at_place i x within = ap (λ fs. slice_index_or fs i x) is_row
+      ∙ row-at d.family (count d) i x (omega (arith, how_many))
 
   -- each is one of as many from the table's on
-  pub families_within : All (λ f. (d.family ≤ f) × (f < d.family + length (families_of d))) (families_of d)
-  families_within i x within = (omega (arith, at_place i x within), omega (arith, at_place i x within))
+  pub families_within : All (λ f. (d.family ≤ f) × (f < d.family + length (families_of d)))
+      (families_of d)
+  families_within i x within = (
+    omega (arith, at_place i x within),
+    omega (arith, at_place i x within),
+  )
 
   pub families_differ : AllPairs (λ f g. f ≢ g) (families_of d)
-  families_differ i j x before within e = omega (arith, at_place i x (omega arith), at_place j x within, e)
+  families_differ i j x before within e = omega
+      (arith, at_place i x (omega arith), at_place j x within, e)
 
 -- what holds of each element holds of one of them
-pub of_contained : {A : Type 0} (P : A → Type 0) (xs : List A) (x : A) → All P xs → Contains xs x → P x
+pub of_contained : {A : Type 0} (P : A → Type 0) (xs : List A) (x : A) → All P xs → Contains xs x
+    → P x
 of_contained P xs x all (k, within, is) = subst P is (all k x within)

@@ -13,18 +13,24 @@ not_above : (m n : ℕ) → nat_lt m n ≡ false → n ≤ m
 not_above m n e = grind arith
 
 -- what isn't lacked passed its test
-not_lacked : {A : Type 0} (b : Bool) (n : A) (o : Option A) → cond b (Some n) o ≡ None → (b ≡ false) × (o ≡ None)
+not_lacked : {A : Type 0} (b : Bool) (n : A) (o : Option A) → cond b (Some n) o ≡ None
+    → (b ≡ false) × (o ≡ None)
 not_lacked true n o e = absurd (let f : ⊥ = cc in f)
 not_lacked false n o e = (refl, e)
 
 pub number_room : (s : State) → number_lack s.next_number ≡ None → s.next_number < NUMBERS_END
-number_room s e = not_full NUMBERS_END s.next_number (not_lacked (nat_le NUMBERS_END s.next_number) s.next_number None e).0
+number_room s e = not_full NUMBERS_END s.next_number
+    (not_lacked (nat_le NUMBERS_END s.next_number) s.next_number None e).0
 
-pub table_room : (s : State) → table_lack s.next_number s.next_family ≡ None → (s.next_number < NUMBERS_END) × (s.next_family + MOST_FAMILIES ≤ FAMILIES_END)
+pub table_room : (s : State) → table_lack s.next_number s.next_family ≡ None
+    → (s.next_number < NUMBERS_END) × (s.next_family + MOST_FAMILIES ≤ FAMILIES_END)
 table_room s e =
-    let tests = not_lacked (nat_le NUMBERS_END s.next_number) s.next_number (family_lack s.next_family) e in (
+    let tests = not_lacked (nat_le NUMBERS_END s.next_number) s.next_number
+    (family_lack s.next_family) e in (
       not_full NUMBERS_END s.next_number tests.0,
-      not_above FAMILIES_END (s.next_family + MOST_FAMILIES) (not_lacked (nat_lt FAMILIES_END (s.next_family + MOST_FAMILIES)) s.next_family None tests.1).0,
+      not_above FAMILIES_END (s.next_family + MOST_FAMILIES)
+          (not_lacked (nat_lt FAMILIES_END (s.next_family + MOST_FAMILIES)) s.next_family None
+          tests.1).0,
     )
 
 -- where nothing is lacked among some writes, the first lacks nothing, and neither do the others
@@ -59,7 +65,8 @@ has_family f h = by (nat_lt FAMILIES_END (f + MOST_FAMILIES)) refl
     by true e = absurd (omega (arith, above FAMILIES_END (f + MOST_FAMILIES) e))
     by false e = refl
 
-pub has_table : (n f : ℕ) → n < NUMBERS_END → f + MOST_FAMILIES ≤ FAMILIES_END → table_lack n f ≡ None
+pub has_table : (n f : ℕ) → n < NUMBERS_END → f + MOST_FAMILIES ≤ FAMILIES_END
+    → table_lack n f ≡ None
 has_table n f h g = by (nat_le NUMBERS_END n) refl
   where
     by : (b : Bool) → nat_le NUMBERS_END n ≡ b → cond b (Some n) (family_lack f) ≡ None
@@ -69,16 +76,20 @@ has_table n f h g = by (nat_le NUMBERS_END n) refl
 pub lacks_table_number : (n f : ℕ) → NUMBERS_END ≤ n → table_lack n f ≡ Some n
 lacks_table_number n f h = ap (λ b. cond b (Some n) (family_lack f)) (le-leb NUMBERS_END n h)
 
-pub lacks_table_family : (n f : ℕ) → n < NUMBERS_END → FAMILIES_END < f + MOST_FAMILIES → table_lack n f ≡ Some f
-lacks_table_family n f h g = by (nat_le NUMBERS_END n) refl ∙ ap (λ b. cond b (Some f) None) (lt-ltb FAMILIES_END (f + MOST_FAMILIES) g)
+pub lacks_table_family : (n f : ℕ) → n < NUMBERS_END → FAMILIES_END < f + MOST_FAMILIES
+    → table_lack n f ≡ Some f
+lacks_table_family n f h g = by (nat_le NUMBERS_END n) refl
+    ∙ ap (λ b. cond b (Some f) None) (lt-ltb FAMILIES_END (f + MOST_FAMILIES) g)
   where
     by : (b : Bool) → nat_le NUMBERS_END n ≡ b → cond b (Some n) (family_lack f) ≡ family_lack f
     by true e = absurd (omega (arith, leb-true NUMBERS_END n e))
     by false e = refl
 
 -- one write lacks what it lacks, with no write before it
-pub one_has : (wants : Wants) (s t : State) → lack_of wants s ≡ None → lack_among wants s (t ∷ []) ≡ None
+pub one_has : (wants : Wants) (s t : State) → lack_of wants s ≡ None
+    → lack_among wants s (t ∷ []) ≡ None
 one_has wants s t e = ap (λ o. or_later o None) e
 
-pub one_lacks : (wants : Wants) (s t : State) (n : ℕ) → lack_of wants s ≡ Some n → lack_among wants s (t ∷ []) ≡ Some (record { number = n; before = 0 })
+pub one_lacks : (wants : Wants) (s t : State) (n : ℕ) → lack_of wants s ≡ Some n
+    → lack_among wants s (t ∷ []) ≡ Some (record { number = n; before = 0 })
 one_lacks wants s t n e = ap (λ o. or_later o None) e

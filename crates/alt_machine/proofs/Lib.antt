@@ -2,7 +2,6 @@ pub mod Families
 pub mod Tests
 pub mod Same
 pub mod Lacks
-pub mod ReadItems
 pub mod Looks
 pub mod Descriptions
 pub mod States
@@ -12,3 +11,4 @@ pub mod Made
 pub mod Creations
 pub mod Puts
 pub mod Steps
+pub mod Placed

@@ -13,10 +13,13 @@ same_Some x y e = cc
 
 module _ {X : Type 0} (m : Texts X) (k q : List ℕ) (x : X) where
   -- what is found after an insertion is what was put there, or was there
-  pub at_insert : (v : X) → map.get (map.insert m k v) q ≡ Some x → ((q ≡ k) × (v ≡ x)) ⊎ (map.get m q ≡ Some x)
+  pub at_insert : (v : X) → map.get (map.insert m k v) q ≡ Some x
+      → ((q ≡ k) × (v ≡ x)) ⊎ (map.get m q ≡ Some x)
   at_insert v e = by_order (text_order q k) refl (sym (get-insert text_total m k v q) ∙ e)
     where
-      by_order : (o : Ordering) → text_order q k ≡ o → cond (is_eq o) (Some v) (map.get m q) ≡ Some x → ((q ≡ k) × (v ≡ x)) ⊎ (map.get m q ≡ Some x)
+      by_order : (o : Ordering) → text_order q k ≡ o
+          → cond (is_eq o) (Some v) (map.get m q) ≡ Some x
+          → ((q ≡ k) × (v ≡ x)) ⊎ (map.get m q ≡ Some x)
       by_order Less t f = inr f
       by_order Equal t f = inl (text_apart q k t, same_Some v x f)
       by_order Greater t f = inr f
@@ -29,5 +32,6 @@ module _ {X : Type 0} (m : Texts X) (k q : List ℕ) (x : X) where
       by_test true f = absurd (let g : ⊥ = cc in g)
       by_test false f = f
 
-pub not_there : {X : Type 0} (k : List ℕ) (x : X) → map.get (map.empty {X = X} {R = text_order}) k ≡ Some x → ⊥
+pub not_there : {X : Type 0} (k : List ℕ) (x : X)
+    → map.get (map.empty {X = X} {R = text_order}) k ≡ Some x → ⊥
 not_there {X} k x e = let f : None ≡ Some x = sym (get-empty {X = X} text_order k) ∙ e in cc

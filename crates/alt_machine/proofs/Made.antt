@@ -28,26 +28,36 @@ both false b p q = p
 -- what tests say of the stated indexes holds of those that are made
 module _ (ds : List KeyAttr) (p : StatedIndex → Bool) (q : IndexSchema → Bool)
     (h : (f : ℕ) (i : StatedIndex) → p i ≡ true → q (index_for ds f i) ≡ true) where
-  kept : (f : ℕ) (is : List StatedIndex) → list_all p is ≡ true → list_all q (indexes_from ds f is) ≡ true
+  kept : (f : ℕ) (is : List StatedIndex) → list_all p is ≡ true
+      → list_all q (indexes_from ds f is) ≡ true
   kept f [] e = refl
-  kept f (i ∷ is) e = both (q (index_for ds f i)) _ (h f i (left (p i) _ e)) (kept (suc f) is (right (p i) _ e))
+  kept f (i ∷ is) e = both (q (index_for ds f i)) _ (h f i (left (p i) _ e))
+      (kept (suc f) is (right (p i) _ e))
 
-  kept_both : (f g : ℕ) (ls gs : List StatedIndex) → list_all p (ls ++ gs) ≡ true → list_all q (indexes_from ds f ls ++ indexes_from ds g gs) ≡ true
+  kept_both : (f g : ℕ) (ls gs : List StatedIndex) → list_all p (ls ++ gs) ≡ true
+      → list_all q (indexes_from ds f ls ++ indexes_from ds g gs) ≡ true
   kept_both f g [] gs e = kept g gs e
-  kept_both f g (l ∷ ls) gs e = both (q (index_for ds f l)) _ (h f l (left (p l) _ e)) (kept_both (suc f) g ls gs (right (p l) _ e))
+  kept_both f g (l ∷ ls) gs e = both (q (index_for ds f l)) _ (h f l (left (p l) _ e))
+      (kept_both (suc f) g ls gs (right (p l) _ e))
 
-pair_kept : (ds : List KeyAttr) (keys : List Element) → rules.is_key_schema keys ≡ true → is_pair (hash_of ds keys) (range_of ds keys) ≡ true
+pair_kept : (ds : List KeyAttr) (keys : List Element) → rules.is_key_schema keys ≡ true
+    → is_pair (hash_of ds keys) (range_of ds keys) ≡ true
 pair_kept ds [] e = cc
-pair_kept ds (h ∷ []) e = both (nat_lt 0 (length h.name)) true (right (bytes_eq h.role (codes "HASH")) _ e) refl
+pair_kept ds (h ∷ []) e = both (nat_lt 0 (length h.name)) true
+    (right (bytes_eq h.role (codes "HASH")) _ e) refl
 pair_kept ds (h ∷ r ∷ []) e =
-    let second : (rules.plays (codes "RANGE") r && not (bytes_eq h.name r.name)) ≡ true = right (rules.plays (codes "HASH") h) _ e in
-    both (nat_lt 0 (length h.name)) _ (right (bytes_eq h.role (codes "HASH")) _ (left (rules.plays (codes "HASH") h) _ e))
-    (both (nat_lt 0 (length r.name)) _ (right (bytes_eq r.role (codes "RANGE")) _ (left (rules.plays (codes "RANGE") r) _ second))
+    let second : (rules.plays (codes "RANGE") r && not (bytes_eq h.name r.name)) ≡ true =
+    right (rules.plays (codes "HASH") h) _ e in
+    both (nat_lt 0 (length h.name)) _ (right (bytes_eq h.role (codes "HASH")) _
+    (left (rules.plays (codes "HASH") h) _ e))
+    (both (nat_lt 0 (length r.name)) _ (right (bytes_eq r.role (codes "RANGE")) _
+    (left (rules.plays (codes "RANGE") r) _ second))
     (right (rules.plays (codes "RANGE") r) _ second))
 pair_kept ds (h ∷ r ∷ x ∷ xs) e = cc
 
 local_kept : (ds : List KeyAttr) (table index : List Element) → rules.is_local_to table index ≡ true
-    → (bytes_eq (hash_of ds index).name (hash_of ds table).name && are_two (range_of ds table) (range_of ds index)) ≡ true
+    → (bytes_eq (hash_of ds index).name (hash_of ds table).name && are_two (range_of ds table)
+    (range_of ds index)) ≡ true
 local_kept ds [] index e = cc
 local_kept ds (h ∷ []) index e = cc
 local_kept ds (h ∷ r ∷ []) [] e = cc
@@ -61,32 +71,43 @@ or_false true = refl
 or_false false = refl
 
 -- an attribute is used in a key schema where it is one of the key
-used_kept : (ds : List KeyAttr) (keys : List Element) (name : List ℕ) → rules.is_key_schema keys ≡ true
+used_kept : (ds : List KeyAttr) (keys : List Element) (name : List ℕ)
+    → rules.is_key_schema keys ≡ true
     → rules.is_used_in name keys ≡ is_key (hash_of ds keys) (range_of ds keys) name
 used_kept ds [] name e = cc
 used_kept ds (h ∷ []) name e = refl
-used_kept ds (h ∷ r ∷ []) name e = ap (λ b. bytes_eq h.name name || b) (or_false (bytes_eq r.name name))
+used_kept ds (h ∷ r ∷ []) name e = ap (λ b. bytes_eq h.name name || b)
+    (or_false (bytes_eq r.name name))
 used_kept ds (h ∷ r ∷ x ∷ xs) name e = cc
 
-used_by : (ds : List KeyAttr) (f : ℕ) (is : List StatedIndex) (name : List ℕ) → list_all (λ i. rules.is_key_schema i.keys) is ≡ true
-    → list_any (λ i. rules.is_used_in name i.keys) is ≡ list_any (λ i. is_key i.hash i.range name) (indexes_from ds f is)
+used_by : (ds : List KeyAttr) (f : ℕ) (is : List StatedIndex) (name : List ℕ)
+    → list_all (λ i. rules.is_key_schema i.keys) is ≡ true
+    → list_any (λ i. rules.is_used_in name i.keys) is
+    ≡ list_any (λ i. is_key i.hash i.range name) (indexes_from ds f is)
 used_by ds f [] name e = refl
 used_by ds f (i ∷ is) name e =
-    λ j. used_kept ds i.keys name (left (rules.is_key_schema i.keys) _ e) j || used_by ds (suc f) is name (right (rules.is_key_schema i.keys) _ e) j
+    λ j. used_kept ds i.keys name (left (rules.is_key_schema i.keys) _ e) j || used_by ds
+    (suc f) is name (right (rules.is_key_schema i.keys) _ e) j
 
-used_by_both : (ds : List KeyAttr) (f g : ℕ) (ls gs : List StatedIndex) (name : List ℕ) → list_all (λ i. rules.is_key_schema i.keys) (ls ++ gs) ≡ true
-    → list_any (λ i. rules.is_used_in name i.keys) (ls ++ gs) ≡ list_any (λ i. is_key i.hash i.range name) (indexes_from ds f ls ++ indexes_from ds g gs)
+used_by_both : (ds : List KeyAttr) (f g : ℕ) (ls gs : List StatedIndex) (name : List ℕ)
+    → list_all (λ i. rules.is_key_schema i.keys) (ls ++ gs) ≡ true
+    → list_any (λ i. rules.is_used_in name i.keys) (ls ++ gs)
+    ≡ list_any (λ i. is_key i.hash i.range name) (indexes_from ds f ls ++ indexes_from ds g gs)
 used_by_both ds f g [] gs name e = used_by ds g gs name e
 used_by_both ds f g (l ∷ ls) gs name e =
-    λ j. used_kept ds l.keys name (left (rules.is_key_schema l.keys) _ e) j || used_by_both ds (suc f) g ls gs name (right (rules.is_key_schema l.keys) _ e) j
+    λ j. used_kept ds l.keys name (left (rules.is_key_schema l.keys) _ e) j || used_by_both ds
+    (suc f) g ls gs name (right (rules.is_key_schema l.keys) _ e) j
 
 -- a test that is the same of each name
-tests_alike : (p q : List ℕ → Bool) (ds : List KeyAttr) → ((name : List ℕ) → p name ≡ q name) → list_all (λ a. p a.name) ds ≡ list_all (λ a. q a.name) ds
+tests_alike : (p q : List ℕ → Bool) (ds : List KeyAttr) → ((name : List ℕ) → p name ≡ q name)
+    → list_all (λ a. p a.name) ds ≡ list_all (λ a. q a.name) ds
 tests_alike p q [] h = refl
 tests_alike p q (d ∷ ds) h = λ j. h d.name j && tests_alike p q ds h j
 
-projection_kept : (word : List ℕ) (names : Option (List (List ℕ))) → rules.is_projection word names ≡ true → names_few (projection_for word names) ≡ true
-projection_kept word None e = if_either (λ p. names_few p ≡ true) (bytes_eq word (codes "ALL")) All KeysOnly refl refl
+projection_kept : (word : List ℕ) (names : Option (List (List ℕ)))
+    → rules.is_projection word names ≡ true → names_few (projection_for word names) ≡ true
+projection_kept word None e = if_either (λ p. names_few p ≡ true)
+    (bytes_eq word (codes "ALL")) All KeysOnly refl refl
 projection_kept word (Some names) e = right (bytes_eq word (codes "INCLUDE")) _ e
 
 module _ (ms : Members) (moment number family : ℕ) where
@@ -105,16 +126,19 @@ module _ (ms : Members) (moment number family : ℕ) where
 
     schemas : rules.in_each_schema rules.is_key_schema (stated ms) ≡ true
     unfolding rules.refusal_of
-    schemas = left (rules.in_each_schema rules.is_key_schema (stated ms)) _ (keys_hold (stated ms) taken)
+    schemas = left (rules.in_each_schema rules.is_key_schema (stated ms)) _
+        (keys_hold (stated ms) taken)
 
     -- the tests of local indexes and of projections, behind those of counts and of names
     index_tests : (list_all (λ i. rules.is_local_to (stated ms).keys i.keys) (stated ms).locals
-        && list_all (λ i. rules.is_projection i.projects i.includes) (rules.stated_indexes (stated ms))) ≡ true
+        && list_all (λ i. rules.is_projection i.projects i.includes)
+        (rules.stated_indexes (stated ms))) ≡ true
     unfolding rules.refusal_of
     index_tests =
         right (rules.all_differ (λ i. i.name) (rules.stated_indexes (stated ms))) _
         (right (nat_le (length (stated ms).globals) rules.most_globals) _
-        (right (nat_le (length (stated ms).locals) rules.most_locals) _ (indexes_hold (stated ms) taken)))
+        (right (nat_le (length (stated ms).locals) rules.most_locals) _
+        (indexes_hold (stated ms) taken)))
 
     -- each attribute that is defined is used
     all_used : list_all (λ a. rules.is_used (stated ms) a.name) (stated ms).definitions ≡ true
@@ -122,7 +146,8 @@ module _ (ms : Members) (moment number family : ℕ) where
     all_used =
         left (list_all (λ a. rules.is_used (stated ms) a.name) (stated ms).definitions) _
         (right (rules.all_differ (λ a. a.name) (stated ms).definitions) _
-        (right (rules.in_each_schema rules.is_key_schema (stated ms)) _ (keys_hold (stated ms) taken)))
+        (right (rules.in_each_schema rules.is_key_schema (stated ms)) _
+        (keys_hold (stated ms) taken)))
 
     -- as alt_schema has it
     pub made_new : IsNew (description_of ms moment number family)
@@ -137,21 +162,32 @@ module _ (ms : Members) (moment number family : ℕ) where
         let gs : List StatedIndex = (stated ms).globals in
         record {
           spelled = left (is_name (stated ms).name) _ names;
-          indexes_spelled = kept_both ds (λ i. is_name i.name) (λ i. is_name i.name) (λ f i e. e) _ _ ls gs (right (is_name (stated ms).name) _ names);
-          keys = pair_kept ds (stated ms).keys (left (rules.is_key_schema (stated ms).keys) _ schemas);
+          indexes_spelled = kept_both ds (λ i. is_name i.name) (λ i. is_name i.name)
+              (λ f i e. e) _ _ ls gs (right (is_name (stated ms).name) _ names);
+          keys = pair_kept ds (stated ms).keys
+              (left (rules.is_key_schema (stated ms).keys) _ schemas);
           index_keys =
-              kept_both ds (λ i. rules.is_key_schema i.keys) (λ i. is_pair i.hash i.range) (λ f i e. pair_kept ds i.keys e) _ _ ls gs
+              kept_both ds (λ i. rules.is_key_schema i.keys) (λ i. is_pair i.hash i.range)
+              (λ f i e. pair_kept ds i.keys e) _ _ ls gs
               (right (rules.is_key_schema (stated ms).keys) _ schemas);
           used =
-              sym (tests_alike (rules.is_used (stated ms)) (is_used (described_by (stated ms) moment number family)) ds (λ name j.
-              used_kept ds (stated ms).keys name (left (rules.is_key_schema (stated ms).keys) _ schemas) j
-              || used_by_both ds (family + 1) (family + 1 + length ls) ls gs name (right (rules.is_key_schema (stated ms).keys) _ schemas) j))
+              sym (tests_alike (rules.is_used (stated ms))
+              (is_used (described_by (stated ms) moment number family)) ds (λ name j.
+              used_kept ds (stated ms).keys name
+              (left (rules.is_key_schema (stated ms).keys) _ schemas) j
+              || used_by_both ds (family + 1) (family + 1 + length ls) ls gs name
+              (right (rules.is_key_schema (stated ms).keys) _ schemas) j))
               ∙ all_used;
           locals =
-              kept ds (λ i. rules.is_local_to (stated ms).keys i.keys) (is_local (hash_of ds (stated ms).keys) (range_of ds (stated ms).keys))
-              (λ f i e. local_kept ds (stated ms).keys i.keys e) _ ls (left (list_all (λ i. rules.is_local_to (stated ms).keys i.keys) ls) _ index_tests);
+              kept ds (λ i. rules.is_local_to (stated ms).keys i.keys)
+              (is_local (hash_of ds (stated ms).keys) (range_of ds (stated ms).keys))
+              (λ f i e. local_kept ds (stated ms).keys i.keys e) _ ls
+              (left (list_all (λ i. rules.is_local_to (stated ms).keys i.keys) ls) _
+              index_tests);
           projections =
-              kept_both ds (λ i. rules.is_projection i.projects i.includes) (λ i. names_few i.projection) (λ f i e. projection_kept i.projects i.includes e) _ _ ls gs
+              kept_both ds (λ i. rules.is_projection i.projects i.includes)
+              (λ i. names_few i.projection)
+              (λ f i e. projection_kept i.projects i.includes e) _ _ ls gs
               (right (list_all (λ i. rules.is_local_to (stated ms).keys i.keys) ls) _ index_tests);
           indexes_differ = made_new.names;
           locals_few = made_new.locals;

@@ -21,7 +21,7 @@ use Rattle.alt_machine.specs.Writes.{item_writes, after_item}
 use Rattle.alt_machine.proofs.Chains.{Steps, AreSteps, no_steps, one_step, steps-unless}
 use Rattle.alt_machine.proofs.Targets.{steps-on_item}
 use Rattle.alt_machine.proofs.Lacks.{number_room}
-use Rattle.alt_machine.proofs.ReadItems.{item_names, item_depth, item_full}
+use Rattle.alt_codec.proofs.Fits.{item_names, item_depth, item_full}
 use Rattle.alt_machine.proofs.States.{after_item_valid, with_item_stored}
 use Rattle.alt_machine.proofs.Tests.{unless_holds}
 use Rattle.alt_schema.specs.Indexes.{keys_fit}
@@ -39,7 +39,8 @@ pub record IsRead (item : List Pair) : Type 0 where
   pub depth : fields_depth (fields_of item) ≤ 32
   pub full : T (fields_full (fields_of item))
 
-read_so : (r : Result (List Pair) ValueFault) (item : List Pair) → unless_fault r ≡ Ok item → IfOk r IsItem → IfOk r (λ ps. fields_depth (fields_of ps) ≤ 32)
+read_so : (r : Result (List Pair) ValueFault) (item : List Pair) → unless_fault r ≡ Ok item
+    → IfOk r IsItem → IfOk r (λ ps. fields_depth (fields_of ps) ≤ 32)
     → IfOk r (λ ps. T (fields_full (fields_of ps))) → IsRead item
 read_so (Ok ps) item e names depth full =
     let same : ps ≡ item = (let f : ps ≡ item = cc in f) in
@@ -48,13 +49,17 @@ read_so (Err f) item e names depth full = absurd (let g : ⊥ = cc in g)
 
 of_data : (d : Option Data) (item : List Pair) → item_of d ≡ Ok item → IsRead item
 of_data None item e = absurd (let g : ⊥ = cc in g)
-of_data (Some d) item e = read_so (item_in 32 d) item e (item_names 32 d) (item_depth 32 d) (item_full 32 d)
+of_data (Some d) item e = read_so (item_in 32 d) item e (item_names 32 d) (item_depth 32 d)
+    (item_full 32 d)
 
-pub is_read : (name : List ℕ) (ms : Members) (item : List Pair) → item_at name ms ≡ Ok item → IsRead item
+pub is_read : (name : List ℕ) (ms : Members) (item : List Pair) → item_at name ms ≡ Ok item
+    → IsRead item
 is_read name ms item e = of_data (given name ms) item e
 
 -- an item that was read, has its place and is refused by none of its table's tests may be stored there
-pub may_stand : (d : TableSchema) (place : List ℕ) (item : List Pair) → IsRead item → place_of d item ≡ Some place → key_fits d item ≡ true → first_answer (of_item d item) ≡ None → IsStored d place item
+pub may_stand : (d : TableSchema) (place : List ℕ) (item : List Pair) → IsRead item
+    → place_of d item ≡ Some place → key_fits d item ≡ true → first_answer (of_item d item) ≡ None
+    → IsStored d place item
 may_stand d place item read at fits free =
     let indexes = unless_holds (keys_fit d item) bad_index_key _ free in
     let size = unless_holds (nat_le (item_size item) LARGEST_ITEM) item_too_large _ indexes.1 in
@@ -69,15 +74,18 @@ may_stand d place item read at fits free =
     }
 
 -- the writes of an item that may be stored
-pub writes_steps : (s : State) (moment : ℕ) (name : List ℕ) (t : Table) (place : List ℕ) (new : Option (List Pair)) → map.get s.tables name ≡ Some t
+pub writes_steps : (s : State) (moment : ℕ) (name : List ℕ) (t : Table) (place : List ℕ)
+    (new : Option (List Pair)) → map.get s.tables name ≡ Some t
     → ((item : List Pair) → new ≡ Some item → IsStored t.description place item)
     → AreSteps a_number s (item_writes s moment name t place new)
 writes_steps s moment name t place new there put = by (is_same (map.get t.items place) new)
   where
-    by : (b : Bool) → AreSteps a_number s (if b then [] else after_item s moment name t place new ∷ [])
+    by : (b : Bool) → AreSteps a_number s (if b then [] else after_item s moment name t place
+        new ∷ [])
     by true = no_steps a_number s
     by false = one_step a_number s (after_item s moment name t place new) (λ v enough.
-        after_item_valid s moment name t place new v (number_room s enough) there (with_item_stored s name t place new v there put))
+        after_item_valid s moment name t place new v (number_room s enough) there
+        (with_item_stored s name t place new v there put))
 
 same_Some : {A : Type 0} (x y : A) → Some x ≡ Some y → x ≡ y
 same_Some x y e = cc
@@ -86,7 +94,9 @@ pub put_steps : (s : State) (moment : ℕ) (ms : Members) → Steps s (put_item 
 unfolding put_item
 put_steps s moment ms =
     steps-on_item s (of_body ms) Item ms _ (λ item t place there target.
-    steps-unless s (of_item t.description item) (writes (item_writes s moment (table_name ms) t place (Some item)) done) (λ free.
+    steps-unless s (of_item t.description item)
+    (writes (item_writes s moment (table_name ms) t place (Some item)) done) (λ free.
     writes_steps s moment (table_name ms) t place (Some item) there
     (λ i e. subst (λ j. IsStored t.description place j) (same_Some item i e)
-    (may_stand t.description place item (is_read (codes "Item") ms item target.read) target.at target.fits free))))
+    (may_stand t.description place item (is_read (codes "Item") ms item target.read) target.at
+    target.fits free))))

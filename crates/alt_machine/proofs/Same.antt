@@ -19,7 +19,8 @@ pub is_same-equal : (old new : Option (List Pair)) → old ≡ new → is_same o
 is_same-equal old new e = so_holds (equality old new) e
 
 -- a test of equality is the decision
-pub same_by : (old new : Option (List Pair)) (b : Bool) → IsTrue b ↔ (old ≡ new) → b ≡ is_same old new
+pub same_by : (old new : Option (List Pair)) (b : Bool) → IsTrue b ↔ (old ≡ new)
+    → b ≡ is_same old new
 same_by old new true h = sym (is_same-equal old new (h.0 refl))
 same_by old new false h = elim (is_same old new) as (λ r. is_same old new ≡ r → false ≡ r) [
   | true ↦ λ e. absurd (no_truth (h.1 (same_is old new e)))

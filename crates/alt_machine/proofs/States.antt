@@ -28,7 +28,8 @@ start_valid = record {
 }
 
 -- a table in a state with later numbers
-table_later : (s r : State) (name : List ℕ) (t : Table) → s.next_number ≤ r.next_number → s.next_family ≤ r.next_family → IsTable s name t → IsTable r name t
+table_later : (s r : State) (name : List ℕ) (t : Table) → s.next_number ≤ r.next_number
+    → s.next_family ≤ r.next_family → IsTable s name t → IsTable r name t
 table_later s r name t n f h = record {
   named = h.named;
   made = h.made;
@@ -53,54 +54,73 @@ same_count false n e = absurd (let f : ⊥ = cc in f)
 
 -- ---- a new table
 
-module _ (s : State) (d : TableSchema) (v : IsValid s) (made : IsMade d) (new : IsNew d) (number : d.number ≡ s.next_number) (family : d.family ≡ s.next_family)
-    (room : map.len s.tables < MOST_TABLES) (enough : (s.next_number < NUMBERS_END) × (s.next_family + MOST_FAMILIES ≤ FAMILIES_END)) where
+module _ (s : State) (d : TableSchema) (v : IsValid s) (made : IsMade d) (new : IsNew d)
+    (number : d.number ≡ s.next_number) (family : d.family ≡ s.next_family)
+    (room : map.len s.tables < MOST_TABLES) (enough : (s.next_number < NUMBERS_END)
+    × (s.next_family + MOST_FAMILIES ≤ FAMILIES_END)) where
   new_is : IsTable (with_table s d) d.name (new_table d)
   new_is = record {
     named = refl;
     made = made;
     number = (omega (arith, number, v.next_number.0), omega (arith, number));
     families = λ k x within.
-        let is = families_within d new k x within in (omega (arith, is.0, family, v.next_family.0), omega (arith, is.1, family));
+        let is = families_within d new k x within in
+        (omega (arith, is.0, family, v.next_family.0), omega (arith, is.1, family));
     differ = families_differ d new;
     items = λ place item e. absurd (not_there place item e);
     changes = refl;
   }
 
-  above_old : (name : List ℕ) (t : Table) (f : ℕ) → map.get s.tables name ≡ Some t → Contains (families_of t.description) f → Contains (families_of d) f → ⊥
+  above_old : (name : List ℕ) (t : Table) (f : ℕ) → map.get s.tables name ≡ Some t
+      → Contains (families_of t.description) f → Contains (families_of d) f → ⊥
   above_old name t f e h i =
-      let old : (1 ≤ f) × (f < s.next_family) = of_contained (λ g. (1 ≤ g) × (g < s.next_family)) (families_of t.description) f (v.tables name t e).families h in
+      let old : (1 ≤ f) × (f < s.next_family) =
+      of_contained (λ g. (1 ≤ g) × (g < s.next_family)) (families_of t.description) f
+      (v.tables name t e).families h in
       let is : (d.family ≤ f) × (f < d.family + length (families_of d)) =
-      of_contained (λ g. (d.family ≤ g) × (g < d.family + length (families_of d))) (families_of d) f (families_within d new) i in
+      of_contained (λ g. (d.family ≤ g) × (g < d.family + length (families_of d))) (families_of d) f
+      (families_within d new) i in
       omega (arith, old.1, is.0, family)
 
-  after_old : (name : List ℕ) (t : Table) → map.get s.tables name ≡ Some t → t.description.number ≡ d.number → ⊥
+  after_old : (name : List ℕ) (t : Table) → map.get s.tables name ≡ Some t
+      → t.description.number ≡ d.number → ⊥
   after_old name t e h = omega (arith, (v.tables name t e).number.1, h, number)
 
   pub with_table_valid : IsValid (with_table s d)
   with_table_valid = record {
-    few = omega (arith, len-insert text_total s.tables d.name (new_table d), one_more (map.contains_key s.tables d.name) (map.len s.tables), room);
+    few = omega (
+      arith,
+      len-insert text_total s.tables d.name (new_table d),
+      one_more (map.contains_key s.tables d.name) (map.len s.tables),
+      room,
+    );
     tables = λ name t e. elim (at_insert s.tables d.name name t (new_table d) e) [
-      | inl new ↦ subst (λ (u : Table). IsTable (with_table s d) name u) new.1 (subst (λ n. IsTable (with_table s d) n (new_table d)) (sym new.0) new_is)
-      | inr old ↦ table_later s (with_table s d) name t (omega arith) (omega arith) (v.tables name t old)
+      | inl new ↦ subst (λ (u : Table). IsTable (with_table s d) name u) new.1
+          (subst (λ n. IsTable (with_table s d) n (new_table d)) (sym new.0) new_is)
+      | inr old ↦ table_later s (with_table s d) name t (omega arith) (omega arith)
+          (v.tables name t old)
     ];
     numbers = λ name other t u e g h. elim (at_insert s.tables d.name name t (new_table d) e) [
       | inl new ↦ elim (at_insert s.tables d.name other u (new_table d) g) [
         | inl also ↦ new.0 ∙ sym also.0
-        | inr old ↦ absurd (after_old other u old (sym h ∙ ap (λ (w : Table). w.description.number) (sym new.1)))
+        | inr old ↦ absurd (after_old other u old
+            (sym h ∙ ap (λ (w : Table). w.description.number) (sym new.1)))
       ]
       | inr old ↦ elim (at_insert s.tables d.name other u (new_table d) g) [
-        | inl new ↦ absurd (after_old name t old (h ∙ ap (λ (w : Table). w.description.number) (sym new.1)))
+        | inl new ↦ absurd (after_old name t old
+            (h ∙ ap (λ (w : Table). w.description.number) (sym new.1)))
         | inr also ↦ v.numbers name other t u old also h
       ]
     ];
     families = λ name other t u f e g h i. elim (at_insert s.tables d.name name t (new_table d) e) [
       | inl new ↦ elim (at_insert s.tables d.name other u (new_table d) g) [
         | inl also ↦ new.0 ∙ sym also.0
-        | inr old ↦ absurd (above_old other u f old i (subst (λ (w : Table). Contains (families_of w.description) f) (sym new.1) h))
+        | inr old ↦ absurd (above_old other u f old i
+            (subst (λ (w : Table). Contains (families_of w.description) f) (sym new.1) h))
       ]
       | inr old ↦ elim (at_insert s.tables d.name other u (new_table d) g) [
-        | inl new ↦ absurd (above_old name t f old h (subst (λ (w : Table). Contains (families_of w.description) f) (sym new.1) i))
+        | inl new ↦ absurd (above_old name t f old h
+            (subst (λ (w : Table). Contains (families_of w.description) f) (sym new.1) i))
         | inr also ↦ v.families name other t u f old also h i
       ]
     ];
@@ -110,21 +130,32 @@ module _ (s : State) (d : TableSchema) (v : IsValid s) (made : IsMade d) (new : 
 
 -- ---- a table less
 
-pub without_table_valid : (s : State) (name : List ℕ) → IsValid s → s.next_number < NUMBERS_END → IsValid (without_table s name)
+pub without_table_valid : (s : State) (name : List ℕ) → IsValid s → s.next_number < NUMBERS_END
+    → IsValid (without_table s name)
 without_table_valid s gone v room = record {
-  few = omega (arith, len-remove text_total s.tables gone, one_less (map.contains_key s.tables gone) (map.len s.tables), v.few);
-  tables = λ name t e. table_later s (without_table s gone) name t (omega arith) (omega arith) (v.tables name t (at_remove s.tables gone name t e));
-  numbers = λ name other t u e g h. v.numbers name other t u (at_remove s.tables gone name t e) (at_remove s.tables gone other u g) h;
-  families = λ name other t u f e g h i. v.families name other t u f (at_remove s.tables gone name t e) (at_remove s.tables gone other u g) h i;
+  few = omega (
+    arith,
+    len-remove text_total s.tables gone,
+    one_less (map.contains_key s.tables gone) (map.len s.tables),
+    v.few,
+  );
+  tables = λ name t e. table_later s (without_table s gone) name t (omega arith) (omega arith)
+      (v.tables name t (at_remove s.tables gone name t e));
+  numbers = λ name other t u e g h. v.numbers name other t u (at_remove s.tables gone name t e)
+      (at_remove s.tables gone other u g) h;
+  families = λ name other t u f e g h i. v.families name other t u f
+      (at_remove s.tables gone name t e) (at_remove s.tables gone other u g) h i;
   next_number = (omega arith, omega (arith, room));
   next_family = v.next_family;
 }
 
 -- ---- a table of other items
 
-module _ (s : State) (moment : ℕ) (name : List ℕ) (t : Table) (place : List ℕ) (new : Option (List Pair)) (v : IsValid s) (room : s.next_number < NUMBERS_END)
+module _ (s : State) (moment : ℕ) (name : List ℕ) (t : Table) (place : List ℕ)
+    (new : Option (List Pair)) (v : IsValid s) (room : s.next_number < NUMBERS_END)
     (there : map.get s.tables name ≡ Some t)
-    (stored : (q : List ℕ) (item : List Pair) → map.get (with_item t.items place new) q ≡ Some item → IsStored t.description q item) where
+    (stored : (q : List ℕ) (item : List Pair) → map.get (with_item t.items place new) q ≡ Some item
+    → IsStored t.description q item) where
   abbrev r : State
   r = after_item s moment name t place new
 
@@ -145,7 +176,8 @@ module _ (s : State) (moment : ℕ) (name : List ℕ) (t : Table) (place : List 
       }
 
   -- a table of the same description was there
-  was : (q : List ℕ) (u : Table) → map.get r.tables q ≡ Some u → (w : Table) × (map.get s.tables q ≡ Some w) × (w.description ≡ u.description)
+  was : (q : List ℕ) (u : Table) → map.get r.tables q ≡ Some u
+      → (w : Table) × (map.get s.tables q ≡ Some w) × (w.description ≡ u.description)
   was q u e = elim (at_insert s.tables name q u changed e) [
     | inl new ↦ (t, ap (map.get s.tables) new.0 ∙ there, ap (λ (x : Table). x.description) new.1)
     | inr old ↦ (u, old, refl)
@@ -153,30 +185,43 @@ module _ (s : State) (moment : ℕ) (name : List ℕ) (t : Table) (place : List 
 
   pub after_item_valid : IsValid r
   after_item_valid = record {
-    few = omega (arith, len-insert text_total s.tables name changed, same_count (map.contains_key s.tables name) (map.len s.tables) (ap is_some there), v.few);
+    few = omega (
+      arith,
+      len-insert text_total s.tables name changed,
+      same_count (map.contains_key s.tables name) (map.len s.tables) (ap is_some there),
+      v.few,
+    );
     tables = λ q u e. elim (at_insert s.tables name q u changed e) [
-      | inl new ↦ subst (λ (w : Table). IsTable r q w) new.1 (subst (λ n. IsTable r n changed) (sym new.0) changed_is)
+      | inl new ↦ subst (λ (w : Table). IsTable r q w) new.1
+          (subst (λ n. IsTable r n changed) (sym new.0) changed_is)
       | inr old ↦ table_later s r q u (omega arith) (omega arith) (v.tables q u old)
     ];
     numbers = λ q other u w e g h.
         let a = was q u e in
         let b = was other w g in
-        v.numbers q other a.0 b.0 a.1 b.1 (ap (λ (d : TableSchema). d.number) a.2 ∙ h ∙ ap (λ (d : TableSchema). d.number) (sym b.2));
+        v.numbers q other a.0 b.0 a.1 b.1 (ap (λ (d : TableSchema). d.number) a.2 ∙ h
+        ∙ ap (λ (d : TableSchema). d.number) (sym b.2));
     families = λ q other u w f e g h i.
         let a = was q u e in
         let b = was other w g in
-        v.families q other a.0 b.0 f a.1 b.1 (subst (λ (d : TableSchema). Contains (families_of d) f) (sym a.2) h)
+        v.families q other a.0 b.0 f a.1 b.1 (subst
+        (λ (d : TableSchema). Contains (families_of d) f) (sym a.2) h)
         (subst (λ (d : TableSchema). Contains (families_of d) f) (sym b.2) i);
     next_number = (omega arith, omega (arith, room));
     next_family = v.next_family;
   }
 
 -- what stands there after an item was put, or taken out, is stored as it was
-pub with_item_stored : (s : State) (name : List ℕ) (t : Table) (place : List ℕ) (new : Option (List Pair)) → IsValid s → map.get s.tables name ≡ Some t
+pub with_item_stored : (s : State) (name : List ℕ) (t : Table) (place : List ℕ)
+    (new : Option (List Pair)) → IsValid s → map.get s.tables name ≡ Some t
     → ((item : List Pair) → new ≡ Some item → IsStored t.description place item)
-    → (q : List ℕ) (item : List Pair) → map.get (with_item t.items place new) q ≡ Some item → IsStored t.description q item
-with_item_stored s name t place None v there put q x e = (v.tables name t there).items q x (at_remove t.items place q x e)
-with_item_stored s name t place (Some item) v there put q x e = elim (at_insert t.items place q x item e) [
-  | inl new ↦ subst (λ i. IsStored t.description q i) new.1 (subst (λ p. IsStored t.description p item) (sym new.0) (put item refl))
-  | inr old ↦ (v.tables name t there).items q x old
-]
+    → (q : List ℕ) (item : List Pair) → map.get (with_item t.items place new) q ≡ Some item
+    → IsStored t.description q item
+with_item_stored s name t place None v there put q x e =
+    (v.tables name t there).items q x (at_remove t.items place q x e)
+with_item_stored s name t place (Some item) v there put q x e =
+    elim (at_insert t.items place q x item e) [
+      | inl new ↦ subst (λ i. IsStored t.description q i) new.1
+          (subst (λ p. IsStored t.description p item) (sym new.0) (put item refl))
+      | inr old ↦ (v.tables name t there).items q x old
+    ]

@@ -24,7 +24,8 @@ use Rattle.alt_machine.proofs.Targets.{steps-on_table, steps-on_item}
 delete_steps : (s : State) (ms : Members) → Steps s (delete.delete_table s ms)
 unfolding delete.delete_table
 delete_steps s ms = steps-on_table s (delete.of_body ms) ms _ (λ t there.
-    one_step a_number s (delete.without_table s (table_name ms)) (λ v enough. without_table_valid s (table_name ms) v (number_room s enough)))
+    one_step a_number s (delete.without_table s (table_name ms))
+    (λ v enough. without_table_valid s (table_name ms) v (number_room s enough)))
 
 describe_steps : (s : State) (ms : Members) → Steps s (describe.describe_table s ms)
 unfolding describe.describe_table
@@ -36,9 +37,11 @@ list_steps s ms = steps-unless s (list.of_body ms) _ (λ body. no_steps _ s)
 
 get_steps : (s : State) (ms : Members) → Steps s (get.get_item s ms)
 unfolding get.get_item
-get_steps s ms = steps-on_item s (get.of_body ms) Key ms _ (λ key t place there target. no_steps _ s)
+get_steps s ms = steps-on_item s (get.of_body ms) Key ms _
+    (λ key t place there target. no_steps _ s)
 
-operates_steps : (s : State) (op : Operation) (moment : ℕ) (ms : Members) → Steps s (operates s op moment ms)
+operates_steps : (s : State) (op : Operation) (moment : ℕ) (ms : Members)
+    → Steps s (operates s op moment ms)
 operates_steps s CreateTable moment ms = create_steps s moment ms
 operates_steps s DescribeTable moment ms = describe_steps s ms
 operates_steps s ListTables moment ms = list_steps s ms
@@ -46,11 +49,13 @@ operates_steps s DeleteTable moment ms = delete_steps s ms
 operates_steps s PutItem moment ms = put_steps s moment ms
 operates_steps s GetItem moment ms = get_steps s ms
 
-body_steps : (s : State) (op : Operation) (moment : ℕ) (ms : Option Members) → Steps s (with_body s op moment ms)
+body_steps : (s : State) (op : Operation) (moment : ℕ) (ms : Option Members)
+    → Steps s (with_body s op moment ms)
 body_steps s op moment None = no_steps _ s
 body_steps s op moment (Some ms) = operates_steps s op moment ms
 
-pub steps : (s : State) (op : Option Operation) (body : List ℕ) (moment : ℕ) → Steps s (step s op body moment)
+pub steps : (s : State) (op : Option Operation) (body : List ℕ) (moment : ℕ)
+    → Steps s (step s op body moment)
 steps s None body moment = no_steps _ s
 steps s (Some op) body moment = body_steps s op moment (body_of body)
 
@@ -59,4 +64,5 @@ pub step_valid : (s : State) (op : Option Operation) (body : List ℕ) (moment k
     → lack_among (step s op body moment).wants s (take k (step s op body moment).atoms) ≡ None
     → IsValid (last_state s (take k (step s op body moment).atoms))
 step_valid s op body moment k v enough =
-    first_valid (step s op body moment).wants k s (step s op body moment).atoms (steps s op body moment) enough v
+    first_valid (step s op body moment).wants k s (step s op body moment).atoms
+    (steps s op body moment) enough v

@@ -32,7 +32,8 @@ key_value item key = option_and_then (if_key key.kind) (at_name key.name item)
 -- the place of a HASH value and of the RANGE value that is beside it, where the table has a RANGE key
 abbrev pub place_beside : List Pair → Option KeyAttr → Tree → Option Place
 place_beside item None hash = Some (place_in_table hash None)
-place_beside item (Some range) hash = option_map (λ r. place_in_table hash (Some r)) (key_value item range)
+place_beside item (Some range) hash = option_map (λ r. place_in_table hash (Some r))
+    (key_value item range)
 
 -- the place that its key gives an item in its table, where it has all of the key
 abbrev pub key_place : TableSchema → List Pair → Option Place
@@ -60,8 +61,10 @@ byte_count other = 0
 
 -- the value of a key attribute has at most so many bytes
 abbrev pub is_within : ℕ → List Pair → KeyAttr → Bool
-is_within most item key = option_map_or (λ t. nat_le (byte_count t) most) (at_name key.name item) true
+is_within most item key = option_map_or (λ t. nat_le (byte_count t) most)
+    (at_name key.name item) true
 
 -- HASH has 2,048 bytes at most, RANGE 1,024 (Developer Guide, "Service, account, and table quotas")
 abbrev pub key_fits : TableSchema → List Pair → Bool
-key_fits d item = is_within longest_hash item d.hash && of_range (is_within longest_range item) true d.range
+key_fits d item = is_within longest_hash item d.hash && of_range
+    (is_within longest_range item) true d.range

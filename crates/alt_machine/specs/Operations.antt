@@ -15,6 +15,10 @@ operations =
     (codes "PutItem", PutItem) ∷
     (codes "GetItem", GetItem) ∷ []
 
+-- the operation of a name among these
+abbrev pub named_in : List (List ℕ × Operation) → List ℕ → Option Operation
+named_in entries word = option_map (λ p. p.1) (find (λ p. bytes_eq p.0 word) entries)
+
 -- the operation of that name, if it is built
 abbrev pub operation_named : List ℕ → Option Operation
-operation_named word = option_map (λ p. p.1) (find (λ p. bytes_eq p.0 word) operations)
+operation_named = named_in operations

@@ -25,17 +25,20 @@ code_equal gnil gnil = yes (λ i. gnil)
 code_equal gnil (gnum n) = no (λ e. let f : ⊥ = cc in f)
 code_equal gnil (gcons c d) = no (λ e. let f : ⊥ = cc in f)
 code_equal (gnum m) gnil = no (λ e. let f : ⊥ = cc in f)
-code_equal (gnum m) (gnum n) = dite (ℕ_discrete m n) (λ e. yes (ap gnum e)) (λ differ. no (λ e. differ (ap num e)))
+code_equal (gnum m) (gnum n) = dite (ℕ_discrete m n) (λ e. yes (ap gnum e))
+    (λ differ. no (λ e. differ (ap num e)))
 code_equal (gnum m) (gcons c d) = no (λ e. let f : ⊥ = cc in f)
 code_equal (gcons a b) gnil = no (λ e. let f : ⊥ = cc in f)
 code_equal (gcons a b) (gnum n) = no (λ e. let f : ⊥ = cc in f)
 code_equal (gcons a b) (gcons c d) = dite (code_equal a c)
-    (λ e. dite (code_equal b d) (λ f. yes (λ i. gcons (e i) (f i))) (λ differ. no (λ g. differ (ap second_of g))))
+    (λ e. dite (code_equal b d) (λ f. yes (λ i. gcons (e i) (f i)))
+    (λ differ. no (λ g. differ (ap second_of g))))
     (λ differ. no (λ g. differ (ap first_of g)))
 
 -- data that has codes is equal or it isn't
 decision : {A : Type 0} (c : Coded A) (x y : A) → Dec (x ≡ y)
-decision c x y = dite (code_equal (c.code x) (c.code y)) (λ e. yes (c.inj x y e)) (λ differ. no (λ e. differ (ap c.code e)))
+decision c x y = dite (code_equal (c.code x) (c.code y)) (λ e. yes (c.inj x y e))
+    (λ differ. no (λ e. differ (ap c.code e)))
 
 -- what is at a place and what is to be there are equal, or they aren't
 pub equality : (old new : Option (List Pair)) → Dec (old ≡ new)

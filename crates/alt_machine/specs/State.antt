@@ -40,7 +40,8 @@ new_table d = record { description = d; items = finite.empty; changes = [] }
 
 -- the families of a table: its own, one for each index, and that of its stream, where it has one
 abbrev pub families_of : TableSchema → List ℕ
-families_of d = d.family ∷ (map (λ i. i.family) (indexes d) ++ option_map_or (λ f. f ∷ []) d.stream_family [])
+families_of d = d.family ∷ (map (λ i. i.family) (indexes d)
+    ++ option_map_or (λ f. f ∷ []) d.stream_family [])
 
 -- the state after a write, which takes a number, with these tables
 abbrev pub after_write : State → Texts Table → State

@@ -33,7 +33,8 @@ place_in Key = place_of_key
 
 -- Behind the tests of its body, an operation on an item goes on with the item or the key, the table that is named and the place there,
 -- where it has one and the key isn't too long.
-abbrev pub on_item : List (Option Answer) → Sought → State → Members → (List Pair → Table → List ℕ → Outcome) → Outcome
+abbrev pub on_item : List (Option Answer) → Sought → State → Members
+    → (List Pair → Table → List ℕ → Outcome) → Outcome
 on_item tests sought s ms go =
     unless_refused tests (
     with_found (item_at (member_of sought) ms) (λ item.
@@ -44,12 +45,14 @@ on_item tests sought s ms go =
 -- ---- what they went on with
 
 -- nothing refuses the body, and that is the table that it names
-pub record IsTarget (tests : List (Option Answer)) (s : State) (ms : Members) (t : Table) : Type 0 where
+pub record IsTarget (tests : List (Option Answer)) (s : State) (ms : Members)
+    (t : Table) : Type 0 where
   pub body : first_answer tests ≡ None
   pub there : map.get s.tables (table_name ms) ≡ Some t
 
 -- nothing refuses the body; that is the item or the key, which is placed by the description of the table
-pub record IsPlaced (tests : List (Option Answer)) (sought : Sought) (ms : Members) (d : TableSchema) (item : List Pair) (place : List ℕ) : Type 0 where
+pub record IsPlaced (tests : List (Option Answer)) (sought : Sought) (ms : Members)
+    (d : TableSchema) (item : List Pair) (place : List ℕ) : Type 0 where
   pub body : first_answer tests ≡ None
   pub read : item_at (member_of sought) ms ≡ Ok item
   pub at : place_in sought d item ≡ Some place

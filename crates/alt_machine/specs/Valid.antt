@@ -40,7 +40,8 @@ pub record IsStored (d : TableSchema) (place : List ℕ) (item : List Pair) : Ty
 
 -- HASH, and perhaps RANGE, of two different names, none of them empty
 abbrev pub is_pair : KeyAttr → Option KeyAttr → Bool
-is_pair hash range = nat_lt 0 (length hash.name) && of_range (λ r. nat_lt 0 (length r.name) && not (bytes_eq hash.name r.name)) true range
+is_pair hash range = nat_lt 0 (length hash.name) && of_range
+    (λ r. nat_lt 0 (length r.name) && not (bytes_eq hash.name r.name)) true range
 
 -- both are there, of two different names
 abbrev pub are_two : Option KeyAttr → Option KeyAttr → Bool
@@ -56,11 +57,13 @@ is_local hash range i = bytes_eq i.hash.name hash.name && are_two range i.range
 abbrev pub names_few : Projection → Bool
 names_few projects.All = true
 names_few projects.KeysOnly = true
-names_few (projects.Include names) = nat_lt 0 (length names) && (nat_le (length names) most_included && list_all (λ n. nat_lt 0 (length n)) names)
+names_few (projects.Include names) = nat_lt 0 (length names) &&
+    (nat_le (length names) most_included && list_all (λ n. nat_lt 0 (length n)) names)
 
 -- a name is that of a key attribute of the table or of an index
 abbrev pub is_used : TableSchema → List ℕ → Bool
-is_used d name = is_key d.hash d.range name || list_any (λ i. is_key i.hash i.range name) (indexes d)
+is_used d name = is_key d.hash d.range name || list_any (λ i. is_key i.hash i.range name)
+    (indexes d)
 
 -- A description as it is made: the table and its indexes have names; keys, local indexes and projections are as they have to be; at
 -- most 5 local and 20 global indexes of different names; and exactly the key attributes are defined, none of them twice.
@@ -87,7 +90,8 @@ pub record IsTable (s : State) (name : List ℕ) (t : Table) : Type 0 where
   pub number : (1 ≤ t.description.number) × (t.description.number < s.next_number)
   pub families : All (λ f. (1 ≤ f) × (f < s.next_family)) (families_of t.description)
   pub differ : AllPairs (λ f g. f ≢ g) (families_of t.description)
-  pub items : (place : List ℕ) (item : List Pair) → map.get t.items place ≡ Some item → IsStored t.description place item
+  pub items : (place : List ℕ) (item : List Pair) → map.get t.items place ≡ Some item
+      → IsStored t.description place item
   pub changes : t.changes ≡ []
 
 -- There are at most 256 tables, each of them as it is to be; a number is of one table alone, and so is a family; and the next
@@ -95,15 +99,19 @@ pub record IsTable (s : State) (name : List ℕ) (t : Table) : Type 0 where
 pub record IsValid (s : State) : Type 0 where
   pub few : map.len s.tables ≤ MOST_TABLES
   pub tables : (name : List ℕ) (t : Table) → map.get s.tables name ≡ Some t → IsTable s name t
-  pub numbers : (name other : List ℕ) (t u : Table) → map.get s.tables name ≡ Some t → map.get s.tables other ≡ Some u
+  pub numbers : (name other : List ℕ) (t u : Table) → map.get s.tables name ≡ Some t
+      → map.get s.tables other ≡ Some u
       → t.description.number ≡ u.description.number → name ≡ other
-  pub families : (name other : List ℕ) (t u : Table) (family : ℕ) → map.get s.tables name ≡ Some t → map.get s.tables other ≡ Some u
-      → Contains (families_of t.description) family → Contains (families_of u.description) family → name ≡ other
+  pub families : (name other : List ℕ) (t u : Table) (family : ℕ) → map.get s.tables name ≡ Some t
+      → map.get s.tables other ≡ Some u
+      → Contains (families_of t.description) family → Contains (families_of u.description) family
+      → name ≡ other
   pub next_number : (1 ≤ s.next_number) × (s.next_number ≤ NUMBERS_END)
   pub next_family : (1 ≤ s.next_family) × (s.next_family ≤ FAMILIES_END)
 
 -- Each item of the state is one that a program can hold: its texts are UTF-8, its numbers fit, and so on at every level. What is read
 -- from memory is such, and what is read from JSON as data need not be, so it is told beside what is valid.
 pub record IsHeldState (s : State) : Type 0 where
-  pub items : (name place : List ℕ) (t : Table) (item : List Pair) → map.get s.tables name ≡ Some t → map.get t.items place ≡ Some item
+  pub items : (name place : List ℕ) (t : Table) (item : List Pair) → map.get s.tables name ≡ Some t
+      → map.get t.items place ≡ Some item
       → IsItemOfValues item

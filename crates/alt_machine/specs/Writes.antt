@@ -17,7 +17,8 @@ with_write number moment t place new = record t { items = with_item t.items plac
 
 -- the state after it, in the table of that name
 abbrev pub after_item : State → ℕ → List ℕ → Table → List ℕ → Option (List Pair) → State
-after_item s moment name t place new = after_write s (map.insert s.tables name (with_write s.next_number moment t place new))
+after_item s moment name t place new = after_write s
+    (map.insert s.tables name (with_write s.next_number moment t place new))
 
 -- The writes that leave `new` at a place of the table of that name: one, or none where it is what is there.
 abbrev pub item_writes : State → ℕ → List ℕ → Table → List ℕ → Option (List Pair) → List State

@@ -4,7 +4,7 @@
 //! and the program share, and no function that does anything.
 #![tactic(auto)]
 
-ghost use Rattle.alt_machine.specs.Laws.{StepsKeepValid};
+ghost use Rattle.alt_machine.specs.Laws.{StepsKeepValid, PlacesLie};
 ghost use Rattle.alt_machine.specs.State.{start};
 ghost use Rattle.alt_machine.specs.Valid.{IsValid};
 
@@ -44,9 +44,10 @@ pub const PAGE_LENGTH: u64 = 100;
 /// The most bytes of an item (Developer Guide, "Service, account, and table quotas").
 pub const LARGEST_ITEM: u64 = 409_600;
 
-/// The laws of the machine: the state of an empty store is valid, and each request leads from a valid state to valid ones. It
-/// does nothing.
-pub fn state_laws()
+/// The laws of the machine: the state of an empty store is valid, each request leads from a valid state to valid ones, and the items
+/// of a table lie by their keys. It does nothing.
+pub fn laws()
     ensures start { IsValid start }
     ensures steps { StepsKeepValid }
+    ensures places { PlacesLie }
 {}

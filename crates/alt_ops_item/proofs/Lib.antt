@@ -1,2 +1,2 @@
-pub mod Refusing
-pub mod Whole
+pub mod Getting
+pub mod Putting

@@ -1,8 +1,6 @@
 //! The operations on one item: PutItem and GetItem (DynamoDB API Reference, "Actions"; docs/API.md).
 #![tactic(auto)]
 
-mod body;
-mod checked;
 mod get;
 mod put;
 

@@ -1,3 +1,3 @@
+pub mod Asking
 pub mod Pages
-pub mod Refusing
 pub mod Listing

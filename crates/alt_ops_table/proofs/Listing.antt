@@ -1,31 +1,43 @@
 -- What a ListTables comes to.
-use Rattle.std.proofs.Common.{◌≡◌, refl, ap, ◌∙◌, ℕ, Bool, false, nat_lt, take, length, List, [], ◌∷◌, Option, Some, None}
+use Rattle.std.proofs.Common.{◌≡◌, refl, sym, ap, ◌∙◌, ℕ, Bool, false, nat_lt, take, length, List, [], ◌∷◌, Option, Some, None, Result, Ok, Err, IfOk}
 use Rattle.std.specs.Prelude.{◌||◌, if◌then◌else◌}
 use Rattle.std.specs.List.{last_or}
 use Rattle.serde_json.specs.Data.{Members}
 use Rattle.serde_json.specs.View.{view}
 use Rattle.serde_json.specs.Written.{has_float, items_have_float}
 use Rattle.alt_codec.specs.Writing.{strings}
-use Rattle.alt_machine.specs.Ops.ListTables.{start_name, page_length, refusals, names_after, listed, page_of, list_tables}
-use Rattle.alt_machine.specs.Outcomes.{reads, unless_refused}
-use Rattle.alt_machine.specs.Refusals.{first_refusal}
-use Rattle.alt_machine.specs.State.{State}
+use Rattle.alt_machine.specs.Ops.ListTables.{of_body, start_name, page_length, names_after, listed, page_of, list_tables}
+use Rattle.alt_machine.specs.Outcomes.{says, refuses}
+use Rattle.alt_machine.specs.Refusals.{first_answer}
+use Rattle.alt_machine.specs.State.{State, Texts, descriptions}
+use Rattle.alt_machine.proofs.Descriptions.{keys-descriptions}
+use Rattle.alt_machine.proofs.Tests.{passed, stopped}
+use Rattle.alt_schema.specs.declared.schema.TableSchema.{TableSchema}
 use Rattle.alt_shape.specs.Refusals.{Answer, answer_of, refused}
 use Rattle.alt_shape.specs.declared.refusal.Refusal.{Refusal}
 use Rattle.alt_shape.specs.declared.refusal.Reply.{Reply}
+use Rattle.std.specs.FinMap as map
+use Rattle.std.specs.List.{filter}
+use Rattle.std.specs.Ordering.{is_lt}
+use Rattle.alt_value.specs.Members.{text_order}
 
-pub list-refused : (s : State) (ms : Members) (r : Refusal) → first_refusal (refusals ms) ≡ Some r → (list_tables s ms).answer ≡ refused r
+pub list-refused : (s : State) (ms : Members) (r : Refusal)
+    → first_answer (of_body ms) ≡ Some (refused r) → list_tables s ms ≡ refuses r
 unfolding list_tables
-list-refused s ms r e =
-    ap (λ o. (unless_refused s o (reads s (page_of (page_length ms) (names_after (start_name ms) s.tables)))).answer) e
+list-refused s ms r e = stopped (of_body ms) _ (refused r) e
 
-pub list-page : (s : State) (ms : Members) → first_refusal (refusals ms) ≡ None
-    → (list_tables s ms).answer ≡ page_of (page_length ms) (names_after (start_name ms) s.tables)
+-- the page of the names in the catalog
+pub list-page : (s : State) (ms : Members) (catalog : Texts TableSchema)
+    → catalog ≡ descriptions s.tables → first_answer (of_body ms) ≡ None
+    → list_tables s ms ≡ says (page_of (page_length ms) (names_after (start_name ms) catalog))
 unfolding list_tables
-list-page s ms e =
-    ap (λ o. (unless_refused s o (reads s (page_of (page_length ms) (names_after (start_name ms) s.tables)))).answer) e
+list-page s ms catalog same free = passed (of_body ms) _ free
+    ∙ ap (λ names. says (page_of (page_length ms)
+    (filter (λ name. is_lt (text_order (start_name ms) name)) names)))
+    (sym (keys-descriptions s.tables) ∙ ap (λ m. map.keys m) (sym same))
 
-pub page-listed : (more : Bool) (names all : List (List ℕ)) (most : ℕ) → names ≡ take most all → more ≡ nat_lt most (length all)
+pub page-listed : (more : Bool) (names all : List (List ℕ)) (most : ℕ) → names ≡ take most all
+    → more ≡ nat_lt most (length all)
     → listed (if more then last_or None names else None) names ≡ page_of most all
 page-listed more names all most e f = λ i. listed (if f i then last_or None (e i) else None) (e i)
 
@@ -38,9 +50,22 @@ strings_plain (s ∷ ss) = strings_plain ss
 or_false : (b : Bool) → b ≡ false → (b || false) ≡ false
 or_false b e = rw e refl
 
-listed_plain : (last : Option (List ℕ)) (names : List (List ℕ)) → has_float (listed last names).body ≡ false
+listed_plain : (last : Option (List ℕ)) (names : List (List ℕ))
+    → has_float (listed last names).body ≡ false
 listed_plain None names = or_false _ (strings_plain names)
 listed_plain (Some l) names = or_false _ (strings_plain names)
 
-pub reply_plain : (reply : Reply) (last : Option (List ℕ)) (names : List (List ℕ)) → answer_of reply ≡ listed last names → has_float (view reply.body) ≡ false
+pub reply_plain : (reply : Reply) (last : Option (List ℕ)) (names : List (List ℕ))
+    → answer_of reply ≡ listed last names → has_float (view reply.body) ≡ false
 reply_plain reply last names e = ap (λ (a : Answer). has_float a.body) e ∙ listed_plain last names
+
+pub page_plain : {E : Type 0} (r : Result Reply E) (last : Option (List ℕ)) (names : List (List ℕ))
+    → IfOk r (λ reply. answer_of reply ≡ listed last names)
+    → IfOk r (λ reply. has_float (view reply.body) ≡ false)
+page_plain (Ok reply) last names h = reply_plain reply last names h
+page_plain (Err e) last names h = tt
+
+pub page_said : {E : Type 0} (r : Result Reply E) (a b : Answer) → a ≡ b
+    → IfOk r (λ reply. answer_of reply ≡ a) → IfOk r (λ reply. answer_of reply ≡ b)
+page_said (Ok reply) a b e h = h ∙ e
+page_said (Err x) a b e h = tt

@@ -16,14 +16,15 @@ use Rattle.serde_json.specs.Data.{string, item}
 use Rattle.alt_codec.specs.Writing.{strings}
 use Rattle.alt_schema.specs.Json.{items_by}
 use Rattle.alt_machine.specs.Ops.ListTables.{names_after}
-use Rattle.alt_machine.specs.State.{Table, Texts}
+use Rattle.alt_machine.specs.State.{Texts}
 use Rattle.alt_value.specs.Members.{text_order}
 use Rattle.alt_value.proofs.Places.{first, second, less}
 use Rattle.alt_value.proofs.Texts.{text_total}
 
 -- ---- the last of a list
 
-last_from : {A : Type 0} (x : A) (xs : List A) → last_or (Some x) xs ≡ slice_get (x ∷ xs) (length xs)
+last_from : {A : Type 0} (x : A) (xs : List A)
+    → last_or (Some x) xs ≡ slice_get (x ∷ xs) (length xs)
 last_from x [] = refl
 last_from x (y ∷ ys) = last_from y ys
 
@@ -59,50 +60,70 @@ module _ {X : Type 0} where
   after name ps = filter (λ k. is_lt (text_order name k)) (map (λ p. p.0) ps)
 
   -- all of them, where each is above
-  after-above : (name : List ℕ) (ps : List (List ℕ × X)) → T (below_all text_order name ps) → after name ps ≡ names ps
+  after-above : (name : List ℕ) (ps : List (List ℕ × X)) → T (below_all text_order name ps)
+      → after name ps ≡ names ps
   after-above name [] h = refl
-  after-above name (p ∷ ps) h = rw (less (text_order name p.0) (first _ _ h)) (ap (λ ks. p.0 ∷ ks) (after-above name ps (second _ _ h)))
+  after-above name (p ∷ ps) h = rw (less (text_order name p.0) (first _ _ h))
+      (ap (λ ks. p.0 ∷ ks) (after-above name ps (second _ _ h)))
 
-  above_all : (name k : List ℕ) (ps : List (List ℕ × X)) → text_order name k ≡ Less → T (below_all text_order k ps) → after name ps ≡ names ps
+  above_all : (name k : List ℕ) (ps : List (List ℕ × X)) → text_order name k ≡ Less
+      → T (below_all text_order k ps) → after name ps ≡ names ps
   above_all name k [] l h = refl
   above_all name k (p ∷ ps) l h =
-      rw (text_total.trans name k p.0 l (less (text_order k p.0) (first _ _ h))) (ap (λ ks. p.0 ∷ ks) (above_all name k ps l (second _ _ h)))
+      rw (text_total.trans name k p.0 l (less (text_order k p.0) (first _ _ h)))
+      (ap (λ ks. p.0 ∷ ks) (above_all name k ps l (second _ _ h)))
 
   -- the first of them, and then those after it
   abbrev Next : List ℕ → List ℕ → List (List ℕ × X) → Type 0
   Next name k ps = (text_order name k ≡ Less) × (after name ps ≡ k ∷ after k ps)
 
-  here : (name : List ℕ) (p : List ℕ × X) (ps : List (List ℕ × X)) → T (is_sorted text_order (p ∷ ps)) → text_order name p.0 ≡ Less → Next name p.0 (p ∷ ps)
-  here name p ps s l =
-      (l, rw (l, tied_itself text_total p.0) (ap (λ ks. p.0 ∷ ks) (above_all name p.0 ps l (first _ _ s) ∙ sym (after-above p.0 ps (first _ _ s)))))
+  here : (name : List ℕ) (p : List ℕ × X) (ps : List (List ℕ × X))
+      → T (is_sorted text_order (p ∷ ps)) → text_order name p.0 ≡ Less → Next name p.0 (p ∷ ps)
+  here name p ps s l = (
+    l,
+    rw (l, tied_itself text_total p.0) (ap (λ ks. p.0 ∷ ks)
+        (above_all name p.0 ps l (first _ _ s) ∙ sym (after-above p.0 ps (first _ _ s)))),
+  )
 
-  later : (name k : List ℕ) (p : List ℕ × X) (ps : List (List ℕ × X)) → is_lt (text_order name p.0) ≡ false → Next name k ps → Next name k (p ∷ ps)
+  later : (name k : List ℕ) (p : List ℕ × X) (ps : List (List ℕ × X))
+      → is_lt (text_order name p.0) ≡ false → Next name k ps → Next name k (p ∷ ps)
   later name k p ps t n =
-      let below : is_lt (text_order k p.0) ≡ false = not_less _ _ (λ l. text_total.trans name k p.0 n.0 l) t in
+      let below : is_lt (text_order k p.0) ≡ false =
+      not_less _ _ (λ l. text_total.trans name k p.0 n.0 l) t in
       (n.0, rw (t, below) n.1)
 
-  by_test : (b : Bool) (name k : List ℕ) (p : List ℕ × X) (ps : List (List ℕ × X)) → is_lt (text_order name p.0) ≡ b → T (is_sorted text_order (p ∷ ps))
-      → slice_get (after name (p ∷ ps)) 0 ≡ Some k → (slice_get (after name ps) 0 ≡ Some k → Next name k ps) → Next name k (p ∷ ps)
+  by_test : (b : Bool) (name k : List ℕ) (p : List ℕ × X) (ps : List (List ℕ × X))
+      → is_lt (text_order name p.0) ≡ b → T (is_sorted text_order (p ∷ ps))
+      → slice_get (after name (p ∷ ps)) 0 ≡ Some k
+      → (slice_get (after name ps) 0 ≡ Some k → Next name k ps) → Next name k (p ∷ ps)
   by_test true name k p ps t s h more =
-      subst (λ x. Next name x (p ∷ ps)) (same_Some p.0 k (sym (ap (λ b. slice_get (cond b (p.0 ∷ after name ps) (after name ps)) 0) t) ∙ h))
+      subst (λ x. Next name x (p ∷ ps)) (same_Some p.0 k
+      (sym (ap (λ b. slice_get (cond b (p.0 ∷ after name ps) (after name ps)) 0) t) ∙ h))
       (here name p ps s (less _ (holds _ t)))
   by_test false name k p ps t s h more =
-      later name k p ps t (more (sym (ap (λ b. slice_get (cond b (p.0 ∷ after name ps) (after name ps)) 0) t) ∙ h))
+      later name k p ps t (more (sym (ap (λ b. slice_get
+      (cond b (p.0 ∷ after name ps) (after name ps)) 0) t) ∙ h))
 
-  next : (name k : List ℕ) (ps : List (List ℕ × X)) → T (is_sorted text_order ps) → slice_get (after name ps) 0 ≡ Some k → Next name k ps
+  next : (name k : List ℕ) (ps : List (List ℕ × X)) → T (is_sorted text_order ps)
+      → slice_get (after name ps) 0 ≡ Some k → Next name k ps
   next name k [] s h = absurd (let f : ⊥ = cc in f)
-  next name k (p ∷ ps) s h = by_test (is_lt (text_order name p.0)) name k p ps refl s h (λ e. next name k ps (second _ _ s) e)
+  next name k (p ∷ ps) s h = by_test (is_lt (text_order name p.0)) name k p ps refl s h
+      (λ e. next name k ps (second _ _ s) e)
 
-pub names-next : (last k : List ℕ) (m : Texts Table) → Some k ≡ slice_get (names_after last m) 0 → names_after last m ≡ k ∷ names_after k m
+pub names-next : {X : Type 0} (last k : List ℕ) (m : Texts X)
+    → Some k ≡ slice_get (names_after last m) 0 → names_after last m ≡ k ∷ names_after k m
 names-next last k m h = (next last k (map.entries m) (entries_sorted m) (sym h)).1
 
 -- ---- a page
 
 -- a name more
-pub named_more : (start last k : List ℕ) (m : Texts Table) (ns more : List (List ℕ)) → Some k ≡ slice_get (names_after last m) 0
-    → more ≡ ns ++ k ∷ [] → ns ++ names_after last m ≡ names_after start m → more ++ names_after k m ≡ names_after start m
+pub named_more : {X : Type 0} (start last k : List ℕ) (m : Texts X) (ns more : List (List ℕ))
+    → Some k ≡ slice_get (names_after last m) 0
+    → more ≡ ns ++ k ∷ [] → ns ++ names_after last m ≡ names_after start m
+    → more ++ names_after k m ≡ names_after start m
 named_more start last k m ns more at is before =
-    ap (λ l. l ++ names_after k m) is ∙ append_assoc ns (k ∷ []) (names_after k m) ∙ ap (λ l. ns ++ l) (sym (names-next last k m at)) ∙ before
+    ap (λ l. l ++ names_after k m) is ∙ append_assoc ns (k ∷ []) (names_after k m)
+    ∙ ap (λ l. ns ++ l) (sym (names-next last k m at)) ∙ before
 
 -- the page is full, or nothing is left
 pub data Ends (most : ℕ) (ns rest : List (List ℕ)) : Type 0 where
@@ -115,8 +136,10 @@ take_all [] (suc i) h = refl
 take_all (x ∷ xs) zero h = absurd (omega arith)
 take_all (x ∷ xs) (suc i) h = ap (λ zs. x ∷ zs) (take_all xs i (omega arith))
 
-pub page-names : (most : ℕ) (ns rest all : List (List ℕ)) → Ends most ns rest → ns ++ rest ≡ all → ns ≡ take most all
-page-names most ns rest all (is_full l) e = sym (ap (take most) (sym e) ∙ ap (λ n. take n (ns ++ rest)) (sym l) ∙ take-append_seam ns rest)
+pub page-names : (most : ℕ) (ns rest all : List (List ℕ)) → Ends most ns rest → ns ++ rest ≡ all
+    → ns ≡ take most all
+page-names most ns rest all (is_full l) e = sym
+    (ap (take most) (sym e) ∙ ap (λ n. take n (ns ++ rest)) (sym l) ∙ take-append_seam ns rest)
 page-names most ns [] all (is_last n l) e = sym (ap (take most) (sym e) ∙ take_all ns most l)
 page-names most ns (k ∷ rest) all (is_last n l) e = absurd (let f : ⊥ = cc in f)
 
@@ -126,12 +149,19 @@ lt-true m n h = sym (lt-ltb m n h)
 lt-false : (m n : ℕ) → n ≤ m → false ≡ nat_lt m n
 lt-false m n h = ltb_from_iff ((λ e. absurd (let f : ⊥ = cc in f)), (λ l. absurd (omega arith)))
 
-pub page-more : {A : Type 0} (f : A → List ℕ) (o : Option A) (most : ℕ) (ns rest all : List (List ℕ)) → Ends most ns rest → ns ++ rest ≡ all
+pub page-more : {A : Type 0} (f : A → List ℕ) (o : Option A) (most : ℕ)
+    (ns rest all : List (List ℕ)) → Ends most ns rest → ns ++ rest ≡ all
     → option_map f o ≡ slice_get rest 0 → is_some o ≡ nat_lt most (length all)
-page-more f None most ns [] all (is_full l) e at = lt-false _ _ (let m : length (ns ++ []) ≡ length all = ap length e in omega (arith, length-append ns [], m, l))
+page-more f None most ns [] all (is_full l) e at =
+    lt-false _ _ (let m : length (ns ++ []) ≡ length all = ap length e in
+    omega (arith, length-append ns [], m, l))
 page-more f None most ns (k ∷ rest) all (is_full l) e at = absurd (let f : ⊥ = cc in f)
 page-more f (Some x) most ns [] all (is_full l) e at = absurd (let f : ⊥ = cc in f)
-page-more f (Some x) most ns (k ∷ rest) all (is_full l) e at = lt-true _ _ (let m : length (ns ++ k ∷ rest) ≡ length all = ap length e in omega (arith, length-append ns (k ∷ rest), m, l))
-page-more f None most ns [] all (is_last n l) e at = lt-false _ _ (let m : length (ns ++ []) ≡ length all = ap length e in omega (arith, length-append ns [], m, l))
+page-more f (Some x) most ns (k ∷ rest) all (is_full l) e at =
+    lt-true _ _ (let m : length (ns ++ k ∷ rest) ≡ length all = ap length e in
+    omega (arith, length-append ns (k ∷ rest), m, l))
+page-more f None most ns [] all (is_last n l) e at =
+    lt-false _ _ (let m : length (ns ++ []) ≡ length all = ap length e in
+    omega (arith, length-append ns [], m, l))
 page-more f (Some x) most ns [] all (is_last n l) e at = absurd (let f : ⊥ = cc in f)
 page-more f o most ns (k ∷ rest) all (is_last n l) e at = absurd (let f : ⊥ = cc in f)

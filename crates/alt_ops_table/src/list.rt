@@ -1,27 +1,31 @@
 //! ListTables.
 
-ghost use Rattle.std.specs.Prelude.{◌≡◌, take, length, nat_lt, false, None, option_map, if◌then◌else◌, codes, IfOk, IfErr, IfSome};
+ghost use Rattle.std.specs.Prelude.{◌≡◌, take, length, nat_lt, false, None, option_map, if◌then◌else◌, IfOk, IfErr};
 ghost use Rattle.std.specs.List.{last_or};
 ghost use Rattle.serde_json.specs.View.{view, items_view, members_view};
 ghost use Rattle.serde_json.specs.Written.{has_float};
 ghost use Rattle.alt_codec.specs.Writing.{strings};
-ghost use Rattle.alt_machine.specs.Ops.ListTables.{start_name, is_start, page_length, refusals, names_after, listed, list_tables};
-ghost use Rattle.alt_machine.specs.Refusals.{first_refusal};
-ghost use Rattle.alt_shape.specs.Refusals.{answer_of, IsKnown};
-ghost use Rattle.alt_tables.specs.Stands.{state_of};
+ghost use Rattle.alt_machine.specs.Ops.ListTables.{of_body, start_name, page_length, names_after, listed, page_of, list_tables};
+ghost use Rattle.alt_request.specs.Carried.{Carries};
+ghost use Rattle.alt_request.specs.Steps.{Tested};
+ghost use Rattle.alt_shape.specs.Refusals.{answer_of};
+ghost use Rattle.alt_tables.specs.Stands.{Stands, catalog_of};
 
-use crate::replies::gives;
 use alt_base::NoMemory;
 use alt_disk::Disk;
-use alt_schema::is_name;
-use alt_shape::{Refusal, Reply, bodies, refuse, text_at, whole_at};
+use alt_machine::PAGE_LENGTH;
+use alt_request::{Rules, Stop, body_refusal};
+use alt_shape::{Reply, bodies, text_at, whole_at};
 use alt_tables::{TableFault, Tables};
 use alt_value::Text;
 use serde_json::{Map, Value};
 use std::alloc::Global;
 
-/// The names on a page where the request doesn't say how many.
-const PAGE_LENGTH: u64 = 100;
+static RULES: Rules = Rules {
+    legacy: &[],
+    unbuilt: &[],
+    named: &["ExclusiveStartTableName"],
+};
 
 /// Names of tables in order, and whether a table stands after the last of them.
 #[derive(Drop)]
@@ -31,54 +35,48 @@ struct Page {
 }
 
 /// Answers the names of tables after a name, in the order of their bytes, as many as a page takes (API Reference,
-/// "ListTables"). It names the last of them as the place to go on from exactly where a table stands after it. The tables
-/// stay as they are. The refusals are those of docs/API.md.
+/// "ListTables"). It names the last of them as the place to go on from exactly where a table stands after it. The refusals are
+/// those of docs/API.md.
 pub fn list_tables<D: Disk>(
     alloc: Global,
     tables: &mut Tables,
     disk: &mut D,
     body: &Map<String, Value>,
     moment: u64,
-) -> Result<Reply, TableFault>
-    ensures reply { IfOk result (λ reply. answer_of reply
-        ≡ (list_tables (state_of tables.old) (members_view body.now.entries)).answer) }
-    ensures state { state_of tables.new ≡ state_of tables.old }
-    ensures plain { IfOk result (λ reply. has_float (view reply.body) ≡ false) }
-    ensures cause { IfErr result (λ f. f ≡ TableFault.NoMemory) }
+) -> Result<Reply, Stop>
+    ensures carried { Carries (λ s. list_tables s (members_view body.now.entries))
+        (Stands (D.state disk.old) tables.old) (Stands (D.state disk.new) tables.new) result }
     ensures disk { D.state disk.new ≡ D.state disk.old }
 {
     let _ = disk;
     let _ = moment;
-    if let Some(refusal) = unfit(body) {
-        return Ok(refuse(alloc, refusal)?);
+    unfit(body)?;
+    match answer_of_page(alloc, tables, body) {
+        Ok(reply) => Ok(reply),
+        Err(_) => Err(Stop::Fault(TableFault::NoMemory)),
     }
-    let page = page_after(alloc, tables, start_name(body), page_length(body))?;
-    Ok(listed(alloc, &page)?)
 }
 
 /// Why the request is refused. The tables have no part in it.
-fn unfit(body: &Map<String, Value>) -> Option<Refusal>
-    ensures first { result ≡ first_refusal (refusals (members_view body.now.entries)) }
-    ensures known { IfSome result IsKnown }
+fn unfit(body: &Map<String, Value>) -> Result<(), Stop>
+    ensures tested { Tested (of_body (members_view body.now.entries)) result }
 {
-    if let Some(broken) = bodies::list_tables(body) {
-        return Some(Refusal::from(broken));
-    }
-    if !is_start(body) {
-        return Some(Refusal::Invalid(4));
-    }
-    None
+    body_refusal(bodies::list_tables(body), &RULES, body)
 }
 
-/// Whether the name to start after is a table's name, where one is given.
-fn is_start(body: &Map<String, Value>) -> bool
-    ensures { result ≡ is_start (members_view body.now.entries) }
+/// The page that is asked for.
+fn answer_of_page(
+    alloc: Global,
+    tables: &Tables,
+    body: &Map<String, Value>,
+) -> Result<Reply, NoMemory>
+    ensures reply { IfOk result (λ reply. answer_of reply
+        ≡ page_of (page_length (members_view body.now.entries))
+        (names_after (start_name (members_view body.now.entries)) (catalog_of tables.now))) }
+    ensures plain { IfOk result (λ reply. has_float (view reply.body) ≡ false) }
 {
-    if gives(body, "ExclusiveStartTableName") {
-        is_name(start_name(body))
-    } else {
-        true
-    }
+    let page = page_after(alloc, tables, start_name(body), page_length(body))?;
+    listed(alloc, &page)
 }
 
 /// The name to start after, the empty one where none is given.
@@ -97,8 +95,10 @@ fn page_length(body: &Map<String, Value>) -> u64
 
 /// The first `most` names after that one, each found from the one before.
 fn page_after(alloc: Global, tables: &Tables, start: &str, most: u64) -> Result<Page, NoMemory>
-    ensures names { IfOk result (λ p. p.names.items ≡ take most (names_after start.now (state_of tables.now).tables)) }
-    ensures more { IfOk result (λ p. p.more ≡ nat_lt most (length (names_after start.now (state_of tables.now).tables))) }
+    ensures names { IfOk result (λ p. p.names.items
+        ≡ take most (names_after start.now (catalog_of tables.now))) }
+    ensures more { IfOk result (λ p. p.more ≡ nat_lt most
+        (length (names_after start.now (catalog_of tables.now)))) }
 {
     let mut names = Vec::new(alloc);
     let mut last = start;
@@ -116,7 +116,8 @@ fn page_after(alloc: Global, tables: &Tables, start: &str, most: u64) -> Result<
 /// The last name of a page, where it isn't the last of all.
 #[tactic(auto, using(crate::proofs::Pages::last_get))]
 fn last_name(page: &Page) -> Option<&str>
-    ensures { option_map (λ s. s.now) result ≡ (if page.now.more then last_or None page.now.names.items else None) }
+    ensures { option_map (λ s. s.now) result ≡ (if page.now.more then last_or None
+        page.now.names.items else None) }
 {
     if !page.more {
         return None;
@@ -127,7 +128,8 @@ fn last_name(page: &Page) -> Option<&str>
 /// The reply of a page.
 fn listed(alloc: Global, page: &Page) -> Result<Reply, NoMemory>
     ensures reply { IfOk result (λ reply. answer_of reply
-        ≡ listed (if page.now.more then last_or None page.now.names.items else None) page.now.names.items) }
+        ≡ listed (if page.now.more then last_or None page.now.names.items else None)
+        page.now.names.items) }
 {
     let names = json_of_texts(alloc, page.names.as_slice())?;
     let mut members = Map::new(alloc);

@@ -183,8 +183,8 @@ indexed-under k ([] ∷ ways) = indexed-under k ways
 indexed-under k ((Name n ∷ rest) ∷ ways) = indexed-under k ways
 indexed-under k ((Index j ∷ rest) ∷ ways) =
     elim (k == j) as (λ b. eq_by_cmp nat_cmp j k ≡ b
-      → map (λ p. p.1) (cond (eq_by_cmp nat_cmp j k) ((j, rest) ∷ filter (λ p. eq_by_cmp nat_cmp p.0 k) (indexed_ways ways)) (filter (λ p. eq_by_cmp nat_cmp p.0 k) (indexed_ways ways)))
-      ≡ cond b (rest ∷ []) [] ++ under (Index k) ways) [
+    → map (λ p. p.1) (cond (eq_by_cmp nat_cmp j k) ((j, rest) ∷ filter (λ p. eq_by_cmp nat_cmp p.0 k) (indexed_ways ways)) (filter (λ p. eq_by_cmp nat_cmp p.0 k) (indexed_ways ways)))
+    ≡ cond b (rest ∷ []) [] ++ under (Index k) ways) [
       | true ↦ λ e. rw e (ap (λ (l : List (List PathPart)). rest ∷ l) (indexed-under k ways))
       | false ↦ λ e. rw e (indexed-under k ways)
     ] (sym (unsigned_ties j k) ∙ nat_eq_equiv.symm j k)

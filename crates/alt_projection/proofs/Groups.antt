@@ -51,15 +51,14 @@ module _ {K Key T W : Type 0} (at : K → Key) (R : Key → Key → Ordering) (o
       let rest = filter (λ (p : K × T). is_eq (R (at p.0) k)) pairs in
       let shown = filter (λ (p : Key × W). eq_by_cmp R p.0 k) (map (λ (p : K × T). (at p.0, what p.1)) pairs) in
       elim (is_eq (R (at p.0) k)) as (λ b.
-        map what (map (λ (p : K × T). p.1) (cond b (p ∷ rest) rest)) ≡ map (λ (p : Key × W). p.1) (cond b ((at p.0, what p.1) ∷ shown) shown)) [
+      map what (map (λ (p : K × T). p.1) (cond b (p ∷ rest) rest)) ≡ map (λ (p : Key × W). p.1) (cond b ((at p.0, what p.1) ∷ shown) shown)) [
         | true ↦ ap (λ (l : List W). what p.1 ∷ l) (commute k pairs)
         | false ↦ commute k pairs
       ]
 
   module _ (pairs : List (K × T)) (ways : List (Key × W)) (same : map (λ (p : K × T). (at p.0, what p.1)) pairs ≡ ways)
-    (groups : List (K × Vec T Global)) (rising : IsStrictlySortedBy cmp (keys_of groups))
-    (held : (q : K) → option_map_or (λ g. g.items) (lookup (eq_by_cmp cmp q) groups) [] ≡ map (λ (p : K × T). p.1) (filter (λ (p : K × T). eq_by_cmp cmp p.0 q) pairs)) where
-
+      (groups : List (K × Vec T Global)) (rising : IsStrictlySortedBy cmp (keys_of groups))
+      (held : (q : K) → option_map_or (λ g. g.items) (lookup (eq_by_cmp cmp q) groups) [] ≡ map (λ (p : K × T). p.1) (filter (λ (p : K × T). eq_by_cmp cmp p.0 q) pairs)) where
     of_key : (q : K) → map what (option_map_or (λ g. g.items) (lookup (eq_by_cmp cmp q) groups) []) ≡ map (λ (p : Key × W). p.1) (filter (λ (p : Key × W). eq_by_cmp R p.0 (at q)) ways)
     of_key q =
         ap (λ (l : List T). map what l) (held q) ∙ commute (at q) pairs

@@ -9,7 +9,6 @@ use Rattle.std.specs.declared.cmp.Ordering.{Ordering}
 use Rattle.std.specs.Ordering.{eq_by_cmp, nat_cmp}
 use Rattle.std.specs.Cmp.{nat_cmp_total}
 use Rattle.std.proofs.lemmas.List.{map-append, take_all, take_more}
-
 use Rattle.std.proofs.lemmas.Option.{slice_get_read}
 use denote.Ref.{Bor}
 use Rattle.alt_value.specs.Item.{IsItem, at_name}
@@ -35,10 +34,9 @@ str_cmp x y = text_order x.now y.now
 
 -- what a group of names is
 module _ (ways : List (List PathPart)) (pairs : List (Bor (List ℕ) × Way)) (same : map (λ (p : Bor (List ℕ) × Way). (p.0.now, p.1.now)) pairs ≡ named_ways ways)
-  (xs : List (Bor (List ℕ) × Vec Way Global)) (rising : IsStrictlySortedBy str_cmp (keys_of xs))
-  (held : (q : Bor (List ℕ)) → option_map_or (λ g. g.items) (lookup (eq_by_cmp str_cmp q) xs) [] ≡ map (λ p. p.1) (filter (λ p. eq_by_cmp str_cmp p.0 q) pairs))
-  (item : List Pair) where
-
+    (xs : List (Bor (List ℕ) × Vec Way Global)) (rising : IsStrictlySortedBy str_cmp (keys_of xs))
+    (held : (q : Bor (List ℕ)) → option_map_or (λ g. g.items) (lookup (eq_by_cmp str_cmp q) xs) [] ≡ map (λ p. p.1) (filter (λ p. eq_by_cmp str_cmp p.0 q) pairs))
+    (item : List Pair) where
   abbrev pub seen_by : ℕ → List ℕ → Bool
   seen_by i q = list_any (λ (p : Bor (List ℕ) × Vec Way Global). eq_by_cmp text_order q p.0.now) (take i xs)
 
@@ -56,17 +54,16 @@ module _ (ways : List (List PathPart)) (pairs : List (Bor (List ℕ) × Way)) (s
   pub name_all : (i : ℕ) (out : List Pair) → length xs ≤ i → IsItem item → IsItem out → Seen ways item (seen_by i) out → out ≡ projected ways item
   name_all i out le is_item is_out was =
       seen_all ways item (seen_by i) out is_item is_out was (λ q none.
-        let all : list_any (λ (p : Bor (List ℕ) × Vec Way Global). eq_by_cmp text_order q p.0.now) xs ≡ false =
-        ap (list_any (λ (p : Bor (List ℕ) × Vec Way Global). eq_by_cmp text_order q p.0.now)) (sym (take_all i xs le)) ∙ none in
-        sym (named-under q ways) ∙ no_group (λ (k : Bor (List ℕ)). k.now) text_order text_total (λ (w : Way). w.now) pairs (named_ways ways) same xs rising held
-        (record { ref_ptr = (0, 0); now = q }) all)
+      let all : list_any (λ (p : Bor (List ℕ) × Vec Way Global). eq_by_cmp text_order q p.0.now) xs ≡ false =
+      ap (list_any (λ (p : Bor (List ℕ) × Vec Way Global). eq_by_cmp text_order q p.0.now)) (sym (take_all i xs le)) ∙ none in
+      sym (named-under q ways) ∙ no_group (λ (k : Bor (List ℕ)). k.now) text_order text_total (λ (w : Way). w.now) pairs (named_ways ways) same xs rising held
+      (record { ref_ptr = (0, 0); now = q }) all)
 
 -- what a group of indexes is
 module _ (ways : List (List PathPart)) (pairs : List (ℕ × Way)) (same : map (λ (p : ℕ × Way). (p.0, p.1.now)) pairs ≡ indexed_ways ways)
-  (xs : List (ℕ × Vec Way Global)) (rising : IsStrictlySortedBy nat_cmp (keys_of xs))
-  (held : (q : ℕ) → option_map_or (λ g. g.items) (lookup (eq_by_cmp nat_cmp q) xs) [] ≡ map (λ p. p.1) (filter (λ p. eq_by_cmp nat_cmp p.0 q) pairs))
-  (ts : List Tree) where
-
+    (xs : List (ℕ × Vec Way Global)) (rising : IsStrictlySortedBy nat_cmp (keys_of xs))
+    (held : (q : ℕ) → option_map_or (λ g. g.items) (lookup (eq_by_cmp nat_cmp q) xs) [] ≡ map (λ p. p.1) (filter (λ p. eq_by_cmp nat_cmp p.0 q) pairs))
+    (ts : List Tree) where
   pub index_more : (i : ℕ) (x : ℕ × Vec Way Global) (before now : List Tree) → i < length xs → x ≡ get_or xs i x
       → before ≡ picks (pick_at ways ts) (map (λ p. p.0) (take i xs))
       → now ≡ before ++ option_to_list (option_and_then (chosen (nows x.1.items)) (slice_get ts x.0))
@@ -91,5 +88,5 @@ module _ (ways : List (List PathPart)) (pairs : List (ℕ × Way)) (same : map (
   index_all i out le was =
       was ∙ ap (λ (ys : List (ℕ × Vec Way Global)). picks (pick_at ways ts) (map (λ p. p.0) ys)) (take_all i xs le)
       ∙ picks-all ways ts (keys_of xs) rising (λ q none.
-        sym (indexed-under q ways) ∙ no_group (λ (k : ℕ). k) nat_cmp nat_cmp_total (λ (w : Way). w.now) pairs (indexed_ways ways) same xs rising held q
-        (any_keys q xs ∙ none))
+      sym (indexed-under q ways) ∙ no_group (λ (k : ℕ). k) nat_cmp nat_cmp_total (λ (w : Way). w.now) pairs (indexed_ways ways) same xs rising held q
+      (any_keys q xs ∙ none))

@@ -140,12 +140,12 @@ pub picks-all : (paths : List (List PathPart)) (ts : List Tree) (ks : List ℕ) 
     → ((j : ℕ) → is_in j ks ≡ false → under (Index j) paths ≡ [])
     → picks (pick_at paths ts) ks ≡ elements (chosen_elements paths 0 (trees_of ts))
 picks-all paths ts ks s m = exact ks ∙ walk paths ts 0 ks (from_sorted ks s) (λ j le n. m j n)
-    where
-      exact : (ks : List ℕ) → picks (pick_at paths ts) ks ≡ picks (pick_from paths 0 ts) ks
-      exact [] = refl
-      exact (k ∷ ks) = let same : k ≡ k - 0 = omega arith in
-          ap (λ n. option_to_list (option_and_then (chosen (under (Index k) paths)) (slice_get ts n)) ++ picks (pick_at paths ts) ks) same
-          ∙ ap (λ (l : List Tree). option_to_list (pick_from paths 0 ts k) ++ l) (exact ks)
+  where
+    exact : (ks : List ℕ) → picks (pick_at paths ts) ks ≡ picks (pick_from paths 0 ts) ks
+    exact [] = refl
+    exact (k ∷ ks) = let same : k ≡ k - 0 = omega arith in
+        ap (λ n. option_to_list (option_and_then (chosen (under (Index k) paths)) (slice_get ts n)) ++ picks (pick_at paths ts) ks) same
+        ∙ ap (λ (l : List Tree). option_to_list (pick_from paths 0 ts k) ++ l) (exact ks)
 
 -- one index more
 pub picks-more : (pick : ℕ → Option Tree) (ks : List ℕ) (k : ℕ) → picks pick (ks ++ k ∷ []) ≡ picks pick ks ++ option_to_list (pick k)

@@ -9,16 +9,20 @@ use Rattle.alt_shape.specs.Refusals.{Answer, refused}
 use Rattle.alt_shape.specs.declared.refusal.Refusal.{Refusal}
 
 -- what a look-up found, or that it found nothing
-pub some_found : {A : Type 0} (r : Refusal) (o : Option A) (x : A) → or_refused r o ≡ Ok x → o ≡ Some x
+pub some_found : {A : Type 0} (r : Refusal) (o : Option A) (x : A) → or_refused r o ≡ Ok x
+    → o ≡ Some x
 some_found r None x e = absurd (let f : ⊥ = cc in f)
 some_found r (Some y) x e = ap Some (let f : y ≡ x = cc in f)
 
-pub none_found : {A : Type 0} (r : Refusal) (o : Option A) (answer : Answer) → or_refused r o ≡ Err answer → (o ≡ None) × (answer ≡ refused r)
+pub none_found : {A : Type 0} (r : Refusal) (o : Option A) (answer : Answer)
+    → or_refused r o ≡ Err answer → (o ≡ None) × (answer ≡ refused r)
 none_found r None answer e = (refl, let f : answer ≡ refused r = cc in f)
 none_found r (Some y) answer e = absurd (let f : ⊥ = cc in f)
 
-module _ (s : State) (catalog : Texts TableSchema) (same : descriptions s.tables ≡ catalog) (name : List ℕ) where
-  pub table_found : (d : TableSchema) → map.get catalog name ≡ Some d → (t : Table) × (map.get s.tables name ≡ Some t) × (t.description ≡ d)
+module _ (s : State) (catalog : Texts TableSchema) (same : descriptions s.tables ≡ catalog)
+    (name : List ℕ) where
+  pub table_found : (d : TableSchema) → map.get catalog name ≡ Some d
+      → (t : Table) × (map.get s.tables name ≡ Some t) × (t.description ≡ d)
   table_found d e = table_of_description s.tables name d (ap (λ m. map.get m name) same ∙ e)
 
   pub table_missed : map.get catalog name ≡ None → map.get s.tables name ≡ None

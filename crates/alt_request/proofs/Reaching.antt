@@ -26,38 +26,64 @@ pub err_is : {A E : Type 0} (r : Result A E) (e : E) → IsErr r × IsErrAnd r (
 err_is (Ok x) e h = absurd (let g = h.0 in let f : ⊥ = cc in f)
 err_is (Err x) e h = ap Err h.1
 
-module _ (tests : List (Option Answer)) (sought : Sought) (catalog : Texts TableSchema) (ms : Members) (free : first_answer tests ≡ None)
+module _ (tests : List (Option Answer)) (sought : Sought) (catalog : Texts TableSchema)
+    (ms : Members) (free : first_answer tests ≡ None)
     (item : List Pair) (read : item_at (member_of sought) ms ≡ Ok item) where
-  pub no_table : (e : Stop) → Comes {X = Bor TableSchema} (λ d. d.now) (or_refused not_found (map.get catalog (table_name ms))) (Err e) → OnItem tests sought catalog ms (Err e)
-  no_table (Refused q) h = (h.1, λ s go same.
-      let none = none_found not_found (map.get catalog (table_name ms)) (refused q) h.0 in
-      item-no_table tests sought s ms go free item read (refused q)
-      (ap (or_refused not_found) (table_missed s catalog same (table_name ms) none.0) ∙ ap (λ a. Err a) (sym none.1)))
+  pub no_table : (e : Stop) → Comes {X = Bor TableSchema} (λ d. d.now)
+      (or_refused not_found (map.get catalog (table_name ms))) (Err e)
+      → OnItem tests sought catalog ms (Err e)
+  no_table (Refused q) h = (
+    h.1,
+    λ s go same.
+        let none = none_found not_found (map.get catalog (table_name ms)) (refused q) h.0 in
+        item-no_table tests sought s ms go free item read (refused q)
+        (ap (or_refused not_found) (table_missed s catalog same (table_name ms) none.0)
+        ∙ ap (λ a. Err a) (sym none.1)),
+  )
   no_table (Fault f) h = h
 
-  module _ (d : TableSchema) (there : or_refused not_found (map.get catalog (table_name ms)) ≡ Ok d) where
-    pub no_place : (e : Stop) → Comes {X = List ℕ} (λ b. b) (or_refused bad_key (place_in sought d item)) (Err e) → OnItem tests sought catalog ms (Err e)
-    no_place (Refused q) h = (h.1, λ s go same.
-        let found = table_found s catalog same (table_name ms) d (some_found not_found (map.get catalog (table_name ms)) d there) in
-        item-no_place tests sought s ms go free item read found.0 found.1 (refused q)
-        (ap (λ (x : TableSchema). or_refused bad_key (place_in sought x item)) found.2 ∙ h.0))
-    no_place (Fault f) h = h
+  module _ (d : TableSchema) (there : or_refused not_found (map.get catalog (table_name ms)) ≡ Ok d)
+    where
+      pub no_place : (e : Stop) → Comes {X = List ℕ} (λ b. b)
+          (or_refused bad_key (place_in sought d item)) (Err e)
+          → OnItem tests sought catalog ms (Err e)
+      no_place (Refused q) h = (
+        h.1,
+        λ s go same.
+            let found = table_found s catalog same (table_name ms) d
+            (some_found not_found (map.get catalog (table_name ms)) d there) in
+            item-no_place tests sought s ms go free item read found.0 found.1 (refused q)
+            (ap (λ (x : TableSchema). or_refused bad_key (place_in sought x item)) found.2 ∙ h.0),
+      )
+      no_place (Fault f) h = h
 
-    module _ (place : List ℕ) (at : or_refused bad_key (place_in sought d item) ≡ Ok place) where
-      pub too_long : key_fits d item ≡ false → (s : State) (go : List Pair → Table → List ℕ → Outcome) → descriptions s.tables ≡ catalog
-          → on_item tests sought s ms go ≡ refuses key_too_long
-      too_long long s go same =
-          let found = table_found s catalog same (table_name ms) d (some_found not_found (map.get catalog (table_name ms)) d there) in
-          item-too_long tests sought s ms go free item read found.0 found.1 place
-          (ap (λ (x : TableSchema). place_in sought x item) found.2 ∙ some_found bad_key (place_in sought d item) place at)
-          (ap (λ (x : TableSchema). key_fits x item) found.2 ∙ long)
+      module _ (place : List ℕ) (at : or_refused bad_key (place_in sought d item) ≡ Ok place) where
+        pub too_long : key_fits d item ≡ false → (s : State)
+            (go : List Pair → Table → List ℕ → Outcome) → descriptions s.tables ≡ catalog
+            → on_item tests sought s ms go ≡ refuses key_too_long
+        too_long long s go same =
+            let found = table_found s catalog same (table_name ms) d
+            (some_found not_found (map.get catalog (table_name ms)) d there) in
+            item-too_long tests sought s ms go free item read found.0 found.1 place
+            (ap (λ (x : TableSchema). place_in sought x item) found.2
+            ∙ some_found bad_key (place_in sought d item) place at)
+            (ap (λ (x : TableSchema). key_fits x item) found.2 ∙ long)
 
 -- the table isn't reached
-pub unnamed : (tests : List (Option Answer)) (catalog : Texts TableSchema) (ms : Members) → first_answer tests ≡ None
-    → (r : Result (Bor TableSchema) Stop) → Comes (λ d. d.now) (or_refused not_found (map.get catalog (table_name ms))) r → OnTable tests catalog ms r
-unnamed tests catalog ms free (Ok d) h = (free, some_found not_found (map.get catalog (table_name ms)) d.now h)
-unnamed tests catalog ms free (Err (Refused q)) h = (h.1, λ s go same.
-    let none = none_found not_found (map.get catalog (table_name ms)) (refused q) h.0 in
-    table-missed tests s ms go (refused q) free
-    (ap (or_refused not_found) (table_missed s catalog same (table_name ms) none.0) ∙ ap (λ a. Err a) (sym none.1)))
+pub unnamed : (tests : List (Option Answer)) (catalog : Texts TableSchema) (ms : Members)
+    → first_answer tests ≡ None
+    → (r : Result (Bor TableSchema) Stop) → Comes (λ d. d.now)
+    (or_refused not_found (map.get catalog (table_name ms))) r → OnTable tests catalog ms r
+unnamed tests catalog ms free (Ok d) h = (
+  free,
+  some_found not_found (map.get catalog (table_name ms)) d.now h,
+)
+unnamed tests catalog ms free (Err (Refused q)) h = (
+  h.1,
+  λ s go same.
+      let none = none_found not_found (map.get catalog (table_name ms)) (refused q) h.0 in
+      table-missed tests s ms go (refused q) free
+      (ap (or_refused not_found) (table_missed s catalog same (table_name ms) none.0)
+      ∙ ap (λ a. Err a) (sym none.1)),
+)
 unnamed tests catalog ms free (Err (Fault f)) h = h

@@ -3,10 +3,12 @@ use Rattle.std.proofs.Common.{◌≡◌, refl, ap, ◌∙◌, ℕ, Bool, List, [
 use Rattle.std.specs.Prelude.{◌&&◌, ◌||◌}
 use Rattle.std.specs.List.{list_any, list_all}
 
-pub any_mapped : {A B : Type 0} (f : A → B) (p : B → Bool) (xs : List A) → list_any (λ x. p (f x)) xs ≡ list_any p (map f xs)
+pub any_mapped : {A B : Type 0} (f : A → B) (p : B → Bool) (xs : List A)
+    → list_any (λ x. p (f x)) xs ≡ list_any p (map f xs)
 any_mapped f p [] = refl
 any_mapped f p (x ∷ xs) = ap (λ b. p (f x) || b) (any_mapped f p xs)
 
-pub all_mapped : {A B : Type 0} (f : A → B) (p : B → Bool) (xs : List A) → list_all (λ x. p (f x)) xs ≡ list_all p (map f xs)
+pub all_mapped : {A B : Type 0} (f : A → B) (p : B → Bool) (xs : List A)
+    → list_all (λ x. p (f x)) xs ≡ list_all p (map f xs)
 all_mapped f p [] = refl
 all_mapped f p (x ∷ xs) = ap (λ b. p (f x) && b) (all_mapped f p xs)

@@ -14,7 +14,8 @@ use Rattle.alt_tables.specs.Faults.{BreakOff}
 -- Below, `old` and `now` say for which states the tables stand before and after a call.
 
 -- The answer is that of the outcome, the tables stand for the state after its last write, and no write lacked a number or a family.
-pub record IsAnswered (now : State → Type 0) (s : State) (outcome : Outcome) (answer : Answer) : Type 0 where
+pub record IsAnswered (now : State → Type 0) (s : State) (outcome : Outcome)
+    (answer : Answer) : Type 0 where
   pub reply : answer ≡ outcome.answer
   pub state : now (last_state s outcome.atoms)
   pub enough : wanted s outcome ≡ None
@@ -32,6 +33,7 @@ IsPlain (Err (Refused r)) = IsKnown r
 IsPlain (Err (Fault fault)) = Unit {0}
 
 -- A call carries a request out, which has this outcome in each state for which the tables stood.
-pub record Carries (outcome : State → Outcome) (old now : State → Type 0) (result : Result Reply Stop) : Type 0 where
+pub record Carries (outcome : State → Outcome) (old now : State → Type 0)
+    (result : Result Reply Stop) : Type 0 where
   pub does : (s : State) → old s → Does now s (outcome s) result
   pub plain : IsPlain result

@@ -7,6 +7,7 @@ use Rattle.alt_request.specs.declared.stop.Stop.{Stop}
 use Rattle.alt_request.specs.declared.stop.Stop.TheVariants.{Refused, Fault}
 use Rattle.alt_shape.specs.Refusals.{Answer, refused, IsKnown}
 use Rattle.alt_tables.specs.Faults.{IsReadFault}
+use Rattle.alt_tables.specs.declared.faults.TableFault.TheVariants.{NoMemory}
 
 -- the rules of the program, as the machine has them
 abbrev pub rules_of : Rules → machine.Rules
@@ -27,3 +28,7 @@ abbrev pub Comes : {A X : Type 0} → (X → A) → Result A Answer → Result X
 Comes of r (Ok x) = r ≡ Ok (of x)
 Comes of r (Err (Refused q)) = (r ≡ Err (refused q)) × IsKnown q
 Comes of r (Err (Fault f)) = IsReadFault f
+
+-- memory was wanting
+abbrev pub IsMemory : Stop → Type 0
+IsMemory stop = stop ≡ Fault NoMemory

@@ -19,21 +19,26 @@ use Rattle.alt_value.specs.Tree.{Pair}
 
 -- Nothing refuses the body, and that is the description of the table that it names; or the machine refuses the request too, whatever
 -- its operation goes on to do.
-abbrev pub OnTable : List (Option Answer) → Texts TableSchema → Members → Result (Bor TableSchema) Stop → Type 0
-OnTable tests catalog ms (Ok d) = (first_answer tests ≡ None) × (map.get catalog (table_name ms) ≡ Some d.now)
+abbrev pub OnTable : List (Option Answer) → Texts TableSchema → Members
+    → Result (Bor TableSchema) Stop → Type 0
+OnTable tests catalog ms (Ok d) = (first_answer tests ≡ None)
+    × (map.get catalog (table_name ms) ≡ Some d.now)
 OnTable tests catalog ms (Err (Refused r)) =
-    IsKnown r × ((s : State) (go : Table → Outcome) → descriptions s.tables ≡ catalog → on_table tests s ms go ≡ refuses r)
+    IsKnown r × ((s : State) (go : Table → Outcome) → descriptions s.tables ≡ catalog
+    → on_table tests s ms go ≡ refuses r)
 OnTable tests catalog ms (Err (Fault f)) = IsReadFault f
 
 -- the item or the key has its place in the table that is named
-pub record IsAt (tests : List (Option Answer)) (sought : Sought) (catalog : Texts TableSchema) (ms : Members) (target : Target) : Type 0 where
-  pub description : TableSchema
-  pub there : map.get catalog (table_name ms) ≡ Some description
-  pub placed : IsPlaced tests sought ms description target.item target.place
+pub record IsAt (tests : List (Option Answer)) (sought : Sought) (catalog : Texts TableSchema)
+    (ms : Members) (target : Target) : Type 0 where
+  pub there : map.get catalog (table_name ms) ≡ Some target.schema.now
+  pub placed : IsPlaced tests sought ms target.schema.now target.item target.place
 
 -- That is so; or the machine refuses the request too, whatever its operation goes on to do.
-abbrev pub OnItem : List (Option Answer) → Sought → Texts TableSchema → Members → Result Target Stop → Type 0
+abbrev pub OnItem : List (Option Answer) → Sought → Texts TableSchema → Members → Result Target Stop
+    → Type 0
 OnItem tests sought catalog ms (Ok target) = IsAt tests sought catalog ms target
 OnItem tests sought catalog ms (Err (Refused r)) =
-    IsKnown r × ((s : State) (go : List Pair → Table → List ℕ → Outcome) → descriptions s.tables ≡ catalog → on_item tests sought s ms go ≡ refuses r)
+    IsKnown r × ((s : State) (go : List Pair → Table → List ℕ → Outcome)
+    → descriptions s.tables ≡ catalog → on_item tests sought s ms go ≡ refuses r)
 OnItem tests sought catalog ms (Err (Fault f)) = IsReadFault f

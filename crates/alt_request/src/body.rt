@@ -33,7 +33,8 @@ pub fn body_refusal(
     rules: &Rules,
     body: &Map<String, Value>,
 ) -> Result<(), Stop>
-    ensures tested { Tested (body_refusals broken (rules_of rules.now) (members_view body.now.entries)) result }
+    ensures tested { Tested (body_refusals broken (rules_of rules.now)
+        (members_view body.now.entries)) result }
 {
     if let Some(broken) = broken {
         return Err(Stop::Refused(Refusal::from(broken)));
@@ -58,9 +59,13 @@ pub fn table_name(body: &Map<String, Value>) -> &str
 }
 
 /// The description of the table that a body names.
-pub(crate) fn table_of<'t>(tables: &'t Tables, body: &Map<String, Value>) -> Result<&'t TableSchema, Stop>
+pub(crate) fn table_of<'t>(
+    tables: &'t Tables,
+    body: &Map<String, Value>,
+) -> Result<&'t TableSchema, Stop>
     ensures found { Comes (λ d. d.now)
-        (or_refused not_found (map.get (catalog_of tables.now) (table_name (members_view body.now.entries)))) result }
+        (or_refused not_found (map.get (catalog_of tables.now)
+        (table_name (members_view body.now.entries)))) result }
 {
     match tables.table(table_name(body)) {
         Some(schema) => Ok(schema),
@@ -77,7 +82,8 @@ fn gives_any(names: &[&str], body: &Map<String, Value>) -> bool
 }
 
 fn any_given(names: &[&str], body: &Map<String, Value>) -> bool
-    ensures { result ≡ list_any (λ w. is_some (given w.now (members_view body.now.entries))) names.now }
+    ensures { result ≡ list_any (λ w. is_some (given w.now (members_view body.now.entries)))
+        names.now }
 {
     names.iter().any(|name| is_given(body, *name))
 }
@@ -91,7 +97,8 @@ fn is_given(body: &Map<String, Value>, name: &str) -> bool
 /// Whether each of these members that is there is a name.
 #[tactic(auto, using(crate::proofs::Walks::all_mapped))]
 fn all_name(names: &[&str], body: &Map<String, Value>) -> bool
-    ensures { result ≡ list_all (may_name (members_view body.now.entries)) (each (λ w. w.now) names.now) }
+    ensures { result ≡ list_all (may_name (members_view body.now.entries))
+        (each (λ w. w.now) names.now) }
 {
     each_may_name(names, body)
 }

@@ -33,7 +33,8 @@ pub(crate) fn item_at(
     body: &Map<String, Value>,
     sought: Sought,
 ) -> Result<Item, Stop>
-    ensures read { Comes (λ i. i) (item_at (member_of sought) (members_view body.now.entries)) result }
+    ensures read { Comes (λ i. i) (item_at (member_of sought) (members_view body.now.entries))
+        result }
 {
     let Some(value) = given(body, member_of(sought)) else {
         return Err(Stop::Refused(Refusal::MEMBER_MISSING));
@@ -62,7 +63,8 @@ pub(crate) fn place_in(
     schema: &TableSchema,
     item: &Item,
 ) -> Result<Bytes, Stop>
-    ensures place { Comes (λ b. b) (or_refused bad_key (place_in sought schema.now item.now)) result }
+    ensures place { Comes (λ b. b) (or_refused bad_key (place_in sought schema.now item.now))
+        result }
 {
     match sought {
         Sought::Item => place_or_refusal(alloc, schema, item),

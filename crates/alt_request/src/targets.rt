@@ -19,9 +19,10 @@ use alt_value::Item;
 use serde_json::{Map, Value};
 use std::alloc::Global;
 
-/// An item or a key, and its place in its table.
+/// An item or a key, the description of its table, and its place there.
 #[derive(Drop)]
-pub struct Target {
+pub struct Target<'t> {
+    pub schema: &'t TableSchema,
     pub item: Item,
     pub place: Bytes,
 }
@@ -33,7 +34,8 @@ pub fn table_target<'t>(
     broken: Option<Broken>,
     rules: &Rules,
 ) -> Result<&'t TableSchema, Stop>
-    ensures target { OnTable (body_refusals broken (rules_of rules.now) (members_view body.now.entries))
+    ensures target { OnTable (body_refusals broken (rules_of rules.now)
+        (members_view body.now.entries))
         (catalog_of tables.now) (members_view body.now.entries) result }
 {
     body_refusal(broken, rules, body)?;
@@ -41,15 +43,16 @@ pub fn table_target<'t>(
 }
 
 /// The item or the key in a body and its place in the table that the body names, where nothing refuses them.
-pub fn item_target(
+pub fn item_target<'t>(
     alloc: Global,
-    tables: &Tables,
+    tables: &'t Tables,
     body: &Map<String, Value>,
     broken: Option<Broken>,
     rules: &Rules,
     sought: Sought,
-) -> Result<Target, Stop>
-    ensures target { OnItem (body_refusals broken (rules_of rules.now) (members_view body.now.entries)) sought
+) -> Result<Target<'t>, Stop>
+    ensures target { OnItem (body_refusals broken (rules_of rules.now)
+        (members_view body.now.entries)) sought
         (catalog_of tables.now) (members_view body.now.entries) result }
 {
     body_refusal(broken, rules, body)?;
@@ -59,5 +62,9 @@ pub fn item_target(
     if !key_fits(schema, &item) {
         return Err(Stop::Refused(Refusal::KEY_TOO_LONG));
     }
-    Ok(Target { item, place })
+    Ok(Target {
+        schema,
+        item,
+        place,
+    })
 }

@@ -16,6 +16,7 @@ use Rattle.alt_schema.specs.declared.schema.View.{View}
 use Rattle.alt_schema.specs.declared.stated.Element.{Element}
 use Rattle.alt_schema.specs.declared.stated.StatedIndex.{StatedIndex}
 use Rattle.alt_schema.specs.declared.stated.Stated.{Stated}
+use Rattle.alt_schema.proofs.Bools.{both}
 
 -- ---- tests
 
@@ -28,11 +29,6 @@ left false b h = h
 pub right : (a b : Bool) → (a && b) ≡ true → b ≡ true
 right true b h = h
 right false b h = cc
-
--- two tests that pass
-both : (a b : Bool) → a ≡ true → b ≡ true → (a && b) ≡ true
-both true b p q = q
-both false b p q = p
 
 -- nothing is refused where the three tests pass
 all_three : (x y z : Bool)

@@ -1,5 +1,5 @@
 -- A description as it is shown has no float.
-use Rattle.std.proofs.Common.{◌≡◌, refl, sym, ap, ◌∙◌, ℕ, Bool, true, false, ◌||◌, List, [], ◌∷◌, Option, Some, None, option_map, codes, Result, Ok, Err, IfOk}
+use Rattle.std.proofs.Common.{◌≡◌, refl, sym, ap, ◌∙◌, ℕ, false, List, [], ◌∷◌, Option, Some, None, option_map, codes, Result, Ok, Err, IfOk}
 use Rattle.serde_json.specs.Data.{Data, string, array, Members}
 use Rattle.serde_json.specs.View.{view}
 use Rattle.serde_json.specs.declared.value.Value.{Value}
@@ -12,11 +12,7 @@ use Rattle.alt_schema.specs.declared.schema.Projection.TheVariants.{All, KeysOnl
 use Rattle.alt_schema.specs.declared.schema.View.{View}
 use Rattle.alt_schema.specs.declared.schema.IndexSchema.{IndexSchema}
 use Rattle.alt_schema.specs.declared.schema.TableSchema.{TableSchema}
-
--- where none of two has a float, there is none
-neither : (a b : Bool) → a ≡ false → b ≡ false → (a || b) ≡ false
-neither true b p q = p
-neither false b p q = q
+use Rattle.alt_schema.proofs.Bools.{neither}
 
 -- items by what they show
 items_plain : {A : Type 0} (shown : A → Data) → ((x : A) → has_float (shown x) ≡ false)

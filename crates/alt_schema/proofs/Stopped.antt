@@ -21,9 +21,10 @@ use Rattle.alt_schema.specs.declared.schema.Projection.TheVariants.{All, KeysOnl
 use Rattle.alt_schema.specs.declared.schema.View.{View}
 use Rattle.alt_schema.specs.declared.schema.IndexSchema.{IndexSchema}
 use Rattle.alt_schema.specs.declared.schema.TableSchema.{TableSchema}
+use Rattle.alt_schema.proofs.Bools.{both, not_true, true_false}
 use Rattle.alt_schema.proofs.Wholes.{Small, small_at, small_back, small_take, got_value, both_got, within, passes, u64_got, u32_got, bytes_got, field_got, name_got, byte_got}
 use Rattle.alt_schema.proofs.WholeLists.{counted_got, next_all}
-use Rattle.alt_schema.proofs.WholeDescriptions.{definition_got, key_got, range_got, index_got, stream_got, description_got, view_find, kind_find, not_true}
+use Rattle.alt_schema.proofs.WholeDescriptions.{definition_got, key_got, range_got, index_got, stream_got, description_got, view_find, kind_find}
 use Rattle.alt_schema.proofs.Steady.{no_got, stop_count, name_fails, none_stops, first_place}
 
 -- ---- numbers
@@ -281,15 +282,6 @@ held_name test bytes s rest small e =
       IsUtf8-from_is_utf8 s (name_got test bytes s rest small e).1,
     )
 
--- two tests that pass
-both_true : (a b : Bool) → a ≡ true → b ≡ true → (a && b) ≡ true
-both_true true b p q = q
-both_true false b p q = p
-
--- true and false differ
-true_false : true ≡ false → ⊥
-true_false h = cc
-
 module _ (test : List ℕ → Bool) (Fits : List ℕ → Type 0)
     (passed : (s : List ℕ) → Fits s → test s ≡ true) where
   text_by : (bytes : List ℕ) (r : Read (List ℕ)) (n : ℕ) → Small bytes → read_field bytes ≡ r
@@ -302,7 +294,7 @@ module _ (test : List ℕ → Bool) (Fits : List ℕ → Type 0)
   text_by bytes (got x mid) n small e f =
       let t = name_fails test x mid (length bytes) n f in
       another_field x mid (field_length bytes x mid small e) (field_got bytes x mid small e)
-      (λ u fits. true_false (sym (both_true (is_utf8 x) (test x) (is_utf8-from_IsUtf8 x u)
+      (λ u fits. true_false (sym (both (is_utf8 x) (test x) (is_utf8-from_IsUtf8 x u)
       (passed x fits)) ∙ t.0))
       (sym t.1)
 

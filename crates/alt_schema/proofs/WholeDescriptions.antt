@@ -29,6 +29,7 @@ use Rattle.alt_schema.specs.declared.schema.View.{View}
 use Rattle.alt_schema.specs.declared.schema.View.TheVariants.{KeysOnly as view_keys, NewImage, OldImage, NewAndOldImages}
 use Rattle.alt_schema.specs.declared.schema.IndexSchema.{IndexSchema}
 use Rattle.alt_schema.specs.declared.schema.TableSchema.{TableSchema}
+use Rattle.alt_schema.proofs.Bools.{not_true, true_false}
 use Rattle.alt_schema.proofs.NewDescriptions.{left, right, kind_found}
 use Rattle.alt_schema.proofs.Wholes.{Small, small_back, got_value, got_rest, both_got, u64_got, u32_got, u64_read, u32_read, name_got, name_read, byte_got, byte_read}
 use Rattle.alt_schema.proofs.WholeLists.{counted_got, counted_read, all_next, next_all, HasNewName, next_differ, differ_next}
@@ -36,11 +37,6 @@ use Rattle.alt_schema.proofs.WholeLists.{counted_got, counted_read, all_next, ne
 -- what stands behind a piece is small too
 behind : (piece mid bytes : List ℕ) → Small bytes → bytes ≡ piece ++ mid → Small mid
 behind piece mid bytes small e = small_back piece mid (subst Small e small)
-
--- what isn't true is false
-pub not_true : (a : Bool) → not a ≡ true → a ≡ false
-not_true true h = cc
-not_true false h = refl
 
 -- ---- definitions and keys
 
@@ -124,10 +120,6 @@ same_kind-eq N S h = cc
 same_kind-eq N B h = cc
 same_kind-eq B S h = cc
 same_kind-eq B N h = cc
-
--- true and false differ
-true_false : true ≡ false → ⊥
-true_false h = cc
 
 -- where the second is false, the first is true
 either_one : (a b : Bool) → (a || b) ≡ true → b ≡ false → a ≡ true

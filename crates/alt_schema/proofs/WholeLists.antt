@@ -10,6 +10,7 @@ use Rattle.alt_schema.specs.Parts.{Read, got, followed_by, read_u64, read_more, 
 use Rattle.alt_schema.specs.Places.{AllNext}
 use Rattle.alt_schema.specs.Rules.{is_defined, all_differ}
 use Rattle.alt_schema.specs.declared.schema.KeyAttr.{KeyAttr}
+use Rattle.alt_schema.proofs.Bools.{neither, not_true}
 use Rattle.alt_schema.proofs.NewDescriptions.{left, right}
 use Rattle.alt_schema.proofs.Wholes.{Small, small_back, got_value, got_rest, both_got, u64_got, u64_read}
 
@@ -109,14 +110,6 @@ HasNewName before d = is_defined before d.name ≡ false
 either_false : (a b : Bool) → (a || b) ≡ false → (a ≡ false) × (b ≡ false)
 either_false true b h = cc
 either_false false b h = (refl, h)
-
-neither : (a b : Bool) → a ≡ false → b ≡ false → (a || b) ≡ false
-neither true b p q = p
-neither false b p q = q
-
-not_true : (a : Bool) → not a ≡ true → a ≡ false
-not_true true h = cc
-not_true false h = refl
 
 -- one more whose name is new
 pub differ_more : (before : List KeyAttr) (d : KeyAttr) → all_differ (λ k. k.name) before ≡ true

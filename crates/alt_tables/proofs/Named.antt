@@ -38,7 +38,8 @@ module _ {E X : Type 0} (name_of : E → List ℕ) (seen : E → X) where
   abbrev pub Above : List ℕ → List E → ℕ → Type 0
   Above name es i = After text_order text_total name_of name es i
 
-  below_at : (x : List ℕ) (es : List E) (k : ℕ) (d : E) → T (below_all text_order x (map entry es)) → k < length es
+  below_at : (x : List ℕ) (es : List E) (k : ℕ) (d : E) → T (below_all text_order x (map entry es))
+      → k < length es
       → text_order x (name_of (get_or es k d)) ≡ Less
   below_at x [] k d h within = absurd (omega arith)
   below_at x (e ∷ es) zero d h within = less _ (first _ _ h)
@@ -47,22 +48,27 @@ module _ {E X : Type 0} (name_of : E → List ℕ) (seen : E → X) where
   rises : (es : List E) → IsInOrder es → Rises text_order text_total name_of es
   rises [] h i j d below within = absurd (omega arith)
   rises (e ∷ es) h i zero d below within = absurd (omega arith)
-  rises (e ∷ es) h zero (suc j) d below within = below_at (name_of e) es j d (first _ _ h) (omega arith)
-  rises (e ∷ es) h (suc i) (suc j) d below within = rises es (second _ _ h) i j d (omega arith) (omega arith)
+  rises (e ∷ es) h zero (suc j) d below within =
+      below_at (name_of e) es j d (first _ _ h) (omega arith)
+  rises (e ∷ es) h (suc i) (suc j) d below within =
+      rises es (second _ _ h) i j d (omega arith) (omega arith)
 
   -- where the name is above an entry, it is above those before it too
-  pub below_more : (name : List ℕ) (es : List E) (i : ℕ) (e : E) → IsInOrder es → i < length es → e ≡ get_or es i e
+  pub below_more : (name : List ℕ) (es : List E) (i : ℕ) (e : E) → IsInOrder es → i < length es
+      → e ≡ get_or es i e
       → text_order (name_of e) name ≡ Less → Below name es (i + 1)
   below_more name es i e sorted within at h k d below =
       let same : get_or es i d ≡ e = get_or_default es i d e within ∙ sym at in
       elim (cases_order k i) [
         | inl here ↦ rw (here, same) h
-        | inr (inl before) ↦ text_total.trans (name_of (get_or es k d)) (name_of (get_or es i d)) name (rises es sorted k i d before within) (rw same h)
+        | inr (inl before) ↦ text_total.trans (name_of (get_or es k d))
+            (name_of (get_or es i d)) name (rises es sorted k i d before within) (rw same h)
         | inr (inr above) ↦ absurd (omega arith)
       ]
 
   -- where the name is below an entry, it is below those after it too
-  pub above_more : (name : List ℕ) (es : List E) (i : ℕ) (e : E) → IsInOrder es → i < length es → e ≡ get_or es i e
+  pub above_more : (name : List ℕ) (es : List E) (i : ℕ) (e : E) → IsInOrder es → i < length es
+      → e ≡ get_or es i e
       → text_order (name_of e) name ≡ Greater → Above name es i
   above_more name es i e sorted within at h k d from below =
       let same : get_or es i d ≡ e = get_or_default es i d e within ∙ sym at in
@@ -72,13 +78,16 @@ module _ {E X : Type 0} (name_of : E → List ℕ) (seen : E → X) where
         | inr (inr above) ↦
             turned text_order text_total name (name_of (get_or es k d)) Less
             (text_total.trans name (name_of (get_or es i d)) (name_of (get_or es k d))
-            (rw same (turned text_order text_total (name_of e) name Greater h)) (rises es sorted i k d above below))
+            (rw same (turned text_order text_total (name_of e) name Greater h))
+            (rises es sorted i k d above below))
       ]
 
   -- where the entry ties with the name, it has the name
-  pub named_here : (name : List ℕ) (es : List E) (i : ℕ) (e : E) → i < length es → e ≡ get_or es i e → text_order (name_of e) name ≡ Equal
+  pub named_here : (name : List ℕ) (es : List E) (i : ℕ) (e : E) → i < length es → e ≡ get_or es i e
+      → text_order (name_of e) name ≡ Equal
       → HoldsAt (λ f. name_of f ≡ name) es i
-  named_here name es i e within at h d = text_apart _ _ (rw (get_or_default es i d e within, ← at) h)
+  named_here name es i e within at h d = text_apart _ _
+      (rw (get_or_default es i d e within, ← at) h)
 
   -- the name stands at the place, and the names before it are below it
   pub record Stands (name : List ℕ) (es : List E) (i : ℕ) : Type 0 where
@@ -92,7 +101,8 @@ module _ {E X : Type 0} (name_of : E → List ℕ) (seen : E → X) where
     pub before : Below name es i
     pub after : Above name es i
 
-  pub stands : (name : List ℕ) (es : List E) (i : ℕ) → IsInOrder es → i < length es → HoldsAt (λ e. name_of e ≡ name) es i → Stands name es i
+  pub stands : (name : List ℕ) (es : List E) (i : ℕ) → IsInOrder es → i < length es
+      → HoldsAt (λ e. name_of e ≡ name) es i → Stands name es i
   stands name es i sorted within same = record {
     within = within;
     same = same;
@@ -101,21 +111,24 @@ module _ {E X : Type 0} (name_of : E → List ℕ) (seen : E → X) where
   }
 
   pub goes : (name : List ℕ) (es : List E) (i : ℕ) → i ≤ length es
-      → IsPartitionPoint (λ e. text_order (name_of e) name ≡ Less) (λ e. text_order (name_of e) name ≡ Greater) es i → Goes name es i
+      → IsPartitionPoint (λ e. text_order (name_of e) name ≡ Less)
+      (λ e. text_order (name_of e) name ≡ Greater) es i → Goes name es i
   goes name es i within parts = record {
     within = within;
     before = λ k d below. parts.0 k d (omega arith) below;
     after = parts.1;
   }
 
-  later_stands : (name : List ℕ) (e : E) (es : List E) (i : ℕ) → Stands name (e ∷ es) (suc i) → Stands name es i
+  later_stands : (name : List ℕ) (e : E) (es : List E) (i : ℕ) → Stands name (e ∷ es) (suc i)
+      → Stands name es i
   later_stands name e es i s = record {
     within = let w : suc i < suc (length es) = s.within in omega arith;
     same = s.same;
     before = λ k d below. s.before (suc k) d (omega arith);
   }
 
-  later_goes : (name : List ℕ) (e : E) (es : List E) (i : ℕ) → Goes name (e ∷ es) (suc i) → Goes name es i
+  later_goes : (name : List ℕ) (e : E) (es : List E) (i : ℕ) → Goes name (e ∷ es) (suc i)
+      → Goes name es i
   later_goes name e es i g = record {
     within = let w : suc i ≤ suc (length es) = g.within in omega arith;
     before = λ k d below. g.before (suc k) d (omega arith);
@@ -130,12 +143,14 @@ module _ {E X : Type 0} (name_of : E → List ℕ) (seen : E → X) where
   }
 
   -- names above a name aren't taken out with it
-  where_key-above : (name other : List ℕ) (es : List E) → other ≡ name → T (below_all text_order other (map entry es))
+  where_key-above : (name other : List ℕ) (es : List E) → other ≡ name
+      → T (below_all text_order other (map entry es))
       → where_key text_order (λ x. not (eq_by_cmp text_order name x)) (map entry es) ≡ map entry es
   where_key-above name other [] e h = refl
   where_key-above name other (f ∷ fs) e h =
       let p : text_order name (name_of f) ≡ Less = rw (← e) (less _ (first _ _ h)) in
-      rw p (ap (λ (ps : List (List ℕ × X)). entry f ∷ ps) (where_key-above name other fs e (second _ _ h)))
+      rw p (ap (λ (ps : List (List ℕ × X)). entry f ∷ ps)
+      (where_key-above name other fs e (second _ _ h)))
 
   -- ---- a name that stands there
 
@@ -144,85 +159,116 @@ module _ {E X : Type 0} (name_of : E → List ℕ) (seen : E → X) where
   find-stands name [] i d s = let w : i < 0 = s.within in absurd (omega arith)
   find-stands name (e ∷ es) zero d s = rw (name_itself name (name_of e) (s.same e)) refl
   find-stands name (e ∷ es) (suc i) d s =
-      rw (name_after name (name_of e) (s.before 0 e (omega arith))) (find-stands name es i d (later_stands name e es i s))
+      rw (name_after name (name_of e) (s.before 0 e (omega arith)))
+      (find-stands name es i d (later_stands name e es i s))
 
-  pub put-stands : (name : List ℕ) (es : List E) (i : ℕ) (f : E) → name_of f ≡ name → Stands name es i
+  pub put-stands : (name : List ℕ) (es : List E) (i : ℕ) (f : E) → name_of f ≡ name
+      → Stands name es i
       → put text_order name (seen f) (map entry es) ≡ map entry (set es i f)
   put-stands name [] i f n s = let w : i < 0 = s.within in absurd (omega arith)
   put-stands name (e ∷ es) zero f n s =
-      rw (name_itself name (name_of e) (s.same e)) (ap (λ (x : List ℕ). (x, seen f) ∷ map entry es) (s.same e ∙ sym n))
+      rw (name_itself name (name_of e) (s.same e))
+      (ap (λ (x : List ℕ). (x, seen f) ∷ map entry es) (s.same e ∙ sym n))
   put-stands name (e ∷ es) (suc i) f n s =
       rw (name_after name (name_of e) (s.before 0 e (omega arith)))
-      (ap (λ (ps : List (List ℕ × X)). entry e ∷ ps) (put-stands name es i f n (later_stands name e es i s)))
+      (ap (λ (ps : List (List ℕ × X)). entry e ∷ ps)
+      (put-stands name es i f n (later_stands name e es i s)))
 
   pub where_key-stands : (name : List ℕ) (es : List E) (i : ℕ) → IsInOrder es → Stands name es i
-      → where_key text_order (λ x. not (eq_by_cmp text_order name x)) (map entry es) ≡ map entry (remove es i)
+      → where_key text_order (λ x. not (eq_by_cmp text_order name x)) (map entry es)
+      ≡ map entry (remove es i)
   where_key-stands name [] i sorted s = let w : i < 0 = s.within in absurd (omega arith)
   where_key-stands name (e ∷ es) zero sorted s =
-      rw (name_itself name (name_of e) (s.same e)) (where_key-above name (name_of e) es (s.same e) (first _ _ sorted))
+      rw (name_itself name (name_of e) (s.same e))
+      (where_key-above name (name_of e) es (s.same e) (first _ _ sorted))
   where_key-stands name (e ∷ es) (suc i) sorted s =
       rw (name_after name (name_of e) (s.before 0 e (omega arith)))
-      (ap (λ (ps : List (List ℕ × X)). entry e ∷ ps) (where_key-stands name es i (second _ _ sorted) (later_stands name e es i s)))
+      (ap (λ (ps : List (List ℕ × X)). entry e ∷ ps)
+      (where_key-stands name es i (second _ _ sorted) (later_stands name e es i s)))
 
   -- ---- a name that isn't there
 
-  pub find-goes : (name : List ℕ) (es : List E) (i : ℕ) → Goes name es i → find text_order name (map entry es) ≡ None
+  pub find-goes : (name : List ℕ) (es : List E) (i : ℕ) → Goes name es i
+      → find text_order name (map entry es) ≡ None
   find-goes name [] i g = refl
   find-goes name (e ∷ es) zero g =
-      rw (name_before name (name_of e) (g.after 0 e (omega arith) (omega arith))) (find-goes name es zero (none_left name e es g))
+      rw (name_before name (name_of e) (g.after 0 e (omega arith) (omega arith)))
+      (find-goes name es zero (none_left name e es g))
   find-goes name (e ∷ es) (suc i) g =
-      rw (name_after name (name_of e) (g.before 0 e (omega arith))) (find-goes name es i (later_goes name e es i g))
+      rw (name_after name (name_of e) (g.before 0 e (omega arith)))
+      (find-goes name es i (later_goes name e es i g))
 
   pub put-goes : (name : List ℕ) (es : List E) (i : ℕ) (f : E) → name_of f ≡ name → Goes name es i
       → put text_order name (seen f) (map entry es) ≡ map entry (insert es i f)
   put-goes name [] zero f n g = rw n refl
   put-goes name [] (suc i) f n g = let w : suc i ≤ 0 = g.within in absurd (omega arith)
-  put-goes name (e ∷ es) zero f n g = rw (name_before name (name_of e) (g.after 0 e (omega arith) (omega arith)), n) refl
+  put-goes name (e ∷ es) zero f n g = rw (
+    name_before name (name_of e)
+        (g.after 0 e (omega arith) (omega arith)),
+    n,
+  ) refl
   put-goes name (e ∷ es) (suc i) f n g =
       rw (name_after name (name_of e) (g.before 0 e (omega arith)))
-      (ap (λ (ps : List (List ℕ × X)). entry e ∷ ps) (put-goes name es i f n (later_goes name e es i g)))
+      (ap (λ (ps : List (List ℕ × X)). entry e ∷ ps)
+      (put-goes name es i f n (later_goes name e es i g)))
 
   pub where_key-goes : (name : List ℕ) (es : List E) (i : ℕ) → Goes name es i
       → where_key text_order (λ x. not (eq_by_cmp text_order name x)) (map entry es) ≡ map entry es
   where_key-goes name [] i g = refl
   where_key-goes name (e ∷ es) zero g =
       rw (name_before name (name_of e) (g.after 0 e (omega arith) (omega arith)))
-      (ap (λ (ps : List (List ℕ × X)). entry e ∷ ps) (where_key-goes name es zero (none_left name e es g)))
+      (ap (λ (ps : List (List ℕ × X)). entry e ∷ ps)
+      (where_key-goes name es zero (none_left name e es g)))
   where_key-goes name (e ∷ es) (suc i) g =
       rw (name_after name (name_of e) (g.before 0 e (omega arith)))
-      (ap (λ (ps : List (List ℕ × X)). entry e ∷ ps) (where_key-goes name es i (later_goes name e es i g)))
+      (ap (λ (ps : List (List ℕ × X)). entry e ∷ ps)
+      (where_key-goes name es i (later_goes name e es i g)))
 
   -- ---- the first name after a name
 
   pub next_goes : (name : List ℕ) (es : List E) (i : ℕ) → Goes name es i
-      → find_first (λ (p : List ℕ × X). is_lt (text_order name p.0)) (map entry es) ≡ option_map entry (slice_get es i)
+      → find_first (λ (p : List ℕ × X). is_lt (text_order name p.0)) (map entry es)
+      ≡ option_map entry (slice_get es i)
   next_goes name [] i g = refl
-  next_goes name (e ∷ es) zero g = rw (name_before name (name_of e) (g.after 0 e (omega arith) (omega arith))) refl
+  next_goes name (e ∷ es) zero g = rw (name_before name (name_of e)
+      (g.after 0 e (omega arith) (omega arith))) refl
   next_goes name (e ∷ es) (suc i) g =
-      rw (name_after name (name_of e) (g.before 0 e (omega arith))) (next_goes name es i (later_goes name e es i g))
+      rw (name_after name (name_of e) (g.before 0 e (omega arith)))
+      (next_goes name es i (later_goes name e es i g))
 
-  next_above : (name other : List ℕ) (es : List E) → other ≡ name → T (below_all text_order other (map entry es))
-      → find_first (λ (p : List ℕ × X). is_lt (text_order name p.0)) (map entry es) ≡ option_map entry (slice_get es 0)
+  next_above : (name other : List ℕ) (es : List E) → other ≡ name
+      → T (below_all text_order other (map entry es))
+      → find_first (λ (p : List ℕ × X). is_lt (text_order name p.0)) (map entry es)
+      ≡ option_map entry (slice_get es 0)
   next_above name other [] e h = refl
-  next_above name other (f ∷ fs) e h = let p : text_order name (name_of f) ≡ Less = rw (← e) (less _ (first _ _ h)) in rw p refl
+  next_above name other (f ∷ fs) e h = let p : text_order name (name_of f) ≡ Less =
+      rw (← e) (less _ (first _ _ h)) in rw p refl
 
   pub next_stands : (name : List ℕ) (es : List E) (i : ℕ) → IsInOrder es → Stands name es i
-      → find_first (λ (p : List ℕ × X). is_lt (text_order name p.0)) (map entry es) ≡ option_map entry (slice_get es (suc i))
+      → find_first (λ (p : List ℕ × X). is_lt (text_order name p.0)) (map entry es)
+      ≡ option_map entry (slice_get es (suc i))
   next_stands name [] i sorted s = let w : i < 0 = s.within in absurd (omega arith)
   next_stands name (e ∷ es) zero sorted s =
-      rw (name_itself name (name_of e) (s.same e)) (next_above name (name_of e) es (s.same e) (first _ _ sorted))
+      rw (name_itself name (name_of e) (s.same e))
+      (next_above name (name_of e) es (s.same e) (first _ _ sorted))
   next_stands name (e ∷ es) (suc i) sorted s =
-      rw (name_after name (name_of e) (s.before 0 e (omega arith))) (next_stands name es i (second _ _ sorted) (later_stands name e es i s))
+      rw (name_after name (name_of e) (s.before 0 e (omega arith)))
+      (next_stands name es i (second _ _ sorted) (later_stands name e es i s))
 
-  value_of : (o : Option E) → option_map (λ (p : List ℕ × X). p.1) (option_map entry o) ≡ option_map seen o
+  value_of : (o : Option E) → option_map (λ (p : List ℕ × X). p.1) (option_map entry o)
+      ≡ option_map seen o
   value_of None = refl
   value_of (Some e) = refl
 
   pub after-goes : (name : List ℕ) (es : List E) (i : ℕ) → Goes name es i
-      → option_map (λ (p : List ℕ × X). p.1) (find_first (λ p. is_lt (text_order name p.0)) (map entry es)) ≡ option_map seen (slice_get es i)
-  after-goes name es i g = ap (option_map (λ p. p.1)) (next_goes name es i g) ∙ value_of (slice_get es i)
+      → option_map (λ (p : List ℕ × X). p.1) (find_first (λ p. is_lt (text_order name p.0))
+      (map entry es)) ≡ option_map seen (slice_get es i)
+  after-goes name es i g = ap (option_map (λ p. p.1)) (next_goes name es i g)
+      ∙ value_of (slice_get es i)
 
   pub after-stands : (name : List ℕ) (es : List E) (i : ℕ) → IsInOrder es → Stands name es i
-      → option_map (λ (p : List ℕ × X). p.1) (find_first (λ p. is_lt (text_order name p.0)) (map entry es)) ≡ option_map seen (slice_get es (i + 1))
-  after-stands name es i sorted s = ap (option_map (λ p. p.1)) (next_stands name es i sorted s) ∙ value_of (slice_get es (suc i))
+      → option_map (λ (p : List ℕ × X). p.1) (find_first (λ p. is_lt (text_order name p.0))
+      (map entry es)) ≡ option_map seen (slice_get es (i + 1))
+  after-stands name es i sorted s = ap (option_map (λ p. p.1)) (next_stands name es i sorted s)
+      ∙ value_of (slice_get es (suc i))
       ∙ ap (λ k. option_map seen (slice_get es k)) (omega arith)

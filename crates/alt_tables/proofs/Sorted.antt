@@ -23,15 +23,19 @@ module _ {X : Type 0} where
   map_of ps = from_sorted ps
 
   pub map-nothing : map_of [] ≡ empty
-  map-nothing = empty_of_len (map_of []) (len-entries (map_of []) ∙ ap length (entries-from_sorted text_order [] tt))
+  map-nothing = empty_of_len (map_of []) (len-entries (map_of [])
+      ∙ ap length (entries-from_sorted text_order [] tt))
 
   pub len-map : (ps : List (List ℕ × X)) → IsInOrder ps → len (map_of ps) ≡ length ps
   len-map ps h = len-entries (map_of ps) ∙ ap length (entries-from_sorted text_order ps h)
 
-  pub put-in_order : (ps qs : List (List ℕ × X)) (name : List ℕ) (x : X) → IsInOrder ps → put text_order name x ps ≡ qs → IsInOrder qs
-  put-in_order ps qs name x h e = subst IsInOrder e (is_sorted-put text_order text_total name x ps h)
+  pub put-in_order : (ps qs : List (List ℕ × X)) (name : List ℕ) (x : X) → IsInOrder ps
+      → put text_order name x ps ≡ qs → IsInOrder qs
+  put-in_order ps qs name x h e = subst IsInOrder e
+      (is_sorted-put text_order text_total name x ps h)
 
-  pub map-put : (ps qs : List (List ℕ × X)) (name : List ℕ) (x : X) → IsInOrder ps → put text_order name x ps ≡ qs
+  pub map-put : (ps qs : List (List ℕ × X)) (name : List ℕ) (x : X) → IsInOrder ps
+      → put text_order name x ps ≡ qs
       → map_of qs ≡ insert (map_of ps) name x
   map-put ps qs name x h e = same_entries_map _ _ (
       entries-from_sorted text_order qs (put-in_order ps qs name x h e)
@@ -41,10 +45,12 @@ module _ {X : Type 0} where
 
   pub where_key-in_order : (ps qs : List (List ℕ × X)) (name : List ℕ) → IsInOrder ps
       → where_key text_order (λ x. not (eq_by_cmp text_order name x)) ps ≡ qs → IsInOrder qs
-  where_key-in_order ps qs name h e = subst IsInOrder e (is_sorted-where_key text_order (λ x. not (eq_by_cmp text_order name x)) ps h)
+  where_key-in_order ps qs name h e = subst IsInOrder e
+      (is_sorted-where_key text_order (λ x. not (eq_by_cmp text_order name x)) ps h)
 
   pub map-where_key : (ps qs : List (List ℕ × X)) (name : List ℕ) → IsInOrder ps
-      → where_key text_order (λ x. not (eq_by_cmp text_order name x)) ps ≡ qs → map_of qs ≡ remove (map_of ps) name
+      → where_key text_order (λ x. not (eq_by_cmp text_order name x)) ps ≡ qs
+      → map_of qs ≡ remove (map_of ps) name
   map-where_key ps qs name h e = same_texts _ _ (λ q.
       get-from_sorted text_order qs q (where_key-in_order ps qs name h e)
       ∙ ap (find text_order q) (sym e)

@@ -21,8 +21,10 @@ coded_change = code_by (ℕ × (ℕ × (Option (List Pair) × Option (List Pair)
     (λ p. record { number = p.0; moment = p.1.0; old = p.1.1.0; new = p.1.1.1 }) (λ _. refl)
 
 abbrev pub coded_table : Coded Table
-coded_table = code_by (TableSchema × (Texts (List Pair) × List Change)) (coded× schema.the_row.coded (coded× coded_items (coded_list coded_change)))
-    (λ t. (t.description, (t.items, t.changes))) (λ p. record { description = p.0; items = p.1.0; changes = p.1.1 }) (λ _. refl)
+coded_table = code_by (TableSchema × (Texts (List Pair) × List Change))
+    (coded× schema.the_row.coded (coded× coded_items (coded_list coded_change)))
+    (λ t. (t.description, (t.items, t.changes)))
+    (λ p. record { description = p.0; items = p.1.0; changes = p.1.1 }) (λ _. refl)
 
 abbrev pub coded_tables : Coded (Texts Table)
 coded_tables = map.code (coded_list coded_ℕ) coded_table

@@ -1,5 +1,5 @@
 -- What a call that gives no answer tells, and what it leaves.
-use Rattle.std.specs.Prelude.{◌≡◌, ℕ, List, Some, None, Result, Ok, Err}
+use Rattle.std.specs.Prelude.{take, ◌≡◌, ℕ, List, Some, None, Result, Ok, Err}
 use Rattle.alt_machine.specs.Outcomes.{Wants, last_state, state_after}
 use Rattle.alt_machine.specs.State.{State}
 use Rattle.alt_machine.specs.Wanted.{lack_among}
@@ -9,19 +9,23 @@ use Rattle.alt_tables.specs.declared.faults.TableFault.TheVariants.{Spent, NoMem
 -- Below, `now` says for which states the tables stand after a call, and `s` is a state for which they stood before it.
 
 -- These writes are made: the tables stand for the state after the last of them, and none of them lacked a number or a family.
-pub record AreMade (now : State → Type 0) (wants : Wants) (s : State) (atoms : List State) : Type 0 where
+pub record AreMade (now : State → Type 0) (wants : Wants) (s : State)
+    (atoms : List State) : Type 0 where
   pub state : now (last_state s atoms)
   pub enough : lack_among wants s atoms ≡ None
 
 -- The writes broke off: where a number or a family can't be had, just before the one that lacks it, the first that does; and for want
--- of memory, which may come at any time, after some of them, from none to all.
+-- of memory, which may come at any time, after some of them, none of which lacked one.
 abbrev pub BreakOff : (State → Type 0) → Wants → State → List State → TableFault → Type 0
 BreakOff now wants s atoms (Spent number) =
-    (before : ℕ) × (lack_among wants s atoms ≡ Some (record { number = number; before = before })) × now (state_after before s atoms)
-BreakOff now wants s atoms NoMemory = (k : ℕ) × now (state_after k s atoms)
+    (before : ℕ) × (lack_among wants s atoms ≡ Some (record { number = number; before = before }))
+    × now (state_after before s atoms)
+BreakOff now wants s atoms NoMemory = (k : ℕ) × (lack_among wants s (take k atoms) ≡ None)
+    × now (state_after k s atoms)
 
 -- A call that makes these writes makes them all, or breaks off with the fault.
-abbrev pub Writes : {A : Type 0} → (State → Type 0) → Wants → State → List State → Result A TableFault → Type 0
+abbrev pub Writes : {A : Type 0} → (State → Type 0) → Wants → State → List State
+    → Result A TableFault → Type 0
 Writes now wants s atoms (Ok x) = AreMade now wants s atoms
 Writes now wants s atoms (Err fault) = BreakOff now wants s atoms fault
 

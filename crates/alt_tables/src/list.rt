@@ -83,7 +83,8 @@ impl TableList {
     /// The first table whose name comes after that one, None exactly where none does.
     pub(crate) fn after(&self, name: &str) -> Option<&TableEntry>
         ensures table { option_map (λ e. table_of e.now) result ≡ first_after name.now self.now }
-        ensures name { option_map (λ e. e.now.schema.name) result ≡ slice_get (names_after name.now self.now) 0 }
+        ensures name { option_map (λ e. e.now.schema.name) result
+            ≡ slice_get (names_after name.now self.now) 0 }
     {
         match seek(&self.entries, name) {
             Ok(i) => self.entries.get(i + 1),
@@ -127,7 +128,8 @@ impl TableList {
         item: Option<Item>,
     ) -> Result<(), NoMemory>
         ensures ok { (t : Table) → map.get self.old name.now ≡ Some t → OnOk result
-            (self.new ≡ map.insert self.old name.now (record t { items = with_item t.items place item })) }
+            (self.new ≡ map.insert self.old name.now
+            (record t { items = with_item t.items place item })) }
         ensures err { OnErr result (self.new ≡ self.old) }
     {
         match seek(&self.entries, name) {
@@ -139,7 +141,8 @@ impl TableList {
 
 /// Where the table of a name stands, or where it is to go.
 fn seek(entries: &Vec<TableEntry>, name: &str) -> Result<usize, usize>
-    requires { T (is_sorted text_order (each (λ e. (e.schema.name, table_of e)) entries.now.items)) }
+    requires { T (is_sorted text_order (each (λ e. (e.schema.name, table_of e))
+        entries.now.items)) }
     ensures within { IfOk result (λ i. i < length entries.now.items) }
     ensures named { IfOk result (HoldsAt (λ e. e.schema.name ≡ name.now) entries.now.items) }
     ensures goes { IfErr result (λ i. i ≤ length entries.now.items) }
@@ -168,7 +171,10 @@ fn write_at(
 ) -> Result<(), NoMemory>
     requires { i < vec_len entries.old }
     ensures ok { (d : Entry) → OnOk result (entries.new.items ≡ slice_set entries.old.items i
-        (record (slice_index_or entries.old.items i d) { items = with_item (slice_index_or entries.old.items i d).items place item })) }
+        (record (slice_index_or entries.old.items i d) {
+          items =
+              with_item (slice_index_or entries.old.items i d).items place item;
+        })) }
     ensures err { OnErr result (entries.new.items ≡ entries.old.items) }
 {
     match item {

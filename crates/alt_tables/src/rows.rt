@@ -1,7 +1,8 @@
 //! The items of tables: what stands at a place, and what is to stand there.
 
-ghost use Rattle.std.specs.Prelude.{◌≡◌, true, None, Some, IfOk, IfErr, IfSome, OnOk, option_map};
+ghost use Rattle.std.specs.Prelude.{◌≡◌, ◌↔◌, ℕ, true, None, Some, IsSome, IfOk, IfErr, IfSome, OnOk, List, option_map};
 ghost use Rattle.std.specs.FinMap as map;
+ghost use Rattle.alt_machine.specs.Keys.{place_of};
 ghost use Rattle.alt_machine.specs.Outcomes.{a_number};
 ghost use Rattle.alt_machine.specs.Same.{is_same};
 ghost use Rattle.alt_machine.specs.State.{State, Table};
@@ -13,6 +14,7 @@ ghost use Rattle.alt_tables.specs.Found.{IsFoundIn, number_taken};
 ghost use Rattle.alt_tables.specs.Stands.{Stands, KeepsCatalog, catalog_of, number_of};
 
 use crate::TableFault;
+use crate::place::place_of;
 use crate::tables::Tables;
 use alt_base::NoMemory;
 use alt_disk::Disk;
@@ -37,8 +39,10 @@ impl Tables {
     ) -> Result<Found, TableFault>
         requires there { map.contains_key (catalog_of self.old) table.now ≡ true }
         ensures place { IfOk result (λ found. found.place ≡ place) }
-        ensures item { (s : State) → Stands (D.state disk.old) self.old s → IfOk result (IsFoundIn s table.now) }
-        ensures stays { (s : State) → Stands (D.state disk.old) self.old s → Stands (D.state disk.new) self.new s }
+        ensures item { (s : State) → Stands (D.state disk.old) self.old s
+            → IfOk result (IsFoundIn s table.now) }
+        ensures stays { (s : State) → Stands (D.state disk.old) self.old s ↔ Stands
+            (D.state disk.new) self.new s }
         ensures catalog { KeepsCatalog self.old self.new }
         ensures cause { IfErr result IsReadFault }
         ensures disk { D.state disk.new ≡ D.state disk.old }
@@ -65,12 +69,18 @@ impl Tables {
         moment: u64,
     ) -> Result<Option<u64>, TableFault>
         requires there { map.contains_key (catalog_of self.old) table.now ≡ true }
-        requires found { (s : State) → Stands (D.state disk.old) self.old s → IsFoundIn s table.now found }
-        requires new { (d : TableSchema) → map.get (catalog_of self.old) table.now ≡ Some d → IfSome new (IsStored d found.place) }
-        ensures writes { (s : State) (t : Table) → Stands (D.state disk.old) self.old s → map.get s.tables table.now ≡ Some t
-            → Writes (Stands (D.state disk.new) self.new) a_number s (item_writes s moment table.now t found.place new) result }
-        ensures number { (s : State) (t : Table) → Stands (D.state disk.old) self.old s → map.get s.tables table.now ≡ Some t
-            → IfOk result (λ n. n ≡ number_taken (number_of self.old) (item_writes s moment table.now t found.place new)) }
+        requires found { (s : State) → Stands (D.state disk.old) self.old s
+            → IsFoundIn s table.now found }
+        requires new { (d : TableSchema) → map.get (catalog_of self.old) table.now ≡ Some d
+            → IfSome new (IsStored d found.place) }
+        ensures writes { (s : State) (t : Table) → Stands (D.state disk.old) self.old s
+            → map.get s.tables table.now ≡ Some t
+            → Writes (Stands (D.state disk.new) self.new) a_number s
+            (item_writes s moment table.now t found.place new) result }
+        ensures number { (s : State) (t : Table) → Stands (D.state disk.old) self.old s
+            → map.get s.tables table.now ≡ Some t
+            → IfOk result (λ n. n ≡ number_taken (number_of self.old)
+            (item_writes s moment table.now t found.place new)) }
         ensures disk { D.state disk.new ≡ D.state disk.old }
     {
         let _ = disk;
@@ -90,6 +100,100 @@ impl Tables {
         let number = self.number;
         self.number += 1;
         Ok(Some(number))
+    }
+}
+
+impl Tables {
+    /// The item of a key in a table that is there, `None` exactly where there is none.
+    pub fn item<D: Disk>(
+        &mut self,
+        disk: &mut D,
+        table: &str,
+        key: &Item,
+    ) -> Result<Option<Item>, TableFault>
+        requires there { map.contains_key (catalog_of self.old) table.now ≡ true }
+        requires key { (d : TableSchema) → map.get (catalog_of self.old) table.now ≡ Some d
+            → IsSome (place_of d key.now) }
+        ensures item { (s : State) (t : Table) (place : List ℕ)
+            → Stands (D.state disk.old) self.old s → map.get s.tables table.now ≡ Some t
+            → place_of t.description key.now ≡ Some place
+            → IfOk result (λ o. o ≡ map.get t.items place) }
+        ensures stays { (s : State) → Stands (D.state disk.old) self.old s ↔ Stands
+            (D.state disk.new) self.new s }
+        ensures catalog { KeepsCatalog self.old self.new }
+        ensures cause { IfErr result IsReadFault }
+        ensures disk { D.state disk.new ≡ D.state disk.old }
+    {
+        let place = match self.place_in(table, key) {
+            Ok(place) => place,
+            Err(fault) => return Err(fault),
+        };
+        match self.find(disk, table, place) {
+            Ok(found) => Ok(found.item),
+            Err(fault) => Err(fault),
+        }
+    }
+
+    /// Leaves `new` as the item of a key in a table that is there, or none. `old` is the item that is there. The answer is the number
+    /// that the write took, and `None` exactly where there was nothing to write.
+    pub fn write_item<D: Disk>(
+        &mut self,
+        disk: &mut D,
+        table: &str,
+        key: &Item,
+        old: Option<&Item>,
+        new: Option<&Item>,
+        moment: u64,
+    ) -> Result<Option<u64>, TableFault>
+        requires there { map.contains_key (catalog_of self.old) table.now ≡ true }
+        requires key { (d : TableSchema) → map.get (catalog_of self.old) table.now ≡ Some d
+            → IsSome (place_of d key.now) }
+        requires old { (s : State) (t : Table) (place : List ℕ)
+            → Stands (D.state disk.old) self.old s → map.get s.tables table.now ≡ Some t
+            → place_of t.description key.now ≡ Some place
+            → option_map (λ i. i.now) old ≡ map.get t.items place }
+        requires new { (d : TableSchema) (place : List ℕ)
+            → map.get (catalog_of self.old) table.now ≡ Some d
+            → place_of d key.now ≡ Some place
+            → IfSome (option_map (λ i. i.now) new) (IsStored d place) }
+        ensures writes { (s : State) (t : Table) (place : List ℕ)
+            → Stands (D.state disk.old) self.old s → map.get s.tables table.now ≡ Some t
+            → place_of t.description key.now ≡ Some place
+            → Writes (Stands (D.state disk.new) self.new) a_number s
+            (item_writes s moment table.now t place (option_map (λ i. i.now) new.entry)) result }
+        ensures disk { D.state disk.new ≡ D.state disk.old }
+    {
+        let place = match self.place_in(table, key) {
+            Ok(place) => place,
+            Err(fault) => return Err(fault),
+        };
+        let Ok(item) = copy_of(old) else {
+            return Err(TableFault::NoMemory);
+        };
+        let Ok(new) = copy_of(new) else {
+            return Err(TableFault::NoMemory);
+        };
+        self.write(disk, table, Found { place, item }, new, moment)
+    }
+
+    /// The place of a key in a table that is there.
+    fn place_in(&self, table: &str, key: &Item) -> Result<Bytes, TableFault>
+        requires there { map.contains_key (catalog_of self.now) table.now ≡ true }
+        requires key { (d : TableSchema) → map.get (catalog_of self.now) table.now ≡ Some d
+            → IsSome (place_of d key.now) }
+        ensures place { IfOk result (λ place. (d : TableSchema)
+            → map.get (catalog_of self.now) table.now ≡ Some d
+            → place_of d key.now ≡ Some place) }
+        ensures cause { IfErr result (λ fault. fault ≡ TableFault.NoMemory) }
+    {
+        let Some(schema) = self.table(table) else {
+            unreachable!();
+        };
+        match place_of(self.alloc, schema, key) {
+            Ok(Some(place)) => Ok(place),
+            Ok(None) => unreachable!(),
+            Err(_) => Err(TableFault::NoMemory),
+        }
     }
 }
 

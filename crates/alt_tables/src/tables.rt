@@ -57,8 +57,10 @@ impl Tables {
     /// The description of the first table whose name comes after that one in the order of their bytes, `None` exactly where
     /// there is none. It stands under its own name.
     pub fn table_after(&self, name: &str) -> Option<&TableSchema>
-        ensures table { option_map (λ d. d.now) result ≡ first_after name.now (catalog_of self.now) }
-        ensures name { option_map (λ d. d.now.name) result ≡ slice_get (names_after name.now (catalog_of self.now)) 0 }
+        ensures table { option_map (λ d. d.now) result
+            ≡ first_after name.now (catalog_of self.now) }
+        ensures name { option_map (λ d. d.now.name) result
+            ≡ slice_get (names_after name.now (catalog_of self.now)) 0 }
     {
         match self.list.after(name) {
             Some(entry) => Some(&entry.schema),
@@ -95,9 +97,11 @@ impl Tables {
         requires made { IsMade schema }
         requires new { IsNew schema }
         requires number { schema.number ≡ number_of self.old }
-        requires family { table_lack (number_of self.old) (family_of self.old) ≡ None → schema.family ≡ family_of self.old }
+        requires family { table_lack (number_of self.old) (family_of self.old) ≡ None
+            → schema.family ≡ family_of self.old }
         ensures writes { (s : State) → Stands (D.state disk.old) self.old s
-            → Writes (Stands (D.state disk.new) self.new) a_table s (with_table s schema ∷ []) result }
+            → Writes (Stands (D.state disk.new) self.new) a_table s
+            (with_table s schema ∷ []) result }
         ensures disk { D.state disk.new ≡ D.state disk.old }
     {
         let _ = disk;
@@ -125,7 +129,8 @@ impl Tables {
     pub fn drop_table<D: Disk>(&mut self, disk: &mut D, name: &str) -> Result<(), TableFault>
         requires there { map.contains_key (catalog_of self.old) name.now ≡ true }
         ensures writes { (s : State) → Stands (D.state disk.old) self.old s
-            → Writes (Stands (D.state disk.new) self.new) a_number s (without_table s name.now ∷ []) result }
+            → Writes (Stands (D.state disk.new) self.new) a_number s
+            (without_table s name.now ∷ []) result }
         ensures disk { D.state disk.new ≡ D.state disk.old }
     {
         let _ = disk;

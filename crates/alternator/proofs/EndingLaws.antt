@@ -1,19 +1,20 @@
 -- A note changes nothing that a run has done.
-use Rattle.std.proofs.Common.{◌≡◌, ◌≤◌, ◌⊎◌, inl, inr, ℕ, List, [], Option, Some, None, refl, sym, ap, subst, ◌∙◌, arith}
+use Rattle.std.proofs.Common.{◌≡◌, ◌⊎◌, inl, inr, ℕ, List, [], Option, Some, None, refl, sym, subst, ◌∙◌}
 use Rattle.alt_base.specs.Counts.{Rose}
 use Rattle.alt_disk.specs.Disk.{DiskState}
 use Rattle.alt_machine.specs.State.{start}
 use Rattle.alt_shell.specs.Calls.{Aside}
 use Rattle.alt_shell.specs.Log.{Log, Grows, moments_of}
 use Rattle.alt_shell.proofs.Telling.{Grows-then}
-use Rattle.alternator.specs.Endings.{status_of, HasDone, Untouched}
-use Rattle.alternator.specs.Runs.{Calls, Breaks, Answers, AnswersSome, asked_later}
+use Rattle.alternator.specs.Endings.{status_of, HasDone}
+use Rattle.alternator.specs.Runs.{Calls, Answers, AnswersSome}
 use Rattle.alternator.specs.declared.ending.Ending.{Ending}
 use Rattle.alternator.specs.declared.ending.Ending.TheVariants.{Whole, Words, Device, Memory, Spent}
 use Rattle.alternator.proofs.Serving.{calls_quiet, calls_as}
 
 -- whatever the cause was
-pub some_answers : (number : Option ℕ) (es : Log) (ms : List ℕ) → AnswersSome number start es ms → AnswersSome None start es ms
+pub some_answers : (number : Option ℕ) (es : Log) (ms : List ℕ) → AnswersSome number start es ms
+    → AnswersSome None start es ms
 some_answers number es ms x = record {
   breaks = record {
     done = x.breaks.done;
@@ -30,7 +31,8 @@ some_answers number es ms x = record {
   said = x.said;
 }
 
-module _ (a b c : DiskState) (g : Grows b.beside c.beside []) (m : moments_of c.beside ≡ moments_of b.beside) (aside : Aside b c) where
+module _ (a b c : DiskState) (g : Grows b.beside c.beside [])
+    (m : moments_of c.beside ≡ moments_of b.beside) (aside : Aside b c) where
   -- what was done is still done behind the note
   pub still_done : (ending : Ending) → HasDone ending a b → HasDone ending a c
   still_done Whole h = calls_quiet a.beside b.beside c.beside h g m
@@ -40,17 +42,23 @@ module _ (a b c : DiskState) (g : Grows b.beside c.beside []) (m : moments_of c.
     silent = Grows-then a.beside b.beside c.beside [] [] h.silent g;
     unasked = m ∙ h.unasked;
   }
-  still_done Device h = (subst (Rose a.faults) (sym aside.faults) h.0, calls_quiet a.beside b.beside c.beside h.1 g m)
+  still_done Device h = (
+    subst (Rose a.faults) (sym aside.faults) h.0,
+    calls_quiet a.beside b.beside c.beside h.1 g m,
+  )
   still_done Memory h = calls_quiet a.beside b.beside c.beside h g m
   still_done (Spent n) h = calls_quiet a.beside b.beside c.beside h g m
 
 -- a run whose numbers are spent has done what one does whose memory was refused
 pub spent_as_memory : (a b : DiskState) (n : ℕ) → HasDone (Spent n) a b → HasDone Memory a b
-spent_as_memory a b n h = calls_as a.beside b.beside {P = AnswersSome (Some n) start} {Q = AnswersSome None start} (some_answers (Some n)) h
+spent_as_memory a b n h = calls_as a.beside b.beside {P = AnswersSome (Some n) start} {Q =
+    AnswersSome None start} (some_answers (Some n)) h
 
 -- with the ending that was noted
-pub noted_done : (a b c : DiskState) (ending noted : Ending) → (noted ≡ ending) ⊎ ((noted ≡ Memory) × ((n : ℕ) × (ending ≡ Spent n)))
-    → Grows b.beside c.beside [] → moments_of c.beside ≡ moments_of b.beside → Aside b c → HasDone ending a b → HasDone noted a c
+pub noted_done : (a b c : DiskState) (ending noted : Ending)
+    → (noted ≡ ending) ⊎ ((noted ≡ Memory) × ((n : ℕ) × (ending ≡ Spent n)))
+    → Grows b.beside c.beside [] → moments_of c.beside ≡ moments_of b.beside → Aside b c
+    → HasDone ending a b → HasDone noted a c
 noted_done a b c ending noted (inl same) g m aside h =
     subst (λ (e : Ending). HasDone e a c) (sym same) (still_done a b c g m aside ending h)
 noted_done a b c ending noted (inr spent) g m aside h =
@@ -67,7 +75,8 @@ noted_words ending noted (inl same) e = sym same ∙ e
 noted_words ending noted (inr spent) e = absurd (let f : ⊥ = cc in f)
 
 -- a run whose words are right ends whole, or a device failed, or memory was refused, or numbers are spent
-pub completes : (a b : DiskState) (ending : Ending) (status : ℕ) → status ≡ status_of ending → (ending ≡ Words → ⊥) → HasDone ending a b
+pub completes : (a b : DiskState) (ending : Ending) (status : ℕ) → status ≡ status_of ending
+    → (ending ≡ Words → ⊥) → HasDone ending a b
     → (Rose a.faults b.faults → ⊥)
     → ((status ≡ 0) × Calls a.beside b.beside (Answers start)) ⊎ (status ≡ 5) ⊎ (status ≡ 6)
 completes a b Whole status e right h well = inl (e, h)

@@ -21,13 +21,15 @@ pub at_none : {X : Type 0} (o : Option X) (P : Type 0) → o ≡ None → IfNone
 at_none {X} o P e h = subst (λ (q : Option X). IfNone q P) e h
 
 -- These calls served the lines in front of those that the reader has now, from each state for which the tables stood.
-pub record Hands (a : DiskState) (t0 : Tables) (b : DiskState) (t1 : Tables) (u v : Unread) : Type 0 where
+pub record Hands (a : DiskState) (t0 : Tables) (b : DiskState) (t1 : Tables)
+    (u v : Unread) : Type 0 where
   pub done : List Line
   pub serves : (s : State) → Stands a t0 s → Reaches a b t1 (ServesAtHand s (map asked_of done))
   pub now : lines_now u ≡ done ++ lines_now v
   pub most : v.most ≡ u.most
   pub ended : v.ended ≡ u.ended
-  pub later : u.ended ≡ false → (more : List ℕ) (ended : Bool) → lines_later u more ended ≡ done ++ lines_later v more ended
+  pub later : u.ended ≡ false → (more : List ℕ) (ended : Bool)
+      → lines_later u more ended ≡ done ++ lines_later v more ended
 
 -- at first none
 pub hands_none : (a : DiskState) (t0 : Tables) (u : Unread) → Hands a t0 a t0 u u
@@ -36,7 +38,8 @@ hands_none a t0 u = record {
   serves = λ s stands. record {
     to = s;
     stands = stands;
-    calls = calls_none a.beside {P = ServesAtHand s [] s} (record { serves = serves_none s; rests = record { silent = refl; goes_on = refl } });
+    calls = calls_none a.beside {P = ServesAtHand s [] s}
+        (record { serves = serves_none s; rests = record { silent = refl; goes_on = refl } });
   };
   now = refl;
   most = refl;
@@ -47,7 +50,8 @@ hands_none a t0 u = record {
 module _ (a : DiskState) (t0 : Tables) (b : DiskState) (t1 : Tables) (u v w : Unread) (line : Line)
     (p : Hands a t0 b t1 u v) (takes : TakesLine line v w) where
   -- one line more
-  pub hands_line : (c : DiskState) (t2 : Tables) → ((s : State) → Stands b t1 s → Reaches b c t2 (ServesAtHand s (asked_of line ∷ [])))
+  pub hands_line : (c : DiskState) (t2 : Tables)
+      → ((s : State) → Stands b t1 s → Reaches b c t2 (ServesAtHand s (asked_of line ∷ [])))
       → Hands a t0 c t2 u w
   hands_line c t2 go = record {
     done = p.done ++ line ∷ [];
@@ -57,17 +61,21 @@ module _ (a : DiskState) (t0 : Tables) (b : DiskState) (t1 : Tables) (u v w : Un
         record {
           to = q.to;
           stands = q.stands;
-          calls = subst (λ (ls : List Asked). Calls a.beside c.beside (ServesAtHand s ls q.to)) (sym (map-append asked_of p.done (line ∷ [])))
+          calls = subst (λ (ls : List Asked). Calls a.beside c.beside (ServesAtHand s ls q.to))
+              (sym (map-append asked_of p.done (line ∷ [])))
               (calls_then a.beside b.beside c.beside
-              {P = ServesAtHand s (map asked_of p.done) front.to} {Q = ServesAtHand front.to (asked_of line ∷ []) q.to}
+              {P = ServesAtHand s (map asked_of p.done) front.to} {Q =
+              ServesAtHand front.to (asked_of line ∷ []) q.to}
               {R = ServesAtHand s (map asked_of p.done ++ asked_of line ∷ []) q.to}
               (λ es fs ms ns x y. record {
-                serves = serves_then s front.to q.to (map asked_of p.done) (asked_of line ∷ []) es fs ms ns x.serves y.serves;
+                serves = serves_then s front.to q.to (map asked_of p.done)
+                    (asked_of line ∷ []) es fs ms ns x.serves y.serves;
                 rests = rests_then es fs x.rests y.rests;
               })
               front.calls q.calls);
         };
-    now = p.now ∙ ap (λ (ls : List Line). p.done ++ ls) takes.now ∙ sym (append_assoc p.done (line ∷ []) (lines_now w));
+    now = p.now ∙ ap (λ (ls : List Line). p.done ++ ls) takes.now
+        ∙ sym (append_assoc p.done (line ∷ []) (lines_now w));
     most = takes.most ∙ p.most;
     ended = takes.ended ∙ p.ended;
     later = λ unended more ended. p.later unended more ended
@@ -76,20 +84,25 @@ module _ (a : DiskState) (t0 : Tables) (b : DiskState) (t1 : Tables) (u v w : Un
   }
 
   all_lines : asked_now u ≡ map asked_of p.done ++ (asked_of line ∷ asked_now w)
-  all_lines = ap (map asked_of) (p.now ∙ ap (λ (ls : List Line). p.done ++ ls) takes.now) ∙ map-append asked_of p.done (line ∷ lines_now w)
+  all_lines = ap (map asked_of) (p.now ∙ ap (λ (ls : List Line). p.done ++ ls) takes.now)
+      ∙ map-append asked_of p.done (line ∷ lines_now w)
 
   -- the next line broke off
   pub hands_break : (c : DiskState) (number : Option ℕ) (s : State) (stands : Stands a t0 s)
-      → ((r : State) → Stands b t1 r → Calls b.beside c.beside (BreaksAtHand number r (asked_of line ∷ [])))
+      → ((r : State) → Stands b t1 r → Calls b.beside c.beside
+      (BreaksAtHand number r (asked_of line ∷ [])))
       → Calls a.beside c.beside (BreaksAtHand number s (asked_now u))
   hands_break c number s stands go =
       let front = p.serves s stands in
-      subst (λ (ls : List Asked). Calls a.beside c.beside (BreaksAtHand number s ls)) (sym all_lines)
+      subst (λ (ls : List Asked). Calls a.beside c.beside (BreaksAtHand number s ls))
+      (sym all_lines)
       (calls_then a.beside b.beside c.beside
-      {P = ServesAtHand s (map asked_of p.done) front.to} {Q = BreaksAtHand number front.to (asked_of line ∷ [])}
+      {P = ServesAtHand s (map asked_of p.done) front.to} {Q =
+      BreaksAtHand number front.to (asked_of line ∷ [])}
       {R = BreaksAtHand number s (map asked_of p.done ++ (asked_of line ∷ asked_now w))}
       (λ es fs ms ns x y. record {
-        breaks = serves_break number s front.to (map asked_of p.done) (asked_of line ∷ asked_now w) es fs ms ns x.serves
+        breaks = serves_break number s front.to (map asked_of p.done)
+            (asked_of line ∷ asked_now w) es fs ms ns x.serves
             (breaks_more number front.to (asked_of line ∷ []) (asked_now w) fs ns y.breaks);
         rests = rests_then es fs x.rests y.rests;
       })
@@ -99,9 +112,11 @@ module _ (a : DiskState) (t0 : Tables) (b : DiskState) (t1 : Tables) (u v w : Un
   pub fewer : length (lines_now w) < length (lines_now v)
   fewer = let e = ap length takes.now in omega (arith, e)
 
-module _ (a : DiskState) (t0 : Tables) (b : DiskState) (t1 : Tables) (u v : Unread) (p : Hands a t0 b t1 u v) where
+module _ (a : DiskState) (t0 : Tables) (b : DiskState) (t1 : Tables) (u v : Unread)
+    (p : Hands a t0 b t1 u v) where
   -- memory was refused for the next line
-  pub hands_memory : (s : State) → Stands a t0 s → Calls a.beside b.beside (BreaksAtHand None s (asked_now u))
+  pub hands_memory : (s : State) → Stands a t0 s
+      → Calls a.beside b.beside (BreaksAtHand None s (asked_now u))
   hands_memory s stands =
       let front = p.serves s stands in
       subst (λ (ls : List Asked). Calls a.beside b.beside (BreaksAtHand None s ls))
@@ -116,11 +131,13 @@ module _ (a : DiskState) (t0 : Tables) (b : DiskState) (t1 : Tables) (u v : Unre
 
   module _ (w : Unread) (none : HasNone v w) where
     served_lines : map asked_of p.done ≡ asked_now u
-    served_lines = sym (ap (map asked_of) (p.now ∙ ap (λ (ls : List Line). p.done ++ ls) none.none ∙ append-nil p.done))
+    served_lines = sym (ap (map asked_of) (p.now ∙ ap (λ (ls : List Line). p.done ++ ls) none.none
+        ∙ append-nil p.done))
 
     -- no line is left
     pub hands_all : (s : State) → Stands a t0 s → Reaches a b t1 (ServesAtHand s (asked_now u))
-    hands_all s stands = subst (λ (ls : List Asked). Reaches a b t1 (ServesAtHand s ls)) served_lines (p.serves s stands)
+    hands_all s stands = subst (λ (ls : List Asked). Reaches a b t1 (ServesAtHand s ls))
+        served_lines (p.serves s stands)
 
     nothing_more : lines_now w ≡ []
     nothing_more =
@@ -137,7 +154,8 @@ module _ (a : DiskState) (t0 : Tables) (b : DiskState) (t1 : Tables) (u v : Unre
       most = none.most ∙ p.most;
       ended = none.ended ∙ p.ended;
       later = λ unended more ended.
-          ap (map asked_of) (p.later unended more ended ∙ ap (λ (ls : List Line). p.done ++ ls) (sym (none.later more ended)))
+          ap (map asked_of) (p.later unended more ended
+          ∙ ap (λ (ls : List Line). p.done ++ ls) (sym (none.later more ended)))
           ∙ map-append asked_of p.done (lines_later w more ended)
           ∙ ap (λ (ls : List Asked). ls ++ asked_later w more ended) served_lines;
     }

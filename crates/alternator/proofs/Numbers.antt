@@ -1,5 +1,5 @@
 -- Numbers that stop at the end of 64 bits.
-use Rattle.std.proofs.Common.{◌≡◌, ◌≤◌, ◌+◌, ◌-◌, ◌*◌, ◌^◌, min, ℕ, List, ◌⊎◌, inl, inr, [], ◌∷◌, Bool, true, false, cond, Option, Some, None, option_map, refl, sym, ap, ◌∙◌, arith}
+use Rattle.std.proofs.Common.{◌≡◌, ◌≤◌, ◌+◌, ◌-◌, ◌*◌, ◌^◌, min, ℕ, List, inl, inr, [], ◌∷◌, true, false, cond, Option, Some, None, option_map, refl, sym, ap, ◌∙◌, arith}
 use Rattle.std.proofs.Common.{◌<◌, suc, length, drop, get_or, drop-cons, add-one}
 use Rattle.std.proofs.lemmas.List.{drop_all}
 use Rattle.std.specs.Char.{is_ascii_digit}
@@ -14,26 +14,34 @@ step : (n d : ℕ) → min (10 * min n (2 ^ 64 - 1) + d) (2 ^ 64 - 1) ≡ min (1
 step n d = omega arith
 
 -- the digits that follow see no more than the capped number
-pub capped_digits : (ds : List ℕ) (m n : ℕ) → min m (2 ^ 64 - 1) ≡ min n (2 ^ 64 - 1) → capped (digits_from m ds) ≡ capped (digits_from n ds)
+pub capped_digits : (ds : List ℕ) (m n : ℕ) → min m (2 ^ 64 - 1) ≡ min n (2 ^ 64 - 1)
+    → capped (digits_from m ds) ≡ capped (digits_from n ds)
 capped_digits [] m n e = ap Some e
 capped_digits (d ∷ ds) m n e =
-    let next : min (10 * m + (d - 48)) (2 ^ 64 - 1) ≡ min (10 * n + (d - 48)) (2 ^ 64 - 1) = omega arith in
-    elim (is_ascii_digit d) as (λ b. capped (cond b (digits_from (10 * m + (d - 48)) ds) None) ≡ capped (cond b (digits_from (10 * n + (d - 48)) ds) None)) [
+    let next : min (10 * m + (d - 48)) (2 ^ 64 - 1) ≡ min (10 * n + (d - 48)) (2 ^ 64 - 1) =
+    omega arith in
+    elim (is_ascii_digit d) as (λ b. capped (cond b (digits_from (10 * m + (d - 48)) ds) None)
+    ≡ capped (cond b (digits_from (10 * n + (d - 48)) ds) None)) [
       | true ↦ capped_digits ds (10 * m + (d - 48)) (10 * n + (d - 48)) next
       | false ↦ refl
     ]
 
 -- one digit more
-pub digit_more : (word : List ℕ) (i n x r : ℕ) → i < length word → x ≡ get_or word i 0 → is_ascii_digit x ≡ true → min r (2 ^ 64 - 1) ≡ min (10 * n + (x - 48)) (2 ^ 64 - 1)
+pub digit_more : (word : List ℕ) (i n x r : ℕ) → i < length word → x ≡ get_or word i 0
+    → is_ascii_digit x ≡ true → min r (2 ^ 64 - 1) ≡ min (10 * n + (x - 48)) (2 ^ 64 - 1)
     → capped (digits_from r (drop (i + 1) word)) ≡ capped (digits_from n (drop i word))
 digit_more word i n x r within is digit e =
-    let parts : drop i word ≡ x ∷ drop (i + 1) word = drop-cons word i 0 within ∙ ap (λ y. y ∷ drop (suc i) word) (sym is) ∙ ap (λ j. x ∷ drop j word) (sym (add-one i)) in
+    let parts : drop i word ≡ x ∷ drop (i + 1) word =
+    drop-cons word i 0 within ∙ ap (λ y. y ∷ drop (suc i) word) (sym is)
+    ∙ ap (λ j. x ∷ drop j word) (sym (add-one i)) in
     capped_digits (drop (i + 1) word) r (10 * n + (x - 48)) e
-    ∙ ap (λ b. capped (cond b (digits_from (10 * n + (x - 48)) (drop (i + 1) word)) None)) (sym digit)
+    ∙ ap (λ b. capped (cond b (digits_from (10 * n + (x - 48)) (drop (i + 1) word)) None))
+    (sym digit)
     ∙ ap (λ ds. capped (digits_from n ds)) (sym parts)
 
 -- no digit more
-pub digits_over : (word : List ℕ) (i n : ℕ) → length word ≤ i → n ≤ 2 ^ 64 - 1 → capped (digits_from n (drop i word)) ≡ Some n
+pub digits_over : (word : List ℕ) (i n : ℕ) → length word ≤ i → n ≤ 2 ^ 64 - 1
+    → capped (digits_from n (drop i word)) ≡ Some n
 digits_over word i n over fits =
     let none : drop i word ≡ [] = drop_all i word over in
     let small : min n (2 ^ 64 - 1) ≡ n = omega arith in
@@ -42,10 +50,13 @@ digits_over word i n over fits =
 small_capped : (n : ℕ) → small_port (min n (2 ^ 64 - 1)) ≡ small_port n
 small_capped n = elim (cases_lt 65535 n) [
   | inr small ↦ ap small_port (let e : min n (2 ^ 64 - 1) ≡ n = omega arith in e)
-  | inl large ↦ ap (λ b. cond b (Some (min n (2 ^ 64 - 1))) None) (lt-leb (min n (2 ^ 64 - 1)) 65535 (omega arith)) ∙ sym (ap (λ b. cond b (Some n) None) (lt-leb n 65535 large))
+  | inl large ↦ ap (λ b. cond b (Some (min n (2 ^ 64 - 1))) None)
+      (lt-leb (min n (2 ^ 64 - 1)) 65535 (omega arith))
+      ∙ sym (ap (λ b. cond b (Some n) None) (lt-leb n 65535 large))
 ]
 
 -- a number that stops at the end of 64 bits is a port exactly where the number is
-pub port_capped : (o p : Option ℕ) → p ≡ capped o → option_and_then small_port p ≡ option_and_then small_port o
+pub port_capped : (o p : Option ℕ) → p ≡ capped o
+    → option_and_then small_port p ≡ option_and_then small_port o
 port_capped None p e = ap (option_and_then small_port) e
 port_capped (Some n) p e = ap (option_and_then small_port) e ∙ small_capped n

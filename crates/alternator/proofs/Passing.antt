@@ -10,4 +10,8 @@ passes_none s = record { keeps = keeps-none s; notes = refl }
 
 -- two stretches
 pub passes_then : (a b c : DiskState) → Passes a b → Passes b c → Passes a c
-passes_then a b c p q = record { keeps = keeps-then a b c p.keeps q.keeps; notes = q.notes ∙ p.notes }
+passes_then a b c p q = record {
+  keeps = keeps-then a b c p.keeps q.keeps;
+  notes =
+      q.notes ∙ p.notes;
+}

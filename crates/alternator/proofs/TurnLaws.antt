@@ -1,5 +1,5 @@
 -- The turns of lines, one list of lines after another.
-use Rattle.std.proofs.Common.{◌≡◌, ◌≤◌, ◌+◌, ℕ, suc, List, [], ◌∷◌, ◌++◌, length, Bool, true, cond, Option, Some, None, refl, sym, ap, ◌∙◌, append_assoc, append-nil, arith, length-append, drop}
+use Rattle.std.proofs.Common.{◌≡◌, ◌≤◌, ◌+◌, ℕ, suc, List, [], ◌∷◌, ◌++◌, length, cond, Option, Some, None, refl, ap, ◌∙◌, arith, length-append, drop}
 use Rattle.std.proofs.lemmas.Bool.{le-leb}
 use Rattle.std.proofs.lemmas.Grind.{flat_map-append}
 use Rattle.std.proofs.Math.Seq.{drop-append_seam}
@@ -53,7 +53,9 @@ pub answered-all : (ts : List Turn) → answered ts (text_of ts) ≡ ts
 answered-all [] = refl
 answered-all (t ∷ ts) =
     let rest = text_of ts in
-    let fits : length t.text ≤ length (t.text ++ rest) = let k = length-append t.text rest in omega (arith, k) in
-    ap (λ b. cond b (t ∷ answered ts (drop (length t.text) (t.text ++ rest))) []) (le-leb (length t.text) (length (t.text ++ rest)) fits)
+    let fits : length t.text ≤ length (t.text ++ rest) = let k = length-append t.text rest in
+    omega (arith, k) in
+    ap (λ b. cond b (t ∷ answered ts (drop (length t.text) (t.text ++ rest))) [])
+    (le-leb (length t.text) (length (t.text ++ rest)) fits)
     ∙ ap (λ (bytes : List ℕ). t ∷ answered ts bytes) (drop-append_seam t.text rest)
     ∙ ap (λ us. t ∷ us) (answered-all ts)

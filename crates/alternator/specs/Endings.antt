@@ -36,7 +36,8 @@ pub record Untouched (old new : DiskState) : Type 0 where
 abbrev pub HasDone : Ending → DiskState → DiskState → Type 0
 HasDone Whole old new = Calls old.beside new.beside (Answers start)
 HasDone Words old new = Untouched old new
-HasDone Device old new = Rose old.faults new.faults × Calls old.beside new.beside (AnswersSome None start)
+HasDone Device old new = Rose old.faults new.faults
+    × Calls old.beside new.beside (AnswersSome None start)
 HasDone Memory old new = Calls old.beside new.beside (AnswersSome None start)
 HasDone (Spent number) old new = Calls old.beside new.beside (AnswersSome (Some number) start)
 

@@ -20,8 +20,10 @@ ended_by t entries = ended (until t entries)
 abbrev pub answered : List Turn → List ℕ → List Turn
 answered [] bytes = []
 answered (t ∷ ts) bytes =
-    if nat_le (length t.text) (length bytes) then t ∷ answered ts (drop (length t.text) bytes) else []
+    if nat_le (length t.text) (length bytes) then t ∷ answered ts
+    (drop (length t.text) bytes) else []
 
 -- the turns that were answered by a moment, of a run from a state
 abbrev pub answered_by : State → ℕ → Log → List ℕ → List Turn
-answered_by s t entries told = answered (turns s (asks (ended_by t entries) (taken_by t entries)) told) (said_by t entries)
+answered_by s t entries told = answered (turns s
+    (asks (ended_by t entries) (taken_by t entries)) told) (said_by t entries)

@@ -26,7 +26,8 @@ pub record Passes (old new : DiskState) : Type 0 where
   pub notes : notes_of new.beside ≡ notes_of old.beside
 
 -- The state for which the tables stand now, and the calls by which it was reached, which have P of it.
-pub record Reaches (old new : DiskState) (tables : Tables) (P : State → Log → List ℕ → Type 0) : Type 0 where
+pub record Reaches (old new : DiskState) (tables : Tables)
+    (P : State → Log → List ℕ → Type 0) : Type 0 where
   pub to : State
   pub stands : Stands new tables to
   pub calls : Calls old.beside new.beside (P to)
@@ -34,7 +35,8 @@ pub record Reaches (old new : DiskState) (tables : Tables) (P : State → Log �
 -- ---- lines that were at hand
 
 -- Of these lines each was answered, at a moment of its own, and had the numbers that it wanted.
-pub record Serves (s : State) (ls : List Asked) (t : State) (entries : Log) (told : List ℕ) : Type 0 where
+pub record Serves (s : State) (ls : List Asked) (t : State) (entries : Log)
+    (told : List ℕ) : Type 0 where
   pub said : said_in entries ≡ text_of (turns s ls told)
   pub state : t ≡ after s (turns s ls told)
   pub count : length told ≡ requests ls
@@ -42,7 +44,8 @@ pub record Serves (s : State) (ls : List Asked) (t : State) (entries : Log) (tol
 
 -- Serving these lines broke off. Those that were done were answered, at most one more was begun, and just these had a moment
 -- each. Where that is for want of a number, it is the first that one of them wanted.
-pub record Breaks (number : Option ℕ) (s : State) (ls : List Asked) (entries : Log) (told : List ℕ) : Type 0 where
+pub record Breaks (number : Option ℕ) (s : State) (ls : List Asked) (entries : Log)
+    (told : List ℕ) : Type 0 where
   pub done : List Asked
   pub begun : List Asked
   pub rest : List Asked
@@ -78,20 +81,24 @@ pub record HandsOut (old new : Unread) : Type 0 where
       → asked_later old more ended ≡ asked_now old ++ asked_later new more ended
 
 -- lines at hand were served, and nothing was taken
-pub record ServesAtHand (s : State) (ls : List Asked) (t : State) (entries : Log) (told : List ℕ) : Type 0 where
+pub record ServesAtHand (s : State) (ls : List Asked) (t : State) (entries : Log)
+    (told : List ℕ) : Type 0 where
   pub serves : Serves s ls t entries told
   pub rests : Rests entries
 
 -- that broke off
-pub record BreaksAtHand (number : Option ℕ) (s : State) (ls : List Asked) (entries : Log) (told : List ℕ) : Type 0 where
+pub record BreaksAtHand (number : Option ℕ) (s : State) (ls : List Asked) (entries : Log)
+    (told : List ℕ) : Type 0 where
   pub breaks : Breaks number s ls entries told
   pub rests : Rests entries
 
 -- Some of the input was taken, which has not ended, and all lines that were whole then were served.
-pub record Goes (s : State) (u : Unread) (t : State) (v : Unread) (entries : Log) (told : List ℕ) : Type 0 where
+pub record Goes (s : State) (u : Unread) (t : State) (v : Unread) (entries : Log)
+    (told : List ℕ) : Type 0 where
   pub done : List Asked
   pub serves : Serves s done t entries told
-  pub lines : (more : List ℕ) (ended : Bool) → asked_later u (taken entries ++ more) ended ≡ done ++ asked_later v more ended
+  pub lines : (more : List ℕ) (ended : Bool) → asked_later u (taken entries ++ more) ended
+      ≡ done ++ asked_later v more ended
   pub goes_on : ended entries ≡ false
 
 -- The rest of the input was taken, and all its lines were served.
@@ -100,7 +107,8 @@ pub record Ends (s : State) (u : Unread) (t : State) (entries : Log) (told : Lis
   pub at_end : ended entries ≡ true
 
 -- That broke off among the lines that were whole.
-pub record GoesSome (number : Option ℕ) (s : State) (u : Unread) (entries : Log) (told : List ℕ) : Type 0 where
+pub record GoesSome (number : Option ℕ) (s : State) (u : Unread) (entries : Log)
+    (told : List ℕ) : Type 0 where
   pub breaks : Breaks number s (asked_later u (taken entries) (ended entries)) entries told
 
 -- more was taken, or the end was
@@ -116,10 +124,12 @@ pub record Answers (s : State) (entries : Log) (told : List ℕ) : Type 0 where
   pub at_end : ended entries ≡ true
   pub said : said_in entries ≡ out s true (taken entries) told
   pub count : length told ≡ requests (asks true (taken entries))
-  pub every : answered (turns s (asks true (taken entries)) told) (said_in entries) ≡ turns s (asks true (taken entries)) told
+  pub every : answered (turns s (asks true (taken entries)) told) (said_in entries)
+      ≡ turns s (asks true (taken entries)) told
   pub enough : wanted (turns s (asks true (taken entries)) told) ≡ None
 
 -- It broke off among the lines that were whole in what was taken. What was said is a prefix of their Out.
-pub record AnswersSome (number : Option ℕ) (s : State) (entries : Log) (told : List ℕ) : Type 0 where
+pub record AnswersSome (number : Option ℕ) (s : State) (entries : Log)
+    (told : List ℕ) : Type 0 where
   pub breaks : Breaks number s (asks (ended entries) (taken entries)) entries told
   pub said : IsPrefix (said_in entries) (out s (ended entries) (taken entries) told)

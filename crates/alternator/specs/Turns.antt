@@ -63,7 +63,12 @@ carried_out s name body moment = turn_of s (step s (operation_named name) body m
 
 -- a line that is too long
 abbrev pub turned_away : Turn
-turned_away = record { text = codes "413 {\"message\":\"request too long\"}\n"; atoms = []; lacks = None }
+turned_away = record {
+  text = codes "413 {\"message\":\"request too long\"}\n";
+  atoms = [];
+  lacks =
+      None;
+}
 
 -- the state after a turn
 abbrev pub after_turn : State → Turn → State

@@ -1,5 +1,5 @@
 -- The words of the command line.
-use Rattle.std.specs.Prelude.{ℕ, ◌+◌, ◌-◌, ◌*◌, ◌==◌, ◌&&◌, List, [], ◌∷◌, map, Bool, true, false, Option, Some, None, if◌then◌else◌, nat_le, codes, String, string_bytes, option_and_then}
+use Rattle.std.specs.Prelude.{ℕ, ◌+◌, ◌-◌, ◌*◌, ◌==◌, ◌&&◌, List, [], ◌∷◌, map, Bool, false, Option, Some, None, if◌then◌else◌, nat_le, codes, String, string_bytes, option_and_then}
 use Rattle.std.specs.declared.alloc.Global.{Global}
 use Rattle.std.specs.Char.{is_ascii_digit}
 use Rattle.std.specs.Str.{bytes_eq}
@@ -23,7 +23,8 @@ is_within least most (Some n) = nat_le least n && nat_le n most
 -- `replay FLUSH MERGE`: FLUSH is 65,536 to 1,073,741,824 bytes, MERGE 2 to 64 files
 abbrev pub is_replay : List (List ℕ) → Bool
 is_replay (word ∷ flush ∷ merge ∷ []) =
-    if bytes_eq word (codes "replay") then (if is_within 65536 1073741824 (number_of flush) then is_within 2 64 (number_of merge) else false) else false
+    if bytes_eq word (codes "replay") then (if is_within 65536 1073741824
+    (number_of flush) then is_within 2 64 (number_of merge) else false) else false
 is_replay words = false
 
 -- a number of at most 65,535

@@ -51,7 +51,8 @@ pub(crate) fn noted<S: Shell>(alloc: Global, ending: Ending, shell: &mut S) -> E
     ensures noted { StillGrows (notes_of (S.state shell.old).beside)
         (notes_of (S.state shell.new).beside) (note_of result) }
     ensures silent { Grows (S.state shell.old).beside (S.state shell.new).beside [] }
-    ensures unasked { moments_of (S.state shell.new).beside ≡ moments_of (S.state shell.old).beside }
+    ensures unasked { moments_of (S.state shell.new).beside
+        ≡ moments_of (S.state shell.old).beside }
     ensures aside { Aside (S.state shell.old) (S.state shell.new) }
 {
     match ending {

@@ -40,7 +40,8 @@ pub(crate) fn reply_text<D: Disk>(
     ensures text { (s : State) → Stands (D.state disk.old) tables.old s → IfOk result
         (λ text. string_bytes text ≡ (carried_out s name.now body.now moment).text) }
     ensures state { (s : State) → Stands (D.state disk.old) tables.old s → OnOk result
-        (Stands (D.state disk.new) tables.new (after_turn s (carried_out s name.now body.now moment))) }
+        (Stands (D.state disk.new) tables.new
+        (after_turn s (carried_out s name.now body.now moment))) }
     ensures enough { (s : State) → Stands (D.state disk.old) tables.old s → OnOk result
         ((carried_out s name.now body.now moment).lacks ≡ None) }
     ensures cause { (s : State) → Stands (D.state disk.old) tables.old s → IfErr result

@@ -35,8 +35,10 @@ fn pulls<S: Shell>(alloc: Global, buf: &mut [u8], shell: &mut S) -> Result<(), R
     requires { 0 < length buf.old }
     ensures answered { MatchResult result
         (λ _. Calls (S.state shell.old).beside (S.state shell.new).beside (Answers start))
-        (λ f. Calls (S.state shell.old).beside (S.state shell.new).beside (AnswersSome (number_of f) start)) }
-    ensures cause { IsErrOf result RunFault.Failed → Rose (S.state shell.old).faults (S.state shell.new).faults }
+        (λ f. Calls (S.state shell.old).beside (S.state shell.new).beside
+        (AnswersSome (number_of f) start)) }
+    ensures cause { IsErrOf result RunFault.Failed
+        → Rose (S.state shell.old).faults (S.state shell.new).faults }
     ensures passes { Passes (S.state shell.old) (S.state shell.new) }
 {
     let mut tables = Tables::new(alloc);
@@ -55,8 +57,10 @@ fn pulls<S: Shell>(alloc: Global, buf: &mut [u8], shell: &mut S) -> Result<(), R
 fn replay<S: Shell>(alloc: Global, shell: &mut S) -> Result<(), RunFault>
     ensures answered { MatchResult result
         (λ _. Calls (S.state shell.old).beside (S.state shell.new).beside (Answers start))
-        (λ f. Calls (S.state shell.old).beside (S.state shell.new).beside (AnswersSome (number_of f) start)) }
-    ensures cause { IsErrOf result RunFault.Failed → Rose (S.state shell.old).faults (S.state shell.new).faults }
+        (λ f. Calls (S.state shell.old).beside (S.state shell.new).beside
+        (AnswersSome (number_of f) start)) }
+    ensures cause { IsErrOf result RunFault.Failed
+        → Rose (S.state shell.old).faults (S.state shell.new).faults }
     ensures passes { Passes (S.state shell.old) (S.state shell.new) }
 {
     let Ok(mut buf) = buffer(alloc) else {
@@ -88,7 +92,8 @@ fn ended<S: Shell>(alloc: Global, words: &[String], shell: &mut S) -> Ending
 pub fn run<S: Shell>(alloc: Global, words: &[String], shell: &mut S) -> u8
     // It ends in one of five ways, each with its status, its note, and what it has done by then. With 0 the input was read to
     // its end, and all of its Out was said, each request at a moment of its own.
-    ensures ended { (ending : RunEnding) × Ended ending result (S.state shell.old) (S.state shell.new) }
+    ensures ended { (ending : RunEnding) × Ended ending result (S.state shell.old)
+        (S.state shell.new) }
 
     // 1 comes exactly where the words are wrong.
     ensures words { (result ≡ 1) ↔ (is_replay (bytes_of words.now) ≡ false) }
@@ -96,7 +101,8 @@ pub fn run<S: Shell>(alloc: Global, words: &[String], shell: &mut S) -> u8
     // Where no device fails, all of Out is said, or memory was refused, or numbers are spent.
     ensures complete { is_replay (bytes_of words.now) ≡ true
         → ¬ (Rose (S.state shell.old).faults (S.state shell.new).faults)
-        → ((result ≡ 0) × Calls (S.state shell.old).beside (S.state shell.new).beside (Answers start))
+        → ((result ≡ 0) × Calls (S.state shell.old).beside (S.state shell.new).beside
+        (Answers start))
         ⊎ (result ≡ 5) ⊎ (result ≡ 6) }
 
     // No call on the disk is made: all files stay, in reads and in what a stop leaves at each moment.

@@ -40,10 +40,11 @@ fn answer_request<S: Shell>(
 ) -> Result<(), RunFault>
     ensures served { (s : State) → Stands (S.state shell.old) tables.old s → MatchResult result
         (λ _. Reaches (S.state shell.old) (S.state shell.new) tables.new
-            (ServesAtHand s (request name.now body.now ∷ [])))
+        (ServesAtHand s (request name.now body.now ∷ [])))
         (λ f. Calls (S.state shell.old).beside (S.state shell.new).beside
-            (BreaksAtHand (number_of f) s (request name.now body.now ∷ []))) }
-    ensures cause { IsErrOf result RunFault.Failed → Rose (S.state shell.old).faults (S.state shell.new).faults }
+        (BreaksAtHand (number_of f) s (request name.now body.now ∷ []))) }
+    ensures cause { IsErrOf result RunFault.Failed
+        → Rose (S.state shell.old).faults (S.state shell.new).faults }
     ensures passes { Passes (S.state shell.old) (S.state shell.new) }
 {
     let moment = shell.now();
@@ -61,10 +62,11 @@ fn answer_request<S: Shell>(
 fn turn_away<S: Shell>(tables: &Tables, shell: &mut S) -> Result<(), RunFault>
     ensures served { (s : State) → Stands (S.state shell.old) tables.now s → MatchResult result
         (λ _. Reaches (S.state shell.old) (S.state shell.new) tables.now
-            (ServesAtHand s (no_request ∷ [])))
+        (ServesAtHand s (no_request ∷ [])))
         (λ f. Calls (S.state shell.old).beside (S.state shell.new).beside
-            (BreaksAtHand (number_of f) s (no_request ∷ []))) }
-    ensures cause { IsErrOf result RunFault.Failed → Rose (S.state shell.old).faults (S.state shell.new).faults }
+        (BreaksAtHand (number_of f) s (no_request ∷ []))) }
+    ensures cause { IsErrOf result RunFault.Failed
+        → Rose (S.state shell.old).faults (S.state shell.new).faults }
     ensures passes { Passes (S.state shell.old) (S.state shell.new) }
 {
     match shell.say(b"413 {\"message\":\"request too long\"}\n") {
@@ -84,10 +86,11 @@ fn answer_line<S: Shell>(
     ensures served { (taken : Line) → Tells taken cut [] line.now →
         (s : State) → Stands (S.state shell.old) tables.old s → MatchResult result
         (λ _. Reaches (S.state shell.old) (S.state shell.new) tables.new
-            (ServesAtHand s (asked_of taken ∷ [])))
+        (ServesAtHand s (asked_of taken ∷ [])))
         (λ f. Calls (S.state shell.old).beside (S.state shell.new).beside
-            (BreaksAtHand (number_of f) s (asked_of taken ∷ []))) }
-    ensures cause { IsErrOf result RunFault.Failed → Rose (S.state shell.old).faults (S.state shell.new).faults }
+        (BreaksAtHand (number_of f) s (asked_of taken ∷ []))) }
+    ensures cause { IsErrOf result RunFault.Failed
+        → Rose (S.state shell.old).faults (S.state shell.new).faults }
     ensures passes { Passes (S.state shell.old) (S.state shell.new) }
 {
     match cut {
@@ -102,8 +105,10 @@ fn answer_line<S: Shell>(
 /// The next line that is whole, in the emptied buffer.
 fn next_line(lines: &mut Lines, line: &mut Vec<u8>) -> Result<Option<Cut>, RunFault>
     ensures some { IfOk result (λ found. IfSome found (λ cut. (taken : Line)
-        × Tells taken cut [] line.new.items × TakesLine taken (unread lines.old) (unread lines.new))) }
-    ensures none { IfOk result (λ found. IfNone found (HasNone (unread lines.old) (unread lines.new))) }
+        × Tells taken cut [] line.new.items × TakesLine taken (unread lines.old)
+        (unread lines.new))) }
+    ensures none { IfOk result (λ found. IfNone found
+        (HasNone (unread lines.old) (unread lines.new))) }
     ensures err { IfErr result (λ fault. fault ≡ RunFault.NoMemory) }
 {
     line.clear();
@@ -123,11 +128,12 @@ pub(crate) fn at_hand<S: Shell>(
 ) -> Result<(), RunFault>
     ensures served { (s : State) → Stands (S.state shell.old) tables.old s → MatchResult result
         (λ _. Reaches (S.state shell.old) (S.state shell.new) tables.new
-            (ServesAtHand s (asked_now (unread lines.old))))
+        (ServesAtHand s (asked_now (unread lines.old))))
         (λ f. Calls (S.state shell.old).beside (S.state shell.new).beside
-            (BreaksAtHand (number_of f) s (asked_now (unread lines.old)))) }
+        (BreaksAtHand (number_of f) s (asked_now (unread lines.old)))) }
     ensures lines { OnOk result (HandsOut (unread lines.old) (unread lines.new)) }
-    ensures cause { IsErrOf result RunFault.Failed → Rose (S.state shell.old).faults (S.state shell.new).faults }
+    ensures cause { IsErrOf result RunFault.Failed
+        → Rose (S.state shell.old).faults (S.state shell.new).faults }
     ensures passes { Passes (S.state shell.old) (S.state shell.new) }
 {
     'lines: loop {
@@ -155,13 +161,14 @@ pub(crate) fn pull<S: Shell>(
     requires going { (unread lines.old).ended ≡ false }
     ensures went { (s : State) → Stands (S.state shell.old) tables.old s → MatchResult result
         (λ more. Reaches (S.state shell.old) (S.state shell.new) tables.new
-            (λ t. GoesOrEnds more s (unread lines.old) t (unread lines.new)))
+        (λ t. GoesOrEnds more s (unread lines.old) t (unread lines.new)))
         (λ f. Calls (S.state shell.old).beside (S.state shell.new).beside
-            (GoesSome (number_of f) s (unread lines.old))) }
+        (GoesSome (number_of f) s (unread lines.old))) }
     ensures going { IfOk result (λ more. more ≡ true → (unread lines.new).ended ≡ false) }
     ensures time { OnOk result ((S.state shell.old).moment < (S.state shell.new).moment) }
     ensures within { OnOk result ((S.state shell.old).moment < 2 ^ 64 - 1) }
-    ensures cause { IsErrOf result RunFault.Failed → Rose (S.state shell.old).faults (S.state shell.new).faults }
+    ensures cause { IsErrOf result RunFault.Failed
+        → Rose (S.state shell.old).faults (S.state shell.new).faults }
     ensures passes { Passes (S.state shell.old) (S.state shell.new) }
 {
     let Ok(count) = shell.take(buf) else {

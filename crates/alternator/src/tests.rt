@@ -64,7 +64,14 @@ fn says(alloc: Global, pieces: &[&str], replies: &[&str]) -> bool {
 
 static CUTS: [(&[&str], &[&str]); 3] = [
     (
-        &["F", "ly {}\r", "\nGetItem ", "[\r\r\nFly\n", "\r\n", "GetItem {}"],
+        &[
+            "F",
+            "ly {}\r",
+            "\nGetItem ",
+            "[\r\r\nFly\n",
+            "\r\n",
+            "GetItem {}",
+        ],
         &[UNKNOWN, UNREADABLE, UNKNOWN, UNKNOWN, MISSING],
     ),
     (&["Fly {}\n"], &[UNKNOWN]),
@@ -162,7 +169,7 @@ fn has_port(alloc: Global, given: &[&str], port: Option<u16>) -> bool {
 #[test]
 fn the_port_is_the_second_word(rt: HostRuntime) -> Result<(), Fail> {
     for row in &PORTS {
-        assert!(rt; has_port(rt.alloc(), &[".", row.0], row.1), "{row.0}");
+        assert!(rt; has_port(rt.alloc(), &[".", row.0], row.1), "{}", row.0);
     }
     assert!(rt; has_port(rt.alloc(), &["."], None));
     Ok(())

@@ -2,5 +2,6 @@
 mod clients;
 mod heads;
 mod lines;
+mod pieces;
 mod replies;
 mod trial;

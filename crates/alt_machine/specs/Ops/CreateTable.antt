@@ -40,7 +40,8 @@ mismatched ms = option_map_or (λ on. is_odd on (shows ms)) (enables ms) false
 
 -- the object at StreamSpecification passes a test
 abbrev pub of_stream : (Members → Bool) → Members → Bool
-of_stream test ms = option_map_or test (option_and_then as_object (given (codes "StreamSpecification") ms)) false
+of_stream test ms = option_map_or test (option_and_then as_object
+    (given (codes "StreamSpecification") ms)) false
 
 -- an array has elements
 abbrev pub some_items : Items → Bool
@@ -55,7 +56,8 @@ lists_any name ms = option_map_or some_items (option_and_then as_array (given na
 abbrev pub is_unbuilt : Members → Bool
 is_unbuilt ms =
     lists_any (codes "LocalSecondaryIndexes") ms
-    || (lists_any (codes "GlobalSecondaryIndexes") ms || of_stream (λ specification. unwrap_or (enables specification) false) ms)
+    || (lists_any (codes "GlobalSecondaryIndexes") ms || of_stream
+    (λ specification. unwrap_or (enables specification) false) ms)
 
 -- ---- the operation
 

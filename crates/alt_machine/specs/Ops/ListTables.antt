@@ -11,13 +11,17 @@ use Rattle.alt_shape.specs.Shape.{given, natural_of}
 use Rattle.alt_schema.specs.Stated.{text_of}
 use Rattle.alt_value.specs.Members.{text_order}
 use Rattle.alt_machine.specs.declared.TheConstants.{PAGE_LENGTH}
-use Rattle.alt_machine.specs.Body.{of_names, body_refusals}
+use Rattle.alt_machine.specs.Body.{Rules, of_names, body_refusals}
 use Rattle.alt_machine.specs.Outcomes.{Outcome, says, unless_refused}
 use Rattle.alt_machine.specs.State.{State, Texts}
 
+-- all its members are taken
+abbrev pub rules : Rules
+rules = of_names (codes "ExclusiveStartTableName" ∷ [])
+
 -- what the body alone says
 abbrev pub of_body : Members → List (Option Answer)
-of_body ms = body_refusals (bodies.list_tables ms) (of_names (codes "ExclusiveStartTableName" ∷ [])) ms
+of_body ms = body_refusals (bodies.list_tables ms) rules ms
 
 -- the name to start after, the empty one where none is given: it is before all names
 abbrev pub start_name : Members → List ℕ
@@ -39,11 +43,13 @@ continues most names = if nat_lt most (length names) then last_or None (take mos
 abbrev pub listed : Option (List ℕ) → List (List ℕ) → Answer
 listed None page = answered (member (codes "TableNames") (array (strings page)) no_members)
 listed (Some last) page =
-    answered (member (codes "LastEvaluatedTableName") (string last) (member (codes "TableNames") (array (strings page)) no_members))
+    answered (member (codes "LastEvaluatedTableName") (string last)
+    (member (codes "TableNames") (array (strings page)) no_members))
 
 -- the first names of those, as many as a page takes
 abbrev pub page_of : ℕ → List (List ℕ) → Answer
 page_of most names = listed (continues most names) (take most names)
 
 unfoldable pub list_tables : State → Members → Outcome
-list_tables s ms = unless_refused (of_body ms) (says (page_of (page_length ms) (names_after (start_name ms) s.tables)))
+list_tables s ms = unless_refused (of_body ms)
+    (says (page_of (page_length ms) (names_after (start_name ms) s.tables)))

@@ -14,7 +14,7 @@ use Rattle.alt_machine.specs.Members.{table_name}
 use Rattle.alt_machine.specs.Outcomes.{Outcome, writes, unless_refused}
 use Rattle.alt_machine.specs.Refusals.{refuse_unless}
 use Rattle.alt_machine.specs.Replies.{done}
-use Rattle.alt_machine.specs.State.{State}
+use Rattle.alt_machine.specs.State.{State, Table}
 use Rattle.alt_machine.specs.Targets.{on_item}
 use Rattle.alt_machine.specs.Writes.{item_writes}
 
@@ -38,7 +38,10 @@ of_item d item =
     refuse_unless (keys_fit d item) bad_index_key ∷
     refuse_unless (nat_le (item_size item) LARGEST_ITEM) item_too_large ∷ []
 
+-- the item is put at its place
+abbrev pub puts : State → ℕ → Members → List Pair → Table → List ℕ → Outcome
+puts s moment ms item t place = unless_refused (of_item t.description item)
+    (writes (item_writes s moment (table_name ms) t place (Some item)) done)
+
 unfoldable pub put_item : State → ℕ → Members → Outcome
-put_item s moment ms = on_item (of_body ms) Item s ms (λ item t place.
-    unless_refused (of_item t.description item) (
-    writes (item_writes s moment (table_name ms) t place (Some item)) done))
+put_item s moment ms = on_item (of_body ms) Item s ms (puts s moment ms)

@@ -6,7 +6,7 @@
 
 use crate::tests::heads::{Want, answers_at_last};
 
-static CLIENTS: [(&[u8], Want); 6] = [
+pub(crate) static CLIENTS: [(&[u8], Want); 6] = [
     (
         b"POST / HTTP/1.1\r\nHost: 127.0.0.1:39147\r\nAccept-Encoding: identity\r\nX-Amz-Target: DynamoDB_20120810.ListTables\r\nContent-Type: application/x-amz-json-1.0\r\nUser-Agent: Boto3/1.43.11 md/Botocore#1.43.11 ua/2.1 os/linux#6.18.44-fc-v857 md/arch#x86_64 lang/python#3.11.7 md/pyimpl#CPython m/P,b,N,g,Z,D cfg/retry-mode#legacy Botocore/1.43.11\r\nX-Amz-Date: 20261127T094007Z\r\nAuthorization: AWS4-HMAC-SHA256 Credential=x/20261127/us-east-1/dynamodb/aws4_request, SignedHeaders=content-type;host;x-amz-date;x-amz-target, Signature=98fede72e16a4853f33bc001f94e284bd4fa882273e1df3121250dcb24a656d0\r\namz-sdk-invocation-id: f744668b-b043-4edd-9a15-4fac71742296\r\namz-sdk-request: attempt=1\r\nContent-Length: 2\r\n\r\n",
         Want::Head(b"DynamoDB_20120810.ListTables", 2, false, false),

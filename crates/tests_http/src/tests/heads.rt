@@ -62,7 +62,7 @@ pub(crate) fn answers_at_last(alloc: Global, bytes: &[u8], want: Want) -> bool {
 }
 
 /// The refusals in their order, each with a row beside it that isn't refused so.
-static REFUSED: [(&[u8], Want); 40] = [
+pub(crate) static REFUSED: [(&[u8], Want); 40] = [
     // 1: a line that no continuation mends
     (b"POST / HTTP/2.0\r\n", Want::Refused(1)),
     (b"POST /\r\n", Want::Refused(1)),
@@ -238,6 +238,10 @@ fn long_head(alloc: Global, size: usize) -> Option<Vec<u8>> {
     Some(head)
 }
 
+fn without_last(head: &[u8], count: usize) -> &[u8] {
+    &head[..head.len().saturating_sub(count)]
+}
+
 fn limits_hold(alloc: Global) -> bool {
     let Some(longest) = long_head(alloc, LONGEST_HEAD) else {
         return false;
@@ -245,19 +249,15 @@ fn limits_hold(alloc: Global) -> bool {
     let Some(too_long) = long_head(alloc, LONGEST_HEAD + 1) else {
         return false;
     };
-    if longest.len() != LONGEST_HEAD || too_long.len() != LONGEST_HEAD + 1 {
-        return false;
-    }
     answers(
-            alloc,
-            &longest,
-            LONGEST_HEAD,
-            Want::Head(b"", 1, false, false),
-        )
-        && answers(alloc, &longest[..LONGEST_HEAD - 1], 0, Want::More)
+        alloc,
+        &longest,
+        LONGEST_HEAD,
+        Want::Head(b"", 1, false, false),
+    ) && answers(alloc, without_last(&longest, 1), 0, Want::More)
         && answers(alloc, &too_long, 0, Want::Refused(2))
-        && answers(alloc, &too_long[..LONGEST_HEAD], 0, Want::Refused(2))
-        && answers(alloc, &too_long[..LONGEST_HEAD - 1], 0, Want::More)
+        && answers(alloc, without_last(&too_long, 1), 0, Want::Refused(2))
+        && answers(alloc, without_last(&too_long, 2), 0, Want::More)
 }
 
 #[test]

@@ -203,17 +203,18 @@ fn a_bad_part_is_told_by_its_place(rt: HostRuntime) -> Result<(), Fail> {
 /// A name, and the number of its index.
 static NUMBERS: [(&str, Option<usize>); 3] = [("Lix", Some(0)), ("Gix", Some(1)), ("Tab", None)];
 
-fn has_number(alloc: Global, row: &(&str, Option<usize>)) -> bool {
-    let Some(schema) = table(alloc) else {
-        return false;
-    };
-    index_named(&schema, row.0) == row.1
+fn has_number(schema: &Option<TableSchema>, row: &(&str, Option<usize>)) -> bool {
+    match schema {
+        Some(schema) => index_named(schema, row.0) == row.1,
+        None => false,
+    }
 }
 
 #[test]
 fn the_local_indexes_come_first(rt: HostRuntime) -> Result<(), Fail> {
+    let schema = table(rt.alloc());
     for row in &NUMBERS {
-        assert!(rt; has_number(rt.alloc(), row), "{}", row.0);
+        assert!(rt; has_number(&schema, row), "{}", row.0);
     }
     Ok(())
 }
@@ -282,20 +283,18 @@ static FITS: [(Texts, bool); 4] = [
     ),
 ];
 
-fn fits(alloc: Global, row: &(Texts, bool)) -> bool {
-    let Some(schema) = table(alloc) else {
-        return false;
-    };
-    let Some(item) = item_of(alloc, &row.0) else {
-        return false;
-    };
-    index_keys_fit(&schema, &item) == row.1
+fn fits(alloc: Global, schema: &Option<TableSchema>, row: &(Texts, bool)) -> bool {
+    match (schema, item_of(alloc, &row.0)) {
+        (Some(schema), Some(item)) => index_keys_fit(schema, &item) == row.1,
+        _ => false,
+    }
 }
 
 #[test]
 fn an_index_key_is_of_its_kind_and_not_empty(rt: HostRuntime) -> Result<(), Fail> {
+    let schema = table(rt.alloc());
     for (place, row) in FITS.iter().enumerate() {
-        assert!(rt; fits(rt.alloc(), row), "row {place}");
+        assert!(rt; fits(rt.alloc(), &schema, row), "row {place}");
     }
     Ok(())
 }
@@ -338,27 +337,27 @@ static ROWS: [Row; 3] = [
     },
 ];
 
-fn has_row(alloc: Global, row: &Row) -> bool {
-    let Some(schema) = table(alloc) else {
-        return false;
-    };
-    let Some(item) = item_of(alloc, &row.texts) else {
-        return false;
-    };
-    let Some(index) = index_named(&schema, row.index) else {
-        return false;
-    };
-    match index_item(alloc, &schema, index, &item) {
-        Ok(Some(kept)) => row.attributes == Some(kept.len()),
-        Ok(None) => row.attributes.is_none(),
-        Err(_) => false,
+/// How many attributes an item's row in an index has; None where it has no row there.
+fn row_len(alloc: Global, schema: &TableSchema, index: &str, item: &Item) -> Option<usize> {
+    match index_item(alloc, schema, index_named(schema, index)?, item) {
+        Ok(Some(kept)) => Some(kept.len()),
+        Ok(None) => None,
+        Err(_) => Some(usize::MAX),
+    }
+}
+
+fn has_row(alloc: Global, schema: &Option<TableSchema>, row: &Row) -> bool {
+    match (schema, item_of(alloc, &row.texts)) {
+        (Some(schema), Some(item)) => { row_len(alloc, schema, row.index, &item) == row.attributes }
+        _ => false,
     }
 }
 
 #[test]
 fn a_row_keeps_keys_and_the_names_included(rt: HostRuntime) -> Result<(), Fail> {
+    let schema = table(rt.alloc());
     for (place, row) in ROWS.iter().enumerate() {
-        assert!(rt; has_row(rt.alloc(), row), "row {place}");
+        assert!(rt; has_row(rt.alloc(), &schema, row), "row {place}");
     }
     Ok(())
 }

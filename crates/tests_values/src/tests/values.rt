@@ -42,7 +42,7 @@ fn has_size(alloc: Global, text: &str, size: u64) -> bool {
     };
     (size_within(&a, size) == Some(size))
         & (size_within(&a, 409_600) == Some(size))
-        & (size_within(&a, size - 1) == None)
+        & (size_within(&a, size.saturating_sub(1)) == None)
 }
 
 fn item_has_size_11(alloc: Global) -> bool {

@@ -1,5 +1,4 @@
 -- The reader's answer is the value for which the JSON stands, whole; a fault is no value's.
-use Rattle.std.proofs.Common.{sym}
 use Rattle.serde_json.specs.View.{view}
 use Rattle.alt_value.specs.Stands.{tree_of}
 use Rattle.alt_codec.specs.Reading.{value_in}

@@ -3,7 +3,7 @@ use Rattle.std.proofs.Common.{◌≡◌, ◌-◌, ◌+◌, ◌*◌}
 use Rattle.alt_expr.specs.declared.token.Keyword.TheVariants.{And, Or}
 use Rattle.alt_expr.specs.declared.cond.Cond.TheVariants as cond
 use Rattle.alt_expr.specs.Reader.{left, ◌<$>◌}
-use Rattle.alt_condparse.specs.Lookups.{given_to}
+use Rattle.alt_expr.specs.Lookups.{given_to}
 use Rattle.alt_condparse.specs.Reader.{one, all, joined, joined_from}
 use Rattle.alt_condparse.proofs.condition.+condition.Given as goal
 

@@ -3,7 +3,7 @@ use Rattle.std.proofs.Common.{rules, arith}
 use Rattle.std.proofs.lemmas.Grind.{common_steps}
 use Rattle.alt_expr.specs.Reader.{left, listed, listed_from}
 use Rattle.alt_expr.proofs.Turns.{one_more, no_more}
-use Rattle.alt_condparse.specs.Lookups.{given_to}
+use Rattle.alt_expr.specs.Lookups.{given_to}
 use Rattle.alt_condparse.specs.Reader.{operand}
 use Rattle.alt_condparse.proofs.operand.operands.Goals as goal
 
@@ -28,6 +28,11 @@ pub returns : goal.returns
 unfolding listed_from
 returns c =
     let e = no_more (λ n. listed_from (operand (given_to c.args.given.now)) n c.loop-turn.found (left c.loop-turn.tokens)) _ c.loop-turn._turn c.loop-turn-test.false c.loop-turn.invariant in
+    first_of (search rules, grind (arith, common_steps))
+
+pub returns-in_err-operand : goal.returns-in_err-operand
+unfolding listed
+returns-in_err-operand c =
     first_of (search rules, grind (arith, common_steps))
 
 pub returns-in_err-operand-2 : goal.returns-in_err-operand-2

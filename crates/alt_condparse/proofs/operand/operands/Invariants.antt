@@ -1,7 +1,7 @@
 -- What was read, and what a reader makes of the rest.
 use Rattle.std.proofs.Common.{◌≡◌, ◌-◌}
 use Rattle.alt_expr.specs.Reader.{left, listed, listed_from}
-use Rattle.alt_condparse.specs.Lookups.{given_to}
+use Rattle.alt_expr.specs.Lookups.{given_to}
 use Rattle.alt_condparse.specs.Reader.{operand}
 use Rattle.alt_condparse.proofs.operand.operands.Given as goal
 

@@ -1,20 +1,19 @@
-use Rattle.std.proofs.Common.{Result, Ok, Err, OnOk, sym, subst, ◌∙◌}
-use Rattle.std.proofs.lemmas.Result.{on_ok_weaker}
-use Rattle.alt_machine.specs.Valid.{IsValid}
-use Rattle.alt_tables.specs.Stands.{state_of}
-use Rattle.alt_dispatch.proofs.Atoms.{ends_with_atoms}
-use Rattle.alt_dispatch.proofs.Validity.{step_valid}
+-- What was carried out, once its refusal is told.
+use Rattle.alt_machine.specs.Step.{step}
+use Rattle.alt_machine.specs.State.{State}
+use Rattle.alt_dispatch.proofs.Settling.{settled, settled_valid}
+use Rattle.alt_tables.specs.Stands.{Stands}
 use Rattle.alt_dispatch.proofs.answers.answer.Goals as goal
 
-pub returns-clause-atoms : goal.returns-clause-atoms
-returns-clause-atoms g c = on_ok_weaker c.respond.result
-    (λ e. e ∙ ends_with_atoms (state_of c.args.tables.now) c.args.operation c.args.body.now c.args.moment) c.respond.ensures.state
-
-both_ok : {A E P Q R : Type 0} (r : Result A E) → (P → Q → R) → OnOk r P → OnOk r Q → OnOk r R
-both_ok (Ok x) f p q = f p q
-both_ok (Err e) f p q = tt
+pub returns-clause-settles : goal.returns-clause-settles
+returns-clause-settles g c s stands =
+    settled (Stands (g.D.Disk.state c.respond-carried.new.disk) c.respond-carried.new.tables) s
+    (step s c.args.operation c.args.body.now c.args.moment)
+    c.respond-carried.result c.told.result (c.respond-carried.ensures.carried.does s stands)
+    c.told.ensures.told
 
 pub returns-clause-valid : goal.returns-clause-valid
-returns-clause-valid g c valid = both_ok c.respond.result
-    (λ e enough. subst IsValid (sym e) (step_valid (state_of c.args.tables.now) c.args.operation c.args.body.now c.args.moment valid enough))
-    c.respond.ensures.state c.respond.ensures.enough
+returns-clause-valid g c s stands =
+    settled_valid (Stands (g.D.Disk.state c.respond-carried.new.disk) c.respond-carried.new.tables)
+    s (step s c.args.operation c.args.body.now c.args.moment)
+    c.told.result (λ r now. now.valid) (returns-clause-settles g c s stands)

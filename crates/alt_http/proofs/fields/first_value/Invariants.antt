@@ -4,4 +4,6 @@ use Rattle.alt_http.specs.Spans.{fields_at}
 use Rattle.alt_http.proofs.fields.first_value.Given as goal
 
 abbrev pub invariant-loop-header : goal.invariant-loop-header
-invariant-loop-header l = first_of (values_named l.name (fields_at l.buf (drop l.header-index l.headers))) ≡ first_of (values_named l.name (fields_at l.buf l.headers))
+invariant-loop-header l = first_of (values_named l.name
+    (fields_at l.buf (drop l.header-index l.headers)))
+    ≡ first_of (values_named l.name (fields_at l.buf l.headers))

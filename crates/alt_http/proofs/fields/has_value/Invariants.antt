@@ -7,4 +7,5 @@ use Rattle.alt_http.proofs.fields.has_value.Given as goal
 
 abbrev pub invariant-loop-header : goal.invariant-loop-header
 invariant-loop-header l =
-    list_any (passes l.test) (values_named l.name (fields_at l.buf (drop l.header-index l.headers))) ≡ list_any (passes l.test) (values_named l.name (fields_at l.buf l.headers))
+    list_any (passes l.test) (values_named l.name (fields_at l.buf (drop l.header-index l.headers)))
+    ≡ list_any (passes l.test) (values_named l.name (fields_at l.buf l.headers))

@@ -13,13 +13,21 @@ loop-digit-preserved c =
     let digit = get_or text k 0 in
     let more = value * 10 + (digit - 48) in
     let rest = drop (k + 1) text in
-    let is_digit : digit_value digit ≡ digit - 48 = digit_value-digit digit (digit_at text k c.requires c.loop-digit-test.true) in
-    let exact : min (digits_value_after 10 (value * 10 + digit_value digit) rest) 16777217 ≡ min (digits_value 10 text) 16777217 =
-    left_is (λ (l : List ℕ). min (digits_value_after 10 value l) 16777217) text k 0 (min (digits_value 10 text) 16777217) c.loop-digit-test.true c.loop-digit.invariant.so_far in
-    let capped : min (digits_value_after 10 (min more 16777217) rest) 16777217 ≡ min (digits_value_after 10 more rest) 16777217 =
+    let is_digit : digit_value digit ≡ digit - 48 =
+    digit_value-digit digit (digit_at text k c.requires c.loop-digit-test.true) in
+    let exact : min (digits_value_after 10 (value * 10 + digit_value digit) rest) 16777217
+    ≡ min (digits_value 10 text) 16777217 =
+    left_is (λ (l : List ℕ). min (digits_value_after 10 value l) 16777217) text k 0
+    (min (digits_value 10 text) 16777217) c.loop-digit-test.true c.loop-digit.invariant.so_far
+    in
+    let capped : min (digits_value_after 10 (min more 16777217) rest) 16777217
+    ≡ min (digits_value_after 10 more rest) 16777217 =
     same_capped 16777217 (min more 16777217) more rest (omega arith) in
     record {
-      bounded = let e = c.min-value.ensures in let h = min-le_right more 16777217 in omega (arith, e, h);
-      so_far = ap (λ (n : ℕ). min (digits_value_after 10 n rest) 16777217) c.min-value.ensures ∙ capped
-          ∙ ap (λ (n : ℕ). min (digits_value_after 10 (value * 10 + n) rest) 16777217) (sym is_digit) ∙ exact;
+      bounded = let e = c.min-value.ensures in let h = min-le_right more 16777217 in
+          omega (arith, e, h);
+      so_far = ap (λ (n : ℕ). min (digits_value_after 10 n rest) 16777217) c.min-value.ensures
+          ∙ capped
+          ∙ ap (λ (n : ℕ). min (digits_value_after 10 (value * 10 + n) rest) 16777217)
+          (sym is_digit) ∙ exact;
     }

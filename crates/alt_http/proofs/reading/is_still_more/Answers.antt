@@ -1,4 +1,4 @@
-use Rattle.std.proofs.Common.{List, ℕ, Bool, true, false, drop, subst}
+use Rattle.std.proofs.Common.{Bool, true, false, subst}
 use Rattle.std.specs.Bool.{OnTrue}
 use Rattle.std.proofs.lemmas.List.{take_rest}
 use Rattle.alt_http.specs.Feeds.{IsPlain}
@@ -14,4 +14,5 @@ returns-then-bytes-lt-LONGEST_HEAD c =
     let bytes = c.args.bytes.now in
     let seen = c.args.seen in
     on_true c.has_no_feed.result _ _
-    (λ plain. scan_of-plain bytes seen (subst IsPlain (take_rest bytes seen) plain) c.if-bytes-lt-LONGEST_HEAD.true) c.has_no_feed.ensures
+    (λ plain. scan_of-plain bytes seen (subst IsPlain (take_rest bytes seen) plain)
+    c.if-bytes-lt-LONGEST_HEAD.true) c.has_no_feed.ensures

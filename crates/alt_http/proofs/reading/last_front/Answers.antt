@@ -14,4 +14,6 @@ returns-in-Some c =
 
 pub returns-in-None : goal.returns-in-None
 returns-in-None c =
-    let plain : IsPlain c.window-within.result.now = last_feed c.window-within.result.now None c.in-None.ensures in subst IsPlain c.window-within.ensures plain
+    let plain : IsPlain c.window-within.result.now =
+    last_feed c.window-within.result.now None c.in-None.ensures in
+    subst IsPlain c.window-within.ensures plain

@@ -8,5 +8,7 @@ pub without_head-requires : goal.without_head-requires
 without_head-requires c =
     let front = c.args.front.now in
     let partial = c.in-Ok-Partial.is ∙ ap Ok c.in-Ok-Partial.field-0-is in
-    go_on c.args.bytes.now front c.requires (subst (λ (r : _). OnPartial r (HasNoRequest front)) partial c.parse_request.ensures.partial)
-    (subst (λ (r : _). OnPartial r (MayBecomeRequest front)) partial c.parse_request.ensures.unfinished)
+    go_on c.args.bytes.now front c.requires (subst
+    (λ (r : _). OnPartial r (HasNoRequest front)) partial c.parse_request.ensures.partial)
+    (subst (λ (r : _). OnPartial r (MayBecomeRequest front)) partial
+    c.parse_request.ensures.unfinished)

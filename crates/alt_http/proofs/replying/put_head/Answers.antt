@@ -15,5 +15,7 @@ head_with phrase word status date length = joined (
 pub returns-clause-ok : goal.returns-clause-ok
 unfolding head_text
 returns-clause-ok c =
-    subst (λ (u : List ℕ × List ℕ). OnOk c.put_all.result (c.put_all.new.out.items ≡ c.args.out.now.items ++ head_with u.0 u.1 c.args.status c.args.date c.args.length))
+    subst (λ (u : List ℕ × List ℕ). OnOk c.put_all.result
+    (c.put_all.new.out.items ≡ c.args.out.now.items
+    ++ head_with u.0 u.1 c.args.status c.args.date c.args.length))
     (λ i. (c.phrase.ensures i, c.connection_word.ensures i)) c.put_all.ensures.ok

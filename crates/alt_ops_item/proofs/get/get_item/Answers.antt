@@ -1,38 +1,64 @@
--- The step, by whether a refusal applies.
-use Rattle.std.proofs.Common.{◌≡◌, sym, ap, subst, ◌∙◌, IfOk}
-use Rattle.std.specs.Prelude.{codes}
-use Rattle.std.specs.FinMap.{get}
+-- The key isn't reached, or what stands at its place is answered.
+use Rattle.std.proofs.Common.{◌≡◌, sym, ap, subst, ◌∙◌, is_some, Option, List, ℕ, Err}
+use Rattle.std.specs.FinMap as map
+use Rattle.serde_json.specs.Data.{Members}
 use Rattle.serde_json.specs.View.{members_view}
-use Rattle.alt_machine.specs.Members.{table_name, table_at, pairs_at}
-use Rattle.alt_machine.specs.Ops.GetItem.{item_in, refusals}
-use Rattle.alt_machine.specs.Outcomes.{Outcome}
-use Rattle.alt_machine.specs.Refusals.{first_refusal}
-use Rattle.alt_machine.specs.Replies.{found}
-use Rattle.alt_shape.specs.Refusals.{answer_of}
-use Rattle.alt_tables.specs.Stands.{state_of}
-use Rattle.alt_ops_item.specs.Checked.{IsChecked}
-use Rattle.alt_ops_item.proofs.Whole.{get_refused, get_done}
+use Rattle.alt_machine.specs.declared.Sought.TheVariants.{Key}
+use Rattle.alt_machine.specs.Body.{body_refusals}
+use Rattle.alt_machine.specs.Ops.GetItem.{rules, gets, get_item}
+use Rattle.alt_machine.specs.Outcomes.{says}
+use Rattle.alt_machine.specs.Replies.{item_answer}
+use Rattle.alt_machine.specs.State.{State, Table}
+use Rattle.alt_ops_item.proofs.Getting.{get_is}
+use Rattle.alt_request.specs.Carried.{Carries}
+use Rattle.alt_request.specs.declared.stop.Stop.TheVariants.{Fault}
+use Rattle.alt_request.proofs.Carrying.{faulted, said_or_not, item_passed, item_reached}
+use Rattle.alt_request.proofs.Reaching.{err_is}
+use Rattle.alt_tables.specs.Stands.{Stands, catalog_of}
+use Rattle.alt_value.specs.Tree.{Pair}
 use Rattle.alt_ops_item.proofs.get.get_item.Goals as goal
 
-pub returns-in_ok-refuse-in-Refused-clause-reply : goal.returns-in_ok-refuse-in-Refused-clause-reply
-returns-in_ok-refuse-in-Refused-clause-reply g c =
-    let s = state_of c.args.tables.now in
-    let ms = members_view c.args.body.now.entries in
-    let told = subst (IsChecked s (table_name ms) (first_refusal (refusals s ms)) (pairs_at (codes "Key") ms)) c.in-Refused.is c.in_ok-refusal.ensures in
-    c.in_ok-refuse-in-Refused.ensures.told ∙ sym (ap (λ (o : Outcome). o.answer) (get_refused s ms c.in-Refused.refusal told.0))
+pub returns-in_err-target-clause-carried : goal.returns-in_err-target-clause-carried
+returns-in_err-target-clause-carried g c =
+    let ms : Members = members_view c.args.body.now.entries in
+    item_passed (g.D.Disk.state c.args.disk.now) c.args.tables.now
+    (body_refusals c.get_item-broken.result rules ms) ms (λ s. get_item s ms) Key (λ s. gets)
+    (get_is ms c.get_item-broken.result c.get_item-broken.ensures)
+    (Stands (g.D.Disk.state c.args.disk.now) c.args.tables.now)
+    c.from_residual.result c.in_err-target.field-0.0 c.from_residual.ensures
+    c.in_err-target.ensures.target (λ s stands. stands)
 
-pub returns-in-Passed : goal.returns-in-Passed
-returns-in-Passed g c =
-    let s = state_of c.args.tables.now in
-    let ms = members_view c.args.body.now.entries in
-    let told = subst (IsChecked s (table_name ms) (first_refusal (refusals s ms)) (pairs_at (codes "Key") ms)) c.in-Passed.is c.in_ok-refusal.ensures in
-    let whole = get_done s ms told.free in
-    let got = ap (λ n. found (item_in (get s.tables n) c.in-Passed.key)) c.table_name.ensures
-    ∙ ap (λ ps. found (item_in (table_at s ms) ps)) told.read in
-    record {
-      reply = subst (λ a. IfOk c.get.result (λ reply. answer_of reply ≡ a)) (got ∙ sym (ap (λ (o : Outcome). o.answer) whole)) c.get.ensures.reply;
-      state = c.get.ensures.state;
-      plain = c.get.ensures.plain;
-      cause = c.get.ensures.cause;
-      disk = c.get.ensures.disk;
-    }
+pub find-requires : goal.find-requires
+find-requires g c = record {
+  there = ap (λ n. is_some (map.get (catalog_of c.args.tables.now) n))
+      c.table_name-name.ensures.name ∙ ap is_some c.in_ok-target.ensures.target.there;
+}
+
+pub returns-in_err-found-clause-carried : goal.returns-in_err-found-clause-carried
+returns-in_err-found-clause-carried g c =
+    let ms : Members = members_view c.args.body.now.entries in
+    subst (Carries (λ s. get_item s ms) (Stands (g.D.Disk.state c.args.disk.now) c.args.tables.now)
+    (Stands (g.D.Disk.state c.find.new.disk) c.find.new.self))
+    (sym (err_is c.from_residual-in_err-found.result
+    (Fault c.in_err-found.field-0.0) c.from_residual-in_err-found.ensures))
+    (faulted (λ s. get_item s ms) (Stands (g.D.Disk.state c.args.disk.now) c.args.tables.now)
+    (Stands (g.D.Disk.state c.find.new.disk) c.find.new.self)
+    c.in_err-found.field-0.0 c.in_err-found.ensures.cause
+    (λ s stands. (c.in_err-found.ensures.stays s).0 stands))
+
+pub returns-clause-carried : goal.returns-clause-carried
+returns-clause-carried g c =
+    let ms : Members = members_view c.args.body.now.entries in
+    said_or_not (λ s. get_item s ms) (Stands (g.D.Disk.state c.args.disk.now) c.args.tables.now)
+    (Stands (g.D.Disk.state c.find.new.disk) c.find.new.self)
+    c.item_reply.result (item_answer c.in_ok-found.found.item) c.item_reply.ensures.reply
+    c.item_reply.ensures.plain c.item_reply.ensures.cause (λ s stands.
+    let at = item_reached (g.D.Disk.state c.args.disk.now) c.args.tables.now
+    (body_refusals c.get_item-broken.result rules ms) ms (λ s. get_item s ms) Key (λ s. gets)
+    (get_is ms c.get_item-broken.result c.get_item-broken.ensures) c.in_ok-target.target
+    c.in_ok-target.ensures.target s stands in
+    at.3 ∙ ap (λ o. says (item_answer o)) (
+    ap (map.get at.0.items) (sym c.in_ok-found.ensures.place)
+    ∙ sym (c.in_ok-found.ensures.item s stands at.0
+    (ap (map.get s.tables) c.table_name-name.ensures.name ∙ at.1))))
+    (λ s stands. (c.in_ok-found.ensures.stays s).0 stands)

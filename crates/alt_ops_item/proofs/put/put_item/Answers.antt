@@ -1,57 +1,152 @@
--- The step, by whether a refusal applies.
-use Rattle.std.proofs.Common.{◌≡◌, sym, ap, subst, ◌∙◌, Some, None, IfOk, IfErr, OnOk}
-use Rattle.std.specs.FinMap.{get}
-use Rattle.std.specs.Prelude.{codes}
+-- The item isn't reached or is refused in its table, or it is written.
+use Rattle.std.proofs.Common.{◌≡◌, sym, ap, subst, ◌∙◌, is_some, Option, Some, List, ℕ, Ok, Err}
+use Rattle.std.specs.FinMap as map
+use Rattle.serde_json.specs.Data.{Members}
 use Rattle.serde_json.specs.View.{members_view}
-use Rattle.alt_machine.specs.Members.{table_name, table_at, pairs_at}
-use Rattle.alt_machine.specs.Ops.PutItem.{refusals}
-use Rattle.alt_machine.specs.Outcomes.{Outcome, last_state}
-use Rattle.alt_machine.specs.Refusals.{first_refusal}
-use Rattle.alt_machine.specs.Spent.{writes_spent}
-use Rattle.alt_machine.specs.Writes.{writes_to}
-use Rattle.alt_shape.specs.Refusals.{answer_of}
-use Rattle.alt_tables.specs.Faults.{IsCausedBy}
-use Rattle.alt_tables.specs.Stands.{state_of}
-use Rattle.alt_ops_item.specs.Checked.{IsChecked}
-use Rattle.alt_ops_item.proofs.Whole.{put_refused, put_done}
+use Rattle.alt_machine.specs.declared.Sought.TheVariants.{Item}
+use Rattle.alt_machine.specs.Body.{body_refusals}
+use Rattle.alt_machine.specs.Members.{table_name}
+use Rattle.alt_machine.specs.Ops.PutItem.{rules, of_item, puts, put_item}
+use Rattle.alt_machine.specs.Outcomes.{writes, a_number}
+use Rattle.alt_machine.specs.Replies.{done}
+use Rattle.alt_machine.specs.State.{State, Table}
+use Rattle.alt_machine.specs.Valid.{IsStored}
+use Rattle.alt_machine.specs.Writes.{item_writes}
+use Rattle.alt_ops_item.proofs.Putting.{put_is, puts-refused, puts-written, may_be_put, same_description, same_writes}
+use Rattle.alt_request.specs.Carried.{Carries}
+use Rattle.alt_request.specs.declared.stop.Stop.TheVariants.{Fault}
+use Rattle.alt_request.proofs.Carrying.{faulted, untested, broke_off, wrote, item_passed, item_reached}
+use Rattle.alt_request.proofs.Reaching.{err_is}
+use Rattle.alt_schema.specs.declared.schema.TableSchema.{TableSchema}
+use Rattle.alt_tables.specs.Faults.{AreMade, BreakOff}
+use Rattle.alt_tables.specs.Stands.{Stands, catalog_of}
 use Rattle.alt_ops_item.proofs.put.put_item.Goals as goal
 
-pub returns-in_ok-refuse-in-Refused-clause-reply : goal.returns-in_ok-refuse-in-Refused-clause-reply
-returns-in_ok-refuse-in-Refused-clause-reply g c =
-    let s = state_of c.args.tables.now in
-    let ms = members_view c.args.body.now.entries in
-    let told = subst (IsChecked s (table_name ms) (first_refusal (refusals s ms)) (pairs_at (codes "Item") ms)) c.in-Refused.is c.in_ok-refusal.ensures in
-    c.in_ok-refuse-in-Refused.ensures.told ∙ sym (ap (λ (o : Outcome). o.answer) (put_refused s ms c.in-Refused.refusal told.0))
+pub returns-in_err-target-clause-carried : goal.returns-in_err-target-clause-carried
+returns-in_err-target-clause-carried g c =
+    let ms : Members = members_view c.args.body.now.entries in
+    item_passed (g.D.Disk.state c.args.disk.now) c.args.tables.now
+    (body_refusals c.put_item-broken.result rules ms) ms (λ s. put_item s c.args.moment ms) Item
+    (λ s. puts s c.args.moment ms) (put_is c.args.moment ms c.put_item-broken.result
+    c.put_item-broken.ensures) (Stands (g.D.Disk.state c.args.disk.now) c.args.tables.now)
+    c.from_residual.result c.in_err-target.field-0.0 c.from_residual.ensures
+    c.in_err-target.ensures.target (λ s stands. stands)
 
-pub returns-in_ok-refuse-in-Refused-clause-state : goal.returns-in_ok-refuse-in-Refused-clause-state
-returns-in_ok-refuse-in-Refused-clause-state g c =
-    let s = state_of c.args.tables.now in
-    let ms = members_view c.args.body.now.entries in
-    let told = subst (IsChecked s (table_name ms) (first_refusal (refusals s ms)) (pairs_at (codes "Item") ms)) c.in-Refused.is c.in_ok-refusal.ensures in
-    sym (ap (λ (o : Outcome). o.state) (put_refused s ms c.in-Refused.refusal told.0))
+pub returns-in_err-item_refusal-clause-carried : goal.returns-in_err-item_refusal-clause-carried
+returns-in_err-item_refusal-clause-carried g c =
+    let ms : Members = members_view c.args.body.now.entries in
+    let now : State → Type 0 = Stands (g.D.Disk.state c.args.disk.now) c.args.tables.now in
+    subst (Carries (λ s. put_item s c.args.moment ms) now now)
+    (sym (err_is c.from_residual-in_err-item_refusal.result c.in_err-item_refusal.field-0.0
+    c.from_residual-in_err-item_refusal.ensures))
+    (untested (λ s. put_item s c.args.moment ms) now now
+    (of_item c.in_ok-target.target.schema.now c.in_ok-target.target.item)
+    c.in_err-item_refusal.field-0.0 c.in_err-item_refusal.ensures.tested (λ s stands r e.
+    let at = item_reached (g.D.Disk.state c.args.disk.now) c.args.tables.now
+    (body_refusals c.put_item-broken.result rules ms) ms (λ s. put_item s c.args.moment ms) Item
+    (λ s. puts s c.args.moment ms) (put_is c.args.moment ms c.put_item-broken.result
+    c.put_item-broken.ensures) c.in_ok-target.target c.in_ok-target.ensures.target s stands in
+    at.3 ∙ puts-refused s c.args.moment ms c.in_ok-target.target.item at.0
+    c.in_ok-target.target.place c.in_ok-target.target.schema.now at.2 r e) (λ s stands. stands))
 
-pub returns-in_ok-refuse-in-Refused-clause-enough : goal.returns-in_ok-refuse-in-Refused-clause-enough
-returns-in_ok-refuse-in-Refused-clause-enough g c =
-    let s = state_of c.args.tables.now in
-    let ms = members_view c.args.body.now.entries in
-    let told = subst (IsChecked s (table_name ms) (first_refusal (refusals s ms)) (pairs_at (codes "Item") ms)) c.in-Refused.is c.in_ok-refusal.ensures in
-    ap (λ (o : Outcome). writes_spent s o.atoms) (put_refused s ms c.in-Refused.refusal told.0)
+pub find-requires : goal.find-requires
+find-requires g c = record {
+  there = ap (λ n. is_some (map.get (catalog_of c.args.tables.now) n))
+      c.table_name-name.ensures.name ∙ ap is_some c.in_ok-target.ensures.target.there;
+}
 
-pub returns-in-Passed : goal.returns-in-Passed
-returns-in-Passed g c =
-    let s = state_of c.args.tables.now in
-    let ms = members_view c.args.body.now.entries in
-    let told = subst (IsChecked s (table_name ms) (first_refusal (refusals s ms)) (pairs_at (codes "Item") ms)) c.in-Passed.is c.in_ok-refusal.ensures in
-    let whole = put_done s ms told.free in
-    let written = ap (λ n. writes_to s n c.in-Passed.item (Some c.in-Passed.item) (get s.tables n)) c.table_name.ensures
-    ∙ ap (λ ps. writes_to s (table_name ms) ps (Some ps) (table_at s ms)) told.read in
-    let atoms = written ∙ sym (ap (λ (o : Outcome). o.atoms) whole) in
-    record {
-      reply = subst (λ a. IfOk c.put.result (λ reply. answer_of reply ≡ a)) (sym (ap (λ (o : Outcome). o.answer) whole)) c.put.ensures.reply;
-      state = subst (λ t. OnOk c.put.result (state_of c.put.new.tables ≡ t)) (ap (last_state s) written ∙ sym (ap (λ (o : Outcome). o.state) whole)) c.put.ensures.state;
-      stays = c.put.ensures.stays;
-      plain = c.put.ensures.plain;
-      enough = subst (λ ws. OnOk c.put.result (writes_spent s ws ≡ None)) atoms c.put.ensures.enough;
-      cause = subst (λ ws. IfErr c.put.result (IsCausedBy (writes_spent s ws))) atoms c.put.ensures.cause;
-      disk = c.put.ensures.disk;
-    }
+pub returns-in_err-found-clause-carried : goal.returns-in_err-found-clause-carried
+returns-in_err-found-clause-carried g c =
+    let ms : Members = members_view c.args.body.now.entries in
+    let now : State → Type 0 = Stands (g.D.Disk.state c.find.new.disk) c.find.new.self in
+    subst (Carries (λ s. put_item s c.args.moment ms)
+    (Stands (g.D.Disk.state c.args.disk.now) c.args.tables.now) now)
+    (sym (err_is c.from_residual-in_err-found.result
+    (Fault c.in_err-found.field-0.0) c.from_residual-in_err-found.ensures))
+    (faulted (λ s. put_item s c.args.moment ms)
+    (Stands (g.D.Disk.state c.args.disk.now) c.args.tables.now) now
+    c.in_err-found.field-0.0 c.in_err-found.ensures.cause
+    (λ s stands. (c.in_err-found.ensures.stays s).0 stands))
+
+pub write-requires-clause-there : goal.write-requires-clause-there
+write-requires-clause-there g c = ap (λ m. is_some (map.get m c.table_name-name.result.now))
+    c.in_ok-found.ensures.catalog.catalog
+    ∙ ap (λ n. is_some (map.get (catalog_of c.args.tables.now) n)) c.table_name-name.ensures.name
+    ∙ ap is_some c.in_ok-target.ensures.target.there
+
+pub write-requires-clause-found : goal.write-requires-clause-found
+write-requires-clause-found g c s stands = c.in_ok-found.ensures.item s
+    ((c.in_ok-found.ensures.stays s).1 stands)
+
+pub write-requires-clause-new : goal.write-requires-clause-new
+write-requires-clause-new g c d there =
+    let ms : Members = members_view c.args.body.now.entries in
+    let same : c.in_ok-target.target.schema.now ≡ d =
+    same_description (catalog_of c.args.tables.now) (catalog_of c.find.new.self)
+    (table_name ms) c.in_ok-target.target.schema.now d
+    c.in_ok-found.ensures.catalog.catalog c.in_ok-target.ensures.target.there
+    (ap (map.get (catalog_of c.find.new.self)) (sym c.table_name-name.ensures.name) ∙ there) in
+    subst (λ (x : TableSchema). IsStored x c.in_ok-found.found.place c.in_ok-target.target.item)
+    same
+    (subst (λ (p : List ℕ). IsStored c.in_ok-target.target.schema.now p c.in_ok-target.target.item)
+    (sym c.in_ok-found.ensures.place)
+    (may_be_put (body_refusals c.put_item-broken.result rules ms) ms
+    c.in_ok-target.target.schema.now c.in_ok-target.target.item c.in_ok-target.target.place
+    c.in_ok-target.ensures.target.placed c.in_ok-item_refusal.ensures.tested))
+
+pub returns-in_err-write-clause-carried : goal.returns-in_err-write-clause-carried
+returns-in_err-write-clause-carried g c =
+    let ms : Members = members_view c.args.body.now.entries in
+    let now : State → Type 0 = Stands (g.D.Disk.state c.write.new.disk) c.write.new.self in
+    subst (Carries (λ s. put_item s c.args.moment ms)
+    (Stands (g.D.Disk.state c.args.disk.now) c.args.tables.now) now)
+    (sym (err_is c.from_residual-in_err-write.result
+    (Fault c.in_err-write.field-0.0) c.from_residual-in_err-write.ensures))
+    (broke_off (λ s. put_item s c.args.moment ms)
+    (Stands (g.D.Disk.state c.args.disk.now) c.args.tables.now) now c.in_err-write.field-0.0
+    a_number (λ s stands.
+    let at = item_reached (g.D.Disk.state c.args.disk.now) c.args.tables.now
+    (body_refusals c.put_item-broken.result rules ms) ms (λ s. put_item s c.args.moment ms) Item
+    (λ s. puts s c.args.moment ms) (put_is c.args.moment ms c.put_item-broken.result
+    c.put_item-broken.ensures) c.in_ok-target.target c.in_ok-target.ensures.target s stands in (
+      item_writes s c.args.moment (table_name ms) at.0 c.in_ok-target.target.place
+          (Some c.in_ok-target.target.item),
+      done,
+      at.3 ∙ puts-written s c.args.moment ms c.in_ok-target.target.item at.0
+          c.in_ok-target.target.place c.in_ok-target.target.schema.now at.2
+          c.in_ok-item_refusal.ensures.tested,
+      subst (λ atoms. BreakOff now a_number s atoms c.in_err-write.field-0.0)
+          (same_writes s c.args.moment at.0 c.table_name-name.result.now
+          (table_name ms) c.in_ok-found.found.place c.in_ok-target.target.place
+          (Some c.in_ok-target.target.item)
+          c.table_name-name.ensures.name c.in_ok-found.ensures.place)
+          (c.in_err-write.ensures.writes s at.0 ((c.in_ok-found.ensures.stays s).0 stands)
+          (ap (map.get s.tables) c.table_name-name.ensures.name ∙ at.1)),
+    )))
+
+pub returns-clause-carried : goal.returns-clause-carried
+returns-clause-carried g c =
+    let ms : Members = members_view c.args.body.now.entries in
+    let now : State → Type 0 = Stands (g.D.Disk.state c.write.new.disk) c.write.new.self in
+    wrote (λ s. put_item s c.args.moment ms) (Stands
+    (g.D.Disk.state c.args.disk.now) c.args.tables.now) now c.done.result c.done.ensures.plain
+    a_number (λ s stands.
+    let at = item_reached (g.D.Disk.state c.args.disk.now) c.args.tables.now
+    (body_refusals c.put_item-broken.result rules ms) ms (λ s. put_item s c.args.moment ms) Item
+    (λ s. puts s c.args.moment ms) (put_is c.args.moment ms c.put_item-broken.result
+    c.put_item-broken.ensures) c.in_ok-target.target c.in_ok-target.ensures.target s stands in
+    let atoms : List State = item_writes s c.args.moment
+    (table_name ms) at.0 c.in_ok-target.target.place (Some c.in_ok-target.target.item) in (
+      atoms,
+      at.3 ∙ puts-written s c.args.moment ms c.in_ok-target.target.item at.0
+          c.in_ok-target.target.place c.in_ok-target.target.schema.now at.2
+          c.in_ok-item_refusal.ensures.tested
+          ∙ ap (λ a. writes atoms a) (sym c.done.ensures.reply),
+      subst (λ (ts : List State). AreMade now a_number s ts)
+          (same_writes s c.args.moment at.0 c.table_name-name.result.now
+          (table_name ms) c.in_ok-found.found.place c.in_ok-target.target.place
+          (Some c.in_ok-target.target.item)
+          c.table_name-name.ensures.name c.in_ok-found.ensures.place)
+          (c.in_ok-write.ensures.writes s at.0 ((c.in_ok-found.ensures.stays s).0 stands)
+          (ap (map.get s.tables) c.table_name-name.ensures.name ∙ at.1)),
+    ))

@@ -7,5 +7,6 @@ use Rattle.alt_ops_table.proofs.list.json_of_texts.Goals as goal
 
 pub returns : goal.returns
 returns c =
-    shown_whole (λ text. string text) c.args.texts.now c.loop-text.text-index c.loop-text.values.items c.loop-text-test.false c.loop-text.invariant
+    shown_whole (λ text. string text) c.args.texts.now c.loop-text.text-index
+    c.loop-text.values.items c.loop-text-test.false c.loop-text.invariant
     ∙ items_by-string c.args.texts.now

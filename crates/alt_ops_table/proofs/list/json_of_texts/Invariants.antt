@@ -5,4 +5,5 @@ use Rattle.serde_json.specs.Data.{string}
 use Rattle.alt_ops_table.proofs.list.json_of_texts.Given as goal
 
 abbrev pub invariant-loop-text : goal.invariant-loop-text
-invariant-loop-text l = map view l.values.items ≡ map (λ text. string text) (take l.text-index l.texts)
+invariant-loop-text l = map view l.values.items
+    ≡ map (λ text. string text) (take l.text-index l.texts)

@@ -1,22 +1,33 @@
 -- The refusal, or the page.
-use Rattle.std.proofs.Common.{◌∙◌, sym}
+use Rattle.std.proofs.Common.{◌≡◌, sym, ap, ◌∙◌, subst, Err}
+use Rattle.serde_json.specs.Data.{Members}
 use Rattle.serde_json.specs.View.{members_view}
-use Rattle.alt_machine.specs.Ops.ListTables.{names_after, page_of}
-use Rattle.alt_tables.specs.Stands.{state_of}
-use Rattle.alt_ops_table.proofs.Listing.{list-refused, list-page, page-listed, reply_plain}
+use Rattle.alt_machine.specs.Ops.ListTables.{of_body, list_tables}
+use Rattle.alt_machine.specs.Outcomes.{says}
+use Rattle.alt_request.specs.Carried.{Carries}
+use Rattle.alt_request.proofs.Carrying.{said, untested}
+use Rattle.alt_request.proofs.Reaching.{err_is}
+use Rattle.alt_tables.specs.Stands.{Stands, catalog_of}
+use Rattle.alt_ops_table.proofs.Listing.{list-refused, list-page}
 use Rattle.alt_ops_table.proofs.list.list_tables.Goals as goal
 
-pub returns-in-Some-clause-reply : goal.returns-in-Some-clause-reply
-returns-in-Some-clause-reply g c =
-    c.in_ok-refuse.ensures.told
-    ∙ sym (list-refused (state_of c.args.tables.now) (members_view c.args.body.now.entries) c.in-Some.refusal (sym c.in-Some.ensures.first))
+pub returns-in_err-unfit-clause-carried : goal.returns-in_err-unfit-clause-carried
+returns-in_err-unfit-clause-carried g c =
+    let ms : Members = members_view c.args.body.now.entries in
+    subst (Carries (λ s. list_tables s ms) (Stands
+    (g.D.Disk.state c.args.disk.now) c.args.tables.now)
+    (Stands (g.D.Disk.state c.args.disk.now) c.args.tables.now))
+    (sym (err_is c.from_residual.result c.in_err-unfit.field-0.0 c.from_residual.ensures))
+    (untested (λ s. list_tables s ms) (Stands (g.D.Disk.state c.args.disk.now) c.args.tables.now)
+    (Stands (g.D.Disk.state c.args.disk.now) c.args.tables.now)
+    (of_body ms) c.in_err-unfit.field-0.0 c.in_err-unfit.ensures.tested
+    (λ s stands r e. list-refused s ms r e) (λ s stands. stands))
 
-pub returns-clause-reply : goal.returns-clause-reply
-returns-clause-reply g c =
-    c.in_ok-listed.ensures.reply
-    ∙ page-listed _ _ _ _ c.in_ok-page.ensures.names c.in_ok-page.ensures.more
-    ∙ (λ i. page_of (c.page_length.ensures i) (names_after (c.start_name.ensures i) (state_of c.args.tables.now).tables))
-    ∙ sym (list-page (state_of c.args.tables.now) (members_view c.args.body.now.entries) (sym c.in_default.ensures.first))
-
-pub returns-clause-plain : goal.returns-clause-plain
-returns-clause-plain g c = reply_plain c.in_ok-listed.field-0 _ _ c.in_ok-listed.ensures.reply
+pub returns-in-Ok-clause-carried : goal.returns-in-Ok-clause-carried
+returns-in-Ok-clause-carried g c =
+    let ms : Members = members_view c.args.body.now.entries in
+    said (λ s. list_tables s ms) (Stands (g.D.Disk.state c.args.disk.now) c.args.tables.now)
+    (Stands (g.D.Disk.state c.args.disk.now) c.args.tables.now)
+    c.in-Ok.reply c.in-Ok.ensures.plain
+    (λ s stands. list-page s ms (catalog_of c.args.tables.now) stands.catalog
+    c.in_ok-unfit.ensures.tested ∙ ap says (sym c.in-Ok.ensures.reply)) (λ s stands. stands)

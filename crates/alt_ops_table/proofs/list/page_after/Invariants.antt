@@ -3,10 +3,11 @@ use Rattle.std.proofs.Common.{◌≡◌, ◌++◌, length}
 use denote.Text.{Utf8}
 use denote.Shadow.{shadow}
 use Rattle.alt_machine.specs.Ops.ListTables.{names_after}
-use Rattle.alt_tables.specs.Stands.{state_of}
+use Rattle.alt_tables.specs.Stands.{catalog_of}
 use Rattle.alt_ops_table.proofs.list.page_after.Given as goal
 
 abbrev pub invariant-loop : goal.invariant-loop
 invariant-loop l = shadow (Utf8 l.last)
     × (length l.names.items ≡ l.counter)
-    × (l.names.items ++ names_after l.last (state_of l.tables).tables ≡ names_after l.start (state_of l.tables).tables)
+    × (l.names.items ++ names_after l.last (catalog_of l.tables)
+    ≡ names_after l.start (catalog_of l.tables))

@@ -35,7 +35,7 @@ chosen_fields-loop-name-preserved t c =
     let same = c.deref-name-items.ensures.value in
     let lt : c.loop-name.name-index < length c.deref-name-items.result.now = omega (arith, c.loop-name-test.true) in
     let put : c.put_chosen.new.out ≡ put_if c.loop-name-item.result.0.now
-        (option_and_then (chosen (nows c.loop-name-item.result.1.items)) (at_name c.loop-name-item.result.0.now c.args.item.now)) c.loop-name.out =
+    (option_and_then (chosen (nows c.loop-name-item.result.1.items)) (at_name c.loop-name-item.result.0.now c.args.item.now)) c.loop-name.out =
     rw (← c.as_slice.ensures.value) c.in_ok-put_chosen.ensures in
     name_more (nows c.args.ways.now) c.in_ok-by_name.field-0.items c.in_ok-by_name.ensures
     c.deref-name-items.result.now (rw same c.in_ok-named.ensures.rising) (rw same c.in_ok-named.ensures.groups) c.args.item.now
@@ -53,7 +53,7 @@ chosen_elements-loop-i-preserved t c =
     let same = c.deref-i-items.ensures.value in
     let lt : c.loop-i.i-index < length c.deref-i-items.result.now = omega (arith, c.loop-i-test.true) in
     let put : c.push_chosen.new.out ≡ c.loop-i.out
-        ++ option_to_list (option_and_then (chosen (nows c.loop-i-item.result.1.items)) (slice_get c.args.list.now c.loop-i-item.result.0)) =
+    ++ option_to_list (option_and_then (chosen (nows c.loop-i-item.result.1.items)) (slice_get c.args.list.now c.loop-i-item.result.0)) =
     rw (← c.as_slice.ensures.value) c.in_ok-push_chosen.ensures in
     index_more (nows c.args.ways.now) c.in_ok-by_index.field-0.items c.in_ok-by_index.ensures
     c.deref-i-items.result.now (rw same c.in_ok-indexed.ensures.rising) (rw same c.in_ok-indexed.ensures.groups) c.args.list.now

@@ -5,4 +5,5 @@ use Rattle.alt_request.proofs.Walks.{all_mapped}
 use Rattle.alt_request.proofs.body.all_name.Goals as goal
 
 pub returns : goal.returns
-returns c = c.each_may_name.ensures ∙ all_mapped (λ w. w.now) (may_name (members_view c.args.body.now.entries)) c.args.names.now
+returns c = c.each_may_name.ensures ∙ all_mapped (λ w. w.now)
+    (may_name (members_view c.args.body.now.entries)) c.args.names.now

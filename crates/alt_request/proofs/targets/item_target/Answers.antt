@@ -22,39 +22,56 @@ tests_of broken rules ms = body_refusals broken (rules_of rules) ms
 
 pub returns-in_err-schema : goal.returns-in_err-schema
 returns-in_err-schema c = record {
-  target = subst (λ r. OnItem (tests_of c.args.broken c.args.rules.now (members_view c.args.body.now.entries)) c.args.sought (catalog_of c.args.tables.now) (members_view c.args.body.now.entries) r)
-      (sym (err_is c.from_residual-in_err-schema.result c.in_err-schema.field-0.0 c.from_residual-in_err-schema.ensures))
-      (no_table (tests_of c.args.broken c.args.rules.now (members_view c.args.body.now.entries)) c.args.sought (catalog_of c.args.tables.now) (members_view c.args.body.now.entries) c.in_ok-body_refusal.ensures.tested
-      c.in_ok-item.item c.in_ok-item.ensures.read c.in_err-schema.field-0.0 c.in_err-schema.ensures.found);
+  target = subst (λ r. OnItem (tests_of c.args.broken c.args.rules.now
+      (members_view c.args.body.now.entries)) c.args.sought (catalog_of c.args.tables.now)
+      (members_view c.args.body.now.entries) r)
+      (sym (err_is c.from_residual-in_err-schema.result c.in_err-schema.field-0.0
+      c.from_residual-in_err-schema.ensures))
+      (no_table (tests_of c.args.broken c.args.rules.now (members_view c.args.body.now.entries))
+      c.args.sought (catalog_of c.args.tables.now)
+      (members_view c.args.body.now.entries) c.in_ok-body_refusal.ensures.tested
+      c.in_ok-item.item c.in_ok-item.ensures.read c.in_err-schema.field-0.0
+      c.in_err-schema.ensures.found);
 }
 
 pub returns-in_err-place : goal.returns-in_err-place
 returns-in_err-place c = record {
-  target = subst (λ r. OnItem (tests_of c.args.broken c.args.rules.now (members_view c.args.body.now.entries)) c.args.sought (catalog_of c.args.tables.now) (members_view c.args.body.now.entries) r)
-      (sym (err_is c.from_residual-in_err-place.result c.in_err-place.field-0.0 c.from_residual-in_err-place.ensures))
-      (no_place (tests_of c.args.broken c.args.rules.now (members_view c.args.body.now.entries)) c.args.sought (catalog_of c.args.tables.now) (members_view c.args.body.now.entries) c.in_ok-body_refusal.ensures.tested
-      c.in_ok-item.item c.in_ok-item.ensures.read c.in_ok-schema.schema.now c.in_ok-schema.ensures.found c.in_err-place.field-0.0 c.in_err-place.ensures.place);
+  target = subst (λ r. OnItem (tests_of c.args.broken c.args.rules.now
+      (members_view c.args.body.now.entries)) c.args.sought (catalog_of c.args.tables.now)
+      (members_view c.args.body.now.entries) r)
+      (sym (err_is c.from_residual-in_err-place.result c.in_err-place.field-0.0
+      c.from_residual-in_err-place.ensures))
+      (no_place (tests_of c.args.broken c.args.rules.now (members_view c.args.body.now.entries))
+      c.args.sought (catalog_of c.args.tables.now)
+      (members_view c.args.body.now.entries) c.in_ok-body_refusal.ensures.tested
+      c.in_ok-item.item c.in_ok-item.ensures.read c.in_ok-schema.schema.now
+      c.in_ok-schema.ensures.found c.in_err-place.field-0.0 c.in_err-place.ensures.place);
 }
 
 pub returns-then-not-key_fits : goal.returns-then-not-key_fits
 returns-then-not-key_fits c = record {
   target = (
-      omega arith,
-      too_long (tests_of c.args.broken c.args.rules.now (members_view c.args.body.now.entries)) c.args.sought (catalog_of c.args.tables.now) (members_view c.args.body.now.entries) c.in_ok-body_refusal.ensures.tested
-          c.in_ok-item.item c.in_ok-item.ensures.read c.in_ok-schema.schema.now c.in_ok-schema.ensures.found c.in_ok-place.place c.in_ok-place.ensures.place
-          (sym c.if-not-key_fits.ensures.fits),
-    );
+    omega arith,
+    too_long (tests_of c.args.broken c.args.rules.now (members_view c.args.body.now.entries))
+        c.args.sought (catalog_of c.args.tables.now)
+        (members_view c.args.body.now.entries) c.in_ok-body_refusal.ensures.tested
+        c.in_ok-item.item c.in_ok-item.ensures.read c.in_ok-schema.schema.now
+        c.in_ok-schema.ensures.found c.in_ok-place.place c.in_ok-place.ensures.place
+        (sym c.if-not-key_fits.ensures.fits),
+  );
 }
 
 pub returns : goal.returns
 returns c = record {
   target = record {
-    description = c.in_ok-schema.schema.now;
-    there = some_found not_found (map.get (catalog_of c.args.tables.now) (table_name (members_view c.args.body.now.entries))) c.in_ok-schema.schema.now c.in_ok-schema.ensures.found;
+    there = some_found not_found (map.get (catalog_of c.args.tables.now)
+        (table_name (members_view c.args.body.now.entries))) c.in_ok-schema.schema.now
+        c.in_ok-schema.ensures.found;
     placed = record {
       body = c.in_ok-body_refusal.ensures.tested;
       read = c.in_ok-item.ensures.read;
-      at = some_found bad_key (place_in c.args.sought c.in_ok-schema.schema.now c.in_ok-item.item) c.in_ok-place.place c.in_ok-place.ensures.place;
+      at = some_found bad_key (place_in c.args.sought c.in_ok-schema.schema.now c.in_ok-item.item)
+          c.in_ok-place.place c.in_ok-place.ensures.place;
       fits = sym c.if-not-key_fits.ensures.fits;
     };
   };

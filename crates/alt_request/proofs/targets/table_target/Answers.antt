@@ -8,6 +8,8 @@ use Rattle.alt_request.proofs.targets.table_target.Goals as goal
 
 pub returns : goal.returns
 returns c = record {
-  target = unnamed (body_refusals c.args.broken (rules_of c.args.rules.now) (members_view c.args.body.now.entries)) (catalog_of c.args.tables.now)
-      (members_view c.args.body.now.entries) c.in_ok-body_refusal.ensures.tested c.table_of.result c.table_of.ensures.found;
+  target = unnamed (body_refusals c.args.broken (rules_of c.args.rules.now)
+      (members_view c.args.body.now.entries)) (catalog_of c.args.tables.now)
+      (members_view c.args.body.now.entries) c.in_ok-body_refusal.ensures.tested c.table_of.result
+      c.table_of.ensures.found;
 }

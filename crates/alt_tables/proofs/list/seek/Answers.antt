@@ -9,8 +9,10 @@ pub loop-low-preserved-in-Less : goal.loop-low-preserved-in-Less
 loop-low-preserved-in-Less c = record {
   ordered = omega arith;
   within = c.loop-low.invariant.within;
-  before = below_more (λ e. e.schema.name) table_of c.args.name.now c.args.entries.now.items _ c.index.result.now c.requires (omega arith) c.index.ensures
-      (ap (λ s. text_order s c.args.name.now) (sym c.as_str.ensures.same) ∙ sym c.cmp.ensures ∙ c.in-Less.is);
+  before = below_more (λ e. e.schema.name) table_of c.args.name.now c.args.entries.now.items _
+      c.index.result.now c.requires (omega arith) c.index.ensures
+      (ap (λ s. text_order s c.args.name.now) (sym c.as_str.ensures.same) ∙ sym c.cmp.ensures
+      ∙ c.in-Less.is);
   after = c.loop-low.invariant.after;
 }
 
@@ -19,10 +21,14 @@ loop-low-preserved c = record {
   ordered = omega arith;
   within = omega arith;
   before = c.loop-low.invariant.before;
-  after = above_more (λ e. e.schema.name) table_of c.args.name.now c.args.entries.now.items _ c.index.result.now c.requires (omega arith) c.index.ensures
-      (ap (λ s. text_order s c.args.name.now) (sym c.as_str.ensures.same) ∙ sym c.cmp.ensures ∙ c.in-Greater.is);
+  after = above_more (λ e. e.schema.name) table_of c.args.name.now c.args.entries.now.items _
+      c.index.result.now c.requires (omega arith) c.index.ensures
+      (ap (λ s. text_order s c.args.name.now) (sym c.as_str.ensures.same) ∙ sym c.cmp.ensures
+      ∙ c.in-Greater.is);
 }
 
 pub returns-in-Equal-clause-named : goal.returns-in-Equal-clause-named
-returns-in-Equal-clause-named c = named_here (λ e. e.schema.name) table_of c.args.name.now c.args.entries.now.items _ c.index.result.now (omega arith) c.index.ensures
-    (ap (λ s. text_order s c.args.name.now) (sym c.as_str.ensures.same) ∙ sym c.cmp.ensures ∙ c.in-Equal.is)
+returns-in-Equal-clause-named c = named_here (λ e. e.schema.name) table_of c.args.name.now
+    c.args.entries.now.items _ c.index.result.now (omega arith) c.index.ensures
+    (ap (λ s. text_order s c.args.name.now) (sym c.as_str.ensures.same) ∙ sym c.cmp.ensures
+    ∙ c.in-Equal.is)

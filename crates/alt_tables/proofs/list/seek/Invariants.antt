@@ -9,8 +9,10 @@ abbrev pub invariant-loop-low : goal.invariant-loop-low
 invariant-loop-low l = record {
   ordered : l.low ≤ l.high;
   within : l.high ≤ length l.entries.items;
-  before : (k : ℕ) (d : TableEntry) → k < l.low → text_order (get_or l.entries.items k d).schema.name l.name ≡ Less;
-  after : (k : ℕ) (d : TableEntry) → l.high ≤ k → k < length l.entries.items → text_order (get_or l.entries.items k d).schema.name l.name ≡ Greater;
+  before : (k : ℕ) (d : TableEntry) → k < l.low
+      → text_order (get_or l.entries.items k d).schema.name l.name ≡ Less;
+  after : (k : ℕ) (d : TableEntry) → l.high ≤ k → k < length l.entries.items
+      → text_order (get_or l.entries.items k d).schema.name l.name ≡ Greater;
 }
 
 abbrev pub decreases-loop-low : goal.decreases-loop-low

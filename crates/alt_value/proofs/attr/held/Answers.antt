@@ -1,5 +1,5 @@
 -- A list and an item hold values.
-use Rattle.std.proofs.Common.{◌≡◌, sym, ap, subst, ◌∙◌}
+use Rattle.std.proofs.Common.{sym, subst}
 use Rattle.alt_value.specs.Stands.{tree_of}
 use Rattle.alt_value.specs.Values.{IsValue}
 use Rattle.alt_value.proofs.Values.{IsValue-list, IsValue-map}

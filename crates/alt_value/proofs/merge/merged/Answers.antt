@@ -1,5 +1,5 @@
 -- The lesser of the two in front is put out, and of two that tie the second.
-use Rattle.std.proofs.Common.{sym, ◌∙◌, ◌+◌, ◌≤◌, ◌⊎◌, inl, inr, length, arith}
+use Rattle.std.proofs.Common.{sym, ◌∙◌, ◌≤◌, ◌⊎◌, inl, inr, length, arith}
 use Rattle.alt_value.proofs.Merged.{both-less, both-equal, both-greater, both-end}
 use Rattle.alt_value.proofs.merge.merged.Goals.{then-loop-i-test+else-j-set, else-loop-i-test}
 use Rattle.alt_value.proofs.merge.merged.Goals as goal

@@ -1,5 +1,5 @@
 -- The second in front is put out where it is the lesser.
-use Rattle.std.proofs.Common.{sym, ◌∙◌, ◌+◌, ◌≤◌, ◌⊎◌, inl, inr, length, arith}
+use Rattle.std.proofs.Common.{sym, ◌∙◌, ◌≤◌, ◌⊎◌, inl, inr, length, arith}
 use Rattle.alt_value.proofs.Merged.{rest-less, rest-equal, rest-greater, rest-end}
 use Rattle.alt_value.proofs.merge.parted.Goals.{then-loop-i-test+else-j-set, else-loop-i-test}
 use Rattle.alt_value.proofs.merge.parted.Goals as goal

@@ -1,10 +1,9 @@
-use Rattle.std.proofs.Common.{◌≡◌, Bool, true, false, ℕ, List, ap, subst, sym, ◌∙◌}
+use Rattle.std.proofs.Common.{Bool, ap, subst, sym}
 use Rattle.alt_lines.specs.Reader.{unread}
 use Rattle.alt_lines.specs.Unread.{Unread}
 use Rattle.alt_machine.specs.State.{State, start}
-use Rattle.alt_shell.specs.Log.{Log}
 use Rattle.alternator.specs.Faults.{number_of}
-use Rattle.alternator.specs.Runs.{Calls, Reaches, Goes, GoesOrEnds, GoesSome, Ends, Answers, AnswersSome}
+use Rattle.alternator.specs.Runs.{Reaches, Goes, GoesOrEnds, GoesSome, Ends, Answers, AnswersSome}
 use Rattle.alternator.proofs.Passing.{passes_none, passes_then}
 use Rattle.alternator.proofs.Pulling.{fresh, goes_none, goes_then, goes_ends, goes_breaks, answers_all, answers_some}
 use Rattle.alternator.proofs.Serving.{calls_as}
@@ -13,7 +12,8 @@ use Rattle.alternator.proofs.run.pulls.Goals as goal
 pub pulls-init : goal.pulls-init
 pulls-init g c =
     let old = g.S.Disk.state c.args.shell.now in (
-      subst (λ (u : Unread). Reaches old old c.new-tables.result (λ t. Goes start fresh t u)) (sym c.new-lines.ensures)
+      subst (λ (u : Unread). Reaches old old c.new-tables.result (λ t. Goes start fresh t u))
+          (sym c.new-lines.ensures)
           (goes_none old c.new-tables.result start fresh (c.new-tables.ensures.start old)),
       passes_none _,
       ap (λ (u : Unread). u.ended) c.new-lines.ensures,
@@ -23,10 +23,12 @@ pub pulls-preserved : goal.pulls-preserved
 pulls-preserved g c =
     let state = g.S.Disk.state in
     let front = c.pulls.invariant.0 in
-    let went = subst (λ (more : Bool). Reaches (state c.pulls.shell) (state c.pull.new.shell) c.pull.new.tables
-        (λ t. GoesOrEnds more front.to (unread c.pulls.lines) t (unread c.pull.new.lines)))
-        c.in-Ok-true.field-0-test (c.in-Ok-true.ensures.went front.to front.stands) in (
-      goes_then (state c.args.shell.now) (state c.pulls.shell) (state c.pull.new.shell) c.pulls.tables start fresh (unread c.pulls.lines) front
+    let went = subst (λ (more : Bool). Reaches (state c.pulls.shell)
+    (state c.pull.new.shell) c.pull.new.tables
+    (λ t. GoesOrEnds more front.to (unread c.pulls.lines) t (unread c.pull.new.lines)))
+    c.in-Ok-true.field-0-test (c.in-Ok-true.ensures.went front.to front.stands) in (
+      goes_then (state c.args.shell.now) (state c.pulls.shell)
+          (state c.pull.new.shell) c.pulls.tables start fresh (unread c.pulls.lines) front
           c.pull.new.tables (unread c.pull.new.lines) went,
       passes_then _ _ _ c.pulls.invariant.1 c.pull.ensures.passes,
       c.in-Ok-true.ensures.going c.in-Ok-true.field-0-test,
@@ -36,13 +38,15 @@ pub returns-in-Ok-false-clause-answered : goal.returns-in-Ok-false-clause-answer
 returns-in-Ok-false-clause-answered g c =
     let state = g.S.Disk.state in
     let front = c.pulls.invariant.0 in
-    let went = subst (λ (more : Bool). Reaches (state c.pulls.shell) (state c.pull.new.shell) c.pull.new.tables
-        (λ t. GoesOrEnds more front.to (unread c.pulls.lines) t (unread c.pull.new.lines)))
-        c.in-Ok-false.field-0-test (c.in-Ok-false.ensures.went front.to front.stands) in
+    let went = subst (λ (more : Bool). Reaches (state c.pulls.shell)
+    (state c.pull.new.shell) c.pull.new.tables
+    (λ t. GoesOrEnds more front.to (unread c.pulls.lines) t (unread c.pull.new.lines)))
+    c.in-Ok-false.field-0-test (c.in-Ok-false.ensures.went front.to front.stands) in
     calls_as (state c.args.shell.now).beside (state c.pull.new.shell).beside
     {P = λ es ms. (t : State) × Ends start fresh t es ms} {Q = Answers start}
     (λ es ms x. answers_all start x.0 es ms x.1)
-    (goes_ends (state c.args.shell.now) (state c.pulls.shell) (state c.pull.new.shell) c.pulls.tables start fresh (unread c.pulls.lines) front
+    (goes_ends (state c.args.shell.now) (state c.pulls.shell)
+    (state c.pull.new.shell) c.pulls.tables start fresh (unread c.pulls.lines) front
     c.pull.new.tables went)
 
 pub returns-in-Err-clause-answered : goal.returns-in-Err-clause-answered
@@ -50,7 +54,9 @@ returns-in-Err-clause-answered g c =
     let state = g.S.Disk.state in
     let front = c.pulls.invariant.0 in
     calls_as (state c.args.shell.now).beside (state c.pull.new.shell).beside
-    {P = GoesSome (number_of c.in-Err.fault) start fresh} {Q = AnswersSome (number_of c.in-Err.fault) start}
+    {P = GoesSome (number_of c.in-Err.fault) start fresh} {Q =
+    AnswersSome (number_of c.in-Err.fault) start}
     (answers_some (number_of c.in-Err.fault) start)
-    (goes_breaks (state c.args.shell.now) (state c.pulls.shell) (state c.pull.new.shell) c.pulls.tables start fresh (unread c.pulls.lines) front
+    (goes_breaks (state c.args.shell.now) (state c.pulls.shell)
+    (state c.pull.new.shell) c.pulls.tables start fresh (unread c.pulls.lines) front
     (number_of c.in-Err.fault) (c.in-Err.ensures.went front.to front.stands))

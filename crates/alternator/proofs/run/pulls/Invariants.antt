@@ -8,7 +8,8 @@ use Rattle.alternator.proofs.run.pulls.Given as goal
 abbrev pub invariant-pulls : goal.invariant-pulls
 invariant-pulls g l =
     let state = g.S.Disk.state in
-    Reaches (state l.initial.shell) (state l.shell) l.tables (λ t. Goes start fresh t (unread l.lines))
+    Reaches (state l.initial.shell) (state l.shell) l.tables
+    (λ t. Goes start fresh t (unread l.lines))
     × Passes (state l.initial.shell) (state l.shell)
     × ((unread l.lines).ended ≡ false)
 

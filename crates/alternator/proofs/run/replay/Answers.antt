@@ -1,7 +1,7 @@
 use Rattle.std.proofs.Common.{None}
 use Rattle.alt_machine.specs.State.{start}
-use Rattle.alternator.specs.Runs.{GoesSome, AnswersSome, asked_later}
-use Rattle.alternator.proofs.Pulling.{fresh, answers_some}
+use Rattle.alternator.specs.Runs.{AnswersSome}
+use Rattle.alternator.proofs.Pulling.{answers_some}
 use Rattle.alternator.proofs.Serving.{calls_none, breaks_none}
 use Rattle.alternator.proofs.run.replay.Goals as goal
 

@@ -11,9 +11,12 @@ returns-clause-ended g c =
       c.noted.result,
       record {
         by_ending = c.status_of.ensures;
-        done = noted_done (state c.args.shell.now) (state c.ended-ending.new.shell) (state c.noted.new.shell) c.ended-ending.result c.noted.result
-            c.noted.ensures.ending c.noted.ensures.silent c.noted.ensures.unasked c.noted.ensures.aside c.ended-ending.ensures.done;
-        noted = subst (λ (notes : Option (List ℕ)). StillGrows notes (notes_of (state c.noted.new.shell).beside) (note_of c.noted.result))
+        done = noted_done (state c.args.shell.now) (state c.ended-ending.new.shell)
+            (state c.noted.new.shell) c.ended-ending.result c.noted.result
+            c.noted.ensures.ending c.noted.ensures.silent c.noted.ensures.unasked
+            c.noted.ensures.aside c.ended-ending.ensures.done;
+        noted = subst (λ (notes : Option (List ℕ)). StillGrows notes
+            (notes_of (state c.noted.new.shell).beside) (note_of c.noted.result))
             c.ended-ending.ensures.passes.notes c.noted.ensures.noted;
       },
     )
@@ -24,7 +27,9 @@ returns-clause-complete g c = λ right well.
     let old = state c.args.shell.now in
     let new = state c.noted.new.shell in
     completes old new c.noted.result c.status_of.result c.status_of.ensures
-    (λ e. true≢false (sym right ∙ c.ended-ending.ensures.words.0 (noted_words c.ended-ending.result c.noted.result c.noted.ensures.ending e)))
+    (λ e. true≢false (sym right ∙ c.ended-ending.ensures.words.0
+    (noted_words c.ended-ending.result c.noted.result c.noted.ensures.ending e)))
     (noted_done old (state c.ended-ending.new.shell) new c.ended-ending.result c.noted.result
-    c.noted.ensures.ending c.noted.ensures.silent c.noted.ensures.unasked c.noted.ensures.aside c.ended-ending.ensures.done)
+    c.noted.ensures.ending c.noted.ensures.silent c.noted.ensures.unasked c.noted.ensures.aside
+    c.ended-ending.ensures.done)
     well

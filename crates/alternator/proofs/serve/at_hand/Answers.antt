@@ -14,10 +14,13 @@ pub lines-preserved : goal.lines-preserved
 lines-preserved g c =
     let state = g.S.Disk.state in
     let found = at_some _ _ _ c.in-Ok-Some.field-0-is c.in-Ok-Some.ensures.some in
-    let told = subst (λ (text : List ℕ). Tells found.0 c.in-Ok-Some.cut [] text) (sym c.deref.ensures.value) found.1 in (
+    let told = subst (λ (text : List ℕ). Tells found.0 c.in-Ok-Some.cut [] text)
+    (sym c.deref.ensures.value) found.1 in (
       hands_line (state c.args.shell.now) c.args.tables.now (state c.lines.shell) c.lines.tables
-          (unread c.args.lines.now) (unread c.lines.lines) (unread c.next_line.new.lines) found.0 c.lines.invariant.0 found.2
-          (state c.answer_line.new.shell) c.answer_line.new.tables (c.in-Ok.ensures.served found.0 told),
+          (unread c.args.lines.now) (unread c.lines.lines)
+          (unread c.next_line.new.lines) found.0 c.lines.invariant.0 found.2
+          (state c.answer_line.new.shell) c.answer_line.new.tables
+          (c.in-Ok.ensures.served found.0 told),
       passes_then _ _ _ c.lines.invariant.1 c.in-Ok.ensures.passes,
     )
 
@@ -25,28 +28,35 @@ pub returns-in-Err-answer_line-clause-served : goal.returns-in-Err-answer_line-c
 returns-in-Err-answer_line-clause-served g c = λ s stands.
     let state = g.S.Disk.state in
     let found = at_some _ _ _ c.in-Ok-Some.field-0-is c.in-Ok-Some.ensures.some in
-    let told = subst (λ (text : List ℕ). Tells found.0 c.in-Ok-Some.cut [] text) (sym c.deref.ensures.value) found.1 in
+    let told = subst (λ (text : List ℕ). Tells found.0 c.in-Ok-Some.cut [] text)
+    (sym c.deref.ensures.value) found.1 in
     hands_break (state c.args.shell.now) c.args.tables.now (state c.lines.shell) c.lines.tables
-    (unread c.args.lines.now) (unread c.lines.lines) (unread c.next_line.new.lines) found.0 c.lines.invariant.0 found.2
-    (state c.answer_line.new.shell) (number_of c.in-Err-answer_line.fault) s stands (c.in-Err-answer_line.ensures.served found.0 told)
+    (unread c.args.lines.now) (unread c.lines.lines)
+    (unread c.next_line.new.lines) found.0 c.lines.invariant.0 found.2
+    (state c.answer_line.new.shell) (number_of c.in-Err-answer_line.fault) s stands
+    (c.in-Err-answer_line.ensures.served found.0 told)
 
 pub returns-in-Ok-None-clause-served : goal.returns-in-Ok-None-clause-served
 returns-in-Ok-None-clause-served g c = λ s stands.
     let state = g.S.Disk.state in
     hands_all (state c.args.shell.now) c.args.tables.now (state c.lines.shell) c.lines.tables
-    (unread c.args.lines.now) (unread c.lines.lines) c.lines.invariant.0 (unread c.next_line.new.lines) (at_none _ _ c.in-Ok-None.field-0-is c.in-Ok-None.ensures.none) s stands
+    (unread c.args.lines.now) (unread c.lines.lines) c.lines.invariant.0
+    (unread c.next_line.new.lines) (at_none _ _ c.in-Ok-None.field-0-is
+    c.in-Ok-None.ensures.none) s stands
 
 pub returns-in-Ok-None-clause-lines : goal.returns-in-Ok-None-clause-lines
 returns-in-Ok-None-clause-lines g c =
     let state = g.S.Disk.state in
     hands_out (state c.args.shell.now) c.args.tables.now (state c.lines.shell) c.lines.tables
-    (unread c.args.lines.now) (unread c.lines.lines) c.lines.invariant.0 (unread c.next_line.new.lines) (at_none _ _ c.in-Ok-None.field-0-is c.in-Ok-None.ensures.none)
+    (unread c.args.lines.now) (unread c.lines.lines) c.lines.invariant.0
+    (unread c.next_line.new.lines) (at_none _ _ c.in-Ok-None.field-0-is
+    c.in-Ok-None.ensures.none)
 
 pub returns-in-Err-clause-served : goal.returns-in-Err-clause-served
 returns-in-Err-clause-served g c = λ s stands.
     let state = g.S.Disk.state in
     subst (λ (number : Option ℕ). Calls (state c.args.shell.now).beside (state c.lines.shell).beside
-        (BreaksAtHand number s (asked_now (unread c.args.lines.now))))
+    (BreaksAtHand number s (asked_now (unread c.args.lines.now))))
     (sym (ap number_of c.in-Err.ensures.err))
     (hands_memory (state c.args.shell.now) c.args.tables.now (state c.lines.shell) c.lines.tables
     (unread c.args.lines.now) (unread c.lines.lines) c.lines.invariant.0 s stands)

@@ -8,7 +8,8 @@ use Rattle.alternator.proofs.serve.at_hand.Given as goal
 abbrev pub invariant-lines : goal.invariant-lines
 invariant-lines g l =
     let state = g.S.Disk.state in
-    Hands (state l.initial.shell) l.initial.tables (state l.shell) l.tables (unread l.initial.lines) (unread l.lines)
+    Hands (state l.initial.shell) l.initial.tables (state l.shell) l.tables (unread l.initial.lines)
+    (unread l.lines)
     × Passes (state l.initial.shell) (state l.shell)
 
 abbrev pub decreases-lines : goal.decreases-lines

@@ -9,7 +9,8 @@ pub returns-in-Ok-clause-served : goal.returns-in-Ok-clause-served
 returns-in-Ok-clause-served g c = λ s stands.
     let state = g.S.Disk.state in
     let old = state c.args.shell.now in
-    turn_served old old (state c.say.new.self) c.args.tables.now s unread turned_away [] turned_away.text refl refl refl
+    turn_served old old (state c.say.new.self) c.args.tables.now s unread turned_away []
+    turned_away.text refl refl refl
     (Grows-nil old.beside) (Tells-nil (moments_of old.beside) (moments_of old.beside) refl)
     c.in-Ok.ensures.said c.in-Ok.ensures.moments refl
     (stands_on old (state c.say.new.self) c.args.tables.now s stands)

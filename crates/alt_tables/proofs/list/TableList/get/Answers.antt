@@ -9,12 +9,14 @@ use Rattle.alt_tables.proofs.list.TableList.get.Goals as goal
 pub returns-in-Ok : goal.returns-in-Ok
 returns-in-Ok c = record {
   table = ap (λ (e : TableEntry). Some (table_of e)) c.index.ensures
-      ∙ sym (get-found c.args.name.now c.self.inside.entries.items c.in-Ok.i c.self.invariant c.in-Ok.ensures.within c.in-Ok.ensures.named c.index.result.now)
+      ∙ sym (get-found c.args.name.now c.self.inside.entries.items c.in-Ok.i c.self.invariant
+      c.in-Ok.ensures.within c.in-Ok.ensures.named c.index.result.now)
       ∙ ap (λ m. map.get m c.args.name.now) c.self.view_is;
 }
 
 pub returns-in-Err : goal.returns-in-Err
 returns-in-Err c = record {
-  table = sym (get-missed c.args.name.now c.self.inside.entries.items c.in-Err.field-0 c.self.invariant c.in-Err.ensures.goes c.in-Err.ensures.apart)
+  table = sym (get-missed c.args.name.now c.self.inside.entries.items c.in-Err.field-0
+      c.self.invariant c.in-Err.ensures.goes c.in-Err.ensures.apart)
       ∙ ap (λ m. map.get m c.args.name.now) c.self.view_is;
 }

@@ -13,6 +13,7 @@ returns c =
     let counted : c.len.result ≡ length c.self.inside.entries.items = omega arith in
     record {
       count = counted
-          ∙ sym (len-map (pairs c.self.inside.entries.items) c.self.invariant ∙ length-map c.self.inside.entries.items (entry name_of table_of))
+          ∙ sym (len-map (pairs c.self.inside.entries.items) c.self.invariant
+          ∙ length-map c.self.inside.entries.items (entry name_of table_of))
           ∙ ap map.len c.self.view_is;
     }

@@ -6,17 +6,20 @@ use Rattle.alt_tables.proofs.list.TableList.remove.Goals as goal
 
 pub invariant_of-self : goal.invariant_of-self
 invariant_of-self c =
-    (removed c.args.name.now c.self.inside.entries.items c.in-Ok.i c.self.invariant c.in-Ok.ensures.within c.in-Ok.ensures.named _ c.remove.ensures.items).0
+    (removed c.args.name.now c.self.inside.entries.items c.in-Ok.i c.self.invariant
+    c.in-Ok.ensures.within c.in-Ok.ensures.named _ c.remove.ensures.items).0
 
 pub returns-in-Ok : goal.returns-in-Ok
 returns-in-Ok c = record {
-  rest = (removed c.args.name.now c.self.inside.entries.items c.in-Ok.i c.self.invariant c.in-Ok.ensures.within c.in-Ok.ensures.named _ c.remove.ensures.items).1
+  rest = (removed c.args.name.now c.self.inside.entries.items c.in-Ok.i c.self.invariant
+      c.in-Ok.ensures.within c.in-Ok.ensures.named _ c.remove.ensures.items).1
       ∙ ap (λ m. map.remove m c.args.name.now) c.self.view_is;
 }
 
 pub returns-in-Err : goal.returns-in-Err
 returns-in-Err c = record {
   rest = sym c.self.view_is
-      ∙ remove-missed c.args.name.now c.self.inside.entries.items c.in-Err.field-0 c.self.invariant c.in-Err.ensures.goes c.in-Err.ensures.apart
+      ∙ remove-missed c.args.name.now c.self.inside.entries.items c.in-Err.field-0 c.self.invariant
+      c.in-Err.ensures.goes c.in-Err.ensures.apart
       ∙ ap (λ m. map.remove m c.args.name.now) c.self.view_is;
 }

@@ -11,13 +11,17 @@ use Rattle.alt_tables.proofs.tables.Tables.create.Goals as goal
 
 pub returns-then-self-clause-writes : goal.returns-then-self-clause-writes
 returns-then-self-clause-writes g c s stands =
-    subst (λ (n : ℕ). BreakOff (Stands (g.D.Disk.state c.args.disk.now) c.args.self.now) a_table s (with_table s c.args.schema ∷ []) (Spent n)) (sym c.from.ensures)
-    (family_lacked (g.D.Disk.state c.args.disk.now) c.args.self.now c.args.schema c.if-self-ge-NUMBERS_END.false (omega arith) s stands)
+    subst (λ (n : ℕ). BreakOff (Stands (g.D.Disk.state c.args.disk.now) c.args.self.now) a_table s
+    (with_table s c.args.schema ∷ []) (Spent n)) (sym c.from.ensures)
+    (family_lacked (g.D.Disk.state c.args.disk.now) c.args.self.now c.args.schema
+    c.if-self-ge-NUMBERS_END.false (omega arith) s stands)
 
 pub add-requires : goal.add-requires
 add-requires g c = no_description c.args.self.now.list c.args.schema.name c.requires.absent
 
 pub returns-clause-writes : goal.returns-clause-writes
 returns-clause-writes g c =
-    table_made (g.D.Disk.state c.args.disk.now) c.args.self.now _ c.args.schema c.requires.few c.requires.made c.requires.new c.requires.number c.requires.family
-    c.in-Ok.ensures.ok refl (ap (λ (n : ℕ). c.args.self.now.family + n) c.family_count.ensures.count) c.if-self-ge-NUMBERS_END.false (omega arith)
+    table_made (g.D.Disk.state c.args.disk.now) c.args.self.now _ c.args.schema c.requires.few
+    c.requires.made c.requires.new c.requires.number c.requires.family
+    c.in-Ok.ensures.ok refl (ap (λ (n : ℕ). c.args.self.now.family + n)
+    c.family_count.ensures.count) c.if-self-ge-NUMBERS_END.false (omega arith)

@@ -6,10 +6,12 @@ use Rattle.alt_tables.proofs.tables.Tables.table.Goals as goal
 
 pub returns-in-Some : goal.returns-in-Some
 returns-in-Some c = record {
-  table = ap (option_map (λ (t : Table). t.description)) c.in-Some.ensures.table ∙ sym (get-descriptions c.args.self.now.list c.args.name.now);
+  table = ap (option_map (λ (t : Table). t.description)) c.in-Some.ensures.table
+      ∙ sym (get-descriptions c.args.self.now.list c.args.name.now);
 }
 
 pub returns-in-None : goal.returns-in-None
 returns-in-None c = record {
-  table = ap (option_map (λ (t : Table). t.description)) c.in-None.ensures.table ∙ sym (get-descriptions c.args.self.now.list c.args.name.now);
+  table = ap (option_map (λ (t : Table). t.description)) c.in-None.ensures.table
+      ∙ sym (get-descriptions c.args.self.now.list c.args.name.now);
 }

@@ -1,0 +1,46 @@
+-- What was carried out settles the request, once its refusal is told.
+use Rattle.std.proofs.Common.{◌≡◌, refl, sym, ap, subst, ◌∙◌, ℕ, List, [], ◌∷◌, length, take, Option, Some, None, option_map, Result, Ok, Err, OnOk, Bor, Bool, true, false, cond}
+use Rattle.std.specs.List.{find}
+use Rattle.std.specs.Str.{bytes_eq}
+use Rattle.alt_machine.specs.Outcomes.{Outcome, last_state, state_after}
+use Rattle.alt_machine.specs.State.{State}
+use Rattle.alt_machine.specs.Valid.{IsValid}
+use Rattle.alt_machine.specs.Wanted.{lack_among}
+use Rattle.alt_dispatch.specs.Settled.{Settles, Tells}
+use Rattle.alt_request.specs.Carried.{IsAnswered, Does, Carries}
+use Rattle.alt_request.specs.declared.stop.Stop.{Stop}
+use Rattle.alt_request.specs.declared.stop.Stop.TheVariants.{Refused, Fault}
+use Rattle.alt_shape.specs.Refusals.{Answer, answer_of, refused}
+use Rattle.alt_shape.specs.declared.refusal.Reply.{Reply}
+use Rattle.alt_tables.specs.declared.faults.TableFault.{TableFault}
+use Rattle.alt_tables.specs.declared.faults.TableFault.TheVariants.{NoMemory}
+
+module _ (now : State → Type 0) (s : State) (outcome : Outcome) where
+  -- all of a list is its first so many, as many as there are
+  take_whole : {A : Type 0} (xs : List A) → take (length xs) xs ≡ xs
+  take_whole [] = refl
+  take_whole (x ∷ xs) = ap (λ ys. x ∷ ys) (take_whole xs)
+
+  -- where the refusal isn't told for want of memory, nothing was written
+  untold : (answer : Answer) → IsAnswered now s outcome answer
+      → Settles now s outcome (Err NoMemory)
+  untold answer h = (
+    length outcome.atoms,
+    ap (lack_among outcome.wants s) (take_whole outcome.atoms) ∙ h.enough,
+    subst (λ atoms. now (last_state s atoms)) (sym (take_whole outcome.atoms)) h.state,
+  )
+
+  pub settled : (carried : Result Reply Stop) (told : Result Reply TableFault)
+      → Does now s outcome carried → Tells carried told → Settles now s outcome told
+  settled (Ok reply) told h is = subst (Settles now s outcome) (sym is) h
+  settled (Err (Refused r)) (Ok reply) h is = subst (IsAnswered now s outcome) (sym is) h
+  settled (Err (Refused r)) (Err fault) h is =
+      subst (λ f. Settles now s outcome (Err f)) (sym is) (untold (refused r) h)
+  settled (Err (Fault f)) told h is = subst (Settles now s outcome) (sym is) h
+
+-- what the tables then stand for is valid
+pub settled_valid : (now : State → Type 0) (s : State) (outcome : Outcome)
+    (told : Result Reply TableFault) → ((r : State) → now r → IsValid r)
+    → Settles now s outcome told → OnOk told (IsValid (last_state s outcome.atoms))
+settled_valid now s outcome (Ok reply) valid h = valid (last_state s outcome.atoms) h.state
+settled_valid now s outcome (Err fault) valid h = tt

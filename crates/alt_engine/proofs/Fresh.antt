@@ -1,0 +1,127 @@
+-- A fresh store: that a stop leaves it, and that no file is there where the first is named.
+use Rattle.std.proofs.Common.{◌≡◌, ◌≢◌, ◌<◌, ◌≤◌, ◌+◌, ◌==◌, ◌||◌, ℕ, zero, suc, Bool, true, false, List, [], ◌∷◌, ◌++◌}
+use Rattle.std.proofs.Common.{length, get_or, drop, Option, Some, None, is_some, refl, sym, ap, subst, ◌∙◌, arith, lit<, append_assoc}
+use Rattle.std.proofs.lemmas.Bool.{false≢true}
+use Rattle.std.proofs.lemmas.Bool.Decides.{nat_tests}
+use Rattle.std.proofs.lemmas.List.{drop_at}
+use Rattle.std.proofs.lemmas.Map.Keys.{below_from_sorted}
+use Rattle.std.specs.List.{list_any}
+use Rattle.std.specs.List.Sorted.{IsStrictlySortedBy}
+use Rattle.std.specs.Ordering.{nat_cmp}
+use Rattle.alt_disk.specs.Fates.{Fates, Fits}
+use Rattle.alt_disk.specs.Disk.{DiskState, IsImage, IsSettled, IsNames, now}
+use Rattle.alt_disk.specs.Runs.{Run}
+use Rattle.alt_gatelog.specs.Log.{IsLog, first_form, header, log_bytes, log_after, IsShortEntry}
+use Rattle.alt_engine.specs.Layout.{no_rows}
+use Rattle.alt_engine.specs.Image.{IsLayout, IsFresh, HasVersion, first_version, versions_file, entries_file}
+
+-- the header of a log has eight bytes
+length-header : length (header first_form) ≡ 8
+unfolding header
+length-header = refl
+
+-- the first version is short
+version_short : IsShortEntry first_version
+unfolding first_version
+version_short = lit< tt
+
+-- a file of the first version has it
+has_version : (file : Option (List ℕ)) → file
+    ≡ Some (log_bytes first_form (first_version ∷ []) 0 [])
+    → HasVersion file
+has_version file is = record {
+  before = [];
+  is = record { gate = 0; closed = omega arith; rest = []; is = is; lengths = (version_short, tt) };
+}
+
+-- and one without entries is an empty log
+has_none : (file : Option (List ℕ)) → file ≡ Some (log_bytes first_form [] 0 [])
+    → IsLog first_form [] file
+has_none file is = record { gate = 0; closed = omega arith; rest = []; is = is; lengths = tt }
+
+-- a stop leaves no row of a fresh store, and its first version
+pub fresh_layout : (s : DiskState) → IsFresh s → (image : ℕ → Option (List ℕ))
+    → IsImage s s.moment image → IsLayout image no_rows
+fresh_layout s fresh image is_image = record {
+  version = has_version (image versions_file)
+      (fresh.versions_last (image versions_file) (is_image versions_file) ∙ fresh.versions);
+  writes = [];
+  entries = has_none (image entries_file)
+      (fresh.entries_last (image entries_file) (is_image entries_file) ∙ fresh.entries);
+  held = tt;
+  rising = tt;
+  is = refl;
+}
+
+-- a file stays settled while calls touch another one
+pub settled_on : (a b : DiskState) (f g : ℕ) (P : ℕ → Option (List ℕ) → Type 0) → Run a b f P
+    → g ≢ f
+    → IsSettled a g → IsSettled b g
+settled_on a b f g P run other settled left fits =
+    settled left (subst (λ (x : Fates). Fits x left)
+    (run.fates b.moment g other run.later (omega arith)) fits)
+    ∙ sym (run.file g other)
+
+-- what stands behind the closed gate of an empty log with nothing behind it
+pub rest_none : (file : Option (List ℕ)) (gate : ℕ) (rest : List ℕ)
+    → file ≡ Some (log_bytes first_form [] 0 []) → file ≡ Some (log_bytes first_form [] gate rest)
+    → rest ≡ []
+rest_none file gate rest one two =
+    let both : Some (log_bytes first_form [] gate rest) ≡ Some (log_bytes first_form [] 0 []) =
+    sym two ∙ one in
+    let bytes : log_bytes first_form [] gate rest ≡ log_bytes first_form [] 0 [] = cc both in
+    ap (drop 1) (sym (behind gate rest) ∙ ap (drop 8) bytes ∙ behind 0 [])
+  where
+    behind : (g : ℕ) (r : List ℕ) → drop 8 (log_bytes first_form [] g r) ≡ g ∷ r
+    behind g r =
+        ap (drop 8) (append_assoc (header first_form) [] (g ∷ r))
+        ∙ drop_at (header first_form) (g ∷ r) 8 length-header
+
+-- a number below all of a list isn't in it
+not_listed : (f : ℕ) (xs : List ℕ) → ((k : ℕ) → k < length xs → f < get_or xs k 0)
+    → list_any (λ g. f == g) xs ≡ false
+not_listed f [] below = refl
+not_listed f (x ∷ xs) below =
+    let first : (f == x) ≡ false = (let less = below 0 (omega arith) in
+    grind (arith, nat_tests, less)) in
+    let others : list_any (λ g. f == g) xs ≡ false =
+    not_listed f xs (λ k less. below (suc k) (omega (arith, less))) in
+    λ i. first i || others i
+
+-- a file that isn't there
+pub none_there : (file : Option (List ℕ)) → is_some file ≡ false → file ≡ None
+none_there None no_one = refl
+none_there (Some bytes) no_one = absurd (false≢true (sym no_one))
+
+-- one that is
+some_there : (file : Option (List ℕ)) → is_some file ≡ true → file ≢ None
+some_there None yes_one same = false≢true yes_one
+some_there (Some bytes) yes_one same = (let f : ⊥ = cc in f)
+
+-- the first number of a list of names is that of the first file
+pub first_named : (x : ℕ) (xs : List ℕ) (file : ℕ → Option (List ℕ)) → IsNames (x ∷ xs) file
+    → (file x ≢ None) × ((f : ℕ) → f < x → file f ≡ None)
+first_named x xs file names = (
+  some_there (file x) (sym (names.exact x) ∙ listed),
+  λ f less. none_there (file f) (sym (names.exact f) ∙ not_listed f (x ∷ xs) (below f less)),
+)
+  where
+    listed : ((x == x) || list_any (λ g. x == g) xs) ≡ true
+    listed = let same : (x == x) ≡ true = grind (arith, nat_tests) in
+        ap (λ (b : Bool). b || list_any (λ g. x == g) xs) same
+
+    below : (f : ℕ) → f < x → (k : ℕ) → k < length (x ∷ xs) → f < get_or (x ∷ xs) k 0
+    below f less zero within = less
+    below f less (suc k) within =
+        let more = below_from_sorted (x ∷ xs) 0 (suc k) 0 names.rising (omega arith) within in
+        omega (arith, less, more)
+
+-- so of a list that isn't empty
+pub first_of_names : (xs : List ℕ) (file : ℕ → Option (List ℕ)) → IsNames xs file → 0 < length xs
+    → (file (get_or xs 0 0) ≢ None) × ((f : ℕ) → f < get_or xs 0 0 → file f ≡ None)
+first_of_names [] file names some = absurd (omega (arith, some))
+first_of_names (x ∷ xs) file names some = first_named x xs file names
+
+-- a number that isn't 0
+pub above_zero : (n : ℕ) → (n == 0) ≡ false → 0 < n
+above_zero n other = grind (arith, nat_tests)

@@ -1,0 +1,4 @@
+pub mod Image
+pub mod InHand
+pub mod Layout
+pub mod Making

@@ -1,0 +1,101 @@
+-- Items of one table lie by their keys.
+use Rattle.std.proofs.Common.{◌≡◌, refl, sym, subst, ℕ, Bool, true, false, cond, List, [], ◌∷◌, Option, Some, None, option_map, is_eq}
+use Rattle.std.specs.Prelude.{if◌then◌else◌, option_and_then}
+use Rattle.alt_keyorder.specs.Kinds.{IsOfKind, IsKeyFor}
+use Rattle.alt_keyorder.specs.Laws.{Lie}
+use Rattle.alt_keyorder.specs.Place.{Place, place_in_table}
+use Rattle.alt_keyorder.proofs.PlaceLaws.{table_lie}
+use Rattle.alt_machine.specs.Keys.{can_be_key, if_key, key_value, place_beside, key_place}
+use Rattle.alt_machine.specs.Laws.{PlacesLie}
+use Rattle.alt_schema.specs.declared.schema.KeyAttr.{KeyAttr}
+use Rattle.alt_schema.specs.declared.schema.TableSchema.{TableSchema}
+use Rattle.alt_value.specs.Item.{at_name}
+use Rattle.alt_value.specs.Members.{text_order}
+use Rattle.alt_value.specs.Tree.{Tree, Pair, S_tree, N_tree, B_tree, fields_of}
+use Rattle.alt_value.specs.Values.{IsValue, AreFields}
+use Rattle.alt_value.specs.declared.kind.KeyKind.{KeyKind}
+use Rattle.alt_value.specs.declared.kind.KeyKind.TheVariants.{S, N, B}
+
+same_Some : {A : Type 0} (x y : A) → Some x ≡ Some y → x ≡ y
+same_Some x y e = cc
+
+-- what is at a name is a value
+field_value : (name : List ℕ) (item : List Pair) (t : Tree) → AreFields (fields_of item)
+    → at_name name item ≡ Some t → IsValue t
+field_value name [] t h e = absurd (let f : ⊥ = cc in f)
+field_value name (p ∷ ps) t h e = by (is_eq (text_order name p.0)) (field_value name ps t h.2) e
+  where
+    by : (b : Bool) → (at_name name ps ≡ Some t → IsValue t)
+        → cond b (Some p.1) (at_name name ps) ≡ Some t → IsValue t
+    by true rest f = subst IsValue (same_Some p.1 t f) h.1
+    by false rest f = rest f
+
+some_is : (b : Bool) (u t : Tree) → (if b then Some u else None) ≡ Some t → u ≡ t
+some_is true u t e = same_Some u t e
+some_is false u t e = absurd (let f : ⊥ = cc in f)
+
+-- a value that can be a key is of the key's kind
+key_kind : (kind : KeyKind) (u t : Tree) → IsValue u → if_key kind u ≡ Some t → IsOfKind kind t
+key_kind S (S_tree s) t v e = subst (IsOfKind S)
+    (some_is (can_be_key S (S_tree s)) (S_tree s) t e) tt
+key_kind N (N_tree z) t v e = subst (IsOfKind N) (same_Some (N_tree z) t e) v
+key_kind B (B_tree b) t v e = subst (IsOfKind B)
+    (some_is (can_be_key B (B_tree b)) (B_tree b) t e) tt
+key_kind kind u t v e = absurd (let f : ⊥ = cc in f)
+
+part_kind : (item : List Pair) (key : KeyAttr) (t : Tree) → AreFields (fields_of item)
+    → key_value item key ≡ Some t → IsOfKind key.kind t
+part_kind item key t h e = by (at_name key.name item) refl e
+  where
+    by : (o : Option Tree) → at_name key.name item ≡ o
+        → option_and_then (if_key key.kind) o ≡ Some t → IsOfKind key.kind t
+    by None at f = absurd (let g : ⊥ = cc in g)
+    by (Some u) at f = key_kind key.kind u t (field_value key.name item u h at) f
+
+-- the key that a place is of
+record IsPlaceOfKey (d : TableSchema) (p : Place) : Type 0 where
+  hash : Tree
+  range : Option Tree
+  key : IsKeyFor d.hash.kind (option_map (λ r. r.kind) d.range) hash range
+  is : p ≡ place_in_table hash range
+
+beside : (d : TableSchema) (item : List Pair) (p : Place) (hash : Tree) (range : Option KeyAttr)
+    → range ≡ d.range → AreFields (fields_of item)
+    → IsOfKind d.hash.kind hash → place_beside item range hash ≡ Some p → IsPlaceOfKey d p
+beside d item p hash None same h k e = record {
+  hash = hash;
+  range = None;
+  key = subst (λ (r : Option KeyAttr). IsKeyFor d.hash.kind (option_map (λ x. x.kind) r) hash None)
+      same k;
+  is = sym (same_Some (place_in_table hash None) p e);
+}
+beside d item p hash (Some range) same h k e = by (key_value item range) refl e
+  where
+    by : (o : Option Tree) → key_value item range ≡ o
+        → option_map (λ r. place_in_table hash (Some r)) o ≡ Some p → IsPlaceOfKey d p
+    by None at f = absurd (let g : ⊥ = cc in g)
+    by (Some r) at f = record {
+      hash = hash;
+      range = Some r;
+      key = subst (λ (q : Option KeyAttr). IsKeyFor d.hash.kind (option_map (λ x. x.kind) q) hash
+          (Some r)) same (k, part_kind item range r h at);
+      is = sym (same_Some (place_in_table hash (Some r)) p f);
+    }
+
+key_of_place : (d : TableSchema) (item : List Pair) (p : Place) → AreFields (fields_of item)
+    → key_place d item ≡ Some p → IsPlaceOfKey d p
+key_of_place d item p h e = by (key_value item d.hash) refl e
+  where
+    by : (o : Option Tree) → key_value item d.hash ≡ o
+        → option_and_then (place_beside item d.range) o ≡ Some p → IsPlaceOfKey d p
+    by None at f = absurd (let g : ⊥ = cc in g)
+    by (Some hash) at f = beside d item p hash d.range refl h (part_kind item d.hash hash h at) f
+
+pub places_lie : PlacesLie
+places_lie d i j p q hi hj ei ej =
+    let a = key_of_place d i p hi.fields ei in
+    let b = key_of_place d j q hj.fields ej in
+    subst (λ (x : Place). Lie x q) (sym a.is)
+    (subst (λ (y : Place). Lie (place_in_table a.hash a.range) y) (sym b.is)
+    (table_lie d.hash.kind (option_map (λ (r : KeyAttr). r.kind) d.range) a.hash a.range b.hash
+    b.range a.key b.key))

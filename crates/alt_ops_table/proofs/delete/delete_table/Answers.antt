@@ -1,0 +1,82 @@
+-- The table isn't reached, or it is taken out and its description answered.
+use Rattle.std.proofs.Common.{◌≡◌, sym, ap, subst, ◌∙◌, ℕ, List, [], ◌∷◌, Option, Ok, Err}
+use Rattle.serde_json.specs.Data.{Members}
+use Rattle.serde_json.specs.View.{members_view}
+use Rattle.alt_machine.specs.Body.{body_refusals}
+use Rattle.alt_machine.specs.Ops.DeleteTable.{rules, deleted, without_table, delete_table}
+use Rattle.alt_machine.specs.Members.{table_name}
+use Rattle.alt_machine.specs.Outcomes.{writes, a_number}
+use Rattle.alt_machine.specs.State.{State}
+use Rattle.alt_machine.specs.Targets.{on_table}
+use Rattle.alt_request.specs.Carried.{Carries}
+use Rattle.alt_request.specs.declared.stop.Stop.TheVariants.{Fault}
+use Rattle.alt_request.proofs.Carrying.{table_passed, table_reached, broke_off, wrote}
+use Rattle.alt_request.proofs.Reaching.{err_is}
+use Rattle.alt_schema.specs.declared.schema.TableSchema.{TableSchema}
+use Rattle.alt_shape.specs.Bodies as bodies
+use Rattle.alt_shape.specs.Refusals.{answer_of}
+use Rattle.alt_shape.specs.declared.rule.Broken.{Broken}
+use Rattle.alt_tables.specs.Faults.{AreMade, BreakOff}
+use Rattle.alt_tables.specs.Stands.{Stands}
+use Rattle.alt_ops_table.proofs.delete.delete_table.Goals as goal
+
+is : (ms : Members) (broken : Option Broken) → broken ≡ bodies.delete_table ms → (s : State)
+    → delete_table s ms ≡ on_table (body_refusals broken rules ms) s ms
+    (λ t. writes (without_table s (table_name ms) ∷ []) (deleted t.description))
+unfolding delete_table
+is ms broken e s = λ i. on_table (body_refusals (sym e i) rules ms) s ms
+    (λ t. writes (without_table s (table_name ms) ∷ []) (deleted t.description))
+
+pub returns-in_err-schema-clause-carried : goal.returns-in_err-schema-clause-carried
+returns-in_err-schema-clause-carried g c =
+    let ms : Members = members_view c.args.body.now.entries in
+    table_passed (g.D.Disk.state c.args.disk.now) c.args.tables.now
+    (body_refusals c.delete_table.result rules ms) ms (λ s. delete_table s ms)
+    (λ s t. writes (without_table s (table_name ms) ∷ []) (deleted t.description))
+    (is ms c.delete_table.result c.delete_table.ensures)
+    (Stands (g.D.Disk.state c.args.disk.now) c.args.tables.now)
+    c.from_residual.result c.in_err-schema.field-0.0 c.from_residual.ensures
+    c.in_err-schema.ensures.target (λ s stands. stands)
+
+pub returns-in_err-drop_table-clause-carried : goal.returns-in_err-drop_table-clause-carried
+returns-in_err-drop_table-clause-carried g c =
+    let ms : Members = members_view c.args.body.now.entries in
+    let now : State → Type 0 = Stands (g.D.Disk.state c.drop_table.new.disk) c.drop_table.new.self
+    in
+    subst (Carries (λ s. delete_table s ms) (Stands
+    (g.D.Disk.state c.args.disk.now) c.args.tables.now) now)
+    (sym (err_is c.from_residual-in_err-drop_table.result
+    (Fault c.in_err-drop_table.field-0.0) c.from_residual-in_err-drop_table.ensures))
+    (broke_off (λ s. delete_table s ms) (Stands (g.D.Disk.state c.args.disk.now) c.args.tables.now)
+    now c.in_err-drop_table.field-0.0 a_number (λ s stands.
+    let at = table_reached (g.D.Disk.state c.args.disk.now) c.args.tables.now
+    (body_refusals c.delete_table.result rules ms) ms (λ s. delete_table s ms)
+    (λ s t. writes (without_table s (table_name ms) ∷ []) (deleted t.description))
+    (is ms c.delete_table.result c.delete_table.ensures)
+    c.in_ok-schema.schema c.in_ok-schema.ensures.target s stands in (
+      without_table s (table_name ms) ∷ [],
+      deleted at.0.description,
+      at.3,
+      subst (λ (name : List ℕ). BreakOff now a_number s
+          (without_table s name ∷ []) c.in_err-drop_table.field-0.0) c.table_name.ensures.name
+          (c.in_err-drop_table.ensures.writes s stands),
+    )))
+
+pub returns-clause-carried : goal.returns-clause-carried
+returns-clause-carried g c =
+    let ms : Members = members_view c.args.body.now.entries in
+    let now : State → Type 0 = Stands (g.D.Disk.state c.drop_table.new.disk) c.drop_table.new.self
+    in
+    wrote (λ s. delete_table s ms) (Stands (g.D.Disk.state c.args.disk.now) c.args.tables.now) now
+    c.in_ok-reply.reply c.in_ok-reply.ensures.plain a_number (λ s stands.
+    let at = table_reached (g.D.Disk.state c.args.disk.now) c.args.tables.now
+    (body_refusals c.delete_table.result rules ms) ms (λ s. delete_table s ms)
+    (λ s t. writes (without_table s (table_name ms) ∷ []) (deleted t.description))
+    (is ms c.delete_table.result c.delete_table.ensures)
+    c.in_ok-schema.schema c.in_ok-schema.ensures.target s stands in (
+      without_table s (table_name ms) ∷ [],
+      at.3 ∙ ap (λ a. writes (without_table s (table_name ms) ∷ []) a)
+          (ap (λ (d : TableSchema). deleted d) at.2 ∙ sym c.in_ok-reply.ensures.reply),
+      subst (λ (name : List ℕ). AreMade now a_number s (without_table s name ∷ []))
+          c.table_name.ensures.name (c.in_ok-drop_table.ensures.writes s stands),
+    ))

@@ -1,0 +1,16 @@
+-- The names of the page, and no float stands in it.
+use Rattle.std.proofs.Common.{◌∙◌, ap, ℕ, List}
+use Rattle.alt_machine.specs.Ops.ListTables.{names_after, page_of}
+use Rattle.alt_tables.specs.Stands.{catalog_of}
+use Rattle.alt_ops_table.proofs.Listing.{page_plain, page_said, page-listed}
+use Rattle.alt_ops_table.proofs.list.answer_of_page.Goals as goal
+
+pub returns-clause-reply : goal.returns-clause-reply
+returns-clause-reply c = page_said c.listed.result _ _
+    (page-listed _ _ _ _ c.in_ok-page.ensures.names c.in_ok-page.ensures.more
+    ∙ (λ i. page_of (c.page_length.ensures i)
+    (names_after (c.start_name.ensures i) (catalog_of c.args.tables.now))))
+    c.listed.ensures.reply
+
+pub returns-clause-plain : goal.returns-clause-plain
+returns-clause-plain c = page_plain c.listed.result _ _ c.listed.ensures.reply

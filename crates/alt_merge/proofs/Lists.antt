@@ -1,0 +1,157 @@
+-- Lists of sources, and what each has left, where one of them was called.
+use Rattle.std.proofs.Common.{◌≡◌, ◌<◌, ◌||◌, ℕ, zero, suc, Bool, List, [], ◌∷◌, length, get_or, set, map, refl, ap, ◌∙◌, arith}
+use Rattle.std.specs.FinMap.{empty}
+use Rattle.alt_disk.specs.Disk.{DiskState}
+use Rattle.alt_cells.specs.declared.source.SourceFault.{SourceFault}
+use Rattle.alt_cells.specs.Walks.{RowMap, RowList, Keeps, Fails, SameFiles}
+use Rattle.alt_merge.specs.declared.head.Head.{Head}
+use Rattle.alt_merge.specs.Merges.{Each2, with_head, with_heads, any_reads, HoldsEach, LeftWith, IsFilled, AllFilled}
+
+module _ {A B : Type 0} where
+  pub each2_at : (P : A → B → Type 0) (xs : List A) (ys : List B) → Each2 P xs ys → (i : ℕ)
+      → i < length xs → (d : A) (e : B) → P (get_or xs i d) (get_or ys i e)
+  each2_at P [] [] each i lt d e = absurd (omega arith)
+  each2_at P [] (y ∷ ys) each i lt d e = absurd each
+  each2_at P (x ∷ xs) [] each i lt d e = absurd each
+  each2_at P (x ∷ xs) (y ∷ ys) each zero lt d e = each.0
+  each2_at P (x ∷ xs) (y ∷ ys) each (suc i) lt d e = each2_at P xs ys each.1 i (omega arith) d e
+
+  pub each2_set : (P : A → B → Type 0) (xs : List A) (ys : List B) → Each2 P xs ys
+      → (i : ℕ) (x : A) (y : B) → P x y → Each2 P (set xs i x) (set ys i y)
+  each2_set P [] [] each i x y p = each
+  each2_set P [] (y' ∷ ys) each i x y p = absurd each
+  each2_set P (x' ∷ xs) [] each i x y p = absurd each
+  each2_set P (x' ∷ xs) (y' ∷ ys) each zero x y p = (p, each.1)
+  each2_set P (x' ∷ xs) (y' ∷ ys) each (suc i) x y p = (each.0, each2_set P xs ys each.1 i x y p)
+
+  pub each2_one : (P : A → B → Type 0) (xs : List A) (ys : List B) → Each2 P xs ys
+      → (i : ℕ) (x : A) (e : B) → i < length xs → P x (get_or ys i e) → Each2 P (set xs i x) ys
+  each2_one P [] [] each i x e lt p = each
+  each2_one P [] (y' ∷ ys) each i x e lt p = absurd each
+  each2_one P (x' ∷ xs) [] each i x e lt p = absurd each
+  each2_one P (x' ∷ xs) (y' ∷ ys) each zero x e lt p = (p, each.1)
+  each2_one P (x' ∷ xs) (y' ∷ ys) each (suc i) x e lt p =
+      (each.0, each2_one P xs ys each.1 i x e (omega arith) p)
+
+  pub each2_map : (P Q : A → B → Type 0) → ((x : A) (y : B) → P x y → Q x y)
+      → (xs : List A) (ys : List B) → Each2 P xs ys → Each2 Q xs ys
+  each2_map P Q f [] [] each = each
+  each2_map P Q f [] (y ∷ ys) each = each
+  each2_map P Q f (x ∷ xs) [] each = each
+  each2_map P Q f (x ∷ xs) (y ∷ ys) each = (f x y each.0, each2_map P Q f xs ys each.1)
+
+  pub each2_length : (P : A → B → Type 0) (xs : List A) (ys : List B) → Each2 P xs ys
+      → length xs ≡ length ys
+  each2_length P [] [] each = refl
+  each2_length P [] (y ∷ ys) each = absurd each
+  each2_length P (x ∷ xs) [] each = absurd each
+  each2_length P (x ∷ xs) (y ∷ ys) each = ap suc (each2_length P xs ys each.1)
+
+-- a call on one source of a list
+module _ {S : Type 0} (Holds : DiskState → S → RowMap → Type 0) (reads_of : S → ℕ → Bool) where
+  any_reads-set : (xs : List S) (i : ℕ) (d x : S) → i < length xs
+      → reads_of x ≡ reads_of (get_or xs i d)
+      → any_reads reads_of (set xs i x) ≡ any_reads reads_of xs
+  any_reads-set [] i d x lt e = refl
+  any_reads-set (y ∷ xs) zero d x lt e = λ j f. e j f || any_reads reads_of xs f
+  any_reads-set (y ∷ xs) (suc i) d x lt e = let more = any_reads-set xs i d x (omega arith) e in
+      λ j f. reads_of y f || more j f
+
+  module _ (holds_on : (old new : DiskState) (x : S) (rows : RowMap)
+      → SameFiles (reads_of x) old new → Holds old x rows → Holds new x rows) where
+    pub keeps_set : (a b : DiskState) (xs : List S) (i : ℕ) (d x : S) → i < length xs
+        → Keeps Holds reads_of a b (get_or xs i d) x
+        → Keeps (HoldsEach Holds) (any_reads reads_of) a b xs (set xs i x)
+    keeps_set a b xs i d x lt k = record {
+      holds = λ t maps h. each2_one (Holds b) xs maps
+          (each2_map (Holds a) (Holds b) (λ y m. holds_on a b y m (λ f r. (k.quiet t).file f)) xs
+          maps h) i x empty lt
+          (k.holds t (get_or maps i empty) (each2_at (Holds a) xs maps h i lt d empty));
+      reads = any_reads-set xs i d x lt k.reads;
+      goes = k.goes;
+      quiet = k.quiet;
+    }
+
+  pub fails_at : (a b : DiskState) (xs : List S) (i : ℕ) (d : S) (fault : SourceFault)
+      → i < length xs → Fails Holds a b (get_or xs i d) fault → Fails (HoldsEach Holds) a b xs fault
+  fails_at a b xs i d fault lt fails = record {
+    cause = fails.cause;
+    sound = λ trusted maps h. fails.sound trusted (get_or maps i empty)
+        (each2_at (Holds a) xs maps h i lt d empty);
+  }
+
+pub with_heads-set : (heads : List Head) (tails : List RowList) (i : ℕ) (d h : Head) (t : RowList)
+    → with_head h t ≡ with_head (get_or heads i d) (get_or tails i [])
+    → with_heads (set heads i h) (set tails i t) ≡ with_heads heads tails
+with_heads-set [] tails i d h t e = refl
+with_heads-set (x ∷ heads) [] zero d h t e = refl
+with_heads-set (x ∷ heads) [] (suc i) d h t e = refl
+with_heads-set (x ∷ heads) (y ∷ tails) zero d h t e = ap (λ l. l ∷ with_heads heads tails) e
+with_heads-set (x ∷ heads) (y ∷ tails) (suc i) d h t e =
+    ap (λ l. with_head x y ∷ l) (with_heads-set heads tails i d h t e)
+
+-- where one source is read on and its head put in hand, the same is left
+pub left_set : {S : Type 0} (Left0 Left1 : S → RowList → Type 0) (xs : List S) (heads : List Head)
+    (lists : List RowList) (i : ℕ) (d x : S) (dh h : Head) → i < length xs
+    → ((y : S) (t : RowList) → Left0 y t → Left1 y t)
+    → ((tail : RowList) → Left0 (get_or xs i d) tail
+    → (rest : RowList) × Left1 x rest × (with_head h rest ≡ with_head (get_or heads i dh) tail))
+    → LeftWith Left0 xs heads lists → LeftWith Left1 (set xs i x) (set heads i h) lists
+left_set Left0 Left1 xs heads lists i d x dh h lt stay step was =
+    let r = step (get_or was.0 i []) (each2_at Left0 xs was.0 was.1 i lt d []) in (
+      set was.0 i r.0,
+      each2_set Left1 xs was.0
+          (each2_map Left0 Left1 stay xs was.0 was.1) i x r.0 r.1,
+      with_heads-set heads was.0 i dh h r.0 r.2 ∙ was.2,
+    )
+
+abbrev pub FilledTo : ℕ → List Head → Type 0
+FilledTo zero heads = Unit {0}
+FilledTo (suc n) [] = Unit {0}
+FilledTo (suc n) (h ∷ heads) = IsFilled h × FilledTo n heads
+
+pub filled_set : (i : ℕ) (heads : List Head) (h : Head) → FilledTo i heads → IsFilled h
+    → FilledTo (suc i) (set heads i h)
+filled_set zero [] h f p = tt
+filled_set zero (x ∷ heads) h f p = (p, tt)
+filled_set (suc i) [] h f p = tt
+filled_set (suc i) (x ∷ heads) h f p = (f.0, filled_set i heads h f.1 p)
+
+pub filled_all : (heads : List Head) → FilledTo (length heads) heads → AllFilled heads
+filled_all [] f = tt
+filled_all (x ∷ heads) f = (f.0, filled_all heads f.1)
+
+-- the lists that sources have left after a seek, as far as it has come
+abbrev pub EachTo : {A B : Type 0} → (A → B → Type 0) → ℕ → List A → List B → Type 0
+EachTo P zero xs ys = Unit {0}
+EachTo P (suc n) [] ys = Unit {0}
+EachTo P (suc n) (x ∷ xs) [] = Unit {0}
+EachTo P (suc n) (x ∷ xs) (y ∷ ys) = P x y × EachTo P n xs ys
+
+pub each_to_set : {A B : Type 0} (P Q : A → B → Type 0) → ((x : A) (y : B) → P x y → Q x y)
+    → (i : ℕ) (xs : List A) (ys : List B) (x : A) (e : B) → EachTo P i xs ys → Q x (get_or ys i e)
+    → EachTo Q (suc i) (set xs i x) ys
+each_to_set P Q f zero [] ys x e each q = tt
+each_to_set P Q f zero (x' ∷ xs) [] x e each q = tt
+each_to_set P Q f zero (x' ∷ xs) (y ∷ ys) x e each q = (q, tt)
+each_to_set P Q f (suc i) [] ys x e each q = tt
+each_to_set P Q f (suc i) (x' ∷ xs) [] x e each q = tt
+each_to_set P Q f (suc i) (x' ∷ xs) (y ∷ ys) x e each q =
+    (f x' y each.0, each_to_set P Q f i xs ys x e each.1 q)
+
+pub each_to_all : {A B : Type 0} (P : A → B → Type 0) (xs : List A) (ys : List B)
+    → EachTo P (length xs) xs ys → length xs ≡ length ys → Each2 P xs ys
+each_to_all P [] [] each e = tt
+each_to_all P [] (y ∷ ys) each e = absurd (omega arith)
+each_to_all P (x ∷ xs) [] each e = absurd (omega arith)
+each_to_all P (x ∷ xs) (y ∷ ys) each e = (each.0, each_to_all P xs ys each.1 (omega arith))
+
+pub get_or-map : {A B : Type 0} (f : A → B) (xs : List A) (i : ℕ) (d : A) (e : B) → i < length xs
+    → get_or (map f xs) i e ≡ f (get_or xs i d)
+get_or-map f [] i d e lt = absurd (omega arith)
+get_or-map f (x ∷ xs) zero d e lt = refl
+get_or-map f (x ∷ xs) (suc i) d e lt = get_or-map f xs i d e (omega arith)
+
+pub length_map : {A B : Type 0} (f : A → B) (xs : List A) → length (map f xs) ≡ length xs
+length_map f [] = refl
+length_map f (x ∷ xs) = ap suc (length_map f xs)

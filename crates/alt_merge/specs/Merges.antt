@@ -1,0 +1,133 @@
+-- Several walks as one: what is in hand of each, and what is left of all.
+use Rattle.std.specs.Prelude.{◌≡◌, ◌≢◌, ◌||◌, ℕ, Bool, false, T, List, [], ◌∷◌, length, Option, Some, None}
+use Rattle.std.specs.declared.cmp.Ordering.TheVariants.{Greater}
+use Rattle.std.specs.FinMap.{empty}
+use Rattle.std.specs.FinMap.Entries.{is_sorted, below_all}
+use Rattle.alt_disk.specs.Disk.{DiskState}
+use Rattle.alt_cells.specs.Joined.{all_joined, joined, joined_map}
+use Rattle.alt_cells.specs.declared.row.RowCells.{RowCells}
+use Rattle.alt_cells.specs.Rows.{join_row}
+use Rattle.alt_cells.specs.Walks.{RowMap, RowList, walk_cmp}
+use Rattle.alt_merge.specs.declared.head.Head.{Head}
+use Rattle.alt_merge.specs.declared.head.Head.TheVariants.{Due, Held, End}
+
+-- each of the first with the one at its place of the second
+abbrev pub Each2 : {A B : Type 0} → (A → B → Type 0) → List A → List B → Type 0
+Each2 P [] [] = Unit {0}
+Each2 P [] (y ∷ ys) = ⊥
+Each2 P (x ∷ xs) [] = ⊥
+Each2 P (x ∷ xs) (y ∷ ys) = P x y × Each2 P xs ys
+
+-- what is left of a source, with the row in hand before it
+abbrev pub with_head : Head → RowList → RowList
+with_head Due rows = rows
+with_head (Held key row) rows = (key, row) ∷ rows
+with_head End rows = []
+
+abbrev pub with_heads : List Head → List RowList → List RowList
+with_heads [] tails = []
+with_heads (h ∷ heads) [] = []
+with_heads (h ∷ heads) (t ∷ tails) = with_head h t ∷ with_heads heads tails
+
+abbrev pub AllSorted : Bool → List RowList → Type 0
+AllSorted forward [] = Unit {0}
+AllSorted forward (l ∷ ls) = T (is_sorted (walk_cmp forward) l) × AllSorted forward ls
+
+-- the rows of all sources, joined
+abbrev pub all_rows : List RowMap → RowMap
+all_rows [] = empty
+all_rows (m ∷ ms) = joined_map join_row m (all_rows ms)
+
+abbrev pub any_reads : {S : Type 0} → (S → ℕ → Bool) → List S → ℕ → Bool
+any_reads reads [] f = false
+any_reads reads (x ∷ xs) f = reads x f || any_reads reads xs f
+
+pub record MergeHolds {S : Type 0} (Holds : S → RowMap → Type 0) (sources : List S)
+    (rows : RowMap) : Type 0 where
+  pub maps : List RowMap
+  pub each : Each2 Holds sources maps
+  pub same : rows ≡ all_rows maps
+
+pub record MergeLeft {S : Type 0} (Left : S → RowList → Type 0) (sources : List S)
+    (heads : List Head) (forward : Bool) (rows : RowList) : Type 0 where
+  pub tails : List RowList
+  pub each : Each2 Left sources tails
+  pub counted : length heads ≡ length sources
+  pub sorted : AllSorted forward (with_heads heads tails)
+  pub same : rows ≡ all_joined (walk_cmp forward) join_row (with_heads heads tails)
+
+-- it is known what stands at the front of its source
+abbrev pub IsFilled : Head → Type 0
+IsFilled Due = ⊥
+IsFilled (Held key row) = Unit {0}
+IsFilled End = Unit {0}
+
+abbrev pub AllFilled : List Head → Type 0
+AllFilled [] = Unit {0}
+AllFilled (h ∷ heads) = IsFilled h × AllFilled heads
+
+abbrev pub AllDue : List Head → Type 0
+AllDue [] = Unit {0}
+AllDue (Due ∷ heads) = AllDue heads
+AllDue (Held key row ∷ heads) = ⊥
+AllDue (End ∷ heads) = ⊥
+
+-- the maps of several sources, one each
+abbrev pub HoldsEach : {S : Type 0} → (DiskState → S → RowMap → Type 0) → DiskState → List S
+    → List RowMap → Type 0
+HoldsEach Holds s sources maps = Each2 (Holds s) sources maps
+
+-- with the heads before what is left of the sources, these lists are left
+abbrev pub LeftWith : {S : Type 0} → (S → RowList → Type 0) → List S → List Head → List RowList
+    → Type 0
+LeftWith Left sources heads lists = (tails : List RowList) × Each2 Left sources tails
+    × (with_heads heads tails ≡ lists)
+
+-- a key that a walk may give now: none in hand comes before it
+abbrev pub NotAbove : Bool → List ℕ → Head → Type 0
+NotAbove forward key Due = Unit {0}
+NotAbove forward key (Held other row) = walk_cmp forward key other ≢ Greater
+NotAbove forward key End = Unit {0}
+
+abbrev pub AllNotAbove : Bool → List ℕ → List Head → Type 0
+AllNotAbove forward key [] = Unit {0}
+AllNotAbove forward key (h ∷ heads) = NotAbove forward key h × AllNotAbove forward key heads
+
+abbrev pub IsLeast : Bool → Head → List Head → Type 0
+IsLeast forward Due heads = ⊥
+IsLeast forward (Held key row) heads = AllNotAbove forward key heads
+IsLeast forward End heads = ⊥
+
+abbrev pub IsHeld : Head → Type 0
+IsHeld Due = ⊥
+IsHeld (Held key row) = Unit {0}
+IsHeld End = ⊥
+
+abbrev pub NoneHeld : List Head → Type 0
+NoneHeld [] = Unit {0}
+NoneHeld (h ∷ heads) = (IsHeld h → ⊥) × NoneHeld heads
+
+-- all keys of a source from its head on are at or behind the key, and behind it where the head is due
+abbrev pub Ready : Bool → List ℕ → Head → RowList → Type 0
+Ready forward key Due tail = T (below_all (walk_cmp forward) key tail)
+    × T (is_sorted (walk_cmp forward) tail)
+Ready forward key (Held other row) tail = (walk_cmp forward key other ≢ Greater)
+    × T (is_sorted (walk_cmp forward) ((other, row) ∷ tail))
+Ready forward key End tail = Unit {0}
+
+-- the row joined with all that have its key, and what is left behind it
+abbrev pub Gathers : List ℕ → RowCells → List Head → List Head → List ℕ × RowCells → Type 0
+Gathers key row before after given = (forward : Bool) (tails : List RowList)
+    → Each2 (Ready forward key) before tails
+    → AllSorted forward (with_heads after tails)
+    × (joined (walk_cmp forward) join_row ((key, row) ∷ [])
+    (all_joined (walk_cmp forward) join_row (with_heads before tails))
+    ≡ given ∷ all_joined (walk_cmp forward) join_row (with_heads after tails))
+
+-- the row given is the first of what was left, and the others are left now
+abbrev pub GivesFirst : Bool → List Head → List Head → List RowList → Option (List ℕ × RowCells)
+    → Type 0
+GivesFirst forward before after tails None = ⊥
+GivesFirst forward before after tails (Some given) = AllSorted forward (with_heads after tails)
+    × (all_joined (walk_cmp forward) join_row (with_heads before tails)
+    ≡ given ∷ all_joined (walk_cmp forward) join_row (with_heads after tails))

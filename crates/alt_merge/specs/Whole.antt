@@ -1,0 +1,18 @@
+-- A merge: the rows that it stands for, and those that are left.
+use Rattle.std.specs.Prelude.{ℕ, Bool}
+use Rattle.alt_disk.specs.Disk.{DiskState}
+use Rattle.alt_cells.specs.Walks.{RowMap, RowList}
+use Rattle.alt_merge.specs.declared.merge.Merge.{Merge}
+use Rattle.alt_merge.specs.Merges.{MergeHolds, MergeLeft, any_reads}
+
+abbrev pub merge_reads : {S : Type 0} → (S → ℕ → Bool) → Merge S → ℕ → Bool
+merge_reads reads merge = any_reads reads merge.sources.items
+
+abbrev pub merge_holds : {S : Type 0} → (DiskState → S → RowMap → Type 0) → DiskState → Merge S
+    → RowMap → Type 0
+merge_holds Holds s merge rows = MergeHolds (Holds s) merge.sources.items rows
+
+abbrev pub merge_left : {S : Type 0} → (DiskState → S → RowList → Type 0) → DiskState → Merge S
+    → RowList → Type 0
+merge_left Left s merge rows = MergeLeft (Left s) merge.sources.items merge.heads.items
+    merge.forward rows

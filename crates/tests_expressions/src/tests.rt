@@ -1,0 +1,3 @@
+//! Rows by what they show.
+
+mod parsing;

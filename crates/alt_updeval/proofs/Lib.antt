@@ -1,0 +1,5 @@
+pub mod Taking
+pub mod Apart
+pub mod Under
+pub mod Lists
+pub mod Places

@@ -1,0 +1,13 @@
+//! What an update makes of an item: the attributes that change, or why the first refused action is.
+#![tactic(auto)]
+
+mod action;
+mod fault;
+mod made;
+mod parts;
+mod term;
+mod update;
+mod within;
+
+pub use fault::UpdateFault;
+pub use update::{AttrChange, changed};

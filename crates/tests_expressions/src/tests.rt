@@ -1,3 +1,4 @@
 //! Rows by what they show.
 
+mod meaning;
 mod parsing;

@@ -16,14 +16,17 @@ use Rattle.alt_expr.specs.declared.cond.Cond.TheVariants as cond
 
 -- ---- operands
 
+-- an operand that begins with a name: the size of a path, or a path; another call is none
 unfoldable pub named : Given → Parser Operand
 named g = λ i. if calls (codes "size") i then (skip 2 >> (o.Size <$> in_brackets (path g.names))) i
     else if is_call i then None else (o.At <$> path g.names) i
 
+-- an operand: the value of a `:` word, or one that begins with a name
 abbrev pub operand_at : Given → List Tok → Outcome Operand
 operand_at g (colon w ∷ ts) = Some (o.Value (value_of g.values w), ts)
 operand_at g i = named g i
 
+-- an operand, wherever the tokens stand
 unfoldable pub operand : Given → Parser Operand
 operand = operand_at
 
@@ -33,6 +36,7 @@ operands g = listed (operand g)
 
 -- ---- tests
 
+-- the comparison that a mark spells
 abbrev pub comparison_of : Mark → Option Comparison
 comparison_of m.Equal = Some c.Equal
 comparison_of m.NotEqual = Some c.NotEqual
@@ -42,13 +46,16 @@ comparison_of m.Greater = Some c.Greater
 comparison_of m.GreaterEqual = Some c.GreaterEqual
 comparison_of _ = None
 
+-- the comparison that the first token spells
 abbrev pub comparison_at : List Tok → Option Comparison
 comparison_at (mark m ∷ ts) = comparison_of m
 comparison_at _ = None
 
+-- the comparison that stands next, without taking it
 unfoldable pub sees_comparison : List Tok → Option Comparison
 sees_comparison = comparison_at
 
+-- the two bounds of BETWEEN, with AND between them
 unfoldable pub between : Given → Operand → Parser Cond
 between g a = do
   low ← operand g
@@ -56,6 +63,7 @@ between g a = do
   high ← operand g
   pure (cond.Between a low high)
 
+-- the list of IN, in brackets
 unfoldable pub among : Given → Operand → Parser Cond
 among g a = do
   expect m.LeftRound
@@ -71,6 +79,7 @@ compared g a None = do
     list ← eat_key k.Among
     if list then among g a else refuse)
 
+-- what stands behind the first operand, chosen by the token that is next
 unfoldable pub tail : Given → Operand → Parser Cond
 tail g a = λ i. compared g a (sees_comparison i) i
 
@@ -99,6 +108,7 @@ operand_test g = λ i. if calls (codes "attribute_type") i then (skip 2 >> kind 
     else if calls (codes "contains") i then (skip 2 >> pair g cond.Contains) i
     else (operand g >>= tail g) i
 
+-- one test: of whether a path exists, or of operands
 unfoldable pub whole_test : Given → Parser Cond
 whole_test g = λ i. if calls (codes "attribute_exists") i then (skip 2 >> (cond.Exists <$> in_brackets (path g.names))) i
     else if calls (codes "attribute_not_exists") i then (skip 2 >> (cond.NotExists <$> in_brackets (path g.names))) i
@@ -121,12 +131,15 @@ joined one k f = λ i. (do
   more ← eat_key k
   if more then (f <$> joined_from one k (length i) (x ∷ [])) else pure x) i
 
+-- members with AND between them
 unfoldable pub all : Parser Cond → Parser Cond
 all one = joined one k.And cond.All
 
+-- alternatives with OR between them
 unfoldable pub any : Parser Cond → Parser Cond
 any one = joined (all one) k.Or cond.Any
 
+-- a condition in brackets, or a test
 unfoldable pub prim : Given → Parser Cond → Parser Cond
 prim g one = do
   group ← eat m.LeftRound

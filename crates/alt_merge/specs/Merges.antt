@@ -24,11 +24,13 @@ with_head Due rows = rows
 with_head (Held key row) rows = (key, row) ∷ rows
 with_head End rows = []
 
+-- what is left of each source, with its row in hand before it
 abbrev pub with_heads : List Head → List RowList → List RowList
 with_heads [] tails = []
 with_heads (h ∷ heads) [] = []
 with_heads (h ∷ heads) (t ∷ tails) = with_head h t ∷ with_heads heads tails
 
+-- each of the lists is in the order of the walk
 abbrev pub AllSorted : Bool → List RowList → Type 0
 AllSorted forward [] = Unit {0}
 AllSorted forward (l ∷ ls) = T (is_sorted (walk_cmp forward) l) × AllSorted forward ls
@@ -38,16 +40,20 @@ abbrev pub all_rows : List RowMap → RowMap
 all_rows [] = empty
 all_rows (m ∷ ms) = joined_map join_row m (all_rows ms)
 
+-- the files that one source or another reads
 abbrev pub any_reads : {S : Type 0} → (S → ℕ → Bool) → List S → ℕ → Bool
 any_reads reads [] f = false
 any_reads reads (x ∷ xs) f = reads x f || any_reads reads xs f
 
+-- sources that hold rows together: each holds a map, and the maps joined are those rows
 pub record MergeHolds {S : Type 0} (Holds : S → RowMap → Type 0) (sources : List S)
     (rows : RowMap) : Type 0 where
   pub maps : List RowMap
   pub each : Each2 Holds sources maps
   pub same : rows ≡ all_rows maps
 
+-- sources that have rows left: each has a tail, and the heads before the tails, joined in the order of
+-- the walk, are those rows
 pub record MergeLeft {S : Type 0} (Left : S → RowList → Type 0) (sources : List S)
     (heads : List Head) (forward : Bool) (rows : RowList) : Type 0 where
   pub tails : List RowList
@@ -62,10 +68,12 @@ IsFilled Due = ⊥
 IsFilled (Held key row) = Unit {0}
 IsFilled End = Unit {0}
 
+-- of every source it is known what stands at its front
 abbrev pub AllFilled : List Head → Type 0
 AllFilled [] = Unit {0}
 AllFilled (h ∷ heads) = IsFilled h × AllFilled heads
 
+-- of no source it is known yet what stands at its front
 abbrev pub AllDue : List Head → Type 0
 AllDue [] = Unit {0}
 AllDue (Due ∷ heads) = AllDue heads
@@ -89,20 +97,24 @@ NotAbove forward key Due = Unit {0}
 NotAbove forward key (Held other row) = walk_cmp forward key other ≢ Greater
 NotAbove forward key End = Unit {0}
 
+-- a key that a walk may give now: none of those in hand comes before it
 abbrev pub AllNotAbove : Bool → List ℕ → List Head → Type 0
 AllNotAbove forward key [] = Unit {0}
 AllNotAbove forward key (h ∷ heads) = NotAbove forward key h × AllNotAbove forward key heads
 
+-- a row in hand that a walk may give now
 abbrev pub IsLeast : Bool → Head → List Head → Type 0
 IsLeast forward Due heads = ⊥
 IsLeast forward (Held key row) heads = AllNotAbove forward key heads
 IsLeast forward End heads = ⊥
 
+-- a row is in hand
 abbrev pub IsHeld : Head → Type 0
 IsHeld Due = ⊥
 IsHeld (Held key row) = Unit {0}
 IsHeld End = ⊥
 
+-- no row is in hand of any source
 abbrev pub NoneHeld : List Head → Type 0
 NoneHeld [] = Unit {0}
 NoneHeld (h ∷ heads) = (IsHeld h → ⊥) × NoneHeld heads

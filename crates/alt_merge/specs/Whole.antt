@@ -5,13 +5,16 @@ use Rattle.alt_cells.specs.Walks.{RowMap, RowList}
 use Rattle.alt_merge.specs.declared.merge.Merge.{Merge}
 use Rattle.alt_merge.specs.Merges.{MergeHolds, MergeLeft, any_reads}
 
+-- the files that a merge reads: those of its sources
 abbrev pub merge_reads : {S : Type 0} → (S → ℕ → Bool) → Merge S → ℕ → Bool
 merge_reads reads merge = any_reads reads merge.sources.items
 
+-- the rows that a merge stands for: those of its sources, joined
 abbrev pub merge_holds : {S : Type 0} → (DiskState → S → RowMap → Type 0) → DiskState → Merge S
     → RowMap → Type 0
 merge_holds Holds s merge rows = MergeHolds (Holds s) merge.sources.items rows
 
+-- the rows that a merge still gives, in the order of its walk
 abbrev pub merge_left : {S : Type 0} → (DiskState → S → RowList → Type 0) → DiskState → Merge S
     → RowList → Type 0
 merge_left Left s merge rows = MergeLeft (Left s) merge.sources.items merge.heads.items

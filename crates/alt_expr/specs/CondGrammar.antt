@@ -62,11 +62,13 @@ mutual
 
 -- ---- the tokens that a phrase derives
 
+-- the tokens of an operand
 abbrev pub operand_toks : OperandPhrase → List Tok
 operand_toks (at p) = path_toks p
 operand_toks (value w) = colon w ∷ []
 operand_toks (size p) = call_toks (codes "size") (path_toks p)
 
+-- the mark that spells a comparison
 abbrev pub mark_of : Comparison → Mark
 mark_of c.Equal = m.Equal
 mark_of c.NotEqual = m.NotEqual
@@ -79,6 +81,7 @@ mark_of c.GreaterEqual = m.GreaterEqual
 abbrev pub operands_toks : OperandPhrase → List OperandPhrase → List Tok
 operands_toks = between_toks operand_toks (mark m.Comma)
 
+-- the tokens of a test
 abbrev pub test_toks : TestPhrase → List Tok
 test_toks (compared a by b) = operand_toks a ++ mark (mark_of by) ∷ operand_toks b
 test_toks (between a low high) = operand_toks a ++ key k.Between ∷ (operand_toks low ++ key k.And ∷ operand_toks high)
@@ -90,14 +93,17 @@ test_toks (begins a b) = call_toks (codes "begins_with") (operand_toks a ++ mark
 test_toks (contains a b) = call_toks (codes "contains") (operand_toks a ++ mark m.Comma ∷ operand_toks b)
 
 abbrev mutual
+  -- the tokens of a condition
   pub cond_toks : CondPhrase → List Tok
   cond_toks (last a) = and_toks a
   cond_toks (either a o) = and_toks a ++ key k.Or ∷ cond_toks o
 
+  -- the tokens of members with AND between them
   pub and_toks : AndPhrase → List Tok
   and_toks (final d) = not_toks d
   and_toks (both d a) = not_toks d ++ key k.And ∷ and_toks a
 
+  -- the tokens of a member, each NOT before it
   pub not_toks : NotPhrase → List Tok
   not_toks (negated d) = key k.Not ∷ not_toks d
   not_toks (group o) = mark m.LeftRound ∷ (cond_toks o ++ mark m.RightRound ∷ [])
@@ -105,11 +111,13 @@ abbrev mutual
 
 -- ---- its tree, with the given names and values put in
 
+-- the operand that a phrase stands for, by the words given
 abbrev pub operand_tree : Given → OperandPhrase → Operand
 operand_tree g (at p) = o.At (path_tree g.names p)
 operand_tree g (value w) = o.Value (value_of g.values w)
 operand_tree g (size p) = o.Size (path_tree g.names p)
 
+-- the condition that a test stands for
 abbrev pub test_tree : Given → TestPhrase → Cond
 test_tree g (compared a by b) = cond.Compare by (operand_tree g a) (operand_tree g b)
 test_tree g (between a low high) = cond.Between (operand_tree g a) (operand_tree g low) (operand_tree g high)
@@ -125,23 +133,28 @@ abbrev pub any_of : List Cond → Cond
 any_of (c ∷ []) = c
 any_of cs = cond.Any cs
 
+-- one member alone, or all of several
 abbrev pub all_of : List Cond → Cond
 all_of (c ∷ []) = c
 all_of cs = cond.All cs
 
 abbrev mutual
+  -- the alternatives of a condition
   pub cond_trees : Given → CondPhrase → List Cond
   cond_trees g (last a) = all_of (and_trees g a) ∷ []
   cond_trees g (either a o) = all_of (and_trees g a) ∷ cond_trees g o
 
+  -- the members with AND between them
   pub and_trees : Given → AndPhrase → List Cond
   and_trees g (final d) = not_tree g d ∷ []
   and_trees g (both d a) = not_tree g d ∷ and_trees g a
 
+  -- the condition that a member stands for, negated once for each NOT
   pub not_tree : Given → NotPhrase → Cond
   not_tree g (negated d) = cond.Not (not_tree g d)
   not_tree g (group o) = any_of (cond_trees g o)
   not_tree g (test t) = test_tree g t
 
+-- the condition that a phrase stands for
 abbrev pub cond_tree : Given → CondPhrase → Cond
 cond_tree g o = any_of (cond_trees g o)

@@ -11,6 +11,7 @@ use Rattle.alt_expr.specs.declared.cond.Cond.TheOpen.{Cond-F}
 abbrev pub is_long : List PathPart → Bool
 is_long path = nat_lt 32 (length path)
 
+-- whether an operand has a path of too many parts
 abbrev pub has_long : Operand → Bool
 has_long (o.At path) = is_long path
 has_long (o.Value v) = false

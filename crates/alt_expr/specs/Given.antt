@@ -68,5 +68,6 @@ is_name (S_tree []) = false
 is_name (S_tree (b ∷ bs)) = true
 is_name _ = false
 
+-- each value given for a name is a text that has bytes
 abbrev pub are_names : List Pair → Bool
 are_names given = list_all (λ p. is_name p.1) given

@@ -21,6 +21,7 @@ use Rattle.alt_expr.specs.Located.{View, located}
 
 -- Two values are one value where they are of one kind and hold the same, through every level.
 abbrev mutual
+  -- whether two values are equal: of one kind, numbers by their value and sets by their members
   pub same : Tree → Tree → Bool
   same (S_tree s) (S_tree t) = bytes_eq s t
   same (N_tree y) (N_tree z) = int_eq y z
@@ -35,11 +36,13 @@ abbrev mutual
   same (M_tree es) (M_tree fs) = same_fields es fs
   same _ _ = false
 
+  -- whether two lists have equal elements at equal places
   pub same_elements : Trees → Trees → Bool
   same_elements no_trees no_trees = true
   same_elements (tree_then s ss) (tree_then t ts) = same s t && same_elements ss ts
   same_elements _ _ = false
 
+  -- whether two maps have equal values under equal names
   pub same_fields : Fields → Fields → Bool
   same_fields no_fields no_fields = true
   same_fields (field_then m s es) (field_then n t fs) = bytes_eq m n && same s t && same_fields es fs

@@ -9,5 +9,6 @@ use Rattle.alt_expr.specs.declared.values.Values.{Values}
 abbrev pub given_by : Names → Values → Given
 given_by n v = record { names = given_names n; values = given_values v }
 
+-- the words that an expression's lookups stand for
 abbrev pub given_to : Lookups → Given
 given_to l = given_by l.names.now l.values.now

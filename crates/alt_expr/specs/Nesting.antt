@@ -9,12 +9,15 @@ abbrev pub count : (Tok → Bool) → List Tok → ℕ
 count p [] = 0
 count p (t ∷ ts) = if p t then suc (count p ts) else count p ts
 
+-- how many brackets tokens open
 abbrev pub opened : List Tok → ℕ
 opened = count (is_mark LeftRound)
 
+-- how many brackets tokens close
 abbrev pub closed : List Tok → ℕ
 closed = count (is_mark RightRound)
 
+-- how many times tokens have NOT
 abbrev pub nots : List Tok → ℕ
 nots = count (is_key Not)
 

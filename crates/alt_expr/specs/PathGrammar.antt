@@ -25,18 +25,22 @@ pub data PathPhrase : Type 0 where
 
 -- ---- the tokens that a phrase derives
 
+-- the token of a name
 abbrev pub name_tok : NamePhrase → Tok
 name_tok (plain w) = word w
 name_tok (hashed w) = hash w
 
+-- the tokens of one step of a path
 abbrev pub step_toks : StepPhrase → List Tok
 step_toks (dotted n) = mark m.Dot ∷ name_tok n ∷ []
 step_toks (indexed n) = mark m.LeftSquare ∷ index n ∷ mark m.RightSquare ∷ []
 
+-- the tokens of the steps of a path
 abbrev pub steps_toks : List StepPhrase → List Tok
 steps_toks [] = []
 steps_toks (s ∷ ss) = step_toks s ++ steps_toks ss
 
+-- the tokens of a path
 abbrev pub path_toks : PathPhrase → List Tok
 path_toks (path n ss) = name_tok n ∷ steps_toks ss
 
@@ -51,13 +55,16 @@ call_toks name inner = word name ∷ mark m.LeftRound ∷ (inner ++ mark m.Right
 
 -- ---- its tree, over the given names
 
+-- the name that a phrase stands for: itself, or what its `#` word is given
 abbrev pub name_text : List Pair → NamePhrase → List ℕ
 name_text names (plain w) = w
 name_text names (hashed w) = name_of names w
 
+-- the part that a step stands for
 abbrev pub step_part : List Pair → StepPhrase → PathPart
 step_part names (dotted n) = p.Name (name_text names n)
 step_part names (indexed n) = p.Index n
 
+-- the parts that a path stands for
 abbrev pub path_tree : List Pair → PathPhrase → List PathPart
 path_tree names (path n ss) = p.Name (name_text names n) ∷ map (step_part names) ss

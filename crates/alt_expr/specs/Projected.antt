@@ -22,6 +22,7 @@ abbrev pub under : PathPart → List (List PathPart) → List (List PathPart)
 under s [] = []
 under s (path ∷ paths) = behind s path ++ under s paths
 
+-- whether a path ends here
 abbrev pub ends : List PathPart → Bool
 ends [] = true
 ends (p ∷ ps) = false
@@ -35,29 +36,35 @@ abbrev pub some_list : Trees → Option Tree
 some_list no_trees = None
 some_list (tree_then t ts) = Some (L_tree (tree_then t ts))
 
+-- the map of what was chosen; none where nothing was
 abbrev pub some_map : Fields → Option Tree
 some_map no_fields = None
 some_map (field_then name t fs) = Some (M_tree (field_then name t fs))
 
+-- an element that was chosen before the others, or the others alone
 abbrev pub element_then : Option Tree → Trees → Trees
 element_then None ts = ts
 element_then (Some t) ts = tree_then t ts
 
+-- a pair that was chosen before the others, or the others alone
 abbrev pub pair_then : List ℕ → Option Tree → Fields → Fields
 pair_then name None fs = fs
 pair_then name (Some t) fs = field_then name t fs
 
 -- What paths choose of a value: the whole of it, or the chosen parts of a list in rising index, or of a map.
 abbrev mutual
+  -- what the paths choose of a value: the whole where one ends, else the parts that they name
   pub chosen : List (List PathPart) → Tree → Option Tree
   chosen paths (L_tree ts) = if is_whole paths then Some (L_tree ts) else some_list (chosen_elements paths 0 ts)
   chosen paths (M_tree fs) = if is_whole paths then Some (M_tree fs) else some_map (chosen_fields paths fs)
   chosen paths t = if is_whole paths then Some t else None
 
+  -- what the paths choose of the elements from an index on
   pub chosen_elements : List (List PathPart) → ℕ → Trees → Trees
   chosen_elements paths i no_trees = no_trees
   chosen_elements paths i (tree_then t ts) = element_then (chosen (under (Index i) paths) t) (chosen_elements paths (suc i) ts)
 
+  -- what the paths choose of the fields of a map
   pub chosen_fields : List (List PathPart) → Fields → Fields
   chosen_fields paths no_fields = no_fields
   chosen_fields paths (field_then name t fs) = pair_then name (chosen (under (Name name) paths) t) (chosen_fields paths fs)

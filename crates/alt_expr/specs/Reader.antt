@@ -18,12 +18,15 @@ use Rattle.alt_expr.specs.declared.path.PathPart.TheVariants as p
 abbrev pub left : Cursor → List Tok
 left t = map tok_of t.rest.now
 
+-- what was read and the tokens behind it; none where the tokens are of no such phrase
 abbrev pub Outcome : Type 0 → Type 0
 Outcome A = Option (A × List Tok)
 
+-- a reader of the front of a list of tokens
 abbrev pub Parser : Type 0 → Type 0
 Parser A = List Tok → Outcome A
 
+-- the next reader goes on behind what the first has read
 abbrev pub and_then : {A B : Type 0} → Outcome A → (A → Parser B) → Outcome B
 and_then None f = None
 and_then (Some p) f = f p.0 p.1
@@ -36,6 +39,7 @@ infixl 10 ◌>>◌
 abbrev pub ◌>>◌ : {A B : Type 0} → Parser A → Parser B → Parser B
 p >> q = p >>= (λ _. q)
 
+-- nothing is read
 abbrev pub pure : {A : Type 0} → A → Parser A
 pure a = λ i. Some (a, i)
 
@@ -43,26 +47,32 @@ infixr 11 ◌<$>◌
 abbrev pub ◌<$>◌ : {A B : Type 0} → (A → B) → Parser A → Parser B
 f <$> p = p >>= (λ x. pure (f x))
 
+-- no tokens are of it
 abbrev pub refuse : {A : Type 0} → Parser A
 refuse = λ i. None
 
 -- ---- the next tokens
 
+-- whether a token is that word
 abbrev pub is_word : List ℕ → Tok → Bool
 is_word name (word w) = bytes_eq w name
 is_word name _ = false
 
+-- whether a token is a word
 abbrev pub is_any_word : Tok → Bool
 is_any_word (word w) = true
 is_any_word _ = false
 
+-- whether the first token passes a test
 abbrev pub first_is : (Tok → Bool) → List Tok → Bool
 first_is p [] = false
 first_is p (t ∷ ts) = p t
 
+-- whether a mark stands next, without taking it
 unfoldable pub sees_mark : Mark → List Tok → Bool
 sees_mark m i = first_is (is_mark m) i
 
+-- whether a keyword stands next, without taking it
 unfoldable pub sees_key : Keyword → List Tok → Bool
 sees_key k i = first_is (is_key k) i
 
@@ -70,47 +80,60 @@ sees_key k i = first_is (is_key k) i
 unfoldable pub calls : List ℕ → List Tok → Bool
 calls name i = first_is (is_word name) i && sees_mark m.LeftRound (drop 1 i)
 
+-- whether a word stands next with a bracket behind it
 unfoldable pub is_call : List Tok → Bool
 is_call i = first_is is_any_word i && sees_mark m.LeftRound (drop 1 i)
 
+-- the tokens behind a mark, if it stands next
 unfoldable pub after_mark : Mark → List Tok → List Tok
 after_mark m i = if sees_mark m i then drop 1 i else i
 
+-- the tokens behind a keyword, if it stands next
 unfoldable pub after_key : Keyword → List Tok → List Tok
 after_key k i = if sees_key k i then drop 1 i else i
 
+-- takes a mark if it stands next, and says whether
 abbrev pub eat : Mark → Parser Bool
 eat m = λ i. Some (sees_mark m i, after_mark m i)
 
+-- takes a keyword if it stands next, and says whether
 abbrev pub eat_key : Keyword → Parser Bool
 eat_key k = λ i. Some (sees_key k i, after_key k i)
 
+-- takes a mark that must stand next
 unfoldable pub expect : Mark → Parser (Unit {0})
 expect m = λ i. if sees_mark m i then Some (tt, drop 1 i) else None
 
+-- takes a keyword that must stand next
 unfoldable pub expect_key : Keyword → Parser (Unit {0})
 expect_key k = λ i. if sees_key k i then Some (tt, drop 1 i) else None
 
+-- takes so many tokens, whatever they are
 abbrev pub skip : ℕ → Parser (Unit {0})
 skip n = λ i. Some (tt, drop n i)
 
 -- ---- paths
 
+-- a name: a word, or what a `#` word is given
 abbrev pub name_at : List Pair → List Tok → Outcome (List ℕ)
 name_at names (word w ∷ ts) = Some (w, ts)
 name_at names (hash w ∷ ts) = Some (name_of names w, ts)
 name_at names _ = None
 
+-- a name, wherever the tokens stand
 unfoldable pub name : List Pair → Parser (List ℕ)
 name = name_at
 
+-- an index
 abbrev pub index_at : List Tok → Outcome ℕ
 index_at (index n ∷ ts) = Some (n, ts)
 index_at _ = None
 
+-- an index, wherever the tokens stand
 unfoldable pub number : Parser ℕ
 number = index_at
 
+-- an index and the bracket that closes it
 unfoldable pub index_part : Parser PathPart
 index_part = do
   x ← number
@@ -129,21 +152,25 @@ part names = do
         x ← index_part
         pure (Some x)) else pure None)
 
+-- further parts behind one that was read, or the parts found
 abbrev pub parts_on : (List PathPart → Parser (List PathPart)) → List PathPart → Option PathPart → Parser (List PathPart)
 parts_on more found (Some x) = more (found ++ x ∷ [])
 parts_on more found None = pure found
 
+-- the parts of a path, behind those found
 unfoldable pub parts_from : List Pair → ℕ → List PathPart → Parser (List PathPart)
 parts_from names zero found = refuse
 parts_from names (suc n) found = do
   next ← part names
   parts_on (parts_from names n) found next
 
+-- a path: a name, then its further parts
 unfoldable pub path : List Pair → Parser (List PathPart)
 path names = λ i. (do
   x ← name names
   parts_from names (length i) (p.Name x ∷ [])) i
 
+-- a phrase and the bracket that closes it
 unfoldable pub in_brackets : {A : Type 0} → Parser A → Parser A
 in_brackets p = do
   x ← p
@@ -169,6 +196,7 @@ listed one = λ i. (do
 
 -- ---- what a function that parses ensures: the outcome, unless memory fails
 
+-- an answer is what the parser reads, with the tokens behind it left; a refusal is of the grammar, if memory is there
 abbrev pub Reads : {A : Type 0} → Outcome A → Result A ExprFault → List Tok → Type 0
 Reads outcome (Ok a) new = outcome ≡ Some (a, new)
 Reads outcome (Err e) new = e ≢ NoMemory → (outcome ≡ None) × (e ≡ Syntax)

@@ -54,10 +54,12 @@ abbrev pub as_number : Result ℤ NumberFault → Result Tree Fault
 as_number (Ok z) = Ok (N_tree z)
 as_number (Err f) = Err (no_number f)
 
+-- the sum of two numbers; a fault where one is none or the sum does not fit
 abbrev pub plus : Tree → Tree → Result Tree Fault
 plus (N_tree y) (N_tree z) = as_number (fitted_units (y +ℤ z))
 plus _ _ = Err wrong_kind
 
+-- the difference of two numbers; a fault where one is none or the difference does not fit
 abbrev pub minus : Tree → Tree → Result Tree Fault
 minus (N_tree y) (N_tree z) = as_number (fitted_units (y -ℤ z))
 minus _ _ = Err wrong_kind
@@ -197,15 +199,18 @@ outcome None false within = Some within
 
 -- Elements that are put keep their old index; then the removed ones are out, and those past the end follow.
 abbrev mutual
+  -- a value after edits: put, taken away, or changed within
   pub changed : List Edit → Tree → Option Tree
   changed es (L_tree ts) = outcome (put_here es) (is_taken es) (L_tree (trees_of (elements (changed_elements es 0 ts) ++ map (λ p. p.1) (past (length (elements ts)) es))))
   changed es (M_tree fs) = outcome (put_here es) (is_taken es) (M_tree (fields_of (put_names es (pairs (changed_fields es fs)))))
   changed es t = outcome (put_here es) (is_taken es) t
 
+  -- the elements from an index on, after edits
   pub changed_elements : List Edit → ℕ → Trees → Trees
   changed_elements es i no_trees = no_trees
   changed_elements es i (tree_then t ts) = element_then (changed (under (Index i) es) t) (changed_elements es (suc i) ts)
 
+  -- the fields of a map, after edits
   pub changed_fields : List Edit → Fields → Fields
   changed_fields es no_fields = no_fields
   changed_fields es (field_then name t fs) = pair_then name (changed (under (Name name) es) t) (changed_fields es fs)

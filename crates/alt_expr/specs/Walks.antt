@@ -13,5 +13,6 @@ deep_from o c n (t ∷ ts) =
     let n' = n + cond (is_key Not t) 1 0 in
     if nat_lt (c' + 64) o' || nat_lt 64 n' then true else deep_from o' c' n' ts
 
+-- whether tokens nest too deep from their first on
 unfoldable pub is_deep : List Tok → Bool
 is_deep = deep_from 0 0 0

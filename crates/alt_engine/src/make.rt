@@ -61,6 +61,7 @@ pub fn make_store<D: Disk>(alloc: Global, disk: &mut D) -> Result<(), MakeFault>
     ensures goes { Goes (D.state disk.old) (D.state disk.new) }
     ensures cause { IsErrOf result MakeFault.Failed
         → Rose (D.state disk.old).faults (D.state disk.new).faults }
+    ensures well { OnOk result ((D.state disk.new).faults ≡ (D.state disk.old).faults) }
 {
     match no_files(alloc, disk) {
         Ok(()) => {}
@@ -83,6 +84,7 @@ fn no_files<D: Disk>(alloc: Global, disk: &mut D) -> Result<(), MakeFault>
     ensures goes { Goes (D.state disk.old) (D.state disk.new) }
     ensures cause { IsErrOf result MakeFault.Failed
         → Rose (D.state disk.old).faults (D.state disk.new).faults }
+    ensures well { OnOk result ((D.state disk.new).faults ≡ (D.state disk.old).faults) }
 {
     let mut list = Vec::new(alloc);
     match disk.names(&mut list) {

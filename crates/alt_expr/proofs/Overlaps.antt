@@ -136,9 +136,12 @@ module _ {X : Type 0} (at : X → List PathPart) where
 
   rising : (x : X) (xs : List X) → IsOrdered (x ∷ xs) → Rising (at x) (map at xs)
   rising x [] s = tt
-  rising x (y ∷ ys) s = (s 0 x (omega arith) (omega arith), rising y ys (λ k d low high.
-      let next : suc k + 1 ≡ suc (k + 1) = omega arith in
-      subst (λ m. is_lt (path_cmp (at (get_or (x ∷ y ∷ ys) m d)) (at (get_or (y ∷ ys) k d))) ≡ false) next (s (suc k) d (omega arith) (omega (arith, high)))))
+  rising x (y ∷ ys) s = (
+    s 0 x (omega arith) (omega arith),
+    rising y ys (λ k d low high.
+        let next : suc k + 1 ≡ suc (k + 1) = omega arith in
+        subst (λ m. is_lt (path_cmp (at (get_or (x ∷ y ∷ ys) m d)) (at (get_or (y ∷ ys) k d))) ≡ false) next (s (suc k) d (omega arith) (omega (arith, high)))),
+  )
 
   sorted : (xs : List X) → IsOrdered xs → some_overlap (map at xs) ≡ is_before_one (map at xs)
   sorted [] s = refl

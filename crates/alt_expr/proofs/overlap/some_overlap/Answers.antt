@@ -7,7 +7,6 @@ use Rattle.alt_expr.specs.declared.path.PathPart.{PathPart}
 use Rattle.alt_expr.proofs.Overlaps.{overlap_sorted}
 use Rattle.alt_expr.proofs.overlap.some_overlap.Goals as goal
 
-
 pub returns : goal.returns
 returns c = record {
   overlap = c.is_before_one.ensures ∙ ap (λ (ws : List (Bor (List PathPart))). is_before_one (map (λ w. w.now) ws)) c.deref.ensures.value

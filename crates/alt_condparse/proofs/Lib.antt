@@ -1,4 +1,1 @@
-pub mod Complete
 pub mod CrowdedLaws
-pub mod Sound
-pub mod Whole

@@ -2,7 +2,7 @@
 
 ghost use Rattle.std.specs.Prelude.{◌≡◌, ◌∷◌, ◌++◌, []};
 ghost use Rattle.alt_expr.specs.Reader.{left, Reads};
-ghost use Rattle.alt_condparse.specs.Reader as spec;
+ghost use Rattle.alt_expr.specs.CondReader as spec;
 ghost use Rattle.alt_expr.specs.Lookups.{given_to};
 
 use crate::test::test;

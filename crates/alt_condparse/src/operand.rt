@@ -2,7 +2,7 @@
 
 ghost use Rattle.std.specs.Prelude.{◌≡◌, ◌∷◌, ◌++◌, []};
 ghost use Rattle.alt_expr.specs.Reader.{left, Reads};
-ghost use Rattle.alt_condparse.specs.Reader as spec;
+ghost use Rattle.alt_expr.specs.CondReader as spec;
 ghost use Rattle.alt_expr.specs.Lookups.{given_to};
 
 use alt_expr::{
@@ -11,7 +11,7 @@ use alt_expr::{
 };
 
 /// A path, a `:` word or a size.
-#[tactic(auto, unfolding(crate::specs::Reader::operand))]
+#[tactic(auto, unfolding(alt_expr::specs::CondReader::operand))]
 pub(crate) fn operand(given: &Lookups<'_>, tokens: &mut Cursor<'_>) -> Result<Operand, ExprFault>
     ensures { Reads (spec.operand (given_to given.now) (left tokens.old)) result (left tokens.new) }
 {
@@ -24,7 +24,7 @@ pub(crate) fn operand(given: &Lookups<'_>, tokens: &mut Cursor<'_>) -> Result<Op
     }
 }
 
-#[tactic(auto, unfolding(crate::specs::Reader::named))]
+#[tactic(auto, unfolding(alt_expr::specs::CondReader::named))]
 fn named(given: &Lookups<'_>, tokens: &mut Cursor<'_>) -> Result<Operand, ExprFault>
     ensures { Reads (spec.named (given_to given.now) (left tokens.old)) result (left tokens.new) }
 {

@@ -2,7 +2,7 @@
 
 ghost use Rattle.std.specs.Prelude.{◌≡◌};
 ghost use Rattle.alt_expr.specs.Reader.{left, Reads};
-ghost use Rattle.alt_condparse.specs.Reader as spec;
+ghost use Rattle.alt_expr.specs.CondReader as spec;
 ghost use Rattle.alt_expr.specs.Lookups.{given_to};
 ghost use Rattle.alt_expr.specs.declared.cond.Cond.TheVariants as cond;
 
@@ -13,7 +13,7 @@ use alt_expr::{
 };
 
 /// A condition without NOT, AND, OR and brackets of its own.
-#[tactic(auto, unfolding(crate::specs::Reader::whole_test))]
+#[tactic(auto, unfolding(alt_expr::specs::CondReader::whole_test))]
 pub(crate) fn test(given: &Lookups<'_>, tokens: &mut Cursor<'_>) -> Result<Cond, ExprFault>
     ensures { Reads (spec.whole_test (given_to given.now) (left tokens.old)) result (left tokens.new) }
 {
@@ -29,7 +29,7 @@ pub(crate) fn test(given: &Lookups<'_>, tokens: &mut Cursor<'_>) -> Result<Cond,
 }
 
 /// A test that has an operand.
-#[tactic(auto, unfolding(crate::specs::Reader::operand_test))]
+#[tactic(auto, unfolding(alt_expr::specs::CondReader::operand_test))]
 fn operand_test(given: &Lookups<'_>, tokens: &mut Cursor<'_>) -> Result<Cond, ExprFault>
     ensures { Reads (spec.operand_test (given_to given.now) (left tokens.old)) result (left tokens.new) }
 {
@@ -49,7 +49,7 @@ fn operand_test(given: &Lookups<'_>, tokens: &mut Cursor<'_>) -> Result<Cond, Ex
     tail(given, tokens, first)
 }
 
-#[tactic(auto, unfolding(crate::specs::Reader::kind))]
+#[tactic(auto, unfolding(alt_expr::specs::CondReader::kind))]
 fn kind(given: &Lookups<'_>, tokens: &mut Cursor<'_>) -> Result<Cond, ExprFault>
     ensures { Reads (spec.kind (given_to given.now) (left tokens.old)) result (left tokens.new) }
 {
@@ -60,7 +60,7 @@ fn kind(given: &Lookups<'_>, tokens: &mut Cursor<'_>) -> Result<Cond, ExprFault>
     Ok(Cond::HasKind(path, kind))
 }
 
-#[tactic(auto, unfolding(crate::specs::Reader::pair))]
+#[tactic(auto, unfolding(alt_expr::specs::CondReader::pair))]
 fn begins(given: &Lookups<'_>, tokens: &mut Cursor<'_>) -> Result<Cond, ExprFault>
     ensures { Reads (spec.pair (given_to given.now) cond.BeginsWith (left tokens.old)) result (left tokens.new) }
 {
@@ -71,7 +71,7 @@ fn begins(given: &Lookups<'_>, tokens: &mut Cursor<'_>) -> Result<Cond, ExprFaul
     Ok(Cond::BeginsWith(whole, front))
 }
 
-#[tactic(auto, unfolding(crate::specs::Reader::pair))]
+#[tactic(auto, unfolding(alt_expr::specs::CondReader::pair))]
 fn contains(given: &Lookups<'_>, tokens: &mut Cursor<'_>) -> Result<Cond, ExprFault>
     ensures { Reads (spec.pair (given_to given.now) cond.Contains (left tokens.old)) result (left tokens.new) }
 {
@@ -83,7 +83,7 @@ fn contains(given: &Lookups<'_>, tokens: &mut Cursor<'_>) -> Result<Cond, ExprFa
 }
 
 /// What stands behind the first operand.
-#[tactic(auto, unfolding(crate::specs::Reader::tail))]
+#[tactic(auto, unfolding(alt_expr::specs::CondReader::tail))]
 fn tail(given: &Lookups<'_>, tokens: &mut Cursor<'_>, first: Operand) -> Result<Cond, ExprFault>
     ensures { Reads (spec.tail (given_to given.now) first (left tokens.old)) result (left tokens.new) }
 {
@@ -100,7 +100,7 @@ fn tail(given: &Lookups<'_>, tokens: &mut Cursor<'_>, first: Operand) -> Result<
     Err(ExprFault::Syntax)
 }
 
-#[tactic(auto, unfolding(crate::specs::Reader::between))]
+#[tactic(auto, unfolding(alt_expr::specs::CondReader::between))]
 fn between(given: &Lookups<'_>, tokens: &mut Cursor<'_>, first: Operand) -> Result<Cond, ExprFault>
     ensures { Reads (spec.between (given_to given.now) first (left tokens.old)) result (left tokens.new) }
 {
@@ -110,7 +110,7 @@ fn between(given: &Lookups<'_>, tokens: &mut Cursor<'_>, first: Operand) -> Resu
     Ok(Cond::Between(first, low, high))
 }
 
-#[tactic(auto, unfolding(crate::specs::Reader::among, alt_expr::specs::Reader::in_brackets))]
+#[tactic(auto, unfolding(alt_expr::specs::CondReader::among, alt_expr::specs::Reader::in_brackets))]
 fn among(given: &Lookups<'_>, tokens: &mut Cursor<'_>, first: Operand) -> Result<Cond, ExprFault>
     ensures { Reads (spec.among (given_to given.now) first (left tokens.old)) result (left tokens.new) }
 {
@@ -120,7 +120,7 @@ fn among(given: &Lookups<'_>, tokens: &mut Cursor<'_>, first: Operand) -> Result
     Ok(Cond::Among(first, members))
 }
 
-#[tactic(auto, unfolding(crate::specs::Reader::sees_comparison))]
+#[tactic(auto, unfolding(alt_expr::specs::CondReader::sees_comparison))]
 fn comparison(tokens: &Cursor<'_>) -> Option<Comparison>
     ensures { result ≡ spec.sees_comparison (left tokens.now) }
 {

@@ -1,3 +1,7 @@
+pub mod CondComplete
+pub mod CondSound
+pub mod CondTexts
+pub mod CondWhole
 pub mod Copied
 pub mod Deep
 pub mod Grouped
@@ -8,6 +12,7 @@ pub mod Longest
 pub mod Noting
 pub mod Numbers
 pub mod Once
+pub mod OneAnswer
 pub mod Overlaps
 pub mod Parsing
 pub mod PathFound
@@ -15,6 +20,7 @@ pub mod PathRead
 pub mod SameValues
 pub mod Seen
 pub mod Suffix
+pub mod TextTokens
 pub mod Tokenized
 pub mod Turns
 pub mod Words

@@ -26,7 +26,7 @@ one_on text old whole_text new found t c h = record {
 pub ends : (text rest : List ℕ) (found : List Token) (whole : Bool) → Continues text rest found → Lexes rest [] whole → Lexes text (map tok_of found) whole
 ends text rest found whole c h = subst (λ z. Lexes text z whole) (append-nil (map tok_of found)) (c.goes_on [] whole h)
 
-stands_some : (text : List ℕ) (len : ℕ) (t : Tok) → Stands text len t → 0 < len
+pub stands_some : (text : List ℕ) (len : ℕ) (t : Tok) → Stands text len t → 0 < len
 stands_some text zero t s = let e = s.spells in cc
 stands_some text (suc n) t s = omega arith
 

@@ -6,7 +6,7 @@ use Rattle.alt_expr.specs.declared.cond.Cond.TheVariants as cond
 use Rattle.alt_expr.specs.Reader.{left, ◌<$>◌, in_brackets}
 use Rattle.alt_expr.proofs.Turns.{one_more, no_more, deeper}
 use Rattle.alt_expr.specs.Lookups.{given_to}
-use Rattle.alt_condparse.specs.Reader.{one, prim, all, any, joined, joined_from}
+use Rattle.alt_expr.specs.CondReader.{one, prim, all, any, joined, joined_from}
 use Rattle.alt_condparse.proofs.condition.+condition.Goals as goal
 
 pub all-returns-in_err-first : goal.all-returns-in_err-first

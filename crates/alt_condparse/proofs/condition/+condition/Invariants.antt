@@ -4,7 +4,7 @@ use Rattle.alt_expr.specs.declared.token.Keyword.TheVariants.{And, Or}
 use Rattle.alt_expr.specs.declared.cond.Cond.TheVariants as cond
 use Rattle.alt_expr.specs.Reader.{left, ◌<$>◌}
 use Rattle.alt_expr.specs.Lookups.{given_to}
-use Rattle.alt_condparse.specs.Reader.{one, all, joined, joined_from}
+use Rattle.alt_expr.specs.CondReader.{one, all, joined, joined_from}
 use Rattle.alt_condparse.proofs.condition.+condition.Given as goal
 
 abbrev pub decreases-one : goal.decreases-one

@@ -4,7 +4,7 @@ use Rattle.std.proofs.lemmas.Grind.{common_steps}
 use Rattle.alt_expr.specs.Reader.{left, listed, listed_from}
 use Rattle.alt_expr.proofs.Turns.{one_more, no_more}
 use Rattle.alt_expr.specs.Lookups.{given_to}
-use Rattle.alt_condparse.specs.Reader.{operand}
+use Rattle.alt_expr.specs.CondReader.{operand}
 use Rattle.alt_condparse.proofs.operand.operands.Goals as goal
 
 pub loop-turn-init : goal.loop-turn-init

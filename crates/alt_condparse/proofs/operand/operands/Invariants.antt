@@ -2,7 +2,7 @@
 use Rattle.std.proofs.Common.{◌≡◌, ◌-◌}
 use Rattle.alt_expr.specs.Reader.{left, listed, listed_from}
 use Rattle.alt_expr.specs.Lookups.{given_to}
-use Rattle.alt_condparse.specs.Reader.{operand}
+use Rattle.alt_expr.specs.CondReader.{operand}
 use Rattle.alt_condparse.proofs.operand.operands.Given as goal
 
 abbrev pub invariant-loop-turn : goal.invariant-loop-turn

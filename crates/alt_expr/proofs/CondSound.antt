@@ -20,8 +20,8 @@ use Rattle.alt_expr.specs.Reader.{Parser, and_then, sees_mark, sees_key, calls, 
 use Rattle.alt_expr.proofs.Seen.{Derived, then_some, some_pair, none_some, some_is, either_way, mark_seen, key_seen, expected, expected_key, called}
 use Rattle.alt_expr.proofs.PathFound.{path_sound, bracketed}
 use Rattle.alt_expr.proofs.Lists.{listed_sound}
-use Rattle.alt_condparse.specs.Reader as r
-use Rattle.alt_condparse.specs.Reader.{joined, joined_from}
+use Rattle.alt_expr.specs.CondReader as r
+use Rattle.alt_expr.specs.CondReader.{joined, joined_from}
 
 -- ---- operands
 

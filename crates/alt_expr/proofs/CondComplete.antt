@@ -17,8 +17,8 @@ use Rattle.alt_expr.specs.Reader as e
 use Rattle.alt_expr.specs.Reader.{Parser, sees_mark, sees_key, calls, is_call, after_mark, after_key, expect, expect_key, in_brackets}
 use Rattle.alt_expr.proofs.PathRead.{Ends, path_read, path_in_brackets, no_call, not_call, close_read, ends_key, ends_close, ends_comma, ends_nothing}
 use Rattle.alt_expr.proofs.Lists.{listed_read}
-use Rattle.alt_condparse.specs.Reader as r
-use Rattle.alt_condparse.specs.Reader.{joined, joined_from}
+use Rattle.alt_expr.specs.CondReader as r
+use Rattle.alt_expr.specs.CondReader.{joined, joined_from}
 
 -- ---- operands
 

@@ -14,9 +14,9 @@ use Rattle.alt_expr.specs.declared.fault.ExprFault.{ExprFault}
 use Rattle.alt_expr.specs.declared.fault.ExprFault.TheVariants as fault
 use Rattle.alt_expr.specs.declared.cond.Cond.{Cond}
 use Rattle.alt_expr.proofs.Seen.{some_pair, none_some}
-use Rattle.alt_condparse.specs.Reader.{any, one}
-use Rattle.alt_condparse.proofs.Complete.{cond_nest, cond_fits, whole_read}
-use Rattle.alt_condparse.proofs.Sound.{any_sound, one_sound}
+use Rattle.alt_expr.specs.CondReader.{any, one}
+use Rattle.alt_expr.proofs.CondComplete.{cond_nest, cond_fits, whole_read}
+use Rattle.alt_expr.proofs.CondSound.{any_sound, one_sound}
 
 module _ (g : Given) (toks : List Tok) where
   -- what is read to the end is the tree

@@ -199,12 +199,16 @@ IsBelow-join number row c below = record { gone = gone c.clear row.gone below.go
 pub none_shown : as_shown empty ≡ None
 none_shown = ap (λ n. if n == 0 then None else Some empty) (len-empty key_cmp (List ℕ))
 
+-- what is made of nothing is shown, if it has a column
+pub written-made : (family : ℕ) (key : List ℕ) (new : Columns)
+    → written (change_between family key None (Some new)) None ≡ as_shown new
+written-made family key new = ap as_shown (same_map key_total key_exact _ _ (columns_made new))
+
 -- The change between two rows turns what is shown of the one into the other.
 pub written-change_between : (family : ℕ) (key : List ℕ) (old new : Option Columns) → CanShow new
     → written (change_between family key old new) old ≡ new
 written-change_between family key None None can = none_shown
-written-change_between family key None (Some new) can =
-    ap as_shown (same_map key_total key_exact _ _ (columns_made new)) ∙ can
+written-change_between family key None (Some new) can = written-made family key new ∙ can
 written-change_between family key (Some old) None can = none_shown
 written-change_between family key (Some old) (Some new) can =
     ap as_shown (same_map key_total key_exact _ _ (columns_between old new)) ∙ can

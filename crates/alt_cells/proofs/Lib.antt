@@ -1,3 +1,4 @@
+pub mod AfterLaws
 pub mod BatchLaws
 pub mod CellLaws
 pub mod ChangeLaws

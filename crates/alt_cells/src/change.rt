@@ -4,7 +4,8 @@ ghost use Rattle.std.specs.Prelude.{◌≡◌, ◌++◌, ◌∷◌, [], ◌<◌,
 ghost use Rattle.std.specs.FinMap.{entries, get};
 ghost use Rattle.std.specs.FinMap.Entries.{is_sorted};
 ghost use Rattle.alt_cells.specs.Keys.{key_cmp};
-ghost use Rattle.alt_cells.specs.Changes.{cell_at, cells_given, row_of_change, with_value, differs, changed_cells, gone_cells, cells_between, change_between, ShowsChanges, StaysBelow, TurnsRows};
+ghost use Rattle.alt_cells.specs.Changes.{cell_at, cells_given, row_of_change, with_value, differs, changed_cells, gone_cells, cells_between, change_between, ShowsChanges, StaysBelow, TurnsRows, written, as_shown, IsBelow};
+ghost use Rattle.alt_cells.specs.Shown.{row_shown};
 
 use crate::{Cell, CellList, CellMap, RowCells, RowChange, ShownRow};
 use alt_base::NoMemory;
@@ -89,6 +90,29 @@ impl RowChange {
         ensures turns { TurnsRows }
     {}
 
+    /// What the row shows after the change, by what it showed.
+    pub fn shown_after(
+        &self,
+        alloc: Global,
+        before: Option<&ShownRow>,
+    ) -> Result<Option<ShownRow>, NoMemory>
+        ensures { IfOk result (λ row. row
+            ≡ written self.now (option_map (λ r. r.now) before.entry)) }
+    {
+        let given = RowCells::of_change(alloc, 1, self)?;
+        match before {
+            Some(row) => {
+                if self.clear {
+                    return given.shown();
+                }
+                let mut cells = cells_of(alloc, row)?;
+                cells.join(&given)?;
+                cells.shown()
+            }
+            None => given.shown(),
+        }
+    }
+
     /// The change that turns a row from what it shows into what it is to show; a row that isn't shown
     /// is none. A row that comes or goes is cleared; of another only what differs is written.
     pub fn between(
@@ -110,6 +134,17 @@ impl RowChange {
             cells,
         })
     }
+}
+
+/// What a row shows, as the cells of a write before any other.
+fn cells_of(alloc: Global, row: &ShownRow) -> Result<RowCells, NoMemory>
+    ensures below { IfOk result (IsBelow 1) }
+    ensures shown { IfOk result (λ cells. row_shown cells ≡ as_shown row.now) }
+{
+    let key = Bytes::from_vec(Vec::new(alloc));
+    let made = RowChange::between(alloc, 0, key, None, Some(row))?;
+    let cells = RowCells::of_change(alloc, 0, &made)?;
+    Ok(cells)
 }
 
 fn cells_between(

@@ -108,6 +108,15 @@ impl GateLog {
         self.places.len()
     }
 
+    /// The place of an entry's gate.
+    pub fn place(&self, i: usize) -> u64
+        requires { i < count_of self.now }
+        ensures { (s : DiskState) (entries : List (List ℕ)) → Reads s self.now entries
+            → result ≡ gate_place (form_of self.now) entries i }
+    {
+        self.places[i]
+    }
+
     /// Reads the log of a file. It holds the places of the entries, and no entry.
     pub fn recover<D: Disk>(alloc: Global, disk: &mut D, f: u32) -> Result<GateLog, LogFault>
         ensures file { IfOk result (λ log. file_of log ≡ f) }

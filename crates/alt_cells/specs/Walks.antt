@@ -73,6 +73,10 @@ IsDamaged NoMemory = ⊥
 abbrev pub SameFiles : (ℕ → Bool) → DiskState → DiskState → Type 0
 SameFiles reads old new = (f : ℕ) → IsTrue (reads f) → new.file f ≡ old.file f
 
+-- of the files that a writer writes nothing is promised on the way
+abbrev pub Anything : ℕ → (ℕ → Option (List ℕ)) → Type 0
+Anything t image = Unit {0}
+
 -- what a call on a source keeps: its rows, the files that it reads, and all files of the disk
 pub record Keeps {S M : Type 0} (Holds : DiskState → S → M → Type 0) (reads_of : S → ℕ → Bool)
     (old new : DiskState) (before after : S) : Type 0 where

@@ -13,6 +13,7 @@ mod row;
 mod shown;
 mod source;
 mod stop;
+mod writer;
 
 pub use batch::{Batch, CellList, RowChange};
 pub use cell::Cell;
@@ -22,3 +23,4 @@ pub use reading::row_of;
 pub use row::RowCells;
 pub use shown::ShownRow;
 pub use source::{RowSource, SourceFault};
+pub use writer::RowWriter;

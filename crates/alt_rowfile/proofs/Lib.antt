@@ -1,0 +1,16 @@
+pub mod OneFile
+pub mod SinkLaws
+pub mod WriterLaws
+pub mod Loops
+pub mod TailLaws
+pub mod DecodeLaws
+pub mod BlockLaws
+pub mod BodyLaws
+pub mod FileLaws
+pub mod LoadLaws
+pub mod SearchLaws
+pub mod WalkLaws
+pub mod CutLaws
+pub mod SeekLaws
+pub mod StreamLaws
+pub mod WalkCalls

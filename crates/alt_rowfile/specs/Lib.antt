@@ -1,0 +1,11 @@
+pub mod Blocks
+pub mod Format
+pub mod InHand
+pub mod Sinks
+pub mod Writing
+pub mod Decoding
+pub mod Recovery
+pub mod Loading
+pub mod Searching
+pub mod Cut
+pub mod Walking

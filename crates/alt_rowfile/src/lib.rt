@@ -1,0 +1,24 @@
+//! Row files: a sorted list of rows in one file, cut into blocks, with an index of the blocks and a digest of all.
+#![tactic(auto)]
+
+mod blocks;
+mod body;
+mod decode;
+mod digest;
+mod fault;
+mod law;
+mod load;
+mod pieces;
+mod recover;
+mod rowfile;
+mod search;
+mod seek;
+mod sink;
+mod tail;
+mod walk;
+mod writer;
+
+pub use fault::RowFileFault;
+pub use rowfile::RowFile;
+pub use walk::RowFileWalk;
+pub use writer::RowFileWriter;

@@ -1,0 +1,88 @@
+//! A finished row file in hand.
+
+use crate::fault::RowFileFault;
+use crate::load::load;
+use crate::recover::recover_file;
+use crate::search::{blocks_up_to, row_in};
+use crate::walk::RowFileWalk;
+use alt_cells::{RowCells, SourceFault};
+use alt_disk::Disk;
+use alt_fields::Bytes;
+use std::alloc::Global;
+
+/// A row file: the places and first keys of its blocks, and the place of its index. The rows lie on the disk.
+#[derive(Drop)]
+pub struct RowFile {
+    pub(crate) alloc: Global,
+    pub(crate) file: u32,
+    pub(crate) marks: Vec<(u64, Bytes)>,
+    pub(crate) end: u64,
+}
+
+impl RowFile {
+    ghost use Rattle.std.specs.Prelude.{◌≡◌, ◌≤◌, ◌+◌, ◌==◌, ℕ, List, IfOk, IfErr, IsErrOf, IsTrue};
+    ghost use Rattle.alt_base.specs.Counts.{Rose};
+    ghost use Rattle.alt_disk.specs.Disk.{DiskState, Goes, contents};
+    ghost use Rattle.alt_disk.specs.Runs.{Quiet};
+    ghost use Rattle.alt_rowfile.specs.Format.{Entry};
+    ghost use Rattle.alt_rowfile.specs.InHand.{Reads, file_of};
+    ghost use Rattle.alt_rowfile.specs.Walking.{walk_holds, walk_reads};
+    ghost use Rattle.std.specs.FinMap.{entries};
+    ghost use Rattle.alt_rowfile.specs.Recovery.{ExplainsFile};
+    ghost use Rattle.alt_cells.specs.Walks.{IsDamaged, RowMap};
+    ghost use Rattle.std.specs.FinMap.Entries.{find};
+    ghost use Rattle.alt_cells.specs.Keys.{key_cmp};
+
+    /// Reads the row file of a file and tests all of it.
+    pub fn recover<D: Disk>(alloc: Global, disk: &mut D, f: u32) -> Result<RowFile, RowFileFault>
+        ensures file { IfOk result (λ file. file_of file ≡ f) }
+        ensures reads { IfOk result (λ file. IsTrue (D.state disk.old).tells → (rows : List Entry) × Reads (D.state disk.new) file rows) }
+        ensures explained { IsTrue (D.state disk.old).tells → IfErr result (ExplainsFile f (contents (D.state disk.old) f)) }
+        ensures quiet { IsTrue (D.state disk.old).tells → Quiet (D.state disk.old) (D.state disk.new) }
+        ensures goes { Goes (D.state disk.old) (D.state disk.new) }
+        ensures cause { IsErrOf result RowFileFault.Failed → Rose (D.state disk.old).faults (D.state disk.new).faults }
+        ensures well { (IsErrOf result RowFileFault.Failed → ⊥)
+            → (D.state disk.new).faults ≡ (D.state disk.old).faults }
+    {
+        recover_file(alloc, disk, f)
+    }
+
+    /// The row of a key, None exactly where there is none. It reads one block at most.
+    pub fn row<D: Disk>(&self, disk: &mut D, key: &[u8]) -> Result<Option<RowCells>, SourceFault>
+        ensures row { IsTrue (D.state disk.old).tells → (rows : List Entry) → Reads (D.state disk.old) self.now rows
+            → IfOk result (λ row. row ≡ find key_cmp key.now rows) }
+        ensures undamaged { IsTrue (D.state disk.old).tells → (rows : List Entry) → Reads (D.state disk.old) self.now rows → IfErr result (λ fault. IsDamaged fault → ⊥) }
+        ensures quiet { IsTrue (D.state disk.old).tells → Quiet (D.state disk.old) (D.state disk.new) }
+        ensures goes { Goes (D.state disk.old) (D.state disk.new) }
+        ensures cause { IsErrOf result SourceFault.Failed → Rose (D.state disk.old).faults (D.state disk.new).faults }
+        ensures well { (IsErrOf result SourceFault.Failed → ⊥)
+            → (D.state disk.new).faults ≡ (D.state disk.old).faults }
+        ensures reads { (D.state disk.new).reads ≤ (D.state disk.old).reads + 1 }
+    {
+        let count = blocks_up_to(&self.marks, key);
+        if count == 0 {
+            return Ok(None);
+        }
+        match load(self, disk, count - 1) {
+            Ok(rows) => match row_in(&rows, key) {
+                Ok(row) => Ok(row),
+                Err(_) => Err(SourceFault::NoMemory),
+            },
+            Err(fault) => Err(fault),
+        }
+    }
+
+    /// A walk over its rows, which is to be sought first.
+    pub fn walk(&self) -> RowFileWalk<'_>
+        ensures holds { (s : DiskState) (rows : RowMap) → Reads s self.now (entries rows)
+            → walk_holds s result rows }
+        ensures reads { (f : ℕ) → walk_reads result f ≡ (f == file_of self.now) }
+    {
+        RowFileWalk {
+            file: self,
+            forward: true,
+            next: self.marks.len(),
+            held: Vec::new(self.alloc),
+        }
+    }
+}

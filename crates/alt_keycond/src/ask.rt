@@ -1,6 +1,9 @@
 //! What a key condition asks.
 
 ghost use Rattle.std.specs.Prelude.{◌≡◌, ◌≢◌, Some, None, option_map, IfOk, IfErr};
+ghost use Rattle.alt_value.specs.Stands.{tree_of};
+ghost use Rattle.alt_keyorder.specs.KeyBytes.{IsKey};
+ghost use Rattle.alt_keycond.specs.KeysAsked.{AsksKeys};
 ghost use Rattle.alt_expr.specs.KeyForm as form;
 ghost use Rattle.alt_expr.specs.Holds.{holds};
 ghost use Rattle.alt_expr.specs.Located.{View};
@@ -57,6 +60,8 @@ pub fn key_ask(cond: &Cond, hash: &KeyAttr, range: Option<&KeyAttr>) -> Result<K
     // The condition holds exactly of the items that meet the ask.
     ensures holds { IfOk result (λ a. (item : View) →
         holds item cond.now ≡ form.meets (key_of hash.now) (option_map (λ r. key_of r.now) range.entry) (asks a) item) }
+    // So it is an ask that `key_range` takes.
+    ensures keys { IfOk result (λ a. IsKey (tree_of a.hash) × AsksKeys a.range) }
     ensures cause { IfErr result (λ f. f ≢ KeyCondFault.NoMemory → (f ≡ KeyCondFault.NotKey)
         × (form.ask_of (key_of hash.now) (option_map (λ r. key_of r.now) range.entry) cond.now ≡ None)) }
 {

@@ -3,5 +3,7 @@
 
 mod ask;
 mod key_test;
+mod range;
 
 pub use ask::{KeyAsk, KeyCondFault, RangeAsk, key_ask};
+pub use range::key_range;

@@ -23,10 +23,10 @@ returns-in-Err-clause-keeps g c =
         c.args.self.now c.args.self.now refl c.in-Err.ensures.goes c.in-Err.ensures.quiet
 
 pub returns-in-Err-clause-well : goal.returns-in-Err-clause-well
-returns-in-Err-clause-well g c = well_failed c.in-Err.fault c.in-Err.ensures.well
+returns-in-Err-clause-well g c = well_failed c.in-Err.stop c.in-Err.ensures.well
 
 pub returns-in-Err-clause-fails : goal.returns-in-Err-clause-fails
 returns-in-Err-clause-fails g c =
     walk_fails (g.D.Disk.state c.args.disk.now)
         (g.D.Disk.state c.start.new.disk)
-        c.args.self.now c.in-Err.fault c.in-Err.ensures.cause c.in-Err.ensures.undamaged
+        c.args.self.now c.in-Err.stop c.in-Err.ensures.cause c.in-Err.ensures.undamaged

@@ -14,7 +14,7 @@ use Rattle.alt_cells.specs.Keys.{key_cmp}
 use Rattle.alt_cells.proofs.CellLaws.{key_total}
 use Rattle.alt_cells.proofs.Entries.{both, first, second, less, is_less, below_less}
 use Rattle.alt_cells.proofs.Rising.{sorted_front}
-use Rattle.alt_fields.proofs.Apart.{field-apart, all_append, all_back, all_front, flat_map_snoc}
+use Rattle.alt_fields.proofs.Apart.{field-apart, all_append, all_back, flat_map_snoc}
 use Rattle.alt_rowfile.specs.Format.{Entry, Mark, entry_bytes, rows_bytes, block_bytes, front, rows_of, first_key, marks_from, IsBlock, IsFull, AreBlocks, IsHeldEntry, IsHeldBlock}
 use Rattle.alt_rowfile.specs.Decoding.{AreRows, StandBefore}
 use Rattle.alt_rowfile.specs.Blocks.{last_key, IsAbove, IsNext, IsNextBlock, IsReadBlock, AreBlocksOf, IsFoundAs}
@@ -22,23 +22,29 @@ use Rattle.alt_rowfile.proofs.OneFile.{one_block, block-apart, block_some, lengt
 use Rattle.alt_rowfile.proofs.WriterLaws.{rows_of-push, front-push, length-front, marks-push, is_some}
 use Rattle.alt_rowfile.proofs.DecodeLaws.{rest_of, some_left}
 
-pub less_tested : (b : Bool) (r : Ordering) → b ≡ is_lt r → (IsTrue b → r ≡ Less) × (r ≡ Less → IsTrue b)
+pub less_tested : (b : Bool) (r : Ordering) → b ≡ is_lt r → (IsTrue b → r ≡ Less)
+    × (r ≡ Less → IsTrue b)
 less_tested b Less e = ((λ t. refl), (λ l. e))
-less_tested b Equal e = ((λ t. absurd (let f : true ≡ false = sym t ∙ e in cc f)), (λ l. absurd (cc l)))
-less_tested b Greater e = ((λ t. absurd (let f : true ≡ false = sym t ∙ e in cc f)), (λ l. absurd (cc l)))
+less_tested b Equal e =
+    ((λ t. absurd (let f : true ≡ false = sym t ∙ e in cc f)), (λ l. absurd (cc l)))
+less_tested b Greater e =
+    ((λ t. absurd (let f : true ≡ false = sym t ∙ e in cc f)), (λ l. absurd (cc l)))
 
 -- ---- rows behind rows
 
-pub last_key-append : (xs : List Entry) (y : Entry) (ys : List Entry) → last_key (xs ++ y ∷ ys) ≡ last_key (y ∷ ys)
+pub last_key-append : (xs : List Entry) (y : Entry) (ys : List Entry)
+    → last_key (xs ++ y ∷ ys) ≡ last_key (y ∷ ys)
 last_key-append [] y ys = refl
 last_key-append (x ∷ []) y ys = refl
 last_key-append (x ∷ z ∷ xs) y ys = last_key-append (z ∷ xs) y ys
 
-pub last_at : (rows : List Entry) (l : Entry) → Some l ≡ slice_get rows (length rows - 1) → Some l.0 ≡ last_key rows
+pub last_at : (rows : List Entry) (l : Entry) → Some l ≡ slice_get rows (length rows - 1)
+    → Some l.0 ≡ last_key rows
 last_at [] l e = absurd (let f : ⊥ = cc in f)
 last_at (x ∷ rows) l e = at_end x rows l (simp unary_clauses at e)
   where
-    at_end : (x : Entry) (rows : List Entry) (l : Entry) → Some l ≡ slice_get (x ∷ rows) (length rows) → Some l.0 ≡ last_key (x ∷ rows)
+    at_end : (x : Entry) (rows : List Entry) (l : Entry)
+        → Some l ≡ slice_get (x ∷ rows) (length rows) → Some l.0 ≡ last_key (x ∷ rows)
     at_end x [] l e = let f : l ≡ x = cc in ap (λ (y : Entry). Some y.0) f
     at_end x (z ∷ rows) l e = at_end z rows l e
 
@@ -47,18 +53,25 @@ first_at [] f e = absurd (let g : ⊥ = cc in g)
 first_at (x ∷ rows) f e = let g : f ≡ x = cc in ap (λ (y : Entry). y.0) g
 
 -- rows whose first key is above the last one go on rising
-pub sorted_join : (xs : List Entry) (y : Entry) (ys : List Entry) → T (is_sorted key_cmp xs) → T (is_sorted key_cmp (y ∷ ys)) → IsAbove (last_key xs) y.0 → T (is_sorted key_cmp (xs ++ y ∷ ys))
+pub sorted_join : (xs : List Entry) (y : Entry) (ys : List Entry) → T (is_sorted key_cmp xs)
+    → T (is_sorted key_cmp (y ∷ ys)) → IsAbove (last_key xs) y.0
+    → T (is_sorted key_cmp (xs ++ y ∷ ys))
 sorted_join [] y ys h k above = k
 sorted_join (x ∷ []) y ys h k above =
-    both (below_all key_cmp x.0 (y ∷ ys)) (is_sorted key_cmp (y ∷ ys)) (both (is_lt (key_cmp x.0 y.0)) (below_all key_cmp x.0 ys) (is_less (key_cmp x.0 y.0) above) (below_less key_cmp key_total x.0 y.0 ys above (first _ _ k))) k
+    both (below_all key_cmp x.0 (y ∷ ys)) (is_sorted key_cmp (y ∷ ys))
+        (both (is_lt (key_cmp x.0 y.0)) (below_all key_cmp x.0 ys) (is_less (key_cmp x.0 y.0) above)
+        (below_less key_cmp key_total x.0 y.0 ys above (first _ _ k))) k
 sorted_join (x ∷ z ∷ xs) y ys h k above =
     let rest = sorted_join (z ∷ xs) y ys (second _ _ h) k above in
     let next : key_cmp x.0 z.0 ≡ Less = less _ (first _ _ (first _ _ h)) in
     both (below_all key_cmp x.0 (z ∷ (xs ++ y ∷ ys))) (is_sorted key_cmp (z ∷ (xs ++ y ∷ ys)))
-    (both (is_lt (key_cmp x.0 z.0)) (below_all key_cmp x.0 (xs ++ y ∷ ys)) (is_less (key_cmp x.0 z.0) next) (below_less key_cmp key_total x.0 z.0 (xs ++ y ∷ ys) next (first _ _ rest))) rest
+    (both (is_lt (key_cmp x.0 z.0)) (below_all key_cmp x.0 (xs ++ y ∷ ys))
+        (is_less (key_cmp x.0 z.0) next)
+        (below_less key_cmp key_total x.0 z.0 (xs ++ y ∷ ys) next (first _ _ rest))) rest
 
 -- and what goes on rising is above the last one
-pub above_join : (xs : List Entry) (y : Entry) (ys : List Entry) → T (is_sorted key_cmp (xs ++ y ∷ ys)) → IsAbove (last_key xs) y.0
+pub above_join : (xs : List Entry) (y : Entry) (ys : List Entry)
+    → T (is_sorted key_cmp (xs ++ y ∷ ys)) → IsAbove (last_key xs) y.0
 above_join [] y ys h = tt
 above_join (x ∷ []) y ys h = less _ (first _ _ (first _ _ h))
 above_join (x ∷ z ∷ xs) y ys h = above_join (z ∷ xs) y ys (second _ _ h)
@@ -69,31 +82,41 @@ sorted_back (x ∷ xs) ys h = sorted_back xs ys (second _ _ h)
 
 -- ---- a block
 
-pub split_last : (x : Entry) (rows : List Entry) → (front : List Entry) × (last : Entry) × (x ∷ rows ≡ front ++ last ∷ [])
+pub split_last : (x : Entry) (rows : List Entry) → (front : List Entry) × (last : Entry)
+    × (x ∷ rows ≡ front ++ last ∷ [])
 split_last x [] = ([], x, refl)
-split_last x (y ∷ rows) = let s = split_last y rows in (x ∷ s.0, s.1, ap (λ (l : List Entry). x ∷ l) s.2)
+split_last x (y ∷ rows) = let s = split_last y rows in
+    (x ∷ s.0, s.1, ap (λ (l : List Entry). x ∷ l) s.2)
 
-pub block_read : (rows : List Entry) (bytes : List ℕ) (before : ℕ) (f l : Entry) (after : Option (List ℕ)) (is_last : Bool) (one two : List ℕ) (count : ℕ) → AreRows rows → bytes ≡ rows_bytes rows → StandBefore before rows
-    → before < 4096 → (is_last ≡ false → 4096 ≤ length bytes) → length bytes < 2 ^ 64 → Some f ≡ slice_get rows 0 → Some l ≡ slice_get rows (length rows - 1) → IsAbove after f.0
-    → one ≡ f.0 → two ≡ l.0 → count ≡ length rows → (b : List Entry) × IsNextBlock after is_last bytes b × IsReadBlock one two count b
+pub block_read : (rows : List Entry) (bytes : List ℕ) (before : ℕ) (f l : Entry)
+    (after : Option (List ℕ)) (is_last : Bool) (one two : List ℕ) (count : ℕ) → AreRows rows
+    → bytes ≡ rows_bytes rows → StandBefore before rows
+    → before < 4096 → (is_last ≡ false → 4096 ≤ length bytes) → length bytes < 2 ^ 64
+        → Some f ≡ slice_get rows 0 → Some l ≡ slice_get rows (length rows - 1) → IsAbove after f.0
+    → one ≡ f.0 → two ≡ l.0 → count ≡ length rows → (b : List Entry)
+        × IsNextBlock after is_last bytes b × IsReadBlock one two count b
 block_read [] bytes before f l after is_last one two count are is place short full small fst lst above p q n = absurd (let g : ⊥ = cc in g)
-block_read (x ∷ rows) bytes before f l after is_last one two count are is place short full small fst lst above p q n =
+block_read (x ∷ rows)
+    bytes before f l after is_last one two count are is place short full small fst lst above p q n =
     let s = split_last x rows in
     let key : f.0 ≡ x.0 = first_at (x ∷ rows) f fst in (
       x ∷ rows,
       record {
-        block = record { rows = s.0; last = s.1; is = s.2; short = omega (arith, short, place s.0 s.1 s.2) };
+        block = record { rows = s.0; last = s.1; is = s.2; short =
+            omega (arith, short, place s.0 s.1 s.2) };
         full = λ not_last. omega (arith, full not_last, ap length is);
         held = (are.0, omega (arith, small, ap length is));
         rising = are.1;
         above = subst (IsAbove after) key above;
         is = is;
       },
-      record { first_is = p ∙ key; last_is = ap (λ (k : List ℕ). Some k) q ∙ last_at (x ∷ rows) l lst; rows_is = n },
+      record { first_is = p ∙ key; last_is = ap (λ (k : List ℕ). Some k) q
+          ∙ last_at (x ∷ rows) l lst; rows_is = n },
     )
 
 -- rows that were read are the only ones
-pub same_rows : (rows b : List Entry) (bytes : List ℕ) → AreRows rows → bytes ≡ rows_bytes rows → IsHeldBlock b → bytes ≡ rows_bytes b → rows ≡ b
+pub same_rows : (rows b : List Entry) (bytes : List ℕ) → AreRows rows → bytes ≡ rows_bytes rows
+    → IsHeldBlock b → bytes ≡ rows_bytes b → rows ≡ b
 same_rows rows b bytes are is held there = one_block rows b are.0 held.0 (sym is ∙ there)
 
 pub no_first : (rows : List Entry) → None ≡ slice_get rows 0 → rows ≡ []
@@ -101,7 +124,8 @@ no_first [] e = refl
 no_first (x ∷ rows) e = absurd (let f : ⊥ = cc in f)
 
 pub no_block : (b : List Entry) → IsBlock b → b ≡ [] → ⊥
-no_block b is none = omega (arith, ap length (sym none ∙ is.is), length-append is.rows (is.last ∷ []))
+no_block b is none =
+    omega (arith, ap length (sym none ∙ is.is), length-append is.rows (is.last ∷ []))
 
 -- ---- blocks behind blocks
 
@@ -109,7 +133,8 @@ pub rows_of-append : (xs ys : List (List Entry)) → rows_of (xs ++ ys) ≡ rows
 rows_of-append xs ys = flat_map-append (λ (b : List Entry). b) xs ys
 
 -- The blocks so far, of bytes of which some are left.
-pub record BlocksSoFar (bytes rest : List ℕ) (at : ℕ) (after : Option (List ℕ)) (marks : List Mark) (rows : ℕ) : Type 0 where
+pub record BlocksSoFar (bytes rest : List ℕ) (at : ℕ) (after : Option (List ℕ)) (marks : List Mark)
+    (rows : ℕ) : Type 0 where
   pub blocks : List (List Entry)
   pub is : bytes ≡ flat_map block_bytes blocks ++ rest
   pub each : AllByRecursion IsBlock blocks
@@ -125,19 +150,23 @@ pub block_key : (b : List Entry) → IsBlock b → (e : Entry) × (es : List Ent
 block_key [] is = absurd (no_block [] is refl)
 block_key (e ∷ es) is = (e, es, refl)
 
-pub cut_push : (blocks : List (List Entry)) (b : List Entry) → AllByRecursion IsBlock blocks → AllByRecursion IsFull blocks → IsBlock b → AreBlocks (blocks ++ b ∷ [])
+pub cut_push : (blocks : List (List Entry)) (b : List Entry) → AllByRecursion IsBlock blocks
+    → AllByRecursion IsFull blocks → IsBlock b → AreBlocks (blocks ++ b ∷ [])
 cut_push [] b each full is = is
 cut_push (x ∷ []) b each full is = (each.0, full.0, is)
-cut_push (x ∷ y ∷ blocks) b each full is = (each.0, full.0, cut_push (y ∷ blocks) b each.1 full.1 is)
+cut_push (x ∷ y ∷ blocks) b each full is =
+    (each.0, full.0, cut_push (y ∷ blocks) b each.1 full.1 is)
 
 -- a block of a file's blocks
-pub block_within : (blocks : List (List Entry)) (b : List Entry) (more : List (List Entry)) → AreBlocks (blocks ++ b ∷ more) → IsBlock b
+pub block_within : (blocks : List (List Entry)) (b : List Entry) (more : List (List Entry))
+    → AreBlocks (blocks ++ b ∷ more) → IsBlock b
 block_within [] b [] cut = cut
 block_within [] b (c ∷ more) cut = cut.0
 block_within (x ∷ []) b more cut = block_within [] b more cut.2
 block_within (x ∷ y ∷ blocks) b more cut = block_within (y ∷ blocks) b more cut.2
 
-pub full_within : (blocks : List (List Entry)) (b c : List Entry) (more : List (List Entry)) → AreBlocks (blocks ++ b ∷ c ∷ more) → IsFull b
+pub full_within : (blocks : List (List Entry)) (b c : List Entry) (more : List (List Entry))
+    → AreBlocks (blocks ++ b ∷ c ∷ more) → IsFull b
 full_within [] b c more cut = cut.1
 full_within (x ∷ []) b c more cut = full_within [] b c more cut.2
 full_within (x ∷ y ∷ blocks) b c more cut = full_within (y ∷ blocks) b c more cut.2
@@ -147,7 +176,9 @@ full_from b (inl p) is = p.1
 full_from b (inr other) is = absurd (let f : true ≡ false = sym other ∙ is in cc f)
 
 -- a block with its length
-pub next_whole : (after : Option (List ℕ)) (is_last : Bool) (bytes block behind : List ℕ) (b : List Entry) → is_last ≡ (length behind == 0) → bytes ≡ field block ++ behind → IsNextBlock after is_last block b → IsNext after bytes behind b
+pub next_whole : (after : Option (List ℕ)) (is_last : Bool) (bytes block behind : List ℕ)
+    (b : List Entry) → is_last ≡ (length behind == 0) → bytes ≡ field block ++ behind
+    → IsNextBlock after is_last block b → IsNext after bytes behind b
 unfolding block_bytes
 next_whole after is_last bytes block behind b last is n = record {
   block = n.block;
@@ -158,34 +189,44 @@ next_whole after is_last bytes block behind b last is n = record {
   is = is ∙ ap (λ (l : List ℕ). field l ++ behind) n.is;
 }
 
-pub no_next_block : (after : Option (List ℕ)) (is_last : Bool) (bytes block behind : List ℕ) → is_last ≡ (length behind == 0) → length block < 2 ^ 64 → bytes ≡ field block ++ behind
-    → ((b : List Entry) → IsNextBlock after is_last block b → ⊥) → (b : List Entry) (x : List ℕ) → IsNext after bytes x b → ⊥
+pub no_next_block : (after : Option (List ℕ)) (is_last : Bool) (bytes block behind : List ℕ)
+    → is_last ≡ (length behind == 0) → length block < 2 ^ 64 → bytes ≡ field block ++ behind
+    → ((b : List Entry) → IsNextBlock after is_last block b → ⊥) → (b : List Entry) (x : List ℕ)
+        → IsNext after bytes x b → ⊥
 unfolding block_bytes
 no_next_block after is_last bytes block behind last small is none b x n =
     let same = field-apart block (rows_bytes b) behind x small n.held.1 (sym is ∙ n.is) in
     none b (record {
       block = n.block;
-      full = λ not_last. n.full (omega (arith, some_left (length behind) (sym not_last ∙ last), ap length same.1));
+      full = λ not_last. n.full
+          (omega (arith, some_left (length behind) (sym not_last ∙ last), ap length same.1));
       held = n.held;
       rising = n.rising;
       above = n.above;
       is = same.0;
     })
 
-pub no_next_field : (after : Option (List ℕ)) (bytes : List ℕ) → ((s x : List ℕ) → length s < 2 ^ 64 → bytes ≡ field s ++ x → ⊥) → (b : List Entry) (x : List ℕ) → IsNext after bytes x b → ⊥
+pub no_next_field : (after : Option (List ℕ)) (bytes : List ℕ)
+    → ((s x : List ℕ) → length s < 2 ^ 64 → bytes ≡ field s ++ x → ⊥)
+    → (b : List Entry) (x : List ℕ) → IsNext after bytes x b → ⊥
 unfolding block_bytes
 no_next_field after bytes none b x n = none (rows_bytes b) x n.held.1 n.is
 
 -- how many rows blocks have at most
 pub rows_few : (rows : List Entry) → length rows ≤ length (rows_bytes rows)
 rows_few [] = omega arith
-rows_few (e ∷ rows) = omega (arith, rows_few rows, length-append (entry_bytes e) (rows_bytes rows), length-entry e)
+rows_few (e ∷ rows) =
+    omega (arith, rows_few rows, length-append (entry_bytes e) (rows_bytes rows), length-entry e)
 
-pub blocks_few : (blocks : List (List Entry)) → length (rows_of blocks) ≤ length (flat_map block_bytes blocks)
+pub blocks_few : (blocks : List (List Entry))
+    → length (rows_of blocks) ≤ length (flat_map block_bytes blocks)
 blocks_few [] = omega arith
-blocks_few (b ∷ blocks) = omega (arith, blocks_few blocks, rows_few b, length-block b, length-append b (rows_of blocks), length-append (block_bytes b) (flat_map block_bytes blocks))
+blocks_few (b ∷ blocks) =
+    omega (arith, blocks_few blocks, rows_few b, length-block b, length-append b (rows_of blocks),
+    length-append (block_bytes b) (flat_map block_bytes blocks))
 
-pub no_blocks_yet : (bytes : List ℕ) (marks : List Mark) → marks ≡ [] → BlocksSoFar bytes bytes 8 None marks 0
+pub no_blocks_yet : (bytes : List ℕ) (marks : List Mark) → marks ≡ []
+    → BlocksSoFar bytes bytes 8 None marks 0
 unfolding Rattle.alt_rowfile.specs.Format.header
 no_blocks_yet bytes marks none = record {
   blocks = [];
@@ -201,81 +242,131 @@ no_blocks_yet bytes marks none = record {
 }
 
 -- one block more
-pub one_block_more : (bytes rest behind : List ℕ) (at next : ℕ) (after : Option (List ℕ)) (marks new : List Mark) (rows count : ℕ) (first last : List ℕ) (b : List Entry) → BlocksSoFar bytes rest at after marks rows
-    → 0 < length rest → IsNext after rest behind b → IsReadBlock first last count b → next ≡ at + (length rest - length behind) → new ≡ marks ++ (at, first) ∷ [] → BlocksSoFar bytes behind next (Some last) new (rows + count)
+pub one_block_more : (bytes rest behind : List ℕ) (at next : ℕ) (after : Option (List ℕ))
+    (marks new : List Mark) (rows count : ℕ) (first last : List ℕ) (b : List Entry)
+    → BlocksSoFar bytes rest at after marks rows
+    → 0 < length rest → IsNext after rest behind b → IsReadBlock first last count b
+        → next ≡ at + (length rest - length behind) → new ≡ marks ++ (at, first) ∷ []
+        → BlocksSoFar bytes behind next (Some last) new (rows + count)
 one_block_more bytes rest behind at next after marks new rows count first last b so_far some n r place added =
     let key = block_key b n.block in
-    let joined : rows_of (so_far.blocks ++ b ∷ []) ≡ rows_of so_far.blocks ++ b = rows_of-push so_far.blocks b in
+    let joined : rows_of (so_far.blocks ++ b ∷ []) ≡ rows_of so_far.blocks ++ b =
+        rows_of-push so_far.blocks b in
     let full = so_far.full some in
-    let size : length rest ≡ length (block_bytes b) + length behind = ap length n.is ∙ length-append (block_bytes b) behind in
+    let size : length rest ≡ length (block_bytes b) + length behind = ap length n.is
+        ∙ length-append (block_bytes b) behind in
     record {
       blocks = so_far.blocks ++ b ∷ [];
-      is = so_far.is ∙ ap (λ (l : List ℕ). flat_map block_bytes so_far.blocks ++ l) n.is ∙ flat_map_snoc block_bytes IsHeldBlock so_far.blocks b behind;
+      is = so_far.is ∙ ap (λ (l : List ℕ). flat_map block_bytes so_far.blocks ++ l) n.is
+          ∙ flat_map_snoc block_bytes IsHeldBlock so_far.blocks b behind;
       each = all_append IsBlock so_far.blocks (b ∷ []) so_far.each (n.block, tt);
       full = λ more. all_append IsFull so_far.blocks (b ∷ []) full (n.full more, tt);
       cut = cut_push so_far.blocks b so_far.each full n.block;
       held = all_append IsHeldBlock so_far.blocks (b ∷ []) so_far.held (n.held, tt);
-      rising = subst (λ (l : List Entry). T (is_sorted key_cmp l)) (sym joined) (rises so_far.rising n.rising (subst (λ (k : Option (List ℕ)). IsAbove k (first_key b)) so_far.after_is n.above) key.0 key.1 key.2);
-      at_is = omega (arith, place, size, so_far.at_is, ap length (front-push so_far.blocks b), length-append (front so_far.blocks) (block_bytes b));
+      rising = subst (λ (l : List Entry). T (is_sorted key_cmp l)) (sym joined)
+          (rises so_far.rising n.rising
+          (subst (λ (k : Option (List ℕ)). IsAbove k (first_key b)) so_far.after_is n.above)
+          key.0 key.1 key.2);
+      at_is = omega
+          (arith, place, size, so_far.at_is, ap length (front-push so_far.blocks b),
+          length-append (front so_far.blocks) (block_bytes b));
       after_is = r.last_is ∙ lasts key.0 key.1 key.2 ∙ ap last_key (sym joined);
       found = record {
-        marks_are = added ∙ (λ i. so_far.found.marks_are i ++ (so_far.at_is i, r.first_is i) ∷ []) ∙ ap (λ (k : ℕ). marks_from 8 so_far.blocks ++ (k, first_key b) ∷ []) (length-front so_far.blocks) ∙ sym (marks-push 8 so_far.blocks b);
-        rows_is = omega (arith, so_far.found.rows_is, r.rows_is, ap length joined, length-append (rows_of so_far.blocks) b);
+        marks_are = added ∙ (λ i. so_far.found.marks_are i ++ (so_far.at_is i, r.first_is i) ∷ [])
+            ∙ ap (λ (k : ℕ). marks_from 8 so_far.blocks ++ (k, first_key b) ∷ [])
+            (length-front so_far.blocks) ∙ sym (marks-push 8 so_far.blocks b);
+        rows_is = omega
+            (arith, so_far.found.rows_is, r.rows_is, ap length joined,
+            length-append (rows_of so_far.blocks) b);
       };
     }
   where
-    rises : T (is_sorted key_cmp (rows_of so_far.blocks)) → T (is_sorted key_cmp b) → IsAbove (last_key (rows_of so_far.blocks)) (first_key b) → (e : Entry) (es : List Entry) → b ≡ e ∷ es → T (is_sorted key_cmp (rows_of so_far.blocks ++ b))
+    rises : T (is_sorted key_cmp (rows_of so_far.blocks)) → T (is_sorted key_cmp b)
+        → IsAbove (last_key (rows_of so_far.blocks)) (first_key b) → (e : Entry) (es : List Entry)
+        → b ≡ e ∷ es → T (is_sorted key_cmp (rows_of so_far.blocks ++ b))
     rises h k above e es same =
         subst (λ (l : List Entry). T (is_sorted key_cmp (rows_of so_far.blocks ++ l))) (sym same)
-        (sorted_join (rows_of so_far.blocks) e es h (subst (λ (l : List Entry). T (is_sorted key_cmp l)) same k) (subst (λ (l : List Entry). IsAbove (last_key (rows_of so_far.blocks)) (first_key l)) same above))
+        (sorted_join (rows_of so_far.blocks) e es h
+            (subst (λ (l : List Entry). T (is_sorted key_cmp l)) same k)
+            (subst (λ (l : List Entry). IsAbove (last_key (rows_of so_far.blocks)) (first_key l))
+            same above))
 
-    lasts : (e : Entry) (es : List Entry) → b ≡ e ∷ es → last_key b ≡ last_key (rows_of so_far.blocks ++ b)
-    lasts e es same = ap last_key same ∙ sym (last_key-append (rows_of so_far.blocks) e es) ∙ ap (λ (l : List Entry). last_key (rows_of so_far.blocks ++ l)) (sym same)
+    lasts : (e : Entry) (es : List Entry) → b ≡ e ∷ es
+        → last_key b ≡ last_key (rows_of so_far.blocks ++ b)
+    lasts e es same = ap last_key same ∙ sym (last_key-append (rows_of so_far.blocks) e es)
+        ∙ ap (λ (l : List Entry). last_key (rows_of so_far.blocks ++ l)) (sym same)
 
 -- no block that could be the next, no blocks
-pub no_more_blocks : (bytes rest : List ℕ) (at : ℕ) (after : Option (List ℕ)) (marks : List Mark) (rows : ℕ) → BlocksSoFar bytes rest at after marks rows → 0 < length rest
-    → ((b : List Entry) (behind : List ℕ) → IsNext after rest behind b → ⊥) → (blocks : List (List Entry)) → AreBlocksOf blocks bytes → ⊥
+pub no_more_blocks : (bytes rest : List ℕ) (at : ℕ) (after : Option (List ℕ)) (marks : List Mark)
+    (rows : ℕ) → BlocksSoFar bytes rest at after marks rows → 0 < length rest
+    → ((b : List Entry) (behind : List ℕ) → IsNext after rest behind b → ⊥)
+        → (blocks : List (List Entry)) → AreBlocksOf blocks bytes → ⊥
 no_more_blocks bytes rest at after marks rows so_far some none blocks are =
     let r = rest_of block_bytes IsHeldBlock block-apart block_some so_far.blocks blocks rest so_far.held are.held (sym so_far.is ∙ are.is) in
-    refute r.0 r.2 (subst AreBlocks r.1 are.cut) (subst (λ (l : List (List Entry)). T (is_sorted key_cmp (rows_of l))) r.1 are.rising) (subst (AllByRecursion IsHeldBlock) r.1 are.held)
+    refute r.0 r.2 (subst AreBlocks r.1 are.cut)
+        (subst (λ (l : List (List Entry)). T (is_sorted key_cmp (rows_of l))) r.1 are.rising)
+        (subst (AllByRecursion IsHeldBlock) r.1 are.held)
   where
-    is_full : (b : List Entry) (more : List (List Entry)) → AreBlocks (so_far.blocks ++ b ∷ more) → 0 < length (flat_map block_bytes more) → IsFull b
+    is_full : (b : List Entry) (more : List (List Entry)) → AreBlocks (so_far.blocks ++ b ∷ more)
+        → 0 < length (flat_map block_bytes more) → IsFull b
     is_full b [] cut some = absurd (omega (arith, some))
     is_full b (c ∷ more) cut some = full_within so_far.blocks b c more cut
 
-    refute : (more : List (List Entry)) → rest ≡ flat_map block_bytes more → AreBlocks (so_far.blocks ++ more) → T (is_sorted key_cmp (rows_of (so_far.blocks ++ more))) → AllByRecursion IsHeldBlock (so_far.blocks ++ more) → ⊥
+    refute : (more : List (List Entry)) → rest ≡ flat_map block_bytes more
+        → AreBlocks (so_far.blocks ++ more)
+        → T (is_sorted key_cmp (rows_of (so_far.blocks ++ more)))
+        → AllByRecursion IsHeldBlock (so_far.blocks ++ more) → ⊥
     refute [] same cut rising held = omega (arith, some, ap length same)
     refute (b ∷ more) same cut rising held =
         let block = block_within so_far.blocks b more cut in
         let key = block_key b block in
-        let whole : T (is_sorted key_cmp (rows_of so_far.blocks ++ (b ++ rows_of more))) = subst (λ (l : List Entry). T (is_sorted key_cmp l)) (rows_of-append so_far.blocks (b ∷ more)) rising in
-        let opened : T (is_sorted key_cmp (rows_of so_far.blocks ++ (key.0 ∷ (key.1 ++ rows_of more)))) = subst (λ (l : List Entry). T (is_sorted key_cmp (rows_of so_far.blocks ++ (l ++ rows_of more)))) key.2 whole in
+        let whole : T (is_sorted key_cmp (rows_of so_far.blocks ++ (b ++ rows_of more))) =
+            subst (λ (l : List Entry). T (is_sorted key_cmp l))
+            (rows_of-append so_far.blocks (b ∷ more)) rising in
+        let opened : T
+            (is_sorted key_cmp (rows_of so_far.blocks ++ (key.0 ∷ (key.1 ++ rows_of more)))) =
+            subst (λ (l : List Entry). T
+            (is_sorted key_cmp (rows_of so_far.blocks ++ (l ++ rows_of more)))) key.2 whole in
         none b (flat_map block_bytes more) (record {
           block = block;
           full = λ some. is_full b more cut some;
           held = (all_back IsHeldBlock so_far.blocks (b ∷ more) held).0;
-          rising = sorted_front key_cmp key_total b (rows_of more) (sorted_back (rows_of so_far.blocks) (b ++ rows_of more) whole);
-          above = subst (λ (k : Option (List ℕ)). IsAbove k (first_key b)) (sym so_far.after_is) (subst (λ (l : List Entry). IsAbove (last_key (rows_of so_far.blocks)) (first_key l)) (sym key.2) (above_join (rows_of so_far.blocks) key.0 (key.1 ++ rows_of more) opened));
+          rising = sorted_front key_cmp key_total b (rows_of more)
+              (sorted_back (rows_of so_far.blocks) (b ++ rows_of more) whole);
+          above = subst (λ (k : Option (List ℕ)). IsAbove k (first_key b)) (sym so_far.after_is)
+              (subst (λ (l : List Entry). IsAbove (last_key (rows_of so_far.blocks)) (first_key l))
+              (sym key.2) (above_join (rows_of so_far.blocks) key.0
+              (key.1 ++ rows_of more) opened));
           is = same;
         })
 
 -- all were read
-pub blocks_read : (bytes rest : List ℕ) (at : ℕ) (after : Option (List ℕ)) (marks : List Mark) (rows : ℕ) → BlocksSoFar bytes rest at after marks rows → length rest ≡ 0
+pub blocks_read : (bytes rest : List ℕ) (at : ℕ) (after : Option (List ℕ)) (marks : List Mark)
+    (rows : ℕ) → BlocksSoFar bytes rest at after marks rows → length rest ≡ 0
     → (blocks : List (List Entry)) × AreBlocksOf blocks bytes × IsFoundAs marks rows blocks
 blocks_read bytes rest at after marks rows so_far none =
-    (so_far.blocks, record { cut = so_far.cut; rising = so_far.rising; held = so_far.held; is = so_far.is ∙ ap (λ (l : List ℕ). flat_map block_bytes so_far.blocks ++ l) (nil rest none) ∙ append-nil (flat_map block_bytes so_far.blocks) }, so_far.found)
+    (so_far.blocks,
+        record { cut = so_far.cut; rising = so_far.rising; held = so_far.held; is = so_far.is
+        ∙ ap (λ (l : List ℕ). flat_map block_bytes so_far.blocks ++ l) (nil rest none)
+        ∙ append-nil (flat_map block_bytes so_far.blocks) }, so_far.found)
   where
     nil : (l : List ℕ) → length l ≡ 0 → l ≡ []
     nil [] e = refl
     nil (x ∷ l) e = absurd (omega (arith, e))
 
 -- the counts stay within the bytes
-pub counts_fit : (bytes rest behind : List ℕ) (at : ℕ) (after : Option (List ℕ)) (marks : List Mark) (rows count : ℕ) (first last : List ℕ) (b : List Entry) → BlocksSoFar bytes rest at after marks rows
-    → IsNext after rest behind b → IsReadBlock first last count b → (rows + count ≤ length bytes) × (at + (length rest - length behind) ≤ 8 + length bytes) × (length behind < length rest)
+pub counts_fit : (bytes rest behind : List ℕ) (at : ℕ) (after : Option (List ℕ)) (marks : List Mark)
+    (rows count : ℕ) (first last : List ℕ) (b : List Entry)
+    → BlocksSoFar bytes rest at after marks rows
+    → IsNext after rest behind b → IsReadBlock first last count b → (rows + count ≤ length bytes)
+        × (at + (length rest - length behind) ≤ 8 + length bytes) × (length behind < length rest)
 counts_fit bytes rest behind at after marks rows count first last b so_far n r =
-    let size : length rest ≡ length (block_bytes b) + length behind = ap length n.is ∙ length-append (block_bytes b) behind in
-    let whole : length bytes ≡ length (flat_map block_bytes so_far.blocks) + length rest = ap length so_far.is ∙ length-append (flat_map block_bytes so_far.blocks) rest in (
-      omega (arith, size, whole, so_far.found.rows_is, r.rows_is, blocks_few so_far.blocks, rows_few b, length-block b),
+    let size : length rest ≡ length (block_bytes b) + length behind = ap length n.is
+        ∙ length-append (block_bytes b) behind in
+    let whole : length bytes ≡ length (flat_map block_bytes so_far.blocks) + length rest =
+        ap length so_far.is ∙ length-append (flat_map block_bytes so_far.blocks) rest in (
+      omega (arith, size, whole, so_far.found.rows_is, r.rows_is, blocks_few so_far.blocks,
+          rows_few b, length-block b),
       omega (arith, size, whole, so_far.at_is, length-front so_far.blocks),
       omega (arith, size, length-block b),
     )

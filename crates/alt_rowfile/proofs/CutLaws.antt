@@ -27,62 +27,85 @@ not_lower Greater e is = cc is
 
 module _ (key : List ℕ) where
   -- rows before one at or below the key are below it
-  pub below_front : (xs : List Entry) (y : Entry) (ys : List Entry) → T (is_sorted key_cmp (xs ++ y ∷ ys)) → is_gt (key_cmp y.0 key) ≡ false
+  pub below_front : (xs : List Entry) (y : Entry) (ys : List Entry)
+      → T (is_sorted key_cmp (xs ++ y ∷ ys)) → is_gt (key_cmp y.0 key) ≡ false
       → AllByRecursion (IsBelow key) xs
   below_front [] y ys h up = tt
   below_front (x ∷ xs) y ys h up =
       (at_or_above x.0 y.0 key (first_below x xs y ys h) up, below_front xs y ys (second _ _ h) up)
 
   -- rows behind one that isn't below it aren't
-  from_behind : (y : Entry) (es : List Entry) → IsFrom key y → T (below_all key_cmp y.0 es) → AllByRecursion (IsFrom key) es
+  from_behind : (y : Entry) (es : List Entry) → IsFrom key y → T (below_all key_cmp y.0 es)
+      → AllByRecursion (IsFrom key) es
   from_behind y [] n h = tt
   from_behind y (e ∷ es) n h =
-      ((λ lower. n (key_total.trans y.0 e.0 key (less _ (first _ _ h)) lower)), from_behind y es n (second _ _ h))
+      ((λ lower. n (key_total.trans y.0 e.0 key (less _ (first _ _ h)) lower)),
+          from_behind y es n (second _ _ h))
 
-  pub from_first : (y : Entry) (ys : List Entry) → T (is_sorted key_cmp (y ∷ ys)) → IsFrom key y → AllByRecursion (IsFrom key) (y ∷ ys)
+  pub from_first : (y : Entry) (ys : List Entry) → T (is_sorted key_cmp (y ∷ ys)) → IsFrom key y
+      → AllByRecursion (IsFrom key) (y ∷ ys)
   from_first y ys h n = (n, from_behind y ys n (first _ _ h))
 
-  module _ (rows : List Entry) (i : ℕ) (x : Entry) (within : i < length rows) (is : x ≡ get_or rows i x) where
+  module _ (rows : List Entry) (i : ℕ) (x : Entry) (within : i < length rows)
+      (is : x ≡ get_or rows i x) where
     -- one row more below the key
-    pub one_below : key_cmp x.0 key ≡ Less → AllByRecursion (IsBelow key) (take i rows) → AllByRecursion (IsBelow key) (take (i + 1) rows)
+    pub one_below : key_cmp x.0 key ≡ Less → AllByRecursion (IsBelow key) (take i rows)
+        → AllByRecursion (IsBelow key) (take (i + 1) rows)
     one_below low so_far = subst (AllByRecursion (IsBelow key)) (sym (take_more rows i x within))
-        (all_append (IsBelow key) (take i rows) (get_or rows i x ∷ []) so_far (subst (IsBelow key) is low, tt))
+        (all_append (IsBelow key) (take i rows) (get_or rows i x ∷ []) so_far
+            (subst (IsBelow key) is low, tt))
 
     -- the first one that isn't
-    pub cut_here : is_lt (key_cmp x.0 key) ≡ false → T (is_sorted key_cmp rows) → AllByRecursion (IsBelow key) (take i rows) → CutsAt key rows i
+    pub cut_here : is_lt (key_cmp x.0 key) ≡ false → T (is_sorted key_cmp rows)
+        → AllByRecursion (IsBelow key) (take i rows) → CutsAt key rows i
     cut_here up sorted so_far =
-        let split : drop i rows ≡ x ∷ drop (i + 1) rows = drop_more rows i x within ∙ ap (λ y. y ∷ drop (i + 1) rows) (sym is) in
-        let rest : T (is_sorted key_cmp (drop i rows)) = sorted_behind (take i rows) (drop i rows) (subst (λ (l : List Entry). T (is_sorted key_cmp l)) (sym (take-append-drop i rows)) sorted) in
+        let split : drop i rows ≡ x ∷ drop (i + 1) rows = drop_more rows i x within
+            ∙ ap (λ y. y ∷ drop (i + 1) rows) (sym is) in
+        let rest : T (is_sorted key_cmp (drop i rows)) =
+            sorted_behind (take i rows) (drop i rows)
+            (subst (λ (l : List Entry). T (is_sorted key_cmp l))
+            (sym (take-append-drop i rows)) sorted) in
         record {
           within = omega (arith, within);
           below = so_far;
           from = subst (AllByRecursion (IsFrom key)) (sym split)
-              (from_first x (drop (i + 1) rows) (subst (λ (l : List Entry). T (is_sorted key_cmp l)) split rest) (not_lower (key_cmp x.0 key) up));
+              (from_first x (drop (i + 1) rows)
+                  (subst (λ (l : List Entry). T (is_sorted key_cmp l)) split rest)
+                  (not_lower (key_cmp x.0 key) up));
         }
 
   -- all are below it
-  pub cut_none : (rows : List Entry) (i n : ℕ) → n ≡ length rows → length rows ≤ i → AllByRecursion (IsBelow key) (take i rows) → CutsAt key rows n
+  pub cut_none : (rows : List Entry) (i n : ℕ) → n ≡ length rows → length rows ≤ i
+      → AllByRecursion (IsBelow key) (take i rows) → CutsAt key rows n
   cut_none rows i n is past so_far = record {
     within = omega (arith, is);
-    below = subst (AllByRecursion (IsBelow key)) (take_all i rows past ∙ sym (take_all n rows (omega (arith, is)))) so_far;
+    below = subst (AllByRecursion (IsBelow key)) (take_all i rows past
+        ∙ sym (take_all n rows (omega (arith, is)))) so_far;
     from = subst (AllByRecursion (IsFrom key)) (sym (drop_all n rows (omega (arith, is)))) tt;
   }
 
 -- rows turned, without those at their end, are the others turned
-pub turned_rest : (xs new : List Entry) (n m : ℕ) → n ≤ length xs → m ≡ length xs - n → new ≡ take m (reverse xs) → reverse new ≡ drop n xs
+pub turned_rest : (xs new : List Entry) (n m : ℕ) → n ≤ length xs → m ≡ length xs - n
+    → new ≡ take m (reverse xs) → reverse new ≡ drop n xs
 turned_rest xs new n m within count is =
     let split : reverse xs ≡ reverse (drop n xs) ++ reverse (take n xs) =
     ap reverse (sym (take-append-drop n xs)) ∙ reverse-append (take n xs) (drop n xs) in
-    let size : length (reverse (drop n xs)) ≡ m = omega (arith, length-reverse (drop n xs), length-drop n xs, count) in
-    ap reverse (is ∙ ap (take m) split ∙ take_at (reverse (drop n xs)) (reverse (take n xs)) m size) ∙ reverse-reverse (drop n xs)
-
+    let size : length (reverse (drop n xs)) ≡ m =
+        omega (arith, length-reverse (drop n xs), length-drop n xs, count) in
+    ap reverse (is ∙ ap (take m) split ∙ take_at (reverse (drop n xs)) (reverse (take n xs)) m size)
+        ∙ reverse-reverse (drop n xs)
 
 -- so the rows from the key on are held
-pub cut_from_up : (key : List ℕ) (forward : Bool) → forward ≡ true → (rows held : List Entry) (n m : ℕ) → CutsAt key rows n → m ≡ length rows - n → held ≡ take m (reverse rows) → IsCutFrom key forward rows held
-cut_from_up key true e rows held n m cuts count is = (n, cuts, turned_rest rows held n m cuts.within count is)
+pub cut_from_up : (key : List ℕ) (forward : Bool) → forward ≡ true
+    → (rows held : List Entry) (n m : ℕ) → CutsAt key rows n → m ≡ length rows - n
+    → held ≡ take m (reverse rows) → IsCutFrom key forward rows held
+cut_from_up key true e rows held n m cuts count is =
+    (n, cuts, turned_rest rows held n m cuts.within count is)
 cut_from_up key false e rows held n m cuts count is = absurd (false≢true e)
 
 -- or those below it
-pub cut_from_down : (key : List ℕ) (forward : Bool) → forward ≡ false → (rows held : List Entry) (n : ℕ) → CutsAt key rows n → held ≡ take n rows → IsCutFrom key forward rows held
+pub cut_from_down : (key : List ℕ) (forward : Bool) → forward ≡ false
+    → (rows held : List Entry) (n : ℕ) → CutsAt key rows n → held ≡ take n rows
+    → IsCutFrom key forward rows held
 cut_from_down key false e rows held n cuts is = (n, cuts, is)
 cut_from_down key true e rows held n cuts is = absurd (false≢true (sym e))

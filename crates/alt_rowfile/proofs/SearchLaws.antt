@@ -25,22 +25,29 @@ pub record Halves (marks : List Mark) (key : List ℕ) (low high : ℕ) : Type 0
   pub above : high < length marks → is_gt (key_cmp (key_at marks high) key) ≡ true
 
 pub halves_start : (marks : List Mark) (key : List ℕ) → Halves marks key 0 (length marks)
-halves_start marks key = record { order = omega arith; within = omega arith; below = λ k e. absurd (omega (arith, e)); above = λ less. absurd (omega (arith, less)) }
+halves_start marks key =
+    record { order = omega arith; within = omega arith; below =
+    λ k e. absurd (omega (arith, e)); above = λ less. absurd (omega (arith, less)) }
 
-pub halves_end : (marks : List Mark) (key : List ℕ) (low high : ℕ) → Halves marks key low high → high ≤ low → EndsAt marks key low
+pub halves_end : (marks : List Mark) (key : List ℕ) (low high : ℕ) → Halves marks key low high
+    → high ≤ low → EndsAt marks key low
 halves_end marks key low high h done =
     let same : high ≡ low = omega (arith, h.order, done) in
-    record { within = omega (arith, h.within, same); low = h.below; high = λ less. ap (λ (n : ℕ). is_gt (key_cmp (key_at marks n) key)) (sym same) ∙ h.above (omega (arith, less, same)) }
+    record { within = omega (arith, h.within, same); low = h.below; high =
+        λ less. ap (λ (n : ℕ). is_gt (key_cmp (key_at marks n) key)) (sym same)
+        ∙ h.above (omega (arith, less, same)) }
 
 -- ---- what a walk to a key passes
 
 -- a lower key in front doesn't count
-pub find_past : (x : Entry) (es : List Entry) (q : List ℕ) → key_cmp x.0 q ≡ Less → find key_cmp q (x ∷ es) ≡ find key_cmp q es
+pub find_past : (x : Entry) (es : List Entry) (q : List ℕ) → key_cmp x.0 q ≡ Less
+    → find key_cmp q (x ∷ es) ≡ find key_cmp q es
 find_past x es q lower =
     let greater : key_cmp q x.0 ≡ Greater = turned_greater key_cmp key_total x.0 q lower in
     ap (λ (r : Ordering). cond (is_eq r) (Some x.1) (find key_cmp q es)) greater
 
-pub at_or_above : (x y q : List ℕ) → key_cmp x y ≡ Less → is_gt (key_cmp y q) ≡ false → key_cmp x q ≡ Less
+pub at_or_above : (x y q : List ℕ) → key_cmp x y ≡ Less → is_gt (key_cmp y q) ≡ false
+    → key_cmp x q ≡ Less
 at_or_above x y q lower up = by_cases (key_cmp y q) refl up
   where
     by_cases : (r : Ordering) → key_cmp y q ≡ r → is_gt r ≡ false → key_cmp x q ≡ Less
@@ -48,24 +55,37 @@ at_or_above x y q lower up = by_cases (key_cmp y q) refl up
     by_cases Equal is up = ap (key_cmp x) (sym (key_exact y q is)) ∙ lower
     by_cases Greater is up = absurd (let f : true ≡ false = up in cc f)
 
-pub first_below : (x : Entry) (xs : List Entry) (y : Entry) (ys : List Entry) → T (is_sorted key_cmp (x ∷ (xs ++ y ∷ ys))) → key_cmp x.0 y.0 ≡ Less
+pub first_below : (x : Entry) (xs : List Entry) (y : Entry) (ys : List Entry)
+    → T (is_sorted key_cmp (x ∷ (xs ++ y ∷ ys))) → key_cmp x.0 y.0 ≡ Less
 first_below x [] y ys h = less _ (first _ _ (first _ _ h))
-first_below x (z ∷ xs) y ys h = key_total.trans x.0 z.0 y.0 (less _ (first _ _ (first _ _ h))) (first_below z xs y ys (second _ _ h))
+first_below x (z ∷ xs) y ys h =
+    key_total.trans x.0 z.0 y.0 (less _ (first _ _ (first _ _ h)))
+    (first_below z xs y ys (second _ _ h))
 
 -- rows before one at or below the key don't count
-pub find_front : (xs : List Entry) (y : Entry) (ys : List Entry) (q : List ℕ) → T (is_sorted key_cmp (xs ++ y ∷ ys)) → is_gt (key_cmp y.0 q) ≡ false → find key_cmp q (xs ++ y ∷ ys) ≡ find key_cmp q (y ∷ ys)
+pub find_front : (xs : List Entry) (y : Entry) (ys : List Entry) (q : List ℕ)
+    → T (is_sorted key_cmp (xs ++ y ∷ ys)) → is_gt (key_cmp y.0 q) ≡ false
+    → find key_cmp q (xs ++ y ∷ ys) ≡ find key_cmp q (y ∷ ys)
 find_front [] y ys q h up = refl
-find_front (x ∷ xs) y ys q h up = find_past x (xs ++ y ∷ ys) q (at_or_above x.0 y.0 q (first_below x xs y ys h) up) ∙ find_front xs y ys q (second _ _ h) up
+find_front (x ∷ xs) y ys q h up =
+    find_past x (xs ++ y ∷ ys) q (at_or_above x.0 y.0 q (first_below x xs y ys h) up)
+    ∙ find_front xs y ys q (second _ _ h) up
 
 -- nor do rows above it
-pub find_back : (xs ys : List Entry) (q : List ℕ) → find key_cmp q ys ≡ None → find key_cmp q (xs ++ ys) ≡ find key_cmp q xs
+pub find_back : (xs ys : List Entry) (q : List ℕ) → find key_cmp q ys ≡ None
+    → find key_cmp q (xs ++ ys) ≡ find key_cmp q xs
 find_back [] ys q none = none
-find_back (x ∷ xs) ys q none = ap (cond (eq_by_cmp key_cmp q x.0) (Some x.1)) (find_back xs ys q none)
+find_back (x ∷ xs) ys q none =
+    ap (cond (eq_by_cmp key_cmp q x.0) (Some x.1)) (find_back xs ys q none)
 
-pub find_above : (y : Entry) (ys : List Entry) (q : List ℕ) → T (is_sorted key_cmp (y ∷ ys)) → is_gt (key_cmp y.0 q) ≡ true → find key_cmp q (y ∷ ys) ≡ None
+pub find_above : (y : Entry) (ys : List Entry) (q : List ℕ) → T (is_sorted key_cmp (y ∷ ys))
+    → is_gt (key_cmp y.0 q) ≡ true → find key_cmp q (y ∷ ys) ≡ None
 find_above y ys q h up =
-    let lower : key_cmp q y.0 ≡ Less = turned_less key_cmp key_total y.0 q (greater (key_cmp y.0 q) up) in
-    find_below key_cmp key_total q (y ∷ ys) (both (Rattle.std.specs.Ordering.is_lt (key_cmp q y.0)) (below_all key_cmp q ys) (is_less (key_cmp q y.0) lower) (below_less key_cmp key_total q y.0 ys lower (first _ _ h)))
+    let lower : key_cmp q y.0 ≡ Less =
+        turned_less key_cmp key_total y.0 q (greater (key_cmp y.0 q) up) in
+    find_below key_cmp key_total q (y ∷ ys)
+        (both (Rattle.std.specs.Ordering.is_lt (key_cmp q y.0)) (below_all key_cmp q ys)
+        (is_less (key_cmp q y.0) lower) (below_less key_cmp key_total q y.0 ys lower (first _ _ h)))
   where
     greater : (r : Ordering) → is_gt r ≡ true → r ≡ Greater
     greater Less e = absurd (let f : false ≡ true = e in cc f)
@@ -74,48 +94,79 @@ find_above y ys q h up =
 
 -- ---- loops
 
-pub find_more : (rows : List Entry) (i : ℕ) (x : Entry) (key : List ℕ) (b : Bool) → i < length rows → x ≡ get_or rows i x → b ≡ is_eq (key_cmp key x.0) → find key_cmp key (drop i rows) ≡ cond b (Some x.1) (find key_cmp key (drop (i + 1) rows))
+pub find_more : (rows : List Entry) (i : ℕ) (x : Entry) (key : List ℕ) (b : Bool) → i < length rows
+    → x ≡ get_or rows i x → b ≡ is_eq (key_cmp key x.0)
+    → find key_cmp key (drop i rows) ≡ cond b (Some x.1) (find key_cmp key (drop (i + 1) rows))
 find_more rows i x key b less is test =
-    ap (find key_cmp key) (drop_more rows i x less) ∙ ap (λ (y : Entry). cond (is_eq (key_cmp key y.0)) (Some y.1) (find key_cmp key (drop (i + 1) rows))) (sym is)
+    ap (find key_cmp key) (drop_more rows i x less)
+        ∙ ap (λ (y : Entry). cond (is_eq (key_cmp key y.0)) (Some y.1)
+        (find key_cmp key (drop (i + 1) rows))) (sym is)
     ∙ ap (λ (t : Bool). cond t (Some x.1) (find key_cmp key (drop (i + 1) rows))) (sym test)
 
 -- ---- the block
 
 -- the first key of a block
-pub key_is : (blocks : List (List Entry)) (i : ℕ) (xs : List (List Entry)) (b : List Entry) (ys : List (List Entry)) → blocks ≡ xs ++ b ∷ ys → length xs ≡ i → key_at (marks_from 8 blocks) i ≡ first_key b
+pub key_is : (blocks : List (List Entry)) (i : ℕ) (xs : List (List Entry)) (b : List Entry)
+    (ys : List (List Entry)) → blocks ≡ xs ++ b ∷ ys → length xs ≡ i
+    → key_at (marks_from 8 blocks) i ≡ first_key b
 key_is blocks i xs b ys is size =
     let marks = marks_from 8 xs in
     let rest = marks_from (8 + length (flat_map block_bytes xs) + length (block_bytes b)) ys in
-    let whole : marks_from 8 blocks ≡ marks ++ (8 + length (flat_map block_bytes xs), first_key b) ∷ rest = ap (marks_from 8) is ∙ marks-append 8 xs b ys in
-    ap (λ (l : List Mark). key_at l i) whole ∙ ap (λ (m : Mark). m.1) (get_or_at marks (8 + length (flat_map block_bytes xs), first_key b) rest (0, []) i (length-marks 8 xs ∙ size))
+    let whole : marks_from 8 blocks ≡ marks ++ (8 + length (flat_map block_bytes xs), first_key b)
+        ∷ rest = ap (marks_from 8) is ∙ marks-append 8 xs b ys in
+    ap (λ (l : List Mark). key_at l i) whole
+        ∙ ap (λ (m : Mark). m.1)
+        (get_or_at marks (8 + length (flat_map block_bytes xs), first_key b) rest (0, []) i
+        (length-marks 8 xs ∙ size))
 
 pub open_block : (b : List Entry) → IsBlock b → (e : Entry) × (es : List Entry) × (b ≡ e ∷ es)
 open_block [] is = absurd (no_block [] is refl)
 open_block (e ∷ es) is = (e, es, refl)
 
-pub sorted_behind : (xs ys : List Entry) → T (is_sorted key_cmp (xs ++ ys)) → T (is_sorted key_cmp ys)
+pub sorted_behind : (xs ys : List Entry) → T (is_sorted key_cmp (xs ++ ys))
+    → T (is_sorted key_cmp ys)
 sorted_behind [] ys h = h
 sorted_behind (x ∷ xs) ys h = sorted_behind xs ys (second _ _ h)
 
 -- what stands behind the block is above the key
-pub none_behind : (ys : List (List Entry)) (q : List ℕ) → AreBlocks ys → T (is_sorted key_cmp (rows_of ys)) → ((y : List Entry) (more : List (List Entry)) → ys ≡ y ∷ more → is_gt (key_cmp (first_key y) q) ≡ true) → find key_cmp q (rows_of ys) ≡ None
+pub none_behind : (ys : List (List Entry)) (q : List ℕ) → AreBlocks ys
+    → T (is_sorted key_cmp (rows_of ys))
+    → ((y : List Entry) (more : List (List Entry)) → ys ≡ y ∷ more
+    → is_gt (key_cmp (first_key y) q) ≡ true) → find key_cmp q (rows_of ys) ≡ None
 none_behind [] q cut h up = refl
 none_behind (y ∷ ys) q cut h up =
     let k = open_block y (block_within [] y ys cut) in
-    let same : rows_of (y ∷ ys) ≡ k.0 ∷ (k.1 ++ rows_of ys) = ap (λ (l : List Entry). l ++ rows_of ys) k.2 in
-    ap (find key_cmp q) same ∙ find_above k.0 (k.1 ++ rows_of ys) q (subst (λ (l : List Entry). T (is_sorted key_cmp l)) same h) (subst (λ (l : List Entry). is_gt (key_cmp (first_key l) q) ≡ true) k.2 (up y ys refl))
+    let same : rows_of (y ∷ ys) ≡ k.0 ∷ (k.1 ++ rows_of ys) =
+        ap (λ (l : List Entry). l ++ rows_of ys) k.2 in
+    ap (find key_cmp q) same
+        ∙ find_above k.0 (k.1 ++ rows_of ys) q
+        (subst (λ (l : List Entry). T (is_sorted key_cmp l)) same h)
+        (subst (λ (l : List Entry). is_gt (key_cmp (first_key l) q) ≡ true) k.2 (up y ys refl))
 
 -- a key is in the block that begins at or below it, with the next one above it
-pub in_block : (xs : List (List Entry)) (b : List Entry) (ys : List (List Entry)) (q : List ℕ) → IsBlock b → AreBlocks ys → T (is_sorted key_cmp (rows_of (xs ++ b ∷ ys))) → is_gt (key_cmp (first_key b) q) ≡ false
-    → ((y : List Entry) (more : List (List Entry)) → ys ≡ y ∷ more → is_gt (key_cmp (first_key y) q) ≡ true) → find key_cmp q (rows_of (xs ++ b ∷ ys)) ≡ find key_cmp q b
+pub in_block : (xs : List (List Entry)) (b : List Entry) (ys : List (List Entry)) (q : List ℕ)
+    → IsBlock b → AreBlocks ys → T (is_sorted key_cmp (rows_of (xs ++ b ∷ ys)))
+    → is_gt (key_cmp (first_key b) q) ≡ false
+    → ((y : List Entry) (more : List (List Entry)) → ys ≡ y ∷ more
+        → is_gt (key_cmp (first_key y) q) ≡ true)
+        → find key_cmp q (rows_of (xs ++ b ∷ ys)) ≡ find key_cmp q b
 in_block xs b ys q block cut h low high =
     let k = open_block b block in
-    let whole : rows_of (xs ++ b ∷ ys) ≡ rows_of xs ++ (b ++ rows_of ys) = rows_of-append xs (b ∷ ys) in
-    let opened : rows_of xs ++ (b ++ rows_of ys) ≡ rows_of xs ++ k.0 ∷ (k.1 ++ rows_of ys) = ap (λ (l : List Entry). rows_of xs ++ (l ++ rows_of ys)) k.2 in
-    let sorted : T (is_sorted key_cmp (rows_of xs ++ (b ++ rows_of ys))) = subst (λ (l : List Entry). T (is_sorted key_cmp l)) whole h in
-    let front = find_front (rows_of xs) k.0 (k.1 ++ rows_of ys) q (subst (λ (l : List Entry). T (is_sorted key_cmp l)) opened sorted) (subst (λ (l : List Entry). is_gt (key_cmp (first_key l) q) ≡ false) k.2 low) in
-    let behind = none_behind ys q cut (sorted_behind b (rows_of ys) (sorted_behind (rows_of xs) (b ++ rows_of ys) sorted)) high in
-    ap (find key_cmp q) (whole ∙ opened) ∙ front ∙ ap (λ (l : List Entry). find key_cmp q (l ++ rows_of ys)) (sym k.2) ∙ find_back b (rows_of ys) q behind
+    let whole : rows_of (xs ++ b ∷ ys) ≡ rows_of xs ++ (b ++ rows_of ys) =
+        rows_of-append xs (b ∷ ys) in
+    let opened : rows_of xs ++ (b ++ rows_of ys) ≡ rows_of xs ++ k.0 ∷ (k.1 ++ rows_of ys) =
+        ap (λ (l : List Entry). rows_of xs ++ (l ++ rows_of ys)) k.2 in
+    let sorted : T (is_sorted key_cmp (rows_of xs ++ (b ++ rows_of ys))) =
+        subst (λ (l : List Entry). T (is_sorted key_cmp l)) whole h in
+    let front = find_front (rows_of xs) k.0 (k.1 ++ rows_of ys) q
+        (subst (λ (l : List Entry). T (is_sorted key_cmp l)) opened sorted)
+        (subst (λ (l : List Entry). is_gt (key_cmp (first_key l) q) ≡ false) k.2 low) in
+    let behind =
+        none_behind ys q cut
+        (sorted_behind b (rows_of ys) (sorted_behind (rows_of xs) (b ++ rows_of ys) sorted)) high in
+    ap (find key_cmp q) (whole ∙ opened) ∙ front
+        ∙ ap (λ (l : List Entry). find key_cmp q (l ++ rows_of ys)) (sym k.2)
+        ∙ find_back b (rows_of ys) q behind
 
 cut_behind : (xs ys : List (List Entry)) → AreBlocks (xs ++ ys) → AreBlocks ys
 cut_behind [] ys cut = cut
@@ -135,19 +186,33 @@ pub record AtBlock (blocks : List (List Entry)) (i : ℕ) (q : List ℕ) : Type 
   pub cut : AreBlocks behind
   pub rising : T (is_sorted key_cmp (rows_of (before ++ here ∷ behind)))
   pub low : is_gt (key_cmp (first_key here) q) ≡ false
-  pub high : (y : List Entry) (more : List (List Entry)) → behind ≡ y ∷ more → is_gt (key_cmp (first_key y) q) ≡ true
+  pub high : (y : List Entry) (more : List (List Entry)) → behind ≡ y ∷ more
+      → is_gt (key_cmp (first_key y) q) ≡ true
 
-pub at_block : (bytes : List ℕ) (marks : List Mark) (end n i : ℕ) (rows : List Entry) (is : FileAs bytes marks end rows) (q : List ℕ) → EndsAt marks q n → n ≡ i + 1 → AtBlock is.blocks i q
+pub at_block : (bytes : List ℕ) (marks : List Mark) (end n i : ℕ) (rows : List Entry)
+    (is : FileAs bytes marks end rows) (q : List ℕ) → EndsAt marks q n → n ≡ i + 1
+    → AtBlock is.blocks i q
 at_block bytes marks end n i rows is q ends place =
-    let size : length marks ≡ length is.blocks = ap length is.marks_are ∙ length-marks 8 is.blocks in
+    let size : length marks ≡ length is.blocks = ap length is.marks_are
+        ∙ length-marks 8 is.blocks in
     let s = split_at is.blocks i (omega (arith, ends.within, place, size)) in
     let low : is_gt (key_cmp (first_key s.here) q) ≡ false =
-    ap (λ (k : List ℕ). is_gt (key_cmp k q)) (sym (ap (λ (m : List Mark). key_at m i) is.marks_are ∙ key_is is.blocks i s.before s.here s.behind s.is s.size)) ∙ ends.low i place in
-    let high : (y : List Entry) (more : List (List Entry)) → s.behind ≡ y ∷ more → is_gt (key_cmp (first_key y) q) ≡ true = λ y more same.
-    let split : is.blocks ≡ (s.before ++ s.here ∷ []) ++ y ∷ more = s.is ∙ ap (λ (l : List (List Entry)). s.before ++ s.here ∷ l) same ∙ sym (append_assoc s.before (s.here ∷ []) (y ∷ more)) in
-    let count : length (s.before ++ s.here ∷ []) ≡ n = omega (arith, length-append s.before (s.here ∷ []), s.size, place) in
-    ap (λ (k : List ℕ). is_gt (key_cmp k q)) (sym (ap (λ (m : List Mark). key_at m n) is.marks_are ∙ key_is is.blocks n (s.before ++ s.here ∷ []) y more split count))
-    ∙ ends.high (omega (arith, size, ap length split, length-append (s.before ++ s.here ∷ []) (y ∷ more), count)) in
+    ap (λ (k : List ℕ). is_gt (key_cmp k q))
+        (sym (ap (λ (m : List Mark). key_at m i) is.marks_are
+        ∙ key_is is.blocks i s.before s.here s.behind s.is s.size)) ∙ ends.low i place in
+    let high : (y : List Entry) (more : List (List Entry)) → s.behind ≡ y ∷ more
+        → is_gt (key_cmp (first_key y) q) ≡ true = λ y more same.
+    let split : is.blocks ≡ (s.before ++ s.here ∷ []) ++ y ∷ more = s.is
+        ∙ ap (λ (l : List (List Entry)). s.before ++ s.here ∷ l) same
+        ∙ sym (append_assoc s.before (s.here ∷ []) (y ∷ more)) in
+    let count : length (s.before ++ s.here ∷ []) ≡ n =
+        omega (arith, length-append s.before (s.here ∷ []), s.size, place) in
+    ap (λ (k : List ℕ). is_gt (key_cmp k q))
+        (sym (ap (λ (m : List Mark). key_at m n) is.marks_are
+        ∙ key_is is.blocks n (s.before ++ s.here ∷ []) y more split count))
+    ∙ ends.high (omega
+        (arith, size, ap length split, length-append (s.before ++ s.here ∷ []) (y ∷ more), count))
+        in
     let cut : AreBlocks (s.before ++ s.here ∷ s.behind) = subst AreBlocks s.is is.file.cut in
     record {
       before = s.before;
@@ -158,26 +223,39 @@ at_block bytes marks end n i rows is q ends place =
       at = s.at;
       block = block_within s.before s.here s.behind cut;
       cut = cut_behind (s.here ∷ []) s.behind (cut_behind s.before (s.here ∷ s.behind) cut);
-      rising = subst (λ (l : List (List Entry)). T (is_sorted key_cmp (rows_of l))) s.is is.file.rising;
+      rising = subst
+          (λ (l : List (List Entry)). T (is_sorted key_cmp (rows_of l))) s.is is.file.rising;
       low = low;
       high = high;
     }
 
 -- so a look into that block is one into the whole
-pub found_in : (bytes : List ℕ) (marks : List Mark) (end n i : ℕ) (rows : List Entry) (is : FileAs bytes marks end rows) (q : List ℕ) → EndsAt marks q n → n ≡ i + 1 → find key_cmp q rows ≡ find key_cmp q (get_or is.blocks i [])
+pub found_in : (bytes : List ℕ) (marks : List Mark) (end n i : ℕ) (rows : List Entry)
+    (is : FileAs bytes marks end rows) (q : List ℕ) → EndsAt marks q n → n ≡ i + 1
+    → find key_cmp q rows ≡ find key_cmp q (get_or is.blocks i [])
 found_in bytes marks end n i rows is q ends place =
     let at = at_block bytes marks end n i rows is q ends place in
     ap (find key_cmp q) is.are ∙ ap (λ (l : List (List Entry)). find key_cmp q (rows_of l)) at.is
-    ∙ in_block at.before at.here at.behind q at.block at.cut at.rising at.low at.high ∙ ap (find key_cmp q) (sym at.at)
+    ∙ in_block at.before at.here at.behind q at.block at.cut at.rising at.low at.high
+        ∙ ap (find key_cmp q) (sym at.at)
 
 -- where no block begins at or below the key, all begin above it
-pub above_first : (bytes : List ℕ) (marks : List Mark) (end n : ℕ) (rows : List Entry) (is : FileAs bytes marks end rows) (q : List ℕ) → EndsAt marks q n → n ≡ 0
-    → (y : List Entry) (more : List (List Entry)) → is.blocks ≡ y ∷ more → is_gt (key_cmp (first_key y) q) ≡ true
+pub above_first : (bytes : List ℕ) (marks : List Mark) (end n : ℕ) (rows : List Entry)
+    (is : FileAs bytes marks end rows) (q : List ℕ) → EndsAt marks q n → n ≡ 0
+    → (y : List Entry) (more : List (List Entry)) → is.blocks ≡ y ∷ more
+        → is_gt (key_cmp (first_key y) q) ≡ true
 above_first bytes marks end n rows is q ends none y more same =
-    ap (λ (k : List ℕ). is_gt (key_cmp k q)) (sym (ap (λ (m : List Mark). key_at m n) is.marks_are ∙ key_is is.blocks n [] y more same (sym none)))
-    ∙ ends.high (omega (arith, none, ap length is.marks_are, length-marks 8 is.blocks, ap length same))
+    ap (λ (k : List ℕ). is_gt (key_cmp k q))
+        (sym (ap (λ (m : List Mark). key_at m n) is.marks_are
+        ∙ key_is is.blocks n [] y more same (sym none)))
+    ∙ ends.high (omega
+        (arith, none, ap length is.marks_are, length-marks 8 is.blocks, ap length same))
 
 -- and there is nothing at the key
-pub found_nowhere : (bytes : List ℕ) (marks : List Mark) (end n : ℕ) (rows : List Entry) (is : FileAs bytes marks end rows) (q : List ℕ) → EndsAt marks q n → n ≡ 0 → find key_cmp q rows ≡ None
+pub found_nowhere : (bytes : List ℕ) (marks : List Mark) (end n : ℕ) (rows : List Entry)
+    (is : FileAs bytes marks end rows) (q : List ℕ) → EndsAt marks q n → n ≡ 0
+    → find key_cmp q rows ≡ None
 found_nowhere bytes marks end n rows is q ends none =
-    ap (find key_cmp q) is.are ∙ none_behind is.blocks q is.file.cut is.file.rising (above_first bytes marks end n rows is q ends none)
+    ap (find key_cmp q) is.are
+        ∙ none_behind is.blocks q is.file.cut is.file.rising
+        (above_first bytes marks end n rows is q ends none)

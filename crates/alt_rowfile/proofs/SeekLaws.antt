@@ -1,27 +1,25 @@
 -- A key cuts a sorted list in two, and so does the block at which it is.
-use Rattle.std.proofs.Common.{◌≡◌, ◌≢◌, refl, sym, ap, subst, ◌∙◌, ℕ, ◌+◌, ◌-◌, ◌<◌, ◌≤◌, List, [], ◌∷◌, ◌++◌, length, take, drop, get_or, reverse, Some, None, T, true, false, Bool, arith, append_assoc, length-append}
-use Rattle.std.specs.Prelude.{Option, cond, not, ◌&&◌}
+use Rattle.std.proofs.Common.{◌≡◌, ◌≢◌, refl, sym, ap, subst, ◌∙◌, ℕ, ◌+◌, List, [], ◌∷◌, ◌++◌, length, take, drop, get_or, reverse, Some, None, T, true, false, Bool, arith, append_assoc, length-append}
+use Rattle.std.specs.Prelude.{cond, not, ◌&&◌}
 use Rattle.std.specs.List.{AllByRecursion, filter}
 use Rattle.std.specs.declared.cmp.Ordering.{Ordering}
 use Rattle.std.specs.declared.cmp.Ordering.TheVariants.{Less, Equal, Greater}
 use Rattle.std.specs.declared.ops.Bound.TheVariants.{Included, Excluded, Unbounded}
 use Rattle.std.specs.Ordering.{is_gt, is_le, ordering_reverse}
-use Rattle.std.specs.BTreeMap.Range.{entries_between, range_contains}
-use Rattle.std.specs.FinMap.{entries}
+use Rattle.std.specs.BTreeMap.Range.{range_contains}
 use Rattle.std.specs.FinMap.Entries.{is_sorted}
-use Rattle.std.proofs.lemmas.List.{take-append-drop, take_at, drop_at, drop_more, reverse-append, reverse-reverse, append-nil, length-reverse, length-drop, take_all}
+use Rattle.std.proofs.lemmas.List.{take-append-drop, take_at, drop_at, reverse-append, append-nil, take_all}
 use Rattle.std.proofs.lemmas.List.Elements.{filter-append}
 use Rattle.std.proofs.lemmas.Bool.{false≢true}
 use Rattle.alt_fields.proofs.Apart.{all_append}
 use Rattle.alt_disk.specs.Disk.{DiskState}
 use Rattle.alt_cells.specs.Keys.{key_cmp}
 use Rattle.alt_cells.proofs.CellLaws.{key_total}
-use Rattle.alt_cells.proofs.Entries.{first, second, less}
-use Rattle.alt_rowfile.specs.Format.{Entry, Mark, rows_of, first_key, IsBlock, AreBlocks}
-use Rattle.alt_rowfile.specs.InHand.{FileAs, ReadsAs}
+use Rattle.alt_rowfile.specs.Format.{Entry, rows_of, first_key, AreBlocks}
+use Rattle.alt_rowfile.specs.InHand.{ReadsAs}
 use Rattle.alt_rowfile.specs.Cut.{IsBelow, IsFrom, CutsAt, IsCutFrom}
 use Rattle.alt_rowfile.specs.Searching.{EndsAt}
-use Rattle.alt_rowfile.specs.Walking.{rows_ahead, list_from, LeftAs}
+use Rattle.alt_rowfile.specs.Walking.{list_from, LeftAs}
 use Rattle.alt_rowfile.specs.declared.rowfile.RowFile.{RowFile}
 use Rattle.alt_rowfile.proofs.BlockLaws.{rows_of-append}
 use Rattle.alt_rowfile.proofs.SearchLaws.{above_first, open_block, sorted_behind, AtBlock, at_block}
@@ -44,17 +42,20 @@ module _ {A : Type 0} (p : A → Bool) where
       ap (λ b. cond b (x ∷ filter p xs) (filter p xs)) h.0 ∙ filter_none xs h.1
 
   -- so a list in two such parts is cut
-  pub filter_back : (xs ys : List A) → AllByRecursion (λ x. p x ≡ false) xs → AllByRecursion (λ x. p x ≡ true) ys
+  pub filter_back : (xs ys : List A) → AllByRecursion (λ x. p x ≡ false) xs
+      → AllByRecursion (λ x. p x ≡ true) ys
       → filter p (xs ++ ys) ≡ ys
   filter_back xs ys h k = filter-append p xs ys ∙ (λ i. filter_none xs h i ++ filter_all ys k i)
 
-  pub filter_front : (xs ys : List A) → AllByRecursion (λ x. p x ≡ true) xs → AllByRecursion (λ x. p x ≡ false) ys
+  pub filter_front : (xs ys : List A) → AllByRecursion (λ x. p x ≡ true) xs
+      → AllByRecursion (λ x. p x ≡ false) ys
       → filter p (xs ++ ys) ≡ xs
   filter_front xs ys h k =
       filter-append p xs ys ∙ (λ i. filter_all xs h i ++ filter_none ys k i) ∙ append-nil xs
 
 -- what holds of each, where more is known of each
-pub all_leads : {A : Type 0} (P Q : A → Type 0) → ((x : A) → P x → Q x) → (xs : List A) → AllByRecursion P xs → AllByRecursion Q xs
+pub all_leads : {A : Type 0} (P Q : A → Type 0) → ((x : A) → P x → Q x) → (xs : List A)
+    → AllByRecursion P xs → AllByRecursion Q xs
 all_leads P Q leads [] h = tt
 all_leads P Q leads (x ∷ xs) h = (leads x h.0, all_leads P Q leads xs h.1)
 
@@ -78,33 +79,43 @@ module _ (key : List ℕ) where
   below_le e h = ap is_le (key_total.antisymm key e.0) ∙ not_le_turned (key_cmp e.0 key) h
 
   -- forward from a key are the rows that aren't below it
-  pub cut_forward : (front back : List Entry) → AllByRecursion (IsBelow key) front → AllByRecursion (IsFrom key) back
+  pub cut_forward : (front back : List Entry) → AllByRecursion (IsBelow key) front
+      → AllByRecursion (IsFrom key) back
       → list_from (front ++ back) (Some key) true ≡ back
   cut_forward front back h k =
       let p = λ (e : Entry). range_contains key_cmp (Included key) Unbounded e.0 in
       filter_back p front back
-      (all_leads (IsBelow key) (λ e. p e ≡ false) (λ e b. ap (λ t. t && not false) (below_le e b)) front h)
-      (all_leads (IsFrom key) (λ e. p e ≡ true) (λ e b. ap (λ t. t && not false) (from_le e b)) back k)
+      (all_leads (IsBelow key) (λ e. p e ≡ false)
+          (λ e b. ap (λ t. t && not false) (below_le e b)) front h)
+      (all_leads (IsFrom key) (λ e. p e ≡ true)
+          (λ e b. ap (λ t. t && not false) (from_le e b)) back k)
 
   -- and backward the rows below it
-  pub cut_backward : (front back : List Entry) → AllByRecursion (IsBelow key) front → AllByRecursion (IsFrom key) back
+  pub cut_backward : (front back : List Entry) → AllByRecursion (IsBelow key) front
+      → AllByRecursion (IsFrom key) back
       → list_from (front ++ back) (Some key) false ≡ reverse front
   cut_backward front back h k =
       let p = λ (e : Entry). range_contains key_cmp Unbounded (Excluded key) e.0 in
       ap reverse (filter_front p front back
-      (all_leads (IsBelow key) (λ e. p e ≡ true) (λ e b. ap (λ t. true && not t) (below_le e b)) front h)
-      (all_leads (IsFrom key) (λ e. p e ≡ false) (λ e b. ap (λ t. true && not t) (from_le e b)) back k))
+      (all_leads (IsBelow key) (λ e. p e ≡ true)
+          (λ e b. ap (λ t. true && not t) (below_le e b)) front h)
+      (all_leads (IsFrom key) (λ e. p e ≡ false)
+          (λ e b. ap (λ t. true && not t) (from_le e b)) back k))
 
-all_true : (es : List Entry) → AllByRecursion (λ e. range_contains key_cmp Unbounded Unbounded e.0 ≡ true) es
+all_true : (es : List Entry)
+    → AllByRecursion (λ e. range_contains key_cmp Unbounded Unbounded e.0 ≡ true) es
 all_true [] = tt
 all_true (e ∷ es) = (refl, all_true es)
 
 -- with no key all rows are
 pub all_forward : (es : List Entry) → list_from es None true ≡ es
-all_forward es = filter_all (λ (e : Entry). range_contains key_cmp Unbounded Unbounded e.0) es (all_true es)
+all_forward es =
+    filter_all (λ (e : Entry). range_contains key_cmp Unbounded Unbounded e.0) es (all_true es)
 
 pub all_backward : (es : List Entry) → list_from es None false ≡ reverse es
-all_backward es = ap reverse (filter_all (λ (e : Entry). range_contains key_cmp Unbounded Unbounded e.0) es (all_true es))
+all_backward es =
+    ap reverse (filter_all (λ (e : Entry). range_contains key_cmp Unbounded Unbounded e.0) es
+    (all_true es))
 
 -- ---- rows below a key, and from it on
 
@@ -116,15 +127,20 @@ module _ (key : List ℕ) where
 
   -- blocks that begin above the key aren't below it
   pub from_blocks : (ys : List (List Entry)) → AreBlocks ys → T (is_sorted key_cmp (rows_of ys))
-      → ((y : List Entry) (more : List (List Entry)) → ys ≡ y ∷ more → is_gt (key_cmp (first_key y) key) ≡ true)
+      → ((y : List Entry) (more : List (List Entry)) → ys ≡ y ∷ more
+          → is_gt (key_cmp (first_key y) key) ≡ true)
       → AllByRecursion (IsFrom key) (rows_of ys)
   from_blocks [] cut h up = tt
   from_blocks (y ∷ ys) cut h up =
       let k = open_block y (Rattle.alt_rowfile.proofs.BlockLaws.block_within [] y ys cut) in
-      let same : rows_of (y ∷ ys) ≡ k.0 ∷ (k.1 ++ rows_of ys) = ap (λ (l : List Entry). l ++ rows_of ys) k.2 in
-      let above : is_gt (key_cmp k.0.0 key) ≡ true = subst (λ (l : List Entry). is_gt (key_cmp (first_key l) key) ≡ true) k.2 (up y ys refl) in
+      let same : rows_of (y ∷ ys) ≡ k.0 ∷ (k.1 ++ rows_of ys) =
+          ap (λ (l : List Entry). l ++ rows_of ys) k.2 in
+      let above : is_gt (key_cmp k.0.0 key) ≡ true =
+          subst (λ (l : List Entry). is_gt (key_cmp (first_key l) key) ≡ true) k.2 (up y ys refl) in
       subst (AllByRecursion (IsFrom key)) (sym same)
-      (from_first key k.0 (k.1 ++ rows_of ys) (subst (λ (l : List Entry). T (is_sorted key_cmp l)) same h) (not_lower (key_cmp k.0.0 key) above))
+      (from_first key k.0 (k.1 ++ rows_of ys)
+          (subst (λ (l : List Entry). T (is_sorted key_cmp l)) same h)
+          (not_lower (key_cmp k.0.0 key) above))
 
   -- the rows of a file in two parts, cut within a block
   pub record InTwo (rows front back : List Entry) : Type 0 where
@@ -132,24 +148,34 @@ module _ (key : List ℕ) where
     pub below : AllByRecursion (IsBelow key) front
     pub from : AllByRecursion (IsFrom key) back
 
-  pub cut_block : (blocks : List (List Entry)) (i n : ℕ) (at : AtBlock blocks i key) → CutsAt key at.here n
-      → InTwo (rows_of blocks) (rows_of at.before ++ take n at.here) (drop n at.here ++ rows_of at.behind)
+  pub cut_block : (blocks : List (List Entry)) (i n : ℕ) (at : AtBlock blocks i key)
+      → CutsAt key at.here n
+      → InTwo (rows_of blocks) (rows_of at.before ++ take n at.here)
+          (drop n at.here ++ rows_of at.behind)
   cut_block blocks i n at cuts =
       let b = at.here in
       let k = open_block b at.block in
-      let whole : rows_of (at.before ++ b ∷ at.behind) ≡ rows_of at.before ++ (b ++ rows_of at.behind) = rows_of-append at.before (b ∷ at.behind) in
-      let sorted : T (is_sorted key_cmp (rows_of at.before ++ (b ++ rows_of at.behind))) = subst (λ (l : List Entry). T (is_sorted key_cmp l)) whole at.rising in
-      let opened : rows_of at.before ++ (b ++ rows_of at.behind) ≡ rows_of at.before ++ k.0 ∷ (k.1 ++ rows_of at.behind) =
+      let whole : rows_of (at.before ++ b ∷ at.behind) ≡ rows_of at.before
+          ++ (b ++ rows_of at.behind) = rows_of-append at.before (b ∷ at.behind) in
+      let sorted : T (is_sorted key_cmp (rows_of at.before ++ (b ++ rows_of at.behind))) =
+          subst (λ (l : List Entry). T (is_sorted key_cmp l)) whole at.rising in
+      let opened : rows_of at.before ++ (b ++ rows_of at.behind) ≡ rows_of at.before ++ k.0
+          ∷ (k.1 ++ rows_of at.behind) =
       ap (λ (l : List Entry). rows_of at.before ++ (l ++ rows_of at.behind)) k.2 in
       record {
         is = ap rows_of at.is ∙ whole
-            ∙ ap (λ (l : List Entry). rows_of at.before ++ (l ++ rows_of at.behind)) (sym (take-append-drop n b))
+            ∙ ap (λ (l : List Entry). rows_of at.before ++ (l ++ rows_of at.behind))
+                (sym (take-append-drop n b))
             ∙ regroup (rows_of at.before) (take n b) (drop n b) (rows_of at.behind);
         below = all_append (IsBelow key) (rows_of at.before) (take n b)
-            (below_front key (rows_of at.before) k.0 (k.1 ++ rows_of at.behind) (subst (λ (l : List Entry). T (is_sorted key_cmp l)) opened sorted)
-            (subst (λ (l : List Entry). is_gt (key_cmp (first_key l) key) ≡ false) k.2 at.low)) cuts.below;
+            (below_front key (rows_of at.before) k.0 (k.1 ++ rows_of at.behind)
+                (subst (λ (l : List Entry). T (is_sorted key_cmp l)) opened sorted)
+            (subst (λ (l : List Entry). is_gt (key_cmp (first_key l) key) ≡ false) k.2 at.low))
+                cuts.below;
         from = all_append (IsFrom key) (drop n b) (rows_of at.behind) cuts.from
-            (from_blocks at.behind at.cut (sorted_behind b (rows_of at.behind) (sorted_behind (rows_of at.before) (b ++ rows_of at.behind) sorted)) at.high);
+            (from_blocks at.behind at.cut
+                (sorted_behind b (rows_of at.behind)
+                (sorted_behind (rows_of at.before) (b ++ rows_of at.behind) sorted)) at.high);
       }
     where
       regroup : (a x y z : List Entry) → a ++ ((x ++ y) ++ z) ≡ (a ++ x) ++ (y ++ z)
@@ -157,33 +183,41 @@ module _ (key : List ℕ) where
 
 -- ---- what is in hand then
 
-drop_behind : (xs : List (List Entry)) (b : List Entry) (ys : List (List Entry)) (n : ℕ) → length xs + 1 ≡ n → drop n (xs ++ b ∷ ys) ≡ ys
+drop_behind : (xs : List (List Entry)) (b : List Entry) (ys : List (List Entry)) (n : ℕ)
+    → length xs + 1 ≡ n → drop n (xs ++ b ∷ ys) ≡ ys
 drop_behind xs b ys n is =
-    ap (drop n) (sym (append_assoc xs (b ∷ []) ys)) ∙ drop_at (xs ++ b ∷ []) ys n (omega (arith, is, length-append xs (b ∷ [])))
+    ap (drop n) (sym (append_assoc xs (b ∷ []) ys))
+        ∙ drop_at (xs ++ b ∷ []) ys n (omega (arith, is, length-append xs (b ∷ [])))
 
-module _ (s t : DiskState) (file : RowFile) (key : List ℕ) (rows : List Entry) (r : ReadsAs s file.file file.marks.items file.end rows) (same : t.file file.file ≡ s.file file.file)
+module _ (s t : DiskState) (file : RowFile) (key : List ℕ) (rows : List Entry)
+    (r : ReadsAs s file.file file.marks.items file.end rows)
+    (same : t.file file.file ≡ s.file file.file)
     (n i : ℕ) (ends : EndsAt file.marks.items key n) (place : n ≡ i + 1) where
   at : AtBlock r.as_file.blocks i key
   at = at_block r.bytes file.marks.items file.end n i rows r.as_file key ends place
 
   module _ (cut : ℕ) (cuts : CutsAt key (get_or r.as_file.blocks i []) cut) where
-    two : InTwo key (rows_of r.as_file.blocks) (rows_of at.before ++ take cut at.here) (drop cut at.here ++ rows_of at.behind)
+    two : InTwo key (rows_of r.as_file.blocks) (rows_of at.before ++ take cut at.here)
+        (drop cut at.here ++ rows_of at.behind)
     two = cut_block key r.as_file.blocks i cut at (subst (λ b. CutsAt key b cut) at.at cuts)
 
     -- forward the rows of the block from the key on, and the blocks behind it
-    pub sought_forward : (held : List Entry) → reverse held ≡ drop cut (get_or r.as_file.blocks i [])
+    pub sought_forward : (held : List Entry)
+        → reverse held ≡ drop cut (get_or r.as_file.blocks i [])
         → LeftAs t file true n held (list_from rows (Some key) true)
     sought_forward held is = record {
       all = rows;
       reads = reads_at s t file.file file.marks.items file.end rows same r;
       within = ends.within;
       is = ap (λ l. list_from l (Some key) true) (r.as_file.are ∙ two.is)
-          ∙ cut_forward key (rows_of at.before ++ take cut at.here) (drop cut at.here ++ rows_of at.behind) two.below two.from
+          ∙ cut_forward key (rows_of at.before ++ take cut at.here)
+              (drop cut at.here ++ rows_of at.behind) two.below two.from
           ∙ (λ j. (ap (drop cut) (sym at.at) ∙ sym is) j ++ rows_of (sym behind j));
     }
       where
         behind : drop n r.as_file.blocks ≡ at.behind
-        behind = ap (drop n) at.is ∙ drop_behind at.before at.here at.behind n (omega (arith, at.size, place))
+        behind = ap (drop n) at.is
+            ∙ drop_behind at.before at.here at.behind n (omega (arith, at.size, place))
 
     -- backward those below it, and the blocks before it
     pub sought_backward : (held : List Entry) → held ≡ take cut (get_or r.as_file.blocks i [])
@@ -193,36 +227,51 @@ module _ (s t : DiskState) (file : RowFile) (key : List ℕ) (rows : List Entry)
       reads = reads_at s t file.file file.marks.items file.end rows same r;
       within = omega (arith, ends.within, place);
       is = ap (λ l. list_from l (Some key) false) (r.as_file.are ∙ two.is)
-          ∙ cut_backward key (rows_of at.before ++ take cut at.here) (drop cut at.here ++ rows_of at.behind) two.below two.from
+          ∙ cut_backward key (rows_of at.before ++ take cut at.here)
+              (drop cut at.here ++ rows_of at.behind) two.below two.from
           ∙ reverse-append (rows_of at.before) (take cut at.here)
-          ∙ (λ j. reverse ((ap (take cut) (sym at.at) ∙ sym is) j) ++ reverse (rows_of (sym before j)));
+          ∙ (λ j. reverse ((ap (take cut) (sym at.at) ∙ sym is) j)
+              ++ reverse (rows_of (sym before j)));
     }
       where
         before : take i r.as_file.blocks ≡ at.before
         before = ap (take i) at.is ∙ take_at at.before (at.here ∷ at.behind) i at.size
 
-module _ (s t : DiskState) (file : RowFile) (key : List ℕ) (rows : List Entry) (r : ReadsAs s file.file file.marks.items file.end rows) (same : t.file file.file ≡ s.file file.file)
-    (n i : ℕ) (ends : EndsAt file.marks.items key n) (place : n ≡ i + 1) (block held : List Entry) (loaded : block ≡ get_or r.as_file.blocks i []) where
-  pub sought_up : (forward : Bool) → forward ≡ true → IsCutFrom key forward block held → LeftAs t file forward n held (list_from rows (Some key) forward)
-  sought_up true e cut = sought_forward s t file key rows r same n i ends place cut.0 (subst (λ b. CutsAt key b cut.0) loaded cut.1) held (cut.2 ∙ ap (drop cut.0) loaded)
+module _ (s t : DiskState) (file : RowFile) (key : List ℕ) (rows : List Entry)
+    (r : ReadsAs s file.file file.marks.items file.end rows)
+    (same : t.file file.file ≡ s.file file.file)
+    (n i : ℕ) (ends : EndsAt file.marks.items key n) (place : n ≡ i + 1) (block held : List Entry)
+        (loaded : block ≡ get_or r.as_file.blocks i []) where
+  pub sought_up : (forward : Bool) → forward ≡ true → IsCutFrom key forward block held
+      → LeftAs t file forward n held (list_from rows (Some key) forward)
+  sought_up true e cut =
+      sought_forward s t file key rows r same n i ends place cut.0
+      (subst (λ b. CutsAt key b cut.0) loaded cut.1) held (cut.2 ∙ ap (drop cut.0) loaded)
   sought_up false e cut = absurd (false≢true e)
 
-  pub sought_down : (forward : Bool) → forward ≡ false → IsCutFrom key forward block held → LeftAs t file forward i held (list_from rows (Some key) forward)
-  sought_down false e cut = sought_backward s t file key rows r same n i ends place cut.0 (subst (λ b. CutsAt key b cut.0) loaded cut.1) held (cut.2 ∙ ap (take cut.0) loaded)
+  pub sought_down : (forward : Bool) → forward ≡ false → IsCutFrom key forward block held
+      → LeftAs t file forward i held (list_from rows (Some key) forward)
+  sought_down false e cut =
+      sought_backward s t file key rows r same n i ends place cut.0
+      (subst (λ b. CutsAt key b cut.0) loaded cut.1) held (cut.2 ∙ ap (take cut.0) loaded)
   sought_down true e cut = absurd (false≢true (sym e))
 
 -- below the first block there is nothing, and all is from there on
-module _ (s t : DiskState) (file : RowFile) (key : List ℕ) (rows : List Entry) (r : ReadsAs s file.file file.marks.items file.end rows) (same : t.file file.file ≡ s.file file.file)
+module _ (s t : DiskState) (file : RowFile) (key : List ℕ) (rows : List Entry)
+    (r : ReadsAs s file.file file.marks.items file.end rows)
+    (same : t.file file.file ≡ s.file file.file)
     (n : ℕ) (ends : EndsAt file.marks.items key n) (none : n ≡ 0) where
   all_from : AllByRecursion (IsFrom key) (rows_of r.as_file.blocks)
-  all_from = from_blocks key r.as_file.blocks r.as_file.file.cut r.as_file.file.rising (above_first r.bytes file.marks.items file.end n rows r.as_file key ends none)
+  all_from = from_blocks key r.as_file.blocks r.as_file.file.cut r.as_file.file.rising
+      (above_first r.bytes file.marks.items file.end n rows r.as_file key ends none)
 
   pub sought_all : LeftAs t file true 0 [] (list_from rows (Some key) true)
   sought_all = record {
     all = rows;
     reads = reads_at s t file.file file.marks.items file.end rows same r;
     within = omega arith;
-    is = ap (λ l. list_from l (Some key) true) r.as_file.are ∙ cut_forward key [] (rows_of r.as_file.blocks) tt all_from;
+    is = ap (λ l. list_from l (Some key) true) r.as_file.are
+        ∙ cut_forward key [] (rows_of r.as_file.blocks) tt all_from;
   }
 
   pub sought_none : LeftAs t file false 0 [] (list_from rows (Some key) false)
@@ -230,30 +279,45 @@ module _ (s t : DiskState) (file : RowFile) (key : List ℕ) (rows : List Entry)
     all = rows;
     reads = reads_at s t file.file file.marks.items file.end rows same r;
     within = omega arith;
-    is = ap (λ l. list_from l (Some key) false) r.as_file.are ∙ cut_backward key [] (rows_of r.as_file.blocks) tt all_from;
+    is = ap (λ l. list_from l (Some key) false) r.as_file.are
+        ∙ cut_backward key [] (rows_of r.as_file.blocks) tt all_from;
   }
 
-  pub sought_first : (forward : Bool) (held : List Entry) → held ≡ [] → LeftAs t file forward 0 held (list_from rows (Some key) forward)
-  sought_first true held e = subst (λ h. LeftAs t file true 0 h (list_from rows (Some key) true)) (sym e) sought_all
-  sought_first false held e = subst (λ h. LeftAs t file false 0 h (list_from rows (Some key) false)) (sym e) sought_none
+  pub sought_first : (forward : Bool) (held : List Entry) → held ≡ []
+      → LeftAs t file forward 0 held (list_from rows (Some key) forward)
+  sought_first true held e =
+      subst (λ h. LeftAs t file true 0 h (list_from rows (Some key) true)) (sym e) sought_all
+  sought_first false held e =
+      subst (λ h. LeftAs t file false 0 h (list_from rows (Some key) false)) (sym e) sought_none
 
 -- with no key all is left
-module _ (s : DiskState) (file : RowFile) (rows : List Entry) (r : ReadsAs s file.file file.marks.items file.end rows) where
+module _ (s : DiskState) (file : RowFile) (rows : List Entry)
+    (r : ReadsAs s file.file file.marks.items file.end rows) where
   pub left_forward : LeftAs s file true 0 [] (list_from rows None true)
-  left_forward = record { all = rows; reads = r; within = omega arith; is = all_forward rows ∙ r.as_file.are }
+  left_forward =
+      record { all = rows; reads = r; within = omega arith; is = all_forward rows ∙ r.as_file.are }
 
-  pub left_backward : (n : ℕ) → n ≡ length file.marks.items → LeftAs s file false n [] (list_from rows None false)
+  pub left_backward : (n : ℕ) → n ≡ length file.marks.items
+      → LeftAs s file false n [] (list_from rows None false)
   left_backward n is = record {
     all = rows;
     reads = r;
     within = omega (arith, is);
-    is = all_backward rows ∙ ap reverse r.as_file.are ∙ ap (λ l. reverse (rows_of l)) (sym (take_all n r.as_file.blocks (omega (arith, is, count_blocks s file.file file.marks.items file.end rows r))));
+    is = all_backward rows ∙ ap reverse r.as_file.are
+        ∙ ap (λ l. reverse (rows_of l))
+        (sym (take_all n r.as_file.blocks
+        (omega (arith, is, count_blocks s file.file file.marks.items file.end rows r))));
   }
 
-  pub left_up : (forward : Bool) → forward ≡ true → (held : List Entry) → held ≡ [] → LeftAs s file forward 0 held (list_from rows None forward)
-  left_up true e held none = subst (λ h. LeftAs s file true 0 h (list_from rows None true)) (sym none) left_forward
+  pub left_up : (forward : Bool) → forward ≡ true → (held : List Entry) → held ≡ []
+      → LeftAs s file forward 0 held (list_from rows None forward)
+  left_up true e held none =
+      subst (λ h. LeftAs s file true 0 h (list_from rows None true)) (sym none) left_forward
   left_up false e held none = absurd (false≢true e)
 
-  pub left_down : (forward : Bool) → forward ≡ false → (held : List Entry) → held ≡ [] → (n : ℕ) → n ≡ length file.marks.items → LeftAs s file forward n held (list_from rows None forward)
-  left_down false e held none n is = subst (λ h. LeftAs s file false n h (list_from rows None false)) (sym none) (left_backward n is)
+  pub left_down : (forward : Bool) → forward ≡ false → (held : List Entry) → held ≡ [] → (n : ℕ)
+      → n ≡ length file.marks.items → LeftAs s file forward n held (list_from rows None forward)
+  left_down false e held none n is =
+      subst (λ h. LeftAs s file false n h (list_from rows None false)) (sym none)
+      (left_backward n is)
   left_down true e held none n is = absurd (false≢true (sym e))

@@ -1,10 +1,10 @@
 -- What calls on a walk keep, and why they fail.
-use Rattle.std.proofs.Common.{◌≡◌, ◌==◌, refl, sym, ap, subst, ◌∙◌, ℕ, Bool, true, false, IsTrue, Result, Ok, Err, List}
+use Rattle.std.proofs.Common.{◌≡◌, ◌==◌, refl, sym, ap, subst, ℕ, IsTrue, Err, List}
 use Rattle.std.specs.Result.{IsErrOf}
 use Rattle.std.proofs.lemmas.Bool.{false≢true}
 use Rattle.std.specs.FinMap.{entries}
 use Rattle.alt_base.specs.Counts.{Rose}
-use Rattle.alt_disk.specs.Disk.{DiskState, Goes, IsTrusted}
+use Rattle.alt_disk.specs.Disk.{DiskState, Goes}
 use Rattle.alt_disk.specs.Runs.{Quiet}
 use Rattle.alt_disk.proofs.Runs.{tells_of}
 use Rattle.alt_cells.specs.Walks.{Keeps, Fails, HasCause, IsDamaged, answered_by}
@@ -16,30 +16,37 @@ use Rattle.alt_rowfile.specs.Walking.{walk_reads, walk_holds, reads_on}
 use Rattle.alt_rowfile.specs.declared.walk.RowFileWalk.{RowFileWalk}
 
 -- a walk over the same file stands for the same rows, and reads the same file
-pub walk_keeps : (s t : DiskState) (w v : RowFileWalk) → v.file ≡ w.file → Goes s t → (IsTrue s.tells → Quiet s t) → Keeps walk_holds walk_reads s t w v
+pub walk_keeps : (s t : DiskState) (w v : RowFileWalk) → v.file ≡ w.file → Goes s t
+    → (IsTrue s.tells → Quiet s t) → Keeps walk_holds walk_reads s t w v
 walk_keeps s t w v same goes quiet = record {
-  holds = λ told rows h. subst (λ f. Reads t f.now (entries rows)) (sym same) (reads_on s t w.file.now (entries rows) (λ g is. (quiet told).file g) h);
+  holds = λ told rows h. subst (λ f. Reads t f.now (entries rows)) (sym same)
+      (reads_on s t w.file.now (entries rows) (λ g is. (quiet told).file g) h);
   reads = ap (λ file. (λ (g : ℕ). g == file.now.file)) same;
   goes = goes;
   quiet = quiet;
 }
 
 module _ {T : Type 0} where
-  cause_of : (s t : DiskState) (fault : SourceFault) → (IsErrOf {T = T} (Err fault) Failed → Rose s.faults t.faults) → HasCause s t fault
+  cause_of : (s t : DiskState) (fault : SourceFault)
+      → (IsErrOf {T = T} (Err fault) Failed → Rose s.faults t.faults) → HasCause s t fault
   cause_of s t (Damaged f at) c = tt
   cause_of s t Failed c = c refl
   cause_of s t NoMemory c = tt
 
   -- a call failed by the disk or for want of memory
-  pub walk_fails : (s t : DiskState) (w : RowFileWalk) (fault : SourceFault) → (IsErrOf {T = T} (Err fault) Failed → Rose s.faults t.faults)
-      → (IsTrue s.tells → (rows : List Entry) → Reads s w.file.now rows → IsDamaged fault → ⊥) → Fails walk_holds s t w fault
+  pub walk_fails : (s t : DiskState) (w : RowFileWalk) (fault : SourceFault)
+      → (IsErrOf {T = T} (Err fault) Failed → Rose s.faults t.faults)
+      → (IsTrue s.tells → (rows : List Entry) → Reads s w.file.now rows → IsDamaged fault → ⊥)
+          → Fails walk_holds s t w fault
   walk_fails s t w fault cause sound = record {
     cause = cause_of s t fault cause;
     sound = λ trusted rows h damaged. sound (tells_of s trusted) (entries rows) h damaged;
   }
 
   -- any other answer leaves the count of faults
-  pub well_failed : {P : Type 0} (fault : SourceFault) → ((IsErrOf {T = T} (Err fault) Failed → ⊥) → P) → IsTrue (answered_by {A = T} (Err fault)) → P
+  pub well_failed : {P : Type 0} (fault : SourceFault)
+      → ((IsErrOf {T = T} (Err fault) Failed → ⊥) → P) → IsTrue (answered_by {A = T} (Err fault))
+      → P
   well_failed (Damaged f at) w told = w (λ e. cc e)
   well_failed Failed w told = absurd (false≢true told)
   well_failed NoMemory w told = w (λ e. cc e)

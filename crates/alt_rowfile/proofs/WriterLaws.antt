@@ -19,68 +19,96 @@ use Rattle.alt_rowfile.specs.Writing.{piece, IsOpen, WritesAs}
 use Rattle.alt_rowfile.specs.declared.sink.Sink.{Sink}
 use Rattle.alt_rowfile.proofs.OneFile.{length-entry}
 
-pub rows_bytes-push : (rows : List Entry) (e : Entry) → rows_bytes (rows ++ e ∷ []) ≡ rows_bytes rows ++ entry_bytes e
-rows_bytes-push rows e = flat_map-append entry_bytes rows (e ∷ []) ∙ ap (λ (l : List ℕ). rows_bytes rows ++ l) (append-nil (entry_bytes e))
+pub rows_bytes-push : (rows : List Entry) (e : Entry)
+    → rows_bytes (rows ++ e ∷ []) ≡ rows_bytes rows ++ entry_bytes e
+rows_bytes-push rows e = flat_map-append entry_bytes rows (e ∷ [])
+    ∙ ap (λ (l : List ℕ). rows_bytes rows ++ l) (append-nil (entry_bytes e))
 
-pub rows_of-push : (blocks : List (List Entry)) (b : List Entry) → rows_of (blocks ++ b ∷ []) ≡ rows_of blocks ++ b
-rows_of-push blocks b = flat_map-append (λ (x : List Entry). x) blocks (b ∷ []) ∙ ap (λ (l : List Entry). rows_of blocks ++ l) (append-nil b)
+pub rows_of-push : (blocks : List (List Entry)) (b : List Entry)
+    → rows_of (blocks ++ b ∷ []) ≡ rows_of blocks ++ b
+rows_of-push blocks b = flat_map-append (λ (x : List Entry). x) blocks (b ∷ [])
+    ∙ ap (λ (l : List Entry). rows_of blocks ++ l) (append-nil b)
 
-pub blocks_bytes-push : (blocks : List (List Entry)) (b : List Entry) → flat_map block_bytes (blocks ++ b ∷ []) ≡ flat_map block_bytes blocks ++ block_bytes b
-blocks_bytes-push blocks b = flat_map-append block_bytes blocks (b ∷ []) ∙ ap (λ (l : List ℕ). flat_map block_bytes blocks ++ l) (append-nil (block_bytes b))
+pub blocks_bytes-push : (blocks : List (List Entry)) (b : List Entry)
+    → flat_map block_bytes (blocks ++ b ∷ []) ≡ flat_map block_bytes blocks ++ block_bytes b
+blocks_bytes-push blocks b = flat_map-append block_bytes blocks (b ∷ [])
+    ∙ ap (λ (l : List ℕ). flat_map block_bytes blocks ++ l) (append-nil (block_bytes b))
 
-pub front-push : (blocks : List (List Entry)) (b : List Entry) → front (blocks ++ b ∷ []) ≡ front blocks ++ block_bytes b
-front-push blocks b = ap (λ (l : List ℕ). header ++ l) (blocks_bytes-push blocks b) ∙ sym (append_assoc header (flat_map block_bytes blocks) (block_bytes b))
+pub front-push : (blocks : List (List Entry)) (b : List Entry)
+    → front (blocks ++ b ∷ []) ≡ front blocks ++ block_bytes b
+front-push blocks b = ap (λ (l : List ℕ). header ++ l) (blocks_bytes-push blocks b)
+    ∙ sym (append_assoc header (flat_map block_bytes blocks) (block_bytes b))
 
-pub length-front : (blocks : List (List Entry)) → length (front blocks) ≡ 8 + length (flat_map block_bytes blocks)
+pub length-front : (blocks : List (List Entry))
+    → length (front blocks) ≡ 8 + length (flat_map block_bytes blocks)
 unfolding header
 length-front blocks = omega arith
 
 -- the mark of one block more
-pub marks-push : (at : ℕ) (blocks : List (List Entry)) (b : List Entry) → marks_from at (blocks ++ b ∷ []) ≡ marks_from at blocks ++ (at + length (flat_map block_bytes blocks), first_key b) ∷ []
+pub marks-push : (at : ℕ) (blocks : List (List Entry)) (b : List Entry)
+    → marks_from at (blocks ++ b ∷ []) ≡ marks_from at blocks
+    ++ (at + length (flat_map block_bytes blocks), first_key b) ∷ []
 marks-push at [] b = ap (λ (n : ℕ). (n, first_key b) ∷ []) (let e : at ≡ at + 0 = omega arith in e)
 marks-push at (c ∷ blocks) b =
-    let size : at + length (block_bytes c) + length (flat_map block_bytes blocks) ≡ at + length (block_bytes c ++ flat_map block_bytes blocks) = omega (arith, length-append (block_bytes c) (flat_map block_bytes blocks)) in
-    ap (λ (l : List Mark). (at, first_key c) ∷ l) (marks-push (at + length (block_bytes c)) blocks b ∙ ap (λ (n : ℕ). marks_from (at + length (block_bytes c)) blocks ++ (n, first_key b) ∷ []) size)
+    let size : at + length (block_bytes c) + length (flat_map block_bytes blocks)
+        ≡ at + length (block_bytes c ++ flat_map block_bytes blocks) =
+        omega (arith, length-append (block_bytes c) (flat_map block_bytes blocks)) in
+    ap (λ (l : List Mark). (at, first_key c) ∷ l) (marks-push (at + length (block_bytes c)) blocks b
+        ∙ ap (λ (n : ℕ). marks_from (at + length (block_bytes c)) blocks ++ (n, first_key b) ∷ [])
+        size)
 
 -- the open block has one row at least once a row was added
-pub piece-push : (waiting : List Entry) (e : Entry) → piece (waiting ++ e ∷ []) ≡ (waiting ++ e ∷ []) ∷ []
+pub piece-push : (waiting : List Entry) (e : Entry)
+    → piece (waiting ++ e ∷ []) ≡ (waiting ++ e ∷ []) ∷ []
 piece-push [] e = refl
 piece-push (x ∷ waiting) e = refl
 
 first-push : (waiting : List Entry) (e x : Entry) → first_key ((x ∷ waiting) ++ e ∷ []) ≡ x.0
 first-push waiting e x = refl
 
-pub open_push : (waiting : List Entry) (e : Entry) → length (rows_bytes waiting) < 4096 → IsOpen (waiting ++ e ∷ [])
+pub open_push : (waiting : List Entry) (e : Entry) → length (rows_bytes waiting) < 4096
+    → IsOpen (waiting ++ e ∷ [])
 open_push [] e short = record { rows = []; last = e; is = refl; short = short }
 open_push (x ∷ waiting) e short = record { rows = x ∷ waiting; last = e; is = refl; short = short }
 
-pub block_push : (waiting : List Entry) (e : Entry) → length (rows_bytes waiting) < 4096 → IsBlock (waiting ++ e ∷ [])
+pub block_push : (waiting : List Entry) (e : Entry) → length (rows_bytes waiting) < 4096
+    → IsBlock (waiting ++ e ∷ [])
 block_push waiting e short = record { rows = waiting; last = e; is = refl; short = short }
 
 -- no bytes, no rows
 pub rows_none : (rows : List Entry) → length (rows_bytes rows) ≡ 0 → rows ≡ []
 rows_none [] e = refl
-rows_none (x ∷ rows) e = absurd (omega (arith, e, length-append (entry_bytes x) (rows_bytes rows), length-entry x))
+rows_none (x ∷ rows) e =
+    absurd (omega (arith, e, length-append (entry_bytes x) (rows_bytes rows), length-entry x))
 
 pub rows_some : (x : Entry) (rows : List Entry) → 0 < length (rows_bytes (x ∷ rows))
 rows_some x rows = omega (arith, length-append (entry_bytes x) (rows_bytes rows), length-entry x)
 
 -- the marks with one row more: at the first row of a block a mark is set
-pub marks_more : (closed : List (List Entry)) (waiting : List Entry) (e : Entry) (at : ℕ) (block : List ℕ) (marks new : List Mark) → at ≡ length (front closed) → block ≡ rows_bytes waiting
+pub marks_more : (closed : List (List Entry)) (waiting : List Entry) (e : Entry) (at : ℕ)
+    (block : List ℕ) (marks new : List Mark) → at ≡ length (front closed)
+    → block ≡ rows_bytes waiting
     → marks ≡ marks_from 8 (closed ++ piece waiting)
-    → (length block ≡ 0 → new ≡ marks ++ (at, e.0) ∷ []) → (0 < length block → new ≡ marks) → new ≡ marks_from 8 (closed ++ piece (waiting ++ e ∷ []))
+    → (length block ≡ 0 → new ≡ marks ++ (at, e.0) ∷ []) → (0 < length block → new ≡ marks)
+        → new ≡ marks_from 8 (closed ++ piece (waiting ++ e ∷ []))
 marks_more closed [] e at block marks new place is are set kept =
     set (ap length is)
     ∙ ap (λ (l : List Mark). l ++ (at, e.0) ∷ []) (are ∙ ap (marks_from 8) (append-nil closed))
     ∙ ap (λ (n : ℕ). marks_from 8 closed ++ (n, e.0) ∷ []) (place ∙ length-front closed)
     ∙ sym (marks-push 8 closed (e ∷ []))
 marks_more closed (x ∷ waiting) e at block marks new place is are set kept =
-    kept (omega (arith, ap length is, rows_some x waiting)) ∙ are ∙ marks-push 8 closed (x ∷ waiting) ∙ sym (marks-push 8 closed (x ∷ (waiting ++ e ∷ [])))
+    kept (omega (arith, ap length is, rows_some x waiting)) ∙ are
+        ∙ marks-push 8 closed (x ∷ waiting) ∙ sym (marks-push 8 closed (x ∷ (waiting ++ e ∷ [])))
 
 -- one row more in the open block
-pub row_more : (s : DiskState) (sink : Sink) (block new_block : List ℕ) (marks new_marks : List Mark) (count new_count : ℕ) (closed : List (List Entry)) (waiting : List Entry) (e : Entry)
-    → WritesAs s sink block marks count closed waiting → length (rows_bytes waiting) < 4096 → T (is_sorted key_cmp (rows_of closed ++ (waiting ++ e ∷ []))) → IsHeldEntry e
-    → new_block ≡ block ++ entry_bytes e → (length block ≡ 0 → new_marks ≡ marks ++ (sink.at, e.0) ∷ []) → (0 < length block → new_marks ≡ marks) → new_count ≡ count + 1
+pub row_more : (s : DiskState) (sink : Sink) (block new_block : List ℕ)
+    (marks new_marks : List Mark) (count new_count : ℕ) (closed : List (List Entry))
+    (waiting : List Entry) (e : Entry)
+    → WritesAs s sink block marks count closed waiting → length (rows_bytes waiting) < 4096
+        → T (is_sorted key_cmp (rows_of closed ++ (waiting ++ e ∷ []))) → IsHeldEntry e
+    → new_block ≡ block ++ entry_bytes e
+        → (length block ≡ 0 → new_marks ≡ marks ++ (sink.at, e.0) ∷ [])
+        → (0 < length block → new_marks ≡ marks) → new_count ≡ count + 1
     → WritesAs s sink new_block new_marks new_count closed (waiting ++ e ∷ [])
 row_more s sink block new_block marks new_marks count new_count closed waiting e w short rising held bytes set kept counted = record {
   put = w.put;
@@ -91,7 +119,9 @@ row_more s sink block new_block marks new_marks count new_count closed waiting e
   rising = rising;
   bytes = bytes ∙ ap (λ (l : List ℕ). l ++ entry_bytes e) w.bytes ∙ sym (rows_bytes-push waiting e);
   marks_are = marks_more closed waiting e sink.at block marks new_marks w.put.at w.bytes w.marks_are set kept;
-  count_is = omega (arith, counted, w.count_is, length-append (rows_of closed) (waiting ++ e ∷ []), length-append waiting (e ∷ []), length-append (rows_of closed) waiting);
+  count_is = omega
+      (arith, counted, w.count_is, length-append (rows_of closed) (waiting ++ e ∷ []),
+      length-append waiting (e ∷ []), length-append (rows_of closed) waiting);
 }
 
 piece_some : (waiting : List Entry) → IsBlock waiting → piece waiting ≡ waiting ∷ []
@@ -99,77 +129,111 @@ piece_some [] b = absurd (omega (arith, ap length b.is, length-append b.rows (b.
 piece_some (x ∷ waiting) b = refl
 
 -- the open block, written
-pub block_more : (s t : DiskState) (sink new_sink : Sink) (block written cleared : List ℕ) (marks : List Mark) (count : ℕ) (closed : List (List Entry)) (waiting : List Entry)
-    → WritesAs s sink block marks count closed waiting → IsBlock waiting → length block < 2 ^ 64 → written ≡ field block
-    → ((done : List ℕ) → IsPut s sink done → IsPut t new_sink (done ++ written)) → cleared ≡ [] → WritesAs t new_sink cleared marks count (closed ++ waiting ∷ []) []
+pub block_more : (s t : DiskState) (sink new_sink : Sink) (block written cleared : List ℕ)
+    (marks : List Mark) (count : ℕ) (closed : List (List Entry)) (waiting : List Entry)
+    → WritesAs s sink block marks count closed waiting → IsBlock waiting → length block < 2 ^ 64
+        → written ≡ field block
+    → ((done : List ℕ) → IsPut s sink done → IsPut t new_sink (done ++ written)) → cleared ≡ []
+        → WritesAs t new_sink cleared marks count (closed ++ waiting ∷ []) []
 unfolding block_bytes
 block_more s t sink new_sink block written cleared marks count closed waiting w is small bytes puts none =
     let here : written ≡ block_bytes waiting = bytes ∙ ap field w.bytes in
-    let rows : rows_of (closed ++ waiting ∷ []) ++ [] ≡ rows_of closed ++ waiting = append-nil (rows_of (closed ++ waiting ∷ [])) ∙ rows_of-push closed waiting in
+    let rows : rows_of (closed ++ waiting ∷ []) ++ [] ≡ rows_of closed ++ waiting =
+        append-nil (rows_of (closed ++ waiting ∷ [])) ∙ rows_of-push closed waiting in
     record {
-      put = subst (IsPut t new_sink) (ap (λ (l : List ℕ). front closed ++ l) here ∙ sym (front-push closed waiting)) (puts (front closed) w.put);
+      put = subst (IsPut t new_sink) (ap (λ (l : List ℕ). front closed ++ l) here
+          ∙ sym (front-push closed waiting)) (puts (front closed) w.put);
       blocks = all_append IsBlock closed (waiting ∷ []) w.blocks (is, tt);
-      held = all_append IsHeldBlock closed (waiting ∷ []) w.held ((w.open_held, omega (arith, small, ap length w.bytes)), tt);
+      held = all_append IsHeldBlock closed (waiting ∷ []) w.held
+          ((w.open_held, omega (arith, small, ap length w.bytes)), tt);
       opens = tt;
       open_held = tt;
       rising = subst (λ (l : List Entry). T (is_sorted key_cmp l)) (sym rows) w.rising;
       bytes = none;
-      marks_are = w.marks_are ∙ ap (λ (p : List (List Entry)). marks_from 8 (closed ++ p)) (piece_some waiting is) ∙ ap (marks_from 8) (sym (append-nil (closed ++ waiting ∷ [])));
+      marks_are = w.marks_are
+          ∙ ap (λ (p : List (List Entry)). marks_from 8 (closed ++ p)) (piece_some waiting is)
+          ∙ ap (marks_from 8) (sym (append-nil (closed ++ waiting ∷ [])));
       count_is = w.count_is ∙ ap length (sym rows);
     }
 
 -- the open block may be the last, with less
-pub are_blocks : (closed : List (List Entry)) (waiting : List Entry) → AllByRecursion IsBlock closed → AllByRecursion IsFull closed → IsOpen waiting → AreBlocks (closed ++ piece waiting)
+pub are_blocks : (closed : List (List Entry)) (waiting : List Entry) → AllByRecursion IsBlock closed
+    → AllByRecursion IsFull closed → IsOpen waiting → AreBlocks (closed ++ piece waiting)
 are_blocks [] [] blocks full opens = tt
 are_blocks [] (x ∷ waiting) blocks full opens = opens
 are_blocks (b ∷ []) [] blocks full opens = blocks.0
 are_blocks (b ∷ []) (x ∷ waiting) blocks full opens = (blocks.0, full.0, opens)
-are_blocks (b ∷ c ∷ closed) waiting blocks full opens = (blocks.0, full.0, are_blocks (c ∷ closed) waiting blocks.1 full.1 opens)
+are_blocks (b ∷ c ∷ closed) waiting blocks full opens =
+    (blocks.0, full.0, are_blocks (c ∷ closed) waiting blocks.1 full.1 opens)
 
-pub rows_of-piece : (closed : List (List Entry)) (waiting : List Entry) → rows_of (closed ++ piece waiting) ≡ rows_of closed ++ waiting
+pub rows_of-piece : (closed : List (List Entry)) (waiting : List Entry)
+    → rows_of (closed ++ piece waiting) ≡ rows_of closed ++ waiting
 rows_of-piece closed [] = ap rows_of (append-nil closed) ∙ sym (append-nil (rows_of closed))
 rows_of-piece closed (x ∷ waiting) = rows_of-push closed (x ∷ waiting)
 
 -- what was empty was empty
-pub nothing_waits : (s t : DiskState) (sink : Sink) (block : List ℕ) (marks : List Mark) (count : ℕ) (closed : List (List Entry)) (waiting : List Entry)
-    → WritesAs s sink block marks count closed waiting → length block ≡ 0 → WritesAs s sink block marks count (closed ++ piece waiting) []
+pub nothing_waits : (s t : DiskState) (sink : Sink) (block : List ℕ) (marks : List Mark) (count : ℕ)
+    (closed : List (List Entry)) (waiting : List Entry)
+    → WritesAs s sink block marks count closed waiting → length block ≡ 0
+        → WritesAs s sink block marks count (closed ++ piece waiting) []
 nothing_waits s t sink block marks count closed waiting w none =
     let empty : waiting ≡ [] = rows_none waiting (omega (arith, none, ap length w.bytes)) in
-    let same : closed ++ piece waiting ≡ closed = ap (λ (r : List Entry). closed ++ piece r) empty ∙ append-nil closed in
-    subst (λ (c : List (List Entry)). WritesAs s sink block marks count c []) (sym same) (subst (WritesAs s sink block marks count closed) empty w)
+    let same : closed ++ piece waiting ≡ closed = ap (λ (r : List Entry). closed ++ piece r) empty
+        ∙ append-nil closed in
+    subst (λ (c : List (List Entry)). WritesAs s sink block marks count c []) (sym same)
+        (subst (WritesAs s sink block marks count closed) empty w)
 
-pub something_waits : (s : DiskState) (sink : Sink) (block : List ℕ) (marks : List Mark) (count : ℕ) (closed : List (List Entry)) (waiting : List Entry)
-    → WritesAs s sink block marks count closed waiting → 0 < length block → IsBlock waiting × (piece waiting ≡ waiting ∷ [])
-something_waits s sink block marks count closed [] w some = absurd (omega (arith, some, ap length w.bytes))
+pub something_waits : (s : DiskState) (sink : Sink) (block : List ℕ) (marks : List Mark) (count : ℕ)
+    (closed : List (List Entry)) (waiting : List Entry)
+    → WritesAs s sink block marks count closed waiting → 0 < length block → IsBlock waiting
+        × (piece waiting ≡ waiting ∷ [])
+something_waits s sink block marks count closed [] w some =
+    absurd (omega (arith, some, ap length w.bytes))
 something_waits s sink block marks count closed (x ∷ waiting) w some = (w.opens, refl)
 
 -- a file of blocks that lasts stands for its rows
-pub stands_after : (s t : DiskState) (sink : Sink) (block tail : List ℕ) (marks : List Mark) (count : ℕ) (closed : List (List Entry)) → WritesAs s sink block marks count closed [] → AreBlocks closed
-    → sink.at ≤ 2 ^ 62 → tail ≡ tail_bytes marks count sink.at → Lasts t sink.file ((front closed ++ tail) ++ sha256 (front closed ++ tail)) → StandsAs t sink.file marks sink.at (rows_of closed)
+pub stands_after : (s t : DiskState) (sink : Sink) (block tail : List ℕ) (marks : List Mark)
+    (count : ℕ) (closed : List (List Entry)) → WritesAs s sink block marks count closed []
+    → AreBlocks closed
+    → sink.at ≤ 2 ^ 62 → tail ≡ tail_bytes marks count sink.at
+        → Lasts t sink.file ((front closed ++ tail) ++ sha256 (front closed ++ tail))
+        → StandsAs t sink.file marks sink.at (rows_of closed)
 stands_after s t sink block tail marks count closed w cut small is lasts =
     let here : marks ≡ marks_from 8 closed = w.marks_are ∙ ap (marks_from 8) (append-nil closed) in
-    let rows : count ≡ length (rows_of closed) = w.count_is ∙ ap length (append-nil (rows_of closed)) in
-    let whole : front closed ++ tail ≡ body closed = ap (λ (l : List ℕ). front closed ++ l) (is ∙ (λ i. tail_bytes (here i) (rows i) (w.put.at i))) in
-    let all : (front closed ++ tail) ++ sha256 (front closed ++ tail) ≡ file_bytes closed = ap (λ (l : List ℕ). l ++ sha256 l) whole in
+    let rows : count ≡ length (rows_of closed) = w.count_is
+        ∙ ap length (append-nil (rows_of closed)) in
+    let whole : front closed ++ tail ≡ body closed =
+        ap (λ (l : List ℕ). front closed ++ l) (is
+        ∙ (λ i. tail_bytes (here i) (rows i) (w.put.at i))) in
+    let all : (front closed ++ tail) ++ sha256 (front closed ++ tail) ≡ file_bytes closed =
+        ap (λ (l : List ℕ). l ++ sha256 l) whole in
     record {
       reads = record {
         bytes = (front closed ++ tail) ++ sha256 (front closed ++ tail);
         there = lasts.file;
         as_file = record {
           blocks = closed;
-          file = record { cut = cut; rising = subst (λ (l : List Entry). T (is_sorted key_cmp l)) (append-nil (rows_of closed)) w.rising; held = w.held; place = omega (arith, small, w.put.at); is = all };
+          file = record { cut = cut; rising =
+              subst (λ (l : List Entry). T (is_sorted key_cmp l))
+              (append-nil (rows_of closed)) w.rising; held = w.held; place =
+              omega (arith, small, w.put.at); is = all };
           are = refl;
           marks_are = here;
           end_is = w.put.at;
         };
       };
-      settled = synced_settled t sink.file ((front closed ++ tail) ++ sha256 (front closed ++ tail)) lasts.file lasts.kept;
+      settled = synced_settled t sink.file
+          ((front closed ++ tail) ++ sha256 (front closed ++ tail)) lasts.file lasts.kept;
     }
 
-pub two_put : (block one two key row_bytes : List ℕ) (row : RowCells) → row_bytes ≡ bytes_of_row row → one ≡ block ++ field key → two ≡ one ++ field row_bytes → two ≡ block ++ entry_bytes (key, row)
+pub two_put : (block one two key row_bytes : List ℕ) (row : RowCells) → row_bytes ≡ bytes_of_row row
+    → one ≡ block ++ field key → two ≡ one ++ field row_bytes
+    → two ≡ block ++ entry_bytes (key, row)
 unfolding entry_bytes
 two_put block one two key row_bytes row is first then =
-    then ∙ ap (λ (l : List ℕ). l ++ field row_bytes) first ∙ append_assoc block (field key) (field row_bytes) ∙ ap (λ (r : List ℕ). block ++ (field key ++ field r)) is
+    then ∙ ap (λ (l : List ℕ). l ++ field row_bytes) first
+        ∙ append_assoc block (field key) (field row_bytes)
+        ∙ ap (λ (r : List ℕ). block ++ (field key ++ field r)) is
 
 pub is_zero : (n : ℕ) → n ≡ 0 → (n == 0) ≡ true
 is_zero n e = grind arith

@@ -1,5 +1,5 @@
 -- Where a walk over a row file stands.
-use Rattle.std.specs.Prelude.{◌≡◌, ℕ, ◌≤◌, ◌==◌, Bool, true, false, List, [], ◌∷◌, ◌++◌, length, take, drop, reverse, Option, refl}
+use Rattle.std.specs.Prelude.{◌≡◌, ℕ, ◌≤◌, ◌==◌, Bool, true, false, List, [], ◌++◌, length, take, drop, reverse, Option}
 use Rattle.std.proofs.Common.{◌∙◌, arith}
 use Rattle.std.specs.BTreeMap.Range.{entries_between}
 use Rattle.std.specs.FinMap.{entries}
@@ -17,7 +17,8 @@ rows_ahead true next blocks = rows_of (drop next blocks)
 rows_ahead false next blocks = reverse (rows_of (take next blocks))
 
 -- these rows are left: those in hand, and those ahead
-pub record LeftAs (s : DiskState) (file : RowFile) (forward : Bool) (next : ℕ) (held rows : List Entry) : Type 0 where
+pub record LeftAs (s : DiskState) (file : RowFile) (forward : Bool) (next : ℕ)
+    (held rows : List Entry) : Type 0 where
   pub all : List Entry
   pub reads : Reads s file all
   pub within : next ≤ length file.marks.items
@@ -25,7 +26,9 @@ pub record LeftAs (s : DiskState) (file : RowFile) (forward : Bool) (next : ℕ)
 
 -- what a walk gives of a list of rows from a place on
 abbrev pub list_from : List Entry → Option (List ℕ) → Bool → List Entry
-list_from rows from forward = turned forward (entries_between key_cmp (first_bound forward from) (last_bound forward from) rows)
+list_from rows from forward =
+    turned forward
+    (entries_between key_cmp (first_bound forward from) (last_bound forward from) rows)
 
 -- nothing in hand is the end
 abbrev pub AtEnd : RowFileWalk → List Entry → Type 0
@@ -47,12 +50,18 @@ pub itself : (n : ℕ) → (n == n) ≡ true
 itself n = grind arith
 
 -- both last while the file reads the same
-abbrev pub reads_on : (old new : DiskState) (file : RowFile) (rows : List Entry) → SameFiles (λ f. f == file.file) old new → Reads old file rows → Reads new file rows
-reads_on old new file rows same r = record { bytes = r.bytes; there = same file.file (itself file.file) ∙ r.there; as_file = r.as_file }
+abbrev pub reads_on : (old new : DiskState) (file : RowFile) (rows : List Entry)
+    → SameFiles (λ f. f == file.file) old new → Reads old file rows → Reads new file rows
+reads_on old new file rows same r =
+    record { bytes = r.bytes; there = same file.file (itself file.file)
+    ∙ r.there; as_file = r.as_file }
 
-pub walk_holds_on : (old new : DiskState) (walk : RowFileWalk) (rows : RowMap) → SameFiles (walk_reads walk) old new → walk_holds old walk rows → walk_holds new walk rows
+pub walk_holds_on : (old new : DiskState) (walk : RowFileWalk) (rows : RowMap)
+    → SameFiles (walk_reads walk) old new → walk_holds old walk rows → walk_holds new walk rows
 walk_holds_on old new walk rows same r = reads_on old new walk.file.now (entries rows) same r
 
-pub walk_left_on : (old new : DiskState) (walk : RowFileWalk) (rows : RowList) → SameFiles (walk_reads walk) old new → walk_left old walk rows → walk_left new walk rows
+pub walk_left_on : (old new : DiskState) (walk : RowFileWalk) (rows : RowList)
+    → SameFiles (walk_reads walk) old new → walk_left old walk rows → walk_left new walk rows
 walk_left_on old new walk rows same l =
-    record { all = l.all; reads = reads_on old new walk.file.now l.all same l.reads; within = l.within; is = l.is }
+    record { all = l.all; reads = reads_on old new walk.file.now l.all same l.reads; within =
+        l.within; is = l.is }

@@ -26,7 +26,8 @@ IsOpen [] = Unit {0}
 IsOpen (e ∷ es) = IsBlock (e ∷ es)
 
 -- These blocks were written, and these rows wait in the open one.
-pub record WritesAs (s : DiskState) (sink : Sink) (block : List ℕ) (marks : List Mark) (count : ℕ) (closed : List (List Entry)) (waiting : List Entry) : Type 0 where
+pub record WritesAs (s : DiskState) (sink : Sink) (block : List ℕ) (marks : List Mark) (count : ℕ)
+    (closed : List (List Entry)) (waiting : List Entry) : Type 0 where
   pub put : IsPut s sink (front closed)
   pub blocks : AllByRecursion IsBlock closed
   pub held : AllByRecursion IsHeldBlock closed
@@ -57,12 +58,14 @@ pub itself : (n : ℕ) → (n == n) ≡ true
 itself n = grind arith
 
 -- what it has added lasts while the file reads the same
-pub writes_on : (old new : DiskState) (w : RowFileWriter) (rows : List Entry) → SameFiles (writer_writes w) old new → Writes old w rows → Writes new w rows
+pub writes_on : (old new : DiskState) (w : RowFileWriter) (rows : List Entry)
+    → SameFiles (writer_writes w) old new → Writes old w rows → Writes new w rows
 writes_on old new w rows same writes = record {
   closed = writes.closed;
   waiting = writes.waiting;
   to = record {
-    put = record { file = ap bytes_or_none (same w.sink.file (itself w.sink.file)) ∙ writes.to.put.file; at = writes.to.put.at; digest = writes.to.put.digest };
+    put = record { file = ap bytes_or_none (same w.sink.file (itself w.sink.file))
+        ∙ writes.to.put.file; at = writes.to.put.at; digest = writes.to.put.digest };
     blocks = writes.to.blocks;
     held = writes.to.held;
     opens = writes.to.opens;

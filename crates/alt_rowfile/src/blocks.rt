@@ -61,7 +61,11 @@ pub(crate) fn read_blocks<D: Disk>(
     'each: while at < end {
         match next_block(alloc, disk, f, at, end, &after)? {
             Some((read, next)) => {
-                let BlockRead { first, last, rows: count } = read;
+                let BlockRead {
+                    first,
+                    last,
+                    rows: count,
+                } = read;
                 marks.push((at, first))?;
                 rows += count;
                 after = Some(last);
@@ -148,9 +152,17 @@ fn length_at<D: Disk>(disk: &mut D, f: u32, at: u64, end: u64) -> Result<Option<
 }
 
 /// The block of these rows, behind rows of which the last has this key; none where no writer makes it.
-pub(crate) fn read_block(alloc: Global, bytes: &[u8], after: &Option<Bytes>, is_last: bool) -> Result<Option<BlockRead>, NoMemory>
-    ensures some { IfOk result (λ o. IfSome o (λ r. (b : List Entry) × IsNextBlock after.now is_last bytes.now b × IsReadBlock r.first r.last r.rows b)) }
-    ensures none { IfOk result (λ o. IfNone o ((b : List Entry) → IsNextBlock after.now is_last bytes.now b → ⊥)) }
+pub(crate) fn read_block(
+    alloc: Global,
+    bytes: &[u8],
+    after: &Option<Bytes>,
+    is_last: bool,
+) -> Result<Option<BlockRead>, NoMemory>
+    ensures some { IfOk result
+        (λ o. IfSome o (λ r. (b : List Entry) × IsNextBlock after.now is_last bytes.now b
+        × IsReadBlock r.first r.last r.rows b)) }
+    ensures none { IfOk result
+        (λ o. IfNone o ((b : List Entry) → IsNextBlock after.now is_last bytes.now b → ⊥)) }
 {
     match decode(alloc, bytes)? {
         Some(decoded) => {

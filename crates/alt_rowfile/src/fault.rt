@@ -10,7 +10,10 @@ use std::alloc::{AllocError, AllocFailed};
 #[derive(Clone, Copy, Debug, PartialEq, Eq, Drop)]
 pub enum RowFileFault {
     /// The bytes of the file are no row file.
-    Damaged { file: u32, at: u64 },
+    Damaged {
+        file: u32,
+        at: u64,
+    },
     /// The file doesn't end with the digest of the rest.
     DigestDiffers {
         file: u32,

@@ -19,6 +19,7 @@ mod walk;
 mod writer;
 
 pub use fault::RowFileFault;
+pub use law::one_list_of_rows;
 pub use rowfile::RowFile;
 pub use walk::RowFileWalk;
 pub use writer::RowFileWriter;

@@ -57,12 +57,7 @@ pub(crate) fn recover_file<D: Disk>(
 }
 
 // Tests the digest that stands at a place against that of the bytes before it.
-fn test_digest<D: Disk>(
-    alloc: Global,
-    disk: &mut D,
-    f: u32,
-    at: u64,
-) -> Result<(), RowFileFault>
+fn test_digest<D: Disk>(alloc: Global, disk: &mut D, f: u32, at: u64) -> Result<(), RowFileFault>
     ensures agrees { IsTrue (D.state disk.old).tells
         → length (contents (D.state disk.old) f) ≡ at + 32
         → OnOk result (HasDigest (contents (D.state disk.old) f)) }
@@ -86,12 +81,7 @@ fn test_digest<D: Disk>(
 }
 
 // Compares the 32 bytes at a place with the digest of those before it.
-fn compare<D: Disk>(
-    disk: &mut D,
-    f: u32,
-    at: u64,
-    found: [u8; 32],
-) -> Result<(), RowFileFault>
+fn compare<D: Disk>(disk: &mut D, f: u32, at: u64, found: [u8; 32]) -> Result<(), RowFileFault>
     ensures agrees { IsTrue (D.state disk.old).tells
         → length (contents (D.state disk.old) f) ≡ at + 32
         → found ≡ sha256 (take at (contents (D.state disk.old) f))

@@ -36,11 +36,15 @@ impl RowFile {
     /// Reads the row file of a file and tests all of it.
     pub fn recover<D: Disk>(alloc: Global, disk: &mut D, f: u32) -> Result<RowFile, RowFileFault>
         ensures file { IfOk result (λ file. file_of file ≡ f) }
-        ensures reads { IfOk result (λ file. IsTrue (D.state disk.old).tells → (rows : List Entry) × Reads (D.state disk.new) file rows) }
-        ensures explained { IsTrue (D.state disk.old).tells → IfErr result (ExplainsFile f (contents (D.state disk.old) f)) }
-        ensures quiet { IsTrue (D.state disk.old).tells → Quiet (D.state disk.old) (D.state disk.new) }
+        ensures reads { IfOk result (λ file. IsTrue (D.state disk.old).tells → (rows : List Entry)
+            × Reads (D.state disk.new) file rows) }
+        ensures explained { IsTrue (D.state disk.old).tells
+            → IfErr result (ExplainsFile f (contents (D.state disk.old) f)) }
+        ensures quiet { IsTrue (D.state disk.old).tells
+            → Quiet (D.state disk.old) (D.state disk.new) }
         ensures goes { Goes (D.state disk.old) (D.state disk.new) }
-        ensures cause { IsErrOf result RowFileFault.Failed → Rose (D.state disk.old).faults (D.state disk.new).faults }
+        ensures cause { IsErrOf result RowFileFault.Failed
+            → Rose (D.state disk.old).faults (D.state disk.new).faults }
         ensures well { (IsErrOf result RowFileFault.Failed → ⊥)
             → (D.state disk.new).faults ≡ (D.state disk.old).faults }
     {
@@ -49,12 +53,16 @@ impl RowFile {
 
     /// The row of a key, None exactly where there is none. It reads one block at most.
     pub fn row<D: Disk>(&self, disk: &mut D, key: &[u8]) -> Result<Option<RowCells>, SourceFault>
-        ensures row { IsTrue (D.state disk.old).tells → (rows : List Entry) → Reads (D.state disk.old) self.now rows
+        ensures row { IsTrue (D.state disk.old).tells → (rows : List Entry)
+            → Reads (D.state disk.old) self.now rows
             → IfOk result (λ row. row ≡ find key_cmp key.now rows) }
-        ensures undamaged { IsTrue (D.state disk.old).tells → (rows : List Entry) → Reads (D.state disk.old) self.now rows → IfErr result (λ fault. IsDamaged fault → ⊥) }
-        ensures quiet { IsTrue (D.state disk.old).tells → Quiet (D.state disk.old) (D.state disk.new) }
+        ensures undamaged { IsTrue (D.state disk.old).tells → (rows : List Entry)
+            → Reads (D.state disk.old) self.now rows → IfErr result (λ fault. IsDamaged fault → ⊥) }
+        ensures quiet { IsTrue (D.state disk.old).tells
+            → Quiet (D.state disk.old) (D.state disk.new) }
         ensures goes { Goes (D.state disk.old) (D.state disk.new) }
-        ensures cause { IsErrOf result SourceFault.Failed → Rose (D.state disk.old).faults (D.state disk.new).faults }
+        ensures cause { IsErrOf result SourceFault.Failed
+            → Rose (D.state disk.old).faults (D.state disk.new).faults }
         ensures well { (IsErrOf result SourceFault.Failed → ⊥)
             → (D.state disk.new).faults ≡ (D.state disk.old).faults }
         ensures reads { (D.state disk.new).reads ≤ (D.state disk.old).reads + 1 }

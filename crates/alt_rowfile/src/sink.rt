@@ -36,13 +36,16 @@ impl Sink {
 
     /// Adds bytes at the end.
     pub(crate) fn put<D: Disk>(&mut self, disk: &mut D, bytes: &[u8]) -> Result<(), Failed>
-        requires { IsTrusted (D.state disk.old) → (done : List ℕ) × IsPut (D.state disk.old) self.old done }
-        ensures put { OnOk result (IsTrusted (D.state disk.old) → (done : List ℕ) → IsPut (D.state disk.old) self.old done
+        requires { IsTrusted (D.state disk.old) → (done : List ℕ)
+            × IsPut (D.state disk.old) self.old done }
+        ensures put { OnOk result (IsTrusted (D.state disk.old) → (done : List ℕ)
+            → IsPut (D.state disk.old) self.old done
             → IsPut (D.state disk.new) self.new (done ++ bytes.now)) }
         ensures place { OnOk result (self.new.at ≡ self.old.at + length bytes.now) }
         ensures still { OnErr result (self.new.at ≡ self.old.at) }
         ensures file { self.new.file ≡ self.old.file }
-        ensures any_moment { IsTrusted (D.state disk.old) → Run (D.state disk.old) (D.state disk.new) self.old.file Anything }
+        ensures any_moment { IsTrusted (D.state disk.old)
+            → Run (D.state disk.old) (D.state disk.new) self.old.file Anything }
         ensures goes { Goes (D.state disk.old) (D.state disk.new) }
         ensures cause { OnErr result (Rose (D.state disk.old).faults (D.state disk.new).faults) }
         ensures well { is_ok result ≡ true
@@ -56,12 +59,17 @@ impl Sink {
 
     /// Adds the last bytes and the digest of all, and syncs the file. At Ok it lasts.
     pub(crate) fn close<D: Disk>(self, disk: &mut D, bytes: Vec<u8>) -> Result<(), DiskFault>
-        requires { IsTrusted (D.state disk.old) → (done : List ℕ) × IsPut (D.state disk.old) self done }
-        ensures lasts { OnOk result (IsTrusted (D.state disk.old) → (done : List ℕ) → IsPut (D.state disk.old) self done
-            → Lasts (D.state disk.new) self.file ((done ++ bytes.items) ++ sha256 (done ++ bytes.items))) }
-        ensures any_moment { IsTrusted (D.state disk.old) → Run (D.state disk.old) (D.state disk.new) self.file Anything }
+        requires { IsTrusted (D.state disk.old) → (done : List ℕ)
+            × IsPut (D.state disk.old) self done }
+        ensures lasts { OnOk result (IsTrusted (D.state disk.old) → (done : List ℕ)
+            → IsPut (D.state disk.old) self done
+            → Lasts (D.state disk.new) self.file
+                ((done ++ bytes.items) ++ sha256 (done ++ bytes.items))) }
+        ensures any_moment { IsTrusted (D.state disk.old)
+            → Run (D.state disk.old) (D.state disk.new) self.file Anything }
         ensures goes { Goes (D.state disk.old) (D.state disk.new) }
-        ensures cause { IsErrOf result DiskFault.Failed → Rose (D.state disk.old).faults (D.state disk.new).faults }
+        ensures cause { IsErrOf result DiskFault.Failed
+            → Rose (D.state disk.old).faults (D.state disk.new).faults }
         ensures well { (IsErrOf result DiskFault.Failed → ⊥)
             → (D.state disk.new).faults ≡ (D.state disk.old).faults }
     {

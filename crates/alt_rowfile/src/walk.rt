@@ -52,7 +52,7 @@ impl<'a, D: Disk> RowSource<D> for RowFileWalk<'a> {
                 self.held = held;
                 Ok(())
             }
-            Err(fault) => Err(fault),
+            Err(stop) => Err(stop),
         }
     }
 

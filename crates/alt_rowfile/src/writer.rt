@@ -38,10 +38,13 @@ impl RowFileWriter {
     pub fn make<D: Disk>(alloc: Global, disk: &mut D, f: u32) -> Result<RowFileWriter, DiskFault>
         requires { IsTrusted (D.state disk.old) → (D.state disk.old).file f ≡ None }
         ensures file { IfOk result (λ w. writer_file w ≡ f) }
-        ensures made { IfOk result (λ w. IsTrusted (D.state disk.old) → Writes (D.state disk.new) w []) }
-        ensures any_moment { IsTrusted (D.state disk.old) → Run (D.state disk.old) (D.state disk.new) f Anything }
+        ensures made { IfOk result (λ w. IsTrusted (D.state disk.old)
+            → Writes (D.state disk.new) w []) }
+        ensures any_moment { IsTrusted (D.state disk.old)
+            → Run (D.state disk.old) (D.state disk.new) f Anything }
         ensures goes { Goes (D.state disk.old) (D.state disk.new) }
-        ensures cause { IsErrOf result DiskFault.Failed → Rose (D.state disk.old).faults (D.state disk.new).faults }
+        ensures cause { IsErrOf result DiskFault.Failed
+            → Rose (D.state disk.old).faults (D.state disk.new).faults }
         ensures well { (IsErrOf result DiskFault.Failed → ⊥)
             → (D.state disk.new).faults ≡ (D.state disk.old).faults }
     {
@@ -59,8 +62,11 @@ impl RowFileWriter {
     // Adds a row to the open block.
     fn hold(&mut self, key: &[u8], row: &RowCells) -> Result<(), NoMemory>
         ensures sink { self.new.sink ≡ self.old.sink }
-        ensures held { OnOk result ((s : DiskState) (closed : List (List Entry)) (waiting : List Entry) → WritesTo s self.old closed waiting
-            → length (rows_bytes waiting) < 4096 → T (is_sorted key_cmp (rows_of closed ++ (waiting ++ (key.now, row.now) ∷ [])))
+        ensures held { OnOk result
+            ((s : DiskState) (closed : List (List Entry)) (waiting : List Entry)
+            → WritesTo s self.old closed waiting
+            → length (rows_bytes waiting) < 4096
+                → T (is_sorted key_cmp (rows_of closed ++ (waiting ++ (key.now, row.now) ∷ [])))
             → WritesTo s self.new closed (waiting ++ (key.now, row.now) ∷ [])) }
     {
         let first = self.block.is_empty();
@@ -75,13 +81,18 @@ impl RowFileWriter {
 
     // Writes the open block.
     fn shut<D: Disk>(&mut self, disk: &mut D) -> Result<(), DiskFault>
-        requires { IsTrusted (D.state disk.old) → (closed : List (List Entry)) × (waiting : List Entry) × WritesTo (D.state disk.old) self.old closed waiting }
+        requires { IsTrusted (D.state disk.old) → (closed : List (List Entry))
+            × (waiting : List Entry) × WritesTo (D.state disk.old) self.old closed waiting }
         ensures file { writer_file self.new ≡ writer_file self.old }
-        ensures shut { OnOk result (IsTrusted (D.state disk.old) → (closed : List (List Entry)) (waiting : List Entry) → WritesTo (D.state disk.old) self.old closed waiting
+        ensures shut { OnOk result (IsTrusted (D.state disk.old)
+            → (closed : List (List Entry)) (waiting : List Entry)
+            → WritesTo (D.state disk.old) self.old closed waiting
             → IsBlock waiting → WritesTo (D.state disk.new) self.new (closed ++ waiting ∷ []) []) }
-        ensures any_moment { IsTrusted (D.state disk.old) → Run (D.state disk.old) (D.state disk.new) (writer_file self.old) Anything }
+        ensures any_moment { IsTrusted (D.state disk.old)
+            → Run (D.state disk.old) (D.state disk.new) (writer_file self.old) Anything }
         ensures goes { Goes (D.state disk.old) (D.state disk.new) }
-        ensures cause { IsErrOf result DiskFault.Failed → Rose (D.state disk.old).faults (D.state disk.new).faults }
+        ensures cause { IsErrOf result DiskFault.Failed
+            → Rose (D.state disk.old).faults (D.state disk.new).faults }
         ensures well { (IsErrOf result DiskFault.Failed → ⊥)
             → (D.state disk.new).faults ≡ (D.state disk.old).faults }
     {
@@ -97,13 +108,17 @@ impl RowFileWriter {
 
     /// Writes what waits, the index and the digest, and syncs the file. At Ok it stands in every image.
     pub fn finish<D: Disk>(self, disk: &mut D) -> Result<RowFile, DiskFault>
-        requires { IsTrusted (D.state disk.old) → (rows : List Entry) × Writes (D.state disk.old) self rows }
+        requires { IsTrusted (D.state disk.old) → (rows : List Entry)
+            × Writes (D.state disk.old) self rows }
         ensures file { IfOk result (λ file. file_of file ≡ writer_file self) }
-        ensures finished { IfOk result (λ file. IsTrusted (D.state disk.old) → (rows : List Entry) → Writes (D.state disk.old) self rows
+        ensures finished { IfOk result (λ file. IsTrusted (D.state disk.old) → (rows : List Entry)
+            → Writes (D.state disk.old) self rows
             → Stands (D.state disk.new) file rows) }
-        ensures any_moment { IsTrusted (D.state disk.old) → Run (D.state disk.old) (D.state disk.new) (writer_file self) Anything }
+        ensures any_moment { IsTrusted (D.state disk.old)
+            → Run (D.state disk.old) (D.state disk.new) (writer_file self) Anything }
         ensures goes { Goes (D.state disk.old) (D.state disk.new) }
-        ensures cause { IsErrOf result DiskFault.Failed → Rose (D.state disk.old).faults (D.state disk.new).faults }
+        ensures cause { IsErrOf result DiskFault.Failed
+            → Rose (D.state disk.old).faults (D.state disk.new).faults }
         ensures well { (IsErrOf result DiskFault.Failed → ⊥)
             → (D.state disk.new).faults ≡ (D.state disk.old).faults }
     {
@@ -116,13 +131,18 @@ impl RowFileWriter {
 
     // Writes the open block if it has a row.
     fn shut_last<D: Disk>(&mut self, disk: &mut D) -> Result<(), DiskFault>
-        requires { IsTrusted (D.state disk.old) → (closed : List (List Entry)) × (waiting : List Entry) × WritesTo (D.state disk.old) self.old closed waiting }
+        requires { IsTrusted (D.state disk.old) → (closed : List (List Entry))
+            × (waiting : List Entry) × WritesTo (D.state disk.old) self.old closed waiting }
         ensures file { writer_file self.new ≡ writer_file self.old }
-        ensures shut { OnOk result (IsTrusted (D.state disk.old) → (closed : List (List Entry)) (waiting : List Entry) → WritesTo (D.state disk.old) self.old closed waiting
+        ensures shut { OnOk result (IsTrusted (D.state disk.old)
+            → (closed : List (List Entry)) (waiting : List Entry)
+            → WritesTo (D.state disk.old) self.old closed waiting
             → WritesTo (D.state disk.new) self.new (closed ++ piece waiting) []) }
-        ensures any_moment { IsTrusted (D.state disk.old) → Run (D.state disk.old) (D.state disk.new) (writer_file self.old) Anything }
+        ensures any_moment { IsTrusted (D.state disk.old)
+            → Run (D.state disk.old) (D.state disk.new) (writer_file self.old) Anything }
         ensures goes { Goes (D.state disk.old) (D.state disk.new) }
-        ensures cause { IsErrOf result DiskFault.Failed → Rose (D.state disk.old).faults (D.state disk.new).faults }
+        ensures cause { IsErrOf result DiskFault.Failed
+            → Rose (D.state disk.old).faults (D.state disk.new).faults }
         ensures well { (IsErrOf result DiskFault.Failed → ⊥)
             → (D.state disk.new).faults ≡ (D.state disk.old).faults }
     {
@@ -134,13 +154,17 @@ impl RowFileWriter {
 
     // Writes the index and the digest, and syncs the file.
     fn close<D: Disk>(self, disk: &mut D) -> Result<RowFile, DiskFault>
-        requires { IsTrusted (D.state disk.old) → (closed : List (List Entry)) × WritesTo (D.state disk.old) self closed [] }
+        requires { IsTrusted (D.state disk.old) → (closed : List (List Entry))
+            × WritesTo (D.state disk.old) self closed [] }
         ensures file { IfOk result (λ file. file_of file ≡ writer_file self) }
-        ensures closed { IfOk result (λ file. IsTrusted (D.state disk.old) → (closed : List (List Entry)) → WritesTo (D.state disk.old) self closed []
+        ensures closed { IfOk result (λ file. IsTrusted (D.state disk.old)
+            → (closed : List (List Entry)) → WritesTo (D.state disk.old) self closed []
             → AreBlocks closed → Stands (D.state disk.new) file (rows_of closed)) }
-        ensures any_moment { IsTrusted (D.state disk.old) → Run (D.state disk.old) (D.state disk.new) (writer_file self) Anything }
+        ensures any_moment { IsTrusted (D.state disk.old)
+            → Run (D.state disk.old) (D.state disk.new) (writer_file self) Anything }
         ensures goes { Goes (D.state disk.old) (D.state disk.new) }
-        ensures cause { IsErrOf result DiskFault.Failed → Rose (D.state disk.old).faults (D.state disk.new).faults }
+        ensures cause { IsErrOf result DiskFault.Failed
+            → Rose (D.state disk.old).faults (D.state disk.new).faults }
         ensures well { (IsErrOf result DiskFault.Failed → ⊥)
             → (D.state disk.new).faults ≡ (D.state disk.old).faults }
     {
@@ -183,8 +207,15 @@ impl<D: Disk> RowWriter<D> for RowFileWriter {
 }
 
 // The mark of a block, where its first row is added.
-fn mark_first(alloc: Global, marks: &mut Vec<(u64, Bytes)>, first: bool, at: u64, key: &[u8]) -> Result<(), NoMemory>
-    ensures first { OnOk result (first ≡ true → marks.new.items ≡ marks.old.items ++ (at, key.now) ∷ []) }
+fn mark_first(
+    alloc: Global,
+    marks: &mut Vec<(u64, Bytes)>,
+    first: bool,
+    at: u64,
+    key: &[u8],
+) -> Result<(), NoMemory>
+    ensures first { OnOk result (first ≡ true
+        → marks.new.items ≡ marks.old.items ++ (at, key.now) ∷ []) }
     ensures other { OnOk result (first ≡ false → marks.new.items ≡ marks.old.items) }
 {
     if first {

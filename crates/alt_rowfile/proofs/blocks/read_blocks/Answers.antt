@@ -1,5 +1,5 @@
 -- One block more, or none that could be the next.
-use Rattle.std.proofs.Common.{◌≡◌, ◌∙◌, ◌+◌, ◌-◌, ◌≤◌, ◌<◌, refl, sym, ap, subst, arith, take, drop, length, List, ℕ, IsTrue, None, Some}
+use Rattle.std.proofs.Common.{◌∙◌, refl, ap, subst, arith, take, drop, length, List, ℕ, IsTrue}
 use Rattle.alt_disk.specs.Disk.{DiskState, contents}
 use Rattle.alt_disk.specs.declared.disk.DiskFault.TheVariants.{Failed}
 use Rattle.alt_disk.proofs.Calls.{goes_refl, goes_on}
@@ -17,7 +17,9 @@ each-init g c = record {
   well = refl;
   goes = goes_refl (g.D.Disk.state c.args.disk.now);
   quiet = λ told. quiet_start (g.D.Disk.state c.args.disk.now);
-  read = λ told room. no_blocks_yet (drop 8 (take c.args.end (contents (g.D.Disk.state c.args.disk.now) c.args.f))) c.new-marks.result.items c.new-marks.ensures.items;
+  read = λ told room. no_blocks_yet
+      (drop 8 (take c.args.end (contents (g.D.Disk.state c.args.disk.now) c.args.f)))
+      c.new-marks.result.items c.new-marks.ensures.items;
 }
 
 pub each-preserved : goal.each-preserved
@@ -41,12 +43,20 @@ each-preserved g c =
       read = λ told room.
           let bytes = contents a f in
           let same = same_bytes a b f (inv.quiet told) in
-          let found = rw c.in-Some.is at (c.in_ok-read.ensures.some (told_b told) (omega (arith, room, ap length same))) in
-          let p = subst (λ (l : List ℕ). (x : List Entry) × IsNext c.each.after (drop at (take end l)) (drop next (take end l)) x × IsReadBlock c.in-Some.read.first c.in-Some.read.last c.in-Some.read.rows x) same found in
+          let found = rw c.in-Some.is at
+              (c.in_ok-read.ensures.some (told_b told) (omega (arith, room, ap length same))) in
+          let p = subst (λ (l : List ℕ). (x : List Entry)
+              × IsNext c.each.after (drop at (take end l)) (drop next (take end l)) x
+              × IsReadBlock c.in-Some.read.first c.in-Some.read.last c.in-Some.read.rows x)
+              same found in
           let long = length_up_to bytes at end room in
           let left = length_up_to bytes next end room in
-          one_block_more (drop 8 (take end bytes)) (drop at (take end bytes)) (drop next (take end bytes)) at next c.each.after c.each.marks.items c.push.new.self.items c.each.rows c.in-Some.read.rows
-          c.in-Some.read.first c.in-Some.read.last p.0 (inv.read told room) (omega (arith, long, c.each-test.true)) p.1 p.2 (omega (arith, long, left, place.0, place.1)) c.in_ok-push-in-Some.ensures.items;
+          one_block_more (drop 8 (take end bytes)) (drop at (take end bytes))
+              (drop next (take end bytes))
+              at next c.each.after c.each.marks.items c.push.new.self.items c.each.rows c.in-Some.read.rows
+          c.in-Some.read.first c.in-Some.read.last p.0 (inv.read told room)
+              (omega (arith, long, c.each-test.true)) p.1 p.2
+              (omega (arith, long, left, place.0, place.1)) c.in_ok-push-in-Some.ensures.items;
     }
 
 pub returns-in-None-clause-none : goal.returns-in-None-clause-none
@@ -59,6 +69,11 @@ returns-in-None-clause-none g c = λ told room.
     let inv = c.each.invariant in
     let bytes = contents a f in
     let same = same_bytes a b f (inv.quiet told) in
-    let none = rw c.in-None.is at (c.in_ok-read.ensures.none (told_on a b inv.goes told) (omega (arith, room, ap length same))) in
-    no_more_blocks (drop 8 (take end bytes)) (drop at (take end bytes)) at c.each.after c.each.marks.items c.each.rows (inv.read told room) (omega (arith, length_up_to bytes at end room, c.each-test.true))
-    (subst (λ (l : List ℕ). (x : List Entry) (behind : List ℕ) → IsNext c.each.after (drop at (take end l)) behind x → ⊥) same none)
+    let none = rw c.in-None.is at
+        (c.in_ok-read.ensures.none (told_on a b inv.goes told)
+        (omega (arith, room, ap length same))) in
+    no_more_blocks (drop 8 (take end bytes))
+        (drop at (take end bytes)) at c.each.after c.each.marks.items c.each.rows
+        (inv.read told room) (omega (arith, length_up_to bytes at end room, c.each-test.true))
+    (subst (λ (l : List ℕ). (x : List Entry) (behind : List ℕ)
+        → IsNext c.each.after (drop at (take end l)) behind x → ⊥) same none)

@@ -15,7 +15,9 @@ invariant-each g l =
       goes : Goes (state l.fn.disk) (state l.disk);
       quiet : IsTrue (state l.fn.disk).tells → Quiet (state l.fn.disk) (state l.disk);
       read : IsTrue (state l.fn.disk).tells → l.end ≤ length (contents (state l.fn.disk) l.f)
-          → BlocksSoFar (drop 8 (take l.end (contents (state l.fn.disk) l.f))) (drop l.at (take l.end (contents (state l.fn.disk) l.f))) l.at l.after l.marks.items l.rows;
+          → BlocksSoFar (drop 8 (take l.end (contents (state l.fn.disk) l.f)))
+              (drop l.at (take l.end (contents (state l.fn.disk) l.f)))
+              l.at l.after l.marks.items l.rows;
     }
 
 abbrev pub decreases-each : goal.decreases-each

@@ -20,4 +20,5 @@ returns-then-place-size-clause-none c = λ bytes size head last.
     (λ low high. omega (arith, high, size, c.if-place-size.true))
 
 pub returns-clause-some : goal.returns-clause-some
-returns-clause-some c = (c.is_header.ensures.yes c.if-not-is_header.false, sym c.number_of-place.ensures.number)
+returns-clause-some c =
+    (c.is_header.ensures.yes c.if-not-is_header.false, sym c.number_of-place.ensures.number)

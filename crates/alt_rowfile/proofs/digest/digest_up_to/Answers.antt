@@ -1,5 +1,5 @@
 -- One piece more.
-use Rattle.std.proofs.Common.{◌≡◌, ◌∙◌, ◌+◌, ◌++◌, sym, ap, subst, arith, take, drop, List, ℕ, IsTrue}
+use Rattle.std.proofs.Common.{◌≡◌, ◌∙◌, ◌+◌, ◌++◌, ap, subst, arith, take, drop, List, ℕ, IsTrue}
 use Rattle.sha2.specs.Hashers.{Holds256}
 use Rattle.alt_disk.specs.Disk.{DiskState, contents}
 use Rattle.alt_disk.proofs.Calls.{goes_on}
@@ -27,6 +27,9 @@ pieces-preserved g c =
           let n = c.min-count.result in
           let piece = rw c.in-Some.is at (c.in_ok-piece.ensures.bytes (told_b told)) in
           let whole : take at bytes ++ c.as_slice.result.now ≡ take (at + n) bytes =
-          ap (λ (l : List ℕ). take at bytes ++ l) (c.as_slice.ensures.value ∙ piece ∙ ap (λ (l : List ℕ). take n (drop at l)) (same_bytes a b f (inv.quiet told))) ∙ one_piece bytes at n in
-          subst (Holds256 c.update.new.self) whole (c.update.ensures (take at bytes) (inv.holds told));
+          ap (λ (l : List ℕ). take at bytes ++ l) (c.as_slice.ensures.value ∙ piece
+              ∙ ap (λ (l : List ℕ). take n (drop at l)) (same_bytes a b f (inv.quiet told)))
+              ∙ one_piece bytes at n in
+          subst (Holds256 c.update.new.self) whole
+              (c.update.ensures (take at bytes) (inv.holds told));
     }

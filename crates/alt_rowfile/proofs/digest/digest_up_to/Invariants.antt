@@ -13,7 +13,8 @@ invariant-pieces g l =
       well : (state l.disk).faults ≡ (state l.fn.disk).faults;
       goes : Goes (state l.fn.disk) (state l.disk);
       quiet : IsTrue (state l.fn.disk).tells → Quiet (state l.fn.disk) (state l.disk);
-      holds : IsTrue (state l.fn.disk).tells → Holds256 l.hasher (take l.at (contents (state l.fn.disk) l.f));
+      holds : IsTrue (state l.fn.disk).tells
+          → Holds256 l.hasher (take l.at (contents (state l.fn.disk) l.f));
     }
 
 abbrev pub decreases-pieces : goal.decreases-pieces

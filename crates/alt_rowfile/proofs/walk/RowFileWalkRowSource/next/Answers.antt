@@ -1,8 +1,6 @@
 -- The row in hand is given.
 use Rattle.std.proofs.Common.{arith}
 use Rattle.alt_disk.specs.Disk.{DiskState}
-use Rattle.alt_cells.specs.declared.source.SourceFault.TheVariants.{Failed}
-use Rattle.alt_rowfile.proofs.StreamLaws.{ok_is_none}
 use Rattle.alt_rowfile.proofs.WalkLaws.{popped_any}
 use Rattle.alt_rowfile.proofs.WalkCalls.{walk_keeps, walk_fails, well_failed}
 use Rattle.alt_rowfile.proofs.walk.RowFileWalkRowSource.next.Goals as goal
@@ -16,18 +14,24 @@ returns-in-Ok-clause-gives g c = λ told rows l.
 
 pub returns-in-Ok-clause-keeps : goal.returns-in-Ok-clause-keeps
 returns-in-Ok-clause-keeps g c =
-    walk_keeps (g.D.Disk.state c.args.disk.now) (g.D.Disk.state c.refill.new.disk) c.args.self.now _ c.in-Ok.ensures.file c.in-Ok.ensures.goes c.in-Ok.ensures.quiet
+    walk_keeps (g.D.Disk.state c.args.disk.now)
+        (g.D.Disk.state c.refill.new.disk)
+        c.args.self.now _ c.in-Ok.ensures.file c.in-Ok.ensures.goes c.in-Ok.ensures.quiet
 
 pub returns-in-Ok-clause-well : goal.returns-in-Ok-clause-well
 returns-in-Ok-clause-well g c = λ t. c.in-Ok.ensures.well (λ e. cc e)
 
 pub returns-in-Err-clause-keeps : goal.returns-in-Err-clause-keeps
 returns-in-Err-clause-keeps g c =
-    walk_keeps (g.D.Disk.state c.args.disk.now) (g.D.Disk.state c.refill.new.disk) c.args.self.now _ c.in-Err.ensures.file c.in-Err.ensures.goes c.in-Err.ensures.quiet
+    walk_keeps (g.D.Disk.state c.args.disk.now)
+        (g.D.Disk.state c.refill.new.disk)
+        c.args.self.now _ c.in-Err.ensures.file c.in-Err.ensures.goes c.in-Err.ensures.quiet
 
 pub returns-in-Err-clause-well : goal.returns-in-Err-clause-well
 returns-in-Err-clause-well g c = well_failed c.in-Err.fault c.in-Err.ensures.well
 
 pub returns-in-Err-clause-fails : goal.returns-in-Err-clause-fails
 returns-in-Err-clause-fails g c =
-    walk_fails (g.D.Disk.state c.args.disk.now) (g.D.Disk.state c.refill.new.disk) c.args.self.now c.in-Err.fault c.in-Err.ensures.cause c.in-Err.ensures.undamaged
+    walk_fails (g.D.Disk.state c.args.disk.now)
+        (g.D.Disk.state c.refill.new.disk)
+        c.args.self.now c.in-Err.fault c.in-Err.ensures.cause c.in-Err.ensures.undamaged

@@ -185,10 +185,15 @@ past n [] = []
 past n ((Index i ∷ [], Some t) ∷ es) = if nat_le n i then entries.put nat_cmp i t (past n es) else past n es
 past n (_ ∷ es) = past n es
 
+-- the pairs with a value at a name; a map has no empty name, and no text has one either
+abbrev pub put_name : List ℕ → Tree → List Pair → List Pair
+put_name [] t ps = ps
+put_name (c ∷ cs) t ps = with_pair (c ∷ cs) t ps
+
 -- the pairs with what is put at a name
 abbrev pub put_names : List Edit → List Pair → List Pair
 put_names [] ps = ps
-put_names ((Name name ∷ [], Some t) ∷ es) ps = with_pair name t (put_names es ps)
+put_names ((Name name ∷ [], Some t) ∷ es) ps = put_name name t (put_names es ps)
 put_names (_ ∷ es) ps = put_names es ps
 
 -- what becomes of a place where something was: it is put anew, taken out, or changed within

@@ -1,0 +1,12 @@
+pub mod All
+pub mod Groups
+pub mod Here
+pub mod Lists
+pub mod Maps
+pub mod Pieces
+pub mod Rebuilt
+pub mod Smaller
+pub mod Steps
+pub mod Taking
+pub mod TermLaws
+pub mod Under

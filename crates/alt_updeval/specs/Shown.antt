@@ -1,0 +1,122 @@
+-- What the program's values stand for. Private contracts alone cite it.
+use Rattle.std.specs.Prelude.{ℕ, Bool, true, false, List, [], ◌∷◌, ◌++◌, map, Option, Some, None, option_map, is_none, nat_le, if◌then◌else◌, Result, Ok, Err, ℤ, Vec}
+use Rattle.std.specs.List.{filter}
+use Rattle.std.specs.declared.alloc.Global.{Global}
+use denote.Ref.{Bor}
+use Rattle.alt_value.specs.Item.{at_name, with_pair}
+use Rattle.alt_value.specs.Stands.{tree_of}
+use Rattle.alt_value.specs.Tree.{Tree, N_tree, SS_tree, NS_tree, BS_tree, L_tree, Pair, trees_of, elements}
+use Rattle.alt_expr.specs.Updated.{Edit, Fault, wrong_kind, put_here, under}
+use Rattle.alt_expr.specs.declared.path.PathPart.{PathPart}
+use Rattle.alt_expr.specs.declared.path.PathPart.TheVariants.{Name, Index}
+use Rattle.alt_updeval.specs.declared.made.Made.{Made}
+use Rattle.alt_updeval.specs.declared.made.Made.TheVariants.{Borrowed, Joined, Number, Texts, Numbers, Binaries}
+
+-- ---- values
+
+-- the elements of lists, one list behind another
+abbrev pub joined_pieces : List (Bor (List Tree)) → List Tree
+joined_pieces [] = []
+joined_pieces (p ∷ ps) = p.now ++ joined_pieces ps
+
+-- the value that a term stands for
+abbrev pub made_tree : Made → Tree
+made_tree (Borrowed a) = tree_of a.now
+made_tree (Joined pieces) = L_tree (trees_of (joined_pieces pieces.items))
+made_tree (Number z) = N_tree z
+made_tree (Texts ss) = SS_tree ss
+made_tree (Numbers zs) = NS_tree zs
+made_tree (Binaries bs) = BS_tree bs
+
+-- the elements of a list
+abbrev pub list_in : Tree → Result (List Tree) Fault
+list_in (L_tree ts) = Ok (elements ts)
+list_in _ = Err wrong_kind
+
+-- the number that a value is
+abbrev pub number_in : Tree → Option ℤ
+number_in (N_tree z) = Some z
+number_in _ = None
+
+-- ---- edits
+
+-- what is changed behind the first step
+abbrev pub shown : Bor (List PathPart) × Option Made → Edit
+shown e = (e.0.now, option_map made_tree e.1)
+
+-- an edit of an attribute, by its name and what stands behind it
+abbrev pub shown_at : Bor (List ℕ) × (Bor (List PathPart) × Option Made) → Edit
+shown_at e = (Name e.0.now ∷ e.1.0.now, option_map made_tree e.1.1)
+
+-- the same of a borrowed value
+abbrev pub way_of : Bor (List PathPart) × Option (Bor Made) → Edit
+way_of w = (w.0.now, option_map (λ m. made_tree m.now) w.1)
+
+-- an edit that begins with a name: it, and what stands behind it
+abbrev pub way_at_name : Bor (List ℕ) × (Bor (List PathPart) × Option (Bor Made)) → List ℕ × Edit
+way_at_name p = (p.0.now, way_of p.1)
+
+-- the same of one that begins with an index
+abbrev pub way_at_index : ℕ × (Bor (List PathPart) × Option (Bor Made)) → ℕ × Edit
+way_at_index p = (p.0, way_of p.1)
+
+-- the edits of a group, or none
+abbrev pub ways_in : Option (Bor (Vec (Bor (List PathPart) × Option (Bor Made)) Global)) → List Edit
+ways_in None = []
+ways_in (Some v) = map way_of v.now.items
+
+-- something is put at this very place
+abbrev pub is_put : Edit → Bool
+is_put ([], Some t) = true
+is_put _ = false
+
+-- this very place is taken out
+abbrev pub is_out : Edit → Bool
+is_out ([], None) = true
+is_out _ = false
+
+-- the only change is that of the place itself
+abbrev pub is_whole : List Edit → Bool
+is_whole (([], v) ∷ []) = true
+is_whole _ = false
+
+-- ---- edits by their first step
+
+-- the edits that begin with a name: it, and what stands behind it
+abbrev pub named_edits : List Edit → List (List ℕ × Edit)
+named_edits [] = []
+named_edits ((Name name ∷ ps, v) ∷ es) = (name, (ps, v)) ∷ named_edits es
+named_edits (_ ∷ es) = named_edits es
+
+-- the same of those that begin with an index
+abbrev pub indexed_edits : List Edit → List (ℕ × Edit)
+indexed_edits [] = []
+indexed_edits ((Index i ∷ ps, v) ∷ es) = (i, (ps, v)) ∷ indexed_edits es
+indexed_edits (_ ∷ es) = indexed_edits es
+
+-- those of a name that the map doesn't have
+abbrev pub new_names : List Pair → List (List ℕ × Edit) → List (List ℕ × Edit)
+new_names ps es = filter (λ e. is_none (at_name e.0 ps)) es
+
+-- those of an index past the end
+abbrev pub past_end : ℕ → List (ℕ × Edit) → List (ℕ × Edit)
+past_end n es = filter (λ e. nat_le n e.0) es
+
+-- what edits put at a name that isn't empty
+abbrev pub put_at : List Edit → List ℕ → Option Tree
+put_at es [] = None
+put_at es (c ∷ cs) = put_here (under (Name (c ∷ cs)) es)
+
+-- the same where the map doesn't have the name
+abbrev pub new_at : List Edit → List Pair → List ℕ → Option Tree
+new_at es ps name = if is_none (at_name name ps) then put_at es name else None
+
+-- the map with that value at the name, if there is one to put
+abbrev pub put_if : List ℕ → Option Tree → List Pair → List Pair
+put_if name None ps = ps
+put_if name (Some t) ps = with_pair name t ps
+
+-- the same where no name is empty
+abbrev pub put_new_if : List ℕ → Option Tree → List Pair → List Pair
+put_new_if [] o ps = ps
+put_new_if (c ∷ cs) o ps = put_if (c ∷ cs) o ps

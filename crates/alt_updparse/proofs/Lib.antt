@@ -1,0 +1,9 @@
+pub mod Begins
+pub mod Behind
+pub mod Complete
+pub mod Keywords
+pub mod LongLaws
+pub mod Prefixes
+pub mod Sound
+pub mod Targets
+pub mod Whole

@@ -1,0 +1,74 @@
+//! Single actions, read from tokens.
+
+ghost use Rattle.std.specs.Prelude.{◌≡◌};
+ghost use Rattle.alt_expr.specs.Reader.{left, Reads};
+ghost use Rattle.alt_expr.specs.Lookups.{given_to};
+ghost use Rattle.alt_updparse.specs.Reader as spec;
+
+use crate::term::sum;
+use alt_expr::{Action, Cursor, ExprFault, Keyword, Lookups, Mark, Token, read_path};
+use alt_value::Attr;
+
+/// An action of the clause that has the keyword.
+#[tactic(auto, unfolding(crate::specs::Reader::action))]
+pub(crate) fn action(
+    clause: Keyword,
+    given: &Lookups<'_>,
+    tokens: &mut Cursor<'_>,
+) -> Result<Action, ExprFault>
+    ensures { Reads (spec.action (given_to given.now) clause (left tokens.old)) result (left tokens.new) }
+{
+    match clause {
+        Keyword::Set => set(given, tokens),
+        Keyword::Remove => remove(given, tokens),
+        Keyword::Add => add(given, tokens),
+        Keyword::Delete => delete(given, tokens),
+        _ => Err(ExprFault::Syntax),
+    }
+}
+
+#[tactic(auto, unfolding(crate::specs::Reader::set))]
+fn set(given: &Lookups<'_>, tokens: &mut Cursor<'_>) -> Result<Action, ExprFault>
+    ensures { Reads (spec.set (given_to given.now) (left tokens.old)) result (left tokens.new) }
+{
+    let path = read_path(given.alloc, given.names, tokens)?;
+    tokens.expect(Mark::Equal)?;
+    Ok(Action::Set(path, sum(given, tokens)?))
+}
+
+#[tactic(auto, unfolding(crate::specs::Reader::remove))]
+fn remove(given: &Lookups<'_>, tokens: &mut Cursor<'_>) -> Result<Action, ExprFault>
+    ensures { Reads (spec.remove (given_to given.now) (left tokens.old)) result (left tokens.new) }
+{
+    Ok(Action::Remove(read_path(given.alloc, given.names, tokens)?))
+}
+
+#[tactic(auto, unfolding(crate::specs::Reader::add))]
+fn add(given: &Lookups<'_>, tokens: &mut Cursor<'_>) -> Result<Action, ExprFault>
+    ensures { Reads (spec.add (given_to given.now) (left tokens.old)) result (left tokens.new) }
+{
+    let name = tokens.name(given.alloc, given.names)?;
+    Ok(Action::Add(name, value(given, tokens)?))
+}
+
+#[tactic(auto, unfolding(crate::specs::Reader::delete))]
+fn delete(given: &Lookups<'_>, tokens: &mut Cursor<'_>) -> Result<Action, ExprFault>
+    ensures { Reads (spec.delete (given_to given.now) (left tokens.old)) result (left tokens.new) }
+{
+    let name = tokens.name(given.alloc, given.names)?;
+    Ok(Action::Delete(name, value(given, tokens)?))
+}
+
+/// The value of a `:` word.
+#[tactic(auto, unfolding(crate::specs::Reader::value))]
+fn value(given: &Lookups<'_>, tokens: &mut Cursor<'_>) -> Result<Attr, ExprFault>
+    ensures { Reads (spec.value (given_to given.now) (left tokens.old)) result (left tokens.new) }
+{
+    match tokens.peek() {
+        Some(Token::ColonWord(word)) => {
+            tokens.skip(1);
+            Ok(given.values.copied(word)?)
+        }
+        _ => Err(ExprFault::Syntax),
+    }
+}

@@ -1,5 +1,5 @@
 -- All edits of an update, and all its changes: one more.
-use Rattle.std.proofs.Common.{◌≡◌, refl, sym, ap, ◌∙◌, ℕ, suc, ◌+◌, ◌<◌, ◌≤◌, Bool, true, false, cond, ◌&&◌, ◌||◌, List, [], ◌∷◌, ◌++◌, map, take, drop, drop-cons, add-one, length, get_or, Option, Some, None, Vec, Global, Ok, Err}
+use Rattle.std.proofs.Common.{◌≡◌, refl, sym, ap, ◌∙◌, ℕ, suc, ◌+◌, ◌<◌, Bool, true, false, cond, ◌&&◌, ◌||◌, List, [], ◌∷◌, ◌++◌, map, drop, drop-cons, add-one, length, get_or, Option, Some, None, Vec, Global, Ok, Err}
 use Rattle.std.specs.Prelude.{Result, option_map, filter, slice_get, if◌then◌else◌}
 use Rattle.std.specs.List.{list_any}
 use Rattle.std.specs.List.Sorted.{IsStrictlySortedBy}
@@ -8,7 +8,7 @@ use Rattle.std.specs.Option.{option_map_or}
 use Rattle.std.specs.Str.{bytes_eq}
 use Rattle.std.specs.Ordering.{eq_by_cmp}
 use Rattle.std.specs.Cmp.Lexicographic.{texts_ties}
-use Rattle.std.proofs.lemmas.List.{append_assoc, append-nil}
+use Rattle.std.proofs.lemmas.List.{append_assoc}
 use denote.Ref.{Bor}
 use Rattle.alt_value.specs.Members.{text_order}
 use Rattle.alt_value.specs.Stands.{tree_of}
@@ -24,7 +24,7 @@ use Rattle.alt_updeval.specs.declared.made.Made.{Made}
 use Rattle.alt_updeval.specs.declared.update.AttrChange.{AttrChange}
 use Rattle.alt_updeval.specs.Changes.{changed_by}
 use Rattle.alt_updeval.specs.Shown.{shown, shown_at, named_edits}
-use Rattle.alt_updeval.proofs.Groups.{any_more, group_at, no_group}
+use Rattle.alt_updeval.proofs.Groups.{group_at, no_group}
 use Rattle.alt_updeval.proofs.Maps.{equal}
 use Rattle.alt_updeval.proofs.Steps.{str_cmp}
 use Rattle.alt_updeval.proofs.Under.{changed-none, named-under}

@@ -1,5 +1,5 @@
 -- Edits of one place, one after another.
-use Rattle.std.proofs.Common.{◌≡◌, refl, sym, ap, ◌∙◌, ℕ, Bool, true, false, ◌||◌, cond, List, [], ◌∷◌, ◌++◌, map, length, Option, Some, None}
+use Rattle.std.proofs.Common.{◌≡◌, refl, sym, ap, ◌∙◌, ℕ, true, false, ◌||◌, cond, List, [], ◌∷◌, ◌++◌, map, length, Option, Some, None}
 use Rattle.alt_value.specs.Tree.{Tree, L_tree, M_tree, trees_of, elements}
 use Rattle.alt_value.proofs.Trees.{elements-trees_of}
 use Rattle.alt_expr.specs.Updated.{Edit, put_here, is_taken, outcome, past, changed, changed_elements, after}

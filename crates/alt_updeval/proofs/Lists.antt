@@ -1,20 +1,19 @@
 -- A list with edits within it, by the indexes that they name.
-use Rattle.std.proofs.Common.{◌≡◌, ◌≢◌, refl, sym, ap, subst, ◌∙◌, ℕ, zero, suc, ◌+◌, ◌<◌, ◌≤◌, Bool, true, false, cond, ◌&&◌, T, List, [], ◌∷◌, ◌++◌, map, take, length, Option, Some, None, arith}
-use Rattle.std.specs.Prelude.{⊤, option_to_list, option_and_then, slice_get, nat_le, ◌==◌, if◌then◌else◌}
-use Rattle.std.specs.List.{AllByRecursion, filter}
+use Rattle.std.proofs.Common.{◌≡◌, refl, sym, ap, ◌∙◌, ℕ, zero, suc, ◌+◌, ◌≤◌, Bool, true, false, cond, T, List, [], ◌∷◌, ◌++◌, map, take, length, Option, Some, None, arith}
+use Rattle.std.specs.Prelude.{option_to_list, nat_le, ◌==◌, if◌then◌else◌}
+use Rattle.std.specs.List.{AllByRecursion}
 use Rattle.std.specs.List.Sorted.{IsStrictlySortedBy}
 use Rattle.std.specs.Map.{lookup, keys_of}
 use Rattle.std.specs.Option.{option_or}
-use Rattle.std.specs.Ordering.{eq_by_cmp, is_eq, is_lt, nat_cmp}
-use Rattle.std.specs.Cmp.{nat_cmp_total, unsigned_ties, nat_eq_equiv}
+use Rattle.std.specs.Ordering.{eq_by_cmp, is_eq, nat_cmp}
+use Rattle.std.specs.Cmp.{nat_cmp_total, unsigned_ties}
 use Rattle.std.specs.FinMap.{nat_cmp-IsAntisymmetric}
 use Rattle.std.specs.FinMap.Entries.{find, put, below_all, is_sorted, is_sorted-put, find-put, same_entries}
 use Rattle.std.specs.declared.cmp.Ordering.{Ordering}
 use Rattle.std.specs.declared.cmp.Ordering.TheVariants.{Less, Equal, Greater}
 use Rattle.std.proofs.lemmas.List.{append_assoc, append-nil, map-append}
-use Rattle.std.proofs.lemmas.Bool.{leb-true, leb-false}
-use Rattle.alt_value.proofs.Places.{first, second, both, less, is_less}
-use Rattle.alt_value.specs.Tree.{Tree, Trees, no_trees, tree_then, trees_of, elements}
+use Rattle.alt_value.proofs.Places.{both, is_less}
+use Rattle.alt_value.specs.Tree.{Tree, Trees, trees_of, elements}
 use Rattle.alt_expr.specs.declared.path.PathPart.TheVariants.{Name, Index}
 use Rattle.alt_expr.specs.Projected.{element_then}
 use Rattle.alt_expr.specs.Updated.{Edit, under, changed, changed_elements, put_here, past}

@@ -1,6 +1,6 @@
 -- A map with edits within it, name by name.
-use Rattle.std.proofs.Common.{◌≡◌, refl, sym, ap, subst, ◌∙◌, ℕ, zero, suc, ◌+◌, ◌<◌, Bool, true, false, cond, ◌&&◌, T, List, [], ◌∷◌, ◌++◌, map, take, length, Option, Some, None, arith}
-use Rattle.std.specs.Prelude.{option_and_then, slice_get, filter, is_none, if◌then◌else◌}
+use Rattle.std.proofs.Common.{◌≡◌, refl, sym, ap, ◌∙◌, ℕ, zero, suc, ◌+◌, ◌<◌, Bool, true, false, cond, T, List, [], ◌∷◌, ◌++◌, take, length, Option, Some, None, arith}
+use Rattle.std.specs.Prelude.{option_and_then, slice_get, is_none, if◌then◌else◌}
 use Rattle.std.specs.Option.{option_or}
 use Rattle.std.specs.Ordering.{eq_by_cmp, is_eq, is_lt}
 use Rattle.std.specs.Str.{bytes_eq}
@@ -8,18 +8,18 @@ use Rattle.std.specs.Cmp.Lexicographic.{texts_ties}
 use Rattle.std.specs.FinMap.Entries.{find-put, find-append, below_all, is_sorted, is_sorted-put, same_entries}
 use Rattle.std.specs.declared.cmp.Ordering.{Ordering}
 use Rattle.std.specs.declared.cmp.Ordering.TheVariants.{Less, Equal, Greater}
-use Rattle.std.proofs.lemmas.Option.{none-some, same_Some}
-use Rattle.alt_value.specs.Item.{IsItem, at_name, with_pair}
+use Rattle.std.proofs.lemmas.Option.{same_Some}
+use Rattle.alt_value.specs.Item.{IsItem, at_name}
 use Rattle.alt_value.specs.Members.{text_order}
-use Rattle.alt_value.specs.Tree.{Tree, Fields, no_fields, field_then, Pair, fields_of, pairs}
+use Rattle.alt_value.specs.Tree.{Tree, Fields, Pair, fields_of, pairs}
 use Rattle.alt_value.proofs.Places.{first, second, both, less, turned}
 use Rattle.alt_value.proofs.Texts.{text_total, text_apart}
 use Rattle.alt_expr.specs.declared.path.PathPart.{PathPart}
 use Rattle.alt_expr.specs.declared.path.PathPart.TheVariants.{Name, Index}
 use Rattle.alt_expr.specs.Projected.{pair_then}
 use Rattle.alt_expr.specs.Updated.{Edit, under, changed, changed_fields, put_here, put_name, put_names}
-use Rattle.alt_updeval.specs.Shown.{named_edits, new_names, put_at, new_at, put_if, put_new_if}
-use Rattle.alt_updeval.proofs.Under.{at_key, same_name, named-under, put-changed}
+use Rattle.alt_updeval.specs.Shown.{put_at, new_at, put_if, put_new_if}
+use Rattle.alt_updeval.proofs.Under.{put-changed}
 
 pub equal : (r : Ordering) → is_eq r ≡ true → r ≡ Equal
 equal Less e = cc

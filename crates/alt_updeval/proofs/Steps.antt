@@ -19,7 +19,7 @@ use Rattle.alt_expr.specs.declared.path.PathPart.{PathPart}
 use Rattle.alt_expr.specs.declared.path.PathPart.TheVariants.{Name, Index}
 use Rattle.alt_expr.specs.Updated.{Edit, under, changed, changed_elements, put_here, past}
 use Rattle.alt_updeval.specs.declared.made.Made.{Made}
-use Rattle.alt_updeval.specs.Shown.{way_of, way_at_name, way_at_index, ways_in, named_edits, indexed_edits, new_names, past_end, put_at, new_at, put_if, put_new_if}
+use Rattle.alt_updeval.specs.Shown.{way_of, way_at_name, way_at_index, ways_in, named_edits, indexed_edits, new_names, past_end, put_at, new_at, put_new_if}
 use Rattle.alt_updeval.proofs.Groups.{any_more, commute, group_at, no_group}
 use Rattle.alt_updeval.proofs.Lists.{walked, walked-more, walked-elements, puts, puts-more, puts-past, edits_of, past-under}
 use Rattle.alt_updeval.proofs.Maps.{Seen, seen_more, put_new}

@@ -1,4 +1,4 @@
-use Rattle.std.proofs.Common.{◌≡◌, sym, ap, ◌∙◌, ◌++◌}
+use Rattle.std.proofs.Common.{sym, ap, ◌∙◌, ◌++◌}
 use Rattle.std.specs.Prelude.{Ok}
 use Rattle.alt_value.specs.Tree.{L_tree, trees_of}
 use Rattle.alt_updeval.specs.Shown.{joined_pieces}

@@ -1,4 +1,4 @@
-use Rattle.std.proofs.Common.{◌≡◌, refl, ap, ◌∙◌}
+use Rattle.std.proofs.Common.{refl, ap, ◌∙◌}
 use Rattle.alt_value.specs.Stands.{tree_of}
 use Rattle.alt_updeval.specs.Shown.{list_in}
 use Rattle.alt_updeval.proofs.Pieces.{one_pushed}

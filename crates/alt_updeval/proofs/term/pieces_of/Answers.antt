@@ -1,4 +1,4 @@
-use Rattle.std.proofs.Common.{◌≡◌, ap, ◌∙◌}
+use Rattle.std.proofs.Common.{ap, ◌∙◌}
 use Rattle.std.specs.Prelude.{Ok}
 use Rattle.alt_value.proofs.Trees.{elements-trees_of}
 use Rattle.alt_updeval.specs.Shown.{made_tree, joined_pieces, list_in}

@@ -1,5 +1,5 @@
 -- The names so far are changed as the edits say, and no other is.
-use Rattle.std.proofs.Common.{◌≡◌, map}
+use Rattle.std.proofs.Common.{map}
 use Rattle.alt_updeval.specs.Shown.{shown_at}
 use Rattle.alt_updeval.proofs.All.{Changes}
 use Rattle.alt_updeval.proofs.update.changes.Given as goal

@@ -1,5 +1,5 @@
 -- Each turn adds one edit.
-use Rattle.std.proofs.Common.{◌≡◌, sym, ap, ◌∙◌, ◌+◌, [], ◌∷◌, map, drop}
+use Rattle.std.proofs.Common.{sym, ap, ◌∙◌, ◌+◌, [], ◌∷◌, map, drop}
 use Rattle.alt_expr.specs.Updated.{edits}
 use Rattle.std.proofs.lemmas.List.{map-append}
 use Rattle.alt_updeval.specs.Shown.{shown_at}

@@ -3,5 +3,7 @@
 
 mod answers;
 mod bodies;
+mod targets;
 
 pub use answers::{answer, operation_named};
+pub use targets::operation_of;

@@ -1,20 +1,21 @@
 //! The files of the folder as a disk.
 
-ghost use Rattle.alt_host.specs.Host.{untold};
+ghost use Rattle.alt_host.specs.Host.{told};
 
 use crate::shell::HostShell;
 use alt_disk::{Disk, DiskFault, Failed};
 use std::fs::File;
 use std::io::ErrorKind;
+use std::net::Net;
 use std::rt::Runtime;
 
 /// A file has at most 2^62 bytes.
 const MOST_BYTES: u64 = 1 << 62;
 
-impl<R: Runtime<File = File>> Disk for HostShell<R> {
+impl<R: Runtime<File = File> + Net> Disk for HostShell<R> {
     ghost use Rattle.std.proofs.lemmas.Bool.{false≢true};
 
-    ghost state = { λ s. untold s.moment s.faults };
+    ghost state = { λ s. told s.moment s.faults s.talking s.talk_faults s.takes_missed s.says_missed };
 
     ghost reads_as_image = { λ s trusted f. absurd (false≢true trusted) };
 

@@ -1,4 +1,4 @@
-//! The real shell: a folder of files, the standard streams and the system's clock. It is the trusted edge of the program, and
+//! The real shell: a folder of files, the standard streams, connections on the loopback address and the system's clock. It is the trusted edge of the program, and
 //! tells nothing but its counts (docs/OPERATING.md has what it makes of the folder).
 #![tactic(auto)]
 
@@ -6,5 +6,6 @@ mod disk;
 mod folder;
 mod shell;
 mod streams;
+mod talk;
 
 pub use shell::HostShell;

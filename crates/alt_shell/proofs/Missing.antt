@@ -1,8 +1,9 @@
 -- What a call that failed leaves of the bytes taken and said.
 use Rattle.std.proofs.Common.{◌≡◌, ◌⊎◌, ⊎_elim, ◌||◌, ℕ, Bool, true, false, List, [], ◌∷◌, ◌++◌, refl, ap, ◌∙◌, append-nil}
+use Rattle.std.specs.Prelude.{Result, Ok, Err, OnOk, OnErr}
 use Rattle.std.proofs.lemmas.Grind.{flat_map-append}
 use Rattle.std.proofs.lemmas.List.Folds.{list_any-append}
-use Rattle.alt_shell.specs.Log.{Log, entry, event_of, bytes_said, bytes_taken, is_end, said_in, taken, ended}
+use Rattle.alt_shell.specs.Log.{Log, entry, none_came, event_of, bytes_said, bytes_taken, is_end, said_in, taken, ended}
 use Rattle.alt_shell.specs.Kept.{entry_of_missed, failed_of}
 use Rattle.alt_shell.specs.declared.kept.Missed.{Missed}
 use Rattle.alt_shell.specs.declared.kept.Stream.{Stream}
@@ -67,3 +68,29 @@ missed_silent old new missed seen told = ⊎_elim
       ended_stays = ap ended same.1;
     })
     told
+
+-- nor with one that tells that no connection will come
+pub none_silent : (old new : Log) (moment told : ℕ) → new ≡ old ++ entry moment told none_came ∷ []
+    → Silent old new
+none_silent old new moment told is = record {
+  said = ap said_in is ∙ flat_map-append (λ (e : ℕ × List ℕ). bytes_said (event_of e.1)) old
+      (entry moment told none_came ∷ [])
+      ∙ append-nil (said_in old);
+  taken_stays = ap taken is ∙ flat_map-append (λ (e : ℕ × List ℕ). bytes_taken (event_of e.1)) old
+      (entry moment told none_came ∷ [])
+      ∙ append-nil (taken old);
+  ended_stays = ap ended is ∙ list_any-append (λ (e : ℕ × List ℕ). is_end (event_of e.1)) old
+      (entry moment told none_came ∷ [])
+      ∙ or_none (ended old);
+}
+
+-- so where it was kept, and where it wasn't for want of memory
+pub none_kept : {T E : Type 0} (result : Result T E) (old new : Log) (moment told : ℕ)
+    → OnOk result (new ≡ old ++ entry moment told none_came ∷ []) → OnErr result (new ≡ old)
+    → Silent old new
+none_kept (Ok x) old new moment told ok err = none_silent old new moment told ok
+none_kept (Err e) old new moment told ok err = record {
+  said = ap said_in err;
+  taken_stays = ap taken err;
+  ended_stays = ap ended err;
+}

@@ -1,6 +1,7 @@
--- What a shell tells of its calls, as it lies beside the disk: a head that is kept for connections, three heads for what is told as of
--- now, and then one entry for each call that took or said something or failed. A log without its four heads tells nothing.
-use Rattle.std.specs.Prelude.{◌≡◌, ◌≤◌, ◌-◌, ◌^◌, ◌==◌, ℕ, zero, suc, List, [], ◌∷◌, ◌++◌, length, take}
+-- What a shell tells of its calls, as it lies beside the disk: the head of the talk, which every shell has; three heads for what is told
+-- as of now; and then one entry for each call that took or said something or failed, or began or ended a talk. A log without its four
+-- heads tells nothing but the talk.
+use Rattle.std.specs.Prelude.{◌≡◌, ◌≤◌, ◌-◌, ◌^◌, ◌==◌, ◌&&◌, not, ℕ, zero, suc, List, [], ◌∷◌, ◌++◌, length, take}
 use Rattle.std.specs.Prelude.{Option, Some, None, ⊤, Bool, true, false, nat_le, if◌then◌else◌}
 use Rattle.std.specs.List.{flat_map, list_any, filter}
 
@@ -10,12 +11,16 @@ Log = List (ℕ × List ℕ)
 
 -- ---- events and entries
 
--- what one call did; a say that failed said these bytes, some from the front of its own
+-- What one call did. A say that failed said these bytes, some from the front of its own; a wait for a connection began a talk or told
+-- that none will come; and a talk was hung up.
 pub data Event : Type 0 where
   took : List ℕ → Event
   said : List ℕ → Event
   take_failed : Event
   say_failed : List ℕ → Event
+  accepted : Event
+  none_came : Event
+  hung_up : Event
 
 -- an event in numbers: its tag, how many moments had been told by then, and its bytes
 abbrev pub spelling : ℕ → Event → List ℕ
@@ -23,6 +28,9 @@ spelling told (took bytes) = 0 ∷ told ∷ bytes
 spelling told (said bytes) = 1 ∷ told ∷ bytes
 spelling told take_failed = 2 ∷ told ∷ []
 spelling told (say_failed bytes) = 3 ∷ told ∷ bytes
+spelling told accepted = 4 ∷ told ∷ []
+spelling told none_came = 5 ∷ told ∷ []
+spelling told hung_up = 6 ∷ told ∷ []
 
 -- the event of a tag and bytes, if there is one
 abbrev pub by_tag : ℕ → List ℕ → Option Event
@@ -30,7 +38,10 @@ by_tag tag bytes =
     if tag == 0 then Some (took bytes)
     else (if tag == 1 then Some (said bytes)
     else (if tag == 2 then Some take_failed
-    else (if tag == 3 then Some (say_failed bytes) else None)))
+    else (if tag == 3 then Some (say_failed bytes)
+    else (if tag == 4 then Some accepted
+    else (if tag == 5 then Some none_came
+    else (if tag == 6 then Some hung_up else None))))))
 
 -- the event that numbers spell; where the tag isn't known there is none
 abbrev pub event_of : List ℕ → Option Event
@@ -50,10 +61,46 @@ entry moment told event = (moment, spelling told event)
 
 -- ---- heads
 
--- a log: the head kept for connections, those of the notes and of the moments that the clock told, the one kept for the last answer to a
--- wait for a connection, and the entries
-abbrev pub log : ℕ × List ℕ → ℕ × List ℕ → Log → Log
-log notes moments entries = (0, []) ∷ notes ∷ moments ∷ (0, []) ∷ entries
+-- a log: the heads of the talk, of the notes and of the moments that the clock told, one that is kept, and the entries
+abbrev pub log : ℕ × List ℕ → ℕ × List ℕ → ℕ × List ℕ → Log → Log
+log talk notes moments entries = talk ∷ notes ∷ moments ∷ (0, []) ∷ entries
+
+-- The head of the talk: whether the shell talks; how many calls failed in talks; and how many takes and how many says failed in the talk
+-- that it is in, or was in last.
+abbrev pub talk_head : Bool → ℕ → ℕ → ℕ → ℕ × List ℕ
+talk_head talking faults takes says = (if talking then 1 else 0, faults ∷ takes ∷ says ∷ [])
+
+-- the head of the talk of a log; without one it doesn't talk
+abbrev pub talk_of : Log → ℕ × List ℕ
+talk_of [] = talk_head false 0 0 0
+talk_of (h ∷ hs) = h
+
+-- whether a number is above zero
+abbrev pub is_positive : ℕ → Bool
+is_positive zero = false
+is_positive (suc n) = true
+
+-- the number at a place of a list, 0 behind its end
+abbrev pub number_at : ℕ → List ℕ → ℕ
+number_at place [] = 0
+number_at zero (n ∷ ns) = n
+number_at (suc place) (n ∷ ns) = number_at place ns
+
+-- whether the shell talks on a connection
+abbrev pub talks : Log → Bool
+talks log = is_positive (talk_of log).0
+
+-- how many calls failed in talks
+abbrev pub talk_faults : Log → ℕ
+talk_faults log = number_at 0 (talk_of log).1
+
+-- whether a take failed in the talk
+abbrev pub takes_missed : Log → Bool
+takes_missed log = is_positive (number_at 1 (talk_of log).1)
+
+-- whether a say failed in the talk
+abbrev pub says_missed : Log → Bool
+says_missed log = is_positive (number_at 2 (talk_of log).1)
 
 -- the entries, where they are told
 abbrev pub entries_of : Log → Option Log
@@ -130,6 +177,9 @@ bytes_taken (Some (took bytes)) = bytes
 bytes_taken (Some (said bytes)) = []
 bytes_taken (Some take_failed) = []
 bytes_taken (Some (say_failed bytes)) = []
+bytes_taken (Some accepted) = []
+bytes_taken (Some none_came) = []
+bytes_taken (Some hung_up) = []
 
 -- the bytes that it said
 abbrev pub bytes_said : Option Event → List ℕ
@@ -138,6 +188,9 @@ bytes_said (Some (took bytes)) = []
 bytes_said (Some (said bytes)) = bytes
 bytes_said (Some take_failed) = []
 bytes_said (Some (say_failed bytes)) = bytes
+bytes_said (Some accepted) = []
+bytes_said (Some none_came) = []
+bytes_said (Some hung_up) = []
 
 -- a take that gave nothing is the end of the input
 abbrev pub is_end : Option Event → Bool
@@ -147,6 +200,9 @@ is_end (Some (took (x ∷ bytes))) = false
 is_end (Some (said bytes)) = false
 is_end (Some take_failed) = false
 is_end (Some (say_failed bytes)) = false
+is_end (Some accepted) = false
+is_end (Some none_came) = false
+is_end (Some hung_up) = false
 
 -- a take that failed
 abbrev pub is_take_failed : Option Event → Bool
@@ -155,6 +211,9 @@ is_take_failed (Some (took bytes)) = false
 is_take_failed (Some (said bytes)) = false
 is_take_failed (Some take_failed) = true
 is_take_failed (Some (say_failed bytes)) = false
+is_take_failed (Some accepted) = false
+is_take_failed (Some none_came) = false
+is_take_failed (Some hung_up) = false
 
 -- a say that failed
 abbrev pub is_say_failed : Option Event → Bool
@@ -163,6 +222,20 @@ is_say_failed (Some (took bytes)) = false
 is_say_failed (Some (said bytes)) = false
 is_say_failed (Some take_failed) = false
 is_say_failed (Some (say_failed bytes)) = true
+is_say_failed (Some accepted) = false
+is_say_failed (Some none_came) = false
+is_say_failed (Some hung_up) = false
+
+-- a talk begins or ends, or none will come
+abbrev pub is_bound : Option Event → Bool
+is_bound None = false
+is_bound (Some (took bytes)) = false
+is_bound (Some (said bytes)) = false
+is_bound (Some take_failed) = false
+is_bound (Some (say_failed bytes)) = false
+is_bound (Some accepted) = true
+is_bound (Some none_came) = true
+is_bound (Some hung_up) = true
 
 -- the bytes taken
 abbrev pub taken : Log → List ℕ
@@ -184,14 +257,18 @@ takes_failed es = list_any (λ e. is_take_failed (event_of e.1)) es
 abbrev pub says_failed : Log → Bool
 says_failed es = list_any (λ e. is_say_failed (event_of e.1)) es
 
+-- whether a talk began or ended among them, or it was told that none will come
+abbrev pub crosses : Log → Bool
+crosses es = list_any (λ e. is_bound (event_of e.1)) es
+
 -- a test of the entries where they are told
 abbrev pub tested : (Log → Bool) → Option Log → Bool
 tested test None = false
 tested test (Some es) = test es
 
--- whether the end was taken, as far as that is told
+-- whether the end of standard input was taken, as far as that is told; once a connection was waited for, nothing is said of it
 abbrev pub has_ended : Log → Bool
-has_ended log = tested ended (entries_of log)
+has_ended log = tested (λ es. ended es && not (crosses es)) (entries_of log)
 
 -- the entries of the calls that had ended by a moment
 abbrev pub until : ℕ → Log → Log

@@ -1,11 +1,11 @@
 -- What a shell in memory tells, and what it will give.
-use Rattle.std.specs.Prelude.{◌≡◌, ℕ, List, map, if◌then◌else◌}
+use Rattle.std.specs.Prelude.{◌≡◌, ℕ, false, List, map, if◌then◌else◌}
 use Rattle.alt_disk.specs.declared.memory.MemoryDisk.{MemoryDisk}
 use Rattle.alt_disk.specs.Disk.{DiskState, with_beside}
 use Rattle.alt_disk.specs.MemoryState.{state_of}
 use Rattle.alt_shell.specs.declared.memory.MemoryShell.{MemoryShell}
 use Rattle.alt_shell.specs.States.{told_by, kept_entries}
-use Rattle.alt_shell.specs.Log.{Log, log}
+use Rattle.alt_shell.specs.Log.{Log, log, talk_head}
 
 -- the entries of its calls
 abbrev pub entries_by : MemoryShell → Log
@@ -13,7 +13,7 @@ entries_by s = kept_entries s.kept
 
 -- it tells all: the notes until one finds no memory, and the moments and the entries always
 abbrev pub log_of : MemoryShell → Log
-log_of s = log (if s.tells_notes then 1 else 0, s.noted.items) (1, told_by s.clock) (entries_by s)
+log_of s = log (talk_head false 0 0 0) (if s.tells_notes then 1 else 0, s.noted.items) (1, told_by s.clock) (entries_by s)
 
 -- its state: that of its disk, with the log beside it
 abbrev pub shell_state : MemoryShell → DiskState

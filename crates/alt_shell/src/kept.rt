@@ -13,6 +13,7 @@ use std::alloc::Global;
 pub(crate) enum Act {
     Took(Vec<u8>),
     Said(Vec<u8>),
+    NoneCame,
 }
 
 /// A call, with the moment at which it ended and how many moments had been told.

@@ -1,5 +1,4 @@
-//! The outside of a run besides its files: standard streams and a clock, on the moments of a disk. Connections are not
-//! built yet.
+//! The outside of a run besides its files: standard streams, connections and a clock, on the moments of a disk.
 #![tactic(auto)]
 
 mod clock;

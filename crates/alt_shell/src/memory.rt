@@ -44,12 +44,12 @@ impl MemoryShell {
     ghost use Rattle.std.specs.Prelude.{Option, None, Some, MatchOption, IfSome, if◌then◌else◌};
     ghost use Rattle.alt_shell.specs.Memory.{entries_by, log_of, pieces, clock_left, last_moment, disk_in};
     ghost use Rattle.alt_shell.specs.Pieces.{with_piece};
-    ghost use Rattle.alt_shell.specs.Log.{log, notes_of};
+    ghost use Rattle.alt_shell.specs.Log.{log, notes_of, talk_head};
 
     /// A shell over this disk, without input and moments, that has said and noted nothing.
     pub fn new(alloc: Global, disk: MemoryDisk) -> Self
         ensures disk { disk_in result ≡ disk }
-        ensures log { log_of result ≡ log (1, []) (1, []) [] }
+        ensures log { log_of result ≡ log (talk_head false 0 0 0) (1, []) (1, []) [] }
         ensures input { pieces result ≡ [] }
         ensures clock { clock_left result ≡ [] }
         ensures last { last_moment result ≡ 0 }
@@ -133,8 +133,8 @@ impl MemoryShell {
     ghost use Rattle.alt_disk.specs.Disk.{Faulted};
     ghost use Rattle.alt_disk.specs.MemoryState.{fails_at};
     ghost use Rattle.alt_shell.specs.Calls.{ShellCall, Adds, Untold};
-    ghost use Rattle.alt_shell.specs.Kept.{failed_of, fails_of};
-    ghost use Rattle.alt_shell.specs.Log.{entry, took, said};
+    ghost use Rattle.alt_shell.specs.Kept.{failed_of, fails_of, missed_of};
+    ghost use Rattle.alt_shell.specs.Log.{entry, took, said, none_came};
     ghost use Rattle.alt_shell.specs.Pieces.{given_of, pieces_behind};
     ghost use Rattle.alt_shell.specs.Memory.{shell_state, pieces, entries_by, SameInput};
     ghost use Rattle.alt_shell.specs.States.{told_by};
@@ -145,7 +145,8 @@ impl MemoryShell {
         ensures ok { OnOk result (self.new ≡ record self.old { disk = self.new.disk }) }
         ensures err { OnErr result (Adds (shell_state self.old) (shell_state self.new)
             (failed_of stream)
-            ⊎ Untold (shell_state self.old) (shell_state self.new) (fails_of stream)) }
+            ⊎ Untold (shell_state self.old) (shell_state self.new) (fails_of stream)
+            (missed_of stream)) }
         ensures notes { (self.new.noted.items ≡ self.old.noted.items)
             × (self.new.tells_notes ≡ self.old.tells_notes) }
         ensures told { told_by self.new.clock ≡ told_by self.old.clock }
@@ -250,6 +251,30 @@ impl MemoryShell {
         self.over = count == 0;
         advance(&mut self.input, rest);
         Ok(count)
+    }
+
+    // Tells that no connection will come, and keeps the call. After an error nothing has changed.
+    fn turn_down(&mut self) -> Result<(), NoMemory>
+        ensures disk { self.new.disk ≡ self.old.disk }
+        ensures clock { self.new.clock ≡ self.old.clock }
+        ensures noted { self.new.noted.items ≡ self.old.noted.items }
+        ensures tells { self.new.tells_notes ≡ self.old.tells_notes }
+        ensures log { MatchResult result
+            (λ _. entries_by self.new ≡ entries_by self.old
+            ++ entry (state_of self.old.disk).moment (length (told_by self.old.clock)) none_came
+            ∷ [])
+            (λ _. entries_by self.new ≡ entries_by self.old) }
+        ensures taken { taken (entries_by self.new) ≡ taken (entries_by self.old) }
+        ensures input { SameInput self.old self.new }
+    {
+        let (moment, _) = self.disk.counts();
+        let told = self.clock.count;
+        self.kept.push(Call {
+            moment,
+            told,
+            act: Act::NoneCame,
+        })?;
+        Ok(())
     }
 
     // Says the bytes, and keeps the call. After an error nothing has changed.
@@ -378,8 +403,9 @@ impl Disk for MemoryShell {
 impl Shell for MemoryShell {
     ghost use Rattle.std.specs.Prelude.{ℕ, is_ok, ◌↔◌};
     ghost use Rattle.alt_disk.specs.MemoryState.{fails_at};
-    ghost use Rattle.alt_shell.specs.Calls.{ShellCall, Aside, Takes, Says};
+    ghost use Rattle.alt_shell.specs.Calls.{ShellCall, Aside, Takes, Says, Accepts, Adds, StaysIn};
     ghost use Rattle.alt_shell.specs.Log.{Grows, StillGrows, Tells, notes_of, moments_of, has_ended, WithinLife};
+    ghost use Rattle.alt_shell.specs.Log.{hung_up, talk_of, talks, talk_faults, takes_missed, says_missed};
     ghost use Rattle.alt_shell.specs.Pieces.{given_of, pieces_behind, told_of};
     ghost use Rattle.alt_shell.specs.Memory.{shell_state, entries_by, pieces, clock_left, last_moment, SameInput};
 
@@ -387,8 +413,10 @@ impl Shell for MemoryShell {
         requires { 0 < length buf.old }
         ensures count { IfOk result (λ n. n ≤ length buf.new) }
         ensures taken { Takes (shell_state self.old) (shell_state self.new) result buf.new }
-        ensures over { has_ended (shell_state self.old).beside ≡ true
-            → IfOk result (λ n. n ≡ 0) }
+        ensures over { talks (shell_state self.old).beside ≡ false
+            → has_ended (shell_state self.old).beside ≡ true → IfOk result (λ n. n ≡ 0) }
+        ensures talk { StaysIn (shell_state self.old) (shell_state self.new) (is_ok result)
+            takes_missed says_missed }
         ensures life { WithinLife (shell_state self.old).beside
             → WithinLife (shell_state self.new).beside }
         ensures call { ShellCall (shell_state self.old) (shell_state self.new) (is_ok result) }
@@ -420,6 +448,8 @@ impl Shell for MemoryShell {
 
     fn say(&mut self, bytes: &[u8]) -> Result<(), Failed>
         ensures said { Says (shell_state self.old) (shell_state self.new) result bytes.now }
+        ensures talk { StaysIn (shell_state self.old) (shell_state self.new) (is_ok result)
+            says_missed takes_missed }
         ensures life { WithinLife (shell_state self.old).beside
             → WithinLife (shell_state self.new).beside }
         ensures call { ShellCall (shell_state self.old) (shell_state self.new) (is_ok result) }
@@ -444,10 +474,40 @@ impl Shell for MemoryShell {
         }
     }
 
+    fn accept(&mut self) -> Result<bool, Failed>
+        ensures accepted { Accepts (shell_state self.old) (shell_state self.new) result }
+        ensures call { ShellCall (shell_state self.old) (shell_state self.new) (is_ok result) }
+        ensures life { WithinLife (shell_state self.old).beside
+            → WithinLife (shell_state self.new).beside }
+        ensures notes { notes_of (shell_state self.new).beside
+            ≡ notes_of (shell_state self.old).beside }
+        ensures moments { moments_of (shell_state self.new).beside
+            ≡ moments_of (shell_state self.old).beside }
+
+        // No connection can be added yet.
+        ensures none { IfOk result (λ came. came ≡ false) }
+        ensures input { SameInput self.old self.new }
+        ensures to_fail { fails_at self.old.disk (shell_state self.old).moment ≡ true
+            → is_ok result ≡ false }
+        ensures fails { (t : ℕ) → fails_at self.new.disk t ≡ fails_at self.old.disk t }
+    {
+        let Ok(()) = self.disk.tick() else {
+            return Err(Failed);
+        };
+        match self.turn_down() {
+            Ok(()) => Ok(false),
+            Err(_) => Err(self.disk.fault()),
+        }
+    }
+
+    fn hang_up(&mut self) {}
+
     fn note(&mut self, bytes: &[u8])
         ensures noted { StillGrows (notes_of (shell_state self.old).beside)
             (notes_of (shell_state self.new).beside) bytes.now }
         ensures log { Grows (shell_state self.old).beside (shell_state self.new).beside [] }
+        ensures talk { talk_of (shell_state self.new).beside
+            ≡ talk_of (shell_state self.old).beside }
         ensures call { Aside (shell_state self.old) (shell_state self.new) }
         ensures moments { moments_of (shell_state self.new).beside
             ≡ moments_of (shell_state self.old).beside }
@@ -464,6 +524,8 @@ impl Shell for MemoryShell {
         ensures told { Tells (moments_of (shell_state self.old).beside)
             (moments_of (shell_state self.new).beside) (result ∷ []) }
         ensures log { Grows (shell_state self.old).beside (shell_state self.new).beside [] }
+        ensures talk { talk_of (shell_state self.new).beside
+            ≡ talk_of (shell_state self.old).beside }
         ensures call { Aside (shell_state self.old) (shell_state self.new) }
         ensures notes { notes_of (shell_state self.new).beside
             ≡ notes_of (shell_state self.old).beside }

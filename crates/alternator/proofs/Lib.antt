@@ -1,7 +1,17 @@
 pub mod EndingLaws
 pub mod Hands
+pub mod Hanging
 pub mod Numbers
 pub mod Passing
 pub mod Pulling
 pub mod Serving
+pub mod Stepping
+pub mod TalkAll
+pub mod TalkCuts
+pub mod TalkFolds
+pub mod TalkLaws
+pub mod TalkLogs
+pub mod TalkPulls
+pub mod TalkReach
 pub mod TurnLaws
+pub mod Uttering

@@ -3,9 +3,9 @@ use Rattle.std.proofs.Common.{◌≡◌, ◌≤◌, ◌+◌, ◌-◌, ◌*◌, �
 use Rattle.std.proofs.Common.{◌<◌, suc, length, drop, get_or, drop-cons, add-one}
 use Rattle.std.proofs.lemmas.List.{drop_all}
 use Rattle.std.specs.Char.{is_ascii_digit}
-use Rattle.std.specs.Prelude.{option_and_then}
+use Rattle.std.specs.Prelude.{option_and_then, nat_le, ◌&&◌, Bool}
 use Rattle.std.proofs.lemmas.Bool.{cases_lt, lt-leb}
-use Rattle.alternator.specs.Words.{digits_from, small_port}
+use Rattle.alternator.specs.Words.{digits_from, small_port, small_some, serve_of}
 
 abbrev pub capped : Option ℕ → Option ℕ
 capped o = option_map (λ n. min n (2 ^ 64 - 1)) o
@@ -60,3 +60,43 @@ pub port_capped : (o p : Option ℕ) → p ≡ capped o
     → option_and_then small_port p ≡ option_and_then small_port o
 port_capped None p e = ap (option_and_then small_port) e
 port_capped (Some n) p e = ap (option_and_then small_port) e ∙ small_capped n
+
+and_no : (b : Bool) → (b && false) ≡ false
+and_no true = refl
+and_no false = refl
+
+none_large : (n : ℕ) → 4294967295 < n → small_some n ≡ None
+none_large n large =
+    ap (λ (b : Bool). cond (nat_le 1 n && b) (Some n) None) (lt-leb n 4294967295 large)
+    ∙ ap (λ (b : Bool). cond b (Some n) None) (and_no (nat_le 1 n))
+
+small_some_capped : (n : ℕ) → small_some (min n (2 ^ 64 - 1)) ≡ small_some n
+small_some_capped n = elim (cases_lt 4294967295 n) [
+  | inr small ↦ ap small_some (let e : min n (2 ^ 64 - 1) ≡ n = omega arith in e)
+  | inl large ↦ none_large (min n (2 ^ 64 - 1)) (omega arith) ∙ sym (none_large n large)
+]
+
+-- so is it one of these numbers
+pub some_capped : (o p : Option ℕ) → p ≡ capped o
+    → option_and_then small_some p ≡ option_and_then small_some o
+some_capped None p e = ap (option_and_then small_some) e
+some_capped (Some n) p e = ap (option_and_then small_some) e ∙ small_some_capped n
+
+-- words that are fewer than five ask for no serving
+pub serve_few : (ws : List (List ℕ)) → length ws < 5 → None ≡ serve_of ws
+serve_few [] few = refl
+serve_few (a ∷ []) few = refl
+serve_few (a ∷ b ∷ []) few = refl
+serve_few (a ∷ b ∷ c ∷ []) few = refl
+serve_few (a ∷ b ∷ c ∷ d ∷ []) few = refl
+serve_few (a ∷ b ∷ c ∷ d ∷ e ∷ ws) few = absurd (omega arith)
+
+-- nor do more than five
+pub serve_many : (ws : List (List ℕ)) → 6 ≤ length ws → None ≡ serve_of ws
+serve_many [] many = absurd (omega arith)
+serve_many (a ∷ []) many = absurd (omega arith)
+serve_many (a ∷ b ∷ []) many = absurd (omega arith)
+serve_many (a ∷ b ∷ c ∷ []) many = absurd (omega arith)
+serve_many (a ∷ b ∷ c ∷ d ∷ []) many = absurd (omega arith)
+serve_many (a ∷ b ∷ c ∷ d ∷ e ∷ []) many = absurd (omega arith)
+serve_many (a ∷ b ∷ c ∷ d ∷ e ∷ f ∷ ws) many = refl

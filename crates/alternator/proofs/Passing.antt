@@ -6,12 +6,12 @@ use Rattle.alternator.specs.Runs.{Passes}
 
 -- no call
 pub passes_none : (s : DiskState) → Passes s s
-passes_none s = record { keeps = keeps-none s; notes = refl }
+passes_none s = record { keeps = keeps-none s; notes = refl; talking = refl }
 
 -- two stretches
 pub passes_then : (a b c : DiskState) → Passes a b → Passes b c → Passes a c
 passes_then a b c p q = record {
   keeps = keeps-then a b c p.keeps q.keeps;
-  notes =
-      q.notes ∙ p.notes;
+  notes = q.notes ∙ p.notes;
+  talking = q.talking ∙ p.talking;
 }

@@ -7,7 +7,7 @@ use Rattle.alt_lines.specs.Lines.{lines_of}
 use Rattle.alt_lines.specs.Unread.{Unread}
 use Rattle.alt_machine.specs.State.{State}
 use Rattle.alt_shell.specs.Calls.{Adds, Untold}
-use Rattle.alt_shell.specs.Log.{Log, Tells, moments_of, entry, told_count, event_of, took, take_failed, takes_failed, is_end, taken, said_in, ended}
+use Rattle.alt_shell.specs.Log.{Log, Tells, moments_of, entry, told_count, event_of, took, take_failed, takes_failed, takes_missed, is_end, taken, said_in, ended}
 use Rattle.alt_tables.specs.Stands.{Stands}
 use Rattle.alt_tables.specs.declared.tables.Tables.{Tables}
 use Rattle.alternator.specs.Moments.{answered}
@@ -222,7 +222,7 @@ module _ (a b c : DiskState) (s : State) (u : Unread) (unended : u.ended ≡ fal
 
 -- the take failed
 pub pull_failed : (a b : DiskState) (s : State) (u : Unread)
-    → (Adds a b take_failed ⊎ Untold a b takes_failed) → moments_of b.beside ≡ moments_of a.beside
+    → (Adds a b take_failed ⊎ Untold a b takes_failed takes_missed) → moments_of b.beside ≡ moments_of a.beside
     → Calls a.beside b.beside (GoesSome None s u)
 pull_failed a b s u (inl g) m = record {
   entries = entry b.moment (told_count a.beside) take_failed ∷ [];

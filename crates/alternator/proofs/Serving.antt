@@ -7,7 +7,7 @@ use Rattle.alt_machine.specs.State.{State}
 use Rattle.alt_disk.specs.Disk.{DiskState}
 use Rattle.alt_machine.specs.Wanted.{Lack}
 use Rattle.alt_shell.specs.Calls.{Adds, Untold}
-use Rattle.alt_shell.specs.Log.{Log, Grows, Tells, moments_of, entry, told_count, event_of, said, say_failed, says_failed, bytes_said, bytes_taken, is_end, taken, said_in, ended}
+use Rattle.alt_shell.specs.Log.{Log, Grows, Tells, moments_of, entry, told_count, event_of, said, say_failed, says_failed, says_missed, bytes_said, bytes_taken, is_end, taken, said_in, ended}
 use Rattle.alternator.specs.Runs.{Calls, Serves, Breaks, Rests, Reaches, ServesAtHand, BreaksAtHand}
 use Rattle.alt_tables.specs.Stands.{Stands}
 use Rattle.alt_tables.specs.declared.tables.Tables.{Tables}
@@ -299,7 +299,7 @@ pub turn_cut : (old mid new : DiskState) (s : State) (l : Asked) (t : Turn) (ms 
     (bytes : List ℕ)
     → turns s (l ∷ []) ms ≡ t ∷ [] → length ms ≡ requests (l ∷ [])
     → Grows old.beside mid.beside [] → Tells (moments_of old.beside) (moments_of mid.beside) ms
-    → (((n : ℕ) × Adds mid new (say_failed (take n bytes))) ⊎ Untold mid new says_failed)
+    → (((n : ℕ) × Adds mid new (say_failed (take n bytes))) ⊎ Untold mid new says_failed says_missed)
     → moments_of new.beside ≡ moments_of mid.beside
     → bytes ≡ t.text
     → Calls old.beside new.beside (BreaksAtHand None s (l ∷ []))

@@ -1,9 +1,13 @@
 -- How a run ends: its status, what it notes, and what it has done.
-use Rattle.std.specs.Prelude.{◌≡◌, ℕ, List, [], ◌∷◌, ◌++◌, codes, decimal, None, Some}
+use Rattle.std.specs.Prelude.{◌≡◌, ℕ, List, [], ◌∷◌, ◌++◌, codes, decimal, Option, None, Some}
 use Rattle.alt_base.specs.Counts.{Rose}
 use Rattle.alt_disk.specs.Disk.{DiskState}
-use Rattle.alt_machine.specs.State.{start}
-use Rattle.alt_shell.specs.Log.{Grows, StillGrows, notes_of, moments_of}
+use Rattle.alt_machine.specs.State.{State, start}
+use Rattle.alt_shell.specs.Log.{Log, Grows, StillGrows, notes_of, moments_of}
+use Rattle.alternator.specs.Connections.{Served, ServedSome}
+use Rattle.alternator.specs.TalkRules.{rules}
+use Rattle.alternator.specs.declared.words.Job.{Job}
+use Rattle.alternator.specs.declared.words.Job.TheVariants.{Replay, Serve}
 use Rattle.alternator.specs.Runs.{Calls, Answers, AnswersSome}
 use Rattle.alternator.specs.declared.ending.Ending.{Ending}
 use Rattle.alternator.specs.declared.ending.Ending.TheVariants.{Whole, Words, Device, Memory, Spent}
@@ -31,18 +35,32 @@ pub record Untouched (old new : DiskState) : Type 0 where
   pub silent : Grows old.beside new.beside []
   pub unasked : moments_of new.beside ≡ moments_of old.beside
 
--- What a run has done that ended so. Where it was broken off, what it said is a prefix of its Out: for a device, only where that
--- failed in this run, and for a number, only where a request wanted one that is never given out, the first that did.
-abbrev pub HasDone : Ending → DiskState → DiskState → Type 0
-HasDone Whole old new = Calls old.beside new.beside (Answers start)
-HasDone Words old new = Untouched old new
-HasDone Device old new = Rose old.faults new.faults
-    × Calls old.beside new.beside (AnswersSome None start)
-HasDone Memory old new = Calls old.beside new.beside (AnswersSome None start)
-HasDone (Spent number) old new = Calls old.beside new.beside (AnswersSome (Some number) start)
+-- what a job has done whose run ended whole: every line of the input was answered, or every connection served
+abbrev pub Done : Option Job → Log → List ℕ → Type 0
+Done None entries told = ⊥
+Done (Some Replay) entries told = Answers start entries told
+Done (Some (Serve per connections)) entries told =
+    (t : State) × Served rules per connections start t entries told
+
+-- What a job has done that was broken off: what it said is a prefix of what there was to say, on each connection by itself. For a
+-- number, the first that was wanted and is never given out.
+abbrev pub Broken : Option ℕ → Option Job → Log → List ℕ → Type 0
+Broken number None entries told = ⊥
+Broken number (Some Replay) entries told = AnswersSome number start entries told
+Broken number (Some (Serve per connections)) entries told =
+    ServedSome rules per connections number start entries told
+
+-- What a run has done that ended so: for a device, only where that failed in this run.
+abbrev pub HasDone : Option Job → Ending → DiskState → DiskState → Type 0
+HasDone job Whole old new = Calls old.beside new.beside (Done job)
+HasDone job Words old new = Untouched old new
+HasDone job Device old new = Rose old.faults new.faults
+    × Calls old.beside new.beside (Broken None job)
+HasDone job Memory old new = Calls old.beside new.beside (Broken None job)
+HasDone job (Spent number) old new = Calls old.beside new.beside (Broken (Some number) job)
 
 -- a run that ended so, with its note
-pub record Ended (ending : Ending) (status : ℕ) (old new : DiskState) : Type 0 where
+pub record Ended (job : Option Job) (ending : Ending) (status : ℕ) (old new : DiskState) : Type 0 where
   pub by_ending : status ≡ status_of ending
-  pub done : HasDone ending old new
+  pub done : HasDone job ending old new
   pub noted : StillGrows (notes_of old.beside) (notes_of new.beside) (note_of ending)

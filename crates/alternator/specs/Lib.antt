@@ -1,6 +1,12 @@
+pub mod Connections
 pub mod Endings
 pub mod Faults
 pub mod Moments
 pub mod Runs
+pub mod Stretches
+pub mod TalkRules
+pub mod TalkTexts
+pub mod TalkViews
+pub mod Talks
 pub mod Turns
 pub mod Words

@@ -5,7 +5,7 @@ use Rattle.alt_disk.specs.Disk.{DiskState}
 use Rattle.alt_lines.specs.Unread.{Unread, lines_now, lines_later}
 use Rattle.alt_machine.specs.State.{State}
 use Rattle.alt_shell.specs.Calls.{Keeps}
-use Rattle.alt_shell.specs.Log.{Log, Grows, Tells, moments_of, notes_of, taken, said_in, ended}
+use Rattle.alt_shell.specs.Log.{Log, Grows, Tells, moments_of, notes_of, talks, taken, said_in, ended}
 use Rattle.alt_tables.specs.Stands.{Stands}
 use Rattle.alt_tables.specs.declared.tables.Tables.{Tables}
 use Rattle.alternator.specs.Faults.{IsLacked}
@@ -20,10 +20,12 @@ pub record Calls (old new : Log) (P : Log → List ℕ → Type 0) : Type 0 wher
   pub tells : Tells (moments_of old) (moments_of new) told
   pub holds : P entries told
 
--- What every stretch of a run keeps: the disk, in reads and in what a stop leaves at each moment, and what was noted.
+-- What every stretch of a run keeps: the disk, in reads and in what a stop leaves at each moment, what was noted, and whether the shell
+-- talks.
 pub record Passes (old new : DiskState) : Type 0 where
   pub keeps : Keeps old new
   pub notes : notes_of new.beside ≡ notes_of old.beside
+  pub talking : talks new.beside ≡ talks old.beside
 
 -- The state for which the tables stand now, and the calls by which it was reached, which have P of it.
 pub record Reaches (old new : DiskState) (tables : Tables)

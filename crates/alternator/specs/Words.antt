@@ -1,8 +1,10 @@
 -- The words of the command line.
-use Rattle.std.specs.Prelude.{ℕ, ◌+◌, ◌-◌, ◌*◌, ◌==◌, ◌&&◌, List, [], ◌∷◌, map, Bool, false, Option, Some, None, if◌then◌else◌, nat_le, codes, String, string_bytes, option_and_then}
+use Rattle.std.specs.Prelude.{ℕ, ◌<◌, ⊤, ◌+◌, ◌-◌, ◌*◌, ◌==◌, ◌&&◌, List, [], ◌∷◌, map, Bool, false, Option, Some, None, if◌then◌else◌, nat_le, codes, String, string_bytes, option_and_then}
 use Rattle.std.specs.declared.alloc.Global.{Global}
 use Rattle.std.specs.Char.{is_ascii_digit}
 use Rattle.std.specs.Str.{bytes_eq}
+use Rattle.alternator.specs.declared.words.Job.{Job}
+use Rattle.alternator.specs.declared.words.Job.TheVariants.{Replay, Serve}
 
 -- the number of these digits behind this one
 abbrev pub digits_from : ℕ → List ℕ → Option ℕ
@@ -20,12 +22,54 @@ abbrev pub is_within : ℕ → ℕ → Option ℕ → Bool
 is_within least most None = false
 is_within least most (Some n) = nat_le least n && nat_le n most
 
--- `replay FLUSH MERGE`: FLUSH is 65,536 to 1,073,741,824 bytes, MERGE 2 to 64 files
-abbrev pub is_replay : List (List ℕ) → Bool
-is_replay (word ∷ flush ∷ merge ∷ []) =
-    if bytes_eq word (codes "replay") then (if is_within 65536 1073741824
-    (number_of flush) then is_within 2 64 (number_of merge) else false) else false
-is_replay words = false
+-- FLUSH is 65,536 to 1,073,741,824 bytes
+abbrev pub is_flush : List ℕ → Bool
+is_flush word = is_within 65536 1073741824 (number_of word)
+
+-- MERGE is 2 to 64 files
+abbrev pub is_merge : List ℕ → Bool
+is_merge word = is_within 2 64 (number_of word)
+
+-- PER and CONNECTIONS are 1 to 4,294,967,295
+abbrev pub small_some : ℕ → Option ℕ
+small_some n = if nat_le 1 n && nat_le n 4294967295 then Some n else None
+
+-- such a number, where a word is one
+abbrev pub some_of : List ℕ → Option ℕ
+some_of word = option_and_then small_some (number_of word)
+
+-- `replay FLUSH MERGE`
+abbrev pub replay_of : List (List ℕ) → Option Job
+replay_of (word ∷ flush ∷ merge ∷ []) =
+    if bytes_eq word (codes "replay") && is_flush flush && is_merge merge then Some Replay else None
+replay_of words = None
+
+-- so many requests at most on so many connections, where both are numbers
+abbrev pub serve_with : Option ℕ → Option ℕ → Option Job
+serve_with None connections = None
+serve_with (Some per) None = None
+serve_with (Some per) (Some connections) = Some (Serve per connections)
+
+-- `serve PER CONNECTIONS FLUSH MERGE`
+abbrev pub serve_of : List (List ℕ) → Option Job
+serve_of (word ∷ per ∷ connections ∷ flush ∷ merge ∷ []) =
+    if bytes_eq word (codes "serve") && is_flush flush && is_merge merge
+    then serve_with (some_of per) (some_of connections) else None
+serve_of words = None
+
+-- the first of two jobs, where there is one
+abbrev pub or_else : Option Job → Option Job → Option Job
+or_else None job = job
+or_else (Some first) job = Some first
+
+-- The job that words ask for.
+abbrev pub job_of : List (List ℕ) → Option Job
+job_of words = or_else (replay_of words) (serve_of words)
+
+-- a job that may be done: a connection has a request or more
+abbrev pub IsServable : Job → Type 0
+IsServable Replay = ⊤
+IsServable (Serve per connections) = 0 < per
 
 -- a number of at most 65,535
 abbrev pub small_port : ℕ → Option ℕ

@@ -2,7 +2,7 @@
 
 ghost use Rattle.std.specs.Prelude.{◌≡◌, ◌⊎◌, ℕ, [], string_bytes, IfOk};
 ghost use Rattle.alt_shell.specs.Calls.{Aside};
-ghost use Rattle.alt_shell.specs.Log.{Grows, StillGrows, notes_of, moments_of};
+ghost use Rattle.alt_shell.specs.Log.{Grows, StillGrows, notes_of, moments_of, talks};
 ghost use Rattle.alternator.specs.Endings.{status_of, note_of};
 ghost use Rattle.alternator.specs.declared.ending.Ending.TheVariants.{Memory, Spent};
 
@@ -54,6 +54,7 @@ pub(crate) fn noted<S: Shell>(alloc: Global, ending: Ending, shell: &mut S) -> E
     ensures unasked { moments_of (S.state shell.new).beside
         ≡ moments_of (S.state shell.old).beside }
     ensures aside { Aside (S.state shell.old) (S.state shell.new) }
+    ensures talking { talks (S.state shell.new).beside ≡ talks (S.state shell.old).beside }
 {
     match ending {
         Ending::Whole => shell.note(b""),

@@ -7,6 +7,7 @@ ghost use Rattle.alt_lines.specs.Lines.{Line};
 ghost use Rattle.alt_lines.specs.Reader.{unread};
 ghost use Rattle.alt_lines.specs.Unread.{HasNone, TakesLine, Tells};
 ghost use Rattle.alt_machine.specs.State.{State};
+ghost use Rattle.alt_shell.specs.Log.{talks};
 ghost use Rattle.alt_tables.specs.Stands.{Stands};
 ghost use Rattle.alternator.specs.Faults.{number_of};
 ghost use Rattle.alternator.specs.Runs.{Calls, Passes, Reaches, ServesAtHand, BreaksAtHand, HandsOut, GoesOrEnds, GoesSome, asked_now};
@@ -38,6 +39,7 @@ fn answer_request<S: Shell>(
     body: &[u8],
     shell: &mut S,
 ) -> Result<(), RunFault>
+    requires quiet { talks (S.state shell.old).beside ≡ false }
     ensures served { (s : State) → Stands (S.state shell.old) tables.old s → MatchResult result
         (λ _. Reaches (S.state shell.old) (S.state shell.new) tables.new
         (ServesAtHand s (request name.now body.now ∷ [])))
@@ -60,6 +62,7 @@ fn answer_request<S: Shell>(
 
 /// A line that is too long to be read: it is told so, at no moment.
 fn turn_away<S: Shell>(tables: &Tables, shell: &mut S) -> Result<(), RunFault>
+    requires quiet { talks (S.state shell.old).beside ≡ false }
     ensures served { (s : State) → Stands (S.state shell.old) tables.now s → MatchResult result
         (λ _. Reaches (S.state shell.old) (S.state shell.new) tables.now
         (ServesAtHand s (no_request ∷ [])))
@@ -83,6 +86,7 @@ fn answer_line<S: Shell>(
     line: &[u8],
     shell: &mut S,
 ) -> Result<(), RunFault>
+    requires quiet { talks (S.state shell.old).beside ≡ false }
     ensures served { (taken : Line) → Tells taken cut [] line.now →
         (s : State) → Stands (S.state shell.old) tables.old s → MatchResult result
         (λ _. Reaches (S.state shell.old) (S.state shell.new) tables.new
@@ -126,6 +130,7 @@ pub(crate) fn at_hand<S: Shell>(
     line: &mut Vec<u8>,
     shell: &mut S,
 ) -> Result<(), RunFault>
+    requires quiet { talks (S.state shell.old).beside ≡ false }
     ensures served { (s : State) → Stands (S.state shell.old) tables.old s → MatchResult result
         (λ _. Reaches (S.state shell.old) (S.state shell.new) tables.new
         (ServesAtHand s (asked_now (unread lines.old))))
@@ -159,6 +164,7 @@ pub(crate) fn pull<S: Shell>(
 ) -> Result<bool, RunFault>
     requires room { 0 < length buf.old }
     requires going { (unread lines.old).ended ≡ false }
+    requires quiet { talks (S.state shell.old).beside ≡ false }
     ensures went { (s : State) → Stands (S.state shell.old) tables.old s → MatchResult result
         (λ more. Reaches (S.state shell.old) (S.state shell.new) tables.new
         (λ t. GoesOrEnds more s (unread lines.old) t (unread lines.new)))

@@ -1,7 +1,8 @@
 //! The words of the command line, read by hand.
 
-ghost use Rattle.std.specs.Prelude.{◌≡◌, ◌<◌, ◌^◌, ◌-◌, Some, None, min, option_map};
-ghost use Rattle.alternator.specs.Words.{digits_from, number_of, is_within, is_replay, port_of, small_port, bytes_of};
+ghost use Rattle.std.specs.Prelude.{◌≡◌, ◌<◌, ◌^◌, ◌-◌, ◌&&◌, true, false, Some, None, min, option_map, codes, IfSome};
+ghost use Rattle.std.specs.Str.{bytes_eq};
+ghost use Rattle.alternator.specs.Words.{digits_from, number_of, is_within, is_flush, is_merge, small_some, some_of, serve_with, replay_of, serve_of, job_of, IsServable, port_of, small_port, bytes_of};
 
 // The number of the digits, 2^64 - 1 where it is greater.
 fn digits(word: &[u8]) -> Option<u64>
@@ -39,17 +40,114 @@ fn is_within(least: u64, most: u64, word: &[u8]) -> bool
     }
 }
 
-/// Whether the words are `replay FLUSH MERGE`, FLUSH from 65,536 to 1,073,741,824 bytes and MERGE from 2 to 64 files.
-pub(crate) fn is_replay(words: &[String]) -> bool
-    ensures { result ≡ is_replay (bytes_of words.now) }
+/// What a run is to do.
+#[derive(Clone, Copy, Debug, PartialEq, Eq)]
+pub enum Job {
+    /// Requests as lines of standard input.
+    Replay,
+    /// So many connections, one after another, with so many requests at most on each.
+    Serve { per: u32, connections: u32 },
+}
+
+fn is_flush(word: &[u8]) -> bool
+    ensures { result ≡ is_flush word.now }
+{
+    is_within(65_536, 1_073_741_824, word)
+}
+
+fn is_merge(word: &[u8]) -> bool
+    ensures { result ≡ is_merge word.now }
+{
+    is_within(2, 64, word)
+}
+
+fn small_some(number: u64) -> Option<u32>
+    ensures number { result ≡ small_some number }
+    ensures some { IfSome result (λ n. 0 < n) }
+{
+    if 1 <= number && number <= 4_294_967_295 {
+        Some(number as u32)
+    } else {
+        None
+    }
+}
+
+/// A number from 1 to 4,294,967,295.
+#[tactic(auto, using(crate::proofs::Numbers::some_capped))]
+fn some(word: &[u8]) -> Option<u32>
+    ensures number { result ≡ some_of word.now }
+    ensures some { IfSome result (λ n. 0 < n) }
+{
+    match number(word) {
+        Some(number) => small_some(number),
+        None => None,
+    }
+}
+
+fn serve_with(per: Option<u32>, connections: Option<u32>) -> Option<Job>
+    requires some { IfSome per (λ n. 0 < n) }
+    ensures job { result ≡ serve_with per connections }
+    ensures servable { IfSome result IsServable }
+{
+    match (per, connections) {
+        (Some(per), Some(connections)) => Some(Job::Serve { per, connections }),
+        _ => None,
+    }
+}
+
+fn is_replay(word: &str, flush: &[u8], merge: &[u8]) -> bool
+    ensures { result ≡ (bytes_eq word.now (codes "replay") && is_flush flush.now && is_merge merge.now) }
+{
+    word == "replay" && is_flush(flush) && is_merge(merge)
+}
+
+fn is_serve(word: &str, flush: &[u8], merge: &[u8]) -> bool
+    ensures { result ≡ (bytes_eq word.now (codes "serve") && is_flush flush.now && is_merge merge.now) }
+{
+    word == "serve" && is_flush(flush) && is_merge(merge)
+}
+
+fn replay_of(words: &[String]) -> Option<Job>
+    ensures job { result ≡ replay_of (bytes_of words.now) }
+    ensures servable { IfSome result IsServable }
 {
     match words {
         [word, flush, merge] => {
-            word.as_str() == "replay"
-                && is_within(65_536, 1_073_741_824, flush.as_bytes())
-                && is_within(2, 64, merge.as_bytes())
+            if is_replay(word.as_str(), flush.as_bytes(), merge.as_bytes()) {
+                Some(Job::Replay)
+            } else {
+                None
+            }
         }
-        _ => false,
+        _ => None,
+    }
+}
+
+fn serve_of(words: &[String]) -> Option<Job>
+    ensures job { result ≡ serve_of (bytes_of words.now) }
+    ensures servable { IfSome result IsServable }
+{
+    match words {
+        [word, per, connections, flush, merge] => {
+            if is_serve(word.as_str(), flush.as_bytes(), merge.as_bytes()) {
+                serve_with(some(per.as_bytes()), some(connections.as_bytes()))
+            } else {
+                None
+            }
+        }
+        _ => None,
+    }
+}
+
+/// The job that the words behind folder and port ask for: `replay FLUSH MERGE`, or `serve PER CONNECTIONS FLUSH MERGE`. FLUSH is
+/// from 65,536 to 1,073,741,824 bytes, MERGE from 2 to 64 files, PER and CONNECTIONS from 1 to 4,294,967,295.
+pub(crate) fn job_of(words: &[String]) -> Option<Job>
+    ensures job { result ≡ job_of (bytes_of words.now) }
+    ensures servable { IfSome result IsServable }
+{
+    match replay_of(words) {
+        Some(job) => Some(job),
+        None => serve_of(words),
     }
 }
 

@@ -1,0 +1,121 @@
+"""Real requests of boto3 against a server on the loopback address: python3 checks/clients.py PORT."""
+
+import sys
+import threading
+from decimal import Decimal
+
+import boto3
+from botocore.config import Config
+from botocore.exceptions import ClientError
+
+PORT = int(sys.argv[1])
+SETTINGS = dict(
+    endpoint_url=f"http://127.0.0.1:{PORT}",
+    region_name="local",
+    aws_access_key_id="any",
+    aws_secret_access_key="any",
+    config=Config(connect_timeout=5, read_timeout=20, retries={"max_attempts": 3}),
+)
+failures = []
+
+
+def wants(name, got, wanted):
+    if got != wanted:
+        failures.append(f"{name}: got {got!r}, not {wanted!r}")
+
+
+def error_of(call, **arguments):
+    try:
+        call(**arguments)
+    except ClientError as error:
+        return error.response["Error"]["Code"]
+    return None
+
+
+client = boto3.client("dynamodb", **SETTINGS)
+keys = [{"AttributeName": "Artist", "KeyType": "HASH"}, {"AttributeName": "Year", "KeyType": "RANGE"}]
+kinds = [
+    {"AttributeName": "Artist", "AttributeType": "S"},
+    {"AttributeName": "Year", "AttributeType": "N"},
+]
+made = client.create_table(
+    TableName="Music", KeySchema=keys, AttributeDefinitions=kinds, BillingMode="PAY_PER_REQUEST"
+)
+wants("create_table", made["TableDescription"]["TableStatus"], "ACTIVE")
+client.get_waiter("table_exists").wait(TableName="Music")
+wants("describe_table", client.describe_table(TableName="Music")["Table"]["TableName"], "Music")
+wants(
+    "a second one",
+    error_of(client.create_table, TableName="Music", KeySchema=keys, AttributeDefinitions=kinds),
+    "ResourceInUseException",
+)
+wants(
+    "no such table",
+    error_of(client.get_item, TableName="Musik", Key={"Artist": {"S": "a"}, "Year": {"N": "1"}}),
+    "ResourceNotFoundException",
+)
+wants(
+    "a bad key",
+    error_of(client.put_item, TableName="Music", Item={"Artist": {"S": ""}, "Year": {"N": "1"}}),
+    "ValidationException",
+)
+
+table = boto3.resource("dynamodb", **SETTINGS).Table("Music")
+song = {
+    "Artist": "No One You Know",
+    "Year": Decimal("1999"),
+    "Awards": Decimal("-125.5"),
+    "Cover": b"\x00\x01\xff",
+    "Live": False,
+    "Label": None,
+    "Places": {"a", "b"},
+    "Stars": {Decimal("9"), Decimal("-1")},
+    "Songs": ["One", Decimal("2"), {"deep": [True]}],
+}
+table.put_item(Item=song)
+got = table.get_item(Key={"Artist": "No One You Know", "Year": 1999}, ConsistentRead=True)["Item"]
+got["Cover"] = bytes(got["Cover"])
+wants("an item of all kinds", got, song)
+wants("none there", "Item" in table.get_item(Key={"Artist": "x", "Year": 1}), False)
+
+for n in range(200):
+    table.put_item(Item={"Artist": f"a{n % 7}", "Year": n})
+wants("the last of 200", table.get_item(Key={"Artist": "a3", "Year": 199})["Item"]["Year"], 199)
+
+
+def put_some(first):
+    mine = boto3.client("dynamodb", **SETTINGS)
+    for n in range(10):
+        mine.put_item(TableName="Music", Item={"Artist": {"S": f"t{first}"}, "Year": {"N": str(n)}})
+
+
+threads = [threading.Thread(target=put_some, args=(n,)) for n in range(8)]
+for thread in threads:
+    thread.start()
+for thread in threads:
+    thread.join()
+for n in range(8):
+    key = {"Artist": {"S": f"t{n}"}, "Year": {"N": "9"}}
+    wants(f"thread {n}", "Item" in client.get_item(TableName="Music", Key=key), True)
+
+for name in ("Abc", "Bcd", "Cde"):
+    client.create_table(
+        TableName=name,
+        KeySchema=[{"AttributeName": "k", "KeyType": "HASH"}],
+        AttributeDefinitions=[{"AttributeName": "k", "AttributeType": "S"}],
+        BillingMode="PAY_PER_REQUEST",
+    )
+pages = client.get_paginator("list_tables").paginate(PaginationConfig={"PageSize": 2})
+names = [name for page in pages for name in page["TableNames"]]
+wants("tables by pages", [n for n in names if n != "Tab"], ["Abc", "Bcd", "Cde", "Music"])
+wants(
+    "delete_table",
+    client.delete_table(TableName="Abc")["TableDescription"]["TableStatus"],
+    "DELETING",
+)
+client.get_waiter("table_not_exists").wait(TableName="Abc")
+
+for failure in failures:
+    print("clients:", failure)
+print(f"clients: boto3 {boto3.__version__}, {len(failures)} failures")
+sys.exit(1 if failures else 0)

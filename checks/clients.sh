@@ -1,0 +1,66 @@
+#!/usr/bin/env bash
+# A server on the loopback address, and clients of DynamoDB against it: curl, and boto3 where it is installed. It ends by itself: the server
+# serves so many connections at most and is stopped at the end, and every wait has a limit.
+#
+#   checks/clients.sh [PORT]      default 47120
+#   PROGRAM=path checks/clients.sh       the program to try, default ./alternator
+set -u
+cd "$(dirname "$0")/.."
+port=${1-47120}
+program=${PROGRAM-./alternator}
+work=$(mktemp -d)
+"$program" "$work/store" 0 replay 65536 4 </dev/null >/dev/null || { echo 'clients: the program does not run'; exit 1; }
+"$program" "$work/store" "$port" serve 1 3000 65536 4 2>"$work/notes" &
+server=$!
+trap 'kill "$server" 2>/dev/null; wait "$server" 2>/dev/null; rm -rf "$work"' EXIT
+for _ in $(seq 50); do
+  (exec 3<>"/dev/tcp/127.0.0.1/$port") 2>/dev/null && break
+  sleep 0.1
+done
+passed=0
+failed=0
+# answers NAME WANTED ARGUMENTS..: what curl gets contains WANTED
+answers() {
+  local name=$1 wanted=$2 got
+  shift 2
+  got=$(curl -s -i -m 10 "http://127.0.0.1:$port/" "$@" 2>&1)
+  case $got in
+    *"$wanted"*) passed=$((passed + 1)) ;;
+    *)
+      failed=$((failed + 1))
+      echo "$name: got '$got', without '$wanted'"
+      ;;
+  esac
+}
+# asks NAME WANTED OPERATION BODY
+asks() { answers "$1" "$2" -H "X-Amz-Target: DynamoDB_20120810.$3" -d "$4"; }
+
+asks 'a table is made' '"TableStatus":"ACTIVE"' CreateTable '{"TableName":"Tab","KeySchema":[{"AttributeName":"k","KeyType":"HASH"}],"AttributeDefinitions":[{"AttributeName":"k","AttributeType":"S"}]}'
+asks 'an item is put' 'HTTP/1.1 200 OK' PutItem '{"TableName":"Tab","Item":{"k":{"S":"a"},"n":{"N":"-0012.500E1"}}}'
+asks 'it is read' '{"Item":{"k":{"S":"a"},"n":{"N":"-125"}}}' GetItem '{"TableName":"Tab","Key":{"k":{"S":"a"}}}'
+asks 'another operation' 'UnknownOperationException' Fly '{}'
+answers 'no target' 'UnknownOperationException' -d '{}'
+answers 'another method' 'HTTP/1.1 405 Method Not Allowed' -X PUT -d '{}'
+answers 'another path' '"only /"' --request-target /x -d '{}'
+answers 'a coding' 'HTTP/1.1 501 Not Implemented' -H 'Transfer-Encoding: chunked' -d '{}'
+answers 'a body that is too long' '413 Content Too Large' -H 'Content-Length: 16777217' -H 'Expect:' -d '{}'
+head -c 300000 /dev/zero | tr '\0' x >"$work/long"
+printf '{"TableName":"Tab","Item":{"k":{"S":"long"},"v":{"S":"%s"}}}' "$(cat "$work/long")" >"$work/body"
+answers 'a body behind 100 Continue' 'HTTP/1.1 100 Continue' -H 'Expect: 100-continue' -H 'X-Amz-Target: DynamoDB_20120810.PutItem' -d @"$work/body"
+asks 'and it is stored' '"k":{"S":"long"}' GetItem '{"TableName":"Tab","Key":{"k":{"S":"long"}}}'
+# a request that is cut off stores nothing
+printf 'POST / HTTP/1.1\r\nX-Amz-Target: DynamoDB_20120810.PutItem\r\nContent-Length: 60\r\n\r\n{"TableName":"Tab","Item":{"k"' >"/dev/tcp/127.0.0.1/$port"
+asks 'a request that was cut off stores nothing' '{}' GetItem '{"TableName":"Tab","Key":{"k":{"S":"cut"}}}'
+
+if python3 -c 'import boto3' 2>/dev/null; then
+  if timeout 120 python3 checks/clients.py "$port"; then
+    passed=$((passed + 1))
+  else
+    failed=$((failed + 1))
+  fi
+else
+  echo 'clients: boto3 is not installed, and its part was skipped'
+fi
+kill -0 "$server" 2>/dev/null || { failed=$((failed + 1)); echo 'clients: the server ended'; }
+echo "clients: $passed passed, $failed failed"
+[ "$failed" = 0 ]

@@ -1,0 +1,113 @@
+-- A whole connection, from its accept to its hanging up.
+use Rattle.std.proofs.Common.{◌≡◌, ◌<◌, inl, inr, ℕ, List, [], ◌∷◌, ◌++◌, Bool, true, false, not, Option, None, refl, sym, ap, subst, ◌∙◌, append-nil, arith}
+use Rattle.std.specs.Prelude.{◌||◌}
+use Rattle.alt_disk.specs.Disk.{DiskState}
+use Rattle.alt_machine.specs.State.{State}
+use Rattle.alt_shell.specs.Calls.{Adds, Keeps}
+use Rattle.alt_shell.specs.Log.{Log, Grows, moments_of, notes_of, told_count, talks, entry, accepted, none_came, hung_up, taken, said_in, says_failed}
+use Rattle.alt_shell.proofs.Keeping.{keeps-then}
+use Rattle.alternator.specs.Runs.{Calls, Passes}
+use Rattle.alternator.specs.Talks.{Turn, Rules, Place, at, turns, closes}
+use Rattle.alternator.specs.TalkTexts.{text}
+use Rattle.alternator.specs.Stretches.{SaidOf, over, Does, DoesSome, Goes, GoesSome, Ends}
+use Rattle.alternator.specs.Connections.{Serves, Comes, ComesSome}
+use Rattle.alternator.proofs.Serving.{taken-append, said_in-append}
+use Rattle.alternator.proofs.TalkLogs.{calls_one, took_then, then_one, over-append, broken-append}
+use Rattle.alternator.proofs.TalkCuts.{closes_end}
+
+or_false : (b : Bool) → (b || false) ≡ b
+or_false true = refl
+or_false false = refl
+
+not_false : (b c : Bool) → b ≡ not c → c ≡ false → b ≡ true
+not_false b c e f = e ∙ ap not f
+
+module _ (r : Rules) (per : ℕ) (s : State) (es : Log) (ms : List ℕ) (from since upto clocked : ℕ) where
+  all : Log
+  all = es ++ entry upto clocked hung_up ∷ []
+
+  same_taken : taken (es ++ entry upto clocked hung_up ∷ []) ≡ taken es
+  same_taken = taken-append es (entry upto clocked hung_up ∷ []) ∙ append-nil (taken es)
+
+  same_said : said_in (es ++ entry upto clocked hung_up ∷ []) ≡ said_in es
+  same_said = said_in-append es (entry upto clocked hung_up ∷ []) ∙ append-nil (said_in es)
+
+  same_broken : says_failed (es ++ entry upto clocked hung_up ∷ []) ≡ says_failed es
+  same_broken = broken-append es (entry upto clocked hung_up ∷ []) ∙ or_false (says_failed es)
+
+  same_ended : over (es ++ entry upto clocked hung_up ∷ []) ≡ over es
+  same_ended = over-append es (entry upto clocked hung_up ∷ []) ∙ or_false (over es)
+
+  pub serves_hung : (q : Place) (t : State) (n : Bool) → 0 < per → Ends r (at per false []) s false q t n es ms
+      → Serves r per s (record { moment = from; clocked = since; entries = es ++ entry upto clocked hung_up ∷ []; told = ms }) t
+  serves_hung q t n some e =
+      let d = e.goes.does in
+      let ts : List Turn = turns r per false (taken (es ++ entry upto clocked hung_up ∷ [])) in
+      let moved : Does r s false ts t n es ms = subst (λ (bs : List ℕ). Does r s false (turns r per false bs) t n es ms) (sym same_taken) d in
+      let whole : Does r s false ts t n (es ++ entry upto clocked hung_up ∷ []) ms = record {
+        said = subst (λ (bs : List ℕ). SaidOf n bs (text r s ts ms)) (sym same_said) moved.said;
+        state = moved.state;
+        count = moved.count;
+        enough = moved.enough;
+        broke = moved.broke ∙ sym same_broken;
+        silent = λ z. absurd (let f : ⊥ = cc in f);
+      } in
+      record {
+        does = subst (λ (b : Bool). Does r s false ts t b (es ++ entry upto clocked hung_up ∷ []) ms) whole.broke whole;
+        cause = elim e.cause [
+          | inl none ↦ inl (same_ended ∙ not_false (over es) e.more e.goes.ends none)
+          | inr (inl mute) ↦ inr (inl (same_broken ∙ sym d.broke ∙ mute))
+          | inr (inr done) ↦ inr (inr (ap (λ bs. closes (turns r per false bs)) same_taken ∙ closes_end r per false (taken es) some (ap (λ (p : Place). p.left) (sym e.goes.place) ∙ done)))
+        ];
+        before = es;
+        at = upto;
+        clocked = clocked;
+        hung = refl;
+        inside = e.goes.inside;
+      }
+
+  pub some_hung : (number : Option ℕ) → GoesSome r number (at per false []) s false es ms → DoesSome r number s false (turns r per false (taken (es ++ entry upto clocked hung_up ∷ []))) (es ++ entry upto clocked hung_up ∷ []) ms
+  some_hung number e =
+      let moved = subst (λ (bs : List ℕ). DoesSome r number s false (turns r per false bs) es ms) (sym same_taken) e.some in record {
+        said = (moved.said.0, moved.said.1 ∙ ap (λ bs. bs ++ moved.said.0) (sym same_said));
+        most = moved.most;
+        wants = moved.wants;
+        silent = λ z. absurd (let f : ⊥ = cc in f);
+      }
+
+-- an accept, a stretch, and the hanging up
+pub calls_hung : (a b c d : Log) (since clocked from upto : ℕ) (P Q : Log → List ℕ → Type 0)
+    → Grows a b (entry from since accepted ∷ []) → moments_of b ≡ moments_of a
+    → Grows c d (entry upto clocked hung_up ∷ []) → moments_of d ≡ moments_of c
+    → ((es : Log) (ms : List ℕ) → P es ms
+    → Q (entry from since accepted ∷ (es ++ entry upto clocked hung_up ∷ [])) ms)
+    → Calls b c P → Calls a d Q
+calls_hung a b c d since clocked from upto P Q came m went n join p =
+    took_then a b d (entry from since accepted)
+    (λ es ms. Q (entry from since accepted ∷ es) ms) Q came m (λ es ms q. q)
+    (then_one b c d (entry upto clocked hung_up) P (λ es ms. Q (entry from since accepted ∷ es) ms)
+    went n join p)
+
+-- none came
+pub none_comes : (r : Rules) (per : ℕ) (s : State) (a b : DiskState) → Adds a b none_came
+    → moments_of b.beside ≡ moments_of a.beside
+    → Calls a.beside b.beside (Comes r per false s s)
+none_comes r per s a b g m = calls_one a.beside b.beside (Comes r per false s s) _ g m
+    (refl, (b.moment, told_count a.beside, refl), refl)
+
+-- the wait failed
+pub wait_failed : (r : Rules) (per : ℕ) (s : State) (a b : DiskState)
+    → Grows a.beside b.beside [] → moments_of b.beside ≡ moments_of a.beside
+    → Calls a.beside b.beside (ComesSome r per None s)
+wait_failed r per s a b g m = calls_one a.beside b.beside (ComesSome r per None s) [] g m
+    (inl (refl, refl))
+
+-- what is kept from the accept to the hanging up
+pub hung_passes : (a b c d : DiskState) → talks a.beside ≡ false → Keeps a b
+    → notes_of b.beside ≡ notes_of a.beside → Passes b c → Keeps c d
+    → notes_of d.beside ≡ notes_of c.beside → talks d.beside ≡ false → Passes a d
+hung_passes a b c d quiet first notes p last more off = record {
+  keeps = keeps-then a c d (keeps-then a b c first p.keeps) last;
+  notes = more ∙ p.notes ∙ notes;
+  talking = off ∙ sym quiet;
+}

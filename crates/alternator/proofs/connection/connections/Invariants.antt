@@ -1,0 +1,20 @@
+use Rattle.std.proofs.Common.{◌≤◌, ◌-◌}
+use Rattle.alt_machine.specs.State.{State}
+use Rattle.alt_tables.specs.Stands.{Stands}
+use Rattle.alternator.specs.Runs.{Reaches, Passes}
+use Rattle.alternator.specs.TalkRules.{rules}
+use Rattle.alternator.proofs.TalkAll.{Sofar}
+use Rattle.alternator.proofs.connection.connections.Given as goal
+
+abbrev pub invariant-loop-served : goal.invariant-loop-served
+invariant-loop-served g l =
+    let state = g.S.Disk.state in
+    let old = state l.initial.shell in
+    let new = state l.shell in
+    ((s : State) → Stands old l.initial.tables s
+    → Reaches old new l.tables (λ t. Sofar rules l.per l.served s t))
+    × Passes old new
+    × (l.served ≤ l.count)
+
+abbrev pub decreases-loop-served : goal.decreases-loop-served
+decreases-loop-served g l = l.count - l.served

@@ -1,0 +1,122 @@
+-- What a part of the serving of connections says, takes and leaves: one word for each rung.
+use Rattle.std.specs.Prelude.{◌≡◌, ◌<◌, ◌≤◌, ◌-◌, ◌⊎◌, if◌then◌else◌, drop, ℕ, List, [], ◌∷◌, ◌++◌, length, Bool, true, false, not, ◌||◌, Option, Some, None}
+use Rattle.std.specs.List.{list_any}
+use Rattle.alt_base.specs.Prefix.{IsPrefix}
+use Rattle.alt_machine.specs.State.{State}
+use Rattle.alt_shell.specs.Log.{Log, Event, event_of, is_end, is_take_failed, taken, said_in, says_failed, crosses}
+use Rattle.alternator.specs.Faults.{IsLacked}
+use Rattle.alternator.specs.Talks.{Turn, asked, Rules, Head, Place, at, size_of, request_of, turns, final, turns_at, final_at, has_refused}
+use Rattle.alternator.specs.TalkTexts.{text, after, requests, asks, wanted}
+
+-- the end was taken, or a take failed
+abbrev pub is_over : Option Event → Bool
+is_over e = is_end e || is_take_failed e
+
+-- whether no more bytes will come
+abbrev pub over : Log → Bool
+over es = list_any (λ e. is_over (event_of e.1)) es
+
+-- nothing was taken, and no connection came or went
+pub record Quiet (entries : Log) : Type 0 where
+  pub still : taken entries ≡ []
+  pub goes_on : over entries ≡ false
+  pub inside : crosses entries ≡ false
+
+-- all of a text was said; or, where a say failed, some of its front
+abbrev pub SaidOf : Bool → List ℕ → List ℕ → Type 0
+SaidOf true some whole = IsPrefix some whole
+SaidOf false some whole = some ≡ whole
+
+-- A text was said, as far as no say failed before or now.
+pub record Utters (mute : Bool) (bytes : List ℕ) (after_it : Bool) (entries : Log) (told : List ℕ) : Type 0 where
+  pub said : SaidOf after_it (said_in entries) bytes
+  pub broke : after_it ≡ (mute || says_failed entries)
+  pub silent : mute ≡ true → said_in entries ≡ []
+  pub quiet : Quiet entries
+  pub timeless : told ≡ []
+
+-- Turns were done, from a state to a state. `mute` tells whether a say on the connection had failed before, and `after_it` whether one
+-- has now: what was said is then a part from the front. Each request took a moment, and so did a refusal unless a say failed before it.
+pub record Does (r : Rules) (s : State) (mute : Bool) (ts : List Turn) (t : State) (after_it : Bool) (entries : Log) (told : List ℕ) : Type 0 where
+  pub said : SaidOf after_it (said_in entries) (text r s ts told)
+  pub state : t ≡ after r s ts told
+  pub count : (length told ≡ asks ts) ⊎ ((after_it ≡ true) × (length told ≡ requests ts))
+  pub enough : wanted r s ts told ≡ None
+  pub broke : after_it ≡ (mute || says_failed entries)
+  pub silent : mute ≡ true → (said_in entries ≡ []) × (length told ≡ requests ts)
+
+-- and nothing was taken
+pub record Answers (r : Rules) (s : State) (mute : Bool) (ts : List Turn) (t : State) (after_it : Bool) (entries : Log) (told : List ℕ) : Type 0 where
+  pub does : Does r s mute ts t after_it entries told
+  pub quiet : Quiet entries
+
+-- Doing these turns broke off.
+pub record DoesSome (r : Rules) (number : Option ℕ) (s : State) (mute : Bool) (ts : List Turn) (entries : Log) (told : List ℕ) : Type 0 where
+  pub said : IsPrefix (said_in entries) (text r s ts told)
+  pub most : length told ≤ asks ts
+  pub wants : IsLacked number (wanted r s ts told)
+  pub silent : mute ≡ true → said_in entries ≡ []
+
+-- and nothing was taken
+pub record AnswersSome (r : Rules) (number : Option ℕ) (s : State) (mute : Bool) (ts : List Turn) (entries : Log) (told : List ℕ) : Type 0 where
+  pub some : DoesSome r number s mute ts entries told
+  pub quiet : Quiet entries
+
+-- Turns at hand were done, from a place to a place, and nothing was taken.
+pub record Moves (r : Rules) (p : Place) (s : State) (mute : Bool) (q : Place) (t : State) (after_it : Bool) (entries : Log) (told : List ℕ) : Type 0 where
+  pub done : List Turn
+  pub does : Does r s mute done t after_it entries told
+  pub splits : turns r p.left p.greeted p.bytes ≡ done ++ turns r q.left q.greeted q.bytes
+  pub same : final r p.left p.greeted p.bytes ≡ final r q.left q.greeted q.bytes
+  pub clear : 0 < q.left → has_refused done ≡ false
+  pub quiet : Quiet entries
+
+-- no turn is at hand
+abbrev pub AtRest : Rules → Place → Type 0
+AtRest r q = (turns r q.left q.greeted q.bytes ≡ []) × (final r q.left q.greeted q.bytes ≡ q)
+
+-- One turn was done, or none was at hand.
+pub record Steps (r : Rules) (more : Bool) (p : Place) (s : State) (mute : Bool) (q : Place) (t : State) (after_it : Bool) (entries : Log) (told : List ℕ) : Type 0 where
+  pub moves : Moves r p s mute q t after_it entries told
+  pub rests : more ≡ false → AtRest r q
+  pub fewer : more ≡ true → q.left < p.left
+
+-- The whole request behind this head was carried out, and dropped from the front.
+pub record Carries (r : Rules) (h : Head) (p : Place) (s : State) (mute : Bool) (q : Place) (t : State) (after_it : Bool) (entries : Log) (told : List ℕ) : Type 0 where
+  pub answers : Answers r s mute (asked (request_of h p.bytes (p.left - 1)) ∷ []) t after_it entries told
+  pub place : q ≡ at (if h.close then 0 else p.left - 1) false (drop (size_of h) p.bytes)
+
+-- carrying it out broke off
+abbrev pub CarriesSome : Rules → Option ℕ → Head → Place → State → Bool → Log → List ℕ → Type 0
+CarriesSome r number h p s mute entries told = AnswersSome r number s mute (asked (request_of h p.bytes (p.left - 1)) ∷ []) entries told
+
+-- Turns were done until none was left at hand.
+pub record MovesAll (r : Rules) (p : Place) (s : State) (mute : Bool) (q : Place) (t : State) (after_it : Bool) (entries : Log) (told : List ℕ) : Type 0 where
+  pub does : Does r s mute (turns r p.left p.greeted p.bytes) t after_it entries told
+  pub place : q ≡ final r p.left p.greeted p.bytes
+  pub clear : 0 < q.left → has_refused (turns r p.left p.greeted p.bytes) ≡ false
+  pub quiet : Quiet entries
+
+-- Some bytes were taken, and the turns at hand then were done. There is more, or the end came.
+pub record Goes (r : Rules) (more : Bool) (p : Place) (s : State) (mute : Bool) (q : Place) (t : State) (after_it : Bool) (entries : Log) (told : List ℕ) : Type 0 where
+  pub does : Does r s mute (turns_at r p (taken entries)) t after_it entries told
+  pub place : q ≡ final_at r p (taken entries)
+  pub clear : 0 < q.left → has_refused (turns_at r p (taken entries)) ≡ false
+  pub ends : over entries ≡ not more
+  pub inside : crosses entries ≡ false
+
+-- the turns at hand broke off, and nothing was taken
+pub record MovesSome (r : Rules) (number : Option ℕ) (p : Place) (s : State) (mute : Bool) (entries : Log) (told : List ℕ) : Type 0 where
+  pub some : DoesSome r number s mute (turns r p.left p.greeted p.bytes) entries told
+  pub quiet : Quiet entries
+
+-- Takes and turns went on until no more came, a say failed, or the turns ended.
+pub record Ends (r : Rules) (p : Place) (s : State) (mute : Bool) (q : Place) (t : State) (after_it : Bool) (entries : Log) (told : List ℕ) : Type 0 where
+  pub more : Bool
+  pub goes : Goes r more p s mute q t after_it entries told
+  pub cause : (more ≡ false) ⊎ (after_it ≡ true) ⊎ (q.left ≡ 0)
+
+-- taking, and the turns at hand then, broke off
+pub record GoesSome (r : Rules) (number : Option ℕ) (p : Place) (s : State) (mute : Bool) (entries : Log) (told : List ℕ) : Type 0 where
+  pub some : DoesSome r number s mute (turns_at r p (taken entries)) entries told
+  pub inside : crosses entries ≡ false

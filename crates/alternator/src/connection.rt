@@ -1,0 +1,540 @@
+//! Serving connections: from the bytes taken to the replies said. Each function says of the calls that it made which turns of
+//! the connection they did, or where among them it broke off, so that a run is put together from them.
+
+ghost use Rattle.std.specs.Prelude.{◌≡◌, ◌<◌, ◌≤◌, ◌+◌, ◌-◌, ◌^◌, ◌==◌, ◌||◌, nat_le, if◌then◌else◌, ℕ, [], ◌∷◌, take, drop, length, true, false, IfOk, OnOk, IfErr, IsErrOf, MatchResult};
+ghost use Rattle.alt_base.specs.Counts.{Rose};
+ghost use Rattle.alt_machine.specs.State.{State};
+ghost use Rattle.alt_shell.specs.Log.{talks, takes_missed, says_missed};
+ghost use Rattle.alt_tables.specs.Stands.{Stands};
+ghost use Rattle.alternator.specs.Connections.{Comes, ComesSome, Served, ServedSome};
+ghost use Rattle.alternator.specs.Faults.{number_of};
+ghost use Rattle.alternator.specs.Runs.{Calls, Passes, Reaches};
+ghost use Rattle.alternator.specs.Stretches.{Utters, Answers, AnswersSome, MovesAll, MovesSome, Steps, Carries, CarriesSome, Goes, GoesSome, Ends, AtRest};
+ghost use Rattle.alternator.specs.TalkRules.{rules};
+ghost use Rattle.alternator.specs.TalkViews.{place_of, head_in, asking};
+ghost use Rattle.alternator.specs.Talks.{onward, asked, refused, good, greets};
+
+use crate::response::{refusal_text, response};
+use crate::serve::RunFault;
+use alt_base::NoMemory;
+use alt_fields::Bytes;
+use alt_http::{CONTINUE, Scan, scan};
+use alt_shell::Shell;
+use alt_tables::Tables;
+use std::alloc::Global;
+
+/// A connection as it is served: the bytes taken that no turn has used, how many requests may come, whether the client of the head
+/// in front was let go on, and whether a say failed.
+#[derive(Drop)]
+pub(crate) struct Talk {
+    front: Vec<u8>,
+    left: u32,
+    greeted: bool,
+    mute: bool,
+}
+
+/// Says a text, unless a say failed before.
+fn utter<S: Shell>(mute: &mut bool, text: &[u8], shell: &mut S)
+    requires talking { talks (S.state shell.old).beside ≡ true }
+    requires hears { mute.old ≡ false → says_missed (S.state shell.old).beside ≡ false }
+    ensures said { Calls (S.state shell.old).beside (S.state shell.new).beside
+        (Utters mute.old text.now mute.new) }
+    ensures hears { mute.new ≡ false → says_missed (S.state shell.new).beside ≡ false }
+    ensures takes { takes_missed (S.state shell.new).beside
+        ≡ takes_missed (S.state shell.old).beside }
+    ensures passes { Passes (S.state shell.old) (S.state shell.new) }
+{
+    if *mute {
+        return;
+    }
+    match shell.say(text) {
+        Ok(()) => {}
+        Err(_) => {
+            *mute = true;
+        }
+    }
+}
+
+/// Drops bytes from the front.
+fn pass(front: &mut Vec<u8>, count: usize)
+    requires { count ≤ length front.old.items }
+    ensures { front.new.items ≡ drop count front.old.items }
+{
+    front.drain(..count);
+}
+
+/// A head that is refused. It takes a moment unless a say failed before.
+fn refuse<S: Shell>(
+    alloc: Global,
+    number: u8,
+    mute: &mut bool,
+    shell: &mut S,
+) -> Result<(), RunFault>
+    requires low { 1 ≤ number }
+    requires high { number ≤ 9 }
+    requires talking { talks (S.state shell.old).beside ≡ true }
+    requires hears { mute.old ≡ false → says_missed (S.state shell.old).beside ≡ false }
+    ensures answered { (s : State) → MatchResult result
+        (λ _. Calls (S.state shell.old).beside (S.state shell.new).beside
+        (Answers rules s mute.old (refused number ∷ []) s mute.new))
+        (λ f. Calls (S.state shell.old).beside (S.state shell.new).beside
+        (AnswersSome rules (number_of f) s mute.old (refused number ∷ []))) }
+    ensures hears { mute.new ≡ false → says_missed (S.state shell.new).beside ≡ false }
+    ensures takes { takes_missed (S.state shell.new).beside
+        ≡ takes_missed (S.state shell.old).beside }
+    ensures cause { IsErrOf result RunFault.Failed
+        → Rose (S.state shell.old).faults (S.state shell.new).faults }
+    ensures passes { Passes (S.state shell.old) (S.state shell.new) }
+{
+    if *mute {
+        return Ok(());
+    }
+    let moment = shell.now();
+    match refusal_text(alloc, number, moment) {
+        Ok(text) => {
+            utter(mute, &text, shell);
+            Ok(())
+        }
+        Err(_) => Err(RunFault::NoMemory),
+    }
+}
+
+/// A request: it is carried out at the moment that the clock tells, and answered unless a say failed before.
+fn respond<S: Shell>(
+    alloc: Global,
+    tables: &mut Tables,
+    target: &Option<Bytes>,
+    body: &[u8],
+    close: bool,
+    mute: &mut bool,
+    shell: &mut S,
+) -> Result<(), RunFault>
+    requires talking { talks (S.state shell.old).beside ≡ true }
+    requires hears { mute.old ≡ false → says_missed (S.state shell.old).beside ≡ false }
+    ensures answered { (s : State) → Stands (S.state shell.old) tables.old s → MatchResult result
+        (λ _. Reaches (S.state shell.old) (S.state shell.new) tables.new
+        (λ t. Answers rules s mute.old (asked (asking target.now body.now close) ∷ []) t mute.new))
+        (λ f. Calls (S.state shell.old).beside (S.state shell.new).beside
+        (AnswersSome rules (number_of f) s mute.old (asked (asking target.now body.now close) ∷ []))) }
+    ensures hears { mute.new ≡ false → says_missed (S.state shell.new).beside ≡ false }
+    ensures takes { takes_missed (S.state shell.new).beside
+        ≡ takes_missed (S.state shell.old).beside }
+    ensures cause { IsErrOf result RunFault.Failed
+        → Rose (S.state shell.old).faults (S.state shell.new).faults }
+    ensures passes { Passes (S.state shell.old) (S.state shell.new) }
+{
+    let moment = shell.now();
+    match response(alloc, tables, shell, target, body, close, moment) {
+        Ok(text) => {
+            utter(mute, &text, shell);
+            Ok(())
+        }
+        Err(fault) => Err(fault),
+    }
+}
+
+/// Lets the client go on where it waits for that and wasn't let before.
+fn hello<S: Shell>(expect: bool, greeted: bool, mute: &mut bool, shell: &mut S)
+    requires talking { talks (S.state shell.old).beside ≡ true }
+    requires hears { mute.old ≡ false → says_missed (S.state shell.old).beside ≡ false }
+    ensures greeted { (s : State) → Calls (S.state shell.old).beside (S.state shell.new).beside
+        (Answers rules s mute.old (greets greeted expect) s mute.new) }
+    ensures hears { mute.new ≡ false → says_missed (S.state shell.new).beside ≡ false }
+    ensures takes { takes_missed (S.state shell.new).beside
+        ≡ takes_missed (S.state shell.old).beside }
+    ensures passes { Passes (S.state shell.old) (S.state shell.new) }
+{
+    if !expect {
+        return;
+    }
+    if greeted {
+        return;
+    }
+    utter(mute, CONTINUE, shell)
+}
+
+fn either(a: bool, b: bool) -> bool
+    ensures { result ≡ (a || b) }
+{
+    a || b
+}
+
+/// Whether a body is whole behind its head.
+fn is_whole(held: usize, taken: usize, body: u64) -> bool
+    requires { taken ≤ held }
+    ensures { result ≡ nat_le (taken + body) held }
+{
+    (held - taken) as u64 >= body
+}
+
+/// Whether a reply closes.
+fn is_last(close: bool, left: u32) -> bool
+    requires { 0 < left }
+    ensures { result ≡ (close || (left - 1 == 0)) }
+{
+    close || left - 1 == 0
+}
+
+/// How many requests may come after one.
+fn left_after(close: bool, left: u32) -> u32
+    requires { 0 < left }
+    ensures left { result ≡ (if close then 0 else left - 1) }
+    ensures fewer { result < left }
+{
+    if close { 0 } else { left - 1 }
+}
+
+/// A head at the front of a talk.
+#[derive(Drop)]
+struct Head {
+    taken: usize,
+    target: Option<Bytes>,
+    length: u64,
+    expect: bool,
+    close: bool,
+}
+
+/// The body behind a head of so many bytes, up to where it ends.
+fn body_in(front: &[u8], taken: usize, size: usize) -> &[u8]
+    requires low { taken ≤ size }
+    requires high { size ≤ length front.now }
+    ensures { result.now ≡ take (size - taken) (drop taken front.now) }
+{
+    &front[taken..size]
+}
+
+/// A whole request at the front, whose client was let go on.
+fn carry<S: Shell>(
+    alloc: Global,
+    tables: &mut Tables,
+    head: &Head,
+    talk: &mut Talk,
+    shell: &mut S,
+) -> Result<(), RunFault>
+    requires going { 0 < talk.old.left }
+    requires whole { nat_le (head.now.taken + head.now.length)
+        (length talk.old.front.items) ≡ true }
+    requires talking { talks (S.state shell.old).beside ≡ true }
+    requires hears { talk.old.mute ≡ false → says_missed (S.state shell.old).beside ≡ false }
+    ensures carried { (s : State) → Stands (S.state shell.old) tables.old s → MatchResult result
+        (λ _. Reaches (S.state shell.old) (S.state shell.new) tables.new
+        (λ t. Carries rules (head_in head.now) (place_of talk.old) s talk.old.mute
+        (place_of talk.new) t talk.new.mute))
+        (λ f. Calls (S.state shell.old).beside (S.state shell.new).beside
+        (CarriesSome rules (number_of f) (head_in head.now) (place_of talk.old) s
+        talk.old.mute)) }
+    ensures fewer { OnOk result (talk.new.left < talk.old.left) }
+    ensures hears { talk.new.mute ≡ false → says_missed (S.state shell.new).beside ≡ false }
+    ensures takes { takes_missed (S.state shell.new).beside
+        ≡ takes_missed (S.state shell.old).beside }
+    ensures cause { IsErrOf result RunFault.Failed
+        → Rose (S.state shell.old).faults (S.state shell.new).faults }
+    ensures passes { Passes (S.state shell.old) (S.state shell.new) }
+{
+    let size = head.taken + head.length as usize;
+    let last = is_last(head.close, talk.left);
+    match respond(
+        alloc,
+        tables,
+        &head.target,
+        body_in(&talk.front, head.taken, size),
+        last,
+        &mut talk.mute,
+        shell,
+    ) {
+        Ok(()) => {}
+        Err(fault) => return Err(fault),
+    }
+    pass(&mut talk.front, size);
+    talk.greeted = false;
+    talk.left = left_after(head.close, talk.left);
+    Ok(())
+}
+
+/// A head at the front: the client is let go on where it waits for that, once, and the request is carried out where it is whole. It
+/// answers whether it was.
+fn found<S: Shell>(
+    alloc: Global,
+    tables: &mut Tables,
+    head: &Head,
+    talk: &mut Talk,
+    shell: &mut S,
+) -> Result<bool, RunFault>
+    requires going { 0 < talk.old.left }
+    requires head { rules.scan talk.old.front.items ≡ good (head_in head.now) }
+    requires lies { head.now.taken ≤ length talk.old.front.items }
+    requires talking { talks (S.state shell.old).beside ≡ true }
+    requires hears { talk.old.mute ≡ false → says_missed (S.state shell.old).beside ≡ false }
+    ensures stepped { (s : State) → Stands (S.state shell.old) tables.old s → MatchResult result
+        (λ more. Reaches (S.state shell.old) (S.state shell.new) tables.new
+        (λ t. Steps rules more (place_of talk.old) s talk.old.mute
+        (place_of talk.new) t talk.new.mute))
+        (λ f. Calls (S.state shell.old).beside (S.state shell.new).beside
+        (MovesSome rules (number_of f) (place_of talk.old) s talk.old.mute)) }
+    ensures fewer { IfOk result (λ more. more ≡ true → talk.new.left < talk.old.left) }
+    ensures hears { talk.new.mute ≡ false → says_missed (S.state shell.new).beside ≡ false }
+    ensures takes { takes_missed (S.state shell.new).beside
+        ≡ takes_missed (S.state shell.old).beside }
+    ensures cause { IsErrOf result RunFault.Failed
+        → Rose (S.state shell.old).faults (S.state shell.new).faults }
+    ensures passes { Passes (S.state shell.old) (S.state shell.new) }
+{
+    hello(head.expect, talk.greeted, &mut talk.mute, shell);
+    talk.greeted = either(talk.greeted, head.expect);
+    if !is_whole(talk.front.len(), head.taken, head.length) {
+        return Ok(false);
+    }
+    match carry(alloc, tables, head, talk, shell) {
+        Ok(()) => Ok(true),
+        Err(fault) => Err(fault),
+    }
+}
+
+/// One turn at the front, where one is at hand. It answers whether one was.
+fn one<S: Shell>(
+    alloc: Global,
+    tables: &mut Tables,
+    talk: &mut Talk,
+    shell: &mut S,
+) -> Result<bool, RunFault>
+    requires going { 0 < talk.old.left }
+    requires talking { talks (S.state shell.old).beside ≡ true }
+    requires hears { talk.old.mute ≡ false → says_missed (S.state shell.old).beside ≡ false }
+    ensures stepped { (s : State) → Stands (S.state shell.old) tables.old s → MatchResult result
+        (λ more. Reaches (S.state shell.old) (S.state shell.new) tables.new
+        (λ t. Steps rules more (place_of talk.old) s talk.old.mute
+        (place_of talk.new) t talk.new.mute))
+        (λ f. Calls (S.state shell.old).beside (S.state shell.new).beside
+        (MovesSome rules (number_of f) (place_of talk.old) s talk.old.mute)) }
+    ensures fewer { IfOk result (λ more. more ≡ true → talk.new.left < talk.old.left) }
+    ensures hears { talk.new.mute ≡ false → says_missed (S.state shell.new).beside ≡ false }
+    ensures takes { takes_missed (S.state shell.new).beside
+        ≡ takes_missed (S.state shell.old).beside }
+    ensures cause { IsErrOf result RunFault.Failed
+        → Rose (S.state shell.old).faults (S.state shell.new).faults }
+    ensures passes { Passes (S.state shell.old) (S.state shell.new) }
+{
+    let scan = match scan(alloc, &talk.front) {
+        Ok(scan) => scan,
+        Err(_) => return Err(RunFault::NoMemory),
+    };
+    match scan {
+        Scan::More => Ok(false),
+        Scan::Refused(number) => {
+            match refuse(alloc, number, &mut talk.mute, shell) {
+                Ok(()) => {}
+                Err(fault) => return Err(fault),
+            }
+            talk.left = 0;
+            Ok(true)
+        }
+        Scan::Head {
+            taken,
+            target,
+            length,
+            expect,
+            close,
+        } => {
+            let head = Head {
+                taken,
+                target,
+                length,
+                expect,
+                close,
+            };
+            found(alloc, tables, &head, talk, shell)
+        }
+    }
+}
+
+/// The turns at hand.
+fn at_hand<S: Shell>(
+    alloc: Global,
+    tables: &mut Tables,
+    talk: &mut Talk,
+    shell: &mut S,
+) -> Result<(), RunFault>
+    requires talking { talks (S.state shell.old).beside ≡ true }
+    requires hears { talk.old.mute ≡ false → says_missed (S.state shell.old).beside ≡ false }
+    ensures moved { (s : State) → Stands (S.state shell.old) tables.old s → MatchResult result
+        (λ _. Reaches (S.state shell.old) (S.state shell.new) tables.new
+        (λ t. MovesAll rules (place_of talk.old) s talk.old.mute
+        (place_of talk.new) t talk.new.mute))
+        (λ f. Calls (S.state shell.old).beside (S.state shell.new).beside
+        (MovesSome rules (number_of f) (place_of talk.old) s talk.old.mute)) }
+    ensures hears { talk.new.mute ≡ false → says_missed (S.state shell.new).beside ≡ false }
+    ensures takes { takes_missed (S.state shell.new).beside
+        ≡ takes_missed (S.state shell.old).beside }
+    ensures cause { IsErrOf result RunFault.Failed
+        → Rose (S.state shell.old).faults (S.state shell.new).faults }
+    ensures passes { Passes (S.state shell.old) (S.state shell.new) }
+{
+    while talk.left > 0 {
+        match one(alloc, tables, talk, shell) {
+            Ok(true) => {}
+            Ok(false) => return Ok(()),
+            Err(fault) => return Err(fault),
+        }
+    }
+    Ok(())
+}
+
+/// Takes more, and does the turns at hand then. It answers whether there was more.
+fn pull<S: Shell>(
+    alloc: Global,
+    tables: &mut Tables,
+    buf: &mut [u8],
+    talk: &mut Talk,
+    shell: &mut S,
+) -> Result<bool, RunFault>
+    requires buffer { 0 < length buf.old }
+    requires heard { talk.old.mute ≡ false }
+    requires talking { talks (S.state shell.old).beside ≡ true }
+    requires hears { says_missed (S.state shell.old).beside ≡ false }
+    requires taking { takes_missed (S.state shell.old).beside ≡ false }
+    ensures turned { (s : State) → Stands (S.state shell.old) tables.old s
+        → AtRest rules (place_of talk.old) → MatchResult result
+        (λ more. Reaches (S.state shell.old) (S.state shell.new) tables.new
+        (λ t. Goes rules more (place_of talk.old) s talk.old.mute
+        (place_of talk.new) t talk.new.mute))
+        (λ f. Calls (S.state shell.old).beside (S.state shell.new).beside
+        (GoesSome rules (number_of f) (place_of talk.old) s talk.old.mute)) }
+    ensures hears { talk.new.mute ≡ false → says_missed (S.state shell.new).beside ≡ false }
+    ensures taking { IfOk result (λ more. more ≡ true
+        → takes_missed (S.state shell.new).beside ≡ false) }
+    ensures time { IfOk result (λ more. more ≡ true
+        → ((S.state shell.old).moment < 2 ^ 64 - 1)
+        × ((S.state shell.old).moment < (S.state shell.new).moment)) }
+    ensures cause { IsErrOf result RunFault.Failed
+        → Rose (S.state shell.old).faults (S.state shell.new).faults }
+    ensures passes { Passes (S.state shell.old) (S.state shell.new) }
+{
+    match shell.take(buf) {
+        Ok(count) => {
+            if count == 0 {
+                return Ok(false);
+            }
+            match talk.front.extend_from_slice(&buf[..count]) {
+                Ok(()) => {}
+                Err(_) => return Err(RunFault::NoMemory),
+            }
+            match at_hand(alloc, tables, talk, shell) {
+                Ok(()) => Ok(true),
+                Err(fault) => Err(fault),
+            }
+        }
+        Err(_) => Ok(false),
+    }
+}
+
+/// Takes and turns until no more comes, a say failed, or the turns have ended.
+fn pulls<S: Shell>(
+    alloc: Global,
+    tables: &mut Tables,
+    buf: &mut [u8],
+    talk: &mut Talk,
+    shell: &mut S,
+) -> Result<(), RunFault>
+    requires buffer { 0 < length buf.old }
+    requires heard { talk.old.mute ≡ false }
+    requires talking { talks (S.state shell.old).beside ≡ true }
+    requires hears { says_missed (S.state shell.old).beside ≡ false }
+    requires taking { takes_missed (S.state shell.old).beside ≡ false }
+    ensures ended { (s : State) → Stands (S.state shell.old) tables.old s
+        → AtRest rules (place_of talk.old) → MatchResult result
+        (λ _. Reaches (S.state shell.old) (S.state shell.new) tables.new
+        (λ t. Ends rules (place_of talk.old) s talk.old.mute
+        (place_of talk.new) t talk.new.mute))
+        (λ f. Calls (S.state shell.old).beside (S.state shell.new).beside
+        (GoesSome rules (number_of f) (place_of talk.old) s talk.old.mute)) }
+    ensures cause { IsErrOf result RunFault.Failed
+        → Rose (S.state shell.old).faults (S.state shell.new).faults }
+    ensures passes { Passes (S.state shell.old) (S.state shell.new) }
+{
+    'pulls: loop {
+        if talk.left == 0 {
+            return Ok(());
+        }
+        if talk.mute {
+            return Ok(());
+        }
+        match pull(alloc, tables, buf, talk, shell) {
+            Ok(true) => {}
+            Ok(false) => return Ok(()),
+            Err(fault) => return Err(fault),
+        }
+    }
+}
+
+/// One connection: it is waited for, served and hung up. It answers whether one came.
+pub(crate) fn connection<S: Shell>(
+    alloc: Global,
+    tables: &mut Tables,
+    per: u32,
+    buf: &mut [u8],
+    shell: &mut S,
+) -> Result<bool, RunFault>
+    requires buffer { 0 < length buf.old }
+    requires some { 0 < per }
+    requires quiet { talks (S.state shell.old).beside ≡ false }
+    ensures served { (s : State) → Stands (S.state shell.old) tables.old s → MatchResult result
+        (λ came. Reaches (S.state shell.old) (S.state shell.new) tables.new
+        (λ t. Comes rules per came s t))
+        (λ f. Calls (S.state shell.old).beside (S.state shell.new).beside
+        (ComesSome rules per (number_of f) s)) }
+    ensures cause { IsErrOf result RunFault.Failed
+        → Rose (S.state shell.old).faults (S.state shell.new).faults }
+    ensures passes { Passes (S.state shell.old) (S.state shell.new) }
+{
+    match shell.accept() {
+        Ok(true) => {
+            let mut talk = Talk {
+                front: Vec::new(alloc),
+                left: per,
+                greeted: false,
+                mute: false,
+            };
+            let served = pulls(alloc, tables, buf, &mut talk, shell);
+            shell.hang_up();
+            match served {
+                Ok(()) => Ok(true),
+                Err(fault) => Err(fault),
+            }
+        }
+        Ok(false) => Ok(false),
+        Err(_) => Err(RunFault::Failed),
+    }
+}
+
+/// Connections, one after another, so many at most.
+pub(crate) fn connections<S: Shell>(
+    alloc: Global,
+    tables: &mut Tables,
+    per: u32,
+    count: u32,
+    buf: &mut [u8],
+    shell: &mut S,
+) -> Result<(), RunFault>
+    requires buffer { 0 < length buf.old }
+    requires some { 0 < per }
+    requires quiet { talks (S.state shell.old).beside ≡ false }
+    ensures served { (s : State) → Stands (S.state shell.old) tables.old s → MatchResult result
+        (λ _. Reaches (S.state shell.old) (S.state shell.new) tables.new
+        (λ t. Served rules per count s t))
+        (λ f. Calls (S.state shell.old).beside (S.state shell.new).beside
+        (ServedSome rules per count (number_of f) s)) }
+    ensures cause { IsErrOf result RunFault.Failed
+        → Rose (S.state shell.old).faults (S.state shell.new).faults }
+    ensures passes { Passes (S.state shell.old) (S.state shell.new) }
+{
+    let mut served: u32 = 0;
+    while served < count {
+        match connection(alloc, tables, per, buf, shell) {
+            Ok(true) => {}
+            Ok(false) => return Ok(()),
+            Err(fault) => return Err(fault),
+        }
+        served += 1;
+    }
+    Ok(())
+}

@@ -1,0 +1,120 @@
+//! The texts that are said on a connection.
+
+ghost use Rattle.std.specs.Prelude.{◌≡◌, ◌≤◌, ◌<◌, true, false, None, IfOk, IfErr, IsErrOf, OnOk, option_and_then};
+ghost use Rattle.serde_json.specs.View.{view};
+ghost use Rattle.serde_json.specs.Written.{has_float};
+ghost use Rattle.alt_dispatch.specs.Targets.{operation_at};
+ghost use Rattle.alt_http.specs.Replies.{reply_text, refusal_status, refusal_body};
+ghost use Rattle.alt_machine.specs.Outcomes.{last_state};
+ghost use Rattle.alt_machine.specs.State.{State};
+ghost use Rattle.alt_machine.specs.Wanted.{wanted};
+ghost use Rattle.alt_shape.specs.Refusals.{answer_of};
+ghost use Rattle.alt_tables.specs.Stands.{Stands};
+ghost use Rattle.alternator.specs.Faults.{IsCausedBy};
+ghost use Rattle.alternator.specs.TalkRules.{outcome_of, http_text, status_said};
+ghost use Rattle.alternator.specs.TalkViews.{asking};
+ghost use Rattle.alternator.specs.declared.serve.RunFault.TheVariants.{Failed};
+
+use crate::serve::RunFault;
+use alt_base::NoMemory;
+use alt_disk::Disk;
+use alt_dispatch::{answer, operation_of};
+use alt_fields::Bytes;
+use alt_http::{refusal_body, refusal_status, reply};
+use alt_machine::Operation;
+use alt_shape::Reply;
+use alt_tables::{TableFault, Tables};
+use std::alloc::Global;
+
+/// The reply to a head that is refused.
+pub(crate) fn refusal_text(alloc: Global, number: u8, moment: u64) -> Result<Vec<u8>, NoMemory>
+    requires low { 1 ≤ number }
+    requires high { number ≤ 9 }
+    requires dated { moment < 253402300800 }
+    ensures { IfOk result (λ text. text.items
+        ≡ reply_text (refusal_status number) moment true (refusal_body number)) }
+{
+    let mut text = Vec::new(alloc);
+    reply(
+        refusal_status(number),
+        moment,
+        true,
+        refusal_body(number),
+        &mut text,
+    )?;
+    Ok(text)
+}
+
+/// The status with which an answer is told.
+fn status_said(status: u16) -> u16
+    ensures { result ≡ status_said status }
+{
+    if status == 200 { 200 } else { 400 }
+}
+
+/// The bytes of a reply.
+fn text_of(
+    alloc: Global,
+    answer: &Reply,
+    moment: u64,
+    close: bool,
+) -> Result<Vec<u8>, NoMemory>
+    requires plain { has_float (view answer.now.body) ≡ false }
+    requires dated { moment < 253402300800 }
+    ensures { IfOk result (λ text. text.items ≡ http_text (answer_of answer.now) moment close) }
+{
+    let body = answer.body.to_string(alloc)?;
+    let mut text = Vec::new(alloc);
+    reply(
+        status_said(answer.status),
+        moment,
+        close,
+        body.as_bytes(),
+        &mut text,
+    )?;
+    Ok(text)
+}
+
+/// The operation that a target names, if it names one.
+fn operation_in(target: &Option<Bytes>) -> Option<Operation>
+    ensures { result ≡ option_and_then operation_at target.now }
+{
+    match target {
+        Some(target) => operation_of(target.as_slice()),
+        None => None,
+    }
+}
+
+/// Carries a request out at a moment, and gives the text of its reply.
+pub(crate) fn response<D: Disk>(
+    alloc: Global,
+    tables: &mut Tables,
+    disk: &mut D,
+    target: &Option<Bytes>,
+    body: &[u8],
+    close: bool,
+    moment: u64,
+) -> Result<Vec<u8>, RunFault>
+    requires dated { moment < 253402300800 }
+    ensures text { (s : State) → Stands (D.state disk.old) tables.old s → IfOk result
+        (λ text. text.items ≡ http_text (outcome_of s (asking target.now body.now close)
+        moment).answer moment close) }
+    ensures state { (s : State) → Stands (D.state disk.old) tables.old s → OnOk result
+        (Stands (D.state disk.new) tables.new
+        (last_state s (outcome_of s (asking target.now body.now close) moment).atoms)) }
+    ensures enough { (s : State) → Stands (D.state disk.old) tables.old s → OnOk result
+        (wanted s (outcome_of s (asking target.now body.now close) moment) ≡ None) }
+    ensures cause { (s : State) → Stands (D.state disk.old) tables.old s → IfErr result
+        (IsCausedBy (wanted s (outcome_of s (asking target.now body.now close) moment))) }
+    ensures other { IsErrOf result Failed → ⊥ }
+    ensures disk { D.state disk.new ≡ D.state disk.old }
+{
+    match answer(alloc, tables, disk, operation_in(target), body, moment) {
+        Ok(reply) => match text_of(alloc, &reply, moment, close) {
+            Ok(text) => Ok(text),
+            Err(_) => Err(RunFault::NoMemory),
+        },
+        Err(TableFault::NoMemory) => Err(RunFault::NoMemory),
+        Err(TableFault::Spent { number }) => Err(RunFault::Spent { number }),
+    }
+}

@@ -48,13 +48,17 @@ module _ (g : Given) (toks : List Tok) where
     where
       syntax : ReadsWhole conditions g toks (Err fault.Syntax) → ReadAs
       syntax h = record {
-        result = Err fault.Syntax; reads = h; told = told_err fault.Syntax (λ e. cc);
+        result = Err fault.Syntax;
+        reads = h;
+        told = told_err fault.Syntax (λ e. cc);
       }
 
       by : (o : Option (Cond × List Tok)) → any (one g (length toks)) toks ≡ o → ReadAs
       by None e = syntax (read_none g toks (length toks) fault.Syntax refl (λ other. (e, refl)))
       by (Some (t, [])) e = record {
-        result = Ok t; reads = read_all g toks (length toks) t e; told = told_ok t;
+        result = Ok t;
+        reads = read_all g toks (length toks) t e;
+        told = told_ok t;
       }
       by (Some (t, x ∷ xs)) e = syntax (read_part g toks (length toks) t (x ∷ xs) refl e
           (λ none. let n : suc (length xs) ≡ 0 = ap length none in absurd (omega (arith, n))))
@@ -90,7 +94,9 @@ module _ (g : Given) (toks : List Tok) where
         → ReadsWhole conditions g toks r → IsTold r → ToldOf g toks whole
     of_reading shallow is_whole (Ok t) reads told = of_tree shallow is_whole t reads
     of_reading shallow is_whole (Err f) reads told = record {
-      result = Err f; read = read_err conditions g toks whole f shallow reads; told = told;
+      result = Err f;
+      read = read_err conditions g toks whole f shallow reads;
+      told = told;
     }
 
   told_of : (whole : Bool) → ToldOf g toks whole

@@ -59,15 +59,15 @@ pub sorted_join : (xs : List Entry) (y : Entry) (ys : List Entry) → T (is_sort
 sorted_join [] y ys h k above = k
 sorted_join (x ∷ []) y ys h k above =
     both (below_all key_cmp x.0 (y ∷ ys)) (is_sorted key_cmp (y ∷ ys))
-        (both (is_lt (key_cmp x.0 y.0)) (below_all key_cmp x.0 ys) (is_less (key_cmp x.0 y.0) above)
-        (below_less key_cmp key_total x.0 y.0 ys above (first _ _ k))) k
+    (both (is_lt (key_cmp x.0 y.0)) (below_all key_cmp x.0 ys) (is_less (key_cmp x.0 y.0) above)
+    (below_less key_cmp key_total x.0 y.0 ys above (first _ _ k))) k
 sorted_join (x ∷ z ∷ xs) y ys h k above =
     let rest = sorted_join (z ∷ xs) y ys (second _ _ h) k above in
     let next : key_cmp x.0 z.0 ≡ Less = less _ (first _ _ (first _ _ h)) in
     both (below_all key_cmp x.0 (z ∷ (xs ++ y ∷ ys))) (is_sorted key_cmp (z ∷ (xs ++ y ∷ ys)))
     (both (is_lt (key_cmp x.0 z.0)) (below_all key_cmp x.0 (xs ++ y ∷ ys))
-        (is_less (key_cmp x.0 z.0) next)
-        (below_less key_cmp key_total x.0 z.0 (xs ++ y ∷ ys) next (first _ _ rest))) rest
+    (is_less (key_cmp x.0 z.0) next)
+    (below_less key_cmp key_total x.0 z.0 (xs ++ y ∷ ys) next (first _ _ rest))) rest
 
 -- and what goes on rising is above the last one
 pub above_join : (xs : List Entry) (y : Entry) (ys : List Entry)
@@ -92,9 +92,9 @@ pub block_read : (rows : List Entry) (bytes : List ℕ) (before : ℕ) (f l : En
     (after : Option (List ℕ)) (is_last : Bool) (one two : List ℕ) (count : ℕ) → AreRows rows
     → bytes ≡ rows_bytes rows → StandBefore before rows
     → before < 4096 → (is_last ≡ false → 4096 ≤ length bytes) → length bytes < 2 ^ 64
-        → Some f ≡ slice_get rows 0 → Some l ≡ slice_get rows (length rows - 1) → IsAbove after f.0
+    → Some f ≡ slice_get rows 0 → Some l ≡ slice_get rows (length rows - 1) → IsAbove after f.0
     → one ≡ f.0 → two ≡ l.0 → count ≡ length rows → (b : List Entry)
-        × IsNextBlock after is_last bytes b × IsReadBlock one two count b
+    × IsNextBlock after is_last bytes b × IsReadBlock one two count b
 block_read [] bytes before f l after is_last one two count are is place short full small fst lst above p q n = absurd (let g : ⊥ = cc in g)
 block_read (x ∷ rows)
     bytes before f l after is_last one two count are is place short full small fst lst above p q n =
@@ -102,16 +102,25 @@ block_read (x ∷ rows)
     let key : f.0 ≡ x.0 = first_at (x ∷ rows) f fst in (
       x ∷ rows,
       record {
-        block = record { rows = s.0; last = s.1; is = s.2; short =
-            omega (arith, short, place s.0 s.1 s.2) };
+        block = record {
+          rows = s.0;
+          last = s.1;
+          is = s.2;
+          short =
+              omega (arith, short, place s.0 s.1 s.2);
+        };
         full = λ not_last. omega (arith, full not_last, ap length is);
         held = (are.0, omega (arith, small, ap length is));
         rising = are.1;
         above = subst (IsAbove after) key above;
         is = is;
       },
-      record { first_is = p ∙ key; last_is = ap (λ (k : List ℕ). Some k) q
-          ∙ last_at (x ∷ rows) l lst; rows_is = n },
+      record {
+        first_is = p ∙ key;
+        last_is = ap (λ (k : List ℕ). Some k) q
+            ∙ last_at (x ∷ rows) l lst;
+        rows_is = n;
+      },
     )
 
 -- rows that were read are the only ones
@@ -192,7 +201,7 @@ next_whole after is_last bytes block behind b last is n = record {
 pub no_next_block : (after : Option (List ℕ)) (is_last : Bool) (bytes block behind : List ℕ)
     → is_last ≡ (length behind == 0) → length block < 2 ^ 64 → bytes ≡ field block ++ behind
     → ((b : List Entry) → IsNextBlock after is_last block b → ⊥) → (b : List Entry) (x : List ℕ)
-        → IsNext after bytes x b → ⊥
+    → IsNext after bytes x b → ⊥
 unfolding block_bytes
 no_next_block after is_last bytes block behind last small is none b x n =
     let same = field-apart block (rows_bytes b) behind x small n.held.1 (sym is ∙ n.is) in
@@ -222,8 +231,14 @@ pub blocks_few : (blocks : List (List Entry))
     → length (rows_of blocks) ≤ length (flat_map block_bytes blocks)
 blocks_few [] = omega arith
 blocks_few (b ∷ blocks) =
-    omega (arith, blocks_few blocks, rows_few b, length-block b, length-append b (rows_of blocks),
-    length-append (block_bytes b) (flat_map block_bytes blocks))
+    omega (
+      arith,
+      blocks_few blocks,
+      rows_few b,
+      length-block b,
+      length-append b (rows_of blocks),
+      length-append (block_bytes b) (flat_map block_bytes blocks),
+    )
 
 pub no_blocks_yet : (bytes : List ℕ) (marks : List Mark) → marks ≡ []
     → BlocksSoFar bytes bytes 8 None marks 0
@@ -246,15 +261,15 @@ pub one_block_more : (bytes rest behind : List ℕ) (at next : ℕ) (after : Opt
     (marks new : List Mark) (rows count : ℕ) (first last : List ℕ) (b : List Entry)
     → BlocksSoFar bytes rest at after marks rows
     → 0 < length rest → IsNext after rest behind b → IsReadBlock first last count b
-        → next ≡ at + (length rest - length behind) → new ≡ marks ++ (at, first) ∷ []
-        → BlocksSoFar bytes behind next (Some last) new (rows + count)
+    → next ≡ at + (length rest - length behind) → new ≡ marks ++ (at, first) ∷ []
+    → BlocksSoFar bytes behind next (Some last) new (rows + count)
 one_block_more bytes rest behind at next after marks new rows count first last b so_far some n r place added =
     let key = block_key b n.block in
     let joined : rows_of (so_far.blocks ++ b ∷ []) ≡ rows_of so_far.blocks ++ b =
-        rows_of-push so_far.blocks b in
+    rows_of-push so_far.blocks b in
     let full = so_far.full some in
     let size : length rest ≡ length (block_bytes b) + length behind = ap length n.is
-        ∙ length-append (block_bytes b) behind in
+    ∙ length-append (block_bytes b) behind in
     record {
       blocks = so_far.blocks ++ b ∷ [];
       is = so_far.is ∙ ap (λ (l : List ℕ). flat_map block_bytes so_far.blocks ++ l) n.is
@@ -267,17 +282,26 @@ one_block_more bytes rest behind at next after marks new rows count first last b
           (rises so_far.rising n.rising
           (subst (λ (k : Option (List ℕ)). IsAbove k (first_key b)) so_far.after_is n.above)
           key.0 key.1 key.2);
-      at_is = omega
-          (arith, place, size, so_far.at_is, ap length (front-push so_far.blocks b),
-          length-append (front so_far.blocks) (block_bytes b));
+      at_is = omega (
+        arith,
+        place,
+        size,
+        so_far.at_is,
+        ap length (front-push so_far.blocks b),
+        length-append (front so_far.blocks) (block_bytes b),
+      );
       after_is = r.last_is ∙ lasts key.0 key.1 key.2 ∙ ap last_key (sym joined);
       found = record {
         marks_are = added ∙ (λ i. so_far.found.marks_are i ++ (so_far.at_is i, r.first_is i) ∷ [])
             ∙ ap (λ (k : ℕ). marks_from 8 so_far.blocks ++ (k, first_key b) ∷ [])
             (length-front so_far.blocks) ∙ sym (marks-push 8 so_far.blocks b);
-        rows_is = omega
-            (arith, so_far.found.rows_is, r.rows_is, ap length joined,
-            length-append (rows_of so_far.blocks) b);
+        rows_is = omega (
+          arith,
+          so_far.found.rows_is,
+          r.rows_is,
+          ap length joined,
+          length-append (rows_of so_far.blocks) b,
+        );
       };
     }
   where
@@ -287,9 +311,9 @@ one_block_more bytes rest behind at next after marks new rows count first last b
     rises h k above e es same =
         subst (λ (l : List Entry). T (is_sorted key_cmp (rows_of so_far.blocks ++ l))) (sym same)
         (sorted_join (rows_of so_far.blocks) e es h
-            (subst (λ (l : List Entry). T (is_sorted key_cmp l)) same k)
-            (subst (λ (l : List Entry). IsAbove (last_key (rows_of so_far.blocks)) (first_key l))
-            same above))
+        (subst (λ (l : List Entry). T (is_sorted key_cmp l)) same k)
+        (subst (λ (l : List Entry). IsAbove (last_key (rows_of so_far.blocks)) (first_key l))
+        same above))
 
     lasts : (e : Entry) (es : List Entry) → b ≡ e ∷ es
         → last_key b ≡ last_key (rows_of so_far.blocks ++ b)
@@ -300,12 +324,12 @@ one_block_more bytes rest behind at next after marks new rows count first last b
 pub no_more_blocks : (bytes rest : List ℕ) (at : ℕ) (after : Option (List ℕ)) (marks : List Mark)
     (rows : ℕ) → BlocksSoFar bytes rest at after marks rows → 0 < length rest
     → ((b : List Entry) (behind : List ℕ) → IsNext after rest behind b → ⊥)
-        → (blocks : List (List Entry)) → AreBlocksOf blocks bytes → ⊥
+    → (blocks : List (List Entry)) → AreBlocksOf blocks bytes → ⊥
 no_more_blocks bytes rest at after marks rows so_far some none blocks are =
     let r = rest_of block_bytes IsHeldBlock block-apart block_some so_far.blocks blocks rest so_far.held are.held (sym so_far.is ∙ are.is) in
     refute r.0 r.2 (subst AreBlocks r.1 are.cut)
-        (subst (λ (l : List (List Entry)). T (is_sorted key_cmp (rows_of l))) r.1 are.rising)
-        (subst (AllByRecursion IsHeldBlock) r.1 are.held)
+    (subst (λ (l : List (List Entry)). T (is_sorted key_cmp (rows_of l))) r.1 are.rising)
+    (subst (AllByRecursion IsHeldBlock) r.1 are.held)
   where
     is_full : (b : List Entry) (more : List (List Entry)) → AreBlocks (so_far.blocks ++ b ∷ more)
         → 0 < length (flat_map block_bytes more) → IsFull b
@@ -321,12 +345,12 @@ no_more_blocks bytes rest at after marks rows so_far some none blocks are =
         let block = block_within so_far.blocks b more cut in
         let key = block_key b block in
         let whole : T (is_sorted key_cmp (rows_of so_far.blocks ++ (b ++ rows_of more))) =
-            subst (λ (l : List Entry). T (is_sorted key_cmp l))
-            (rows_of-append so_far.blocks (b ∷ more)) rising in
+        subst (λ (l : List Entry). T (is_sorted key_cmp l))
+        (rows_of-append so_far.blocks (b ∷ more)) rising in
         let opened : T
-            (is_sorted key_cmp (rows_of so_far.blocks ++ (key.0 ∷ (key.1 ++ rows_of more)))) =
-            subst (λ (l : List Entry). T
-            (is_sorted key_cmp (rows_of so_far.blocks ++ (l ++ rows_of more)))) key.2 whole in
+        (is_sorted key_cmp (rows_of so_far.blocks ++ (key.0 ∷ (key.1 ++ rows_of more)))) =
+        subst (λ (l : List Entry). T
+        (is_sorted key_cmp (rows_of so_far.blocks ++ (l ++ rows_of more)))) key.2 whole in
         none b (flat_map block_bytes more) (record {
           block = block;
           full = λ some. is_full b more cut some;
@@ -344,11 +368,18 @@ no_more_blocks bytes rest at after marks rows so_far some none blocks are =
 pub blocks_read : (bytes rest : List ℕ) (at : ℕ) (after : Option (List ℕ)) (marks : List Mark)
     (rows : ℕ) → BlocksSoFar bytes rest at after marks rows → length rest ≡ 0
     → (blocks : List (List Entry)) × AreBlocksOf blocks bytes × IsFoundAs marks rows blocks
-blocks_read bytes rest at after marks rows so_far none =
-    (so_far.blocks,
-        record { cut = so_far.cut; rising = so_far.rising; held = so_far.held; is = so_far.is
+blocks_read bytes rest at after marks rows so_far none = (
+  so_far.blocks,
+  record {
+    cut = so_far.cut;
+    rising = so_far.rising;
+    held = so_far.held;
+    is = so_far.is
         ∙ ap (λ (l : List ℕ). flat_map block_bytes so_far.blocks ++ l) (nil rest none)
-        ∙ append-nil (flat_map block_bytes so_far.blocks) }, so_far.found)
+        ∙ append-nil (flat_map block_bytes so_far.blocks);
+  },
+  so_far.found,
+)
   where
     nil : (l : List ℕ) → length l ≡ 0 → l ≡ []
     nil [] e = refl
@@ -359,14 +390,22 @@ pub counts_fit : (bytes rest behind : List ℕ) (at : ℕ) (after : Option (List
     (rows count : ℕ) (first last : List ℕ) (b : List Entry)
     → BlocksSoFar bytes rest at after marks rows
     → IsNext after rest behind b → IsReadBlock first last count b → (rows + count ≤ length bytes)
-        × (at + (length rest - length behind) ≤ 8 + length bytes) × (length behind < length rest)
+    × (at + (length rest - length behind) ≤ 8 + length bytes) × (length behind < length rest)
 counts_fit bytes rest behind at after marks rows count first last b so_far n r =
     let size : length rest ≡ length (block_bytes b) + length behind = ap length n.is
-        ∙ length-append (block_bytes b) behind in
+    ∙ length-append (block_bytes b) behind in
     let whole : length bytes ≡ length (flat_map block_bytes so_far.blocks) + length rest =
-        ap length so_far.is ∙ length-append (flat_map block_bytes so_far.blocks) rest in (
-      omega (arith, size, whole, so_far.found.rows_is, r.rows_is, blocks_few so_far.blocks,
-          rows_few b, length-block b),
+    ap length so_far.is ∙ length-append (flat_map block_bytes so_far.blocks) rest in (
+      omega (
+        arith,
+        size,
+        whole,
+        so_far.found.rows_is,
+        r.rows_is,
+        blocks_few so_far.blocks,
+        rows_few b,
+        length-block b,
+      ),
       omega (arith, size, whole, so_far.at_is, length-front so_far.blocks),
       omega (arith, size, length-block b),
     )

@@ -18,17 +18,17 @@ unfolding tail_bytes
 body_last blocks =
     let marks = marks_from 8 blocks in
     let before =
-        front blocks
-        ++ ((to_be_bytes w64 (length marks) ++ flat_map mark_bytes marks)
-        ++ to_be_bytes w64 (length (rows_of blocks))) in
+    front blocks
+    ++ ((to_be_bytes w64 (length marks) ++ flat_map mark_bytes marks)
+    ++ to_be_bytes w64 (length (rows_of blocks))) in
     let last = to_be_bytes w64 (length (front blocks)) in
     let whole : body blocks ≡ before ++ last =
-        regroup (front blocks) (to_be_bytes w64 (length marks)) (flat_map mark_bytes marks)
-        (to_be_bytes w64 (length (rows_of blocks))) last in
+    regroup (front blocks) (to_be_bytes w64 (length marks)) (flat_map mark_bytes marks)
+    (to_be_bytes w64 (length (rows_of blocks))) last in
     let size : length (before ++ last) - 8 ≡ length before =
-        omega (arith, length-append before last) in
+    omega (arith, length-append before last) in
     ap (λ (l : List ℕ). drop (length l - 8) l) whole ∙ ap (λ (n : ℕ). drop n (before ++ last)) size
-        ∙ drop_at before last (length before) refl
+    ∙ drop_at before last (length before) refl
 
 pub body_long : (blocks : List (List Entry)) → length (front blocks) + 24 ≤ length (body blocks)
 unfolding tail_bytes
@@ -69,9 +69,9 @@ pub place_of : (bytes : List ℕ) (place : ℕ) → place < 2 ^ 64
     → IsBody blocks bytes → place ≡ length (front blocks)
 place_of bytes place fits last blocks is =
     let here : to_be_bytes w64 place ≡ to_be_bytes w64 (length (front blocks)) = sym last
-        ∙ ap (λ (l : List ℕ). drop (length l - 8) l) is.is ∙ body_last blocks in
+    ∙ ap (λ (l : List ℕ). drop (length l - 8) l) is.is ∙ body_last blocks in
     (number-apart place (length (front blocks)) [] [] fits is.place
-        (ap (λ (l : List ℕ). l ++ []) here)).0
+    (ap (λ (l : List ℕ). l ++ []) here)).0
 
 pub other_place : (bytes : List ℕ) (place : ℕ) → place < 2 ^ 64
     → drop (length bytes - 8) bytes ≡ to_be_bytes w64 place → (8 ≤ place → place ≤ length bytes → ⊥)
@@ -79,7 +79,7 @@ pub other_place : (bytes : List ℕ) (place : ℕ) → place < 2 ^ 64
 other_place bytes place fits last outside blocks is =
     let here = place_of bytes place fits last blocks is in
     outside (omega (arith, here, front_long blocks))
-        (omega (arith, here, body_long blocks, ap length is.is))
+    (omega (arith, here, body_long blocks, ap length is.is))
 
 -- ---- its parts
 
@@ -87,13 +87,13 @@ pub body_parts : (bytes : List ℕ) (end : ℕ) → end < 2 ^ 64
     → drop (length bytes - 8) bytes ≡ to_be_bytes w64 end → (blocks : List (List Entry))
     → IsBody blocks bytes
     → AreBlocksOf blocks (drop 8 (take end bytes))
-        × (drop end bytes ≡ tail_bytes (marks_from 8 blocks) (length (rows_of blocks)) end)
+    × (drop end bytes ≡ tail_bytes (marks_from 8 blocks) (length (rows_of blocks)) end)
 unfolding header
 body_parts bytes end fits last blocks is =
     let place = place_of bytes end fits last blocks is in
     let tail = tail_bytes (marks_from 8 blocks) (length (rows_of blocks)) (length (front blocks)) in
     let first : take end bytes ≡ front blocks = ap (take end) is.is
-        ∙ take_at (front blocks) tail end (sym place) in (
+    ∙ take_at (front blocks) tail end (sym place) in (
       record { cut = is.cut; rising = is.rising; held = is.held; is = ap (drop 8) first },
       ap (drop end) is.is ∙ drop_at (front blocks) tail end (sym place)
           ∙ ap (tail_bytes (marks_from 8 blocks) (length (rows_of blocks))) (sym place),
@@ -103,19 +103,25 @@ pub body_whole : (bytes made : List ℕ) (end rows : ℕ) (marks : List Mark)
     (blocks : List (List Entry)) → 8 ≤ end → end ≤ length bytes → end < 2 ^ 64
     → take 8 bytes ≡ header → AreBlocksOf blocks (drop 8 (take end bytes))
     → IsFoundAs marks rows blocks → made ≡ tail_bytes marks rows end → made ≡ drop end bytes
-        → IsBody blocks bytes × (marks ≡ marks_from 8 blocks) × (end ≡ length (front blocks))
+    → IsBody blocks bytes × (marks ≡ marks_from 8 blocks) × (end ≡ length (front blocks))
 body_whole bytes made end rows marks blocks low high fits head are found tail same =
     let eight : take 8 (take end bytes) ≡ take 8 bytes = take-take 8 end bytes low in
     let first : take end bytes ≡ front blocks = sym (take-append-drop 8 (take end bytes))
-        ∙ (λ i. (eight ∙ head) i ++ are.is i) in
+    ∙ (λ i. (eight ∙ head) i ++ are.is i) in
     let place : end ≡ length (front blocks) = sym (length-take-le end bytes high)
-        ∙ ap length first in
+    ∙ ap length first in
     let back : drop end bytes
-        ≡ tail_bytes (marks_from 8 blocks) (length (rows_of blocks)) (length (front blocks)) =
-        sym same ∙ tail ∙ (λ i. tail_bytes (found.marks_are i) (found.rows_is i) (place i)) in (
-      record { cut = are.cut; rising = are.rising; held = are.held; place =
-          omega (arith, place, fits); is = sym (take-append-drop end bytes)
-          ∙ (λ i. first i ++ back i) },
+    ≡ tail_bytes (marks_from 8 blocks) (length (rows_of blocks)) (length (front blocks)) =
+    sym same ∙ tail ∙ (λ i. tail_bytes (found.marks_are i) (found.rows_is i) (place i)) in (
+      record {
+        cut = are.cut;
+        rising = are.rising;
+        held = are.held;
+        place =
+            omega (arith, place, fits);
+        is = sym (take-append-drop end bytes)
+            ∙ (λ i. first i ++ back i);
+      },
       found.marks_are,
       place,
     )
@@ -124,19 +130,19 @@ pub other_tail : (bytes made : List ℕ) (end rows : ℕ) (marks : List Mark)
     (found : List (List Entry)) → end < 2 ^ 64 → drop (length bytes - 8) bytes ≡ to_be_bytes w64 end
     → AreBlocksOf found (drop 8 (take end bytes))
     → IsFoundAs marks rows found → made ≡ tail_bytes marks rows end → made ≢ drop end bytes
-        → (blocks : List (List Entry)) → IsBody blocks bytes → ⊥
+    → (blocks : List (List Entry)) → IsBody blocks bytes → ⊥
 other_tail bytes made end rows marks found fits last are found_as tail other blocks is =
     let parts = body_parts bytes end fits last blocks is in
     let same : found ≡ blocks =
-        one_front found blocks are.held parts.0.held (sym are.is ∙ parts.0.is) in
+    one_front found blocks are.held parts.0.held (sym are.is ∙ parts.0.is) in
     other (tail ∙ (λ i. tail_bytes (found_as.marks_are i) (found_as.rows_is i) end)
-        ∙ ap (λ (b : List (List Entry)). tail_bytes (marks_from 8 b) (length (rows_of b)) end) same
-        ∙ sym parts.1)
+    ∙ ap (λ (b : List (List Entry)). tail_bytes (marks_from 8 b) (length (rows_of b)) end) same
+    ∙ sym parts.1)
 
 pub last_eight : (bytes last : List ℕ) (place : ℕ) → 8 ≤ length bytes
     → last ≡ drop (length bytes - 8) bytes → take 8 last ≡ to_be_bytes w64 place
     → drop (length bytes - 8) bytes ≡ to_be_bytes w64 place
 last_eight bytes last place long is stands =
     sym is ∙ sym
-        (take_all 8 last (omega (arith, ap length is, length-drop (length bytes - 8) bytes, long)))
-        ∙ stands
+    (take_all 8 last (omega (arith, ap length is, length-drop (length bytes - 8) bytes, long)))
+    ∙ stands

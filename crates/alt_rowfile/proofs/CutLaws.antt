@@ -38,9 +38,10 @@ module _ (key : List ℕ) where
   from_behind : (y : Entry) (es : List Entry) → IsFrom key y → T (below_all key_cmp y.0 es)
       → AllByRecursion (IsFrom key) es
   from_behind y [] n h = tt
-  from_behind y (e ∷ es) n h =
-      ((λ lower. n (key_total.trans y.0 e.0 key (less _ (first _ _ h)) lower)),
-          from_behind y es n (second _ _ h))
+  from_behind y (e ∷ es) n h = (
+    (λ lower. n (key_total.trans y.0 e.0 key (less _ (first _ _ h)) lower)),
+    from_behind y es n (second _ _ h),
+  )
 
   pub from_first : (y : Entry) (ys : List Entry) → T (is_sorted key_cmp (y ∷ ys)) → IsFrom key y
       → AllByRecursion (IsFrom key) (y ∷ ys)
@@ -53,25 +54,25 @@ module _ (key : List ℕ) where
         → AllByRecursion (IsBelow key) (take (i + 1) rows)
     one_below low so_far = subst (AllByRecursion (IsBelow key)) (sym (take_more rows i x within))
         (all_append (IsBelow key) (take i rows) (get_or rows i x ∷ []) so_far
-            (subst (IsBelow key) is low, tt))
+        (subst (IsBelow key) is low, tt))
 
     -- the first one that isn't
     pub cut_here : is_lt (key_cmp x.0 key) ≡ false → T (is_sorted key_cmp rows)
         → AllByRecursion (IsBelow key) (take i rows) → CutsAt key rows i
     cut_here up sorted so_far =
         let split : drop i rows ≡ x ∷ drop (i + 1) rows = drop_more rows i x within
-            ∙ ap (λ y. y ∷ drop (i + 1) rows) (sym is) in
+        ∙ ap (λ y. y ∷ drop (i + 1) rows) (sym is) in
         let rest : T (is_sorted key_cmp (drop i rows)) =
-            sorted_behind (take i rows) (drop i rows)
-            (subst (λ (l : List Entry). T (is_sorted key_cmp l))
-            (sym (take-append-drop i rows)) sorted) in
+        sorted_behind (take i rows) (drop i rows)
+        (subst (λ (l : List Entry). T (is_sorted key_cmp l))
+        (sym (take-append-drop i rows)) sorted) in
         record {
           within = omega (arith, within);
           below = so_far;
           from = subst (AllByRecursion (IsFrom key)) (sym split)
               (from_first x (drop (i + 1) rows)
-                  (subst (λ (l : List Entry). T (is_sorted key_cmp l)) split rest)
-                  (not_lower (key_cmp x.0 key) up));
+              (subst (λ (l : List Entry). T (is_sorted key_cmp l)) split rest)
+              (not_lower (key_cmp x.0 key) up));
         }
 
   -- all are below it
@@ -91,9 +92,9 @@ turned_rest xs new n m within count is =
     let split : reverse xs ≡ reverse (drop n xs) ++ reverse (take n xs) =
     ap reverse (sym (take-append-drop n xs)) ∙ reverse-append (take n xs) (drop n xs) in
     let size : length (reverse (drop n xs)) ≡ m =
-        omega (arith, length-reverse (drop n xs), length-drop n xs, count) in
+    omega (arith, length-reverse (drop n xs), length-drop n xs, count) in
     ap reverse (is ∙ ap (take m) split ∙ take_at (reverse (drop n xs)) (reverse (take n xs)) m size)
-        ∙ reverse-reverse (drop n xs)
+    ∙ reverse-reverse (drop n xs)
 
 -- so the rows from the key on are held
 pub cut_from_up : (key : List ℕ) (forward : Bool) → forward ≡ true

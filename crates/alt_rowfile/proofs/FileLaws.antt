@@ -14,8 +14,12 @@ pub body_of_file : (bytes : List ℕ) (blocks : List (List Entry)) → IsFileOf 
     → IsBody blocks (take (length bytes - 32) bytes)
 body_of_file bytes blocks is =
     let size : length (body blocks) ≡ length bytes - 32 =
-        omega (arith, ap length is.is, length-append (body blocks) (sha256 (body blocks)),
-        length-sha256 (body blocks)) in
+    omega (
+      arith,
+      ap length is.is,
+      length-append (body blocks) (sha256 (body blocks)),
+      length-sha256 (body blocks),
+    ) in
     record {
       cut = is.cut;
       rising = is.rising;
@@ -62,8 +66,12 @@ pub reads_after : (s t : DiskState) (f : ℕ) (marks : List Mark) (end : ℕ) (r
     → t.file f ≡ s.file f → FileAs (contents s f) marks end rows → ReadsAs t f marks end rows
 reads_after s t f marks end rows same is =
     let size : 0 < length (contents s f) =
-        omega (arith, ap length is.file.is,
-        length-append (body is.blocks) (sha256 (body is.blocks)), length-sha256 (body is.blocks)) in
+    omega (
+      arith,
+      ap length is.file.is,
+      length-append (body is.blocks) (sha256 (body is.blocks)),
+      length-sha256 (body is.blocks),
+    ) in
     record { bytes = contents s f; there = same ∙ there_is (s.file f) size; as_file = is }
 
 -- the last 32 bytes

@@ -35,8 +35,15 @@ split_at (b ∷ blocks) zero less =
     record { before = []; here = b; behind = blocks; is = refl; size = refl; at = refl }
 split_at (b ∷ blocks) (suc i) less =
     let s = split_at blocks i (omega (arith, less)) in
-    record { before = b ∷ s.before; here = s.here; behind = s.behind; is =
-        ap (λ (l : List (List Entry)). b ∷ l) s.is; size = ap (λ (n : ℕ). suc n) s.size; at = s.at }
+    record {
+      before = b ∷ s.before;
+      here = s.here;
+      behind = s.behind;
+      is =
+          ap (λ (l : List (List Entry)). b ∷ l) s.is;
+      size = ap (λ (n : ℕ). suc n) s.size;
+      at = s.at;
+    }
 
 pub length-marks : (at : ℕ) (blocks : List (List Entry))
     → length (marks_from at blocks) ≡ length blocks
@@ -47,18 +54,18 @@ length-marks at (b ∷ blocks) =
 pub marks-append : (at : ℕ) (xs : List (List Entry)) (b : List Entry) (ys : List (List Entry))
     → marks_from at (xs ++ b ∷ ys)
     ≡ marks_from at xs ++ (at + length (flat_map block_bytes xs), first_key b)
-        ∷ marks_from (at + length (flat_map block_bytes xs) + length (block_bytes b)) ys
+    ∷ marks_from (at + length (flat_map block_bytes xs) + length (block_bytes b)) ys
 marks-append at [] b ys =
     let e : at ≡ at + 0 = omega arith in
     ap (λ (n : ℕ). (n, first_key b) ∷ marks_from (n + length (block_bytes b)) ys) e
 marks-append at (x ∷ xs) b ys =
     let size : at + length (block_bytes x) + length (flat_map block_bytes xs)
-        ≡ at + length (block_bytes x ++ flat_map block_bytes xs) =
-        omega (arith, length-append (block_bytes x) (flat_map block_bytes xs)) in
+    ≡ at + length (block_bytes x ++ flat_map block_bytes xs) =
+    omega (arith, length-append (block_bytes x) (flat_map block_bytes xs)) in
     ap (λ (l : List Mark). (at, first_key x) ∷ l)
-        (marks-append (at + length (block_bytes x)) xs b ys
+    (marks-append (at + length (block_bytes x)) xs b ys
     ∙ ap (λ (n : ℕ). marks_from (at + length (block_bytes x)) xs ++ (n, first_key b)
-        ∷ marks_from (n + length (block_bytes b)) ys) size)
+    ∷ marks_from (n + length (block_bytes b)) ys) size)
 
 -- the place of a block
 pub place_is : (blocks : List (List Entry)) (i : ℕ) (xs : List (List Entry)) (b : List Entry)
@@ -68,18 +75,18 @@ place_is blocks i xs b ys is size =
     let marks = marks_from 8 xs in
     let rest = marks_from (8 + length (flat_map block_bytes xs) + length (block_bytes b)) ys in
     let whole : marks_from 8 blocks ≡ marks ++ (8 + length (flat_map block_bytes xs), first_key b)
-        ∷ rest = ap (marks_from 8) is ∙ marks-append 8 xs b ys in
+    ∷ rest = ap (marks_from 8) is ∙ marks-append 8 xs b ys in
     ap (λ (l : List Mark). place_at l i) whole
-        ∙ ap (λ (m : Mark). m.0)
-        (get_or_at marks (8 + length (flat_map block_bytes xs), first_key b) rest (0, []) i
-        (length-marks 8 xs ∙ size)) ∙ sym (length-front xs)
+    ∙ ap (λ (m : Mark). m.0)
+    (get_or_at marks (8 + length (flat_map block_bytes xs), first_key b) rest (0, []) i
+    (length-marks 8 xs ∙ size)) ∙ sym (length-front xs)
 
 by_test : (a b x y z : ℕ) → (a ≡ b → x ≡ z) → (a ≢ b → y ≡ z) → (if a == b then x else y) ≡ z
 by_test a b x y z same other = ⊎_elim
     (λ (is : a ≡ b). (let chosen : (if a == b then x else y) ≡ x = grind (arith, nat_tests, is) in
-        chosen) ∙ same is)
+    chosen) ∙ same is)
     (λ (is : a ≢ b). (let chosen : (if a == b then x else y) ≡ y = grind (arith, nat_tests, is) in
-        chosen) ∙ other is)
+    chosen) ∙ other is)
     (cases_eq a b)
 
 front_split : (xs : List (List Entry)) (b : List Entry) (ys : List (List Entry))
@@ -94,21 +101,37 @@ pub next_is : (blocks : List (List Entry)) (i end : ℕ) (xs : List (List Entry)
 next_is blocks i end xs b [] is size is_end =
     by_test (i + 1) (length (marks_from 8 blocks)) end (place_at (marks_from 8 blocks) (i + 1))
     (length (front xs) + length (block_bytes b))
-    (λ last. omega
-        (arith, is_end, ap (λ (l : List (List Entry)). length (front l)) is,
-        ap length (front_split xs b []), length-append (front xs) (block_bytes b ++ []),
-        length-append (block_bytes b) []))
+    (λ last. omega (
+      arith,
+      is_end,
+      ap (λ (l : List (List Entry)). length (front l)) is,
+      ap length (front_split xs b []),
+      length-append (front xs) (block_bytes b ++ []),
+      length-append (block_bytes b) [],
+    ))
     (λ other. absurd
-        (omega (arith, other, length-marks 8 blocks, ap length is, length-append xs (b ∷ []),
-        size)))
+    (omega (
+      arith,
+      other,
+      length-marks 8 blocks,
+      ap length is,
+      length-append xs (b ∷ []),
+      size,
+    )))
 next_is blocks i end xs b (y ∷ ys) is size is_end =
     by_test (i + 1) (length (marks_from 8 blocks)) end (place_at (marks_from 8 blocks) (i + 1))
     (length (front xs) + length (block_bytes b))
     (λ last. absurd
-        (omega (arith, last, length-marks 8 blocks, ap length is, length-append xs (b ∷ y ∷ ys),
-        size)))
+    (omega (
+      arith,
+      last,
+      length-marks 8 blocks,
+      ap length is,
+      length-append xs (b ∷ y ∷ ys),
+      size,
+    )))
     (λ other. place_is blocks (i + 1) (xs ++ b ∷ []) y ys (is
-        ∙ sym (append_assoc xs (b ∷ []) (y ∷ ys))) (omega (arith, size, length-append xs (b ∷ [])))
+    ∙ sym (append_assoc xs (b ∷ []) (y ∷ ys))) (omega (arith, size, length-append xs (b ∷ [])))
     ∙ ap length (front-push xs b) ∙ length-append (front xs) (block_bytes b))
 
 -- the bytes of a block stand at its place
@@ -120,15 +143,15 @@ block_there bytes blocks xs b ys is split =
     let rest = flat_map block_bytes ys ++ (tail ++ sha256 (body blocks)) in
     let whole : bytes ≡ front xs ++ (block_bytes b ++ rest) =
     is.is ∙ append_assoc (front blocks) tail (sha256 (body blocks))
-        ∙ ap (λ (l : List ℕ). l ++ (tail ++ sha256 (body blocks))) (ap front split
-        ∙ front_split xs b ys)
+    ∙ ap (λ (l : List ℕ). l ++ (tail ++ sha256 (body blocks))) (ap front split
+    ∙ front_split xs b ys)
     ∙ append_assoc (front xs) (block_bytes b ++ flat_map block_bytes ys)
-        (tail ++ sha256 (body blocks))
+    (tail ++ sha256 (body blocks))
     ∙ ap (λ (l : List ℕ). front xs ++ l)
-        (append_assoc (block_bytes b) (flat_map block_bytes ys) (tail ++ sha256 (body blocks))) in
+    (append_assoc (block_bytes b) (flat_map block_bytes ys) (tail ++ sha256 (body blocks))) in
     ap (λ (l : List ℕ). take (length (block_bytes b)) (drop (length (front xs)) l)) whole
-        ∙ ap (take (length (block_bytes b)))
-        (drop_at (front xs) (block_bytes b ++ rest) (length (front xs)) refl)
+    ∙ ap (take (length (block_bytes b)))
+    (drop_at (front xs) (block_bytes b ++ rest) (length (front xs)) refl)
     ∙ take_at (block_bytes b) rest (length (block_bytes b)) refl
 
 -- what a read at a block's place gives
@@ -150,13 +173,13 @@ pub loaded_at : (bytes : List ℕ) (marks : List Mark) (end i : ℕ) (rows : Lis
     → LoadedAt bytes marks end i (get_or is.blocks i [])
 loaded_at bytes marks end i rows is less =
     let s = split_at is.blocks i
-        (omega (arith, less, ap length is.marks_are, length-marks 8 is.blocks)) in
+    (omega (arith, less, ap length is.marks_are, length-marks 8 is.blocks)) in
     let place : place_at marks i ≡ length (front s.before) =
-        ap (λ (m : List Mark). place_at m i) is.marks_are
-        ∙ place_is is.blocks i s.before s.here s.behind s.is s.size in
+    ap (λ (m : List Mark). place_at m i) is.marks_are
+    ∙ place_is is.blocks i s.before s.here s.behind s.is s.size in
     let next : next_place marks end i ≡ length (front s.before) + length (block_bytes s.here) =
-        ap (λ (m : List Mark). next_place m end i) is.marks_are
-        ∙ next_is is.blocks i end s.before s.here s.behind s.is s.size is.end_is in
+    ap (λ (m : List Mark). next_place m end i) is.marks_are
+    ∙ next_is is.blocks i end s.before s.here s.behind s.is s.size is.end_is in
     subst (LoadedAt bytes marks end i) (sym s.at) (record {
       size = omega (arith, place, next);
       there = ap (λ (n : ℕ). take (length (block_bytes s.here)) (drop n bytes)) place
@@ -182,7 +205,7 @@ pub block_content : (bytes block behind : List ℕ) (b : List Entry) → IsHeldB
 unfolding block_bytes
 block_content bytes block behind b held is short there =
     (field-apart block (rows_bytes b) behind [] short held.1 (sym there ∙ is
-        ∙ sym (append-nil (field (rows_bytes b))))).0
+    ∙ sym (append-nil (field (rows_bytes b))))).0
 
 module _ (s : DiskState) (f : ℕ) (marks : List Mark) (end i : ℕ) (rows : List Entry)
     (reads : ReadsAs s f marks end rows) (less : i < length marks) where
@@ -198,14 +221,20 @@ module _ (s : DiskState) (f : ℕ) (marks : List Mark) (end i : ℕ) (rows : Lis
     are_bytes v is =
         let long : n ≡ length (block_bytes here) = omega (arith, is_n, is_at, at_place.size) in
         is ∙ ap (λ l. take n (drop at (bytes_or_none l))) reads.there
-            ∙ (λ j. take (long j) (drop (is_at j) reads.bytes)) ∙ at_place.there
+        ∙ (λ j. take (long j) (drop (is_at j) reads.bytes)) ∙ at_place.there
 
     -- and all of them are there
     pub has_bytes : at + n ≤ length (contents s f)
     has_bytes =
         let long : n ≡ length (block_bytes here) = omega (arith, is_n, is_at, at_place.size) in
         let some : 0 < length (block_bytes here) = block_some here in
-        omega (arith, long, is_at, some, ap length at_place.there,
-            length-take (length (block_bytes here)) (drop (place_at marks i) reads.bytes),
-            length-drop (place_at marks i) reads.bytes,
-            ap (λ l. length (bytes_or_none l)) reads.there)
+        omega (
+          arith,
+          long,
+          is_at,
+          some,
+          ap length at_place.there,
+          length-take (length (block_bytes here)) (drop (place_at marks i) reads.bytes),
+          length-drop (place_at marks i) reads.bytes,
+          ap (λ l. length (bytes_or_none l)) reads.there,
+        )

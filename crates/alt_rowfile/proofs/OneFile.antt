@@ -15,8 +15,12 @@ pub length-entry : (e : Entry)
     → length (entry_bytes e) ≡ 16 + length e.0 + length (bytes_of_row e.1)
 unfolding entry_bytes
 length-entry e =
-    omega (arith, length-append (field e.0) (field (bytes_of_row e.1)), length-field e.0,
-    length-field (bytes_of_row e.1))
+    omega (
+      arith,
+      length-append (field e.0) (field (bytes_of_row e.1)),
+      length-field e.0,
+      length-field (bytes_of_row e.1),
+    )
 
 pub length-block : (b : List Entry) → length (block_bytes b) ≡ 8 + length (rows_bytes b)
 unfolding block_bytes
@@ -29,7 +33,7 @@ entry-apart a b x y h k e =
     let ra = bytes_of_row a.1 in
     let rb = bytes_of_row b.1 in
     let key = field-apart a.0 b.0 (field ra ++ x) (field rb ++ y) h.0 k.0
-        (sym (append_assoc (field a.0) (field ra) x) ∙ e ∙ append_assoc (field b.0) (field rb) y) in
+    (sym (append_assoc (field a.0) (field ra) x) ∙ e ∙ append_assoc (field b.0) (field rb) y) in
     let row = field-apart ra rb x y h.2 k.2 key.1 in
     let same = row-apart a.1 b.1 [] [] h.1 k.1 (ap (λ l. l ++ []) row.0) in
     ((λ i. (key.0 i, same.0 i)), row.1)
@@ -43,7 +47,7 @@ pub one_block : (a b : List Entry) → AllByRecursion IsHeldEntry a → AllByRec
 one_block a b h k e =
     same_whole entry_bytes IsHeldEntry entry_some a b
     (all_map IsHeldEntry (IsApart entry_bytes IsHeldEntry) a
-        (λ x held y p q other same. entry-apart x y p q held other same) h) k e
+    (λ x held y p q other same. entry-apart x y p q held other same) h) k e
 
 pub block_some : (b : List Entry) → 0 < length (block_bytes b)
 block_some b = omega (arith, length-block b)
@@ -61,7 +65,7 @@ pub one_front : (a b : List (List Entry)) → AllByRecursion IsHeldBlock a
 one_front a b h k e =
     same_whole block_bytes IsHeldBlock block_some a b
     (all_map IsHeldBlock (IsApart block_bytes IsHeldBlock) a
-        (λ x held y p q other same. block-apart x y p q held other same) h) k e
+    (λ x held y p q other same. block-apart x y p q held other same) h) k e
 
 -- lists of one length behind others
 pub same_backs : {A : Type 0} (s t x y : List A) → length x ≡ length y → s ++ x ≡ t ++ y → (s ≡ t)
@@ -95,15 +99,15 @@ pub same_fronts_of : (a b : List (List Entry)) → length (front a) < 2 ^ 64
 unfolding tail_bytes
 same_fronts_of a b ha hb e =
     let index = λ (blocks : List (List Entry)). to_be_bytes w64 (length (marks_from 8 blocks))
-        ++ flat_map Rattle.alt_rowfile.specs.Format.mark_bytes (marks_from 8 blocks) in
+    ++ flat_map Rattle.alt_rowfile.specs.Format.mark_bytes (marks_from 8 blocks) in
     let count = λ (blocks : List (List Entry)). to_be_bytes w64 (length (rows_of blocks)) in
     let place = λ (blocks : List (List Entry)). to_be_bytes w64 (length (front blocks)) in
     let size = same_ends (front a ++ (index a ++ count a)) (front b ++ (index b ++ count b))
-        (length (front a)) (length (front b)) ha hb
+    (length (front a)) (length (front b)) ha hb
     (sym (regroup (front a) (index a) (count a) (place a)) ∙ e
-        ∙ regroup (front b) (index b) (count b) (place b)) in
+    ∙ regroup (front b) (index b) (count b) (place b)) in
     (same_fronts (front a) (front b) (index a ++ (count a ++ place a))
-        (index b ++ (count b ++ place b)) size e).0
+    (index b ++ (count b ++ place b)) size e).0
 
 -- the bytes are the file of one list of blocks
 pub one_file : (a b : List (List Entry)) (bytes : List ℕ) → IsFileOf a bytes → IsFileOf b bytes
@@ -111,8 +115,8 @@ pub one_file : (a b : List (List Entry)) (bytes : List ℕ) → IsFileOf a bytes
 unfolding Rattle.alt_rowfile.specs.Format.header
 one_file a b bytes first second =
     let fronts =
-        same_fronts_of a b first.place second.place
-        (same_bodies (body a) (body b) (sym first.is ∙ second.is)) in
+    same_fronts_of a b first.place second.place
+    (same_bodies (body a) (body b) (sym first.is ∙ second.is)) in
     one_front a b first.held second.held (ap (drop 8) fronts)
 
 -- and so of one list of rows

@@ -26,16 +26,25 @@ pub record Halves (marks : List Mark) (key : List ℕ) (low high : ℕ) : Type 0
 
 pub halves_start : (marks : List Mark) (key : List ℕ) → Halves marks key 0 (length marks)
 halves_start marks key =
-    record { order = omega arith; within = omega arith; below =
-    λ k e. absurd (omega (arith, e)); above = λ less. absurd (omega (arith, less)) }
+    record {
+      order = omega arith;
+      within = omega arith;
+      below =
+          λ k e. absurd (omega (arith, e));
+      above = λ less. absurd (omega (arith, less));
+    }
 
 pub halves_end : (marks : List Mark) (key : List ℕ) (low high : ℕ) → Halves marks key low high
     → high ≤ low → EndsAt marks key low
 halves_end marks key low high h done =
     let same : high ≡ low = omega (arith, h.order, done) in
-    record { within = omega (arith, h.within, same); low = h.below; high =
-        λ less. ap (λ (n : ℕ). is_gt (key_cmp (key_at marks n) key)) (sym same)
-        ∙ h.above (omega (arith, less, same)) }
+    record {
+      within = omega (arith, h.within, same);
+      low = h.below;
+      high =
+          λ less. ap (λ (n : ℕ). is_gt (key_cmp (key_at marks n) key)) (sym same)
+          ∙ h.above (omega (arith, less, same));
+    }
 
 -- ---- what a walk to a key passes
 
@@ -82,10 +91,10 @@ pub find_above : (y : Entry) (ys : List Entry) (q : List ℕ) → T (is_sorted k
     → is_gt (key_cmp y.0 q) ≡ true → find key_cmp q (y ∷ ys) ≡ None
 find_above y ys q h up =
     let lower : key_cmp q y.0 ≡ Less =
-        turned_less key_cmp key_total y.0 q (greater (key_cmp y.0 q) up) in
+    turned_less key_cmp key_total y.0 q (greater (key_cmp y.0 q) up) in
     find_below key_cmp key_total q (y ∷ ys)
-        (both (Rattle.std.specs.Ordering.is_lt (key_cmp q y.0)) (below_all key_cmp q ys)
-        (is_less (key_cmp q y.0) lower) (below_less key_cmp key_total q y.0 ys lower (first _ _ h)))
+    (both (Rattle.std.specs.Ordering.is_lt (key_cmp q y.0)) (below_all key_cmp q ys)
+    (is_less (key_cmp q y.0) lower) (below_less key_cmp key_total q y.0 ys lower (first _ _ h)))
   where
     greater : (r : Ordering) → is_gt r ≡ true → r ≡ Greater
     greater Less e = absurd (let f : false ≡ true = e in cc f)
@@ -99,8 +108,8 @@ pub find_more : (rows : List Entry) (i : ℕ) (x : Entry) (key : List ℕ) (b : 
     → find key_cmp key (drop i rows) ≡ cond b (Some x.1) (find key_cmp key (drop (i + 1) rows))
 find_more rows i x key b less is test =
     ap (find key_cmp key) (drop_more rows i x less)
-        ∙ ap (λ (y : Entry). cond (is_eq (key_cmp key y.0)) (Some y.1)
-        (find key_cmp key (drop (i + 1) rows))) (sym is)
+    ∙ ap (λ (y : Entry). cond (is_eq (key_cmp key y.0)) (Some y.1)
+    (find key_cmp key (drop (i + 1) rows))) (sym is)
     ∙ ap (λ (t : Bool). cond t (Some x.1) (find key_cmp key (drop (i + 1) rows))) (sym test)
 
 -- ---- the block
@@ -113,11 +122,11 @@ key_is blocks i xs b ys is size =
     let marks = marks_from 8 xs in
     let rest = marks_from (8 + length (flat_map block_bytes xs) + length (block_bytes b)) ys in
     let whole : marks_from 8 blocks ≡ marks ++ (8 + length (flat_map block_bytes xs), first_key b)
-        ∷ rest = ap (marks_from 8) is ∙ marks-append 8 xs b ys in
+    ∷ rest = ap (marks_from 8) is ∙ marks-append 8 xs b ys in
     ap (λ (l : List Mark). key_at l i) whole
-        ∙ ap (λ (m : Mark). m.1)
-        (get_or_at marks (8 + length (flat_map block_bytes xs), first_key b) rest (0, []) i
-        (length-marks 8 xs ∙ size))
+    ∙ ap (λ (m : Mark). m.1)
+    (get_or_at marks (8 + length (flat_map block_bytes xs), first_key b) rest (0, []) i
+    (length-marks 8 xs ∙ size))
 
 pub open_block : (b : List Entry) → IsBlock b → (e : Entry) × (es : List Entry) × (b ≡ e ∷ es)
 open_block [] is = absurd (no_block [] is refl)
@@ -137,36 +146,36 @@ none_behind [] q cut h up = refl
 none_behind (y ∷ ys) q cut h up =
     let k = open_block y (block_within [] y ys cut) in
     let same : rows_of (y ∷ ys) ≡ k.0 ∷ (k.1 ++ rows_of ys) =
-        ap (λ (l : List Entry). l ++ rows_of ys) k.2 in
+    ap (λ (l : List Entry). l ++ rows_of ys) k.2 in
     ap (find key_cmp q) same
-        ∙ find_above k.0 (k.1 ++ rows_of ys) q
-        (subst (λ (l : List Entry). T (is_sorted key_cmp l)) same h)
-        (subst (λ (l : List Entry). is_gt (key_cmp (first_key l) q) ≡ true) k.2 (up y ys refl))
+    ∙ find_above k.0 (k.1 ++ rows_of ys) q
+    (subst (λ (l : List Entry). T (is_sorted key_cmp l)) same h)
+    (subst (λ (l : List Entry). is_gt (key_cmp (first_key l) q) ≡ true) k.2 (up y ys refl))
 
 -- a key is in the block that begins at or below it, with the next one above it
 pub in_block : (xs : List (List Entry)) (b : List Entry) (ys : List (List Entry)) (q : List ℕ)
     → IsBlock b → AreBlocks ys → T (is_sorted key_cmp (rows_of (xs ++ b ∷ ys)))
     → is_gt (key_cmp (first_key b) q) ≡ false
     → ((y : List Entry) (more : List (List Entry)) → ys ≡ y ∷ more
-        → is_gt (key_cmp (first_key y) q) ≡ true)
-        → find key_cmp q (rows_of (xs ++ b ∷ ys)) ≡ find key_cmp q b
+    → is_gt (key_cmp (first_key y) q) ≡ true)
+    → find key_cmp q (rows_of (xs ++ b ∷ ys)) ≡ find key_cmp q b
 in_block xs b ys q block cut h low high =
     let k = open_block b block in
     let whole : rows_of (xs ++ b ∷ ys) ≡ rows_of xs ++ (b ++ rows_of ys) =
-        rows_of-append xs (b ∷ ys) in
+    rows_of-append xs (b ∷ ys) in
     let opened : rows_of xs ++ (b ++ rows_of ys) ≡ rows_of xs ++ k.0 ∷ (k.1 ++ rows_of ys) =
-        ap (λ (l : List Entry). rows_of xs ++ (l ++ rows_of ys)) k.2 in
+    ap (λ (l : List Entry). rows_of xs ++ (l ++ rows_of ys)) k.2 in
     let sorted : T (is_sorted key_cmp (rows_of xs ++ (b ++ rows_of ys))) =
-        subst (λ (l : List Entry). T (is_sorted key_cmp l)) whole h in
+    subst (λ (l : List Entry). T (is_sorted key_cmp l)) whole h in
     let front = find_front (rows_of xs) k.0 (k.1 ++ rows_of ys) q
-        (subst (λ (l : List Entry). T (is_sorted key_cmp l)) opened sorted)
-        (subst (λ (l : List Entry). is_gt (key_cmp (first_key l) q) ≡ false) k.2 low) in
+    (subst (λ (l : List Entry). T (is_sorted key_cmp l)) opened sorted)
+    (subst (λ (l : List Entry). is_gt (key_cmp (first_key l) q) ≡ false) k.2 low) in
     let behind =
-        none_behind ys q cut
-        (sorted_behind b (rows_of ys) (sorted_behind (rows_of xs) (b ++ rows_of ys) sorted)) high in
+    none_behind ys q cut
+    (sorted_behind b (rows_of ys) (sorted_behind (rows_of xs) (b ++ rows_of ys) sorted)) high in
     ap (find key_cmp q) (whole ∙ opened) ∙ front
-        ∙ ap (λ (l : List Entry). find key_cmp q (l ++ rows_of ys)) (sym k.2)
-        ∙ find_back b (rows_of ys) q behind
+    ∙ ap (λ (l : List Entry). find key_cmp q (l ++ rows_of ys)) (sym k.2)
+    ∙ find_back b (rows_of ys) q behind
 
 cut_behind : (xs ys : List (List Entry)) → AreBlocks (xs ++ ys) → AreBlocks ys
 cut_behind [] ys cut = cut
@@ -194,25 +203,25 @@ pub at_block : (bytes : List ℕ) (marks : List Mark) (end n i : ℕ) (rows : Li
     → AtBlock is.blocks i q
 at_block bytes marks end n i rows is q ends place =
     let size : length marks ≡ length is.blocks = ap length is.marks_are
-        ∙ length-marks 8 is.blocks in
+    ∙ length-marks 8 is.blocks in
     let s = split_at is.blocks i (omega (arith, ends.within, place, size)) in
     let low : is_gt (key_cmp (first_key s.here) q) ≡ false =
     ap (λ (k : List ℕ). is_gt (key_cmp k q))
-        (sym (ap (λ (m : List Mark). key_at m i) is.marks_are
-        ∙ key_is is.blocks i s.before s.here s.behind s.is s.size)) ∙ ends.low i place in
+    (sym (ap (λ (m : List Mark). key_at m i) is.marks_are
+    ∙ key_is is.blocks i s.before s.here s.behind s.is s.size)) ∙ ends.low i place in
     let high : (y : List Entry) (more : List (List Entry)) → s.behind ≡ y ∷ more
-        → is_gt (key_cmp (first_key y) q) ≡ true = λ y more same.
+    → is_gt (key_cmp (first_key y) q) ≡ true = λ y more same.
     let split : is.blocks ≡ (s.before ++ s.here ∷ []) ++ y ∷ more = s.is
-        ∙ ap (λ (l : List (List Entry)). s.before ++ s.here ∷ l) same
-        ∙ sym (append_assoc s.before (s.here ∷ []) (y ∷ more)) in
+    ∙ ap (λ (l : List (List Entry)). s.before ++ s.here ∷ l) same
+    ∙ sym (append_assoc s.before (s.here ∷ []) (y ∷ more)) in
     let count : length (s.before ++ s.here ∷ []) ≡ n =
-        omega (arith, length-append s.before (s.here ∷ []), s.size, place) in
+    omega (arith, length-append s.before (s.here ∷ []), s.size, place) in
     ap (λ (k : List ℕ). is_gt (key_cmp k q))
-        (sym (ap (λ (m : List Mark). key_at m n) is.marks_are
-        ∙ key_is is.blocks n (s.before ++ s.here ∷ []) y more split count))
+    (sym (ap (λ (m : List Mark). key_at m n) is.marks_are
+    ∙ key_is is.blocks n (s.before ++ s.here ∷ []) y more split count))
     ∙ ends.high (omega
-        (arith, size, ap length split, length-append (s.before ++ s.here ∷ []) (y ∷ more), count))
-        in
+    (arith, size, ap length split, length-append (s.before ++ s.here ∷ []) (y ∷ more), count))
+    in
     let cut : AreBlocks (s.before ++ s.here ∷ s.behind) = subst AreBlocks s.is is.file.cut in
     record {
       before = s.before;
@@ -237,19 +246,19 @@ found_in bytes marks end n i rows is q ends place =
     let at = at_block bytes marks end n i rows is q ends place in
     ap (find key_cmp q) is.are ∙ ap (λ (l : List (List Entry)). find key_cmp q (rows_of l)) at.is
     ∙ in_block at.before at.here at.behind q at.block at.cut at.rising at.low at.high
-        ∙ ap (find key_cmp q) (sym at.at)
+    ∙ ap (find key_cmp q) (sym at.at)
 
 -- where no block begins at or below the key, all begin above it
 pub above_first : (bytes : List ℕ) (marks : List Mark) (end n : ℕ) (rows : List Entry)
     (is : FileAs bytes marks end rows) (q : List ℕ) → EndsAt marks q n → n ≡ 0
     → (y : List Entry) (more : List (List Entry)) → is.blocks ≡ y ∷ more
-        → is_gt (key_cmp (first_key y) q) ≡ true
+    → is_gt (key_cmp (first_key y) q) ≡ true
 above_first bytes marks end n rows is q ends none y more same =
     ap (λ (k : List ℕ). is_gt (key_cmp k q))
-        (sym (ap (λ (m : List Mark). key_at m n) is.marks_are
-        ∙ key_is is.blocks n [] y more same (sym none)))
+    (sym (ap (λ (m : List Mark). key_at m n) is.marks_are
+    ∙ key_is is.blocks n [] y more same (sym none)))
     ∙ ends.high (omega
-        (arith, none, ap length is.marks_are, length-marks 8 is.blocks, ap length same))
+    (arith, none, ap length is.marks_are, length-marks 8 is.blocks, ap length same))
 
 -- and there is nothing at the key
 pub found_nowhere : (bytes : List ℕ) (marks : List Mark) (end n : ℕ) (rows : List Entry)
@@ -257,5 +266,5 @@ pub found_nowhere : (bytes : List ℕ) (marks : List Mark) (end n : ℕ) (rows :
     → find key_cmp q rows ≡ None
 found_nowhere bytes marks end n rows is q ends none =
     ap (find key_cmp q) is.are
-        ∙ none_behind is.blocks q is.file.cut is.file.rising
-        (above_first bytes marks end n rows is q ends none)
+    ∙ none_behind is.blocks q is.file.cut is.file.rising
+    (above_first bytes marks end n rows is q ends none)

@@ -86,9 +86,9 @@ module _ (key : List ℕ) where
       let p = λ (e : Entry). range_contains key_cmp (Included key) Unbounded e.0 in
       filter_back p front back
       (all_leads (IsBelow key) (λ e. p e ≡ false)
-          (λ e b. ap (λ t. t && not false) (below_le e b)) front h)
+      (λ e b. ap (λ t. t && not false) (below_le e b)) front h)
       (all_leads (IsFrom key) (λ e. p e ≡ true)
-          (λ e b. ap (λ t. t && not false) (from_le e b)) back k)
+      (λ e b. ap (λ t. t && not false) (from_le e b)) back k)
 
   -- and backward the rows below it
   pub cut_backward : (front back : List Entry) → AllByRecursion (IsBelow key) front
@@ -98,9 +98,9 @@ module _ (key : List ℕ) where
       let p = λ (e : Entry). range_contains key_cmp Unbounded (Excluded key) e.0 in
       ap reverse (filter_front p front back
       (all_leads (IsBelow key) (λ e. p e ≡ true)
-          (λ e b. ap (λ t. true && not t) (below_le e b)) front h)
+      (λ e b. ap (λ t. true && not t) (below_le e b)) front h)
       (all_leads (IsFrom key) (λ e. p e ≡ false)
-          (λ e b. ap (λ t. true && not t) (from_le e b)) back k))
+      (λ e b. ap (λ t. true && not t) (from_le e b)) back k))
 
 all_true : (es : List Entry)
     → AllByRecursion (λ e. range_contains key_cmp Unbounded Unbounded e.0 ≡ true) es
@@ -128,19 +128,19 @@ module _ (key : List ℕ) where
   -- blocks that begin above the key aren't below it
   pub from_blocks : (ys : List (List Entry)) → AreBlocks ys → T (is_sorted key_cmp (rows_of ys))
       → ((y : List Entry) (more : List (List Entry)) → ys ≡ y ∷ more
-          → is_gt (key_cmp (first_key y) key) ≡ true)
+      → is_gt (key_cmp (first_key y) key) ≡ true)
       → AllByRecursion (IsFrom key) (rows_of ys)
   from_blocks [] cut h up = tt
   from_blocks (y ∷ ys) cut h up =
       let k = open_block y (Rattle.alt_rowfile.proofs.BlockLaws.block_within [] y ys cut) in
       let same : rows_of (y ∷ ys) ≡ k.0 ∷ (k.1 ++ rows_of ys) =
-          ap (λ (l : List Entry). l ++ rows_of ys) k.2 in
+      ap (λ (l : List Entry). l ++ rows_of ys) k.2 in
       let above : is_gt (key_cmp k.0.0 key) ≡ true =
-          subst (λ (l : List Entry). is_gt (key_cmp (first_key l) key) ≡ true) k.2 (up y ys refl) in
+      subst (λ (l : List Entry). is_gt (key_cmp (first_key l) key) ≡ true) k.2 (up y ys refl) in
       subst (AllByRecursion (IsFrom key)) (sym same)
       (from_first key k.0 (k.1 ++ rows_of ys)
-          (subst (λ (l : List Entry). T (is_sorted key_cmp l)) same h)
-          (not_lower (key_cmp k.0.0 key) above))
+      (subst (λ (l : List Entry). T (is_sorted key_cmp l)) same h)
+      (not_lower (key_cmp k.0.0 key) above))
 
   -- the rows of a file in two parts, cut within a block
   pub record InTwo (rows front back : List Entry) : Type 0 where
@@ -151,31 +151,31 @@ module _ (key : List ℕ) where
   pub cut_block : (blocks : List (List Entry)) (i n : ℕ) (at : AtBlock blocks i key)
       → CutsAt key at.here n
       → InTwo (rows_of blocks) (rows_of at.before ++ take n at.here)
-          (drop n at.here ++ rows_of at.behind)
+      (drop n at.here ++ rows_of at.behind)
   cut_block blocks i n at cuts =
       let b = at.here in
       let k = open_block b at.block in
       let whole : rows_of (at.before ++ b ∷ at.behind) ≡ rows_of at.before
-          ++ (b ++ rows_of at.behind) = rows_of-append at.before (b ∷ at.behind) in
+      ++ (b ++ rows_of at.behind) = rows_of-append at.before (b ∷ at.behind) in
       let sorted : T (is_sorted key_cmp (rows_of at.before ++ (b ++ rows_of at.behind))) =
-          subst (λ (l : List Entry). T (is_sorted key_cmp l)) whole at.rising in
+      subst (λ (l : List Entry). T (is_sorted key_cmp l)) whole at.rising in
       let opened : rows_of at.before ++ (b ++ rows_of at.behind) ≡ rows_of at.before ++ k.0
-          ∷ (k.1 ++ rows_of at.behind) =
+      ∷ (k.1 ++ rows_of at.behind) =
       ap (λ (l : List Entry). rows_of at.before ++ (l ++ rows_of at.behind)) k.2 in
       record {
         is = ap rows_of at.is ∙ whole
             ∙ ap (λ (l : List Entry). rows_of at.before ++ (l ++ rows_of at.behind))
-                (sym (take-append-drop n b))
+            (sym (take-append-drop n b))
             ∙ regroup (rows_of at.before) (take n b) (drop n b) (rows_of at.behind);
         below = all_append (IsBelow key) (rows_of at.before) (take n b)
             (below_front key (rows_of at.before) k.0 (k.1 ++ rows_of at.behind)
-                (subst (λ (l : List Entry). T (is_sorted key_cmp l)) opened sorted)
+            (subst (λ (l : List Entry). T (is_sorted key_cmp l)) opened sorted)
             (subst (λ (l : List Entry). is_gt (key_cmp (first_key l) key) ≡ false) k.2 at.low))
-                cuts.below;
+            cuts.below;
         from = all_append (IsFrom key) (drop n b) (rows_of at.behind) cuts.from
             (from_blocks at.behind at.cut
-                (sorted_behind b (rows_of at.behind)
-                (sorted_behind (rows_of at.before) (b ++ rows_of at.behind) sorted)) at.high);
+            (sorted_behind b (rows_of at.behind)
+            (sorted_behind (rows_of at.before) (b ++ rows_of at.behind) sorted)) at.high);
       }
     where
       regroup : (a x y z : List Entry) → a ++ ((x ++ y) ++ z) ≡ (a ++ x) ++ (y ++ z)
@@ -187,7 +187,7 @@ drop_behind : (xs : List (List Entry)) (b : List Entry) (ys : List (List Entry))
     → length xs + 1 ≡ n → drop n (xs ++ b ∷ ys) ≡ ys
 drop_behind xs b ys n is =
     ap (drop n) (sym (append_assoc xs (b ∷ []) ys))
-        ∙ drop_at (xs ++ b ∷ []) ys n (omega (arith, is, length-append xs (b ∷ [])))
+    ∙ drop_at (xs ++ b ∷ []) ys n (omega (arith, is, length-append xs (b ∷ [])))
 
 module _ (s t : DiskState) (file : RowFile) (key : List ℕ) (rows : List Entry)
     (r : ReadsAs s file.file file.marks.items file.end rows)
@@ -211,7 +211,7 @@ module _ (s t : DiskState) (file : RowFile) (key : List ℕ) (rows : List Entry)
       within = ends.within;
       is = ap (λ l. list_from l (Some key) true) (r.as_file.are ∙ two.is)
           ∙ cut_forward key (rows_of at.before ++ take cut at.here)
-              (drop cut at.here ++ rows_of at.behind) two.below two.from
+          (drop cut at.here ++ rows_of at.behind) two.below two.from
           ∙ (λ j. (ap (drop cut) (sym at.at) ∙ sym is) j ++ rows_of (sym behind j));
     }
       where
@@ -228,10 +228,10 @@ module _ (s t : DiskState) (file : RowFile) (key : List ℕ) (rows : List Entry)
       within = omega (arith, ends.within, place);
       is = ap (λ l. list_from l (Some key) false) (r.as_file.are ∙ two.is)
           ∙ cut_backward key (rows_of at.before ++ take cut at.here)
-              (drop cut at.here ++ rows_of at.behind) two.below two.from
+          (drop cut at.here ++ rows_of at.behind) two.below two.from
           ∙ reverse-append (rows_of at.before) (take cut at.here)
           ∙ (λ j. reverse ((ap (take cut) (sym at.at) ∙ sym is) j)
-              ++ reverse (rows_of (sym before j)));
+          ++ reverse (rows_of (sym before j)));
     }
       where
         before : take i r.as_file.blocks ≡ at.before
@@ -241,7 +241,7 @@ module _ (s t : DiskState) (file : RowFile) (key : List ℕ) (rows : List Entry)
     (r : ReadsAs s file.file file.marks.items file.end rows)
     (same : t.file file.file ≡ s.file file.file)
     (n i : ℕ) (ends : EndsAt file.marks.items key n) (place : n ≡ i + 1) (block held : List Entry)
-        (loaded : block ≡ get_or r.as_file.blocks i []) where
+    (loaded : block ≡ get_or r.as_file.blocks i []) where
   pub sought_up : (forward : Bool) → forward ≡ true → IsCutFrom key forward block held
       → LeftAs t file forward n held (list_from rows (Some key) forward)
   sought_up true e cut =

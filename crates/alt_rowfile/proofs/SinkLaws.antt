@@ -19,7 +19,7 @@ pub put_end : (old bytes : List ℕ) (at : ℕ) → at ≡ length old
 put_end old bytes at is =
     let front : take at old ≡ old = take_all at old (omega (arith, is)) in
     let back : drop (at + length bytes) old ≡ [] =
-        drop_all (at + length bytes) old (omega (arith, is)) in
+    drop_all (at + length bytes) old (omega (arith, is)) in
     (λ i. front i ++ bytes ++ back i) ∙ append-nil (old ++ bytes)
 
 pub wrote_run : (s0 s1 : DiskState) (f at : ℕ) (bytes : List ℕ) (ok : Bool) → Call s0 s1 ok
@@ -38,8 +38,8 @@ pub put_file : (s0 s1 : DiskState) (f at : ℕ) (done bytes : List ℕ) → cont
     → at ≡ length done → Written s0 s1 f at bytes true → s1.file f ≡ Some (done ++ bytes)
 put_file s0 s1 f at done bytes is place written =
     written.file refl
-        ∙ ap (λ (l : List ℕ). Some l) (ap (λ (l : List ℕ). overwritten l at bytes) is
-        ∙ put_end done bytes at place)
+    ∙ ap (λ (l : List ℕ). Some l) (ap (λ (l : List ℕ). overwritten l at bytes) is
+    ∙ put_end done bytes at place)
 
 pub put_contents : (s0 s1 : DiskState) (f at : ℕ) (done bytes : List ℕ) → contents s0 f ≡ done
     → at ≡ length done → Written s0 s1 f at bytes true → contents s1 f ≡ done ++ bytes

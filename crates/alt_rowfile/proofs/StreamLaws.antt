@@ -66,19 +66,25 @@ module _ (bytes : List ℕ) where
   pub no_length : (at end : ℕ) → end ≤ length bytes → end - at < 8 → (s behind : List ℕ)
       → drop at (take end bytes) ≡ field s ++ behind → ⊥
   no_length at end within few s behind is =
-      omega (arith, few, length_up_to at end within, ap length is, length-append (field s) behind,
-          length-field s)
+      omega (
+        arith,
+        few,
+        length_up_to at end within,
+        ap length is,
+        length-append (field s) behind,
+        length-field s,
+      )
 
   -- a field's length stands before it
   told_front : (at n end : ℕ) → at + 8 ≤ end → n < 2 ^ 64
       → take 8 (drop at bytes) ≡ to_be_bytes w64 n → (s behind : List ℕ) → length s < 2 ^ 64
       → drop at (take end bytes) ≡ field s ++ behind → (n ≡ length s)
-          × (drop 8 (drop at (take end bytes)) ≡ s ++ behind)
+      × (drop 8 (drop at (take end bytes)) ≡ s ++ behind)
   told_front at n end within fits there s behind short is =
       let rest = drop at (take end bytes) in
       number-apart n (length s) (drop 8 rest) (s ++ behind) fits short
       (ap (λ l. l ++ drop 8 rest) (sym (sym (front_of at 8 end within) ∙ there))
-          ∙ take-append-drop 8 rest ∙ is
+      ∙ take-append-drop 8 rest ∙ is
       ∙ append_assoc (to_be_bytes w64 (length s)) s behind)
 
   -- so none stands where its length goes past the end
@@ -86,8 +92,15 @@ module _ (bytes : List ℕ) where
       → take 8 (drop at bytes) ≡ to_be_bytes w64 n
       → (s behind : List ℕ) → length s < 2 ^ 64 → drop at (take end bytes) ≡ field s ++ behind → ⊥
   no_room at n end room within far fits there s behind short is =
-      omega (arith, far, (told_front at n end within fits there s behind short is).0,
-          length_up_to at end room, ap length is, length-append (field s) behind, length-field s)
+      omega (
+        arith,
+        far,
+        (told_front at n end within fits there s behind short is).0,
+        length_up_to at end room,
+        ap length is,
+        length-append (field s) behind,
+        length-field s,
+      )
 
   -- a length and so many bytes behind it are a field
   pub field_up_to : (at n end : ℕ) (content : List ℕ) → at + 8 + n ≤ end → end ≤ length bytes
@@ -97,15 +110,15 @@ module _ (bytes : List ℕ) where
       let rest = drop at (take end bytes) in
       let behind : drop 8 rest ≡ drop (at + 8) (take end bytes) = drop-drop 8 at (take end bytes) in
       let body : content ≡ take n (drop (at + 8) (take end bytes)) = is
-          ∙ front_of (at + 8) n end (omega (arith, within)) in
+      ∙ front_of (at + 8) n end (omega (arith, within)) in
       let size : length content ≡ n = ap length is
-          ∙ length-take-le n (drop (at + 8) bytes)
-          (omega (arith, length-drop (at + 8) bytes, within, room)) in
+      ∙ length-take-le n (drop (at + 8) bytes)
+      (omega (arith, length-drop (at + 8) bytes, within, room)) in
       sym (take-append-drop 8 rest)
       ∙ (λ i. (sym (front_of at 8 end (omega (arith, within))) ∙ there
-          ∙ ap (to_be_bytes w64) (sym size)) i ++ behind i)
+      ∙ ap (to_be_bytes w64) (sym size)) i ++ behind i)
       ∙ ap (λ l. to_be_bytes w64 (length content) ++ l)
       (sym (take-append-drop n (drop (at + 8) (take end bytes)))
-          ∙ (λ i. sym body i ++ drop-drop n (at + 8) (take end bytes) i))
+      ∙ (λ i. sym body i ++ drop-drop n (at + 8) (take end bytes) i))
       ∙ sym (append_assoc (to_be_bytes w64 (length content)) content
-          (drop (at + 8 + n) (take end bytes)))
+      (drop (at + 8 + n) (take end bytes)))

@@ -37,7 +37,7 @@ module _ {T : Type 0} where
   pub walk_fails : (s t : DiskState) (w : RowFileWalk) (fault : SourceFault)
       → (IsErrOf {T = T} (Err fault) Failed → Rose s.faults t.faults)
       → (IsTrue s.tells → (rows : List Entry) → Reads s w.file.now rows → IsDamaged fault → ⊥)
-          → Fails walk_holds s t w fault
+      → Fails walk_holds s t w fault
   walk_fails s t w fault cause sound = record {
     cause = cause_of s t fault cause;
     sound = λ trusted rows h damaged. sound (tells_of s trusted) (entries rows) h damaged;

@@ -23,9 +23,9 @@ pub ahead_falling : (blocks : List (List Entry)) (n m : ℕ) → n ≡ m + 1 →
     → rows_ahead false n blocks ≡ reverse (get_or blocks m []) ++ rows_ahead false m blocks
 ahead_falling blocks n m is less =
     ap (λ (k : ℕ). reverse (rows_of (take k blocks))) is
-        ∙ ap (λ (l : List (List Entry)). reverse (rows_of l)) (take_more blocks m [] less)
+    ∙ ap (λ (l : List (List Entry)). reverse (rows_of l)) (take_more blocks m [] less)
     ∙ ap reverse (rows_of-push (take m blocks) (get_or blocks m []))
-        ∙ reverse-append (rows_of (take m blocks)) (get_or blocks m [])
+    ∙ reverse-append (rows_of (take m blocks)) (get_or blocks m [])
 
 -- at the end nothing is ahead
 pub none_rising : (blocks : List (List Entry)) (n : ℕ) → length blocks ≤ n
@@ -61,8 +61,8 @@ some_block : (s : DiskState) (f : ℕ) (marks : List Mark) (end : ℕ) (rows : L
 some_block s f marks end rows r i less none =
     let p = split_at r.as_file.blocks i (omega (arith, less, count_blocks s f marks end rows r)) in
     no_block p.here
-        (block_within p.before p.here p.behind (subst AreBlocks p.is r.as_file.file.cut)) (sym p.at
-        ∙ none)
+    (block_within p.before p.here p.behind (subst AreBlocks p.is r.as_file.file.cut)) (sym p.at
+    ∙ none)
 
 module _ (s t : DiskState) (file : RowFile) (forward : Bool) (next : ℕ) (held rows : List Entry)
     (l : LeftAs s file forward next held rows) (same : t.file file.file ≡ s.file file.file) where
@@ -74,17 +74,17 @@ module _ (s t : DiskState) (file : RowFile) (forward : Bool) (next : ℕ) (held 
   pub at_end_rising : forward ≡ true → length held ≡ 0 → length file.marks.items ≤ next → rows ≡ []
   at_end_rising up none past =
       l.is ∙ ap (λ (h : List Entry). reverse h ++ rows_ahead forward next l.reads.as_file.blocks)
-          (nil_of held none)
+      (nil_of held none)
       ∙ ap (λ b. rows_ahead b next l.reads.as_file.blocks) up
-          ∙ none_rising l.reads.as_file.blocks next
-          (omega (arith, past, count_blocks s file.file file.marks.items file.end l.all l.reads))
+      ∙ none_rising l.reads.as_file.blocks next
+      (omega (arith, past, count_blocks s file.file file.marks.items file.end l.all l.reads))
 
   pub at_end_falling : forward ≡ false → length held ≡ 0 → next ≡ 0 → rows ≡ []
   at_end_falling down none first =
       l.is ∙ ap (λ (h : List Entry). reverse h ++ rows_ahead forward next l.reads.as_file.blocks)
-          (nil_of held none)
+      (nil_of held none)
       ∙ ap (λ b. rows_ahead b next l.reads.as_file.blocks) down
-          ∙ none_falling l.reads.as_file.blocks next first
+      ∙ none_falling l.reads.as_file.blocks next first
 
   -- the next block, turned
   pub filled_rising : forward ≡ true → length held ≡ 0 → next < length file.marks.items
@@ -95,9 +95,9 @@ module _ (s t : DiskState) (file : RowFile) (forward : Bool) (next : ℕ) (held 
       let b = get_or blocks next [] in
       let ahead : rows_ahead forward next blocks ≡ b ++ rows_ahead forward (next + 1) blocks =
       ap (λ f. rows_ahead f next blocks) up
-          ∙ ahead_rising blocks next
-          (omega (arith, less, count_blocks s file.file file.marks.items file.end l.all l.reads))
-          ∙ ap (λ f. b ++ rows_ahead f (next + 1) blocks) (sym up) in
+      ∙ ahead_rising blocks next
+      (omega (arith, less, count_blocks s file.file file.marks.items file.end l.all l.reads))
+      ∙ ap (λ f. b ++ rows_ahead f (next + 1) blocks) (sym up) in
       let back : reverse new ≡ b = ap reverse turned ∙ reverse-reverse b in (
         record {
           all = l.all;
@@ -120,9 +120,9 @@ module _ (s t : DiskState) (file : RowFile) (forward : Bool) (next : ℕ) (held 
       let b = get_or blocks m [] in
       let ahead : rows_ahead forward next blocks ≡ reverse b ++ rows_ahead forward m blocks =
       ap (λ f. rows_ahead f next blocks) down
-          ∙ ahead_falling blocks next m is
-          (omega (arith, less, count_blocks s file.file file.marks.items file.end l.all l.reads))
-          ∙ ap (λ f. reverse b ++ rows_ahead f m blocks) (sym down) in (
+      ∙ ahead_falling blocks next m is
+      (omega (arith, less, count_blocks s file.file file.marks.items file.end l.all l.reads))
+      ∙ ap (λ f. reverse b ++ rows_ahead f m blocks) (sym down) in (
         record {
           all = l.all;
           reads = reads_at s t file.file file.marks.items file.end l.all same l.reads;
@@ -142,27 +142,32 @@ pub popped : (s : DiskState) (file : RowFile) (forward : Bool) (next : ℕ)
     → held ≡ rest ++ x ∷ [] → Gives (LeftAs s file forward next rest) rows (Some x)
 popped s file forward next held rest rows x l is =
     let whole = one_less held rest x
-        (rows_ahead forward next l.reads.as_file.blocks) rows is l.is in
+    (rows_ahead forward next l.reads.as_file.blocks) rows is l.is in
     subst (λ (r : List Entry). Gives (LeftAs s file forward next rest) r (Some x)) (sym whole)
-        (refl, record { all = l.all; reads = l.reads; within = l.within; is = refl })
+    (refl, record { all = l.all; reads = l.reads; within = l.within; is = refl })
 
 pub popped_none : (s : DiskState) (file : RowFile) (forward : Bool) (next : ℕ)
     (held rest rows : List Entry) → LeftAs s file forward next held rows → held ≡ [] → rest ≡ []
     → rows ≡ [] → Gives (LeftAs s file forward next rest) rows None
 popped_none s file forward next held rest rows l empty none end =
     subst (λ (r : List Entry). Gives (LeftAs s file forward next rest) r None) (sym end)
-    (record { all = l.all; reads = l.reads; within = l.within; is = sym end ∙ l.is
-        ∙ ap (λ (h : List Entry). reverse h ++ rows_ahead forward next l.reads.as_file.blocks)
-        (empty ∙ sym none) })
+    (record {
+      all = l.all;
+      reads = l.reads;
+      within = l.within;
+      is = sym end ∙ l.is
+          ∙ ap (λ (h : List Entry). reverse h ++ rows_ahead forward next l.reads.as_file.blocks)
+          (empty ∙ sym none);
+    })
 
 pub popped_any : (s : DiskState) (file : RowFile) (forward : Bool) (next : ℕ)
     (held rest rows : List Entry) (o : Option Entry) (n m : ℕ)
     → LeftAs s file forward next held rows → (held ≡ [] → rows ≡ []) → n ≡ length held
     → held ≡ rest ++ option_to_list o → MatchOption o ((n ≡ 0) × (m ≡ 0)) (λ x. m + 1 ≡ n)
-        → Gives (LeftAs s file forward next rest) rows o
+    → Gives (LeftAs s file forward next rest) rows o
 popped_any s file forward next held rest rows (Some x) n m l end size is lens =
     popped s file forward next held rest rows x l is
 popped_any s file forward next held rest rows None n m l end size is lens =
     let empty : held ≡ [] = nil_of held (omega (arith, size, lens.0)) in
     popped_none s file forward next held rest rows l empty (sym (append-nil rest) ∙ sym is ∙ empty)
-        (end empty)
+    (end empty)

@@ -51,11 +51,11 @@ pub marks-push : (at : ℕ) (blocks : List (List Entry)) (b : List Entry)
 marks-push at [] b = ap (λ (n : ℕ). (n, first_key b) ∷ []) (let e : at ≡ at + 0 = omega arith in e)
 marks-push at (c ∷ blocks) b =
     let size : at + length (block_bytes c) + length (flat_map block_bytes blocks)
-        ≡ at + length (block_bytes c ++ flat_map block_bytes blocks) =
-        omega (arith, length-append (block_bytes c) (flat_map block_bytes blocks)) in
+    ≡ at + length (block_bytes c ++ flat_map block_bytes blocks) =
+    omega (arith, length-append (block_bytes c) (flat_map block_bytes blocks)) in
     ap (λ (l : List Mark). (at, first_key c) ∷ l) (marks-push (at + length (block_bytes c)) blocks b
-        ∙ ap (λ (n : ℕ). marks_from (at + length (block_bytes c)) blocks ++ (n, first_key b) ∷ [])
-        size)
+    ∙ ap (λ (n : ℕ). marks_from (at + length (block_bytes c)) blocks ++ (n, first_key b) ∷ [])
+    size)
 
 -- the open block has one row at least once a row was added
 pub piece-push : (waiting : List Entry) (e : Entry)
@@ -90,7 +90,7 @@ pub marks_more : (closed : List (List Entry)) (waiting : List Entry) (e : Entry)
     → block ≡ rows_bytes waiting
     → marks ≡ marks_from 8 (closed ++ piece waiting)
     → (length block ≡ 0 → new ≡ marks ++ (at, e.0) ∷ []) → (0 < length block → new ≡ marks)
-        → new ≡ marks_from 8 (closed ++ piece (waiting ++ e ∷ []))
+    → new ≡ marks_from 8 (closed ++ piece (waiting ++ e ∷ []))
 marks_more closed [] e at block marks new place is are set kept =
     set (ap length is)
     ∙ ap (λ (l : List Mark). l ++ (at, e.0) ∷ []) (are ∙ ap (marks_from 8) (append-nil closed))
@@ -98,17 +98,17 @@ marks_more closed [] e at block marks new place is are set kept =
     ∙ sym (marks-push 8 closed (e ∷ []))
 marks_more closed (x ∷ waiting) e at block marks new place is are set kept =
     kept (omega (arith, ap length is, rows_some x waiting)) ∙ are
-        ∙ marks-push 8 closed (x ∷ waiting) ∙ sym (marks-push 8 closed (x ∷ (waiting ++ e ∷ [])))
+    ∙ marks-push 8 closed (x ∷ waiting) ∙ sym (marks-push 8 closed (x ∷ (waiting ++ e ∷ [])))
 
 -- one row more in the open block
 pub row_more : (s : DiskState) (sink : Sink) (block new_block : List ℕ)
     (marks new_marks : List Mark) (count new_count : ℕ) (closed : List (List Entry))
     (waiting : List Entry) (e : Entry)
     → WritesAs s sink block marks count closed waiting → length (rows_bytes waiting) < 4096
-        → T (is_sorted key_cmp (rows_of closed ++ (waiting ++ e ∷ []))) → IsHeldEntry e
+    → T (is_sorted key_cmp (rows_of closed ++ (waiting ++ e ∷ []))) → IsHeldEntry e
     → new_block ≡ block ++ entry_bytes e
-        → (length block ≡ 0 → new_marks ≡ marks ++ (sink.at, e.0) ∷ [])
-        → (0 < length block → new_marks ≡ marks) → new_count ≡ count + 1
+    → (length block ≡ 0 → new_marks ≡ marks ++ (sink.at, e.0) ∷ [])
+    → (0 < length block → new_marks ≡ marks) → new_count ≡ count + 1
     → WritesAs s sink new_block new_marks new_count closed (waiting ++ e ∷ [])
 row_more s sink block new_block marks new_marks count new_count closed waiting e w short rising held bytes set kept counted = record {
   put = w.put;
@@ -119,9 +119,14 @@ row_more s sink block new_block marks new_marks count new_count closed waiting e
   rising = rising;
   bytes = bytes ∙ ap (λ (l : List ℕ). l ++ entry_bytes e) w.bytes ∙ sym (rows_bytes-push waiting e);
   marks_are = marks_more closed waiting e sink.at block marks new_marks w.put.at w.bytes w.marks_are set kept;
-  count_is = omega
-      (arith, counted, w.count_is, length-append (rows_of closed) (waiting ++ e ∷ []),
-      length-append waiting (e ∷ []), length-append (rows_of closed) waiting);
+  count_is = omega (
+    arith,
+    counted,
+    w.count_is,
+    length-append (rows_of closed) (waiting ++ e ∷ []),
+    length-append waiting (e ∷ []),
+    length-append (rows_of closed) waiting,
+  );
 }
 
 piece_some : (waiting : List Entry) → IsBlock waiting → piece waiting ≡ waiting ∷ []
@@ -132,14 +137,14 @@ piece_some (x ∷ waiting) b = refl
 pub block_more : (s t : DiskState) (sink new_sink : Sink) (block written cleared : List ℕ)
     (marks : List Mark) (count : ℕ) (closed : List (List Entry)) (waiting : List Entry)
     → WritesAs s sink block marks count closed waiting → IsBlock waiting → length block < 2 ^ 64
-        → written ≡ field block
+    → written ≡ field block
     → ((done : List ℕ) → IsPut s sink done → IsPut t new_sink (done ++ written)) → cleared ≡ []
-        → WritesAs t new_sink cleared marks count (closed ++ waiting ∷ []) []
+    → WritesAs t new_sink cleared marks count (closed ++ waiting ∷ []) []
 unfolding block_bytes
 block_more s t sink new_sink block written cleared marks count closed waiting w is small bytes puts none =
     let here : written ≡ block_bytes waiting = bytes ∙ ap field w.bytes in
     let rows : rows_of (closed ++ waiting ∷ []) ++ [] ≡ rows_of closed ++ waiting =
-        append-nil (rows_of (closed ++ waiting ∷ [])) ∙ rows_of-push closed waiting in
+    append-nil (rows_of (closed ++ waiting ∷ [])) ∙ rows_of-push closed waiting in
     record {
       put = subst (IsPut t new_sink) (ap (λ (l : List ℕ). front closed ++ l) here
           ∙ sym (front-push closed waiting)) (puts (front closed) w.put);
@@ -175,18 +180,18 @@ rows_of-piece closed (x ∷ waiting) = rows_of-push closed (x ∷ waiting)
 pub nothing_waits : (s t : DiskState) (sink : Sink) (block : List ℕ) (marks : List Mark) (count : ℕ)
     (closed : List (List Entry)) (waiting : List Entry)
     → WritesAs s sink block marks count closed waiting → length block ≡ 0
-        → WritesAs s sink block marks count (closed ++ piece waiting) []
+    → WritesAs s sink block marks count (closed ++ piece waiting) []
 nothing_waits s t sink block marks count closed waiting w none =
     let empty : waiting ≡ [] = rows_none waiting (omega (arith, none, ap length w.bytes)) in
     let same : closed ++ piece waiting ≡ closed = ap (λ (r : List Entry). closed ++ piece r) empty
-        ∙ append-nil closed in
+    ∙ append-nil closed in
     subst (λ (c : List (List Entry)). WritesAs s sink block marks count c []) (sym same)
-        (subst (WritesAs s sink block marks count closed) empty w)
+    (subst (WritesAs s sink block marks count closed) empty w)
 
 pub something_waits : (s : DiskState) (sink : Sink) (block : List ℕ) (marks : List Mark) (count : ℕ)
     (closed : List (List Entry)) (waiting : List Entry)
     → WritesAs s sink block marks count closed waiting → 0 < length block → IsBlock waiting
-        × (piece waiting ≡ waiting ∷ [])
+    × (piece waiting ≡ waiting ∷ [])
 something_waits s sink block marks count closed [] w some =
     absurd (omega (arith, some, ap length w.bytes))
 something_waits s sink block marks count closed (x ∷ waiting) w some = (w.opens, refl)
@@ -196,27 +201,33 @@ pub stands_after : (s t : DiskState) (sink : Sink) (block tail : List ℕ) (mark
     (count : ℕ) (closed : List (List Entry)) → WritesAs s sink block marks count closed []
     → AreBlocks closed
     → sink.at ≤ 2 ^ 62 → tail ≡ tail_bytes marks count sink.at
-        → Lasts t sink.file ((front closed ++ tail) ++ sha256 (front closed ++ tail))
-        → StandsAs t sink.file marks sink.at (rows_of closed)
+    → Lasts t sink.file ((front closed ++ tail) ++ sha256 (front closed ++ tail))
+    → StandsAs t sink.file marks sink.at (rows_of closed)
 stands_after s t sink block tail marks count closed w cut small is lasts =
     let here : marks ≡ marks_from 8 closed = w.marks_are ∙ ap (marks_from 8) (append-nil closed) in
     let rows : count ≡ length (rows_of closed) = w.count_is
-        ∙ ap length (append-nil (rows_of closed)) in
+    ∙ ap length (append-nil (rows_of closed)) in
     let whole : front closed ++ tail ≡ body closed =
-        ap (λ (l : List ℕ). front closed ++ l) (is
-        ∙ (λ i. tail_bytes (here i) (rows i) (w.put.at i))) in
+    ap (λ (l : List ℕ). front closed ++ l) (is
+    ∙ (λ i. tail_bytes (here i) (rows i) (w.put.at i))) in
     let all : (front closed ++ tail) ++ sha256 (front closed ++ tail) ≡ file_bytes closed =
-        ap (λ (l : List ℕ). l ++ sha256 l) whole in
+    ap (λ (l : List ℕ). l ++ sha256 l) whole in
     record {
       reads = record {
         bytes = (front closed ++ tail) ++ sha256 (front closed ++ tail);
         there = lasts.file;
         as_file = record {
           blocks = closed;
-          file = record { cut = cut; rising =
-              subst (λ (l : List Entry). T (is_sorted key_cmp l))
-              (append-nil (rows_of closed)) w.rising; held = w.held; place =
-              omega (arith, small, w.put.at); is = all };
+          file = record {
+            cut = cut;
+            rising =
+                subst (λ (l : List Entry). T (is_sorted key_cmp l))
+                (append-nil (rows_of closed)) w.rising;
+            held = w.held;
+            place =
+                omega (arith, small, w.put.at);
+            is = all;
+          };
           are = refl;
           marks_are = here;
           end_is = w.put.at;
@@ -232,8 +243,8 @@ pub two_put : (block one two key row_bytes : List ℕ) (row : RowCells) → row_
 unfolding entry_bytes
 two_put block one two key row_bytes row is first then =
     then ∙ ap (λ (l : List ℕ). l ++ field row_bytes) first
-        ∙ append_assoc block (field key) (field row_bytes)
-        ∙ ap (λ (r : List ℕ). block ++ (field key ++ field r)) is
+    ∙ append_assoc block (field key) (field row_bytes)
+    ∙ ap (λ (r : List ℕ). block ++ (field key ++ field r)) is
 
 pub is_zero : (n : ℕ) → n ≡ 0 → (n == 0) ≡ true
 is_zero n e = grind arith

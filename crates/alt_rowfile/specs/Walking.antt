@@ -53,8 +53,12 @@ itself n = grind arith
 abbrev pub reads_on : (old new : DiskState) (file : RowFile) (rows : List Entry)
     → SameFiles (λ f. f == file.file) old new → Reads old file rows → Reads new file rows
 reads_on old new file rows same r =
-    record { bytes = r.bytes; there = same file.file (itself file.file)
-    ∙ r.there; as_file = r.as_file }
+    record {
+      bytes = r.bytes;
+      there = same file.file (itself file.file)
+          ∙ r.there;
+      as_file = r.as_file;
+    }
 
 pub walk_holds_on : (old new : DiskState) (walk : RowFileWalk) (rows : RowMap)
     → SameFiles (walk_reads walk) old new → walk_holds old walk rows → walk_holds new walk rows
@@ -63,5 +67,10 @@ walk_holds_on old new walk rows same r = reads_on old new walk.file.now (entries
 pub walk_left_on : (old new : DiskState) (walk : RowFileWalk) (rows : RowList)
     → SameFiles (walk_reads walk) old new → walk_left old walk rows → walk_left new walk rows
 walk_left_on old new walk rows same l =
-    record { all = l.all; reads = reads_on old new walk.file.now l.all same l.reads; within =
-        l.within; is = l.is }
+    record {
+      all = l.all;
+      reads = reads_on old new walk.file.now l.all same l.reads;
+      within =
+          l.within;
+      is = l.is;
+    }

@@ -64,8 +64,12 @@ writes_on old new w rows same writes = record {
   closed = writes.closed;
   waiting = writes.waiting;
   to = record {
-    put = record { file = ap bytes_or_none (same w.sink.file (itself w.sink.file))
-        ∙ writes.to.put.file; at = writes.to.put.at; digest = writes.to.put.digest };
+    put = record {
+      file = ap bytes_or_none (same w.sink.file (itself w.sink.file))
+          ∙ writes.to.put.file;
+      at = writes.to.put.at;
+      digest = writes.to.put.digest;
+    };
     blocks = writes.to.blocks;
     held = writes.to.held;
     opens = writes.to.opens;

@@ -64,7 +64,7 @@ impl Sink {
         ensures lasts { OnOk result (IsTrusted (D.state disk.old) → (done : List ℕ)
             → IsPut (D.state disk.old) self done
             → Lasts (D.state disk.new) self.file
-                ((done ++ bytes.items) ++ sha256 (done ++ bytes.items))) }
+            ((done ++ bytes.items) ++ sha256 (done ++ bytes.items))) }
         ensures any_moment { IsTrusted (D.state disk.old)
             → Run (D.state disk.old) (D.state disk.new) self.file Anything }
         ensures goes { Goes (D.state disk.old) (D.state disk.new) }

@@ -66,7 +66,7 @@ impl RowFileWriter {
             ((s : DiskState) (closed : List (List Entry)) (waiting : List Entry)
             → WritesTo s self.old closed waiting
             → length (rows_bytes waiting) < 4096
-                → T (is_sorted key_cmp (rows_of closed ++ (waiting ++ (key.now, row.now) ∷ [])))
+            → T (is_sorted key_cmp (rows_of closed ++ (waiting ++ (key.now, row.now) ∷ [])))
             → WritesTo s self.new closed (waiting ++ (key.now, row.now) ∷ [])) }
     {
         let first = self.block.is_empty();

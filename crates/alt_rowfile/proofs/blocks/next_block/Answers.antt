@@ -21,17 +21,17 @@ returns-in-Ok-Some-clause-some g c = λ told room.
     let fits = rw c.in-Some.is at c.in_ok-count.ensures.room in
     let content : block ≡ take n (drop (at + 8) bytes) =
     (rw c.in-Some-2.is at
-        (c.in_ok-block-in-Some.ensures.bytes (told_on s t c.in_ok-count.ensures.goes told)))
-        ∙ ap (λ (l : List ℕ). take n (drop (at + 8) l)) same in
+    (c.in_ok-block-in-Some.ensures.bytes (told_on s t c.in_ok-count.ensures.goes told)))
+    ∙ ap (λ (l : List ℕ). take n (drop (at + 8) l)) same in
     let whole : drop at (take end bytes) ≡ field c.deref.result.now ++ behind =
     field_up_to bytes at n end block fits room counted content
-        ∙ ap (λ (l : List ℕ). field l ++ behind) (sym c.deref.ensures.value) in
+    ∙ ap (λ (l : List ℕ). field l ++ behind) (sym c.deref.ensures.value) in
     let r = rw c.in-Ok-Some.field-0-is at c.in-Ok-Some.ensures.some in (
       r.0,
       next_whole c.args.after.now (at + 8 + n == end)
           (drop at (take end bytes)) c.deref.result.now behind r.0
           (at_end (at + 8 + n) end (length behind) fits (length_up_to bytes (at + 8 + n) end room))
-              whole r.1,
+          whole r.1,
       r.2,
     )
 
@@ -50,27 +50,35 @@ returns-in-Ok-None-clause-none g c = λ told room.
     let fits = rw c.in-Some.is at c.in_ok-count.ensures.room in
     let content : block ≡ take n (drop (at + 8) bytes) =
     (rw c.in-Some-2.is at
-        (c.in_ok-block-in-Some.ensures.bytes (told_on s t c.in_ok-count.ensures.goes told)))
-        ∙ ap (λ (l : List ℕ). take n (drop (at + 8) l)) same in
+    (c.in_ok-block-in-Some.ensures.bytes (told_on s t c.in_ok-count.ensures.goes told)))
+    ∙ ap (λ (l : List ℕ). take n (drop (at + 8) l)) same in
     let whole : drop at (take end bytes) ≡ field c.deref.result.now ++ behind =
     field_up_to bytes at n end block fits room counted content
-        ∙ ap (λ (l : List ℕ). field l ++ behind) (sym c.deref.ensures.value) in
+    ∙ ap (λ (l : List ℕ). field l ++ behind) (sym c.deref.ensures.value) in
     let none = rw c.in-Ok-None.field-0-is at c.in-Ok-None.ensures.none in
     no_next_block c.args.after.now (at + 8 + n == end)
-        (drop at (take end bytes)) c.deref.result.now behind
+    (drop at (take end bytes)) c.deref.result.now behind
     (at_end (at + 8 + n) end (length behind) fits (length_up_to bytes (at + 8 + n) end room))
-        c.deref.type_inv.0 whole none
+    c.deref.type_inv.0 whole none
 
 pub returns-in-Ok-Some-clause-place : goal.returns-in-Ok-Some-clause-place
 returns-in-Ok-Some-clause-place g c =
     let fits = rw c.in-Some.is at c.in_ok-count.ensures.room in
     let size = rw c.in-Some-2.is at c.in_ok-block-in-Some.ensures.size in
-    let r = rw c.in-Ok-Some.field-0-is at c.in-Ok-Some.ensures.some in
-    (omega (arith, r.2.rows_is, rows_few r.0, ap length r.1.is, ap length c.deref.ensures.value,
-        size), fits)
+    let r = rw c.in-Ok-Some.field-0-is at c.in-Ok-Some.ensures.some in (
+      omega (
+        arith,
+        r.2.rows_is,
+        rows_few r.0,
+        ap length r.1.is,
+        ap length c.deref.ensures.value,
+        size,
+      ),
+      fits,
+    )
 
 pub returns-clause-none : goal.returns-clause-none
 returns-clause-none g c = λ told room.
     no_next_field c.args.after.now
-        (drop c.args.at (take c.args.end (contents (g.D.Disk.state c.args.disk.now) c.args.f)))
+    (drop c.args.at (take c.args.end (contents (g.D.Disk.state c.args.disk.now) c.args.f)))
     (rw c.in-None.is at (c.in_ok-count.ensures.none told room))

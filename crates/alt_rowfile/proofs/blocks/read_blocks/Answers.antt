@@ -44,19 +44,19 @@ each-preserved g c =
           let bytes = contents a f in
           let same = same_bytes a b f (inv.quiet told) in
           let found = rw c.in-Some.is at
-              (c.in_ok-read.ensures.some (told_b told) (omega (arith, room, ap length same))) in
+          (c.in_ok-read.ensures.some (told_b told) (omega (arith, room, ap length same))) in
           let p = subst (λ (l : List ℕ). (x : List Entry)
-              × IsNext c.each.after (drop at (take end l)) (drop next (take end l)) x
-              × IsReadBlock c.in-Some.read.first c.in-Some.read.last c.in-Some.read.rows x)
-              same found in
+          × IsNext c.each.after (drop at (take end l)) (drop next (take end l)) x
+          × IsReadBlock c.in-Some.read.first c.in-Some.read.last c.in-Some.read.rows x)
+          same found in
           let long = length_up_to bytes at end room in
           let left = length_up_to bytes next end room in
           one_block_more (drop 8 (take end bytes)) (drop at (take end bytes))
-              (drop next (take end bytes))
-              at next c.each.after c.each.marks.items c.push.new.self.items c.each.rows c.in-Some.read.rows
+          (drop next (take end bytes))
+          at next c.each.after c.each.marks.items c.push.new.self.items c.each.rows c.in-Some.read.rows
           c.in-Some.read.first c.in-Some.read.last p.0 (inv.read told room)
-              (omega (arith, long, c.each-test.true)) p.1 p.2
-              (omega (arith, long, left, place.0, place.1)) c.in_ok-push-in-Some.ensures.items;
+          (omega (arith, long, c.each-test.true)) p.1 p.2
+          (omega (arith, long, left, place.0, place.1)) c.in_ok-push-in-Some.ensures.items;
     }
 
 pub returns-in-None-clause-none : goal.returns-in-None-clause-none
@@ -70,10 +70,10 @@ returns-in-None-clause-none g c = λ told room.
     let bytes = contents a f in
     let same = same_bytes a b f (inv.quiet told) in
     let none = rw c.in-None.is at
-        (c.in_ok-read.ensures.none (told_on a b inv.goes told)
-        (omega (arith, room, ap length same))) in
+    (c.in_ok-read.ensures.none (told_on a b inv.goes told)
+    (omega (arith, room, ap length same))) in
     no_more_blocks (drop 8 (take end bytes))
-        (drop at (take end bytes)) at c.each.after c.each.marks.items c.each.rows
-        (inv.read told room) (omega (arith, length_up_to bytes at end room, c.each-test.true))
+    (drop at (take end bytes)) at c.each.after c.each.marks.items c.each.rows
+    (inv.read told room) (omega (arith, length_up_to bytes at end room, c.each-test.true))
     (subst (λ (l : List ℕ). (x : List Entry) (behind : List ℕ)
-        → IsNext c.each.after (drop at (take end l)) behind x → ⊥) same none)
+    → IsNext c.each.after (drop at (take end l)) behind x → ⊥) same none)

@@ -16,8 +16,8 @@ invariant-each g l =
       quiet : IsTrue (state l.fn.disk).tells → Quiet (state l.fn.disk) (state l.disk);
       read : IsTrue (state l.fn.disk).tells → l.end ≤ length (contents (state l.fn.disk) l.f)
           → BlocksSoFar (drop 8 (take l.end (contents (state l.fn.disk) l.f)))
-              (drop l.at (take l.end (contents (state l.fn.disk) l.f)))
-              l.at l.after l.marks.items l.rows;
+          (drop l.at (take l.end (contents (state l.fn.disk) l.f)))
+          l.at l.after l.marks.items l.rows;
     }
 
 abbrev pub decreases-each : goal.decreases-each

@@ -28,8 +28,8 @@ pieces-preserved g c =
           let piece = rw c.in-Some.is at (c.in_ok-piece.ensures.bytes (told_b told)) in
           let whole : take at bytes ++ c.as_slice.result.now ≡ take (at + n) bytes =
           ap (λ (l : List ℕ). take at bytes ++ l) (c.as_slice.ensures.value ∙ piece
-              ∙ ap (λ (l : List ℕ). take n (drop at l)) (same_bytes a b f (inv.quiet told)))
-              ∙ one_piece bytes at n in
+          ∙ ap (λ (l : List ℕ). take n (drop at l)) (same_bytes a b f (inv.quiet told)))
+          ∙ one_piece bytes at n in
           subst (Holds256 c.update.new.self) whole
-              (c.update.ensures (take at bytes) (inv.holds told));
+          (c.update.ensures (take at bytes) (inv.holds told));
     }

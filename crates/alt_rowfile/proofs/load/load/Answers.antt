@@ -16,17 +16,17 @@ returns-in-Ok-Some-rows_of-clause-rows g c = λ told rows reads.
     let at = c.index.result.now.0 in
     let n = c.saturating_sub-count.result in
     let is_at : at ≡ place_at marks i =
-        ap (λ (m : Mark). m.0)
-        (get_or_read marks i c.index.result.now c.requires c.index.ensures (0, [])) in
+    ap (λ (m : Mark). m.0)
+    (get_or_read marks i c.index.result.now c.requires c.index.ensures (0, [])) in
     let is_n : n ≡ next_place marks file.end i - at = c.saturating_sub-count.ensures
-        ∙ ap (λ (k : ℕ). k - at) c.next_place-next.ensures in
+    ∙ ap (λ (k : ℕ). k - at) c.next_place-next.ensures in
     let there = rw c.in-Ok-Some.field-0-is at (c.in-Ok-Some.ensures.bytes told) in
     let loaded = at_place s file.file marks file.end i rows reads c.requires in
     rw c.in-Ok-Some-rows_of.field-0-is at
-        (c.in-Ok-Some-rows_of.ensures.some
-        (here s file.file marks file.end i rows reads c.requires) loaded.held loaded.rising
+    (c.in-Ok-Some-rows_of.ensures.some
+    (here s file.file marks file.end i rows reads c.requires) loaded.held loaded.rising
     (c.deref.ensures.value
-        ∙ are_bytes s file.file marks file.end i rows reads c.requires at n is_at is_n c.in-Ok-Some.bytes.items there))
+    ∙ are_bytes s file.file marks file.end i rows reads c.requires at n is_at is_n c.in-Ok-Some.bytes.items there))
 
 pub returns-in-Ok-None-rows_of-clause-undamaged : goal.returns-in-Ok-None-rows_of-clause-undamaged
 returns-in-Ok-None-rows_of-clause-undamaged g c = λ told rows reads damaged.
@@ -37,17 +37,17 @@ returns-in-Ok-None-rows_of-clause-undamaged g c = λ told rows reads damaged.
     let at = c.index.result.now.0 in
     let n = c.saturating_sub-count.result in
     let is_at : at ≡ place_at marks i =
-        ap (λ (m : Mark). m.0)
-        (get_or_read marks i c.index.result.now c.requires c.index.ensures (0, [])) in
+    ap (λ (m : Mark). m.0)
+    (get_or_read marks i c.index.result.now c.requires c.index.ensures (0, [])) in
     let is_n : n ≡ next_place marks file.end i - at = c.saturating_sub-count.ensures
-        ∙ ap (λ (k : ℕ). k - at) c.next_place-next.ensures in
+    ∙ ap (λ (k : ℕ). k - at) c.next_place-next.ensures in
     let there = rw c.in-Ok-Some.field-0-is at (c.in-Ok-Some.ensures.bytes told) in
     let loaded = at_place s file.file marks file.end i rows reads c.requires in
     rw c.in-Ok-None-rows_of.field-0-is at
-        (c.in-Ok-None-rows_of.ensures.none
-        (here s file.file marks file.end i rows reads c.requires) loaded.held loaded.rising
+    (c.in-Ok-None-rows_of.ensures.none
+    (here s file.file marks file.end i rows reads c.requires) loaded.held loaded.rising
     (c.deref.ensures.value
-        ∙ are_bytes s file.file marks file.end i rows reads c.requires at n is_at is_n c.in-Ok-Some.bytes.items there))
+    ∙ are_bytes s file.file marks file.end i rows reads c.requires at n is_at is_n c.in-Ok-Some.bytes.items there))
 
 pub returns-in-Ok-None-clause-undamaged : goal.returns-in-Ok-None-clause-undamaged
 returns-in-Ok-None-clause-undamaged g c = λ told rows reads damaged.
@@ -58,10 +58,10 @@ returns-in-Ok-None-clause-undamaged g c = λ told rows reads damaged.
     let at = c.index.result.now.0 in
     let n = c.saturating_sub-count.result in
     let is_at : at ≡ place_at marks i =
-        ap (λ (m : Mark). m.0)
-        (get_or_read marks i c.index.result.now c.requires c.index.ensures (0, [])) in
+    ap (λ (m : Mark). m.0)
+    (get_or_read marks i c.index.result.now c.requires c.index.ensures (0, [])) in
     let is_n : n ≡ next_place marks file.end i - at = c.saturating_sub-count.ensures
-        ∙ ap (λ (k : ℕ). k - at) c.next_place-next.ensures in
+    ∙ ap (λ (k : ℕ). k - at) c.next_place-next.ensures in
     rw c.in-Ok-None.field-0-is at
-        (c.in-Ok-None.ensures.short told
-        (has_bytes s file.file marks file.end i rows reads c.requires at n is_at is_n))
+    (c.in-Ok-None.ensures.short told
+    (has_bytes s file.file marks file.end i rows reads c.requires at n is_at is_n))

@@ -7,10 +7,10 @@ use Rattle.alt_rowfile.proofs.recover.compare.Goals as goal
 pub returns-then-is_same-clause-agrees : goal.returns-then-is_same-clause-agrees
 returns-then-is_same-clause-agrees g c = λ told size found.
     digest_agrees
-        (contents (g.D.Disk.state c.args.disk.now) c.args.f)
-        c.args.found c.in-Ok-Some.there c.args.at size
+    (contents (g.D.Disk.state c.args.disk.now) c.args.f)
+    c.args.found c.in-Ok-Some.there c.args.at size
     found (rw c.in-Ok-Some.field-0-is at (c.in-Ok-Some.ensures.digest told))
-        (c.is_same.ensures.yes c.if-is_same.true)
+    (c.is_same.ensures.yes c.if-is_same.true)
 
 pub returns-else-is_same-clause-explained : goal.returns-else-is_same-clause-explained
 returns-else-is_same-clause-explained g c = λ told size found.

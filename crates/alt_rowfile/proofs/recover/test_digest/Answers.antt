@@ -15,7 +15,7 @@ returns-in-Ok-Some-clause-agrees g c = λ told size.
     let found = rw c.in-Ok-Some.field-0-is at (c.in-Ok-Some.ensures.digest told) in
     subst (λ (l : List ℕ). OnOk c.compare.result (HasDigest l)) same
     (c.compare.ensures.agrees (told_on s t c.in-Ok-Some.ensures.goes told) (ap length same ∙ size)
-        (found ∙ ap (λ (l : List ℕ). sha256 (take c.args.at l)) (sym same)))
+    (found ∙ ap (λ (l : List ℕ). sha256 (take c.args.at l)) (sym same)))
 
 pub returns-in-Ok-Some-clause-explained : goal.returns-in-Ok-Some-clause-explained
 returns-in-Ok-Some-clause-explained g c = λ told size.
@@ -25,7 +25,7 @@ returns-in-Ok-Some-clause-explained g c = λ told size.
     let found = rw c.in-Ok-Some.field-0-is at (c.in-Ok-Some.ensures.digest told) in
     subst (λ (l : List ℕ). IfErr c.compare.result (ExplainsFile c.args.f l)) same
     (c.compare.ensures.explained (told_on s t c.in-Ok-Some.ensures.goes told) (ap length same
-        ∙ size) (found ∙ ap (λ (l : List ℕ). sha256 (take c.args.at l)) (sym same)))
+    ∙ size) (found ∙ ap (λ (l : List ℕ). sha256 (take c.args.at l)) (sym same)))
 
 pub returns-in-Ok-None-clause-explained : goal.returns-in-Ok-None-clause-explained
 returns-in-Ok-None-clause-explained g c = λ told size.

@@ -13,12 +13,18 @@ returns-then-forward c = λ sorted.
     let rows = c.args.rows.items in
     let n = c.rows_below-below.result in
     let cuts : CutsAt c.args.key.now rows n =
-        subst (λ (l : List Entry). CutsAt c.args.key.now l n) c.deref.ensures.value
+    subst (λ (l : List Entry). CutsAt c.args.key.now l n) c.deref.ensures.value
     (c.rows_below-below.ensures
-        (subst (λ (l : List Entry). T (is_sorted key_cmp l)) (sym c.deref.ensures.value) sorted)) in
+    (subst (λ (l : List Entry). T (is_sorted key_cmp l)) (sym c.deref.ensures.value) sorted)) in
     let count : c.saturating_sub.result ≡ length rows - n =
-    omega (arith, c.saturating_sub.ensures, c.len.ensures, c.reverse.new.self.ok,
-        ap length c.reverse.ensures.items, length-reverse rows) in
+    omega (
+      arith,
+      c.saturating_sub.ensures,
+      c.len.ensures,
+      c.reverse.new.self.ok,
+      ap length c.reverse.ensures.items,
+      length-reverse rows,
+    ) in
     cut_from_up c.args.key.now c.args.forward c.if-forward.true rows c.truncate.new.self.items n c.saturating_sub.result cuts count
     (c.truncate.ensures.items ∙ ap (take c.saturating_sub.result) c.reverse.ensures.items)
 
@@ -27,7 +33,7 @@ returns-else-forward c = λ sorted.
     let rows = c.args.rows.items in
     let n = c.rows_below-below.result in
     let cuts : CutsAt c.args.key.now rows n =
-        subst (λ (l : List Entry). CutsAt c.args.key.now l n) c.deref.ensures.value
+    subst (λ (l : List Entry). CutsAt c.args.key.now l n) c.deref.ensures.value
     (c.rows_below-below.ensures
-        (subst (λ (l : List Entry). T (is_sorted key_cmp l)) (sym c.deref.ensures.value) sorted)) in
+    (subst (λ (l : List Entry). T (is_sorted key_cmp l)) (sym c.deref.ensures.value) sorted)) in
     cut_from_down c.args.key.now c.args.forward c.if-forward.false rows c.truncate-else-forward.new.self.items n cuts c.truncate-else-forward.ensures.items

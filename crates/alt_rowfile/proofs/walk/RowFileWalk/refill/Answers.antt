@@ -26,11 +26,11 @@ returns-then-self-clause-left g c = λ told rows l.
     let t : DiskState = g.D.Disk.state c.load.new.disk in
     let none = zero_from walk.held.len c.if-not-is_empty.ensures in
     filled_rising s t file walk.forward walk.next walk.held.items rows l
-        ((c.in_ok-rows.ensures.quiet told).file file.file) c.if-self.true
-        (omega (arith, none, walk.held.ok))
-        (omega (arith, c.if-self-len.false, c.len.ensures, file.marks.ok))
+    ((c.in_ok-rows.ensures.quiet told).file file.file) c.if-self.true
+    (omega (arith, none, walk.held.ok))
+    (omega (arith, c.if-self-len.false, c.len.ensures, file.marks.ok))
     c.reverse.new.self.items (c.reverse.ensures.items
-        ∙ ap reverse (c.in_ok-rows.ensures.rows told l.all l.reads))
+    ∙ ap reverse (c.in_ok-rows.ensures.rows told l.all l.reads))
 
 pub returns-in_err-self-clause-undamaged : goal.returns-in_err-self-clause-undamaged
 returns-in_err-self-clause-undamaged g c = λ told rows reads.
@@ -45,7 +45,7 @@ returns-clause-left g c = λ told rows l.
     let t : DiskState = g.D.Disk.state c.load-2.new.disk in
     let none = zero_from walk.held.len c.if-not-is_empty.ensures in
     filled_falling s t file walk.forward walk.next walk.held.items rows l
-        ((c.in_ok-self.ensures.quiet told).file file.file) c.if-self.false
-        (omega (arith, none, walk.held.ok)) (walk.next - 1) (omega (arith, c.if-self-eq0.false))
-        (omega (arith, c.if-self-eq0.false, l.within))
+    ((c.in_ok-self.ensures.quiet told).file file.file) c.if-self.false
+    (omega (arith, none, walk.held.ok)) (walk.next - 1) (omega (arith, c.if-self-eq0.false))
+    (omega (arith, c.if-self-eq0.false, l.within))
     c.in_ok-self.field-0.items (c.in_ok-self.ensures.rows told l.all l.reads)

@@ -15,8 +15,8 @@ returns-in-Ok-clause-gives g c = λ told rows l.
 pub returns-in-Ok-clause-keeps : goal.returns-in-Ok-clause-keeps
 returns-in-Ok-clause-keeps g c =
     walk_keeps (g.D.Disk.state c.args.disk.now)
-        (g.D.Disk.state c.refill.new.disk)
-        c.args.self.now _ c.in-Ok.ensures.file c.in-Ok.ensures.goes c.in-Ok.ensures.quiet
+    (g.D.Disk.state c.refill.new.disk)
+    c.args.self.now _ c.in-Ok.ensures.file c.in-Ok.ensures.goes c.in-Ok.ensures.quiet
 
 pub returns-in-Ok-clause-well : goal.returns-in-Ok-clause-well
 returns-in-Ok-clause-well g c = λ t. c.in-Ok.ensures.well (λ e. cc e)
@@ -24,8 +24,8 @@ returns-in-Ok-clause-well g c = λ t. c.in-Ok.ensures.well (λ e. cc e)
 pub returns-in-Err-clause-keeps : goal.returns-in-Err-clause-keeps
 returns-in-Err-clause-keeps g c =
     walk_keeps (g.D.Disk.state c.args.disk.now)
-        (g.D.Disk.state c.refill.new.disk)
-        c.args.self.now _ c.in-Err.ensures.file c.in-Err.ensures.goes c.in-Err.ensures.quiet
+    (g.D.Disk.state c.refill.new.disk)
+    c.args.self.now _ c.in-Err.ensures.file c.in-Err.ensures.goes c.in-Err.ensures.quiet
 
 pub returns-in-Err-clause-well : goal.returns-in-Err-clause-well
 returns-in-Err-clause-well g c = well_failed c.in-Err.fault c.in-Err.ensures.well
@@ -33,5 +33,5 @@ returns-in-Err-clause-well g c = well_failed c.in-Err.fault c.in-Err.ensures.wel
 pub returns-in-Err-clause-fails : goal.returns-in-Err-clause-fails
 returns-in-Err-clause-fails g c =
     walk_fails (g.D.Disk.state c.args.disk.now)
-        (g.D.Disk.state c.refill.new.disk)
-        c.args.self.now c.in-Err.fault c.in-Err.ensures.cause c.in-Err.ensures.undamaged
+    (g.D.Disk.state c.refill.new.disk)
+    c.args.self.now c.in-Err.fault c.in-Err.ensures.cause c.in-Err.ensures.undamaged

@@ -19,10 +19,10 @@ returns-clause-added g c = on_ok_weaker c.shut.result (λ shut trusted rows writ
     let s0 : DiskState = g.D.Disk.state c.args.disk.now in
     let e : Entry = (c.args.key.now, c.args.row.now) in
     let whole : rows ++ e ∷ [] ≡ rows_of writes.closed ++ (writes.waiting ++ e ∷ []) =
-        ap (λ (l : List Entry). l ++ e ∷ []) writes.are
-        ∙ append_assoc (rows_of writes.closed) writes.waiting (e ∷ []) in
+    ap (λ (l : List Entry). l ++ e ∷ []) writes.are
+    ∙ append_assoc (rows_of writes.closed) writes.waiting (e ∷ []) in
     let held = c.in-Ok.ensures.held s0 writes.closed writes.waiting writes.to writes.short
-        (subst (λ (l : List Entry). T (is_sorted key_cmp l)) whole sorted) in
+    (subst (λ (l : List Entry). T (is_sorted key_cmp l)) whole sorted) in
     record {
       closed = writes.closed ++ (writes.waiting ++ e ∷ []) ∷ [];
       waiting = [];
@@ -40,9 +40,9 @@ returns-clause-others g c = λ trusted.
     let s : DiskState = g.D.Disk.state c.args.disk.now in
     let t : DiskState = g.D.Disk.state c.shut.new.disk in
     let same : c.hold.new.self.sink.file ≡ c.args.self.now.sink.file =
-        ap (λ (k : Sink). k.file) c.in-Ok.ensures.sink in
+    ap (λ (k : Sink). k.file) c.in-Ok.ensures.sink in
     subst (λ (n : ℕ). Spans s t (λ f. IsTrue (f == n)) Anything) same
-        (writer_spans s t c.hold.new.self.sink.file (c.shut.ensures.any_moment trusted))
+    (writer_spans s t c.hold.new.self.sink.file (c.shut.ensures.any_moment trusted))
 
 pub returns-then-len-lt4096-clause-others : goal.returns-then-len-lt4096-clause-others
 returns-then-len-lt4096-clause-others g c =

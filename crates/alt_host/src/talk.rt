@@ -38,7 +38,10 @@ pub(crate) fn listen<R: Net>(net: &R, port: u16) -> io::Result<R::Listener> {
 }
 
 /// Waits for a connection. One that dies before it is accepted is passed over.
-pub(crate) fn accept<R: Net + Clock>(rt: &R, listener: &R::Listener) -> Result<Peer<R::Stream>, Failed> {
+pub(crate) fn accept<R: Net + Clock>(
+    rt: &R,
+    listener: &R::Listener,
+) -> Result<Peer<R::Stream>, Failed> {
     for _ in 0..TRIES {
         match listener.accept() {
             Ok((stream, _)) => {
@@ -92,7 +95,9 @@ impl<S: OpenStream + Read + Write + Drop> Peer<S> {
         let Some(time) = left(clock, self.since, REQUEST) else {
             return Err(Failed);
         };
-        if time < Duration::from_millis(SILENCE) && self.stream.set_read_timeout(Some(time)).is_err() {
+        if time < Duration::from_millis(SILENCE)
+            && self.stream.set_read_timeout(Some(time)).is_err()
+        {
             return Err(Failed);
         }
         match self.stream.read(buf) {
@@ -126,7 +131,11 @@ impl<S: OpenStream + Read + Write + Drop> Peer<S> {
             return Err(Failed);
         };
         self.since = now;
-        if self.stream.set_read_timeout(Some(Duration::from_millis(SILENCE))).is_err() {
+        if self
+            .stream
+            .set_read_timeout(Some(Duration::from_millis(SILENCE)))
+            .is_err()
+        {
             return Err(Failed);
         }
         Ok(())

@@ -53,12 +53,7 @@ fn status_said(status: u16) -> u16
 }
 
 /// The bytes of a reply.
-fn text_of(
-    alloc: Global,
-    answer: &Reply,
-    moment: u64,
-    close: bool,
-) -> Result<Vec<u8>, NoMemory>
+fn text_of(alloc: Global, answer: &Reply, moment: u64, close: bool) -> Result<Vec<u8>, NoMemory>
     requires plain { has_float (view answer.now.body) ≡ false }
     requires dated { moment < 253402300800 }
     ensures { IfOk result (λ text. text.items ≡ http_text (answer_of answer.now) moment close) }

@@ -14,9 +14,9 @@ ghost use Rattle.alt_shell.specs.Log.{talks};
 ghost use Rattle.alternator.specs.declared.ending.Ending.{Ending as RunEnding};
 ghost use Rattle.alternator.specs.declared.serve.RunFault.TheVariants.{Failed};
 
+use crate::connection::connections;
 use crate::ending::{Ending, noted, status_of};
 use crate::serve::{RunFault, pull};
-use crate::connection::connections;
 use crate::words::{self, Job};
 use alt_base::NoMemory;
 use alt_lines::{LONGEST_LINE, Lines};
@@ -76,12 +76,7 @@ fn replay<S: Shell>(alloc: Global, shell: &mut S) -> Result<(), RunFault>
 }
 
 /// Requests on connections.
-fn serve<S: Shell>(
-    alloc: Global,
-    per: u32,
-    count: u32,
-    shell: &mut S,
-) -> Result<(), RunFault>
+fn serve<S: Shell>(alloc: Global, per: u32, count: u32, shell: &mut S) -> Result<(), RunFault>
     requires some { 0 < per }
     requires quiet { talks (S.state shell.old).beside ≡ false }
     ensures served { MatchResult result

@@ -2,21 +2,25 @@
 # A server on the loopback address, and clients of DynamoDB against it: curl, and boto3 where it is installed. It ends by itself: the server
 # serves so many connections at most and is stopped at the end, and every wait has a limit.
 #
-#   checks/clients.sh [PORT]      default 47120
+#   checks/clients.sh [PORT]      the first of 21 ports to try, default 47120
 #   PROGRAM=path checks/clients.sh       the program to try, default ./alternator
 set -u
 cd "$(dirname "$0")/.."
-port=${1-47120}
+first=${1-47120}
 program=${PROGRAM-./alternator}
 work=$(mktemp -d)
+server=
+trap '[ -z "$server" ] || kill "$server" 2>/dev/null; wait 2>/dev/null; rm -rf "$work"' EXIT
 "$program" "$work/store" 0 replay 65536 4 </dev/null >/dev/null || { echo 'clients: the program does not run'; exit 1; }
-"$program" "$work/store" "$port" serve 1 3000 65536 4 2>"$work/notes" &
-server=$!
-trap 'kill "$server" 2>/dev/null; wait "$server" 2>/dev/null; rm -rf "$work"' EXIT
-for _ in $(seq 50); do
-  (exec 3<>"/dev/tcp/127.0.0.1/$port") 2>/dev/null && break
-  sleep 0.1
+# The first port from there on that nobody has: a server that can't have its port ends at once.
+for port in $(seq "$first" $((first + 20))); do
+  "$program" "$work/store" "$port" serve 1 3000 65536 4 2>"$work/notes" &
+  server=$!
+  sleep 0.5
+  kill -0 "$server" 2>/dev/null && break
+  server=
 done
+[ -n "$server" ] || { echo 'clients: no port is free'; exit 1; }
 passed=0
 failed=0
 # answers NAME WANTED ARGUMENTS..: what curl gets contains WANTED

@@ -30,6 +30,10 @@ expect 'a port with a leading zero' 1 'alternator: words' ./alternator . 00 repl
 expect 'a flush too small' 1 'alternator: words' ./alternator . 0 replay 65535 4
 expect 'a merge too great' 1 'alternator: words' ./alternator . 0 replay 65536 65
 expect 'a word more' 1 'alternator: words' ./alternator . 0 replay 65536 4 4
+expect 'serving without a port' 0 '' ./alternator . 0 serve 1 1 65536 4
+expect 'no request on a connection' 1 'alternator: words' ./alternator . 0 serve 0 1 65536 4
+expect 'no connection' 1 'alternator: words' ./alternator . 0 serve 1 0 65536 4
+expect 'too many connections' 1 'alternator: words' ./alternator . 0 serve 1 4294967296 65536 4
 expect 'a command that is not built' 1 'alternator: words' ./alternator . 0 init
 expect 'a closed standard output' 4 'alternator: device' closed
 

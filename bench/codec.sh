@@ -1,19 +1,11 @@
 #!/usr/bin/env bash
 # Instructions to read the JSON text of an item of 337 bytes, and to make of its JSON tree the item and JSON again; and the time to
-# read a set of 100,000 texts in falling order. By a small program that is made in a copy of the repository, since a source file
-# stands only in a crate. Not part of the gate.
+# read a set of 100,000 texts in falling order. Not part of the gate.
 set -eu
-cd "$(dirname "$0")/.."
-copy=$(mktemp -d)
-trap 'rm -rf "$copy"' EXIT
-git archive "${1:-HEAD}" crates/alt_base crates/alt_decimal crates/alt_fields crates/alt_value crates/alt_codec crates.txt | tar -x -C "$copy"
-grep -E '^alt_(base|decimal|fields|value|codec):' "$copy/crates.txt" >"$copy/listed"
-mv "$copy/listed" "$copy/crates.txt"
-(cd "$copy" && rt new crates/codec_rounds start_io >/dev/null)
-rm -rf "$copy"/crates/codec_rounds/{src,stdin,stdout}
-mkdir "$copy/crates/codec_rounds/src"
-echo 'codec_rounds: alt_codec alt_value serde_json' >>"$copy/crates.txt"
-cat >"$copy/crates/codec_rounds/src/main.rt" <<'RATTLE'
+# shellcheck source=bench/rounds.sh
+. "$(dirname "$0")/rounds.sh"
+begin "${1:-HEAD}" "alt_codec alt_value serde_json" alt_base alt_decimal alt_fields alt_value alt_codec
+cat >"$main" <<'RATTLE'
 //! Reads the JSON text of an item, again and again: 100 times, with one word 10,100 times. With two words the item is made of
 //! it and written 100 times, with three 10,100 times. With four a set of 100,000 texts is read.
 #![tactic(auto)]
@@ -104,12 +96,7 @@ fn main(rt: HostRuntime) {
     let _ = println!(rt; "{sum}");
 }
 RATTLE
-(cd "$copy/crates/codec_rounds" && rt run >"$copy/log" 2>&1) || { cat "$copy/log" >&2; exit 1; }
-program=$copy/crates/codec_rounds/out/codec_rounds
-instructions() { # WORDS..
-  valgrind --tool=callgrind --callgrind-out-file=/dev/null "$program" "$@" 2>"$copy/err" >/dev/null
-  awk '/Collected/ { print $4 }' "$copy/err"
-}
+build
 reading=$((($(instructions a) - $(instructions)) / 10000))
 all=$((($(instructions a b c) - $(instructions a b)) / 10000))
 echo "the text of an item of 337 bytes to a JSON tree: $reading instructions"

@@ -1,17 +1,10 @@
 #!/usr/bin/env bash
-# Instructions and time to parse and to print a number of 38 digits, by a small program that is made in a copy of the
-# repository, since a source file stands only in a crate. Not part of the gate.
+# Instructions and time to parse and to print a number of 38 digits. Not part of the gate.
 set -eu
-cd "$(dirname "$0")/.."
-copy=$(mktemp -d)
-trap 'rm -rf "$copy"' EXIT
-git archive HEAD crates/alt_decimal crates/alt_base | tar -x -C "$copy"
-printf 'alt_base:\nalt_decimal:\n' >"$copy/crates.txt"
-(cd "$copy" && rt new crates/number_rounds start_io >/dev/null)
-rm -rf "$copy"/crates/number_rounds/{src,stdin,stdout}
-mkdir "$copy/crates/number_rounds/src"
-echo 'number_rounds: alt_decimal' >>"$copy/crates.txt"
-cat >"$copy/crates/number_rounds/src/main.rt" <<'RATTLE'
+# shellcheck source=bench/rounds.sh
+. "$(dirname "$0")/rounds.sh"
+begin HEAD alt_decimal alt_base alt_decimal
+cat >"$main" <<'RATTLE'
 //! Parses and prints a number of 38 digits, again and again: 1,000 times, or 101,000 times where it is given a word.
 #![tactic(auto)]
 
@@ -41,15 +34,8 @@ fn main(rt: HostRuntime) {
     let _ = println!(rt; "{sum}");
 }
 RATTLE
-(cd "$copy/crates/number_rounds" && rt run >"$copy/log" 2>&1) || { cat "$copy/log" >&2; exit 1; }
-program=$copy/crates/number_rounds/out/number_rounds
-for words in '' more; do
-  # shellcheck disable=SC2086
-  valgrind --tool=callgrind --callgrind-out-file=/dev/null "$program" $words 2>"$copy/err.$words" >/dev/null
-done
-few=$(awk '/Collected/ { print $4 }' "$copy/err.")
-many=$(awk '/Collected/ { print $4 }' "$copy/err.more")
-echo "parse and print of 38 digits: $(((many - few) / 100000)) instructions"
+build
+echo "parse and print of 38 digits: $((($(instructions more) - $(instructions)) / 100000)) instructions"
 start=$(date +%s%N)
 "$program" more >/dev/null
 end=$(date +%s%N)

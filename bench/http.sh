@@ -1,17 +1,10 @@
 #!/usr/bin/env bash
-# Instructions to scan a head of 700 bytes, to write a reply, and to scan heads that come byte by byte, by a small program that is
-# made in a copy of the repository, since a source file stands only in a crate. Not part of the gate.
+# Instructions to scan a head of 700 bytes, to write a reply, and to scan heads that come byte by byte. Not part of the gate.
 set -eu
-cd "$(dirname "$0")/.."
-copy=$(mktemp -d)
-trap 'rm -rf "$copy"' EXIT
-git archive HEAD crates/alt_base crates/alt_fields crates/alt_http | tar -x -C "$copy"
-printf 'alt_base:\nalt_fields: alt_base\nalt_http: alt_base alt_fields httparse httpdate itoa memchr\n' >"$copy/crates.txt"
-(cd "$copy" && rt new crates/http_rounds start_io >/dev/null)
-rm -rf "$copy"/crates/http_rounds/{src,stdin,stdout,proofs,specs}
-mkdir "$copy/crates/http_rounds/src"
-echo 'http_rounds: alt_http' >>"$copy/crates.txt"
-cat >"$copy/crates/http_rounds/src/main.rt" <<'RATTLE'
+# shellcheck source=bench/rounds.sh
+. "$(dirname "$0")/rounds.sh"
+begin HEAD alt_http alt_base alt_fields alt_http
+cat >"$main" <<'RATTLE'
 //! By the number of its words: scans of a head, replies, a head byte by byte, a head of many short lines byte by byte.
 #![tactic(auto)]
 
@@ -94,30 +87,25 @@ fn main(rt: HostRuntime) {
 }
 RATTLE
 # What a caller keeps of scan_more: the bytes before were answered by More.
-proofs=$copy/crates/http_rounds/proofs/byte_by_byte
+proofs=$copy/crates/rounds/proofs/byte_by_byte
 mkdir -p "$proofs"
 cat >"$proofs/Invariants.antt" <<'ANTT'
 use Rattle.std.proofs.Common.{◌≡◌, ◌≤◌, take}
 use Rattle.alt_http.specs.Reading.{scan_of}
 use Rattle.alt_http.specs.declared.outcome.Scan.TheVariants.{More}
-use Rattle.http_rounds.proofs.byte_by_byte.Given as goal
+use Rattle.rounds.proofs.byte_by_byte.Given as goal
 
 abbrev pub invariant-loop-place : goal.invariant-loop-place
 invariant-loop-place l = record { behind : l.seen ≤ l.place; more : scan_of (take l.seen l.head) ≡ More }
 ANTT
-sed -e 's/tests_http.proofs.tests.pieces.answered_at/http_rounds.proofs.byte_by_byte/' -e 's/c.args.bytes.now/c.args.head.now/' \
+sed -e 's/tests_http.proofs.tests.pieces.answered_at/rounds.proofs.byte_by_byte/' -e 's/c.args.bytes.now/c.args.head.now/' \
   crates/tests_http/proofs/tests/pieces/answered_at/Answers.antt >"$proofs/Answers.antt"
-(cd "$copy/crates/http_rounds" && rt run >"$copy/log" 2>&1) || { cat "$copy/log" >&2; exit 1; }
-program=$copy/crates/http_rounds/out/http_rounds
-count() {
-  valgrind --tool=callgrind --callgrind-out-file=/dev/null "$program" "$@" 2>"$copy/err" >/dev/null
-  awk '/Collected/ { print $4 }' "$copy/err"
-}
-none=$(count)
-scan=$((($(count 1) - none) / 10000))
+build
+none=$(instructions)
+scan=$((($(instructions 1) - none) / 10000))
 echo "a scan of a head of 700 bytes: $scan instructions"
-echo "a reply with 17 bytes of body: $((($(count 1 2) - none) / 10000)) instructions"
-bytes=$((($(count 1 2 3) - none) / 100))
+echo "a reply with 17 bytes of body: $((($(instructions 1 2) - none) / 10000)) instructions"
+bytes=$((($(instructions 1 2 3) - none) / 100))
 echo "that head byte by byte: $bytes instructions, $((bytes / scan)) scans"
-short=$(($(count 1 2 3 4) - none))
+short=$(($(instructions 1 2 3 4) - none))
 echo "a head of 16,381 bytes in lines of three, byte by byte: $short instructions"

@@ -1,20 +1,11 @@
 #!/usr/bin/env bash
 # Instructions to read the JSON of two hostile bodies of CreateTable, and to test what they state: 80,000 definitions that no key
-# uses, and 40,000 definitions of which each is the key of a global index. By a small program that is made in a copy of the
-# repository, since a source file stands only in a crate. Not part of the gate.
+# uses, and 40,000 definitions of which each is the key of a global index. Not part of the gate.
 set -eu
-cd "$(dirname "$0")/.."
-copy=$(mktemp -d)
-trap 'rm -rf "$copy"' EXIT
-git archive "${1:-HEAD}" crates/alt_base crates/alt_decimal crates/alt_fields crates/alt_value crates/alt_shape crates/alt_schema crates.txt |
-  tar -x -C "$copy"
-grep -E '^alt_(base|decimal|fields|value|shape|schema):' "$copy/crates.txt" >"$copy/listed"
-mv "$copy/listed" "$copy/crates.txt"
-(cd "$copy" && rt new crates/schema_rounds start_io >/dev/null)
-rm -rf "$copy"/crates/schema_rounds/{src,stdin,stdout}
-mkdir "$copy/crates/schema_rounds/src"
-echo 'schema_rounds: alt_schema serde_json' >>"$copy/crates.txt"
-cat >"$copy/crates/schema_rounds/src/main.rt" <<'RATTLE'
+# shellcheck source=bench/rounds.sh
+. "$(dirname "$0")/rounds.sh"
+begin "${1:-HEAD}" "alt_schema serde_json" alt_base alt_decimal alt_fields alt_value alt_shape alt_schema
+cat >"$main" <<'RATTLE'
 //! Makes a hostile body of CreateTable, with `indexes` as the first word one of many indexes. With two words its JSON is read, and
 //! with three it is tested too.
 #![tactic(auto)]
@@ -86,12 +77,7 @@ fn main(rt: HostRuntime) {
     let _ = println!(rt; "{told}");
 }
 RATTLE
-(cd "$copy/crates/schema_rounds" && rt run >"$copy/log" 2>&1) || { cat "$copy/log" >&2; exit 1; }
-program=$copy/crates/schema_rounds/out/schema_rounds
-instructions() { # WORDS..
-  valgrind --tool=callgrind --callgrind-out-file=/dev/null "$program" "$@" 2>"$copy/err" >/dev/null
-  awk '/Collected/ { print $4 }' "$copy/err"
-}
+build
 for body in definitions indexes; do
   made=$(instructions "$body")
   read=$(instructions "$body" a)

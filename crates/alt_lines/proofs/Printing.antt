@@ -7,16 +7,21 @@ use Rattle.alt_lines.specs.TrialTexts.{Draws, line_of_kind, put_item_line, updat
 use Rattle.alt_lines.specs.Printed.{piece_text, printed}
 
 -- one more piece
-pub printed-append : (pieces : List Piece) (piece : Piece) → printed (pieces ++ piece ∷ []) ≡ printed pieces ++ piece_text piece
+pub printed-append : (pieces : List Piece) (piece : Piece)
+    → printed (pieces ++ piece ∷ []) ≡ printed pieces ++ piece_text piece
 printed-append [] piece = append-nil (piece_text piece)
 printed-append (first ∷ pieces) piece =
-    ap (λ (l : List ℕ). piece_text first ++ l) (printed-append pieces piece) ∙ sym (append_assoc (piece_text first) (printed pieces) (piece_text piece))
+    ap (λ (l : List ℕ). piece_text first ++ l) (printed-append pieces piece)
+    ∙ sym (append_assoc (piece_text first) (printed pieces) (piece_text piece))
 
 -- one more of the pieces of a list
-pub printed-take : (pieces : List Piece) (k : ℕ) (piece : Piece) → k < length pieces → get_or pieces k piece ≡ piece
+pub printed-take : (pieces : List Piece) (k : ℕ) (piece : Piece) → k < length pieces
+    → get_or pieces k piece ≡ piece
     → printed (take (k + 1) pieces) ≡ printed (take k pieces) ++ piece_text piece
 printed-take pieces k piece below is =
-    ap (λ (n : ℕ). printed (take n pieces)) (add-one k) ∙ ap printed (take-suc pieces k piece below ∙ ap (λ (p : Piece). take k pieces ++ p ∷ []) is)
+    ap (λ (n : ℕ). printed (take n pieces)) (add-one k)
+    ∙ ap printed (take-suc pieces k piece below
+    ∙ ap (λ (p : Piece). take k pieces ++ p ∷ []) is)
     ∙ printed-append (take k pieces) piece
 
 -- the kinds one by one
@@ -24,10 +29,13 @@ pub line_of_put : (kind : ℕ) (d : Draws) → kind ≤ 3 → line_of_kind kind 
 unfolding line_of_kind
 line_of_put kind d few = grind (arith, nat_tests)
 
-pub line_of_update : (kind : ℕ) (d : Draws) → 4 < kind → kind ≤ 6 → line_of_kind kind d ≡ update_item_line d
+-- an update
+pub line_of_update : (kind : ℕ) (d : Draws) → 4 < kind → kind ≤ 6
+    → line_of_kind kind d ≡ update_item_line d
 unfolding line_of_kind
 line_of_update kind d low high = grind (arith, nat_tests)
 
+-- a query of the index
 pub line_of_index : (kind : ℕ) (d : Draws) → 8 < kind → line_of_kind kind d ≡ query_index_line d
 unfolding line_of_kind
 line_of_index kind d low = grind (arith, nat_tests)

@@ -38,7 +38,9 @@ fn stripped(line: &[u8]) -> &[u8]
 
 /// Appends a line, unless it is too long. It is where it has more than `most` bytes, or where so many of it were passed over.
 pub(crate) fn read(past: bool, most: usize, line: &[u8], out: &mut Vec<u8>) -> Result<Cut, NoMemory>
-    ensures told { IfOk result (λ cut. Tells (if past then too_long else read_line most line.now) cut out.old.items out.new.items) }
+    ensures told { IfOk result (λ cut.
+        Tells (if past then too_long else read_line most line.now) cut
+        out.old.items out.new.items) }
     ensures err { OnErr result (out.new.items ≡ out.old.items) }
 {
     if past || line.len() > most {

@@ -26,9 +26,11 @@ impl Trial {
 
     /// Appends the line of the next request, without a line feed.
     pub fn request(&mut self, out: &mut Vec<u8>) -> Result<(), NoMemory>
-        ensures line { OnOk result (out.new.items ≡ out.old.items ++ next_line (generator self.old)) }
+        ensures line { OnOk result
+            (out.new.items ≡ out.old.items ++ next_line (generator self.old)) }
         ensures next { OnOk result (generator self.new ≡ after_line (generator self.old)) }
-        ensures err { OnErr result ((out.new.items ≡ out.old.items) × (generator self.new ≡ generator self.old)) }
+        ensures err { OnErr result
+            ((out.new.items ≡ out.old.items) × (generator self.new ≡ generator self.old)) }
     {
         let mut number = self.number;
         let made = if self.first {

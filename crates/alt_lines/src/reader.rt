@@ -50,7 +50,8 @@ impl Lines {
     /// Takes the next bytes of the input, which are copied.
     pub fn give(&mut self, piece: &[u8]) -> Result<(), NoMemory>
         ensures ok { OnOk result
-            (unread self.new ≡ record (unread self.old) { bytes = (unread self.old).bytes ++ piece.now }) }
+            (unread self.new
+            ≡ record (unread self.old) { bytes = (unread self.old).bytes ++ piece.now }) }
         ensures err { OnErr result (unread self.new ≡ unread self.old) }
     {
         self.forget();
@@ -85,10 +86,12 @@ impl Lines {
     /// Takes the next line. It answers `None` where no further line is whole, and appends nothing then.
     pub fn line(&mut self, out: &mut Vec<u8>) -> Result<Option<Cut>, NoMemory>
         ensures some { IfOk result (λ found. IfSome found (λ cut. (line : Line)
-            × Tells line cut out.old.items out.new.items × TakesLine line (unread self.old) (unread self.new))) }
+            × Tells line cut out.old.items out.new.items
+            × TakesLine line (unread self.old) (unread self.new))) }
         ensures none { IfOk result (λ found. IfNone found
             ((out.new.items ≡ out.old.items) × HasNone (unread self.old) (unread self.new))) }
-        ensures err { OnErr result ((out.new.items ≡ out.old.items) × (unread self.new ≡ unread self.old)) }
+        ensures err { OnErr result
+            ((out.new.items ≡ out.old.items) × (unread self.new ≡ unread self.old)) }
     {
         match line_feed(&self.held[self.seen..]) {
             Some(place) => {
@@ -103,10 +106,12 @@ impl Lines {
     fn rest(&mut self, out: &mut Vec<u8>) -> Result<Option<Cut>, NoMemory>
         requires { AllPlain (drop self.old.start self.old.held.items) }
         ensures some { IfOk result (λ found. IfSome found (λ cut. (line : Line)
-            × Tells line cut out.old.items out.new.items × TakesLine line (unread self.old) (unread self.new))) }
+            × Tells line cut out.old.items out.new.items
+            × TakesLine line (unread self.old) (unread self.new))) }
         ensures none { IfOk result (λ found. IfNone found
             ((out.new.items ≡ out.old.items) × HasNone (unread self.old) (unread self.new))) }
-        ensures err { OnErr result ((out.new.items ≡ out.old.items) × (unread self.new ≡ unread self.old)) }
+        ensures err { OnErr result
+            ((out.new.items ≡ out.old.items) × (unread self.new ≡ unread self.old)) }
     {
         let end = self.held.len();
         if self.ended && (self.past || self.start < end) {
@@ -119,7 +124,8 @@ impl Lines {
     /// Looks no more at the bytes that are held. Where they are too many for a line, they are dropped.
     fn wait(&mut self)
         requires plain { AllPlain (drop self.old.start self.old.held.items) }
-        requires going { self.old.ended ≡ true → (self.old.past ≡ false) × (length self.old.held.items ≤ self.old.start) }
+        requires going { self.old.ended ≡ true
+            → (self.old.past ≡ false) × (length self.old.held.items ≤ self.old.start) }
         ensures { HasNone (unread self.old) (unread self.new) }
     {
         let end = self.held.len();
@@ -147,7 +153,8 @@ impl Lines {
           bytes = drop next self.old.held.items;
           ended = self.old.ended;
         }) }
-        ensures err { OnErr result ((out.new.items ≡ out.old.items) × (unread self.new ≡ unread self.old)) }
+        ensures err { OnErr result
+            ((out.new.items ≡ out.old.items) × (unread self.new ≡ unread self.old)) }
     {
         match read(self.past, self.most, &self.held[self.start..end], out) {
             Ok(cut) => {

@@ -63,7 +63,8 @@ fn put_item(out: &mut Vec<u8>, d: Drawn) -> Result<(), NoMemory>
 
 /// A delete, or a read.
 fn keyed(out: &mut Vec<u8>, operation: &[u8], d: Drawn) -> Result<(), NoMemory>
-    ensures ok { OnOk result (out.new.items ≡ out.old.items ++ keyed_line operation.now (draws_of d)) }
+    ensures ok { OnOk result
+        (out.new.items ≡ out.old.items ++ keyed_line operation.now (draws_of d)) }
     ensures err { OnErr result (out.new.items ≡ out.old.items) }
 {
     put(

@@ -7,14 +7,17 @@ use Rattle.alt_lines.proofs.feed.read.Goals as goal
 use Rattle.alt_lines.proofs.feed.read.Goals.{then-past-via-then-past, then-past-via-else-past+then-line-most}
 
 -- a line that is too long, however it is known
-long_told : (past : Bool) (read : Line) (out : List ℕ) → (past ≡ false → read ≡ too_long) → Tells (cond past too_long read) TooLong out out
+long_told : (past : Bool) (read : Line) (out : List ℕ) → (past ≡ false → read ≡ too_long)
+    → Tells (cond past too_long read) TooLong out out
 long_told true read out long = (refl, refl)
-long_told false read out long = subst (λ (l : Line). Tells l TooLong out out) (sym (long refl)) (refl, refl)
+long_told false read out long =
+    subst (λ (l : Line). Tells l TooLong out out) (sym (long refl)) (refl, refl)
 
 pub returns-then-past-clause-told : goal.returns-then-past-clause-told
 returns-then-past-clause-told c =
     let line = c.args.line.now in
-    long_told c.args.past (read_line c.args.most line) c.args.out.now.items (λ was. elim c.then-past.branch [
+    long_told c.args.past (read_line c.args.most line) c.args.out.now.items
+    (λ was. elim c.then-past.branch [
       | then-past-via-then-past w ↦ cc
       | then-past-via-else-past+then-line-most w ↦ read_line-long c.args.most line (omega arith)
     ])
@@ -23,6 +26,11 @@ pub returns-in-Ok-clause-told : goal.returns-in-Ok-clause-told
 returns-in-Ok-clause-told c =
     let out = c.args.out.now.items in
     let line = c.args.line.now in
-    let read : cond c.args.past too_long (read_line c.args.most line) ≡ whole c.stripped.result.now =
-    ap (λ (t : Bool). cond t too_long (read_line c.args.most line)) c.if-past.false ∙ read_line-short c.args.most line (omega arith) ∙ ap whole (sym c.stripped.ensures) in
-    subst (λ (l : Line). Tells l Whole out c.extend_from_slice.new.self.items) (sym read) (refl, c.in-Ok.ensures.items)
+    let read : cond c.args.past too_long (read_line c.args.most line)
+    ≡ whole c.stripped.result.now =
+    ap (λ (t : Bool). cond t too_long (read_line c.args.most line)) c.if-past.false
+    ∙ read_line-short c.args.most line (omega arith) ∙ ap whole (sym c.stripped.ensures) in
+    subst (λ (l : Line). Tells l Whole out c.extend_from_slice.new.self.items) (sym read) (
+      refl,
+      c.in-Ok.ensures.items,
+    )

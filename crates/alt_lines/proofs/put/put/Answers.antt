@@ -16,9 +16,13 @@ loop-piece-preserved c =
     let pieces = c.args.pieces.now in
     let k = c.loop-piece.piece-index in
     let piece = get_or pieces k (Text record { ref_ptr = (0, 0); now = [] }) in
-    let added : c.put_piece.new.out.items ≡ c.loop-piece.out.items ++ piece_text piece = was_ok c.put_piece.result _ c.put_piece.ensures.ok c.if-is_err.ensures.negation in
+    let added : c.put_piece.new.out.items ≡ c.loop-piece.out.items ++ piece_text piece =
+    was_ok c.put_piece.result _ c.put_piece.ensures.ok c.if-is_err.ensures.negation in
     record {
       so_far = added ∙ ap (λ (l : List ℕ). l ++ piece_text piece) c.loop-piece.invariant.so_far
           ∙ append_assoc out (printed (take k pieces)) (piece_text piece)
-          ∙ ap (λ (l : List ℕ). out ++ l) (sym (printed-take pieces k piece c.loop-piece-test.true (get_or_default pieces k piece (Text record { ref_ptr = (0, 0); now = [] }) c.loop-piece-test.true)));
+          ∙ ap (λ (l : List ℕ). out ++ l)
+          (sym (printed-take pieces k piece c.loop-piece-test.true
+          (get_or_default pieces k piece (Text record { ref_ptr = (0, 0); now = [] })
+          c.loop-piece-test.true)));
     }

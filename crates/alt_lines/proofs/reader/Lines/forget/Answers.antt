@@ -13,6 +13,7 @@ returns c =
     let kept : c.truncate.new.self.items ≡ drop self.start bytes =
     c.truncate.ensures.items
     ∙ (λ i. take (len i - self.start) (c.copy_within.ensures.items i))
-    ∙ ap (λ (n : ℕ). take (length bytes - self.start) (copy_within bytes self.start n 0)) (self.held.ok.0)
+    ∙ ap (λ (n : ℕ). take (length bytes - self.start) (copy_within bytes self.start n 0))
+    (self.held.ok.0)
     ∙ moved_front bytes self.start in
     ap (λ (l : List ℕ). held self.most self.past l self.ended) kept

@@ -15,13 +15,16 @@ returns-in-Ok-clause-ok c =
     let within = self.within in
     let inside : self.start ≤ length bytes = omega arith in
     let more : drop self.start c.extend_from_slice.new.self.items ≡ drop self.start bytes ++ piece =
-    ap (λ (l : List ℕ). drop self.start l) c.in-Ok.ensures.items ∙ drop-append-le self.start bytes piece inside in
+    ap (λ (l : List ℕ). drop self.start l) c.in-Ok.ensures.items
+    ∙ drop-append-le self.start bytes piece inside in
     ap (λ (l : List ℕ). held self.most self.past l self.ended) more
-    ∙ ap (λ (l : List ℕ). record { most = self.most; bytes = l; ended = self.ended }) (sym (append_assoc (cond self.past (too_many self.most) []) (drop self.start bytes) piece))
+    ∙ ap (λ (l : List ℕ). record { most = self.most; bytes = l; ended = self.ended })
+    (sym (append_assoc (cond self.past (too_many self.most) []) (drop self.start bytes) piece))
     ∙ ap (λ (u : Unread). record u { bytes = u.bytes ++ piece }) c.forget.ensures
 
 pub returns-in-Err-clause-err : goal.returns-in-Err-clause-err
 unfolding unread
 returns-in-Err-clause-err c =
     let self = c.forget.new.self in
-    ap (λ (l : List ℕ). held self.most self.past (drop self.start l) self.ended) c.in-Err.ensures.items ∙ c.forget.ensures
+    ap (λ (l : List ℕ). held self.most self.past (drop self.start l) self.ended)
+    c.in-Err.ensures.items ∙ c.forget.ensures

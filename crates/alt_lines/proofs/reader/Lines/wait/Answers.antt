@@ -16,10 +16,15 @@ returns-then-end-self c =
     let total : c.len-end.result ≡ length self.held.items = c.len-end.ensures ∙ self.held.ok.0 in
     let long : self.past ≡ false → self.most < length line = λ not_past. elim c.if-self.branch [
       | then-self w ↦ cc
-      | else-self w ↦ let more = below-true c.if-self.value self.most (c.len-end.result - self.start) w.value-is c.if-end-self.true in omega (arith, len)
+      | else-self w ↦ let more =
+          below-true c.if-self.value self.most (c.len-end.result - self.start) w.value-is
+          c.if-end-self.true in omega (arith, len)
     ] in
-    subst (λ (l : List ℕ). HasNone (held self.most self.past line self.ended) (held self.most true l self.ended)) (sym c.clear.ensures.items)
-    (waits_long self.most self.past self.ended line c.requires.plain (λ is. ((c.requires.going is).0, let few = (c.requires.going is).1 in omega (arith, len))) long)
+    subst (λ (l : List ℕ). HasNone (held self.most self.past line self.ended)
+    (held self.most true l self.ended)) (sym c.clear.ensures.items)
+    (waits_long self.most self.past self.ended line c.requires.plain
+    (λ is. ((c.requires.going is).0, let few = (c.requires.going is).1 in omega (arith, len)))
+    long)
 
 pub returns-else-end-self : goal.returns-else-end-self
 unfolding unread
@@ -30,10 +35,18 @@ returns-else-end-self c =
     let total : c.len-end.result ≡ length self.held.items = c.len-end.ensures ∙ self.held.ok.0 in
     elim c.if-self.branch [
       | then-self w ↦ cc
-      | else-self w ↦ let few = below-false c.if-self.value self.most (c.len-end.result - self.start) w.value-is c.if-end-self.false in waits self.most self.past self.ended line c.requires.plain (λ is. ((c.requires.going is).0, let few = (c.requires.going is).1 in omega (arith, len))) w.if-self.false (omega (arith, len))
+      | else-self w ↦ let few =
+          below-false c.if-self.value self.most (c.len-end.result - self.start) w.value-is
+          c.if-end-self.false in
+          waits self.most self.past self.ended line c.requires.plain
+          (λ is. ((c.requires.going is).0, let few = (c.requires.going is).1 in omega (arith, len)))
+          w.if-self.false (omega (arith, len))
     ]
 
-pub invariant_of-self-else-end-self-clause-searched : goal.invariant_of-self-else-end-self-clause-searched
+pub invariant_of-self-else-end-self-clause-searched :
+    goal.invariant_of-self-else-end-self-clause-searched
 invariant_of-self-else-end-self-clause-searched c =
     let self = c.args.self.now in
-    λ k from below. let total : c.len-end.result ≡ length self.held.items = c.len-end.ensures ∙ self.held.ok.0 in none-from_AllPlain self.held.items self.start c.requires.plain k from (omega arith)
+    λ k from below. let total : c.len-end.result ≡ length self.held.items = c.len-end.ensures
+    ∙ self.held.ok.0 in
+    none-from_AllPlain self.held.items self.start c.requires.plain k from (omega arith)

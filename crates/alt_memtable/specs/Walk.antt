@@ -17,12 +17,13 @@ walk_holds s walk rows = rows ≡ from_sorted walk.rows.now.entries
 abbrev pub walk_left : DiskState → MemWalk → RowList → Type 0
 walk_left s walk rows = rows ≡ turned walk.forward walk.range
 
--- both last on any disk
+-- what a walk holds lasts on any disk, since it reads no file
 pub walk_holds_on : (old new : DiskState) (walk : MemWalk) (rows : RowMap)
     → SameFiles (walk_reads walk) old new
     → walk_holds old walk rows → walk_holds new walk rows
 walk_holds_on old new walk rows same h = h
 
+-- and what is left of it
 pub walk_left_on : (old new : DiskState) (walk : MemWalk) (rows : RowList)
     → SameFiles (walk_reads walk) old new
     → walk_left old walk rows → walk_left new walk rows

@@ -45,7 +45,8 @@ module _ (forward : Bool) (key : List ℕ) where
       (all_joined R join_row (with_heads (set heads n x) tails))
       ≡ joined R join_row ((key, row) ∷ []) (all_joined R join_row (with_heads heads tails))) in
       ⊎_elim
-      (λ (a : (more : RowCells) × (get_or heads n d ≡ Held key more) × (h ≡ Due) × (joined_row ≡ join_row row more)).
+      (λ (a : (more : RowCells) × (get_or heads n d ≡ Held key more) × (h ≡ Due)
+      × (joined_row ≡ join_row row more)).
       subst Is (sym a.2) (
         pass_set forward key n heads tails d Due r lt
             (λ t ready. taken a.0 t (subst (λ x. Ready forward key x t) a.1 ready)),

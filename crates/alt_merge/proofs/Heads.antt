@@ -1,4 +1,5 @@
--- Rows in hand, one for each source: the least of them, joined with its equals, is the first of the joined lists.
+-- Rows in hand, one for each source: the least of them, joined with its equals, is the first of the
+-- joined lists.
 use Rattle.std.proofs.Common.{◌≡◌, ◌≢◌, ◌<◌, ℕ, zero, suc, Bool, T, List, [], ◌∷◌, length, get_or, set, refl, sym, ap, subst, ◌∙◌, arith}
 use Rattle.std.specs.declared.cmp.Ordering.{Ordering}
 use Rattle.std.specs.declared.cmp.Ordering.TheVariants.{Less, Equal, Greater}

@@ -15,12 +15,14 @@ use Rattle.alt_merge.specs.declared.head.Head.TheVariants.{Due, Held, End}
 use Rattle.alt_merge.specs.Merges.{NotAbove, AllNotAbove, IsLeast, IsHeld, NoneHeld}
 use Rattle.alt_merge.specs.Tied.{tied, comes_before, BestTo}
 
+-- what stands for no element doesn't matter
 pub get_or_any : {A : Type 0} (xs : List A) (i : ℕ) (d e : A) → i < length xs
     → get_or xs i d ≡ get_or xs i e
 get_or_any [] i d e lt = absurd (omega arith)
 get_or_any (x ∷ xs) zero d e lt = refl
 get_or_any (x ∷ xs) (suc i) d e lt = get_or_any xs i d e (omega arith)
 
+-- an order is one of three
 not_both : (o : Ordering) → o ≡ Less → o ≡ Greater → ⊥
 not_both o p q = cc
 
@@ -148,6 +150,7 @@ module _ (forward : Bool) where
       not_eq Equal p q = cc
       not_eq Greater p q = cc
 
+-- a head that ties with a key has that key
 pub tied_held : (key other : List ℕ) (row : RowCells) (h : Head) → tied key h ≡ true
     → h ≡ Held other row → h ≡ Held key row
 tied_held key other row h t e = e ∙ ap (λ (k : List ℕ). Held k row)
@@ -158,6 +161,7 @@ tied_held key other row h t e = e ∙ ap (λ (k : List ℕ). Held k row)
     equal Equal p = refl
     equal Greater p = cc
 
+-- a head that holds no row isn't one that does
 pub not_held : (h : Head) → ((key : List ℕ) (row : RowCells) → h ≡ Held key row → ⊥) → IsHeld h → ⊥
 not_held Due n p = p
 not_held (Held key row) n p = n key row refl

@@ -80,6 +80,7 @@ module _ {S : Type 0} (Holds : DiskState → S → RowMap → Type 0) (reads_of 
         (each2_at (Holds a) xs maps h i lt d empty);
   }
 
+-- where a head and what is behind it change and their rows don't, all rows stay
 pub with_heads-set : (heads : List Head) (tails : List RowList) (i : ℕ) (d h : Head) (t : RowList)
     → with_head h t ≡ with_head (get_or heads i d) (get_or tails i [])
     → with_heads (set heads i h) (set tails i t) ≡ with_heads heads tails
@@ -105,11 +106,13 @@ left_set Left0 Left1 xs heads lists i d x dh h lt stay step was =
       with_heads-set heads was.0 i dh h r.0 r.2 ∙ was.2,
     )
 
+-- the heads before a place are filled
 abbrev pub FilledTo : ℕ → List Head → Type 0
 FilledTo zero heads = Unit {0}
 FilledTo (suc n) [] = Unit {0}
 FilledTo (suc n) (h ∷ heads) = IsFilled h × FilledTo n heads
 
+-- one more is
 pub filled_set : (i : ℕ) (heads : List Head) (h : Head) → FilledTo i heads → IsFilled h
     → FilledTo (suc i) (set heads i h)
 filled_set zero [] h f p = tt
@@ -117,6 +120,7 @@ filled_set zero (x ∷ heads) h f p = (p, tt)
 filled_set (suc i) [] h f p = tt
 filled_set (suc i) (x ∷ heads) h f p = (f.0, filled_set i heads h f.1 p)
 
+-- all are
 pub filled_all : (heads : List Head) → FilledTo (length heads) heads → AllFilled heads
 filled_all [] f = tt
 filled_all (x ∷ heads) f = (f.0, filled_all heads f.1)
@@ -128,6 +132,7 @@ EachTo P (suc n) [] ys = Unit {0}
 EachTo P (suc n) (x ∷ xs) [] = Unit {0}
 EachTo P (suc n) (x ∷ xs) (y ∷ ys) = P x y × EachTo P n xs ys
 
+-- it has come to one more
 pub each_to_set : {A B : Type 0} (P Q : A → B → Type 0) → ((x : A) (y : B) → P x y → Q x y)
     → (i : ℕ) (xs : List A) (ys : List B) (x : A) (e : B) → EachTo P i xs ys → Q x (get_or ys i e)
     → EachTo Q (suc i) (set xs i x) ys
@@ -139,6 +144,7 @@ each_to_set P Q f (suc i) (x' ∷ xs) [] x e each q = tt
 each_to_set P Q f (suc i) (x' ∷ xs) (y ∷ ys) x e each q =
     (f x' y each.0, each_to_set P Q f i xs ys x e each.1 q)
 
+-- it has come to all
 pub each_to_all : {A B : Type 0} (P : A → B → Type 0) (xs : List A) (ys : List B)
     → EachTo P (length xs) xs ys → length xs ≡ length ys → Each2 P xs ys
 each_to_all P [] [] each e = tt
@@ -146,6 +152,7 @@ each_to_all P [] (y ∷ ys) each e = absurd (omega arith)
 each_to_all P (x ∷ xs) [] each e = absurd (omega arith)
 each_to_all P (x ∷ xs) (y ∷ ys) each e = (each.0, each_to_all P xs ys each.1 (omega arith))
 
+-- an element of a list's images, and their number
 pub get_or-map : {A B : Type 0} (f : A → B) (xs : List A) (i : ℕ) (d : A) (e : B) → i < length xs
     → get_or (map f xs) i e ≡ f (get_or xs i d)
 get_or-map f [] i d e lt = absurd (omega arith)

@@ -48,6 +48,7 @@ module _ {S : Type 0} (Holds : DiskState → S → RowMap → Type 0) where
         (subst (λ l. Each2 (Holds a) l h.maps) (sym is) h.each);
   }
 
+-- where nothing is in hand, the lists are those of the sources; one more source has nothing in hand
 due_with : (heads : List Head) (tails : List RowList) → AllDue heads → length heads ≡ length tails
     → with_heads heads tails ≡ tails
 due_with [] [] due len = refl
@@ -64,6 +65,7 @@ due_push (Due ∷ heads) due = due_push heads due
 due_push (Held key row ∷ heads) due = absurd due
 due_push (End ∷ heads) due = absurd due
 
+-- what each map has from a place on is sorted
 sorted_from : (maps : List RowMap) (from : Option (List ℕ)) (forward : Bool)
     → AllSorted forward (map (λ m. rows_from m from forward) maps)
 sorted_from [] from forward = tt
@@ -167,6 +169,7 @@ items_is v ws e = refill v.len ws v.items e v.ok.0
     refill n ws old e f = let none = nothing (length ws) old e in
         let m : n ≡ length ws = omega arith in grind (arith, common_steps)
 
+-- what is given and left, said of equal sources and heads
 pub left_on_merge : {S : Type 0} (Left : S → RowList → Type 0) (xs ys : List S) (hs ks : List Head)
     (forward : Bool) (rows : RowList) (given : Option (List ℕ × RowCells)) → ys ≡ xs → ks ≡ hs
     → Gives (MergeLeft Left xs hs forward) rows given
@@ -175,6 +178,7 @@ left_on_merge Left xs ys hs ks forward rows given e f h =
     subst (λ k. Gives (MergeLeft Left ys k forward) rows given) (sym f)
     (subst (λ y. Gives (MergeLeft Left y hs forward) rows given) (sym e) h)
 
+-- what is left after a seek, said of equal sources
 pub sought_on_merge : {S : Type 0} (Left : S → RowList → Type 0) (xs ys : List S) (hs : List Head)
     (forward : Bool) (rows : RowList) → ys ≡ xs → MergeLeft Left xs hs forward rows
     → MergeLeft Left ys hs forward rows

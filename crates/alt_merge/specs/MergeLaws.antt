@@ -7,11 +7,13 @@ use Rattle.alt_merge.specs.declared.merge.Merge.{Merge}
 use Rattle.alt_merge.specs.Merges.{Each2, any_reads}
 use Rattle.alt_merge.specs.Whole.{merge_reads, merge_holds, merge_left}
 
+-- a file that the first source reads is read
 or_left : (a b : Bool) → IsTrue a → IsTrue (a || b)
 or_left true b h = refl
 or_left false b h = absurd (subst (λ v. elim v as (λ _. Type 0) [ true ↦ ⊥ | false ↦ Unit {0} ]) h
     tt)
 
+-- and one that the others read
 or_right : (a b : Bool) → IsTrue b → IsTrue (a || b)
 or_right true b h = refl
 or_right false b h = h
@@ -19,6 +21,7 @@ or_right false b h = h
 module _ {S M : Type 0} (Is : DiskState → S → M → Type 0) (reads : S → ℕ → Bool)
     (is_on : (old new : DiskState) (x : S) (rows : M) → SameFiles (reads x) old new → Is old x rows
     → Is new x rows) where
+  -- what each source stands for lasts while all its files read the same
   each_on : (old new : DiskState) (xs : List S) (ms : List M)
       → SameFiles (any_reads reads xs) old new → Each2 (Is old) xs ms → Each2 (Is new) xs ms
   each_on old new [] [] same each = each
@@ -31,6 +34,7 @@ module _ {S M : Type 0} (Is : DiskState → S → M → Type 0) (reads : S → �
   )
 
 module _ {S : Type 0} (reads : S → ℕ → Bool) where
+  -- the rows that a merge holds last, where those of its sources do
   pub merge_holds_on : (Holds : DiskState → S → RowMap → Type 0)
       → ((old new : DiskState) (x : S) (rows : RowMap) → SameFiles (reads x) old new
       → Holds old x rows → Holds new x rows)
@@ -45,6 +49,7 @@ module _ {S : Type 0} (reads : S → ℕ → Bool) where
         same = h.same;
       }
 
+  -- and those that are left of it
   pub merge_left_on : (Left : DiskState → S → RowList → Type 0)
       → ((old new : DiskState) (x : S) (rows : RowList) → SameFiles (reads x) old new
       → Left old x rows → Left new x rows)

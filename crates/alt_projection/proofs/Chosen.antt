@@ -23,7 +23,8 @@ use Rattle.alt_projection.specs.Ways.{named_ways, indexed_ways, put_if}
 not_there : (q : List ℕ) (ps : List Pair) → T (below_all text_order q ps) → at_name q ps ≡ None
 not_there q [] h = refl
 not_there q (p ∷ ps) h =
-    ap (λ r. cond (is_eq r) (Some p.1) (at_name q ps)) (less (text_order q p.0) (first _ _ h)) ∙ not_there q ps (second _ _ h)
+    ap (λ r. cond (is_eq r) (Some p.1) (at_name q ps)) (less (text_order q p.0) (first _ _ h))
+    ∙ not_there q ps (second _ _ h)
 
 -- ---- no paths choose nothing
 
@@ -35,11 +36,14 @@ mutual
 
   pub elements-none : (i : ℕ) (ts : Trees) → chosen_elements [] i ts ≡ no_trees
   elements-none i no_trees = refl
-  elements-none i (tree_then t ts) = ap (λ o. element_then o (chosen_elements [] (suc i) ts)) (chosen-none t) ∙ elements-none (suc i) ts
+  elements-none i (tree_then t ts) =
+      ap (λ o. element_then o (chosen_elements [] (suc i) ts)) (chosen-none t)
+      ∙ elements-none (suc i) ts
 
   fields-none : (fs : Fields) → chosen_fields [] fs ≡ no_fields
   fields-none no_fields = refl
-  fields-none (field_then name t fs) = ap (λ o. pair_then name o (chosen_fields [] fs)) (chosen-none t) ∙ fields-none fs
+  fields-none (field_then name t fs) =
+      ap (λ o. pair_then name o (chosen_fields [] fs)) (chosen-none t) ∙ fields-none fs
 
 pub none_of : (o : Option Tree) → option_and_then (chosen []) o ≡ None
 none_of None = refl
@@ -51,13 +55,19 @@ none_of (Some t) = chosen-none t
 pub same_name : (m n : List ℕ) → eq_by_cmp text_order n m ≡ bytes_eq m n
 same_name m n = sym (texts_ties n m) ∙ nat_list_eq_equiv.symm n m
 
-pub named-under : (name : List ℕ) (ways : List (List PathPart)) → map (λ p. p.1) (filter (λ p. eq_by_cmp text_order p.0 name) (named_ways ways)) ≡ under (Name name) ways
+-- the paths behind a name
+pub named-under : (name : List ℕ) (ways : List (List PathPart))
+    → map (λ p. p.1) (filter (λ p. eq_by_cmp text_order p.0 name) (named_ways ways))
+    ≡ under (Name name) ways
 named-under name [] = refl
 named-under name ([] ∷ ways) = named-under name ways
 named-under name ((Index i ∷ rest) ∷ ways) = named-under name ways
 named-under name ((Name n ∷ rest) ∷ ways) =
     elim (bytes_eq name n) as (λ b. eq_by_cmp text_order n name ≡ b
-    → map (λ p. p.1) (cond (eq_by_cmp text_order n name) ((n, rest) ∷ filter (λ p. eq_by_cmp text_order p.0 name) (named_ways ways)) (filter (λ p. eq_by_cmp text_order p.0 name) (named_ways ways)))
+    → map (λ p. p.1)
+    (cond (eq_by_cmp text_order n name) ((n, rest)
+    ∷ filter (λ p. eq_by_cmp text_order p.0 name) (named_ways ways))
+    (filter (λ p. eq_by_cmp text_order p.0 name) (named_ways ways)))
     ≡ cond b (rest ∷ []) [] ++ under (Name name) ways) [
       | true ↦ λ e. rw e (ap (λ (l : List (List PathPart)). rest ∷ l) (named-under name ways))
       | false ↦ λ e. rw e (named-under name ways)
@@ -70,8 +80,12 @@ or_else None o = o
 or_else (Some t) o = Some t
 
 picked : (q name : List ℕ) (o : Option Tree) (fs : Fields)
-    → at_name q (pairs (pair_then name o fs)) ≡ cond (eq_by_cmp text_order q name) (or_else o (at_name q (pairs fs))) (at_name q (pairs fs))
-picked q name None fs = elim (eq_by_cmp text_order q name) as (λ b. at_name q (pairs fs) ≡ cond b (at_name q (pairs fs)) (at_name q (pairs fs))) [ true ↦ refl | false ↦ refl ]
+    → at_name q (pairs (pair_then name o fs))
+    ≡ cond (eq_by_cmp text_order q name) (or_else o (at_name q (pairs fs)))
+    (at_name q (pairs fs))
+picked q name None fs =
+    elim (eq_by_cmp text_order q name) as (λ b. at_name q (pairs fs)
+    ≡ cond b (at_name q (pairs fs)) (at_name q (pairs fs))) [ true ↦ refl | false ↦ refl ]
 picked q name (Some t) fs = refl
 
 or_else-none : (o : Option Tree) → or_else o None ≡ o
@@ -83,61 +97,81 @@ equal Less e = cc
 equal Equal e = refl
 equal Greater e = cc
 
-below_tied : (q n : List ℕ) (ps : List Pair) → q ≡ n → T (below_all text_order n ps) → T (below_all text_order q ps)
+below_tied : (q n : List ℕ) (ps : List Pair) → q ≡ n → T (below_all text_order n ps)
+    → T (below_all text_order q ps)
 below_tied q n ps e h = subst (λ (m : List ℕ). T (below_all text_order m ps)) (sym e) h
 
-pub at_name-projected : (paths : List (List PathPart)) (q : List ℕ) (ps : List Pair) → T (is_sorted text_order ps)
-    → at_name q (projected paths ps) ≡ option_and_then (chosen (under (Name q) paths)) (at_name q ps)
+pub at_name-projected : (paths : List (List PathPart)) (q : List ℕ) (ps : List Pair)
+    → T (is_sorted text_order ps)
+    → at_name q (projected paths ps)
+    ≡ option_and_then (chosen (under (Name q) paths)) (at_name q ps)
 at_name-projected paths q [] h = refl
 at_name-projected paths q (p ∷ ps) h =
     let rest = at_name-projected paths q ps (second _ _ h) in
     picked q p.0 (chosen (under (Name p.0) paths) p.1) (chosen_fields paths (fields_of ps)) ∙
     elim (eq_by_cmp text_order q p.0) as (λ b. eq_by_cmp text_order q p.0 ≡ b
-    → cond b (or_else (chosen (under (Name p.0) paths) p.1) (at_name q (projected paths ps))) (at_name q (projected paths ps))
+    → cond b (or_else (chosen (under (Name p.0) paths) p.1) (at_name q (projected paths ps)))
+    (at_name q (projected paths ps))
     ≡ option_and_then (chosen (under (Name q) paths)) (cond b (Some p.1) (at_name q ps))) [
       | true ↦ λ e.
           let same : q ≡ p.0 = text_apart q p.0 (equal (text_order q p.0) e) in
-          let gone : at_name q ps ≡ None = not_there q ps (below_tied q p.0 ps same (first _ _ h)) in
-          ap (or_else (chosen (under (Name p.0) paths) p.1)) (rest ∙ ap (option_and_then (chosen (under (Name q) paths))) gone)
-          ∙ or_else-none (chosen (under (Name p.0) paths) p.1) ∙ ap (λ (m : List ℕ). chosen (under (Name m) paths) p.1) (sym same)
+          let gone : at_name q ps ≡ None =
+          not_there q ps (below_tied q p.0 ps same (first _ _ h)) in
+          ap (or_else (chosen (under (Name p.0) paths) p.1)) (rest
+          ∙ ap (option_and_then (chosen (under (Name q) paths))) gone)
+          ∙ or_else-none (chosen (under (Name p.0) paths) p.1)
+          ∙ ap (λ (m : List ℕ). chosen (under (Name m) paths) p.1) (sym same)
       | false ↦ λ e. rest
     ] refl
 
 -- ---- what is chosen rises too
 
-below-picked : (x name : List ℕ) (o : Option Tree) (fs : Fields) → T (is_lt (text_order x name)) → T (below_all text_order x (pairs fs))
+below-picked : (x name : List ℕ) (o : Option Tree) (fs : Fields) → T (is_lt (text_order x name))
+    → T (below_all text_order x (pairs fs))
     → T (below_all text_order x (pairs (pair_then name o fs)))
 below-picked x name None fs p h = h
 below-picked x name (Some t) fs p h = both _ _ p h
 
-below-projected : (x : List ℕ) (paths : List (List PathPart)) (ps : List Pair) → T (below_all text_order x ps) → T (below_all text_order x (projected paths ps))
+below-projected : (x : List ℕ) (paths : List (List PathPart)) (ps : List Pair)
+    → T (below_all text_order x ps) → T (below_all text_order x (projected paths ps))
 below-projected x paths [] h = tt
 below-projected x paths (p ∷ ps) h =
-    below-picked x p.0 (chosen (under (Name p.0) paths) p.1) (chosen_fields paths (fields_of ps)) (first _ _ h) (below-projected x paths ps (second _ _ h))
+    below-picked x p.0 (chosen (under (Name p.0) paths) p.1) (chosen_fields paths (fields_of ps))
+    (first _ _ h) (below-projected x paths ps (second _ _ h))
 
-sorted-picked : (name : List ℕ) (o : Option Tree) (fs : Fields) → T (below_all text_order name (pairs fs)) → T (is_sorted text_order (pairs fs))
+sorted-picked : (name : List ℕ) (o : Option Tree) (fs : Fields)
+    → T (below_all text_order name (pairs fs)) → T (is_sorted text_order (pairs fs))
     → T (is_sorted text_order (pairs (pair_then name o fs)))
 sorted-picked name None fs b h = h
 sorted-picked name (Some t) fs b h = both _ _ b h
 
-sorted-projected : (paths : List (List PathPart)) (ps : List Pair) → T (is_sorted text_order ps) → T (is_sorted text_order (projected paths ps))
+sorted-projected : (paths : List (List PathPart)) (ps : List Pair) → T (is_sorted text_order ps)
+    → T (is_sorted text_order (projected paths ps))
 sorted-projected paths [] h = tt
 sorted-projected paths (p ∷ ps) h =
     sorted-picked p.0 (chosen (under (Name p.0) paths) p.1) (chosen_fields paths (fields_of ps))
     (below-projected p.0 paths ps (first _ _ h)) (sorted-projected paths ps (second _ _ h))
 
 -- an item in which each name has what is chosen of it is what is chosen of the item
-pub projected-from : (paths : List (List PathPart)) (item out : List Pair) → IsItem item → IsItem out
-    → ((q : List ℕ) → at_name q out ≡ option_and_then (chosen (under (Name q) paths)) (at_name q item)) → out ≡ projected paths item
+pub projected-from : (paths : List (List PathPart)) (item out : List Pair) → IsItem item
+    → IsItem out
+    → ((q : List ℕ)
+    → at_name q out ≡ option_and_then (chosen (under (Name q) paths)) (at_name q item))
+    → out ≡ projected paths item
 projected-from paths item out is_item is_out each =
-    same_entries text_order text_total text_apart out (projected paths item) is_out.0 (sorted-projected paths item is_item.0)
+    same_entries text_order text_total text_apart out (projected paths item) is_out.0
+    (sorted-projected paths item is_item.0)
     (λ q. each q ∙ sym (at_name-projected paths q item is_item.0))
 
 -- ---- one name more
 
+-- what is put, or not, is found under its name and no other
 pub at_name-put_if : (q name : List ℕ) (o : Option Tree) (ps : List Pair)
-    → at_name q (put_if name o ps) ≡ cond (eq_by_cmp text_order q name) (or_else o (at_name q ps)) (at_name q ps)
-at_name-put_if q name None ps = elim (eq_by_cmp text_order q name) as (λ b. at_name q ps ≡ cond b (at_name q ps) (at_name q ps)) [ true ↦ refl | false ↦ refl ]
+    → at_name q (put_if name o ps)
+    ≡ cond (eq_by_cmp text_order q name) (or_else o (at_name q ps)) (at_name q ps)
+at_name-put_if q name None ps =
+    elim (eq_by_cmp text_order q name) as (λ b. at_name q ps ≡ cond b (at_name q ps) (at_name q ps))
+    [ true ↦ refl | false ↦ refl ]
 at_name-put_if q name (Some t) ps = find-put text_order text_total q name t ps
 
 either : (w o : Option Tree) (b : Bool) → o ≡ cond b w None → or_else w o ≡ w
@@ -153,17 +187,23 @@ module _ (paths : List (List PathPart)) (item : List Pair) where
   abbrev pub Seen : (List ℕ → Bool) → List Pair → Type 0
   Seen seen out = (q : List ℕ) → at_name q out ≡ cond (seen q) (wanted q) None
 
-  pub seen_more : (seen more : List ℕ → Bool) (name : List ℕ) (before now : List Pair) → Seen seen before
-      → ((q : List ℕ) → more q ≡ cond (eq_by_cmp text_order q name) true (seen q)) → now ≡ put_if name (wanted name) before → Seen more now
+  pub seen_more : (seen more : List ℕ → Bool) (name : List ℕ) (before now : List Pair)
+      → Seen seen before
+      → ((q : List ℕ) → more q ≡ cond (eq_by_cmp text_order q name) true (seen q))
+      → now ≡ put_if name (wanted name) before → Seen more now
   seen_more seen more name before now was is put q =
       ap (at_name q) put ∙ at_name-put_if q name (wanted name) before ∙
       elim (eq_by_cmp text_order q name) as (λ b. eq_by_cmp text_order q name ≡ b
-      → cond b (or_else (wanted name) (at_name q before)) (at_name q before) ≡ cond (more q) (wanted q) None) [
+      → cond b (or_else (wanted name) (at_name q before)) (at_name q before)
+      ≡ cond (more q) (wanted q) None) [
         | true ↦ λ e.
             let same : q ≡ name = text_apart q name (equal (text_order q name) e) in
-            either (wanted name) (at_name q before) (seen q) (was q ∙ ap (λ (m : List ℕ). cond (seen q) (wanted m) None) same)
-            ∙ ap wanted (sym same) ∙ ap (λ b. cond b (wanted q) None) (sym (is q ∙ ap (λ b. cond b true (seen q)) e))
-        | false ↦ λ e. was q ∙ ap (λ b. cond b (wanted q) None) (sym (is q ∙ ap (λ b. cond b true (seen q)) e))
+            either (wanted name) (at_name q before) (seen q) (was q
+            ∙ ap (λ (m : List ℕ). cond (seen q) (wanted m) None) same)
+            ∙ ap wanted (sym same)
+            ∙ ap (λ b. cond b (wanted q) None) (sym (is q ∙ ap (λ b. cond b true (seen q)) e))
+        | false ↦ λ e. was q
+            ∙ ap (λ b. cond b (wanted q) None) (sym (is q ∙ ap (λ b. cond b true (seen q)) e))
       ] refl
 
   -- once each name with a path was seen, it is what is chosen of the item
@@ -173,23 +213,31 @@ module _ (paths : List (List PathPart)) (item : List Pair) where
       projected-from paths item out is_item is_out (λ q. was q ∙
       elim (seen q) as (λ b. seen q ≡ b → cond b (wanted q) None ≡ wanted q) [
         | true ↦ λ e. refl
-        | false ↦ λ e. sym (ap (λ (us : List (List PathPart)). option_and_then (chosen us) (at_name q item)) (rest q e) ∙ none_of (at_name q item))
+        | false ↦ λ e.
+            sym (ap (λ (us : List (List PathPart)). option_and_then (chosen us) (at_name q item))
+            (rest q e) ∙ none_of (at_name q item))
       ] refl)
 
 -- the same of an index
-pub indexed-under : (k : ℕ) (ways : List (List PathPart)) → map (λ p. p.1) (filter (λ p. eq_by_cmp nat_cmp p.0 k) (indexed_ways ways)) ≡ under (Index k) ways
+pub indexed-under : (k : ℕ) (ways : List (List PathPart))
+    → map (λ p. p.1) (filter (λ p. eq_by_cmp nat_cmp p.0 k) (indexed_ways ways))
+    ≡ under (Index k) ways
 indexed-under k [] = refl
 indexed-under k ([] ∷ ways) = indexed-under k ways
 indexed-under k ((Name n ∷ rest) ∷ ways) = indexed-under k ways
 indexed-under k ((Index j ∷ rest) ∷ ways) =
     elim (k == j) as (λ b. eq_by_cmp nat_cmp j k ≡ b
-    → map (λ p. p.1) (cond (eq_by_cmp nat_cmp j k) ((j, rest) ∷ filter (λ p. eq_by_cmp nat_cmp p.0 k) (indexed_ways ways)) (filter (λ p. eq_by_cmp nat_cmp p.0 k) (indexed_ways ways)))
+    → map (λ p. p.1)
+    (cond (eq_by_cmp nat_cmp j k) ((j, rest)
+    ∷ filter (λ p. eq_by_cmp nat_cmp p.0 k) (indexed_ways ways))
+    (filter (λ p. eq_by_cmp nat_cmp p.0 k) (indexed_ways ways)))
     ≡ cond b (rest ∷ []) [] ++ under (Index k) ways) [
       | true ↦ λ e. rw e (ap (λ (l : List (List PathPart)). rest ∷ l) (indexed-under k ways))
       | false ↦ λ e. rw e (indexed-under k ways)
     ] (sym (unsigned_ties j k) ∙ nat_eq_equiv.symm j k)
 
 -- a name that is there isn't empty
-pub name-some : (name : List ℕ) (t : Tree) (ps : List Pair) → IsItem ps → at_name name ps ≡ Some t → 0 < length name
+pub name-some : (name : List ℕ) (t : Tree) (ps : List Pair) → IsItem ps → at_name name ps ≡ Some t
+    → 0 < length name
 name-some [] t ps h e = absurd (none-some t (sym (not_there [] ps h.1) ∙ e))
 name-some (c ∷ cs) t ps h e = omega arith

@@ -16,7 +16,8 @@ use std::alloc::Global;
 /// What the paths choose of a value.
 #[cycle(choosing)]
 fn chosen(alloc: Global, ways: &[&[PathPart]], value: &Attr) -> Result<Option<Attr>, NoMemory>
-    ensures { IfOk result (λ o. option_map tree_of o ≡ spec.chosen (map (λ w. w.now) ways.now) (tree_of value.now)) }
+    ensures { IfOk result (λ o. option_map tree_of o
+        ≡ spec.chosen (map (λ w. w.now) ways.now) (tree_of value.now)) }
 {
     if is_whole(ways) {
         return match copy(value) {
@@ -94,7 +95,8 @@ fn put_chosen(
     item: &Item,
 ) -> Result<(), NoMemory>
     ensures { OnOk result (out.new
-        ≡ put_if name.now (option_and_then (spec.chosen (map (λ w. w.now) ways.now)) (at_name name.now item.now)) out.old) }
+        ≡ put_if name.now (option_and_then (spec.chosen (map (λ w. w.now) ways.now))
+        (at_name name.now item.now)) out.old) }
 {
     let _held = item.len();
     match item.get(name) {
@@ -114,7 +116,8 @@ fn chosen_elements(
     ways: &[&[PathPart]],
     list: &AttrList,
 ) -> Result<AttrList, NoMemory>
-    ensures { IfOk result (λ l. l ≡ elements (spec.chosen_elements (map (λ w. w.now) ways.now) 0 (trees_of list.now))) }
+    ensures { IfOk result (λ l. l
+        ≡ elements (spec.chosen_elements (map (λ w. w.now) ways.now) 0 (trees_of list.now))) }
 {
     let mut out = AttrList::new(alloc);
     let indexed = groups(alloc, by_index(alloc, ways)?)?;
@@ -134,7 +137,8 @@ fn push_chosen(
     list: &AttrList,
 ) -> Result<(), NoMemory>
     ensures { OnOk result (out.new
-        ≡ out.old ++ option_to_list (option_and_then (spec.chosen (map (λ w. w.now) ways.now)) (slice_get list.now i))) }
+        ≡ out.old ++ option_to_list (option_and_then (spec.chosen (map (λ w. w.now) ways.now))
+        (slice_get list.now i))) }
 {
     match list.get(i as usize) {
         Some(value) => match chosen(alloc, ways, value) {

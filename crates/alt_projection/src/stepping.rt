@@ -12,7 +12,8 @@ pub fn by_name<'a>(
     alloc: Global,
     ways: &[&'a [PathPart]],
 ) -> Result<Vec<(&'a str, &'a [PathPart])>, NoMemory>
-    ensures { IfOk result (λ v. map (λ p. (p.0.now, p.1.now)) v.items ≡ named_ways (map (λ w. w.now) ways.now)) }
+    ensures { IfOk result (λ v. map (λ p. (p.0.now, p.1.now)) v.items
+        ≡ named_ways (map (λ w. w.now) ways.now)) }
 {
     let mut named = Vec::new(alloc);
     for way in ways {
@@ -29,7 +30,8 @@ pub fn by_index<'a>(
     alloc: Global,
     ways: &[&'a [PathPart]],
 ) -> Result<Vec<(u32, &'a [PathPart])>, NoMemory>
-    ensures { IfOk result (λ v. map (λ p. (p.0, p.1.now)) v.items ≡ indexed_ways (map (λ w. w.now) ways.now)) }
+    ensures { IfOk result (λ v. map (λ p. (p.0, p.1.now)) v.items
+        ≡ indexed_ways (map (λ w. w.now) ways.now)) }
 {
     let mut indexed = Vec::new(alloc);
     for way in ways {

@@ -29,8 +29,10 @@ decreases-put_chosen l = 3 * fields_depth (fields_of l.item.now) + 1
 -- Each name so far has what is chosen of it, and no other has anything.
 abbrev pub invariant-chosen_fields-loop-name : goal.invariant-chosen_fields-loop-name
 invariant-chosen_fields-loop-name l =
-    Seen (map (λ w. w.now) l.ways) l.item (λ q. list_any (λ p. eq_by_cmp text_order q p.0.now) (take l.name-index l.name-items)) l.out
+    Seen (map (λ w. w.now) l.ways) l.item (λ q.
+    list_any (λ p. eq_by_cmp text_order q p.0.now) (take l.name-index l.name-items)) l.out
 
 -- What is chosen at the indexes so far is there.
 abbrev pub invariant-chosen_elements-loop-i : goal.invariant-chosen_elements-loop-i
-invariant-chosen_elements-loop-i l = l.out ≡ picks (pick_at (map (λ w. w.now) l.ways) l.list) (map (λ p. p.0) (take l.i-index l.i-items))
+invariant-chosen_elements-loop-i l = l.out
+    ≡ picks (pick_at (map (λ w. w.now) l.ways) l.list) (map (λ p. p.0) (take l.i-index l.i-items))

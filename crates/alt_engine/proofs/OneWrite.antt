@@ -12,7 +12,7 @@ use Rattle.alt_engine.specs.Layout.{Layout, Write, no_rows, with_writes}
 use Rattle.alt_engine.specs.Image.{IsLayout, entries_file, clear_byte, value_bytes, cells_bytes, change_bytes, changes_bytes, write_bytes, IsShortValue, AreShortCells, IsHeldChange, AreHeldChanges, IsHeldWrite, AllHeld}
 
 -- two numbers of eight bytes at the front, told apart
-eight_apart : (m n : ℕ) (x y : List ℕ) → m < 2 ^ 64 → n < 2 ^ 64
+pub eight_apart : (m n : ℕ) (x y : List ℕ) → m < 2 ^ 64 → n < 2 ^ 64
     → to_be_bytes w64 m ++ x ≡ to_be_bytes w64 n ++ y → (m ≡ n) × (x ≡ y)
 eight_apart m n x y small_m small_n e = (
   sym (from_be_bytes-to_be_bytes_8 m small_m)
@@ -22,7 +22,7 @@ eight_apart m n x y small_m small_n e = (
 )
 
 -- and of four
-four_apart : (m n : ℕ) (x y : List ℕ) → m < 2 ^ 32 → n < 2 ^ 32
+pub four_apart : (m n : ℕ) (x y : List ℕ) → m < 2 ^ 32 → n < 2 ^ 32
     → to_be_bytes w32 m ++ x ≡ to_be_bytes w32 n ++ y → (m ≡ n) × (x ≡ y)
 four_apart m n x y small_m small_n e = (
   sym (from_be_bytes-to_be_bytes_4 m small_m)
@@ -32,7 +32,7 @@ four_apart m n x y small_m small_n e = (
 )
 
 -- two fields
-field_apart : (a b x y : List ℕ) → IsShort a → IsShort b → field a ++ x ≡ field b ++ y
+pub field_apart : (a b x y : List ℕ) → IsShort a → IsShort b → field a ++ x ≡ field b ++ y
     → (a ≡ b) × (x ≡ y)
 field_apart a b x y short_a short_b e =
     let parts = eight_apart (length a) (length b) (a ++ x) (b ++ y) short_a short_b
@@ -45,7 +45,7 @@ field_apart a b x y short_a short_b e =
     )
 
 -- two values, or none
-value_apart : (a b : Option (List ℕ)) (x y : List ℕ) → IsShortValue a → IsShortValue b
+pub value_apart : (a b : Option (List ℕ)) (x y : List ℕ) → IsShortValue a → IsShortValue b
     → value_bytes a ++ x ≡ value_bytes b ++ y → (a ≡ b) × (x ≡ y)
 value_apart None None x y h k e = (refl, ap (drop 1) e)
 value_apart None (Some b) x y h k e = let no : 0 ∷ x ≡ 1 ∷ (field b ++ y) = e in cc no
@@ -54,7 +54,7 @@ value_apart (Some a) (Some b) x y h k e = let parts = field_apart a b x y h k (a
     (ap (λ v. Some v) parts.0, parts.1)
 
 -- two lists of columns, of one length
-cells_apart : (es fs : List (List ℕ × Option (List ℕ))) (x y : List ℕ) → AreShortCells es
+pub cells_apart : (es fs : List (List ℕ × Option (List ℕ))) (x y : List ℕ) → AreShortCells es
     → AreShortCells fs → length es ≡ length fs → cells_bytes es ++ x ≡ cells_bytes fs ++ y
     → (es ≡ fs) × (x ≡ y)
 cells_apart [] [] x y h k n e = (refl, e)
@@ -75,14 +75,14 @@ cells_apart (a ∷ es) (b ∷ fs) x y h k n e =
         ∙ append_assoc (field a.0) (value_bytes a.1) (cells_bytes es ++ x)
 
 -- two bytes that say whether a row is cleared
-clear_apart : (a b : Bool) (x y : List ℕ) → clear_byte a ∷ x ≡ clear_byte b ∷ y → (a ≡ b) × (x ≡ y)
+pub clear_apart : (a b : Bool) (x y : List ℕ) → clear_byte a ∷ x ≡ clear_byte b ∷ y → (a ≡ b) × (x ≡ y)
 clear_apart true true x y e = (refl, ap (drop 1) e)
 clear_apart false false x y e = (refl, ap (drop 1) e)
 clear_apart true false x y e = let no : 1 ∷ x ≡ 0 ∷ y = e in cc no
 clear_apart false true x y e = let no : 0 ∷ x ≡ 1 ∷ y = e in cc no
 
 -- the parts of a change, with what stands behind it
-change_pieces : (c : RowChange) (x : List ℕ) → change_bytes c ++ x
+pub change_pieces : (c : RowChange) (x : List ℕ) → change_bytes c ++ x
     ≡ to_be_bytes w32 c.family ++ (field c.key
     ++ (clear_byte c.clear ∷ (to_be_bytes w64 (length c.cells) ++ (cells_bytes c.cells ++ x))))
 unfolding change_bytes
@@ -96,7 +96,7 @@ change_pieces c x =
     (append_assoc (to_be_bytes w64 (length c.cells)) (cells_bytes c.cells) x))
 
 -- two changes
-change_apart : (c d : RowChange) (x y : List ℕ) → IsHeldChange c → IsHeldChange d
+pub change_apart : (c d : RowChange) (x y : List ℕ) → IsHeldChange c → IsHeldChange d
     → change_bytes c ++ x ≡ change_bytes d ++ y → (c ≡ d) × (x ≡ y)
 change_apart c d x y h k e =
     let family = four_apart c.family d.family _ _ h.family k.family

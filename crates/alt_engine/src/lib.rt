@@ -3,7 +3,15 @@
 
 mod engine;
 mod format;
+mod laws;
 mod make;
+mod memory;
+mod read;
+mod recover;
+mod sync;
+mod walk;
 
 pub use engine::{Engine, EngineFault};
+pub use laws::engine_laws;
 pub use make::{MakeFault, make_store};
+pub use recover::RecoverFault;

@@ -13,13 +13,13 @@ use alt_gatelog::GateLog;
 use std::alloc::Global;
 
 /// The file of the versions.
-const VERSIONS: u32 = 1;
+pub(crate) const VERSIONS: u32 = 1;
 
 /// The file of the writes.
-const ENTRIES: u32 = 2;
+pub(crate) const ENTRIES: u32 = 2;
 
 /// The first version: next file 3, next number 1, the segment of file 2, and no families.
-const FIRST_VERSION: [u8; 32] = [
+pub(crate) const FIRST_VERSION: [u8; 32] = [
     0, 0, 0, 3, 0, 0, 0, 0, 0, 0, 0, 1, 0, 0, 0, 0, 0, 0, 0, 1, 0, 0, 0, 2, 0, 0, 0, 0, 0, 0, 0, 0,
 ];
 

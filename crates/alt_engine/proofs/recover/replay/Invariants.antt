@@ -1,0 +1,20 @@
+-- The entries so far were replayed.
+use Rattle.std.proofs.Common.{◌≡◌, ℕ, List, IsTrue, take}
+use Rattle.alt_disk.specs.Disk.{Goes}
+use Rattle.alt_disk.specs.Runs.{Quiet}
+use Rattle.alt_gatelog.specs.InHand.{Reads as LogReads}
+use Rattle.alt_engine.specs.Recovery.{Replayed}
+use Rattle.alt_engine.proofs.recover.replay.Given as goal
+
+abbrev pub invariant-loop-i : goal.invariant-loop-i
+invariant-loop-i g l =
+    let state = g.D.Disk.state in
+    record {
+      log : l.log ≡ l.fn.log;
+      goes : Goes (state l.fn.disk) (state l.disk);
+      well : (state l.disk).faults ≡ (state l.fn.disk).faults;
+      quiet : IsTrue (state l.fn.disk).tells → Quiet (state l.fn.disk) (state l.disk);
+      done : IsTrue (state l.fn.disk).tells → (entries : List (List ℕ))
+          → LogReads (state l.fn.disk) l.fn.log entries
+          → Replayed (take l.i entries) l.families l.next;
+    }

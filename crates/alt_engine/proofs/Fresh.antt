@@ -1,17 +1,15 @@
 -- A fresh store: that a stop leaves it, and that no file is there where the first is named.
-use Rattle.std.proofs.Common.{◌≡◌, ◌≢◌, ◌<◌, ◌≤◌, ◌+◌, ◌==◌, ◌||◌, ℕ, zero, suc, Bool, true, false, List, [], ◌∷◌, ◌++◌}
+use Rattle.std.proofs.Common.{◌≡◌, ◌≢◌, ◌<◌, ◌==◌, ◌||◌, ℕ, zero, suc, Bool, true, false, List, [], ◌∷◌}
 use Rattle.std.proofs.Common.{length, get_or, drop, Option, Some, None, is_some, refl, sym, ap, subst, ◌∙◌, arith, lit<, append_assoc}
 use Rattle.std.proofs.lemmas.Bool.{false≢true}
 use Rattle.std.proofs.lemmas.Bool.Decides.{nat_tests}
 use Rattle.std.proofs.lemmas.List.{drop_at}
 use Rattle.std.proofs.lemmas.Map.Keys.{below_from_sorted}
 use Rattle.std.specs.List.{list_any}
-use Rattle.std.specs.List.Sorted.{IsStrictlySortedBy}
-use Rattle.std.specs.Ordering.{nat_cmp}
 use Rattle.alt_disk.specs.Fates.{Fates, Fits}
-use Rattle.alt_disk.specs.Disk.{DiskState, IsImage, IsSettled, IsNames, now}
+use Rattle.alt_disk.specs.Disk.{DiskState, IsImage, IsSettled, IsNames}
 use Rattle.alt_disk.specs.Runs.{Run}
-use Rattle.alt_gatelog.specs.Log.{IsLog, first_form, header, log_bytes, log_after, IsShortEntry}
+use Rattle.alt_gatelog.specs.Log.{IsLog, first_form, header, log_bytes, IsShortEntry}
 use Rattle.alt_engine.specs.Layout.{no_rows}
 use Rattle.alt_engine.specs.Image.{IsLayout, IsFresh, HasVersion, first_version, versions_file, entries_file}
 

@@ -2,7 +2,7 @@
 use Rattle.std.proofs.Common.{◌≡◌, ◌≢◌, ◌≤◌, ◌+◌, ⊎_elim, inl, inr, ℕ, List, [], ◌∷◌, ◌++◌, map, Option, refl, sym, ap, subst, ◌∙◌, arith}
 use Rattle.alt_cells.specs.declared.batch.RowChange.{RowChange}
 use Rattle.alt_disk.specs.Fates.{Fates, Fits}
-use Rattle.alt_disk.specs.Disk.{DiskState, IsImage, IsSettled, now}
+use Rattle.alt_disk.specs.Disk.{DiskState, IsImage, IsSettled}
 use Rattle.alt_disk.specs.Runs.{Run, Spans, Quiet}
 use Rattle.alt_disk.proofs.Runs.{run_spans, started}
 use Rattle.alt_gatelog.specs.Log.{IsLog, BeforeOrAfter, first_form}

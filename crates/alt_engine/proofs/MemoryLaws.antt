@@ -1,5 +1,5 @@
 -- What a write makes of the rows in memory.
-use Rattle.std.proofs.Common.{◌≡◌, ◌≤◌, ◌<◌, ◌+◌, ◌==◌, ◌++◌, ℕ, Bool, true, false, cond, List, [], ◌∷◌, map, length, take, get_or, Option, Some, None, refl, sym, ap, subst, ◌∙◌, eqb-true}
+use Rattle.std.proofs.Common.{◌≡◌, ◌≤◌, ◌<◌, ◌+◌, ◌==◌, ◌++◌, ℕ, Bool, true, false, cond, List, [], ◌∷◌, map, length, take, get_or, Option, Some, None, refl, sym, ap, ◌∙◌, eqb-true}
 use Rattle.std.proofs.lemmas.List.{take_more, map-append}
 use Rattle.std.specs.Prelude.{if◌then◌else◌, option_and_then, option_map, is_some}
 use Rattle.std.specs.Cmp.{eq_by_cmp_equiv}
@@ -11,7 +11,6 @@ use Rattle.alt_cells.specs.declared.batch.RowChange.{RowChange}
 use Rattle.alt_cells.specs.Changes.{Columns, as_shown, columns_of, with_columns, written}
 use Rattle.alt_cells.specs.Keys.{key_cmp}
 use Rattle.alt_cells.proofs.CellLaws.{key_total, key_exact}
-use Rattle.alt_cells.proofs.ChangeLaws.{none_shown}
 use Rattle.alt_engine.specs.Layout.{Layout, Write, with_write, IsPast, shown, change_of, shown_by}
 use Rattle.alt_engine.specs.Memory.{new_row, row_after}
 use Rattle.alt_engine.specs.declared.memory.NewRow.{NewRow}

@@ -114,21 +114,21 @@ next_cell (a ∷ done) (b ∷ es) rest y h k less e =
 
 module _ (count : ℕ) (done : List (List ℕ × Option (List ℕ))) (bytes rest : List ℕ)
     (few : length done < count) (short : AreShortCells done) (is : bytes ≡ cells_bytes done ++ rest)
-    where
-  -- no name behind them
-  pub no_cells-name : NoField rest → NoCells count bytes
-  no_cells-name non es y h n e =
-      let next = next_cell done es rest y short h (omega (arith, n)) (sym is ∙ e) in
-      non next.name (value_bytes next.value ++ next.more) next.short next.is
+  where
+    -- no name behind them
+    pub no_cells-name : NoField rest → NoCells count bytes
+    no_cells-name non es y h n e =
+        let next = next_cell done es rest y short h (omega (arith, n)) (sym is ∙ e) in
+        non next.name (value_bytes next.value ++ next.more) next.short next.is
 
-  -- or a name with nothing that is given
-  pub no_cells-value : (name flagged : List ℕ) → IsShort name → rest ≡ field name ++ flagged
-      → NoValue flagged → NoCells count bytes
-  no_cells-value name flagged short_name named non es y h n e =
-      let next = next_cell done es rest y short h (omega (arith, n)) (sym is ∙ e) in
-      non next.value next.more next.given
-      (field_apart name next.name flagged (value_bytes next.value ++ next.more) short_name
-      next.short (sym named ∙ next.is)).1
+    -- or a name with nothing that is given
+    pub no_cells-value : (name flagged : List ℕ) → IsShort name → rest ≡ field name ++ flagged
+        → NoValue flagged → NoCells count bytes
+    no_cells-value name flagged short_name named non es y h n e =
+        let next = next_cell done es rest y short h (omega (arith, n)) (sym is ∙ e) in
+        non next.value next.more next.given
+        (field_apart name next.name flagged (value_bytes next.value ++ next.more) short_name
+        next.short (sym named ∙ next.is)).1
 
 -- ---- a change
 
@@ -148,40 +148,40 @@ module _ (bytes : List ℕ) where
     no_change-key non d y h e = non d.key _ h.key (behind_family d y h e)
 
     module _ (key flagged : List ℕ) (short : IsShort key) (named : keyed ≡ field key ++ flagged)
-        where
-      behind_key : (d : RowChange) (y : List ℕ) → IsHeldChange d → bytes ≡ change_bytes d ++ y
-          → flagged ≡ clear_byte d.clear ∷ (to_be_bytes w64 (length d.cells)
-          ++ (cells_bytes d.cells ++ y))
-      behind_key d y h e = (field_apart key d.key flagged _ short h.key
-          (sym named ∙ behind_family d y h e)).1
+      where
+        behind_key : (d : RowChange) (y : List ℕ) → IsHeldChange d → bytes ≡ change_bytes d ++ y
+            → flagged ≡ clear_byte d.clear ∷ (to_be_bytes w64 (length d.cells)
+            ++ (cells_bytes d.cells ++ y))
+        behind_key d y h e = (field_apart key d.key flagged _ short h.key
+            (sym named ∙ behind_family d y h e)).1
 
-      pub no_change-flag : NoFlag flagged → NoChange bytes
-      no_change-flag non d y h e = non d.clear _ (behind_key d y h e)
+        pub no_change-flag : NoFlag flagged → NoChange bytes
+        no_change-flag non d y h e = non d.clear _ (behind_key d y h e)
 
-      module _ (clear : Bool) (counted : List ℕ) (flag : flagged ≡ clear_byte clear ∷ counted) where
-        behind_flag : (d : RowChange) (y : List ℕ) → IsHeldChange d → bytes ≡ change_bytes d ++ y
-            → counted ≡ to_be_bytes w64 (length d.cells) ++ (cells_bytes d.cells ++ y)
-        behind_flag d y h e = (clear_apart clear d.clear counted _ (sym flag ∙ behind_key d y h e)).1
+        module _ (clear : Bool) (counted : List ℕ) (flag : flagged ≡ clear_byte clear ∷ counted) where
+          behind_flag : (d : RowChange) (y : List ℕ) → IsHeldChange d → bytes ≡ change_bytes d ++ y
+              → counted ≡ to_be_bytes w64 (length d.cells) ++ (cells_bytes d.cells ++ y)
+          behind_flag d y h e = (clear_apart clear d.clear counted _ (sym flag ∙ behind_key d y h e)).1
 
-        pub no_change-count : NoNumber counted → NoChange bytes
-        no_change-count non d y h e = non (length d.cells) _ h.count (behind_flag d y h e)
+          pub no_change-count : NoNumber counted → NoChange bytes
+          no_change-count non d y h e = non (length d.cells) _ h.count (behind_flag d y h e)
 
-        module _ (count : ℕ) (listed : List ℕ) (fits : count < 2 ^ 64)
-            (told : counted ≡ to_be_bytes w64 count ++ listed) where
-          pub no_change-cells : NoCells count listed → NoChange bytes
-          no_change-cells non d y h e =
-              let parts = eight_apart count (length d.cells) listed (cells_bytes d.cells ++ y) fits
-              h.count (sym told ∙ behind_flag d y h e) in
-              non d.cells y h.cells (sym parts.0) parts.1
+          module _ (count : ℕ) (listed : List ℕ) (fits : count < 2 ^ 64)
+              (told : counted ≡ to_be_bytes w64 count ++ listed) where
+            pub no_change-cells : NoCells count listed → NoChange bytes
+            no_change-cells non d y h e =
+                let parts = eight_apart count (length d.cells) listed (cells_bytes d.cells ++ y) fits
+                h.count (sym told ∙ behind_flag d y h e) in
+                non d.cells y h.cells (sym parts.0) parts.1
 
-          -- what was read is a change
-          pub change_read : (c : RowChange) (rest : List ℕ) → c.family ≡ family → c.key ≡ key
-              → c.clear ≡ clear → length c.cells ≡ count → listed ≡ cells_bytes c.cells ++ rest
-              → bytes ≡ change_bytes c ++ rest
-          change_read c rest f k b n cells =
-              is ∙ (λ i. to_be_bytes w32 (sym f i) ++ (named ∙ (λ i. field (sym k i)
-              ++ (flag ∙ (λ i. clear_byte (sym b i) ∷ (told ∙ (λ i. to_be_bytes w64 (sym n i)
-              ++ cells i)) i)) i)) i) ∙ sym (change_pieces c rest)
+            -- what was read is a change
+            pub change_read : (c : RowChange) (rest : List ℕ) → c.family ≡ family → c.key ≡ key
+                → c.clear ≡ clear → length c.cells ≡ count → listed ≡ cells_bytes c.cells ++ rest
+                → bytes ≡ change_bytes c ++ rest
+            change_read c rest f k b n cells =
+                is ∙ (λ i. to_be_bytes w32 (sym f i) ++ (named ∙ (λ i. field (sym k i)
+                ++ (flag ∙ (λ i. clear_byte (sym b i) ∷ (told ∙ (λ i. to_be_bytes w64 (sym n i)
+                ++ cells i)) i)) i)) i) ∙ sym (change_pieces c rest)
 
 -- ---- changes
 

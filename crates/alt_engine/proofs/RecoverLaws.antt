@@ -1,9 +1,7 @@
 -- What was recovered, and why nothing was.
-use Rattle.std.proofs.Common.{◌≡◌, ◌≢◌, ◌⊎◌, ◌≤◌, ◌<◌, ◌+◌, ◌-◌, ◌∷◌, ◌++◌, ⊎_elim, inl, inr, ℕ, suc, List, [], length, map, take, drop, get_or, Option, Some, None, refl, sym, ap, subst, ◌∙◌, arith, length-append, take-append-drop, drop-cons}
+use Rattle.std.proofs.Common.{◌≡◌, ◌≢◌, ◌≤◌, ◌<◌, ◌+◌, ◌-◌, ◌∷◌, ◌++◌, ⊎_elim, inr, ℕ, suc, List, [], length, map, take, drop, get_or, Option, Some, None, refl, sym, ap, subst, ◌∙◌, arith, length-append, take-append-drop, drop-cons}
 use Rattle.std.proofs.lemmas.List.{length-map, length-take, take_more, take_all}
-use Rattle.alt_cells.specs.declared.batch.RowChange.{RowChange}
-use Rattle.alt_disk.specs.Fates.{Fits}
-use Rattle.alt_disk.specs.Disk.{DiskState, IsSettled, bytes_or_none, now}
+use Rattle.alt_disk.specs.Disk.{DiskState, IsSettled, bytes_or_none}
 use Rattle.alt_cells.specs.Keys.{key_cmp}
 use Rattle.alt_cells.specs.Shown.{row_shown}
 use Rattle.alt_disk.proofs.Settled.{synced_settled}
@@ -16,7 +14,7 @@ use Rattle.alt_cells.specs.Changes.{as_shown}
 use Rattle.std.specs.Result.{IsErrOf}
 use Rattle.std.specs.Prelude.{option_and_then, Result, Ok, Err, IfOk, OnOk}
 use Rattle.alt_gatelog.specs.Parse.{IsNoDamage}
-use Rattle.alt_gatelog.specs.Log.{IsLog, IsDamaged, ExplainsLog, first_form, log_bytes, gate_place}
+use Rattle.alt_gatelog.specs.Log.{IsLog, IsDamaged, ExplainsLog, first_form, gate_place}
 use Rattle.alt_gatelog.specs.InHand.{file_of, Reads as LogReads}
 use Rattle.alt_gatelog.specs.declared.fault.LogFault.{LogFault}
 use Rattle.alt_gatelog.specs.declared.fault.LogFault.TheVariants as log
@@ -24,8 +22,8 @@ use Rattle.alt_gatelog.specs.declared.gatelog.GateLog.{GateLog}
 use Rattle.alt_gatelog.proofs.OneList.{one_list, damaged_no_log}
 use Rattle.alt_engine.specs.Layout.{Layout, Write, AreRising, no_rows, with_write, with_writes, shown}
 use Rattle.alt_engine.specs.Image.{AllHeld, HasVersion, IsHeldWrite, IsLayout, first_version, versions_file, entries_file, write_bytes}
-use Rattle.alt_engine.specs.InHand.{Families, row_in, next_of, Reads, Stands}
-use Rattle.alt_engine.specs.Recovery.{IsNoWrite, IsBadAt, ExplainsStore, HasNoLayout, AllSynced, EndsWithVersion, ExplainsVersion, IsBadEntry, ExplainsEntries, Replayed, ReplaysOne, ExplainsEntry, log_fault, no_versions, no_version, other_version, no_entries, no_write}
+use Rattle.alt_engine.specs.InHand.{Families, row_in, Reads, Stands}
+use Rattle.alt_engine.specs.Recovery.{IsNoWrite, IsBadAt, ExplainsStore, HasNoLayout, AllSynced, EndsWithVersion, ExplainsVersion, ExplainsEntries, Replayed, ReplaysOne, ExplainsEntry, log_fault, no_versions, no_version, other_version, no_entries, no_write}
 use Rattle.alt_engine.specs.declared.engine.Engine.{Engine}
 use Rattle.alt_engine.specs.declared.recover.RecoverFault.{RecoverFault}
 use Rattle.alt_engine.specs.declared.recover.RecoverFault.TheVariants.{Damaged, Failed, NoMemory}
@@ -175,18 +173,20 @@ pub entry_explains : (entries : List (List ℕ)) (i : ℕ) (families : Families)
     → ExplainsEntry entries i next fault → ExplainsEntries entries fault
 entry_explains entries i families next (Damaged file at) within so_far h =
     let size : length so_far.writes ≡ i = sym (length-map so_far.writes write_bytes)
-    ∙ ap length so_far.is ∙ omega (arith, length-take i entries, within) in
-    (h.0, record {
-      writes = so_far.writes;
-      entry = get_or entries i [];
-      behind = drop (i + 1) entries;
-      is = split entries i within
-          ∙ ap (λ es. es ++ get_or entries i [] ∷ drop (i + 1) entries) (sym so_far.is);
-      held = so_far.held;
-      rising = so_far.rising;
-      none = subst (λ (n : ℕ). IsNoWrite n (get_or entries i [])) so_far.next_is h.2;
-      place = h.1 ∙ ap (gate_place first_form entries) (sym size);
-    })
+    ∙ ap length so_far.is ∙ omega (arith, length-take i entries, within) in (
+      h.0,
+      record {
+        writes = so_far.writes;
+        entry = get_or entries i [];
+        behind = drop (i + 1) entries;
+        is = split entries i within
+            ∙ ap (λ es. es ++ get_or entries i [] ∷ drop (i + 1) entries) (sym so_far.is);
+        held = so_far.held;
+        rising = so_far.rising;
+        none = subst (λ (n : ℕ). IsNoWrite n (get_or entries i [])) so_far.next_is h.2;
+        place = h.1 ∙ ap (gate_place first_form entries) (sym size);
+      },
+    )
 entry_explains entries i families next Failed within so_far h = tt
 entry_explains entries i families next NoMemory within so_far h = tt
 
@@ -210,17 +210,20 @@ entries_explain s l entries NoMemory is reads h = tt
 pub engine_reads : (s : DiskState) (e : Engine) (entries : List (List ℕ))
     → HasVersion (s.file versions_file) → file_of e.log ≡ entries_file → LogReads s e.log entries
     → Replayed entries e.families e.next → (l : Layout) × Reads s e l
-engine_reads s e entries version file reads done = (with_writes no_rows done.writes, record {
-  version = version;
-  writes = done.writes;
-  file = file;
-  log = subst (λ es. LogReads s e.log es) (sym done.is) reads;
-  held = done.held;
-  rising = done.rising;
-  is = refl;
-  next = done.next_is;
-  rows = done.rows;
-})
+engine_reads s e entries version file reads done = (
+  with_writes no_rows done.writes,
+  record {
+    version = version;
+    writes = done.writes;
+    file = file;
+    log = subst (λ es. LogReads s e.log es) (sym done.is) reads;
+    held = done.held;
+    rising = done.rising;
+    is = refl;
+    next = done.next_is;
+    rows = done.rows;
+  },
+)
 
 -- once all files were synced it stands for them
 pub engine_stands : (s : DiskState) (e : Engine) (l : Layout) → AllSynced s → Reads s e l
@@ -344,9 +347,16 @@ pub other_last : (entries : List (List ℕ)) (count : ℕ) (last : List ℕ) (at
     → ExplainsVersion entries (Damaged versions_file at)
 other_last entries count last at is some got other place =
     let size : length (take (count - 1) entries) ≡ count - 1 =
-    omega (arith, length-take (count - 1) entries, is, some) in
-    (refl, inr (take (count - 1) entries, last, last_is entries count last is some got, other,
-    place ∙ ap (gate_place first_form entries) (sym size)))
+    omega (arith, length-take (count - 1) entries, is, some) in (
+      refl,
+      inr (
+        take (count - 1) entries,
+        last,
+        last_is entries count last is some got,
+        other,
+        place ∙ ap (gate_place first_form entries) (sym size),
+      ),
+    )
 
 -- so of two facts
 pub if_both : {A E : Type 0} (r : Result A E) (P R Q : A → Type 0) → ((x : A) → P x → R x → Q x)

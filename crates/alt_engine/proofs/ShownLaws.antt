@@ -9,7 +9,7 @@ use Rattle.std.specs.BTreeMap.Range.{entries_between, range_contains}
 use Rattle.std.specs.Cmp.{eq_by_cmp_equiv, upto}
 use Rattle.std.specs.FinMap.{entries, entries_sorted, get, get-entries, get-from_sorted, len}
 use Rattle.std.specs.FinMap.Entries.{find, is_sorted, below_all, same_entries}
-use Rattle.std.specs.List.{AllByRecursion, filter, filter_map, cons_option}
+use Rattle.std.specs.List.{AllByRecursion, filter, cons_option}
 use Rattle.std.specs.List.Sorted.{IsStrictlySortedBy}
 use Rattle.std.specs.Map.{lookup}
 use Rattle.std.specs.Ordering.{eq_by_cmp, is_eq, is_le, is_lt, is_gt, ordering_reverse}

@@ -1,5 +1,5 @@
 -- An engine in hand, and the disk on which its files lie.
-use Rattle.std.specs.Prelude.{◌≡◌, ◌≤◌, ◌+◌, ◌⊎◌, ◌-◌, ◌^◌, ℕ, List, map, Option, option_and_then}
+use Rattle.std.specs.Prelude.{◌≡◌, ◌≤◌, ◌⊎◌, ◌-◌, ◌^◌, ℕ, List, map, Option, option_and_then}
 use Rattle.std.specs.BTreeMap.{BTreeMap, get}
 use Rattle.std.specs.Ordering.{nat_cmp}
 use Rattle.alt_disk.specs.Fates.{Fits}
@@ -7,7 +7,7 @@ use Rattle.alt_disk.specs.Disk.{DiskState, IsSettled, now}
 use Rattle.alt_cells.specs.Changes.{Columns, as_shown}
 use Rattle.alt_cells.specs.Keys.{key_cmp}
 use Rattle.alt_cells.specs.declared.batch.RowChange.{RowChange}
-use Rattle.alt_gatelog.specs.InHand.{file_of, SameLog, Reads as LogReads}
+use Rattle.alt_gatelog.specs.InHand.{file_of, Reads as LogReads}
 use Rattle.alt_engine.specs.Layout.{Layout, Write, no_rows, with_write, with_writes, AreRising, shown}
 use Rattle.alt_engine.specs.Image.{AllHeld, HasVersion, IsLayout, versions_file, entries_file, write_bytes}
 use Rattle.alt_engine.specs.declared.engine.Engine.{Engine}

@@ -42,13 +42,7 @@ fn shown_at<'a>(rows: &'a BTreeMap<Bytes, ShownRow>, key: &Bytes) -> Option<&'a 
     ensures { option_map (λ r. r.now) result ≡ row_at rows.now key.now }
 {
     match rows.get(key) {
-        Some(row) => {
-            if row.is_empty() {
-                None
-            } else {
-                Some(row)
-            }
-        }
+        Some(row) => { if row.is_empty() { None } else { Some(row) } }
         None => None,
     }
 }
@@ -149,12 +143,7 @@ fn put(alloc: Global, families: &mut Families, row: NewRow)
     }
 }
 
-fn put_row(
-    alloc: Global,
-    rows: &mut BTreeMap<Bytes, ShownRow>,
-    key: Bytes,
-    row: Option<ShownRow>,
-)
+fn put_row(alloc: Global, rows: &mut BTreeMap<Bytes, ShownRow>, key: Bytes, row: Option<ShownRow>)
     requires { IsTrue (is_some (get key_cmp rows.old key)) }
     ensures put { (k : List ℕ) → row_at rows.new k
         ≡ (if eq_by_cmp key_cmp k key then option_and_then as_shown row else row_at rows.old k) }

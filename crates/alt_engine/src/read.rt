@@ -69,11 +69,7 @@ pub(crate) fn read_write(
 }
 
 /// So many changes, and what follows them.
-fn take_changes(
-    alloc: Global,
-    count: u64,
-    bytes: &[u8],
-) -> Result<(Vec<RowChange>, &[u8]), Stop>
+fn take_changes(alloc: Global, count: u64, bytes: &[u8]) -> Result<(Vec<RowChange>, &[u8]), Stop>
     ensures changes { IfOk result (λ p. (length p.0.items ≡ count) × AreHeldChanges p.0.items
         × (bytes.now ≡ changes_bytes p.0.items ++ p.1.now)) }
     ensures none { IfErr result (IsNone (NoChanges count bytes.now)) }

@@ -1,8 +1,8 @@
-use Rattle.std.proofs.Common.{◌≡◌, ◌≢◌, ◌⊎◌, ℕ, List, [], ◌∷◌, Option, Some, None, refl, sym, ap, subst, ◌∙◌, arith}
+use Rattle.std.proofs.Common.{◌≡◌, ◌≢◌, ℕ, List, [], Some, sym, ap, subst, ◌∙◌, arith}
 use Rattle.alt_disk.specs.Disk.{DiskState, IsTrusted, IsSettled}
 use Rattle.alt_disk.proofs.Runs.{trusted_on, tells_of}
-use Rattle.alt_gatelog.specs.Log.{first_form, log_after, log_bytes}
-use Rattle.alt_engine.specs.Image.{IsFresh, first_version}
+use Rattle.alt_gatelog.specs.Log.{first_form, log_after}
+use Rattle.alt_engine.specs.Image.{first_version}
 use Rattle.alt_engine.proofs.Fresh.{fresh_layout, settled_on, rest_none}
 use Rattle.alt_engine.proofs.make.make_store.Goals as goal
 

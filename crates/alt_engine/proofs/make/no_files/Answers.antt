@@ -1,4 +1,4 @@
-use Rattle.std.proofs.Common.{ℕ, List, Option, sym, subst}
+use Rattle.std.proofs.Common.{ℕ, List, sym, subst}
 use Rattle.alt_disk.specs.Disk.{DiskState, IsNames}
 use Rattle.alt_engine.proofs.make.no_files.Goals as goal
 

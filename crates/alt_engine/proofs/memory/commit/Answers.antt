@@ -1,5 +1,5 @@
 -- One row less.
-use Rattle.std.proofs.Common.{◌≡◌, List, sym, ap, ◌∙◌}
+use Rattle.std.proofs.Common.{List, sym, ap, ◌∙◌}
 use Rattle.std.proofs.lemmas.List.Elements.{All-pop, All-weaker}
 use Rattle.alt_engine.specs.InHand.{row_in}
 use Rattle.alt_engine.specs.Memory.{row_after, IsPlaced}

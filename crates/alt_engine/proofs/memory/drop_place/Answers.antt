@@ -1,5 +1,4 @@
 -- A row that shows nothing is taken out.
-use Rattle.std.proofs.Common.{◌≡◌}
 use Rattle.std.specs.BTreeMap.{get}
 use Rattle.alt_cells.specs.Keys.{key_cmp}
 use Rattle.alt_engine.specs.Memory.{row_at}

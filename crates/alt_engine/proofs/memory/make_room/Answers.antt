@@ -1,5 +1,5 @@
 -- A place shows nothing.
-use Rattle.std.proofs.Common.{◌≡◌, None, sym, ap, ◌∙◌}
+use Rattle.std.proofs.Common.{sym, ap, ◌∙◌}
 use Rattle.std.specs.BTreeMap.{get}
 use Rattle.alt_cells.specs.Changes.{as_shown}
 use Rattle.alt_cells.specs.Keys.{key_cmp}

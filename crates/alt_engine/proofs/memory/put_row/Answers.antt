@@ -1,5 +1,5 @@
 -- The row is put in at its place.
-use Rattle.std.proofs.Common.{◌≡◌, Option, None, sym, ap, ◌∙◌}
+use Rattle.std.proofs.Common.{◌≡◌, sym, ap, ◌∙◌}
 use Rattle.std.specs.Prelude.{option_and_then}
 use Rattle.std.specs.BTreeMap.{get}
 use Rattle.alt_cells.specs.Changes.{as_shown}

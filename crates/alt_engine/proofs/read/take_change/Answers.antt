@@ -1,5 +1,5 @@
 -- The parts of a change, one behind another.
-use Rattle.std.proofs.Common.{◌≡◌, refl, sym, ap, subst, arith}
+use Rattle.std.proofs.Common.{refl, sym, subst, arith}
 use Rattle.std.proofs.lemmas.Result.{err_from_is_err_and}
 use Rattle.alt_fields.specs.Bytes.{IsShort}
 use Rattle.alt_engine.specs.Reading.{NoChange}

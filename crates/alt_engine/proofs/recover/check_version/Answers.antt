@@ -1,5 +1,5 @@
 -- The versions of file 1.
-use Rattle.std.proofs.Common.{◌≡◌, ℕ, List, Option, IsTrue, IfErr, sym, subst}
+use Rattle.std.proofs.Common.{ℕ, List, Option, IsTrue, sym, subst}
 use Rattle.alt_disk.specs.Disk.{DiskState}
 use Rattle.alt_gatelog.proofs.OneList.{if_err}
 use Rattle.alt_engine.specs.Image.{HasVersion, versions_file}

@@ -9,9 +9,15 @@ use Rattle.alt_engine.proofs.RecoverLaws.{none_of, undamaged_version, other_last
 use Rattle.alt_engine.proofs.recover.last_version.Goals as goal
 
 pub returns-then-count-eq0-clause-damaged : goal.returns-then-count-eq0-clause-damaged
-returns-then-count-eq0-clause-damaged g c told entries reads = (refl, inl (none_of entries
-    (sym (c.entries-count.ensures.list (g.D.Disk.state c.args.disk.now) entries reads)
-    ∙ c.if-count-eq0.true), refl))
+returns-then-count-eq0-clause-damaged g c told entries reads = (
+  refl,
+  inl (
+    none_of entries
+        (sym (c.entries-count.ensures.list (g.D.Disk.state c.args.disk.now) entries reads)
+        ∙ c.if-count-eq0.true),
+    refl,
+  ),
+)
 
 pub returns-in-Err-clause-damaged : goal.returns-in-Err-clause-damaged
 returns-in-Err-clause-damaged g c told entries reads =
@@ -24,11 +30,13 @@ returns-then-is_first_version-clause-ok g c told entries reads =
     let count = c.entries-count.result in
     let read : c.entry.new.out.items ≡ get_or entries (count - 1) [] =
     c.in-Ok.ensures.ok told entries reads
-    ∙ ap (λ (l : List ℕ). l ++ get_or entries (count - 1) []) c.new-bytes.ensures.items in
-    (take (count - 1) entries, last_is entries count first_version
-    (c.entries-count.ensures.list s entries reads) (omega (arith, c.if-count-eq0.false))
-    (sym (c.is_first_version.ensures.yes_it_is c.if-is_first_version.true)
-    ∙ c.as_slice.ensures.value ∙ read))
+    ∙ ap (λ (l : List ℕ). l ++ get_or entries (count - 1) []) c.new-bytes.ensures.items in (
+      take (count - 1) entries,
+      last_is entries count first_version
+          (c.entries-count.ensures.list s entries reads) (omega (arith, c.if-count-eq0.false))
+          (sym (c.is_first_version.ensures.yes_it_is c.if-is_first_version.true)
+          ∙ c.as_slice.ensures.value ∙ read),
+    )
 
 pub returns-clause-damaged : goal.returns-clause-damaged
 returns-clause-damaged g c told entries reads =

@@ -1,5 +1,5 @@
 -- One entry more.
-use Rattle.std.proofs.Common.{◌≡◌, ◌<◌, List, ℕ, IsTrue, length, refl, sym, subst, ◌∙◌, arith}
+use Rattle.std.proofs.Common.{◌<◌, IsTrue, length, refl, sym, subst, ◌∙◌, arith}
 use Rattle.alt_disk.specs.Disk.{DiskState}
 use Rattle.alt_disk.proofs.Calls.{goes_on}
 use Rattle.alt_disk.proofs.Runs.{quiet_start, quiet_then}

@@ -1,5 +1,5 @@
 -- One file more.
-use Rattle.std.proofs.Common.{◌≡◌, ℕ, List, IsTrue, get_or, refl, sym, subst, ◌∙◌, arith}
+use Rattle.std.proofs.Common.{ℕ, List, IsTrue, get_or, refl, sym, subst, ◌∙◌, arith}
 use Rattle.alt_base.specs.Counts.{Rose}
 use Rattle.alt_disk.specs.Disk.{DiskState}
 use Rattle.alt_disk.proofs.Calls.{goes_on}

@@ -1,9 +1,8 @@
 -- A family that shows a row, or none.
-use Rattle.std.proofs.Common.{◌≡◌, ◌+◌, ◌∷◌, ℕ, List, Option, Some, None, sym, ap, subst, ◌∙◌, arith}
+use Rattle.std.proofs.Common.{◌≡◌, ◌+◌, ◌∷◌, ℕ, List, Some, None, sym, ap, subst, ◌∙◌, arith}
 use Rattle.std.specs.BTreeMap.Range.{entries_between}
 use Rattle.std.specs.Ordering.{nat_cmp}
 use Rattle.std.specs.declared.ops.Bound.TheVariants.{Included, Unbounded}
-use Rattle.alt_cells.specs.Changes.{Columns}
 use Rattle.alt_engine.specs.InHand.{row_in}
 use Rattle.alt_engine.specs.Memory.{row_at}
 use Rattle.alt_engine.proofs.FamilyLaws.{FamilyList, row_of, AreFrom, row_in-list, row_of-from, families_from, without_first, of_first, none_before, lower_from}

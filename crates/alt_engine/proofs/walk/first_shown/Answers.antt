@@ -1,5 +1,5 @@
 -- The first row with a column.
-use Rattle.std.proofs.Common.{◌≡◌, sym, ap, ◌∙◌}
+use Rattle.std.proofs.Common.{sym, ap, ◌∙◌}
 use Rattle.alt_cells.specs.Changes.{as_shown}
 use Rattle.alt_engine.specs.Layout.{shown_of}
 use Rattle.alt_engine.proofs.ShownLaws.{all_between, shown_row}

@@ -1,5 +1,5 @@
 -- A row more is given.
-use Rattle.std.proofs.Common.{◌≡◌, ◌-◌, ◌∷◌, ◌++◌, [], List, ℕ, take, false, not, sym, ap, ◌∙◌}
+use Rattle.std.proofs.Common.{◌≡◌, ◌-◌, ◌∷◌, ◌++◌, [], List, ℕ, take, sym, ap, ◌∙◌}
 use Rattle.alt_base.proofs.Prefixes.{prefix_trans}
 use Rattle.alt_cells.specs.Changes.{Columns, as_shown}
 use Rattle.alt_cells.specs.Walks.{turned}

@@ -1,5 +1,5 @@
 -- What is shown first in memory is shown first.
-use Rattle.std.proofs.Common.{◌≡◌, ℕ, List, Some, sym, subst}
+use Rattle.std.proofs.Common.{ℕ, List, Some, sym, subst}
 use Rattle.alt_engine.specs.Layout.{shown, IsFirstShown}
 use Rattle.alt_engine.specs.InHand.{row_in}
 use Rattle.alt_engine.proofs.FamilyLaws.{finds_on}

@@ -1,5 +1,5 @@
 -- All files synced, and then read.
-use Rattle.std.proofs.Common.{◌≡◌, ℕ, List, Option, IsTrue, sym, subst, ◌∙◌}
+use Rattle.std.proofs.Common.{ℕ, List, Option, IsTrue, sym, subst, ◌∙◌}
 use Rattle.alt_disk.specs.Disk.{DiskState, IsTrusted}
 use Rattle.alt_disk.proofs.Runs.{trusted_on, tells_of}
 use Rattle.alt_gatelog.proofs.OneList.{if_err}
@@ -23,10 +23,13 @@ returns-in-Ok-clause-ok g c =
     (λ (e : Engine). IsTrue a.tells → (l : Layout) × IsLayout a.file l × Reads n e l)
     (λ e found told.
     let told_b : IsTrue b.tells = subst (λ v. IsTrue v) (sym c.sync_all.ensures.goes.tells) told in
-    let r = found told_b in
-    (r.0, subst (λ (files : ℕ → Option (List ℕ)). IsLayout files r.0)
-    (λ i f. ((c.read_store.ensures.quiet told_b).file f ∙ c.sync_all.ensures.files told f) i)
-    (files_hold n e r.0 r.1), r.1))
+    let r = found told_b in (
+      r.0,
+      subst (λ (files : ℕ → Option (List ℕ)). IsLayout files r.0)
+          (λ i f. ((c.read_store.ensures.quiet told_b).file f ∙ c.sync_all.ensures.files told f) i)
+          (files_hold n e r.0 r.1),
+      r.1,
+    ))
     c.read_store.ensures.ok
 
 pub returns-in-Ok-clause-stands : goal.returns-in-Ok-clause-stands

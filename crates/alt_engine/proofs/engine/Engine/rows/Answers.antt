@@ -1,5 +1,5 @@
 -- The rows of the family's tree.
-use Rattle.std.proofs.Common.{◌≡◌, ◌++◌, List, ℕ, Some, None, take, sym, ap, ◌∙◌}
+use Rattle.std.proofs.Common.{◌++◌, List, ℕ, Some, None, take, sym, ap, ◌∙◌}
 use Rattle.std.specs.declared.ops.Bound.TheVariants.{Included}
 use Rattle.alt_cells.specs.Changes.{Columns}
 use Rattle.alt_engine.specs.Layout.{end_bound}

@@ -59,10 +59,12 @@ pub trait Shell: Disk {
         ensures moments { moments_of (Self.state self.new).beside
             ≡ moments_of (Self.state self.old).beside };
 
-    /// Ends the connection. It never fails.
+    /// Ends the connection, if there is one. It never fails.
     fn hang_up(&mut self)
-        requires { talks (Self.state self.old).beside ≡ true }
-        ensures hung { Adds (Self.state self.old) (Self.state self.new) hung_up }
+        ensures hung { talks (Self.state self.old).beside ≡ true
+            → Adds (Self.state self.old) (Self.state self.new) hung_up }
+        ensures idle { talks (Self.state self.old).beside ≡ false
+            → (Self.state self.new).beside ≡ (Self.state self.old).beside }
         ensures quiet { talks (Self.state self.new).beside ≡ false }
         ensures faults { talk_faults (Self.state self.new).beside
             ≡ talk_faults (Self.state self.old).beside }

@@ -40,7 +40,7 @@ returns-in-Ok-clause-served g c = λ s stands.
       calls = calls_hung a.beside b.beside d.beside e.beside (told_count a.beside) (told_count d.beside)
           b.moment e.moment
           (Ends rules (at per false []) s false q served.to n) (Comes rules per true s served.to)
-          came.0 c.in-Ok-true.ensures.moments c.hang_up.ensures.hung c.hang_up.ensures.moments
+          came.0 c.in-Ok-true.ensures.moments (c.hang_up.ensures.hung (c.pulls-served.ensures.passes.talking ∙ came.1)) c.hang_up.ensures.moments
           (λ (es : Log) (ms : List ℕ) p. (
             record {
               moment = b.moment;
@@ -75,7 +75,7 @@ returns-in-Ok-true-clause-served g c = λ s stands.
     calls_hung a.beside b.beside d.beside e.beside (told_count a.beside) (told_count d.beside)
     b.moment e.moment
     (GoesSome rules number (at per false []) s false) (ComesSome rules per number s)
-    came.0 c.in-Ok-true.ensures.moments c.hang_up.ensures.hung c.hang_up.ensures.moments
+    came.0 c.in-Ok-true.ensures.moments (c.hang_up.ensures.hung (c.pulls-served.ensures.passes.talking ∙ came.1)) c.hang_up.ensures.moments
     (λ (es : Log) (ms : List ℕ) p. inr (
       record {
         moment = b.moment;

@@ -1,0 +1,7 @@
+mod conditions;
+mod given;
+mod keys;
+mod limits;
+mod projections;
+mod ranges;
+mod unused;

@@ -11,7 +11,7 @@ ghost use Rattle.alt_request.specs.Carried.{Does, IsPlain, Says};
 ghost use Rattle.alt_schema.specs.declared.schema.TableSchema.{TableSchema};
 ghost use Rattle.alt_tables.specs.Stands.{Stands, catalog_of};
 
-use crate::items::item_reply;
+use crate::items::{item_reply, shown};
 use alt_codec::json_of_item;
 use alt_condeval::holds;
 use alt_disk::Disk;
@@ -90,16 +90,11 @@ fn write_where<D: Disk>(
     let name = table_name(body);
     let found = tables.find(disk, name, place)?;
     if !meets(alloc, condition, &found.item) {
-        return failed(
-            alloc,
-            asked(body, "ReturnValuesOnConditionCheckFailure", &found.item),
-        );
+        let told = asked(body, "ReturnValuesOnConditionCheckFailure", &found.item);
+        return failed(alloc, told);
     }
-    let reply = item_reply(
-        alloc,
-        "Attributes",
-        asked(body, "ReturnValues", &found.item),
-    )?;
+    let old = asked(body, "ReturnValues", &found.item);
+    let reply = item_reply(alloc, "Attributes", old)?;
     tables.write(disk, name, found, new, moment)?;
     Ok(reply)
 }
@@ -122,12 +117,10 @@ fn asked<'i>(body: &Map<String, Value>, name: &str, old: &'i Option<Item>) -> Op
     ensures asked { option_map (λ i. i.now) result
         ≡ machine.asked name.now (members_view body.now.entries) old.now }
 {
-    if !asks(body, name, "ALL_OLD") {
-        return None;
-    }
-    match old {
-        Some(item) => Some(item),
-        None => None,
+    if asks(body, name, "ALL_OLD") {
+        shown(old)
+    } else {
+        None
     }
 }
 

@@ -6,7 +6,7 @@ ghost use Rattle.alt_machine.specs.Ops.GetItem.{get_item};
 ghost use Rattle.alt_request.specs.Carried.{Carries};
 ghost use Rattle.alt_tables.specs.Stands.{Stands};
 
-use crate::items::item_reply;
+use crate::items::{item_reply, shown};
 use alt_disk::Disk;
 use alt_machine::Sought;
 use alt_request::{Rules, Stop, Target, Texts, item_target, table_name};
@@ -53,5 +53,5 @@ pub fn get_item<D: Disk>(
     drop(said);
     let name = table_name(body);
     let found = tables.find(disk, name, place)?;
-    item_reply(alloc, "Item", found.item.as_ref())
+    item_reply(alloc, "Item", shown(&found.item))
 }

@@ -32,3 +32,13 @@ pub(crate) fn item_reply(alloc: Global, name: &str, item: Option<&Item>) -> Resu
         Err(_) => Err(Stop::Fault(TableFault::NoMemory)),
     }
 }
+
+/// An item, if there is one, borrowed.
+pub(crate) fn shown(item: &Option<Item>) -> Option<&Item>
+    ensures { option_map (λ i. i.now) result ≡ item.now }
+{
+    match item {
+        Some(item) => Some(item),
+        None => None,
+    }
+}

@@ -1,6 +1,6 @@
 -- The key isn't reached, or what stands at its place is answered.
 use Rattle.std.proofs.Common.{sym, ap, subst, ◌∙◌, is_some}
-use Rattle.std.specs.Prelude.{codes}
+use Rattle.std.specs.Prelude.{codes, option_map}
 use Rattle.std.specs.FinMap as map
 use Rattle.serde_json.specs.Data.{Members}
 use Rattle.serde_json.specs.View.{members_view}
@@ -51,7 +51,7 @@ returns-clause-carried g c =
     let ms : Members = members_view c.args.body.now.entries in
     said_or_not (λ s. get_item s ms) (Stands (g.D.Disk.state c.args.disk.now) c.args.tables.now)
     (Stands (g.D.Disk.state c.find.new.disk) c.find.new.self)
-    c.item_reply.result (item_answer (codes "Item") c.in_ok-found.found.item) c.item_reply.ensures.reply
+    c.item_reply.result (item_answer (codes "Item") (option_map (λ i. i.now) c.shown.result)) c.item_reply.ensures.reply
     c.item_reply.ensures.plain c.item_reply.ensures.cause (λ s stands.
     let at = item_reached (g.D.Disk.state c.args.disk.now) c.args.tables.now
     (body_refusals c.get_item-broken.result rules ms) ms (λ s. get_item s ms) Key no_texts (λ s. gets)
@@ -60,5 +60,5 @@ returns-clause-carried g c =
     at.3 ∙ ap (λ o. says (item_answer (codes "Item") o)) (
     ap (map.get at.0.items) (sym c.in_ok-found.ensures.place)
     ∙ sym (c.in_ok-found.ensures.item s stands at.0
-    (ap (map.get s.tables) c.table_name-name.ensures.name ∙ at.1))))
+    (ap (map.get s.tables) c.table_name-name.ensures.name ∙ at.1)) ∙ sym c.shown.ensures))
     (λ s stands. (c.in_ok-found.ensures.stays s).0 stands)

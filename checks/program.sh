@@ -122,7 +122,7 @@ row "$(bad 'key too long')" PutItem "$(item '"k":{"S":"'"$(many x 2049)"'"}')"
 row '200 {}' PutItem "$(value '{"S":"'"$(many x 409597)"'"}')"
 row "$(bad 'item too large')" PutItem "$(value '{"S":"'"$(many x 409598)"'"}')"
 row "$missing" PutItem '{"TableName":"Tob","Item":{"k":{"S":""}}}'
-row "$(bad 'not built yet')" PutItem '{"TableName":"Tob","Item":{},"ReturnValues":"NONE"}'
+row "$missing" PutItem '{"TableName":"Tob","Item":{},"ReturnValues":"NONE"}'
 row "$(bad 'not built yet')" GetItem '{"TableName":"Tob","Key":{},"ProjectionExpression":"k"}'
 row "$(bad 'members do not go together')" GetItem '{"TableName":"Tob","Key":{},"AttributesToGet":["k"]}'
 

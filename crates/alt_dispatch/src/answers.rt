@@ -17,7 +17,7 @@ ghost use Rattle.alt_tables.specs.Stands.{Stands};
 use crate::bodies;
 use alt_disk::Disk;
 use alt_machine::Operation;
-use alt_ops_item::{get_item, put_item};
+use alt_ops_item::{delete_item, get_item, put_item};
 use alt_ops_table::{create_table, delete_table, describe_table, list_tables};
 use alt_request::Stop;
 use alt_shape::{Refusal, Reply, refuse};
@@ -26,13 +26,14 @@ use serde_json::{Map, Value};
 use std::alloc::Global;
 
 /// The operations that are built, by name.
-static OPERATIONS: [(&str, Operation); 6] = [
+static OPERATIONS: [(&str, Operation); 7] = [
     ("CreateTable", Operation::CreateTable),
     ("DescribeTable", Operation::DescribeTable),
     ("ListTables", Operation::ListTables),
     ("DeleteTable", Operation::DeleteTable),
     ("PutItem", Operation::PutItem),
     ("GetItem", Operation::GetItem),
+    ("DeleteItem", Operation::DeleteItem),
 ];
 
 /// The built operation of that name, `None` exactly where there is none.
@@ -138,5 +139,6 @@ fn carry_out<D: Disk>(
         Operation::DeleteTable => delete_table(alloc, tables, disk, body, moment),
         Operation::PutItem => put_item(alloc, tables, disk, body, moment),
         Operation::GetItem => get_item(alloc, tables, disk, body, moment),
+        Operation::DeleteItem => delete_item(alloc, tables, disk, body, moment),
     }
 }

@@ -10,6 +10,7 @@ use Rattle.alt_request.specs.declared.stop.Stop.TheVariants.{Refused, Fault}
 use Rattle.alt_shape.specs.Refusals.{Answer, answer_of, refused, IsKnown}
 use Rattle.alt_shape.specs.declared.refusal.Reply.{Reply}
 use Rattle.alt_tables.specs.Faults.{BreakOff}
+use Rattle.alt_tables.specs.declared.faults.TableFault.TheVariants.{NoMemory}
 
 -- Below, `old` and `now` say for which states the tables stand before and after a call.
 
@@ -31,6 +32,12 @@ abbrev pub IsPlain : Result Reply Stop → Type 0
 IsPlain (Ok reply) = has_float (view reply.body) ≡ false
 IsPlain (Err (Refused r)) = IsKnown r
 IsPlain (Err (Fault fault)) = Unit {0}
+
+-- A reply or a refusal is this answer, and no float stands in it; or memory was wanting for it.
+abbrev pub Says : Answer → Result Reply Stop → Type 0
+Says answer (Ok reply) = (answer_of reply ≡ answer) × (has_float (view reply.body) ≡ false)
+Says answer (Err (Refused r)) = (refused r ≡ answer) × IsKnown r
+Says answer (Err (Fault fault)) = fault ≡ NoMemory
 
 -- A call carries a request out, which has this outcome in each state for which the tables stood.
 pub record Carries (outcome : State → Outcome) (old now : State → Type 0)

@@ -5,3 +5,8 @@ pub mod Listed
 pub mod Standing
 pub mod Catalog
 pub mod Making
+pub mod ChangeLaws
+pub mod ItemRowLaws
+pub mod OneState
+pub mod WriteLaws
+pub mod CatalogLaws

@@ -4,5 +4,6 @@ pub mod Found
 pub mod Images
 pub mod ItemRows
 pub mod Order
+pub mod Recovery
 pub mod Stands
 pub mod StateRows

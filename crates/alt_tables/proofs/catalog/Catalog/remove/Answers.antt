@@ -2,7 +2,7 @@
 use Rattle.std.proofs.Common.{sym, ap, ◌∙◌}
 use Rattle.std.specs.FinMap as map
 use Rattle.alt_tables.proofs.Listed.{removed, remove-missed}
-use Rattle.alt_tables.proofs.list.TableList.remove.Goals as goal
+use Rattle.alt_tables.proofs.catalog.Catalog.remove.Goals as goal
 
 pub invariant_of-self : goal.invariant_of-self
 invariant_of-self c =

@@ -2,11 +2,10 @@
 use Rattle.std.proofs.Common.{◌≡◌, sym, ap, ◌∙◌, length, arith}
 use Rattle.std.proofs.lemmas.List.{length-map}
 use Rattle.std.specs.FinMap as map
-use Rattle.alt_tables.specs.Stands.{table_of}
-use Rattle.alt_tables.proofs.Listed.{pairs, name_of}
+use Rattle.alt_tables.proofs.Listed.{itself, pairs, name_of}
 use Rattle.alt_tables.proofs.Named.{entry}
 use Rattle.alt_tables.proofs.Sorted.{len-map}
-use Rattle.alt_tables.proofs.list.TableList.len.Goals as goal
+use Rattle.alt_tables.proofs.catalog.Catalog.len.Goals as goal
 
 pub returns : goal.returns
 returns c =
@@ -14,6 +13,6 @@ returns c =
     record {
       count = counted
           ∙ sym (len-map (pairs c.self.inside.entries.items) c.self.invariant
-          ∙ length-map c.self.inside.entries.items (entry name_of table_of))
+          ∙ length-map c.self.inside.entries.items (entry name_of itself))
           ∙ ap map.len c.self.view_is;
     }

@@ -3,7 +3,7 @@ use Rattle.std.proofs.Common.{sym, ap, ◌∙◌, slice_get}
 use Rattle.alt_machine.specs.Ops.ListTables.{names_after}
 use Rattle.alt_tables.specs.Order.{first_after}
 use Rattle.alt_tables.proofs.Listed.{table_at, name_at, after-found, after-missed, name-found, name-missed}
-use Rattle.alt_tables.proofs.list.TableList.after.Goals as goal
+use Rattle.alt_tables.proofs.catalog.Catalog.after.Goals as goal
 
 pub returns-in-Ok : goal.returns-in-Ok
 returns-in-Ok c = record {

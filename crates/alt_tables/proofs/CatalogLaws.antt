@@ -208,11 +208,14 @@ creation_turns s d after counted valid held absent made new is_held number famil
           (omega arith));
       valid = with_table_valid s d valid made new number family few enough;
       held = record {
-        items = λ other q u item at here. elim (at_insert s.tables d.name other u (new_table d) at) [
-          | inl made ↦ absurd (not_there q item
-              (ap (λ (x : Table). map.get x.items q) made.1 ∙ here))
-          | inr old ↦ held.items other q u item old here
-        ];
+        items = record {
+          items = λ other q u item at here.
+              elim (at_insert s.tables d.name other u (new_table d) at) [
+                | inl made ↦ absurd (not_there q item
+                    (ap (λ (x : Table). map.get x.items q) made.1 ∙ here))
+                | inr old ↦ held.items.items other q u item old here
+              ];
+        };
         descriptions = λ other u at. elim (at_insert s.tables d.name other u (new_table d) at) [
           | inl made ↦ subst (λ (x : Table). IsHeld x.description) made.1 is_held
           | inr old ↦ held.descriptions other u old
@@ -230,8 +233,10 @@ drop_turns s name t valid held room at = record {
       (shows_write l (batch_write l (drop_changes t.description)) past (omega arith));
   valid = without_table_valid s name valid room;
   held = record {
-    items = λ other q u item at here. held.items other q u item
-        (at_remove s.tables name other u at) here;
+    items = record {
+      items = λ other q u item at here. held.items.items other q u item
+          (at_remove s.tables name other u at) here;
+    };
     descriptions = λ other u at. held.descriptions other u (at_remove s.tables name other u at);
   };
 }

@@ -77,7 +77,7 @@ items-one t u held_t held_u same = map.same_map key_total key_exact _ _ (λ key.
 pub has_whole : (s : State) → IsValid s → IsHeldWhole s → (name : List ℕ) (t : Table)
     → map.get s.tables name ≡ Some t → HasWhole t
 has_whole s valid held name t at place item here =
-    (held.items name place t item at here, ((valid.tables name t at).items place item here).full)
+    (held.items.items name place t item at here, ((valid.tables name t at).items place item here).full)
 
 module _ (l : Layout) (s r : State) (shows_s : Shows l s) (shows_r : Shows l r)
     (valid_s : IsValid s) (valid_r : IsValid r) (held_s : IsHeldWhole s) (held_r : IsHeldWhole r)

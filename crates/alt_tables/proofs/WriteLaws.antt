@@ -20,6 +20,7 @@ use Rattle.alt_machine.proofs.Families.{of_contained}
 use Rattle.alt_machine.proofs.Looks.{at_insert}
 use Rattle.alt_machine.proofs.States.{after_item_valid, with_item_stored}
 use Rattle.alt_schema.specs.Held.{IsHeld}
+use Rattle.alt_schema.specs.declared.schema.TableSchema.{TableSchema}
 use Rattle.alt_tables.specs.ItemRows.{item_columns}
 use Rattle.alt_tables.specs.StateRows.{IsHeldWhole, Shows, Turns, catalog_family, catalog_rows, item_rows, table_row, next_row, item_changes}
 use Rattle.alt_tables.proofs.ChangeLaws.{tied, itself, one_change, other_family}
@@ -138,8 +139,10 @@ held_after : (s : State) (moment : ℕ) (name : List ℕ) (t : Table) (place : L
     (new : Option (List Pair)) → IsHeldWhole s → map.get s.tables name ≡ Some t
     → IfSome new IsItemOfValues → IsHeldWhole (after_item s moment name t place new)
 held_after s moment name t place new held at given = record {
-  items = λ other q u item at_other here. items other u q item here
-      (at_insert s.tables name other u (with_row s.next_number moment t place new) at_other);
+  items = record {
+    items = λ other q u item at_other here. items other u q item here
+        (at_insert s.tables name other u (with_row s.next_number moment t place new) at_other);
+  };
   descriptions = λ other u at_other. descriptions other u
       (at_insert s.tables name other u (with_row s.next_number moment t place new) at_other);
 }
@@ -149,7 +152,7 @@ held_after s moment name t place new held at given = record {
         → IsItemOfValues item
     new_or_old None q item true given e = let no : None ≡ Some item = e in cc no
     new_or_old (Some x) q item true given e = subst IsItemOfValues (some x item e) given
-    new_or_old to q item false given e = held.items name q t item at e
+    new_or_old to q item false given e = held.items.items name q t item at e
 
     items : (other : List ℕ) (u : Table) (q : List ℕ) (item : List Pair)
         → map.get u.items q ≡ Some item
@@ -158,7 +161,7 @@ held_after s moment name t place new held at given = record {
     items other u q item here (inl changed) = new_or_old new q item (eq_by_cmp key_cmp q place)
         given (sym (get-with_item t.items place new q)
         ∙ ap (λ (x : Table). map.get x.items q) changed.1 ∙ here)
-    items other u q item here (inr old) = held.items other q u item old here
+    items other u q item here (inr old) = held.items.items other q u item old here
 
     descriptions : (other : List ℕ) (u : Table)
         → ((other ≡ name) × (with_row s.next_number moment t place new ≡ u))

@@ -6,6 +6,8 @@ use Rattle.alt_cells.specs.Keys.{key_cmp}
 use Rattle.alt_engine.specs.Image.{IsLayout}
 use Rattle.alt_engine.specs.Layout.{Layout, shown}
 use Rattle.alt_engine.specs.Recovery.{IsBadAt}
+use Rattle.alt_engine.specs.declared.recover.RecoverFault.{RecoverFault}
+use Rattle.alt_engine.specs.declared.recover.RecoverFault.TheVariants as engine
 use Rattle.alt_machine.specs.State.{State, Table}
 use Rattle.alt_machine.specs.Valid.{IsValid}
 use Rattle.alt_tables.specs.Images.{StandsFor}
@@ -58,3 +60,9 @@ HasNoState files (Damaged file at) = (s : State) → StandsFor files s → ⊥
 HasNoState files (BadRow family key) = (s : State) → StandsFor files s → ⊥
 HasNoState files Failed = Unit {0}
 HasNoState files NoMemory = Unit {0}
+
+-- the fault of the recovery of an engine, passed on
+abbrev pub unopened : RecoverFault → OpenFault
+unopened (engine.Damaged file at) = Damaged file at
+unopened engine.Failed = Failed
+unopened engine.NoMemory = NoMemory

@@ -1,7 +1,6 @@
 //! The rows of the catalog: descriptions at their tables' names, and the next family at the empty key (docs/formats/table-rows.md).
 
-ghost use Rattle.std.specs.Prelude.{◌≡◌, ◌<◌, ◌^◌, ℕ, None, Some, Err, IfOk, IfSome, IfNone, option_map};
-ghost use Rattle.alt_cells.specs.Changes.{Columns};
+ghost use Rattle.std.specs.Prelude.{◌≡◌, ◌≤◌, ℕ, List, Err, IfOk, IfSome, IfNone, option_map};
 ghost use Rattle.alt_schema.specs.Described.{IsDescription};
 ghost use Rattle.alt_schema.specs.Held.{IsHeld};
 ghost use Rattle.alt_schema.specs.declared.schema.TableSchema.{TableSchema};
@@ -10,7 +9,8 @@ ghost use Rattle.alt_tables.specs.StateRows.{one_column, next_row, table_row};
 use crate::item_row::Unread;
 use alt_base::NoMemory;
 use alt_cells::ShownRow;
-use alt_fields::{Bytes, BytesFault, put_u32};
+use alt_fields::{Bytes, BytesFault, put_u32, take_u32};
+use alt_machine::FAMILIES_END;
 use alt_schema::{TableSchema, held, schema_bytes, schema_of_bytes};
 use std::alloc::Global;
 

@@ -5,9 +5,12 @@ mod catalog;
 mod catalog_row;
 mod faults;
 mod item_row;
+mod made;
+mod opened;
 mod place;
 mod recover;
 mod rows;
+mod scan;
 mod tables;
 
 pub use faults::{OpenFault, TableFault};

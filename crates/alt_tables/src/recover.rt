@@ -1,18 +1,26 @@
 //! Opening a store: its tables are known again, and each row is tested.
 
-ghost use Rattle.std.specs.Prelude.{◌≡◌, ℕ, IfOk, IfErr, IsErrOf, IsTrue, ⊤};
+ghost use Rattle.std.specs.Prelude.{◌≡◌, ℕ, IfOk, IfErr, OnOk, IsErrOf, IsTrue, ⊤};
 ghost use Rattle.alt_base.specs.Counts.{Rose};
 ghost use Rattle.alt_disk.specs.Disk.{IsTrusted, Goes};
 ghost use Rattle.alt_disk.specs.Runs.{Spans};
+ghost use Rattle.alt_engine.specs.InHand.{Reads};
+ghost use Rattle.alt_engine.specs.Layout.{Layout};
 ghost use Rattle.alt_engine.specs.Recovery.{WasLeft};
 ghost use Rattle.alt_machine.specs.State.{State};
 ghost use Rattle.alt_tables.specs.Images.{StandsFor};
-ghost use Rattle.alt_tables.specs.Recovery.{IsExplained, HasNoState};
+ghost use Rattle.alt_tables.specs.Opening.{AllItemsRead, Assembled, IsCatalog, IsRowFault};
+ghost use Rattle.alt_tables.specs.Recovery.{IsExplained, HasNoState, unopened};
+ghost use Rattle.alt_tables.specs.Scans.{Walked};
 ghost use Rattle.alt_tables.specs.Stands.{Stands};
 
+use crate::catalog::Catalog;
 use crate::faults::OpenFault;
+use crate::opened::{Opened, read_catalog};
+use crate::scan::{read_items, unread};
 use crate::tables::Tables;
 use alt_disk::Disk;
+use alt_engine::{Engine, RecoverFault};
 use std::alloc::Global;
 
 impl Tables {
@@ -41,8 +49,86 @@ impl Tables {
         ensures cause { IsErrOf result OpenFault.Failed
             → Rose (D.state disk.old).faults (D.state disk.new).faults }
     {
-        let _ = alloc;
-        let _ = disk;
-        Err(OpenFault::NoMemory)
+        let mut engine = match Engine::recover(alloc, disk) {
+            Ok(engine) => engine,
+            Err(fault) => return Err(unopened(fault)),
+        };
+        match read_rows(alloc, disk, &mut engine) {
+            Ok(Opened { catalog, family }) => Ok(Tables {
+                alloc,
+                engine,
+                catalog,
+                family,
+            }),
+            Err(fault) => Err(fault),
+        }
+    }
+}
+
+/// Reads the rows of a store, and tests them.
+fn read_rows<D: Disk>(
+    alloc: Global,
+    disk: &mut D,
+    engine: &mut Engine,
+) -> Result<Opened, OpenFault>
+    ensures read { IsTrue (D.state disk.old).tells → (l : Layout)
+        → Reads (D.state disk.old) engine.old l
+        → IfOk result (λ o. (s : State) × Assembled l o.family o.catalog s) }
+    ensures wrong { IsTrue (D.state disk.old).tells → (l : Layout)
+        → Reads (D.state disk.old) engine.old l → IfErr result (IsRowFault l) }
+    ensures walked { Walked (D.state disk.old) (D.state disk.new) engine.old engine.new }
+    ensures cause { IsErrOf result OpenFault.Failed
+        → Rose (D.state disk.old).faults (D.state disk.new).faults }
+{
+    let opened = match read_catalog(alloc, disk, engine) {
+        Ok(opened) => opened,
+        Err(fault) => return Err(fault),
+    };
+    match read_tables(alloc, disk, engine, &opened.catalog) {
+        Ok(()) => {}
+        Err(fault) => return Err(fault),
+    }
+    match engine.first_from(disk, opened.family) {
+        Ok(None) => Ok(opened),
+        Ok(Some((family, key))) => Err(OpenFault::BadRow { family, key }),
+        Err(fault) => Err(unread(fault)),
+    }
+}
+
+/// Tests the items of all tables, in the order of their families.
+fn read_tables<D: Disk>(
+    alloc: Global,
+    disk: &mut D,
+    engine: &mut Engine,
+    catalog: &Catalog,
+) -> Result<(), OpenFault>
+    ensures read { IsTrue (D.state disk.old).tells → (l : Layout)
+        → Reads (D.state disk.old) engine.old l → OnOk result (AllItemsRead l catalog.now) }
+    ensures wrong { IsTrue (D.state disk.old).tells → (l : Layout) (next : ℕ)
+        → Reads (D.state disk.old) engine.old l → IsCatalog l next catalog.now
+        → IfErr result (IsRowFault l) }
+    ensures walked { Walked (D.state disk.old) (D.state disk.new) engine.old engine.new }
+    ensures cause { IsErrOf result OpenFault.Failed
+        → Rose (D.state disk.old).faults (D.state disk.new).faults }
+{
+    let mut family = 0;
+    while let Some(schema) = catalog.above(family) {
+        match read_items(alloc, disk, engine, schema) {
+            Ok(()) => {}
+            Err(fault) => return Err(fault),
+        }
+        family = schema.family;
+    }
+    Ok(())
+}
+
+/// A fault of the recovery of an engine, passed on.
+fn unopened(fault: RecoverFault) -> OpenFault
+    ensures { result ≡ unopened fault }
+{
+    match fault {
+        RecoverFault::Damaged { file, at } => OpenFault::Damaged { file, at },
+        RecoverFault::Failed => OpenFault::Failed,
+        RecoverFault::NoMemory => OpenFault::NoMemory,
     }
 }

@@ -1,20 +1,18 @@
 //! All tables: what is known of them by their names, the numbers and families that are left, and the writes of the catalog.
 
-ghost use Rattle.std.specs.Prelude.{◌≡◌, ◌∷◌, [], ◌+◌, ◌<◌, ◌≤◌, length, true, None, Some, IfOk, OnOk, IsErrOf, IsTrue, option_map, slice_get};
+ghost use Rattle.std.specs.Prelude.{◌≡◌, ◌∷◌, [], ◌+◌, ◌<◌, ◌≤◌, length, true, None, Some, IfOk, IfErr, OnOk, IsErrOf, option_map, slice_get};
 ghost use Rattle.std.specs.FinMap as map;
 ghost use Rattle.alt_base.specs.Counts.{Rose};
-ghost use Rattle.alt_disk.specs.Disk.{Goes};
-ghost use Rattle.alt_disk.specs.Runs.{Quiet, Spans};
-ghost use Rattle.alt_engine.specs.InHand.{IsWritten, next_of};
+ghost use Rattle.alt_disk.specs.Disk.{IsTrusted, Goes};
 ghost use Rattle.alt_machine.specs.Ops.CreateTable.{with_table};
 ghost use Rattle.alt_machine.specs.Ops.DeleteTable.{without_table};
 ghost use Rattle.alt_machine.specs.Ops.ListTables.{names_after};
 ghost use Rattle.alt_machine.specs.Outcomes.{a_number, a_table};
 ghost use Rattle.alt_machine.specs.State.{State, families_of};
-ghost use Rattle.alt_machine.specs.Valid.{IsMade};
+ghost use Rattle.alt_machine.specs.Valid.{IsMade, IsValid};
 ghost use Rattle.alt_machine.specs.Wanted.{table_lack};
 ghost use Rattle.alt_schema.specs.Described.{IsNew};
-ghost use Rattle.alt_tables.specs.Faults.{Writes};
+ghost use Rattle.alt_tables.specs.Faults.{IsFindFault, Writes};
 ghost use Rattle.alt_tables.specs.Images.{Leaves};
 ghost use Rattle.alt_tables.specs.Order.{first_after};
 ghost use Rattle.alt_tables.specs.StateRows.{Turns, creation_changes, drop_changes};
@@ -175,7 +173,7 @@ impl Tables {
         ensures no_memory { IsErrOf result TableFault.NoMemory → (s : State)
             → Holds (D.state disk.old) self.old.engine s
             → Holds (D.state disk.new) self.new.engine s }
-        ensures disk { (s r : State) → Holds (D.state disk.old) self.old.engine s
+        ensures disk { (s r : State) → Holds (D.state disk.old) self.old.engine s → IsValid s
             → Turns batch.now s r
             → Leaves (D.state disk.old) (D.state disk.new) s (r ∷ []) }
         ensures goes { Goes (D.state disk.old) (D.state disk.new) }

@@ -30,7 +30,7 @@ use Rattle.alt_tables.specs.declared.tables.Tables.{Tables}
 use Rattle.alt_schema.specs.declared.schema.TableSchema.{TableSchema}
 use Rattle.alt_value.specs.Tree.{Pair}
 use Rattle.alt_tables.specs.declared.faults.TableFault.{TableFault}
-use Rattle.alt_tables.specs.declared.faults.TableFault.TheVariants.{Spent, NoMemory}
+use Rattle.alt_tables.specs.declared.faults.TableFault.TheVariants.{Spent, Damaged, BadRow, Failed, NoMemory}
 
 module _ (outcome : State → Outcome) (old now : State → Type 0) where
   -- a refusal, which leaves the state
@@ -46,6 +46,9 @@ module _ (outcome : State → Outcome) (old now : State → Type 0) where
   pub faulted : (f : TableFault) → IsReadFault f → ((s : State) → old s → now s)
       → Carries outcome old now (Err (Fault f))
   faulted (Spent n) known stays = absurd known
+  faulted (Damaged file at) known stays = absurd known
+  faulted (BadRow family key) known stays = absurd known
+  faulted Failed known stays = absurd known
   faulted NoMemory known stays = record { does = λ s stands. (0, refl, stays s stands); plain = tt }
 
   -- an answer without a write

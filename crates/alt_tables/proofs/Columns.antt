@@ -166,7 +166,7 @@ read_attribute ps is es same k e within at =
 -- ---- one attribute more is written
 
 take_snoc : (ps : List Pair) (k : ℕ) (p : Pair) → Some p ≡ slice_get ps k
-    → take (k + 1) ps ≡ take k ps ++ p ∷ []
+    → take (suc k) ps ≡ take k ps ++ p ∷ []
 take_snoc [] k p at = absurd (let no : Some p ≡ None = at in let f : ⊥ = cc in f)
 take_snoc (q ∷ ps) zero p at =
     let same : p ≡ q = (let f : p ≡ q = cc in f) in ap (λ r. r ∷ []) (sym same)
@@ -178,7 +178,8 @@ pub one_attribute : (ps : List Pair) (k : ℕ) (p : Pair) (es : List (List ℕ �
     → es ++ column_of p ∷ [] ≡ ([], []) ∷ map column_of (take (k + 1) ps)
 one_attribute ps k p es so_far at = ap (λ x. x ++ column_of p ∷ []) so_far
     ∙ ap (λ x. ([], []) ∷ x) (sym (map-snoc (take k ps) p)
-    ∙ ap (map column_of) (sym (take_snoc ps k p at)))
+    ∙ ap (map column_of) (sym (take_snoc ps k p at))
+    ∙ ap (λ n. map column_of (take n ps)) (sym (add-one k)))
 
 -- the first attributes of an item have columns in order
 pub columns_first : (ps : List Pair) (k : ℕ) → IsItem ps
@@ -197,3 +198,31 @@ pub bad_is : {A B : Type 0} (r : Result A B) (e b : B) → IsErr r × IsErrAnd r
     → r ≡ Err b → e ≡ b
 bad_is (Ok x) e b passed is = absurd (let f : ⊥ = cc in f)
 bad_is {A} {B} (Err x) e b passed is = sym passed.1 ∙ (let same : x ≡ b = cc in same)
+
+-- ---- the row that is read
+
+tail_of : {A : Type 0} (x y : A) (xs ys : List A) → x ∷ xs ≡ y ∷ ys → xs ≡ ys
+tail_of x y xs ys e = ap (λ zs. drop 1 zs) e
+
+-- the columns behind the marker of a row that is an item's
+pub behind_is : (row : Columns) (es rest : List (List ℕ × List ℕ)) (ps : List Pair) → IsItem ps
+    → es ≡ entries row → es ≡ ([], []) ∷ rest → row ≡ item_columns ps → rest ≡ map column_of ps
+behind_is row es rest ps is at marked same = tail_of _ _ rest (map column_of ps)
+    (sym marked ∙ at ∙ ap entries same ∙ entries-item_columns ps is)
+
+-- there is a marker
+pub marked_is : (row : Columns) (es : List (List ℕ × List ℕ)) (ps : List Pair) → IsItem ps
+    → es ≡ entries row → row ≡ item_columns ps → es ≡ ([], []) ∷ map column_of ps
+marked_is row es ps is at same = at ∙ ap entries same ∙ entries-item_columns ps is
+
+-- the columns behind it rise
+pub behind_rises : (row : Columns) (es rest : List (List ℕ × List ℕ)) → es ≡ entries row
+    → es ≡ ([], []) ∷ rest → T (is_sorted key_cmp (([], []) ∷ rest))
+behind_rises row es rest at marked = subst (λ x. T (is_sorted key_cmp x)) (sym at ∙ marked)
+    (entries_sorted row)
+
+-- what was read of them is the row's item
+pub read_is : (row : Columns) (es rest : List (List ℕ × List ℕ)) (ps : List Pair) → IsReadItem ps
+    → es ≡ entries row → es ≡ ([], []) ∷ rest → rest ≡ map column_of ps → row ≡ item_columns ps
+read_is row es rest ps is at marked same = row_is row ps is.whole.0.names
+    (sym at ∙ marked ∙ ap (λ x. ([], []) ∷ x) same)

@@ -1,15 +1,19 @@
 -- What the rows beneath the tables show, in reads and in whatever a stop leaves, and what a write makes of it.
-use Rattle.std.proofs.Common.{◌≡◌, ⊎_elim, subst, ℕ, List, [], ◌∷◌, Option}
+use Rattle.std.proofs.Common.{◌≡◌, ⊎_elim, refl, sym, subst, ℕ, List, [], ◌∷◌, Option, Result, Err, ◌∙◌}
 use Rattle.alt_cells.specs.declared.batch.RowChange.{RowChange}
 use Rattle.alt_disk.specs.Disk.{DiskState, IsImage, Goes}
 use Rattle.alt_disk.specs.Runs.{Spans, Quiet}
 use Rattle.alt_disk.proofs.Runs.{spans_on, spans_weaker, quiet_spans, quiet_then, trusted_on}
 use Rattle.alt_engine.specs.Image.{IsLayout}
-use Rattle.alt_engine.specs.InHand.{Stands as EngineStands, batch_write, BeforeOrWith, IsWritten}
+use Rattle.alt_engine.specs.InHand.{SameEngine, Stands as EngineStands, batch_write, BeforeOrWith, IsWritten}
 use Rattle.alt_engine.specs.Layout.{Layout, with_write}
 use Rattle.alt_engine.specs.declared.engine.Engine.{Engine}
+use Rattle.alt_engine.specs.declared.engine.EngineFault.{EngineFault}
+use Rattle.alt_engine.specs.declared.engine.EngineFault.TheVariants as engine
 use Rattle.alt_machine.specs.State.{State}
 use Rattle.alt_machine.specs.Valid.{IsValid}
+use Rattle.alt_tables.specs.Faults.{fault_of}
+use Rattle.alt_tables.specs.declared.faults.TableFault.TheVariants.{NoMemory}
 use Rattle.alt_tables.specs.Images.{StandsFor, AfterSome, Leaves}
 use Rattle.alt_tables.specs.StateRows.{Shows, Turns}
 use Rattle.alt_tables.specs.Stands.{Holds}
@@ -111,3 +115,24 @@ leaves_after old mid new engine s [] holds valid quiet then = quiet_then old mid
 leaves_after old mid new engine s (r ∷ rs) holds valid quiet then =
     spans_on old mid new IsWritten (AfterSome s (r ∷ rs))
     (leaves_quiet old mid engine s (r ∷ rs) holds valid quiet) then
+
+-- a call that did nothing
+pub holds_same : (old new : DiskState) (e f : Engine) (s : State) → new ≡ old → SameEngine e f
+    → Holds old e s → Holds new f s
+holds_same old new e f s same engine holds = subst (λ d. Holds d f s) (sym same) (record {
+  trusted = holds.trusted;
+  layout = holds.layout;
+  is = engine.stands old holds.layout holds.is;
+  shows = holds.shows;
+  held = holds.held;
+})
+
+-- the engine wanted memory where that is what is told
+pub memory_wanted : (f : EngineFault) → fault_of f ≡ NoMemory → f ≡ engine.NoMemory
+memory_wanted (engine.Spent n) e = absurd (let g : ⊥ = cc in g)
+memory_wanted engine.Failed e = absurd (let g : ⊥ = cc in g)
+memory_wanted engine.NoMemory e = refl
+
+-- a result has one fault
+pub same_Err : {A B : Type 0} (r : Result A B) (x y : B) → r ≡ Err x → r ≡ Err y → x ≡ y
+same_Err r x y e f = let both : Err x ≡ Err y = sym e ∙ f in cc

@@ -16,6 +16,8 @@ pub mod Holding
 pub mod MadeLaws
 pub mod ChosenLaws
 pub mod NextRow
+pub mod Scanning
+pub mod CatalogScan
 pub mod Cuts
 pub mod Assembled
 pub mod FirstWrong

@@ -1,6 +1,8 @@
 -- The writes of the tables: what they leave is what the machine's writes leave.
 use Rattle.std.proofs.Common.{◌≡◌, refl, sym, ap, subst, ◌∙◌, ℕ, ◌+◌, ◌<◌, ◌≤◌, true, false, length, List, [], ◌∷◌, Option, Some, None, Ok, Err, Result, OnOk, IfErr, IfSome, option_map, arith}
 use Rattle.std.specs.Prelude.{if◌then◌else◌, IsErrOf}
+use Rattle.std.specs.Result.{IsErrAnd}
+use Rattle.std.proofs.lemmas.Result.{err_from_is_err_and}
 use Rattle.std.specs.FinMap as map
 use Rattle.alt_cells.specs.declared.batch.RowChange.{RowChange}
 use Rattle.alt_disk.specs.Disk.{DiskState}
@@ -45,6 +47,15 @@ of_some P (Some y) x h e = subst P (let f : y ≡ x = cc in f) h
 pub want : (now : State → Type 0) (wants : Wants) (s : State) (atoms : List State) → now s
     → BreakOff now wants s atoms NoMemory
 want now wants s atoms stays = (0, refl, stays)
+
+-- where a result tells it
+pub want_told : {X : Type 0} (now : State → Type 0) (wants : Wants) (s : State)
+    (atoms : List State) (r : Result X TableFault) → IsErrAnd r (λ f. f ≡ NoMemory) → now s
+    → Writes now wants s atoms r
+want_told now wants s atoms r told stays =
+    let (f, is, none) = err_from_is_err_and r told in
+    subst (λ q. Writes now wants s atoms q) (sym (is ∙ ap (λ e. Err e) none))
+    (want now wants s atoms stays)
 
 -- a number or a family that the one write can't have
 pub spent : (now : State → Type 0) (wants : Wants) (s r : State) (n : ℕ) → lack_of wants s ≡ Some n

@@ -1,7 +1,8 @@
 -- The first row that a family shows from a key on, and the keys behind it.
-use Rattle.std.proofs.Common.{◌≡◌, ◌⊎◌, inl, inr, refl, sym, ap, subst, ◌∙◌, ℕ, zero, suc, Bool, true, false, cond, not, T, List, [], ◌∷◌, ◌++◌, Option, Some, None, take, Less, Equal, Greater, slice_get, ⊎_elim, arith}
+use Rattle.std.proofs.Common.{◌≡◌, ◌⊎◌, inl, inr, refl, sym, ap, subst, ◌∙◌, ℕ, zero, suc, Bool, true, false, cond, not, T, List, [], ◌∷◌, ◌++◌, Option, Some, None, take, Less, Equal, Greater, slice_get, length, ◌<◌, ⊎_elim, arith, length-append}
 use Rattle.std.proofs.lemmas.Bool.{false≢true}
-use Rattle.std.specs.Prelude.{◌&&◌}
+use Rattle.std.specs.Prelude.{◌&&◌, ◌↔◌, IsSome}
+use Rattle.std.specs.Option.{option_to_list}
 use Rattle.std.specs.BTreeMap.Range.{entries_between, range_contains, is_from_start}
 use Rattle.std.specs.List.{filter}
 use Rattle.std.specs.declared.cmp.Ordering.{Ordering}
@@ -30,19 +31,19 @@ module _ {X : Type 0} (p : List ℕ → Bool) where
   none_first : (es : List (List ℕ × X)) → slice_get (passing es) 0 ≡ None
       → (k : List ℕ) → p k ≡ true → find key_cmp k es ≡ None
   none_first [] e k passes = refl
-  none_first (x ∷ xs) e k passes = by (p x.0) refl e
+  none_first (x ∷ xs) e k passes = by (λ f. none_first xs f k passes) (p x.0) refl e
     where
-      by : (b : Bool) → p x.0 ≡ b
+      by : (slice_get (passing xs) 0 ≡ None → find key_cmp k xs ≡ None) → (b : Bool) → p x.0 ≡ b
           → slice_get (cond b (x ∷ passing xs) (passing xs)) 0 ≡ None
           → find key_cmp k (x ∷ xs) ≡ None
-      by true is e = absurd (let no : Some x ≡ None = e in cc no)
-      by false is e = key (eq_by_cmp key_cmp k x.0) refl
+      by rest true is e = absurd (let no : Some x ≡ None = e in cc no)
+      by rest false is e = key (eq_by_cmp key_cmp k x.0) refl
         where
           key : (b : Bool) → eq_by_cmp key_cmp k x.0 ≡ b
               → cond b (Some x.1) (find key_cmp k xs) ≡ None
           key true same = absurd (false≢true
               (sym is ∙ ap p (sym (tied k x.0 same)) ∙ passes))
-          key false other = none_first xs e k passes
+          key false other = rest e
 
   -- what comes of one
   record IsFirst (es : List (List ℕ × X)) (x : List ℕ × X) : Type 0 where
@@ -53,22 +54,23 @@ module _ {X : Type 0} (p : List ℕ → Bool) where
   some_first : (es : List (List ℕ × X)) (x : List ℕ × X) → T (is_sorted key_cmp es)
       → slice_get (passing es) 0 ≡ Some x → IsFirst es x
   some_first [] x sorted e = absurd (let no : None ≡ Some x = e in cc no)
-  some_first (y ∷ ys) x sorted e = by (p y.0) refl e
+  some_first (y ∷ ys) x sorted e =
+      by (λ f. some_first ys x (second (below_all key_cmp y.0 ys) _ sorted) f) (p y.0) refl e
     where
       below : T (below_all key_cmp y.0 ys)
       below = first _ (is_sorted key_cmp ys) sorted
 
-      by : (b : Bool) → p y.0 ≡ b → slice_get (cond b (y ∷ passing ys) (passing ys)) 0 ≡ Some x
-          → IsFirst (y ∷ ys) x
-      by true is e = subst (IsFirst (y ∷ ys)) (same_Some y x e) (record {
+      by : (slice_get (passing ys) 0 ≡ Some x → IsFirst ys x) → (b : Bool) → p y.0 ≡ b
+          → slice_get (cond b (y ∷ passing ys) (passing ys)) 0 ≡ Some x → IsFirst (y ∷ ys) x
+      by behind true is e = subst (IsFirst (y ∷ ys)) (same_Some y x e) (record {
         there = ap (λ b. cond b (Some y.1) (find key_cmp y.0 ys)) (itself y.0);
         passes = is;
         before = λ k passes low. ap (λ b. cond b (Some y.1) (find key_cmp k ys)) (ap is_eq low)
             ∙ find_below key_cmp key_total k ys
             (below_less key_cmp key_total k y.0 ys low below);
       })
-      by false is e =
-          let rest : IsFirst ys x = some_first ys x (second (below_all key_cmp y.0 ys) _ sorted) e in
+      by behind false is e =
+          let rest : IsFirst ys x = behind e in
           record {
             there = other x.0 rest.passes ∙ rest.there;
             passes = rest.passes;
@@ -107,7 +109,7 @@ from_passes from k passes low = false≢true (sym (ap (λ r. is_le r && true)
 -- The first of the rows from a key on is the next one.
 pub next_row_is : (l : Layout) (family : ℕ) (from : List ℕ) (o : Option (List ℕ × Columns))
     → o ≡ slice_get (rows_between l family from None true) 0 → IsNextRow l family from o
-next_row_is l family from None e k above = sym (finds_shown l family k)
+next_row_is l family from None e = λ k above. sym (finds_shown l family k)
     ∙ get-entries (shown_rows l family) k
     ∙ none_first (from_on from) (entries (shown_rows l family)) (sym e) k
     (passes_from from k above)
@@ -183,3 +185,17 @@ self_append (c ∷ cs) = heads c c Equal (tied_itself nat_cmp_total c) cs (cs ++
 pub after_below : (k key : List ℕ) → IsBelow k key ⊎ (k ≡ key) → IsBelow k (key ++ 0 ∷ [])
 after_below k key (inl low) = below_append k key low
 after_below k key (inr same) = subst (λ q. IsBelow q (key ++ 0 ∷ [])) (sym same) (self_append key)
+
+-- ---- the first of a page of one
+
+pub popped : {X : Type 0} (xs old ys : List X) (o : Option X) (n : ℕ) → old ≡ take 1 xs
+    → old ≡ ys ++ option_to_list o → IsSome o ↔ (0 < n) → n ≡ length old → o ≡ slice_get xs 0
+popped [] old ys None n page items some long = refl
+popped [] old ys (Some y) n page items some long = absurd (omega (arith, ap length page,
+    ap length items, length-append ys (y ∷ [])))
+popped (x ∷ xs) old ys None n page items some long =
+    absurd (false≢true (some.1 (omega (arith, ap length page, long))))
+popped (x ∷ xs) old [] (Some y) n page items some long =
+    ap (λ zs. slice_get zs 0) (sym items ∙ page)
+popped (x ∷ xs) old (z ∷ zs) (Some y) n page items some long = absurd (omega (arith,
+    ap length page, ap length items, length-append zs (y ∷ [])))

@@ -57,3 +57,9 @@ same_bytes a b e = (bytes_eq-Decides a b).0 e
 -- and equal ones are told to be
 pub bytes_differ : (a b : List ℕ) → bytes_eq a b ≡ false → a ≡ b → ⊥
 bytes_differ a b e same = let f : false ≡ true = sym e ∙ (bytes_eq-Decides a b).1 same in cc
+
+-- rows of one column with one name have one value
+pub one_value : (name v w : List ℕ) → one_column name v ≡ one_column name w → v ≡ w
+one_value name v w same = ap (λ (e : List ℕ × List ℕ). e.1)
+    (same_entry (entries (one_column name v)) (one_column name v) name w (name, v) refl
+    (entries-one_column name v) same)

@@ -93,14 +93,14 @@ fn value_of<'r>(row: &'r ShownRow, name: &[u8]) -> Option<&'r [u8]>
     ensures value { IfSome result (λ value. row.now ≡ one_column name.now value.now) }
     ensures none { IfNone result ((value : List ℕ) → row.now ≡ one_column name.now value → ⊥) }
 {
-    match row.as_slice() {
-        [column] => {
-            if column.0.as_slice() == name {
-                Some(column.1.as_slice())
-            } else {
-                None
-            }
-        }
-        _ => None,
+    let columns = row.as_slice();
+    if columns.len() != 1 {
+        return None;
+    }
+    let column = &columns[0];
+    if column.0.as_slice() == name {
+        Some(column.1.as_slice())
+    } else {
+        None
     }
 }

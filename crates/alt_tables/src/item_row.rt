@@ -1,6 +1,6 @@
 //! The rows of items: a marker, and a column for each attribute (docs/formats/table-rows.md).
 
-ghost use Rattle.std.specs.Prelude.{◌≡◌, ◌≤◌, ◌++◌, ◌∷◌, [], List, Err, IfOk, OnOk, T, map as each};
+ghost use Rattle.std.specs.Prelude.{◌≡◌, ◌↔◌, ◌++◌, ◌∷◌, [], ℕ, List, Err, IfOk, IfSome, IfNone, IsTrue, OnOk, T, map as each};
 ghost use Rattle.std.specs.FinMap.{entries};
 ghost use Rattle.std.specs.FinMap.Entries.{is_sorted};
 ghost use Rattle.alt_cells.specs.Keys.{key_cmp};
@@ -84,13 +84,28 @@ pub(crate) fn item_of_row(alloc: Global, row: &ShownRow) -> Result<Item, Unread>
     ensures none { result ≡ Err Unread.Bad → (item : List Pair) → IsReadItem item
         → row.now ≡ item_columns item → ⊥ }
 {
-    let [marker, columns @ ..] = row.as_slice() else {
+    let Some(columns) = behind_marker(row.as_slice()) else {
         return Err(Unread::Bad);
     };
-    if !marker.0.as_slice().is_empty() || !marker.1.as_slice().is_empty() {
-        return Err(Unread::Bad);
-    }
     item_of_columns(alloc, columns)
+}
+
+/// The columns behind the marker, None where the marker isn't there.
+fn behind_marker(columns: &[(Bytes, Bytes)]) -> Option<&[(Bytes, Bytes)]>
+    ensures behind { IfSome result (λ rest. columns.now ≡ ([], []) ∷ rest.now) }
+    ensures none { IfNone result ((rest : List (List ℕ × List ℕ))
+        → columns.now ≡ ([], []) ∷ rest → ⊥) }
+{
+    let [marker, rest @ ..] = columns else {
+        return None;
+    };
+    if is_marker(marker) { Some(rest) } else { None }
+}
+
+fn is_marker(column: &(Bytes, Bytes)) -> bool
+    ensures { IsTrue result ↔ (column.now ≡ ([], [])) }
+{
+    column.0.as_slice().is_empty() && column.1.as_slice().is_empty()
 }
 
 /// The item with these attributes.

@@ -59,7 +59,7 @@ pub(crate) fn read_catalog<D: Disk>(
     let Ok(mut from) = key_after(&[], alloc) else {
         return Err(OpenFault::NoMemory);
     };
-    for _ in 0..u64::MAX {
+    'rows: for _ in 0..u64::MAX {
         let (name, row) = match next_row(alloc, disk, engine, CATALOG, &from) {
             Ok(Some(next)) => next,
             Ok(None) => return Ok(Opened { catalog, family }),

@@ -102,8 +102,9 @@ fn read_tables<D: Disk>(
     engine: &mut Engine,
     catalog: &Catalog,
 ) -> Result<(), OpenFault>
-    ensures read { IsTrue (D.state disk.old).tells → (l : Layout)
-        → Reads (D.state disk.old) engine.old l → OnOk result (AllItemsRead l catalog.now) }
+    ensures read { IsTrue (D.state disk.old).tells → (l : Layout) (next : ℕ)
+        → Reads (D.state disk.old) engine.old l → IsCatalog l next catalog.now
+        → OnOk result (AllItemsRead l catalog.now) }
     ensures wrong { IsTrue (D.state disk.old).tells → (l : Layout) (next : ℕ)
         → Reads (D.state disk.old) engine.old l → IsCatalog l next catalog.now
         → IfErr result (IsRowFault l) }
@@ -112,7 +113,7 @@ fn read_tables<D: Disk>(
         → Rose (D.state disk.old).faults (D.state disk.new).faults }
 {
     let mut family = 0;
-    while let Some(schema) = catalog.above(family) {
+    'tables: while let Some(schema) = catalog.above(family) {
         match read_items(alloc, disk, engine, schema) {
             Ok(()) => {}
             Err(fault) => return Err(fault),

@@ -1,6 +1,6 @@
 //! The items of tables: what stands at a place, and what is to stand there.
 
-ghost use Rattle.std.specs.Prelude.{◌≡◌, ◌↔◌, ℕ, true, false, None, Some, IsSome, IfOk, IfErr, IfSome, IsErrOf, Ok, Err, List, Option, option_map};
+ghost use Rattle.std.specs.Prelude.{◌≡◌, ◌↔◌, ℕ, true, false, None, Some, IsSome, IfOk, IfErr, IfSome, OnOk, IsErrOf, Ok, Err, List, Option, option_map};
 ghost use Rattle.std.specs.FinMap as map;
 ghost use Rattle.alt_base.specs.Counts.{Rose};
 ghost use Rattle.alt_disk.specs.Disk.{Goes};
@@ -266,7 +266,7 @@ fn item_batch(
 ) -> Result<Batch, NoMemory>
     ensures changes { IfOk result (λ batch.
         batch ≡ item_changes schema.now place old.now new.now) }
-    ensures held { IfSome new.now IsItemOfValues }
+    ensures held { OnOk result (IfSome new.now IsItemOfValues) }
 {
     let before = row_of(alloc, old)?;
     let after = row_of(alloc, new)?;

@@ -86,7 +86,7 @@ pub(crate) fn read_items<D: Disk>(
         → Rose (D.state disk.old).faults (D.state disk.new).faults }
 {
     let mut from = Bytes::from_vec(Vec::new(alloc));
-    for _ in 0..u64::MAX {
+    'rows: for _ in 0..u64::MAX {
         let (key, row) = match next_row(alloc, disk, engine, schema.family, &from) {
             Ok(Some(next)) => next,
             Ok(None) => return Ok(()),

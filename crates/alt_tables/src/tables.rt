@@ -1,6 +1,6 @@
 //! All tables: what is known of them by their names, the numbers and families that are left, and the writes of the catalog.
 
-ghost use Rattle.std.specs.Prelude.{◌≡◌, ◌∷◌, [], ◌+◌, ◌<◌, ◌≤◌, length, true, None, Some, IfOk, IfErr, OnOk, IsErrOf, option_map, slice_get};
+ghost use Rattle.std.specs.Prelude.{◌≡◌, ◌∷◌, [], ◌+◌, ◌<◌, ◌≤◌, length, true, None, Some, IfOk, IfErr, OnOk, OnErr, IsErrOf, option_map, slice_get};
 ghost use Rattle.std.specs.FinMap as map;
 ghost use Rattle.alt_base.specs.Counts.{Rose};
 ghost use Rattle.alt_disk.specs.Disk.{IsTrusted, Goes};
@@ -173,6 +173,7 @@ impl Tables {
         ensures no_memory { IsErrOf result TableFault.NoMemory → (s : State)
             → Holds (D.state disk.old) self.old.engine s
             → Holds (D.state disk.new) self.new.engine s }
+        ensures same { OnErr result (number_of self.new ≡ number_of self.old) }
         ensures disk { (s r : State) → Holds (D.state disk.old) self.old.engine s → IsValid s
             → Turns batch.now s r
             → Leaves (D.state disk.old) (D.state disk.new) s (r ∷ []) }

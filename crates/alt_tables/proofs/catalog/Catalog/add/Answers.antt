@@ -6,12 +6,12 @@ use Rattle.alt_schema.specs.declared.schema.TableSchema.{TableSchema}
 use Rattle.alt_tables.proofs.Listed.{AreInOrder, tables, get-found, added, not_both}
 use Rattle.alt_tables.proofs.catalog.Catalog.add.Goals as goal
 
-inserted : (c : goal.In_ok-insert) → AreInOrder c.insert.new.self.items
+inserted : (c : goal.In_ok-insert-in-Err) → AreInOrder c.insert.new.self.items
     × (tables c.insert.new.self.items ≡ map.insert
     (tables c.self.inside.entries.items) c.as_str.result.now c.args.schema)
 inserted c = added c.as_str.result.now c.self.inside.entries.items c.in-Err.i c.self.invariant
     c.in-Err.ensures.goes c.in-Err.ensures.apart _
-    c.args.schema c.in_ok-insert.ensures.items (sym c.as_str.ensures.same)
+    c.args.schema c.in_ok-insert-in-Err.ensures.items (sym c.as_str.ensures.same)
 
 pub unreachable-requires : goal.unreachable-requires
 unreachable-requires c = not_both _ _

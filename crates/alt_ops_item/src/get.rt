@@ -5,10 +5,10 @@ ghost use Rattle.serde_json.specs.View.{view, members_view};
 ghost use Rattle.serde_json.specs.Written.{has_float};
 ghost use Rattle.alt_machine.specs.Ops.GetItem.{get_item};
 ghost use Rattle.alt_machine.specs.Replies.{item_answer};
-ghost use Rattle.alt_request.specs.Carried.{Carries};
+ghost use Rattle.alt_request.specs.Carried.{Carries, Moves};
 ghost use Rattle.alt_request.specs.Steps.{IsMemory};
 ghost use Rattle.alt_shape.specs.Refusals.{answer_of};
-ghost use Rattle.alt_tables.specs.Stands.{Stands};
+ghost use Rattle.alt_tables.specs.Stands.{AreReady, Stands};
 
 use alt_codec::json_of_item;
 use alt_disk::Disk;
@@ -34,9 +34,11 @@ pub fn get_item<D: Disk>(
     body: &Map<String, Value>,
     moment: u64,
 ) -> Result<Reply, Stop>
+    requires ready { AreReady (D.state disk.old) tables.old }
     ensures carried { Carries (λ s. get_item s (members_view body.now.entries))
         (Stands (D.state disk.old) tables.old) (Stands (D.state disk.new) tables.new) result }
-    ensures disk { D.state disk.new ≡ D.state disk.old }
+    ensures disk { Moves (λ s. get_item s (members_view body.now.entries))
+        (Stands (D.state disk.old) tables.old) (D.state disk.old) (D.state disk.new) result }
 {
     let _ = moment;
     let broken = bodies::get_item(body);

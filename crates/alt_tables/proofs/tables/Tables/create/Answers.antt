@@ -85,7 +85,7 @@ returns-in-Ok-clause-writes g c s stands =
     c.requires.number c.requires.family c.requires.absent (c.args.self.now.family + c.family_count.result)
     c.in_ok-batch.batch (ap (λ n. c.args.self.now.family + n) c.family_count.ensures.count)
     c.in_ok-batch.ensures.changes c.held.ensures.held (omega (arith, c.next_number-number.ensures.next, c.if-number-ge-NUMBERS_END.false))
-    (omega (arith, c.if-self-gt-FAMILIES_END.false)) in
+    (omega (arith, c.if-self.false)) in
     one_made (Stands (g.D.Disk.state c.make.new.disk) _) a_table s (with_table s c.args.schema)
     (table_stands (g.D.Disk.state c.args.disk.now) c.args.self.now s stands
     c.args.schema c.requires.few c.requires.made c.requires.new
@@ -104,7 +104,7 @@ returns-in-Ok-clause-disk g c s stands =
     c.requires.number c.requires.family c.requires.absent (c.args.self.now.family + c.family_count.result)
     c.in_ok-batch.batch (ap (λ n. c.args.self.now.family + n) c.family_count.ensures.count)
     c.in_ok-batch.ensures.changes c.held.ensures.held (omega (arith, c.next_number-number.ensures.next, c.if-number-ge-NUMBERS_END.false))
-    (omega (arith, c.if-self-gt-FAMILIES_END.false)))
+    (omega (arith, c.if-self.false)))
 
 pub returns-clause-writes : goal.returns-clause-writes
 returns-clause-writes g c s stands =
@@ -130,4 +130,4 @@ returns-clause-disk g c s stands =
     c.requires.number c.requires.family c.requires.absent (c.args.self.now.family + c.family_count.result)
     c.in_ok-batch.batch (ap (λ n. c.args.self.now.family + n) c.family_count.ensures.count)
     c.in_ok-batch.ensures.changes c.held.ensures.held (omega (arith, c.next_number-number.ensures.next, c.if-number-ge-NUMBERS_END.false))
-    (omega (arith, c.if-self-gt-FAMILIES_END.false)))
+    (omega (arith, c.if-self.false)))

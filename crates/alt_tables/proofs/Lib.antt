@@ -1,6 +1,7 @@
 pub mod Maps
 pub mod Named
 pub mod Sorted
+pub mod Left
 pub mod Listed
 pub mod Standing
 pub mod Making

@@ -1,4 +1,4 @@
--- A PutItem leads from a valid state to a valid one.
+-- A PutItem and a DeleteItem lead from a valid state to a valid one.
 use Rattle.std.proofs.Common.{◌≡◌, subst, ℕ, ◌≤◌, nat_le, Bool, true, false, T, List, [], ◌∷◌, Option, Some, None, Result, Ok, Err, IfOk}
 use Rattle.std.specs.Prelude.{codes, if◌then◌else◌}
 use Rattle.std.specs.FinMap as map
@@ -7,13 +7,19 @@ use Rattle.serde_json.specs.Data.{Data, Members}
 use Rattle.alt_codec.specs.declared.fault.ValueFault.{ValueFault}
 use Rattle.alt_codec.specs.Reading.{item_in}
 use Rattle.alt_machine.specs.declared.TheConstants.{LARGEST_ITEM}
-use Rattle.alt_machine.specs.declared.Sought.TheVariants.{Item}
+use Rattle.alt_expr.specs.declared.cond.Cond.{Cond}
+use Rattle.alt_machine.specs.declared.Sought.TheVariants.{Item, Key}
+use Rattle.alt_machine.specs.Conditional.{meets, asked, failed, writes_if}
+use Rattle.alt_machine.specs.Expressions.{conditional}
 use Rattle.alt_machine.specs.Keys.{key_fits, place_of}
 use Rattle.alt_machine.specs.Members.{table_name, item_at, item_of, unless_fault}
-use Rattle.alt_machine.specs.Ops.PutItem.{of_body, of_item, put_item}
-use Rattle.alt_machine.specs.Outcomes.{writes, a_number}
+use Rattle.alt_machine.specs.Ops.DeleteItem as delete
+use Rattle.alt_machine.specs.Ops.DeleteItem.{delete_item}
+use Rattle.alt_machine.specs.Ops.PutItem as put
+use Rattle.alt_machine.specs.Ops.PutItem.{of_item, put_item}
+use Rattle.alt_machine.specs.Outcomes.{says, writes, a_number}
 use Rattle.alt_machine.specs.Refusals.{first_answer}
-use Rattle.alt_machine.specs.Replies.{done}
+use Rattle.alt_machine.specs.Replies.{item_answer}
 use Rattle.alt_machine.specs.Same.{is_same}
 use Rattle.alt_machine.specs.State.{State, Table}
 use Rattle.alt_machine.specs.Valid.{IsStored}
@@ -90,13 +96,36 @@ writes_steps s moment name t place new there put = by (is_same (map.get t.items 
 same_Some : {A : Type 0} (x y : A) → Some x ≡ Some y → x ≡ y
 same_Some x y e = cc
 
+-- a write that may be conditional
+pub writes_if-steps : (condition : Option Cond) (s : State) (moment : ℕ) (ms : Members) (t : Table)
+    (place : List ℕ) (new : Option (List Pair)) → map.get s.tables (table_name ms) ≡ Some t
+    → ((item : List Pair) → new ≡ Some item → IsStored t.description place item)
+    → Steps s (writes_if condition s moment ms t place new)
+writes_if-steps condition s moment ms t place new there put =
+    by (meets condition (map.get t.items place))
+  where
+    by : (b : Bool) → Steps s (if b
+        then writes (item_writes s moment (table_name ms) t place new)
+        (item_answer (codes "Attributes") (asked (codes "ReturnValues") ms (map.get t.items place)))
+        else says (failed
+        (asked (codes "ReturnValuesOnConditionCheckFailure") ms (map.get t.items place))))
+    by true = writes_steps s moment (table_name ms) t place new there put
+    by false = no_steps _ s
+
 pub put_steps : (s : State) (moment : ℕ) (ms : Members) → Steps s (put_item s moment ms)
 unfolding put_item
 put_steps s moment ms =
-    steps-on_item s (of_body ms) Item ms _ (λ item t place there target.
+    steps-on_item s (put.of_body ms) Item conditional ms _ (λ said item t place there target.
     steps-unless s (of_item t.description item)
-    (writes (item_writes s moment (table_name ms) t place (Some item)) done) (λ free.
-    writes_steps s moment (table_name ms) t place (Some item) there
+    (writes_if said.condition s moment ms t place (Some item)) (λ free.
+    writes_if-steps said.condition s moment ms t place (Some item) there
     (λ i e. subst (λ j. IsStored t.description place j) (same_Some item i e)
     (may_stand t.description place item (is_read (codes "Item") ms item target.read) target.at
     target.fits free))))
+
+pub delete_steps : (s : State) (moment : ℕ) (ms : Members) → Steps s (delete_item s moment ms)
+unfolding delete_item
+delete_steps s moment ms =
+    steps-on_item s (delete.of_body ms) Key conditional ms _ (λ said key t place there target.
+    writes_if-steps said.condition s moment ms t place None there
+    (λ i e. absurd (let f : ⊥ = cc in f)))

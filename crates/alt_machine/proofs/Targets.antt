@@ -2,7 +2,10 @@
 use Rattle.std.proofs.Common.{◌≡◌, ap, ◌∙◌, ℕ, false, List, [], ◌∷◌, Option, Some, None, Ok, Err}
 use Rattle.std.specs.FinMap as map
 use Rattle.serde_json.specs.Data.{Members}
+use Rattle.alt_expr.specs.Given.{Given}
+use Rattle.alt_machine.specs.declared.Expressions.{Expressions}
 use Rattle.alt_machine.specs.declared.Sought.{Sought}
+use Rattle.alt_machine.specs.Expressions.{Texts, given_at, expressions}
 use Rattle.alt_machine.specs.Keys.{key_fits}
 use Rattle.alt_machine.specs.Members.{table_name, table_at, item_at}
 use Rattle.alt_machine.specs.Outcomes.{Outcome, says, refuses, unless_refused, with_found}
@@ -28,60 +31,87 @@ module _ (tests : List (Option Answer)) (s : State) (ms : Members) (go : Table �
   table-target t target = passed tests _ target.body
       ∙ found (table_at s ms) go t (ap (or_refused not_found) target.there)
 
-module _ (tests : List (Option Answer)) (sought : Sought) (s : State) (ms : Members)
-    (go : List Pair → Table → List ℕ → Outcome) where
+module _ (tests : List (Option Answer)) (sought : Sought) (texts : Texts) (s : State) (ms : Members)
+    (go : Expressions → List Pair → Table → List ℕ → Outcome) where
   -- behind each of the steps
-  abbrev placed : List Pair → Table → List ℕ → Outcome
-  placed item t at = unless_refused (of_length t.description item) (go item t at)
+  abbrev placed : List Pair → Table → Expressions → List ℕ → Outcome
+  placed item t said at = unless_refused (of_length t.description item) (go said item t at)
 
-  abbrev in_table : List Pair → Table → Outcome
-  in_table item t = with_found (or_refused bad_key (place_in sought t.description item))
-      (placed item t)
+  abbrev expressed : List Pair → Table → Expressions → Outcome
+  expressed item t said = with_found (or_refused bad_key (place_in sought t.description item))
+      (placed item t said)
+
+  abbrev in_table : List Pair → Given → Table → Outcome
+  in_table item g t = with_found (expressions texts ms g) (expressed item t)
+
+  abbrev of_words : List Pair → Given → Outcome
+  of_words item g = with_found (table_at s ms) (in_table item g)
 
   abbrev of_item : List Pair → Outcome
-  of_item item = with_found (table_at s ms) (in_table item)
+  of_item item = with_found (given_at texts ms) (of_words item)
 
   pub item-refused : (a : Answer) → first_answer tests ≡ Some a
-      → on_item tests sought s ms go ≡ says a
+      → on_item tests sought texts s ms go ≡ says a
   item-refused a e = stopped tests _ a e
 
   module _ (free : first_answer tests ≡ None) where
     pub item-unread : (a : Answer) → item_at (member_of sought) ms ≡ Err a
-        → on_item tests sought s ms go ≡ says a
+        → on_item tests sought texts s ms go ≡ says a
     item-unread a e = passed tests _ free ∙ missed (item_at (member_of sought) ms) of_item a e
 
     module _ (item : List Pair) (read : item_at (member_of sought) ms ≡ Ok item) where
-      pub item-no_table : (a : Answer) → table_at s ms ≡ Err a
-          → on_item tests sought s ms go ≡ says a
-      item-no_table a e = passed tests _ free
-          ∙ found (item_at (member_of sought) ms) of_item item read
-          ∙ missed (table_at s ms) (in_table item) a e
+      at_item : on_item tests sought texts s ms go ≡ of_item item
+      at_item = passed tests _ free ∙ found (item_at (member_of sought) ms) of_item item read
 
-      module _ (t : Table) (there : map.get s.tables (table_name ms) ≡ Some t) where
-        reached : on_item tests sought s ms go ≡ in_table item t
-        reached = passed tests _ free ∙ found (item_at (member_of sought) ms) of_item item read
-            ∙ found (table_at s ms) (in_table item) t (ap (or_refused not_found) there)
+      pub item-no_words : (a : Answer) → given_at texts ms ≡ Err a
+          → on_item tests sought texts s ms go ≡ says a
+      item-no_words a e = at_item ∙ missed (given_at texts ms) (of_words item) a e
 
-        pub item-no_place : (a : Answer) → or_refused bad_key (place_in sought t.description item)
-            ≡ Err a → on_item tests sought s ms go ≡ says a
-        item-no_place a e = reached ∙ missed (or_refused bad_key
-            (place_in sought t.description item)) (placed item t) a e
+      module _ (g : Given) (words : given_at texts ms ≡ Ok g) where
+        at_words : on_item tests sought texts s ms go ≡ of_words item g
+        at_words = at_item ∙ found (given_at texts ms) (of_words item) g words
 
-        pub item-too_long : (at : List ℕ) → place_in sought t.description item ≡ Some at
-            → key_fits t.description item ≡ false
-            → on_item tests sought s ms go ≡ refuses key_too_long
-        item-too_long at e long = reached ∙ found
-            (or_refused bad_key (place_in sought t.description item)) (placed item t) at
-            (ap (or_refused bad_key) e)
-            ∙ ap (λ b. unless_refused (refuse_unless b key_too_long ∷ []) (go item t at)) long
+        pub item-no_table : (a : Answer) → table_at s ms ≡ Err a
+            → on_item tests sought texts s ms go ≡ says a
+        item-no_table a e = at_words ∙ missed (table_at s ms) (in_table item g) a e
 
-  pub item-target : (item : List Pair) (t : Table) (at : List ℕ)
+        module _ (t : Table) (there : map.get s.tables (table_name ms) ≡ Some t) where
+          at_table : on_item tests sought texts s ms go ≡ in_table item g t
+          at_table = at_words
+              ∙ found (table_at s ms) (in_table item g) t (ap (or_refused not_found) there)
+
+          pub item-unsaid : (a : Answer) → expressions texts ms g ≡ Err a
+              → on_item tests sought texts s ms go ≡ says a
+          item-unsaid a e = at_table ∙ missed (expressions texts ms g) (expressed item t) a e
+
+          module _ (said : Expressions) (says_so : expressions texts ms g ≡ Ok said) where
+            reached : on_item tests sought texts s ms go ≡ expressed item t said
+            reached = at_table ∙ found (expressions texts ms g) (expressed item t) said says_so
+
+            pub item-no_place : (a : Answer)
+                → or_refused bad_key (place_in sought t.description item) ≡ Err a
+                → on_item tests sought texts s ms go ≡ says a
+            item-no_place a e = reached ∙ missed (or_refused bad_key
+                (place_in sought t.description item)) (placed item t said) a e
+
+            pub item-too_long : (at : List ℕ) → place_in sought t.description item ≡ Some at
+                → key_fits t.description item ≡ false
+                → on_item tests sought texts s ms go ≡ refuses key_too_long
+            item-too_long at e long = reached ∙ found
+                (or_refused bad_key (place_in sought t.description item)) (placed item t said) at
+                (ap (or_refused bad_key) e)
+                ∙ ap (λ b. unless_refused (refuse_unless b key_too_long ∷ []) (go said item t at))
+                long
+
+  pub item-target : (said : Expressions) (item : List Pair) (t : Table) (at : List ℕ)
       → map.get s.tables (table_name ms) ≡ Some t
-      → IsPlaced tests sought ms t.description item at → on_item tests sought s ms go ≡ go item t at
-  item-target item t at there target = reached target.body item target.read t there
-      ∙ found (or_refused bad_key (place_in sought t.description item)) (placed item t) at
+      → IsPlaced tests sought texts ms t.description said item at
+      → on_item tests sought texts s ms go ≡ go said item t at
+  item-target said item t at there target =
+      reached target.body item target.read target.words target.given t there said target.says
+      ∙ found (or_refused bad_key (place_in sought t.description item)) (placed item t said) at
       (ap (or_refused bad_key) target.at)
-      ∙ ap (λ b. unless_refused (refuse_unless b key_too_long ∷ []) (go item t at)) target.fits
+      ∙ ap (λ b. unless_refused (refuse_unless b key_too_long ∷ []) (go said item t at)) target.fits
 
 -- ---- its writes
 
@@ -97,21 +127,29 @@ steps-on_table s tests ms go h =
           (map.get s.tables (table_name ms)) t there;
     })))
 
-pub steps-on_item : (s : State) (tests : List (Option Answer)) (sought : Sought) (ms : Members)
-    (go : List Pair → Table → List ℕ → Outcome)
-    → ((item : List Pair) (t : Table) (at : List ℕ) → map.get s.tables (table_name ms) ≡ Some t
-    → IsPlaced tests sought ms t.description item at → Steps s (go item t at))
-    → Steps s (on_item tests sought s ms go)
-steps-on_item s tests sought ms go h =
+pub steps-on_item : (s : State) (tests : List (Option Answer)) (sought : Sought) (texts : Texts)
+    (ms : Members) (go : Expressions → List Pair → Table → List ℕ → Outcome)
+    → ((said : Expressions) (item : List Pair) (t : Table) (at : List ℕ)
+    → map.get s.tables (table_name ms) ≡ Some t
+    → IsPlaced tests sought texts ms t.description said item at → Steps s (go said item t at))
+    → Steps s (on_item tests sought texts s ms go)
+steps-on_item s tests sought texts ms go h =
     steps-unless s tests _ (λ body.
-    steps-found s (item_at (member_of sought) ms) (of_item tests sought s ms go) (λ item read.
-    steps-found s (table_at s ms) (in_table tests sought s ms go item) (λ t there.
+    steps-found s (item_at (member_of sought) ms) (of_item tests sought texts s ms go)
+    (λ item read.
+    steps-found s (given_at texts ms) (of_words tests sought texts s ms go item) (λ g words.
+    steps-found s (table_at s ms) (in_table tests sought texts s ms go item g) (λ t there.
+    steps-found s (expressions texts ms g) (expressed tests sought texts s ms go item t)
+    (λ said says_so.
     steps-found s (or_refused bad_key (place_in sought t.description item))
-    (placed tests sought s ms go item t) (λ at stands.
-    steps-unless s (of_length t.description item) (go item t at) (λ long.
-    h item t at (found_is not_found (map.get s.tables (table_name ms)) t there) (record {
+    (placed tests sought texts s ms go item t said) (λ at stands.
+    steps-unless s (of_length t.description item) (go said item t at) (λ long.
+    h said item t at (found_is not_found (map.get s.tables (table_name ms)) t there) (record {
       body = body;
       read = read;
+      words = g;
+      given = words;
+      says = says_so;
       at = found_is bad_key (place_in sought t.description item) at stands;
       fits = (unless_holds (key_fits t.description item) key_too_long [] long).0;
-    }))))))
+    }))))))))

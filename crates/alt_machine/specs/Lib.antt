@@ -1,4 +1,6 @@
 pub mod Body
+pub mod Conditional
+pub mod Expressions
 pub mod Keys
 pub mod Laws
 pub mod Members

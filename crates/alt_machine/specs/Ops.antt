@@ -1,5 +1,6 @@
 -- A file for each operation: its refusals in their order, its new state and its answer.
 pub mod CreateTable
+pub mod DeleteItem
 pub mod DeleteTable
 pub mod DescribeTable
 pub mod GetItem

@@ -29,6 +29,17 @@ refuse_unless false r = Some (refused r)
 abbrev pub refuse_by : Option Refusal → Option Answer
 refuse_by = option_map refused
 
+-- what comes next, behind what was found
+infixl 10 ◌>>=◌
+abbrev pub ◌>>=◌ : {A B : Type 0} → Result A Answer → (A → Result B Answer) → Result B Answer
+Ok x >>= next = next x
+Err answer >>= next = Err answer
+
+-- what is found, unless a test applies
+abbrev pub unless_answer : {A : Type 0} → Option Answer → A → Result A Answer
+unless_answer None x = Ok x
+unless_answer (Some answer) x = Err answer
+
 -- what was found, or the refusal of a request that needs it
 abbrev pub or_refused : {A : Type 0} → Refusal → Option A → Result A Answer
 or_refused r None = Err (refused r)

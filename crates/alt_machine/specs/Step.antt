@@ -3,9 +3,10 @@ use Rattle.std.specs.Prelude.{ℕ, List, Option, Some, None}
 use Rattle.serde_json.specs.Data.{Members}
 use Rattle.alt_shape.specs.Refusals.{unknown_operation, unreadable}
 use Rattle.alt_machine.specs.declared.Operation.{Operation}
-use Rattle.alt_machine.specs.declared.Operation.TheVariants.{CreateTable, DescribeTable, ListTables, DeleteTable, PutItem, GetItem}
+use Rattle.alt_machine.specs.declared.Operation.TheVariants.{CreateTable, DescribeTable, ListTables, DeleteTable, PutItem, GetItem, DeleteItem}
 use Rattle.alt_machine.specs.Members.{body_of}
 use Rattle.alt_machine.specs.Ops.CreateTable.{create_table}
+use Rattle.alt_machine.specs.Ops.DeleteItem.{delete_item}
 use Rattle.alt_machine.specs.Ops.DeleteTable.{delete_table}
 use Rattle.alt_machine.specs.Ops.DescribeTable.{describe_table}
 use Rattle.alt_machine.specs.Ops.GetItem.{get_item}
@@ -22,6 +23,7 @@ operates s ListTables moment ms = list_tables s ms
 operates s DeleteTable moment ms = delete_table s ms
 operates s PutItem moment ms = put_item s moment ms
 operates s GetItem moment ms = get_item s ms
+operates s DeleteItem moment ms = delete_item s moment ms
 
 -- an operation on a body, if that is one
 abbrev pub with_body : State → Operation → ℕ → Option Members → Outcome

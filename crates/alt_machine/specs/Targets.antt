@@ -5,8 +5,11 @@ use Rattle.serde_json.specs.Data.{Members}
 use Rattle.alt_schema.specs.declared.schema.TableSchema.{TableSchema}
 use Rattle.alt_shape.specs.Refusals.{Answer, bad_key, key_too_long}
 use Rattle.alt_value.specs.Tree.{Pair}
+use Rattle.alt_expr.specs.Given.{Given}
+use Rattle.alt_machine.specs.declared.Expressions.{Expressions}
 use Rattle.alt_machine.specs.declared.Sought.{Sought}
 use Rattle.alt_machine.specs.declared.Sought.TheVariants.{Item, Key}
+use Rattle.alt_machine.specs.Expressions.{Texts, given_at, expressions}
 use Rattle.alt_machine.specs.Keys.{key_fits, place_of, place_of_key}
 use Rattle.alt_machine.specs.Members.{table_name, table_at, item_at}
 use Rattle.alt_machine.specs.Outcomes.{Outcome, unless_refused, with_found}
@@ -31,16 +34,18 @@ abbrev pub place_in : Sought → TableSchema → List Pair → Option (List ℕ)
 place_in Item = place_of
 place_in Key = place_of_key
 
--- Behind the tests of its body, an operation on an item goes on with the item or the key, the table that is named and the place there,
--- where it has one and the key isn't too long.
-abbrev pub on_item : List (Option Answer) → Sought → State → Members
-    → (List Pair → Table → List ℕ → Outcome) → Outcome
-on_item tests sought s ms go =
+-- Behind the tests of its body, an operation on an item reads the item or the key, the names and the values, and then the table that is
+-- named, its expressions, and the place there. It goes on with them where there is a place and the key isn't too long.
+abbrev pub on_item : List (Option Answer) → Sought → Texts → State → Members
+    → (Expressions → List Pair → Table → List ℕ → Outcome) → Outcome
+on_item tests sought texts s ms go =
     unless_refused tests (
     with_found (item_at (member_of sought) ms) (λ item.
+    with_found (given_at texts ms) (λ g.
     with_found (table_at s ms) (λ t.
+    with_found (expressions texts ms g) (λ said.
     with_found (or_refused bad_key (place_in sought t.description item)) (λ place.
-    unless_refused (of_length t.description item) (go item t place)))))
+    unless_refused (of_length t.description item) (go said item t place)))))))
 
 -- ---- what they went on with
 
@@ -50,10 +55,14 @@ pub record IsTarget (tests : List (Option Answer)) (s : State) (ms : Members)
   pub body : first_answer tests ≡ None
   pub there : map.get s.tables (table_name ms) ≡ Some t
 
--- nothing refuses the body; that is the item or the key, which is placed by the description of the table
-pub record IsPlaced (tests : List (Option Answer)) (sought : Sought) (ms : Members)
-    (d : TableSchema) (item : List Pair) (place : List ℕ) : Type 0 where
+-- Nothing refuses the body; those are the item or the key and what the expressions say, and the item is placed by the description of
+-- the table.
+pub record IsPlaced (tests : List (Option Answer)) (sought : Sought) (texts : Texts) (ms : Members)
+    (d : TableSchema) (said : Expressions) (item : List Pair) (place : List ℕ) : Type 0 where
   pub body : first_answer tests ≡ None
   pub read : item_at (member_of sought) ms ≡ Ok item
+  pub words : Given
+  pub given : given_at texts ms ≡ Ok words
+  pub says : expressions texts ms words ≡ Ok said
   pub at : place_in sought d item ≡ Some place
   pub fits : key_fits d item ≡ true

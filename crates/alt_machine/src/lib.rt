@@ -8,6 +8,8 @@ ghost use Rattle.alt_machine.specs.Laws.{StepsKeepValid, PlacesLie};
 ghost use Rattle.alt_machine.specs.State.{start};
 ghost use Rattle.alt_machine.specs.Valid.{IsValid};
 
+use alt_expr::Cond;
+
 /// An operation that is built (DynamoDB API Reference, "Actions").
 #[derive(Clone, Copy, Debug, PartialEq, Eq)]
 pub enum Operation {
@@ -17,6 +19,7 @@ pub enum Operation {
     DeleteTable,
     PutItem,
     GetItem,
+    DeleteItem,
 }
 
 /// What a request has of an item: all of it, at its member Item, or the key alone, at Key.
@@ -24,6 +27,12 @@ pub enum Operation {
 pub enum Sought {
     Item,
     Key,
+}
+
+/// What the expressions of a request say: its condition, where it states one.
+#[derive(Drop)]
+pub struct Expressions {
+    pub condition: Option<Cond>,
 }
 
 /// The numbers of writes are below 2^62 - 1.

@@ -3,13 +3,14 @@
 ghost use Rattle.std.specs.Prelude.{◌≡◌};
 ghost use Rattle.serde_json.specs.View.{members_view};
 ghost use Rattle.alt_machine.specs.Ops.PutItem.{of_item, put_item};
-ghost use Rattle.alt_request.specs.Carried.{Carries};
+ghost use Rattle.alt_request.specs.Carried.{Moves, Carries};
 ghost use Rattle.alt_request.specs.Steps.{Tested};
-ghost use Rattle.alt_tables.specs.Stands.{Stands};
+ghost use Rattle.alt_tables.specs.Stands.{AreReady, Stands};
 
+use crate::conditional::write_if;
 use alt_disk::Disk;
 use alt_machine::{LARGEST_ITEM, Sought};
-use alt_request::{Rules, Stop, Target, done, item_target, table_name};
+use alt_request::{Rules, Stop, Target, Texts, item_target};
 use alt_schema::{TableSchema, index_keys_fit};
 use alt_shape::{Refusal, Reply, bodies};
 use alt_tables::Tables;
@@ -19,17 +20,12 @@ use std::alloc::Global;
 
 static RULES: Rules = Rules {
     legacy: &["Expected", "ConditionalOperator"],
-    unbuilt: &[
-        "ConditionExpression",
-        "ExpressionAttributeNames",
-        "ExpressionAttributeValues",
-        "ReturnValues",
-        "ReturnValuesOnConditionCheckFailure",
-    ],
+    unbuilt: &[],
     named: &["TableName"],
 };
 
-/// Puts an item in the place of the one with its key (API Reference, "PutItem"). A put of the item that is there is no write.
+/// Puts an item in the place of the one with its key, where the condition holds of that (API Reference, "PutItem"). A put of the item
+/// that is there is no write.
 /// The refusals are those of docs/API.md.
 pub fn put_item<D: Disk>(
     alloc: Global,
@@ -38,18 +34,19 @@ pub fn put_item<D: Disk>(
     body: &Map<String, Value>,
     moment: u64,
 ) -> Result<Reply, Stop>
+    requires ready { AreReady (D.state disk.old) tables.old }
     ensures carried { Carries (λ s. put_item s moment (members_view body.now.entries))
         (Stands (D.state disk.old) tables.old) (Stands (D.state disk.new) tables.new) result }
-    ensures disk { D.state disk.new ≡ D.state disk.old }
+    ensures moves { Moves (λ s. put_item s moment (members_view body.now.entries))
+        (Stands (D.state disk.old) tables.old) (D.state disk.old) (D.state disk.new) result }
 {
     let broken = bodies::put_item(body);
-    let target = item_target(alloc, tables, body, broken, &RULES, Sought::Item)?;
+    let target = item_target(alloc, tables, body, broken, &RULES, Sought::Item, &Texts::CONDITIONAL)?;
     item_refusal(target.schema, &target.item)?;
-    let Target { item, place, .. } = target;
-    let name = table_name(body);
-    let found = tables.find(disk, name, place)?;
-    tables.write(disk, name, found, Some(item), moment)?;
-    Ok(done(alloc))
+    let Target {
+        item, place, said, ..
+    } = target;
+    write_if(alloc, tables, disk, body, &said.condition, place, Some(item), moment)
 }
 
 /// Why an item is refused in its table, beside its key.

@@ -3,8 +3,8 @@
 ghost use Rattle.std.specs.Prelude.{◌≡◌};
 ghost use Rattle.serde_json.specs.View.{members_view};
 ghost use Rattle.alt_machine.specs.Ops.DescribeTable.{describe_table};
-ghost use Rattle.alt_request.specs.Carried.{Carries};
-ghost use Rattle.alt_tables.specs.Stands.{Stands};
+ghost use Rattle.alt_request.specs.Carried.{Moves, Carries};
+ghost use Rattle.alt_tables.specs.Stands.{AreReady, Stands};
 
 use crate::replies::described;
 use alt_disk::Disk;
@@ -28,9 +28,11 @@ pub fn describe_table<D: Disk>(
     body: &Map<String, Value>,
     moment: u64,
 ) -> Result<Reply, Stop>
+    requires ready { AreReady (D.state disk.old) tables.old }
     ensures carried { Carries (λ s. describe_table s (members_view body.now.entries))
         (Stands (D.state disk.old) tables.old) (Stands (D.state disk.new) tables.new) result }
-    ensures disk { D.state disk.new ≡ D.state disk.old }
+    ensures moves { Moves (λ s. describe_table s (members_view body.now.entries))
+        (Stands (D.state disk.old) tables.old) (D.state disk.old) (D.state disk.new) result }
 {
     let _ = disk;
     let _ = moment;

@@ -6,13 +6,15 @@ use Rattle.serde_json.specs.Data.{Members}
 use Rattle.serde_json.specs.View.{view}
 use Rattle.serde_json.specs.Written.{has_float}
 use Rattle.alt_disk.specs.Disk.{DiskState}
+use Rattle.alt_machine.specs.declared.Expressions.{Expressions}
 use Rattle.alt_machine.specs.declared.Sought.{Sought}
+use Rattle.alt_machine.specs.Expressions as machine
 use Rattle.alt_machine.specs.Members.{table_name}
 use Rattle.alt_machine.specs.Outcomes.{Outcome, says, refuses, Wants}
 use Rattle.alt_machine.specs.State.{State, Table}
 use Rattle.alt_machine.specs.Targets.{on_table, on_item, IsPlaced}
 use Rattle.alt_machine.proofs.Targets.{table-target, item-target}
-use Rattle.alt_request.specs.Carried.{Does, Carries}
+use Rattle.alt_request.specs.Carried.{Does, Carries, Says, IsPlain}
 use Rattle.alt_machine.specs.Refusals.{first_answer}
 use Rattle.alt_request.specs.Steps.{IsMemory, Tested}
 use Rattle.alt_request.specs.Targets.{OnTable, OnItem, IsAt}
@@ -24,13 +26,23 @@ use Rattle.alt_request.specs.declared.stop.Stop.TheVariants.{Refused, Fault}
 use Rattle.alt_shape.specs.Refusals.{Answer, answer_of, refused, IsKnown}
 use Rattle.alt_shape.specs.declared.refusal.Refusal.{Refusal}
 use Rattle.alt_shape.specs.declared.refusal.Reply.{Reply}
-use Rattle.alt_tables.specs.Faults.{AreMade, BreakOff, IsReadFault}
+use Rattle.alt_tables.specs.Faults.{AreMade, BreakOff, IsReadFault, IsFindFault}
 use Rattle.alt_tables.specs.Stands.{Stands, catalog_of}
 use Rattle.alt_tables.specs.declared.tables.Tables.{Tables}
 use Rattle.alt_schema.specs.declared.schema.TableSchema.{TableSchema}
 use Rattle.alt_value.specs.Tree.{Pair}
 use Rattle.alt_tables.specs.declared.faults.TableFault.{TableFault}
-use Rattle.alt_tables.specs.declared.faults.TableFault.TheVariants.{Spent, NoMemory}
+use Rattle.alt_tables.specs.declared.faults.TableFault.TheVariants.{Spent, Damaged, BadRow, Failed, NoMemory}
+
+-- an answer without a write that may be a refusal, or want of memory for it
+pub does_say : (now : State → Type 0) (answer : Answer) (s : State) (r : Result Reply Stop)
+    → Says answer r → now s → Does now s (says answer) r
+does_say now answer s (Ok reply) h stands = record { reply = h.0; state = stands; enough = refl }
+does_say now answer s (Err (Refused q)) h stands = record {
+  reply = h.0; state = stands; enough = refl;
+}
+does_say now answer s (Err (Fault f)) h stands =
+    subst (λ g. Does now s (says answer) (Err (Fault g))) (sym h) (0, refl, stands)
 
 module _ (outcome : State → Outcome) (old now : State → Type 0) where
   -- a refusal, which leaves the state
@@ -46,7 +58,23 @@ module _ (outcome : State → Outcome) (old now : State → Type 0) where
   pub faulted : (f : TableFault) → IsReadFault f → ((s : State) → old s → now s)
       → Carries outcome old now (Err (Fault f))
   faulted (Spent n) known stays = absurd known
+  faulted (Damaged file at) known stays = absurd known
+  faulted (BadRow family key) known stays = absurd known
+  faulted Failed known stays = absurd known
   faulted NoMemory known stays = record { does = λ s stands. (0, refl, stays s stands); plain = tt }
+
+  -- a read of the tables that failed, or want of memory for it
+  pub unfound : (f : TableFault) → ((s : State) → old s → IsFindFault f)
+      → ((s : State) → old s → now s) → Carries outcome old now (Err (Fault f))
+  unfound (Spent n) known stays = record { does = λ s stands. absurd (known s stands); plain = tt }
+  unfound (Damaged file at) known stays = record {
+    does = λ s stands. absurd (known s stands); plain = tt;
+  }
+  unfound (BadRow family key) known stays = record {
+    does = λ s stands. absurd (known s stands); plain = tt;
+  }
+  unfound Failed known stays = record { does = λ s stands. tt; plain = tt }
+  unfound NoMemory known stays = record { does = λ s stands. (0, refl, stays s stands); plain = tt }
 
   -- an answer without a write
   pub said : (reply : Reply) → has_float (view reply.body) ≡ false
@@ -144,10 +172,11 @@ module _ (disk : DiskState) (tables : Tables) (tests : List (Option Answer)) (ms
               (record { body = h.0; there = found.1 }),
         )
 
-  module _ (sought : Sought) (go : State → List Pair → Table → List ℕ → Outcome)
-      (is : (s : State) → outcome s ≡ on_item tests sought s ms (go s)) where
+  module _ (sought : Sought) (texts : machine.Texts)
+      (go : State → Expressions → List Pair → Table → List ℕ → Outcome)
+      (is : (s : State) → outcome s ≡ on_item tests sought texts s ms (go s)) where
     pub item_stopped : (now : State → Type 0) (stop : Stop)
-        → OnItem tests sought (catalog_of tables) ms (Err stop)
+        → OnItem tests sought texts (catalog_of tables) ms (Err stop)
         → ((s : State) → Stands disk tables s → now s)
         → Carries outcome (Stands disk tables) now (Err stop)
     item_stopped now (Refused r) h stays = refused_so outcome (Stands disk tables) now r h.0
@@ -156,23 +185,38 @@ module _ (disk : DiskState) (tables : Tables) (tests : List (Option Answer)) (ms
 
     pub item_passed : (now : State → Type 0) (r : Result Reply Stop) (stop : Stop)
         → IsErr r × IsErrAnd r (λ e. e ≡ stop)
-        → OnItem tests sought (catalog_of tables) ms (Err stop)
+        → OnItem tests sought texts (catalog_of tables) ms (Err stop)
         → ((s : State) → Stands disk tables s → now s)
         → Carries outcome (Stands disk tables) now r
     item_passed now r stop same h stays = subst (Carries outcome (Stands disk tables) now)
         (sym (err_is r stop same)) (item_stopped now stop h stays)
 
-    pub item_reached : (target : Target) → IsAt tests sought (catalog_of tables) ms target
+    pub item_reached : (target : Target) → IsAt tests sought texts (catalog_of tables) ms target
         → (s : State) → Stands disk tables s
         → (t : Table) × (map.get s.tables (table_name ms) ≡ Some t)
-        × (t.description ≡ target.schema.now) × (outcome s ≡ go s target.item t target.place)
+        × (t.description ≡ target.schema.now) × (outcome s ≡ go s target.said target.item t target.place)
     item_reached target h s stands =
         let found = table_found s (catalog_of tables) (sym stands.catalog)
         (table_name ms) target.schema.now h.there in (
           found.0,
           found.1,
           found.2,
-          is s ∙ item-target tests sought s ms (go s) target.item found.0 target.place found.1
-              (subst (λ (d : TableSchema). IsPlaced tests sought ms d target.item target.place)
+          is s ∙ item-target tests sought texts s ms (go s) target.said target.item found.0
+              target.place found.1
+              (subst (λ (d : TableSchema).
+              IsPlaced tests sought texts ms d target.said target.item target.place)
               (sym found.2) h.placed),
         )
+
+    -- what is done there is done for the whole request
+    pub item_done : (now : State → Type 0) (target : Target)
+        → IsAt tests sought texts (catalog_of tables) ms target → (r : Result Reply Stop) → IsPlain r
+        → ((s : State) (t : Table) → Stands disk tables s
+        → map.get s.tables (table_name ms) ≡ Some t → t.description ≡ target.schema.now
+        → Does now s (go s target.said target.item t target.place) r)
+        → Carries outcome (Stands disk tables) now r
+    item_done now target h r plain does = record {
+      does = λ s stands. let at = item_reached target h s stands in
+          subst (λ o. Does now s o r) (sym at.3) (does s at.0 stands at.1 at.2);
+      plain = plain;
+    }

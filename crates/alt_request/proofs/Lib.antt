@@ -1,4 +1,6 @@
 pub mod Carrying
 pub mod Named
 pub mod Reaching
+pub mod Said
 pub mod Walks
+pub mod Moving

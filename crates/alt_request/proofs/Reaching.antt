@@ -3,16 +3,21 @@ use Rattle.std.proofs.Common.{◌≡◌, sym, ap, ◌∙◌, ℕ, false, List, O
 use Rattle.std.specs.Result.{IsErr, IsErrAnd}
 use Rattle.std.specs.FinMap as map
 use Rattle.serde_json.specs.Data.{Members}
+use Rattle.alt_expr.specs.Given as expr
+use Rattle.alt_machine.specs.declared.Expressions.{Expressions}
 use Rattle.alt_machine.specs.declared.Sought.{Sought}
+use Rattle.alt_machine.specs.Expressions as machine
 use Rattle.alt_machine.specs.Keys.{key_fits}
 use Rattle.alt_machine.specs.Members.{table_name, item_at}
 use Rattle.alt_machine.specs.Outcomes.{Outcome, refuses}
 use Rattle.alt_machine.specs.Refusals.{first_answer, or_refused}
 use Rattle.alt_machine.specs.State.{State, Table, Texts, descriptions}
 use Rattle.alt_machine.specs.Targets.{on_item, member_of, place_in}
-use Rattle.alt_machine.proofs.Targets.{table-missed, item-no_table, item-no_place, item-too_long}
+use Rattle.alt_machine.proofs.Targets.{table-missed, item-no_words, item-no_table, item-unsaid, item-no_place, item-too_long}
 use Rattle.alt_request.specs.Steps.{Comes}
 use Rattle.alt_request.specs.Targets.{OnTable, OnItem}
+use Rattle.alt_request.specs.Words.{given_of}
+use Rattle.alt_request.specs.declared.expressions.Given.{Given}
 use Rattle.alt_request.specs.declared.stop.Stop.{Stop}
 use Rattle.alt_request.specs.declared.stop.Stop.TheVariants.{Refused, Fault}
 use Rattle.alt_request.proofs.Named.{some_found, none_found, table_found, table_missed}
@@ -25,48 +30,78 @@ pub err_is : {A E : Type 0} (r : Result A E) (e : E) → IsErr r × IsErrAnd r (
 err_is (Ok x) e h = absurd (let g = h.0 in let f : ⊥ = cc in f)
 err_is (Err x) e h = ap Err h.1
 
-module _ (tests : List (Option Answer)) (sought : Sought) (catalog : Texts TableSchema)
-    (ms : Members) (free : first_answer tests ≡ None)
+module _ (tests : List (Option Answer)) (sought : Sought) (texts : machine.Texts)
+    (catalog : Texts TableSchema) (ms : Members) (free : first_answer tests ≡ None)
     (item : List Pair) (read : item_at (member_of sought) ms ≡ Ok item) where
-  pub no_table : (e : Stop) → Comes {X = Bor TableSchema} (λ d. d.now)
-      (or_refused not_found (map.get catalog (table_name ms))) (Err e)
-      → OnItem tests sought catalog ms (Err e)
-  no_table (Refused q) h = (
+  pub no_words : (e : Stop) → Comes {X = Given} given_of (machine.given_at texts ms) (Err e)
+      → OnItem tests sought texts catalog ms (Err e)
+  no_words (Refused q) h = (
     h.1,
-    λ s go same.
-        let none = none_found not_found (map.get catalog (table_name ms)) (refused q) h.0 in
-        item-no_table tests sought s ms go free item read (refused q)
-        (ap (or_refused not_found) (table_missed s catalog same (table_name ms) none.0)
-        ∙ ap (λ a. Err a) (sym none.1)),
+    λ s go same. item-no_words tests sought texts s ms go free item read (refused q) h.0,
   )
-  no_table (Fault f) h = h
+  no_words (Fault f) h = h
 
-  module _ (d : TableSchema) (there : or_refused not_found (map.get catalog (table_name ms)) ≡ Ok d)
-    where
-      pub no_place : (e : Stop) → Comes {X = List ℕ} (λ b. b)
-          (or_refused bad_key (place_in sought d item)) (Err e)
-          → OnItem tests sought catalog ms (Err e)
-      no_place (Refused q) h = (
+  module _ (g : expr.Given) (words : machine.given_at texts ms ≡ Ok g) where
+    pub no_table : (e : Stop) → Comes {X = Bor TableSchema} (λ d. d.now)
+        (or_refused not_found (map.get catalog (table_name ms))) (Err e)
+        → OnItem tests sought texts catalog ms (Err e)
+    no_table (Refused q) h = (
+      h.1,
+      λ s go same.
+          let none = none_found not_found (map.get catalog (table_name ms)) (refused q) h.0 in
+          item-no_table tests sought texts s ms go free item read g words (refused q)
+          (ap (or_refused not_found) (table_missed s catalog same (table_name ms) none.0)
+          ∙ ap (λ a. Err a) (sym none.1)),
+    )
+    no_table (Fault f) h = h
+
+    module _ (d : TableSchema)
+        (there : or_refused not_found (map.get catalog (table_name ms)) ≡ Ok d) where
+      -- the table in a state that has these tables
+      at_table : (s : State) → descriptions s.tables ≡ catalog
+          → (t : Table) × (map.get s.tables (table_name ms) ≡ Some t) × (t.description ≡ d)
+      at_table s same = table_found s catalog same (table_name ms) d
+          (some_found not_found (map.get catalog (table_name ms)) d there)
+
+      pub unsaid : (e : Stop)
+          → Comes {X = Expressions} (λ x. x) (machine.expressions texts ms g) (Err e)
+          → OnItem tests sought texts catalog ms (Err e)
+      unsaid (Refused q) h = (
         h.1,
         λ s go same.
-            let found = table_found s catalog same (table_name ms) d
-            (some_found not_found (map.get catalog (table_name ms)) d there) in
-            item-no_place tests sought s ms go free item read found.0 found.1 (refused q)
-            (ap (λ (x : TableSchema). or_refused bad_key (place_in sought x item)) found.2 ∙ h.0),
+            let found = at_table s same in
+            item-unsaid tests sought texts s ms go free item read g words found.0 found.1
+            (refused q) h.0,
       )
-      no_place (Fault f) h = h
+      unsaid (Fault f) h = h
 
-      module _ (place : List ℕ) (at : or_refused bad_key (place_in sought d item) ≡ Ok place) where
-        pub too_long : key_fits d item ≡ false → (s : State)
-            (go : List Pair → Table → List ℕ → Outcome) → descriptions s.tables ≡ catalog
-            → on_item tests sought s ms go ≡ refuses key_too_long
-        too_long long s go same =
-            let found = table_found s catalog same (table_name ms) d
-            (some_found not_found (map.get catalog (table_name ms)) d there) in
-            item-too_long tests sought s ms go free item read found.0 found.1 place
-            (ap (λ (x : TableSchema). place_in sought x item) found.2
-            ∙ some_found bad_key (place_in sought d item) place at)
-            (ap (λ (x : TableSchema). key_fits x item) found.2 ∙ long)
+      module _ (said : Expressions) (says_so : machine.expressions texts ms g ≡ Ok said) where
+        pub no_place : (e : Stop) → Comes {X = List ℕ} (λ b. b)
+            (or_refused bad_key (place_in sought d item)) (Err e)
+            → OnItem tests sought texts catalog ms (Err e)
+        no_place (Refused q) h = (
+          h.1,
+          λ s go same.
+              let found = at_table s same in
+              item-no_place tests sought texts s ms go free item read g words found.0 found.1 said
+              says_so (refused q)
+              (ap (λ (x : TableSchema). or_refused bad_key (place_in sought x item)) found.2 ∙ h.0),
+        )
+        no_place (Fault f) h = h
+
+        module _ (place : List ℕ) (at : or_refused bad_key (place_in sought d item) ≡ Ok place)
+          where
+            pub too_long : key_fits d item ≡ false → (s : State)
+                (go : Expressions → List Pair → Table → List ℕ → Outcome)
+                → descriptions s.tables ≡ catalog
+                → on_item tests sought texts s ms go ≡ refuses key_too_long
+            too_long long s go same =
+                let found = at_table s same in
+                item-too_long tests sought texts s ms go free item read g words found.0 found.1
+                said says_so place
+                (ap (λ (x : TableSchema). place_in sought x item) found.2
+                ∙ some_found bad_key (place_in sought d item) place at)
+                (ap (λ (x : TableSchema). key_fits x item) found.2 ∙ long)
 
 -- the table isn't reached
 pub unnamed : (tests : List (Option Answer)) (catalog : Texts TableSchema) (ms : Members)

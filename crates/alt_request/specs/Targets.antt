@@ -3,7 +3,9 @@ use Rattle.std.specs.Prelude.{◌≡◌, ℕ, List, Option, Some, None, Result, 
 use Rattle.std.specs.Borrow.{Bor}
 use Rattle.std.specs.FinMap as map
 use Rattle.serde_json.specs.Data.{Members}
+use Rattle.alt_machine.specs.declared.Expressions.{Expressions}
 use Rattle.alt_machine.specs.declared.Sought.{Sought}
+use Rattle.alt_machine.specs.Expressions as machine
 use Rattle.alt_machine.specs.Members.{table_name}
 use Rattle.alt_machine.specs.Outcomes.{Outcome, refuses}
 use Rattle.alt_machine.specs.Refusals.{first_answer}
@@ -28,17 +30,17 @@ OnTable tests catalog ms (Err (Refused r)) =
     → on_table tests s ms go ≡ refuses r)
 OnTable tests catalog ms (Err (Fault f)) = IsReadFault f
 
--- the item or the key has its place in the table that is named
-pub record IsAt (tests : List (Option Answer)) (sought : Sought) (catalog : Texts TableSchema)
-    (ms : Members) (target : Target) : Type 0 where
+-- the item or the key has its place in the table that is named, and that is what the expressions say
+pub record IsAt (tests : List (Option Answer)) (sought : Sought) (texts : machine.Texts)
+    (catalog : Texts TableSchema) (ms : Members) (target : Target) : Type 0 where
   pub there : map.get catalog (table_name ms) ≡ Some target.schema.now
-  pub placed : IsPlaced tests sought ms target.schema.now target.item target.place
+  pub placed : IsPlaced tests sought texts ms target.schema.now target.said target.item target.place
 
 -- That is so; or the machine refuses the request too, whatever its operation goes on to do.
-abbrev pub OnItem : List (Option Answer) → Sought → Texts TableSchema → Members → Result Target Stop
-    → Type 0
-OnItem tests sought catalog ms (Ok target) = IsAt tests sought catalog ms target
-OnItem tests sought catalog ms (Err (Refused r)) =
-    IsKnown r × ((s : State) (go : List Pair → Table → List ℕ → Outcome)
-    → descriptions s.tables ≡ catalog → on_item tests sought s ms go ≡ refuses r)
-OnItem tests sought catalog ms (Err (Fault f)) = IsReadFault f
+abbrev pub OnItem : List (Option Answer) → Sought → machine.Texts → Texts TableSchema → Members
+    → Result Target Stop → Type 0
+OnItem tests sought texts catalog ms (Ok target) = IsAt tests sought texts catalog ms target
+OnItem tests sought texts catalog ms (Err (Refused r)) =
+    IsKnown r × ((s : State) (go : Expressions → List Pair → Table → List ℕ → Outcome)
+    → descriptions s.tables ≡ catalog → on_item tests sought texts s ms go ≡ refuses r)
+OnItem tests sought texts catalog ms (Err (Fault f)) = IsReadFault f

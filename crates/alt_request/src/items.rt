@@ -1,9 +1,10 @@
 //! The item or the key at a member, and what its table says of its key.
 
 ghost use Rattle.std.specs.Prelude.{◌≡◌};
-ghost use Rattle.serde_json.specs.View.{members_view};
+ghost use Rattle.serde_json.specs.View.{view, members_view};
+ghost use Rattle.alt_codec.specs.Reading.{item_in};
 ghost use Rattle.alt_machine.specs.Keys.{place_of, key_count, byte_count, is_within, key_fits};
-ghost use Rattle.alt_machine.specs.Members.{item_at};
+ghost use Rattle.alt_machine.specs.Members.{item_at, unless_fault};
 ghost use Rattle.alt_machine.specs.Targets.{member_of, place_in};
 ghost use Rattle.alt_machine.specs.Refusals.{or_refused, value_refusal, number_refusal};
 ghost use Rattle.alt_request.specs.Steps.{Comes};
@@ -39,6 +40,13 @@ pub(crate) fn item_at(
     let Some(value) = given(body, member_of(sought)) else {
         return Err(Stop::Refused(Refusal::MEMBER_MISSING));
     };
+    item_of(alloc, value)
+}
+
+/// The item that a JSON tree is.
+pub(crate) fn item_of(alloc: Global, value: &Value) -> Result<Item, Stop>
+    ensures read { Comes (λ i. i) (unless_fault (item_in 32 (view value.now))) result }
+{
     match item_of_json(alloc, value) {
         Ok(item) => Ok(item),
         Err(ValueFault::NoMemory) => Err(Stop::Fault(TableFault::NoMemory)),

@@ -2,12 +2,14 @@
 #![tactic(auto)]
 
 mod body;
+mod expressions;
 mod items;
 mod replies;
 mod stop;
 mod targets;
 
 pub use body::{Rules, body_refusal, table_name};
-pub use replies::{done, one_member};
+pub use expressions::Texts;
+pub use replies::{asks, done, one_member, refuse_with_item};
 pub use stop::Stop;
 pub use targets::{Target, item_target, table_target};

@@ -5,13 +5,15 @@ ghost use Rattle.serde_json.specs.View.{members_view};
 ghost use Rattle.alt_machine.specs.Body.{body_refusals};
 ghost use Rattle.alt_request.specs.Steps.{rules_of};
 ghost use Rattle.alt_request.specs.Targets.{OnTable, OnItem};
+ghost use Rattle.alt_request.specs.Words.{texts_of};
 ghost use Rattle.alt_tables.specs.Stands.{catalog_of};
 
 use crate::body::{Rules, body_refusal, table_of};
+use crate::expressions::{Texts, expressions, given_at};
 use crate::items::{item_at, key_fits, place_in};
 use crate::stop::Stop;
 use alt_fields::Bytes;
-use alt_machine::Sought;
+use alt_machine::{Expressions, Sought};
 use alt_schema::TableSchema;
 use alt_shape::{Broken, Refusal};
 use alt_tables::Tables;
@@ -19,12 +21,13 @@ use alt_value::Item;
 use serde_json::{Map, Value};
 use std::alloc::Global;
 
-/// An item or a key, the description of its table, and its place there.
+/// An item or a key, the description of its table, its place there, and what the request's expressions say.
 #[derive(Drop)]
 pub struct Target<'t> {
     pub schema: &'t TableSchema,
     pub item: Item,
     pub place: Bytes,
+    pub said: Expressions,
 }
 
 /// The table that a body names, where nothing refuses the body.
@@ -42,7 +45,8 @@ pub fn table_target<'t>(
     table_of(tables, body)
 }
 
-/// The item or the key in a body and its place in the table that the body names, where nothing refuses them.
+/// The item or the key in a body, its place in the table that the body names, and what the body's expressions say, where nothing
+/// refuses them.
 pub fn item_target<'t>(
     alloc: Global,
     tables: &'t Tables,
@@ -50,14 +54,17 @@ pub fn item_target<'t>(
     broken: Option<Broken>,
     rules: &Rules,
     sought: Sought,
+    texts: &Texts,
 ) -> Result<Target<'t>, Stop>
     ensures target { OnItem (body_refusals broken (rules_of rules.now)
-        (members_view body.now.entries)) sought
+        (members_view body.now.entries)) sought (texts_of texts.now)
         (catalog_of tables.now) (members_view body.now.entries) result }
 {
     body_refusal(broken, rules, body)?;
     let item = item_at(alloc, body, sought)?;
+    let given = given_at(alloc, texts, body)?;
     let schema = table_of(tables, body)?;
+    let said = expressions(alloc, texts, body, given)?;
     let place = place_in(alloc, sought, schema, &item)?;
     if !key_fits(schema, &item) {
         return Err(Stop::Refused(Refusal::KEY_TOO_LONG));
@@ -66,5 +73,6 @@ pub fn item_target<'t>(
         schema,
         item,
         place,
+        said,
     })
 }

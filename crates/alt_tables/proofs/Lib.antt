@@ -5,3 +5,4 @@ pub mod Listed
 pub mod Standing
 pub mod Catalog
 pub mod Making
+pub mod Holding

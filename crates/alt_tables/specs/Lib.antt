@@ -3,3 +3,4 @@ pub mod Faults
 pub mod Found
 pub mod Order
 pub mod Stands
+pub mod Images

@@ -1,6 +1,8 @@
 -- What the tables in memory stand for.
 use Rattle.std.specs.Prelude.{◌≡◌, ℕ, []}
-use Rattle.alt_disk.specs.Disk.{DiskState}
+use Rattle.std.specs.Prelude.{IsTrue}
+use Rattle.alt_disk.specs.Disk.{DiskState, IsTrusted, Goes}
+use Rattle.alt_disk.specs.Runs.{Quiet}
 use Rattle.alt_machine.specs.State.{State, Table, Texts, descriptions}
 use Rattle.alt_machine.specs.Valid.{IsValid}
 use Rattle.alt_schema.specs.declared.schema.TableSchema.{TableSchema}
@@ -45,3 +47,14 @@ pub record KeepsCatalog (old new : Tables) : Type 0 where
   pub catalog : catalog_of new ≡ catalog_of old
   pub number : number_of new ≡ number_of old
   pub family : family_of new ≡ family_of old
+
+-- On a disk that tells its contents and keeps what was synced the tables stand for a state: after a call that failed they don't, and
+-- then only a recovery goes on.
+abbrev pub AreReady : DiskState → Tables → Type 0
+AreReady disk t = IsTrusted disk → (s : State) × Stands disk t s
+
+-- A call that reads alone: where the disk tells its contents, every file stays, in reads and in what a stop leaves at each moment.
+pub record Reads (old new : DiskState) : Type 0 where
+  pub goes : Goes old new
+  pub quiet : IsTrue old.tells → Quiet old new
+  pub still : Quiet old new

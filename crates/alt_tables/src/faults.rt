@@ -3,13 +3,20 @@
 ghost use Rattle.std.specs.Prelude.{◌≡◌};
 
 use alt_base::NoMemory;
+use alt_fields::Bytes;
 use std::alloc::{AllocError, AllocFailed};
 
-/// What ends a run in the middle of a request.
-#[derive(Clone, Copy, Debug, PartialEq, Eq, Drop)]
+/// What ends a run in the middle of a request. Only a recovery of the tables goes on from there.
+#[derive(Debug, Drop)]
 pub enum TableFault {
     /// A write would need a number, or a new table a family, that is never given out: this number, or this family.
     Spent { number: u64 },
+    /// The disk gave bytes that it wasn't left with, in this file at this place.
+    Damaged { file: u32, at: u64 },
+    /// The disk gave a row that is none of its family, with this key.
+    BadRow { family: u32, key: Bytes },
+    /// The disk failed, and its count of faults rose.
+    Failed,
     /// Memory was refused.
     NoMemory,
 }

@@ -1,6 +1,6 @@
 //! The items of tables: what stands at a place, and what is to stand there.
 
-ghost use Rattle.std.specs.Prelude.{◌≡◌, ◌↔◌, ℕ, true, None, Some, IsSome, IfOk, IfErr, IfSome, OnOk, List, option_map};
+ghost use Rattle.std.specs.Prelude.{◌≡◌, ◌↔◌, ℕ, true, None, Some, IsSome, IfOk, IfErr, IfSome, IsErrOf, OnOk, Ok, List, option_map};
 ghost use Rattle.std.specs.FinMap as map;
 ghost use Rattle.alt_machine.specs.Keys.{place_of};
 ghost use Rattle.alt_machine.specs.Outcomes.{a_number};
@@ -9,9 +9,12 @@ ghost use Rattle.alt_machine.specs.State.{State, Table};
 ghost use Rattle.alt_machine.specs.Valid.{IsStored};
 ghost use Rattle.alt_machine.specs.Writes.{item_writes};
 ghost use Rattle.alt_schema.specs.declared.schema.TableSchema.{TableSchema};
-ghost use Rattle.alt_tables.specs.Faults.{IsReadFault, Writes};
+ghost use Rattle.alt_base.specs.Counts.{Rose};
+ghost use Rattle.alt_disk.specs.Disk.{Goes};
+ghost use Rattle.alt_tables.specs.Faults.{IsFindFault, IsUnspent, Writes};
+ghost use Rattle.alt_tables.specs.Images.{Leaves};
 ghost use Rattle.alt_tables.specs.Found.{IsFoundIn, number_taken};
-ghost use Rattle.alt_tables.specs.Stands.{Stands, KeepsCatalog, catalog_of, number_of};
+ghost use Rattle.alt_tables.specs.Stands.{AreReady, Reads, Stands, KeepsCatalog, catalog_of, number_of};
 
 use crate::TableFault;
 use crate::place::place_of;
@@ -31,12 +34,14 @@ pub struct Found {
 
 impl Tables {
     /// What stands at a place of a table that is there.
+    #[tactic(auto, using(crate::proofs::Holding::reads_same))]
     pub fn find<D: Disk>(
         &mut self,
         disk: &mut D,
         table: &str,
         place: Bytes,
     ) -> Result<Found, TableFault>
+        requires ready { AreReady (D.state disk.old) self.old }
         requires there { map.contains_key (catalog_of self.old) table.now ≡ true }
         ensures place { IfOk result (λ found. found.place ≡ place) }
         ensures item { (s : State) → Stands (D.state disk.old) self.old s
@@ -44,8 +49,12 @@ impl Tables {
         ensures stays { (s : State) → Stands (D.state disk.old) self.old s ↔ Stands
             (D.state disk.new) self.new s }
         ensures catalog { KeepsCatalog self.old self.new }
-        ensures cause { IfErr result IsReadFault }
-        ensures disk { D.state disk.new ≡ D.state disk.old }
+        ensures unspent { IfErr result IsUnspent }
+        ensures fault { (s : State) → Stands (D.state disk.old) self.old s
+            → IfErr result IsFindFault }
+        ensures disk { Reads (D.state disk.old) (D.state disk.new) }
+        ensures cause { IsErrOf result TableFault.Failed
+            → Rose (D.state disk.old).faults (D.state disk.new).faults }
     {
         let _ = disk;
         let Some(entry) = self.list.get(table) else {
@@ -60,6 +69,7 @@ impl Tables {
 
     /// Leaves `new` at the place of what was found in a table that is there, or nothing. The answer is the number that the write
     /// took, and `None` exactly where there was nothing to write.
+    #[tactic(auto, using(crate::proofs::Holding::leaves_same))]
     pub fn write<D: Disk>(
         &mut self,
         disk: &mut D,
@@ -68,6 +78,7 @@ impl Tables {
         new: Option<Item>,
         moment: u64,
     ) -> Result<Option<u64>, TableFault>
+        requires ready { AreReady (D.state disk.old) self.old }
         requires there { map.contains_key (catalog_of self.old) table.now ≡ true }
         requires found { (s : State) → Stands (D.state disk.old) self.old s
             → IsFoundIn s table.now found }
@@ -81,7 +92,13 @@ impl Tables {
             → map.get s.tables table.now ≡ Some t
             → IfOk result (λ n. n ≡ number_taken (number_of self.old)
             (item_writes s moment table.now t found.place new)) }
-        ensures disk { D.state disk.new ≡ D.state disk.old }
+        ensures disk { (s : State) (t : Table) → Stands (D.state disk.old) self.old s
+            → map.get s.tables table.now ≡ Some t → Leaves (D.state disk.old) (D.state disk.new) s
+            (item_writes s moment table.now t found.place new) }
+        ensures goes { Goes (D.state disk.old) (D.state disk.new) }
+        ensures unchanged { result ≡ Ok None → D.state disk.new ≡ D.state disk.old }
+        ensures cause { IsErrOf result TableFault.Failed
+            → Rose (D.state disk.old).faults (D.state disk.new).faults }
     {
         let _ = disk;
         let _ = moment;
@@ -105,12 +122,14 @@ impl Tables {
 
 impl Tables {
     /// The item of a key in a table that is there, `None` exactly where there is none.
+    #[tactic(auto, using(crate::proofs::Holding::reads_same))]
     pub fn item<D: Disk>(
         &mut self,
         disk: &mut D,
         table: &str,
         key: &Item,
     ) -> Result<Option<Item>, TableFault>
+        requires ready { AreReady (D.state disk.old) self.old }
         requires there { map.contains_key (catalog_of self.old) table.now ≡ true }
         requires key { (d : TableSchema) → map.get (catalog_of self.old) table.now ≡ Some d
             → IsSome (place_of d key.now) }
@@ -121,8 +140,12 @@ impl Tables {
         ensures stays { (s : State) → Stands (D.state disk.old) self.old s ↔ Stands
             (D.state disk.new) self.new s }
         ensures catalog { KeepsCatalog self.old self.new }
-        ensures cause { IfErr result IsReadFault }
-        ensures disk { D.state disk.new ≡ D.state disk.old }
+        ensures unspent { IfErr result IsUnspent }
+        ensures fault { (s : State) → Stands (D.state disk.old) self.old s
+            → IfErr result IsFindFault }
+        ensures disk { Reads (D.state disk.old) (D.state disk.new) }
+        ensures cause { IsErrOf result TableFault.Failed
+            → Rose (D.state disk.old).faults (D.state disk.new).faults }
     {
         let place = match self.place_in(table, key) {
             Ok(place) => place,
@@ -136,6 +159,7 @@ impl Tables {
 
     /// Leaves `new` as the item of a key in a table that is there, or none. `old` is the item that is there. The answer is the number
     /// that the write took, and `None` exactly where there was nothing to write.
+    #[tactic(auto, using(crate::proofs::Holding::leaves_same))]
     pub fn write_item<D: Disk>(
         &mut self,
         disk: &mut D,
@@ -145,6 +169,7 @@ impl Tables {
         new: Option<&Item>,
         moment: u64,
     ) -> Result<Option<u64>, TableFault>
+        requires ready { AreReady (D.state disk.old) self.old }
         requires there { map.contains_key (catalog_of self.old) table.now ≡ true }
         requires key { (d : TableSchema) → map.get (catalog_of self.old) table.now ≡ Some d
             → IsSome (place_of d key.now) }
@@ -161,7 +186,10 @@ impl Tables {
             → place_of t.description key.now ≡ Some place
             → Writes (Stands (D.state disk.new) self.new) a_number s
             (item_writes s moment table.now t place (option_map (λ i. i.now) new.entry)) result }
-        ensures disk { D.state disk.new ≡ D.state disk.old }
+        ensures goes { Goes (D.state disk.old) (D.state disk.new) }
+        ensures unchanged { result ≡ Ok None → D.state disk.new ≡ D.state disk.old }
+        ensures cause { IsErrOf result TableFault.Failed
+            → Rose (D.state disk.old).faults (D.state disk.new).faults }
     {
         let place = match self.place_in(table, key) {
             Ok(place) => place,

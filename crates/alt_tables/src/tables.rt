@@ -1,8 +1,8 @@
 //! All tables: what is known of them by their names, and the numbers and families that are left.
 
-ghost use Rattle.std.specs.Prelude.{◌≡◌, ◌+◌, ◌<◌, ◌≤◌, length, true, None, IfOk, IfErr, OnOk, OnErr, option_map, slice_get, [], ◌∷◌};
+ghost use Rattle.std.specs.Prelude.{◌≡◌, ◌+◌, ◌<◌, ◌≤◌, length, true, None, IsSome, IfOk, IfErr, IsErrOf, OnOk, OnErr, option_map, slice_get, [], ◌∷◌};
 ghost use Rattle.std.specs.FinMap as map;
-ghost use Rattle.alt_disk.specs.Disk.{DiskState};
+ghost use Rattle.alt_disk.specs.Disk.{DiskState, Goes};
 ghost use Rattle.alt_machine.specs.Ops.CreateTable.{with_table};
 ghost use Rattle.alt_machine.specs.Ops.DeleteTable.{without_table};
 ghost use Rattle.alt_machine.specs.Ops.ListTables.{names_after};
@@ -13,7 +13,9 @@ ghost use Rattle.alt_machine.specs.Wanted.{table_lack};
 ghost use Rattle.alt_schema.specs.Described.{IsNew};
 ghost use Rattle.alt_tables.specs.Faults.{Writes};
 ghost use Rattle.alt_tables.specs.Order.{first_after};
-ghost use Rattle.alt_tables.specs.Stands.{Stands, catalog_of, number_of, family_of};
+ghost use Rattle.alt_tables.specs.Images.{Leaves};
+ghost use Rattle.alt_base.specs.Counts.{Rose};
+ghost use Rattle.alt_tables.specs.Stands.{AreReady, Stands, catalog_of, number_of, family_of};
 
 use crate::TableFault;
 use crate::list::TableList;
@@ -92,6 +94,7 @@ impl Tables {
     /// Adds an empty table, where none has its name. `schema` is what `schema_of_json` gave for the next number and the next family.
     /// Where the number or 27 families from the next one on aren't free, nothing is added, whatever families `schema` has.
     pub fn create<D: Disk>(&mut self, disk: &mut D, schema: TableSchema) -> Result<(), TableFault>
+        requires ready { AreReady (D.state disk.old) self.old }
         requires absent { map.get (catalog_of self.old) schema.name ≡ None }
         requires few { map.len (catalog_of self.old) < MOST_TABLES }
         requires made { IsMade schema }
@@ -102,7 +105,14 @@ impl Tables {
         ensures writes { (s : State) → Stands (D.state disk.old) self.old s
             → Writes (Stands (D.state disk.new) self.new) a_table s
             (with_table s schema ∷ []) result }
-        ensures disk { D.state disk.new ≡ D.state disk.old }
+        ensures disk { (s : State) → Stands (D.state disk.old) self.old s
+            → Leaves (D.state disk.old) (D.state disk.new) s (with_table s schema ∷ []) }
+        // On every disk: where a number or a family is lacked, no call of the disk is made.
+        ensures lacking { IsSome (table_lack (number_of self.old) (family_of self.old))
+            → D.state disk.new ≡ D.state disk.old }
+        ensures goes { Goes (D.state disk.old) (D.state disk.new) }
+        ensures cause { IsErrOf result TableFault.Failed
+            → Rose (D.state disk.old).faults (D.state disk.new).faults }
     {
         let _ = disk;
         if self.number >= NUMBERS_END {
@@ -127,11 +137,16 @@ impl Tables {
 
     /// Takes a table that is there out, with all its items.
     pub fn drop_table<D: Disk>(&mut self, disk: &mut D, name: &str) -> Result<(), TableFault>
+        requires ready { AreReady (D.state disk.old) self.old }
         requires there { map.contains_key (catalog_of self.old) name.now ≡ true }
         ensures writes { (s : State) → Stands (D.state disk.old) self.old s
             → Writes (Stands (D.state disk.new) self.new) a_number s
             (without_table s name.now ∷ []) result }
-        ensures disk { D.state disk.new ≡ D.state disk.old }
+        ensures disk { (s : State) → Stands (D.state disk.old) self.old s
+            → Leaves (D.state disk.old) (D.state disk.new) s (without_table s name.now ∷ []) }
+        ensures goes { Goes (D.state disk.old) (D.state disk.new) }
+        ensures cause { IsErrOf result TableFault.Failed
+            → Rose (D.state disk.old).faults (D.state disk.new).faults }
     {
         let _ = disk;
         if self.number >= NUMBERS_END {

@@ -6,7 +6,9 @@ use Rattle.alt_shape.specs.Bodies as bodies
 use Rattle.alt_shape.specs.Refusals.{Answer}
 use Rattle.alt_value.specs.Tree.{Pair}
 use Rattle.alt_machine.specs.Body.{Rules, body_refusals}
+use Rattle.alt_machine.specs.declared.Expressions.{Expressions}
 use Rattle.alt_machine.specs.declared.Sought.TheVariants.{Key}
+use Rattle.alt_machine.specs.Expressions.{no_texts}
 use Rattle.alt_machine.specs.Outcomes.{Outcome, says}
 use Rattle.alt_machine.specs.Replies.{item_answer}
 use Rattle.alt_machine.specs.State.{State, Table}
@@ -25,8 +27,8 @@ abbrev pub of_body : Members → List (Option Answer)
 of_body ms = body_refusals (bodies.get_item ms) rules ms
 
 -- what stands at a place is answered
-abbrev pub gets : List Pair → Table → List ℕ → Outcome
-gets key t place = says (item_answer (map.get t.items place))
+abbrev pub gets : Expressions → List Pair → Table → List ℕ → Outcome
+gets said key t place = says (item_answer (codes "Item") (map.get t.items place))
 
 unfoldable pub get_item : State → Members → Outcome
-get_item s ms = on_item (of_body ms) Key s ms gets
+get_item s ms = on_item (of_body ms) Key no_texts s ms gets

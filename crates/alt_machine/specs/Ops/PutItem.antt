@@ -1,4 +1,4 @@
--- PutItem: puts an item in the place of the one with its key (DynamoDB API Reference, "PutItem").
+-- PutItem: puts an item in the place of the one with its key, where a condition holds of that (DynamoDB API Reference, "PutItem").
 use Rattle.std.specs.Prelude.{ℕ, nat_le, List, [], ◌∷◌, Option, Some, codes}
 use Rattle.serde_json.specs.Data.{Members}
 use Rattle.alt_shape.specs.Bodies as bodies
@@ -10,21 +10,19 @@ use Rattle.alt_value.specs.Tree.{Pair}
 use Rattle.alt_machine.specs.declared.TheConstants.{LARGEST_ITEM}
 use Rattle.alt_machine.specs.Body.{Rules, body_refusals}
 use Rattle.alt_machine.specs.declared.Sought.TheVariants.{Item}
-use Rattle.alt_machine.specs.Members.{table_name}
-use Rattle.alt_machine.specs.Outcomes.{Outcome, writes, unless_refused}
+use Rattle.alt_machine.specs.Conditional.{writes_if}
+use Rattle.alt_machine.specs.declared.Expressions.{Expressions}
+use Rattle.alt_machine.specs.Expressions.{conditional}
+use Rattle.alt_machine.specs.Outcomes.{Outcome, unless_refused}
 use Rattle.alt_machine.specs.Refusals.{refuse_unless}
-use Rattle.alt_machine.specs.Replies.{done}
 use Rattle.alt_machine.specs.State.{State, Table}
 use Rattle.alt_machine.specs.Targets.{on_item}
-use Rattle.alt_machine.specs.Writes.{item_writes}
 
--- two members are of an older interface, and conditions and returned values aren't built yet
+-- two members are of an older interface
 abbrev pub rules : Rules
 rules = record {
   legacy = codes "Expected" ∷ codes "ConditionalOperator" ∷ [];
-  unbuilt =
-      codes "ConditionExpression" ∷ codes "ExpressionAttributeNames" ∷ codes "ExpressionAttributeValues" ∷
-      codes "ReturnValues" ∷ codes "ReturnValuesOnConditionCheckFailure" ∷ [];
+  unbuilt = [];
   named = codes "TableName" ∷ [];
 }
 
@@ -38,10 +36,10 @@ of_item d item =
     refuse_unless (keys_fit d item) bad_index_key ∷
     refuse_unless (nat_le (item_size item) LARGEST_ITEM) item_too_large ∷ []
 
--- the item is put at its place
-abbrev pub puts : State → ℕ → Members → List Pair → Table → List ℕ → Outcome
-puts s moment ms item t place = unless_refused (of_item t.description item)
-    (writes (item_writes s moment (table_name ms) t place (Some item)) done)
+-- the item is put at its place, where the condition holds of the one that is there
+abbrev pub puts : State → ℕ → Members → Expressions → List Pair → Table → List ℕ → Outcome
+puts s moment ms said item t place = unless_refused (of_item t.description item)
+    (writes_if said.condition s moment ms t place (Some item))
 
 unfoldable pub put_item : State → ℕ → Members → Outcome
-put_item s moment ms = on_item (of_body ms) Item s ms (puts s moment ms)
+put_item s moment ms = on_item (of_body ms) Item conditional s ms (puts s moment ms)

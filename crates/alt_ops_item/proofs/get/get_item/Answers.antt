@@ -1,10 +1,12 @@
 -- The key isn't reached, or what stands at its place is answered.
 use Rattle.std.proofs.Common.{sym, ap, subst, ◌∙◌, is_some}
+use Rattle.std.specs.Prelude.{codes}
 use Rattle.std.specs.FinMap as map
 use Rattle.serde_json.specs.Data.{Members}
 use Rattle.serde_json.specs.View.{members_view}
 use Rattle.alt_machine.specs.declared.Sought.TheVariants.{Key}
 use Rattle.alt_machine.specs.Body.{body_refusals}
+use Rattle.alt_machine.specs.Expressions.{no_texts}
 use Rattle.alt_machine.specs.Ops.GetItem.{rules, gets, get_item}
 use Rattle.alt_machine.specs.Outcomes.{says}
 use Rattle.alt_machine.specs.Replies.{item_answer}
@@ -20,7 +22,7 @@ pub returns-in_err-target-clause-carried : goal.returns-in_err-target-clause-car
 returns-in_err-target-clause-carried g c =
     let ms : Members = members_view c.args.body.now.entries in
     item_passed (g.D.Disk.state c.args.disk.now) c.args.tables.now
-    (body_refusals c.get_item-broken.result rules ms) ms (λ s. get_item s ms) Key (λ s. gets)
+    (body_refusals c.get_item-broken.result rules ms) ms (λ s. get_item s ms) Key no_texts (λ s. gets)
     (get_is ms c.get_item-broken.result c.get_item-broken.ensures)
     (Stands (g.D.Disk.state c.args.disk.now) c.args.tables.now)
     c.from_residual.result c.in_err-target.field-0.0 c.from_residual.ensures
@@ -49,13 +51,13 @@ returns-clause-carried g c =
     let ms : Members = members_view c.args.body.now.entries in
     said_or_not (λ s. get_item s ms) (Stands (g.D.Disk.state c.args.disk.now) c.args.tables.now)
     (Stands (g.D.Disk.state c.find.new.disk) c.find.new.self)
-    c.item_reply.result (item_answer c.in_ok-found.found.item) c.item_reply.ensures.reply
+    c.item_reply.result (item_answer (codes "Item") c.in_ok-found.found.item) c.item_reply.ensures.reply
     c.item_reply.ensures.plain c.item_reply.ensures.cause (λ s stands.
     let at = item_reached (g.D.Disk.state c.args.disk.now) c.args.tables.now
-    (body_refusals c.get_item-broken.result rules ms) ms (λ s. get_item s ms) Key (λ s. gets)
+    (body_refusals c.get_item-broken.result rules ms) ms (λ s. get_item s ms) Key no_texts (λ s. gets)
     (get_is ms c.get_item-broken.result c.get_item-broken.ensures) c.in_ok-target.target
     c.in_ok-target.ensures.target s stands in
-    at.3 ∙ ap (λ o. says (item_answer o)) (
+    at.3 ∙ ap (λ o. says (item_answer (codes "Item") o)) (
     ap (map.get at.0.items) (sym c.in_ok-found.ensures.place)
     ∙ sym (c.in_ok-found.ensures.item s stands at.0
     (ap (map.get s.tables) c.table_name-name.ensures.name ∙ at.1))))

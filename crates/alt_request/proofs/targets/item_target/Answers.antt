@@ -8,11 +8,12 @@ use Rattle.alt_machine.specs.Members.{table_name}
 use Rattle.alt_machine.specs.Targets.{place_in}
 use Rattle.alt_request.specs.Steps.{rules_of}
 use Rattle.alt_request.specs.Targets.{OnItem}
+use Rattle.alt_request.specs.Words.{given_of, texts_of}
 use Rattle.alt_request.specs.declared.body.Rules.{Rules}
 use Rattle.alt_shape.specs.Refusals.{Answer}
 use Rattle.alt_shape.specs.declared.rule.Broken.{Broken}
 use Rattle.alt_request.proofs.Named.{some_found}
-use Rattle.alt_request.proofs.Reaching.{err_is, no_table, no_place, too_long}
+use Rattle.alt_request.proofs.Reaching.{err_is, no_words, no_table, unsaid, no_place, too_long}
 use Rattle.alt_shape.specs.Refusals.{not_found, bad_key}
 use Rattle.alt_tables.specs.Stands.{catalog_of}
 use Rattle.alt_request.proofs.targets.item_target.Goals as goal
@@ -20,32 +21,63 @@ use Rattle.alt_request.proofs.targets.item_target.Goals as goal
 abbrev tests_of : Option Broken → Rules → Members → List (Option Answer)
 tests_of broken rules ms = body_refusals broken (rules_of rules) ms
 
+pub returns-in_err-given : goal.returns-in_err-given
+returns-in_err-given c = record {
+  target = subst (λ r. OnItem (tests_of c.args.broken c.args.rules.now
+      (members_view c.args.body.now.entries)) c.args.sought (texts_of c.args.texts.now)
+      (catalog_of c.args.tables.now) (members_view c.args.body.now.entries) r)
+      (sym (err_is c.from_residual-in_err-given.result c.in_err-given.field-0.0
+      c.from_residual-in_err-given.ensures))
+      (no_words (tests_of c.args.broken c.args.rules.now (members_view c.args.body.now.entries))
+      c.args.sought (texts_of c.args.texts.now) (catalog_of c.args.tables.now)
+      (members_view c.args.body.now.entries) c.in_ok-body_refusal.ensures.tested
+      c.in_ok-item.item c.in_ok-item.ensures.read c.in_err-given.field-0.0
+      c.in_err-given.ensures.given);
+}
+
 pub returns-in_err-schema : goal.returns-in_err-schema
 returns-in_err-schema c = record {
   target = subst (λ r. OnItem (tests_of c.args.broken c.args.rules.now
-      (members_view c.args.body.now.entries)) c.args.sought (catalog_of c.args.tables.now)
-      (members_view c.args.body.now.entries) r)
+      (members_view c.args.body.now.entries)) c.args.sought (texts_of c.args.texts.now)
+      (catalog_of c.args.tables.now) (members_view c.args.body.now.entries) r)
       (sym (err_is c.from_residual-in_err-schema.result c.in_err-schema.field-0.0
       c.from_residual-in_err-schema.ensures))
       (no_table (tests_of c.args.broken c.args.rules.now (members_view c.args.body.now.entries))
-      c.args.sought (catalog_of c.args.tables.now)
+      c.args.sought (texts_of c.args.texts.now) (catalog_of c.args.tables.now)
       (members_view c.args.body.now.entries) c.in_ok-body_refusal.ensures.tested
-      c.in_ok-item.item c.in_ok-item.ensures.read c.in_err-schema.field-0.0
-      c.in_err-schema.ensures.found);
+      c.in_ok-item.item c.in_ok-item.ensures.read (given_of c.in_ok-given.given)
+      c.in_ok-given.ensures.given c.in_err-schema.field-0.0 c.in_err-schema.ensures.found);
+}
+
+pub returns-in_err-said : goal.returns-in_err-said
+returns-in_err-said c = record {
+  target = subst (λ r. OnItem (tests_of c.args.broken c.args.rules.now
+      (members_view c.args.body.now.entries)) c.args.sought (texts_of c.args.texts.now)
+      (catalog_of c.args.tables.now) (members_view c.args.body.now.entries) r)
+      (sym (err_is c.from_residual-in_err-said.result c.in_err-said.field-0.0
+      c.from_residual-in_err-said.ensures))
+      (unsaid (tests_of c.args.broken c.args.rules.now (members_view c.args.body.now.entries))
+      c.args.sought (texts_of c.args.texts.now) (catalog_of c.args.tables.now)
+      (members_view c.args.body.now.entries) c.in_ok-body_refusal.ensures.tested
+      c.in_ok-item.item c.in_ok-item.ensures.read (given_of c.in_ok-given.given)
+      c.in_ok-given.ensures.given c.in_ok-schema.schema.now c.in_ok-schema.ensures.found
+      c.in_err-said.field-0.0 c.in_err-said.ensures.said);
 }
 
 pub returns-in_err-place : goal.returns-in_err-place
 returns-in_err-place c = record {
   target = subst (λ r. OnItem (tests_of c.args.broken c.args.rules.now
-      (members_view c.args.body.now.entries)) c.args.sought (catalog_of c.args.tables.now)
-      (members_view c.args.body.now.entries) r)
+      (members_view c.args.body.now.entries)) c.args.sought (texts_of c.args.texts.now)
+      (catalog_of c.args.tables.now) (members_view c.args.body.now.entries) r)
       (sym (err_is c.from_residual-in_err-place.result c.in_err-place.field-0.0
       c.from_residual-in_err-place.ensures))
       (no_place (tests_of c.args.broken c.args.rules.now (members_view c.args.body.now.entries))
-      c.args.sought (catalog_of c.args.tables.now)
+      c.args.sought (texts_of c.args.texts.now) (catalog_of c.args.tables.now)
       (members_view c.args.body.now.entries) c.in_ok-body_refusal.ensures.tested
-      c.in_ok-item.item c.in_ok-item.ensures.read c.in_ok-schema.schema.now
-      c.in_ok-schema.ensures.found c.in_err-place.field-0.0 c.in_err-place.ensures.place);
+      c.in_ok-item.item c.in_ok-item.ensures.read (given_of c.in_ok-given.given)
+      c.in_ok-given.ensures.given c.in_ok-schema.schema.now c.in_ok-schema.ensures.found
+      c.in_ok-said.said c.in_ok-said.ensures.said c.in_err-place.field-0.0
+      c.in_err-place.ensures.place);
 }
 
 pub returns-then-not-key_fits : goal.returns-then-not-key_fits
@@ -53,11 +85,12 @@ returns-then-not-key_fits c = record {
   target = (
     omega arith,
     too_long (tests_of c.args.broken c.args.rules.now (members_view c.args.body.now.entries))
-        c.args.sought (catalog_of c.args.tables.now)
+        c.args.sought (texts_of c.args.texts.now) (catalog_of c.args.tables.now)
         (members_view c.args.body.now.entries) c.in_ok-body_refusal.ensures.tested
-        c.in_ok-item.item c.in_ok-item.ensures.read c.in_ok-schema.schema.now
-        c.in_ok-schema.ensures.found c.in_ok-place.place c.in_ok-place.ensures.place
-        (sym c.if-not-key_fits.ensures.fits),
+        c.in_ok-item.item c.in_ok-item.ensures.read (given_of c.in_ok-given.given)
+        c.in_ok-given.ensures.given c.in_ok-schema.schema.now
+        c.in_ok-schema.ensures.found c.in_ok-said.said c.in_ok-said.ensures.said
+        c.in_ok-place.place c.in_ok-place.ensures.place (sym c.if-not-key_fits.ensures.fits),
   );
 }
 
@@ -70,6 +103,9 @@ returns c = record {
     placed = record {
       body = c.in_ok-body_refusal.ensures.tested;
       read = c.in_ok-item.ensures.read;
+      words = given_of c.in_ok-given.given;
+      given = c.in_ok-given.ensures.given;
+      says = c.in_ok-said.ensures.said;
       at = some_found bad_key (place_in c.args.sought c.in_ok-schema.schema.now c.in_ok-item.item)
           c.in_ok-place.place c.in_ok-place.ensures.place;
       fits = sym c.if-not-key_fits.ensures.fits;

@@ -1,4 +1,5 @@
 -- A family is lacked, or the table is added.
+use Rattle.alt_tables.proofs.Holding.{leaves_one}
 use Rattle.std.proofs.Common.{◌+◌, [], ◌∷◌, refl, sym, ap, subst, ℕ, arith}
 use Rattle.alt_machine.specs.Ops.CreateTable.{with_table}
 use Rattle.alt_machine.specs.Outcomes.{a_table}
@@ -25,3 +26,19 @@ returns-clause-writes g c =
     c.requires.made c.requires.new c.requires.number c.requires.family
     c.in-Ok.ensures.ok refl (ap (λ (n : ℕ). c.args.self.now.family + n)
     c.family_count.ensures.count) c.if-self-ge-NUMBERS_END.false (omega arith)
+
+pub returns-then-self-ge-NUMBERS_END-clause-disk : goal.returns-then-self-ge-NUMBERS_END-clause-disk
+returns-then-self-ge-NUMBERS_END-clause-disk g c s stands = leaves_one (g.D.Disk.state c.args.disk.now)
+    (g.D.Disk.state c.args.disk.now) s _ refl
+
+pub returns-then-self-clause-disk : goal.returns-then-self-clause-disk
+returns-then-self-clause-disk g c s stands = leaves_one (g.D.Disk.state c.args.disk.now)
+    (g.D.Disk.state c.args.disk.now) s _ refl
+
+pub returns-in-Err-clause-disk : goal.returns-in-Err-clause-disk
+returns-in-Err-clause-disk g c s stands = leaves_one (g.D.Disk.state c.args.disk.now)
+    (g.D.Disk.state c.args.disk.now) s _ refl
+
+pub returns-clause-disk : goal.returns-clause-disk
+returns-clause-disk g c s stands = leaves_one (g.D.Disk.state c.args.disk.now)
+    (g.D.Disk.state c.args.disk.now) s _ refl

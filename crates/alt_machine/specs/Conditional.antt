@@ -1,0 +1,56 @@
+-- Writes of an item that are made only where a condition holds of the one that is there (API Reference, "PutItem" and "DeleteItem").
+use Rattle.std.specs.Prelude.{ℕ, Bool, true, List, Option, Some, None, option_and_then, codes, if◌then◌else◌}
+use Rattle.std.specs.Option.{option_map_or}
+use Rattle.std.specs.FinMap as map
+use Rattle.serde_json.specs.Data.{Data, string, object, Members, no_members, member}
+use Rattle.alt_codec.specs.Writing.{json_of_pairs}
+use Rattle.alt_expr.specs.Holds.{holds}
+use Rattle.alt_expr.specs.Located.{View}
+use Rattle.alt_expr.specs.declared.cond.Cond.{Cond}
+use Rattle.alt_machine.specs.Members.{table_name}
+use Rattle.alt_machine.specs.Outcomes.{Outcome, says, writes}
+use Rattle.alt_machine.specs.Replies.{asks, item_answer}
+use Rattle.alt_machine.specs.State.{State, Table}
+use Rattle.alt_machine.specs.Writes.{item_writes}
+use Rattle.alt_shape.specs.Refusals.{Answer, refused, name_of, message_of, condition_failed}
+use Rattle.alt_shape.specs.declared.refusal.Refusal.{Refusal}
+use Rattle.alt_value.specs.Item.{at_name}
+use Rattle.alt_value.specs.Tree.{Pair}
+
+-- the attributes of an item, by their names; one that isn't there has none
+abbrev pub seen : Option (List Pair) → View
+seen old = λ name. option_and_then (at_name name) old
+
+-- the condition holds of what is there, or there is no condition
+abbrev pub meets : Option Cond → Option (List Pair) → Bool
+meets condition old = option_map_or (holds (seen old)) condition true
+
+-- the item that was there, where a member asks for it
+abbrev pub asked : List ℕ → Members → Option (List Pair) → Option (List Pair)
+asked name ms old = if asks name (codes "ALL_OLD") ms then old else None
+
+-- a refusal that shows an item
+abbrev pub refused_with_item : Data → Refusal → Answer
+refused_with_item item r = record {
+  status = 400;
+  body = object
+      (member (codes "Item") item
+      (member (codes "__type") (string (name_of r))
+      (member (codes "message") (string (message_of r)) no_members)));
+}
+
+-- the refusal, and in it the item, if there is one to show
+abbrev pub failed : Option (List Pair) → Answer
+failed None = refused condition_failed
+failed (Some item) = refused_with_item (json_of_pairs item) condition_failed
+
+-- Where the condition holds of what is at the place, `new` is left there, or nothing, and the answer shows what was there where it is
+-- asked for. Else nothing is written, and the refusal shows it where that is asked for.
+abbrev pub writes_if : Option Cond → State → ℕ → Members → Table → List ℕ → Option (List Pair)
+    → Outcome
+writes_if condition s moment ms t place new =
+    if meets condition (map.get t.items place)
+    then writes (item_writes s moment (table_name ms) t place new)
+    (item_answer (codes "Attributes") (asked (codes "ReturnValues") ms (map.get t.items place)))
+    else says (failed
+    (asked (codes "ReturnValuesOnConditionCheckFailure") ms (map.get t.items place)))

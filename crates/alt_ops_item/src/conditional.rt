@@ -1,0 +1,115 @@
+//! Writes that are made only where a condition holds of the item that is there.
+
+ghost use Rattle.std.specs.Prelude.{◌≡◌, ℕ, true, codes, IsTrue, Some, IfSome, option_map};
+ghost use Rattle.std.specs.FinMap as map;
+ghost use Rattle.serde_json.specs.View.{members_view};
+ghost use Rattle.alt_machine.specs.Conditional as machine;
+ghost use Rattle.alt_machine.specs.Members.{table_name};
+ghost use Rattle.alt_machine.specs.State.{State, Table};
+ghost use Rattle.alt_machine.specs.Valid.{IsStored};
+ghost use Rattle.alt_base.specs.Counts.{Rose};
+ghost use Rattle.alt_disk.specs.Disk.{Goes};
+ghost use Rattle.alt_disk.specs.Runs.{Quiet};
+ghost use Rattle.alt_tables.specs.Images.{Leaves};
+ghost use Rattle.alt_request.specs.Carried.{Does, IfFailed, IfRefused, IsPlain, Says};
+ghost use Rattle.alt_schema.specs.declared.schema.TableSchema.{TableSchema};
+ghost use Rattle.alt_tables.specs.Stands.{AreReady, Stands, catalog_of};
+
+use crate::items::item_reply;
+use alt_codec::json_of_item;
+use alt_condeval::holds;
+use alt_disk::Disk;
+use alt_expr::Cond;
+use alt_fields::Bytes;
+use alt_request::{Stop, asks, refuse_with_item, table_name};
+use alt_shape::{Refusal, Reply};
+use alt_tables::{TableFault, Tables};
+use alt_value::Item;
+use serde_json::{Map, Value};
+use std::alloc::Global;
+
+/// Leaves `new` at a place of the table that a body names, or nothing, where the condition holds of the item that is there; and shows
+/// that item where the body asks for it. Where the condition doesn't hold, nothing is written.
+pub(crate) fn write_if<D: Disk>(
+    alloc: Global,
+    tables: &mut Tables,
+    disk: &mut D,
+    body: &Map<String, Value>,
+    condition: &Option<Cond>,
+    place: Bytes,
+    new: Option<Item>,
+    moment: u64,
+) -> Result<Reply, Stop>
+    requires ready { AreReady (D.state disk.old) tables.old }
+    requires there { map.contains_key (catalog_of tables.old)
+        (table_name (members_view body.now.entries)) ≡ true }
+    requires new { (d : TableSchema)
+        → map.get (catalog_of tables.old) (table_name (members_view body.now.entries)) ≡ Some d
+        → IfSome new (IsStored d place) }
+    ensures does { (s : State) (t : Table) → Stands (D.state disk.old) tables.old s
+        → map.get s.tables (table_name (members_view body.now.entries)) ≡ Some t
+        → Does (Stands (D.state disk.new) tables.new) s
+        (machine.writes_if condition.now s moment (members_view body.now.entries) t place new)
+        result }
+    ensures plain { IsPlain result }
+    ensures leaves { (s : State) (t : Table) → Stands (D.state disk.old) tables.old s
+        → map.get s.tables (table_name (members_view body.now.entries)) ≡ Some t
+        → Leaves (D.state disk.old) (D.state disk.new) s
+        (machine.writes_if condition.now s moment (members_view body.now.entries) t place new).atoms }
+    ensures goes { Goes (D.state disk.old) (D.state disk.new) }
+    ensures refused { IfRefused result (IsTrue (D.state disk.old).tells
+        → Quiet (D.state disk.old) (D.state disk.new)) }
+    ensures failed { IfFailed result (Rose (D.state disk.old).faults (D.state disk.new).faults) }
+{
+    let name = table_name(body);
+    let found = tables.find(disk, name, place)?;
+    if !meets(alloc, condition, &found.item) {
+        return failed(alloc, asked(body, "ReturnValuesOnConditionCheckFailure", &found.item));
+    }
+    let reply = item_reply(alloc, "Attributes", asked(body, "ReturnValues", &found.item))?;
+    tables.write(disk, name, found, new, moment)?;
+    Ok(reply)
+}
+
+/// Whether the condition holds of the item that is there; one that isn't there has no attributes.
+fn meets(alloc: Global, condition: &Option<Cond>, old: &Option<Item>) -> bool
+    ensures meets { result ≡ machine.meets condition.now old.now }
+{
+    let Some(condition) = condition else {
+        return true;
+    };
+    match old {
+        Some(item) => holds(condition, item),
+        None => holds(condition, &Item::new(alloc)),
+    }
+}
+
+/// The item that was there, where a member asks for it.
+fn asked<'i>(body: &Map<String, Value>, name: &str, old: &'i Option<Item>) -> Option<&'i Item>
+    ensures asked { option_map (λ i. i.now) result
+        ≡ machine.asked name.now (members_view body.now.entries) old.now }
+{
+    if !asks(body, name, "ALL_OLD") {
+        return None;
+    }
+    match old {
+        Some(item) => Some(item),
+        None => None,
+    }
+}
+
+/// The refusal of a request whose condition doesn't hold, and in it the item, if there is one to show.
+fn failed(alloc: Global, item: Option<&Item>) -> Result<Reply, Stop>
+    ensures says { Says (machine.failed (option_map (λ i. i.now) item.entry)) result }
+{
+    let Some(item) = item else {
+        return Err(Stop::Refused(Refusal::CONDITION_FAILED));
+    };
+    let Ok(value) = json_of_item(alloc, item) else {
+        return Err(Stop::Fault(TableFault::NoMemory));
+    };
+    match refuse_with_item(alloc, Refusal::CONDITION_FAILED, value) {
+        Ok(reply) => Ok(reply),
+        Err(_) => Err(Stop::Fault(TableFault::NoMemory)),
+    }
+}

@@ -1,5 +1,5 @@
 -- Whether a table, or an item and its place, is reached: the machine stops at the same step.
-use Rattle.std.proofs.Common.{◌≡◌, sym, ap, ◌∙◌, ℕ, false, List, Option, None, Result, Ok, Err, Bor}
+use Rattle.std.proofs.Common.{◌≡◌, sym, ap, ◌∙◌, ℕ, false, List, Option, Some, None, Result, Ok, Err, Bor}
 use Rattle.std.specs.Result.{IsErr, IsErrAnd}
 use Rattle.std.specs.FinMap as map
 use Rattle.serde_json.specs.Data.{Members}
@@ -13,8 +13,8 @@ use Rattle.alt_machine.specs.Outcomes.{Outcome, refuses}
 use Rattle.alt_machine.specs.Refusals.{first_answer, or_refused}
 use Rattle.alt_machine.specs.State.{State, Table, Texts, descriptions}
 use Rattle.alt_machine.specs.Targets.{on_item, member_of, place_in}
-use Rattle.alt_machine.proofs.Targets.{table-missed, item-no_words, item-no_table, item-unsaid, item-no_place, item-too_long}
-use Rattle.alt_request.specs.Steps.{Comes}
+use Rattle.alt_machine.proofs.Targets.{table-missed, item-refused, item-unread, item-no_words, item-no_table, item-unsaid, item-no_place, item-too_long}
+use Rattle.alt_request.specs.Steps.{Comes, Tested}
 use Rattle.alt_request.specs.Targets.{OnTable, OnItem}
 use Rattle.alt_request.specs.Words.{given_of}
 use Rattle.alt_request.specs.declared.expressions.Given.{Given}
@@ -29,6 +29,27 @@ use Rattle.alt_value.specs.Tree.{Pair}
 pub err_is : {A E : Type 0} (r : Result A E) (e : E) → IsErr r × IsErrAnd r (λ x. x ≡ e) → r ≡ Err e
 err_is (Ok x) e h = absurd (let g = h.0 in let f : ⊥ = cc in f)
 err_is (Err x) e h = ap Err h.1
+
+-- the body is refused
+pub untaken : (tests : List (Option Answer)) (sought : Sought) (texts : machine.Texts)
+    (catalog : Texts TableSchema) (ms : Members) (e : Stop) → Tested {X = Unit {0}} tests (Err e)
+    → OnItem tests sought texts catalog ms (Err e)
+untaken tests sought texts catalog ms (Refused q) h = (
+  h.1,
+  λ s go same. item-refused tests sought texts s ms go (refused q) h.0,
+)
+untaken tests sought texts catalog ms (Fault f) h = h
+
+-- the item or the key is
+pub unread : (tests : List (Option Answer)) (sought : Sought) (texts : machine.Texts)
+    (catalog : Texts TableSchema) (ms : Members) → first_answer tests ≡ None
+    → (e : Stop) → Comes {X = List Pair} (λ x. x) (item_at (member_of sought) ms) (Err e)
+    → OnItem tests sought texts catalog ms (Err e)
+unread tests sought texts catalog ms free (Refused q) h = (
+  h.1,
+  λ s go same. item-unread tests sought texts s ms go free (refused q) h.0,
+)
+unread tests sought texts catalog ms free (Fault f) h = h
 
 module _ (tests : List (Option Answer)) (sought : Sought) (texts : machine.Texts)
     (catalog : Texts TableSchema) (ms : Members) (free : first_answer tests ≡ None)

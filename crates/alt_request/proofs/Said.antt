@@ -1,12 +1,13 @@
 -- What the expressions of a request say, by what was read of them.
 use Rattle.std.proofs.Common.{◌≡◌, refl, sym, ap, subst, ◌∙◌, ◌≤◌, ◌||◌, ℕ, Bool, true, false, List, [], ◌∷◌, Option, Some, None, option_map, Result, Ok, Err, arith}
+use Rattle.std.specs.Option.{option_map_or}
 use Rattle.serde_json.specs.Data.{Data, Members, no_members, member, string}
 use Rattle.alt_expr.specs.Faults.{Parsed, KeepsNames}
 use Rattle.alt_expr.specs.Given as expr
 use Rattle.alt_expr.specs.Given.{with_hashes, with_colons, has_unused}
 use Rattle.alt_expr.specs.Languages.{conditions}
 use Rattle.alt_expr.specs.NamesGiven.{given_names, used_names, given_values, used_values, is_empty_given}
-use Rattle.alt_expr.specs.NamesIn.{gives_names, names_in as expr_names}
+use Rattle.alt_expr.specs.NamesIn.{gives_names, gives_empty, names_in as expr_names}
 use Rattle.alt_expr.specs.Told.{IsTold}
 use Rattle.alt_expr.specs.declared.cond.Cond.{Cond}
 use Rattle.alt_expr.specs.declared.fault.ExprFault.{ExprFault}
@@ -119,7 +120,8 @@ module _ (texts : machine.Texts) (ms : Members) (old : Given) (text : Option (Li
       states : machine.stated (given_of old) (machine.condition_text texts ms) ≡ Ok condition
       states = ap (machine.stated (given_of old)) (sym is) ∙ said
 
-      same_empty : is_empty_given names ≡ _
+      same_empty : is_empty_given names
+          ≡ option_map_or gives_empty (machine.names_member ms) false
       same_empty = keeps.empty ∙ fresh.names.empty
 
       unused_is : has_more names values ≡ machine.is_unused ms (given_of old)

@@ -77,10 +77,10 @@ fn names_of(alloc: Global, names: &Map<String, Value>) -> Result<Names, Stop>
     ensures empty { IfOk result (λ n. is_empty_given n
         ≡ gives_empty (members_view names.now.entries)) }
 {
-    if let Some(refusal) = names_refusal(names) {
-        return Err(Stop::Refused(refusal));
+    match names_refusal(names) {
+        Some(refusal) => Err(Stop::Refused(refusal)),
+        None => Ok(Names::of_json(alloc, Some(names))?),
     }
-    Ok(Names::of_json(alloc, Some(names))?)
 }
 
 /// The refusal of the first entry of the names that isn't a text, or has no bytes.

@@ -8,6 +8,7 @@ use Rattle.alt_machine.specs.Expressions as machine
 use Rattle.alt_machine.proofs.Spoken.{hashes_noted, colons_noted}
 use Rattle.alt_request.proofs.Said.{read_ok, read_err}
 use Rattle.alt_request.specs.Steps.{Comes}
+use Rattle.alt_request.specs.Words.{stop_of}
 use Rattle.alt_request.specs.declared.stop.Stop.{Stop}
 use Rattle.alt_request.proofs.expressions.stated.Goals as goal
 
@@ -40,5 +41,6 @@ returns-in-Err-clause-stated c =
     let g = given_by c.args.names.now c.args.values.now in
     subst (λ (stop : Stop). Comes {X = Option Cond} (λ x. x) (machine.stated g (text_in c.args.text))
     (Err stop)) (sym c.stop_of.ensures)
-    (subst (λ o. Comes {X = Option Cond} (λ x. x) (machine.stated g (text_in o)) (Err _))
+    (subst (λ o. Comes {X = Option Cond} (λ x. x) (machine.stated g (text_in o))
+    (Err (stop_of c.in-Err.fault)))
     (sym c.in-Some.is) (read_err g c.in-Some.text.now c.in-Err.fault c.in-Err.ensures.parsed))

@@ -13,13 +13,39 @@ use Rattle.alt_request.specs.declared.body.Rules.{Rules}
 use Rattle.alt_shape.specs.Refusals.{Answer}
 use Rattle.alt_shape.specs.declared.rule.Broken.{Broken}
 use Rattle.alt_request.proofs.Named.{some_found}
-use Rattle.alt_request.proofs.Reaching.{err_is, no_words, no_table, unsaid, no_place, too_long}
+use Rattle.alt_request.proofs.Reaching.{err_is, untaken, unread, no_words, no_table, unsaid, no_place, too_long}
 use Rattle.alt_shape.specs.Refusals.{not_found, bad_key}
 use Rattle.alt_tables.specs.Stands.{catalog_of}
 use Rattle.alt_request.proofs.targets.item_target.Goals as goal
 
 abbrev tests_of : Option Broken → Rules → Members → List (Option Answer)
 tests_of broken rules ms = body_refusals broken (rules_of rules) ms
+
+pub returns-in_err-body_refusal : goal.returns-in_err-body_refusal
+returns-in_err-body_refusal c = record {
+  target = subst (λ r. OnItem (tests_of c.args.broken c.args.rules.now
+      (members_view c.args.body.now.entries)) c.args.sought (texts_of c.args.texts.now)
+      (catalog_of c.args.tables.now) (members_view c.args.body.now.entries) r)
+      (sym (err_is c.from_residual.result c.in_err-body_refusal.field-0.0
+      c.from_residual.ensures))
+      (untaken (tests_of c.args.broken c.args.rules.now (members_view c.args.body.now.entries))
+      c.args.sought (texts_of c.args.texts.now) (catalog_of c.args.tables.now)
+      (members_view c.args.body.now.entries) c.in_err-body_refusal.field-0.0
+      c.in_err-body_refusal.ensures.tested);
+}
+
+pub returns-in_err-item : goal.returns-in_err-item
+returns-in_err-item c = record {
+  target = subst (λ r. OnItem (tests_of c.args.broken c.args.rules.now
+      (members_view c.args.body.now.entries)) c.args.sought (texts_of c.args.texts.now)
+      (catalog_of c.args.tables.now) (members_view c.args.body.now.entries) r)
+      (sym (err_is c.from_residual-in_err-item.result c.in_err-item.field-0.0
+      c.from_residual-in_err-item.ensures))
+      (unread (tests_of c.args.broken c.args.rules.now (members_view c.args.body.now.entries))
+      c.args.sought (texts_of c.args.texts.now) (catalog_of c.args.tables.now)
+      (members_view c.args.body.now.entries) c.in_ok-body_refusal.ensures.tested
+      c.in_err-item.field-0.0 c.in_err-item.ensures.read);
+}
 
 pub returns-in_err-given : goal.returns-in_err-given
 returns-in_err-given c = record {

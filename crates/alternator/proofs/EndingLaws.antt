@@ -7,15 +7,16 @@ use Rattle.alt_shell.specs.Calls.{Aside}
 use Rattle.alt_shell.specs.Log.{Log, Grows, moments_of}
 use Rattle.alt_shell.proofs.Telling.{Grows-then}
 use Rattle.alternator.specs.Endings.{status_of, HasDone}
-use Rattle.alternator.specs.Runs.{Calls, Answers, AnswersSome}
+use Rattle.alternator.specs.Runs.{Calls, Answers, AnswersSome, LeftThen}
+use Rattle.alternator.proofs.Stopping.{leaves-before-aside}
 use Rattle.alternator.specs.declared.ending.Ending.{Ending}
 use Rattle.alternator.specs.declared.ending.Ending.TheVariants.{Whole, Words, Device, Memory, Spent}
 use Rattle.alternator.proofs.Serving.{calls_quiet, calls_as}
 
 -- whatever the cause was
-pub some_answers : (number : Option ℕ) (es : Log) (ms : List ℕ) → AnswersSome number start es ms
-    → AnswersSome None start es ms
-some_answers number es ms x = record {
+pub some_answers : (a b : DiskState) (number : Option ℕ) (es : Log) (ms : List ℕ)
+    → AnswersSome number start a b es ms → AnswersSome None start a b es ms
+some_answers a b number es ms x = record {
   breaks = record {
     done = x.breaks.done;
     begun = x.breaks.begun;
@@ -29,13 +30,37 @@ some_answers number es ms x = record {
     wants = tt;
   };
   said = x.said;
+  leaves = x.leaves;
 }
 
 module _ (a b c : DiskState) (g : Grows b.beside c.beside [])
     (m : moments_of c.beside ≡ moments_of b.beside) (aside : Aside b c) where
+  all_behind : (es : Log) (ms : List ℕ) → Answers start a b es ms → Answers start a c es ms
+  all_behind es ms x = record {
+    at_end = x.at_end;
+    said = x.said;
+    count = x.count;
+    every = x.every;
+    enough = x.enough;
+    leaves = leaves-before-aside a b c (LeftThen start es ms) aside x.leaves;
+  }
+
+  some_behind : (number : Option ℕ) (es : Log) (ms : List ℕ) → AnswersSome number start a b es ms
+      → AnswersSome number start a c es ms
+  some_behind number es ms x = record {
+    breaks = x.breaks;
+    said = x.said;
+    leaves = leaves-before-aside a b c (LeftThen start es ms) aside x.leaves;
+  }
+
+  some_still : (number : Option ℕ) → Calls a b (AnswersSome number start)
+      → Calls a c (AnswersSome number start)
+  some_still number h = calls_quiet a b c {P = AnswersSome number start} (some_behind number) h aside g
+      m
+
   -- what was done is still done behind the note
   pub still_done : (ending : Ending) → HasDone ending a b → HasDone ending a c
-  still_done Whole h = calls_quiet a.beside b.beside c.beside h g m
+  still_done Whole h = calls_quiet a b c {P = Answers start} all_behind h aside g m
   still_done Words h = record {
     moment = aside.moment ∙ h.moment;
     faults = aside.faults ∙ h.faults;
@@ -44,15 +69,15 @@ module _ (a b c : DiskState) (g : Grows b.beside c.beside [])
   }
   still_done Device h = (
     subst (Rose a.faults) (sym aside.faults) h.0,
-    calls_quiet a.beside b.beside c.beside h.1 g m,
+    some_still None h.1,
   )
-  still_done Memory h = calls_quiet a.beside b.beside c.beside h g m
-  still_done (Spent n) h = calls_quiet a.beside b.beside c.beside h g m
+  still_done Memory h = some_still None h
+  still_done (Spent n) h = some_still (Some n) h
 
 -- a run whose numbers are spent has done what one does whose memory was refused
 pub spent_as_memory : (a b : DiskState) (n : ℕ) → HasDone (Spent n) a b → HasDone Memory a b
-spent_as_memory a b n h = calls_as a.beside b.beside {P = AnswersSome (Some n) start} {Q =
-    AnswersSome None start} (some_answers (Some n)) h
+spent_as_memory a b n h = calls_as a b {P = AnswersSome (Some n) start} {Q =
+    AnswersSome None start} (λ es ms within x. some_answers a b (Some n) es ms x) h
 
 -- with the ending that was noted
 pub noted_done : (a b c : DiskState) (ending noted : Ending)
@@ -78,7 +103,7 @@ noted_words ending noted (inr spent) e = absurd (let f : ⊥ = cc in f)
 pub completes : (a b : DiskState) (ending : Ending) (status : ℕ) → status ≡ status_of ending
     → (ending ≡ Words → ⊥) → HasDone ending a b
     → (Rose a.faults b.faults → ⊥)
-    → ((status ≡ 0) × Calls a.beside b.beside (Answers start)) ⊎ (status ≡ 5) ⊎ (status ≡ 6)
+    → ((status ≡ 0) × Calls a b (Answers start)) ⊎ (status ≡ 5) ⊎ (status ≡ 6)
 completes a b Whole status e right h well = inl (e, h)
 completes a b Words status e right h well = absurd (right refl)
 completes a b Device status e right h well = absurd (well h.0)

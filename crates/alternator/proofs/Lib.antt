@@ -5,3 +5,6 @@ pub mod Passing
 pub mod Pulling
 pub mod Serving
 pub mod TurnLaws
+pub mod Stopping
+pub mod StubLaws
+pub mod Beginning

@@ -1,17 +1,42 @@
 -- What every stretch of a run keeps, one after the other.
-use Rattle.std.proofs.Common.{refl, ◌∙◌}
+use Rattle.std.proofs.Common.{◌≡◌, ◌≤◌, refl, ◌∙◌, arith}
 use Rattle.alt_disk.specs.Disk.{DiskState}
-use Rattle.alt_shell.proofs.Keeping.{keeps-none, keeps-then}
+use Rattle.alt_shell.specs.Calls.{Keeps}
+use Rattle.alt_shell.specs.Log.{notes_of}
 use Rattle.alternator.specs.Runs.{Passes}
 
 -- no call
 pub passes_none : (s : DiskState) → Passes s s
-passes_none s = record { keeps = keeps-none s; notes = refl }
+passes_none s = record {
+  tells = refl;
+  honest = refl;
+  anchors = refl;
+  later = omega arith;
+  faults = omega arith;
+  past = λ t f le. refl;
+  notes = refl;
+}
 
 -- two stretches
 pub passes_then : (a b c : DiskState) → Passes a b → Passes b c → Passes a c
 passes_then a b c p q = record {
-  keeps = keeps-then a b c p.keeps q.keeps;
-  notes =
-      q.notes ∙ p.notes;
+  tells = q.tells ∙ p.tells;
+  honest = q.honest ∙ p.honest;
+  anchors = q.anchors ∙ p.anchors;
+  later = omega (arith, p.later, q.later);
+  faults = omega (arith, p.faults, q.faults);
+  past = λ t f le. q.past t f (omega (arith, le, p.later)) ∙ p.past t f le;
+  notes = q.notes ∙ p.notes;
+}
+
+-- a call of the shell that notes nothing
+pub passes_kept : (a b : DiskState) → Keeps a b → notes_of b.beside ≡ notes_of a.beside → Passes a b
+passes_kept a b keeps notes = record {
+  tells = keeps.tells;
+  honest = keeps.honest;
+  anchors = keeps.anchors;
+  later = keeps.later;
+  faults = keeps.faults;
+  past = keeps.past;
+  notes = notes;
 }

@@ -34,12 +34,12 @@ pub record Untouched (old new : DiskState) : Type 0 where
 -- What a run has done that ended so. Where it was broken off, what it said is a prefix of its Out: for a device, only where that
 -- failed in this run, and for a number, only where a request wanted one that is never given out, the first that did.
 abbrev pub HasDone : Ending → DiskState → DiskState → Type 0
-HasDone Whole old new = Calls old.beside new.beside (Answers start)
+HasDone Whole old new = Calls old new (Answers start)
 HasDone Words old new = Untouched old new
 HasDone Device old new = Rose old.faults new.faults
-    × Calls old.beside new.beside (AnswersSome None start)
-HasDone Memory old new = Calls old.beside new.beside (AnswersSome None start)
-HasDone (Spent number) old new = Calls old.beside new.beside (AnswersSome (Some number) start)
+    × Calls old new (AnswersSome None start)
+HasDone Memory old new = Calls old new (AnswersSome None start)
+HasDone (Spent number) old new = Calls old new (AnswersSome (Some number) start)
 
 -- a run that ended so, with its note
 pub record Ended (ending : Ending) (status : ℕ) (old new : DiskState) : Type 0 where

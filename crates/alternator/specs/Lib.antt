@@ -4,3 +4,5 @@ pub mod Moments
 pub mod Runs
 pub mod Turns
 pub mod Words
+pub mod Stops
+pub mod Stub

@@ -8,6 +8,7 @@ ghost use Rattle.alt_shape.specs.Refusals.{answer_of};
 ghost use Rattle.alt_tables.specs.Stands.{Stands};
 ghost use Rattle.alternator.specs.Faults.{IsCausedBy};
 ghost use Rattle.alternator.specs.declared.serve.RunFault.TheVariants.{Failed};
+ghost use Rattle.alternator.specs.Stops.{AtEach, IsAmong};
 ghost use Rattle.alternator.specs.Turns.{carried_out, after_turn, line_of};
 
 use crate::serve::RunFault;
@@ -48,6 +49,9 @@ pub(crate) fn reply_text<D: Disk>(
         (IsCausedBy (carried_out s name.now body.now moment).lacks) }
     ensures other { IsErrOf result Failed → ⊥ }
     ensures disk { D.state disk.new ≡ D.state disk.old }
+    ensures leaves { (s : State) → Stands (D.state disk.old) tables.old s
+        → AtEach (D.state disk.old) (D.state disk.new)
+        (λ _ image. IsAmong image s (carried_out s name.now body.now moment).atoms) }
 {
     match answer(alloc, tables, disk, operation_named(name), body, moment) {
         Ok(reply) => match line_of(alloc, &reply) {

@@ -3,7 +3,6 @@
 ghost use Rattle.std.specs.Prelude.{◌≡◌, ◌⊎◌, ◌↔◌, ◌<◌, true, false, Some, None, length, IfOk, IsErrOf, MatchResult};
 ghost use Rattle.alt_base.specs.Counts.{Rose};
 ghost use Rattle.alt_machine.specs.State.{start};
-ghost use Rattle.alt_shell.specs.Calls.{Keeps};
 ghost use Rattle.alternator.specs.Endings.{Ended, HasDone};
 ghost use Rattle.alternator.specs.Faults.{number_of};
 ghost use Rattle.alternator.specs.Runs.{Calls, Passes, Answers, AnswersSome};
@@ -34,8 +33,8 @@ fn buffer(alloc: Global) -> Result<Vec<u8>, NoMemory>
 fn pulls<S: Shell>(alloc: Global, buf: &mut [u8], shell: &mut S) -> Result<(), RunFault>
     requires { 0 < length buf.old }
     ensures answered { MatchResult result
-        (λ _. Calls (S.state shell.old).beside (S.state shell.new).beside (Answers start))
-        (λ f. Calls (S.state shell.old).beside (S.state shell.new).beside
+        (λ _. Calls (S.state shell.old) (S.state shell.new) (Answers start))
+        (λ f. Calls (S.state shell.old) (S.state shell.new)
         (AnswersSome (number_of f) start)) }
     ensures cause { IsErrOf result RunFault.Failed
         → Rose (S.state shell.old).faults (S.state shell.new).faults }
@@ -56,8 +55,8 @@ fn pulls<S: Shell>(alloc: Global, buf: &mut [u8], shell: &mut S) -> Result<(), R
 /// Requests as lines of the input.
 fn replay<S: Shell>(alloc: Global, shell: &mut S) -> Result<(), RunFault>
     ensures answered { MatchResult result
-        (λ _. Calls (S.state shell.old).beside (S.state shell.new).beside (Answers start))
-        (λ f. Calls (S.state shell.old).beside (S.state shell.new).beside
+        (λ _. Calls (S.state shell.old) (S.state shell.new) (Answers start))
+        (λ f. Calls (S.state shell.old) (S.state shell.new)
         (AnswersSome (number_of f) start)) }
     ensures cause { IsErrOf result RunFault.Failed
         → Rose (S.state shell.old).faults (S.state shell.new).faults }
@@ -101,12 +100,10 @@ pub fn run<S: Shell>(alloc: Global, words: &[String], shell: &mut S) -> u8
     // Where no device fails, all of Out is said, or memory was refused, or numbers are spent.
     ensures complete { is_replay (bytes_of words.now) ≡ true
         → ¬ (Rose (S.state shell.old).faults (S.state shell.new).faults)
-        → ((result ≡ 0) × Calls (S.state shell.old).beside (S.state shell.new).beside
+        → ((result ≡ 0) × Calls (S.state shell.old) (S.state shell.new)
         (Answers start))
         ⊎ (result ≡ 5) ⊎ (result ≡ 6) }
 
-    // No call on the disk is made: all files stay, in reads and in what a stop leaves at each moment.
-    ensures disk { Keeps (S.state shell.old) (S.state shell.new) }
 {
     let ending = ended(alloc, words, shell);
     status_of(noted(alloc, ending, shell))

@@ -41,7 +41,7 @@ fn answer_request<S: Shell>(
     ensures served { (s : State) → Stands (S.state shell.old) tables.old s → MatchResult result
         (λ _. Reaches (S.state shell.old) (S.state shell.new) tables.new
         (ServesAtHand s (request name.now body.now ∷ [])))
-        (λ f. Calls (S.state shell.old).beside (S.state shell.new).beside
+        (λ f. Calls (S.state shell.old) (S.state shell.new)
         (BreaksAtHand (number_of f) s (request name.now body.now ∷ []))) }
     ensures cause { IsErrOf result RunFault.Failed
         → Rose (S.state shell.old).faults (S.state shell.new).faults }
@@ -63,7 +63,7 @@ fn turn_away<S: Shell>(tables: &Tables, shell: &mut S) -> Result<(), RunFault>
     ensures served { (s : State) → Stands (S.state shell.old) tables.now s → MatchResult result
         (λ _. Reaches (S.state shell.old) (S.state shell.new) tables.now
         (ServesAtHand s (no_request ∷ [])))
-        (λ f. Calls (S.state shell.old).beside (S.state shell.new).beside
+        (λ f. Calls (S.state shell.old) (S.state shell.new)
         (BreaksAtHand (number_of f) s (no_request ∷ []))) }
     ensures cause { IsErrOf result RunFault.Failed
         → Rose (S.state shell.old).faults (S.state shell.new).faults }
@@ -87,7 +87,7 @@ fn answer_line<S: Shell>(
         (s : State) → Stands (S.state shell.old) tables.old s → MatchResult result
         (λ _. Reaches (S.state shell.old) (S.state shell.new) tables.new
         (ServesAtHand s (asked_of taken ∷ [])))
-        (λ f. Calls (S.state shell.old).beside (S.state shell.new).beside
+        (λ f. Calls (S.state shell.old) (S.state shell.new)
         (BreaksAtHand (number_of f) s (asked_of taken ∷ []))) }
     ensures cause { IsErrOf result RunFault.Failed
         → Rose (S.state shell.old).faults (S.state shell.new).faults }
@@ -129,7 +129,7 @@ pub(crate) fn at_hand<S: Shell>(
     ensures served { (s : State) → Stands (S.state shell.old) tables.old s → MatchResult result
         (λ _. Reaches (S.state shell.old) (S.state shell.new) tables.new
         (ServesAtHand s (asked_now (unread lines.old))))
-        (λ f. Calls (S.state shell.old).beside (S.state shell.new).beside
+        (λ f. Calls (S.state shell.old) (S.state shell.new)
         (BreaksAtHand (number_of f) s (asked_now (unread lines.old)))) }
     ensures lines { OnOk result (HandsOut (unread lines.old) (unread lines.new)) }
     ensures cause { IsErrOf result RunFault.Failed
@@ -162,7 +162,7 @@ pub(crate) fn pull<S: Shell>(
     ensures went { (s : State) → Stands (S.state shell.old) tables.old s → MatchResult result
         (λ more. Reaches (S.state shell.old) (S.state shell.new) tables.new
         (λ t. GoesOrEnds more s (unread lines.old) t (unread lines.new)))
-        (λ f. Calls (S.state shell.old).beside (S.state shell.new).beside
+        (λ f. Calls (S.state shell.old) (S.state shell.new)
         (GoesSome (number_of f) s (unread lines.old))) }
     ensures going { IfOk result (λ more. more ≡ true → (unread lines.new).ended ≡ false) }
     ensures time { OnOk result ((S.state shell.old).moment < (S.state shell.new).moment) }

@@ -42,9 +42,9 @@ returns-in-Ok-false-clause-answered g c =
     (state c.pull.new.shell) c.pull.new.tables
     (λ t. GoesOrEnds more front.to (unread c.pulls.lines) t (unread c.pull.new.lines)))
     c.in-Ok-false.field-0-test (c.in-Ok-false.ensures.went front.to front.stands) in
-    calls_as (state c.args.shell.now).beside (state c.pull.new.shell).beside
-    {P = λ es ms. (t : State) × Ends start fresh t es ms} {Q = Answers start}
-    (λ es ms x. answers_all start x.0 es ms x.1)
+    calls_as (state c.args.shell.now) (state c.pull.new.shell)
+    {P = λ old new es ms. (t : State) × Ends start fresh t old new es ms} {Q = Answers start}
+    (λ es ms within x. answers_all _ _ start x.0 es ms x.1)
     (goes_ends (state c.args.shell.now) (state c.pulls.shell)
     (state c.pull.new.shell) c.pulls.tables start fresh (unread c.pulls.lines) front
     c.pull.new.tables went)
@@ -53,10 +53,10 @@ pub returns-in-Err-clause-answered : goal.returns-in-Err-clause-answered
 returns-in-Err-clause-answered g c =
     let state = g.S.Disk.state in
     let front = c.pulls.invariant.0 in
-    calls_as (state c.args.shell.now).beside (state c.pull.new.shell).beside
+    calls_as (state c.args.shell.now) (state c.pull.new.shell)
     {P = GoesSome (number_of c.in-Err.fault) start fresh} {Q =
     AnswersSome (number_of c.in-Err.fault) start}
-    (answers_some (number_of c.in-Err.fault) start)
+    (λ es ms within x. answers_some _ _ (number_of c.in-Err.fault) start es ms x)
     (goes_breaks (state c.args.shell.now) (state c.pulls.shell)
     (state c.pull.new.shell) c.pulls.tables start fresh (unread c.pulls.lines) front
     (number_of c.in-Err.fault) (c.in-Err.ensures.went front.to front.stands))

@@ -55,7 +55,7 @@ returns-in-Ok-None-clause-lines g c =
 pub returns-in-Err-clause-served : goal.returns-in-Err-clause-served
 returns-in-Err-clause-served g c = λ s stands.
     let state = g.S.Disk.state in
-    subst (λ (number : Option ℕ). Calls (state c.args.shell.now).beside (state c.lines.shell).beside
+    subst (λ (number : Option ℕ). Calls (state c.args.shell.now) (state c.lines.shell)
     (BreaksAtHand number s (asked_now (unread c.args.lines.now))))
     (sym (ap number_of c.in-Err.ensures.err))
     (hands_memory (state c.args.shell.now) c.args.tables.now (state c.lines.shell) c.lines.tables

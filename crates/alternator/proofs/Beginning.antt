@@ -1,0 +1,46 @@
+-- A request up to its reply: its moment was asked for, and it was carried out.
+use Rattle.std.proofs.Common.{◌≡◌, ◌≤◌, ℕ, List, [], ◌∷◌, refl, sym, ap, subst, arith}
+use Rattle.alt_disk.specs.Disk.{DiskState, IsTrusted}
+use Rattle.alt_machine.specs.State.{State}
+use Rattle.alt_shell.specs.Calls.{Aside}
+use Rattle.alt_shell.specs.Log.{Grows, Tells, moments_of}
+use Rattle.alternator.specs.Stops.{IsAmong, AtEach}
+use Rattle.alt_shell.proofs.Telling.{Grows-nil, Tells-nil}
+use Rattle.alt_tables.specs.Stands.{Stands}
+use Rattle.alt_tables.specs.declared.tables.Tables.{Tables}
+use Rattle.alternator.specs.Turns.{request, unread, turned_away, carried_out}
+use Rattle.alternator.proofs.Serving.{Begins}
+use Rattle.alternator.proofs.Stopping.{trusts-kept, leaves-here, leaves-behind-aside, stands_left}
+
+pub begins : (old mid new : DiskState) (s : State) (name body : List ℕ) (m : ℕ)
+    → Aside old mid → Grows old.beside mid.beside []
+    → Tells (moments_of old.beside) (moments_of mid.beside) (m ∷ [])
+    → new ≡ mid
+    → AtEach mid new (λ _ image. IsAmong image s (carried_out s name body m).atoms)
+    → Begins old new s (request name body) (carried_out s name body m) (m ∷ [])
+begins old mid new s name body m aside silent told same leaves = record {
+  one = refl;
+  count = refl;
+  silent = subst (λ (d : DiskState). Grows old.beside d.beside []) (sym same) silent;
+  told = subst (λ (d : DiskState). Tells (moments_of old.beside) (moments_of d.beside) (m ∷ []))
+      (sym same) told;
+  later = subst (λ (d : DiskState). old.moment ≤ d.moment) (sym same) aside.keeps.later;
+  trusts = λ trusted. subst IsTrusted (sym same) (trusts-kept old mid aside.keeps trusted);
+  leaves = leaves-behind-aside old mid new
+      (λ _ image. IsAmong image s (carried_out s name body m).atoms) aside leaves;
+}
+
+-- a line that is turned away asks for no moment and writes nothing
+pub begins_away : (old : DiskState) (tables : Tables) (s : State) → Stands old tables s
+    → Begins old old s unread turned_away []
+begins_away old tables s stands = record {
+  one = refl;
+  count = refl;
+  silent = Grows-nil old.beside;
+  told = Tells-nil (moments_of old.beside) (moments_of old.beside) refl;
+  later = omega arith;
+  trusts = λ trusted. trusted;
+  leaves = leaves-here old (λ _ image. IsAmong image s [])
+      (λ trusted t image is_image.
+      (0, stands_left old tables s stands trusted image is_image));
+}

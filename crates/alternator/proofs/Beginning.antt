@@ -1,9 +1,10 @@
 -- A request up to its reply: its moment was asked for, and it was carried out.
 use Rattle.std.proofs.Common.{◌≡◌, ◌≤◌, ℕ, List, [], ◌∷◌, refl, sym, ap, subst, arith}
-use Rattle.alt_disk.specs.Disk.{DiskState, IsTrusted}
+use Rattle.alt_disk.specs.Disk.{DiskState, Goes, IsTrusted}
+use Rattle.alt_disk.proofs.Runs.{trusted_on}
 use Rattle.alt_machine.specs.State.{State}
 use Rattle.alt_shell.specs.Calls.{Aside}
-use Rattle.alt_shell.specs.Log.{Grows, Tells, moments_of}
+use Rattle.alt_shell.specs.Log.{Log, Grows, Tells, moments_of}
 use Rattle.alternator.specs.Stops.{IsAmong, AtEach}
 use Rattle.alt_shell.proofs.Telling.{Grows-nil, Tells-nil}
 use Rattle.alt_tables.specs.Stands.{Stands}
@@ -15,17 +16,17 @@ use Rattle.alternator.proofs.Stopping.{trusts-kept, leaves-here, leaves-behind-a
 pub begins : (old mid new : DiskState) (s : State) (name body : List ℕ) (m : ℕ)
     → Aside old mid → Grows old.beside mid.beside []
     → Tells (moments_of old.beside) (moments_of mid.beside) (m ∷ [])
-    → new ≡ mid
+    → Goes mid new
     → AtEach mid new (λ _ image. IsAmong image s (carried_out s name body m).atoms)
     → Begins old new s (request name body) (carried_out s name body m) (m ∷ [])
-begins old mid new s name body m aside silent told same leaves = record {
+begins old mid new s name body m aside silent told goes leaves = record {
   one = refl;
   count = refl;
-  silent = subst (λ (d : DiskState). Grows old.beside d.beside []) (sym same) silent;
-  told = subst (λ (d : DiskState). Tells (moments_of old.beside) (moments_of d.beside) (m ∷ []))
-      (sym same) told;
-  later = subst (λ (d : DiskState). old.moment ≤ d.moment) (sym same) aside.keeps.later;
-  trusts = λ trusted. subst IsTrusted (sym same) (trusts-kept old mid aside.keeps trusted);
+  silent = subst (λ (log : Log). Grows old.beside log []) (sym goes.beside) silent;
+  told = subst (λ (log : Log). Tells (moments_of old.beside) (moments_of log) (m ∷ []))
+      (sym goes.beside) told;
+  later = let k = aside.keeps.later in omega (arith, k, goes.later);
+  trusts = λ trusted. trusted_on mid new goes (trusts-kept old mid aside.keeps trusted);
   leaves = leaves-behind-aside old mid new
       (λ _ image. IsAmong image s (carried_out s name body m).atoms) aside leaves;
 }

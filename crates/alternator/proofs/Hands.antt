@@ -10,6 +10,8 @@ use Rattle.alt_tables.specs.Stands.{Stands}
 use Rattle.alt_tables.specs.declared.tables.Tables.{Tables}
 use Rattle.alternator.specs.Runs.{Calls, Reaches, ServesAtHand, BreaksAtHand, HandsOut, asked_now, asked_later}
 use Rattle.alternator.specs.Turns.{Asked, asked_of}
+use Rattle.alternator.specs.declared.serve.RunFault.{RunFault}
+use Rattle.alternator.specs.declared.serve.RunFault.TheVariants.{NoMemory}
 use Rattle.alternator.proofs.Serving.{calls_none, calls_then, calls_as, hand_none, hand_then, hand_break, hand_breaks_more, hand_stops}
 
 -- what is known of a value where there is one
@@ -83,18 +85,18 @@ module _ (a : DiskState) (t0 : Tables) (b : DiskState) (t1 : Tables) (u v w : Un
       ∙ map-append asked_of p.done (line ∷ lines_now w)
 
   -- the next line broke off
-  pub hands_break : (c : DiskState) (number : Option ℕ) (s : State) (stands : Stands a t0 s)
-      → ((r : State) → Stands b t1 r → Calls b c (BreaksAtHand number r (asked_of line ∷ [])))
-      → Calls a c (BreaksAtHand number s (asked_now u))
-  hands_break c number s stands go =
+  pub hands_break : (c : DiskState) (fault : RunFault) (s : State) (stands : Stands a t0 s)
+      → ((r : State) → Stands b t1 r → Calls b c (BreaksAtHand fault r (asked_of line ∷ [])))
+      → Calls a c (BreaksAtHand fault s (asked_now u))
+  hands_break c fault s stands go =
       let front = p.serves s stands in
-      subst (λ (ls : List Asked). Calls a c (BreaksAtHand number s ls)) (sym all_lines)
+      subst (λ (ls : List Asked). Calls a c (BreaksAtHand fault s ls)) (sym all_lines)
       (calls_then a b c {P = ServesAtHand s (map asked_of p.done) front.to} {Q =
-      BreaksAtHand number front.to (asked_of line ∷ [])}
-      {R = BreaksAtHand number s (map asked_of p.done ++ (asked_of line ∷ asked_now w))}
+      BreaksAtHand fault front.to (asked_of line ∷ [])}
+      {R = BreaksAtHand fault s (map asked_of p.done ++ (asked_of line ∷ asked_now w))}
       (λ es fs ms ns meet x y. hand_break a b c s front.to front.to (map asked_of p.done)
-      (asked_of line ∷ asked_now w) es fs ms ns meet x number
-      (hand_breaks_more b c number front.to (asked_of line ∷ []) (asked_now w) fs ns y))
+      (asked_of line ∷ asked_now w) es fs ms ns meet x fault
+      (hand_breaks_more b c fault front.to (asked_of line ∷ []) (asked_now w) fs ns y))
       front.calls (go front.to front.stands))
 
   -- each line leaves fewer
@@ -105,13 +107,13 @@ module _ (a : DiskState) (t0 : Tables) (b : DiskState) (t1 : Tables) (u v : Unre
     (p : Hands a t0 b t1 u v) where
   -- memory was refused for the next line
   pub hands_memory : (s : State) → Stands a t0 s
-      → Calls a b (BreaksAtHand None s (asked_now u))
+      → Calls a b (BreaksAtHand NoMemory s (asked_now u))
   hands_memory s stands =
       let front = p.serves s stands in
-      subst (λ (ls : List Asked). Calls a b (BreaksAtHand None s ls))
+      subst (λ (ls : List Asked). Calls a b (BreaksAtHand NoMemory s ls))
       (sym (ap (map asked_of) p.now ∙ map-append asked_of p.done (lines_now v)))
       (calls_as a b {P = ServesAtHand s (map asked_of p.done) front.to}
-      {Q = BreaksAtHand None s (map asked_of p.done ++ asked_now v)}
+      {Q = BreaksAtHand NoMemory s (map asked_of p.done ++ asked_now v)}
       (λ es ms within x. hand_stops a b s front.to (map asked_of p.done) (asked_now v) es ms x)
       front.calls)
 

@@ -1,10 +1,11 @@
+pub mod Beginning
 pub mod EndingLaws
 pub mod Hands
 pub mod Numbers
+pub mod Opening
 pub mod Passing
 pub mod Pulling
 pub mod Serving
-pub mod TurnLaws
 pub mod Stopping
 pub mod StubLaws
-pub mod Beginning
+pub mod TurnLaws

@@ -17,6 +17,8 @@ use Rattle.alternator.specs.Runs.{OfCalls, Calls, Reaches, Rests, Serves, Breaks
 use Rattle.alternator.specs.Stops.{Image, IsLeft, AtEach, LeftAtHand, AreWithin}
 use Rattle.alternator.specs.Stub.{StandsFor}
 use Rattle.alternator.proofs.Stopping.{Meet, IsPrefix-longer, until-append, until-before, until-behind, said-by, none-shorter, taken-until, ended-until, within-wider, turns-more, left-more, left-behind, left-nothing-said, spans_two, keeps-spans, trusts-kept, stands_left, step-rises, step-rises-or-last}
+use Rattle.alternator.specs.declared.serve.RunFault.{RunFault}
+use Rattle.alternator.specs.declared.serve.RunFault.TheVariants.{Failed, NoMemory}
 use Rattle.alternator.specs.Turns.{Asked, Turn, turns, text_of, after, asks, asked_of, longest_line}
 use Rattle.alt_shell.proofs.Telling.{Grows-then, Grows-nil, Tells-nil}
 use Rattle.alternator.proofs.Serving.{said_in-append, taken-append, ended-append, turns_both, calls_none, calls_then, serves_none, serves_then, serves_break, breaks_none}
@@ -191,12 +193,12 @@ module _ (a b c : DiskState) (call : ShellCall a b true) (t1 : Tables) (s : Stat
         (subst (λ (x : Unread). HandsOut x v) same outs)
 
     -- that broke off
-    pub pull_breaks : (number : Option ℕ) → Calls b c (BreaksAtHand number s (asked_now given))
-        → Calls a c (GoesSome number s u)
-    pull_breaks number q = with_take a b c call piece g m
-        {P = BreaksAtHand number s (asked_now given)} {Q = GoesSome number s u}
+    pub pull_breaks : (fault : RunFault) → Calls b c (BreaksAtHand fault s (asked_now given))
+        → Calls a c (GoesSome fault s u)
+    pull_breaks fault q = with_take a b c call piece g m
+        {P = BreaksAtHand fault s (asked_now given)} {Q = GoesSome fault s u}
         (λ es ms within x. record {
-          breaks = subst (λ (ls : List Asked). Breaks number s ls (one ∷ es) ms)
+          breaks = subst (λ (ls : List Asked). Breaks fault s ls (one ∷ es) ms)
               (given_now u piece unended
               ∙ ap (λ (bs : List ℕ). asked_later u bs false) (sym (all es x.rests.silent))
               ∙ ap (asked_later u (taken (one ∷ es))) (sym (going es x.rests.goes_on)))
@@ -218,7 +220,7 @@ module _ (a b c : DiskState) (call : ShellCall a b true) (t1 : Tables) (s : Stat
         q
 
     -- there was no memory for them
-    pub pull_memory : Calls a b (GoesSome None s u)
+    pub pull_memory : Calls a b (GoesSome NoMemory s u)
     pull_memory = record {
       entries = one ∷ [];
       told = [];
@@ -233,7 +235,7 @@ module _ (a b c : DiskState) (call : ShellCall a b true) (t1 : Tables) (s : Stat
       };
     }
       where
-        breaks_took : (ls : List Asked) → Breaks None s ls (one ∷ []) []
+        breaks_took : (ls : List Asked) → Breaks NoMemory s ls (one ∷ []) []
         breaks_took ls = record {
           done = [];
           begun = [];
@@ -289,14 +291,14 @@ module _ (a b c : DiskState) (call : ShellCall a b true) (t1 : Tables) (s : Stat
     }
 
     -- that broke off
-    pub pull_end_breaks : (number : Option ℕ)
-        → Calls b c (BreaksAtHand number s (asked_now (record u { ended = true })))
-        → Calls a c (GoesSome number s u)
-    pull_end_breaks number q = with_take a b c call [] at_end m
-        {P = BreaksAtHand number s (asked_now (record u { ended = true }))} {Q =
-        GoesSome number s u}
+    pub pull_end_breaks : (fault : RunFault)
+        → Calls b c (BreaksAtHand fault s (asked_now (record u { ended = true })))
+        → Calls a c (GoesSome fault s u)
+    pull_end_breaks fault q = with_take a b c call [] at_end m
+        {P = BreaksAtHand fault s (asked_now (record u { ended = true }))} {Q =
+        GoesSome fault s u}
         (λ es ms within x. record {
-          breaks = subst (λ (ls : List Asked). Breaks number s ls (last ∷ es) ms)
+          breaks = subst (λ (ls : List Asked). Breaks fault s ls (last ∷ es) ms)
               (ended_now u ∙ ap (λ (bs : List ℕ). asked_later u bs true) (sym x.rests.silent))
               (record {
                 done = x.breaks.done;
@@ -318,7 +320,7 @@ module _ (a b c : DiskState) (call : ShellCall a b true) (t1 : Tables) (s : Stat
 -- the take failed
 module _ (a b : DiskState) (call : ShellCall a b false) (tables : Tables) (s : State)
     (stands : Stands a tables s) (u : Unread) (m : moments_of b.beside ≡ moments_of a.beside) where
-  pull_untold : Grows a.beside b.beside [] → Calls a b (GoesSome None s u)
+  pull_untold : Grows a.beside b.beside [] → Calls a b (GoesSome Failed s u)
   pull_untold g = record {
     entries = [];
     told = [];
@@ -328,13 +330,13 @@ module _ (a b : DiskState) (call : ShellCall a b false) (tables : Tables) (s : S
     later = call.keeps.later;
     trusts = trusts-kept a b call.keeps;
     holds = record {
-      breaks = breaks_none s (asked_later u [] false);
+      breaks = breaks_none Failed tt s (asked_later u [] false);
       leaves = leaves_silent a b tables s u [] stands call.keeps refl;
     };
   }
 
   pull_told : Adds a b take_failed → ((2 ^ 64 - 1 ≤ a.moment) ⊎ (a.moment < b.moment))
-      → Calls a b (GoesSome None s u)
+      → Calls a b (GoesSome Failed s u)
   pull_told g (inl at_last) = pull_untold
       (subst (λ (log : Log). Grows a.beside log []) (sym (call.last at_last).1) (Grows-nil a.beside))
   pull_told g (inr rises) = record {
@@ -365,7 +367,7 @@ module _ (a b : DiskState) (call : ShellCall a b false) (tables : Tables) (s : S
     };
   }
 
-  pub pull_failed : (Adds a b take_failed ⊎ Untold a b takes_failed) → Calls a b (GoesSome None s u)
+  pub pull_failed : (Adds a b take_failed ⊎ Untold a b takes_failed) → Calls a b (GoesSome Failed s u)
   pull_failed (inl g) = pull_told g (step-rises-or-last a b call)
   pull_failed (inr untold) = pull_untold untold.log
 
@@ -472,17 +474,17 @@ module _ (a b c : DiskState) (t1 : Tables) (s : State) (u v : Unread)
       p.calls q.calls
 
   -- and then a break
-  pub goes_breaks : (number : Option ℕ) → Calls b c (GoesSome number p.to v)
-      → Calls a c (GoesSome number s u)
-  goes_breaks number q = calls_then a b c {P = Goes s u p.to v} {Q = GoesSome number p.to v} {R =
-      GoesSome number s u}
+  pub goes_breaks : (fault : RunFault) → Calls b c (GoesSome fault p.to v)
+      → Calls a c (GoesSome fault s u)
+  goes_breaks fault q = calls_then a b c {P = Goes s u p.to v} {Q = GoesSome fault p.to v} {R =
+      GoesSome fault s u}
       (λ es fs ms ns meet x y. record {
-        breaks = subst (λ (ls : List Asked). Breaks number s ls (es ++ fs) (ms ++ ns))
+        breaks = subst (λ (ls : List Asked). Breaks fault s ls (es ++ fs) (ms ++ ns))
             (sym (ap (λ (e : Bool). asked_later u (taken (es ++ fs)) e)
             (ended-append es fs ∙ ap (λ (e : Bool). e || ended fs) x.goes_on)
             ∙ ap (λ (bs : List ℕ). asked_later u bs (ended fs)) (taken-append es fs)
             ∙ x.lines (taken fs) (ended fs)))
-            (serves_break number s p.to x.done
+            (serves_break fault s p.to x.done
             (asked_later v (taken fs) (ended fs)) es fs ms ns x.serves y.breaks);
         leaves = goes_leaves a b c s p.to u v es fs ms ns meet x y.leaves;
       })
@@ -508,9 +510,9 @@ answers_all a b s t es ms x = record {
 }
 
 -- some was
-pub answers_some : (a b : DiskState) (number : Option ℕ) (s : State) (es : Log) (ms : List ℕ)
-    → GoesSome number s fresh a b es ms → AnswersSome number s a b es ms
-answers_some a b number s es ms x =
+pub answers_some : (a b : DiskState) (fault : RunFault) (s : State) (es : Log) (ms : List ℕ)
+    → GoesSome fault s fresh a b es ms → AnswersSome fault s a b es ms
+answers_some a b fault s es ms x =
     let br = x.breaks in
     let front : List Asked = br.done ++ br.begun in
     let lines : asks (ended es) (taken es) ≡ front ++ br.rest =

@@ -12,7 +12,7 @@ use Rattle.alternator.specs.Runs.{OfCalls, Calls, Serves, Breaks, Rests, Reaches
 use Rattle.alternator.specs.Stops.{IsLeft, IsAmong, AtEach, LeftAtHand, AreWithin}
 use Rattle.alt_tables.specs.Stands.{Stands}
 use Rattle.alt_tables.specs.declared.tables.Tables.{Tables}
-use Rattle.alternator.specs.Faults.{IsLacked, IsCausedBy, number_of}
+use Rattle.alternator.specs.Faults.{IsCausedBy}
 use Rattle.alternator.specs.declared.serve.RunFault.{RunFault}
 use Rattle.alternator.specs.declared.serve.RunFault.TheVariants.{Failed, NoMemory, Spent}
 use Rattle.alternator.specs.Turns.{Asked, Turn, turns, text_of, after, after_turn, wanted, or_next, requests}
@@ -74,11 +74,11 @@ serves_then s t u ls ks es fs ms ns p q = record {
 }
 
 -- lines and then a break
-pub serves_break : (number : Option ℕ) (s t : State) (ls ks : List Asked) (es fs : Log)
+pub serves_break : (fault : RunFault) (s t : State) (ls ks : List Asked) (es fs : Log)
     (ms ns : List ℕ)
-    → Serves s ls t es ms → Breaks number t ks fs ns
-    → Breaks number s (ls ++ ks) (es ++ fs) (ms ++ ns)
-serves_break number s t ls ks es fs ms ns p q = record {
+    → Serves s ls t es ms → Breaks fault t ks fs ns
+    → Breaks fault s (ls ++ ks) (es ++ fs) (ms ++ ns)
+serves_break fault s t ls ks es fs ms ns p q = record {
   done = ls ++ q.done;
   begun = q.begun;
   rest = q.rest;
@@ -100,16 +100,16 @@ serves_break number s t ls ks es fs ms ns p q = record {
   count = count_both s t t ls (q.done ++ q.begun) es fs ms ns p q.count
       ∙ ap requests (sym (append_assoc ls q.done q.begun));
   enough = wanted_both s t t ls q.done es fs ms ns p ∙ q.enough;
-  wants = subst (λ xs. IsLacked number (wanted (turns s xs (ms ++ ns))))
+  wants = subst (λ xs. IsCausedBy (wanted (turns s xs (ms ++ ns))) fault)
       (sym (append_assoc ls q.done q.begun))
-      (subst (IsLacked number) (sym (wanted_both s t t ls (q.done ++ q.begun) es fs ms ns p))
+      (subst (λ w. IsCausedBy w fault) (sym (wanted_both s t t ls (q.done ++ q.begun) es fs ms ns p))
       q.wants);
 }
 
 -- a break among lines is one among these and more
-pub breaks_more : (number : Option ℕ) (s : State) (ls ks : List Asked) (es : Log) (ms : List ℕ)
-    → Breaks number s ls es ms → Breaks number s (ls ++ ks) es ms
-breaks_more number s ls ks es ms q = record {
+pub breaks_more : (fault : RunFault) (s : State) (ls ks : List Asked) (es : Log) (ms : List ℕ)
+    → Breaks fault s ls es ms → Breaks fault s (ls ++ ks) es ms
+breaks_more fault s ls ks es ms q = record {
   done = q.done;
   begun = q.begun;
   rest = q.rest ++ ks;
@@ -124,8 +124,9 @@ breaks_more number s ls ks es ms q = record {
 }
 
 -- nothing was begun
-pub breaks_none : (s : State) (ls : List Asked) → Breaks None s ls [] []
-breaks_none s ls = record {
+pub breaks_none : (fault : RunFault) → IsCausedBy None fault → (s : State) (ls : List Asked)
+    → Breaks fault s ls [] []
+breaks_none fault cause s ls = record {
   done = [];
   begun = [];
   rest = ls;
@@ -136,20 +137,20 @@ breaks_none s ls = record {
   said = ([], refl);
   count = refl;
   enough = refl;
-  wants = tt;
+  wants = cause;
 }
 
 -- nothing to serve
 pub serves_none : (s : State) → Serves s [] s [] []
 serves_none s = record { said = refl; state = refl; count = refl; enough = refl }
 
--- lines that were served whole, and then no more was begun
+-- lines that were served whole, and then no more was begun for want of memory
 pub serves_breaks : (s t : State) (ls ks : List Asked) (es : Log) (ms : List ℕ)
-    → Serves s ls t es ms → Breaks None s (ls ++ ks) es ms
+    → Serves s ls t es ms → Breaks NoMemory s (ls ++ ks) es ms
 serves_breaks s t ls ks es ms p =
-    subst (λ (ns : List ℕ). Breaks None s (ls ++ ks) es ns) (append-nil ms)
-    (subst (λ (fs : Log). Breaks None s (ls ++ ks) fs (ms ++ [])) (append-nil es)
-    (serves_break None s t ls ks es [] ms [] p (breaks_none t ks)))
+    subst (λ (ns : List ℕ). Breaks NoMemory s (ls ++ ks) es ns) (append-nil ms)
+    (subst (λ (fs : Log). Breaks NoMemory s (ls ++ ks) fs (ms ++ [])) (append-nil es)
+    (serves_break NoMemory s t ls ks es [] ms [] p (breaks_none NoMemory tt t ks)))
 
 -- ---- nothing taken
 
@@ -266,10 +267,10 @@ module _ (a b c : DiskState) (s t u : State) (ls ks : List Asked) (es fs : Log) 
   }
 
   -- lines and then a break
-  pub hand_break : (number : Option ℕ) → BreaksAtHand number t ks b c fs ns
-      → BreaksAtHand number s (ls ++ ks) a c (es ++ fs) (ms ++ ns)
-  hand_break number q = record {
-    breaks = serves_break number s t ls ks es fs ms ns p.serves q.breaks;
+  pub hand_break : (fault : RunFault) → BreaksAtHand fault t ks b c fs ns
+      → BreaksAtHand fault s (ls ++ ks) a c (es ++ fs) (ms ++ ns)
+  hand_break fault q = record {
+    breaks = serves_break fault s t ls ks es fs ms ns p.serves q.breaks;
     rests = rests_then es fs p.rests q.rests;
     leaves = leaves_then q.leaves;
   }
@@ -285,18 +286,18 @@ leaves_more a b s ls ks es ms p trusted =
     (left-more s (turns s ls ms) more.0 (said_in (until n es)) image more.1.0 x)) p trusted
 
 -- a break among lines is one among these and more
-pub hand_breaks_more : (a b : DiskState) (number : Option ℕ) (s : State) (ls ks : List Asked) (es : Log)
+pub hand_breaks_more : (a b : DiskState) (fault : RunFault) (s : State) (ls ks : List Asked) (es : Log)
     (ms : List ℕ)
-    → BreaksAtHand number s ls a b es ms → BreaksAtHand number s (ls ++ ks) a b es ms
-hand_breaks_more a b number s ls ks es ms p = record {
-  breaks = breaks_more number s ls ks es ms p.breaks;
+    → BreaksAtHand fault s ls a b es ms → BreaksAtHand fault s (ls ++ ks) a b es ms
+hand_breaks_more a b fault s ls ks es ms p = record {
+  breaks = breaks_more fault s ls ks es ms p.breaks;
   rests = p.rests;
   leaves = leaves_more a b s ls ks es ms p.leaves;
 }
 
--- lines that were served whole, and then no more was begun
+-- lines that were served whole, and then no more was begun for want of memory
 pub hand_stops : (a b : DiskState) (s t : State) (ls ks : List Asked) (es : Log) (ms : List ℕ)
-    → ServesAtHand s ls t a b es ms → BreaksAtHand None s (ls ++ ks) a b es ms
+    → ServesAtHand s ls t a b es ms → BreaksAtHand NoMemory s (ls ++ ks) a b es ms
 hand_stops a b s t ls ks es ms p = record {
   breaks = serves_breaks s t ls ks es ms p.serves;
   rests = p.rests;
@@ -372,15 +373,15 @@ turn_served old mid new tables s l t ms bytes b enough stands call added n e =
 
 -- a turn that was begun, of which these bytes were said
 turn_begun : (old mid new : DiskState) (s : State) (l : Asked) (t : Turn) (ms : List ℕ)
-    (number : Option ℕ) (es : Log)
-    → Begins old mid s l t ms → IsLacked number t.lacks
+    (fault : RunFault) (es : Log)
+    → Begins old mid s l t ms → IsCausedBy t.lacks fault
     → Rests es → IsPrefix (said_in es) t.text
     → Grows mid.beside new.beside es → moments_of new.beside ≡ moments_of mid.beside
     → AreWithin mid.moment new.moment es → mid.moment ≤ new.moment
     → (IsTrusted mid → IsTrusted new)
     → AtEach old new (LeftAtHand s (l ∷ []) es ms)
-    → Calls old new (BreaksAtHand number s (l ∷ []))
-turn_begun old mid new s l t ms number es b lacked rests some g m within later trusts leaves =
+    → Calls old new (BreaksAtHand fault s (l ∷ []))
+turn_begun old mid new s l t ms fault es b lacked rests some g m within later trusts leaves =
     record {
       entries = es;
       told = ms;
@@ -402,18 +403,18 @@ turn_begun old mid new s l t ms number es b lacked rests some g m within later t
               (subst (IsPrefix (said_in es)) (sym (append-nil t.text)) some);
           count = b.count;
           enough = refl;
-          wants = subst (λ (ts : List Turn). IsLacked number (wanted ts)) (sym b.one)
-              (lacked_alone number t.lacks lacked);
+          wants = subst (λ (ts : List Turn). IsCausedBy (wanted ts) fault) (sym b.one)
+              (lacked_alone fault t.lacks lacked);
         };
         rests = rests;
         leaves = leaves;
       };
     }
   where
-    lacked_alone : (number : Option ℕ) (lack : Option Lack) → IsLacked number lack
-        → IsLacked number (or_next lack None)
-    lacked_alone number None h = h
-    lacked_alone number (Some x) h = h
+    lacked_alone : (fault : RunFault) (lack : Option Lack) → IsCausedBy lack fault
+        → IsCausedBy (or_next lack None) fault
+    lacked_alone fault None h = h
+    lacked_alone fault (Some x) h = h
 
 -- a turn whose text was said in part
 module _ (old mid new : DiskState) (tables : Tables) (s : State) (l : Asked) (t : Turn) (ms : List ℕ)
@@ -422,9 +423,9 @@ module _ (old mid new : DiskState) (tables : Tables) (s : State) (l : Asked) (t 
     (e : bytes ≡ t.text) where
   cut : (es : Log) → Rests es → ((u : ℕ) → IsPrefix (said_in (until u es)) t.text)
       → IsPrefix (said_in es) t.text → Grows mid.beside new.beside es
-      → AreWithin mid.moment new.moment es → Calls old new (BreaksAtHand None s (l ∷ []))
+      → AreWithin mid.moment new.moment es → Calls old new (BreaksAtHand Failed s (l ∷ []))
   cut es rests by some g within =
-      turn_begun old mid new s l t ms None es b tt rests some g m within call.keeps.later
+      turn_begun old mid new s l t ms Failed es b tt rests some g m within call.keeps.later
       (trusts-kept mid new call.keeps)
       (leaves-said s l t ms b.one old mid new es within by b.trusts b.leaves
       (λ trusted image is_image. stands_left mid tables (after_turn s t) stands trusted
@@ -432,13 +433,13 @@ module _ (old mid new : DiskState) (tables : Tables) (s : State) (l : Asked) (t 
       call.keeps)
 
   -- the failure wasn't told
-  cut_untold : Grows mid.beside new.beside [] → Calls old new (BreaksAtHand None s (l ∷ []))
+  cut_untold : Grows mid.beside new.beside [] → Calls old new (BreaksAtHand Failed s (l ∷ []))
   cut_untold g = cut [] (record { silent = refl; goes_on = refl })
       (λ u. (t.text, refl)) (t.text, refl) g tt
 
   cut_part : (n : ℕ) → Adds mid new (say_failed (take n bytes))
       → ((2 ^ 64 - 1 ≤ mid.moment) ⊎ (mid.moment < new.moment))
-      → Calls old new (BreaksAtHand None s (l ∷ []))
+      → Calls old new (BreaksAtHand Failed s (l ∷ []))
   cut_part n added (inl at_last) = cut_untold
       (subst (λ (log : Log). Grows mid.beside log []) (sym (call.last at_last).1)
       (Grows-nil mid.beside))
@@ -453,7 +454,7 @@ module _ (old mid new : DiskState) (tables : Tables) (s : State) (l : Asked) (t 
       added (rises, (omega arith, tt))
 
   pub turn_cut : (((n : ℕ) × Adds mid new (say_failed (take n bytes)))
-      ⊎ Untold mid new says_failed) → Calls old new (BreaksAtHand None s (l ∷ []))
+      ⊎ Untold mid new says_failed) → Calls old new (BreaksAtHand Failed s (l ∷ []))
   turn_cut (inl part) = cut_part part.0 part.1 (step-rises-or-last mid new call)
   turn_cut (inr untold) = cut_untold untold.log
 
@@ -461,13 +462,8 @@ module _ (old mid new : DiskState) (tables : Tables) (s : State) (l : Asked) (t 
 pub turn_unsaid : (old new : DiskState) (s : State) (l : Asked) (t : Turn) (ms : List ℕ)
     (fault : RunFault)
     → Begins old new s l t ms → IsCausedBy t.lacks fault
-    → Calls old new (BreaksAtHand (number_of fault) s (l ∷ []))
+    → Calls old new (BreaksAtHand fault s (l ∷ []))
 turn_unsaid old new s l t ms fault b cause =
-    turn_begun old new new s l t ms (number_of fault) [] b (lacked fault cause)
+    turn_begun old new new s l t ms fault [] b cause
     (record { silent = refl; goes_on = refl }) (t.text, refl) (Grows-nil new.beside) refl tt
     (omega arith) (λ trusted. trusted) (leaves-unsaid s l t ms b.one old new b.leaves)
-  where
-    lacked : (f : RunFault) → IsCausedBy t.lacks f → IsLacked (number_of f) t.lacks
-    lacked Failed c = absurd c
-    lacked NoMemory c = tt
-    lacked (Spent n) c = c

@@ -22,7 +22,7 @@ use Rattle.alternator.specs.Stub.{StandsFor}
 use Rattle.alternator.proofs.StubLaws.{stub}
 use Rattle.alt_tables.specs.Stands.{Stands}
 use Rattle.alt_tables.specs.declared.tables.Tables.{Tables}
-use Rattle.alternator.specs.Turns.{Asked, request, unread, Turn, turns, turned_away, carried_out, text_of, after, after_turn, line_of}
+use Rattle.alternator.specs.Turns.{Asked, request, reopen, unread, Turn, turns, opened_again, turned_away, carried_out, text_of, after, after_turn, line_of}
 use Rattle.alternator.proofs.TurnLaws.{text_of-append}
 
 -- ---- prefixes
@@ -162,6 +162,7 @@ turns_say s (request name body ∷ ls) (m ∷ ms) = (
   line_says _ _,
   turns_say (after_turn s (carried_out s name body m)) ls ms,
 )
+turns_say s (reopen ∷ ls) ms = (omega arith, turns_say s ls ms)
 turns_say s (unread ∷ ls) ms = (omega arith, turns_say s ls ms)
 
 -- where nothing was said none was answered
@@ -300,6 +301,9 @@ turns-more s (request name body ∷ ls) ks (m ∷ ms) ns =
     let t = carried_out s name body m in
     let more = turns-more (after_turn s t) ls ks ms ns in
     (more.0, more.1.0, ap (λ ts. t ∷ ts) more.1.1)
+turns-more s (reopen ∷ ls) ks ms ns =
+    let more = turns-more s ls ks ms ns in
+    (more.0, more.1.0, ap (λ ts. opened_again ∷ ts) more.1.1)
 turns-more s (unread ∷ ls) ks ms ns =
     let more = turns-more s ls ks ms ns in
     (more.0, more.1.0, ap (λ ts. turned_away ∷ ts) more.1.1)

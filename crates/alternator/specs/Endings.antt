@@ -1,17 +1,27 @@
 -- How a run ends: its status, what it notes, and what it has done.
-use Rattle.std.specs.Prelude.{◌≡◌, ℕ, List, [], ◌∷◌, ◌++◌, codes, decimal, None, Some}
+use Rattle.std.specs.Prelude.{◌≡◌, ◌≢◌, ◌<◌, ◌⊎◌, ⊥, ℕ, List, [], ◌∷◌, ◌++◌, codes, decimal, Option, None, Some, false, IsTrue}
+use Rattle.hex.specs.Hex.{encode_lower}
 use Rattle.alt_base.specs.Counts.{Rose}
-use Rattle.alt_disk.specs.Disk.{DiskState}
-use Rattle.alt_machine.specs.State.{start}
-use Rattle.alt_shell.specs.Log.{Grows, StillGrows, notes_of, moments_of}
-use Rattle.alternator.specs.Runs.{Calls, Answers, AnswersSome}
+use Rattle.alt_disk.specs.Disk.{DiskState, IsImage, IsTrusted}
+use Rattle.alt_machine.specs.State.{State, start}
+use Rattle.alt_shell.specs.Log.{Log, Grows, StillGrows, notes_of, moments_of, taken, said_in}
+use Rattle.alternator.specs.Faults.{IsUnreadable}
+use Rattle.alternator.specs.Runs.{Calls, Answers, AnswersSome, IsOpening, Opened}
+use Rattle.alternator.specs.Stub.{StandsFor}
+use Rattle.alternator.specs.declared.serve.RunFault.{RunFault}
+use Rattle.alternator.specs.declared.serve.RunFault.TheVariants as fault
 use Rattle.alternator.specs.declared.ending.Ending.{Ending}
-use Rattle.alternator.specs.declared.ending.Ending.TheVariants.{Whole, Words, Device, Memory, Spent}
+use Rattle.alternator.specs.declared.ending.Ending.TheVariants.{Whole, Words, NotEmpty, Damaged, BadRow, Device, Memory, Spent}
+use Rattle.alternator.specs.declared.words.Job.{Job}
+use Rattle.alternator.specs.declared.words.Job.TheVariants.{Init, Replay}
 
 -- the status of each ending
 abbrev pub status_of : Ending → ℕ
 status_of Whole = 0
 status_of Words = 1
+status_of (NotEmpty first) = 2
+status_of (Damaged file at) = 3
+status_of (BadRow family key) = 3
 status_of Device = 4
 status_of Memory = 5
 status_of (Spent number) = 6
@@ -20,9 +30,25 @@ status_of (Spent number) = 6
 abbrev pub note_of : Ending → List ℕ
 note_of Whole = []
 note_of Words = codes "alternator: words\n"
+note_of (NotEmpty first) = codes "alternator: store not empty: file " ++ (decimal first ++ 10 ∷ [])
+note_of (Damaged file at) = codes "alternator: damaged: file "
+    ++ (decimal file ++ (codes " at " ++ (decimal at ++ 10 ∷ [])))
+note_of (BadRow family key) = codes "alternator: row: family "
+    ++ (decimal family ++ (codes " key " ++ (encode_lower key ++ 10 ∷ [])))
 note_of Device = codes "alternator: device\n"
 note_of Memory = codes "alternator: memory\n"
 note_of (Spent number) = codes "alternator: numbers spent: " ++ (decimal number ++ 10 ∷ [])
+
+-- its note has numbers in it
+abbrev pub HasNumbers : Ending → Type 0
+HasNumbers Whole = ⊥
+HasNumbers Words = ⊥
+HasNumbers (NotEmpty first) = Unit {0}
+HasNumbers (Damaged file at) = Unit {0}
+HasNumbers (BadRow family key) = Unit {0}
+HasNumbers Device = ⊥
+HasNumbers Memory = ⊥
+HasNumbers (Spent number) = Unit {0}
 
 -- nothing was touched: no call that takes a moment was made, none failed, nothing was taken or said, and the clock wasn't asked
 pub record Untouched (old new : DiskState) : Type 0 where
@@ -31,18 +57,83 @@ pub record Untouched (old new : DiskState) : Type 0 where
   pub silent : Grows old.beside new.beside []
   pub unasked : moments_of new.beside ≡ moments_of old.beside
 
--- What a run has done that ended so. Where it was broken off, what it said is a prefix of its Out: for a device, only where that
--- failed in this run, and for a number, only where a request wanted one that is never given out, the first that did.
-abbrev pub HasDone : Ending → DiskState → DiskState → Type 0
-HasDone Whole old new = Calls old new (Answers start)
-HasDone Words old new = Untouched old new
-HasDone Device old new = Rose old.faults new.faults
-    × Calls old new (AnswersSome None start)
-HasDone Memory old new = Calls old new (AnswersSome None start)
-HasDone (Spent number) old new = Calls old new (AnswersSome (Some number) start)
+-- ---- init
+
+-- A store was made where no file was, and that was said. From then on what a stop leaves stands for the empty store.
+pub record Makes (old new : DiskState) (entries : Log) (told : List ℕ) : Type 0 where
+  pub said : said_in entries ≡ codes "ok\n"
+  pub untaken : taken entries ≡ []
+  pub unasked : told ≡ []
+  pub none : IsTrue old.tells → (f : ℕ) → old.file f ≡ None
+  pub stands : IsTrusted old → (image : ℕ → Option (List ℕ)) → IsImage new new.moment image
+      → StandsFor image start
+
+-- this file was there, and none before it
+pub record IsFirstFile (files : ℕ → Option (List ℕ)) (first : ℕ) : Type 0 where
+  pub there : files first ≢ None
+  pub none : (f : ℕ) → f < first → files f ≡ None
+
+-- what a run of `init` has done that ended so
+abbrev pub HasMade : Ending → DiskState → DiskState → Type 0
+HasMade Whole old new = Calls old new Makes
+HasMade Words old new = ⊥
+HasMade (NotEmpty first) old new = IsTrue old.tells → IsFirstFile old.file first
+HasMade (Damaged file at) old new = ⊥
+HasMade (BadRow family key) old new = ⊥
+HasMade Device old new = Rose old.faults new.faults
+HasMade Memory old new = Unit {0}
+HasMade (Spent number) old new = ⊥
+
+-- ---- replay
+
+-- the files stand for a state
+abbrev pub IsReadable : (ℕ → Option (List ℕ)) → Type 0
+IsReadable files = (s : State) × StandsFor files s
+
+-- The run was broken off while the store was opened, or among the requests.
+abbrev pub BreaksOff : RunFault → DiskState → DiskState → Type 0
+BreaksOff why old new = IsTrusted old → IsOpening old new ⊎ Opened old new (AnswersSome why)
+
+-- The files stood for no state, as is told; or they stood for one, and the disk, which isn't honest, changed them since.
+abbrev pub WasDamaged : RunFault → DiskState → DiskState → Type 0
+WasDamaged why old new = IsTrue old.tells → (IsOpening old new × IsUnreadable old.file why)
+    ⊎ (IsReadable old.file × (old.honest ≡ false))
+
+-- What a run of `replay` has done that ended so. Where it was broken off, what it said is a prefix of its Out: for a device, only
+-- where that failed in this run, and for a number, only where a request wanted one that is never given out, the first that did.
+abbrev pub HasReplayed : Ending → DiskState → DiskState → Type 0
+HasReplayed Whole old new = (IsTrue old.tells → IsReadable old.file)
+    × (IsTrusted old → Opened old new Answers)
+HasReplayed Words old new = ⊥
+HasReplayed (NotEmpty first) old new = ⊥
+HasReplayed (Damaged file at) old new = WasDamaged (fault.Damaged file at) old new
+HasReplayed (BadRow family key) old new = WasDamaged (fault.BadRow family key) old new
+HasReplayed Device old new = Rose old.faults new.faults × BreaksOff fault.Failed old new
+HasReplayed Memory old new = BreaksOff fault.NoMemory old new
+HasReplayed (Spent number) old new = (IsTrue old.tells → IsReadable old.file)
+    × (IsTrusted old → Opened old new (AnswersSome (fault.Spent number)))
+
+-- ---- any run
+
+-- wrong words touch nothing
+abbrev pub HasRefused : Ending → DiskState → DiskState → Type 0
+HasRefused Whole old new = ⊥
+HasRefused Words old new = Untouched old new
+HasRefused (NotEmpty first) old new = ⊥
+HasRefused (Damaged file at) old new = ⊥
+HasRefused (BadRow family key) old new = ⊥
+HasRefused Device old new = ⊥
+HasRefused Memory old new = ⊥
+HasRefused (Spent number) old new = ⊥
+
+-- what a run has done that ended so, by what its words asked for
+abbrev pub HasDone : Option Job → Ending → DiskState → DiskState → Type 0
+HasDone None ending old new = HasRefused ending old new
+HasDone (Some Init) ending old new = HasMade ending old new
+HasDone (Some Replay) ending old new = HasReplayed ending old new
 
 -- a run that ended so, with its note
-pub record Ended (ending : Ending) (status : ℕ) (old new : DiskState) : Type 0 where
+pub record Ended (job : Option Job) (ending : Ending) (status : ℕ) (old new : DiskState) : Type 0 where
   pub by_ending : status ≡ status_of ending
-  pub done : HasDone ending old new
+  pub done : HasDone job ending old new
   pub noted : StillGrows (notes_of old.beside) (notes_of new.beside) (note_of ending)

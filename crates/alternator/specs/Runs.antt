@@ -7,9 +7,11 @@ use Rattle.alt_machine.specs.State.{State}
 use Rattle.alt_shell.specs.Log.{Log, Grows, Tells, moments_of, notes_of, until, taken, said_in, ended}
 use Rattle.alt_tables.specs.Stands.{Stands}
 use Rattle.alt_tables.specs.declared.tables.Tables.{Tables}
-use Rattle.alternator.specs.Faults.{IsLacked}
+use Rattle.alternator.specs.Faults.{IsCausedBy}
+use Rattle.alternator.specs.declared.serve.RunFault.{RunFault}
 use Rattle.alternator.specs.Moments.{answered, said_by, taken_by, ended_by}
 use Rattle.alternator.specs.Stops.{Image, IsLeft, AtEach, LeftAtHand, AreWithin}
+use Rattle.alternator.specs.Stub.{StandsFor, WasLeft}
 use Rattle.alternator.specs.Turns.{Asked, turns, text_of, after, wanted, requests, asks, asked_of, out}
 
 -- what is said of a stretch of calls: of the disk before and after it, its entries, and the moments told in it
@@ -54,8 +56,8 @@ pub record Serves (s : State) (ls : List Asked) (t : State) (entries : Log)
   pub enough : wanted (turns s ls told) ≡ None
 
 -- Serving these lines broke off. Those that were done were answered, at most one more was begun, and just these had a moment
--- each. Where that is for want of a number, it is the first that one of them wanted.
-pub record Breaks (number : Option ℕ) (s : State) (ls : List Asked) (entries : Log)
+-- each. The fault has its cause: where that is want of a number, it is the first that one of them wanted.
+pub record Breaks (fault : RunFault) (s : State) (ls : List Asked) (entries : Log)
     (told : List ℕ) : Type 0 where
   pub done : List Asked
   pub begun : List Asked
@@ -66,7 +68,7 @@ pub record Breaks (number : Option ℕ) (s : State) (ls : List Asked) (entries :
   pub said : IsPrefix (said_in entries) (text_of (turns s (done ++ begun) told))
   pub count : length told ≡ requests (done ++ begun)
   pub enough : wanted (turns s done told) ≡ None
-  pub wants : IsLacked number (wanted (turns s (done ++ begun) told))
+  pub wants : IsCausedBy (wanted (turns s (done ++ begun) told)) fault
 
 -- nothing was taken
 pub record Rests (entries : Log) : Type 0 where
@@ -99,9 +101,9 @@ pub record ServesAtHand (s : State) (ls : List Asked) (t : State) (old new : Dis
   pub leaves : AtEach old new (LeftAtHand s ls entries told)
 
 -- that broke off
-pub record BreaksAtHand (number : Option ℕ) (s : State) (ls : List Asked) (old new : DiskState)
+pub record BreaksAtHand (fault : RunFault) (s : State) (ls : List Asked) (old new : DiskState)
     (entries : Log) (told : List ℕ) : Type 0 where
-  pub breaks : Breaks number s ls entries told
+  pub breaks : Breaks fault s ls entries told
   pub rests : Rests entries
   pub leaves : AtEach old new (LeftAtHand s ls entries told)
 
@@ -129,9 +131,9 @@ pub record Ends (s : State) (u : Unread) (t : State) (old new : DiskState) (entr
   pub leaves : AtEach old new (LeftBy s u entries told)
 
 -- That broke off among the lines that were whole.
-pub record GoesSome (number : Option ℕ) (s : State) (u : Unread) (old new : DiskState)
+pub record GoesSome (fault : RunFault) (s : State) (u : Unread) (old new : DiskState)
     (entries : Log) (told : List ℕ) : Type 0 where
-  pub breaks : Breaks number s (asked_later u (taken entries) (ended entries)) entries told
+  pub breaks : Breaks fault s (asked_later u (taken entries) (ended entries)) entries told
   pub leaves : AtEach old new (LeftBy s u entries told)
 
 -- more was taken, or the end was
@@ -161,8 +163,24 @@ pub record Answers (s : State) (old new : DiskState) (entries : Log)
   pub leaves : AtEach old new (LeftThen s entries told)
 
 -- It broke off among the lines that were whole in what was taken. What was said is a prefix of their Out.
-pub record AnswersSome (number : Option ℕ) (s : State) (old new : DiskState) (entries : Log)
+pub record AnswersSome (fault : RunFault) (s : State) (old new : DiskState) (entries : Log)
     (told : List ℕ) : Type 0 where
-  pub breaks : Breaks number s (asks (ended entries) (taken entries)) entries told
+  pub breaks : Breaks fault s (asks (ended entries) (taken entries)) entries told
   pub said : IsPrefix (said_in entries) (out s (ended entries) (taken entries) told)
   pub leaves : AtEach old new (LeftThen s entries told)
+
+-- ---- the opening
+
+-- Nothing was taken, said or asked, and what a stop at a moment leaves is something that one left before it.
+pub record IsOpening (old new : DiskState) : Type 0 where
+  pub silent : Grows old.beside new.beside []
+  pub unasked : moments_of new.beside ≡ moments_of old.beside
+  pub leaves : AtEach old new (WasLeft old)
+
+-- The store was opened, for the state for which its files stood, and the calls from then on have P of that state.
+pub record Opened (old new : DiskState) (P : State → OfCalls) : Type 0 where
+  pub from : State
+  pub stood : StandsFor old.file from
+  pub opened : DiskState
+  pub opening : IsOpening old opened
+  pub calls : Calls opened new (P from)

@@ -3,6 +3,8 @@ use Rattle.std.specs.Prelude.{ℕ, ◌+◌, ◌-◌, ◌*◌, ◌==◌, ◌&&◌
 use Rattle.std.specs.declared.alloc.Global.{Global}
 use Rattle.std.specs.Char.{is_ascii_digit}
 use Rattle.std.specs.Str.{bytes_eq}
+use Rattle.alternator.specs.declared.words.Job.{Job}
+use Rattle.alternator.specs.declared.words.Job.TheVariants.{Init, Replay}
 
 -- the number of these digits behind this one
 abbrev pub digits_from : ℕ → List ℕ → Option ℕ
@@ -26,6 +28,11 @@ is_replay (word ∷ flush ∷ merge ∷ []) =
     if bytes_eq word (codes "replay") then (if is_within 65536 1073741824
     (number_of flush) then is_within 2 64 (number_of merge) else false) else false
 is_replay words = false
+
+-- what the words ask for: `init`, or `replay FLUSH MERGE`; other words ask for nothing
+abbrev pub job_of : List (List ℕ) → Option Job
+job_of (word ∷ []) = if bytes_eq word (codes "init") then Some Init else None
+job_of words = if is_replay words then Some Replay else None
 
 -- a number of at most 65,535
 abbrev pub small_port : ℕ → Option ℕ

@@ -3,10 +3,13 @@
 #![tactic(auto)]
 
 mod ending;
+mod init;
 mod lines;
+mod open;
 mod reply;
 mod run;
 mod serve;
+mod stub;
 #[cfg(test)]
 mod tests;
 mod words;
@@ -16,7 +19,7 @@ use alt_host::HostShell;
 use std::alloc::{AllocError, Global};
 use std::env;
 use std::process::ExitCode;
-use words::{is_replay, port_of};
+use words::{job_of, port_of};
 
 /// Takes the folder and the port off the front of the words, and ends with the status of the run of the others. Where the words are
 /// wrong, the folder isn't touched.
@@ -29,7 +32,7 @@ fn main(rt: HostRuntime) -> ExitCode {
     let (Some(port), [folder, _, rest @ ..]) = (port_of(&words), words.as_slice()) else {
         return noted(&rt, "alternator: words\n", 1);
     };
-    if !is_replay(rest) {
+    if job_of(rest).is_none() {
         return noted(&rt, "alternator: words\n", 1);
     }
     match HostShell::new(own, alloc, folder.as_str(), port) {

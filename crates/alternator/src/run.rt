@@ -1,18 +1,24 @@
 //! A run of the program, but for what `main` takes off the front.
 
-ghost use Rattle.std.specs.Prelude.{◌≡◌, ◌⊎◌, ◌↔◌, ◌<◌, true, false, Some, None, length, IfOk, IsErrOf, MatchResult};
+ghost use Rattle.std.specs.Prelude.{◌≡◌, ◌⊎◌, ◌↔◌, ◌<◌, ℕ, true, false, Some, None, length, IsTrue, IfOk, IfErr, IsErrOf, MatchResult};
 ghost use Rattle.alt_base.specs.Counts.{Rose};
-ghost use Rattle.alt_machine.specs.State.{start};
-ghost use Rattle.alternator.specs.Endings.{Ended, HasDone};
-ghost use Rattle.alternator.specs.Faults.{number_of};
-ghost use Rattle.alternator.specs.Runs.{Calls, Passes, Answers, AnswersSome};
-ghost use Rattle.alternator.specs.Words.{is_replay, bytes_of};
+ghost use Rattle.alt_disk.specs.Disk.{IsTrusted};
+ghost use Rattle.alt_machine.specs.State.{State};
+ghost use Rattle.alt_tables.specs.Stands.{Stands};
+ghost use Rattle.alternator.specs.Endings.{Ended, HasDone, HasReplayed, BreaksOff, IsReadable};
+ghost use Rattle.alternator.specs.Faults.{IsUnreadable};
+ghost use Rattle.alternator.specs.Runs.{Calls, Passes, Answers, AnswersSome, IsOpening, Opened};
+ghost use Rattle.alternator.specs.Stub.{AreReady, StandsFor};
+ghost use Rattle.alternator.specs.Words.{job_of, bytes_of};
 ghost use Rattle.alternator.specs.declared.ending.Ending.{Ending as RunEnding};
 ghost use Rattle.alternator.specs.declared.serve.RunFault.TheVariants.{Failed};
+ghost use Rattle.alternator.specs.declared.words.Job.TheVariants.{Init, Replay};
 
 use crate::ending::{Ending, noted, status_of};
+use crate::init::init;
+use crate::open::open;
 use crate::serve::{RunFault, pull};
-use crate::words;
+use crate::words::{self, Job};
 use alt_base::NoMemory;
 use alt_lines::{LONGEST_LINE, Lines};
 use alt_shell::Shell;
@@ -30,21 +36,25 @@ fn buffer(alloc: Global) -> Result<Vec<u8>, NoMemory>
 }
 
 /// Requests as lines of the input, of which a buffer's length is taken at a time at most.
-fn pulls<S: Shell>(alloc: Global, buf: &mut [u8], shell: &mut S) -> Result<(), RunFault>
-    requires { 0 < length buf.old }
-    ensures answered { MatchResult result
-        (λ _. Calls (S.state shell.old) (S.state shell.new) (Answers start))
-        (λ f. Calls (S.state shell.old) (S.state shell.new)
-        (AnswersSome (number_of f) start)) }
+fn pulls<S: Shell>(
+    alloc: Global,
+    tables: &mut Tables,
+    buf: &mut [u8],
+    shell: &mut S,
+) -> Result<(), RunFault>
+    requires ready { AreReady (S.state shell.old) tables.old }
+    requires room { 0 < length buf.old }
+    ensures answered { (s : State) → Stands (S.state shell.old) tables.old s → MatchResult result
+        (λ _. Calls (S.state shell.old) (S.state shell.new) (Answers s))
+        (λ f. Calls (S.state shell.old) (S.state shell.new) (AnswersSome f s)) }
     ensures cause { IsErrOf result RunFault.Failed
         → Rose (S.state shell.old).faults (S.state shell.new).faults }
     ensures passes { Passes (S.state shell.old) (S.state shell.new) }
 {
-    let mut tables = Tables::new(alloc);
     let mut lines = Lines::new(alloc, LONGEST_LINE);
     let mut line = Vec::new(alloc);
     'pulls: loop {
-        match pull(alloc, &mut tables, &mut lines, &mut line, buf, shell) {
+        match pull(alloc, tables, &mut lines, &mut line, buf, shell) {
             Ok(true) => {}
             Ok(false) => return Ok(()),
             Err(fault) => return Err(fault),
@@ -52,12 +62,12 @@ fn pulls<S: Shell>(alloc: Global, buf: &mut [u8], shell: &mut S) -> Result<(), R
     }
 }
 
-/// Requests as lines of the input.
-fn replay<S: Shell>(alloc: Global, shell: &mut S) -> Result<(), RunFault>
-    ensures answered { MatchResult result
-        (λ _. Calls (S.state shell.old) (S.state shell.new) (Answers start))
-        (λ f. Calls (S.state shell.old) (S.state shell.new)
-        (AnswersSome (number_of f) start)) }
+/// Requests as lines of the input, over the tables of an open store.
+fn served<S: Shell>(alloc: Global, tables: &mut Tables, shell: &mut S) -> Result<(), RunFault>
+    requires ready { AreReady (S.state shell.old) tables.old }
+    ensures answered { (s : State) → Stands (S.state shell.old) tables.old s → MatchResult result
+        (λ _. Calls (S.state shell.old) (S.state shell.new) (Answers s))
+        (λ f. Calls (S.state shell.old) (S.state shell.new) (AnswersSome f s)) }
     ensures cause { IsErrOf result RunFault.Failed
         → Rose (S.state shell.old).faults (S.state shell.new).faults }
     ensures passes { Passes (S.state shell.old) (S.state shell.new) }
@@ -65,46 +75,85 @@ fn replay<S: Shell>(alloc: Global, shell: &mut S) -> Result<(), RunFault>
     let Ok(mut buf) = buffer(alloc) else {
         return Err(RunFault::NoMemory);
     };
-    pulls(alloc, &mut buf, shell)
+    pulls(alloc, tables, &mut buf, shell)
 }
 
-/// A run up to its note.
-fn ended<S: Shell>(alloc: Global, words: &[String], shell: &mut S) -> Ending
-    ensures done { HasDone result (S.state shell.old) (S.state shell.new) }
-    ensures words { (result ≡ Ending.Words) ↔ (is_replay (bytes_of words.now) ≡ false) }
+/// Requests as lines of the input, over the store that lies on the disk.
+fn replay<S: Shell>(alloc: Global, shell: &mut S) -> Result<(), RunFault>
+    ensures answered { IsTrusted (S.state shell.old) → MatchResult result
+        (λ _. Opened (S.state shell.old) (S.state shell.new) Answers)
+        (λ f. (IsOpening (S.state shell.old) (S.state shell.new)
+        × IsUnreadable (S.state shell.old).file f)
+        ⊎ Opened (S.state shell.old) (S.state shell.new) (AnswersSome f)) }
+    ensures readable { IsTrue (S.state shell.old).tells → MatchResult result
+        (λ _. IsReadable (S.state shell.old).file)
+        (λ f. (IsOpening (S.state shell.old) (S.state shell.new)
+        × IsUnreadable (S.state shell.old).file f)
+        ⊎ IsReadable (S.state shell.old).file) }
+    ensures cause { IsErrOf result RunFault.Failed
+        → Rose (S.state shell.old).faults (S.state shell.new).faults }
     ensures passes { Passes (S.state shell.old) (S.state shell.new) }
 {
-    if !words::is_replay(words) {
-        return Ending::Words;
+    match open(alloc, shell) {
+        Ok(mut tables) => served(alloc, &mut tables, shell),
+        Err(fault) => Err(fault),
     }
+}
+
+/// How a run of `replay` ends.
+fn replayed<S: Shell>(alloc: Global, shell: &mut S) -> Ending
+    ensures done { HasReplayed result (S.state shell.old) (S.state shell.new) }
+    ensures passes { Passes (S.state shell.old) (S.state shell.new) }
+{
     match replay(alloc, shell) {
         Ok(()) => Ending::Whole,
         Err(RunFault::Failed) => Ending::Device,
         Err(RunFault::NoMemory) => Ending::Memory,
         Err(RunFault::Spent { number }) => Ending::Spent { number },
+        Err(RunFault::Damaged { file, at }) => Ending::Damaged { file, at },
+        Err(RunFault::BadRow { family, key }) => Ending::BadRow { family, key },
     }
 }
 
-/// A run of the words behind folder and port, which answers its status: 0 done, 1 the words are wrong, 4 the device failed,
-/// 5 memory was refused, 6 the numbers of writes or the families of tables are spent. So far the words are
-/// `replay FLUSH MERGE`, FLUSH and MERGE have no effect, and each run begins with an empty store in memory.
-pub fn run<S: Shell>(alloc: Global, words: &[String], shell: &mut S) -> u8
-    // It ends in one of five ways, each with its status, its note, and what it has done by then. With 0 the input was read to
-    // its end, and all of its Out was said, each request at a moment of its own.
-    ensures ended { (ending : RunEnding) × Ended ending result (S.state shell.old)
+/// A run up to its note.
+fn ended<S: Shell>(alloc: Global, words: &[String], shell: &mut S) -> Ending
+    ensures done { HasDone (job_of (bytes_of words.now)) result (S.state shell.old)
         (S.state shell.new) }
+    ensures passes { Passes (S.state shell.old) (S.state shell.new) }
+{
+    match words::job_of(words) {
+        None => Ending::Words,
+        Some(Job::Init) => init(alloc, shell),
+        Some(Job::Replay) => replayed(alloc, shell),
+    }
+}
+
+/// A run of the words behind folder and port, which answers its status: 0 done, 1 the words are wrong, 2 a file is there already,
+/// 3 the files are those of no store, 4 the device failed, 5 memory was refused, 6 the numbers of writes or the families of tables are
+/// spent. So far the words are `init` and `replay FLUSH MERGE`, and FLUSH and MERGE have no effect.
+pub fn run<S: Shell>(alloc: Global, words: &[String], shell: &mut S) -> u8
+    // It ends in one of eight ways, each with its status, its note, and what it has done by then. With 0 a `replay` took its input to
+    // the end, and all of its Out was said, each request at a moment of its own; and whatever a stop at any moment left holds every
+    // write that was answered by then.
+    ensures ended { (ending : RunEnding) × Ended (job_of (bytes_of words.now)) ending result
+        (S.state shell.old) (S.state shell.new) }
 
     // 1 comes exactly where the words are wrong.
-    ensures words { (result ≡ 1) ↔ (is_replay (bytes_of words.now) ≡ false) }
+    ensures words { (result ≡ 1) ↔ (job_of (bytes_of words.now) ≡ None) }
 
     // Where no device fails, all of Out is said, or memory was refused, or numbers are spent.
-    ensures complete { is_replay (bytes_of words.now) ≡ true
+    ensures complete { job_of (bytes_of words.now) ≡ Some Replay → IsTrusted (S.state shell.old)
+        → IsReadable (S.state shell.old).file
         → ¬ (Rose (S.state shell.old).faults (S.state shell.new).faults)
-        → ((result ≡ 0) × Calls (S.state shell.old) (S.state shell.new)
-        (Answers start))
+        → ((result ≡ 0) × Opened (S.state shell.old) (S.state shell.new) Answers)
         ⊎ (result ≡ 5) ⊎ (result ≡ 6) }
 
+    // And where there was no file, a store is made, or memory was refused.
+    ensures made { job_of (bytes_of words.now) ≡ Some Init → IsTrusted (S.state shell.old)
+        → ((f : ℕ) → (S.state shell.old).file f ≡ None)
+        → ¬ (Rose (S.state shell.old).faults (S.state shell.new).faults)
+        → (result ≡ 0) ⊎ (result ≡ 5) }
 {
-    let ending = ended(alloc, words, shell);
-    status_of(noted(alloc, ending, shell))
+    let ending = noted(alloc, ended(alloc, words, shell), shell);
+    status_of(&ending)
 }

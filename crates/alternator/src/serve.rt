@@ -8,19 +8,21 @@ ghost use Rattle.alt_lines.specs.Reader.{unread};
 ghost use Rattle.alt_lines.specs.Unread.{HasNone, TakesLine, Tells};
 ghost use Rattle.alt_machine.specs.State.{State};
 ghost use Rattle.alt_tables.specs.Stands.{Stands};
-ghost use Rattle.alternator.specs.Faults.{number_of};
 ghost use Rattle.alternator.specs.Runs.{Calls, Passes, Reaches, ServesAtHand, BreaksAtHand, HandsOut, GoesOrEnds, GoesSome, asked_now};
-ghost use Rattle.alternator.specs.Turns.{request, unread as no_request, asked_of};
+ghost use Rattle.alternator.specs.Stub.{AreReady};
+ghost use Rattle.alternator.specs.Turns.{request, reopen as reopened, unread as no_request, asked_of};
 
 use crate::lines::parts;
+use crate::open::open;
 use crate::reply::reply_text;
+use alt_fields::Bytes;
 use alt_lines::{Cut, Lines};
 use alt_shell::Shell;
 use alt_tables::Tables;
 use std::alloc::Global;
 
 /// Why a run ends early.
-#[derive(Clone, Copy, Debug, PartialEq, Eq)]
+#[derive(Debug, Drop)]
 pub(crate) enum RunFault {
     /// The device failed.
     Failed,
@@ -28,6 +30,10 @@ pub(crate) enum RunFault {
     NoMemory,
     /// A write would need this number, or a new table this family, and it is never given out.
     Spent { number: u64 },
+    /// The files are no store's, for the bytes of this file at this place.
+    Damaged { file: u32, at: u64 },
+    /// The rows are those of no state, and of this family and key is the first that is wrong.
+    BadRow { family: u32, key: Bytes },
 }
 
 /// One request: it is answered at the moment that the clock tells.
@@ -38,11 +44,12 @@ fn answer_request<S: Shell>(
     body: &[u8],
     shell: &mut S,
 ) -> Result<(), RunFault>
+    requires ready { AreReady (S.state shell.old) tables.old }
     ensures served { (s : State) → Stands (S.state shell.old) tables.old s → MatchResult result
         (λ _. Reaches (S.state shell.old) (S.state shell.new) tables.new
         (ServesAtHand s (request name.now body.now ∷ [])))
         (λ f. Calls (S.state shell.old) (S.state shell.new)
-        (BreaksAtHand (number_of f) s (request name.now body.now ∷ []))) }
+        (BreaksAtHand f s (request name.now body.now ∷ []))) }
     ensures cause { IsErrOf result RunFault.Failed
         → Rose (S.state shell.old).faults (S.state shell.new).faults }
     ensures passes { Passes (S.state shell.old) (S.state shell.new) }
@@ -64,12 +71,33 @@ fn turn_away<S: Shell>(tables: &Tables, shell: &mut S) -> Result<(), RunFault>
         (λ _. Reaches (S.state shell.old) (S.state shell.new) tables.now
         (ServesAtHand s (no_request ∷ [])))
         (λ f. Calls (S.state shell.old) (S.state shell.new)
-        (BreaksAtHand (number_of f) s (no_request ∷ []))) }
+        (BreaksAtHand f s (no_request ∷ []))) }
     ensures cause { IsErrOf result RunFault.Failed
         → Rose (S.state shell.old).faults (S.state shell.new).faults }
     ensures passes { Passes (S.state shell.old) (S.state shell.new) }
 {
     match shell.say(b"413 {\"message\":\"request too long\"}\n") {
+        Ok(()) => Ok(()),
+        Err(_) => Err(RunFault::Failed),
+    }
+}
+
+/// The store is opened again. What the disk holds counts from then on.
+fn reopen<S: Shell>(alloc: Global, tables: &mut Tables, shell: &mut S) -> Result<(), RunFault>
+    ensures served { (s : State) → Stands (S.state shell.old) tables.old s → MatchResult result
+        (λ _. Reaches (S.state shell.old) (S.state shell.new) tables.new
+        (ServesAtHand s (reopened ∷ [])))
+        (λ f. Calls (S.state shell.old) (S.state shell.new)
+        (BreaksAtHand f s (reopened ∷ []))) }
+    ensures cause { IsErrOf result RunFault.Failed
+        → Rose (S.state shell.old).faults (S.state shell.new).faults }
+    ensures passes { Passes (S.state shell.old) (S.state shell.new) }
+{
+    match open(alloc, shell) {
+        Ok(opened) => *tables = opened,
+        Err(fault) => return Err(fault),
+    }
+    match shell.say(b"ok\n") {
         Ok(()) => Ok(()),
         Err(_) => Err(RunFault::Failed),
     }
@@ -83,17 +111,19 @@ fn answer_line<S: Shell>(
     line: &[u8],
     shell: &mut S,
 ) -> Result<(), RunFault>
+    requires ready { AreReady (S.state shell.old) tables.old }
     ensures served { (taken : Line) → Tells taken cut [] line.now →
         (s : State) → Stands (S.state shell.old) tables.old s → MatchResult result
         (λ _. Reaches (S.state shell.old) (S.state shell.new) tables.new
         (ServesAtHand s (asked_of taken ∷ [])))
         (λ f. Calls (S.state shell.old) (S.state shell.new)
-        (BreaksAtHand (number_of f) s (asked_of taken ∷ []))) }
+        (BreaksAtHand f s (asked_of taken ∷ []))) }
     ensures cause { IsErrOf result RunFault.Failed
         → Rose (S.state shell.old).faults (S.state shell.new).faults }
     ensures passes { Passes (S.state shell.old) (S.state shell.new) }
 {
     match cut {
+        Cut::Whole if line == b"@reopen" => reopen(alloc, tables, shell),
         Cut::Whole => {
             let (name, body) = parts(line);
             answer_request(alloc, tables, name, body, shell)
@@ -126,11 +156,12 @@ pub(crate) fn at_hand<S: Shell>(
     line: &mut Vec<u8>,
     shell: &mut S,
 ) -> Result<(), RunFault>
+    requires ready { AreReady (S.state shell.old) tables.old }
     ensures served { (s : State) → Stands (S.state shell.old) tables.old s → MatchResult result
         (λ _. Reaches (S.state shell.old) (S.state shell.new) tables.new
         (ServesAtHand s (asked_now (unread lines.old))))
         (λ f. Calls (S.state shell.old) (S.state shell.new)
-        (BreaksAtHand (number_of f) s (asked_now (unread lines.old)))) }
+        (BreaksAtHand f s (asked_now (unread lines.old)))) }
     ensures lines { OnOk result (HandsOut (unread lines.old) (unread lines.new)) }
     ensures cause { IsErrOf result RunFault.Failed
         → Rose (S.state shell.old).faults (S.state shell.new).faults }
@@ -157,13 +188,14 @@ pub(crate) fn pull<S: Shell>(
     buf: &mut [u8],
     shell: &mut S,
 ) -> Result<bool, RunFault>
+    requires ready { AreReady (S.state shell.old) tables.old }
     requires room { 0 < length buf.old }
     requires going { (unread lines.old).ended ≡ false }
     ensures went { (s : State) → Stands (S.state shell.old) tables.old s → MatchResult result
         (λ more. Reaches (S.state shell.old) (S.state shell.new) tables.new
         (λ t. GoesOrEnds more s (unread lines.old) t (unread lines.new)))
         (λ f. Calls (S.state shell.old) (S.state shell.new)
-        (GoesSome (number_of f) s (unread lines.old))) }
+        (GoesSome f s (unread lines.old))) }
     ensures going { IfOk result (λ more. more ≡ true → (unread lines.new).ended ≡ false) }
     ensures time { OnOk result ((S.state shell.old).moment < (S.state shell.new).moment) }
     ensures within { OnOk result ((S.state shell.old).moment < 2 ^ 64 - 1) }

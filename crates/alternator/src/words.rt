@@ -1,7 +1,7 @@
 //! The words of the command line, read by hand.
 
 ghost use Rattle.std.specs.Prelude.{◌≡◌, ◌<◌, ◌^◌, ◌-◌, Some, None, min, option_map};
-ghost use Rattle.alternator.specs.Words.{digits_from, number_of, is_within, is_replay, port_of, small_port, bytes_of};
+ghost use Rattle.alternator.specs.Words.{digits_from, number_of, is_within, is_replay, job_of, port_of, small_port, bytes_of};
 
 // The number of the digits, 2^64 - 1 where it is greater.
 fn digits(word: &[u8]) -> Option<u64>
@@ -39,8 +39,39 @@ fn is_within(least: u64, most: u64, word: &[u8]) -> bool
     }
 }
 
+/// What the words behind folder and port ask for.
+#[derive(Clone, Copy, Debug, PartialEq, Eq)]
+pub(crate) enum Job {
+    /// To make an empty store.
+    Init,
+    /// To serve requests as lines of the input.
+    Replay,
+}
+
+/// What the words ask for, `None` exactly where they are neither `init` nor `replay FLUSH MERGE`.
+pub(crate) fn job_of(words: &[String]) -> Option<Job>
+    ensures { result ≡ job_of (bytes_of words.now) }
+{
+    match words {
+        [word] => {
+            if word.as_str() == "init" {
+                Some(Job::Init)
+            } else {
+                None
+            }
+        }
+        _ => {
+            if is_replay(words) {
+                Some(Job::Replay)
+            } else {
+                None
+            }
+        }
+    }
+}
+
 /// Whether the words are `replay FLUSH MERGE`, FLUSH from 65,536 to 1,073,741,824 bytes and MERGE from 2 to 64 files.
-pub(crate) fn is_replay(words: &[String]) -> bool
+fn is_replay(words: &[String]) -> bool
     ensures { result ≡ is_replay (bytes_of words.now) }
 {
     match words {

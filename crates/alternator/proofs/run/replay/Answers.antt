@@ -1,18 +1,23 @@
-use Rattle.std.proofs.Common.{None, []}
-use Rattle.alt_machine.specs.State.{start}
-use Rattle.alternator.specs.Runs.{AnswersSome, LeftThen}
-use Rattle.alternator.proofs.Pulling.{answers_some}
-use Rattle.alternator.proofs.Serving.{calls_none, breaks_none}
-use Rattle.alternator.proofs.Stopping.{leaves-here, left-nothing}
-use Rattle.alternator.proofs.StubLaws.{stub}
+use Rattle.std.proofs.Common.{inl, inr}
+use Rattle.alt_disk.proofs.Runs.{tells_of}
+use Rattle.alternator.specs.Runs.{Answers, AnswersSome}
+use Rattle.alternator.proofs.Opening.{opening_of, opened_then}
 use Rattle.alternator.proofs.run.replay.Goals as goal
 
-pub returns-in_default-clause-answered : goal.returns-in_default-clause-answered
-returns-in_default-clause-answered g c =
-    let here = g.S.Disk.state c.args.shell.now in
-    calls_none here {P = AnswersSome None start}
-    (answers_some here here None start _ _ (record {
-      breaks = breaks_none start _;
-      leaves = leaves-here here (LeftThen start [] []) (λ trusted t image is_image.
-          left-nothing start [] [] image (stub image start));
-    }))
+pub returns-in-Err-clause-answered : goal.returns-in-Err-clause-answered
+returns-in-Err-clause-answered g c = λ trusted.
+    let state = g.S.Disk.state in
+    let old = state c.args.shell.now in
+    inl (
+      opening_of old (state c.open.new.disk) c.in-Err.ensures.goes c.in-Err.ensures.leaves,
+      c.in-Err.ensures.unreadable (tells_of old trusted),
+    )
+
+pub returns-in-Err-clause-readable : goal.returns-in-Err-clause-readable
+returns-in-Err-clause-readable g c = λ tells.
+    let state = g.S.Disk.state in
+    inl (
+      opening_of (state c.args.shell.now) (state c.open.new.disk) c.in-Err.ensures.goes
+          c.in-Err.ensures.leaves,
+      c.in-Err.ensures.unreadable tells,
+    )

@@ -1,8 +1,9 @@
-use Rattle.std.proofs.Common.{List, ℕ, Option, subst, sym, ◌∙◌}
-use Rattle.std.proofs.lemmas.Bool.{true≢false}
+use Rattle.std.proofs.Common.{List, ℕ, Option, subst, sym, ap, ◌∙◌}
 use Rattle.alt_shell.specs.Log.{StillGrows, notes_of}
-use Rattle.alternator.specs.Endings.{note_of}
-use Rattle.alternator.proofs.EndingLaws.{noted_done, noted_words, completes}
+use Rattle.alternator.specs.Endings.{HasDone, note_of}
+use Rattle.alternator.specs.Words.{job_of, bytes_of}
+use Rattle.alternator.specs.declared.words.Job.{Job}
+use Rattle.alternator.proofs.EndingLaws.{noted_done, words_end, completes, makes_all}
 use Rattle.alternator.proofs.run.run.Goals as goal
 
 pub returns-clause-ended : goal.returns-clause-ended
@@ -11,25 +12,12 @@ returns-clause-ended g c =
       c.noted.result,
       record {
         by_ending = c.status_of.ensures;
-        done = noted_done (state c.args.shell.now) (state c.ended-ending.new.shell)
-            (state c.noted.new.shell) c.ended-ending.result c.noted.result
+        done = noted_done (state c.args.shell.now) (state c.ended.new.shell)
+            (state c.noted.new.shell) (job_of (bytes_of c.args.words.now)) c.ended.result c.noted.result
             c.noted.ensures.ending c.noted.ensures.silent c.noted.ensures.unasked
-            c.noted.ensures.aside c.ended-ending.ensures.done;
+            c.noted.ensures.aside c.ended.ensures.done;
         noted = subst (λ (notes : Option (List ℕ)). StillGrows notes
             (notes_of (state c.noted.new.shell).beside) (note_of c.noted.result))
-            c.ended-ending.ensures.passes.notes c.noted.ensures.noted;
+            c.ended.ensures.passes.notes c.noted.ensures.noted;
       },
     )
-
-pub returns-clause-complete : goal.returns-clause-complete
-returns-clause-complete g c = λ right well.
-    let state = g.S.Disk.state in
-    let old = state c.args.shell.now in
-    let new = state c.noted.new.shell in
-    completes old new c.noted.result c.status_of.result c.status_of.ensures
-    (λ e. true≢false (sym right ∙ c.ended-ending.ensures.words.0
-    (noted_words c.ended-ending.result c.noted.result c.noted.ensures.ending e)))
-    (noted_done old (state c.ended-ending.new.shell) new c.ended-ending.result c.noted.result
-    c.noted.ensures.ending c.noted.ensures.silent c.noted.ensures.unasked c.noted.ensures.aside
-    c.ended-ending.ensures.done)
-    well

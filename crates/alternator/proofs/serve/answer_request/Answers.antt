@@ -18,7 +18,7 @@ returns-in-Err-clause-served g c = λ s stands.
     turn_unsaid old new s (request c.args.name.now c.args.body.now)
     (carried_out s c.args.name.now c.args.body.now m) (m ∷ []) c.in-Err.fault
     (begins old mid new s c.args.name.now c.args.body.now m c.now-moment.ensures.call
-    c.now-moment.ensures.log c.now-moment.ensures.told c.in-Err.ensures.disk
+    c.now-moment.ensures.log c.now-moment.ensures.told c.in-Err.ensures.goes
     (c.in-Err.ensures.leaves s here))
     (c.in-Err.ensures.cause s here)
 
@@ -34,7 +34,7 @@ returns-in-Ok-say-clause-served g c = λ s stands.
     (request c.args.name.now c.args.body.now)
     (carried_out s c.args.name.now c.args.body.now m) (m ∷ []) c.as_bytes.result.now
     (begins old mid new s c.args.name.now c.args.body.now m c.now-moment.ensures.call
-    c.now-moment.ensures.log c.now-moment.ensures.told c.in-Ok.ensures.disk
+    c.now-moment.ensures.log c.now-moment.ensures.told c.in-Ok.ensures.goes
     (c.in-Ok.ensures.leaves s here))
     (c.in-Ok.ensures.enough s here) (c.in-Ok.ensures.state s here)
     c.in-Ok-say.ensures.call c.in-Ok-say.ensures.said c.in-Ok-say.ensures.moments
@@ -52,7 +52,7 @@ returns-clause-served g c = λ s stands.
     (request c.args.name.now c.args.body.now)
     (carried_out s c.args.name.now c.args.body.now m) (m ∷ []) c.as_bytes.result.now
     (begins old mid new s c.args.name.now c.args.body.now m c.now-moment.ensures.call
-    c.now-moment.ensures.log c.now-moment.ensures.told c.in-Ok.ensures.disk
+    c.now-moment.ensures.log c.now-moment.ensures.told c.in-Ok.ensures.goes
     (c.in-Ok.ensures.leaves s here))
     (c.in-Ok.ensures.state s here)
     c.in-Err-say.ensures.call c.in-Err-say.ensures.moments

@@ -2,7 +2,6 @@ use Rattle.std.proofs.Common.{◌≡◌, ◌<◌, [], length, take, length-take,
 use Rattle.alt_lines.specs.Reader.{unread}
 use Rattle.alt_lines.specs.Unread.{Unread}
 use Rattle.alternator.specs.Runs.{Calls, Reaches, ServesAtHand, BreaksAtHand, asked_now}
-use Rattle.alternator.specs.Faults.{number_of}
 use Rattle.alternator.proofs.Pulling.{pull_goes, pull_breaks, pull_memory, pull_ends, pull_end_breaks, pull_failed}
 use Rattle.alternator.proofs.Stopping.{stands_kept}
 use Rattle.alternator.proofs.serve.pull.Goals as goal
@@ -35,9 +34,9 @@ returns-in-Err-clause-went g c = λ s stands.
     c.in-Ok.ensures.call c.args.tables.now s stands
     (unread c.args.lines.now) c.requires.going
     (take c.in-Ok.count c.take.new.buf) none c.in-Ok.ensures.taken c.in-Ok.ensures.moments
-    (number_of c.in-Err.fault)
+    c.in-Err.fault
     (subst (λ (u : Unread). Calls (state c.take.new.self) (state c.at_hand.new.shell)
-    (BreaksAtHand (number_of c.in-Err.fault) s (asked_now u)))
+    (BreaksAtHand c.in-Err.fault s (asked_now u)))
     c.end.ensures (c.in-Err.ensures.served s (stands_kept _ _ c.in-Ok.ensures.call.keeps _ s stands)))
 
 pub returns-in_default-give-clause-went : goal.returns-in_default-give-clause-went
@@ -86,8 +85,8 @@ returns-in-Err-at_hand-clause-went g c = λ s stands.
     c.in-Ok.ensures.call c.args.tables.now s stands
     (unread c.args.lines.now) c.requires.going
     (take c.in-Ok.count c.take.new.buf) some c.in-Ok.ensures.taken c.in-Ok.ensures.moments
-    (number_of c.in-Err-at_hand.fault)
+    c.in-Err-at_hand.fault
     (subst (λ (u : Unread). Calls (state c.take.new.self)
-    (state c.at_hand-2.new.shell) (BreaksAtHand (number_of c.in-Err-at_hand.fault) s
+    (state c.at_hand-2.new.shell) (BreaksAtHand c.in-Err-at_hand.fault s
     (asked_now u)))
     c.in-Ok-give.ensures.ok (c.in-Err-at_hand.ensures.served s (stands_kept _ _ c.in-Ok.ensures.call.keeps _ s stands)))

@@ -7,11 +7,12 @@ use Rattle.alt_shell.specs.Calls.{Aside}
 use Rattle.alt_shell.specs.Log.{Log, Grows, Tells, moments_of}
 use Rattle.alternator.specs.Stops.{IsAmong, AtEach}
 use Rattle.alt_shell.proofs.Telling.{Grows-nil, Tells-nil}
-use Rattle.alt_tables.specs.Stands.{Stands}
+use Rattle.alternator.specs.Stub.{Stands}
 use Rattle.alt_tables.specs.declared.tables.Tables.{Tables}
-use Rattle.alternator.specs.Turns.{request, unread, turned_away, carried_out}
+use Rattle.alternator.specs.Turns.{request, reopen, unread, opened_again, turned_away, carried_out}
+use Rattle.alternator.specs.Stub.{WasLeft}
 use Rattle.alternator.proofs.Serving.{Begins}
-use Rattle.alternator.proofs.Stopping.{trusts-kept, leaves-here, leaves-behind-aside, stands_left}
+use Rattle.alternator.proofs.Stopping.{trusts-kept, leaves-here, leaves-weaker, leaves-behind-aside, stands_left}
 
 pub begins : (old mid new : DiskState) (s : State) (name body : List ℕ) (m : ℕ)
     → Aside old mid → Grows old.beside mid.beside []
@@ -45,3 +46,25 @@ begins_away old tables s stands = record {
       (λ trusted t image is_image.
       (0, stands_left old tables s stands trusted image is_image));
 }
+
+-- the store was opened again, and nothing was written
+pub begins_again : (old mid : DiskState) (tables : Tables) (s : State) → Stands old tables s
+    → Goes old mid → AtEach old mid (WasLeft old) → Begins old mid s reopen opened_again []
+begins_again old mid tables s stands goes leaves = record {
+  one = refl;
+  count = refl;
+  silent = subst (λ (log : Log). Grows old.beside log []) (sym goes.beside) (Grows-nil old.beside);
+  told = Tells-nil (moments_of old.beside) (moments_of mid.beside) (ap moments_of goes.beside);
+  later = goes.later;
+  trusts = trusted_on old mid goes;
+  leaves = leaves-weaker old mid (WasLeft old) (λ _ image. IsAmong image s [])
+      (λ t image was. (0, stands_left old tables s stands stands.trusted image was)) leaves;
+}
+
+-- calls that leave the disk leave what stood
+pub among-same : (a b : DiskState) (tables : Tables) (s : State) (atoms : List State) → b ≡ a
+    → Stands a tables s → AtEach a b (λ _ image. IsAmong image s atoms)
+among-same a b tables s atoms same stands =
+    subst (λ (d : DiskState). AtEach a d (λ _ image. IsAmong image s atoms)) (sym same)
+    (leaves-here a (λ _ image. IsAmong image s atoms)
+    (λ trusted t image is_image. (0, stands_left a tables s stands trusted image is_image)))

@@ -1,5 +1,5 @@
 -- A note changes nothing that a run has done, and what each ending tells of completeness.
-use Rattle.std.proofs.Common.{◌≡◌, ◌⊎◌, inl, inr, ⊎_elim, ⊥, ◌&&◌, IsTrue, ℕ, List, [], Bool, false, Option, Some, None, refl, sym, ap, subst, ◌∙◌, arith}
+use Rattle.std.proofs.Common.{◌≡◌, ◌⊎◌, inl, inr, ⊎_elim, ◌&&◌, IsTrue, ℕ, List, [], Bool, false, Option, Some, None, refl, sym, ap, subst, ◌∙◌, arith}
 use Rattle.alt_base.specs.Counts.{Rose}
 use Rattle.alt_disk.specs.Fates.{Fates, Fits}
 use Rattle.alt_disk.specs.Disk.{DiskState, IsImage, IsTrusted}

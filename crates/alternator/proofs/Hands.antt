@@ -6,7 +6,7 @@ use Rattle.alt_disk.specs.Disk.{DiskState}
 use Rattle.alt_lines.specs.Lines.{Line, lines_of}
 use Rattle.alt_lines.specs.Unread.{Unread, lines_now, lines_later, HasNone, TakesLine}
 use Rattle.alt_machine.specs.State.{State}
-use Rattle.alt_tables.specs.Stands.{Stands}
+use Rattle.alternator.specs.Stub.{Stands}
 use Rattle.alt_tables.specs.declared.tables.Tables.{Tables}
 use Rattle.alternator.specs.Runs.{Calls, Reaches, ServesAtHand, BreaksAtHand, HandsOut, asked_now, asked_later}
 use Rattle.alternator.specs.Turns.{Asked, asked_of}

@@ -1,6 +1,7 @@
 pub mod Beginning
 pub mod EndingLaws
 pub mod Hands
+pub mod Initing
 pub mod Numbers
 pub mod Opening
 pub mod Passing

@@ -1,6 +1,6 @@
 -- What every stretch of a run keeps, one after the other.
-use Rattle.std.proofs.Common.{◌≡◌, ◌≤◌, refl, ◌∙◌, arith}
-use Rattle.alt_disk.specs.Disk.{DiskState}
+use Rattle.std.proofs.Common.{◌≡◌, ◌≤◌, ◌&&◌, Bool, IsTrue, refl, ap, subst, ◌∙◌, arith}
+use Rattle.alt_disk.specs.Disk.{DiskState, Goes, IsTrusted}
 use Rattle.alt_shell.specs.Calls.{Keeps}
 use Rattle.alt_shell.specs.Log.{notes_of}
 use Rattle.alternator.specs.Runs.{Passes}
@@ -40,3 +40,19 @@ passes_kept a b keeps notes = record {
   past = keeps.past;
   notes = notes;
 }
+
+-- calls of the disk alone
+pub passes_goes : (a b : DiskState) → Goes a b → Passes a b
+passes_goes a b goes = record {
+  tells = goes.tells;
+  honest = goes.honest;
+  anchors = goes.anchors;
+  later = goes.later;
+  faults = goes.faults;
+  past = goes.past;
+  notes = ap notes_of goes.beside;
+}
+
+-- a disk that can be relied on behind a stretch could be relied on before it
+pub passes_back : (a b : DiskState) → Passes a b → IsTrusted b → IsTrusted a
+passes_back a b p trusted = subst (λ (v : Bool). IsTrue v) (λ i. p.tells i && p.honest i) trusted

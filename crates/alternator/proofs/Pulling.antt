@@ -9,8 +9,8 @@ use Rattle.alt_lines.specs.Unread.{Unread}
 use Rattle.alt_machine.specs.State.{State}
 use Rattle.alt_shell.specs.Calls.{Adds, Keeps, ShellCall, Untold}
 use Rattle.alt_shell.proofs.Keeping.{keeps-none}
-use Rattle.alt_shell.specs.Log.{Log, Tells, moments_of, until, entry, told_count, event_of, took, take_failed, takes_failed, is_end, taken, said_in, ended}
-use Rattle.alt_tables.specs.Stands.{Stands}
+use Rattle.alt_shell.specs.Log.{Log, Grows, Tells, moments_of, until, entry, told_count, event_of, took, take_failed, takes_failed, is_end, taken, said_in, ended}
+use Rattle.alternator.specs.Stub.{Stands}
 use Rattle.alt_tables.specs.declared.tables.Tables.{Tables}
 use Rattle.alternator.specs.Moments.{answered}
 use Rattle.alternator.specs.Runs.{OfCalls, Calls, Reaches, Rests, Serves, Breaks, ServesAtHand, BreaksAtHand, HandsOut, Goes, Ends, GoesOrEnds, GoesSome, LeftBy, Answers, AnswersSome, asked_now, asked_later}
@@ -51,9 +51,9 @@ module _ (a b c : DiskState) (call : ShellCall a b true) (bytes : List ℕ) (g :
     tells = subst (λ (k : Option (List ℕ)). Tells k (moments_of c.beside) q.told) m q.tells;
     within = (
       step-rises a b call,
-      (q.later,
+      q.later,
       within-wider a.moment b.moment c.moment c.moment q.entries q.within call.keeps.later
-      (omega arith)),
+          (omega arith),
     );
     later = let k = call.keeps.later in omega (arith, k, q.later);
     trusts = λ trusted. q.trusts (trusts-kept a b call.keeps trusted);
@@ -226,7 +226,7 @@ module _ (a b c : DiskState) (call : ShellCall a b true) (t1 : Tables) (s : Stat
       told = [];
       grows = g;
       tells = Tells-nil (moments_of a.beside) (moments_of b.beside) m;
-      within = (step-rises a b call, (omega arith, tt));
+      within = (step-rises a b call, omega arith, tt);
       later = call.keeps.later;
       trusts = trusts-kept a b call.keeps;
       holds = record {
@@ -344,7 +344,7 @@ module _ (a b : DiskState) (call : ShellCall a b false) (tables : Tables) (s : S
     told = [];
     grows = g;
     tells = Tells-nil (moments_of a.beside) (moments_of b.beside) m;
-    within = (rises, (omega arith, tt));
+    within = (rises, omega arith, tt);
     later = call.keeps.later;
     trusts = trusts-kept a b call.keeps;
     holds = record {
@@ -405,8 +405,8 @@ goes_leaves a b c s r u v es fs ms ns meet x q trusted =
     (said_in gs) image)
     (sym same)
     (subst (λ (vs : List Turn). IsLeft s vs (said_in (until t es)) image)
-    (sym more.1.1 ∙ ap (λ (ks : List Asked). turns s ks (ms ++ ns)) (append-nil ls))
-    (left-more s (turns s ls ms) more.0 (said_in (until t es)) image more.1.0 y)))
+    (sym more.2 ∙ ap (λ (ks : List Asked). turns s ks (ms ++ ns)) (append-nil ls))
+    (left-more s (turns s ls ms) more.0 (said_in (until t es)) image more.1 y)))
     (λ t image from y.
     let same : until t (es ++ fs) ≡ es ++ until t fs =
     until-append t es fs

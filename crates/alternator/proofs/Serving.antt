@@ -10,7 +10,7 @@ use Rattle.alt_shell.specs.Calls.{Adds, Aside, ShellCall, Untold}
 use Rattle.alt_shell.specs.Log.{Log, Grows, Tells, moments_of, until, entry, told_count, event_of, said, say_failed, says_failed, bytes_said, bytes_taken, is_end, taken, said_in, ended}
 use Rattle.alternator.specs.Runs.{OfCalls, Calls, Serves, Breaks, Rests, Reaches, ServesAtHand, BreaksAtHand}
 use Rattle.alternator.specs.Stops.{IsLeft, IsAmong, AtEach, LeftAtHand, AreWithin}
-use Rattle.alt_tables.specs.Stands.{Stands}
+use Rattle.alternator.specs.Stub.{Stands}
 use Rattle.alt_tables.specs.declared.tables.Tables.{Tables}
 use Rattle.alternator.specs.Faults.{IsCausedBy}
 use Rattle.alternator.specs.declared.serve.RunFault.{RunFault}
@@ -282,8 +282,8 @@ leaves_more a b s ls ks es ms p trusted =
     let more = turns-more s ls ks ms [] in
     leaves-weaker a b (LeftAtHand s ls es ms) (LeftAtHand s (ls ++ ks) es ms)
     (λ n image x. subst (λ (vs : List Turn). IsLeft s vs (said_in (until n es)) image)
-    (sym more.1.1 ∙ ap (turns s (ls ++ ks)) (append-nil ms))
-    (left-more s (turns s ls ms) more.0 (said_in (until n es)) image more.1.0 x)) p trusted
+    (sym more.2 ∙ ap (turns s (ls ++ ks)) (append-nil ms))
+    (left-more s (turns s ls ms) more.0 (said_in (until n es)) image more.1 x)) p trusted
 
 -- a break among lines is one among these and more
 pub hand_breaks_more : (a b : DiskState) (fault : RunFault) (s : State) (ls ks : List Asked) (es : Log)
@@ -338,7 +338,7 @@ pub turn_served : (old mid new : DiskState) (tables : Tables) (s : State) (l : A
 turn_served old mid new tables s l t ms bytes b enough stands call added n e =
     let es : Log = entry new.moment (told_count mid.beside) (said bytes) ∷ [] in
     let within : AreWithin mid.moment new.moment es =
-    (step-rises mid new call, (omega arith, tt)) in
+    (step-rises mid new call, omega arith, tt) in
     let text : said_in es ≡ t.text = append-nil bytes ∙ e in
     record {
       to = after_turn s t;
@@ -451,7 +451,7 @@ module _ (old mid new : DiskState) (tables : Tables) (s : State) (l : Asked) (t 
             ∙ ap (λ (bs : List ℕ). bs ++ drop n bytes) (sym (append-nil (take n bytes))),
       ) in
       cut (part ∷ []) (record { silent = refl; goes_on = refl }) (one-by part t.text some) some
-      added (rises, (omega arith, tt))
+      added (rises, omega arith, tt)
 
   pub turn_cut : (((n : ℕ) × Adds mid new (say_failed (take n bytes)))
       ⊎ Untold mid new says_failed) → Calls old new (BreaksAtHand Failed s (l ∷ []))

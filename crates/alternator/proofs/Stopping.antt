@@ -1,6 +1,6 @@
 -- What a stop leaves while lines are served, one list of lines after another.
-use Rattle.std.proofs.Common.{◌≡◌, ◌≤◌, ◌<◌, ◌+◌, ◌-◌, ◌^◌, ◌⊎◌, ⊎_elim, inl, inr, ℕ, suc, List, [], ◌∷◌, ◌++◌, cond, length, min, take, drop, filter, Bool, true, false, ◌&&◌, IsTrue, Option, refl, sym, ap, subst, ◌∙◌, arith, length-append, length-drop, append_assoc, append-nil, ⊤}
-use Rattle.std.specs.Prelude.{nat_le, ◌||◌}
+use Rattle.std.proofs.Common.{◌≡◌, ◌≤◌, ◌<◌, ◌+◌, ◌-◌, ◌^◌, ◌⊎◌, ⊎_elim, inl, inr, ℕ, suc, List, [], ◌∷◌, ◌++◌, cond, length, min, take, drop, filter, Bool, true, false, ◌&&◌, IsTrue, Option, refl, sym, ap, subst, ◌∙◌, arith, length-append, length-drop, append_assoc, append-nil}
+use Rattle.std.specs.Prelude.{nat_le, ◌||◌, ⊤}
 use Rattle.std.proofs.lemmas.Bool.{le-leb, true≢false}
 use Rattle.std.proofs.lemmas.Grind.{flat_map-append}
 use Rattle.std.proofs.lemmas.List.Elements.{filter-append}
@@ -18,9 +18,9 @@ use Rattle.alt_shell.proofs.Keeping.{keeps-none}
 use Rattle.alt_shell.specs.Log.{Log, until, said_in, taken, ended, event_of, bytes_said, bytes_taken, is_end}
 use Rattle.alternator.specs.Moments.{answered}
 use Rattle.alternator.specs.Stops.{Image, atoms_of, IsLeft, IsAmong, AtEach, LeftAtHand, AreWithin}
-use Rattle.alternator.specs.Stub.{StandsFor}
+use Rattle.alternator.specs.Stub.{StandsFor, AreReady}
 use Rattle.alternator.proofs.StubLaws.{stub}
-use Rattle.alt_tables.specs.Stands.{Stands}
+use Rattle.alternator.specs.Stub.{Stands}
 use Rattle.alt_tables.specs.declared.tables.Tables.{Tables}
 use Rattle.alternator.specs.Turns.{Asked, request, reopen, unread, Turn, turns, opened_again, turned_away, carried_out, text_of, after, after_turn, line_of}
 use Rattle.alternator.proofs.TurnLaws.{text_of-append}
@@ -46,12 +46,12 @@ prefix-within xs ys p = let e = ap length p.1 in let l = length-append xs p.0 in
 -- no entry had come by a moment before them
 pub until-before : (from to t : ℕ) (es : Log) → AreWithin from to es → t ≤ from → until t es ≡ []
 until-before from to t [] w le = refl
-until-before from to t (e ∷ es) w le = grind (arith, w, le, until-before from to t es w.1.1 le)
+until-before from to t (e ∷ es) w le = grind (arith, w, le, until-before from to t es w.2 le)
 
 -- and all had by a moment from their end on
 pub until-behind : (from to t : ℕ) (es : Log) → AreWithin from to es → to ≤ t → until t es ≡ es
 until-behind from to t [] w le = refl
-until-behind from to t (e ∷ es) w le = grind (arith, w, le, until-behind from to t es w.1.1 le)
+until-behind from to t (e ∷ es) w le = grind (arith, w, le, until-behind from to t es w.2 le)
 
 pub until-append : (t : ℕ) (es fs : Log) → until t (es ++ fs) ≡ until t es ++ until t fs
 until-append t es fs = filter-append (λ (e : ℕ × List ℕ). nat_le e.0 t) es fs
@@ -59,17 +59,15 @@ until-append t es fs = filter-append (λ (e : ℕ × List ℕ). nat_le e.0 t) es
 -- no more was said by a moment than at last
 pub said-by : (t : ℕ) (es : Log) → length (said_in (until t es)) ≤ length (said_in es)
 said-by t [] = omega arith
-said-by t (e ∷ es) = by_test (nat_le e.0 t)
+said-by t (e ∷ es) = by_test (said-by t es) (nat_le e.0 t)
   where
-    by_test : (b : Bool) → length (said_in (cond b (e ∷ until t es) (until t es)))
+    by_test : (h : length (said_in (until t es)) ≤ length (said_in es)) (b : Bool) → length (said_in (cond b (e ∷ until t es) (until t es)))
         ≤ length (bytes_said (event_of e.1) ++ said_in es)
-    by_test true =
-        let h = said-by t es in
+    by_test h true =
         let l = length-append (bytes_said (event_of e.1)) (said_in (until t es)) in
         let r = length-append (bytes_said (event_of e.1)) (said_in es) in
         omega (arith, h, l, r)
-    by_test false =
-        let h = said-by t es in
+    by_test h false =
         let r = length-append (bytes_said (event_of e.1)) (said_in es) in
         omega (arith, h, r)
 
@@ -85,17 +83,15 @@ one-by e text p t = by_test (nat_le e.0 t)
 -- nor was more taken
 pub taken-by : (t : ℕ) (es : Log) → length (taken (until t es)) ≤ length (taken es)
 taken-by t [] = omega arith
-taken-by t (e ∷ es) = by_test (nat_le e.0 t)
+taken-by t (e ∷ es) = by_test (taken-by t es) (nat_le e.0 t)
   where
-    by_test : (b : Bool) → length (taken (cond b (e ∷ until t es) (until t es)))
+    by_test : (h : length (taken (until t es)) ≤ length (taken es)) (b : Bool) → length (taken (cond b (e ∷ until t es) (until t es)))
         ≤ length (bytes_taken (event_of e.1) ++ taken es)
-    by_test true =
-        let h = taken-by t es in
+    by_test h true =
         let l = length-append (bytes_taken (event_of e.1)) (taken (until t es)) in
         let r = length-append (bytes_taken (event_of e.1)) (taken es) in
         omega (arith, h, l, r)
-    by_test false =
-        let h = taken-by t es in
+    by_test h false =
         let r = length-append (bytes_taken (event_of e.1)) (taken es) in
         omega (arith, h, r)
 
@@ -116,22 +112,23 @@ or-none false b e = (refl, e)
 -- nor was the end
 pub ended-until : (t : ℕ) (es : Log) → ended es ≡ false → ended (until t es) ≡ false
 ended-until t [] e = refl
-ended-until t (x ∷ es) e = by_test (nat_le x.0 t)
+ended-until t (x ∷ es) e = by_test (ended-until t es parts.1) (nat_le x.0 t)
   where
     parts : (is_end (event_of x.1) ≡ false) × (ended es ≡ false)
     parts = or-none (is_end (event_of x.1)) (ended es) e
 
-    by_test : (b : Bool) → ended (cond b (x ∷ until t es) (until t es)) ≡ false
-    by_test true = ap (λ y. y || ended (until t es)) parts.0 ∙ ended-until t es parts.1
-    by_test false = ended-until t es parts.1
+    by_test : ended (until t es) ≡ false → (b : Bool)
+        → ended (cond b (x ∷ until t es) (until t es)) ≡ false
+    by_test h true = ap (λ y. y || ended (until t es)) parts.0 ∙ h
+    by_test h false = h
 
 -- a stretch in wider bounds
 pub within-wider : (a b c d : ℕ) (es : Log) → AreWithin b c es → a ≤ b → c ≤ d → AreWithin a d es
 within-wider a b c d [] w low high = tt
 within-wider a b c d (e ∷ es) w low high = (
   omega (arith, w.0, low),
-  omega (arith, w.1.0, high),
-  within-wider a b c d es w.1.1 low high,
+  omega (arith, w.1, high),
+  within-wider a b c d es w.2 low high,
 )
 
 -- two stretches
@@ -140,8 +137,8 @@ pub within-then : (a b c : ℕ) (es fs : Log) → AreWithin a b es → AreWithin
 within-then a b c [] fs w v low high = within-wider a b c c fs v low (omega arith)
 within-then a b c (e ∷ es) fs w v low high = (
   w.0,
-  omega (arith, w.1.0, high),
-  within-then a b c es fs w.1.1 v low high,
+  omega (arith, w.1, high),
+  within-then a b c es fs w.2 v low high,
 )
 
 -- ---- turns say something
@@ -175,7 +172,8 @@ pub answered-front : (ts us : List Turn) (said : List ℕ) → AllSay us
     → length said ≤ length (text_of ts) → answered (ts ++ us) said ≡ answered ts said
 answered-front [] us [] say le = answered-none us say
 answered-front [] us (b ∷ bytes) say le = absurd (omega (arith, le))
-answered-front (t ∷ ts) us said say le = by_test (nat_le (length t.text) (length said))
+answered-front (t ∷ ts) us said say le =
+    by_test (answered-front ts us rest say fits) (nat_le (length t.text) (length said))
   where
     rest : List ℕ
     rest = drop (length t.text) said
@@ -184,10 +182,10 @@ answered-front (t ∷ ts) us said say le = by_test (nat_le (length t.text) (leng
     fits = let d = length-drop (length t.text) said in let l = length-append t.text (text_of ts) in
         omega (arith, le, d, l)
 
-    by_test : (b : Bool) → cond b (t ∷ answered (ts ++ us) rest) []
-        ≡ cond b (t ∷ answered ts rest) []
-    by_test true = ap (λ vs. t ∷ vs) (answered-front ts us rest say fits)
-    by_test false = refl
+    by_test : answered (ts ++ us) rest ≡ answered ts rest → (b : Bool)
+        → cond b (t ∷ answered (ts ++ us) rest) [] ≡ cond b (t ∷ answered ts rest) []
+    by_test h true = ap (λ vs. t ∷ vs) h
+    by_test h false = refl
 
 -- where all of the first turns' text was said, they were answered
 pub answered-behind : (ts us : List Turn) (said : List ℕ)
@@ -208,10 +206,10 @@ answered-behind (t ∷ ts) us said =
 pub atoms_of-append : (ts us : List Turn) → atoms_of (ts ++ us) ≡ atoms_of ts ++ atoms_of us
 atoms_of-append ts us = flat_map-append (λ (t : Turn). t.atoms) ts us
 
-last_state-append : (s : State) (as bs : List State) → last_state s (as ++ bs)
-    ≡ last_state (last_state s as) bs
-last_state-append s [] bs = refl
-last_state-append s (a ∷ as) bs = last_state-append a as bs
+last_state-append : (s : State) (xs ys : List State) → last_state s (xs ++ ys)
+    ≡ last_state (last_state s xs) ys
+last_state-append s [] ys = refl
+last_state-append s (x ∷ xs) ys = last_state-append x xs ys
 
 -- the state after turns is that after the last of their writes
 pub after-atoms : (s : State) (ts : List Turn) → after s ts ≡ last_state s (atoms_of ts)
@@ -300,15 +298,20 @@ turns-more s (request name body ∷ ls) ks [] ns = (
 turns-more s (request name body ∷ ls) ks (m ∷ ms) ns =
     let t = carried_out s name body m in
     let more = turns-more (after_turn s t) ls ks ms ns in
-    (more.0, more.1.0, ap (λ ts. t ∷ ts) more.1.1)
+    (more.0, more.1, ap (λ ts. t ∷ ts) more.2)
 turns-more s (reopen ∷ ls) ks ms ns =
     let more = turns-more s ls ks ms ns in
-    (more.0, more.1.0, ap (λ ts. opened_again ∷ ts) more.1.1)
+    (more.0, more.1, ap (λ ts. opened_again ∷ ts) more.2)
 turns-more s (unread ∷ ls) ks ms ns =
     let more = turns-more s ls ks ms ns in
-    (more.0, more.1.0, ap (λ ts. turned_away ∷ ts) more.1.1)
+    (more.0, more.1, ap (λ ts. turned_away ∷ ts) more.2)
 
 -- ---- tables and what a stop leaves
+
+-- calls that leave all files leave whether the disk can be relied on
+pub trusts-kept : (a b : DiskState) → Keeps a b → IsTrusted a → IsTrusted b
+trusts-kept a b keeps trusted = subst (λ (v : Bool). IsTrue v)
+    (sym (λ i. keeps.tells i && keeps.honest i)) trusted
 
 -- what a stop leaves stands for the state for which the tables stand
 pub stands_left : (a : DiskState) (tables : Tables) (s : State) → Stands a tables s → IsTrusted a
@@ -319,12 +322,29 @@ stands_left a tables s stands trusted image is_image = stub image s
 pub stands_kept : (a b : DiskState) → Keeps a b → (tables : Tables) (s : State) → Stands a tables s
     → Stands b tables s
 stands_kept a b keeps tables s p = record {
-  catalog = p.catalog;
-  number = p.number;
-  family = p.family;
-  rows = p.rows;
-  valid = p.valid;
+  trusted = trusts-kept a b keeps p.trusted;
+  is = record {
+    catalog = p.is.catalog;
+    number = p.is.number;
+    family = p.is.family;
+    rows = p.is.rows;
+    valid = p.is.valid;
+  };
 }
+
+-- tables that were ready are ready behind a call that leaves all files
+pub ready_kept : (a b : DiskState) (tables : Tables) → Keeps a b → AreReady a tables
+    → AreReady b tables
+ready_kept a b tables keeps ready trusted =
+    let first = ready (subst (λ (v : Bool). IsTrue v)
+    (λ i. keeps.tells i && keeps.honest i) trusted) in
+    (first.0, stands_kept a b keeps tables first.0 first.1)
+
+-- as the disk reads, the files stand for the state for which the tables stand
+pub stands_read : (a : DiskState) (tables : Tables) (s : State) → Stands a tables s
+    → StandsFor a.file s
+stands_read a tables s stands = stub a.file s
+
 
 -- ---- stretches
 
@@ -365,11 +385,6 @@ leaves-weaker a b P Q weaker leaves trusted =
 -- a moment is up to another, or from it on
 before_or_from : (t m : ℕ) → (t ≤ m) ⊎ (m ≤ t)
 before_or_from t m = grind arith
-
--- calls that leave all files leave whether the disk can be relied on
-pub trusts-kept : (a b : DiskState) → Keeps a b → IsTrusted a → IsTrusted b
-trusts-kept a b keeps trusted = subst (λ (v : Bool). IsTrue v)
-    (sym (λ i. keeps.tells i && keeps.honest i)) trusted
 
 -- one stretch and then another
 pub spans_two : (a b c : DiskState) (P Q R : ℕ → Image → Type 0)
@@ -460,19 +475,19 @@ take-within k xs = ⊎_elim
 pub answered-few : (ts : List Turn) (said : List ℕ)
     → length (atoms_of (answered ts said)) ≤ length (atoms_of ts)
 answered-few [] said = omega arith
-answered-few (t ∷ ts) said = by_test (nat_le (length t.text) (length said))
+answered-few (t ∷ ts) said =
+    by_test (answered-few ts rest) (nat_le (length t.text) (length said))
   where
     rest : List ℕ
     rest = drop (length t.text) said
 
-    by_test : (b : Bool) → length (atoms_of (cond b (t ∷ answered ts rest) []))
-        ≤ length (t.atoms ++ atoms_of ts)
-    by_test true =
-        let h = answered-few ts rest in
+    by_test : length (atoms_of (answered ts rest)) ≤ length (atoms_of ts) → (b : Bool)
+        → length (atoms_of (cond b (t ∷ answered ts rest) [])) ≤ length (t.atoms ++ atoms_of ts)
+    by_test h true =
         let l = length-append t.atoms (atoms_of (answered ts rest)) in
         let r = length-append t.atoms (atoms_of ts) in
         omega (arith, h, l, r)
-    by_test false = omega arith
+    by_test h false = omega arith
 
 module _ (s : State) (l : Asked) (t : Turn) (ms : List ℕ) (one : turns s (l ∷ []) ms ≡ t ∷ []) where
   only : atoms_of (t ∷ []) ≡ t.atoms

@@ -1,5 +1,5 @@
 -- How a run ends: its status, what it notes, and what it has done.
-use Rattle.std.specs.Prelude.{◌≡◌, ◌≢◌, ◌<◌, ◌⊎◌, ⊥, ℕ, List, [], ◌∷◌, ◌++◌, codes, decimal, Option, None, Some, false, IsTrue}
+use Rattle.std.specs.Prelude.{◌≡◌, ◌≢◌, ◌<◌, ◌⊎◌, ℕ, List, [], ◌∷◌, ◌++◌, codes, decimal, Option, None, Some, false, IsTrue}
 use Rattle.hex.specs.Hex.{encode_lower}
 use Rattle.alt_base.specs.Counts.{Rose}
 use Rattle.alt_disk.specs.Disk.{DiskState, IsImage, IsTrusted}

@@ -1,5 +1,5 @@
 -- Why a run ends early.
-use Rattle.std.specs.Prelude.{◌≡◌, ℕ, List, Option, Some, option_map, ⊥}
+use Rattle.std.specs.Prelude.{◌≡◌, ℕ, List, Option, Some, option_map}
 use Rattle.alt_machine.specs.State.{State}
 use Rattle.alt_machine.specs.Wanted.{Lack}
 use Rattle.alternator.specs.Stub.{StandsFor, IsBadAt, HasBadRow}

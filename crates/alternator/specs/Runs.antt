@@ -5,7 +5,7 @@ use Rattle.alt_disk.specs.Disk.{DiskState, IsTrusted}
 use Rattle.alt_lines.specs.Unread.{Unread, lines_now, lines_later}
 use Rattle.alt_machine.specs.State.{State}
 use Rattle.alt_shell.specs.Log.{Log, Grows, Tells, moments_of, notes_of, until, taken, said_in, ended}
-use Rattle.alt_tables.specs.Stands.{Stands}
+use Rattle.alternator.specs.Stub.{Stands}
 use Rattle.alt_tables.specs.declared.tables.Tables.{Tables}
 use Rattle.alternator.specs.Faults.{IsCausedBy}
 use Rattle.alternator.specs.declared.serve.RunFault.{RunFault}

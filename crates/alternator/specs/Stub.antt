@@ -1,7 +1,7 @@
 -- stub
-use Rattle.std.specs.Prelude.{ℕ, List, Option, ⊥}
+use Rattle.std.specs.Prelude.{ℕ, List, Option}
 use Rattle.alt_disk.specs.Disk.{DiskState, IsImage, IsTrusted}
-use Rattle.alt_tables.specs.Stands.{Stands}
+use Rattle.alt_tables.specs.Stands.{Stands as TablesStands}
 use Rattle.alt_tables.specs.declared.tables.Tables.{Tables}
 use Rattle.alternator.specs.declared.stub.OpenFault.{OpenFault}
 use Rattle.alternator.specs.declared.stub.OpenFault.TheVariants.{Damaged, BadRow, Failed, NoMemory}
@@ -36,6 +36,11 @@ HasNoState files (Damaged file at) = (s : State) → StandsFor files s → ⊥
 HasNoState files (BadRow family key) = (s : State) → StandsFor files s → ⊥
 HasNoState files Failed = Unit {0}
 HasNoState files NoMemory = Unit {0}
+
+-- stub
+pub record Stands (disk : DiskState) (t : Tables) (s : State) : Type 0 where
+  pub trusted : IsTrusted disk
+  pub is : TablesStands disk t s
 
 -- stub
 abbrev pub AreReady : DiskState → Tables → Type 0

@@ -4,7 +4,7 @@ ghost use Rattle.std.specs.Prelude.{◌≡◌, IfOk, IfErr, OnErr, IsErrOf, IsTr
 ghost use Rattle.alt_base.specs.Counts.{Rose};
 ghost use Rattle.alt_disk.specs.Disk.{IsTrusted, Goes};
 ghost use Rattle.alt_machine.specs.State.{State};
-ghost use Rattle.alt_tables.specs.Stands.{Stands};
+ghost use Rattle.alternator.specs.Stub.{Stands};
 ghost use Rattle.alternator.specs.Faults.{opening_fault, IsUnreadable};
 ghost use Rattle.alternator.specs.Stops.{AtEach};
 ghost use Rattle.alternator.specs.Stub.{StandsFor, WasLeft};
@@ -32,7 +32,7 @@ pub(crate) fn open<D: Disk>(alloc: Global, disk: &mut D) -> Result<Tables, RunFa
     ensures reads { IfOk result (λ t. IsTrue (D.state disk.old).tells
         → (s : State) × StandsFor (D.state disk.old).file s) }
     ensures stands { IfOk result (λ t. IsTrusted (D.state disk.old) → (s : State)
-        × StandsFor (D.state disk.old).file s × Stands (D.state disk.new) t s) }
+        → StandsFor (D.state disk.old).file s → Stands (D.state disk.new) t s) }
     ensures leaves { AtEach (D.state disk.old) (D.state disk.new) (WasLeft (D.state disk.old)) }
     ensures unreadable { IsTrue (D.state disk.old).tells
         → IfErr result (IsUnreadable (D.state disk.old).file) }

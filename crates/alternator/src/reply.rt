@@ -7,7 +7,7 @@ ghost use Rattle.alt_base.specs.Counts.{Rose};
 ghost use Rattle.alt_disk.specs.Disk.{Goes};
 ghost use Rattle.alt_machine.specs.State.{State};
 ghost use Rattle.alt_shape.specs.Refusals.{answer_of};
-ghost use Rattle.alt_tables.specs.Stands.{Stands};
+ghost use Rattle.alternator.specs.Stub.{Stands};
 ghost use Rattle.alternator.specs.Faults.{IsCausedBy};
 ghost use Rattle.alternator.specs.declared.serve.RunFault.TheVariants.{Failed};
 ghost use Rattle.alternator.specs.Stops.{AtEach, IsAmong};

@@ -4,7 +4,7 @@ ghost use Rattle.std.specs.Prelude.{◌≡◌, ◌⊎◌, ◌↔◌, ◌<◌, �
 ghost use Rattle.alt_base.specs.Counts.{Rose};
 ghost use Rattle.alt_disk.specs.Disk.{IsTrusted};
 ghost use Rattle.alt_machine.specs.State.{State};
-ghost use Rattle.alt_tables.specs.Stands.{Stands};
+ghost use Rattle.alternator.specs.Stub.{Stands};
 ghost use Rattle.alternator.specs.Endings.{Ended, HasDone, HasReplayed, BreaksOff, IsReadable};
 ghost use Rattle.alternator.specs.Faults.{IsUnreadable};
 ghost use Rattle.alternator.specs.Runs.{Calls, Passes, Answers, AnswersSome, IsOpening, Opened};

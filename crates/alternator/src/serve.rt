@@ -7,12 +7,12 @@ ghost use Rattle.alt_lines.specs.Lines.{Line};
 ghost use Rattle.alt_lines.specs.Reader.{unread};
 ghost use Rattle.alt_lines.specs.Unread.{HasNone, TakesLine, Tells};
 ghost use Rattle.alt_machine.specs.State.{State};
-ghost use Rattle.alt_tables.specs.Stands.{Stands};
+ghost use Rattle.alternator.specs.Stub.{Stands};
 ghost use Rattle.alternator.specs.Runs.{Calls, Passes, Reaches, ServesAtHand, BreaksAtHand, HandsOut, GoesOrEnds, GoesSome, asked_now};
 ghost use Rattle.alternator.specs.Stub.{AreReady};
 ghost use Rattle.alternator.specs.Turns.{request, reopen as reopened, unread as no_request, asked_of};
 
-use crate::lines::parts;
+use crate::lines::{is_reopen, parts};
 use crate::open::open;
 use crate::reply::reply_text;
 use alt_fields::Bytes;
@@ -123,8 +123,10 @@ fn answer_line<S: Shell>(
     ensures passes { Passes (S.state shell.old) (S.state shell.new) }
 {
     match cut {
-        Cut::Whole if line == b"@reopen" => reopen(alloc, tables, shell),
         Cut::Whole => {
+            if is_reopen(line) {
+                return reopen(alloc, tables, shell);
+            }
             let (name, body) = parts(line);
             answer_request(alloc, tables, name, body, shell)
         }

@@ -5,7 +5,7 @@ ghost use Rattle.alt_base.specs.Counts.{Rose};
 ghost use Rattle.alt_disk.specs.Disk.{IsTrusted, Goes};
 ghost use Rattle.alt_disk.specs.Runs.{Spans};
 ghost use Rattle.alt_machine.specs.State.{State};
-ghost use Rattle.alt_tables.specs.Stands.{Stands};
+ghost use Rattle.alternator.specs.Stub.{Stands};
 ghost use Rattle.alternator.specs.Stub.{StandsFor, WasLeft, HasNoState, IsExplained};
 
 use alt_disk::Disk;
@@ -32,7 +32,7 @@ pub(crate) fn recover<D: Disk>(alloc: Global, disk: &mut D) -> Result<Tables, Op
         → (s : State) × StandsFor (D.state disk.old).file s) }
     // And the tables stand for it, with whatever a stop leaves from then on.
     ensures stands { IfOk result (λ t. IsTrusted (D.state disk.old) → (s : State)
-        × StandsFor (D.state disk.old).file s × Stands (D.state disk.new) t s) }
+        → StandsFor (D.state disk.old).file s → Stands (D.state disk.new) t s) }
     ensures files { IsTrue (D.state disk.old).tells → (f : ℕ)
         → (D.state disk.new).file f ≡ (D.state disk.old).file f }
 

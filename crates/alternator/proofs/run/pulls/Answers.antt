@@ -3,7 +3,7 @@ use Rattle.alt_lines.specs.Reader.{unread}
 use Rattle.alt_lines.specs.Unread.{Unread}
 use Rattle.alt_machine.specs.State.{State}
 use Rattle.alternator.specs.Runs.{Reaches, Goes, GoesOrEnds, GoesSome, Ends, Answers, AnswersSome}
-use Rattle.alternator.proofs.Passing.{passes_none, passes_then}
+use Rattle.alternator.proofs.Passing.{passes_none, passes_then, passes_back}
 use Rattle.alternator.proofs.Pulling.{fresh, goes_none, goes_then, goes_ends, goes_breaks, answers_all, answers_some}
 use Rattle.alternator.proofs.Serving.{calls_as}
 use Rattle.alternator.proofs.run.pulls.Goals as goal
@@ -12,10 +12,10 @@ pub pulls-init : goal.pulls-init
 pulls-init g c =
     let old = g.S.Disk.state c.args.shell.now in (
       λ s stands. subst (λ (u : Unread). Reaches old old c.args.tables.now (λ t. Goes s fresh t u))
-          (sym c.new.ensures)
+          (sym c.new-lines.ensures)
           (goes_none old c.args.tables.now s fresh stands),
       passes_none _,
-      ap (λ (u : Unread). u.ended) c.new.ensures,
+      ap (λ (u : Unread). u.ended) c.new-lines.ensures,
     )
 
 pub pulls-preserved : goal.pulls-preserved
@@ -59,3 +59,11 @@ returns-in-Err-clause-answered g c = λ s stands.
     (goes_breaks (state c.args.shell.now) (state c.pulls.shell)
     (state c.pull.new.shell) c.pulls.tables s fresh (unread c.pulls.lines) front
     c.in-Err.fault (c.in-Err.ensures.went front.to front.stands))
+
+pub pull-requires-clause-ready : goal.pull-requires-clause-ready
+pull-requires-clause-ready g c = λ trusted.
+    let state = g.S.Disk.state in
+    let first = c.requires.ready (passes_back (state c.args.shell.now) (state c.pulls.shell)
+    c.pulls.invariant.1 trusted) in
+    let r = c.pulls.invariant.0 first.0 first.1 in
+    (r.to, r.stands)

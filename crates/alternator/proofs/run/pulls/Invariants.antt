@@ -1,7 +1,7 @@
 use Rattle.std.proofs.Common.{◌≡◌, ◌-◌, ◌^◌, false}
 use Rattle.alt_lines.specs.Reader.{unread}
 use Rattle.alt_machine.specs.State.{State}
-use Rattle.alt_tables.specs.Stands.{Stands}
+use Rattle.alternator.specs.Stub.{Stands}
 use Rattle.alternator.specs.Runs.{Passes, Reaches, Goes}
 use Rattle.alternator.proofs.Pulling.{fresh}
 use Rattle.alternator.proofs.run.pulls.Given as goal

@@ -1,4 +1,5 @@
-use Rattle.std.proofs.Common.{[]}
+use Rattle.std.proofs.Common.{[], false}
+use Rattle.alternator.specs.Turns.{asks}
 use Rattle.alternator.specs.Runs.{AnswersSome, LeftThen}
 use Rattle.alternator.specs.declared.serve.RunFault.TheVariants.{NoMemory}
 use Rattle.alternator.proofs.Pulling.{answers_some}
@@ -13,6 +14,6 @@ returns-in_default-clause-answered g c = λ s stands.
     (answers_some here here NoMemory s _ _ (record {
       breaks = breaks_none NoMemory tt s _;
       leaves = leaves-here here (LeftThen s [] []) (λ trusted t image is_image.
-          left-nothing s [] [] image (stands_left here c.args.tables.now s stands trusted image
-          is_image));
+          left-nothing s (asks false []) [] image (stands_left here c.args.tables.now s stands
+          trusted image is_image));
     }))

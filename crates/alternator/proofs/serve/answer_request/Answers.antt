@@ -3,7 +3,7 @@ use Rattle.alt_disk.specs.Disk.{DiskState}
 use Rattle.alt_shell.specs.Log.{Grows, Tells, moments_of}
 use Rattle.alternator.specs.Turns.{request, carried_out}
 use Rattle.alternator.proofs.Serving.{Begins, turn_served, turn_cut, turn_unsaid}
-use Rattle.alternator.proofs.Stopping.{stands_kept}
+use Rattle.alternator.proofs.Stopping.{ready_kept, stands_kept}
 use Rattle.alternator.proofs.Beginning.{begins}
 use Rattle.alternator.proofs.serve.answer_request.Goals as goal
 
@@ -58,3 +58,11 @@ returns-clause-served g c = λ s stands.
     c.in-Err-say.ensures.call c.in-Err-say.ensures.moments
     (c.as_bytes.ensures.value ∙ c.in-Ok.ensures.text s here)
     c.in-Err-say.ensures.said
+
+pub reply_text-requires : goal.reply_text-requires
+reply_text-requires g c =
+    let state = g.S.Disk.state in
+    record {
+      ready = ready_kept (state c.args.shell.now) (state c.now-moment.new.self) c.args.tables.now
+          c.now-moment.ensures.call.keeps c.requires.ready;
+    }

@@ -3,7 +3,7 @@ use Rattle.alt_lines.specs.Reader.{unread}
 use Rattle.alt_lines.specs.Unread.{Tells}
 use Rattle.alternator.specs.Runs.{Calls, BreaksAtHand, asked_now}
 use Rattle.alternator.proofs.Hands.{at_some, at_none, hands_none, hands_line, hands_break, hands_memory, hands_all, hands_out}
-use Rattle.alternator.proofs.Passing.{passes_none, passes_then}
+use Rattle.alternator.proofs.Passing.{passes_none, passes_then, passes_back}
 use Rattle.alternator.specs.declared.serve.RunFault.{RunFault}
 use Rattle.alternator.proofs.serve.at_hand.Goals as goal
 
@@ -60,3 +60,14 @@ returns-in-Err-clause-served g c = λ s stands.
     (sym c.in-Err.ensures.err)
     (hands_memory (state c.args.shell.now) c.args.tables.now (state c.lines.shell) c.lines.tables
     (unread c.args.lines.now) (unread c.lines.lines) c.lines.invariant.0 s stands)
+
+pub answer_line-requires : goal.answer_line-requires
+answer_line-requires g c =
+    let state = g.S.Disk.state in
+    record {
+      ready = λ trusted.
+          let first = c.requires.ready (passes_back (state c.args.shell.now) (state c.lines.shell)
+          c.lines.invariant.1 trusted) in
+          let r = c.lines.invariant.0.serves first.0 first.1 in
+          (r.to, r.stands);
+    }

@@ -3,7 +3,7 @@ use Rattle.alt_lines.specs.Reader.{unread}
 use Rattle.alt_lines.specs.Unread.{Unread}
 use Rattle.alternator.specs.Runs.{Calls, Reaches, ServesAtHand, BreaksAtHand, asked_now}
 use Rattle.alternator.proofs.Pulling.{pull_goes, pull_breaks, pull_memory, pull_ends, pull_end_breaks, pull_failed}
-use Rattle.alternator.proofs.Stopping.{stands_kept}
+use Rattle.alternator.proofs.Stopping.{ready_kept, stands_kept}
 use Rattle.alternator.proofs.serve.pull.Goals as goal
 
 pub returns-in_default-clause-went : goal.returns-in_default-clause-went
@@ -90,3 +90,19 @@ returns-in-Err-at_hand-clause-went g c = λ s stands.
     (state c.at_hand-2.new.shell) (BreaksAtHand c.in-Err-at_hand.fault s
     (asked_now u)))
     c.in-Ok-give.ensures.ok (c.in-Err-at_hand.ensures.served s (stands_kept _ _ c.in-Ok.ensures.call.keeps _ s stands)))
+
+pub at_hand-requires : goal.at_hand-requires
+at_hand-requires g c =
+    let state = g.S.Disk.state in
+    record {
+      ready = ready_kept (state c.args.shell.now) (state c.take.new.self) c.args.tables.now
+          c.in-Ok.ensures.call.keeps c.requires.ready;
+    }
+
+pub at_hand-requires-2 : goal.at_hand-requires-2
+at_hand-requires-2 g c =
+    let state = g.S.Disk.state in
+    record {
+      ready = ready_kept (state c.args.shell.now) (state c.take.new.self) c.args.tables.now
+          c.in-Ok.ensures.call.keeps c.requires.ready;
+    }

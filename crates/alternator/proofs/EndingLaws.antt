@@ -9,7 +9,7 @@ use Rattle.alt_shell.specs.Calls.{Aside}
 use Rattle.alt_shell.specs.Log.{Log, Grows, moments_of}
 use Rattle.alt_shell.proofs.Telling.{Grows-then}
 use Rattle.alternator.specs.Endings.{status_of, HasDone, HasMade, HasReplayed, HasRefused, HasNumbers, Makes, Untouched, BreaksOff, WasDamaged, IsReadable}
-use Rattle.alternator.specs.Runs.{OfCalls, Calls, Answers, AnswersSome, LeftThen, IsOpening, Opened}
+use Rattle.alternator.specs.Runs.{OfStretch, Stretch, Answers, AnswersSome, LeftThen, IsOpening, Opened}
 use Rattle.alternator.specs.Stub.{WasLeft}
 use Rattle.alternator.specs.declared.serve.RunFault.{RunFault}
 use Rattle.alternator.specs.declared.serve.RunFault.TheVariants as why
@@ -17,7 +17,7 @@ use Rattle.alternator.specs.declared.ending.Ending.{Ending}
 use Rattle.alternator.specs.declared.ending.Ending.TheVariants.{Whole, Words, NotEmpty, Damaged, BadRow, Device, Memory, Spent}
 use Rattle.alternator.specs.declared.words.Job.{Job}
 use Rattle.alternator.specs.declared.words.Job.TheVariants.{Init, Replay}
-use Rattle.alternator.proofs.Serving.{calls_quiet, calls_as}
+use Rattle.alternator.proofs.Serving.{stretch_quiet, stretch_as}
 use Rattle.alternator.proofs.Stopping.{leaves-before-aside}
 
 -- ---- what was done, whatever the cause was
@@ -49,7 +49,7 @@ opened_memory a b fault h = record {
   stood = h.stood;
   opened = h.opened;
   opening = h.opening;
-  calls = calls_as h.opened b {P = AnswersSome fault h.from} {Q = AnswersSome why.NoMemory h.from}
+  calls = stretch_as h.opened b {P = AnswersSome fault h.from} {Q = AnswersSome why.NoMemory h.from}
       (λ es ms within x. some_answers h.opened b fault h.from es ms x) h.calls;
 }
 
@@ -130,7 +130,7 @@ module _ (b c : DiskState) (g : Grows b.beside c.beside [])
     leaves = leaves-before-aside a b c (WasLeft a) aside x.leaves;
   }
 
-  opened_behind : (a : DiskState) (P : State → OfCalls)
+  opened_behind : (a : DiskState) (P : State → OfStretch)
       → ((o : DiskState) (s : State) (es : Log) (ms : List ℕ) → P s o b es ms → P s o c es ms)
       → Opened a b P → Opened a c P
   opened_behind a P law h = record {
@@ -138,7 +138,7 @@ module _ (b c : DiskState) (g : Grows b.beside c.beside [])
     stood = h.stood;
     opened = h.opened;
     opening = h.opening;
-    calls = calls_quiet h.opened b c {P = P h.from} (law h.opened h.from) h.calls aside g m;
+    calls = stretch_quiet h.opened b c {P = P h.from} (law h.opened h.from) h.calls aside g m;
   }
 
   breaks_behind : (a : DiskState) (fault : RunFault) → BreaksOff fault a b → BreaksOff fault a c
@@ -169,7 +169,7 @@ module _ (b c : DiskState) (g : Grows b.beside c.beside [])
   still_done a None Device h = absurd h
   still_done a None Memory h = absurd h
   still_done a None (Spent number) h = absurd h
-  still_done a (Some Init) Whole h = calls_quiet a b c {P = Makes} (makes_behind a) h aside g m
+  still_done a (Some Init) Whole h = stretch_quiet a b c {P = Makes} (makes_behind a) h aside g m
   still_done a (Some Init) Words h = absurd h
   still_done a (Some Init) (NotEmpty first) h = h
   still_done a (Some Init) (Damaged file at) h = absurd h

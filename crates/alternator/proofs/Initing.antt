@@ -9,7 +9,7 @@ use Rattle.alt_shell.specs.Calls.{Adds, ShellCall}
 use Rattle.alt_shell.specs.Log.{Log, Grows, moments_of, entry, told_count, said}
 use Rattle.alt_shell.proofs.Telling.{Grows-then, Grows-nil, Tells-nil}
 use Rattle.alternator.specs.Endings.{Makes}
-use Rattle.alternator.specs.Runs.{Calls}
+use Rattle.alternator.specs.Runs.{Stretch}
 use Rattle.alternator.proofs.Stopping.{step-rises, trusts-kept, within-wider}
 use Rattle.alternator.proofs.StubLaws.{stub}
 
@@ -18,7 +18,7 @@ pub makes : (a b c : DiskState) → Goes a b → ShellCall b c true → Adds b c
     → (IsTrue a.tells → (f : ℕ) → a.file f ≡ None)
     → (IsTrusted a → (image : ℕ → Option (List ℕ)) → IsImage b b.moment image
     → IsLayout image no_rows)
-    → Calls a c Makes
+    → Stretch a c Makes
 makes a b c goes call added m none images = record {
   entries = entry c.moment (told_count b.beside) (said (codes "ok\n")) ∷ [];
   told = [];

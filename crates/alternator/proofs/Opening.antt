@@ -10,7 +10,7 @@ use Rattle.alternator.specs.declared.serve.RunFault.{RunFault}
 use Rattle.alternator.specs.declared.serve.RunFault.TheVariants.{Failed, NoMemory, Spent, Damaged, BadRow}
 use Rattle.alternator.specs.Endings.{HasReplayed, IsReadable}
 use Rattle.alternator.specs.declared.ending.Ending.TheVariants as ending
-use Rattle.alternator.specs.Runs.{OfCalls, Calls, Answers, AnswersSome, IsOpening, Opened}
+use Rattle.alternator.specs.Runs.{OfStretch, Stretch, Answers, AnswersSome, IsOpening, Opened}
 use Rattle.alternator.specs.Stops.{AtEach}
 use Rattle.alternator.specs.Stub.{Stands, StandsFor, WasLeft}
 use Rattle.alternator.proofs.Stopping.{stands_read}
@@ -25,8 +25,8 @@ opening_of a b goes leaves = record {
 }
 
 -- and then calls from the state for which the files stood
-pub opened_then : (a b c : DiskState) (P : State → OfCalls) (s : State) → StandsFor a.file s
-    → Goes a b → AtEach a b (WasLeft a) → Calls b c (P s) → Opened a c P
+pub opened_then : (a b c : DiskState) (P : State → OfStretch) (s : State) → StandsFor a.file s
+    → Goes a b → AtEach a b (WasLeft a) → Stretch b c (P s) → Opened a c P
 opened_then a b c P s stood goes leaves calls = record {
   from = s;
   stood = stood;
@@ -53,7 +53,7 @@ readable_cause (BadRow family key) files s stands h = h.1 s stands
 -- however the calls behind the opening ended
 pub opened_result : (a b c : DiskState) (s : State) → StandsFor a.file s → Goes a b
     → AtEach a b (WasLeft a) → (result : Result Unit RunFault)
-    → MatchResult result (λ _. Calls b c (Answers s)) (λ f. Calls b c (AnswersSome f s))
+    → MatchResult result (λ _. Stretch b c (Answers s)) (λ f. Stretch b c (AnswersSome f s))
     → MatchResult result (λ _. Opened a c Answers)
     (λ f. (IsOpening a c × IsUnreadable a.file f) ⊎ Opened a c (AnswersSome f))
 opened_result a b c s stood goes leaves (Ok done) h = opened_then a b c Answers s stood goes leaves h

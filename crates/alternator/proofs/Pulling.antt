@@ -13,7 +13,7 @@ use Rattle.alt_shell.specs.Log.{Log, Grows, Tells, moments_of, until, entry, tol
 use Rattle.alternator.specs.Stub.{Stands}
 use Rattle.alt_tables.specs.declared.tables.Tables.{Tables}
 use Rattle.alternator.specs.Moments.{answered}
-use Rattle.alternator.specs.Runs.{OfCalls, Calls, Reaches, Rests, Serves, Breaks, ServesAtHand, BreaksAtHand, HandsOut, Goes, Ends, GoesOrEnds, GoesSome, LeftBy, Answers, AnswersSome, asked_now, asked_later}
+use Rattle.alternator.specs.Runs.{OfStretch, Stretch, Leads, Rests, Serves, Breaks, ServesAtHand, BreaksAtHand, HandsOut, Goes, Ends, GoesOrEnds, GoesSome, LeftBy, Answers, AnswersSome, asked_now, asked_later}
 use Rattle.alternator.specs.Stops.{Image, IsLeft, AtEach, LeftAtHand, AreWithin}
 use Rattle.alternator.specs.Stub.{StandsFor}
 use Rattle.alternator.proofs.Stopping.{Meet, IsPrefix-longer, until-append, until-before, until-behind, said-by, none-shorter, taken-until, ended-until, within-wider, turns-more, left-more, left-behind, left-nothing-said, spans_two, keeps-spans, trusts-kept, stands_left, step-rises, step-rises-or-last}
@@ -21,7 +21,7 @@ use Rattle.alternator.specs.declared.serve.RunFault.{RunFault}
 use Rattle.alternator.specs.declared.serve.RunFault.TheVariants.{Failed, NoMemory}
 use Rattle.alternator.specs.Turns.{Asked, Turn, turns, text_of, after, asks, asked_of, longest_line}
 use Rattle.alt_shell.proofs.Telling.{Grows-then, Grows-nil, Tells-nil}
-use Rattle.alternator.proofs.Serving.{said_in-append, taken-append, ended-append, turns_both, calls_none, calls_then, serves_none, serves_then, serves_break, breaks_none}
+use Rattle.alternator.proofs.Serving.{said_in-append, taken-append, ended-append, turns_both, stretch_none, stretch_then, serves_none, serves_then, serves_break, breaks_none}
 use Rattle.alternator.proofs.TurnLaws.{turns-append, text_of-append, answered-all}
 
 some_is_no_end : (bytes : List ℕ) → 0 < length bytes → is_end (event_of (0 ∷ 0 ∷ bytes)) ≡ false
@@ -40,10 +40,10 @@ module _ (a b c : DiskState) (call : ShellCall a b true) (bytes : List ℕ) (g :
   first = entry b.moment (told_count a.beside) (took bytes)
 
   -- the calls with the take in front
-  pub with_take : {P Q : OfCalls}
+  pub with_take : {P Q : OfStretch}
       → ((es : Log) (ms : List ℕ) → AreWithin b.moment c.moment es → P b c es ms
       → Q a c (first ∷ es) ms)
-      → Calls b c P → Calls a c Q
+      → Stretch b c P → Stretch a c Q
   with_take law q = record {
     entries = first ∷ q.entries;
     told = q.told;
@@ -156,9 +156,9 @@ module _ (a b c : DiskState) (call : ShellCall a b true) (t1 : Tables) (s : Stat
         ∙ ap (asked_later u piece) (going [] refl)
         ∙ sym (given_now u piece unended)
 
-    goes_given : (t2 : Tables) (v : Unread) → Reaches b c t2 (ServesAtHand s (asked_now given))
+    goes_given : (t2 : Tables) (v : Unread) → Leads b c t2 (ServesAtHand s (asked_now given))
         → HandsOut given v
-        → Reaches a c t2 (λ t. GoesOrEnds true s u t v)
+        → Leads a c t2 (λ t. GoesOrEnds true s u t v)
     goes_given t2 v q outs = record {
       to = q.to;
       stands = q.stands;
@@ -185,16 +185,16 @@ module _ (a b c : DiskState) (call : ShellCall a b true) (t1 : Tables) (s : Stat
 
     -- and all lines that were whole then were served
     pub pull_goes : (t2 : Tables) (w v : Unread) → w ≡ given
-        → Reaches b c t2 (ServesAtHand s (asked_now w)) → HandsOut w v
-        → Reaches a c t2 (λ t. GoesOrEnds true s u t v)
+        → Leads b c t2 (ServesAtHand s (asked_now w)) → HandsOut w v
+        → Leads a c t2 (λ t. GoesOrEnds true s u t v)
     pull_goes t2 w v same q outs =
-        goes_given t2 v (subst (λ (x : Unread). Reaches b c t2 (ServesAtHand s (asked_now x))) same
+        goes_given t2 v (subst (λ (x : Unread). Leads b c t2 (ServesAtHand s (asked_now x))) same
         q)
         (subst (λ (x : Unread). HandsOut x v) same outs)
 
     -- that broke off
-    pub pull_breaks : (fault : RunFault) → Calls b c (BreaksAtHand fault s (asked_now given))
-        → Calls a c (GoesSome fault s u)
+    pub pull_breaks : (fault : RunFault) → Stretch b c (BreaksAtHand fault s (asked_now given))
+        → Stretch a c (GoesSome fault s u)
     pull_breaks fault q = with_take a b c call piece g m
         {P = BreaksAtHand fault s (asked_now given)} {Q = GoesSome fault s u}
         (λ es ms within x. record {
@@ -220,7 +220,7 @@ module _ (a b c : DiskState) (call : ShellCall a b true) (t1 : Tables) (s : Stat
         q
 
     -- there was no memory for them
-    pub pull_memory : Calls a b (GoesSome NoMemory s u)
+    pub pull_memory : Stretch a b (GoesSome NoMemory s u)
     pull_memory = record {
       entries = one ∷ [];
       told = [];
@@ -266,8 +266,8 @@ module _ (a b c : DiskState) (call : ShellCall a b true) (t1 : Tables) (s : Stat
 
     -- and the last lines were served
     pub pull_ends : (t2 : Tables) (v : Unread)
-        → Reaches b c t2 (ServesAtHand s (asked_now (record u { ended = true })))
-        → Reaches a c t2 (λ t. GoesOrEnds false s u t v)
+        → Leads b c t2 (ServesAtHand s (asked_now (record u { ended = true })))
+        → Leads a c t2 (λ t. GoesOrEnds false s u t v)
     pull_ends t2 v q = record {
       to = q.to;
       stands = q.stands;
@@ -292,8 +292,8 @@ module _ (a b c : DiskState) (call : ShellCall a b true) (t1 : Tables) (s : Stat
 
     -- that broke off
     pub pull_end_breaks : (fault : RunFault)
-        → Calls b c (BreaksAtHand fault s (asked_now (record u { ended = true })))
-        → Calls a c (GoesSome fault s u)
+        → Stretch b c (BreaksAtHand fault s (asked_now (record u { ended = true })))
+        → Stretch a c (GoesSome fault s u)
     pull_end_breaks fault q = with_take a b c call [] at_end m
         {P = BreaksAtHand fault s (asked_now (record u { ended = true }))} {Q =
         GoesSome fault s u}
@@ -320,7 +320,7 @@ module _ (a b c : DiskState) (call : ShellCall a b true) (t1 : Tables) (s : Stat
 -- the take failed
 module _ (a b : DiskState) (call : ShellCall a b false) (tables : Tables) (s : State)
     (stands : Stands a tables s) (u : Unread) (m : moments_of b.beside ≡ moments_of a.beside) where
-  pull_untold : Grows a.beside b.beside [] → Calls a b (GoesSome Failed s u)
+  pull_untold : Grows a.beside b.beside [] → Stretch a b (GoesSome Failed s u)
   pull_untold g = record {
     entries = [];
     told = [];
@@ -336,7 +336,7 @@ module _ (a b : DiskState) (call : ShellCall a b false) (tables : Tables) (s : S
   }
 
   pull_told : Adds a b take_failed → ((2 ^ 64 - 1 ≤ a.moment) ⊎ (a.moment < b.moment))
-      → Calls a b (GoesSome Failed s u)
+      → Stretch a b (GoesSome Failed s u)
   pull_told g (inl at_last) = pull_untold
       (subst (λ (log : Log). Grows a.beside log []) (sym (call.last at_last).1) (Grows-nil a.beside))
   pull_told g (inr rises) = record {
@@ -367,18 +367,18 @@ module _ (a b : DiskState) (call : ShellCall a b false) (tables : Tables) (s : S
     };
   }
 
-  pub pull_failed : (Adds a b take_failed ⊎ Untold a b takes_failed) → Calls a b (GoesSome Failed s u)
+  pub pull_failed : (Adds a b take_failed ⊎ Untold a b takes_failed) → Stretch a b (GoesSome Failed s u)
   pull_failed (inl g) = pull_told g (step-rises-or-last a b call)
   pull_failed (inr untold) = pull_untold untold.log
 
 -- ---- one turn of taking after another
 
 pub goes_none : (a : DiskState) (tables : Tables) (s : State) (u : Unread) → Stands a tables s
-    → Reaches a a tables (λ t. Goes s u t u)
+    → Leads a a tables (λ t. Goes s u t u)
 goes_none a tables s u stands = record {
   to = s;
   stands = stands;
-  calls = calls_none a {P = Goes s u s u} (record {
+  calls = stretch_none a {P = Goes s u s u} (record {
     done = [];
     serves = serves_none s;
     lines = λ more e. refl;
@@ -431,14 +431,14 @@ goes_leaves a b c s r u v es fs ms ns meet x q trusted =
     (subst (λ (z : State). IsLeft z (turns r ks ns) (said_in gs) image) x.serves.state y))))))
 
 module _ (a b c : DiskState) (t1 : Tables) (s : State) (u v : Unread)
-    (p : Reaches a b t1 (λ t. Goes s u t v)) where
+    (p : Leads a b t1 (λ t. Goes s u t v)) where
   -- once more
-  pub goes_then : (t2 : Tables) (w : Unread) → Reaches b c t2 (λ t. Goes p.to v t w)
-      → Reaches a c t2 (λ t. Goes s u t w)
+  pub goes_then : (t2 : Tables) (w : Unread) → Leads b c t2 (λ t. Goes p.to v t w)
+      → Leads a c t2 (λ t. Goes s u t w)
   goes_then t2 w q = record {
     to = q.to;
     stands = q.stands;
-    calls = calls_then a b c {P = Goes s u p.to v} {Q = Goes p.to v q.to w} {R = Goes s u q.to w}
+    calls = stretch_then a b c {P = Goes s u p.to v} {Q = Goes p.to v q.to w} {R = Goes s u q.to w}
         (λ es fs ms ns meet x y. record {
           done = x.done ++ y.done;
           serves = serves_then s p.to q.to x.done y.done es fs ms ns x.serves y.serves;
@@ -455,9 +455,9 @@ module _ (a b c : DiskState) (t1 : Tables) (s : State) (u v : Unread)
   }
 
   -- and then to the end
-  pub goes_ends : (t2 : Tables) → Reaches b c t2 (λ t. Ends p.to v t)
-      → Calls a c (λ old new es ms. (t : State) × Ends s u t old new es ms)
-  goes_ends t2 q = calls_then a b c {P = Goes s u p.to v} {Q = Ends p.to v q.to} {R =
+  pub goes_ends : (t2 : Tables) → Leads b c t2 (λ t. Ends p.to v t)
+      → Stretch a c (λ old new es ms. (t : State) × Ends s u t old new es ms)
+  goes_ends t2 q = stretch_then a b c {P = Goes s u p.to v} {Q = Ends p.to v q.to} {R =
       λ old new es ms. (t : State) × Ends s u t old new es ms}
       (λ es fs ms ns meet x y. (
         q.to,
@@ -474,9 +474,9 @@ module _ (a b c : DiskState) (t1 : Tables) (s : State) (u v : Unread)
       p.calls q.calls
 
   -- and then a break
-  pub goes_breaks : (fault : RunFault) → Calls b c (GoesSome fault p.to v)
-      → Calls a c (GoesSome fault s u)
-  goes_breaks fault q = calls_then a b c {P = Goes s u p.to v} {Q = GoesSome fault p.to v} {R =
+  pub goes_breaks : (fault : RunFault) → Stretch b c (GoesSome fault p.to v)
+      → Stretch a c (GoesSome fault s u)
+  goes_breaks fault q = stretch_then a b c {P = Goes s u p.to v} {Q = GoesSome fault p.to v} {R =
       GoesSome fault s u}
       (λ es fs ms ns meet x y. record {
         breaks = subst (λ (ls : List Asked). Breaks fault s ls (es ++ fs) (ms ++ ns))

@@ -8,7 +8,7 @@ use Rattle.alt_disk.specs.Disk.{DiskState, IsTrusted, IsImage}
 use Rattle.alt_machine.specs.Wanted.{Lack}
 use Rattle.alt_shell.specs.Calls.{Adds, Aside, ShellCall, Untold}
 use Rattle.alt_shell.specs.Log.{Log, Grows, Tells, moments_of, until, entry, told_count, event_of, said, say_failed, says_failed, bytes_said, bytes_taken, is_end, taken, said_in, ended}
-use Rattle.alternator.specs.Runs.{OfCalls, Calls, Serves, Breaks, Rests, Reaches, ServesAtHand, BreaksAtHand}
+use Rattle.alternator.specs.Runs.{OfStretch, Stretch, Serves, Breaks, Rests, Leads, ServesAtHand, BreaksAtHand}
 use Rattle.alternator.specs.Stops.{IsLeft, IsAmong, AtEach, LeftAtHand, AreWithin}
 use Rattle.alternator.specs.Stub.{Stands}
 use Rattle.alt_tables.specs.declared.tables.Tables.{Tables}
@@ -162,8 +162,8 @@ rests_then es fs p q = record {
 
 -- ---- calls
 
-pub calls_none : (a : DiskState) {P : OfCalls} → P a a [] [] → Calls a a P
-calls_none a h = record {
+pub stretch_none : (a : DiskState) {P : OfStretch} → P a a [] [] → Stretch a a P
+stretch_none a h = record {
   entries = [];
   told = [];
   grows = Grows-nil a.beside;
@@ -175,11 +175,11 @@ calls_none a h = record {
 }
 
 -- one stretch and then another
-pub calls_then : (a b c : DiskState) {P Q R : OfCalls}
+pub stretch_then : (a b c : DiskState) {P Q R : OfStretch}
     → ((es fs : Log) (ms ns : List ℕ) → Meet a b c es fs → P a b es ms → Q b c fs ns
     → R a c (es ++ fs) (ms ++ ns))
-    → Calls a b P → Calls b c Q → Calls a c R
-calls_then a b c law p q = record {
+    → Stretch a b P → Stretch b c Q → Stretch a c R
+stretch_then a b c law p q = record {
   entries = p.entries ++ q.entries;
   told = p.told ++ q.told;
   grows = Grows-then a.beside b.beside c.beside p.entries q.entries p.grows q.grows;
@@ -193,10 +193,10 @@ calls_then a b c law p q = record {
       (record { before = p.within; behind = q.within; trusts = p.trusts }) p.holds q.holds;
 }
 
-pub calls_as : (a b : DiskState) {P Q : OfCalls}
+pub stretch_as : (a b : DiskState) {P Q : OfStretch}
     → ((es : Log) (ms : List ℕ) → AreWithin a.moment b.moment es → P a b es ms → Q a b es ms)
-    → Calls a b P → Calls a b Q
-calls_as a b law p = record {
+    → Stretch a b P → Stretch a b Q
+stretch_as a b law p = record {
   entries = p.entries;
   told = p.told;
   grows = p.grows;
@@ -208,11 +208,11 @@ calls_as a b law p = record {
 }
 
 -- calls that say nothing more, ask nothing more, and leave all files
-pub calls_quiet : (a b c : DiskState) {P : OfCalls}
+pub stretch_quiet : (a b c : DiskState) {P : OfStretch}
     → ((es : Log) (ms : List ℕ) → P a b es ms → P a c es ms)
-    → Calls a b P → Aside b c → Grows b.beside c.beside []
-    → moments_of c.beside ≡ moments_of b.beside → Calls a c P
-calls_quiet a b c {P} law p aside g m = record {
+    → Stretch a b P → Aside b c → Grows b.beside c.beside []
+    → moments_of c.beside ≡ moments_of b.beside → Stretch a c P
+stretch_quiet a b c {P} law p aside g m = record {
   entries = p.entries;
   told = p.told;
   grows = subst (λ (es : Log). Grows a.beside c.beside es) (append-nil p.entries)
@@ -334,7 +334,7 @@ pub turn_served : (old mid new : DiskState) (tables : Tables) (s : State) (l : A
     → ShellCall mid new true
     → Adds mid new (said bytes) → moments_of new.beside ≡ moments_of mid.beside
     → bytes ≡ t.text
-    → Reaches old new tables (ServesAtHand s (l ∷ []))
+    → Leads old new tables (ServesAtHand s (l ∷ []))
 turn_served old mid new tables s l t ms bytes b enough stands call added n e =
     let es : Log = entry new.moment (told_count mid.beside) (said bytes) ∷ [] in
     let within : AreWithin mid.moment new.moment es =
@@ -380,7 +380,7 @@ turn_begun : (old mid new : DiskState) (s : State) (l : Asked) (t : Turn) (ms : 
     → AreWithin mid.moment new.moment es → mid.moment ≤ new.moment
     → (IsTrusted mid → IsTrusted new)
     → AtEach old new (LeftAtHand s (l ∷ []) es ms)
-    → Calls old new (BreaksAtHand fault s (l ∷ []))
+    → Stretch old new (BreaksAtHand fault s (l ∷ []))
 turn_begun old mid new s l t ms fault es b lacked rests some g m within later trusts leaves =
     record {
       entries = es;
@@ -423,7 +423,7 @@ module _ (old mid new : DiskState) (tables : Tables) (s : State) (l : Asked) (t 
     (e : bytes ≡ t.text) where
   cut : (es : Log) → Rests es → ((u : ℕ) → IsPrefix (said_in (until u es)) t.text)
       → IsPrefix (said_in es) t.text → Grows mid.beside new.beside es
-      → AreWithin mid.moment new.moment es → Calls old new (BreaksAtHand Failed s (l ∷ []))
+      → AreWithin mid.moment new.moment es → Stretch old new (BreaksAtHand Failed s (l ∷ []))
   cut es rests by some g within =
       turn_begun old mid new s l t ms Failed es b tt rests some g m within call.keeps.later
       (trusts-kept mid new call.keeps)
@@ -433,13 +433,13 @@ module _ (old mid new : DiskState) (tables : Tables) (s : State) (l : Asked) (t 
       call.keeps)
 
   -- the failure wasn't told
-  cut_untold : Grows mid.beside new.beside [] → Calls old new (BreaksAtHand Failed s (l ∷ []))
+  cut_untold : Grows mid.beside new.beside [] → Stretch old new (BreaksAtHand Failed s (l ∷ []))
   cut_untold g = cut [] (record { silent = refl; goes_on = refl })
       (λ u. (t.text, refl)) (t.text, refl) g tt
 
   cut_part : (n : ℕ) → Adds mid new (say_failed (take n bytes))
       → ((2 ^ 64 - 1 ≤ mid.moment) ⊎ (mid.moment < new.moment))
-      → Calls old new (BreaksAtHand Failed s (l ∷ []))
+      → Stretch old new (BreaksAtHand Failed s (l ∷ []))
   cut_part n added (inl at_last) = cut_untold
       (subst (λ (log : Log). Grows mid.beside log []) (sym (call.last at_last).1)
       (Grows-nil mid.beside))
@@ -454,7 +454,7 @@ module _ (old mid new : DiskState) (tables : Tables) (s : State) (l : Asked) (t 
       added (rises, omega arith, tt)
 
   pub turn_cut : (((n : ℕ) × Adds mid new (say_failed (take n bytes)))
-      ⊎ Untold mid new says_failed) → Calls old new (BreaksAtHand Failed s (l ∷ []))
+      ⊎ Untold mid new says_failed) → Stretch old new (BreaksAtHand Failed s (l ∷ []))
   turn_cut (inl part) = cut_part part.0 part.1 (step-rises-or-last mid new call)
   turn_cut (inr untold) = cut_untold untold.log
 
@@ -462,7 +462,7 @@ module _ (old mid new : DiskState) (tables : Tables) (s : State) (l : Asked) (t 
 pub turn_unsaid : (old new : DiskState) (s : State) (l : Asked) (t : Turn) (ms : List ℕ)
     (fault : RunFault)
     → Begins old new s l t ms → IsCausedBy t.lacks fault
-    → Calls old new (BreaksAtHand fault s (l ∷ []))
+    → Stretch old new (BreaksAtHand fault s (l ∷ []))
 turn_unsaid old new s l t ms fault b cause =
     turn_begun old new new s l t ms fault [] b cause
     (record { silent = refl; goes_on = refl }) (t.text, refl) (Grows-nil new.beside) refl tt

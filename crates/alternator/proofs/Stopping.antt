@@ -271,7 +271,7 @@ pub left-nothing : (s : State) (ls : List Asked) (ms : List ℕ) (image : Image)
     → StandsFor image s → IsLeft s (turns s ls ms) [] image
 left-nothing s ls ms image stands =
     let unanswered = ap (λ ts. length (atoms_of ts))
-        (answered-none (turns s ls ms) (turns_say s ls ms)) in
+    (answered-none (turns s ls ms) (turns_say s ls ms)) in
     record {
       writes = 0;
       answered = omega (arith, unanswered);
@@ -344,7 +344,6 @@ ready_kept a b tables keeps ready trusted =
 pub stands_read : (a : DiskState) (tables : Tables) (s : State) → Stands a tables s
     → StandsFor a.file s
 stands_read a tables s stands = stub a.file s
-
 
 -- ---- stretches
 
@@ -500,7 +499,7 @@ module _ (s : State) (l : Asked) (t : Turn) (ms : List ℕ) (one : turns s (l �
       let say = turns_say s (l ∷ []) ms in
       let count = ap length (ap atoms_of one ∙ only) in
       let unanswered = ap (λ ts. length (atoms_of ts))
-          (ap (answered (turns s (l ∷ []) ms)) none ∙ answered-none (turns s (l ∷ []) ms) say) in
+      (ap (answered (turns s (l ∷ []) ms)) none ∙ answered-none (turns s (l ∷ []) ms) say) in
       record {
         writes = min p.0 (length t.atoms);
         answered = omega (arith, unanswered);

@@ -6,7 +6,7 @@ use Rattle.alt_disk.specs.Disk.{DiskState, IsImage, IsTrusted}
 use Rattle.alt_machine.specs.State.{State, start}
 use Rattle.alt_shell.specs.Log.{Log, Grows, StillGrows, notes_of, moments_of, taken, said_in}
 use Rattle.alternator.specs.Faults.{IsUnreadable}
-use Rattle.alternator.specs.Runs.{Calls, Answers, AnswersSome, IsOpening, Opened}
+use Rattle.alternator.specs.Runs.{Stretch, Answers, AnswersSome, IsOpening, Opened}
 use Rattle.alternator.specs.Stub.{StandsFor}
 use Rattle.alternator.specs.declared.serve.RunFault.{RunFault}
 use Rattle.alternator.specs.declared.serve.RunFault.TheVariants as fault
@@ -75,7 +75,7 @@ pub record IsFirstFile (files : ℕ → Option (List ℕ)) (first : ℕ) : Type 
 
 -- what a run of `init` has done that ended so
 abbrev pub HasMade : Ending → DiskState → DiskState → Type 0
-HasMade Whole old new = Calls old new Makes
+HasMade Whole old new = Stretch old new Makes
 HasMade Words old new = ⊥
 HasMade (NotEmpty first) old new = IsTrue old.tells → IsFirstFile old.file first
 HasMade (Damaged file at) old new = ⊥

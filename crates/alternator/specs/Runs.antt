@@ -15,11 +15,11 @@ use Rattle.alternator.specs.Stub.{StandsFor, WasLeft}
 use Rattle.alternator.specs.Turns.{Asked, turns, text_of, after, wanted, requests, asks, asked_of, out}
 
 -- what is said of a stretch of calls: of the disk before and after it, its entries, and the moments told in it
-abbrev pub OfCalls : Type 1
-OfCalls = DiskState → DiskState → Log → List ℕ → Type 0
+abbrev pub OfStretch : Type 1
+OfStretch = DiskState → DiskState → Log → List ℕ → Type 0
 
 -- The calls of a stretch, as far as they are told: they have P. Each ended at a moment of the stretch.
-pub record Calls (old new : DiskState) (P : OfCalls) : Type 0 where
+pub record Stretch (old new : DiskState) (P : OfStretch) : Type 0 where
   pub entries : Log
   pub told : List ℕ
   pub grows : Grows old.beside new.beside entries
@@ -40,10 +40,10 @@ pub record Passes (old new : DiskState) : Type 0 where
   pub notes : notes_of new.beside ≡ notes_of old.beside
 
 -- The state for which the tables stand now, and the calls by which it was reached, which have P of it.
-pub record Reaches (old new : DiskState) (tables : Tables) (P : State → OfCalls) : Type 0 where
+pub record Leads (old new : DiskState) (tables : Tables) (P : State → OfStretch) : Type 0 where
   pub to : State
   pub stands : Stands new tables to
-  pub calls : Calls old new (P to)
+  pub calls : Stretch old new (P to)
 
 -- ---- lines that were at hand
 
@@ -137,7 +137,7 @@ pub record GoesSome (fault : RunFault) (s : State) (u : Unread) (old new : DiskS
   pub leaves : AtEach old new (LeftBy s u entries told)
 
 -- more was taken, or the end was
-abbrev pub GoesOrEnds : Bool → State → Unread → State → Unread → OfCalls
+abbrev pub GoesOrEnds : Bool → State → Unread → State → Unread → OfStretch
 GoesOrEnds true s u t v = Goes s u t v
 GoesOrEnds false s u t v = Ends s u t
 
@@ -178,9 +178,9 @@ pub record IsOpening (old new : DiskState) : Type 0 where
   pub leaves : AtEach old new (WasLeft old)
 
 -- The store was opened, for the state for which its files stood, and the calls from then on have P of that state.
-pub record Opened (old new : DiskState) (P : State → OfCalls) : Type 0 where
+pub record Opened (old new : DiskState) (P : State → OfStretch) : Type 0 where
   pub from : State
   pub stood : StandsFor old.file from
   pub opened : DiskState
   pub opening : IsOpening old opened
-  pub calls : Calls opened new (P from)
+  pub calls : Stretch opened new (P from)

@@ -77,9 +77,7 @@ fn note_of(alloc: Global, ending: &Ending) -> Result<String, NoMemory>
             let text = hex::encode(alloc, key.as_slice())?;
             format!(in alloc; "alternator: row: family {family} key {text}\n")?
         }
-        Ending::Spent { number } => {
-            format!(in alloc; "alternator: numbers spent: {number}\n")?
-        }
+        Ending::Spent { number } => { format!(in alloc; "alternator: numbers spent: {number}\n")? }
         _ => String::new(alloc),
     };
     Ok(note)

@@ -7,7 +7,7 @@ ghost use Rattle.alt_machine.specs.State.{State};
 ghost use Rattle.alternator.specs.Stub.{Stands};
 ghost use Rattle.alternator.specs.Endings.{Ended, HasDone, HasReplayed, BreaksOff, IsReadable};
 ghost use Rattle.alternator.specs.Faults.{IsUnreadable};
-ghost use Rattle.alternator.specs.Runs.{Calls, Passes, Answers, AnswersSome, IsOpening, Opened};
+ghost use Rattle.alternator.specs.Runs.{Stretch, Passes, Answers, AnswersSome, IsOpening, Opened};
 ghost use Rattle.alternator.specs.Stub.{AreReady, StandsFor};
 ghost use Rattle.alternator.specs.Words.{job_of, bytes_of};
 ghost use Rattle.alternator.specs.declared.ending.Ending.{Ending as RunEnding};
@@ -45,8 +45,8 @@ fn pulls<S: Shell>(
     requires ready { AreReady (S.state shell.old) tables.old }
     requires room { 0 < length buf.old }
     ensures answered { (s : State) → Stands (S.state shell.old) tables.old s → MatchResult result
-        (λ _. Calls (S.state shell.old) (S.state shell.new) (Answers s))
-        (λ f. Calls (S.state shell.old) (S.state shell.new) (AnswersSome f s)) }
+        (λ _. Stretch (S.state shell.old) (S.state shell.new) (Answers s))
+        (λ f. Stretch (S.state shell.old) (S.state shell.new) (AnswersSome f s)) }
     ensures cause { IsErrOf result RunFault.Failed
         → Rose (S.state shell.old).faults (S.state shell.new).faults }
     ensures passes { Passes (S.state shell.old) (S.state shell.new) }
@@ -66,8 +66,8 @@ fn pulls<S: Shell>(
 fn served<S: Shell>(alloc: Global, tables: &mut Tables, shell: &mut S) -> Result<(), RunFault>
     requires ready { AreReady (S.state shell.old) tables.old }
     ensures answered { (s : State) → Stands (S.state shell.old) tables.old s → MatchResult result
-        (λ _. Calls (S.state shell.old) (S.state shell.new) (Answers s))
-        (λ f. Calls (S.state shell.old) (S.state shell.new) (AnswersSome f s)) }
+        (λ _. Stretch (S.state shell.old) (S.state shell.new) (Answers s))
+        (λ f. Stretch (S.state shell.old) (S.state shell.new) (AnswersSome f s)) }
     ensures cause { IsErrOf result RunFault.Failed
         → Rose (S.state shell.old).faults (S.state shell.new).faults }
     ensures passes { Passes (S.state shell.old) (S.state shell.new) }

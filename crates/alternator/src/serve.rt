@@ -8,7 +8,7 @@ ghost use Rattle.alt_lines.specs.Reader.{unread};
 ghost use Rattle.alt_lines.specs.Unread.{HasNone, TakesLine, Tells};
 ghost use Rattle.alt_machine.specs.State.{State};
 ghost use Rattle.alternator.specs.Stub.{Stands};
-ghost use Rattle.alternator.specs.Runs.{Calls, Passes, Reaches, ServesAtHand, BreaksAtHand, HandsOut, GoesOrEnds, GoesSome, asked_now};
+ghost use Rattle.alternator.specs.Runs.{Stretch, Passes, Leads, ServesAtHand, BreaksAtHand, HandsOut, GoesOrEnds, GoesSome, asked_now};
 ghost use Rattle.alternator.specs.Stub.{AreReady};
 ghost use Rattle.alternator.specs.Turns.{request, reopen as reopened, unread as no_request, asked_of};
 
@@ -46,9 +46,9 @@ fn answer_request<S: Shell>(
 ) -> Result<(), RunFault>
     requires ready { AreReady (S.state shell.old) tables.old }
     ensures served { (s : State) → Stands (S.state shell.old) tables.old s → MatchResult result
-        (λ _. Reaches (S.state shell.old) (S.state shell.new) tables.new
+        (λ _. Leads (S.state shell.old) (S.state shell.new) tables.new
         (ServesAtHand s (request name.now body.now ∷ [])))
-        (λ f. Calls (S.state shell.old) (S.state shell.new)
+        (λ f. Stretch (S.state shell.old) (S.state shell.new)
         (BreaksAtHand f s (request name.now body.now ∷ []))) }
     ensures cause { IsErrOf result RunFault.Failed
         → Rose (S.state shell.old).faults (S.state shell.new).faults }
@@ -68,9 +68,9 @@ fn answer_request<S: Shell>(
 /// A line that is too long to be read: it is told so, at no moment.
 fn turn_away<S: Shell>(tables: &Tables, shell: &mut S) -> Result<(), RunFault>
     ensures served { (s : State) → Stands (S.state shell.old) tables.now s → MatchResult result
-        (λ _. Reaches (S.state shell.old) (S.state shell.new) tables.now
+        (λ _. Leads (S.state shell.old) (S.state shell.new) tables.now
         (ServesAtHand s (no_request ∷ [])))
-        (λ f. Calls (S.state shell.old) (S.state shell.new)
+        (λ f. Stretch (S.state shell.old) (S.state shell.new)
         (BreaksAtHand f s (no_request ∷ []))) }
     ensures cause { IsErrOf result RunFault.Failed
         → Rose (S.state shell.old).faults (S.state shell.new).faults }
@@ -85,9 +85,9 @@ fn turn_away<S: Shell>(tables: &Tables, shell: &mut S) -> Result<(), RunFault>
 /// The store is opened again. What the disk holds counts from then on.
 fn reopen<S: Shell>(alloc: Global, tables: &mut Tables, shell: &mut S) -> Result<(), RunFault>
     ensures served { (s : State) → Stands (S.state shell.old) tables.old s → MatchResult result
-        (λ _. Reaches (S.state shell.old) (S.state shell.new) tables.new
+        (λ _. Leads (S.state shell.old) (S.state shell.new) tables.new
         (ServesAtHand s (reopened ∷ [])))
-        (λ f. Calls (S.state shell.old) (S.state shell.new)
+        (λ f. Stretch (S.state shell.old) (S.state shell.new)
         (BreaksAtHand f s (reopened ∷ []))) }
     ensures cause { IsErrOf result RunFault.Failed
         → Rose (S.state shell.old).faults (S.state shell.new).faults }
@@ -114,9 +114,9 @@ fn answer_line<S: Shell>(
     requires ready { AreReady (S.state shell.old) tables.old }
     ensures served { (taken : Line) → Tells taken cut [] line.now →
         (s : State) → Stands (S.state shell.old) tables.old s → MatchResult result
-        (λ _. Reaches (S.state shell.old) (S.state shell.new) tables.new
+        (λ _. Leads (S.state shell.old) (S.state shell.new) tables.new
         (ServesAtHand s (asked_of taken ∷ [])))
-        (λ f. Calls (S.state shell.old) (S.state shell.new)
+        (λ f. Stretch (S.state shell.old) (S.state shell.new)
         (BreaksAtHand f s (asked_of taken ∷ []))) }
     ensures cause { IsErrOf result RunFault.Failed
         → Rose (S.state shell.old).faults (S.state shell.new).faults }
@@ -160,9 +160,9 @@ pub(crate) fn at_hand<S: Shell>(
 ) -> Result<(), RunFault>
     requires ready { AreReady (S.state shell.old) tables.old }
     ensures served { (s : State) → Stands (S.state shell.old) tables.old s → MatchResult result
-        (λ _. Reaches (S.state shell.old) (S.state shell.new) tables.new
+        (λ _. Leads (S.state shell.old) (S.state shell.new) tables.new
         (ServesAtHand s (asked_now (unread lines.old))))
-        (λ f. Calls (S.state shell.old) (S.state shell.new)
+        (λ f. Stretch (S.state shell.old) (S.state shell.new)
         (BreaksAtHand f s (asked_now (unread lines.old)))) }
     ensures lines { OnOk result (HandsOut (unread lines.old) (unread lines.new)) }
     ensures cause { IsErrOf result RunFault.Failed
@@ -194,9 +194,9 @@ pub(crate) fn pull<S: Shell>(
     requires room { 0 < length buf.old }
     requires going { (unread lines.old).ended ≡ false }
     ensures went { (s : State) → Stands (S.state shell.old) tables.old s → MatchResult result
-        (λ more. Reaches (S.state shell.old) (S.state shell.new) tables.new
+        (λ more. Leads (S.state shell.old) (S.state shell.new) tables.new
         (λ t. GoesOrEnds more s (unread lines.old) t (unread lines.new)))
-        (λ f. Calls (S.state shell.old) (S.state shell.new)
+        (λ f. Stretch (S.state shell.old) (S.state shell.new)
         (GoesSome f s (unread lines.old))) }
     ensures going { IfOk result (λ more. more ≡ true → (unread lines.new).ended ≡ false) }
     ensures time { OnOk result ((S.state shell.old).moment < (S.state shell.new).moment) }

@@ -2,16 +2,16 @@ use Rattle.std.proofs.Common.{Bool, ap, subst, sym}
 use Rattle.alt_lines.specs.Reader.{unread}
 use Rattle.alt_lines.specs.Unread.{Unread}
 use Rattle.alt_machine.specs.State.{State}
-use Rattle.alternator.specs.Runs.{Reaches, Goes, GoesOrEnds, GoesSome, Ends, Answers, AnswersSome}
+use Rattle.alternator.specs.Runs.{Leads, Goes, GoesOrEnds, GoesSome, Ends, Answers, AnswersSome}
 use Rattle.alternator.proofs.Passing.{passes_none, passes_then, passes_back}
 use Rattle.alternator.proofs.Pulling.{fresh, goes_none, goes_then, goes_ends, goes_breaks, answers_all, answers_some}
-use Rattle.alternator.proofs.Serving.{calls_as}
+use Rattle.alternator.proofs.Serving.{stretch_as}
 use Rattle.alternator.proofs.run.pulls.Goals as goal
 
 pub pulls-init : goal.pulls-init
 pulls-init g c =
     let old = g.S.Disk.state c.args.shell.now in (
-      λ s stands. subst (λ (u : Unread). Reaches old old c.args.tables.now (λ t. Goes s fresh t u))
+      λ s stands. subst (λ (u : Unread). Leads old old c.args.tables.now (λ t. Goes s fresh t u))
           (sym c.new-lines.ensures)
           (goes_none old c.args.tables.now s fresh stands),
       passes_none _,
@@ -23,7 +23,7 @@ pulls-preserved g c =
     let state = g.S.Disk.state in (
       λ s stands.
           let front = c.pulls.invariant.0 s stands in
-          let went = subst (λ (more : Bool). Reaches (state c.pulls.shell)
+          let went = subst (λ (more : Bool). Leads (state c.pulls.shell)
           (state c.pull.new.shell) c.pull.new.tables
           (λ t. GoesOrEnds more front.to (unread c.pulls.lines) t (unread c.pull.new.lines)))
           c.in-Ok-true.field-0-test (c.in-Ok-true.ensures.went front.to front.stands) in
@@ -38,11 +38,11 @@ pub returns-in-Ok-false-clause-answered : goal.returns-in-Ok-false-clause-answer
 returns-in-Ok-false-clause-answered g c = λ s stands.
     let state = g.S.Disk.state in
     let front = c.pulls.invariant.0 s stands in
-    let went = subst (λ (more : Bool). Reaches (state c.pulls.shell)
+    let went = subst (λ (more : Bool). Leads (state c.pulls.shell)
     (state c.pull.new.shell) c.pull.new.tables
     (λ t. GoesOrEnds more front.to (unread c.pulls.lines) t (unread c.pull.new.lines)))
     c.in-Ok-false.field-0-test (c.in-Ok-false.ensures.went front.to front.stands) in
-    calls_as (state c.args.shell.now) (state c.pull.new.shell)
+    stretch_as (state c.args.shell.now) (state c.pull.new.shell)
     {P = λ old new es ms. (t : State) × Ends s fresh t old new es ms} {Q = Answers s}
     (λ es ms within x. answers_all _ _ s x.0 es ms x.1)
     (goes_ends (state c.args.shell.now) (state c.pulls.shell)
@@ -53,7 +53,7 @@ pub returns-in-Err-clause-answered : goal.returns-in-Err-clause-answered
 returns-in-Err-clause-answered g c = λ s stands.
     let state = g.S.Disk.state in
     let front = c.pulls.invariant.0 s stands in
-    calls_as (state c.args.shell.now) (state c.pull.new.shell)
+    stretch_as (state c.args.shell.now) (state c.pull.new.shell)
     {P = GoesSome c.in-Err.fault s fresh} {Q = AnswersSome c.in-Err.fault s}
     (λ es ms within x. answers_some _ _ c.in-Err.fault s es ms x)
     (goes_breaks (state c.args.shell.now) (state c.pulls.shell)

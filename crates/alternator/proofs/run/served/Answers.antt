@@ -3,14 +3,14 @@ use Rattle.alternator.specs.Turns.{asks}
 use Rattle.alternator.specs.Runs.{AnswersSome, LeftThen}
 use Rattle.alternator.specs.declared.serve.RunFault.TheVariants.{NoMemory}
 use Rattle.alternator.proofs.Pulling.{answers_some}
-use Rattle.alternator.proofs.Serving.{calls_none, breaks_none}
+use Rattle.alternator.proofs.Serving.{stretch_none, breaks_none}
 use Rattle.alternator.proofs.Stopping.{leaves-here, left-nothing, stands_left}
 use Rattle.alternator.proofs.run.served.Goals as goal
 
 pub returns-in_default-clause-answered : goal.returns-in_default-clause-answered
 returns-in_default-clause-answered g c = λ s stands.
     let here = g.S.Disk.state c.args.shell.now in
-    calls_none here {P = AnswersSome NoMemory s}
+    stretch_none here {P = AnswersSome NoMemory s}
     (answers_some here here NoMemory s _ _ (record {
       breaks = breaks_none NoMemory tt s _;
       leaves = leaves-here here (LeftThen s [] []) (λ trusted t image is_image.

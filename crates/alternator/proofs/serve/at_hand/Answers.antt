@@ -1,7 +1,7 @@
 use Rattle.std.proofs.Common.{ℕ, List, [], Option, ap, sym, subst}
 use Rattle.alt_lines.specs.Reader.{unread}
 use Rattle.alt_lines.specs.Unread.{Tells}
-use Rattle.alternator.specs.Runs.{Calls, BreaksAtHand, asked_now}
+use Rattle.alternator.specs.Runs.{Stretch, BreaksAtHand, asked_now}
 use Rattle.alternator.proofs.Hands.{at_some, at_none, hands_none, hands_line, hands_break, hands_memory, hands_all, hands_out}
 use Rattle.alternator.proofs.Passing.{passes_none, passes_then, passes_back}
 use Rattle.alternator.specs.declared.serve.RunFault.{RunFault}
@@ -55,7 +55,7 @@ returns-in-Ok-None-clause-lines g c =
 pub returns-in-Err-clause-served : goal.returns-in-Err-clause-served
 returns-in-Err-clause-served g c = λ s stands.
     let state = g.S.Disk.state in
-    subst (λ (fault : RunFault). Calls (state c.args.shell.now) (state c.lines.shell)
+    subst (λ (fault : RunFault). Stretch (state c.args.shell.now) (state c.lines.shell)
     (BreaksAtHand fault s (asked_now (unread c.args.lines.now))))
     (sym c.in-Err.ensures.err)
     (hands_memory (state c.args.shell.now) c.args.tables.now (state c.lines.shell) c.lines.tables

@@ -1,7 +1,7 @@
 use Rattle.std.proofs.Common.{◌≡◌, ◌<◌, [], length, take, length-take, subst, arith}
 use Rattle.alt_lines.specs.Reader.{unread}
 use Rattle.alt_lines.specs.Unread.{Unread}
-use Rattle.alternator.specs.Runs.{Calls, Reaches, ServesAtHand, BreaksAtHand, asked_now}
+use Rattle.alternator.specs.Runs.{Stretch, Leads, ServesAtHand, BreaksAtHand, asked_now}
 use Rattle.alternator.proofs.Pulling.{pull_goes, pull_breaks, pull_memory, pull_ends, pull_end_breaks, pull_failed}
 use Rattle.alternator.proofs.Stopping.{ready_kept, stands_kept}
 use Rattle.alternator.proofs.serve.pull.Goals as goal
@@ -22,7 +22,7 @@ returns-in-Ok-at_hand-clause-went g c = λ s stands.
     (unread c.args.lines.now) c.requires.going
     (take c.in-Ok.count c.take.new.buf) none c.in-Ok.ensures.taken c.in-Ok.ensures.moments
     c.at_hand.new.tables (unread c.args.lines.now)
-    (subst (λ (u : Unread). Reaches (state c.take.new.self)
+    (subst (λ (u : Unread). Leads (state c.take.new.self)
     (state c.at_hand.new.shell) c.at_hand.new.tables (ServesAtHand s (asked_now u)))
     c.end.ensures (c.in-Ok-at_hand.ensures.served s (stands_kept _ _ c.in-Ok.ensures.call.keeps _ s stands)))
 
@@ -35,7 +35,7 @@ returns-in-Err-clause-went g c = λ s stands.
     (unread c.args.lines.now) c.requires.going
     (take c.in-Ok.count c.take.new.buf) none c.in-Ok.ensures.taken c.in-Ok.ensures.moments
     c.in-Err.fault
-    (subst (λ (u : Unread). Calls (state c.take.new.self) (state c.at_hand.new.shell)
+    (subst (λ (u : Unread). Stretch (state c.take.new.self) (state c.at_hand.new.shell)
     (BreaksAtHand c.in-Err.fault s (asked_now u)))
     c.end.ensures (c.in-Err.ensures.served s (stands_kept _ _ c.in-Ok.ensures.call.keeps _ s stands)))
 
@@ -86,7 +86,7 @@ returns-in-Err-at_hand-clause-went g c = λ s stands.
     (unread c.args.lines.now) c.requires.going
     (take c.in-Ok.count c.take.new.buf) some c.in-Ok.ensures.taken c.in-Ok.ensures.moments
     c.in-Err-at_hand.fault
-    (subst (λ (u : Unread). Calls (state c.take.new.self)
+    (subst (λ (u : Unread). Stretch (state c.take.new.self)
     (state c.at_hand-2.new.shell) (BreaksAtHand c.in-Err-at_hand.fault s
     (asked_now u)))
     c.in-Ok-give.ensures.ok (c.in-Err-at_hand.ensures.served s (stands_kept _ _ c.in-Ok.ensures.call.keeps _ s stands)))

@@ -1,5 +1,5 @@
-//! Whole runs over a shell in memory: how an input may be cut, which moments requests have, wrong words, and a device that fails.
-//! Rows of requests stand in checks/rows/, and what a clause says isn't tested again.
+//! Whole runs over a shell in memory: how an input may be cut, which moments requests have, wrong words, a device that fails at each
+//! call in turn, and stops at each moment. Rows of requests stand in checks/rows/.
 
 use crate::run::run;
 use crate::words::port_of;
@@ -46,9 +46,33 @@ fn status_of(alloc: Global, given: &[&str], shell: &mut MemoryShell) -> Option<u
     }
 }
 
+/// A disk with an empty store.
+fn store(alloc: Global) -> Option<MemoryDisk> {
+    let Ok(mut shell) = shell_over(MemoryDisk::new(alloc), alloc, &[]) else {
+        return None;
+    };
+    if status_of(alloc, &["init"], &mut shell) != Some(0)
+        || shell.said(None) != b"ok\n".as_slice()
+    {
+        return None;
+    }
+    left(&shell, &[])
+}
+
+/// The disk as a stop at the end leaves it.
+fn left(shell: &MemoryShell, choice: &[u8]) -> Option<MemoryDisk> {
+    match shell.disk().stopped(shell.disk().counts().0, choice) {
+        Ok(disk) => Some(disk),
+        Err(_) => None,
+    }
+}
+
 /// Whether a run over the pieces ends with 0, notes nothing and says the replies one after another.
 fn says(alloc: Global, pieces: &[&str], replies: &[&str]) -> bool {
-    let Ok(mut shell) = shell_over(MemoryDisk::new(alloc), alloc, pieces) else {
+    let Some(disk) = store(alloc) else {
+        return false;
+    };
+    let Ok(mut shell) = shell_over(disk, alloc, pieces) else {
         return false;
     };
     let status = status_of(alloc, &["replay", "1073741824", "64"], &mut shell);
@@ -62,7 +86,7 @@ fn says(alloc: Global, pieces: &[&str], replies: &[&str]) -> bool {
     status == Some(0) && shell.noted().is_empty() && rest.is_empty()
 }
 
-static CUTS: [(&[&str], &[&str]); 3] = [
+static CUTS: [(&[&str], &[&str]); 4] = [
     (
         &[
             "F",
@@ -75,6 +99,10 @@ static CUTS: [(&[&str], &[&str]); 3] = [
         &[UNKNOWN, UNREADABLE, UNKNOWN, UNKNOWN, MISSING],
     ),
     (&["Fly {}\n"], &[UNKNOWN]),
+    (
+        &["@reopen\n@reope", "n\r\n@reopen \n@flush"],
+        &["ok\n", "ok\n", UNKNOWN, UNKNOWN],
+    ),
     (&[], &[]),
 ];
 
@@ -91,7 +119,10 @@ const CREATE: &str =
 
 /// Whether the second request is carried out at the second moment.
 fn tells_the_second_moment(alloc: Global) -> bool {
-    let Ok(mut shell) = shell_over(MemoryDisk::new(alloc), alloc, &["Fly\n", CREATE]) else {
+    let Some(disk) = store(alloc) else {
+        return false;
+    };
+    let Ok(mut shell) = shell_over(disk, alloc, &["Fly\n", CREATE]) else {
         return false;
     };
     let status = status_of(alloc, &["replay", "65536", "4"], &mut shell);
@@ -128,24 +159,147 @@ fn wrong_words_touch_nothing(rt: HostRuntime) -> Result<(), Fail> {
     Ok(())
 }
 
-/// Whether a run ends with 4 where the call at this moment fails.
-fn ends_with_the_device(alloc: Global, moment: u64) -> bool {
-    let mut disk = MemoryDisk::new(alloc);
-    if disk.fail(moment).is_err() {
-        return false;
+const PUT: &str =
+    "PutItem {\"TableName\":\"Tab\",\"Item\":{\"k\":{\"S\":\"a\"},\"n\":{\"N\":\"1\"}}}\nPutItem {\"TableName\":\"Tab\",\"Item\":{\"k\":{\"S\":\"b\"}}}\n";
+
+const GET: &str =
+    "GetItem {\"TableName\":\"Tab\",\"Key\":{\"k\":{\"S\":\"a\"}}}\nGetItem {\"TableName\":\"Tab\",\"Key\":{\"k\":{\"S\":\"b\"}}}\n";
+
+const ITEM_A: &str = "200 {\"Item\":{\"k\":{\"S\":\"a\"},\"n\":{\"N\":\"1\"}}}\n";
+
+const ITEM_B: &str = "200 {\"Item\":{\"k\":{\"S\":\"b\"}}}\n";
+
+const GONE: &str =
+    "400 {\"__type\":\"com.amazonaws.dynamodb.v20120810#ResourceNotFoundException\",\"message\":\"Requested resource not found\"}\n";
+
+/// What a store says to the two reads, after each of the three writes.
+static STATES: [[&str; 2]; 4] = [
+    [GONE, GONE],
+    ["200 {}\n", "200 {}\n"],
+    [ITEM_A, "200 {}\n"],
+    [ITEM_A, ITEM_B],
+];
+
+/// After how many of the three writes a disk's store stands, none where it is no store or after no such writes.
+fn writes_in(alloc: Global, disk: MemoryDisk) -> Option<usize> {
+    let Ok(mut shell) = shell_over(disk, alloc, &[GET]) else {
+        return None;
+    };
+    if status_of(alloc, &["replay", "65536", "4"], &mut shell) != Some(0) {
+        return None;
     }
-    let Ok(mut shell) = shell_over(disk, alloc, &["Fly {}\nFly {}\n"]) else {
+    let said = shell.said(None);
+    STATES.iter().position(|replies| match said.strip_prefix(replies[0].as_bytes()) {
+        Some(rest) => rest == replies[1].as_bytes(),
+        None => false,
+    })
+}
+
+/// A run of the three writes over a store, of which the call at this moment fails, if one does.
+fn run_of_writes(alloc: Global, failing: Option<u64>) -> Option<(u8, MemoryShell)> {
+    let mut disk = store(alloc)?;
+    if let Some(moment) = failing {
+        let Ok(()) = disk.fail(moment) else {
+            return None;
+        };
+    }
+    let Ok(mut shell) = shell_over(disk, alloc, &[CREATE, PUT]) else {
+        return None;
+    };
+    let status = status_of(alloc, &["replay", "65536", "4"], &mut shell)?;
+    Some((status, shell))
+}
+
+/// How many replies were said whole.
+fn replies_in(shell: &MemoryShell) -> usize {
+    shell.said(None).iter().filter(|b| **b == b'\n').count()
+}
+
+static CHOICES: [&[u8]; 3] = [&[], &[1; 64], &[2, 255, 1, 7, 0, 128, 3, 9]];
+
+/// Whether each stop of a whole run leaves a store after some of its writes, never fewer than at a stop before it, and all at the end.
+fn stops_keep(alloc: Global, choice: &[u8]) -> bool {
+    let Some((0, shell)) = run_of_writes(alloc, None) else {
         return false;
     };
-    status_of(alloc, &["replay", "65536", "2"], &mut shell) == Some(4)
-        && shell.noted() == b"alternator: device\n".as_slice()
+    let last = shell.disk().counts().0;
+    let mut least = 0;
+    for moment in 0..last + 1 {
+        let Ok(disk) = shell.disk().stopped(moment, choice) else {
+            return false;
+        };
+        match writes_in(alloc, disk) {
+            Some(writes) if writes >= least => least = writes,
+            _ => return false,
+        }
+    }
+    least == 3
+}
+
+#[test]
+fn each_stop_leaves_a_store(rt: HostRuntime) -> Result<(), Fail> {
+    for choice in &CHOICES {
+        assert!(rt; stops_keep(rt.alloc(), choice));
+    }
+    Ok(())
+}
+
+/// Whether a run of which one call fails ends with 4, and leaves what was answered.
+fn keeps_what_was_answered(alloc: Global, moment: u64) -> bool {
+    let Some((4, shell)) = run_of_writes(alloc, Some(moment)) else {
+        return false;
+    };
+    let answered = replies_in(&shell);
+    let Some(disk) = left(&shell, &[]) else {
+        return false;
+    };
+    match writes_in(alloc, disk) {
+        Some(writes) => writes >= answered && shell.noted() == b"alternator: device\n".as_slice(),
+        None => false,
+    }
 }
 
 #[test]
 fn a_device_that_fails_ends_the_run(rt: HostRuntime) -> Result<(), Fail> {
-    for moment in 0..4u64 {
-        assert!(rt; ends_with_the_device(rt.alloc(), moment));
+    for moment in 0..26u64 {
+        assert!(rt; keeps_what_was_answered(rt.alloc(), moment), "{moment}");
     }
+    Ok(())
+}
+
+static STORES: [(&[&str], u8, &str); 3] = [
+    (&["init"], 2, "alternator: store not empty: file 1\n"),
+    (&["replay", "1", "4"], 1, "alternator: words\n"),
+    (&["replay", "65536", "4"], 0, ""),
+];
+
+/// Whether a run over a store ends so.
+fn ends_so(alloc: Global, given: &[&str], status: u8, note: &str) -> bool {
+    let Some(disk) = store(alloc) else {
+        return false;
+    };
+    let Ok(mut shell) = shell_over(disk, alloc, &[]) else {
+        return false;
+    };
+    status_of(alloc, given, &mut shell) == Some(status) && shell.noted() == note.as_bytes()
+}
+
+/// Whether a run over no files says that there is no store.
+fn tells_that_there_is_none(alloc: Global) -> bool {
+    let Ok(mut shell) = shell_over(MemoryDisk::new(alloc), alloc, &["Fly {}\n"]) else {
+        return false;
+    };
+    status_of(alloc, &["replay", "65536", "4"], &mut shell) == Some(3)
+        && shell.noted() == b"alternator: damaged: file 1 at 0\n".as_slice()
+        && shell.said(None).is_empty()
+}
+
+#[test]
+fn a_store_is_made_once(rt: HostRuntime) -> Result<(), Fail> {
+    for row in &STORES {
+        assert!(rt; ends_so(rt.alloc(), row.0, row.1, row.2), "{}", row.2);
+    }
+    assert!(rt; tells_that_there_is_none(rt.alloc()));
     Ok(())
 }
 

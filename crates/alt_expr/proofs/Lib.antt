@@ -2,11 +2,13 @@ pub mod Copied
 pub mod Deep
 pub mod Grouped
 pub mod HoldsLaws
+pub mod KeyLaws
 pub mod Lists
 pub mod Longest
 pub mod Noting
 pub mod Numbers
 pub mod Once
+pub mod Overlaps
 pub mod Parsing
 pub mod PathFound
 pub mod PathRead

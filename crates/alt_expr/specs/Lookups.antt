@@ -1,4 +1,6 @@
 -- The names and values over which a text is read.
+use Rattle.std.specs.Prelude.{List, []}
+use Rattle.alt_value.specs.Tree.{Pair}
 use Rattle.alt_expr.specs.Given.{Given}
 use Rattle.alt_expr.specs.NamesGiven.{given_names, given_values}
 use Rattle.alt_expr.specs.declared.lookups.Lookups.{Lookups}
@@ -12,3 +14,7 @@ given_by n v = record { names = given_names n; values = given_values v }
 -- the words that an expression's lookups stand for
 abbrev pub given_to : Lookups → Given
 given_to l = given_by l.names.now l.values.now
+
+-- names without values
+abbrev pub names_alone : List Pair → Given
+names_alone names = record { names = names; values = [] }

@@ -4,5 +4,7 @@
 mod choosing;
 mod projecting;
 mod stepping;
+mod text;
 
 pub use projecting::project;
+pub use text::parse;

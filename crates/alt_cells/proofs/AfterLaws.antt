@@ -1,5 +1,5 @@
 -- What a row shows after a change, by cells that show what it showed.
-use Rattle.std.proofs.Common.{◌≡◌, ◌+◌, ◌<◌, ℕ, List, [], Bool, true, Option, Some, None, sym, ap, subst, ◌∙◌}
+use Rattle.std.proofs.Common.{◌≡◌, ℕ, List, Bool, true, Option, Some, None, sym, ap, subst, ◌∙◌}
 use Rattle.std.specs.Prelude.{if◌then◌else◌, option_and_then}
 use Rattle.std.specs.FinMap.{empty, get-empty, same_map}
 use Rattle.alt_cells.specs.declared.batch.RowChange.{RowChange}

@@ -1,5 +1,5 @@
 -- A row that is made of nothing shows what it was made of.
-use Rattle.std.proofs.Common.{sym, subst, ap, ◌∙◌, ◌≡◌}
+use Rattle.std.proofs.Common.{sym, subst, ap, ◌∙◌}
 use Rattle.alt_cells.specs.Changes.{IsBelow, row_of_change}
 use Rattle.alt_cells.specs.Shown.{row_shown}
 use Rattle.alt_cells.proofs.AfterLaws.{made_below, copy_shown}

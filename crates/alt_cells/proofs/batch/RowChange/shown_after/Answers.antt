@@ -1,6 +1,6 @@
 -- The cells of the change, joined to those that show what was shown.
-use Rattle.std.proofs.Common.{◌≡◌, IfOk, Option, Some, None, sym, subst, ap, ◌∙◌}
-use Rattle.alt_cells.specs.Changes.{Columns, written, row_of_change}
+use Rattle.std.proofs.Common.{◌≡◌, IfOk, Option, Some, subst, ap, ◌∙◌}
+use Rattle.alt_cells.specs.Changes.{Columns}
 use Rattle.alt_cells.specs.Rows.{join_row}
 use Rattle.alt_cells.specs.Shown.{row_shown}
 use Rattle.alt_cells.proofs.AfterLaws.{made_shown, written-cleared, written-copy}

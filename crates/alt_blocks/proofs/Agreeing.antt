@@ -10,11 +10,13 @@ use Rattle.alt_disk.specs.Disk.{DiskState, Read, bytes_or_none, contents}
 use Rattle.alt_blocks.specs.Places.{Agrees, Place, given, same_place}
 use Rattle.alt_blocks.specs.declared.cache.BlockCache.{BlockCache}
 
-pub agrees_same : (a b : DiskState) (cache : BlockCache) → ((g : ℕ) → b.file g ≡ a.file g) → Agrees a cache → Agrees b cache
+pub agrees_same : (a b : DiskState) (cache : BlockCache) → ((g : ℕ) → b.file g ≡ a.file g)
+    → Agrees a cache → Agrees b cache
 agrees_same a b cache same h = λ p bytes c.
     h p bytes c ∙ ap (λ (l : List ℕ). take p.2 (drop p.1 l)) (ap bytes_or_none (sym (same p.0)))
 
-pub agrees_on : (a b : DiskState) (cache : BlockCache) → (IsTrue a.tells → Agrees a cache) → b.tells ≡ a.tells
+pub agrees_on : (a b : DiskState) (cache : BlockCache) → (IsTrue a.tells → Agrees a cache)
+    → b.tells ≡ a.tells
     → (IsTrue a.tells → (g : ℕ) → b.file g ≡ a.file g) → IsTrue b.tells → Agrees b cache
 agrees_on a b cache h tells same told =
     let t : IsTrue a.tells = subst (λ (v : Bool). IsTrue v) tells told in
@@ -39,47 +41,65 @@ same_is p q e =
 
 module _ (s : DiskState) (cache : BlockCache) (h : Agrees s cache) where
   -- one place more, with what the disk gives there
-  pub agrees_put : (p : Place) (bytes : List ℕ) (new : List (Place × List ℕ)) → new ≡ put_entries same_place cache.places p bytes → bytes ≡ given s p
+  pub agrees_put : (p : Place) (bytes : List ℕ) (new : List (Place × List ℕ))
+      → new ≡ put_entries same_place cache.places p bytes → bytes ≡ given s p
       → (q : Place) (b : List ℕ) → Contains new (q, b) → b ≡ given s q
   agrees_put p bytes new is kept q b inside = ⊎_elim
       (λ old. h q b old)
       (λ put. put.0 ∙ kept ∙ ap (given s) (sym (place put.1)))
-      (Contains-put_entries same_place cache.places p bytes (q, b) (subst (λ (l : List (Place × List ℕ)). Contains l (q, b)) is inside))
+      (Contains-put_entries same_place cache.places p bytes (q, b)
+          (subst (λ (l : List (Place × List ℕ)). Contains l (q, b)) is inside))
     where
-      place : (q ≡ p) ⊎ ((w : List ℕ) × Contains cache.places.entries (q, w) × (same_place p q ≡ true)) → q ≡ p
+      place : (q ≡ p)
+          ⊎ ((w : List ℕ) × Contains cache.places.entries (q, w) × (same_place p q ≡ true)) → q ≡ p
       place (inl e) = e
       place (inr o) = sym (same_is p q o.2)
 
   -- the same places in another order
-  pub agrees_promoted : (test : Place → Bool) (new : List (Place × List ℕ)) → new ≡ promoted test cache.places.entries
+  pub agrees_promoted : (test : Place → Bool) (new : List (Place × List ℕ))
+      → new ≡ promoted test cache.places.entries
       → (q : Place) (b : List ℕ) → Contains new (q, b) → b ≡ given s q
   agrees_promoted test new is q b inside =
-      h q b (Contains-promoted test cache.places.entries (q, b) (subst (λ (l : List (Place × List ℕ)). Contains l (q, b)) is inside))
+      h q b (Contains-promoted test cache.places.entries (q, b)
+          (subst (λ (l : List (Place × List ℕ)). Contains l (q, b)) is inside))
 
   -- what is found at a place
-  pub found : (p : Place) (bytes : List ℕ) (new : List (Place × List ℕ)) → new ≡ promoted (same_place p) cache.places.entries → lookup (same_place p) new ≡ Some bytes → bytes ≡ given s p
+  pub found : (p : Place) (bytes : List ℕ) (new : List (Place × List ℕ))
+      → new ≡ promoted (same_place p) cache.places.entries → lookup (same_place p) new ≡ Some bytes
+      → bytes ≡ given s p
   found p bytes new is there =
       let e = Contains-lookup (same_place p) new bytes there in
       agrees_promoted (same_place p) new is e.0 bytes e.1 ∙ ap (given s) (sym (same_is p e.0 e.2))
 
 -- bytes that the disk gives are what a read gives
-pub read_given : (whole old new bytes : List ℕ) (at count : ℕ) → bytes ≡ take (length old) (drop at whole) → count ≡ length bytes → take count new ≡ bytes → Read whole at old new count
+pub read_given : (whole old new bytes : List ℕ) (at count : ℕ)
+    → bytes ≡ take (length old) (drop at whole) → count ≡ length bytes → take count new ≡ bytes
+    → Read whole at old new count
 read_given whole old new bytes at count is size front = record {
-  count_is = omega (arith, size, ap length is, length-take (length old) (drop at whole), length-drop at whole);
-  front = front ∙ sym (ap (take count) (sym (take-append-drop (length old) (drop at whole)) ∙ ap (λ (l : List ℕ). l ++ drop (length old) (drop at whole)) (sym is)) ∙ take_at bytes (drop (length old) (drop at whole)) count (sym size));
+  count_is = omega
+      (arith, size, ap length is, length-take (length old) (drop at whole), length-drop at whole);
+  front = front
+      ∙ sym (ap (take count) (sym (take-append-drop (length old) (drop at whole))
+      ∙ ap (λ (l : List ℕ). l ++ drop (length old) (drop at whole)) (sym is))
+      ∙ take_at bytes (drop (length old) (drop at whole)) count (sym size));
 }
 
 -- and back: a read gives what the disk gives there
-pub given_read : (whole old new : List ℕ) (at count : ℕ) → Read whole at old new count → take count new ≡ take (length old) (drop at whole)
+pub given_read : (whole old new : List ℕ) (at count : ℕ) → Read whole at old new count
+    → take count new ≡ take (length old) (drop at whole)
 given_read whole old new at count read =
     let bytes = take (length old) (drop at whole) in
-    let size : count ≡ length bytes = omega (arith, read.count_is, length-take (length old) (drop at whole), length-drop at whole) in
-    read.front ∙ ap (take count) (sym (take-append-drop (length old) (drop at whole))) ∙ take_at bytes (drop (length old) (drop at whole)) count (sym size)
+    let size : count ≡ length bytes =
+        omega (arith, read.count_is, length-take (length old) (drop at whole), length-drop at whole)
+        in
+    read.front ∙ ap (take count) (sym (take-append-drop (length old) (drop at whole)))
+        ∙ take_at bytes (drop (length old) (drop at whole)) count (sym size)
 
 pub if_some_any : {X : Type 0} (o : Option X) (P : Type 0) → P → IfSome o (λ x. P)
 if_some_any (Some x) P p = p
 if_some_any None P p = tt
 
-pub if_some_leads : {X : Type 0} (o : Option X) (P Q : X → Type 0) → ((x : X) → P x → Q x) → IfSome o P → IfSome o Q
+pub if_some_leads : {X : Type 0} (o : Option X) (P Q : X → Type 0) → ((x : X) → P x → Q x)
+    → IfSome o P → IfSome o Q
 if_some_leads (Some x) P Q leads p = leads x p
 if_some_leads None P Q leads p = tt

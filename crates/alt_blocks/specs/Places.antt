@@ -14,7 +14,8 @@ given s p = take p.2 (drop p.1 (contents s p.0))
 
 -- each place of the cache holds what the disk gives there
 abbrev pub Agrees : DiskState → BlockCache → Type 0
-Agrees s cache = (p : Place) (bytes : List ℕ) → Contains cache.places.entries (p, bytes) → bytes ≡ given s p
+Agrees s cache = (p : Place) (bytes : List ℕ) → Contains cache.places.entries (p, bytes)
+    → bytes ≡ given s p
 
 -- two places are the same
 abbrev pub same_place : Place → Place → Bool

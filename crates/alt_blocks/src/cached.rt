@@ -1,6 +1,6 @@
 //! A disk over a disk and a cache of its reads.
 
-ghost use Rattle.std.specs.Prelude.{IsTrue};
+ghost use Rattle.std.specs.Prelude.{◌≡◌, IsTrue};
 ghost use Rattle.alt_blocks.specs.Places.{Agrees};
 
 use crate::cache::BlockCache;
@@ -18,6 +18,10 @@ impl<'a, D: Disk> Cached<'a, D> {
     /// The disk before the cache, of which each place holds what the disk gives there.
     pub fn new(disk: &'a mut D, cache: &'a mut BlockCache) -> Cached<'a, D>
         requires { IsTrue (D.state disk.old).tells → Agrees (D.state disk.old) cache.old }
+        ensures disk { (result.disk.now ≡ disk.old)
+            × (result.disk.ghost_name ≡ disk.entry.ghost_name) }
+        ensures cache { (result.cache.now ≡ cache.old)
+            × (result.cache.ghost_name ≡ cache.entry.ghost_name) }
     {
         Cached { disk, cache }
     }

@@ -3,7 +3,7 @@ use Rattle.std.proofs.Common.{◌≤◌, ℕ, Bool, IsTrue, refl, sym, subst, �
 use Rattle.alt_base.specs.Counts.{Rose}
 use Rattle.alt_disk.specs.Disk.{DiskState, Goes}
 use Rattle.alt_disk.proofs.Calls.{goes_refl, goes_on}
-use Rattle.alt_disk.proofs.Runs.{quiet_start, quiet_then, tells_of, trusted_on}
+use Rattle.alt_disk.proofs.Runs.{quiet_start, quiet_then}
 use Rattle.alt_cells.specs.declared.source.SourceFault.{SourceFault}
 use Rattle.alt_cells.specs.declared.source.SourceFault.TheVariants.{Damaged, Failed, NoMemory}
 use Rattle.alt_cells.specs.Walks.{Keeps, Fails, HasCause}
@@ -46,6 +46,5 @@ module _ {S M : Type 0} (Holds : DiskState → S → M → Type 0) (reads_of : S
       → Keeps Holds reads_of a b x y → Fails Holds b c y fault → Fails Holds a c x fault
   fails_then a b c x y fault first fails = record {
     cause = cause_then a b c fault first.goes fails.cause;
-    sound = λ trusted m h. fails.sound (trusted_on a b first.goes trusted) m
-        (first.holds (tells_of a trusted) m h);
+    sound = λ tells m h. fails.sound (tells_on a b first.goes tells) m (first.holds tells m h);
   }

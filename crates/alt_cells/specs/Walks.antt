@@ -7,7 +7,7 @@ use Rattle.std.specs.Ordering.{flip_args}
 use Rattle.std.specs.BTreeMap.Range.{entries_between}
 use Rattle.std.specs.FinMap.{FinMap, entries}
 use Rattle.alt_base.specs.Counts.{Rose}
-use Rattle.alt_disk.specs.Disk.{DiskState, IsTrusted, Goes}
+use Rattle.alt_disk.specs.Disk.{DiskState, Goes}
 use Rattle.alt_disk.specs.Runs.{Quiet}
 use Rattle.alt_cells.specs.declared.source.SourceFault.{SourceFault}
 use Rattle.alt_cells.specs.declared.source.SourceFault.TheVariants.{Damaged, Failed, NoMemory}
@@ -92,8 +92,8 @@ answered_by (Err (Damaged f at)) = true
 answered_by (Err Failed) = false
 answered_by (Err NoMemory) = true
 
--- why a call failed: never by damage where the disk is honest
+-- why a call failed: never by damage where the disk tells its contents and the source holds rows
 pub record Fails {S M : Type 0} (Holds : DiskState → S → M → Type 0) (old new : DiskState)
     (before : S) (fault : SourceFault) : Type 0 where
   pub cause : HasCause old new fault
-  pub sound : IsTrusted old → (rows : M) → Holds old before rows → IsDamaged fault → ⊥
+  pub sound : IsTrue old.tells → (rows : M) → Holds old before rows → IsDamaged fault → ⊥

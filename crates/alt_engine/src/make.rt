@@ -1,6 +1,6 @@
 //! A fresh store: an empty log of writes, and a log of versions with the first one.
 
-ghost use Rattle.std.specs.Prelude.{◌≡◌, ℕ, List, [], Option, None, IsTrue, IfErr, IsErrOf, OnOk, ⊤};
+ghost use Rattle.std.specs.Prelude.{◌≡◌, ◌≢◌, ℕ, List, [], Option, None, IsTrue, IfErr, IsErrOf, OnOk, ⊤};
 ghost use Rattle.alt_base.specs.Counts.{Rose};
 ghost use Rattle.alt_disk.specs.Disk.{IsTrusted, Goes, IsImage, IsNames};
 ghost use Rattle.alt_disk.specs.Runs.{Spans, Quiet};
@@ -56,6 +56,8 @@ pub fn make_store<D: Disk>(alloc: Global, disk: &mut D) -> Result<(), MakeFault>
         → (f : ℕ) → (D.state disk.old).file f ≡ None) }
     ensures not_empty { IsTrue (D.state disk.old).tells
         → IfErr result (NamesFirst (D.state disk.old).file) }
+    ensures untouched { IsTrue (D.state disk.old).tells → (f : ℕ)
+        → (D.state disk.old).file f ≢ None → Quiet (D.state disk.old) (D.state disk.new) }
     ensures others { IsTrusted (D.state disk.old)
         → Spans (D.state disk.old) (D.state disk.new) IsMade (λ _ _. ⊤) }
     ensures goes { Goes (D.state disk.old) (D.state disk.new) }

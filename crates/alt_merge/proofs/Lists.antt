@@ -76,7 +76,7 @@ module _ {S : Type 0} (Holds : DiskState → S → RowMap → Type 0) (reads_of 
       → i < length xs → Fails Holds a b (get_or xs i d) fault → Fails (HoldsEach Holds) a b xs fault
   fails_at a b xs i d fault lt fails = record {
     cause = fails.cause;
-    sound = λ trusted maps h. fails.sound trusted (get_or maps i empty)
+    sound = λ tells maps h. fails.sound tells (get_or maps i empty)
         (each2_at (Holds a) xs maps h i lt d empty);
   }
 

@@ -44,7 +44,7 @@ module _ {S : Type 0} (Holds : DiskState → S → RowMap → Type 0) where
   fails_merge a b old fault xs is f = record {
     cause = f.cause;
     sound =
-        λ trusted rows h. f.sound trusted h.maps
+        λ tells rows h. f.sound tells h.maps
         (subst (λ l. Each2 (Holds a) l h.maps) (sym is) h.each);
   }
 

@@ -6,7 +6,6 @@ use Rattle.std.specs.FinMap.{entries}
 use Rattle.alt_base.specs.Counts.{Rose}
 use Rattle.alt_disk.specs.Disk.{DiskState, Goes}
 use Rattle.alt_disk.specs.Runs.{Quiet}
-use Rattle.alt_disk.proofs.Runs.{tells_of}
 use Rattle.alt_cells.specs.Walks.{Keeps, Fails, HasCause, IsDamaged, answered_by}
 use Rattle.alt_cells.specs.declared.source.SourceFault.{SourceFault}
 use Rattle.alt_cells.specs.declared.source.SourceFault.TheVariants.{Damaged, Failed, NoMemory}
@@ -40,7 +39,7 @@ module _ {T : Type 0} where
       → Fails walk_holds s t w fault
   walk_fails s t w fault cause sound = record {
     cause = cause_of s t fault cause;
-    sound = λ trusted rows h damaged. sound (tells_of s trusted) (entries rows) h damaged;
+    sound = λ tells rows h damaged. sound tells (entries rows) h damaged;
   }
 
   -- any other answer leaves the count of faults

@@ -1,0 +1,3 @@
+mod fresh;
+mod opened;
+mod written;

@@ -1,0 +1,106 @@
+//! Files that a store is opened from, and why it isn't.
+
+use alt_disk::{Disk, MemoryDisk};
+use alt_engine::{Engine, RecoverFault};
+use std::alloc::Global;
+
+// The versions of a store.
+const VERSIONS: &[u8] =
+    b"ALTLOG01\x01\0\0\0\0\0\0\0\x20\0\0\0\x03\0\0\0\0\0\0\0\x01\0\0\0\0\0\0\0\x01\0\0\0\x02\0\0\0\0\0\0\0\0\0";
+
+// Files 1 and 2, of which an empty one isn't made; and the place that is damaged.
+static BAD: [(&[u8], &[u8], u32, u64); 13] = [
+    // No files, or no entries.
+    (b"", b"", 1, 0),
+    (VERSIONS, b"", 2, 0),
+    // Versions without a header, without an entry, and with another one.
+    (b"ALTLOG02\0", b"ALTLOG01\0", 1, 0),
+    (b"ALTLOG01\0", b"ALTLOG01\0", 1, 8),
+    (b"ALTLOG01\x01\0\0\0\0\0\0\0\x01\0\0", b"ALTLOG01\0", 1, 8),
+    // Entries without a whole header, without a gate, and cut.
+    (VERSIONS, b"ALTLOG0", 2, 0),
+    (VERSIONS, b"ALTLOG01", 2, 8),
+    (VERSIONS, b"ALTLOG01\x01\0\0\0\0\0\0\0\x10\0", 2, 8),
+    // An entry of one byte, and one with more changes told than there are bytes.
+    (VERSIONS, b"ALTLOG01\x01\0\0\0\0\0\0\0\x01\0\0", 2, 8),
+    (
+        VERSIONS,
+        b"ALTLOG01\x01\0\0\0\0\0\0\0\x10\0\0\0\0\0\0\0\x01\xff\0\0\0\0\0\0\0\0",
+        2,
+        8,
+    ),
+    // The numbers 0 and 2^62 - 1, and the number 1 twice.
+    (
+        VERSIONS,
+        b"ALTLOG01\x01\0\0\0\0\0\0\0\x10\0\0\0\0\0\0\0\0\0\0\0\0\0\0\0\0\0",
+        2,
+        8,
+    ),
+    (
+        VERSIONS,
+        b"ALTLOG01\x01\0\0\0\0\0\0\0\x10\x3f\xff\xff\xff\xff\xff\xff\xff\0\0\0\0\0\0\0\0\0",
+        2,
+        8,
+    ),
+    (
+        VERSIONS,
+        b"ALTLOG01\x01\0\0\0\0\0\0\0\x10\0\0\0\0\0\0\0\x01\0\0\0\0\0\0\0\0\x01\0\0\0\0\0\0\0\x10\0\0\0\0\0\0\0\x01\0\0\0\0\0\0\0\0\0",
+        2,
+        33,
+    ),
+];
+
+// Entries that are writes, and the number behind them.
+static GOOD: [(&[u8], u64); 3] = [
+    (b"ALTLOG01\0", 1),
+    (
+        b"ALTLOG01\x01\0\0\0\0\0\0\0\x10\0\0\0\0\0\0\0\x05\0\0\0\0\0\0\0\0\0",
+        6,
+    ),
+    // The last number that a write may have.
+    (
+        b"ALTLOG01\x01\0\0\0\0\0\0\0\x10\x3f\xff\xff\xff\xff\xff\xff\xfe\0\0\0\0\0\0\0\0\0",
+        4_611_686_018_427_387_903,
+    ),
+];
+
+// Puts bytes into a new file, unless there are none.
+fn put(disk: &mut MemoryDisk, f: u32, bytes: &[u8]) -> bool {
+    if bytes.is_empty() {
+        return true;
+    }
+    disk.write_at(f, 0, bytes).is_ok()
+}
+
+fn opened(alloc: Global, versions: &[u8], entries: &[u8]) -> Result<u64, RecoverFault> {
+    let mut disk = MemoryDisk::new(alloc);
+    if !put(&mut disk, 1, versions) {
+        return Err(RecoverFault::Failed);
+    }
+    if !put(&mut disk, 2, entries) {
+        return Err(RecoverFault::Failed);
+    }
+    match Engine::recover(alloc, &mut disk) {
+        Ok(engine) => Ok(engine.next_number()),
+        Err(fault) => Err(fault),
+    }
+}
+
+#[test]
+fn what_is_no_store_is_named(rt: HostRuntime) {
+    for (versions, entries, file, at) in &BAD {
+        let fault = RecoverFault::Damaged {
+            file: *file,
+            at: *at,
+        };
+        let found = opened(rt.alloc(), versions, entries);
+        assert!(rt; found == Err(fault), "file {file}, place {at}");
+    }
+}
+
+#[test]
+fn numbers_may_be_left_out(rt: HostRuntime) {
+    for (entries, next) in &GOOD {
+        assert!(rt; opened(rt.alloc(), VERSIONS, entries) == Ok(*next), "{next}");
+    }
+}

@@ -8,7 +8,9 @@ cd "$(dirname "$0")/.."
 out=bench/out
 mkdir -p "$out"
 program=${PROGRAM:-crates/alternator/out/alternator}
-[ -n "${PROGRAM:-}" ] || ./alternator . 0 replay 65536 4 </dev/null
+[ -n "${PROGRAM:-}" ] || ./alternator . 0 >/dev/null 2>&1 || true
+# an empty store for the next run
+empty() { rm -rf "$out/store" && "$program" "$out/store" 0 init >/dev/null; }
 create='CreateTable {"TableName":"Tab","KeySchema":[{"AttributeName":"pk","KeyType":"HASH"}],"AttributeDefinitions":[{"AttributeName":"pk","AttributeType":"S"}]}'
 item='"Item":{"pk":{"S":"customer#0000042"},"sk":{"S":"order#2026-11-27T03:26:31Z"},"total":{"N":"TOTAL"},"paid":{"BOOL":true},"note":{"S":"leave it at the door, and ring twice"},"tags":{"SS":["gift","priority"]},"lines":{"L":[{"M":{"sku":{"S":"A-1001"},"qty":{"N":"2"}}},{"M":{"sku":{"S":"B-2002"},"qty":{"N":"1"}}}]},"digest":{"B":"AAECAwQFBgc="}}'
 holds='"ConditionExpression":"total > :least AND paid = :paid","ExpressionAttributeValues":{":least":{"N":"0"},":paid":{"BOOL":true}}'
@@ -19,7 +21,8 @@ lines() { # COUNT LINE, whose TOTAL is another each time
   seq "$1" | awk -v line="$2" '{ text = line; sub(/TOTAL/, $1 ".95", text); print text }'
 }
 counted() { # FILE
-  valgrind --tool=callgrind --callgrind-out-file="$out/counted.callgrind" "$program" . 0 replay 65536 4 <"$1" 2>&1 >/dev/null | awk '/Collected/ { print $4 }'
+  empty
+  valgrind --tool=callgrind --callgrind-out-file="$out/counted.callgrind" "$program" "$out/store" 0 replay 65536 4 <"$1" 2>&1 >/dev/null | awk '/Collected/ { print $4 }'
 }
 measured() { # LINE: instructions a line
   lines 100 "$1" >"$out/few.lines"

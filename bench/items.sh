@@ -8,7 +8,9 @@ lines=${1:-100000}
 out=bench/out
 mkdir -p "$out"
 program=${PROGRAM:-crates/alternator/out/alternator}
-[ -n "${PROGRAM:-}" ] || ./alternator . 0 replay 65536 4 </dev/null
+[ -n "${PROGRAM:-}" ] || ./alternator . 0 >/dev/null 2>&1 || true
+# an empty store for the next run
+empty() { rm -rf "$out/store" && "$program" "$out/store" 0 init >/dev/null; }
 create() { # NAME
   printf 'CreateTable {"TableName":"%s","KeySchema":[{"AttributeName":"pk","KeyType":"HASH"}],"AttributeDefinitions":[{"AttributeName":"pk","AttributeType":"S"}]}\n' "$1"
 }
@@ -27,13 +29,15 @@ tables() { # COUNT
 timed() { # WHAT LINES FILE
   local start end
   start=$(date +%s.%N)
-  "$program" . 0 replay 65536 4 <"$3" >/dev/null
+  empty
+  "$program" "$out/store" 0 replay 65536 4 <"$3" >/dev/null
   end=$(date +%s.%N)
   awk -v k="$1" -v n="$2" -v a="$start" -v b="$end" 'BEGIN { printf "%s: %d lines in %.2f s, %d lines a second\n", k, n, b - a, n / (b - a) }'
-  if [ -x /usr/bin/time ]; then /usr/bin/time -f "$1: %M KB at most" "$program" . 0 replay 65536 4 <"$3" >/dev/null; fi
+  if [ -x /usr/bin/time ]; then empty; /usr/bin/time -f "$1: %M KB at most" "$program" "$out/store" 0 replay 65536 4 <"$3" >/dev/null; fi
 }
 counted() { # FILE
-  valgrind --tool=callgrind --callgrind-out-file="$out/counted.callgrind" "$program" . 0 replay 65536 4 <"$1" 2>&1 >/dev/null | awk '/Collected/ { print $4 }'
+  empty
+  valgrind --tool=callgrind --callgrind-out-file="$out/counted.callgrind" "$program" "$out/store" 0 replay 65536 4 <"$1" 2>&1 >/dev/null | awk '/Collected/ { print $4 }'
 }
 { tables 1; puts "$lines"; } >"$out/puts.lines"
 timed "put 337 bytes under a new key" "$lines" "$out/puts.lines"
@@ -55,7 +59,8 @@ large 50 >"$out/large.lines"
 timed "put and get 400 KB" 100 "$out/large.lines"
 processor() { # FILE, seconds of the processor
   local TIMEFORMAT=%U
-  { time "$program" . 0 replay 65536 4 <"$1" >/dev/null; } 2>&1
+  empty
+  { time "$program" "$out/store" 0 replay 65536 4 <"$1" >/dev/null; } 2>&1
 }
 for size in "1 1" "256 100000"; do
   read -r count items <<<"$size"

@@ -11,7 +11,7 @@ program=${PROGRAM-./alternator}
 work=$(mktemp -d)
 server=
 trap '[ -z "$server" ] || kill "$server" 2>/dev/null; wait 2>/dev/null; rm -rf "$work"' EXIT
-"$program" "$work/store" 0 replay 65536 4 </dev/null >/dev/null || { echo 'clients: the program does not run'; exit 1; }
+"$program" "$work/store" 0 init >/dev/null || { echo 'clients: the program does not run'; exit 1; }
 # The first port from there on that nobody has: a server that can't have its port ends at once.
 for port in $(seq "$first" $((first + 20))); do
   "$program" "$work/store" "$port" serve 1 3000 65536 4 2>"$work/notes" &

@@ -6,8 +6,11 @@ cd "$(dirname "$0")/.."
 passed=0
 failed=0
 request='Fly {}'
+work=$(mktemp -d)
+trap 'rm -rf "$work"' EXIT
+store=$work/store
 # Where it isn't built yet, it is built here, and says so.
-./alternator . 0 replay 65536 4 </dev/null >/dev/null
+./alternator "$store" 0 init >/dev/null
 # expect NAME STATUS NOTE COMMAND..
 expect() {
   local name=$1 status=$2 note=$3 got noted
@@ -21,8 +24,8 @@ expect() {
     echo "$name: status $got and note '$noted', not $status and '$note'"
   fi
 }
-closed() { ./alternator . 0 replay 65536 4 >&-; }
-expect 'a whole run' 0 '' ./alternator . 0 replay 65536 4
+closed() { ./alternator "$store" 0 replay 65536 4 >&-; }
+expect 'a whole run' 0 '' ./alternator "$store" 0 replay 65536 4
 expect 'no words' 1 'alternator: words' ./alternator
 expect 'no port' 1 'alternator: words' ./alternator .
 expect 'a port too great' 1 'alternator: words' ./alternator . 65536 replay 65536 4
@@ -30,17 +33,79 @@ expect 'a port with a leading zero' 1 'alternator: words' ./alternator . 00 repl
 expect 'a flush too small' 1 'alternator: words' ./alternator . 0 replay 65535 4
 expect 'a merge too great' 1 'alternator: words' ./alternator . 0 replay 65536 65
 expect 'a word more' 1 'alternator: words' ./alternator . 0 replay 65536 4 4
-expect 'serving without a port' 0 '' ./alternator . 0 serve 1 1 65536 4
+expect 'serving without a port' 0 '' ./alternator "$store" 0 serve 1 1 65536 4
 expect 'no request on a connection' 1 'alternator: words' ./alternator . 0 serve 0 1 65536 4
 expect 'no connection' 1 'alternator: words' ./alternator . 0 serve 1 0 65536 4
 expect 'too many connections' 1 'alternator: words' ./alternator . 0 serve 1 4294967296 65536 4
-expect 'a command that is not built' 1 'alternator: words' ./alternator . 0 init
+expect 'a command that is not built' 1 'alternator: words' ./alternator . 0 trial 1 1 65536 4
+expect 'a word behind init' 1 'alternator: words' ./alternator "$work/other" 0 init 65536
+[ ! -e "$work/other" ] && passed=$((passed + 1)) || { failed=$((failed + 1)); echo 'wrong words made a folder'; }
 expect 'a closed standard output' 4 'alternator: device' closed
+
+# ---- stores: one that is there, one that isn't, and bytes that are none
+
+# says NAME STATUS WANTED COMMAND..: what it says on standard output, to no input
+says() {
+  local name=$1 status=$2 wanted=$3 got said
+  shift 3
+  said=$("$@" </dev/null 2>/dev/null)
+  got=$?
+  if [ "$got" = "$status" ] && [ "$said" = "$wanted" ]; then
+    passed=$((passed + 1))
+  else
+    failed=$((failed + 1))
+    echo "$name: status $got and '$said', not $status and '$wanted'"
+  fi
+}
+says 'a store is made' 0 ok ./alternator "$work/made" 0 init
+expect 'and not made again' 2 'alternator: store not empty: file 1' ./alternator "$work/made" 0 init
+mkdir "$work/part" && : >"$work/part/0000001f.alt" && : >"$work/part/1f.alt" && : >"$work/part/notes"
+expect 'where another file of a store is' 2 'alternator: store not empty: file 31' ./alternator "$work/part" 0 init
+rm "$work/part/0000001f.alt"
+says 'other names are passed over' 0 ok ./alternator "$work/part" 0 init
+[ "$(cat "$work/made/"*.alt | od -An -tx1 | tr -d ' \n')" = 414c544c4f473031010000000000000020000000030000000000000001000000000000000100000002000000000000000000414c544c4f47303100 ] \
+  && passed=$((passed + 1)) || { failed=$((failed + 1)); echo 'the bytes of an empty store'; }
+mkdir "$work/none"
+expect 'no store' 3 'alternator: damaged: file 1 at 0' ./alternator "$work/none" 0 replay 65536 4
+# spoilt NAME NOTE FILE BYTES: a store in which the file has these bytes
+spoilt() {
+  rm -rf "$work/spoilt"
+  cp -r "$work/made" "$work/spoilt"
+  printf "$4" >"$work/spoilt/$3"
+  expect "$1" 3 "$2" ./alternator "$work/spoilt" 0 replay 65536 4
+}
+spoilt 'a log without its header' 'alternator: damaged: file 2 at 0' 00000002.alt 'ALTLOG02\0'
+spoilt 'a log without an end' 'alternator: damaged: file 2 at 8' 00000002.alt 'ALTLOG01'
+spoilt 'an entry past the end' 'alternator: damaged: file 2 at 8' 00000002.alt 'ALTLOG01\1\0\0\0\0\0\0\0\5\0'
+spoilt 'an entry that is no write' 'alternator: damaged: file 2 at 8' 00000002.alt 'ALTLOG01\1\0\0\0\0\0\0\0\0\0'
+spoilt 'a version of an empty log' 'alternator: damaged: file 1 at 8' 00000001.alt 'ALTLOG01\0'
+# logged NAME NOTE HEX..: a store whose log has these entries
+logged() {
+  local name=$1 note=$2 log='ALTLOG01' entry
+  shift 2
+  for entry in "$@"; do log+=$(printf '01%016x%s' $((${#entry} / 2)) "$entry" | sed 's/../\\x&/g'); done
+  spoilt "$name" "$note" 00000002.alt "$log\\0"
+}
+# written NUMBER FAMILY KEY COLUMN VALUE: a write of a row with one column, in hexadecimal
+field() { printf '%016x%s' $((${#1} / 2)) "$1"; }
+written() { printf '%016x%016x%08x%s01%016x%s01%s' "$1" 1 "$2" "$(field "$3")" 1 "$(field "$4")" "$(field "$5")"; }
+logged 'an entry with a byte more' 'alternator: damaged: file 2 at 8' "$(written 1 1 61 62 63)00"
+logged 'an entry whose number does not rise' 'alternator: damaged: file 2 at 74' "$(written 2 0 61 62 63)" "$(written 2 0 61 62 63)"
+logged 'a description that is none' 'alternator: row: family 0 key 546162' "$(written 1 0 546162 78 79)"
+logged 'a row that no table has' 'alternator: row: family 1 key 61' "$(written 1 1 61 62 63)"
+logged 'the first of two wrong rows' 'alternator: row: family 0 key 61' "$(written 1 1 61 62 63)" "$(written 2 0 61 62 63)"
+logged 'a next family that is none' 'alternator: row: family 0 key ' "$(written 1 0 '' 6e657874 00)"
+# a store is held by one process
+mkfifo "$work/wait"
+./alternator "$work/made" 0 replay 65536 4 <"$work/wait" >/dev/null &
+exec 9>"$work/wait"
+sleep 0.3
+expect 'a store that another process has' 4 'alternator: device' ./alternator "$work/made" 0 replay 65536 4
+exec 9>&-
+wait
 
 # ---- requests and replies, all in one run
 
-work=$(mktemp -d)
-trap 'rm -rf "$work"' EXIT
 # row REPLY OPERATION BODY: a request and what is answered to it
 row() {
   printf '%s\n' "$1" >>"$work/wanted"
@@ -137,7 +202,7 @@ row '200 {}' GetItem "$key"
 for i in $(seq 101 353); do row "$(made "T$i")" CreateTable "$(table "T$i")"; done
 row "$(refused LimitExceededException 'too many tables')" CreateTable "$(table T354)"
 
-./alternator . 0 replay 65536 4 <"$work/requests" | sed -E 's/"CreationDateTime":[0-9]+/"CreationDateTime":0/' >"$work/said"
+./alternator "$store" 0 replay 65536 4 <"$work/requests" | sed -E 's/"CreationDateTime":[0-9]+/"CreationDateTime":0/' >"$work/said"
 while IFS= read -r wanted <&3 && IFS= read -r request <&4; do
   said=
   IFS= read -r said <&5

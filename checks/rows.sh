@@ -11,6 +11,7 @@ failed=0
 for lines in checks/rows/*.lines; do
   wanted=${lines%.lines}.replies
   mkdir "$work/store"
+  ./alternator "$work/store" 0 init >/dev/null
   ./alternator "$work/store" 0 replay 65536 4 <"$lines" 2>"$work/noted" | plain >"$work/said"
   if cmp -s "$work/said" "$wanted" && [ ! -s "$work/noted" ]; then
     passed=$((passed + $(wc -l <"$wanted")))

@@ -101,6 +101,9 @@ fn what_is_no_store_is_named(rt: HostRuntime) {
 #[test]
 fn numbers_may_be_left_out(rt: HostRuntime) {
     for (entries, next) in &GOOD {
-        assert!(rt; opened(rt.alloc(), VERSIONS, entries) == Ok(*next), "{next}");
+        assert!(rt;
+            opened(rt.alloc(), VERSIONS, entries) == Ok(*next),
+            "{next}"
+        );
     }
 }

@@ -108,7 +108,13 @@ fn what_was_written_lasts(rt: HostRuntime) {
 static CHOICES: [&[u8]; 3] = [&[], &[1; 99], &[2, 0, 255, 7, 1, 1, 0, 3, 128, 1, 0, 1]];
 
 // Whether a stop at this moment leaves the first `count` writes, or one more.
-fn leaves(alloc: Global, disk: &MemoryDisk, moment: u64, choice: &[u8], count: u64) -> Option<bool> {
+fn leaves(
+    alloc: Global,
+    disk: &MemoryDisk,
+    moment: u64,
+    choice: &[u8],
+    count: u64,
+) -> Option<bool> {
     let mut left = disk.stopped(moment, choice).ok()?;
     let next = Engine::recover(alloc, &mut left).ok()?.next_number();
     Some(next > count && next - count <= 2)

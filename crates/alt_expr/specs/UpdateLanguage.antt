@@ -4,7 +4,7 @@ use Rattle.std.specs.List.{list_any, list_all, count_by}
 use Rattle.alt_expr.specs.Tokens.{same_keyword}
 use Rattle.alt_expr.specs.Faults.{Language}
 use Rattle.alt_expr.specs.Crowded.{is_long}
-use Rattle.alt_expr.specs.Overlap.{some_overlap}
+use Rattle.alt_expr.specs.PathsGrammar.{some_overlap}
 use Rattle.alt_expr.specs.UpdateGrammar.{ClausePhrase, sets, removes, adds, deletes, UpdatePhrase, clauses, update_toks, update_tree}
 use Rattle.alt_expr.specs.declared.token.Keyword.{Keyword}
 use Rattle.alt_expr.specs.declared.token.Keyword.TheVariants as k

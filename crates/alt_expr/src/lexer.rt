@@ -1,6 +1,6 @@
 //! The lexer: at each place behind separators it reads the longest token.
 
-ghost use Rattle.std.specs.Prelude.{◌≡◌, ◌≤◌, ◌-◌, suc, true, length, drop};
+ghost use Rattle.std.specs.Prelude.{◌≡◌, ◌≤◌, ◌-◌, suc, true, min, length, drop};
 ghost use Rattle.std.specs.List.{prefix_len, list_all};
 ghost use Rattle.std.specs.Char.{is_ascii_digit};
 ghost use Rattle.std.specs.Str.{str_eq_ignore_ascii_case};
@@ -92,7 +92,7 @@ fn look(bytes: &[u8]) -> Option<(Kind, usize)>
     } else if *b == b':' {
         signed(Kind::Colon, rest)
     } else if b.is_ascii_digit() {
-        Some((Kind::Index, digits_len(rest).min(8) + 1))
+        Some((Kind::Index, most_digits(rest) + 1))
     } else {
         look_mark(*b, rest)
     }
@@ -179,6 +179,13 @@ fn inner_len(bytes: &[u8]) -> usize
         }
     }
     bytes.len()
+}
+
+/// The digits behind the first of an index: at most eight are looked at.
+fn most_digits(rest: &[u8]) -> usize
+    ensures { result ≡ min (prefix_len is_ascii_digit rest.now) 8 }
+{
+    digits_len(&rest[..rest.len().min(8)])
 }
 
 fn digits_len(bytes: &[u8]) -> usize

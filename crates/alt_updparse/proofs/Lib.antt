@@ -3,7 +3,5 @@ pub mod Behind
 pub mod Complete
 pub mod Keywords
 pub mod LongLaws
-pub mod Prefixes
 pub mod Sound
-pub mod Targets
 pub mod Whole

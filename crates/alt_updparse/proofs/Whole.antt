@@ -5,7 +5,7 @@ use Rattle.std.specs.List.{list_any}
 use Rattle.alt_expr.specs.Tokens.{Tok}
 use Rattle.alt_expr.specs.Given.{Given}
 use Rattle.alt_expr.specs.Faults.{Parsed}
-use Rattle.alt_expr.specs.Read.{ReadsWhole}
+use Rattle.alt_expr.specs.Read.{ReadsWhole, ReadTokens}
 use Rattle.alt_expr.specs.UpdateGrammar.{UpdatePhrase, update_toks, update_tree}
 use Rattle.alt_expr.specs.UpdateLanguage.{updates, is_long_action, clause_keys, repeats_clause, targets_overlap}
 use Rattle.alt_expr.specs.declared.fault.ExprFault.{ExprFault}
@@ -62,3 +62,8 @@ parsed_no_memory g text = tt
 pub was_ok : {T E : Type 0} (r : Result T E) (P : Type 0) → is_err r ≡ false → OnOk r P → P
 was_ok (Ok t) P e h = h
 was_ok (Err f) P e h = absurd (cc)
+
+-- and of tokens too
+pub read_no_memory : (g : Given) (toks : List Tok) (whole : Bool) → ReadTokens updates g toks whole (Err fault.NoMemory)
+unfolding ReadTokens
+read_no_memory g toks whole = tt

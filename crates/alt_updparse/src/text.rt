@@ -102,7 +102,11 @@ fn read(
                 drop(actions);
                 return Err(ExprFault::RepeatedClause);
             }
-            if targets_overlap(actions.as_slice()) {
+            let Ok(overlap) = targets_overlap(alloc, actions.as_slice()) else {
+                drop(actions);
+                return Err(ExprFault::NoMemory);
+            };
+            if overlap {
                 drop(actions);
                 return Err(ExprFault::Overlap);
             }

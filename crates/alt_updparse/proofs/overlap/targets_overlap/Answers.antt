@@ -1,24 +1,13 @@
--- Each turn looks at one action more.
-use Rattle.std.proofs.Common.{◌≡◌, sym, ap, ◌∙◌, ◌+◌, true, false, drop, get_or}
-use Rattle.std.specs.List.{list_any}
-use Rattle.alt_updparse.specs.Steps.{overlaps_with}
-use Rattle.alt_updparse.proofs.Targets.{overlaps_here, overlaps_later}
+-- One action alone overlaps with none.
+use Rattle.std.proofs.Common.{◌≡◌, refl, ◌<◌, false, List, [], ◌∷◌, length, arith}
+use Rattle.alt_expr.specs.UpdateLanguage.{targets_overlap}
+use Rattle.alt_expr.specs.declared.update.Action.{Action}
 use Rattle.alt_updparse.proofs.overlap.targets_overlap.Goals as goal
 
-pub returns-then-overlaps_one : goal.returns-then-overlaps_one
-returns-then-overlaps_one c =
-    let xs = c.args.actions.now in
-    let later = drop (c.loop-place.place + 1) xs in
-    let told : list_any (overlaps_with (get_or xs c.loop-place.place c.index-actions-place.result)) later ≡ true =
-    ap (λ x. list_any (overlaps_with x) later) (sym c.index-actions-place.is) ∙ sym (c.overlaps_one.ensures ∙ ap (list_any (overlaps_with c.index-actions-place.result)) c.behind.ensures)
-    ∙ c.if-overlaps_one.true in
-    overlaps_here xs c.loop-place.place c.index-actions-place.result c.loop-place-test.true c.loop-place.invariant told
+alone : (xs : List Action) → length xs < 2 → false ≡ targets_overlap xs
+alone [] few = refl
+alone (x ∷ []) few = refl
+alone (x ∷ y ∷ xs) few = absurd (omega arith)
 
-pub loop-place-preserved : goal.loop-place-preserved
-loop-place-preserved c =
-    let xs = c.args.actions.now in
-    let later = drop (c.loop-place.place + 1) xs in
-    let told : list_any (overlaps_with (get_or xs c.loop-place.place c.index-actions-place.result)) later ≡ false =
-    ap (λ x. list_any (overlaps_with x) later) (sym c.index-actions-place.is) ∙ sym (c.overlaps_one.ensures ∙ ap (list_any (overlaps_with c.index-actions-place.result)) c.behind.ensures)
-    ∙ c.if-overlaps_one.false in
-    overlaps_later xs c.loop-place.place c.index-actions-place.result c.loop-place-test.true c.loop-place.invariant told
+pub returns-in-empty : goal.returns-in-empty
+returns-in-empty c = alone c.args.actions.now (omega (arith, c.in-empty.len_below))

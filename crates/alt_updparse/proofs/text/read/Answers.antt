@@ -5,7 +5,7 @@ use Rattle.alt_expr.specs.Tokens.{tok_of}
 use Rattle.alt_expr.specs.Lookups.{given_by}
 use Rattle.alt_expr.specs.UpdateLanguage.{updates, is_long_action, targets_overlap}
 use Rattle.alt_expr.proofs.Parsing.{read_too_deep, read_cut, read_err, read_undefined, read_too_many, read_repeated, read_overlap, read_tree, tree_read}
-use Rattle.alt_updparse.proofs.Whole.{clash, unique, repeats_by, crowded_is, overlaps_is}
+use Rattle.alt_updparse.proofs.Whole.{clash, unique, repeats_by, crowded_is, overlaps_is, read_no_memory}
 use Rattle.alt_updparse.proofs.text.read.Goals as goal
 
 pub returns-then-is_too_deep : goal.returns-then-is_too_deep
@@ -54,8 +54,8 @@ returns-then-repeats_clause c =
     (λ d is. sym (repeats_by d toks is) ∙ repeats_by tree.0 toks tree.1)
     (sym (repeats_by tree.0 toks tree.1) ∙ sym c.repeats_clause.ensures ∙ c.if-repeats_clause.true)
 
-pub returns-then-targets_overlap : goal.returns-then-targets_overlap
-returns-then-targets_overlap c =
+pub returns-then-overlap : goal.returns-then-overlap
+returns-then-overlap c =
     let g = given_by c.args.names.now c.args.values.now in
     let toks = map tok_of c.args.tokens.now in
     let tree = tree_read updates g toks c.in-Ok.actions c.in-Ok.ensures in
@@ -66,10 +66,10 @@ returns-then-targets_overlap c =
     (crowded_is c.in-Ok.actions ∙ ap (list_any is_long_action) (sym c.as_slice.ensures.members) ∙ sym c.is_crowded.ensures ∙ c.if-is_crowded.false)
     (λ d is. sym (repeats_by d toks is) ∙ repeats_by tree.0 toks tree.1)
     (sym (repeats_by tree.0 toks tree.1) ∙ sym c.repeats_clause.ensures ∙ c.if-repeats_clause.false)
-    (overlaps_is c.in-Ok.actions ∙ ap targets_overlap (sym c.as_slice-in-Ok.ensures.members) ∙ sym c.targets_overlap.ensures ∙ c.if-targets_overlap.true)
+    (overlaps_is c.in-Ok.actions ∙ ap targets_overlap (sym c.as_slice-in-Ok.ensures.members) ∙ sym c.in-Ok-targets_overlap.ensures ∙ c.if-overlap.true)
 
-pub returns-else-targets_overlap : goal.returns-else-targets_overlap
-returns-else-targets_overlap c =
+pub returns-else-overlap : goal.returns-else-overlap
+returns-else-overlap c =
     let g = given_by c.args.names.now c.args.values.now in
     let toks = map tok_of c.args.tokens.now in
     let tree = tree_read updates g toks c.in-Ok.actions c.in-Ok.ensures in
@@ -80,4 +80,7 @@ returns-else-targets_overlap c =
     (crowded_is c.in-Ok.actions ∙ ap (list_any is_long_action) (sym c.as_slice.ensures.members) ∙ sym c.is_crowded.ensures ∙ c.if-is_crowded.false)
     (λ d is. sym (repeats_by d toks is) ∙ repeats_by tree.0 toks tree.1)
     (sym (repeats_by tree.0 toks tree.1) ∙ sym c.repeats_clause.ensures ∙ c.if-repeats_clause.false)
-    (overlaps_is c.in-Ok.actions ∙ ap targets_overlap (sym c.as_slice-in-Ok.ensures.members) ∙ sym c.targets_overlap.ensures ∙ c.if-targets_overlap.false)
+    (overlaps_is c.in-Ok.actions ∙ ap targets_overlap (sym c.as_slice-in-Ok.ensures.members) ∙ sym c.in-Ok-targets_overlap.ensures ∙ c.if-overlap.false)
+
+pub returns-in_default : goal.returns-in_default
+returns-in_default c = read_no_memory (given_by c.args.names.now c.args.values.now) (map tok_of c.args.tokens.now) c.args.whole

@@ -1,15 +1,12 @@
 -- From the reader to the grammar.
-use Rattle.std.proofs.Common.{◌≡◌, ◌≢◌, Bool, true, false, refl, sym, ap, subst, ◌∙◌, ℕ, ◌+◌, ◌≤◌, List, [], ◌∷◌, length, map, Some, None, Ok, Err, arith, append-nil}
-use Rattle.std.specs.Prelude.{Result, is_err, OnOk}
+use Rattle.std.proofs.Common.{◌≡◌, ◌≢◌, false, refl, sym, ap, subst, ◌∙◌, ℕ, ◌+◌, ◌≤◌, List, [], length, Some, None, Ok, Err, arith, append-nil}
 use Rattle.alt_expr.specs.Tokens.{Tok}
 use Rattle.alt_expr.specs.Given.{Given}
 use Rattle.alt_expr.specs.CondGrammar.{CondPhrase, cond_toks, cond_tree}
 use Rattle.alt_expr.specs.Languages.{conditions}
 use Rattle.alt_expr.specs.Crowded.{is_crowded}
-use Rattle.alt_expr.specs.Faults.{Parsed}
 use Rattle.alt_expr.specs.Read.{ReadsWhole}
 use Rattle.alt_expr.proofs.Parsing.{whole_tree, whole_none}
-use Rattle.alt_expr.specs.Reader.{Reads}
 use Rattle.alt_expr.specs.declared.fault.ExprFault.{ExprFault}
 use Rattle.alt_expr.specs.declared.fault.ExprFault.TheVariants as fault
 use Rattle.alt_expr.specs.declared.cond.Cond.{Cond}
@@ -52,10 +49,6 @@ one_tree g d e same =
     let b = whole_read g e n (omega arith) in
     (some_pair _ _ (sym a ∙ ap (λ i. any (one g n) i) same ∙ b)).0
 
-pub length_none : {A : Type 0} (xs : List A) → length xs ≡ 0 → xs ≡ []
-length_none [] e = refl
-length_none (x ∷ xs) e = absurd (omega (arith, e))
-
 -- the same of the language, whose texts repeat no clause and whose paths may overlap
 pub unique : (g : Given) (d e : CondPhrase) → conditions.toks d ≡ conditions.toks e → conditions.tree g d ≡ conditions.tree g e
 unfolding conditions
@@ -72,16 +65,3 @@ never_overlaps t = refl
 pub crowded_is : (t : Cond) → conditions.is_crowded t ≡ is_crowded t
 unfolding conditions
 crowded_is t = refl
-
-pub clash : (b : Bool) → b ≡ true → b ≡ false → ⊥
-clash b p q = cc
-
--- want of memory is free
-pub parsed_no_memory : (g : Given) (text : List ℕ) → Parsed conditions g text (Err fault.NoMemory)
-unfolding Parsed
-parsed_no_memory g text = tt
-
--- what holds on Ok holds of a result that is no error
-pub was_ok : {T E : Type 0} (r : Result T E) (P : Type 0) → is_err r ≡ false → OnOk r P → P
-was_ok (Ok t) P e h = h
-was_ok (Err f) P e h = absurd (cc)

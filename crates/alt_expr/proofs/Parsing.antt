@@ -1,6 +1,6 @@
 -- From the tokens of a text to the text: which fault is the first, and that the tree is its own.
-use Rattle.std.proofs.Common.{◌≡◌, ◌≢◌, refl, sym, ap, subst, ◌∙◌, ℕ, ◌<◌, ◌≤◌, ◌⊎◌, inl, inr, Bool, true, false, List, [], ◌∷◌, length, Ok, Err, arith}
-use Rattle.std.specs.Prelude.{Result, ⊤}
+use Rattle.std.proofs.Common.{◌≡◌, ◌≢◌, refl, sym, subst, ◌∙◌, ℕ, ◌<◌, ◌≤◌, inl, inr, Bool, true, false, List, [], ◌∷◌, length, Ok, Err, arith}
+use Rattle.std.specs.Prelude.{Result}
 use Rattle.std.specs.List.{list_any}
 use Rattle.alt_expr.specs.Tokens.{Tok}
 use Rattle.alt_expr.specs.Given.{Given, is_unknown}
@@ -76,6 +76,16 @@ module _ {D A : Type 0} (L : Language D A) (g : Given) where
   pub parsed_too_long : (text : List ℕ) → 4096 < length text → Parsed L g text (Err fault.TooLong)
   unfolding Parsed
   parsed_too_long text long = inl (refl, long)
+
+  -- want of memory is free
+  pub parsed_no_memory : (text : List ℕ) → Parsed L g text (Err fault.NoMemory)
+  unfolding Parsed
+  parsed_no_memory text = tt
+
+  -- and so it is of tokens
+  pub read_no_memory : (toks : List Tok) (whole : Bool) → ReadTokens L g toks whole (Err fault.NoMemory)
+  unfolding ReadTokens
+  read_no_memory toks whole = tt
 
   -- ---- which fault of the tokens is the first
 

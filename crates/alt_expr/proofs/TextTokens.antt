@@ -1,12 +1,11 @@
 -- Each text has tokens.
-use Rattle.std.proofs.Common.{◌≡◌, refl, sym, ap, subst, ℕ, zero, suc, ◌<◌, ◌≤◌, ◌⊎◌, inl, inr, true, false, List, [], ◌∷◌, length, take, drop, Option, Some, None, arith, length-drop}
-use Rattle.alt_expr.specs.Lexed.{Lexes}
+use Rattle.std.proofs.Common.{◌≡◌, refl, ap, ℕ, zero, suc, ◌≤◌, ◌⊎◌, inl, inr, true, false, List, [], ◌∷◌, length, take, drop, Option, Some, None, arith, length-drop}
 use Rattle.alt_expr.specs.Look.{found, kind_tok}
-use Rattle.alt_expr.specs.Spelling.{skip, Stands}
+use Rattle.alt_expr.specs.Spelling.{skip}
 use Rattle.alt_expr.specs.Told.{TextTokens}
 use Rattle.alt_expr.specs.declared.lexer.Kind.{Kind}
-use Rattle.alt_expr.proofs.CondWhole.{length_none}
 use Rattle.alt_expr.proofs.Longest.{stands_of, none_of, skip_fits}
+use Rattle.alt_expr.proofs.Shared.{length_none}
 use Rattle.alt_expr.proofs.Tokenized.{stands_some}
 
 empty : (xs : List ℕ) → (xs ≡ []) ⊎ (xs ≡ [] → ⊥)

@@ -4,4 +4,3 @@ pub mod Walk
 pub mod Smaller
 pub mod Groups
 pub mod Steps
-pub mod WholePaths

@@ -3,14 +3,14 @@
 ghost use Rattle.std.specs.Prelude.{◌≡◌};
 ghost use Rattle.alt_expr.specs.Reader.{left, Reads};
 ghost use Rattle.alt_expr.specs.Lookups.{given_to};
-ghost use Rattle.alt_updparse.specs.Reader as spec;
+ghost use Rattle.alt_expr.specs.UpdateReader as spec;
 
 use crate::term::sum;
 use alt_expr::{Action, Cursor, ExprFault, Keyword, Lookups, Mark, Token, read_path};
 use alt_value::Attr;
 
 /// An action of the clause that has the keyword.
-#[tactic(auto, unfolding(crate::specs::Reader::action))]
+#[tactic(auto, unfolding(alt_expr::specs::UpdateReader::action))]
 pub(crate) fn action(
     clause: Keyword,
     given: &Lookups<'_>,
@@ -27,7 +27,7 @@ pub(crate) fn action(
     }
 }
 
-#[tactic(auto, unfolding(crate::specs::Reader::set))]
+#[tactic(auto, unfolding(alt_expr::specs::UpdateReader::set))]
 fn set(given: &Lookups<'_>, tokens: &mut Cursor<'_>) -> Result<Action, ExprFault>
     ensures { Reads (spec.set (given_to given.now) (left tokens.old)) result (left tokens.new) }
 {
@@ -36,14 +36,14 @@ fn set(given: &Lookups<'_>, tokens: &mut Cursor<'_>) -> Result<Action, ExprFault
     Ok(Action::Set(path, sum(given, tokens)?))
 }
 
-#[tactic(auto, unfolding(crate::specs::Reader::remove))]
+#[tactic(auto, unfolding(alt_expr::specs::UpdateReader::remove))]
 fn remove(given: &Lookups<'_>, tokens: &mut Cursor<'_>) -> Result<Action, ExprFault>
     ensures { Reads (spec.remove (given_to given.now) (left tokens.old)) result (left tokens.new) }
 {
     Ok(Action::Remove(read_path(given.alloc, given.names, tokens)?))
 }
 
-#[tactic(auto, unfolding(crate::specs::Reader::add))]
+#[tactic(auto, unfolding(alt_expr::specs::UpdateReader::add))]
 fn add(given: &Lookups<'_>, tokens: &mut Cursor<'_>) -> Result<Action, ExprFault>
     ensures { Reads (spec.add (given_to given.now) (left tokens.old)) result (left tokens.new) }
 {
@@ -51,7 +51,7 @@ fn add(given: &Lookups<'_>, tokens: &mut Cursor<'_>) -> Result<Action, ExprFault
     Ok(Action::Add(name, value(given, tokens)?))
 }
 
-#[tactic(auto, unfolding(crate::specs::Reader::delete))]
+#[tactic(auto, unfolding(alt_expr::specs::UpdateReader::delete))]
 fn delete(given: &Lookups<'_>, tokens: &mut Cursor<'_>) -> Result<Action, ExprFault>
     ensures { Reads (spec.delete (given_to given.now) (left tokens.old)) result (left tokens.new) }
 {
@@ -60,7 +60,7 @@ fn delete(given: &Lookups<'_>, tokens: &mut Cursor<'_>) -> Result<Action, ExprFa
 }
 
 /// The value of a `:` word.
-#[tactic(auto, unfolding(crate::specs::Reader::value))]
+#[tactic(auto, unfolding(alt_expr::specs::UpdateReader::value))]
 fn value(given: &Lookups<'_>, tokens: &mut Cursor<'_>) -> Result<Attr, ExprFault>
     ensures { Reads (spec.value (given_to given.now) (left tokens.old)) result (left tokens.new) }
 {

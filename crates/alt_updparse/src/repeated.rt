@@ -4,7 +4,7 @@ ghost use Rattle.std.specs.Prelude.{◌≡◌, false, map};
 ghost use Rattle.std.specs.List.{list_any};
 ghost use Rattle.alt_expr.specs.Tokens.{tok_of, is_key as key_is};
 ghost use Rattle.alt_expr.specs.UpdateLanguage.{clause_keys};
-ghost use Rattle.alt_updparse.specs.Keys as spec;
+ghost use Rattle.alt_expr.specs.UpdateKeys as spec;
 
 use alt_expr::{Keyword, Token, same_keyword};
 
@@ -18,7 +18,7 @@ pub(crate) fn repeats_clause(tokens: &[Token<'_>]) -> bool
         || is_twice(tokens, Keyword::Delete)
 }
 
-#[tactic(auto, unfolding(crate::specs::Keys::is_twice))]
+#[tactic(auto, unfolding(alt_expr::specs::UpdateKeys::is_twice))]
 fn is_twice(tokens: &[Token<'_>], keyword: Keyword) -> bool
     ensures { result ≡ spec.is_twice (map tok_of tokens.now) keyword }
 {

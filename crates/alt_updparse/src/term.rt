@@ -3,12 +3,12 @@
 ghost use Rattle.std.specs.Prelude.{◌≡◌};
 ghost use Rattle.alt_expr.specs.Reader.{left, Reads};
 ghost use Rattle.alt_expr.specs.Lookups.{given_to};
-ghost use Rattle.alt_updparse.specs.Reader as spec;
+ghost use Rattle.alt_expr.specs.UpdateReader as spec;
 
 use alt_expr::{Boxed, Cursor, ExprFault, Lookups, Mark, Sum, Term, Token, read_path};
 
 /// A term, or the sum or difference of two.
-#[tactic(auto, unfolding(crate::specs::Reader::sum))]
+#[tactic(auto, unfolding(alt_expr::specs::UpdateReader::sum))]
 pub(crate) fn sum(given: &Lookups<'_>, tokens: &mut Cursor<'_>) -> Result<Sum, ExprFault>
     ensures { Reads (spec.sum (given_to given.now) (left tokens.old)) result (left tokens.new) }
 {
@@ -23,7 +23,7 @@ pub(crate) fn sum(given: &Lookups<'_>, tokens: &mut Cursor<'_>) -> Result<Sum, E
 }
 
 /// A term, whose functions stand no deeper in one another than there are tokens.
-#[tactic(auto, unfolding(crate::specs::Reader::whole_term))]
+#[tactic(auto, unfolding(alt_expr::specs::UpdateReader::whole_term))]
 fn whole_term(given: &Lookups<'_>, tokens: &mut Cursor<'_>) -> Result<Term, ExprFault>
     ensures { Reads (spec.whole_term (given_to given.now) (left tokens.old)) result (left tokens.new) }
 {
@@ -51,7 +51,7 @@ fn term(given: &Lookups<'_>, tokens: &mut Cursor<'_>, depth: usize) -> Result<Te
 }
 
 #[cycle(term)]
-#[tactic(auto, unfolding(crate::specs::Reader::if_not_exists))]
+#[tactic(auto, unfolding(alt_expr::specs::UpdateReader::if_not_exists))]
 fn if_not_exists(
     given: &Lookups<'_>,
     tokens: &mut Cursor<'_>,
@@ -67,7 +67,7 @@ fn if_not_exists(
 }
 
 #[cycle(term)]
-#[tactic(auto, unfolding(crate::specs::Reader::list_append))]
+#[tactic(auto, unfolding(alt_expr::specs::UpdateReader::list_append))]
 fn list_append(
     given: &Lookups<'_>,
     tokens: &mut Cursor<'_>,
@@ -86,7 +86,7 @@ fn list_append(
 }
 
 /// A `:` word or a path.
-#[tactic(auto, unfolding(crate::specs::Reader::operand))]
+#[tactic(auto, unfolding(alt_expr::specs::UpdateReader::operand))]
 fn operand(given: &Lookups<'_>, tokens: &mut Cursor<'_>) -> Result<Term, ExprFault>
     ensures { Reads (spec.operand (given_to given.now) (left tokens.old)) result (left tokens.new) }
 {
@@ -100,7 +100,7 @@ fn operand(given: &Lookups<'_>, tokens: &mut Cursor<'_>) -> Result<Term, ExprFau
 }
 
 /// A path, behind whose first word no bracket stands.
-#[tactic(auto, unfolding(crate::specs::Reader::located))]
+#[tactic(auto, unfolding(alt_expr::specs::UpdateReader::located))]
 fn located(given: &Lookups<'_>, tokens: &mut Cursor<'_>) -> Result<Term, ExprFault>
     ensures { Reads (spec.located (given_to given.now) (left tokens.old)) result (left tokens.new) }
 {

@@ -3,7 +3,7 @@
 ghost use Rattle.std.specs.Prelude.{◌≡◌, ◌∷◌, ◌++◌, []};
 ghost use Rattle.alt_expr.specs.Reader.{left, Reads};
 ghost use Rattle.alt_expr.specs.Lookups.{given_to};
-ghost use Rattle.alt_updparse.specs.Reader as spec;
+ghost use Rattle.alt_expr.specs.UpdateReader as spec;
 
 use crate::action::action;
 use alt_expr::{Cursor, ExprFault, Items, Keyword, Lookups, Mark, Token, Update};
@@ -23,7 +23,7 @@ pub(crate) fn update(given: &Lookups<'_>, tokens: &mut Cursor<'_>) -> Result<Upd
     Err(ExprFault::Syntax)
 }
 
-#[tactic(auto, unfolding(crate::specs::Reader::is_done))]
+#[tactic(auto, unfolding(alt_expr::specs::UpdateReader::is_done))]
 fn is_done(tokens: &Cursor<'_>) -> bool
     ensures { result ≡ spec.is_done (left tokens.now) }
 {
@@ -31,7 +31,7 @@ fn is_done(tokens: &Cursor<'_>) -> bool
 }
 
 /// The actions found, and behind them those of a clause.
-#[tactic(auto, unfolding(crate::specs::Reader::clause))]
+#[tactic(auto, unfolding(alt_expr::specs::UpdateReader::clause))]
 fn clause(given: &Lookups<'_>, tokens: &mut Cursor<'_>, found: Update) -> Result<Update, ExprFault>
     ensures { Reads (spec.clause (given_to given.now) found (left tokens.old)) result (left tokens.new) }
 {

@@ -8,9 +8,9 @@ use Rattle.alt_expr.specs.Given.{with_hashes, with_colons}
 use Rattle.alt_expr.specs.NamesGiven.{used_names, used_values}
 use Rattle.alt_expr.specs.declared.fault.ExprFault.TheVariants as fault
 use Rattle.alt_expr.specs.declared.cond.Cond.{Cond}
-use Rattle.alt_expr.proofs.Parsing.{parsed_too_long, parsed_by_tokens, reaches_end}
+use Rattle.alt_expr.proofs.Parsing.{parsed_too_long, parsed_by_tokens, reaches_end, parsed_no_memory}
 use Rattle.alt_expr.proofs.Noting.{notes_hashes, no_hashes, notes_colons, no_colons}
-use Rattle.alt_expr.proofs.CondWhole.{parsed_no_memory, was_ok}
+use Rattle.alt_expr.proofs.Shared.{was_ok}
 use Rattle.alt_condparse.proofs.text.parse.Goals as goal
 
 pub returns-then-text-gt-MOST_BYTES-clause-parsed : goal.returns-then-text-gt-MOST_BYTES-clause-parsed
@@ -27,7 +27,7 @@ returns-then-text-gt-MOST_BYTES-clause-values c =
 
 pub returns-in_default-clause-parsed : goal.returns-in_default-clause-parsed
 returns-in_default-clause-parsed c =
-    parsed_no_memory (given_by c.args.names.now c.args.values.now) c.args.text.now
+    parsed_no_memory conditions (given_by c.args.names.now c.args.values.now) c.args.text.now
 
 pub returns-in_default-clause-names : goal.returns-in_default-clause-names
 returns-in_default-clause-names c =
@@ -53,7 +53,7 @@ returns-in-Err-clause-values c =
 
 pub returns-then-is_err-clause-parsed : goal.returns-then-is_err-clause-parsed
 returns-then-is_err-clause-parsed c =
-    parsed_no_memory (given_by c.args.names.now c.args.values.now) c.args.text.now
+    parsed_no_memory conditions (given_by c.args.names.now c.args.values.now) c.args.text.now
 
 pub returns-then-is_err-clause-names : goal.returns-then-is_err-clause-names
 returns-then-is_err-clause-names c =

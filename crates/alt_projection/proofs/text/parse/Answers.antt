@@ -8,9 +8,9 @@ use Rattle.alt_expr.specs.Given.{with_hashes}
 use Rattle.alt_expr.specs.NamesGiven.{given_names, used_names}
 use Rattle.alt_expr.specs.declared.fault.ExprFault.TheVariants as fault
 use Rattle.alt_expr.specs.declared.path.PathPart.{PathPart}
-use Rattle.alt_expr.proofs.Parsing.{parsed_too_long, parsed_by_tokens, reaches_end}
+use Rattle.alt_expr.proofs.Parsing.{parsed_too_long, parsed_by_tokens, reaches_end, parsed_no_memory}
 use Rattle.alt_expr.proofs.Noting.{notes_hashes, no_hashes}
-use Rattle.alt_projection.proofs.WholePaths.{parsed_no_memory, was_ok}
+use Rattle.alt_expr.proofs.Shared.{was_ok}
 use Rattle.alt_projection.proofs.text.parse.Goals as goal
 
 pub returns-then-text-gt-MOST_BYTES-clause-parsed : goal.returns-then-text-gt-MOST_BYTES-clause-parsed
@@ -23,7 +23,7 @@ returns-then-text-gt-MOST_BYTES-clause-names c =
 
 pub returns-in_default-clause-parsed : goal.returns-in_default-clause-parsed
 returns-in_default-clause-parsed c =
-    parsed_no_memory (given_names c.args.names.now) c.args.text.now
+    parsed_no_memory projections (names_alone (given_names c.args.names.now)) c.args.text.now
 
 pub returns-in_default-clause-names : goal.returns-in_default-clause-names
 returns-in_default-clause-names c =
@@ -41,7 +41,7 @@ returns-in-Err-clause-names c =
 
 pub returns-then-is_err-clause-parsed : goal.returns-then-is_err-clause-parsed
 returns-then-is_err-clause-parsed c =
-    parsed_no_memory (given_names c.args.names.now) c.args.text.now
+    parsed_no_memory projections (names_alone (given_names c.args.names.now)) c.args.text.now
 
 pub returns-then-is_err-clause-names : goal.returns-then-is_err-clause-names
 returns-then-is_err-clause-names c =

@@ -7,8 +7,9 @@ use Rattle.alt_expr.specs.Tokens.{tok_of}
 use Rattle.alt_expr.specs.Lookups.{names_alone}
 use Rattle.alt_expr.specs.NamesGiven.{given_names}
 use Rattle.alt_expr.specs.Languages.{projections}
-use Rattle.alt_expr.proofs.Parsing.{read_too_deep, read_cut, read_err, read_undefined, read_too_many, read_overlap, read_tree, tree_read}
-use Rattle.alt_projection.proofs.WholePaths.{clash, unique, never_repeats, overlaps_is, crowded_is, read_no_memory}
+use Rattle.alt_expr.proofs.Parsing.{read_too_deep, read_cut, read_err, read_undefined, read_too_many, read_overlap, read_tree, tree_read, read_no_memory}
+use Rattle.alt_expr.proofs.Shared.{clash}
+use Rattle.alt_expr.proofs.PathsWhole.{unique, never_repeats, overlaps_is, crowded_is}
 use Rattle.alt_projection.proofs.text.read.Goals as goal
 
 pub returns-then-is_too_deep : goal.returns-then-is_too_deep
@@ -30,7 +31,7 @@ returns-then-has_unknown c =
     let tree = tree_read projections (names_alone (given_names c.args.names.now)) (map tok_of c.args.tokens.now) c.in-Ok.paths c.in-Ok.ensures in
     read_undefined projections (names_alone (given_names c.args.names.now)) (map tok_of c.args.tokens.now) c.args.whole
     (λ deep. clash c.is_too_deep.result (c.is_too_deep.ensures.1 deep) c.if-is_too_deep.false) c.if-not-whole.false
-    c.in-Ok.paths tree (unique (given_names c.args.names.now))
+    c.in-Ok.paths tree (unique (names_alone (given_names c.args.names.now)))
     (sym c.has_unknown.ensures ∙ c.if-has_unknown.true)
 
 pub returns-then-has_long : goal.returns-then-has_long
@@ -38,20 +39,20 @@ returns-then-has_long c =
     let tree = tree_read projections (names_alone (given_names c.args.names.now)) (map tok_of c.args.tokens.now) c.in-Ok.paths c.in-Ok.ensures in
     read_too_many projections (names_alone (given_names c.args.names.now)) (map tok_of c.args.tokens.now) c.args.whole
     (λ deep. clash c.is_too_deep.result (c.is_too_deep.ensures.1 deep) c.if-is_too_deep.false) c.if-not-whole.false
-    c.in-Ok.paths tree (unique (given_names c.args.names.now))
+    c.in-Ok.paths tree (unique (names_alone (given_names c.args.names.now)))
     (sym c.has_unknown.ensures ∙ c.if-has_unknown.false)
     (crowded_is c.in-Ok.paths ∙ ap (list_any is_long) (sym c.as_slice.ensures.members) ∙ sym c.has_long.ensures ∙ c.if-has_long.true)
 
 pub returns-in-Err-some_overlap : goal.returns-in-Err-some_overlap
 returns-in-Err-some_overlap c =
-    read_no_memory (given_names c.args.names.now) (map tok_of c.args.tokens.now) c.args.whole
+    read_no_memory projections (names_alone (given_names c.args.names.now)) (map tok_of c.args.tokens.now) c.args.whole
 
 pub returns-in-Ok-true : goal.returns-in-Ok-true
 returns-in-Ok-true c =
     let tree = tree_read projections (names_alone (given_names c.args.names.now)) (map tok_of c.args.tokens.now) c.in-Ok.paths c.in-Ok.ensures in
     read_overlap projections (names_alone (given_names c.args.names.now)) (map tok_of c.args.tokens.now) c.args.whole
     (λ deep. clash c.is_too_deep.result (c.is_too_deep.ensures.1 deep) c.if-is_too_deep.false) c.if-not-whole.false
-    c.in-Ok.paths tree (unique (given_names c.args.names.now))
+    c.in-Ok.paths tree (unique (names_alone (given_names c.args.names.now)))
     (sym c.has_unknown.ensures ∙ c.if-has_unknown.false)
     (crowded_is c.in-Ok.paths ∙ ap (list_any is_long) (sym c.as_slice.ensures.members) ∙ sym c.has_long.ensures ∙ c.if-has_long.false)
     (λ d is. never_repeats d ∙ sym (never_repeats tree.0)) (never_repeats tree.0)
@@ -62,7 +63,7 @@ returns-in-Ok-false c =
     let tree = tree_read projections (names_alone (given_names c.args.names.now)) (map tok_of c.args.tokens.now) c.in-Ok.paths c.in-Ok.ensures in
     read_tree projections (names_alone (given_names c.args.names.now)) (map tok_of c.args.tokens.now) c.args.whole
     (λ deep. clash c.is_too_deep.result (c.is_too_deep.ensures.1 deep) c.if-is_too_deep.false) c.if-not-whole.false
-    c.in-Ok.paths tree (unique (given_names c.args.names.now))
+    c.in-Ok.paths tree (unique (names_alone (given_names c.args.names.now)))
     (sym c.has_unknown.ensures ∙ c.if-has_unknown.false)
     (crowded_is c.in-Ok.paths ∙ ap (list_any is_long) (sym c.as_slice.ensures.members) ∙ sym c.has_long.ensures ∙ c.if-has_long.false)
     (λ d is. never_repeats d ∙ sym (never_repeats tree.0)) (never_repeats tree.0)

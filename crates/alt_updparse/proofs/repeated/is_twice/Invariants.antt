@@ -1,6 +1,6 @@
 use Rattle.std.proofs.Common.{◌≡◌, false, drop, map}
 use Rattle.alt_expr.specs.Tokens.{tok_of}
-use Rattle.alt_updparse.specs.Keys.{is_again}
+use Rattle.alt_expr.specs.UpdateKeys.{is_again}
 use Rattle.alt_updparse.proofs.repeated.is_twice.Given as goal
 
 abbrev pub invariant-loop-token : goal.invariant-loop-token

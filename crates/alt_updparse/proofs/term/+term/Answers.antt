@@ -5,7 +5,7 @@ use Rattle.std.proofs.lemmas.Grind.{common_steps}
 use Rattle.alt_expr.specs.Reader.{left, calls}
 use Rattle.alt_expr.specs.Lookups.{given_to}
 use Rattle.alt_expr.proofs.Turns.{deeper}
-use Rattle.alt_updparse.specs.Reader.{term}
+use Rattle.alt_expr.specs.UpdateReader.{term}
 use Rattle.alt_updparse.proofs.term.+term.Goals as goal
 
 pub term-returns-then-depth-eq0 : goal.term-returns-then-depth-eq0

@@ -4,8 +4,9 @@ use Rattle.std.specs.List.{list_any}
 use Rattle.alt_expr.specs.Tokens.{tok_of}
 use Rattle.alt_expr.specs.Lookups.{given_by}
 use Rattle.alt_expr.specs.UpdateLanguage.{updates, is_long_action, targets_overlap}
-use Rattle.alt_expr.proofs.Parsing.{read_too_deep, read_cut, read_err, read_undefined, read_too_many, read_repeated, read_overlap, read_tree, tree_read}
-use Rattle.alt_updparse.proofs.Whole.{clash, unique, repeats_by, crowded_is, overlaps_is, read_no_memory}
+use Rattle.alt_expr.proofs.Parsing.{read_too_deep, read_cut, read_err, read_undefined, read_too_many, read_repeated, read_overlap, read_tree, tree_read, read_no_memory}
+use Rattle.alt_expr.proofs.Shared.{clash}
+use Rattle.alt_expr.proofs.UpdateWhole.{unique, repeats_by, crowded_is, overlaps_is}
 use Rattle.alt_updparse.proofs.text.read.Goals as goal
 
 pub returns-then-is_too_deep : goal.returns-then-is_too_deep
@@ -83,4 +84,4 @@ returns-else-overlap c =
     (overlaps_is c.in-Ok.actions ∙ ap targets_overlap (sym c.as_slice-in-Ok.ensures.members) ∙ sym c.in-Ok-targets_overlap.ensures ∙ c.if-overlap.false)
 
 pub returns-in_default : goal.returns-in_default
-returns-in_default c = read_no_memory (given_by c.args.names.now c.args.values.now) (map tok_of c.args.tokens.now) c.args.whole
+returns-in_default c = read_no_memory updates (given_by c.args.names.now c.args.values.now) (map tok_of c.args.tokens.now) c.args.whole

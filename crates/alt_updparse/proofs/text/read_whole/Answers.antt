@@ -9,8 +9,8 @@ use Rattle.alt_expr.specs.Read.{ReadsWhole}
 use Rattle.alt_expr.specs.UpdateLanguage.{updates}
 use Rattle.alt_expr.specs.declared.fault.ExprFault.{ExprFault}
 use Rattle.alt_expr.specs.declared.update.Action.{Action}
-use Rattle.alt_updparse.specs.Reader.{update}
-use Rattle.alt_updparse.proofs.Whole.{read_all, read_none}
+use Rattle.alt_expr.specs.UpdateReader.{update}
+use Rattle.alt_expr.proofs.UpdateWhole.{read_all, read_none}
 use Rattle.alt_updparse.proofs.text.read_whole.Goals as goal
 
 read_to : (g : Given) (toks : List Tok) (r : Result (List Action) ExprFault) (rest : List Tok) → Reads (update g toks) r rest → ReadsWhole updates g toks r

@@ -2,7 +2,7 @@
 use Rattle.std.proofs.Common.{◌≡◌, ◌-◌}
 use Rattle.alt_expr.specs.Reader.{left, listed_from}
 use Rattle.alt_expr.specs.Lookups.{given_to}
-use Rattle.alt_updparse.specs.Reader.{action, listed_behind}
+use Rattle.alt_expr.specs.UpdateReader.{action, listed_behind}
 use Rattle.alt_updparse.proofs.update.actions.Given as goal
 
 abbrev pub invariant-loop-turn : goal.invariant-loop-turn

@@ -4,7 +4,7 @@ use Rattle.std.proofs.lemmas.Grind.{common_steps}
 use Rattle.alt_expr.specs.Reader.{left}
 use Rattle.alt_expr.specs.Lookups.{given_to}
 use Rattle.alt_expr.proofs.Turns.{one_more, no_more}
-use Rattle.alt_updparse.specs.Reader.{update, clauses_from}
+use Rattle.alt_expr.specs.UpdateReader.{update, clauses_from}
 use Rattle.alt_updparse.proofs.update.update.Goals as goal
 
 pub loop-turn-init : goal.loop-turn-init

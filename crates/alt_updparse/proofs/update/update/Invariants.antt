@@ -2,7 +2,7 @@
 use Rattle.std.proofs.Common.{◌≡◌, ◌-◌}
 use Rattle.alt_expr.specs.Reader.{left}
 use Rattle.alt_expr.specs.Lookups.{given_to}
-use Rattle.alt_updparse.specs.Reader.{update, clauses_from}
+use Rattle.alt_expr.specs.UpdateReader.{update, clauses_from}
 use Rattle.alt_updparse.proofs.update.update.Given as goal
 
 abbrev pub invariant-loop-turn : goal.invariant-loop-turn

@@ -1,9 +1,9 @@
 -- What is read was derived, and its tree is the phrase's.
-use Rattle.std.proofs.Common.{◌≡◌, refl, sym, ap, subst, ◌∙◌, ℕ, zero, suc, Bool, true, false, ◌⊎◌, inl, inr, List, [], ◌∷◌, ◌++◌, length, map, drop, Option, Some, None, arith, append_assoc, append-nil}
+use Rattle.std.proofs.Common.{◌≡◌, refl, sym, ap, ◌∙◌, ℕ, zero, suc, true, inl, inr, List, [], ◌∷◌, ◌++◌, length, map, drop, Some, None, arith, append_assoc, append-nil}
 use borrow.Author.Tests.{eqb-true}
-use Rattle.std.specs.Prelude.{codes, ◌==◌}
+use Rattle.std.specs.Prelude.{codes}
 use Rattle.alt_value.specs.declared.attr.Attr.{Attr}
-use Rattle.alt_expr.specs.Tokens.{Tok, key, word, hash, colon, index, mark}
+use Rattle.alt_expr.specs.Tokens.{Tok, key, word, hash, colon, mark}
 use Rattle.alt_expr.specs.Given.{Given, value_of, name_of}
 use Rattle.alt_expr.specs.declared.token.Keyword.{Keyword}
 use Rattle.alt_expr.specs.declared.token.Keyword.TheVariants as k
@@ -15,13 +15,13 @@ use Rattle.alt_expr.specs.declared.update.Sum.TheVariants as s
 use Rattle.alt_expr.specs.declared.update.Action.{Action}
 use Rattle.alt_expr.specs.declared.update.Action.TheVariants as a
 use Rattle.alt_expr.specs.PathGrammar.{NamePhrase, plain, hashed, name_tok, name_text, path_toks, path_tree, between_toks}
-use Rattle.alt_expr.specs.UpdateGrammar.{TermPhrase, at, value, if_not_exists, list_append, SumPhrase, one, plus, minus, SetPhrase, set, PairPhrase, pair, ClausePhrase, sets, removes, adds, deletes, UpdatePhrase, clauses, term_toks, sum_toks, set_toks, pair_toks, clause_toks, clauses_toks, update_toks, term_tree, sum_tree, set_tree, remove_tree, add_tree, delete_tree, clause_tree, clauses_tree, update_tree}
-use Rattle.alt_expr.specs.Reader.{Outcome, Parser, and_then, sees_mark, calls, is_call, after_mark, expect, name, path, listed}
+use Rattle.alt_expr.specs.UpdateGrammar.{at, value, if_not_exists, list_append, one, plus, minus, set, PairPhrase, pair, ClausePhrase, sets, removes, adds, deletes, UpdatePhrase, clauses, term_toks, sum_toks, set_toks, pair_toks, clause_toks, clauses_toks, update_toks, term_tree, sum_tree, set_tree, remove_tree, add_tree, delete_tree, clause_tree, clauses_tree, update_tree}
+use Rattle.alt_expr.specs.Reader.{Parser, and_then, sees_mark, calls, is_call, after_mark, expect, name, path, listed}
 use Rattle.alt_expr.proofs.Seen.{Derived, then_some, some_pair, none_some, either_way, mark_seen, expected, called}
 use Rattle.alt_expr.proofs.PathFound.{path_sound}
 use Rattle.alt_expr.proofs.Lists.{listed_sound}
-use Rattle.alt_updparse.specs.Reader as r
-use Rattle.alt_updparse.proofs.Behind.{behind, put_behind}
+use Rattle.alt_expr.specs.UpdateReader as r
+use Rattle.alt_expr.proofs.UpdateBehind.{behind}
 
 -- ---- terms
 

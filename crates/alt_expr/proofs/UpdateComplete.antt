@@ -1,23 +1,21 @@
 -- What a phrase derives is read as its tree.
-use Rattle.std.proofs.Common.{◌≡◌, refl, sym, ap, ◌∙◌, ℕ, zero, suc, ◌+◌, ◌<◌, ◌≤◌, Bool, true, false, List, [], ◌∷◌, ◌++◌, length, map, Some, None, arith, append_assoc, append-nil, length-append}
+use Rattle.std.proofs.Common.{◌≡◌, refl, sym, ap, ◌∙◌, ℕ, zero, suc, ◌+◌, ◌<◌, ◌≤◌, false, List, [], ◌∷◌, ◌++◌, length, map, Some, arith, append_assoc, append-nil, length-append}
 use Rattle.std.specs.Prelude.{codes, ◌==◌}
 use Rattle.std.proofs.lemmas.Bool.Decides.{nat_tests}
-use Rattle.alt_expr.specs.Tokens.{Tok, key, word, colon, mark}
+use Rattle.alt_expr.specs.Tokens.{Tok, key, colon, mark}
 use Rattle.alt_expr.specs.Given.{Given, value_of}
 use Rattle.alt_expr.specs.declared.token.Keyword.{Keyword}
 use Rattle.alt_expr.specs.declared.token.Keyword.TheVariants as k
 use Rattle.alt_expr.specs.declared.token.Mark.TheVariants as m
-use Rattle.alt_expr.specs.declared.update.Term.{Term}
 use Rattle.alt_expr.specs.declared.update.Term.TheVariants as t
 use Rattle.alt_expr.specs.declared.update.Action.{Action}
-use Rattle.alt_expr.specs.declared.update.Action.TheVariants as a
-use Rattle.alt_expr.specs.PathGrammar.{PathPhrase, path, plain, hashed, path_toks, call_toks, path_tree, between_toks}
+use Rattle.alt_expr.specs.PathGrammar.{PathPhrase, path, plain, hashed, path_toks, path_tree, between_toks}
 use Rattle.alt_expr.specs.UpdateGrammar.{TermPhrase, at, value, if_not_exists, list_append, SumPhrase, one, plus, minus, SetPhrase, set, PairPhrase, pair, ClausePhrase, sets, removes, adds, deletes, UpdatePhrase, clauses, term_toks, sum_toks, set_toks, pair_toks, clause_toks, clauses_toks, update_toks, term_tree, sum_tree, set_tree, remove_tree, add_tree, delete_tree, clause_tree, clauses_tree, update_tree}
-use Rattle.alt_expr.specs.Reader.{Parser, sees_mark, calls, after_mark, expect, name, listed}
+use Rattle.alt_expr.specs.Reader.{sees_mark, calls, after_mark, expect, name}
 use Rattle.alt_expr.proofs.PathRead.{Ends, path_read, no_call, not_call, ends_key, ends_close, ends_comma, ends_nothing}
 use Rattle.alt_expr.proofs.Lists.{listed_read}
-use Rattle.alt_updparse.specs.Reader as r
-use Rattle.alt_updparse.proofs.Behind.{behind, put_behind}
+use Rattle.alt_expr.specs.UpdateReader as r
+use Rattle.alt_expr.proofs.UpdateBehind.{behind, put_behind}
 
 -- what may stand behind an action: a comma, a clause's keyword, or nothing
 pub record Closed (rest : List Tok) : Type 0 where

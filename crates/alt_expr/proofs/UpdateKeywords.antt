@@ -1,17 +1,17 @@
 -- The keywords of an update's text are those of its clauses.
-use Rattle.std.proofs.Common.{◌≡◌, refl, sym, ap, ◌∙◌, ℕ, zero, suc, ◌+◌, Bool, true, false, cond, ◌||◌, nat_lt, List, [], ◌∷◌, ◌++◌, append_assoc, append-nil, arith}
+use Rattle.std.proofs.Common.{◌≡◌, refl, sym, ap, ◌∙◌, ℕ, ◌+◌, Bool, true, false, cond, nat_lt, List, [], ◌∷◌, ◌++◌, append_assoc, arith}
 use Rattle.std.specs.Prelude.{codes}
 use Rattle.std.specs.List.{list_any, count_by}
 use Rattle.std.proofs.lemmas.Bool.Decides.{nat_tests}
 use Rattle.std.proofs.lemmas.List.Sums.{sum_by-cons}
-use Rattle.alt_expr.specs.Tokens.{Tok, key, word, colon, mark, same_keyword}
+use Rattle.alt_expr.specs.Tokens.{Tok, mark, same_keyword}
 use Rattle.alt_expr.specs.declared.token.Keyword.{Keyword}
 use Rattle.alt_expr.specs.declared.token.Keyword.TheVariants as k
 use Rattle.alt_expr.specs.declared.token.Mark.TheVariants as m
 use Rattle.alt_expr.specs.PathGrammar.{plain, hashed, StepPhrase, dotted, indexed, PathPhrase, path, step_toks, steps_toks, path_toks, call_toks, between_toks}
 use Rattle.alt_expr.specs.UpdateGrammar.{TermPhrase, at, value, if_not_exists, list_append, SumPhrase, one, plus, minus, SetPhrase, set, PairPhrase, pair, ClausePhrase, sets, removes, adds, deletes, UpdatePhrase, clauses, term_toks, sum_toks, set_toks, pair_toks, clause_toks, clauses_toks, update_toks}
 use Rattle.alt_expr.specs.UpdateLanguage.{clause_key, stands_twice, clause_keys, repeats_clause}
-use Rattle.alt_updparse.specs.Keys.{is_again, is_twice}
+use Rattle.alt_expr.specs.UpdateKeys.{is_again, is_twice}
 
 -- no keyword is among the tokens, so that a walk goes on behind them as before
 abbrev Plain : List Tok → Type 0

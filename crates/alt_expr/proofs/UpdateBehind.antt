@@ -1,10 +1,10 @@
 -- Actions behind others are the list of them alone, behind those.
-use Rattle.std.proofs.Common.{◌≡◌, refl, sym, ap, ◌∙◌, ℕ, zero, suc, Bool, true, false, cond, List, [], ◌∷◌, ◌++◌, length, Option, Some, None, append_assoc, append-nil}
+use Rattle.std.proofs.Common.{◌≡◌, refl, ap, ◌∙◌, ℕ, zero, suc, Bool, true, false, cond, List, [], ◌∷◌, ◌++◌, length, Some, None, append_assoc}
 use Rattle.alt_expr.specs.Tokens.{Tok}
 use Rattle.alt_expr.specs.declared.token.Mark.TheVariants as m
 use Rattle.alt_expr.specs.declared.update.Action.{Action}
 use Rattle.alt_expr.specs.Reader.{Outcome, Parser, and_then, sees_mark, after_mark, listed, listed_from}
-use Rattle.alt_updparse.specs.Reader.{listed_behind}
+use Rattle.alt_expr.specs.UpdateReader.{listed_behind}
 
 -- an outcome whose list stands behind another
 abbrev pub put_behind : List Action → Outcome (List Action) → Outcome (List Action)

@@ -1,23 +1,21 @@
--- From the reader to the grammar.
-use Rattle.std.proofs.Common.{◌≡◌, ◌≢◌, Bool, true, false, refl, sym, ap, subst, ◌∙◌, ℕ, List, [], Some, None, Ok, Err}
-use Rattle.std.specs.Prelude.{Result, is_err, OnOk}
+-- Updates: from the reader to the grammar.
+use Rattle.std.proofs.Common.{◌≡◌, ◌≢◌, refl, sym, ap, ◌∙◌, List, Some, None, Ok, Err}
 use Rattle.std.specs.List.{list_any}
 use Rattle.alt_expr.specs.Tokens.{Tok}
 use Rattle.alt_expr.specs.Given.{Given}
-use Rattle.alt_expr.specs.Faults.{Parsed}
-use Rattle.alt_expr.specs.Read.{ReadsWhole, ReadTokens}
-use Rattle.alt_expr.specs.UpdateGrammar.{UpdatePhrase, update_toks, update_tree}
-use Rattle.alt_expr.specs.UpdateLanguage.{updates, is_long_action, clause_keys, repeats_clause, targets_overlap}
+use Rattle.alt_expr.specs.Read.{ReadsWhole}
+use Rattle.alt_expr.specs.UpdateGrammar.{UpdatePhrase}
+use Rattle.alt_expr.specs.UpdateLanguage.{updates, is_long_action, clause_keys, targets_overlap}
 use Rattle.alt_expr.specs.declared.fault.ExprFault.{ExprFault}
 use Rattle.alt_expr.specs.declared.fault.ExprFault.TheVariants as fault
 use Rattle.alt_expr.specs.declared.update.Action.{Action}
 use Rattle.alt_expr.proofs.Parsing.{whole_tree, whole_none}
 use Rattle.alt_expr.proofs.Seen.{some_pair, none_some}
-use Rattle.alt_updparse.specs.Keys.{is_twice}
-use Rattle.alt_updparse.specs.Reader.{update}
-use Rattle.alt_updparse.proofs.Complete.{update_read}
-use Rattle.alt_updparse.proofs.Keywords.{repeats_is}
-use Rattle.alt_updparse.proofs.Sound.{update_sound}
+use Rattle.alt_expr.specs.UpdateKeys.{is_twice}
+use Rattle.alt_expr.specs.UpdateReader.{update}
+use Rattle.alt_expr.proofs.UpdateComplete.{update_read}
+use Rattle.alt_expr.proofs.UpdateKeywords.{repeats_is}
+use Rattle.alt_expr.proofs.UpdateSound.{update_sound}
 
 module _ (g : Given) (toks : List Tok) where
   -- what is read is the tree
@@ -49,21 +47,3 @@ crowded_is xs = refl
 pub overlaps_is : (xs : List Action) → updates.overlaps xs ≡ targets_overlap xs
 unfolding updates
 overlaps_is xs = refl
-
-pub clash : (b : Bool) → b ≡ true → b ≡ false → ⊥
-clash b p q = cc
-
--- want of memory is free
-pub parsed_no_memory : (g : Given) (text : List ℕ) → Parsed updates g text (Err fault.NoMemory)
-unfolding Parsed
-parsed_no_memory g text = tt
-
--- what holds on Ok holds of a result that is no error
-pub was_ok : {T E : Type 0} (r : Result T E) (P : Type 0) → is_err r ≡ false → OnOk r P → P
-was_ok (Ok t) P e h = h
-was_ok (Err f) P e h = absurd (cc)
-
--- and of tokens too
-pub read_no_memory : (g : Given) (toks : List Tok) (whole : Bool) → ReadTokens updates g toks whole (Err fault.NoMemory)
-unfolding ReadTokens
-read_no_memory g toks whole = tt

@@ -1,5 +1,5 @@
 -- What each function of the parser reads. Private contracts alone cite it; that it meets the grammar is proved of `parse`.
-use Rattle.std.specs.Prelude.{ℕ, zero, suc, Bool, true, false, ◌==◌, if◌then◌else◌, List, [], ◌∷◌, ◌++◌, length, Option, Some, None, codes}
+use Rattle.std.specs.Prelude.{ℕ, zero, suc, Bool, ◌==◌, if◌then◌else◌, List, [], ◌∷◌, ◌++◌, length, Some, None, codes}
 use Rattle.alt_value.specs.declared.attr.Attr.{Attr}
 use Rattle.alt_expr.specs.Tokens.{Tok, key, colon}
 use Rattle.alt_expr.specs.Given.{Given, value_of}

@@ -1,14 +1,15 @@
 -- All edits of an update, and all its changes: one more.
-use Rattle.std.proofs.Common.{◌≡◌, refl, sym, ap, ◌∙◌, ℕ, suc, ◌+◌, ◌<◌, Bool, true, false, cond, ◌&&◌, ◌||◌, List, [], ◌∷◌, ◌++◌, map, drop, drop-cons, add-one, length, get_or, Option, Some, None, Vec, Global, Ok, Err}
+use Rattle.std.proofs.Common.{◌≡◌, refl, sym, ap, subst, ◌∙◌, ℕ, suc, ◌+◌, ◌<◌, Bool, true, false, cond, ◌&&◌, ◌||◌, List, [], ◌∷◌, ◌++◌, map, drop, drop-cons, add-one, length, get_or, Option, Some, None, Vec, Global, Ok, Err}
 use Rattle.std.specs.Prelude.{Result, option_map, filter, slice_get, if◌then◌else◌}
-use Rattle.std.specs.List.{list_any}
+use Rattle.std.specs.List.{list_any, AllByRecursion}
 use Rattle.std.specs.List.Sorted.{IsStrictlySortedBy}
 use Rattle.std.specs.Map.{lookup, keys_of}
 use Rattle.std.specs.Option.{option_map_or}
 use Rattle.std.specs.Str.{bytes_eq}
 use Rattle.std.specs.Ordering.{eq_by_cmp}
 use Rattle.std.specs.Cmp.Lexicographic.{texts_ties}
-use Rattle.std.proofs.lemmas.List.{append_assoc}
+use Rattle.std.specs.declared.cmp.Ordering.TheVariants.{Less}
+use Rattle.std.proofs.lemmas.List.{append_assoc, map-append}
 use denote.Ref.{Bor}
 use Rattle.alt_value.specs.Members.{text_order}
 use Rattle.alt_value.specs.Stands.{tree_of}
@@ -93,6 +94,42 @@ wanted item es q = after (under (Name q) es) (item q)
 -- each name that was seen is changed as the edits say, and no other is
 abbrev pub Changes : View → List Edit → List (Bor (List ℕ) × Vec Rest Global) → List AttrChange → Type 0
 Changes item es gs cs = (q : List ℕ) → changed_by cs item q ≡ cond (is_seen gs q) (wanted item es q) (item q)
+
+-- so they are, and the changes have the names of the groups
+pub record ChangesSoFar (item : View) (es : List Edit) (gs : List (Bor (List ℕ) × Vec Rest Global))
+    (cs : List AttrChange) : Type 0 where
+  pub changes : Changes item es gs cs
+  pub names : map (λ c. c.name) cs ≡ map (λ p. p.0.now) gs
+
+-- the name of one change more
+pub named_more : (gs : List (Bor (List ℕ) × Vec Rest Global)) (x : Bor (List ℕ) × Vec Rest Global)
+    (cs : List AttrChange) (c : AttrChange) → map (λ c. c.name) cs ≡ map (λ p. p.0.now) gs
+    → c.name ≡ x.0.now → map (λ c. c.name) (cs ++ c ∷ []) ≡ map (λ p. p.0.now) (gs ++ x ∷ [])
+named_more gs x cs c names named =
+    map-append (λ (d : AttrChange). d.name) cs (c ∷ [])
+    ∙ ap (λ ns. ns ++ c.name ∷ []) names
+    ∙ ap (λ n. map (λ (p : Bor (List ℕ) × Vec Rest Global). p.0.now) gs ++ n ∷ []) named
+    ∙ sym (map-append (λ (p : Bor (List ℕ) × Vec Rest Global). p.0.now) gs (x ∷ []))
+
+-- names that rise as they are borrowed rise
+above_each : (k : Bor (List ℕ)) (gs : List (Bor (List ℕ) × Vec Rest Global))
+    → AllByRecursion (λ y. str_cmp k y ≡ Less) (keys_of gs)
+    → AllByRecursion (λ y. text_order k.now y ≡ Less) (map (λ p. p.0.now) gs)
+above_each k [] h = h
+above_each k (g ∷ gs) h = (h.0, above_each k gs h.1)
+
+groups_rise : (gs : List (Bor (List ℕ) × Vec Rest Global)) → IsStrictlySortedBy str_cmp (keys_of gs)
+    → IsStrictlySortedBy text_order (map (λ p. p.0.now) gs)
+unfolding IsStrictlySortedBy
+groups_rise [] h = h
+groups_rise (g ∷ gs) h = (above_each g.0 gs h.0, groups_rise gs h.1)
+
+-- changes that have the names of groups rise as these do
+pub names_rise : (gs : List (Bor (List ℕ) × Vec Rest Global)) (cs : List AttrChange)
+    → map (λ c. c.name) cs ≡ map (λ p. p.0.now) gs → IsStrictlySortedBy str_cmp (keys_of gs)
+    → IsStrictlySortedBy text_order (map (λ c. c.name) cs)
+names_rise gs cs names rising =
+    subst (IsStrictlySortedBy text_order) (sym names) (groups_rise gs rising)
 
 module _ (item : View) (pairs : List (Bor (List ℕ) × Rest))
     (xs : List (Bor (List ℕ) × Vec Rest Global)) (rising : IsStrictlySortedBy str_cmp (keys_of xs))

@@ -1,6 +1,8 @@
 //! All actions together: the attributes that change.
 
 ghost use Rattle.std.specs.Prelude.{◌≡◌, true, ℕ, List, map, option_map, IfOk};
+ghost use Rattle.std.specs.List.Sorted.{IsStrictlySortedBy};
+ghost use Rattle.alt_value.specs.Members.{text_order};
 ghost use Rattle.alt_value.specs.Stands.{tree_of};
 ghost use Rattle.alt_expr.specs.Updated as spec;
 ghost use Rattle.alt_expr.specs.UpdateLanguage.{begin_with_names};
@@ -37,6 +39,7 @@ pub fn changed<V: AttrView>(
     requires begins { begin_with_names update.now ≡ true }
     ensures changed { Answers (λ cs. changed_by cs.items (V.attribute view.now)) result
         (spec.updated (V.attribute view.now) update.now) }
+    ensures rising { IfOk result (λ cs. IsStrictlySortedBy text_order (map (λ c. c.name) cs.items)) }
 {
     let all = edits(alloc, update.as_slice(), view)?;
     Ok(changes(alloc, all, view)?)
@@ -64,8 +67,9 @@ fn changes<V: AttrView>(
     all: Vec<Edit<'_>>,
     view: &V,
 ) -> Result<Vec<AttrChange>, NoMemory>
-    ensures { IfOk result (λ cs. (name : List ℕ) → changed_by cs.items (V.attribute view.now) name
+    ensures after { IfOk result (λ cs. (name : List ℕ) → changed_by cs.items (V.attribute view.now) name
         ≡ spec.after (spec.under (Name name) (map shown_at all.entry.items)) (V.attribute view.now name)) }
+    ensures rising { IfOk result (λ cs. IsStrictlySortedBy text_order (map (λ c. c.name) cs.items)) }
 {
     let mut list = Vec::new(alloc);
     for (name, rests) in groups(alloc, all)? {

@@ -1,5 +1,12 @@
 pub mod Codes
 pub mod Faults
 pub mod Found
+pub mod Images
+pub mod Made
+pub mod ItemRows
+pub mod Opening
 pub mod Order
+pub mod Recovery
+pub mod Scans
 pub mod Stands
+pub mod StateRows

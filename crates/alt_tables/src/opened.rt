@@ -1,0 +1,210 @@
+//! The catalog of a store that is opened: the next family, and the descriptions of its tables.
+
+ghost use Rattle.std.specs.Prelude.{◌≡◌, ◌↔◌, ◌==◌, ◌++◌, Err, IfOk, IfErr, OnOk, IsErrOf, IsTrue, map as each};
+ghost use Rattle.std.specs.List.{list_any};
+ghost use Rattle.alt_base.specs.Counts.{Rose};
+ghost use Rattle.alt_engine.specs.InHand.{Reads};
+ghost use Rattle.alt_engine.specs.Layout.{Layout};
+ghost use Rattle.alt_machine.specs.State.{families_of};
+ghost use Rattle.alt_schema.specs.Described.{IsDescription};
+ghost use Rattle.alt_schema.specs.Held.{IsHeld};
+ghost use Rattle.alt_schema.specs.declared.schema.TableSchema.{TableSchema};
+ghost use Rattle.alt_tables.specs.Opening.{IsCatalog, IsRowFault, IsNextFamily, IsTableAt, MayStand, are_within, are_apart};
+ghost use Rattle.alt_tables.specs.Scans.{Walked};
+
+use crate::catalog::Catalog;
+use crate::catalog_row::{family_of_row, schema_of_row};
+use crate::faults::OpenFault;
+use crate::item_row::Unread;
+use crate::made::is_as_made;
+use crate::scan::{key_after, next_row, unread};
+use crate::tables::CATALOG;
+use alt_base::NoMemory;
+use alt_cells::ShownRow;
+use alt_disk::Disk;
+use alt_engine::Engine;
+use alt_fields::Bytes;
+use alt_machine::MOST_TABLES;
+use alt_schema::{IndexSchema, TableSchema};
+use std::alloc::Global;
+
+/// What the rows of a catalog tell: the descriptions of its tables, and the next family.
+#[derive(Drop)]
+pub(crate) struct Opened {
+    pub(crate) catalog: Catalog,
+    pub(crate) family: u32,
+}
+
+/// Reads the catalog of a store, and tests each of its rows.
+pub(crate) fn read_catalog<D: Disk>(
+    alloc: Global,
+    disk: &mut D,
+    engine: &mut Engine,
+) -> Result<Opened, OpenFault>
+    ensures read { IsTrue (D.state disk.old).tells → (l : Layout)
+        → Reads (D.state disk.old) engine.old l
+        → IfOk result (λ o. IsCatalog l o.family o.catalog) }
+    ensures wrong { IsTrue (D.state disk.old).tells → (l : Layout)
+        → Reads (D.state disk.old) engine.old l → IfErr result (IsRowFault l) }
+    ensures walked { Walked (D.state disk.old) (D.state disk.new) engine.old engine.new }
+    ensures cause { IsErrOf result OpenFault.Failed
+        → Rose (D.state disk.old).faults (D.state disk.new).faults }
+{
+    let family = match read_family(alloc, disk, engine) {
+        Ok(family) => family,
+        Err(fault) => return Err(fault),
+    };
+    let number = engine.next_number();
+    let mut catalog = Catalog::new(alloc);
+    let Ok(mut from) = key_after(&[], alloc) else {
+        return Err(OpenFault::NoMemory);
+    };
+    'rows: for _ in 0..u64::MAX {
+        let (name, row) = match next_row(alloc, disk, engine, CATALOG, &from) {
+            Ok(Some(next)) => next,
+            Ok(None) => return Ok(Opened { catalog, family }),
+            Err(fault) => return Err(fault),
+        };
+        let schema = match test_table(alloc, &catalog, number, family, &name, &row) {
+            Ok(schema) => schema,
+            Err(Unread::Bad) => {
+                return Err(OpenFault::BadRow {
+                    family: CATALOG,
+                    key: name,
+                });
+            }
+            Err(Unread::NoMemory) => return Err(OpenFault::NoMemory),
+        };
+        if catalog.add(schema).is_err() {
+            return Err(OpenFault::NoMemory);
+        }
+        match key_after(name.as_slice(), alloc) {
+            Ok(after) => from = after,
+            Err(_) => return Err(OpenFault::NoMemory),
+        }
+    }
+    Err(OpenFault::NoMemory)
+}
+
+/// The next family, which the row at the empty key tells.
+fn read_family<D: Disk>(
+    alloc: Global,
+    disk: &mut D,
+    engine: &mut Engine,
+) -> Result<u32, OpenFault>
+    ensures read { IsTrue (D.state disk.old).tells → (l : Layout)
+        → Reads (D.state disk.old) engine.old l → IfOk result (IsNextFamily l) }
+    ensures wrong { IsTrue (D.state disk.old).tells → (l : Layout)
+        → Reads (D.state disk.old) engine.old l → IfErr result (IsRowFault l) }
+    ensures walked { Walked (D.state disk.old) (D.state disk.new) engine.old engine.new }
+    ensures cause { IsErrOf result OpenFault.Failed
+        → Rose (D.state disk.old).faults (D.state disk.new).faults }
+{
+    let row = match engine.row(disk, CATALOG, &[]) {
+        Ok(row) => row,
+        Err(fault) => return Err(unread(fault)),
+    };
+    match family_of_row(row.as_ref()) {
+        Some(family) => Ok(family),
+        None => Err(OpenFault::BadRow {
+            family: CATALOG,
+            key: Bytes::from_vec(Vec::new(alloc)),
+        }),
+    }
+}
+
+/// The description whose row stands at a name, where that may be so beside the tables before it.
+fn test_table(
+    alloc: Global,
+    catalog: &Catalog,
+    number: u64,
+    family: u32,
+    name: &Bytes,
+    row: &ShownRow,
+) -> Result<TableSchema, Unread>
+    ensures table { IfOk result (IsTableAt number family catalog.now name.now row.now) }
+    ensures none { result ≡ Err Unread.Bad → (d : TableSchema)
+        → IsTableAt number family catalog.now name.now row.now d → ⊥ }
+{
+    let schema = schema_of_row(alloc, row)?;
+    if may_stand(alloc, catalog, number, family, name, &schema)? {
+        Ok(schema)
+    } else {
+        Err(Unread::Bad)
+    }
+}
+
+/// Whether a description may be that of a table of that name, beside the tables before it.
+fn may_stand(
+    alloc: Global,
+    catalog: &Catalog,
+    number: u64,
+    family: u32,
+    name: &Bytes,
+    schema: &TableSchema,
+) -> Result<bool, NoMemory>
+    requires description { IsDescription schema.now }
+    requires held { IsHeld schema.now }
+    ensures may { IfOk result (λ may. IsTrue may
+        ↔ MayStand number family catalog.now name.now schema.now) }
+{
+    let families = families_of(alloc, schema)?;
+    Ok(schema.name.as_str().as_bytes() == name.as_slice()
+        && is_as_made(schema)
+        && 1 <= schema.number
+        && schema.number < number
+        && are_within(families.as_slice(), family)
+        && are_apart(families.as_slice())
+        && catalog.len() < MOST_TABLES
+        && !catalog.clashes(schema.number, families.as_slice()))
+}
+
+/// The families of a table.
+fn families_of(alloc: Global, schema: &TableSchema) -> Result<Vec<u32>, NoMemory>
+    ensures { IfOk result (λ families. families.items ≡ families_of schema.now) }
+{
+    let mut families = Vec::new(alloc);
+    families.push(schema.family)?;
+    push_families(&mut families, schema.locals.as_slice())?;
+    push_families(&mut families, schema.globals.as_slice())?;
+    if let Some(family) = schema.stream_family {
+        families.push(family)?;
+    }
+    Ok(families)
+}
+
+fn push_families(families: &mut Vec<u32>, indexes: &[IndexSchema]) -> Result<(), NoMemory>
+    ensures { OnOk result (families.new.items
+        ≡ families.old.items ++ each (λ i. i.family) indexes.now) }
+{
+    for index in indexes {
+        families.push(index.family)?;
+    }
+    Ok(())
+}
+
+/// Whether each family is from 1 on and below the next.
+fn are_within(families: &[u32], next: u32) -> bool
+    ensures { result ≡ are_within next families.now }
+{
+    families.iter().all(|family| 1 <= *family && *family < next)
+}
+
+/// Whether no family stands twice.
+fn are_apart(families: &[u32]) -> bool
+    ensures { result ≡ are_apart families.now }
+{
+    for (i, family) in families.iter().enumerate() {
+        if has_family(&families[i + 1..], *family) {
+            return false;
+        }
+    }
+    true
+}
+
+/// Whether a family is one of these.
+pub(crate) fn has_family(families: &[u32], family: u32) -> bool
+    ensures { result ≡ list_any (λ f. f == family) families.now }
+{
+    families.iter().any(|f| *f == family)
+}

@@ -2,6 +2,7 @@
 use Rattle.std.proofs.Common.{◌≡◌, refl, sym, ap, subst, ◌∙◌, ℕ, ◌+◌, ◌<◌, ◌≤◌, true, false, length, List, [], ◌∷◌, Option, Some, None, Ok, Err, Result, OnOk, IfErr, IfSome, option_map, arith}
 use Rattle.std.specs.Prelude.{if◌then◌else◌, IsErrOf, IsSome}
 use Rattle.std.specs.Result.{IsErrAnd}
+use Rattle.std.proofs.lemmas.Bool.{false≢true}
 use Rattle.std.proofs.lemmas.Result.{err_from_is_err_and}
 use Rattle.std.specs.FinMap as map
 use Rattle.alt_cells.specs.declared.batch.RowChange.{RowChange}
@@ -190,7 +191,7 @@ module _ (before : DiskState) (old : Tables) (s : State) (stands : Stands before
 pub not_lacking : (number family : ℕ) → number < NUMBERS_END
     → family + MOST_FAMILIES ≤ FAMILIES_END → IsSome (table_lack number family) → ⊥
 not_lacking number family room enough lacks =
-    subst IsSome (has_table number family room enough) lacks
+    false≢true (subst IsSome (has_table number family room enough) lacks)
 
 -- one write is made, and the tables stand for the state after it
 pub one_made : (now : State → Type 0) (wants : Wants) (s r : State) → now r → lack_of wants s ≡ None

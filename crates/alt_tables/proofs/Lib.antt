@@ -18,6 +18,7 @@ pub mod Engine
 pub mod Holding
 pub mod MadeLaws
 pub mod ChosenLaws
+pub mod NextFamily
 pub mod NextRow
 pub mod Scanning
 pub mod CatalogScan

@@ -1,5 +1,5 @@
 -- The columns of an item's row, in order, and the item that is read from them.
-use Rattle.std.proofs.Common.{◌≡◌, ◌<◌, ◌≤◌, ◌+◌, refl, sym, ap, subst, ◌∙◌, ℕ, zero, suc, max, Bool, T, List, [], ◌∷◌, ◌++◌, map, length, get_or, take, drop, Some, None, Result, Ok, Err, slice_get, add-one, arith}
+use Rattle.std.proofs.Common.{◌≡◌, ◌<◌, ◌≤◌, ◌+◌, refl, sym, ap, subst, ◌∙◌, ℕ, zero, suc, T, List, [], ◌∷◌, ◌++◌, map, length, get_or, take, drop, Some, None, Result, Ok, Err, slice_get, add-one, arith}
 use Rattle.std.proofs.Math.Seq.{take-suc}
 use Rattle.std.proofs.lemmas.List.{map-append, take-append-drop}
 use Rattle.std.specs.Result.{IsErr, IsErrAnd}
@@ -14,12 +14,11 @@ use Rattle.alt_cells.proofs.Entries.{both, first, second}
 use Rattle.alt_cellbytes.proofs.Rising.{item_front, with_pair-last}
 use Rattle.alt_machine.specs.Valid.{deepest}
 use Rattle.alt_tables.specs.ItemRows.{column_of, item_columns, IsAttribute, IsReadItem}
-use Rattle.alt_value.specs.CellBytes.{cell_bytes}
 use Rattle.alt_value.specs.Item.{IsItem, with_pair}
 use Rattle.alt_value.specs.Members.{text_order}
 use Rattle.alt_value.specs.Size.{depth, fields_depth}
-use Rattle.alt_value.specs.Tree.{Tree, Pair, NULL_tree, fields_of}
-use Rattle.alt_value.specs.Values.{IsText, IsWhole, IsWholeItem, IsItemOfValues, AreFields, sets_full, fields_full}
+use Rattle.alt_value.specs.Tree.{Pair, fields_of}
+use Rattle.alt_value.specs.Values.{AreFields, sets_full, fields_full}
 
 -- ---- columns in order
 
@@ -155,6 +154,7 @@ attribute_at (p ∷ ps) fields full below deep (suc k) e within at =
     (second (is_lt (text_order [] p.0)) _ below) (omega (arith, deep)) k e
     (omega (arith, within)) at
 
+-- each column of an item that was read is an attribute
 pub read_attribute : (ps : List Pair) → IsReadItem ps → (es : List (List ℕ × List ℕ))
     → es ≡ map column_of ps → (k : ℕ) (e : List ℕ × List ℕ) → k < length es → e ≡ get_or es k e
     → (p : Pair) × IsAttribute p × (e ≡ column_of p)
@@ -187,6 +187,7 @@ pub columns_first : (ps : List Pair) (k : ℕ) → IsItem ps
 columns_first ps k is = columns_rise (take k ps)
     (item_front (take k ps) (drop k ps) (subst IsItem (sym (take-append-drop k ps)) is))
 
+-- so many attributes are all
 pub take_all : (ps : List Pair) (k : ℕ) → length ps ≤ k → take k ps ≡ ps
 take_all [] zero h = refl
 take_all [] (suc k) h = refl

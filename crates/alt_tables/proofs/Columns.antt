@@ -139,12 +139,16 @@ pub attribute_at : (ps : List Pair) → AreFields (fields_of ps) → T (fields_f
     → k < length (map column_of ps) → e ≡ get_or (map column_of ps) k e
     → (p : Pair) × IsAttribute p × (e ≡ column_of p)
 attribute_at [] fields full below deep k e within at = absurd (omega arith)
-attribute_at (p ∷ ps) fields full below deep zero e within at = (p, record {
-  named = named p.0 (first _ (below_all text_order [] ps) below);
-  name = fields.0;
-  value = (fields.1, first _ (fields_full (fields_of ps)) full);
-  depth = omega (arith, deep);
-}, at)
+attribute_at (p ∷ ps) fields full below deep zero e within at = (
+  p,
+  record {
+    named = named p.0 (first _ (below_all text_order [] ps) below);
+    name = fields.0;
+    value = (fields.1, first _ (fields_full (fields_of ps)) full);
+    depth = omega (arith, deep);
+  },
+  at,
+)
   where
     named : (name : List ℕ) → T (is_lt (text_order [] name)) → 0 < length name
     named [] h = absurd h

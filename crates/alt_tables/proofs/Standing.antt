@@ -146,9 +146,12 @@ module _ (old new : DiskState) (t u : Tables) (catalog : u.catalog ≡ t.catalog
 
   -- and for nothing else
   pub stays : AreReady old t → (s : State) → Stands old t s ↔ Stands new u s
-  stays ready s = (stays_on s, λ stands.
-      let (r, before) = ready (trusted_back old new goes stands.rows.trusted) in
-      subst (Stands old t) (one_stands new u r s (stays_on r before) stands) before)
+  stays ready s = (
+    stays_on s,
+    λ stands.
+        let (r, before) = ready (trusted_back old new goes stands.rows.trusted) in
+        subst (Stands old t) (one_stands new u r s (stays_on r before) stands) before,
+  )
 
 -- ---- the item that a row shows
 

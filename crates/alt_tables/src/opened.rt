@@ -87,11 +87,7 @@ pub(crate) fn read_catalog<D: Disk>(
 }
 
 /// The next family, which the row at the empty key tells.
-fn read_family<D: Disk>(
-    alloc: Global,
-    disk: &mut D,
-    engine: &mut Engine,
-) -> Result<u32, OpenFault>
+fn read_family<D: Disk>(alloc: Global, disk: &mut D, engine: &mut Engine) -> Result<u32, OpenFault>
     ensures read { IsTrue (D.state disk.old).tells → (l : Layout)
         → Reads (D.state disk.old) engine.old l → IfOk result (IsNextFamily l) }
     ensures wrong { IsTrue (D.state disk.old).tells → (l : Layout)
@@ -149,14 +145,16 @@ fn may_stand(
         ↔ MayStand number family catalog.now name.now schema.now) }
 {
     let families = families_of(alloc, schema)?;
-    Ok(schema.name.as_str().as_bytes() == name.as_slice()
-        && is_as_made(schema)
-        && 1 <= schema.number
-        && schema.number < number
-        && are_within(families.as_slice(), family)
-        && are_apart(families.as_slice())
-        && catalog.len() < MOST_TABLES
-        && !catalog.clashes(schema.number, families.as_slice()))
+    Ok(
+        schema.name.as_str().as_bytes() == name.as_slice()
+            && is_as_made(schema)
+            && 1 <= schema.number
+            && schema.number < number
+            && are_within(families.as_slice(), family)
+            && are_apart(families.as_slice())
+            && catalog.len() < MOST_TABLES
+            && !catalog.clashes(schema.number, families.as_slice()),
+    )
 }
 
 /// The families of a table.

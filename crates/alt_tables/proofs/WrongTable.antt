@@ -221,6 +221,7 @@ module _ (l : Layout) (next : ℕ) (catalog : Texts TableSchema) (name : List �
               same_family is_table.families;
           differ = is_table.differ;
         };
+        new = ap (map.get catalog) is_table.named ∙ absent _ refl;
         apart = λ other e at.
             let (u, at_u, same) = known other e at in
             record {

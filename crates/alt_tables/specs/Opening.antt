@@ -10,7 +10,7 @@ use Rattle.alt_machine.specs.Valid.{IsMade, IsValid}
 use Rattle.alt_schema.specs.Held.{IsHeld}
 use Rattle.alt_schema.specs.declared.schema.TableSchema.{TableSchema}
 use Rattle.alt_tables.specs.Recovery.{IsFirstWrong}
-use Rattle.alt_tables.specs.Scans.{ItemsRead}
+use Rattle.alt_tables.specs.Scans.{IsBelow, ItemsRead}
 use Rattle.alt_tables.specs.StateRows.{Shows, IsHeldWhole, catalog_family, next_row, table_row}
 use Rattle.alt_tables.specs.declared.faults.OpenFault.{OpenFault}
 use Rattle.alt_tables.specs.declared.faults.OpenFault.TheVariants.{Damaged, BadRow, Failed, NoMemory}
@@ -53,12 +53,18 @@ pub record AreApart (d e : TableSchema) : Type 0 where
   pub families : (family : ℕ) → Contains (families_of d) family
       → Contains (families_of e) family → ⊥
 
--- It may stand there beside the tables of a catalog, of which there are not too many.
+-- it is apart from each table of a catalog
+abbrev pub IsApart : Texts TableSchema → TableSchema → Type 0
+IsApart catalog d = (other : List ℕ) (e : TableSchema) → map.get catalog other ≡ Some e
+    → AreApart e d
+
+-- It may stand there beside the tables of a catalog, of which there are not too many, and none has its name.
 pub record MayStand (number family : ℕ) (catalog : Texts TableSchema) (name : List ℕ)
     (d : TableSchema) : Type 0 where
   pub few : map.len catalog < MOST_TABLES
   pub good : IsGood number family name d
-  pub apart : (other : List ℕ) (e : TableSchema) → map.get catalog other ≡ Some e → AreApart e d
+  pub new : map.get catalog d.name ≡ None
+  pub apart : IsApart catalog d
 
 -- Its row is this.
 pub record IsTableAt (number family : ℕ) (catalog : Texts TableSchema) (name : List ℕ)
@@ -86,6 +92,16 @@ pub record CatalogWhere (Here : List ℕ → Type 0) (l : Layout) (family : ℕ)
 -- all of them
 abbrev pub IsCatalog : Layout → ℕ → Texts TableSchema → Type 0
 IsCatalog l family catalog = CatalogWhere (λ name. Unit {0}) l family catalog
+
+-- those of the names below a key, which isn't the empty one
+abbrev pub IsReadUpTo : Layout → ℕ → List ℕ → Texts TableSchema → Type 0
+IsReadUpTo l family from catalog = IsBelow [] from
+    × CatalogWhere (λ name. IsBelow name from) l family catalog
+
+-- those of the names below the key that is told, or all where none is
+abbrev pub IsReadOn : Layout → ℕ → Texts TableSchema → Option (List ℕ) → Type 0
+IsReadOn l family catalog None = IsCatalog l family catalog
+IsReadOn l family catalog (Some from) = IsReadUpTo l family from catalog
 
 -- the items of its tables are read
 abbrev pub AllItemsRead : Layout → Texts TableSchema → Type 0

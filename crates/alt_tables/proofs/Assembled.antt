@@ -1,5 +1,5 @@
 -- Where every row can be read, there is a state that the rows show.
-use Rattle.std.proofs.Common.{◌≡◌, ◌≢◌, ◌≤◌, ◌<◌, ℕ, Bool, true, false, cond, T, List, [], ◌∷◌, Option, Some, None, refl, sym, ap, subst, ◌∙◌, arith, Contains, Unit}
+use Rattle.std.proofs.Common.{◌≡◌, ◌≢◌, ◌≤◌, ◌<◌, ℕ, Bool, true, false, cond, T, List, [], ◌∷◌, Option, Some, None, refl, sym, ap, subst, ◌∙◌, arith, Contains}
 use Rattle.std.proofs.lemmas.Bool.{false≢true}
 use Rattle.std.specs.Prelude.{if◌then◌else◌, option_and_then, option_map, unwrap_or}
 use Rattle.std.specs.Ordering.{eq_by_cmp}
@@ -55,9 +55,11 @@ module _ (l : Layout) (family : ℕ) (catalog : Texts TableSchema)
       let chosen = map_read row_shown (IsRow d) (l.rows d.family)
       (λ key row at. all key row tt at) in (
         chosen.0,
-        (λ key. row key (shown l d.family key) (map.get chosen.0 key) (chosen.1 key)),
-        (λ key item at. each key (shown l d.family key) (map.get chosen.0 key) (chosen.1 key)
-            item at),
+        (
+          λ key. row key (shown l d.family key) (map.get chosen.0 key) (chosen.1 key),
+          λ key item at. each key (shown l d.family key) (map.get chosen.0 key) (chosen.1 key)
+              item at,
+        ),
       )
     where
       row : (key : List ℕ) (c : Option Columns) (o : Option (List Pair))
@@ -80,7 +82,7 @@ module _ (l : Layout) (family : ℕ) (catalog : Texts TableSchema)
   record IsTableOf (name : List ℕ) (columns : Columns) (t : Table) : Type 0 where
     row : columns ≡ table_row t.description
     known : map.get catalog name ≡ Some t.description
-    items : HasItems t.description t.items
+    has : HasItems t.description t.items
     changes : t.changes ≡ []
 
   tables_read : AllRead row_shown IsTableOf (map.get (map.remove (l.rows catalog_family) []))
@@ -100,7 +102,7 @@ module _ (l : Layout) (family : ℕ) (catalog : Texts TableSchema)
             record {
               row = same_Some _ _ (sym at ∙ (read.stands name d is).1);
               known = is;
-              items = m.1;
+              has = m.1;
               changes = refl;
             },
           )
@@ -141,13 +143,13 @@ module _ (l : Layout) (family : ℕ) (catalog : Texts TableSchema)
           (map.get (map.remove (l.rows catalog_family) []) name) ≡ Some row)
           × IsTableOf name row t)
       by None e is = absurd (let none : None ≡ Some t = sym is ∙ at in cc none)
-      by (Some row) e is = (row, e, subst (IsTableOf name row) (same_Some _ _ (sym is.1.0 ∙ at))
-          is.1.1)
+      by (Some row) e is = (row, (e, subst (IsTableOf name row)
+          (same_Some _ _ (sym is.1.0 ∙ at)) is.1.1))
 
   table_is : (name : List ℕ) (t : Table) → map.get chosen.0 name ≡ Some t
       → HasItems t.description t.items × (map.get catalog name ≡ Some t.description)
       × (t.changes ≡ [])
-  table_is name t at = let (row, e, is) = table_here name t at in (is.items, is.known, is.changes)
+  table_is name t at = let (row, (e, is)) = table_here name t at in (is.has, is.known, is.changes)
 
   -- a table that is known stands there
   known_there : (name : List ℕ) (d : TableSchema) → map.get catalog name ≡ Some d

@@ -1,5 +1,5 @@
 -- The first wrong row: before it the rows are those of a state, and with it those of none.
-use Rattle.std.proofs.Common.{◌≡◌, ◌≢◌, ◌≤◌, ◌<◌, ◌⊎◌, inl, inr, ⊎_elim, ℕ, Bool, true, false, cond, List, [], ◌∷◌, Option, Some, None, refl, sym, ap, subst, ◌∙◌, arith, Contains, Less}
+use Rattle.std.proofs.Common.{◌≡◌, ◌≢◌, ◌≤◌, ◌<◌, ◌⊎◌, inl, inr, ⊎_elim, ℕ, Bool, true, false, cond, List, [], ◌∷◌, Option, Some, None, refl, sym, ap, subst, ◌∙◌, arith, Contains, Less, T}
 use Rattle.std.proofs.lemmas.Bool.{false≢true}
 use Rattle.std.proofs.lemmas.Bool.Decides.{nat_tests}
 use Rattle.std.specs.Prelude.{◌==◌, ◌&&◌, ◌||◌, nat_lt, if◌then◌else◌, option_map}
@@ -146,9 +146,11 @@ module _ (l : Layout) (next : ℕ) (catalog : Texts TableSchema) (read : IsCatal
     where
       by : (b : Bool) → eq_by_cmp key_cmp name other ≡ b → d ≡ e
       by true one = same_Some d e (sym at_d ∙ ap (map.get catalog) (tied name other one) ∙ at_e)
-      by false differ = absurd ((read.apart name other d e at_d at_e
-          (λ one. false≢true (sym differ ∙ ap (λ k. eq_by_cmp key_cmp k other) one ∙ itself other)))
-          .families d.family (own_family d)
+      by false differ =
+          let apart : AreApart d e = read.apart name other d e at_d at_e
+          (λ one. false≢true (sym differ ∙ ap (λ k. eq_by_cmp key_cmp k other) one
+          ∙ itself other)) in
+          absurd (apart.families d.family (own_family d)
           (subst (Contains (families_of e)) (sym same) (own_family e)))
 
   module _ (family : ℕ) (key : List ℕ) (high : 1 ≤ family) where
@@ -255,7 +257,7 @@ module _ (l : Layout) (next : ℕ) (catalog : Texts TableSchema) (read : IsCatal
 
   -- a row of a family from the next one on
   pub beyond_wrong : ((name : List ℕ) (d : TableSchema) → map.get catalog name ≡ Some d
-      → ItemsRead l d) → (family : ℕ) (key : List ℕ) → IsFirstShown l next (family, key)
+      → ItemsRead l d) → (family : ℕ) (key : List ℕ) → IsFirstShown (shown l) next (family, key)
       → IsFirstWrong l family key
   beyond_wrong items family key first = record {
     before = state_before family key high

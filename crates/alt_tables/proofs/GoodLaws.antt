@@ -14,7 +14,7 @@ use Rattle.alt_schema.specs.Described.{IsDescription}
 use Rattle.alt_schema.specs.Held.{IsHeld}
 use Rattle.alt_schema.specs.declared.schema.TableSchema.{TableSchema}
 use Rattle.alt_tables.specs.Made.{is_as_made}
-use Rattle.alt_tables.specs.Opening.{IsApart, IsGood, AreApart, are_within, are_apart, shares}
+use Rattle.alt_tables.specs.Opening.{IsApart, IsGood, AreApart, are_within, are_apart, passes, shares}
 use Rattle.alt_tables.proofs.MadeLaws.{as_made, made_as}
 
 -- an element at a place doesn't turn on what stands for none
@@ -56,12 +56,6 @@ apart_is (f ∷ fs) = Decides-like (not (list_any (λ g. g == f) fs) && are_apar
 
 -- ---- a description
 
--- the tests of one, beside those of its bytes
-abbrev pub passes : ℕ → ℕ → List ℕ → TableSchema → Bool
-passes number next name d = bytes_eq d.name name && (is_as_made d && (nat_le 1 d.number
-    && (nat_lt d.number number && (are_within next (families_of d)
-    && are_apart (families_of d)))))
-
 module _ (number next : ℕ) (name : List ℕ) (d : TableSchema) (whole : IsDescription d)
     (held : IsHeld d) where
   pub good_is : Decides (passes number next name d) (IsGood number next name d)
@@ -70,17 +64,16 @@ module _ (number next : ℕ) (name : List ℕ) (d : TableSchema) (whole : IsDesc
         named = h.0;
         made = as_made d h.1.0 whole;
         held = held;
-        number = (h.1.1.0, h.1.1.1.0);
-        families = h.1.1.1.1.0;
-        differ = h.1.1.1.1.1;
+        number = h.1.1.0;
+        families = h.1.1.1.0;
+        differ = h.1.1.1.1;
       })
-      (λ good. (good.named, made_as d good.made, good.number.0, good.number.1, good.families,
-      good.differ))
+      (λ good. (good.named, (made_as d good.made, (good.number, (good.families, good.differ)))))
       (Decides-and _ _ (bytes_eq-Decides d.name name)
       (Decides-and _ _ (λ e. e, λ e. e)
-      (Decides-and _ _ (leb-true 1 d.number, le-leb 1 d.number)
-      (Decides-and _ _ (Decides-ltb d.number number)
-      (Decides-and _ _ (within_is next (families_of d)) (apart_is (families_of d)))))))
+      (Decides-and _ _ (Decides-and _ _ (leb-true 1 d.number, le-leb 1 d.number)
+      (Decides-ltb d.number number))
+      (Decides-and _ _ (within_is next (families_of d)) (apart_is (families_of d))))))
 
 -- ---- beside others
 

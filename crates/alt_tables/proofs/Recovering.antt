@@ -18,7 +18,7 @@ use Rattle.alt_machine.specs.State.{State}
 use Rattle.alt_machine.specs.Valid.{IsValid}
 use Rattle.alt_tables.specs.Images.{StandsFor}
 use Rattle.alt_tables.specs.Opening.{Assembled, IsRowFault}
-use Rattle.alt_tables.specs.Recovery.{Agrees, IsExplained, HasNoState, WasLeft, unopened}
+use Rattle.alt_tables.specs.Recovery.{Agrees, IsUpTo, IsExplained, HasNoState, WasLeft, unopened}
 use Rattle.alt_tables.specs.Scans.{Walked}
 use Rattle.alt_tables.specs.StateRows.{Shows, IsHeldWhole}
 use Rattle.alt_tables.specs.Stands.{Stands}
@@ -129,9 +129,11 @@ module _ (files : ℕ → Option (List ℕ)) where
   pub rows_no_state : (l : Layout) → IsLayout files l → (fault : OpenFault) → IsRowFault l fault
       → HasNoState files fault
   rows_no_state l is (Damaged file at) wrong = absurd wrong
-  rows_no_state l is (BadRow family key) wrong s stands = wrong.none s
-      (subst (λ m. Agrees _ m s) (one_layout files stands.layout l stands.is is)
-      (agrees_all _ stands.layout s stands.shows stands.valid stands.held))
+  rows_no_state l is (BadRow family key) wrong = λ s stands. wrong.none s
+      (subst (λ m. Agrees (λ f k. IsUpTo f k family key) m s)
+      (one_layout files stands.layout l stands.is is)
+      (agrees_all (λ f k. IsUpTo f k family key) stands.layout s stands.shows stands.valid
+      stands.held))
   rows_no_state l is Failed wrong = wrong
   rows_no_state l is NoMemory wrong = wrong
 
@@ -144,7 +146,7 @@ module _ (files : ℕ → Option (List ℕ)) where
 
   pub files_no_state : (fault : RecoverFault) → HasNoLayout files fault
       → HasNoState files (unopened fault)
-  files_no_state (engine.Damaged file at) none s stands = none stands.layout stands.is
+  files_no_state (engine.Damaged file at) none = λ s stands. none stands.layout stands.is
   files_no_state engine.Failed none = none
   files_no_state engine.NoMemory none = none
 

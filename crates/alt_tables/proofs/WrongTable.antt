@@ -1,5 +1,5 @@
 -- The first wrong row of the catalog.
-use Rattle.std.proofs.Common.{◌≡◌, ◌≢◌, ◌≤◌, ◌<◌, ◌+◌, ◌-◌, inl, inr, ⊎_elim, ℕ, suc, Bool, true, false, cond, T, List, [], ◌∷◌, length, Option, Some, None, is_some, refl, sym, ap, subst, ◌∙◌, arith, Contains, All, Less}
+use Rattle.std.proofs.Common.{◌≡◌, ◌≢◌, ◌≤◌, ◌<◌, ◌+◌, ◌-◌, inl, inr, ⊎_elim, ℕ, zero, suc, Bool, true, false, cond, T, List, [], ◌∷◌, length, Option, Some, None, is_some, refl, sym, ap, subst, ◌∙◌, arith, Contains, All, Less}
 use Rattle.std.proofs.lemmas.Bool.{false≢true}
 use Rattle.std.specs.Ordering.{eq_by_cmp, is_eq}
 use Rattle.std.specs.FinMap as map
@@ -44,7 +44,7 @@ sub_len {X} {Y} (e ∷ es) n sorted all =
     omega (arith, some, less, rest)
   where
     has_one : (c : ℕ) → map.len n ≡ c → map.contains_key n e.0 ≡ true → 1 ≤ c
-    has_one 0 none there = absurd (false≢true
+    has_one zero none there = absurd (false≢true
         (ap is_some (sym (map.get-empty key_cmp e.0))
         ∙ ap (λ (m : Texts Y). map.contains_key m e.0) (sym (map.empty_of_len n none)) ∙ there))
     has_one (suc c) none there = omega arith

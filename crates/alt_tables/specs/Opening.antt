@@ -1,6 +1,7 @@
 -- What is read of the catalog while a store is opened.
 use Rattle.std.specs.Prelude.{◌≡◌, ◌≢◌, ◌<◌, ◌≤◌, ◌==◌, ◌&&◌, ℕ, Bool, true, not, nat_lt, nat_le, List, [], ◌∷◌, Option, Some, None, All, AllPairs, Contains, length, slice_index_or}
 use Rattle.std.specs.List.{list_all, list_any}
+use Rattle.std.specs.Str.{bytes_eq}
 use Rattle.std.specs.FinMap as map
 use Rattle.alt_cells.specs.Changes.{Columns}
 use Rattle.alt_engine.specs.Layout.{Layout, shown}
@@ -9,6 +10,7 @@ use Rattle.alt_machine.specs.State.{State, Texts, descriptions, families_of}
 use Rattle.alt_machine.specs.Valid.{IsMade, IsValid}
 use Rattle.alt_schema.specs.Held.{IsHeld}
 use Rattle.alt_schema.specs.declared.schema.TableSchema.{TableSchema}
+use Rattle.alt_tables.specs.Made.{is_as_made}
 use Rattle.alt_tables.specs.Recovery.{IsFirstWrong}
 use Rattle.alt_tables.specs.Scans.{IsBelow, ItemsRead}
 use Rattle.alt_tables.specs.StateRows.{Shows, IsHeldWhole, catalog_family, next_row, table_row}
@@ -32,6 +34,14 @@ abbrev pub are_apart : List ℕ → Bool
 are_apart [] = true
 are_apart (f ∷ fs) = not (list_any (λ g. g == f) fs) && are_apart fs
 
+-- both
+abbrev pub are_families : ℕ → List ℕ → Bool
+are_families next families = are_within next families && are_apart families
+
+-- a number was taken before the next one
+abbrev pub is_number : ℕ → ℕ → Bool
+is_number next number = nat_le 1 number && nat_lt number next
+
 -- one of them is a table's
 abbrev pub shares : List ℕ → TableSchema → Bool
 shares families d = list_any (λ f. list_any (λ g. g == f) families) (families_of d)
@@ -46,6 +56,11 @@ pub record IsGood (next_number next : ℕ) (name : List ℕ) (d : TableSchema) :
   pub number : (1 ≤ d.number) × (d.number < next_number)
   pub families : All (λ f. (1 ≤ f) × (f < next)) (families_of d)
   pub differ : AllPairs (λ f g. f ≢ g) (families_of d)
+
+-- the tests of it, beside those of its bytes
+abbrev pub passes : ℕ → ℕ → List ℕ → TableSchema → Bool
+passes number next name d = bytes_eq d.name name && (is_as_made d && (is_number number d.number
+    && are_families next (families_of d)))
 
 -- Two tables have neither a number nor a family in common.
 pub record AreApart (d e : TableSchema) : Type 0 where

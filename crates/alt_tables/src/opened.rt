@@ -10,7 +10,7 @@ ghost use Rattle.alt_machine.specs.State.{families_of};
 ghost use Rattle.alt_schema.specs.Described.{IsDescription};
 ghost use Rattle.alt_schema.specs.Held.{IsHeld};
 ghost use Rattle.alt_schema.specs.declared.schema.TableSchema.{TableSchema};
-ghost use Rattle.alt_tables.specs.Opening.{IsApart, IsCatalog, IsGood, IsRowFault, IsNextFamily, IsReadOn, IsReadUpTo, IsTableAt, MayStand, are_within, are_apart};
+ghost use Rattle.alt_tables.specs.Opening.{IsApart, IsCatalog, IsGood, IsRowFault, IsNextFamily, IsReadOn, IsReadUpTo, IsTableAt, MayStand, are_families, are_within, are_apart, is_number, passes};
 ghost use Rattle.alt_tables.specs.Scans.{Walked};
 
 use crate::catalog::Catalog;
@@ -193,10 +193,16 @@ fn may_stand(
         ↔ MayStand number family catalog.now name.now schema.now) }
 {
     let families = families_of(alloc, schema)?;
-    Ok(catalog.len() < MOST_TABLES
-        && is_good(number, family, name, schema, families.as_slice())
-        && is_new(catalog, schema)
-        && is_apart(catalog, schema, families.as_slice()))
+    if catalog.len() >= MOST_TABLES {
+        return Ok(false);
+    }
+    if !is_good(number, family, name, schema, families.as_slice()) {
+        return Ok(false);
+    }
+    if !is_new(catalog, schema) {
+        return Ok(false);
+    }
+    Ok(is_apart(catalog, schema, families.as_slice()))
 }
 
 /// Whether it may be that of a table of that name, whatever other tables there are.
@@ -212,12 +218,39 @@ fn is_good(
     requires families { families.now ≡ families_of schema.now }
     ensures good { IsTrue result ↔ IsGood number family name.now schema.now }
 {
-    schema.name.as_str().as_bytes() == name.as_slice()
-        && is_as_made(schema)
-        && 1 <= schema.number
-        && schema.number < number
-        && are_within(families, family)
-        && are_apart(families)
+    passes(number, family, name, schema, families)
+}
+
+fn passes(
+    number: u64,
+    family: u32,
+    name: &Bytes,
+    schema: &TableSchema,
+    families: &[u32],
+) -> bool
+    requires families { families.now ≡ families_of schema.now }
+    ensures { result ≡ passes number family name.now schema.now }
+{
+    if schema.name.as_str().as_bytes() != name.as_slice() {
+        return false;
+    }
+    if !is_as_made(schema) {
+        return false;
+    }
+    is_number(number, schema.number) && are_families(family, families)
+}
+
+/// Whether a number was taken before the next one.
+fn is_number(next: u64, number: u64) -> bool
+    ensures { result ≡ is_number next number }
+{
+    1 <= number && number < next
+}
+
+fn are_families(next: u32, families: &[u32]) -> bool
+    ensures { result ≡ are_families next families.now }
+{
+    are_within(families, next) && are_apart(families)
 }
 
 /// Whether no table has its name.

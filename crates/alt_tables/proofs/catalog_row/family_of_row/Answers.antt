@@ -4,10 +4,10 @@ use Rattle.alt_tables.proofs.OneColumn.{one_value}
 use Rattle.alt_tables.proofs.catalog_row.family_of_row.Goals as goal
 
 pub returns-in_err-family-clause-none : goal.returns-in_err-family-clause-none
-returns-in_err-family-clause-none c family low high same = ?
+returns-in_err-family-clause-none c = ?
 
 pub returns-then-behind-bytes-clause-none : goal.returns-then-behind-bytes-clause-none
-returns-then-behind-bytes-clause-none c family low high same = ?
+returns-then-behind-bytes-clause-none c = ?
 
 pub returns-clause-family : goal.returns-clause-family
 returns-clause-family c = ?

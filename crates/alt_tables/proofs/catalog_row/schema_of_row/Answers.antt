@@ -1,6 +1,6 @@
 -- The value of the one column of a table's row is the bytes of its description, and these are never bad.
 use Rattle.std.proofs.Common.{sym, ◌∙◌}
-use Rattle.alt_schema.specs.Description.{description_bytes}
+use Rattle.alt_schema.specs.Format.{description_bytes}
 use Rattle.alt_tables.proofs.OneColumn.{one_value}
 use Rattle.alt_tables.proofs.catalog_row.schema_of_row.Goals as goal
 

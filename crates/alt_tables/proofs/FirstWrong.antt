@@ -140,7 +140,7 @@ module _ (l : Layout) (next : ℕ) (catalog : Texts TableSchema) (read : IsCatal
       (read.good name d at).families (own_family d)
 
   -- of tables of one family the description is one
-  same_table : (name other : List ℕ) (d e : TableSchema) → map.get catalog name ≡ Some d
+  pub same_table : (name other : List ℕ) (d e : TableSchema) → map.get catalog name ≡ Some d
       → map.get catalog other ≡ Some e → d.family ≡ e.family → d ≡ e
   same_table name other d e at_d at_e same = by (eq_by_cmp key_cmp name other) refl
     where

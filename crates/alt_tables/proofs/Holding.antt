@@ -108,11 +108,11 @@ leaves_quiet old new engine s (r ∷ rs) holds valid quiet = quiet_spans old new
     (λ t image fits. (0, each_holds old engine s holds valid image fits))
 
 -- writes behind a call that leaves every file
-pub leaves_after : (old mid new : DiskState) (engine : Engine) (s : State) (atoms : List State)
+pub leaves_behind : (old mid new : DiskState) (engine : Engine) (s : State) (atoms : List State)
     → Holds old engine s → IsValid s → Quiet old mid → Leaves mid new s atoms
     → Leaves old new s atoms
-leaves_after old mid new engine s [] holds valid quiet then = quiet_then old mid new quiet then
-leaves_after old mid new engine s (r ∷ rs) holds valid quiet then =
+leaves_behind old mid new engine s [] holds valid quiet then = quiet_then old mid new quiet then
+leaves_behind old mid new engine s (r ∷ rs) holds valid quiet then =
     spans_on old mid new IsWritten (AfterSome s (r ∷ rs))
     (leaves_quiet old mid engine s (r ∷ rs) holds valid quiet) then
 

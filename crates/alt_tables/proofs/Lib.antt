@@ -1,5 +1,6 @@
 pub mod Maps
 pub mod Named
+pub mod Sharing
 pub mod Sorted
 pub mod Left
 pub mod Listed
@@ -12,10 +13,12 @@ pub mod WriteLaws
 pub mod CatalogLaws
 pub mod Columns
 pub mod OneColumn
+pub mod EachTable
 pub mod Engine
 pub mod Holding
 pub mod MadeLaws
 pub mod ChosenLaws
+pub mod NextFamily
 pub mod NextRow
 pub mod Scanning
 pub mod CatalogScan

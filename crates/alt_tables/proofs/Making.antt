@@ -1,7 +1,8 @@
 -- The writes of the tables: what they leave is what the machine's writes leave.
 use Rattle.std.proofs.Common.{◌≡◌, refl, sym, ap, subst, ◌∙◌, ℕ, ◌+◌, ◌<◌, ◌≤◌, true, false, length, List, [], ◌∷◌, Option, Some, None, Ok, Err, Result, OnOk, IfErr, IfSome, option_map, arith}
-use Rattle.std.specs.Prelude.{if◌then◌else◌, IsErrOf}
+use Rattle.std.specs.Prelude.{if◌then◌else◌, IsErrOf, IsSome}
 use Rattle.std.specs.Result.{IsErrAnd}
+use Rattle.std.proofs.lemmas.Bool.{false≢true}
 use Rattle.std.proofs.lemmas.Result.{err_from_is_err_and}
 use Rattle.std.specs.FinMap as map
 use Rattle.alt_cells.specs.declared.batch.RowChange.{RowChange}
@@ -185,6 +186,12 @@ module _ (before : DiskState) (old : Tables) (s : State) (stands : Stands before
     pub table_lacked : (n : ℕ) → table_lack (number_of old) old.family ≡ Some n
         → lack_of a_table s ≡ Some n
     table_lacked n lacks = sym (λ i. table_lack (stands.number i) (stands.family i)) ∙ lacks
+
+-- what can be had isn't lacked
+pub not_lacking : (number family : ℕ) → number < NUMBERS_END
+    → family + MOST_FAMILIES ≤ FAMILIES_END → IsSome (table_lack number family) → ⊥
+not_lacking number family room enough lacks =
+    false≢true (subst IsSome (has_table number family room enough) lacks)
 
 -- one write is made, and the tables stand for the state after it
 pub one_made : (now : State → Type 0) (wants : Wants) (s r : State) → now r → lack_of wants s ≡ None

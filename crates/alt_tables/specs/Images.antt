@@ -1,5 +1,5 @@
 -- The state for which files stand that a stop left, and what a call of the tables leaves at each of its moments.
-use Rattle.std.specs.Prelude.{◌≡◌, ℕ, List, [], ◌∷◌, Option}
+use Rattle.std.specs.Prelude.{ℕ, List, [], ◌∷◌, Option}
 use Rattle.alt_disk.specs.Disk.{DiskState}
 use Rattle.alt_disk.specs.Runs.{Quiet, Spans}
 use Rattle.alt_engine.specs.Image.{IsLayout}
@@ -28,8 +28,3 @@ AfterSome s atoms moment image = (k : ℕ) × StandsFor image (state_after k s a
 abbrev pub Leaves : DiskState → DiskState → State → List State → Type 0
 Leaves old new s [] = Quiet old new
 Leaves old new s (t ∷ ts) = Spans old new IsWritten (AfterSome s (t ∷ ts))
-
--- An image stands for at most one state.
-abbrev pub OneState : Type 0
-OneState = (image : ℕ → Option (List ℕ)) (s r : State) → StandsFor image s → StandsFor image r
-    → s ≡ r

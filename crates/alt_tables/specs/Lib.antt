@@ -2,8 +2,9 @@ pub mod Codes
 pub mod Faults
 pub mod Found
 pub mod Images
-pub mod Made
 pub mod ItemRows
+pub mod Laws
+pub mod Made
 pub mod Opening
 pub mod Order
 pub mod Recovery

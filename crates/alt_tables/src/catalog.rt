@@ -157,6 +157,7 @@ fn any_clashes(entries: &[TableSchema], number: u64, families: &[u32]) -> bool
 }
 
 /// Whether a table has one of these families.
+#[tactic(auto, using(crate::proofs::Sharing::shares_parts))]
 fn shares(families: &[u32], schema: &TableSchema) -> bool
     ensures { result ≡ shares families.now schema.now }
 {

@@ -1,6 +1,7 @@
 //! The rows of the catalog: descriptions at their tables' names, and the next family at the empty key (docs/formats/table-rows.md).
 
-ghost use Rattle.std.specs.Prelude.{◌≡◌, ◌≤◌, ℕ, List, Err, IfOk, IfSome, IfNone, option_map};
+ghost use Rattle.std.specs.Prelude.{◌≡◌, ◌<◌, ◌≤◌, ◌^◌, ℕ, List, Err, IfOk, IfSome, IfNone, option_map};
+ghost use Rattle.std.specs.Int.{w32, to_be_bytes};
 ghost use Rattle.alt_schema.specs.Described.{IsDescription};
 ghost use Rattle.alt_schema.specs.Held.{IsHeld};
 ghost use Rattle.alt_schema.specs.declared.schema.TableSchema.{TableSchema};
@@ -80,12 +81,26 @@ pub(crate) fn family_of_row(row: Option<&ShownRow>) -> Option<u32>
     let Some(row) = row else {
         return Some(1);
     };
-    let bytes = value_of(row, NEXT)?;
-    let (family, behind) = take_u32(bytes, 0).ok()?;
-    if behind != bytes.len() || family < 2 {
+    match value_of(row, NEXT) {
+        Some(bytes) => family_of_bytes(bytes),
+        None => None,
+    }
+}
+
+/// The next family that is written in four bytes, which is 2 or above.
+fn family_of_bytes(bytes: &[u8]) -> Option<u32>
+    ensures family { IfSome result (λ family. (2 ≤ family) × (family < 2 ^ 32)
+        × (bytes.now ≡ to_be_bytes w32 family)) }
+    ensures none { IfNone result ((family : ℕ) → 2 ≤ family → family < 2 ^ 32
+        → bytes.now ≡ to_be_bytes w32 family → ⊥) }
+{
+    if bytes.len() != 4 {
         return None;
     }
-    Some(family)
+    match take_u32(bytes, 0) {
+        Ok((family, _)) => if family < 2 { None } else { Some(family) },
+        Err(_) => None,
+    }
 }
 
 /// The value of a row's one column, where it has that name and is the only one.

@@ -5,6 +5,7 @@ mod catalog;
 mod catalog_row;
 mod faults;
 mod item_row;
+mod laws;
 mod made;
 mod opened;
 mod place;
@@ -14,6 +15,7 @@ mod scan;
 mod tables;
 
 pub use faults::{OpenFault, TableFault};
+pub use laws::tables_laws;
 pub use place::place_of;
 pub use rows::Found;
 pub use tables::Tables;

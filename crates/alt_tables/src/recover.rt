@@ -20,6 +20,7 @@ use crate::scan::{read_items, unread};
 use crate::tables::Tables;
 use alt_disk::Disk;
 use alt_engine::{Engine, RecoverFault};
+use alt_schema::held;
 use std::alloc::Global;
 
 impl Tables {
@@ -113,6 +114,7 @@ fn read_tables<D: Disk>(
 {
     let mut family = 0;
     'tables: while let Some(schema) = catalog.above(family) {
+        held(schema);
         match read_items(alloc, disk, engine, schema) {
             Ok(()) => {}
             Err(fault) => return Err(fault),

@@ -1,6 +1,6 @@
 //! All tables: what is known of them by their names, the numbers and families that are left, and the writes of the catalog.
 
-ghost use Rattle.std.specs.Prelude.{◌≡◌, ◌∷◌, [], ◌+◌, ◌<◌, ◌≤◌, length, true, None, Some, IfOk, IfErr, OnOk, OnErr, IsErrOf, option_map, slice_get};
+ghost use Rattle.std.specs.Prelude.{◌≡◌, ◌∷◌, [], ◌+◌, ◌<◌, ◌≤◌, length, true, None, Some, IsSome, IfOk, IfErr, OnOk, OnErr, IsErrOf, option_map, slice_get};
 ghost use Rattle.std.specs.FinMap as map;
 ghost use Rattle.alt_base.specs.Counts.{Rose};
 ghost use Rattle.alt_disk.specs.Disk.{IsTrusted, Goes};
@@ -99,6 +99,9 @@ impl Tables {
             (with_table s schema ∷ []) result }
         ensures disk { (s : State) → Stands (D.state disk.old) self.old s
             → Leaves (D.state disk.old) (D.state disk.new) s (with_table s schema ∷ []) }
+        // On every disk: where a number or families lack, no call of the disk is made.
+        ensures lacking { IsSome (table_lack (number_of self.old) (family_of self.old))
+            → D.state disk.new ≡ D.state disk.old }
         ensures goes { Goes (D.state disk.old) (D.state disk.new) }
         ensures cause { IsErrOf result TableFault.Failed
             → Rose (D.state disk.old).faults (D.state disk.new).faults }

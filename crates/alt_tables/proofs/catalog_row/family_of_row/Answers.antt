@@ -1,13 +1,9 @@
--- The value of the one column of the row is the family's four bytes.
-use Rattle.std.proofs.Common.{sym, ◌∙◌}
-use Rattle.alt_tables.proofs.OneColumn.{one_value}
+-- Where the bytes of the one column tell no family, the row does not.
+use Rattle.std.proofs.Common.{ap, option_map}
+use Rattle.alt_tables.proofs.NextFamily.{none_told}
 use Rattle.alt_tables.proofs.catalog_row.family_of_row.Goals as goal
 
-pub returns-in_err-family-clause-none : goal.returns-in_err-family-clause-none
-returns-in_err-family-clause-none c = ?
-
-pub returns-then-behind-bytes-clause-none : goal.returns-then-behind-bytes-clause-none
-returns-then-behind-bytes-clause-none c = ?
-
-pub returns-clause-family : goal.returns-clause-family
-returns-clause-family c = ?
+pub returns-in-Some-value_of-clause-none : goal.returns-in-Some-value_of-clause-none
+returns-in-Some-value_of-clause-none c = none_told (option_map (λ r. r.now) c.args.row)
+    c.in-Some.row.now c.in-Some-value_of.bytes.now (ap (option_map (λ r. r.now)) c.in-Some.is)
+    c.in-Some-value_of.ensures.value c.family_of_bytes.result c.family_of_bytes.ensures.none

@@ -10,6 +10,7 @@ tables-init g c = record {
   walked = walk_start (g.D.Disk.state c.args.disk.now) c.args.engine.now;
   read = λ tells layout next reads catalog. none_yet layout next c.args.catalog.now catalog
       (number_within (g.D.Disk.state c.args.disk.now) c.args.engine.now layout reads);
+  small = omega arith;
 }
 
 pub returns-in-Err-clause-wrong : goal.returns-in-Err-clause-wrong
@@ -23,7 +24,9 @@ returns-in-Err-clause-wrong g c tells l next reads catalog =
     c.tables.engine l c.tables.invariant.walked tells reads))
 
 pub tables-smaller : goal.tables-smaller
-tables-smaller g c = let up = c.in-Some.ensures.above.above in omega (arith, up)
+tables-smaller g c =
+    let up = c.in-Some.ensures.above.above in
+    let small = c.tables.invariant.small in omega (arith, up, small)
 
 pub tables-preserved : goal.tables-preserved
 tables-preserved g c = record {
@@ -37,4 +40,5 @@ tables-preserved g c = record {
       (c.in-Ok.ensures.read (subst IsTrue (sym c.tables.invariant.walked.goes.tells) tells) layout
       (reads_on (g.D.Disk.state c.args.disk.now) (g.D.Disk.state c.tables.disk)
       c.args.engine.now c.tables.engine layout c.tables.invariant.walked tells reads));
+  small = let held = ? in ?;
 }

@@ -1,5 +1,5 @@
 -- The items of the tables up to this family are read.
-use Rattle.std.proofs.Common.{◌-◌, ◌^◌, ℕ, IsTrue}
+use Rattle.std.proofs.Common.{◌<◌, ◌-◌, ◌^◌, ℕ, IsTrue}
 use Rattle.alt_engine.specs.InHand.{Reads}
 use Rattle.alt_engine.specs.Layout.{Layout}
 use Rattle.alt_tables.specs.Opening.{IsCatalog}
@@ -13,6 +13,7 @@ invariant-tables g l = record {
   read : IsTrue (g.D.Disk.state l.fn.disk).tells → (layout : Layout) (next : ℕ)
       → Reads (g.D.Disk.state l.fn.disk) l.fn.engine layout
       → IsCatalog layout next l.catalog → ReadUpTo layout l.catalog l.family;
+  small : l.family < 2 ^ 32;
 }
 
 abbrev pub decreases-tables : goal.decreases-tables

@@ -13,7 +13,7 @@ use Rattle.alt_tables.specs.Faults.{BreakOff}
 use Rattle.alt_tables.specs.Stands.{Stands}
 use Rattle.alt_tables.specs.declared.faults.TableFault.TheVariants.{Spent}
 use Rattle.alt_tables.proofs.Holding.{leaves_quiet}
-use Rattle.alt_tables.proofs.Making.{broke, one_made, spent, table_lacked, table_stands, table_turned, want_told}
+use Rattle.alt_tables.proofs.Making.{broke, not_lacking, one_made, spent, table_lacked, table_stands, table_turned, want_told}
 use Rattle.alt_tables.proofs.Standing.{remove-insert}
 use Rattle.alt_tables.proofs.tables.Tables.create.Goals as goal
 
@@ -131,3 +131,15 @@ returns-clause-disk g c s stands =
     c.in_ok-batch.batch (ap (λ n. c.args.self.now.family + n) c.family_count.ensures.count)
     c.in_ok-batch.ensures.changes c.held.ensures.held (omega (arith, c.next_number-number.ensures.next, c.if-number-ge-NUMBERS_END.false))
     (omega (arith, c.if-self.false)))
+
+pub returns-in-Ok-clause-lacking : goal.returns-in-Ok-clause-lacking
+returns-in-Ok-clause-lacking g c lacks = absurd (not_lacking c.args.self.now.engine.next
+    c.args.self.now.family
+    (omega (arith, c.next_number-number.ensures.next, c.if-number-ge-NUMBERS_END.false))
+    (omega (arith, c.if-self.false)) lacks)
+
+pub returns-clause-lacking : goal.returns-clause-lacking
+returns-clause-lacking g c lacks = absurd (not_lacking c.args.self.now.engine.next
+    c.args.self.now.family
+    (omega (arith, c.next_number-number.ensures.next, c.if-number-ge-NUMBERS_END.false))
+    (omega (arith, c.if-self.false)) lacks)

@@ -58,3 +58,15 @@ returns-in-Err-clause-disk g c s t place stands at here =
     leaves_quiet (g.D.Disk.state c.args.disk.now) (g.D.Disk.state c.args.disk.now)
     c.args.self.now.engine s _ stands.rows stands.valid
     (quiet_start (g.D.Disk.state c.args.disk.now))
+
+pub returns-in_default-clause-disk : goal.returns-in_default-clause-disk
+returns-in_default-clause-disk g c s t place stands at here =
+    leaves_quiet (g.D.Disk.state c.args.disk.now) (g.D.Disk.state c.args.disk.now)
+    c.args.self.now.engine s _ stands.rows stands.valid
+    (quiet_start (g.D.Disk.state c.args.disk.now))
+
+pub returns-in_default-copy_of-clause-disk : goal.returns-in_default-copy_of-clause-disk
+returns-in_default-copy_of-clause-disk g c s t place stands at here =
+    leaves_quiet (g.D.Disk.state c.args.disk.now) (g.D.Disk.state c.args.disk.now)
+    c.args.self.now.engine s _ stands.rows stands.valid
+    (quiet_start (g.D.Disk.state c.args.disk.now))

@@ -1,0 +1,33 @@
+-- The laws of files and of tables that stand for a state.
+use Rattle.std.specs.Prelude.{◌≡◌, ℕ, List, Option}
+use Rattle.alt_disk.specs.Disk.{DiskState, Goes, IsImage}
+use Rattle.alt_disk.specs.Runs.{Quiet}
+use Rattle.alt_machine.specs.State.{State}
+use Rattle.alt_tables.specs.Images.{StandsFor}
+use Rattle.alt_tables.specs.Stands.{Stands}
+use Rattle.alt_tables.specs.declared.tables.Tables.{Tables}
+
+-- An image stands for at most one state.
+abbrev pub OneState : Type 0
+OneState = (image : ℕ → Option (List ℕ)) (s r : State) → StandsFor image s → StandsFor image r
+    → s ≡ r
+
+-- Tables stand for at most one.
+abbrev pub OneInHand : Type 0
+OneInHand = (disk : DiskState) (t : Tables) (s r : State) → Stands disk t s → Stands disk t r
+    → s ≡ r
+
+-- Where tables stand for a state, so do the files of the disk as they read.
+abbrev pub FilesStand : Type 0
+FilesStand = (disk : DiskState) (t : Tables) (s : State) → Stands disk t s
+    → StandsFor disk.file s
+
+-- And so does whatever a stop now leaves.
+abbrev pub EachLeft : Type 0
+EachLeft = (disk : DiskState) (t : Tables) (s : State) → Stands disk t s
+    → (image : ℕ → Option (List ℕ)) → IsImage disk disk.moment image → StandsFor image s
+
+-- Tables stand for what they stood for while calls leave every file.
+abbrev pub StaysQuiet : Type 0
+StaysQuiet = (a b : DiskState) (t : Tables) (s : State) → Goes a b → Quiet a b → Stands a t s
+    → Stands b t s

@@ -40,5 +40,5 @@ tables-preserved g c = record {
       (c.in-Ok.ensures.read (subst IsTrue (sym c.tables.invariant.walked.goes.tells) tells) layout
       (reads_on (g.D.Disk.state c.args.disk.now) (g.D.Disk.state c.tables.disk)
       c.args.engine.now c.tables.engine layout c.tables.invariant.walked tells reads));
-  small = let held = ? in ?;
+  small = c.held.ensures.held.family;
 }

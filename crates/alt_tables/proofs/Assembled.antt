@@ -1,7 +1,7 @@
 -- Where every row can be read, there is a state that the rows show.
-use Rattle.std.proofs.Common.{◌≡◌, ◌≢◌, ◌≤◌, ◌<◌, ℕ, Bool, true, false, cond, T, List, [], ◌∷◌, Option, Some, None, refl, sym, ap, subst, ◌∙◌, arith, Contains}
+use Rattle.std.proofs.Common.{◌≡◌, ◌≤◌, ℕ, Bool, true, false, cond, List, [], ◌∷◌, Option, Some, None, refl, sym, ap, subst, ◌∙◌, arith}
 use Rattle.std.proofs.lemmas.Bool.{false≢true}
-use Rattle.std.specs.Prelude.{if◌then◌else◌, option_and_then, option_map, unwrap_or}
+use Rattle.std.specs.Prelude.{if◌then◌else◌, option_and_then, option_map}
 use Rattle.std.specs.Ordering.{eq_by_cmp}
 use Rattle.std.specs.FinMap as map
 use Rattle.alt_cells.specs.Changes.{Columns}
@@ -9,17 +9,16 @@ use Rattle.alt_cells.specs.Keys.{key_cmp}
 use Rattle.alt_cells.specs.Shown.{row_shown}
 use Rattle.alt_cells.proofs.CellLaws.{key_total}
 use Rattle.alt_engine.specs.Layout.{Layout, shown}
-use Rattle.alt_machine.specs.declared.TheConstants.{NUMBERS_END, FAMILIES_END}
-use Rattle.alt_machine.specs.State.{State, Table, Texts, descriptions, families_of}
+use Rattle.alt_machine.specs.declared.TheConstants.{NUMBERS_END}
+use Rattle.alt_machine.specs.State.{State, Table, Texts, descriptions}
 use Rattle.alt_machine.specs.Valid.{IsStored, IsTable, IsValid}
 use Rattle.alt_machine.proofs.Descriptions.{get-descriptions, len-descriptions}
-use Rattle.alt_schema.specs.Held.{IsHeld}
 use Rattle.alt_schema.specs.Rules.{is_name}
 use Rattle.alt_schema.specs.declared.schema.TableSchema.{TableSchema}
 use Rattle.alt_tables.specs.ItemRows.{item_columns, IsReadItem}
 use Rattle.alt_tables.specs.Opening.{Assembled, IsCatalog, IsGood, AreApart}
 use Rattle.alt_tables.specs.Scans.{IsItemAt, ItemsRead}
-use Rattle.alt_tables.specs.StateRows.{Shows, IsHeldWhole, catalog_family, item_rows, table_row, next_row}
+use Rattle.alt_tables.specs.StateRows.{Shows, catalog_family, table_row, next_row}
 use Rattle.alt_tables.proofs.ChangeLaws.{tied, itself}
 use Rattle.alt_tables.proofs.ChosenLaws.{AllRead, IsRead, map_read}
 use Rattle.alt_tables.proofs.Maps.{same_texts}

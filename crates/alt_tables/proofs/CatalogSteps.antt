@@ -1,5 +1,5 @@
 -- One row of the catalog more: its table is known, or it is the first wrong row.
-use Rattle.std.proofs.Common.{◌≡◌, ◌≤◌, refl, sym, subst, inl, ℕ, Bool, false, List, [], ◌∷◌, ◌++◌, Option, Some, None}
+use Rattle.std.proofs.Common.{◌≡◌, ◌≤◌, refl, sym, subst, inl, ℕ, false, List, [], ◌∷◌, ◌++◌, None}
 use Rattle.std.specs.Ordering.{eq_by_cmp}
 use Rattle.std.specs.FinMap as map
 use Rattle.alt_cells.specs.Changes.{Columns}

@@ -1,5 +1,5 @@
 -- The first wrong row: before it the rows are those of a state, and with it those of none.
-use Rattle.std.proofs.Common.{◌≡◌, ◌≢◌, ◌≤◌, ◌<◌, ◌⊎◌, inl, inr, ⊎_elim, ℕ, Bool, true, false, cond, List, [], ◌∷◌, Option, Some, None, refl, sym, ap, subst, ◌∙◌, arith, Contains, Less, T}
+use Rattle.std.proofs.Common.{◌≡◌, ◌≤◌, ◌<◌, inl, inr, ⊎_elim, ℕ, Bool, true, false, cond, List, [], Option, Some, None, refl, sym, ap, subst, ◌∙◌, arith, Contains, Less, T}
 use Rattle.std.proofs.lemmas.Bool.{false≢true}
 use Rattle.std.proofs.lemmas.Bool.Decides.{nat_tests}
 use Rattle.std.specs.Prelude.{◌==◌, ◌&&◌, ◌||◌, nat_lt, if◌then◌else◌, option_map}
@@ -7,24 +7,20 @@ use Rattle.std.specs.Ordering.{eq_by_cmp, is_lt}
 use Rattle.std.specs.FinMap as map
 use Rattle.alt_cells.specs.Changes.{Columns}
 use Rattle.alt_cells.specs.Keys.{key_cmp}
-use Rattle.alt_cells.proofs.CellLaws.{key_total}
 use Rattle.alt_cells.proofs.Entries.{less}
 use Rattle.alt_engine.specs.Layout.{Layout, shown, IsFirstShown}
-use Rattle.alt_machine.specs.declared.TheConstants.{NUMBERS_END, FAMILIES_END, MOST_TABLES}
-use Rattle.alt_machine.specs.State.{State, Table, Texts, families_of, start}
-use Rattle.alt_machine.specs.Valid.{IsTable, IsValid}
+use Rattle.alt_machine.specs.declared.TheConstants.{NUMBERS_END, FAMILIES_END}
+use Rattle.alt_machine.specs.State.{State, Table, Texts, families_of}
 use Rattle.alt_machine.proofs.Families.{of_contained}
-use Rattle.alt_machine.proofs.Looks.{not_there}
-use Rattle.alt_machine.proofs.States.{start_valid}
 use Rattle.alt_schema.specs.Described.{IsDescription}
 use Rattle.alt_schema.specs.Held.{IsHeld}
 use Rattle.alt_schema.specs.declared.schema.TableSchema.{TableSchema}
 use Rattle.alt_schema.proofs.WholeDescriptions.{one_spelling}
 use Rattle.alt_tables.specs.ItemRows.{item_columns}
-use Rattle.alt_tables.specs.Opening.{Assembled, CatalogWhere, IsCatalog, IsGood, IsTableAt, AreApart}
+use Rattle.alt_tables.specs.Opening.{Assembled, IsCatalog, IsGood, AreApart}
 use Rattle.alt_tables.specs.Recovery.{Agrees, IsBefore, IsUpTo, IsFirstWrong}
-use Rattle.alt_tables.specs.Scans.{IsBelow, IsItemAt, IsFirstBad, ItemsRead}
-use Rattle.alt_tables.specs.StateRows.{Shows, catalog_family, catalog_rows, item_rows, table_row, next_row}
+use Rattle.alt_tables.specs.Scans.{IsItemAt, IsFirstBad, ItemsRead}
+use Rattle.alt_tables.specs.StateRows.{catalog_family, table_row, next_row}
 use Rattle.alt_tables.proofs.Assembled.{assembled, not_empty}
 use Rattle.alt_tables.proofs.ChangeLaws.{tied, itself}
 use Rattle.alt_tables.proofs.Cuts.{cut, shown-cut, shown-here, shown-not}

@@ -1,9 +1,8 @@
 -- What the tests of a description that is read tell.
-use Rattle.std.proofs.Common.{◌≡◌, ◌≢◌, ◌≤◌, ◌<◌, refl, sym, ap, subst, ◌∙◌, ℕ, zero, suc, Bool, true, false, not, nat_le, nat_lt, List, [], ◌∷◌, length, Option, Some, slice_index_or, arith, All, AllPairs, Contains, IsTrue}
+use Rattle.std.proofs.Common.{◌≡◌, ◌≢◌, ◌≤◌, ◌<◌, refl, sym, ap, subst, ◌∙◌, ℕ, zero, suc, Bool, true, false, not, nat_le, nat_lt, List, [], ◌∷◌, length, Some, slice_index_or, arith, All, AllPairs, Contains, IsTrue}
 use Rattle.std.specs.Bool.{Decides}
 use Rattle.std.specs.List.{list_any, HoldsAt}
 use Rattle.std.specs.Prelude.{◌==◌, ◌&&◌, ◌↔◌}
-use Rattle.std.specs.Str.{bytes_eq}
 use Rattle.std.specs.FinMap as map
 use Rattle.std.proofs.lemmas.Bool.{leb-true, le-leb, false≢true}
 use Rattle.std.proofs.lemmas.Bool.Decides.{Decides-and, Decides-not, Decides-like, Decides-by_and, Decides-by_or, Decides-ltb, Decides-eqb, not_from_Decides}
@@ -13,8 +12,7 @@ use Rattle.alt_machine.specs.State.{Texts, families_of}
 use Rattle.alt_schema.specs.Described.{IsDescription}
 use Rattle.alt_schema.specs.Held.{IsHeld}
 use Rattle.alt_schema.specs.declared.schema.TableSchema.{TableSchema}
-use Rattle.alt_tables.specs.Made.{is_as_made}
-use Rattle.alt_tables.specs.Opening.{IsApart, IsGood, AreApart, are_within, are_apart, passes, shares}
+use Rattle.alt_tables.specs.Opening.{IsApart, IsGood, are_within, are_apart, passes, shares}
 use Rattle.alt_tables.proofs.MadeLaws.{as_made, made_as}
 
 -- an element at a place doesn't turn on what stands for none

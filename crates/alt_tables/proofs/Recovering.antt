@@ -1,5 +1,5 @@
 -- What is known of a store that is opened.
-use Rattle.std.proofs.Common.{◌≡◌, ◌≤◌, ◌+◌, ◌-◌, ◌^◌, refl, sym, subst, ◌∙◌, inl, inr, ℕ, List, [], ◌∷◌, Option, Some, None, arith}
+use Rattle.std.proofs.Common.{◌≡◌, ◌≤◌, refl, sym, subst, ◌∙◌, ℕ, List, [], ◌∷◌, Option, arith}
 use Rattle.std.specs.Prelude.{⊤}
 use Rattle.alt_disk.specs.Disk.{DiskState, IsTrusted}
 use Rattle.alt_disk.specs.Runs.{Quiet, Spans}
@@ -25,7 +25,7 @@ use Rattle.alt_tables.specs.Stands.{Stands}
 use Rattle.alt_tables.specs.declared.faults.OpenFault.{OpenFault}
 use Rattle.alt_tables.specs.declared.faults.OpenFault.TheVariants.{Damaged, BadRow, Failed, NoMemory}
 use Rattle.alt_tables.specs.declared.tables.Tables.{Tables}
-use Rattle.alt_tables.proofs.Engine.{stays_quiet, reads_quiet}
+use Rattle.alt_tables.proofs.Engine.{stays_quiet}
 use Rattle.alt_tables.proofs.OneState.{one_state_of_image}
 
 -- ---- the number

@@ -6,7 +6,6 @@ use Rattle.alt_schema.specs.Indexes.{indexes}
 use Rattle.alt_schema.specs.Rules.{is_name, all_differ, most_locals, most_globals}
 use Rattle.alt_schema.specs.declared.schema.IndexSchema.{IndexSchema}
 use Rattle.alt_schema.specs.declared.schema.TableSchema.{TableSchema}
-use Rattle.std.specs.Prelude.{List}
 
 -- each index of both lists passes a test
 abbrev pub all_indexes : (IndexSchema → Bool) → TableSchema → Bool

@@ -1,5 +1,5 @@
 -- The tests tell it.
-use Rattle.std.proofs.Common.{◌≡◌, sym, ap, subst, ◌∙◌}
+use Rattle.std.proofs.Common.{sym, ◌∙◌}
 use Rattle.alt_tables.proofs.GoodLaws.{good_is}
 use Rattle.alt_tables.proofs.opened.is_good.Goals as goal
 

@@ -1,5 +1,5 @@
 -- The tests tell it.
-use Rattle.std.proofs.Common.{◌≡◌, arith}
+use Rattle.std.proofs.Common.{arith}
 use Rattle.alt_tables.proofs.opened.may_stand.Goals as goal
 
 pub returns : goal.returns

@@ -1,7 +1,5 @@
 -- The next row is that of a table, or the first wrong one, or there is none.
-use Rattle.std.proofs.Common.{◌≡◌, ap, subst, ◌∙◌, ◌++◌, ◌∷◌, [], Err, IsTrue}
-use Rattle.alt_engine.specs.InHand.{Reads}
-use Rattle.alt_engine.specs.Layout.{Layout}
+use Rattle.std.proofs.Common.{ap, subst, ◌∙◌, ◌++◌, ◌∷◌, [], Err}
 use Rattle.alt_tables.specs.Scans.{IsFirstFrom, IsNextRow}
 use Rattle.alt_tables.specs.StateRows.{catalog_family}
 use Rattle.alt_tables.proofs.CatalogSteps.{step_none, step_wrong, step_more}

@@ -1,7 +1,6 @@
 -- What was read is the state, or a row is the first wrong one.
 use Rattle.std.proofs.Common.{sym, subst, IsTrue}
-use Rattle.alt_engine.specs.InHand.{Reads}
-use Rattle.alt_engine.specs.Layout.{Layout, ShowsFirst}
+use Rattle.alt_engine.specs.Layout.{ShowsFirst}
 use Rattle.alt_tables.specs.Opening.{AllItemsRead, IsCatalog}
 use Rattle.alt_tables.specs.Scans.{Walked}
 use Rattle.alt_tables.proofs.Assembled.{assembled}

@@ -1,7 +1,7 @@
 -- Where every row can be read, there is a state that the rows show.
-use Rattle.std.proofs.Common.{◌≡◌, ◌≢◌, ◌≤◌, ◌<◌, ℕ, Bool, true, false, cond, T, List, [], ◌∷◌, Option, Some, None, refl, sym, ap, subst, ◌∙◌, arith, Contains, Unit}
+use Rattle.std.proofs.Common.{◌≡◌, ◌≤◌, ℕ, Bool, true, false, cond, List, [], ◌∷◌, Option, Some, None, refl, sym, ap, subst, ◌∙◌, arith}
 use Rattle.std.proofs.lemmas.Bool.{false≢true}
-use Rattle.std.specs.Prelude.{if◌then◌else◌, option_and_then, option_map, unwrap_or}
+use Rattle.std.specs.Prelude.{if◌then◌else◌, option_and_then, option_map}
 use Rattle.std.specs.Ordering.{eq_by_cmp}
 use Rattle.std.specs.FinMap as map
 use Rattle.alt_cells.specs.Changes.{Columns}
@@ -9,17 +9,16 @@ use Rattle.alt_cells.specs.Keys.{key_cmp}
 use Rattle.alt_cells.specs.Shown.{row_shown}
 use Rattle.alt_cells.proofs.CellLaws.{key_total}
 use Rattle.alt_engine.specs.Layout.{Layout, shown}
-use Rattle.alt_machine.specs.declared.TheConstants.{NUMBERS_END, FAMILIES_END}
-use Rattle.alt_machine.specs.State.{State, Table, Texts, descriptions, families_of}
+use Rattle.alt_machine.specs.declared.TheConstants.{NUMBERS_END}
+use Rattle.alt_machine.specs.State.{State, Table, Texts, descriptions}
 use Rattle.alt_machine.specs.Valid.{IsStored, IsTable, IsValid}
 use Rattle.alt_machine.proofs.Descriptions.{get-descriptions, len-descriptions}
-use Rattle.alt_schema.specs.Held.{IsHeld}
 use Rattle.alt_schema.specs.Rules.{is_name}
 use Rattle.alt_schema.specs.declared.schema.TableSchema.{TableSchema}
 use Rattle.alt_tables.specs.ItemRows.{item_columns, IsReadItem}
 use Rattle.alt_tables.specs.Opening.{Assembled, IsCatalog, IsGood, AreApart}
 use Rattle.alt_tables.specs.Scans.{IsItemAt, ItemsRead}
-use Rattle.alt_tables.specs.StateRows.{Shows, IsHeldWhole, catalog_family, item_rows, table_row, next_row}
+use Rattle.alt_tables.specs.StateRows.{Shows, catalog_family, table_row, next_row}
 use Rattle.alt_tables.proofs.ChangeLaws.{tied, itself}
 use Rattle.alt_tables.proofs.ChosenLaws.{AllRead, IsRead, map_read}
 use Rattle.alt_tables.proofs.Maps.{same_texts}
@@ -55,9 +54,11 @@ module _ (l : Layout) (family : ℕ) (catalog : Texts TableSchema)
       let chosen = map_read row_shown (IsRow d) (l.rows d.family)
       (λ key row at. all key row tt at) in (
         chosen.0,
-        (λ key. row key (shown l d.family key) (map.get chosen.0 key) (chosen.1 key)),
-        (λ key item at. each key (shown l d.family key) (map.get chosen.0 key) (chosen.1 key)
-            item at),
+        (
+          λ key. row key (shown l d.family key) (map.get chosen.0 key) (chosen.1 key),
+          λ key item at. each key (shown l d.family key) (map.get chosen.0 key) (chosen.1 key)
+              item at,
+        ),
       )
     where
       row : (key : List ℕ) (c : Option Columns) (o : Option (List Pair))
@@ -80,7 +81,7 @@ module _ (l : Layout) (family : ℕ) (catalog : Texts TableSchema)
   record IsTableOf (name : List ℕ) (columns : Columns) (t : Table) : Type 0 where
     row : columns ≡ table_row t.description
     known : map.get catalog name ≡ Some t.description
-    items : HasItems t.description t.items
+    has : HasItems t.description t.items
     changes : t.changes ≡ []
 
   tables_read : AllRead row_shown IsTableOf (map.get (map.remove (l.rows catalog_family) []))
@@ -100,7 +101,7 @@ module _ (l : Layout) (family : ℕ) (catalog : Texts TableSchema)
             record {
               row = same_Some _ _ (sym at ∙ (read.stands name d is).1);
               known = is;
-              items = m.1;
+              has = m.1;
               changes = refl;
             },
           )
@@ -141,17 +142,13 @@ module _ (l : Layout) (family : ℕ) (catalog : Texts TableSchema)
           (map.get (map.remove (l.rows catalog_family) []) name) ≡ Some row)
           × IsTableOf name row t)
       by None e is = absurd (let none : None ≡ Some t = sym is ∙ at in cc none)
-      by (Some row) e is = (
-        row,
-        e,
-        subst (IsTableOf name row) (same_Some _ _ (sym is.1.0 ∙ at))
-            is.1.1,
-      )
+      by (Some row) e is = (row, (e, subst (IsTableOf name row)
+          (same_Some _ _ (sym is.1.0 ∙ at)) is.1.1))
 
   table_is : (name : List ℕ) (t : Table) → map.get chosen.0 name ≡ Some t
       → HasItems t.description t.items × (map.get catalog name ≡ Some t.description)
       × (t.changes ≡ [])
-  table_is name t at = let (row, e, is) = table_here name t at in (is.items, is.known, is.changes)
+  table_is name t at = let (row, (e, is)) = table_here name t at in (is.has, is.known, is.changes)
 
   -- a table that is known stands there
   known_there : (name : List ℕ) (d : TableSchema) → map.get catalog name ≡ Some d

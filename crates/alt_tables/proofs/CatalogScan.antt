@@ -1,5 +1,5 @@
 -- The rows of a catalog, read one after the other.
-use Rattle.std.proofs.Common.{◌≡◌, ◌≢◌, ◌⊎◌, ◌≤◌, ◌<◌, ◌+◌, inl, inr, ⊎_elim, refl, sym, ap, subst, ◌∙◌, ℕ, Bool, true, false, cond, List, [], ◌∷◌, ◌++◌, Option, Some, None, Less, Equal, Greater, Contains, arith}
+use Rattle.std.proofs.Common.{◌≡◌, ◌⊎◌, ◌≤◌, ◌+◌, inl, inr, ⊎_elim, refl, sym, ap, subst, ◌∙◌, ℕ, Bool, true, false, cond, List, [], ◌∷◌, ◌++◌, Some, None, Less, Equal, Greater, arith}
 use Rattle.std.proofs.lemmas.Bool.{false≢true}
 use Rattle.std.specs.declared.cmp.Ordering.{Ordering}
 use Rattle.std.specs.Ordering.{eq_by_cmp, ordering_reverse}
@@ -8,7 +8,6 @@ use Rattle.alt_cells.specs.Changes.{Columns}
 use Rattle.alt_cells.specs.Keys.{key_cmp}
 use Rattle.alt_cells.proofs.CellLaws.{key_total, key_exact}
 use Rattle.alt_engine.specs.Layout.{Layout, shown}
-use Rattle.alt_machine.specs.declared.TheConstants.{MOST_TABLES}
 use Rattle.alt_machine.specs.State.{Texts}
 use Rattle.alt_machine.proofs.Looks.{at_insert, not_there}
 use Rattle.alt_schema.specs.declared.schema.TableSchema.{TableSchema}

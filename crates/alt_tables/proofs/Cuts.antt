@@ -1,10 +1,7 @@
 -- The rows of a layout before one of them, and up to it, taken alone.
-use Rattle.std.proofs.Common.{◌≡◌, ◌<◌, refl, sym, ap, ◌∙◌, ℕ, Bool, true, false, cond, List, Option, Some, None}
-use Rattle.std.specs.Prelude.{◌==◌, ◌&&◌, ◌||◌, nat_lt, option_and_then}
-use Rattle.std.specs.Ordering.{is_lt}
+use Rattle.std.proofs.Common.{◌≡◌, refl, sym, ap, ◌∙◌, ℕ, Bool, true, false, cond, List, Option, None}
+use Rattle.std.specs.Prelude.{option_and_then}
 use Rattle.std.specs.FinMap.{get, retain_keys, get-retain_keys}
-use Rattle.alt_cells.specs.Changes.{Columns}
-use Rattle.alt_cells.specs.Keys.{key_cmp}
 use Rattle.alt_cells.specs.Shown.{row_shown}
 use Rattle.alt_cells.specs.declared.row.RowCells.{RowCells}
 use Rattle.alt_cells.proofs.CellLaws.{key_exact}

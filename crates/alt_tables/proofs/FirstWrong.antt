@@ -1,5 +1,5 @@
 -- The first wrong row: before it the rows are those of a state, and with it those of none.
-use Rattle.std.proofs.Common.{◌≡◌, ◌≢◌, ◌≤◌, ◌<◌, ◌⊎◌, inl, inr, ⊎_elim, ℕ, Bool, true, false, cond, List, [], ◌∷◌, Option, Some, None, refl, sym, ap, subst, ◌∙◌, arith, Contains, Less}
+use Rattle.std.proofs.Common.{◌≡◌, ◌≤◌, ◌<◌, inl, inr, ⊎_elim, ℕ, Bool, true, false, cond, List, [], Option, Some, None, refl, sym, ap, subst, ◌∙◌, arith, Contains, Less, T}
 use Rattle.std.proofs.lemmas.Bool.{false≢true}
 use Rattle.std.proofs.lemmas.Bool.Decides.{nat_tests}
 use Rattle.std.specs.Prelude.{◌==◌, ◌&&◌, ◌||◌, nat_lt, if◌then◌else◌, option_map}
@@ -7,24 +7,20 @@ use Rattle.std.specs.Ordering.{eq_by_cmp, is_lt}
 use Rattle.std.specs.FinMap as map
 use Rattle.alt_cells.specs.Changes.{Columns}
 use Rattle.alt_cells.specs.Keys.{key_cmp}
-use Rattle.alt_cells.proofs.CellLaws.{key_total}
 use Rattle.alt_cells.proofs.Entries.{less}
 use Rattle.alt_engine.specs.Layout.{Layout, shown, IsFirstShown}
-use Rattle.alt_machine.specs.declared.TheConstants.{NUMBERS_END, FAMILIES_END, MOST_TABLES}
-use Rattle.alt_machine.specs.State.{State, Table, Texts, families_of, start}
-use Rattle.alt_machine.specs.Valid.{IsTable, IsValid}
+use Rattle.alt_machine.specs.declared.TheConstants.{NUMBERS_END, FAMILIES_END}
+use Rattle.alt_machine.specs.State.{State, Table, Texts, families_of}
 use Rattle.alt_machine.proofs.Families.{of_contained}
-use Rattle.alt_machine.proofs.Looks.{not_there}
-use Rattle.alt_machine.proofs.States.{start_valid}
 use Rattle.alt_schema.specs.Described.{IsDescription}
 use Rattle.alt_schema.specs.Held.{IsHeld}
 use Rattle.alt_schema.specs.declared.schema.TableSchema.{TableSchema}
 use Rattle.alt_schema.proofs.WholeDescriptions.{one_spelling}
 use Rattle.alt_tables.specs.ItemRows.{item_columns}
-use Rattle.alt_tables.specs.Opening.{Assembled, CatalogWhere, IsCatalog, IsGood, IsTableAt, AreApart}
+use Rattle.alt_tables.specs.Opening.{Assembled, IsCatalog, IsGood, AreApart}
 use Rattle.alt_tables.specs.Recovery.{Agrees, IsBefore, IsUpTo, IsFirstWrong}
-use Rattle.alt_tables.specs.Scans.{IsBelow, IsItemAt, IsFirstBad, ItemsRead}
-use Rattle.alt_tables.specs.StateRows.{Shows, catalog_family, catalog_rows, item_rows, table_row, next_row}
+use Rattle.alt_tables.specs.Scans.{IsItemAt, IsFirstBad, ItemsRead}
+use Rattle.alt_tables.specs.StateRows.{catalog_family, table_row, next_row}
 use Rattle.alt_tables.proofs.Assembled.{assembled, not_empty}
 use Rattle.alt_tables.proofs.ChangeLaws.{tied, itself}
 use Rattle.alt_tables.proofs.Cuts.{cut, shown-cut, shown-here, shown-not}
@@ -140,15 +136,17 @@ module _ (l : Layout) (next : ℕ) (catalog : Texts TableSchema) (read : IsCatal
       (read.good name d at).families (own_family d)
 
   -- of tables of one family the description is one
-  same_table : (name other : List ℕ) (d e : TableSchema) → map.get catalog name ≡ Some d
+  pub same_table : (name other : List ℕ) (d e : TableSchema) → map.get catalog name ≡ Some d
       → map.get catalog other ≡ Some e → d.family ≡ e.family → d ≡ e
   same_table name other d e at_d at_e same = by (eq_by_cmp key_cmp name other) refl
     where
       by : (b : Bool) → eq_by_cmp key_cmp name other ≡ b → d ≡ e
       by true one = same_Some d e (sym at_d ∙ ap (map.get catalog) (tied name other one) ∙ at_e)
-      by false differ = absurd ((read.apart name other d e at_d at_e
-          (λ one. false≢true (sym differ ∙ ap (λ k. eq_by_cmp key_cmp k other) one ∙ itself other)))
-          .families d.family (own_family d)
+      by false differ =
+          let apart : AreApart d e = read.apart name other d e at_d at_e
+          (λ one. false≢true (sym differ ∙ ap (λ k. eq_by_cmp key_cmp k other) one
+          ∙ itself other)) in
+          absurd (apart.families d.family (own_family d)
           (subst (Contains (families_of e)) (sym same) (own_family e)))
 
   module _ (family : ℕ) (key : List ℕ) (high : 1 ≤ family) where
@@ -255,7 +253,7 @@ module _ (l : Layout) (next : ℕ) (catalog : Texts TableSchema) (read : IsCatal
 
   -- a row of a family from the next one on
   pub beyond_wrong : ((name : List ℕ) (d : TableSchema) → map.get catalog name ≡ Some d
-      → ItemsRead l d) → (family : ℕ) (key : List ℕ) → IsFirstShown l next (family, key)
+      → ItemsRead l d) → (family : ℕ) (key : List ℕ) → IsFirstShown (shown l) next (family, key)
       → IsFirstWrong l family key
   beyond_wrong items family key first = record {
     before = state_before family key high

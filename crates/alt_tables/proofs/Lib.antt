@@ -26,3 +26,7 @@ pub mod Cuts
 pub mod Assembled
 pub mod FirstWrong
 pub mod WrongTable
+pub mod GoodLaws
+pub mod CatalogSteps
+pub mod TableSteps
+pub mod Recovering

@@ -1,23 +1,23 @@
 -- The first row that a family shows from a key on, and the keys behind it.
-use Rattle.std.proofs.Common.{◌≡◌, ◌⊎◌, inl, inr, refl, sym, ap, subst, ◌∙◌, ℕ, zero, suc, Bool, true, false, cond, not, T, List, [], ◌∷◌, ◌++◌, Option, Some, None, take, Less, Equal, Greater, slice_get, length, ◌<◌, ⊎_elim, arith, length-append}
+use Rattle.std.proofs.Common.{◌≡◌, ◌⊎◌, inl, inr, refl, sym, ap, subst, ◌∙◌, ℕ, zero, suc, Bool, true, false, cond, T, List, [], ◌∷◌, ◌++◌, Option, Some, None, take, Less, Equal, Greater, slice_get, length, ◌<◌, ⊎_elim, arith, length-append}
 use Rattle.std.proofs.lemmas.Bool.{false≢true}
 use Rattle.std.specs.Prelude.{◌&&◌, ◌↔◌, IsSome}
 use Rattle.std.specs.Option.{option_to_list}
-use Rattle.std.specs.BTreeMap.Range.{entries_between, range_contains, is_from_start}
+use Rattle.std.specs.BTreeMap.Range.{range_contains}
 use Rattle.std.specs.List.{filter}
 use Rattle.std.specs.declared.cmp.Ordering.{Ordering}
 use Rattle.std.specs.declared.ops.Bound.TheVariants.{Included, Unbounded}
 use Rattle.std.specs.Ordering.{nat_cmp, eq_by_cmp, is_eq, is_le, ordering_reverse, ordering_then}
 use Rattle.std.specs.Cmp.{tied_itself, nat_cmp_is}
 use Rattle.std.proofs.lemmas.Cmp.{nat_cmp_total}
-use Rattle.std.specs.FinMap.{nat_cmp-IsAntisymmetric, entries, entries_sorted, get, get-entries}
+use Rattle.std.specs.FinMap.{nat_cmp-IsAntisymmetric, entries, entries_sorted, get-entries}
 use Rattle.std.specs.FinMap.Entries.{find, is_sorted, below_all}
 use Rattle.alt_cells.specs.Changes.{Columns}
 use Rattle.alt_cells.specs.Keys.{key_cmp}
-use Rattle.alt_cells.proofs.CellLaws.{key_total, key_exact}
+use Rattle.alt_cells.proofs.CellLaws.{key_total}
 use Rattle.alt_cells.proofs.Entries.{first, second, below_less, find_below}
-use Rattle.alt_engine.specs.Layout.{Layout, shown, shown_rows, rows_between}
-use Rattle.alt_tables.specs.Scans.{IsBelow, IsFirstFrom, IsNextRow}
+use Rattle.alt_engine.specs.Layout.{Layout, shown_rows, rows_between}
+use Rattle.alt_tables.specs.Scans.{IsBelow, IsNextRow}
 use Rattle.alt_tables.proofs.ChangeLaws.{tied, itself}
 use Rattle.alt_tables.proofs.Engine.{finds_shown}
 use Rattle.alt_tables.proofs.Making.{same_Some}

@@ -1,10 +1,9 @@
 -- Rows that are read one after the other.
-use Rattle.std.proofs.Common.{◌≡◌, ◌≢◌, ◌⊎◌, ◌≤◌, ◌<◌, ◌+◌, inl, inr, ⊎_elim, refl, sym, ap, subst, ◌∙◌, ℕ, Bool, true, false, cond, List, [], ◌∷◌, ◌++◌, Option, Some, None, IsTrue, Less, Equal, Greater, arith}
+use Rattle.std.proofs.Common.{◌≡◌, ◌⊎◌, inl, inr, ⊎_elim, refl, sym, ap, subst, ◌∙◌, ℕ, List, [], ◌∷◌, ◌++◌, Some, None, IsTrue, Less, Equal, Greater}
 use Rattle.std.specs.declared.cmp.Ordering.{Ordering}
 use Rattle.alt_cells.specs.Changes.{Columns}
 use Rattle.alt_cells.specs.Keys.{key_cmp}
-use Rattle.alt_disk.specs.Disk.{DiskState, Goes}
-use Rattle.alt_disk.specs.Runs.{Quiet}
+use Rattle.alt_disk.specs.Disk.{DiskState}
 use Rattle.alt_disk.proofs.Calls.{goes_refl, goes_on}
 use Rattle.alt_disk.proofs.Runs.{quiet_start, quiet_then}
 use Rattle.alt_engine.specs.InHand.{Reads, SameEngine}

@@ -1,22 +1,22 @@
 -- The first wrong row of the catalog.
-use Rattle.std.proofs.Common.{◌≡◌, ◌≢◌, ◌≤◌, ◌<◌, ◌+◌, ◌-◌, inl, inr, ⊎_elim, ℕ, suc, Bool, true, false, cond, T, List, [], ◌∷◌, length, Option, Some, None, is_some, refl, sym, ap, subst, ◌∙◌, arith, Contains, All, Less}
+use Rattle.std.proofs.Common.{◌≡◌, ◌≢◌, ◌≤◌, ◌<◌, ◌+◌, ◌-◌, inl, inr, ⊎_elim, ℕ, zero, suc, Bool, true, false, cond, T, List, [], ◌∷◌, length, Option, Some, None, is_some, refl, sym, ap, subst, ◌∙◌, arith, Contains, All}
 use Rattle.std.proofs.lemmas.Bool.{false≢true}
 use Rattle.std.specs.Ordering.{eq_by_cmp, is_eq}
 use Rattle.std.specs.FinMap as map
-use Rattle.std.specs.FinMap.Entries.{find, is_sorted}
+use Rattle.std.specs.FinMap.Entries.{below_all, find, is_sorted}
 use Rattle.alt_cells.specs.Changes.{Columns}
 use Rattle.alt_cells.specs.Keys.{key_cmp}
 use Rattle.alt_cells.proofs.CellLaws.{key_total}
 use Rattle.alt_cells.proofs.Entries.{first, second, find_below}
 use Rattle.alt_engine.specs.Layout.{Layout, shown}
-use Rattle.alt_machine.specs.declared.TheConstants.{NUMBERS_END, FAMILIES_END, MOST_TABLES}
+use Rattle.alt_machine.specs.declared.TheConstants.{NUMBERS_END, FAMILIES_END}
 use Rattle.alt_machine.specs.State.{State, Table, Texts, families_of, start}
 use Rattle.alt_machine.specs.Valid.{IsTable, IsValid}
 use Rattle.alt_machine.proofs.Families.{of_contained}
 use Rattle.alt_machine.proofs.Looks.{not_there}
 use Rattle.alt_machine.proofs.States.{start_valid}
 use Rattle.alt_schema.specs.declared.schema.TableSchema.{TableSchema}
-use Rattle.alt_tables.specs.Opening.{CatalogWhere, IsCatalog, IsNextFamily, IsGood, IsTableAt, AreApart}
+use Rattle.alt_tables.specs.Opening.{CatalogWhere, IsCatalog, IsTableAt}
 use Rattle.alt_tables.specs.Recovery.{Agrees, IsBefore, IsUpTo, IsFirstWrong}
 use Rattle.alt_tables.specs.Scans.{IsBelow}
 use Rattle.alt_tables.specs.StateRows.{catalog_family, next_row, table_row}
@@ -39,12 +39,14 @@ sub_len {X} {Y} (e ∷ es) n sorted all =
     let some : 1 ≤ map.len n = has_one (map.len n) refl there in
     let less : map.len (map.remove n e.0) ≡ map.len n - 1 = map.len-remove key_total n e.0
     ∙ ap (λ b. cond b (map.len n - 1) (map.len n)) there in
+    let below : T (below_all key_cmp e.0 es) × T (is_sorted key_cmp es) =
+    (first _ (is_sorted key_cmp es) sorted, second (below_all key_cmp e.0 es) _ sorted) in
     let rest : length es ≤ map.len (map.remove n e.0) = sub_len es (map.remove n e.0)
-    (second _ _ sorted) (λ k x at. by k x at (eq_by_cmp key_cmp k e.0) refl) in
+    below.1 (λ k x at. by k x at (eq_by_cmp key_cmp k e.0) refl) in
     omega (arith, some, less, rest)
   where
     has_one : (c : ℕ) → map.len n ≡ c → map.contains_key n e.0 ≡ true → 1 ≤ c
-    has_one 0 none there = absurd (false≢true
+    has_one zero none there = absurd (false≢true
         (ap is_some (sym (map.get-empty key_cmp e.0))
         ∙ ap (λ (m : Texts Y). map.contains_key m e.0) (sym (map.empty_of_len n none)) ∙ there))
     has_one (suc c) none there = omega arith
@@ -227,6 +229,7 @@ module _ (l : Layout) (next : ℕ) (catalog : Texts TableSchema) (name : List �
               same_family is_table.families;
           differ = is_table.differ;
         };
+        new = ap (map.get catalog) is_table.named ∙ absent _ refl;
         apart = λ other e at.
             let (u, at_u, same) = known other e at in
             record {

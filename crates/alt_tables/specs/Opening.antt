@@ -1,6 +1,7 @@
 -- What is read of the catalog while a store is opened.
 use Rattle.std.specs.Prelude.{◌≡◌, ◌≢◌, ◌<◌, ◌≤◌, ◌==◌, ◌&&◌, ℕ, Bool, true, not, nat_lt, nat_le, List, [], ◌∷◌, Option, Some, None, All, AllPairs, Contains, length, slice_index_or}
 use Rattle.std.specs.List.{list_all, list_any}
+use Rattle.std.specs.Str.{bytes_eq}
 use Rattle.std.specs.FinMap as map
 use Rattle.alt_cells.specs.Changes.{Columns}
 use Rattle.alt_engine.specs.Layout.{Layout, shown}
@@ -9,8 +10,9 @@ use Rattle.alt_machine.specs.State.{State, Texts, descriptions, families_of}
 use Rattle.alt_machine.specs.Valid.{IsMade, IsValid}
 use Rattle.alt_schema.specs.Held.{IsHeld}
 use Rattle.alt_schema.specs.declared.schema.TableSchema.{TableSchema}
+use Rattle.alt_tables.specs.Made.{is_as_made}
 use Rattle.alt_tables.specs.Recovery.{IsFirstWrong}
-use Rattle.alt_tables.specs.Scans.{ItemsRead}
+use Rattle.alt_tables.specs.Scans.{IsBelow, ItemsRead}
 use Rattle.alt_tables.specs.StateRows.{Shows, IsHeldWhole, catalog_family, next_row, table_row}
 use Rattle.alt_tables.specs.declared.faults.OpenFault.{OpenFault}
 use Rattle.alt_tables.specs.declared.faults.OpenFault.TheVariants.{Damaged, BadRow, Failed, NoMemory}
@@ -32,6 +34,14 @@ abbrev pub are_apart : List ℕ → Bool
 are_apart [] = true
 are_apart (f ∷ fs) = not (list_any (λ g. g == f) fs) && are_apart fs
 
+-- both
+abbrev pub are_families : ℕ → List ℕ → Bool
+are_families next families = are_within next families && are_apart families
+
+-- a number was taken before the next one
+abbrev pub is_number : ℕ → ℕ → Bool
+is_number next number = nat_le 1 number && nat_lt number next
+
 -- one of them is a table's
 abbrev pub shares : List ℕ → TableSchema → Bool
 shares families d = list_any (λ f. list_any (λ g. g == f) families) (families_of d)
@@ -47,18 +57,29 @@ pub record IsGood (next_number next : ℕ) (name : List ℕ) (d : TableSchema) :
   pub families : All (λ f. (1 ≤ f) × (f < next)) (families_of d)
   pub differ : AllPairs (λ f g. f ≢ g) (families_of d)
 
+-- the tests of it, beside those of its bytes
+abbrev pub passes : ℕ → ℕ → List ℕ → TableSchema → Bool
+passes number next name d = bytes_eq d.name name && (is_as_made d && (is_number number d.number
+    && are_families next (families_of d)))
+
 -- Two tables have neither a number nor a family in common.
 pub record AreApart (d e : TableSchema) : Type 0 where
   pub numbers : d.number ≢ e.number
   pub families : (family : ℕ) → Contains (families_of d) family
       → Contains (families_of e) family → ⊥
 
--- It may stand there beside the tables of a catalog, of which there are not too many.
+-- it is apart from each table of a catalog
+abbrev pub IsApart : Texts TableSchema → TableSchema → Type 0
+IsApart catalog d = (other : List ℕ) (e : TableSchema) → map.get catalog other ≡ Some e
+    → AreApart e d
+
+-- It may stand there beside the tables of a catalog, of which there are not too many, and none has its name.
 pub record MayStand (number family : ℕ) (catalog : Texts TableSchema) (name : List ℕ)
     (d : TableSchema) : Type 0 where
   pub few : map.len catalog < MOST_TABLES
   pub good : IsGood number family name d
-  pub apart : (other : List ℕ) (e : TableSchema) → map.get catalog other ≡ Some e → AreApart e d
+  pub new : map.get catalog d.name ≡ None
+  pub apart : IsApart catalog d
 
 -- Its row is this.
 pub record IsTableAt (number family : ℕ) (catalog : Texts TableSchema) (name : List ℕ)
@@ -86,6 +107,16 @@ pub record CatalogWhere (Here : List ℕ → Type 0) (l : Layout) (family : ℕ)
 -- all of them
 abbrev pub IsCatalog : Layout → ℕ → Texts TableSchema → Type 0
 IsCatalog l family catalog = CatalogWhere (λ name. Unit {0}) l family catalog
+
+-- those of the names below a key, which isn't the empty one
+abbrev pub IsReadUpTo : Layout → ℕ → List ℕ → Texts TableSchema → Type 0
+IsReadUpTo l family from catalog = IsBelow [] from
+    × CatalogWhere (λ name. IsBelow name from) l family catalog
+
+-- those of the names below the key that is told, or all where none is
+abbrev pub IsReadOn : Layout → ℕ → Texts TableSchema → Option (List ℕ) → Type 0
+IsReadOn l family catalog None = IsCatalog l family catalog
+IsReadOn l family catalog (Some from) = IsReadUpTo l family from catalog
 
 -- the items of its tables are read
 abbrev pub AllItemsRead : Layout → Texts TableSchema → Type 0

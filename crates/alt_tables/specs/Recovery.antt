@@ -3,6 +3,7 @@ use Rattle.std.specs.Prelude.{◌≡◌, ◌<◌, ◌≤◌, ◌⊎◌, ℕ, Lis
 use Rattle.std.specs.FinMap as map
 use Rattle.std.specs.declared.cmp.Ordering.TheVariants.{Less}
 use Rattle.alt_cells.specs.Keys.{key_cmp}
+use Rattle.alt_disk.specs.Disk.{DiskState, IsImage}
 use Rattle.alt_engine.specs.Image.{IsLayout}
 use Rattle.alt_engine.specs.Layout.{Layout, shown}
 use Rattle.alt_engine.specs.Recovery.{IsBadAt}
@@ -14,6 +15,10 @@ use Rattle.alt_tables.specs.Images.{StandsFor}
 use Rattle.alt_tables.specs.StateRows.{IsHeldWhole, catalog_family, catalog_rows, item_rows}
 use Rattle.alt_tables.specs.declared.faults.OpenFault.{OpenFault}
 use Rattle.alt_tables.specs.declared.faults.OpenFault.TheVariants.{Damaged, BadRow, Failed, NoMemory}
+
+-- whatever a stop leaves on the way of calls, at any moment, one might have left before them
+abbrev pub WasLeft : DiskState → ℕ → (ℕ → Option (List ℕ)) → Type 0
+WasLeft old moment image = IsImage old old.moment image
 
 -- of two rows the one of the lesser family comes first, and in one family that of the lesser key
 abbrev pub IsBefore : ℕ → List ℕ → ℕ → List ℕ → Type 0

@@ -6,7 +6,7 @@ ghost use Rattle.std.specs.Str.{bytes_eq};
 ghost use Rattle.alt_machine.specs.Valid.{is_pair, are_two, is_local, names_few, is_used};
 ghost use Rattle.alt_schema.specs.Indexes.{indexes, is_key};
 ghost use Rattle.alt_schema.specs.Rules.{is_name, all_differ, most_included};
-ghost use Rattle.alt_tables.specs.Made.{is_as_made};
+ghost use Rattle.alt_tables.specs.Made.{all_indexes, are_few_indexes, are_keyed, are_named, are_shaped, is_as_made};
 
 use alt_schema::{IndexSchema, KeyAttr, Projection, TableSchema, is_name};
 use alt_value::Text;
@@ -24,24 +24,68 @@ const MOST_INCLUDED: usize = 20;
 pub(crate) fn is_as_made(schema: &TableSchema) -> bool
     ensures { result ≡ is_as_made schema.now }
 {
-    let locals = schema.locals.as_slice();
-    let globals = schema.globals.as_slice();
-    locals.len() <= MOST_LOCALS
-        && globals.len() <= MOST_GLOBALS
-        && is_name(schema.name.as_str())
-        && are_named(locals)
-        && are_named(globals)
-        && names_differ(locals, globals)
-        && is_pair(&schema.hash, &schema.range)
-        && have_pairs(locals)
-        && have_pairs(globals)
-        && all_used(schema, schema.definitions.as_slice())
-        && all_local(&schema.hash, &schema.range, locals)
-        && project_few(locals)
-        && project_few(globals)
+    if !are_few_indexes(schema) {
+        return false;
+    }
+    if !are_named(schema) {
+        return false;
+    }
+    are_keyed(schema) && are_shaped(schema)
 }
 
-fn are_named(indexes: &[IndexSchema]) -> bool
+fn are_few_indexes(schema: &TableSchema) -> bool
+    ensures { result ≡ are_few_indexes schema.now }
+{
+    schema.locals.as_slice().len() <= MOST_LOCALS
+        && schema.globals.as_slice().len() <= MOST_GLOBALS
+}
+
+/// Names are as they have to be, and those of indexes differ.
+fn are_named(schema: &TableSchema) -> bool
+    ensures { result ≡ are_named schema.now }
+{
+    if !is_name(schema.name.as_str()) {
+        return false;
+    }
+    all_named(schema) && names_differ(schema.locals.as_slice(), schema.globals.as_slice())
+}
+
+fn all_named(schema: &TableSchema) -> bool
+    ensures { result ≡ all_indexes (λ i. is_name i.name) schema.now }
+{
+    spell_names(schema.locals.as_slice()) && spell_names(schema.globals.as_slice())
+}
+
+/// Keys are as they have to be, and exactly the key attributes are defined.
+fn are_keyed(schema: &TableSchema) -> bool
+    ensures { result ≡ are_keyed schema.now }
+{
+    if !is_pair(&schema.hash, &schema.range) {
+        return false;
+    }
+    all_paired(schema) && all_used(schema, schema.definitions.as_slice())
+}
+
+fn all_paired(schema: &TableSchema) -> bool
+    ensures { result ≡ all_indexes (λ i. is_pair i.hash i.range) schema.now }
+{
+    have_pairs(schema.locals.as_slice()) && have_pairs(schema.globals.as_slice())
+}
+
+/// So are the keys of local indexes, and projections.
+fn are_shaped(schema: &TableSchema) -> bool
+    ensures { result ≡ are_shaped schema.now }
+{
+    all_local(&schema.hash, &schema.range, schema.locals.as_slice()) && all_project(schema)
+}
+
+fn all_project(schema: &TableSchema) -> bool
+    ensures { result ≡ all_indexes (λ i. names_few i.projection) schema.now }
+{
+    project_few(schema.locals.as_slice()) && project_few(schema.globals.as_slice())
+}
+
+fn spell_names(indexes: &[IndexSchema]) -> bool
     ensures { result ≡ list_all (λ i. is_name i.name) indexes.now }
 {
     indexes.iter().all(|index| is_name(index.name.as_str()))

@@ -1,6 +1,7 @@
 //! The catalog of a store that is opened: the next family, and the descriptions of its tables.
 
-ghost use Rattle.std.specs.Prelude.{◌≡◌, ◌↔◌, ◌==◌, ◌++◌, Err, IfOk, IfErr, OnOk, IsErrOf, IsTrue, map as each};
+ghost use Rattle.std.specs.Prelude.{◌≡◌, ◌↔◌, ◌==◌, ◌++◌, None, Err, IfOk, IfErr, OnOk, IsErrOf, IsTrue, map as each};
+ghost use Rattle.std.specs.FinMap as map;
 ghost use Rattle.std.specs.List.{list_any};
 ghost use Rattle.alt_base.specs.Counts.{Rose};
 ghost use Rattle.alt_engine.specs.InHand.{Reads};
@@ -9,7 +10,7 @@ ghost use Rattle.alt_machine.specs.State.{families_of};
 ghost use Rattle.alt_schema.specs.Described.{IsDescription};
 ghost use Rattle.alt_schema.specs.Held.{IsHeld};
 ghost use Rattle.alt_schema.specs.declared.schema.TableSchema.{TableSchema};
-ghost use Rattle.alt_tables.specs.Opening.{IsCatalog, IsRowFault, IsNextFamily, IsTableAt, MayStand, are_within, are_apart};
+ghost use Rattle.alt_tables.specs.Opening.{IsApart, IsCatalog, IsGood, IsRowFault, IsNextFamily, IsReadOn, IsReadUpTo, IsTableAt, MayStand, are_families, are_within, are_apart, is_number, passes};
 ghost use Rattle.alt_tables.specs.Scans.{Walked};
 
 use crate::catalog::Catalog;
@@ -54,36 +55,59 @@ pub(crate) fn read_catalog<D: Disk>(
         Ok(family) => family,
         Err(fault) => return Err(fault),
     };
-    let number = engine.next_number();
     let mut catalog = Catalog::new(alloc);
     let Ok(mut from) = key_after(&[], alloc) else {
         return Err(OpenFault::NoMemory);
     };
     'rows: for _ in 0..u64::MAX {
-        let (name, row) = match next_row(alloc, disk, engine, CATALOG, &from) {
-            Ok(Some(next)) => next,
+        match read_table(alloc, disk, engine, family, &mut catalog, &from) {
+            Ok(Some(after)) => from = after,
             Ok(None) => return Ok(Opened { catalog, family }),
             Err(fault) => return Err(fault),
-        };
-        let schema = match test_table(alloc, &catalog, number, family, &name, &row) {
-            Ok(schema) => schema,
-            Err(Unread::Bad) => {
-                return Err(OpenFault::BadRow {
-                    family: CATALOG,
-                    key: name,
-                });
-            }
-            Err(Unread::NoMemory) => return Err(OpenFault::NoMemory),
-        };
-        if catalog.add(schema).is_err() {
-            return Err(OpenFault::NoMemory);
-        }
-        match key_after(name.as_slice(), alloc) {
-            Ok(after) => from = after,
-            Err(_) => return Err(OpenFault::NoMemory),
         }
     }
     Err(OpenFault::NoMemory)
+}
+
+/// Reads the first row of the catalog from a key on, and adds its table. It tells the key behind it, and None where there is no row.
+fn read_table<D: Disk>(
+    alloc: Global,
+    disk: &mut D,
+    engine: &mut Engine,
+    family: u32,
+    catalog: &mut Catalog,
+    from: &Bytes,
+) -> Result<Option<Bytes>, OpenFault>
+    ensures read { IsTrue (D.state disk.old).tells → (l : Layout)
+        → Reads (D.state disk.old) engine.old l → IsReadUpTo l family from.now catalog.old
+        → IfOk result (IsReadOn l family catalog.new) }
+    ensures wrong { IsTrue (D.state disk.old).tells → (l : Layout)
+        → Reads (D.state disk.old) engine.old l → IsReadUpTo l family from.now catalog.old
+        → IfErr result (IsRowFault l) }
+    ensures walked { Walked (D.state disk.old) (D.state disk.new) engine.old engine.new }
+    ensures cause { IsErrOf result OpenFault.Failed
+        → Rose (D.state disk.old).faults (D.state disk.new).faults }
+{
+    let number = engine.next_number();
+    let (name, row) = match next_row(alloc, disk, engine, CATALOG, from) {
+        Ok(Some(next)) => next,
+        Ok(None) => return Ok(None),
+        Err(fault) => return Err(fault),
+    };
+    match add_table(alloc, catalog, number, family, &name, &row) {
+        Ok(()) => {}
+        Err(Unread::Bad) => {
+            return Err(OpenFault::BadRow {
+                family: CATALOG,
+                key: name,
+            });
+        }
+        Err(Unread::NoMemory) => return Err(OpenFault::NoMemory),
+    }
+    match key_after(name.as_slice(), alloc) {
+        Ok(after) => Ok(Some(after)),
+        Err(_) => Err(OpenFault::NoMemory),
+    }
 }
 
 /// The next family, which the row at the empty key tells.
@@ -107,6 +131,26 @@ fn read_family<D: Disk>(alloc: Global, disk: &mut D, engine: &mut Engine) -> Res
             key: Bytes::from_vec(Vec::new(alloc)),
         }),
     }
+}
+
+/// Adds the table whose row stands at a name, where that may be so beside the tables before it.
+fn add_table(
+    alloc: Global,
+    catalog: &mut Catalog,
+    number: u64,
+    family: u32,
+    name: &Bytes,
+    row: &ShownRow,
+) -> Result<(), Unread>
+    ensures added { OnOk result ((d : TableSchema)
+        × IsTableAt number family catalog.old name.now row.now d
+        × (catalog.new ≡ map.insert catalog.old d.name d)) }
+    ensures none { result ≡ Err Unread.Bad → (d : TableSchema)
+        → IsTableAt number family catalog.old name.now row.now d → ⊥ }
+{
+    let schema = test_table(alloc, catalog, number, family, name, row)?;
+    catalog.add(schema)?;
+    Ok(())
 }
 
 /// The description whose row stands at a name, where that may be so beside the tables before it.
@@ -145,16 +189,79 @@ fn may_stand(
         ↔ MayStand number family catalog.now name.now schema.now) }
 {
     let families = families_of(alloc, schema)?;
-    Ok(
-        schema.name.as_str().as_bytes() == name.as_slice()
-            && is_as_made(schema)
-            && 1 <= schema.number
-            && schema.number < number
-            && are_within(families.as_slice(), family)
-            && are_apart(families.as_slice())
-            && catalog.len() < MOST_TABLES
-            && !catalog.clashes(schema.number, families.as_slice()),
-    )
+    if catalog.len() >= MOST_TABLES {
+        return Ok(false);
+    }
+    if !is_good(number, family, name, schema, families.as_slice()) {
+        return Ok(false);
+    }
+    if !is_new(catalog, schema) {
+        return Ok(false);
+    }
+    Ok(is_apart(catalog, schema, families.as_slice()))
+}
+
+/// Whether it may be that of a table of that name, whatever other tables there are.
+fn is_good(
+    number: u64,
+    family: u32,
+    name: &Bytes,
+    schema: &TableSchema,
+    families: &[u32],
+) -> bool
+    requires description { IsDescription schema.now }
+    requires held { IsHeld schema.now }
+    requires families { families.now ≡ families_of schema.now }
+    ensures good { IsTrue result ↔ IsGood number family name.now schema.now }
+{
+    passes(number, family, name, schema, families)
+}
+
+fn passes(
+    number: u64,
+    family: u32,
+    name: &Bytes,
+    schema: &TableSchema,
+    families: &[u32],
+) -> bool
+    requires families { families.now ≡ families_of schema.now }
+    ensures { result ≡ passes number family name.now schema.now }
+{
+    if schema.name.as_str().as_bytes() != name.as_slice() {
+        return false;
+    }
+    if !is_as_made(schema) {
+        return false;
+    }
+    is_number(number, schema.number) && are_families(family, families)
+}
+
+/// Whether a number was taken before the next one.
+fn is_number(next: u64, number: u64) -> bool
+    ensures { result ≡ is_number next number }
+{
+    1 <= number && number < next
+}
+
+fn are_families(next: u32, families: &[u32]) -> bool
+    ensures { result ≡ are_families next families.now }
+{
+    are_within(families, next) && are_apart(families)
+}
+
+/// Whether no table has its name.
+fn is_new(catalog: &Catalog, schema: &TableSchema) -> bool
+    ensures new { IsTrue result ↔ (map.get catalog.now schema.now.name ≡ None) }
+{
+    catalog.get(schema.name.as_str()).is_none()
+}
+
+/// Whether no table has its number, or one of its families.
+fn is_apart(catalog: &Catalog, schema: &TableSchema, families: &[u32]) -> bool
+    requires families { families.now ≡ families_of schema.now }
+    ensures apart { IsTrue result ↔ IsApart catalog.now schema.now }
+{
+    !catalog.clashes(schema.number, families)
 }
 
 /// The families of a table.

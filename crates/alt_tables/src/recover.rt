@@ -6,11 +6,10 @@ ghost use Rattle.alt_disk.specs.Disk.{IsTrusted, Goes};
 ghost use Rattle.alt_disk.specs.Runs.{Spans};
 ghost use Rattle.alt_engine.specs.InHand.{Reads};
 ghost use Rattle.alt_engine.specs.Layout.{Layout};
-ghost use Rattle.alt_engine.specs.Recovery.{WasLeft};
 ghost use Rattle.alt_machine.specs.State.{State};
 ghost use Rattle.alt_tables.specs.Images.{StandsFor};
 ghost use Rattle.alt_tables.specs.Opening.{AllItemsRead, Assembled, IsCatalog, IsRowFault};
-ghost use Rattle.alt_tables.specs.Recovery.{IsExplained, HasNoState, unopened};
+ghost use Rattle.alt_tables.specs.Recovery.{IsExplained, HasNoState, WasLeft, unopened};
 ghost use Rattle.alt_tables.specs.Scans.{Walked};
 ghost use Rattle.alt_tables.specs.Stands.{Stands};
 
@@ -21,6 +20,7 @@ use crate::scan::{read_items, unread};
 use crate::tables::Tables;
 use alt_disk::Disk;
 use alt_engine::{Engine, RecoverFault};
+use alt_schema::held;
 use std::alloc::Global;
 
 impl Tables {
@@ -31,7 +31,7 @@ impl Tables {
             → (s : State) × StandsFor (D.state disk.old).file s) }
         // And the tables stand for it, with whatever a stop leaves from then on.
         ensures stands { IfOk result (λ t. IsTrusted (D.state disk.old) → (s : State)
-            × StandsFor (D.state disk.old).file s × Stands (D.state disk.new) t s) }
+            → StandsFor (D.state disk.old).file s → Stands (D.state disk.new) t s) }
         ensures files { IsTrue (D.state disk.old).tells → (f : ℕ)
             → (D.state disk.new).file f ≡ (D.state disk.old).file f }
 
@@ -110,6 +110,7 @@ fn read_tables<D: Disk>(
 {
     let mut family = 0;
     'tables: while let Some(schema) = catalog.above(family) {
+        held(schema);
         match read_items(alloc, disk, engine, schema) {
             Ok(()) => {}
             Err(fault) => return Err(fault),

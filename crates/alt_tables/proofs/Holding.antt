@@ -1,5 +1,5 @@
 -- What the rows beneath the tables show, in reads and in whatever a stop leaves, and what a write makes of it.
-use Rattle.std.proofs.Common.{◌≡◌, ⊎_elim, refl, sym, subst, ℕ, List, [], ◌∷◌, Option, Result, Err, ◌∙◌}
+use Rattle.std.proofs.Common.{◌≡◌, ◌&&◌, Bool, IsTrue, ⊎_elim, refl, sym, subst, ℕ, List, [], ◌∷◌, Option, Result, Err, ◌∙◌}
 use Rattle.alt_cells.specs.declared.batch.RowChange.{RowChange}
 use Rattle.alt_disk.specs.Disk.{DiskState, IsImage, Goes}
 use Rattle.alt_disk.specs.Runs.{Spans, Quiet}
@@ -39,11 +39,11 @@ leaves_images old new engine s [] holds valid quiet = quiet_spans old new IsWrit
     (AfterSome s []) quiet (λ t image fits. (0, each_holds old engine s holds valid image fits))
 leaves_images old new engine s (r ∷ rs) holds valid spans = spans
 
--- a call that leaves every file leaves what the rows show
-pub holds_quiet : (old new : DiskState) (engine : Engine) (s : State) → Goes old new
-    → Quiet old new → Holds old engine s → Holds new engine s
-holds_quiet old new engine s goes quiet holds = record {
-  trusted = trusted_on old new goes holds.trusted;
+-- calls that leave every file, and what the disk says of itself, leave what the rows show
+pub holds_quiet : (old new : DiskState) (engine : Engine) (s : State) → new.tells ≡ old.tells
+    → new.honest ≡ old.honest → Quiet old new → Holds old engine s → Holds new engine s
+holds_quiet old new engine s tells honest quiet holds = record {
+  trusted = subst (λ (b : Bool). IsTrue b) (sym (λ i. tells i && honest i)) holds.trusted;
   layout = holds.layout;
   is = stays_quiet old new engine holds.layout holds.is quiet;
   shows = holds.shows;

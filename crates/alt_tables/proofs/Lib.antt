@@ -5,6 +5,7 @@ pub mod Sorted
 pub mod Left
 pub mod Listed
 pub mod Standing
+pub mod Starting
 pub mod Making
 pub mod ChangeLaws
 pub mod ItemRowLaws

@@ -1,8 +1,10 @@
 -- The laws of files and of tables that stand for a state.
 use Rattle.std.specs.Prelude.{◌≡◌, ℕ, List, Option}
-use Rattle.alt_disk.specs.Disk.{DiskState, Goes, IsImage}
+use Rattle.alt_disk.specs.Disk.{DiskState, IsImage}
 use Rattle.alt_disk.specs.Runs.{Quiet}
-use Rattle.alt_machine.specs.State.{State}
+use Rattle.alt_engine.specs.Image.{IsLayout}
+use Rattle.alt_engine.specs.Layout.{no_rows}
+use Rattle.alt_machine.specs.State.{State, start}
 use Rattle.alt_tables.specs.Images.{StandsFor}
 use Rattle.alt_tables.specs.Stands.{Stands}
 use Rattle.alt_tables.specs.declared.tables.Tables.{Tables}
@@ -27,7 +29,11 @@ abbrev pub EachLeft : Type 0
 EachLeft = (disk : DiskState) (t : Tables) (s : State) → Stands disk t s
     → (image : ℕ → Option (List ℕ)) → IsImage disk disk.moment image → StandsFor image s
 
--- Tables stand for what they stood for while calls leave every file.
+-- Calls that leave every file, and what the disk says of itself, leave for which state tables stand.
 abbrev pub StaysQuiet : Type 0
-StaysQuiet = (a b : DiskState) (t : Tables) (s : State) → Goes a b → Quiet a b → Stands a t s
-    → Stands b t s
+StaysQuiet = (a b : DiskState) (t : Tables) (s : State) → b.tells ≡ a.tells
+    → b.honest ≡ a.honest → Quiet a b → Stands a t s → Stands b t s
+
+-- Files that hold no rows stand for the empty store.
+abbrev pub MadeStands : Type 0
+MadeStands = (image : ℕ → Option (List ℕ)) → IsLayout image no_rows → StandsFor image start

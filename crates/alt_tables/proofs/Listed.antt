@@ -1,5 +1,5 @@
 -- The list of the tables and the map that it stands for: what a search found, and what a change there leaves.
-use Rattle.std.proofs.Common.{◌≡◌, refl, true, false, cond, sym, ap, subst, ◌∙◌, ℕ, ◌+◌, ◌<◌, ◌≤◌, List, [], ◌∷◌, length, get_or, set, map, Option, Some, None, option_map, slice_get, MatchOption, Bor, Result, Ok, Err, OnOk, OnErr, arith}
+use Rattle.std.proofs.Common.{◌≡◌, refl, true, false, cond, sym, ap, ◌∙◌, ℕ, ◌+◌, ◌<◌, ◌≤◌, List, [], ◌∷◌, length, get_or, map, Option, Some, None, option_map, slice_get, MatchOption, Bor, arith}
 use Rattle.std.specs.List.{insert, remove, filter, HoldsAt}
 use Rattle.std.specs.List.{find as find_first}
 use Rattle.std.specs.List.Sorted.{IsPartitionPoint}
@@ -9,46 +9,52 @@ use Rattle.std.specs.Ordering.{is_lt}
 use Rattle.std.specs.FinMap.{from_sorted, entries-from_sorted, get-from_sorted}
 use Rattle.std.specs.FinMap as map
 use Rattle.alt_machine.specs.Ops.ListTables.{names_after}
-use Rattle.alt_machine.specs.State.{Table, Texts}
-use Rattle.alt_machine.specs.Writes.{with_item}
+use Rattle.alt_machine.specs.State.{Texts}
 use Rattle.alt_value.specs.Members.{text_order}
-use Rattle.alt_value.specs.Tree.{Pair}
 use Rattle.alt_tables.specs.Order.{first_after}
-use Rattle.alt_tables.specs.Stands.{table_of}
-use Rattle.alt_tables.specs.declared.list.TableEntry.{TableEntry}
-use Rattle.alt_tables.proofs.Named.{entry, IsInOrder, Stands, Goes, stands, goes, find-stands, find-goes, put-stands, put-goes, where_key-stands, where_key-goes, after-stands, after-goes, next_stands, next_goes}
+use Rattle.alt_schema.specs.declared.schema.TableSchema.{TableSchema}
+use Rattle.alt_tables.proofs.Named.{entry, IsInOrder, Stands, Goes, stands, goes, find-stands, find-goes, put-goes, where_key-stands, where_key-goes, after-stands, after-goes, next_stands, next_goes}
 use Rattle.alt_tables.proofs.Sorted.{put-in_order, map-put, where_key-in_order, map-where_key}
 
-abbrev pub name_of : TableEntry → List ℕ
-name_of e = e.schema.name
+-- a description as it is
+abbrev pub itself : TableSchema → TableSchema
+itself d = d
 
-abbrev pub pairs : List TableEntry → List (List ℕ × Table)
-pairs es = map (entry name_of table_of) es
+-- the name of a description
+abbrev pub name_of : TableSchema → List ℕ
+name_of e = e.name
 
-abbrev pub AreInOrder : List TableEntry → Type 0
-AreInOrder es = IsInOrder name_of table_of es
+-- descriptions with their names
+abbrev pub pairs : List TableSchema → List (List ℕ × TableSchema)
+pairs es = map (entry name_of itself) es
 
-abbrev pub tables : List TableEntry → Texts Table
+-- their names rise
+abbrev pub AreInOrder : List TableSchema → Type 0
+AreInOrder es = IsInOrder name_of itself es
+
+-- the map that they are
+abbrev pub tables : List TableSchema → Texts TableSchema
 tables es = from_sorted (pairs es)
 
-abbrev pub Parts : List ℕ → List TableEntry → ℕ → Type 0
+-- a name is to go to this place
+abbrev pub Parts : List ℕ → List TableSchema → ℕ → Type 0
 Parts name es i = IsPartitionPoint (λ e. text_order (name_of e) name ≡ Less)
     (λ e. text_order (name_of e) name ≡ Greater) es i
 
 -- the entry that a look-up in the list gave, as a table
-pub table_at : (o : Option (Bor TableEntry)) (fs es : List TableEntry) (i : ℕ)
+pub table_at : (o : Option (Bor TableSchema)) (fs es : List TableSchema) (i : ℕ)
     → MatchOption o (length fs ≤ i) (λ x. (i < length fs) × HoldsAt (λ y. x.now ≡ y) fs i) → fs ≡ es
-    → option_map (λ e. table_of e.now) o ≡ option_map table_of (slice_get es i)
-table_at None fs es i past same = sym (ap (option_map table_of)
+    → option_map (λ e. e.now) o ≡ option_map itself (slice_get es i)
+table_at None fs es i past same = sym (ap (option_map itself)
     (ap (λ l. slice_get l i) (sym same) ∙ slice_get_past fs i past))
 table_at (Some x) fs es i at same =
-    sym (ap (option_map table_of) (ap (λ l. slice_get l i) (sym same)
+    sym (ap (option_map itself) (ap (λ l. slice_get l i) (sym same)
     ∙ slice_get-get_or fs i x.now at.0 ∙ ap Some (sym (at.1 x.now))))
 
 -- its name
-pub name_at : (o : Option (Bor TableEntry)) (fs es : List TableEntry) (i : ℕ)
+pub name_at : (o : Option (Bor TableSchema)) (fs es : List TableSchema) (i : ℕ)
     → MatchOption o (length fs ≤ i) (λ x. (i < length fs) × HoldsAt (λ y. x.now ≡ y) fs i) → fs ≡ es
-    → option_map (λ e. e.now.schema.name) o ≡ option_map name_of (slice_get es i)
+    → option_map (λ e. e.now.name) o ≡ option_map name_of (slice_get es i)
 name_at None fs es i past same = sym (ap (option_map name_of)
     (ap (λ l. slice_get l i) (sym same) ∙ slice_get_past fs i past))
 name_at (Some x) fs es i at same =
@@ -56,7 +62,7 @@ name_at (Some x) fs es i at same =
     ∙ slice_get-get_or fs i x.now at.0 ∙ ap Some (sym (at.1 x.now))))
 
 -- the first of the names above one is that of the first entry above it
-first_name : (name : List ℕ) (ps : List (List ℕ × Table))
+first_name : (name : List ℕ) (ps : List (List ℕ × TableSchema))
     → slice_get (filter (λ k. is_lt (text_order name k)) (map (λ p. p.0) ps)) 0
     ≡ option_map (λ p. p.0) (find_first (λ p. is_lt (text_order name p.0)) ps)
 first_name name [] = refl
@@ -68,23 +74,16 @@ first_name name (p ∷ ps) = elim (is_lt (text_order name p.0)) as (λ b.
       | false ↦ first_name name ps
     ]
 
-key_of : (o : Option TableEntry) → option_map (λ (p : List ℕ × Table). p.0)
-    (option_map (entry name_of table_of) o) ≡ option_map name_of o
+key_of : (o : Option TableSchema) → option_map (λ (p : List ℕ × TableSchema). p.0)
+    (option_map (entry name_of itself) o) ≡ option_map name_of o
 key_of None = refl
 key_of (Some e) = refl
 
--- a list with a place has an entry
-some_entry : {E P : Type 0} (es : List E) (i : ℕ) → i < length es → (E → P) → P
-some_entry [] i within p = absurd (omega arith)
-some_entry (e ∷ es) i within p = p e
-
-same_Some : {A : Type 0} (x y : A) → Some x ≡ Some y → x ≡ y
-same_Some x y e = cc
-
+-- what is there isn't missing
 pub not_both : {X P : Type 0} (o : Option X) (x : X) → o ≡ Some x → o ≡ None → P
 not_both o x some none = let e : Some x ≡ None = sym some ∙ none in cc
 
-module _ (name : List ℕ) (es : List TableEntry) (i : ℕ) (sorted : AreInOrder es) where
+module _ (name : List ℕ) (es : List TableSchema) (i : ℕ) (sorted : AreInOrder es) where
   first_of : slice_get (names_after name (tables es)) 0
       ≡ option_map (λ p. p.0) (find_first (λ p. is_lt (text_order name p.0)) (pairs es))
   first_of = ap (λ ps. slice_get (filter (λ k. is_lt (text_order name k)) (map (λ p. p.0) ps)) 0)
@@ -93,85 +92,65 @@ module _ (name : List ℕ) (es : List TableEntry) (i : ℕ) (sorted : AreInOrder
 
   -- where the name stands at the place
   module _ (within : i < length es) (same : HoldsAt (λ e. name_of e ≡ name) es i) where
-    here : Stands name_of table_of name es i
-    here = stands name_of table_of name es i sorted within same
+    here : Stands name_of itself name es i
+    here = stands name_of itself name es i sorted within same
 
-    pub get-found : (d : TableEntry) → map.get (tables es) name ≡ Some (table_of (get_or es i d))
+    -- the map has it
+    pub get-found : (d : TableSchema) → map.get (tables es) name ≡ Some (itself (get_or es i d))
     get-found d = get-from_sorted text_order (pairs es) name sorted
-        ∙ find-stands name_of table_of name es i d here
+        ∙ find-stands name_of itself name es i d here
 
-    pub after-found : first_after name (tables es) ≡ option_map table_of (slice_get es (i + 1))
+    -- the next table behind it
+    pub after-found : first_after name (tables es) ≡ option_map itself (slice_get es (i + 1))
     after-found = ap (λ ps. option_map (λ p. p.1)
         (find_first (λ p. is_lt (text_order name p.0)) ps))
         (entries-from_sorted text_order (pairs es) sorted)
-        ∙ after-stands name_of table_of name es i sorted here
+        ∙ after-stands name_of itself name es i sorted here
 
+    -- and the name of that
     pub name-found : slice_get (names_after name (tables es)) 0
         ≡ option_map name_of (slice_get es (i + 1))
     name-found = first_of ∙ ap (option_map (λ p. p.0))
-        (next_stands name_of table_of name es i sorted here)
+        (next_stands name_of itself name es i sorted here)
         ∙ key_of _ ∙ ap (λ k. option_map name_of (slice_get es k)) (omega arith)
 
-    pub removed : (fs : List TableEntry) → fs ≡ remove es i
+    -- what is left without it
+    pub removed : (fs : List TableSchema) → fs ≡ remove es i
         → AreInOrder fs × (tables fs ≡ map.remove (tables es) name)
     removed fs is =
-        let left = where_key-stands name_of table_of name es i sorted here ∙ ap pairs (sym is) in
+        let left = where_key-stands name_of itself name es i sorted here ∙ ap pairs (sym is) in
         (where_key-in_order _ _ name sorted left, map-where_key _ _ name sorted left)
-
-    pub changed : (fs : List TableEntry) (f : TableEntry) → fs ≡ set es i f → name_of f ≡ name
-        → AreInOrder fs × (tables fs ≡ map.insert (tables es) name (table_of f))
-    changed fs f is named =
-        let new = put-stands name_of table_of name es i f named here ∙ ap pairs (sym is) in
-        (put-in_order _ _ name (table_of f) sorted new, map-put _ _ name (table_of f) sorted new)
-
-    -- the entries where a write went well, and where it did not
-    pub written : {A B : Type 0} (r : Result A B) (fs : List TableEntry) (place : List ℕ)
-        (item : Option (List Pair))
-        → ((d : TableEntry) → OnOk r (fs ≡ set es i
-        (record (get_or es i d) { items = with_item (get_or es i d).items place item })))
-        → OnErr r (fs ≡ es)
-        → AreInOrder fs × ((t : Table) → map.get (tables es) name ≡ Some t
-        → OnOk r (tables fs ≡ map.insert (tables es) name
-        (record t { items = with_item t.items place item })))
-    written (Err e) fs place item went stayed = (subst AreInOrder (sym stayed) sorted, λ t at. tt)
-    written (Ok u) fs place item went stayed = some_entry es i within (λ d.
-        let f : TableEntry = record (get_or es i d) {
-          items =
-              with_item (get_or es i d).items place item;
-        } in
-        let new : AreInOrder fs × (tables fs ≡ map.insert (tables es) name (table_of f)) =
-        changed fs f (went d) (same d) in (
-          new.0,
-          λ t at. new.1 ∙ ap (λ (u : Table). map.insert (tables es) name
-              (record u { items = with_item u.items place item }))
-              (same_Some _ _ (sym (get-found d) ∙ at)),
-        ))
 
   -- where it is to go there
   module _ (within : i ≤ length es) (apart : Parts name es i) where
-    there : Goes name_of table_of name es i
-    there = goes name_of table_of name es i within apart
+    there : Goes name_of itself name es i
+    there = goes name_of itself name es i within apart
 
+    -- the map hasn't it
     pub get-missed : map.get (tables es) name ≡ None
     get-missed = get-from_sorted text_order (pairs es) name sorted
-        ∙ find-goes name_of table_of name es i there
+        ∙ find-goes name_of itself name es i there
 
-    pub after-missed : first_after name (tables es) ≡ option_map table_of (slice_get es i)
+    -- the next table is the one at the place
+    pub after-missed : first_after name (tables es) ≡ option_map itself (slice_get es i)
     after-missed = ap (λ ps. option_map (λ p. p.1)
         (find_first (λ p. is_lt (text_order name p.0)) ps))
         (entries-from_sorted text_order (pairs es) sorted)
-        ∙ after-goes name_of table_of name es i there
+        ∙ after-goes name_of itself name es i there
 
+    -- and so is its name
     pub name-missed : slice_get (names_after name (tables es)) 0
         ≡ option_map name_of (slice_get es i)
-    name-missed = first_of ∙ ap (option_map (λ p. p.0)) (next_goes name_of table_of name es i there)
+    name-missed = first_of ∙ ap (option_map (λ p. p.0)) (next_goes name_of itself name es i there)
         ∙ key_of _
 
+    -- nothing is left out
     pub remove-missed : tables es ≡ map.remove (tables es) name
-    remove-missed = map-where_key _ _ name sorted (where_key-goes name_of table_of name es i there)
+    remove-missed = map-where_key _ _ name sorted (where_key-goes name_of itself name es i there)
 
-    pub added : (fs : List TableEntry) (f : TableEntry) → fs ≡ insert es i f → name_of f ≡ name
-        → AreInOrder fs × (tables fs ≡ map.insert (tables es) name (table_of f))
+    -- what is there with it
+    pub added : (fs : List TableSchema) (f : TableSchema) → fs ≡ insert es i f → name_of f ≡ name
+        → AreInOrder fs × (tables fs ≡ map.insert (tables es) name (itself f))
     added fs f is named =
-        let new = put-goes name_of table_of name es i f named there ∙ ap pairs (sym is) in
-        (put-in_order _ _ name (table_of f) sorted new, map-put _ _ name (table_of f) sorted new)
+        let new = put-goes name_of itself name es i f named there ∙ ap pairs (sym is) in
+        (put-in_order _ _ name (itself f) sorted new, map-put _ _ name (itself f) sorted new)

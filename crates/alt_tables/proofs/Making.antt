@@ -1,114 +1,191 @@
--- The writes of the tables: what they leave is what the machine's writes leave, and it is valid.
-use Rattle.std.proofs.Common.{◌≡◌, refl, sym, ap, subst, ◌∙◌, ℕ, ◌+◌, ◌<◌, ◌≤◌, false, length, List, [], ◌∷◌, Option, Some, None, IfSome, option_map, arith}
-use Rattle.std.specs.Prelude.{if◌then◌else◌}
+-- The writes of the tables: what they leave is what the machine's writes leave.
+use Rattle.std.proofs.Common.{◌≡◌, refl, sym, ap, subst, ◌∙◌, ℕ, ◌+◌, ◌<◌, ◌≤◌, false, length, List, [], ◌∷◌, Option, Some, None, Err, Result, IfSome, arith}
+use Rattle.std.specs.Prelude.{if◌then◌else◌, IsSome}
+use Rattle.std.specs.Result.{IsErrAnd}
+use Rattle.std.proofs.lemmas.Bool.{false≢true}
+use Rattle.std.proofs.lemmas.Result.{err_from_is_err_and}
 use Rattle.std.specs.FinMap as map
+use Rattle.alt_cells.specs.declared.batch.RowChange.{RowChange}
 use Rattle.alt_disk.specs.Disk.{DiskState}
 use Rattle.alt_machine.specs.declared.TheConstants.{NUMBERS_END, FAMILIES_END, MOST_FAMILIES, MOST_TABLES}
 use Rattle.alt_machine.specs.Ops.CreateTable.{with_table}
 use Rattle.alt_machine.specs.Ops.DeleteTable.{without_table}
-use Rattle.alt_machine.specs.Outcomes.{Wants, a_number, a_table}
+use Rattle.alt_machine.specs.Outcomes.{Wants, a_table}
 use Rattle.alt_machine.specs.Same.{is_same}
-use Rattle.alt_machine.specs.State.{State, Table, new_table, families_of}
+use Rattle.alt_machine.specs.State.{State, Table, Texts, new_table, families_of}
 use Rattle.alt_machine.specs.Valid.{IsStored, IsMade, IsValid}
 use Rattle.alt_machine.specs.Wanted.{lack_of, table_lack}
-use Rattle.alt_machine.specs.Writes.{with_item, after_item, item_writes}
-use Rattle.alt_machine.proofs.Descriptions.{get-descriptions, len-descriptions}
-use Rattle.alt_machine.proofs.Lacks.{has_number, has_table, one_has, one_lacks, lacks_table_family}
-use Rattle.alt_machine.proofs.States.{with_table_valid, without_table_valid, after_item_valid, with_item_stored}
+use Rattle.alt_machine.specs.Writes.{with_write, after_item, item_writes}
+use Rattle.alt_machine.proofs.Descriptions.{len-descriptions}
+use Rattle.alt_machine.proofs.Lacks.{has_table, one_has, one_lacks}
 use Rattle.alt_schema.specs.Described.{IsNew}
+use Rattle.alt_schema.specs.Held.{IsHeld}
 use Rattle.alt_schema.specs.declared.schema.TableSchema.{TableSchema}
-use Rattle.alt_tables.specs.Faults.{AreMade, BreakOff}
-use Rattle.alt_tables.specs.declared.faults.TableFault.TheVariants.{Spent}
-use Rattle.alt_tables.specs.Stands.{Stands, state_of, catalog_of}
+use Rattle.alt_tables.specs.Faults.{AreMade, BreakOff, IsFindFault, Writes}
+use Rattle.alt_tables.specs.Stands.{Holds, Stands, catalog_of, number_of}
+use Rattle.alt_tables.specs.StateRows.{Turns, item_changes, creation_changes, drop_changes}
+use Rattle.alt_tables.specs.declared.faults.TableFault.{TableFault}
+use Rattle.alt_tables.specs.declared.faults.TableFault.TheVariants.{Spent, Damaged, BadRow, Failed, NoMemory}
 use Rattle.alt_tables.specs.declared.tables.Tables.{Tables}
+use Rattle.alt_tables.proofs.CatalogLaws.{creation_turns, drop_turns}
+use Rattle.alt_tables.proofs.Standing.{descriptions-insert, descriptions-stay, descriptions-remove, known, there, absent}
+use Rattle.alt_tables.proofs.WriteLaws.{item_turns}
 use Rattle.alt_value.specs.Tree.{Pair}
-use Rattle.alt_tables.proofs.Standing.{stands_for, of_stands}
+use Rattle.alt_value.specs.Values.{IsItemOfValues}
+
+-- what is there is one
+pub same_Some : {A : Type 0} (x y : A) → Some x ≡ Some y → x ≡ y
+same_Some x y e = cc
 
 of_some : {A : Type 0} (P : A → Type 0) (o : Option A) (x : A) → IfSome o P → o ≡ Some x → P x
 of_some P None x h e = absurd (let f : ⊥ = cc in f)
 of_some P (Some y) x h e = subst P (let f : y ≡ x = cc in f) h
 
-module _ (disk : DiskState) (old new : Tables) where
-  -- one write is made, of what the tables then stand for
-  one_made : (wants : Wants) (s r : State) → state_of new ≡ r → IsValid r → lack_of wants s ≡ None
-      → AreMade (Stands disk new) wants s (r ∷ [])
-  one_made wants s r is valid has = record {
-    state = stands_for disk new r is valid;
-    enough =
-        one_has wants s r has;
+-- ---- a call that breaks off
+
+-- want of memory, where the tables stand for what they stood for
+pub want : (now : State → Type 0) (wants : Wants) (s : State) (atoms : List State) → now s
+    → BreakOff now wants s atoms NoMemory
+want now wants s atoms stays = (0, refl, stays)
+
+-- where a result tells it
+pub want_told : {X : Type 0} (now : State → Type 0) (wants : Wants) (s : State)
+    (atoms : List State) (r : Result X TableFault) → IsErrAnd r (λ f. f ≡ NoMemory) → now s
+    → Writes now wants s atoms r
+want_told now wants s atoms r told stays =
+    let (f, is, none) = err_from_is_err_and r told in
+    subst (λ q. Writes now wants s atoms q) (sym (is ∙ ap (λ e. Err e) none))
+    (want now wants s atoms stays)
+
+-- a number or a family that the one write can't have
+pub spent : (now : State → Type 0) (wants : Wants) (s r : State) (n : ℕ) → lack_of wants s ≡ Some n
+    → now s → BreakOff now wants s (r ∷ []) (Spent n)
+spent now wants s r n lacks stays = (0, one_lacks wants s r n lacks, stays)
+
+-- one write that failed, or wanted memory
+pub broke : (now : State → Type 0) (wants : Wants) (s r : State) (f : TableFault) → IsFindFault f
+    → (f ≡ NoMemory → now s) → BreakOff now wants s (r ∷ []) f
+broke now wants s r (Spent n) known stays = absurd known
+broke now wants s r (Damaged file at) known stays = absurd known
+broke now wants s r (BadRow family key) known stays = absurd known
+broke now wants s r Failed known stays = tt
+broke now wants s r NoMemory known stays = (0, refl, stays refl)
+
+-- ---- an item
+
+module _ (before : DiskState) (old : Tables) (s : State) (t : Table) (stands : Stands before old s)
+    (moment : ℕ) (name place : List ℕ) (found to : Option (List Pair))
+    (at : map.get s.tables name ≡ Some t) (there : found ≡ map.get t.items place) where
+  abbrev after : State
+  after = after_item s moment name t place to
+
+  -- one write is to be made
+  pub item_differs : is_same found to ≡ false → item_writes s moment name t place to ≡ after ∷ []
+  item_differs differ = ap (λ b. if b then [] else after ∷ [])
+      (ap (λ o. is_same o to) (sym there) ∙ differ)
+
+  -- its row change turns the rows of the state into those of the state after it
+  pub item_turned : (d : TableSchema) (batch : List RowChange)
+      → map.get (catalog_of old) name ≡ Some d → batch ≡ item_changes d place found to
+      → number_of old < NUMBERS_END → IfSome to (IsStored d place) → IfSome to IsItemOfValues
+      → Turns batch s after
+  item_turned d batch described is room stored given =
+      let same : t.description ≡ d = same_Some _ _
+      (sym (known before old s name t stands at) ∙ described) in
+      subst (λ cs. Turns cs s after)
+      (ap (λ o. item_changes t.description place o to) (sym there)
+      ∙ ap (λ d. item_changes d place found to) same ∙ sym is)
+      (item_turns s moment name t place to stands.valid stands.rows.held
+      (omega (arith, room, stands.number)) at
+      (λ item e. subst (λ d. IsStored d place item) (sym same)
+      (of_some (IsStored d place) to item stored e)) given)
+
+  -- the tables stand for that
+  pub item_stands : (now : DiskState) (new : Tables) → Holds now new.engine after → IsValid after
+      → new.catalog ≡ old.catalog → new.family ≡ old.family
+      → number_of new ≡ number_of old + 1 → Stands now new after
+  item_stands now new holds valid catalog family number = record {
+    catalog = catalog ∙ stands.catalog ∙ sym (descriptions-stay s.tables name t
+        (with_write s.next_number moment t place to) at refl);
+    number = number ∙ ap (λ n. n + 1) stands.number;
+    family = family ∙ stands.family;
+    rows = holds;
+    valid = valid;
   }
 
-  -- the item at a place
-  pub item_made : (moment : ℕ) (name place : List ℕ) (there to : Option (List Pair))
-      → ((t : Table) → map.get old.list name ≡ Some t
-      → new.list ≡ map.insert old.list name (record t { items = with_item t.items place to }))
-      → new.number ≡ old.number + 1 → new.family ≡ old.family → old.number < NUMBERS_END
-      → is_same there to ≡ false
-      → ((s : State) → Stands disk old s → (t : Table) → map.get s.tables name ≡ Some t
-      → there ≡ map.get t.items place)
-      → ((d : TableSchema) → map.get (catalog_of old) name ≡ Some d → IfSome to (IsStored d place))
-      → (s : State) (t : Table) → Stands disk old s → map.get s.tables name ≡ Some t
-      → AreMade (Stands disk new) a_number s (item_writes s moment name t place to)
-  item_made moment name place there to lists numbers families room differ found stored s t stands
-      at =
-      of_stands (λ r. map.get r.tables name ≡ Some t
-      → AreMade (Stands disk new) a_number r (item_writes r moment name t place to)) disk old s
-      stands (λ v is.
-      let r : State = state_of old in
-      let once : item_writes r moment name t place to ≡ after_item r moment name t place to ∷ [] =
-      ap (λ b. if b then [] else (after_item r moment name t place to ∷ []))
-      (ap (λ o. is_same o to) (sym (found r (stands_for disk old r refl v) t is)) ∙ differ) in
-      let described : map.get (catalog_of old) name ≡ Some t.description =
-      get-descriptions old.list name ∙ ap (option_map (λ (u : Table). u.description)) is in
-      subst (AreMade (Stands disk new) a_number r) (sym once)
-      (one_made a_number r (after_item r moment name t place to)
-      (λ i. record { tables = lists t is i; next_number = numbers i; next_family = families i })
-      (after_item_valid r moment name t place to v room is (with_item_stored r name t place to v is
-      (λ item e. of_some (IsStored t.description place) to item
-      (stored t.description described) e)))
-      (has_number old.number room))) at
+-- ---- a table
 
+module _ (before : DiskState) (old : Tables) (s : State) (stands : Stands before old s) where
   -- a table less
-  pub drop_made : (name : List ℕ) → new.list ≡ map.remove old.list name
-      → new.number ≡ old.number + 1 → new.family ≡ old.family → old.number < NUMBERS_END
-      → (s : State) → Stands disk old s → AreMade (Stands disk new) a_number s
-      (without_table s name ∷ [])
-  drop_made name lists numbers families room s stands =
-      of_stands (λ r. AreMade (Stands disk new) a_number r (without_table r name ∷ [])) disk old s
-      stands (λ v.
-      one_made a_number (state_of old) (without_table (state_of old) name)
-      (λ i. record { tables = lists i; next_number = numbers i; next_family = families i })
-      (without_table_valid (state_of old) name v room) (has_number old.number room))
+  pub drop_turned : (name : List ℕ) (d : TableSchema) (batch : List RowChange)
+      → map.get (catalog_of old) name ≡ Some d → batch ≡ drop_changes d
+      → number_of old < NUMBERS_END → Turns batch s (without_table s name)
+  drop_turned name d batch described is room =
+      let (t, at, same) = there before old s name d stands described in
+      subst (λ cs. Turns cs s (without_table s name)) (ap drop_changes same ∙ sym is)
+      (drop_turns s name t stands.valid stands.rows.held (omega (arith, room, stands.number)) at)
+
+  -- the tables stand for the state without it
+  pub drop_stands : (name : List ℕ) (now : DiskState) (new : Tables)
+      → Holds now new.engine (without_table s name) → IsValid (without_table s name)
+      → new.catalog ≡ map.remove old.catalog name → new.family ≡ old.family
+      → number_of new ≡ number_of old + 1 → Stands now new (without_table s name)
+  drop_stands name now new holds valid catalog family number = record {
+    catalog = catalog ∙ ap (λ (m : Texts TableSchema). map.remove m name) stands.catalog
+        ∙ sym (descriptions-remove s.tables name);
+    number = number ∙ ap (λ n. n + 1) stands.number;
+    family = family ∙ stands.family;
+    rows = holds;
+    valid = valid;
+  }
 
   module _ (d : TableSchema) (few : map.len (catalog_of old) < MOST_TABLES) (made : IsMade d)
-      (is_new : IsNew d) (number : d.number ≡ old.number)
-      (family : table_lack old.number old.family ≡ None → d.family ≡ old.family) where
+      (is_new : IsNew d) (number : d.number ≡ number_of old)
+      (family : table_lack (number_of old) old.family ≡ None → d.family ≡ old.family)
+      (free : map.get (catalog_of old) d.name ≡ None) where
     -- a table more
-    pub table_made : new.list ≡ map.insert old.list d.name (new_table d)
-        → new.number ≡ old.number + 1 → new.family ≡ old.family + length (families_of d)
-        → old.number < NUMBERS_END → old.family + MOST_FAMILIES ≤ FAMILIES_END
-        → (s : State) → Stands disk old s → AreMade (Stands disk new) a_table s
-        (with_table s d ∷ [])
-    table_made lists numbers families room enough s stands =
-        let has : table_lack old.number old.family ≡ None =
-        has_table old.number old.family room enough in
-        of_stands (λ r. AreMade (Stands disk new) a_table r (with_table r d ∷ [])) disk old s stands
-        (λ v.
-        one_made a_table (state_of old) (with_table (state_of old) d)
-        (λ i. record { tables = lists i; next_number = numbers i; next_family = families i })
-        (with_table_valid (state_of old) d v made is_new number (family has)
-        (omega (arith, few, len-descriptions old.list)) (room, enough)) has)
+    pub table_turned : (after : ℕ) (batch : List RowChange)
+        → after ≡ old.family + length (families_of d)
+        → batch ≡ creation_changes old.family after d → IsHeld d → number_of old < NUMBERS_END
+        → old.family + MOST_FAMILIES ≤ FAMILIES_END → Turns batch s (with_table s d)
+    table_turned after batch counted is held room enough =
+        let has : table_lack (number_of old) old.family ≡ None =
+        has_table (number_of old) old.family room enough in
+        subst (λ cs. Turns cs s (with_table s d))
+        (ap (λ f. creation_changes f after d) (sym stands.family) ∙ sym is)
+        (creation_turns s d after (counted ∙ ap (λ f. f + length (families_of d)) stands.family)
+        stands.valid stands.rows.held
+        (absent before old s d.name stands free) made is_new held (number ∙ stands.number)
+        (family has ∙ stands.family)
+        (omega (arith, few, len-descriptions s.tables, ap map.len stands.catalog))
+        (omega (arith, room, stands.number), omega (arith, enough, stands.family)))
 
--- no table is made where a family is lacked
-pub family_lacked : (disk : DiskState) (t : Tables) (d : TableSchema) → t.number < NUMBERS_END
-    → FAMILIES_END < t.family + MOST_FAMILIES
-    → (s : State) → Stands disk t s → BreakOff (Stands disk t) a_table s (with_table s d ∷ [])
-    (Spent t.family)
-family_lacked disk t d room lacks s stands =
-    of_stands (λ r. BreakOff (Stands disk t) a_table r (with_table r d ∷ []) (Spent t.family)) disk
-    t s stands (λ v. (
-      0,
-      one_lacks a_table (state_of t) (with_table (state_of t) d) t.family
-          (lacks_table_family t.number t.family room lacks),
-      stands_for disk t (state_of t) refl v,
-    ))
+    -- the tables stand for the state with it
+    pub table_stands : (now : DiskState) (new : Tables) → Holds now new.engine (with_table s d)
+        → IsValid (with_table s d) → new.catalog ≡ map.insert old.catalog d.name d
+        → new.family ≡ old.family + length (families_of d)
+        → number_of new ≡ number_of old + 1 → Stands now new (with_table s d)
+    table_stands now new holds valid catalog families numbers = record {
+      catalog = catalog ∙ ap (λ (m : Texts TableSchema). map.insert m d.name d) stands.catalog
+          ∙ sym (descriptions-insert s.tables d.name (new_table d));
+      number = numbers ∙ ap (λ n. n + 1) stands.number;
+      family = families ∙ ap (λ n. n + length (families_of d)) stands.family;
+      rows = holds;
+      valid = valid;
+    }
+
+    -- or it can't be had
+    pub table_lacked : (n : ℕ) → table_lack (number_of old) old.family ≡ Some n
+        → lack_of a_table s ≡ Some n
+    table_lacked n lacks = sym (λ i. table_lack (stands.number i) (stands.family i)) ∙ lacks
+
+-- what can be had isn't lacked
+pub not_lacking : (number family : ℕ) → number < NUMBERS_END
+    → family + MOST_FAMILIES ≤ FAMILIES_END → IsSome (table_lack number family) → ⊥
+not_lacking number family room enough lacks =
+    false≢true (subst IsSome (has_table number family room enough) lacks)
+
+-- one write is made, and the tables stand for the state after it
+pub one_made : (now : State → Type 0) (wants : Wants) (s r : State) → now r → lack_of wants s ≡ None
+    → AreMade now wants s (r ∷ [])
+one_made now wants s r stands has = record { state = stands; enough = one_has wants s r has }

@@ -1,36 +1,196 @@
--- For which states the tables stand: for the one that is in memory, where it is valid.
-use Rattle.std.proofs.Common.{◌≡◌, sym, ap, subst, ◌∙◌, ℕ, List, Option, Some, option_map}
+-- For which state the tables stand, and what the catalog knows of it.
+use Rattle.std.proofs.Common.{◌≡◌, refl, sym, ap, subst, ◌∙◌, ℕ, Bool, true, false, cond, List, Option, Some, None, IfSome, IsTrue, option_map}
+use Rattle.std.specs.Prelude.{◌↔◌}
+use Rattle.std.specs.Ordering.{eq_by_cmp}
 use Rattle.std.specs.FinMap as map
-use Rattle.alt_disk.specs.Disk.{DiskState}
-use Rattle.alt_machine.specs.State.{State, Table, descriptions}
-use Rattle.alt_machine.proofs.Descriptions.{get-descriptions}
-use Rattle.alt_machine.specs.Valid.{IsValid}
-use Rattle.alt_tables.specs.Stands.{Stands, state_of, catalog_of}
+use Rattle.alt_cells.specs.Changes.{Columns}
+use Rattle.alt_disk.specs.Disk.{DiskState, Goes}
+use Rattle.alt_disk.specs.Runs.{Quiet}
+use Rattle.alt_disk.proofs.Runs.{trusted_on, trusted_back, tells_of}
+use Rattle.alt_engine.specs.InHand.{SameEngine, Reads as EngineReads}
+use Rattle.alt_engine.specs.Layout.{Layout, shown}
+use Rattle.alt_machine.specs.State.{State, Table, Texts, descriptions}
+use Rattle.alt_machine.proofs.Descriptions.{get-descriptions, no_description, table_of_description}
+use Rattle.alt_schema.specs.declared.schema.TableSchema.{TableSchema}
+use Rattle.alt_tables.specs.ItemRows.{IsReadItem, item_columns}
+use Rattle.alt_tables.specs.Stands.{AreReady, Stands, catalog_of}
 use Rattle.alt_tables.specs.declared.tables.Tables.{Tables}
+use Rattle.alt_tables.proofs.ChangeLaws.{tied}
+use Rattle.alt_tables.proofs.Holding.{one_held}
+use Rattle.alt_tables.proofs.Engine.{stays_quiet}
+use Rattle.alt_tables.proofs.ItemRowLaws.{item_columns-one}
+use Rattle.alt_tables.proofs.OneState.{some, has_whole}
+use Rattle.alt_tables.proofs.Maps.{same_texts}
+use Rattle.alt_value.specs.Tree.{Pair}
+use Rattle.alt_value.specs.Values.{IsWholeItem}
+use Rattle.alt_value.specs.Members.{text_order}
+use Rattle.alt_value.proofs.Texts.{text_total}
 
-pub stands_for : (disk : DiskState) (t : Tables) (s : State) → state_of t ≡ s → IsValid s
-    → Stands disk t s
-stands_for disk t s e v = record {
-  catalog = ap (λ (r : State). descriptions r.tables) e;
-  number = ap (λ (r : State). r.next_number) e;
-  family = ap (λ (r : State). r.next_family) e;
-  rows = e;
-  valid = v;
-}
+-- ---- the descriptions of other tables
 
--- what holds of the state in memory holds of each for which they stand
-pub of_stands : (P : State → Type 0) (disk : DiskState) (t : Tables) (s : State) → Stands disk t s
-    → (IsValid (state_of t) → P (state_of t)) → P s
-of_stands P disk t s stands h = subst P stands.rows
-    (h (subst IsValid (sym stands.rows) stands.valid))
+module _ (tables : Texts Table) (name : List ℕ) where
+  -- with a table more, or another one
+  described : (t : Table) (q : List ℕ) → map.get (descriptions (map.insert tables name t)) q
+      ≡ cond (eq_by_cmp text_order q name) (Some t.description) (map.get (descriptions tables) q)
+  described t q = get-descriptions (map.insert tables name t) q
+      ∙ ap (option_map (λ (t : Table). t.description)) (map.get-insert text_total tables name t q)
+      ∙ by (eq_by_cmp text_order q name)
+    where
+      by : (b : Bool) → option_map (λ (t : Table). t.description)
+          (cond b (Some t) (map.get tables q))
+          ≡ cond b (Some t.description) (map.get (descriptions tables) q)
+      by true = refl
+      by false = sym (get-descriptions tables q)
+
+  -- a table more
+  pub descriptions-insert : (t : Table) → descriptions (map.insert tables name t)
+      ≡ map.insert (descriptions tables) name t.description
+  descriptions-insert t = same_texts _ _ (λ q. described t q
+      ∙ sym (map.get-insert text_total (descriptions tables) name t.description q))
+
+  -- a table of other items
+  pub descriptions-stay : (t u : Table) → map.get tables name ≡ Some t
+      → u.description ≡ t.description
+      → descriptions (map.insert tables name u) ≡ descriptions tables
+  descriptions-stay t u at same = same_texts _ _ (λ q. described u q
+      ∙ by q (eq_by_cmp text_order q name) refl)
+    where
+      by : (q : List ℕ) (b : Bool) → eq_by_cmp text_order q name ≡ b
+          → cond b (Some u.description) (map.get (descriptions tables) q)
+          ≡ map.get (descriptions tables) q
+      by q true e = ap (λ d. Some d) same
+          ∙ sym (get-descriptions tables q
+          ∙ ap (λ k. option_map (λ (t : Table). t.description) (map.get tables k)) (tied q name e)
+          ∙ ap (option_map (λ (t : Table). t.description)) at)
+      by q false e = refl
+
+  -- a table less
+  pub descriptions-remove : descriptions (map.remove tables name)
+      ≡ map.remove (descriptions tables) name
+  descriptions-remove = same_texts _ _ (λ q.
+      get-descriptions (map.remove tables name) q
+      ∙ ap (option_map (λ (t : Table). t.description)) (map.get-remove text_total tables name q)
+      ∙ by q (eq_by_cmp text_order q name)
+      ∙ sym (map.get-remove text_total (descriptions tables) name q))
+    where
+      by : (q : List ℕ) (b : Bool) → option_map (λ (t : Table). t.description)
+          (cond b None (map.get tables q)) ≡ cond b None (map.get (descriptions tables) q)
+      by q true = refl
+      by q false = sym (get-descriptions tables q)
+
+-- a description that came and went
+pub remove-insert : {X : Type 0} (m : Texts X) (k : List ℕ) (x : X) → map.get m k ≡ None
+    → map.remove (map.insert m k x) k ≡ m
+remove-insert m k x absent = same_texts _ _ (λ q.
+    map.get-remove text_total (map.insert m k x) k q
+    ∙ ap (cond (eq_by_cmp text_order q k) None) (map.get-insert text_total m k x q)
+    ∙ by q (eq_by_cmp text_order q k) refl)
+  where
+    by : (q : List ℕ) (b : Bool) → eq_by_cmp text_order q k ≡ b
+        → cond b None (cond b (Some x) (map.get m q)) ≡ map.get m q
+    by q true e = sym (ap (map.get m) (tied q k e) ∙ absent)
+    by q false e = refl
+
+-- ---- tables in hand
 
 -- a table of the state is described in the catalog
-pub described : (disk : DiskState) (t : Tables) (s : State) (name : List ℕ) (u : Table)
-    → Stands disk t s
-    → map.get s.tables name ≡ Some u → map.get (catalog_of t) name ≡ Some u.description
-described disk t s name u stands at = ap (λ m. map.get m name) stands.catalog
+pub known : (disk : DiskState) (t : Tables) (s : State) (name : List ℕ) (u : Table)
+    → Stands disk t s → map.get s.tables name ≡ Some u
+    → map.get (catalog_of t) name ≡ Some u.description
+known disk t s name u stands at = ap (λ m. map.get m name) stands.catalog
     ∙ get-descriptions s.tables name ∙ ap (option_map (λ (v : Table). v.description)) at
+
+-- and what is described there is a table of it
+pub there : (disk : DiskState) (t : Tables) (s : State) (name : List ℕ) (d : TableSchema)
+    → Stands disk t s → map.get (catalog_of t) name ≡ Some d
+    → (u : Table) × (map.get s.tables name ≡ Some u) × (u.description ≡ d)
+there disk t s name d stands at = table_of_description s.tables name d
+    (ap (λ m. map.get m name) (sym stands.catalog) ∙ at)
+
+-- what isn't described there is none
+pub absent : (disk : DiskState) (t : Tables) (s : State) (name : List ℕ) → Stands disk t s
+    → map.get (catalog_of t) name ≡ None → map.get s.tables name ≡ None
+absent disk t s name stands at = no_description s.tables name
+    (ap (λ m. map.get m name) (sym stands.catalog) ∙ at)
+
+-- they stand for one state
+pub one_stands : (disk : DiskState) (t : Tables) (s r : State) → Stands disk t s → Stands disk t r
+    → s ≡ r
+one_stands disk t s r a b = one_held disk t.engine s r a.rows b.rows a.valid b.valid
 
 -- of an item at a place there is one place
 pub one_place : (o : Option (List ℕ)) (p q : List ℕ) → o ≡ Some p → o ≡ Some q → p ≡ q
 one_place o p q e f = let both : Some p ≡ Some q = sym e ∙ f in cc
+
+-- ---- a call that reads alone
+
+module _ (old new : DiskState) (t u : Tables) (catalog : u.catalog ≡ t.catalog)
+    (family : u.family ≡ t.family) (goes : Goes old new)
+    (quiet : IsTrue old.tells → Quiet old new) (same : SameEngine t.engine u.engine) where
+  -- the tables stand for what they stood for
+  stays_on : (s : State) → Stands old t s → Stands new u s
+  stays_on s stands = record {
+    catalog = catalog ∙ stands.catalog;
+    number = same.next ∙ stands.number;
+    family = family ∙ stands.family;
+    rows = record {
+      trusted = trusted_on old new goes stands.rows.trusted;
+      layout = stands.rows.layout;
+      is = same.stands new stands.rows.layout (stays_quiet old new t.engine stands.rows.layout
+          stands.rows.is (quiet (tells_of old stands.rows.trusted)));
+      shows = stands.rows.shows;
+      held = stands.rows.held;
+    };
+    valid = stands.valid;
+  }
+
+  -- and for nothing else
+  pub stays : AreReady old t → (s : State) → Stands old t s ↔ Stands new u s
+  stays ready s = (
+    stays_on s,
+    λ stands.
+        let (r, before) = ready (trusted_back old new goes stands.rows.trusted) in
+        subst (Stands old t) (one_stands new u r s (stays_on r before) stands) before,
+  )
+
+-- ---- the item that a row shows
+
+-- items of one row are one
+one_item : (o p : Option (List Pair)) → IfSome o IsReadItem
+    → ((item : List Pair) → p ≡ Some item → IsWholeItem item)
+    → option_map item_columns o ≡ option_map item_columns p → o ≡ p
+one_item None None h k e = refl
+one_item None (Some b) h k e = absurd (let no : None ≡ Some (item_columns b) = e in
+    let f : ⊥ = cc in f)
+one_item (Some a) None h k e = absurd (let no : Some (item_columns a) ≡ None = e in
+    let f : ⊥ = cc in f)
+one_item (Some a) (Some b) h k e = ap (λ x. Some x)
+    (item_columns-one a b h.whole (k b refl) (some _ _ e))
+
+module _ (disk : DiskState) (t : Tables) (s : State) (name : List ℕ) (u : Table)
+    (d : TableSchema) (stands : Stands disk t s) (at : map.get s.tables name ≡ Some u)
+    (known_as : map.get (catalog_of t) name ≡ Some d) (place : List ℕ) (row : Option Columns)
+    (shows : (l : Layout) → EngineReads disk t.engine l → row ≡ shown l d.family place) where
+  -- what the row shows is the item at its key
+  pub row_shows : row ≡ option_map item_columns (map.get u.items place)
+  row_shows = shows stands.rows.layout stands.rows.is.reads
+      ∙ ap (λ (x : TableSchema). shown stands.rows.layout x.family place)
+      (some _ _ (sym known_as ∙ known disk t s name u stands at))
+      ∙ stands.rows.shows.items name u at place
+
+  -- so what was read is that
+  pub item_found : (item : Option (List Pair)) → IfSome item IsReadItem
+      → row ≡ option_map item_columns item → item ≡ map.get u.items place
+  item_found item read is = one_item item (map.get u.items place) read
+      (has_whole s stands.valid stands.rows.held name u at place) (sym is ∙ row_shows)
+
+  -- and it can be read
+  pub item_reads : IfSome (map.get u.items place) IsReadItem
+  item_reads = by (map.get u.items place) refl
+    where
+      by : (o : Option (List Pair)) → map.get u.items place ≡ o → IfSome o IsReadItem
+      by None e = tt
+      by (Some item) e = record {
+        whole = has_whole s stands.valid stands.rows.held name u at place item e;
+        depth = ((stands.valid.tables name u at).items place item e).depth;
+      }

@@ -1,10 +1,12 @@
 -- What a call that gives no answer tells, and what it leaves.
 use Rattle.std.specs.Prelude.{take, ◌≡◌, ℕ, List, Some, None, Result, Ok, Err}
+use Rattle.alt_engine.specs.declared.engine.EngineFault.{EngineFault}
+use Rattle.alt_engine.specs.declared.engine.EngineFault.TheVariants as engine
 use Rattle.alt_machine.specs.Outcomes.{Wants, last_state, state_after}
 use Rattle.alt_machine.specs.State.{State}
 use Rattle.alt_machine.specs.Wanted.{lack_among}
 use Rattle.alt_tables.specs.declared.faults.TableFault.{TableFault}
-use Rattle.alt_tables.specs.declared.faults.TableFault.TheVariants.{Spent, NoMemory}
+use Rattle.alt_tables.specs.declared.faults.TableFault.TheVariants.{Spent, Damaged, BadRow, Failed, NoMemory}
 
 -- Below, `now` says for which states the tables stand after a call, and `s` is a state for which they stood before it.
 
@@ -15,11 +17,15 @@ pub record AreMade (now : State → Type 0) (wants : Wants) (s : State)
   pub enough : lack_among wants s atoms ≡ None
 
 -- The writes broke off: where a number or a family can't be had, just before the one that lacks it, the first that does; and for want
--- of memory, which may come at any time, after some of them, none of which lacked one.
+-- of memory, which may come at any time, after some of them, none of which lacked one. Where the device failed, the tables stand for
+-- no state from then on, and what a stop leaves is told of the disk. Rows that stand for a state are never damaged or bad.
 abbrev pub BreakOff : (State → Type 0) → Wants → State → List State → TableFault → Type 0
 BreakOff now wants s atoms (Spent number) =
     (before : ℕ) × (lack_among wants s atoms ≡ Some (record { number = number; before = before }))
     × now (state_after before s atoms)
+BreakOff now wants s atoms (Damaged file at) = ⊥
+BreakOff now wants s atoms (BadRow family key) = ⊥
+BreakOff now wants s atoms Failed = Unit {0}
 BreakOff now wants s atoms NoMemory = (k : ℕ) × (lack_among wants s (take k atoms) ≡ None)
     × now (state_after k s atoms)
 
@@ -29,7 +35,32 @@ abbrev pub Writes : {A : Type 0} → (State → Type 0) → Wants → State → 
 Writes now wants s atoms (Ok x) = AreMade now wants s atoms
 Writes now wants s atoms (Err fault) = BreakOff now wants s atoms fault
 
--- The fault is one that a call has which writes nothing.
+-- a fault of a step that asks nothing of the disk and writes nothing: memory was wanting
 abbrev pub IsReadFault : TableFault → Type 0
 IsReadFault (Spent number) = ⊥
+IsReadFault (Damaged file at) = ⊥
+IsReadFault (BadRow family key) = ⊥
+IsReadFault Failed = ⊥
 IsReadFault NoMemory = Unit {0}
+
+-- a fault of a call that reads rows which stand for a state: the device failed, or memory was wanting
+abbrev pub IsFindFault : TableFault → Type 0
+IsFindFault (Spent number) = ⊥
+IsFindFault (Damaged file at) = ⊥
+IsFindFault (BadRow family key) = ⊥
+IsFindFault Failed = Unit {0}
+IsFindFault NoMemory = Unit {0}
+
+-- a fault for which no number or family was wanting
+abbrev pub IsUnspent : TableFault → Type 0
+IsUnspent (Spent number) = ⊥
+IsUnspent (Damaged file at) = Unit {0}
+IsUnspent (BadRow family key) = Unit {0}
+IsUnspent Failed = Unit {0}
+IsUnspent NoMemory = Unit {0}
+
+-- the fault of the engine, passed on
+abbrev pub fault_of : EngineFault → TableFault
+fault_of (engine.Spent number) = Spent number
+fault_of engine.Failed = Failed
+fault_of engine.NoMemory = NoMemory

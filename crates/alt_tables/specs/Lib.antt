@@ -1,5 +1,13 @@
 pub mod Codes
 pub mod Faults
 pub mod Found
+pub mod Images
+pub mod ItemRows
+pub mod Laws
+pub mod Made
+pub mod Opening
 pub mod Order
+pub mod Recovery
+pub mod Scans
 pub mod Stands
+pub mod StateRows

@@ -1,47 +1,65 @@
--- What the tables in memory stand for.
-use Rattle.std.specs.Prelude.{◌≡◌, ℕ, []}
-use Rattle.alt_disk.specs.Disk.{DiskState}
-use Rattle.alt_machine.specs.State.{State, Table, Texts, descriptions}
+-- What the tables in hand stand for, with the disk beneath them.
+use Rattle.std.specs.Prelude.{◌≡◌, ℕ}
+use Rattle.alt_disk.specs.Disk.{DiskState, IsTrusted, Goes}
+use Rattle.alt_disk.specs.Runs.{Quiet}
+use Rattle.std.specs.Prelude.{IsTrue}
+use Rattle.alt_engine.specs.InHand.{Stands as EngineStands}
+use Rattle.alt_engine.specs.Layout.{Layout}
+use Rattle.alt_engine.specs.declared.engine.Engine.{Engine}
+use Rattle.alt_machine.specs.State.{State, Texts, descriptions}
 use Rattle.alt_machine.specs.Valid.{IsValid}
 use Rattle.alt_schema.specs.declared.schema.TableSchema.{TableSchema}
-use Rattle.alt_tables.specs.declared.list.TableEntry.{TableEntry}
+use Rattle.alt_tables.specs.StateRows.{Shows, IsHeldWhole}
 use Rattle.alt_tables.specs.declared.tables.Tables.{Tables}
-
--- a table as the machine has it
-abbrev pub table_of : TableEntry → Table
-table_of e = record { description = e.schema; items = e.items; changes = [] }
 
 -- ---- what is known of the tables without the disk
 
 -- the descriptions by the names of their tables
 abbrev pub catalog_of : Tables → Texts TableSchema
-catalog_of t = descriptions t.list
+catalog_of t = t.catalog
 
 -- the number of the next write
 abbrev pub number_of : Tables → ℕ
-number_of t = t.number
+number_of t = t.engine.next
 
 -- the family that the next table gets
 abbrev pub family_of : Tables → ℕ
 family_of t = t.family
-
--- ---- the state
-
--- the state of tables whose items are in memory
-abbrev pub state_of : Tables → State
-state_of t = record { tables = t.list; next_number = t.number; next_family = t.family }
-
--- The tables and the disk beneath them stand for a valid state of the machine: it has the tables that are known, and the next number
--- and the next family; and the items that are kept are its items. They are in memory, so nothing is asked of the disk yet.
-pub record Stands (disk : DiskState) (t : Tables) (s : State) : Type 0 where
-  pub catalog : catalog_of t ≡ descriptions s.tables
-  pub number : number_of t ≡ s.next_number
-  pub family : family_of t ≡ s.next_family
-  pub rows : state_of t ≡ s
-  pub valid : IsValid s
 
 -- What is known without the disk stayed.
 pub record KeepsCatalog (old new : Tables) : Type 0 where
   pub catalog : catalog_of new ≡ catalog_of old
   pub number : number_of new ≡ number_of old
   pub family : family_of new ≡ family_of old
+
+-- ---- the state
+
+-- The disk tells its contents and keeps what was synced, and the rows for which the engine stands, as the disk reads and in whatever
+-- a stop now leaves, show the state.
+pub record Holds (disk : DiskState) (engine : Engine) (s : State) : Type 0 where
+  pub trusted : IsTrusted disk
+  pub layout : Layout
+  pub is : EngineStands disk engine layout
+  pub shows : Shows layout s
+  pub held : IsHeldWhole s
+
+-- The tables and the disk beneath them stand for a valid state of the machine: it has the tables that are known, and the next number
+-- and the next family, and its rows are those on the disk.
+pub record Stands (disk : DiskState) (t : Tables) (s : State) : Type 0 where
+  pub catalog : catalog_of t ≡ descriptions s.tables
+  pub number : number_of t ≡ s.next_number
+  pub family : family_of t ≡ s.next_family
+  pub rows : Holds disk t.engine s
+  pub valid : IsValid s
+
+-- On a disk that tells its contents and keeps what was synced the tables stand for a state: after a call that failed they don't, and
+-- then only a recovery goes on.
+abbrev pub AreReady : DiskState → Tables → Type 0
+AreReady disk t = IsTrusted disk → (s : State) × Stands disk t s
+
+-- ---- the disk
+
+-- A call that reads alone: where the disk tells its contents, every file stays, in reads and in what a stop leaves at each moment.
+pub record Reads (old new : DiskState) : Type 0 where
+  pub goes : Goes old new
+  pub quiet : IsTrue old.tells → Quiet old new

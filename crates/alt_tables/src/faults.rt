@@ -1,15 +1,24 @@
-//! Why a request had no answer at all.
+//! Why a request had no answer at all, and why a store isn't opened.
 
 ghost use Rattle.std.specs.Prelude.{◌≡◌};
+ghost use Rattle.alt_tables.specs.Faults.{fault_of};
 
 use alt_base::NoMemory;
+use alt_engine::EngineFault;
+use alt_fields::Bytes;
 use std::alloc::{AllocError, AllocFailed};
 
-/// What ends a run in the middle of a request.
-#[derive(Clone, Copy, Debug, PartialEq, Eq, Drop)]
+/// What ends a run in the middle of a request. Only a recovery of the tables goes on from there.
+#[derive(Debug, Drop)]
 pub enum TableFault {
     /// A write would need a number, or a new table a family, that is never given out: this number, or this family.
     Spent { number: u64 },
+    /// The disk gave bytes that it wasn't left with, in this file at this place.
+    Damaged { file: u32, at: u64 },
+    /// The disk gave a row that is none of its family, with this key.
+    BadRow { family: u32, key: Bytes },
+    /// The disk failed, and its count of faults rose.
+    Failed,
     /// Memory was refused.
     NoMemory,
 }
@@ -42,4 +51,28 @@ impl<T: Drop> From<AllocFailed<T>> for TableFault {
     fn from(_: AllocFailed<T>) -> Self {
         TableFault::NoMemory
     }
+}
+
+/// A fault of the engine, passed on.
+pub(crate) fn fault_of(fault: EngineFault) -> TableFault
+    ensures { result ≡ fault_of fault }
+{
+    match fault {
+        EngineFault::Spent { number } => TableFault::Spent { number },
+        EngineFault::Failed => TableFault::Failed,
+        EngineFault::NoMemory => TableFault::NoMemory,
+    }
+}
+
+/// Why a store isn't opened.
+#[derive(Debug, Drop)]
+pub enum OpenFault {
+    /// The files are no store's, for the bytes of this file at this place.
+    Damaged { file: u32, at: u64 },
+    /// The rows are those of no state, and of this family and key is the first that is wrong.
+    BadRow { family: u32, key: Bytes },
+    /// The disk failed, and its count of faults rose.
+    Failed,
+    /// Memory was refused.
+    NoMemory,
 }

@@ -1,14 +1,21 @@
-//! The tables with their items, in memory: what the machine's state stands for.
+//! The tables with their items over the engine: what the machine's state stands for on a disk.
 #![tactic(auto)]
 
+mod catalog;
+mod catalog_row;
 mod faults;
-mod items;
-mod list;
+mod item_row;
+mod laws;
+mod made;
+mod opened;
 mod place;
+mod recover;
 mod rows;
+mod scan;
 mod tables;
 
-pub use faults::TableFault;
+pub use faults::{OpenFault, TableFault};
+pub use laws::tables_laws;
 pub use place::place_of;
 pub use rows::Found;
 pub use tables::Tables;

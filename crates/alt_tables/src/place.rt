@@ -4,7 +4,7 @@ ghost use Rattle.std.specs.Prelude.{◌≡◌, ◌++◌, IfOk, OnOk, option_map}
 ghost use Rattle.std.specs.Int.{w64, to_be_bytes};
 ghost use Rattle.alt_keyorder.specs.KeyBytes.{IsKey, key_bytes};
 ghost use Rattle.alt_keyorder.specs.Token.{token_of};
-ghost use Rattle.alt_machine.specs.Keys.{can_be_key, key_value, place_of};
+ghost use Rattle.alt_machine.specs.Keys.{byte_count, can_be_key, is_within, key_fits, key_value, place_of};
 ghost use Rattle.alt_value.specs.Stands.{tree_of};
 
 use alt_base::NoMemory;
@@ -70,5 +70,42 @@ fn can_be_key(kind: KeyKind, value: &Attr) -> bool
             Attr::B(bytes) => !bytes.as_slice().is_empty(),
             _ => false,
         },
+    }
+}
+
+/// The most bytes of a HASH and of a RANGE value (Developer Guide, "Service, account, and table quotas").
+const LONGEST_HASH: usize = 2048;
+
+const LONGEST_RANGE: usize = 1024;
+
+/// Whether the values of the key are short enough.
+pub(crate) fn key_fits(schema: &TableSchema, item: &Item) -> bool
+    ensures fits { result ≡ key_fits schema.now item.now }
+{
+    if !is_within(LONGEST_HASH, item, &schema.hash) {
+        return false;
+    }
+    match &schema.range {
+        Some(range) => is_within(LONGEST_RANGE, item, range),
+        None => true,
+    }
+}
+
+fn is_within(most: usize, item: &Item, key: &KeyAttr) -> bool
+    ensures { result ≡ is_within most item.now key.now }
+{
+    match item.get(key.name.as_str()) {
+        Some(value) => byte_count(value) <= most,
+        None => true,
+    }
+}
+
+fn byte_count(value: &Attr) -> usize
+    ensures { result ≡ byte_count (tree_of value.now) }
+{
+    match value {
+        Attr::S(text) => text.as_str().len(),
+        Attr::B(bytes) => bytes.as_slice().len(),
+        _ => 0,
     }
 }

@@ -1,7 +1,9 @@
 //! The items of tables: what stands at a place, and what is to stand there.
 
-ghost use Rattle.std.specs.Prelude.{◌≡◌, ◌↔◌, ℕ, true, None, Some, IsSome, IfOk, IfErr, IfSome, OnOk, List, option_map};
+ghost use Rattle.std.specs.Prelude.{◌≡◌, ◌↔◌, ℕ, true, false, None, Some, IsSome, IfOk, IfErr, IfSome, OnOk, IsErrOf, Ok, Err, List, Option, option_map};
 ghost use Rattle.std.specs.FinMap as map;
+ghost use Rattle.alt_base.specs.Counts.{Rose};
+ghost use Rattle.alt_disk.specs.Disk.{Goes};
 ghost use Rattle.alt_machine.specs.Keys.{place_of};
 ghost use Rattle.alt_machine.specs.Outcomes.{a_number};
 ghost use Rattle.alt_machine.specs.Same.{is_same};
@@ -9,18 +11,27 @@ ghost use Rattle.alt_machine.specs.State.{State, Table};
 ghost use Rattle.alt_machine.specs.Valid.{IsStored};
 ghost use Rattle.alt_machine.specs.Writes.{item_writes};
 ghost use Rattle.alt_schema.specs.declared.schema.TableSchema.{TableSchema};
-ghost use Rattle.alt_tables.specs.Faults.{IsReadFault, Writes};
+ghost use Rattle.alt_tables.specs.Faults.{IsFindFault, IsUnspent, Writes};
 ghost use Rattle.alt_tables.specs.Found.{IsFoundIn, number_taken};
-ghost use Rattle.alt_tables.specs.Stands.{Stands, KeepsCatalog, catalog_of, number_of};
+ghost use Rattle.alt_tables.specs.Images.{Leaves};
+ghost use Rattle.alt_tables.specs.ItemRows.{IsReadItem, item_columns};
+ghost use Rattle.alt_tables.specs.StateRows.{item_changes};
+ghost use Rattle.alt_tables.specs.Stands.{AreReady, Reads, Stands, KeepsCatalog, catalog_of, number_of};
+ghost use Rattle.alt_value.specs.Tree.{Pair};
+ghost use Rattle.alt_value.specs.Values.{IsItemOfValues};
 
-use crate::TableFault;
+use crate::faults::{TableFault, fault_of};
+use crate::item_row::{Unread, item_of_row, row_of_item};
 use crate::place::place_of;
 use crate::tables::Tables;
 use alt_base::NoMemory;
+use alt_cells::{Batch, RowChange, ShownRow};
 use alt_disk::Disk;
 use alt_fields::Bytes;
 use alt_machine::NUMBERS_END;
+use alt_schema::TableSchema;
 use alt_value::{Item, item_equal};
+use std::alloc::Global;
 
 /// What was found at a place of a table. A write takes it back.
 #[derive(Drop)]
@@ -37,6 +48,7 @@ impl Tables {
         table: &str,
         place: Bytes,
     ) -> Result<Found, TableFault>
+        requires ready { AreReady (D.state disk.old) self.old }
         requires there { map.contains_key (catalog_of self.old) table.now ≡ true }
         ensures place { IfOk result (λ found. found.place ≡ place) }
         ensures item { (s : State) → Stands (D.state disk.old) self.old s
@@ -44,18 +56,26 @@ impl Tables {
         ensures stays { (s : State) → Stands (D.state disk.old) self.old s ↔ Stands
             (D.state disk.new) self.new s }
         ensures catalog { KeepsCatalog self.old self.new }
-        ensures cause { IfErr result IsReadFault }
-        ensures disk { D.state disk.new ≡ D.state disk.old }
+        ensures unspent { IfErr result IsUnspent }
+        ensures fault { (s : State) → Stands (D.state disk.old) self.old s
+            → IfErr result IsFindFault }
+        ensures disk { Reads (D.state disk.old) (D.state disk.new) }
+        ensures cause { IsErrOf result TableFault.Failed
+            → Rose (D.state disk.old).faults (D.state disk.new).faults }
     {
-        let _ = disk;
-        let Some(entry) = self.list.get(table) else {
-            return Ok(Found { place, item: None });
+        let Some(schema) = self.catalog.get(table) else {
+            unreachable!();
         };
-        let item = match copy_of(entry.items.get(&place)) {
-            Ok(item) => item,
-            Err(_) => return Err(TableFault::NoMemory),
+        let family = schema.family;
+        let row = match self.engine.row(disk, family, place.as_slice()) {
+            Ok(row) => row,
+            Err(fault) => return Err(fault_of(fault)),
         };
-        Ok(Found { place, item })
+        match item_of(self.alloc, &row) {
+            Ok(item) => Ok(Found { place, item }),
+            Err(Unread::Bad) => Err(TableFault::BadRow { family, key: place }),
+            Err(Unread::NoMemory) => Err(TableFault::NoMemory),
+        }
     }
 
     /// Leaves `new` at the place of what was found in a table that is there, or nothing. The answer is the number that the write
@@ -68,6 +88,7 @@ impl Tables {
         new: Option<Item>,
         moment: u64,
     ) -> Result<Option<u64>, TableFault>
+        requires ready { AreReady (D.state disk.old) self.old }
         requires there { map.contains_key (catalog_of self.old) table.now ≡ true }
         requires found { (s : State) → Stands (D.state disk.old) self.old s
             → IsFoundIn s table.now found }
@@ -81,25 +102,31 @@ impl Tables {
             → map.get s.tables table.now ≡ Some t
             → IfOk result (λ n. n ≡ number_taken (number_of self.old)
             (item_writes s moment table.now t found.place new)) }
-        ensures disk { D.state disk.new ≡ D.state disk.old }
+        ensures disk { (s : State) (t : Table) → Stands (D.state disk.old) self.old s
+            → map.get s.tables table.now ≡ Some t → Leaves (D.state disk.old) (D.state disk.new) s
+            (item_writes s moment table.now t found.place new) }
+        ensures goes { Goes (D.state disk.old) (D.state disk.new) }
+        // On every disk: a call that answers that there was nothing to write makes no call of the disk.
+        ensures unchanged { result ≡ Ok None → D.state disk.new ≡ D.state disk.old }
+        ensures cause { IsErrOf result TableFault.Failed
+            → Rose (D.state disk.old).faults (D.state disk.new).faults }
     {
-        let _ = disk;
         let _ = moment;
         if same(&found.item, &new) {
             return Ok(None);
         }
-        if self.number >= NUMBERS_END {
-            return Err(TableFault::Spent {
-                number: self.number,
-            });
+        let number = self.engine.next_number();
+        if number >= NUMBERS_END {
+            return Err(TableFault::Spent { number });
         }
-        match self.list.write(table, found.place, new) {
-            Ok(()) => {}
-            Err(_) => return Err(TableFault::NoMemory),
+        let Some(schema) = self.catalog.get(table) else {
+            unreachable!();
+        };
+        let batch = item_batch(self.alloc, schema, found.place, &found.item, &new)?;
+        match self.make(disk, &batch) {
+            Ok(number) => Ok(Some(number)),
+            Err(fault) => Err(fault),
         }
-        let number = self.number;
-        self.number += 1;
-        Ok(Some(number))
     }
 }
 
@@ -111,6 +138,7 @@ impl Tables {
         table: &str,
         key: &Item,
     ) -> Result<Option<Item>, TableFault>
+        requires ready { AreReady (D.state disk.old) self.old }
         requires there { map.contains_key (catalog_of self.old) table.now ≡ true }
         requires key { (d : TableSchema) → map.get (catalog_of self.old) table.now ≡ Some d
             → IsSome (place_of d key.now) }
@@ -121,8 +149,12 @@ impl Tables {
         ensures stays { (s : State) → Stands (D.state disk.old) self.old s ↔ Stands
             (D.state disk.new) self.new s }
         ensures catalog { KeepsCatalog self.old self.new }
-        ensures cause { IfErr result IsReadFault }
-        ensures disk { D.state disk.new ≡ D.state disk.old }
+        ensures unspent { IfErr result IsUnspent }
+        ensures fault { (s : State) → Stands (D.state disk.old) self.old s
+            → IfErr result IsFindFault }
+        ensures disk { Reads (D.state disk.old) (D.state disk.new) }
+        ensures cause { IsErrOf result TableFault.Failed
+            → Rose (D.state disk.old).faults (D.state disk.new).faults }
     {
         let place = match self.place_in(table, key) {
             Ok(place) => place,
@@ -145,6 +177,7 @@ impl Tables {
         new: Option<&Item>,
         moment: u64,
     ) -> Result<Option<u64>, TableFault>
+        requires ready { AreReady (D.state disk.old) self.old }
         requires there { map.contains_key (catalog_of self.old) table.now ≡ true }
         requires key { (d : TableSchema) → map.get (catalog_of self.old) table.now ≡ Some d
             → IsSome (place_of d key.now) }
@@ -161,7 +194,20 @@ impl Tables {
             → place_of t.description key.now ≡ Some place
             → Writes (Stands (D.state disk.new) self.new) a_number s
             (item_writes s moment table.now t place (option_map (λ i. i.now) new.entry)) result }
-        ensures disk { D.state disk.new ≡ D.state disk.old }
+        ensures number { (s : State) (t : Table) (place : List ℕ)
+            → Stands (D.state disk.old) self.old s → map.get s.tables table.now ≡ Some t
+            → place_of t.description key.now ≡ Some place
+            → IfOk result (λ n. n ≡ number_taken (number_of self.old)
+            (item_writes s moment table.now t place (option_map (λ i. i.now) new.entry))) }
+        ensures disk { (s : State) (t : Table) (place : List ℕ)
+            → Stands (D.state disk.old) self.old s → map.get s.tables table.now ≡ Some t
+            → place_of t.description key.now ≡ Some place
+            → Leaves (D.state disk.old) (D.state disk.new) s
+            (item_writes s moment table.now t place (option_map (λ i. i.now) new.entry)) }
+        ensures goes { Goes (D.state disk.old) (D.state disk.new) }
+        ensures unchanged { result ≡ Ok None → D.state disk.new ≡ D.state disk.old }
+        ensures cause { IsErrOf result TableFault.Failed
+            → Rose (D.state disk.old).faults (D.state disk.new).faults }
     {
         let place = match self.place_in(table, key) {
             Ok(place) => place,
@@ -194,6 +240,53 @@ impl Tables {
             Ok(None) => unreachable!(),
             Err(_) => Err(TableFault::NoMemory),
         }
+    }
+}
+
+/// The item of a row, where one is shown.
+fn item_of(alloc: Global, row: &Option<ShownRow>) -> Result<Option<Item>, Unread>
+    ensures item { IfOk result (λ item. IfSome item IsReadItem
+        × (row.now ≡ option_map item_columns item)) }
+    ensures none { result ≡ Err Unread.Bad → (item : Option (List Pair)) → IfSome item IsReadItem
+        → row.now ≡ option_map item_columns item → ⊥ }
+{
+    match row {
+        Some(row) => Ok(Some(item_of_row(alloc, row)?)),
+        None => Ok(None),
+    }
+}
+
+/// The row change of an item: one that is made or removed is cleared, and of one that changes only what differs is written.
+fn item_batch(
+    alloc: Global,
+    schema: &TableSchema,
+    place: Bytes,
+    old: &Option<Item>,
+    new: &Option<Item>,
+) -> Result<Batch, NoMemory>
+    ensures changes { IfOk result (λ batch.
+        batch ≡ item_changes schema.now place old.now new.now) }
+    ensures held { OnOk result (IfSome new.now IsItemOfValues) }
+{
+    let before = row_of(alloc, old)?;
+    let after = row_of(alloc, new)?;
+    let change = RowChange::between(alloc, schema.family, place, before.as_ref(), after.as_ref())?;
+    let mut batch = Batch::new(alloc);
+    batch.add(change)?;
+    Ok(batch)
+}
+
+/// The row of an item, where there is one.
+fn row_of(alloc: Global, item: &Option<Item>) -> Result<Option<ShownRow>, NoMemory>
+    ensures row { IfOk result (λ row. row ≡ option_map item_columns item.now) }
+    ensures held { IfSome item.now IsItemOfValues }
+{
+    match item {
+        Some(item) => {
+            let _count = item.len();
+            Ok(Some(row_of_item(alloc, item)?))
+        }
+        None => Ok(None),
     }
 }
 

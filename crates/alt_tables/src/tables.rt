@@ -1,57 +1,54 @@
-//! All tables: what is known of them by their names, and the numbers and families that are left.
+//! All tables: what is known of them by their names, the numbers and families that are left, and the writes of the catalog.
 
-ghost use Rattle.std.specs.Prelude.{◌≡◌, ◌+◌, ◌<◌, ◌≤◌, length, true, None, IfOk, IfErr, OnOk, OnErr, option_map, slice_get, [], ◌∷◌};
+ghost use Rattle.std.specs.Prelude.{◌≡◌, ◌∷◌, [], ◌+◌, ◌<◌, ◌≤◌, length, true, None, Some, IsSome, IfOk, IfErr, OnOk, OnErr, IsErrOf, option_map, slice_get};
 ghost use Rattle.std.specs.FinMap as map;
-ghost use Rattle.alt_disk.specs.Disk.{DiskState};
+ghost use Rattle.alt_base.specs.Counts.{Rose};
+ghost use Rattle.alt_disk.specs.Disk.{IsTrusted, Goes};
 ghost use Rattle.alt_machine.specs.Ops.CreateTable.{with_table};
 ghost use Rattle.alt_machine.specs.Ops.DeleteTable.{without_table};
 ghost use Rattle.alt_machine.specs.Ops.ListTables.{names_after};
 ghost use Rattle.alt_machine.specs.Outcomes.{a_number, a_table};
-ghost use Rattle.alt_machine.specs.State.{State, start, families_of};
-ghost use Rattle.alt_machine.specs.Valid.{IsMade};
+ghost use Rattle.alt_machine.specs.State.{State, families_of};
+ghost use Rattle.alt_machine.specs.Valid.{IsMade, IsValid};
 ghost use Rattle.alt_machine.specs.Wanted.{table_lack};
 ghost use Rattle.alt_schema.specs.Described.{IsNew};
-ghost use Rattle.alt_tables.specs.Faults.{Writes};
+ghost use Rattle.alt_tables.specs.Faults.{IsFindFault, Writes};
+ghost use Rattle.alt_tables.specs.Images.{Leaves};
 ghost use Rattle.alt_tables.specs.Order.{first_after};
-ghost use Rattle.alt_tables.specs.Stands.{Stands, catalog_of, number_of, family_of};
+ghost use Rattle.alt_tables.specs.StateRows.{Turns, creation_changes, drop_changes};
+ghost use Rattle.alt_tables.specs.Stands.{AreReady, Holds, Stands, catalog_of, number_of, family_of};
 
-use crate::TableFault;
-use crate::list::TableList;
+use crate::catalog::Catalog;
+use crate::catalog_row::{row_of_family, row_of_schema};
+use crate::faults::{TableFault, fault_of};
+use alt_base::NoMemory;
+use alt_cells::{Batch, RowChange};
 use alt_disk::Disk;
+use alt_engine::Engine;
+use alt_fields::Bytes;
 use alt_machine::{FAMILIES_END, MOST_FAMILIES, MOST_TABLES, NUMBERS_END};
-use alt_schema::TableSchema;
+use alt_schema::{TableSchema, held};
 use std::alloc::Global;
 
-/// All tables with their items. With the disk beneath them they stand for a state of the machine (docs/ARCHITECTURE.md).
+/// The family of the catalog.
+pub(crate) const CATALOG: u32 = 0;
+
+/// All tables with their items, over an engine. With the disk beneath it they stand for a state of the machine (docs/ARCHITECTURE.md).
+/// What is known of tables without their items is in memory.
 #[derive(Drop)]
 pub struct Tables {
     pub(crate) alloc: Global,
-    pub(crate) list: TableList,
-    pub(crate) number: u64,
+    pub(crate) engine: Engine,
+    pub(crate) catalog: Catalog,
     pub(crate) family: u32,
 }
 
 impl Tables {
-    /// No tables.
-    pub fn new(alloc: Global) -> Self
-        ensures start { (disk : DiskState) → Stands disk result start }
-    {
-        Tables {
-            alloc,
-            list: TableList::new(alloc),
-            number: 1,
-            family: 1,
-        }
-    }
-
     /// The description of the table of that name, `None` exactly where there is none.
     pub fn table(&self, name: &str) -> Option<&TableSchema>
         ensures table { option_map (λ d. d.now) result ≡ map.get (catalog_of self.now) name.now }
     {
-        match self.list.get(name) {
-            Some(entry) => Some(&entry.schema),
-            None => None,
-        }
+        self.catalog.get(name)
     }
 
     /// The description of the first table whose name comes after that one in the order of their bytes, `None` exactly where
@@ -62,24 +59,21 @@ impl Tables {
         ensures name { option_map (λ d. d.now.name) result
             ≡ slice_get (names_after name.now (catalog_of self.now)) 0 }
     {
-        match self.list.after(name) {
-            Some(entry) => Some(&entry.schema),
-            None => None,
-        }
+        self.catalog.after(name)
     }
 
     /// How many tables there are.
     pub fn count(&self) -> usize
         ensures count { result ≡ map.len (catalog_of self.now) }
     {
-        self.list.len()
+        self.catalog.len()
     }
 
     /// The number of the next write.
     pub fn next_number(&self) -> u64
         ensures number { result ≡ number_of self.now }
     {
-        self.number
+        self.engine.next_number()
     }
 
     /// The family that the next table gets.
@@ -92,6 +86,7 @@ impl Tables {
     /// Adds an empty table, where none has its name. `schema` is what `schema_of_json` gave for the next number and the next family.
     /// Where the number or 27 families from the next one on aren't free, nothing is added, whatever families `schema` has.
     pub fn create<D: Disk>(&mut self, disk: &mut D, schema: TableSchema) -> Result<(), TableFault>
+        requires ready { AreReady (D.state disk.old) self.old }
         requires absent { map.get (catalog_of self.old) schema.name ≡ None }
         requires few { map.len (catalog_of self.old) < MOST_TABLES }
         requires made { IsMade schema }
@@ -102,47 +97,125 @@ impl Tables {
         ensures writes { (s : State) → Stands (D.state disk.old) self.old s
             → Writes (Stands (D.state disk.new) self.new) a_table s
             (with_table s schema ∷ []) result }
-        ensures disk { D.state disk.new ≡ D.state disk.old }
+        ensures disk { (s : State) → Stands (D.state disk.old) self.old s
+            → Leaves (D.state disk.old) (D.state disk.new) s (with_table s schema ∷ []) }
+        // On every disk: where a number or families lack, no call of the disk is made.
+        ensures lacking { IsSome (table_lack (number_of self.old) (family_of self.old))
+            → D.state disk.new ≡ D.state disk.old }
+        ensures goes { Goes (D.state disk.old) (D.state disk.new) }
+        ensures cause { IsErrOf result TableFault.Failed
+            → Rose (D.state disk.old).faults (D.state disk.new).faults }
     {
-        let _ = disk;
-        if self.number >= NUMBERS_END {
-            return Err(TableFault::Spent {
-                number: self.number,
-            });
+        let number = self.engine.next_number();
+        if number >= NUMBERS_END {
+            return Err(TableFault::Spent { number });
         }
         if self.family > FAMILIES_END - MOST_FAMILIES {
             return Err(TableFault::Spent {
                 number: u64::from(self.family),
             });
         }
+        held(&schema);
         let after = self.family + family_count(&schema) as u32;
-        match self.list.add(self.alloc, schema) {
-            Ok(()) => {}
-            Err(_) => return Err(TableFault::NoMemory),
+        let batch = creation(self.alloc, self.family, after, &schema)?;
+        let name = schema.name.copy()?;
+        self.catalog.add(schema)?;
+        match self.make(disk, &batch) {
+            Ok(_) => {
+                self.family = after;
+                Ok(())
+            }
+            Err(fault) => {
+                self.catalog.remove(name.as_str());
+                Err(fault)
+            }
         }
-        self.number += 1;
-        self.family = after;
-        Ok(())
     }
 
     /// Takes a table that is there out, with all its items.
     pub fn drop_table<D: Disk>(&mut self, disk: &mut D, name: &str) -> Result<(), TableFault>
+        requires ready { AreReady (D.state disk.old) self.old }
         requires there { map.contains_key (catalog_of self.old) name.now ≡ true }
         ensures writes { (s : State) → Stands (D.state disk.old) self.old s
             → Writes (Stands (D.state disk.new) self.new) a_number s
             (without_table s name.now ∷ []) result }
-        ensures disk { D.state disk.new ≡ D.state disk.old }
+        ensures disk { (s : State) → Stands (D.state disk.old) self.old s
+            → Leaves (D.state disk.old) (D.state disk.new) s (without_table s name.now ∷ []) }
+        ensures goes { Goes (D.state disk.old) (D.state disk.new) }
+        ensures cause { IsErrOf result TableFault.Failed
+            → Rose (D.state disk.old).faults (D.state disk.new).faults }
     {
-        let _ = disk;
-        if self.number >= NUMBERS_END {
-            return Err(TableFault::Spent {
-                number: self.number,
-            });
+        let number = self.engine.next_number();
+        if number >= NUMBERS_END {
+            return Err(TableFault::Spent { number });
         }
-        self.list.remove(name);
-        self.number += 1;
-        Ok(())
+        let Some(schema) = self.catalog.get(name) else {
+            unreachable!();
+        };
+        let batch = removal(self.alloc, schema)?;
+        match self.make(disk, &batch) {
+            Ok(_) => {
+                self.catalog.remove(name);
+                Ok(())
+            }
+            Err(fault) => Err(fault),
+        }
     }
+
+    /// Makes one write of these row changes. What is known without the disk stays, but for the number.
+    pub(crate) fn make<D: Disk>(&mut self, disk: &mut D, batch: &Batch) -> Result<u64, TableFault>
+        requires ready { IsTrusted (D.state disk.old)
+            → (s : State) × Holds (D.state disk.old) self.old.engine s }
+        requires room { number_of self.old < NUMBERS_END }
+        ensures ok { OnOk result ((s r : State) → Holds (D.state disk.old) self.old.engine s
+            → Turns batch.now s r → Holds (D.state disk.new) self.new.engine r) }
+        ensures number { IfOk result (λ n. n ≡ number_of self.old) }
+        ensures next { OnOk result (number_of self.new ≡ number_of self.old + 1) }
+        ensures kept { (self.new.catalog ≡ self.old.catalog) × (self.new.family ≡ self.old.family) }
+        ensures fault { IfErr result IsFindFault }
+        ensures no_memory { IsErrOf result TableFault.NoMemory → (s : State)
+            → Holds (D.state disk.old) self.old.engine s
+            → Holds (D.state disk.new) self.new.engine s }
+        ensures same { OnErr result (number_of self.new ≡ number_of self.old) }
+        ensures disk { (s r : State) → Holds (D.state disk.old) self.old.engine s → IsValid s
+            → Turns batch.now s r
+            → Leaves (D.state disk.old) (D.state disk.new) s (r ∷ []) }
+        ensures goes { Goes (D.state disk.old) (D.state disk.new) }
+        ensures cause { IsErrOf result TableFault.Failed
+            → Rose (D.state disk.old).faults (D.state disk.new).faults }
+    {
+        match self.engine.apply(disk, batch) {
+            Ok(number) => Ok(number),
+            Err(fault) => Err(fault_of(fault)),
+        }
+    }
+}
+
+/// The row changes of a new table: its description, and the next family.
+fn creation(alloc: Global, before: u32, after: u32, schema: &TableSchema) -> Result<Batch, NoMemory>
+    requires named { 0 < length schema.now.name }
+    ensures changes { IfOk result (λ batch. batch ≡ creation_changes before after schema.now) }
+{
+    let row = row_of_schema(alloc, schema)?;
+    let key = Bytes::new(alloc, schema.name.as_str().as_bytes())?;
+    let old = row_of_family(alloc, before)?;
+    let new = row_of_family(alloc, after)?;
+    let mut batch = Batch::new(alloc);
+    batch.add(RowChange::between(alloc, CATALOG, key, None, Some(&row))?)?;
+    let next = Bytes::new(alloc, &[])?;
+    batch.add(RowChange::between(alloc, CATALOG, next, old.as_ref(), new.as_ref())?)?;
+    Ok(batch)
+}
+
+/// That of a table that is dropped: its description goes, and its rows stay where nobody looks.
+fn removal(alloc: Global, schema: &TableSchema) -> Result<Batch, NoMemory>
+    ensures changes { IfOk result (λ batch. batch ≡ drop_changes schema.now) }
+{
+    let row = row_of_schema(alloc, schema)?;
+    let key = Bytes::new(alloc, schema.name.as_str().as_bytes())?;
+    let mut batch = Batch::new(alloc);
+    batch.add(RowChange::between(alloc, CATALOG, key, Some(&row), None)?)?;
+    Ok(batch)
 }
 
 /// How many families a table takes.

@@ -1,27 +1,142 @@
--- A family is lacked, or the table is added.
-use Rattle.std.proofs.Common.{◌+◌, [], ◌∷◌, refl, sym, ap, subst, ℕ, arith}
+-- A number or a family is lacked, or one write adds the table, whose description is known before it and forgotten where it failed.
+use Rattle.std.proofs.Common.{◌+◌, [], ◌∷◌, sym, ap, ◌∙◌, Err, subst, arith, ℕ}
+use Rattle.std.specs.FinMap as map
+use Rattle.alt_disk.proofs.Runs.{quiet_start}
 use Rattle.alt_machine.specs.Ops.CreateTable.{with_table}
 use Rattle.alt_machine.specs.Outcomes.{a_table}
-use Rattle.alt_machine.proofs.Descriptions.{no_description}
+use Rattle.alt_machine.proofs.Lacks.{has_table, lacks_table_family}
+use Rattle.alt_machine.specs.Wanted.{table_lack}
 use Rattle.alt_tables.specs.Faults.{BreakOff}
 use Rattle.alt_tables.specs.Stands.{Stands}
 use Rattle.alt_tables.specs.declared.faults.TableFault.TheVariants.{Spent}
-use Rattle.alt_tables.proofs.Making.{table_made, family_lacked}
+use Rattle.alt_tables.proofs.Holding.{leaves_quiet}
+use Rattle.alt_tables.proofs.Making.{broke, not_lacking, one_made, spent, table_lacked, table_stands, table_turned, want_told}
+use Rattle.alt_tables.proofs.Standing.{remove-insert}
 use Rattle.alt_tables.proofs.tables.Tables.create.Goals as goal
+
+pub returns-then-number-ge-NUMBERS_END-clause-disk : goal.returns-then-number-ge-NUMBERS_END-clause-disk
+returns-then-number-ge-NUMBERS_END-clause-disk g c s stands =
+    leaves_quiet (g.D.Disk.state c.args.disk.now) (g.D.Disk.state c.args.disk.now) c.args.self.now.engine s
+    (with_table s c.args.schema ∷ []) stands.rows stands.valid (quiet_start (g.D.Disk.state c.args.disk.now))
 
 pub returns-then-self-clause-writes : goal.returns-then-self-clause-writes
 returns-then-self-clause-writes g c s stands =
-    subst (λ (n : ℕ). BreakOff (Stands (g.D.Disk.state c.args.disk.now) c.args.self.now) a_table s
-    (with_table s c.args.schema ∷ []) (Spent n)) (sym c.from.ensures)
-    (family_lacked (g.D.Disk.state c.args.disk.now) c.args.self.now c.args.schema
-    c.if-self-ge-NUMBERS_END.false (omega arith) s stands)
+    subst (λ (n : ℕ). BreakOff (Stands (g.D.Disk.state c.args.disk.now) c.args.self.now) a_table s (with_table s c.args.schema ∷ []) (Spent n))
+    (sym c.from.ensures)
+    (spent (Stands (g.D.Disk.state c.args.disk.now) c.args.self.now) a_table s (with_table s c.args.schema) c.args.self.now.family
+    (table_lacked (g.D.Disk.state c.args.disk.now) c.args.self.now s stands c.args.schema c.requires.few c.requires.made c.requires.new
+    c.requires.number c.requires.family c.requires.absent c.args.self.now.family
+    (lacks_table_family c.args.self.now.engine.next c.args.self.now.family
+    (omega (arith, c.next_number-number.ensures.next, c.if-number-ge-NUMBERS_END.false)) (omega arith)))
+    stands)
 
-pub add-requires : goal.add-requires
-add-requires g c = no_description c.args.self.now.list c.args.schema.name c.requires.absent
+pub returns-then-self-clause-disk : goal.returns-then-self-clause-disk
+returns-then-self-clause-disk g c s stands =
+    leaves_quiet (g.D.Disk.state c.args.disk.now) (g.D.Disk.state c.args.disk.now) c.args.self.now.engine s
+    (with_table s c.args.schema ∷ []) stands.rows stands.valid (quiet_start (g.D.Disk.state c.args.disk.now))
+
+pub returns-in_err-batch-clause-writes : goal.returns-in_err-batch-clause-writes
+returns-in_err-batch-clause-writes g c s stands =
+    want_told (Stands (g.D.Disk.state c.args.disk.now) c.args.self.now) a_table s (with_table s c.args.schema ∷ [])
+    c.from_residual.result c.from_residual.ensures.1 stands
+
+pub returns-in_err-batch-clause-disk : goal.returns-in_err-batch-clause-disk
+returns-in_err-batch-clause-disk g c s stands =
+    leaves_quiet (g.D.Disk.state c.args.disk.now) (g.D.Disk.state c.args.disk.now) c.args.self.now.engine s
+    (with_table s c.args.schema ∷ []) stands.rows stands.valid (quiet_start (g.D.Disk.state c.args.disk.now))
+
+pub returns-in_err-name-clause-writes : goal.returns-in_err-name-clause-writes
+returns-in_err-name-clause-writes g c s stands =
+    want_told (Stands (g.D.Disk.state c.args.disk.now) c.args.self.now) a_table s (with_table s c.args.schema ∷ [])
+    c.from_residual-in_err-name.result c.from_residual-in_err-name.ensures.1 stands
+
+pub returns-in_err-name-clause-disk : goal.returns-in_err-name-clause-disk
+returns-in_err-name-clause-disk g c s stands =
+    leaves_quiet (g.D.Disk.state c.args.disk.now) (g.D.Disk.state c.args.disk.now) c.args.self.now.engine s
+    (with_table s c.args.schema ∷ []) stands.rows stands.valid (quiet_start (g.D.Disk.state c.args.disk.now))
+
+pub returns-in_err-add-clause-writes : goal.returns-in_err-add-clause-writes
+returns-in_err-add-clause-writes g c s stands =
+    want_told (Stands (g.D.Disk.state c.args.disk.now) _) a_table s (with_table s c.args.schema ∷ [])
+    c.from_residual-in_err-add.result c.from_residual-in_err-add.ensures.1 (record {
+      catalog = c.in_err-add.ensures.err ∙ stands.catalog;
+      number = stands.number;
+      family = stands.family;
+      rows = stands.rows;
+      valid = stands.valid;
+    })
+
+pub returns-in_err-add-clause-disk : goal.returns-in_err-add-clause-disk
+returns-in_err-add-clause-disk g c s stands =
+    leaves_quiet (g.D.Disk.state c.args.disk.now) (g.D.Disk.state c.args.disk.now) c.args.self.now.engine s
+    (with_table s c.args.schema ∷ []) stands.rows stands.valid (quiet_start (g.D.Disk.state c.args.disk.now))
+
+pub make-requires-clause-ready : goal.make-requires-clause-ready
+make-requires-clause-ready g c trusted =
+    let (s, stands) = c.requires.ready trusted in (s, stands.rows)
+
+pub returns-in-Ok-clause-writes : goal.returns-in-Ok-clause-writes
+returns-in-Ok-clause-writes g c s stands =
+    let turned = table_turned (g.D.Disk.state c.args.disk.now) c.args.self.now s stands
+    c.args.schema c.requires.few c.requires.made c.requires.new
+    c.requires.number c.requires.family c.requires.absent (c.args.self.now.family + c.family_count.result)
+    c.in_ok-batch.batch (ap (λ n. c.args.self.now.family + n) c.family_count.ensures.count)
+    c.in_ok-batch.ensures.changes c.held.ensures.held (omega (arith, c.next_number-number.ensures.next, c.if-number-ge-NUMBERS_END.false))
+    (omega (arith, c.if-self.false)) in
+    one_made (Stands (g.D.Disk.state c.make.new.disk) _) a_table s (with_table s c.args.schema)
+    (table_stands (g.D.Disk.state c.args.disk.now) c.args.self.now s stands
+    c.args.schema c.requires.few c.requires.made c.requires.new
+    c.requires.number c.requires.family c.requires.absent
+    (g.D.Disk.state c.make.new.disk) _ (c.in-Ok.ensures.ok s (with_table s c.args.schema) stands.rows turned)
+    turned.valid (c.make.ensures.kept.0 ∙ c.in_ok-add.ensures.ok)
+    (ap (λ n. c.args.self.now.family + n) c.family_count.ensures.count) c.in-Ok.ensures.next)
+    (sym (λ i. table_lack (stands.number i) (stands.family i)) ∙ has_table c.args.self.now.engine.next
+    c.args.self.now.family (omega (arith, c.next_number-number.ensures.next, c.if-number-ge-NUMBERS_END.false)) (omega arith))
+
+pub returns-in-Ok-clause-disk : goal.returns-in-Ok-clause-disk
+returns-in-Ok-clause-disk g c s stands =
+    c.make.ensures.disk s (with_table s c.args.schema) stands.rows stands.valid
+    (table_turned (g.D.Disk.state c.args.disk.now) c.args.self.now s stands
+    c.args.schema c.requires.few c.requires.made c.requires.new
+    c.requires.number c.requires.family c.requires.absent (c.args.self.now.family + c.family_count.result)
+    c.in_ok-batch.batch (ap (λ n. c.args.self.now.family + n) c.family_count.ensures.count)
+    c.in_ok-batch.ensures.changes c.held.ensures.held (omega (arith, c.next_number-number.ensures.next, c.if-number-ge-NUMBERS_END.false))
+    (omega (arith, c.if-self.false)))
 
 pub returns-clause-writes : goal.returns-clause-writes
-returns-clause-writes g c =
-    table_made (g.D.Disk.state c.args.disk.now) c.args.self.now _ c.args.schema c.requires.few
-    c.requires.made c.requires.new c.requires.number c.requires.family
-    c.in-Ok.ensures.ok refl (ap (λ (n : ℕ). c.args.self.now.family + n)
-    c.family_count.ensures.count) c.if-self-ge-NUMBERS_END.false (omega arith)
+returns-clause-writes g c s stands =
+    broke (Stands (g.D.Disk.state c.make.new.disk) _) a_table s (with_table s c.args.schema)
+    c.in-Err.fault c.in-Err.ensures.fault
+    (λ is. record {
+      catalog = c.remove.ensures.rest
+          ∙ (λ i. map.remove ((c.make.ensures.kept.0 ∙ c.in_ok-add.ensures.ok) i)
+          ((c.as_str.ensures.same ∙ c.in_ok-name.ensures.same) i))
+          ∙ remove-insert c.args.self.now.catalog c.args.schema.name c.args.schema c.requires.absent
+          ∙ stands.catalog;
+      number = c.in-Err.ensures.same ∙ stands.number;
+      family = c.make.ensures.kept.1 ∙ stands.family;
+      rows = c.in-Err.ensures.no_memory (ap (λ f. Err f) is) s stands.rows;
+      valid = stands.valid;
+    })
+
+pub returns-clause-disk : goal.returns-clause-disk
+returns-clause-disk g c s stands =
+    c.make.ensures.disk s (with_table s c.args.schema) stands.rows stands.valid
+    (table_turned (g.D.Disk.state c.args.disk.now) c.args.self.now s stands
+    c.args.schema c.requires.few c.requires.made c.requires.new
+    c.requires.number c.requires.family c.requires.absent (c.args.self.now.family + c.family_count.result)
+    c.in_ok-batch.batch (ap (λ n. c.args.self.now.family + n) c.family_count.ensures.count)
+    c.in_ok-batch.ensures.changes c.held.ensures.held (omega (arith, c.next_number-number.ensures.next, c.if-number-ge-NUMBERS_END.false))
+    (omega (arith, c.if-self.false)))
+
+pub returns-in-Ok-clause-lacking : goal.returns-in-Ok-clause-lacking
+returns-in-Ok-clause-lacking g c lacks = absurd (not_lacking c.args.self.now.engine.next
+    c.args.self.now.family
+    (omega (arith, c.next_number-number.ensures.next, c.if-number-ge-NUMBERS_END.false))
+    (omega (arith, c.if-self.false)) lacks)
+
+pub returns-clause-lacking : goal.returns-clause-lacking
+returns-clause-lacking g c lacks = absurd (not_lacking c.args.self.now.engine.next
+    c.args.self.now.family
+    (omega (arith, c.next_number-number.ensures.next, c.if-number-ge-NUMBERS_END.false))
+    (omega (arith, c.if-self.false)) lacks)

@@ -1,8 +1,69 @@
--- The table is taken out.
-use Rattle.std.proofs.Common.{refl}
-use Rattle.alt_tables.proofs.Making.{drop_made}
+-- The table is taken out by one write.
+use Rattle.std.proofs.Common.{[], ◌∷◌, sym, ap, ◌∙◌, Err, arith}
+use Rattle.alt_disk.proofs.Runs.{quiet_start}
+use Rattle.alt_machine.proofs.Lacks.{has_number}
+use Rattle.alt_machine.specs.Ops.DeleteTable.{without_table}
+use Rattle.alt_machine.specs.Outcomes.{a_number}
+use Rattle.alt_machine.specs.State.{Texts}
+use Rattle.alt_schema.specs.declared.schema.TableSchema.{TableSchema}
+use Rattle.std.specs.FinMap as map
+use Rattle.alt_tables.specs.Stands.{Stands}
+use Rattle.alt_tables.proofs.Holding.{leaves_quiet}
+use Rattle.alt_tables.proofs.Making.{broke, drop_stands, drop_turned, one_made}
 use Rattle.alt_tables.proofs.tables.Tables.drop_table.Goals as goal
 
+pub returns-then-number-ge-NUMBERS_END-clause-disk : goal.returns-then-number-ge-NUMBERS_END-clause-disk
+returns-then-number-ge-NUMBERS_END-clause-disk g c s stands =
+    leaves_quiet (g.D.Disk.state c.args.disk.now) (g.D.Disk.state c.args.disk.now)
+    c.args.self.now.engine s (without_table s c.args.name.now ∷ []) stands.rows stands.valid
+    (quiet_start (g.D.Disk.state c.args.disk.now))
+
+pub returns-in_err-batch-clause-disk : goal.returns-in_err-batch-clause-disk
+returns-in_err-batch-clause-disk g c s stands =
+    leaves_quiet (g.D.Disk.state c.args.disk.now) (g.D.Disk.state c.args.disk.now)
+    c.args.self.now.engine s (without_table s c.args.name.now ∷ []) stands.rows stands.valid
+    (quiet_start (g.D.Disk.state c.args.disk.now))
+
+pub make-requires-clause-ready : goal.make-requires-clause-ready
+make-requires-clause-ready g c trusted =
+    let (s, stands) = c.requires.ready trusted in (s, stands.rows)
+
+pub returns-in-Ok-clause-writes : goal.returns-in-Ok-clause-writes
+returns-in-Ok-clause-writes g c s stands =
+    let turned = drop_turned (g.D.Disk.state c.args.disk.now) c.args.self.now s stands
+    c.args.name.now c.in-Some.schema.now c.in_ok-batch.batch (sym c.in-Some.ensures.table)
+    c.in_ok-batch.ensures.changes (omega (arith, c.next_number-number.ensures.next, c.if-number-ge-NUMBERS_END.false)) in
+    one_made (Stands (g.D.Disk.state c.make.new.disk) _) a_number s
+    (without_table s c.args.name.now)
+    (drop_stands (g.D.Disk.state c.args.disk.now) c.args.self.now s stands
+    c.args.name.now (g.D.Disk.state c.make.new.disk) _
+    (c.in-Ok.ensures.ok s (without_table s c.args.name.now) stands.rows turned) turned.valid
+    (c.remove.ensures.rest ∙ ap (λ (m : Texts TableSchema). map.remove m c.args.name.now) c.make.ensures.kept.0) c.make.ensures.kept.1
+    c.in-Ok.ensures.next)
+    (has_number s.next_number (omega (arith, stands.number, c.next_number-number.ensures.next, c.if-number-ge-NUMBERS_END.false)))
+
+pub returns-in-Ok-clause-disk : goal.returns-in-Ok-clause-disk
+returns-in-Ok-clause-disk g c s stands =
+    c.make.ensures.disk s (without_table s c.args.name.now) stands.rows stands.valid
+    (drop_turned (g.D.Disk.state c.args.disk.now) c.args.self.now s stands
+    c.args.name.now c.in-Some.schema.now c.in_ok-batch.batch (sym c.in-Some.ensures.table)
+    c.in_ok-batch.ensures.changes (omega (arith, c.next_number-number.ensures.next, c.if-number-ge-NUMBERS_END.false)))
+
 pub returns-clause-writes : goal.returns-clause-writes
-returns-clause-writes g c = drop_made (g.D.Disk.state c.args.disk.now) c.args.self.now _
-    c.args.name.now c.remove.ensures.rest refl refl c.if-self-ge-NUMBERS_END.false
+returns-clause-writes g c s stands =
+    broke (Stands (g.D.Disk.state c.make.new.disk) c.make.new.self) a_number s
+    (without_table s c.args.name.now) c.in-Err.fault c.in-Err.ensures.fault
+    (λ is. record {
+      catalog = c.make.ensures.kept.0 ∙ stands.catalog;
+      number = c.in-Err.ensures.same ∙ stands.number;
+      family = c.make.ensures.kept.1 ∙ stands.family;
+      rows = c.in-Err.ensures.no_memory (ap (λ f. Err f) is) s stands.rows;
+      valid = stands.valid;
+    })
+
+pub returns-clause-disk : goal.returns-clause-disk
+returns-clause-disk g c s stands =
+    c.make.ensures.disk s (without_table s c.args.name.now) stands.rows stands.valid
+    (drop_turned (g.D.Disk.state c.args.disk.now) c.args.self.now s stands
+    c.args.name.now c.in-Some.schema.now c.in_ok-batch.batch (sym c.in-Some.ensures.table)
+    c.in_ok-batch.ensures.changes (omega (arith, c.next_number-number.ensures.next, c.if-number-ge-NUMBERS_END.false)))

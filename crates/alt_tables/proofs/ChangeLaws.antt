@@ -1,0 +1,60 @@
+-- Which of the changes of a write is that of a row.
+use Rattle.std.proofs.Common.{◌≡◌, ◌≢◌, ℕ, Bool, true, false, T, List, [], ◌∷◌, Option, Some, None, refl, ap, ◌∙◌, arith}
+use Rattle.std.proofs.lemmas.Bool.{eqb-true}
+use Rattle.std.proofs.lemmas.Bool.Decides.{nat_tests}
+use Rattle.std.specs.Prelude.{◌==◌, if◌then◌else◌}
+use Rattle.std.specs.Ordering.{eq_by_cmp, is_eq}
+use Rattle.std.specs.Cmp.{tied_itself}
+use Rattle.alt_cells.specs.declared.batch.RowChange.{RowChange}
+use Rattle.alt_cells.specs.Keys.{key_cmp}
+use Rattle.alt_cells.proofs.CellLaws.{key_total, key_exact}
+use Rattle.alt_cells.proofs.Entries.{equal}
+use Rattle.alt_engine.specs.Layout.{change_of}
+
+holds : (b : Bool) → b ≡ true → T b
+holds true h = tt
+holds false h = absurd (cc h)
+
+-- keys that tie are one
+pub tied : (q k : List ℕ) → eq_by_cmp key_cmp q k ≡ true → q ≡ k
+tied q k e = key_exact q k (equal _ (holds _ e))
+
+-- a key ties with itself
+pub itself : (q : List ℕ) → eq_by_cmp key_cmp q q ≡ true
+itself q = ap is_eq (tied_itself key_total q)
+
+test : (m n : ℕ) → m ≡ n → (m == n) ≡ true
+test m n e = grind (arith, nat_tests)
+
+own : (family : ℕ) → (family == family) ≡ true
+own family = test family family refl
+
+-- a change of one row alone, at a key of its family
+pub one_change : (c : RowChange) (key : List ℕ) → change_of c.family key (c ∷ [])
+    ≡ (if eq_by_cmp key_cmp key c.key then Some c else None)
+one_change c key = ap (λ b.
+    if b then (if eq_by_cmp key_cmp key c.key then Some c else None) else None) (own c.family)
+
+-- two changes of one family
+pub two_changes : (family : ℕ) (c d : RowChange) (key : List ℕ) → c.family ≡ family
+    → d.family ≡ family → change_of family key (c ∷ d ∷ [])
+    ≡ (if eq_by_cmp key_cmp key c.key then Some c
+    else (if eq_by_cmp key_cmp key d.key then Some d else None))
+two_changes family c d key is_c is_d =
+    ap (λ b. if b then (if eq_by_cmp key_cmp key c.key then Some c
+    else change_of family key (d ∷ [])) else change_of family key (d ∷ []))
+    (ap (λ f. f == family) is_c ∙ own family)
+    ∙ ap (λ (o : Option RowChange). if eq_by_cmp key_cmp key c.key then Some c else o)
+    (ap (λ b. if b then (if eq_by_cmp key_cmp key d.key then Some d else None) else None)
+    (ap (λ f. f == family) is_d ∙ own family))
+
+-- a family that isn't the one of a change
+pub other_family : (c : RowChange) (cs : List RowChange) (family : ℕ) (key : List ℕ)
+    → c.family ≢ family → change_of family key (c ∷ cs) ≡ change_of family key cs
+other_family c cs family key other = by_test (c.family == family) refl
+  where
+    by_test : (b : Bool) → (c.family == family) ≡ b
+        → (if b then (if eq_by_cmp key_cmp key c.key then Some c else change_of family key cs)
+        else change_of family key cs) ≡ change_of family key cs
+    by_test true e = absurd (other (eqb-true c.family family e))
+    by_test false e = refl

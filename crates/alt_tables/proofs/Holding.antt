@@ -1,0 +1,144 @@
+-- What the rows beneath the tables show, in reads and in whatever a stop leaves, and what a write makes of it.
+use Rattle.std.proofs.Common.{◌≡◌, ◌&&◌, Bool, IsTrue, ⊎_elim, refl, sym, subst, ℕ, List, [], ◌∷◌, Option, Result, Err, ◌∙◌}
+use Rattle.alt_cells.specs.declared.batch.RowChange.{RowChange}
+use Rattle.alt_disk.specs.Disk.{DiskState, IsImage, Goes}
+use Rattle.alt_disk.specs.Runs.{Spans, Quiet}
+use Rattle.alt_disk.proofs.Runs.{spans_on, spans_weaker, quiet_spans, quiet_then, trusted_on}
+use Rattle.alt_engine.specs.Image.{IsLayout}
+use Rattle.alt_engine.specs.InHand.{SameEngine, Stands as EngineStands, batch_write, BeforeOrWith, IsWritten}
+use Rattle.alt_engine.specs.Layout.{Layout, with_write}
+use Rattle.alt_engine.specs.declared.engine.Engine.{Engine}
+use Rattle.alt_engine.specs.declared.engine.EngineFault.{EngineFault}
+use Rattle.alt_engine.specs.declared.engine.EngineFault.TheVariants as engine
+use Rattle.alt_machine.specs.State.{State}
+use Rattle.alt_machine.specs.Valid.{IsValid}
+use Rattle.alt_tables.specs.Faults.{fault_of}
+use Rattle.alt_tables.specs.declared.faults.TableFault.TheVariants.{NoMemory}
+use Rattle.alt_tables.specs.Images.{StandsFor, AfterSome, Leaves}
+use Rattle.alt_tables.specs.StateRows.{Shows, Turns}
+use Rattle.alt_tables.specs.Stands.{Holds}
+use Rattle.alt_tables.proofs.Engine.{in_each_image, stands_past, stays_quiet, one_layout_in_hand}
+use Rattle.alt_tables.proofs.OneState.{one_state}
+
+-- whatever a stop now leaves stands for the state
+pub each_holds : (disk : DiskState) (engine : Engine) (s : State) → Holds disk engine s → IsValid s
+    → (image : ℕ → Option (List ℕ)) → IsImage disk disk.moment image → StandsFor image s
+each_holds disk engine s holds valid image is = record {
+  layout = holds.layout;
+  is = in_each_image disk engine holds.layout holds.is image is;
+  shows = holds.shows;
+  valid = valid;
+  held = holds.held;
+}
+
+-- so does whatever a stop leaves at each moment of a call that makes some of these writes of it
+pub leaves_images : (old new : DiskState) (engine : Engine) (s : State) (atoms : List State)
+    → Holds old engine s → IsValid s → Leaves old new s atoms
+    → Spans old new IsWritten (AfterSome s atoms)
+leaves_images old new engine s [] holds valid quiet = quiet_spans old new IsWritten
+    (AfterSome s []) quiet (λ t image fits. (0, each_holds old engine s holds valid image fits))
+leaves_images old new engine s (r ∷ rs) holds valid spans = spans
+
+-- calls that leave every file, and what the disk says of itself, leave what the rows show
+pub holds_quiet : (old new : DiskState) (engine : Engine) (s : State) → new.tells ≡ old.tells
+    → new.honest ≡ old.honest → Quiet old new → Holds old engine s → Holds new engine s
+holds_quiet old new engine s tells honest quiet holds = record {
+  trusted = subst (λ (b : Bool). IsTrue b) (sym (λ i. tells i && honest i)) holds.trusted;
+  layout = holds.layout;
+  is = stays_quiet old new engine holds.layout holds.is quiet;
+  shows = holds.shows;
+  held = holds.held;
+}
+
+-- rows in hand show one valid state
+pub one_held : (disk : DiskState) (engine : Engine) (s r : State) → Holds disk engine s
+    → Holds disk engine r → IsValid s → IsValid r → s ≡ r
+one_held disk engine s r holds_s holds_r valid_s valid_r = one_state holds_s.layout s r
+    holds_s.shows (subst (λ l. Shows l r) (one_layout_in_hand disk engine holds_r.layout holds_s.layout
+    holds_r.is holds_s.is) holds_r.shows) valid_s valid_r holds_s.held holds_r.held
+
+-- ---- a write
+
+module _ (old new : DiskState) (engine : Engine) (s r : State) (changes : List RowChange)
+    (holds : Holds old engine s) (turns : Turns changes s r) where
+  abbrev after : Layout
+  after = with_write holds.layout (batch_write holds.layout changes)
+
+  -- what a stop leaves is the state before it or the one after
+  pub write_images : IsValid s → Spans old new IsWritten (BeforeOrWith holds.layout changes)
+      → Leaves old new s (r ∷ [])
+  write_images valid spans = spans_weaker old new IsWritten IsWritten (AfterSome s (r ∷ []))
+      (BeforeOrWith holds.layout changes) spans (λ g is. is) (λ t image here. ⊎_elim
+      (λ (is : IsLayout image holds.layout). (
+        0,
+        record {
+          layout = holds.layout;
+          is = is;
+          shows = holds.shows;
+          valid = valid;
+          held = holds.held;
+        },
+      ))
+      (λ (is : IsLayout image after). (
+        1,
+        record {
+          layout = after;
+          is = is;
+          shows = turns.shows holds.layout
+              (stands_past old engine holds.layout holds.is) holds.shows;
+          valid = turns.valid;
+          held = turns.held;
+        },
+      ))
+      here)
+
+  -- after it the rows show the one after
+  pub write_holds : (later : Engine) → Goes old new → EngineStands new later after
+      → Holds new later r
+  write_holds later goes stands = record {
+    trusted = trusted_on old new goes holds.trusted;
+    layout = after;
+    is = stands;
+    shows = turns.shows holds.layout (stands_past old engine holds.layout holds.is) holds.shows;
+    held = turns.held;
+  }
+
+-- ---- calls one after the other
+
+-- a call that leaves every file leaves what the state is, whatever writes were to be made
+pub leaves_quiet : (old new : DiskState) (engine : Engine) (s : State) (atoms : List State)
+    → Holds old engine s → IsValid s → Quiet old new → Leaves old new s atoms
+leaves_quiet old new engine s [] holds valid quiet = quiet
+leaves_quiet old new engine s (r ∷ rs) holds valid quiet = quiet_spans old new IsWritten
+    (AfterSome s (r ∷ rs)) quiet
+    (λ t image fits. (0, each_holds old engine s holds valid image fits))
+
+-- writes behind a call that leaves every file
+pub leaves_behind : (old mid new : DiskState) (engine : Engine) (s : State) (atoms : List State)
+    → Holds old engine s → IsValid s → Quiet old mid → Leaves mid new s atoms
+    → Leaves old new s atoms
+leaves_behind old mid new engine s [] holds valid quiet then = quiet_then old mid new quiet then
+leaves_behind old mid new engine s (r ∷ rs) holds valid quiet then =
+    spans_on old mid new IsWritten (AfterSome s (r ∷ rs))
+    (leaves_quiet old mid engine s (r ∷ rs) holds valid quiet) then
+
+-- a call that did nothing
+pub holds_same : (old new : DiskState) (e f : Engine) (s : State) → new ≡ old → SameEngine e f
+    → Holds old e s → Holds new f s
+holds_same old new e f s same engine holds = subst (λ d. Holds d f s) (sym same) (record {
+  trusted = holds.trusted;
+  layout = holds.layout;
+  is = engine.stands old holds.layout holds.is;
+  shows = holds.shows;
+  held = holds.held;
+})
+
+-- the engine wanted memory where that is what is told
+pub memory_wanted : (f : EngineFault) → fault_of f ≡ NoMemory → f ≡ engine.NoMemory
+memory_wanted (engine.Spent n) e = absurd (let g : ⊥ = cc in g)
+memory_wanted engine.Failed e = absurd (let g : ⊥ = cc in g)
+memory_wanted engine.NoMemory e = refl
+
+-- a result has one fault
+pub same_Err : {A B : Type 0} (r : Result A B) (x y : B) → r ≡ Err x → r ≡ Err y → x ≡ y
+same_Err r x y e f = let both : Err x ≡ Err y = sym e ∙ f in cc

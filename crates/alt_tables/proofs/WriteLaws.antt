@@ -1,0 +1,191 @@
+-- The rows of a state with the write of an item joined are the rows of the state after it.
+use Rattle.std.proofs.Common.{◌≡◌, ◌≢◌, ◌+◌, ◌<◌, ◌≤◌, ℕ, Bool, true, false, cond, List, [], ◌∷◌, Option, Some, None, IfSome, refl, sym, ap, subst, ◌∙◌, ◌⊎◌, inl, inr, Contains, arith}
+use Rattle.std.proofs.lemmas.Bool.{false≢true}
+use Rattle.std.specs.Prelude.{if◌then◌else◌, option_map}
+use Rattle.std.specs.Ordering.{eq_by_cmp}
+use Rattle.std.specs.FinMap as map
+use Rattle.alt_cells.specs.declared.batch.RowChange.{RowChange}
+use Rattle.alt_cells.specs.Changes.{change_between, written}
+use Rattle.alt_cells.specs.Keys.{key_cmp}
+use Rattle.alt_cells.proofs.CellLaws.{key_total}
+use Rattle.alt_cells.proofs.ChangeLaws.{written-change_between}
+use Rattle.alt_engine.specs.InHand.{batch_write}
+use Rattle.alt_engine.specs.Layout.{Layout, Write, with_write, shown, shown_by, change_of, ShowsWrite}
+use Rattle.alt_engine.proofs.LayoutLaws.{shows_write}
+use Rattle.alt_machine.specs.declared.TheConstants.{NUMBERS_END}
+use Rattle.alt_machine.specs.State.{State, Table, Texts, families_of}
+use Rattle.alt_machine.specs.Valid.{IsStored, IsTable, IsValid}
+use Rattle.alt_machine.specs.Writes.{with_item, with_write as with_row, after_item}
+use Rattle.alt_machine.proofs.Families.{of_contained}
+use Rattle.alt_machine.proofs.Looks.{at_insert}
+use Rattle.alt_machine.proofs.States.{after_item_valid, with_item_stored}
+use Rattle.alt_schema.specs.Held.{IsHeld}
+use Rattle.alt_schema.specs.declared.schema.TableSchema.{TableSchema}
+use Rattle.alt_tables.specs.ItemRows.{item_columns}
+use Rattle.alt_tables.specs.StateRows.{IsHeldWhole, Shows, Turns, catalog_family, catalog_rows, item_rows, table_row, next_row, item_changes}
+use Rattle.alt_tables.proofs.ChangeLaws.{tied, itself, one_change, other_family}
+use Rattle.alt_tables.proofs.ItemRowLaws.{items_can_show}
+use Rattle.alt_tables.proofs.OneState.{some}
+use Rattle.alt_value.specs.Tree.{Pair}
+use Rattle.alt_value.specs.Values.{IsItemOfValues}
+
+get-with_item : (items : Texts (List Pair)) (place : List ℕ) (new : Option (List Pair))
+    (q : List ℕ) → map.get (with_item items place new) q
+    ≡ cond (eq_by_cmp key_cmp q place) new (map.get items q)
+get-with_item items place None q = map.get-remove key_total items place q
+get-with_item items place (Some item) q = map.get-insert key_total items place item q
+
+-- a family of a table
+pub own_family : (d : TableSchema) → Contains (families_of d) d.family
+own_family d = (0, omega arith, refl)
+
+-- it is one of those before the next
+pub family_within : (s : State) (name : List ℕ) (t : Table) → IsTable s name t
+    → (1 ≤ t.description.family) × (t.description.family < s.next_family)
+family_within s name t is = of_contained (λ f. (1 ≤ f) × (f < s.next_family))
+    (families_of t.description) t.description.family is.families (own_family t.description)
+
+module _ (l : Layout) (s : State) (shows : Shows l s) (valid : IsValid s) (moment : ℕ)
+    (name : List ℕ) (t : Table) (at : map.get s.tables name ≡ Some t) (place : List ℕ)
+    (new : Option (List Pair)) where
+  abbrev change : RowChange
+  change = change_between t.description.family place
+      (option_map item_columns (map.get t.items place)) (option_map item_columns new)
+
+  abbrev after : State
+  after = after_item s moment name t place new
+
+  abbrev changed : Table
+  changed = with_row s.next_number moment t place new
+
+  -- descriptions stay
+  same_catalog : (key : List ℕ) → catalog_rows s key ≡ catalog_rows after key
+  same_catalog key = ap (λ o. if eq_by_cmp key_cmp key [] then next_row s.next_family else o)
+      (by_name (eq_by_cmp key_cmp key name) refl
+      ∙ ap (option_map (λ t. table_row t.description))
+      (sym (map.get-insert key_total s.tables name changed key)))
+    where
+      by_name : (b : Bool) → eq_by_cmp key_cmp key name ≡ b
+          → option_map (λ t. table_row t.description) (map.get s.tables key)
+          ≡ option_map (λ t. table_row t.description)
+          (cond (eq_by_cmp key_cmp key name) (Some changed) (map.get s.tables key))
+      by_name true e = ap (λ k. option_map (λ t. table_row t.description) (map.get s.tables k))
+          (tied key name e) ∙ ap (option_map (λ t. table_row t.description)) at
+          ∙ ap (λ b. option_map (λ t. table_row t.description)
+          (cond b (Some changed) (map.get s.tables key))) (sym e)
+      by_name false e = ap (λ b. option_map (λ t. table_row t.description)
+          (cond b (Some changed) (map.get s.tables key))) (sym e)
+
+  within : (1 ≤ t.description.family) × (t.description.family < s.next_family)
+  within = family_within s name t (valid.tables name t at)
+
+  module _ (w : Write) (changes : w.changes ≡ change ∷ []) (numbered : w.number ≡ l.next_number)
+      (law : ShowsWrite l w) where
+    -- families without a change show what they showed
+    elsewhere : (family : ℕ) (key : List ℕ) → t.description.family ≢ family
+        → shown (with_write l w) family key ≡ shown l family key
+    elsewhere family key other = law family key ∙ ap (λ c. shown_by c (shown l family key))
+        (ap (change_of family key) changes ∙ other_family change [] family key other)
+
+    -- and the table's shows the new item at its place
+    here : (key : List ℕ) → shown (with_write l w) t.description.family key
+        ≡ option_map item_columns (map.get (with_item t.items place new) key)
+    here key = law t.description.family key
+        ∙ ap (λ c. shown_by c (shown l t.description.family key))
+        (ap (change_of t.description.family key) changes ∙ one_change change key)
+        ∙ ap (shown_by (cond (eq_by_cmp key_cmp key place) (Some change) None))
+        (shows.items name t at key)
+        ∙ at_key (eq_by_cmp key_cmp key place) refl
+        ∙ ap (option_map item_columns) (sym (get-with_item t.items place new key))
+      where
+        at_key : (b : Bool) → eq_by_cmp key_cmp key place ≡ b
+            → shown_by (cond b (Some change) None) (item_rows t key)
+            ≡ option_map item_columns (cond b new (map.get t.items key))
+        at_key true e = ap (λ k. written change (item_rows t k)) (tied key place e)
+            ∙ written-change_between t.description.family place
+            (option_map item_columns (map.get t.items place)) (option_map item_columns new)
+            (items_can_show new)
+        at_key false e = refl
+
+    items_after : (other : List ℕ) (u : Table) (b : Bool) → eq_by_cmp key_cmp other name ≡ b
+        → cond b (Some changed) (map.get s.tables other) ≡ Some u
+        → (key : List ℕ) → shown (with_write l w) u.description.family key ≡ item_rows u key
+    items_after other u true e at_other key =
+        subst (λ u. shown (with_write l w) u.description.family key ≡ item_rows u key)
+        (some _ _ at_other) (here key)
+    items_after other u false e at_other key =
+        elsewhere u.description.family key (λ same. apart same) ∙ shows.items other u at_other key
+      where
+        apart : t.description.family ≢ u.description.family
+        apart same =
+            let one : other ≡ name = valid.families other name u t u.description.family
+            at_other at (own_family u.description)
+            (subst (Contains (families_of t.description)) same (own_family t.description)) in
+            false≢true (sym e ∙ ap (λ k. eq_by_cmp key_cmp k name) one ∙ itself name)
+
+    -- the rows are then those of the state with the item
+    pub shows_item : Shows (with_write l w) after
+    shows_item = record {
+      number = ap (λ n. n + 1) (numbered ∙ shows.number);
+      catalog = λ key. elsewhere catalog_family key (λ same. omega (arith, same, within.0))
+          ∙ shows.catalog key ∙ same_catalog key;
+      items = λ other u at_other. items_after other u (eq_by_cmp key_cmp other name) refl
+          (sym (map.get-insert key_total s.tables name changed other) ∙ at_other);
+      beyond = λ family key high. elsewhere family key
+          (λ same. omega (arith, same, high, within.1)) ∙ shows.beyond family key high;
+    }
+
+-- a state with an item more is held, as far as the item is
+held_after : (s : State) (moment : ℕ) (name : List ℕ) (t : Table) (place : List ℕ)
+    (new : Option (List Pair)) → IsHeldWhole s → map.get s.tables name ≡ Some t
+    → IfSome new IsItemOfValues → IsHeldWhole (after_item s moment name t place new)
+held_after s moment name t place new held at given = record {
+  items = record {
+    items = λ other q u item at_other here. items other u q item here
+        (at_insert s.tables name other u (with_row s.next_number moment t place new) at_other);
+  };
+  descriptions = λ other u at_other. descriptions other u
+      (at_insert s.tables name other u (with_row s.next_number moment t place new) at_other);
+}
+  where
+    new_or_old : (to : Option (List Pair)) (q : List ℕ) (item : List Pair) (b : Bool)
+        → IfSome to IsItemOfValues → cond b to (map.get t.items q) ≡ Some item
+        → IsItemOfValues item
+    new_or_old None q item true given e = let no : None ≡ Some item = e in cc no
+    new_or_old (Some x) q item true given e = subst IsItemOfValues (some x item e) given
+    new_or_old to q item false given e = held.items.items name q t item at e
+
+    items : (other : List ℕ) (u : Table) (q : List ℕ) (item : List Pair)
+        → map.get u.items q ≡ Some item
+        → ((other ≡ name) × (with_row s.next_number moment t place new ≡ u))
+        ⊎ (map.get s.tables other ≡ Some u) → IsItemOfValues item
+    items other u q item here (inl changed) = new_or_old new q item (eq_by_cmp key_cmp q place)
+        given (sym (get-with_item t.items place new q)
+        ∙ ap (λ (x : Table). map.get x.items q) changed.1 ∙ here)
+    items other u q item here (inr old) = held.items.items other q u item old here
+
+    descriptions : (other : List ℕ) (u : Table)
+        → ((other ≡ name) × (with_row s.next_number moment t place new ≡ u))
+        ⊎ (map.get s.tables other ≡ Some u) → IsHeld u.description
+    descriptions other u (inl changed) = subst (λ (x : Table). IsHeld x.description) changed.1
+        (held.descriptions name t at)
+    descriptions other u (inr old) = held.descriptions other u old
+
+-- The change of an item's row turns the state into the one with that item.
+pub item_turns : (s : State) (moment : ℕ) (name : List ℕ) (t : Table) (place : List ℕ)
+    (new : Option (List Pair)) → IsValid s → IsHeldWhole s → s.next_number < NUMBERS_END
+    → map.get s.tables name ≡ Some t
+    → ((item : List Pair) → new ≡ Some item → IsStored t.description place item)
+    → IfSome new IsItemOfValues
+    → Turns (item_changes t.description place (map.get t.items place) new) s
+    (after_item s moment name t place new)
+item_turns s moment name t place new valid held room at stored given = record {
+  shows = λ l past shows. shows_item l s shows valid moment name t at place new
+      (batch_write l (item_changes t.description place (map.get t.items place) new)) refl refl
+      (shows_write l
+      (batch_write l (item_changes t.description place (map.get t.items place) new)) past
+      (omega arith));
+  valid = after_item_valid s moment name t place new valid room at
+      (with_item_stored s name t place new valid at stored);
+  held = held_after s moment name t place new held at given;
+}

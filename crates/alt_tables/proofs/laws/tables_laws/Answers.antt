@@ -1,0 +1,15 @@
+-- The laws, from their lemmas.
+use Rattle.alt_tables.proofs.Left.{stands_left, stands_made, stands_quiet, stands_read}
+use Rattle.alt_tables.proofs.OneState.{one_state_of_image}
+use Rattle.alt_tables.proofs.Standing.{one_stands}
+use Rattle.alt_tables.proofs.laws.tables_laws.Goals as goal
+
+pub returns : goal.returns
+returns c = record {
+  one_state = one_state_of_image;
+  one_in_hand = one_stands;
+  files = stands_read;
+  left = stands_left;
+  stays_quiet = stands_quiet;
+  made = stands_made;
+}

@@ -1,0 +1,87 @@
+-- The rows that stand for a state (docs/formats/table-rows.md), and the changes of rows that a write of the state makes.
+use Rattle.std.specs.Prelude.{◌≡◌, ◌≤◌, ◌==◌, ℕ, List, [], ◌∷◌, if◌then◌else◌, Option, Some, None, option_map, codes}
+use Rattle.std.specs.Int.{w32, to_be_bytes}
+use Rattle.std.specs.Ordering.{eq_by_cmp}
+use Rattle.std.specs.FinMap as map
+use Rattle.alt_cells.specs.declared.batch.RowChange.{RowChange}
+use Rattle.alt_cells.specs.Changes.{Columns, change_between}
+use Rattle.alt_cells.specs.Keys.{key_cmp}
+use Rattle.alt_engine.specs.InHand.{batch_write}
+use Rattle.alt_engine.specs.Layout.{Layout, IsPast, shown, with_write}
+use Rattle.alt_machine.specs.State.{State, Table}
+use Rattle.alt_machine.specs.Valid.{IsValid, IsHeldState}
+use Rattle.alt_schema.specs.Format.{description_bytes}
+use Rattle.alt_schema.specs.Held.{IsHeld}
+use Rattle.alt_schema.specs.declared.schema.TableSchema.{TableSchema}
+use Rattle.alt_tables.specs.ItemRows.{item_columns}
+use Rattle.alt_value.specs.Tree.{Pair}
+
+-- a row of one column
+abbrev pub one_column : List ℕ → List ℕ → Columns
+one_column name value = map.insert map.empty name value
+
+-- ---- the catalog, which is family 0
+
+-- the catalog's family
+abbrev pub catalog_family : ℕ
+catalog_family = 0
+
+-- the next family, which isn't written where it is 1
+abbrev pub next_row : ℕ → Option Columns
+next_row family = if family == 1 then None else Some
+    (one_column (codes "next") (to_be_bytes w32 family))
+
+-- the description of a table
+abbrev pub table_row : TableSchema → Columns
+table_row d = one_column (codes "t") (description_bytes d)
+
+-- the next family stands at the empty key, and each description at its table's name
+abbrev pub catalog_rows : State → List ℕ → Option Columns
+catalog_rows s key =
+    if eq_by_cmp key_cmp key [] then next_row s.next_family else option_map
+    (λ t. table_row t.description) (map.get s.tables key)
+
+-- ---- the tables
+
+-- each item at its place, in the family of its table
+abbrev pub item_rows : Table → List ℕ → Option Columns
+item_rows t key = option_map item_columns (map.get t.items key)
+
+-- What the rows show is the state: its numbers, its catalog, the items of each table in the table's family, and nothing from the
+-- next family on. Families below it that no table has count for nothing.
+pub record Shows (l : Layout) (s : State) : Type 0 where
+  pub number : l.next_number ≡ s.next_number
+  pub catalog : (key : List ℕ) → shown l catalog_family key ≡ catalog_rows s key
+  pub items : (name : List ℕ) (t : Table) → map.get s.tables name ≡ Some t
+      → (key : List ℕ) → shown l t.description.family key ≡ item_rows t key
+  pub beyond : (family : ℕ) (key : List ℕ) → s.next_family ≤ family → shown l family key ≡ None
+
+-- Each item and each description of the state is one that a program can hold, so its bytes tell it from every other.
+pub record IsHeldWhole (s : State) : Type 0 where
+  pub items : IsHeldState s
+  pub descriptions : (name : List ℕ) (t : Table) → map.get s.tables name ≡ Some t
+      → IsHeld t.description
+
+-- ---- the row changes of a write
+
+-- of an item: the change of its row
+abbrev pub item_changes : TableSchema → List ℕ → Option (List Pair) → Option (List Pair)
+    → List RowChange
+item_changes d place old new = change_between d.family place (option_map item_columns old)
+    (option_map item_columns new) ∷ []
+
+-- of a new table: its description, and the next family
+abbrev pub creation_changes : ℕ → ℕ → TableSchema → List RowChange
+creation_changes before after d = change_between catalog_family d.name None (Some (table_row d))
+    ∷ change_between catalog_family [] (next_row before) (next_row after) ∷ []
+
+-- of a table that is dropped: its description goes, and its rows stay where nobody looks
+abbrev pub drop_changes : TableSchema → List RowChange
+drop_changes d = change_between catalog_family d.name (Some (table_row d)) None ∷ []
+
+-- These row changes, as the next write, turn the rows of one state into those of another.
+pub record Turns (changes : List RowChange) (s r : State) : Type 0 where
+  pub shows : (l : Layout) → IsPast l → Shows l s
+      → Shows (with_write l (batch_write l changes)) r
+  pub valid : IsValid r
+  pub held : IsHeldWhole r

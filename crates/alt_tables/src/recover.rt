@@ -1,0 +1,136 @@
+//! Opening a store: its tables are known again, and each row is tested.
+
+ghost use Rattle.std.specs.Prelude.{◌≡◌, ℕ, IfOk, IfErr, OnOk, IsErrOf, IsTrue, ⊤};
+ghost use Rattle.alt_base.specs.Counts.{Rose};
+ghost use Rattle.alt_disk.specs.Disk.{IsTrusted, Goes};
+ghost use Rattle.alt_disk.specs.Runs.{Spans};
+ghost use Rattle.alt_engine.specs.InHand.{Reads};
+ghost use Rattle.alt_engine.specs.Layout.{Layout};
+ghost use Rattle.alt_machine.specs.State.{State};
+ghost use Rattle.alt_tables.specs.Images.{StandsFor};
+ghost use Rattle.alt_tables.specs.Opening.{AllItemsRead, Assembled, IsCatalog, IsRowFault};
+ghost use Rattle.alt_tables.specs.Recovery.{IsExplained, HasNoState, WasLeft, unopened};
+ghost use Rattle.alt_tables.specs.Scans.{Walked};
+ghost use Rattle.alt_tables.specs.Stands.{Stands};
+
+use crate::catalog::Catalog;
+use crate::faults::OpenFault;
+use crate::opened::{Opened, read_catalog};
+use crate::scan::{read_items, unread};
+use crate::tables::Tables;
+use alt_disk::Disk;
+use alt_engine::{Engine, RecoverFault};
+use alt_schema::held;
+use std::alloc::Global;
+
+impl Tables {
+    /// Opens the store of a disk (docs/formats/table-rows.md). Every file is synced, and every row is tested.
+    pub fn recover<D: Disk>(alloc: Global, disk: &mut D) -> Result<Tables, OpenFault>
+        // At Ok the files stand for a state, as they read, and they were as they are.
+        ensures reads { IfOk result (λ t. IsTrue (D.state disk.old).tells
+            → (s : State) × StandsFor (D.state disk.old).file s) }
+        // And the tables stand for it, with whatever a stop leaves from then on.
+        ensures stands { IfOk result (λ t. IsTrusted (D.state disk.old) → (s : State)
+            → StandsFor (D.state disk.old).file s → Stands (D.state disk.new) t s) }
+        ensures files { IsTrue (D.state disk.old).tells → (f : ℕ)
+            → (D.state disk.new).file f ≡ (D.state disk.old).file f }
+
+        // A stop at any moment of the call, also one that fails, leaves what one left before.
+        ensures any_moment { IsTrusted (D.state disk.old)
+            → Spans (D.state disk.old) (D.state disk.new) (λ _. ⊤) (WasLeft (D.state disk.old)) }
+
+        // Damaged and BadRow come exactly where the files stand for no state; Damaged where they are no store's, and BadRow names the
+        // first wrong row.
+        ensures explained { IsTrue (D.state disk.old).tells
+            → IfErr result (IsExplained (D.state disk.old).file) }
+        ensures no_state { IsTrue (D.state disk.old).tells
+            → IfErr result (HasNoState (D.state disk.old).file) }
+        ensures goes { Goes (D.state disk.old) (D.state disk.new) }
+        ensures cause { IsErrOf result OpenFault.Failed
+            → Rose (D.state disk.old).faults (D.state disk.new).faults }
+    {
+        let mut engine = match Engine::recover(alloc, disk) {
+            Ok(engine) => engine,
+            Err(fault) => return Err(unopened(fault)),
+        };
+        match read_rows(alloc, disk, &mut engine) {
+            Ok(Opened { catalog, family }) => Ok(Tables {
+                alloc,
+                engine,
+                catalog,
+                family,
+            }),
+            Err(fault) => Err(fault),
+        }
+    }
+}
+
+/// Reads the rows of a store, and tests them.
+fn read_rows<D: Disk>(
+    alloc: Global,
+    disk: &mut D,
+    engine: &mut Engine,
+) -> Result<Opened, OpenFault>
+    ensures read { IsTrue (D.state disk.old).tells → (l : Layout)
+        → Reads (D.state disk.old) engine.old l
+        → IfOk result (λ o. (s : State) × Assembled l o.family o.catalog s) }
+    ensures wrong { IsTrue (D.state disk.old).tells → (l : Layout)
+        → Reads (D.state disk.old) engine.old l → IfErr result (IsRowFault l) }
+    ensures walked { Walked (D.state disk.old) (D.state disk.new) engine.old engine.new }
+    ensures cause { IsErrOf result OpenFault.Failed
+        → Rose (D.state disk.old).faults (D.state disk.new).faults }
+{
+    let opened = match read_catalog(alloc, disk, engine) {
+        Ok(opened) => opened,
+        Err(fault) => return Err(fault),
+    };
+    match read_tables(alloc, disk, engine, &opened.catalog) {
+        Ok(()) => {}
+        Err(fault) => return Err(fault),
+    }
+    match engine.first_from(disk, opened.family) {
+        Ok(None) => Ok(opened),
+        Ok(Some((family, key))) => Err(OpenFault::BadRow { family, key }),
+        Err(fault) => Err(unread(fault)),
+    }
+}
+
+/// Tests the items of all tables, in the order of their families.
+fn read_tables<D: Disk>(
+    alloc: Global,
+    disk: &mut D,
+    engine: &mut Engine,
+    catalog: &Catalog,
+) -> Result<(), OpenFault>
+    ensures read { IsTrue (D.state disk.old).tells → (l : Layout) (next : ℕ)
+        → Reads (D.state disk.old) engine.old l → IsCatalog l next catalog.now
+        → OnOk result (AllItemsRead l catalog.now) }
+    ensures wrong { IsTrue (D.state disk.old).tells → (l : Layout) (next : ℕ)
+        → Reads (D.state disk.old) engine.old l → IsCatalog l next catalog.now
+        → IfErr result (IsRowFault l) }
+    ensures walked { Walked (D.state disk.old) (D.state disk.new) engine.old engine.new }
+    ensures cause { IsErrOf result OpenFault.Failed
+        → Rose (D.state disk.old).faults (D.state disk.new).faults }
+{
+    let mut family = 0;
+    'tables: while let Some(schema) = catalog.above(family) {
+        held(schema);
+        match read_items(alloc, disk, engine, schema) {
+            Ok(()) => {}
+            Err(fault) => return Err(fault),
+        }
+        family = schema.family;
+    }
+    Ok(())
+}
+
+/// A fault of the recovery of an engine, passed on.
+fn unopened(fault: RecoverFault) -> OpenFault
+    ensures { result ≡ unopened fault }
+{
+    match fault {
+        RecoverFault::Damaged { file, at } => OpenFault::Damaged { file, at },
+        RecoverFault::Failed => OpenFault::Failed,
+        RecoverFault::NoMemory => OpenFault::NoMemory,
+    }
+}

@@ -1,17 +1,18 @@
 -- What was carried out settles the request, once its refusal is told.
 use Rattle.std.proofs.Common.{◌≡◌, refl, sym, ap, subst, ◌∙◌, List, [], ◌∷◌, length, take, Result, Ok, Err, OnOk}
+use Rattle.std.specs.Prelude.{IsErrOf}
 use Rattle.alt_machine.specs.Outcomes.{Outcome, last_state}
 use Rattle.alt_machine.specs.State.{State}
 use Rattle.alt_machine.specs.Valid.{IsValid}
 use Rattle.alt_machine.specs.Wanted.{lack_among}
 use Rattle.alt_dispatch.specs.Settled.{Settles, Tells}
-use Rattle.alt_request.specs.Carried.{IsAnswered, Does}
+use Rattle.alt_request.specs.Carried.{IsAnswered, Does, IfFailed, WhereFailed}
 use Rattle.alt_request.specs.declared.stop.Stop.{Stop}
 use Rattle.alt_request.specs.declared.stop.Stop.TheVariants.{Refused, Fault}
 use Rattle.alt_shape.specs.Refusals.{Answer, refused}
 use Rattle.alt_shape.specs.declared.refusal.Reply.{Reply}
 use Rattle.alt_tables.specs.declared.faults.TableFault.{TableFault}
-use Rattle.alt_tables.specs.declared.faults.TableFault.TheVariants.{NoMemory}
+use Rattle.alt_tables.specs.declared.faults.TableFault.TheVariants.{Failed, NoMemory}
 
 module _ (now : State → Type 0) (s : State) (outcome : Outcome) where
   -- all of a list is its first so many, as many as there are
@@ -42,3 +43,14 @@ pub settled_valid : (now : State → Type 0) (s : State) (outcome : Outcome)
     → Settles now s outcome told → OnOk told (IsValid (last_state s outcome.atoms))
 settled_valid now s outcome (Ok reply) valid h = valid (last_state s outcome.atoms) h.state
 settled_valid now s outcome (Err fault) valid h = tt
+
+-- an answer tells that the device failed only where it did for the operation
+pub told_failed : (P : Type 0) (carried : Result Reply Stop) (told : Result Reply TableFault)
+    → IfFailed carried P → Tells carried told → IsErrOf told Failed → P
+told_failed P (Ok reply) told h is e =
+    absurd (let none : Ok reply ≡ Err Failed = sym is ∙ e in let g : ⊥ = cc in g)
+told_failed P (Err (Refused r)) (Ok reply) h is e = absurd (let g : ⊥ = cc in g)
+told_failed P (Err (Refused r)) (Err fault) h is e = absurd (let g : ⊥ = cc in g)
+told_failed P (Err (Fault f)) told h is e =
+    let so : Err f ≡ Err Failed = sym is ∙ e in
+    subst (λ (g : TableFault). WhereFailed g P) (let same : f ≡ Failed = cc in same) h

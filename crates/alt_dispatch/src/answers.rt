@@ -1,18 +1,21 @@
 //! The way of a request: its operation, its body as JSON, and then the operation itself.
 
-ghost use Rattle.std.specs.Prelude.{◌≡◌, false, IfOk, OnOk, map, option_map};
+ghost use Rattle.std.specs.Prelude.{◌≡◌, false, IfOk, IsErrOf, OnOk, map, option_map};
 ghost use Rattle.std.specs.List.{find};
 ghost use Rattle.std.specs.Str.{bytes_eq};
 ghost use Rattle.serde_json.specs.View.{view, members_view};
 ghost use Rattle.serde_json.specs.Written.{has_float};
+ghost use Rattle.alt_base.specs.Counts.{Rose};
+ghost use Rattle.alt_disk.specs.Disk.{Goes};
 ghost use Rattle.alt_machine.specs.Operations.{named_in, operation_named};
 ghost use Rattle.alt_machine.specs.Outcomes.{last_state};
 ghost use Rattle.alt_machine.specs.State.{State};
 ghost use Rattle.alt_machine.specs.Step.{step, operates};
 ghost use Rattle.alt_machine.specs.Valid.{IsValid};
 ghost use Rattle.alt_dispatch.specs.Settled.{Settles, Tells};
-ghost use Rattle.alt_request.specs.Carried.{Carries, IsPlain};
-ghost use Rattle.alt_tables.specs.Stands.{Stands};
+ghost use Rattle.alt_request.specs.Carried.{Carries, IsPlain, Moves};
+ghost use Rattle.alt_tables.specs.Images.{Leaves};
+ghost use Rattle.alt_tables.specs.Stands.{AreReady, Stands};
 
 use crate::bodies;
 use alt_disk::Disk;
@@ -58,7 +61,7 @@ fn operation_in(operations: &[(&'static str, Operation)], word: &[u8]) -> Option
 }
 
 /// One request at a moment, in whole seconds since 1970: the reply is that of the machine's step, and the tables then stand for the
-/// state after the last of its writes. A refusal is a reply too, and leaves the state. The disk isn't called yet.
+/// state after the last of its writes. A refusal is a reply too, and leaves the state.
 pub fn answer<D: Disk>(
     alloc: Global,
     tables: &mut Tables,
@@ -67,6 +70,7 @@ pub fn answer<D: Disk>(
     body: &[u8],
     moment: u64,
 ) -> Result<Reply, TableFault>
+    requires ready { AreReady (D.state disk.old) tables.old }
     // Ok has the answer and leaves the state after the last write, and none of the writes lacked a number or a family; an error has its
     // cause, and leaves the state after some of the writes.
     ensures settles { (s : State) → Stands (D.state disk.old) tables.old s
@@ -76,7 +80,12 @@ pub fn answer<D: Disk>(
     ensures valid { (s : State) → Stands (D.state disk.old) tables.old s
         → OnOk result (IsValid (last_state s (step s operation body.now moment).atoms)) }
     ensures plain { IfOk result (λ reply. has_float (view reply.body) ≡ false) }
-    ensures disk { D.state disk.new ≡ D.state disk.old }
+    // A stop at any moment of the call leaves the state after some of the writes; a request without writes leaves every file.
+    ensures leaves { (s : State) → Stands (D.state disk.old) tables.old s
+        → Leaves (D.state disk.old) (D.state disk.new) s (step s operation body.now moment).atoms }
+    ensures goes { Goes (D.state disk.old) (D.state disk.new) }
+    ensures cause { IsErrOf result TableFault.Failed
+        → Rose (D.state disk.old).faults (D.state disk.new).faults }
 {
     let carried = respond(alloc, tables, disk, operation, body, moment);
     told(alloc, carried)
@@ -106,9 +115,11 @@ fn respond<D: Disk>(
     body: &[u8],
     moment: u64,
 ) -> Result<Reply, Stop>
+    requires ready { AreReady (D.state disk.old) tables.old }
     ensures carried { Carries (λ s. step s operation body.now moment)
         (Stands (D.state disk.old) tables.old) (Stands (D.state disk.new) tables.new) result }
-    ensures disk { D.state disk.new ≡ D.state disk.old }
+    ensures moves { Moves (λ s. step s operation body.now moment)
+        (Stands (D.state disk.old) tables.old) (D.state disk.old) (D.state disk.new) result }
 {
     let Some(operation) = operation else {
         return Err(Stop::Refused(Refusal::UNKNOWN_OPERATION));
@@ -128,9 +139,11 @@ fn carry_out<D: Disk>(
     body: &Map<String, Value>,
     moment: u64,
 ) -> Result<Reply, Stop>
+    requires ready { AreReady (D.state disk.old) tables.old }
     ensures carried { Carries (λ s. operates s operation moment (members_view body.now.entries))
         (Stands (D.state disk.old) tables.old) (Stands (D.state disk.new) tables.new) result }
-    ensures disk { D.state disk.new ≡ D.state disk.old }
+    ensures moves { Moves (λ s. operates s operation moment (members_view body.now.entries))
+        (Stands (D.state disk.old) tables.old) (D.state disk.old) (D.state disk.new) result }
 {
     match operation {
         Operation::CreateTable => create_table(alloc, tables, disk, body, moment),

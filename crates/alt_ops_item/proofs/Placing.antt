@@ -1,8 +1,9 @@
 -- What a write that may be conditional comes to, once it is known what was found at its place.
-use Rattle.std.proofs.Common.{◌≡◌, refl, sym, ap, subst, ◌∙◌, ℕ, Bool, true, false, List, Option, Some, None, Ok, Err}
+use Rattle.std.proofs.Common.{◌≡◌, refl, sym, ap, subst, ◌∙◌, ℕ, Bool, true, false, List, Option, Some, Ok, Err}
 use Rattle.std.specs.Prelude.{Result, codes, if◌then◌else◌}
 use Rattle.std.specs.FinMap as map
 use Rattle.serde_json.specs.Data.{Members}
+use Rattle.alt_disk.specs.Disk.{DiskState}
 use Rattle.alt_expr.specs.declared.cond.Cond.{Cond}
 use Rattle.alt_machine.specs.Conditional.{meets, asked, failed, writes_if}
 use Rattle.alt_machine.specs.Members.{table_name}
@@ -16,9 +17,10 @@ use Rattle.alt_request.specs.declared.stop.Stop.TheVariants.{Fault}
 use Rattle.alt_request.proofs.Carrying.{does_say}
 use Rattle.alt_shape.specs.Refusals.{answer_of}
 use Rattle.alt_shape.specs.declared.refusal.Reply.{Reply}
-use Rattle.alt_tables.specs.Faults.{AreMade, BreakOff, IsReadFault}
+use Rattle.alt_tables.specs.Faults.{AreMade, BreakOff, IsFindFault}
 use Rattle.alt_tables.specs.declared.faults.TableFault.{TableFault}
-use Rattle.alt_tables.specs.declared.faults.TableFault.TheVariants.{Spent, NoMemory}
+use Rattle.alt_tables.specs.declared.faults.TableFault.TheVariants.{Spent, Damaged, BadRow, Failed, NoMemory}
+use Rattle.alt_tables.specs.Images.{Leaves}
 use Rattle.alt_value.specs.Tree.{Pair}
 
 pub same_Some : {A : Type 0} (x y : A) → Some x ≡ Some y → x ≡ y
@@ -26,8 +28,11 @@ same_Some x y e = cc
 
 -- a fault before anything was written
 pub unread : (now : State → Type 0) (s : State) (outcome : Outcome) (f : TableFault)
-    → IsReadFault f → now s → Does now s outcome (Err (Fault f))
+    → IsFindFault f → now s → Does now s outcome (Err (Fault f))
 unread now s outcome (Spent n) known stands = absurd known
+unread now s outcome (Damaged file at) known stands = absurd known
+unread now s outcome (BadRow family key) known stands = absurd known
+unread now s outcome Failed known stands = tt
 unread now s outcome NoMemory known stands = (0, refl, stands)
 
 module _ (condition : Option Cond) (s : State) (moment : ℕ) (ms : Members) (t : Table)
@@ -76,3 +81,11 @@ module _ (condition : Option Cond) (s : State) (moment : ℕ) (ms : Members) (t 
           subst (λ atoms. AreMade now a_number s atoms) atoms_so are_made in
           subst (λ o. Does now s o (Ok reply)) (sym (judged_so true held))
           (record { reply = told; state = so.state; enough = so.enough })
+
+      -- what those writes leave
+      pub left : (before after : DiskState)
+          → Leaves before after s (item_writes s moment name t at new)
+          → Leaves before after s whole.atoms
+      left before after leaves =
+          subst (λ (o : Outcome). Leaves before after s o.atoms) (sym (judged_so true held))
+          (subst (λ atoms. Leaves before after s atoms) atoms_so leaves)

@@ -7,9 +7,9 @@ ghost use Rattle.alt_machine.specs.Conditional as machine;
 ghost use Rattle.alt_machine.specs.Members.{table_name};
 ghost use Rattle.alt_machine.specs.State.{State, Table};
 ghost use Rattle.alt_machine.specs.Valid.{IsStored};
-ghost use Rattle.alt_request.specs.Carried.{Does, IsPlain, Says};
+ghost use Rattle.alt_request.specs.Carried.{Does, IsPlain, Moves, Says};
 ghost use Rattle.alt_schema.specs.declared.schema.TableSchema.{TableSchema};
-ghost use Rattle.alt_tables.specs.Stands.{Stands, catalog_of};
+ghost use Rattle.alt_tables.specs.Stands.{AreReady, Stands, catalog_of};
 
 use crate::items::{item_reply, shown};
 use alt_codec::json_of_item;
@@ -37,6 +37,7 @@ pub(crate) fn write_if<D: Disk>(
     new: Option<Item>,
     moment: u64,
 ) -> Result<Reply, Stop>
+    requires ready { AreReady (D.state disk.old) tables.old }
     requires there { map.contains_key (catalog_of tables.old)
         (table_name (members_view body.now.entries)) ≡ true }
     requires new { (d : TableSchema)
@@ -48,7 +49,11 @@ pub(crate) fn write_if<D: Disk>(
         (machine.writes_if said.condition s moment (members_view body.now.entries) t place new)
         result }
     ensures plain { IsPlain result }
-    ensures disk { D.state disk.new ≡ D.state disk.old }
+    ensures moves { (t : Table) → Moves
+        (λ s. machine.writes_if said.condition s moment (members_view body.now.entries) t place new)
+        (λ s. Stands (D.state disk.old) tables.old s
+        × (map.get s.tables (table_name (members_view body.now.entries)) ≡ Some t))
+        (D.state disk.old) (D.state disk.new) result }
 {
     let written = write_where(
         alloc,
@@ -74,6 +79,7 @@ fn write_where<D: Disk>(
     new: Option<Item>,
     moment: u64,
 ) -> Result<Reply, Stop>
+    requires ready { AreReady (D.state disk.old) tables.old }
     requires there { map.contains_key (catalog_of tables.old)
         (table_name (members_view body.now.entries)) ≡ true }
     requires new { (d : TableSchema)
@@ -85,7 +91,11 @@ fn write_where<D: Disk>(
         (machine.writes_if condition.now s moment (members_view body.now.entries) t place new)
         result }
     ensures plain { IsPlain result }
-    ensures disk { D.state disk.new ≡ D.state disk.old }
+    ensures moves { (t : Table) → Moves
+        (λ s. machine.writes_if condition.now s moment (members_view body.now.entries) t place new)
+        (λ s. Stands (D.state disk.old) tables.old s
+        × (map.get s.tables (table_name (members_view body.now.entries)) ≡ Some t))
+        (D.state disk.old) (D.state disk.new) result }
 {
     let name = table_name(body);
     let found = tables.find(disk, name, place)?;

@@ -1,6 +1,6 @@
 -- The refusals of a CreateTable, step by step, and what it comes to.
 use Rattle.std.proofs.Common.{◌≡◌, refl, sym, ap, subst, ◌∙◌, ℕ, zero, suc, ◌+◌, ◌<◌, ◌≤◌, take, Err, Bool, true, false, cond, not, nat_le, List, [], ◌∷◌, length, Option, Some, None, option_map, is_some, arith}
-use Rattle.std.specs.Prelude.{◌==◌}
+use Rattle.std.specs.Prelude.{◌==◌, IsSome}
 use Rattle.std.proofs.lemmas.Bool.{eqb-true, le-leb}
 use Rattle.std.specs.FinMap as map
 use Rattle.serde_json.specs.Data.{Members}
@@ -19,8 +19,10 @@ use Rattle.alt_machine.specs.Wanted.{Lack, table_lack, lack_among, or_later}
 use Rattle.alt_machine.proofs.Lacks.{table_room}
 use Rattle.alt_machine.proofs.Made.{made_is}
 use Rattle.alt_machine.proofs.Tests.{passed, stopped}
-use Rattle.alt_request.specs.Carried.{Carries}
+use Rattle.alt_request.specs.Carried.{Carries, IfFailed}
 use Rattle.alt_request.proofs.Carrying.{refused_so, faulted}
+use Rattle.alt_request.proofs.Moving.{unfailed_fault, leaves_nothing}
+use Rattle.alt_tables.specs.Images.{Leaves}
 use Rattle.alt_request.specs.Steps.{Tested}
 use Rattle.alt_request.specs.declared.stop.Stop.{Stop}
 use Rattle.alt_request.specs.declared.stop.Stop.TheVariants.{Refused, Fault}
@@ -29,7 +31,7 @@ use Rattle.alt_tables.specs.Faults.{AreMade, BreakOff}
 use Rattle.alt_tables.specs.Stands.{Stands, catalog_of, number_of, family_of}
 use Rattle.alt_tables.specs.declared.tables.Tables.{Tables}
 use Rattle.alt_tables.specs.declared.faults.TableFault.{TableFault}
-use Rattle.alt_tables.specs.declared.faults.TableFault.TheVariants.{Spent, NoMemory}
+use Rattle.alt_tables.specs.declared.faults.TableFault.TheVariants.{Spent, Damaged, BadRow, Failed, NoMemory}
 use Rattle.alt_schema.specs.Described.{description_of, described_by}
 use Rattle.alt_schema.specs.Rules as rules
 use Rattle.alt_schema.specs.Stated.{stated}
@@ -177,6 +179,12 @@ asked_stops tables disk now moment ms (Refused r) h stays =
 asked_stops tables disk now moment ms (Fault f) h stays =
     faulted (λ s. create_table s moment ms) (Stands disk tables) now f h stays
 
+-- no failure of the device is among what stops it
+pub asked_unfailed : (P : Type 0) (tables : Tables) (moment : ℕ) (ms : Members) (stop : Stop)
+    → IsAsked tables moment ms (Err stop) → IfFailed (Err stop) P
+asked_unfailed P tables moment ms (Refused r) h = tt
+asked_unfailed P tables moment ms (Fault f) h = unfailed_fault f P h
+
 -- ---- the end of a CreateTable
 
 -- what is made of a table to be made
@@ -267,4 +275,25 @@ module _ (s t u : State) (now : State → Type 0)
         subst (λ k. now (state_after k s (u ∷ []))) (sym first)
             (subst (λ k. now (state_after k s (t ∷ []))) first h),
       )
+  broken_alike (Damaged file at) h = absurd h
+  broken_alike (BadRow family key) h = absurd h
+  broken_alike Failed h = tt
   broken_alike NoMemory (k, enough, h) = (k, sym (later_lack k) ∙ enough, later_alike k enough h)
+
+-- What is left is the same where both states are one unless something is lacked, and then no call of the disk was made.
+pub left_alike : (before later : DiskState) (tables : Tables) (s : State) → Stands before tables s
+    → (t u : State) → (table_lack s.next_number s.next_family ≡ None → t ≡ u)
+    → (IsSome (table_lack (number_of tables) (family_of tables)) → later ≡ before)
+    → Leaves before later s (t ∷ []) → Leaves before later s (u ∷ [])
+left_alike before later tables s stands t u same lacking left =
+    by_lack (table_lack s.next_number s.next_family) refl
+  where
+    known : table_lack (number_of tables) (family_of tables)
+        ≡ table_lack s.next_number s.next_family
+    known = λ i. table_lack (stands.number i) (stands.family i)
+
+    by_lack : (o : Option ℕ) → table_lack s.next_number s.next_family ≡ o
+        → Leaves before later s (u ∷ [])
+    by_lack None e = subst (λ (x : State). Leaves before later s (x ∷ [])) (same e) left
+    by_lack (Some n) e = leaves_nothing (λ r. refuses table_exists) tables before later s (u ∷ [])
+        (lacking (subst IsSome (sym (known ∙ e)) refl)) stands

@@ -4,10 +4,10 @@ ghost use Rattle.std.specs.Prelude.{◌≡◌, ◌+◌, ◌<◌, ◌≤◌, IfOk
 ghost use Rattle.serde_json.specs.View.{members_view, items_view};
 ghost use Rattle.alt_machine.specs.Ops.CreateTable.{enables, shows, mismatched, of_stream, some_items, lists_any, is_unbuilt, of_body, create_table};
 ghost use Rattle.alt_ops_table.specs.Asked.{IsAsked};
-ghost use Rattle.alt_request.specs.Carried.{Carries};
+ghost use Rattle.alt_request.specs.Carried.{Carries, Moves};
 ghost use Rattle.alt_request.specs.Steps.{Tested};
 ghost use Rattle.alt_shape.specs.Shape.{given};
-ghost use Rattle.alt_tables.specs.Stands.{Stands};
+ghost use Rattle.alt_tables.specs.Stands.{AreReady, Stands};
 
 use crate::replies::described;
 use alt_disk::Disk;
@@ -28,9 +28,11 @@ pub fn create_table<D: Disk>(
     body: &Map<String, Value>,
     moment: u64,
 ) -> Result<Reply, Stop>
+    requires ready { AreReady (D.state disk.old) tables.old }
     ensures carried { Carries (λ s. create_table s moment (members_view body.now.entries))
         (Stands (D.state disk.old) tables.old) (Stands (D.state disk.new) tables.new) result }
-    ensures disk { D.state disk.new ≡ D.state disk.old }
+    ensures moves { Moves (λ s. create_table s moment (members_view body.now.entries))
+        (Stands (D.state disk.old) tables.old) (D.state disk.old) (D.state disk.new) result }
 {
     let schema = asked(alloc, tables, body, moment)?;
     let reply = described(alloc, "TableDescription", &schema, "ACTIVE")?;

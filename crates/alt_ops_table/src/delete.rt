@@ -3,8 +3,8 @@
 ghost use Rattle.std.specs.Prelude.{◌≡◌};
 ghost use Rattle.serde_json.specs.View.{members_view};
 ghost use Rattle.alt_machine.specs.Ops.DeleteTable.{delete_table};
-ghost use Rattle.alt_request.specs.Carried.{Carries};
-ghost use Rattle.alt_tables.specs.Stands.{Stands};
+ghost use Rattle.alt_request.specs.Carried.{Carries, Moves};
+ghost use Rattle.alt_tables.specs.Stands.{AreReady, Stands};
 
 use crate::replies::described;
 use alt_disk::Disk;
@@ -29,9 +29,11 @@ pub fn delete_table<D: Disk>(
     body: &Map<String, Value>,
     moment: u64,
 ) -> Result<Reply, Stop>
+    requires ready { AreReady (D.state disk.old) tables.old }
     ensures carried { Carries (λ s. delete_table s (members_view body.now.entries))
         (Stands (D.state disk.old) tables.old) (Stands (D.state disk.new) tables.new) result }
-    ensures disk { D.state disk.new ≡ D.state disk.old }
+    ensures moves { Moves (λ s. delete_table s (members_view body.now.entries))
+        (Stands (D.state disk.old) tables.old) (D.state disk.old) (D.state disk.new) result }
 {
     let _ = moment;
     let schema = table_target(tables, body, bodies::delete_table(body), &RULES)?;

@@ -3,7 +3,7 @@
 ghost use Rattle.std.specs.Prelude.{◌≡◌};
 ghost use Rattle.serde_json.specs.View.{members_view};
 ghost use Rattle.alt_machine.specs.Ops.DescribeTable.{describe_table};
-ghost use Rattle.alt_request.specs.Carried.{Carries};
+ghost use Rattle.alt_request.specs.Carried.{Carries, Moves};
 ghost use Rattle.alt_tables.specs.Stands.{Stands};
 
 use crate::replies::described;
@@ -30,6 +30,8 @@ pub fn describe_table<D: Disk>(
 ) -> Result<Reply, Stop>
     ensures carried { Carries (λ s. describe_table s (members_view body.now.entries))
         (Stands (D.state disk.old) tables.old) (Stands (D.state disk.new) tables.new) result }
+    ensures moves { Moves (λ s. describe_table s (members_view body.now.entries))
+        (Stands (D.state disk.old) tables.old) (D.state disk.old) (D.state disk.new) result }
     ensures disk { D.state disk.new ≡ D.state disk.old }
 {
     let _ = disk;

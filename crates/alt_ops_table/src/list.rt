@@ -6,7 +6,7 @@ ghost use Rattle.serde_json.specs.View.{view, items_view, members_view};
 ghost use Rattle.serde_json.specs.Written.{has_float};
 ghost use Rattle.alt_codec.specs.Writing.{strings};
 ghost use Rattle.alt_machine.specs.Ops.ListTables.{of_body, start_name, page_length, names_after, listed, page_of, list_tables};
-ghost use Rattle.alt_request.specs.Carried.{Carries};
+ghost use Rattle.alt_request.specs.Carried.{Carries, Moves};
 ghost use Rattle.alt_request.specs.Steps.{Tested};
 ghost use Rattle.alt_shape.specs.Refusals.{answer_of};
 ghost use Rattle.alt_tables.specs.Stands.{Stands, catalog_of};
@@ -46,6 +46,8 @@ pub fn list_tables<D: Disk>(
 ) -> Result<Reply, Stop>
     ensures carried { Carries (λ s. list_tables s (members_view body.now.entries))
         (Stands (D.state disk.old) tables.old) (Stands (D.state disk.new) tables.new) result }
+    ensures moves { Moves (λ s. list_tables s (members_view body.now.entries))
+        (Stands (D.state disk.old) tables.old) (D.state disk.old) (D.state disk.new) result }
     ensures disk { D.state disk.new ≡ D.state disk.old }
 {
     let _ = disk;

@@ -26,13 +26,13 @@ use Rattle.alt_request.specs.declared.stop.Stop.TheVariants.{Refused, Fault}
 use Rattle.alt_shape.specs.Refusals.{Answer, answer_of, refused, IsKnown}
 use Rattle.alt_shape.specs.declared.refusal.Refusal.{Refusal}
 use Rattle.alt_shape.specs.declared.refusal.Reply.{Reply}
-use Rattle.alt_tables.specs.Faults.{AreMade, BreakOff, IsReadFault}
+use Rattle.alt_tables.specs.Faults.{AreMade, BreakOff, IsReadFault, IsFindFault}
 use Rattle.alt_tables.specs.Stands.{Stands, catalog_of}
 use Rattle.alt_tables.specs.declared.tables.Tables.{Tables}
 use Rattle.alt_schema.specs.declared.schema.TableSchema.{TableSchema}
 use Rattle.alt_value.specs.Tree.{Pair}
 use Rattle.alt_tables.specs.declared.faults.TableFault.{TableFault}
-use Rattle.alt_tables.specs.declared.faults.TableFault.TheVariants.{Spent, NoMemory}
+use Rattle.alt_tables.specs.declared.faults.TableFault.TheVariants.{Spent, Damaged, BadRow, Failed, NoMemory}
 
 -- an answer without a write that may be a refusal, or want of memory for it
 pub does_say : (now : State → Type 0) (answer : Answer) (s : State) (r : Result Reply Stop)
@@ -60,7 +60,25 @@ module _ (outcome : State → Outcome) (old now : State → Type 0) where
   pub faulted : (f : TableFault) → IsReadFault f → ((s : State) → old s → now s)
       → Carries outcome old now (Err (Fault f))
   faulted (Spent n) known stays = absurd known
+  faulted (Damaged file at) known stays = absurd known
+  faulted (BadRow family key) known stays = absurd known
+  faulted Failed known stays = absurd known
   faulted NoMemory known stays = record { does = λ s stands. (0, refl, stays s stands); plain = tt }
+
+  -- a read of the tables that failed, or want of memory for it
+  pub unfound : (f : TableFault) → ((s : State) → old s → IsFindFault f)
+      → ((s : State) → old s → now s) → Carries outcome old now (Err (Fault f))
+  unfound (Spent n) known stays = record { does = λ s stands. absurd (known s stands); plain = tt }
+  unfound (Damaged file at) known stays = record {
+    does = λ s stands. absurd (known s stands);
+    plain = tt;
+  }
+  unfound (BadRow family key) known stays = record {
+    does = λ s stands. absurd (known s stands);
+    plain = tt;
+  }
+  unfound Failed known stays = record { does = λ s stands. tt; plain = tt }
+  unfound NoMemory known stays = record { does = λ s stands. (0, refl, stays s stands); plain = tt }
 
   -- an answer without a write
   pub said : (reply : Reply) → has_float (view reply.body) ≡ false

@@ -3,3 +3,4 @@ pub mod Named
 pub mod Reaching
 pub mod Said
 pub mod Walks
+pub mod Moving

@@ -1,14 +1,13 @@
 -- What the expressions of a request say, by what was read of them.
-use Rattle.std.proofs.Common.{◌≡◌, refl, sym, ap, subst, ◌∙◌, ◌≤◌, ◌||◌, ℕ, Bool, true, false, List, [], ◌∷◌, Option, Some, None, option_map, Result, Ok, Err, arith}
+use Rattle.std.proofs.Common.{◌≡◌, refl, sym, ap, subst, ◌∙◌, ◌||◌, ℕ, true, false, List, [], ◌∷◌, Option, Some, None, option_map, Ok, Err, arith}
 use Rattle.std.specs.Option.{option_map_or}
 use Rattle.serde_json.specs.Data.{Data, Members, no_members, member, string}
 use Rattle.alt_expr.specs.Faults.{Parsed, KeepsNames}
 use Rattle.alt_expr.specs.Given as expr
 use Rattle.alt_expr.specs.Given.{with_hashes, with_colons, has_unused}
 use Rattle.alt_expr.specs.Languages.{conditions}
-use Rattle.alt_expr.specs.NamesGiven.{given_names, used_names, given_values, used_values, is_empty_given}
+use Rattle.alt_expr.specs.NamesGiven.{used_names, given_values, used_values, is_empty_given}
 use Rattle.alt_expr.specs.NamesIn.{gives_names, gives_empty, names_in as expr_names}
-use Rattle.alt_expr.specs.Told.{IsTold}
 use Rattle.alt_expr.specs.declared.cond.Cond.{Cond}
 use Rattle.alt_expr.specs.declared.fault.ExprFault.{ExprFault}
 use Rattle.alt_expr.specs.declared.fault.ExprFault.TheVariants as fault
@@ -23,7 +22,7 @@ use Rattle.alt_request.specs.Words.{IsFresh, given_of, names_refusal, names_in, 
 use Rattle.alt_request.specs.declared.expressions.Given.{Given}
 use Rattle.alt_request.specs.declared.stop.Stop.{Stop}
 use Rattle.alt_request.specs.declared.stop.Stop.TheVariants.{Refused, Fault}
-use Rattle.alt_shape.specs.Refusals.{Answer, IsKnown, refused, unused_name, not_one_kind, unreadable}
+use Rattle.alt_shape.specs.Refusals.{IsKnown, refused, unused_name, not_one_kind, unreadable}
 use Rattle.alt_shape.specs.declared.refusal.Refusal.{Refusal}
 
 -- ---- names

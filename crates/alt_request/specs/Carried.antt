@@ -1,5 +1,9 @@
 -- The contract of an operation.
-use Rattle.std.specs.Prelude.{◌≡◌, false, None, Result, Ok, Err}
+use Rattle.std.specs.Prelude.{◌≡◌, false, None, IsTrue, Result, Ok, Err}
+use Rattle.alt_base.specs.Counts.{Rose}
+use Rattle.alt_disk.specs.Disk.{DiskState, Goes}
+use Rattle.alt_disk.specs.Runs.{Quiet}
+use Rattle.alt_tables.specs.Images.{Leaves}
 use Rattle.serde_json.specs.View.{view}
 use Rattle.serde_json.specs.Written.{has_float}
 use Rattle.alt_machine.specs.Outcomes.{Outcome, last_state}
@@ -10,7 +14,8 @@ use Rattle.alt_request.specs.declared.stop.Stop.TheVariants.{Refused, Fault}
 use Rattle.alt_shape.specs.Refusals.{Answer, answer_of, refused, IsKnown}
 use Rattle.alt_shape.specs.declared.refusal.Reply.{Reply}
 use Rattle.alt_tables.specs.Faults.{BreakOff}
-use Rattle.alt_tables.specs.declared.faults.TableFault.TheVariants.{NoMemory}
+use Rattle.alt_tables.specs.declared.faults.TableFault.{TableFault}
+use Rattle.alt_tables.specs.declared.faults.TableFault.TheVariants.{Spent, Damaged, BadRow, Failed, NoMemory}
 
 -- Below, `old` and `now` say for which states the tables stand before and after a call.
 
@@ -44,3 +49,35 @@ pub record Carries (outcome : State → Outcome) (old now : State → Type 0)
     (result : Result Reply Stop) : Type 0 where
   pub does : (s : State) → old s → Does now s (outcome s) result
   pub plain : IsPlain result
+
+-- ---- the disk
+
+-- of a refusal this holds
+abbrev pub IfRefused : Result Reply Stop → Type 0 → Type 0
+IfRefused (Ok reply) P = Unit {0}
+IfRefused (Err (Refused r)) P = P
+IfRefused (Err (Fault fault)) P = Unit {0}
+
+-- of a failure of the device this holds
+abbrev pub WhereFailed : TableFault → Type 0 → Type 0
+WhereFailed (Spent number) P = Unit {0}
+WhereFailed (Damaged file at) P = Unit {0}
+WhereFailed (BadRow family key) P = Unit {0}
+WhereFailed Failed P = P
+WhereFailed NoMemory P = Unit {0}
+
+-- so of what stopped an operation
+abbrev pub IfFailed : Result Reply Stop → Type 0 → Type 0
+IfFailed (Ok reply) P = Unit {0}
+IfFailed (Err (Refused r)) P = Unit {0}
+IfFailed (Err (Fault fault)) P = WhereFailed fault P
+
+-- What a call does to the disk that carries a request out, which has this outcome in each state for which the tables stood: it leaves
+-- what the writes of the request leave, or the first of them; a refusal leaves every file, where the disk tells them; and the device
+-- failed only where the count of its faults rose.
+pub record Moves (outcome : State → Outcome) (old : State → Type 0) (before after : DiskState)
+    (result : Result Reply Stop) : Type 0 where
+  pub goes : Goes before after
+  pub leaves : (s : State) → old s → Leaves before after s (outcome s).atoms
+  pub refused : IfRefused result (IsTrue before.tells → Quiet before after)
+  pub failed : IfFailed result (Rose before.faults after.faults)

@@ -7,7 +7,7 @@ use alt_shape::Refusal;
 use alt_tables::TableFault;
 
 /// A request is refused, or a fault ends the run.
-#[derive(Clone, Copy, Debug, PartialEq, Eq, Drop)]
+#[derive(Debug, Drop)]
 pub enum Stop {
     Refused(Refusal),
     Fault(TableFault),

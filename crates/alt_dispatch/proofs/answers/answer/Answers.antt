@@ -1,6 +1,6 @@
 -- What was carried out, once its refusal is told.
 use Rattle.alt_machine.specs.Step.{step}
-use Rattle.alt_dispatch.proofs.Settling.{settled, settled_valid}
+use Rattle.alt_dispatch.proofs.Settling.{settled, settled_valid, told_failed}
 use Rattle.alt_tables.specs.Stands.{Stands}
 use Rattle.alt_dispatch.proofs.answers.answer.Goals as goal
 
@@ -16,3 +16,13 @@ returns-clause-valid g c s stands =
     settled_valid (Stands (g.D.Disk.state c.respond-carried.new.disk) c.respond-carried.new.tables)
     s (step s c.args.operation c.args.body.now c.args.moment)
     c.told.result (λ r now. now.valid) (returns-clause-settles g c s stands)
+
+pub returns-clause-leaves : goal.returns-clause-leaves
+returns-clause-leaves g c s stands = c.respond-carried.ensures.moves.leaves s stands
+
+pub returns-clause-goes : goal.returns-clause-goes
+returns-clause-goes g c = c.respond-carried.ensures.moves.goes
+
+pub returns-clause-cause : goal.returns-clause-cause
+returns-clause-cause g c = told_failed _ c.respond-carried.result c.told.result
+    c.respond-carried.ensures.moves.failed c.told.ensures.told

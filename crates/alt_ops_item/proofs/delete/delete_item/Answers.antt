@@ -1,5 +1,5 @@
 -- The key isn't reached, or its item is taken out where the condition holds.
-use Rattle.std.proofs.Common.{◌≡◌, sym, ap, ℕ, Option, is_some}
+use Rattle.std.proofs.Common.{◌≡◌, refl, sym, ap, ℕ, Option, is_some}
 use Rattle.serde_json.specs.Data.{Members}
 use Rattle.serde_json.specs.View.{members_view}
 use Rattle.alt_machine.specs.declared.Sought.TheVariants.{Key}
@@ -9,9 +9,10 @@ use Rattle.alt_machine.specs.Ops.DeleteItem.{rules, deletes, delete_item}
 use Rattle.alt_machine.specs.State.{State}
 use Rattle.alt_machine.specs.Targets.{on_item}
 use Rattle.alt_request.proofs.Carrying.{item_passed, item_done}
+use Rattle.alt_request.proofs.Moving.{moves_stopped, item_moved, item_unfailed}
 use Rattle.alt_shape.specs.Bodies as bodies
 use Rattle.alt_shape.specs.declared.rule.Broken.{Broken}
-use Rattle.alt_tables.specs.Stands.{Stands}
+use Rattle.alt_tables.specs.Stands.{Stands, catalog_of}
 use Rattle.alt_ops_item.proofs.delete.delete_item.Goals as goal
 
 is : (moment : ℕ) (ms : Members) (broken : Option Broken) → broken ≡ bodies.delete_item ms
@@ -46,3 +47,22 @@ returns-clause-carried g c =
     c.in_ok-target.target c.in_ok-target.ensures.target
     c.write_if.result c.write_if.ensures.plain
     (λ s t stands there same. c.write_if.ensures.does s t stands there)
+
+pub returns-in_err-target-clause-moves : goal.returns-in_err-target-clause-moves
+returns-in_err-target-clause-moves g c =
+    let ms : Members = members_view c.args.body.now.entries in
+    moves_stopped (λ s. delete_item s c.args.moment ms) c.args.tables.now
+    (g.D.Disk.state c.args.disk.now)
+    c.from_residual.result c.in_err-target.field-0.0 c.from_residual.ensures
+    (item_unfailed _ (body_refusals c.delete_item-broken.result rules ms) Key conditional
+    (catalog_of c.args.tables.now) ms c.in_err-target.field-0.0 c.in_err-target.ensures.target)
+
+pub returns-clause-moves : goal.returns-clause-moves
+returns-clause-moves g c =
+    let ms : Members = members_view c.args.body.now.entries in
+    item_moved (g.D.Disk.state c.args.disk.now) (g.D.Disk.state c.write_if.new.disk)
+    c.args.tables.now (body_refusals c.delete_item-broken.result rules ms) ms
+    (λ s. delete_item s c.args.moment ms) Key conditional (λ s. deletes s c.args.moment ms)
+    (is c.args.moment ms c.delete_item-broken.result c.delete_item-broken.ensures)
+    c.in_ok-target.target c.in_ok-target.ensures.target _ (λ s t same. refl) c.write_if.result
+    c.write_if.ensures.moves

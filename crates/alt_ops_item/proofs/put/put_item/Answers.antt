@@ -1,18 +1,17 @@
 -- The item isn't reached or is refused in its table, or it is put where the condition holds.
-use Rattle.std.proofs.Common.{◌≡◌, sym, ap, subst, ◌∙◌, is_some, Some}
-use Rattle.std.specs.FinMap as map
+use Rattle.std.proofs.Common.{◌≡◌, sym, ap, subst, ◌∙◌, is_some, Err}
 use Rattle.serde_json.specs.Data.{Members}
 use Rattle.serde_json.specs.View.{members_view}
 use Rattle.alt_machine.specs.declared.Sought.TheVariants.{Item}
 use Rattle.alt_machine.specs.Body.{body_refusals}
 use Rattle.alt_machine.specs.Expressions.{conditional}
-use Rattle.alt_machine.specs.Members.{table_name}
 use Rattle.alt_machine.specs.Ops.PutItem.{rules, of_item, puts, put_item}
 use Rattle.alt_machine.specs.State.{State}
 use Rattle.alt_machine.specs.Valid.{IsStored}
 use Rattle.alt_ops_item.proofs.Placing.{same_Some}
 use Rattle.alt_ops_item.proofs.Putting.{put_is, puts-refused, puts-written, may_be_put}
-use Rattle.alt_request.specs.Carried.{Carries, Does}
+use Rattle.alt_request.specs.Carried.{Does}
+use Rattle.alt_request.proofs.Moving.{moves_stopped, moves_nothing, item_moved, item_unfailed, tested_unfailed}
 use Rattle.alt_request.proofs.Carrying.{untested, item_passed, item_reached, item_done}
 use Rattle.alt_schema.specs.declared.schema.TableSchema.{TableSchema}
 use Rattle.alt_tables.specs.Stands.{Stands, catalog_of}
@@ -72,3 +71,32 @@ returns-clause-carried g c =
     c.in_ok-target.target.place c.in_ok-target.target.schema.now same
     c.in-Ok.ensures.tested))
     (c.write_if.ensures.does s t stands there))
+
+pub returns-in_err-target-clause-moves : goal.returns-in_err-target-clause-moves
+returns-in_err-target-clause-moves g c =
+    let ms : Members = members_view c.args.body.now.entries in
+    moves_stopped (λ s. put_item s c.args.moment ms) c.args.tables.now
+    (g.D.Disk.state c.args.disk.now)
+    c.from_residual.result c.in_err-target.field-0.0 c.from_residual.ensures
+    (item_unfailed _ (body_refusals c.put_item-broken.result rules ms) Item conditional
+    (catalog_of c.args.tables.now) ms c.in_err-target.field-0.0 c.in_err-target.ensures.target)
+
+pub returns-in-Err-clause-moves : goal.returns-in-Err-clause-moves
+returns-in-Err-clause-moves g c =
+    moves_nothing (λ s. put_item s c.args.moment (members_view c.args.body.now.entries))
+    c.args.tables.now (g.D.Disk.state c.args.disk.now) (Err c.in-Err.stop)
+    (tested_unfailed _ (of_item c.in_ok-target.target.schema.now c.in_ok-target.target.item)
+    c.in-Err.stop c.in-Err.ensures.tested)
+
+pub returns-clause-moves : goal.returns-clause-moves
+returns-clause-moves g c =
+    let ms : Members = members_view c.args.body.now.entries in
+    item_moved (g.D.Disk.state c.args.disk.now) (g.D.Disk.state c.write_if.new.disk)
+    c.args.tables.now (body_refusals c.put_item-broken.result rules ms) ms
+    (λ s. put_item s c.args.moment ms) Item conditional (λ s. puts s c.args.moment ms)
+    (put_is c.args.moment ms c.put_item-broken.result c.put_item-broken.ensures)
+    c.in_ok-target.target c.in_ok-target.ensures.target _
+    (λ s t same. puts-written s c.args.moment ms c.in_ok-target.target.said
+    c.in_ok-target.target.item t c.in_ok-target.target.place c.in_ok-target.target.schema.now same
+    c.in-Ok.ensures.tested)
+    c.write_if.result c.write_if.ensures.moves

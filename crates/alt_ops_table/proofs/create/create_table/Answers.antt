@@ -5,13 +5,15 @@ use Rattle.serde_json.specs.View.{members_view}
 use Rattle.alt_machine.specs.Ops.CreateTable.{with_table, created, create_table}
 use Rattle.alt_machine.specs.Outcomes.{makes, a_table}
 use Rattle.alt_machine.specs.State.{State}
-use Rattle.alt_ops_table.proofs.Asking.{asked_stops, to_be_made, is_made, has_number, has_family, made_alike, broken_alike, lacks_nothing}
-use Rattle.alt_request.specs.Carried.{Carries}
+use Rattle.alt_ops_table.proofs.Asking.{asked_stops, to_be_made, is_made, has_number, has_family, made_alike, broken_alike, lacks_nothing, asked_unfailed, left_alike}
+use Rattle.alt_request.specs.Carried.{Carries, Moves}
 use Rattle.alt_request.specs.declared.stop.Stop.TheVariants.{Fault}
 use Rattle.alt_request.proofs.Carrying.{broke_off, wrote, faulted_as}
+use Rattle.alt_request.proofs.Moving.{moves_stopped, memory_unfailed, failed_fault}
 use Rattle.alt_request.proofs.Reaching.{err_is}
 use Rattle.alt_schema.specs.Described.{description_of}
 use Rattle.alt_schema.specs.declared.schema.TableSchema.{TableSchema}
+use Rattle.alt_tables.specs.Images.{Leaves}
 use Rattle.alt_tables.specs.Stands.{Stands}
 use Rattle.alt_ops_table.proofs.create.create_table.Goals as goal
 
@@ -92,3 +94,60 @@ returns-clause-carried g c =
           ∙ sym c.in_ok-reply.ensures.reply),
       wrote,
     ))
+
+pub returns-in_err-schema-clause-moves : goal.returns-in_err-schema-clause-moves
+returns-in_err-schema-clause-moves g c =
+    let ms : Members = members_view c.args.body.now.entries in
+    moves_stopped (λ s. create_table s c.args.moment ms) c.args.tables.now
+    (g.D.Disk.state c.args.disk.now)
+    c.from_residual.result c.in_err-schema.field-0.0 c.from_residual.ensures
+    (asked_unfailed _ c.args.tables.now c.args.moment ms c.in_err-schema.field-0.0
+    c.in_err-schema.ensures.asked)
+
+pub returns-in_err-reply-clause-moves : goal.returns-in_err-reply-clause-moves
+returns-in_err-reply-clause-moves g c =
+    moves_stopped (λ s. create_table s c.args.moment (members_view c.args.body.now.entries))
+    c.args.tables.now (g.D.Disk.state c.args.disk.now)
+    c.from_residual-in_err-reply.result c.in_err-reply.field-0.0 c.from_residual-in_err-reply.ensures
+    (memory_unfailed _ c.in_err-reply.field-0.0 c.in_err-reply.ensures.cause)
+
+pub returns-in_err-create-clause-moves : goal.returns-in_err-create-clause-moves
+returns-in_err-create-clause-moves g c =
+    let ms : Members = members_view c.args.body.now.entries in
+    let before = g.D.Disk.state c.args.disk.now in
+    let later = g.D.Disk.state c.create.new.disk in
+    subst (Moves (λ s. create_table s c.args.moment ms) (Stands before c.args.tables.now) before later)
+    (sym (err_is c.from_residual-in_err-create.result
+    (Fault c.in_err-create.field-0.0) c.from_residual-in_err-create.ensures))
+    (record {
+      goes = c.in_err-create.ensures.goes;
+      leaves = λ s stands.
+          let d : TableSchema = description_of ms c.args.moment s.next_number s.next_family in
+          let made = to_be_made c.args.tables.now before c.args.moment ms
+          c.in_ok-schema.schema c.in_ok-schema.ensures.asked s stands in
+          subst (λ o. Leaves before later s o.atoms) (sym made.0)
+          (left_alike before later c.args.tables.now s stands (with_table s c.in_ok-schema.schema)
+          (with_table s d) (λ free. ap (λ (x : TableSchema). with_table s x) (made.1 free))
+          c.in_err-create.ensures.lacking (c.in_err-create.ensures.disk s stands));
+      refused = tt;
+      failed = failed_fault c.in_err-create.field-0.0 _ c.in_err-create.ensures.cause;
+    })
+
+pub returns-clause-moves : goal.returns-clause-moves
+returns-clause-moves g c =
+    let ms : Members = members_view c.args.body.now.entries in
+    let before = g.D.Disk.state c.args.disk.now in
+    let later = g.D.Disk.state c.create.new.disk in
+    record {
+      goes = c.in_ok-create.ensures.goes;
+      leaves = λ s stands.
+          let d : TableSchema = description_of ms c.args.moment s.next_number s.next_family in
+          let made = to_be_made c.args.tables.now before c.args.moment ms
+          c.in_ok-schema.schema c.in_ok-schema.ensures.asked s stands in
+          subst (λ o. Leaves before later s o.atoms) (sym made.0)
+          (left_alike before later c.args.tables.now s stands (with_table s c.in_ok-schema.schema)
+          (with_table s d) (λ free. ap (λ (x : TableSchema). with_table s x) (made.1 free))
+          c.in_ok-create.ensures.lacking (c.in_ok-create.ensures.disk s stands));
+      refused = tt;
+      failed = tt;
+    }

@@ -8,15 +8,17 @@ use Rattle.alt_machine.specs.Members.{table_name}
 use Rattle.alt_machine.specs.Outcomes.{writes, a_number}
 use Rattle.alt_machine.specs.State.{State}
 use Rattle.alt_machine.specs.Targets.{on_table}
-use Rattle.alt_request.specs.Carried.{Carries}
+use Rattle.alt_request.specs.Carried.{Carries, Moves}
 use Rattle.alt_request.specs.declared.stop.Stop.TheVariants.{Fault}
 use Rattle.alt_request.proofs.Carrying.{table_passed, table_reached, broke_off, wrote}
+use Rattle.alt_request.proofs.Moving.{moves_stopped, table_unfailed, memory_unfailed, failed_fault}
 use Rattle.alt_request.proofs.Reaching.{err_is}
 use Rattle.alt_schema.specs.declared.schema.TableSchema.{TableSchema}
 use Rattle.alt_shape.specs.Bodies as bodies
 use Rattle.alt_shape.specs.declared.rule.Broken.{Broken}
+use Rattle.alt_tables.specs.Images.{Leaves}
 use Rattle.alt_tables.specs.Faults.{AreMade, BreakOff}
-use Rattle.alt_tables.specs.Stands.{Stands}
+use Rattle.alt_tables.specs.Stands.{Stands, catalog_of}
 use Rattle.alt_ops_table.proofs.delete.delete_table.Goals as goal
 
 is : (ms : Members) (broken : Option Broken) → broken ≡ bodies.delete_table ms → (s : State)
@@ -79,3 +81,61 @@ returns-clause-carried g c =
       subst (λ (name : List ℕ). AreMade now a_number s (without_table s name ∷ []))
           c.table_name.ensures.name (c.in_ok-drop_table.ensures.writes s stands),
     ))
+
+pub returns-in_err-schema-clause-moves : goal.returns-in_err-schema-clause-moves
+returns-in_err-schema-clause-moves g c =
+    let ms : Members = members_view c.args.body.now.entries in
+    moves_stopped (λ s. delete_table s ms) c.args.tables.now (g.D.Disk.state c.args.disk.now)
+    c.from_residual.result c.in_err-schema.field-0.0 c.from_residual.ensures
+    (table_unfailed _ (body_refusals c.delete_table.result rules ms) (catalog_of c.args.tables.now) ms
+    c.in_err-schema.field-0.0 c.in_err-schema.ensures.target)
+
+pub returns-in_err-reply-clause-moves : goal.returns-in_err-reply-clause-moves
+returns-in_err-reply-clause-moves g c =
+    moves_stopped (λ s. delete_table s (members_view c.args.body.now.entries)) c.args.tables.now
+    (g.D.Disk.state c.args.disk.now)
+    c.from_residual-in_err-reply.result c.in_err-reply.field-0.0 c.from_residual-in_err-reply.ensures
+    (memory_unfailed _ c.in_err-reply.field-0.0 c.in_err-reply.ensures.cause)
+
+pub returns-in_err-drop_table-clause-moves : goal.returns-in_err-drop_table-clause-moves
+returns-in_err-drop_table-clause-moves g c =
+    let ms : Members = members_view c.args.body.now.entries in
+    let before = g.D.Disk.state c.args.disk.now in
+    let later = g.D.Disk.state c.drop_table.new.disk in
+    subst (Moves (λ s. delete_table s ms) (Stands before c.args.tables.now) before later)
+    (sym (err_is c.from_residual-in_err-drop_table.result
+    (Fault c.in_err-drop_table.field-0.0) c.from_residual-in_err-drop_table.ensures))
+    (record {
+      goes = c.in_err-drop_table.ensures.goes;
+      leaves = λ s stands.
+          let at = table_reached before c.args.tables.now
+          (body_refusals c.delete_table.result rules ms) ms (λ s. delete_table s ms)
+          (λ s t. writes (without_table s (table_name ms) ∷ []) (deleted t.description))
+          (is ms c.delete_table.result c.delete_table.ensures)
+          c.in_ok-schema.schema c.in_ok-schema.ensures.target s stands in
+          subst (λ o. Leaves before later s o.atoms) (sym at.3)
+          (subst (λ (name : List ℕ). Leaves before later s (without_table s name ∷ []))
+          c.table_name.ensures.name (c.in_err-drop_table.ensures.disk s stands));
+      refused = tt;
+      failed = failed_fault c.in_err-drop_table.field-0.0 _ c.in_err-drop_table.ensures.cause;
+    })
+
+pub returns-clause-moves : goal.returns-clause-moves
+returns-clause-moves g c =
+    let ms : Members = members_view c.args.body.now.entries in
+    let before = g.D.Disk.state c.args.disk.now in
+    let later = g.D.Disk.state c.drop_table.new.disk in
+    record {
+      goes = c.in_ok-drop_table.ensures.goes;
+      leaves = λ s stands.
+          let at = table_reached before c.args.tables.now
+          (body_refusals c.delete_table.result rules ms) ms (λ s. delete_table s ms)
+          (λ s t. writes (without_table s (table_name ms) ∷ []) (deleted t.description))
+          (is ms c.delete_table.result c.delete_table.ensures)
+          c.in_ok-schema.schema c.in_ok-schema.ensures.target s stands in
+          subst (λ o. Leaves before later s o.atoms) (sym at.3)
+          (subst (λ (name : List ℕ). Leaves before later s (without_table s name ∷ []))
+          c.table_name.ensures.name (c.in_ok-drop_table.ensures.disk s stands));
+      refused = tt;
+      failed = tt;
+    }

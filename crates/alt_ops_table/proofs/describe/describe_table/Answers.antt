@@ -8,10 +8,11 @@ use Rattle.alt_machine.specs.Outcomes.{says}
 use Rattle.alt_machine.specs.State.{State}
 use Rattle.alt_machine.specs.Targets.{on_table}
 use Rattle.alt_request.proofs.Carrying.{said_or_not, table_passed, table_reached}
+use Rattle.alt_request.proofs.Moving.{moves_stopped, moves_nothing, table_unfailed, reply_unfailed}
 use Rattle.alt_schema.specs.declared.schema.TableSchema.{TableSchema}
 use Rattle.alt_shape.specs.Bodies as bodies
 use Rattle.alt_shape.specs.declared.rule.Broken.{Broken}
-use Rattle.alt_tables.specs.Stands.{Stands}
+use Rattle.alt_tables.specs.Stands.{Stands, catalog_of}
 use Rattle.alt_ops_table.proofs.describe.describe_table.Goals as goal
 
 is : (ms : Members) (broken : Option Broken) → broken ≡ bodies.describe_table ms → (s : State)
@@ -44,3 +45,17 @@ returns-clause-carried g c =
     (λ s t. says (described t.description)) (is ms c.describe_table.result c.describe_table.ensures)
     c.in_ok-schema.schema c.in_ok-schema.ensures.target s stands in
     at.3 ∙ ap (λ (d : TableSchema). says (described d)) at.2) (λ s stands. stands)
+
+pub returns-in_err-schema-clause-moves : goal.returns-in_err-schema-clause-moves
+returns-in_err-schema-clause-moves g c =
+    let ms : Members = members_view c.args.body.now.entries in
+    moves_stopped (λ s. describe_table s ms) c.args.tables.now (g.D.Disk.state c.args.disk.now)
+    c.from_residual.result c.in_err-schema.field-0.0 c.from_residual.ensures
+    (table_unfailed _ (body_refusals c.describe_table.result rules ms) (catalog_of c.args.tables.now) ms
+    c.in_err-schema.field-0.0 c.in_err-schema.ensures.target)
+
+pub returns-clause-moves : goal.returns-clause-moves
+returns-clause-moves g c =
+    moves_nothing (λ s. describe_table s (members_view c.args.body.now.entries)) c.args.tables.now
+    (g.D.Disk.state c.args.disk.now) c.described.result
+    (reply_unfailed _ c.described.result c.described.ensures.cause)

@@ -1,5 +1,5 @@
 -- The text first, and then whether each word stands in it.
-use Rattle.std.proofs.Common.{◌≡◌, ap, sym, subst, ◌∙◌, List, ℕ, Option, Err, Bor, option_map, arith}
+use Rattle.std.proofs.Common.{sym, subst, ◌∙◌, option_map, arith}
 use Rattle.serde_json.specs.Data.{Members}
 use Rattle.serde_json.specs.View.{members_view}
 use Rattle.alt_machine.specs.declared.Expressions.{Expressions}

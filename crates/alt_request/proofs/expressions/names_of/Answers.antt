@@ -1,5 +1,5 @@
 -- The first name that is refused, or all of them.
-use Rattle.std.proofs.Common.{◌≡◌, sym, ap, ◌∙◌, Ok}
+use Rattle.std.proofs.Common.{sym, ap, ◌∙◌, Ok}
 use Rattle.serde_json.specs.View.{members_view}
 use Rattle.alt_request.proofs.Said.{names_free, names_read, names_refused, names_known}
 use Rattle.alt_request.proofs.expressions.names_of.Goals as goal

@@ -1,5 +1,5 @@
 -- What the parser answers of the text is what the text states.
-use Rattle.std.proofs.Common.{◌≡◌, ap, ◌∙◌, sym, subst, List, ℕ, Option, Some, None, Ok, Err, Bor, option_map}
+use Rattle.std.proofs.Common.{ap, ◌∙◌, sym, subst, List, ℕ, Option, Err, Bor, option_map}
 use Rattle.alt_expr.specs.Given.{with_hashes, with_colons}
 use Rattle.alt_expr.specs.Lookups.{given_by}
 use Rattle.alt_expr.specs.NamesGiven.{used_names, used_values}

@@ -1,11 +1,10 @@
 -- Each step in turn, as the machine has it.
-use Rattle.std.proofs.Common.{List, Option, sym, subst, arith}
+use Rattle.std.proofs.Common.{List, Option, sym, subst}
 use Rattle.std.specs.FinMap as map
 use Rattle.serde_json.specs.Data.{Members}
 use Rattle.serde_json.specs.View.{members_view}
 use Rattle.alt_machine.specs.Body.{body_refusals}
 use Rattle.alt_machine.specs.Members.{table_name}
-use Rattle.alt_machine.specs.Targets.{place_in}
 use Rattle.alt_request.specs.Steps.{rules_of}
 use Rattle.alt_request.specs.Targets.{OnItem}
 use Rattle.alt_request.specs.Words.{given_of, texts_of}
@@ -14,7 +13,7 @@ use Rattle.alt_shape.specs.Refusals.{Answer}
 use Rattle.alt_shape.specs.declared.rule.Broken.{Broken}
 use Rattle.alt_request.proofs.Named.{some_found}
 use Rattle.alt_request.proofs.Reaching.{err_is, untaken, unread, no_words, no_table, unsaid, unplaced, fits_so}
-use Rattle.alt_shape.specs.Refusals.{not_found, bad_key}
+use Rattle.alt_shape.specs.Refusals.{not_found}
 use Rattle.alt_tables.specs.Stands.{catalog_of}
 use Rattle.alt_request.proofs.targets.item_target.Goals as goal
 

@@ -1,0 +1,188 @@
+-- What calls do to the disk that read, or that write behind what was read.
+use Rattle.std.proofs.Common.{◌≡◌, ℕ, List, Option, Some, IsTrue, Result, Ok, Err, IfErr, refl, sym, subst, ◌∙◌, arith}
+use Rattle.std.specs.Result.{IsErr, IsErrAnd, IsErrOf}
+use Rattle.std.specs.FinMap as map
+use Rattle.serde_json.specs.Data.{Members}
+use Rattle.alt_base.specs.Counts.{Rose}
+use Rattle.alt_disk.specs.Disk.{DiskState, Goes}
+use Rattle.alt_disk.specs.Runs.{Quiet}
+use Rattle.alt_disk.proofs.Calls.{goes_on}
+use Rattle.alt_machine.specs.declared.Expressions.{Expressions}
+use Rattle.alt_machine.specs.declared.Sought.{Sought}
+use Rattle.alt_machine.specs.Expressions as machine
+use Rattle.alt_machine.specs.Members.{table_name}
+use Rattle.alt_machine.specs.Outcomes.{Outcome}
+use Rattle.alt_machine.specs.State.{State, Table, Texts, new_table}
+use Rattle.alt_machine.specs.Targets.{on_item}
+use Rattle.alt_request.specs.Carried.{IfRefused, IfFailed, WhereFailed, Moves, Says}
+use Rattle.alt_request.specs.Steps.{IsMemory, Tested}
+use Rattle.alt_request.specs.Targets.{OnTable, OnItem, IsAt}
+use Rattle.alt_request.proofs.Carrying.{item_reached}
+use Rattle.alt_request.proofs.Reaching.{err_is}
+use Rattle.alt_request.specs.declared.stop.Stop.{Stop}
+use Rattle.alt_request.specs.declared.stop.Stop.TheVariants.{Refused, Fault}
+use Rattle.alt_request.specs.declared.targets.Target.{Target}
+use Rattle.alt_schema.specs.declared.schema.TableSchema.{TableSchema}
+use Rattle.alt_shape.specs.Refusals.{Answer}
+use Rattle.alt_shape.specs.declared.refusal.Reply.{Reply}
+use Rattle.alt_tables.specs.Faults.{IsReadFault}
+use Rattle.alt_tables.specs.declared.faults.TableFault.{TableFault}
+use Rattle.alt_tables.specs.declared.faults.TableFault.TheVariants.{Spent, Damaged, BadRow, Failed, NoMemory}
+use Rattle.alt_tables.specs.Images.{Leaves}
+use Rattle.alt_tables.specs.Stands.{Stands, Reads, catalog_of}
+use Rattle.alt_tables.specs.declared.tables.Tables.{Tables}
+use Rattle.alt_value.specs.Tree.{Pair}
+use Rattle.alt_tables.proofs.Left.{reads_nothing, leaves_reads, leaves_after}
+
+-- ---- what didn't fail
+
+-- a fault that is want of memory is no failure of the device
+pub unfailed_fault : (f : TableFault) (P : Type 0) → IsReadFault f → WhereFailed f P
+unfailed_fault (Spent n) P h = absurd h
+unfailed_fault (Damaged file at) P h = absurd h
+unfailed_fault (BadRow family key) P h = absurd h
+unfailed_fault Failed P h = absurd h
+unfailed_fault NoMemory P h = tt
+
+-- a call whose failure has its cause
+pub failed_fault : {A : Type 0} (f : TableFault) (P : Type 0)
+    → (IsErrOf {T = A} (Err f) Failed → P) → WhereFailed f P
+failed_fault (Spent n) P h = tt
+failed_fault (Damaged file at) P h = tt
+failed_fault (BadRow family key) P h = tt
+failed_fault Failed P h = h refl
+failed_fault NoMemory P h = tt
+
+module _ (P : Type 0) where
+  -- the tests of a body, of its table, of its item never fail
+  pub tested_unfailed : (tests : List (Option Answer)) (stop : Stop)
+      → Tested {X = Unit {0}} tests (Err stop) → IfFailed (Err stop) P
+  tested_unfailed tests (Refused r) h = tt
+  tested_unfailed tests (Fault f) h = unfailed_fault f P h
+
+  pub table_unfailed : (tests : List (Option Answer)) (catalog : Texts TableSchema) (ms : Members)
+      (stop : Stop) → OnTable tests catalog ms (Err stop) → IfFailed (Err stop) P
+  table_unfailed tests catalog ms (Refused r) h = tt
+  table_unfailed tests catalog ms (Fault f) h = unfailed_fault f P h
+
+  pub item_unfailed : (tests : List (Option Answer)) (sought : Sought) (texts : machine.Texts)
+      (catalog : Texts TableSchema) (ms : Members)
+      (stop : Stop) → OnItem tests sought texts catalog ms (Err stop) → IfFailed (Err stop) P
+  item_unfailed tests sought texts catalog ms (Refused r) h = tt
+  item_unfailed tests sought texts catalog ms (Fault f) h = unfailed_fault f P h
+
+  -- nor does want of memory
+  pub memory_unfailed : (stop : Stop) → IsMemory stop → IfFailed (Err stop) P
+  memory_unfailed stop h = subst (λ e. IfFailed (Err e) P) (sym h) tt
+
+  pub reply_unfailed : (r : Result Reply Stop) → IfErr r IsMemory → IfFailed r P
+  reply_unfailed (Ok reply) h = tt
+  reply_unfailed (Err stop) h = memory_unfailed stop h
+
+  -- nor does an answer
+  pub says_unfailed : (a : Answer) (r : Result Reply Stop) → Says a r → IfFailed r P
+  says_unfailed a (Ok reply) h = tt
+  says_unfailed a (Err (Refused r)) h = tt
+  says_unfailed a (Err (Fault f)) h = subst (λ g. WhereFailed g P) (sym h) tt
+
+-- what holds of a failure may be weakened
+failed_in : (f : TableFault) (P Q : Type 0) → (P → Q) → WhereFailed f P → WhereFailed f Q
+failed_in (Spent n) P Q leads h = tt
+failed_in (Damaged file at) P Q leads h = tt
+failed_in (BadRow family key) P Q leads h = tt
+failed_in Failed P Q leads h = leads h
+failed_in NoMemory P Q leads h = tt
+
+pub failed_on : (r : Result Reply Stop) (P Q : Type 0) → (P → Q) → IfFailed r P → IfFailed r Q
+failed_on (Ok reply) P Q leads h = tt
+failed_on (Err (Refused r)) P Q leads h = tt
+failed_on (Err (Fault f)) P Q leads h = failed_in f P Q leads h
+
+-- a count of faults rose that rose later on
+pub rose_on : (a b c : DiskState) → Goes a b → Rose b.faults c.faults → Rose a.faults c.faults
+rose_on a b c goes rose = grind (arith, goes.faults, rose)
+
+-- ---- what is left
+
+-- every result allows what is true
+pub refused_by : (r : Result Reply Stop) (P : Type 0) → P → IfRefused r P
+refused_by (Ok reply) P p = tt
+refused_by (Err (Refused r)) P p = p
+refused_by (Err (Fault f)) P p = tt
+
+module _ (outcome : State → Outcome) (old : State → Type 0) (tables : Tables) (before : DiskState)
+    (stood : (s : State) → old s → Stands before tables s) where
+  -- calls that read alone
+  pub reads_move : (after : DiskState) (r : Result Reply Stop) → Reads before after
+      → IfFailed r (Rose before.faults after.faults) → Moves outcome old before after r
+  reads_move after r reads failed = record {
+    goes = reads.goes;
+    leaves = λ s h. leaves_reads before after tables s (outcome s).atoms reads (stood s h);
+    refused = refused_by r _ reads.quiet;
+    failed = failed;
+  }
+
+  -- writes behind calls that read
+  pub writes_move : (read after : DiskState) (r : Result Reply Stop) → Reads before read
+      → Goes read after → ((s : State) → old s → Leaves read after s (outcome s).atoms)
+      → IfRefused r (IsTrue before.tells → Quiet before after)
+      → IfFailed r (Rose read.faults after.faults) → Moves outcome old before after r
+  writes_move read after r reads goes leaves refused failed = record {
+    goes = goes_on before read after reads.goes goes;
+    leaves = λ s h. leaves_after before read after tables s (outcome s).atoms reads (stood s h)
+        (leaves s h);
+    refused = refused;
+    failed = failed_on r _ _ (rose_on before read after reads.goes) failed;
+  }
+
+module _ (outcome : State → Outcome) (tables : Tables) (before : DiskState) where
+  -- calls that read alone
+  pub moves_reads : (after : DiskState) (r : Result Reply Stop) → Reads before after
+      → IfFailed r (Rose before.faults after.faults)
+      → Moves outcome (Stands before tables) before after r
+  moves_reads = reads_move outcome (Stands before tables) tables before (λ s stands. stands)
+
+  -- no call at all
+  pub moves_nothing : (r : Result Reply Stop) → IfFailed r (Rose before.faults before.faults)
+      → Moves outcome (Stands before tables) before before r
+  moves_nothing r failed = moves_reads before r (reads_nothing before) failed
+
+  -- no call before an operation stopped
+  pub moves_stopped : (r : Result Reply Stop) (stop : Stop) → IsErr r × IsErrAnd r (λ e. e ≡ stop)
+      → IfFailed (Err stop) (Rose before.faults before.faults)
+      → Moves outcome (Stands before tables) before before r
+  moves_stopped r stop same failed =
+      subst (Moves outcome (Stands before tables) before before) (sym (err_is r stop same))
+      (moves_nothing (Err stop) failed)
+
+  -- what is left of a disk on which no call was made
+  pub leaves_nothing : (after : DiskState) (s : State) (atoms : List State) → after ≡ before
+      → Stands before tables s → Leaves before after s atoms
+  leaves_nothing after s atoms same stands =
+      subst (λ (d : DiskState). Leaves before d s atoms) (sym same)
+      (leaves_reads before before tables s atoms (reads_nothing before) stands)
+
+-- What is done at the place of an item or a key is done for the whole request. It is told of each table that may have its name.
+module _ (before after : DiskState) (tables : Tables) (tests : List (Option Answer)) (ms : Members)
+    (outcome : State → Outcome) (sought : Sought) (texts : machine.Texts)
+    (go : State → Expressions → List Pair → Table → List ℕ → Outcome)
+    (is : (s : State) → outcome s ≡ on_item tests sought texts s ms (go s)) where
+  pub item_moved : (target : Target) → IsAt tests sought texts (catalog_of tables) ms target
+      → (does : State → Table → Outcome)
+      → ((s : State) (t : Table) → t.description ≡ target.schema.now
+      → go s target.said target.item t target.place ≡ does s t) → (r : Result Reply Stop)
+      → ((t : Table) → Moves (λ s. does s t)
+      (λ s. Stands before tables s × (map.get s.tables (table_name ms) ≡ Some t)) before after r)
+      → Moves outcome (Stands before tables) before after r
+  item_moved target h does so r moves =
+      let any = moves (new_table target.schema.now) in
+      record {
+        goes = any.goes;
+        leaves = λ s stands.
+            let at = item_reached before tables tests ms outcome sought texts go is target h s
+            stands in
+            subst (λ (o : Outcome). Leaves before after s o.atoms)
+            (sym (at.3 ∙ so s at.0 at.2)) ((moves at.0).leaves s (stands, at.1));
+        refused = any.refused;
+        failed = any.failed;
+      }

@@ -111,12 +111,7 @@ pub(crate) fn read_items<D: Disk>(
 }
 
 /// Whether a row is that of an item that may stand at its key.
-fn test_item(
-    alloc: Global,
-    schema: &TableSchema,
-    key: &Bytes,
-    row: &ShownRow,
-) -> Result<(), Unread>
+fn test_item(alloc: Global, schema: &TableSchema, key: &Bytes, row: &ShownRow) -> Result<(), Unread>
     ensures item { OnOk result ((item : List Pair) × IsItemAt schema.now key.now row.now item) }
     ensures none { result ≡ Err Unread.Bad → (item : List Pair)
         → IsItemAt schema.now key.now row.now item → ⊥ }
@@ -143,8 +138,10 @@ fn stands_at(
     let Some(place) = place else {
         return Ok(false);
     };
-    Ok(place == *key
-        && key_fits(schema, item)
-        && index_keys_fit(schema, item)
-        && item_size_within(item, LARGEST_ITEM).is_some())
+    Ok(
+        place == *key
+            && key_fits(schema, item)
+            && index_keys_fit(schema, item)
+            && item_size_within(item, LARGEST_ITEM).is_some(),
+    )
 }

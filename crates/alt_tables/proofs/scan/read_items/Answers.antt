@@ -22,19 +22,22 @@ returns-in-Ok-None-clause-read g c tells l reads =
 
 pub returns-in-Err-Bad-clause-wrong : goal.returns-in-Err-Bad-clause-wrong
 returns-in-Err-Bad-clause-wrong g c tells l reads =
-    let first : IsFirstFrom l c.args.schema.now.family c.rows.from c.in-Ok-Some.next.0 c.in-Ok-Some.next.1 =
+    let first : IsFirstFrom l c.args.schema.now.family c.rows.from c.in-Ok-Some.next.0
+    c.in-Ok-Some.next.1 =
     subst (IsNextRow l c.args.schema.now.family c.rows.from) c.in-Ok-Some.field-0-is
     (c.in-Ok-Some.ensures.row
     (subst IsTrue (sym c.rows.invariant.walked.goes.tells) tells) l
     (reads_on (g.D.Disk.state c.args.disk.now) (g.D.Disk.state c.rows.disk) c.args.engine.now
-    c.rows.engine l c.rows.invariant.walked tells reads)) in
-    (refl, record {
-      before = items_next l c.args.schema.now c.rows.from (c.rows.invariant.items tells l reads)
-          c.in-Ok-Some.next.0 c.in-Ok-Some.next.1 first;
-      row = c.in-Ok-Some.next.1;
-      shows = first.shows;
-      none = c.in-Err-Bad.ensures.none (ap (λ f. Err f) c.in-Err-Bad.field-0-is);
-    })
+    c.rows.engine l c.rows.invariant.walked tells reads)) in (
+      refl,
+      record {
+        before = items_next l c.args.schema.now c.rows.from (c.rows.invariant.items tells l reads)
+            c.in-Ok-Some.next.0 c.in-Ok-Some.next.1 first;
+        row = c.in-Ok-Some.next.1;
+        shows = first.shows;
+        none = c.in-Err-Bad.ensures.none (ap (λ f. Err f) c.in-Err-Bad.field-0-is);
+      },
+    )
 
 pub rows-preserved : goal.rows-preserved
 rows-preserved g c = record {
@@ -42,7 +45,8 @@ rows-preserved g c = record {
       (g.D.Disk.state c.next_row.new.disk) c.args.engine.now c.rows.engine c.next_row.new.engine
       c.rows.invariant.walked c.next_row.ensures.walked;
   items = λ tells l reads.
-      let first : IsFirstFrom l c.args.schema.now.family c.rows.from c.in-Ok-Some.next.0 c.in-Ok-Some.next.1 =
+      let first : IsFirstFrom l c.args.schema.now.family c.rows.from c.in-Ok-Some.next.0
+      c.in-Ok-Some.next.1 =
       subst (IsNextRow l c.args.schema.now.family c.rows.from) c.in-Ok-Some.field-0-is
       (c.in-Ok-Some.ensures.row
       (subst IsTrue (sym c.rows.invariant.walked.goes.tells) tells) l

@@ -1,5 +1,5 @@
 -- The rows of a state with a table made or dropped.
-use Rattle.std.proofs.Common.{◌≡◌, ◌≤◌, ◌<◌, ◌+◌, ℕ, Bool, true, false, cond, length, List, [], ◌∷◌, Some, None, refl, sym, ap, subst, ◌∙◌, ◌⊎◌, inl, inr, arith}
+use Rattle.std.proofs.Common.{◌≡◌, ◌≤◌, ◌<◌, ◌+◌, ℕ, Bool, true, false, cond, length, List, [], ◌∷◌, Some, None, refl, sym, ap, subst, ◌∙◌, inl, inr, arith}
 use Rattle.std.proofs.lemmas.Bool.{false≢true}
 use Rattle.std.specs.Prelude.{◌==◌, if◌then◌else◌, option_map, codes}
 use Rattle.std.specs.Int.{w32, to_be_bytes}
@@ -29,7 +29,6 @@ use Rattle.alt_tables.proofs.ChangeLaws.{tied, itself, one_change, two_changes, 
 use Rattle.alt_tables.proofs.ItemRowLaws.{can_show}
 use Rattle.alt_tables.proofs.OneState.{some, nameless}
 use Rattle.alt_tables.proofs.WriteLaws.{family_within}
-use Rattle.alt_value.specs.Tree.{Pair}
 
 -- a row of one column can be shown
 pub one_can_show : (name value : List ℕ) → CanShow (Some (one_column name value))
@@ -115,6 +114,7 @@ module _ (l : Layout) (s : State) (shows : Shows l s) (valid : IsValid s) where
         elsewhere u.description.family key (family_within s other u (valid.tables other u at)).0
         ∙ shows.items other u at key
 
+    -- the rows are then those of the state with the table
     pub shows_creation : Shows (with_write l w) (with_table s d)
     shows_creation = record {
       number = ap (λ n. n + 1) (numbered ∙ shows.number);
@@ -169,6 +169,7 @@ module _ (l : Layout) (s : State) (shows : Shows l s) (valid : IsValid s) where
         kept u.description.family key (family_within s other u (valid.tables other u at_other)).0
         ∙ shows.items other u at_other key
 
+    -- the rows are then those of the state without it
     pub shows_drop : Shows (with_write l w) (without_table s name)
     shows_drop = record {
       number = ap (λ n. n + 1) (numbered ∙ shows.number);

@@ -1,5 +1,5 @@
 -- The columns of an item's row, in order, and the item that is read from them.
-use Rattle.std.proofs.Common.{◌≡◌, ◌<◌, ◌≤◌, ◌+◌, refl, sym, ap, subst, ◌∙◌, ℕ, zero, suc, max, Bool, T, List, [], ◌∷◌, ◌++◌, map, length, get_or, take, drop, Some, None, Result, Ok, Err, slice_get, add-one, arith}
+use Rattle.std.proofs.Common.{◌≡◌, ◌<◌, ◌≤◌, ◌+◌, refl, sym, ap, subst, ◌∙◌, ℕ, zero, suc, T, List, [], ◌∷◌, ◌++◌, map, length, get_or, take, drop, Some, None, Result, Ok, Err, slice_get, add-one, arith}
 use Rattle.std.proofs.Math.Seq.{take-suc}
 use Rattle.std.proofs.lemmas.List.{map-append, take-append-drop}
 use Rattle.std.specs.Result.{IsErr, IsErrAnd}
@@ -14,12 +14,11 @@ use Rattle.alt_cells.proofs.Entries.{both, first, second}
 use Rattle.alt_cellbytes.proofs.Rising.{item_front, with_pair-last}
 use Rattle.alt_machine.specs.Valid.{deepest}
 use Rattle.alt_tables.specs.ItemRows.{column_of, item_columns, IsAttribute, IsReadItem}
-use Rattle.alt_value.specs.CellBytes.{cell_bytes}
 use Rattle.alt_value.specs.Item.{IsItem, with_pair}
 use Rattle.alt_value.specs.Members.{text_order}
 use Rattle.alt_value.specs.Size.{depth, fields_depth}
-use Rattle.alt_value.specs.Tree.{Tree, Pair, NULL_tree, fields_of}
-use Rattle.alt_value.specs.Values.{IsText, IsWhole, IsWholeItem, IsItemOfValues, AreFields, sets_full, fields_full}
+use Rattle.alt_value.specs.Tree.{Pair, fields_of}
+use Rattle.alt_value.specs.Values.{AreFields, sets_full, fields_full}
 
 -- ---- columns in order
 
@@ -140,12 +139,16 @@ pub attribute_at : (ps : List Pair) → AreFields (fields_of ps) → T (fields_f
     → k < length (map column_of ps) → e ≡ get_or (map column_of ps) k e
     → (p : Pair) × IsAttribute p × (e ≡ column_of p)
 attribute_at [] fields full below deep k e within at = absurd (omega arith)
-attribute_at (p ∷ ps) fields full below deep zero e within at = (p, record {
-  named = named p.0 (first _ (below_all text_order [] ps) below);
-  name = fields.0;
-  value = (fields.1, first _ (fields_full (fields_of ps)) full);
-  depth = omega (arith, deep);
-}, at)
+attribute_at (p ∷ ps) fields full below deep zero e within at = (
+  p,
+  record {
+    named = named p.0 (first _ (below_all text_order [] ps) below);
+    name = fields.0;
+    value = (fields.1, first _ (fields_full (fields_of ps)) full);
+    depth = omega (arith, deep);
+  },
+  at,
+)
   where
     named : (name : List ℕ) → T (is_lt (text_order [] name)) → 0 < length name
     named [] h = absurd h
@@ -155,6 +158,7 @@ attribute_at (p ∷ ps) fields full below deep (suc k) e within at =
     (second (is_lt (text_order [] p.0)) _ below) (omega (arith, deep)) k e
     (omega (arith, within)) at
 
+-- each column of an item that was read is an attribute
 pub read_attribute : (ps : List Pair) → IsReadItem ps → (es : List (List ℕ × List ℕ))
     → es ≡ map column_of ps → (k : ℕ) (e : List ℕ × List ℕ) → k < length es → e ≡ get_or es k e
     → (p : Pair) × IsAttribute p × (e ≡ column_of p)
@@ -187,6 +191,7 @@ pub columns_first : (ps : List Pair) (k : ℕ) → IsItem ps
 columns_first ps k is = columns_rise (take k ps)
     (item_front (take k ps) (drop k ps) (subst IsItem (sym (take-append-drop k ps)) is))
 
+-- so many attributes are all
 pub take_all : (ps : List Pair) (k : ℕ) → length ps ≤ k → take k ps ≡ ps
 take_all [] zero h = refl
 take_all [] (suc k) h = refl

@@ -69,21 +69,27 @@ module _ (old new : DiskState) (engine : Engine) (s r : State) (changes : List R
       → Leaves old new s (r ∷ [])
   write_images valid spans = spans_weaker old new IsWritten IsWritten (AfterSome s (r ∷ []))
       (BeforeOrWith holds.layout changes) spans (λ g is. is) (λ t image here. ⊎_elim
-      (λ (is : IsLayout image holds.layout). (0, record {
-        layout = holds.layout;
-        is = is;
-        shows = holds.shows;
-        valid = valid;
-        held = holds.held;
-      }))
-      (λ (is : IsLayout image after). (1, record {
-        layout = after;
-        is = is;
-        shows = turns.shows holds.layout
-            (stands_past old engine holds.layout holds.is) holds.shows;
-        valid = turns.valid;
-        held = turns.held;
-      }))
+      (λ (is : IsLayout image holds.layout). (
+        0,
+        record {
+          layout = holds.layout;
+          is = is;
+          shows = holds.shows;
+          valid = valid;
+          held = holds.held;
+        },
+      ))
+      (λ (is : IsLayout image after). (
+        1,
+        record {
+          layout = after;
+          is = is;
+          shows = turns.shows holds.layout
+              (stands_past old engine holds.layout holds.is) holds.shows;
+          valid = turns.valid;
+          held = turns.held;
+        },
+      ))
       here)
 
   -- after it the rows show the one after

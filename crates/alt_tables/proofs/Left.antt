@@ -1,6 +1,6 @@
 -- What callers of the tables say of the disk: what a call that reads leaves, for which state the tables stand behind it, and for which
 -- state the files stand that a stop leaves.
-use Rattle.std.proofs.Common.{◌≡◌, sym, subst, ℕ, List, Option, IsTrue}
+use Rattle.std.proofs.Common.{sym, subst, ℕ, List, Option, IsTrue}
 use Rattle.std.specs.Prelude.{◌↔◌}
 use Rattle.alt_disk.specs.Disk.{DiskState, Goes, IsImage}
 use Rattle.alt_disk.specs.Runs.{Quiet, Spans}

@@ -1,5 +1,5 @@
 -- The list of the tables and the map that it stands for: what a search found, and what a change there leaves.
-use Rattle.std.proofs.Common.{◌≡◌, refl, true, false, cond, sym, ap, subst, ◌∙◌, ℕ, ◌+◌, ◌<◌, ◌≤◌, List, [], ◌∷◌, length, get_or, set, map, Option, Some, None, option_map, slice_get, MatchOption, Bor, Result, Ok, Err, OnOk, OnErr, arith}
+use Rattle.std.proofs.Common.{◌≡◌, refl, true, false, cond, sym, ap, ◌∙◌, ℕ, ◌+◌, ◌<◌, ◌≤◌, List, [], ◌∷◌, length, get_or, map, Option, Some, None, option_map, slice_get, MatchOption, Bor, arith}
 use Rattle.std.specs.List.{insert, remove, filter, HoldsAt}
 use Rattle.std.specs.List.{find as find_first}
 use Rattle.std.specs.List.Sorted.{IsPartitionPoint}
@@ -13,25 +13,30 @@ use Rattle.alt_machine.specs.State.{Texts}
 use Rattle.alt_value.specs.Members.{text_order}
 use Rattle.alt_tables.specs.Order.{first_after}
 use Rattle.alt_schema.specs.declared.schema.TableSchema.{TableSchema}
-use Rattle.alt_tables.proofs.Named.{entry, IsInOrder, Stands, Goes, stands, goes, find-stands, find-goes, put-stands, put-goes, where_key-stands, where_key-goes, after-stands, after-goes, next_stands, next_goes}
+use Rattle.alt_tables.proofs.Named.{entry, IsInOrder, Stands, Goes, stands, goes, find-stands, find-goes, put-goes, where_key-stands, where_key-goes, after-stands, after-goes, next_stands, next_goes}
 use Rattle.alt_tables.proofs.Sorted.{put-in_order, map-put, where_key-in_order, map-where_key}
 
 -- a description as it is
 abbrev pub itself : TableSchema → TableSchema
 itself d = d
 
+-- the name of a description
 abbrev pub name_of : TableSchema → List ℕ
 name_of e = e.name
 
+-- descriptions with their names
 abbrev pub pairs : List TableSchema → List (List ℕ × TableSchema)
 pairs es = map (entry name_of itself) es
 
+-- their names rise
 abbrev pub AreInOrder : List TableSchema → Type 0
 AreInOrder es = IsInOrder name_of itself es
 
+-- the map that they are
 abbrev pub tables : List TableSchema → Texts TableSchema
 tables es = from_sorted (pairs es)
 
+-- a name is to go to this place
 abbrev pub Parts : List ℕ → List TableSchema → ℕ → Type 0
 Parts name es i = IsPartitionPoint (λ e. text_order (name_of e) name ≡ Less)
     (λ e. text_order (name_of e) name ≡ Greater) es i
@@ -74,14 +79,7 @@ key_of : (o : Option TableSchema) → option_map (λ (p : List ℕ × TableSchem
 key_of None = refl
 key_of (Some e) = refl
 
--- a list with a place has an entry
-some_entry : {E P : Type 0} (es : List E) (i : ℕ) → i < length es → (E → P) → P
-some_entry [] i within p = absurd (omega arith)
-some_entry (e ∷ es) i within p = p e
-
-same_Some : {A : Type 0} (x y : A) → Some x ≡ Some y → x ≡ y
-same_Some x y e = cc
-
+-- what is there isn't missing
 pub not_both : {X P : Type 0} (o : Option X) (x : X) → o ≡ Some x → o ≡ None → P
 not_both o x some none = let e : Some x ≡ None = sym some ∙ none in cc
 
@@ -97,22 +95,26 @@ module _ (name : List ℕ) (es : List TableSchema) (i : ℕ) (sorted : AreInOrde
     here : Stands name_of itself name es i
     here = stands name_of itself name es i sorted within same
 
+    -- the map has it
     pub get-found : (d : TableSchema) → map.get (tables es) name ≡ Some (itself (get_or es i d))
     get-found d = get-from_sorted text_order (pairs es) name sorted
         ∙ find-stands name_of itself name es i d here
 
+    -- the next table behind it
     pub after-found : first_after name (tables es) ≡ option_map itself (slice_get es (i + 1))
     after-found = ap (λ ps. option_map (λ p. p.1)
         (find_first (λ p. is_lt (text_order name p.0)) ps))
         (entries-from_sorted text_order (pairs es) sorted)
         ∙ after-stands name_of itself name es i sorted here
 
+    -- and the name of that
     pub name-found : slice_get (names_after name (tables es)) 0
         ≡ option_map name_of (slice_get es (i + 1))
     name-found = first_of ∙ ap (option_map (λ p. p.0))
         (next_stands name_of itself name es i sorted here)
         ∙ key_of _ ∙ ap (λ k. option_map name_of (slice_get es k)) (omega arith)
 
+    -- what is left without it
     pub removed : (fs : List TableSchema) → fs ≡ remove es i
         → AreInOrder fs × (tables fs ≡ map.remove (tables es) name)
     removed fs is =
@@ -124,24 +126,29 @@ module _ (name : List ℕ) (es : List TableSchema) (i : ℕ) (sorted : AreInOrde
     there : Goes name_of itself name es i
     there = goes name_of itself name es i within apart
 
+    -- the map hasn't it
     pub get-missed : map.get (tables es) name ≡ None
     get-missed = get-from_sorted text_order (pairs es) name sorted
         ∙ find-goes name_of itself name es i there
 
+    -- the next table is the one at the place
     pub after-missed : first_after name (tables es) ≡ option_map itself (slice_get es i)
     after-missed = ap (λ ps. option_map (λ p. p.1)
         (find_first (λ p. is_lt (text_order name p.0)) ps))
         (entries-from_sorted text_order (pairs es) sorted)
         ∙ after-goes name_of itself name es i there
 
+    -- and so is its name
     pub name-missed : slice_get (names_after name (tables es)) 0
         ≡ option_map name_of (slice_get es i)
     name-missed = first_of ∙ ap (option_map (λ p. p.0)) (next_goes name_of itself name es i there)
         ∙ key_of _
 
+    -- nothing is left out
     pub remove-missed : tables es ≡ map.remove (tables es) name
     remove-missed = map-where_key _ _ name sorted (where_key-goes name_of itself name es i there)
 
+    -- what is there with it
     pub added : (fs : List TableSchema) (f : TableSchema) → fs ≡ insert es i f → name_of f ≡ name
         → AreInOrder fs × (tables fs ≡ map.insert (tables es) name (itself f))
     added fs f is named =

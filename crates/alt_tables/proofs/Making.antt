@@ -1,29 +1,27 @@
 -- The writes of the tables: what they leave is what the machine's writes leave.
-use Rattle.std.proofs.Common.{◌≡◌, refl, sym, ap, subst, ◌∙◌, ℕ, ◌+◌, ◌<◌, ◌≤◌, true, false, length, List, [], ◌∷◌, Option, Some, None, Ok, Err, Result, OnOk, IfErr, IfSome, option_map, arith}
-use Rattle.std.specs.Prelude.{if◌then◌else◌, IsErrOf, IsSome}
+use Rattle.std.proofs.Common.{◌≡◌, refl, sym, ap, subst, ◌∙◌, ℕ, ◌+◌, ◌<◌, ◌≤◌, false, length, List, [], ◌∷◌, Option, Some, None, Err, Result, IfSome, arith}
+use Rattle.std.specs.Prelude.{if◌then◌else◌, IsSome}
 use Rattle.std.specs.Result.{IsErrAnd}
 use Rattle.std.proofs.lemmas.Bool.{false≢true}
 use Rattle.std.proofs.lemmas.Result.{err_from_is_err_and}
 use Rattle.std.specs.FinMap as map
 use Rattle.alt_cells.specs.declared.batch.RowChange.{RowChange}
 use Rattle.alt_disk.specs.Disk.{DiskState}
-use Rattle.alt_engine.specs.declared.engine.Engine.{Engine}
 use Rattle.alt_machine.specs.declared.TheConstants.{NUMBERS_END, FAMILIES_END, MOST_FAMILIES, MOST_TABLES}
 use Rattle.alt_machine.specs.Ops.CreateTable.{with_table}
 use Rattle.alt_machine.specs.Ops.DeleteTable.{without_table}
-use Rattle.alt_machine.specs.Outcomes.{Wants, a_number, a_table}
+use Rattle.alt_machine.specs.Outcomes.{Wants, a_table}
 use Rattle.alt_machine.specs.Same.{is_same}
 use Rattle.alt_machine.specs.State.{State, Table, Texts, new_table, families_of}
 use Rattle.alt_machine.specs.Valid.{IsStored, IsMade, IsValid}
 use Rattle.alt_machine.specs.Wanted.{lack_of, table_lack}
 use Rattle.alt_machine.specs.Writes.{with_write, after_item, item_writes}
 use Rattle.alt_machine.proofs.Descriptions.{len-descriptions}
-use Rattle.alt_machine.proofs.Lacks.{lacks_number, has_table, one_has, one_lacks}
+use Rattle.alt_machine.proofs.Lacks.{has_table, one_has, one_lacks}
 use Rattle.alt_schema.specs.Described.{IsNew}
 use Rattle.alt_schema.specs.Held.{IsHeld}
 use Rattle.alt_schema.specs.declared.schema.TableSchema.{TableSchema}
 use Rattle.alt_tables.specs.Faults.{AreMade, BreakOff, IsFindFault, Writes}
-use Rattle.alt_tables.specs.Images.{Leaves}
 use Rattle.alt_tables.specs.Stands.{Holds, Stands, catalog_of, number_of}
 use Rattle.alt_tables.specs.StateRows.{Turns, item_changes, creation_changes, drop_changes}
 use Rattle.alt_tables.specs.declared.faults.TableFault.{TableFault}
@@ -35,6 +33,7 @@ use Rattle.alt_tables.proofs.WriteLaws.{item_turns}
 use Rattle.alt_value.specs.Tree.{Pair}
 use Rattle.alt_value.specs.Values.{IsItemOfValues}
 
+-- what is there is one
 pub same_Some : {A : Type 0} (x y : A) → Some x ≡ Some y → x ≡ y
 same_Some x y e = cc
 
@@ -63,11 +62,6 @@ pub spent : (now : State → Type 0) (wants : Wants) (s r : State) (n : ℕ) →
     → now s → BreakOff now wants s (r ∷ []) (Spent n)
 spent now wants s r n lacks stays = (0, one_lacks wants s r n lacks, stays)
 
--- the number that no write can have
-pub number_lacked : (s : State) (n : ℕ) → n ≡ s.next_number → NUMBERS_END ≤ n
-    → lack_of a_number s ≡ Some n
-number_lacked s n is high = lacks_number s.next_number (omega (arith, is, high)) ∙ ap Some (sym is)
-
 -- one write that failed, or wanted memory
 pub broke : (now : State → Type 0) (wants : Wants) (s r : State) (f : TableFault) → IsFindFault f
     → (f ≡ NoMemory → now s) → BreakOff now wants s (r ∷ []) f
@@ -85,11 +79,7 @@ module _ (before : DiskState) (old : Tables) (s : State) (t : Table) (stands : S
   abbrev after : State
   after = after_item s moment name t place to
 
-  -- nothing is to be written
-  pub item_same : is_same found to ≡ true → item_writes s moment name t place to ≡ []
-  item_same same = ap (λ b. if b then [] else after ∷ []) (ap (λ o. is_same o to) (sym there) ∙ same)
-
-  -- or one write is
+  -- one write is to be made
   pub item_differs : is_same found to ≡ false → item_writes s moment name t place to ≡ after ∷ []
   item_differs differ = ap (λ b. if b then [] else after ∷ [])
       (ap (λ o. is_same o to) (sym there) ∙ differ)
@@ -135,6 +125,7 @@ module _ (before : DiskState) (old : Tables) (s : State) (stands : Stands before
       subst (λ cs. Turns cs s (without_table s name)) (ap drop_changes same ∙ sym is)
       (drop_turns s name t stands.valid stands.rows.held (omega (arith, room, stands.number)) at)
 
+  -- the tables stand for the state without it
   pub drop_stands : (name : List ℕ) (now : DiskState) (new : Tables)
       → Holds now new.engine (without_table s name) → IsValid (without_table s name)
       → new.catalog ≡ map.remove old.catalog name → new.family ≡ old.family
@@ -169,6 +160,7 @@ module _ (before : DiskState) (old : Tables) (s : State) (stands : Stands before
         (omega (arith, few, len-descriptions s.tables, ap map.len stands.catalog))
         (omega (arith, room, stands.number), omega (arith, enough, stands.family)))
 
+    -- the tables stand for the state with it
     pub table_stands : (now : DiskState) (new : Tables) → Holds now new.engine (with_table s d)
         → IsValid (with_table s d) → new.catalog ≡ map.insert old.catalog d.name d
         → new.family ≡ old.family + length (families_of d)

@@ -27,6 +27,7 @@ module _ {E X : Type 0} (name_of : E → List ℕ) (seen : E → X) where
   abbrev pub entry : E → List ℕ × X
   entry e = (name_of e, seen e)
 
+  -- the names rise
   abbrev pub IsInOrder : List E → Type 0
   IsInOrder es = T (is_sorted text_order (map entry es))
 
@@ -101,6 +102,7 @@ module _ {E X : Type 0} (name_of : E → List ℕ) (seen : E → X) where
     pub before : Below name es i
     pub after : Above name es i
 
+  -- an entry of that name at a place
   pub stands : (name : List ℕ) (es : List E) (i : ℕ) → IsInOrder es → i < length es
       → HoldsAt (λ e. name_of e ≡ name) es i → Stands name es i
   stands name es i sorted within same = record {
@@ -110,6 +112,7 @@ module _ {E X : Type 0} (name_of : E → List ℕ) (seen : E → X) where
         (λ d. rw (same d) (tied_itself text_total name));
   }
 
+  -- a place to which the name is to go
   pub goes : (name : List ℕ) (es : List E) (i : ℕ) → i ≤ length es
       → IsPartitionPoint (λ e. text_order (name_of e) name ≡ Less)
       (λ e. text_order (name_of e) name ≡ Greater) es i → Goes name es i
@@ -154,6 +157,7 @@ module _ {E X : Type 0} (name_of : E → List ℕ) (seen : E → X) where
 
   -- ---- a name that stands there
 
+  -- it is found
   pub find-stands : (name : List ℕ) (es : List E) (i : ℕ) (d : E) → Stands name es i
       → find text_order name (map entry es) ≡ Some (seen (get_or es i d))
   find-stands name [] i d s = let w : i < 0 = s.within in absurd (omega arith)
@@ -162,6 +166,7 @@ module _ {E X : Type 0} (name_of : E → List ℕ) (seen : E → X) where
       rw (name_after name (name_of e) (s.before 0 e (omega arith)))
       (find-stands name es i d (later_stands name e es i s))
 
+  -- putting another there sets it
   pub put-stands : (name : List ℕ) (es : List E) (i : ℕ) (f : E) → name_of f ≡ name
       → Stands name es i
       → put text_order name (seen f) (map entry es) ≡ map entry (set es i f)
@@ -174,6 +179,7 @@ module _ {E X : Type 0} (name_of : E → List ℕ) (seen : E → X) where
       (ap (λ (ps : List (List ℕ × X)). entry e ∷ ps)
       (put-stands name es i f n (later_stands name e es i s)))
 
+  -- those of other names are the others
   pub where_key-stands : (name : List ℕ) (es : List E) (i : ℕ) → IsInOrder es → Stands name es i
       → where_key text_order (λ x. not (eq_by_cmp text_order name x)) (map entry es)
       ≡ map entry (remove es i)
@@ -188,6 +194,7 @@ module _ {E X : Type 0} (name_of : E → List ℕ) (seen : E → X) where
 
   -- ---- a name that isn't there
 
+  -- nothing is found
   pub find-goes : (name : List ℕ) (es : List E) (i : ℕ) → Goes name es i
       → find text_order name (map entry es) ≡ None
   find-goes name [] i g = refl
@@ -198,6 +205,7 @@ module _ {E X : Type 0} (name_of : E → List ℕ) (seen : E → X) where
       rw (name_after name (name_of e) (g.before 0 e (omega arith)))
       (find-goes name es i (later_goes name e es i g))
 
+  -- putting one there inserts it
   pub put-goes : (name : List ℕ) (es : List E) (i : ℕ) (f : E) → name_of f ≡ name → Goes name es i
       → put text_order name (seen f) (map entry es) ≡ map entry (insert es i f)
   put-goes name [] zero f n g = rw n refl
@@ -212,6 +220,7 @@ module _ {E X : Type 0} (name_of : E → List ℕ) (seen : E → X) where
       (ap (λ (ps : List (List ℕ × X)). entry e ∷ ps)
       (put-goes name es i f n (later_goes name e es i g)))
 
+  -- all are of other names
   pub where_key-goes : (name : List ℕ) (es : List E) (i : ℕ) → Goes name es i
       → where_key text_order (λ x. not (eq_by_cmp text_order name x)) (map entry es) ≡ map entry es
   where_key-goes name [] i g = refl
@@ -226,6 +235,7 @@ module _ {E X : Type 0} (name_of : E → List ℕ) (seen : E → X) where
 
   -- ---- the first name after a name
 
+  -- the first entry above the name is the one at the place
   pub next_goes : (name : List ℕ) (es : List E) (i : ℕ) → Goes name es i
       → find_first (λ (p : List ℕ × X). is_lt (text_order name p.0)) (map entry es)
       ≡ option_map entry (slice_get es i)
@@ -244,6 +254,7 @@ module _ {E X : Type 0} (name_of : E → List ℕ) (seen : E → X) where
   next_above name other (f ∷ fs) e h = let p : text_order name (name_of f) ≡ Less =
       rw (← e) (less _ (first _ _ h)) in rw p refl
 
+  -- the first entry above the name is the one behind it
   pub next_stands : (name : List ℕ) (es : List E) (i : ℕ) → IsInOrder es → Stands name es i
       → find_first (λ (p : List ℕ × X). is_lt (text_order name p.0)) (map entry es)
       ≡ option_map entry (slice_get es (suc i))
@@ -260,12 +271,14 @@ module _ {E X : Type 0} (name_of : E → List ℕ) (seen : E → X) where
   value_of None = refl
   value_of (Some e) = refl
 
+  -- so is the first after it
   pub after-goes : (name : List ℕ) (es : List E) (i : ℕ) → Goes name es i
       → option_map (λ (p : List ℕ × X). p.1) (find_first (λ p. is_lt (text_order name p.0))
       (map entry es)) ≡ option_map seen (slice_get es i)
   after-goes name es i g = ap (option_map (λ p. p.1)) (next_goes name es i g)
       ∙ value_of (slice_get es i)
 
+  -- so is the first after it
   pub after-stands : (name : List ℕ) (es : List E) (i : ℕ) → IsInOrder es → Stands name es i
       → option_map (λ (p : List ℕ × X). p.1) (find_first (λ p. is_lt (text_order name p.0))
       (map entry es)) ≡ option_map seen (slice_get es (i + 1))

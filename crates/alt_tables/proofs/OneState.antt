@@ -13,7 +13,6 @@ use Rattle.alt_engine.specs.Layout.{Layout, shown}
 use Rattle.alt_engine.proofs.OneWrite.{one_layout}
 use Rattle.alt_machine.specs.State.{State, Table}
 use Rattle.alt_machine.specs.Valid.{IsTable, IsValid}
-use Rattle.alt_schema.specs.Held.{OneSpelling}
 use Rattle.alt_schema.specs.Format.{description_bytes}
 use Rattle.alt_schema.specs.Rules.{is_name}
 use Rattle.alt_schema.proofs.WholeDescriptions.{one_spelling}
@@ -24,6 +23,7 @@ use Rattle.alt_tables.proofs.ItemRowLaws.{item_columns-one}
 use Rattle.alt_value.specs.Tree.{Pair}
 use Rattle.alt_value.specs.Values.{IsWholeItem}
 
+-- what is there is one
 pub some : {A : Type 0} (x y : A) → Some x ≡ Some y → x ≡ y
 some x y e = ap (λ o. unwrap_or o x) e
 

@@ -22,18 +22,22 @@ module _ {X : Type 0} where
   abbrev map_of : List (List ℕ × X) → Texts X
   map_of ps = from_sorted ps
 
+  -- no entries are the empty map
   pub map-nothing : map_of [] ≡ empty
   map-nothing = empty_of_len (map_of []) (len-entries (map_of [])
       ∙ ap length (entries-from_sorted text_order [] tt))
 
+  -- a map is as long as its entries
   pub len-map : (ps : List (List ℕ × X)) → IsInOrder ps → len (map_of ps) ≡ length ps
   len-map ps h = len-entries (map_of ps) ∙ ap length (entries-from_sorted text_order ps h)
 
+  -- entries with one more rise
   pub put-in_order : (ps qs : List (List ℕ × X)) (name : List ℕ) (x : X) → IsInOrder ps
       → put text_order name x ps ≡ qs → IsInOrder qs
   put-in_order ps qs name x h e = subst IsInOrder e
       (is_sorted-put text_order text_total name x ps h)
 
+  -- and are the map with it
   pub map-put : (ps qs : List (List ℕ × X)) (name : List ℕ) (x : X) → IsInOrder ps
       → put text_order name x ps ≡ qs
       → map_of qs ≡ insert (map_of ps) name x
@@ -43,11 +47,13 @@ module _ {X : Type 0} where
       ∙ ap (put text_order name x) (sym (entries-from_sorted text_order ps h))
       ∙ sym (entries-insert text_total (map_of ps) name x))
 
+  -- entries without one rise
   pub where_key-in_order : (ps qs : List (List ℕ × X)) (name : List ℕ) → IsInOrder ps
       → where_key text_order (λ x. not (eq_by_cmp text_order name x)) ps ≡ qs → IsInOrder qs
   where_key-in_order ps qs name h e = subst IsInOrder e
       (is_sorted-where_key text_order (λ x. not (eq_by_cmp text_order name x)) ps h)
 
+  -- and are the map without it
   pub map-where_key : (ps qs : List (List ℕ × X)) (name : List ℕ) → IsInOrder ps
       → where_key text_order (λ x. not (eq_by_cmp text_order name x)) ps ≡ qs
       → map_of qs ≡ remove (map_of ps) name

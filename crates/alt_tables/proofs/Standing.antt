@@ -1,5 +1,5 @@
 -- For which state the tables stand, and what the catalog knows of it.
-use Rattle.std.proofs.Common.{◌≡◌, ◌+◌, refl, sym, ap, subst, ◌∙◌, ℕ, Bool, true, false, cond, List, Option, Some, None, IfSome, IsTrue, option_map, is_some}
+use Rattle.std.proofs.Common.{◌≡◌, refl, sym, ap, subst, ◌∙◌, ℕ, Bool, true, false, cond, List, Option, Some, None, IfSome, IsTrue, option_map}
 use Rattle.std.specs.Prelude.{◌↔◌}
 use Rattle.std.specs.Ordering.{eq_by_cmp}
 use Rattle.std.specs.FinMap as map
@@ -9,13 +9,11 @@ use Rattle.alt_disk.specs.Runs.{Quiet}
 use Rattle.alt_disk.proofs.Runs.{trusted_on, trusted_back, tells_of}
 use Rattle.alt_engine.specs.InHand.{SameEngine, Reads as EngineReads}
 use Rattle.alt_engine.specs.Layout.{Layout, shown}
-use Rattle.alt_engine.specs.declared.engine.Engine.{Engine}
-use Rattle.alt_machine.specs.State.{State, Table, Texts, descriptions, new_table}
-use Rattle.alt_machine.specs.Valid.{IsValid}
+use Rattle.alt_machine.specs.State.{State, Table, Texts, descriptions}
 use Rattle.alt_machine.proofs.Descriptions.{get-descriptions, no_description, table_of_description}
 use Rattle.alt_schema.specs.declared.schema.TableSchema.{TableSchema}
 use Rattle.alt_tables.specs.ItemRows.{IsReadItem, item_columns}
-use Rattle.alt_tables.specs.Stands.{AreReady, Holds, Stands, catalog_of}
+use Rattle.alt_tables.specs.Stands.{AreReady, Stands, catalog_of}
 use Rattle.alt_tables.specs.declared.tables.Tables.{Tables}
 use Rattle.alt_tables.proofs.ChangeLaws.{tied}
 use Rattle.alt_tables.proofs.Holding.{one_held}
@@ -146,10 +144,14 @@ module _ (old new : DiskState) (t u : Tables) (catalog : u.catalog ≡ t.catalog
     valid = stands.valid;
   }
 
+  -- and for nothing else
   pub stays : AreReady old t → (s : State) → Stands old t s ↔ Stands new u s
-  stays ready s = (stays_on s, λ stands.
-      let (r, before) = ready (trusted_back old new goes stands.rows.trusted) in
-      subst (Stands old t) (one_stands new u r s (stays_on r before) stands) before)
+  stays ready s = (
+    stays_on s,
+    λ stands.
+        let (r, before) = ready (trusted_back old new goes stands.rows.trusted) in
+        subst (Stands old t) (one_stands new u r s (stays_on r before) stands) before,
+  )
 
 -- ---- the item that a row shows
 

@@ -123,6 +123,7 @@ module _ (l : Layout) (s : State) (shows : Shows l s) (valid : IsValid s) (momen
             (subst (Contains (families_of t.description)) same (own_family t.description)) in
             false≢true (sym e ∙ ap (λ k. eq_by_cmp key_cmp k name) one ∙ itself name)
 
+    -- the rows are then those of the state with the item
     pub shows_item : Shows (with_write l w) after
     shows_item = record {
       number = ap (λ n. n + 1) (numbered ∙ shows.number);

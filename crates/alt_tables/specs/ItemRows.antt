@@ -1,7 +1,6 @@
 -- The row of an item (docs/formats/table-rows.md): a marker, and a column for each attribute.
 use Rattle.std.specs.Prelude.{◌<◌, ◌≤◌, ℕ, List, [], ◌∷◌, length, map}
 use Rattle.std.specs.FinMap.{from_entries}
-use Rattle.std.specs.Str.{IsUtf8}
 use Rattle.alt_cells.specs.Changes.{Columns}
 use Rattle.alt_machine.specs.Valid.{deepest}
 use Rattle.alt_value.specs.CellBytes.{cell_bytes}

@@ -1,5 +1,5 @@
 -- What the tables in hand stand for, with the disk beneath them.
-use Rattle.std.specs.Prelude.{◌≡◌, ◌⊎◌, ℕ}
+use Rattle.std.specs.Prelude.{◌≡◌, ℕ}
 use Rattle.alt_disk.specs.Disk.{DiskState, IsTrusted, Goes}
 use Rattle.alt_disk.specs.Runs.{Quiet}
 use Rattle.std.specs.Prelude.{IsTrue}

@@ -13,8 +13,8 @@ ghost use Rattle.alt_tables.specs.Opening.{IsLeastAbove, IsNextTable, shares};
 ghost use Rattle.alt_tables.specs.Order.{first_after};
 ghost use Rattle.alt_value.specs.Members.{text_order};
 
-use alt_base::NoMemory;
 use crate::opened::has_family;
+use alt_base::NoMemory;
 use alt_schema::{IndexSchema, TableSchema};
 use std::alloc::Global;
 use std::cmp::Ordering;
@@ -123,7 +123,8 @@ impl Catalog {
     pub(crate) fn above(&self, family: u32) -> Option<&TableSchema>
         ensures above { IsNextTable self.now family (option_map (λ d. d.now) result) }
     {
-        self.entries.get(least_above(self.entries.as_slice(), family))
+        self.entries
+            .get(least_above(self.entries.as_slice(), family))
     }
 }
 
@@ -170,7 +171,9 @@ fn shares(families: &[u32], schema: &TableSchema) -> bool
 fn any_shared(families: &[u32], indexes: &[IndexSchema]) -> bool
     ensures { result ≡ list_any (λ i. list_any (λ g. g == i.family) families.now) indexes.now }
 {
-    indexes.iter().any(|index| has_family(families, index.family))
+    indexes
+        .iter()
+        .any(|index| has_family(families, index.family))
 }
 
 fn has_stream(families: &[u32], stream: Option<u32>) -> bool
@@ -192,7 +195,8 @@ fn least_above(entries: &[TableSchema], family: u32) -> usize
 {
     let mut best = entries.len();
     for (i, schema) in entries.iter().enumerate() {
-        if family < schema.family && (best == entries.len() || schema.family < entries[best].family)
+        if family < schema.family
+            && (best == entries.len() || schema.family < entries[best].family)
         {
             best = i;
         }

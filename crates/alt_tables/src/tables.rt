@@ -192,12 +192,7 @@ impl Tables {
 }
 
 /// The row changes of a new table: its description, and the next family.
-fn creation(
-    alloc: Global,
-    before: u32,
-    after: u32,
-    schema: &TableSchema,
-) -> Result<Batch, NoMemory>
+fn creation(alloc: Global, before: u32, after: u32, schema: &TableSchema) -> Result<Batch, NoMemory>
     requires named { 0 < length schema.now.name }
     ensures changes { IfOk result (λ batch. batch ≡ creation_changes before after schema.now) }
 {

@@ -13,9 +13,11 @@ returns-then-eq-clause-value c = one_entry c.args.row.now c.args.name.now _
     (sym c.as_slice-columns.ensures
     ∙ single c.as_slice-columns.result.now c.index-columns-0.result (omega arith) (omega arith)
     c.index-columns-0.is
-    ∙ (λ i. ((sym c.as_slice.ensures.same ∙ same_bytes c.as_slice.result.now
-    c.args.name.now (sym c.eq.ensures ∙ c.if-eq.true)) i,
-    sym c.as_slice-then-eq.ensures.same i) ∷ []))
+    ∙ (λ i. (
+      (sym c.as_slice.ensures.same ∙ same_bytes c.as_slice.result.now
+          c.args.name.now (sym c.eq.ensures ∙ c.if-eq.true)) i,
+      sym c.as_slice-then-eq.ensures.same i,
+    ) ∷ []))
 
 pub returns-else-eq-clause-none : goal.returns-else-eq-clause-none
 returns-else-eq-clause-none c value same =

@@ -1,8 +1,6 @@
 -- One column more.
-use Rattle.std.proofs.Common.{◌≡◌, ◌≤◌, ◌∙◌, ℕ, List, Err, sym, ap, subst, T, map, arith}
-use Rattle.std.specs.Result.{IsErr, IsErrAnd}
+use Rattle.std.proofs.Common.{◌≤◌, List, Err, sym, ap, subst, T, arith}
 use Rattle.alt_machine.specs.Valid.{deepest}
-use Rattle.alt_tables.specs.ItemRows.{column_of}
 use Rattle.alt_tables.proofs.Columns.{put_more, full_more, depth_more, read_attribute, bad_is}
 use Rattle.alt_value.specs.Size.{fields_depth}
 use Rattle.alt_value.specs.Stands.{tree_of}

@@ -17,8 +17,11 @@ pub returns-clause-item : goal.returns-clause-item
 returns-clause-item c = IfOk-weaker c.item_of_columns.result
     (λ item. IsReadItem item × (c.in-Some.columns.now ≡ map column_of item))
     (λ item. IsReadItem item × (c.args.row.now ≡ item_columns item))
-    (λ item h. (h.0, read_is c.args.row.now c.as_slice.result.now c.in-Some.columns.now item h.0
-    c.as_slice.ensures c.in-Some.ensures.behind h.1)) c.item_of_columns.ensures.item
+    (λ item h. (
+      h.0,
+      read_is c.args.row.now c.as_slice.result.now c.in-Some.columns.now item h.0
+          c.as_slice.ensures c.in-Some.ensures.behind h.1,
+    )) c.item_of_columns.ensures.item
 
 pub returns-clause-none : goal.returns-clause-none
 returns-clause-none c bad item is same = c.item_of_columns.ensures.none bad item is

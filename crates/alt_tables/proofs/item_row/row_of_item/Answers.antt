@@ -1,5 +1,5 @@
 -- One attribute more.
-use Rattle.std.proofs.Common.{◌≡◌, ◌+◌, ◌∙◌, [], ◌∷◌, ◌++◌, ℕ, List, map, take, sym, ap, subst, T, length, arith}
+use Rattle.std.proofs.Common.{◌+◌, ◌∙◌, [], ◌∷◌, map, sym, ap, subst, T, arith}
 use Rattle.std.specs.FinMap.Entries.{is_sorted}
 use Rattle.alt_cells.specs.Keys.{key_cmp}
 use Rattle.alt_tables.specs.ItemRows.{column_of}

@@ -1,13 +1,10 @@
 -- A number or a family is lacked, or one write adds the table, whose description is known before it and forgotten where it failed.
-use Rattle.std.proofs.Common.{◌≡◌, ◌+◌, [], ◌∷◌, refl, sym, ap, ◌∙◌, Err, subst, arith, ℕ, List}
+use Rattle.std.proofs.Common.{◌+◌, [], ◌∷◌, sym, ap, ◌∙◌, Err, subst, arith, ℕ}
 use Rattle.std.specs.FinMap as map
 use Rattle.alt_disk.proofs.Runs.{quiet_start}
-use Rattle.alt_machine.specs.declared.TheConstants.{MOST_FAMILIES, FAMILIES_END}
 use Rattle.alt_machine.specs.Ops.CreateTable.{with_table}
 use Rattle.alt_machine.specs.Outcomes.{a_table}
-use Rattle.alt_machine.specs.State.{State, Texts}
 use Rattle.alt_machine.proofs.Lacks.{has_table, lacks_table_family}
-use Rattle.alt_schema.specs.declared.schema.TableSchema.{TableSchema}
 use Rattle.alt_machine.specs.Wanted.{table_lack}
 use Rattle.alt_tables.specs.Faults.{BreakOff}
 use Rattle.alt_tables.specs.Stands.{Stands}

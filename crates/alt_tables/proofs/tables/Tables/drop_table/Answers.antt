@@ -1,5 +1,5 @@
 -- The table is taken out by one write.
-use Rattle.std.proofs.Common.{[], ◌∷◌, refl, sym, ap, ◌∙◌, Err, ◌≡◌, arith}
+use Rattle.std.proofs.Common.{[], ◌∷◌, sym, ap, ◌∙◌, Err, arith}
 use Rattle.alt_disk.proofs.Runs.{quiet_start}
 use Rattle.alt_machine.proofs.Lacks.{has_number}
 use Rattle.alt_machine.specs.Ops.DeleteTable.{without_table}

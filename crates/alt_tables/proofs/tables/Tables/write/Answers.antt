@@ -1,5 +1,5 @@
 -- What is there differs from what is to be there, so one write is made.
-use Rattle.std.proofs.Common.{◌≡◌, [], ◌∷◌, refl, sym, ap, ◌∙◌, List, Err, subst, arith}
+use Rattle.std.proofs.Common.{sym, ap, ◌∙◌, List, Err, subst, arith}
 use Rattle.alt_disk.proofs.Runs.{quiet_start}
 use Rattle.alt_machine.specs.Outcomes.{a_number}
 use Rattle.alt_machine.specs.State.{State}

@@ -90,7 +90,8 @@ module _ (l : Layout) (family : ℕ) (catalog : Texts TableSchema)
       (map.get-remove key_total (l.rows catalog_family) [] name)) ∙ at)
     where
       by : (b : Bool) → eq_by_cmp key_cmp name [] ≡ b
-          → option_and_then row_shown (cond b None (map.get (l.rows catalog_family) name)) ≡ Some row
+          → option_and_then row_shown (cond b None (map.get (l.rows catalog_family) name))
+          ≡ Some row
           → (t : Table) × IsTableOf name row t
       by true e at = absurd (let none : None ≡ Some row = at in cc none)
       by false e at =
@@ -142,8 +143,14 @@ module _ (l : Layout) (family : ℕ) (catalog : Texts TableSchema)
           (map.get (map.remove (l.rows catalog_family) []) name) ≡ Some row)
           × IsTableOf name row t)
       by None e is = absurd (let none : None ≡ Some t = sym is ∙ at in cc none)
-      by (Some row) e is = (row, (e, subst (IsTableOf name row)
-          (same_Some _ _ (sym is.1.0 ∙ at)) is.1.1))
+      by (Some row) e is = (
+        row,
+        (
+          e,
+          subst (IsTableOf name row)
+              (same_Some _ _ (sym is.1.0 ∙ at)) is.1.1,
+        ),
+      )
 
   table_is : (name : List ℕ) (t : Table) → map.get chosen.0 name ≡ Some t
       → HasItems t.description t.items × (map.get catalog name ≡ Some t.description)

@@ -49,7 +49,8 @@ is_before family key f k (inr (same, low)) =
 pub before_is : (family : ℕ) (key : List ℕ) (f : ℕ) (k : List ℕ) → before_row family key f k ≡ true
     → IsBefore f k family key
 unfolding before_row
-before_is family key f k e = by (nat_lt f family) (f == family) (is_lt (key_cmp k key)) refl refl refl e
+before_is family key f k e =
+    by (nat_lt f family) (f == family) (is_lt (key_cmp k key)) refl refl refl e
   where
     lower : (m n : ℕ) → nat_lt m n ≡ true → m < n
     lower m n e = grind (arith, nat_tests)
@@ -104,13 +105,16 @@ module _ (l : Layout) (Here : ℕ → List ℕ → Type 0) (r : State) (agrees :
       → shown l catalog_family name ≡ Some (table_row d)
       → (t : Table) × (map.get r.tables name ≡ Some t) × (t.description ≡ d)
   described_at name d here named is held shows =
-      let (t, at, row) = table_at name (table_row d) here named shows in
-      (t, at, one_spelling t.description d (agrees.valid.tables name t at).made.whole
-      (agrees.held.descriptions name t at) is held (sym (one_column-value _ _ _ row)))
+      let (t, at, row) = table_at name (table_row d) here named shows in (
+        t,
+        at,
+        one_spelling t.description d (agrees.valid.tables name t at).made.whole
+            (agrees.held.descriptions name t at) is held (sym (one_column-value _ _ _ row)),
+      )
 
 -- a state of the rows before one, taken alone, agrees there
-pub agrees_before : (l : Layout) (family : ℕ) (key : List ℕ) (next : ℕ) (catalog : Texts TableSchema)
-    (s : State) → Assembled (cut (before_row family key) l) next catalog s
+pub agrees_before : (l : Layout) (family : ℕ) (key : List ℕ) (next : ℕ)
+    (catalog : Texts TableSchema) (s : State) → Assembled (cut (before_row family key) l) next catalog s
     → Agrees (λ f k. IsBefore f k family key) l s
 agrees_before l family key next catalog s made = record {
   number = made.shows.number;

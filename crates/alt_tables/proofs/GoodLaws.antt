@@ -86,8 +86,12 @@ sharing families e = Decides-by_or (λ f. list_any (λ g. g == f) families)
 shares_none : (families : List ℕ) (e : TableSchema) → shares families e ≡ false
     → (f : ℕ) → Contains (families_of e) f → Contains families f → ⊥
 shares_none families e none f c here = not_from_Decides (shares families e) (sharing families e)
-    none (c.0, c.1, λ d. subst (Contains families)
-    (sym (same_at (families_of e) c.0 d f c.1 ∙ c.2)) here)
+    none (
+      c.0,
+      c.1,
+      λ d. subst (Contains families)
+          (sym (same_at (families_of e) c.0 d f c.1 ∙ c.2)) here,
+    )
 
 none_shares : (families : List ℕ) (e : TableSchema)
     → ((f : ℕ) → Contains (families_of e) f → Contains families f → ⊥)

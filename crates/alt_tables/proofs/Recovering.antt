@@ -82,7 +82,8 @@ module _ (old mid new : DiskState) (e f : Engine) (l : Layout) (is : IsLayout ol
   stands_there trusted stands =
       let here : EngineStands new f l = walked.same.stands new l
       (stays_quiet mid new e l stands (walked.quiet (tells_of mid trusted))) in
-      let there : EngineStands new t.engine l = subst (λ x. EngineStands new x l) (sym known) here in
+      let there : EngineStands new t.engine l =
+      subst (λ x. EngineStands new x l) (sym known) here in
       record {
         catalog = sym made.catalog;
         number = there.reads.next ∙ made.shows.number;

@@ -36,8 +36,7 @@ pub(crate) fn is_as_made(schema: &TableSchema) -> bool
 fn are_few_indexes(schema: &TableSchema) -> bool
     ensures { result ≡ are_few_indexes schema.now }
 {
-    schema.locals.as_slice().len() <= MOST_LOCALS
-        && schema.globals.as_slice().len() <= MOST_GLOBALS
+    schema.locals.as_slice().len() <= MOST_LOCALS && schema.globals.as_slice().len() <= MOST_GLOBALS
 }
 
 /// Names are as they have to be, and those of indexes differ.

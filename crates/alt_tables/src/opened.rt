@@ -206,13 +206,7 @@ fn may_stand(
 }
 
 /// Whether it may be that of a table of that name, whatever other tables there are.
-fn is_good(
-    number: u64,
-    family: u32,
-    name: &Bytes,
-    schema: &TableSchema,
-    families: &[u32],
-) -> bool
+fn is_good(number: u64, family: u32, name: &Bytes, schema: &TableSchema, families: &[u32]) -> bool
     requires description { IsDescription schema.now }
     requires held { IsHeld schema.now }
     requires families { families.now ≡ families_of schema.now }
@@ -221,13 +215,7 @@ fn is_good(
     passes(number, family, name, schema, families)
 }
 
-fn passes(
-    number: u64,
-    family: u32,
-    name: &Bytes,
-    schema: &TableSchema,
-    families: &[u32],
-) -> bool
+fn passes(number: u64, family: u32, name: &Bytes, schema: &TableSchema, families: &[u32]) -> bool
     requires families { families.now ≡ families_of schema.now }
     ensures { result ≡ passes number family name.now schema.now }
 {

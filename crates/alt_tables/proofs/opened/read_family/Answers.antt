@@ -12,5 +12,5 @@ returns-clause-wrong g c tells l reads =
     subst (IsFirstWrong l catalog_family) (sym empty)
     (next_wrong l (number_within (g.D.Disk.state c.args.disk.now) c.args.engine.now l reads)
     (λ family low high row.
-    c.in-None.ensures.none family low high 
+    c.in-None.ensures.none family low high
     (c.as_ref.ensures.value ∙ c.in-Ok.ensures.row tells l reads ∙ row)))

@@ -22,7 +22,8 @@ returns-in-Ok-None-clause-read g c tells l reads =
 
 pub returns-in-Err-Bad-clause-wrong : goal.returns-in-Err-Bad-clause-wrong
 returns-in-Err-Bad-clause-wrong g c tells l reads =
-    let first : IsFirstFrom l c.args.schema.now.family c.rows.from c.in-Ok-Some.next.0 c.in-Ok-Some.next.1 =
+    let first : IsFirstFrom l c.args.schema.now.family c.rows.from c.in-Ok-Some.next.0
+    c.in-Ok-Some.next.1 =
     subst (IsNextRow l c.args.schema.now.family c.rows.from) c.in-Ok-Some.field-0-is
     (c.in-Ok-Some.ensures.row
     (subst IsTrue (sym c.rows.invariant.walked.goes.tells) tells) l
@@ -44,7 +45,8 @@ rows-preserved g c = record {
       (g.D.Disk.state c.next_row.new.disk) c.args.engine.now c.rows.engine c.next_row.new.engine
       c.rows.invariant.walked c.next_row.ensures.walked;
   items = λ tells l reads.
-      let first : IsFirstFrom l c.args.schema.now.family c.rows.from c.in-Ok-Some.next.0 c.in-Ok-Some.next.1 =
+      let first : IsFirstFrom l c.args.schema.now.family c.rows.from c.in-Ok-Some.next.0
+      c.in-Ok-Some.next.1 =
       subst (IsNextRow l c.args.schema.now.family c.rows.from) c.in-Ok-Some.field-0-is
       (c.in-Ok-Some.ensures.row
       (subst IsTrue (sym c.rows.invariant.walked.goes.tells) tells) l

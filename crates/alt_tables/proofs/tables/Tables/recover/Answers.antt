@@ -15,14 +15,16 @@ pub returns-in-Ok-read_rows-clause-reads : goal.returns-in-Ok-read_rows-clause-r
 returns-in-Ok-read_rows-clause-reads g c tells =
     let (l, is, reads) = c.in-Ok.ensures.ok tells in
     let (s, made) = c.in-Ok-read_rows.ensures.read
-    (subst IsTrue (sym c.in-Ok.ensures.goes.tells) tells) l reads in
-    (s, record {
-      layout = l;
-      is = is;
-      shows = made.shows;
-      valid = made.valid;
-      held = made.held;
-    })
+    (subst IsTrue (sym c.in-Ok.ensures.goes.tells) tells) l reads in (
+      s,
+      record {
+        layout = l;
+        is = is;
+        shows = made.shows;
+        valid = made.valid;
+        held = made.held;
+      },
+    )
 
 pub returns-in-Ok-read_rows-clause-stands : goal.returns-in-Ok-read_rows-clause-stands
 returns-in-Ok-read_rows-clause-stands g c trusted r stands =

@@ -10,7 +10,7 @@ use Rattle.alt_machine.specs.State.{State}
 use Rattle.alt_machine.specs.Targets.{on_table}
 use Rattle.alt_request.specs.Carried.{Carries, Moves}
 use Rattle.alt_request.specs.declared.stop.Stop.TheVariants.{Fault}
-use Rattle.alt_request.proofs.Carrying.{table_passed, table_reached, broke_off, wrote}
+use Rattle.alt_request.proofs.Carrying.{table_passed, table_reached, faulted_as, broke_off, wrote}
 use Rattle.alt_request.proofs.Moving.{moves_stopped, table_unfailed, memory_unfailed, failed_fault}
 use Rattle.alt_request.proofs.Reaching.{err_is}
 use Rattle.alt_schema.specs.declared.schema.TableSchema.{TableSchema}
@@ -38,6 +38,16 @@ returns-in_err-schema-clause-carried g c =
     (Stands (g.D.Disk.state c.args.disk.now) c.args.tables.now)
     c.from_residual.result c.in_err-schema.field-0.0 c.from_residual.ensures
     c.in_err-schema.ensures.target (λ s stands. stands)
+
+pub returns-in_err-reply-clause-carried : goal.returns-in_err-reply-clause-carried
+returns-in_err-reply-clause-carried g c =
+    let ms : Members = members_view c.args.body.now.entries in
+    let stands : State → Type 0 = Stands (g.D.Disk.state c.args.disk.now) c.args.tables.now in
+    subst (Carries (λ s. delete_table s ms) stands stands)
+    (sym (err_is c.from_residual-in_err-reply.result c.in_err-reply.field-0.0
+    c.from_residual-in_err-reply.ensures))
+    (faulted_as (λ s. delete_table s ms) stands stands c.in_err-reply.field-0.0
+    c.in_err-reply.ensures.cause (λ s h. h))
 
 pub returns-in_err-drop_table-clause-carried : goal.returns-in_err-drop_table-clause-carried
 returns-in_err-drop_table-clause-carried g c =

@@ -265,15 +265,18 @@ module _ (l : Layout) (family : ℕ) (catalog : Texts TableSchema)
 
   -- The state of these rows.
   pub assembled : (s : State) × Assembled l family catalog s
-  assembled = (assembled_state, record {
-    shows = assembled_shows;
-    valid = assembled_valid;
-    held = record {
-      items = record {
-        items = λ name key t item at here. ((table_is name t at).0.1 key item here).1.whole.0;
+  assembled = (
+    assembled_state,
+    record {
+      shows = assembled_shows;
+      valid = assembled_valid;
+      held = record {
+        items = record {
+          items = λ name key t item at here. ((table_is name t at).0.1 key item here).1.whole.0;
+        };
+        descriptions = λ name t at. (good_at name t at).held;
       };
-      descriptions = λ name t at. (good_at name t at).held;
-    };
-    catalog = same_catalog;
-    family = refl;
-  })
+      catalog = same_catalog;
+      family = refl;
+    },
+  )

@@ -35,8 +35,10 @@ module _ (l : Layout) (next : ℕ) (catalog : Texts TableSchema) (from : List �
       → CatalogWhere (λ n. IsBelow n key) l next catalog
   catalog_next key row first = record {
     next = so_far.next;
-    stands = λ name d at. (below_on name from key (so_far.stands name d at).0 first.later,
-        (so_far.stands name d at).1);
+    stands = λ name d at. (
+      below_on name from key (so_far.stands name d at).0 first.later,
+      (so_far.stands name d at).1,
+    );
     read = λ name c low named shows. ⊎_elim
         (λ (below : IsBelow name from). so_far.read name c below named shows)
         (λ (above : IsBelow name from → ⊥). absurd (let no : None ≡ Some c =
@@ -97,8 +99,11 @@ module _ (l : Layout) (next : ℕ) (catalog new : Texts TableSchema) (name after
       by true e is_new h = (d, is_new ∙ ap (λ b. cond b (Some d) (map.get catalog other)) e)
       by false e is_new (inl same) = absurd (false≢true (sym e
           ∙ ap (λ k. eq_by_cmp key_cmp k d.name) (same ∙ sym is.may.good.named) ∙ itself d.name))
-      by false e is_new (inr old) = (old.0, is_new
-          ∙ ap (λ b. cond b (Some d) (map.get catalog other)) e ∙ old.1)
+      by false e is_new (inr old) = (
+        old.0,
+        is_new
+            ∙ ap (λ b. cond b (Some d) (map.get catalog other)) e ∙ old.1,
+      )
 
   pub catalog_more : CatalogWhere (λ n. IsBelow n after) l next new
   catalog_more = record {
@@ -120,9 +125,13 @@ module _ (l : Layout) (next : ℕ) (catalog new : Texts TableSchema) (name after
         then_known other (inr (so_far.read other c below named there)))
         (λ (same : other ≡ name). then_known other (inl same))
         (below_after other name (subst (IsBelow other) at low));
-    few = omega (arith, is.may.few, ap map.len added,
-        map.len-insert key_total catalog d.name d,
-        one_more (map.contains_key catalog d.name) (map.len catalog));
+    few = omega (
+      arith,
+      is.may.few,
+      ap map.len added,
+      map.len-insert key_total catalog d.name d,
+      one_more (map.contains_key catalog d.name) (map.len catalog),
+    );
     good = λ other e here. ⊎_elim
         (λ (came : (other ≡ name) × (d ≡ e)). subst (λ x. IsGood l.next_number next other x)
         came.1 (subst (λ n. IsGood l.next_number next n d) (sym came.0) is.may.good))

@@ -191,11 +191,19 @@ after_below k key (inr same) = subst (λ q. IsBelow q (key ++ 0 ∷ [])) (sym sa
 pub popped : {X : Type 0} (xs old ys : List X) (o : Option X) (n : ℕ) → old ≡ take 1 xs
     → old ≡ ys ++ option_to_list o → IsSome o ↔ (0 < n) → n ≡ length old → o ≡ slice_get xs 0
 popped [] old ys None n page items some long = refl
-popped [] old ys (Some y) n page items some long = absurd (omega (arith, ap length page,
-    ap length items, length-append ys (y ∷ [])))
+popped [] old ys (Some y) n page items some long = absurd (omega (
+  arith,
+  ap length page,
+  ap length items,
+  length-append ys (y ∷ []),
+))
 popped (x ∷ xs) old ys None n page items some long =
     absurd (false≢true (some.1 (omega (arith, ap length page, long))))
 popped (x ∷ xs) old [] (Some y) n page items some long =
     ap (λ zs. slice_get zs 0) (sym items ∙ page)
-popped (x ∷ xs) old (z ∷ zs) (Some y) n page items some long = absurd (omega (arith,
-    ap length page, ap length items, length-append zs (y ∷ [])))
+popped (x ∷ xs) old (z ∷ zs) (Some y) n page items some long = absurd (omega (
+  arith,
+  ap length page,
+  ap length items,
+  length-append zs (y ∷ []),
+))

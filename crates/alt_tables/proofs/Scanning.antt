@@ -89,9 +89,12 @@ pub items_more : (l : Layout) (d : TableSchema) (key : List ℕ) (row : Columns)
     → ItemsWhere (λ k. IsBelow k after) l d
 items_more l d key row item so_far shows is after at k c low there = ⊎_elim
     (λ (below : IsBelow k key). so_far k c below there)
-    (λ (same : k ≡ key). (item, subst (λ q. IsItemAt d q c item) (sym same)
-    (subst (λ x. IsItemAt d key x item)
-    (same_Some row c (sym shows ∙ ap (shown l d.family) (sym same) ∙ there)) is)))
+    (λ (same : k ≡ key). (
+      item,
+      subst (λ q. IsItemAt d q c item) (sym same)
+          (subst (λ x. IsItemAt d key x item)
+          (same_Some row c (sym shows ∙ ap (shown l d.family) (sym same) ∙ there)) is),
+    ))
     (below_after k key (subst (IsBelow k) at low))
 
 -- where no key is below the first, none was read

@@ -3,12 +3,11 @@ use Rattle.std.proofs.Common.{◌≡◌, refl, sym, ap, ◌∙◌, ℕ, Bool, tr
 use Rattle.std.specs.Prelude.{if◌then◌else◌, option_and_then, option_map}
 use Rattle.std.specs.Ordering.{eq_by_cmp}
 use Rattle.std.specs.FinMap as map
-use Rattle.alt_cells.specs.Changes.{Columns}
 use Rattle.alt_cells.specs.Keys.{key_cmp}
 use Rattle.alt_cells.specs.Shown.{row_shown}
 use Rattle.alt_engine.specs.Image.{IsLayout}
 use Rattle.alt_engine.specs.Layout.{no_rows, shown}
-use Rattle.alt_machine.specs.State.{State, Table, start}
+use Rattle.alt_machine.specs.State.{Table, start}
 use Rattle.alt_machine.proofs.States.{start_valid}
 use Rattle.alt_tables.specs.Images.{StandsFor}
 use Rattle.alt_tables.specs.StateRows.{Shows, IsHeldWhole, catalog_rows, next_row, table_row}

@@ -110,17 +110,20 @@ pub next_wrong : (l : Layout) → (1 ≤ l.next_number) × (l.next_number ≤ NU
     → ((family : ℕ) → 1 ≤ family → family ≤ FAMILIES_END
     → shown l catalog_family [] ≡ next_row family → ⊥) → IsFirstWrong l catalog_family []
 next_wrong l number none = record {
-  before = (empty_state l.next_number, record {
-    number = refl;
-    catalog = λ k here. absurd (none_before catalog_family k here);
-    items = λ name t at. absurd (not_there name t at);
-    beyond = λ f k high here. absurd (none_before f k here);
-    valid = empty_valid l.next_number number;
-    held = record {
-      items = record { items = λ name place t item at here. absurd (not_there name t at) };
-      descriptions = λ name t at. absurd (not_there name t at);
-    };
-  });
+  before = (
+    empty_state l.next_number,
+    record {
+      number = refl;
+      catalog = λ k here. absurd (none_before catalog_family k here);
+      items = λ name t at. absurd (not_there name t at);
+      beyond = λ f k high here. absurd (none_before f k here);
+      valid = empty_valid l.next_number number;
+      held = record {
+        items = record { items = λ name place t item at here. absurd (not_there name t at) };
+        descriptions = λ name t at. absurd (not_there name t at);
+      };
+    },
+  );
   none = λ r agrees. none r.next_family agrees.valid.next_family.0 agrees.valid.next_family.1
       (agrees.catalog [] (inr (refl, refl)));
 }
@@ -158,8 +161,11 @@ module _ (l : Layout) (next : ℕ) (catalog : Texts TableSchema) (name : List �
       high = read.next.high;
       row = same_below [] first_below ∙ read.next.row;
     };
-    stands = λ other d at. (tt, same_below other (read.stands other d at).0
-        ∙ (read.stands other d at).1);
+    stands = λ other d at. (
+      tt,
+      same_below other (read.stands other d at).0
+          ∙ (read.stands other d at).1,
+    );
     read = λ other r is other_named there. by other r other_named there
         (here catalog_family other) refl;
     few = read.few;

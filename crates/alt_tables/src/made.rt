@@ -139,14 +139,18 @@ fn is_pair(hash: &KeyAttr, range: &Option<KeyAttr>) -> bool
 fn have_pairs(indexes: &[IndexSchema]) -> bool
     ensures { result ≡ list_all (λ i. is_pair i.hash i.range) indexes.now }
 {
-    indexes.iter().all(|index| is_pair(&index.hash, &index.range))
+    indexes
+        .iter()
+        .all(|index| is_pair(&index.hash, &index.range))
 }
 
 /// Each attribute that is defined is a key of the table or of an index.
 fn all_used(schema: &TableSchema, definitions: &[KeyAttr]) -> bool
     ensures { result ≡ list_all (λ a. is_used schema.now a.name) definitions.now }
 {
-    definitions.iter().all(|definition| is_used(schema, definition.name.as_str()))
+    definitions
+        .iter()
+        .all(|definition| is_used(schema, definition.name.as_str()))
 }
 
 fn is_used(schema: &TableSchema, name: &str) -> bool
@@ -160,7 +164,9 @@ fn is_used(schema: &TableSchema, name: &str) -> bool
 fn any_key(indexes: &[IndexSchema], name: &str) -> bool
     ensures { result ≡ list_any (λ i. is_key i.hash i.range name.now) indexes.now }
 {
-    indexes.iter().any(|index| is_key(&index.hash, &index.range, name))
+    indexes
+        .iter()
+        .any(|index| is_key(&index.hash, &index.range, name))
 }
 
 fn is_key(hash: &KeyAttr, range: &Option<KeyAttr>, name: &str) -> bool

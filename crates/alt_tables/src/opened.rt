@@ -111,11 +111,7 @@ fn read_table<D: Disk>(
 }
 
 /// The next family, which the row at the empty key tells.
-fn read_family<D: Disk>(
-    alloc: Global,
-    disk: &mut D,
-    engine: &mut Engine,
-) -> Result<u32, OpenFault>
+fn read_family<D: Disk>(alloc: Global, disk: &mut D, engine: &mut Engine) -> Result<u32, OpenFault>
     ensures read { IsTrue (D.state disk.old).tells → (l : Layout)
         → Reads (D.state disk.old) engine.old l → IfOk result (IsNextFamily l) }
     ensures wrong { IsTrue (D.state disk.old).tells → (l : Layout)

@@ -66,11 +66,7 @@ impl Tables {
 }
 
 /// Reads the rows of a store, and tests them.
-fn read_rows<D: Disk>(
-    alloc: Global,
-    disk: &mut D,
-    engine: &mut Engine,
-) -> Result<Opened, OpenFault>
+fn read_rows<D: Disk>(alloc: Global, disk: &mut D, engine: &mut Engine) -> Result<Opened, OpenFault>
     ensures read { IsTrue (D.state disk.old).tells → (l : Layout)
         → Reads (D.state disk.old) engine.old l
         → IfOk result (λ o. (s : State) × Assembled l o.family o.catalog s) }

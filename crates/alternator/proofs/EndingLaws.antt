@@ -1,28 +1,37 @@
--- A note changes nothing that a run has done.
-use Rattle.std.proofs.Common.{◌≡◌, ◌⊎◌, inl, inr, ℕ, List, [], Bool, true, Option, Some, None, refl, sym, subst, ◌∙◌}
-use Rattle.std.specs.Prelude.{is_some}
+-- A note changes nothing that a run has done, and what each ending tells of completeness.
+use Rattle.std.proofs.Common.{◌≡◌, ◌⊎◌, inl, inr, ⊎_elim, ℕ, List, [], ◌++◌, Bool, false, Option, Some, None, refl, sym, ap, subst, ◌∙◌, arith}
 use Rattle.alt_base.specs.Counts.{Rose}
-use Rattle.alt_disk.specs.Disk.{DiskState}
-use Rattle.alt_machine.specs.State.{State, start}
+use Rattle.alt_disk.specs.Fates.{Fates, Fits}
+use Rattle.alt_disk.specs.Disk.{DiskState, IsTrusted}
+use Rattle.alt_disk.proofs.Runs.{tells_of}
+use Rattle.alt_machine.specs.State.{State}
 use Rattle.alt_shell.specs.Calls.{Aside}
 use Rattle.alt_shell.specs.Log.{Log, Grows, moments_of}
 use Rattle.alt_shell.proofs.Telling.{Grows-then}
-use Rattle.alternator.specs.Connections.{Connection, Served, ServedSome, turns_of}
-use Rattle.alternator.specs.Endings.{status_of, HasDone, Done, Broken}
-use Rattle.alternator.specs.Runs.{Calls, Answers, AnswersSome}
+use Rattle.alternator.specs.Connections.{ServedSome, turns_of}
+use Rattle.alternator.specs.Endings.{status_of, HasDone, HasMade, HasRun, HasNumbers, Makes, BreaksOff, WasDamaged, IsReadable, Done, Broken}
+use Rattle.alternator.specs.Runs.{Answers, AnswersSome, LeftThen, IsOpening, Opened}
 use Rattle.alternator.specs.Stretches.{DoesSome}
 use Rattle.alternator.specs.TalkRules.{rules}
+use Rattle.alternator.specs.TalkStops.{LeftAmong, ServedOn, ServedSomeOn}
 use Rattle.alternator.specs.Talks.{Rules, Turn}
+use Rattle.alternator.specs.Words.{IsOverStore}
+use Rattle.alt_tables.specs.Recovery.{WasLeft}
+use Rattle.alternator.specs.declared.serve.RunFault.{RunFault}
+use Rattle.alternator.specs.declared.serve.RunFault.TheVariants as why
 use Rattle.alternator.specs.declared.ending.Ending.{Ending}
-use Rattle.alternator.specs.declared.ending.Ending.TheVariants.{Whole, Words, Device, Memory, Spent}
+use Rattle.alternator.specs.declared.ending.Ending.TheVariants.{Whole, Words, NotEmpty, Damaged, BadRow, Device, Memory, Spent}
 use Rattle.alternator.specs.declared.words.Job.{Job}
-use Rattle.alternator.specs.declared.words.Job.TheVariants.{Replay, Serve}
-use Rattle.alternator.proofs.Serving.{calls_quiet, calls_as}
+use Rattle.alternator.specs.declared.words.Job.TheVariants.{Init, Replay, Serve}
+use Rattle.alternator.proofs.Serving.{stretch_quiet, stretch_as}
+use Rattle.alternator.proofs.Stopping.{leaves-before-aside}
 
--- whatever the cause was
-pub some_answers : (number : Option ℕ) (es : Log) (ms : List ℕ) → AnswersSome number start es ms
-    → AnswersSome None start es ms
-some_answers number es ms x = record {
+-- ---- what was done, whatever the cause was
+
+-- a run that was broken off is one that was broken off for want of memory
+pub some_answers : (a b : DiskState) (fault : RunFault) (s : State) (es : Log) (ms : List ℕ)
+    → AnswersSome fault s a b es ms → AnswersSome why.NoMemory s a b es ms
+some_answers a b fault s es ms x = record {
   breaks = record {
     done = x.breaks.done;
     begun = x.breaks.begun;
@@ -36,16 +45,19 @@ some_answers number es ms x = record {
     wants = tt;
   };
   said = x.said;
+  leaves = x.leaves;
 }
 
-does_some : (r : Rules) (number : Option ℕ) (s : State) (m : Bool) (ts : List Turn) (es : Log)
-    (ms : List ℕ) → DoesSome r number s m ts es ms → DoesSome r None s m ts es ms
-does_some r number s m ts es ms x =
+-- so are turns that broke off
+does_some : (r : Rules) (fault : RunFault) (s : State) (m : Bool) (ts : List Turn) (es : Log)
+    (ms : List ℕ) → DoesSome r fault s m ts es ms → DoesSome r why.NoMemory s m ts es ms
+does_some r fault s m ts es ms x =
     record { said = x.said; most = x.most; wants = tt; silent = x.silent }
 
-some_served : (r : Rules) (per count : ℕ) (number : Option ℕ) (s : State) (es : Log) (ms : List ℕ)
-    → ServedSome r per count number s es ms → ServedSome r per count None s es ms
-some_served r per count number s es ms x = record {
+-- and connections
+some_served : (r : Rules) (per count : ℕ) (fault : RunFault) (s : State) (es : Log) (ms : List ℕ)
+    → ServedSome r per count fault s es ms → ServedSome r per count why.NoMemory s es ms
+some_served r per count fault s es ms x = record {
   all = x.all;
   halfway = x.halfway;
   each = x.each;
@@ -53,76 +65,310 @@ some_served r per count number s es ms x = record {
   made = x.made;
   moments = x.moments;
   some = elim x.some [
-    | inl none ↦ inl none
-    | inr one ↦ inr (one.0, one.1, does_some r number x.halfway _ (turns_of r per one.0) _ _ one.2)
+    | inl none ↦ inl (none.0, tt)
+    | inr one ↦ inr (one.0, one.1, does_some r fault x.halfway _ (turns_of r per one.0) _ _ one.2)
   ];
   most = x.most;
 }
 
-broken_any : (job : Option Job) (number : Option ℕ) (es : Log) (ms : List ℕ)
-    → Broken number job es ms → Broken None job es ms
-broken_any None number es ms x = absurd x
-broken_any (Some Replay) number es ms x = some_answers number es ms x
-broken_any (Some (Serve per count)) number es ms x =
-    some_served rules per count number start es ms x
+broken_memory : (job : Job) (fault : RunFault) (s : State) (a b : DiskState)
+    → Broken fault job s a b → Broken why.NoMemory job s a b
+unfolding some_served
+broken_memory Init fault s a b x = absurd x
+broken_memory Replay fault s a b x = stretch_as a b {P = AnswersSome fault s}
+    {Q = AnswersSome why.NoMemory s} (λ es ms within y. some_answers a b fault s es ms y) x
+broken_memory (Serve per count) fault s a b x = stretch_as a b
+    {P = ServedSomeOn rules per count fault s} {Q = ServedSomeOn rules per count why.NoMemory s}
+    (λ es ms within y. (some_served rules per count fault s es ms y.0, y.1)) x
 
-module _ (job : Option Job) (a b c : DiskState) (g : Grows b.beside c.beside [])
+opened_memory : (a b : DiskState) (fault : RunFault) (job : Job) → Opened a b (Broken fault job)
+    → Opened a b (Broken why.NoMemory job)
+opened_memory a b fault job h = record {
+  from = h.from;
+  stood = h.stood;
+  opened = h.opened;
+  opening = h.opening;
+  behind = broken_memory job fault h.from h.opened b h.behind;
+}
+
+-- a disk that can be relied on is honest
+honest_of : (s : DiskState) → IsTrusted s → s.honest ≡ false → ⊥
+honest_of s trusted e = grind (arith, trusted, e)
+
+-- on such a disk damage is found in the opening alone
+damaged_early : (fault : RunFault) (a b : DiskState) → WasDamaged fault a b → IsTrusted a
+    → IsOpening a b
+damaged_early fault a b h trusted = ⊎_elim
+    (λ x. x.0)
+    (λ x. absurd (honest_of a trusted x.1))
+    (h (tells_of a trusted))
+
+-- where there was no memory for the numbers of a note, the run has done what one does that ends for want of memory
+made_memory : (a b : DiskState) (ending : Ending) → HasNumbers ending → HasMade Memory a b
+made_memory a b ending n = tt
+
+run_memory : (a b : DiskState) (job : Job) (ending : Ending) → HasNumbers ending
+    → HasRun job ending a b → HasRun job Memory a b
+run_memory a b job Whole n h = absurd n
+run_memory a b job Words n h = absurd n
+run_memory a b job (NotEmpty first) n h = absurd h
+run_memory a b job (Damaged file at) n h = λ trusted.
+    inl (damaged_early (why.Damaged file at) a b h trusted)
+run_memory a b job (BadRow family key) n h = λ trusted.
+    inl (damaged_early (why.BadRow family key) a b h trusted)
+run_memory a b job Device n h = absurd n
+run_memory a b job Memory n h = absurd n
+run_memory a b job (Spent number) n h = λ trusted.
+    inr (opened_memory a b (why.Spent number) job (h.1 trusted))
+
+none_memory : (a b : DiskState) (ending : Ending) → HasNumbers ending → HasDone None ending a b → ⊥
+none_memory a b Whole n h = h
+none_memory a b Words n h = n
+none_memory a b (NotEmpty first) n h = h
+none_memory a b (Damaged file at) n h = h
+none_memory a b (BadRow family key) n h = h
+none_memory a b Device n h = h
+none_memory a b Memory n h = h
+none_memory a b (Spent number) n h = h
+
+as_memory : (a b : DiskState) (job : Option Job) (ending : Ending) → HasNumbers ending
+    → HasDone job ending a b → HasDone job Memory a b
+as_memory a b None ending n h = absurd (none_memory a b ending n h)
+as_memory a b (Some Init) ending n h = made_memory a b ending n
+as_memory a b (Some Replay) ending n h = run_memory a b Replay ending n h
+as_memory a b (Some (Serve per count)) ending n h = run_memory a b (Serve per count) ending n h
+
+-- ---- behind a note
+
+module _ (b c : DiskState) (g : Grows b.beside c.beside [])
     (m : moments_of c.beside ≡ moments_of b.beside) (aside : Aside b c) where
+  all_behind : (a : DiskState) (s : State) (es : Log) (ms : List ℕ) → Answers s a b es ms
+      → Answers s a c es ms
+  all_behind a s es ms x = record {
+    at_end = x.at_end;
+    said = x.said;
+    count = x.count;
+    every = x.every;
+    enough = x.enough;
+    leaves = leaves-before-aside a b c (LeftThen s es ms) aside x.leaves;
+  }
+
+  some_behind : (a : DiskState) (fault : RunFault) (s : State) (es : Log) (ms : List ℕ)
+      → AnswersSome fault s a b es ms → AnswersSome fault s a c es ms
+  some_behind a fault s es ms x = record {
+    breaks = x.breaks;
+    said = x.said;
+    leaves = leaves-before-aside a b c (LeftThen s es ms) aside x.leaves;
+  }
+
+  makes_behind : (a : DiskState) (es : Log) (ms : List ℕ) → Makes a b es ms → Makes a c es ms
+  makes_behind a es ms x = record {
+    said = x.said;
+    untaken = x.untaken;
+    unasked = x.unasked;
+    none = x.none;
+    stands = λ trusted image is_image. x.stands trusted image
+        (λ f. subst (λ (fates : Fates). Fits fates (image f))
+        (ap (λ (t : ℕ). c.fates t f) aside.moment ∙ aside.keeps.past b.moment f (omega arith))
+        (is_image f));
+  }
+
+  opening_behind : (a : DiskState) → IsOpening a b → IsOpening a c
+  opening_behind a x = record {
+    silent = Grows-then a.beside b.beside c.beside [] [] x.silent g;
+    unasked = m ∙ x.unasked;
+    leaves = leaves-before-aside a b c (WasLeft a) aside x.leaves;
+  }
+
+  done_behind : (job : Job) (s : State) (o : DiskState) → Done job s o b → Done job s o c
+  done_behind Init s o x = absurd x
+  done_behind Replay s o x = stretch_quiet o b c {P = Answers s} (all_behind o s) x aside g m
+  done_behind (Serve per count) s o x = stretch_quiet o b c
+      {P = λ old new es ms. (t : State) × ServedOn rules per count s t old new es ms}
+      (λ es ms y. (
+        y.0,
+        (
+          y.1.0,
+          leaves-before-aside o b c (LeftAmong rules per s y.1.0.all) aside y.1.1,
+        ),
+      ))
+      x aside g m
+
+  broken_behind : (fault : RunFault) (job : Job) (s : State) (o : DiskState)
+      → Broken fault job s o b → Broken fault job s o c
+  broken_behind fault Init s o x = absurd x
+  broken_behind fault Replay s o x =
+      stretch_quiet o b c {P = AnswersSome fault s} (some_behind o fault s) x aside g m
+  broken_behind fault (Serve per count) s o x = stretch_quiet o b c
+      {P = ServedSomeOn rules per count fault s}
+      (λ es ms y. (
+        y.0,
+        leaves-before-aside o b c (LeftAmong rules per s (y.0.all ++ y.0.last)) aside y.1,
+      ))
+      x aside g m
+
+  opened_behind : (a : DiskState) (P : State → DiskState → DiskState → Type 0)
+      → ((s : State) (o : DiskState) → P s o b → P s o c) → Opened a b P → Opened a c P
+  opened_behind a P law h = record {
+    from = h.from;
+    stood = h.stood;
+    opened = h.opened;
+    opening = h.opening;
+    behind = law h.from h.opened h.behind;
+  }
+
+  breaks_behind : (a : DiskState) (fault : RunFault) (job : Job) → BreaksOff fault job a b
+      → BreaksOff fault job a c
+  breaks_behind a fault job h trusted = ⊎_elim
+      (λ x. inl (opening_behind a x))
+      (λ x. inr (opened_behind a (Broken fault job) (broken_behind fault job) x))
+      (h trusted)
+
+  damaged_behind : (a : DiskState) (fault : RunFault) → WasDamaged fault a b → WasDamaged fault a c
+  damaged_behind a fault h tells = ⊎_elim
+      (λ x. inl (opening_behind a x.0, x.1))
+      (λ x. inr x)
+      (h tells)
+
+  run_behind : (a : DiskState) (job : Job) (ending : Ending) → HasRun job ending a b
+      → HasRun job ending a c
+  run_behind a job Whole h = (
+    h.0,
+    λ trusted. opened_behind a (Done job) (done_behind job) (h.1 trusted),
+  )
+  run_behind a job Words h = absurd h
+  run_behind a job (NotEmpty first) h = absurd h
+  run_behind a job (Damaged file at) h = damaged_behind a (why.Damaged file at) h
+  run_behind a job (BadRow family key) h = damaged_behind a (why.BadRow family key) h
+  run_behind a job Device h = (
+    subst (Rose a.faults) (sym aside.faults) h.0,
+    breaks_behind a why.Failed job h.1,
+  )
+  run_behind a job Memory h = breaks_behind a why.NoMemory job h
+  run_behind a job (Spent number) h = (
+    h.0,
+    λ trusted. opened_behind a (Broken (why.Spent number) job)
+        (broken_behind (why.Spent number) job) (h.1 trusted),
+  )
+
   -- what was done is still done behind the note
-  pub still_done : (ending : Ending) → HasDone job ending a b → HasDone job ending a c
-  still_done Whole h = calls_quiet a.beside b.beside c.beside h g m
-  still_done Words h = record {
+  still_done : (a : DiskState) (job : Option Job) (ending : Ending) → HasDone job ending a b
+      → HasDone job ending a c
+  still_done a None Whole h = absurd h
+  still_done a None Words h = record {
     moment = aside.moment ∙ h.moment;
     faults = aside.faults ∙ h.faults;
     silent = Grows-then a.beside b.beside c.beside [] [] h.silent g;
     unasked = m ∙ h.unasked;
   }
-  still_done Device h = (
-    subst (Rose a.faults) (sym aside.faults) h.0,
-    calls_quiet a.beside b.beside c.beside h.1 g m,
-  )
-  still_done Memory h = calls_quiet a.beside b.beside c.beside h g m
-  still_done (Spent n) h = calls_quiet a.beside b.beside c.beside h g m
-
--- a run whose numbers are spent has done what one does whose memory was refused
-pub spent_as_memory : (job : Option Job) (a b : DiskState) (n : ℕ) → HasDone job (Spent n) a b
-    → HasDone job Memory a b
-spent_as_memory job a b n h = calls_as a.beside b.beside {P = Broken (Some n) job} {Q =
-    Broken None job} (broken_any job (Some n)) h
-
--- with the ending that was noted
-pub noted_done : (job : Option Job) (a b c : DiskState) (ending noted : Ending)
-    → (noted ≡ ending) ⊎ ((noted ≡ Memory) × ((n : ℕ) × (ending ≡ Spent n)))
-    → Grows b.beside c.beside [] → moments_of c.beside ≡ moments_of b.beside → Aside b c
-    → HasDone job ending a b → HasDone job noted a c
-noted_done job a b c ending noted (inl same) g m aside h =
-    subst (λ (e : Ending). HasDone job e a c) (sym same) (still_done job a b c g m aside ending h)
-noted_done job a b c ending noted (inr spent) g m aside h =
-    subst (λ (e : Ending). HasDone job e a c) (sym spent.0)
-    (still_done job a b c g m aside Memory
-    (spent_as_memory job a b spent.1.0 (subst (λ (e : Ending). HasDone job e a b) spent.1.1 h)))
+  still_done a None (NotEmpty first) h = absurd h
+  still_done a None (Damaged file at) h = absurd h
+  still_done a None (BadRow family key) h = absurd h
+  still_done a None Device h = absurd h
+  still_done a None Memory h = absurd h
+  still_done a None (Spent number) h = absurd h
+  still_done a (Some Init) Whole h = stretch_quiet a b c {P = Makes} (makes_behind a) h aside g m
+  still_done a (Some Init) Words h = absurd h
+  still_done a (Some Init) (NotEmpty first) h = h
+  still_done a (Some Init) (Damaged file at) h = absurd h
+  still_done a (Some Init) (BadRow family key) h = absurd h
+  still_done a (Some Init) Device h = subst (Rose a.faults) (sym aside.faults) h
+  still_done a (Some Init) Memory h = tt
+  still_done a (Some Init) (Spent number) h = absurd h
+  still_done a (Some Replay) ending h = run_behind a Replay ending h
+  still_done a (Some (Serve per count)) ending h = run_behind a (Serve per count) ending h
 
 abbrev IsNoted : Ending → Ending → Type 0
-IsNoted ending noted = (noted ≡ ending) ⊎ ((noted ≡ Memory) × ((n : ℕ) × (ending ≡ Spent n)))
+IsNoted ending noted = (noted ≡ ending) ⊎ ((noted ≡ Memory) × HasNumbers ending)
 
--- what is noted as wrong words were such
-pub noted_words : (ending noted : Ending) → IsNoted ending noted → noted ≡ Words → ending ≡ Words
-noted_words ending noted (inl same) e = sym same ∙ e
-noted_words ending noted (inr spent) e = absurd (let f : ⊥ = cc in f)
+-- with the ending that was noted
+pub noted_done : (a b c : DiskState) (job : Option Job) (ending noted : Ending) → IsNoted ending noted
+    → Grows b.beside c.beside [] → moments_of c.beside ≡ moments_of b.beside → Aside b c
+    → HasDone job ending a b → HasDone job noted a c
+noted_done a b c job ending noted (inl same) g m aside h =
+    subst (λ (e : Ending). HasDone job e a c) (sym same) (still_done b c g m aside a job ending h)
+noted_done a b c job ending noted (inr memory) g m aside h =
+    subst (λ (e : Ending). HasDone job e a c) (sym memory.0)
+    (still_done b c g m aside a job Memory (as_memory a b job ending memory.1 h))
 
--- a run whose words are right ends whole, or a device failed, or memory was refused, or numbers are spent
-pub completes : (job : Option Job) (a b : DiskState) (ending : Ending) (status : ℕ)
+-- ---- what the status tells
+
+-- wrong words end so, and no other words do
+pub words_end : (a b : DiskState) (job : Option Job) (ending : Ending) → HasDone job ending a b
+    → (status_of ending ≡ 1 → job ≡ None) × (job ≡ None → status_of ending ≡ 1)
+words_end a b None Words h = (λ e. refl, λ e. refl)
+words_end a b None Whole h = absurd h
+words_end a b None (NotEmpty first) h = absurd h
+words_end a b None (Damaged file at) h = absurd h
+words_end a b None (BadRow family key) h = absurd h
+words_end a b None Device h = absurd h
+words_end a b None Memory h = absurd h
+words_end a b None (Spent number) h = absurd h
+words_end a b (Some job) ending h = (
+  λ e. absurd (never_words a b job ending h (words_only ending e)),
+  λ e. absurd (let f : ⊥ = cc in f),
+)
+  where
+    -- the status of wrong words is theirs alone
+    words_only : (ending : Ending) → status_of ending ≡ 1 → ending ≡ Words
+    words_only Whole e = absurd (omega (arith, e))
+    words_only Words e = refl
+    words_only (NotEmpty first) e = absurd (omega (arith, e))
+    words_only (Damaged file at) e = absurd (omega (arith, e))
+    words_only (BadRow family key) e = absurd (omega (arith, e))
+    words_only Device e = absurd (omega (arith, e))
+    words_only Memory e = absurd (omega (arith, e))
+    words_only (Spent number) e = absurd (omega (arith, e))
+
+    -- and a job has none
+    never_words : (a b : DiskState) (job : Job) (ending : Ending) → HasDone (Some job) ending a b
+        → ending ≡ Words → ⊥
+    never_words a b Init ending h e = subst (λ (x : Ending). HasMade x a b) e h
+    never_words a b Replay ending h e = subst (λ (x : Ending). HasRun Replay x a b) e h
+    never_words a b (Serve per count) ending h e =
+        subst (λ (x : Ending). HasRun (Serve per count) x a b) e h
+
+-- a run over a store ends whole, or a device failed, or memory was refused, or numbers are spent
+run_completes : (a b : DiskState) (job : Job) (ending : Ending) (status : ℕ)
     → status ≡ status_of ending
-    → (ending ≡ Words → ⊥) → HasDone job ending a b
+    → HasRun job ending a b → IsTrusted a → IsReadable a.file
     → (Rose a.faults b.faults → ⊥)
-    → ((status ≡ 0) × Calls a.beside b.beside (Done job)) ⊎ (status ≡ 5) ⊎ (status ≡ 6)
-completes job a b Whole status e right h well = inl (e, h)
-completes job a b Words status e right h well = absurd (right refl)
-completes job a b Device status e right h well = absurd (well h.0)
-completes job a b Memory status e right h well = inr (inl e)
-completes job a b (Spent n) status e right h well = inr (inr e)
+    → ((status ≡ 0) × Opened a b (Done job)) ⊎ (status ≡ 5) ⊎ (status ≡ 6)
+run_completes a b job Whole status e h trusted readable well = inl (e, h.1 trusted)
+run_completes a b job Words status e h trusted readable well = absurd h
+run_completes a b job (NotEmpty first) status e h trusted readable well = absurd h
+run_completes a b job (Damaged file at) status e h trusted readable well =
+    absurd (⊎_elim (λ x. x.1.1 readable.0 readable.1) (λ x. honest_of a trusted x.1)
+    (h (tells_of a trusted)))
+run_completes a b job (BadRow family key) status e h trusted readable well =
+    absurd (⊎_elim (λ x. x.1.1 readable.0 readable.1) (λ x. honest_of a trusted x.1)
+    (h (tells_of a trusted)))
+run_completes a b job Device status e h trusted readable well = absurd (well h.0)
+run_completes a b job Memory status e h trusted readable well = inr (inl e)
+run_completes a b job (Spent n) status e h trusted readable well = inr (inr e)
 
--- there is a job where there is none
-pub none_is_some : {A : Type 0} (o : Option A) → is_some o ≡ true → o ≡ None → ⊥
-none_is_some None some none = let f : ⊥ = cc in f
-none_is_some (Some x) some none = let f : ⊥ = cc in f
+pub completes : (a b : DiskState) (job : Job) (ending : Ending) (status : ℕ)
+    → status ≡ status_of ending → IsOverStore job
+    → HasDone (Some job) ending a b → IsTrusted a → IsReadable a.file
+    → (Rose a.faults b.faults → ⊥)
+    → ((status ≡ 0) × Opened a b (Done job)) ⊎ (status ≡ 5) ⊎ (status ≡ 6)
+completes a b Init ending status e over h trusted readable well = absurd over
+completes a b Replay ending status e over h trusted readable well =
+    run_completes a b Replay ending status e h trusted readable well
+completes a b (Serve per count) ending status e over h trusted readable well =
+    run_completes a b (Serve per count) ending status e h trusted readable well
+
+-- a run of `init` over no files makes a store, or a device failed, or memory was refused
+pub makes_all : (a b : DiskState) (ending : Ending) (status : ℕ) → status ≡ status_of ending
+    → HasMade ending a b → IsTrusted a → ((f : ℕ) → a.file f ≡ None)
+    → (Rose a.faults b.faults → ⊥)
+    → (status ≡ 0) ⊎ (status ≡ 5)
+makes_all a b Whole status e h trusted none well = inl e
+makes_all a b Words status e h trusted none well = absurd h
+makes_all a b (NotEmpty first) status e h trusted none well =
+    absurd ((h (tells_of a trusted)).there (none first))
+makes_all a b (Damaged file at) status e h trusted none well = absurd h
+makes_all a b (BadRow family key) status e h trusted none well = absurd h
+makes_all a b Device status e h trusted none well = absurd (well h)
+makes_all a b Memory status e h trusted none well = inr e
+makes_all a b (Spent n) status e h trusted none well = absurd h

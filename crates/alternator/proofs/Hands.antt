@@ -8,9 +8,11 @@ use Rattle.alt_lines.specs.Unread.{Unread, lines_now, lines_later, HasNone, Take
 use Rattle.alt_machine.specs.State.{State}
 use Rattle.alt_tables.specs.Stands.{Stands}
 use Rattle.alt_tables.specs.declared.tables.Tables.{Tables}
-use Rattle.alternator.specs.Runs.{Calls, Reaches, ServesAtHand, BreaksAtHand, HandsOut, asked_now, asked_later}
+use Rattle.alternator.specs.Runs.{Stretch, Leads, ServesAtHand, BreaksAtHand, HandsOut, asked_now, asked_later}
 use Rattle.alternator.specs.Turns.{Asked, asked_of}
-use Rattle.alternator.proofs.Serving.{calls_none, calls_then, calls_as, serves_none, serves_then, serves_break, serves_breaks, breaks_more, rests_then}
+use Rattle.alternator.specs.declared.serve.RunFault.{RunFault}
+use Rattle.alternator.specs.declared.serve.RunFault.TheVariants.{NoMemory}
+use Rattle.alternator.proofs.Serving.{stretch_none, stretch_then, stretch_as, hand_none, hand_then, hand_break, hand_breaks_more, hand_stops}
 
 -- what is known of a value where there is one
 pub at_some : {X : Type 0} (o : Option X) (x : X) (P : X → Type 0) → o ≡ Some x → IfSome o P → P x
@@ -24,7 +26,7 @@ at_none {X} o P e h = subst (λ (q : Option X). IfNone q P) e h
 pub record Hands (a : DiskState) (t0 : Tables) (b : DiskState) (t1 : Tables)
     (u v : Unread) : Type 0 where
   pub done : List Line
-  pub serves : (s : State) → Stands a t0 s → Reaches a b t1 (ServesAtHand s (map asked_of done))
+  pub serves : (s : State) → Stands a t0 s → Leads a b t1 (ServesAtHand s (map asked_of done))
   pub now : lines_now u ≡ done ++ lines_now v
   pub most : v.most ≡ u.most
   pub ended : v.ended ≡ u.ended
@@ -38,8 +40,7 @@ hands_none a t0 u = record {
   serves = λ s stands. record {
     to = s;
     stands = stands;
-    calls = calls_none a.beside {P = ServesAtHand s [] s}
-        (record { serves = serves_none s; rests = record { silent = refl; goes_on = refl } });
+    calls = stretch_none a {P = ServesAtHand s [] s} (hand_none a t0 s stands);
   };
   now = refl;
   most = refl;
@@ -51,7 +52,7 @@ module _ (a : DiskState) (t0 : Tables) (b : DiskState) (t1 : Tables) (u v w : Un
     (p : Hands a t0 b t1 u v) (takes : TakesLine line v w) where
   -- one line more
   pub hands_line : (c : DiskState) (t2 : Tables)
-      → ((s : State) → Stands b t1 s → Reaches b c t2 (ServesAtHand s (asked_of line ∷ [])))
+      → ((s : State) → Stands b t1 s → Leads b c t2 (ServesAtHand s (asked_of line ∷ [])))
       → Hands a t0 c t2 u w
   hands_line c t2 go = record {
     done = p.done ++ line ∷ [];
@@ -61,17 +62,13 @@ module _ (a : DiskState) (t0 : Tables) (b : DiskState) (t1 : Tables) (u v w : Un
         record {
           to = q.to;
           stands = q.stands;
-          calls = subst (λ (ls : List Asked). Calls a.beside c.beside (ServesAtHand s ls q.to))
+          calls = subst (λ (ls : List Asked). Stretch a c (ServesAtHand s ls q.to))
               (sym (map-append asked_of p.done (line ∷ [])))
-              (calls_then a.beside b.beside c.beside
-              {P = ServesAtHand s (map asked_of p.done) front.to} {Q =
+              (stretch_then a b c {P = ServesAtHand s (map asked_of p.done) front.to} {Q =
               ServesAtHand front.to (asked_of line ∷ []) q.to}
               {R = ServesAtHand s (map asked_of p.done ++ asked_of line ∷ []) q.to}
-              (λ es fs ms ns x y. record {
-                serves = serves_then s front.to q.to (map asked_of p.done)
-                    (asked_of line ∷ []) es fs ms ns x.serves y.serves;
-                rests = rests_then es fs x.rests y.rests;
-              })
+              (λ es fs ms ns meet x y. hand_then a b c s front.to q.to (map asked_of p.done)
+              (asked_of line ∷ []) es fs ms ns meet x y)
               front.calls q.calls);
         };
     now = p.now ∙ ap (λ (ls : List Line). p.done ++ ls) takes.now
@@ -88,24 +85,18 @@ module _ (a : DiskState) (t0 : Tables) (b : DiskState) (t1 : Tables) (u v w : Un
       ∙ map-append asked_of p.done (line ∷ lines_now w)
 
   -- the next line broke off
-  pub hands_break : (c : DiskState) (number : Option ℕ) (s : State) (stands : Stands a t0 s)
-      → ((r : State) → Stands b t1 r → Calls b.beside c.beside
-      (BreaksAtHand number r (asked_of line ∷ [])))
-      → Calls a.beside c.beside (BreaksAtHand number s (asked_now u))
-  hands_break c number s stands go =
+  pub hands_break : (c : DiskState) (fault : RunFault) (s : State) (stands : Stands a t0 s)
+      → ((r : State) → Stands b t1 r → Stretch b c (BreaksAtHand fault r (asked_of line ∷ [])))
+      → Stretch a c (BreaksAtHand fault s (asked_now u))
+  hands_break c fault s stands go =
       let front = p.serves s stands in
-      subst (λ (ls : List Asked). Calls a.beside c.beside (BreaksAtHand number s ls))
-      (sym all_lines)
-      (calls_then a.beside b.beside c.beside
-      {P = ServesAtHand s (map asked_of p.done) front.to} {Q =
-      BreaksAtHand number front.to (asked_of line ∷ [])}
-      {R = BreaksAtHand number s (map asked_of p.done ++ (asked_of line ∷ asked_now w))}
-      (λ es fs ms ns x y. record {
-        breaks = serves_break number s front.to (map asked_of p.done)
-            (asked_of line ∷ asked_now w) es fs ms ns x.serves
-            (breaks_more number front.to (asked_of line ∷ []) (asked_now w) fs ns y.breaks);
-        rests = rests_then es fs x.rests y.rests;
-      })
+      subst (λ (ls : List Asked). Stretch a c (BreaksAtHand fault s ls)) (sym all_lines)
+      (stretch_then a b c {P = ServesAtHand s (map asked_of p.done) front.to} {Q =
+      BreaksAtHand fault front.to (asked_of line ∷ [])}
+      {R = BreaksAtHand fault s (map asked_of p.done ++ (asked_of line ∷ asked_now w))}
+      (λ es fs ms ns meet x y. hand_break a b c s front.to front.to (map asked_of p.done)
+      (asked_of line ∷ asked_now w) es fs ms ns meet x fault
+      (hand_breaks_more b c fault front.to (asked_of line ∷ []) (asked_now w) fs ns y))
       front.calls (go front.to front.stands))
 
   -- each line leaves fewer
@@ -116,17 +107,14 @@ module _ (a : DiskState) (t0 : Tables) (b : DiskState) (t1 : Tables) (u v : Unre
     (p : Hands a t0 b t1 u v) where
   -- memory was refused for the next line
   pub hands_memory : (s : State) → Stands a t0 s
-      → Calls a.beside b.beside (BreaksAtHand None s (asked_now u))
+      → Stretch a b (BreaksAtHand NoMemory s (asked_now u))
   hands_memory s stands =
       let front = p.serves s stands in
-      subst (λ (ls : List Asked). Calls a.beside b.beside (BreaksAtHand None s ls))
+      subst (λ (ls : List Asked). Stretch a b (BreaksAtHand NoMemory s ls))
       (sym (ap (map asked_of) p.now ∙ map-append asked_of p.done (lines_now v)))
-      (calls_as a.beside b.beside {P = ServesAtHand s (map asked_of p.done) front.to}
-      {Q = BreaksAtHand None s (map asked_of p.done ++ asked_now v)}
-      (λ es ms x. record {
-        breaks = serves_breaks s front.to (map asked_of p.done) (asked_now v) es ms x.serves;
-        rests = x.rests;
-      })
+      (stretch_as a b {P = ServesAtHand s (map asked_of p.done) front.to}
+      {Q = BreaksAtHand NoMemory s (map asked_of p.done ++ asked_now v)}
+      (λ es ms within x. hand_stops a b s front.to (map asked_of p.done) (asked_now v) es ms x)
       front.calls)
 
   module _ (w : Unread) (none : HasNone v w) where
@@ -135,8 +123,8 @@ module _ (a : DiskState) (t0 : Tables) (b : DiskState) (t1 : Tables) (u v : Unre
         ∙ append-nil p.done))
 
     -- no line is left
-    pub hands_all : (s : State) → Stands a t0 s → Reaches a b t1 (ServesAtHand s (asked_now u))
-    hands_all s stands = subst (λ (ls : List Asked). Reaches a b t1 (ServesAtHand s ls))
+    pub hands_all : (s : State) → Stands a t0 s → Leads a b t1 (ServesAtHand s (asked_now u))
+    hands_all s stands = subst (λ (ls : List Asked). Leads a b t1 (ServesAtHand s ls))
         served_lines (p.serves s stands)
 
     nothing_more : lines_now w ≡ []

@@ -1,18 +1,21 @@
 -- A whole connection, from its accept to its hanging up.
-use Rattle.std.proofs.Common.{◌≡◌, ◌<◌, inl, inr, ℕ, List, [], ◌∷◌, ◌++◌, Bool, true, false, not, Option, None, refl, sym, ap, subst, ◌∙◌, append-nil, arith}
+use Rattle.alternator.specs.declared.serve.RunFault.{RunFault}
+use Rattle.alternator.specs.declared.serve.RunFault.TheVariants.{Failed}
+use Rattle.std.proofs.Common.{◌≡◌, ◌<◌, inl, inr, ℕ, List, [], ◌∷◌, ◌++◌, Bool, true, false, not, refl, sym, ap, subst, ◌∙◌, append-nil, arith}
 use Rattle.std.specs.Prelude.{◌||◌}
 use Rattle.alt_disk.specs.Disk.{DiskState}
 use Rattle.alt_machine.specs.State.{State}
 use Rattle.alt_shell.specs.Calls.{Adds, Keeps}
-use Rattle.alt_shell.specs.Log.{Log, Grows, moments_of, notes_of, told_count, talks, entry, accepted, none_came, hung_up, taken, said_in, says_failed}
-use Rattle.alt_shell.proofs.Keeping.{keeps-then}
-use Rattle.alternator.specs.Runs.{Calls, Passes}
-use Rattle.alternator.specs.Talks.{Turn, Rules, Place, at, turns, closes}
+use Rattle.alt_shell.specs.Log.{Log, Grows, moments_of, notes_of, told_count, talks, entry, none_came, hung_up, taken, said_in, says_failed}
+use Rattle.alternator.specs.Runs.{Passes, Stretch}
+use Rattle.alternator.specs.Talks.{Turn, Rules, Lawful, Place, at, turns, closes}
+use Rattle.alternator.specs.TalkStops.{ComesOn, ComesSomeOn, LeavesNow}
 use Rattle.alternator.specs.TalkTexts.{text}
-use Rattle.alternator.specs.Stretches.{SaidOf, over, Does, DoesSome, Goes, GoesSome, Ends}
-use Rattle.alternator.specs.Connections.{Serves, Comes, ComesSome}
+use Rattle.alternator.specs.Stretches.{SaidOf, over, Does, DoesSome, GoesSome, Ends}
+use Rattle.alternator.specs.Connections.{Serves}
 use Rattle.alternator.proofs.Serving.{taken-append, said_in-append}
-use Rattle.alternator.proofs.TalkLogs.{calls_one, took_then, then_one, over-append, broken-append}
+use Rattle.alternator.proofs.TalkLeaving.{left_silent}
+use Rattle.alternator.proofs.TalkLogs.{stretch_one, over-append, broken-append}
 use Rattle.alternator.proofs.TalkCuts.{closes_end}
 
 or_false : (b : Bool) → (b || false) ≡ b
@@ -66,48 +69,44 @@ module _ (r : Rules) (per : ℕ) (s : State) (es : Log) (ms : List ℕ) (from si
         inside = e.goes.inside;
       }
 
-  pub some_hung : (number : Option ℕ) → GoesSome r number (at per false []) s false es ms → DoesSome r number s false (turns r per false (taken (es ++ entry upto clocked hung_up ∷ []))) (es ++ entry upto clocked hung_up ∷ []) ms
-  some_hung number e =
-      let moved = subst (λ (bs : List ℕ). DoesSome r number s false (turns r per false bs) es ms) (sym same_taken) e.some in record {
+  pub some_hung : (fault : RunFault) → GoesSome r fault (at per false []) s false es ms → DoesSome r fault s false (turns r per false (taken (es ++ entry upto clocked hung_up ∷ []))) (es ++ entry upto clocked hung_up ∷ []) ms
+  some_hung fault e =
+      let moved = subst (λ (bs : List ℕ). DoesSome r fault s false (turns r per false bs) es ms) (sym same_taken) e.some in record {
         said = (moved.said.0, moved.said.1 ∙ ap (λ bs. bs ++ moved.said.0) (sym same_said));
         most = moved.most;
         wants = moved.wants;
         silent = λ z. absurd (let f : ⊥ = cc in f);
       }
 
--- an accept, a stretch, and the hanging up
-pub calls_hung : (a b c d : Log) (since clocked from upto : ℕ) (P Q : Log → List ℕ → Type 0)
-    → Grows a b (entry from since accepted ∷ []) → moments_of b ≡ moments_of a
-    → Grows c d (entry upto clocked hung_up ∷ []) → moments_of d ≡ moments_of c
-    → ((es : Log) (ms : List ℕ) → P es ms
-    → Q (entry from since accepted ∷ (es ++ entry upto clocked hung_up ∷ [])) ms)
-    → Calls b c P → Calls a d Q
-calls_hung a b c d since clocked from upto P Q came m went n join p =
-    took_then a b d (entry from since accepted)
-    (λ es ms. Q (entry from since accepted ∷ es) ms) Q came m (λ es ms q. q)
-    (then_one b c d (entry upto clocked hung_up) P (λ es ms. Q (entry from since accepted ∷ es) ms)
-    went n join p)
-
 -- none came
-pub none_comes : (r : Rules) (per : ℕ) (s : State) (a b : DiskState) → Adds a b none_came
-    → moments_of b.beside ≡ moments_of a.beside
-    → Calls a.beside b.beside (Comes r per false s s)
-none_comes r per s a b g m = calls_one a.beside b.beside (Comes r per false s s) _ g m
-    (refl, (b.moment, told_count a.beside, refl), refl)
+pub none_comes : (r : Rules) (w : Lawful r) (per : ℕ) (s : State) (a b : DiskState)
+    → Adds a b none_came → moments_of b.beside ≡ moments_of a.beside → Keeps a b → LeavesNow a s
+    → Stretch a b (ComesOn r per false s s)
+none_comes r w per s a b g m keeps here = stretch_one a b (ComesOn r per false s s) _ g m
+    (keeps.later, omega arith, tt) keeps (
+      (refl, (b.moment, told_count a.beside, refl), refl),
+      left_silent r w a b s [] (entry b.moment (told_count a.beside) none_came ∷ []) [] keeps refl here,
+    )
 
 -- the wait failed
-pub wait_failed : (r : Rules) (per : ℕ) (s : State) (a b : DiskState)
-    → Grows a.beside b.beside [] → moments_of b.beside ≡ moments_of a.beside
-    → Calls a.beside b.beside (ComesSome r per None s)
-wait_failed r per s a b g m = calls_one a.beside b.beside (ComesSome r per None s) [] g m
-    (inl (refl, refl))
+pub wait_failed : (r : Rules) (w : Lawful r) (per : ℕ) (s : State) (a b : DiskState)
+    → Grows a.beside b.beside [] → moments_of b.beside ≡ moments_of a.beside → Keeps a b
+    → LeavesNow a s → Stretch a b (ComesSomeOn r per Failed s)
+wait_failed r w per s a b g m keeps here = stretch_one a b (ComesSomeOn r per Failed s) [] g m tt keeps
+    (inl ((refl, refl, tt), left_silent r w a b s [] [] [] keeps refl here))
 
 -- what is kept from the accept to the hanging up
 pub hung_passes : (a b c d : DiskState) → talks a.beside ≡ false → Keeps a b
     → notes_of b.beside ≡ notes_of a.beside → Passes b c → Keeps c d
     → notes_of d.beside ≡ notes_of c.beside → talks d.beside ≡ false → Passes a d
 hung_passes a b c d quiet first notes p last more off = record {
-  keeps = keeps-then a c d (keeps-then a b c first p.keeps) last;
+  tells = last.tells ∙ p.tells ∙ first.tells;
+  honest = last.honest ∙ p.honest ∙ first.honest;
+  anchors = last.anchors ∙ p.anchors ∙ first.anchors;
+  later = omega (arith, first.later, p.later, last.later);
+  faults = omega (arith, first.faults, p.faults, last.faults);
+  past = λ t f le. last.past t f (omega (arith, le, first.later, p.later))
+      ∙ p.past t f (omega (arith, le, first.later)) ∙ first.past t f le;
   notes = more ∙ p.notes ∙ notes;
   talking = off ∙ sym quiet;
 }

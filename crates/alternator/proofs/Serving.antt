@@ -1,21 +1,24 @@
 -- Serving lines, one after another: the laws of `Serves` and `Breaks`.
-use Rattle.std.proofs.Common.{◌≡◌, ◌⊎◌, ℕ, List, [], ◌∷◌, ◌++◌, length, take, drop, Bool, true, false, Option, Some, None, refl, sym, ap, subst, ◌∙◌, append_assoc, append-nil, arith, inl, inr, length-append, take-append-drop}
+use Rattle.std.proofs.Common.{◌≡◌, ◌≤◌, ◌⊎◌, ℕ, List, [], ◌∷◌, ◌++◌, length, take, drop, Bool, true, false, Option, Some, None, refl, sym, ap, subst, ◌∙◌, append_assoc, append-nil, arith, inl, inr, length-append, take-append-drop}
 use Rattle.std.specs.Prelude.{◌||◌}
 use Rattle.std.proofs.lemmas.Grind.{flat_map-append}
 use Rattle.alt_base.specs.Prefix.{IsPrefix}
 use Rattle.alt_machine.specs.State.{State}
-use Rattle.alt_disk.specs.Disk.{DiskState}
+use Rattle.alt_disk.specs.Disk.{DiskState, IsTrusted}
 use Rattle.alt_machine.specs.Wanted.{Lack}
-use Rattle.alt_shell.specs.Calls.{Adds, Untold}
-use Rattle.alt_shell.specs.Log.{Log, Grows, Tells, moments_of, entry, told_count, event_of, said, say_failed, says_failed, says_missed, bytes_said, bytes_taken, is_end, taken, said_in, ended}
-use Rattle.alternator.specs.Runs.{Calls, Serves, Breaks, Rests, Reaches, ServesAtHand, BreaksAtHand}
+use Rattle.alt_shell.specs.Calls.{Adds, Aside, ShellCall, Untold}
+use Rattle.alt_shell.specs.Log.{Log, Grows, Tells, moments_of, until, entry, told_count, event_of, said, say_failed, says_failed, says_missed, bytes_said, bytes_taken, is_end, taken, said_in, ended}
+use Rattle.alternator.specs.Runs.{OfStretch, Stretch, Serves, Breaks, Rests, Leads, ServesAtHand, BreaksAtHand}
+use Rattle.alternator.specs.Stops.{IsLeft, IsAmong, AtEach, LeftAtHand, AreWithin}
 use Rattle.alt_tables.specs.Stands.{Stands}
 use Rattle.alt_tables.specs.declared.tables.Tables.{Tables}
-use Rattle.alternator.specs.Faults.{IsLacked, IsCausedBy, number_of}
+use Rattle.alternator.specs.Faults.{IsCausedBy}
 use Rattle.alternator.specs.declared.serve.RunFault.{RunFault}
-use Rattle.alternator.specs.declared.serve.RunFault.TheVariants.{Failed, NoMemory, Spent}
+use Rattle.alternator.specs.declared.serve.RunFault.TheVariants.{Failed, NoMemory}
 use Rattle.alternator.specs.Turns.{Asked, Turn, turns, text_of, after, after_turn, wanted, or_next, requests}
 use Rattle.alt_shell.proofs.Telling.{Grows-then, Grows-nil, Tells-then, Tells-nil}
+use Rattle.alt_tables.proofs.Left.{stands_left}
+use Rattle.alternator.proofs.Stopping.{Meet, IsPrefix-self, IsPrefix-behind, one-by, until-append, until-before, until-behind, within-wider, within-then, turns_say, turns-more, left-more, left-behind, spans_two, trusts-kept, leaves-weaker, leaves-here, left-nothing, leaves-said, leaves-unsaid, stands_kept}
 use Rattle.alternator.proofs.TurnLaws.{requests-append, turns-append, text_of-append, after-append, wanted-append}
 
 -- ---- logs one after the other
@@ -34,18 +37,6 @@ pub ended-append : (es fs : Log) → ended (es ++ fs) ≡ (ended es || ended fs)
 ended-append [] fs = refl
 ended-append (e ∷ es) fs = ap (λ b. is_end (event_of e.1) || b) (ended-append es fs)
     ∙ or-assoc (is_end (event_of e.1)) (ended es) (ended fs)
-
--- ---- prefixes
-
-pub IsPrefix-self : {A : Type 0} (xs : List A) → IsPrefix xs xs
-IsPrefix-self xs = ([], sym (append-nil xs))
-
-pub IsPrefix-behind : {A : Type 0} (front xs ys : List A) → IsPrefix xs ys
-    → IsPrefix (front ++ xs) (front ++ ys)
-IsPrefix-behind front xs ys p = (p.0, ap (λ zs. front ++ zs) p.1 ∙ sym (append_assoc front xs p.0))
-
-pub IsPrefix-longer : {A : Type 0} (xs ys zs : List A) → IsPrefix xs ys → IsPrefix xs (ys ++ zs)
-IsPrefix-longer xs ys zs p = (p.0 ++ zs, ap (λ ws. ws ++ zs) p.1 ∙ append_assoc xs p.0 zs)
 
 -- ---- the parts of a stretch
 
@@ -84,11 +75,11 @@ serves_then s t u ls ks es fs ms ns p q = record {
 }
 
 -- lines and then a break
-pub serves_break : (number : Option ℕ) (s t : State) (ls ks : List Asked) (es fs : Log)
+pub serves_break : (fault : RunFault) (s t : State) (ls ks : List Asked) (es fs : Log)
     (ms ns : List ℕ)
-    → Serves s ls t es ms → Breaks number t ks fs ns
-    → Breaks number s (ls ++ ks) (es ++ fs) (ms ++ ns)
-serves_break number s t ls ks es fs ms ns p q = record {
+    → Serves s ls t es ms → Breaks fault t ks fs ns
+    → Breaks fault s (ls ++ ks) (es ++ fs) (ms ++ ns)
+serves_break fault s t ls ks es fs ms ns p q = record {
   done = ls ++ q.done;
   begun = q.begun;
   rest = q.rest;
@@ -110,16 +101,16 @@ serves_break number s t ls ks es fs ms ns p q = record {
   count = count_both s t t ls (q.done ++ q.begun) es fs ms ns p q.count
       ∙ ap requests (sym (append_assoc ls q.done q.begun));
   enough = wanted_both s t t ls q.done es fs ms ns p ∙ q.enough;
-  wants = subst (λ xs. IsLacked number (wanted (turns s xs (ms ++ ns))))
+  wants = subst (λ xs. IsCausedBy (wanted (turns s xs (ms ++ ns))) fault)
       (sym (append_assoc ls q.done q.begun))
-      (subst (IsLacked number) (sym (wanted_both s t t ls (q.done ++ q.begun) es fs ms ns p))
+      (subst (λ w. IsCausedBy w fault) (sym (wanted_both s t t ls (q.done ++ q.begun) es fs ms ns p))
       q.wants);
 }
 
 -- a break among lines is one among these and more
-pub breaks_more : (number : Option ℕ) (s : State) (ls ks : List Asked) (es : Log) (ms : List ℕ)
-    → Breaks number s ls es ms → Breaks number s (ls ++ ks) es ms
-breaks_more number s ls ks es ms q = record {
+pub breaks_more : (fault : RunFault) (s : State) (ls ks : List Asked) (es : Log) (ms : List ℕ)
+    → Breaks fault s ls es ms → Breaks fault s (ls ++ ks) es ms
+breaks_more fault s ls ks es ms q = record {
   done = q.done;
   begun = q.begun;
   rest = q.rest ++ ks;
@@ -134,8 +125,9 @@ breaks_more number s ls ks es ms q = record {
 }
 
 -- nothing was begun
-pub breaks_none : (s : State) (ls : List Asked) → Breaks None s ls [] []
-breaks_none s ls = record {
+pub breaks_none : (fault : RunFault) → IsCausedBy None fault → (s : State) (ls : List Asked)
+    → Breaks fault s ls [] []
+breaks_none fault cause s ls = record {
   done = [];
   begun = [];
   rest = ls;
@@ -146,20 +138,20 @@ breaks_none s ls = record {
   said = ([], refl);
   count = refl;
   enough = refl;
-  wants = tt;
+  wants = cause;
 }
 
 -- nothing to serve
 pub serves_none : (s : State) → Serves s [] s [] []
 serves_none s = record { said = refl; state = refl; count = refl; enough = refl }
 
--- lines that were served whole, and then no more was begun
+-- lines that were served whole, and then no more was begun for want of memory
 pub serves_breaks : (s t : State) (ls ks : List Asked) (es : Log) (ms : List ℕ)
-    → Serves s ls t es ms → Breaks None s (ls ++ ks) es ms
+    → Serves s ls t es ms → Breaks NoMemory s (ls ++ ks) es ms
 serves_breaks s t ls ks es ms p =
-    subst (λ (ns : List ℕ). Breaks None s (ls ++ ks) es ns) (append-nil ms)
-    (subst (λ (fs : Log). Breaks None s (ls ++ ks) fs (ms ++ [])) (append-nil es)
-    (serves_break None s t ls ks es [] ms [] p (breaks_none t ks)))
+    subst (λ (ns : List ℕ). Breaks NoMemory s (ls ++ ks) es ns) (append-nil ms)
+    (subst (λ (fs : Log). Breaks NoMemory s (ls ++ ks) fs (ms ++ [])) (append-nil es)
+    (serves_break NoMemory s t ls ks es [] ms [] p (breaks_none NoMemory tt t ks)))
 
 -- ---- nothing taken
 
@@ -171,166 +163,304 @@ rests_then es fs p q = record {
 
 -- ---- calls
 
-pub calls_none : (a : Log) {P : Log → List ℕ → Type 0} → P [] [] → Calls a a P
-calls_none a h = record {
+pub stretch_none : (a : DiskState) {P : OfStretch} → P a a [] [] → Stretch a a P
+stretch_none a h = record {
   entries = [];
   told = [];
-  grows = Grows-nil a;
-  tells =
-      Tells-nil (moments_of a) (moments_of a) refl;
+  grows = Grows-nil a.beside;
+  tells = Tells-nil (moments_of a.beside) (moments_of a.beside) refl;
+  within = tt;
+  later = omega arith;
+  trusts = λ trusted. trusted;
   holds = h;
 }
 
 -- one stretch and then another
-pub calls_then : (a b c : Log) {P Q R : Log → List ℕ → Type 0}
-    → ((es fs : Log) (ms ns : List ℕ) → P es ms → Q fs ns → R (es ++ fs) (ms ++ ns))
-    → Calls a b P → Calls b c Q → Calls a c R
-calls_then a b c law p q = record {
+pub stretch_then : (a b c : DiskState) {P Q R : OfStretch}
+    → ((es fs : Log) (ms ns : List ℕ) → Meet a b c es fs → P a b es ms → Q b c fs ns
+    → R a c (es ++ fs) (ms ++ ns))
+    → Stretch a b P → Stretch b c Q → Stretch a c R
+stretch_then a b c law p q = record {
   entries = p.entries ++ q.entries;
   told = p.told ++ q.told;
-  grows = Grows-then a b c p.entries q.entries p.grows q.grows;
-  tells = Tells-then (moments_of a) (moments_of b) (moments_of c) p.told q.told p.tells q.tells;
-  holds = law p.entries q.entries p.told q.told p.holds q.holds;
+  grows = Grows-then a.beside b.beside c.beside p.entries q.entries p.grows q.grows;
+  tells = Tells-then (moments_of a.beside) (moments_of b.beside) (moments_of c.beside) p.told q.told
+      p.tells q.tells;
+  within = within-then a.moment b.moment c.moment p.entries q.entries p.within q.within p.later
+      q.later;
+  later = omega (arith, p.later, q.later);
+  trusts = λ trusted. q.trusts (p.trusts trusted);
+  holds = law p.entries q.entries p.told q.told
+      (record { before = p.within; behind = q.within; trusts = p.trusts }) p.holds q.holds;
 }
 
-pub calls_as : (a b : Log) {P Q : Log → List ℕ → Type 0}
-    → ((es : Log) (ms : List ℕ) → P es ms → Q es ms) → Calls a b P → Calls a b Q
-calls_as a b law p = record {
+pub stretch_as : (a b : DiskState) {P Q : OfStretch}
+    → ((es : Log) (ms : List ℕ) → AreWithin a.moment b.moment es → P a b es ms → Q a b es ms)
+    → Stretch a b P → Stretch a b Q
+stretch_as a b law p = record {
   entries = p.entries;
   told = p.told;
   grows = p.grows;
-  tells =
-      p.tells;
+  tells = p.tells;
+  within = p.within;
+  later = p.later;
+  trusts = p.trusts;
+  holds = law p.entries p.told p.within p.holds;
+}
+
+-- calls that say nothing more, ask nothing more, and leave all files
+pub stretch_quiet : (a b c : DiskState) {P : OfStretch}
+    → ((es : Log) (ms : List ℕ) → P a b es ms → P a c es ms)
+    → Stretch a b P → Aside b c → Grows b.beside c.beside []
+    → moments_of c.beside ≡ moments_of b.beside → Stretch a c P
+stretch_quiet a b c {P} law p aside g m = record {
+  entries = p.entries;
+  told = p.told;
+  grows = subst (λ (es : Log). Grows a.beside c.beside es) (append-nil p.entries)
+      (Grows-then a.beside b.beside c.beside p.entries [] p.grows g);
+  tells = subst (λ (ms : Option (List ℕ)). Tells (moments_of a.beside) ms p.told) (sym m) p.tells;
+  within = subst (λ (n : ℕ). AreWithin a.moment n p.entries) (sym aside.moment) p.within;
+  later = let same = aside.moment in omega (arith, same, p.later);
+  trusts = λ trusted. trusts-kept b c aside.keeps (p.trusts trusted);
   holds = law p.entries p.told p.holds;
 }
 
--- calls that say nothing more and ask nothing more
-pub calls_quiet : (a b c : Log) {P : Log → List ℕ → Type 0} → Calls a b P → Grows b c []
-    → moments_of c ≡ moments_of b → Calls a c P
-calls_quiet a b c {P} p g m = record {
-  entries = p.entries;
-  told = p.told;
-  grows = subst (λ (es : Log). Grows a c es) (append-nil p.entries)
-      (Grows-then a b c p.entries [] p.grows g);
-  tells = subst (λ (ms : Option (List ℕ)). Tells (moments_of a) ms p.told) (sym m) p.tells;
-  holds = p.holds;
+-- ---- lines at hand
+
+module _ (a b c : DiskState) (s t u : State) (ls ks : List Asked) (es fs : Log) (ms ns : List ℕ)
+    (meet : Meet a b c es fs) (p : ServesAtHand s ls t a b es ms) where
+  -- what a stop leaves while more lines are served behind these
+  pub leaves_then : AtEach b c (LeftAtHand t ks fs ns)
+      → AtEach a c (LeftAtHand s (ls ++ ks) (es ++ fs) (ms ++ ns))
+  leaves_then q trusted =
+      let first : List Turn = turns s ls ms in
+      let both : turns s (ls ++ ks) (ms ++ ns) ≡ first ++ turns t ks ns =
+      turns_both s t t ls ks es fs ms ns p.serves in
+      spans_two a b c (LeftAtHand s ls es ms) (LeftAtHand t ks fs ns)
+      (LeftAtHand s (ls ++ ks) (es ++ fs) (ms ++ ns))
+      (p.leaves trusted) (q (meet.trusts trusted))
+      (λ n image before x. subst (λ (vs : List Turn). IsLeft s vs (said_in (until n (es ++ fs))) image)
+      (sym both)
+      (subst (λ (bs : List ℕ). IsLeft s (first ++ turns t ks ns) bs image)
+      (ap said_in (sym (append-nil (until n es))
+      ∙ ap (λ (gs : Log). until n es ++ gs)
+      (sym (until-before b.moment c.moment n fs meet.behind before))
+      ∙ sym (until-append n es fs)))
+      (left-more s first (turns t ks ns) (said_in (until n es)) image (turns_say t ks ns) x)))
+      (λ n image from x. subst (λ (vs : List Turn). IsLeft s vs (said_in (until n (es ++ fs))) image)
+      (sym both)
+      (subst (λ (bs : List ℕ). IsLeft s (first ++ turns t ks ns) bs image)
+      (ap (λ (bs : List ℕ). bs ++ said_in (until n fs)) (sym p.serves.said)
+      ∙ sym (said_in-append es (until n fs))
+      ∙ ap said_in (ap (λ (gs : Log). gs ++ until n fs)
+      (sym (until-behind a.moment b.moment n es meet.before from))
+      ∙ sym (until-append n es fs)))
+      (left-behind s first (turns t ks ns) (said_in (until n fs)) image
+      (subst (λ (r : State). IsLeft r (turns t ks ns) (said_in (until n fs)) image)
+      p.serves.state x))))
+
+  -- lines and then more lines
+  pub hand_then : ServesAtHand t ks u b c fs ns → ServesAtHand s (ls ++ ks) u a c (es ++ fs) (ms ++ ns)
+  hand_then q = record {
+    serves = serves_then s t u ls ks es fs ms ns p.serves q.serves;
+    rests = rests_then es fs p.rests q.rests;
+    leaves = leaves_then q.leaves;
+  }
+
+  -- lines and then a break
+  pub hand_break : (fault : RunFault) → BreaksAtHand fault t ks b c fs ns
+      → BreaksAtHand fault s (ls ++ ks) a c (es ++ fs) (ms ++ ns)
+  hand_break fault q = record {
+    breaks = serves_break fault s t ls ks es fs ms ns p.serves q.breaks;
+    rests = rests_then es fs p.rests q.rests;
+    leaves = leaves_then q.leaves;
+  }
+
+-- what a stop leaves while some of the lines at hand are served
+pub leaves_more : (a b : DiskState) (s : State) (ls ks : List Asked) (es : Log) (ms : List ℕ)
+    → AtEach a b (LeftAtHand s ls es ms) → AtEach a b (LeftAtHand s (ls ++ ks) es ms)
+leaves_more a b s ls ks es ms p trusted =
+    let more = turns-more s ls ks ms [] in
+    leaves-weaker a b (LeftAtHand s ls es ms) (LeftAtHand s (ls ++ ks) es ms)
+    (λ n image x. subst (λ (vs : List Turn). IsLeft s vs (said_in (until n es)) image)
+    (sym more.2 ∙ ap (turns s (ls ++ ks)) (append-nil ms))
+    (left-more s (turns s ls ms) more.0 (said_in (until n es)) image more.1 x)) p trusted
+
+-- a break among lines is one among these and more
+pub hand_breaks_more : (a b : DiskState) (fault : RunFault) (s : State) (ls ks : List Asked) (es : Log)
+    (ms : List ℕ)
+    → BreaksAtHand fault s ls a b es ms → BreaksAtHand fault s (ls ++ ks) a b es ms
+hand_breaks_more a b fault s ls ks es ms p = record {
+  breaks = breaks_more fault s ls ks es ms p.breaks;
+  rests = p.rests;
+  leaves = leaves_more a b s ls ks es ms p.leaves;
+}
+
+-- lines that were served whole, and then no more was begun for want of memory
+pub hand_stops : (a b : DiskState) (s t : State) (ls ks : List Asked) (es : Log) (ms : List ℕ)
+    → ServesAtHand s ls t a b es ms → BreaksAtHand NoMemory s (ls ++ ks) a b es ms
+hand_stops a b s t ls ks es ms p = record {
+  breaks = serves_breaks s t ls ks es ms p.serves;
+  rests = p.rests;
+  leaves = leaves_more a b s ls ks es ms p.leaves;
+}
+
+-- no lines
+pub hand_none : (a : DiskState) (tables : Tables) (s : State) → Stands a tables s
+    → ServesAtHand s [] s a a [] []
+hand_none a tables s stands = record {
+  serves = serves_none s;
+  rests = record { silent = refl; goes_on = refl };
+  leaves = leaves-here a (LeftAtHand s [] [] []) (λ trusted t image is_image.
+      left-nothing s [] [] image (stands_left a tables s stands image is_image));
 }
 
 -- ---- single calls
 
--- nothing of the state depends on what lies beside the tables
-pub stands_on : (a b : DiskState) (t : Tables) (s : State) → Stands a t s → Stands b t s
-stands_on a b t s p = record {
-  catalog = p.catalog;
-  number = p.number;
-  family = p.family;
-  rows =
-      p.rows;
-  valid = p.valid;
-}
+-- the front of a turn: its moment was asked for, and its writes were made or broken off
+pub record Begins (old mid : DiskState) (s : State) (l : Asked) (t : Turn)
+    (ms : List ℕ) : Type 0 where
+  pub one : turns s (l ∷ []) ms ≡ t ∷ []
+  pub count : length ms ≡ requests (l ∷ [])
+  pub silent : Grows old.beside mid.beside []
+  pub told : Tells (moments_of old.beside) (moments_of mid.beside) ms
+  pub later : old.moment ≤ mid.moment
+  pub trusts : IsTrusted old → IsTrusted mid
+  pub leaves : AtEach old mid (λ _ image. IsAmong image s t.atoms)
 
 -- a turn whose whole text was said
 pub turn_served : (old mid new : DiskState) (tables : Tables) (s : State) (l : Asked) (t : Turn)
     (ms : List ℕ) (bytes : List ℕ)
-    → turns s (l ∷ []) ms ≡ t ∷ [] → length ms ≡ requests (l ∷ []) → t.lacks ≡ None
-    → Grows old.beside mid.beside [] → Tells (moments_of old.beside) (moments_of mid.beside) ms
+    → Begins old mid s l t ms → t.lacks ≡ None → Stands mid tables (after_turn s t)
+    → ShellCall mid new true
     → Adds mid new (said bytes) → moments_of new.beside ≡ moments_of mid.beside
-    → bytes ≡ t.text → Stands new tables (after_turn s t)
-    → Reaches old new tables (ServesAtHand s (l ∷ []))
-turn_served old mid new tables s l t ms bytes one count enough g m added n e stands = record {
-  to = after_turn s t;
-  stands = stands;
-  calls = record {
-    entries = entry new.moment (told_count mid.beside) (said bytes) ∷ [];
-    told = ms;
-    grows = Grows-then old.beside mid.beside new.beside []
-        (entry new.moment (told_count mid.beside) (said bytes) ∷ []) g added;
-    tells = subst (λ (k : Option (List ℕ)). Tells (moments_of old.beside) k ms) (sym n) m;
-    holds = record {
-      serves = record {
-        said = ap (λ (bs : List ℕ). bs ++ []) e ∙ ap text_of (sym one);
-        state = ap (after s) (sym one);
-        count = count;
-        enough = ap wanted one ∙ ap (λ w. or_next w None) enough;
+    → bytes ≡ t.text
+    → Leads old new tables (ServesAtHand s (l ∷ []))
+turn_served old mid new tables s l t ms bytes b enough stands call added n e =
+    let es : Log = entry new.moment (told_count mid.beside) (said bytes) ∷ [] in
+    let within : AreWithin mid.moment new.moment es =
+    (call.keeps.later, omega arith, tt) in
+    let text : said_in es ≡ t.text = append-nil bytes ∙ e in
+    record {
+      to = after_turn s t;
+      stands = stands_kept mid new call.keeps tables (after_turn s t) stands;
+      calls = record {
+        entries = es;
+        told = ms;
+        grows = Grows-then old.beside mid.beside new.beside [] es b.silent added;
+        tells = subst (λ (k : Option (List ℕ)). Tells (moments_of old.beside) k ms) (sym n) b.told;
+        within = within-wider old.moment mid.moment new.moment new.moment es within b.later
+            (omega arith);
+        later = let k = call.keeps.later in omega (arith, b.later, k);
+        trusts = λ trusted. trusts-kept mid new call.keeps (b.trusts trusted);
+        holds = record {
+          serves = record {
+            said = text ∙ sym (append-nil t.text) ∙ ap text_of (sym b.one);
+            state = ap (after s) (sym b.one);
+            count = b.count;
+            enough = ap wanted b.one ∙ ap (λ w. or_next w None) enough;
+          };
+          rests = record { silent = refl; goes_on = refl };
+          leaves = leaves-said s (turns s (l ∷ []) ms) t b.one (turns_say s (l ∷ []) ms) old mid new es within
+              (one-by (entry new.moment (told_count mid.beside) (said bytes)) t.text
+              (subst (λ (bs : List ℕ). IsPrefix bs t.text) (sym text) (IsPrefix-self t.text)))
+              b.trusts b.leaves
+              (λ trusted image is_image. stands_left mid tables (after_turn s t) stands
+              image is_image)
+              call.keeps;
+        };
       };
-      rests = record { silent = refl; goes_on = refl };
-    };
-  };
-}
+    }
 
 -- a turn that was begun, of which these bytes were said
-turn_begun : (old new : Log) (s : State) (l : Asked) (t : Turn) (ms : List ℕ) (number : Option ℕ)
-    (es : Log)
-    → turns s (l ∷ []) ms ≡ t ∷ [] → length ms ≡ requests (l ∷ []) → IsLacked number t.lacks
+turn_begun : (old mid new : DiskState) (s : State) (l : Asked) (t : Turn) (ms : List ℕ)
+    (fault : RunFault) (es : Log)
+    → Begins old mid s l t ms → IsCausedBy t.lacks fault
     → Rests es → IsPrefix (said_in es) t.text
-    → Grows old new es → Tells (moments_of old) (moments_of new) ms
-    → Calls old new (BreaksAtHand number s (l ∷ []))
-turn_begun old new s l t ms number es one count lacked rests some g m = record {
-  entries = es;
-  told = ms;
-  grows = g;
-  tells = m;
-  holds = record {
-    breaks = record {
-      done = [];
-      begun = l ∷ [];
-      rest = [];
-      lines = refl;
-      few = omega arith;
-      all = (said_in es, refl);
-      said = subst (λ (ts : List Turn). IsPrefix (said_in es) (text_of ts)) (sym one)
-          (subst (IsPrefix (said_in es)) (sym (append-nil t.text)) some);
-      count = count;
-      enough = refl;
-      wants = subst (λ (ts : List Turn). IsLacked number (wanted ts)) (sym one)
-          (lacked_alone number t.lacks lacked);
-    };
-    rests = rests;
-  };
-}
+    → Grows mid.beside new.beside es → moments_of new.beside ≡ moments_of mid.beside
+    → AreWithin mid.moment new.moment es → mid.moment ≤ new.moment
+    → (IsTrusted mid → IsTrusted new)
+    → AtEach old new (LeftAtHand s (l ∷ []) es ms)
+    → Stretch old new (BreaksAtHand fault s (l ∷ []))
+turn_begun old mid new s l t ms fault es b lacked rests some g m within later trusts leaves =
+    record {
+      entries = es;
+      told = ms;
+      grows = Grows-then old.beside mid.beside new.beside [] es b.silent g;
+      tells = subst (λ (k : Option (List ℕ)). Tells (moments_of old.beside) k ms) (sym m) b.told;
+      within = within-wider old.moment mid.moment new.moment new.moment es within b.later
+          (omega arith);
+      later = omega (arith, b.later, later);
+      trusts = λ trusted. trusts (b.trusts trusted);
+      holds = record {
+        breaks = record {
+          done = [];
+          begun = l ∷ [];
+          rest = [];
+          lines = refl;
+          few = omega arith;
+          all = (said_in es, refl);
+          said = subst (λ (ts : List Turn). IsPrefix (said_in es) (text_of ts)) (sym b.one)
+              (subst (IsPrefix (said_in es)) (sym (append-nil t.text)) some);
+          count = b.count;
+          enough = refl;
+          wants = subst (λ (ts : List Turn). IsCausedBy (wanted ts) fault) (sym b.one)
+              (lacked_alone fault t.lacks lacked);
+        };
+        rests = rests;
+        leaves = leaves;
+      };
+    }
   where
-    lacked_alone : (number : Option ℕ) (lack : Option Lack) → IsLacked number lack
-        → IsLacked number (or_next lack None)
-    lacked_alone number None h = h
-    lacked_alone number (Some x) h = h
+    lacked_alone : (fault : RunFault) (lack : Option Lack) → IsCausedBy lack fault
+        → IsCausedBy (or_next lack None) fault
+    lacked_alone fault None h = h
+    lacked_alone fault (Some x) h = h
 
 -- a turn whose text was said in part
-pub turn_cut : (old mid new : DiskState) (s : State) (l : Asked) (t : Turn) (ms : List ℕ)
-    (bytes : List ℕ)
-    → turns s (l ∷ []) ms ≡ t ∷ [] → length ms ≡ requests (l ∷ [])
-    → Grows old.beside mid.beside [] → Tells (moments_of old.beside) (moments_of mid.beside) ms
-    → (((n : ℕ) × Adds mid new (say_failed (take n bytes))) ⊎ Untold mid new says_failed says_missed)
-    → moments_of new.beside ≡ moments_of mid.beside
-    → bytes ≡ t.text
-    → Calls old.beside new.beside (BreaksAtHand None s (l ∷ []))
-turn_cut old mid new s l t ms bytes one count g m (inl part) n e =
-    let es : Log = entry new.moment (told_count mid.beside) (say_failed (take part.0 bytes)) ∷ [] in
-    turn_begun old.beside new.beside s l t ms None es one count tt
-    (record { silent = refl; goes_on = refl }) (
-      drop part.0 bytes,
-      sym e ∙ sym (take-append-drop part.0 bytes)
-          ∙ ap (λ (bs : List ℕ). bs ++ drop part.0 bytes) (sym (append-nil (take part.0 bytes))),
-    )
-    (Grows-then old.beside mid.beside new.beside [] es g part.1)
-    (subst (λ (k : Option (List ℕ)). Tells (moments_of old.beside) k ms) (sym n) m)
-turn_cut old mid new s l t ms bytes one count g m (inr untold) n e =
-    turn_begun old.beside new.beside s l t ms None [] one count tt
-    (record { silent = refl; goes_on = refl })
-    (t.text, refl)
-    (Grows-then old.beside mid.beside new.beside [] [] g untold.log)
-    (subst (λ (k : Option (List ℕ)). Tells (moments_of old.beside) k ms) (sym n) m)
+module _ (old mid new : DiskState) (tables : Tables) (s : State) (l : Asked) (t : Turn) (ms : List ℕ)
+    (bytes : List ℕ) (b : Begins old mid s l t ms) (stands : Stands mid tables (after_turn s t))
+    (call : ShellCall mid new false) (m : moments_of new.beside ≡ moments_of mid.beside)
+    (e : bytes ≡ t.text) where
+  cut : (es : Log) → Rests es → ((u : ℕ) → IsPrefix (said_in (until u es)) t.text)
+      → IsPrefix (said_in es) t.text → Grows mid.beside new.beside es
+      → AreWithin mid.moment new.moment es → Stretch old new (BreaksAtHand Failed s (l ∷ []))
+  cut es rests by some g within =
+      turn_begun old mid new s l t ms Failed es b tt rests some g m within call.keeps.later
+      (trusts-kept mid new call.keeps)
+      (leaves-said s (turns s (l ∷ []) ms) t b.one (turns_say s (l ∷ []) ms) old mid new es within by b.trusts b.leaves
+      (λ trusted image is_image. stands_left mid tables (after_turn s t) stands
+      image is_image)
+      call.keeps)
+
+  -- the failure wasn't told
+  cut_untold : Grows mid.beside new.beside [] → Stretch old new (BreaksAtHand Failed s (l ∷ []))
+  cut_untold g = cut [] (record { silent = refl; goes_on = refl })
+      (λ u. (t.text, refl)) (t.text, refl) g tt
+
+  cut_part : (n : ℕ) → Adds mid new (say_failed (take n bytes))
+      → Stretch old new (BreaksAtHand Failed s (l ∷ []))
+  cut_part n added =
+      let part : ℕ × List ℕ = entry new.moment (told_count mid.beside) (say_failed (take n bytes)) in
+      let some : IsPrefix (said_in (part ∷ [])) t.text = (
+        drop n bytes,
+        sym e ∙ sym (take-append-drop n bytes)
+            ∙ ap (λ (bs : List ℕ). bs ++ drop n bytes) (sym (append-nil (take n bytes))),
+      ) in
+      cut (part ∷ []) (record { silent = refl; goes_on = refl }) (one-by part t.text some) some
+      added (call.keeps.later, omega arith, tt)
+
+  pub turn_cut : (((n : ℕ) × Adds mid new (say_failed (take n bytes)))
+      ⊎ Untold mid new says_failed says_missed) → Stretch old new (BreaksAtHand Failed s (l ∷ []))
+  turn_cut (inl part) = cut_part part.0 part.1
+  turn_cut (inr untold) = cut_untold untold.log
 
 -- a turn of which nothing was said, since it lacks what it wants or there is no memory
 pub turn_unsaid : (old new : DiskState) (s : State) (l : Asked) (t : Turn) (ms : List ℕ)
     (fault : RunFault)
-    → turns s (l ∷ []) ms ≡ t ∷ [] → length ms ≡ requests (l ∷ [])
-    → Grows old.beside new.beside [] → Tells (moments_of old.beside) (moments_of new.beside) ms
-    → IsCausedBy t.lacks fault
-    → Calls old.beside new.beside (BreaksAtHand (number_of fault) s (l ∷ []))
-turn_unsaid old new s l t ms Failed one count g m cause = absurd cause
-turn_unsaid old new s l t ms NoMemory one count g m cause =
-    turn_begun old.beside new.beside s l t ms None [] one count tt
-    (record { silent = refl; goes_on = refl }) (t.text, refl) g m
-turn_unsaid old new s l t ms (Spent n) one count g m cause =
-    turn_begun old.beside new.beside s l t ms (Some n) [] one count cause
-    (record { silent = refl; goes_on = refl }) (t.text, refl) g m
+    → Begins old new s l t ms → IsCausedBy t.lacks fault
+    → Stretch old new (BreaksAtHand fault s (l ∷ []))
+turn_unsaid old new s l t ms fault b cause =
+    turn_begun old new new s l t ms fault [] b cause
+    (record { silent = refl; goes_on = refl }) (t.text, refl) (Grows-nil new.beside) refl tt
+    (omega arith) (λ trusted. trusted) (leaves-unsaid s (turns s (l ∷ []) ms) t b.one (turns_say s (l ∷ []) ms) old new b.leaves)

@@ -1,9 +1,10 @@
 -- One turn at the front.
-use Rattle.std.proofs.Common.{◌≡◌, ◌≤◌, ◌<◌, ◌+◌, ◌-◌, ◌==◌, take, ℕ, zero, suc, List, [], ◌∷◌, ◌++◌, length, drop, Bool, true, false, cond, Option, None, refl, sym, ap, subst, ◌∙◌, append_assoc, arith}
+use Rattle.alternator.specs.declared.serve.RunFault.{RunFault}
+use Rattle.std.proofs.Common.{◌≡◌, ◌≤◌, ◌<◌, ◌+◌, ◌-◌, ◌==◌, take, ℕ, zero, suc, List, [], ◌∷◌, ◌++◌, length, drop, Bool, true, false, cond, None, refl, sym, ap, subst, ◌∙◌, append_assoc, arith}
 use Rattle.std.specs.Prelude.{◌||◌}
 use Rattle.alt_machine.specs.State.{State}
 use Rattle.alt_shell.specs.Log.{Log, said_in}
-use Rattle.alternator.specs.Faults.{IsLacked}
+use Rattle.alternator.specs.Faults.{IsCausedBy}
 use Rattle.alternator.specs.Turns.{or_next}
 use Rattle.alternator.specs.TalkViews.{asking}
 use Rattle.alternator.specs.Talks.{Turn, onward, asked, refused, Rules, Head, unread, bad, good, Place, at, turns, final, greets, is_whole, size_of, request_of, has_refused}
@@ -11,7 +12,7 @@ use Rattle.alternator.specs.TalkTexts.{asks, wanted}
 use Rattle.alternator.specs.Stretches.{Utters, Answers, AnswersSome, Moves, MovesSome, Steps}
 use Rattle.alternator.proofs.TalkCuts.{at_unread, at_bad, at_hello, at_whole, at_short}
 use Rattle.alternator.proofs.TalkFolds.{text-more, asks-append}
-use Rattle.alternator.proofs.Uttering.{does_none, does_onward, quiet_none, moves_none, moves_then, moves_break}
+use Rattle.alternator.proofs.Uttering.{does_none, does_onward, quiet_none, moves_none}
 
 pub answers_nothing : (r : Rules) (s : State) (m : Bool) (ts : List Turn) → ts ≡ [] → Answers r s m ts s m [] []
 answers_nothing r s m ts e = subst (λ (us : List Turn). Answers r s m us s m [] []) (sym e) (record { does = does_none r s m; quiet = quiet_none })
@@ -23,7 +24,8 @@ pub greets_done : (g e : Bool) → g ≡ true → greets g e ≡ []
 greets_done g true h = ap (λ v. greets v true) h
 greets_done g false h = refl
 
-greets_clear : (g e : Bool) → has_refused (greets g e) ≡ false
+-- letting a client go on is no refusal
+pub greets_clear : (g e : Bool) → has_refused (greets g e) ≡ false
 greets_clear true true = refl
 greets_clear false true = refl
 greets_clear true false = refl
@@ -45,31 +47,31 @@ wanted-more r s (refused k ∷ ts) us [] h = wanted-more r s ts us [] (omega ari
 wanted-more r s (refused k ∷ ts) us (m ∷ ms) h = wanted-more r s ts us ms (omega arith)
 
 -- a break is one of more turns
-pub some_more : (r : Rules) (number : Option ℕ) (s : State) (m : Bool) (ts us vs : List Turn) (es : Log) (ms : List ℕ) → vs ≡ ts ++ us
-    → AnswersSome r number s m ts es ms → AnswersSome r number s m vs es ms
-some_more r number s m ts us vs es ms e a =
-    subst (λ (ws : List Turn). AnswersSome r number s m ws es ms) (sym e) (record {
+pub some_more : (r : Rules) (fault : RunFault) (s : State) (m : Bool) (ts us vs : List Turn) (es : Log) (ms : List ℕ) → vs ≡ ts ++ us
+    → AnswersSome r fault s m ts es ms → AnswersSome r fault s m vs es ms
+some_more r fault s m ts us vs es ms e a =
+    subst (λ (ws : List Turn). AnswersSome r fault s m ws es ms) (sym e) (record {
       some = record {
         said = let t = text-more r s ts us ms a.some.most in (a.some.said.0 ++ t.0, t.1 ∙ ap (λ bs. bs ++ t.0) a.some.said.1 ∙ append_assoc (said_in es) a.some.said.0 t.0);
         most = let x = asks-append ts us in let y = a.some.most in omega (arith, x, y);
-        wants = subst (IsLacked number) (sym (wanted-more r s ts us ms a.some.most)) a.some.wants;
+        wants = subst (λ w. IsCausedBy w fault) (sym (wanted-more r s ts us ms a.some.most)) a.some.wants;
         silent = a.some.silent;
       };
       quiet = a.quiet;
     })
 
-pub moves_some : (r : Rules) (number : Option ℕ) (p : Place) (s : State) (m : Bool) (es : Log) (ms : List ℕ) (ts us : List Turn)
-    → turns r p.left p.greeted p.bytes ≡ ts ++ us → AnswersSome r number s m ts es ms → MovesSome r number p s m es ms
-moves_some r number p s m es ms ts us e a = let b = some_more r number s m ts us _ es ms e a in record { some = b.some; quiet = b.quiet }
+pub moves_some : (r : Rules) (fault : RunFault) (p : Place) (s : State) (m : Bool) (es : Log) (ms : List ℕ) (ts us : List Turn)
+    → turns r p.left p.greeted p.bytes ≡ ts ++ us → AnswersSome r fault s m ts es ms → MovesSome r fault p s m es ms
+moves_some r fault p s m es ms ts us e a = let b = some_more r fault s m ts us _ es ms e a in record { some = b.some; quiet = b.quiet }
 
-pub steps_unread : (r : Rules) (p : Place) (s : State) (m : Bool) → r.scan p.bytes ≡ unread → Steps r false p s m p s m [] []
+unfoldable pub steps_unread : (r : Rules) (p : Place) (s : State) (m : Bool) → r.scan p.bytes ≡ unread → Steps r false p s m p s m [] []
 steps_unread r p s m e = record {
   moves = moves_none r p s m;
   rests = λ _. at_unread r p.left p.greeted p.bytes e;
   fewer = λ h. absurd (let f : ⊥ = cc in f);
 }
 
-pub steps_bad : (r : Rules) (p : Place) (s t : State) (m n : Bool) (k : ℕ) (es : Log) (ms : List ℕ) → 0 < p.left → r.scan p.bytes ≡ bad k
+unfoldable pub steps_bad : (r : Rules) (p : Place) (s t : State) (m n : Bool) (k : ℕ) (es : Log) (ms : List ℕ) → 0 < p.left → r.scan p.bytes ≡ bad k
     → Answers r s m (refused k ∷ []) t n es ms → Steps r true p s m (at 0 p.greeted p.bytes) t n es ms
 steps_bad r p s t m n k es ms h e a =
     let l = at_bad r p.left p.greeted p.bytes k h e in record {
@@ -79,13 +81,13 @@ steps_bad r p s t m n k es ms h e a =
     }
 
 -- the client was let go on
-pub moves_hello : (r : Rules) (p : Place) (h : Head) (s t : State) (m n : Bool) (es : Log) (ms : List ℕ) → 0 < p.left → r.scan p.bytes ≡ good h
+unfoldable pub moves_hello : (r : Rules) (p : Place) (h : Head) (s t : State) (m n : Bool) (es : Log) (ms : List ℕ) → 0 < p.left → r.scan p.bytes ≡ good h
     → Answers r s m (greets p.greeted h.expect) t n es ms → Moves r p s m (at p.left (p.greeted || h.expect) p.bytes) t n es ms
 moves_hello r p h s t m n es ms l e a =
     let f = at_hello r p.left p.greeted p.bytes h e l in
     record { done = greets p.greeted h.expect; does = a.does; splits = f.0; same = f.1; clear = λ _. greets_clear p.greeted h.expect; quiet = a.quiet }
 
-pub steps_short : (r : Rules) (p : Place) (h : Head) (s t : State) (m n : Bool) (es : Log) (ms : List ℕ) → 0 < p.left → r.scan p.bytes ≡ good h → is_whole h p.bytes ≡ false
+unfoldable pub steps_short : (r : Rules) (p : Place) (h : Head) (s t : State) (m n : Bool) (es : Log) (ms : List ℕ) → 0 < p.left → r.scan p.bytes ≡ good h → is_whole h p.bytes ≡ false
     → Answers r s m (greets p.greeted h.expect) t n es ms → Steps r false p s m (at p.left (p.greeted || h.expect) p.bytes) t n es ms
 steps_short r p h s t m n es ms l e w a = record {
   moves = moves_hello r p h s t m n es ms l e a;
@@ -94,7 +96,7 @@ steps_short r p h s t m n es ms l e w a = record {
 }
 
 -- what stands at the front where a whole request does
-whole_at : (r : Rules) (left : ℕ) (g : Bool) (bytes : List ℕ) (h : Head) → 0 < left → r.scan bytes ≡ good h → is_whole h bytes ≡ true
+pub whole_at : (r : Rules) (left : ℕ) (g : Bool) (bytes : List ℕ) (h : Head) → 0 < left → r.scan bytes ≡ good h → is_whole h bytes ≡ true
     → (turns r left (g || h.expect) bytes ≡ asked (request_of h bytes (left - 1)) ∷ turns r (cond h.close 0 (left - 1)) false (drop (size_of h) bytes))
     × (final r left (g || h.expect) bytes ≡ final r (cond h.close 0 (left - 1)) false (drop (size_of h) bytes))
 whole_at r zero g bytes h l e w = absurd (omega arith)
@@ -103,33 +105,9 @@ whole_at r (suc n) g bytes h l e w =
     subst (λ (k : ℕ). (turns r (suc n) (g || h.expect) bytes ≡ asked (request_of h bytes k) ∷ turns r (cond h.close 0 k) false (drop (size_of h) bytes))
     × (final r (suc n) (g || h.expect) bytes ≡ final r (cond h.close 0 k) false (drop (size_of h) bytes))) same (at_whole r n g bytes h e w)
 
-fewer_left : (c : Bool) (left : ℕ) → 0 < left → cond c 0 (left - 1) < left
+pub fewer_left : (c : Bool) (left : ℕ) → 0 < left → cond c 0 (left - 1) < left
 fewer_left true left l = l
 fewer_left false left l = omega arith
-
--- a head of the same sizes: whether it expects doesn't matter to the request
-module _ (r : Rules) (p : Place) (h : Head) (s t u : State) (m n o : Bool) (es fs : Log) (ms ns : List ℕ) (l : 0 < p.left) (e : r.scan p.bytes ≡ good h) (w : is_whole h p.bytes ≡ true)
-    (a : Answers r s m (greets p.greeted h.expect) t n es ms) where
-  pub steps_whole : (q : Place) → q ≡ at (cond h.close 0 (p.left - 1)) false (drop (size_of h) p.bytes)
-      → Answers r t n (asked (request_of h p.bytes (p.left - 1)) ∷ []) u o fs ns → Steps r true p s m q u o (es ++ fs) (ms ++ ns)
-  steps_whole q place b =
-      let f = whole_at r p.left p.greeted p.bytes h l e w in
-      let mid = at p.left (p.greeted || h.expect) p.bytes in
-      let end = at (cond h.close 0 (p.left - 1)) false (drop (size_of h) p.bytes) in
-      let first = moves_hello r p h s t m n es ms l e a in
-      let second : Moves r mid t n end u o fs ns = record { done = asked (request_of h p.bytes (p.left - 1)) ∷ []; does = b.does; splits = f.0; same = f.1; clear = λ _. refl; quiet = b.quiet } in
-      subst (λ (v : Place). Steps r true p s m v u o (es ++ fs) (ms ++ ns)) (sym place) (record {
-        moves = moves_then r p mid end s t u m n o es fs ms ns l first second;
-        rests = λ z. absurd (let f : ⊥ = cc in f);
-        fewer = λ _. fewer_left h.close p.left l;
-      })
-
-  pub some_whole : (number : Option ℕ) → AnswersSome r number t n (asked (request_of h p.bytes (p.left - 1)) ∷ []) fs ns → MovesSome r number p s m (es ++ fs) (ms ++ ns)
-  some_whole number b =
-      let f = whole_at r p.left p.greeted p.bytes h l e w in
-      let mid = at p.left (p.greeted || h.expect) p.bytes in
-      moves_break r number p mid s t m n es fs ms ns l (moves_hello r p h s t m n es ms l e a)
-      (moves_some r number mid t n fs ns (asked (request_of h p.bytes (p.left - 1)) ∷ []) _ f.0 b)
 
 -- the client was let go on
 pub answers_greeted : (r : Rules) (s : State) (m n g e : Bool) → e ≡ true → g ≡ false → (es : Log)

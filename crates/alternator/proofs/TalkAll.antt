@@ -1,10 +1,11 @@
 -- Connections, one after another.
-use Rattle.std.proofs.Common.{◌≡◌, ◌<◌, ◌≤◌, ◌+◌, ◌⊎◌, inl, inr, ℕ, List, [], ◌∷◌, ◌++◌, length, Option, None, true, false, refl, sym, ap, subst, ◌∙◌, append-nil, append_assoc, length-append, arith}
+use Rattle.alternator.specs.declared.serve.RunFault.{RunFault}
+use Rattle.alternator.specs.declared.serve.RunFault.TheVariants.{NoMemory}
+use Rattle.std.proofs.Common.{◌≡◌, ◌<◌, ◌+◌, inl, inr, ℕ, List, [], ◌∷◌, ◌++◌, length, true, false, refl, sym, ap, subst, ◌∙◌, append-nil, length-append, arith}
 use Rattle.std.proofs.lemmas.Grind.{flat_map-append}
 use Rattle.alt_machine.specs.State.{State}
-use Rattle.alt_shell.specs.Log.{Log, entry, accepted, none_came}
-use Rattle.alternator.specs.Connections.{Connection, Serves, ServesAll, Served, ServedSome, Comes, ComesSome, entries_of, told_of, turns_of, after_all}
-use Rattle.alternator.specs.Stretches.{DoesSome}
+use Rattle.alt_shell.specs.Log.{Log, entry, accepted}
+use Rattle.alternator.specs.Connections.{Connection, Serves, ServesAll, Served, ServedSome, Comes, ComesSome, entries_of, told_of, after_all}
 use Rattle.alternator.specs.Talks.{Rules}
 
 -- so many connections were served, and nothing else was done
@@ -15,14 +16,15 @@ pub record Sofar (r : Rules) (per n : ℕ) (s t : State) (entries : Log) (told :
   pub moments : told ≡ told_of all
   pub each : ServesAll r per s all t
 
-entries-append : (ks ls : List Connection) → entries_of (ks ++ ls) ≡ entries_of ks ++ entries_of ls
+pub entries-append : (ks ls : List Connection) → entries_of (ks ++ ls) ≡ entries_of ks ++ entries_of ls
 entries-append ks ls = flat_map-append
     (λ (k : Connection). entry k.moment k.clocked accepted ∷ k.entries) ks ls
 
-told-append : (ks ls : List Connection) → told_of (ks ++ ls) ≡ told_of ks ++ told_of ls
+pub told-append : (ks ls : List Connection) → told_of (ks ++ ls) ≡ told_of ks ++ told_of ls
 told-append ks ls = flat_map-append (λ (k : Connection). k.told) ks ls
 
-serves_one_more : (r : Rules) (per : ℕ) (ks : List Connection) (s t u : State) (k : Connection)
+-- one more was served
+pub serves_one_more : (r : Rules) (per : ℕ) (ks : List Connection) (s t u : State) (k : Connection)
     → ServesAll r per s ks t → Serves r per t k u → ServesAll r per s (ks ++ k ∷ []) u
 serves_one_more r per [] s t u k e one = (u, subst_state one, refl)
   where
@@ -32,17 +34,17 @@ serves_one_more r per (j ∷ ks) s t u k all one =
     (all.0, all.1, serves_one_more r per ks all.0 t u k all.2 one)
 
 -- the state after them
-all_state : (r : Rules) (per : ℕ) (ks : List Connection) (s t : State) → ServesAll r per s ks t
+pub all_state : (r : Rules) (per : ℕ) (ks : List Connection) (s t : State) → ServesAll r per s ks t
     → t ≡ after_all r per s ks
 all_state r per [] s t e = e
 all_state r per (k ∷ ks) s t all = all_state r per ks all.0 t all.2
     ∙ ap (λ (v : State). after_all r per v ks) all.1.does.state
 
-pub sofar_none : (r : Rules) (per : ℕ) (s : State) → Sofar r per 0 s s [] []
+unfoldable pub sofar_none : (r : Rules) (per : ℕ) (s : State) → Sofar r per 0 s s [] []
 sofar_none r per s = record { all = []; count = refl; made = refl; moments = refl; each = refl }
 
 -- one more
-pub sofar_more : (r : Rules) (per n : ℕ) (s t u : State) (es fs : Log) (ms ns : List ℕ)
+unfoldable pub sofar_more : (r : Rules) (per n : ℕ) (s t u : State) (es fs : Log) (ms ns : List ℕ)
     → Sofar r per n s t es ms → Comes r per true t u fs ns
     → Sofar r per (n + 1) s u (es ++ fs) (ms ++ ns)
 sofar_more r per n s t u es fs ms ns a b =
@@ -58,7 +60,7 @@ sofar_more r per n s t u es fs ms ns a b =
     }
 
 -- as many as there were to be
-pub served_all : (r : Rules) (per n : ℕ) (s t : State) (es : Log) (ms : List ℕ)
+unfoldable pub served_all : (r : Rules) (per n : ℕ) (s t : State) (es : Log) (ms : List ℕ)
     → Sofar r per n s t es ms → Served r per n s t es ms
 served_all r per n s t es ms a = record {
   all = a.all;
@@ -71,7 +73,7 @@ served_all r per n s t es ms a = record {
 }
 
 -- or fewer, since none came any more
-pub served_fewer : (r : Rules) (per n count : ℕ) (s t u : State) (es fs : Log) (ms ns : List ℕ)
+unfoldable pub served_fewer : (r : Rules) (per n count : ℕ) (s t u : State) (es fs : Log) (ms ns : List ℕ)
     → n < count → Sofar r per n s t es ms → Comes r per false t u fs ns
     → Served r per count s u (es ++ fs) (ms ++ ns)
 served_fewer r per n count s t u es fs ms ns few a b =
@@ -86,20 +88,20 @@ served_fewer r per n count s t u es fs ms ns few a b =
     }
 
 -- a connection broke off, or the wait for one failed
-pub served_some : (r : Rules) (per n count : ℕ) (number : Option ℕ) (s t : State) (es fs : Log)
-    (ms ns : List ℕ) → n < count → Sofar r per n s t es ms → ComesSome r per number t fs ns
-    → ServedSome r per count number s (es ++ fs) (ms ++ ns)
-served_some r per n count number s t es fs ms ns few a (inl none) = record {
+unfoldable pub served_some : (r : Rules) (per n count : ℕ) (fault : RunFault) (s t : State) (es fs : Log)
+    (ms ns : List ℕ) → n < count → Sofar r per n s t es ms → ComesSome r per fault t fs ns
+    → ServedSome r per count fault s (es ++ fs) (ms ++ ns)
+served_some r per n count fault s t es fs ms ns few a (inl none) = record {
   all = a.all;
   halfway = t;
   each = a.each;
   last = [];
   made = ap (λ (l : Log). l ++ fs) a.made ∙ ap (λ (l : Log). entries_of a.all ++ l) none.0;
   moments = ap (λ (l : List ℕ). l ++ ns) a.moments ∙ ap (λ (l : List ℕ). told_of a.all ++ l) none.1;
-  some = inl refl;
+  some = inl (refl, none.2);
   most = let m = a.count in omega (arith, m, few);
 }
-served_some r per n count number s t es fs ms ns few a (inr one) =
+served_some r per n count fault s t es fs ms ns few a (inr one) =
     let k = one.0 in record {
       all = a.all;
       halfway = t;
@@ -114,7 +116,7 @@ served_some r per n count number s t es fs ms ns few a (inr one) =
     }
 
 -- nothing was begun
-pub served_nothing : (r : Rules) (per count : ℕ) (s : State) → ServedSome r per count None s [] []
+unfoldable pub served_nothing : (r : Rules) (per count : ℕ) (s : State) → ServedSome r per count NoMemory s [] []
 served_nothing r per count s = record {
   all = [];
   halfway = s;
@@ -122,6 +124,6 @@ served_nothing r per count s = record {
   last = [];
   made = refl;
   moments = refl;
-  some = inl refl;
+  some = inl (refl, tt);
   most = omega arith;
 }

@@ -1,11 +1,12 @@
 -- The rules of the server are lawful, and refusals have numbers from 1 to 9.
-use Rattle.std.proofs.Common.{◌≡◌, ◌≤◌, ◌<◌, ℕ, List, [], ◌∷◌, ◌++◌, length, Bool, true, false, Option, Some, None, cond, refl, sym, ap, subst, ◌∙◌, arith}
+use Rattle.std.proofs.Common.{◌≡◌, ◌≤◌, ◌<◌, ℕ, List, [], ◌∷◌, ◌++◌, length, Bool, true, false, Option, Some, None, cond, refl, sym, ap, subst, ◌∙◌, arith, length-append}
 use Rattle.std.specs.Prelude.{not, nat_lt, codes}
 use Rattle.std.specs.Str.{bytes_eq}
 use Rattle.std.specs.Str.Parse.{digits_value}
 use Rattle.std.specs.List.{list_any}
 use Rattle.alt_http.specs.Reading.{scan_of}
-use Rattle.alt_http.specs.Replies.{continue_text, reply_text, refusal_status, refusal_body}
+use Rattle.alt_http.specs.Dates.{date_at}
+use Rattle.alt_http.specs.Replies.{continue_text, head_text, reply_text, refusal_status, refusal_body}
 use Rattle.alt_http.specs.Fields.{is_word, values_named}
 use Rattle.alt_http.specs.Lengths.{is_other_length}
 use Rattle.alt_http.specs.Judged.{IsScan, Parts, refusal_of, answered, length_refusal, has_value, most_of_body, by_head, by_bad, by_size, by_more, parts_of}
@@ -17,7 +18,7 @@ use Rattle.alt_machine.specs.State.{State}
 use Rattle.alt_machine.specs.Wanted.{wanted}
 use Rattle.alternator.specs.TalkRules.{rules, outcome_of, http_text}
 use Rattle.alternator.specs.TalkViews.{scanned}
-use Rattle.alternator.specs.Talks.{Rules, Lawful, Scanned, unread, bad, good, Request, Head as TalkHead}
+use Rattle.alternator.specs.Talks.{Lawful, unread, bad, good, Request, Head as TalkHead}
 
 -- ---- the rules
 
@@ -44,6 +45,11 @@ pub rules-next : (s : State) (q : Request) (m : ℕ)
 unfolding rules
 rules-next s q m = refl
 
+pub rules-atoms : (s : State) (q : Request) (m : ℕ)
+    → rules.atoms s q m ≡ (outcome_of s q m).atoms
+unfolding rules
+rules-atoms s q m = refl
+
 pub rules-wants : (s : State) (q : Request) (m : ℕ)
     → rules.wants s q m ≡ wanted s (outcome_of s q m)
 unfolding rules
@@ -67,6 +73,19 @@ good-is (Head taken target length expect close) h e =
     let same : record { taken = taken; target = target; length = length; expect = expect; close = close } ≡ h = cc in
     ap (λ (g : TalkHead). Head g.taken g.target g.length g.expect g.close) same
 
+-- a head has a byte or more, so each reply has
+head_says : (status : ℕ) (date : List ℕ) (close : Bool) (n : ℕ)
+    → 0 < length (head_text status date close n)
+unfolding head_text
+head_says status date close n = omega arith
+
+reply_says : (status m : ℕ) (close : Bool) (body : List ℕ)
+    → 0 < length (reply_text status m close body)
+reply_says status m close body =
+    let h = head_says status (date_at m) close (length body) in
+    let l = length-append (head_text status (date_at m) close (length body)) body in
+    omega (arith, h, l)
+
 pub lawful : Lawful rules
 lawful = record {
   nothing = rules-scan [] ∙ ap scanned scan_of-nothing;
@@ -79,6 +98,12 @@ lawful = record {
   within = λ a h e.
       let is = good-is (scan_of a) h (sym (rules-scan a) ∙ e) in
       scan_of-within a h.taken h.target h.length h.expect h.close is;
+  steps = λ s q m. rules-next s q m ∙ ap (last_state s) (sym (rules-atoms s q m));
+  replies = λ s q m. subst (λ (bs : List ℕ). 0 < length bs) (sym (rules-reply s q m))
+      (reply_says _ m q.close _);
+  refuses = λ k m. subst (λ (bs : List ℕ). 0 < length bs) (sym (rules-refusal k m))
+      (reply_says (refusal_status k) m true (refusal_body k));
+  greets = subst (λ (bs : List ℕ). 0 < length bs) (sym rules-greeting) (omega arith);
 }
 
 -- ---- the numbers of refusals

@@ -1,11 +1,15 @@
 -- Entries of a connection, one stretch after another.
-use Rattle.std.proofs.Common.{◌≡◌, ℕ, List, [], ◌∷◌, ◌++◌, Bool, true, false, Option, refl, sym, ap, subst, ◌∙◌, append-nil}
+use Rattle.std.proofs.Common.{◌≡◌, ◌≤◌, ℕ, List, [], ◌∷◌, ◌++◌, Bool, true, false, Option, refl, ap, subst, ◌∙◌, append-nil, arith}
 use Rattle.std.specs.Prelude.{◌||◌}
 use Rattle.std.specs.List.{list_any}
+use Rattle.alt_disk.specs.Disk.{DiskState}
+use Rattle.alt_shell.specs.Calls.{Keeps}
 use Rattle.alt_shell.specs.Log.{Log, Grows, Tells, moments_of, event_of, Event, is_say_failed, is_bound, says_failed, crosses}
 use Rattle.alt_shell.proofs.Telling.{Grows-then, Tells-then, Tells-nil}
-use Rattle.alternator.specs.Runs.{Calls}
+use Rattle.alternator.specs.Runs.{OfStretch, Stretch}
+use Rattle.alternator.specs.Stops.{AreWithin}
 use Rattle.alternator.specs.Stretches.{is_over, over}
+use Rattle.alternator.proofs.Stopping.{trusts-kept, within-then, within-wider}
 
 pub or-assoc : (a b c : Bool) → (a || (b || c)) ≡ ((a || b) || c)
 or-assoc true b c = refl
@@ -29,14 +33,18 @@ broken-append es fs = any-append is_say_failed es fs
 pub crosses-append : (es fs : Log) → crosses (es ++ fs) ≡ (crosses es || crosses fs)
 crosses-append es fs = any-append is_bound es fs
 
--- one call, which told no moment
-pub calls_one : (a b : Log) (P : Log → List ℕ → Type 0) (es : Log) → Grows a b es
-    → moments_of b ≡ moments_of a → P es [] → Calls a b P
-calls_one a b P es g m p = record {
+-- one call, which told no moment and left all files
+pub stretch_one : (a b : DiskState) (P : OfStretch) (es : Log) → Grows a.beside b.beside es
+    → moments_of b.beside ≡ moments_of a.beside → AreWithin a.moment b.moment es → Keeps a b
+    → P a b es [] → Stretch a b P
+stretch_one a b P es g m within keeps p = record {
   entries = es;
   told = [];
   grows = g;
-  tells = Tells-nil (moments_of a) (moments_of b) m;
+  tells = Tells-nil (moments_of a.beside) (moments_of b.beside) m;
+  within = within;
+  later = keeps.later;
+  trusts = trusts-kept a b keeps;
   holds = p;
 }
 
@@ -45,39 +53,45 @@ pub record Clocked (moment : ℕ) (es : Log) (ms : List ℕ) : Type 0 where
   pub nothing : es ≡ []
   pub one : ms ≡ moment ∷ []
 
-pub calls_now : (a b : Log) (moment : ℕ) → Grows a b []
-    → Tells (moments_of a) (moments_of b) (moment ∷ []) → Calls a b (Clocked moment)
-calls_now a b moment g m = record {
-  entries = [];
-  told = moment ∷ [];
-  grows = g;
-  tells = m;
-  holds = record { nothing = refl; one = refl };
-}
-
 -- a call with one entry, and then more calls
-pub took_then : (a b c : Log) (x : ℕ × List ℕ) (P Q : Log → List ℕ → Type 0) → Grows a b (x ∷ [])
-    → moments_of b ≡ moments_of a → ((es : Log) (ms : List ℕ) → P es ms → Q (x ∷ es) ms)
-    → Calls b c P → Calls a c Q
-took_then a b c x P Q g m join p = record {
+pub took_then : (a b c : DiskState) (x : ℕ × List ℕ) (P Q : OfStretch)
+    → Grows a.beside b.beside (x ∷ []) → moments_of b.beside ≡ moments_of a.beside
+    → a.moment ≤ x.0 → x.0 ≤ b.moment → Keeps a b
+    → ((es : Log) (ms : List ℕ) → AreWithin b.moment c.moment es → P b c es ms → Q a c (x ∷ es) ms)
+    → Stretch b c P → Stretch a c Q
+took_then a b c x P Q g m low high keeps join p = record {
   entries = x ∷ p.entries;
   told = p.told;
-  grows = Grows-then a b c (x ∷ []) p.entries g p.grows;
-  tells = Tells-then (moments_of a) (moments_of b) (moments_of c) [] p.told
-      (Tells-nil (moments_of a) (moments_of b) m) p.tells;
-  holds = join p.entries p.told p.holds;
+  grows = Grows-then a.beside b.beside c.beside (x ∷ []) p.entries g p.grows;
+  tells = Tells-then (moments_of a.beside) (moments_of b.beside) (moments_of c.beside) [] p.told
+      (Tells-nil (moments_of a.beside) (moments_of b.beside) m) p.tells;
+  within = (
+    low,
+    omega (arith, high, p.later),
+    within-wider a.moment b.moment c.moment c.moment p.entries p.within keeps.later (omega arith),
+  );
+  later = let k = keeps.later in omega (arith, k, p.later);
+  trusts = λ trusted. p.trusts (trusts-kept a b keeps trusted);
+  holds = join p.entries p.told p.within p.holds;
 }
 
--- calls, and then one call with one entry
-pub then_one : (a b c : Log) (x : ℕ × List ℕ) (P Q : Log → List ℕ → Type 0) → Grows b c (x ∷ [])
-    → moments_of c ≡ moments_of b
-    → ((es : Log) (ms : List ℕ) → P es ms → Q (es ++ x ∷ []) ms) → Calls a b P → Calls a c Q
-then_one a b c x P Q g m join p = record {
+-- calls, and then one call with one entry, which takes no moment
+pub then_one : (a b c : DiskState) (x : ℕ × List ℕ) (P Q : OfStretch)
+    → Grows b.beside c.beside (x ∷ []) → moments_of c.beside ≡ moments_of b.beside
+    → b.moment ≤ x.0 → x.0 ≤ c.moment → Keeps b c
+    → ((es : Log) (ms : List ℕ) → P a b es ms → Q a c (es ++ x ∷ []) ms)
+    → Stretch a b P → Stretch a c Q
+then_one a b c x P Q g m low high keeps join p = record {
   entries = p.entries ++ x ∷ [];
   told = p.told;
-  grows = Grows-then a b c p.entries (x ∷ []) p.grows g;
-  tells = subst (λ (ms : List ℕ). Tells (moments_of a) (moments_of c) ms) (append-nil p.told)
-      (Tells-then (moments_of a) (moments_of b) (moments_of c) p.told [] p.tells
-      (Tells-nil (moments_of b) (moments_of c) m));
+  grows = Grows-then a.beside b.beside c.beside p.entries (x ∷ []) p.grows g;
+  tells = subst (λ (ms : List ℕ). Tells (moments_of a.beside) (moments_of c.beside) ms)
+      (append-nil p.told)
+      (Tells-then (moments_of a.beside) (moments_of b.beside) (moments_of c.beside) p.told [] p.tells
+      (Tells-nil (moments_of b.beside) (moments_of c.beside) m));
+  within = within-then a.moment b.moment c.moment p.entries (x ∷ []) p.within (low, high, tt) p.later
+      keeps.later;
+  later = let k = keeps.later in omega (arith, k, p.later);
+  trusts = λ trusted. trusts-kept b c keeps (p.trusts trusted);
   holds = join p.entries p.told p.holds;
 }

@@ -1,17 +1,15 @@
 -- Taking, and then the turns at hand.
-use Rattle.std.proofs.Common.{◌≡◌, ◌<◌, ◌⊎◌, inl, inr, ℕ, List, [], ◌∷◌, ◌++◌, length, Bool, true, false, Option, Some, None, refl, sym, ap, subst, ◌∙◌, append-nil, arith, append_assoc, length-append}
+use Rattle.alternator.specs.declared.serve.RunFault.{RunFault}
+use Rattle.alternator.specs.declared.serve.RunFault.TheVariants.{NoMemory}
+use Rattle.std.proofs.Common.{◌≡◌, ◌<◌, ℕ, List, [], ◌∷◌, ◌++◌, length, Bool, true, false, Some, refl, sym, ap, subst, ◌∙◌, append-nil, arith, append_assoc, length-append}
 use Rattle.std.specs.Prelude.{◌||◌}
-use Rattle.std.proofs.lemmas.Bool.{true≢false}
-use Rattle.alt_disk.specs.Disk.{DiskState}
 use Rattle.alt_machine.specs.State.{State}
-use Rattle.alt_shell.specs.Calls.{Adds, Untold, IsUntoldBy}
-use Rattle.alternator.specs.Runs.{Calls}
-use Rattle.alt_shell.specs.Log.{Log, talks, takes_missed, takes_failed, moments_of, entry, took, take_failed, taken, crosses}
+use Rattle.alt_shell.specs.Log.{Log, entry, took, take_failed, taken, crosses}
 use Rattle.alternator.specs.Talks.{Turn, Rules, Lawful, Place, at, turns, final, turns_at, final_at, has_refused}
 use Rattle.alternator.specs.TalkTexts.{text}
 use Rattle.alternator.specs.Stretches.{is_over, over, Does, DoesSome, MovesAll, MovesSome, Goes, GoesSome, AtRest}
 use Rattle.alternator.proofs.Serving.{taken-append}
-use Rattle.alternator.proofs.TalkLogs.{calls_one, over-append, crosses-append}
+use Rattle.alternator.proofs.TalkLogs.{over-append, crosses-append}
 use Rattle.alternator.proofs.TalkCuts.{turns_cut, final_cut, at_unread}
 use Rattle.alternator.proofs.Uttering.{does_none, does_then, does_break, clear_then}
 
@@ -46,16 +44,16 @@ module _ (r : Rules) (p : Place) (s : State) (m : Bool) (bytes : List ℕ) (mome
         inside = a.quiet.inside;
       }
 
-  pub goes_some_taken : (number : Option ℕ) (es : Log) (ms : List ℕ) → MovesSome r number (at p.left p.greeted (p.bytes ++ bytes)) s m es ms → GoesSome r number p s m (entry moment clocked (took bytes) ∷ es) ms
-  goes_some_taken number es ms a =
+  pub goes_some_taken : (fault : RunFault) (es : Log) (ms : List ℕ) → MovesSome r fault (at p.left p.greeted (p.bytes ++ bytes)) s m es ms → GoesSome r fault p s m (entry moment clocked (took bytes) ∷ es) ms
+  goes_some_taken fault es ms a =
       let all = all_taken es a.quiet.still in
       record {
-        some = subst (λ (bs : List ℕ). DoesSome r number s m (turns_at r p bs) (entry moment clocked (took bytes) ∷ es) ms) (sym all)
+        some = subst (λ (bs : List ℕ). DoesSome r fault s m (turns_at r p bs) (entry moment clocked (took bytes) ∷ es) ms) (sym all)
             (record { said = a.some.said; most = a.some.most; wants = a.some.wants; silent = a.some.silent });
         inside = a.quiet.inside;
       }
 
-  pub goes_some_none : GoesSome r None p s m (entry moment clocked (took bytes) ∷ []) []
+  pub goes_some_none : GoesSome r NoMemory p s m (entry moment clocked (took bytes) ∷ []) []
   goes_some_none = record { some = record { said = (text r s (turns_at r p (taken (entry moment clocked (took bytes) ∷ []))) [], refl); most = omega arith; wants = tt; silent = λ _. refl }; inside = refl }
 
 -- the end came
@@ -99,7 +97,8 @@ empty_of (y ∷ ys) e = absurd (omega arith)
 append_same : (xs ys : List Turn) → xs ++ ys ≡ xs → ys ≡ []
 append_same xs ys e = let a = length-append xs ys in let b = ap length e in empty_of ys (omega (arith, a, b))
 
-joined : (r : Rules) (w : Lawful r) (p q : Place) (s t : State) (m n : Bool) (es fs : Log) (ms : List ℕ) → 0 < q.left → Goes r true p s m q t n es ms
+-- the turns of both takes
+pub joined : (r : Rules) (w : Lawful r) (p q : Place) (s t : State) (m n : Bool) (es fs : Log) (ms : List ℕ) → 0 < q.left → Goes r true p s m q t n es ms
     → turns_at r p (taken (es ++ fs)) ≡ turns_at r p (taken es) ++ turns_at r q (taken fs)
 joined r w p q s t m n es fs ms going a = ap (turns_at r p) (taken-append es fs) ∙ ap (turns r p.left p.greeted) (sym (append_assoc p.bytes (taken es) (taken fs)))
     ∙ turns_cut r w p.left p.greeted (p.bytes ++ taken es) (taken fs) ∙ ap (λ (k : Place). turns_at r p (taken es) ++ turns_at r k (taken fs)) (sym a.place)
@@ -143,23 +142,10 @@ goes_none r w per s =
     }
 
 -- turns then a break
-pub goes_break : (r : Rules) (w : Lawful r) (number : Option ℕ) (p q : Place) (s t : State) (m n : Bool) (es fs : Log) (ms ns : List ℕ) → 0 < q.left
-    → Goes r true p s m q t n es ms → GoesSome r number q t n fs ns → GoesSome r number p s m (es ++ fs) (ms ++ ns)
-goes_break r w number p q s t m n es fs ms ns going a b = record {
-  some = subst (λ (ts : List Turn). DoesSome r number s m ts (es ++ fs) (ms ++ ns)) (sym (joined r w p q s t m n es fs ms going a))
-      (does_break r number s t m n (turns_at r p (taken es)) (turns_at r q (taken fs)) es fs ms ns (a.clear going) a.does b.some);
+pub goes_break : (r : Rules) (w : Lawful r) (fault : RunFault) (p q : Place) (s t : State) (m n : Bool) (es fs : Log) (ms ns : List ℕ) → 0 < q.left
+    → Goes r true p s m q t n es ms → GoesSome r fault q t n fs ns → GoesSome r fault p s m (es ++ fs) (ms ++ ns)
+goes_break r w fault p q s t m n es fs ms ns going a b = record {
+  some = subst (λ (ts : List Turn). DoesSome r fault s m ts (es ++ fs) (ms ++ ns)) (sym (joined r w p q s t m n es fs ms going a))
+      (does_break r fault s t m n (turns_at r p (taken es)) (turns_at r q (taken fs)) es fs ms ns (a.clear going) a.does b.some);
   inside = crosses-append es fs ∙ ap (λ e. e || crosses fs) a.inside ∙ b.inside;
 }
-
--- a take that failed in a talk in which none had failed
-pub goes_missed : (r : Rules) (p : Place) (s : State) (m : Bool) (rest : AtRest r p) (a b : DiskState)
-    → talks a.beside ≡ true → takes_missed a.beside ≡ false
-    → (Adds a b take_failed ⊎ Untold a b takes_failed takes_missed)
-    → moments_of b.beside ≡ moments_of a.beside
-    → Calls a.beside b.beside (Goes r false p s m p s m)
-goes_missed r p s m rest a b talking none (inl told) moments =
-    calls_one a.beside b.beside (Goes r false p s m p s m) _ told moments
-    (goes_failed r p s m rest _ _)
-goes_missed r p s m rest a b talking none (inr untold) moments =
-    let why = subst (λ (t : Bool). IsUntoldBy t a takes_failed takes_missed) talking untold.why in
-    absurd (true≢false (sym why ∙ none))

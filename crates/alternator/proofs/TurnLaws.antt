@@ -6,7 +6,7 @@ use Rattle.std.proofs.Math.Seq.{drop-append_seam}
 use Rattle.alt_machine.specs.State.{State}
 use Rattle.alt_machine.specs.Wanted.{Lack}
 use Rattle.alternator.specs.Moments.{answered}
-use Rattle.alternator.specs.Turns.{Asked, request, unread, Turn, turns, turned_away, carried_out, text_of, after, after_turn, or_next, wanted, requests}
+use Rattle.alternator.specs.Turns.{Asked, request, reopen, unread, Turn, turns, opened_again, turned_away, carried_out, text_of, after, after_turn, or_next, wanted, requests}
 
 same_suc : {m n : ℕ} → suc m ≡ suc n → m ≡ n
 same_suc e = omega arith
@@ -15,6 +15,7 @@ same_suc e = omega arith
 pub requests-append : (ls ks : List Asked) → requests (ls ++ ks) ≡ requests ls + requests ks
 requests-append [] ks = omega arith
 requests-append (request name body ∷ ls) ks = let h = requests-append ls ks in omega (arith, h)
+requests-append (reopen ∷ ls) ks = requests-append ls ks
 requests-append (unread ∷ ls) ks = requests-append ls ks
 
 -- the turns of lines and more lines are those of the first, and then those of the others from the state that the first left
@@ -26,6 +27,8 @@ turns-append s (request name body ∷ ls) ks [] ns e = absurd (omega arith)
 turns-append s (request name body ∷ ls) ks (m ∷ ms) ns e =
     ap (λ ts. carried_out s name body m ∷ ts)
     (turns-append (after_turn s (carried_out s name body m)) ls ks ms ns (same_suc e))
+turns-append s (reopen ∷ ls) ks ms ns e =
+    ap (λ ts. opened_again ∷ ts) (turns-append s ls ks ms ns e)
 turns-append s (unread ∷ ls) ks ms ns e = ap (λ ts. turned_away ∷ ts) (turns-append s ls ks ms ns e)
 
 -- what is said in all

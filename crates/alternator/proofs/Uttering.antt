@@ -7,25 +7,28 @@ use Rattle.alt_machine.specs.Wanted.{Lack}
 use Rattle.alt_shell.specs.Log.{Log, moments_of, talks, says_missed, entry, said, say_failed, said_in, taken, says_failed, crosses}
 use Rattle.std.proofs.lemmas.Bool.{true≢false}
 use Rattle.alt_disk.specs.Disk.{DiskState}
-use Rattle.alt_shell.specs.Calls.{Adds, Untold, IsUntoldBy}
-use Rattle.alternator.specs.Runs.{Calls}
-use Rattle.alternator.specs.Faults.{IsLacked, IsCausedBy, number_of}
+use Rattle.alt_shell.specs.Calls.{Adds, Keeps, Untold, IsUntoldBy}
+use Rattle.alternator.specs.Runs.{Stretch}
+use Rattle.alternator.specs.Faults.{IsCausedBy}
 use Rattle.alternator.specs.declared.serve.RunFault.{RunFault}
-use Rattle.alternator.specs.declared.serve.RunFault.TheVariants.{Failed, NoMemory, Spent}
+use Rattle.alternator.specs.declared.serve.RunFault.TheVariants.{NoMemory}
 use Rattle.alternator.specs.Turns.{or_next}
 use Rattle.alternator.specs.Talks.{Turn, onward, asked, refused, Rules, Request, Place, at, turns, final, has_refused}
 use Rattle.alternator.specs.TalkTexts.{text, after, requests, asks, wanted}
 use Rattle.alternator.specs.Stretches.{SaidOf, Quiet, Utters, Does, DoesSome, AnswersSome, Moves, MovesAll, MovesSome, AtRest, over}
 use Rattle.alternator.proofs.Serving.{said_in-append, taken-append}
-use Rattle.alternator.proofs.TalkLogs.{Clocked, calls_one, over-append, broken-append, crosses-append, or-assoc}
+use Rattle.alternator.proofs.Stopping.{IsPrefix-self, one-by}
+use Rattle.alternator.proofs.TalkLogs.{Clocked, stretch_one, over-append, broken-append, crosses-append, or-assoc}
 use Rattle.alternator.proofs.TalkFolds.{asks-append, requests-append, asks-requests, text-append, after-append, wanted-append}
 
 pub utters_said : (bytes : List ℕ) (m k : ℕ) → Utters false bytes false (entry m k (said bytes) ∷ []) []
-utters_said bytes m k = record { said = append-nil bytes; broke = refl; silent = λ e. absurd (let f : ⊥ = cc in f); quiet = record { still = refl; goes_on = refl; inside = refl }; timeless = refl }
+utters_said bytes m k = record { said = append-nil bytes; by = one-by (entry m k (said bytes)) bytes (subst (λ (bs : List ℕ). IsPrefix bs bytes) (sym (append-nil bytes)) (IsPrefix-self bytes)); broke = refl; silent = λ e. absurd (let f : ⊥ = cc in f); quiet = record { still = refl; goes_on = refl; inside = refl }; timeless = refl }
 
 pub utters_part : (bytes : List ℕ) (m k n : ℕ) → Utters false bytes true (entry m k (say_failed (take n bytes)) ∷ []) []
 utters_part bytes m k n = record {
   said = (drop n bytes, sym (take-append-drop n bytes) ∙ ap (λ bs. bs ++ drop n bytes) (sym (append-nil (take n bytes))));
+  by = one-by (entry m k (say_failed (take n bytes))) bytes
+      (drop n bytes, sym (take-append-drop n bytes) ∙ ap (λ bs. bs ++ drop n bytes) (sym (append-nil (take n bytes))));
   broke = refl;
   silent = λ e. absurd (let f : ⊥ = cc in f);
   quiet = record { still = refl; goes_on = refl; inside = refl };
@@ -33,7 +36,7 @@ utters_part bytes m k n = record {
 }
 
 pub utters_none : (bytes : List ℕ) → Utters true bytes true [] []
-utters_none bytes = record { said = (bytes, refl); broke = refl; silent = λ _. refl; quiet = record { still = refl; goes_on = refl; inside = refl }; timeless = refl }
+utters_none bytes = record { said = (bytes, refl); by = λ u. (bytes, refl); broke = refl; silent = λ _. refl; quiet = record { still = refl; goes_on = refl; inside = refl }; timeless = refl }
 
 -- what says the text of one turn does it
 module _ (r : Rules) (s : State) (m n : Bool) (es : Log) where
@@ -137,7 +140,7 @@ clear_then (refused k ∷ ts) us a b = absurd (let f : ⊥ = cc in f)
 -- moves and then more, where turns may still come
 module _ (r : Rules) (p q v : Place) (s t u : State) (m n o : Bool) (es fs : Log) (ms ns : List ℕ) (going : 0 < q.left)
     (a : Moves r p s m q t n es ms) (b : Moves r q t n v u o fs ns) where
-  pub moves_then : Moves r p s m v u o (es ++ fs) (ms ++ ns)
+  unfoldable pub moves_then : Moves r p s m v u o (es ++ fs) (ms ++ ns)
   moves_then = record {
     done = a.done ++ b.done;
     does = does_then r s t u m n o a.done b.done es fs ms ns (a.clear going) a.does b.does;
@@ -163,50 +166,40 @@ alone None = refl
 alone (Some n) = refl
 
 -- a turn that broke off before its text was said
-pub answers_some_none : (r : Rules) (s : State) (m : Bool) (ts : List Turn) → AnswersSome r None s m ts [] []
+pub answers_some_none : (r : Rules) (s : State) (m : Bool) (ts : List Turn) → AnswersSome r NoMemory s m ts [] []
 answers_some_none r s m ts = record { some = record { said = (text r s ts [], refl); most = omega arith; wants = tt; silent = λ _. refl }; quiet = quiet_none }
 
-pub some_asked : (r : Rules) (number : Option ℕ) (s : State) (m : Bool) (q : Request) (at : ℕ) (es : Log) (ms : List ℕ)
-    → Clocked at es ms → IsLacked number (r.wants s q at) → AnswersSome r number s m (asked q ∷ []) es ms
-some_asked r number s m q at es ms t w =
+pub some_asked : (r : Rules) (fault : RunFault) (s : State) (m : Bool) (q : Request) (at : ℕ) (es : Log) (ms : List ℕ)
+    → Clocked at es ms → IsCausedBy (r.wants s q at) fault → AnswersSome r fault s m (asked q ∷ []) es ms
+some_asked r fault s m q at es ms t w =
     let none = t.nothing in let one = t.one in
-    subst (λ (fs : Log). AnswersSome r number s m (asked q ∷ []) fs ms) (sym none)
-    (subst (λ (ns : List ℕ). AnswersSome r number s m (asked q ∷ []) [] ns) (sym one) (record {
+    subst (λ (fs : Log). AnswersSome r fault s m (asked q ∷ []) fs ms) (sym none)
+    (subst (λ (ns : List ℕ). AnswersSome r fault s m (asked q ∷ []) [] ns) (sym one) (record {
       some = record {
         said = (text r s (asked q ∷ []) (at ∷ []), refl);
         most = omega arith;
-        wants = subst (IsLacked number) (alone (r.wants s q at)) w;
+        wants = subst (λ v. IsCausedBy v fault) (alone (r.wants s q at)) w;
         silent = λ _. refl;
       };
       quiet = quiet_none;
     }))
 
-pub some_refused : (r : Rules) (s : State) (m : Bool) (k at : ℕ) (es : Log) (ms : List ℕ) → Clocked at es ms → AnswersSome r None s m (refused k ∷ []) es ms
+pub some_refused : (r : Rules) (s : State) (m : Bool) (k at : ℕ) (es : Log) (ms : List ℕ) → Clocked at es ms → AnswersSome r NoMemory s m (refused k ∷ []) es ms
 some_refused r s m k at es ms t =
     let none = t.nothing in let one = t.one in
-    subst (λ (fs : Log). AnswersSome r None s m (refused k ∷ []) fs ms) (sym none)
-    (subst (λ (ns : List ℕ). AnswersSome r None s m (refused k ∷ []) [] ns) (sym one) (record {
+    subst (λ (fs : Log). AnswersSome r NoMemory s m (refused k ∷ []) fs ms) (sym none)
+    (subst (λ (ns : List ℕ). AnswersSome r NoMemory s m (refused k ∷ []) [] ns) (sym one) (record {
       some = record { said = (text r s (refused k ∷ []) (at ∷ []), refl); most = omega arith; wants = tt; silent = λ _. refl };
       quiet = quiet_none;
     }))
 
--- the clock told a moment, and then a text was said
-module _ (at : ℕ) (m : Bool) (bytes : List ℕ) (n : Bool) (D : Log → List ℕ → Type 0) (done : (es : Log) → Utters m bytes n es [] → D es (at ∷ [])) where
-  pub tells_utters : (es fs : Log) (ms ns : List ℕ) → Clocked at es ms → Utters m bytes n fs ns → D (es ++ fs) (ms ++ ns)
-  tells_utters es fs ms ns t u =
-      let none = t.nothing in let one = t.one in let quiet = u.timeless in
-      subst (λ (gs : Log). D (gs ++ fs) (ms ++ ns)) (sym none)
-      (subst (λ (ls : List ℕ). D fs (ls ++ ns)) (sym one)
-      (subst (λ (ls : List ℕ). D fs (at ∷ ls)) (sym quiet)
-      (done fs (subst (λ (ls : List ℕ). Utters m bytes n fs ls) quiet u))))
-
 -- turns and then a break
-module _ (r : Rules) (number : Option ℕ) (s t : State) (m n : Bool) (ts us : List Turn) (es fs : Log) (ms ns : List ℕ) (clear : has_refused ts ≡ false)
-    (a : Does r s m ts t n es ms) (b : DoesSome r number t n us fs ns) where
+module _ (r : Rules) (fault : RunFault) (s t : State) (m n : Bool) (ts us : List Turn) (es fs : Log) (ms ns : List ℕ) (clear : has_refused ts ≡ false)
+    (a : Does r s m ts t n es ms) (b : DoesSome r fault t n us fs ns) where
   told_of : length ms ≡ asks ts
   told_of = elim a.count [ inl e ↦ e | inr e ↦ e.1 ∙ asks-requests ts clear ]
 
-  pub does_break : DoesSome r number s m (ts ++ us) (es ++ fs) (ms ++ ns)
+  pub does_break : DoesSome r fault s m (ts ++ us) (es ++ fs) (ms ++ ns)
   does_break = record {
     said = subst (λ (bs : List ℕ). IsPrefix bs (text r s (ts ++ us) (ms ++ ns))) (sym (said_in-append es fs))
         (subst (λ (bs : List ℕ). IsPrefix (said_in es ++ said_in fs) bs) (sym (text-append r s ts us ms ns told_of))
@@ -214,20 +207,20 @@ module _ (r : Rules) (number : Option ℕ) (s t : State) (m n : Bool) (ts us : L
         (subst (λ (v : State). IsPrefix (said_in fs) (text r v us ns)) a.state b.said)
         b.silent (λ _. refl)));
     most = let x = length-append ms ns in let y = asks-append ts us in let k = told_of in let z = b.most in omega (arith, x, y, k, z);
-    wants = subst (IsLacked number) (ap (λ v. wanted r v us ns) a.state ∙ sym (wanted-append r s ts us ms ns told_of a.enough)) b.wants;
+    wants = subst (λ v. IsCausedBy v fault) (ap (λ v. wanted r v us ns) a.state ∙ sym (wanted-append r s ts us ms ns told_of a.enough)) b.wants;
     silent = λ e. said_in-append es fs ∙ ap (λ bs. bs ++ said_in fs) (a.silent e).0 ∙ b.silent (or_true m (says_failed es) n a.broke e);
   }
 
 -- moves and then a break
-pub moves_break : (r : Rules) (number : Option ℕ) (p q : Place) (s t : State) (m n : Bool) (es fs : Log) (ms ns : List ℕ) → 0 < q.left
-    → Moves r p s m q t n es ms → MovesSome r number q t n fs ns → MovesSome r number p s m (es ++ fs) (ms ++ ns)
-moves_break r number p q s t m n es fs ms ns going a b = record {
-  some = subst (λ (ts : List Turn). DoesSome r number s m ts (es ++ fs) (ms ++ ns)) (sym a.splits)
-      (does_break r number s t m n a.done (turns r q.left q.greeted q.bytes) es fs ms ns (a.clear going) a.does b.some);
+pub moves_break : (r : Rules) (fault : RunFault) (p q : Place) (s t : State) (m n : Bool) (es fs : Log) (ms ns : List ℕ) → 0 < q.left
+    → Moves r p s m q t n es ms → MovesSome r fault q t n fs ns → MovesSome r fault p s m (es ++ fs) (ms ++ ns)
+moves_break r fault p q s t m n es fs ms ns going a b = record {
+  some = subst (λ (ts : List Turn). DoesSome r fault s m ts (es ++ fs) (ms ++ ns)) (sym a.splits)
+      (does_break r fault s t m n a.done (turns r q.left q.greeted q.bytes) es fs ms ns (a.clear going) a.does b.some);
   quiet = quiet_then es fs a.quiet b.quiet;
 }
 
-pub moves_none : (r : Rules) (p : Place) (s : State) (m : Bool) → Moves r p s m p s m [] []
+unfoldable pub moves_none : (r : Rules) (p : Place) (s : State) (m : Bool) → Moves r p s m p s m [] []
 moves_none r p s m = record { done = []; does = does_none r s m; splits = refl; same = refl; clear = λ _. refl; quiet = quiet_none }
 
 -- where no request may come any more, none is at hand
@@ -238,16 +231,11 @@ rests_at_end r q e = (ap (λ (n : ℕ). turns r n q.greeted q.bytes) e, ap (λ (
 pub utters_failed : (a b : DiskState) (bytes : List ℕ) → talks a.beside ≡ true
     → says_missed a.beside ≡ false
     → (((n : ℕ) × Adds a b (say_failed (take n bytes))) ⊎ Untold a b says_failed says_missed)
-    → moments_of b.beside ≡ moments_of a.beside → Calls a.beside b.beside (Utters false bytes true)
-utters_failed a b bytes talking heard (inl part) m =
-    calls_one a.beside b.beside (Utters false bytes true) _ part.1 m (utters_part bytes _ _ part.0)
-utters_failed a b bytes talking heard (inr untold) m =
+    → moments_of b.beside ≡ moments_of a.beside → Keeps a b
+    → Stretch a b (λ _ _. Utters false bytes true)
+utters_failed a b bytes talking heard (inl part) m keeps =
+    stretch_one a b (λ _ _. Utters false bytes true) _ part.1 m (keeps.later, omega arith, tt) keeps
+    (utters_part bytes _ _ part.0)
+utters_failed a b bytes talking heard (inr untold) m keeps =
     let why = subst (λ (t : Bool). IsUntoldBy t a says_failed says_missed) talking untold.why in
     absurd (true≢false (sym why ∙ heard))
-
--- why a request has no answer, as what is lacked
-pub lacked : (lack : Option Lack) (fault : RunFault) → IsCausedBy lack fault
-    → IsLacked (number_of fault) lack
-lacked lack Failed cause = absurd cause
-lacked lack NoMemory cause = tt
-lacked lack (Spent n) cause = cause

@@ -1,8 +1,10 @@
 -- What serving connections promises.
-use Rattle.std.specs.Prelude.{◌≡◌, ◌<◌, ◌≤◌, ◌+◌, ◌⊎◌, ℕ, suc, List, [], ◌∷◌, ◌++◌, length, drop, Bool, true, false, Option, nat_le, if◌then◌else◌}
+use Rattle.std.specs.Prelude.{◌≡◌, ◌<◌, ◌≤◌, ◌+◌, ◌⊎◌, ℕ, List, [], ◌∷◌, ◌++◌, length, Bool, true, false, None}
 use Rattle.std.specs.List.{flat_map}
 use Rattle.alt_machine.specs.State.{State}
 use Rattle.alt_shell.specs.Log.{Log, accepted, none_came, hung_up, entry, taken, says_failed, crosses}
+use Rattle.alternator.specs.Faults.{IsCausedBy}
+use Rattle.alternator.specs.declared.serve.RunFault.{RunFault}
 use Rattle.alternator.specs.Talks.{Turn, Rules, turns, closes}
 use Rattle.alternator.specs.TalkTexts.{after}
 use Rattle.alternator.specs.Stretches.{Does, DoesSome, over}
@@ -43,11 +45,18 @@ abbrev pub Comes : Rules → ℕ → Bool → State → State → Log → List �
 Comes r per true s t entries told = (k : Connection) × Serves r per s k t × (entries ≡ entry k.moment k.clocked accepted ∷ k.entries) × (told ≡ k.told)
 Comes r per false s t entries told = (t ≡ s) × ((m n : ℕ) × (entries ≡ entry m n none_came ∷ [])) × (told ≡ [])
 
--- none came since the wait failed; or one came, broke off and was hung up
-abbrev pub ComesSome : Rules → ℕ → Option ℕ → State → Log → List ℕ → Type 0
-ComesSome r per number s entries told =
-    ((entries ≡ []) × (told ≡ []))
-    ⊎ ((k : Connection) × DoesSome r number s false (turns_of r per k) k.entries k.told × (entries ≡ entry k.moment k.clocked accepted ∷ k.entries) × (told ≡ k.told))
+-- none came, since the wait failed
+abbrev pub Missed : RunFault → Log → List ℕ → Type 0
+Missed fault entries told = (entries ≡ []) × (told ≡ []) × IsCausedBy None fault
+
+-- one came, broke off and was hung up
+abbrev pub Broke : Rules → ℕ → RunFault → State → Log → List ℕ → Type 0
+Broke r per fault s entries told = (k : Connection) × DoesSome r fault s false (turns_of r per k) k.entries k.told
+    × (entries ≡ entry k.moment k.clocked accepted ∷ k.entries) × (told ≡ k.told)
+
+-- either
+abbrev pub ComesSome : Rules → ℕ → RunFault → State → Log → List ℕ → Type 0
+ComesSome r per fault s entries told = Missed fault entries told ⊎ Broke r per fault s entries told
 
 -- one after another
 abbrev pub ServesAll : Rules → ℕ → State → List Connection → State → Type 0
@@ -70,12 +79,12 @@ pub record Served (r : Rules) (per connections : ℕ) (s t : State) (entries : L
   pub ends : ((length all ≡ connections) × (last ≡ [])) ⊎ ((length all < connections) × ((m n : ℕ) × (last ≡ entry m n none_came ∷ [])))
 
 -- Another status: the connections before were served so, and one may have broken off, which was hung up then or never accepted.
-pub record ServedSome (r : Rules) (per connections : ℕ) (number : Option ℕ) (s : State) (entries : Log) (told : List ℕ) : Type 0 where
+pub record ServedSome (r : Rules) (per connections : ℕ) (fault : RunFault) (s : State) (entries : Log) (told : List ℕ) : Type 0 where
   pub all : List Connection
   pub halfway : State
   pub each : ServesAll r per s all halfway
   pub last : List Connection
   pub made : entries ≡ entries_of all ++ entries_of last
   pub moments : told ≡ told_of all ++ told_of last
-  pub some : (last ≡ []) ⊎ ((k : Connection) × (last ≡ k ∷ []) × DoesSome r number halfway false (turns_of r per k) k.entries k.told)
+  pub some : ((last ≡ []) × IsCausedBy None fault) ⊎ ((k : Connection) × (last ≡ k ∷ []) × DoesSome r fault halfway false (turns_of r per k) k.entries k.told)
   pub most : length all + length last ≤ connections

@@ -1,21 +1,29 @@
 -- How a run ends: its status, what it notes, and what it has done.
-use Rattle.std.specs.Prelude.{◌≡◌, ℕ, List, [], ◌∷◌, ◌++◌, codes, decimal, Option, None, Some}
+use Rattle.std.specs.Prelude.{◌≡◌, ◌≢◌, ◌<◌, ◌⊎◌, ℕ, List, [], ◌∷◌, ◌++◌, codes, decimal, Option, None, Some, false, IsTrue}
+use Rattle.hex.specs.Hex.{encode_lower}
 use Rattle.alt_base.specs.Counts.{Rose}
-use Rattle.alt_disk.specs.Disk.{DiskState}
+use Rattle.alt_disk.specs.Disk.{DiskState, IsImage, IsTrusted}
 use Rattle.alt_machine.specs.State.{State, start}
-use Rattle.alt_shell.specs.Log.{Log, Grows, StillGrows, notes_of, moments_of}
-use Rattle.alternator.specs.Connections.{Served, ServedSome}
+use Rattle.alt_shell.specs.Log.{Log, Grows, StillGrows, notes_of, moments_of, taken, said_in}
+use Rattle.alternator.specs.Faults.{IsUnreadable}
+use Rattle.alt_tables.specs.Images.{StandsFor}
+use Rattle.alternator.specs.Runs.{Stretch, Answers, AnswersSome, IsOpening, Opened}
 use Rattle.alternator.specs.TalkRules.{rules}
-use Rattle.alternator.specs.declared.words.Job.{Job}
-use Rattle.alternator.specs.declared.words.Job.TheVariants.{Replay, Serve}
-use Rattle.alternator.specs.Runs.{Calls, Answers, AnswersSome}
+use Rattle.alternator.specs.TalkStops.{ServedOn, ServedSomeOn}
+use Rattle.alternator.specs.declared.serve.RunFault.{RunFault}
+use Rattle.alternator.specs.declared.serve.RunFault.TheVariants as fault
 use Rattle.alternator.specs.declared.ending.Ending.{Ending}
-use Rattle.alternator.specs.declared.ending.Ending.TheVariants.{Whole, Words, Device, Memory, Spent}
+use Rattle.alternator.specs.declared.ending.Ending.TheVariants.{Whole, Words, NotEmpty, Damaged, BadRow, Device, Memory, Spent}
+use Rattle.alternator.specs.declared.words.Job.{Job}
+use Rattle.alternator.specs.declared.words.Job.TheVariants.{Init, Replay, Serve}
 
 -- the status of each ending
 abbrev pub status_of : Ending → ℕ
 status_of Whole = 0
 status_of Words = 1
+status_of (NotEmpty first) = 2
+status_of (Damaged file at) = 3
+status_of (BadRow family key) = 3
 status_of Device = 4
 status_of Memory = 5
 status_of (Spent number) = 6
@@ -24,9 +32,25 @@ status_of (Spent number) = 6
 abbrev pub note_of : Ending → List ℕ
 note_of Whole = []
 note_of Words = codes "alternator: words\n"
+note_of (NotEmpty first) = codes "alternator: store not empty: file " ++ (decimal first ++ 10 ∷ [])
+note_of (Damaged file at) = codes "alternator: damaged: file "
+    ++ (decimal file ++ (codes " at " ++ (decimal at ++ 10 ∷ [])))
+note_of (BadRow family key) = codes "alternator: row: family "
+    ++ (decimal family ++ (codes " key " ++ (encode_lower key ++ 10 ∷ [])))
 note_of Device = codes "alternator: device\n"
 note_of Memory = codes "alternator: memory\n"
 note_of (Spent number) = codes "alternator: numbers spent: " ++ (decimal number ++ 10 ∷ [])
+
+-- its note has numbers in it
+abbrev pub HasNumbers : Ending → Type 0
+HasNumbers Whole = ⊥
+HasNumbers Words = ⊥
+HasNumbers (NotEmpty first) = Unit {0}
+HasNumbers (Damaged file at) = Unit {0}
+HasNumbers (BadRow family key) = Unit {0}
+HasNumbers Device = ⊥
+HasNumbers Memory = ⊥
+HasNumbers (Spent number) = Unit {0}
 
 -- nothing was touched: no call that takes a moment was made, none failed, nothing was taken or said, and the clock wasn't asked
 pub record Untouched (old new : DiskState) : Type 0 where
@@ -35,29 +59,96 @@ pub record Untouched (old new : DiskState) : Type 0 where
   pub silent : Grows old.beside new.beside []
   pub unasked : moments_of new.beside ≡ moments_of old.beside
 
--- what a job has done whose run ended whole: every line of the input was answered, or every connection served
-abbrev pub Done : Option Job → Log → List ℕ → Type 0
-Done None entries told = ⊥
-Done (Some Replay) entries told = Answers start entries told
-Done (Some (Serve per connections)) entries told =
-    (t : State) × Served rules per connections start t entries told
+-- ---- init
 
--- What a job has done that was broken off: what it said is a prefix of what there was to say, on each connection by itself. For a
--- number, the first that was wanted and is never given out.
-abbrev pub Broken : Option ℕ → Option Job → Log → List ℕ → Type 0
-Broken number None entries told = ⊥
-Broken number (Some Replay) entries told = AnswersSome number start entries told
-Broken number (Some (Serve per connections)) entries told =
-    ServedSome rules per connections number start entries told
+-- A store was made where no file was, and that was said. From then on what a stop leaves stands for the empty store.
+pub record Makes (old new : DiskState) (entries : Log) (told : List ℕ) : Type 0 where
+  pub said : said_in entries ≡ codes "ok\n"
+  pub untaken : taken entries ≡ []
+  pub unasked : told ≡ []
+  pub none : IsTrue old.tells → (f : ℕ) → old.file f ≡ None
+  pub stands : IsTrusted old → (image : ℕ → Option (List ℕ)) → IsImage new new.moment image
+      → StandsFor image start
 
--- What a run has done that ended so: for a device, only where that failed in this run.
+-- this file was there, and none before it
+pub record IsFirstFile (files : ℕ → Option (List ℕ)) (first : ℕ) : Type 0 where
+  pub there : files first ≢ None
+  pub none : (f : ℕ) → f < first → files f ≡ None
+
+-- what a run of `init` has done that ended so
+abbrev pub HasMade : Ending → DiskState → DiskState → Type 0
+HasMade Whole old new = Stretch old new Makes
+HasMade Words old new = ⊥
+HasMade (NotEmpty first) old new = IsTrue old.tells → IsFirstFile old.file first
+HasMade (Damaged file at) old new = ⊥
+HasMade (BadRow family key) old new = ⊥
+HasMade Device old new = Rose old.faults new.faults
+HasMade Memory old new = Unit {0}
+HasMade (Spent number) old new = ⊥
+
+-- ---- replay and serve
+
+-- the files stand for a state
+abbrev pub IsReadable : (ℕ → Option (List ℕ)) → Type 0
+IsReadable files = (s : State) × StandsFor files s
+
+-- What a job has done that ended whole, from the state for which the store stood and the disk as it was opened: every line of the input
+-- was answered, or every connection served.
+abbrev pub Done : Job → State → DiskState → DiskState → Type 0
+Done Init s opened new = ⊥
+Done Replay s opened new = Stretch opened new (Answers s)
+Done (Serve per connections) s opened new = Stretch opened new
+    (λ old new es ms. (t : State) × ServedOn rules per connections s t old new es ms)
+
+-- What a job has done that was broken off behind the opening: what it said is a prefix of what there was to say, on each connection by
+-- itself. For a number, the first that was wanted and is never given out.
+abbrev pub Broken : RunFault → Job → State → DiskState → DiskState → Type 0
+Broken why Init s opened new = ⊥
+Broken why Replay s opened new = Stretch opened new (AnswersSome why s)
+Broken why (Serve per connections) s opened new = Stretch opened new
+    (ServedSomeOn rules per connections why s)
+
+-- The run was broken off while the store was opened, or behind that.
+abbrev pub BreaksOff : RunFault → Job → DiskState → DiskState → Type 0
+BreaksOff why job old new = IsTrusted old → IsOpening old new ⊎ Opened old new (Broken why job)
+
+-- The files stood for no state, as is told; or they stood for one, and the disk, which isn't honest, changed them since.
+abbrev pub WasDamaged : RunFault → DiskState → DiskState → Type 0
+WasDamaged why old new = IsTrue old.tells → (IsOpening old new × IsUnreadable old.file why)
+    ⊎ (IsReadable old.file × (old.honest ≡ false))
+
+-- What a run over a store has done that ended so: for a device, only where that failed in this run.
+abbrev pub HasRun : Job → Ending → DiskState → DiskState → Type 0
+HasRun job Whole old new = (IsTrue old.tells → IsReadable old.file)
+    × (IsTrusted old → Opened old new (Done job))
+HasRun job Words old new = ⊥
+HasRun job (NotEmpty first) old new = ⊥
+HasRun job (Damaged file at) old new = WasDamaged (fault.Damaged file at) old new
+HasRun job (BadRow family key) old new = WasDamaged (fault.BadRow family key) old new
+HasRun job Device old new = Rose old.faults new.faults × BreaksOff fault.Failed job old new
+HasRun job Memory old new = BreaksOff fault.NoMemory job old new
+HasRun job (Spent number) old new = (IsTrue old.tells → IsReadable old.file)
+    × (IsTrusted old → Opened old new (Broken (fault.Spent number) job))
+
+-- ---- any run
+
+-- wrong words touch nothing
+abbrev pub HasRefused : Ending → DiskState → DiskState → Type 0
+HasRefused Whole old new = ⊥
+HasRefused Words old new = Untouched old new
+HasRefused (NotEmpty first) old new = ⊥
+HasRefused (Damaged file at) old new = ⊥
+HasRefused (BadRow family key) old new = ⊥
+HasRefused Device old new = ⊥
+HasRefused Memory old new = ⊥
+HasRefused (Spent number) old new = ⊥
+
+-- what a run has done that ended so, by what its words asked for
 abbrev pub HasDone : Option Job → Ending → DiskState → DiskState → Type 0
-HasDone job Whole old new = Calls old.beside new.beside (Done job)
-HasDone job Words old new = Untouched old new
-HasDone job Device old new = Rose old.faults new.faults
-    × Calls old.beside new.beside (Broken None job)
-HasDone job Memory old new = Calls old.beside new.beside (Broken None job)
-HasDone job (Spent number) old new = Calls old.beside new.beside (Broken (Some number) job)
+HasDone None ending old new = HasRefused ending old new
+HasDone (Some Init) ending old new = HasMade ending old new
+HasDone (Some Replay) ending old new = HasRun Replay ending old new
+HasDone (Some (Serve per connections)) ending old new = HasRun (Serve per connections) ending old new
 
 -- a run that ended so, with its note
 pub record Ended (job : Option Job) (ending : Ending) (status : ℕ) (old new : DiskState) : Type 0 where

@@ -3,8 +3,10 @@ pub mod Endings
 pub mod Faults
 pub mod Moments
 pub mod Runs
+pub mod Stops
 pub mod Stretches
 pub mod TalkRules
+pub mod TalkStops
 pub mod TalkTexts
 pub mod TalkViews
 pub mod Talks

@@ -1,38 +1,52 @@
 -- What a part of a run says, takes and leaves.
-use Rattle.std.specs.Prelude.{◌≡◌, ◌≤◌, ℕ, List, [], ◌++◌, length, Bool, false, true, Option, None, map}
+use Rattle.std.specs.Prelude.{◌≡◌, ◌≤◌, ℕ, List, [], ◌++◌, length, Bool, false, true, None, map}
 use Rattle.alt_base.specs.Prefix.{IsPrefix}
-use Rattle.alt_disk.specs.Disk.{DiskState}
+use Rattle.alt_disk.specs.Disk.{DiskState, IsTrusted}
 use Rattle.alt_lines.specs.Unread.{Unread, lines_now, lines_later}
 use Rattle.alt_machine.specs.State.{State}
-use Rattle.alt_shell.specs.Calls.{Keeps}
-use Rattle.alt_shell.specs.Log.{Log, Grows, Tells, moments_of, notes_of, talks, taken, said_in, ended}
+use Rattle.alt_shell.specs.Log.{Log, Grows, Tells, moments_of, notes_of, talks, until, taken, said_in, ended}
+use Rattle.alt_tables.specs.Recovery.{WasLeft}
+use Rattle.alt_tables.specs.Images.{StandsFor}
 use Rattle.alt_tables.specs.Stands.{Stands}
 use Rattle.alt_tables.specs.declared.tables.Tables.{Tables}
-use Rattle.alternator.specs.Faults.{IsLacked}
-use Rattle.alternator.specs.Moments.{answered}
+use Rattle.alternator.specs.Faults.{IsCausedBy}
+use Rattle.alternator.specs.declared.serve.RunFault.{RunFault}
+use Rattle.alternator.specs.Moments.{answered, said_by, taken_by, ended_by}
+use Rattle.alternator.specs.Stops.{Image, IsLeft, AtEach, LeftAtHand, AreWithin}
 use Rattle.alternator.specs.Turns.{Asked, turns, text_of, after, wanted, requests, asks, asked_of, out}
 
--- The calls between two logs, as far as they are told: their entries and the moments told among them have P.
-pub record Calls (old new : Log) (P : Log → List ℕ → Type 0) : Type 0 where
+-- what is said of a stretch of calls: of the disk before and after it, its entries, and the moments told in it
+abbrev pub OfStretch : Type 1
+OfStretch = DiskState → DiskState → Log → List ℕ → Type 0
+
+-- The calls of a stretch, as far as they are told: they have P. Each ended at a moment of the stretch.
+pub record Stretch (old new : DiskState) (P : OfStretch) : Type 0 where
   pub entries : Log
   pub told : List ℕ
-  pub grows : Grows old new entries
-  pub tells : Tells (moments_of old) (moments_of new) told
-  pub holds : P entries told
+  pub grows : Grows old.beside new.beside entries
+  pub tells : Tells (moments_of old.beside) (moments_of new.beside) told
+  pub within : AreWithin old.moment new.moment entries
+  pub later : old.moment ≤ new.moment
+  pub trusts : IsTrusted old → IsTrusted new
+  pub holds : P old new entries told
 
--- What every stretch of a run keeps: the disk, in reads and in what a stop leaves at each moment, what was noted, and whether the shell
--- talks.
+-- What every stretch of a run keeps: what the disk says of itself, what a stop left at the moments before, what was noted, and whether
+-- the shell talks.
 pub record Passes (old new : DiskState) : Type 0 where
-  pub keeps : Keeps old new
+  pub tells : new.tells ≡ old.tells
+  pub honest : new.honest ≡ old.honest
+  pub anchors : new.anchors ≡ old.anchors
+  pub later : old.moment ≤ new.moment
+  pub faults : old.faults ≤ new.faults
+  pub past : (t f : ℕ) → t ≤ old.moment → new.fates t f ≡ old.fates t f
   pub notes : notes_of new.beside ≡ notes_of old.beside
   pub talking : talks new.beside ≡ talks old.beside
 
 -- The state for which the tables stand now, and the calls by which it was reached, which have P of it.
-pub record Reaches (old new : DiskState) (tables : Tables)
-    (P : State → Log → List ℕ → Type 0) : Type 0 where
+pub record Leads (old new : DiskState) (tables : Tables) (P : State → OfStretch) : Type 0 where
   pub to : State
   pub stands : Stands new tables to
-  pub calls : Calls old.beside new.beside (P to)
+  pub calls : Stretch old new (P to)
 
 -- ---- lines that were at hand
 
@@ -45,8 +59,8 @@ pub record Serves (s : State) (ls : List Asked) (t : State) (entries : Log)
   pub enough : wanted (turns s ls told) ≡ None
 
 -- Serving these lines broke off. Those that were done were answered, at most one more was begun, and just these had a moment
--- each. Where that is for want of a number, it is the first that one of them wanted.
-pub record Breaks (number : Option ℕ) (s : State) (ls : List Asked) (entries : Log)
+-- each. The fault has its cause: where that is want of a number, it is the first that one of them wanted.
+pub record Breaks (fault : RunFault) (s : State) (ls : List Asked) (entries : Log)
     (told : List ℕ) : Type 0 where
   pub done : List Asked
   pub begun : List Asked
@@ -57,7 +71,7 @@ pub record Breaks (number : Option ℕ) (s : State) (ls : List Asked) (entries :
   pub said : IsPrefix (said_in entries) (text_of (turns s (done ++ begun) told))
   pub count : length told ≡ requests (done ++ begun)
   pub enough : wanted (turns s done told) ≡ None
-  pub wants : IsLacked number (wanted (turns s (done ++ begun) told))
+  pub wants : IsCausedBy (wanted (turns s (done ++ begun) told)) fault
 
 -- nothing was taken
 pub record Rests (entries : Log) : Type 0 where
@@ -83,55 +97,93 @@ pub record HandsOut (old new : Unread) : Type 0 where
       → asked_later old more ended ≡ asked_now old ++ asked_later new more ended
 
 -- lines at hand were served, and nothing was taken
-pub record ServesAtHand (s : State) (ls : List Asked) (t : State) (entries : Log)
-    (told : List ℕ) : Type 0 where
+pub record ServesAtHand (s : State) (ls : List Asked) (t : State) (old new : DiskState)
+    (entries : Log) (told : List ℕ) : Type 0 where
   pub serves : Serves s ls t entries told
   pub rests : Rests entries
+  pub leaves : AtEach old new (LeftAtHand s ls entries told)
 
 -- that broke off
-pub record BreaksAtHand (number : Option ℕ) (s : State) (ls : List Asked) (entries : Log)
-    (told : List ℕ) : Type 0 where
-  pub breaks : Breaks number s ls entries told
+pub record BreaksAtHand (fault : RunFault) (s : State) (ls : List Asked) (old new : DiskState)
+    (entries : Log) (told : List ℕ) : Type 0 where
+  pub breaks : Breaks fault s ls entries told
   pub rests : Rests entries
+  pub leaves : AtEach old new (LeftAtHand s ls entries told)
+
+-- What a stop at a moment leaves while input is taken and served from a state: the lines are those that were whole by then.
+abbrev pub LeftBy : State → Unread → Log → List ℕ → ℕ → Image → Type 0
+LeftBy s u entries told t image =
+    IsLeft s (turns s (asked_later u (taken (until t entries)) (ended (until t entries))) told)
+    (said_in (until t entries)) image
 
 -- Some of the input was taken, which has not ended, and all lines that were whole then were served.
-pub record Goes (s : State) (u : Unread) (t : State) (v : Unread) (entries : Log)
-    (told : List ℕ) : Type 0 where
+pub record Goes (s : State) (u : Unread) (t : State) (v : Unread) (old new : DiskState)
+    (entries : Log) (told : List ℕ) : Type 0 where
   pub done : List Asked
   pub serves : Serves s done t entries told
   pub lines : (more : List ℕ) (ended : Bool) → asked_later u (taken entries ++ more) ended
       ≡ done ++ asked_later v more ended
   pub goes_on : ended entries ≡ false
+  pub leaves : AtEach old new (LeftBy s u entries told)
 
 -- The rest of the input was taken, and all its lines were served.
-pub record Ends (s : State) (u : Unread) (t : State) (entries : Log) (told : List ℕ) : Type 0 where
+pub record Ends (s : State) (u : Unread) (t : State) (old new : DiskState) (entries : Log)
+    (told : List ℕ) : Type 0 where
   pub serves : Serves s (asked_later u (taken entries) true) t entries told
   pub at_end : ended entries ≡ true
+  pub leaves : AtEach old new (LeftBy s u entries told)
 
 -- That broke off among the lines that were whole.
-pub record GoesSome (number : Option ℕ) (s : State) (u : Unread) (entries : Log)
-    (told : List ℕ) : Type 0 where
-  pub breaks : Breaks number s (asked_later u (taken entries) (ended entries)) entries told
+pub record GoesSome (fault : RunFault) (s : State) (u : Unread) (old new : DiskState)
+    (entries : Log) (told : List ℕ) : Type 0 where
+  pub breaks : Breaks fault s (asked_later u (taken entries) (ended entries)) entries told
+  pub leaves : AtEach old new (LeftBy s u entries told)
 
 -- more was taken, or the end was
-abbrev pub GoesOrEnds : Bool → State → Unread → State → Unread → Log → List ℕ → Type 0
-GoesOrEnds true s u t v entries told = Goes s u t v entries told
-GoesOrEnds false s u t v entries told = Ends s u t entries told
+abbrev pub GoesOrEnds : Bool → State → Unread → State → Unread → OfStretch
+GoesOrEnds true s u t v = Goes s u t v
+GoesOrEnds false s u t v = Ends s u t
 
 -- ---- a run over all of its input
 
+-- What a stop at a moment of a run leaves: the state after some of the writes of the requests that were whole in the input taken by
+-- then, among them all those of the requests that were answered by then.
+abbrev pub LeftThen : State → Log → List ℕ → ℕ → Image → Type 0
+LeftThen s entries told t image =
+    IsLeft s (turns s (asks (ended_by t entries) (taken_by t entries)) told)
+    (said_by t entries) image
+
 -- The whole input was taken, and each line of it was answered, each request at a moment of its own, no more and no fewer. What was
--- said is all of its Out.
-pub record Answers (s : State) (entries : Log) (told : List ℕ) : Type 0 where
+-- said is all of its Out. A stop at any moment leaves every write that was answered by then.
+pub record Answers (s : State) (old new : DiskState) (entries : Log)
+    (told : List ℕ) : Type 0 where
   pub at_end : ended entries ≡ true
   pub said : said_in entries ≡ out s true (taken entries) told
   pub count : length told ≡ requests (asks true (taken entries))
   pub every : answered (turns s (asks true (taken entries)) told) (said_in entries)
       ≡ turns s (asks true (taken entries)) told
   pub enough : wanted (turns s (asks true (taken entries)) told) ≡ None
+  pub leaves : AtEach old new (LeftThen s entries told)
 
 -- It broke off among the lines that were whole in what was taken. What was said is a prefix of their Out.
-pub record AnswersSome (number : Option ℕ) (s : State) (entries : Log)
+pub record AnswersSome (fault : RunFault) (s : State) (old new : DiskState) (entries : Log)
     (told : List ℕ) : Type 0 where
-  pub breaks : Breaks number s (asks (ended entries) (taken entries)) entries told
+  pub breaks : Breaks fault s (asks (ended entries) (taken entries)) entries told
   pub said : IsPrefix (said_in entries) (out s (ended entries) (taken entries) told)
+  pub leaves : AtEach old new (LeftThen s entries told)
+
+-- ---- the opening
+
+-- Nothing was taken, said or asked, and what a stop at a moment leaves is something that one left before it.
+pub record IsOpening (old new : DiskState) : Type 0 where
+  pub silent : Grows old.beside new.beside []
+  pub unasked : moments_of new.beside ≡ moments_of old.beside
+  pub leaves : AtEach old new (WasLeft old)
+
+-- The store was opened, for the state for which its files stood, and what was done from then on has P of that state.
+pub record Opened (old new : DiskState) (P : State → DiskState → DiskState → Type 0) : Type 0 where
+  pub from : State
+  pub stood : StandsFor old.file from
+  pub opened : DiskState
+  pub opening : IsOpening old opened
+  pub behind : P from opened new

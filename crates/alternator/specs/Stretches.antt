@@ -1,10 +1,11 @@
 -- What a part of the serving of connections says, takes and leaves: one word for each rung.
-use Rattle.std.specs.Prelude.{◌≡◌, ◌<◌, ◌≤◌, ◌-◌, ◌⊎◌, if◌then◌else◌, drop, ℕ, List, [], ◌∷◌, ◌++◌, length, Bool, true, false, not, ◌||◌, Option, Some, None}
+use Rattle.std.specs.Prelude.{◌≡◌, ◌<◌, ◌≤◌, ◌-◌, ◌⊎◌, if◌then◌else◌, drop, ℕ, List, [], ◌∷◌, ◌++◌, length, Bool, true, false, not, ◌||◌, Option, None}
 use Rattle.std.specs.List.{list_any}
 use Rattle.alt_base.specs.Prefix.{IsPrefix}
 use Rattle.alt_machine.specs.State.{State}
-use Rattle.alt_shell.specs.Log.{Log, Event, event_of, is_end, is_take_failed, taken, said_in, says_failed, crosses}
-use Rattle.alternator.specs.Faults.{IsLacked}
+use Rattle.alt_shell.specs.Log.{Log, Event, event_of, is_end, is_take_failed, until, taken, said_in, says_failed, crosses}
+use Rattle.alternator.specs.Faults.{IsCausedBy}
+use Rattle.alternator.specs.declared.serve.RunFault.{RunFault}
 use Rattle.alternator.specs.Talks.{Turn, asked, Rules, Head, Place, at, size_of, request_of, turns, final, turns_at, final_at, has_refused}
 use Rattle.alternator.specs.TalkTexts.{text, after, requests, asks, wanted}
 
@@ -32,6 +33,7 @@ pub record Utters (mute : Bool) (bytes : List ℕ) (after_it : Bool) (entries : 
   pub said : SaidOf after_it (said_in entries) bytes
   pub broke : after_it ≡ (mute || says_failed entries)
   pub silent : mute ≡ true → said_in entries ≡ []
+  pub by : (moment : ℕ) → IsPrefix (said_in (until moment entries)) bytes
   pub quiet : Quiet entries
   pub timeless : told ≡ []
 
@@ -51,15 +53,15 @@ pub record Answers (r : Rules) (s : State) (mute : Bool) (ts : List Turn) (t : S
   pub quiet : Quiet entries
 
 -- Doing these turns broke off.
-pub record DoesSome (r : Rules) (number : Option ℕ) (s : State) (mute : Bool) (ts : List Turn) (entries : Log) (told : List ℕ) : Type 0 where
+pub record DoesSome (r : Rules) (fault : RunFault) (s : State) (mute : Bool) (ts : List Turn) (entries : Log) (told : List ℕ) : Type 0 where
   pub said : IsPrefix (said_in entries) (text r s ts told)
   pub most : length told ≤ asks ts
-  pub wants : IsLacked number (wanted r s ts told)
+  pub wants : IsCausedBy (wanted r s ts told) fault
   pub silent : mute ≡ true → said_in entries ≡ []
 
 -- and nothing was taken
-pub record AnswersSome (r : Rules) (number : Option ℕ) (s : State) (mute : Bool) (ts : List Turn) (entries : Log) (told : List ℕ) : Type 0 where
-  pub some : DoesSome r number s mute ts entries told
+pub record AnswersSome (r : Rules) (fault : RunFault) (s : State) (mute : Bool) (ts : List Turn) (entries : Log) (told : List ℕ) : Type 0 where
+  pub some : DoesSome r fault s mute ts entries told
   pub quiet : Quiet entries
 
 -- Turns at hand were done, from a place to a place, and nothing was taken.
@@ -87,8 +89,8 @@ pub record Carries (r : Rules) (h : Head) (p : Place) (s : State) (mute : Bool) 
   pub place : q ≡ at (if h.close then 0 else p.left - 1) false (drop (size_of h) p.bytes)
 
 -- carrying it out broke off
-abbrev pub CarriesSome : Rules → Option ℕ → Head → Place → State → Bool → Log → List ℕ → Type 0
-CarriesSome r number h p s mute entries told = AnswersSome r number s mute (asked (request_of h p.bytes (p.left - 1)) ∷ []) entries told
+abbrev pub CarriesSome : Rules → RunFault → Head → Place → State → Bool → Log → List ℕ → Type 0
+CarriesSome r fault h p s mute entries told = AnswersSome r fault s mute (asked (request_of h p.bytes (p.left - 1)) ∷ []) entries told
 
 -- Turns were done until none was left at hand.
 pub record MovesAll (r : Rules) (p : Place) (s : State) (mute : Bool) (q : Place) (t : State) (after_it : Bool) (entries : Log) (told : List ℕ) : Type 0 where
@@ -106,8 +108,8 @@ pub record Goes (r : Rules) (more : Bool) (p : Place) (s : State) (mute : Bool) 
   pub inside : crosses entries ≡ false
 
 -- the turns at hand broke off, and nothing was taken
-pub record MovesSome (r : Rules) (number : Option ℕ) (p : Place) (s : State) (mute : Bool) (entries : Log) (told : List ℕ) : Type 0 where
-  pub some : DoesSome r number s mute (turns r p.left p.greeted p.bytes) entries told
+pub record MovesSome (r : Rules) (fault : RunFault) (p : Place) (s : State) (mute : Bool) (entries : Log) (told : List ℕ) : Type 0 where
+  pub some : DoesSome r fault s mute (turns r p.left p.greeted p.bytes) entries told
   pub quiet : Quiet entries
 
 -- Takes and turns went on until no more came, a say failed, or the turns ended.
@@ -117,6 +119,6 @@ pub record Ends (r : Rules) (p : Place) (s : State) (mute : Bool) (q : Place) (t
   pub cause : (more ≡ false) ⊎ (after_it ≡ true) ⊎ (q.left ≡ 0)
 
 -- taking, and the turns at hand then, broke off
-pub record GoesSome (r : Rules) (number : Option ℕ) (p : Place) (s : State) (mute : Bool) (entries : Log) (told : List ℕ) : Type 0 where
-  pub some : DoesSome r number s mute (turns_at r p (taken entries)) entries told
+pub record GoesSome (r : Rules) (fault : RunFault) (p : Place) (s : State) (mute : Bool) (entries : Log) (told : List ℕ) : Type 0 where
+  pub some : DoesSome r fault s mute (turns_at r p (taken entries)) entries told
   pub inside : crosses entries ≡ false

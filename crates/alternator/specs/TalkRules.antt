@@ -29,6 +29,7 @@ unfoldable pub rules : Rules
 rules = record {
   scan = λ bytes. scanned (scan_of bytes);
   next = λ s q moment. last_state s (outcome_of s q moment).atoms;
+  atoms = λ s q moment. (outcome_of s q moment).atoms;
   reply = λ s q moment. http_text (outcome_of s q moment).answer moment q.close;
   wants = λ s q moment. wanted_by s (outcome_of s q moment);
   refusal = λ k moment. reply_text (refusal_status k) moment true (refusal_body k);

@@ -1,5 +1,5 @@
 -- What is to be said to turns, and the state after them. A request takes the next moment, and so does a refusal.
-use Rattle.std.specs.Prelude.{ℕ, suc, List, [], ◌∷◌, ◌++◌, Option, Some, None}
+use Rattle.std.specs.Prelude.{ℕ, suc, List, [], ◌∷◌, ◌++◌, Option, None}
 use Rattle.alt_machine.specs.State.{State}
 use Rattle.alt_machine.specs.Wanted.{Lack}
 use Rattle.alternator.specs.Turns.{or_next}

@@ -1,6 +1,7 @@
 -- The turns of a connection: what the bytes taken ask for, from the front.
 use Rattle.std.specs.Prelude.{◌≡◌, ◌<◌, ◌≤◌, ◌+◌, ◌==◌, ℕ, zero, suc, List, [], ◌∷◌, ◌++◌, length, take, drop, Bool, true, false, ◌||◌, if◌then◌else◌, nat_le, Option}
 use Rattle.std.specs.List.{list_any}
+use Rattle.alt_machine.specs.Outcomes.{last_state}
 use Rattle.alt_machine.specs.State.{State}
 use Rattle.alt_machine.specs.Wanted.{Lack}
 
@@ -40,17 +41,23 @@ pub data Turn : Type 0 where
 pub record Rules : Type 0 where
   pub scan : List ℕ → Scanned
   pub next : State → Request → ℕ → State
+  pub atoms : State → Request → ℕ → List State
   pub reply : State → Request → ℕ → List ℕ
   pub wants : State → Request → ℕ → Option Lack
   pub refusal : ℕ → ℕ → List ℕ
   pub greeting : List ℕ
 
--- a head is found or refused however the bytes are cut
+-- A head is found or refused however the bytes are cut; the state after a request is that after its last write; and each text has a
+-- byte or more.
 pub record Lawful (r : Rules) : Type 0 where
   pub nothing : r.scan [] ≡ unread
   pub stays_bad : (a b : List ℕ) (k : ℕ) → r.scan a ≡ bad k → r.scan (a ++ b) ≡ bad k
   pub stays_good : (a b : List ℕ) (h : Head) → r.scan a ≡ good h → r.scan (a ++ b) ≡ good h
   pub within : (a : List ℕ) (h : Head) → r.scan a ≡ good h → (0 < h.taken) × (h.taken ≤ length a)
+  pub steps : (s : State) (q : Request) (m : ℕ) → r.next s q m ≡ last_state s (r.atoms s q m)
+  pub replies : (s : State) (q : Request) (m : ℕ) → 0 < length (r.reply s q m)
+  pub refuses : (k m : ℕ) → 0 < length (r.refusal k m)
+  pub greets : 0 < length r.greeting
 
 -- the bytes of a head and its body
 abbrev pub size_of : Head → ℕ

@@ -1,5 +1,6 @@
 -- What the lines of an input come to, one after the other: one fold, from a given state.
-use Rattle.std.specs.Prelude.{ℕ, suc, List, [], ◌∷◌, ◌++◌, map, Bool, ◌==◌, codes, decimal, Option, Some, None}
+use Rattle.std.specs.Prelude.{ℕ, suc, List, [], ◌∷◌, ◌++◌, map, Bool, ◌==◌, if◌then◌else◌, codes, decimal, Option, Some, None}
+use Rattle.std.specs.Str.{bytes_eq}
 use Rattle.std.specs.List.{before_first, after_first, flat_map}
 use Rattle.serde_json.specs.Written.{compact_text}
 use Rattle.alt_lines.specs.Lines.{Line, whole, too_long, lines_of}
@@ -12,18 +13,27 @@ use Rattle.alt_shape.specs.Refusals.{Answer}
 
 -- ---- what lines ask
 
--- what a line asks for: a request, by its operation's name and its body, or nothing, since it is too long to be read
+-- what a line asks for: a request, by its operation's name and its body; that the store is opened again; or nothing, since it is
+-- too long to be read
 pub data Asked : Type 0 where
   request : List ℕ → List ℕ → Asked
+  reopen : Asked
   unread : Asked
 
 -- whether a byte is a space
 abbrev pub is_space : ℕ → Bool
 is_space b = b == 32
 
--- the name stands before the first space and the body behind it; a line without a space is all name
+-- a line that is read: the word `@reopen`, or a request, whose name stands before the first space and its body behind it; a line
+-- without a space is all name
+abbrev pub asked_by : List ℕ → Asked
+asked_by text =
+    if bytes_eq text (codes "@reopen") then reopen else request (before_first is_space text)
+    (after_first is_space text)
+
+-- what a line asks for
 abbrev pub asked_of : Line → Asked
-asked_of (whole text) = request (before_first is_space text) (after_first is_space text)
+asked_of (whole text) = asked_by text
 asked_of too_long = unread
 
 -- the most bytes of a line that is read
@@ -38,6 +48,7 @@ asks ended bytes = map asked_of (lines_of longest_line ended bytes)
 abbrev pub requests : List Asked → ℕ
 requests [] = 0
 requests (request name body ∷ ls) = suc (requests ls)
+requests (reopen ∷ ls) = requests ls
 requests (unread ∷ ls) = requests ls
 
 -- ---- what they come to
@@ -70,6 +81,10 @@ turned_away = record {
       None;
 }
 
+-- the store was opened again: nothing is written
+abbrev pub opened_again : Turn
+opened_again = record { text = codes "ok\n"; atoms = []; lacks = None }
+
 -- the state after a turn
 abbrev pub after_turn : State → Turn → State
 after_turn s t = last_state s t.atoms
@@ -80,6 +95,7 @@ turns s [] moments = []
 turns s (request name body ∷ ls) [] = []
 turns s (request name body ∷ ls) (m ∷ ms) =
     carried_out s name body m ∷ turns (after_turn s (carried_out s name body m)) ls ms
+turns s (reopen ∷ ls) moments = opened_again ∷ turns s ls moments
 turns s (unread ∷ ls) moments = turned_away ∷ turns s ls moments
 
 -- ---- what they come to together

@@ -4,7 +4,7 @@ use Rattle.std.specs.declared.alloc.Global.{Global}
 use Rattle.std.specs.Char.{is_ascii_digit}
 use Rattle.std.specs.Str.{bytes_eq}
 use Rattle.alternator.specs.declared.words.Job.{Job}
-use Rattle.alternator.specs.declared.words.Job.TheVariants.{Replay, Serve}
+use Rattle.alternator.specs.declared.words.Job.TheVariants.{Init, Replay, Serve}
 
 -- the number of these digits behind this one
 abbrev pub digits_from : ℕ → List ℕ → Option ℕ
@@ -38,6 +38,11 @@ small_some n = if nat_le 1 n && nat_le n 4294967295 then Some n else None
 abbrev pub some_of : List ℕ → Option ℕ
 some_of word = option_and_then small_some (number_of word)
 
+-- `init`
+abbrev pub init_of : List (List ℕ) → Option Job
+init_of (word ∷ []) = if bytes_eq word (codes "init") then Some Init else None
+init_of words = None
+
 -- `replay FLUSH MERGE`
 abbrev pub replay_of : List (List ℕ) → Option Job
 replay_of (word ∷ flush ∷ merge ∷ []) =
@@ -62,14 +67,25 @@ abbrev pub or_else : Option Job → Option Job → Option Job
 or_else None job = job
 or_else (Some first) job = Some first
 
+-- the job over a store that words ask for
+abbrev pub run_of : List (List ℕ) → Option Job
+run_of words = or_else (replay_of words) (serve_of words)
+
 -- The job that words ask for.
 abbrev pub job_of : List (List ℕ) → Option Job
-job_of words = or_else (replay_of words) (serve_of words)
+job_of words = or_else (init_of words) (run_of words)
 
 -- a job that may be done: a connection has a request or more
 abbrev pub IsServable : Job → Type 0
+IsServable Init = ⊤
 IsServable Replay = ⊤
 IsServable (Serve per connections) = 0 < per
+
+-- a job over a store that is there
+abbrev pub IsOverStore : Job → Type 0
+IsOverStore Init = ⊥
+IsOverStore Replay = ⊤
+IsOverStore (Serve per connections) = ⊤
 
 -- a number of at most 65,535
 abbrev pub small_port : ℕ → Option ℕ

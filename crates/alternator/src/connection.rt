@@ -4,13 +4,13 @@
 ghost use Rattle.std.specs.Prelude.{◌≡◌, ◌<◌, ◌≤◌, ◌+◌, ◌-◌, ◌^◌, ◌==◌, ◌||◌, nat_le, if◌then◌else◌, ℕ, [], ◌∷◌, take, drop, length, true, false, IfOk, OnOk, IfErr, IsErrOf, MatchResult};
 ghost use Rattle.alt_base.specs.Counts.{Rose};
 ghost use Rattle.alt_machine.specs.State.{State};
+ghost use Rattle.alt_shell.specs.Calls.{Keeps};
 ghost use Rattle.alt_shell.specs.Log.{talks, takes_missed, says_missed};
-ghost use Rattle.alt_tables.specs.Stands.{Stands};
-ghost use Rattle.alternator.specs.Connections.{Comes, ComesSome, Served, ServedSome};
-ghost use Rattle.alternator.specs.Faults.{number_of};
-ghost use Rattle.alternator.specs.Runs.{Calls, Passes, Reaches};
-ghost use Rattle.alternator.specs.Stretches.{Utters, Answers, AnswersSome, MovesAll, MovesSome, Steps, Carries, CarriesSome, Goes, GoesSome, Ends, AtRest};
+ghost use Rattle.alt_tables.specs.Stands.{AreReady, Stands};
+ghost use Rattle.alternator.specs.Runs.{Leads, Passes, Stretch};
+ghost use Rattle.alternator.specs.Stretches.{Utters, AtRest};
 ghost use Rattle.alternator.specs.TalkRules.{rules};
+ghost use Rattle.alternator.specs.TalkStops.{AnswersOn, AnswersSomeOn, CarriesOn, CarriesSomeOn, ComesOn, ComesSomeOn, EndsOn, GoesOn, GoesSomeOn, LeavesNow, MovesAllOn, MovesSomeOn, ServedOn, ServedSomeOn, StepsOn};
 ghost use Rattle.alternator.specs.TalkViews.{place_of, head_in, asking};
 ghost use Rattle.alternator.specs.Talks.{onward, asked, refused, good, greets};
 
@@ -37,11 +37,12 @@ pub(crate) struct Talk {
 fn utter<S: Shell>(mute: &mut bool, text: &[u8], shell: &mut S)
     requires talking { talks (S.state shell.old).beside ≡ true }
     requires hears { mute.old ≡ false → says_missed (S.state shell.old).beside ≡ false }
-    ensures said { Calls (S.state shell.old).beside (S.state shell.new).beside
-        (Utters mute.old text.now mute.new) }
+    ensures said { Stretch (S.state shell.old) (S.state shell.new)
+        (λ _ _. Utters mute.old text.now mute.new) }
     ensures hears { mute.new ≡ false → says_missed (S.state shell.new).beside ≡ false }
     ensures takes { takes_missed (S.state shell.new).beside
         ≡ takes_missed (S.state shell.old).beside }
+    ensures keeps { Keeps (S.state shell.old) (S.state shell.new) }
     ensures passes { Passes (S.state shell.old) (S.state shell.new) }
 {
     if *mute {
@@ -74,16 +75,17 @@ fn refuse<S: Shell>(
     requires high { number ≤ 9 }
     requires talking { talks (S.state shell.old).beside ≡ true }
     requires hears { mute.old ≡ false → says_missed (S.state shell.old).beside ≡ false }
-    ensures answered { (s : State) → MatchResult result
-        (λ _. Calls (S.state shell.old).beside (S.state shell.new).beside
-        (Answers rules s mute.old (refused number ∷ []) s mute.new))
-        (λ f. Calls (S.state shell.old).beside (S.state shell.new).beside
-        (AnswersSome rules (number_of f) s mute.old (refused number ∷ []))) }
+    ensures answered { (s : State) → LeavesNow (S.state shell.old) s → MatchResult result
+        (λ _. Stretch (S.state shell.old) (S.state shell.new)
+        (AnswersOn rules s mute.old (refused number ∷ []) s mute.new))
+        (λ f. Stretch (S.state shell.old) (S.state shell.new)
+        (AnswersSomeOn rules f s mute.old (refused number ∷ []))) }
     ensures hears { mute.new ≡ false → says_missed (S.state shell.new).beside ≡ false }
     ensures takes { takes_missed (S.state shell.new).beside
         ≡ takes_missed (S.state shell.old).beside }
     ensures cause { IsErrOf result RunFault.Failed
         → Rose (S.state shell.old).faults (S.state shell.new).faults }
+    ensures keeps { Keeps (S.state shell.old) (S.state shell.new) }
     ensures passes { Passes (S.state shell.old) (S.state shell.new) }
 {
     if *mute {
@@ -109,13 +111,14 @@ fn respond<S: Shell>(
     mute: &mut bool,
     shell: &mut S,
 ) -> Result<(), RunFault>
+    requires ready { AreReady (S.state shell.old) tables.old }
     requires talking { talks (S.state shell.old).beside ≡ true }
     requires hears { mute.old ≡ false → says_missed (S.state shell.old).beside ≡ false }
     ensures answered { (s : State) → Stands (S.state shell.old) tables.old s → MatchResult result
-        (λ _. Reaches (S.state shell.old) (S.state shell.new) tables.new
-        (λ t. Answers rules s mute.old (asked (asking target.now body.now close) ∷ []) t mute.new))
-        (λ f. Calls (S.state shell.old).beside (S.state shell.new).beside
-        (AnswersSome rules (number_of f) s mute.old (asked (asking target.now body.now close) ∷ []))) }
+        (λ _. Leads (S.state shell.old) (S.state shell.new) tables.new
+        (λ t. AnswersOn rules s mute.old (asked (asking target.now body.now close) ∷ []) t mute.new))
+        (λ f. Stretch (S.state shell.old) (S.state shell.new)
+        (AnswersSomeOn rules f s mute.old (asked (asking target.now body.now close) ∷ []))) }
     ensures hears { mute.new ≡ false → says_missed (S.state shell.new).beside ≡ false }
     ensures takes { takes_missed (S.state shell.new).beside
         ≡ takes_missed (S.state shell.old).beside }
@@ -137,11 +140,13 @@ fn respond<S: Shell>(
 fn hello<S: Shell>(expect: bool, greeted: bool, mute: &mut bool, shell: &mut S)
     requires talking { talks (S.state shell.old).beside ≡ true }
     requires hears { mute.old ≡ false → says_missed (S.state shell.old).beside ≡ false }
-    ensures greeted { (s : State) → Calls (S.state shell.old).beside (S.state shell.new).beside
-        (Answers rules s mute.old (greets greeted expect) s mute.new) }
+    ensures greeted { (s : State) → LeavesNow (S.state shell.old) s
+        → Stretch (S.state shell.old) (S.state shell.new)
+        (AnswersOn rules s mute.old (greets greeted expect) s mute.new) }
     ensures hears { mute.new ≡ false → says_missed (S.state shell.new).beside ≡ false }
     ensures takes { takes_missed (S.state shell.new).beside
         ≡ takes_missed (S.state shell.old).beside }
+    ensures keeps { Keeps (S.state shell.old) (S.state shell.new) }
     ensures passes { Passes (S.state shell.old) (S.state shell.new) }
 {
     if !expect {
@@ -211,17 +216,18 @@ fn carry<S: Shell>(
     talk: &mut Talk,
     shell: &mut S,
 ) -> Result<(), RunFault>
+    requires ready { AreReady (S.state shell.old) tables.old }
     requires going { 0 < talk.old.left }
     requires whole { nat_le (head.now.taken + head.now.length)
         (length talk.old.front.items) ≡ true }
     requires talking { talks (S.state shell.old).beside ≡ true }
     requires hears { talk.old.mute ≡ false → says_missed (S.state shell.old).beside ≡ false }
     ensures carried { (s : State) → Stands (S.state shell.old) tables.old s → MatchResult result
-        (λ _. Reaches (S.state shell.old) (S.state shell.new) tables.new
-        (λ t. Carries rules (head_in head.now) (place_of talk.old) s talk.old.mute
+        (λ _. Leads (S.state shell.old) (S.state shell.new) tables.new
+        (λ t. CarriesOn rules (head_in head.now) (place_of talk.old) s talk.old.mute
         (place_of talk.new) t talk.new.mute))
-        (λ f. Calls (S.state shell.old).beside (S.state shell.new).beside
-        (CarriesSome rules (number_of f) (head_in head.now) (place_of talk.old) s
+        (λ f. Stretch (S.state shell.old) (S.state shell.new)
+        (CarriesSomeOn rules f (head_in head.now) (place_of talk.old) s
         talk.old.mute)) }
     ensures fewer { OnOk result (talk.new.left < talk.old.left) }
     ensures hears { talk.new.mute ≡ false → says_missed (S.state shell.new).beside ≡ false }
@@ -260,17 +266,18 @@ fn found<S: Shell>(
     talk: &mut Talk,
     shell: &mut S,
 ) -> Result<bool, RunFault>
+    requires ready { AreReady (S.state shell.old) tables.old }
     requires going { 0 < talk.old.left }
     requires head { rules.scan talk.old.front.items ≡ good (head_in head.now) }
     requires lies { head.now.taken ≤ length talk.old.front.items }
     requires talking { talks (S.state shell.old).beside ≡ true }
     requires hears { talk.old.mute ≡ false → says_missed (S.state shell.old).beside ≡ false }
     ensures stepped { (s : State) → Stands (S.state shell.old) tables.old s → MatchResult result
-        (λ more. Reaches (S.state shell.old) (S.state shell.new) tables.new
-        (λ t. Steps rules more (place_of talk.old) s talk.old.mute
+        (λ more. Leads (S.state shell.old) (S.state shell.new) tables.new
+        (λ t. StepsOn rules more (place_of talk.old) s talk.old.mute
         (place_of talk.new) t talk.new.mute))
-        (λ f. Calls (S.state shell.old).beside (S.state shell.new).beside
-        (MovesSome rules (number_of f) (place_of talk.old) s talk.old.mute)) }
+        (λ f. Stretch (S.state shell.old) (S.state shell.new)
+        (MovesSomeOn rules f (place_of talk.old) s talk.old.mute)) }
     ensures fewer { IfOk result (λ more. more ≡ true → talk.new.left < talk.old.left) }
     ensures hears { talk.new.mute ≡ false → says_missed (S.state shell.new).beside ≡ false }
     ensures takes { takes_missed (S.state shell.new).beside
@@ -297,15 +304,16 @@ fn one<S: Shell>(
     talk: &mut Talk,
     shell: &mut S,
 ) -> Result<bool, RunFault>
+    requires ready { AreReady (S.state shell.old) tables.old }
     requires going { 0 < talk.old.left }
     requires talking { talks (S.state shell.old).beside ≡ true }
     requires hears { talk.old.mute ≡ false → says_missed (S.state shell.old).beside ≡ false }
     ensures stepped { (s : State) → Stands (S.state shell.old) tables.old s → MatchResult result
-        (λ more. Reaches (S.state shell.old) (S.state shell.new) tables.new
-        (λ t. Steps rules more (place_of talk.old) s talk.old.mute
+        (λ more. Leads (S.state shell.old) (S.state shell.new) tables.new
+        (λ t. StepsOn rules more (place_of talk.old) s talk.old.mute
         (place_of talk.new) t talk.new.mute))
-        (λ f. Calls (S.state shell.old).beside (S.state shell.new).beside
-        (MovesSome rules (number_of f) (place_of talk.old) s talk.old.mute)) }
+        (λ f. Stretch (S.state shell.old) (S.state shell.new)
+        (MovesSomeOn rules f (place_of talk.old) s talk.old.mute)) }
     ensures fewer { IfOk result (λ more. more ≡ true → talk.new.left < talk.old.left) }
     ensures hears { talk.new.mute ≡ false → says_missed (S.state shell.new).beside ≡ false }
     ensures takes { takes_missed (S.state shell.new).beside
@@ -354,14 +362,15 @@ fn at_hand<S: Shell>(
     talk: &mut Talk,
     shell: &mut S,
 ) -> Result<(), RunFault>
+    requires ready { AreReady (S.state shell.old) tables.old }
     requires talking { talks (S.state shell.old).beside ≡ true }
     requires hears { talk.old.mute ≡ false → says_missed (S.state shell.old).beside ≡ false }
     ensures moved { (s : State) → Stands (S.state shell.old) tables.old s → MatchResult result
-        (λ _. Reaches (S.state shell.old) (S.state shell.new) tables.new
-        (λ t. MovesAll rules (place_of talk.old) s talk.old.mute
+        (λ _. Leads (S.state shell.old) (S.state shell.new) tables.new
+        (λ t. MovesAllOn rules (place_of talk.old) s talk.old.mute
         (place_of talk.new) t talk.new.mute))
-        (λ f. Calls (S.state shell.old).beside (S.state shell.new).beside
-        (MovesSome rules (number_of f) (place_of talk.old) s talk.old.mute)) }
+        (λ f. Stretch (S.state shell.old) (S.state shell.new)
+        (MovesSomeOn rules f (place_of talk.old) s talk.old.mute)) }
     ensures hears { talk.new.mute ≡ false → says_missed (S.state shell.new).beside ≡ false }
     ensures takes { takes_missed (S.state shell.new).beside
         ≡ takes_missed (S.state shell.old).beside }
@@ -387,6 +396,7 @@ fn pull<S: Shell>(
     talk: &mut Talk,
     shell: &mut S,
 ) -> Result<bool, RunFault>
+    requires ready { AreReady (S.state shell.old) tables.old }
     requires buffer { 0 < length buf.old }
     requires heard { talk.old.mute ≡ false }
     requires talking { talks (S.state shell.old).beside ≡ true }
@@ -394,11 +404,11 @@ fn pull<S: Shell>(
     requires taking { takes_missed (S.state shell.old).beside ≡ false }
     ensures turned { (s : State) → Stands (S.state shell.old) tables.old s
         → AtRest rules (place_of talk.old) → MatchResult result
-        (λ more. Reaches (S.state shell.old) (S.state shell.new) tables.new
-        (λ t. Goes rules more (place_of talk.old) s talk.old.mute
+        (λ more. Leads (S.state shell.old) (S.state shell.new) tables.new
+        (λ t. GoesOn rules more (place_of talk.old) s talk.old.mute
         (place_of talk.new) t talk.new.mute))
-        (λ f. Calls (S.state shell.old).beside (S.state shell.new).beside
-        (GoesSome rules (number_of f) (place_of talk.old) s talk.old.mute)) }
+        (λ f. Stretch (S.state shell.old) (S.state shell.new)
+        (GoesSomeOn rules f (place_of talk.old) s talk.old.mute)) }
     ensures hears { talk.new.mute ≡ false → says_missed (S.state shell.new).beside ≡ false }
     ensures taking { IfOk result (λ more. more ≡ true
         → takes_missed (S.state shell.new).beside ≡ false) }
@@ -435,18 +445,19 @@ fn pulls<S: Shell>(
     talk: &mut Talk,
     shell: &mut S,
 ) -> Result<(), RunFault>
+    requires ready { AreReady (S.state shell.old) tables.old }
     requires buffer { 0 < length buf.old }
     requires heard { talk.old.mute ≡ false }
     requires talking { talks (S.state shell.old).beside ≡ true }
     requires hears { says_missed (S.state shell.old).beside ≡ false }
     requires taking { takes_missed (S.state shell.old).beside ≡ false }
-    ensures ended { (s : State) → Stands (S.state shell.old) tables.old s
-        → AtRest rules (place_of talk.old) → MatchResult result
-        (λ _. Reaches (S.state shell.old) (S.state shell.new) tables.new
-        (λ t. Ends rules (place_of talk.old) s talk.old.mute
+    requires rest { AtRest rules (place_of talk.old) }
+    ensures ended { (s : State) → Stands (S.state shell.old) tables.old s → MatchResult result
+        (λ _. Leads (S.state shell.old) (S.state shell.new) tables.new
+        (λ t. EndsOn rules (place_of talk.old) s talk.old.mute
         (place_of talk.new) t talk.new.mute))
-        (λ f. Calls (S.state shell.old).beside (S.state shell.new).beside
-        (GoesSome rules (number_of f) (place_of talk.old) s talk.old.mute)) }
+        (λ f. Stretch (S.state shell.old) (S.state shell.new)
+        (GoesSomeOn rules f (place_of talk.old) s talk.old.mute)) }
     ensures cause { IsErrOf result RunFault.Failed
         → Rose (S.state shell.old).faults (S.state shell.new).faults }
     ensures passes { Passes (S.state shell.old) (S.state shell.new) }
@@ -474,14 +485,15 @@ pub(crate) fn connection<S: Shell>(
     buf: &mut [u8],
     shell: &mut S,
 ) -> Result<bool, RunFault>
+    requires ready { AreReady (S.state shell.old) tables.old }
     requires buffer { 0 < length buf.old }
     requires some { 0 < per }
     requires quiet { talks (S.state shell.old).beside ≡ false }
     ensures served { (s : State) → Stands (S.state shell.old) tables.old s → MatchResult result
-        (λ came. Reaches (S.state shell.old) (S.state shell.new) tables.new
-        (λ t. Comes rules per came s t))
-        (λ f. Calls (S.state shell.old).beside (S.state shell.new).beside
-        (ComesSome rules per (number_of f) s)) }
+        (λ came. Leads (S.state shell.old) (S.state shell.new) tables.new
+        (λ t. ComesOn rules per came s t))
+        (λ f. Stretch (S.state shell.old) (S.state shell.new)
+        (ComesSomeOn rules per f s)) }
     ensures cause { IsErrOf result RunFault.Failed
         → Rose (S.state shell.old).faults (S.state shell.new).faults }
     ensures passes { Passes (S.state shell.old) (S.state shell.new) }
@@ -515,14 +527,15 @@ pub(crate) fn connections<S: Shell>(
     buf: &mut [u8],
     shell: &mut S,
 ) -> Result<(), RunFault>
+    requires ready { AreReady (S.state shell.old) tables.old }
     requires buffer { 0 < length buf.old }
     requires some { 0 < per }
     requires quiet { talks (S.state shell.old).beside ≡ false }
     ensures served { (s : State) → Stands (S.state shell.old) tables.old s → MatchResult result
-        (λ _. Reaches (S.state shell.old) (S.state shell.new) tables.new
-        (λ t. Served rules per count s t))
-        (λ f. Calls (S.state shell.old).beside (S.state shell.new).beside
-        (ServedSome rules per count (number_of f) s)) }
+        (λ _. Leads (S.state shell.old) (S.state shell.new) tables.new
+        (λ t. ServedOn rules per count s t))
+        (λ f. Stretch (S.state shell.old) (S.state shell.new)
+        (ServedSomeOn rules per count f s)) }
     ensures cause { IsErrOf result RunFault.Failed
         → Rose (S.state shell.old).faults (S.state shell.new).faults }
     ensures passes { Passes (S.state shell.old) (S.state shell.new) }

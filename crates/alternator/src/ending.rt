@@ -1,22 +1,29 @@
 //! How a run ends: its status and its note.
 
-ghost use Rattle.std.specs.Prelude.{◌≡◌, ◌⊎◌, ℕ, [], string_bytes, IfOk};
+ghost use Rattle.std.specs.Prelude.{◌≡◌, ◌⊎◌, ℕ, [], string_bytes, IfOk, IfSome, IfNone};
 ghost use Rattle.alt_shell.specs.Calls.{Aside};
 ghost use Rattle.alt_shell.specs.Log.{Grows, StillGrows, notes_of, moments_of, talks};
-ghost use Rattle.alternator.specs.Endings.{status_of, note_of};
-ghost use Rattle.alternator.specs.declared.ending.Ending.TheVariants.{Memory, Spent};
+ghost use Rattle.alternator.specs.Endings.{status_of, note_of, HasNumbers};
+ghost use Rattle.alternator.specs.declared.ending.Ending.TheVariants.{Memory};
 
 use alt_base::NoMemory;
+use alt_fields::Bytes;
 use alt_shell::Shell;
 use std::alloc::Global;
 
 /// How a run ends.
-#[derive(Clone, Copy, Debug, PartialEq, Eq)]
+#[derive(Debug, Drop)]
 pub(crate) enum Ending {
     /// All was done.
     Whole,
     /// The words are none of those that it knows.
     Words,
+    /// A file is there already, where a store was to be made, this one first.
+    NotEmpty { first: u32 },
+    /// The files are no store's, for the bytes of this file at this place.
+    Damaged { file: u32, at: u64 },
+    /// The rows are those of no state, and of this family and key is the first that is wrong.
+    BadRow { family: u32, key: Bytes },
     /// The device failed.
     Device,
     /// Memory was refused.
@@ -26,28 +33,59 @@ pub(crate) enum Ending {
 }
 
 /// The status of an ending.
-pub(crate) fn status_of(ending: Ending) -> u8
-    ensures { result ≡ status_of ending }
+pub(crate) fn status_of(ending: &Ending) -> u8
+    ensures { result ≡ status_of ending.now }
 {
     match ending {
         Ending::Whole => 0,
         Ending::Words => 1,
+        Ending::NotEmpty { first: _ } => 2,
+        Ending::Damaged { file: _, at: _ } => 3,
+        Ending::BadRow { family: _, key: _ } => 3,
         Ending::Device => 4,
         Ending::Memory => 5,
         Ending::Spent { number: _ } => 6,
     }
 }
 
-/// The note of a run whose numbers are spent.
-fn spent_note(alloc: Global, number: u64) -> Result<String, NoMemory>
-    ensures { IfOk result (λ s. string_bytes s ≡ note_of (Spent number)) }
+/// The note of an ending that has always the same, `None` where numbers stand in it.
+fn fixed_note(ending: &Ending) -> Option<&'static [u8]>
+    ensures some { IfSome result (λ note. note.now ≡ note_of ending.now) }
+    ensures none { IfNone result (HasNumbers ending.now) }
 {
-    Ok(format!(in alloc; "alternator: numbers spent: {number}\n")?)
+    match ending {
+        Ending::Whole => Some(b""),
+        Ending::Words => Some(b"alternator: words\n"),
+        Ending::Device => Some(b"alternator: device\n"),
+        Ending::Memory => Some(b"alternator: memory\n"),
+        _ => None,
+    }
 }
 
-/// Notes an ending. Where there is no memory for a number, want of memory is noted, and the run ends so.
+/// The note of an ending with numbers, empty for any other.
+fn note_of(alloc: Global, ending: &Ending) -> Result<String, NoMemory>
+    ensures { HasNumbers ending.now → IfOk result (λ s. string_bytes s ≡ note_of ending.now) }
+{
+    let note = match ending {
+        Ending::NotEmpty { first } => {
+            format!(in alloc; "alternator: store not empty: file {first}\n")?
+        }
+        Ending::Damaged { file, at } => {
+            format!(in alloc; "alternator: damaged: file {file} at {at}\n")?
+        }
+        Ending::BadRow { family, key } => {
+            let text = hex::encode(alloc, key.as_slice())?;
+            format!(in alloc; "alternator: row: family {family} key {text}\n")?
+        }
+        Ending::Spent { number } => { format!(in alloc; "alternator: numbers spent: {number}\n")? }
+        _ => String::new(alloc),
+    };
+    Ok(note)
+}
+
+/// Notes an ending. Where there is no memory for its numbers, want of memory is noted, and the run ends so.
 pub(crate) fn noted<S: Shell>(alloc: Global, ending: Ending, shell: &mut S) -> Ending
-    ensures ending { (result ≡ ending) ⊎ ((result ≡ Memory) × ((n : ℕ) × (ending ≡ Spent n))) }
+    ensures ending { (result ≡ ending) ⊎ ((result ≡ Memory) × HasNumbers ending) }
     ensures noted { StillGrows (notes_of (S.state shell.old).beside)
         (notes_of (S.state shell.new).beside) (note_of result) }
     ensures silent { Grows (S.state shell.old).beside (S.state shell.new).beside [] }
@@ -56,18 +94,14 @@ pub(crate) fn noted<S: Shell>(alloc: Global, ending: Ending, shell: &mut S) -> E
     ensures aside { Aside (S.state shell.old) (S.state shell.new) }
     ensures talking { talks (S.state shell.new).beside ≡ talks (S.state shell.old).beside }
 {
-    match ending {
-        Ending::Whole => shell.note(b""),
-        Ending::Words => shell.note(b"alternator: words\n"),
-        Ending::Device => shell.note(b"alternator: device\n"),
-        Ending::Memory => shell.note(b"alternator: memory\n"),
-        Ending::Spent { number } => {
-            let Ok(note) = spent_note(alloc, number) else {
-                shell.note(b"alternator: memory\n");
-                return Ending::Memory;
-            };
-            shell.note(note.as_bytes());
-        }
+    if let Some(note) = fixed_note(&ending) {
+        shell.note(note);
+        return ending;
     }
+    let Ok(note) = note_of(alloc, &ending) else {
+        shell.note(b"alternator: memory\n");
+        return Ending::Memory;
+    };
+    shell.note(note.as_bytes());
     ending
 }

@@ -1,16 +1,16 @@
-//! Alternator: the interface of Amazon DynamoDB over a store in one folder. So far it answers six operations, over
-//! tables in memory, and requests as lines or over HTTP.
+//! Alternator: the interface of Amazon DynamoDB over a store in one folder. So far it answers seven operations, and requests as lines or
+//! over HTTP.
 #![tactic(auto)]
 
 mod connection;
 mod ending;
+mod init;
 mod lines;
+mod open;
 mod reply;
 mod response;
 mod run;
 mod serve;
-#[cfg(test)]
-mod tests;
 mod words;
 
 use alt_disk::DiskFault;

@@ -3,11 +3,14 @@
 ghost use Rattle.std.specs.Prelude.{◌≡◌, false, None, IfOk, IfErr, IsErrOf, OnOk, string_bytes};
 ghost use Rattle.serde_json.specs.View.{view};
 ghost use Rattle.serde_json.specs.Written.{has_float};
+ghost use Rattle.alt_base.specs.Counts.{Rose};
+ghost use Rattle.alt_disk.specs.Disk.{Goes};
 ghost use Rattle.alt_machine.specs.State.{State};
 ghost use Rattle.alt_shape.specs.Refusals.{answer_of};
-ghost use Rattle.alt_tables.specs.Stands.{Stands};
-ghost use Rattle.alternator.specs.Faults.{IsCausedBy};
+ghost use Rattle.alt_tables.specs.Stands.{AreReady, Stands};
+ghost use Rattle.alternator.specs.Faults.{IsCausedBy, request_fault};
 ghost use Rattle.alternator.specs.declared.serve.RunFault.TheVariants.{Failed};
+ghost use Rattle.alternator.specs.Stops.{AtEach, IsAmong};
 ghost use Rattle.alternator.specs.Turns.{carried_out, after_turn, line_of};
 
 use crate::serve::RunFault;
@@ -37,6 +40,7 @@ pub(crate) fn reply_text<D: Disk>(
     body: &[u8],
     moment: u64,
 ) -> Result<String, RunFault>
+    requires ready { AreReady (D.state disk.old) tables.old }
     ensures text { (s : State) → Stands (D.state disk.old) tables.old s → IfOk result
         (λ text. string_bytes text ≡ (carried_out s name.now body.now moment).text) }
     ensures state { (s : State) → Stands (D.state disk.old) tables.old s → OnOk result
@@ -46,15 +50,31 @@ pub(crate) fn reply_text<D: Disk>(
         ((carried_out s name.now body.now moment).lacks ≡ None) }
     ensures cause { (s : State) → Stands (D.state disk.old) tables.old s → IfErr result
         (IsCausedBy (carried_out s name.now body.now moment).lacks) }
-    ensures other { IsErrOf result Failed → ⊥ }
-    ensures disk { D.state disk.new ≡ D.state disk.old }
+    ensures device { IsErrOf result Failed
+        → Rose (D.state disk.old).faults (D.state disk.new).faults }
+    ensures goes { Goes (D.state disk.old) (D.state disk.new) }
+    ensures leaves { (s : State) → Stands (D.state disk.old) tables.old s
+        → AtEach (D.state disk.old) (D.state disk.new)
+        (λ _ image. IsAmong image s (carried_out s name.now body.now moment).atoms) }
 {
     match answer(alloc, tables, disk, operation_named(name), body, moment) {
         Ok(reply) => match line_of(alloc, &reply) {
             Ok(text) => Ok(text),
             Err(_) => Err(RunFault::NoMemory),
         },
-        Err(TableFault::NoMemory) => Err(RunFault::NoMemory),
-        Err(TableFault::Spent { number }) => Err(RunFault::Spent { number }),
+        Err(fault) => Err(fault_of(fault)),
+    }
+}
+
+/// Why a request without an answer ends a run.
+pub(crate) fn fault_of(fault: TableFault) -> RunFault
+    ensures { result ≡ request_fault fault }
+{
+    match fault {
+        TableFault::Spent { number } => RunFault::Spent { number },
+        TableFault::Damaged { file, at } => RunFault::Damaged { file, at },
+        TableFault::BadRow { family, key } => RunFault::BadRow { family, key },
+        TableFault::Failed => RunFault::Failed,
+        TableFault::NoMemory => RunFault::NoMemory,
     }
 }

@@ -3,18 +3,22 @@
 ghost use Rattle.std.specs.Prelude.{◌≡◌, ◌≤◌, ◌<◌, true, false, None, IfOk, IfErr, IsErrOf, OnOk, option_and_then};
 ghost use Rattle.serde_json.specs.View.{view};
 ghost use Rattle.serde_json.specs.Written.{has_float};
+ghost use Rattle.alt_base.specs.Counts.{Rose};
+ghost use Rattle.alt_disk.specs.Disk.{Goes};
 ghost use Rattle.alt_dispatch.specs.Targets.{operation_at};
 ghost use Rattle.alt_http.specs.Replies.{reply_text, refusal_status, refusal_body};
 ghost use Rattle.alt_machine.specs.Outcomes.{last_state};
 ghost use Rattle.alt_machine.specs.State.{State};
 ghost use Rattle.alt_machine.specs.Wanted.{wanted};
 ghost use Rattle.alt_shape.specs.Refusals.{answer_of};
-ghost use Rattle.alt_tables.specs.Stands.{Stands};
+ghost use Rattle.alt_tables.specs.Stands.{AreReady, Stands};
 ghost use Rattle.alternator.specs.Faults.{IsCausedBy};
+ghost use Rattle.alternator.specs.Stops.{AtEach, IsAmong};
 ghost use Rattle.alternator.specs.TalkRules.{outcome_of, http_text, status_said};
 ghost use Rattle.alternator.specs.TalkViews.{asking};
 ghost use Rattle.alternator.specs.declared.serve.RunFault.TheVariants.{Failed};
 
+use crate::reply::fault_of;
 use crate::serve::RunFault;
 use alt_base::NoMemory;
 use alt_disk::Disk;
@@ -23,7 +27,7 @@ use alt_fields::Bytes;
 use alt_http::{refusal_body, refusal_status, reply};
 use alt_machine::Operation;
 use alt_shape::Reply;
-use alt_tables::{TableFault, Tables};
+use alt_tables::Tables;
 use std::alloc::Global;
 
 /// The reply to a head that is refused.
@@ -90,6 +94,7 @@ pub(crate) fn response<D: Disk>(
     close: bool,
     moment: u64,
 ) -> Result<Vec<u8>, RunFault>
+    requires ready { AreReady (D.state disk.old) tables.old }
     requires dated { moment < 253402300800 }
     ensures text { (s : State) → Stands (D.state disk.old) tables.old s → IfOk result
         (λ text. text.items ≡ http_text (outcome_of s (asking target.now body.now close)
@@ -101,15 +106,18 @@ pub(crate) fn response<D: Disk>(
         (wanted s (outcome_of s (asking target.now body.now close) moment) ≡ None) }
     ensures cause { (s : State) → Stands (D.state disk.old) tables.old s → IfErr result
         (IsCausedBy (wanted s (outcome_of s (asking target.now body.now close) moment))) }
-    ensures other { IsErrOf result Failed → ⊥ }
-    ensures disk { D.state disk.new ≡ D.state disk.old }
+    ensures device { IsErrOf result Failed
+        → Rose (D.state disk.old).faults (D.state disk.new).faults }
+    ensures goes { Goes (D.state disk.old) (D.state disk.new) }
+    ensures leaves { (s : State) → Stands (D.state disk.old) tables.old s
+        → AtEach (D.state disk.old) (D.state disk.new) (λ _ image. IsAmong image s
+        (outcome_of s (asking target.now body.now close) moment).atoms) }
 {
     match answer(alloc, tables, disk, operation_in(target), body, moment) {
         Ok(reply) => match text_of(alloc, &reply, moment, close) {
             Ok(text) => Ok(text),
             Err(_) => Err(RunFault::NoMemory),
         },
-        Err(TableFault::NoMemory) => Err(RunFault::NoMemory),
-        Err(TableFault::Spent { number }) => Err(RunFault::Spent { number }),
+        Err(fault) => Err(fault_of(fault)),
     }
 }

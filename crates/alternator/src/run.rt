@@ -1,21 +1,26 @@
 //! A run of the program, but for what `main` takes off the front.
 
-ghost use Rattle.std.specs.Prelude.{◌≡◌, ◌⊎◌, ◌↔◌, ◌<◌, true, false, Some, None, is_some, length, IfOk, IsErrOf, MatchResult};
+ghost use Rattle.std.specs.Prelude.{◌≡◌, ◌⊎◌, ◌↔◌, ◌<◌, ℕ, true, false, Some, None, length, IsTrue, IfOk, IfErr, IsErrOf, MatchResult};
 ghost use Rattle.alt_base.specs.Counts.{Rose};
-ghost use Rattle.alt_machine.specs.State.{State, start};
-ghost use Rattle.alt_shell.specs.Calls.{Keeps};
-ghost use Rattle.alternator.specs.Endings.{Ended, HasDone, Done, Broken};
-ghost use Rattle.alternator.specs.Faults.{number_of};
-ghost use Rattle.alternator.specs.Runs.{Calls, Passes, Answers, AnswersSome};
-ghost use Rattle.alternator.specs.Connections.{Served, ServedSome};
-ghost use Rattle.alternator.specs.TalkRules.{rules};
-ghost use Rattle.alternator.specs.Words.{job_of, bytes_of, IsServable};
+ghost use Rattle.alt_disk.specs.Disk.{IsTrusted};
+ghost use Rattle.alt_machine.specs.State.{State};
 ghost use Rattle.alt_shell.specs.Log.{talks};
+ghost use Rattle.alt_tables.specs.Stands.{AreReady, Stands};
+ghost use Rattle.alternator.specs.Endings.{Ended, HasDone, HasRun, Done, Broken, IsReadable};
+ghost use Rattle.alternator.specs.Faults.{IsUnreadable};
+ghost use Rattle.alternator.specs.Runs.{Stretch, Passes, Answers, AnswersSome, IsOpening, Opened};
+ghost use Rattle.alternator.specs.TalkRules.{rules};
+ghost use Rattle.alternator.specs.TalkStops.{ServedOn, ServedSomeOn};
+ghost use Rattle.alternator.specs.Words.{job_of, bytes_of, IsServable, IsOverStore};
 ghost use Rattle.alternator.specs.declared.ending.Ending.{Ending as RunEnding};
 ghost use Rattle.alternator.specs.declared.serve.RunFault.TheVariants.{Failed};
+ghost use Rattle.alternator.specs.declared.words.Job.{Job as RunJob};
+ghost use Rattle.alternator.specs.declared.words.Job.TheVariants.{Init};
 
 use crate::connection::connections;
 use crate::ending::{Ending, noted, status_of};
+use crate::init::init;
+use crate::open::open;
 use crate::serve::{RunFault, pull};
 use crate::words::{self, Job};
 use alt_base::NoMemory;
@@ -35,22 +40,26 @@ fn buffer(alloc: Global) -> Result<Vec<u8>, NoMemory>
 }
 
 /// Requests as lines of the input, of which a buffer's length is taken at a time at most.
-fn pulls<S: Shell>(alloc: Global, buf: &mut [u8], shell: &mut S) -> Result<(), RunFault>
+fn pulls<S: Shell>(
+    alloc: Global,
+    tables: &mut Tables,
+    buf: &mut [u8],
+    shell: &mut S,
+) -> Result<(), RunFault>
+    requires ready { AreReady (S.state shell.old) tables.old }
     requires room { 0 < length buf.old }
     requires quiet { talks (S.state shell.old).beside ≡ false }
-    ensures answered { MatchResult result
-        (λ _. Calls (S.state shell.old).beside (S.state shell.new).beside (Answers start))
-        (λ f. Calls (S.state shell.old).beside (S.state shell.new).beside
-        (AnswersSome (number_of f) start)) }
+    ensures answered { (s : State) → Stands (S.state shell.old) tables.old s → MatchResult result
+        (λ _. Stretch (S.state shell.old) (S.state shell.new) (Answers s))
+        (λ f. Stretch (S.state shell.old) (S.state shell.new) (AnswersSome f s)) }
     ensures cause { IsErrOf result RunFault.Failed
         → Rose (S.state shell.old).faults (S.state shell.new).faults }
     ensures passes { Passes (S.state shell.old) (S.state shell.new) }
 {
-    let mut tables = Tables::new(alloc);
     let mut lines = Lines::new(alloc, LONGEST_LINE);
     let mut line = Vec::new(alloc);
     'pulls: loop {
-        match pull(alloc, &mut tables, &mut lines, &mut line, buf, shell) {
+        match pull(alloc, tables, &mut lines, &mut line, buf, shell) {
             Ok(true) => {}
             Ok(false) => return Ok(()),
             Err(fault) => return Err(fault),
@@ -58,13 +67,13 @@ fn pulls<S: Shell>(alloc: Global, buf: &mut [u8], shell: &mut S) -> Result<(), R
     }
 }
 
-/// Requests as lines of the input.
-fn replay<S: Shell>(alloc: Global, shell: &mut S) -> Result<(), RunFault>
+/// Requests as lines of the input, over the tables of an open store.
+fn replay<S: Shell>(alloc: Global, tables: &mut Tables, shell: &mut S) -> Result<(), RunFault>
+    requires ready { AreReady (S.state shell.old) tables.old }
     requires quiet { talks (S.state shell.old).beside ≡ false }
-    ensures answered { MatchResult result
-        (λ _. Calls (S.state shell.old).beside (S.state shell.new).beside (Answers start))
-        (λ f. Calls (S.state shell.old).beside (S.state shell.new).beside
-        (AnswersSome (number_of f) start)) }
+    ensures answered { (s : State) → Stands (S.state shell.old) tables.old s → MatchResult result
+        (λ _. Stretch (S.state shell.old) (S.state shell.new) (Answers s))
+        (λ f. Stretch (S.state shell.old) (S.state shell.new) (AnswersSome f s)) }
     ensures cause { IsErrOf result RunFault.Failed
         → Rose (S.state shell.old).faults (S.state shell.new).faults }
     ensures passes { Passes (S.state shell.old) (S.state shell.new) }
@@ -72,18 +81,25 @@ fn replay<S: Shell>(alloc: Global, shell: &mut S) -> Result<(), RunFault>
     let Ok(mut buf) = buffer(alloc) else {
         return Err(RunFault::NoMemory);
     };
-    pulls(alloc, &mut buf, shell)
+    pulls(alloc, tables, &mut buf, shell)
 }
 
-/// Requests on connections.
-fn serve<S: Shell>(alloc: Global, per: u32, count: u32, shell: &mut S) -> Result<(), RunFault>
+/// Requests on connections, over the tables of an open store.
+fn serve<S: Shell>(
+    alloc: Global,
+    tables: &mut Tables,
+    per: u32,
+    count: u32,
+    shell: &mut S,
+) -> Result<(), RunFault>
+    requires ready { AreReady (S.state shell.old) tables.old }
     requires some { 0 < per }
     requires quiet { talks (S.state shell.old).beside ≡ false }
-    ensures served { MatchResult result
-        (λ _. Calls (S.state shell.old).beside (S.state shell.new).beside
-        (λ es ms. (t : State) × Served rules per count start t es ms))
-        (λ f. Calls (S.state shell.old).beside (S.state shell.new).beside
-        (ServedSome rules per count (number_of f) start)) }
+    ensures served { (s : State) → Stands (S.state shell.old) tables.old s → MatchResult result
+        (λ _. Stretch (S.state shell.old) (S.state shell.new)
+        (λ a b es ms. (t : State) × ServedOn rules per count s t a b es ms))
+        (λ f. Stretch (S.state shell.old) (S.state shell.new)
+        (ServedSomeOn rules per count f s)) }
     ensures cause { IsErrOf result RunFault.Failed
         → Rose (S.state shell.old).faults (S.state shell.new).faults }
     ensures passes { Passes (S.state shell.old) (S.state shell.new) }
@@ -91,25 +107,74 @@ fn serve<S: Shell>(alloc: Global, per: u32, count: u32, shell: &mut S) -> Result
     let Ok(mut buf) = buffer(alloc) else {
         return Err(RunFault::NoMemory);
     };
-    let mut tables = Tables::new(alloc);
-    connections(alloc, &mut tables, per, count, &mut buf, shell)
+    connections(alloc, tables, per, count, &mut buf, shell)
 }
 
-/// A job.
-fn carry_out<S: Shell>(alloc: Global, job: Job, shell: &mut S) -> Result<(), RunFault>
+/// A job over the tables of an open store.
+fn carry_out<S: Shell>(
+    alloc: Global,
+    tables: &mut Tables,
+    job: Job,
+    shell: &mut S,
+) -> Result<(), RunFault>
+    requires ready { AreReady (S.state shell.old) tables.old }
     requires quiet { talks (S.state shell.old).beside ≡ false }
+    requires over { IsOverStore job }
     requires some { IsServable job }
-    ensures done { MatchResult result
-        (λ _. Calls (S.state shell.old).beside (S.state shell.new).beside (Done (Some job)))
-        (λ f. Calls (S.state shell.old).beside (S.state shell.new).beside
-        (Broken (number_of f) (Some job))) }
+    ensures done { (s : State) → Stands (S.state shell.old) tables.old s → MatchResult result
+        (λ _. Done job s (S.state shell.old) (S.state shell.new))
+        (λ f. Broken f job s (S.state shell.old) (S.state shell.new)) }
     ensures cause { IsErrOf result RunFault.Failed
         → Rose (S.state shell.old).faults (S.state shell.new).faults }
     ensures passes { Passes (S.state shell.old) (S.state shell.new) }
 {
     match job {
-        Job::Replay => replay(alloc, shell),
-        Job::Serve { per, connections } => serve(alloc, per, connections, shell),
+        Job::Init => unreachable!(),
+        Job::Replay => replay(alloc, tables, shell),
+        Job::Serve { per, connections } => serve(alloc, tables, per, connections, shell),
+    }
+}
+
+/// A job over the store that lies on the disk.
+fn over_store<S: Shell>(alloc: Global, job: Job, shell: &mut S) -> Result<(), RunFault>
+    requires quiet { talks (S.state shell.old).beside ≡ false }
+    requires over { IsOverStore job }
+    requires some { IsServable job }
+    ensures done { IsTrusted (S.state shell.old) → MatchResult result
+        (λ _. Opened (S.state shell.old) (S.state shell.new) (Done job))
+        (λ f. (IsOpening (S.state shell.old) (S.state shell.new)
+        × IsUnreadable (S.state shell.old).file f)
+        ⊎ Opened (S.state shell.old) (S.state shell.new) (Broken f job)) }
+    ensures readable { IsTrue (S.state shell.old).tells → MatchResult result
+        (λ _. IsReadable (S.state shell.old).file)
+        (λ f. (IsOpening (S.state shell.old) (S.state shell.new)
+        × IsUnreadable (S.state shell.old).file f)
+        ⊎ IsReadable (S.state shell.old).file) }
+    ensures cause { IsErrOf result RunFault.Failed
+        → Rose (S.state shell.old).faults (S.state shell.new).faults }
+    ensures passes { Passes (S.state shell.old) (S.state shell.new) }
+{
+    match open(alloc, shell) {
+        Ok(mut tables) => carry_out(alloc, &mut tables, job, shell),
+        Err(fault) => Err(fault),
+    }
+}
+
+/// How a run over a store ends.
+fn finished<S: Shell>(alloc: Global, job: Job, shell: &mut S) -> Ending
+    requires quiet { talks (S.state shell.old).beside ≡ false }
+    requires over { IsOverStore job }
+    requires some { IsServable job }
+    ensures done { HasRun job result (S.state shell.old) (S.state shell.new) }
+    ensures passes { Passes (S.state shell.old) (S.state shell.new) }
+{
+    match over_store(alloc, job, shell) {
+        Ok(()) => Ending::Whole,
+        Err(RunFault::Failed) => Ending::Device,
+        Err(RunFault::NoMemory) => Ending::Memory,
+        Err(RunFault::Spent { number }) => Ending::Spent { number },
+        Err(RunFault::Damaged { file, at }) => Ending::Damaged { file, at },
+        Err(RunFault::BadRow { family, key }) => Ending::BadRow { family, key },
     }
 }
 
@@ -118,49 +183,49 @@ fn ended<S: Shell>(alloc: Global, words: &[String], shell: &mut S) -> Ending
     requires quiet { talks (S.state shell.old).beside ≡ false }
     ensures done { HasDone (job_of (bytes_of words.now)) result (S.state shell.old)
         (S.state shell.new) }
-    ensures words { (result ≡ Ending.Words) ↔ (job_of (bytes_of words.now) ≡ None) }
     ensures passes { Passes (S.state shell.old) (S.state shell.new) }
 {
-    let Some(job) = words::job_of(words) else {
-        return Ending::Words;
-    };
-    match carry_out(alloc, job, shell) {
-        Ok(()) => Ending::Whole,
-        Err(RunFault::Failed) => Ending::Device,
-        Err(RunFault::NoMemory) => Ending::Memory,
-        Err(RunFault::Spent { number }) => Ending::Spent { number },
+    match words::job_of(words) {
+        None => Ending::Words,
+        Some(Job::Init) => init(alloc, shell),
+        Some(Job::Replay) => finished(alloc, Job::Replay, shell),
+        Some(Job::Serve { per, connections }) => {
+            finished(alloc, Job::Serve { per, connections }, shell)
+        }
     }
 }
 
-/// A run of the words behind folder and port, which answers its status: 0 done, 1 the words are wrong, 4 the device failed,
-/// 5 memory was refused, 6 the numbers of writes or the families of tables are spent. So far the words are
-/// `replay FLUSH MERGE` and `serve PER CONNECTIONS FLUSH MERGE`, FLUSH and MERGE have no effect, and each run begins with an empty
-/// store in memory.
+/// A run of the words behind folder and port, which answers its status: 0 done, 1 the words are wrong, 2 a file is there already,
+/// 3 the files are those of no store, 4 the device failed, 5 memory was refused, 6 the numbers of writes or the families of tables are
+/// spent. The words are `init`, `replay FLUSH MERGE` and `serve PER CONNECTIONS FLUSH MERGE`; FLUSH and MERGE have no effect yet.
 pub fn run<S: Shell>(alloc: Global, words: &[String], shell: &mut S) -> u8
     requires quiet { talks (S.state shell.old).beside ≡ false }
-    // It ends in one of five ways, each with its status, its note, and what it has done by then. With 0 a replay read its input to
-    // its end and said all of its Out, each request at a moment of its own; and a serve has served as many connections as it was
-    // to, or none came any more.
+    // It ends in one of eight ways, each with its status, its note, and what it has done by then. With 0 a replay read its input to
+    // its end and said all of its Out, each request at a moment of its own, and whatever a stop at any moment left holds every write that
+    // was answered by then; and a serve has served as many connections as it was to, or none came any more.
     ensures ended { (ending : RunEnding) × Ended (job_of (bytes_of words.now)) ending result
         (S.state shell.old) (S.state shell.new) }
 
     // 1 comes exactly where the words are wrong.
     ensures words { (result ≡ 1) ↔ (job_of (bytes_of words.now) ≡ None) }
 
-    // Where no device fails, all is done, or memory was refused, or numbers are spent. What fails on a connection is no failure of
-    // a device.
-    ensures complete { is_some (job_of (bytes_of words.now)) ≡ true
+    // Where the files are those of a store and no device fails, all is done, or memory was refused, or numbers are spent. What fails on
+    // a connection is no failure of a device.
+    ensures complete { (job : RunJob) → job_of (bytes_of words.now) ≡ Some job → IsOverStore job
+        → IsTrusted (S.state shell.old) → IsReadable (S.state shell.old).file
         → ¬ (Rose (S.state shell.old).faults (S.state shell.new).faults)
-        → ((result ≡ 0) × Calls (S.state shell.old).beside (S.state shell.new).beside
-        (Done (job_of (bytes_of words.now))))
+        → ((result ≡ 0) × Opened (S.state shell.old) (S.state shell.new) (Done job))
         ⊎ (result ≡ 5) ⊎ (result ≡ 6) }
 
-    // No call on the disk is made: all files stay, in reads and in what a stop leaves at each moment.
-    ensures disk { Keeps (S.state shell.old) (S.state shell.new) }
+    // And where there was no file, a store is made, or memory was refused.
+    ensures made { job_of (bytes_of words.now) ≡ Some Init → IsTrusted (S.state shell.old)
+        → ((f : ℕ) → (S.state shell.old).file f ≡ None)
+        → ¬ (Rose (S.state shell.old).faults (S.state shell.new).faults)
+        → (result ≡ 0) ⊎ (result ≡ 5) }
 
     // Each connection was hung up.
     ensures quiet { talks (S.state shell.new).beside ≡ false }
 {
-    let ending = ended(alloc, words, shell);
-    status_of(noted(alloc, ending, shell))
+    let ending = noted(alloc, ended(alloc, words, shell), shell);
+    status_of(&ending)
 }

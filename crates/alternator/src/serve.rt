@@ -8,20 +8,23 @@ ghost use Rattle.alt_lines.specs.Reader.{unread};
 ghost use Rattle.alt_lines.specs.Unread.{HasNone, TakesLine, Tells};
 ghost use Rattle.alt_machine.specs.State.{State};
 ghost use Rattle.alt_shell.specs.Log.{talks};
-ghost use Rattle.alt_tables.specs.Stands.{Stands};
-ghost use Rattle.alternator.specs.Faults.{number_of};
-ghost use Rattle.alternator.specs.Runs.{Calls, Passes, Reaches, ServesAtHand, BreaksAtHand, HandsOut, GoesOrEnds, GoesSome, asked_now};
-ghost use Rattle.alternator.specs.Turns.{request, unread as no_request, asked_of};
+ghost use Rattle.alt_disk.specs.Disk.{IsTrusted};
+ghost use Rattle.alt_tables.specs.Images.{StandsFor};
+ghost use Rattle.alt_tables.specs.Stands.{AreReady, Stands};
+ghost use Rattle.alternator.specs.Runs.{Stretch, Passes, Leads, ServesAtHand, BreaksAtHand, HandsOut, GoesOrEnds, GoesSome, asked_now};
+ghost use Rattle.alternator.specs.Turns.{request, reopen as reopened, unread as no_request, asked_of};
 
-use crate::lines::parts;
+use crate::lines::{is_reopen, parts};
+use crate::open::open;
 use crate::reply::reply_text;
+use alt_fields::Bytes;
 use alt_lines::{Cut, Lines};
 use alt_shell::Shell;
 use alt_tables::Tables;
 use std::alloc::Global;
 
 /// Why a run ends early.
-#[derive(Clone, Copy, Debug, PartialEq, Eq)]
+#[derive(Debug, Drop)]
 pub(crate) enum RunFault {
     /// The device failed.
     Failed,
@@ -29,6 +32,10 @@ pub(crate) enum RunFault {
     NoMemory,
     /// A write would need this number, or a new table this family, and it is never given out.
     Spent { number: u64 },
+    /// The files are no store's, for the bytes of this file at this place.
+    Damaged { file: u32, at: u64 },
+    /// The rows are those of no state, and of this family and key is the first that is wrong.
+    BadRow { family: u32, key: Bytes },
 }
 
 /// One request: it is answered at the moment that the clock tells.
@@ -39,12 +46,13 @@ fn answer_request<S: Shell>(
     body: &[u8],
     shell: &mut S,
 ) -> Result<(), RunFault>
+    requires ready { AreReady (S.state shell.old) tables.old }
     requires quiet { talks (S.state shell.old).beside ≡ false }
     ensures served { (s : State) → Stands (S.state shell.old) tables.old s → MatchResult result
-        (λ _. Reaches (S.state shell.old) (S.state shell.new) tables.new
+        (λ _. Leads (S.state shell.old) (S.state shell.new) tables.new
         (ServesAtHand s (request name.now body.now ∷ [])))
-        (λ f. Calls (S.state shell.old).beside (S.state shell.new).beside
-        (BreaksAtHand (number_of f) s (request name.now body.now ∷ []))) }
+        (λ f. Stretch (S.state shell.old) (S.state shell.new)
+        (BreaksAtHand f s (request name.now body.now ∷ []))) }
     ensures cause { IsErrOf result RunFault.Failed
         → Rose (S.state shell.old).faults (S.state shell.new).faults }
     ensures passes { Passes (S.state shell.old) (S.state shell.new) }
@@ -64,15 +72,40 @@ fn answer_request<S: Shell>(
 fn turn_away<S: Shell>(tables: &Tables, shell: &mut S) -> Result<(), RunFault>
     requires quiet { talks (S.state shell.old).beside ≡ false }
     ensures served { (s : State) → Stands (S.state shell.old) tables.now s → MatchResult result
-        (λ _. Reaches (S.state shell.old) (S.state shell.new) tables.now
+        (λ _. Leads (S.state shell.old) (S.state shell.new) tables.now
         (ServesAtHand s (no_request ∷ [])))
-        (λ f. Calls (S.state shell.old).beside (S.state shell.new).beside
-        (BreaksAtHand (number_of f) s (no_request ∷ []))) }
+        (λ f. Stretch (S.state shell.old) (S.state shell.new)
+        (BreaksAtHand f s (no_request ∷ []))) }
     ensures cause { IsErrOf result RunFault.Failed
         → Rose (S.state shell.old).faults (S.state shell.new).faults }
     ensures passes { Passes (S.state shell.old) (S.state shell.new) }
 {
     match shell.say(b"413 {\"message\":\"request too long\"}\n") {
+        Ok(()) => Ok(()),
+        Err(_) => Err(RunFault::Failed),
+    }
+}
+
+/// The store is opened again. What the disk holds counts from then on.
+fn reopen<S: Shell>(alloc: Global, tables: &mut Tables, shell: &mut S) -> Result<(), RunFault>
+    requires quiet { talks (S.state shell.old).beside ≡ false }
+    ensures served { (s : State) → Stands (S.state shell.old) tables.old s → MatchResult result
+        (λ _. Leads (S.state shell.old) (S.state shell.new) tables.new
+        (ServesAtHand s (reopened ∷ [])))
+        (λ f. Stretch (S.state shell.old) (S.state shell.new)
+        (BreaksAtHand f s (reopened ∷ []))) }
+    // The tables are those of the files, whatever was in hand before.
+    ensures opened { OnOk result (IsTrusted (S.state shell.old) → (r : State)
+        → StandsFor (S.state shell.old).file r → Stands (S.state shell.new) tables.new r) }
+    ensures cause { IsErrOf result RunFault.Failed
+        → Rose (S.state shell.old).faults (S.state shell.new).faults }
+    ensures passes { Passes (S.state shell.old) (S.state shell.new) }
+{
+    match open(alloc, shell) {
+        Ok(opened) => *tables = opened,
+        Err(fault) => return Err(fault),
+    }
+    match shell.say(b"ok\n") {
         Ok(()) => Ok(()),
         Err(_) => Err(RunFault::Failed),
     }
@@ -86,19 +119,23 @@ fn answer_line<S: Shell>(
     line: &[u8],
     shell: &mut S,
 ) -> Result<(), RunFault>
+    requires ready { AreReady (S.state shell.old) tables.old }
     requires quiet { talks (S.state shell.old).beside ≡ false }
     ensures served { (taken : Line) → Tells taken cut [] line.now →
         (s : State) → Stands (S.state shell.old) tables.old s → MatchResult result
-        (λ _. Reaches (S.state shell.old) (S.state shell.new) tables.new
+        (λ _. Leads (S.state shell.old) (S.state shell.new) tables.new
         (ServesAtHand s (asked_of taken ∷ [])))
-        (λ f. Calls (S.state shell.old).beside (S.state shell.new).beside
-        (BreaksAtHand (number_of f) s (asked_of taken ∷ []))) }
+        (λ f. Stretch (S.state shell.old) (S.state shell.new)
+        (BreaksAtHand f s (asked_of taken ∷ []))) }
     ensures cause { IsErrOf result RunFault.Failed
         → Rose (S.state shell.old).faults (S.state shell.new).faults }
     ensures passes { Passes (S.state shell.old) (S.state shell.new) }
 {
     match cut {
         Cut::Whole => {
+            if is_reopen(line) {
+                return reopen(alloc, tables, shell);
+            }
             let (name, body) = parts(line);
             answer_request(alloc, tables, name, body, shell)
         }
@@ -130,12 +167,13 @@ pub(crate) fn at_hand<S: Shell>(
     line: &mut Vec<u8>,
     shell: &mut S,
 ) -> Result<(), RunFault>
+    requires ready { AreReady (S.state shell.old) tables.old }
     requires quiet { talks (S.state shell.old).beside ≡ false }
     ensures served { (s : State) → Stands (S.state shell.old) tables.old s → MatchResult result
-        (λ _. Reaches (S.state shell.old) (S.state shell.new) tables.new
+        (λ _. Leads (S.state shell.old) (S.state shell.new) tables.new
         (ServesAtHand s (asked_now (unread lines.old))))
-        (λ f. Calls (S.state shell.old).beside (S.state shell.new).beside
-        (BreaksAtHand (number_of f) s (asked_now (unread lines.old)))) }
+        (λ f. Stretch (S.state shell.old) (S.state shell.new)
+        (BreaksAtHand f s (asked_now (unread lines.old)))) }
     ensures lines { OnOk result (HandsOut (unread lines.old) (unread lines.new)) }
     ensures cause { IsErrOf result RunFault.Failed
         → Rose (S.state shell.old).faults (S.state shell.new).faults }
@@ -162,14 +200,15 @@ pub(crate) fn pull<S: Shell>(
     buf: &mut [u8],
     shell: &mut S,
 ) -> Result<bool, RunFault>
+    requires ready { AreReady (S.state shell.old) tables.old }
+    requires quiet { talks (S.state shell.old).beside ≡ false }
     requires room { 0 < length buf.old }
     requires going { (unread lines.old).ended ≡ false }
-    requires quiet { talks (S.state shell.old).beside ≡ false }
     ensures went { (s : State) → Stands (S.state shell.old) tables.old s → MatchResult result
-        (λ more. Reaches (S.state shell.old) (S.state shell.new) tables.new
+        (λ more. Leads (S.state shell.old) (S.state shell.new) tables.new
         (λ t. GoesOrEnds more s (unread lines.old) t (unread lines.new)))
-        (λ f. Calls (S.state shell.old).beside (S.state shell.new).beside
-        (GoesSome (number_of f) s (unread lines.old))) }
+        (λ f. Stretch (S.state shell.old) (S.state shell.new)
+        (GoesSome f s (unread lines.old))) }
     ensures going { IfOk result (λ more. more ≡ true → (unread lines.new).ended ≡ false) }
     ensures time { OnOk result ((S.state shell.old).moment < (S.state shell.new).moment) }
     ensures within { OnOk result ((S.state shell.old).moment < 2 ^ 64 - 1) }

@@ -2,7 +2,7 @@
 
 ghost use Rattle.std.specs.Prelude.{◌≡◌, ◌<◌, ◌^◌, ◌-◌, ◌&&◌, true, false, Some, None, min, option_map, codes, IfSome};
 ghost use Rattle.std.specs.Str.{bytes_eq};
-ghost use Rattle.alternator.specs.Words.{digits_from, number_of, is_within, is_flush, is_merge, small_some, some_of, serve_with, replay_of, serve_of, job_of, IsServable, port_of, small_port, bytes_of};
+ghost use Rattle.alternator.specs.Words.{digits_from, number_of, is_within, is_flush, is_merge, small_some, some_of, serve_with, init_of, replay_of, serve_of, run_of, job_of, IsServable, port_of, small_port, bytes_of};
 
 // The number of the digits, 2^64 - 1 where it is greater.
 fn digits(word: &[u8]) -> Option<u64>
@@ -43,6 +43,8 @@ fn is_within(least: u64, most: u64, word: &[u8]) -> bool
 /// What a run is to do.
 #[derive(Clone, Copy, Debug, PartialEq, Eq)]
 pub enum Job {
+    /// To make an empty store.
+    Init,
     /// Requests as lines of standard input.
     Replay,
     /// So many connections, one after another, with so many requests at most on each.
@@ -107,6 +109,22 @@ fn is_serve(word: &str, flush: &[u8], merge: &[u8]) -> bool
     word == "serve" && is_flush(flush) && is_merge(merge)
 }
 
+fn init_of(words: &[String]) -> Option<Job>
+    ensures job { result ≡ init_of (bytes_of words.now) }
+    ensures servable { IfSome result IsServable }
+{
+    match words {
+        [word] => {
+            if word.as_str() == "init" {
+                Some(Job::Init)
+            } else {
+                None
+            }
+        }
+        _ => None,
+    }
+}
+
 fn replay_of(words: &[String]) -> Option<Job>
     ensures job { result ≡ replay_of (bytes_of words.now) }
     ensures servable { IfSome result IsServable }
@@ -139,15 +157,26 @@ fn serve_of(words: &[String]) -> Option<Job>
     }
 }
 
-/// The job that the words behind folder and port ask for: `replay FLUSH MERGE`, or `serve PER CONNECTIONS FLUSH MERGE`. FLUSH is
-/// from 65,536 to 1,073,741,824 bytes, MERGE from 2 to 64 files, PER and CONNECTIONS from 1 to 4,294,967,295.
-pub(crate) fn job_of(words: &[String]) -> Option<Job>
-    ensures job { result ≡ job_of (bytes_of words.now) }
+/// The job over a store that words ask for.
+fn run_of(words: &[String]) -> Option<Job>
+    ensures job { result ≡ run_of (bytes_of words.now) }
     ensures servable { IfSome result IsServable }
 {
     match replay_of(words) {
         Some(job) => Some(job),
         None => serve_of(words),
+    }
+}
+
+/// The job that the words behind folder and port ask for: `init`, `replay FLUSH MERGE`, or `serve PER CONNECTIONS FLUSH MERGE`. FLUSH
+/// is from 65,536 to 1,073,741,824 bytes, MERGE from 2 to 64 files, PER and CONNECTIONS from 1 to 4,294,967,295.
+pub(crate) fn job_of(words: &[String]) -> Option<Job>
+    ensures job { result ≡ job_of (bytes_of words.now) }
+    ensures servable { IfSome result IsServable }
+{
+    match init_of(words) {
+        Some(job) => Some(job),
+        None => run_of(words),
     }
 }
 

@@ -1,9 +1,9 @@
-use Rattle.std.proofs.Common.{◌≡◌, true, false}
+use Rattle.std.proofs.Common.{◌≡◌, false}
 use Rattle.alt_machine.specs.State.{State}
-use Rattle.alt_shell.specs.Log.{talks, takes_missed, says_missed}
+use Rattle.alt_shell.specs.Log.{takes_missed, says_missed}
 use Rattle.alt_tables.specs.Stands.{Stands}
-use Rattle.alternator.specs.Runs.{Reaches, Passes}
-use Rattle.alternator.specs.Stretches.{Moves}
+use Rattle.alternator.specs.Runs.{Leads, Passes}
+use Rattle.alternator.specs.TalkStops.{MovesOn}
 use Rattle.alternator.specs.TalkRules.{rules}
 use Rattle.alternator.specs.TalkViews.{place_of}
 use Rattle.alternator.proofs.connection.at_hand.Given as goal
@@ -13,8 +13,8 @@ invariant-loop-talk g l =
     let state = g.S.Disk.state in
     let old = state l.initial.shell in
     let new = state l.shell in
-    ((s : State) → Stands old l.initial.tables s → Reaches old new l.tables
-    (λ t. Moves rules (place_of l.initial.talk) s l.initial.talk.mute
+    ((s : State) → Stands old l.initial.tables s → Leads old new l.tables
+    (λ t. MovesOn rules (place_of l.initial.talk) s l.initial.talk.mute
     (place_of l.talk) t l.talk.mute))
     × Passes old new
     × (l.talk.mute ≡ false → says_missed new.beside ≡ false)

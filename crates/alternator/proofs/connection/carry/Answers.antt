@@ -1,13 +1,11 @@
-use Rattle.std.proofs.Common.{◌≡◌, ◌+◌, ◌-◌, ◌==◌, ◌∙◌, ℕ, List, [], ◌∷◌, take, drop, Bool, false, sym, ap, subst, arith}
-use Rattle.std.specs.Prelude.{◌||◌}
+use Rattle.std.proofs.Common.{ℕ, List, [], ◌∷◌, false, subst}
 use Rattle.alt_machine.specs.State.{State}
 use Rattle.alt_shell.specs.Log.{Log}
-use Rattle.alternator.specs.Faults.{number_of}
-use Rattle.alternator.specs.Runs.{Calls}
-use Rattle.alternator.specs.Stretches.{Answers, AnswersSome, Carries}
+use Rattle.alternator.specs.Runs.{Stretch}
 use Rattle.alternator.specs.TalkRules.{rules}
+use Rattle.alternator.specs.TalkStops.{AnswersOn, AnswersSomeOn, CarriesOn}
 use Rattle.alternator.specs.TalkViews.{place_of, head_in, asking}
-use Rattle.alternator.specs.Talks.{asked, at, Request, request_of}
+use Rattle.alternator.specs.Talks.{asked, at, Request}
 use Rattle.alternator.proofs.Stepping.{asking_same, left_at}
 use Rattle.alternator.proofs.TalkReach.{reach_as}
 use Rattle.alternator.proofs.connection.carry.Goals as goal
@@ -27,13 +25,17 @@ returns-clause-carried g c = λ s stands.
     let same = asking_same h p.bytes c.deref.result.now body p.left last
     c.deref.ensures.value c.body_in.ensures c.is_last-last.ensures in
     reach_as a d c.respond.new.tables
-    (λ t. Answers rules s m (asked (asking h.target body last) ∷ []) t n)
-    (λ t. Carries rules h p s m q t n)
-    (λ (t : State) (es : Log) (ms : List ℕ) x. record {
-      answers = subst (λ (r : Request). Answers rules s m (asked r ∷ []) t n es ms) same x;
-      place = left_at h p c.left_after-talk.result c.pass.new.front.items
-          c.left_after-talk.ensures.left c.pass.ensures;
-    })
+    (λ t. AnswersOn rules s m (asked (asking h.target body last) ∷ []) t n)
+    (λ t. CarriesOn rules h p s m q t n)
+    (λ (t : State) (es : Log) (ms : List ℕ) x.
+    let y = subst (λ (r : Request). AnswersOn rules s m (asked r ∷ []) t n a d es ms) same x in (
+      record {
+        answers = y.0;
+        place = left_at h p c.left_after-talk.result c.pass.new.front.items
+            c.left_after-talk.ensures.left c.pass.ensures;
+      },
+      y.1,
+    ))
     (c.in-Ok.ensures.answered s stands)
 
 pub returns-in-Err-clause-carried : goal.returns-in-Err-clause-carried
@@ -46,8 +48,8 @@ returns-in-Err-clause-carried g c = λ s stands.
     let m = c.args.talk.now.mute in
     let body = c.body_in.result.now in
     let last = c.is_last-last.result in
-    let number = number_of c.in-Err.fault in
+    let fault = c.in-Err.fault in
     let same = asking_same h p.bytes c.deref.result.now body p.left last
     c.deref.ensures.value c.body_in.ensures c.is_last-last.ensures in
-    subst (λ (r : Request). Calls a.beside d.beside (AnswersSome rules number s m (asked r ∷ [])))
+    subst (λ (r : Request). Stretch a d (AnswersSomeOn rules fault s m (asked r ∷ [])))
     same (c.in-Err.ensures.answered s stands)

@@ -1,18 +1,17 @@
-use Rattle.std.proofs.Common.{◌≡◌, ◌∷◌, ◌++◌, ◌∙◌, [], inl, inr, ℕ, List, Bool, true, false, refl, sym, subst}
-use Rattle.alt_disk.specs.Disk.{DiskState}
-use Rattle.alt_machine.specs.State.{State}
-use Rattle.alt_shell.proofs.Keeping.{keeps-then}
+use Rattle.std.proofs.Common.{◌∷◌, ◌++◌, ◌∙◌, [], inr, ℕ, List, Bool, true, false, refl, sym, subst}
 use Rattle.alt_shell.specs.Calls.{Accepted}
-use Rattle.alt_shell.specs.Log.{Log, entry, accepted, hung_up, told_count}
-use Rattle.alternator.specs.Connections.{Connection, Comes, ComesSome}
-use Rattle.alternator.specs.Faults.{number_of}
-use Rattle.alternator.specs.Runs.{Calls, Reaches, Passes}
-use Rattle.alternator.specs.Stretches.{AtRest, GoesSome, Ends}
+use Rattle.alt_shell.specs.Log.{Log, entry, hung_up, told_count}
+use Rattle.alternator.specs.Runs.{Leads, Stretch}
+use Rattle.alternator.specs.Stops.{AreWithin}
+use Rattle.alternator.specs.Stretches.{AtRest}
 use Rattle.alternator.specs.TalkRules.{rules}
+use Rattle.alternator.specs.TalkStops.{ComesOn, ComesSomeOn, EndsOn, GoesSomeOn}
 use Rattle.alternator.specs.TalkViews.{place_of}
 use Rattle.alternator.specs.Talks.{at}
-use Rattle.alternator.proofs.Hanging.{serves_hung, some_hung, calls_hung, hung_passes, none_comes, wait_failed}
-use Rattle.alternator.proofs.Serving.{stands_on}
+use Rattle.alternator.proofs.Hanging.{serves_hung, some_hung, none_comes, wait_failed}
+use Rattle.alt_tables.proofs.Left.{stands_left}
+use Rattle.alternator.proofs.TalkLeaving.{left_hung, stretch_hung}
+use Rattle.alternator.proofs.Stopping.{ready_kept, stands_kept}
 use Rattle.alternator.proofs.TalkCuts.{at_unread}
 use Rattle.alternator.proofs.TalkLaws.{lawful}
 use Rattle.alternator.proofs.connection.connection.Goals as goal
@@ -29,29 +28,34 @@ returns-in-Ok-clause-served g c = λ s stands.
     let n = c.pulls-served.new.talk.mute in
     let came = subst (λ (v : Bool). Accepted a b v) c.in-Ok-true.field-0-test
     c.in-Ok-true.ensures.accepted in
-    let served = subst (λ (bs : List ℕ). Reaches b d c.pulls-served.new.tables
-    (λ t. Ends rules (at per false bs) s false q t n)) c.new.ensures.items
-    (c.in-Ok.ensures.ended s (stands_on a b c.args.tables.now s stands)
-    (subst (λ (bs : List ℕ). AtRest rules (at per false bs))
-    (sym c.new.ensures.items) (at_unread rules per false [] lawful.nothing))) in
+    let served = subst (λ (bs : List ℕ). Leads b d c.pulls-served.new.tables
+    (λ t. EndsOn rules (at per false bs) s false q t n)) c.new.ensures.items
+    (c.in-Ok.ensures.ended s (stands_kept a b c.in-Ok-true.ensures.call.keeps c.args.tables.now s stands)) in
     record {
       to = served.to;
-      stands = stands_on d e c.pulls-served.new.tables served.to served.stands;
-      calls = calls_hung a.beside b.beside d.beside e.beside (told_count a.beside) (told_count d.beside)
-          b.moment e.moment
-          (Ends rules (at per false []) s false q served.to n) (Comes rules per true s served.to)
-          came.0 c.in-Ok-true.ensures.moments (c.hang_up.ensures.hung (c.pulls-served.ensures.passes.talking ∙ came.1)) c.hang_up.ensures.moments
-          (λ (es : Log) (ms : List ℕ) p. (
-            record {
-              moment = b.moment;
-              clocked = told_count a.beside;
-              entries = es ++ entry e.moment (told_count d.beside) hung_up ∷ [];
-              told = ms;
-            },
-            serves_hung rules per s es ms b.moment (told_count a.beside) e.moment
-                (told_count d.beside) q served.to n c.requires.some p,
-            refl,
-            refl,
+      stands = stands_kept d e c.hang_up.ensures.call.keeps c.pulls-served.new.tables served.to served.stands;
+      calls = stretch_hung a b d e (told_count a.beside) (told_count d.beside)
+          (EndsOn rules (at per false []) s false q served.to n) (ComesOn rules per true s served.to)
+          came.0 c.in-Ok-true.ensures.moments c.in-Ok-true.ensures.call.keeps
+          (c.hang_up.ensures.hung (c.pulls-served.ensures.passes.talking ∙ came.1))
+          c.hang_up.ensures.moments c.hang_up.ensures.call
+          (λ (es : Log) (ms : List ℕ) (within : AreWithin b.moment d.moment es) p. (
+            (
+              record {
+                moment = b.moment;
+                clocked = told_count a.beside;
+                entries = es ++ entry e.moment (told_count d.beside) hung_up ∷ [];
+                told = ms;
+              },
+              serves_hung rules per s es ms b.moment (told_count a.beside) e.moment
+                  (told_count d.beside) q served.to n c.requires.some p.0,
+              refl,
+              refl,
+            ),
+            left_hung rules lawful per s a b d e (told_count a.beside) (told_count d.beside)
+                c.in-Ok-true.ensures.call.keeps c.hang_up.ensures.call
+                (λ trusted image is. stands_left a c.args.tables.now s stands image is)
+                es ms within c.pulls-served.ensures.passes.later p.1,
           ))
           served.calls;
     }
@@ -64,29 +68,34 @@ returns-in-Ok-true-clause-served g c = λ s stands.
     let d = state c.pulls-served.new.shell in
     let e = state c.hang_up.new.self in
     let per = c.args.per in
-    let number = number_of c.in-Err-served.fault in
+    let fault = c.in-Err-served.fault in
     let came = subst (λ (v : Bool). Accepted a b v) c.in-Ok-true.field-0-test
     c.in-Ok-true.ensures.accepted in
-    let broke = subst (λ (bs : List ℕ). Calls b.beside d.beside
-    (GoesSome rules number (at per false bs) s false)) c.new.ensures.items
-    (c.in-Err-served.ensures.ended s (stands_on a b c.args.tables.now s stands)
-    (subst (λ (bs : List ℕ). AtRest rules (at per false bs))
-    (sym c.new.ensures.items) (at_unread rules per false [] lawful.nothing))) in
-    calls_hung a.beside b.beside d.beside e.beside (told_count a.beside) (told_count d.beside)
-    b.moment e.moment
-    (GoesSome rules number (at per false []) s false) (ComesSome rules per number s)
-    came.0 c.in-Ok-true.ensures.moments (c.hang_up.ensures.hung (c.pulls-served.ensures.passes.talking ∙ came.1)) c.hang_up.ensures.moments
-    (λ (es : Log) (ms : List ℕ) p. inr (
-      record {
-        moment = b.moment;
-        clocked = told_count a.beside;
-        entries = es ++ entry e.moment (told_count d.beside) hung_up ∷ [];
-        told = ms;
-      },
-      some_hung rules per s es ms b.moment (told_count a.beside) e.moment
-          (told_count d.beside) number p,
-      refl,
-      refl,
+    let broke = subst (λ (bs : List ℕ). Stretch b d
+    (GoesSomeOn rules fault (at per false bs) s false)) c.new.ensures.items
+    (c.in-Err-served.ensures.ended s (stands_kept a b c.in-Ok-true.ensures.call.keeps c.args.tables.now s stands)) in
+    stretch_hung a b d e (told_count a.beside) (told_count d.beside)
+    (GoesSomeOn rules fault (at per false []) s false) (ComesSomeOn rules per fault s)
+    came.0 c.in-Ok-true.ensures.moments c.in-Ok-true.ensures.call.keeps
+    (c.hang_up.ensures.hung (c.pulls-served.ensures.passes.talking ∙ came.1))
+    c.hang_up.ensures.moments c.hang_up.ensures.call
+    (λ (es : Log) (ms : List ℕ) (within : AreWithin b.moment d.moment es) p. inr (
+      (
+        record {
+          moment = b.moment;
+          clocked = told_count a.beside;
+          entries = es ++ entry e.moment (told_count d.beside) hung_up ∷ [];
+          told = ms;
+        },
+        some_hung rules per s es ms b.moment (told_count a.beside) e.moment
+            (told_count d.beside) fault p.0,
+        refl,
+        refl,
+      ),
+      left_hung rules lawful per s a b d e (told_count a.beside) (told_count d.beside)
+          c.in-Ok-true.ensures.call.keeps c.hang_up.ensures.call
+          (λ trusted image is. stands_left a c.args.tables.now s stands image is)
+          es ms within c.pulls-served.ensures.passes.later p.1,
     ))
     broke
 
@@ -99,6 +108,27 @@ returns-in-Ok-false-clause-served g c = λ s stands.
     c.in-Ok-false.ensures.accepted in
     record {
       to = s;
-      stands = stands_on a b c.args.tables.now s stands;
-      calls = none_comes rules c.args.per s a b none.0 c.in-Ok-false.ensures.moments;
+      stands = stands_kept a b c.in-Ok-false.ensures.call.keeps c.args.tables.now s stands;
+      calls = none_comes rules lawful c.args.per s a b none.0 c.in-Ok-false.ensures.moments
+          c.in-Ok-false.ensures.call.keeps
+          (λ trusted image is. stands_left a c.args.tables.now s stands image is);
     }
+
+pub pulls-served-requires-clause-ready : goal.pulls-served-requires-clause-ready
+pulls-served-requires-clause-ready g c =
+    let state = g.S.Disk.state in
+    ready_kept (state c.args.shell.now) (state c.accept.new.self) c.args.tables.now
+    c.in-Ok-true.ensures.call.keeps c.requires.ready
+
+pub pulls-served-requires-clause-rest : goal.pulls-served-requires-clause-rest
+pulls-served-requires-clause-rest g c =
+    subst (λ (bs : List ℕ). AtRest rules (at c.args.per false bs))
+    (sym c.new.ensures.items) (at_unread rules c.args.per false [] lawful.nothing)
+
+pub returns-clause-served : goal.returns-clause-served
+returns-clause-served g c = λ s stands.
+    let state = g.S.Disk.state in
+    let a = state c.args.shell.now in
+    wait_failed rules lawful c.args.per s a (state c.accept.new.self) c.in-Err.ensures.accepted.0
+    c.in-Err.ensures.moments c.in-Err.ensures.call.keeps
+    (λ trusted image is. stands_left a c.args.tables.now s stands image is)

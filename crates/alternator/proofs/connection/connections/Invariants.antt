@@ -1,9 +1,9 @@
 use Rattle.std.proofs.Common.{◌≤◌, ◌-◌}
 use Rattle.alt_machine.specs.State.{State}
 use Rattle.alt_tables.specs.Stands.{Stands}
-use Rattle.alternator.specs.Runs.{Reaches, Passes}
+use Rattle.alternator.specs.Runs.{Leads, Passes}
 use Rattle.alternator.specs.TalkRules.{rules}
-use Rattle.alternator.proofs.TalkAll.{Sofar}
+use Rattle.alternator.proofs.TalkAmong.{SofarOn}
 use Rattle.alternator.proofs.connection.connections.Given as goal
 
 abbrev pub invariant-loop-served : goal.invariant-loop-served
@@ -12,7 +12,7 @@ invariant-loop-served g l =
     let old = state l.initial.shell in
     let new = state l.shell in
     ((s : State) → Stands old l.initial.tables s
-    → Reaches old new l.tables (λ t. Sofar rules l.per l.served s t))
+    → Leads old new l.tables (λ t. SofarOn rules l.per l.served s t))
     × Passes old new
     × (l.served ≤ l.count)
 

@@ -1,15 +1,15 @@
-use Rattle.std.proofs.Common.{◌≡◌, ◌+◌, ◌++◌, ◌∙◌, ℕ, List, Bool, true, false, sym, ap, subst}
+use Rattle.std.proofs.Common.{◌≡◌, ◌+◌, ◌∙◌, ℕ, List, Bool, true, false, sym, ap, subst}
 use Rattle.std.specs.Prelude.{nat_le}
-use Rattle.alt_machine.specs.State.{State}
 use Rattle.alt_shell.specs.Log.{Log}
-use Rattle.alternator.specs.Faults.{number_of}
-use Rattle.alternator.specs.Stretches.{Answers, MovesSome, Steps, Carries, CarriesSome}
+use Rattle.alt_tables.proofs.Left.{stands_left}
 use Rattle.alternator.specs.TalkRules.{rules}
+use Rattle.alternator.specs.TalkStops.{AnswersOn, CarriesOn, CarriesSomeOn, MovesSomeOn, StepsOn}
 use Rattle.alternator.specs.TalkViews.{place_of, head_in}
 use Rattle.alternator.specs.Talks.{greets, at, is_whole}
-use Rattle.alternator.proofs.Serving.{calls_as, calls_then, stands_on}
-use Rattle.alternator.proofs.Stepping.{steps_short, steps_whole, some_whole}
-use Rattle.alternator.proofs.TalkReach.{reach_then, reach_break}
+use Rattle.alternator.proofs.Serving.{stretch_as, stretch_then}
+use Rattle.alternator.proofs.Stopping.{ready_kept, stands_kept}
+use Rattle.alternator.proofs.TalkLaws.{lawful}
+use Rattle.alternator.proofs.TalkLeaving.{steps_short_on, steps_whole_on, some_whole_on}
 use Rattle.alternator.proofs.connection.found.Goals as goal
 
 pub returns-then-not-is_whole-clause-stepped : goal.returns-then-not-is_whole-clause-stepped
@@ -26,14 +26,15 @@ returns-then-not-is_whole-clause-stepped g c = λ s stands.
     ∙ sym c.is_whole.ensures ∙ c.if-not-is_whole.true in
     record {
       to = s;
-      stands = stands_on a b c.args.tables.now s stands;
-      calls = calls_as a.beside b.beside {P = Answers rules s m (greets p.greeted h.expect) s n}
-          {Q = Steps rules false p s m (at p.left c.either-talk.result p.bytes) s n}
-          (λ (es : Log) (ms : List ℕ) x.
-          subst (λ (v : Bool). Steps rules false p s m (at p.left v p.bytes) s n es ms)
+      stands = stands_kept a b c.hello.ensures.keeps c.args.tables.now s stands;
+      calls = stretch_as a b {P = AnswersOn rules s m (greets p.greeted h.expect) s n}
+          {Q = StepsOn rules false p s m (at p.left c.either-talk.result p.bytes) s n}
+          (λ (es : Log) (ms : List ℕ) within x.
+          subst (λ (v : Bool). StepsOn rules false p s m (at p.left v p.bytes) s n a b es ms)
           (sym c.either-talk.ensures)
-          (steps_short rules p h s s m n es ms c.requires.going c.requires.head w x))
-          (c.hello.ensures.greeted s);
+          (steps_short_on rules lawful a b p h s s m n es ms c.requires.going c.requires.head w x))
+          (c.hello.ensures.greeted s
+          (λ trusted image is. stands_left a c.args.tables.now s stands image is));
     }
 
 pub returns-in-Ok-clause-stepped : goal.returns-in-Ok-clause-stepped
@@ -51,18 +52,23 @@ returns-in-Ok-clause-stepped g c = λ s stands.
     let w : is_whole h p.bytes ≡ true =
     ap (nat_le (h.taken + h.length)) (sym (c.len.ensures ∙ c.args.talk.now.front.ok.0))
     ∙ sym c.is_whole.ensures ∙ c.if-not-is_whole.false in
-    let carried = c.in-Ok.ensures.carried s (stands_on a b c.args.tables.now s stands) in
+    let carried = c.in-Ok.ensures.carried s
+    (stands_kept a b c.hello.ensures.keeps c.args.tables.now s stands) in
     record {
       to = carried.to;
       stands = carried.stands;
-      calls = calls_then a.beside b.beside d.beside
-          {P = Answers rules s m (greets p.greeted h.expect) s n}
-          {Q = Carries rules h (at p.left c.either-talk.result p.bytes) s n q carried.to o}
-          {R = Steps rules true p s m q carried.to o}
-          (λ (es fs : Log) (ms ns : List ℕ) x y.
-          steps_whole rules p h s s carried.to m n o es fs ms ns c.requires.going c.requires.head w
-          x q y.place y.answers)
-          (c.hello.ensures.greeted s) carried.calls;
+      calls = stretch_then a b d
+          {P = AnswersOn rules s m (greets p.greeted h.expect) s n}
+          {Q = CarriesOn rules h (at p.left c.either-talk.result p.bytes) s n q carried.to o}
+          {R = StepsOn rules true p s m q carried.to o}
+          (λ (es fs : Log) (ms ns : List ℕ) meet x y.
+          steps_whole_on rules lawful a b d p h s s carried.to m n o es fs ms ns meet
+          c.requires.going c.requires.head w x q
+          (subst (λ (v : Bool). CarriesOn rules h (at p.left v p.bytes) s n q carried.to o b d fs ns)
+          c.either-talk.ensures y))
+          (c.hello.ensures.greeted s
+          (λ trusted image is. stands_left a c.args.tables.now s stands image is))
+          carried.calls;
     }
 
 pub returns-in-Err-clause-stepped : goal.returns-in-Err-clause-stepped
@@ -75,15 +81,24 @@ returns-in-Err-clause-stepped g c = λ s stands.
     let m = c.args.talk.now.mute in
     let n = c.hello.new.mute in
     let h = head_in c.args.head.now in
-    let number = number_of c.in-Err.fault in
+    let fault = c.in-Err.fault in
     let w : is_whole h p.bytes ≡ true =
     ap (nat_le (h.taken + h.length)) (sym (c.len.ensures ∙ c.args.talk.now.front.ok.0))
     ∙ sym c.is_whole.ensures ∙ c.if-not-is_whole.false in
-    calls_then a.beside b.beside d.beside
-    {P = Answers rules s m (greets p.greeted h.expect) s n}
-    {Q = CarriesSome rules number h (at p.left c.either-talk.result p.bytes) s n}
-    {R = MovesSome rules number p s m}
-    (λ (es fs : Log) (ms ns : List ℕ) x y.
-    some_whole rules p h s s s m n n es fs ms ns c.requires.going c.requires.head w x number y)
-    (c.hello.ensures.greeted s)
-    (c.in-Err.ensures.carried s (stands_on a b c.args.tables.now s stands))
+    stretch_then a b d
+    {P = AnswersOn rules s m (greets p.greeted h.expect) s n}
+    {Q = CarriesSomeOn rules fault h (at p.left c.either-talk.result p.bytes) s n}
+    {R = MovesSomeOn rules fault p s m}
+    (λ (es fs : Log) (ms ns : List ℕ) meet x y.
+    some_whole_on rules lawful a b d p h s s s m n n es fs ms ns meet c.requires.going
+    c.requires.head w x fault y)
+    (c.hello.ensures.greeted s
+    (λ trusted image is. stands_left a c.args.tables.now s stands image is))
+    (c.in-Err.ensures.carried s
+    (stands_kept a b c.hello.ensures.keeps c.args.tables.now s stands))
+
+pub carry-requires-clause-ready : goal.carry-requires-clause-ready
+carry-requires-clause-ready g c =
+    let state = g.S.Disk.state in
+    ready_kept (state c.args.shell.now) (state c.hello.new.shell) c.args.tables.now
+    c.hello.ensures.keeps c.requires.ready

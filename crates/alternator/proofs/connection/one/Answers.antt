@@ -1,14 +1,18 @@
-use Rattle.std.proofs.Common.{◌≡◌, ◌∙◌, [], ◌∷◌, ℕ, List, None, true, false, sym, ap, append-nil}
+use Rattle.std.proofs.Common.{◌≡◌, ◌∙◌, [], ◌∷◌, ℕ, List, true, false, sym, ap, append-nil}
 use Rattle.alt_shell.specs.Log.{Log}
-use Rattle.alternator.specs.Faults.{number_of}
-use Rattle.alternator.specs.Stretches.{Answers, AnswersSome, MovesSome, Steps}
+use Rattle.alternator.specs.declared.serve.RunFault.TheVariants.{NoMemory}
+use Rattle.alternator.specs.TalkStops.{deeds, AnswersOn, AnswersSomeOn, MovesSomeOn, StepsOn}
 use Rattle.alternator.specs.TalkRules.{rules}
-use Rattle.alternator.specs.TalkViews.{place_of, scanned, head_in}
-use Rattle.alternator.specs.Talks.{refused, unread, bad, good, at}
-use Rattle.alternator.proofs.Serving.{calls_none, calls_as, stands_on}
-use Rattle.alternator.proofs.Stepping.{moves_some, steps_unread, steps_bad}
+use Rattle.alternator.specs.TalkViews.{place_of, scanned}
+use Rattle.alternator.specs.Talks.{refused, unread, bad, at, turns}
+use Rattle.alternator.proofs.Stopping.{stands_kept}
+use Rattle.alt_tables.proofs.Left.{stands_left}
+use Rattle.alternator.proofs.Serving.{stretch_none, stretch_as}
+use Rattle.alternator.proofs.TalkDeeds.{deeds_say}
+use Rattle.alternator.proofs.TalkLeaving.{left_nothing, moves_some_on, steps_bad_on, steps_unread_on}
+use Rattle.alternator.proofs.Stepping.{moves_some}
 use Rattle.alternator.proofs.TalkCuts.{at_bad}
-use Rattle.alternator.proofs.TalkLaws.{rules-scan, known_refusal}
+use Rattle.alternator.proofs.TalkLaws.{lawful, rules-scan, known_refusal}
 use Rattle.alternator.proofs.TalkReach.{reach_none}
 use Rattle.alternator.proofs.Uttering.{answers_some_none}
 use Rattle.alternator.proofs.connection.one.Goals as goal
@@ -17,8 +21,13 @@ pub returns-in-Err-clause-stepped : goal.returns-in-Err-clause-stepped
 returns-in-Err-clause-stepped g c = λ s stands.
     let p = place_of c.args.talk.now in
     let m = c.args.talk.now.mute in
-    calls_none _ (moves_some rules None p s m [] [] _ [] (sym (append-nil _))
-    (answers_some_none rules s m _))
+    let a = g.S.Disk.state c.args.shell.now in
+    stretch_none a {P = MovesSomeOn rules NoMemory p s m} (
+      moves_some rules NoMemory p s m [] [] _ [] (sym (append-nil _)) (answers_some_none rules s m _),
+      left_nothing a s (deeds rules s (turns rules p.left p.greeted p.bytes) [])
+          (deeds_say rules lawful s (turns rules p.left p.greeted p.bytes) [])
+          (λ trusted image is. stands_left a c.args.tables.now s stands image is),
+    )
 
 pub returns-in-More-clause-stepped : goal.returns-in-More-clause-stepped
 returns-in-More-clause-stepped g c = λ s stands.
@@ -27,8 +36,9 @@ returns-in-More-clause-stepped g c = λ s stands.
     let m = c.args.talk.now.mute in
     let e : rules.scan p.bytes ≡ unread = ap rules.scan (sym c.deref.ensures.value)
     ∙ rules-scan _ ∙ ap scanned (sym c.in-Ok.ensures.answer ∙ c.in-More.is) in
-    reach_none a c.args.tables.now s (λ t. Steps rules false p s m p t m) stands
-    (steps_unread rules p s m e)
+    reach_none a c.args.tables.now s (λ t. StepsOn rules false p s m p t m) stands
+    (steps_unread_on rules a p s m e
+    (λ trusted image is. stands_left a c.args.tables.now s stands image is))
 
 pub refuse-requires-clause-low : goal.refuse-requires-clause-low
 refuse-requires-clause-low g c =
@@ -41,17 +51,20 @@ refuse-requires-clause-high g c =
 pub returns-in-Err-refuse-clause-stepped : goal.returns-in-Err-refuse-clause-stepped
 returns-in-Err-refuse-clause-stepped g c = λ s stands.
     let state = g.S.Disk.state in
+    let a = state c.args.shell.now in
+    let b = state c.refuse.new.shell in
     let p = place_of c.args.talk.now in
     let m = c.args.talk.now.mute in
     let k = c.in-Refused.number in
-    let number = number_of c.in-Err-refuse.fault in
+    let fault = c.in-Err-refuse.fault in
     let e : rules.scan p.bytes ≡ bad k = ap rules.scan (sym c.deref.ensures.value)
     ∙ rules-scan _ ∙ ap scanned (sym c.in-Ok.ensures.answer ∙ c.in-Refused.is) in
-    calls_as (state c.args.shell.now).beside (state c.refuse.new.shell).beside
-    {P = AnswersSome rules number s m (refused k ∷ [])} {Q = MovesSome rules number p s m}
-    (λ (es : Log) (ms : List ℕ) x. moves_some rules number p s m es ms (refused k ∷ []) []
-    (at_bad rules p.left p.greeted p.bytes k c.requires.going e).0 x)
-    (c.in-Err-refuse.ensures.answered s)
+    stretch_as a b {P = AnswersSomeOn rules fault s m (refused k ∷ [])}
+    {Q = MovesSomeOn rules fault p s m}
+    (λ (es : Log) (ms : List ℕ) within x. moves_some_on rules lawful a b fault p s m es ms
+    (refused k ∷ []) [] (at_bad rules p.left p.greeted p.bytes k c.requires.going e).0 x)
+    (c.in-Err-refuse.ensures.answered s
+    (λ trusted image is. stands_left a c.args.tables.now s stands image is))
 
 pub returns-in-Ok-refuse-clause-stepped : goal.returns-in-Ok-refuse-clause-stepped
 returns-in-Ok-refuse-clause-stepped g c = λ s stands.
@@ -66,12 +79,13 @@ returns-in-Ok-refuse-clause-stepped g c = λ s stands.
     ∙ rules-scan _ ∙ ap scanned (sym c.in-Ok.ensures.answer ∙ c.in-Refused.is) in
     record {
       to = s;
-      stands = stands_on a b c.args.tables.now s stands;
-      calls = calls_as a.beside b.beside {P = Answers rules s m (refused k ∷ []) s n}
-          {Q = Steps rules true p s m (at 0 p.greeted p.bytes) s n}
-          (λ (es : Log) (ms : List ℕ) x.
-          steps_bad rules p s s m n k es ms c.requires.going e x)
-          (c.in-Ok-refuse.ensures.answered s);
+      stands = stands_kept a b c.in-Ok-refuse.ensures.keeps c.args.tables.now s stands;
+      calls = stretch_as a b {P = AnswersOn rules s m (refused k ∷ []) s n}
+          {Q = StepsOn rules true p s m (at 0 p.greeted p.bytes) s n}
+          (λ (es : Log) (ms : List ℕ) within x.
+          steps_bad_on rules lawful a b p s s m n k es ms c.requires.going e x)
+          (c.in-Ok-refuse.ensures.answered s
+          (λ trusted image is. stands_left a c.args.tables.now s stands image is));
     }
 
 pub found-requires-clause-head : goal.found-requires-clause-head

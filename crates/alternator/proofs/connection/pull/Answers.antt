@@ -1,15 +1,18 @@
-use Rattle.std.proofs.Common.{◌≡◌, ◌<◌, ◌++◌, ◌∷◌, [], None, ℕ, List, length, take, arith, length-take, subst, true, false, sym, ◌∙◌}
-use Rattle.alt_machine.specs.State.{State}
+use Rattle.std.proofs.Common.{◌≡◌, ◌<◌, ◌++◌, ◌∷◌, [], ℕ, List, length, take, arith, length-take, refl, subst, true, false}
 use Rattle.alt_shell.specs.Log.{Log, Grows, entry, took, told_count}
-use Rattle.alternator.specs.Faults.{number_of}
-use Rattle.alternator.specs.Runs.{Calls, Reaches}
-use Rattle.alternator.specs.Stretches.{MovesAll, MovesSome, Goes, GoesSome}
+use Rattle.alt_tables.proofs.Left.{stands_left}
+use Rattle.alternator.specs.Runs.{Leads, Stretch}
+use Rattle.alternator.specs.Stops.{AreWithin}
 use Rattle.alternator.specs.TalkRules.{rules}
+use Rattle.alternator.specs.TalkStops.{MovesAllOn, MovesSomeOn, GoesOn, GoesSomeOn}
 use Rattle.alternator.specs.TalkViews.{place_of}
-use Rattle.alternator.specs.Talks.{at}
-use Rattle.alternator.proofs.Serving.{stands_on}
-use Rattle.alternator.proofs.TalkLogs.{calls_one, took_then}
-use Rattle.alternator.proofs.TalkPulls.{goes_taken, goes_some_taken, goes_some_none, goes_end, goes_missed}
+use Rattle.alternator.specs.Talks.{at, turns_at}
+use Rattle.alternator.specs.declared.serve.RunFault.TheVariants.{NoMemory}
+use Rattle.alternator.proofs.Stopping.{ready_kept, stands_kept}
+use Rattle.alternator.proofs.TalkLaws.{lawful}
+use Rattle.alternator.proofs.TalkLeaving.{goes_taken_on, goes_some_taken_on, goes_missed_on, left_silent}
+use Rattle.alternator.proofs.TalkLogs.{stretch_one, took_then}
+use Rattle.alternator.proofs.TalkPulls.{goes_some_none, goes_end}
 use Rattle.alternator.proofs.connection.pull.Goals as goal
 
 pub returns-in-Ok-at_hand-clause-turned : goal.returns-in-Ok-at_hand-clause-turned
@@ -24,21 +27,24 @@ returns-in-Ok-at_hand-clause-turned g c = λ s stands rest.
     let n = c.at_hand.new.talk.mute in
     let bytes = take c.in-Ok.count c.take.new.buf in
     let clocked = told_count a.beside in
+    let keeps = c.in-Ok.ensures.call.keeps in
     let some : 0 < length bytes = let l = length-take c.in-Ok.count c.take.new.buf in
     let k = c.in-Ok.ensures.count in grind arith in
-    let went = subst (λ (bs : List ℕ). Reaches b d c.at_hand.new.tables
-    (λ t. MovesAll rules (at p.left p.greeted bs) s m q t n))
+    let went = subst (λ (bs : List ℕ). Leads b d c.at_hand.new.tables
+    (λ t. MovesAllOn rules (at p.left p.greeted bs) s m q t n))
     c.in-Ok-extend_from_slice.ensures.items
-    (c.in-Ok-at_hand.ensures.moved s (stands_on a b c.args.tables.now s stands)) in
+    (c.in-Ok-at_hand.ensures.moved s (stands_kept a b keeps c.args.tables.now s stands)) in
     record {
       to = went.to;
       stands = went.stands;
-      calls = took_then a.beside b.beside d.beside (entry b.moment clocked (took bytes))
-          (MovesAll rules (at p.left p.greeted (p.bytes ++ bytes)) s m q went.to n)
-          (Goes rules true p s m q went.to n)
-          c.in-Ok.ensures.taken c.in-Ok.ensures.moments
-          (λ (es : Log) (ms : List ℕ) x.
-          goes_taken rules p s m bytes b.moment clocked q went.to n es ms some x)
+      calls = took_then a b d (entry b.moment clocked (took bytes))
+          (MovesAllOn rules (at p.left p.greeted (p.bytes ++ bytes)) s m q went.to n)
+          (GoesOn rules true p s m q went.to n)
+          c.in-Ok.ensures.taken c.in-Ok.ensures.moments keeps.later (omega arith) keeps
+          (λ (es : Log) (ms : List ℕ) (within : AreWithin b.moment d.moment es) x.
+          goes_taken_on rules p s a b d bytes clocked keeps
+          (λ trusted image is. stands_left a c.args.tables.now s stands image is)
+          lawful m q went.to n es ms within some x)
           went.calls;
     }
 
@@ -50,18 +56,22 @@ returns-in-Err-at_hand-clause-turned g c = λ s stands rest.
     let d = state c.at_hand.new.shell in
     let p = place_of c.args.talk.now in
     let m = c.args.talk.now.mute in
-    let number = number_of c.in-Err-at_hand.fault in
+    let fault = c.in-Err-at_hand.fault in
     let bytes = take c.in-Ok.count c.take.new.buf in
     let clocked = told_count a.beside in
-    let went = subst (λ (bs : List ℕ). Calls b.beside d.beside
-    (MovesSome rules number (at p.left p.greeted bs) s m))
+    let keeps = c.in-Ok.ensures.call.keeps in
+    let went = subst (λ (bs : List ℕ). Stretch b d
+    (MovesSomeOn rules fault (at p.left p.greeted bs) s m))
     c.in-Ok-extend_from_slice.ensures.items
-    (c.in-Err-at_hand.ensures.moved s (stands_on a b c.args.tables.now s stands)) in
-    took_then a.beside b.beside d.beside (entry b.moment clocked (took bytes))
-    (MovesSome rules number (at p.left p.greeted (p.bytes ++ bytes)) s m)
-    (GoesSome rules number p s m)
-    c.in-Ok.ensures.taken c.in-Ok.ensures.moments
-    (λ (es : Log) (ms : List ℕ) x. goes_some_taken rules p s m bytes b.moment clocked number es ms x)
+    (c.in-Err-at_hand.ensures.moved s (stands_kept a b keeps c.args.tables.now s stands)) in
+    took_then a b d (entry b.moment clocked (took bytes))
+    (MovesSomeOn rules fault (at p.left p.greeted (p.bytes ++ bytes)) s m)
+    (GoesSomeOn rules fault p s m)
+    c.in-Ok.ensures.taken c.in-Ok.ensures.moments keeps.later (omega arith) keeps
+    (λ (es : Log) (ms : List ℕ) (within : AreWithin b.moment d.moment es) x.
+    goes_some_taken_on rules p s a b d bytes clocked keeps
+    (λ trusted image is. stands_left a c.args.tables.now s stands image is)
+    lawful m fault es ms within x)
     went
 
 pub returns-in-Err-clause-turned : goal.returns-in-Err-clause-turned
@@ -71,11 +81,13 @@ returns-in-Err-clause-turned g c = λ s stands rest.
     let b = state c.take.new.self in
     let p = place_of c.args.talk.now in
     let m = c.args.talk.now.mute in
+    let keeps = c.in-Err.ensures.call.keeps in
     record {
       to = s;
-      stands = stands_on a b c.args.tables.now s stands;
-      calls = goes_missed rules p s m rest a b c.requires.talking c.requires.taking
-          c.in-Err.ensures.taken c.in-Err.ensures.moments;
+      stands = stands_kept a b keeps c.args.tables.now s stands;
+      calls = goes_missed_on rules lawful p s m rest a b c.requires.talking c.requires.taking
+          c.in-Err.ensures.taken c.in-Err.ensures.moments keeps
+          (λ trusted image is. stands_left a c.args.tables.now s stands image is);
     }
 
 pub returns-then-count-eq0-clause-turned : goal.returns-then-count-eq0-clause-turned
@@ -85,16 +97,21 @@ returns-then-count-eq0-clause-turned g c = λ s stands rest.
     let b = state c.take.new.self in
     let p = place_of c.args.talk.now in
     let m = c.args.talk.now.mute in
+    let keeps = c.in-Ok.ensures.call.keeps in
     let none : take c.in-Ok.count c.take.new.buf ≡ [] = grind arith in
     record {
       to = s;
-      stands = stands_on a b c.args.tables.now s stands;
-      calls = calls_one a.beside b.beside (Goes rules false p s m p s m)
+      stands = stands_kept a b keeps c.args.tables.now s stands;
+      calls = stretch_one a b (GoesOn rules false p s m p s m)
           (entry b.moment (told_count a.beside) (took []) ∷ [])
           (subst (λ (bs : List ℕ). Grows a.beside b.beside
           (entry b.moment (told_count a.beside) (took bs) ∷ [])) none c.in-Ok.ensures.taken)
-          c.in-Ok.ensures.moments
-          (goes_end rules p s m rest b.moment (told_count a.beside));
+          c.in-Ok.ensures.moments (keeps.later, omega arith, tt) keeps (
+            goes_end rules p s m rest b.moment (told_count a.beside),
+            left_silent rules lawful a b s (turns_at rules p [])
+                (entry b.moment (told_count a.beside) (took []) ∷ []) [] keeps refl
+                (λ trusted image is. stands_left a c.args.tables.now s stands image is),
+          );
     }
 
 pub returns-in-Err-extend_from_slice-clause-turned : goal.returns-in-Err-extend_from_slice-clause-turned
@@ -104,8 +121,19 @@ returns-in-Err-extend_from_slice-clause-turned g c = λ s stands rest.
     let b = state c.take.new.self in
     let p = place_of c.args.talk.now in
     let m = c.args.talk.now.mute in
+    let keeps = c.in-Ok.ensures.call.keeps in
     let bytes = take c.in-Ok.count c.take.new.buf in
-    calls_one a.beside b.beside (GoesSome rules None p s m)
+    stretch_one a b (GoesSomeOn rules NoMemory p s m)
     (entry b.moment (told_count a.beside) (took bytes) ∷ [])
-    c.in-Ok.ensures.taken c.in-Ok.ensures.moments
-    (goes_some_none rules p s m bytes b.moment (told_count a.beside))
+    c.in-Ok.ensures.taken c.in-Ok.ensures.moments (keeps.later, omega arith, tt) keeps (
+      goes_some_none rules p s m bytes b.moment (told_count a.beside),
+      left_silent rules lawful a b s _ (entry b.moment (told_count a.beside) (took bytes) ∷ []) [] keeps
+          refl
+          (λ trusted image is. stands_left a c.args.tables.now s stands image is),
+    )
+
+pub at_hand-requires-clause-ready : goal.at_hand-requires-clause-ready
+at_hand-requires-clause-ready g c =
+    let state = g.S.Disk.state in
+    ready_kept (state c.args.shell.now) (state c.take.new.self) c.args.tables.now
+    c.in-Ok.ensures.call.keeps c.requires.ready

@@ -2,8 +2,9 @@ use Rattle.std.proofs.Common.{◌≡◌, ◌-◌, ◌^◌, true, false}
 use Rattle.alt_machine.specs.State.{State}
 use Rattle.alt_shell.specs.Log.{takes_missed, says_missed}
 use Rattle.alt_tables.specs.Stands.{Stands}
-use Rattle.alternator.specs.Runs.{Reaches, Passes}
-use Rattle.alternator.specs.Stretches.{Goes, AtRest}
+use Rattle.alternator.specs.Runs.{Leads, Passes}
+use Rattle.alternator.specs.Stretches.{AtRest}
+use Rattle.alternator.specs.TalkStops.{GoesOn}
 use Rattle.alternator.specs.TalkRules.{rules}
 use Rattle.alternator.specs.TalkViews.{place_of}
 use Rattle.alternator.proofs.connection.pulls.Given as goal
@@ -14,8 +15,8 @@ invariant-pulls g l =
     let old = state l.initial.shell in
     let new = state l.shell in
     ((s : State) → Stands old l.initial.tables s → AtRest rules (place_of l.initial.talk)
-    → Reaches old new l.tables
-    (λ t. Goes rules true (place_of l.initial.talk) s l.initial.talk.mute
+    → Leads old new l.tables
+    (λ t. GoesOn rules true (place_of l.initial.talk) s l.initial.talk.mute
     (place_of l.talk) t l.talk.mute))
     × Passes old new
     × (l.talk.mute ≡ false → says_missed new.beside ≡ false)

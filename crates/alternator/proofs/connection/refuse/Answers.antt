@@ -1,46 +1,62 @@
-use Rattle.std.proofs.Common.{◌∙◌, List, ℕ, [], ◌∷◌, None, Bool, sym, subst}
+use Rattle.std.proofs.Common.{◌∙◌, List, ℕ, [], ◌∷◌, true, Bool, refl, sym, subst}
 use Rattle.alt_shell.specs.Log.{Log}
-use Rattle.alternator.specs.Runs.{Calls}
-use Rattle.alternator.specs.Stretches.{Utters, Answers, AnswersSome}
+use Rattle.alternator.specs.Runs.{Stretch}
+use Rattle.alternator.specs.Stops.{AreWithin}
+use Rattle.alternator.specs.Stretches.{Utters}
 use Rattle.alternator.specs.TalkRules.{rules}
+use Rattle.alternator.specs.TalkStops.{AnswersOn, AnswersSomeOn}
 use Rattle.alternator.specs.Talks.{refused}
-use Rattle.alternator.proofs.Serving.{calls_none, calls_then, calls_as}
-use Rattle.alternator.proofs.TalkLaws.{rules-refusal}
-use Rattle.alternator.proofs.TalkLogs.{Clocked, calls_now}
-use Rattle.alternator.proofs.Uttering.{does_refused, does_refused_mute, quiet_none, some_refused, tells_utters}
+use Rattle.alternator.specs.declared.serve.RunFault.TheVariants.{NoMemory}
+use Rattle.alternator.proofs.Serving.{stretch_none}
+use Rattle.alternator.proofs.Stopping.{trusts-kept}
+use Rattle.alternator.proofs.TalkLaws.{lawful, rules-refusal}
+use Rattle.alternator.proofs.TalkLeaving.{left_nothing, left_silent, told_alone, told_then, refused_on}
+use Rattle.alternator.proofs.Uttering.{does_refused_mute, quiet_none, some_refused}
 use Rattle.alternator.proofs.connection.refuse.Goals as goal
 
 pub returns-then-mute-clause-answered : goal.returns-then-mute-clause-answered
-returns-then-mute-clause-answered g c = λ s.
+returns-then-mute-clause-answered g c = λ s here.
     let a = g.S.Disk.state c.args.shell.now in
-    subst (λ (m : Bool). Calls a.beside a.beside (Answers rules s m (refused c.args.number ∷ []) s m))
+    let k = c.args.number in
+    subst (λ (m : Bool). Stretch a a (AnswersOn rules s m (refused k ∷ []) s m))
     (sym c.if-mute.true)
-    (calls_none a.beside (record { does = does_refused_mute rules s c.args.number; quiet = quiet_none }))
+    (stretch_none a {P = AnswersOn rules s true (refused k ∷ []) s true} (
+      record { does = does_refused_mute rules s k; quiet = quiet_none },
+      left_nothing a s [] tt here,
+    ))
 
 pub returns-in-Ok-clause-answered : goal.returns-in-Ok-clause-answered
-returns-in-Ok-clause-answered g c = λ s.
+returns-in-Ok-clause-answered g c = λ s here.
     let state = g.S.Disk.state in
+    let a = state c.args.shell.now in
+    let b = state c.now-moment.new.self in
+    let d = state c.utter.new.shell in
     let m = c.args.mute.now in
     let n = c.utter.new.mute in
     let at = c.now-moment.result in
     let k = c.args.number in
+    let keeps = c.now-moment.ensures.call.keeps in
     let same = c.deref.ensures.value ∙ c.in-Ok.ensures ∙ sym (rules-refusal k at) in
-    calls_then (state c.args.shell.now).beside (state c.now-moment.new.self).beside
-    (state c.utter.new.shell).beside
-    {P = Clocked at} {Q = Utters m c.deref.result.now n} {R = Answers rules s m (refused k ∷ []) s n}
-    (λ (es fs : Log) (ms ns : List ℕ) t u.
-    tells_utters at m (rules.refusal k at) n (Answers rules s m (refused k ∷ []) s n)
-    (λ (gs : Log) v. record { does = does_refused rules s m n gs k at c.if-mute.false v; quiet = v.quiet })
-    es fs ms ns t (subst (λ (bs : List ℕ). Utters m bs n fs ns) same u))
-    (calls_now _ _ at c.now-moment.ensures.log c.now-moment.ensures.told) c.utter.ensures.said
+    told_then a b d {Q = λ _ _. Utters m c.deref.result.now n}
+    {R = AnswersOn rules s m (refused k ∷ []) s n} at
+    c.now-moment.ensures.log c.now-moment.ensures.told keeps.later (trusts-kept a b keeps)
+    (λ (fs : Log) (ns : List ℕ) (within : AreWithin b.moment d.moment fs) u.
+    refused_on rules lawful a b d s m n k at fs ns c.if-mute.false c.now-moment.ensures.call
+    c.utter.ensures.keeps here within
+    (subst (λ (bs : List ℕ). Utters m bs n fs ns) same u))
+    c.utter.ensures.said
 
 pub returns-in-Err-clause-answered : goal.returns-in-Err-clause-answered
-returns-in-Err-clause-answered g c = λ s.
+returns-in-Err-clause-answered g c = λ s here.
     let state = g.S.Disk.state in
+    let a = state c.args.shell.now in
+    let b = state c.now-moment.new.self in
     let m = c.args.mute.now in
     let at = c.now-moment.result in
     let k = c.args.number in
-    calls_as (state c.args.shell.now).beside (state c.now-moment.new.self).beside
-    {P = Clocked at} {Q = AnswersSome rules None s m (refused k ∷ [])}
-    (λ (es : Log) (ms : List ℕ) t. some_refused rules s m k at es ms t)
-    (calls_now _ _ at c.now-moment.ensures.log c.now-moment.ensures.told)
+    let keeps = c.now-moment.ensures.call.keeps in
+    told_alone a b {R = AnswersSomeOn rules NoMemory s m (refused k ∷ [])} at
+    c.now-moment.ensures.log c.now-moment.ensures.told keeps.later (trusts-kept a b keeps) (
+      some_refused rules s m k at [] (at ∷ []) (record { nothing = refl; one = refl }),
+      left_silent rules lawful a b s (refused k ∷ []) [] (at ∷ []) keeps refl here,
+    )

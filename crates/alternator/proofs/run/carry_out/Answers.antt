@@ -1,31 +1,25 @@
-use Rattle.std.proofs.Common.{Some, sym, subst}
+use Rattle.std.proofs.Common.{sym, subst}
 use Rattle.std.specs.Prelude.{MatchResult}
 use Rattle.alternator.specs.Endings.{Done, Broken}
-use Rattle.alternator.specs.Faults.{number_of}
-use Rattle.alternator.specs.Runs.{Calls}
 use Rattle.alternator.specs.Words.{IsServable}
 use Rattle.alternator.specs.declared.words.Job.{Job}
 use Rattle.alternator.proofs.run.carry_out.Goals as goal
 
 pub returns-in-Replay-clause-done : goal.returns-in-Replay-clause-done
-returns-in-Replay-clause-done g c =
+returns-in-Replay-clause-done g c = λ s stands.
     let state = g.S.Disk.state in
     let a = state c.args.shell.now in
     let d = state c.replay.new.shell in
-    subst (λ (j : Job). MatchResult c.replay.result
-    (λ _. Calls a.beside d.beside (Done (Some j)))
-    (λ f. Calls a.beside d.beside (Broken (number_of f) (Some j))))
-    (sym c.in-Replay.is) c.replay.ensures.answered
+    subst (λ (j : Job). MatchResult c.replay.result (λ _. Done j s a d) (λ f. Broken f j s a d))
+    (sym c.in-Replay.is) (c.replay.ensures.answered s stands)
 
 pub returns-in-Serve-clause-done : goal.returns-in-Serve-clause-done
-returns-in-Serve-clause-done g c =
+returns-in-Serve-clause-done g c = λ s stands.
     let state = g.S.Disk.state in
     let a = state c.args.shell.now in
     let d = state c.serve.new.shell in
-    subst (λ (j : Job). MatchResult c.serve.result
-    (λ _. Calls a.beside d.beside (Done (Some j)))
-    (λ f. Calls a.beside d.beside (Broken (number_of f) (Some j))))
-    (sym c.in-Serve.is) c.serve.ensures.served
+    subst (λ (j : Job). MatchResult c.serve.result (λ _. Done j s a d) (λ f. Broken f j s a d))
+    (sym c.in-Serve.is) (c.serve.ensures.served s stands)
 
 pub serve-requires-clause-some : goal.serve-requires-clause-some
 serve-requires-clause-some g c = subst IsServable c.in-Serve.is c.requires.some

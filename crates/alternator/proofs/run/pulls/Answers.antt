@@ -1,62 +1,69 @@
 use Rattle.std.proofs.Common.{Bool, ap, subst, sym}
 use Rattle.alt_lines.specs.Reader.{unread}
 use Rattle.alt_lines.specs.Unread.{Unread}
-use Rattle.alt_machine.specs.State.{State, start}
-use Rattle.alternator.specs.Faults.{number_of}
-use Rattle.alternator.specs.Runs.{Reaches, Goes, GoesOrEnds, GoesSome, Ends, Answers, AnswersSome}
-use Rattle.alternator.proofs.Passing.{passes_none, passes_then}
+use Rattle.alt_machine.specs.State.{State}
+use Rattle.alternator.specs.Runs.{Leads, Goes, GoesOrEnds, GoesSome, Ends, Answers, AnswersSome}
+use Rattle.alternator.proofs.Passing.{passes_none, passes_then, passes_back}
 use Rattle.alternator.proofs.Pulling.{fresh, goes_none, goes_then, goes_ends, goes_breaks, answers_all, answers_some}
-use Rattle.alternator.proofs.Serving.{calls_as}
+use Rattle.alternator.proofs.Serving.{stretch_as}
 use Rattle.alternator.proofs.run.pulls.Goals as goal
 
 pub pulls-init : goal.pulls-init
 pulls-init g c =
     let old = g.S.Disk.state c.args.shell.now in (
-      subst (λ (u : Unread). Reaches old old c.new-tables.result (λ t. Goes start fresh t u))
+      λ s stands. subst (λ (u : Unread). Leads old old c.args.tables.now (λ t. Goes s fresh t u))
           (sym c.new-lines.ensures)
-          (goes_none old c.new-tables.result start fresh (c.new-tables.ensures.start old)),
+          (goes_none old c.args.tables.now s fresh stands),
       passes_none _,
       ap (λ (u : Unread). u.ended) c.new-lines.ensures,
     )
 
 pub pulls-preserved : goal.pulls-preserved
 pulls-preserved g c =
-    let state = g.S.Disk.state in
-    let front = c.pulls.invariant.0 in
-    let went = subst (λ (more : Bool). Reaches (state c.pulls.shell)
-    (state c.pull.new.shell) c.pull.new.tables
-    (λ t. GoesOrEnds more front.to (unread c.pulls.lines) t (unread c.pull.new.lines)))
-    c.in-Ok-true.field-0-test (c.in-Ok-true.ensures.went front.to front.stands) in (
-      goes_then (state c.args.shell.now) (state c.pulls.shell)
-          (state c.pull.new.shell) c.pulls.tables start fresh (unread c.pulls.lines) front
+    let state = g.S.Disk.state in (
+      λ s stands.
+          let front = c.pulls.invariant.0 s stands in
+          let went = subst (λ (more : Bool). Leads (state c.pulls.shell)
+          (state c.pull.new.shell) c.pull.new.tables
+          (λ t. GoesOrEnds more front.to (unread c.pulls.lines) t (unread c.pull.new.lines)))
+          c.in-Ok-true.field-0-test (c.in-Ok-true.ensures.went front.to front.stands) in
+          goes_then (state c.args.shell.now) (state c.pulls.shell)
+          (state c.pull.new.shell) c.pulls.tables s fresh (unread c.pulls.lines) front
           c.pull.new.tables (unread c.pull.new.lines) went,
       passes_then _ _ _ c.pulls.invariant.1 c.pull.ensures.passes,
       c.in-Ok-true.ensures.going c.in-Ok-true.field-0-test,
     )
 
 pub returns-in-Ok-false-clause-answered : goal.returns-in-Ok-false-clause-answered
-returns-in-Ok-false-clause-answered g c =
+returns-in-Ok-false-clause-answered g c = λ s stands.
     let state = g.S.Disk.state in
-    let front = c.pulls.invariant.0 in
-    let went = subst (λ (more : Bool). Reaches (state c.pulls.shell)
+    let front = c.pulls.invariant.0 s stands in
+    let went = subst (λ (more : Bool). Leads (state c.pulls.shell)
     (state c.pull.new.shell) c.pull.new.tables
     (λ t. GoesOrEnds more front.to (unread c.pulls.lines) t (unread c.pull.new.lines)))
     c.in-Ok-false.field-0-test (c.in-Ok-false.ensures.went front.to front.stands) in
-    calls_as (state c.args.shell.now).beside (state c.pull.new.shell).beside
-    {P = λ es ms. (t : State) × Ends start fresh t es ms} {Q = Answers start}
-    (λ es ms x. answers_all start x.0 es ms x.1)
+    stretch_as (state c.args.shell.now) (state c.pull.new.shell)
+    {P = λ old new es ms. (t : State) × Ends s fresh t old new es ms} {Q = Answers s}
+    (λ es ms within x. answers_all _ _ s x.0 es ms x.1)
     (goes_ends (state c.args.shell.now) (state c.pulls.shell)
-    (state c.pull.new.shell) c.pulls.tables start fresh (unread c.pulls.lines) front
+    (state c.pull.new.shell) c.pulls.tables s fresh (unread c.pulls.lines) front
     c.pull.new.tables went)
 
 pub returns-in-Err-clause-answered : goal.returns-in-Err-clause-answered
-returns-in-Err-clause-answered g c =
+returns-in-Err-clause-answered g c = λ s stands.
     let state = g.S.Disk.state in
-    let front = c.pulls.invariant.0 in
-    calls_as (state c.args.shell.now).beside (state c.pull.new.shell).beside
-    {P = GoesSome (number_of c.in-Err.fault) start fresh} {Q =
-    AnswersSome (number_of c.in-Err.fault) start}
-    (answers_some (number_of c.in-Err.fault) start)
+    let front = c.pulls.invariant.0 s stands in
+    stretch_as (state c.args.shell.now) (state c.pull.new.shell)
+    {P = GoesSome c.in-Err.fault s fresh} {Q = AnswersSome c.in-Err.fault s}
+    (λ es ms within x. answers_some _ _ c.in-Err.fault s es ms x)
     (goes_breaks (state c.args.shell.now) (state c.pulls.shell)
-    (state c.pull.new.shell) c.pulls.tables start fresh (unread c.pulls.lines) front
-    (number_of c.in-Err.fault) (c.in-Err.ensures.went front.to front.stands))
+    (state c.pull.new.shell) c.pulls.tables s fresh (unread c.pulls.lines) front
+    c.in-Err.fault (c.in-Err.ensures.went front.to front.stands))
+
+pub pull-requires-clause-ready : goal.pull-requires-clause-ready
+pull-requires-clause-ready g c = λ trusted.
+    let state = g.S.Disk.state in
+    let first = c.requires.ready (passes_back (state c.args.shell.now) (state c.pulls.shell)
+    c.pulls.invariant.1 trusted) in
+    let r = c.pulls.invariant.0 first.0 first.1 in
+    (r.to, r.stands)

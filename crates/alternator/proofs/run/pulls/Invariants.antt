@@ -1,15 +1,16 @@
 use Rattle.std.proofs.Common.{◌≡◌, ◌-◌, ◌^◌, false}
 use Rattle.alt_lines.specs.Reader.{unread}
-use Rattle.alt_machine.specs.State.{start}
-use Rattle.alternator.specs.Runs.{Passes, Reaches, Goes}
+use Rattle.alt_machine.specs.State.{State}
+use Rattle.alt_tables.specs.Stands.{Stands}
+use Rattle.alternator.specs.Runs.{Passes, Leads, Goes}
 use Rattle.alternator.proofs.Pulling.{fresh}
 use Rattle.alternator.proofs.run.pulls.Given as goal
 
 abbrev pub invariant-pulls : goal.invariant-pulls
 invariant-pulls g l =
     let state = g.S.Disk.state in
-    Reaches (state l.initial.shell) (state l.shell) l.tables
-    (λ t. Goes start fresh t (unread l.lines))
+    ((s : State) → Stands (state l.initial.shell) l.initial.tables s
+    → Leads (state l.initial.shell) (state l.shell) l.tables (λ t. Goes s fresh t (unread l.lines)))
     × Passes (state l.initial.shell) (state l.shell)
     × ((unread l.lines).ended ≡ false)
 

@@ -1,11 +1,19 @@
-use Rattle.std.proofs.Common.{None}
-use Rattle.alt_machine.specs.State.{start}
-use Rattle.alternator.specs.Runs.{AnswersSome}
+use Rattle.std.proofs.Common.{[], false}
+use Rattle.alternator.specs.Turns.{asks}
+use Rattle.alternator.specs.Runs.{AnswersSome, LeftThen}
+use Rattle.alternator.specs.declared.serve.RunFault.TheVariants.{NoMemory}
 use Rattle.alternator.proofs.Pulling.{answers_some}
-use Rattle.alternator.proofs.Serving.{calls_none, breaks_none}
+use Rattle.alternator.proofs.Serving.{stretch_none, breaks_none}
+use Rattle.alt_tables.proofs.Left.{stands_left}
+use Rattle.alternator.proofs.Stopping.{leaves-here, left-nothing}
 use Rattle.alternator.proofs.run.replay.Goals as goal
 
 pub returns-in_default-clause-answered : goal.returns-in_default-clause-answered
-returns-in_default-clause-answered g c =
-    calls_none (g.S.Disk.state c.args.shell.now).beside {P = AnswersSome None start}
-    (answers_some None start _ _ (record { breaks = breaks_none start _ }))
+returns-in_default-clause-answered g c = λ s stands.
+    let here = g.S.Disk.state c.args.shell.now in
+    stretch_none here {P = AnswersSome NoMemory s}
+    (answers_some here here NoMemory s _ _ (record {
+      breaks = breaks_none NoMemory tt s _;
+      leaves = leaves-here here (LeftThen s [] []) (λ trusted t image is_image.
+          left-nothing s (asks false []) [] image (stands_left here c.args.tables.now s stands image is_image));
+    }))

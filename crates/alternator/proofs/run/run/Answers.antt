@@ -1,37 +1,60 @@
-use Rattle.std.proofs.Common.{List, ℕ, Option, subst, ◌∙◌}
+use Rattle.std.proofs.Common.{List, ℕ, Option, subst, sym, ◌∙◌}
 use Rattle.alt_shell.specs.Log.{StillGrows, notes_of}
-use Rattle.alternator.specs.Endings.{note_of}
+use Rattle.alternator.specs.Endings.{HasDone, note_of}
 use Rattle.alternator.specs.Words.{job_of, bytes_of}
-use Rattle.alternator.proofs.EndingLaws.{noted_done, noted_words, none_is_some, completes}
+use Rattle.alternator.specs.declared.words.Job.{Job}
+use Rattle.alternator.proofs.EndingLaws.{noted_done, words_end, completes, makes_all}
 use Rattle.alternator.proofs.run.run.Goals as goal
 
 pub returns-clause-ended : goal.returns-clause-ended
 returns-clause-ended g c =
     let state = g.S.Disk.state in (
-      c.noted.result,
+      c.noted-ending.result,
       record {
         by_ending = c.status_of.ensures;
-        done = noted_done (job_of (bytes_of c.args.words.now)) (state c.args.shell.now)
-            (state c.ended-ending.new.shell)
-            (state c.noted.new.shell) c.ended-ending.result c.noted.result
-            c.noted.ensures.ending c.noted.ensures.silent c.noted.ensures.unasked
-            c.noted.ensures.aside c.ended-ending.ensures.done;
+        done = noted_done (state c.args.shell.now) (state c.ended.new.shell)
+            (state c.noted-ending.new.shell) (job_of (bytes_of c.args.words.now)) c.ended.result c.noted-ending.result
+            c.noted-ending.ensures.ending c.noted-ending.ensures.silent c.noted-ending.ensures.unasked
+            c.noted-ending.ensures.aside c.ended.ensures.done;
         noted = subst (λ (notes : Option (List ℕ)). StillGrows notes
-            (notes_of (state c.noted.new.shell).beside) (note_of c.noted.result))
-            c.ended-ending.ensures.passes.notes c.noted.ensures.noted;
+            (notes_of (state c.noted-ending.new.shell).beside) (note_of c.noted-ending.result))
+            c.ended.ensures.passes.notes c.noted-ending.ensures.noted;
       },
     )
 
 pub returns-clause-complete : goal.returns-clause-complete
-returns-clause-complete g c = λ right well.
+returns-clause-complete g c = λ job is over trusted readable well.
     let state = g.S.Disk.state in
     let old = state c.args.shell.now in
-    let new = state c.noted.new.shell in
-    let job = job_of (bytes_of c.args.words.now) in
-    completes job old new c.noted.result c.status_of.result c.status_of.ensures
-    (λ e. none_is_some job right (c.ended-ending.ensures.words.0
-    (noted_words c.ended-ending.result c.noted.result c.noted.ensures.ending e)))
-    (noted_done job old (state c.ended-ending.new.shell) new c.ended-ending.result c.noted.result
-    c.noted.ensures.ending c.noted.ensures.silent c.noted.ensures.unasked c.noted.ensures.aside
-    c.ended-ending.ensures.done)
-    well
+    let new = state c.noted-ending.new.shell in
+    completes old new job c.noted-ending.result c.status_of.result c.status_of.ensures over
+    (subst (λ (j : Option Job). HasDone j c.noted-ending.result old new) is
+    (noted_done old (state c.ended.new.shell) new (job_of (bytes_of c.args.words.now)) c.ended.result
+    c.noted-ending.result c.noted-ending.ensures.ending c.noted-ending.ensures.silent
+    c.noted-ending.ensures.unasked c.noted-ending.ensures.aside c.ended.ensures.done))
+    trusted readable well
+
+pub returns-clause-made : goal.returns-clause-made
+returns-clause-made g c = λ job trusted none well.
+    let state = g.S.Disk.state in
+    let old = state c.args.shell.now in
+    let new = state c.noted-ending.new.shell in
+    makes_all old new c.noted-ending.result c.status_of.result c.status_of.ensures
+    (subst (λ (j : Option Job). HasDone j c.noted-ending.result old new) job
+    (noted_done old (state c.ended.new.shell) new (job_of (bytes_of c.args.words.now)) c.ended.result
+    c.noted-ending.result c.noted-ending.ensures.ending c.noted-ending.ensures.silent
+    c.noted-ending.ensures.unasked c.noted-ending.ensures.aside c.ended.ensures.done))
+    trusted none well
+
+pub returns-clause-words : goal.returns-clause-words
+returns-clause-words g c =
+    let state = g.S.Disk.state in
+    let old = state c.args.shell.now in
+    let new = state c.noted-ending.new.shell in
+    let both = words_end old new (job_of (bytes_of c.args.words.now)) c.noted-ending.result
+    (noted_done old (state c.ended.new.shell) new (job_of (bytes_of c.args.words.now)) c.ended.result
+    c.noted-ending.result c.noted-ending.ensures.ending c.noted-ending.ensures.silent
+    c.noted-ending.ensures.unasked c.noted-ending.ensures.aside c.ended.ensures.done) in (
+      λ e. both.0 (sym c.status_of.ensures ∙ e),
+      λ e. c.status_of.ensures ∙ both.1 e,
+    )

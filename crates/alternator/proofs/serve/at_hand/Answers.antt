@@ -1,10 +1,10 @@
-use Rattle.std.proofs.Common.{ℕ, List, [], Option, ap, sym, subst}
+use Rattle.std.proofs.Common.{◌∙◌, ℕ, List, [], sym, subst}
 use Rattle.alt_lines.specs.Reader.{unread}
 use Rattle.alt_lines.specs.Unread.{Tells}
-use Rattle.alternator.specs.Faults.{number_of}
-use Rattle.alternator.specs.Runs.{Calls, BreaksAtHand, asked_now}
+use Rattle.alternator.specs.Runs.{Stretch, BreaksAtHand, asked_now}
 use Rattle.alternator.proofs.Hands.{at_some, at_none, hands_none, hands_line, hands_break, hands_memory, hands_all, hands_out}
-use Rattle.alternator.proofs.Passing.{passes_none, passes_then}
+use Rattle.alternator.proofs.Passing.{passes_none, passes_then, passes_back}
+use Rattle.alternator.specs.declared.serve.RunFault.{RunFault}
 use Rattle.alternator.proofs.serve.at_hand.Goals as goal
 
 pub lines-init : goal.lines-init
@@ -33,7 +33,7 @@ returns-in-Err-answer_line-clause-served g c = λ s stands.
     hands_break (state c.args.shell.now) c.args.tables.now (state c.lines.shell) c.lines.tables
     (unread c.args.lines.now) (unread c.lines.lines)
     (unread c.next_line.new.lines) found.0 c.lines.invariant.0 found.2
-    (state c.answer_line.new.shell) (number_of c.in-Err-answer_line.fault) s stands
+    (state c.answer_line.new.shell) c.in-Err-answer_line.fault s stands
     (c.in-Err-answer_line.ensures.served found.0 told)
 
 pub returns-in-Ok-None-clause-served : goal.returns-in-Ok-None-clause-served
@@ -55,8 +55,20 @@ returns-in-Ok-None-clause-lines g c =
 pub returns-in-Err-clause-served : goal.returns-in-Err-clause-served
 returns-in-Err-clause-served g c = λ s stands.
     let state = g.S.Disk.state in
-    subst (λ (number : Option ℕ). Calls (state c.args.shell.now).beside (state c.lines.shell).beside
-    (BreaksAtHand number s (asked_now (unread c.args.lines.now))))
-    (sym (ap number_of c.in-Err.ensures.err))
+    subst (λ (fault : RunFault). Stretch (state c.args.shell.now) (state c.lines.shell)
+    (BreaksAtHand fault s (asked_now (unread c.args.lines.now))))
+    (sym c.in-Err.ensures.err)
     (hands_memory (state c.args.shell.now) c.args.tables.now (state c.lines.shell) c.lines.tables
     (unread c.args.lines.now) (unread c.lines.lines) c.lines.invariant.0 s stands)
+
+pub answer_line-requires : goal.answer_line-requires
+answer_line-requires g c =
+    let state = g.S.Disk.state in
+    record {
+      ready = λ trusted.
+          let first = c.requires.ready (passes_back (state c.args.shell.now) (state c.lines.shell)
+          c.lines.invariant.1 trusted) in
+          let r = c.lines.invariant.0.serves first.0 first.1 in
+          (r.to, r.stands);
+      quiet = c.lines.invariant.1.talking ∙ c.requires.quiet;
+    }

@@ -1,41 +1,43 @@
-use Rattle.std.proofs.Common.{◌≡◌, ◌<◌, [], length, take, length-take, subst, arith}
+use Rattle.std.proofs.Common.{◌≡◌, ◌∙◌, ◌<◌, [], length, take, length-take, subst, arith}
 use Rattle.alt_lines.specs.Reader.{unread}
 use Rattle.alt_lines.specs.Unread.{Unread}
-use Rattle.alternator.specs.Runs.{Calls, Reaches, ServesAtHand, BreaksAtHand, asked_now}
-use Rattle.alternator.specs.Faults.{number_of}
+use Rattle.alternator.specs.Runs.{Stretch, Leads, ServesAtHand, BreaksAtHand, asked_now}
 use Rattle.alternator.proofs.Pulling.{pull_goes, pull_breaks, pull_memory, pull_ends, pull_end_breaks, pull_failed}
-use Rattle.alternator.proofs.Serving.{stands_on}
+use Rattle.alternator.proofs.Stopping.{ready_kept, stands_kept}
 use Rattle.alternator.proofs.serve.pull.Goals as goal
 
 pub returns-in_default-clause-went : goal.returns-in_default-clause-went
 returns-in_default-clause-went g c = λ s stands.
     let state = g.S.Disk.state in
-    pull_failed (state c.args.shell.now) (state c.take.new.self) s
-    (unread c.args.lines.now) c.in_default.ensures.taken c.in_default.ensures.moments
+    pull_failed (state c.args.shell.now) (state c.take.new.self) c.in_default.ensures.call
+    c.args.tables.now s stands
+    (unread c.args.lines.now) c.in_default.ensures.moments c.in_default.ensures.taken
 
 pub returns-in-Ok-at_hand-clause-went : goal.returns-in-Ok-at_hand-clause-went
 returns-in-Ok-at_hand-clause-went g c = λ s stands.
     let state = g.S.Disk.state in
     let none : take c.in-Ok.count c.take.new.buf ≡ [] = grind arith in
-    pull_ends (state c.args.shell.now) (state c.take.new.self) (state c.at_hand.new.shell) s
+    pull_ends (state c.args.shell.now) (state c.take.new.self) (state c.at_hand.new.shell)
+    c.in-Ok.ensures.call c.args.tables.now s stands
     (unread c.args.lines.now) c.requires.going
     (take c.in-Ok.count c.take.new.buf) none c.in-Ok.ensures.taken c.in-Ok.ensures.moments
     c.at_hand.new.tables (unread c.args.lines.now)
-    (subst (λ (u : Unread). Reaches (state c.take.new.self)
+    (subst (λ (u : Unread). Leads (state c.take.new.self)
     (state c.at_hand.new.shell) c.at_hand.new.tables (ServesAtHand s (asked_now u)))
-    c.end.ensures (c.in-Ok-at_hand.ensures.served s (stands_on _ _ _ s stands)))
+    c.end.ensures (c.in-Ok-at_hand.ensures.served s (stands_kept _ _ c.in-Ok.ensures.call.keeps _ s stands)))
 
 pub returns-in-Err-clause-went : goal.returns-in-Err-clause-went
 returns-in-Err-clause-went g c = λ s stands.
     let state = g.S.Disk.state in
     let none : take c.in-Ok.count c.take.new.buf ≡ [] = grind arith in
-    pull_end_breaks (state c.args.shell.now) (state c.take.new.self) (state c.at_hand.new.shell) s
+    pull_end_breaks (state c.args.shell.now) (state c.take.new.self) (state c.at_hand.new.shell)
+    c.in-Ok.ensures.call c.args.tables.now s stands
     (unread c.args.lines.now) c.requires.going
     (take c.in-Ok.count c.take.new.buf) none c.in-Ok.ensures.taken c.in-Ok.ensures.moments
-    (number_of c.in-Err.fault)
-    (subst (λ (u : Unread). Calls (state c.take.new.self).beside (state c.at_hand.new.shell).beside
-    (BreaksAtHand (number_of c.in-Err.fault) s (asked_now u)))
-    c.end.ensures (c.in-Err.ensures.served s (stands_on _ _ _ s stands)))
+    c.in-Err.fault
+    (subst (λ (u : Unread). Stretch (state c.take.new.self) (state c.at_hand.new.shell)
+    (BreaksAtHand c.in-Err.fault s (asked_now u)))
+    c.end.ensures (c.in-Err.ensures.served s (stands_kept _ _ c.in-Ok.ensures.call.keeps _ s stands)))
 
 pub returns-in_default-give-clause-went : goal.returns-in_default-give-clause-went
 returns-in_default-give-clause-went g c = λ s stands.
@@ -47,7 +49,8 @@ returns-in_default-give-clause-went g c = λ s stands.
       c.in-Ok.ensures.count,
       c.if-count-eq0.false,
     ) in
-    pull_memory (state c.args.shell.now) (state c.take.new.self) (state c.take.new.self) s
+    pull_memory (state c.args.shell.now) (state c.take.new.self) (state c.take.new.self)
+    c.in-Ok.ensures.call c.args.tables.now s stands
     (unread c.args.lines.now) c.requires.going
     (take c.in-Ok.count c.take.new.buf) some c.in-Ok.ensures.taken c.in-Ok.ensures.moments
 
@@ -61,11 +64,12 @@ returns-in-Ok-at_hand-2-clause-went g c = λ s stands.
       c.in-Ok.ensures.count,
       c.if-count-eq0.false,
     ) in
-    pull_goes (state c.args.shell.now) (state c.take.new.self) (state c.at_hand-2.new.shell) s
+    pull_goes (state c.args.shell.now) (state c.take.new.self) (state c.at_hand-2.new.shell)
+    c.in-Ok.ensures.call c.args.tables.now s stands
     (unread c.args.lines.now) c.requires.going
     (take c.in-Ok.count c.take.new.buf) some c.in-Ok.ensures.taken c.in-Ok.ensures.moments
     c.at_hand-2.new.tables _ _ c.in-Ok-give.ensures.ok
-    (c.in-Ok-at_hand-2.ensures.served s (stands_on _ _ _ s stands)) c.in-Ok-at_hand-2.ensures.lines
+    (c.in-Ok-at_hand-2.ensures.served s (stands_kept _ _ c.in-Ok.ensures.call.keeps _ s stands)) c.in-Ok-at_hand-2.ensures.lines
 
 pub returns-in-Err-at_hand-clause-went : goal.returns-in-Err-at_hand-clause-went
 returns-in-Err-at_hand-clause-went g c = λ s stands.
@@ -77,11 +81,30 @@ returns-in-Err-at_hand-clause-went g c = λ s stands.
       c.in-Ok.ensures.count,
       c.if-count-eq0.false,
     ) in
-    pull_breaks (state c.args.shell.now) (state c.take.new.self) (state c.at_hand-2.new.shell) s
+    pull_breaks (state c.args.shell.now) (state c.take.new.self) (state c.at_hand-2.new.shell)
+    c.in-Ok.ensures.call c.args.tables.now s stands
     (unread c.args.lines.now) c.requires.going
     (take c.in-Ok.count c.take.new.buf) some c.in-Ok.ensures.taken c.in-Ok.ensures.moments
-    (number_of c.in-Err-at_hand.fault)
-    (subst (λ (u : Unread). Calls (state c.take.new.self).beside
-    (state c.at_hand-2.new.shell).beside (BreaksAtHand (number_of c.in-Err-at_hand.fault) s
+    c.in-Err-at_hand.fault
+    (subst (λ (u : Unread). Stretch (state c.take.new.self)
+    (state c.at_hand-2.new.shell) (BreaksAtHand c.in-Err-at_hand.fault s
     (asked_now u)))
-    c.in-Ok-give.ensures.ok (c.in-Err-at_hand.ensures.served s (stands_on _ _ _ s stands)))
+    c.in-Ok-give.ensures.ok (c.in-Err-at_hand.ensures.served s (stands_kept _ _ c.in-Ok.ensures.call.keeps _ s stands)))
+
+pub at_hand-requires : goal.at_hand-requires
+at_hand-requires g c =
+    let state = g.S.Disk.state in
+    record {
+      ready = ready_kept (state c.args.shell.now) (state c.take.new.self) c.args.tables.now
+          c.in-Ok.ensures.call.keeps c.requires.ready;
+      quiet = c.in-Ok.ensures.talk.talking ∙ c.requires.quiet;
+    }
+
+pub at_hand-requires-2 : goal.at_hand-requires-2
+at_hand-requires-2 g c =
+    let state = g.S.Disk.state in
+    record {
+      ready = ready_kept (state c.args.shell.now) (state c.take.new.self) c.args.tables.now
+          c.in-Ok.ensures.call.keeps c.requires.ready;
+      quiet = c.in-Ok.ensures.talk.talking ∙ c.requires.quiet;
+    }

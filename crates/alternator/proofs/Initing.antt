@@ -1,0 +1,43 @@
+-- A store that was made.
+use Rattle.std.proofs.Common.{◌≡◌, ℕ, List, [], ◌∷◌, Option, None, IsTrue, true, codes, refl, sym, ap, subst, ◌∙◌, arith}
+use Rattle.alt_disk.specs.Fates.{Fates, Fits}
+use Rattle.alt_disk.specs.Disk.{DiskState, Goes, IsImage, IsTrusted}
+use Rattle.alt_disk.proofs.Runs.{trusted_on}
+use Rattle.alt_engine.specs.Image.{IsLayout}
+use Rattle.alt_engine.specs.Layout.{no_rows}
+use Rattle.alt_shell.specs.Calls.{Adds, ShellCall}
+use Rattle.alt_shell.specs.Log.{Log, Grows, moments_of, entry, told_count, said}
+use Rattle.alt_shell.proofs.Telling.{Grows-then, Grows-nil, Tells-nil}
+use Rattle.alternator.specs.Endings.{Makes}
+use Rattle.alternator.specs.Runs.{Stretch}
+use Rattle.alternator.proofs.Stopping.{trusts-kept, within-wider}
+use Rattle.alt_tables.proofs.Left.{stands_made}
+
+pub makes : (a b c : DiskState) → Goes a b → ShellCall b c true → Adds b c (said (codes "ok\n"))
+    → moments_of c.beside ≡ moments_of b.beside
+    → (IsTrue a.tells → (f : ℕ) → a.file f ≡ None)
+    → (IsTrusted a → (image : ℕ → Option (List ℕ)) → IsImage b b.moment image
+    → IsLayout image no_rows)
+    → Stretch a c Makes
+makes a b c goes call added m none images = record {
+  entries = entry c.moment (told_count b.beside) (said (codes "ok\n")) ∷ [];
+  told = [];
+  grows = Grows-then a.beside b.beside c.beside []
+      (entry c.moment (told_count b.beside) (said (codes "ok\n")) ∷ [])
+      (subst (λ (log : Log). Grows a.beside log []) (sym goes.beside) (Grows-nil a.beside)) added;
+  tells = Tells-nil (moments_of a.beside) (moments_of c.beside) (m ∙ ap moments_of goes.beside);
+  within = within-wider a.moment b.moment c.moment c.moment
+      (entry c.moment (told_count b.beside) (said (codes "ok\n")) ∷ [])
+      (call.keeps.later, omega arith, tt) goes.later (omega arith);
+  later = let k = call.keeps.later in omega (arith, k, goes.later);
+  trusts = λ trusted. trusts-kept b c call.keeps (trusted_on a b goes trusted);
+  holds = record {
+    said = refl;
+    untaken = refl;
+    unasked = refl;
+    none = none;
+    stands = λ trusted image is_image. stands_made image (images trusted image
+          (λ f. subst (λ (x : Fates). Fits x (image f))
+        (call.keeps.fates c.moment f call.keeps.later (omega arith)) (is_image f)));
+  };
+}

@@ -37,7 +37,7 @@ makes a b c goes call added m none images = record {
     unasked = refl;
     none = none;
     stands = λ trusted image is_image. stands_made image (images trusted image
-          (λ f. subst (λ (x : Fates). Fits x (image f))
+        (λ f. subst (λ (x : Fates). Fits x (image f))
         (call.keeps.fates c.moment f call.keeps.later (omega arith)) (is_image f)));
   };
 }

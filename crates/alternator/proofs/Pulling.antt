@@ -365,7 +365,8 @@ module _ (a b : DiskState) (call : ShellCall a b false) (tables : Tables) (s : S
     };
   }
 
-  pub pull_failed : (Adds a b take_failed ⊎ Untold a b takes_failed takes_missed) → Stretch a b (GoesSome Failed s u)
+  pub pull_failed : (Adds a b take_failed ⊎ Untold a b takes_failed takes_missed)
+      → Stretch a b (GoesSome Failed s u)
   pull_failed (inl g) = pull_told g
   pull_failed (inr untold) = pull_untold untold.log
 

@@ -361,7 +361,8 @@ turn_served old mid new tables s l t ms bytes b enough stands call added n e =
             enough = ap wanted b.one ∙ ap (λ w. or_next w None) enough;
           };
           rests = record { silent = refl; goes_on = refl };
-          leaves = leaves-said s (turns s (l ∷ []) ms) t b.one (turns_say s (l ∷ []) ms) old mid new es within
+          leaves = leaves-said s (turns s (l ∷ []) ms) t b.one (turns_say s (l ∷ []) ms) old mid new
+              es within
               (one-by (entry new.moment (told_count mid.beside) (said bytes)) t.text
               (subst (λ (bs : List ℕ). IsPrefix bs t.text) (sym text) (IsPrefix-self t.text)))
               b.trusts b.leaves
@@ -428,7 +429,8 @@ module _ (old mid new : DiskState) (tables : Tables) (s : State) (l : Asked) (t 
   cut es rests by some g within =
       turn_begun old mid new s l t ms Failed es b tt rests some g m within call.keeps.later
       (trusts-kept mid new call.keeps)
-      (leaves-said s (turns s (l ∷ []) ms) t b.one (turns_say s (l ∷ []) ms) old mid new es within by b.trusts b.leaves
+      (leaves-said s (turns s (l ∷ []) ms) t b.one (turns_say s (l ∷ []) ms) old mid new es within
+      by b.trusts b.leaves
       (λ trusted image is_image. stands_left mid tables (after_turn s t) stands
       image is_image)
       call.keeps)
@@ -463,4 +465,5 @@ pub turn_unsaid : (old new : DiskState) (s : State) (l : Asked) (t : Turn) (ms :
 turn_unsaid old new s l t ms fault b cause =
     turn_begun old new new s l t ms fault [] b cause
     (record { silent = refl; goes_on = refl }) (t.text, refl) (Grows-nil new.beside) refl tt
-    (omega arith) (λ trusted. trusted) (leaves-unsaid s (turns s (l ∷ []) ms) t b.one (turns_say s (l ∷ []) ms) old new b.leaves)
+    (omega arith) (λ trusted. trusted)
+    (leaves-unsaid s (turns s (l ∷ []) ms) t b.one (turns_say s (l ∷ []) ms) old new b.leaves)

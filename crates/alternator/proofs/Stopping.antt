@@ -528,7 +528,8 @@ module _ (s : State) (vs : List Turn) (t : Turn) (one : vs ≡ t ∷ []) (say : 
       → AtEach old new (λ u image. IsLeft s vs (said_in (until u es)) image)
   leaves-said old mid new es within front trusts leaves stands keeps trusted =
       spans_two old mid new (λ _ image. IsAmong image s t.atoms)
-      (λ _ image. StandsFor image (last_state s t.atoms)) (λ u image. IsLeft s vs (said_in (until u es)) image)
+      (λ _ image. StandsFor image (last_state s t.atoms))
+      (λ u image. IsLeft s vs (said_in (until u es)) image)
       (leaves trusted)
       (keeps-spans mid new (λ _ image. StandsFor image (last_state s t.atoms)) keeps
       (λ u image low is_image. stands (trusts trusted) image is_image))

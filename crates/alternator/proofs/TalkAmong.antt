@@ -40,7 +40,8 @@ module _ (r : Rules) (w : Lawful r) (per : ℕ) where
   )
   among-before s (j ∷ ks) k u image none (inl x) = inl (
     x.0,
-    said-more ks (k ∷ []) u x.1 (ap (λ (es : Log). said_in (until u es)) (append-nil (entry k.moment k.clocked accepted ∷ k.entries))
+    said-more ks (k ∷ []) u x.1 (ap (λ (es : Log). said_in (until u es))
+        (append-nil (entry k.moment k.clocked accepted ∷ k.entries))
         ∙ said-behind (entry k.moment k.clocked accepted) k.entries u refl ∙ none),
   )
   among-before s (j ∷ ks) k u image none (inr x) =
@@ -54,13 +55,15 @@ module _ (r : Rules) (w : Lawful r) (per : ℕ) where
     subst (λ (v : State). LeftOn r v (turns_of r per k) k.entries k.told u image) e x,
     refl,
   )
-  among-behind s t (j ∷ ks) k u image e x = inr (among-behind (after r s (turns_of r per j) j.told) t ks k u image e x)
+  among-behind s t (j ∷ ks) k u image e x =
+      inr (among-behind (after r s (turns_of r per j) j.told) t ks k u image e x)
 
   -- all of these were served
   among-all : (s t : State) (ks : List Connection) (u : ℕ) (image : Image)
       → t ≡ after_all r per s ks → StandsFor image t → LeftAmong r per s ks u image
   among-all s t [] u image e x = subst (StandsFor image) e x
-  among-all s t (j ∷ ks) u image e x = inr (among-all (after r s (turns_of r per j) j.told) t ks u image e x)
+  among-all s t (j ∷ ks) u image e x =
+      inr (among-all (after r s (turns_of r per j) j.told) t ks u image e x)
 
   module _ (a b c : DiskState) (s t : State) (ks : List Connection) (same : t ≡ after_all r per s ks)
       (es fs : Log) (meet : Meet a b c es fs) (left : AtEach a b (LeftAmong r per s ks)) where

@@ -468,7 +468,8 @@ stretch_hung a b c d since clocked P Q came m keeps went n aside join p =
     let x = entry b.moment since accepted in
     took_then a b d x (λ old new es ms. Q a d (x ∷ es) ms) Q came m keeps.later (omega arith) keeps
     (λ es ms within q. q)
-    (then_one b c d (entry d.moment clocked hung_up) (λ old new es ms. AreWithin b.moment c.moment es × P b c es ms)
+    (then_one b c d (entry d.moment clocked hung_up)
+    (λ old new es ms. AreWithin b.moment c.moment es × P b c es ms)
     (λ old new es ms. Q a d (x ∷ es) ms) went n aside.keeps.later (omega arith) aside.keeps
     (λ es ms q. join es ms q.0 q.1)
     (stretch_as b c {P = P} {Q = λ old new es ms. AreWithin b.moment c.moment es × P b c es ms}

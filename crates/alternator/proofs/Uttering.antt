@@ -22,7 +22,15 @@ use Rattle.alternator.proofs.TalkLogs.{Clocked, stretch_one, over-append, broken
 use Rattle.alternator.proofs.TalkFolds.{asks-append, requests-append, asks-requests, text-append, after-append, wanted-append}
 
 pub utters_said : (bytes : List ℕ) (m k : ℕ) → Utters false bytes false (entry m k (said bytes) ∷ []) []
-utters_said bytes m k = record { said = append-nil bytes; by = one-by (entry m k (said bytes)) bytes (subst (λ (bs : List ℕ). IsPrefix bs bytes) (sym (append-nil bytes)) (IsPrefix-self bytes)); broke = refl; silent = λ e. absurd (let f : ⊥ = cc in f); quiet = record { still = refl; goes_on = refl; inside = refl }; timeless = refl }
+utters_said bytes m k = record {
+  said = append-nil bytes;
+  by = one-by (entry m k (said bytes)) bytes
+      (subst (λ (bs : List ℕ). IsPrefix bs bytes) (sym (append-nil bytes)) (IsPrefix-self bytes));
+  broke = refl;
+  silent = λ e. absurd (let f : ⊥ = cc in f);
+  quiet = record { still = refl; goes_on = refl; inside = refl };
+  timeless = refl;
+}
 
 pub utters_part : (bytes : List ℕ) (m k n : ℕ) → Utters false bytes true (entry m k (say_failed (take n bytes)) ∷ []) []
 utters_part bytes m k n = record {
@@ -36,7 +44,14 @@ utters_part bytes m k n = record {
 }
 
 pub utters_none : (bytes : List ℕ) → Utters true bytes true [] []
-utters_none bytes = record { said = (bytes, refl); by = λ u. (bytes, refl); broke = refl; silent = λ _. refl; quiet = record { still = refl; goes_on = refl; inside = refl }; timeless = refl }
+utters_none bytes = record {
+  said = (bytes, refl);
+  by = λ u. (bytes, refl);
+  broke = refl;
+  silent = λ _. refl;
+  quiet = record { still = refl; goes_on = refl; inside = refl };
+  timeless = refl;
+}
 
 -- what says the text of one turn does it
 module _ (r : Rules) (s : State) (m n : Bool) (es : Log) where

@@ -51,7 +51,8 @@ Missed fault entries told = (entries ≡ []) × (told ≡ []) × IsCausedBy None
 
 -- one came, broke off and was hung up
 abbrev pub Broke : Rules → ℕ → RunFault → State → Log → List ℕ → Type 0
-Broke r per fault s entries told = (k : Connection) × DoesSome r fault s false (turns_of r per k) k.entries k.told
+Broke r per fault s entries told = (k : Connection)
+    × DoesSome r fault s false (turns_of r per k) k.entries k.told
     × (entries ≡ entry k.moment k.clocked accepted ∷ k.entries) × (told ≡ k.told)
 
 -- either

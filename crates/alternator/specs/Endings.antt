@@ -148,7 +148,8 @@ abbrev pub HasDone : Option Job → Ending → DiskState → DiskState → Type 
 HasDone None ending old new = HasRefused ending old new
 HasDone (Some Init) ending old new = HasMade ending old new
 HasDone (Some Replay) ending old new = HasRun Replay ending old new
-HasDone (Some (Serve per connections)) ending old new = HasRun (Serve per connections) ending old new
+HasDone (Some (Serve per connections)) ending old new =
+    HasRun (Serve per connections) ending old new
 
 -- a run that ended so, with its note
 pub record Ended (job : Option Job) (ending : Ending) (status : ℕ) (old new : DiskState) : Type 0 where

@@ -130,7 +130,8 @@ LeftAmong r per s (k ∷ ks) t image =
 
 -- Status 0: so many connections were served, or none came any more. A stop at any moment leaves every write that was answered by then.
 abbrev pub ServedOn : Rules → ℕ → ℕ → State → State → OfStretch
-ServedOn r per connections s t old new entries told = (x : Served r per connections s t entries told)
+ServedOn r per connections s t old new entries told =
+    (x : Served r per connections s t entries told)
     × AtEach old new (LeftAmong r per s x.all)
 
 -- another status: one may have broken off

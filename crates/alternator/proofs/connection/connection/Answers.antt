@@ -30,10 +30,12 @@ returns-in-Ok-clause-served g c = λ s stands.
     c.in-Ok-true.ensures.accepted in
     let served = subst (λ (bs : List ℕ). Leads b d c.pulls-served.new.tables
     (λ t. EndsOn rules (at per false bs) s false q t n)) c.new.ensures.items
-    (c.in-Ok.ensures.ended s (stands_kept a b c.in-Ok-true.ensures.call.keeps c.args.tables.now s stands)) in
+    (c.in-Ok.ensures.ended s
+    (stands_kept a b c.in-Ok-true.ensures.call.keeps c.args.tables.now s stands)) in
     record {
       to = served.to;
-      stands = stands_kept d e c.hang_up.ensures.call.keeps c.pulls-served.new.tables served.to served.stands;
+      stands = stands_kept d e c.hang_up.ensures.call.keeps c.pulls-served.new.tables served.to
+          served.stands;
       calls = stretch_hung a b d e (told_count a.beside) (told_count d.beside)
           (EndsOn rules (at per false []) s false q served.to n) (ComesOn rules per true s served.to)
           came.0 c.in-Ok-true.ensures.moments c.in-Ok-true.ensures.call.keeps
@@ -73,7 +75,8 @@ returns-in-Ok-true-clause-served g c = λ s stands.
     c.in-Ok-true.ensures.accepted in
     let broke = subst (λ (bs : List ℕ). Stretch b d
     (GoesSomeOn rules fault (at per false bs) s false)) c.new.ensures.items
-    (c.in-Err-served.ensures.ended s (stands_kept a b c.in-Ok-true.ensures.call.keeps c.args.tables.now s stands)) in
+    (c.in-Err-served.ensures.ended s
+    (stands_kept a b c.in-Ok-true.ensures.call.keeps c.args.tables.now s stands)) in
     stretch_hung a b d e (told_count a.beside) (told_count d.beside)
     (GoesSomeOn rules fault (at per false []) s false) (ComesSomeOn rules per fault s)
     came.0 c.in-Ok-true.ensures.moments c.in-Ok-true.ensures.call.keeps

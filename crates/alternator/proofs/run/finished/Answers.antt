@@ -8,7 +8,8 @@ returns-in-Ok-clause-done g c = (c.in-Ok.ensures.readable, c.in-Ok.ensures.done)
 pub returns-in-Err-Spent-clause-done : goal.returns-in-Err-Spent-clause-done
 returns-in-Err-Spent-clause-done g c =
     let state = g.S.Disk.state in
-    spent_done (state c.args.shell.now) (state c.over_store.new.shell) c.args.job _ _ c.in-Err-Spent.field-0-is
+    spent_done (state c.args.shell.now) (state c.over_store.new.shell) c.args.job _ _
+    c.in-Err-Spent.field-0-is
     c.in-Err-Spent.ensures.readable c.in-Err-Spent.ensures.done
 
 pub returns-in-Err-Failed-clause-done : goal.returns-in-Err-Failed-clause-done

@@ -15,5 +15,6 @@ returns-in_default-clause-answered g c = λ s stands.
     (answers_some here here NoMemory s _ _ (record {
       breaks = breaks_none NoMemory tt s _;
       leaves = leaves-here here (LeftThen s [] []) (λ trusted t image is_image.
-          left-nothing s (asks false []) [] image (stands_left here c.args.tables.now s stands image is_image));
+          left-nothing s (asks false []) [] image
+          (stands_left here c.args.tables.now s stands image is_image));
     }))

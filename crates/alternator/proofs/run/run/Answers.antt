@@ -13,7 +13,8 @@ returns-clause-ended g c =
       record {
         by_ending = c.status_of.ensures;
         done = noted_done (state c.args.shell.now) (state c.ended.new.shell)
-            (state c.noted-ending.new.shell) (job_of (bytes_of c.args.words.now)) c.ended.result c.noted-ending.result
+            (state c.noted-ending.new.shell) (job_of (bytes_of c.args.words.now)) c.ended.result
+            c.noted-ending.result
             c.noted-ending.ensures.ending c.noted-ending.ensures.silent c.noted-ending.ensures.unasked
             c.noted-ending.ensures.aside c.ended.ensures.done;
         noted = subst (λ (notes : Option (List ℕ)). StillGrows notes

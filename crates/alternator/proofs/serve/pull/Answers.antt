@@ -24,7 +24,8 @@ returns-in-Ok-at_hand-clause-went g c = λ s stands.
     c.at_hand.new.tables (unread c.args.lines.now)
     (subst (λ (u : Unread). Leads (state c.take.new.self)
     (state c.at_hand.new.shell) c.at_hand.new.tables (ServesAtHand s (asked_now u)))
-    c.end.ensures (c.in-Ok-at_hand.ensures.served s (stands_kept _ _ c.in-Ok.ensures.call.keeps _ s stands)))
+    c.end.ensures
+    (c.in-Ok-at_hand.ensures.served s (stands_kept _ _ c.in-Ok.ensures.call.keeps _ s stands)))
 
 pub returns-in-Err-clause-went : goal.returns-in-Err-clause-went
 returns-in-Err-clause-went g c = λ s stands.
@@ -69,7 +70,8 @@ returns-in-Ok-at_hand-2-clause-went g c = λ s stands.
     (unread c.args.lines.now) c.requires.going
     (take c.in-Ok.count c.take.new.buf) some c.in-Ok.ensures.taken c.in-Ok.ensures.moments
     c.at_hand-2.new.tables _ _ c.in-Ok-give.ensures.ok
-    (c.in-Ok-at_hand-2.ensures.served s (stands_kept _ _ c.in-Ok.ensures.call.keeps _ s stands)) c.in-Ok-at_hand-2.ensures.lines
+    (c.in-Ok-at_hand-2.ensures.served s (stands_kept _ _ c.in-Ok.ensures.call.keeps _ s stands))
+    c.in-Ok-at_hand-2.ensures.lines
 
 pub returns-in-Err-at_hand-clause-went : goal.returns-in-Err-at_hand-clause-went
 returns-in-Err-at_hand-clause-went g c = λ s stands.
@@ -89,7 +91,8 @@ returns-in-Err-at_hand-clause-went g c = λ s stands.
     (subst (λ (u : Unread). Stretch (state c.take.new.self)
     (state c.at_hand-2.new.shell) (BreaksAtHand c.in-Err-at_hand.fault s
     (asked_now u)))
-    c.in-Ok-give.ensures.ok (c.in-Err-at_hand.ensures.served s (stands_kept _ _ c.in-Ok.ensures.call.keeps _ s stands)))
+    c.in-Ok-give.ensures.ok
+    (c.in-Err-at_hand.ensures.served s (stands_kept _ _ c.in-Ok.ensures.call.keeps _ s stands)))
 
 pub at_hand-requires : goal.at_hand-requires
 at_hand-requires g c =

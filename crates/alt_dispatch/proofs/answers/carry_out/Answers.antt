@@ -1,0 +1,64 @@
+-- Each operation carries out what the machine's step makes of it.
+use Rattle.std.proofs.Common.{sym, subst}
+use Rattle.serde_json.specs.View.{members_view}
+use Rattle.alt_machine.specs.Step.{operates}
+use Rattle.alt_machine.specs.declared.Operation.{Operation}
+use Rattle.alt_request.specs.Carried.{Carries}
+use Rattle.alt_tables.specs.Stands.{Stands}
+use Rattle.alt_dispatch.proofs.answers.carry_out.Goals as goal
+
+pub returns-in-CreateTable-clause-carried : goal.returns-in-CreateTable-clause-carried
+returns-in-CreateTable-clause-carried g c =
+    subst (λ (o : Operation). Carries
+    (λ s. operates s o c.args.moment (members_view c.args.body.now.entries))
+    (Stands (g.D.Disk.state c.args.disk.now) c.args.tables.now)
+    (Stands (g.D.Disk.state c.create_table.new.disk) c.create_table.new.tables) c.create_table.result)
+    (sym c.in-CreateTable.is) c.create_table.ensures.carried
+
+pub returns-in-DescribeTable-clause-carried : goal.returns-in-DescribeTable-clause-carried
+returns-in-DescribeTable-clause-carried g c =
+    subst (λ (o : Operation). Carries
+    (λ s. operates s o c.args.moment (members_view c.args.body.now.entries))
+    (Stands (g.D.Disk.state c.args.disk.now) c.args.tables.now)
+    (Stands (g.D.Disk.state c.describe_table.new.disk) c.describe_table.new.tables) c.describe_table.result)
+    (sym c.in-DescribeTable.is) c.describe_table.ensures.carried
+
+pub returns-in-ListTables-clause-carried : goal.returns-in-ListTables-clause-carried
+returns-in-ListTables-clause-carried g c =
+    subst (λ (o : Operation). Carries
+    (λ s. operates s o c.args.moment (members_view c.args.body.now.entries))
+    (Stands (g.D.Disk.state c.args.disk.now) c.args.tables.now)
+    (Stands (g.D.Disk.state c.list_tables.new.disk) c.list_tables.new.tables) c.list_tables.result)
+    (sym c.in-ListTables.is) c.list_tables.ensures.carried
+
+pub returns-in-DeleteTable-clause-carried : goal.returns-in-DeleteTable-clause-carried
+returns-in-DeleteTable-clause-carried g c =
+    subst (λ (o : Operation). Carries
+    (λ s. operates s o c.args.moment (members_view c.args.body.now.entries))
+    (Stands (g.D.Disk.state c.args.disk.now) c.args.tables.now)
+    (Stands (g.D.Disk.state c.delete_table.new.disk) c.delete_table.new.tables) c.delete_table.result)
+    (sym c.in-DeleteTable.is) c.delete_table.ensures.carried
+
+pub returns-in-PutItem-clause-carried : goal.returns-in-PutItem-clause-carried
+returns-in-PutItem-clause-carried g c =
+    subst (λ (o : Operation). Carries
+    (λ s. operates s o c.args.moment (members_view c.args.body.now.entries))
+    (Stands (g.D.Disk.state c.args.disk.now) c.args.tables.now)
+    (Stands (g.D.Disk.state c.put_item.new.disk) c.put_item.new.tables) c.put_item.result)
+    (sym c.in-PutItem.is) c.put_item.ensures.carried
+
+pub returns-in-GetItem-clause-carried : goal.returns-in-GetItem-clause-carried
+returns-in-GetItem-clause-carried g c =
+    subst (λ (o : Operation). Carries
+    (λ s. operates s o c.args.moment (members_view c.args.body.now.entries))
+    (Stands (g.D.Disk.state c.args.disk.now) c.args.tables.now)
+    (Stands (g.D.Disk.state c.get_item.new.disk) c.get_item.new.tables) c.get_item.result)
+    (sym c.in-GetItem.is) c.get_item.ensures.carried
+
+pub returns-in-DeleteItem-clause-carried : goal.returns-in-DeleteItem-clause-carried
+returns-in-DeleteItem-clause-carried g c =
+    subst (λ (o : Operation). Carries
+    (λ s. operates s o c.args.moment (members_view c.args.body.now.entries))
+    (Stands (g.D.Disk.state c.args.disk.now) c.args.tables.now)
+    (Stands (g.D.Disk.state c.delete_item.new.disk) c.delete_item.new.tables) c.delete_item.result)
+    (sym c.in-DeleteItem.is) c.delete_item.ensures.carried

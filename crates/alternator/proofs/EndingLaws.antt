@@ -24,6 +24,7 @@ use Rattle.alternator.specs.declared.ending.Ending.TheVariants.{Whole, Words, No
 use Rattle.alternator.specs.declared.words.Job.{Job}
 use Rattle.alternator.specs.declared.words.Job.TheVariants.{Init, Replay, Serve}
 use Rattle.alternator.proofs.Serving.{stretch_quiet, stretch_as}
+use Rattle.alternator.proofs.Initing.{quiet_behind}
 use Rattle.alternator.proofs.Stopping.{leaves-before-aside}
 
 -- ---- what was done, whatever the cause was
@@ -269,7 +270,8 @@ module _ (b c : DiskState) (g : Grows b.beside c.beside [])
   still_done a None (Spent number) h = absurd h
   still_done a (Some Init) Whole h = stretch_quiet a b c {P = Makes} (makes_behind a) h aside g m
   still_done a (Some Init) Words h = absurd h
-  still_done a (Some Init) (NotEmpty first) h = h
+  still_done a (Some Init) (NotEmpty first) h = λ tells.
+      ((h tells).0, quiet_behind a b c aside (h tells).1)
   still_done a (Some Init) (Damaged file at) h = absurd h
   still_done a (Some Init) (BadRow family key) h = absurd h
   still_done a (Some Init) Device h = subst (Rose a.faults) (sym aside.faults) h
@@ -290,6 +292,23 @@ noted_done a b c job ending noted (inl same) g m aside h =
 noted_done a b c job ending noted (inr memory) g m aside h =
     subst (λ (e : Ending). HasDone job e a c) (sym memory.0)
     (still_done b c g m aside a job Memory (as_memory a b job ending memory.1 h))
+
+-- an ending with the status 0 was noted as it is
+pub noted_whole : (ending noted : Ending) → IsNoted ending noted → status_of noted ≡ 0
+    → ending ≡ Whole
+noted_whole ending noted (inl same) e = sym same ∙ whole_only noted e
+  where
+    whole_only : (noted : Ending) → status_of noted ≡ 0 → noted ≡ Whole
+    whole_only Whole e = refl
+    whole_only Words e = absurd (omega (arith, e))
+    whole_only (NotEmpty first) e = absurd (omega (arith, e))
+    whole_only (Damaged file at) e = absurd (omega (arith, e))
+    whole_only (BadRow family key) e = absurd (omega (arith, e))
+    whole_only Device e = absurd (omega (arith, e))
+    whole_only Memory e = absurd (omega (arith, e))
+    whole_only (Spent number) e = absurd (omega (arith, e))
+noted_whole ending noted (inr memory) e =
+    absurd (let s : 5 ≡ 0 = ap status_of (sym memory.0) ∙ e in let f : ⊥ = omega (arith, s) in f)
 
 -- ---- what the status tells
 
@@ -366,7 +385,7 @@ pub makes_all : (a b : DiskState) (ending : Ending) (status : ℕ) → status �
 makes_all a b Whole status e h trusted none well = inl e
 makes_all a b Words status e h trusted none well = absurd h
 makes_all a b (NotEmpty first) status e h trusted none well =
-    absurd ((h (tells_of a trusted)).there (none first))
+    absurd ((h (tells_of a trusted)).0.there (none first))
 makes_all a b (Damaged file at) status e h trusted none well = absurd h
 makes_all a b (BadRow family key) status e h trusted none well = absurd h
 makes_all a b Device status e h trusted none well = absurd (well h)

@@ -8,10 +8,12 @@ use Rattle.alt_lines.specs.Unread.{Unread, lines_now, lines_later, HasNone, Take
 use Rattle.alt_machine.specs.State.{State}
 use Rattle.alt_tables.specs.Stands.{Stands}
 use Rattle.alt_tables.specs.declared.tables.Tables.{Tables}
+use Rattle.alternator.specs.Rereading.{RereadsAtHand}
 use Rattle.alternator.specs.Runs.{Stretch, Leads, ServesAtHand, BreaksAtHand, HandsOut, asked_now, asked_later}
 use Rattle.alternator.specs.Turns.{Asked, asked_of}
 use Rattle.alternator.specs.declared.serve.RunFault.{RunFault}
 use Rattle.alternator.specs.declared.serve.RunFault.TheVariants.{NoMemory}
+use Rattle.alternator.proofs.Rereading.{at_hand_none, at_hand_then}
 use Rattle.alternator.proofs.Serving.{stretch_none, stretch_then, stretch_as, hand_none, hand_then, hand_break, hand_breaks_more, hand_stops}
 
 -- what is known of a value where there is one
@@ -27,6 +29,7 @@ pub record Hands (a : DiskState) (t0 : Tables) (b : DiskState) (t1 : Tables)
     (u v : Unread) : Type 0 where
   pub done : List Line
   pub serves : (s : State) → Stands a t0 s → Leads a b t1 (ServesAtHand s (map asked_of done))
+  pub rereads : RereadsAtHand (map asked_of done) a b
   pub now : lines_now u ≡ done ++ lines_now v
   pub most : v.most ≡ u.most
   pub ended : v.ended ≡ u.ended
@@ -42,6 +45,7 @@ hands_none a t0 u = record {
     stands = stands;
     calls = stretch_none a {P = ServesAtHand s [] s} (hand_none a t0 s stands);
   };
+  rereads = at_hand_none a;
   now = refl;
   most = refl;
   ended = refl;
@@ -53,8 +57,8 @@ module _ (a : DiskState) (t0 : Tables) (b : DiskState) (t1 : Tables) (u v w : Un
   -- one line more
   pub hands_line : (c : DiskState) (t2 : Tables)
       → ((s : State) → Stands b t1 s → Leads b c t2 (ServesAtHand s (asked_of line ∷ [])))
-      → Hands a t0 c t2 u w
-  hands_line c t2 go = record {
+      → RereadsAtHand (asked_of line ∷ []) b c → Hands a t0 c t2 u w
+  hands_line c t2 go again = record {
     done = p.done ++ line ∷ [];
     serves = λ s stands.
         let front = p.serves s stands in
@@ -71,6 +75,9 @@ module _ (a : DiskState) (t0 : Tables) (b : DiskState) (t1 : Tables) (u v w : Un
               (asked_of line ∷ []) es fs ms ns meet x y)
               front.calls q.calls);
         };
+    rereads = subst (λ (ls : List Asked). RereadsAtHand ls a c)
+        (sym (map-append asked_of p.done (line ∷ [])))
+        (at_hand_then a b c (map asked_of p.done) (asked_of line ∷ []) p.rereads again);
     now = p.now ∙ ap (λ (ls : List Line). p.done ++ ls) takes.now
         ∙ sym (append_assoc p.done (line ∷ []) (lines_now w));
     most = takes.most ∙ p.most;
@@ -126,6 +133,10 @@ module _ (a : DiskState) (t0 : Tables) (b : DiskState) (t1 : Tables) (u v : Unre
     pub hands_all : (s : State) → Stands a t0 s → Leads a b t1 (ServesAtHand s (asked_now u))
     hands_all s stands = subst (λ (ls : List Asked). Leads a b t1 (ServesAtHand s ls))
         served_lines (p.serves s stands)
+
+    -- which is so on any disk
+    pub hands_again : RereadsAtHand (asked_now u) a b
+    hands_again = subst (λ (ls : List Asked). RereadsAtHand ls a b) served_lines p.rereads
 
     nothing_more : lines_now w ≡ []
     nothing_more =

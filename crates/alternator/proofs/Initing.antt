@@ -1,14 +1,18 @@
--- A store that was made.
-use Rattle.std.proofs.Common.{◌≡◌, ℕ, List, [], ◌∷◌, Option, None, IsTrue, true, codes, refl, sym, ap, subst, ◌∙◌, arith}
+-- A store that was made, and one that was there.
+use Rattle.std.proofs.Common.{◌≡◌, ◌≢◌, ◌≤◌, ℕ, List, [], ◌∷◌, Option, None, IsTrue, true, codes, refl, sym, ap, subst, ◌∙◌, arith}
 use Rattle.alt_disk.specs.Fates.{Fates, Fits}
-use Rattle.alt_disk.specs.Disk.{DiskState, Goes, IsImage, IsTrusted}
+use Rattle.alt_disk.specs.Disk.{DiskState, Goes, IsImage, IsTrusted, now}
+use Rattle.alt_disk.specs.Runs.{Quiet}
 use Rattle.alt_disk.proofs.Runs.{trusted_on}
 use Rattle.alt_engine.specs.Image.{IsLayout}
 use Rattle.alt_engine.specs.Layout.{no_rows}
-use Rattle.alt_shell.specs.Calls.{Adds, ShellCall}
+use Rattle.alt_engine.specs.Making.{NamesFirst}
+use Rattle.alt_engine.specs.declared.make.MakeFault.{MakeFault}
+use Rattle.alt_engine.specs.declared.make.MakeFault.TheVariants.{NotEmpty}
+use Rattle.alt_shell.specs.Calls.{Adds, Aside, ShellCall}
 use Rattle.alt_shell.specs.Log.{Log, Grows, moments_of, entry, told_count, said}
 use Rattle.alt_shell.proofs.Telling.{Grows-then, Grows-nil, Tells-nil}
-use Rattle.alternator.specs.Endings.{Makes}
+use Rattle.alternator.specs.Endings.{Makes, IsFirstFile}
 use Rattle.alternator.specs.Runs.{Stretch}
 use Rattle.alternator.proofs.Stopping.{trusts-kept, within-wider}
 use Rattle.alt_tables.proofs.Left.{stands_made}
@@ -41,3 +45,24 @@ makes a b c goes call added m none images = record {
         (call.keeps.fates c.moment f call.keeps.later (omega arith)) (is_image f)));
   };
 }
+
+-- files that calls left are left behind a note
+pub quiet_behind : (a b c : DiskState) → Aside b c → Quiet a b → Quiet a c
+quiet_behind a b c aside p = record {
+  later = let k = aside.keeps.later in omega (arith, p.later, k);
+  past = λ t g le. aside.keeps.past t g (omega (arith, le, p.later)) ∙ p.past t g le;
+  file = λ g. aside.keeps.file g ∙ p.file g;
+  fates = λ t g low high.
+      let m = aside.moment in
+      let before : t ≤ b.moment = omega (arith, high, m) in
+      aside.keeps.past t g before ∙ p.fates t g low before;
+}
+
+-- where files were there, the first was named and all of them were left
+pub none_made : (a b : DiskState) (fault : MakeFault) (first : ℕ) → fault ≡ NotEmpty first
+    → (IsTrue a.tells → NamesFirst a.file fault)
+    → (IsTrue a.tells → (f : ℕ) → a.file f ≢ None → Quiet a b)
+    → IsTrue a.tells → IsFirstFile a.file first × Quiet a b
+none_made a b fault first same names left tells =
+    let named : NamesFirst a.file (NotEmpty first) = subst (NamesFirst a.file) same (names tells) in
+    (record { there = named.0; none = named.1 }, left tells first named.0)

@@ -7,6 +7,7 @@ pub mod Numbers
 pub mod Opening
 pub mod Passing
 pub mod Pulling
+pub mod Rereading
 pub mod Serving
 pub mod Stepping
 pub mod Stopping

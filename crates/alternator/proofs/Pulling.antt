@@ -29,7 +29,7 @@ some_is_no_end : (bytes : List ℕ) → 0 < length bytes → is_end (event_of (0
 some_is_no_end [] h = absurd (omega arith)
 some_is_no_end (b ∷ bytes) h = refl
 
-took_is_no_end : (told : ℕ) (bytes : List ℕ) → 0 < length bytes
+pub took_is_no_end : (told : ℕ) (bytes : List ℕ) → 0 < length bytes
     → is_end (event_of (0 ∷ told ∷ bytes)) ≡ false
 took_is_no_end told [] h = absurd (omega arith)
 took_is_no_end told (b ∷ bytes) h = refl
@@ -116,18 +116,18 @@ leaves_silent a b tables s u es stands keeps silent trusted =
     (stands_left a tables s stands image is_image))
 
 -- what a reader asks once it was given a piece
-given_now : (u : Unread) (piece : List ℕ) → u.ended ≡ false
+pub given_now : (u : Unread) (piece : List ℕ) → u.ended ≡ false
     → asked_now (record u { bytes = u.bytes ++ piece }) ≡ asked_later u piece false
 given_now u piece unended = ap (λ (e : Bool). map asked_of (lines_of u.most e (u.bytes ++ piece)))
     unended
 
-given_later : (u : Unread) (piece more : List ℕ) (e : Bool)
+pub given_later : (u : Unread) (piece more : List ℕ) (e : Bool)
     → asked_later (record u { bytes = u.bytes ++ piece }) more e ≡ asked_later u (piece ++ more) e
 given_later u piece more e = ap (λ (bs : List ℕ). map asked_of (lines_of u.most e bs))
     (append_assoc u.bytes piece more)
 
 -- what it asks once the input has ended
-ended_now : (u : Unread) → asked_now (record u { ended = true }) ≡ asked_later u [] true
+pub ended_now : (u : Unread) → asked_now (record u { ended = true }) ≡ asked_later u [] true
 ended_now u = ap (λ (bs : List ℕ). map asked_of (lines_of u.most true bs))
     (sym (append-nil u.bytes))
 

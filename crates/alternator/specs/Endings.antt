@@ -3,6 +3,7 @@ use Rattle.std.specs.Prelude.{◌≡◌, ◌≢◌, ◌<◌, ◌⊎◌, ℕ, Lis
 use Rattle.hex.specs.Hex.{encode_lower}
 use Rattle.alt_base.specs.Counts.{Rose}
 use Rattle.alt_disk.specs.Disk.{DiskState, IsImage, IsTrusted}
+use Rattle.alt_disk.specs.Runs.{Quiet}
 use Rattle.alt_machine.specs.State.{State, start}
 use Rattle.alt_shell.specs.Log.{Log, Grows, StillGrows, notes_of, moments_of, taken, said_in}
 use Rattle.alternator.specs.Faults.{IsUnreadable}
@@ -75,11 +76,12 @@ pub record IsFirstFile (files : ℕ → Option (List ℕ)) (first : ℕ) : Type 
   pub there : files first ≢ None
   pub none : (f : ℕ) → f < first → files f ≡ None
 
--- what a run of `init` has done that ended so
+-- What a run of `init` has done that ended so. Where a file was there it left all of them, in reads and in what a stop leaves at
+-- each moment.
 abbrev pub HasMade : Ending → DiskState → DiskState → Type 0
 HasMade Whole old new = Stretch old new Makes
 HasMade Words old new = ⊥
-HasMade (NotEmpty first) old new = IsTrue old.tells → IsFirstFile old.file first
+HasMade (NotEmpty first) old new = IsTrue old.tells → IsFirstFile old.file first × Quiet old new
 HasMade (Damaged file at) old new = ⊥
 HasMade (BadRow family key) old new = ⊥
 HasMade Device old new = Rose old.faults new.faults

@@ -2,6 +2,7 @@ pub mod Connections
 pub mod Endings
 pub mod Faults
 pub mod Moments
+pub mod Rereading
 pub mod Runs
 pub mod Stops
 pub mod Stretches

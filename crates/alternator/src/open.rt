@@ -1,6 +1,6 @@
 //! Opening the store: where a run begins, and again at the line `@reopen`.
 
-ghost use Rattle.std.specs.Prelude.{◌≡◌, IfOk, IfErr, OnErr, IsErrOf, IsTrue};
+ghost use Rattle.std.specs.Prelude.{◌≡◌, ℕ, IfOk, IfErr, OnErr, IsErrOf, IsTrue};
 ghost use Rattle.alt_base.specs.Counts.{Rose};
 ghost use Rattle.alt_disk.specs.Disk.{IsTrusted, Goes};
 ghost use Rattle.alt_machine.specs.State.{State};
@@ -33,6 +33,8 @@ pub(crate) fn open<D: Disk>(alloc: Global, disk: &mut D) -> Result<Tables, RunFa
         → (s : State) × StandsFor (D.state disk.old).file s) }
     ensures stands { IfOk result (λ t. IsTrusted (D.state disk.old) → (s : State)
         → StandsFor (D.state disk.old).file s → Stands (D.state disk.new) t s) }
+    ensures files { IsTrue (D.state disk.old).tells → (f : ℕ)
+        → (D.state disk.new).file f ≡ (D.state disk.old).file f }
     ensures leaves { AtEach (D.state disk.old) (D.state disk.new) (WasLeft (D.state disk.old)) }
     ensures unreadable { IsTrue (D.state disk.old).tells
         → IfErr result (IsUnreadable (D.state disk.old).file) }

@@ -1,6 +1,6 @@
 //! A run of the program, but for what `main` takes off the front.
 
-ghost use Rattle.std.specs.Prelude.{◌≡◌, ◌⊎◌, ◌↔◌, ◌<◌, ℕ, true, false, Some, None, length, IsTrue, IfOk, IfErr, IsErrOf, MatchResult};
+ghost use Rattle.std.specs.Prelude.{◌≡◌, ◌⊎◌, ◌↔◌, ◌<◌, ℕ, true, false, Some, None, length, IsTrue, IfOk, IfErr, OnOk, IsErrOf, MatchResult};
 ghost use Rattle.alt_base.specs.Counts.{Rose};
 ghost use Rattle.alt_disk.specs.Disk.{IsTrusted};
 ghost use Rattle.alt_machine.specs.State.{State};
@@ -8,14 +8,16 @@ ghost use Rattle.alt_shell.specs.Log.{talks};
 ghost use Rattle.alt_tables.specs.Stands.{AreReady, Stands};
 ghost use Rattle.alternator.specs.Endings.{Ended, HasDone, HasRun, Done, Broken, IsReadable};
 ghost use Rattle.alternator.specs.Faults.{IsUnreadable};
+ghost use Rattle.alternator.specs.Rereading.{ReadAgain};
 ghost use Rattle.alternator.specs.Runs.{Stretch, Passes, Answers, AnswersSome, IsOpening, Opened};
 ghost use Rattle.alternator.specs.TalkRules.{rules};
 ghost use Rattle.alternator.specs.TalkStops.{ServedOn, ServedSomeOn};
 ghost use Rattle.alternator.specs.Words.{job_of, bytes_of, IsServable, IsOverStore};
 ghost use Rattle.alternator.specs.declared.ending.Ending.{Ending as RunEnding};
+ghost use Rattle.alternator.specs.declared.ending.Ending.TheVariants.{Whole};
 ghost use Rattle.alternator.specs.declared.serve.RunFault.TheVariants.{Failed};
 ghost use Rattle.alternator.specs.declared.words.Job.{Job as RunJob};
-ghost use Rattle.alternator.specs.declared.words.Job.TheVariants.{Init};
+ghost use Rattle.alternator.specs.declared.words.Job.TheVariants.{Init, Replay};
 
 use crate::connection::connections;
 use crate::ending::{Ending, noted, status_of};
@@ -52,6 +54,7 @@ fn pulls<S: Shell>(
     ensures answered { (s : State) → Stands (S.state shell.old) tables.old s → MatchResult result
         (λ _. Stretch (S.state shell.old) (S.state shell.new) (Answers s))
         (λ f. Stretch (S.state shell.old) (S.state shell.new) (AnswersSome f s)) }
+    ensures reread { OnOk result (ReadAgain (S.state shell.old) (S.state shell.new)) }
     ensures cause { IsErrOf result RunFault.Failed
         → Rose (S.state shell.old).faults (S.state shell.new).faults }
     ensures passes { Passes (S.state shell.old) (S.state shell.new) }
@@ -74,6 +77,7 @@ fn replay<S: Shell>(alloc: Global, tables: &mut Tables, shell: &mut S) -> Result
     ensures answered { (s : State) → Stands (S.state shell.old) tables.old s → MatchResult result
         (λ _. Stretch (S.state shell.old) (S.state shell.new) (Answers s))
         (λ f. Stretch (S.state shell.old) (S.state shell.new) (AnswersSome f s)) }
+    ensures reread { OnOk result (ReadAgain (S.state shell.old) (S.state shell.new)) }
     ensures cause { IsErrOf result RunFault.Failed
         → Rose (S.state shell.old).faults (S.state shell.new).faults }
     ensures passes { Passes (S.state shell.old) (S.state shell.new) }
@@ -124,6 +128,8 @@ fn carry_out<S: Shell>(
     ensures done { (s : State) → Stands (S.state shell.old) tables.old s → MatchResult result
         (λ _. Done job s (S.state shell.old) (S.state shell.new))
         (λ f. Broken f job s (S.state shell.old) (S.state shell.new)) }
+    ensures reread { job ≡ Replay
+        → OnOk result (ReadAgain (S.state shell.old) (S.state shell.new)) }
     ensures cause { IsErrOf result RunFault.Failed
         → Rose (S.state shell.old).faults (S.state shell.new).faults }
     ensures passes { Passes (S.state shell.old) (S.state shell.new) }
@@ -150,6 +156,8 @@ fn over_store<S: Shell>(alloc: Global, job: Job, shell: &mut S) -> Result<(), Ru
         (λ f. (IsOpening (S.state shell.old) (S.state shell.new)
         × IsUnreadable (S.state shell.old).file f)
         ⊎ IsReadable (S.state shell.old).file) }
+    ensures reread { job ≡ Replay
+        → OnOk result (ReadAgain (S.state shell.old) (S.state shell.new)) }
     ensures cause { IsErrOf result RunFault.Failed
         → Rose (S.state shell.old).faults (S.state shell.new).faults }
     ensures passes { Passes (S.state shell.old) (S.state shell.new) }
@@ -166,6 +174,8 @@ fn finished<S: Shell>(alloc: Global, job: Job, shell: &mut S) -> Ending
     requires over { IsOverStore job }
     requires some { IsServable job }
     ensures done { HasRun job result (S.state shell.old) (S.state shell.new) }
+    ensures reread { job ≡ Replay → result ≡ Whole
+        → ReadAgain (S.state shell.old) (S.state shell.new) }
     ensures passes { Passes (S.state shell.old) (S.state shell.new) }
 {
     match over_store(alloc, job, shell) {
@@ -183,6 +193,8 @@ fn ended<S: Shell>(alloc: Global, words: &[String], shell: &mut S) -> Ending
     requires quiet { talks (S.state shell.old).beside ≡ false }
     ensures done { HasDone (job_of (bytes_of words.now)) result (S.state shell.old)
         (S.state shell.new) }
+    ensures reread { job_of (bytes_of words.now) ≡ Some Replay → result ≡ Whole
+        → ReadAgain (S.state shell.old) (S.state shell.new) }
     ensures passes { Passes (S.state shell.old) (S.state shell.new) }
 {
     match words::job_of(words) {
@@ -222,6 +234,11 @@ pub fn run<S: Shell>(alloc: Global, words: &[String], shell: &mut S) -> u8
         → ((f : ℕ) → (S.state shell.old).file f ≡ None)
         → ¬ (Rose (S.state shell.old).faults (S.state shell.new).faults)
         → (result ≡ 0) ⊎ (result ≡ 5) }
+
+    // Where the last line of a replay was `@reopen` and it ended with 0, the files stand for a state, as any disk reads them that tells
+    // them, also one that changed them by itself: they were read again.
+    ensures reread { job_of (bytes_of words.now) ≡ Some Replay → result ≡ 0
+        → ReadAgain (S.state shell.old) (S.state shell.new) }
 
     // Each connection was hung up.
     ensures quiet { talks (S.state shell.new).beside ≡ false }

@@ -11,6 +11,7 @@ ghost use Rattle.alt_shell.specs.Log.{talks};
 ghost use Rattle.alt_disk.specs.Disk.{IsTrusted};
 ghost use Rattle.alt_tables.specs.Images.{StandsFor};
 ghost use Rattle.alt_tables.specs.Stands.{AreReady, Stands};
+ghost use Rattle.alternator.specs.Rereading.{RereadsAtHand, RereadsOn};
 ghost use Rattle.alternator.specs.Runs.{Stretch, Passes, Leads, ServesAtHand, BreaksAtHand, HandsOut, GoesOrEnds, GoesSome, asked_now};
 ghost use Rattle.alternator.specs.Turns.{request, reopen as reopened, unread as no_request, asked_of};
 
@@ -53,6 +54,8 @@ fn answer_request<S: Shell>(
         (ServesAtHand s (request name.now body.now ∷ [])))
         (λ f. Stretch (S.state shell.old) (S.state shell.new)
         (BreaksAtHand f s (request name.now body.now ∷ []))) }
+    ensures reread { OnOk result (RereadsAtHand (request name.now body.now ∷ [])
+        (S.state shell.old) (S.state shell.new)) }
     ensures cause { IsErrOf result RunFault.Failed
         → Rose (S.state shell.old).faults (S.state shell.new).faults }
     ensures passes { Passes (S.state shell.old) (S.state shell.new) }
@@ -76,6 +79,8 @@ fn turn_away<S: Shell>(tables: &Tables, shell: &mut S) -> Result<(), RunFault>
         (ServesAtHand s (no_request ∷ [])))
         (λ f. Stretch (S.state shell.old) (S.state shell.new)
         (BreaksAtHand f s (no_request ∷ []))) }
+    ensures reread { OnOk result (RereadsAtHand (no_request ∷ [])
+        (S.state shell.old) (S.state shell.new)) }
     ensures cause { IsErrOf result RunFault.Failed
         → Rose (S.state shell.old).faults (S.state shell.new).faults }
     ensures passes { Passes (S.state shell.old) (S.state shell.new) }
@@ -97,6 +102,9 @@ fn reopen<S: Shell>(alloc: Global, tables: &mut Tables, shell: &mut S) -> Result
     // The tables are those of the files, whatever was in hand before.
     ensures opened { OnOk result (IsTrusted (S.state shell.old) → (r : State)
         → StandsFor (S.state shell.old).file r → Stands (S.state shell.new) tables.new r) }
+    // And these stand for a state, as any disk reads them that tells them.
+    ensures reread { OnOk result (RereadsAtHand (reopened ∷ [])
+        (S.state shell.old) (S.state shell.new)) }
     ensures cause { IsErrOf result RunFault.Failed
         → Rose (S.state shell.old).faults (S.state shell.new).faults }
     ensures passes { Passes (S.state shell.old) (S.state shell.new) }
@@ -127,6 +135,8 @@ fn answer_line<S: Shell>(
         (ServesAtHand s (asked_of taken ∷ [])))
         (λ f. Stretch (S.state shell.old) (S.state shell.new)
         (BreaksAtHand f s (asked_of taken ∷ []))) }
+    ensures reread { OnOk result ((taken : Line) → Tells taken cut [] line.now
+        → RereadsAtHand (asked_of taken ∷ []) (S.state shell.old) (S.state shell.new)) }
     ensures cause { IsErrOf result RunFault.Failed
         → Rose (S.state shell.old).faults (S.state shell.new).faults }
     ensures passes { Passes (S.state shell.old) (S.state shell.new) }
@@ -174,6 +184,8 @@ pub(crate) fn at_hand<S: Shell>(
         (ServesAtHand s (asked_now (unread lines.old))))
         (λ f. Stretch (S.state shell.old) (S.state shell.new)
         (BreaksAtHand f s (asked_now (unread lines.old)))) }
+    ensures reread { OnOk result (RereadsAtHand (asked_now (unread lines.old))
+        (S.state shell.old) (S.state shell.new)) }
     ensures lines { OnOk result (HandsOut (unread lines.old) (unread lines.new)) }
     ensures cause { IsErrOf result RunFault.Failed
         → Rose (S.state shell.old).faults (S.state shell.new).faults }
@@ -209,6 +221,8 @@ pub(crate) fn pull<S: Shell>(
         (λ t. GoesOrEnds more s (unread lines.old) t (unread lines.new)))
         (λ f. Stretch (S.state shell.old) (S.state shell.new)
         (GoesSome f s (unread lines.old))) }
+    ensures reread { IfOk result (λ more. RereadsOn more (unread lines.old) (unread lines.new)
+        (S.state shell.old) (S.state shell.new)) }
     ensures going { IfOk result (λ more. more ≡ true → (unread lines.new).ended ≡ false) }
     ensures time { OnOk result ((S.state shell.old).moment < (S.state shell.new).moment) }
     ensures within { OnOk result ((S.state shell.old).moment < 2 ^ 64 - 1) }

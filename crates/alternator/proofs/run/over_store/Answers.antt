@@ -2,6 +2,7 @@ use Rattle.std.proofs.Common.{◌∙◌, ap, inl}
 use Rattle.alt_disk.proofs.Runs.{tells_of, trusted_back}
 use Rattle.alt_shell.specs.Log.{talks}
 use Rattle.alternator.proofs.Opening.{opening_of, opened_result}
+use Rattle.alternator.proofs.Rereading.{opened_again}
 use Rattle.alternator.proofs.run.over_store.Goals as goal
 
 pub returns-in-Err-clause-done : goal.returns-in-Err-clause-done
@@ -41,3 +42,9 @@ returns-in-Ok-clause-done g c = λ trusted.
     opened_result old (state c.open.new.disk) (state c.carry_out.new.shell) stood.0 c.args.job stood.1
     c.in-Ok.ensures.goes c.in-Ok.ensures.leaves c.carry_out.result
     (c.carry_out.ensures.done stood.0 (c.in-Ok.ensures.stands trusted stood.0 stood.1))
+
+pub returns-in-Ok-clause-reread : goal.returns-in-Ok-clause-reread
+returns-in-Ok-clause-reread g c = λ is.
+    let state = g.S.Disk.state in
+    opened_again (state c.args.shell.now) (state c.open.new.disk) (state c.carry_out.new.shell)
+    c.in-Ok.ensures.goes c.carry_out.result (c.carry_out.ensures.reread is)

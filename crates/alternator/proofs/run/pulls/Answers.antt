@@ -2,9 +2,12 @@ use Rattle.std.proofs.Common.{Bool, ap, subst, sym}
 use Rattle.alt_lines.specs.Reader.{unread}
 use Rattle.alt_lines.specs.Unread.{Unread}
 use Rattle.alt_machine.specs.State.{State}
+use Rattle.alt_disk.specs.Disk.{DiskState}
+use Rattle.alternator.specs.Rereading.{RereadsSome, RereadsOn}
 use Rattle.alternator.specs.Runs.{Leads, Goes, GoesOrEnds, GoesSome, Ends, Answers, AnswersSome}
 use Rattle.alternator.proofs.Passing.{passes_none, passes_then, passes_back}
 use Rattle.alternator.proofs.Pulling.{fresh, goes_none, goes_then, goes_ends, goes_breaks, answers_all, answers_some}
+use Rattle.alternator.proofs.Rereading.{some_none, some_then, rest_then, read_again}
 use Rattle.alternator.proofs.Serving.{stretch_as}
 use Rattle.alternator.proofs.run.pulls.Goals as goal
 
@@ -16,6 +19,8 @@ pulls-init g c =
           (goes_none old c.args.tables.now s fresh stands),
       passes_none _,
       ap (λ (u : Unread). u.ended) c.new-lines.ensures,
+      subst (λ (u : Unread). RereadsSome fresh u old old) (sym c.new-lines.ensures)
+          (some_none old fresh),
     )
 
 pub pulls-preserved : goal.pulls-preserved
@@ -32,6 +37,11 @@ pulls-preserved g c =
           c.pull.new.tables (unread c.pull.new.lines) went,
       passes_then _ _ _ c.pulls.invariant.1 c.pull.ensures.passes,
       c.in-Ok-true.ensures.going c.in-Ok-true.field-0-test,
+      some_then (state c.args.shell.now) (state c.pulls.shell) (state c.pull.new.shell) fresh
+          (unread c.pulls.lines) c.pulls.invariant.3 (unread c.pull.new.lines)
+          (subst (λ (more : Bool). RereadsOn more (unread c.pulls.lines)
+          (unread c.pull.new.lines) (state c.pulls.shell) (state c.pull.new.shell))
+          c.in-Ok-true.field-0-test c.in-Ok-true.ensures.reread),
     )
 
 pub returns-in-Ok-false-clause-answered : goal.returns-in-Ok-false-clause-answered
@@ -48,6 +58,18 @@ returns-in-Ok-false-clause-answered g c = λ s stands.
     (goes_ends (state c.args.shell.now) (state c.pulls.shell)
     (state c.pull.new.shell) c.pulls.tables s fresh (unread c.pulls.lines) front
     c.pull.new.tables went)
+
+pub returns-in-Ok-false-clause-reread : goal.returns-in-Ok-false-clause-reread
+returns-in-Ok-false-clause-reread g c =
+    let state = g.S.Disk.state in
+    let old : DiskState = state c.args.shell.now in
+    let mid : DiskState = state c.pulls.shell in
+    let new : DiskState = state c.pull.new.shell in
+    read_again old new (passes_then old mid new c.pulls.invariant.1 c.pull.ensures.passes).tells
+    (rest_then old mid new fresh (unread c.pulls.lines) c.pulls.invariant.3
+    (subst (λ (more : Bool). RereadsOn more (unread c.pulls.lines)
+    (unread c.pull.new.lines) mid new)
+    c.in-Ok-false.field-0-test c.in-Ok-false.ensures.reread))
 
 pub returns-in-Err-clause-answered : goal.returns-in-Err-clause-answered
 returns-in-Err-clause-answered g c = λ s stands.

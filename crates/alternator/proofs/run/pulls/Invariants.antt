@@ -2,6 +2,7 @@ use Rattle.std.proofs.Common.{◌≡◌, ◌-◌, ◌^◌, false}
 use Rattle.alt_lines.specs.Reader.{unread}
 use Rattle.alt_machine.specs.State.{State}
 use Rattle.alt_tables.specs.Stands.{Stands}
+use Rattle.alternator.specs.Rereading.{RereadsSome}
 use Rattle.alternator.specs.Runs.{Passes, Leads, Goes}
 use Rattle.alternator.proofs.Pulling.{fresh}
 use Rattle.alternator.proofs.run.pulls.Given as goal
@@ -13,6 +14,7 @@ invariant-pulls g l =
     → Leads (state l.initial.shell) (state l.shell) l.tables (λ t. Goes s fresh t (unread l.lines)))
     × Passes (state l.initial.shell) (state l.shell)
     × ((unread l.lines).ended ≡ false)
+    × RereadsSome fresh (unread l.lines) (state l.initial.shell) (state l.shell)
 
 abbrev pub decreases-pulls : goal.decreases-pulls
 decreases-pulls g l = 2 ^ 64 - 1 - (g.S.Disk.state l.shell).moment

@@ -3,7 +3,8 @@ use Rattle.alt_shell.specs.Log.{StillGrows, notes_of}
 use Rattle.alternator.specs.Endings.{HasDone, note_of}
 use Rattle.alternator.specs.Words.{job_of, bytes_of}
 use Rattle.alternator.specs.declared.words.Job.{Job}
-use Rattle.alternator.proofs.EndingLaws.{noted_done, words_end, completes, makes_all}
+use Rattle.alternator.proofs.EndingLaws.{noted_done, noted_whole, words_end, completes, makes_all}
+use Rattle.alternator.proofs.Rereading.{read_again_noted}
 use Rattle.alternator.proofs.run.run.Goals as goal
 
 pub returns-clause-ended : goal.returns-clause-ended
@@ -46,6 +47,15 @@ returns-clause-made g c = λ job trusted none well.
     c.noted-ending.result c.noted-ending.ensures.ending c.noted-ending.ensures.silent
     c.noted-ending.ensures.unasked c.noted-ending.ensures.aside c.ended.ensures.done))
     trusted none well
+
+pub returns-clause-reread : goal.returns-clause-reread
+returns-clause-reread g c = λ job e.
+    let state = g.S.Disk.state in
+    read_again_noted (state c.args.shell.now) (state c.ended.new.shell)
+    (state c.noted-ending.new.shell) c.noted-ending.ensures.silent
+    c.noted-ending.ensures.aside.keeps
+    (c.ended.ensures.reread job (noted_whole c.ended.result c.noted-ending.result
+    c.noted-ending.ensures.ending (sym c.status_of.ensures ∙ e)))
 
 pub returns-clause-words : goal.returns-clause-words
 returns-clause-words g c =

@@ -4,6 +4,7 @@ use Rattle.alternator.specs.Turns.{request, carried_out}
 use Rattle.alternator.proofs.Serving.{turn_served, turn_cut, turn_unsaid}
 use Rattle.alternator.proofs.Stopping.{ready_kept, stands_kept}
 use Rattle.alternator.proofs.Beginning.{begins}
+use Rattle.alternator.proofs.Rereading.{at_hand_said, silent_then, rereads_request}
 use Rattle.alternator.proofs.serve.answer_request.Goals as goal
 
 pub returns-in-Err-clause-served : goal.returns-in-Err-clause-served
@@ -38,6 +39,19 @@ returns-in-Ok-say-clause-served g c = λ s stands.
     (c.in-Ok.ensures.enough s here) (c.in-Ok.ensures.state s here)
     c.in-Ok-say.ensures.call c.in-Ok-say.ensures.said c.in-Ok-say.ensures.moments
     (c.as_bytes.ensures.value ∙ c.in-Ok.ensures.text s here)
+
+pub returns-in-Ok-say-clause-reread : goal.returns-in-Ok-say-clause-reread
+returns-in-Ok-say-clause-reread g c =
+    let state = g.S.Disk.state in
+    let old : DiskState = state c.args.shell.now in
+    let mid : DiskState = state c.now-moment.new.self in
+    let asked : DiskState = state c.reply_text.new.disk in
+    let new : DiskState = state c.say.new.self in
+    at_hand_said old asked new c.as_bytes.result.now
+    (request c.args.name.now c.args.body.now ∷ [])
+    (silent_then old mid asked c.now-moment.ensures.log c.in-Ok.ensures.goes)
+    c.in-Ok-say.ensures.said
+    (rereads_request old new c.args.name.now c.args.body.now)
 
 pub returns-clause-served : goal.returns-clause-served
 returns-clause-served g c = λ s stands.

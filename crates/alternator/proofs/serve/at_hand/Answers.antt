@@ -2,7 +2,7 @@ use Rattle.std.proofs.Common.{◌∙◌, ℕ, List, [], sym, subst}
 use Rattle.alt_lines.specs.Reader.{unread}
 use Rattle.alt_lines.specs.Unread.{Tells}
 use Rattle.alternator.specs.Runs.{Stretch, BreaksAtHand, asked_now}
-use Rattle.alternator.proofs.Hands.{at_some, at_none, hands_none, hands_line, hands_break, hands_memory, hands_all, hands_out}
+use Rattle.alternator.proofs.Hands.{at_some, at_none, hands_none, hands_line, hands_break, hands_memory, hands_all, hands_again, hands_out}
 use Rattle.alternator.proofs.Passing.{passes_none, passes_then, passes_back}
 use Rattle.alternator.specs.declared.serve.RunFault.{RunFault}
 use Rattle.alternator.proofs.serve.at_hand.Goals as goal
@@ -20,7 +20,7 @@ lines-preserved g c =
           (unread c.args.lines.now) (unread c.lines.lines)
           (unread c.next_line.new.lines) found.0 c.lines.invariant.0 found.2
           (state c.answer_line.new.shell) c.answer_line.new.tables
-          (c.in-Ok.ensures.served found.0 told),
+          (c.in-Ok.ensures.served found.0 told) (c.in-Ok.ensures.reread found.0 told),
       passes_then _ _ _ c.lines.invariant.1 c.in-Ok.ensures.passes,
     )
 
@@ -43,6 +43,14 @@ returns-in-Ok-None-clause-served g c = λ s stands.
     (unread c.args.lines.now) (unread c.lines.lines) c.lines.invariant.0
     (unread c.next_line.new.lines) (at_none _ _ c.in-Ok-None.field-0-is
     c.in-Ok-None.ensures.none) s stands
+
+pub returns-in-Ok-None-clause-reread : goal.returns-in-Ok-None-clause-reread
+returns-in-Ok-None-clause-reread g c =
+    let state = g.S.Disk.state in
+    hands_again (state c.args.shell.now) c.args.tables.now (state c.lines.shell) c.lines.tables
+    (unread c.args.lines.now) (unread c.lines.lines) c.lines.invariant.0
+    (unread c.next_line.new.lines) (at_none _ _ c.in-Ok-None.field-0-is
+    c.in-Ok-None.ensures.none)
 
 pub returns-in-Ok-None-clause-lines : goal.returns-in-Ok-None-clause-lines
 returns-in-Ok-None-clause-lines g c =

@@ -3,6 +3,7 @@ use Rattle.alt_lines.specs.Reader.{unread}
 use Rattle.alt_lines.specs.Unread.{Unread}
 use Rattle.alternator.specs.Runs.{Stretch, Leads, ServesAtHand, BreaksAtHand, asked_now}
 use Rattle.alternator.proofs.Pulling.{pull_goes, pull_breaks, pull_memory, pull_ends, pull_end_breaks, pull_failed}
+use Rattle.alternator.proofs.Rereading.{some_taken, rest_taken}
 use Rattle.alternator.proofs.Stopping.{ready_kept, stands_kept}
 use Rattle.alternator.proofs.serve.pull.Goals as goal
 
@@ -26,6 +27,15 @@ returns-in-Ok-at_hand-clause-went g c = λ s stands.
     (state c.at_hand.new.shell) c.at_hand.new.tables (ServesAtHand s (asked_now u)))
     c.end.ensures
     (c.in-Ok-at_hand.ensures.served s (stands_kept _ _ c.in-Ok.ensures.call.keeps _ s stands)))
+
+pub returns-in-Ok-at_hand-clause-reread : goal.returns-in-Ok-at_hand-clause-reread
+returns-in-Ok-at_hand-clause-reread g c =
+    let state = g.S.Disk.state in
+    let none : take c.in-Ok.count c.take.new.buf ≡ [] = grind arith in
+    rest_taken (state c.args.shell.now) (state c.take.new.self) (state c.at_hand.new.shell)
+    c.in-Ok.ensures.call.keeps (unread c.args.lines.now)
+    (take c.in-Ok.count c.take.new.buf) none c.in-Ok.ensures.taken _ c.end.ensures
+    c.in-Ok-at_hand.ensures.reread
 
 pub returns-in-Err-clause-went : goal.returns-in-Err-clause-went
 returns-in-Err-clause-went g c = λ s stands.
@@ -72,6 +82,21 @@ returns-in-Ok-at_hand-2-clause-went g c = λ s stands.
     c.at_hand-2.new.tables _ _ c.in-Ok-give.ensures.ok
     (c.in-Ok-at_hand-2.ensures.served s (stands_kept _ _ c.in-Ok.ensures.call.keeps _ s stands))
     c.in-Ok-at_hand-2.ensures.lines
+
+pub returns-in-Ok-at_hand-2-clause-reread : goal.returns-in-Ok-at_hand-2-clause-reread
+returns-in-Ok-at_hand-2-clause-reread g c =
+    let state = g.S.Disk.state in
+    let some : 0 < length (take c.in-Ok.count c.take.new.buf) =
+    omega (
+      arith,
+      length-take c.in-Ok.count c.take.new.buf,
+      c.in-Ok.ensures.count,
+      c.if-count-eq0.false,
+    ) in
+    some_taken (state c.args.shell.now) (state c.take.new.self) (state c.at_hand-2.new.shell)
+    c.in-Ok.ensures.call.keeps (unread c.args.lines.now) c.requires.going
+    (take c.in-Ok.count c.take.new.buf) some c.in-Ok.ensures.taken _ _
+    c.in-Ok-give.ensures.ok c.in-Ok-at_hand-2.ensures.reread c.in-Ok-at_hand-2.ensures.lines
 
 pub returns-in-Err-at_hand-clause-went : goal.returns-in-Err-at_hand-clause-went
 returns-in-Err-at_hand-clause-went g c = λ s stands.

@@ -1,10 +1,11 @@
-use Rattle.std.proofs.Common.{[], refl}
+use Rattle.std.proofs.Common.{◌∷◌, [], refl}
 use Rattle.alternator.specs.Turns.{reopen, opened_again}
 use Rattle.alternator.proofs.Beginning.{begins_again}
 use Rattle.alt_disk.proofs.Runs.{tells_of}
 use Rattle.alternator.proofs.Opening.{still_stands, readable_cause}
 use Rattle.alt_tables.proofs.Left.{stands_read, stands_trusted}
 use Rattle.alternator.proofs.Stopping.{stands_kept}
+use Rattle.alternator.proofs.Rereading.{at_hand_said, silent_of, rereads_opened}
 use Rattle.alternator.proofs.Serving.{turn_served, turn_cut, turn_unsaid}
 use Rattle.alternator.proofs.serve.reopen.Goals as goal
 
@@ -49,3 +50,15 @@ returns-in-Ok-say-clause-opened g c = λ trusted r stood.
     let state = g.S.Disk.state in
     stands_kept (state c.open.new.disk) (state c.say.new.self) c.in-Ok-say.ensures.call.keeps
     c.in-Ok.opened r (c.in-Ok.ensures.stands trusted r stood)
+
+pub returns-in-Ok-say-clause-reread : goal.returns-in-Ok-say-clause-reread
+returns-in-Ok-say-clause-reread g c =
+    let state = g.S.Disk.state in
+    let old = state c.args.shell.now in
+    let mid = state c.open.new.disk in
+    let new = state c.say.new.self in
+    at_hand_said old mid new opened_again.text (reopen ∷ [])
+    (silent_of old mid c.in-Ok.ensures.goes)
+    c.in-Ok-say.ensures.said
+    (rereads_opened old mid new c.in-Ok.ensures.goes c.in-Ok-say.ensures.call.keeps
+    c.in-Ok.ensures.reads c.in-Ok.ensures.files)

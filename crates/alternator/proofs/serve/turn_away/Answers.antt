@@ -2,6 +2,8 @@ use Rattle.std.proofs.Common.{[], refl}
 use Rattle.alternator.specs.Turns.{unread, turned_away}
 use Rattle.alternator.proofs.Serving.{turn_served, turn_cut}
 use Rattle.alternator.proofs.Beginning.{begins_away}
+use Rattle.alt_shell.proofs.Telling.{Grows-nil}
+use Rattle.alternator.proofs.Rereading.{at_hand_said, rereads_unread}
 use Rattle.alternator.proofs.serve.turn_away.Goals as goal
 
 pub returns-in-Ok-clause-served : goal.returns-in-Ok-clause-served
@@ -11,6 +13,14 @@ returns-in-Ok-clause-served g c = λ s stands.
     turn_served old old (state c.say.new.self) c.args.tables.now s unread turned_away []
     turned_away.text (begins_away old c.args.tables.now s stands) refl stands
     c.in-Ok.ensures.call c.in-Ok.ensures.said c.in-Ok.ensures.moments refl
+
+pub returns-in-Ok-clause-reread : goal.returns-in-Ok-clause-reread
+returns-in-Ok-clause-reread g c =
+    let state = g.S.Disk.state in
+    let old = state c.args.shell.now in
+    let new = state c.say.new.self in
+    at_hand_said old old new turned_away.text (unread ∷ []) (Grows-nil old.beside)
+    c.in-Ok.ensures.said (rereads_unread old new)
 
 pub returns-in-Err-clause-served : goal.returns-in-Err-clause-served
 returns-in-Err-clause-served g c = λ s stands.

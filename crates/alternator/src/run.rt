@@ -235,8 +235,8 @@ pub fn run<S: Shell>(alloc: Global, words: &[String], shell: &mut S) -> u8
         → ¬ (Rose (S.state shell.old).faults (S.state shell.new).faults)
         → (result ≡ 0) ⊎ (result ≡ 5) }
 
-    // Where the last line of a replay was `@reopen` and it ended with 0, the files stand for a state, as any disk reads them that tells
-    // them, also one that changed them by itself: they were read again.
+    // Where the last line of a replay was `@reopen` and it ended with 0, the files stand for a state, as they read on any disk that
+    // tells them, also on one that changed them by itself: they were read again.
     ensures reread { job_of (bytes_of words.now) ≡ Some Replay → result ≡ 0
         → ReadAgain (S.state shell.old) (S.state shell.new) }
 

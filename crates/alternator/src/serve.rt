@@ -102,7 +102,7 @@ fn reopen<S: Shell>(alloc: Global, tables: &mut Tables, shell: &mut S) -> Result
     // The tables are those of the files, whatever was in hand before.
     ensures opened { OnOk result (IsTrusted (S.state shell.old) → (r : State)
         → StandsFor (S.state shell.old).file r → Stands (S.state shell.new) tables.new r) }
-    // And these stand for a state, as any disk reads them that tells them.
+    // And the files stand for a state, as they read on any disk that tells them.
     ensures reread { OnOk result (RereadsAtHand (reopened ∷ [])
         (S.state shell.old) (S.state shell.new)) }
     ensures cause { IsErrOf result RunFault.Failed

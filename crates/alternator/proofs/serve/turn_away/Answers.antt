@@ -1,4 +1,4 @@
-use Rattle.std.proofs.Common.{[], refl}
+use Rattle.std.proofs.Common.{◌∷◌, [], refl}
 use Rattle.alternator.specs.Turns.{unread, turned_away}
 use Rattle.alternator.proofs.Serving.{turn_served, turn_cut}
 use Rattle.alternator.proofs.Beginning.{begins_away}

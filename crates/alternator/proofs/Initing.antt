@@ -1,7 +1,7 @@
 -- A store that was made, and one that was there.
 use Rattle.std.proofs.Common.{◌≡◌, ◌≢◌, ◌≤◌, ℕ, List, [], ◌∷◌, Option, None, IsTrue, true, codes, refl, sym, ap, subst, ◌∙◌, arith}
 use Rattle.alt_disk.specs.Fates.{Fates, Fits}
-use Rattle.alt_disk.specs.Disk.{DiskState, Goes, IsImage, IsTrusted, now}
+use Rattle.alt_disk.specs.Disk.{DiskState, Goes, IsImage, IsTrusted}
 use Rattle.alt_disk.specs.Runs.{Quiet}
 use Rattle.alt_disk.proofs.Runs.{trusted_on}
 use Rattle.alt_engine.specs.Image.{IsLayout}

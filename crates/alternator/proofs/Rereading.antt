@@ -1,5 +1,5 @@
 -- Lines and more lines, on any disk: where the last was `@reopen` the files stand for a state.
-use Rattle.std.proofs.Common.{◌≡◌, ◌<◌, ℕ, List, [], ◌∷◌, ◌++◌, length, Bool, true, false, IsTrue, Option, refl, sym, ap, subst, ◌∙◌, append_assoc, append-nil}
+use Rattle.std.proofs.Common.{◌≡◌, ◌<◌, ℕ, List, [], ◌∷◌, ◌++◌, length, Bool, true, false, IsTrue, refl, sym, ap, subst, ◌∙◌, append_assoc, append-nil}
 use Rattle.std.proofs.Math.Path.{fun_ext}
 use Rattle.std.specs.Prelude.{◌||◌, Result, Ok, Err, OnOk}
 use Rattle.alt_disk.specs.Disk.{DiskState, Goes}
@@ -9,7 +9,7 @@ use Rattle.alt_shell.specs.Log.{Log, Grows, entry, told_count, took, said, taken
 use Rattle.alt_shell.proofs.Telling.{Grows-then, Grows-nil}
 use Rattle.alternator.specs.Endings.{IsReadable}
 use Rattle.alternator.specs.Rereading.{ReadAgain, last_reopens, AreReadable, Rereads, RereadsAtHand, RereadsSome, RereadsRest}
-use Rattle.alternator.specs.Runs.{Rests, HandsOut, asked_now, asked_later}
+use Rattle.alternator.specs.Runs.{HandsOut, asked_now, asked_later}
 use Rattle.alternator.specs.declared.serve.RunFault.{RunFault}
 use Rattle.alternator.specs.Turns.{Asked, request, reopen, unread}
 use Rattle.alternator.proofs.Pulling.{fresh, took_is_no_end, given_now, given_later, ended_now}

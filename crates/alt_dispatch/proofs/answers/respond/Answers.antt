@@ -20,8 +20,8 @@ returns-in-Ok-Some-clause-carried g c =
     let old = Stands (g.D.Disk.state c.args.disk.now) c.args.tables.now in
     let new = Stands (g.D.Disk.state c.carry_out.new.disk) c.carry_out.new.tables in
     let e : Some (members_view c.in-Ok-Some.members.entries) ≡ body_of c.args.body.now =
-        ap (option_map (λ m. members_view m.entries)) (sym c.in-Ok-Some.field-0-is)
-        ∙ c.in-Ok-Some.ensures in
+    ap (option_map (λ m. members_view m.entries)) (sym c.in-Ok-Some.field-0-is)
+    ∙ c.in-Ok-Some.ensures in
     subst (λ (o : Option Operation). Carries (λ s. step s o c.args.body.now c.args.moment) old new
     c.carry_out.result) (sym c.in-Some.is)
     (subst (λ (b : Option Members). Carries (λ s. with_body s c.in-Some.operation c.args.moment b)

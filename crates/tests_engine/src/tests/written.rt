@@ -1,8 +1,12 @@
 //! A store that is written, stopped, and opened again.
 
+ghost use Rattle.std.specs.Prelude.{IfSome};
+ghost use Rattle.alt_disk.specs.MemoryState.{state_of};
+ghost use Rattle.tests_engine.specs.Ready.{IsReady};
+
 use alt_cells::{Batch, CellList, RowChange, ShownRow};
 use alt_disk::{Disk, MemoryDisk};
-use alt_engine::{Engine, EngineFault, make_store};
+use alt_engine::{Engine, make_store};
 use alt_fields::Bytes;
 use alt_keyorder::KeyRange;
 use std::alloc::Global;
@@ -10,8 +14,11 @@ use std::alloc::Global;
 // Rows of family 7, by what the writes below leave: a key, and the value of column `v`.
 static LEFT: [(&[u8], &[u8]); 3] = [(b"a", b"two"), (b"c", b"three"), (b"cc", b"four")];
 
-// The writes: a key, and its value, or none where the row goes.
-static WRITES: [(&[u8], &[u8]); 6] = [
+// A key, and its value, or none where the row goes.
+type Write = (&'static [u8], &'static [u8]);
+
+// The writes.
+static WRITES: [Write; 6] = [
     (b"a", b"one"),
     (b"b", b"one"),
     (b"cc", b"four"),
@@ -41,14 +48,43 @@ fn batch_of(alloc: Global, key: &[u8], value: &[u8]) -> Option<Batch> {
     Some(batch)
 }
 
+// The engine of the store on a disk.
+fn opened(alloc: Global, disk: &mut MemoryDisk) -> Option<Engine>
+    ensures { IfSome result (IsReady (state_of disk.new)) }
+{
+    match Engine::recover(alloc, disk) {
+        Ok(engine) => Some(engine),
+        Err(_) => None,
+    }
+}
+
+// Makes one write.
+fn put(alloc: Global, engine: &mut Engine, disk: &mut MemoryDisk, write: &Write) -> Option<u64>
+    requires { IsReady (state_of disk.old) engine.old }
+    ensures { IfSome result (λ _. IsReady (state_of disk.new) engine.new) }
+{
+    let batch = batch_of(alloc, write.0, write.1)?;
+    match engine.apply(disk, &batch) {
+        Ok(number) => Some(number),
+        Err(_) => None,
+    }
+}
+
+// A disk with a fresh store.
+fn fresh(alloc: Global) -> Option<MemoryDisk> {
+    let mut disk = MemoryDisk::new(alloc);
+    match make_store(alloc, &mut disk) {
+        Ok(()) => Some(disk),
+        Err(_) => None,
+    }
+}
+
 // A disk with a store of all writes.
 fn written(alloc: Global) -> Option<MemoryDisk> {
-    let mut disk = MemoryDisk::new(alloc);
-    make_store(alloc, &mut disk).ok()?;
-    let mut engine = Engine::recover(alloc, &mut disk).ok()?;
-    for (key, value) in &WRITES {
-        let batch = batch_of(alloc, key, value)?;
-        engine.apply(&mut disk, &batch).ok()?;
+    let mut disk = fresh(alloc)?;
+    let mut engine = opened(alloc, &mut disk)?;
+    for write in &WRITES {
+        let _ = put(alloc, &mut engine, &mut disk, write)?;
     }
     Some(disk)
 }
@@ -86,7 +122,7 @@ fn lasts(alloc: Global) -> Option<bool> {
     let disk = written(alloc)?;
     let (now, _) = disk.counts();
     let mut left = disk.stopped(now, &[]).ok()?;
-    let mut engine = Engine::recover(alloc, &mut left).ok()?;
+    let mut engine = opened(alloc, &mut left)?;
     let gone = engine.row(&mut left, 7, b"b").ok()?.is_none();
     let first = engine.first_from(&mut left, 3).ok()??;
     Some(
@@ -115,8 +151,12 @@ fn leaves(
     choice: &[u8],
     count: u64,
 ) -> Option<bool> {
+    let (now, _) = disk.counts();
+    if moment > now {
+        return None;
+    }
     let mut left = disk.stopped(moment, choice).ok()?;
-    let next = Engine::recover(alloc, &mut left).ok()?.next_number();
+    let next = opened(alloc, &mut left)?.next_number();
     Some(next > count && next - count <= 2)
 }
 
@@ -135,32 +175,34 @@ fn stops_whole(
     alloc: Global,
     disk: &mut MemoryDisk,
     engine: &mut Engine,
-    write: &(&[u8], &[u8]),
+    write: &Write,
     count: u64,
-) -> Option<bool> {
-    let batch = batch_of(alloc, write.0, write.1)?;
+) -> Option<bool>
+    requires { IsReady (state_of disk.old) engine.old }
+    ensures { IfSome result (λ _. IsReady (state_of disk.new) engine.new) }
+{
     let (from, _) = disk.counts();
-    engine.apply(disk, &batch).ok()?;
+    let _ = put(alloc, engine, disk, write)?;
     let (to, _) = disk.counts();
     for moment in from..to {
         if !leaves_always(alloc, disk, moment, count)? {
             return Some(false);
         }
     }
+    if from > to || count >= 9 {
+        return None;
+    }
     Some(to - from == 4 && leaves_always(alloc, disk, to, count + 1)?)
 }
 
 // Whether each write is four calls, and each stop leaves it whole or not at all.
 fn each_stop(alloc: Global) -> Option<bool> {
-    let mut disk = MemoryDisk::new(alloc);
-    make_store(alloc, &mut disk).ok()?;
-    let mut engine = Engine::recover(alloc, &mut disk).ok()?;
-    let mut count = 0;
-    for write in &WRITES {
-        if !stops_whole(alloc, &mut disk, &mut engine, write, count)? {
+    let mut disk = fresh(alloc)?;
+    let mut engine = opened(alloc, &mut disk)?;
+    for (count, write) in WRITES.iter().enumerate() {
+        if !stops_whole(alloc, &mut disk, &mut engine, write, count as u64)? {
             return Some(false);
         }
-        count += 1;
     }
     Some(true)
 }
@@ -172,13 +214,11 @@ fn a_stop_leaves_each_write_whole_or_not_at_all(rt: HostRuntime) {
 
 // What becomes of a write whose call of this number fails: the store that is opened again has it, or doesn't.
 fn fails_whole(alloc: Global, call: u64) -> Option<bool> {
-    let mut disk = MemoryDisk::new(alloc);
-    make_store(alloc, &mut disk).ok()?;
-    let mut engine = Engine::recover(alloc, &mut disk).ok()?;
-    let batch = batch_of(alloc, b"a", b"one")?;
+    let mut disk = fresh(alloc)?;
+    let mut engine = opened(alloc, &mut disk)?;
     let (now, _) = disk.counts();
     disk.fail(now.checked_add(call)?).ok()?;
-    if engine.apply(&mut disk, &batch) != Err(EngineFault::Failed) {
+    if put(alloc, &mut engine, &mut disk, &WRITES[0]).is_some() {
         return Some(false);
     }
     let (after, _) = disk.counts();
@@ -210,13 +250,10 @@ fn spends(alloc: Global) -> Option<bool> {
     for (file, bytes) in &LAST {
         disk.write_at(*file, 0, bytes).ok()?;
     }
-    let mut engine = Engine::recover(alloc, &mut disk).ok()?;
-    let batch = batch_of(alloc, b"a", b"one")?;
+    let mut engine = opened(alloc, &mut disk)?;
     let before = disk.counts();
-    let spent = EngineFault::Spent {
-        number: 4_611_686_018_427_387_903,
-    };
-    Some(engine.apply(&mut disk, &batch) == Err(spent) && disk.counts() == before)
+    let none = put(alloc, &mut engine, &mut disk, &WRITES[0]).is_none();
+    Some(none && engine.next_number() == 4_611_686_018_427_387_903 && disk.counts() == before)
 }
 
 #[test]

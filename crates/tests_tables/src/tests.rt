@@ -1,0 +1,3 @@
+mod asking;
+mod failures;
+mod stops;

@@ -1,0 +1,94 @@
+//! A store that is stopped at each moment of each of its calls, and opened again.
+
+ghost use Rattle.alt_disk.specs.MemoryState.{state_of};
+ghost use Rattle.alt_tables.specs.Stands.{AreReady};
+
+use super::asking::{Request, WRITES, asked, empty, known, opened};
+use alt_disk::MemoryDisk;
+use alt_tables::Tables;
+use std::alloc::Global;
+
+// Bytes by which a stop may pick what it leaves: the first of everything, all of it, and something between.
+static CHOICES: [&[u8]; 3] = [&[], &[1; 99], &[2, 0, 255, 7, 1, 1, 0, 3, 128, 1, 0, 1]];
+
+// What the store is known by that a stop at this moment leaves.
+fn left(alloc: Global, disk: &MemoryDisk, moment: u64, choice: &[u8]) -> Option<Vec<String>> {
+    let (now, _) = disk.counts();
+    if moment > now {
+        return None;
+    }
+    let mut left = disk.stopped(moment, choice).ok()?;
+    let mut tables = opened(alloc, &mut left)?;
+    known(alloc, &mut tables, &mut left)
+}
+
+// Whether a stop at this moment leaves one of two states, whatever it picks.
+fn leaves_either(
+    alloc: Global,
+    disk: &MemoryDisk,
+    moment: u64,
+    before: &[String],
+    after: &[String],
+) -> Option<bool> {
+    for choice in &CHOICES {
+        let state = left(alloc, disk, moment, choice)?;
+        if state.as_slice() != before && state.as_slice() != after {
+            return Some(false);
+        }
+    }
+    Some(true)
+}
+
+// Whether stops at the moments of a request leave the state before it or the one after it, and at its end the one after it.
+fn stops_between(
+    alloc: Global,
+    disk: &MemoryDisk,
+    from: u64,
+    to: u64,
+    before: &[String],
+    after: &[String],
+) -> Option<bool> {
+    for moment in from..to {
+        if !leaves_either(alloc, disk, moment, before, after)? {
+            return Some(false);
+        }
+    }
+    leaves_either(alloc, disk, to, after, after)
+}
+
+// Whether a request is carried out, and a stop at each of its moments leaves it whole or not at all.
+fn stops_whole(
+    alloc: Global,
+    tables: &mut Tables,
+    disk: &mut MemoryDisk,
+    request: &Request,
+) -> Option<bool>
+    requires { AreReady (state_of disk.old) tables.old }
+{
+    let before = known(alloc, tables, disk)?;
+    let (from, _) = disk.counts();
+    let _ = asked(alloc, tables, disk, request)?;
+    let (to, _) = disk.counts();
+    let after = known(alloc, tables, disk)?;
+    stops_between(alloc, disk, from, to, &before, &after)
+}
+
+// Whether that holds of the request with that number, behind those before it.
+fn stops_at(alloc: Global, number: usize) -> Option<bool> {
+    let mut disk = empty(alloc)?;
+    let mut tables = opened(alloc, &mut disk)?;
+    for request in WRITES.iter().take(number) {
+        let _ = asked(alloc, &mut tables, &mut disk, request)?;
+    }
+    stops_whole(alloc, &mut tables, &mut disk, WRITES.get(number)?)
+}
+
+#[test]
+fn a_stop_leaves_each_request_whole_or_not_at_all(rt: HostRuntime) {
+    for number in 0..WRITES.len() {
+        assert!(rt;
+            stops_at(rt.alloc(), number) == Some(true),
+            "request {number}"
+        );
+    }
+}

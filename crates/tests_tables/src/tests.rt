@@ -1,3 +1,4 @@
 mod asking;
+mod conditions;
 mod failures;
 mod stops;

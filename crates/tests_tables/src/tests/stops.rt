@@ -4,6 +4,7 @@ ghost use Rattle.alt_disk.specs.MemoryState.{state_of};
 ghost use Rattle.alt_tables.specs.Stands.{AreReady};
 
 use super::asking::{Request, WRITES, asked, empty, known, opened};
+use super::conditions::CONDITIONS;
 use alt_disk::MemoryDisk;
 use alt_tables::Tables;
 use std::alloc::Global;
@@ -74,20 +75,30 @@ fn stops_whole(
 }
 
 // Whether that holds of the request with that number, behind those before it.
-fn stops_at(alloc: Global, number: usize) -> Option<bool> {
+fn stops_at(alloc: Global, rows: &[Request], number: usize) -> Option<bool> {
     let mut disk = empty(alloc)?;
     let mut tables = opened(alloc, &mut disk)?;
-    for request in WRITES.iter().take(number) {
+    for request in rows.iter().take(number) {
         let _ = asked(alloc, &mut tables, &mut disk, request)?;
     }
-    stops_whole(alloc, &mut tables, &mut disk, WRITES.get(number)?)
+    stops_whole(alloc, &mut tables, &mut disk, rows.get(number)?)
 }
 
 #[test]
 fn a_stop_leaves_each_request_whole_or_not_at_all(rt: HostRuntime) {
     for number in 0..WRITES.len() {
         assert!(rt;
-            stops_at(rt.alloc(), number) == Some(true),
+            stops_at(rt.alloc(), &WRITES, number) == Some(true),
+            "request {number}"
+        );
+    }
+}
+
+#[test]
+fn a_stop_leaves_each_conditional_write_whole_or_not_at_all(rt: HostRuntime) {
+    for number in 0..CONDITIONS.len() {
+        assert!(rt;
+            stops_at(rt.alloc(), &CONDITIONS, number) == Some(true),
             "request {number}"
         );
     }

@@ -7,7 +7,7 @@ use crate::tests::given::{is_written, item, names, values};
 use alt_expr::{ExprFault, Update};
 use alt_updeval::{AttrChange, UpdateFault, changed};
 use alt_updparse::parse;
-use alt_value::Item;
+use alt_value::{Attr, Item};
 use std::alloc::Global;
 
 static NAMES: &str = r##"{"#a":"a","#dotted":"m.b","#set":"set"}"##;
@@ -56,14 +56,19 @@ fn with_changes(before: Item, changes: Vec<AttrChange>) -> Result<Item, UpdateFa
 }
 
 fn make(item: &mut Item, change: AttrChange) -> Result<(), UpdateFault> {
-    let name = change.name.as_str();
-    match change.value {
-        Some(value) => {
-            if !name.is_empty() {
-                item.put(name, value)?;
-            }
+    let AttrChange { name, value } = change;
+    match value {
+        Some(value) => put(item, name.as_str(), value),
+        None => {
+            drop(item.remove(name.as_str()));
+            Ok(())
         }
-        None => drop(item.remove(name)),
+    }
+}
+
+fn put(item: &mut Item, name: &str, value: Attr) -> Result<(), UpdateFault> {
+    if !name.is_empty() {
+        item.put(name, value)?;
     }
     Ok(())
 }

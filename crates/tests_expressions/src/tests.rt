@@ -1,7 +1,13 @@
 mod conditions;
+mod edits;
 mod given;
 mod keys;
 mod limits;
+mod places;
 mod projections;
 mod ranges;
+mod sums_and_sets;
 mod unused;
+mod update_texts;
+mod updates;
+mod updating;

@@ -5,7 +5,7 @@ ghost use Rattle.serde_json.specs.View.{view, members_view};
 ghost use Rattle.alt_expr.specs.NamesIn.{gives_names, name_in};
 ghost use Rattle.alt_expr.specs.Given.{is_name};
 
-use alt_codec::{attr_of_json, item_of_json};
+use alt_codec::{attr_of_json, item_of_json, json_of_item};
 use alt_condparse::parse;
 use alt_expr::{Boxed, Cond, ExprFault, Names, Values};
 use alt_value::{Attr, Item};
@@ -17,6 +17,17 @@ pub(crate) fn item(alloc: Global, json: &str) -> Option<Item> {
         return None;
     };
     item_of_json(alloc, &read).ok()
+}
+
+/// Whether an item is written as that JSON.
+pub(crate) fn is_written(alloc: Global, item: &Item, json: &str) -> bool {
+    let Ok(written) = json_of_item(alloc, item) else {
+        return false;
+    };
+    match written.to_string(alloc) {
+        Ok(text) => text.as_str() == json,
+        Err(_) => false,
+    }
 }
 
 pub(crate) fn attr(alloc: Global, json: &str) -> Option<Attr> {

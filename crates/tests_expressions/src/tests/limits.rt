@@ -3,6 +3,7 @@
 use crate::tests::given::{condition, names, values};
 use alt_expr::ExprFault;
 use alt_projection::parse as projection;
+use alt_updparse::parse as update;
 use std::alloc::Global;
 
 /// A front, so many times a middle, a back, and the fault; none where the text has a tree.
@@ -51,6 +52,67 @@ static PROJECTIONS: [Limit; 7] = [
     ("a, #none", ".a", 32, "", Some(ExprFault::Undefined)),
 ];
 
+static UPDATES: [Limit; 20] = [
+    ("SET a = :x", " ", 4086, "", None),
+    ("SET a = :x", " ", 4087, "", Some(ExprFault::TooLong)),
+    ("$", " ", 4095, "", Some(ExprFault::Syntax)),
+    ("$", " ", 4096, "", Some(ExprFault::TooLong)),
+    (
+        "SET a = ",
+        "list_append(",
+        64,
+        ":x",
+        Some(ExprFault::Syntax),
+    ),
+    (
+        "SET a = ",
+        "list_append(",
+        65,
+        ":x",
+        Some(ExprFault::TooDeep),
+    ),
+    ("", "NOT ", 64, "a", Some(ExprFault::Syntax)),
+    ("", "NOT ", 65, "a", Some(ExprFault::TooDeep)),
+    ("SET a", ".a", 31, " = :x", None),
+    ("SET a", ".a", 32, " = :x", Some(ExprFault::TooMany)),
+    ("REMOVE b, a", "[0]", 31, "", None),
+    ("REMOVE b, a", "[0]", 32, "", Some(ExprFault::TooMany)),
+    ("SET b = :x - a", ".a", 31, "", None),
+    ("SET b = :x - a", ".a", 32, "", Some(ExprFault::TooMany)),
+    (
+        "SET b = list_append(:x, a",
+        ".a",
+        32,
+        ")",
+        Some(ExprFault::TooMany),
+    ),
+    ("SET b = if_not_exists(a", "[0]", 31, ", :x)", None),
+    (
+        "SET b = if_not_exists(a",
+        "[0]",
+        32,
+        ", :x)",
+        Some(ExprFault::TooMany),
+    ),
+    (
+        "SET b = :none, a",
+        ".a",
+        32,
+        " = :x",
+        Some(ExprFault::Undefined),
+    ),
+    ("REMOVE b REMOVE a", ".a", 32, "", Some(ExprFault::TooMany)),
+    ("REMOVE a, a", ".a", 32, "", Some(ExprFault::TooMany)),
+];
+
+/// How deep if_not_exists stands in itself, and the fault.
+static NESTS: [(usize, Option<ExprFault>); 4] = [
+    (1, None),
+    (63, None),
+    (64, None),
+    (65, Some(ExprFault::TooDeep)),
+];
+
 fn repeated(alloc: Global, limit: &Limit) -> Option<String> {
     let Ok(mut text) = String::from_str(alloc, limit.0) else {
         return None;
@@ -83,6 +145,38 @@ fn fault_of_projection(alloc: Global, text: &str) -> Option<ExprFault> {
         return Some(ExprFault::NoMemory);
     };
     projection(alloc, text, &mut names).err()
+}
+
+/// The fault of an update's text, none where it has actions.
+fn fault_of_update(alloc: Global, text: &str) -> Option<ExprFault> {
+    let Some(mut names) = names(alloc, "{}") else {
+        return Some(ExprFault::NoMemory);
+    };
+    let Some(mut values) = values(alloc, r#"{":x":{"S":"x"}}"#) else {
+        return Some(ExprFault::NoMemory);
+    };
+    update(alloc, text, &mut names, &mut values).err()
+}
+
+fn is_limit_of_updates(alloc: Global, limit: &Limit) -> bool {
+    match repeated(alloc, limit) {
+        Some(text) => fault_of_update(alloc, text.as_str()) == limit.4,
+        None => false,
+    }
+}
+
+fn is_limit_of_nests(alloc: Global, depth: usize, fault: Option<ExprFault>) -> bool {
+    let Some(mut text) = repeated(alloc, &("SET a = ", "if_not_exists(b, ", depth, ":x", None))
+    else {
+        return false;
+    };
+    let Some(brackets) = repeated(alloc, &("", ")", depth, "", None)) else {
+        return false;
+    };
+    match text.push_str(brackets.as_str()) {
+        Ok(()) => fault_of_update(alloc, text.as_str()) == fault,
+        Err(_) => false,
+    }
 }
 
 fn is_limit_of_conditions(alloc: Global, limit: &Limit) -> bool {
@@ -120,5 +214,24 @@ fn limits_of_projections_hold_on_both_sides(rt: HostRuntime) {
             limit.1,
             limit.2
         );
+    }
+}
+
+#[test]
+fn limits_of_updates_hold_on_both_sides(rt: HostRuntime) {
+    for limit in &UPDATES {
+        assert!(rt;
+            is_limit_of_updates(rt.alloc(), limit),
+            "{} {}",
+            limit.1,
+            limit.2
+        );
+    }
+}
+
+#[test]
+fn functions_nest_64_deep_in_updates(rt: HostRuntime) {
+    for (depth, fault) in &NESTS {
+        assert!(rt; is_limit_of_nests(rt.alloc(), *depth, *fault), "{depth}");
     }
 }

@@ -1,7 +1,6 @@
 //! Projections as texts: what they give of one worked item, and else their first fault.
 
-use crate::tests::given::{item, names};
-use alt_codec::json_of_item;
+use crate::tests::given::{is_written, item, names};
 use alt_expr::{ExprFault, Paths};
 use alt_projection::{parse, project};
 use alt_value::Item;
@@ -84,17 +83,6 @@ fn chosen(alloc: Global, paths: &Paths) -> Option<Item> {
         return None;
     };
     project(alloc, paths, &item).ok()
-}
-
-/// Whether an item is written as that JSON.
-fn is_written(alloc: Global, item: &Item, json: &str) -> bool {
-    let Ok(written) = json_of_item(alloc, item) else {
-        return false;
-    };
-    match written.to_string(alloc) {
-        Ok(text) => text.as_str() == json,
-        Err(_) => false,
-    }
 }
 
 fn gives(alloc: Global, paths: &Paths, json: &str) -> bool {

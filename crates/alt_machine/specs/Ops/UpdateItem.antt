@@ -56,9 +56,9 @@ update_refusal wrong_kind = bad_update
 update_refusal (no_number f) = number_refusal f
 
 -- what an update makes of the attributes that are there, or its refusal
-abbrev pub unless_fault : Result View Fault → Result View Answer
-unless_fault (Ok view) = Ok view
-unless_fault (Err f) = Err (refused (update_refusal f))
+abbrev pub or_update_refusal : Result View Fault → Result View Answer
+or_update_refusal (Ok view) = Ok view
+or_update_refusal (Err f) = Err (refused (update_refusal f))
 
 -- the name of the attribute that a path begins with
 abbrev pub name_of : List PathPart → List ℕ
@@ -78,7 +78,7 @@ pairs_of view (name ∷ names) = option_map_or (λ t. put_name name t (pairs_of 
 -- The item after an update of the one that is there, or of the empty one where none is; or the refusal of its first refused action.
 abbrev pub item_after : List Action → Option (List Pair) → Result (List Pair) Answer
 item_after update old = do
-  view ← unless_fault (updated (seen old) update)
+  view ← or_update_refusal (updated (seen old) update)
   Ok (pairs_of view (names_of update old))
 
 -- ---- what is left at the place

@@ -4,7 +4,7 @@ use Rattle.serde_json.specs.Data.{Members}
 use Rattle.alt_machine.specs.declared.Operation.{Operation}
 use Rattle.alt_machine.specs.declared.Operation.TheVariants.{CreateTable, DescribeTable, ListTables, DeleteTable, PutItem, GetItem, DeleteItem}
 use Rattle.alt_machine.specs.declared.Sought.TheVariants.{Key}
-use Rattle.alt_machine.specs.Expressions.{no_texts}
+use Rattle.alt_machine.specs.Expressions.{projecting}
 use Rattle.alt_machine.specs.Members.{body_of, table_name}
 use Rattle.alt_machine.specs.Ops.DeleteTable as delete
 use Rattle.alt_machine.specs.Ops.DescribeTable as describe
@@ -38,7 +38,7 @@ list_steps s ms = steps-unless s (list.of_body ms) _ (λ body. no_steps _ s)
 
 get_steps : (s : State) (ms : Members) → Steps s (get.get_item s ms)
 unfolding get.get_item
-get_steps s ms = steps-on_item s (get.of_body ms) Key no_texts ms _
+get_steps s ms = steps-on_item s (get.of_body ms) Key projecting ms _
     (λ said key t place there target. no_steps _ s)
 
 operates_steps : (s : State) (op : Operation) (moment : ℕ) (ms : Members)

@@ -8,7 +8,7 @@ ghost use Rattle.alt_machine.specs.Laws.{StepsKeepValid, PlacesLie};
 ghost use Rattle.alt_machine.specs.State.{start};
 ghost use Rattle.alt_machine.specs.Valid.{IsValid};
 
-use alt_expr::Cond;
+use alt_expr::{Cond, Paths, Update};
 
 /// An operation that is built (DynamoDB API Reference, "Actions").
 #[derive(Clone, Copy, Debug, PartialEq, Eq)]
@@ -29,10 +29,12 @@ pub enum Sought {
     Key,
 }
 
-/// What the expressions of a request say: its condition, where it states one.
+/// What the expressions of a request say: its condition, what it updates and what it shows, each where it has a text for it.
 #[derive(Drop)]
 pub struct Expressions {
     pub condition: Option<Cond>,
+    pub update: Option<Update>,
+    pub projection: Option<Paths>,
 }
 
 /// The numbers of writes are below 2^62 - 1.

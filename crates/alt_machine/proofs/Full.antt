@@ -1,5 +1,5 @@
 -- Values in which no set is empty: what is found in them, and what is put together of them.
-use Rattle.std.proofs.Common.{ℕ, zero, suc, Bool, true, false, cond, T, List, [], ◌∷◌, ◌++◌, Option, Some, None, IfSome, option_and_then}
+use Rattle.std.proofs.Common.{ℕ, zero, suc, true, false, cond, T, List, [], ◌∷◌, ◌++◌, Option, Some, None, IfSome, option_and_then}
 use Rattle.std.specs.Prelude.{slice_get, unwrap_or}
 use Rattle.std.specs.Ordering.{eq_by_cmp}
 use Rattle.std.specs.declared.cmp.Ordering.{Ordering}

@@ -1,5 +1,5 @@
 -- What the actions of an update put has no empty set, where nothing that is there and nothing that is given has one.
-use Rattle.std.proofs.Common.{◌+ℤ◌, T, List, [], ◌∷◌, ◌++◌, map, Option, Some, None, Result, Ok, Err, IfOk}
+use Rattle.std.proofs.Common.{◌+ℤ◌, T, List, [], ◌∷◌, ◌++◌, map, Option, Some, None, Ok, IfOk}
 use Rattle.std.specs.List.{AllByRecursion}
 use Rattle.std.specs.Ordering.{int_cmp}
 use Rattle.alt_decimal.specs.Number.{fitted_units}

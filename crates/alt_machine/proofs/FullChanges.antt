@@ -1,5 +1,5 @@
 -- No set becomes empty by edits that put none that is.
-use Rattle.std.proofs.Common.{ℕ, suc, nat_le, Bool, true, false, cond, T, List, [], ◌∷◌, ◌++◌, map, length, Option, Some, None, Ok, IfOk, arith}
+use Rattle.std.proofs.Common.{ℕ, suc, nat_le, Bool, true, false, cond, T, List, [], ◌∷◌, ◌++◌, map, length, Option, Some, None, Ok, IfOk}
 use Rattle.std.specs.Option.{option_map_or}
 use Rattle.std.specs.Ordering.{nat_cmp}
 use Rattle.std.specs.declared.cmp.Ordering.TheVariants.{Less, Equal, Greater}

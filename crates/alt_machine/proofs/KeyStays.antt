@@ -3,7 +3,7 @@ use Rattle.std.proofs.Common.{◌≡◌, refl, sym, ap, ◌∙◌, ℕ, Bool, tr
 use Rattle.std.specs.Option.{option_map_or}
 use Rattle.std.proofs.Math.Bool.{or-true}
 use Rattle.std.proofs.lemmas.Slice.Eq.{bytes_eq-Decides}
-use Rattle.alt_keyorder.specs.Place.{Place, place_in_table, place_bytes}
+use Rattle.alt_keyorder.specs.Place.{place_in_table, place_bytes}
 use Rattle.alt_machine.specs.Keys.{if_key, key_value, place_beside, key_place, place_of, byte_count, is_within, key_fits}
 use Rattle.alt_schema.specs.Indexes.{is_key, has_key_name, of_range, longest_hash, longest_range}
 use Rattle.alt_schema.specs.declared.schema.KeyAttr.{KeyAttr}

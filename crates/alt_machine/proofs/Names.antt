@@ -1,5 +1,5 @@
 -- The attributes of an item after an update: their names rise, none of them is empty, and each stands at its name.
-use Rattle.std.proofs.Common.{◌≡◌, refl, sym, ap, ◌∙◌, ℕ, ◌<◌, Bool, true, false, cond, ◌||◌, T, List, [], ◌∷◌, ◌++◌, map, length, is_some, Option, Some, None, arith}
+use Rattle.std.proofs.Common.{◌≡◌, refl, sym, ap, ◌∙◌, ℕ, ◌<◌, true, false, cond, ◌||◌, T, List, [], ◌∷◌, map, length, is_some, Some, None, arith}
 use Rattle.std.specs.List.{list_any}
 use Rattle.std.specs.Option.{option_map_or}
 use Rattle.std.specs.Ordering.{eq_by_cmp, is_lt, is_eq}
@@ -12,7 +12,7 @@ use Rattle.alt_expr.specs.Updated.{put_name}
 use Rattle.alt_expr.specs.declared.update.Action.{Action}
 use Rattle.alt_machine.specs.Ops.UpdateItem.{pairs_of, names_of, name_of, with_key}
 use Rattle.alt_expr.specs.UpdateLanguage.{target}
-use Rattle.alt_value.specs.Item.{IsItem, at_name, with_pair}
+use Rattle.alt_value.specs.Item.{IsItem, at_name}
 use Rattle.alt_value.specs.Members.{text_order}
 use Rattle.alt_value.specs.Tree.{Tree, Pair}
 use Rattle.alt_value.proofs.Entries.{IsItem-with_pair}

@@ -1,6 +1,6 @@
 -- What the expressions of a request are, where none of them is refused: an update that changes no part of a key, in which each value
 -- is a given one.
-use Rattle.std.proofs.Common.{◌≡◌, refl, sym, ap, subst, ◌∙◌, ℕ, Bool, false, T, List, [], ◌∷◌, Option, Some, None, Result, Ok, Err, IfOk}
+use Rattle.std.proofs.Common.{◌≡◌, refl, sym, ap, subst, ◌∙◌, ℕ, false, T, List, [], ◌∷◌, Option, Some, None, Result, Ok, Err, IfOk}
 use Rattle.std.specs.Prelude.{unwrap_or, codes}
 use Rattle.std.specs.Option.{option_map_or}
 use Rattle.serde_json.specs.Data.{Data, Members}
@@ -17,7 +17,7 @@ use Rattle.alt_expr.specs.declared.path.PathPart.{PathPart}
 use Rattle.alt_expr.specs.declared.update.Action.{Action}
 use Rattle.alt_expr.proofs.UpdateTexts.{update_of}
 use Rattle.alt_machine.specs.declared.Expressions.{Expressions}
-use Rattle.alt_machine.specs.Expressions.{Texts, values_in, values_at, names_at, given_at, stated, read_or_refused, text_at, words_at, changes_key, is_unused, of_texts, expressions}
+use Rattle.alt_machine.specs.Expressions.{Texts, values_in, values_at, names_at, given_at, stated, read_or_refused, words_at, changes_key, is_unused, of_texts, expressions}
 use Rattle.alt_machine.specs.Members.{unless_fault}
 use Rattle.alt_machine.specs.Refusals.{first_answer, refuse_if, unless_answer, ◌>>=◌}
 use Rattle.alt_machine.proofs.Full.{PairsFull, ViewFull}

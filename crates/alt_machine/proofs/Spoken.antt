@@ -23,8 +23,8 @@ use Rattle.alt_expr.proofs.PathsTexts.{paths_of}
 use Rattle.alt_expr.proofs.TextTokens.{tokens_of}
 use Rattle.alt_expr.proofs.UpdateTexts.{update_of}
 use Rattle.alt_machine.specs.declared.Expressions.{Expressions}
-use Rattle.alt_machine.specs.Expressions.{Texts, stated, read_or_refused, text_at, words_of, words_at, changes_key, is_unused, of_texts, expressions, of_names, name_refusal}
-use Rattle.alt_machine.specs.Refusals.{first_answer, refuse_if, refuse_by, unless_answer, ◌>>=◌}
+use Rattle.alt_machine.specs.Expressions.{Texts, stated, read_or_refused, text_at, words_of, words_at, changes_key, is_unused, of_texts, expressions, of_names}
+use Rattle.alt_machine.specs.Refusals.{first_answer, refuse_if, unless_answer, ◌>>=◌}
 use Rattle.alt_schema.specs.declared.schema.TableSchema.{TableSchema}
 use Rattle.alt_shape.specs.Refusals.{Answer, refused, key_update, unused_name}
 

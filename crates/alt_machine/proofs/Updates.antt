@@ -1,7 +1,7 @@
 -- An UpdateItem leads from a valid state to a valid one.
-use Rattle.std.proofs.Common.{◌≡◌, refl, sym, ap, subst, ◌∙◌, ℕ, ◌==◌, length, nat_le, Bool, true, false, cond, T, List, [], ◌∷◌, Option, Some, None, Result, Ok, Err, IfOk, option_and_then}
+use Rattle.std.proofs.Common.{◌≡◌, refl, sym, ap, subst, ◌∙◌, ℕ, ◌==◌, length, nat_le, Bool, true, false, cond, List, [], Option, Some, None, Result, Ok, Err, IfOk}
 use Rattle.std.specs.Prelude.{unwrap_or, codes}
-use Rattle.std.specs.List.{list_any, list_all}
+use Rattle.std.specs.List.{list_any}
 use Rattle.std.specs.FinMap as map
 use Rattle.std.proofs.lemmas.Bool.{leb-true}
 use Rattle.serde_json.specs.Data.{Members}
@@ -32,17 +32,15 @@ use Rattle.alt_machine.proofs.FullChanges.{full-updated, full-pairs_of, full-wit
 use Rattle.alt_machine.proofs.KeyStays.{KeepsKey, still_stands, still_fits}
 use Rattle.alt_machine.proofs.Names.{at_name-has_bytes, IsItem-pairs_of, IsItem-with_key, at_name-pairs_of, was_among, at_name-with_key}
 use Rattle.alt_machine.proofs.Puts.{IsRead, is_read, may_stand, steps-met, writes_steps}
-use Rattle.alt_machine.proofs.Said.{found_first, given_full, says_update, stated_full}
+use Rattle.alt_machine.proofs.Said.{given_full, says_update, stated_full}
 use Rattle.alt_machine.proofs.Targets.{steps-on_item}
 use Rattle.alt_machine.proofs.Tests.{unless_holds}
 use Rattle.alt_machine.proofs.Untouched.{key_stays}
-use Rattle.alt_schema.specs.Indexes.{is_key}
 use Rattle.alt_schema.specs.declared.schema.TableSchema.{TableSchema}
-use Rattle.alt_shape.specs.Refusals.{Answer, nested_too_deep}
+use Rattle.alt_shape.specs.Refusals.{nested_too_deep}
 use Rattle.alt_value.specs.Item.{IsItem, at_name}
 use Rattle.alt_value.specs.Size.{fields_depth}
-use Rattle.alt_value.specs.Tree.{Tree, Pair, fields_of}
-use Rattle.alt_value.specs.Values.{fields_full}
+use Rattle.alt_value.specs.Tree.{Pair, fields_of}
 
 same_Some : {A : Type 0} (x y : A) → Some x ≡ Some y → x ≡ y
 same_Some x y e = cc

@@ -41,12 +41,13 @@ full-at_name name (p ∷ ps) h =
       | false ↦ rest
     ]
 
--- the pairs of a map, and the elements of a list
+-- the pairs of a map
 pub full-pairs : (fs : Fields) → T (fields_full fs) → PairsFull (pairs fs)
 full-pairs no_fields h = tt
 full-pairs (field_then name t fs) h =
     both (sets_full t) _ (first (sets_full t) _ h) (full-pairs fs (second (sets_full t) _ h))
 
+-- the elements of a list
 pub full-elements : (ts : Trees) → T (elements_full ts) → T (elements_full (trees_of (elements ts)))
 full-elements no_trees h = tt
 full-elements (tree_then t ts) h =

@@ -49,6 +49,7 @@ full-joined (L_tree ss) (L_tree ts) h f =
 full-joined (L_tree ss) _ h f = tt
 full-joined _ t h f = tt
 
+-- a number has no sets
 pub full-as_number : (r : Result ℤ NumberFault) → FullOk (as_number r)
 full-as_number (Ok z) = tt
 full-as_number (Err f) = tt
@@ -75,8 +76,8 @@ module _ (view : View) (g : Given) (full : ViewFull view) (given : PairsFull g.v
   full-Value : (word : List ℕ) → FullOk (term view (t.Value (value_of g.values word)))
   unfolding term
   full-Value word =
-      let is : term view (t.Value (value_of g.values word)) ≡ Ok (tree_of (value_of g.values word)) =
-      search (rules, the_lemmas) in
+      let is : term view (t.Value (value_of g.values word))
+      ≡ Ok (tree_of (value_of g.values word)) = search (rules, the_lemmas) in
       subst FullOk (sym is) (full-value_of g.values word given)
 
   full-IfNotExists : (path : List PathPart) (x : Term) → FullOk (term view x)

@@ -3,6 +3,7 @@ use Rattle.std.proofs.Common.{◌≡◌, subst, ℕ, ◌≤◌, nat_le, Bool, tr
 use Rattle.std.specs.Prelude.{codes, if◌then◌else◌}
 use Rattle.std.specs.FinMap as map
 use Rattle.std.proofs.lemmas.Bool.{leb-true}
+use Rattle.std.proofs.lemmas.Option.{same_Some}
 use Rattle.serde_json.specs.Data.{Data, Members}
 use Rattle.alt_codec.specs.declared.fault.ValueFault.{ValueFault}
 use Rattle.alt_codec.specs.Reading.{item_in}
@@ -39,31 +40,32 @@ use Rattle.alt_value.specs.Size.{item_size, fields_depth}
 use Rattle.alt_value.specs.Tree.{Pair, fields_of}
 use Rattle.alt_value.specs.Values.{fields_full}
 
--- what is read as an item: its names rise, it isn't too deep, and no set in it is empty
-pub record IsRead (item : List Pair) : Type 0 where
+-- an item is as one that is read: its names rise, it isn't too deep, and no set in it is empty
+pub record IsSound (item : List Pair) : Type 0 where
   pub names : IsItem item
   pub depth : fields_depth (fields_of item) ≤ 32
   pub full : T (fields_full (fields_of item))
 
 read_so : (r : Result (List Pair) ValueFault) (item : List Pair) → unless_fault r ≡ Ok item
     → IfOk r IsItem → IfOk r (λ ps. fields_depth (fields_of ps) ≤ 32)
-    → IfOk r (λ ps. T (fields_full (fields_of ps))) → IsRead item
+    → IfOk r (λ ps. T (fields_full (fields_of ps))) → IsSound item
 read_so (Ok ps) item e names depth full =
     let same : ps ≡ item = (let f : ps ≡ item = cc in f) in
-    subst (λ qs. IsRead qs) same (record { names = names; depth = depth; full = full })
+    subst (λ qs. IsSound qs) same (record { names = names; depth = depth; full = full })
 read_so (Err f) item e names depth full = absurd (let g : ⊥ = cc in g)
 
-of_data : (d : Option Data) (item : List Pair) → item_of d ≡ Ok item → IsRead item
+of_data : (d : Option Data) (item : List Pair) → item_of d ≡ Ok item → IsSound item
 of_data None item e = absurd (let g : ⊥ = cc in g)
 of_data (Some d) item e = read_so (item_in 32 d) item e (item_names 32 d) (item_depth 32 d)
     (item_full 32 d)
 
+-- and one that was read is
 pub is_read : (name : List ℕ) (ms : Members) (item : List Pair) → item_at name ms ≡ Ok item
-    → IsRead item
+    → IsSound item
 is_read name ms item e = of_data (given name ms) item e
 
--- an item that was read, has its place and is refused by none of its table's tests may be stored there
-pub may_stand : (d : TableSchema) (place : List ℕ) (item : List Pair) → IsRead item
+-- such an item that has its place and is refused by none of its table's tests may be stored there
+pub may_stand : (d : TableSchema) (place : List ℕ) (item : List Pair) → IsSound item
     → place_of d item ≡ Some place → key_fits d item ≡ true → first_answer (of_item d item) ≡ None
     → IsStored d place item
 may_stand d place item read at fits free =
@@ -92,9 +94,6 @@ writes_steps s moment name t place new there put = by (is_same (map.get t.items 
     by false = one_step a_number s (after_item s moment name t place new) (λ v enough.
         after_item_valid s moment name t place new v (number_room s enough) there
         (with_item_stored s name t place new v there (put v)))
-
-same_Some : {A : Type 0} (x y : A) → Some x ≡ Some y → x ≡ y
-same_Some x y e = cc
 
 -- what is done where a condition holds
 pub steps-met : (s : State) (condition : Option Cond) (ms : Members) (old : Option (List Pair))

@@ -33,9 +33,6 @@ use Rattle.alt_value.specs.Values.{fields_full}
 same_Ok : {A : Type 0} {E : Type 0} (x y : A) → ◌≡◌ {A = Result A E} (Ok x) (Ok y) → x ≡ y
 same_Ok x y e = cc
 
-same_Some : {A : Type 0} (x y : A) → Some x ≡ Some y → x ≡ y
-same_Some x y e = cc
-
 -- what was found, where what comes next found something
 pub found_first : {A B : Type 0} (r : Result A Answer) (next : A → Result B Answer) (y : B)
     → (r >>= next) ≡ Ok y → (x : A) × (r ≡ Ok x) × (next x ≡ Ok y)
@@ -116,7 +113,6 @@ module _ (texts : Texts) (d : TableSchema) (ms : Members) (g : Given) where
       let passed = untested condition.0 update.0 paths.0 said paths.2 in
       (update.1 ∙ ap Ok passed.0, ap (changes_key d) (sym passed.0) ∙ passed.1)
 
--- what an update that is stated puts has no empty set
 module _ (view : View) (g : Given) (full : ViewFull view) (values : PairsFull g.values) where
   of_parsed : (text : List ℕ) (r : Result (List Action) ExprFault) → Parsed updates g text r
       → (update : Option (List Action)) → read_or_refused r ≡ Ok update
@@ -127,6 +123,7 @@ module _ (view : View) (g : Given) (full : ViewFull view) (values : PairsFull g.
       (subst (λ acts. ActionsFull view acts) (sym h.1.2) (full-update view g full values h.1.0))
   of_parsed text (Err f) h update e = absurd (let k : ⊥ = cc in k)
 
+  -- what an update that is stated puts has no empty set
   pub stated_full : (text : Option (List ℕ)) (update : Option (List Action))
       → stated update_of g text ≡ Ok update → ActionsFull view (unwrap_or update [])
   stated_full None update e =

@@ -4,6 +4,7 @@ use Rattle.std.specs.Prelude.{unwrap_or, codes}
 use Rattle.std.specs.List.{list_any}
 use Rattle.std.specs.FinMap as map
 use Rattle.std.proofs.lemmas.Bool.{leb-true}
+use Rattle.std.proofs.lemmas.Option.{same_Some}
 use Rattle.serde_json.specs.Data.{Members}
 use Rattle.alt_expr.specs.Located.{View}
 use Rattle.alt_expr.specs.UpdateLanguage.{target}
@@ -31,7 +32,7 @@ use Rattle.alt_machine.proofs.FullActions.{ActionsFull}
 use Rattle.alt_machine.proofs.FullChanges.{full-updated, full-pairs_of, full-with_key}
 use Rattle.alt_machine.proofs.KeyStays.{KeepsKey, still_stands, still_fits}
 use Rattle.alt_machine.proofs.Names.{at_name-has_bytes, IsItem-pairs_of, IsItem-with_key, at_name-pairs_of, was_among, at_name-with_key}
-use Rattle.alt_machine.proofs.Puts.{IsRead, is_read, may_stand, steps-met, writes_steps}
+use Rattle.alt_machine.proofs.Puts.{IsSound, is_read, may_stand, steps-met, writes_steps}
 use Rattle.alt_machine.proofs.Said.{given_full, says_update, stated_full}
 use Rattle.alt_machine.proofs.Targets.{steps-on_item}
 use Rattle.alt_machine.proofs.Tests.{unless_holds}
@@ -41,9 +42,6 @@ use Rattle.alt_shape.specs.Refusals.{nested_too_deep}
 use Rattle.alt_value.specs.Item.{IsItem, at_name}
 use Rattle.alt_value.specs.Size.{fields_depth}
 use Rattle.alt_value.specs.Tree.{Pair, fields_of}
-
-same_Some : {A : Type 0} (x y : A) → Some x ≡ Some y → x ≡ y
-same_Some x y e = cc
 
 -- an update that changes no part of a key
 abbrev KeepsKeys : TableSchema → List Action → Type 0
@@ -138,7 +136,7 @@ of_old d place actions old item was keeps h e =
 
 -- of a new one, which has its key
 of_new : (d : TableSchema) (place : List ℕ) (actions : List Action) (key item : List Pair)
-    → IsRead key → place_of d key ≡ Some place → key_fits d key ≡ true
+    → IsSound key → place_of d key ≡ Some place → key_fits d key ≡ true
     → ActionsFull (seen None) actions → item_after actions None ≡ Ok item
     → IsLeft d place (with_key key item)
 of_new d place actions key item read stands fits h e =

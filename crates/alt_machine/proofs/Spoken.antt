@@ -74,18 +74,18 @@ module _ (texts : Texts) (d : TableSchema) (ms : Members) (g : Given) where
   paths_said = stated paths_of (names_alone g.names) (text_at texts.projection ms)
 
   -- behind each of the texts
-  abbrev with_paths : Option Cond → Option (List Action) → Option (List (List PathPart))
+  abbrev pub with_paths : Option Cond → Option (List Action) → Option (List (List PathPart))
       → Result Expressions Answer
   with_paths condition update paths = unless_answer (first_answer (of_texts texts d ms g update))
       (record { condition = condition; update = update; projection = paths })
 
-  abbrev with_update : Option Cond → Option (List Action) → Result Expressions Answer
+  abbrev pub with_update : Option Cond → Option (List Action) → Result Expressions Answer
   with_update condition update = paths_said >>= with_paths condition update
 
-  abbrev with_condition : Option Cond → Result Expressions Answer
+  abbrev pub with_condition : Option Cond → Result Expressions Answer
   with_condition condition = update_said >>= with_update condition
 
-  all_said : expressions texts d ms g ≡ condition_said >>= with_condition
+  pub all_said : expressions texts d ms g ≡ condition_said >>= with_condition
   unfolding expressions
   all_said = refl
 

@@ -2,7 +2,7 @@
 use Rattle.std.proofs.Common.{◌≡◌, ℕ, List, take, Option, Some, None}
 use Rattle.serde_json.specs.Data.{Members}
 use Rattle.alt_machine.specs.declared.Operation.{Operation}
-use Rattle.alt_machine.specs.declared.Operation.TheVariants.{CreateTable, DescribeTable, ListTables, DeleteTable, PutItem, GetItem, DeleteItem}
+use Rattle.alt_machine.specs.declared.Operation.TheVariants.{CreateTable, DescribeTable, ListTables, DeleteTable, PutItem, GetItem, DeleteItem, UpdateItem}
 use Rattle.alt_machine.specs.declared.Sought.TheVariants.{Key}
 use Rattle.alt_machine.specs.Expressions.{projecting}
 use Rattle.alt_machine.specs.Members.{body_of, table_name}
@@ -21,6 +21,7 @@ use Rattle.alt_machine.proofs.Lacks.{number_room}
 use Rattle.alt_machine.proofs.Puts.{put_steps, delete_steps}
 use Rattle.alt_machine.proofs.States.{without_table_valid}
 use Rattle.alt_machine.proofs.Targets.{steps-on_table, steps-on_item}
+use Rattle.alt_machine.proofs.Updates.{update_steps}
 
 drop_steps : (s : State) (ms : Members) → Steps s (delete.delete_table s ms)
 unfolding delete.delete_table
@@ -50,6 +51,7 @@ operates_steps s DeleteTable moment ms = drop_steps s ms
 operates_steps s PutItem moment ms = put_steps s moment ms
 operates_steps s GetItem moment ms = get_steps s ms
 operates_steps s DeleteItem moment ms = delete_steps s moment ms
+operates_steps s UpdateItem moment ms = update_steps s moment ms
 
 body_steps : (s : State) (op : Operation) (moment : ℕ) (ms : Option Members)
     → Steps s (with_body s op moment ms)

@@ -20,6 +20,7 @@ pub enum Operation {
     PutItem,
     GetItem,
     DeleteItem,
+    UpdateItem,
 }
 
 /// What a request has of an item: all of it, at its member Item, or the key alone, at Key.

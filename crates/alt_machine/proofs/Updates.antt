@@ -187,7 +187,7 @@ module _ (s : State) (ms : Members) (said : Expressions) (key : List Pair) (t : 
       (says_update updating t.description ms target.words said target.says).1
 
   -- what is left of what is there may be stored
-  may_be_left : (old : Option (List Pair))
+  pub may_be_left : (old : Option (List Pair))
       → ((was : List Pair) → old ≡ Some was → IsStored t.description place was)
       → (item : List Pair) → item_after actions old ≡ Ok item
       → first_answer (of_left t.description (left said key old item)) ≡ None

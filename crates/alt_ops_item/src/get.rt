@@ -6,7 +6,7 @@ ghost use Rattle.alt_machine.specs.Ops.GetItem.{get_item};
 ghost use Rattle.alt_request.specs.Carried.{Carries, Moves};
 ghost use Rattle.alt_tables.specs.Stands.{AreReady, Stands};
 
-use crate::items::{item_reply, shown};
+use crate::items::parts_reply;
 use alt_disk::Disk;
 use alt_machine::Sought;
 use alt_request::{Rules, Stop, Target, Texts, item_target, table_name};
@@ -17,11 +17,11 @@ use std::alloc::Global;
 
 static RULES: Rules = Rules {
     legacy: &["AttributesToGet"],
-    unbuilt: &["ProjectionExpression", "ExpressionAttributeNames"],
+    unbuilt: &[],
     named: &["TableName"],
 };
 
-/// Answers the item of a key (API Reference, "GetItem"). The refusals are those of docs/API.md.
+/// Answers the item of a key, or what a projection chooses of it (API Reference, "GetItem"). The refusals are those of docs/API.md.
 pub fn get_item<D: Disk>(
     alloc: Global,
     tables: &mut Tables,
@@ -44,7 +44,7 @@ pub fn get_item<D: Disk>(
         broken,
         &RULES,
         Sought::Key,
-        &Texts::NONE,
+        &Texts::PROJECTING,
     )?;
     let Target {
         item: _key,
@@ -52,8 +52,7 @@ pub fn get_item<D: Disk>(
         said,
         ..
     } = target;
-    drop(said);
     let name = table_name(body);
     let found = tables.find(disk, name, place)?;
-    item_reply(alloc, "Item", shown(&found.item))
+    parts_reply(alloc, "Item", &said.projection, &found.item)
 }

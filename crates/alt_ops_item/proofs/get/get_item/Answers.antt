@@ -7,8 +7,8 @@ use Rattle.serde_json.specs.View.{members_view}
 use Rattle.alt_disk.specs.Disk.{DiskState}
 use Rattle.alt_machine.specs.declared.Sought.TheVariants.{Key}
 use Rattle.alt_machine.specs.Body.{body_refusals}
-use Rattle.alt_machine.specs.Expressions.{no_texts}
-use Rattle.alt_machine.specs.Ops.GetItem.{rules, gets, get_item}
+use Rattle.alt_machine.specs.Expressions.{projecting}
+use Rattle.alt_machine.specs.Ops.GetItem.{rules, gets, get_item, parts}
 use Rattle.alt_machine.specs.Outcomes.{says}
 use Rattle.alt_machine.specs.Replies.{item_answer}
 use Rattle.alt_ops_item.proofs.Getting.{get_is}
@@ -24,7 +24,7 @@ pub returns-in_err-target-clause-carried : goal.returns-in_err-target-clause-car
 returns-in_err-target-clause-carried g c =
     let ms : Members = members_view c.args.body.now.entries in
     item_passed (g.D.Disk.state c.args.disk.now) c.args.tables.now
-    (body_refusals c.get_item-broken.result rules ms) ms (λ s. get_item s ms) Key no_texts (λ s. gets)
+    (body_refusals c.get_item-broken.result rules ms) ms (λ s. get_item s ms) Key projecting (λ s. gets)
     (get_is ms c.get_item-broken.result c.get_item-broken.ensures)
     (Stands (g.D.Disk.state c.args.disk.now) c.args.tables.now)
     c.from_residual.result c.in_err-target.field-0.0 c.from_residual.ensures
@@ -54,16 +54,18 @@ returns-clause-carried g c =
     let ms : Members = members_view c.args.body.now.entries in
     said_or_not (λ s. get_item s ms) (Stands (g.D.Disk.state c.args.disk.now) c.args.tables.now)
     (Stands (g.D.Disk.state c.find.new.disk) c.find.new.self)
-    c.item_reply.result (item_answer (codes "Item") (option_map (λ i. i.now) c.shown.result)) c.item_reply.ensures.reply
-    c.item_reply.ensures.plain c.item_reply.ensures.cause (λ s stands.
+    c.parts_reply.result (item_answer (codes "Item") (option_map (parts c.in_ok-target.target.said.projection)
+    c.in_ok-found.found.item)) c.parts_reply.ensures.reply
+    c.parts_reply.ensures.plain c.parts_reply.ensures.cause (λ s stands.
     let at = item_reached (g.D.Disk.state c.args.disk.now) c.args.tables.now
-    (body_refusals c.get_item-broken.result rules ms) ms (λ s. get_item s ms) Key no_texts (λ s. gets)
+    (body_refusals c.get_item-broken.result rules ms) ms (λ s. get_item s ms) Key projecting (λ s. gets)
     (get_is ms c.get_item-broken.result c.get_item-broken.ensures) c.in_ok-target.target
     c.in_ok-target.ensures.target s stands in
-    at.3 ∙ ap (λ o. says (item_answer (codes "Item") o)) (
+    at.3 ∙ ap (λ o. says (item_answer (codes "Item")
+    (option_map (parts c.in_ok-target.target.said.projection) o))) (
     ap (map.get at.0.items) (sym c.in_ok-found.ensures.place)
     ∙ sym (c.in_ok-found.ensures.item s stands at.0
-    (ap (map.get s.tables) c.table_name-name.ensures.name ∙ at.1)) ∙ sym c.shown.ensures))
+    (ap (map.get s.tables) c.table_name-name.ensures.name ∙ at.1))))
     (λ s stands. (c.in_ok-found.ensures.stays s).0 stands)
 
 pub returns-in_err-target-clause-moves : goal.returns-in_err-target-clause-moves
@@ -71,7 +73,7 @@ returns-in_err-target-clause-moves g c =
     let ms : Members = members_view c.args.body.now.entries in
     moves_stopped (λ s. get_item s ms) c.args.tables.now (g.D.Disk.state c.args.disk.now)
     c.from_residual.result c.in_err-target.field-0.0 c.from_residual.ensures
-    (item_unfailed _ (body_refusals c.get_item-broken.result rules ms) Key no_texts
+    (item_unfailed _ (body_refusals c.get_item-broken.result rules ms) Key projecting
     (catalog_of c.args.tables.now) ms c.in_err-target.field-0.0 c.in_err-target.ensures.target)
 
 pub returns-in_err-found-clause-moves : goal.returns-in_err-found-clause-moves
@@ -89,5 +91,5 @@ returns-in_err-found-clause-moves g c =
 pub returns-clause-moves : goal.returns-clause-moves
 returns-clause-moves g c =
     moves_reads (λ s. get_item s (members_view c.args.body.now.entries)) c.args.tables.now
-    (g.D.Disk.state c.args.disk.now) (g.D.Disk.state c.find.new.disk) c.item_reply.result
-    c.in_ok-found.ensures.disk (reply_unfailed _ c.item_reply.result c.item_reply.ensures.cause)
+    (g.D.Disk.state c.args.disk.now) (g.D.Disk.state c.find.new.disk) c.parts_reply.result
+    c.in_ok-found.ensures.disk (reply_unfailed _ c.parts_reply.result c.parts_reply.ensures.cause)

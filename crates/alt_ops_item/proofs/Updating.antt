@@ -22,6 +22,7 @@ use Rattle.alt_request.specs.declared.stop.Stop.TheVariants.{Refused, Fault}
 use Rattle.alt_request.proofs.Carrying.{does_say}
 use Rattle.alt_shape.specs.Refusals.{Answer, answer_of, refused}
 use Rattle.alt_shape.specs.declared.refusal.Reply.{Reply}
+use Rattle.alt_tables.proofs.Making.{none_made}
 use Rattle.alt_tables.specs.Faults.{AreMade, BreakOff, IsReadFault}
 use Rattle.alt_tables.specs.declared.faults.TableFault.{TableFault}
 use Rattle.alt_tables.specs.declared.faults.TableFault.TheVariants.{Spent, Damaged, BadRow, Failed, NoMemory}
@@ -49,7 +50,7 @@ unwritten now s outcome (Spent n) known stands = absurd known
 unwritten now s outcome (Damaged file at) known stands = absurd known
 unwritten now s outcome (BadRow family key) known stands = absurd known
 unwritten now s outcome Failed known stands = absurd known
-unwritten now s outcome NoMemory known stands = (0, refl, stands)
+unwritten now s outcome NoMemory known stands = (0, none_made outcome.atoms, refl, stands)
 
 -- what stopped it has a message, if it is a refusal
 pub stop_plain : (r : Result (Option (List Pair)) Answer) (stop : Stop)
@@ -101,7 +102,10 @@ module _ (said : Expressions) (key : List Pair) (s : State) (moment : ℕ) (ms :
           (left_after t.description said key old) (Err stop) → now s → Does now s whole (Err stop)
       stops (Refused r) h stands = subst (λ o. Does now s o (Err (Refused r)))
           (sym (judged_so true held ∙ ap (λ x. with_found x (written old)) h.0))
-          (record { reply = refl; state = stands; enough = refl })
+          (record {
+            answered = record { reply = refl; state = stands; enough = refl };
+            unwritten = refl;
+          })
       stops (Fault f) h stands = unwritten now s whole f h stands
 
       -- it isn't, and the writes broke off, or were made

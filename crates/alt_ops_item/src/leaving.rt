@@ -109,12 +109,7 @@ fn makes_none(update: &Option<Update>) -> bool
 fn all_take_away(actions: &[Action]) -> bool
     ensures { result ≡ list_all machine.takes_away actions.now }
 {
-    for action in actions {
-        if !takes_away(action) {
-            return false;
-        }
-    }
-    true
+    actions.iter().all(|action| takes_away(action))
 }
 
 fn takes_away(action: &Action) -> bool

@@ -176,8 +176,9 @@ with_colons-append (t ∷ a) b used = with_colons-append a b used
 -- what three texts note of their names
 pub hashes_all : (a b c : List Tok) (u v w x : List (List ℕ)) → v ≡ with_hashes a u
     → w ≡ with_hashes b v → x ≡ with_hashes c w → x ≡ with_hashes (a ++ b ++ c) u
-hashes_all a b c u v w x e f g = g ∙ ap (with_hashes c) (f ∙ ap (with_hashes b) e)
-    ∙ sym (with_hashes-append b c (with_hashes a u)) ∙ sym (with_hashes-append a (b ++ c) u)
+hashes_all a b c u v w x e f g =
+    g ∙ ap (with_hashes c) (f ∙ ap (with_hashes b) e ∙ sym (with_hashes-append a b u))
+    ∙ sym (with_hashes-append (a ++ b) c u)
 
 -- no word of these is one for a value
 abbrev pub NoColons : List Tok → Type 0
@@ -186,9 +187,8 @@ NoColons toks = (used : List (List ℕ)) → with_colons toks used ≡ used
 -- and of their values, where the third has none
 pub colons_all : (a b c : List Tok) (u v w : List (List ℕ)) → v ≡ with_colons a u
     → w ≡ with_colons b v → NoColons c → w ≡ with_colons (a ++ b ++ c) u
-colons_all a b c u v w e f none = f ∙ ap (with_colons b) e
-    ∙ sym (none (with_colons b (with_colons a u)))
-    ∙ sym (with_colons-append b c (with_colons a u)) ∙ sym (with_colons-append a (b ++ c) u)
+colons_all a b c u v w e f none = f ∙ ap (with_colons b) e ∙ sym (with_colons-append a b u)
+    ∙ sym (none (with_colons (a ++ b) u)) ∙ sym (with_colons-append (a ++ b) c u)
 
 none_append : (a b : List Tok) → NoColons a → NoColons b → NoColons (a ++ b)
 none_append a b h k used = with_colons-append a b used ∙ k (with_colons a used) ∙ h used

@@ -57,7 +57,7 @@ pub(crate) fn all_stated(
 /// The text at a member, where an operation takes one there.
 fn text_in<'b>(name: Option<&'static str>, body: &'b Map<String, Value>) -> Option<&'b str>
     ensures text { option_map (λ t. t.now) result
-        ≡ machine.text_at (option_map (λ w. w.now) name) (members_view body.now.entries) }
+        ≡ machine.text_at (option_map (λ w. w.now) name.entry) (members_view body.now.entries) }
 {
     match name {
         Some(name) => text_at(body, name),

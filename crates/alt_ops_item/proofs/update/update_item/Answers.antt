@@ -9,7 +9,7 @@ use Rattle.alt_machine.specs.Expressions.{updating}
 use Rattle.alt_machine.specs.Ops.UpdateItem.{rules, updates, update_item}
 use Rattle.alt_machine.specs.State.{State}
 use Rattle.alt_machine.specs.Targets.{on_item, IsPlaced}
-use Rattle.alt_ops_item.proofs.Leaving.{left_stored, said_begins}
+use Rattle.alt_ops_item.proofs.Left.{left_stored, said_begins}
 use Rattle.alt_ops_item.proofs.Placing.{same_Some}
 use Rattle.alt_request.proofs.Carrying.{item_passed, item_done}
 use Rattle.alt_request.proofs.Moving.{moves_stopped, item_moved, item_unfailed}

@@ -235,6 +235,7 @@ paths_words g (Some text) projection e used = by told.result told.parsed e used
   where
     told : Told projections g text
     told = paths_of g text
+
     by : (r : Result (List (List PathPart)) ExprFault) → Parsed projections g text r
         → machine.read_or_refused r ≡ Ok projection → NoColons (machine.words_of (Some text))
     by (Ok tree) parsed f used = parsed_none g text tree parsed used

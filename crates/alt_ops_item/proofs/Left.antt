@@ -28,8 +28,7 @@ use Rattle.alt_request.specs.Steps.{Comes, IsMemory, Tested}
 use Rattle.alt_request.specs.declared.stop.Stop.{Stop}
 use Rattle.alt_request.specs.declared.stop.Stop.TheVariants.{Refused, Fault}
 use Rattle.alt_schema.specs.declared.schema.TableSchema.{TableSchema}
-use Rattle.alt_shape.specs.Refusals.{Answer, refused}
-use Rattle.alt_tables.specs.declared.faults.TableFault.TheVariants.{NoMemory}
+use Rattle.alt_shape.specs.Refusals.{Answer}
 use Rattle.alt_updparse.proofs.Begins.{update_begins}
 use Rattle.alt_value.specs.Item.{IsItem, with_pair}
 use Rattle.alt_value.specs.Members.{text_order}

@@ -4,7 +4,6 @@ use Rattle.std.specs.Prelude.{codes, unwrap_or, if◌then◌else◌}
 use Rattle.std.specs.FinMap as map
 use Rattle.serde_json.specs.Data.{Members}
 use Rattle.alt_disk.specs.Disk.{DiskState}
-use Rattle.alt_expr.specs.declared.update.Action.{Action}
 use Rattle.alt_machine.specs.Conditional.{meets, asked, failed}
 use Rattle.alt_machine.specs.declared.Expressions.{Expressions}
 use Rattle.alt_machine.specs.Members.{table_name}
@@ -21,7 +20,7 @@ use Rattle.alt_request.specs.declared.stop.Stop.{Stop}
 use Rattle.alt_request.specs.declared.stop.Stop.TheVariants.{Refused, Fault}
 use Rattle.alt_request.proofs.Carrying.{does_say}
 use Rattle.alt_request.proofs.Moving.{unfailed_fault}
-use Rattle.alt_shape.specs.Refusals.{Answer, answer_of, refused}
+use Rattle.alt_shape.specs.Refusals.{Answer, answer_of}
 use Rattle.alt_shape.specs.declared.refusal.Reply.{Reply}
 use Rattle.alt_tables.proofs.Making.{none_made}
 use Rattle.alt_tables.specs.Faults.{AreMade, BreakOff, IsReadFault}

@@ -1,8 +1,7 @@
 -- What was found is shown, or it wasn't read.
-use Rattle.std.proofs.Common.{◌≡◌, sym, ap, subst, ◌∙◌, List, ℕ, Option, Some, Err}
+use Rattle.std.proofs.Common.{◌≡◌, sym, ap, subst, ◌∙◌, List, Option, Err}
 use Rattle.std.specs.Prelude.{codes, option_map}
 use Rattle.std.specs.FinMap as map
-use Rattle.serde_json.specs.View.{members_view}
 use Rattle.alt_disk.specs.Disk.{DiskState}
 use Rattle.alt_machine.specs.Ops.GetItem.{parts}
 use Rattle.alt_machine.specs.Outcomes.{says}

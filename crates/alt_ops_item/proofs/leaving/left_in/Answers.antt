@@ -1,5 +1,5 @@
 -- Each step in turn, as the definition has it.
-use Rattle.std.proofs.Common.{List, Option, sym, subst, ◌∙◌}
+use Rattle.std.proofs.Common.{List, Option, sym, subst}
 use Rattle.alt_ops_item.specs.Updates.{left_after}
 use Rattle.alt_ops_item.proofs.Left.{left-unmade, left-memory, left-refused, left-made}
 use Rattle.alt_request.specs.Steps.{Comes}

@@ -1,6 +1,6 @@
 -- What was found is tested, updated, shown and written over.
 use Rattle.std.proofs.Common.{◌≡◌, sym, ap, subst, ◌∙◌, List, ℕ, Option, Some, Ok, Err}
-use Rattle.std.specs.Prelude.{codes, IfSome, unwrap_or}
+use Rattle.std.specs.Prelude.{IfSome}
 use Rattle.std.specs.FinMap as map
 use Rattle.serde_json.specs.Data.{Members}
 use Rattle.serde_json.specs.View.{members_view}
@@ -11,7 +11,7 @@ use Rattle.alt_machine.specs.State.{State}
 use Rattle.alt_machine.specs.Valid.{IsStored}
 use Rattle.alt_ops_item.specs.Updates.{left_after}
 use Rattle.alt_ops_item.proofs.Placing.{unread}
-use Rattle.alt_ops_item.proofs.Updating.{stop_plain, stop_unfailed, has_some, fails, stops, breaks, made, moved}
+use Rattle.alt_ops_item.proofs.Updating.{stop_unfailed, has_some, fails, stops, breaks, made, moved}
 use Rattle.alt_request.specs.Carried.{Does, IsPlain, Moves, Says}
 use Rattle.alt_request.specs.declared.stop.Stop.TheVariants.{Fault}
 use Rattle.alt_request.proofs.Moving.{reads_move, writes_move, says_unfailed, memory_unfailed, failed_fault}

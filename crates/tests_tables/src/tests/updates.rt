@@ -61,16 +61,13 @@ pub(super) static UPDATES: [Request; 19] = [
     ),
     (
         "UpdateItem",
-        r#"{"TableName":"Tab","Key":{"k":{"S":"a"}},"UpdateExpression":"SET #m = :m, c = :one REMOVE a, b","ExpressionAttributeNames":{"#m":"m"},"ExpressionAttributeValues":{":one":{"N":"1"},":m":{"M":{"x":{"SS":["p","q"]}}}}}"#,
+        r#"{"TableName":"Tab","Key":{"k":{"S":"a"}},"UpdateExpression":"SET m = :m, c = :one REMOVE a, b","ExpressionAttributeValues":{":one":{"N":"1"},":m":{"M":{"x":{"SS":["p","q"]}}}}}"#,
     ),
     (
         "UpdateItem",
         r#"{"TableName":"Tab","Key":{"k":{"S":"b"}},"UpdateExpression":"REMOVE n DELETE s :s","ExpressionAttributeValues":{":s":{"SS":["p"]}}}"#,
     ),
-    (
-        "UpdateItem",
-        r#"{"TableName":"Tab","Key":{"k":{"S":"b"}}}"#,
-    ),
+    ("UpdateItem", r#"{"TableName":"Tab","Key":{"k":{"S":"b"}}}"#),
     (
         "UpdateItem",
         r#"{"TableName":"Tab","Key":{"k":{"S":"b"}},"UpdateExpression":"ADD s :s","ExpressionAttributeValues":{":s":{"SS":["p"]}}}"#,

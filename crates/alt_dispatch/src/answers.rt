@@ -20,7 +20,7 @@ ghost use Rattle.alt_tables.specs.Stands.{AreReady, Stands};
 use crate::bodies;
 use alt_disk::Disk;
 use alt_machine::Operation;
-use alt_ops_item::{delete_item, get_item, put_item};
+use alt_ops_item::{delete_item, get_item, put_item, update_item};
 use alt_ops_table::{create_table, delete_table, describe_table, list_tables};
 use alt_request::Stop;
 use alt_shape::{Refusal, Reply, refuse};
@@ -29,7 +29,7 @@ use serde_json::{Map, Value};
 use std::alloc::Global;
 
 /// The operations that are built, by name.
-static OPERATIONS: [(&str, Operation); 7] = [
+static OPERATIONS: [(&str, Operation); 8] = [
     ("CreateTable", Operation::CreateTable),
     ("DescribeTable", Operation::DescribeTable),
     ("ListTables", Operation::ListTables),
@@ -37,6 +37,7 @@ static OPERATIONS: [(&str, Operation); 7] = [
     ("PutItem", Operation::PutItem),
     ("GetItem", Operation::GetItem),
     ("DeleteItem", Operation::DeleteItem),
+    ("UpdateItem", Operation::UpdateItem),
 ];
 
 /// The built operation of that name, `None` exactly where there is none.
@@ -153,5 +154,6 @@ fn carry_out<D: Disk>(
         Operation::PutItem => put_item(alloc, tables, disk, body, moment),
         Operation::GetItem => get_item(alloc, tables, disk, body, moment),
         Operation::DeleteItem => delete_item(alloc, tables, disk, body, moment),
+        Operation::UpdateItem => update_item(alloc, tables, disk, body, moment),
     }
 }

@@ -3,13 +3,14 @@ use Rattle.std.proofs.Common.{◌≡◌, subst, ℕ, ◌≤◌, nat_le, Bool, tr
 use Rattle.std.specs.Prelude.{codes, if◌then◌else◌}
 use Rattle.std.specs.FinMap as map
 use Rattle.std.proofs.lemmas.Bool.{leb-true}
+use Rattle.std.proofs.lemmas.Option.{same_Some}
 use Rattle.serde_json.specs.Data.{Data, Members}
 use Rattle.alt_codec.specs.declared.fault.ValueFault.{ValueFault}
 use Rattle.alt_codec.specs.Reading.{item_in}
 use Rattle.alt_machine.specs.declared.TheConstants.{LARGEST_ITEM}
 use Rattle.alt_expr.specs.declared.cond.Cond.{Cond}
 use Rattle.alt_machine.specs.declared.Sought.TheVariants.{Item, Key}
-use Rattle.alt_machine.specs.Conditional.{meets, asked, failed, writes_if}
+use Rattle.alt_machine.specs.Conditional.{meets, asked, failed, if_met, writes_if}
 use Rattle.alt_machine.specs.Expressions.{conditional}
 use Rattle.alt_machine.specs.Keys.{key_fits, place_of}
 use Rattle.alt_machine.specs.Members.{table_name, item_at, item_of, unless_fault}
@@ -17,12 +18,12 @@ use Rattle.alt_machine.specs.Ops.DeleteItem as delete
 use Rattle.alt_machine.specs.Ops.DeleteItem.{delete_item}
 use Rattle.alt_machine.specs.Ops.PutItem as put
 use Rattle.alt_machine.specs.Ops.PutItem.{of_item, put_item}
-use Rattle.alt_machine.specs.Outcomes.{says, writes, a_number}
+use Rattle.alt_machine.specs.Outcomes.{Outcome, says, writes, a_number}
 use Rattle.alt_machine.specs.Refusals.{first_answer}
 use Rattle.alt_machine.specs.Replies.{item_answer}
 use Rattle.alt_machine.specs.Same.{is_same}
 use Rattle.alt_machine.specs.State.{State, Table}
-use Rattle.alt_machine.specs.Valid.{IsStored}
+use Rattle.alt_machine.specs.Valid.{IsStored, IsValid}
 use Rattle.alt_machine.specs.Writes.{item_writes, after_item}
 use Rattle.alt_machine.proofs.Chains.{Steps, AreSteps, no_steps, one_step, steps-unless}
 use Rattle.alt_machine.proofs.Targets.{steps-on_item}
@@ -39,31 +40,32 @@ use Rattle.alt_value.specs.Size.{item_size, fields_depth}
 use Rattle.alt_value.specs.Tree.{Pair, fields_of}
 use Rattle.alt_value.specs.Values.{fields_full}
 
--- what is read as an item: its names rise, it isn't too deep, and no set in it is empty
-pub record IsRead (item : List Pair) : Type 0 where
+-- an item is as one that is read: its names rise, it isn't too deep, and no set in it is empty
+pub record IsSound (item : List Pair) : Type 0 where
   pub names : IsItem item
   pub depth : fields_depth (fields_of item) ≤ 32
   pub full : T (fields_full (fields_of item))
 
 read_so : (r : Result (List Pair) ValueFault) (item : List Pair) → unless_fault r ≡ Ok item
     → IfOk r IsItem → IfOk r (λ ps. fields_depth (fields_of ps) ≤ 32)
-    → IfOk r (λ ps. T (fields_full (fields_of ps))) → IsRead item
+    → IfOk r (λ ps. T (fields_full (fields_of ps))) → IsSound item
 read_so (Ok ps) item e names depth full =
     let same : ps ≡ item = (let f : ps ≡ item = cc in f) in
-    subst (λ qs. IsRead qs) same (record { names = names; depth = depth; full = full })
+    subst (λ qs. IsSound qs) same (record { names = names; depth = depth; full = full })
 read_so (Err f) item e names depth full = absurd (let g : ⊥ = cc in g)
 
-of_data : (d : Option Data) (item : List Pair) → item_of d ≡ Ok item → IsRead item
+of_data : (d : Option Data) (item : List Pair) → item_of d ≡ Ok item → IsSound item
 of_data None item e = absurd (let g : ⊥ = cc in g)
 of_data (Some d) item e = read_so (item_in 32 d) item e (item_names 32 d) (item_depth 32 d)
     (item_full 32 d)
 
+-- and one that was read is
 pub is_read : (name : List ℕ) (ms : Members) (item : List Pair) → item_at name ms ≡ Ok item
-    → IsRead item
+    → IsSound item
 is_read name ms item e = of_data (given name ms) item e
 
--- an item that was read, has its place and is refused by none of its table's tests may be stored there
-pub may_stand : (d : TableSchema) (place : List ℕ) (item : List Pair) → IsRead item
+-- such an item that has its place and is refused by none of its table's tests may be stored there
+pub may_stand : (d : TableSchema) (place : List ℕ) (item : List Pair) → IsSound item
     → place_of d item ≡ Some place → key_fits d item ≡ true → first_answer (of_item d item) ≡ None
     → IsStored d place item
 may_stand d place item read at fits free =
@@ -82,7 +84,7 @@ may_stand d place item read at fits free =
 -- the writes of an item that may be stored
 pub writes_steps : (s : State) (moment : ℕ) (name : List ℕ) (t : Table) (place : List ℕ)
     (new : Option (List Pair)) → map.get s.tables name ≡ Some t
-    → ((item : List Pair) → new ≡ Some item → IsStored t.description place item)
+    → (IsValid s → (item : List Pair) → new ≡ Some item → IsStored t.description place item)
     → AreSteps a_number s (item_writes s moment name t place new)
 writes_steps s moment name t place new there put = by (is_same (map.get t.items place) new)
   where
@@ -91,26 +93,28 @@ writes_steps s moment name t place new there put = by (is_same (map.get t.items 
     by true = no_steps a_number s
     by false = one_step a_number s (after_item s moment name t place new) (λ v enough.
         after_item_valid s moment name t place new v (number_room s enough) there
-        (with_item_stored s name t place new v there put))
+        (with_item_stored s name t place new v there (put v)))
 
-same_Some : {A : Type 0} (x y : A) → Some x ≡ Some y → x ≡ y
-same_Some x y e = cc
+-- what is done where a condition holds
+pub steps-met : (s : State) (condition : Option Cond) (ms : Members) (old : Option (List Pair))
+    (go : Outcome) → Steps s go → Steps s (if_met condition ms old go)
+steps-met s condition ms old go h = by (meets condition old)
+  where
+    by : (b : Bool) → Steps s (if b then go
+        else says (failed (asked (codes "ReturnValuesOnConditionCheckFailure") ms old)))
+    by true = h
+    by false = no_steps _ s
 
 -- a write that may be conditional
-pub writes_if-steps : (condition : Option Cond) (s : State) (moment : ℕ) (ms : Members) (t : Table)
+writes_if-steps : (condition : Option Cond) (s : State) (moment : ℕ) (ms : Members) (t : Table)
     (place : List ℕ) (new : Option (List Pair)) → map.get s.tables (table_name ms) ≡ Some t
     → ((item : List Pair) → new ≡ Some item → IsStored t.description place item)
     → Steps s (writes_if condition s moment ms t place new)
 writes_if-steps condition s moment ms t place new there put =
-    by (meets condition (map.get t.items place))
-  where
-    by : (b : Bool) → Steps s (if b
-        then writes (item_writes s moment (table_name ms) t place new)
-        (item_answer (codes "Attributes") (asked (codes "ReturnValues") ms (map.get t.items place)))
-        else says (failed
-        (asked (codes "ReturnValuesOnConditionCheckFailure") ms (map.get t.items place))))
-    by true = writes_steps s moment (table_name ms) t place new there put
-    by false = no_steps _ s
+    steps-met s condition ms (map.get t.items place)
+    (writes (item_writes s moment (table_name ms) t place new)
+    (item_answer (codes "Attributes") (asked (codes "ReturnValues") ms (map.get t.items place))))
+    (writes_steps s moment (table_name ms) t place new there (λ v. put))
 
 pub put_steps : (s : State) (moment : ℕ) (ms : Members) → Steps s (put_item s moment ms)
 unfolding put_item

@@ -2,37 +2,43 @@
 use Rattle.std.proofs.Common.{◌≡◌, refl, sym, ap, ◌∙◌, ℕ, Bool, true, false, List, [], ◌∷◌, Option, Some, None, Ok, Err}
 use Rattle.std.specs.Prelude.{Result}
 use Rattle.serde_json.specs.Data.{Members, string, no_members, member}
-use Rattle.alt_expr.specs.Faults.{Parsed, NotesHashes, NotesColons}
+use Rattle.alt_expr.specs.Faults.{Language, Parsed, NotesHashes, NotesColons}
 use Rattle.alt_expr.specs.Given.{Given, with_hashes, with_colons}
-use Rattle.alt_expr.specs.Languages.{conditions}
 use Rattle.alt_expr.specs.Lexed.{Lexes}
+use Rattle.alt_expr.specs.Lookups.{names_alone}
 use Rattle.alt_expr.specs.NamesGiven.{used_names, used_values}
 use Rattle.alt_expr.specs.NamesIn.{gives_names}
-use Rattle.alt_expr.specs.Told.{IsTold}
+use Rattle.alt_expr.specs.Told.{Told, IsTold}
 use Rattle.alt_expr.specs.Tokens.{Tok}
 use Rattle.alt_expr.specs.declared.cond.Cond.{Cond}
 use Rattle.alt_expr.specs.declared.fault.ExprFault.{ExprFault}
 use Rattle.alt_expr.specs.declared.names.Names.{Names}
+use Rattle.alt_expr.specs.declared.path.PathPart.{PathPart}
+use Rattle.alt_expr.specs.declared.update.Action.{Action}
 use Rattle.alt_expr.specs.declared.values.Values.{Values}
 use Rattle.alt_expr.proofs.CondTexts.{condition_of}
-use Rattle.alt_expr.proofs.CondWhole.{unique}
 use Rattle.alt_expr.proofs.OneAnswer.{one_answer}
 use Rattle.alt_expr.proofs.Once.{tokens_once}
+use Rattle.alt_expr.proofs.PathsTexts.{paths_of}
 use Rattle.alt_expr.proofs.TextTokens.{tokens_of}
+use Rattle.alt_expr.proofs.UpdateTexts.{update_of}
 use Rattle.alt_machine.specs.declared.Expressions.{Expressions}
-use Rattle.alt_machine.specs.Expressions.{Texts, stated, read_or_refused, words_of, condition_text, is_unused, expressions, of_names, name_refusal}
-use Rattle.alt_machine.specs.Refusals.{first_answer, refuse_if, refuse_by, unless_answer, ◌>>=◌}
-use Rattle.alt_shape.specs.Refusals.{Answer, refused, unused_name}
+use Rattle.alt_machine.specs.Expressions.{Texts, stated, read_or_refused, text_at, words_of, words_at, changes_key, is_unused, of_texts, expressions, of_names}
+use Rattle.alt_machine.specs.Refusals.{first_answer, refuse_if, unless_answer, ◌>>=◌}
+use Rattle.alt_schema.specs.declared.schema.TableSchema.{TableSchema}
+use Rattle.alt_shape.specs.Refusals.{Answer, refused, key_update, unused_name}
 
 -- ---- one text
 
--- what a parser answers of a text is what the text states
-pub stated_is : (g : Given) (text : List ℕ) (r : Result Cond ExprFault) → Parsed conditions g text r
-    → IsTold r → stated g (Some text) ≡ read_or_refused r
-stated_is g text r parsed told =
-    let of_text = condition_of g text in
-    ap read_or_refused (one_answer conditions g (unique g) text of_text.result r of_text.parsed
-    parsed of_text.told told)
+-- what a parser of a grammar answers of a text is what the text states
+pub stated_is : {D A : Type 0} (L : Language D A) (told : (g : Given) (text : List ℕ) → Told L g text)
+    (g : Given) → ((d e : D) → L.toks d ≡ L.toks e → L.tree g d ≡ L.tree g e) → (text : List ℕ)
+    (r : Result A ExprFault) → Parsed L g text r → IsTold r
+    → stated told g (Some text) ≡ read_or_refused r
+stated_is L told g one_tree text r parsed is_told =
+    let of_text = told g text in
+    ap read_or_refused (one_answer L g one_tree text of_text.result r of_text.parsed parsed
+    of_text.told is_told)
 
 -- its words are those that a parser notes
 words_are : (text : List ℕ) (toks : List Tok) → Lexes text toks true → words_of (Some text) ≡ toks
@@ -56,32 +62,83 @@ colons_noted text old new a h = h.2
 
 -- ---- all of them
 
-module _ (texts : Texts) (ms : Members) (g : Given) where
-  pub expressions-unsaid : (answer : Answer) → stated g (condition_text texts ms) ≡ Err answer
-      → expressions texts ms g ≡ Err answer
+module _ (texts : Texts) (d : TableSchema) (ms : Members) (g : Given) where
+  -- what the texts of this operation state
+  abbrev pub condition_said : Result (Option Cond) Answer
+  condition_said = stated condition_of g (text_at texts.condition ms)
+
+  abbrev pub update_said : Result (Option (List Action)) Answer
+  update_said = stated update_of g (text_at texts.update ms)
+
+  abbrev pub paths_said : Result (Option (List (List PathPart))) Answer
+  paths_said = stated paths_of (names_alone g.names) (text_at texts.projection ms)
+
+  -- behind each of the texts
+  abbrev pub with_paths : Option Cond → Option (List Action) → Option (List (List PathPart))
+      → Result Expressions Answer
+  with_paths condition update paths = unless_answer (first_answer (of_texts texts d ms g update))
+      (record { condition = condition; update = update; projection = paths })
+
+  abbrev pub with_update : Option Cond → Option (List Action) → Result Expressions Answer
+  with_update condition update = paths_said >>= with_paths condition update
+
+  abbrev pub with_condition : Option Cond → Result Expressions Answer
+  with_condition condition = update_said >>= with_update condition
+
+  pub all_said : expressions texts d ms g ≡ condition_said >>= with_condition
   unfolding expressions
-  expressions-unsaid answer e = ap (λ r. r >>= (λ condition.
-      unless_answer (refuse_if (is_unused ms g (words_of (condition_text texts ms))) unused_name)
-      (record { condition = condition }))) e
+  all_said = refl
 
-  module _ (condition : Option Cond) (said : stated g (condition_text texts ms) ≡ Ok condition)
-    where
-      at_words : (b : Bool) → is_unused ms g (words_of (condition_text texts ms)) ≡ b
-          → expressions texts ms g
-          ≡ unless_answer (refuse_if b unused_name) (record { condition = condition })
-      unfolding expressions
-      at_words b e = ap (λ r. r >>= (λ c.
-          unless_answer (refuse_if (is_unused ms g (words_of (condition_text texts ms))) unused_name)
-          (record { condition = c }))) said
-          ∙ ap (λ c. unless_answer (refuse_if c unused_name) (record { condition = condition })) e
+  pub expressions-no_condition : (answer : Answer) → condition_said ≡ Err answer
+      → expressions texts d ms g ≡ Err answer
+  expressions-no_condition answer e = all_said ∙ ap (λ r. r >>= with_condition) e
 
-      pub expressions-unused : is_unused ms g (words_of (condition_text texts ms)) ≡ true
-          → expressions texts ms g ≡ Err (refused unused_name)
-      expressions-unused e = at_words true e
+  module _ (condition : Option Cond) (said : condition_said ≡ Ok condition) where
+    behind_condition : expressions texts d ms g ≡ with_condition condition
+    behind_condition = all_said ∙ ap (λ r. r >>= with_condition) said
 
-      pub expressions-said : is_unused ms g (words_of (condition_text texts ms)) ≡ false
-          → expressions texts ms g ≡ Ok (record { condition = condition })
-      expressions-said e = at_words false e
+    pub expressions-no_update : (answer : Answer) → update_said ≡ Err answer
+        → expressions texts d ms g ≡ Err answer
+    expressions-no_update answer e =
+        behind_condition ∙ ap (λ r. r >>= with_update condition) e
+
+    module _ (update : Option (List Action)) (updates : update_said ≡ Ok update) where
+      behind_update : expressions texts d ms g ≡ with_update condition update
+      behind_update = behind_condition ∙ ap (λ r. r >>= with_update condition) updates
+
+      pub expressions-no_paths : (answer : Answer) → paths_said ≡ Err answer
+          → expressions texts d ms g ≡ Err answer
+      expressions-no_paths answer e =
+          behind_update ∙ ap (λ r. r >>= with_paths condition update) e
+
+      module _ (paths : Option (List (List PathPart))) (shows : paths_said ≡ Ok paths) where
+        -- by what the tests of all texts tell
+        by_tests : (k u : Bool) → changes_key d update ≡ k → is_unused ms g (words_at texts ms) ≡ u
+            → expressions texts d ms g
+            ≡ unless_answer (first_answer (refuse_if k key_update ∷ refuse_if u unused_name ∷ []))
+            (record { condition = condition; update = update; projection = paths })
+        by_tests k u tells_key tells_unused =
+            behind_update ∙ ap (λ r. r >>= with_paths condition update) shows
+            ∙ ap (λ b. unless_answer (first_answer (refuse_if b key_update
+            ∷ refuse_if (is_unused ms g (words_at texts ms)) unused_name ∷ []))
+            (record { condition = condition; update = update; projection = paths })) tells_key
+            ∙ ap (λ b. unless_answer (first_answer (refuse_if k key_update
+            ∷ refuse_if b unused_name ∷ []))
+            (record { condition = condition; update = update; projection = paths })) tells_unused
+
+        pub expressions-key_update : changes_key d update ≡ true
+            → expressions texts d ms g ≡ Err (refused key_update)
+        expressions-key_update e = by_tests true (is_unused ms g (words_at texts ms)) e refl
+
+        module _ (keeps : changes_key d update ≡ false) where
+          pub expressions-unused : is_unused ms g (words_at texts ms) ≡ true
+              → expressions texts d ms g ≡ Err (refused unused_name)
+          expressions-unused e = by_tests false true keeps e
+
+          pub expressions-said : is_unused ms g (words_at texts ms) ≡ false
+              → expressions texts d ms g
+              ≡ Ok (record { condition = condition; update = update; projection = paths })
+          expressions-said e = by_tests false false keeps e
 
 -- ---- names
 

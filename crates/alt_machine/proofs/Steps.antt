@@ -2,9 +2,9 @@
 use Rattle.std.proofs.Common.{◌≡◌, ℕ, List, take, Option, Some, None}
 use Rattle.serde_json.specs.Data.{Members}
 use Rattle.alt_machine.specs.declared.Operation.{Operation}
-use Rattle.alt_machine.specs.declared.Operation.TheVariants.{CreateTable, DescribeTable, ListTables, DeleteTable, PutItem, GetItem, DeleteItem}
+use Rattle.alt_machine.specs.declared.Operation.TheVariants.{CreateTable, DescribeTable, ListTables, DeleteTable, PutItem, GetItem, DeleteItem, UpdateItem}
 use Rattle.alt_machine.specs.declared.Sought.TheVariants.{Key}
-use Rattle.alt_machine.specs.Expressions.{no_texts}
+use Rattle.alt_machine.specs.Expressions.{projecting}
 use Rattle.alt_machine.specs.Members.{body_of, table_name}
 use Rattle.alt_machine.specs.Ops.DeleteTable as delete
 use Rattle.alt_machine.specs.Ops.DescribeTable as describe
@@ -21,6 +21,7 @@ use Rattle.alt_machine.proofs.Lacks.{number_room}
 use Rattle.alt_machine.proofs.Puts.{put_steps, delete_steps}
 use Rattle.alt_machine.proofs.States.{without_table_valid}
 use Rattle.alt_machine.proofs.Targets.{steps-on_table, steps-on_item}
+use Rattle.alt_machine.proofs.Updates.{update_steps}
 
 drop_steps : (s : State) (ms : Members) → Steps s (delete.delete_table s ms)
 unfolding delete.delete_table
@@ -38,7 +39,7 @@ list_steps s ms = steps-unless s (list.of_body ms) _ (λ body. no_steps _ s)
 
 get_steps : (s : State) (ms : Members) → Steps s (get.get_item s ms)
 unfolding get.get_item
-get_steps s ms = steps-on_item s (get.of_body ms) Key no_texts ms _
+get_steps s ms = steps-on_item s (get.of_body ms) Key projecting ms _
     (λ said key t place there target. no_steps _ s)
 
 operates_steps : (s : State) (op : Operation) (moment : ℕ) (ms : Members)
@@ -50,6 +51,7 @@ operates_steps s DeleteTable moment ms = drop_steps s ms
 operates_steps s PutItem moment ms = put_steps s moment ms
 operates_steps s GetItem moment ms = get_steps s ms
 operates_steps s DeleteItem moment ms = delete_steps s moment ms
+operates_steps s UpdateItem moment ms = update_steps s moment ms
 
 body_steps : (s : State) (op : Operation) (moment : ℕ) (ms : Option Members)
     → Steps s (with_body s op moment ms)

@@ -42,7 +42,7 @@ module _ (tests : List (Option Answer)) (sought : Sought) (texts : Texts) (s : S
       (placed item t said)
 
   abbrev in_table : List Pair → Given → Table → Outcome
-  in_table item g t = with_found (expressions texts ms g) (expressed item t)
+  in_table item g t = with_found (expressions texts t.description ms g) (expressed item t)
 
   abbrev of_words : List Pair → Given → Outcome
   of_words item g = with_found (table_at s ms) (in_table item g)
@@ -80,13 +80,13 @@ module _ (tests : List (Option Answer)) (sought : Sought) (texts : Texts) (s : S
           at_table = at_words
               ∙ found (table_at s ms) (in_table item g) t (ap (or_refused not_found) there)
 
-          pub item-unsaid : (a : Answer) → expressions texts ms g ≡ Err a
+          pub item-unsaid : (a : Answer) → expressions texts t.description ms g ≡ Err a
               → on_item tests sought texts s ms go ≡ says a
-          item-unsaid a e = at_table ∙ missed (expressions texts ms g) (expressed item t) a e
+          item-unsaid a e = at_table ∙ missed (expressions texts t.description ms g) (expressed item t) a e
 
-          module _ (said : Expressions) (says_so : expressions texts ms g ≡ Ok said) where
+          module _ (said : Expressions) (says_so : expressions texts t.description ms g ≡ Ok said) where
             pub item-said : on_item tests sought texts s ms go ≡ expressed item t said
-            item-said = at_table ∙ found (expressions texts ms g) (expressed item t) said says_so
+            item-said = at_table ∙ found (expressions texts t.description ms g) (expressed item t) said says_so
 
             pub item-no_place : (a : Answer)
                 → or_refused bad_key (place_in sought t.description item) ≡ Err a
@@ -139,7 +139,7 @@ steps-on_item s tests sought texts ms go h =
     (λ item read.
     steps-found s (given_at texts ms) (of_words tests sought texts s ms go item) (λ g words.
     steps-found s (table_at s ms) (in_table tests sought texts s ms go item g) (λ t there.
-    steps-found s (expressions texts ms g) (expressed tests sought texts s ms go item t)
+    steps-found s (expressions texts t.description ms g) (expressed tests sought texts s ms go item t)
     (λ said says_so.
     steps-found s (or_refused bad_key (place_in sought t.description item))
     (placed tests sought texts s ms go item t said) (λ at stands.

@@ -1,4 +1,5 @@
--- Writes of an item that are made only where a condition holds of the one that is there (API Reference, "PutItem" and "DeleteItem").
+-- Writes of an item that are made only where a condition holds of the one that is there (API Reference, "PutItem", "DeleteItem" and
+-- "UpdateItem").
 use Rattle.std.specs.Prelude.{ℕ, Bool, true, List, Option, Some, None, option_and_then, codes, if◌then◌else◌}
 use Rattle.std.specs.Option.{option_map_or}
 use Rattle.std.specs.FinMap as map
@@ -44,13 +45,17 @@ abbrev pub failed : Option (List Pair) → Answer
 failed None = refused condition_failed
 failed (Some item) = refused_with_item (json_of_pairs item) condition_failed
 
+-- It goes on where the condition holds of what is there. Else nothing is written, and the refusal shows what is there where that is
+-- asked for.
+abbrev pub if_met : Option Cond → Members → Option (List Pair) → Outcome → Outcome
+if_met condition ms old go =
+    if meets condition old then go
+    else says (failed (asked (codes "ReturnValuesOnConditionCheckFailure") ms old))
+
 -- Where the condition holds of what is at the place, `new` is left there, or nothing, and the answer shows what was there where it is
--- asked for. Else nothing is written, and the refusal shows it where that is asked for.
+-- asked for.
 abbrev pub writes_if : Option Cond → State → ℕ → Members → Table → List ℕ → Option (List Pair)
     → Outcome
-writes_if condition s moment ms t place new =
-    if meets condition (map.get t.items place)
-    then writes (item_writes s moment (table_name ms) t place new)
-    (item_answer (codes "Attributes") (asked (codes "ReturnValues") ms (map.get t.items place)))
-    else says (failed
-    (asked (codes "ReturnValuesOnConditionCheckFailure") ms (map.get t.items place)))
+writes_if condition s moment ms t place new = if_met condition ms (map.get t.items place)
+    (writes (item_writes s moment (table_name ms) t place new)
+    (item_answer (codes "Attributes") (asked (codes "ReturnValues") ms (map.get t.items place))))

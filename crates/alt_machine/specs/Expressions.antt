@@ -1,39 +1,63 @@
 -- The expressions of a request: the names and values that it gives, what its texts say, and that each given word stands in one of them
 -- (DynamoDB Developer Guide, "Using expressions in DynamoDB").
-use Rattle.std.specs.Prelude.{ℕ, Bool, false, List, [], ◌∷◌, Option, Some, None, option_and_then, Result, Ok, Err, codes, ◌||◌, if◌then◌else◌}
+use Rattle.std.specs.Prelude.{ℕ, Bool, false, List, [], ◌∷◌, ◌++◌, Option, Some, None, option_and_then, Result, Ok, Err, codes, ◌||◌}
+use Rattle.std.specs.List.{list_any}
 use Rattle.std.specs.Option.{option_map_or}
 use Rattle.serde_json.specs.Data.{Data, string, Members, no_members, member}
 use Rattle.serde_json.specs.Find.{as_object, as_str}
 use Rattle.alt_codec.specs.Reading.{item_in}
+use Rattle.alt_expr.specs.Faults.{Language}
 use Rattle.alt_expr.specs.Given.{Given, with_hashes, with_colons, has_unused}
+use Rattle.alt_expr.specs.Lookups.{names_alone}
 use Rattle.alt_expr.specs.NamesIn.{names_in, gives_empty}
 use Rattle.alt_expr.specs.Told.{TextTokens, Told}
 use Rattle.alt_expr.specs.Tokens.{Tok}
-use Rattle.alt_expr.specs.declared.cond.Cond.{Cond}
+use Rattle.alt_expr.specs.UpdateLanguage.{target}
 use Rattle.alt_expr.specs.declared.fault.ExprFault.{ExprFault}
 use Rattle.alt_expr.specs.declared.fault.ExprFault.TheVariants.{TooLong, TooDeep, Syntax, Undefined, TooMany, RepeatedClause, Overlap, NoMemory}
+use Rattle.alt_expr.specs.declared.path.PathPart.{PathPart}
+use Rattle.alt_expr.specs.declared.path.PathPart.TheVariants.{Name}
+use Rattle.alt_expr.specs.declared.update.Action.{Action}
 use Rattle.alt_expr.proofs.CondTexts.{condition_of}
+use Rattle.alt_expr.proofs.PathsTexts.{paths_of}
 use Rattle.alt_expr.proofs.TextTokens.{tokens_of}
+use Rattle.alt_expr.proofs.UpdateTexts.{update_of}
 use Rattle.alt_machine.specs.declared.Expressions.{Expressions}
 use Rattle.alt_machine.specs.Members.{unless_fault}
 use Rattle.alt_machine.specs.Refusals.{first_answer, refuse_if, refuse_by, unless_answer, ◌>>=◌}
+use Rattle.alt_schema.specs.Indexes.{is_key}
+use Rattle.alt_schema.specs.declared.schema.TableSchema.{TableSchema}
 use Rattle.alt_shape.specs.Refusals as refusal
-use Rattle.alt_shape.specs.Refusals.{Answer, refused}
+use Rattle.alt_shape.specs.Refusals.{Answer, refused, key_update, unused_name}
 use Rattle.alt_shape.specs.Shape.{given}
 use Rattle.alt_shape.specs.declared.refusal.Refusal.{Refusal}
 use Rattle.alt_value.specs.Tree.{Pair}
 
--- the members of an operation that are expressions: its condition, where it takes one
+-- the members of an operation that are expressions, each where it takes one
 pub record Texts : Type 0 where
   pub condition : Option (List ℕ)
-
--- none is one
-abbrev pub no_texts : Texts
-no_texts = record { condition = None }
+  pub update : Option (List ℕ)
+  pub projection : Option (List ℕ)
 
 -- a write that may be conditional
 abbrev pub conditional : Texts
-conditional = record { condition = Some (codes "ConditionExpression") }
+conditional = record {
+  condition = Some (codes "ConditionExpression");
+  update = None;
+  projection = None;
+}
+
+-- an update, which may be conditional
+abbrev pub updating : Texts
+updating = record conditional { update = Some (codes "UpdateExpression") }
+
+-- a read that may show parts
+abbrev pub projecting : Texts
+projecting = record {
+  condition = None;
+  update = None;
+  projection = Some (codes "ProjectionExpression");
+}
 
 -- ---- names and values
 
@@ -92,23 +116,37 @@ abbrev pub read_or_refused : {A : Type 0} → Result A ExprFault → Result (Opt
 read_or_refused (Ok tree) = Ok (Some tree)
 read_or_refused (Err fault) = Err (refused (expression_refusal fault))
 
--- The condition that a text states over what is given, if there is a text. What a text is of the grammar is one (`Told`).
-abbrev pub stated : Given → Option (List ℕ) → Result (Option Cond) Answer
-stated g None = Ok None
-stated g (Some text) =
-    let told : Told _ g text = condition_of g text in read_or_refused told.result
+-- What a text states over what is given, if there is a text. What a text is of a grammar is one (`Told`).
+abbrev pub stated : {D A : Type 0} {L : Language D A} → ((g : Given) (text : List ℕ) → Told L g text)
+    → Given → Option (List ℕ) → Result (Option A) Answer
+stated told g None = Ok None
+stated told g (Some text) = let of_text = told g text in read_or_refused of_text.result
 
--- the text of the condition
-abbrev pub condition_text : Texts → Members → Option (List ℕ)
-condition_text texts ms = option_and_then (λ name. option_and_then as_str (given name ms))
-    texts.condition
+-- the text at a member, where an operation takes one there
+abbrev pub text_at : Option (List ℕ) → Members → Option (List ℕ)
+text_at named ms = option_and_then (λ name. option_and_then as_str (given name ms)) named
 
 -- the words of a text, if there is one
 abbrev pub words_of : Option (List ℕ) → List Tok
 words_of None = []
 words_of (Some text) = let tokens : TextTokens text = tokens_of text in tokens.toks
 
+-- the words of all texts
+abbrev pub words_at : Texts → Members → List Tok
+words_at texts ms = words_of (text_at texts.condition ms) ++ words_of (text_at texts.update ms)
+    ++ words_of (text_at texts.projection ms)
+
 -- ---- all of them
+
+-- a path begins with a key attribute of the table
+abbrev pub begins_with_key : TableSchema → List PathPart → Bool
+begins_with_key d (Name name ∷ parts) = is_key d.hash d.range name
+begins_with_key d parts = false
+
+-- an update changes a key attribute, or a part of one
+abbrev pub changes_key : TableSchema → Option (List Action) → Bool
+changes_key d update = option_map_or (list_any (λ action. begins_with_key d (target action)))
+    update false
 
 -- a given name or value stands in none of the texts, which have these words; no text has the empty word
 abbrev pub is_unused : Members → Given → List Tok → Bool
@@ -116,9 +154,19 @@ is_unused ms g words = (option_map_or gives_empty (names_member ms) false
     || has_unused g.names (with_hashes words []))
     || has_unused g.values (with_colons words [])
 
--- What the expressions say: each text is refused for its first fault, and then all are for a word that stands in none.
-unfoldable pub expressions : Texts → Members → Given → Result Expressions Answer
-expressions texts ms g = do
-  condition ← stated g (condition_text texts ms)
-  unless_answer (refuse_if (is_unused ms g (words_of (condition_text texts ms))) refusal.unused_name)
-      (record { condition = condition })
+-- what they are refused for once each text is read: an update of a key attribute, and then a word that stands in none
+abbrev pub of_texts : Texts → TableSchema → Members → Given → Option (List Action)
+    → List (Option Answer)
+of_texts texts d ms g update =
+    refuse_if (changes_key d update) key_update ∷
+    refuse_if (is_unused ms g (words_at texts ms)) unused_name ∷ []
+
+-- What the expressions say to a table: each text is refused for its first fault, in this order, and then all of them. A projection
+-- has no word for a value.
+unfoldable pub expressions : Texts → TableSchema → Members → Given → Result Expressions Answer
+expressions texts d ms g = do
+  condition ← stated condition_of g (text_at texts.condition ms)
+  update ← stated update_of g (text_at texts.update ms)
+  projection ← stated paths_of (names_alone g.names) (text_at texts.projection ms)
+  unless_answer (first_answer (of_texts texts d ms g update))
+      (record { condition = condition; update = update; projection = projection })

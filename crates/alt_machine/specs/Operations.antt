@@ -3,7 +3,7 @@ use Rattle.std.specs.Prelude.{ℕ, List, [], ◌∷◌, Option, option_map, code
 use Rattle.std.specs.List.{find}
 use Rattle.std.specs.Str.{bytes_eq}
 use Rattle.alt_machine.specs.declared.Operation.{Operation}
-use Rattle.alt_machine.specs.declared.Operation.TheVariants.{CreateTable, DescribeTable, ListTables, DeleteTable, PutItem, GetItem, DeleteItem}
+use Rattle.alt_machine.specs.declared.Operation.TheVariants.{CreateTable, DescribeTable, ListTables, DeleteTable, PutItem, GetItem, DeleteItem, UpdateItem}
 
 -- the operations that are built
 abbrev pub operations : List (List ℕ × Operation)
@@ -14,7 +14,8 @@ operations =
     (codes "DeleteTable", DeleteTable) ∷
     (codes "PutItem", PutItem) ∷
     (codes "GetItem", GetItem) ∷
-    (codes "DeleteItem", DeleteItem) ∷ []
+    (codes "DeleteItem", DeleteItem) ∷
+    (codes "UpdateItem", UpdateItem) ∷ []
 
 -- the operation of a name among these
 abbrev pub named_in : List (List ℕ × Operation) → List ℕ → Option Operation

@@ -6,3 +6,4 @@ pub mod DescribeTable
 pub mod GetItem
 pub mod ListTables
 pub mod PutItem
+pub mod UpdateItem

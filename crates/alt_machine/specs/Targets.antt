@@ -43,7 +43,7 @@ on_item tests sought texts s ms go =
     with_found (item_at (member_of sought) ms) (λ item.
     with_found (given_at texts ms) (λ g.
     with_found (table_at s ms) (λ t.
-    with_found (expressions texts ms g) (λ said.
+    with_found (expressions texts t.description ms g) (λ said.
     with_found (or_refused bad_key (place_in sought t.description item)) (λ place.
     unless_refused (of_length t.description item) (go said item t place)))))))
 
@@ -63,6 +63,6 @@ pub record IsPlaced (tests : List (Option Answer)) (sought : Sought) (texts : Te
   pub read : item_at (member_of sought) ms ≡ Ok item
   pub words : Given
   pub given : given_at texts ms ≡ Ok words
-  pub says : expressions texts ms words ≡ Ok said
+  pub says : expressions texts d ms words ≡ Ok said
   pub at : place_in sought d item ≡ Some place
   pub fits : key_fits d item ≡ true

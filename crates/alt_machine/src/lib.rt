@@ -8,7 +8,7 @@ ghost use Rattle.alt_machine.specs.Laws.{StepsKeepValid, PlacesLie};
 ghost use Rattle.alt_machine.specs.State.{start};
 ghost use Rattle.alt_machine.specs.Valid.{IsValid};
 
-use alt_expr::Cond;
+use alt_expr::{Cond, Paths, Update};
 
 /// An operation that is built (DynamoDB API Reference, "Actions").
 #[derive(Clone, Copy, Debug, PartialEq, Eq)]
@@ -20,6 +20,7 @@ pub enum Operation {
     PutItem,
     GetItem,
     DeleteItem,
+    UpdateItem,
 }
 
 /// What a request has of an item: all of it, at its member Item, or the key alone, at Key.
@@ -29,10 +30,12 @@ pub enum Sought {
     Key,
 }
 
-/// What the expressions of a request say: its condition, where it states one.
+/// What the expressions of a request say: its condition, what it updates and what it shows, each where it has a text for it.
 #[derive(Drop)]
 pub struct Expressions {
     pub condition: Option<Cond>,
+    pub update: Option<Update>,
+    pub projection: Option<Paths>,
 }
 
 /// The numbers of writes are below 2^62 - 1.

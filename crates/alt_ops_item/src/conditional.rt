@@ -110,7 +110,7 @@ fn write_where<D: Disk>(
 }
 
 /// Whether the condition holds of the item that is there; one that isn't there has no attributes.
-fn meets(alloc: Global, condition: &Option<Cond>, old: &Option<Item>) -> bool
+pub(crate) fn meets(alloc: Global, condition: &Option<Cond>, old: &Option<Item>) -> bool
     ensures meets { result ≡ machine.meets condition.now old.now }
 {
     let Some(condition) = condition else {
@@ -123,7 +123,11 @@ fn meets(alloc: Global, condition: &Option<Cond>, old: &Option<Item>) -> bool
 }
 
 /// The item that was there, where a member asks for it.
-fn asked<'i>(body: &Map<String, Value>, name: &str, old: &'i Option<Item>) -> Option<&'i Item>
+pub(crate) fn asked<'i>(
+    body: &Map<String, Value>,
+    name: &str,
+    old: &'i Option<Item>,
+) -> Option<&'i Item>
     ensures asked { option_map (λ i. i.now) result
         ≡ machine.asked name.now (members_view body.now.entries) old.now }
 {
@@ -135,7 +139,7 @@ fn asked<'i>(body: &Map<String, Value>, name: &str, old: &'i Option<Item>) -> Op
 }
 
 /// The refusal of a request whose condition doesn't hold, and in it the item, if there is one to show.
-fn failed(alloc: Global, item: Option<&Item>) -> Result<Reply, Stop>
+pub(crate) fn failed(alloc: Global, item: Option<&Item>) -> Result<Reply, Stop>
     ensures says { Says (machine.failed (option_map (λ i. i.now) item.entry)) result }
 {
     let Some(item) = item else {

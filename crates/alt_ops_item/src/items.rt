@@ -1,13 +1,17 @@
 //! Items as they are answered.
 
-ghost use Rattle.std.specs.Prelude.{◌≡◌, false, IfOk, IfErr, option_map};
+ghost use Rattle.std.specs.Prelude.{◌≡◌, false, Some, IfOk, IfErr, option_map};
 ghost use Rattle.serde_json.specs.View.{view};
 ghost use Rattle.serde_json.specs.Written.{has_float};
+ghost use Rattle.alt_expr.specs.Projected.{projected};
+ghost use Rattle.alt_machine.specs.Ops.GetItem.{parts};
 ghost use Rattle.alt_machine.specs.Replies.{item_answer};
 ghost use Rattle.alt_request.specs.Steps.{IsMemory};
 ghost use Rattle.alt_shape.specs.Refusals.{answer_of};
 
 use alt_codec::json_of_item;
+use alt_expr::Paths;
+use alt_projection::project;
 use alt_request::{Stop, done, one_member};
 use alt_shape::Reply;
 use alt_tables::TableFault;
@@ -31,6 +35,41 @@ pub(crate) fn item_reply(alloc: Global, name: &str, item: Option<&Item>) -> Resu
         Ok(reply) => Ok(reply),
         Err(_) => Err(Stop::Fault(TableFault::NoMemory)),
     }
+}
+
+/// The reply with what paths choose of an item at a member, if there is one; with all of it where there are no paths.
+#[tactic(auto, using(crate::proofs::Getting::all_parts))]
+pub(crate) fn parts_reply(
+    alloc: Global,
+    name: &str,
+    paths: &Option<Paths>,
+    item: &Option<Item>,
+) -> Result<Reply, Stop>
+    ensures reply { IfOk result (λ reply. answer_of reply
+        ≡ item_answer name.now (option_map (parts paths.now) item.now)) }
+    ensures plain { IfOk result (λ reply. has_float (view reply.body) ≡ false) }
+    ensures cause { IfErr result IsMemory }
+{
+    let Some(paths) = paths else {
+        return item_reply(alloc, name, shown(item));
+    };
+    let Some(item) = item else {
+        return Ok(done(alloc));
+    };
+    chosen_reply(alloc, name, paths, item)
+}
+
+/// The reply with what paths choose of an item.
+fn chosen_reply(alloc: Global, name: &str, paths: &Paths, item: &Item) -> Result<Reply, Stop>
+    ensures reply { IfOk result (λ reply. answer_of reply
+        ≡ item_answer name.now (Some (projected paths.now item.now))) }
+    ensures plain { IfOk result (λ reply. has_float (view reply.body) ≡ false) }
+    ensures cause { IfErr result IsMemory }
+{
+    let Ok(chosen) = project(alloc, paths, item) else {
+        return Err(Stop::Fault(TableFault::NoMemory));
+    };
+    item_reply(alloc, name, Some(&chosen))
 }
 
 /// An item, if there is one, borrowed.

@@ -67,7 +67,7 @@ pub fn put_item<D: Disk>(
 }
 
 /// Why an item is refused in its table, beside its key.
-fn item_refusal(schema: &TableSchema, item: &Item) -> Result<(), Stop>
+pub(crate) fn item_refusal(schema: &TableSchema, item: &Item) -> Result<(), Stop>
     ensures tested { Tested (of_item schema.now item.now) result }
 {
     if !index_keys_fit(schema, item) {

@@ -4,3 +4,4 @@ pub mod Reaching
 pub mod Said
 pub mod Walks
 pub mod Moving
+pub mod Stated

@@ -49,7 +49,7 @@ module _ (tests : List (Option Answer)) (sought : Sought) (texts : machine.Texts
       (read : item_at (member_of sought) ms ≡ Ok item) (g : expr.Given)
       (words : machine.given_at texts ms ≡ Ok g) (t : Table)
       (there : map.get s.tables (table_name ms) ≡ Some t) (said : Expressions)
-      (says_so : machine.expressions texts ms g ≡ Ok said) (a : Answer)
+      (says_so : machine.expressions texts t.description ms g ≡ Ok said) (a : Answer)
       → place_that_fits sought t.description item ≡ Err a
       → on_item tests sought texts s ms go ≡ says a
   item-unplaced free item read g words t there said says_so a e =
@@ -126,18 +126,19 @@ module _ (tests : List (Option Answer)) (sought : Sought) (texts : machine.Texts
           (some_found not_found (map.get catalog (table_name ms)) d there)
 
       pub unsaid : (e : Stop)
-          → Comes {X = Expressions} (λ x. x) (machine.expressions texts ms g) (Err e)
+          → Comes {X = Expressions} (λ x. x) (machine.expressions texts d ms g) (Err e)
           → OnItem tests sought texts catalog ms (Err e)
       unsaid (Refused q) h = (
         h.1,
         λ s go same.
             let found = at_table s same in
             item-unsaid tests sought texts s ms go free item read g words found.0 found.1
-            (refused q) h.0,
+            (refused q)
+            (ap (λ (x : TableSchema). machine.expressions texts x ms g) found.2 ∙ h.0),
       )
       unsaid (Fault f) h = h
 
-      module _ (said : Expressions) (says_so : machine.expressions texts ms g ≡ Ok said) where
+      module _ (said : Expressions) (says_so : machine.expressions texts d ms g ≡ Ok said) where
         pub unplaced : (e : Stop) → Comes {X = List ℕ} (λ b. b) (place_that_fits sought d item) (Err e)
             → OnItem tests sought texts catalog ms (Err e)
         unplaced (Refused q) h = (
@@ -145,7 +146,8 @@ module _ (tests : List (Option Answer)) (sought : Sought) (texts : machine.Texts
           λ s go same.
               let found = at_table s same in
               item-unplaced tests sought texts s ms go free item read g words found.0 found.1 said
-              says_so (refused q)
+              (ap (λ (x : TableSchema). machine.expressions texts x ms g) found.2 ∙ says_so)
+              (refused q)
               (ap (λ (x : TableSchema). place_that_fits sought x item) found.2 ∙ h.0),
         )
         unplaced (Fault f) h = h

@@ -1,28 +1,29 @@
 -- What the expressions of a request say, by what was read of them.
-use Rattle.std.proofs.Common.{◌≡◌, refl, sym, ap, subst, ◌∙◌, ◌||◌, ℕ, true, false, List, [], ◌∷◌, Option, Some, None, option_map, Ok, Err, arith}
+use Rattle.std.proofs.Common.{◌≡◌, refl, sym, ap, subst, ◌∙◌, ◌||◌, true, false, List, [], ◌∷◌, Option, Some, None, option_map, Result, Ok, Err, arith}
 use Rattle.std.specs.Option.{option_map_or}
 use Rattle.serde_json.specs.Data.{Data, Members, no_members, member, string}
-use Rattle.alt_expr.specs.Faults.{Parsed, KeepsNames}
+use Rattle.alt_expr.specs.Faults.{KeepsNames}
 use Rattle.alt_expr.specs.Given as expr
 use Rattle.alt_expr.specs.Given.{with_hashes, with_colons, has_unused}
-use Rattle.alt_expr.specs.Languages.{conditions}
 use Rattle.alt_expr.specs.NamesGiven.{used_names, given_values, used_values, is_empty_given}
 use Rattle.alt_expr.specs.NamesIn.{gives_names, gives_empty, names_in as expr_names}
 use Rattle.alt_expr.specs.declared.cond.Cond.{Cond}
-use Rattle.alt_expr.specs.declared.fault.ExprFault.{ExprFault}
-use Rattle.alt_expr.specs.declared.fault.ExprFault.TheVariants as fault
 use Rattle.alt_expr.specs.declared.names.Names.{Names}
+use Rattle.alt_expr.specs.declared.path.PathPart.{PathPart}
+use Rattle.alt_expr.specs.declared.update.Action.{Action}
 use Rattle.alt_expr.specs.declared.values.Values.{Values}
 use Rattle.alt_machine.specs.declared.Expressions.{Expressions}
 use Rattle.alt_machine.specs.Expressions as machine
 use Rattle.alt_machine.specs.Refusals.{first_answer, refuse_by, unless_answer}
-use Rattle.alt_machine.proofs.Spoken.{stated_is, expressions-unsaid, expressions-unused, expressions-said, are_given}
+use Rattle.alt_machine.proofs.Spoken.{condition_said, update_said, paths_said, expressions-no_condition, expressions-no_update, expressions-no_paths, expressions-key_update, expressions-unused, expressions-said, are_given}
 use Rattle.alt_request.specs.Steps.{Comes}
-use Rattle.alt_request.specs.Words.{IsFresh, given_of, names_refusal, names_in, earlier, has_more, stop_of}
+use Rattle.alt_request.specs.Words.{IsFresh, given_of, names_refusal, names_in, earlier, has_more, all_stated}
 use Rattle.alt_request.specs.declared.expressions.Given.{Given}
 use Rattle.alt_request.specs.declared.stop.Stop.{Stop}
 use Rattle.alt_request.specs.declared.stop.Stop.TheVariants.{Refused, Fault}
-use Rattle.alt_shape.specs.Refusals.{IsKnown, refused, unused_name, not_one_kind, unreadable}
+use Rattle.alt_request.proofs.Stated.{behind, with_all}
+use Rattle.alt_schema.specs.declared.schema.TableSchema.{TableSchema}
+use Rattle.alt_shape.specs.Refusals.{Answer, IsKnown, refused, key_update, unused_name, not_one_kind, unreadable}
 use Rattle.alt_shape.specs.declared.refusal.Refusal.{Refusal}
 
 -- ---- names
@@ -71,71 +72,95 @@ pub names_refused : (ms : Members) (r : Refusal) → names_refusal ms ≡ Some r
 names_refused ms r e = ap (λ o. unless_answer o (expr_names [] ms))
     (first_is ms ∙ ap (option_map refused) e)
 
--- ---- texts
-
-module _ (g : expr.Given) (text : List ℕ) where
-  pub read_ok : (c : Cond) → Parsed conditions g text (Ok c)
-      → machine.stated g (Some text) ≡ Ok (Some c)
-  read_ok c parsed = stated_is g text (Ok c) parsed (λ e. let f : ⊥ = cc in f)
-
-  pub read_err : (f : ExprFault) → Parsed conditions g text (Err f)
-      → Comes {X = Option Cond} (λ c. c) (machine.stated g (Some text)) (Err (stop_of f))
-  read_err fault.TooLong h =
-      (stated_is g text (Err fault.TooLong) h (λ e. let f : ⊥ = cc in f), omega arith)
-  read_err fault.TooDeep h =
-      (stated_is g text (Err fault.TooDeep) h (λ e. let f : ⊥ = cc in f), omega arith)
-  read_err fault.Syntax h =
-      (stated_is g text (Err fault.Syntax) h (λ e. let f : ⊥ = cc in f), omega arith)
-  read_err fault.Undefined h =
-      (stated_is g text (Err fault.Undefined) h (λ e. let f : ⊥ = cc in f), omega arith)
-  read_err fault.TooMany h =
-      (stated_is g text (Err fault.TooMany) h (λ e. let f : ⊥ = cc in f), omega arith)
-  read_err fault.RepeatedClause h =
-      (stated_is g text (Err fault.RepeatedClause) h (λ e. let f : ⊥ = cc in f), omega arith)
-  read_err fault.Overlap h =
-      (stated_is g text (Err fault.Overlap) h (λ e. let f : ⊥ = cc in f), omega arith)
-  read_err fault.NoMemory h = tt
-
 -- ---- all of them
 
-module _ (texts : machine.Texts) (ms : Members) (old : Given) (text : Option (List ℕ))
-    (is : text ≡ machine.condition_text texts ms) where
+module _ (texts : machine.Texts) (d : TableSchema) (ms : Members) (g : expr.Given) where
+  -- a text that is refused refuses them all
+  first_unsaid : (a : Answer) → all_stated texts ms g ≡ Err a
+      → machine.expressions texts d ms g ≡ Err a
+  first_unsaid a = by (condition_said texts d ms g) refl (update_said texts d ms g) refl
+      (paths_said texts d ms g) refl
+    where
+      by : (c : Result (Option Cond) Answer) → condition_said texts d ms g ≡ c
+          → (u : Result (Option (List Action)) Answer) → update_said texts d ms g ≡ u
+          → (p : Result (Option (List (List PathPart))) Answer) → paths_said texts d ms g ≡ p
+          → behind c u p ≡ Err a → machine.expressions texts d ms g ≡ Err a
+      by (Err b) is u is_u p is_p e = expressions-no_condition texts d ms g a
+          (is ∙ ap (λ x. Err x) (let f : b ≡ a = cc in f))
+      by (Ok c) is (Err b) is_u p is_p e = expressions-no_update texts d ms g c is a
+          (is_u ∙ ap (λ x. Err x) (let f : b ≡ a = cc in f))
+      by (Ok c) is (Ok u) is_u (Err b) is_p e = expressions-no_paths texts d ms g c is u is_u a
+          (is_p ∙ ap (λ x. Err x) (let f : b ≡ a = cc in f))
+      by (Ok c) is (Ok u) is_u (Ok p) is_p e = absurd (let f : ⊥ = cc in f)
+
   pub unsaid : (stop : Stop)
-      → Comes {X = Option Cond} (λ c. c) (machine.stated (given_of old) text) (Err stop)
-      → Comes {X = Expressions} (λ e. e) (machine.expressions texts ms (given_of old)) (Err stop)
-  unsaid (Refused r) h = (
-    expressions-unsaid texts ms (given_of old) (refused r)
-        (ap (machine.stated (given_of old)) (sym is) ∙ h.0),
-    h.1,
-  )
+      → Comes {X = Expressions} (λ e. e) (all_stated texts ms g) (Err stop)
+      → Comes {X = Expressions} (λ e. e) (machine.expressions texts d ms g) (Err stop)
+  unsaid (Refused r) h = (first_unsaid (refused r) h.0, h.1)
   unsaid (Fault f) h = h
 
-  module _ (fresh : IsFresh ms old) (names : Names) (values : Values) (condition : Option Cond)
-      (said : machine.stated (given_of old) text ≡ Ok condition)
-      (hashes : used_names names ≡ with_hashes (machine.words_of text) (used_names old.names))
-      (colons : used_values values ≡ with_colons (machine.words_of text) (used_values old.values))
-      (keeps : KeepsNames old.names names) (kept : given_values values ≡ given_values old.values)
+  -- what all of them state is what each of them does
+  pub each_said : (e : Expressions) → all_stated texts ms g ≡ Ok e
+      → (condition_said texts d ms g ≡ Ok e.condition) × (update_said texts d ms g ≡ Ok e.update)
+      × (paths_said texts d ms g ≡ Ok e.projection)
+  each_said e = by (condition_said texts d ms g) refl (update_said texts d ms g) refl
+      (paths_said texts d ms g) refl
     where
-      states : machine.stated (given_of old) (machine.condition_text texts ms) ≡ Ok condition
-      states = ap (machine.stated (given_of old)) (sym is) ∙ said
+      by : (c : Result (Option Cond) Answer) → condition_said texts d ms g ≡ c
+          → (u : Result (Option (List Action)) Answer) → update_said texts d ms g ≡ u
+          → (p : Result (Option (List (List PathPart))) Answer) → paths_said texts d ms g ≡ p
+          → behind c u p ≡ Ok e
+          → (condition_said texts d ms g ≡ Ok e.condition)
+          × (update_said texts d ms g ≡ Ok e.update) × (paths_said texts d ms g ≡ Ok e.projection)
+      by (Err b) is u is_u p is_p h = absurd (let f : ⊥ = cc in f)
+      by (Ok c) is (Err b) is_u p is_p h = absurd (let f : ⊥ = cc in f)
+      by (Ok c) is (Ok u) is_u (Err b) is_p h = absurd (let f : ⊥ = cc in f)
+      by (Ok c) is (Ok u) is_u (Ok p) is_p h =
+          let same : with_all c u p ≡ e = cc in (
+            is ∙ ap (λ (x : Expressions). Ok x.condition) same,
+            is_u ∙ ap (λ (x : Expressions). Ok x.update) same,
+            is_p ∙ ap (λ (x : Expressions). Ok x.projection) same,
+          )
 
-      same_empty : is_empty_given names
-          ≡ option_map_or gives_empty (machine.names_member ms) false
-      same_empty = keeps.empty ∙ fresh.names.empty
+module _ (texts : machine.Texts) (d : TableSchema) (ms : Members) (old : Given) (e : Expressions)
+    (stated : all_stated texts ms (given_of old) ≡ Ok e) where
+  -- an update of a key attribute
+  pub said_key_update : machine.changes_key d e.update ≡ true
+      → machine.expressions texts d ms (given_of old) ≡ Err (refused key_update)
+  said_key_update key =
+      let each = each_said texts d ms (given_of old) e stated in
+      expressions-key_update texts d ms (given_of old) e.condition each.0 e.update each.1
+      e.projection each.2 key
 
-      unused_is : has_more names values ≡ machine.is_unused ms (given_of old)
-          (machine.words_of (machine.condition_text texts ms))
-      unused_is = λ i.
-          (same_empty i || has_unused (keeps.names i)
-          ((hashes ∙ (λ j. with_hashes (machine.words_of (is j)) (fresh.names.used j))) i))
-          || has_unused (kept i)
-          ((colons ∙ (λ j. with_colons (machine.words_of (is j)) (fresh.values j))) i)
+  module _ (fresh : IsFresh ms old) (names : Names) (values : Values)
+      (hashes : used_names names ≡ with_hashes (machine.words_at texts ms) (used_names old.names))
+      (colons : used_values values
+      ≡ with_colons (machine.words_at texts ms) (used_values old.values))
+      (keeps : KeepsNames old.names names) (kept : given_values values ≡ given_values old.values)
+      (apart : machine.changes_key d e.update ≡ false) where
+    same_empty : is_empty_given names ≡ option_map_or gives_empty (machine.names_member ms) false
+    same_empty = keeps.empty ∙ fresh.names.empty
 
-      pub said_unused : has_more names values ≡ true
-          → machine.expressions texts ms (given_of old) ≡ Err (refused unused_name)
-      said_unused e = expressions-unused texts ms (given_of old) condition states
-          (sym unused_is ∙ e)
+    unused_is : has_more names values
+        ≡ machine.is_unused ms (given_of old) (machine.words_at texts ms)
+    unused_is = λ i.
+        (same_empty i || has_unused (keeps.names i)
+        ((hashes ∙ ap (with_hashes (machine.words_at texts ms)) fresh.names.used) i))
+        || has_unused (kept i)
+        ((colons ∙ ap (with_colons (machine.words_at texts ms)) fresh.values) i)
 
-      pub said_all : has_more names values ≡ false
-          → machine.expressions texts ms (given_of old) ≡ Ok (record { condition = condition })
-      said_all e = expressions-said texts ms (given_of old) condition states (sym unused_is ∙ e)
+    -- a word that stands in no text
+    pub said_unused : has_more names values ≡ true
+        → machine.expressions texts d ms (given_of old) ≡ Err (refused unused_name)
+    said_unused more =
+        let each = each_said texts d ms (given_of old) e stated in
+        expressions-unused texts d ms (given_of old) e.condition each.0 e.update each.1
+        e.projection each.2 apart (sym unused_is ∙ more)
+
+    -- neither
+    pub said_all : has_more names values ≡ false
+        → machine.expressions texts d ms (given_of old) ≡ Ok e
+    said_all more =
+        let each = each_said texts d ms (given_of old) e stated in
+        expressions-said texts d ms (given_of old) e.condition each.0 e.update each.1
+        e.projection each.2 apart (sym unused_is ∙ more)

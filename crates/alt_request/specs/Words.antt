@@ -1,18 +1,22 @@
 -- The names and values of a request, and the members that are expressions, as the machine has them.
-use Rattle.std.specs.Prelude.{◌≡◌, ◌||◌, Bool, false, List, [], Option, Some, None, Result, option_map}
+use Rattle.std.specs.Prelude.{◌≡◌, ◌||◌, Bool, false, List, [], Option, Some, None, Result, Ok, option_map}
 use Rattle.std.specs.Option.{option_map_or}
 use Rattle.serde_json.specs.Data.{Members, no_members, member}
 use Rattle.alt_expr.specs.Given as expr
 use Rattle.alt_expr.specs.Given.{has_unused}
-use Rattle.alt_expr.specs.Lookups.{given_by}
+use Rattle.alt_expr.specs.Lookups.{given_by, names_alone}
 use Rattle.alt_expr.specs.NamesGiven.{given_names, used_names, given_values, used_values, is_empty_given}
 use Rattle.alt_expr.specs.NamesIn.{names_in as expr_names, gives_empty}
 use Rattle.alt_expr.specs.declared.fault.ExprFault.{ExprFault}
 use Rattle.alt_expr.specs.declared.fault.ExprFault.TheVariants as fault
 use Rattle.alt_expr.specs.declared.names.Names.{Names}
 use Rattle.alt_expr.specs.declared.values.Values.{Values}
+use Rattle.alt_expr.proofs.CondTexts.{condition_of}
+use Rattle.alt_expr.proofs.PathsTexts.{paths_of}
+use Rattle.alt_expr.proofs.UpdateTexts.{update_of}
+use Rattle.alt_machine.specs.declared.Expressions.{Expressions}
 use Rattle.alt_machine.specs.Expressions as machine
-use Rattle.alt_machine.specs.Refusals.{first_answer, unless_answer}
+use Rattle.alt_machine.specs.Refusals.{first_answer, unless_answer, ◌>>=◌}
 use Rattle.alt_request.specs.declared.expressions.Given.{Given}
 use Rattle.alt_request.specs.declared.expressions.Texts.{Texts}
 use Rattle.alt_request.specs.declared.stop.Stop.{Stop}
@@ -24,7 +28,11 @@ use Rattle.alt_value.specs.Tree.{Pair}
 
 -- the members that are expressions
 abbrev pub texts_of : Texts → machine.Texts
-texts_of texts = record { condition = option_map (λ w. w.now) texts.condition }
+texts_of texts = record {
+  condition = option_map (λ w. w.now) texts.condition;
+  update = option_map (λ w. w.now) texts.update;
+  projection = option_map (λ w. w.now) texts.projection;
+}
 
 -- the first that is there
 abbrev pub earlier : {A : Type 0} → Option A → Option A → Option A
@@ -58,6 +66,14 @@ pub record IsFresh (ms : Members) (g : Given) : Type 0 where
 abbrev pub has_more : Names → Values → Bool
 has_more names values = (is_empty_given names || has_unused (given_names names) (used_names names))
     || has_unused (given_values values) (used_values values)
+
+-- what the texts state, each refused for its first fault
+abbrev pub all_stated : machine.Texts → Members → expr.Given → Result Expressions Answer
+all_stated texts ms g = do
+  condition ← machine.stated condition_of g (machine.text_at texts.condition ms)
+  update ← machine.stated update_of g (machine.text_at texts.update ms)
+  projection ← machine.stated paths_of (names_alone g.names) (machine.text_at texts.projection ms)
+  Ok (record { condition = condition; update = update; projection = projection })
 
 -- a request stops for the fault of a text by its refusal, or for want of memory
 abbrev pub stop_of : ExprFault → Stop

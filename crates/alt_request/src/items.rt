@@ -157,7 +157,8 @@ fn value_refusal(fault: ValueFault) -> Refusal
     }
 }
 
-fn number_refusal(fault: NumberFault) -> Refusal
+/// The refusal of a number that can't be kept.
+pub fn number_refusal(fault: NumberFault) -> Refusal
     ensures refusal { result ≡ number_refusal fault }
     ensures known { IsKnown result }
 {

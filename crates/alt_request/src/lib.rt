@@ -4,12 +4,15 @@
 mod body;
 mod expressions;
 mod items;
+mod key_update;
 mod replies;
 mod stop;
 mod targets;
+mod texts;
 
 pub use body::{Rules, body_refusal, table_name};
 pub use expressions::Texts;
+pub use items::number_refusal;
 pub use replies::{asks, done, one_member, refuse_with_item};
 pub use stop::Stop;
 pub use targets::{Target, item_target, table_target};

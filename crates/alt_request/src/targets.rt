@@ -64,7 +64,7 @@ pub fn item_target<'t>(
     let item = item_at(alloc, body, sought)?;
     let given = given_at(alloc, texts, body)?;
     let schema = table_of(tables, body)?;
-    let said = expressions(alloc, texts, body, given)?;
+    let said = expressions(alloc, texts, schema, body, given)?;
     match fitting_place(alloc, sought, schema, &item) {
         Ok(place) => Ok(Target {
             schema,

@@ -92,7 +92,8 @@ impl Tables {
         requires there { map.contains_key (catalog_of self.old) table.now ≡ true }
         requires found { (s : State) → Stands (D.state disk.old) self.old s
             → IsFoundIn s table.now found }
-        requires new { (d : TableSchema) → map.get (catalog_of self.old) table.now ≡ Some d
+        requires new { (s : State) → Stands (D.state disk.old) self.old s → (d : TableSchema)
+            → map.get (catalog_of self.old) table.now ≡ Some d
             → IfSome new (IsStored d found.place) }
         ensures writes { (s : State) (t : Table) → Stands (D.state disk.old) self.old s
             → map.get s.tables table.now ≡ Some t

@@ -1,4 +1,4 @@
-//! The text of an update, parsed to its actions.
+//! The text of an update, parsed to its actions, and the paths that they change.
 #![tactic(auto)]
 
 mod action;
@@ -9,4 +9,5 @@ mod term;
 mod text;
 mod update;
 
+pub use overlap::targets;
 pub use text::parse;

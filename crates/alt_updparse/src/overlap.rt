@@ -5,7 +5,7 @@ ghost use Rattle.alt_expr.specs.UpdateLanguage.{target, targets_overlap as two_o
 ghost use Rattle.alt_expr.specs.declared.path.PathPart.TheVariants.{Name};
 
 use alt_base::NoMemory;
-use alt_expr::{Action, Items, Path, PathPart, some_overlap};
+use alt_expr::{Action, Items, Path, PathPart, Paths, some_overlap};
 use alt_value::Text;
 use std::alloc::Global;
 
@@ -20,10 +20,10 @@ pub(crate) fn targets_overlap(alloc: Global, actions: &[Action]) -> Result<bool,
 }
 
 /// The paths that actions change, each a copy, since an addition has only a name.
-fn targets(alloc: Global, actions: &[Action]) -> Result<Vec<Path>, NoMemory>
-    ensures { IfOk result (λ v. v.items ≡ map target actions.now) }
+pub fn targets(alloc: Global, actions: &[Action]) -> Result<Paths, NoMemory>
+    ensures targets { IfOk result (λ paths. paths ≡ map target actions.now) }
 {
-    let mut targets = Vec::with_capacity(alloc, actions.len())?;
+    let mut targets = Items::new(alloc);
     for action in actions {
         targets.push(path_of(alloc, action)?)?;
     }

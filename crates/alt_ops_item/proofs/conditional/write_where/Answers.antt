@@ -80,7 +80,7 @@ write-requires-clause-found g c s stands = c.in_ok-found.ensures.item s
     ((c.in_ok-found.ensures.stays s).1 stands)
 
 pub write-requires-clause-new : goal.write-requires-clause-new
-write-requires-clause-new g c d there =
+write-requires-clause-new g c s stands d there =
     subst (λ (p : List ℕ). IfSome c.args.new (IsStored d p)) (sym c.in_ok-found.ensures.place)
     (c.requires.new d (sym (ap (λ m. map.get m c.table_name-name.result.now)
     c.in_ok-found.ensures.catalog.catalog

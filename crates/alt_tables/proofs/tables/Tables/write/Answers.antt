@@ -40,7 +40,7 @@ returns-in-Ok-clause-writes g c s t stands at =
     (c.requires.found s stands t at)
     c.in-Some.schema.now c.in_ok-batch.batch (sym c.in-Some.ensures.table)
     c.in_ok-batch.ensures.changes (omega (arith, c.next_number-number.ensures.next, c.if-number-ge-NUMBERS_END.false))
-    (c.requires.new c.in-Some.schema.now (sym c.in-Some.ensures.table))
+    (c.requires.new s stands c.in-Some.schema.now (sym c.in-Some.ensures.table))
     c.in_ok-batch.ensures.held in
     subst (λ (ts : List State). AreMade (Stands (g.D.Disk.state c.make.new.disk) c.make.new.self) a_number s ts)
     (sym (item_differs (g.D.Disk.state c.args.disk.now) c.args.self.now s t stands
@@ -64,7 +64,7 @@ returns-in-Ok-clause-disk g c s t stands at =
     (c.requires.found s stands t at)
     c.in-Some.schema.now c.in_ok-batch.batch (sym c.in-Some.ensures.table)
     c.in_ok-batch.ensures.changes (omega (arith, c.next_number-number.ensures.next, c.if-number-ge-NUMBERS_END.false))
-    (c.requires.new c.in-Some.schema.now (sym c.in-Some.ensures.table))
+    (c.requires.new s stands c.in-Some.schema.now (sym c.in-Some.ensures.table))
     c.in_ok-batch.ensures.held in
     subst (λ (ts : List State). Leaves (g.D.Disk.state c.args.disk.now) (g.D.Disk.state c.make.new.disk) s ts)
     (sym (item_differs (g.D.Disk.state c.args.disk.now) c.args.self.now s t stands
@@ -100,7 +100,7 @@ returns-clause-disk g c s t stands at =
     (c.requires.found s stands t at)
     c.in-Some.schema.now c.in_ok-batch.batch (sym c.in-Some.ensures.table)
     c.in_ok-batch.ensures.changes (omega (arith, c.next_number-number.ensures.next, c.if-number-ge-NUMBERS_END.false))
-    (c.requires.new c.in-Some.schema.now (sym c.in-Some.ensures.table))
+    (c.requires.new s stands c.in-Some.schema.now (sym c.in-Some.ensures.table))
     c.in_ok-batch.ensures.held in
     subst (λ (ts : List State). Leaves (g.D.Disk.state c.args.disk.now) (g.D.Disk.state c.make.new.disk) s ts)
     (sym (item_differs (g.D.Disk.state c.args.disk.now) c.args.self.now s t stands

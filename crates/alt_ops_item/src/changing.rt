@@ -1,0 +1,112 @@
+//! What an update makes of an item.
+
+ghost use Rattle.std.specs.Prelude.{◌≡◌, true, [], IfOk, IfErr, OnOk, unwrap_or};
+ghost use Rattle.alt_expr.specs.UpdateLanguage.{begin_with_names};
+ghost use Rattle.alt_expr.specs.Updated.{put_name};
+ghost use Rattle.alt_machine.specs.Ops.UpdateItem as machine;
+ghost use Rattle.alt_ops_item.specs.Updates.{with_change, with_changes, stop_of};
+ghost use Rattle.alt_request.specs.Steps.{Comes, IsMemory};
+ghost use Rattle.alt_value.specs.Item.{IsItem};
+ghost use Rattle.alt_value.specs.Stands.{tree_of};
+
+use alt_base::NoMemory;
+use alt_expr::{Items, Update};
+use alt_request::{Stop, number_refusal};
+use alt_shape::Refusal;
+use alt_tables::TableFault;
+use alt_updeval::{AttrChange, UpdateFault, changed};
+use alt_value::{Attr, Item};
+use std::alloc::Global;
+
+/// The item after an update of the one that is there, or of the empty one where none is. Without an update it is that of no actions.
+pub(crate) fn item_after(
+    alloc: Global,
+    update: &Option<Update>,
+    old: &Option<Item>,
+) -> Result<Item, Stop>
+    requires begins { begin_with_names (unwrap_or update.now []) ≡ true }
+    ensures item { Comes (λ i. i) (machine.item_after (unwrap_or update.now []) old.now) result }
+{
+    match update {
+        Some(update) => changed_item(alloc, update, old),
+        None => changed_item(alloc, &Items::new(alloc), old),
+    }
+}
+
+fn changed_item(alloc: Global, update: &Update, old: &Option<Item>) -> Result<Item, Stop>
+    requires begins { begin_with_names update.now ≡ true }
+    ensures item { Comes (λ i. i) (machine.item_after update.now old.now) result }
+{
+    let Ok(item) = copy_or_empty(alloc, old) else {
+        return Err(Stop::Fault(TableFault::NoMemory));
+    };
+    match changed(alloc, update, &item) {
+        Ok(changes) => with_changes(item, changes),
+        Err(fault) => {
+            drop(item);
+            Err(stop_of(fault))
+        }
+    }
+}
+
+fn copy_or_empty(alloc: Global, old: &Option<Item>) -> Result<Item, NoMemory>
+    ensures same { IfOk result (λ i. i ≡ unwrap_or old.now []) }
+    ensures item { IfOk result IsItem }
+{
+    let copy = match old {
+        Some(item) => item.copy()?,
+        None => Item::new(alloc),
+    };
+    let _count = copy.len();
+    Ok(copy)
+}
+
+fn with_changes(item: Item, changes: Vec<AttrChange>) -> Result<Item, Stop>
+    ensures item { IfOk result (λ i. i ≡ with_changes changes.items item) }
+    ensures cause { IfErr result IsMemory }
+{
+    let mut item = item;
+    for change in changes {
+        make(&mut item, change)?;
+    }
+    Ok(item)
+}
+
+fn make(item: &mut Item, change: AttrChange) -> Result<(), Stop>
+    ensures made { OnOk result (item.new ≡ with_change change item.old) }
+    ensures cause { IfErr result IsMemory }
+{
+    let AttrChange { name, value } = change;
+    match value {
+        Some(value) => put(item, name.as_str(), value),
+        None => {
+            let _old = item.remove(name.as_str());
+            Ok(())
+        }
+    }
+}
+
+fn put(item: &mut Item, name: &str, value: Attr) -> Result<(), Stop>
+    ensures put { OnOk result (item.new ≡ put_name name.now (tree_of value) item.old) }
+    ensures cause { IfErr result IsMemory }
+{
+    if name.is_empty() {
+        return Ok(());
+    }
+    match item.put(name, value) {
+        Ok(()) => Ok(()),
+        Err(_) => Err(Stop::Fault(TableFault::NoMemory)),
+    }
+}
+
+/// How a request stops for the fault of an update: it is refused, unless memory was wanting.
+fn stop_of(fault: UpdateFault) -> Stop
+    ensures { result ≡ stop_of fault }
+{
+    match fault {
+        UpdateFault::BadPath => Stop::Refused(Refusal::BAD_UPDATE),
+        UpdateFault::BadKind => Stop::Refused(Refusal::BAD_UPDATE),
+        UpdateFault::BadNumber(fault) => Stop::Refused(number_refusal(fault)),
+        UpdateFault::NoMemory => Stop::Fault(TableFault::NoMemory),
+    }
+}

@@ -17,8 +17,12 @@ use Rattle.alt_tables.specs.declared.faults.TableFault.TheVariants.{Failed, NoMe
 module _ (now : State → Type 0) (s : State) (outcome : Outcome) where
   -- where the refusal isn't told for want of memory, nothing was written
   untold : (r : Refusal) → IsRefused now s outcome r → Settles now s outcome (Err NoMemory)
-  untold r h = (0, none_made outcome.atoms, refl,
-      subst (λ atoms. now (last_state s atoms)) h.unwritten h.answered.state)
+  untold r h = (
+    0,
+    none_made outcome.atoms,
+    refl,
+    subst (λ atoms. now (last_state s atoms)) h.unwritten h.answered.state,
+  )
 
   pub settled : (carried : Result Reply Stop) (told : Result Reply TableFault)
       → Does now s outcome carried → Tells carried told → Settles now s outcome told

@@ -68,12 +68,7 @@ fn left_in(
     }
 }
 
-fn left(
-    said: &Expressions,
-    key: Item,
-    old: &Option<Item>,
-    item: Item,
-) -> Result<Option<Item>, Stop>
+fn left(said: &Expressions, key: Item, old: &Option<Item>, item: Item) -> Result<Option<Item>, Stop>
     ensures left { IfOk result (λ o. o ≡ machine.left said.now key old.now item) }
     ensures cause { IfErr result IsMemory }
 {

@@ -1,15 +1,14 @@
 -- What the texts of a body state, each by what its parser answers.
-use Rattle.std.proofs.Common.{◌≡◌, refl, sym, ap, subst, ◌∙◌, ◌++◌, ℕ, true, List, [], ◌∷◌, Option, Some, None, Result, Ok, Err, arith}
+use Rattle.std.proofs.Common.{◌≡◌, refl, sym, ap, ◌∙◌, ◌++◌, ℕ, true, List, [], ◌∷◌, Option, Some, None, Result, Ok, Err, arith}
 use Rattle.serde_json.specs.Data.{Members}
 use Rattle.alt_expr.specs.Faults.{Language, Parsed, KeepsNames}
 use Rattle.alt_expr.specs.Given as expr
 use Rattle.alt_expr.specs.Given.{with_hashes, with_colons}
 use Rattle.alt_expr.specs.Languages.{projections}
-use Rattle.alt_expr.specs.Lexed.{Lexes}
 use Rattle.alt_expr.specs.Lookups.{given_by, names_alone}
 use Rattle.alt_expr.specs.NamesGiven.{given_values}
-use Rattle.alt_expr.specs.PathGrammar.{NamePhrase, plain, hashed, StepPhrase, dotted, indexed, PathPhrase, path, step_toks, steps_toks, path_toks, between_toks}
-use Rattle.alt_expr.specs.PathsGrammar.{PathsPhrase, paths, paths_toks}
+use Rattle.alt_expr.specs.PathGrammar.{plain, hashed, StepPhrase, dotted, indexed, PathPhrase, path, step_toks, steps_toks, path_toks, between_toks}
+use Rattle.alt_expr.specs.PathsGrammar.{PathsPhrase, paths}
 use Rattle.alt_expr.specs.Told.{Told}
 use Rattle.alt_expr.specs.Tokens.{Tok, hash, colon, mark}
 use Rattle.alt_expr.specs.declared.cond.Cond.{Cond}
@@ -33,7 +32,7 @@ use Rattle.alt_request.specs.Steps.{Comes}
 use Rattle.alt_request.specs.Words.{stop_of, all_stated}
 use Rattle.alt_request.specs.declared.stop.Stop.{Stop}
 use Rattle.alt_request.specs.declared.stop.Stop.TheVariants.{Refused, Fault}
-use Rattle.alt_shape.specs.Refusals.{Answer, refused}
+use Rattle.alt_shape.specs.Refusals.{Answer}
 
 -- ---- one text
 
@@ -236,6 +235,7 @@ paths_words g (Some text) projection e used = by told.result told.parsed e used
   where
     told : Told projections g text
     told = paths_of g text
+
     by : (r : Result (List (List PathPart)) ExprFault) → Parsed projections g text r
         → machine.read_or_refused r ≡ Ok projection → NoColons (machine.words_of (Some text))
     by (Ok tree) parsed f used = parsed_none g text tree parsed used

@@ -116,11 +116,7 @@ fn update_stated(
 }
 
 /// The paths that a text states, where there is one. It has no word for a value.
-fn paths_stated(
-    alloc: Global,
-    text: Option<&str>,
-    names: &mut Names,
-) -> Result<Option<Paths>, Stop>
+fn paths_stated(alloc: Global, text: Option<&str>, names: &mut Names) -> Result<Option<Paths>, Stop>
     ensures stated { Comes (λ p. p) (machine.stated paths_of
         (names_alone (given_names names.old)) (option_map (λ t. t.now) text.entry)) result }
     ensures names { OnOk result (used_names names.new

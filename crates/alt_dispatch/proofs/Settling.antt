@@ -1,5 +1,5 @@
 -- What was carried out settles the request, once its refusal is told.
-use Rattle.std.proofs.Common.{◌≡◌, refl, sym, subst, Result, Ok, Err, OnOk}
+use Rattle.std.proofs.Common.{◌≡◌, refl, sym, subst, ◌∙◌, Result, Ok, Err, OnOk}
 use Rattle.std.specs.Prelude.{IsErrOf}
 use Rattle.alt_machine.specs.Outcomes.{Outcome, last_state}
 use Rattle.alt_machine.specs.State.{State}

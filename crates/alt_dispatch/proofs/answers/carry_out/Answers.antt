@@ -62,3 +62,11 @@ returns-in-DeleteItem-clause-carried g c =
     (Stands (g.D.Disk.state c.args.disk.now) c.args.tables.now)
     (Stands (g.D.Disk.state c.delete_item.new.disk) c.delete_item.new.tables) c.delete_item.result)
     (sym c.in-DeleteItem.is) c.delete_item.ensures.carried
+
+pub returns-in-UpdateItem-clause-carried : goal.returns-in-UpdateItem-clause-carried
+returns-in-UpdateItem-clause-carried g c =
+    subst (λ (o : Operation). Carries
+    (λ s. operates s o c.args.moment (members_view c.args.body.now.entries))
+    (Stands (g.D.Disk.state c.args.disk.now) c.args.tables.now)
+    (Stands (g.D.Disk.state c.update_item.new.disk) c.update_item.new.tables) c.update_item.result)
+    (sym c.in-UpdateItem.is) c.update_item.ensures.carried

@@ -222,6 +222,7 @@ fn carry<S: Shell>(
         → Rose (S.state shell.old).faults (S.state shell.new).faults }
     ensures passes { Passes (S.state shell.old) (S.state shell.new) }
 {
+    let _held = talk.front.len();
     let size = head.taken + head.length as usize;
     let last = is_last(head.close, talk.left);
     match respond(

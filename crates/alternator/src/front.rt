@@ -2,7 +2,6 @@
 //! pieces isn't read from its first byte for each of them, nor one whose body comes so.
 
 ghost use Rattle.std.specs.Prelude.{◌≡◌, ◌≤◌, ◌++◌, [], drop, length, IfOk, OnOk};
-ghost use Rattle.alt_http.specs.Judged.{IsScan, LiesIn};
 ghost use Rattle.alt_http.specs.Reading.{scan_of};
 ghost use Rattle.alternator.specs.HeadViews.{scan_in, is_more};
 
@@ -87,8 +86,6 @@ impl Front {
     /// What stands in front. A head is handed out, and is to be kept where it is wanted again.
     pub(crate) fn scan(&mut self, alloc: Global) -> Result<Scan, NoMemory>
         ensures answer { IfOk result (λ scan. scan ≡ scan_of self.old) }
-        ensures meant { IfOk result (IsScan self.old) }
-        ensures within { IfOk result (LiesIn self.old) }
         ensures stays { self.new ≡ self.old }
     {
         if let Some(head) = self.head.take() {

@@ -76,8 +76,8 @@ returns-in-Ok-clause-stepped g c = λ s stands.
           carried.calls;
     }
 
-pub returns-in-Err-clause-stepped : goal.returns-in-Err-clause-stepped
-returns-in-Err-clause-stepped g c = λ s stands.
+pub returns-clause-stepped : goal.returns-clause-stepped
+returns-clause-stepped g c = λ s stands.
     let state = g.S.Disk.state in
     let a = state c.args.shell.now in
     let b = state c.hello.new.shell in

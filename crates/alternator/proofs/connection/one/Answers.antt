@@ -1,8 +1,10 @@
-use Rattle.std.proofs.Common.{◌≡◌, ◌∙◌, [], ◌∷◌, ℕ, List, true, false, sym, ap, append-nil}
+use Rattle.std.proofs.Common.{◌≡◌, ◌≤◌, ◌∙◌, length, [], ◌∷◌, ℕ, List, true, false, sym, ap, subst, append-nil}
 use Rattle.std.specs.Prelude.{MatchResult}
 use Rattle.alt_shell.specs.Log.{Log}
 use Rattle.alternator.specs.declared.serve.RunFault.TheVariants.{NoMemory}
+use Rattle.alt_http.specs.Judged.{IsScan}
 use Rattle.alt_http.specs.Reading.{scan_of}
+use Rattle.alt_http.proofs.Answering.{scan_of-is, scan_of-within}
 use Rattle.alt_machine.specs.State.{State}
 use Rattle.alt_tables.specs.Stands.{Stands}
 use Rattle.alternator.specs.TalkStops.{deeds, AnswersOn, AnswersSomeOn, MovesSomeOn, StepsOn}
@@ -50,11 +52,15 @@ returns-in-More-clause-stepped g c = λ s stands.
 
 pub refuse-requires-clause-low : goal.refuse-requires-clause-low
 refuse-requires-clause-low g c =
-    (known_refusal _ _ c.in-Refused.number c.in-Ok.ensures.meant c.in-Refused.is).0
+    (known_refusal c.args.talk.now.front _ c.in-Refused.number
+    (subst (IsScan c.args.talk.now.front) (sym c.in-Ok.ensures.answer)
+    (scan_of-is c.args.talk.now.front)) c.in-Refused.is).0
 
 pub refuse-requires-clause-high : goal.refuse-requires-clause-high
 refuse-requires-clause-high g c =
-    (known_refusal _ _ c.in-Refused.number c.in-Ok.ensures.meant c.in-Refused.is).1
+    (known_refusal c.args.talk.now.front _ c.in-Refused.number
+    (subst (IsScan c.args.talk.now.front) (sym c.in-Ok.ensures.answer)
+    (scan_of-is c.args.talk.now.front)) c.in-Refused.is).1
 
 pub returns-in-Err-refuse-clause-stepped : goal.returns-in-Err-refuse-clause-stepped
 returns-in-Err-refuse-clause-stepped g c = λ s stands.
@@ -101,6 +107,11 @@ returns-in-Ok-refuse-clause-stepped g c = λ s stands.
 pub found-requires-clause-head : goal.found-requires-clause-head
 found-requires-clause-head g c =
     ap scan_of c.in-Ok.ensures.stays ∙ sym c.in-Ok.ensures.answer ∙ c.in-Head.is
+
+pub found-requires-clause-lies : goal.found-requires-clause-lies
+found-requires-clause-lies g c = subst (λ (bs : List ℕ). c.in-Head.taken ≤ length bs)
+    (sym c.in-Ok.ensures.stays)
+    (scan_of-within c.args.talk.now.front _ _ _ _ _ (sym c.in-Ok.ensures.answer ∙ c.in-Head.is)).1
 
 pub returns-in-Head-clause-stepped : goal.returns-in-Head-clause-stepped
 returns-in-Head-clause-stepped g c =

@@ -1,5 +1,6 @@
 pub mod Beginning
 pub mod EndingLaws
+pub mod Fronts
 pub mod Hands
 pub mod Hanging
 pub mod Initing

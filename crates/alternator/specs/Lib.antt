@@ -1,6 +1,7 @@
 pub mod Connections
 pub mod Endings
 pub mod Faults
+pub mod HeadViews
 pub mod Moments
 pub mod Rereading
 pub mod Runs

@@ -2,7 +2,7 @@
 use Rattle.std.specs.Prelude.{ℕ, List, Bool, Option}
 use Rattle.alt_http.specs.declared.outcome.Scan.{Scan}
 use Rattle.alt_http.specs.declared.outcome.Scan.TheVariants.{More, Refused, Head}
-use Rattle.alternator.specs.declared.connection.Head.{Head as CodeHead}
+use Rattle.alternator.specs.declared.front.Head.{Head as CodeHead}
 use Rattle.alternator.specs.declared.connection.Talk.{Talk}
 use Rattle.alternator.specs.Talks.{Scanned, unread, bad, good, Place, Head as TalkHead, Request}
 
@@ -32,4 +32,4 @@ scanned (Head taken target length expect close) = good (head_of taken target len
 
 -- where a talk stands
 abbrev pub place_of : Talk → Place
-place_of t = record { left = t.left; greeted = t.greeted; bytes = t.front.items }
+place_of t = record { left = t.left; greeted = t.greeted; bytes = t.front }

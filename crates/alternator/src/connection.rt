@@ -7,18 +7,21 @@ ghost use Rattle.alt_machine.specs.State.{State};
 ghost use Rattle.alt_shell.specs.Calls.{Keeps};
 ghost use Rattle.alt_shell.specs.Log.{talks, takes_missed, says_missed};
 ghost use Rattle.alt_tables.specs.Stands.{AreReady, Stands};
+ghost use Rattle.alt_http.specs.Reading.{scan_of};
+ghost use Rattle.alternator.specs.HeadViews.{scan_in};
 ghost use Rattle.alternator.specs.Runs.{Leads, Passes, Stretch};
 ghost use Rattle.alternator.specs.Stretches.{Utters, AtRest};
 ghost use Rattle.alternator.specs.TalkRules.{rules};
 ghost use Rattle.alternator.specs.TalkStops.{AnswersOn, AnswersSomeOn, CarriesOn, CarriesSomeOn, ComesOn, ComesSomeOn, EndsOn, GoesOn, GoesSomeOn, LeavesNow, MovesAllOn, MovesSomeOn, ServedOn, ServedSomeOn, StepsOn};
 ghost use Rattle.alternator.specs.TalkViews.{place_of, head_in, asking};
-ghost use Rattle.alternator.specs.Talks.{onward, asked, refused, good, greets};
+ghost use Rattle.alternator.specs.Talks.{onward, asked, refused, greets};
 
+use crate::front::{Front, Head};
 use crate::response::{refusal_text, response};
 use crate::serve::RunFault;
 use alt_base::NoMemory;
 use alt_fields::Bytes;
-use alt_http::{CONTINUE, Scan, scan};
+use alt_http::{CONTINUE, Scan};
 use alt_shell::Shell;
 use alt_tables::Tables;
 use std::alloc::Global;
@@ -27,7 +30,7 @@ use std::alloc::Global;
 /// in front was let go on, and whether a say failed.
 #[derive(Drop)]
 pub(crate) struct Talk {
-    front: Vec<u8>,
+    front: Front,
     left: u32,
     greeted: bool,
     mute: bool,
@@ -54,14 +57,6 @@ fn utter<S: Shell>(mute: &mut bool, text: &[u8], shell: &mut S)
             *mute = true;
         }
     }
-}
-
-/// Drops bytes from the front.
-fn pass(front: &mut Vec<u8>, count: usize)
-    requires { count ≤ length front.old.items }
-    ensures { front.new.items ≡ drop count front.old.items }
-{
-    front.drain(..count);
 }
 
 /// A head that is refused. It takes a moment unless a say failed before.
@@ -189,16 +184,6 @@ fn left_after(close: bool, left: u32) -> u32
     if close { 0 } else { left - 1 }
 }
 
-/// A head at the front of a talk.
-#[derive(Drop)]
-struct Head {
-    taken: usize,
-    target: Option<Bytes>,
-    length: u64,
-    expect: bool,
-    close: bool,
-}
-
 /// The body behind a head of so many bytes, up to where it ends.
 fn body_in(front: &[u8], taken: usize, size: usize) -> &[u8]
     requires low { taken ≤ size }
@@ -219,7 +204,7 @@ fn carry<S: Shell>(
     requires ready { AreReady (S.state shell.old) tables.old }
     requires going { 0 < talk.old.left }
     requires whole { nat_le (head.now.taken + head.now.length)
-        (length talk.old.front.items) ≡ true }
+        (length talk.old.front) ≡ true }
     requires talking { talks (S.state shell.old).beside ≡ true }
     requires hears { talk.old.mute ≡ false → says_missed (S.state shell.old).beside ≡ false }
     ensures carried { (s : State) → Stands (S.state shell.old) tables.old s → MatchResult result
@@ -237,13 +222,14 @@ fn carry<S: Shell>(
         → Rose (S.state shell.old).faults (S.state shell.new).faults }
     ensures passes { Passes (S.state shell.old) (S.state shell.new) }
 {
+    let _held = talk.front.len();
     let size = head.taken + head.length as usize;
     let last = is_last(head.close, talk.left);
     match respond(
         alloc,
         tables,
         &head.target,
-        body_in(&talk.front, head.taken, size),
+        body_in(talk.front.as_slice(), head.taken, size),
         last,
         &mut talk.mute,
         shell,
@@ -251,7 +237,7 @@ fn carry<S: Shell>(
         Ok(()) => {}
         Err(fault) => return Err(fault),
     }
-    pass(&mut talk.front, size);
+    talk.front.pass(size);
     talk.greeted = false;
     talk.left = left_after(head.close, talk.left);
     Ok(())
@@ -262,14 +248,14 @@ fn carry<S: Shell>(
 fn found<S: Shell>(
     alloc: Global,
     tables: &mut Tables,
-    head: &Head,
+    head: Head,
     talk: &mut Talk,
     shell: &mut S,
 ) -> Result<bool, RunFault>
     requires ready { AreReady (S.state shell.old) tables.old }
     requires going { 0 < talk.old.left }
-    requires head { rules.scan talk.old.front.items ≡ good (head_in head.now) }
-    requires lies { head.now.taken ≤ length talk.old.front.items }
+    requires head { scan_of talk.old.front ≡ scan_in head }
+    requires lies { head.taken ≤ length talk.old.front }
     requires talking { talks (S.state shell.old).beside ≡ true }
     requires hears { talk.old.mute ≡ false → says_missed (S.state shell.old).beside ≡ false }
     ensures stepped { (s : State) → Stands (S.state shell.old) tables.old s → MatchResult result
@@ -289,9 +275,10 @@ fn found<S: Shell>(
     hello(head.expect, talk.greeted, &mut talk.mute, shell);
     talk.greeted = either(talk.greeted, head.expect);
     if !is_whole(talk.front.len(), head.taken, head.length) {
+        talk.front.keep(head);
         return Ok(false);
     }
-    match carry(alloc, tables, head, talk, shell) {
+    match carry(alloc, tables, &head, talk, shell) {
         Ok(()) => Ok(true),
         Err(fault) => Err(fault),
     }
@@ -322,7 +309,7 @@ fn one<S: Shell>(
         → Rose (S.state shell.old).faults (S.state shell.new).faults }
     ensures passes { Passes (S.state shell.old) (S.state shell.new) }
 {
-    let scan = match scan(alloc, &talk.front) {
+    let scan = match talk.front.scan(alloc) {
         Ok(scan) => scan,
         Err(_) => return Err(RunFault::NoMemory),
     };
@@ -350,7 +337,7 @@ fn one<S: Shell>(
                 expect,
                 close,
             };
-            found(alloc, tables, &head, talk, shell)
+            found(alloc, tables, head, talk, shell)
         }
     }
 }
@@ -424,7 +411,7 @@ fn pull<S: Shell>(
             if count == 0 {
                 return Ok(false);
             }
-            match talk.front.extend_from_slice(&buf[..count]) {
+            match talk.front.extend(&buf[..count]) {
                 Ok(()) => {}
                 Err(_) => return Err(RunFault::NoMemory),
             }
@@ -501,7 +488,7 @@ pub(crate) fn connection<S: Shell>(
     match shell.accept() {
         Ok(true) => {
             let mut talk = Talk {
-                front: Vec::new(alloc),
+                front: Front::new(alloc),
                 left: per,
                 greeted: false,
                 mute: false,

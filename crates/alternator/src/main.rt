@@ -4,6 +4,7 @@
 
 mod connection;
 mod ending;
+mod front;
 mod init;
 mod lines;
 mod open;

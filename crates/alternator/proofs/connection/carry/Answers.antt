@@ -19,11 +19,11 @@ returns-clause-carried g c = λ s stands.
     let h = head_in c.args.head.now in
     let m = c.args.talk.now.mute in
     let n = c.respond.new.mute in
-    let q = at c.left_after-talk.result false c.pass.new.front.items in
+    let q = at c.left_after-talk.result false c.pass.new.self in
     let body = c.body_in.result.now in
     let last = c.is_last-last.result in
-    let same = asking_same h p.bytes c.deref.result.now body p.left last
-    c.deref.ensures.value c.body_in.ensures c.is_last-last.ensures in
+    let same = asking_same h p.bytes c.as_slice.result.now body p.left last
+    c.as_slice.ensures.same c.body_in.ensures c.is_last-last.ensures in
     reach_as a d c.respond.new.tables
     (λ t. AnswersOn rules s m (asked (asking h.target body last) ∷ []) t n)
     (λ t. CarriesOn rules h p s m q t n)
@@ -31,7 +31,7 @@ returns-clause-carried g c = λ s stands.
     let y = subst (λ (r : Request). AnswersOn rules s m (asked r ∷ []) t n a d es ms) same x in (
       record {
         answers = y.0;
-        place = left_at h p c.left_after-talk.result c.pass.new.front.items
+        place = left_at h p c.left_after-talk.result c.pass.new.self
             c.left_after-talk.ensures.left c.pass.ensures;
       },
       y.1,
@@ -49,7 +49,7 @@ returns-in-Err-clause-carried g c = λ s stands.
     let body = c.body_in.result.now in
     let last = c.is_last-last.result in
     let fault = c.in-Err.fault in
-    let same = asking_same h p.bytes c.deref.result.now body p.left last
-    c.deref.ensures.value c.body_in.ensures c.is_last-last.ensures in
+    let same = asking_same h p.bytes c.as_slice.result.now body p.left last
+    c.as_slice.ensures.same c.body_in.ensures c.is_last-last.ensures in
     subst (λ (r : Request). Stretch a d (AnswersSomeOn rules fault s m (asked r ∷ [])))
     same (c.in-Err.ensures.answered s stands)

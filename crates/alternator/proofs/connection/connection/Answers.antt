@@ -29,7 +29,7 @@ returns-in-Ok-clause-served g c = λ s stands.
     let came = subst (λ (v : Bool). Accepted a b v) c.in-Ok-true.field-0-test
     c.in-Ok-true.ensures.accepted in
     let served = subst (λ (bs : List ℕ). Leads b d c.pulls-served.new.tables
-    (λ t. EndsOn rules (at per false bs) s false q t n)) c.new.ensures.items
+    (λ t. EndsOn rules (at per false bs) s false q t n)) c.new.ensures
     (c.in-Ok.ensures.ended s
     (stands_kept a b c.in-Ok-true.ensures.call.keeps c.args.tables.now s stands)) in
     record {
@@ -74,7 +74,7 @@ returns-in-Ok-true-clause-served g c = λ s stands.
     let came = subst (λ (v : Bool). Accepted a b v) c.in-Ok-true.field-0-test
     c.in-Ok-true.ensures.accepted in
     let broke = subst (λ (bs : List ℕ). Stretch b d
-    (GoesSomeOn rules fault (at per false bs) s false)) c.new.ensures.items
+    (GoesSomeOn rules fault (at per false bs) s false)) c.new.ensures
     (c.in-Err-served.ensures.ended s
     (stands_kept a b c.in-Ok-true.ensures.call.keeps c.args.tables.now s stands)) in
     stretch_hung a b d e (told_count a.beside) (told_count d.beside)
@@ -126,7 +126,7 @@ pulls-served-requires-clause-ready g c =
 pub pulls-served-requires-clause-rest : goal.pulls-served-requires-clause-rest
 pulls-served-requires-clause-rest g c =
     subst (λ (bs : List ℕ). AtRest rules (at c.args.per false bs))
-    (sym c.new.ensures.items) (at_unread rules c.args.per false [] lawful.nothing)
+    (sym c.new.ensures) (at_unread rules c.args.per false [] lawful.nothing)
 
 pub returns-clause-served : goal.returns-clause-served
 returns-clause-served g c = λ s stands.

@@ -4,11 +4,11 @@ use Rattle.alt_shell.specs.Log.{Log}
 use Rattle.alt_tables.proofs.Left.{stands_left}
 use Rattle.alternator.specs.TalkRules.{rules}
 use Rattle.alternator.specs.TalkStops.{AnswersOn, CarriesOn, CarriesSomeOn, MovesSomeOn, StepsOn}
-use Rattle.alternator.specs.TalkViews.{place_of, head_in}
-use Rattle.alternator.specs.Talks.{greets, at, is_whole}
+use Rattle.alternator.specs.TalkViews.{place_of, head_in, scanned}
+use Rattle.alternator.specs.Talks.{greets, good, at, is_whole}
 use Rattle.alternator.proofs.Serving.{stretch_as, stretch_then}
 use Rattle.alternator.proofs.Stopping.{ready_kept, stands_kept}
-use Rattle.alternator.proofs.TalkLaws.{lawful}
+use Rattle.alternator.proofs.TalkLaws.{lawful, rules-scan}
 use Rattle.alternator.proofs.TalkLeaving.{steps_short_on, steps_whole_on, some_whole_on}
 use Rattle.alternator.proofs.connection.found.Goals as goal
 
@@ -20,19 +20,23 @@ returns-then-not-is_whole-clause-stepped g c = λ s stands.
     let p = place_of c.args.talk.now in
     let m = c.args.talk.now.mute in
     let n = c.hello.new.mute in
-    let h = head_in c.args.head.now in
+    let h = head_in c.args.head in
     let w : is_whole h p.bytes ≡ false =
-    ap (nat_le (h.taken + h.length)) (sym (c.len.ensures ∙ c.args.talk.now.front.ok.0))
+    ap (nat_le (h.taken + h.length)) (sym c.len.ensures)
     ∙ sym c.is_whole.ensures ∙ c.if-not-is_whole.true in
+    let e : rules.scan p.bytes ≡ good h = rules-scan p.bytes ∙ ap scanned c.requires.head in
     record {
       to = s;
       stands = stands_kept a b c.hello.ensures.keeps c.args.tables.now s stands;
       calls = stretch_as a b {P = AnswersOn rules s m (greets p.greeted h.expect) s n}
-          {Q = StepsOn rules false p s m (at p.left c.either-talk.result p.bytes) s n}
+          {Q = StepsOn rules false p s m (at p.left c.either-talk.result c.keep.new.self) s n}
           (λ (es : Log) (ms : List ℕ) within x.
-          subst (λ (v : Bool). StepsOn rules false p s m (at p.left v p.bytes) s n a b es ms)
+          subst (λ (bs : List ℕ).
+          StepsOn rules false p s m (at p.left c.either-talk.result bs) s n a b es ms)
+          (sym c.keep.ensures.stays)
+          (subst (λ (v : Bool). StepsOn rules false p s m (at p.left v p.bytes) s n a b es ms)
           (sym c.either-talk.ensures)
-          (steps_short_on rules lawful a b p h s s m n es ms c.requires.going c.requires.head w x))
+          (steps_short_on rules lawful a b p h s s m n es ms c.requires.going e w x)))
           (c.hello.ensures.greeted s
           (λ trusted image is. stands_left a c.args.tables.now s stands image is));
     }
@@ -48,10 +52,11 @@ returns-in-Ok-clause-stepped g c = λ s stands.
     let m = c.args.talk.now.mute in
     let n = c.hello.new.mute in
     let o = c.carry.new.talk.mute in
-    let h = head_in c.args.head.now in
+    let h = head_in c.args.head in
     let w : is_whole h p.bytes ≡ true =
-    ap (nat_le (h.taken + h.length)) (sym (c.len.ensures ∙ c.args.talk.now.front.ok.0))
+    ap (nat_le (h.taken + h.length)) (sym c.len.ensures)
     ∙ sym c.is_whole.ensures ∙ c.if-not-is_whole.false in
+    let e : rules.scan p.bytes ≡ good h = rules-scan p.bytes ∙ ap scanned c.requires.head in
     let carried = c.in-Ok.ensures.carried s
     (stands_kept a b c.hello.ensures.keeps c.args.tables.now s stands) in
     record {
@@ -63,7 +68,7 @@ returns-in-Ok-clause-stepped g c = λ s stands.
           {R = StepsOn rules true p s m q carried.to o}
           (λ (es fs : Log) (ms ns : List ℕ) meet x y.
           steps_whole_on rules lawful a b d p h s s carried.to m n o es fs ms ns meet
-          c.requires.going c.requires.head w x q
+          c.requires.going e w x q
           (subst (λ (v : Bool). CarriesOn rules h (at p.left v p.bytes) s n q carried.to o b d fs ns)
           c.either-talk.ensures y))
           (c.hello.ensures.greeted s
@@ -71,8 +76,8 @@ returns-in-Ok-clause-stepped g c = λ s stands.
           carried.calls;
     }
 
-pub returns-in-Err-clause-stepped : goal.returns-in-Err-clause-stepped
-returns-in-Err-clause-stepped g c = λ s stands.
+pub returns-clause-stepped : goal.returns-clause-stepped
+returns-clause-stepped g c = λ s stands.
     let state = g.S.Disk.state in
     let a = state c.args.shell.now in
     let b = state c.hello.new.shell in
@@ -80,18 +85,19 @@ returns-in-Err-clause-stepped g c = λ s stands.
     let p = place_of c.args.talk.now in
     let m = c.args.talk.now.mute in
     let n = c.hello.new.mute in
-    let h = head_in c.args.head.now in
+    let h = head_in c.args.head in
     let fault = c.in-Err.fault in
     let w : is_whole h p.bytes ≡ true =
-    ap (nat_le (h.taken + h.length)) (sym (c.len.ensures ∙ c.args.talk.now.front.ok.0))
+    ap (nat_le (h.taken + h.length)) (sym c.len.ensures)
     ∙ sym c.is_whole.ensures ∙ c.if-not-is_whole.false in
+    let e : rules.scan p.bytes ≡ good h = rules-scan p.bytes ∙ ap scanned c.requires.head in
     stretch_then a b d
     {P = AnswersOn rules s m (greets p.greeted h.expect) s n}
     {Q = CarriesSomeOn rules fault h (at p.left c.either-talk.result p.bytes) s n}
     {R = MovesSomeOn rules fault p s m}
     (λ (es fs : Log) (ms ns : List ℕ) meet x y.
     some_whole_on rules lawful a b d p h s s s m n n es fs ms ns meet c.requires.going
-    c.requires.head w x fault y)
+    e w x fault y)
     (c.hello.ensures.greeted s
     (λ trusted image is. stands_left a c.args.tables.now s stands image is))
     (c.in-Err.ensures.carried s

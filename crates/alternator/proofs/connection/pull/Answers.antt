@@ -32,7 +32,7 @@ returns-in-Ok-at_hand-clause-turned g c = λ s stands rest.
     let k = c.in-Ok.ensures.count in grind arith in
     let went = subst (λ (bs : List ℕ). Leads b d c.at_hand.new.tables
     (λ t. MovesAllOn rules (at p.left p.greeted bs) s m q t n))
-    c.in-Ok-extend_from_slice.ensures.items
+    c.in-Ok-extend.ensures.more
     (c.in-Ok-at_hand.ensures.moved s (stands_kept a b keeps c.args.tables.now s stands)) in
     record {
       to = went.to;
@@ -62,7 +62,7 @@ returns-in-Err-at_hand-clause-turned g c = λ s stands rest.
     let keeps = c.in-Ok.ensures.call.keeps in
     let went = subst (λ (bs : List ℕ). Stretch b d
     (MovesSomeOn rules fault (at p.left p.greeted bs) s m))
-    c.in-Ok-extend_from_slice.ensures.items
+    c.in-Ok-extend.ensures.more
     (c.in-Err-at_hand.ensures.moved s (stands_kept a b keeps c.args.tables.now s stands)) in
     took_then a b d (entry b.moment clocked (took bytes))
     (MovesSomeOn rules fault (at p.left p.greeted (p.bytes ++ bytes)) s m)
@@ -114,8 +114,8 @@ returns-then-count-eq0-clause-turned g c = λ s stands rest.
           );
     }
 
-pub returns-in-Err-extend_from_slice-clause-turned : goal.returns-in-Err-extend_from_slice-clause-turned
-returns-in-Err-extend_from_slice-clause-turned g c = λ s stands rest.
+pub returns-in-Err-extend-clause-turned : goal.returns-in-Err-extend-clause-turned
+returns-in-Err-extend-clause-turned g c = λ s stands rest.
     let state = g.S.Disk.state in
     let a = state c.args.shell.now in
     let b = state c.take.new.self in

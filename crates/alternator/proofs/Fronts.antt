@@ -1,5 +1,5 @@
 -- What is known of bytes of which some were read before.
-use Rattle.std.proofs.Common.{◌≡◌, ap, ◌∙◌, ◌≤◌, ◌++◌, ℕ, List, length, take, Option, Some, None, IfSome, arith, length-append}
+use Rattle.std.proofs.Common.{◌≡◌, ap, ◌∙◌, ◌≤◌, ◌++◌, ℕ, List, length, Option, Some, None, IfSome, arith, length-append}
 use Rattle.std.proofs.lemmas.List.{take-append-le}
 use Rattle.alt_http.specs.Reading.{scan_of}
 use Rattle.alt_http.proofs.Answering.{scan_of-nothing, scan_of-head}

@@ -12,7 +12,7 @@ use Rattle.alternator.specs.Rereading.{ReadAgain, last_reopens, AreReadable, Rer
 use Rattle.alternator.specs.Runs.{HandsOut, asked_now, asked_later}
 use Rattle.alternator.specs.declared.serve.RunFault.{RunFault}
 use Rattle.alternator.specs.Turns.{Asked, request, reopen, unread}
-use Rattle.alternator.proofs.Pulling.{fresh, took_is_no_end, given_now, given_later, ended_now}
+use Rattle.alternator.proofs.Pulling.{fresh, took_is_no_end, given_later, ended_now}
 use Rattle.alternator.proofs.Serving.{taken-append, ended-append, rests_then}
 
 -- ---- which line is the last

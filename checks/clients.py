@@ -5,6 +5,7 @@ import threading
 from decimal import Decimal
 
 import boto3
+from boto3.dynamodb.conditions import Attr
 from botocore.config import Config
 from botocore.exceptions import ClientError
 
@@ -83,10 +84,41 @@ for n in range(200):
 wants("the last of 200", table.get_item(Key={"Artist": "a3", "Year": 199})["Item"]["Year"], 199)
 
 
+key = {"Artist": "Acme", "Year": 1}
+table.put_item(Item={**key, "Awards": 2}, ConditionExpression=Attr("Artist").not_exists())
+wants(
+    "a condition that fails",
+    error_of(table.put_item, Item={**key, "Awards": 0}, ConditionExpression=Attr("Awards").lt(2)),
+    "ConditionalCheckFailedException",
+)
+updated = table.update_item(
+    Key=key,
+    UpdateExpression="SET Songs = list_append(if_not_exists(Songs, :none), :more), #l = :label ADD Awards :one",
+    ConditionExpression=Attr("Awards").eq(2),
+    ExpressionAttributeNames={"#l": "Label"},
+    ExpressionAttributeValues={":none": [], ":more": ["One"], ":label": {"City": "Oslo"}, ":one": 1},
+    ReturnValues="UPDATED_NEW",
+)
+wants("update_item", updated["Attributes"], {"Songs": ["One"], "Label": {"City": "Oslo"}, "Awards": 3})
+parts = table.get_item(Key=key, ProjectionExpression="#l.City, Songs[0]", ExpressionAttributeNames={"#l": "Label"})
+wants("parts of an item", parts["Item"], {"Label": {"City": "Oslo"}, "Songs": ["One"]})
+wants(
+    "an update of a key",
+    error_of(table.update_item, Key=key, UpdateExpression="SET Artist = :a", ExpressionAttributeValues={":a": "b"}),
+    "ValidationException",
+)
+
+
 def put_some(first):
     mine = boto3.client("dynamodb", **SETTINGS)
     for n in range(10):
         mine.put_item(TableName="Music", Item={"Artist": {"S": f"t{first}"}, "Year": {"N": str(n)}})
+        mine.update_item(
+            TableName="Music",
+            Key={"Artist": {"S": "counter"}, "Year": {"N": "0"}},
+            UpdateExpression="ADD Raised :one",
+            ExpressionAttributeValues={":one": {"N": "1"}},
+        )
 
 
 threads = [threading.Thread(target=put_some, args=(n,)) for n in range(8)]
@@ -97,6 +129,8 @@ for thread in threads:
 for n in range(8):
     key = {"Artist": {"S": f"t{n}"}, "Year": {"N": "9"}}
     wants(f"thread {n}", "Item" in client.get_item(TableName="Music", Key=key), True)
+
+wants("a counter of eight threads", table.get_item(Key={"Artist": "counter", "Year": 0})["Item"]["Raised"], 80)
 
 for name in ("Abc", "Bcd", "Cde"):
     client.create_table(

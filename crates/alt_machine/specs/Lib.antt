@@ -14,5 +14,6 @@ pub mod State
 pub mod Step
 pub mod Targets
 pub mod Valid
+pub mod Walks
 pub mod Wanted
 pub mod Writes

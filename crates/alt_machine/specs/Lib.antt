@@ -3,6 +3,7 @@ pub mod Conditional
 pub mod Expressions
 pub mod Keys
 pub mod Laws
+pub mod Lists
 pub mod Members
 pub mod Operations
 pub mod Ops

@@ -1,0 +1,150 @@
+//! A pager examines the items of a list one after the other, and tells where the page ends.
+
+ghost use Rattle.std.specs.Prelude.{◌≡◌, ◌+◌, ◌<◌, ◌≤◌, false};
+ghost use Rattle.alt_expr.specs.declared.cond.Cond.{Cond};
+
+use crate::ask::{ItemList, Page, PageAsk};
+use alt_base::NoMemory;
+use alt_condeval::holds;
+use alt_expr::{Cond, Items, Paths};
+use alt_projection::project;
+use alt_value::{Item, item_size_within};
+use std::alloc::Global;
+
+/// The bytes of examined items after which a page ends: 1 MB (Developer Guide, "Paginating table query results").
+const PAGE_BYTES: u64 = 1_048_576;
+
+/// A page that isn't whole yet. It holds what it gives, and of the other items only counts.
+#[derive(Drop)]
+pub struct Pager {
+    alloc: Global,
+    ask: PageAsk,
+    kept: ItemList,
+    count: u32,
+    scanned: u32,
+    /// The bytes that examined items may still have before the page ends.
+    left: u64,
+    ended: bool,
+    ghost counted: { count ≤ scanned },
+    ghost bounded: { scanned + left ≤ 1048576 },
+    ghost open: { ended ≡ false → 0 < left },
+}
+
+impl Pager {
+    ghost use Rattle.std.specs.Prelude.{◌≡◌, ◌≢◌, ◌<◌, ◌≤◌, ◌∷◌, ◌++◌, [], not, false, length, List, All, IfOk, OnOk, OnErr, IfSome};
+    ghost use Rattle.alt_expr.specs.Pages.{ends_early};
+    ghost use Rattle.alt_paging.specs.Offered.{WasOffered, IsPage, has_ended};
+    ghost use Rattle.alt_paging.specs.declared.ask.PageAsk.{PageAsk};
+    ghost use Rattle.alt_value.specs.Size.{item_size};
+    ghost use Rattle.alt_value.specs.Tree.{Pair};
+
+    /// A page of which no item is examined yet.
+    pub fn new(alloc: Global, ask: PageAsk) -> Pager
+        requires limit { IfSome ask.limit (λ most. 0 < most) }
+        ensures offered { WasOffered result ask [] }
+        ensures open { has_ended result ≡ false }
+    {
+        Pager {
+            alloc,
+            ask,
+            kept: Items::new(alloc),
+            count: 0,
+            scanned: 0,
+            left: PAGE_BYTES,
+            ended: false,
+        }
+    }
+
+    /// Examines the next item. False says that the page ends with it, and then no further one may be offered. Where memory is wanting,
+    /// the pager is as it was.
+    pub fn offer(&mut self, item: &Item) -> Result<bool, NoMemory>
+        requires some { item.now ≢ [] }
+        requires open { has_ended self.old ≡ false }
+        ensures offered { OnOk result ((ask : PageAsk) (items : List (List Pair))
+            → WasOffered self.old ask items → WasOffered self.new ask (items ++ item.now ∷ [])) }
+        ensures more { IfOk result (λ more. (ask : PageAsk) (items : List (List Pair))
+            → WasOffered self.old ask items
+            → more ≡ not (ends_early ask.limit (items ++ item.now ∷ []))) }
+        ensures ended { IfOk result (λ more. has_ended self.new ≡ not more) }
+        ensures err { OnErr result (self.new ≡ self.old) }
+    {
+        if passes(&self.ask.filter, item) {
+            self.keep(item)?;
+        }
+        self.examine(item);
+        Ok(!self.ended)
+    }
+
+    /// So many more items, of at most `largest` bytes each, are certain to be examined: no fewer of them end the page.
+    pub fn certain(&self, largest: u64) -> u32
+        requires largest { 0 < largest }
+        requires open { has_ended self.now ≡ false }
+        ensures some { 0 < result }
+        ensures certain { (ask : PageAsk) (items more : List (List Pair))
+            → WasOffered self.now ask items → All (λ i. item_size i ≤ largest) more
+            → length more < result → ends_early ask.limit (items ++ more) ≡ false }
+    {
+        let by_bytes = ((self.left - 1) / largest + 1) as u32;
+        match self.ask.limit {
+            Some(limit) => by_bytes.min(limit - self.scanned),
+            None => by_bytes,
+        }
+    }
+
+    /// The page of the items that were offered.
+    pub fn finish(self) -> Page
+        ensures page { (ask : PageAsk) (items : List (List Pair)) → WasOffered self ask items
+            → IsPage ask items result }
+    {
+        Page {
+            items: self.kept,
+            count: self.count,
+            scanned: self.scanned,
+            ended: self.ended,
+        }
+    }
+
+    /// Counts an item that meets the filter, and keeps what is shown of it, unless counts alone are wanted.
+    fn keep(&mut self, item: &Item) -> Result<(), NoMemory> {
+        if !self.ask.count_only {
+            let shown = shown(self.alloc, &self.ask.paths, item)?;
+            self.kept.push(shown)?;
+        }
+        self.count += 1;
+        Ok(())
+    }
+
+    /// Counts an item that is examined, and its bytes.
+    fn examine(&mut self, item: &Item) {
+        self.scanned += 1;
+        self.left = match item_size_within(item, self.left) {
+            Some(size) => self.left - size,
+            None => 0,
+        };
+        self.ended = self.left == 0 || reaches(self.ask.limit, self.scanned);
+    }
+}
+
+/// Whether as many items as the limit are examined.
+fn reaches(limit: Option<u32>, scanned: u32) -> bool {
+    match limit {
+        Some(most) => most <= scanned,
+        None => false,
+    }
+}
+
+/// Whether an item meets the filter, if there is one.
+fn passes(filter: &Option<Cond>, item: &Item) -> bool {
+    match filter {
+        Some(condition) => holds(condition, item),
+        None => true,
+    }
+}
+
+/// What paths choose of an item, or all of it where there are none.
+fn shown(alloc: Global, paths: &Option<Paths>, item: &Item) -> Result<Item, NoMemory> {
+    match paths {
+        Some(paths) => project(alloc, paths, item),
+        None => item.copy(),
+    }
+}

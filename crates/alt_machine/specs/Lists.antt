@@ -2,11 +2,12 @@
 -- query results").
 use Rattle.std.specs.Prelude.{◌≡◌, ℕ, Bool, true, false, not, ◌&&◌, ◌||◌, ◌==◌, List, [], ◌∷◌, length, map, is_some, Option, Some, None, option_map, option_and_then, Result, Ok, codes, if◌then◌else◌}
 use Rattle.std.specs.List.{filter, last_or}
-use Rattle.std.specs.FinMap as finite
+use Rattle.std.specs.Option.{option_map_or}
 use Rattle.serde_json.specs.Data.{Data, number, unsigned, array, Items, no_items, item, Members, no_members, member}
 use Rattle.alt_codec.specs.Reading.{item_in}
 use Rattle.alt_codec.specs.Writing.{json_of_pairs}
 use Rattle.alt_expr.specs.Given.{Given}
+use Rattle.alt_expr.specs.Holds.{equal}
 use Rattle.alt_expr.specs.Pages.{Asked, Page, page_of, examined}
 use Rattle.alt_keyorder.specs.Place.{Place, place_in_table, place_bytes}
 use Rattle.alt_schema.specs.Indexes.{is_key}
@@ -16,7 +17,9 @@ use Rattle.alt_schema.specs.declared.schema.TableSchema.{TableSchema}
 use Rattle.alt_shape.specs.Refusals.{Answer, answered, bad_start_key}
 use Rattle.alt_shape.specs.Shape.{given, natural_of}
 use Rattle.alt_value.specs.Item.{at_name}
+use Rattle.alt_value.specs.Stands.{tree_of}
 use Rattle.alt_value.specs.Tree.{Tree, Pair, S_tree, N_tree, B_tree}
+use Rattle.alt_value.specs.declared.attr.Attr.{Attr}
 use Rattle.alt_value.specs.declared.kind.KeyKind.{KeyKind}
 use Rattle.alt_value.specs.declared.kind.KeyKind.TheVariants.{S, N, B}
 use Rattle.alt_machine.specs.declared.Expressions.{Expressions}
@@ -89,12 +92,18 @@ start_place d key =
     if length key == key_count d then option_map place_bytes
     (option_and_then (start_beside key d.range) (start_value key d.hash)) else None
 
--- Where a walk starts: at the place of the start key, if one is given, which is one that the request allows.
-abbrev pub walk_start : TableSchema → (List Pair → Bool) → Option (List Pair)
+-- a start key has the HASH value that is asked for, where one is
+abbrev pub has_hash : TableSchema → Option Attr → List Pair → Bool
+has_hash d hash key = option_map_or
+    (λ v. equal (at_name d.hash.name key) (Some (tree_of v))) hash true
+
+-- Where a walk starts: at the place of the start key, if one is given.
+abbrev pub walk_start : TableSchema → Option Attr → Option (List Pair)
     → Result (Option (List ℕ)) Answer
-walk_start d allows None = Ok None
-walk_start d allows (Some key) = or_refused bad_start_key (start_place d key) >>= (λ place.
-    unless_answer (first_answer (refuse_unless (allows key) bad_start_key ∷ [])) (Some place))
+walk_start d hash None = Ok None
+walk_start d hash (Some key) = or_refused bad_start_key (start_place d key) >>= (λ place.
+    unless_answer (first_answer (refuse_unless (has_hash d hash key) bad_start_key ∷ []))
+    (Some place))
 
 -- ---- the list and its page
 

@@ -1,7 +1,6 @@
 //! A pager examines the items of a list one after the other, and tells where the page ends.
 
-ghost use Rattle.std.specs.Prelude.{◌≡◌, ◌+◌, ◌<◌, ◌≤◌, false};
-ghost use Rattle.alt_expr.specs.declared.cond.Cond.{Cond};
+ghost use Rattle.std.specs.Prelude.{◌≡◌, ◌+◌, ◌<◌, ◌≤◌, false, IfSome};
 
 use crate::ask::{ItemList, Page, PageAsk};
 use alt_base::NoMemory;
@@ -27,7 +26,7 @@ pub struct Pager {
     ended: bool,
     ghost counted: { count ≤ scanned },
     ghost bounded: { scanned + left ≤ 1048576 },
-    ghost open: { ended ≡ false → 0 < left },
+    ghost open: { ended ≡ false → (0 < left) × IfSome ask.limit (λ most. scanned < most) },
 }
 
 impl Pager {
@@ -68,10 +67,12 @@ impl Pager {
         ensures ended { IfOk result (λ more. has_ended self.new ≡ not more) }
         ensures err { OnErr result (self.new ≡ self.old) }
     {
-        if passes(&self.ask.filter, item) {
-            self.keep(item)?;
+        let met = passes(&self.ask.filter, item);
+        if met && !self.ask.count_only {
+            let shown = shown(self.alloc, &self.ask.paths, item)?;
+            self.kept.push(shown)?;
         }
-        self.examine(item);
+        self.examine(item, met);
         Ok(!self.ended)
     }
 
@@ -104,19 +105,20 @@ impl Pager {
         }
     }
 
-    /// Counts an item that meets the filter, and keeps what is shown of it, unless counts alone are wanted.
-    fn keep(&mut self, item: &Item) -> Result<(), NoMemory> {
-        if !self.ask.count_only {
-            let shown = shown(self.alloc, &self.ask.paths, item)?;
-            self.kept.push(shown)?;
-        }
-        self.count += 1;
-        Ok(())
-    }
-
     /// Counts an item that is examined, and its bytes.
-    fn examine(&mut self, item: &Item) {
+    fn examine(&mut self, item: &Item, met: bool)
+        requires some { item.now ≢ [] }
+        requires open { has_ended self.old ≡ false }
+        ensures kept { (self.new.ask ≡ self.old.ask) × (self.new.kept ≡ self.old.kept) }
+        ensures count { self.new.count ≡ self.old.count + (if met then 1 else 0) }
+        ensures scanned { self.new.scanned ≡ self.old.scanned + 1 }
+        ensures left { self.new.left ≡ self.old.left - item_size item.now }
+        ensures ended { self.new.ended ≡ (nat_eq self.new.left 0 || reaches_at self.old.ask.limit self.new.scanned) }
+    {
         self.scanned += 1;
+        if met {
+            self.count += 1;
+        }
         self.left = match item_size_within(item, self.left) {
             Some(size) => self.left - size,
             None => 0,

@@ -3,7 +3,6 @@
 use Rattle.std.specs.Prelude.{ℕ, Bool, true, List, [], ◌∷◌, Option, option_map, option_and_then, unwrap_or, Some, Result, codes}
 use Rattle.serde_json.specs.Data.{Members}
 use Rattle.serde_json.specs.Find.{as_bool}
-use Rattle.alt_expr.specs.Holds.{equal}
 use Rattle.alt_expr.specs.KeyForm.{Key, Ask, ask_of}
 use Rattle.alt_expr.specs.Pages.{passes}
 use Rattle.alt_expr.specs.declared.cond.Cond.{Cond}
@@ -12,8 +11,6 @@ use Rattle.alt_schema.specs.declared.schema.TableSchema.{TableSchema}
 use Rattle.alt_shape.specs.Bodies as bodies
 use Rattle.alt_shape.specs.Refusals.{Answer, bad_key_condition}
 use Rattle.alt_shape.specs.Shape.{given}
-use Rattle.alt_value.specs.Item.{at_name}
-use Rattle.alt_value.specs.Stands.{tree_of}
 use Rattle.alt_value.specs.Tree.{Pair}
 use Rattle.alt_machine.specs.Body.{Rules, paired_refusals}
 use Rattle.alt_machine.specs.declared.Expressions.{Expressions}
@@ -44,10 +41,6 @@ abbrev pub key_asked : TableSchema → Option Cond → Result Ask Answer
 key_asked d condition = or_refused bad_key_condition
     (option_and_then (ask_of (key_of d.hash) (option_map key_of d.range)) condition)
 
--- a start key has the HASH value that is asked for
-abbrev pub has_hash : TableSchema → Ask → List Pair → Bool
-has_hash d ask key = equal (at_name d.hash.name key) (Some (tree_of ask.hash))
-
 -- the items rise by their RANGE values, unless ScanIndexForward is false
 abbrev pub goes_forward : Members → Bool
 goes_forward ms = unwrap_or (option_and_then as_bool (given (codes "ScanIndexForward") ms)) true
@@ -56,7 +49,7 @@ goes_forward ms = unwrap_or (option_and_then as_bool (given (codes "ScanIndexFor
 abbrev pub queries : Members → Expressions → Option (List Pair) → Table → Outcome
 queries ms said start t =
     with_found (key_asked t.description said.key_condition) (λ ask.
-    with_found (walk_start t.description (has_hash t.description ask) start) (λ place.
+    with_found (walk_start t.description (Some ask.hash) start) (λ place.
     pages t.description ms said (listed (goes_forward ms) place (passes said.key_condition) t)))
 
 unfoldable pub query : State → Members → Outcome

@@ -73,7 +73,7 @@ of_body ms = paired_refusals (bodies.scan ms) (is_mismatched ms || is_segment_od
 -- the list is that of the segment
 abbrev pub scans : Members → Expressions → Option (List Pair) → Table → Outcome
 scans ms said start t =
-    with_found (walk_start t.description (λ key. true) start) (λ place.
+    with_found (walk_start t.description None start) (λ place.
     pages t.description ms said (listed true place (is_in t.description (segment_of ms)) t))
 
 unfoldable pub scan : State → Members → Outcome

@@ -1,5 +1,5 @@
 -- How the page of a list grows with the list: up to its end every item is examined, and from then on none.
-use Rattle.std.proofs.Common.{◌≡◌, refl, sym, ap, ◌∙◌, cond, ℕ, ◌+◌, ◌-◌, ◌*◌, ◌<◌, ◌≤◌, Bool, true, false, not, ◌||◌, List, [], ◌∷◌, ◌++◌, length, map, Option, Some, None, is_some, IfSome, unwrap_or, nat_le, sum_by, All, arith, append_assoc, append-nil, length-append, leb-false}
+use Rattle.std.proofs.Common.{◌≡◌, refl, sym, ap, ◌∙◌, cond, ℕ, ◌+◌, ◌-◌, ◌*◌, ◌<◌, ◌≤◌, Bool, true, false, not, ◌||◌, List, [], ◌∷◌, ◌++◌, length, map, Option, Some, None, is_some, IfSome, unwrap_or, nat_le, sum_by, All, arith, append_assoc, append-nil, length-append}
 use Rattle.std.specs.List.{find, filter}
 use Rattle.std.specs.Option.{option_or}
 use Rattle.std.proofs.lemmas.List.{map-append}
@@ -124,17 +124,20 @@ module _ (limit : Option ℕ) (largest : ℕ) where
   abbrev pub Within : ℕ → Type 0
   Within n = IfSome limit (λ most. n < most)
 
+  not_le : (m n : ℕ) → n < m → nat_le m n ≡ false
+  not_le m n h = grind arith
+
   not_reached : (xs : List (List Pair)) → Within (length xs) → reaches limit xs ≡ false
   not_reached xs = by limit
     where
       by : (o : Option ℕ) → IfSome o (λ most. length xs < most) → reaches o xs ≡ false
       by None h = refl
-      by (Some most) h = leb-false most (length xs) h
+      by (Some most) h = not_le most (length xs) h
 
   not_full : (xs : List (List Pair)) → Within (length xs) → sum_by item_size xs < page_bytes
       → fills limit xs ≡ false
   not_full xs few small = by (reaches limit xs) (nat_le page_bytes (sum_by item_size xs))
-      (not_reached xs few) (leb-false page_bytes (sum_by item_size xs) small)
+      (not_reached xs few) (not_le page_bytes (sum_by item_size xs) small)
     where
       by : (a b : Bool) → a ≡ false → b ≡ false → (a || b) ≡ false
       by true b e f = e

@@ -1,6 +1,11 @@
 //! A pager examines the items of a list one after the other, and tells where the page ends.
 
-ghost use Rattle.std.specs.Prelude.{◌≡◌, ◌+◌, ◌<◌, ◌≤◌, false, IfSome};
+ghost use Rattle.std.specs.Prelude.{◌≡◌, ◌≢◌, ◌+◌, ◌-◌, ◌<◌, ◌≤◌, ◌∷◌, ◌++◌, [], ◌&&◌, not, false, if◌then◌else◌, IfOk, OnOk, OnErr};
+ghost use Rattle.std.specs.Option.{ForSome};
+ghost use Rattle.alt_expr.specs.Pages as spec;
+ghost use Rattle.alt_expr.specs.Pages.{parts};
+ghost use Rattle.alt_paging.specs.Counted.{reached};
+ghost use Rattle.alt_value.specs.Size.{item_size};
 
 use crate::ask::{ItemList, Page, PageAsk};
 use alt_base::NoMemory;
@@ -26,13 +31,14 @@ pub struct Pager {
     ended: bool,
     ghost counted: { count ≤ scanned },
     ghost bounded: { scanned + left ≤ 1048576 },
-    ghost open: { ended ≡ false → (0 < left) × IfSome ask.limit (λ most. scanned < most) },
+    ghost going: { ended ≡ false → 0 < left },
+    ghost within: { ended ≡ false → ForSome ask.limit (λ most. scanned < most) },
 }
 
 impl Pager {
     ghost use Rattle.std.specs.Prelude.{◌≡◌, ◌≢◌, ◌<◌, ◌≤◌, ◌∷◌, ◌++◌, [], not, false, length, List, All, IfOk, OnOk, OnErr, IfSome};
     ghost use Rattle.alt_expr.specs.Pages.{ends_early};
-    ghost use Rattle.alt_paging.specs.Offered.{WasOffered, IsPage, has_ended};
+    ghost use Rattle.alt_paging.specs.Offered.{WasOffered, IsPage, Grows, has_ended};
     ghost use Rattle.alt_paging.specs.declared.ask.PageAsk.{PageAsk};
     ghost use Rattle.alt_value.specs.Size.{item_size};
     ghost use Rattle.alt_value.specs.Tree.{Pair};
@@ -67,13 +73,10 @@ impl Pager {
         ensures ended { IfOk result (λ more. has_ended self.new ≡ not more) }
         ensures err { OnErr result (self.new ≡ self.old) }
     {
-        let met = passes(&self.ask.filter, item);
-        if met && !self.ask.count_only {
-            let shown = shown(self.alloc, &self.ask.paths, item)?;
-            self.kept.push(shown)?;
+        match self.examine(item) {
+            Ok(()) => Ok(!self.ended),
+            Err(wanting) => Err(wanting),
         }
-        self.examine(item, met);
-        Ok(!self.ended)
     }
 
     /// So many more items, of at most `largest` bytes each, are certain to be examined: no fewer of them end the page.
@@ -105,30 +108,64 @@ impl Pager {
         }
     }
 
-    /// Counts an item that is examined, and its bytes.
-    fn examine(&mut self, item: &Item, met: bool)
+    /// Keeps what is shown of an item, where it meets the filter, and counts it and its bytes.
+    fn examine(&mut self, item: &Item) -> Result<(), NoMemory>
         requires some { item.now ≢ [] }
         requires open { has_ended self.old ≡ false }
-        ensures kept { (self.new.ask ≡ self.old.ask) × (self.new.kept ≡ self.old.kept) }
-        ensures count { self.new.count ≡ self.old.count + (if met then 1 else 0) }
-        ensures scanned { self.new.scanned ≡ self.old.scanned + 1 }
-        ensures left { self.new.left ≡ self.old.left - item_size item.now }
-        ensures ended { self.new.ended ≡ (nat_eq self.new.left 0 || reaches_at self.old.ask.limit self.new.scanned) }
+        ensures grows { OnOk result (Grows self.old item.now self.new) }
+        ensures err { OnErr result (self.new ≡ self.old) }
     {
+        let met = passes(&self.ask.filter, item);
+        keep(self.alloc, &self.ask, met, item, &mut self.kept)?;
         self.scanned += 1;
-        if met {
-            self.count += 1;
-        }
-        self.left = match item_size_within(item, self.left) {
-            Some(size) => self.left - size,
-            None => 0,
-        };
-        self.ended = self.left == 0 || reaches(self.ask.limit, self.scanned);
+        self.count += one_if(met);
+        self.left = left_after(self.left, item);
+        self.ended = reaches(self.ask.limit, self.scanned) || self.left == 0;
+        Ok(())
+    }
+}
+
+/// Keeps what is shown of an item that meets the filter, unless counts alone are wanted.
+fn keep(
+    alloc: Global,
+    ask: &PageAsk,
+    met: bool,
+    item: &Item,
+    kept: &mut ItemList,
+) -> Result<(), NoMemory>
+    ensures ok { OnOk result (kept.new ≡ kept.old
+        ++ (if met && not ask.now.count_only then parts ask.now.paths item.now ∷ [] else [])) }
+    ensures err { OnErr result (kept.new ≡ kept.old) }
+{
+    if met && !ask.count_only {
+        let shown = shown(alloc, &ask.paths, item)?;
+        return kept.push(shown);
+    }
+    Ok(())
+}
+
+fn one_if(met: bool) -> u32
+    ensures { result ≡ (if met then 1 else 0) }
+{
+    if met { 1 } else { 0 }
+}
+
+/// What an item leaves of so many bytes, none where it has more.
+fn left_after(left: u64, item: &Item) -> u64
+    ensures left { result ≡ left - item_size item.now }
+    ensures less { 0 < left → item.now ≢ [] → result < left }
+{
+    let _count = item.len();
+    match item_size_within(item, left) {
+        Some(size) => left - size,
+        None => 0,
     }
 }
 
 /// Whether as many items as the limit are examined.
-fn reaches(limit: Option<u32>, scanned: u32) -> bool {
+fn reaches(limit: Option<u32>, scanned: u32) -> bool
+    ensures { result ≡ reached limit scanned }
+{
     match limit {
         Some(most) => most <= scanned,
         None => false,
@@ -136,7 +173,9 @@ fn reaches(limit: Option<u32>, scanned: u32) -> bool {
 }
 
 /// Whether an item meets the filter, if there is one.
-fn passes(filter: &Option<Cond>, item: &Item) -> bool {
+fn passes(filter: &Option<Cond>, item: &Item) -> bool
+    ensures { result ≡ spec.passes filter.now item.now }
+{
     match filter {
         Some(condition) => holds(condition, item),
         None => true,
@@ -144,7 +183,9 @@ fn passes(filter: &Option<Cond>, item: &Item) -> bool {
 }
 
 /// What paths choose of an item, or all of it where there are none.
-fn shown(alloc: Global, paths: &Option<Paths>, item: &Item) -> Result<Item, NoMemory> {
+fn shown(alloc: Global, paths: &Option<Paths>, item: &Item) -> Result<Item, NoMemory>
+    ensures { IfOk result (λ i. i ≡ parts paths.now item.now) }
+{
     match paths {
         Some(paths) => project(alloc, paths, item),
         None => item.copy(),

@@ -13,7 +13,6 @@ mod recover;
 mod rows;
 mod scan;
 mod tables;
-mod walks;
 
 pub use faults::{OpenFault, TableFault};
 pub use laws::tables_laws;

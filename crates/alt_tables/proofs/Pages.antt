@@ -139,8 +139,8 @@ same_end (Some to) = refl
 each_found : (P : List Pair → Type 0) (es : List (List ℕ × List Pair)) → T (is_sorted key_cmp es)
     → ((place : List ℕ) (item : List Pair) → find key_cmp place es ≡ Some item → P item)
     → All (λ e. P e.1) es
-each_found P [] sorted found = All-nil (λ e. P e.1)
-each_found P (e ∷ es) sorted found = All-cons (λ e. P e.1) e es
+each_found P [] sorted found = All-nil (λ (e : List ℕ × List Pair). P e.1)
+each_found P (e ∷ es) sorted found = All-cons (λ (e : List ℕ × List Pair). P e.1) e es
     (found e.0 e.1 (ap (λ b. cond b (Some e.1) (find key_cmp e.0 es)) (itself e.0)))
     (each_found P es (second (below_all key_cmp e.0 es) _ sorted)
     (λ place item at. found place item (later place item at (eq_by_cmp key_cmp place e.0) refl)))
@@ -153,7 +153,11 @@ each_found P (e ∷ es) sorted found = All-cons (λ e. P e.1) e es
     later place item at false differs =
         ap (λ b. cond b (Some e.1) (find key_cmp place es)) differs ∙ at
 
--- so either way
+-- the item of an entry can be read
+abbrev CanBeRead : List ℕ × List Pair → Type 0
+CanBeRead e = IsReadItem e.1
+
+-- what holds of all holds of them either way
 All-turned : {A : Type 0} (P : A → Type 0) (forward : Bool) (xs : List A) → All P xs
     → All P (turned forward xs)
 All-turned P true xs all = all
@@ -212,7 +216,8 @@ module _ (disk : DiskState) (tables : Tables) (s : State) (name : List ℕ) (t :
   page_rows =
       let l = stands.rows.layout in
       walked (tells_of disk stands.rows.trusted) l stands.rows.is.reads
-      ∙ ap (λ rows. rows ++ take most (rows_between l d.family from to forward)) empty
+      ∙ ap (λ (rows : List (List ℕ × Columns)). rows
+      ++ take most (rows_between l d.family from to forward)) empty
       ∙ ap (λ (x : TableSchema). take most (rows_between l x.family from to forward))
       (some _ _ (sym known_as ∙ known disk tables s name t stands at))
       ∙ ap (take most) (rows_between-items l s name t stands.rows.shows at from to forward)
@@ -232,14 +237,15 @@ module _ (disk : DiskState) (tables : Tables) (s : State) (name : List ℕ) (t :
   page_reads = record {
     read = All-take IsReadItem most (items_between t from to forward)
         (All-map IsReadItem (λ (e : List ℕ × List Pair). e.1) placed
-        (All-turned (λ e. IsReadItem e.1) forward _
-        (All-filter (λ e. range_contains text_order (Included from) (end_bound to) e.0)
-        (λ e. IsReadItem e.1) (placed_items t)
+        (All-turned CanBeRead forward (entries_between text_order (Included from) (end_bound to)
+        (placed_items t))
+        (All-filter (λ (e : List ℕ × List Pair). range_contains text_order (Included from)
+        (end_bound to) e.0) CanBeRead (placed_items t)
         (each_found IsReadItem (placed_items t) (finite.entries_sorted t.items) read_item))));
     rows = ap (map (λ (e : List ℕ × Columns). e.1)) page_rows
         ∙ sym (take-map (λ (e : List ℕ × Columns). e.1) most (map row_at placed))
         ∙ ap (take most) (columns-rows placed)
-        ∙ take-map item_columns most (map (λ e. e.1) placed);
+        ∙ take-map item_columns most (map (λ (e : List ℕ × List Pair). e.1) placed);
   }
 
   -- so what was read of them are these items

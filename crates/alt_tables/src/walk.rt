@@ -59,7 +59,10 @@ impl Tables {
         };
         let family = schema.family;
         let mut page = Vec::new(self.alloc);
-        match self.engine.rows(disk, family, range, forward, most, &mut page) {
+        match self
+            .engine
+            .rows(disk, family, range, forward, most, &mut page)
+        {
             Ok(()) => read_page(self.alloc, family, page, out),
             Err(fault) => Err(fault_of(fault)),
         }

@@ -2,3 +2,4 @@ mod asking;
 mod conditions;
 mod failures;
 mod stops;
+mod walks;

@@ -1,1 +1,3 @@
+pub mod Beyond
+pub mod Kinds
 pub mod Lists

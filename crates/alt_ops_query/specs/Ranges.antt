@@ -2,7 +2,7 @@
 use Rattle.std.specs.Prelude.{◌≡◌, ◌↔◌, ◌&&◌, ℕ, Bool, true, List, Option}
 use Rattle.std.specs.BTreeMap.Range.{range_contains}
 use Rattle.std.specs.declared.ops.Bound.TheVariants.{Included}
-use Rattle.alt_keyorder.specs.Range.{IsInRange}
+use Rattle.alt_keyorder.specs.Range.{IsBelow, IsBelowEnd, IsInRange}
 use Rattle.alt_machine.specs.Valid.{IsStored}
 use Rattle.alt_machine.specs.Walks.{end_bound, is_beyond}
 use Rattle.alt_schema.specs.declared.schema.TableSchema.{TableSchema}
@@ -22,3 +22,7 @@ abbrev pub HoldsListed : Bool → Option (List ℕ) → (List Pair → Bool) →
 HoldsListed forward place test d from to = (key : List ℕ) (item : List Pair) → IsStored d key item
     → IsItemOfValues item → range_contains text_order (Included from) (end_bound to) key
     ≡ (is_beyond forward place key && test item)
+
+-- An end is the lesser of a range's end and a place: what is below both is below it.
+abbrev pub IsLesser : Option (List ℕ) → List ℕ → List ℕ → Type 0
+IsLesser to place end = (key : List ℕ) → IsBelow key end ↔ (IsBelowEnd key to × IsBelow key place)

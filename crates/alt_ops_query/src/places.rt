@@ -1,12 +1,12 @@
 //! Where a walk starts: the place of a start key, and the part of a range beyond it.
 
-ghost use Rattle.std.specs.Prelude.{◌≡◌, ◌++◌, IfOk, OnOk, option_map};
+ghost use Rattle.std.specs.Prelude.{◌≡◌, ◌++◌, true, Some, IfOk, OnOk, option_map};
 ghost use Rattle.std.specs.Int.{w64, to_be_bytes};
 ghost use Rattle.alt_keyorder.specs.KeyBytes.{IsKey, key_bytes};
 ghost use Rattle.alt_keyorder.specs.Token.{token_of};
 ghost use Rattle.alt_machine.specs.Keys.{key_count};
 ghost use Rattle.alt_machine.specs.Lists as machine;
-ghost use Rattle.alt_ops_query.specs.Ranges.{IsBeyond};
+ghost use Rattle.alt_ops_query.specs.Ranges.{IsBeyond, IsLesser};
 ghost use Rattle.alt_request.specs.Steps.{Comes};
 ghost use Rattle.alt_value.specs.Stands.{tree_of};
 
@@ -118,6 +118,7 @@ fn is_of_kind(kind: KeyKind, value: &Attr) -> bool
 }
 
 /// The part of a range strictly beyond a place, in the direction of a walk; all of it where there is none.
+#[tactic(auto, using(crate::proofs::Beyond::beyond_none, crate::proofs::Beyond::beyond_end))]
 pub(crate) fn beyond(
     alloc: Global,
     range: KeyRange,
@@ -140,7 +141,10 @@ pub(crate) fn beyond(
 }
 
 /// The part of a range above a place.
-fn from_behind(alloc: Global, range: KeyRange, place: &[u8]) -> Result<KeyRange, NoMemory> {
+#[tactic(auto, using(crate::proofs::Beyond::beyond_above, crate::proofs::Beyond::beyond_after))]
+fn from_behind(alloc: Global, range: KeyRange, place: &[u8]) -> Result<KeyRange, NoMemory>
+    ensures { IfOk result (λ r. IsBeyond true (Some place.now) range.from range.to r.from r.to) }
+{
     let KeyRange { from, to } = range;
     if from.as_slice().cmp(place).is_gt() {
         return Ok(KeyRange { from, to });
@@ -154,7 +158,10 @@ fn from_behind(alloc: Global, range: KeyRange, place: &[u8]) -> Result<KeyRange,
 }
 
 /// The lesser of an end, if there is one, and a place.
-fn earlier(end: Option<Bytes>, place: Bytes) -> Bytes {
+#[tactic(auto, using(crate::proofs::Beyond::lesser_end, crate::proofs::Beyond::lesser_place, crate::proofs::Beyond::lesser_alone))]
+fn earlier(end: Option<Bytes>, place: Bytes) -> Bytes
+    ensures { IsLesser end place result }
+{
     match end {
         Some(end) if end.as_slice().cmp(place.as_slice()).is_lt() => end,
         _ => place,

@@ -2,6 +2,7 @@
 -- query results").
 use Rattle.std.specs.Prelude.{◌≡◌, ℕ, Bool, true, false, not, ◌&&◌, ◌||◌, ◌==◌, List, [], ◌∷◌, length, map, is_some, Option, Some, None, option_map, option_and_then, Result, Ok, codes, if◌then◌else◌}
 use Rattle.std.specs.List.{filter, last_or}
+use Rattle.std.specs.FinMap.Entries.{where_key}
 use Rattle.std.specs.Option.{option_map_or}
 use Rattle.serde_json.specs.Data.{Data, number, unsigned, array, Items, no_items, item, Members, no_members, member}
 use Rattle.alt_codec.specs.Reading.{item_in}
@@ -17,6 +18,7 @@ use Rattle.alt_schema.specs.declared.schema.TableSchema.{TableSchema}
 use Rattle.alt_shape.specs.Refusals.{Answer, answered, bad_start_key}
 use Rattle.alt_shape.specs.Shape.{given, natural_of}
 use Rattle.alt_value.specs.Item.{at_name}
+use Rattle.alt_value.specs.Members.{text_order}
 use Rattle.alt_value.specs.Stands.{tree_of}
 use Rattle.alt_value.specs.Tree.{Tree, Pair, S_tree, N_tree, B_tree}
 use Rattle.alt_value.specs.declared.attr.Attr.{Attr}
@@ -122,7 +124,7 @@ page_asked ms said = record {
 
 -- the key attributes of an item
 abbrev pub key_attributes : TableSchema → List Pair → List Pair
-key_attributes d = filter (λ p. is_key d.hash d.range p.0)
+key_attributes d = where_key text_order (is_key d.hash d.range)
 
 -- the last examined item, where the page has ended early
 abbrev pub last_examined : Asked → List (List Pair) → Option (List Pair)

@@ -1,7 +1,9 @@
 //! What is asked of a page.
 
-ghost use Rattle.std.specs.Prelude.{◌≡◌, ◌<◌, IfSome};
+ghost use Rattle.std.specs.Prelude.{◌≡◌, ◌<◌, IfSome, codes};
 ghost use Rattle.serde_json.specs.View.{members_view};
+ghost use Rattle.alt_ops_query.specs.Paged.{asked_page, limit_in};
+ghost use Rattle.alt_machine.specs.Ops.Scan.{whole_at};
 
 use crate::selecting::selects;
 use alt_expr::{Cond, Paths};
@@ -15,6 +17,7 @@ pub(crate) fn page_ask(
     filter: Option<Cond>,
     paths: Option<Paths>,
 ) -> PageAsk
+    ensures asks { result ≡ asked_page (members_view body.now.entries) filter paths }
     ensures limit { IfSome result.limit (λ most. 0 < most) }
 {
     PageAsk {
@@ -27,6 +30,7 @@ pub(crate) fn page_ask(
 
 /// The most items that are examined, where a limit is given.
 fn limit_of(body: &Map<String, Value>) -> Option<u32>
+    ensures limit { result ≡ limit_in (whole_at (codes "Limit") (members_view body.now.entries)) }
     ensures some { IfSome result (λ most. 0 < most) }
 {
     match whole_at(body, "Limit") {

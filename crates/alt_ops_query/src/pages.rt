@@ -1,5 +1,21 @@
 //! The page of a range of a table.
 
+ghost use Rattle.std.specs.Prelude.{◌≡◌, ◌↔◌, true, false, Some, IfOk, IfErr};
+ghost use Rattle.std.specs.FinMap as map;
+ghost use Rattle.serde_json.specs.View.{view, members_view};
+ghost use Rattle.serde_json.specs.Written.{has_float};
+ghost use Rattle.alt_base.specs.Counts.{Rose};
+ghost use Rattle.alt_machine.specs.Lists.{pages};
+ghost use Rattle.alt_machine.specs.Members.{table_name};
+ghost use Rattle.alt_machine.specs.State.{State, Table};
+ghost use Rattle.alt_machine.specs.Walks.{items_between};
+ghost use Rattle.alt_ops_query.specs.Paged.{AnswersPage, HasLimit};
+ghost use Rattle.alt_request.specs.Carried.{Does, IsPlain, IfFailed};
+ghost use Rattle.alt_request.specs.Steps.{IsMemory};
+ghost use Rattle.alt_schema.specs.declared.schema.TableSchema.{TableSchema};
+ghost use Rattle.alt_shape.specs.Refusals.{answer_of};
+ghost use Rattle.alt_tables.specs.Stands.{AreReady, Reads, Stands, catalog_of};
+
 use crate::asking::page_ask;
 use crate::replies::page_reply;
 use crate::walking::{Filling, fill};
@@ -22,7 +38,19 @@ pub(crate) fn page_of_range<D: Disk>(
     said: Expressions,
     range: KeyRange,
     forward: bool,
-) -> Result<Reply, Stop> {
+) -> Result<Reply, Stop>
+    requires ready { AreReady (D.state disk.old) tables.old }
+    requires there { map.contains_key (catalog_of tables.old)
+        (table_name (members_view body.now.entries)) ≡ true }
+    requires limit { HasLimit (members_view body.now.entries) }
+    ensures does { (s : State) (t : Table) → Stands (D.state disk.old) tables.old s
+        → map.get s.tables (table_name (members_view body.now.entries)) ≡ Some t
+        → Does (Stands (D.state disk.new) tables.new) s (pages t.description
+        (members_view body.now.entries) said (items_between t range.from range.to forward)) result }
+    ensures plain { IsPlain result }
+    ensures disk { Reads (D.state disk.old) (D.state disk.new) }
+    ensures failed { IfFailed result (Rose (D.state disk.old).faults (D.state disk.new).faults) }
+{
     let Expressions {
         condition,
         projection,
@@ -43,7 +71,15 @@ fn answered(
     tables: &Tables,
     body: &Map<String, Value>,
     filling: Filling,
-) -> Result<Reply, Stop> {
+) -> Result<Reply, Stop>
+    requires there { map.contains_key (catalog_of tables.now)
+        (table_name (members_view body.now.entries)) ≡ true }
+    ensures reply { IfOk result (λ reply. (d : TableSchema)
+        → map.get (catalog_of tables.now) (table_name (members_view body.now.entries)) ≡ Some d
+        → AnswersPage d (members_view body.now.entries) filling (answer_of reply)) }
+    ensures plain { IfOk result (λ reply. has_float (view reply.body) ≡ false) }
+    ensures cause { IfErr result IsMemory }
+{
     let Some(schema) = tables.table(table_name(body)) else {
         unreachable!();
     };

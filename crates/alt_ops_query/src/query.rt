@@ -1,23 +1,33 @@
 //! Query.
 
-ghost use Rattle.std.specs.Prelude.{◌≡◌};
+ghost use Rattle.std.specs.Prelude.{◌≡◌, List, IfOk, option_map};
 ghost use Rattle.serde_json.specs.View.{members_view};
-ghost use Rattle.alt_machine.specs.Ops.Query.{query, goes_forward};
+ghost use Rattle.alt_expr.specs.KeyForm.{meets};
+ghost use Rattle.alt_expr.specs.Pages.{passes};
+ghost use Rattle.alt_keycond.specs.Asked.{asks};
+ghost use Rattle.alt_keycond.specs.KeysAsked.{AsksKeys};
+ghost use Rattle.alt_keyorder.specs.KeyBytes.{IsKey};
+ghost use Rattle.alt_machine.specs.Ops.Query.{query, goes_forward, key_asked, key_of as machine_key};
+ghost use Rattle.alt_ops_query.specs.Asked.{AreHeld, Asks};
 ghost use Rattle.alt_request.specs.Carried.{Carries, Moves};
+ghost use Rattle.alt_request.specs.Steps.{Comes};
 ghost use Rattle.alt_tables.specs.Stands.{AreReady, Stands};
+ghost use Rattle.alt_value.specs.Item.{at_name};
+ghost use Rattle.alt_value.specs.Stands.{tree_of};
+ghost use Rattle.alt_value.specs.Tree.{Pair};
 
 use crate::pages::page_of_range;
 use crate::places::{beyond, walk_start};
 use crate::selecting::is_mismatched;
 use alt_disk::Disk;
 use alt_expr::Cond;
-use alt_keycond::{KeyAsk, KeyCondFault, key_ask, key_range};
+use alt_keycond::{KeyAsk, KeyCondFault, RangeAsk, key_ask, key_range};
 use alt_keyorder::KeyRange;
 use alt_request::{ListTarget, Rules, Stop, Texts, list_target};
 use alt_schema::{KeyAttr, TableSchema};
 use alt_shape::{Refusal, Reply, bodies, truth_at};
 use alt_tables::{TableFault, Tables};
-use alt_value::Item;
+use alt_value::{Item, held};
 use serde_json::{Map, Value};
 use std::alloc::Global;
 
@@ -79,15 +89,25 @@ fn asked_range(
     condition: &Option<Cond>,
     start: &Option<Item>,
     forward: bool,
-) -> Result<KeyRange, Stop> {
+) -> Result<KeyRange, Stop>
+    ensures asks { Asks schema.now condition.now start.now forward result }
+{
     let ask = key_asked(schema, condition)?;
+    held(&ask.hash);
+    range_held(&ask.range);
     let place = walk_start(alloc, schema, Some(&ask.hash), start)?;
     let range = key_range(alloc, &ask)?;
     Ok(beyond(alloc, range, place, forward)?)
 }
 
 /// What a key condition asks, where it has the form of one.
-fn key_asked(schema: &TableSchema, condition: &Option<Cond>) -> Result<KeyAsk, Stop> {
+fn key_asked(schema: &TableSchema, condition: &Option<Cond>) -> Result<KeyAsk, Stop>
+    ensures asked { Comes asks (key_asked schema.now condition.now) result }
+    ensures holds { IfOk result (λ ask. (item : List Pair) → passes condition.now item
+        ≡ meets (machine_key schema.now.hash) (option_map machine_key schema.now.range) (asks ask)
+        (λ name. at_name name item)) }
+    ensures keys { IfOk result (λ ask. IsKey (tree_of ask.hash) × AsksKeys ask.range) }
+{
     let Some(condition) = condition else {
         return Err(Stop::Refused(Refusal::BAD_KEY_CONDITION));
     };
@@ -99,9 +119,30 @@ fn key_asked(schema: &TableSchema, condition: &Option<Cond>) -> Result<KeyAsk, S
 }
 
 /// The RANGE key, if the table has one.
-fn range_key(schema: &TableSchema) -> Option<&KeyAttr> {
+fn range_key(schema: &TableSchema) -> Option<&KeyAttr>
+    ensures { option_map (λ r. r.now) result ≡ schema.now.range }
+{
     match &schema.range {
         Some(range) => Some(range),
         None => None,
+    }
+}
+
+/// Each value that is asked of a RANGE attribute is one of the program. The call does nothing.
+fn range_held(range: &RangeAsk)
+    ensures held { AreHeld range.now }
+{
+    match range {
+        RangeAsk::All => {}
+        RangeAsk::Eq(value) => held(value),
+        RangeAsk::Lt(value) => held(value),
+        RangeAsk::Le(value) => held(value),
+        RangeAsk::Gt(value) => held(value),
+        RangeAsk::Ge(value) => held(value),
+        RangeAsk::Between(low, high) => {
+            held(low);
+            held(high);
+        }
+        RangeAsk::Begins(value) => held(value),
     }
 }

@@ -1,9 +1,12 @@
 //! A page as it is answered.
 
-ghost use Rattle.std.specs.Prelude.{◌≡◌, false, IfOk, option_map};
+ghost use Rattle.std.specs.Prelude.{◌≡◌, false, IfOk, OnOk};
 ghost use Rattle.serde_json.specs.View.{view, items_view, members_view};
 ghost use Rattle.serde_json.specs.Written.{has_float};
 ghost use Rattle.alt_machine.specs.Lists as machine;
+ghost use Rattle.alt_ops_query.specs.Replied.{page_of, with_attribute};
+ghost use Rattle.alt_shape.specs.Refusals.{answer_of};
+ghost use Rattle.alt_value.specs.Item.{at_name};
 
 use crate::selecting::selects;
 use alt_base::NoMemory;
@@ -22,7 +25,11 @@ pub(crate) fn page_reply(
     body: &Map<String, Value>,
     page: &Page,
     last: &Option<Item>,
-) -> Result<Reply, NoMemory> {
+) -> Result<Reply, NoMemory>
+    ensures reply { IfOk result (λ reply. answer_of reply ≡ machine.page_answer schema.now
+        (members_view body.now.entries) (page_of page.now) last.now) }
+    ensures plain { IfOk result (λ reply. has_float (view reply.body) ≡ false) }
+{
     let mut members = Map::new(alloc);
     serde_json::put(&mut members, alloc, "Count", Value::from(page.count))?;
     if !selects(body, "COUNT") {
@@ -39,7 +46,7 @@ pub(crate) fn page_reply(
 
 /// Items as JSON, in their order.
 fn json_of_items(alloc: Global, items: &[Item]) -> Result<Vec<Value>, NoMemory>
-    ensures { IfOk result (λ values. items_view values.items ≡ machine.items_json items.now) }
+    ensures json { IfOk result (λ values. items_view values.items ≡ machine.items_json items.now) }
 {
     let mut values = Vec::with_capacity(alloc, items.len())?;
     for item in items {
@@ -49,7 +56,10 @@ fn json_of_items(alloc: Global, items: &[Item]) -> Result<Vec<Value>, NoMemory>
 }
 
 /// The key attributes of an item.
-fn key_attributes(alloc: Global, schema: &TableSchema, item: &Item) -> Result<Item, NoMemory> {
+fn key_attributes(alloc: Global, schema: &TableSchema, item: &Item) -> Result<Item, NoMemory>
+    ensures key { IfOk result (λ key. key ≡ machine.key_attributes schema.now item.now) }
+{
+    let _count = item.len();
     let mut key = Item::new(alloc);
     put_attribute(&mut key, &schema.hash, item)?;
     if let Some(range) = &schema.range {
@@ -58,11 +68,14 @@ fn key_attributes(alloc: Global, schema: &TableSchema, item: &Item) -> Result<It
     Ok(key)
 }
 
-/// Puts a key attribute of an item into its key.
-fn put_attribute(key: &mut Item, attribute: &KeyAttr, item: &Item) -> Result<(), NoMemory> {
+/// Puts a key attribute of an item into its key, where the item has it.
+fn put_attribute(key: &mut Item, attribute: &KeyAttr, item: &Item) -> Result<(), NoMemory>
+    ensures put { OnOk result (key.new
+        ≡ with_attribute attribute.now.name (at_name attribute.now.name item.now) key.old) }
+{
     let name = attribute.name.as_str();
     match item.get(name) {
-        Some(value) => key.put(name, copy(value)?),
-        None => Ok(()),
+        Some(value) if !name.is_empty() => key.put(name, copy(value)?),
+        _ => Ok(()),
     }
 }

@@ -1,8 +1,11 @@
 //! Scan.
 
-ghost use Rattle.std.specs.Prelude.{◌≡◌};
+ghost use Rattle.std.specs.Prelude.{◌≡◌, ◌+◌, ◌^◌, ◌<◌, ◌≤◌, false, IfOk, IfSome, option_map};
 ghost use Rattle.serde_json.specs.View.{members_view};
+ghost use Rattle.alt_machine.specs.Ops.Scan as machine;
 ghost use Rattle.alt_machine.specs.Ops.Scan.{scan, is_segment_odd};
+ghost use Rattle.alt_ops_query.specs.Asked.{Segments};
+ghost use Rattle.alt_ops_query.specs.Tokens.{segment_in, first_token, token_bytes, end_token};
 ghost use Rattle.alt_request.specs.Carried.{Carries, Moves};
 ghost use Rattle.alt_tables.specs.Stands.{AreReady, Stands};
 
@@ -26,6 +29,9 @@ static RULES: Rules = Rules {
     unbuilt: &["IndexName"],
     named: &["TableName", "IndexName"],
 };
+
+/// How many tokens there are.
+const TOKENS: u128 = 18_446_744_073_709_551_616;
 
 /// One of so many segments, numbered from 0.
 #[derive(Clone, Copy)]
@@ -79,9 +85,13 @@ fn is_segment_odd(body: &Map<String, Value>) -> bool
 }
 
 /// The segment that is asked for, if one is.
-fn segment_of(body: &Map<String, Value>) -> Option<Segment> {
+fn segment_of(body: &Map<String, Value>) -> Option<Segment>
+    ensures segment { is_segment_odd (members_view body.now.entries) ≡ false
+        → option_map segment_in result ≡ machine.segment_of (members_view body.now.entries) }
+    ensures below { IfSome result (λ s. s.number < s.total) }
+{
     match (whole_at(body, "Segment"), whole_at(body, "TotalSegments")) {
-        (Some(number), Some(total)) => Some(Segment { number, total }),
+        (Some(number), Some(total)) if number < total => Some(Segment { number, total }),
         _ => None,
     }
 }
@@ -92,7 +102,10 @@ fn segment_range(
     schema: &TableSchema,
     segment: Option<Segment>,
     start: &Option<Item>,
-) -> Result<KeyRange, Stop> {
+) -> Result<KeyRange, Stop>
+    requires below { IfSome segment (λ s. s.number < s.total) }
+    ensures segments { Segments schema.now (option_map segment_in segment) start.now result }
+{
     let place = walk_start(alloc, schema, None, start)?;
     let range = match segment {
         Some(segment) => tokens_of(alloc, segment)?,
@@ -110,15 +123,16 @@ fn whole_range(alloc: Global) -> KeyRange {
 }
 
 /// The places whose tokens are in a segment.
-fn tokens_of(alloc: Global, segment: Segment) -> Result<KeyRange, NoMemory> {
+fn tokens_of(alloc: Global, segment: Segment) -> Result<KeyRange, NoMemory>
+    requires below { segment.number < segment.total }
+    ensures tokens { IfOk result (λ r. (r.from ≡ token_bytes (first_token segment.number segment.total))
+        × (r.to ≡ end_token (first_token (segment.number + 1) segment.total))) }
+{
     let Segment { number, total } = segment;
-    let from = match first_token(number, total) {
-        Some(token) => token,
-        None => 0,
-    };
-    let to = match first_token(number + 1, total) {
-        Some(token) => Some(token_bytes(alloc, token)?),
-        None => None,
+    let from = first_token(number, total) as u64;
+    let to = match u64::try_from(first_token(number + 1, total)) {
+        Ok(token) => Some(token_bytes(alloc, token)?),
+        Err(_) => None,
     };
     Ok(KeyRange {
         from: token_bytes(alloc, from)?,
@@ -126,13 +140,20 @@ fn tokens_of(alloc: Global, segment: Segment) -> Result<KeyRange, NoMemory> {
     })
 }
 
-/// The first token of a segment, `None` where that is past all tokens.
-fn first_token(number: u64, total: u64) -> Option<u64> {
+/// The least number that, times `total` and divided by 2^64, is at least `number`: the first token of a segment. That of the segment behind the
+/// last is 2^64.
+fn first_token(number: u64, total: u64) -> u128
+    requires below { number ≤ total }
+    requires some { 0 < total }
+    ensures first { result ≡ first_token number total }
+    ensures fits { number < total → result < 2 ^ 64 }
+{
     let total = u128::from(total);
-    let first = ((u128::from(number) << 64) + (total - 1)) / total;
-    u64::try_from(first).ok()
+    (u128::from(number) * TOKENS + (total - 1)) / total
 }
 
-fn token_bytes(alloc: Global, token: u64) -> Result<Bytes, NoMemory> {
+fn token_bytes(alloc: Global, token: u64) -> Result<Bytes, NoMemory>
+    ensures bytes { IfOk result (λ b. b ≡ token_bytes token) }
+{
     Bytes::new(alloc, &token.to_be_bytes())
 }

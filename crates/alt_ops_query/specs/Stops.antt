@@ -1,0 +1,17 @@
+-- How a walk stops.
+use Rattle.std.specs.Prelude.{Result, Ok, Err}
+use Rattle.alt_request.specs.Carried.{WhereFailed}
+use Rattle.alt_request.specs.declared.stop.Stop.{Stop}
+use Rattle.alt_request.specs.declared.stop.Stop.TheVariants.{Refused, Fault}
+use Rattle.alt_tables.specs.Faults.{IsFindFault}
+
+-- by a fault of a call that reads
+abbrev pub IsFault : Stop → Type 0
+IsFault (Refused r) = ⊥
+IsFault (Fault f) = IsFindFault f
+
+-- of a failure of the device this holds
+abbrev pub IfErrFailed : {A : Type 0} → Result A Stop → Type 0 → Type 0
+IfErrFailed (Ok x) P = Unit {0}
+IfErrFailed (Err (Refused r)) P = Unit {0}
+IfErrFailed (Err (Fault f)) P = WhereFailed f P

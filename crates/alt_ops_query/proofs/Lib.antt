@@ -1,3 +1,7 @@
 pub mod Beyond
+pub mod Filling
+pub mod Kept
 pub mod Kinds
 pub mod Lists
+pub mod Rests
+pub mod Steps

@@ -23,7 +23,7 @@ use Rattle.alt_value.specs.Values.{IsItemOfValues}
 -- ---- filters
 
 -- tests that agree on each element choose the same
-filter_same : {A : Type 0} (p q : A → Bool) (xs : List A) → All (λ x. p x ≡ q x) xs
+pub filter_same : {A : Type 0} (p q : A → Bool) (xs : List A) → All (λ x. p x ≡ q x) xs
     → filter p xs ≡ filter q xs
 filter_same p q [] all = refl
 filter_same p q (x ∷ xs) all =
@@ -32,7 +32,7 @@ filter_same p q (x ∷ xs) all =
     λ i. cond (head i) (x ∷ rest i) (rest i)
 
 -- what passes both tests passes the second of what passed the first
-filter_both : {A : Type 0} (p q : A → Bool) (xs : List A)
+pub filter_both : {A : Type 0} (p q : A → Bool) (xs : List A)
     → filter (λ x. p x && q x) xs ≡ filter q (filter p xs)
 filter_both p q [] = refl
 filter_both p q (x ∷ xs) = by (p x) (filter_both p q xs)
@@ -56,7 +56,7 @@ filter-reverse p (x ∷ xs) = ap (filter p) (reverse-append (x ∷ []) xs)
     by false = append-nil (reverse (filter p xs))
 
 -- a walk the other way passes the same tests
-filter-turned : {A : Type 0} (p : A → Bool) (forward : Bool) (xs : List A)
+pub filter-turned : {A : Type 0} (p : A → Bool) (forward : Bool) (xs : List A)
     → turned forward (filter p xs) ≡ filter p (turned forward xs)
 filter-turned p true xs = refl
 filter-turned p false xs = sym (filter-reverse p xs)

@@ -1,0 +1,70 @@
+-- One step of a walk: what its last item leaves of the range.
+use Rattle.std.proofs.Common.{◌≡◌, refl, sym, ap, subst, ◌∙◌, ℕ, ◌<◌, Bool, true, false, List, [], ◌∷◌, ◌++◌, map, reverse, take, drop, length, Option, Some, None, All, append_assoc, arith}
+use Rattle.std.specs.BTreeMap.Range.{range_contains}
+use Rattle.std.specs.FinMap as finite
+use Rattle.std.specs.List.{last_or}
+use Rattle.std.specs.declared.ops.Bound.TheVariants.{Included}
+use Rattle.std.proofs.lemmas.List.{map-append, take-map, length-map}
+use Rattle.std.proofs.lemmas.List.Elements.{All-filter, All-take, All-head, All-tail}
+use Rattle.std.proofs.lemmas.List.Sorted.{All-permutation, IsPermutation-reverse}
+use Rattle.alt_machine.specs.Keys.{place_of}
+use Rattle.alt_machine.specs.State.{Table}
+use Rattle.alt_machine.specs.Valid.{IsStored}
+use Rattle.alt_machine.specs.Walks.{end_bound, is_beyond, items_between, placed_items, turned}
+use Rattle.alt_ops_query.specs.Ranges.{IsBeyond}
+use Rattle.alt_ops_query.proofs.Filling.{last_push}
+use Rattle.alt_ops_query.proofs.Lists.{each_entry}
+use Rattle.alt_ops_query.proofs.Rests.{HasLast, has_last, walked, items_walked, rest_is}
+use Rattle.alt_value.specs.Members.{text_order}
+use Rattle.alt_value.specs.Tree.{Pair}
+
+-- what holds of all holds of them either way
+All-turned : {A : Type 0} (P : A → Type 0) (forward : Bool) (xs : List A) → All P xs
+    → All P (turned forward xs)
+All-turned P true xs all = all
+All-turned P false xs all = All-permutation P xs (reverse xs) (IsPermutation-reverse xs) all
+
+-- and of the last
+All-last : {A : Type 0} (P : A → Type 0) (front : List A) (x : A) → All P (front ++ x ∷ []) → P x
+All-last P [] x all = All-head P x [] all
+All-last P (y ∷ ys) x all = All-last P ys x (All-tail P y (ys ++ x ∷ []) all)
+
+same_some : {A : Type 0} (x y : A) → Some x ≡ Some y → x ≡ y
+same_some x y e = cc
+
+module _ (t : Table) (stored : (place : List ℕ) (item : List Pair)
+    → finite.get t.items place ≡ Some item → place_of t.description item ≡ Some place)
+    (forward : Bool) (from : List ℕ) (to : Option (List ℕ)) (first : List ℕ)
+    (last : Option (List ℕ)) where
+  -- each entry of the range stands at its place
+  at_places : All (λ e. place_of t.description e.1 ≡ Some e.0) (walked t from to forward)
+  unfolding walked
+  at_places = All-turned _ forward _ (All-filter
+      (λ e. range_contains text_order (Included from) (end_bound to) e.0) _ (placed_items t)
+      (each_entry (λ e. place_of t.description e.1 ≡ Some e.0) (placed_items t)
+      (finite.entries_sorted t.items)
+      (λ place item at. stored place item (finite.get-entries t.items place ∙ at))))
+
+  -- Beyond the last item of a step the range has the items that the step didn't give.
+  pub step_rest : (n : ℕ) (seen : List (List Pair)) (item : List Pair)
+      → 0 < length (take n (items_between t from to forward))
+      → last_or None (seen ++ take n (items_between t from to forward)) ≡ Some item
+      → ((place : List ℕ) → place_of t.description item ≡ Some place
+      → IsBeyond forward (Some place) from to first last)
+      → items_between t first last forward ≡ drop n (items_between t from to forward)
+  step_rest n seen item some is beyond =
+      let all : List (List ℕ × List Pair) = walked t from to forward in
+      let given : take n (items_between t from to forward) ≡ map (λ e. e.1) (take n all) =
+      ap (take n) (items_walked t from to forward) ∙ take-map (λ e. e.1) n all in
+      let long : length (take n (items_between t from to forward)) ≡ length (take n all) =
+      ap length given ∙ length-map (λ (e : List ℕ × List Pair). e.1) (take n all) in
+      let end : HasLast (take n all) = has_last (take n all) (omega (arith, some, long)) in
+      let same : end.last.1 ≡ item = same_some _ _ (
+      sym (last_push None (seen ++ map (λ (e : List ℕ × List Pair). e.1) end.front) end.last.1)
+      ∙ ap (last_or None) (append_assoc seen (map (λ e. e.1) end.front) (end.last.1 ∷ [])
+      ∙ ap (λ l. seen ++ l) (sym (map-append (λ (e : List ℕ × List Pair). e.1) end.front
+      (end.last ∷ [])) ∙ ap (map (λ e. e.1)) (sym end.is) ∙ sym given)) ∙ is) in
+      let at = All-last (λ e. place_of t.description e.1 ≡ Some e.0) end.front end.last
+      (subst (All (λ e. place_of t.description e.1 ≡ Some e.0)) end.is (All-take _ n all at_places)) in
+      rest_is t forward from to first last n end.last end.front end.is
+      (beyond end.last.0 (ap (place_of t.description) (sym same) ∙ at))

@@ -1,7 +1,8 @@
 """A store under a program that is killed: python3 checks/stops.py PROGRAM TIMES.
 
 Each time `replay` is fed puts over one store and killed at a random moment; then the store is opened again, and has to have each put
-that was answered, at most one more (the one that was begun), and none half. Puts go to new keys and over old ones in turn.
+that was answered, at most one more (the one that was begun), and none half. Puts go to new keys and over old ones in turn. Then a
+counter is raised by 1,000 updates in the same way: no kill sets it back.
 """
 
 import random
@@ -16,6 +17,13 @@ TABLE = (
     '"AttributeDefinitions":[{"AttributeName":"k","AttributeType":"S"}]}'
 )
 KEYS = 40
+
+
+RAISE = (
+    'UpdateItem {"TableName":"Tab","Key":{"k":{"S":"counter"}},"UpdateExpression":"ADD n :one",'
+    '"ExpressionAttributeValues":{":one":{"N":"1"}}}\n'
+)
+RAISES = 1000
 
 
 def put(count):
@@ -41,8 +49,8 @@ def replay(store, lines):
     return run.stdout.splitlines()
 
 
-def killed(store, first):
-    """Feeds puts from `first` on until the program is killed; how many were answered."""
+def killed(store, lines):
+    """Feeds lines until the program is killed or they end; how many were answered."""
     run = subprocess.Popen(
         [PROGRAM, store, "0", "replay", "65536", "4"], stdin=subprocess.PIPE, stdout=subprocess.PIPE, text=True
     )
@@ -50,8 +58,8 @@ def killed(store, first):
 
     def feed():
         try:
-            for count in range(first, first + 5000):
-                run.stdin.write(put(count))
+            for line in lines:
+                run.stdin.write(line)
             run.stdin.close()
         except (BrokenPipeError, OSError):
             pass
@@ -71,7 +79,7 @@ def main():
         replay(store, "CreateTable " + TABLE + "\n")
         done = 0
         for time in range(TIMES):
-            answered = killed(store, done)
+            answered = killed(store, (put(count) for count in range(done, done + 5000)))
             got = replay(store, "".join(get(key) for key in range(KEYS)))
             # the state after so many puts, each whole
             after = [
@@ -84,7 +92,27 @@ def main():
                 return 1
             done = after[0]
         print("stops: %d kills, %d puts: each answered one is there" % (TIMES, done))
-        return 0 if done else 1
+        return 1 if not done else raised(store)
+
+
+def raised(store):
+    """Raises a counter until it is at RAISES, over as many kills as that takes."""
+    kills = raises = 0
+    while raises < RAISES:
+        answered = killed(store, (RAISE for _ in range(RAISES - raises)))
+        kills += 1
+        (got,) = replay(store, 'GetItem {"TableName":"Tab","Key":{"k":{"S":"counter"}}}\n')
+        after = [
+            count
+            for count in (raises + answered, raises + answered + 1)
+            if got == ('200 {"Item":{"k":{"S":"counter"},"n":{"N":"%d"}}}' % count if count else "200 {}")
+        ]
+        if not after:
+            print("stops: kill %d: of a counter at %d, raised %d times more, there is\n%s" % (kills, raises, answered, got))
+            return 1
+        raises = after[0]
+    print("stops: %d kills, a counter raised %d times: it was never set back" % (kills, raises))
+    return 0
 
 
 def latest(count):

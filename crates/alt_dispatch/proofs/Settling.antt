@@ -1,40 +1,35 @@
 -- What was carried out settles the request, once its refusal is told.
-use Rattle.std.proofs.Common.{◌≡◌, refl, sym, ap, subst, ◌∙◌, List, [], ◌∷◌, length, take, Result, Ok, Err, OnOk}
+use Rattle.std.proofs.Common.{◌≡◌, refl, sym, subst, Result, Ok, Err, OnOk}
 use Rattle.std.specs.Prelude.{IsErrOf}
 use Rattle.alt_machine.specs.Outcomes.{Outcome, last_state}
 use Rattle.alt_machine.specs.State.{State}
 use Rattle.alt_machine.specs.Valid.{IsValid}
-use Rattle.alt_machine.specs.Wanted.{lack_among}
 use Rattle.alt_dispatch.specs.Settled.{Settles, Tells}
-use Rattle.alt_request.specs.Carried.{IsAnswered, Does, IfFailed, WhereFailed}
+use Rattle.alt_request.specs.Carried.{IsAnswered, IsRefused, Does, IfFailed, WhereFailed}
 use Rattle.alt_request.specs.declared.stop.Stop.{Stop}
 use Rattle.alt_request.specs.declared.stop.Stop.TheVariants.{Refused, Fault}
-use Rattle.alt_shape.specs.Refusals.{Answer, refused}
+use Rattle.alt_shape.specs.declared.refusal.Refusal.{Refusal}
 use Rattle.alt_shape.specs.declared.refusal.Reply.{Reply}
+use Rattle.alt_tables.proofs.Making.{none_made}
 use Rattle.alt_tables.specs.declared.faults.TableFault.{TableFault}
 use Rattle.alt_tables.specs.declared.faults.TableFault.TheVariants.{Failed, NoMemory}
 
 module _ (now : State → Type 0) (s : State) (outcome : Outcome) where
-  -- all of a list is its first so many, as many as there are
-  take_whole : {A : Type 0} (xs : List A) → take (length xs) xs ≡ xs
-  take_whole [] = refl
-  take_whole (x ∷ xs) = ap (λ ys. x ∷ ys) (take_whole xs)
-
   -- where the refusal isn't told for want of memory, nothing was written
-  untold : (answer : Answer) → IsAnswered now s outcome answer
-      → Settles now s outcome (Err NoMemory)
-  untold answer h = (
-    length outcome.atoms,
-    ap (lack_among outcome.wants s) (take_whole outcome.atoms) ∙ h.enough,
-    subst (λ atoms. now (last_state s atoms)) (sym (take_whole outcome.atoms)) h.state,
+  untold : (r : Refusal) → IsRefused now s outcome r → Settles now s outcome (Err NoMemory)
+  untold r h = (
+    0,
+    none_made outcome.atoms,
+    refl,
+    subst (λ atoms. now (last_state s atoms)) h.unwritten h.answered.state,
   )
 
   pub settled : (carried : Result Reply Stop) (told : Result Reply TableFault)
       → Does now s outcome carried → Tells carried told → Settles now s outcome told
   settled (Ok reply) told h is = subst (Settles now s outcome) (sym is) h
-  settled (Err (Refused r)) (Ok reply) h is = subst (IsAnswered now s outcome) (sym is) h
+  settled (Err (Refused r)) (Ok reply) h is = subst (IsAnswered now s outcome) (sym is) h.answered
   settled (Err (Refused r)) (Err fault) h is =
-      subst (λ f. Settles now s outcome (Err f)) (sym is) (untold (refused r) h)
+      subst (λ f. Settles now s outcome (Err f)) (sym is) (untold r h)
   settled (Err (Fault f)) told h is = subst (Settles now s outcome) (sym is) h
 
 -- what the tables then stand for is valid

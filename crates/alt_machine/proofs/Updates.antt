@@ -98,8 +98,7 @@ after_sound : (actions : List Action) (old : Option (List Pair)) (item : List Pa
     → IsItem item × PairsFull item
 after_sound actions old item full h e =
     let out = worked_out actions old item e in
-    let names : List (List ℕ) = names_of actions old in
-    (
+    let names : List (List ℕ) = names_of actions old in (
       subst IsItem out.2 (IsItem-pairs_of out.0 names),
       subst PairsFull out.2 (full-pairs_of out.0 names (of_told ViewFull
           (updated (seen old) actions) out.0 out.1 (full-updated (seen old) actions full h))),

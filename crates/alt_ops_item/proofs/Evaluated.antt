@@ -10,7 +10,7 @@ use Rattle.alt_machine.specs.Conditional.{seen}
 use Rattle.alt_machine.specs.Ops.UpdateItem.{item_after, or_update_refusal, names_of, pairs_of}
 use Rattle.alt_machine.specs.Refusals.{number_refusal, ◌>>=◌}
 use Rattle.alt_ops_item.specs.Updates.{with_changes, stop_of}
-use Rattle.alt_ops_item.proofs.Changing.{seen_is, pairs_are}
+use Rattle.alt_ops_item.proofs.Changed.{seen_is, pairs_are}
 use Rattle.alt_request.specs.Steps.{Comes, IsMemory}
 use Rattle.alt_request.specs.declared.stop.Stop.{Stop}
 use Rattle.alt_shape.specs.Refusals.{Answer, IsKnown}

@@ -1,7 +1,7 @@
-pub mod Changing
+pub mod Changed
 pub mod Evaluated
 pub mod Getting
 pub mod Placing
 pub mod Putting
-pub mod Leaving
+pub mod Left
 pub mod Updating

@@ -17,6 +17,7 @@ use Rattle.alt_request.specs.declared.stop.Stop.TheVariants.{Fault}
 use Rattle.alt_request.proofs.Carrying.{does_say}
 use Rattle.alt_shape.specs.Refusals.{answer_of}
 use Rattle.alt_shape.specs.declared.refusal.Reply.{Reply}
+use Rattle.alt_tables.proofs.Making.{none_made}
 use Rattle.alt_tables.specs.Faults.{AreMade, BreakOff, IsFindFault}
 use Rattle.alt_tables.specs.declared.faults.TableFault.{TableFault}
 use Rattle.alt_tables.specs.declared.faults.TableFault.TheVariants.{Spent, Damaged, BadRow, Failed, NoMemory}
@@ -33,7 +34,7 @@ unread now s outcome (Spent n) known stands = absurd known
 unread now s outcome (Damaged file at) known stands = absurd known
 unread now s outcome (BadRow family key) known stands = absurd known
 unread now s outcome Failed known stands = tt
-unread now s outcome NoMemory known stands = (0, refl, stands)
+unread now s outcome NoMemory known stands = (0, none_made outcome.atoms, refl, stands)
 
 module _ (condition : Option Cond) (s : State) (moment : ℕ) (ms : Members) (t : Table)
     (place : List ℕ) (new : Option (List Pair)) where

@@ -1,10 +1,9 @@
 -- What an update comes to, once it is known what was found at its place and what it leaves there.
-use Rattle.std.proofs.Common.{◌≡◌, refl, sym, ap, subst, ◌∙◌, ℕ, Bool, true, false, List, [], Option, Some, None, Result, Ok, Err}
+use Rattle.std.proofs.Common.{◌≡◌, refl, sym, ap, subst, ◌∙◌, ℕ, Bool, true, false, List, [], Option, Some, None, Result, Ok, Err, is_some}
 use Rattle.std.specs.Prelude.{codes, unwrap_or, if◌then◌else◌}
 use Rattle.std.specs.FinMap as map
 use Rattle.serde_json.specs.Data.{Members}
 use Rattle.alt_disk.specs.Disk.{DiskState}
-use Rattle.alt_expr.specs.declared.update.Action.{Action}
 use Rattle.alt_machine.specs.Conditional.{meets, asked, failed}
 use Rattle.alt_machine.specs.declared.Expressions.{Expressions}
 use Rattle.alt_machine.specs.Members.{table_name}
@@ -15,13 +14,15 @@ use Rattle.alt_machine.specs.Replies.{item_answer}
 use Rattle.alt_machine.specs.State.{State, Table}
 use Rattle.alt_machine.specs.Writes.{item_writes}
 use Rattle.alt_ops_item.specs.Updates.{left_after}
-use Rattle.alt_request.specs.Carried.{Does, IsPlain, Says}
+use Rattle.alt_request.specs.Carried.{Does, IfFailed, IsPlain, Says}
 use Rattle.alt_request.specs.Steps.{Comes}
 use Rattle.alt_request.specs.declared.stop.Stop.{Stop}
 use Rattle.alt_request.specs.declared.stop.Stop.TheVariants.{Refused, Fault}
 use Rattle.alt_request.proofs.Carrying.{does_say}
-use Rattle.alt_shape.specs.Refusals.{Answer, answer_of, refused}
+use Rattle.alt_request.proofs.Moving.{unfailed_fault}
+use Rattle.alt_shape.specs.Refusals.{Answer, answer_of}
 use Rattle.alt_shape.specs.declared.refusal.Reply.{Reply}
+use Rattle.alt_tables.proofs.Making.{none_made}
 use Rattle.alt_tables.specs.Faults.{AreMade, BreakOff, IsReadFault}
 use Rattle.alt_tables.specs.declared.faults.TableFault.{TableFault}
 use Rattle.alt_tables.specs.declared.faults.TableFault.TheVariants.{Spent, Damaged, BadRow, Failed, NoMemory}
@@ -49,13 +50,24 @@ unwritten now s outcome (Spent n) known stands = absurd known
 unwritten now s outcome (Damaged file at) known stands = absurd known
 unwritten now s outcome (BadRow family key) known stands = absurd known
 unwritten now s outcome Failed known stands = absurd known
-unwritten now s outcome NoMemory known stands = (0, refl, stands)
+unwritten now s outcome NoMemory known stands = (0, none_made outcome.atoms, refl, stands)
 
 -- what stopped it has a message, if it is a refusal
 pub stop_plain : (r : Result (Option (List Pair)) Answer) (stop : Stop)
     → Comes {X = Option (List Pair)} (λ o. o) r (Err stop) → IsPlain (Err stop)
 stop_plain r (Refused q) h = h.1
 stop_plain r (Fault f) h = tt
+
+-- nor did the device fail then
+pub stop_unfailed : (P : Type 0) (r : Result (Option (List Pair)) Answer) (stop : Stop)
+    → Comes {X = Option (List Pair)} (λ o. o) r (Err stop) → IfFailed (Err stop) P
+stop_unfailed P r (Refused q) h = tt
+stop_unfailed P r (Fault f) h = unfailed_fault f P h
+
+-- what is known to be there is one
+pub has_some : {A : Type 0} (o : Option A) → is_some o ≡ true → (x : A) × (o ≡ Some x)
+has_some None e = absurd (let f : ⊥ = cc in f)
+has_some (Some x) e = (x, refl)
 
 module _ (said : Expressions) (key : List Pair) (s : State) (moment : ℕ) (ms : Members) (t : Table)
     (place : List ℕ) where
@@ -101,7 +113,10 @@ module _ (said : Expressions) (key : List Pair) (s : State) (moment : ℕ) (ms :
           (left_after t.description said key old) (Err stop) → now s → Does now s whole (Err stop)
       stops (Refused r) h stands = subst (λ o. Does now s o (Err (Refused r)))
           (sym (judged_so true held ∙ ap (λ x. with_found x (written old)) h.0))
-          (record { reply = refl; state = stands; enough = refl })
+          (record {
+            answered = record { reply = refl; state = stands; enough = refl };
+            unwritten = refl;
+          })
       stops (Fault f) h stands = unwritten now s whole f h stands
 
       -- it isn't, and the writes broke off, or were made

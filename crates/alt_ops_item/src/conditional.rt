@@ -123,7 +123,11 @@ pub(crate) fn meets(alloc: Global, condition: &Option<Cond>, old: &Option<Item>)
 }
 
 /// The item that was there, where a member asks for it.
-pub(crate) fn asked<'i>(body: &Map<String, Value>, name: &str, old: &'i Option<Item>) -> Option<&'i Item>
+pub(crate) fn asked<'i>(
+    body: &Map<String, Value>,
+    name: &str,
+    old: &'i Option<Item>,
+) -> Option<&'i Item>
     ensures asked { option_map (λ i. i.now) result
         ≡ machine.asked name.now (members_view body.now.entries) old.now }
 {

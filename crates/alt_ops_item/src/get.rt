@@ -1,13 +1,19 @@
 //! GetItem.
 
-ghost use Rattle.std.specs.Prelude.{◌≡◌};
+ghost use Rattle.std.specs.Prelude.{◌≡◌, true, Some};
+ghost use Rattle.std.specs.FinMap as map;
 ghost use Rattle.serde_json.specs.View.{members_view};
+ghost use Rattle.alt_machine.specs.Members.{table_name};
 ghost use Rattle.alt_machine.specs.Ops.GetItem.{get_item};
-ghost use Rattle.alt_request.specs.Carried.{Carries, Moves};
-ghost use Rattle.alt_tables.specs.Stands.{AreReady, Stands};
+ghost use Rattle.alt_machine.specs.State.{State, Table};
+ghost use Rattle.alt_ops_item.specs.Gets.{shows};
+ghost use Rattle.alt_request.specs.Carried.{Carries, Does, IsPlain, Moves};
+ghost use Rattle.alt_tables.specs.Stands.{AreReady, Stands, catalog_of};
 
 use crate::items::parts_reply;
 use alt_disk::Disk;
+use alt_expr::Paths;
+use alt_fields::Bytes;
 use alt_machine::Sought;
 use alt_request::{Rules, Stop, Target, Texts, item_target, table_name};
 use alt_shape::{Reply, bodies};
@@ -52,7 +58,32 @@ pub fn get_item<D: Disk>(
         said,
         ..
     } = target;
-    let name = table_name(body);
-    let found = tables.find(disk, name, place)?;
-    parts_reply(alloc, "Item", &said.projection, &found.item)
+    let shown = parts_at(alloc, tables, disk, body, &said.projection, place);
+    drop(said);
+    shown
+}
+
+/// The parts that paths choose of the item at a place in the table that a body names.
+fn parts_at<D: Disk>(
+    alloc: Global,
+    tables: &mut Tables,
+    disk: &mut D,
+    body: &Map<String, Value>,
+    paths: &Option<Paths>,
+    place: Bytes,
+) -> Result<Reply, Stop>
+    requires ready { AreReady (D.state disk.old) tables.old }
+    requires there { map.contains_key (catalog_of tables.old)
+        (table_name (members_view body.now.entries)) ≡ true }
+    ensures does { (s : State) (t : Table) → Stands (D.state disk.old) tables.old s
+        → map.get s.tables (table_name (members_view body.now.entries)) ≡ Some t
+        → Does (Stands (D.state disk.new) tables.new) s (shows paths.now t place) result }
+    ensures plain { IsPlain result }
+    ensures moves { (t : Table) → Moves (λ s. shows paths.now t place)
+        (λ s. Stands (D.state disk.old) tables.old s
+        × (map.get s.tables (table_name (members_view body.now.entries)) ≡ Some t))
+        (D.state disk.old) (D.state disk.new) result }
+{
+    let found = tables.find(disk, table_name(body), place)?;
+    parts_reply(alloc, "Item", paths, &found.item)
 }

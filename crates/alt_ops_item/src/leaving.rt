@@ -68,12 +68,7 @@ fn left_in(
     }
 }
 
-fn left(
-    said: &Expressions,
-    key: Item,
-    old: &Option<Item>,
-    item: Item,
-) -> Result<Option<Item>, Stop>
+fn left(said: &Expressions, key: Item, old: &Option<Item>, item: Item) -> Result<Option<Item>, Stop>
     ensures left { IfOk result (λ o. o ≡ machine.left said.now key old.now item) }
     ensures cause { IfErr result IsMemory }
 {
@@ -109,12 +104,7 @@ fn makes_none(update: &Option<Update>) -> bool
 fn all_take_away(actions: &[Action]) -> bool
     ensures { result ≡ list_all machine.takes_away actions.now }
 {
-    for action in actions {
-        if !takes_away(action) {
-            return false;
-        }
-    }
-    true
+    actions.iter().all(|action| takes_away(action))
 }
 
 fn takes_away(action: &Action) -> bool

@@ -61,11 +61,7 @@ fn whole_reply(alloc: Global, item: &Option<Item>) -> Result<Reply, Stop>
 }
 
 /// The reply with what an update changes of an item. Without an update it changes nothing.
-fn changed_reply(
-    alloc: Global,
-    update: &Option<Update>,
-    item: &Option<Item>,
-) -> Result<Reply, Stop>
+fn changed_reply(alloc: Global, update: &Option<Update>, item: &Option<Item>) -> Result<Reply, Stop>
     ensures reply { IfOk result (λ reply. answer_of reply ≡ item_answer (codes "Attributes")
         (not_empty (changed_parts (unwrap_or update.now []) item.now))) }
     ensures plain { IfOk result (λ reply. has_float (view reply.body) ≡ false) }

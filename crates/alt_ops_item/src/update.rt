@@ -58,7 +58,10 @@ pub fn update_item<D: Disk>(
         &Texts::UPDATING,
     )?;
     let Target {
-        item, place, said, ..
+        item,
+        place,
+        said,
+        ..
     } = target;
     update_if(alloc, tables, disk, body, said, item, place, moment)
 }
@@ -132,11 +135,7 @@ fn update_where<D: Disk>(
     let name = table_name(body);
     let found = tables.find(disk, name, place)?;
     if !meets(alloc, &said.condition, &found.item) {
-        let told = asked(
-            body,
-            "ReturnValuesOnConditionCheckFailure",
-            &found.item,
-        );
+        let told = asked(body, "ReturnValuesOnConditionCheckFailure", &found.item);
         return failed(alloc, told);
     }
     let new = left_at(alloc, tables, name, said, key, &found.item)?;

@@ -278,7 +278,8 @@ module _ (s t u : State) (now : State → Type 0)
   broken_alike (Damaged file at) h = absurd h
   broken_alike (BadRow family key) h = absurd h
   broken_alike Failed h = tt
-  broken_alike NoMemory (k, enough, h) = (k, sym (later_lack k) ∙ enough, later_alike k enough h)
+  broken_alike NoMemory (k, some, enough, h) =
+      (k, some, sym (later_lack k) ∙ enough, later_alike k enough h)
 
 -- What is left is the same where both states are one unless something is lacked, and then no call of the disk was made.
 pub left_alike : (before later : DiskState) (tables : Tables) (s : State) → Stands before tables s

@@ -1,5 +1,5 @@
 -- How an operation ends: refused, with a fault before it writes, with an answer, or as its write did.
-use Rattle.std.proofs.Common.{◌≡◌, refl, sym, ap, subst, ◌∙◌, ℕ, false, List, Option, Some, Result, Ok, Err, IfOk, IfErr, Bor}
+use Rattle.std.proofs.Common.{◌≡◌, refl, sym, ap, subst, ◌∙◌, ℕ, false, List, [], Option, Some, Result, Ok, Err, IfOk, IfErr, Bor}
 use Rattle.std.specs.Result.{IsErr, IsErrAnd}
 use Rattle.std.specs.FinMap as map
 use Rattle.serde_json.specs.Data.{Members}
@@ -27,6 +27,7 @@ use Rattle.alt_shape.specs.Refusals.{Answer, answer_of, refused, IsKnown}
 use Rattle.alt_shape.specs.declared.refusal.Refusal.{Refusal}
 use Rattle.alt_shape.specs.declared.refusal.Reply.{Reply}
 use Rattle.alt_tables.specs.Faults.{AreMade, BreakOff, IsReadFault, IsFindFault}
+use Rattle.alt_tables.proofs.Making.{none_made}
 use Rattle.alt_tables.specs.Stands.{Stands, catalog_of}
 use Rattle.alt_tables.specs.declared.tables.Tables.{Tables}
 use Rattle.alt_schema.specs.declared.schema.TableSchema.{TableSchema}
@@ -39,20 +40,21 @@ pub does_say : (now : State → Type 0) (answer : Answer) (s : State) (r : Resul
     → Says answer r → now s → Does now s (says answer) r
 does_say now answer s (Ok reply) h stands = record { reply = h.0; state = stands; enough = refl }
 does_say now answer s (Err (Refused q)) h stands = record {
-  reply = h.0;
-  state = stands;
-  enough = refl;
+  answered = record { reply = h.0; state = stands; enough = refl };
+  unwritten = refl;
 }
 does_say now answer s (Err (Fault f)) h stands =
-    subst (λ g. Does now s (says answer) (Err (Fault g))) (sym h) (0, refl, stands)
+    subst (λ g. Does now s (says answer) (Err (Fault g))) (sym h) (0, none_made [], refl, stands)
 
 module _ (outcome : State → Outcome) (old now : State → Type 0) where
   -- a refusal, which leaves the state
   pub refused_so : (r : Refusal) → IsKnown r → ((s : State) → old s → outcome s ≡ refuses r)
       → ((s : State) → old s → now s) → Carries outcome old now (Err (Refused r))
   refused_so r known is stays = record {
-    does = λ s stands. subst (λ o. Does now s o (Err (Refused r))) (sym (is s stands))
-        (record { reply = refl; state = stays s stands; enough = refl });
+    does = λ s stands. subst (λ o. Does now s o (Err (Refused r))) (sym (is s stands)) (record {
+      answered = record { reply = refl; state = stays s stands; enough = refl };
+      unwritten = refl;
+    });
     plain = known;
   }
 
@@ -63,7 +65,10 @@ module _ (outcome : State → Outcome) (old now : State → Type 0) where
   faulted (Damaged file at) known stays = absurd known
   faulted (BadRow family key) known stays = absurd known
   faulted Failed known stays = absurd known
-  faulted NoMemory known stays = record { does = λ s stands. (0, refl, stays s stands); plain = tt }
+  faulted NoMemory known stays = record {
+    does = λ s stands. (0, none_made (outcome s).atoms, refl, stays s stands);
+    plain = tt;
+  }
 
   -- a read of the tables that failed, or want of memory for it
   pub unfound : (f : TableFault) → ((s : State) → old s → IsFindFault f)
@@ -78,7 +83,10 @@ module _ (outcome : State → Outcome) (old now : State → Type 0) where
     plain = tt;
   }
   unfound Failed known stays = record { does = λ s stands. tt; plain = tt }
-  unfound NoMemory known stays = record { does = λ s stands. (0, refl, stays s stands); plain = tt }
+  unfound NoMemory known stays = record {
+    does = λ s stands. (0, none_made (outcome s).atoms, refl, stays s stands);
+    plain = tt;
+  }
 
   -- an answer without a write
   pub said : (reply : Reply) → has_float (view reply.body) ≡ false

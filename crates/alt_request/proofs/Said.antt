@@ -1,5 +1,5 @@
 -- What the expressions of a request say, by what was read of them.
-use Rattle.std.proofs.Common.{◌≡◌, refl, sym, ap, subst, ◌∙◌, ◌||◌, ◌++◌, ℕ, true, false, List, [], ◌∷◌, Option, Some, None, option_map, Result, Ok, Err, arith}
+use Rattle.std.proofs.Common.{◌≡◌, refl, sym, ap, subst, ◌∙◌, ◌||◌, true, false, List, [], ◌∷◌, Option, Some, None, option_map, Result, Ok, Err, arith}
 use Rattle.std.specs.Option.{option_map_or}
 use Rattle.serde_json.specs.Data.{Data, Members, no_members, member, string}
 use Rattle.alt_expr.specs.Faults.{KeepsNames}
@@ -7,7 +7,6 @@ use Rattle.alt_expr.specs.Given as expr
 use Rattle.alt_expr.specs.Given.{with_hashes, with_colons, has_unused}
 use Rattle.alt_expr.specs.NamesGiven.{used_names, given_values, used_values, is_empty_given}
 use Rattle.alt_expr.specs.NamesIn.{gives_names, gives_empty, names_in as expr_names}
-use Rattle.alt_expr.specs.Tokens.{Tok}
 use Rattle.alt_expr.specs.declared.cond.Cond.{Cond}
 use Rattle.alt_expr.specs.declared.names.Names.{Names}
 use Rattle.alt_expr.specs.declared.path.PathPart.{PathPart}

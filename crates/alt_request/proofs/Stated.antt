@@ -1,15 +1,14 @@
 -- What the texts of a body state, each by what its parser answers.
-use Rattle.std.proofs.Common.{◌≡◌, refl, sym, ap, subst, ◌∙◌, ◌++◌, ℕ, true, List, [], ◌∷◌, Option, Some, None, Result, Ok, Err, arith}
+use Rattle.std.proofs.Common.{◌≡◌, refl, sym, ap, ◌∙◌, ◌++◌, ℕ, true, List, [], ◌∷◌, Option, Some, None, Result, Ok, Err, arith}
 use Rattle.serde_json.specs.Data.{Members}
 use Rattle.alt_expr.specs.Faults.{Language, Parsed, KeepsNames}
 use Rattle.alt_expr.specs.Given as expr
 use Rattle.alt_expr.specs.Given.{with_hashes, with_colons}
 use Rattle.alt_expr.specs.Languages.{projections}
-use Rattle.alt_expr.specs.Lexed.{Lexes}
 use Rattle.alt_expr.specs.Lookups.{given_by, names_alone}
 use Rattle.alt_expr.specs.NamesGiven.{given_values}
-use Rattle.alt_expr.specs.PathGrammar.{NamePhrase, plain, hashed, StepPhrase, dotted, indexed, PathPhrase, path, step_toks, steps_toks, path_toks, between_toks}
-use Rattle.alt_expr.specs.PathsGrammar.{PathsPhrase, paths, paths_toks}
+use Rattle.alt_expr.specs.PathGrammar.{plain, hashed, StepPhrase, dotted, indexed, PathPhrase, path, step_toks, steps_toks, path_toks, between_toks}
+use Rattle.alt_expr.specs.PathsGrammar.{PathsPhrase, paths}
 use Rattle.alt_expr.specs.Told.{Told}
 use Rattle.alt_expr.specs.Tokens.{Tok, hash, colon, mark}
 use Rattle.alt_expr.specs.declared.cond.Cond.{Cond}
@@ -33,7 +32,7 @@ use Rattle.alt_request.specs.Steps.{Comes}
 use Rattle.alt_request.specs.Words.{stop_of, all_stated}
 use Rattle.alt_request.specs.declared.stop.Stop.{Stop}
 use Rattle.alt_request.specs.declared.stop.Stop.TheVariants.{Refused, Fault}
-use Rattle.alt_shape.specs.Refusals.{Answer, refused}
+use Rattle.alt_shape.specs.Refusals.{Answer}
 
 -- ---- one text
 
@@ -190,11 +189,10 @@ with_colons-append (t ∷ a) b used = with_colons-append a b used
 pub hashes_all : (a b c d : List Tok) (t u v w x : List (List ℕ)) → u ≡ with_hashes a t
     → v ≡ with_hashes b u → w ≡ with_hashes c v → x ≡ with_hashes d w
     → x ≡ with_hashes (a ++ b ++ c ++ d) t
-hashes_all a b c d t u v w x e f g h = h
-    ∙ ap (with_hashes d) (g ∙ ap (with_hashes c) (f ∙ ap (with_hashes b) e))
-    ∙ sym (with_hashes-append c d (with_hashes b (with_hashes a t)))
-    ∙ sym (with_hashes-append b (c ++ d) (with_hashes a t))
-    ∙ sym (with_hashes-append a (b ++ c ++ d) t)
+hashes_all a b c d t u v w x e f g h =
+    let two = f ∙ ap (with_hashes b) e ∙ sym (with_hashes-append a b t) in
+    let three = g ∙ ap (with_hashes c) two ∙ sym (with_hashes-append (a ++ b) c t) in
+    h ∙ ap (with_hashes d) three ∙ sym (with_hashes-append (a ++ b ++ c) d t)
 
 -- no word of these is one for a value
 abbrev pub NoColons : List Tok → Type 0
@@ -205,11 +203,9 @@ pub colons_all : (a b c d : List Tok) (t u v w : List (List ℕ)) → u ≡ with
     → v ≡ with_colons b u → w ≡ with_colons c v → NoColons d
     → w ≡ with_colons (a ++ b ++ c ++ d) t
 colons_all a b c d t u v w e f g none =
-    g ∙ ap (with_colons c) (f ∙ ap (with_colons b) e)
-    ∙ sym (none (with_colons c (with_colons b (with_colons a t))))
-    ∙ sym (with_colons-append c d (with_colons b (with_colons a t)))
-    ∙ sym (with_colons-append b (c ++ d) (with_colons a t))
-    ∙ sym (with_colons-append a (b ++ c ++ d) t)
+    let two = f ∙ ap (with_colons b) e ∙ sym (with_colons-append a b t) in
+    let three = g ∙ ap (with_colons c) two ∙ sym (with_colons-append (a ++ b) c t) in
+    three ∙ sym (none (with_colons (a ++ b ++ c) t)) ∙ sym (with_colons-append (a ++ b ++ c) d t)
 
 none_append : (a b : List Tok) → NoColons a → NoColons b → NoColons (a ++ b)
 none_append a b h k used = with_colons-append a b used ∙ k (with_colons a used) ∙ h used
@@ -257,6 +253,7 @@ paths_words g (Some text) projection e used = by told.result told.parsed e used
   where
     told : Told projections g text
     told = paths_of g text
+
     by : (r : Result (List (List PathPart)) ExprFault) → Parsed projections g text r
         → machine.read_or_refused r ≡ Ok projection → NoColons (machine.words_of (Some text))
     by (Ok tree) parsed f used = parsed_none g text tree parsed used

@@ -1,5 +1,5 @@
 -- The contract of an operation.
-use Rattle.std.specs.Prelude.{◌≡◌, false, None, IsTrue, Result, Ok, Err}
+use Rattle.std.specs.Prelude.{◌≡◌, false, [], None, IsTrue, Result, Ok, Err}
 use Rattle.alt_base.specs.Counts.{Rose}
 use Rattle.alt_disk.specs.Disk.{DiskState, Goes}
 use Rattle.alt_disk.specs.Runs.{Quiet}
@@ -12,6 +12,7 @@ use Rattle.alt_machine.specs.Wanted.{wanted}
 use Rattle.alt_request.specs.declared.stop.Stop.{Stop}
 use Rattle.alt_request.specs.declared.stop.Stop.TheVariants.{Refused, Fault}
 use Rattle.alt_shape.specs.Refusals.{Answer, answer_of, refused, IsKnown}
+use Rattle.alt_shape.specs.declared.refusal.Refusal.{Refusal}
 use Rattle.alt_shape.specs.declared.refusal.Reply.{Reply}
 use Rattle.alt_tables.specs.Faults.{BreakOff}
 use Rattle.alt_tables.specs.declared.faults.TableFault.{TableFault}
@@ -26,10 +27,16 @@ pub record IsAnswered (now : State → Type 0) (s : State) (outcome : Outcome)
   pub state : now (last_state s outcome.atoms)
   pub enough : wanted s outcome ≡ None
 
+-- A refusal is the outcome's answer, and there is no write.
+pub record IsRefused (now : State → Type 0) (s : State) (outcome : Outcome)
+    (r : Refusal) : Type 0 where
+  pub answered : IsAnswered now s outcome (refused r)
+  pub unwritten : outcome.atoms ≡ []
+
 -- A reply and a refusal are the outcome's answer; after a fault the writes broke off.
 abbrev pub Does : (State → Type 0) → State → Outcome → Result Reply Stop → Type 0
 Does now s outcome (Ok reply) = IsAnswered now s outcome (answer_of reply)
-Does now s outcome (Err (Refused r)) = IsAnswered now s outcome (refused r)
+Does now s outcome (Err (Refused r)) = IsRefused now s outcome r
 Does now s outcome (Err (Fault fault)) = BreakOff now outcome.wants s outcome.atoms fault
 
 -- No float stands in a reply, so its text is the compact one, and a refusal has a message.

@@ -22,12 +22,7 @@ pub(crate) fn changes_key(schema: &TableSchema, update: &Option<Update>) -> bool
 fn some_changes_key(schema: &TableSchema, actions: &[Action]) -> bool
     ensures { result ≡ list_any (λ a. machine.begins_with_key schema.now (target a)) actions.now }
 {
-    for action in actions {
-        if is_key_change(schema, action) {
-            return true;
-        }
-    }
-    false
+    actions.iter().any(|action| is_key_change(schema, action))
 }
 
 fn is_key_change(schema: &TableSchema, action: &Action) -> bool

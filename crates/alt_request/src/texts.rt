@@ -61,7 +61,7 @@ pub(crate) fn all_stated(
 /// The text at a member, where an operation takes one there.
 fn text_in<'b>(name: Option<&'static str>, body: &'b Map<String, Value>) -> Option<&'b str>
     ensures text { option_map (λ t. t.now) result
-        ≡ machine.text_at (option_map (λ w. w.now) name) (members_view body.now.entries) }
+        ≡ machine.text_at (option_map (λ w. w.now) name.entry) (members_view body.now.entries) }
 {
     match name {
         Some(name) => text_at(body, name),
@@ -120,11 +120,7 @@ fn update_stated(
 }
 
 /// The paths that a text states, where there is one. It has no word for a value.
-fn paths_stated(
-    alloc: Global,
-    text: Option<&str>,
-    names: &mut Names,
-) -> Result<Option<Paths>, Stop>
+fn paths_stated(alloc: Global, text: Option<&str>, names: &mut Names) -> Result<Option<Paths>, Stop>
     ensures stated { Comes (λ p. p) (machine.stated paths_of
         (names_alone (given_names names.old)) (option_map (λ t. t.now) text.entry)) result }
     ensures names { OnOk result (used_names names.new

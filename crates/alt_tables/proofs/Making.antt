@@ -1,6 +1,6 @@
 -- The writes of the tables: what they leave is what the machine's writes leave.
 use Rattle.std.proofs.Common.{◌≡◌, refl, sym, ap, subst, ◌∙◌, ℕ, ◌+◌, ◌<◌, ◌≤◌, false, length, List, [], ◌∷◌, Option, Some, None, Err, Result, IfSome, arith}
-use Rattle.std.specs.Prelude.{if◌then◌else◌, IsSome}
+use Rattle.std.specs.Prelude.{if◌then◌else◌, ◌-◌, IsSome}
 use Rattle.std.specs.Result.{IsErrAnd}
 use Rattle.std.proofs.lemmas.Bool.{false≢true}
 use Rattle.std.proofs.lemmas.Result.{err_from_is_err_and}
@@ -21,7 +21,7 @@ use Rattle.alt_machine.proofs.Lacks.{has_table, one_has, one_lacks}
 use Rattle.alt_schema.specs.Described.{IsNew}
 use Rattle.alt_schema.specs.Held.{IsHeld}
 use Rattle.alt_schema.specs.declared.schema.TableSchema.{TableSchema}
-use Rattle.alt_tables.specs.Faults.{AreMade, BreakOff, IsFindFault, Writes}
+use Rattle.alt_tables.specs.Faults.{AreMade, AreSome, BreakOff, IsFindFault, Writes}
 use Rattle.alt_tables.specs.Stands.{Holds, Stands, catalog_of, number_of}
 use Rattle.alt_tables.specs.StateRows.{Turns, item_changes, creation_changes, drop_changes}
 use Rattle.alt_tables.specs.declared.faults.TableFault.{TableFault}
@@ -43,10 +43,17 @@ of_some P (Some y) x h e = subst P (let f : y ≡ x = cc in f) h
 
 -- ---- a call that breaks off
 
+-- none of the writes is some of them
+pub none_made : (atoms : List State) → AreSome 0 atoms
+none_made atoms = least (length atoms - 1)
+  where
+    least : (n : ℕ) → 0 ≤ n
+    least n = omega arith
+
 -- want of memory, where the tables stand for what they stood for
 pub want : (now : State → Type 0) (wants : Wants) (s : State) (atoms : List State) → now s
     → BreakOff now wants s atoms NoMemory
-want now wants s atoms stays = (0, refl, stays)
+want now wants s atoms stays = (0, none_made atoms, refl, stays)
 
 -- where a result tells it
 pub want_told : {X : Type 0} (now : State → Type 0) (wants : Wants) (s : State)
@@ -69,7 +76,7 @@ broke now wants s r (Spent n) known stays = absurd known
 broke now wants s r (Damaged file at) known stays = absurd known
 broke now wants s r (BadRow family key) known stays = absurd known
 broke now wants s r Failed known stays = tt
-broke now wants s r NoMemory known stays = (0, refl, stays refl)
+broke now wants s r NoMemory known stays = (0, none_made (r ∷ []), refl, stays refl)
 
 -- ---- an item
 

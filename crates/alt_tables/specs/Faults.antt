@@ -1,5 +1,5 @@
 -- What a call that gives no answer tells, and what it leaves.
-use Rattle.std.specs.Prelude.{take, ◌≡◌, ℕ, List, Some, None, Result, Ok, Err}
+use Rattle.std.specs.Prelude.{take, length, ◌≡◌, ◌≤◌, ◌-◌, ℕ, List, Some, None, Result, Ok, Err}
 use Rattle.alt_engine.specs.declared.engine.EngineFault.{EngineFault}
 use Rattle.alt_engine.specs.declared.engine.EngineFault.TheVariants as engine
 use Rattle.alt_machine.specs.Outcomes.{Wants, last_state, state_after}
@@ -16,8 +16,12 @@ pub record AreMade (now : State → Type 0) (wants : Wants) (s : State)
   pub state : now (last_state s atoms)
   pub enough : lack_among wants s atoms ≡ None
 
+-- so many of these writes, and not all of them where there are any
+abbrev pub AreSome : ℕ → List State → Type 0
+AreSome k atoms = k ≤ length atoms - 1
+
 -- The writes broke off: where a number or a family can't be had, just before the one that lacks it, the first that does; and for want
--- of memory, which may come at any time, after some of them, none of which lacked one. Where the device failed, the tables stand for
+-- of memory, which may come at any time before the last of them is made, after some, none of which lacked one. Where the device failed, the tables stand for
 -- no state from then on, and what a stop leaves is told of the disk. Rows that stand for a state are never damaged or bad.
 abbrev pub BreakOff : (State → Type 0) → Wants → State → List State → TableFault → Type 0
 BreakOff now wants s atoms (Spent number) =
@@ -26,8 +30,8 @@ BreakOff now wants s atoms (Spent number) =
 BreakOff now wants s atoms (Damaged file at) = ⊥
 BreakOff now wants s atoms (BadRow family key) = ⊥
 BreakOff now wants s atoms Failed = Unit {0}
-BreakOff now wants s atoms NoMemory = (k : ℕ) × (lack_among wants s (take k atoms) ≡ None)
-    × now (state_after k s atoms)
+BreakOff now wants s atoms NoMemory = (k : ℕ) × AreSome k atoms
+    × (lack_among wants s (take k atoms) ≡ None) × now (state_after k s atoms)
 
 -- A call that makes these writes makes them all, or breaks off with the fault.
 abbrev pub Writes : {A : Type 0} → (State → Type 0) → Wants → State → List State

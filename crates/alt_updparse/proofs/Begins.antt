@@ -1,6 +1,5 @@
 -- The paths that an update changes begin with names.
-use Rattle.std.proofs.Common.{◌≡◌, refl, sym, ap, ◌∙◌, Bool, true, false, ◌&&◌, List, [], ◌∷◌, ◌++◌, map, Ok}
-use Rattle.std.specs.List.{list_all}
+use Rattle.std.proofs.Common.{◌≡◌, refl, ap, ◌∙◌, Bool, true, false, ◌&&◌, List, [], ◌∷◌, ◌++◌, map, Ok}
 use Rattle.alt_value.specs.Tree.{Pair}
 use Rattle.alt_expr.specs.Tokens.{Tok}
 use Rattle.alt_expr.specs.Given.{Given}
@@ -59,7 +58,8 @@ clauses_begin : (g : Given) (cs : List ClausePhrase) → begin_with_names (claus
 clauses_begin g [] = refl
 clauses_begin g (c ∷ cs) = append (clause_tree g c) (clauses_tree g cs) (clause_begins g c) (clauses_begin g cs)
 
-update_begins : (g : Given) (d : UpdatePhrase) → begin_with_names (update_tree g d) ≡ true
+-- and so do all of an update's
+pub update_begins : (g : Given) (d : UpdatePhrase) → begin_with_names (update_tree g d) ≡ true
 update_begins g (clauses c cs) = append (clause_tree g c) (clauses_tree g cs) (clause_begins g c) (clauses_begin g cs)
 
 -- and so do those of what was read

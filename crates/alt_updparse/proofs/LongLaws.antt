@@ -1,5 +1,5 @@
 -- What `is_long_term` is at each kind of term.
-use Rattle.std.proofs.Common.{◌≡◌, Bool, false, ◌||◌, List, rules}
+use Rattle.std.proofs.Common.{◌≡◌, false, ◌||◌, List, rules}
 use Rattle.alt_value.specs.declared.attr.Attr.{Attr}
 use Rattle.alt_expr.specs.Crowded.{is_long}
 use Rattle.alt_expr.specs.UpdateLanguage.{is_long_term}

@@ -1,4 +1,4 @@
-//! Alternator: the interface of Amazon DynamoDB over a store in one folder. So far it answers seven operations, and requests as lines or
+//! Alternator: the interface of Amazon DynamoDB over a store in one folder. So far it answers eight operations, and requests as lines or
 //! over HTTP.
 #![tactic(auto)]
 

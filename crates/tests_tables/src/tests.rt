@@ -2,4 +2,5 @@ mod asking;
 mod conditions;
 mod failures;
 mod stops;
+mod updates;
 mod walks;

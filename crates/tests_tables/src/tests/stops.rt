@@ -5,6 +5,7 @@ ghost use Rattle.alt_tables.specs.Stands.{AreReady};
 
 use super::asking::{Request, WRITES, asked, empty, known, opened};
 use super::conditions::CONDITIONS;
+use super::updates::UPDATES;
 use alt_disk::MemoryDisk;
 use alt_tables::Tables;
 use std::alloc::Global;
@@ -99,6 +100,16 @@ fn a_stop_leaves_each_conditional_write_whole_or_not_at_all(rt: HostRuntime) {
     for number in 0..CONDITIONS.len() {
         assert!(rt;
             stops_at(rt.alloc(), &CONDITIONS, number) == Some(true),
+            "request {number}"
+        );
+    }
+}
+
+#[test]
+fn a_stop_leaves_each_update_whole_or_not_at_all(rt: HostRuntime) {
+    for number in 0..UPDATES.len() {
+        assert!(rt;
+            stops_at(rt.alloc(), &UPDATES, number) == Some(true),
             "request {number}"
         );
     }

@@ -1,5 +1,5 @@
 -- The table that is named has one description.
-use Rattle.std.proofs.Common.{List, Option, Some, sym, subst, ◌∙◌}
+use Rattle.std.proofs.Common.{List, Option, subst, ◌∙◌}
 use Rattle.alt_ops_item.specs.Updates.{left_after}
 use Rattle.alt_ops_item.proofs.Placing.{same_Some}
 use Rattle.alt_request.specs.Steps.{Comes}

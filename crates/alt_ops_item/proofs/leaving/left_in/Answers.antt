@@ -1,7 +1,7 @@
 -- Each step in turn, as the definition has it.
-use Rattle.std.proofs.Common.{List, Option, sym, subst, ◌∙◌}
+use Rattle.std.proofs.Common.{List, Option, sym, subst}
 use Rattle.alt_ops_item.specs.Updates.{left_after}
-use Rattle.alt_ops_item.proofs.Leaving.{left-unmade, left-memory, left-refused, left-made}
+use Rattle.alt_ops_item.proofs.Left.{left-unmade, left-memory, left-refused, left-made}
 use Rattle.alt_request.specs.Steps.{Comes}
 use Rattle.alt_request.proofs.Reaching.{err_is}
 use Rattle.alt_value.specs.Tree.{Pair}
@@ -33,8 +33,8 @@ returns-in-Ok c = record {
       c.in-Ok.ensures.tested;
 }
 
-pub returns : goal.returns
-returns c = record {
+pub returns-in-Err : goal.returns-in-Err
+returns-in-Err c = record {
   left = left-refused c.args.schema.now c.args.said.now c.args.key c.args.old.now
       c.in_ok-item.item c.in_ok-item.ensures.item c.in_ok-new.new c.in_ok-new.ensures.left
       c.in-Err.stop c.in-Err.ensures.tested;

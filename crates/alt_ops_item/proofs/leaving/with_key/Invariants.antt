@@ -1,5 +1,5 @@
 -- The attributes from `left` on are put.
-use Rattle.std.proofs.Common.{◌≡◌, ℕ, ◌≤◌, length, take}
+use Rattle.std.proofs.Common.{◌≡◌, ◌≤◌, length, take}
 use Rattle.alt_machine.specs.Ops.UpdateItem.{with_key}
 use Rattle.alt_ops_item.proofs.leaving.with_key.Given as goal
 

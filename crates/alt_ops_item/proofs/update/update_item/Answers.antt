@@ -1,6 +1,5 @@
 -- The key isn't reached, or what is at its place is updated.
-use Rattle.std.proofs.Common.{◌≡◌, refl, sym, ap, subst, ◌∙◌, ℕ, List, Option, Some, is_some}
-use Rattle.std.specs.FinMap as map
+use Rattle.std.proofs.Common.{◌≡◌, refl, sym, ap, subst, ◌∙◌, ℕ, Option, is_some}
 use Rattle.serde_json.specs.Data.{Members}
 use Rattle.serde_json.specs.View.{members_view}
 use Rattle.alt_machine.specs.declared.Sought.TheVariants.{Key}
@@ -9,13 +8,12 @@ use Rattle.alt_machine.specs.Expressions.{updating}
 use Rattle.alt_machine.specs.Ops.UpdateItem.{rules, updates, update_item}
 use Rattle.alt_machine.specs.State.{State}
 use Rattle.alt_machine.specs.Targets.{on_item, IsPlaced}
-use Rattle.alt_ops_item.proofs.Leaving.{left_stored, said_begins}
+use Rattle.alt_ops_item.proofs.Left.{left_stored, said_begins}
 use Rattle.alt_ops_item.proofs.Placing.{same_Some}
 use Rattle.alt_request.proofs.Carrying.{item_passed, item_done}
 use Rattle.alt_request.proofs.Moving.{moves_stopped, item_moved, item_unfailed}
 use Rattle.alt_schema.specs.declared.schema.TableSchema.{TableSchema}
 use Rattle.alt_shape.specs.Bodies as bodies
-use Rattle.alt_shape.specs.Refusals.{Answer}
 use Rattle.alt_shape.specs.declared.rule.Broken.{Broken}
 use Rattle.alt_tables.proofs.Standing.{known}
 use Rattle.alt_tables.specs.Stands.{Stands, catalog_of}

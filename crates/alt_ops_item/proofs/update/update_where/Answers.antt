@@ -1,6 +1,6 @@
 -- What was found is tested, updated, shown and written over.
 use Rattle.std.proofs.Common.{◌≡◌, sym, ap, subst, ◌∙◌, List, ℕ, Option, Some, Ok, Err}
-use Rattle.std.specs.Prelude.{codes, IfSome, unwrap_or}
+use Rattle.std.specs.Prelude.{IfSome}
 use Rattle.std.specs.FinMap as map
 use Rattle.serde_json.specs.Data.{Members}
 use Rattle.serde_json.specs.View.{members_view}
@@ -11,7 +11,7 @@ use Rattle.alt_machine.specs.State.{State}
 use Rattle.alt_machine.specs.Valid.{IsStored}
 use Rattle.alt_ops_item.specs.Updates.{left_after}
 use Rattle.alt_ops_item.proofs.Placing.{unread}
-use Rattle.alt_ops_item.proofs.Updating.{stop_plain, fails, stops, breaks, made, moved}
+use Rattle.alt_ops_item.proofs.Updating.{stop_unfailed, has_some, fails, stops, breaks, made, moved}
 use Rattle.alt_request.specs.Carried.{Does, IsPlain, Moves, Says}
 use Rattle.alt_request.specs.declared.stop.Stop.TheVariants.{Fault}
 use Rattle.alt_request.proofs.Moving.{reads_move, writes_move, says_unfailed, memory_unfailed, failed_fault}
@@ -123,7 +123,7 @@ write-requires-clause-new g c s stands d there =
     ∙ ap (map.get found.0.items) c.in_ok-found.ensures.place in
     let left : left_after found.0.description c.args.said.now c.args.key
     (map.get found.0.items c.args.place) ≡ Ok new =
-    sym (λ i. left_after (found.2 i) c.args.said.now c.args.key (sym item i))
+    (λ i. left_after (found.2 i) c.args.said.now c.args.key (sym item i))
     ∙ c.in_ok-new.ensures.left d there in
     subst (λ (p : List ℕ). IfSome new (IsStored d p)) (sym c.in_ok-found.ensures.place)
     (subst (λ (x : TableSchema). IfSome new (IsStored x c.args.place)) found.2
@@ -187,6 +187,20 @@ returns-then-not-meets-clause-moves g c t =
     reads_move _ _ c.args.tables.now (g.D.Disk.state c.args.disk.now) (λ s h. h.0)
     (g.D.Disk.state c.find.new.disk) c.failed.result c.in_ok-found.ensures.disk
     (says_unfailed _ _ c.failed.result c.failed.ensures.says)
+
+pub returns-in_err-new-clause-moves : goal.returns-in_err-new-clause-moves
+returns-in_err-new-clause-moves g c t =
+    let before : DiskState = g.D.Disk.state c.args.disk.now in
+    let after : DiskState = g.D.Disk.state c.find.new.disk in
+    let found = has_some (map.get (catalog_of c.find.new.self) c.table_name-name.result.now)
+    (ap (λ m. map.contains_key m c.table_name-name.result.now) c.in_ok-found.ensures.catalog.catalog
+    ∙ ap (map.contains_key (catalog_of c.args.tables.now)) c.table_name-name.ensures.name
+    ∙ c.requires.there) in
+    subst (Moves _ _ before after) (sym (err_is c.from_residual-in_err-new.result
+    c.in_err-new.field-0.0 c.from_residual-in_err-new.ensures))
+    (reads_move _ _ c.args.tables.now before (λ s h. h.0) after
+    (Err c.in_err-new.field-0.0) c.in_ok-found.ensures.disk
+    (stop_unfailed _ _ c.in_err-new.field-0.0 (c.in_err-new.ensures.left found.0 found.1)))
 
 pub returns-in_err-reply-clause-moves : goal.returns-in_err-reply-clause-moves
 returns-in_err-reply-clause-moves g c t =

@@ -1,5 +1,5 @@
 -- Each text in turn, over the names and values as they were.
-use Rattle.std.proofs.Common.{◌≡◌, refl, sym, ap, subst, ◌∙◌, ◌++◌, List, Option, option_map}
+use Rattle.std.proofs.Common.{refl, sym, ap, subst, ◌∙◌, ◌++◌, option_map}
 use Rattle.serde_json.specs.Data.{Members}
 use Rattle.serde_json.specs.View.{members_view}
 use Rattle.alt_expr.specs.Given as expr

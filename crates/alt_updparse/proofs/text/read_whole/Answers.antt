@@ -1,5 +1,5 @@
 -- What the reader gives of all tokens is what the grammar gives.
-use Rattle.std.proofs.Common.{◌≡◌, subst, List, map, Some, None, Ok, Err}
+use Rattle.std.proofs.Common.{subst, List, map, Ok, Err}
 use Rattle.std.specs.Prelude.{Result}
 use Rattle.alt_expr.specs.Tokens.{Tok, tok_of}
 use Rattle.alt_expr.specs.Lookups.{given_to}

@@ -5,19 +5,18 @@ use Rattle.std.specs.List.{list_any}
 use Rattle.std.specs.Option.{option_map_or}
 use Rattle.std.specs.Ordering.{eq_by_cmp}
 use Rattle.std.specs.Cmp.Lexicographic.{texts_ties, nat_list_eq_equiv}
-use Rattle.std.specs.FinMap.Entries.{find-put, find-where_key, find_below, is_some-find, same_entries}
+use Rattle.std.specs.FinMap.Entries.{find-put, find-where_key, is_some-find, same_entries}
 use Rattle.std.proofs.lemmas.List.Folds.{list_any-append}
 use Rattle.std.proofs.lemmas.Slice.Eq.{bytes_eq-Decides}
 use Rattle.alt_expr.specs.Located.{View}
 use Rattle.alt_expr.specs.UpdateLanguage.{target}
 use Rattle.alt_expr.specs.Updated.{Edit, Fault, edit, edits, sum_of, parent, added, taken, behind, under, after, put_name, updated, ◌>>=◌}
-use Rattle.alt_expr.specs.declared.path.PathPart.{PathPart}
 use Rattle.alt_expr.specs.declared.path.PathPart.TheVariants.{Name, Index}
 use Rattle.alt_expr.specs.declared.update.Action.{Action}
 use Rattle.alt_expr.specs.declared.update.Action.TheVariants.{Set, Remove, Add, Delete}
 use Rattle.alt_machine.specs.Conditional.{seen}
 use Rattle.alt_machine.specs.Ops.UpdateItem.{name_of, names_of, pairs_of}
-use Rattle.alt_machine.proofs.Names.{IsItem-pairs_of, at_name-pairs_of}
+use Rattle.alt_machine.proofs.Names.{IsItem-pairs_of, at_name-pairs_of, at_name-has_bytes}
 use Rattle.alt_ops_item.specs.Updates.{with_change, with_changes}
 use Rattle.alt_updeval.specs.Changes.{changed_by}
 use Rattle.alt_updeval.specs.declared.update.AttrChange.{AttrChange}
@@ -118,7 +117,10 @@ found_first : {A B : Type 0} (r : Result A Fault) (next : A → Result B Fault) 
 found_first (Ok a) next b e = (a, refl, e)
 found_first (Err f) next b e = absurd (let g : ⊥ = cc in g)
 
-same_Ok : {A : Type 0} (x y : A) → Ok {E = Fault} x ≡ Ok y → x ≡ y
+abbrev fine : {A : Type 0} → A → Result A Fault
+fine x = Ok x
+
+same_Ok : {A : Type 0} (x y : A) → fine x ≡ fine y → x ≡ y
 same_Ok x y e = cc
 
 -- an action changes its target
@@ -209,6 +211,15 @@ module _ (old : Option (List Pair)) (update : List Action) (view : View)
 
 -- ---- the item
 
+-- no attribute of an item has the empty name
+no_empty : (ps : List Pair) → IsItem ps → at_name [] ps ≡ None
+no_empty ps item = by (at_name [] ps) refl
+  where
+    by : (o : Option Tree) → at_name [] ps ≡ o → at_name [] ps ≡ None
+    by None e = e
+    by (Some t) e =
+        let some : 0 < length {A = ℕ} [] = at_name-has_bytes [] t ps item e in absurd (omega (arith, some))
+
 module _ (old : Option (List Pair)) (update : List Action) (cs : List AttrChange)
     (item : IsItem (unwrap_or old []))
     (is : updated (seen old) update ≡ Ok (changed_by cs (seen old))) where
@@ -223,9 +234,9 @@ module _ (old : Option (List Pair)) (update : List Action) (cs : List AttrChange
       (λ n some. sym (ap (λ (v : View). v n) (seen_is old)))
 
   at_each : (q : List ℕ) → at_name q (pairs_of now (names_of update old)) ≡ at_name q made
-  at_each [] = find_below text_order text_total [] (pairs_of now (names_of update old))
-      (IsItem-pairs_of now (names_of update old)).1
-      ∙ sym (find_below text_order text_total [] made (IsItem-changes cs (unwrap_or old []) item).1)
+  at_each [] =
+      no_empty (pairs_of now (names_of update old)) (IsItem-pairs_of now (names_of update old))
+      ∙ sym (no_empty made (IsItem-changes cs (unwrap_or old []) item))
   at_each (c ∷ rest) =
       let some : 0 < length (c ∷ rest) = omega arith in
       (elim (now (c ∷ rest)) as (λ o. now (c ∷ rest) ≡ o

@@ -4,6 +4,7 @@ use Rattle.std.specs.Prelude.{slice_get, unwrap_or}
 use Rattle.std.specs.FinMap as map
 use Rattle.std.specs.FinMap.Entries.{below_all}
 use Rattle.std.specs.Ordering.{is_lt}
+use Rattle.std.proofs.lemmas.Bool.{leb-true, leb-false, lt-leb}
 use Rattle.serde_json.specs.Data.{Members}
 use Rattle.alt_expr.specs.Faults.{Parsed}
 use Rattle.alt_expr.specs.Given.{Given}
@@ -19,16 +20,15 @@ use Rattle.alt_machine.specs.Ops.UpdateItem.{of_body, item_after, left, of_left,
 use Rattle.alt_machine.specs.Refusals.{first_answer, unless_answer, ◌>>=◌}
 use Rattle.alt_machine.specs.State.{State, Table}
 use Rattle.alt_machine.specs.Targets.{IsPlaced}
-use Rattle.alt_machine.specs.Valid.{IsStored, IsValid}
+use Rattle.alt_machine.specs.Valid.{IsStored, IsValid, deepest}
 use Rattle.alt_machine.proofs.Said.{found_first, says_update}
 use Rattle.alt_machine.proofs.Updates.{may_be_left}
-use Rattle.alt_ops_item.specs.Updates.{left_after, WithPart}
+use Rattle.alt_ops_item.specs.Updates.{left_after, WithPart, is_flat}
 use Rattle.alt_request.specs.Steps.{Comes, IsMemory, Tested}
 use Rattle.alt_request.specs.declared.stop.Stop.{Stop}
 use Rattle.alt_request.specs.declared.stop.Stop.TheVariants.{Refused, Fault}
 use Rattle.alt_schema.specs.declared.schema.TableSchema.{TableSchema}
-use Rattle.alt_shape.specs.Refusals.{Answer, refused}
-use Rattle.alt_tables.specs.declared.faults.TableFault.TheVariants.{NoMemory}
+use Rattle.alt_shape.specs.Refusals.{Answer}
 use Rattle.alt_updparse.proofs.Begins.{update_begins}
 use Rattle.alt_value.specs.Item.{IsItem, with_pair}
 use Rattle.alt_value.specs.Members.{text_order}
@@ -95,6 +95,42 @@ depth-take (q ∷ ps) (suc i) n p e flat h =
     let rest : fields_depth (fields_of (take (suc i) ps)) ≤ n =
     depth-take ps i n p e flat (omega (arith, h)) in omega (arith, h, rest)
 
+-- nothing is found only behind the last
+beyond : (ps : List Pair) (i : ℕ) → slice_get ps i ≡ None → length ps ≤ i
+beyond [] i e = omega arith
+beyond (q ∷ ps) zero e = absurd (let f : ⊥ = cc in f)
+beyond (q ∷ ps) (suc i) e = omega (arith, beyond ps i e)
+
+-- one more that isn't too deep
+pub flat-take : (ps : List Pair) (i : ℕ) → i < length ps → is_flat (slice_get ps i) ≡ true
+    → fields_depth (fields_of (take i ps)) ≤ deepest
+    → fields_depth (fields_of (take (i + 1) ps)) ≤ deepest
+flat-take ps i within flat h = by (slice_get ps i) refl
+  where
+    one_more : suc i ≡ i + 1
+    one_more = omega arith
+
+    by : (o : Option Pair) → slice_get ps i ≡ o
+        → fields_depth (fields_of (take (i + 1) ps)) ≤ deepest
+    by None e = absurd (omega (arith, within, beyond ps i e))
+    by (Some p) e = subst (λ n. fields_depth (fields_of (take n ps)) ≤ deepest) one_more
+        (depth-take ps i deepest p e
+        (leb-true (depth p.1) deepest (sym (ap is_flat e) ∙ flat)) h)
+
+-- one that is too deep makes the item so
+pub too_deep : (ps : List Pair) (i : ℕ) → is_flat (slice_get ps i) ≡ false
+    → nat_le (fields_depth (fields_of ps)) deepest ≡ false
+too_deep ps i steep = by (slice_get ps i) refl
+  where
+    by : (o : Option Pair) → slice_get ps i ≡ o
+        → nat_le (fields_depth (fields_of ps)) deepest ≡ false
+    by None e = absurd (let f : true ≡ false = sym (ap is_flat e) ∙ steep in let g : ⊥ = cc in g)
+    by (Some p) e =
+        let high : deepest < depth p.1 =
+        leb-false (depth p.1) deepest (sym (ap is_flat e) ∙ steep) in
+        let low : depth p.1 ≤ fields_depth (fields_of ps) = value_depth ps i p e in
+        lt-leb (fields_depth (fields_of ps)) deepest (omega (arith, high, low))
+
 -- ---- what is left
 
 module _ (d : TableSchema) (said : Expressions) (key : List Pair) (old : Option (List Pair)) where
@@ -157,13 +193,17 @@ left_stored s ms said key t place target valid there (Some new) e =
 
 -- ---- the update
 
-none_begins : (update : Option (List Action)) → Ok {E = Answer} None ≡ Ok update
+-- an update that was said, if one was
+abbrev said_ok : Option (List Action) → Result (Option (List Action)) Answer
+said_ok update = Ok update
+
+none_begins : (update : Option (List Action)) → said_ok None ≡ said_ok update
     → begin_with_names (unwrap_or update []) ≡ true
 none_begins None e = refl
 none_begins (Some actions) e = absurd (let f : ⊥ = cc in f)
 
 some_is : (actions : List Action) (update : Option (List Action))
-    → Ok {E = Answer} (Some actions) ≡ Ok update → Some actions ≡ update
+    → said_ok (Some actions) ≡ said_ok update → Some actions ≡ update
 some_is actions update e = cc
 
 parsed_begins : (g : Given) (text : List ℕ) (r : Result (List Action) ExprFault)

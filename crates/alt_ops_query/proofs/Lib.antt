@@ -4,4 +4,5 @@ pub mod Kept
 pub mod Kinds
 pub mod Lists
 pub mod Rests
+pub mod Segments
 pub mod Steps

@@ -1,0 +1,95 @@
+-- The range of a segment holds the places whose tokens are in it.
+use Rattle.std.proofs.Common.{◌≡◌, refl, sym, ap, subst, ◌∙◌, ℕ, ◌+◌, ◌-◌, ◌*◌, ◌/◌, ◌^◌, ◌<◌, ◌≤◌, Bool, true, false, not, ◌&&◌, nat_le, nat_lt, nat_eq, ◌==◌, List, [], ◌∷◌, ◌++◌, Option, Some, None, append-nil, arith}
+use Rattle.std.proofs.Math.Nat.{le-div_iff_mul-le, div-lt_iff_lt-mul}
+use Rattle.std.specs.Prelude.{if◌then◌else◌}
+use Rattle.std.specs.BTreeMap.Range.{range_contains}
+use Rattle.std.specs.Cmp.{both_ways}
+use Rattle.std.specs.Int.{w64, to_be_bytes}
+use Rattle.std.specs.declared.cmp.Ordering.{Ordering}
+use Rattle.std.specs.declared.cmp.Ordering.TheVariants.{Less, Equal, Greater}
+use Rattle.std.specs.declared.ops.Bound.TheVariants.{Included}
+use Rattle.std.specs.Ordering.{is_le, nat_cmp, ordering_then}
+use Rattle.alt_keyorder.specs.Place.{Place, place_bytes}
+use Rattle.alt_keyorder.proofs.Places.{keys-lie}
+use Rattle.alt_machine.specs.Ops.Scan as machine
+use Rattle.alt_machine.specs.Walks.{end_bound}
+use Rattle.alt_ops_query.specs.Tokens.{first_token, token_bytes, end_token}
+use Rattle.alt_value.specs.Members.{text_order}
+
+-- ---- tokens as bytes
+
+-- a place of a token alone
+abbrev at_token : ℕ → Place
+at_token token = record { token = token; parts = [] }
+
+-- bytes behind tokens lie as the tokens do, and then as the bytes
+tokens_lie : (m n : ℕ) (x y : List ℕ) → m < 2 ^ 64 → n < 2 ^ 64
+    → text_order (to_be_bytes w64 m ++ x) (to_be_bytes w64 n ++ y)
+    ≡ ordering_then (nat_cmp m n) (text_order x y)
+tokens_lie m n x y hm hn =
+    (λ i. text_order (sym (append-nil (to_be_bytes w64 m)) i ++ x)
+    (sym (append-nil (to_be_bytes w64 n)) i ++ y))
+    ∙ keys-lie (at_token m) (at_token n) (ordering_then (nat_cmp m n) Equal) x y
+    (record { token = hm; parts = tt }) (record { token = hn; parts = tt }) refl
+    ∙ ap (λ o. ordering_then o (text_order x y)) (by (nat_cmp m n))
+  where
+    by : (o : Ordering) → ordering_then o Equal ≡ o
+    by Less = refl
+    by Equal = refl
+    by Greater = refl
+
+-- no bytes are above none
+none_first : (y : List ℕ) → is_le (text_order [] y) ≡ true
+none_first [] = refl
+none_first (b ∷ y) = refl
+
+-- bytes that begin with a token are up to others where the token is
+token_up_to : (m n : ℕ) (y : List ℕ) → m < 2 ^ 64 → n < 2 ^ 64
+    → is_le (text_order (to_be_bytes w64 m) (to_be_bytes w64 n ++ y)) ≡ nat_le m n
+token_up_to m n y hm hn =
+    ap (λ l. is_le (text_order l (to_be_bytes w64 n ++ y))) (sym (append-nil (to_be_bytes w64 m)))
+    ∙ ap is_le (tokens_lie m n [] y hm hn) ∙ by (nat_cmp m n) refl
+  where
+    by : (o : Ordering) → nat_cmp m n ≡ o → is_le (ordering_then o (text_order [] y)) ≡ nat_le m n
+    by Less e = grind (arith, e)
+    by Equal e = none_first y ∙ grind (arith, e)
+    by Greater e = grind (arith, e)
+
+-- ---- numbers
+
+-- a token is at least the first of a segment where it times the count reaches the segment
+first_reached : (number total token : ℕ) → 0 < total
+    → nat_le (first_token number total) token ≡ nat_le (number * 2 ^ 64) (token * total)
+first_reached number total token some = both_ways _ _
+    (λ e.
+    let le : first_token number total ≤ token = grind (arith, e) in
+    let below : (number * 2 ^ 64 + (total - 1)) / total < token + 1 = omega (arith, le) in
+    let more = (div-lt_iff_lt-mul some).0 below in
+    let grown : (token + 1) * total ≡ token * total + total = omega arith in
+    grind (arith, more, grown, some))
+    (λ e.
+    let le : number * 2 ^ 64 ≤ token * total = grind (arith, e) in
+    let grown : (token + 1) * total ≡ token * total + total = omega arith in
+    let below = (div-lt_iff_lt-mul some).1 (omega (arith, le, grown, some)) in
+    grind (arith, below))
+
+-- a token is in the segment where it is between its first and that of the next
+in_segment : (number total token : ℕ)
+    → (token * total / 2 ^ 64 == number)
+    ≡ (nat_le (number * 2 ^ 64) (token * total)
+    && not (nat_le ((number + 1) * 2 ^ 64) (token * total)))
+in_segment number total token = both_ways _ _
+    (λ e.
+    let is : token * total / 2 ^ 64 ≡ number = grind (arith, e) in
+    let low = (le-div_iff_mul-le {k = 2 ^ 64} {x = number} {y = token * total} (omega arith)).0
+    (omega (arith, is)) in
+    let high = (div-lt_iff_lt-mul {k = 2 ^ 64} {x = token * total} {y = number + 1} (omega arith)).0
+    (omega (arith, is)) in
+    grind (arith, low, high))
+    (λ e.
+    let both : (number * 2 ^ 64 ≤ token * total) × (token * total < (number + 1) * 2 ^ 64) =
+    grind (arith, e) in
+    let low = (le-div_iff_mul-le {k = 2 ^ 64} {x = number} {y = token * total} (omega arith)).1 both.0 in
+    let high = (div-lt_iff_lt-mul {k = 2 ^ 64} {x = token * total} {y = number + 1} (omega arith)).1
+    both.1 in
+    grind (arith, low, high))

@@ -1,3 +1,4 @@
+pub mod Answering
 pub mod Beyond
 pub mod Filling
 pub mod Kept

@@ -1,0 +1,79 @@
+-- The page that was filled is answered as that of the list.
+use Rattle.std.proofs.Common.{◌≡◌, refl, sym, ap, subst, ◌∙◌, ℕ, Bool, true, false, List, [], ◌∷◌, length, map, Option, Some, None, option_map}
+use Rattle.std.specs.Prelude.{if◌then◌else◌, codes}
+use Rattle.std.specs.List.{last_or}
+use Rattle.serde_json.specs.Data.{Data, Members, member, no_members, number, unsigned, array}
+use Rattle.alt_codec.specs.Writing.{json_of_pairs}
+use Rattle.alt_expr.specs.Pages as pages
+use Rattle.alt_expr.specs.Pages.{Asked, examined, ends_early, parts, passed}
+use Rattle.alt_machine.specs.Lists.{selects, shown_items, items_json, key_attributes, page_answer, last_examined}
+use Rattle.alt_ops_query.specs.Filled.{HasFilled}
+use Rattle.alt_ops_query.specs.Paged.{answer_with}
+use Rattle.alt_ops_query.specs.Replied.{page_of}
+use Rattle.alt_ops_query.specs.declared.walking.Filling.{Filling}
+use Rattle.alt_paging.specs.Offered.{IsPage, asked_of, unless_counts}
+use Rattle.alt_paging.specs.declared.ask.Page.{Page}
+use Rattle.alt_paging.specs.declared.ask.PageAsk.{PageAsk}
+use Rattle.alt_schema.specs.declared.schema.TableSchema.{TableSchema}
+use Rattle.alt_schema.specs.Json.{member_if}
+use Rattle.alt_shape.specs.Refusals.{Answer, answered}
+use Rattle.alt_value.specs.Tree.{Pair}
+
+-- the page whose items were examined
+page_with : Asked → List (List Pair) → Bool → pages.Page
+page_with ask seen ended = record {
+  items = map (parts ask.paths) (passed ask seen);
+  count = length (passed ask seen);
+  scanned = length seen;
+  ended = ended;
+}
+
+-- the page of what a page of the list examines is that of the list
+same_page : (ask : PageAsk) (list : List (List Pair)) (filling : Filling) → HasFilled filling ask list
+    → pages.page_of (asked_of ask) (examined ask.limit list) ≡ pages.page_of (asked_of ask) list
+unfolding page_with
+same_page ask list filling filled = λ i. page_with (asked_of ask) (filled.whole.offered.whole i)
+    (filled.ends i)
+
+-- where counts alone are wanted no items are shown
+none_shown : (ms : Members) (items : List (List Pair)) → selects (codes "COUNT") ms ≡ true
+    → shown_items ms items ≡ None
+none_shown ms items is = ap (λ c. if c then None else Some (array (items_json items))) is
+
+counts_shown : (ms : Members) (items : List (List Pair)) (b : Bool) → b ≡ selects (codes "COUNT") ms
+    → shown_items ms (unless_counts b items) ≡ shown_items ms items
+counts_shown ms items false is = refl
+counts_shown ms items true is = none_shown ms [] (sym is) ∙ sym (none_shown ms items (sym is))
+
+module _ (d : TableSchema) (ms : Members) (ask : PageAsk) (list : List (List Pair))
+    (filling : Filling) (filled : HasFilled filling ask list)
+    (counts : ask.count_only ≡ selects (codes "COUNT") ms) (page : Page)
+    (is : IsPage ask (examined ask.limit list) page) where
+  -- the page of the list
+  abbrev whole : pages.Page
+  whole = pages.page_of (asked_of ask) list
+
+  page_is : page_of page ≡ record whole { items = unless_counts ask.count_only whole.items }
+  page_is = λ i. record {
+    items = (is.items ∙ ap (λ (p : pages.Page). unless_counts ask.count_only p.items)
+        (same_page ask list filling filled)) i;
+    count = (is.count ∙ ap (λ (p : pages.Page). p.count) (same_page ask list filling filled)) i;
+    scanned = (is.scanned
+        ∙ ap (λ (p : pages.Page). p.scanned) (same_page ask list filling filled)) i;
+    ended = (is.ended ∙ ap (λ (p : pages.Page). p.ended) (same_page ask list filling filled)) i;
+  }
+
+  last_is : (if page.ended then filling.last else None) ≡ last_examined (asked_of ask) list
+  last_is = λ i. if ap (λ (p : pages.Page). p.ended) page_is i then filled.whole.last i else None
+
+  pub answered_so : page_answer d ms (page_of page) (if page.ended then filling.last else None)
+      ≡ answer_with d ms ask list
+  answered_so = (λ i. page_answer d ms (page_is i) (last_is i))
+      ∙ ap answer_of (counts_shown ms whole.items ask.count_only counts)
+    where
+      answer_of : Option Data → Answer
+      answer_of shown = answered (member (codes "Count") (number (unsigned whole.count))
+          (member_if (codes "Items") shown
+          (member_if (codes "LastEvaluatedKey") (option_map
+          (λ i. json_of_pairs (key_attributes d i)) (last_examined (asked_of ask) list))
+          (member (codes "ScannedCount") (number (unsigned whole.scanned)) no_members))))

@@ -1,8 +1,11 @@
 -- What a walk has examined for a page.
-use Rattle.std.specs.Prelude.{◌≡◌, Bool, true, false, List, ◌++◌, None}
+use Rattle.std.specs.Prelude.{◌≡◌, Bool, true, false, List, ◌++◌, Option, Some, None}
 use Rattle.std.specs.List.{last_or}
 use Rattle.alt_expr.specs.Pages as pages
 use Rattle.alt_expr.specs.Pages.{ends_early}
+use Rattle.alt_keyorder.specs.declared.range.KeyRange.{KeyRange}
+use Rattle.alt_machine.specs.State.{Table}
+use Rattle.alt_machine.specs.Walks.{items_between}
 use Rattle.alt_ops_query.specs.declared.walking.Filling.{Filling}
 use Rattle.alt_paging.specs.Offered.{WasOffered, has_ended}
 use Rattle.alt_paging.specs.declared.ask.PageAsk.{PageAsk}
@@ -25,3 +28,11 @@ Examines filling ask seen items false = (front : List (List Pair)) × (rest : Li
 pub record HasFilled (filling : Filling) (ask : PageAsk) (list : List (List Pair)) : Type 0 where
   pub whole : HasExamined filling ask (pages.examined ask.limit list)
   pub ends : ends_early ask.limit (pages.examined ask.limit list) ≡ ends_early ask.limit list
+
+-- A step of a walk over a list examined a front of it, and the rest of the range has the others; or all that the page examines.
+abbrev pub Steps : Table → Bool → PageAsk → List (List Pair) → Filling → List (List Pair)
+    → Option KeyRange → Type 0
+Steps t forward ask seen filling list None = HasFilled filling ask (seen ++ list)
+Steps t forward ask seen filling list (Some rest) = (front : List (List Pair))
+    × HasExamined filling ask (seen ++ front)
+    × (list ≡ front ++ items_between t rest.from rest.to forward)

@@ -10,6 +10,11 @@ abbrev pub IsFault : Stop → Type 0
 IsFault (Refused r) = ⊥
 IsFault (Fault f) = IsFindFault f
 
+-- not by a failure of the device
+abbrev pub IsUnfailed : Stop → Type 0
+IsUnfailed (Refused r) = Unit {0}
+IsUnfailed (Fault f) = WhereFailed f ⊥
+
 -- of a failure of the device this holds
 abbrev pub IfErrFailed : {A : Type 0} → Result A Stop → Type 0 → Type 0
 IfErrFailed (Ok x) P = Unit {0}

@@ -2,8 +2,9 @@ pub mod Answering
 pub mod Beyond
 pub mod Filling
 pub mod Kept
-pub mod Kinds
+pub mod KeyKinds
 pub mod Lists
 pub mod Rests
 pub mod Segments
 pub mod Steps
+pub mod Stored

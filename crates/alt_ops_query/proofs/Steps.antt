@@ -1,20 +1,23 @@
 -- One step of a walk: what its last item leaves of the range.
-use Rattle.std.proofs.Common.{◌≡◌, refl, sym, ap, subst, ◌∙◌, ℕ, ◌<◌, Bool, true, false, List, [], ◌∷◌, ◌++◌, map, reverse, take, drop, length, Option, Some, None, All, append_assoc, arith}
+use Rattle.std.proofs.Common.{◌≡◌, ◌≢◌, ◌≤◌, refl, sym, ap, subst, ◌∙◌, ℕ, ◌<◌, Bool, true, false, List, [], ◌∷◌, ◌++◌, map, reverse, take, drop, length, Option, Some, None, All, append_assoc, take-append-drop, length-take, arith}
 use Rattle.std.specs.BTreeMap.Range.{range_contains}
 use Rattle.std.specs.FinMap as finite
 use Rattle.std.specs.List.{last_or}
 use Rattle.std.specs.declared.ops.Bound.TheVariants.{Included}
-use Rattle.std.proofs.lemmas.List.{map-append, take-map, length-map}
-use Rattle.std.proofs.lemmas.List.Elements.{All-filter, All-take, All-head, All-tail}
+use Rattle.std.proofs.lemmas.List.{map-append, take-map, take_all, length-map}
+use Rattle.std.proofs.lemmas.List.Elements.{All-nil, All-cons, All-filter, All-take, All-head, All-tail}
 use Rattle.std.proofs.lemmas.List.Sorted.{All-permutation, IsPermutation-reverse}
 use Rattle.alt_machine.specs.Keys.{place_of}
 use Rattle.alt_machine.specs.State.{Table}
 use Rattle.alt_machine.specs.Valid.{IsStored}
 use Rattle.alt_machine.specs.Walks.{end_bound, is_beyond, items_between, placed_items, turned}
+use Rattle.alt_ops_query.specs.Filled.{HasExamined, HasFilled, Examines}
 use Rattle.alt_ops_query.specs.Ranges.{IsBeyond}
-use Rattle.alt_ops_query.proofs.Filling.{last_push}
+use Rattle.alt_ops_query.specs.declared.walking.Filling.{Filling}
+use Rattle.alt_ops_query.proofs.Filling.{last_push, filled_all, filled_front}
 use Rattle.alt_ops_query.proofs.Lists.{each_entry}
 use Rattle.alt_ops_query.proofs.Rests.{HasLast, has_last, walked, items_walked, rest_is}
+use Rattle.alt_paging.specs.declared.ask.PageAsk.{PageAsk}
 use Rattle.alt_value.specs.Members.{text_order}
 use Rattle.alt_value.specs.Tree.{Pair}
 
@@ -68,3 +71,48 @@ module _ (t : Table) (stored : (place : List ℕ) (item : List Pair)
       (subst (All (λ e. place_of t.description e.1 ≡ Some e.0)) end.is (All-take _ n all at_places)) in
       rest_is t forward from to first last n end.last end.front end.is
       (beyond end.last.0 (ap (place_of t.description) (sym same) ∙ at))
+
+  -- an item that has a place isn't empty
+  placed_some : (item : List Pair) (place : List ℕ) → place_of t.description item ≡ Some place
+      → item ≢ []
+  placed_some item place at empty = let no : None ≡ Some place =
+      ap (place_of t.description) (sym empty) ∙ at in absurd (cc no)
+
+  some_items : (es : List (List ℕ × List Pair)) → All (λ e. place_of t.description e.1 ≡ Some e.0) es
+      → All (λ i. i ≢ []) (map (λ e. e.1) es)
+  some_items [] all = All-nil (λ (i : List Pair). i ≢ [])
+  some_items (e ∷ es) all = All-cons (λ (i : List Pair). i ≢ []) e.1 (map (λ x. x.1) es)
+      (placed_some e.1 e.0 (All-head (λ x. place_of t.description x.1 ≡ Some x.0) e es all))
+      (some_items es (All-tail (λ x. place_of t.description x.1 ≡ Some x.0) e es all))
+
+  -- no item of a step is empty
+  pub steps_some : (n : ℕ) → All (λ i. i ≢ []) (take n (items_between t from to forward))
+  steps_some n = subst (All (λ i. i ≢ []))
+      (sym (ap (take n) (items_walked t from to forward) ∙ take-map (λ e. e.1) n (walked t from to forward)))
+      (some_items (take n (walked t from to forward))
+      (All-take _ n (walked t from to forward) at_places))
+
+-- ---- what a step comes to
+
+module _ (filling : Filling) (ask : PageAsk) (seen list items : List (List Pair)) (most : ℕ)
+    (given : items ≡ take most list) where
+  whole_list : seen ++ list ≡ (seen ++ items) ++ drop most list
+  whole_list = ap (λ l. seen ++ l) (sym (take-append-drop most list)
+      ∙ ap (λ l. l ++ drop most list) (sym given)) ∙ sym (append_assoc seen items (drop most list))
+
+  -- an item of the step ended the page
+  pub ended_so : Examines filling ask seen items false → HasFilled filling ask (seen ++ list)
+  ended_so (front, rest, is, h, ends) = filled_front filling ask (seen ++ list) (seen ++ front)
+      (rest ++ drop most list)
+      (whole_list ∙ ap (λ l. (seen ++ l) ++ drop most list) is
+      ∙ ap (λ l. l ++ drop most list) (sym (append_assoc seen front rest))
+      ∙ append_assoc (seen ++ front) rest (drop most list)) h ends
+
+  -- the step was the last of the list
+  pub last_so : Examines filling ask seen items true → length items < most
+      → HasFilled filling ask (seen ++ list)
+  last_so (h, going) few =
+      let short : length list ≤ most =
+      omega (arith, few, ap length given, length-take most list) in
+      filled_all filling ask (seen ++ list)
+      (subst (λ l. HasExamined filling ask (seen ++ l)) (given ∙ take_all most list short) h)

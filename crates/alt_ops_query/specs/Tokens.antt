@@ -2,7 +2,7 @@
 use Rattle.std.specs.Prelude.{ℕ, ◌+◌, ◌-◌, ◌*◌, ◌/◌, ◌^◌, nat_lt, if◌then◌else◌, List, Option, Some, None}
 use Rattle.std.specs.Int.{w64, to_be_bytes}
 use Rattle.alt_machine.specs.Ops.Scan as machine
-use Rattle.alt_ops_query.specs.declared.scan.Segment.{Segment}
+use Rattle.alt_ops_query.specs.declared.scanning.Segment.{Segment}
 
 -- the segment, as the machine has it
 abbrev pub segment_in : Segment → machine.Segment

@@ -4,11 +4,11 @@
 mod asking;
 mod pages;
 mod places;
-mod query;
+mod querying;
 mod replies;
-mod scan;
+mod scanning;
 mod selecting;
 mod walking;
 
-pub use query::query;
-pub use scan::scan;
+pub use querying::query;
+pub use scanning::scan;

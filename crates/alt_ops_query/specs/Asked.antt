@@ -3,6 +3,8 @@ use Rattle.std.specs.Prelude.{◌≡◌, ℕ, Bool, true, List, Option, Some, No
 use Rattle.alt_expr.specs.KeyForm.{Ask}
 use Rattle.alt_expr.specs.Pages.{passes}
 use Rattle.alt_expr.specs.declared.cond.Cond.{Cond}
+use Rattle.alt_keycond.specs.KeysAsked.{HoldsAsked}
+use Rattle.alt_keycond.specs.declared.ask.KeyAsk.{KeyAsk}
 use Rattle.alt_keycond.specs.declared.ask.RangeAsk.{RangeAsk}
 use Rattle.alt_keycond.specs.declared.ask.RangeAsk.TheVariants as r
 use Rattle.alt_keyorder.specs.declared.range.KeyRange.{KeyRange}
@@ -10,11 +12,11 @@ use Rattle.alt_machine.specs.Lists.{walk_start}
 use Rattle.alt_machine.specs.Ops.Query.{key_asked}
 use Rattle.alt_machine.specs.Ops.Scan.{Segment, is_in}
 use Rattle.alt_machine.specs.Outcomes.{Outcome, refuses, with_found}
-use Rattle.alt_ops_query.specs.Ranges.{HoldsListed}
+use Rattle.alt_ops_query.specs.Ranges.{HoldsListed, IsBeyond}
 use Rattle.alt_request.specs.declared.stop.Stop.{Stop}
 use Rattle.alt_request.specs.declared.stop.Stop.TheVariants.{Refused, Fault}
 use Rattle.alt_schema.specs.declared.schema.TableSchema.{TableSchema}
-use Rattle.alt_shape.specs.Refusals.{IsKnown}
+use Rattle.alt_shape.specs.Refusals.{IsKnown, refused}
 use Rattle.alt_tables.specs.Faults.{IsReadFault}
 use Rattle.alt_value.specs.Stands.{tree_of}
 use Rattle.alt_value.specs.Tree.{Pair}
@@ -32,6 +34,23 @@ AreHeld (r.Between low high) = IsValue (tree_of low) × IsValue (tree_of high)
 AreHeld (r.Begins v) = IsValue (tree_of v)
 
 -- ---- a Query
+
+-- The range is the part of one that holds the keys of an ask, beyond the start key.
+pub record IsPlaced (d : TableSchema) (ask : KeyAsk) (start : Option (List Pair)) (forward : Bool)
+    (range : KeyRange) : Type 0 where
+  pub place : Option (List ℕ)
+  pub starts : walk_start d (Some ask.hash) start ≡ Ok place
+  pub from : List ℕ
+  pub to : Option (List ℕ)
+  pub holds : HoldsAsked ask from to
+  pub beyond : IsBeyond forward place from to range.from range.to
+
+-- That is so; or the start key is refused.
+abbrev pub Places : TableSchema → KeyAsk → Option (List Pair) → Bool → Result KeyRange Stop → Type 0
+Places d ask start forward (Ok range) = IsPlaced d ask start forward range
+Places d ask start forward (Err (Refused r)) = IsKnown r
+    × (walk_start d (Some ask.hash) start ≡ Err (refused r))
+Places d ask start forward (Err (Fault f)) = IsReadFault f
 
 -- The range holds the items of which the key condition holds, beyond the start key.
 pub record IsAsked (d : TableSchema) (condition : Option Cond) (start : Option (List Pair))

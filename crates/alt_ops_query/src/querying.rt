@@ -8,13 +8,14 @@ ghost use Rattle.alt_keycond.specs.Asked.{asks};
 ghost use Rattle.alt_keycond.specs.KeysAsked.{AsksKeys};
 ghost use Rattle.alt_keyorder.specs.KeyBytes.{IsKey};
 ghost use Rattle.alt_machine.specs.Ops.Query.{query, goes_forward, key_asked, key_of as machine_key};
-ghost use Rattle.alt_ops_query.specs.Asked.{AreHeld, Asks};
+ghost use Rattle.alt_ops_query.specs.Asked.{AreHeld, Asks, Places};
 ghost use Rattle.alt_request.specs.Carried.{Carries, Moves};
 ghost use Rattle.alt_request.specs.Steps.{Comes};
 ghost use Rattle.alt_tables.specs.Stands.{AreReady, Stands};
 ghost use Rattle.alt_value.specs.Item.{at_name};
 ghost use Rattle.alt_value.specs.Stands.{tree_of};
 ghost use Rattle.alt_value.specs.Tree.{Pair};
+ghost use Rattle.alt_value.specs.Values.{IsValue};
 
 use crate::pages::page_of_range;
 use crate::places::{beyond, walk_start};
@@ -92,11 +93,30 @@ fn asked_range(
 ) -> Result<KeyRange, Stop>
     ensures asks { Asks schema.now condition.now start.now forward result }
 {
-    let ask = key_asked(schema, condition)?;
+    match key_asked(schema, condition) {
+        Ok(ask) => range_of_ask(alloc, schema, &ask, start, forward),
+        Err(stop) => Err(stop),
+    }
+}
+
+/// The places of the items with what is asked, beyond the start key, if one is given.
+fn range_of_ask(
+    alloc: Global,
+    schema: &TableSchema,
+    ask: &KeyAsk,
+    start: &Option<Item>,
+    forward: bool,
+) -> Result<KeyRange, Stop>
+    requires hash { IsKey (tree_of ask.now.hash) }
+    requires range { AsksKeys ask.now.range }
+    ensures places { Places schema.now ask.now start.now forward result }
+    ensures hash { IsValue (tree_of ask.now.hash) }
+    ensures held { AreHeld ask.now.range }
+{
     held(&ask.hash);
     range_held(&ask.range);
     let place = walk_start(alloc, schema, Some(&ask.hash), start)?;
-    let range = key_range(alloc, &ask)?;
+    let range = key_range(alloc, ask)?;
     Ok(beyond(alloc, range, place, forward)?)
 }
 

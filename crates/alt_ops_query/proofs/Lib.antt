@@ -1,14 +1,15 @@
 pub mod Answering
-pub mod Asking
 pub mod Beyond
 pub mod Filling
 pub mod Kept
 pub mod KeyKinds
+pub mod KeyRanges
 pub mod Limited
 pub mod Lists
+pub mod PlaceBytes
 pub mod Rests
 pub mod Segments
 pub mod Steps
 pub mod Stored
-pub mod Walking
+pub mod WalkLaws
 pub mod Whole

@@ -230,7 +230,7 @@ drop-map f (suc n) [] = refl
 drop-map f (suc n) (x ∷ xs) = drop-map f n xs
 
 -- the entries of a range, in the order of a walk
-pub walked : Table → List ℕ → Option (List ℕ) → Bool → List Entry
+unfoldable pub walked : Table → List ℕ → Option (List ℕ) → Bool → List Entry
 walked t from to forward =
     turned forward (entries_between text_order (Included from) (end_bound to) (placed_items t))
 

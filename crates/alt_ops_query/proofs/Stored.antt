@@ -13,11 +13,11 @@ use Rattle.alt_value.specs.Values.{IsValue, AreFields}
 use Rattle.alt_value.specs.declared.kind.KeyKind.{KeyKind}
 use Rattle.alt_value.specs.declared.kind.KeyKind.TheVariants.{S, N, B}
 
-same_Some : {A : Type 0} (x y : A) → Some x ≡ Some y → x ≡ y
+pub same_Some : {A : Type 0} (x y : A) → Some x ≡ Some y → x ≡ y
 same_Some x y e = cc
 
 -- what is at a name is a value
-field_value : (name : List ℕ) (item : List Pair) (t : Tree) → AreFields (fields_of item)
+pub field_value : (name : List ℕ) (item : List Pair) (t : Tree) → AreFields (fields_of item)
     → at_name name item ≡ Some t → IsValue t
 field_value name [] t h e = absurd (let f : ⊥ = cc in f)
 field_value name (p ∷ ps) t h e = by (is_eq (text_order name p.0)) (field_value name ps t h.2) e
@@ -58,7 +58,7 @@ part_is item key t h e = by (at_name key.name item) refl e
         record { at = at ∙ ap (λ x. Some x) both.0; kind = both.1 }
 
 -- the RANGE value, where the table has a RANGE key
-IsBeside : List Pair → Option KeyAttr → Option Tree → Type 0
+abbrev pub IsBeside : List Pair → Option KeyAttr → Option Tree → Type 0
 IsBeside item None None = Unit {0}
 IsBeside item None (Some t) = ⊥
 IsBeside item (Some key) None = ⊥
@@ -75,7 +75,6 @@ pub record IsKeyed (d : TableSchema) (item : List Pair) (place : List ℕ) : Typ
 beside : (item : List Pair) (p : Place) (hash : Tree) (range : Option KeyAttr)
     → AreFields (fields_of item) → place_beside item range hash ≡ Some p
     → (r : Option Tree) × IsBeside item range r × (p ≡ place_in_table hash r)
-unfolding IsBeside
 beside item p hash None h e = (None, tt, sym (same_Some (place_in_table hash None) p e))
 beside item p hash (Some key) h e = by (key_value item key) refl e
   where

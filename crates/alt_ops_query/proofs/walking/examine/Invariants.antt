@@ -2,7 +2,7 @@
 use Rattle.std.proofs.Common.{◌≡◌, ◌≢◌, false, List, [], All}
 use Rattle.std.specs.Vec.Iter.{into_iter_items}
 use Rattle.alt_ops_query.specs.Filled.{HasExamined}
-use Rattle.alt_ops_query.proofs.Walking.{SoFar}
+use Rattle.alt_ops_query.proofs.WalkLaws.{SoFar}
 use Rattle.alt_paging.specs.Offered.{has_ended}
 use Rattle.alt_paging.specs.declared.ask.PageAsk.{PageAsk}
 use Rattle.alt_value.specs.Tree.{Pair}

@@ -1,22 +1,35 @@
 -- The page that was filled is answered as that of the list.
-use Rattle.std.proofs.Common.{◌≡◌, refl, sym, ap, subst, ◌∙◌, ℕ, Bool, true, false, List, [], ◌∷◌, length, map, Option, Some, None, option_map}
+use Rattle.std.proofs.Common.{◌≡◌, refl, sym, ap, subst, ◌∙◌, ℕ, Bool, true, false, List, [], ◌∷◌, length, map, Option, Some, None, Result, Ok, Err, IfOk, IfErr, option_map}
 use Rattle.std.specs.Prelude.{if◌then◌else◌, codes}
 use Rattle.std.specs.List.{last_or}
 use Rattle.serde_json.specs.Data.{Data, Members, member, no_members, number, unsigned, array}
+use Rattle.serde_json.specs.View.{view}
+use Rattle.serde_json.specs.Written.{has_float}
 use Rattle.alt_codec.specs.Writing.{json_of_pairs}
 use Rattle.alt_expr.specs.Pages as pages
 use Rattle.alt_expr.specs.Pages.{Asked, examined, ends_early, parts, passed}
 use Rattle.alt_machine.specs.Lists.{selects, shown_items, items_json, key_attributes, page_answer, last_examined}
+use Rattle.alt_machine.specs.Outcomes.{Outcome, says}
+use Rattle.alt_machine.specs.State.{State}
 use Rattle.alt_ops_query.specs.Filled.{HasFilled}
-use Rattle.alt_ops_query.specs.Paged.{answer_with}
+use Rattle.alt_ops_query.specs.Paged.{AnswersPage, answer_with}
 use Rattle.alt_ops_query.specs.Replied.{page_of}
+use Rattle.alt_ops_query.specs.Stops.{IsFault, IfErrFailed}
 use Rattle.alt_ops_query.specs.declared.walking.Filling.{Filling}
 use Rattle.alt_paging.specs.Offered.{IsPage, asked_of, unless_counts}
 use Rattle.alt_paging.specs.declared.ask.Page.{Page}
 use Rattle.alt_paging.specs.declared.ask.PageAsk.{PageAsk}
+use Rattle.alt_request.specs.Carried.{Does, IsPlain, IfFailed}
+use Rattle.alt_request.specs.Steps.{IsMemory}
+use Rattle.alt_request.specs.declared.stop.Stop.{Stop}
+use Rattle.alt_request.specs.declared.stop.Stop.TheVariants.{Refused, Fault}
+use Rattle.alt_request.proofs.Carrying.{does_say}
 use Rattle.alt_schema.specs.declared.schema.TableSchema.{TableSchema}
 use Rattle.alt_schema.specs.Json.{member_if}
-use Rattle.alt_shape.specs.Refusals.{Answer, answered}
+use Rattle.alt_shape.specs.Refusals.{Answer, answered, answer_of}
+use Rattle.alt_shape.specs.declared.refusal.Reply.{Reply}
+use Rattle.alt_tables.specs.declared.faults.TableFault.TheVariants.{Spent, Damaged, BadRow, Failed, NoMemory}
+use Rattle.alt_tables.proofs.Making.{none_made}
 use Rattle.alt_value.specs.Tree.{Pair}
 
 -- the page whose items were examined
@@ -69,11 +82,46 @@ module _ (d : TableSchema) (ms : Members) (ask : PageAsk) (list : List (List Pai
   pub answered_so : page_answer d ms (page_of page) (if page.ended then filling.last else None)
       ≡ answer_with d ms ask list
   answered_so = (λ i. page_answer d ms (page_is i) (last_is i))
-      ∙ ap answer_of (counts_shown ms whole.items ask.count_only counts)
+      ∙ ap with_shown (counts_shown ms whole.items ask.count_only counts)
     where
-      answer_of : Option Data → Answer
-      answer_of shown = answered (member (codes "Count") (number (unsigned whole.count))
+      with_shown : Option Data → Answer
+      with_shown shown = answered (member (codes "Count") (number (unsigned whole.count))
           (member_if (codes "Items") shown
           (member_if (codes "LastEvaluatedKey") (option_map
           (λ i. json_of_pairs (key_attributes d i)) (last_examined (asked_of ask) list))
           (member (codes "ScannedCount") (number (unsigned whole.scanned)) no_members))))
+
+-- ---- what is done
+
+-- the page is answered, or memory was wanting for it
+pub page_does : (now : State → Type 0) (s : State) (d : TableSchema) (ms : Members) (ask : PageAsk)
+    (list : List (List Pair)) (filling : Filling) (r : Result Reply Stop) → now s
+    → HasFilled filling ask list → ask.count_only ≡ selects (codes "COUNT") ms
+    → IfOk r (λ reply. AnswersPage d ms filling (answer_of reply))
+    → IfOk r (λ reply. has_float (view reply.body) ≡ false) → IfErr r IsMemory
+    → Does now s (says (answer_with d ms ask list)) r
+page_does now s d ms ask list filling (Ok reply) stands filled counts told plain cause =
+    does_say now (answer_with d ms ask list) s (Ok reply) (told ask list filled counts, plain) stands
+page_does now s d ms ask list filling (Err stop) stands filled counts told plain cause =
+    subst (λ e. Does now s (says (answer_with d ms ask list)) (Err e)) (sym cause)
+    (does_say now (answer_with d ms ask list) s (Err (Fault NoMemory)) refl stands)
+
+-- the walk stopped before it
+pub fault_does : (now : State → Type 0) (s : State) (outcome : Outcome) (stop : Stop) → IsFault stop
+    → now s → Does now s outcome (Err stop)
+fault_does now s outcome (Refused r) h stands = absurd h
+fault_does now s outcome (Fault (Spent n)) h stands = absurd h
+fault_does now s outcome (Fault (Damaged file at)) h stands = absurd h
+fault_does now s outcome (Fault (BadRow family key)) h stands = absurd h
+fault_does now s outcome (Fault Failed) h stands = tt
+fault_does now s outcome (Fault NoMemory) h stands = (0, none_made outcome.atoms, refl, stands)
+
+pub stop_plain : {A : Type 0} (P : Type 0) (stop : Stop) → IfErrFailed {A} (Err stop) P
+    → IsPlain (Err stop)
+stop_plain P (Refused r) h = absurd h
+stop_plain P (Fault f) h = tt
+
+pub stop_failed : {A : Type 0} (P : Type 0) (stop : Stop) → IfErrFailed {A} (Err stop) P
+    → IfFailed (Err stop) P
+stop_failed P (Refused r) h = absurd h
+stop_failed P (Fault f) h = h

@@ -217,7 +217,7 @@ pub record HasLast {A : Type 0} (xs : List A) : Type 0 where
   pub last : A
   pub is : xs ≡ front ++ last ∷ []
 
-has_last : {A : Type 0} (xs : List A) → 0 < length xs → HasLast xs
+pub has_last : {A : Type 0} (xs : List A) → 0 < length xs → HasLast xs
 has_last [] h = absurd (omega arith)
 has_last (x ∷ []) h = record { front = []; last = x; is = refl }
 has_last (x ∷ y ∷ ys) h =

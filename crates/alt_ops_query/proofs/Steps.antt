@@ -11,7 +11,8 @@ use Rattle.alt_machine.specs.Keys.{place_of}
 use Rattle.alt_machine.specs.State.{Table}
 use Rattle.alt_machine.specs.Valid.{IsStored}
 use Rattle.alt_machine.specs.Walks.{end_bound, is_beyond, items_between, placed_items, turned}
-use Rattle.alt_ops_query.specs.Filled.{HasExamined, HasFilled, Examines}
+use Rattle.alt_keyorder.specs.declared.range.KeyRange.{KeyRange}
+use Rattle.alt_ops_query.specs.Filled.{HasExamined, HasFilled, Examines, Steps}
 use Rattle.alt_ops_query.specs.Ranges.{IsBeyond}
 use Rattle.alt_ops_query.specs.declared.walking.Filling.{Filling}
 use Rattle.alt_ops_query.proofs.Filling.{last_push, filled_all, filled_front}
@@ -116,3 +117,34 @@ module _ (filling : Filling) (ask : PageAsk) (seen list items : List (List Pair)
       omega (arith, few, ap length given, length-take most list) in
       filled_all filling ask (seen ++ list)
       (subst (λ l. HasExamined filling ask (seen ++ l)) (given ∙ take_all most list short) h)
+
+-- ---- a step behind which the walk goes on
+
+module _ (t : Table) (stored : (place : List ℕ) (item : List Pair)
+    → finite.get t.items place ≡ Some item → place_of t.description item ≡ Some place)
+    (forward : Bool) (from : List ℕ) (to : Option (List ℕ)) (filling : Filling) (ask : PageAsk)
+    (seen items : List (List Pair)) (most : ℕ)
+    (given : items ≡ take most (items_between t from to forward))
+    (h : HasExamined filling ask (seen ++ items)) (many : most ≤ length items) (some : 0 < most) where
+  -- the range beyond its last item has the others
+  pub step_on : (rest : KeyRange) → ((item : List Pair) (place : List ℕ) → filling.last ≡ Some item
+      → place_of t.description item ≡ Some place
+      → IsBeyond forward (Some place) from to rest.from rest.to)
+      → Steps t forward ask seen filling (items_between t from to forward) (Some rest)
+  step_on rest beyond =
+      let list : List (List Pair) = items_between t from to forward in
+      let long : 0 < length items = omega (arith, some, many) in
+      let end : HasLast items = has_last items long in
+      let is : last_or None (seen ++ items) ≡ Some end.last =
+      ap (λ l. last_or None (seen ++ l)) end.is
+      ∙ ap (last_or None) (sym (append_assoc seen end.front (end.last ∷ [])))
+      ∙ last_push None (seen ++ end.front) end.last in
+      let rests = step_rest t stored forward from to rest.from rest.to most seen end.last
+      (subst (λ (l : List (List Pair)). 0 < length l) given long)
+      (subst (λ l. last_or None (seen ++ l) ≡ Some end.last) given is)
+      (λ place at. beyond end.last place (h.last ∙ is) at) in (
+        items,
+        h,
+        sym (take-append-drop most list) ∙ ap (λ l. l ++ drop most list) (sym given)
+            ∙ ap (λ l. items ++ l) (sym rests),
+      )

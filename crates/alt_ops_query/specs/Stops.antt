@@ -10,13 +10,13 @@ abbrev pub IsFault : Stop → Type 0
 IsFault (Refused r) = ⊥
 IsFault (Fault f) = IsFindFault f
 
--- not by a failure of the device
+-- by a fault that isn't a failure of the device
 abbrev pub IsUnfailed : Stop → Type 0
-IsUnfailed (Refused r) = Unit {0}
+IsUnfailed (Refused r) = ⊥
 IsUnfailed (Fault f) = WhereFailed f ⊥
 
--- of a failure of the device this holds
+-- by a fault, and where the device failed this holds
 abbrev pub IfErrFailed : {A : Type 0} → Result A Stop → Type 0 → Type 0
 IfErrFailed (Ok x) P = Unit {0}
-IfErrFailed (Err (Refused r)) P = Unit {0}
+IfErrFailed (Err (Refused r)) P = ⊥
 IfErrFailed (Err (Fault f)) P = WhereFailed f P

@@ -78,8 +78,8 @@ module _ (item : List Pair) (is_item : IsItem item) where
   -- that of the item itself
   where_kept : (p : List ℕ → Bool) → KeepsWhere p (where_key text_order p item)
   where_kept p = (
-    is_sorted-where_key text_order key_total p item is_item.0,
-    λ q. find-where_key text_order key_total p q (λ x tie. ap p (sym (key_exact q x tie))) item,
+    is_sorted-where_key text_order p item is_item.0,
+    λ q. find-where_key text_order p q (λ x tie. ap p (sym (key_exact q x tie))) item,
   )
 
   or_turned : (a b : Bool) → (a || b) ≡ (b || a)

@@ -1,13 +1,14 @@
 -- A body that breaks no demand has a limit of 1 to 2^31 - 1, or none.
-use Rattle.std.proofs.Common.{◌≡◌, refl, ap, ◌∙◌, ℕ, ◌&&◌, ◌||◌, ◌^◌, nat_lt, nat_le, Bool, true, false, List, [], ◌∷◌, Option, Some, None, option_and_then, arith}
-use Rattle.std.specs.Prelude.{if◌then◌else◌, codes}
+use Rattle.std.proofs.Common.{◌≡◌, refl, sym, ap, ◌∙◌, ℕ, zero, suc, ◌&&◌, ◌||◌, ◌^◌, nat_lt, nat_le, Bool, true, false, List, [], ◌∷◌, Option, Some, None, option_and_then, arith}
+use Rattle.std.specs.Prelude.{if◌then◌else◌, codes, slice_get}
 use Rattle.serde_json.specs.Data.{Data, Members, null, boolean, number, unsigned, negative, float, string, array, object}
 use Rattle.alt_machine.specs.Body.{Rules, paired_refusals}
 use Rattle.alt_machine.specs.Ops.Scan.{whole_at}
 use Rattle.alt_machine.specs.Refusals.{first_answer}
 use Rattle.alt_ops_query.specs.Paged.{HasLimit, limit_in}
 use Rattle.alt_shape.specs.Bodies as bodies
-use Rattle.alt_shape.specs.Shape.{Demand, a_whole, fault_of, given, natural_of, first_unmet, or_next, unmet_by}
+use Rattle.alt_shape.specs.Bodies.{required, optional, selections}
+use Rattle.alt_shape.specs.Shape.{Demand, a_text, a_whole, a_truth, an_object, a_word, fault_of, given, natural_of, first_unmet, or_next, unmet_by}
 use Rattle.alt_shape.specs.declared.rule.Broken.{Broken}
 use Rattle.alt_shape.specs.declared.rule.Broken.TheVariants.{OutOfRange}
 
@@ -21,14 +22,15 @@ next_none : (a b : Option Broken) → or_next a b ≡ None → b ≡ None
 next_none None b e = e
 next_none (Some x) b e = let no : Some x ≡ None = e in absurd (let f : ⊥ = cc in f)
 
--- the first of a list is met, and so are those behind it
-met : (d : Demand) (demands : List Demand) (ms : Members) → first_unmet (d ∷ demands) ms ≡ None
-    → unmet_by ms d ≡ None
-met d demands ms e = first_none (unmet_by ms d) (first_unmet demands ms) e
-
-behind : (d : Demand) (demands : List Demand) (ms : Members)
-    → first_unmet (d ∷ demands) ms ≡ None → first_unmet demands ms ≡ None
-behind d demands ms e = next_none (unmet_by ms d) (first_unmet demands ms) e
+-- each demand of a list is met
+met_at : (n : ℕ) (demands : List Demand) (ms : Members) → first_unmet demands ms ≡ None
+    → (d : Demand) → slice_get demands n ≡ Some d → unmet_by ms d ≡ None
+met_at n [] ms e d at = absurd (let no : None ≡ Some d = at in cc no)
+met_at zero (x ∷ demands) ms e d at =
+    let same : x ≡ d = cc in
+    ap (unmet_by ms) (sym same) ∙ first_none (unmet_by ms x) (first_unmet demands ms) e
+met_at (suc n) (x ∷ demands) ms e d at =
+    met_at n demands ms (next_none (unmet_by ms x) (first_unmet demands ms) e) d at
 
 -- ---- the limit
 
@@ -52,15 +54,38 @@ limited_at (Some (string s)) e = refl
 limited_at (Some (array ds)) e = refl
 limited_at (Some (object ms)) e = refl
 
+-- what a Query and a Scan demand of their bodies
+abbrev query_demands : List Demand
+query_demands =
+    required (codes "TableName") a_text ∷ optional (codes "IndexName") a_text ∷
+    required (codes "KeyConditionExpression") a_text ∷ optional (codes "FilterExpression") a_text ∷
+    optional (codes "ProjectionExpression") a_text ∷
+    optional (codes "ExpressionAttributeNames") an_object ∷
+    optional (codes "ExpressionAttributeValues") an_object ∷
+    optional (codes "Limit") (a_whole 1 2147483647) ∷
+    optional (codes "ScanIndexForward") a_truth ∷ optional (codes "ExclusiveStartKey") an_object ∷
+    optional (codes "ConsistentRead") a_truth ∷ optional (codes "Select") (a_word selections) ∷ []
+
+abbrev scan_demands : List Demand
+scan_demands =
+    required (codes "TableName") a_text ∷ optional (codes "IndexName") a_text ∷
+    optional (codes "FilterExpression") a_text ∷ optional (codes "ProjectionExpression") a_text ∷
+    optional (codes "ExpressionAttributeNames") an_object ∷
+    optional (codes "ExpressionAttributeValues") an_object ∷
+    optional (codes "Limit") (a_whole 1 2147483647) ∷
+    optional (codes "ExclusiveStartKey") an_object ∷ optional (codes "ConsistentRead") a_truth ∷
+    optional (codes "Select") (a_word selections) ∷ optional (codes "Segment") (a_whole 0 999999) ∷
+    optional (codes "TotalSegments") (a_whole 1 1000000) ∷ []
+
 pub query_limit : (ms : Members) → bodies.query ms ≡ None → HasLimit ms
 unfolding bodies.query
-query_limit ms e = limited_at (given (codes "Limit") ms) (met _ _ ms (behind _ _ ms (behind _ _ ms
-    (behind _ _ ms (behind _ _ ms (behind _ _ ms (behind _ _ ms (behind _ _ ms e))))))))
+query_limit ms e = limited_at (given (codes "Limit") ms)
+    (met_at 7 query_demands ms e (optional (codes "Limit") (a_whole 1 2147483647)) refl)
 
 pub scan_limit : (ms : Members) → bodies.scan ms ≡ None → HasLimit ms
 unfolding bodies.scan
-scan_limit ms e = limited_at (given (codes "Limit") ms) (met _ _ ms (behind _ _ ms (behind _ _ ms
-    (behind _ _ ms (behind _ _ ms (behind _ _ ms (behind _ _ ms e)))))))
+scan_limit ms e = limited_at (given (codes "Limit") ms)
+    (met_at 6 scan_demands ms e (optional (codes "Limit") (a_whole 1 2147483647)) refl)
 
 -- ---- behind the tests of a body
 

@@ -103,8 +103,8 @@ AreOrdered forward (e ∷ es) = All (After forward e) es × AreOrdered forward e
 
 all_below : (key : List ℕ) (es : List Entry) → T (below_all text_order key es)
     → All (λ x. is_lt (text_order key x.0) ≡ true) es
-all_below key [] h = All-nil _
-all_below key (e ∷ es) h = All-cons _ e es (is_so (is_lt (text_order key e.0)) (first _ _ h))
+all_below key [] h = All-nil (λ (x : Entry). is_lt (text_order key x.0) ≡ true)
+all_below key (e ∷ es) h = All-cons (λ (x : Entry). is_lt (text_order key x.0) ≡ true) e es (is_so (is_lt (text_order key e.0)) (first _ _ h))
     (all_below key es (second (is_lt (text_order key e.0)) _ h))
   where
     is_so : (b : Bool) → T b → b ≡ true
@@ -258,7 +258,12 @@ module _ (t : Table) (forward : Bool) (from : List ℕ) (to : Option (List ℕ))
       (ordered_filter true (λ x. range_contains text_order (Included from) (end_bound to) x.0) es
       (sorted_ordered es (finite.entries_sorted t.items))) in
       ap (λ l. map (λ x. x.1) (turned forward l))
-      (filter_same _ _ es (all_same es (λ x. contains_beyond forward (Some e.0) from to first last
+      (filter_same (λ x. range_contains text_order (Included first) (end_bound last) x.0)
+      (λ x. range_contains text_order (Included from) (end_bound to) x.0
+      && is_beyond forward (Some e.0) x.0) es (all_same
+      (λ x. range_contains text_order (Included first) (end_bound last) x.0
+      ≡ (range_contains text_order (Included from) (end_bound to) x.0
+      && is_beyond forward (Some e.0) x.0)) es (λ x. contains_beyond forward (Some e.0) from to first last
       beyond x.0))
       ∙ filter_both (λ x. range_contains text_order (Included from) (end_bound to) x.0)
       (λ x. is_beyond forward (Some e.0) x.0) es)
@@ -268,6 +273,6 @@ module _ (t : Table) (forward : Bool) (from : List ℕ) (to : Option (List ℕ))
       ∙ beyond_is forward front e (drop n all) (subst (AreOrdered forward) whole ordered))
       ∙ sym (drop-map (λ x. x.1) n all)
     where
-      all_same : {P : Entry → Type 0} (xs : List Entry) → ((x : Entry) → P x) → All P xs
-      all_same {P} [] h = All-nil P
-      all_same {P} (x ∷ xs) h = All-cons P x xs (h x) (all_same {P} xs h)
+      all_same : (P : Entry → Type 0) (xs : List Entry) → ((x : Entry) → P x) → All P xs
+      all_same P [] h = All-nil P
+      all_same P (x ∷ xs) h = All-cons P x xs (h x) (all_same P xs h)

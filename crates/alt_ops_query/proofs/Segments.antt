@@ -74,13 +74,14 @@ first_reached number total token some = both_ways _ _
     (λ e.
     let le : first_token number total ≤ token = grind (arith, e) in
     let below : (number * 2 ^ 64 + (total - 1)) / total < token + 1 = omega (arith, le) in
-    let more = (div-lt_iff_lt-mul some).0 below in
+    let more = (div-lt_iff_lt-mul {k = total} {x = number * 2 ^ 64 + (total - 1)} {y = token + 1} some).0 below in
     let grown : (token + 1) * total ≡ token * total + total = omega arith in
     grind (arith, more, grown, some))
     (λ e.
     let le : number * 2 ^ 64 ≤ token * total = grind (arith, e) in
     let grown : (token + 1) * total ≡ token * total + total = omega arith in
-    let below = (div-lt_iff_lt-mul some).1 (omega (arith, le, grown, some)) in
+    let below = (div-lt_iff_lt-mul {k = total} {x = number * 2 ^ 64 + (total - 1)} {y = token + 1} some).1
+    (omega (arith, le, grown, some)) in
     grind (arith, below))
 
 -- a token is in the segment where it is between its first and that of the next

@@ -61,7 +61,7 @@ module _ (t : Table) (stored : (place : List ℕ) (item : List Pair)
       let given : take n (items_between t from to forward) ≡ map (λ e. e.1) (take n all) =
       ap (take n) (items_walked t from to forward) ∙ take-map (λ e. e.1) n all in
       let long : length (take n (items_between t from to forward)) ≡ length (take n all) =
-      ap length given ∙ length-map (λ (e : List ℕ × List Pair). e.1) (take n all) in
+      ap length given ∙ length-map (take n all) (λ (e : List ℕ × List Pair). e.1) in
       let end : HasLast (take n all) = has_last (take n all) (omega (arith, some, long)) in
       let same : end.last.1 ≡ item = same_some _ _ (
       sym (last_push None (seen ++ map (λ (e : List ℕ × List Pair). e.1) end.front) end.last.1)

@@ -58,12 +58,12 @@ pub record IsWalked (now : Filling) (ask : PageAsk) (t : Table) (forward : Bool)
     (list : List (List Pair)) (rest : KeyRange) : Type 0 where
   pub seen : List (List Pair)
   pub examined : HasExamined now ask seen
-  pub list : list ≡ seen ++ items_between t rest.from rest.to forward
+  pub whole : list ≡ seen ++ items_between t rest.from rest.to forward
 
 pub walk_begun : (filling : Filling) (ask : PageAsk) (t : Table) (forward : Bool) (range : KeyRange)
     → HasExamined filling ask []
     → IsWalked filling ask t forward (items_between t range.from range.to forward) range
-walk_begun filling ask t forward range h = record { seen = []; examined = h; list = refl }
+walk_begun filling ask t forward range h = record { seen = []; examined = h; whole = refl }
 
 module _ (now then : Filling) (ask : PageAsk) (t : Table) (forward : Bool)
     (list : List (List Pair)) (range : KeyRange) (so : IsWalked now ask t forward list range) where
@@ -74,11 +74,11 @@ module _ (now then : Filling) (ask : PageAsk) (t : Table) (forward : Bool)
   walk_on rest (front, h, is) = record {
     seen = so.seen ++ front;
     examined = h;
-    list = so.list ∙ ap (λ l. so.seen ++ l) is
+    whole = so.whole ∙ ap (λ l. so.seen ++ l) is
         ∙ sym (append_assoc so.seen front (items_between t rest.from rest.to forward));
   }
 
   -- the last one
   pub walk_ended : Steps t forward ask so.seen then (items_between t range.from range.to forward) None
       → HasFilled then ask list
-  walk_ended h = subst (HasFilled then ask) (sym so.list) h
+  walk_ended h = subst (HasFilled then ask) (sym so.whole) h

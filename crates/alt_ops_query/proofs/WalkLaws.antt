@@ -1,5 +1,5 @@
 -- A walk: what was examined so far, and what is ahead.
-use Rattle.std.proofs.Common.{◌≡◌, ◌≢◌, refl, sym, ap, subst, ◌∙◌, Bool, List, [], ◌∷◌, ◌++◌, Option, Some, None, All, append_assoc, append-nil}
+use Rattle.std.proofs.Common.{◌≡◌, ◌≢◌, refl, sym, ap, subst, ◌∙◌, Bool, true, false, not, List, [], ◌∷◌, ◌++◌, Option, Some, None, All, append_assoc, append-nil}
 use Rattle.std.proofs.lemmas.List.Elements.{All-head, All-tail}
 use Rattle.alt_keyorder.specs.declared.range.KeyRange.{KeyRange}
 use Rattle.alt_machine.specs.State.{Table}
@@ -82,3 +82,10 @@ module _ (now then : Filling) (ask : PageAsk) (t : Table) (forward : Bool)
   pub walk_ended : Steps t forward ask so.seen then (items_between t range.from range.to forward) None
       → HasFilled then ask list
   walk_ended h = subst (HasFilled then ask) (sym so.whole) h
+
+-- a page that doesn't go on has ended
+pub ended_by : (more ends : Bool) → more ≡ not ends → not more ≡ true → ends ≡ true
+ended_by true true e f = absurd (let g : ⊥ = cc in g)
+ended_by true false e f = absurd (let g : ⊥ = cc in g)
+ended_by false true e f = refl
+ended_by false false e f = absurd (let g : ⊥ = cc in g)

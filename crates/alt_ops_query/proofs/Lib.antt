@@ -9,7 +9,9 @@ pub mod Lists
 pub mod PlaceBytes
 pub mod Rests
 pub mod Segments
+pub mod Shown
 pub mod Steps
 pub mod Stored
+pub mod Walking
 pub mod WalkLaws
 pub mod Whole

@@ -85,7 +85,7 @@ complement_bytes [] = tt
 complement_bytes (b ∷ bs) = (omega arith, complement_bytes bs)
 
 magnitude_are_bytes : (m : ℕ) → IsMagnitude m → AreBytes (magnitude_bytes m)
-unfolding magnitude_bytes, width
+unfolding magnitude_bytes width
 magnitude_are_bytes m size =
     let few : length (digits_of 10 m) ≤ 293 = length-digits_of-le 10 293 m (omega arith) size.below in (
       omega (arith, few),

@@ -14,11 +14,14 @@ use Rattle.alt_machine.specs.Walks.{end_bound, is_beyond, items_between, placed_
 use Rattle.alt_keyorder.specs.declared.range.KeyRange.{KeyRange}
 use Rattle.alt_ops_query.specs.Filled.{HasExamined, HasFilled, Examines, Steps}
 use Rattle.alt_ops_query.specs.Ranges.{IsBeyond}
+use Rattle.alt_ops_query.specs.Stops.{IsFault}
 use Rattle.alt_ops_query.specs.declared.walking.Filling.{Filling}
 use Rattle.alt_ops_query.proofs.Filling.{last_push, filled_all, filled_front}
 use Rattle.alt_ops_query.proofs.Lists.{each_entry}
 use Rattle.alt_ops_query.proofs.Rests.{HasLast, has_last, walked, items_walked, rest_is}
 use Rattle.alt_paging.specs.declared.ask.PageAsk.{PageAsk}
+use Rattle.alt_request.specs.Steps.{IsMemory}
+use Rattle.alt_request.specs.declared.stop.Stop.{Stop}
 use Rattle.alt_value.specs.Members.{text_order}
 use Rattle.alt_value.specs.Tree.{Pair}
 
@@ -43,8 +46,9 @@ module _ (t : Table) (stored : (place : List ℕ) (item : List Pair)
   -- each entry of the range stands at its place
   at_places : All (λ e. place_of t.description e.1 ≡ Some e.0) (walked t from to forward)
   unfolding walked
-  at_places = All-turned _ forward _ (All-filter
-      (λ e. range_contains text_order (Included from) (end_bound to) e.0) _ (placed_items t)
+  at_places = All-turned (λ e. place_of t.description e.1 ≡ Some e.0) forward _ (All-filter
+      (λ e. range_contains text_order (Included from) (end_bound to) e.0)
+      (λ e. place_of t.description e.1 ≡ Some e.0) (placed_items t)
       (each_entry (λ e. place_of t.description e.1 ≡ Some e.0) (placed_items t)
       (finite.entries_sorted t.items)
       (λ place item at. stored place item (finite.get-entries t.items place ∙ at))))
@@ -69,7 +73,7 @@ module _ (t : Table) (stored : (place : List ℕ) (item : List Pair)
       ∙ ap (λ l. seen ++ l) (sym (map-append (λ (e : List ℕ × List Pair). e.1) end.front
       (end.last ∷ [])) ∙ ap (map (λ e. e.1)) (sym end.is) ∙ sym given)) ∙ is) in
       let at = All-last (λ e. place_of t.description e.1 ≡ Some e.0) end.front end.last
-      (subst (All (λ e. place_of t.description e.1 ≡ Some e.0)) end.is (All-take _ n all at_places)) in
+      (subst (All (λ e. place_of t.description e.1 ≡ Some e.0)) end.is (All-take (λ e. place_of t.description e.1 ≡ Some e.0) n all at_places)) in
       rest_is t forward from to first last n end.last end.front end.is
       (beyond end.last.0 (ap (place_of t.description) (sym same) ∙ at))
 
@@ -91,7 +95,7 @@ module _ (t : Table) (stored : (place : List ℕ) (item : List Pair)
   steps_some n = subst (All (λ i. i ≢ []))
       (sym (ap (take n) (items_walked t from to forward) ∙ take-map (λ e. e.1) n (walked t from to forward)))
       (some_items (take n (walked t from to forward))
-      (All-take _ n (walked t from to forward) at_places))
+      (All-take (λ e. place_of t.description e.1 ≡ Some e.0) n (walked t from to forward) at_places))
 
 -- ---- what a step comes to
 
@@ -148,3 +152,32 @@ module _ (t : Table) (stored : (place : List ℕ) (item : List Pair)
         sym (take-append-drop most list) ∙ ap (λ l. l ++ drop most list) (sym given)
             ∙ ap (λ l. items ++ l) (sym rests),
       )
+
+  -- its last item is at hand, and has a place
+  pub step_placed : (item : List Pair) × (place : List ℕ) × (filling.last ≡ Some item)
+      × (place_of t.description item ≡ Some place)
+  step_placed =
+      let all : List (List ℕ × List Pair) = walked t from to forward in
+      let is : items ≡ map (λ e. e.1) (take most all) =
+      given ∙ ap (take most) (items_walked t from to forward) ∙ take-map (λ e. e.1) most all in
+      let long : length items ≡ length (take most all) =
+      ap length is ∙ length-map (take most all) (λ (e : List ℕ × List Pair). e.1) in
+      let end : HasLast (take most all) = has_last (take most all) (omega (arith, some, many, long)) in
+      let split : items ≡ map (λ e. e.1) end.front ++ end.last.1 ∷ [] =
+      is ∙ ap (map (λ e. e.1)) end.is
+      ∙ map-append (λ (e : List ℕ × List Pair). e.1) end.front (end.last ∷ []) in (
+        end.last.1,
+        end.last.0,
+        h.last ∙ ap (λ l. last_or None (seen ++ l)) split
+            ∙ ap (last_or None) (sym (append_assoc seen (map (λ e. e.1) end.front) (end.last.1 ∷ [])))
+            ∙ last_push None (seen ++ map (λ e. e.1) end.front) end.last.1,
+        All-last (λ e. place_of t.description e.1 ≡ Some e.0) end.front end.last
+            (subst (All (λ e. place_of t.description e.1 ≡ Some e.0)) end.is
+            (All-take (λ e. place_of t.description e.1 ≡ Some e.0) most all (at_places t stored forward from to from to))),
+      )
+
+-- ---- faults
+
+-- memory was wanting: that is a fault of a call that reads
+pub memory_fault : (stop : Stop) → IsMemory stop → IsFault stop
+memory_fault stop e = subst IsFault (sym e) tt

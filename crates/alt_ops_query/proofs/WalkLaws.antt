@@ -84,8 +84,6 @@ module _ (now then : Filling) (ask : PageAsk) (t : Table) (forward : Bool)
   walk_ended h = subst (HasFilled then ask) (sym so.whole) h
 
 -- a page that doesn't go on has ended
-pub ended_by : (more ends : Bool) → more ≡ not ends → not more ≡ true → ends ≡ true
-ended_by true true e f = absurd (let g : ⊥ = cc in g)
-ended_by true false e f = absurd (let g : ⊥ = cc in g)
-ended_by false true e f = refl
-ended_by false false e f = absurd (let g : ⊥ = cc in g)
+pub ended_by : (more ends : Bool) → more ≡ not ends → more ≡ false → ends ≡ true
+ended_by more true e f = refl
+ended_by more false e f = absurd (let g : ⊥ = cc in g)

@@ -56,7 +56,9 @@ pub(crate) fn fill<D: Disk>(
     ensures stays { (s : State) → Stands (D.state disk.old) tables.old s ↔ Stands
         (D.state disk.new) tables.new s }
     ensures catalog { KeepsCatalog tables.old tables.new }
-    ensures fault { (s : State) → Stands (D.state disk.old) tables.old s → IfErr result IsFault }
+    ensures fault { (s : State) (t : Table) (ask : PageAsk) → Stands (D.state disk.old) tables.old s
+        → map.get s.tables table.now ≡ Some t → HasExamined filling.old ask []
+        → IfErr result IsFault }
     ensures disk { Reads (D.state disk.old) (D.state disk.new) }
     ensures failed { IfErrFailed result (Rose (D.state disk.old).faults (D.state disk.new).faults) }
 {
@@ -93,7 +95,9 @@ fn step<D: Disk>(
     ensures stays { (s : State) → Stands (D.state disk.old) tables.old s ↔ Stands
         (D.state disk.new) tables.new s }
     ensures catalog { KeepsCatalog tables.old tables.new }
-    ensures fault { (s : State) → Stands (D.state disk.old) tables.old s → IfErr result IsFault }
+    ensures fault { (s : State) (t : Table) (ask : PageAsk) (seen : List (List Pair))
+        → Stands (D.state disk.old) tables.old s → map.get s.tables table.now ≡ Some t
+        → HasExamined filling.old ask seen → IfErr result IsFault }
     ensures disk { Reads (D.state disk.old) (D.state disk.new) }
     ensures failed { IfErrFailed result (Rose (D.state disk.old).faults (D.state disk.new).faults) }
 {

@@ -1,6 +1,7 @@
 -- The page that was filled is answered as that of the list.
 use Rattle.std.proofs.Common.{◌≡◌, refl, sym, ap, subst, ◌∙◌, ℕ, Bool, true, false, List, [], ◌∷◌, length, map, Option, Some, None, Result, Ok, Err, IfOk, IfErr, option_map}
 use Rattle.std.specs.Prelude.{if◌then◌else◌, codes}
+use Rattle.std.specs.FinMap as finite
 use Rattle.std.specs.List.{last_or}
 use Rattle.serde_json.specs.Data.{Data, Members, member, no_members, number, unsigned, array}
 use Rattle.serde_json.specs.View.{view}
@@ -8,11 +9,12 @@ use Rattle.serde_json.specs.Written.{has_float}
 use Rattle.alt_codec.specs.Writing.{json_of_pairs}
 use Rattle.alt_expr.specs.Pages as pages
 use Rattle.alt_expr.specs.Pages.{Asked, examined, ends_early, parts, passed}
-use Rattle.alt_machine.specs.Lists.{selects, shown_items, items_json, key_attributes, page_answer, last_examined}
+use Rattle.alt_machine.specs.Lists.{selects, shown_items, items_json, key_attributes, page_answer, page_asked, last_examined}
 use Rattle.alt_machine.specs.Outcomes.{Outcome, says}
-use Rattle.alt_machine.specs.State.{State}
+use Rattle.alt_machine.specs.State.{State, Texts}
+use Rattle.alt_machine.specs.declared.Expressions.{Expressions}
 use Rattle.alt_ops_query.specs.Filled.{HasFilled}
-use Rattle.alt_ops_query.specs.Paged.{AnswersPage, answer_with}
+use Rattle.alt_ops_query.specs.Paged.{AnswersPage, HasLimit, answer_with, asked_page}
 use Rattle.alt_ops_query.specs.Replied.{page_of}
 use Rattle.alt_ops_query.specs.Stops.{IsFault, IfErrFailed}
 use Rattle.alt_ops_query.specs.declared.walking.Filling.{Filling}
@@ -125,3 +127,26 @@ pub stop_failed : {A : Type 0} (P : Type 0) (stop : Stop) → IfErrFailed {A = A
     → IfFailed (Err stop) P
 stop_failed P (Refused r) h = absurd h
 stop_failed P (Fault f) h = h
+
+-- what is asked of the page is what the request asks
+pub page_asks : (d : TableSchema) (ms : Members) (said : Expressions) (list : List (List Pair))
+    (ask : PageAsk) → ask ≡ asked_page ms said.condition said.projection → HasLimit ms
+    → answer_with d ms ask list ≡ page_answer d ms (pages.page_of (page_asked ms said) list)
+    (last_examined (page_asked ms said) list)
+page_asks d ms said list ask is limit =
+    ap (λ (a : PageAsk). answer_with d ms a list) is ∙ ap with_limit limit
+  where
+    asked : Option ℕ → Asked
+    asked most = record { limit = most; condition = said.condition; paths = said.projection }
+    with_limit : Option ℕ → Answer
+    with_limit most = page_answer d ms (pages.page_of (asked most) list)
+        (last_examined (asked most) list)
+
+-- the reply is that of the description at hand
+pub told_at : (catalog : Texts TableSchema) (name : List ℕ) (ms : Members) (filling : Filling)
+    (r : Result Reply Stop) (d : TableSchema) → finite.get catalog name ≡ Some d
+    → IfOk r (λ reply. (x : TableSchema) → finite.get catalog name ≡ Some x
+    → AnswersPage x ms filling (answer_of reply))
+    → IfOk r (λ reply. AnswersPage d ms filling (answer_of reply))
+told_at catalog name ms filling (Ok reply) d at h = h d at
+told_at catalog name ms filling (Err stop) d at h = tt

@@ -1,5 +1,6 @@
 pub mod Answering
 pub mod Beyond
+pub mod Described
 pub mod Filling
 pub mod Kept
 pub mod KeyKinds
@@ -12,6 +13,5 @@ pub mod Segments
 pub mod Shown
 pub mod Steps
 pub mod Stored
-pub mod Walking
 pub mod WalkLaws
 pub mod Whole

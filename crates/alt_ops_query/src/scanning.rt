@@ -127,6 +127,7 @@ fn tokens_of(alloc: Global, segment: Segment) -> Result<KeyRange, NoMemory>
     requires below { segment.number < segment.total }
     ensures tokens { IfOk result (λ r. (r.from ≡ token_bytes (first_token segment.number segment.total))
         × (r.to ≡ end_token (first_token (segment.number + 1) segment.total))) }
+    ensures few { segment.total ≤ 2 ^ 64 }
 {
     let Segment { number, total } = segment;
     let from = first_token(number, total) as u64;

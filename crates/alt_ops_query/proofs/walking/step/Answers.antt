@@ -4,7 +4,7 @@ use Rattle.alt_machine.specs.Keys.{place_of}
 use Rattle.alt_machine.specs.Walks.{items_between}
 use Rattle.alt_ops_query.specs.Filled.{Examines}
 use Rattle.alt_ops_query.proofs.Steps.{ended_so, last_so, memory_fault, step_on, step_placed, steps_some}
-use Rattle.alt_ops_query.proofs.Walking.{described, stored_at}
+use Rattle.alt_ops_query.proofs.Described.{described, stored_at}
 use Rattle.alt_value.specs.Tree.{Pair}
 use Rattle.alt_ops_query.proofs.walking.step.Goals as goal
 use Rattle.alt_ops_query.proofs.walking.step.Goals.{then-not-more-via-then-not-more, then-not-more-via-else-not-more+then-got-most}

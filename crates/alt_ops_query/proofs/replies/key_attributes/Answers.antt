@@ -16,8 +16,8 @@ returns c =
       key = elim c.match-schema.branch [
         | in-Some+in_ok-put_attribute-2 w ↦
             w.key-is ∙ w.in_ok-put_attribute-2.ensures.put
-            ∙ ap (with_attribute w.in-Some.range.now.name (at_name w.in-Some.range.now.name item)) one
-            ∙ key-two item c.len-count.ensures.item d w.in-Some.range.now (search rules)
+            ∙ ap (with_attribute w.in-Some.range.name (at_name w.in-Some.range.name item)) one
+            ∙ key-two item c.len-count.ensures.item d w.in-Some.range (search rules)
         | in_default w ↦ w.key-is ∙ one ∙ key-one item c.len-count.ensures.item d (search rules)
       ];
     }

@@ -1,5 +1,5 @@
 -- The range holds the items of the segment.
-use Rattle.std.proofs.Common.{◌+◌, ◌<◌, true, IfSome, Some, None, option_map, ap, subst, sym, ◌∙◌}
+use Rattle.std.proofs.Common.{rules, ◌+◌, ◌<◌, true, IfSome, Some, None, option_map, ap, subst, sym, ◌∙◌}
 use Rattle.alt_keyorder.specs.declared.range.KeyRange.{KeyRange}
 use Rattle.alt_machine.specs.Ops.Scan.{is_in}
 use Rattle.alt_ops_query.specs.Ranges.{HoldsListed, IsBeyond}

@@ -3,6 +3,7 @@ use Rattle.std.proofs.Common.{rules, sym, ap, subst, ◌∙◌, ◌++◌, ◌∷
 use Rattle.std.specs.Vec.Iter.{into_iter_items}
 use Rattle.std.proofs.Common.{append_assoc}
 use Rattle.alt_expr.specs.Pages.{ends_early}
+use Rattle.alt_ops_query.specs.Filled.{HasExamined}
 use Rattle.alt_ops_query.proofs.WalkLaws.{SoFar, one_more, next_some, ended_by}
 use Rattle.alt_ops_query.proofs.walking.examine.Goals as goal
 
@@ -16,12 +17,12 @@ returns-then-not-branch-clause-examines c ask seen h all =
     (c.loop-item.invariant.examined ask seen h all) in
     let got = c.in_ok-offered.ensures.examines ask (seen ++ so.front) so.examined
     (next_some before c.loop-item.filling items ahead c.in-Some.item ask seen so all) in
-    let then = one_more before c.loop-item.filling c.offered.new.filling items ahead c.in-Some.item
-    ask seen so got.0 in (
-      then.front,
+    (
+      so.front ++ c.in-Some.item ∷ [],
       ahead,
-      then.is,
-      then.examined,
+      so.is ∙ sym (append_assoc so.front (c.in-Some.item ∷ []) ahead),
+      subst (HasExamined c.offered.new.filling ask)
+          (append_assoc seen so.front (c.in-Some.item ∷ [])) got.0,
       ap (ends_early ask.limit) (sym (append_assoc seen so.front (c.in-Some.item ∷ [])))
           ∙ ended_by c.in_ok-offered.field-0 _ got.1 c.if-not-branch.true,
     )

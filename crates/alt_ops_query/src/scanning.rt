@@ -1,6 +1,6 @@
 //! Scan.
 
-ghost use Rattle.std.specs.Prelude.{◌≡◌, ◌+◌, ◌^◌, ◌<◌, ◌≤◌, false, IfOk, IfSome, option_map};
+ghost use Rattle.std.specs.Prelude.{◌≡◌, ◌+◌, ◌^◌, ◌<◌, ◌≤◌, [], false, None, IfOk, IfSome, option_map};
 ghost use Rattle.serde_json.specs.View.{members_view};
 ghost use Rattle.alt_machine.specs.Ops.Scan as machine;
 ghost use Rattle.alt_machine.specs.Ops.Scan.{scan, is_segment_odd};
@@ -115,7 +115,10 @@ fn segment_range(
 }
 
 /// All places.
-fn whole_range(alloc: Global) -> KeyRange {
+fn whole_range(alloc: Global) -> KeyRange
+    ensures from { result.from ≡ [] }
+    ensures to { result.to ≡ None }
+{
     KeyRange {
         from: Bytes::from_vec(Vec::new(alloc)),
         to: None,

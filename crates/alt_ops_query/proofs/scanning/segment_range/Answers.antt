@@ -1,5 +1,5 @@
 -- The range holds the items of the segment.
-use Rattle.std.proofs.Common.{rules, ◌+◌, ◌<◌, true, IfSome, Some, None, option_map, ap, subst, sym, ◌∙◌}
+use Rattle.std.proofs.Common.{◌+◌, ◌<◌, true, IfSome, Some, None, option_map, ap, subst, sym, ◌∙◌}
 use Rattle.alt_keyorder.specs.declared.range.KeyRange.{KeyRange}
 use Rattle.alt_machine.specs.Ops.Scan.{is_in}
 use Rattle.alt_ops_query.specs.Ranges.{HoldsListed, IsBeyond}
@@ -39,8 +39,11 @@ returns c =
               subst (λ o. HoldsListed true place (is_in d (option_map segment_in o)) d first last)
               (sym w.in-None.is)
               (whole_holds d place first last
-              (subst (λ (r : KeyRange). IsBeyond true place r.from r.to first last)
-              (search rules) beyond))
+              (subst (λ x. IsBeyond true place x None first last)
+              (ap (λ (r : KeyRange). r.from) w.range-is ∙ w.whole_range-range.ensures.from)
+              (subst (λ x. IsBeyond true place c.match-segment.range.from x first last)
+              (ap (λ (r : KeyRange). r.to) w.range-is ∙ w.whole_range-range.ensures.to)
+              beyond)))
         ];
       };
     }

@@ -50,3 +50,8 @@ steps-preserved g c = record {
   going = subst (λ o. IfSome o (λ r. has_ended c.step.new.filling.pager ≡ false))
       c.in-Ok-Some.field-0-is c.in-Ok-Some.ensures.going;
 }
+
+pub returns-in-Err-clause-fault : goal.returns-in-Err-clause-fault
+returns-in-Err-clause-fault g c s t ask stands at h =
+    let so = c.steps.invariant.walked s t ask stands at h in
+    c.in-Err.ensures.fault s t ask so.seen ((c.steps.invariant.stays s).0 stands) at so.examined

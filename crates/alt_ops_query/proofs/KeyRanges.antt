@@ -4,7 +4,7 @@ use Rattle.std.specs.Prelude.{◌↔◌}
 use Rattle.std.specs.BTreeMap.Range.{range_contains}
 use Rattle.std.specs.Cmp.{both_ways}
 use Rattle.std.specs.declared.ops.Bound.TheVariants.{Included}
-use Rattle.alt_expr.specs.Holds.{same}
+use Rattle.alt_expr.specs.Holds.{equal, same}
 use Rattle.alt_expr.specs.KeyForm.{Key, Ask, ask_of, in_range, meets, range_meets}
 use Rattle.alt_expr.specs.Pages.{passes}
 use Rattle.alt_expr.specs.declared.cond.Cond.{Cond}
@@ -92,12 +92,8 @@ module _ (d : TableSchema) (condition : Option Cond) (ask : KeyAsk)
       → passes condition item
       ≡ (same keys.hash (tree_of ask.hash) && in_range (test_of ask.range) keys.range)
   passes_is key item keys = holds item
-      ∙ (λ i. equal_at (keys.has_hash.at i) && range_test item d.range keys.range ask.range
+      ∙ (λ i. equal (keys.has_hash.at i) (Some (tree_of ask.hash)) && range_test item d.range keys.range ask.range
       keys.has_range range_kind i)
-    where
-      equal_at : Option Tree → Bool
-      equal_at (Some t) = same t (tree_of ask.hash)
-      equal_at None = false
 
   pub holds_listed : (forward : Bool) (place : Option (List ℕ)) (from : List ℕ)
       (to : Option (List ℕ)) (first : List ℕ) (last : Option (List ℕ)) → HoldsAsked ask from to

@@ -1,5 +1,5 @@
 -- The places of stored items are bytes.
-use Rattle.std.proofs.Common.{◌≡◌, refl, sym, ap, subst, ◌∙◌, ℕ, zero, suc, ◌+◌, ◌-◌, ◌*◌, ◌<◌, ◌≤◌, ◌^◌, ◌/◌, ◌==◌, cond, Bool, true, false, ◌&&◌, ⊎_elim, List, [], ◌∷◌, ◌++◌, map, length, Option, Some, None, ℤ, pos, nat_abs, arith}
+use Rattle.std.proofs.Common.{◌≡◌, refl, sym, ap, subst, ◌∙◌, ℕ, zero, suc, ◌+◌, ◌-◌, ◌*◌, ◌<◌, ◌≤◌, ◌^◌, ◌/◌, ◌%◌, ◌==◌, cond, ltb, Bool, true, false, ◌&&◌, ⊎_elim, List, [], ◌∷◌, ◌++◌, map, length, Option, Some, None, ℤ, pos, nat_abs, arith}
 use Rattle.std.proofs.Math.Utf8.{scalar, scalars, encode, encodes, scalar_cases}
 use Rattle.std.proofs.lemmas.Int.Digits.{all_below_base_digits_of, length-digits_of-le}
 use Rattle.std.specs.Int.{w64, to_be_bytes, is_negative}
@@ -54,24 +54,30 @@ character_bytes : (c : ℕ) → scalar c ≡ true → AreBytes (encode c)
 unfolding encode
 character_bytes c ok =
     let most : c < 1114112 = scalar_below c ok in
-    by_test _ _ _ (λ e. let low : c < 128 = grind (arith, e) in (omega (arith, low), tt))
-    (λ e. by_test _ _ _
+    let next : ℕ → ℕ = λ bits. 128 + bits % 64 in
+    let four : List ℕ =
+    (240 + c / 262144) ∷ next (c / 4096) ∷ next (c / 64) ∷ next c ∷ [] in
+    let three : List ℕ = (224 + c / 4096) ∷ next (c / 64) ∷ next c ∷ [] in
+    let two : List ℕ = (192 + c / 64) ∷ next c ∷ [] in
+    by_test (ltb c 128) (c ∷ []) (cond (ltb c 2048) two (cond (ltb c 65536) three four)) (λ e. let low : c < 128 = grind (arith, e) in (omega (arith, low), tt))
+    (λ e. by_test (ltb c 2048) two (cond (ltb c 65536) three four)
     (λ f. let low : c < 2048 = grind (arith, f) in (omega (arith, low), (omega arith, tt)))
-    (λ f. by_test _ _ _
+    (λ f. by_test (ltb c 65536) three four
     (λ g. let low : c < 65536 = grind (arith, g) in
     (omega (arith, low), (omega arith, (omega arith, tt))))
     (λ g. (omega (arith, most), (omega arith, (omega arith, (omega arith, tt)))))))
 
 characters_bytes : (cs : List ℕ) → scalars cs ≡ true → AreBytes (encodes cs)
 characters_bytes [] ok = tt
-characters_bytes (c ∷ cs) ok = by (scalar c) refl ok
+characters_bytes (c ∷ cs) ok = by (scalar c) refl ok (λ e. characters_bytes cs e)
   where
-    by : (b : Bool) → scalar c ≡ b → (b && scalars cs) ≡ true → AreBytes (encode c ++ encodes cs)
-    by true is e = both_bytes (encode c) (encodes cs) (character_bytes c is) (characters_bytes cs e)
-    by false is e = absurd (let f : ⊥ = cc in f)
+    by : (b : Bool) → scalar c ≡ b → (b && scalars cs) ≡ true
+        → (scalars cs ≡ true → AreBytes (encodes cs)) → AreBytes (encode c ++ encodes cs)
+    by true is e rest = both_bytes (encode c) (encodes cs) (character_bytes c is) (rest e)
+    by false is e rest = absurd (let f : ⊥ = cc in f)
 
 text_bytes : (s : List ℕ) → IsUtf8 s → AreBytes s
-text_bytes s (cs, ok, is) = subst AreBytes is (characters_bytes cs ok)
+text_bytes s u = subst AreBytes u.1.1 (characters_bytes u.0 u.1.0)
 
 -- ---- numbers
 

@@ -118,15 +118,15 @@ fault_does now s outcome (Fault (BadRow family key)) h stands = absurd h
 fault_does now s outcome (Fault Failed) h stands = tt
 fault_does now s outcome (Fault NoMemory) h stands = (0, none_made outcome.atoms, refl, stands)
 
-pub stop_plain : {A : Type 0} (P : Type 0) (stop : Stop) → IfErrFailed {A = A} (Err stop) P
+pub stop_plain : (A : Type 0) (P : Type 0) (stop : Stop) → IfErrFailed {A = A} (Err stop) P
     → IsPlain (Err stop)
-stop_plain P (Refused r) h = absurd h
-stop_plain P (Fault f) h = tt
+stop_plain A P (Refused r) h = absurd h
+stop_plain A P (Fault f) h = tt
 
-pub stop_failed : {A : Type 0} (P : Type 0) (stop : Stop) → IfErrFailed {A = A} (Err stop) P
+pub stop_failed : (A : Type 0) (P : Type 0) (stop : Stop) → IfErrFailed {A = A} (Err stop) P
     → IfFailed (Err stop) P
-stop_failed P (Refused r) h = absurd h
-stop_failed P (Fault f) h = h
+stop_failed A P (Refused r) h = absurd h
+stop_failed A P (Fault f) h = h
 
 -- what is asked of the page is what the request asks
 pub page_asks : (d : TableSchema) (ms : Members) (said : Expressions) (list : List (List Pair))

@@ -1,0 +1,74 @@
+-- A page as JSON.
+use Rattle.std.proofs.Common.{◌≡◌, refl, sym, ap, ◌∙◌, ℕ, Bool, true, false, List, [], ◌∷◌, Option, Some, None, option_map}
+use Rattle.std.specs.Prelude.{if◌then◌else◌, codes}
+use Rattle.serde_json.specs.Data.{Data, number, unsigned, array, item, Members, no_members, member, put}
+use Rattle.serde_json.specs.Written.{has_float, items_have_float, members_have_float}
+use Rattle.alt_codec.specs.Writing.{json_of_pairs}
+use Rattle.alt_codec.proofs.Plain.{pairs_plain}
+use Rattle.alt_expr.specs.Pages.{Page}
+use Rattle.alt_machine.specs.Lists.{selects, shown_items, items_json, key_attributes, page_answer}
+use Rattle.alt_ops_query.specs.Replied.{put_if}
+use Rattle.alt_schema.specs.Json.{items_by, member_if}
+use Rattle.alt_schema.specs.declared.schema.TableSchema.{TableSchema}
+use Rattle.alt_shape.proofs.Plain.{items_have_float-item, no_float_either}
+use Rattle.alt_value.specs.Tree.{Pair}
+
+pub items_by-pairs : (items : List (List Pair)) → items_by json_of_pairs items ≡ items_json items
+items_by-pairs [] = refl
+items_by-pairs (i ∷ items) = ap (λ ds. item (json_of_pairs i) ds) (items_by-pairs items)
+
+-- ---- the members are put in the order of their names
+
+pub members_put : (count scanned : Data) (items last : Option Data) → put (codes "ScannedCount") scanned
+    (put_if (codes "LastEvaluatedKey") last (put_if (codes "Items") items
+    (put (codes "Count") count no_members)))
+    ≡ member (codes "Count") count (member_if (codes "Items") items
+    (member_if (codes "LastEvaluatedKey") last (member (codes "ScannedCount") scanned no_members)))
+members_put count scanned None None = refl
+members_put count scanned (Some i) None = refl
+members_put count scanned None (Some l) = refl
+members_put count scanned (Some i) (Some l) = refl
+
+-- ---- no float stands in it
+
+items_plain : (items : List (List Pair)) → items_have_float (items_json items) ≡ false
+items_plain [] = refl
+items_plain (i ∷ items) = items_have_float-item (json_of_pairs i) (items_json items)
+    (pairs_plain i) (items_plain items)
+
+members_plain : (items last : Option Data) (count scanned : ℕ)
+    → ((d : Data) → items ≡ Some d → has_float d ≡ false)
+    → ((d : Data) → last ≡ Some d → has_float d ≡ false)
+    → members_have_float (member (codes "Count") (number (unsigned count))
+    (member_if (codes "Items") items (member_if (codes "LastEvaluatedKey") last
+    (member (codes "ScannedCount") (number (unsigned scanned)) no_members)))) ≡ false
+members_plain None None count scanned h k = refl
+members_plain (Some i) None count scanned h k = no_float_either (has_float i) false (h i refl) refl
+members_plain None (Some l) count scanned h k = no_float_either (has_float l) false (k l refl) refl
+members_plain (Some i) (Some l) count scanned h k = no_float_either (has_float i)
+    (members_have_float (member (codes "LastEvaluatedKey") l
+    (member (codes "ScannedCount") (number (unsigned scanned)) no_members)))
+    (h i refl) (no_float_either (has_float l) false (k l refl) refl)
+
+shown_plain : (ms : Members) (items : List (List Pair)) (d : Data)
+    → shown_items ms items ≡ Some d → has_float d ≡ false
+shown_plain ms items d = by (selects (codes "COUNT") ms)
+  where
+    by : (c : Bool) → (if c then None else Some (array (items_json items))) ≡ Some d
+        → has_float d ≡ false
+    by true e = absurd (let f : ⊥ = cc in f)
+    by false e = let is : array (items_json items) ≡ d = cc in
+        ap has_float (sym is) ∙ items_plain items
+
+last_plain : (schema : TableSchema) (last : Option (List Pair)) (d : Data)
+    → option_map (λ i. json_of_pairs (key_attributes schema i)) last ≡ Some d → has_float d ≡ false
+last_plain schema None d e = absurd (let f : ⊥ = cc in f)
+last_plain schema (Some i) d e =
+    let is : json_of_pairs (key_attributes schema i) ≡ d = cc in
+    ap has_float (sym is) ∙ pairs_plain (key_attributes schema i)
+
+pub answer_plain : (d : TableSchema) (ms : Members) (page : Page) (last : Option (List Pair))
+    → has_float (page_answer d ms page last).body ≡ false
+answer_plain d ms page last = members_plain (shown_items ms page.items)
+    (option_map (λ i. json_of_pairs (key_attributes d i)) last) page.count page.scanned
+    (shown_plain ms page.items) (last_plain d last)

@@ -1,0 +1,83 @@
+-- The list isn't reached, or its page is answered.
+use Rattle.std.proofs.Common.{sym, subst, ◌∙◌, Ok, Err}
+use Rattle.serde_json.specs.Data.{Members}
+use Rattle.serde_json.specs.View.{members_view}
+use Rattle.alt_machine.specs.Body.{paired_refusals}
+use Rattle.alt_machine.specs.Expressions.{querying}
+use Rattle.alt_machine.specs.Lists.{pages}
+use Rattle.alt_machine.specs.Ops.Query.{rules, query, queries}
+use Rattle.alt_machine.specs.Walks.{items_between}
+use Rattle.alt_ops_query.specs.Asked.{Asks}
+use Rattle.alt_ops_query.proofs.Limited.{none_broken, query_limit}
+use Rattle.alt_ops_query.proofs.Whole.{query_is, query_done, query_stopped, asks_unfailed}
+use Rattle.alt_request.proofs.Listing.{list_passed, list_unfailed}
+use Rattle.alt_request.proofs.Moving.{moves_stopped, moves_nothing, moves_reads}
+use Rattle.alt_request.specs.Carried.{Does}
+use Rattle.alt_tables.specs.Stands.{Stands, catalog_of}
+use Rattle.alt_ops_query.proofs.querying.query.Goals as goal
+
+pub returns-in_err-target-clause-carried : goal.returns-in_err-target-clause-carried
+returns-in_err-target-clause-carried g c =
+    let ms : Members = members_view c.args.body.now.entries in
+    list_passed (g.D.Disk.state c.args.disk.now) c.args.tables.now
+    (paired_refusals c.query-broken.result c.is_mismatched-mismatched.result rules ms) ms (λ s. query s ms) querying
+    (λ s. queries ms) (query_is ms c.query-broken.result c.is_mismatched-mismatched.result c.query-broken.ensures c.is_mismatched-mismatched.ensures)
+    (Stands (g.D.Disk.state c.args.disk.now) c.args.tables.now)
+    c.from_residual.result c.in_err-target.field-0.0 c.from_residual.ensures
+    c.in_err-target.ensures.target (λ s stands. stands)
+
+pub returns-in_err-target-clause-moves : goal.returns-in_err-target-clause-moves
+returns-in_err-target-clause-moves g c =
+    let ms : Members = members_view c.args.body.now.entries in
+    moves_stopped (λ s. query s ms) c.args.tables.now (g.D.Disk.state c.args.disk.now)
+    c.from_residual.result c.in_err-target.field-0.0 c.from_residual.ensures
+    (list_unfailed _ (paired_refusals c.query-broken.result c.is_mismatched-mismatched.result rules ms) querying
+    (catalog_of c.args.tables.now) ms c.in_err-target.field-0.0 c.in_err-target.ensures.target)
+
+pub page_of_range-requires-clause-limit : goal.page_of_range-requires-clause-limit
+page_of_range-requires-clause-limit g c =
+    let ms : Members = members_view c.args.body.now.entries in
+    query_limit ms (sym c.query-broken.ensures ∙ none_broken c.query-broken.result c.is_mismatched-mismatched.result rules ms
+    c.in_ok-target.ensures.target.listed.body)
+
+pub returns-in-Ok-clause-carried : goal.returns-in-Ok-clause-carried
+returns-in-Ok-clause-carried g c =
+    let ms : Members = members_view c.args.body.now.entries in
+    query_done (g.D.Disk.state c.args.disk.now) c.args.tables.now
+    (Stands (g.D.Disk.state c.page_of_range.new.disk) c.page_of_range.new.tables) ms
+    c.in_ok-target.target c.in-Ok.range c.page_of_range.result c.page_of_range.ensures.plain
+    c.query-broken.result c.is_mismatched-mismatched.result c.query-broken.ensures
+    c.is_mismatched-mismatched.ensures c.in_ok-target.ensures.target
+    (subst (λ b. Asks c.in_ok-target.target.schema.now c.in_ok-target.target.said.key_condition
+    c.in_ok-target.target.start b (Ok c.in-Ok.range)) c.goes_forward-forward.ensures
+    c.in-Ok.ensures.asks)
+    (λ s t stands at. subst (λ b. Does
+    (Stands (g.D.Disk.state c.page_of_range.new.disk) c.page_of_range.new.tables) s
+    (pages t.description ms c.in_ok-target.target.said
+    (items_between t c.in-Ok.range.from c.in-Ok.range.to b)) c.page_of_range.result)
+    c.goes_forward-forward.ensures (c.page_of_range.ensures.does s t stands at))
+
+pub returns-in-Ok-clause-moves : goal.returns-in-Ok-clause-moves
+returns-in-Ok-clause-moves g c =
+    moves_reads (λ s. query s (members_view c.args.body.now.entries)) c.args.tables.now
+    (g.D.Disk.state c.args.disk.now) (g.D.Disk.state c.page_of_range.new.disk)
+    c.page_of_range.result c.page_of_range.ensures.disk c.page_of_range.ensures.failed
+
+pub returns-clause-carried : goal.returns-clause-carried
+returns-clause-carried g c =
+    let ms : Members = members_view c.args.body.now.entries in
+    query_stopped (g.D.Disk.state c.args.disk.now) c.args.tables.now
+    (Stands (g.D.Disk.state c.args.disk.now) c.args.tables.now) ms
+    c.in_ok-target.target c.in-Err.stop (λ s stands. stands)
+    c.query-broken.result c.is_mismatched-mismatched.result c.query-broken.ensures
+    c.is_mismatched-mismatched.ensures c.in_ok-target.ensures.target
+    (subst (λ b. Asks c.in_ok-target.target.schema.now c.in_ok-target.target.said.key_condition
+    c.in_ok-target.target.start b (Err c.in-Err.stop)) c.goes_forward-forward.ensures
+    c.in-Err.ensures.asks)
+
+pub returns-clause-moves : goal.returns-clause-moves
+returns-clause-moves g c =
+    moves_nothing (λ s. query s (members_view c.args.body.now.entries)) c.args.tables.now
+    (g.D.Disk.state c.args.disk.now) _
+    (asks_unfailed _ c.in_ok-target.target.schema.now c.in_ok-target.target.said.key_condition
+    c.in_ok-target.target.start c.goes_forward-forward.result c.in-Err.stop c.in-Err.ensures.asks)

@@ -1,0 +1,110 @@
+-- What a cache holds stays right while the disk reads the same.
+use Rattle.std.proofs.Common.{◌≡◌, ◌⊎◌, ◌==◌, ◌&&◌, ◌-◌, inl, inr, ⊎_elim, min, ℕ, Bool, true, false, List, Some, IsTrue, refl, sym, ap, subst, ◌∙◌, take, drop, length, Contains, arith}
+use Rattle.std.specs.Map.{lookup}
+use Rattle.std.proofs.lemmas.Bool.{false≢true}
+use Rattle.std.proofs.lemmas.List.{take-take, take-append-drop, take_at, length-take, length-drop}
+use Rattle.lru.specs.LruCache.{LruCache, promoted, put_entries}
+use Rattle.lru.proofs.CallerLemmas.{Contains-put_entries, Contains-promoted, Contains-lookup}
+use Rattle.alt_disk.specs.Disk.{DiskState, Read, bytes_or_none}
+use Rattle.alt_blocks.specs.Places.{Keeps, Agrees, Within, Adds, Place, given, same_place}
+use Rattle.alt_blocks.specs.declared.cache.BlockCache.{BlockCache}
+
+pub agrees_same : (a b : DiskState) (cache : BlockCache) → ((g : ℕ) → b.file g ≡ a.file g)
+    → Agrees a cache → Agrees b cache
+agrees_same a b cache same h = λ p bytes c.
+    h p bytes c ∙ ap (λ (l : List ℕ). take p.2 (drop p.1 l)) (ap bytes_or_none (sym (same p.0)))
+
+pub agrees_on : (a b : DiskState) (cache : BlockCache) → (IsTrue a.tells → Agrees a cache)
+    → b.tells ≡ a.tells
+    → (IsTrue a.tells → (g : ℕ) → b.file g ≡ a.file g) → IsTrue b.tells → Agrees b cache
+agrees_on a b cache h tells same told =
+    let t : IsTrue a.tells = subst (λ (v : Bool). IsTrue v) tells told in
+    agrees_same a b cache (same t) (h t)
+
+-- places that test the same are the same
+and_true : (a b : Bool) → (a && b) ≡ true → (a ≡ true) × (b ≡ true)
+and_true true b e = (refl, e)
+and_true false b e = absurd (false≢true e)
+
+same_number : (m n : ℕ) → (m == n) ≡ true → m ≡ n
+same_number m n e = grind arith
+
+pub same_is : (p q : Place) → same_place p q ≡ true → p ≡ q
+same_is p q e =
+    let two = and_true ((p.0 == q.0) && (p.1 == q.1)) (p.2 == q.2) e in
+    let one = and_true (p.0 == q.0) (p.1 == q.1) two.0 in
+    let a = same_number p.0 q.0 one.0 in
+    let b = same_number p.1 q.1 one.1 in
+    let c = same_number p.2 q.2 two.1 in
+    (λ i. (a i, b i, c i))
+
+-- what is found at a place is what is kept there
+pub found : (cache : BlockCache) (place : Place) (bytes : List ℕ)
+    → lookup (same_place place) cache.places.entries ≡ Some bytes → Keeps cache place bytes
+found cache place bytes there =
+    let e = Contains-lookup (same_place place) cache.places.entries bytes there in
+    subst (λ (p : Place). Keeps cache p bytes) (sym (same_is place e.0 e.2)) e.1
+
+-- the same places in another order
+pub within_promoted : (old new : List (Place × List ℕ)) (test : Place → Bool)
+    → new ≡ promoted test old → (p : Place) (bytes : List ℕ) → Contains new (p, bytes)
+    → Contains old (p, bytes)
+within_promoted old new test is p bytes kept = Contains-promoted test old (p, bytes)
+    (subst (λ (l : List (Place × List ℕ)). Contains l (p, bytes)) is kept)
+
+pub agrees_within : (s : DiskState) (old new : BlockCache) → Within old new → Agrees s old
+    → Agrees s new
+agrees_within s old new within h p bytes kept = h p bytes (within p bytes kept)
+
+-- one place more
+pub adds_put : (old : LruCache Place (List ℕ)) (new : List (Place × List ℕ)) (place : Place)
+    (bytes : List ℕ) → new ≡ put_entries same_place old place bytes → (p : Place) (b : List ℕ)
+    → Contains new (p, b) → Contains old.entries (p, b) ⊎ ((p ≡ place) × (b ≡ bytes))
+adds_put old new place bytes is p b kept = ⊎_elim (λ before. inl before)
+    (λ put. inr (at_place put.1, put.0))
+    (Contains-put_entries same_place old place bytes (p, b)
+    (subst (λ (l : List (Place × List ℕ)). Contains l (p, b)) is kept))
+  where
+    at_place : (p ≡ place)
+        ⊎ ((w : List ℕ) × Contains old.entries (p, w) × (same_place place p ≡ true)) → p ≡ place
+    at_place (inl e) = e
+    at_place (inr o) = sym (same_is place p o.2)
+
+pub agrees_adds : (s : DiskState) (old new : BlockCache) (place : Place) (bytes : List ℕ)
+    → Adds old new place bytes → bytes ≡ given s place → Agrees s old → Agrees s new
+agrees_adds s old new place bytes adds is h p b kept = ⊎_elim (λ before. h p b before)
+    (λ put. put.1 ∙ is ∙ ap (given s) (sym put.0)) (adds p b kept)
+
+pub adds_within : (old middle new : BlockCache) (place : Place) (bytes : List ℕ)
+    → Within old middle → Adds middle new place bytes → Adds old new place bytes
+adds_within old middle new place bytes within adds p b kept = ⊎_elim
+    (λ before. inl (within p b before)) (λ put. inr put) (adds p b kept)
+
+pub adds_none : (old new : BlockCache) (place : Place) (bytes : List ℕ) → Within old new
+    → Adds old new place bytes
+adds_none old new place bytes within p b kept = inl (within p b kept)
+
+-- bytes that the disk gives are what a read gives
+pub read_given : (whole old new bytes : List ℕ) (at count : ℕ)
+    → bytes ≡ take (length old) (drop at whole) → count ≡ min (length old) (length bytes)
+    → take count new ≡ take count bytes → Read whole at old new count
+read_given whole old new bytes at count is size front =
+    let long : length bytes ≡ min (length old) (length whole - at) =
+    omega
+    (arith, ap length is, length-take (length old) (drop at whole), length-drop at whole) in
+    record {
+      count_is = omega (arith, size, long);
+      front = front ∙ ap (take count) is
+          ∙ take-take count (length old) (drop at whole) (omega (arith, size));
+    }
+
+-- and back: a read gives what the disk gives there
+pub given_read : (whole old new : List ℕ) (at count : ℕ) → Read whole at old new count
+    → take count new ≡ take (length old) (drop at whole)
+given_read whole old new at count read =
+    let bytes = take (length old) (drop at whole) in
+    let size : count ≡ length bytes =
+    omega (arith, read.count_is, length-take (length old) (drop at whole), length-drop at whole)
+    in
+    read.front ∙ ap (take count) (sym (take-append-drop (length old) (drop at whole)))
+    ∙ take_at bytes (drop (length old) (drop at whole)) count (sym size)

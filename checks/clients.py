@@ -5,7 +5,7 @@ import threading
 from decimal import Decimal
 
 import boto3
-from boto3.dynamodb.conditions import Attr
+from boto3.dynamodb.conditions import Attr, Key
 from botocore.config import Config
 from botocore.exceptions import ClientError
 
@@ -82,7 +82,34 @@ wants("none there", "Item" in table.get_item(Key={"Artist": "x", "Year": 1}), Fa
 for n in range(200):
     table.put_item(Item={"Artist": f"a{n % 7}", "Year": n})
 wants("the last of 200", table.get_item(Key={"Artist": "a3", "Year": 199})["Item"]["Year"], 199)
-
+years = [n for n in range(200) if n % 7 == 3]
+some = Key("Artist").eq("a3") & Key("Year").between(20, 100)
+wants(
+    "a query by range, backward",
+    [int(item["Year"]) for item in table.query(KeyConditionExpression=some, ScanIndexForward=False)["Items"]],
+    [year for year in reversed(years) if 20 <= year <= 100],
+)
+pages = client.get_paginator("query").paginate(
+    TableName="Music",
+    KeyConditionExpression="Artist = :a",
+    FilterExpression="#y > :y",
+    ExpressionAttributeNames={"#y": "Year"},
+    ExpressionAttributeValues={":a": {"S": "a3"}, ":y": {"N": "50"}},
+    PaginationConfig={"PageSize": 4},
+)
+found = [[int(item["Year"]["N"]) for item in page["Items"]] for page in pages]
+wants("a query page by page", [year for page in found for year in page], [year for year in years if year > 50])
+wants("its pages", max(len(page) for page in found) <= 4 and len(found) > 5, True)
+whole = client.get_paginator("scan").paginate(TableName="Music", PaginationConfig={"PageSize": 9}).build_full_result()
+parts = [table.scan(Segment=n, TotalSegments=4)["Items"] for n in range(4)]
+wants("a scan page by page", len(whole["Items"]), 201)
+wants("a scan in four segments", sum(len(part) for part in parts), 201)
+wants("how many there are", table.scan(Select="COUNT")["Count"], 201)
+wants(
+    "a condition that asks for no HASH value",
+    error_of(table.query, KeyConditionExpression=Key("Year").eq(1)),
+    "ValidationException",
+)
 
 key = {"Artist": "Acme", "Year": 1}
 table.put_item(Item={**key, "Awards": 2}, ConditionExpression=Attr("Artist").not_exists())

@@ -21,6 +21,7 @@ use crate::bodies;
 use alt_disk::Disk;
 use alt_machine::Operation;
 use alt_ops_item::{delete_item, get_item, put_item, update_item};
+use alt_ops_query::{query, scan};
 use alt_ops_table::{create_table, delete_table, describe_table, list_tables};
 use alt_request::Stop;
 use alt_shape::{Refusal, Reply, refuse};
@@ -29,7 +30,7 @@ use serde_json::{Map, Value};
 use std::alloc::Global;
 
 /// The operations that are built, by name.
-static OPERATIONS: [(&str, Operation); 8] = [
+static OPERATIONS: [(&str, Operation); 10] = [
     ("CreateTable", Operation::CreateTable),
     ("DescribeTable", Operation::DescribeTable),
     ("ListTables", Operation::ListTables),
@@ -38,6 +39,8 @@ static OPERATIONS: [(&str, Operation); 8] = [
     ("GetItem", Operation::GetItem),
     ("DeleteItem", Operation::DeleteItem),
     ("UpdateItem", Operation::UpdateItem),
+    ("Query", Operation::Query),
+    ("Scan", Operation::Scan),
 ];
 
 /// The built operation of that name, `None` exactly where there is none.
@@ -155,5 +158,7 @@ fn carry_out<D: Disk>(
         Operation::GetItem => get_item(alloc, tables, disk, body, moment),
         Operation::DeleteItem => delete_item(alloc, tables, disk, body, moment),
         Operation::UpdateItem => update_item(alloc, tables, disk, body, moment),
+        Operation::Query => query(alloc, tables, disk, body, moment),
+        Operation::Scan => scan(alloc, tables, disk, body, moment),
     }
 }

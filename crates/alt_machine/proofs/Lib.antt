@@ -8,6 +8,7 @@ pub mod FullChanges
 pub mod FullTerms
 pub mod KeyStays
 pub mod Lacks
+pub mod Lists
 pub mod Looks
 pub mod Made
 pub mod Names

@@ -22,7 +22,7 @@ use Rattle.alt_machine.specs.Members.{unless_fault}
 use Rattle.alt_machine.specs.Refusals.{first_answer, refuse_if, unless_answer, ◌>>=◌}
 use Rattle.alt_machine.proofs.Full.{PairsFull, ViewFull}
 use Rattle.alt_machine.proofs.FullActions.{ActionsFull, full-update}
-use Rattle.alt_machine.proofs.Spoken.{condition_said, update_said, paths_said, with_paths, with_update, with_condition, all_said}
+use Rattle.alt_machine.proofs.Spoken.{keys_said, condition_said, update_said, paths_said, with_paths, with_update, with_condition, with_keys, all_said}
 use Rattle.alt_machine.proofs.Tests.{if_fails}
 use Rattle.alt_schema.specs.declared.schema.TableSchema.{TableSchema}
 use Rattle.alt_shape.specs.Refusals.{Answer, key_update, unused_name}
@@ -81,14 +81,20 @@ given_full texts ms g e =
 
 module _ (texts : Texts) (d : TableSchema) (ms : Members) (g : Given) where
   -- where the tests of all texts refuse nothing
-  untested : (condition : Option Cond) (update : Option (List Action))
+  untested : (keys condition : Option Cond) (update : Option (List Action))
       (paths : Option (List (List PathPart))) (said : Expressions)
-      → with_paths texts d ms g condition update paths ≡ Ok said
+      → with_paths texts d ms g keys condition update paths ≡ Ok said
       → (update ≡ said.update) × (changes_key d update ≡ false)
-  untested condition update paths said e = by (first_answer (of_texts texts d ms g update)) refl e
+  untested keys condition update paths said e =
+      by (first_answer (of_texts texts d ms g update)) refl e
     where
       all : Expressions
-      all = record { condition = condition; update = update; projection = paths }
+      all = record {
+        key_condition = keys;
+        condition = condition;
+        update = update;
+        projection = paths;
+      }
 
       by : (o : Option Answer) → first_answer (of_texts texts d ms g update) ≡ o
           → unless_answer o all ≡ Ok said
@@ -104,13 +110,15 @@ module _ (texts : Texts) (d : TableSchema) (ms : Members) (g : Given) where
   pub says_update : (said : Expressions) → expressions texts d ms g ≡ Ok said
       → (update_said texts d ms g ≡ Ok said.update) × (changes_key d said.update ≡ false)
   says_update said e =
-      let condition = found_first (condition_said texts d ms g) (with_condition texts d ms g) said
+      let keys = found_first (keys_said texts d ms g) (with_keys texts d ms g) said
       (sym (all_said texts d ms g) ∙ e) in
+      let condition = found_first (condition_said texts d ms g)
+      (with_condition texts d ms g keys.0) said keys.2 in
       let update = found_first (update_said texts d ms g)
-      (with_update texts d ms g condition.0) said condition.2 in
+      (with_update texts d ms g keys.0 condition.0) said condition.2 in
       let paths = found_first (paths_said texts d ms g)
-      (with_paths texts d ms g condition.0 update.0) said update.2 in
-      let passed = untested condition.0 update.0 paths.0 said paths.2 in
+      (with_paths texts d ms g keys.0 condition.0 update.0) said update.2 in
+      let passed = untested keys.0 condition.0 update.0 paths.0 said paths.2 in
       (update.1 ∙ ap Ok passed.0, ap (changes_key d) (sym passed.0) ∙ passed.1)
 
 module _ (view : View) (g : Given) (full : ViewFull view) (values : PairsFull g.values) where

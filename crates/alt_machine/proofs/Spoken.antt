@@ -64,6 +64,9 @@ colons_noted text old new a h = h.2
 
 module _ (texts : Texts) (d : TableSchema) (ms : Members) (g : Given) where
   -- what the texts of this operation state
+  abbrev pub keys_said : Result (Option Cond) Answer
+  keys_said = stated condition_of g (text_at texts.key_condition ms)
+
   abbrev pub condition_said : Result (Option Cond) Answer
   condition_said = stated condition_of g (text_at texts.condition ms)
 
@@ -74,71 +77,99 @@ module _ (texts : Texts) (d : TableSchema) (ms : Members) (g : Given) where
   paths_said = stated paths_of (names_alone g.names) (text_at texts.projection ms)
 
   -- behind each of the texts
-  abbrev pub with_paths : Option Cond → Option (List Action) → Option (List (List PathPart))
+  abbrev pub with_paths : Option Cond → Option Cond → Option (List Action)
+      → Option (List (List PathPart)) → Result Expressions Answer
+  with_paths keys condition update paths =
+      unless_answer (first_answer (of_texts texts d ms g update))
+      (record {
+    key_condition = keys;
+    condition = condition;
+    update = update;
+    projection = paths;
+  })
+
+  abbrev pub with_update : Option Cond → Option Cond → Option (List Action)
       → Result Expressions Answer
-  with_paths condition update paths = unless_answer (first_answer (of_texts texts d ms g update))
-      (record { condition = condition; update = update; projection = paths })
+  with_update keys condition update = paths_said >>= with_paths keys condition update
 
-  abbrev pub with_update : Option Cond → Option (List Action) → Result Expressions Answer
-  with_update condition update = paths_said >>= with_paths condition update
+  abbrev pub with_condition : Option Cond → Option Cond → Result Expressions Answer
+  with_condition keys condition = update_said >>= with_update keys condition
 
-  abbrev pub with_condition : Option Cond → Result Expressions Answer
-  with_condition condition = update_said >>= with_update condition
+  abbrev pub with_keys : Option Cond → Result Expressions Answer
+  with_keys keys = condition_said >>= with_condition keys
 
-  pub all_said : expressions texts d ms g ≡ condition_said >>= with_condition
+  pub all_said : expressions texts d ms g ≡ keys_said >>= with_keys
   unfolding expressions
   all_said = refl
 
-  pub expressions-no_condition : (answer : Answer) → condition_said ≡ Err answer
+  pub expressions-no_keys : (answer : Answer) → keys_said ≡ Err answer
       → expressions texts d ms g ≡ Err answer
-  expressions-no_condition answer e = all_said ∙ ap (λ r. r >>= with_condition) e
+  expressions-no_keys answer e = all_said ∙ ap (λ r. r >>= with_keys) e
 
-  module _ (condition : Option Cond) (said : condition_said ≡ Ok condition) where
-    behind_condition : expressions texts d ms g ≡ with_condition condition
-    behind_condition = all_said ∙ ap (λ r. r >>= with_condition) said
+  module _ (keys : Option Cond) (asks : keys_said ≡ Ok keys) where
+    behind_keys : expressions texts d ms g ≡ with_keys keys
+    behind_keys = all_said ∙ ap (λ r. r >>= with_keys) asks
 
-    pub expressions-no_update : (answer : Answer) → update_said ≡ Err answer
+    pub expressions-no_condition : (answer : Answer) → condition_said ≡ Err answer
         → expressions texts d ms g ≡ Err answer
-    expressions-no_update answer e =
-        behind_condition ∙ ap (λ r. r >>= with_update condition) e
+    expressions-no_condition answer e =
+        behind_keys ∙ ap (λ r. r >>= with_condition keys) e
 
-    module _ (update : Option (List Action)) (updates : update_said ≡ Ok update) where
-      behind_update : expressions texts d ms g ≡ with_update condition update
-      behind_update = behind_condition ∙ ap (λ r. r >>= with_update condition) updates
+    module _ (condition : Option Cond) (said : condition_said ≡ Ok condition) where
+      behind_condition : expressions texts d ms g ≡ with_condition keys condition
+      behind_condition = behind_keys ∙ ap (λ r. r >>= with_condition keys) said
 
-      pub expressions-no_paths : (answer : Answer) → paths_said ≡ Err answer
+      pub expressions-no_update : (answer : Answer) → update_said ≡ Err answer
           → expressions texts d ms g ≡ Err answer
-      expressions-no_paths answer e =
-          behind_update ∙ ap (λ r. r >>= with_paths condition update) e
+      expressions-no_update answer e =
+          behind_condition ∙ ap (λ r. r >>= with_update keys condition) e
 
-      module _ (paths : Option (List (List PathPart))) (shows : paths_said ≡ Ok paths) where
-        -- by what the tests of all texts tell
-        by_tests : (k u : Bool) → changes_key d update ≡ k → is_unused ms g (words_at texts ms) ≡ u
-            → expressions texts d ms g
-            ≡ unless_answer (first_answer (refuse_if k key_update ∷ refuse_if u unused_name ∷ []))
-            (record { condition = condition; update = update; projection = paths })
-        by_tests k u tells_key tells_unused =
-            behind_update ∙ ap (λ r. r >>= with_paths condition update) shows
-            ∙ ap (λ b. unless_answer (first_answer (refuse_if b key_update
-            ∷ refuse_if (is_unused ms g (words_at texts ms)) unused_name ∷ []))
-            (record { condition = condition; update = update; projection = paths })) tells_key
-            ∙ ap (λ b. unless_answer (first_answer (refuse_if k key_update
-            ∷ refuse_if b unused_name ∷ []))
-            (record { condition = condition; update = update; projection = paths })) tells_unused
+      module _ (update : Option (List Action)) (updates : update_said ≡ Ok update) where
+        behind_update : expressions texts d ms g ≡ with_update keys condition update
+        behind_update = behind_condition ∙ ap (λ r. r >>= with_update keys condition) updates
 
-        pub expressions-key_update : changes_key d update ≡ true
-            → expressions texts d ms g ≡ Err (refused key_update)
-        expressions-key_update e = by_tests true (is_unused ms g (words_at texts ms)) e refl
+        pub expressions-no_paths : (answer : Answer) → paths_said ≡ Err answer
+            → expressions texts d ms g ≡ Err answer
+        expressions-no_paths answer e =
+            behind_update ∙ ap (λ r. r >>= with_paths keys condition update) e
 
-        module _ (keeps : changes_key d update ≡ false) where
-          pub expressions-unused : is_unused ms g (words_at texts ms) ≡ true
-              → expressions texts d ms g ≡ Err (refused unused_name)
-          expressions-unused e = by_tests false true keeps e
+        module _ (paths : Option (List (List PathPart))) (shows : paths_said ≡ Ok paths) where
+          -- what all of them say
+          abbrev all_of_them : Expressions
+          all_of_them = record {
+            key_condition = keys;
+            condition = condition;
+            update = update;
+            projection = paths;
+          }
 
-          pub expressions-said : is_unused ms g (words_at texts ms) ≡ false
+          -- by what the tests of all texts tell
+          by_tests : (k u : Bool) → changes_key d update ≡ k
+              → is_unused ms g (words_at texts ms) ≡ u
               → expressions texts d ms g
-              ≡ Ok (record { condition = condition; update = update; projection = paths })
-          expressions-said e = by_tests false false keeps e
+              ≡ unless_answer (first_answer (refuse_if k key_update
+              ∷ refuse_if u unused_name ∷ [])) all_of_them
+          by_tests k u tells_key tells_unused =
+              behind_update ∙ ap (λ r. r >>= with_paths keys condition update) shows
+              ∙ ap (λ b. unless_answer (first_answer (refuse_if b key_update
+              ∷ refuse_if (is_unused ms g (words_at texts ms)) unused_name ∷ []))
+              all_of_them) tells_key
+              ∙ ap (λ b. unless_answer (first_answer (refuse_if k key_update
+              ∷ refuse_if b unused_name ∷ [])) all_of_them) tells_unused
+
+          pub expressions-key_update : changes_key d update ≡ true
+              → expressions texts d ms g ≡ Err (refused key_update)
+          expressions-key_update e =
+              by_tests true (is_unused ms g (words_at texts ms)) e refl
+
+          module _ (keeps : changes_key d update ≡ false) where
+            pub expressions-unused : is_unused ms g (words_at texts ms) ≡ true
+                → expressions texts d ms g ≡ Err (refused unused_name)
+            expressions-unused e = by_tests false true keeps e
+
+            pub expressions-said : is_unused ms g (words_at texts ms) ≡ false
+                → expressions texts d ms g ≡ Ok all_of_them
+            expressions-said e = by_tests false false keeps e
 
 -- ---- names
 

@@ -2,22 +2,26 @@
 use Rattle.std.proofs.Common.{◌≡◌, ℕ, List, take, Option, Some, None}
 use Rattle.serde_json.specs.Data.{Members}
 use Rattle.alt_machine.specs.declared.Operation.{Operation}
-use Rattle.alt_machine.specs.declared.Operation.TheVariants.{CreateTable, DescribeTable, ListTables, DeleteTable, PutItem, GetItem, DeleteItem, UpdateItem}
+use Rattle.alt_machine.specs.declared.Operation.TheVariants.{CreateTable, DescribeTable, ListTables, DeleteTable, PutItem, GetItem, DeleteItem, UpdateItem, Query, Scan}
 use Rattle.alt_machine.specs.declared.Sought.TheVariants.{Key}
-use Rattle.alt_machine.specs.Expressions.{projecting}
+use Rattle.alt_machine.specs.Expressions.{projecting, querying, scanning}
+use Rattle.alt_machine.specs.Lists.{walk_start}
 use Rattle.alt_machine.specs.Members.{body_of, table_name}
 use Rattle.alt_machine.specs.Ops.DeleteTable as delete
 use Rattle.alt_machine.specs.Ops.DescribeTable as describe
 use Rattle.alt_machine.specs.Ops.GetItem as get
 use Rattle.alt_machine.specs.Ops.ListTables as list
+use Rattle.alt_machine.specs.Ops.Query as query
+use Rattle.alt_machine.specs.Ops.Scan as scan
 use Rattle.alt_machine.specs.Outcomes.{a_number, last_state}
 use Rattle.alt_machine.specs.State.{State}
 use Rattle.alt_machine.specs.Step.{step, operates, with_body}
 use Rattle.alt_machine.specs.Valid.{IsValid}
 use Rattle.alt_machine.specs.Wanted.{lack_among}
-use Rattle.alt_machine.proofs.Chains.{Steps, no_steps, one_step, steps-unless, first_valid}
+use Rattle.alt_machine.proofs.Chains.{Steps, no_steps, one_step, steps-unless, steps-found, first_valid}
 use Rattle.alt_machine.proofs.Creations.{create_steps}
 use Rattle.alt_machine.proofs.Lacks.{number_room}
+use Rattle.alt_machine.proofs.Lists.{steps-on_list}
 use Rattle.alt_machine.proofs.Puts.{put_steps, delete_steps}
 use Rattle.alt_machine.proofs.States.{without_table_valid}
 use Rattle.alt_machine.proofs.Targets.{steps-on_table, steps-on_item}
@@ -42,6 +46,20 @@ unfolding get.get_item
 get_steps s ms = steps-on_item s (get.of_body ms) Key projecting ms _
     (λ said key t place there target. no_steps _ s)
 
+query_steps : (s : State) (ms : Members) → Steps s (query.query s ms)
+unfolding query.query
+query_steps s ms = steps-on_list s (query.of_body ms) querying ms (query.queries ms)
+    (λ said start t.
+    steps-found s (query.key_asked t.description said.key_condition) _ (λ ask asks.
+    steps-found s (walk_start t.description (Some ask.hash) start) _ (λ place starts.
+    no_steps _ s)))
+
+scan_steps : (s : State) (ms : Members) → Steps s (scan.scan s ms)
+unfolding scan.scan
+scan_steps s ms = steps-on_list s (scan.of_body ms) scanning ms (scan.scans ms)
+    (λ said start t.
+    steps-found s (walk_start t.description None start) _ (λ place starts. no_steps _ s))
+
 operates_steps : (s : State) (op : Operation) (moment : ℕ) (ms : Members)
     → Steps s (operates s op moment ms)
 operates_steps s CreateTable moment ms = create_steps s moment ms
@@ -52,6 +70,8 @@ operates_steps s PutItem moment ms = put_steps s moment ms
 operates_steps s GetItem moment ms = get_steps s ms
 operates_steps s DeleteItem moment ms = delete_steps s moment ms
 operates_steps s UpdateItem moment ms = update_steps s moment ms
+operates_steps s Query moment ms = query_steps s ms
+operates_steps s Scan moment ms = scan_steps s ms
 
 body_steps : (s : State) (op : Operation) (moment : ℕ) (ms : Option Members)
     → Steps s (with_body s op moment ms)

@@ -1,5 +1,5 @@
 -- What a body alone is refused for: its shape, members that aren't taken, and names. An operation states its rules.
-use Rattle.std.specs.Prelude.{ℕ, List, [], ◌∷◌, Option, option_map}
+use Rattle.std.specs.Prelude.{ℕ, Bool, List, [], ◌∷◌, Option, None, option_map}
 use Rattle.std.specs.List.{list_all}
 use Rattle.serde_json.specs.Data.{Members}
 use Rattle.alt_shape.specs.declared.rule.Broken.{Broken}
@@ -28,3 +28,8 @@ body_refusals broken rules ms =
     refuse_if (gives_any rules.legacy ms) not_together ∷
     refuse_if (gives_any rules.unbuilt ms) not_built ∷
     refuse_unless (list_all (may_name ms) rules.named) bad_name ∷ []
+
+-- the same of a body in which some members may not go together, which that says
+abbrev pub paired_refusals : Option Broken → Bool → Rules → Members → List (Option Answer)
+paired_refusals broken mismatched rules ms =
+    of_shape broken ∷ refuse_if mismatched not_together ∷ body_refusals None rules ms

@@ -35,6 +35,7 @@ use Rattle.alt_value.specs.Tree.{Pair}
 
 -- the members of an operation that are expressions, each where it takes one
 pub record Texts : Type 0 where
+  pub key_condition : Option (List ℕ)
   pub condition : Option (List ℕ)
   pub update : Option (List ℕ)
   pub projection : Option (List ℕ)
@@ -42,6 +43,7 @@ pub record Texts : Type 0 where
 -- a write that may be conditional
 abbrev pub conditional : Texts
 conditional = record {
+  key_condition = None;
   condition = Some (codes "ConditionExpression");
   update = None;
   projection = None;
@@ -54,10 +56,19 @@ updating = record conditional { update = Some (codes "UpdateExpression") }
 -- a read that may show parts
 abbrev pub projecting : Texts
 projecting = record {
+  key_condition = None;
   condition = None;
   update = None;
   projection = Some (codes "ProjectionExpression");
 }
+
+-- a Scan, whose condition is a filter
+abbrev pub scanning : Texts
+scanning = record projecting { condition = Some (codes "FilterExpression") }
+
+-- a Query, which has a condition on keys too
+abbrev pub querying : Texts
+querying = record scanning { key_condition = Some (codes "KeyConditionExpression") }
 
 -- ---- names and values
 
@@ -133,8 +144,8 @@ words_of (Some text) = let tokens : TextTokens text = tokens_of text in tokens.t
 
 -- the words of all texts
 abbrev pub words_at : Texts → Members → List Tok
-words_at texts ms = words_of (text_at texts.condition ms) ++ words_of (text_at texts.update ms)
-    ++ words_of (text_at texts.projection ms)
+words_at texts ms = words_of (text_at texts.key_condition ms) ++ words_of (text_at texts.condition ms)
+    ++ words_of (text_at texts.update ms) ++ words_of (text_at texts.projection ms)
 
 -- ---- all of them
 
@@ -165,8 +176,14 @@ of_texts texts d ms g update =
 -- has no word for a value.
 unfoldable pub expressions : Texts → TableSchema → Members → Given → Result Expressions Answer
 expressions texts d ms g = do
+  keys ← stated condition_of g (text_at texts.key_condition ms)
   condition ← stated condition_of g (text_at texts.condition ms)
   update ← stated update_of g (text_at texts.update ms)
   projection ← stated paths_of (names_alone g.names) (text_at texts.projection ms)
   unless_answer (first_answer (of_texts texts d ms g update))
-      (record { condition = condition; update = update; projection = projection })
+      (record {
+    key_condition = keys;
+    condition = condition;
+    update = update;
+    projection = projection;
+  })

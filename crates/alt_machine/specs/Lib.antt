@@ -3,6 +3,7 @@ pub mod Conditional
 pub mod Expressions
 pub mod Keys
 pub mod Laws
+pub mod Lists
 pub mod Members
 pub mod Operations
 pub mod Ops
@@ -14,5 +15,6 @@ pub mod State
 pub mod Step
 pub mod Targets
 pub mod Valid
+pub mod Walks
 pub mod Wanted
 pub mod Writes

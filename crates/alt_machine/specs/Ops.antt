@@ -6,4 +6,6 @@ pub mod DescribeTable
 pub mod GetItem
 pub mod ListTables
 pub mod PutItem
+pub mod Query
+pub mod Scan
 pub mod UpdateItem

@@ -3,7 +3,7 @@ use Rattle.std.specs.Prelude.{ℕ, List, Option, Some, None}
 use Rattle.serde_json.specs.Data.{Members}
 use Rattle.alt_shape.specs.Refusals.{unknown_operation, unreadable}
 use Rattle.alt_machine.specs.declared.Operation.{Operation}
-use Rattle.alt_machine.specs.declared.Operation.TheVariants.{CreateTable, DescribeTable, ListTables, DeleteTable, PutItem, GetItem, DeleteItem, UpdateItem}
+use Rattle.alt_machine.specs.declared.Operation.TheVariants.{CreateTable, DescribeTable, ListTables, DeleteTable, PutItem, GetItem, DeleteItem, UpdateItem, Query, Scan}
 use Rattle.alt_machine.specs.Members.{body_of}
 use Rattle.alt_machine.specs.Ops.CreateTable.{create_table}
 use Rattle.alt_machine.specs.Ops.DeleteItem.{delete_item}
@@ -12,6 +12,8 @@ use Rattle.alt_machine.specs.Ops.DescribeTable.{describe_table}
 use Rattle.alt_machine.specs.Ops.GetItem.{get_item}
 use Rattle.alt_machine.specs.Ops.ListTables.{list_tables}
 use Rattle.alt_machine.specs.Ops.PutItem.{put_item}
+use Rattle.alt_machine.specs.Ops.Query.{query}
+use Rattle.alt_machine.specs.Ops.Scan.{scan}
 use Rattle.alt_machine.specs.Ops.UpdateItem.{update_item}
 use Rattle.alt_machine.specs.Outcomes.{Outcome, refuses}
 use Rattle.alt_machine.specs.State.{State}
@@ -26,6 +28,8 @@ operates s PutItem moment ms = put_item s moment ms
 operates s GetItem moment ms = get_item s ms
 operates s DeleteItem moment ms = delete_item s moment ms
 operates s UpdateItem moment ms = update_item s moment ms
+operates s Query moment ms = query s ms
+operates s Scan moment ms = scan s ms
 
 -- an operation on a body, if that is one
 abbrev pub with_body : State → Operation → ℕ → Option Members → Outcome

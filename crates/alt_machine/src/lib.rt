@@ -21,6 +21,8 @@ pub enum Operation {
     GetItem,
     DeleteItem,
     UpdateItem,
+    Query,
+    Scan,
 }
 
 /// What a request has of an item: all of it, at its member Item, or the key alone, at Key.
@@ -30,9 +32,11 @@ pub enum Sought {
     Key,
 }
 
-/// What the expressions of a request say: its condition, what it updates and what it shows, each where it has a text for it.
+/// What the expressions of a request say: its condition on keys, its condition or filter, what it updates and what it shows, each where
+/// it has a text for it.
 #[derive(Drop)]
 pub struct Expressions {
+    pub key_condition: Option<Cond>,
     pub condition: Option<Cond>,
     pub update: Option<Update>,
     pub projection: Option<Paths>,

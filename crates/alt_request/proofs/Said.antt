@@ -15,7 +15,7 @@ use Rattle.alt_expr.specs.declared.values.Values.{Values}
 use Rattle.alt_machine.specs.declared.Expressions.{Expressions}
 use Rattle.alt_machine.specs.Expressions as machine
 use Rattle.alt_machine.specs.Refusals.{first_answer, refuse_by, unless_answer}
-use Rattle.alt_machine.proofs.Spoken.{condition_said, update_said, paths_said, expressions-no_condition, expressions-no_update, expressions-no_paths, expressions-key_update, expressions-unused, expressions-said, are_given}
+use Rattle.alt_machine.proofs.Spoken.{keys_said, condition_said, update_said, paths_said, expressions-no_keys, expressions-no_condition, expressions-no_update, expressions-no_paths, expressions-key_update, expressions-unused, expressions-said, are_given}
 use Rattle.alt_request.specs.Steps.{Comes}
 use Rattle.alt_request.specs.Words.{IsFresh, given_of, names_refusal, names_in, earlier, has_more, all_stated}
 use Rattle.alt_request.specs.declared.expressions.Given.{Given}
@@ -74,24 +74,37 @@ names_refused ms r e = ap (λ o. unless_answer o (expr_names [] ms))
 
 -- ---- all of them
 
+-- what each of the texts states, where they state this together
+pub record EachSaid (texts : machine.Texts) (d : TableSchema) (ms : Members) (g : expr.Given)
+    (e : Expressions) : Type 0 where
+  pub keys : keys_said texts d ms g ≡ Ok e.key_condition
+  pub condition : condition_said texts d ms g ≡ Ok e.condition
+  pub update : update_said texts d ms g ≡ Ok e.update
+  pub paths : paths_said texts d ms g ≡ Ok e.projection
+
 module _ (texts : machine.Texts) (d : TableSchema) (ms : Members) (g : expr.Given) where
   -- a text that is refused refuses them all
   first_unsaid : (a : Answer) → all_stated texts ms g ≡ Err a
       → machine.expressions texts d ms g ≡ Err a
-  first_unsaid a = by (condition_said texts d ms g) refl (update_said texts d ms g) refl
-      (paths_said texts d ms g) refl
+  first_unsaid a = by (keys_said texts d ms g) refl (condition_said texts d ms g) refl
+      (update_said texts d ms g) refl (paths_said texts d ms g) refl
     where
-      by : (c : Result (Option Cond) Answer) → condition_said texts d ms g ≡ c
+      by : (k : Result (Option Cond) Answer) → keys_said texts d ms g ≡ k
+          → (c : Result (Option Cond) Answer) → condition_said texts d ms g ≡ c
           → (u : Result (Option (List Action)) Answer) → update_said texts d ms g ≡ u
           → (p : Result (Option (List (List PathPart))) Answer) → paths_said texts d ms g ≡ p
-          → behind c u p ≡ Err a → machine.expressions texts d ms g ≡ Err a
-      by (Err b) is u is_u p is_p e = expressions-no_condition texts d ms g a
+          → behind k c u p ≡ Err a → machine.expressions texts d ms g ≡ Err a
+      by (Err b) is c is_c u is_u p is_p e = expressions-no_keys texts d ms g a
           (is ∙ ap (λ x. Err x) (let f : b ≡ a = cc in f))
-      by (Ok c) is (Err b) is_u p is_p e = expressions-no_update texts d ms g c is a
+      by (Ok k) is (Err b) is_c u is_u p is_p e = expressions-no_condition texts d ms g k is a
+          (is_c ∙ ap (λ x. Err x) (let f : b ≡ a = cc in f))
+      by (Ok k) is (Ok c) is_c (Err b) is_u p is_p e =
+          expressions-no_update texts d ms g k is c is_c a
           (is_u ∙ ap (λ x. Err x) (let f : b ≡ a = cc in f))
-      by (Ok c) is (Ok u) is_u (Err b) is_p e = expressions-no_paths texts d ms g c is u is_u a
+      by (Ok k) is (Ok c) is_c (Ok u) is_u (Err b) is_p e =
+          expressions-no_paths texts d ms g k is c is_c u is_u a
           (is_p ∙ ap (λ x. Err x) (let f : b ≡ a = cc in f))
-      by (Ok c) is (Ok u) is_u (Ok p) is_p e = absurd (let f : ⊥ = cc in f)
+      by (Ok k) is (Ok c) is_c (Ok u) is_u (Ok p) is_p e = absurd (let f : ⊥ = cc in f)
 
   pub unsaid : (stop : Stop)
       → Comes {X = Expressions} (λ e. e) (all_stated texts ms g) (Err stop)
@@ -100,27 +113,26 @@ module _ (texts : machine.Texts) (d : TableSchema) (ms : Members) (g : expr.Give
   unsaid (Fault f) h = h
 
   -- what all of them state is what each of them does
-  pub each_said : (e : Expressions) → all_stated texts ms g ≡ Ok e
-      → (condition_said texts d ms g ≡ Ok e.condition) × (update_said texts d ms g ≡ Ok e.update)
-      × (paths_said texts d ms g ≡ Ok e.projection)
-  each_said e = by (condition_said texts d ms g) refl (update_said texts d ms g) refl
-      (paths_said texts d ms g) refl
+  pub each_said : (e : Expressions) → all_stated texts ms g ≡ Ok e → EachSaid texts d ms g e
+  each_said e = by (keys_said texts d ms g) refl (condition_said texts d ms g) refl
+      (update_said texts d ms g) refl (paths_said texts d ms g) refl
     where
-      by : (c : Result (Option Cond) Answer) → condition_said texts d ms g ≡ c
+      by : (k : Result (Option Cond) Answer) → keys_said texts d ms g ≡ k
+          → (c : Result (Option Cond) Answer) → condition_said texts d ms g ≡ c
           → (u : Result (Option (List Action)) Answer) → update_said texts d ms g ≡ u
           → (p : Result (Option (List (List PathPart))) Answer) → paths_said texts d ms g ≡ p
-          → behind c u p ≡ Ok e
-          → (condition_said texts d ms g ≡ Ok e.condition)
-          × (update_said texts d ms g ≡ Ok e.update) × (paths_said texts d ms g ≡ Ok e.projection)
-      by (Err b) is u is_u p is_p h = absurd (let f : ⊥ = cc in f)
-      by (Ok c) is (Err b) is_u p is_p h = absurd (let f : ⊥ = cc in f)
-      by (Ok c) is (Ok u) is_u (Err b) is_p h = absurd (let f : ⊥ = cc in f)
-      by (Ok c) is (Ok u) is_u (Ok p) is_p h =
-          let same : with_all c u p ≡ e = cc in (
-            is ∙ ap (λ (x : Expressions). Ok x.condition) same,
-            is_u ∙ ap (λ (x : Expressions). Ok x.update) same,
-            is_p ∙ ap (λ (x : Expressions). Ok x.projection) same,
-          )
+          → behind k c u p ≡ Ok e → EachSaid texts d ms g e
+      by (Err b) is c is_c u is_u p is_p h = absurd (let f : ⊥ = cc in f)
+      by (Ok k) is (Err b) is_c u is_u p is_p h = absurd (let f : ⊥ = cc in f)
+      by (Ok k) is (Ok c) is_c (Err b) is_u p is_p h = absurd (let f : ⊥ = cc in f)
+      by (Ok k) is (Ok c) is_c (Ok u) is_u (Err b) is_p h = absurd (let f : ⊥ = cc in f)
+      by (Ok k) is (Ok c) is_c (Ok u) is_u (Ok p) is_p h =
+          let same : with_all k c u p ≡ e = cc in record {
+            keys = is ∙ ap (λ (x : Expressions). Ok x.key_condition) same;
+            condition = is_c ∙ ap (λ (x : Expressions). Ok x.condition) same;
+            update = is_u ∙ ap (λ (x : Expressions). Ok x.update) same;
+            paths = is_p ∙ ap (λ (x : Expressions). Ok x.projection) same;
+          }
 
 module _ (texts : machine.Texts) (d : TableSchema) (ms : Members) (old : Given) (e : Expressions)
     (stated : all_stated texts ms (given_of old) ≡ Ok e) where
@@ -129,8 +141,8 @@ module _ (texts : machine.Texts) (d : TableSchema) (ms : Members) (old : Given) 
       → machine.expressions texts d ms (given_of old) ≡ Err (refused key_update)
   said_key_update key =
       let each = each_said texts d ms (given_of old) e stated in
-      expressions-key_update texts d ms (given_of old) e.condition each.0 e.update each.1
-      e.projection each.2 key
+      expressions-key_update texts d ms (given_of old) e.key_condition each.keys e.condition
+      each.condition e.update each.update e.projection each.paths key
 
   module _ (fresh : IsFresh ms old) (names : Names) (values : Values)
       (hashes : used_names names ≡ with_hashes (machine.words_at texts ms) (used_names old.names))
@@ -154,13 +166,13 @@ module _ (texts : machine.Texts) (d : TableSchema) (ms : Members) (old : Given) 
         → machine.expressions texts d ms (given_of old) ≡ Err (refused unused_name)
     said_unused more =
         let each = each_said texts d ms (given_of old) e stated in
-        expressions-unused texts d ms (given_of old) e.condition each.0 e.update each.1
-        e.projection each.2 apart (sym unused_is ∙ more)
+        expressions-unused texts d ms (given_of old) e.key_condition each.keys e.condition
+        each.condition e.update each.update e.projection each.paths apart (sym unused_is ∙ more)
 
     -- neither
     pub said_all : has_more names values ≡ false
         → machine.expressions texts d ms (given_of old) ≡ Ok e
     said_all more =
         let each = each_said texts d ms (given_of old) e stated in
-        expressions-said texts d ms (given_of old) e.condition each.0 e.update each.1
-        e.projection each.2 apart (sym unused_is ∙ more)
+        expressions-said texts d ms (given_of old) e.key_condition each.keys e.condition
+        each.condition e.update each.update e.projection each.paths apart (sym unused_is ∙ more)

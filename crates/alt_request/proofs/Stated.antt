@@ -104,25 +104,30 @@ module _ {D A : Type 0} (L : Language D A)
   stopped_so (Refused r) e = (sym stated_same ∙ e.0, e.1)
   stopped_so (Fault f) e = e
 
--- ---- the three of them
+-- ---- the four of them
 
--- what three texts state together
-abbrev pub with_all : Option Cond → Option (List Action) → Option (List (List PathPart))
-    → Expressions
-with_all condition update projection = record {
+-- what four texts state together
+abbrev pub with_all : Option Cond → Option Cond → Option (List Action)
+    → Option (List (List PathPart)) → Expressions
+with_all keys condition update projection = record {
+  key_condition = keys;
   condition = condition;
   update = update;
   projection = projection;
 }
 
 -- one after another
-abbrev pub behind : Result (Option Cond) Answer → Result (Option (List Action)) Answer
-    → Result (Option (List (List PathPart))) Answer → Result Expressions Answer
-behind c u p = c >>= (λ condition. u >>= (λ update. p >>= (λ projection.
-    Ok (with_all condition update projection))))
+abbrev pub behind : Result (Option Cond) Answer → Result (Option Cond) Answer
+    → Result (Option (List Action)) Answer → Result (Option (List (List PathPart))) Answer
+    → Result Expressions Answer
+behind k c u p = k >>= (λ keys. c >>= (λ condition. u >>= (λ update. p >>= (λ projection.
+    Ok (with_all keys condition update projection)))))
 
 module _ (texts : machine.Texts) (ms : Members) (g : expr.Given) where
   -- what each of them states
+  abbrev pub keys_at : Result (Option Cond) Answer
+  keys_at = machine.stated condition_of g (machine.text_at texts.key_condition ms)
+
   abbrev pub condition_at : Result (Option Cond) Answer
   condition_at = machine.stated condition_of g (machine.text_at texts.condition ms)
 
@@ -132,31 +137,39 @@ module _ (texts : machine.Texts) (ms : Members) (g : expr.Given) where
   abbrev pub paths_at : Result (Option (List (List PathPart))) Answer
   paths_at = machine.stated paths_of (names_alone g.names) (machine.text_at texts.projection ms)
 
-  -- the condition is refused
-  pub no_condition : (stop : Stop) → Comes {X = Option Cond} (λ c. c) condition_at (Err stop)
+  -- the condition on keys is refused
+  pub no_keys : (stop : Stop) → Comes {X = Option Cond} (λ c. c) keys_at (Err stop)
       → Comes {X = Expressions} (λ e. e) (all_stated texts ms g) (Err stop)
-  no_condition (Refused r) h = (ap (λ c. behind c update_at paths_at) h.0, h.1)
-  no_condition (Fault f) h = h
+  no_keys (Refused r) h = (ap (λ k. behind k condition_at update_at paths_at) h.0, h.1)
+  no_keys (Fault f) h = h
 
-  module _ (condition : Option Cond) (said : condition_at ≡ Ok condition) where
-    -- the update is refused
-    pub no_update : (stop : Stop) → Comes {X = Option (List Action)} (λ u. u) update_at (Err stop)
+  module _ (keys : Option Cond) (asks : keys_at ≡ Ok keys) where
+    -- the condition is refused
+    pub no_condition : (stop : Stop) → Comes {X = Option Cond} (λ c. c) condition_at (Err stop)
         → Comes {X = Expressions} (λ e. e) (all_stated texts ms g) (Err stop)
-    no_update (Refused r) h = (λ i. behind (said i) (h.0 i) paths_at, h.1)
-    no_update (Fault f) h = h
+    no_condition (Refused r) h = (λ i. behind (asks i) (h.0 i) update_at paths_at, h.1)
+    no_condition (Fault f) h = h
 
-    module _ (update : Option (List Action)) (updates : update_at ≡ Ok update) where
-      -- the projection is refused
-      pub no_paths : (stop : Stop)
-          → Comes {X = Option (List (List PathPart))} (λ p. p) paths_at (Err stop)
+    module _ (condition : Option Cond) (said : condition_at ≡ Ok condition) where
+      -- the update is refused
+      pub no_update : (stop : Stop)
+          → Comes {X = Option (List Action)} (λ u. u) update_at (Err stop)
           → Comes {X = Expressions} (λ e. e) (all_stated texts ms g) (Err stop)
-      no_paths (Refused r) h = (λ i. behind (said i) (updates i) (h.0 i), h.1)
-      no_paths (Fault f) h = h
+      no_update (Refused r) h = (λ i. behind (asks i) (said i) (h.0 i) paths_at, h.1)
+      no_update (Fault f) h = h
 
-      -- none is
-      pub all_three : (projection : Option (List (List PathPart))) → paths_at ≡ Ok projection
-          → all_stated texts ms g ≡ Ok (with_all condition update projection)
-      all_three projection shows = λ i. behind (said i) (updates i) (shows i)
+      module _ (update : Option (List Action)) (updates : update_at ≡ Ok update) where
+        -- the projection is refused
+        pub no_paths : (stop : Stop)
+            → Comes {X = Option (List (List PathPart))} (λ p. p) paths_at (Err stop)
+            → Comes {X = Expressions} (λ e. e) (all_stated texts ms g) (Err stop)
+        no_paths (Refused r) h = (λ i. behind (asks i) (said i) (updates i) (h.0 i), h.1)
+        no_paths (Fault f) h = h
+
+        -- none is
+        pub all_four : (projection : Option (List (List PathPart))) → paths_at ≡ Ok projection
+            → all_stated texts ms g ≡ Ok (with_all keys condition update projection)
+        all_four projection shows = λ i. behind (asks i) (said i) (updates i) (shows i)
 
 -- ---- their words
 
@@ -172,22 +185,27 @@ with_colons-append [] b used = refl
 with_colons-append (colon w ∷ a) b used = with_colons-append a b _
 with_colons-append (t ∷ a) b used = with_colons-append a b used
 
--- what three texts note of their names
-pub hashes_all : (a b c : List Tok) (u v w x : List (List ℕ)) → v ≡ with_hashes a u
-    → w ≡ with_hashes b v → x ≡ with_hashes c w → x ≡ with_hashes (a ++ b ++ c) u
-hashes_all a b c u v w x e f g =
-    g ∙ ap (with_hashes c) (f ∙ ap (with_hashes b) e ∙ sym (with_hashes-append a b u))
-    ∙ sym (with_hashes-append (a ++ b) c u)
+-- what four texts note of their names
+pub hashes_all : (a b c d : List Tok) (t u v w x : List (List ℕ)) → u ≡ with_hashes a t
+    → v ≡ with_hashes b u → w ≡ with_hashes c v → x ≡ with_hashes d w
+    → x ≡ with_hashes (a ++ b ++ c ++ d) t
+hashes_all a b c d t u v w x e f g h =
+    let two = f ∙ ap (with_hashes b) e ∙ sym (with_hashes-append a b t) in
+    let three = g ∙ ap (with_hashes c) two ∙ sym (with_hashes-append (a ++ b) c t) in
+    h ∙ ap (with_hashes d) three ∙ sym (with_hashes-append (a ++ b ++ c) d t)
 
 -- no word of these is one for a value
 abbrev pub NoColons : List Tok → Type 0
 NoColons toks = (used : List (List ℕ)) → with_colons toks used ≡ used
 
--- and of their values, where the third has none
-pub colons_all : (a b c : List Tok) (u v w : List (List ℕ)) → v ≡ with_colons a u
-    → w ≡ with_colons b v → NoColons c → w ≡ with_colons (a ++ b ++ c) u
-colons_all a b c u v w e f none = f ∙ ap (with_colons b) e ∙ sym (with_colons-append a b u)
-    ∙ sym (none (with_colons (a ++ b) u)) ∙ sym (with_colons-append (a ++ b) c u)
+-- and of their values, where the fourth has none
+pub colons_all : (a b c d : List Tok) (t u v w : List (List ℕ)) → u ≡ with_colons a t
+    → v ≡ with_colons b u → w ≡ with_colons c v → NoColons d
+    → w ≡ with_colons (a ++ b ++ c ++ d) t
+colons_all a b c d t u v w e f g none =
+    let two = f ∙ ap (with_colons b) e ∙ sym (with_colons-append a b t) in
+    let three = g ∙ ap (with_colons c) two ∙ sym (with_colons-append (a ++ b) c t) in
+    three ∙ sym (none (with_colons (a ++ b ++ c) t)) ∙ sym (with_colons-append (a ++ b ++ c) d t)
 
 none_append : (a b : List Tok) → NoColons a → NoColons b → NoColons (a ++ b)
 none_append a b h k used = with_colons-append a b used ∙ k (with_colons a used) ∙ h used

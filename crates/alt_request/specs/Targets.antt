@@ -6,11 +6,13 @@ use Rattle.serde_json.specs.Data.{Members}
 use Rattle.alt_machine.specs.declared.Expressions.{Expressions}
 use Rattle.alt_machine.specs.declared.Sought.{Sought}
 use Rattle.alt_machine.specs.Expressions as machine
+use Rattle.alt_machine.specs.Lists.{on_list, IsListed}
 use Rattle.alt_machine.specs.Members.{table_name}
 use Rattle.alt_machine.specs.Outcomes.{Outcome, refuses}
 use Rattle.alt_machine.specs.Refusals.{first_answer, or_refused, unless_answer, ◌>>=◌}
 use Rattle.alt_machine.specs.State.{State, Table, Texts, descriptions}
 use Rattle.alt_machine.specs.Targets.{on_table, on_item, of_length, place_in, IsPlaced}
+use Rattle.alt_request.specs.declared.lists.ListTarget.{ListTarget}
 use Rattle.alt_request.specs.declared.stop.Stop.{Stop}
 use Rattle.alt_request.specs.declared.stop.Stop.TheVariants.{Refused, Fault}
 use Rattle.alt_request.specs.declared.targets.Target.{Target}
@@ -49,3 +51,18 @@ OnItem tests sought texts catalog ms (Err (Refused r)) =
     IsKnown r × ((s : State) (go : Expressions → List Pair → Table → List ℕ → Outcome)
     → descriptions s.tables ≡ catalog → on_item tests sought texts s ms go ≡ refuses r)
 OnItem tests sought texts catalog ms (Err (Fault f)) = IsReadFault f
+
+-- the table is the one that is named, and those are the start key and what the expressions say to it
+pub record IsListedAt (tests : List (Option Answer)) (texts : machine.Texts)
+    (catalog : Texts TableSchema) (ms : Members) (target : ListTarget) : Type 0 where
+  pub there : map.get catalog (table_name ms) ≡ Some target.schema.now
+  pub listed : IsListed tests texts ms target.schema.now target.said target.start
+
+-- That is so; or the machine refuses the request too, whatever its operation goes on to do.
+abbrev pub OnList : List (Option Answer) → machine.Texts → Texts TableSchema → Members
+    → Result ListTarget Stop → Type 0
+OnList tests texts catalog ms (Ok target) = IsListedAt tests texts catalog ms target
+OnList tests texts catalog ms (Err (Refused r)) =
+    IsKnown r × ((s : State) (go : Expressions → Option (List Pair) → Table → Outcome)
+    → descriptions s.tables ≡ catalog → on_list tests texts s ms go ≡ refuses r)
+OnList tests texts catalog ms (Err (Fault f)) = IsReadFault f

@@ -29,6 +29,7 @@ use Rattle.alt_value.specs.Tree.{Pair}
 -- the members that are expressions
 abbrev pub texts_of : Texts → machine.Texts
 texts_of texts = record {
+  key_condition = option_map (λ w. w.now) texts.key_condition;
   condition = option_map (λ w. w.now) texts.condition;
   update = option_map (λ w. w.now) texts.update;
   projection = option_map (λ w. w.now) texts.projection;
@@ -70,10 +71,16 @@ has_more names values = (is_empty_given names || has_unused (given_names names) 
 -- what the texts state, each refused for its first fault
 abbrev pub all_stated : machine.Texts → Members → expr.Given → Result Expressions Answer
 all_stated texts ms g = do
+  keys ← machine.stated condition_of g (machine.text_at texts.key_condition ms)
   condition ← machine.stated condition_of g (machine.text_at texts.condition ms)
   update ← machine.stated update_of g (machine.text_at texts.update ms)
   projection ← machine.stated paths_of (names_alone g.names) (machine.text_at texts.projection ms)
-  Ok (record { condition = condition; update = update; projection = projection })
+  Ok (record {
+    key_condition = keys;
+    condition = condition;
+    update = update;
+    projection = projection;
+  })
 
 -- a request stops for the fault of a text by its refusal, or for want of memory
 abbrev pub stop_of : ExprFault → Stop

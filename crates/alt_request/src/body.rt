@@ -4,7 +4,7 @@ ghost use Rattle.std.specs.Prelude.{◌≡◌, is_some, map as each, IfOk};
 ghost use Rattle.std.specs.List.{list_any, list_all};
 ghost use Rattle.std.specs.FinMap as map;
 ghost use Rattle.serde_json.specs.View.{members_view};
-ghost use Rattle.alt_machine.specs.Body.{body_refusals};
+ghost use Rattle.alt_machine.specs.Body.{body_refusals, paired_refusals};
 ghost use Rattle.alt_machine.specs.Members.{gives_any, may_name, table_name};
 ghost use Rattle.alt_machine.specs.Refusals.{or_refused};
 ghost use Rattle.alt_request.specs.Steps.{Comes, Tested, rules_of};
@@ -49,6 +49,25 @@ pub fn body_refusal(
         return Err(Stop::Refused(Refusal::BAD_NAME));
     }
     Ok(())
+}
+
+/// The same for a body some of whose members may not go together: that is refused after its shape, and before the rest.
+pub fn paired_refusal(
+    broken: Option<Broken>,
+    mismatched: bool,
+    rules: &Rules,
+    body: &Map<String, Value>,
+) -> Result<(), Stop>
+    ensures tested { Tested (paired_refusals broken mismatched (rules_of rules.now)
+        (members_view body.now.entries)) result }
+{
+    if let Some(broken) = broken {
+        return Err(Stop::Refused(Refusal::from(broken)));
+    }
+    if mismatched {
+        return Err(Stop::Refused(Refusal::NOT_TOGETHER));
+    }
+    body_refusal(None, rules, body)
 }
 
 /// The name of the table.

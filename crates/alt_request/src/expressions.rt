@@ -23,6 +23,7 @@ use std::alloc::Global;
 /// The members of an operation that are expressions, each where it takes one. An operation that takes a condition takes values.
 #[derive(Clone, Copy)]
 pub struct Texts {
+    pub key_condition: Option<&'static str>,
     pub condition: Option<&'static str>,
     pub update: Option<&'static str>,
     pub projection: Option<&'static str>,
@@ -31,6 +32,7 @@ pub struct Texts {
 impl Texts {
     /// A write that may be conditional.
     pub const CONDITIONAL: Texts = Texts {
+        key_condition: None,
         condition: Some("ConditionExpression"),
         update: None,
         projection: None,
@@ -38,6 +40,7 @@ impl Texts {
 
     /// An update, which may be conditional.
     pub const UPDATING: Texts = Texts {
+        key_condition: None,
         condition: Some("ConditionExpression"),
         update: Some("UpdateExpression"),
         projection: None,
@@ -45,7 +48,24 @@ impl Texts {
 
     /// A read that may show parts.
     pub const PROJECTING: Texts = Texts {
+        key_condition: None,
         condition: None,
+        update: None,
+        projection: Some("ProjectionExpression"),
+    };
+
+    /// A Scan, whose condition is a filter.
+    pub const SCANNING: Texts = Texts {
+        key_condition: None,
+        condition: Some("FilterExpression"),
+        update: None,
+        projection: Some("ProjectionExpression"),
+    };
+
+    /// A Query, which has a condition on keys too.
+    pub const QUERYING: Texts = Texts {
+        key_condition: Some("KeyConditionExpression"),
+        condition: Some("FilterExpression"),
         update: None,
         projection: Some("ProjectionExpression"),
     };

@@ -1,4 +1,5 @@
-//! What the texts of a body state: its condition, its update and its projection, each refused for its first fault.
+//! What the texts of a body state: its condition on keys, its condition or filter, its update and its projection, each refused for its
+//! first fault.
 
 ghost use Rattle.std.specs.Prelude.{◌≡◌, option_map, OnOk};
 ghost use Rattle.serde_json.specs.View.{members_view};
@@ -41,6 +42,8 @@ pub(crate) fn all_stated(
     ensures keeps_names { KeepsNames names.old names.new }
     ensures keeps_values { given_values values.new ≡ given_values values.old }
 {
+    let keys_text = text_in(texts.key_condition, body);
+    let key_condition = condition_stated(alloc, keys_text, names, values)?;
     let condition_text = text_in(texts.condition, body);
     let condition = condition_stated(alloc, condition_text, names, values)?;
     let update_text = text_in(texts.update, body);
@@ -48,6 +51,7 @@ pub(crate) fn all_stated(
     let paths_text = text_in(texts.projection, body);
     let projection = paths_stated(alloc, paths_text, names)?;
     Ok(Expressions {
+        key_condition,
         condition,
         update,
         projection,

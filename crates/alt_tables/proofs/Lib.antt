@@ -31,3 +31,4 @@ pub mod GoodLaws
 pub mod CatalogSteps
 pub mod TableSteps
 pub mod Recovering
+pub mod Pages

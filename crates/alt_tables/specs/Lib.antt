@@ -7,6 +7,7 @@ pub mod Laws
 pub mod Made
 pub mod Opening
 pub mod Order
+pub mod Pages
 pub mod Recovery
 pub mod Scans
 pub mod Stands

@@ -13,6 +13,7 @@ mod recover;
 mod rows;
 mod scan;
 mod tables;
+mod walk;
 
 pub use faults::{OpenFault, TableFault};
 pub use laws::tables_laws;

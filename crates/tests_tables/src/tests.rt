@@ -3,3 +3,4 @@ mod conditions;
 mod failures;
 mod stops;
 mod updates;
+mod walks;

@@ -1,0 +1,56 @@
+-- Query: answers a page of the items of one HASH value, by their RANGE values (DynamoDB API Reference, "Query"; Developer Guide, "Key condition
+-- expressions for the Query operation").
+use Rattle.std.specs.Prelude.{ℕ, Bool, true, List, [], ◌∷◌, Option, option_map, option_and_then, unwrap_or, Some, Result, codes}
+use Rattle.serde_json.specs.Data.{Members}
+use Rattle.serde_json.specs.Find.{as_bool}
+use Rattle.alt_expr.specs.KeyForm.{Key, Ask, ask_of}
+use Rattle.alt_expr.specs.Pages.{passes}
+use Rattle.alt_expr.specs.declared.cond.Cond.{Cond}
+use Rattle.alt_schema.specs.declared.schema.KeyAttr.{KeyAttr}
+use Rattle.alt_schema.specs.declared.schema.TableSchema.{TableSchema}
+use Rattle.alt_shape.specs.Bodies as bodies
+use Rattle.alt_shape.specs.Refusals.{Answer, bad_key_condition}
+use Rattle.alt_shape.specs.Shape.{given}
+use Rattle.alt_value.specs.Tree.{Pair}
+use Rattle.alt_machine.specs.Body.{Rules, paired_refusals}
+use Rattle.alt_machine.specs.declared.Expressions.{Expressions}
+use Rattle.alt_machine.specs.Expressions.{querying}
+use Rattle.alt_machine.specs.Lists.{is_mismatched, walk_start, listed, pages, on_list}
+use Rattle.alt_machine.specs.Outcomes.{Outcome, with_found}
+use Rattle.alt_machine.specs.Refusals.{or_refused}
+use Rattle.alt_machine.specs.State.{State, Table}
+
+-- four members are of an older interface; indexes aren't built yet
+abbrev pub rules : Rules
+rules = record {
+  legacy = codes "KeyConditions" ∷ codes "QueryFilter" ∷ codes "ConditionalOperator" ∷ codes "AttributesToGet" ∷ [];
+  unbuilt = codes "IndexName" ∷ [];
+  named = codes "TableName" ∷ codes "IndexName" ∷ [];
+}
+
+-- what the body alone says
+abbrev pub of_body : Members → List (Option Answer)
+of_body ms = paired_refusals (bodies.query ms) (is_mismatched ms) rules ms
+
+-- a key attribute, as key conditions speak of it
+abbrev pub key_of : KeyAttr → Key
+key_of attribute = record { name = attribute.name; kind = attribute.kind }
+
+-- what the key condition asks, where it has the form of one
+abbrev pub key_asked : TableSchema → Option Cond → Result Ask Answer
+key_asked d condition = or_refused bad_key_condition
+    (option_and_then (ask_of (key_of d.hash) (option_map key_of d.range)) condition)
+
+-- the items rise by their RANGE values, unless ScanIndexForward is false
+abbrev pub goes_forward : Members → Bool
+goes_forward ms = unwrap_or (option_and_then as_bool (given (codes "ScanIndexForward") ms)) true
+
+-- the list is that of the items of which the key condition holds
+abbrev pub queries : Members → Expressions → Option (List Pair) → Table → Outcome
+queries ms said start t =
+    with_found (key_asked t.description said.key_condition) (λ ask.
+    with_found (walk_start t.description (Some ask.hash) start) (λ place.
+    pages t.description ms said (listed (goes_forward ms) place (passes said.key_condition) t)))
+
+unfoldable pub query : State → Members → Outcome
+query s ms = on_list (of_body ms) querying s ms (queries ms)

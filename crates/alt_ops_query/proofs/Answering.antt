@@ -1,0 +1,152 @@
+-- The page that was filled is answered as that of the list.
+use Rattle.std.proofs.Common.{◌≡◌, refl, sym, ap, subst, ◌∙◌, ℕ, Bool, true, false, List, [], ◌∷◌, length, map, Option, Some, None, Result, Ok, Err, IfOk, IfErr, option_map}
+use Rattle.std.specs.Prelude.{if◌then◌else◌, codes}
+use Rattle.std.specs.FinMap as finite
+use Rattle.std.specs.List.{last_or}
+use Rattle.serde_json.specs.Data.{Data, Members, member, no_members, number, unsigned, array}
+use Rattle.serde_json.specs.View.{view}
+use Rattle.serde_json.specs.Written.{has_float}
+use Rattle.alt_codec.specs.Writing.{json_of_pairs}
+use Rattle.alt_expr.specs.Pages as pages
+use Rattle.alt_expr.specs.Pages.{Asked, examined, ends_early, parts, passed}
+use Rattle.alt_machine.specs.Lists.{selects, shown_items, items_json, key_attributes, page_answer, page_asked, last_examined}
+use Rattle.alt_machine.specs.Outcomes.{Outcome, says}
+use Rattle.alt_machine.specs.State.{State, Texts}
+use Rattle.alt_machine.specs.declared.Expressions.{Expressions}
+use Rattle.alt_ops_query.specs.Filled.{HasFilled}
+use Rattle.alt_ops_query.specs.Paged.{AnswersPage, HasLimit, answer_with, asked_page}
+use Rattle.alt_ops_query.specs.Replied.{page_of}
+use Rattle.alt_ops_query.specs.Stops.{IsFault, IfErrFailed}
+use Rattle.alt_ops_query.specs.declared.walking.Filling.{Filling}
+use Rattle.alt_paging.specs.Offered.{IsPage, asked_of, unless_counts}
+use Rattle.alt_paging.specs.declared.ask.Page.{Page}
+use Rattle.alt_paging.specs.declared.ask.PageAsk.{PageAsk}
+use Rattle.alt_request.specs.Carried.{Does, IsPlain, IfFailed}
+use Rattle.alt_request.specs.Steps.{IsMemory}
+use Rattle.alt_request.specs.declared.stop.Stop.{Stop}
+use Rattle.alt_request.specs.declared.stop.Stop.TheVariants.{Refused, Fault}
+use Rattle.alt_request.proofs.Carrying.{does_say}
+use Rattle.alt_schema.specs.declared.schema.TableSchema.{TableSchema}
+use Rattle.alt_schema.specs.Json.{member_if}
+use Rattle.alt_shape.specs.Refusals.{Answer, answered, answer_of}
+use Rattle.alt_shape.specs.declared.refusal.Reply.{Reply}
+use Rattle.alt_tables.specs.declared.faults.TableFault.TheVariants.{Spent, Damaged, BadRow, Failed, NoMemory}
+use Rattle.alt_tables.proofs.Making.{none_made}
+use Rattle.alt_value.specs.Tree.{Pair}
+
+-- the page whose items were examined
+page_with : Asked → List (List Pair) → Bool → pages.Page
+page_with ask seen ended = record {
+  items = map (parts ask.paths) (passed ask seen);
+  count = length (passed ask seen);
+  scanned = length seen;
+  ended = ended;
+}
+
+-- the page of what a page of the list examines is that of the list
+same_page : (ask : PageAsk) (list : List (List Pair)) (filling : Filling) → HasFilled filling ask list
+    → pages.page_of (asked_of ask) (examined ask.limit list) ≡ pages.page_of (asked_of ask) list
+unfolding page_with
+same_page ask list filling filled = λ i. page_with (asked_of ask) (filled.whole.offered.whole i)
+    (filled.ends i)
+
+-- where counts alone are wanted no items are shown
+none_shown : (ms : Members) (items : List (List Pair)) → selects (codes "COUNT") ms ≡ true
+    → shown_items ms items ≡ None
+none_shown ms items is = ap (λ c. if c then None else Some (array (items_json items))) is
+
+counts_shown : (ms : Members) (items : List (List Pair)) (b : Bool) → b ≡ selects (codes "COUNT") ms
+    → shown_items ms (unless_counts b items) ≡ shown_items ms items
+counts_shown ms items false is = refl
+counts_shown ms items true is = none_shown ms [] (sym is) ∙ sym (none_shown ms items (sym is))
+
+module _ (d : TableSchema) (ms : Members) (ask : PageAsk) (list : List (List Pair))
+    (filling : Filling) (filled : HasFilled filling ask list)
+    (counts : ask.count_only ≡ selects (codes "COUNT") ms) (page : Page)
+    (is : IsPage ask (examined ask.limit list) page) where
+  -- the page of the list
+  abbrev whole : pages.Page
+  whole = pages.page_of (asked_of ask) list
+
+  page_is : page_of page ≡ record whole { items = unless_counts ask.count_only whole.items }
+  page_is = λ i. record {
+    items = (is.items ∙ ap (λ (p : pages.Page). unless_counts ask.count_only p.items)
+        (same_page ask list filling filled)) i;
+    count = (is.count ∙ ap (λ (p : pages.Page). p.count) (same_page ask list filling filled)) i;
+    scanned = (is.scanned
+        ∙ ap (λ (p : pages.Page). p.scanned) (same_page ask list filling filled)) i;
+    ended = (is.ended ∙ ap (λ (p : pages.Page). p.ended) (same_page ask list filling filled)) i;
+  }
+
+  last_is : (if page.ended then filling.last else None) ≡ last_examined (asked_of ask) list
+  last_is = λ i. if ap (λ (p : pages.Page). p.ended) page_is i then filled.whole.last i else None
+
+  pub answered_so : page_answer d ms (page_of page) (if page.ended then filling.last else None)
+      ≡ answer_with d ms ask list
+  answered_so = (λ i. page_answer d ms (page_is i) (last_is i))
+      ∙ ap with_shown (counts_shown ms whole.items ask.count_only counts)
+    where
+      with_shown : Option Data → Answer
+      with_shown shown = answered (member (codes "Count") (number (unsigned whole.count))
+          (member_if (codes "Items") shown
+          (member_if (codes "LastEvaluatedKey") (option_map
+          (λ i. json_of_pairs (key_attributes d i)) (last_examined (asked_of ask) list))
+          (member (codes "ScannedCount") (number (unsigned whole.scanned)) no_members))))
+
+-- ---- what is done
+
+-- the page is answered, or memory was wanting for it
+pub page_does : (now : State → Type 0) (s : State) (d : TableSchema) (ms : Members) (ask : PageAsk)
+    (list : List (List Pair)) (filling : Filling) (r : Result Reply Stop) → now s
+    → HasFilled filling ask list → ask.count_only ≡ selects (codes "COUNT") ms
+    → IfOk r (λ reply. AnswersPage d ms filling (answer_of reply))
+    → IfOk r (λ reply. has_float (view reply.body) ≡ false) → IfErr r IsMemory
+    → Does now s (says (answer_with d ms ask list)) r
+page_does now s d ms ask list filling (Ok reply) stands filled counts told plain cause =
+    does_say now (answer_with d ms ask list) s (Ok reply) (told ask list filled counts, plain) stands
+page_does now s d ms ask list filling (Err stop) stands filled counts told plain cause =
+    subst (λ e. Does now s (says (answer_with d ms ask list)) (Err e)) (sym cause)
+    (does_say now (answer_with d ms ask list) s (Err (Fault NoMemory)) refl stands)
+
+-- the walk stopped before it
+pub fault_does : (now : State → Type 0) (s : State) (outcome : Outcome) (stop : Stop) → IsFault stop
+    → now s → Does now s outcome (Err stop)
+fault_does now s outcome (Refused r) h stands = absurd h
+fault_does now s outcome (Fault (Spent n)) h stands = absurd h
+fault_does now s outcome (Fault (Damaged file at)) h stands = absurd h
+fault_does now s outcome (Fault (BadRow family key)) h stands = absurd h
+fault_does now s outcome (Fault Failed) h stands = tt
+fault_does now s outcome (Fault NoMemory) h stands = (0, none_made outcome.atoms, refl, stands)
+
+pub stop_plain : (A : Type 0) (P : Type 0) (stop : Stop) → IfErrFailed {A = A} (Err stop) P
+    → IsPlain (Err stop)
+stop_plain A P (Refused r) h = absurd h
+stop_plain A P (Fault f) h = tt
+
+pub stop_failed : (A : Type 0) (P : Type 0) (stop : Stop) → IfErrFailed {A = A} (Err stop) P
+    → IfFailed (Err stop) P
+stop_failed A P (Refused r) h = absurd h
+stop_failed A P (Fault f) h = h
+
+-- what is asked of the page is what the request asks
+pub page_asks : (d : TableSchema) (ms : Members) (said : Expressions) (list : List (List Pair))
+    (ask : PageAsk) → ask ≡ asked_page ms said.condition said.projection → HasLimit ms
+    → answer_with d ms ask list ≡ page_answer d ms (pages.page_of (page_asked ms said) list)
+    (last_examined (page_asked ms said) list)
+page_asks d ms said list ask is limit =
+    ap (λ (a : PageAsk). answer_with d ms a list) is ∙ ap with_limit limit
+  where
+    asked : Option ℕ → Asked
+    asked most = record { limit = most; condition = said.condition; paths = said.projection }
+    with_limit : Option ℕ → Answer
+    with_limit most = page_answer d ms (pages.page_of (asked most) list)
+        (last_examined (asked most) list)
+
+-- the reply is that of the description at hand
+pub told_at : (catalog : Texts TableSchema) (name : List ℕ) (ms : Members) (filling : Filling)
+    (r : Result Reply Stop) (d : TableSchema) → finite.get catalog name ≡ Some d
+    → IfOk r (λ reply. (x : TableSchema) → finite.get catalog name ≡ Some x
+    → AnswersPage x ms filling (answer_of reply))
+    → IfOk r (λ reply. AnswersPage d ms filling (answer_of reply))
+told_at catalog name ms filling (Ok reply) d at h = h d at
+told_at catalog name ms filling (Err stop) d at h = tt

@@ -1,0 +1,49 @@
+-- What was examined, item by item and step by step.
+use Rattle.std.proofs.Common.{◌≡◌, refl, sym, ap, subst, ◌∙◌, ℕ, ◌<◌, Bool, true, false, not, List, [], ◌∷◌, ◌++◌, length, take, drop, Option, Some, None, append_assoc, take-append-drop, is_some, arith}
+use Rattle.std.specs.List.{last_or}
+use Rattle.alt_expr.specs.Pages as pages
+use Rattle.alt_expr.specs.Pages.{ends_early}
+use Rattle.alt_ops_query.specs.Filled.{HasExamined, HasFilled, Examines}
+use Rattle.alt_ops_query.specs.declared.walking.Filling.{Filling}
+use Rattle.alt_paging.specs.Offered.{WasOffered, has_ended}
+use Rattle.alt_paging.specs.declared.ask.PageAsk.{PageAsk}
+use Rattle.alt_paging.proofs.PageLaws.{full_prefix-ended, examined-ended}
+use Rattle.alt_value.specs.Tree.{Pair}
+
+-- the last of a list with one more
+pub last_push : {A : Type 0} (o : Option A) (xs : List A) (x : A) → last_or o (xs ++ x ∷ []) ≡ Some x
+last_push o [] x = refl
+last_push o (y ∷ ys) x = last_push (Some y) ys x
+
+-- one more after others
+pub examined_on : (filling : Filling) (ask : PageAsk) (seen some : List (List Pair)) (item : List Pair)
+    → HasExamined filling ask ((seen ++ some) ++ item ∷ [])
+    → HasExamined filling ask (seen ++ (some ++ item ∷ []))
+examined_on filling ask seen some item h =
+    subst (HasExamined filling ask) (append_assoc seen some (item ∷ [])) h
+
+module _ (filling : Filling) (ask : PageAsk) (list : List (List Pair)) where
+  -- all was examined, and the page goes on
+  pub filled_all : HasExamined filling ask list → HasFilled filling ask list
+  filled_all h = record {
+    whole = subst (HasExamined filling ask) (sym h.offered.whole) h;
+    ends = ap (ends_early ask.limit) h.offered.whole;
+  }
+
+  -- a front was, which ended it
+  pub filled_front : (front rest : List (List Pair)) → list ≡ front ++ rest
+      → HasExamined filling ask front → ends_early ask.limit front ≡ true
+      → HasFilled filling ask list
+  filled_front front rest is h ended =
+      let seen : pages.examined ask.limit list ≡ front =
+      ap (pages.examined ask.limit) is ∙ examined-ended ask.limit front rest ended
+      ∙ h.offered.whole in
+      record {
+        whole = subst (HasExamined filling ask) (sym seen) h;
+        ends = ap (ends_early ask.limit) seen ∙ ended ∙ sym (longer_ends
+            ∙ ended);
+      }
+    where
+      longer_ends : ends_early ask.limit list ≡ ends_early ask.limit front
+      longer_ends = ap (ends_early ask.limit) is
+          ∙ ap is_some (full_prefix-ended ask.limit front rest ended)

@@ -1,0 +1,187 @@
+-- The range of a key condition holds the items of which it holds.
+use Rattle.std.proofs.Common.{◌≡◌, refl, sym, ap, subst, ◌∙◌, ℕ, Bool, true, false, ◌&&◌, List, [], ◌∷◌, ◌++◌, Option, Some, None, Result, Ok, Err, option_map, append-nil}
+use Rattle.std.specs.Prelude.{◌↔◌}
+use Rattle.std.specs.BTreeMap.Range.{range_contains}
+use Rattle.std.specs.Cmp.{both_ways}
+use Rattle.std.specs.declared.ops.Bound.TheVariants.{Included}
+use Rattle.alt_expr.specs.Holds.{equal, same}
+use Rattle.alt_expr.specs.KeyForm.{Key, Ask, ask_of, in_range, meets, range_meets}
+use Rattle.alt_expr.specs.Pages.{passes}
+use Rattle.alt_expr.specs.declared.cond.Cond.{Cond}
+use Rattle.alt_expr.proofs.SameValues.{same_decides}
+use Rattle.alt_keycond.specs.Asked.{test_of, asks}
+use Rattle.alt_keycond.specs.KeysAsked.{AsksOfKind, HoldsAsked}
+use Rattle.alt_keycond.specs.declared.ask.KeyAsk.{KeyAsk}
+use Rattle.alt_keycond.specs.declared.ask.RangeAsk.{RangeAsk}
+use Rattle.alt_keycond.specs.declared.ask.RangeAsk.TheVariants as r
+use Rattle.alt_keyorder.specs.Kinds.{IsOfKind, IsKeyFor}
+use Rattle.alt_keyorder.specs.Place.{place_bytes, place_in_table}
+use Rattle.alt_keyorder.specs.Range.{AreBytes, IsInRange}
+use Rattle.alt_keyorder.specs.declared.range.KeyRange.{KeyRange}
+use Rattle.alt_machine.specs.Lists.{walk_start}
+use Rattle.alt_machine.specs.Ops.Query.{key_of, key_asked}
+use Rattle.alt_machine.specs.Outcomes.{with_found}
+use Rattle.alt_machine.specs.Refusals.{or_refused}
+use Rattle.alt_machine.specs.Valid.{IsStored}
+use Rattle.alt_machine.specs.Walks.{end_bound, is_beyond}
+use Rattle.alt_ops_query.specs.Asked.{AreHeld, Asks, IsAsked, IsPlaced, Places}
+use Rattle.alt_ops_query.specs.Ranges.{IsBeyond, HoldsListed}
+use Rattle.alt_ops_query.proofs.KeyKinds.{asks_kinds}
+use Rattle.alt_ops_query.proofs.PlaceBytes.{stored_bytes}
+use Rattle.alt_ops_query.proofs.Rests.{contains_so, so_contains, contains_beyond}
+use Rattle.alt_ops_query.proofs.Stored.{IsPart, IsBeside, IsKeyed, keyed}
+use Rattle.alt_request.specs.Steps.{Comes}
+use Rattle.alt_request.specs.declared.stop.Stop.{Stop}
+use Rattle.alt_request.specs.declared.stop.Stop.TheVariants.{Refused, Fault}
+use Rattle.alt_schema.specs.declared.schema.KeyAttr.{KeyAttr}
+use Rattle.alt_schema.specs.declared.schema.TableSchema.{TableSchema}
+use Rattle.alt_shape.specs.Refusals.{bad_key_condition}
+use Rattle.alt_value.specs.Item.{at_name}
+use Rattle.alt_value.specs.Members.{text_order}
+use Rattle.alt_value.specs.Stands.{tree_of}
+use Rattle.alt_value.specs.Tree.{Tree, Pair}
+use Rattle.alt_value.specs.Values.{IsValue, IsItemOfValues}
+
+both_true : (a b : Bool) → (a && b) ≡ true → (a ≡ true) × (b ≡ true)
+both_true true b e = (refl, e)
+both_true false b e = absurd (let f : ⊥ = cc in f)
+
+true_both : (a b : Bool) → a ≡ true → b ≡ true → (a && b) ≡ true
+true_both true b e f = f
+true_both false b e f = e
+
+and_turned : (a b : Bool) → (a && b) ≡ (b && a)
+and_turned true true = refl
+and_turned true false = refl
+and_turned false true = refl
+and_turned false false = refl
+
+-- the kinds of a key
+kinds_of : (item : List Pair) (h : KeyAttr) (hash : Tree) (k : Option KeyAttr) (range : Option Tree)
+    → IsPart item h hash → IsBeside item k range
+    → IsKeyFor h.kind (option_map (λ x. x.kind) k) hash range
+kinds_of item h hash None None part beside = part.kind
+kinds_of item h hash None (Some t) part beside = absurd beside
+kinds_of item h hash (Some key) None part beside = absurd beside
+kinds_of item h hash (Some key) (Some t) part beside = (part.kind, beside.kind)
+
+-- a test of the RANGE value, as the item has it
+range_test : (item : List Pair) (k : Option KeyAttr) (range : Option Tree) (ask : RangeAsk)
+    → IsBeside item k range → AsksOfKind (option_map (λ x. x.kind) k) ask
+    → range_meets (option_map key_of k) (test_of ask) (λ name. at_name name item)
+    ≡ in_range (test_of ask) range
+range_test item None None r.All beside kinds = refl
+range_test item None None (r.Eq v) beside kinds = absurd kinds
+range_test item None None (r.Lt v) beside kinds = absurd kinds
+range_test item None None (r.Le v) beside kinds = absurd kinds
+range_test item None None (r.Gt v) beside kinds = absurd kinds
+range_test item None None (r.Ge v) beside kinds = absurd kinds
+range_test item None None (r.Between low high) beside kinds = absurd kinds
+range_test item None None (r.Begins v) beside kinds = absurd kinds
+range_test item None (Some t) ask beside kinds = absurd beside
+range_test item (Some key) None ask beside kinds = absurd beside
+range_test item (Some key) (Some t) ask beside kinds = ap (in_range (test_of ask)) beside.at
+
+module _ (d : TableSchema) (condition : Option Cond) (ask : KeyAsk)
+    (hash_kind : IsOfKind d.hash.kind (tree_of ask.hash))
+    (range_kind : AsksOfKind (option_map (λ x. x.kind) d.range) ask.range)
+    (holds : (item : List Pair) → passes condition item
+    ≡ meets (key_of d.hash) (option_map key_of d.range) (asks ask) (λ name. at_name name item)) where
+  -- a stored item passes exactly where its key is one that is asked for
+  passes_is : (key : List ℕ) (item : List Pair) (keys : IsKeyed d item key)
+      → passes condition item
+      ≡ (same keys.hash (tree_of ask.hash) && in_range (test_of ask.range) keys.range)
+  passes_is key item keys = holds item
+      ∙ (λ i. equal (keys.has_hash.at i) (Some (tree_of ask.hash)) && range_test item d.range keys.range ask.range
+      keys.has_range range_kind i)
+
+  pub holds_listed : (forward : Bool) (place : Option (List ℕ)) (from : List ℕ)
+      (to : Option (List ℕ)) (first : List ℕ) (last : Option (List ℕ)) → HoldsAsked ask from to
+      → IsBeyond forward place from to first last
+      → HoldsListed forward place (passes condition) d first last
+  unfolding HoldsAsked
+  holds_listed forward place from to first last asked beyond key item stored held =
+      let keys = keyed d item key held.fields stored.stands in
+      let kinds = kinds_of item d.hash keys.hash d.range keys.range keys.has_hash keys.has_range in
+      let whole : place_bytes (place_in_table keys.hash keys.range) ++ [] ≡ key =
+      append-nil (place_bytes (place_in_table keys.hash keys.range)) ∙ sym keys.is in
+      let both = asked d.hash.kind (option_map (λ (x : KeyAttr). x.kind) d.range) hash_kind
+      range_kind keys.hash keys.range [] kinds
+      (subst AreBytes (sym whole) (stored_bytes d key item stored held)) in
+      let test = passes_is key item keys in
+      contains_beyond forward place from to first last beyond key
+      ∙ ap (λ b. b && is_beyond forward place key) (both_ways _ _
+      (λ e.
+      let so = both.0 (subst (IsInRange from to) (sym whole) (contains_so from to key e)) in
+      test ∙ true_both _ _ ((same_decides keys.hash (tree_of ask.hash)).1 so.0) so.1)
+      (λ e.
+      let tests = both_true _ _ (sym test ∙ e) in
+      so_contains from to key (subst (IsInRange from to) whole
+      (both.1 ((same_decides keys.hash (tree_of ask.hash)).0 tests.0, tests.1)))))
+      ∙ and_turned (passes condition item) (is_beyond forward place key)
+
+-- ---- what is asked, and what stops it
+
+kinds_same : (k : Option KeyAttr)
+    → option_map (λ (x : Key). x.kind) (option_map key_of k) ≡ option_map (λ (x : KeyAttr). x.kind) k
+kinds_same None = refl
+kinds_same (Some k) = refl
+
+-- a condition that asks is there
+some_asked : (d : TableSchema) (condition : Option Cond) (ask : Ask) → key_asked d condition ≡ Ok ask
+    → (x : Cond) × (ask_of (key_of d.hash) (option_map key_of d.range) x ≡ Some ask)
+some_asked d None ask e = absurd (let f : ⊥ = cc in f)
+some_asked d (Some x) ask e = (x, by (ask_of (key_of d.hash) (option_map key_of d.range) x) e)
+  where
+    by : (o : Option Ask) → or_refused bad_key_condition o ≡ Ok ask → o ≡ Some ask
+    by None f = absurd (let g : ⊥ = cc in g)
+    by (Some q) f = let same : q ≡ ask = cc in ap (λ z. Some z) same
+
+module _ (d : TableSchema) (condition : Option Cond) (start : Option (List Pair)) (forward : Bool) where
+  pub asked_so : (ask : KeyAsk) → key_asked d condition ≡ Ok (asks ask)
+      → ((item : List Pair) → passes condition item
+      ≡ meets (key_of d.hash) (option_map key_of d.range) (asks ask) (λ name. at_name name item))
+      → IsValue (tree_of ask.hash) → AreHeld ask.range → (range : KeyRange)
+      → IsPlaced d ask start forward range → IsAsked d condition start forward range
+  asked_so ask e holds held range_held range p =
+      let x = some_asked d condition (asks ask) e in
+      let kinds = asks_kinds (key_of d.hash) (option_map key_of d.range) x.0 ask x.1 held range_held in
+      record {
+        ask = asks ask;
+        asks = e;
+        place = p.place;
+        starts = p.starts;
+        holds = holds_listed d condition ask kinds.0
+            (subst (λ k. AsksOfKind k ask.range) (kinds_same d.range) kinds.1) holds forward p.place
+            p.from p.to range.from range.to p.holds p.beyond;
+      }
+
+  -- the machine asks nothing either
+  pub no_ask : (stop : Stop) → Comes {X = KeyAsk} asks (key_asked d condition) (Err stop)
+      → Asks d condition start forward (Err stop)
+  no_ask (Refused r) h = (
+    h.1,
+    λ go. ap (λ q. with_found q
+        (λ ask. with_found (walk_start d (Some ask.hash) start) (go ask))) h.0,
+  )
+  no_ask (Fault f) h = h
+
+  -- or it starts nowhere
+  pub no_place : (ask : KeyAsk) → key_asked d condition ≡ Ok (asks ask) → (stop : Stop)
+      → Places d ask start forward (Err stop) → Asks d condition start forward (Err stop)
+  no_place ask e (Refused r) h = (
+    h.0,
+    λ go. ap (λ q. with_found q
+        (λ ask. with_found (walk_start d (Some ask.hash) start) (go ask))) e
+        ∙ ap (λ q. with_found q (go (asks ask))) h.1,
+  )
+  no_place ask e (Fault f) h = h
+
+  pub asked_by : (ask : KeyAsk) → key_asked d condition ≡ Ok (asks ask)
+      → ((item : List Pair) → passes condition item
+      ≡ meets (key_of d.hash) (option_map key_of d.range) (asks ask) (λ name. at_name name item))
+      → IsValue (tree_of ask.hash) → AreHeld ask.range → (result : Result KeyRange Stop)
+      → Places d ask start forward result → Asks d condition start forward result
+  asked_by ask e holds held range_held (Ok range) p =
+      asked_so ask e holds held range_held range p
+  asked_by ask e holds held range_held (Err stop) p = no_place ask e stop p

@@ -1,0 +1,17 @@
+pub mod Answering
+pub mod Beyond
+pub mod Described
+pub mod Filling
+pub mod Kept
+pub mod KeyKinds
+pub mod KeyRanges
+pub mod Limited
+pub mod Lists
+pub mod PlaceBytes
+pub mod Rests
+pub mod Segments
+pub mod Shown
+pub mod Steps
+pub mod Stored
+pub mod WalkLaws
+pub mod Whole

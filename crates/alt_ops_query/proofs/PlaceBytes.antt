@@ -1,0 +1,159 @@
+-- The places of stored items are bytes.
+use Rattle.std.proofs.Common.{◌≡◌, refl, sym, ap, subst, ◌∙◌, ℕ, zero, suc, ◌+◌, ◌-◌, ◌*◌, ◌<◌, ◌≤◌, ◌^◌, ◌/◌, ◌%◌, ◌==◌, cond, ltb, Bool, true, false, ◌&&◌, ⊎_elim, List, [], ◌∷◌, ◌++◌, map, length, Option, Some, None, ℤ, pos, nat_abs, arith}
+use Rattle.std.proofs.Math.Utf8.{scalar, scalars, encode, encodes, scalar_cases}
+use Rattle.std.proofs.lemmas.Int.Digits.{all_below_base_digits_of, length-digits_of-le}
+use Rattle.std.specs.Int.{w64, to_be_bytes, is_negative}
+use Rattle.std.specs.Int.Digits.{digits_of, AllBelowBase}
+use Rattle.std.specs.List.{AllByRecursion}
+use Rattle.std.specs.Str.{IsUtf8}
+use Rattle.alt_decimal.specs.Digits.{width, trimmed}
+use Rattle.alt_decimal.specs.Number.{Fits, IsMagnitude}
+use Rattle.alt_decimal.specs.Spelled.{spelled, magnitude_bytes, pairs, complement}
+use Rattle.alt_keyorder.specs.KeyBytes.{escaped, closed, key_bytes}
+use Rattle.alt_keyorder.specs.Place.{place_bytes, place_in_table}
+use Rattle.alt_keyorder.specs.Range.{AreBytes}
+use Rattle.alt_keyorder.specs.Token.{token_of}
+use Rattle.alt_machine.specs.Valid.{IsStored}
+use Rattle.alt_ops_query.proofs.Stored.{IsBeside, field_value, keyed, same_Some}
+use Rattle.alt_schema.specs.declared.schema.KeyAttr.{KeyAttr}
+use Rattle.alt_schema.specs.declared.schema.TableSchema.{TableSchema}
+use Rattle.alt_value.specs.Tree.{Tree, S_tree, N_tree, B_tree, BOOL_tree, NULL_tree, SS_tree, NS_tree, BS_tree, L_tree, M_tree, Pair, fields_of}
+use Rattle.alt_value.specs.Values.{IsValue, AreFields, IsItemOfValues}
+
+-- bytes behind bytes are bytes
+both_bytes : (a b : List ℕ) → AreBytes a → AreBytes b → AreBytes (a ++ b)
+both_bytes [] b h k = k
+both_bytes (x ∷ a) b h k = (h.0, both_bytes a b h.1 k)
+
+-- by a test
+by_test : (b : Bool) (x y : List ℕ) → (b ≡ true → AreBytes x) → (b ≡ false → AreBytes y)
+    → AreBytes (cond b x y)
+by_test true x y h k = h refl
+by_test false x y h k = k refl
+
+all_bytes : (bs : List ℕ) → AllByRecursion (λ b. b < 256) bs → AreBytes bs
+all_bytes [] h = tt
+all_bytes (b ∷ bs) h = (h.0, all_bytes bs h.1)
+
+-- ---- texts and binaries
+
+escaped_bytes : (s : List ℕ) → AreBytes s → AreBytes (escaped s)
+escaped_bytes [] h = tt
+escaped_bytes (zero ∷ s) h = (omega arith, (omega arith, escaped_bytes s h.1))
+escaped_bytes (suc b ∷ s) h = (h.0, escaped_bytes s h.1)
+
+closed_bytes : (s : List ℕ) → AreBytes s → AreBytes (closed s)
+closed_bytes s h =
+    both_bytes (escaped s) (0 ∷ 0 ∷ []) (escaped_bytes s h) (omega arith, (omega arith, tt))
+
+scalar_below : (c : ℕ) → scalar c ≡ true → c < 1114112
+scalar_below c e = ⊎_elim (λ (h : c < 55296). omega (arith, h))
+    (λ (h : (57344 ≤ c) × (c < 1114112)). h.1) (scalar_cases c e)
+
+character_bytes : (c : ℕ) → scalar c ≡ true → AreBytes (encode c)
+unfolding encode
+character_bytes c ok =
+    let most : c < 1114112 = scalar_below c ok in
+    let next : ℕ → ℕ = λ bits. 128 + bits % 64 in
+    let four : List ℕ =
+    (240 + c / 262144) ∷ next (c / 4096) ∷ next (c / 64) ∷ next c ∷ [] in
+    let three : List ℕ = (224 + c / 4096) ∷ next (c / 64) ∷ next c ∷ [] in
+    let two : List ℕ = (192 + c / 64) ∷ next c ∷ [] in
+    by_test (ltb c 128) (c ∷ []) (cond (ltb c 2048) two (cond (ltb c 65536) three four)) (λ e. let low : c < 128 = grind (arith, e) in (omega (arith, low), tt))
+    (λ e. by_test (ltb c 2048) two (cond (ltb c 65536) three four)
+    (λ f. let low : c < 2048 = grind (arith, f) in (omega (arith, low), (omega arith, tt)))
+    (λ f. by_test (ltb c 65536) three four
+    (λ g. let low : c < 65536 = grind (arith, g) in
+    (omega (arith, low), (omega arith, (omega arith, tt))))
+    (λ g. (omega (arith, most), (omega arith, (omega arith, (omega arith, tt)))))))
+
+characters_bytes : (cs : List ℕ) → scalars cs ≡ true → AreBytes (encodes cs)
+characters_bytes [] ok = tt
+characters_bytes (c ∷ cs) ok = by (scalar c) refl ok (λ e. characters_bytes cs e)
+  where
+    by : (b : Bool) → scalar c ≡ b → (b && scalars cs) ≡ true
+        → (scalars cs ≡ true → AreBytes (encodes cs)) → AreBytes (encode c ++ encodes cs)
+    by true is e rest = both_bytes (encode c) (encodes cs) (character_bytes c is) (rest e)
+    by false is e rest = absurd (let f : ⊥ = cc in f)
+
+text_bytes : (s : List ℕ) → IsUtf8 s → AreBytes s
+text_bytes s u = subst AreBytes u.1.1 (characters_bytes u.0 u.1.0)
+
+-- ---- numbers
+
+pairs_bytes : (ds : List ℕ) → AllBelowBase 10 ds → AreBytes (pairs ds)
+pairs_bytes [] h = tt
+pairs_bytes (a ∷ []) h = (omega (arith, h.0), tt)
+pairs_bytes (a ∷ b ∷ ds) h = (omega (arith, h.0, h.1.0), pairs_bytes ds h.1.1)
+
+complement_bytes : (bs : List ℕ) → AreBytes (complement bs)
+complement_bytes [] = tt
+complement_bytes (b ∷ bs) = (omega arith, complement_bytes bs)
+
+magnitude_are_bytes : (m : ℕ) → IsMagnitude m → AreBytes (magnitude_bytes m)
+unfolding magnitude_bytes width
+magnitude_are_bytes m size =
+    let few : length (digits_of 10 m) ≤ 293 = length-digits_of-le 10 293 m (omega arith) size.below in (
+      omega (arith, few),
+      both_bytes (pairs (digits_of 10 (trimmed m))) (0 ∷ [])
+          (pairs_bytes (digits_of 10 (trimmed m)) (all_below_base_digits_of 10 (trimmed m) (omega arith)))
+          (omega arith, tt),
+    )
+
+spelled_bytes : (z : ℤ) → Fits z → AreBytes (spelled z)
+unfolding spelled
+spelled_bytes z fits = by_test (nat_abs z == 0) _ _ (λ e. (omega arith, tt))
+    (λ e. by_test (is_negative z) _ _ (λ f. (omega arith, complement_bytes (magnitude_bytes (nat_abs z))))
+    (λ f. (omega arith, magnitude_are_bytes (nat_abs z) (size e))))
+  where
+    size : (nat_abs z == 0) ≡ false → IsMagnitude (nat_abs z)
+    size e = ⊎_elim
+        (λ (is : z ≡ pos 0). let no : true ≡ false = ap (λ x. nat_abs x == 0) (sym is) ∙ e in
+        absurd (let f : ⊥ = cc in f))
+        (λ (h : IsMagnitude (nat_abs z)). h) fits
+
+-- ---- places
+
+-- the key part of a value
+part_bytes : (t : Tree) → IsValue t → AreBytes (key_bytes t)
+part_bytes (S_tree s) v = closed_bytes s (text_bytes s v.0)
+part_bytes (N_tree z) v = spelled_bytes z v
+part_bytes (B_tree b) v = closed_bytes b (all_bytes b v.0)
+part_bytes (BOOL_tree b) v = tt
+part_bytes NULL_tree v = tt
+part_bytes (SS_tree ss) v = tt
+part_bytes (NS_tree zs) v = tt
+part_bytes (BS_tree bs) v = tt
+part_bytes (L_tree ts) v = tt
+part_bytes (M_tree fs) v = tt
+
+token_are_bytes : (n : ℕ) → AreBytes (to_be_bytes w64 n)
+token_are_bytes n = (omega arith, (omega arith, (omega arith, (omega arith, (omega arith, (omega arith,
+    (omega arith, (omega arith, tt))))))))
+
+-- the place of values
+pub values_place : (hash : Tree) (range : Option Tree) → IsValue hash
+    → ((t : Tree) → range ≡ Some t → IsValue t) → AreBytes (place_bytes (place_in_table hash range))
+values_place hash None h r = both_bytes (to_be_bytes w64 (token_of hash)) (key_bytes hash ++ [])
+    (token_are_bytes (token_of hash)) (both_bytes (key_bytes hash) [] (part_bytes hash h) tt)
+values_place hash (Some range) h r =
+    both_bytes (to_be_bytes w64 (token_of hash)) (key_bytes hash ++ (key_bytes range ++ []))
+    (token_are_bytes (token_of hash)) (both_bytes (key_bytes hash) (key_bytes range ++ [])
+    (part_bytes hash h) (both_bytes (key_bytes range) [] (part_bytes range (r range refl)) tt))
+
+beside_value : (item : List Pair) (k : Option KeyAttr) (range : Option Tree)
+    → AreFields (fields_of item) → IsBeside item k range → (t : Tree) → range ≡ Some t → IsValue t
+beside_value item None None h beside t e = absurd (let f : ⊥ = cc in f)
+beside_value item None (Some u) h beside t e = absurd beside
+beside_value item (Some key) None h beside t e = absurd beside
+beside_value item (Some key) (Some u) h beside t e =
+    subst IsValue (same_Some u t e) (field_value key.name item u h beside.at)
+
+-- the place of a stored item
+pub stored_bytes : (d : TableSchema) (key : List ℕ) (item : List Pair) → IsStored d key item
+    → IsItemOfValues item → AreBytes key
+stored_bytes d key item stored held =
+    let keys = keyed d item key held.fields stored.stands in
+    subst AreBytes (sym keys.is) (values_place keys.hash keys.range
+    (field_value d.hash.name item keys.hash held.fields keys.has_hash.at)
+    (beside_value item d.range keys.range held.fields keys.has_range))

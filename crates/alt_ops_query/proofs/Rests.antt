@@ -1,0 +1,278 @@
+-- The items of a range beyond the last of those that a step gave are the others.
+use Rattle.std.proofs.Common.{◌≡◌, ◌≢◌, refl, sym, ap, subst, ◌∙◌, cond, ℕ, zero, suc, ◌<◌, ◌≤◌, Bool, true, false, not, ◌&&◌, T, List, [], ◌∷◌, ◌++◌, map, reverse, take, drop, length, Option, Some, None, All, append_assoc, append-nil, take-append-drop, arith}
+use Rattle.std.specs.Prelude.{◌↔◌}
+use Rattle.std.specs.BTreeMap.Range.{entries_between, range_contains}
+use Rattle.std.specs.Cmp.{both_ways}
+use Rattle.std.specs.Cmp.Lexicographic.{nat_list_cmp_total}
+use Rattle.std.specs.FinMap as finite
+use Rattle.std.specs.FinMap.Entries.{below_all, is_sorted}
+use Rattle.std.specs.List.{filter, last_or}
+use Rattle.std.specs.declared.cmp.Ordering.{Ordering}
+use Rattle.std.specs.declared.cmp.Ordering.TheVariants.{Less, Equal, Greater}
+use Rattle.std.specs.declared.ops.Bound.TheVariants.{Included}
+use Rattle.std.specs.Ordering.{is_lt, is_le, ordering_reverse}
+use Rattle.std.proofs.lemmas.List.{reverse-append, map-append}
+use Rattle.std.proofs.lemmas.List.Elements.{All-nil, All-cons, All-head, All-tail, All-append, All-filter, All-map, filter-append}
+use Rattle.std.proofs.lemmas.List.Sorted.{All-permutation, IsPermutation-reverse}
+use Rattle.alt_cells.proofs.Entries.{first, second}
+use Rattle.alt_keyorder.specs.Range.{IsInRange, IsBelow, IsBelowEnd, IsUpTo}
+use Rattle.alt_machine.specs.State.{Table}
+use Rattle.alt_machine.specs.Walks.{end_bound, is_beyond, items_between, placed_items, turned}
+use Rattle.alt_ops_query.specs.Ranges.{IsBeyond}
+use Rattle.alt_ops_query.proofs.Filling.{last_push}
+use Rattle.alt_ops_query.proofs.Lists.{filter_same, filter_both, filter-turned}
+use Rattle.alt_value.specs.Members.{text_order}
+use Rattle.alt_value.specs.Tree.{Pair}
+
+-- an item with its place
+abbrev Entry : Type 0
+Entry = List ℕ × List Pair
+
+-- ---- a range, as a test and as a fact
+
+le_not : (o : Ordering) → is_le o ≡ true → o ≢ Greater
+le_not Less e = λ f. cc
+le_not Equal e = λ f. cc
+le_not Greater e = absurd (let f : ⊥ = cc in f)
+
+not_le : (o : Ordering) → o ≢ Greater → is_le o ≡ true
+not_le Less h = refl
+not_le Equal h = refl
+not_le Greater h = absurd (h refl)
+
+over_less : (o : Ordering) → not (is_le o) ≡ true → ordering_reverse o ≡ Less
+over_less Less e = absurd (let f : ⊥ = cc in f)
+over_less Equal e = absurd (let f : ⊥ = cc in f)
+over_less Greater e = refl
+
+less_over : (o : Ordering) → ordering_reverse o ≡ Less → not (is_le o) ≡ true
+less_over Less e = absurd (let f : ⊥ = cc in f)
+less_over Equal e = absurd (let f : ⊥ = cc in f)
+less_over Greater e = refl
+
+both_true : (a b : Bool) → (a && b) ≡ true → (a ≡ true) × (b ≡ true)
+both_true true b e = (refl, e)
+both_true false b e = absurd (let f : ⊥ = cc in f)
+
+true_both : (a b : Bool) → a ≡ true → b ≡ true → (a && b) ≡ true
+true_both true b e f = f
+true_both false b e f = e
+
+pub contains_so : (from : List ℕ) (to : Option (List ℕ)) (key : List ℕ)
+    → range_contains text_order (Included from) (end_bound to) key ≡ true → IsInRange from to key
+contains_so from None key e = (le_not (text_order from key) (both_true _ _ e).0, tt)
+contains_so from (Some to) key e =
+    let both = both_true (is_le (text_order from key)) (not (is_le (text_order to key))) e in (
+      le_not (text_order from key) both.0,
+      nat_list_cmp_total.antisymm key to ∙ over_less (text_order to key) both.1,
+    )
+
+pub so_contains : (from : List ℕ) (to : Option (List ℕ)) (key : List ℕ) → IsInRange from to key
+    → range_contains text_order (Included from) (end_bound to) key ≡ true
+so_contains from None key h = true_both (is_le (text_order from key)) true
+    (not_le (text_order from key) h.0) refl
+so_contains from (Some to) key h =
+    true_both (is_le (text_order from key)) (not (is_le (text_order to key)))
+    (not_le (text_order from key) h.0)
+    (less_over (text_order to key) (sym (nat_list_cmp_total.antisymm key to) ∙ h.1))
+
+-- the test of the part beyond a place is both tests
+pub contains_beyond : (forward : Bool) (place : Option (List ℕ)) (from : List ℕ)
+    (to : Option (List ℕ)) (first : List ℕ) (last : Option (List ℕ))
+    → IsBeyond forward place from to first last → (key : List ℕ)
+    → range_contains text_order (Included first) (end_bound last) key
+    ≡ (range_contains text_order (Included from) (end_bound to) key && is_beyond forward place key)
+contains_beyond forward place from to first last beyond key = both_ways _ _
+    (λ e.
+    let both = (beyond key).0 (contains_so first last key e) in
+    true_both _ _ (so_contains from to key both.0) both.1)
+    (λ e.
+    let both = both_true _ _ e in
+    so_contains first last key ((beyond key).1 (contains_so from to key both.0, both.1)))
+
+-- ---- places in the order of a walk
+
+-- a place is beyond another
+abbrev After : Bool → Entry → Entry → Type 0
+After forward e x = is_beyond forward (Some e.0) x.0 ≡ true
+
+-- each entry is beyond those before it
+AreOrdered : Bool → List Entry → Type 0
+AreOrdered forward [] = Unit {0}
+AreOrdered forward (e ∷ es) = All (After forward e) es × AreOrdered forward es
+
+all_below : (key : List ℕ) (es : List Entry) → T (below_all text_order key es)
+    → All (λ x. is_lt (text_order key x.0) ≡ true) es
+all_below key [] h = All-nil (λ (x : Entry). is_lt (text_order key x.0) ≡ true)
+all_below key (e ∷ es) h = All-cons (λ (x : Entry). is_lt (text_order key x.0) ≡ true) e es (is_so (is_lt (text_order key e.0)) (first _ _ h))
+    (all_below key es (second (is_lt (text_order key e.0)) _ h))
+  where
+    is_so : (b : Bool) → T b → b ≡ true
+    is_so true t = refl
+    is_so false t = absurd t
+
+sorted_ordered : (es : List Entry) → T (is_sorted text_order es) → AreOrdered true es
+unfolding AreOrdered
+sorted_ordered [] h = tt
+sorted_ordered (e ∷ es) h = (
+  all_below e.0 es (first _ (is_sorted text_order es) h),
+  sorted_ordered es (second (below_all text_order e.0 es) _ h),
+)
+
+ordered_push : (forward : Bool) (xs : List Entry) (e : Entry) → AreOrdered forward xs
+    → All (λ x. After forward x e) xs → AreOrdered forward (xs ++ e ∷ [])
+unfolding AreOrdered
+ordered_push forward [] e h all = (All-nil _, tt)
+ordered_push forward (x ∷ xs) e h all = (
+  All-append (After forward x) xs (e ∷ []) h.0
+      (All-cons (After forward x) e [] (All-head (λ y. After forward y e) x xs all) (All-nil _)),
+  ordered_push forward xs e h.1 (All-tail (λ y. After forward y e) x xs all),
+)
+
+ordered_reverse : (es : List Entry) → AreOrdered true es → AreOrdered false (reverse es)
+unfolding AreOrdered
+ordered_reverse [] h = tt
+ordered_reverse (e ∷ es) h = subst (AreOrdered false) (sym (reverse-append (e ∷ []) es))
+    (ordered_push false (reverse es) e (ordered_reverse es h.1)
+    (All-permutation (λ x. After false x e) es (reverse es) (IsPermutation-reverse es) h.0))
+
+ordered_turned : (forward : Bool) (es : List Entry) → AreOrdered true es
+    → AreOrdered forward (turned forward es)
+ordered_turned true es h = h
+ordered_turned false es h = ordered_reverse es h
+
+ordered_filter : (forward : Bool) (p : Entry → Bool) (es : List Entry) → AreOrdered forward es
+    → AreOrdered forward (filter p es)
+unfolding AreOrdered
+ordered_filter forward p [] h = tt
+ordered_filter forward p (e ∷ es) h = by (p e) (ordered_filter forward p es h.1)
+    (All-filter p (After forward e) es h.0)
+  where
+    by : (b : Bool) → AreOrdered forward (filter p es) → All (After forward e) (filter p es)
+        → AreOrdered forward (cond b (e ∷ filter p es) (filter p es))
+    by true rest all = (all, rest)
+    by false rest all = rest
+
+-- ---- what is beyond one of them
+
+is_less : (o : Ordering) → is_lt o ≡ true → o ≡ Less
+is_less Less e = refl
+is_less Equal e = absurd (let f : ⊥ = cc in f)
+is_less Greater e = absurd (let f : ⊥ = cc in f)
+
+reverse_not : (o : Ordering) → is_lt o ≡ true → is_lt (ordering_reverse o) ≡ false
+reverse_not Less e = refl
+reverse_not Equal e = absurd (let f : ⊥ = cc in f)
+reverse_not Greater e = absurd (let f : ⊥ = cc in f)
+
+self_not : (o : Ordering) → o ≡ ordering_reverse o → is_lt o ≡ false
+self_not Less e = absurd (let f : ⊥ = cc in f)
+self_not Equal e = refl
+self_not Greater e = refl
+
+not_back : (forward : Bool) (x e : Entry) → After forward x e
+    → is_beyond forward (Some e.0) x.0 ≡ false
+not_back true x e h = ap is_lt (nat_list_cmp_total.antisymm e.0 x.0)
+    ∙ reverse_not (text_order x.0 e.0) h
+not_back false x e h = ap is_lt (nat_list_cmp_total.antisymm x.0 e.0)
+    ∙ reverse_not (text_order e.0 x.0) h
+
+not_self : (forward : Bool) (e : Entry) → is_beyond forward (Some e.0) e.0 ≡ false
+not_self true e = self_not (text_order e.0 e.0) (nat_list_cmp_total.antisymm e.0 e.0)
+not_self false e = self_not (text_order e.0 e.0) (nat_list_cmp_total.antisymm e.0 e.0)
+
+filter_all : {A : Type 0} (p : A → Bool) (xs : List A) → All (λ x. p x ≡ true) xs
+    → filter p xs ≡ xs
+filter_all p [] all = refl
+filter_all p (x ∷ xs) all =
+    ap (λ b. cond b (x ∷ filter p xs) (filter p xs)) (All-head (λ y. p y ≡ true) x xs all)
+    ∙ ap (λ l. x ∷ l) (filter_all p xs (All-tail (λ y. p y ≡ true) x xs all))
+
+middle : (forward : Bool) (x : Entry) (xs : List Entry) (e : Entry) (ys : List Entry)
+    → All (After forward x) (xs ++ e ∷ ys) → After forward x e
+middle forward x [] e ys all = All-head (After forward x) e ys all
+middle forward x (z ∷ xs) e ys all =
+    middle forward x xs e ys (All-tail (After forward x) z (xs ++ e ∷ ys) all)
+
+-- of an ordered list it is what stands behind it
+beyond_is : (forward : Bool) (xs : List Entry) (e : Entry) (ys : List Entry)
+    → AreOrdered forward (xs ++ e ∷ ys)
+    → filter (λ x. is_beyond forward (Some e.0) x.0) (xs ++ e ∷ ys) ≡ ys
+unfolding AreOrdered
+beyond_is forward [] e ys h =
+    ap (λ b. cond b (e ∷ filter (λ x. is_beyond forward (Some e.0) x.0) ys)
+    (filter (λ x. is_beyond forward (Some e.0) x.0) ys)) (not_self forward e)
+    ∙ filter_all (λ x. is_beyond forward (Some e.0) x.0) ys h.0
+beyond_is forward (x ∷ xs) e ys h =
+    ap (λ b. cond b (x ∷ filter (λ z. is_beyond forward (Some e.0) z.0) (xs ++ e ∷ ys))
+    (filter (λ z. is_beyond forward (Some e.0) z.0) (xs ++ e ∷ ys)))
+    (not_back forward x e (middle forward x xs e ys h.0))
+    ∙ beyond_is forward xs e ys h.1
+
+-- ---- the last of a step
+
+-- a list that isn't empty has a last element
+pub record HasLast {A : Type 0} (xs : List A) : Type 0 where
+  pub front : List A
+  pub last : A
+  pub is : xs ≡ front ++ last ∷ []
+
+pub has_last : {A : Type 0} (xs : List A) → 0 < length xs → HasLast xs
+has_last [] h = absurd (omega arith)
+has_last (x ∷ []) h = record { front = []; last = x; is = refl }
+has_last (x ∷ y ∷ ys) h =
+    let rest = has_last (y ∷ ys) (omega arith) in
+    record { front = x ∷ rest.front; last = rest.last; is = ap (λ l. x ∷ l) rest.is }
+
+drop-map : {A B : Type 0} (f : A → B) (n : ℕ) (xs : List A) → drop n (map f xs) ≡ map f (drop n xs)
+drop-map f zero xs = refl
+drop-map f (suc n) [] = refl
+drop-map f (suc n) (x ∷ xs) = drop-map f n xs
+
+-- the entries of a range, in the order of a walk
+unfoldable pub walked : Table → List ℕ → Option (List ℕ) → Bool → List Entry
+walked t from to forward =
+    turned forward (entries_between text_order (Included from) (end_bound to) (placed_items t))
+
+pub items_walked : (t : Table) (from : List ℕ) (to : Option (List ℕ)) (forward : Bool)
+    → items_between t from to forward ≡ map (λ e. e.1) (walked t from to forward)
+unfolding walked
+items_walked t from to forward = refl
+
+module _ (t : Table) (forward : Bool) (from : List ℕ) (to : Option (List ℕ)) (first : List ℕ)
+    (last : Option (List ℕ)) where
+  -- The part of a range beyond the last of the first so many of its items has the others.
+  pub rest_is : (n : ℕ) (e : Entry) (front : List Entry)
+      → take n (walked t from to forward) ≡ front ++ e ∷ []
+      → IsBeyond forward (Some e.0) from to first last
+      → items_between t first last forward ≡ drop n (items_between t from to forward)
+  unfolding walked
+  rest_is n e front step beyond =
+      let es : List Entry = placed_items t in
+      let all : List Entry = walked t from to forward in
+      let whole : all ≡ front ++ e ∷ drop n all =
+      sym (take-append-drop n all) ∙ ap (λ l. l ++ drop n all) step
+      ∙ append_assoc front (e ∷ []) (drop n all) in
+      let ordered : AreOrdered forward all =
+      ordered_turned forward (entries_between text_order (Included from) (end_bound to) es)
+      (ordered_filter true (λ x. range_contains text_order (Included from) (end_bound to) x.0) es
+      (sorted_ordered es (finite.entries_sorted t.items))) in
+      ap (λ l. map (λ x. x.1) (turned forward l))
+      (filter_same (λ x. range_contains text_order (Included first) (end_bound last) x.0)
+      (λ x. range_contains text_order (Included from) (end_bound to) x.0
+      && is_beyond forward (Some e.0) x.0) es (all_same
+      (λ x. range_contains text_order (Included first) (end_bound last) x.0
+      ≡ (range_contains text_order (Included from) (end_bound to) x.0
+      && is_beyond forward (Some e.0) x.0)) es (λ x. contains_beyond forward (Some e.0) from to first last
+      beyond x.0))
+      ∙ filter_both (λ x. range_contains text_order (Included from) (end_bound to) x.0)
+      (λ x. is_beyond forward (Some e.0) x.0) es)
+      ∙ ap (map (λ x. x.1)) (filter-turned (λ x. is_beyond forward (Some e.0) x.0) forward
+      (entries_between text_order (Included from) (end_bound to) es)
+      ∙ ap (filter (λ x. is_beyond forward (Some e.0) x.0)) whole
+      ∙ beyond_is forward front e (drop n all) (subst (AreOrdered forward) whole ordered))
+      ∙ sym (drop-map (λ x. x.1) n all)
+    where
+      all_same : (P : Entry → Type 0) (xs : List Entry) → ((x : Entry) → P x) → All P xs
+      all_same P [] h = All-nil P
+      all_same P (x ∷ xs) h = All-cons P x xs (h x) (all_same P xs h)

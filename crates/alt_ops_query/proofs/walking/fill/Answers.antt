@@ -1,0 +1,57 @@
+-- A step more was walked, or the last one.
+use Rattle.std.proofs.Common.{◌≡◌, false, IfSome, subst, ◌∙◌, List}
+use Rattle.alt_machine.specs.Walks.{items_between}
+use Rattle.alt_ops_query.specs.Filled.{Steps}
+use Rattle.alt_ops_query.proofs.WalkLaws.{walk_ended, walk_on}
+use Rattle.alt_paging.specs.Offered.{has_ended}
+use Rattle.alt_tables.proofs.Left.{reads_then, ready_on}
+use Rattle.alt_value.specs.Tree.{Pair}
+use Rattle.alt_ops_query.proofs.walking.fill.Goals as goal
+
+pub step-requires-clause-ready : goal.step-requires-clause-ready
+step-requires-clause-ready g c = ready_on (g.D.Disk.state c.args.disk.now)
+    (g.D.Disk.state c.steps.disk) c.args.tables.now c.steps.tables c.steps.invariant.disk.goes
+    c.steps.invariant.stays c.requires.ready
+
+pub returns-in-Ok-None-clause-filled : goal.returns-in-Ok-None-clause-filled
+returns-in-Ok-None-clause-filled g c s t ask stands at h =
+    let list : List (List Pair) = items_between t c.args.range.from c.args.range.to c.args.forward in
+    let so = c.steps.invariant.walked s t ask stands at h in
+    walk_ended c.steps.filling c.step.new.filling ask t c.args.forward list c.steps.range so
+    (subst (λ o. Steps t c.args.forward ask so.seen c.step.new.filling
+    (items_between t c.steps.range.from c.steps.range.to c.args.forward) o) c.in-Ok-None.field-0-is
+    (c.in-Ok-None.ensures.steps s t ask so.seen ((c.steps.invariant.stays s).0 stands) at
+    so.examined))
+
+pub steps-preserved : goal.steps-preserved
+steps-preserved g c = record {
+  walked = λ s t ask stands at h.
+      let list : List (List Pair) =
+      items_between t c.args.range.from c.args.range.to c.args.forward in
+      let so = c.steps.invariant.walked s t ask stands at h in
+      walk_on c.steps.filling c.step.new.filling ask t c.args.forward list c.steps.range so
+      c.in-Ok-Some.rest
+      (subst (λ o. Steps t c.args.forward ask so.seen c.step.new.filling
+      (items_between t c.steps.range.from c.steps.range.to c.args.forward) o)
+      c.in-Ok-Some.field-0-is
+      (c.in-Ok-Some.ensures.steps s t ask so.seen ((c.steps.invariant.stays s).0 stands) at
+      so.examined));
+  stays = λ s. (
+    λ stands. (c.step.ensures.stays s).0 ((c.steps.invariant.stays s).0 stands),
+    λ stands. (c.steps.invariant.stays s).1 ((c.step.ensures.stays s).1 stands),
+  );
+  catalog = record {
+    catalog = c.step.ensures.catalog.catalog ∙ c.steps.invariant.catalog.catalog;
+    number = c.step.ensures.catalog.number ∙ c.steps.invariant.catalog.number;
+    family = c.step.ensures.catalog.family ∙ c.steps.invariant.catalog.family;
+  };
+  disk = reads_then (g.D.Disk.state c.args.disk.now) (g.D.Disk.state c.steps.disk)
+      (g.D.Disk.state c.step.new.disk) c.steps.invariant.disk c.step.ensures.disk;
+  going = subst (λ o. IfSome o (λ r. has_ended c.step.new.filling.pager ≡ false))
+      c.in-Ok-Some.field-0-is c.in-Ok-Some.ensures.going;
+}
+
+pub returns-in-Err-clause-fault : goal.returns-in-Err-clause-fault
+returns-in-Err-clause-fault g c s t ask stands at h =
+    let so = c.steps.invariant.walked s t ask stands at h in
+    c.in-Err.ensures.fault s t ask so.seen ((c.steps.invariant.stays s).0 stands) at so.examined

@@ -1,0 +1,25 @@
+-- What was examined and what the range that is left has are the items of the range, and the page goes on.
+use Rattle.std.proofs.Common.{◌≡◌, true, false, Some, []}
+use Rattle.std.specs.Prelude.{◌↔◌}
+use Rattle.std.specs.FinMap as map
+use Rattle.alt_machine.specs.State.{State, Table}
+use Rattle.alt_machine.specs.Walks.{items_between}
+use Rattle.alt_ops_query.specs.Filled.{HasExamined}
+use Rattle.alt_ops_query.proofs.WalkLaws.{IsWalked}
+use Rattle.alt_paging.specs.Offered.{has_ended}
+use Rattle.alt_paging.specs.declared.ask.PageAsk.{PageAsk}
+use Rattle.alt_tables.specs.Stands.{KeepsCatalog, Reads, Stands}
+use Rattle.alt_ops_query.proofs.walking.fill.Given as goal
+
+abbrev pub invariant-steps : goal.invariant-steps
+invariant-steps g l = record {
+  walked : (s : State) (t : Table) (ask : PageAsk) → Stands (g.D.Disk.state l.fn.disk) l.fn.tables s
+      → map.get s.tables l.table ≡ Some t → HasExamined l.fn.filling ask []
+      → IsWalked l.filling ask t l.forward
+      (items_between t l.fn.range.from l.fn.range.to l.forward) l.range;
+  stays : (s : State) → Stands (g.D.Disk.state l.fn.disk) l.fn.tables s
+      ↔ Stands (g.D.Disk.state l.disk) l.tables s;
+  catalog : KeepsCatalog l.fn.tables l.tables;
+  disk : Reads (g.D.Disk.state l.fn.disk) (g.D.Disk.state l.disk);
+  going : has_ended l.filling.pager ≡ false;
+}

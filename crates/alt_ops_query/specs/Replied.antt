@@ -1,0 +1,21 @@
+-- A page of the program, and the key of an item.
+use Rattle.std.specs.Prelude.{ℕ, List, [], ◌∷◌, Option, Some, None}
+use Rattle.alt_expr.specs.Pages as pages
+use Rattle.alt_paging.specs.declared.ask.Page.{Page}
+use Rattle.alt_value.specs.Item.{with_pair}
+use Rattle.alt_value.specs.Tree.{Tree, Pair}
+
+-- a page of the program, as the machine has it
+abbrev pub page_of : Page → pages.Page
+page_of page = record {
+  items = page.items;
+  count = page.count;
+  scanned = page.scanned;
+  ended = page.ended;
+}
+
+-- with the value of an attribute, where it is there; no attribute has the empty name
+abbrev pub with_attribute : List ℕ → Option Tree → List Pair → List Pair
+with_attribute [] o key = key
+with_attribute name None key = key
+with_attribute (b ∷ name) (Some t) key = with_pair (b ∷ name) t key

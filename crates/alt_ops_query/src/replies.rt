@@ -1,0 +1,81 @@
+//! A page as it is answered.
+
+ghost use Rattle.std.specs.Prelude.{◌≡◌, false, IfOk, OnOk};
+ghost use Rattle.serde_json.specs.View.{view, items_view, members_view};
+ghost use Rattle.serde_json.specs.Written.{has_float};
+ghost use Rattle.alt_machine.specs.Lists as machine;
+ghost use Rattle.alt_ops_query.specs.Replied.{page_of, with_attribute};
+ghost use Rattle.alt_shape.specs.Refusals.{answer_of};
+ghost use Rattle.alt_value.specs.Item.{at_name};
+
+use crate::selecting::selects;
+use alt_base::NoMemory;
+use alt_codec::json_of_item;
+use alt_paging::Page;
+use alt_schema::{KeyAttr, TableSchema};
+use alt_shape::Reply;
+use alt_value::{Item, copy};
+use serde_json::{Map, Value};
+use std::alloc::Global;
+
+/// The reply with a page: its counts, its items but for COUNT, and, where it ended early, the key of the last item that was examined.
+pub(crate) fn page_reply(
+    alloc: Global,
+    schema: &TableSchema,
+    body: &Map<String, Value>,
+    page: &Page,
+    last: &Option<Item>,
+) -> Result<Reply, NoMemory>
+    ensures reply { IfOk result (λ reply. answer_of reply ≡ machine.page_answer schema.now
+        (members_view body.now.entries) (page_of page.now) last.now) }
+    ensures plain { IfOk result (λ reply. has_float (view reply.body) ≡ false) }
+{
+    let mut members = Map::new(alloc);
+    serde_json::put(&mut members, alloc, "Count", Value::from(page.count))?;
+    if !selects(body, "COUNT") {
+        let items = json_of_items(alloc, page.items.as_slice())?;
+        serde_json::put(&mut members, alloc, "Items", Value::Array(items))?;
+    }
+    if let Some(item) = last {
+        let key = key_attributes(alloc, schema, item)?;
+        serde_json::put(&mut members, alloc, "LastEvaluatedKey", json_of_item(alloc, &key)?)?;
+    }
+    serde_json::put(&mut members, alloc, "ScannedCount", Value::from(page.scanned))?;
+    Ok(Reply::answered(members))
+}
+
+/// Items as JSON, in their order.
+fn json_of_items(alloc: Global, items: &[Item]) -> Result<Vec<Value>, NoMemory>
+    ensures json { IfOk result (λ values. items_view values.items ≡ machine.items_json items.now) }
+{
+    let mut values = Vec::with_capacity(alloc, items.len())?;
+    for item in items {
+        values.push(json_of_item(alloc, item)?)?;
+    }
+    Ok(values)
+}
+
+/// The key attributes of an item.
+fn key_attributes(alloc: Global, schema: &TableSchema, item: &Item) -> Result<Item, NoMemory>
+    ensures key { IfOk result (λ key. key ≡ machine.key_attributes schema.now item.now) }
+{
+    let _count = item.len();
+    let mut key = Item::new(alloc);
+    put_attribute(&mut key, &schema.hash, item)?;
+    if let Some(range) = &schema.range {
+        put_attribute(&mut key, range, item)?;
+    }
+    Ok(key)
+}
+
+/// Puts a key attribute of an item into its key, where the item has it.
+fn put_attribute(key: &mut Item, attribute: &KeyAttr, item: &Item) -> Result<(), NoMemory>
+    ensures put { OnOk result (key.new
+        ≡ with_attribute attribute.now.name (at_name attribute.now.name item.now) key.old) }
+{
+    let name = attribute.name.as_str();
+    match item.get(name) {
+        Some(value) if !name.is_empty() => key.put(name, copy(value)?),
+        _ => Ok(()),
+    }
+}

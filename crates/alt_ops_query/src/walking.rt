@@ -1,0 +1,198 @@
+//! A walk over the items of a table that ends with a page.
+
+ghost use Rattle.std.specs.Prelude.{◌≡◌, ◌≢◌, ◌↔◌, ◌++◌, ◌∷◌, [], ℕ, not, true, false, List, Some, None, All, IfOk, IfErr, IfSome, OnOk, option_and_then};
+ghost use Rattle.std.specs.FinMap as map;
+ghost use Rattle.alt_base.specs.Counts.{Rose};
+ghost use Rattle.alt_expr.specs.Pages.{ends_early};
+ghost use Rattle.alt_machine.specs.Keys.{place_of};
+ghost use Rattle.alt_machine.specs.State.{State, Table};
+ghost use Rattle.alt_machine.specs.Walks.{items_between};
+ghost use Rattle.alt_ops_query.specs.Filled.{HasExamined, HasFilled, Examines, Steps};
+ghost use Rattle.alt_ops_query.specs.Ranges.{IsBeyond};
+ghost use Rattle.alt_ops_query.specs.Stops.{IsFault, IsUnfailed, IfErrFailed};
+ghost use Rattle.alt_paging.specs.Offered.{has_ended};
+ghost use Rattle.alt_paging.specs.declared.ask.PageAsk.{PageAsk};
+ghost use Rattle.alt_request.specs.Steps.{IsMemory};
+ghost use Rattle.alt_tables.specs.Stands.{AreReady, Reads, Stands, KeepsCatalog, catalog_of};
+ghost use Rattle.alt_value.specs.Tree.{Pair};
+
+use crate::places::beyond;
+use alt_base::NoMemory;
+use alt_disk::Disk;
+use alt_fields::Bytes;
+use alt_keyorder::KeyRange;
+use alt_machine::LARGEST_ITEM;
+use alt_paging::Pager;
+use alt_request::Stop;
+use alt_schema::TableSchema;
+use alt_tables::{TableFault, Tables, place_of};
+use alt_value::Item;
+use std::alloc::Global;
+
+/// A page that is being filled, and the last item that was examined for it.
+#[derive(Drop)]
+pub(crate) struct Filling {
+    pub(crate) pager: Pager,
+    pub(crate) last: Option<Item>,
+}
+
+/// Examines the items of a table in a range, from its front on or from its end down, until the page ends or the range does. It asks for
+/// no more items than are certain to be examined, so it never goes past the last of them.
+pub(crate) fn fill<D: Disk>(
+    alloc: Global,
+    tables: &mut Tables,
+    disk: &mut D,
+    table: &str,
+    range: KeyRange,
+    forward: bool,
+    filling: &mut Filling,
+) -> Result<(), Stop>
+    requires ready { AreReady (D.state disk.old) tables.old }
+    requires there { map.contains_key (catalog_of tables.old) table.now ≡ true }
+    requires going { has_ended filling.old.pager ≡ false }
+    ensures filled { (s : State) (t : Table) (ask : PageAsk) → Stands (D.state disk.old) tables.old s
+        → map.get s.tables table.now ≡ Some t → HasExamined filling.old ask []
+        → OnOk result (HasFilled filling.new ask (items_between t range.from range.to forward)) }
+    ensures stays { (s : State) → Stands (D.state disk.old) tables.old s ↔ Stands
+        (D.state disk.new) tables.new s }
+    ensures catalog { KeepsCatalog tables.old tables.new }
+    ensures fault { (s : State) (t : Table) (ask : PageAsk) → Stands (D.state disk.old) tables.old s
+        → map.get s.tables table.now ≡ Some t → HasExamined filling.old ask []
+        → IfErr result IsFault }
+    ensures disk { Reads (D.state disk.old) (D.state disk.new) }
+    ensures failed { IfErrFailed result (Rose (D.state disk.old).faults (D.state disk.new).faults) }
+{
+    let mut range = range;
+    'steps: for _ in 0..u64::MAX {
+        match step(alloc, tables, disk, table, range, forward, filling) {
+            Ok(Some(rest)) => range = rest,
+            Ok(None) => return Ok(()),
+            Err(stop) => return Err(stop),
+        }
+    }
+    Err(Stop::Fault(TableFault::NoMemory))
+}
+
+/// One step of a walk: the rest of the range, `None` where the page or the range has ended.
+fn step<D: Disk>(
+    alloc: Global,
+    tables: &mut Tables,
+    disk: &mut D,
+    table: &str,
+    range: KeyRange,
+    forward: bool,
+    filling: &mut Filling,
+) -> Result<Option<KeyRange>, Stop>
+    requires ready { AreReady (D.state disk.old) tables.old }
+    requires there { map.contains_key (catalog_of tables.old) table.now ≡ true }
+    requires going { has_ended filling.old.pager ≡ false }
+    ensures steps { (s : State) (t : Table) (ask : PageAsk) (seen : List (List Pair))
+        → Stands (D.state disk.old) tables.old s → map.get s.tables table.now ≡ Some t
+        → HasExamined filling.old ask seen → IfOk result
+        (Steps t forward ask seen filling.new (items_between t range.from range.to forward)) }
+    ensures going { IfOk result (λ rest. IfSome rest
+        (λ r. has_ended filling.new.pager ≡ false)) }
+    ensures stays { (s : State) → Stands (D.state disk.old) tables.old s ↔ Stands
+        (D.state disk.new) tables.new s }
+    ensures catalog { KeepsCatalog tables.old tables.new }
+    ensures fault { (s : State) (t : Table) (ask : PageAsk) (seen : List (List Pair))
+        → Stands (D.state disk.old) tables.old s → map.get s.tables table.now ≡ Some t
+        → HasExamined filling.old ask seen → IfErr result IsFault }
+    ensures disk { Reads (D.state disk.old) (D.state disk.new) }
+    ensures failed { IfErrFailed result (Rose (D.state disk.old).faults (D.state disk.new).faults) }
+{
+    let most = filling.pager.certain(LARGEST_ITEM);
+    let mut items = Vec::new(alloc);
+    tables.rows(disk, table, None, &range, forward, most, &mut items)?;
+    let got = items.len();
+    let more = examine(filling, items)?;
+    if !more || got < most as usize {
+        return Ok(None);
+    }
+    let Some(schema) = tables.table(table) else {
+        unreachable!();
+    };
+    match rest_of(alloc, schema, range, forward, &filling.last) {
+        Ok(rest) => Ok(Some(rest)),
+        Err(stop) => Err(stop),
+    }
+}
+
+/// Examines these items in their order, until one of them ends the page: whether it goes on.
+fn examine(filling: &mut Filling, items: Vec<Item>) -> Result<bool, Stop>
+    requires going { has_ended filling.old.pager ≡ false }
+    ensures examines { IfOk result (λ more. (ask : PageAsk) (seen : List (List Pair))
+        → HasExamined filling.old ask seen → All (λ i. i ≢ []) items.items
+        → Examines filling.new ask seen items.items more) }
+    ensures ended { IfOk result (λ more. has_ended filling.new.pager ≡ not more) }
+    ensures cause { IfErr result IsMemory }
+{
+    for item in items {
+        if !offered(filling, item)? {
+            return Ok(false);
+        }
+    }
+    Ok(true)
+}
+
+/// Examines the next item: whether the page goes on. No item is empty on a disk that keeps what was written.
+fn offered(filling: &mut Filling, item: Item) -> Result<bool, Stop>
+    requires going { has_ended filling.old.pager ≡ false }
+    ensures examines { IfOk result (λ more. (ask : PageAsk) (seen : List (List Pair))
+        → HasExamined filling.old ask seen → item ≢ []
+        → HasExamined filling.new ask (seen ++ item ∷ [])
+        × (more ≡ not (ends_early ask.limit (seen ++ item ∷ [])))) }
+    ensures ended { IfOk result (λ more. has_ended filling.new.pager ≡ not more) }
+    ensures cause { IfErr result IsMemory }
+{
+    if item.len() == 0 {
+        filling.last = Some(item);
+        return Ok(true);
+    }
+    match filling.pager.offer(&item) {
+        Ok(more) => {
+            filling.last = Some(item);
+            Ok(more)
+        }
+        Err(_) => Err(Stop::Fault(TableFault::NoMemory)),
+    }
+}
+
+/// The part of a range beyond the last item that was examined. One that has no place is of a disk that doesn't keep what was written.
+fn rest_of(
+    alloc: Global,
+    schema: &TableSchema,
+    range: KeyRange,
+    forward: bool,
+    last: &Option<Item>,
+) -> Result<KeyRange, Stop>
+    ensures rest { IfOk result (λ r. (item : List Pair) (place : List ℕ) → last.now ≡ Some item
+        → place_of schema.now item ≡ Some place
+        → IsBeyond forward (Some place) range.from range.to r.from r.to) }
+    ensures fault { (item : List Pair) (place : List ℕ) → last.now ≡ Some item
+        → place_of schema.now item ≡ Some place → IfErr result IsMemory }
+    ensures unfailed { IfErr result IsUnfailed }
+{
+    let family = schema.family;
+    match last_place(alloc, schema, last)? {
+        Some(place) => Ok(beyond(alloc, range, Some(place), forward)?),
+        None => Err(Stop::Fault(TableFault::BadRow {
+            family,
+            key: range.from,
+        })),
+    }
+}
+
+/// The place of the last item, where there is one that has a place.
+fn last_place(
+    alloc: Global,
+    schema: &TableSchema,
+    last: &Option<Item>,
+) -> Result<Option<Bytes>, NoMemory>
+    ensures place { IfOk result (λ place. place ≡ option_and_then (place_of schema.now) last.now) }
+{
+    match last {
+        Some(item) => place_of(alloc, schema, item),
+        None => Ok(None),
+    }
+}

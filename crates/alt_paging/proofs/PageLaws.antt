@@ -1,0 +1,172 @@
+-- How the page of a list grows with the list: up to its end every item is examined, and from then on none.
+use Rattle.std.proofs.Common.{◌≡◌, refl, sym, ap, ◌∙◌, cond, ℕ, ◌+◌, ◌-◌, ◌*◌, ◌<◌, ◌≤◌, Bool, true, false, not, ◌||◌, List, [], ◌∷◌, ◌++◌, length, map, Option, Some, None, is_some, IfSome, unwrap_or, nat_le, sum_by, All, arith, append_assoc, append-nil, length-append}
+use Rattle.std.specs.List.{find, filter}
+use Rattle.std.specs.Option.{option_or}
+use Rattle.std.proofs.lemmas.List.{map-append}
+use Rattle.std.proofs.lemmas.List.Elements.{filter-append, All-head, All-tail}
+use Rattle.std.proofs.lemmas.List.Folds.{find-append}
+use Rattle.std.proofs.lemmas.List.Sums.{sum_by_push}
+use Rattle.alt_expr.specs.Pages.{Asked, Page, page_bytes, reaches, fills, prefixes, full_prefix, examined, ends_early, parts, passed, page_of}
+use Rattle.alt_value.specs.Size.{item_size}
+use Rattle.alt_value.specs.Tree.{Pair}
+
+-- ---- prefixes
+
+-- the prefixes of a longer list that aren't prefixes of its front
+longer : {A : Type 0} → List A → List (List A)
+longer [] = []
+longer (y ∷ ys) = map (λ front. y ∷ front) (prefixes ys)
+
+-- those of a front and of what stands behind it
+beyond : {A : Type 0} → List A → List A → List (List A)
+beyond [] ys = longer ys
+beyond (x ∷ xs) ys = map (λ front. x ∷ front) (beyond xs ys)
+
+-- the prefixes of a list begin with those of its front
+prefixes-append : {A : Type 0} (xs ys : List A) → prefixes (xs ++ ys) ≡ prefixes xs ++ beyond xs ys
+unfolding longer beyond
+prefixes-append [] [] = refl
+prefixes-append [] (y ∷ ys) = refl
+prefixes-append (x ∷ xs) ys = ap (λ fs. [] ∷ map (λ front. x ∷ front) fs) (prefixes-append xs ys)
+    ∙ ap (λ fs. [] ∷ fs) (map-append (λ front. x ∷ front) (prefixes xs) (beyond xs ys))
+
+-- one more prefix of a list with one more element: the whole list
+beyond_one : {A : Type 0} (xs : List A) (y : A) → beyond xs (y ∷ []) ≡ (xs ++ y ∷ []) ∷ []
+unfolding longer beyond
+beyond_one [] y = refl
+beyond_one (x ∷ xs) y = ap (map (λ front. x ∷ front)) (beyond_one xs y)
+
+-- ---- where a page ends
+
+module _ (limit : Option ℕ) where
+  -- nothing is found where nothing is there
+  not_there : (o : Option (List (List Pair))) → is_some o ≡ false → o ≡ None
+  not_there None e = refl
+  not_there (Some x) e = absurd (let f : ⊥ = cc in f)
+
+  -- a prefix that fills a page is the shortest of a longer list too
+  full_prefix-append : (xs ys : List (List Pair)) → full_prefix limit (xs ++ ys)
+      ≡ option_or (full_prefix limit xs) (find (fills limit) (beyond xs ys))
+  full_prefix-append xs ys = ap (find (fills limit)) (prefixes-append xs ys)
+      ∙ find-append (fills limit) (prefixes xs) (beyond xs ys)
+
+  -- once it has ended it stays so
+  stays : (o p : Option (List (List Pair))) → is_some o ≡ true → option_or o p ≡ o
+  stays None p e = absurd (let f : ⊥ = cc in f)
+  stays (Some x) p e = refl
+
+  pub full_prefix-ended : (xs ys : List (List Pair)) → ends_early limit xs ≡ true
+      → full_prefix limit (xs ++ ys) ≡ full_prefix limit xs
+  full_prefix-ended xs ys e = full_prefix-append xs ys ∙ stays (full_prefix limit xs) _ e
+
+  -- until then one more item ends it exactly where all of them fill it
+  one_more : (xs : List (List Pair)) (y : List Pair) → ends_early limit xs ≡ false
+      → full_prefix limit (xs ++ y ∷ [])
+      ≡ cond (fills limit (xs ++ y ∷ [])) (Some (xs ++ y ∷ [])) None
+  one_more xs y e = full_prefix-append xs (y ∷ [])
+      ∙ ap (λ o. option_or o (find (fills limit) (beyond xs (y ∷ []))))
+      (not_there (full_prefix limit xs) e)
+      ∙ ap (find (fills limit)) (beyond_one xs y)
+
+  is_some_cond : (b : Bool) (x : List (List Pair)) → is_some (cond b (Some x) None) ≡ b
+  is_some_cond true x = refl
+  is_some_cond false x = refl
+
+  unwrap_cond : (b : Bool) (x : List (List Pair)) → unwrap_or (cond b (Some x) None) x ≡ x
+  unwrap_cond true x = refl
+  unwrap_cond false x = refl
+
+  pub ends_early_push : (xs : List (List Pair)) (y : List Pair) → ends_early limit xs ≡ false
+      → ends_early limit (xs ++ y ∷ []) ≡ fills limit (xs ++ y ∷ [])
+  ends_early_push xs y e = ap is_some (one_more xs y e)
+      ∙ is_some_cond (fills limit (xs ++ y ∷ [])) (xs ++ y ∷ [])
+
+  -- and all are examined
+  pub examined_push : (xs : List (List Pair)) (y : List Pair) → ends_early limit xs ≡ false
+      → examined limit (xs ++ y ∷ []) ≡ xs ++ y ∷ []
+  examined_push xs y e = ap (λ o. unwrap_or o (xs ++ y ∷ [])) (one_more xs y e)
+      ∙ unwrap_cond (fills limit (xs ++ y ∷ [])) (xs ++ y ∷ [])
+
+  pub examined_open : (xs : List (List Pair)) → ends_early limit xs ≡ false
+      → examined limit xs ≡ xs
+  examined_open xs e = ap (λ o. unwrap_or o xs) (not_there (full_prefix limit xs) e)
+
+  same_some : (o : Option (List (List Pair))) (x y : List (List Pair)) → is_some o ≡ true
+      → unwrap_or o x ≡ unwrap_or o y
+  same_some None x y e = absurd (let f : ⊥ = cc in f)
+  same_some (Some z) x y e = refl
+
+  pub examined-ended : (xs ys : List (List Pair)) → ends_early limit xs ≡ true
+      → examined limit (xs ++ ys) ≡ examined limit xs
+  examined-ended xs ys e = ap (λ o. unwrap_or o (xs ++ ys)) (full_prefix-ended xs ys e)
+      ∙ same_some (full_prefix limit xs) (xs ++ ys) xs e
+
+-- the page whose items were examined
+page_with : Asked → List (List Pair) → Bool → Page
+page_with ask seen ended = record {
+  items = map (parts ask.paths) (passed ask seen);
+  count = length (passed ask seen);
+  scanned = length seen;
+  ended = ended;
+}
+
+-- a page that ended is that of every longer list
+pub page_of-ended : (ask : Asked) (xs ys : List (List Pair)) → ends_early ask.limit xs ≡ true
+    → page_of ask (xs ++ ys) ≡ page_of ask xs
+unfolding page_with
+page_of-ended ask xs ys e = λ i. page_with ask (examined-ended ask.limit xs ys e i)
+    (ap is_some (full_prefix-ended ask.limit xs ys e) i)
+
+-- ---- how many items are certain to be examined
+
+module _ (limit : Option ℕ) (largest : ℕ) where
+  -- so many more items don't reach the limit, if there is one
+  abbrev pub Within : ℕ → Type 0
+  Within n = IfSome limit (λ most. n < most)
+
+  not_le : (m n : ℕ) → n < m → nat_le m n ≡ false
+  not_le m n h = grind arith
+
+  not_reached : (xs : List (List Pair)) → Within (length xs) → reaches limit xs ≡ false
+  not_reached xs = by limit
+    where
+      by : (o : Option ℕ) → IfSome o (λ most. length xs < most) → reaches o xs ≡ false
+      by None h = refl
+      by (Some most) h = not_le most (length xs) h
+
+  not_full : (xs : List (List Pair)) → Within (length xs) → sum_by item_size xs < page_bytes
+      → fills limit xs ≡ false
+  not_full xs few small = by (reaches limit xs) (nat_le page_bytes (sum_by item_size xs))
+      (not_reached xs few) (not_le page_bytes (sum_by item_size xs) small)
+    where
+      by : (a b : Bool) → a ≡ false → b ≡ false → (a || b) ≡ false
+      by true b e f = e
+      by false b e f = f
+
+  fewer : (m n : ℕ) → m ≤ n → Within n → Within m
+  fewer m n le = by limit
+    where
+      by : (o : Option ℕ) → IfSome o (λ most. n < most) → IfSome o (λ most. m < most)
+      by None h = tt
+      by (Some most) h = omega arith
+
+  -- So many more items, none larger than that, don't end a page that goes on.
+  pub ends_early-more : (xs more : List (List Pair)) → ends_early limit xs ≡ false
+      → All (λ i. item_size i ≤ largest) more → Within (length xs + length more)
+      → sum_by item_size xs + largest * length more < page_bytes
+      → ends_early limit (xs ++ more) ≡ false
+  ends_early-more xs [] e small few room = ap (ends_early limit) (append-nil xs) ∙ e
+  ends_early-more xs (y ∷ more) e small few room =
+      let size = All-head (λ i. item_size i ≤ largest) y more small in
+      let total = sum_by_push item_size xs y in
+      let count = length-append xs (y ∷ []) in
+      let grown : largest * length (y ∷ more) ≡ largest + largest * length more = omega arith in
+      let on = ends_early_push limit xs y e ∙ not_full (xs ++ y ∷ [])
+      (fewer (length (xs ++ y ∷ [])) (length xs + length (y ∷ more)) (omega (arith, count)) few)
+      (omega (arith, total, size, grown, room)) in
+      ap (ends_early limit) (sym (append_assoc xs (y ∷ []) more))
+      ∙ ends_early-more (xs ++ y ∷ []) more on
+      (All-tail (λ i. item_size i ≤ largest) y more small)
+      (fewer (length (xs ++ y ∷ []) + length more) (length xs + length (y ∷ more))
+      (omega (arith, count)) few)
+      (omega (arith, total, size, grown, room))

@@ -1,0 +1,54 @@
+-- What a pager was offered, and the page of it.
+use Rattle.std.specs.Prelude.{◌≡◌, ℕ, Bool, not, ◌&&◌, ◌||◌, ◌==◌, ◌+◌, ◌-◌, List, [], ◌∷◌, ◌++◌, length, map, sum_by, if◌then◌else◌}
+use Rattle.alt_expr.specs.Pages.{Asked, page_bytes, examined, ends_early, passes, parts, passed, page_of}
+use Rattle.alt_paging.specs.Counted.{reached}
+use Rattle.alt_paging.specs.declared.ask.Page.{Page}
+use Rattle.alt_paging.specs.declared.ask.PageAsk.{PageAsk}
+use Rattle.alt_paging.specs.declared.pager.Pager.{Pager}
+use Rattle.alt_value.specs.Size.{item_size}
+use Rattle.alt_value.specs.Tree.{Pair}
+
+-- what is asked, as it is said of lists
+abbrev pub asked_of : PageAsk → Asked
+asked_of ask = record { limit = ask.limit; condition = ask.filter; paths = ask.paths }
+
+-- the items, unless counts alone are wanted
+abbrev pub unless_counts : Bool → List (List Pair) → List (List Pair)
+unless_counts count_only items = if count_only then [] else items
+
+-- The page is that of the list; where counts alone are wanted, it has none of them.
+pub record IsPage (ask : PageAsk) (list : List (List Pair)) (page : Page) : Type 0 where
+  pub items : page.items ≡ unless_counts ask.count_only (page_of (asked_of ask) list).items
+  pub count : page.count ≡ (page_of (asked_of ask) list).count
+  pub scanned : page.scanned ≡ (page_of (asked_of ask) list).scanned
+  pub ended : page.ended ≡ (page_of (asked_of ask) list).ended
+
+-- the page has ended
+abbrev pub has_ended : Pager → Bool
+has_ended pager = pager.ended
+
+-- The pager was made for that ask and was offered these items, one after the other: all of them are examined.
+pub record WasOffered (pager : Pager) (ask : PageAsk) (items : List (List Pair)) : Type 0 where
+  pub for : pager.ask ≡ ask
+  pub kept : pager.kept ≡ unless_counts ask.count_only (map (parts ask.paths) (passed (asked_of ask) items))
+  pub count : pager.count ≡ length (passed (asked_of ask) items)
+  pub scanned : pager.scanned ≡ length items
+  pub left : pager.left ≡ page_bytes - sum_by item_size items
+  pub whole : examined ask.limit items ≡ items
+  pub ended : pager.ended ≡ ends_early ask.limit items
+
+-- ---- for private contracts
+
+-- what is kept of an item
+abbrev pub shown_of : PageAsk → List Pair → List (List Pair)
+shown_of ask item =
+    if passes ask.filter item && not ask.count_only then parts ask.paths item ∷ [] else []
+
+-- an item is examined: it is kept and counted where it meets the filter, and its bytes are counted
+pub record Grows (old : Pager) (item : List Pair) (new : Pager) : Type 0 where
+  pub ask : new.ask ≡ old.ask
+  pub kept : new.kept ≡ old.kept ++ shown_of old.ask item
+  pub count : new.count ≡ old.count + (if passes old.ask.filter item then 1 else 0)
+  pub scanned : new.scanned ≡ old.scanned + 1
+  pub left : new.left ≡ old.left - item_size item
+  pub ended : new.ended ≡ (reached old.ask.limit new.scanned || (new.left == 0))

@@ -1,0 +1,193 @@
+//! A pager examines the items of a list one after the other, and tells where the page ends.
+
+ghost use Rattle.std.specs.Prelude.{◌≡◌, ◌≢◌, ◌+◌, ◌-◌, ◌<◌, ◌≤◌, ◌∷◌, ◌++◌, [], ◌&&◌, not, false, if◌then◌else◌, IfOk, OnOk, OnErr};
+ghost use Rattle.std.specs.Option.{ForSome};
+ghost use Rattle.alt_expr.specs.Pages as spec;
+ghost use Rattle.alt_expr.specs.Pages.{parts};
+ghost use Rattle.alt_paging.specs.Counted.{reached};
+ghost use Rattle.alt_value.specs.Size.{item_size};
+
+use crate::ask::{ItemList, Page, PageAsk};
+use alt_base::NoMemory;
+use alt_condeval::holds;
+use alt_expr::{Cond, Items, Paths};
+use alt_projection::project;
+use alt_value::{Item, item_size_within};
+use std::alloc::Global;
+
+/// The bytes of examined items after which a page ends: 1 MB (Developer Guide, "Paginating table query results").
+const PAGE_BYTES: u64 = 1_048_576;
+
+/// A page that isn't whole yet. It holds what it gives, and of the other items only counts.
+#[derive(Drop)]
+pub struct Pager {
+    alloc: Global,
+    ask: PageAsk,
+    kept: ItemList,
+    count: u32,
+    scanned: u32,
+    /// The bytes that examined items may still have before the page ends.
+    left: u64,
+    ended: bool,
+    ghost counted: { count ≤ scanned },
+    ghost bounded: { scanned + left ≤ 1048576 },
+    ghost going: { ended ≡ false → 0 < left },
+    ghost within: { ended ≡ false → ForSome ask.limit (λ most. scanned < most) },
+}
+
+impl Pager {
+    ghost use Rattle.std.specs.Prelude.{◌≡◌, ◌≢◌, ◌<◌, ◌≤◌, ◌∷◌, ◌++◌, [], not, false, length, List, All, IfOk, OnOk, OnErr, IfSome};
+    ghost use Rattle.alt_expr.specs.Pages.{ends_early};
+    ghost use Rattle.alt_paging.specs.Offered.{WasOffered, IsPage, Grows, has_ended};
+    ghost use Rattle.alt_paging.specs.declared.ask.PageAsk.{PageAsk};
+    ghost use Rattle.alt_value.specs.Size.{item_size};
+    ghost use Rattle.alt_value.specs.Tree.{Pair};
+
+    /// A page of which no item is examined yet.
+    pub fn new(alloc: Global, ask: PageAsk) -> Pager
+        requires limit { IfSome ask.limit (λ most. 0 < most) }
+        ensures offered { WasOffered result ask [] }
+        ensures open { has_ended result ≡ false }
+    {
+        Pager {
+            alloc,
+            ask,
+            kept: Items::new(alloc),
+            count: 0,
+            scanned: 0,
+            left: PAGE_BYTES,
+            ended: false,
+        }
+    }
+
+    /// Examines the next item. False says that the page ends with it, and then no further one may be offered. Where memory is wanting,
+    /// the pager is as it was.
+    pub fn offer(&mut self, item: &Item) -> Result<bool, NoMemory>
+        requires some { item.now ≢ [] }
+        requires open { has_ended self.old ≡ false }
+        ensures offered { OnOk result ((ask : PageAsk) (items : List (List Pair))
+            → WasOffered self.old ask items → WasOffered self.new ask (items ++ item.now ∷ [])) }
+        ensures more { IfOk result (λ more. (ask : PageAsk) (items : List (List Pair))
+            → WasOffered self.old ask items
+            → more ≡ not (ends_early ask.limit (items ++ item.now ∷ []))) }
+        ensures ended { IfOk result (λ more. has_ended self.new ≡ not more) }
+        ensures err { OnErr result (self.new ≡ self.old) }
+    {
+        match self.examine(item) {
+            Ok(()) => Ok(!self.ended),
+            Err(wanting) => Err(wanting),
+        }
+    }
+
+    /// So many more items, of at most `largest` bytes each, are certain to be examined: no fewer of them end the page.
+    pub fn certain(&self, largest: u64) -> u32
+        requires largest { 0 < largest }
+        requires open { has_ended self.now ≡ false }
+        ensures some { 0 < result }
+        ensures certain { (ask : PageAsk) (items more : List (List Pair))
+            → WasOffered self.now ask items → All (λ i. item_size i ≤ largest) more
+            → length more < result → ends_early ask.limit (items ++ more) ≡ false }
+    {
+        let by_bytes = ((self.left - 1) / largest + 1) as u32;
+        match self.ask.limit {
+            Some(limit) => by_bytes.min(limit - self.scanned),
+            None => by_bytes,
+        }
+    }
+
+    /// The page of the items that were offered.
+    pub fn finish(self) -> Page
+        ensures page { (ask : PageAsk) (items : List (List Pair)) → WasOffered self ask items
+            → IsPage ask items result }
+    {
+        Page {
+            items: self.kept,
+            count: self.count,
+            scanned: self.scanned,
+            ended: self.ended,
+        }
+    }
+
+    /// Keeps what is shown of an item, where it meets the filter, and counts it and its bytes.
+    fn examine(&mut self, item: &Item) -> Result<(), NoMemory>
+        requires some { item.now ≢ [] }
+        requires open { has_ended self.old ≡ false }
+        ensures grows { OnOk result (Grows self.old item.now self.new) }
+        ensures err { OnErr result (self.new ≡ self.old) }
+    {
+        let met = passes(&self.ask.filter, item);
+        keep(self.alloc, &self.ask, met, item, &mut self.kept)?;
+        self.scanned += 1;
+        self.count += one_if(met);
+        self.left = left_after(self.left, item);
+        self.ended = reaches(self.ask.limit, self.scanned) || self.left == 0;
+        Ok(())
+    }
+}
+
+/// Keeps what is shown of an item that meets the filter, unless counts alone are wanted.
+fn keep(
+    alloc: Global,
+    ask: &PageAsk,
+    met: bool,
+    item: &Item,
+    kept: &mut ItemList,
+) -> Result<(), NoMemory>
+    ensures ok { OnOk result (kept.new ≡ kept.old
+        ++ (if met && not ask.now.count_only then parts ask.now.paths item.now ∷ [] else [])) }
+    ensures err { OnErr result (kept.new ≡ kept.old) }
+{
+    if met && !ask.count_only {
+        let shown = shown(alloc, &ask.paths, item)?;
+        return kept.push(shown);
+    }
+    Ok(())
+}
+
+fn one_if(met: bool) -> u32
+    ensures { result ≡ (if met then 1 else 0) }
+{
+    if met { 1 } else { 0 }
+}
+
+/// What an item leaves of so many bytes, none where it has more.
+fn left_after(left: u64, item: &Item) -> u64
+    ensures left { result ≡ left - item_size item.now }
+    ensures less { 0 < left → item.now ≢ [] → result < left }
+{
+    let _count = item.len();
+    match item_size_within(item, left) {
+        Some(size) => left - size,
+        None => 0,
+    }
+}
+
+/// Whether as many items as the limit are examined.
+fn reaches(limit: Option<u32>, scanned: u32) -> bool
+    ensures { result ≡ reached limit scanned }
+{
+    match limit {
+        Some(most) => most <= scanned,
+        None => false,
+    }
+}
+
+/// Whether an item meets the filter, if there is one.
+fn passes(filter: &Option<Cond>, item: &Item) -> bool
+    ensures { result ≡ spec.passes filter.now item.now }
+{
+    match filter {
+        Some(condition) => holds(condition, item),
+        None => true,
+    }
+}
+
+/// What paths choose of an item, or all of it where there are none.
+fn shown(alloc: Global, paths: &Option<Paths>, item: &Item) -> Result<Item, NoMemory>
+    ensures { IfOk result (λ i. i ≡ parts paths.now item.now) }
+{
+    match paths {
+        Some(paths) => project(alloc, paths, item),
+        None => item.copy(),
+    }
+}

@@ -1,0 +1,102 @@
+-- Each step in turn, as the machine has it.
+use Rattle.std.proofs.Common.{List, Option, Bool, sym, subst}
+use Rattle.std.specs.FinMap as map
+use Rattle.serde_json.specs.Data.{Members}
+use Rattle.serde_json.specs.View.{members_view}
+use Rattle.alt_machine.specs.Body.{paired_refusals}
+use Rattle.alt_machine.specs.Members.{table_name}
+use Rattle.alt_request.specs.Steps.{rules_of}
+use Rattle.alt_request.specs.Targets.{OnList}
+use Rattle.alt_request.specs.Words.{given_of, texts_of}
+use Rattle.alt_request.specs.declared.body.Rules.{Rules}
+use Rattle.alt_request.proofs.Listing.{list_untaken, list_no_words, list_no_start, list_no_table, list_unsaid}
+use Rattle.alt_request.proofs.Named.{some_found}
+use Rattle.alt_request.proofs.Reaching.{err_is}
+use Rattle.alt_shape.specs.Refusals.{Answer, not_found}
+use Rattle.alt_shape.specs.declared.rule.Broken.{Broken}
+use Rattle.alt_tables.specs.Stands.{catalog_of}
+use Rattle.alt_request.proofs.lists.list_target.Goals as goal
+
+abbrev tests_of : Option Broken → Bool → Rules → Members → List (Option Answer)
+tests_of broken mismatched rules ms = paired_refusals broken mismatched (rules_of rules) ms
+
+pub returns-in_err-paired_refusal : goal.returns-in_err-paired_refusal
+returns-in_err-paired_refusal c =
+    let ms : Members = members_view c.args.body.now.entries in
+    let tests = tests_of c.args.broken c.args.mismatched c.args.rules.now ms in record {
+      target = subst (λ r. OnList tests (texts_of c.args.texts.now) (catalog_of c.args.tables.now) ms r)
+          (sym (err_is c.from_residual.result c.in_err-paired_refusal.field-0.0
+          c.from_residual.ensures))
+          (list_untaken tests (texts_of c.args.texts.now) (catalog_of c.args.tables.now) ms
+          c.in_err-paired_refusal.field-0.0 c.in_err-paired_refusal.ensures.tested);
+    }
+
+pub returns-in_err-given : goal.returns-in_err-given
+returns-in_err-given c =
+    let ms : Members = members_view c.args.body.now.entries in
+    let tests = tests_of c.args.broken c.args.mismatched c.args.rules.now ms in record {
+      target = subst (λ r. OnList tests (texts_of c.args.texts.now) (catalog_of c.args.tables.now) ms r)
+          (sym (err_is c.from_residual-in_err-given.result c.in_err-given.field-0.0
+          c.from_residual-in_err-given.ensures))
+          (list_no_words tests (texts_of c.args.texts.now) (catalog_of c.args.tables.now) ms
+          c.in_ok-paired_refusal.ensures.tested c.in_err-given.field-0.0
+          c.in_err-given.ensures.given);
+    }
+
+pub returns-in_err-start : goal.returns-in_err-start
+returns-in_err-start c =
+    let ms : Members = members_view c.args.body.now.entries in
+    let tests = tests_of c.args.broken c.args.mismatched c.args.rules.now ms in record {
+      target = subst (λ r. OnList tests (texts_of c.args.texts.now) (catalog_of c.args.tables.now) ms r)
+          (sym (err_is c.from_residual-in_err-start.result c.in_err-start.field-0.0
+          c.from_residual-in_err-start.ensures))
+          (list_no_start tests (texts_of c.args.texts.now) (catalog_of c.args.tables.now) ms
+          c.in_ok-paired_refusal.ensures.tested (given_of c.in_ok-given.given)
+          c.in_ok-given.ensures.given c.in_err-start.field-0.0 c.in_err-start.ensures.read);
+    }
+
+pub returns-in_err-schema : goal.returns-in_err-schema
+returns-in_err-schema c =
+    let ms : Members = members_view c.args.body.now.entries in
+    let tests = tests_of c.args.broken c.args.mismatched c.args.rules.now ms in record {
+      target = subst (λ r. OnList tests (texts_of c.args.texts.now) (catalog_of c.args.tables.now) ms r)
+          (sym (err_is c.from_residual-in_err-schema.result c.in_err-schema.field-0.0
+          c.from_residual-in_err-schema.ensures))
+          (list_no_table tests (texts_of c.args.texts.now) (catalog_of c.args.tables.now) ms
+          c.in_ok-paired_refusal.ensures.tested (given_of c.in_ok-given.given)
+          c.in_ok-given.ensures.given c.in_ok-start.start c.in_ok-start.ensures.read
+          c.in_err-schema.field-0.0 c.in_err-schema.ensures.found);
+    }
+
+pub expressions-requires : goal.expressions-requires
+expressions-requires c = record { fresh = c.in_ok-given.ensures.fresh }
+
+pub returns-in_err-said : goal.returns-in_err-said
+returns-in_err-said c =
+    let ms : Members = members_view c.args.body.now.entries in
+    let tests = tests_of c.args.broken c.args.mismatched c.args.rules.now ms in record {
+      target = subst (λ r. OnList tests (texts_of c.args.texts.now) (catalog_of c.args.tables.now) ms r)
+          (sym (err_is c.from_residual-in_err-said.result c.in_err-said.field-0.0
+          c.from_residual-in_err-said.ensures))
+          (list_unsaid tests (texts_of c.args.texts.now) (catalog_of c.args.tables.now) ms
+          c.in_ok-paired_refusal.ensures.tested (given_of c.in_ok-given.given)
+          c.in_ok-given.ensures.given c.in_ok-start.start c.in_ok-start.ensures.read
+          c.in_ok-schema.schema.now c.in_ok-schema.ensures.found c.in_err-said.field-0.0
+          c.in_err-said.ensures.said);
+    }
+
+pub returns : goal.returns
+returns c =
+    let ms : Members = members_view c.args.body.now.entries in record {
+      target = record {
+        there = some_found not_found (map.get (catalog_of c.args.tables.now) (table_name ms))
+            c.in_ok-schema.schema.now c.in_ok-schema.ensures.found;
+        listed = record {
+          body = c.in_ok-paired_refusal.ensures.tested;
+          words = given_of c.in_ok-given.given;
+          given = c.in_ok-given.ensures.given;
+          read = c.in_ok-start.ensures.read;
+          says = c.in_ok-said.ensures.said;
+        };
+      };
+    }

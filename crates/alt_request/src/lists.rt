@@ -1,0 +1,70 @@
+//! What an operation on a list of items goes on with: the table that its body names, the key to start after, and what its expressions
+//! say.
+
+ghost use Rattle.std.specs.Prelude.{◌≡◌};
+ghost use Rattle.serde_json.specs.View.{members_view};
+ghost use Rattle.alt_machine.specs.Body.{paired_refusals};
+ghost use Rattle.alt_machine.specs.Lists.{start_at};
+ghost use Rattle.alt_request.specs.Steps.{Comes, rules_of};
+ghost use Rattle.alt_request.specs.Targets.{OnList};
+ghost use Rattle.alt_request.specs.Words.{texts_of};
+ghost use Rattle.alt_tables.specs.Stands.{catalog_of};
+
+use crate::body::{Rules, paired_refusal, table_of};
+use crate::expressions::{Texts, expressions, given_at};
+use crate::items::item_of;
+use crate::stop::Stop;
+use alt_machine::Expressions;
+use alt_schema::TableSchema;
+use alt_shape::{Broken, given};
+use alt_tables::Tables;
+use alt_value::Item;
+use serde_json::{Map, Value};
+use std::alloc::Global;
+
+/// The description of the table, the key to start after, if one is given, and what the request's expressions say.
+#[derive(Drop)]
+pub struct ListTarget<'t> {
+    pub schema: &'t TableSchema,
+    pub start: Option<Item>,
+    pub said: Expressions,
+}
+
+/// The table that a body names, the key to start after, and what the body's expressions say, where nothing refuses them.
+pub fn list_target<'t>(
+    alloc: Global,
+    tables: &'t Tables,
+    body: &Map<String, Value>,
+    broken: Option<Broken>,
+    mismatched: bool,
+    rules: &Rules,
+    texts: &Texts,
+) -> Result<ListTarget<'t>, Stop>
+    ensures target { OnList (paired_refusals broken mismatched (rules_of rules.now)
+        (members_view body.now.entries)) (texts_of texts.now) (catalog_of tables.now)
+        (members_view body.now.entries) result }
+{
+    paired_refusal(broken, mismatched, rules, body)?;
+    let given = given_at(alloc, texts, body)?;
+    let start = start_at(alloc, body)?;
+    let schema = table_of(tables, body)?;
+    let said = expressions(alloc, texts, schema, body, given)?;
+    Ok(ListTarget {
+        schema,
+        start,
+        said,
+    })
+}
+
+/// The key to start after, if one is given.
+fn start_at(alloc: Global, body: &Map<String, Value>) -> Result<Option<Item>, Stop>
+    ensures read { Comes (λ key. key) (start_at (members_view body.now.entries)) result }
+{
+    let Some(value) = given(body, "ExclusiveStartKey") else {
+        return Ok(None);
+    };
+    match item_of(alloc, value) {
+        Ok(key) => Ok(Some(key)),
+        Err(stop) => Err(stop),
+    }
+}

@@ -1,0 +1,272 @@
+-- The rows of the items in a range of places, and the items that are read from them.
+use Rattle.std.proofs.Common.{◌≡◌, ◌<◌, refl, sym, ap, ◌∙◌, ℕ, zero, suc, Bool, true, false, cond, T, List, [], ◌∷◌, ◌++◌, map, reverse, take, length, get_or, Option, Some, None, Result, Ok, Err, OnOk, IfErr, IsTrue, option_map, All, append_assoc, arith}
+use Rattle.std.proofs.lemmas.List.{map-append, take-map}
+use Rattle.std.proofs.lemmas.List.Elements.{All-nil, All-cons, All-head, All-tail, All-push, All-map, All-take, All-filter}
+use Rattle.std.proofs.lemmas.List.Sorted.{All-permutation, IsPermutation-reverse}
+use Rattle.std.specs.BTreeMap.Range.{entries_between, range_contains}
+use Rattle.std.specs.FinMap as finite
+use Rattle.std.specs.FinMap.Entries.{below_all, find, is_sorted, same_entries}
+use Rattle.std.specs.Prelude.{option_and_then}
+use Rattle.std.specs.Ordering.{eq_by_cmp}
+use Rattle.std.specs.declared.ops.Bound.TheVariants.{Included}
+use Rattle.alt_cells.specs.Changes.{Columns}
+use Rattle.alt_cells.specs.Keys.{key_cmp}
+use Rattle.alt_cells.specs.Walks.{turned as rows_turned}
+use Rattle.alt_cells.proofs.CellLaws.{key_total, key_exact}
+use Rattle.alt_cells.proofs.Entries.{first, second, find_below}
+use Rattle.alt_disk.specs.Disk.{DiskState}
+use Rattle.alt_disk.proofs.Runs.{tells_of}
+use Rattle.alt_engine.specs.InHand.{Reads as EngineReads}
+use Rattle.alt_engine.specs.Layout.{Layout, rows_between, shown_of, shown_rows, end_bound as rows_end}
+use Rattle.alt_engine.proofs.ShownLaws.{find-shown, is_sorted-shown, shown-filter, shown-turned}
+use Rattle.alt_machine.specs.State.{State, Table}
+use Rattle.alt_machine.specs.Walks.{end_bound, items_between, placed_items, turned}
+use Rattle.alt_schema.specs.declared.schema.TableSchema.{TableSchema}
+use Rattle.alt_tables.specs.Faults.{IsFindFault, IsReadFault}
+use Rattle.alt_tables.specs.ItemRows.{IsReadItem, item_columns}
+use Rattle.alt_tables.specs.Pages.{AreItemsOf, ArePut}
+use Rattle.alt_tables.specs.StateRows.{Shows}
+use Rattle.alt_tables.specs.Stands.{Stands, catalog_of}
+use Rattle.alt_tables.specs.declared.faults.TableFault.{TableFault}
+use Rattle.alt_tables.specs.declared.faults.TableFault.TheVariants.{Spent, Damaged, BadRow, Failed, NoMemory}
+use Rattle.alt_tables.specs.declared.tables.Tables.{Tables}
+use Rattle.alt_tables.proofs.ChangeLaws.{tied, itself}
+use Rattle.alt_tables.proofs.Engine.{finds_shown}
+use Rattle.alt_tables.proofs.ItemRowLaws.{item_columns-one}
+use Rattle.alt_tables.proofs.OneState.{some, has_whole}
+use Rattle.alt_tables.proofs.Standing.{known}
+use Rattle.alt_value.specs.Members.{text_order}
+use Rattle.alt_value.specs.Tree.{Pair}
+
+-- ---- items as they are put one by one
+
+-- the item of one row more
+pub put_more : (page : List (List ℕ × Columns)) (e : List ℕ × Columns) (item : List Pair)
+    (old mid new : List (List Pair)) → ArePut page old mid → IsReadItem item
+    → e.1 ≡ item_columns item → new ≡ mid ++ item ∷ [] → ArePut (page ++ e ∷ []) old new
+put_more page e item old mid new so_far read row push = record {
+  items = so_far.items ++ item ∷ [];
+  are = record {
+    read = All-push IsReadItem so_far.items item so_far.are.read read;
+    rows = map-append (λ (x : List ℕ × Columns). x.1) page (e ∷ [])
+        ∙ (λ i. so_far.are.rows i ++ row i ∷ [])
+        ∙ sym (map-append item_columns so_far.items (item ∷ []));
+  };
+  put = push ∙ ap (λ items. items ++ item ∷ []) so_far.put
+      ∙ append_assoc old so_far.items (item ∷ []);
+}
+
+-- what two lists begin with, and what follows
+parts : {A : Type 0} (x y : A) (xs ys : List A) → x ∷ xs ≡ y ∷ ys → (x ≡ y) × (xs ≡ ys)
+parts x y xs ys e = (cc, cc)
+
+-- Of rows of items each is that of one which can be read.
+pub item_at : (page : List (List ℕ × Columns)) (items : List (List Pair)) (k : ℕ)
+    (e : List ℕ × Columns) → AreItemsOf page items → k < length page → e ≡ get_or page k e
+    → (item : List Pair) × IsReadItem item × (e.1 ≡ item_columns item)
+item_at page items k e are within is = by page items k are.read are.rows within is
+  where
+    by : (page : List (List ℕ × Columns)) (items : List (List Pair)) (k : ℕ)
+        → All IsReadItem items → map (λ e. e.1) page ≡ map item_columns items → k < length page
+        → e ≡ get_or page k e → (item : List Pair) × IsReadItem item × (e.1 ≡ item_columns item)
+    by [] items k read rows within is = absurd (omega arith)
+    by (x ∷ xs) [] k read rows within is =
+        let no : x.1 ∷ map (λ e. e.1) xs ≡ [] = rows in absurd (cc no)
+    by (x ∷ xs) (y ∷ ys) zero read rows within is = (
+      y,
+      All-head IsReadItem y ys read,
+      ap (λ p. p.1) is ∙ (parts x.1 (item_columns y) _ _ rows).0,
+    )
+    by (x ∷ xs) (y ∷ ys) (suc k) read rows within is = by xs ys k
+        (All-tail IsReadItem y ys read) (parts x.1 (item_columns y) _ _ rows).1 (omega arith) is
+
+-- items with the same rows are the same
+same_items : (a b : List (List Pair)) → All IsReadItem a → All IsReadItem b
+    → map item_columns a ≡ map item_columns b → a ≡ b
+same_items [] [] h k e = refl
+same_items [] (y ∷ ys) h k e = let no : [] ≡ item_columns y ∷ map item_columns ys = e in
+    absurd (cc no)
+same_items (x ∷ xs) [] h k e = let no : item_columns x ∷ map item_columns xs ≡ [] = e in
+    absurd (cc no)
+same_items (x ∷ xs) (y ∷ ys) h k e =
+    let both = parts (item_columns x) (item_columns y) (map item_columns xs) (map item_columns ys)
+    e in
+    let one = item_columns-one x y (All-head IsReadItem x xs h).whole
+    (All-head IsReadItem y ys k).whole both.0 in
+    let rest = same_items xs ys (All-tail IsReadItem x xs h) (All-tail IsReadItem y ys k) both.1 in
+    λ i. one i ∷ rest i
+
+-- ---- entries of items as those of rows
+
+-- the row of an item is shown
+abbrev as_row : List Pair → Option Columns
+as_row item = Some (item_columns item)
+
+-- the row of an item at its place
+abbrev row_at : List ℕ × List Pair → List ℕ × Columns
+row_at e = (e.0, item_columns e.1)
+
+-- the rows that are shown are those of all
+shown_of-rows : (es : List (List ℕ × List Pair)) → shown_of as_row es ≡ map row_at es
+shown_of-rows [] = refl
+shown_of-rows (e ∷ es) = ap (λ rows. row_at e ∷ rows) (shown_of-rows es)
+
+-- their columns
+columns-rows : (es : List (List ℕ × List Pair))
+    → map (λ (e : List ℕ × Columns). e.1) (map row_at es) ≡ map item_columns (map (λ e. e.1) es)
+columns-rows [] = refl
+columns-rows (e ∷ es) = ap (λ cs. item_columns e.1 ∷ cs) (columns-rows es)
+
+-- the row of an item that may not be there
+row_of : (o : Option (List Pair)) → option_map item_columns o ≡ option_and_then as_row o
+row_of None = refl
+row_of (Some item) = refl
+
+-- a walk over rows goes as one over items
+same_turned : {A : Type 0} (forward : Bool) (xs : List A)
+    → rows_turned forward xs ≡ turned forward xs
+same_turned true xs = refl
+same_turned false xs = refl
+
+-- and ends where that does
+same_end : (to : Option (List ℕ)) → rows_end to ≡ end_bound to
+same_end None = refl
+same_end (Some to) = refl
+
+-- ---- what holds of each item
+
+-- of each that is found, so of each entry
+each_found : (P : List Pair → Type 0) (es : List (List ℕ × List Pair)) → T (is_sorted key_cmp es)
+    → ((place : List ℕ) (item : List Pair) → find key_cmp place es ≡ Some item → P item)
+    → All (λ e. P e.1) es
+each_found P [] sorted found = All-nil (λ (e : List ℕ × List Pair). P e.1)
+each_found P (e ∷ es) sorted found = All-cons (λ (e : List ℕ × List Pair). P e.1) e es
+    (found e.0 e.1 (ap (λ b. cond b (Some e.1) (find key_cmp e.0 es)) (itself e.0)))
+    (each_found P es (second (below_all key_cmp e.0 es) _ sorted)
+    (λ place item at. found place item (later place item at (eq_by_cmp key_cmp place e.0) refl)))
+  where
+    later : (place : List ℕ) (item : List Pair) → find key_cmp place es ≡ Some item → (b : Bool)
+        → eq_by_cmp key_cmp place e.0 ≡ b → find key_cmp place (e ∷ es) ≡ Some item
+    later place item at true same = absurd (let no : None ≡ Some item =
+        sym (find_below key_cmp key_total e.0 es (first _ (is_sorted key_cmp es) sorted))
+        ∙ ap (λ q. find key_cmp q es) (sym (tied place e.0 same)) ∙ at in cc no)
+    later place item at false differs =
+        ap (λ b. cond b (Some e.1) (find key_cmp place es)) differs ∙ at
+
+-- the item of an entry can be read
+abbrev CanBeRead : List ℕ × List Pair → Type 0
+CanBeRead e = IsReadItem e.1
+
+-- what holds of all holds of them either way
+All-turned : {A : Type 0} (P : A → Type 0) (forward : Bool) (xs : List A) → All P xs
+    → All P (turned forward xs)
+All-turned P true xs all = all
+All-turned P false xs all = All-permutation P xs (reverse xs) (IsPermutation-reverse xs) all
+
+-- ---- the rows of a table
+
+module _ (l : Layout) (s : State) (name : List ℕ) (t : Table) (shows : Shows l s)
+    (at : finite.get s.tables name ≡ Some t) where
+  -- the rows that the table's family shows
+  abbrev rows : finite.FinMap key_cmp Columns
+  rows = shown_rows l t.description.family
+
+  -- are those of its items, in the order of their places
+  entries-rows : finite.entries rows ≡ shown_of as_row (placed_items t)
+  entries-rows = same_entries key_cmp key_total key_exact _ _ (finite.entries_sorted rows)
+      (is_sorted-shown as_row (placed_items t) (finite.entries_sorted t.items))
+      (λ q. sym (finite.get-entries rows q) ∙ finds_shown l t.description.family q
+      ∙ shows.items name t at q ∙ row_of (finite.get t.items q)
+      ∙ ap (option_and_then as_row) (finite.get-entries t.items q)
+      ∙ sym (find-shown as_row q (placed_items t) (finite.entries_sorted t.items)))
+
+  -- and so they are in a range
+  rows_between-items : (from : List ℕ) (to : Option (List ℕ)) (forward : Bool)
+      → rows_between l t.description.family from to forward ≡ map row_at (turned forward
+      (entries_between text_order (Included from) (end_bound to) (placed_items t)))
+  rows_between-items from to forward =
+      let within : List (List ℕ × List Pair) =
+      entries_between text_order (Included from) (end_bound to) (placed_items t) in
+      ap (λ end. rows_turned forward (entries_between key_cmp (Included from) end
+      (finite.entries rows))) (same_end to)
+      ∙ ap (λ es. rows_turned forward (entries_between key_cmp (Included from) (end_bound to) es))
+      entries-rows
+      ∙ ap (rows_turned forward) (sym (shown-filter as_row (range_contains key_cmp (Included from)
+      (end_bound to)) (placed_items t)))
+      ∙ sym (shown-turned as_row forward within)
+      ∙ shown_of-rows (rows_turned forward within)
+      ∙ ap (map row_at) (same_turned forward within)
+
+-- ---- the rows that a walk gave
+
+module _ (disk : DiskState) (tables : Tables) (s : State) (name : List ℕ) (t : Table)
+    (d : TableSchema) (stands : Stands disk tables s) (at : finite.get s.tables name ≡ Some t)
+    (known_as : finite.get (catalog_of tables) name ≡ Some d) (from : List ℕ)
+    (to : Option (List ℕ)) (forward : Bool) (most : ℕ) (before page : List (List ℕ × Columns))
+    (empty : before ≡ []) (walked : IsTrue disk.tells → (l : Layout)
+    → EngineReads disk tables.engine l
+    → page ≡ before ++ take most (rows_between l d.family from to forward)) where
+  -- the items of the range with their places
+  abbrev placed : List (List ℕ × List Pair)
+  placed = turned forward
+      (entries_between text_order (Included from) (end_bound to) (placed_items t))
+
+  -- the rows are theirs
+  page_rows : page ≡ take most (map row_at placed)
+  page_rows =
+      let l = stands.rows.layout in
+      walked (tells_of disk stands.rows.trusted) l stands.rows.is.reads
+      ∙ ap (λ (rows : List (List ℕ × Columns)). rows
+      ++ take most (rows_between l d.family from to forward)) empty
+      ∙ ap (λ (x : TableSchema). take most (rows_between l x.family from to forward))
+      (some _ _ (sym known_as ∙ known disk tables s name t stands at))
+      ∙ ap (take most) (rows_between-items l s name t stands.rows.shows at from to forward)
+
+  -- an item of the table can be read
+  read_item : (place : List ℕ) (item : List Pair)
+      → find key_cmp place (finite.entries t.items) ≡ Some item → IsReadItem item
+  read_item place item found =
+      let here : finite.get t.items place ≡ Some item = finite.get-entries t.items place ∙ found in
+      record {
+        whole = has_whole s stands.valid stands.rows.held name t at place item here;
+        depth = ((stands.valid.tables name t at).items place item here).depth;
+      }
+
+  -- they are the rows of the items that are to be given
+  pub page_reads : AreItemsOf page (take most (items_between t from to forward))
+  page_reads = record {
+    read = All-take IsReadItem most (items_between t from to forward)
+        (All-map IsReadItem (λ (e : List ℕ × List Pair). e.1) placed
+        (All-turned CanBeRead forward (entries_between text_order (Included from) (end_bound to)
+        (placed_items t))
+        (All-filter (λ (e : List ℕ × List Pair). range_contains text_order (Included from)
+        (end_bound to) e.0) CanBeRead (placed_items t)
+        (each_found IsReadItem (placed_items t) (finite.entries_sorted t.items) read_item))));
+    rows = ap (map (λ (e : List ℕ × Columns). e.1)) page_rows
+        ∙ sym (take-map (λ (e : List ℕ × Columns). e.1) most (map row_at placed))
+        ∙ ap (take most) (columns-rows placed)
+        ∙ take-map item_columns most (map (λ (e : List ℕ × List Pair). e.1) placed);
+  }
+
+  -- so what was read of them are these items
+  pub page_items : (old new : List (List Pair)) → ArePut page old new
+      → new ≡ old ++ take most (items_between t from to forward)
+  page_items old new put = put.put ∙ ap (λ items. old ++ items)
+      (same_items put.items _ put.are.read page_reads.read (sym put.are.rows ∙ page_reads.rows))
+
+-- ---- the answer of a walk
+
+-- what holds at Ok holds in other words
+pub ok_then : {A E P Q : Type 0} (r : Result A E) → (P → Q) → OnOk r P → OnOk r Q
+ok_then (Ok x) f h = f h
+ok_then (Err e) f h = tt
+
+-- want of memory is a fault of a call that reads rows
+pub find_fault : {A : Type 0} (r : Result A TableFault) → IfErr r IsReadFault
+    → IfErr r IsFindFault
+find_fault (Ok x) h = h
+find_fault (Err (Spent number)) h = h
+find_fault (Err (Damaged file at)) h = h
+find_fault (Err (BadRow family key)) h = h
+find_fault (Err Failed) h = absurd h
+find_fault (Err NoMemory) h = h

@@ -82,11 +82,11 @@ module _ (texts : Texts) (d : TableSchema) (ms : Members) (g : Given) where
   with_paths keys condition update paths =
       unless_answer (first_answer (of_texts texts d ms g update))
       (record {
-    key_condition = keys;
-    condition = condition;
-    update = update;
-    projection = paths;
-  })
+        key_condition = keys;
+        condition = condition;
+        update = update;
+        projection = paths;
+      })
 
   abbrev pub with_update : Option Cond → Option Cond → Option (List Action)
       → Result Expressions Answer

@@ -182,8 +182,8 @@ expressions texts d ms g = do
   projection ← stated paths_of (names_alone g.names) (text_at texts.projection ms)
   unless_answer (first_answer (of_texts texts d ms g update))
       (record {
-    key_condition = keys;
-    condition = condition;
-    update = update;
-    projection = projection;
-  })
+        key_condition = keys;
+        condition = condition;
+        update = update;
+        projection = projection;
+      })

@@ -138,6 +138,7 @@ page_asks d ms said list ask is limit =
   where
     asked : Option ℕ → Asked
     asked most = record { limit = most; condition = said.condition; paths = said.projection }
+
     with_limit : Option ℕ → Answer
     with_limit most = page_answer d ms (pages.page_of (asked most) list)
         (last_examined (asked most) list)

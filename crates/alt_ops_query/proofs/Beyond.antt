@@ -83,7 +83,7 @@ beyond_above from to place above key = (
   λ h. (
     h,
     less_true (text_order place key) (below_up_to place from key
-    (above_is from place (gt_is (text_order from place) above)) h.0),
+        (above_is from place (gt_is (text_order from place) above)) h.0),
   ),
   λ h. h.0,
 )
@@ -126,7 +126,7 @@ pub lesser_place : (end place : List ℕ) → is_lt (text_order end place) ≡ f
 lesser_place end place high key = (
   λ h. (
     below_up_to key place end h (λ over. lt_not (text_order end place) high
-    (sym (nat_list_cmp_total.antisymm place end) ∙ over)),
+        (sym (nat_list_cmp_total.antisymm place end) ∙ over)),
     h,
   ),
   λ h. h.1,

@@ -51,8 +51,11 @@ module _ (item : List Pair) (is_item : IsItem item) where
 
       by : (n : List ℕ) → name ≡ n → (o : Option Tree) → at_name name item ≡ o
           → KeepsWhere (λ q. bytes_eq name q || p q) (with_attribute n o key)
-      by [] is o at = (keeps.0, λ q. without q (ap (λ n. find text_order n item) is
-          ∙ no_empty item is_item))
+      by [] is o at = (
+        keeps.0,
+        λ q. without q (ap (λ n. find text_order n item) is
+            ∙ no_empty item is_item),
+      )
       by (b ∷ bs) is None at = (keeps.0, λ q. without q at)
       by (b ∷ bs) is (Some t) at = (
         is_sorted-put text_order key_total (b ∷ bs) t key keeps.0,

@@ -128,8 +128,25 @@ part_bytes (L_tree ts) v = tt
 part_bytes (M_tree fs) v = tt
 
 token_are_bytes : (n : ℕ) → AreBytes (to_be_bytes w64 n)
-token_are_bytes n = (omega arith, (omega arith, (omega arith, (omega arith, (omega arith, (omega arith,
-    (omega arith, (omega arith, tt))))))))
+token_are_bytes n = (
+  omega arith,
+  (
+    omega arith,
+    (
+      omega arith,
+      (
+        omega arith,
+        (
+          omega arith,
+          (
+            omega arith,
+            (omega arith, (omega arith, tt)),
+          ),
+        ),
+      ),
+    ),
+  ),
+)
 
 -- the place of values
 pub values_place : (hash : Tree) (range : Option Tree) → IsValue hash

@@ -126,6 +126,7 @@ module _ (number total token : ℕ) (y : List ℕ) (below : number < total) (few
     where
       e : ℕ
       e = first_token (number + 1) total
+
       by : (b : Bool) → nat_lt (first_token (number + 1) total) (2 ^ 64) ≡ b
           → not (is_past_end text_order (end_bound (if b
           then Some (token_bytes (first_token (number + 1) total)) else None)) key)

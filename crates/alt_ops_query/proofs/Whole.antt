@@ -86,6 +86,7 @@ module _ (disk : DiskState) (tables : Tables) (s : State) (stands : Stands disk 
         go : Ask → Option (List ℕ) → Outcome
         go ask place = pages t.description ms said
             (listed (goes_forward ms) place (passes said.key_condition) t)
+
         found : queries ms said start t ≡ go asked.ask asked.place
         found = ap (λ q. with_found q (λ ask. with_found
             (walk_start t.description (Some ask.hash) start) (go ask)))
@@ -105,6 +106,7 @@ module _ (disk : DiskState) (tables : Tables) (s : State) (stands : Stands disk 
         go : Option (List ℕ) → Outcome
         go place = pages t.description ms said
             (listed true place (is_in t.description (segment_of ms)) t)
+
         found : scans ms said start t ≡ go asked.place
         found = ap (λ q. with_found q go) (ap (λ x. walk_start x None start) same ∙ asked.starts)
 
@@ -125,6 +127,7 @@ module _ (disk : DiskState) (tables : Tables) (now : State → Type 0) (ms : Mem
           × (query s ms ≡ queries ms target.said target.start t)
       reached = list_reached disk tables (paired_refusals broken mismatched querying_of.rules ms) ms
           (λ s. query s ms) querying (λ s. queries ms) (query_is ms broken mismatched e f) target is
+
       by : (q : Stop) → Asks target.schema.now target.said.key_condition target.start
           (goes_forward ms) (Err q) → Carries (λ s. query s ms) (Stands disk tables) now (Err q)
       by (Refused r) h = refused_so (λ s. query s ms) (Stands disk tables) now r h.0
@@ -150,6 +153,7 @@ module _ (disk : DiskState) (tables : Tables) (now : State → Type 0) (ms : Mem
           × (scan s ms ≡ scans ms target.said target.start t)
       reached = list_reached disk tables (paired_refusals broken mismatched scanning_of.rules ms) ms
           (λ s. scan s ms) scanning (λ s. scans ms) (scan_is ms broken mismatched e f) target is
+
       by : (q : Stop) → Segments target.schema.now (segment_of ms) target.start (Err q)
           → Carries (λ s. scan s ms) (Stands disk tables) now (Err q)
       by (Refused r) h = refused_so (λ s. scan s ms) (Stands disk tables) now r h.0

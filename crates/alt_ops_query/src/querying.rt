@@ -60,7 +60,15 @@ pub fn query<D: Disk>(
     let _ = moment;
     let broken = bodies::query(body);
     let mismatched = is_mismatched(body);
-    let target = list_target(alloc, tables, body, broken, mismatched, &RULES, &Texts::QUERYING)?;
+    let target = list_target(
+        alloc,
+        tables,
+        body,
+        broken,
+        mismatched,
+        &RULES,
+        &Texts::QUERYING,
+    )?;
     let ListTarget {
         schema,
         start,

@@ -38,9 +38,19 @@ pub(crate) fn page_reply(
     }
     if let Some(item) = last {
         let key = key_attributes(alloc, schema, item)?;
-        serde_json::put(&mut members, alloc, "LastEvaluatedKey", json_of_item(alloc, &key)?)?;
+        serde_json::put(
+            &mut members,
+            alloc,
+            "LastEvaluatedKey",
+            json_of_item(alloc, &key)?,
+        )?;
     }
-    serde_json::put(&mut members, alloc, "ScannedCount", Value::from(page.scanned))?;
+    serde_json::put(
+        &mut members,
+        alloc,
+        "ScannedCount",
+        Value::from(page.scanned),
+    )?;
     Ok(Reply::answered(members))
 }
 

@@ -58,7 +58,15 @@ pub fn scan<D: Disk>(
     let _ = moment;
     let broken = bodies::scan(body);
     let mismatched = is_mismatched(body) || is_segment_odd(body);
-    let target = list_target(alloc, tables, body, broken, mismatched, &RULES, &Texts::SCANNING)?;
+    let target = list_target(
+        alloc,
+        tables,
+        body,
+        broken,
+        mismatched,
+        &RULES,
+        &Texts::SCANNING,
+    )?;
     let ListTarget {
         schema,
         start,

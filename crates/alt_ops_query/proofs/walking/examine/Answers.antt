@@ -16,8 +16,7 @@ returns-then-not-branch-clause-examines c ask seen h all =
     subst (λ l. SoFar before c.loop-item.filling items l ask seen) c.in-Some.ensures.steps.0
     (c.loop-item.invariant.examined ask seen h all) in
     let got = c.in_ok-offered.ensures.examines ask (seen ++ so.front) so.examined
-    (next_some before c.loop-item.filling items ahead c.in-Some.item ask seen so all) in
-    (
+    (next_some before c.loop-item.filling items ahead c.in-Some.item ask seen so all) in (
       so.front ++ c.in-Some.item ∷ [],
       ahead,
       so.is ∙ sym (append_assoc so.front (c.in-Some.item ∷ []) ahead),

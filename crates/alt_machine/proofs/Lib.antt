@@ -1,3 +1,4 @@
+pub mod Batches
 pub mod Chains
 pub mod Creations
 pub mod Descriptions

@@ -37,18 +37,28 @@ abbrev pub elements : Items → List Data
 elements no_items = []
 elements (item d ds) = d ∷ elements ds
 
+-- those of an array, none where there is no array
+abbrev pub elements_of : Option Items → List Data
+elements_of None = []
+elements_of (Some ds) = elements ds
+
 -- those of a value, none where it is no array
 abbrev pub elements_in : Data → List Data
-elements_in d = elements (unwrap_or (as_array d) no_items)
+elements_in d = elements_of (as_array d)
 
 -- the members of an object as pairs, which rise by their names
 abbrev pub pairs_in : Members → List (List ℕ × Data)
 pairs_in no_members = []
 pairs_in (member name d ms) = (name, d) ∷ pairs_in ms
 
+-- those of an object, none where there is no object
+abbrev pub pairs_of : Option Members → List (List ℕ × Data)
+pairs_of None = []
+pairs_of (Some ms) = pairs_in ms
+
 -- the tables that a batch names, each with what is asked of it
 abbrev pub tables_asked : Members → List (List ℕ × Data)
-tables_asked ms = pairs_in (unwrap_or (option_and_then as_object (given (codes "RequestItems") ms)) no_members)
+tables_asked ms = pairs_of (option_and_then as_object (given (codes "RequestItems") ms))
 
 -- something of each of them, in their order, with the name of its table
 abbrev pub of_each : (Data → List Data) → List (List ℕ × Data) → List (List ℕ × Data)

@@ -5,7 +5,7 @@ use Rattle.std.specs.FinMap as finite
 use Rattle.std.specs.List.{list_any, filter_map}
 use Rattle.std.specs.Option.{option_map_or}
 use Rattle.serde_json.specs.Data.{Data, boolean, string, array, object, Members, no_members, member, put as with_member}
-use Rattle.serde_json.specs.Find.{as_bool, as_str}
+use Rattle.serde_json.specs.Find.{as_array, as_bool, as_str, as_object}
 use Rattle.alt_codec.specs.Reading.{item_in}
 use Rattle.alt_expr.specs.Given.{Given}
 use Rattle.alt_expr.specs.declared.path.PathPart.{PathPart}
@@ -14,7 +14,7 @@ use Rattle.alt_machine.specs.declared.Expressions.{Expressions}
 use Rattle.alt_machine.specs.declared.PlacedMember.{PlacedMember}
 use Rattle.alt_machine.specs.declared.Sought.TheVariants.{Key}
 use Rattle.alt_machine.specs.declared.TheConstants.{MOST_KEYS, BATCH_BYTES}
-use Rattle.alt_machine.specs.Batches.{members_in, elements_in, tables_asked, of_each, each_found, is_sized, batch_refusals, of_catalog, placed, has_repeat}
+use Rattle.alt_machine.specs.Batches.{members_in, elements_of, tables_asked, of_each, each_found, is_sized, batch_refusals, of_catalog, placed, has_repeat}
 use Rattle.alt_machine.specs.Expressions.{projecting, given_at, names_member, expressions}
 use Rattle.alt_machine.specs.Lists.{is_given, items_json}
 use Rattle.alt_machine.specs.Members.{unless_fault}
@@ -25,7 +25,7 @@ use Rattle.alt_machine.specs.State.{State, Texts, descriptions}
 use Rattle.alt_schema.specs.Json.{member_if}
 use Rattle.alt_schema.specs.declared.schema.TableSchema.{TableSchema}
 use Rattle.alt_shape.specs.Bodies as bodies
-use Rattle.alt_shape.specs.Refusals.{Answer, answered, not_found, bad_batch}
+use Rattle.alt_shape.specs.Refusals.{Answer, answered, unreadable, not_found, bad_batch}
 use Rattle.alt_shape.specs.Shape.{given}
 use Rattle.alt_value.specs.Size.{item_size}
 use Rattle.alt_value.specs.Tree.{Pair}
@@ -34,7 +34,7 @@ use Rattle.alt_value.specs.Tree.{Pair}
 
 -- the keys that are asked for in a table
 abbrev pub keys_in : Data → List Data
-keys_in d = option_map_or elements_in (given (codes "Keys") (members_in d)) []
+keys_in d = elements_of (option_and_then as_array (given (codes "Keys") (members_in d)))
 
 -- what the body alone is refused for; a member of an older interface may stand in any table
 abbrev pub of_body : Members → List (Option Answer)
@@ -63,9 +63,10 @@ read_key table d = unless_fault (item_in 32 d)
 -- the keys of a table, and then the names that are given for its projection
 abbrev pub read_table : List ℕ × Data → Result (Reads Given BatchMember) Answer
 read_table t = do
+  body ← or_refused unreadable (as_object t.1)
   keys ← each_found (read_key t.0) (keys_in t.1)
-  words ← given_at projecting (members_in t.1)
-  Ok (record { table = t.0; body = members_in t.1; words = words; keys = keys })
+  words ← given_at projecting body
+  Ok (record { table = t.0; body = body; words = words; keys = keys })
 
 -- what its projection says
 abbrev pub said_in : Texts TableSchema → Reads Given BatchMember → Result (Reads Shown BatchMember) Answer

@@ -1,7 +1,7 @@
 -- A BatchWriteItem leads from a valid state to valid ones, one write after another.
-use Rattle.std.proofs.Common.{◌≡◌, refl, sym, ap, subst, ◌∙◌, ℕ, Bool, true, false, List, [], ◌∷◌, ◌++◌, Option, Some, None, option_map, Result, Ok, Err, inl, inr, is_some}
+use Rattle.std.proofs.Common.{◌≡◌, refl, sym, ap, subst, ◌∙◌, ℕ, Bool, true, false, List, [], ◌∷◌, ◌++◌, map, Option, Some, None, option_map, Result, Ok, Err, inl, inr, is_some}
 use Rattle.std.specs.Prelude.{if◌then◌else◌, codes, unwrap_or}
-use Rattle.std.specs.FinMap as map
+use Rattle.std.specs.FinMap as finite
 use Rattle.std.specs.Option.{option_map_or}
 use Rattle.serde_json.specs.Data.{Data, Members, no_members}
 use Rattle.alt_machine.specs.declared.BatchMember.{BatchMember}
@@ -11,7 +11,7 @@ use Rattle.alt_machine.specs.declared.Sought.TheVariants.{Item, Key}
 use Rattle.alt_machine.specs.Batches.{object_in, tables_asked, each_found, of_catalog, at_place, placed_in, placed, has_repeat}
 use Rattle.alt_machine.specs.Keys.{key_fits}
 use Rattle.alt_machine.specs.Members.{item_at}
-use Rattle.alt_machine.specs.Ops.BatchWriteItem.{of_body, requests, read_member, read_write, of_sought, of_member, of_members, writes_asked, left_of, left_by, writes_of, writes_of_all, batch_write_item}
+use Rattle.alt_machine.specs.Ops.BatchWriteItem.{of_body, requests, read_member, read_write, of_sought, of_member, of_members, writes_asked, left_of, left_by, written_by, writes_of, writes_of_all, batch_write_item}
 use Rattle.alt_machine.specs.Ops.PutItem.{of_item}
 use Rattle.alt_machine.specs.Outcomes.{a_number, last_state, writes}
 use Rattle.alt_machine.specs.Refusals.{first_answer, or_refused, refuse_if, unless_answer, ◌>>=◌}
@@ -73,13 +73,13 @@ each_always P h (x ∷ xs) = (h x, each_always P h xs)
 
 -- what a member leaves may stand at its place in the table that it names
 pub MayStand : Texts TableSchema → PlacedMember → Type 0
-MayStand catalog m = (d : TableSchema) → map.get catalog m.table ≡ Some d → (i : List Pair)
+MayStand catalog m = (d : TableSchema) → finite.get catalog m.table ≡ Some d → (i : List Pair)
     → left_by m ≡ Some i → IsStored d m.place i
 
 -- a member has its place in the table that it names, and its key isn't too long
 record IsThere (catalog : Texts TableSchema) (m : PlacedMember) : Type 0 where
   sound : IsSound m.item
-  at : (d : TableSchema) → map.get catalog m.table ≡ Some d
+  at : (d : TableSchema) → finite.get catalog m.table ≡ Some d
       → (place_in m.sought d m.item ≡ Some m.place) × (key_fits d m.item ≡ true)
 
 sound_read : (table : List ℕ) (sought : Sought) (ms : Members) (m : BatchMember)
@@ -110,7 +110,7 @@ same_Some x y e = cc
 placed_there : (catalog : Texts TableSchema) (b : BatchMember) (m : PlacedMember) → IsSound b.item
     → placed catalog b ≡ Ok m → IsThere catalog m
 placed_there catalog b m sound e =
-    let known = then_found (or_refused not_found (map.get catalog b.table))
+    let known = then_found (or_refused not_found (finite.get catalog b.table))
     (λ d. placed_in d b) m e in
     let here = then_found (or_refused bad_key (place_in b.sought known.0 b.item))
     (λ place. unless_answer (first_answer (of_length known.0 b.item)) (at_place b place)) m known.2 in
@@ -119,7 +119,7 @@ placed_there catalog b m sound e =
       sound = sound;
       at = λ d there.
           let is : known.0 ≡ d = same_Some known.0 d
-          (sym (found_is not_found (map.get catalog b.table) known.0 known.1) ∙ there) in
+          (sym (found_is not_found (finite.get catalog b.table) known.0 known.1) ∙ there) in
           subst (λ (x : TableSchema). (place_in b.sought x b.item ≡ Some here.0)
           × (key_fits x b.item ≡ true)) is (
             found_is bad_key (place_in b.sought known.0 b.item) here.0 here.1,
@@ -186,8 +186,8 @@ asked_may catalog ms there e =
 
 -- the tables of a state have these descriptions
 pub Known : Texts TableSchema → State → Type 0
-Known catalog s = (name : List ℕ) (t : Table) → map.get s.tables name ≡ Some t
-    → map.get catalog name ≡ Some t.description
+Known catalog s = (name : List ℕ) (t : Table) → finite.get s.tables name ≡ Some t
+    → finite.get catalog name ≡ Some t.description
 
 pub known_descriptions : (s : State) → Known (descriptions s.tables) s
 unfolding Known
@@ -196,12 +196,12 @@ known_descriptions s name t there = get-descriptions s.tables name
 
 -- they go on to have them after a write
 pub known_after : (catalog : Texts TableSchema) (s : State) (moment : ℕ) (name : List ℕ) (t : Table)
-    (place : List ℕ) (new : Option (List Pair)) → Known catalog s → map.get s.tables name ≡ Some t
+    (place : List ℕ) (new : Option (List Pair)) → Known catalog s → finite.get s.tables name ≡ Some t
     → Known catalog (after_item s moment name t place new)
 unfolding Known
 known_after catalog s moment name t place new known there q u e =
     elim (at_insert s.tables name q u (with_write s.next_number moment t place new) e) [
-      | inl new ↦ ap (map.get catalog) new.0 ∙ known name t there
+      | inl new ↦ ap (finite.get catalog) new.0 ∙ known name t there
           ∙ ap (λ (x : Table). Some x.description) new.1
       | inr old ↦ known q u old
     ]
@@ -210,17 +210,18 @@ module _ (catalog : Texts TableSchema) (moment : ℕ) where
   -- a member's writes are steps, and so are those of the others behind them
   next_steps : (s : State) (m : PlacedMember) (rest : State → List State) → Known catalog s
       → MayStand catalog m → ((r : State) → Known catalog r → AreSteps a_number r (rest r))
-      → AreSteps a_number s (writes_of s moment m ++ rest (last_state s (writes_of s moment m)))
+      → AreSteps a_number s (writes_of s moment (written_by m)
+      ++ rest (last_state s (writes_of s moment (written_by m))))
   unfolding MayStand Known
-  next_steps s m rest known may behind = at (map.get s.tables m.table) refl
+  next_steps s m rest known may behind = at (finite.get s.tables m.table) refl
     where
       made : Option Table → List State
       made o = option_map_or (λ t. item_writes s moment m.table t m.place (left_by m)) o []
 
-      at : (o : Option Table) → map.get s.tables m.table ≡ o
+      at : (o : Option Table) → finite.get s.tables m.table ≡ o
           → AreSteps a_number s (made o ++ rest (last_state s (made o)))
       at None e = behind s known
-      at (Some t) e = by (is_same (map.get t.items m.place) (left_by m))
+      at (Some t) e = by (is_same (finite.get t.items m.place) (left_by m))
         where
           after : State
           after = after_item s moment m.table t m.place (left_by m)
@@ -235,12 +236,15 @@ module _ (catalog : Texts TableSchema) (moment : ℕ) where
               (behind after (known_after catalog s moment m.table t m.place (left_by m) known e))
 
   pub all_steps : (s : State) (ms : List PlacedMember) → Known catalog s
-      → Every (MayStand catalog) ms → AreSteps a_number s (writes_of_all s moment ms)
+      → Every (MayStand catalog) ms
+      → AreSteps a_number s (writes_of_all s moment (map written_by ms))
   all_steps s [] known may = no_steps a_number s
   all_steps s (m ∷ ms) known may =
-      next_steps s m (λ r. writes_of_all r moment ms) known may.0 (λ r h. all_steps r ms h may.1)
+      next_steps s m (λ r. writes_of_all r moment (map written_by ms)) known may.0
+      (λ r h. all_steps r ms h may.1)
 
-pub batch_write_steps : (s : State) (moment : ℕ) (ms : Members) → Steps s (batch_write_item s moment ms)
+pub batch_write_steps : (s : State) (moment : ℕ) (ms : Members)
+    → Steps s (batch_write_item s moment ms)
 unfolding batch_write_item
 batch_write_steps s moment ms = steps-found s (writes_asked (descriptions s.tables) ms) _
     (λ there e. all_steps (descriptions s.tables) moment s there (known_descriptions s)

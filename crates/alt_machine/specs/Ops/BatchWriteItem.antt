@@ -1,5 +1,5 @@
 -- BatchWriteItem: puts and deletes 1 to 25 items, one after another (DynamoDB API Reference, "BatchWriteItem").
-use Rattle.std.specs.Prelude.{ℕ, Bool, false, not, ◌&&◌, if◌then◌else◌, List, [], ◌∷◌, ◌++◌, length, is_some, Option, Some, None, unwrap_or, Result, Ok, codes}
+use Rattle.std.specs.Prelude.{ℕ, Bool, false, not, ◌&&◌, if◌then◌else◌, List, [], ◌∷◌, ◌++◌, length, map, is_some, Option, Some, None, unwrap_or, Result, Ok, codes}
 use Rattle.std.specs.FinMap as finite
 use Rattle.std.specs.List.{list_all}
 use Rattle.std.specs.Option.{option_map_or}
@@ -88,16 +88,25 @@ left_of Key key = None
 abbrev pub left_by : PlacedMember → Option (List Pair)
 left_by m = left_of m.sought m.item
 
--- the writes that a member makes of a state: one, or none where what is there stays as it is
-abbrev pub writes_of : State → ℕ → PlacedMember → List State
-writes_of s moment m = option_map_or (λ t. item_writes s moment m.table t m.place (left_by m))
-    (finite.get s.tables m.table) []
+-- what is to be left at a place of a table
+pub record Written : Type 0 where
+  pub table : List ℕ
+  pub place : List ℕ
+  pub new : Option (List Pair)
+
+abbrev pub written_by : PlacedMember → Written
+written_by m = record { table = m.table; place = m.place; new = left_by m }
+
+-- the writes that it makes of a state: one, or none where what is there stays as it is
+abbrev pub writes_of : State → ℕ → Written → List State
+writes_of s moment w = option_map_or (λ t. item_writes s moment w.table t w.place w.new)
+    (finite.get s.tables w.table) []
 
 -- those of all of them, each from the state after the ones before it
-abbrev pub writes_of_all : State → ℕ → List PlacedMember → List State
+abbrev pub writes_of_all : State → ℕ → List Written → List State
 writes_of_all s moment [] = []
-writes_of_all s moment (m ∷ ms) = writes_of s moment m
-    ++ writes_of_all (last_state s (writes_of s moment m)) moment ms
+writes_of_all s moment (w ∷ ws) = writes_of s moment w
+    ++ writes_of_all (last_state s (writes_of s moment w)) moment ws
 
 -- the reply: nothing is left unprocessed
 abbrev pub all_processed : Answer
@@ -105,4 +114,4 @@ all_processed = answers (codes "UnprocessedItems") (object no_members)
 
 unfoldable pub batch_write_item : State → ℕ → Members → Outcome
 batch_write_item s moment ms = with_found (writes_asked (descriptions s.tables) ms)
-    (λ there. writes (writes_of_all s moment there) all_processed)
+    (λ there. writes (writes_of_all s moment (map written_by there)) all_processed)

@@ -66,28 +66,32 @@ lacks_behind wants (t ∷ ts) number before n s b e none f =
 pub lacks_front : (wants : Wants) (a b : List State) (lack : Lack) (s : State)
     → lack_among wants s a ≡ Some lack → lack_among wants s (a ++ b) ≡ Some lack
 lacks_front wants [] b lack s e = absurd (let f : ⊥ = cc in f)
-lacks_front wants (t ∷ ts) b lack s e = by (lack_of wants s) (lack_among wants t ts) refl e
+lacks_front wants (t ∷ ts) b lack s e =
+    by (λ l is. lacks_front wants ts b l t is) (lack_of wants s) (lack_among wants t ts) refl e
   where
-    by : (o : Option ℕ) (rest : Option Lack) → lack_among wants t ts ≡ rest
+    by : ((l : Lack) → lack_among wants t ts ≡ Some l → lack_among wants t (ts ++ b) ≡ Some l)
+        → (o : Option ℕ) (rest : Option Lack) → lack_among wants t ts ≡ rest
         → or_later o rest ≡ Some lack → or_later o (lack_among wants t (ts ++ b)) ≡ Some lack
-    by (Some n) rest is f = f
-    by None None is f = absurd (let g : ⊥ = cc in g)
-    by None (Some l) is f = ap (option_map later) (lacks_front wants ts b l t is) ∙ f
+    by more (Some n) rest is f = f
+    by more None None is f = absurd (let g : ⊥ = cc in g)
+    by more None (Some l) is f = ap (option_map later) (more l is) ∙ f
 
 -- it is lacked before the last of them
 pub lacks_within : (wants : Wants) (a : List State) (lack : Lack) (s : State)
     → lack_among wants s a ≡ Some lack → lack.before ≤ length a
 lacks_within wants [] lack s e = absurd (let f : ⊥ = cc in f)
-lacks_within wants (t ∷ ts) lack s e = by (lack_of wants s) (lack_among wants t ts) refl e
+lacks_within wants (t ∷ ts) lack s e =
+    by (λ l is. lacks_within wants ts l t is) (lack_of wants s) (lack_among wants t ts) refl e
   where
     same : (x y : Lack) → Some x ≡ Some y → x.before ≡ y.before
     same x y f = ap (λ (l : Lack). l.before) (let g : x ≡ y = cc in g)
 
-    by : (o : Option ℕ) (rest : Option Lack) → lack_among wants t ts ≡ rest
+    by : ((l : Lack) → lack_among wants t ts ≡ Some l → l.before ≤ length ts)
+        → (o : Option ℕ) (rest : Option Lack) → lack_among wants t ts ≡ rest
         → or_later o rest ≡ Some lack → lack.before ≤ suc (length ts)
-    by (Some n) rest is f = omega (arith, same (record { number = n; before = 0 }) lack f)
-    by None None is f = absurd (let g : ⊥ = cc in g)
-    by None (Some l) is f = omega (arith, same (later l) lack f, lacks_within wants ts l t is)
+    by more (Some n) rest is f = omega (arith, same (record { number = n; before = 0 }) lack f)
+    by more None None is f = absurd (let g : ⊥ = cc in g)
+    by more None (Some l) is f = omega (arith, same (later l) lack f, more l is)
 
 -- of the first so many the others make no difference
 pub take_front : (k : ℕ) (a b : List State) → k ≤ length a → take k (a ++ b) ≡ take k a

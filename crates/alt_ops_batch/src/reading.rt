@@ -1,5 +1,17 @@
 //! Reading the keys of a batch, table by table, until the sizes of the items have reached 16 MB.
 
+ghost use Rattle.std.specs.Prelude.{◌≡◌, ◌↔◌, ◌+◌, ◌≤◌, All, IfOk, IfErr, OnOk, ◌<◌, true, false, map as each, fold};
+ghost use Rattle.std.specs.FinMap as map;
+ghost use Rattle.serde_json.specs.View.{items_view};
+ghost use Rattle.serde_json.specs.Written.{items_have_float};
+ghost use Rattle.alt_base.specs.Counts.{Rose};
+ghost use Rattle.alt_machine.specs.Ops.BatchGetItem as machine;
+ghost use Rattle.alt_machine.specs.State.{State};
+ghost use Rattle.alt_ops_batch.specs.Readings.{AreAllKnown, AreKnown, IsBounded, IsPlainRead, IsFault, IfErrFailed, IsPlainTaken, IsTaken, ShowsMore, read_so};
+ghost use Rattle.alt_request.specs.Batches.{HasPlainNames, reads_of};
+ghost use Rattle.alt_value.specs.Size.{item_size};
+ghost use Rattle.alt_tables.specs.Stands.{AreReady, KeepsCatalog, Reads, Stands, catalog_of};
+
 use crate::replies::{keys_asked, shown_parts};
 use alt_codec::json_of_item;
 use alt_disk::Disk;
@@ -33,6 +45,20 @@ pub(crate) fn read_all<D: Disk>(
     disk: &mut D,
     asked: Vec<TableReads<'_>>,
 ) -> Result<Read, Stop>
+    requires ready { AreReady (D.state disk.old) tables.old }
+    requires there { AreAllKnown (catalog_of tables.old) asked.items }
+    requires plain { All HasPlainNames asked.items }
+    ensures read { (s : State) → Stands (D.state disk.old) tables.old s
+        → IfOk result (λ read. read_so read ≡ fold (machine.with_reads s) machine.nothing_read
+        (each reads_of asked.items)) }
+    ensures plain { IfOk result IsPlainRead }
+    ensures stays { (s : State) → Stands (D.state disk.old) tables.old s ↔ Stands
+        (D.state disk.new) tables.new s }
+    ensures catalog { KeepsCatalog tables.old tables.new }
+    ensures fault { (s : State) → Stands (D.state disk.old) tables.old s
+        → IfErr result IsFault }
+    ensures disk { Reads (D.state disk.old) (D.state disk.new) }
+    ensures failed { IfErrFailed result (Rose (D.state disk.old).faults (D.state disk.new).faults) }
 {
     let mut read = Read {
         size: 0,
@@ -53,6 +79,22 @@ fn read_table<D: Disk>(
     reads: TableReads<'_>,
     read: &mut Read,
 ) -> Result<(), Stop>
+    requires ready { AreReady (D.state disk.old) tables.old }
+    requires there { AreKnown (catalog_of tables.old) reads.keys.items }
+    requires names { HasPlainNames reads }
+    requires plain { IsPlainRead read.old }
+    requires bounded { IsBounded read.old.size }
+    ensures read { (s : State) → Stands (D.state disk.old) tables.old s
+        → OnOk result (read_so read.new ≡ machine.with_reads s (read_so read.old) (reads_of reads)) }
+    ensures plain { OnOk result (IsPlainRead read.new) }
+    ensures bounded { OnOk result (IsBounded read.new.size) }
+    ensures stays { (s : State) → Stands (D.state disk.old) tables.old s ↔ Stands
+        (D.state disk.new) tables.new s }
+    ensures catalog { KeepsCatalog tables.old tables.new }
+    ensures fault { (s : State) → Stands (D.state disk.old) tables.old s
+        → IfErr result IsFault }
+    ensures disk { Reads (D.state disk.old) (D.state disk.new) }
+    ensures failed { IfErrFailed result (Rose (D.state disk.old).faults (D.state disk.new).faults) }
 {
     let TableReads {
         table,
@@ -81,6 +123,20 @@ fn take<D: Disk>(
     projection: &Option<Paths>,
     size: &mut u64,
 ) -> Result<Taken, Stop>
+    requires ready { AreReady (D.state disk.old) tables.old }
+    requires there { AreKnown (catalog_of tables.old) keys.items }
+    requires bounded { IsBounded size.old }
+    ensures taken { (s : State) → Stands (D.state disk.old) tables.old s
+        → IfOk result (λ taken. IsTaken s projection.now size.old keys.items taken size.new) }
+    ensures plain { IfOk result IsPlainTaken }
+    ensures bounded { OnOk result (IsBounded size.new) }
+    ensures stays { (s : State) → Stands (D.state disk.old) tables.old s ↔ Stands
+        (D.state disk.new) tables.new s }
+    ensures catalog { KeepsCatalog tables.old tables.new }
+    ensures fault { (s : State) → Stands (D.state disk.old) tables.old s
+        → IfErr result IsFault }
+    ensures disk { Reads (D.state disk.old) (D.state disk.new) }
+    ensures failed { IfErrFailed result (Rose (D.state disk.old).faults (D.state disk.new).faults) }
 {
     let mut taken = Taken {
         items: Vec::new(alloc),
@@ -114,6 +170,23 @@ fn read_key<D: Disk>(
     items: &mut Vec<Value>,
     size: &mut u64,
 ) -> Result<(), Stop>
+    requires ready { AreReady (D.state disk.old) tables.old }
+    requires there { map.contains_key (catalog_of tables.old) key.table ≡ true }
+    requires below { size.old < BATCH_BYTES }
+    requires plain { items_have_float (items_view items.old.items) ≡ false }
+    ensures shown { (s : State) → Stands (D.state disk.old) tables.old s
+        → OnOk result (ShowsMore s projection.now key items.old.items items.new.items) }
+    ensures size { (s : State) → Stands (D.state disk.old) tables.old s
+        → OnOk result (size.new ≡ size.old + machine.size_at s key) }
+    ensures plain { OnOk result (items_have_float (items_view items.new.items) ≡ false) }
+    ensures bounded { OnOk result (IsBounded size.new) }
+    ensures stays { (s : State) → Stands (D.state disk.old) tables.old s ↔ Stands
+        (D.state disk.new) tables.new s }
+    ensures catalog { KeepsCatalog tables.old tables.new }
+    ensures fault { (s : State) → Stands (D.state disk.old) tables.old s
+        → IfErr result IsFault }
+    ensures disk { Reads (D.state disk.old) (D.state disk.new) }
+    ensures failed { IfErrFailed result (Rose (D.state disk.old).faults (D.state disk.new).faults) }
 {
     let PlacedMember { table, place, .. } = key;
     let found = tables.find(disk, table.as_str(), place)?;
@@ -125,7 +198,10 @@ fn read_key<D: Disk>(
 }
 
 /// The size of an item. One on a disk that keeps what was written is never larger than an item may be.
-fn size_of(item: &Item) -> u64 {
+fn size_of(item: &Item) -> u64
+    ensures size { item_size item.now ≤ LARGEST_ITEM → result ≡ item_size item.now }
+    ensures most { result ≤ LARGEST_ITEM }
+{
     match item_size_within(item, LARGEST_ITEM) {
         Some(size) => size,
         None => LARGEST_ITEM,

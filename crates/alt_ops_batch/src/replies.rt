@@ -1,5 +1,18 @@
 //! What a BatchGetItem answers: the items, and the keys that it didn't read, as they may be asked for again.
 
+ghost use Rattle.std.specs.Prelude.{◌≡◌, false, IfOk, IfErr, codes, option_map};
+ghost use Rattle.std.specs.Option.{option_map_or};
+ghost use Rattle.serde_json.specs.Data.{array, object};
+ghost use Rattle.serde_json.specs.View.{view, items_view, members_view};
+ghost use Rattle.serde_json.specs.Written.{has_float, items_have_float, members_have_float};
+ghost use Rattle.alt_codec.specs.Writing.{json_of_pairs};
+ghost use Rattle.alt_machine.specs.Expressions.{names_member};
+ghost use Rattle.alt_machine.specs.Ops.BatchGetItem as machine;
+ghost use Rattle.alt_machine.specs.Ops.GetItem.{parts};
+ghost use Rattle.alt_ops_batch.specs.Readings.{IsPlainRead, read_so};
+ghost use Rattle.alt_request.specs.Steps.{IsMemory};
+ghost use Rattle.alt_shape.specs.Refusals.{answer_of};
+
 use crate::reading::Read;
 use alt_base::NoMemory;
 use alt_codec::json_of_item;
@@ -13,6 +26,10 @@ use std::alloc::Global;
 
 /// The reply.
 pub(crate) fn read_reply(alloc: Global, read: Read) -> Result<Reply, Stop>
+    requires plain { IsPlainRead read }
+    ensures reply { IfOk result (λ reply. answer_of reply ≡ machine.read_answer (read_so read)) }
+    ensures plain { IfOk result (λ reply. has_float (view reply.body) ≡ false) }
+    ensures cause { IfErr result IsMemory }
 {
     let Read {
         responses,
@@ -31,6 +48,8 @@ pub(crate) fn shown_parts(
     paths: &Option<Paths>,
     item: &Item,
 ) -> Result<Value, NoMemory>
+    ensures json { IfOk result (λ v. view v ≡ json_of_pairs (parts paths.now item.now)) }
+    ensures plain { IfOk result (λ v. has_float (view v) ≡ false) }
 {
     match paths {
         Some(paths) => json_of_item(alloc, &project(alloc, paths, item)?),
@@ -44,6 +63,12 @@ pub(crate) fn keys_asked(
     body: &Map<String, Value>,
     keys: Vec<Value>,
 ) -> Result<Value, NoMemory>
+    requires names { option_map_or members_have_float (names_member (members_view body.now.entries))
+        false ≡ false }
+    requires keys { items_have_float (items_view keys.items) ≡ false }
+    ensures asked { IfOk result (λ v. view v ≡ machine.keys_object (members_view body.now.entries)
+        (array (items_view keys.items))) }
+    ensures plain { IfOk result (λ v. has_float (view v) ≡ false) }
 {
     let mut members = Map::new(alloc);
     if let Some(truth) = truth_at(body, "ConsistentRead") {
@@ -67,6 +92,8 @@ pub(crate) fn keys_asked(
 
 /// The names that are given, which are an object.
 fn names_at(body: &Map<String, Value>) -> Option<&Value>
+    ensures { option_map (λ v. view v.now) result ≡ option_map (λ names. object names)
+        (names_member (members_view body.now.entries)) }
 {
     match given(body, "ExpressionAttributeNames") {
         Some(names) if names.is_object() => Some(names),

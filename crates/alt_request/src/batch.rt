@@ -62,6 +62,7 @@ fn count_of(inside: Inside, value: &Value) -> usize
 }
 
 /// Whether there is a member, and there aren't more than so many.
+#[tactic(auto, using(crate::proofs::Founds::of_each_length, crate::proofs::Founds::too_many, crate::proofs::Founds::sized_by_room))]
 pub(crate) fn is_sized(inside: Inside, most: usize, tables: &Map<String, Value>) -> bool
     ensures { result ≡ machine.is_sized most (length (machine.of_each (inside_of inside)
         (machine.pairs_in (members_view tables.now.entries)))) }
@@ -104,6 +105,7 @@ pub(crate) fn known(tables: &Tables, asked: &Map<String, Value>) -> Result<(), S
 }
 
 /// The members with their places, in their order.
+#[tactic(auto, using(crate::proofs::Founds::found_start, crate::proofs::Founds::found_more, crate::proofs::Founds::found_stop, crate::proofs::Founds::found_end))]
 pub(crate) fn place_all(
     alloc: Global,
     tables: &Tables,
@@ -150,6 +152,7 @@ pub(crate) fn table_named<'t>(tables: &'t Tables, name: &str) -> Result<&'t Tabl
 }
 
 /// Whether a key stands twice.
+#[tactic(auto, using(crate::proofs::Founds::has_repeat_from))]
 pub(crate) fn has_repeat(members: &[PlacedMember]) -> bool
     ensures { result ≡ machine.has_repeat members.now }
 {

@@ -54,6 +54,7 @@ pub struct TableReads<'b> {
 }
 
 /// The reads that a BatchGetItem asks for, where nothing refuses them. Each step is made over all of them before the next one.
+#[tactic(auto, unfolding(alt_machine::specs::Ops::BatchGetItem::reads_asked))]
 pub fn reads_asked<'b>(
     alloc: Global,
     tables: &Tables,
@@ -121,6 +122,7 @@ fn is_legacy(value: &Value) -> bool
 }
 
 /// The keys of each table and the names that are given there.
+#[tactic(auto, using(crate::proofs::Founds::found_start, crate::proofs::Founds::found_more, crate::proofs::Founds::found_stop, crate::proofs::Founds::found_end))]
 fn read_all<'b>(
     alloc: Global,
     tables: &'b Map<String, Value>,
@@ -162,6 +164,7 @@ fn read_keys(alloc: Global, name: &str, value: &Value) -> Result<Vec<BatchMember
     }
 }
 
+#[tactic(auto, using(crate::proofs::Founds::found_start, crate::proofs::Founds::found_more, crate::proofs::Founds::found_stop, crate::proofs::Founds::found_end, crate::proofs::Founds::elements_from))]
 fn each_key(alloc: Global, name: &str, elements: &[Value]) -> Result<Vec<BatchMember>, Stop>
     ensures read { Comes (λ v. v.items) (machine.each_found (read.read_key name.now)
         (machine.elements (items_view elements.now))) result }
@@ -186,6 +189,7 @@ fn read_key(alloc: Global, name: &str, value: &Value) -> Result<BatchMember, Sto
 }
 
 /// What the projection of each table says.
+#[tactic(auto, using(crate::proofs::Founds::found_start, crate::proofs::Founds::found_more, crate::proofs::Founds::found_stop, crate::proofs::Founds::found_end))]
 fn said_all<'b>(
     alloc: Global,
     tables: &Tables,
@@ -226,6 +230,7 @@ fn said_in<'b>(
 }
 
 /// The places of the keys of each table.
+#[tactic(auto, using(crate::proofs::Founds::found_start, crate::proofs::Founds::found_more, crate::proofs::Founds::found_stop, crate::proofs::Founds::found_end))]
 fn placed_tables<'b>(
     alloc: Global,
     tables: &Tables,

@@ -34,6 +34,7 @@ pub(crate) struct Request<'b> {
 
 /// The writes that a BatchWriteItem asks for, with their places, where nothing refuses them. Each step is made over all of them before
 /// the next one.
+#[tactic(auto, unfolding(alt_machine::specs::Ops::BatchWriteItem::writes_asked))]
 pub fn writes_asked(
     alloc: Global,
     tables: &Tables,
@@ -92,6 +93,7 @@ fn requests_in<'b>(alloc: Global, tables: &'b Map<String, Value>) -> Result<Vec<
     Ok(requests)
 }
 
+#[tactic(auto, using(crate::proofs::Founds::elements_from))]
 fn push_requests<'b>(
     table: &'b str,
     elements: &'b [Value],
@@ -129,6 +131,7 @@ fn is_one(value: &Value) -> bool
 }
 
 /// The items that are put and the keys of those that are deleted, in their order.
+#[tactic(auto, using(crate::proofs::Founds::found_start, crate::proofs::Founds::found_more, crate::proofs::Founds::found_stop, crate::proofs::Founds::found_end))]
 fn read_all(alloc: Global, requests: Vec<Request<'_>>) -> Result<Vec<BatchMember>, Stop>
     ensures read { Comes (λ v. v.items) (machine.each_found write.read_write
         (each request_of requests.items)) result }
@@ -195,6 +198,7 @@ fn members_refusal(tables: &Tables, members: &[PlacedMember]) -> Result<(), Stop
     each_taken(tables, members)
 }
 
+#[tactic(auto, using(crate::proofs::Founds::taken_on, crate::proofs::Founds::refused_at))]
 fn each_taken(tables: &Tables, members: &[PlacedMember]) -> Result<(), Stop>
     ensures tested { Tested (write.of_members (catalog_of tables.now) members.now) result }
 {

@@ -115,15 +115,19 @@ pub record Read : Type 0 where
 
 -- ---- what is answered
 
--- what is asked of keys, with those members of their table that were given
-abbrev pub keys_asked : Members → List PlacedMember → Data
-keys_asked body keys = object
+-- keys with those members of their table that were given
+abbrev pub keys_object : Members → Data → Data
+keys_object body keys = object
     (member_if (codes "ConsistentRead") (option_map (λ b. boolean b)
     (option_and_then as_bool (given (codes "ConsistentRead") body)))
     (member_if (codes "ExpressionAttributeNames") (option_map (λ names. object names) (names_member body))
-    (member (codes "Keys") (array (items_json (map (λ k. k.item) keys)))
+    (member (codes "Keys") keys
     (member_if (codes "ProjectionExpression") (option_map (λ text. string text)
     (option_and_then as_str (given (codes "ProjectionExpression") body))) no_members))))
+
+-- what may be asked for again of these keys
+abbrev pub keys_asked : Members → List PlacedMember → Data
+keys_asked body keys = keys_object body (array (items_json (map (λ k. k.item) keys)))
 
 -- a table is named with its keys that are left, where there are any
 abbrev pub with_left : Reads Shown PlacedMember → List PlacedMember → Members → Members

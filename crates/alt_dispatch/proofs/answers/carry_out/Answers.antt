@@ -70,3 +70,21 @@ returns-in-UpdateItem-clause-carried g c =
     (Stands (g.D.Disk.state c.args.disk.now) c.args.tables.now)
     (Stands (g.D.Disk.state c.update_item.new.disk) c.update_item.new.tables) c.update_item.result)
     (sym c.in-UpdateItem.is) c.update_item.ensures.carried
+
+pub returns-in-BatchWriteItem-clause-carried : goal.returns-in-BatchWriteItem-clause-carried
+returns-in-BatchWriteItem-clause-carried g c =
+    subst (λ (o : Operation). Carries
+    (λ s. operates s o c.args.moment (members_view c.args.body.now.entries))
+    (Stands (g.D.Disk.state c.args.disk.now) c.args.tables.now)
+    (Stands (g.D.Disk.state c.batch_write_item.new.disk) c.batch_write_item.new.tables)
+    c.batch_write_item.result)
+    (sym c.in-BatchWriteItem.is) c.batch_write_item.ensures.carried
+
+pub returns-in-BatchGetItem-clause-carried : goal.returns-in-BatchGetItem-clause-carried
+returns-in-BatchGetItem-clause-carried g c =
+    subst (λ (o : Operation). Carries
+    (λ s. operates s o c.args.moment (members_view c.args.body.now.entries))
+    (Stands (g.D.Disk.state c.args.disk.now) c.args.tables.now)
+    (Stands (g.D.Disk.state c.batch_get_item.new.disk) c.batch_get_item.new.tables)
+    c.batch_get_item.result)
+    (sym c.in-BatchGetItem.is) c.batch_get_item.ensures.carried

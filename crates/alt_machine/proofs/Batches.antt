@@ -1,6 +1,6 @@
 -- A BatchWriteItem leads from a valid state to valid ones, one write after another.
 use Rattle.std.proofs.Common.{◌≡◌, refl, sym, ap, subst, ◌∙◌, ℕ, Bool, true, false, List, [], ◌∷◌, ◌++◌, map, Option, Some, None, option_map, Result, Ok, Err, inl, inr, is_some}
-use Rattle.std.specs.Prelude.{if◌then◌else◌, codes, unwrap_or}
+use Rattle.std.specs.Prelude.{if◌then◌else◌, codes, unwrap_or, IfSome}
 use Rattle.std.specs.FinMap as finite
 use Rattle.std.specs.Option.{option_map_or}
 use Rattle.serde_json.specs.Data.{Data, Members, no_members}
@@ -181,6 +181,63 @@ asked_may catalog ms there e =
     (subst (Every (λ (b : BatchMember). IsSound b.item)) same.1 sound) in
     subst (Every (MayStand catalog)) free.1 (all_may catalog at.0 found
     (if_fails (has_repeat at.0) bad_batch (of_members catalog at.0) free.0).1)
+
+-- ---- what else is known of members that nothing refuses
+
+-- what a member leaves may stand there
+pub may_be_left : (catalog : Texts TableSchema) (m : PlacedMember) → MayStand catalog m
+    → (d : TableSchema) → finite.get catalog m.table ≡ Some d → IfSome (left_by m) (IsStored d m.place)
+unfolding MayStand
+may_be_left catalog m may d known = by (left_by m) refl
+  where
+    by : (o : Option (List Pair)) → left_by m ≡ o → IfSome o (IsStored d m.place)
+    by None e = tt
+    by (Some i) e = may d known i e
+
+-- its table is there
+pub placed_named : (catalog : Texts TableSchema) (b : BatchMember) (m : PlacedMember)
+    → placed catalog b ≡ Ok m → finite.contains_key catalog m.table ≡ true
+placed_named catalog b m e =
+    let known = then_found (or_refused not_found (finite.get catalog b.table))
+    (λ d. placed_in d b) m e in
+    let here = then_found (or_refused bad_key (place_in b.sought known.0 b.item))
+    (λ place. unless_answer (first_answer (of_length known.0 b.item)) (at_place b place)) m known.2 in
+    let fits = unless_found (first_answer (of_length known.0 b.item)) (at_place b here.0) m here.2 in
+    subst (λ (p : PlacedMember). finite.contains_key catalog p.table ≡ true) fits.1
+    (ap is_some (found_is not_found (finite.get catalog b.table) known.0 known.1))
+
+-- the tables of all that are asked for are there
+pub asked_named : (catalog : Texts TableSchema) (ms : Members) (there : List PlacedMember)
+    → writes_asked catalog ms ≡ Ok there
+    → Every (λ (m : PlacedMember). finite.contains_key catalog m.table ≡ true) there
+unfolding writes_asked
+asked_named catalog ms there e =
+    let body = then_found (unless_answer (first_answer (of_body ms)) (requests ms)) _ there e in
+    let read = then_found (each_found read_write body.0) _ there body.2 in
+    let known = then_found (unless_answer (first_answer (of_catalog catalog (tables_asked ms))) read.0)
+    _ there read.2 in
+    let at = then_found (each_found (placed catalog) known.0) _ there known.2 in
+    let free = unless_found (first_answer (refuse_if (has_repeat at.0) bad_batch
+    ∷ of_members catalog at.0)) at.0 there at.2 in
+    subst (Every (λ (m : PlacedMember). finite.contains_key catalog m.table ≡ true)) free.1
+    (each_so (λ b. Unit {0}) (λ (m : PlacedMember). finite.contains_key catalog m.table ≡ true)
+    (placed catalog) (λ b m h f. placed_named catalog b m f) known.0 at.0 at.1
+    (each_always (λ b. Unit {0}) (λ b. tt) known.0))
+
+-- no key of them stands twice
+pub asked_once : (catalog : Texts TableSchema) (ms : Members) (there : List PlacedMember)
+    → writes_asked catalog ms ≡ Ok there → has_repeat there ≡ false
+unfolding writes_asked
+asked_once catalog ms there e =
+    let body = then_found (unless_answer (first_answer (of_body ms)) (requests ms)) _ there e in
+    let read = then_found (each_found read_write body.0) _ there body.2 in
+    let known = then_found (unless_answer (first_answer (of_catalog catalog (tables_asked ms))) read.0)
+    _ there read.2 in
+    let at = then_found (each_found (placed catalog) known.0) _ there known.2 in
+    let free = unless_found (first_answer (refuse_if (has_repeat at.0) bad_batch
+    ∷ of_members catalog at.0)) at.0 there at.2 in
+    subst (λ ps. has_repeat ps ≡ false) free.1
+    (if_fails (has_repeat at.0) bad_batch (of_members catalog at.0) free.0).0
 
 -- ---- the writes
 

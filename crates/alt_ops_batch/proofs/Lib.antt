@@ -1,1 +1,5 @@
+pub mod Asked
+pub mod Finding
+pub mod Stopping
+pub mod Writes
 pub mod Writing

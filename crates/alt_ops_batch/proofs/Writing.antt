@@ -24,6 +24,7 @@ use Rattle.alt_tables.specs.Stands.{AreReady, Stands, catalog_of}
 use Rattle.alt_tables.specs.declared.faults.TableFault.{TableFault}
 use Rattle.alt_tables.specs.declared.rows.Found.{Found}
 use Rattle.alt_tables.specs.declared.tables.Tables.{Tables}
+use Rattle.alt_tables.proofs.Standing.{there, one_stands}
 use Rattle.alt_tables.proofs.Behind.{broke_front, broke_behind, leaves_front, leaves_both}
 use Rattle.alt_value.specs.Tree.{Pair}
 
@@ -147,7 +148,7 @@ module _ (before mid after : DiskState) (old now new : Tables) (moment : ℕ) (a
     }
 
   -- it broke off
-  module _ (f : TableFault) (broke : (s : State) → Stands mid now s
+  module _ (f : TableFault) (broke : (s : State) → Stands mid now s → IsFound s c
       → BreakOff (Stands after new) a_number s (writes_of s moment w) f
       × (1 ≤ length (writes_of s moment w)) × Leaves mid after s (writes_of s moment w)) where
     pub broke_off : (s : State) → Stands before old s
@@ -155,7 +156,7 @@ module _ (before mid after : DiskState) (old now new : Tables) (moment : ℕ) (a
     broke_off s stood =
         let so = so_far.so s stood in
         let r : State = last_state s so.done in
-        let one = broke r so.stands in
+        let one = broke r so.stands so.found.0 in
         let ws : List State = writes_of r moment w in
         let others : List State = writes_of_all (last_state r ws) moment (map written_at rest) in
         subst (λ l. BreakOff (Stands after new) a_number s l f)
@@ -168,7 +169,7 @@ module _ (before mid after : DiskState) (old now new : Tables) (moment : ℕ) (a
     broken_leaves s stood =
         let so = so_far.so s stood in
         let r : State = last_state s so.done in
-        let one = broke r so.stands in
+        let one = broke r so.stands so.found.0 in
         let ws : List State = writes_of r moment w in
         let others : List State = writes_of_all (last_state r ws) moment (map written_at rest) in
         subst (λ l. Leaves before after s l)
@@ -177,6 +178,74 @@ module _ (before mid after : DiskState) (old now new : Tables) (moment : ℕ) (a
         (goes_on before mid after so_far.goes goes) stood
         (leaves_both before mid after old now s so.done ws so_far.goes stood so.stands so.leaves
         one.2))
+
+  -- what was found for it stands there, in whatever state the tables stand for
+  pub found_now : AreReady before old → (s : State) → Stands mid now s → IsFound s c
+  found_now ready s stands =
+      let (first, stood) = ready (trusted_back before mid so_far.goes stands.rows.trusted) in
+      let so = so_far.so first stood in
+      subst (λ (q : State). IsFound q c)
+      (one_stands mid now (last_state first so.done) s so.stands stands) so.found.0
+
+-- ---- one write, by the name of its table
+
+module _ (mid after : DiskState) (now new : Tables) (moment : ℕ) (c : Change) (name : List ℕ)
+    (same : name ≡ c.table) (named : finite.contains_key (catalog_of now) c.table ≡ true) where
+  its_table : (s : State) → Stands mid now s
+      → (t : Table) × (finite.get s.tables c.table ≡ Some t)
+  its_table s stands = by (finite.get (catalog_of now) c.table) refl named
+    where
+      by : (o : Option TableSchema) → finite.get (catalog_of now) c.table ≡ o → is_some o ≡ true
+          → (t : Table) × (finite.get s.tables c.table ≡ Some t)
+      by None e h = absurd (let f : ⊥ = cc in f)
+      by (Some d) e h = let at = there mid now s c.table d stands e in (at.0, at.1)
+
+  one_write : (s : State) (t : Table) → finite.get s.tables c.table ≡ Some t
+      → item_writes s moment name t c.found.place c.new ≡ writes_of s moment (written_at c)
+  one_write s t at = ap (λ n. item_writes s moment n t c.found.place c.new) same
+      ∙ sym (ap (λ o. option_map_or
+      (λ (u : Table). item_writes s moment c.table u c.found.place c.new) o []) at)
+
+  pub made_one : ((s : State) (t : Table) → Stands mid now s → finite.get s.tables name ≡ Some t
+      → AreMade (Stands after new) a_number s (item_writes s moment name t c.found.place c.new))
+      → ((s : State) (t : Table) → Stands mid now s → finite.get s.tables name ≡ Some t
+      → Leaves mid after s (item_writes s moment name t c.found.place c.new))
+      → (s : State) → Stands mid now s
+      → AreMade (Stands after new) a_number s (writes_of s moment (written_at c))
+      × Leaves mid after s (writes_of s moment (written_at c))
+  made_one made leaves s stands =
+      let at = its_table s stands in
+      let there : finite.get s.tables name ≡ Some at.0 = ap (finite.get s.tables) same ∙ at.1 in
+      let is = one_write s at.0 at.1 in (
+        subst (λ l. AreMade (Stands after new) a_number s l) is (made s at.0 stands there),
+        subst (λ l. Leaves mid after s l) is (leaves s at.0 stands there),
+      )
+
+  pub broke_one : (f : TableFault) → (is_same c.found.item c.new ≡ true → ⊥)
+      → ((s : State) (t : Table) → Stands mid now s → finite.get s.tables name ≡ Some t
+      → BreakOff (Stands after new) a_number s (item_writes s moment name t c.found.place c.new) f)
+      → ((s : State) (t : Table) → Stands mid now s → finite.get s.tables name ≡ Some t
+      → Leaves mid after s (item_writes s moment name t c.found.place c.new))
+      → (s : State) → Stands mid now s → IsFound s c
+      → BreakOff (Stands after new) a_number s (writes_of s moment (written_at c)) f
+      × (1 ≤ length (writes_of s moment (written_at c)))
+      × Leaves mid after s (writes_of s moment (written_at c))
+  broke_one f changes broke leaves s stands found =
+      let at = its_table s stands in
+      let there : finite.get s.tables name ≡ Some at.0 = ap (finite.get s.tables) same ∙ at.1 in
+      let is = one_write s at.0 at.1 in (
+        subst (λ l. BreakOff (Stands after new) a_number s l f) is (broke s at.0 stands there),
+        subst (λ l. 1 ≤ length l) is (by at.0
+            (is_same (finite.get at.0.items c.found.place) c.new)
+            (λ e. changes (ap (λ o. is_same o c.new) (found at.0 at.1) ∙ e)) refl),
+        subst (λ l. Leaves mid after s l) is (leaves s at.0 stands there),
+      )
+    where
+      by : (t : Table) (b : Bool) → (is_same (finite.get t.items c.found.place) c.new ≡ true → ⊥)
+          → is_same (finite.get t.items c.found.place) c.new ≡ b
+          → 1 ≤ length (if b then [] else after_item s moment name t c.found.place c.new ∷ [])
+      by t true no e = absurd (no e)
+      by t false no e = omega arith
 
 -- ---- at the end
 

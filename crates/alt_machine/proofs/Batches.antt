@@ -2,6 +2,7 @@
 use Rattle.std.proofs.Common.{◌≡◌, refl, sym, ap, subst, ◌∙◌, ℕ, Bool, true, false, List, [], ◌∷◌, ◌++◌, map, Option, Some, None, option_map, Result, Ok, Err, inl, inr, is_some}
 use Rattle.std.specs.Prelude.{if◌then◌else◌, codes, unwrap_or, IfSome}
 use Rattle.std.specs.FinMap as finite
+use Rattle.std.specs.List.{list_any}
 use Rattle.std.specs.Option.{option_map_or}
 use Rattle.serde_json.specs.Data.{Data, Members, no_members}
 use Rattle.alt_machine.specs.declared.BatchMember.{BatchMember}
@@ -12,6 +13,7 @@ use Rattle.alt_machine.specs.Batches.{object_in, tables_asked, each_found, of_ca
 use Rattle.alt_machine.specs.Keys.{key_fits}
 use Rattle.alt_machine.specs.Members.{item_at}
 use Rattle.alt_machine.specs.Ops.BatchWriteItem.{of_body, requests, read_member, read_write, of_sought, of_member, of_members, writes_asked, left_of, left_by, written_by, writes_of, writes_of_all, batch_write_item}
+use Rattle.alt_machine.specs.Ops.BatchGetItem.{Reads, Shown, read_table, said_in, placed_all, reads_asked, of_body as get_body}
 use Rattle.alt_machine.specs.Ops.PutItem.{of_item}
 use Rattle.alt_machine.specs.Outcomes.{a_number, last_state, writes}
 use Rattle.alt_machine.specs.Refusals.{first_answer, or_refused, refuse_if, unless_answer, ◌>>=◌}
@@ -238,6 +240,44 @@ asked_once catalog ms there e =
     ∷ of_members catalog at.0)) at.0 there at.2 in
     subst (λ ps. has_repeat ps ≡ false) free.1
     (if_fails (has_repeat at.0) bad_batch (of_members catalog at.0) free.0).0
+
+-- so are the tables of all keys that are read
+all_named : (catalog : Texts TableSchema) (r : Reads Shown BatchMember) (q : Reads Shown PlacedMember)
+    → placed_all catalog r ≡ Ok q
+    → Every (λ (m : PlacedMember). finite.contains_key catalog m.table ≡ true) q.keys
+all_named catalog r q e =
+    let keys = then_found (each_found (placed catalog) r.keys)
+    (λ ks. Ok (record { table = r.table; body = r.body; words = r.words; keys = ks })) q e in
+    subst (Every (λ (m : PlacedMember). finite.contains_key catalog m.table ≡ true))
+    (ap keys_or keys.2)
+    (each_so (λ b. Unit {0}) (λ (m : PlacedMember). finite.contains_key catalog m.table ≡ true)
+    (placed catalog) (λ b m h f. placed_named catalog b m f) r.keys keys.0 keys.1
+    (each_always (λ b. Unit {0}) (λ b. tt) r.keys))
+  where
+    keys_or : Result (Reads Shown PlacedMember) Answer → List PlacedMember
+    keys_or (Ok s) = s.keys
+    keys_or (Err x) = []
+
+pub reads_named : (catalog : Texts TableSchema) (ms : Members) (there : List (Reads Shown PlacedMember))
+    → reads_asked catalog ms ≡ Ok there
+    → Every (λ (r : Reads Shown PlacedMember).
+    Every (λ (m : PlacedMember). finite.contains_key catalog m.table ≡ true) r.keys) there
+unfolding reads_asked
+reads_named catalog ms there e =
+    let body = then_found (unless_answer (first_answer (get_body ms)) (tables_asked ms)) _ there e in
+    let read = then_found (each_found read_table body.0) _ there body.2 in
+    let known = then_found (unless_answer (first_answer (of_catalog catalog (tables_asked ms))) read.0)
+    _ there read.2 in
+    let said = then_found (each_found (said_in catalog) known.0) _ there known.2 in
+    let at = then_found (each_found (placed_all catalog) said.0) _ there said.2 in
+    let free = unless_found (first_answer (refuse_if (list_any (λ r. has_repeat r.keys) at.0) bad_batch
+    ∷ [])) at.0 there at.2 in
+    subst (Every (λ (r : Reads Shown PlacedMember).
+    Every (λ (m : PlacedMember). finite.contains_key catalog m.table ≡ true) r.keys)) free.1
+    (each_so (λ r. Unit {0}) (λ (r : Reads Shown PlacedMember).
+    Every (λ (m : PlacedMember). finite.contains_key catalog m.table ≡ true) r.keys)
+    (placed_all catalog) (λ r q h f. all_named catalog r q f) said.0 at.0 at.1
+    (each_always (λ r. Unit {0}) (λ r. tt) said.0))
 
 -- ---- the writes
 

@@ -14,6 +14,7 @@ pub mod Made
 pub mod Names
 pub mod Placed
 pub mod Puts
+pub mod Rekeying
 pub mod Said
 pub mod Same
 pub mod Spoken

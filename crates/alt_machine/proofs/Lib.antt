@@ -6,6 +6,7 @@ pub mod Full
 pub mod FullActions
 pub mod FullChanges
 pub mod FullTerms
+pub mod Indexing
 pub mod KeyStays
 pub mod Lacks
 pub mod Lists

@@ -43,7 +43,7 @@ key_kind B (B_tree b) t v e = subst (IsOfKind B)
     (some_is (can_be_key B (B_tree b)) (B_tree b) t e) tt
 key_kind kind u t v e = absurd (let f : ⊥ = cc in f)
 
-part_kind : (item : List Pair) (key : KeyAttr) (t : Tree) → AreFields (fields_of item)
+pub part_kind : (item : List Pair) (key : KeyAttr) (t : Tree) → AreFields (fields_of item)
     → key_value item key ≡ Some t → IsOfKind key.kind t
 part_kind item key t h e = by (at_name key.name item) refl e
   where

@@ -25,7 +25,8 @@ use alt_machine::LARGEST_ITEM;
 use alt_paging::Pager;
 use alt_request::Stop;
 use alt_schema::TableSchema;
-use alt_tables::{TableFault, Tables, place_of};
+use alt_tables::{TableFault, Tables};
+use alt_views::place_of;
 use alt_value::Item;
 use std::alloc::Global;
 

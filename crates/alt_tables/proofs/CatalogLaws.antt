@@ -26,7 +26,7 @@ use Rattle.alt_schema.specs.Rules.{is_name}
 use Rattle.alt_schema.specs.declared.schema.TableSchema.{TableSchema}
 use Rattle.alt_tables.specs.StateRows.{IsHeldWhole, Shows, Turns, catalog_family, catalog_rows, item_rows, one_column, table_row, next_row, creation_changes, drop_changes}
 use Rattle.alt_tables.proofs.ChangeLaws.{tied, itself, one_change, two_changes, other_family}
-use Rattle.alt_tables.proofs.ItemRowLaws.{can_show}
+use Rattle.alt_views.proofs.ItemRowLaws.{can_show}
 use Rattle.alt_tables.proofs.OneState.{some, nameless}
 use Rattle.alt_tables.proofs.WriteLaws.{family_within}
 

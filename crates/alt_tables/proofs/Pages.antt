@@ -23,7 +23,7 @@ use Rattle.alt_machine.specs.State.{State, Table}
 use Rattle.alt_machine.specs.Walks.{end_bound, items_between, placed_items, turned}
 use Rattle.alt_schema.specs.declared.schema.TableSchema.{TableSchema}
 use Rattle.alt_tables.specs.Faults.{IsFindFault, IsReadFault}
-use Rattle.alt_tables.specs.ItemRows.{IsReadItem, item_columns}
+use Rattle.alt_views.specs.ItemRows.{IsReadItem, item_columns}
 use Rattle.alt_tables.specs.Pages.{AreItemsOf, ArePut}
 use Rattle.alt_tables.specs.StateRows.{Shows}
 use Rattle.alt_tables.specs.Stands.{Stands, catalog_of}
@@ -32,7 +32,7 @@ use Rattle.alt_tables.specs.declared.faults.TableFault.TheVariants.{Spent, Damag
 use Rattle.alt_tables.specs.declared.tables.Tables.{Tables}
 use Rattle.alt_tables.proofs.ChangeLaws.{tied, itself}
 use Rattle.alt_tables.proofs.Engine.{finds_shown}
-use Rattle.alt_tables.proofs.ItemRowLaws.{item_columns-one}
+use Rattle.alt_views.proofs.ItemRowLaws.{item_columns-one}
 use Rattle.alt_tables.proofs.OneState.{some, has_whole}
 use Rattle.alt_tables.proofs.Standing.{known}
 use Rattle.alt_value.specs.Members.{text_order}

@@ -2,7 +2,6 @@ pub mod Codes
 pub mod Faults
 pub mod Found
 pub mod Images
-pub mod ItemRows
 pub mod Laws
 pub mod Made
 pub mod Opening

@@ -1,7 +1,7 @@
 -- What is read of the rows that a walk over a table's family gives.
 use Rattle.std.specs.Prelude.{◌≡◌, ◌++◌, ℕ, List, map, All}
 use Rattle.alt_cells.specs.Changes.{Columns}
-use Rattle.alt_tables.specs.ItemRows.{IsReadItem, item_columns}
+use Rattle.alt_views.specs.ItemRows.{IsReadItem, item_columns}
 use Rattle.alt_value.specs.Tree.{Pair}
 
 -- These are the rows of the items, one by one, and each of the items can be read.

@@ -7,7 +7,7 @@ ghost use Rattle.alt_schema.specs.Held.{IsHeld};
 ghost use Rattle.alt_schema.specs.declared.schema.TableSchema.{TableSchema};
 ghost use Rattle.alt_tables.specs.StateRows.{one_column, next_row, table_row};
 
-use crate::item_row::Unread;
+use alt_views::Unread;
 use alt_base::NoMemory;
 use alt_cells::ShownRow;
 use alt_fields::{Bytes, BytesFault, put_u32, take_u32};

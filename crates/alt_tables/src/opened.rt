@@ -16,7 +16,7 @@ ghost use Rattle.alt_tables.specs.Scans.{Walked};
 use crate::catalog::Catalog;
 use crate::catalog_row::{family_of_row, schema_of_row};
 use crate::faults::OpenFault;
-use crate::item_row::Unread;
+use alt_views::Unread;
 use crate::made::is_as_made;
 use crate::scan::{key_after, next_row, unread};
 use crate::tables::CATALOG;

@@ -14,15 +14,15 @@ ghost use Rattle.alt_schema.specs.declared.schema.TableSchema.{TableSchema};
 ghost use Rattle.alt_tables.specs.Faults.{IsFindFault, IsUnspent, Writes};
 ghost use Rattle.alt_tables.specs.Found.{IsFoundIn, number_taken};
 ghost use Rattle.alt_tables.specs.Images.{Leaves};
-ghost use Rattle.alt_tables.specs.ItemRows.{IsReadItem, item_columns};
+ghost use Rattle.alt_views.specs.ItemRows.{IsReadItem, item_columns};
 ghost use Rattle.alt_tables.specs.StateRows.{item_changes};
 ghost use Rattle.alt_tables.specs.Stands.{AreReady, Reads, Stands, KeepsCatalog, catalog_of, number_of};
 ghost use Rattle.alt_value.specs.Tree.{Pair};
 ghost use Rattle.alt_value.specs.Values.{IsItemOfValues};
 
 use crate::faults::{TableFault, fault_of};
-use crate::item_row::{Unread, item_of_row, row_of_item};
-use crate::place::place_of;
+use alt_views::{Unread, item_of_row, row_of_item};
+use alt_views::place_of;
 use crate::tables::Tables;
 use alt_base::NoMemory;
 use alt_cells::{Batch, RowChange, ShownRow};

@@ -5,13 +5,13 @@ ghost use Rattle.alt_base.specs.Counts.{Rose};
 ghost use Rattle.alt_engine.specs.InHand.{Reads};
 ghost use Rattle.alt_engine.specs.Layout.{Layout};
 ghost use Rattle.alt_machine.specs.Valid.{IsStored};
-ghost use Rattle.alt_tables.specs.ItemRows.{IsReadItem};
+ghost use Rattle.alt_views.specs.ItemRows.{IsReadItem};
 ghost use Rattle.alt_tables.specs.Scans.{Walked, IsNextRow, ItemsRead, IsItemFault, IsDeviceFault, IsItemAt};
 ghost use Rattle.alt_value.specs.Tree.{Pair};
 
 use crate::faults::OpenFault;
-use crate::item_row::{Unread, item_of_row};
-use crate::place::{key_fits, place_of};
+use alt_views::{Unread, item_of_row};
+use alt_views::{key_fits, place_of};
 use alt_base::NoMemory;
 use alt_cells::ShownRow;
 use alt_disk::Disk;

@@ -12,7 +12,7 @@ ghost use Rattle.alt_tables.specs.Stands.{AreReady, Reads, Stands, KeepsCatalog,
 ghost use Rattle.alt_value.specs.Tree.{Pair};
 
 use crate::faults::{TableFault, fault_of};
-use crate::item_row::{Unread, item_of_row};
+use alt_views::{Unread, item_of_row};
 use crate::tables::Tables;
 use alt_cells::ShownRow;
 use alt_disk::Disk;

@@ -13,7 +13,7 @@ use Rattle.alt_cells.proofs.CellLaws.{key_total, key_exact}
 use Rattle.alt_cells.proofs.Entries.{both, first, second}
 use Rattle.alt_cellbytes.proofs.Rising.{item_front, with_pair-last}
 use Rattle.alt_machine.specs.Valid.{deepest}
-use Rattle.alt_tables.specs.ItemRows.{column_of, item_columns, IsAttribute, IsReadItem}
+use Rattle.alt_views.specs.ItemRows.{column_of, item_columns, IsAttribute, IsReadItem}
 use Rattle.alt_value.specs.Item.{IsItem, with_pair}
 use Rattle.alt_value.specs.Members.{text_order}
 use Rattle.alt_value.specs.Size.{depth, fields_depth}

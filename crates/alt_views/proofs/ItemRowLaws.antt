@@ -12,7 +12,7 @@ use Rattle.alt_cells.proofs.ChangeLaws.{none_shown}
 use Rattle.alt_cells.proofs.Entries.{find_below, equal, first, second}
 use Rattle.alt_cellbytes.proofs.Apart.{cell_bytes-apart}
 use Rattle.alt_cellbytes.proofs.WholeValues.{whole_has}
-use Rattle.alt_tables.specs.ItemRows.{column_of, item_columns}
+use Rattle.alt_views.specs.ItemRows.{column_of, item_columns}
 use Rattle.alt_value.specs.CellBytes.{cell_bytes}
 use Rattle.alt_value.specs.Tree.{fields_of, Tree, Pair}
 use Rattle.alt_value.specs.Values.{IsWhole, IsWholeItem, AreFields, sets_full, fields_full}

@@ -4,7 +4,7 @@ ghost use Rattle.std.specs.Prelude.{◌≡◌, ◌↔◌, ◌++◌, ◌∷◌, [
 ghost use Rattle.std.specs.FinMap.{entries};
 ghost use Rattle.std.specs.FinMap.Entries.{is_sorted};
 ghost use Rattle.alt_cells.specs.Keys.{key_cmp};
-ghost use Rattle.alt_tables.specs.ItemRows.{column_of, item_columns, IsAttribute, IsReadItem};
+ghost use Rattle.alt_views.specs.ItemRows.{column_of, item_columns, IsAttribute, IsReadItem};
 ghost use Rattle.alt_value.specs.Stands.{tree_of};
 ghost use Rattle.alt_value.specs.Tree.{Pair};
 
@@ -20,7 +20,7 @@ const DEEPEST: usize = 32;
 
 /// Why a row isn't read.
 #[derive(Clone, Copy, Debug, PartialEq, Eq)]
-pub(crate) enum Unread {
+pub enum Unread {
     /// It is none of its family.
     Bad,
     /// Memory was refused.
@@ -28,7 +28,7 @@ pub(crate) enum Unread {
 }
 
 impl From<NoMemory> for Unread {
-    ghost use Rattle.alt_tables.specs.declared.item_row.Unread.TheVariants as unread;
+    ghost use Rattle.alt_views.specs.declared.item_row.Unread.TheVariants as unread;
 
     ghost from_gives = { λ _ f. f ≡ unread.NoMemory };
 
@@ -38,7 +38,7 @@ impl From<NoMemory> for Unread {
 }
 
 /// The row of an item.
-pub(crate) fn row_of_item(alloc: Global, item: &Item) -> Result<ShownRow, NoMemory>
+pub fn row_of_item(alloc: Global, item: &Item) -> Result<ShownRow, NoMemory>
     ensures row { IfOk result (λ row. row ≡ item_columns item.now) }
 {
     let mut row = ShownRow::new(alloc);
@@ -79,7 +79,7 @@ fn push_attribute(
 }
 
 /// The item whose row this is: behind the marker each column is an attribute, with a value that isn't too deep.
-pub(crate) fn item_of_row(alloc: Global, row: &ShownRow) -> Result<Item, Unread>
+pub fn item_of_row(alloc: Global, row: &ShownRow) -> Result<Item, Unread>
     ensures item { IfOk result (λ item. IsReadItem item × (row.now ≡ item_columns item)) }
     ensures none { result ≡ Err Unread.Bad → (item : List Pair) → IsReadItem item
         → row.now ≡ item_columns item → ⊥ }

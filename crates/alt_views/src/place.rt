@@ -1,11 +1,15 @@
-//! The place of an item in its table.
+//! The place of an item in its table and in an index.
 
-ghost use Rattle.std.specs.Prelude.{◌≡◌, ◌++◌, IfOk, OnOk, option_map};
+ghost use Rattle.std.specs.Prelude.{◌≡◌, ◌++◌, IfOk, IfSome, OnOk, option_map};
+ghost use Rattle.std.specs.List.{flat_map};
 ghost use Rattle.std.specs.Int.{w64, to_be_bytes};
 ghost use Rattle.alt_keyorder.specs.KeyBytes.{IsKey, key_bytes};
+ghost use Rattle.alt_keyorder.specs.Place.{key_values as parts_of, place_bytes};
 ghost use Rattle.alt_keyorder.specs.Token.{token_of};
+ghost use Rattle.alt_machine.specs.Indexed.{place_of_both, values_of};
 ghost use Rattle.alt_machine.specs.Keys.{byte_count, can_be_key, is_within, key_fits, key_value, place_of};
 ghost use Rattle.alt_value.specs.Stands.{tree_of};
+ghost use Rattle.alt_views.specs.Values.{AreKeys, values_in};
 
 use alt_base::NoMemory;
 use alt_fields::{Bytes, put_u64};
@@ -41,6 +45,61 @@ fn put_hash(hash: &Attr, out: &mut Vec<u8>) -> Result<(), NoMemory>
 {
     put_u64(out, token(hash))?;
     key_part(hash, out)
+}
+
+/// The values of a key, as they stand in an item: HASH, and RANGE where the key has it.
+#[derive(Clone, Copy)]
+pub struct KeyValues<'i> {
+    pub hash: &'i Attr,
+    pub range: Option<&'i Attr>,
+}
+
+/// The values of a key in an item, `None` exactly where it hasn't all of it.
+pub fn key_values<'i>(
+    item: &'i Item,
+    hash: &KeyAttr,
+    range: &Option<KeyAttr>,
+) -> Option<KeyValues<'i>>
+    ensures values { option_map values_in result
+        ≡ values_of (key_value item.now) hash.now range.now }
+    ensures keys { IfSome result AreKeys }
+{
+    let hash = key_value(item, hash)?;
+    match range {
+        Some(range) => Some(KeyValues {
+            hash,
+            range: Some(key_value(item, range)?),
+        }),
+        None => Some(KeyValues { hash, range: None }),
+    }
+}
+
+/// The place of an index's key, behind which comes the table's: the token of its HASH value, and then the parts of all values
+/// (docs/formats/key-bytes.md).
+pub fn place_of_both(alloc: Global, own: KeyValues, of_table: KeyValues) -> Result<Bytes, NoMemory>
+    requires own { AreKeys own }
+    requires of_table { AreKeys of_table }
+    ensures place { IfOk result (λ bytes. bytes
+        ≡ place_bytes (place_of_both (values_in own.entry) (values_in of_table.entry))) }
+{
+    let mut out = Vec::new(alloc);
+    put_u64(&mut out, token(own.hash))?;
+    put_values(own, &mut out)?;
+    put_values(of_table, &mut out)?;
+    Ok(Bytes::from_vec(out))
+}
+
+/// Appends the parts of a key's values.
+fn put_values(values: KeyValues, out: &mut Vec<u8>) -> Result<(), NoMemory>
+    requires { AreKeys values }
+    ensures { OnOk result (out.new.items ≡ out.old.items ++ flat_map key_bytes
+        (parts_of (values_in values.entry).hash (values_in values.entry).range)) }
+{
+    key_part(values.hash, out)?;
+    match values.range {
+        Some(range) => key_part(range, out),
+        None => Ok(()),
+    }
 }
 
 /// The value of a key attribute, where it is there and can be a key.
@@ -79,7 +138,7 @@ const LONGEST_HASH: usize = 2048;
 const LONGEST_RANGE: usize = 1024;
 
 /// Whether the values of the key are short enough.
-pub(crate) fn key_fits(schema: &TableSchema, item: &Item) -> bool
+pub fn key_fits(schema: &TableSchema, item: &Item) -> bool
     ensures fits { result ≡ key_fits schema.now item.now }
 {
     if !is_within(LONGEST_HASH, item, &schema.hash) {

@@ -1,12 +1,12 @@
 -- One column more.
 use Rattle.std.proofs.Common.{◌≤◌, List, Err, sym, ap, subst, T, arith}
 use Rattle.alt_machine.specs.Valid.{deepest}
-use Rattle.alt_tables.proofs.Columns.{put_more, full_more, depth_more, read_attribute, bad_is}
+use Rattle.alt_views.proofs.Columns.{put_more, full_more, depth_more, read_attribute, bad_is}
 use Rattle.alt_value.specs.Size.{fields_depth}
 use Rattle.alt_value.specs.Stands.{tree_of}
 use Rattle.alt_value.specs.Tree.{Pair, fields_of}
 use Rattle.alt_value.specs.Values.{fields_full}
-use Rattle.alt_tables.proofs.item_row.item_of_columns.Goals as goal
+use Rattle.alt_views.proofs.item_row.item_of_columns.Goals as goal
 
 pub returns-in_err-name-clause-none : goal.returns-in_err-name-clause-none
 returns-in_err-name-clause-none c bad item is same =

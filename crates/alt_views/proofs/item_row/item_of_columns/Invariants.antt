@@ -1,11 +1,11 @@
 -- The item has the columns so far, and its values are as they are stored.
 use Rattle.std.proofs.Common.{◌≡◌, ◌≤◌, T, map, take}
 use Rattle.alt_machine.specs.Valid.{deepest}
-use Rattle.alt_tables.specs.ItemRows.{column_of}
+use Rattle.alt_views.specs.ItemRows.{column_of}
 use Rattle.alt_value.specs.Size.{fields_depth}
 use Rattle.alt_value.specs.Tree.{fields_of}
 use Rattle.alt_value.specs.Values.{fields_full}
-use Rattle.alt_tables.proofs.item_row.item_of_columns.Given as goal
+use Rattle.alt_views.proofs.item_row.item_of_columns.Given as goal
 
 abbrev pub invariant-loop-column : goal.invariant-loop-column
 invariant-loop-column l = record {

@@ -1,9 +1,9 @@
 -- Behind the marker stand the attributes.
 use Rattle.std.proofs.Common.{◌≡◌, map}
 use Rattle.std.proofs.lemmas.Result.{IfOk-weaker}
-use Rattle.alt_tables.specs.ItemRows.{IsReadItem, column_of, item_columns}
-use Rattle.alt_tables.proofs.Columns.{behind_is, marked_is, behind_rises, read_is}
-use Rattle.alt_tables.proofs.item_row.item_of_row.Goals as goal
+use Rattle.alt_views.specs.ItemRows.{IsReadItem, column_of, item_columns}
+use Rattle.alt_views.proofs.Columns.{behind_is, marked_is, behind_rises, read_is}
+use Rattle.alt_views.proofs.item_row.item_of_row.Goals as goal
 
 pub returns-in_default-clause-none : goal.returns-in_default-clause-none
 returns-in_default-clause-none c bad item is same = c.in_default.ensures.none (map column_of item)

@@ -2,10 +2,10 @@
 use Rattle.std.proofs.Common.{◌+◌, ◌∙◌, [], ◌∷◌, map, sym, ap, subst, T, arith}
 use Rattle.std.specs.FinMap.Entries.{is_sorted}
 use Rattle.alt_cells.specs.Keys.{key_cmp}
-use Rattle.alt_tables.specs.ItemRows.{column_of}
-use Rattle.alt_tables.proofs.Columns.{columns_first, one_attribute, row_is, take_all}
+use Rattle.alt_views.specs.ItemRows.{column_of}
+use Rattle.alt_views.proofs.Columns.{columns_first, one_attribute, row_is, take_all}
 use Rattle.alt_value.specs.Stands.{tree_of}
-use Rattle.alt_tables.proofs.item_row.row_of_item.Goals as goal
+use Rattle.alt_views.proofs.item_row.row_of_item.Goals as goal
 
 pub push_attribute-requires : goal.push_attribute-requires
 push_attribute-requires c = subst (λ es. T (is_sorted key_cmp es))

@@ -20,7 +20,7 @@ same_Some : {A : Type 0} (x y : A) → Some x ≡ Some y → x ≡ y
 same_Some x y e = cc
 
 -- what is at a name is a value
-field_value : (name : List ℕ) (item : List Pair) (t : Tree) → AreFields (fields_of item)
+pub field_value : (name : List ℕ) (item : List Pair) (t : Tree) → AreFields (fields_of item)
     → at_name name item ≡ Some t → IsValue t
 field_value name [] t h e = absurd (let f : ⊥ = cc in f)
 field_value name (p ∷ ps) t h e = by (is_eq (text_order name p.0)) (field_value name ps t h.2) e

@@ -1,10 +1,10 @@
 //! A page as it is answered.
 
-ghost use Rattle.std.specs.Prelude.{◌≡◌, false, IfOk, OnOk};
+ghost use Rattle.std.specs.Prelude.{◌≡◌, false, IfOk, OnOk, option_map};
 ghost use Rattle.serde_json.specs.View.{view, items_view, members_view};
 ghost use Rattle.serde_json.specs.Written.{has_float};
 ghost use Rattle.alt_machine.specs.Lists as machine;
-ghost use Rattle.alt_ops_query.specs.Replied.{page_of, with_attribute};
+ghost use Rattle.alt_ops_query.specs.Replied.{page_of, with_attribute, with_key};
 ghost use Rattle.alt_shape.specs.Refusals.{answer_of};
 ghost use Rattle.alt_value.specs.Item.{at_name};
 
@@ -12,7 +12,7 @@ use crate::selecting::selects;
 use alt_base::NoMemory;
 use alt_codec::json_of_item;
 use alt_paging::Page;
-use alt_schema::{KeyAttr, TableSchema};
+use alt_schema::{IndexSchema, KeyAttr, TableSchema};
 use alt_shape::Reply;
 use alt_value::{Item, copy};
 use serde_json::{Map, Value};
@@ -22,12 +22,14 @@ use std::alloc::Global;
 pub(crate) fn page_reply(
     alloc: Global,
     schema: &TableSchema,
+    index: Option<&IndexSchema>,
     body: &Map<String, Value>,
     page: &Page,
     last: &Option<Item>,
 ) -> Result<Reply, NoMemory>
     ensures reply { IfOk result (λ reply. answer_of reply ≡ machine.page_answer schema.now
-        (members_view body.now.entries) (page_of page.now) last.now) }
+        (option_map (λ i. i.now) index.entry) (members_view body.now.entries) (page_of page.now)
+        last.now) }
     ensures plain { IfOk result (λ reply. has_float (view reply.body) ≡ false) }
 {
     let mut members = Map::new(alloc);
@@ -37,7 +39,7 @@ pub(crate) fn page_reply(
         serde_json::put(&mut members, alloc, "Items", Value::Array(items))?;
     }
     if let Some(item) = last {
-        let key = key_attributes(alloc, schema, item)?;
+        let key = key_attributes(alloc, schema, index, item)?;
         serde_json::put(
             &mut members,
             alloc,
@@ -65,17 +67,39 @@ fn json_of_items(alloc: Global, items: &[Item]) -> Result<Vec<Value>, NoMemory>
     Ok(values)
 }
 
-/// The key attributes of an item.
-fn key_attributes(alloc: Global, schema: &TableSchema, item: &Item) -> Result<Item, NoMemory>
-    ensures key { IfOk result (λ key. key ≡ machine.key_attributes schema.now item.now) }
+/// The key attributes of an item, in an index those of both keys.
+fn key_attributes(
+    alloc: Global,
+    schema: &TableSchema,
+    index: Option<&IndexSchema>,
+    item: &Item,
+) -> Result<Item, NoMemory>
+    ensures key { IfOk result (λ key. key ≡ machine.key_attributes schema.now
+        (option_map (λ i. i.now) index.entry) item.now) }
 {
     let _count = item.len();
     let mut key = Item::new(alloc);
-    put_attribute(&mut key, &schema.hash, item)?;
-    if let Some(range) = &schema.range {
-        put_attribute(&mut key, range, item)?;
+    put_key(&mut key, &schema.hash, &schema.range, item)?;
+    if let Some(index) = index {
+        put_key(&mut key, &index.hash, &index.range, item)?;
     }
     Ok(key)
+}
+
+/// Puts the attributes of a key of an item into its key.
+fn put_key(
+    key: &mut Item,
+    hash: &KeyAttr,
+    range: &Option<KeyAttr>,
+    item: &Item,
+) -> Result<(), NoMemory>
+    ensures put { OnOk result (key.new ≡ with_key hash.now range.now item.now key.old) }
+{
+    put_attribute(key, hash, item)?;
+    if let Some(range) = range {
+        put_attribute(key, range, item)?;
+    }
+    Ok(())
 }
 
 /// Puts a key attribute of an item into its key, where the item has it.

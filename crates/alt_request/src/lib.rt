@@ -3,6 +3,7 @@
 
 mod body;
 mod expressions;
+mod indexed;
 mod items;
 mod key_update;
 mod lists;

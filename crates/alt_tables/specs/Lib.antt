@@ -1,4 +1,5 @@
 pub mod Codes
+pub mod Families
 pub mod Faults
 pub mod Found
 pub mod Images

@@ -1,2 +1,6 @@
+pub mod Back
 pub mod Columns
 pub mod ItemRowLaws
+pub mod Keeping
+pub mod Parts
+pub mod Values

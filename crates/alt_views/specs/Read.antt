@@ -11,7 +11,7 @@ use Rattle.alt_value.specs.Item.{with_pair}
 use Rattle.alt_value.specs.Tree.{Tree, Pair}
 use Rattle.alt_views.specs.IndexRows.{KeyedRow, index_columns}
 use Rattle.alt_views.specs.ItemRows.{IsReadItem}
-use Rattle.alt_views.specs.declared.index_row.IndexRow.{IndexRow}
+use Rattle.alt_views.specs.declared.indexed.IndexRow.{IndexRow}
 use Rattle.alt_views.specs.declared.item_row.Unread.{Unread}
 use Rattle.alt_views.specs.declared.item_row.Unread.TheVariants.{Bad, NoMemory}
 

@@ -9,7 +9,7 @@ ghost use Rattle.alt_views.specs.Batches.{AreNew, AreOfOwnFamilies};
 ghost use Rattle.alt_views.specs.IndexRows.{changes_in, if_said, index_changes, moved_changes, row_in_index};
 ghost use Rattle.alt_views.specs.Read.{row_at};
 
-use crate::index_row::{IndexRow, index_row};
+use crate::indexed::{IndexRow, index_row};
 use alt_base::NoMemory;
 use alt_cells::{Batch, RowChange};
 use alt_schema::{TableSchema, index_at};

@@ -3,11 +3,11 @@
 #![tactic(auto)]
 
 mod changes;
-mod index_row;
+mod indexed;
 mod item_row;
 mod place;
 
 pub use changes::index_changes;
-pub use index_row::{IndexRow, index_row, item_of_index_row};
+pub use indexed::{IndexRow, index_row, item_of_index_row};
 pub use item_row::{Unread, item_of_row, row_of_item};
-pub use place::{KeyValues, key_fits, key_values, place_of, place_of_both};
+pub use place::{KeyValues, index_place, key_fits, key_values, place_of, place_of_both};

@@ -6,7 +6,7 @@ ghost use Rattle.std.specs.Int.{w64, to_be_bytes};
 ghost use Rattle.alt_keyorder.specs.KeyBytes.{IsKey, key_bytes};
 ghost use Rattle.alt_keyorder.specs.Place.{key_values as parts_of, place_bytes};
 ghost use Rattle.alt_keyorder.specs.Token.{token_of};
-ghost use Rattle.alt_machine.specs.Indexed.{place_of_both, values_of};
+ghost use Rattle.alt_machine.specs.Indexed.{index_place, place_of_both, values_of};
 ghost use Rattle.alt_machine.specs.Keys.{byte_count, can_be_key, is_within, key_fits, key_value, place_of};
 ghost use Rattle.alt_value.specs.Stands.{tree_of};
 ghost use Rattle.alt_views.specs.Values.{AreKeys, values_in};
@@ -14,7 +14,7 @@ ghost use Rattle.alt_views.specs.Values.{AreKeys, values_in};
 use alt_base::NoMemory;
 use alt_fields::{Bytes, put_u64};
 use alt_keyorder::{key_part, token};
-use alt_schema::{KeyAttr, TableSchema};
+use alt_schema::{IndexSchema, KeyAttr, TableSchema};
 use alt_value::{Attr, Item, KeyKind};
 use std::alloc::Global;
 
@@ -87,6 +87,25 @@ pub fn place_of_both(alloc: Global, own: KeyValues, of_table: KeyValues) -> Resu
     put_values(own, &mut out)?;
     put_values(of_table, &mut out)?;
     Ok(Bytes::from_vec(out))
+}
+
+/// The place that its keys give an item in an index, `None` exactly where it hasn't all of both.
+pub fn index_place(
+    alloc: Global,
+    schema: &TableSchema,
+    index: &IndexSchema,
+    item: &Item,
+) -> Result<Option<Bytes>, NoMemory>
+    ensures place { IfOk result (λ place. place
+        ≡ option_map place_bytes (index_place schema.now index.now item.now)) }
+{
+    let Some(own) = key_values(item, &index.hash, &index.range) else {
+        return Ok(None);
+    };
+    let Some(of_table) = key_values(item, &schema.hash, &schema.range) else {
+        return Ok(None);
+    };
+    Ok(Some(place_of_both(alloc, own, of_table)?))
 }
 
 /// Appends the parts of a key's values.

@@ -9,7 +9,7 @@ use Rattle.alt_tables.proofs.catalog.Catalog.add.Goals as goal
 inserted : (c : goal.In_ok-insert-in-Err) → AreInOrder c.insert.new.self.items
     × (tables c.insert.new.self.items ≡ map.insert
     (tables c.self.inside.entries.items) c.as_str.result.now c.args.schema)
-inserted c = added c.as_str.result.now c.self.inside.entries.items c.in-Err.i c.self.invariant
+inserted c = added c.as_str.result.now c.self.inside.entries.items c.in-Err.i c.self.invariant.0
     c.in-Err.ensures.goes c.in-Err.ensures.apart _
     c.args.schema c.in_ok-insert-in-Err.ensures.items (sym c.as_str.ensures.same)
 
@@ -17,7 +17,7 @@ pub unreachable-requires : goal.unreachable-requires
 unreachable-requires c = not_both _ _
     (ap (λ m. map.get m c.args.schema.name) (sym c.self.view_is)
     ∙ ap (map.get (tables c.self.inside.entries.items)) (sym c.as_str.ensures.same)
-    ∙ get-found c.as_str.result.now c.self.inside.entries.items c.in-Ok.field-0 c.self.invariant
+    ∙ get-found c.as_str.result.now c.self.inside.entries.items c.in-Ok.field-0 c.self.invariant.0
     c.in-Ok.ensures.within c.in-Ok.ensures.named c.args.schema) c.requires
 
 pub invariant_of-self-in-Err : goal.invariant_of-self-in-Err

@@ -6,12 +6,12 @@ use Rattle.alt_tables.proofs.catalog.Catalog.remove.Goals as goal
 
 pub invariant_of-self : goal.invariant_of-self
 invariant_of-self c =
-    (removed c.args.name.now c.self.inside.entries.items c.in-Ok.i c.self.invariant
+    (removed c.args.name.now c.self.inside.entries.items c.in-Ok.i c.self.invariant.0
     c.in-Ok.ensures.within c.in-Ok.ensures.named _ c.remove.ensures.items).0
 
 pub returns-in-Ok : goal.returns-in-Ok
 returns-in-Ok c = record {
-  rest = (removed c.args.name.now c.self.inside.entries.items c.in-Ok.i c.self.invariant
+  rest = (removed c.args.name.now c.self.inside.entries.items c.in-Ok.i c.self.invariant.0
       c.in-Ok.ensures.within c.in-Ok.ensures.named _ c.remove.ensures.items).1
       ∙ ap (λ m. map.remove m c.args.name.now) c.self.view_is;
 }
@@ -19,7 +19,7 @@ returns-in-Ok c = record {
 pub returns-in-Err : goal.returns-in-Err
 returns-in-Err c = record {
   rest = sym c.self.view_is
-      ∙ remove-missed c.args.name.now c.self.inside.entries.items c.in-Err.field-0 c.self.invariant
+      ∙ remove-missed c.args.name.now c.self.inside.entries.items c.in-Err.field-0 c.self.invariant.0
       c.in-Err.ensures.goes c.in-Err.ensures.apart
       ∙ ap (λ m. map.remove m c.args.name.now) c.self.view_is;
 }

@@ -2,7 +2,7 @@
 use Rattle.std.proofs.Common.{refl, sym}
 use Rattle.alt_tables.proofs.Pages.{find_fault, ok_then, page_items, page_reads}
 use Rattle.alt_tables.proofs.Standing.{stays, there}
-use Rattle.alt_tables.proofs.tables.Tables.rows.Goals as goal
+use Rattle.alt_tables.proofs.tables.Tables.table_rows.Goals as goal
 
 pub returns-in-Ok-clause-rows : goal.returns-in-Ok-clause-rows
 returns-in-Ok-clause-rows g c s t stands at = ok_then c.read_page.result

@@ -14,7 +14,7 @@ ghost use Rattle.alt_views.specs.IndexRows.{beside, beside_keys, row_in_index};
 ghost use Rattle.alt_views.specs.Read.{AreValuesOf, IsKeptAt, IsValueOf, Reads, Takes, row_at, with_values};
 
 use crate::item_row::{Unread, item_of_row, row_of_item};
-use crate::place::{key_values, place_of_both};
+use crate::place::index_place;
 use alt_base::NoMemory;
 use alt_cells::ShownRow;
 use alt_fields::Bytes;
@@ -45,13 +45,9 @@ pub fn index_row(
     let Some(mut kept) = index_item(alloc, schema, number, item)? else {
         return Ok(None);
     };
-    let Some(own) = key_values(item, &index.hash, &index.range) else {
+    let Some(key) = index_place(alloc, schema, index, item)? else {
         return Ok(None);
     };
-    let Some(of_table) = key_values(item, &schema.hash, &schema.range) else {
-        return Ok(None);
-    };
-    let key = place_of_both(alloc, own, of_table)?;
     take_keys_out(schema, index, &mut kept);
     let columns = row_of_item(alloc, &kept)?;
     Ok(Some(IndexRow { key, columns }))

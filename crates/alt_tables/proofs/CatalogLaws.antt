@@ -31,7 +31,8 @@ use Rattle.alt_tables.specs.StateRows.{IsHeldWhole, Shows, Turns, catalog_family
 use Rattle.alt_tables.proofs.ChangeLaws.{tied, itself, one_change, two_changes, other_family}
 use Rattle.alt_views.proofs.ItemRowLaws.{can_show}
 use Rattle.alt_tables.proofs.OneState.{some, nameless}
-use Rattle.alt_tables.proofs.WriteLaws.{family_within, index_family, index_within}
+use Rattle.alt_tables.proofs.IndexFamilies.{index_family}
+use Rattle.alt_tables.proofs.WriteLaws.{family_within, index_within}
 
 -- a row of one column can be shown
 pub one_can_show : (name value : List ℕ) → CanShow (Some (one_column name value))

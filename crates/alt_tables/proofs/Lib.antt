@@ -9,6 +9,7 @@ pub mod Starting
 pub mod Making
 pub mod ChangeLaws
 pub mod Moving
+pub mod IndexFamilies
 pub mod IndexShows
 pub mod OneState
 pub mod WriteLaws

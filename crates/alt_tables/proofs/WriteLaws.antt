@@ -1,11 +1,7 @@
 -- The rows of a state with the write of an item joined are the rows of the state after it.
-use Rattle.std.proofs.Common.{◌≡◌, ◌≢◌, ◌+◌, ◌<◌, ◌≤◌, ℕ, Bool, true, false, cond, List, [], ◌∷◌, Option, Some, None, IfSome, refl, sym, ap, subst, ◌∙◌, ◌⊎◌, inl, inr, Contains, AllPairs, zero, suc, ◌++◌, length, slice_get, slice_index_or, map as each, arith}
+use Rattle.std.proofs.Common.{◌≡◌, ◌≢◌, ◌+◌, ◌<◌, ◌≤◌, ℕ, Bool, true, false, cond, List, [], ◌∷◌, Option, Some, None, IfSome, refl, sym, ap, subst, ◌∙◌, ◌⊎◌, inl, inr, Contains, arith}
 use Rattle.std.proofs.lemmas.Bool.{false≢true}
-use Rattle.std.proofs.lemmas.List.{length-append}
-use Rattle.std.proofs.lemmas.Option.{slice_get-map, slice_get_within, get_or_from_slice_get}
-use Rattle.std.specs.Prelude.{if◌then◌else◌, option_map, option_and_then}
-use Rattle.std.specs.List.{flat_map}
-use Rattle.std.specs.Option.{option_map_or}
+use Rattle.std.specs.Prelude.{if◌then◌else◌, option_map}
 use Rattle.std.specs.Ordering.{eq_by_cmp}
 use Rattle.std.specs.FinMap as map
 use Rattle.alt_cells.specs.declared.batch.RowChange.{RowChange}
@@ -31,10 +27,10 @@ use Rattle.alt_schema.specs.declared.schema.IndexSchema.{IndexSchema}
 use Rattle.alt_schema.specs.declared.schema.TableSchema.{TableSchema}
 use Rattle.alt_views.specs.ItemRows.{item_columns}
 use Rattle.alt_tables.specs.StateRows.{IsHeldWhole, Shows, Turns, catalog_family, catalog_rows, item_rows, index_rows, table_row, next_row, item_changes}
-use Rattle.alt_tables.proofs.ChangeLaws.{tied, itself, one_change, other_family, AreOthers, others-append, change_of-none, change_of-front}
+use Rattle.alt_tables.proofs.ChangeLaws.{tied, itself, one_change, other_family, AreOthers, change_of-none, change_of-front}
 use Rattle.alt_tables.proofs.IndexShows.{change_of-index, index_shows}
-use Rattle.alt_tables.proofs.Moving.{others-moved_changes}
-use Rattle.alt_views.specs.IndexRows.{changes_in, index_changes, row_in_index}
+use Rattle.alt_tables.proofs.IndexFamilies.{index_family, index_family_differs, own_families, others-index_changes}
+use Rattle.alt_views.specs.IndexRows.{index_changes}
 use Rattle.alt_views.proofs.ItemRowLaws.{items_can_show}
 use Rattle.alt_tables.proofs.OneState.{some}
 use Rattle.alt_value.specs.Tree.{Pair}
@@ -56,89 +52,12 @@ pub family_within : (s : State) (name : List ℕ) (t : Table) → IsTable s name
 family_within s name t is = of_contained (λ f. (1 ≤ f) × (f < s.next_family))
     (families_of t.description) t.description.family is.families (own_family t.description)
 
--- the families of the indexes of a table
-abbrev index_families : TableSchema → List ℕ
-index_families d = each (λ (i : IndexSchema). i.family) (indexes d)
-
--- they are families of the table, behind its own
-index_at_families : (d : TableSchema) (n : ℕ) (i : IndexSchema)
-    → index_at d (Some n) ≡ Some i → slice_get (families_of d) (suc n) ≡ Some i.family
-index_at_families d n i at = slice_get-front (index_families d)
-    (option_map_or (λ f. f ∷ []) d.stream_family []) n i.family
-    (slice_get-map (λ (i : IndexSchema). i.family) (indexes d) n
-    ∙ ap (option_map (λ (i : IndexSchema). i.family)) at)
-  where
-    slice_get-front : (xs ys : List ℕ) (n x : ℕ) → slice_get xs n ≡ Some x
-        → slice_get (xs ++ ys) n ≡ Some x
-    slice_get-front [] ys n x e = absurd (let no : None ≡ Some x = e in cc no)
-    slice_get-front (y ∷ xs) ys zero x e = e
-    slice_get-front (y ∷ xs) ys (suc n) x e = slice_get-front xs ys n x e
-
--- the family of an index is one of its table's
-pub index_family : (d : TableSchema) (n : ℕ) (i : IndexSchema) → index_at d (Some n) ≡ Some i
-    → Contains (families_of d) i.family
-index_family d n i at =
-    let there = index_at_families d n i at in
-    (suc n, slice_get_within (families_of d) (suc n) i.family there,
-    get_or_from_slice_get (families_of d) (suc n) i.family i.family there)
-
--- and it isn't the table's own
-pub index_family_differs : (s : State) (name : List ℕ) (t : Table) → IsTable s name t → (n : ℕ)
-    (i : IndexSchema) → index_at t.description (Some n) ≡ Some i
-    → t.description.family ≢ i.family
-index_family_differs s name t is n i at same =
-    let there = index_at_families t.description n i at in
-    is.differ 0 (suc n) i.family (omega arith)
-    (slice_get_within (families_of t.description) (suc n) i.family there)
-    (same ∙ sym (get_or_from_slice_get (families_of t.description) (suc n) i.family i.family there))
-
--- no two indexes have one family
-pub own_families : (s : State) (name : List ℕ) (t : Table) → IsTable s name t
-    → AllPairs (λ f g. f ≢ g) (index_families t.description)
-own_families s name t is a b x below within =
-    rewritten (is.differ (suc a) (suc b) x (omega (arith, below)) (omega (arith, within, longer)))
-  where
-    longer : length (index_families t.description) ≤ length (index_families t.description
-        ++ option_map_or (λ f. f ∷ []) t.description.stream_family [])
-    longer = omega (arith, length-append (index_families t.description)
-        (option_map_or (λ f. f ∷ []) t.description.stream_family []))
-
-    front : (xs ys : List ℕ) (n x : ℕ) → n < length xs
-        → slice_index_or (xs ++ ys) n x ≡ slice_index_or xs n x
-    front [] ys n x within = absurd (omega (arith, within))
-    front (y ∷ xs) ys zero x within = refl
-    front (y ∷ xs) ys (suc n) x within = front xs ys n x (omega (arith, within))
-
-    rewritten : (slice_index_or (index_families t.description
-        ++ option_map_or (λ f. f ∷ []) t.description.stream_family []) a x
-        ≢ slice_index_or (index_families t.description
-        ++ option_map_or (λ f. f ∷ []) t.description.stream_family []) b x)
-        → slice_index_or (index_families t.description) a x
-        ≢ slice_index_or (index_families t.description) b x
-    rewritten apart same = apart (front (index_families t.description)
-        (option_map_or (λ f. f ∷ []) t.description.stream_family []) a x
-        (omega (arith, below, within)) ∙ same
-        ∙ sym (front (index_families t.description)
-        (option_map_or (λ f. f ∷ []) t.description.stream_family []) b x within))
-
 -- the families of the indexes lie in the range of the table's
 pub index_within : (s : State) (name : List ℕ) (t : Table) → IsTable s name t → (n : ℕ)
     (i : IndexSchema) → index_at t.description (Some n) ≡ Some i
     → (1 ≤ i.family) × (i.family < s.next_family)
 index_within s name t is n i at = of_contained (λ f. (1 ≤ f) × (f < s.next_family))
     (families_of t.description) i.family is.families (index_family t.description n i at)
-
--- changes of rows in the indexes are of no family but theirs
-others-index_changes : (d : TableSchema) (old new : Option (List Pair)) (family : ℕ)
-    (is : List IndexSchema)
-    → ((n : ℕ) (i : IndexSchema) → slice_get is n ≡ Some i → i.family ≢ family)
-    → AreOthers family (flat_map (changes_in d old new) is)
-others-index_changes d old new family [] h = tt
-others-index_changes d old new family (i ∷ is) h =
-    others-append family (changes_in d old new i) (flat_map (changes_in d old new) is)
-    (others-moved_changes i.family family (option_and_then (row_in_index d i) old)
-    (option_and_then (row_in_index d i) new) (h 0 i refl))
-    (others-index_changes d old new family is (λ n j at. h (suc n) j at))
 
 module _ (l : Layout) (s : State) (shows : Shows l s) (valid : IsValid s) (held : IsHeldState s)
     (moment : ℕ) (name : List ℕ) (t : Table) (at : map.get s.tables name ≡ Some t)
@@ -190,7 +109,7 @@ module _ (l : Layout) (s : State) (shows : Shows l s) (valid : IsValid s) (held 
   index_part_apart : AreOthers t.description.family index_part
   index_part_apart = others-index_changes t.description (map.get t.items place) new
       t.description.family (indexes t.description)
-      (λ n i at same. index_family_differs s name t is_table n i at (sym same))
+      (λ n i at same. index_family_differs t.description is_table.differ n i at (sym same))
 
   module _ (w : Write) (changes : w.changes ≡ change ∷ index_part)
       (numbered : w.number ≡ l.next_number) (law : ShowsWrite l w) where
@@ -242,9 +161,9 @@ module _ (l : Layout) (s : State) (shows : Shows l s) (valid : IsValid s) (held 
         values_after q item here)))
         (λ key. ap (change_of i.family key) changes
         ∙ other_family change index_part i.family key
-        (index_family_differs s name t is_table n i at_index)
+        (index_family_differs t.description is_table.differ n i at_index)
         ∙ change_of-index t.description (map.get t.items place) new (indexes t.description) n i
-        (own_families s name t is_table) at_index key)
+        (own_families t.description is_table.differ) at_index key)
         (shows.indexes name t n i at at_index)
       where
         values_after : (q : List ℕ) (item : List Pair)

@@ -3,4 +3,5 @@ pub mod Columns
 pub mod ItemRowLaws
 pub mod Keeping
 pub mod Parts
+pub mod Placing
 pub mod Values

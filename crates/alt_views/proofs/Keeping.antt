@@ -159,3 +159,12 @@ kept_at d number i item key row made at read is =
       place = ap (option_map place_bytes) (place-cut d i item ∙ e.at) ∙ ap (λ b. Some b) e.bytes;
       shows = refl;
     })
+
+-- It has that place there.
+pub entry_place : (d : TableSchema) (i : IndexSchema) (item : List Pair) (key : List ℕ)
+    (row : List Pair) → index_entry d i item ≡ Some (key, row)
+    → option_map place_bytes (index_place d i row) ≡ Some key
+entry_place d i item key row is =
+    let e = is_entry d i item key row is in
+    ap (λ x. option_map place_bytes (index_place d i x)) (sym (is_cut d i item row e.kept))
+    ∙ ap (option_map place_bytes) (place-cut d i item ∙ e.at) ∙ ap (λ b. Some b) e.bytes

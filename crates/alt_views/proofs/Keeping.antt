@@ -17,10 +17,11 @@ use Rattle.alt_schema.specs.declared.schema.KeyAttr.{KeyAttr}
 use Rattle.alt_schema.specs.declared.schema.TableSchema.{TableSchema}
 use Rattle.alt_value.specs.Item.{at_name}
 use Rattle.alt_value.specs.Tree.{Tree, Pair}
+use Rattle.alt_value.specs.Values.{IsItemOfValues}
 use Rattle.alt_views.specs.IndexRows.{index_columns}
 use Rattle.alt_views.specs.ItemRows.{IsReadItem}
 use Rattle.alt_views.specs.Read.{AreNamed, IsKeptAt}
-use Rattle.alt_views.proofs.Parts.{at_name-where, read-where}
+use Rattle.alt_views.proofs.Parts.{at_name-where, read-where, values-where}
 
 some : {A : Type 0} (x y : A) → Some x ≡ Some y → x ≡ y
 some x y e = ap (λ o. unwrap_or o x) e
@@ -168,3 +169,11 @@ entry_place d i item key row is =
     let e = is_entry d i item key row is in
     ap (λ x. option_map place_bytes (index_place d i x)) (sym (is_cut d i item row e.kept))
     ∙ ap (option_map place_bytes) (place-cut d i item ∙ e.at) ∙ ap (λ b. Some b) e.bytes
+
+-- What an index keeps of an item of values is one.
+pub kept_values : (d : TableSchema) (i : IndexSchema) (item : List Pair) (key : List ℕ)
+    (row : List Pair) → IsItemOfValues item → index_entry d i item ≡ Some (key, row)
+    → IsItemOfValues row
+kept_values d i item key row values is = subst IsItemOfValues
+    (is_cut d i item row (is_entry d i item key row is).kept)
+    (values-where (is_projected d i) item values)

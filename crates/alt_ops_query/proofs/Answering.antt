@@ -9,7 +9,7 @@ use Rattle.serde_json.specs.Written.{has_float}
 use Rattle.alt_codec.specs.Writing.{json_of_pairs}
 use Rattle.alt_expr.specs.Pages as pages
 use Rattle.alt_expr.specs.Pages.{Asked, examined, ends_early, parts, passed}
-use Rattle.alt_machine.specs.Lists.{selects, shown_items, items_json, key_attributes, page_answer, page_asked, last_examined}
+use Rattle.alt_machine.specs.Lists.{shown_items, items_json, key_attributes, page_answer, page_asked, last_examined}
 use Rattle.alt_machine.specs.Outcomes.{Outcome, says}
 use Rattle.alt_machine.specs.Sources.{index_at, selects}
 use Rattle.alt_machine.specs.State.{State, Texts}

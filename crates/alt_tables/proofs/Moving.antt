@@ -1,6 +1,7 @@
 -- What the changes of a row that moves make of what is shown.
-use Rattle.std.proofs.Common.{◌≡◌, ◌≢◌, ℕ, Bool, true, false, List, [], ◌∷◌, Option, Some, None, refl, sym, ap, subst, ◌∙◌}
+use Rattle.std.proofs.Common.{◌≡◌, ◌≢◌, ℕ, Bool, true, false, List, [], ◌∷◌, Option, Some, None, refl, sym, ap, ◌∙◌}
 use Rattle.std.proofs.lemmas.Bool.{false≢true}
+use Rattle.std.proofs.lemmas.List.Elements.{All-head, All-tail}
 use Rattle.std.specs.Prelude.{if◌then◌else◌}
 use Rattle.std.specs.Ordering.{eq_by_cmp}
 use Rattle.alt_cells.specs.declared.batch.RowChange.{RowChange}
@@ -11,6 +12,7 @@ use Rattle.alt_engine.specs.Layout.{change_of, shown_by}
 use Rattle.alt_machine.specs.Rekeyed.{moved}
 use Rattle.alt_tables.proofs.ChangeLaws.{tied, itself, one_change, two_changes, AreOthers}
 use Rattle.alt_views.specs.IndexRows.{KeyedRow, if_said, moved_changes}
+use Rattle.alt_views.proofs.Batched.{AreOf, moved_changes-of}
 
 -- the row that moves was shown at its key
 abbrev pub WasShown : Option KeyedRow → List ℕ → Option Columns → Type 0
@@ -119,23 +121,17 @@ shown-moved_changes family (Some o) (Some n) key before was can_old can =
         ∙ goes (eq_by_cmp key_cmp key o.0) (eq_by_cmp key_cmp key n.0) refl refl
         (λ same. false≢true (sym e ∙ ap (λ k. eq_by_cmp key_cmp k o.0) same ∙ itself o.0))
 
--- these changes are of one family
+-- changes of one family are others to another
+others-of : (family other : ℕ) (cs : List RowChange) → family ≢ other → AreOf family cs
+    → AreOthers other cs
+others-of family other [] apart of = tt
+others-of family other (c ∷ cs) apart of = (
+  λ same. apart (sym (All-head (λ (c : RowChange). c.family ≡ family) c cs of) ∙ same),
+  others-of family other cs apart (All-tail (λ (c : RowChange). c.family ≡ family) c cs of),
+)
+
+-- so are those of a row that moves
 pub others-moved_changes : (family other : ℕ) (o n : Option KeyedRow) → family ≢ other
     → AreOthers other (moved_changes family o n)
-others-moved_changes family other None None apart = tt
-others-moved_changes family other (Some o) None apart = (apart, tt)
-others-moved_changes family other None (Some n) apart = (apart, tt)
-others-moved_changes family other (Some o) (Some n) apart = by_test (eq_by_cmp key_cmp n.0 o.0)
-  where
-    said : (c : RowChange) (cells : List (List ℕ × Option (List ℕ))) → c.cells ≡ cells
-        → c.family ≢ other → AreOthers other (if_said c)
-    said c [] none apart = subst (λ given. AreOthers other (if_said (record c { cells = given })))
-        (sym none) tt
-    said c (cell ∷ cells) some apart =
-        subst (λ given. AreOthers other (if_said (record c { cells = given }))) (sym some) (apart, tt)
-
-    by_test : (b : Bool) → AreOthers other (if b
-        then if_said (change_between family o.0 (Some o.1) (Some n.1))
-        else change_between family o.0 (Some o.1) None ∷ change_between family n.0 None (Some n.1) ∷ [])
-    by_test true = said (change_between family o.0 (Some o.1) (Some n.1)) _ refl apart
-    by_test false = (apart, (apart, tt))
+others-moved_changes family other o n apart = others-of family other (moved_changes family o n) apart
+    (moved_changes-of family o n)

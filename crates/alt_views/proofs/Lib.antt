@@ -1,4 +1,5 @@
 pub mod Back
+pub mod Batched
 pub mod Columns
 pub mod ItemRowLaws
 pub mod Keeping

@@ -1,0 +1,8 @@
+//! Reads of a disk, kept: a disk with the same reads, over a cache that a write or a removal empties.
+#![tactic(auto)]
+
+mod cache;
+mod cached;
+
+pub use cache::BlockCache;
+pub use cached::Cached;

@@ -1,13 +1,12 @@
 -- What a cache holds stays right while the disk reads the same.
-use Rattle.std.proofs.Common.{◌≡◌, ◌⊎◌, ◌==◌, ◌&&◌, ◌-◌, inl, inr, ⊎_elim, ℕ, Bool, true, false, List, ◌++◌, Option, Some, None, IsTrue, refl, sym, ap, subst, ◌∙◌, take, drop, length, Contains, arith}
-use Rattle.std.specs.Prelude.{IfSome}
+use Rattle.std.proofs.Common.{◌≡◌, ◌⊎◌, ◌==◌, ◌&&◌, ◌-◌, inl, inr, ⊎_elim, min, ℕ, Bool, true, false, List, Some, IsTrue, refl, sym, ap, subst, ◌∙◌, take, drop, length, Contains, arith}
 use Rattle.std.specs.Map.{lookup}
 use Rattle.std.proofs.lemmas.Bool.{false≢true}
-use Rattle.std.proofs.lemmas.List.{take-append-drop, take_at, length-take, length-drop}
+use Rattle.std.proofs.lemmas.List.{take-take, take-append-drop, take_at, length-take, length-drop}
 use Rattle.lru.specs.LruCache.{LruCache, promoted, put_entries}
 use Rattle.lru.proofs.CallerLemmas.{Contains-put_entries, Contains-promoted, Contains-lookup}
-use Rattle.alt_disk.specs.Disk.{DiskState, Read, bytes_or_none, contents}
-use Rattle.alt_blocks.specs.Places.{Agrees, Place, given, same_place}
+use Rattle.alt_disk.specs.Disk.{DiskState, Read, bytes_or_none}
+use Rattle.alt_blocks.specs.Places.{Keeps, Agrees, Within, Adds, Place, given, same_place}
 use Rattle.alt_blocks.specs.declared.cache.BlockCache.{BlockCache}
 
 pub agrees_same : (a b : DiskState) (cache : BlockCache) → ((g : ℕ) → b.file g ≡ a.file g)
@@ -39,50 +38,65 @@ same_is p q e =
     let c = same_number p.2 q.2 two.1 in
     (λ i. (a i, b i, c i))
 
-module _ (s : DiskState) (cache : BlockCache) (h : Agrees s cache) where
-  -- one place more, with what the disk gives there
-  pub agrees_put : (p : Place) (bytes : List ℕ) (new : List (Place × List ℕ))
-      → new ≡ put_entries same_place cache.places p bytes → bytes ≡ given s p
-      → (q : Place) (b : List ℕ) → Contains new (q, b) → b ≡ given s q
-  agrees_put p bytes new is kept q b inside = ⊎_elim
-      (λ old. h q b old)
-      (λ put. put.0 ∙ kept ∙ ap (given s) (sym (place put.1)))
-      (Contains-put_entries same_place cache.places p bytes (q, b)
-      (subst (λ (l : List (Place × List ℕ)). Contains l (q, b)) is inside))
-    where
-      place : (q ≡ p)
-          ⊎ ((w : List ℕ) × Contains cache.places.entries (q, w) × (same_place p q ≡ true)) → q ≡ p
-      place (inl e) = e
-      place (inr o) = sym (same_is p q o.2)
+-- what is found at a place is what is kept there
+pub found : (cache : BlockCache) (place : Place) (bytes : List ℕ)
+    → lookup (same_place place) cache.places.entries ≡ Some bytes → Keeps cache place bytes
+found cache place bytes there =
+    let e = Contains-lookup (same_place place) cache.places.entries bytes there in
+    subst (λ (p : Place). Keeps cache p bytes) (sym (same_is place e.0 e.2)) e.1
 
-  -- the same places in another order
-  pub agrees_promoted : (test : Place → Bool) (new : List (Place × List ℕ))
-      → new ≡ promoted test cache.places.entries
-      → (q : Place) (b : List ℕ) → Contains new (q, b) → b ≡ given s q
-  agrees_promoted test new is q b inside =
-      h q b (Contains-promoted test cache.places.entries (q, b)
-      (subst (λ (l : List (Place × List ℕ)). Contains l (q, b)) is inside))
+-- the same places in another order
+pub within_promoted : (old new : List (Place × List ℕ)) (test : Place → Bool)
+    → new ≡ promoted test old → (p : Place) (bytes : List ℕ) → Contains new (p, bytes)
+    → Contains old (p, bytes)
+within_promoted old new test is p bytes kept = Contains-promoted test old (p, bytes)
+    (subst (λ (l : List (Place × List ℕ)). Contains l (p, bytes)) is kept)
 
-  -- what is found at a place
-  pub found : (p : Place) (bytes : List ℕ) (new : List (Place × List ℕ))
-      → new ≡ promoted (same_place p) cache.places.entries → lookup (same_place p) new ≡ Some bytes
-      → bytes ≡ given s p
-  found p bytes new is there =
-      let e = Contains-lookup (same_place p) new bytes there in
-      agrees_promoted (same_place p) new is e.0 bytes e.1 ∙ ap (given s) (sym (same_is p e.0 e.2))
+pub agrees_within : (s : DiskState) (old new : BlockCache) → Within old new → Agrees s old
+    → Agrees s new
+agrees_within s old new within h p bytes kept = h p bytes (within p bytes kept)
+
+-- one place more
+pub adds_put : (old : LruCache Place (List ℕ)) (new : List (Place × List ℕ)) (place : Place)
+    (bytes : List ℕ) → new ≡ put_entries same_place old place bytes → (p : Place) (b : List ℕ)
+    → Contains new (p, b) → Contains old.entries (p, b) ⊎ ((p ≡ place) × (b ≡ bytes))
+adds_put old new place bytes is p b kept = ⊎_elim (λ before. inl before)
+    (λ put. inr (at_place put.1, put.0))
+    (Contains-put_entries same_place old place bytes (p, b)
+    (subst (λ (l : List (Place × List ℕ)). Contains l (p, b)) is kept))
+  where
+    at_place : (p ≡ place)
+        ⊎ ((w : List ℕ) × Contains old.entries (p, w) × (same_place place p ≡ true)) → p ≡ place
+    at_place (inl e) = e
+    at_place (inr o) = sym (same_is place p o.2)
+
+pub agrees_adds : (s : DiskState) (old new : BlockCache) (place : Place) (bytes : List ℕ)
+    → Adds old new place bytes → bytes ≡ given s place → Agrees s old → Agrees s new
+agrees_adds s old new place bytes adds is h p b kept = ⊎_elim (λ before. h p b before)
+    (λ put. put.1 ∙ is ∙ ap (given s) (sym put.0)) (adds p b kept)
+
+pub adds_within : (old middle new : BlockCache) (place : Place) (bytes : List ℕ)
+    → Within old middle → Adds middle new place bytes → Adds old new place bytes
+adds_within old middle new place bytes within adds p b kept = ⊎_elim
+    (λ before. inl (within p b before)) (λ put. inr put) (adds p b kept)
+
+pub adds_none : (old new : BlockCache) (place : Place) (bytes : List ℕ) → Within old new
+    → Adds old new place bytes
+adds_none old new place bytes within p b kept = inl (within p b kept)
 
 -- bytes that the disk gives are what a read gives
 pub read_given : (whole old new bytes : List ℕ) (at count : ℕ)
-    → bytes ≡ take (length old) (drop at whole) → count ≡ length bytes → take count new ≡ bytes
-    → Read whole at old new count
-read_given whole old new bytes at count is size front = record {
-  count_is = omega
-      (arith, size, ap length is, length-take (length old) (drop at whole), length-drop at whole);
-  front = front
-      ∙ sym (ap (take count) (sym (take-append-drop (length old) (drop at whole))
-      ∙ ap (λ (l : List ℕ). l ++ drop (length old) (drop at whole)) (sym is))
-      ∙ take_at bytes (drop (length old) (drop at whole)) count (sym size));
-}
+    → bytes ≡ take (length old) (drop at whole) → count ≡ min (length old) (length bytes)
+    → take count new ≡ take count bytes → Read whole at old new count
+read_given whole old new bytes at count is size front =
+    let long : length bytes ≡ min (length old) (length whole - at) =
+    omega
+    (arith, ap length is, length-take (length old) (drop at whole), length-drop at whole) in
+    record {
+      count_is = omega (arith, size, long);
+      front = front ∙ ap (take count) is
+          ∙ take-take count (length old) (drop at whole) (omega (arith, size));
+    }
 
 -- and back: a read gives what the disk gives there
 pub given_read : (whole old new : List ℕ) (at count : ℕ) → Read whole at old new count
@@ -94,12 +108,3 @@ given_read whole old new at count read =
     in
     read.front ∙ ap (take count) (sym (take-append-drop (length old) (drop at whole)))
     ∙ take_at bytes (drop (length old) (drop at whole)) count (sym size)
-
-pub if_some_any : {X : Type 0} (o : Option X) (P : Type 0) → P → IfSome o (λ x. P)
-if_some_any (Some x) P p = p
-if_some_any None P p = tt
-
-pub if_some_leads : {X : Type 0} (o : Option X) (P Q : X → Type 0) → ((x : X) → P x → Q x)
-    → IfSome o P → IfSome o Q
-if_some_leads (Some x) P Q leads p = leads x p
-if_some_leads None P Q leads p = tt

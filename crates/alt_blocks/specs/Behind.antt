@@ -1,7 +1,9 @@
 -- A disk behind a cache.
-use Rattle.std.specs.Prelude.{ℕ, ◌∷◌, ◌||◌}
+use Rattle.std.specs.Prelude.{◌≡◌, ℕ, Bool, true, ◌∷◌, ◌||◌}
 use Rattle.alt_disk.specs.Disk.{DiskState}
+use Rattle.alt_disk.specs.declared.disk.Disk.{Ghosts}
 use Rattle.alt_blocks.specs.declared.cache.BlockCache.{BlockCache}
+use Rattle.alt_blocks.specs.declared.cached.Cached.{Cached}
 use Rattle.alt_blocks.specs.Places.{has}
 
 -- the disk as it is, behind borrows of these names, with the reads that the cache can answer
@@ -12,3 +14,26 @@ behind disk name cache s =
       cached =
           λ f at n. has cache f at n || s.cached f at n;
     }
+
+module _ {D : Type 0} {G : Ghosts D} where
+  -- the disk, and the cache before it
+  abbrev pub disk_of : Cached D G → D
+  disk_of c = c.disk.now
+
+  abbrev pub cache_of : Cached D G → BlockCache
+  cache_of c = c.cache.now
+
+  -- the disk as the layers above see it
+  abbrev pub state_of : Cached D G → DiskState
+  state_of c = behind c.disk.ghost_name c.cache.ghost_name (cache_of c) (G.state (disk_of c))
+
+  -- the names of the borrows of both
+  abbrev pub names_of : Cached D G → ℕ × ℕ
+  names_of c = (c.disk.ghost_name, c.cache.ghost_name)
+
+-- a read that was answered, and of which the disk knows nothing
+pub record Uncounted (old new : DiskState) (ok : Bool) : Type 0 where
+  pub answered : ok ≡ true
+  pub moment : new.moment ≡ old.moment
+  pub reads : new.reads ≡ old.reads
+  pub faults : new.faults ≡ old.faults

@@ -1,6 +1,6 @@
 //! What reads gave, by file, place and length of the buffer; the places used last stay.
 
-ghost use Rattle.std.specs.Prelude.{◌≡◌, ◌<◌, ◌≤◌, true, [], length, take, IfOk, IfSome, IfNone};
+ghost use Rattle.std.specs.Prelude.{◌≡◌, ◌<◌, ◌≤◌, true, [], length, take, min, is_some, IfOk, IfSome, IfNone};
 
 use alt_base::NoMemory;
 use alt_fields::Bytes;
@@ -17,13 +17,13 @@ pub struct BlockCache {
 
 impl BlockCache {
     ghost use Rattle.alt_disk.specs.Disk.{DiskState, Read, contents};
-    ghost use Rattle.alt_blocks.specs.Places.{Agrees, given, has};
+    ghost use Rattle.alt_blocks.specs.Places.{Agrees, Adds, Within, IsEmpty, has, room_of};
 
     /// An empty cache of `most` places, which is above 0.
     pub fn new(alloc: Global, most: usize) -> Result<BlockCache, NoMemory>
         requires { 0 < most }
-        ensures empty { IfOk result (λ c. c.places.entries ≡ []) }
-        ensures room { IfOk result (λ c. c.places.cap ≡ most) }
+        ensures empty { IfOk result IsEmpty }
+        ensures room { IfOk result (λ c. room_of c ≡ most) }
     {
         match NonZeroUsize::new(most) {
             Some(most) => Ok(BlockCache {
@@ -35,7 +35,7 @@ impl BlockCache {
     }
 
     pub(crate) fn clear(&mut self)
-        ensures empty { self.new.places.entries ≡ [] }
+        ensures empty { IsEmpty self.new }
     {
         self.places.clear();
     }
@@ -44,17 +44,18 @@ impl BlockCache {
     pub(crate) fn recall(&mut self, f: u32, at: u64, buf: &mut [u8]) -> Option<usize>
         ensures hit { (s : DiskState) → Agrees s self.old → IfSome result
             (λ count. Read (contents s f) at buf.old buf.new count) }
+        ensures found { is_some result ≡ has self.old f at (length buf.old) }
         ensures miss { IfNone result (buf.new ≡ buf.old) }
-        ensures cached { IfSome result (λ count. has self.old f at (length buf.old) ≡ true) }
-        ensures keeps { (s : DiskState) → Agrees s self.old → Agrees s self.new }
+        ensures within { Within self.old self.new }
         ensures bound { IfSome result (λ count. count ≤ length buf.old) }
     {
         let place = (f, at, buf.len());
-        if !self.places.promote(&place) {
-            return None;
-        }
         match self.places.peek(&place) {
-            Some(bytes) => copy_front(bytes.as_slice(), buf),
+            Some(bytes) => {
+                let count = copy_front(bytes.as_slice(), buf);
+                self.places.promote(&place);
+                Some(count)
+            }
             None => None,
         }
     }
@@ -62,8 +63,7 @@ impl BlockCache {
     /// Keeps the first `count` bytes of the buffer for such a read, unless memory is wanting.
     pub(crate) fn keep(&mut self, f: u32, at: u64, buf: &[u8], count: usize)
         requires { count ≤ length buf.now }
-        ensures keeps { (s : DiskState) → Agrees s self.old
-            → take count buf.now ≡ given s (f, at, length buf.now) → Agrees s self.new }
+        ensures adds { Adds self.old self.new (f, at, length buf.now) (take count buf.now) }
     {
         match Bytes::new(self.alloc, &buf[..count]) {
             Ok(bytes) => match self.places.put((f, at, buf.len()), bytes) {
@@ -75,16 +75,12 @@ impl BlockCache {
     }
 }
 
-// Copies the bytes into the buffer's front, if they fit, and answers how many they are.
-fn copy_front(bytes: &[u8], buf: &mut [u8]) -> Option<usize>
-    ensures some { IfSome result (λ count. (count ≡ length bytes.now) × (count ≤ length buf.old)
-        × (take count buf.new ≡ bytes.now)) }
-    ensures none { IfNone result (buf.new ≡ buf.old) }
+// Copies as many bytes as fit into the buffer's front, and answers how many.
+fn copy_front(bytes: &[u8], buf: &mut [u8]) -> usize
+    ensures count { result ≡ min (length buf.old) (length bytes.now) }
+    ensures front { take result buf.new ≡ take result bytes.now }
 {
-    let count = bytes.len();
-    if count > buf.len() {
-        return None;
-    }
-    buf[..count].copy_from_slice(bytes);
-    Some(count)
+    let count = buf.len().min(bytes.len());
+    buf[..count].copy_from_slice(&bytes[..count]);
+    count
 }

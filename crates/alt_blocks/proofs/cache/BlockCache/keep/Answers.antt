@@ -1,19 +1,23 @@
 -- A place more, or none.
-use Rattle.std.proofs.Common.{ap, subst, ◌∙◌, ℕ, List, length, Contains}
+use Rattle.std.proofs.Common.{◌≡◌, ap, subst, ℕ, List, length, inl, ◌⊎◌, Contains}
 use Rattle.alt_blocks.specs.Places.{Place}
-use Rattle.alt_blocks.proofs.Agreeing.{agrees_put}
+use Rattle.alt_blocks.proofs.Agreeing.{adds_put}
 use Rattle.alt_blocks.proofs.cache.BlockCache.keep.Goals as goal
 
 pub returns-in-Ok-put : goal.returns-in-Ok-put
-returns-in-Ok-put c = record {
-  keeps = λ s h kept. agrees_put s c.args.self.now h
-      (c.args.f, c.args.at, length c.args.buf.now) c.in-Ok.bytes c.put.new.self.entries
-      (ap (λ l. l.entries) c.in-Ok-put.ensures.entries) (c.in-Ok.ensures.copied ∙ kept);
-}
+returns-in-Ok-put c =
+    let place : Place = (c.args.f, c.args.at, length c.args.buf.now) in
+    let added = adds_put c.args.self.now.places c.put.new.self.entries place c.in-Ok.bytes
+    (ap (λ l. l.entries) c.in-Ok-put.ensures.entries) in
+    record {
+      adds = subst (λ (kept : List ℕ). (p : Place) (b : List ℕ)
+          → Contains c.put.new.self.entries (p, b)
+          → Contains c.args.self.now.places.entries (p, b) ⊎ ((p ≡ place) × (b ≡ kept)))
+          c.in-Ok.ensures.copied added;
+    }
 
 pub returns-in-Ok : goal.returns-in-Ok
 returns-in-Ok c = record {
-  keeps = λ s h kept q b inside. h q b
-      (subst (λ (l : List (Place × List ℕ)). Contains l (q, b))
-      (ap (λ l. l.entries) c.in-Err-put.ensures.err) inside);
+  adds = λ p b kept. inl (subst (λ (l : List (Place × List ℕ)). Contains l (p, b))
+      (ap (λ l. l.entries) c.in-Err-put.ensures.err) kept);
 }

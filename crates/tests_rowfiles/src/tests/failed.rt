@@ -48,12 +48,15 @@ fn each_call_of_a_recovery_that_fails_is_told(rt: HostRuntime) {
     };
     assert!(rt; calls > 4);
     for call in 0..calls {
-        assert!(rt; recovery_fails(rt.alloc(), call) == Some(true), "call {call}");
+        assert!(rt;
+            recovery_fails(rt.alloc(), call) == Some(true),
+            "call {call}"
+        );
     }
 }
 
-// Lets the next call of the disk fail.
-fn fail_next(disk: &mut MemoryDisk) -> Option<()> {
+/// Lets the next call of the disk fail.
+pub(crate) fn fail_next(disk: &mut MemoryDisk) -> Option<()> {
     let (now, _) = disk.counts();
     disk.fail(now).ok()
 }
@@ -79,8 +82,8 @@ fn a_look_that_fails_is_not_none(rt: HostRuntime) {
     assert!(rt; look_fails(rt.alloc()) == Some(true));
 }
 
-// How many rows come before the walk fails; none where it ends or goes on.
-fn rows_before_fault<S: RowSource<MemoryDisk>>(
+/// How many rows come before the walk fails; none where it ends or goes on.
+pub(crate) fn rows_before_fault<S: RowSource<MemoryDisk>>(
     disk: &mut MemoryDisk,
     source: &mut S,
 ) -> Option<u32> {
@@ -108,9 +111,7 @@ fn walk_fails(alloc: Global, forward: bool, block: u64) -> Option<bool> {
     let rows = rows_before_fault(&mut disk, &mut walk)?;
     walk.seek(&mut disk, None, forward).ok()?;
     let first = if forward { 0 } else { SHAPE.0.checked_sub(1)? };
-    let went = gives(
-        alloc, &mut disk, &mut walk, &SHAPE, first, SHAPE.0, forward,
-    )?;
+    let went = gives(alloc, &mut disk, &mut walk, &SHAPE, first, SHAPE.0, forward)?;
     Some(went && rows < SHAPE.0 && (rows == 0) == (block == 0))
 }
 
@@ -122,8 +123,14 @@ fn a_walk_fails_at_the_block_that_does_and_may_be_sought_anew(rt: HostRuntime) {
     };
     assert!(rt; blocks > 3);
     for block in 0..blocks {
-        assert!(rt; walk_fails(rt.alloc(), true, block) == Some(true), "block {block}");
-        assert!(rt; walk_fails(rt.alloc(), false, block) == Some(true), "block {block}");
+        assert!(rt;
+            walk_fails(rt.alloc(), true, block) == Some(true),
+            "block {block}"
+        );
+        assert!(rt;
+            walk_fails(rt.alloc(), false, block) == Some(true),
+            "block {block}"
+        );
     }
 }
 

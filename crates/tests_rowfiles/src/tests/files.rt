@@ -1,11 +1,13 @@
 //! The bytes that a writer writes, and what is read of files that are changed, cut, or no row files.
 
+use crate::tests::doubted::Doubted;
 use crate::tests::shapes::{
     FILE, Shape, bytes_of, digest_of, disk_of, key_of, row_of_shape, spelled, written,
 };
-use alt_cells::row_bytes;
+use alt_cells::{Cell, CellMap, RowCells, RowWriter, row_bytes};
 use alt_disk::MemoryDisk;
-use alt_rowfile::{RowFile, RowFileFault};
+use alt_fields::Bytes;
+use alt_rowfile::{RowFile, RowFileFault, RowFileWriter};
 use std::alloc::Global;
 
 // No row, one, one over a block, rows that fill a block to the byte before, to the byte, and past it; keys that share 2 KB; some hundred.
@@ -197,7 +199,46 @@ fn page_reads(alloc: Global) -> Option<bool> {
     Some(shown.get(b"a")?.as_slice() == b"x".as_slice())
 }
 
+// The bytes that a writer makes of the page's row.
+fn page_written(alloc: Global) -> Option<Vec<u8>> {
+    let mut disk = Doubted {
+        disk: MemoryDisk::new(alloc),
+    };
+    let value = Some(Bytes::new(alloc, b"x").ok()?);
+    let cells = CellMap::one(alloc, Bytes::new(alloc, b"a").ok()?, Cell { at: 7, value }).ok()?;
+    let row = RowCells { gone: None, cells };
+    let mut writer = RowFileWriter::make(alloc, &mut disk, FILE).ok()?;
+    writer.add(&mut disk, b"k", &row).ok()?;
+    let file = writer.finish(&mut disk);
+    if file.is_err() {
+        return None;
+    }
+    let mut disk = disk.disk;
+    bytes_of(alloc, &mut disk)
+}
+
+fn is_page(written: &Option<Vec<u8>>, page: &[u8]) -> bool {
+    match written {
+        Some(bytes) => bytes.as_slice() == page,
+        None => false,
+    }
+}
+
+// The page's file without rows.
+const EMPTY_PAGE: &[u8] = b"ALTROW01\0\0\0\0\0\0\0\0\0\0\0\0\0\0\0\0\0\0\0\0\0\0\0\x08\
+    \x47\xae\x7a\x46\x25\xc8\x62\x48\x84\x6f\x7b\x3c\x14\xd1\xda\x69\
+    \x9c\x29\x7e\x7c\x18\x8e\x93\x8d\x5d\x12\xd2\xd2\xd5\xe5\xb2\x88";
+
+fn empty_written(alloc: Global) -> Option<Vec<u8>> {
+    let mut disk = written(alloc, &(0, 0, 0))?;
+    bytes_of(alloc, &mut disk)
+}
+
 #[test]
-fn the_example_of_the_page_is_read(rt: HostRuntime) {
+fn the_examples_of_the_page_are_written_and_read(rt: HostRuntime) {
     assert!(rt; page_reads(rt.alloc()) == Some(true));
+    let page = page_written(rt.alloc());
+    assert!(rt; is_page(&page, PAGE));
+    let empty = empty_written(rt.alloc());
+    assert!(rt; is_page(&empty, EMPTY_PAGE));
 }

@@ -2,71 +2,45 @@
 //! write, and a source whose read fails fails that very `next`.
 
 use crate::tests::doubted::Doubted;
+use crate::tests::given::{GivenRow, is_given, recovered, table_of_given, write};
 use crate::tests::source::Source;
-use alt_cells::{Cell, CellMap, RowCells, RowSource, RowWriter, SourceFault, row_bytes};
+use alt_cells::{RowCells, RowSource, SourceFault};
 use alt_disk::MemoryDisk;
 use alt_fields::Bytes;
 use alt_memtable::Memtable;
 use alt_merge::Merge;
-use alt_rowfile::{RowFile, RowFileWriter};
+use alt_rowfile::RowFile;
 use std::alloc::Global;
-
-// A key, the row's tombstone, the number of the write of its one column, and the value, or none where it was removed.
-type GivenRow = (&'static [u8], Option<u64>, u64, Option<&'static [u8]>);
 
 // The rows of the older file, of the newer one, and of the table. At `b` all three have a row, at `d` two.
 static OLDER: [GivenRow; 4] = [
-    (b"a", None, 1, Some(b"a1")),
-    (b"b", None, 2, Some(b"b2")),
-    (b"d", None, 4, Some(b"d4")),
-    (b"e", None, 5, Some(b"e5")),
+    (b"a", None, Some(1), Some(b"a1")),
+    (b"b", None, Some(2), Some(b"b2")),
+    (b"d", None, Some(4), Some(b"d4")),
+    (b"e", None, Some(5), Some(b"e5")),
 ];
 
 static NEWER: [GivenRow; 3] = [
-    (b"b", Some(7), 7, Some(b"b7")),
-    (b"c", None, 6, Some(b"c6")),
-    (b"e", None, 5, None),
+    (b"b", Some(7), Some(7), Some(b"b7")),
+    (b"c", None, Some(6), Some(b"c6")),
+    (b"e", None, Some(5), None),
 ];
 
 static TABLE: [GivenRow; 3] = [
-    (b"b", None, 3, Some(b"b3")),
-    (b"d", Some(9), 4, Some(b"d3")),
-    (b"f", None, 8, Some(b"f8")),
+    (b"b", None, Some(3), Some(b"b3")),
+    (b"d", Some(9), Some(4), Some(b"d3")),
+    (b"f", None, Some(8), Some(b"f8")),
 ];
 
 // What the three come to.
 static JOINED: [GivenRow; 6] = [
-    (b"a", None, 1, Some(b"a1")),
-    (b"b", Some(7), 7, Some(b"b7")),
-    (b"c", None, 6, Some(b"c6")),
-    (b"d", Some(9), 4, Some(b"d4")),
-    (b"e", None, 5, None),
-    (b"f", None, 8, Some(b"f8")),
+    (b"a", None, Some(1), Some(b"a1")),
+    (b"b", Some(7), Some(7), Some(b"b7")),
+    (b"c", None, Some(6), Some(b"c6")),
+    (b"d", Some(9), Some(4), Some(b"d4")),
+    (b"e", None, Some(5), None),
+    (b"f", None, Some(8), Some(b"f8")),
 ];
-
-fn row_of_table(alloc: Global, given: &GivenRow) -> Option<RowCells> {
-    let (_, gone, at, value) = *given;
-    let value = match value {
-        Some(bytes) => Some(Bytes::new(alloc, bytes).ok()?),
-        None => None,
-    };
-    let name = Bytes::new(alloc, b"c").ok()?;
-    let cells = CellMap::one(alloc, name, Cell { at, value }).ok()?;
-    Some(RowCells { gone, cells })
-}
-
-fn write(alloc: Global, disk: &mut Doubted, f: u32, rows: &[GivenRow]) -> Option<()> {
-    let mut writer = RowFileWriter::make(alloc, disk, f).ok()?;
-    for given in rows {
-        let row = row_of_table(alloc, given)?;
-        writer.add(disk, given.0, &row).ok()?;
-    }
-    let file = writer.finish(disk);
-    if file.is_err() {
-        return None;
-    }
-    Some(())
-}
 
 fn disk_of_files(alloc: Global) -> Option<MemoryDisk> {
     let mut disk = Doubted {
@@ -75,21 +49,6 @@ fn disk_of_files(alloc: Global) -> Option<MemoryDisk> {
     write(alloc, &mut disk, 3, &OLDER)?;
     write(alloc, &mut disk, 4, &NEWER)?;
     Some(disk.disk)
-}
-
-fn table(alloc: Global) -> Option<Memtable> {
-    let mut table = Memtable::new(alloc);
-    for given in &TABLE {
-        table.put(given.0, &row_of_table(alloc, given)?).ok()?;
-    }
-    Some(table)
-}
-
-fn recovered(alloc: Global, disk: &mut MemoryDisk, f: u32) -> Option<RowFile> {
-    match RowFile::recover(alloc, disk, f) {
-        Ok(file) => Some(file),
-        Err(_) => None,
-    }
 }
 
 // The three as one.
@@ -111,12 +70,7 @@ fn is_joined(alloc: Global, place: usize, key: &Bytes, row: &RowCells) -> Option
     if place >= JOINED.len() {
         return None;
     }
-    let given = &JOINED[place];
-    let mut want = Vec::new(alloc);
-    row_bytes(&row_of_table(alloc, given)?, &mut want).ok()?;
-    let mut bytes = Vec::new(alloc);
-    row_bytes(row, &mut bytes).ok()?;
-    Some(key.as_slice() == given.0 && bytes.as_slice() == want.as_slice())
+    is_given(alloc, &JOINED[place], key, row)
 }
 
 // Whether a merge that was sought gives the joined rows from a place on, up or down, so many, and then none.
@@ -174,7 +128,7 @@ fn splits_at(alloc: Global, key: &[u8], below: usize) -> Option<bool> {
     let mut disk = disk_of_files(alloc)?;
     let older = recovered(alloc, &mut disk, 3)?;
     let newer = recovered(alloc, &mut disk, 4)?;
-    let table = table(alloc)?;
+    let table = table_of_given(alloc, &TABLE)?;
     let mut merge = merge_of(alloc, &older, &newer, &table)?;
     splits(alloc, &mut disk, &mut merge, key, below)
 }
@@ -182,10 +136,7 @@ fn splits_at(alloc: Global, key: &[u8], below: usize) -> Option<bool> {
 #[test]
 fn three_sources_are_walked_as_one_both_ways(rt: HostRuntime) {
     for (key, below) in &PLACES {
-        assert!(rt;
-            splits_at(rt.alloc(), key, *below) == Some(true),
-            "{key:?}"
-        );
+        assert!(rt; splits_at(rt.alloc(), key, *below) == Some(true), "{key:?}");
     }
 }
 
@@ -194,7 +145,7 @@ fn has_none(alloc: Global) -> Option<bool> {
     let mut disk = disk_of_files(alloc)?;
     let older = recovered(alloc, &mut disk, 3)?;
     let newer = recovered(alloc, &mut disk, 4)?;
-    let table = table(alloc)?;
+    let table = table_of_given(alloc, &TABLE)?;
     let mut merge = merge_of(alloc, &older, &newer, &table)?;
     let unsought = merge.next(&mut disk).ok()?.is_none();
     let mut empty: Merge<Source<'_>> = Merge::new(alloc, Vec::new(alloc));
@@ -212,7 +163,7 @@ fn fails_at(alloc: Global, read: u64, forward: bool) -> Option<bool> {
     let mut disk = disk_of_files(alloc)?;
     let older = recovered(alloc, &mut disk, 3)?;
     let newer = recovered(alloc, &mut disk, 4)?;
-    let table = table(alloc)?;
+    let table = table_of_given(alloc, &TABLE)?;
     let mut merge = merge_of(alloc, &older, &newer, &table)?;
     merge.seek(&mut disk, None, forward).ok()?;
     let (now, _) = disk.counts();
@@ -222,14 +173,24 @@ fn fails_at(alloc: Global, read: u64, forward: bool) -> Option<bool> {
         _ => false,
     };
     merge.seek(&mut disk, None, forward).ok()?;
-    let first = if forward { 0 } else { JOINED.len().checked_sub(1)? };
+    let first = if forward {
+        0
+    } else {
+        JOINED.len().checked_sub(1)?
+    };
     Some(failed && gives(alloc, &mut disk, &mut merge, first, JOINED.len(), forward)?)
 }
 
 #[test]
 fn a_source_that_fails_fails_that_next_and_is_not_dropped(rt: HostRuntime) {
     for read in 0..2u64 {
-        assert!(rt; fails_at(rt.alloc(), read, true) == Some(true), "read {read}");
-        assert!(rt; fails_at(rt.alloc(), read, false) == Some(true), "read {read}");
+        assert!(rt;
+            fails_at(rt.alloc(), read, true) == Some(true),
+            "read {read}"
+        );
+        assert!(rt;
+            fails_at(rt.alloc(), read, false) == Some(true),
+            "read {read}"
+        );
     }
 }

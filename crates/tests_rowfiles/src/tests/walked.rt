@@ -139,10 +139,12 @@ fn reads_each_once(alloc: Global, shape: &Shape, forward: bool) -> Option<bool> 
     let (_, before) = disk.counts();
     let mut walk = file.walk();
     walk.seek(&mut disk, None, forward).ok()?;
-    let first = if forward { 0 } else { shape.0.saturating_sub(1) };
-    let went = gives(
-        alloc, &mut disk, &mut walk, shape, first, shape.0, forward,
-    )?;
+    let first = if forward {
+        0
+    } else {
+        shape.0.saturating_sub(1)
+    };
+    let went = gives(alloc, &mut disk, &mut walk, shape, first, shape.0, forward)?;
     let (_, after) = disk.counts();
     Some(went && after == before.checked_add(blocks)?)
 }

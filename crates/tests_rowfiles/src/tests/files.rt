@@ -23,7 +23,7 @@ static SHAPES: [Shape; 8] = [
 ];
 
 // Many rows, in many blocks.
-static MANY: Shape = (5000, 3, 9);
+static MANY: Shape = (1500, 3, 9);
 
 // Whether the bytes are those of the format.
 fn is_spelled(alloc: Global, shape: &Shape) -> Option<bool> {

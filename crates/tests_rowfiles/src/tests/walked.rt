@@ -128,7 +128,7 @@ fn a_table_in_memory_is_walked_both_ways_with_no_call_of_the_disk(rt: HostRuntim
 }
 
 // Rows, of which a walk is as many reads as the file has blocks.
-static LARGE: [Shape; 2] = [(2000, 0, 200), (100, 2048, 100)];
+static LARGE: [Shape; 2] = [(300, 0, 200), (20, 2048, 100)];
 
 fn reads_each_once(alloc: Global, shape: &Shape, forward: bool) -> Option<bool> {
     let (bytes, blocks) = spelled(alloc, shape)?;

@@ -1,5 +1,5 @@
 -- Where a block stands.
-use Rattle.std.proofs.Common.{◌≡◌, ◌≢◌, ⊎_elim, refl, sym, ap, subst, ◌∙◌, ℕ, zero, suc, ◌+◌, ◌-◌, ◌==◌, ◌<◌, ◌≤◌, ◌^◌, List, [], ◌∷◌, ◌++◌, length, take, drop, get_or, arith, append_assoc, length-append, T}
+use Rattle.std.proofs.Common.{◌≡◌, ◌≢◌, ⊎_elim, inl, inr, refl, sym, ap, subst, ◌∙◌, ℕ, zero, suc, ◌+◌, ◌-◌, ◌==◌, ◌<◌, ◌≤◌, ◌^◌, List, [], ◌∷◌, ◌++◌, length, take, drop, get_or, arith, append_assoc, length-append, T}
 use Rattle.std.specs.Prelude.{if◌then◌else◌}
 use Rattle.std.specs.List.{AllByRecursion, flat_map}
 use Rattle.std.proofs.lemmas.Grind.{flat_map-append}
@@ -7,7 +7,9 @@ use Rattle.std.proofs.lemmas.Bool.{cases_eq}
 use Rattle.std.proofs.lemmas.Bool.Decides.{nat_tests}
 use Rattle.std.proofs.lemmas.List.{get_or_at, take_at, drop_at, length-take, length-drop, append-nil}
 use Rattle.alt_rowfile.specs.Format.{Entry, Mark, block_bytes, rows_bytes, IsHeldBlock, header, front, rows_of, first_key, marks_from, tail_bytes, body, IsFileOf}
-use Rattle.alt_rowfile.specs.InHand.{FileAs, ReadsAs}
+use Rattle.alt_rowfile.specs.InHand.{FileAs, ReadsAs, count_of, file_of}
+use Rattle.alt_rowfile.specs.Reading.{ReadIs, ReadsOnce, ReadsAtMostABlock, place_of, length_of}
+use Rattle.alt_rowfile.specs.declared.rowfile.RowFile.{RowFile}
 use Rattle.alt_rowfile.specs.Loading.{place_at, next_place}
 use Rattle.alt_rowfile.proofs.WriterLaws.{length-front, front-push}
 use Rattle.alt_rowfile.proofs.OneFile.{block_some}
@@ -238,3 +240,15 @@ module _ (s : DiskState) (f : ℕ) (marks : List Mark) (end i : ℕ) (rows : Lis
           length-drop (place_at marks i) reads.bytes,
           ap (λ l. length (bytes_or_none l)) reads.there,
         )
+
+-- a read from its place on, of its length, is of a block
+pub asked : (s t : DiskState) (file : RowFile) (i at n : ℕ) → i < count_of file
+    → at ≡ place_of file i → n ≡ length_of file i → ReadsOnce s t (file_of file) at n
+    → ReadsAtMostABlock s t file
+asked s t file i at n within is_at is_n one = ⊎_elim (λ none. inl none)
+    (λ read. inr (record {
+      block = i;
+      within = within;
+      read = subst (λ (p : ℕ). ReadIs s t (file_of file) p (length_of file i)) is_at
+          (subst (λ (k : ℕ). ReadIs s t (file_of file) at k) is_n read);
+    })) one

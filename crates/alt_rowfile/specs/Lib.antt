@@ -6,6 +6,7 @@ pub mod Writing
 pub mod Decoding
 pub mod Recovery
 pub mod Loading
+pub mod Reading
 pub mod Searching
 pub mod Cut
 pub mod Walking

@@ -34,6 +34,10 @@ list_from rows from forward =
 abbrev pub AtEnd : RowFileWalk → List Entry → Type 0
 AtEnd walk rows = walk.held.items ≡ [] → rows ≡ []
 
+-- its file
+abbrev pub walk_file : RowFileWalk → RowFile
+walk_file walk = walk.file.now
+
 -- it reads its file
 abbrev pub walk_reads : RowFileWalk → ℕ → Bool
 walk_reads walk f = f == walk.file.now.file

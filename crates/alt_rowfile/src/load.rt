@@ -10,6 +10,7 @@ ghost use Rattle.alt_cells.specs.Walks.{IsDamaged};
 ghost use Rattle.alt_rowfile.specs.Format.{Entry, block_bytes, IsHeldBlock};
 ghost use Rattle.alt_rowfile.specs.InHand.{Reads, count_of};
 ghost use Rattle.alt_rowfile.specs.Loading.{next_place};
+ghost use Rattle.alt_rowfile.specs.Reading.{ReadsAtMostABlock};
 
 use crate::decode::{decode, take_field};
 use crate::pieces::bytes_at;
@@ -40,6 +41,7 @@ pub(crate) fn load<D: Disk>(
         → Rose (D.state disk.old).faults (D.state disk.new).faults }
     ensures well { (IsErrOf result SourceFault.Failed → ⊥)
         → (D.state disk.new).faults ≡ (D.state disk.old).faults }
+    ensures one_block { ReadsAtMostABlock (D.state disk.old) (D.state disk.new) file.now }
     ensures reads { (D.state disk.new).reads ≤ (D.state disk.old).reads + 1 }
 {
     let at = file.marks[i].0;

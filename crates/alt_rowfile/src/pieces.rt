@@ -5,6 +5,7 @@ ghost use Rattle.std.specs.Int.{w64, to_be_bytes};
 ghost use Rattle.alt_base.specs.Counts.{Rose};
 ghost use Rattle.alt_disk.specs.Disk.{Goes, contents};
 ghost use Rattle.alt_disk.specs.Runs.{Quiet};
+ghost use Rattle.alt_rowfile.specs.Reading.{ReadIs, ReadsOnce};
 
 use alt_disk::{Disk, DiskFault, Failed};
 use std::alloc::Global;
@@ -22,6 +23,7 @@ pub(crate) fn fill<D: Disk>(disk: &mut D, f: u32, at: u64, buf: &mut [u8]) -> Re
     ensures cause { OnErr result (Rose (D.state disk.old).faults (D.state disk.new).faults) }
     ensures well { is_ok result ≡ true
         → (D.state disk.new).faults ≡ (D.state disk.old).faults }
+    ensures one { ReadIs (D.state disk.old) (D.state disk.new) f at (length buf.old) }
     ensures reads { (D.state disk.new).reads ≤ (D.state disk.old).reads + 1 }
 {
     let count = disk.read(f, at, buf)?;
@@ -48,6 +50,7 @@ pub(crate) fn bytes_at<D: Disk>(
         → Rose (D.state disk.old).faults (D.state disk.new).faults }
     ensures well { (IsErrOf result DiskFault.Failed → ⊥)
         → (D.state disk.new).faults ≡ (D.state disk.old).faults }
+    ensures one { ReadsOnce (D.state disk.old) (D.state disk.new) f at count }
     ensures reads { (D.state disk.new).reads ≤ (D.state disk.old).reads + 1 }
 {
     let mut bytes = Vec::new(alloc);

@@ -26,6 +26,7 @@ impl RowFile {
     ghost use Rattle.alt_disk.specs.Runs.{Quiet};
     ghost use Rattle.alt_rowfile.specs.Format.{Entry};
     ghost use Rattle.alt_rowfile.specs.InHand.{Reads, file_of};
+    ghost use Rattle.alt_rowfile.specs.Reading.{ReadsAtMostABlock};
     ghost use Rattle.alt_rowfile.specs.Walking.{walk_holds, walk_reads};
     ghost use Rattle.std.specs.FinMap.{entries};
     ghost use Rattle.alt_rowfile.specs.Recovery.{ExplainsFile};
@@ -65,6 +66,7 @@ impl RowFile {
             → Rose (D.state disk.old).faults (D.state disk.new).faults }
         ensures well { (IsErrOf result SourceFault.Failed → ⊥)
             → (D.state disk.new).faults ≡ (D.state disk.old).faults }
+        ensures one_block { ReadsAtMostABlock (D.state disk.old) (D.state disk.new) self.now }
         ensures reads { (D.state disk.new).reads ≤ (D.state disk.old).reads + 1 }
     {
         let count = blocks_up_to(&self.marks, key);

@@ -10,6 +10,7 @@ ghost use Rattle.alt_cells.specs.Keys.{key_cmp};
 ghost use Rattle.alt_cells.specs.Walks.{IsDamaged};
 ghost use Rattle.alt_rowfile.specs.Format.{Entry};
 ghost use Rattle.alt_rowfile.specs.InHand.{Reads};
+ghost use Rattle.alt_rowfile.specs.Reading.{ReadsAtMostABlock};
 ghost use Rattle.alt_rowfile.specs.Cut.{CutsAt, IsCutFrom};
 ghost use Rattle.alt_rowfile.specs.Walking.{LeftAs, list_from};
 
@@ -42,6 +43,7 @@ pub(crate) fn start<D: Disk>(
         → Rose (D.state disk.old).faults (D.state disk.new).faults }
     ensures well { (IsErrOf result SourceFault.Failed → ⊥)
         → (D.state disk.new).faults ≡ (D.state disk.old).faults }
+    ensures one_block { ReadsAtMostABlock (D.state disk.old) (D.state disk.new) file.now }
     ensures reads { (D.state disk.new).reads ≤ (D.state disk.old).reads + 1 }
 {
     match from {
@@ -78,6 +80,7 @@ fn start_at<D: Disk>(
         → Rose (D.state disk.old).faults (D.state disk.new).faults }
     ensures well { (IsErrOf result SourceFault.Failed → ⊥)
         → (D.state disk.new).faults ≡ (D.state disk.old).faults }
+    ensures one_block { ReadsAtMostABlock (D.state disk.old) (D.state disk.new) file.now }
     ensures reads { (D.state disk.new).reads ≤ (D.state disk.old).reads + 1 }
 {
     let count = blocks_up_to(&file.marks, key);

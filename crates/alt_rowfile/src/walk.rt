@@ -4,10 +4,11 @@ ghost use Rattle.std.specs.Prelude.{◌≡◌, ◌≤◌, ◌+◌, ℕ, List, le
 ghost use Rattle.alt_base.specs.Counts.{Rose};
 ghost use Rattle.alt_disk.specs.Disk.{Goes};
 ghost use Rattle.alt_disk.specs.Runs.{Quiet};
-ghost use Rattle.alt_cells.specs.Walks.{IsDamaged};
+ghost use Rattle.alt_cells.specs.Walks.{IsDamaged, answered_by};
 ghost use Rattle.alt_rowfile.specs.Format.{Entry};
 ghost use Rattle.alt_rowfile.specs.InHand.{Reads};
-ghost use Rattle.alt_rowfile.specs.Walking.{walk_left, AtEnd};
+ghost use Rattle.alt_rowfile.specs.Reading.{ReadsAtMostABlock};
+ghost use Rattle.alt_rowfile.specs.Walking.{walk_file, walk_left, AtEnd};
 
 use crate::load::load;
 use crate::rowfile::RowFile;
@@ -27,6 +28,9 @@ pub struct RowFileWalk<'a> {
 }
 
 impl<'a, D: Disk> RowSource<D> for RowFileWalk<'a> {
+    ghost use Rattle.std.specs.Prelude.{IfOk};
+    ghost use Rattle.std.specs.Option.{option_copied};
+    ghost use Rattle.alt_cells.specs.Walks.{RowMap, RowList, rows_from, Gives, Keeps, Fails};
     ghost use Rattle.alt_rowfile.specs.Walking.{walk_reads, walk_holds, walk_left, walk_holds_on, walk_left_on};
 
     ghost reads = { walk_reads };
@@ -39,12 +43,20 @@ impl<'a, D: Disk> RowSource<D> for RowFileWalk<'a> {
 
     ghost left_on = { walk_left_on };
 
-    fn seek(
-        &mut self,
-        disk: &mut D,
-        from: Option<&[u8]>,
-        forward: bool,
-    ) -> Result<(), SourceFault> {
+    fn seek(&mut self, disk: &mut D, from: Option<&[u8]>, forward: bool) -> Result<(), SourceFault>
+        ensures sought { IsTrue (D.state disk.old).tells
+            → (rows : RowMap) → walk_holds (D.state disk.old) self.old rows
+            → OnOk result (walk_left (D.state disk.new) self.new
+            (rows_from rows (option_copied from.entry) forward)) }
+        ensures keeps { Keeps walk_holds walk_reads (D.state disk.old) (D.state disk.new)
+            self.old self.new }
+        ensures well { IsTrue (answered_by result)
+            → (D.state disk.new).faults ≡ (D.state disk.old).faults }
+        ensures fails { IfErr result
+            (Fails walk_holds (D.state disk.old) (D.state disk.new) self.old) }
+        ensures one_block { ReadsAtMostABlock (D.state disk.old) (D.state disk.new)
+            (walk_file self.old) }
+    {
         match start(self.file, disk, from, forward) {
             Ok((next, held)) => {
                 self.forward = forward;
@@ -56,7 +68,19 @@ impl<'a, D: Disk> RowSource<D> for RowFileWalk<'a> {
         }
     }
 
-    fn next(&mut self, disk: &mut D) -> Result<Option<(Bytes, RowCells)>, SourceFault> {
+    fn next(&mut self, disk: &mut D) -> Result<Option<(Bytes, RowCells)>, SourceFault>
+        ensures gives { IsTrue (D.state disk.old).tells
+            → (rows : RowList) → walk_left (D.state disk.old) self.old rows
+            → IfOk result (Gives (walk_left (D.state disk.new) self.new) rows) }
+        ensures keeps { Keeps walk_holds walk_reads (D.state disk.old) (D.state disk.new)
+            self.old self.new }
+        ensures well { IsTrue (answered_by result)
+            → (D.state disk.new).faults ≡ (D.state disk.old).faults }
+        ensures fails { IfErr result
+            (Fails walk_holds (D.state disk.old) (D.state disk.new) self.old) }
+        ensures one_block { ReadsAtMostABlock (D.state disk.old) (D.state disk.new)
+            (walk_file self.old) }
+    {
         match self.refill(disk) {
             Ok(()) => Ok(self.held.pop()),
             Err(fault) => Err(fault),
@@ -81,6 +105,8 @@ impl<'a> RowFileWalk<'a> {
             → Rose (D.state disk.old).faults (D.state disk.new).faults }
         ensures well { (IsErrOf result SourceFault.Failed → ⊥)
             → (D.state disk.new).faults ≡ (D.state disk.old).faults }
+        ensures one_block { ReadsAtMostABlock (D.state disk.old) (D.state disk.new)
+            (walk_file self.old) }
         ensures reads { (D.state disk.new).reads ≤ (D.state disk.old).reads + 1 }
     {
         if !self.held.is_empty() {

@@ -4,7 +4,8 @@ use Rattle.std.proofs.lemmas.List.{get_or_read}
 use Rattle.alt_disk.specs.Disk.{DiskState}
 use Rattle.alt_rowfile.specs.Format.{Mark}
 use Rattle.alt_rowfile.specs.Loading.{place_at, next_place}
-use Rattle.alt_rowfile.proofs.LoadLaws.{here, at_place, are_bytes, has_bytes}
+use Rattle.alt_rowfile.specs.Reading.{place_of, length_of}
+use Rattle.alt_rowfile.proofs.LoadLaws.{asked, here, at_place, are_bytes, has_bytes}
 use Rattle.alt_rowfile.proofs.load.load.Goals as goal
 
 pub returns-in-Ok-Some-rows_of-clause-rows : goal.returns-in-Ok-Some-rows_of-clause-rows
@@ -65,3 +66,15 @@ returns-in-Ok-None-clause-undamaged g c = λ told rows reads damaged.
     rw c.in-Ok-None.field-0-is at
     (c.in-Ok-None.ensures.short told
     (has_bytes s file.file marks file.end i rows reads c.requires at n is_at is_n))
+
+pub returns-in-Ok-Some-rows_of-clause-one_block : goal.returns-in-Ok-Some-rows_of-clause-one_block
+returns-in-Ok-Some-rows_of-clause-one_block g c =
+    let file = c.args.file.now in
+    let at = c.index.result.now.0 in
+    let n = c.saturating_sub-count.result in
+    let is_at : at ≡ place_of file c.args.i =
+    ap (λ (m : Mark). m.0)
+    (get_or_read file.marks.items c.args.i c.index.result.now c.requires c.index.ensures (0, [])) in
+    let is_n : n ≡ length_of file c.args.i = c.saturating_sub-count.ensures
+    ∙ (λ j. c.next_place-next.ensures j - is_at j) in
+    asked (g.D.Disk.state c.args.disk.now) (g.D.Disk.state c.bytes_at.new.disk) file c.args.i at n c.requires is_at is_n c.bytes_at.ensures.one

@@ -1,0 +1,31 @@
+-- What a call on a row file in hand asks of the disk: one block at most, by one read of its length.
+use Rattle.std.specs.Prelude.{◌≡◌, ◌⊎◌, ◌<◌, ◌-◌, ℕ, Bool}
+use Rattle.alt_disk.specs.Disk.{DiskState, ReadCall}
+use Rattle.alt_rowfile.specs.InHand.{count_of, file_of}
+use Rattle.alt_rowfile.specs.Loading.{place_at, next_place}
+use Rattle.alt_rowfile.specs.declared.rowfile.RowFile.{RowFile}
+
+-- one read of a file from a place on, of so many bytes at most, that answered or failed
+abbrev pub ReadIs : DiskState → DiskState → ℕ → ℕ → ℕ → Type 0
+ReadIs old new f at most = (answered : Bool) × ReadCall old new f at most answered
+
+-- no call was made, or such a read
+abbrev pub ReadsOnce : DiskState → DiskState → ℕ → ℕ → ℕ → Type 0
+ReadsOnce old new f at most = (new ≡ old) ⊎ ReadIs old new f at most
+
+-- the place of a block of a file in hand, and its length
+abbrev pub place_of : RowFile → ℕ → ℕ
+place_of file i = place_at file.marks.items i
+
+abbrev pub length_of : RowFile → ℕ → ℕ
+length_of file i = next_place file.marks.items file.end i - place_of file i
+
+-- one read of one of the file's blocks, from its place on and of its length
+pub record ReadsABlock (old new : DiskState) (file : RowFile) : Type 0 where
+  pub block : ℕ
+  pub within : block < count_of file
+  pub read : ReadIs old new (file_of file) (place_of file block) (length_of file block)
+
+-- no call was made, or that one
+abbrev pub ReadsAtMostABlock : DiskState → DiskState → RowFile → Type 0
+ReadsAtMostABlock old new file = (new ≡ old) ⊎ ReadsABlock old new file

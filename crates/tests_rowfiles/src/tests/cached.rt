@@ -2,7 +2,7 @@
 
 use crate::tests::doubted::Doubted;
 use alt_blocks::{BlockCache, Cached};
-use alt_disk::{Disk, MemoryDisk};
+use alt_disk::Disk;
 use std::alloc::Global;
 
 // `r` reads so many bytes of a file from a place, `w` writes `!` there, `d` removes the file. Then what was read, and how many reads
@@ -49,9 +49,7 @@ fn step(disk: &mut Cached<'_, Doubted>, kind: u8, f: u32, at: u64, n: usize, wan
 
 // The first step that isn't as it is to be.
 fn first_wrong(alloc: Global) -> Option<usize> {
-    let mut disk = Doubted {
-        disk: MemoryDisk::new(alloc),
-    };
+    let mut disk = Doubted::new(alloc);
     let (Ok(()), Ok(())) = (
         disk.write_at(1, 0, b"one file"),
         disk.write_at(2, 0, b"other"),

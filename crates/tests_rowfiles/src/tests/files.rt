@@ -201,9 +201,7 @@ fn page_reads(alloc: Global) -> Option<bool> {
 
 // The bytes that a writer makes of the page's row.
 fn page_written(alloc: Global) -> Option<Vec<u8>> {
-    let mut disk = Doubted {
-        disk: MemoryDisk::new(alloc),
-    };
+    let mut disk = Doubted::new(alloc);
     let value = Some(Bytes::new(alloc, b"x").ok()?);
     let cells = CellMap::one(alloc, Bytes::new(alloc, b"a").ok()?, Cell { at: 7, value }).ok()?;
     let row = RowCells { gone: None, cells };

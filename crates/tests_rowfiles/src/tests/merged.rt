@@ -43,9 +43,7 @@ static JOINED: [GivenRow; 6] = [
 ];
 
 fn disk_of_files(alloc: Global) -> Option<MemoryDisk> {
-    let mut disk = Doubted {
-        disk: MemoryDisk::new(alloc),
-    };
+    let mut disk = Doubted::new(alloc);
     write(alloc, &mut disk, 3, &OLDER)?;
     write(alloc, &mut disk, 4, &NEWER)?;
     Some(disk.disk)

@@ -145,9 +145,7 @@ pub(crate) fn spelled(alloc: Global, shape: &Shape) -> Option<(Vec<u8>, u64)> {
 
 /// A disk on which the writer wrote these rows.
 pub(crate) fn written(alloc: Global, shape: &Shape) -> Option<MemoryDisk> {
-    let mut disk = Doubted {
-        disk: MemoryDisk::new(alloc),
-    };
+    let mut disk = Doubted::new(alloc);
     let mut writer = RowFileWriter::make(alloc, &mut disk, FILE).ok()?;
     for i in 0..shape.0 {
         let key = key_of(alloc, shape, i, b"")?;

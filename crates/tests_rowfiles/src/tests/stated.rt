@@ -93,9 +93,7 @@ fn gives_all(
 
 fn goes(alloc: Global, walk: &Walk) -> Option<bool> {
     let (in_table, in_one, in_other, from, forward, rows) = *walk;
-    let mut disk = Doubted {
-        disk: MemoryDisk::new(alloc),
-    };
+    let mut disk = Doubted::new(alloc);
     write(alloc, &mut disk, 3, in_one)?;
     write(alloc, &mut disk, 4, in_other)?;
     let mut disk = disk.disk;

@@ -20,6 +20,7 @@ ghost use Rattle.alt_tables.specs.Stands.{AreReady, Stands};
 use crate::bodies;
 use alt_disk::Disk;
 use alt_machine::Operation;
+use alt_ops_batch::{batch_get_item, batch_write_item};
 use alt_ops_item::{delete_item, get_item, put_item, update_item};
 use alt_ops_query::{query, scan};
 use alt_ops_table::{create_table, delete_table, describe_table, list_tables};
@@ -30,7 +31,7 @@ use serde_json::{Map, Value};
 use std::alloc::Global;
 
 /// The operations that are built, by name.
-static OPERATIONS: [(&str, Operation); 10] = [
+static OPERATIONS: [(&str, Operation); 12] = [
     ("CreateTable", Operation::CreateTable),
     ("DescribeTable", Operation::DescribeTable),
     ("ListTables", Operation::ListTables),
@@ -41,6 +42,8 @@ static OPERATIONS: [(&str, Operation); 10] = [
     ("UpdateItem", Operation::UpdateItem),
     ("Query", Operation::Query),
     ("Scan", Operation::Scan),
+    ("BatchWriteItem", Operation::BatchWriteItem),
+    ("BatchGetItem", Operation::BatchGetItem),
 ];
 
 /// The built operation of that name, `None` exactly where there is none.
@@ -160,5 +163,7 @@ fn carry_out<D: Disk>(
         Operation::UpdateItem => update_item(alloc, tables, disk, body, moment),
         Operation::Query => query(alloc, tables, disk, body, moment),
         Operation::Scan => scan(alloc, tables, disk, body, moment),
+        Operation::BatchWriteItem => batch_write_item(alloc, tables, disk, body, moment),
+        Operation::BatchGetItem => batch_get_item(alloc, tables, disk, body, moment),
     }
 }

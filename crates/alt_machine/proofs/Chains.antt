@@ -27,6 +27,13 @@ pub one_step : (wants : Wants) (s t : State) → (IsValid s → lack_of wants s 
 unfolding AreSteps
 one_step wants s t h = (h, tt)
 
+-- a write before others
+pub first_step : (wants : Wants) (s t : State) (ts : List State)
+    → (IsValid s → lack_of wants s ≡ None → IsValid t) → AreSteps wants t ts
+    → AreSteps wants s (t ∷ ts)
+unfolding AreSteps
+first_step wants s t ts h rest = (h, rest)
+
 -- ---- behind a test
 
 pub steps-unless : (s : State) (tests : List (Option Answer)) (outcome : Outcome)

@@ -1,3 +1,5 @@
+pub mod Batches
+pub mod Behind
 pub mod Chains
 pub mod Creations
 pub mod Descriptions

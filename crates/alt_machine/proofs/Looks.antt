@@ -1,5 +1,5 @@
 -- What is found after a change of a finite map of texts.
-use Rattle.std.proofs.Common.{◌≡◌, refl, sym, ◌∙◌, ℕ, Bool, true, false, cond, List, Some, None, inl, inr, ◌⊎◌, is_eq}
+use Rattle.std.proofs.Common.{◌≡◌, refl, sym, ap, ◌∙◌, ℕ, Bool, true, false, cond, List, Some, None, inl, inr, ◌⊎◌, is_eq}
 use Rattle.std.specs.declared.cmp.Ordering.{Ordering}
 use Rattle.std.specs.declared.cmp.Ordering.TheVariants.{Less, Equal, Greater}
 use Rattle.std.specs.FinMap.{get-insert, get-remove, get-empty}
@@ -35,3 +35,19 @@ module _ {X : Type 0} (m : Texts X) (k q : List ℕ) (x : X) where
 pub not_there : {X : Type 0} (k : List ℕ) (x : X)
     → map.get (map.empty {X = X} {R = text_order}) k ≡ Some x → ⊥
 not_there {X} k x e = let f : None ≡ Some x = sym (get-empty {X = X} text_order k) ∙ e in cc
+
+-- elsewhere what is found stays
+module _ {X : Type 0} (m : Texts X) (k q : List ℕ) (apart : q ≡ k → ⊥) where
+  is_other : is_eq (text_order q k) ≡ false
+  is_other = by (text_order q k) refl
+    where
+      by : (o : Ordering) → text_order q k ≡ o → is_eq o ≡ false
+      by Less t = refl
+      by Equal t = absurd (apart (text_apart q k t))
+      by Greater t = refl
+
+  pub insert_elsewhere : (v : X) → map.get (map.insert m k v) q ≡ map.get m q
+  insert_elsewhere v = get-insert text_total m k v q ∙ ap (λ b. cond b (Some v) (map.get m q)) is_other
+
+  pub remove_elsewhere : map.get (map.remove m k) q ≡ map.get m q
+  remove_elsewhere = get-remove text_total m k q ∙ ap (λ b. cond b None (map.get m q)) is_other

@@ -2,11 +2,12 @@
 use Rattle.std.proofs.Common.{◌≡◌, ℕ, List, take, Option, Some, None}
 use Rattle.serde_json.specs.Data.{Members}
 use Rattle.alt_machine.specs.declared.Operation.{Operation}
-use Rattle.alt_machine.specs.declared.Operation.TheVariants.{CreateTable, DescribeTable, ListTables, DeleteTable, PutItem, GetItem, DeleteItem, UpdateItem, Query, Scan}
+use Rattle.alt_machine.specs.declared.Operation.TheVariants.{CreateTable, DescribeTable, ListTables, DeleteTable, PutItem, GetItem, DeleteItem, UpdateItem, Query, Scan, BatchWriteItem, BatchGetItem}
 use Rattle.alt_machine.specs.declared.Sought.TheVariants.{Key}
 use Rattle.alt_machine.specs.Expressions.{projecting, querying, scanning}
 use Rattle.alt_machine.specs.Lists.{walk_start}
 use Rattle.alt_machine.specs.Members.{body_of, table_name}
+use Rattle.alt_machine.specs.Ops.BatchGetItem as batch_get
 use Rattle.alt_machine.specs.Ops.DeleteTable as delete
 use Rattle.alt_machine.specs.Ops.DescribeTable as describe
 use Rattle.alt_machine.specs.Ops.GetItem as get
@@ -14,10 +15,11 @@ use Rattle.alt_machine.specs.Ops.ListTables as list
 use Rattle.alt_machine.specs.Ops.Query as query
 use Rattle.alt_machine.specs.Ops.Scan as scan
 use Rattle.alt_machine.specs.Outcomes.{a_number, last_state}
-use Rattle.alt_machine.specs.State.{State}
+use Rattle.alt_machine.specs.State.{State, descriptions}
 use Rattle.alt_machine.specs.Step.{step, operates, with_body}
 use Rattle.alt_machine.specs.Valid.{IsValid}
 use Rattle.alt_machine.specs.Wanted.{lack_among}
+use Rattle.alt_machine.proofs.Batches.{batch_write_steps}
 use Rattle.alt_machine.proofs.Chains.{Steps, no_steps, one_step, steps-unless, steps-found, first_valid}
 use Rattle.alt_machine.proofs.Creations.{create_steps}
 use Rattle.alt_machine.proofs.Lacks.{number_room}
@@ -60,6 +62,11 @@ scan_steps s ms = steps-on_list s (scan.of_body ms) scanning ms (scan.scans ms)
     (λ said start t.
     steps-found s (walk_start t.description None start) _ (λ place starts. no_steps _ s))
 
+batch_get_steps : (s : State) (ms : Members) → Steps s (batch_get.batch_get_item s ms)
+unfolding batch_get.batch_get_item
+batch_get_steps s ms = steps-found s (batch_get.reads_asked (descriptions s.tables) ms) _
+    (λ tables e. no_steps _ s)
+
 operates_steps : (s : State) (op : Operation) (moment : ℕ) (ms : Members)
     → Steps s (operates s op moment ms)
 operates_steps s CreateTable moment ms = create_steps s moment ms
@@ -72,6 +79,8 @@ operates_steps s DeleteItem moment ms = delete_steps s moment ms
 operates_steps s UpdateItem moment ms = update_steps s moment ms
 operates_steps s Query moment ms = query_steps s ms
 operates_steps s Scan moment ms = scan_steps s ms
+operates_steps s BatchWriteItem moment ms = batch_write_steps s moment ms
+operates_steps s BatchGetItem moment ms = batch_get_steps s ms
 
 body_steps : (s : State) (op : Operation) (moment : ℕ) (ms : Option Members)
     → Steps s (with_body s op moment ms)

@@ -1,3 +1,4 @@
+pub mod Batches
 pub mod Body
 pub mod Conditional
 pub mod Expressions

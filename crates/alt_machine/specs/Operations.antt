@@ -3,7 +3,7 @@ use Rattle.std.specs.Prelude.{ℕ, List, [], ◌∷◌, Option, option_map, code
 use Rattle.std.specs.List.{find}
 use Rattle.std.specs.Str.{bytes_eq}
 use Rattle.alt_machine.specs.declared.Operation.{Operation}
-use Rattle.alt_machine.specs.declared.Operation.TheVariants.{CreateTable, DescribeTable, ListTables, DeleteTable, PutItem, GetItem, DeleteItem, UpdateItem, Query, Scan}
+use Rattle.alt_machine.specs.declared.Operation.TheVariants.{CreateTable, DescribeTable, ListTables, DeleteTable, PutItem, GetItem, DeleteItem, UpdateItem, Query, Scan, BatchWriteItem, BatchGetItem}
 
 -- the operations that are built
 abbrev pub operations : List (List ℕ × Operation)
@@ -17,7 +17,9 @@ operations =
     (codes "DeleteItem", DeleteItem) ∷
     (codes "UpdateItem", UpdateItem) ∷
     (codes "Query", Query) ∷
-    (codes "Scan", Scan) ∷ []
+    (codes "Scan", Scan) ∷
+    (codes "BatchWriteItem", BatchWriteItem) ∷
+    (codes "BatchGetItem", BatchGetItem) ∷ []
 
 -- the operation of a name among these
 abbrev pub named_in : List (List ℕ × Operation) → List ℕ → Option Operation

@@ -1,4 +1,6 @@
 -- A file for each operation: its refusals in their order, its new state and its answer.
+pub mod BatchGetItem
+pub mod BatchWriteItem
 pub mod CreateTable
 pub mod DeleteItem
 pub mod DeleteTable

@@ -3,8 +3,10 @@ use Rattle.std.specs.Prelude.{ℕ, List, Option, Some, None}
 use Rattle.serde_json.specs.Data.{Members}
 use Rattle.alt_shape.specs.Refusals.{unknown_operation, unreadable}
 use Rattle.alt_machine.specs.declared.Operation.{Operation}
-use Rattle.alt_machine.specs.declared.Operation.TheVariants.{CreateTable, DescribeTable, ListTables, DeleteTable, PutItem, GetItem, DeleteItem, UpdateItem, Query, Scan}
+use Rattle.alt_machine.specs.declared.Operation.TheVariants.{CreateTable, DescribeTable, ListTables, DeleteTable, PutItem, GetItem, DeleteItem, UpdateItem, Query, Scan, BatchWriteItem, BatchGetItem}
 use Rattle.alt_machine.specs.Members.{body_of}
+use Rattle.alt_machine.specs.Ops.BatchGetItem.{batch_get_item}
+use Rattle.alt_machine.specs.Ops.BatchWriteItem.{batch_write_item}
 use Rattle.alt_machine.specs.Ops.CreateTable.{create_table}
 use Rattle.alt_machine.specs.Ops.DeleteItem.{delete_item}
 use Rattle.alt_machine.specs.Ops.DeleteTable.{delete_table}
@@ -30,6 +32,8 @@ operates s DeleteItem moment ms = delete_item s moment ms
 operates s UpdateItem moment ms = update_item s moment ms
 operates s Query moment ms = query s ms
 operates s Scan moment ms = scan s ms
+operates s BatchWriteItem moment ms = batch_write_item s moment ms
+operates s BatchGetItem moment ms = batch_get_item s ms
 
 -- an operation on a body, if that is one
 abbrev pub with_body : State → Operation → ℕ → Option Members → Outcome

@@ -9,6 +9,8 @@ ghost use Rattle.alt_machine.specs.State.{start};
 ghost use Rattle.alt_machine.specs.Valid.{IsValid};
 
 use alt_expr::{Cond, Paths, Update};
+use alt_fields::Bytes;
+use alt_value::{Item, Text};
 
 /// An operation that is built (DynamoDB API Reference, "Actions").
 #[derive(Clone, Copy, Debug, PartialEq, Eq)]
@@ -23,6 +25,8 @@ pub enum Operation {
     UpdateItem,
     Query,
     Scan,
+    BatchWriteItem,
+    BatchGetItem,
 }
 
 /// What a request has of an item: all of it, at its member Item, or the key alone, at Key.
@@ -42,6 +46,23 @@ pub struct Expressions {
     pub projection: Option<Paths>,
 }
 
+/// A member of a batch: the name of its table, and an item that is put there, or the key of an item.
+#[derive(Drop)]
+pub struct BatchMember {
+    pub table: Text,
+    pub sought: Sought,
+    pub item: Item,
+}
+
+/// A member of a batch with the place in its table that its key gives it.
+#[derive(Drop)]
+pub struct PlacedMember {
+    pub table: Text,
+    pub sought: Sought,
+    pub item: Item,
+    pub place: Bytes,
+}
+
 /// The numbers of writes are below 2^62 - 1.
 pub const NUMBERS_END: u64 = 4_611_686_018_427_387_903;
 
@@ -59,6 +80,15 @@ pub const PAGE_LENGTH: u64 = 100;
 
 /// The most bytes of an item (Developer Guide, "Service, account, and table quotas").
 pub const LARGEST_ITEM: u64 = 409_600;
+
+/// The most writes of a BatchWriteItem (API Reference, "BatchWriteItem").
+pub const MOST_WRITES: usize = 25;
+
+/// The most keys of a BatchGetItem (API Reference, "BatchGetItem").
+pub const MOST_KEYS: usize = 100;
+
+/// The bytes of items with which a BatchGetItem ends: 16 MB.
+pub const BATCH_BYTES: u64 = 16_777_216;
 
 /// The laws of the machine: the state of an empty store is valid, each request leads from a valid state to valid ones, and the items
 /// of a table lie by their keys. It does nothing.

@@ -14,10 +14,9 @@ ghost use Rattle.alt_value.specs.Size.{fields_depth};
 ghost use Rattle.alt_value.specs.Tree.{fields_of};
 
 use crate::changing::item_after;
-use crate::put::item_refusal;
 use alt_expr::{Action, Update};
 use alt_machine::Expressions;
-use alt_request::Stop;
+use alt_request::{Stop, item_refusal};
 use alt_schema::TableSchema;
 use alt_shape::Refusal;
 use alt_tables::{TableFault, Tables};

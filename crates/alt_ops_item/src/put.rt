@@ -2,19 +2,16 @@
 
 ghost use Rattle.std.specs.Prelude.{◌≡◌};
 ghost use Rattle.serde_json.specs.View.{members_view};
-ghost use Rattle.alt_machine.specs.Ops.PutItem.{of_item, put_item};
+ghost use Rattle.alt_machine.specs.Ops.PutItem.{put_item};
 ghost use Rattle.alt_request.specs.Carried.{Carries, Moves};
-ghost use Rattle.alt_request.specs.Steps.{Tested};
 ghost use Rattle.alt_tables.specs.Stands.{AreReady, Stands};
 
 use crate::conditional::write_if;
 use alt_disk::Disk;
-use alt_machine::{LARGEST_ITEM, Sought};
-use alt_request::{Rules, Stop, Target, Texts, item_target};
-use alt_schema::{TableSchema, index_keys_fit};
-use alt_shape::{Refusal, Reply, bodies};
+use alt_machine::Sought;
+use alt_request::{Rules, Stop, Target, Texts, item_refusal, item_target};
+use alt_shape::{Reply, bodies};
 use alt_tables::Tables;
-use alt_value::{Item, item_size_within};
 use serde_json::{Map, Value};
 use std::alloc::Global;
 
@@ -64,17 +61,4 @@ pub fn put_item<D: Disk>(
         ..
     } = target;
     write_if(alloc, tables, disk, body, said, place, Some(item), moment)
-}
-
-/// Why an item is refused in its table, beside its key.
-pub(crate) fn item_refusal(schema: &TableSchema, item: &Item) -> Result<(), Stop>
-    ensures tested { Tested (of_item schema.now item.now) result }
-{
-    if !index_keys_fit(schema, item) {
-        return Err(Stop::Refused(Refusal::BAD_INDEX_KEY));
-    }
-    if item_size_within(item, LARGEST_ITEM).is_none() {
-        return Err(Stop::Refused(Refusal::ITEM_TOO_LARGE));
-    }
-    Ok(())
 }

@@ -1,4 +1,5 @@
 pub mod Carrying
+pub mod Founds
 pub mod Listing
 pub mod Named
 pub mod Reaching

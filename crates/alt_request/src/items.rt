@@ -5,9 +5,10 @@ ghost use Rattle.serde_json.specs.View.{view, members_view};
 ghost use Rattle.alt_codec.specs.Reading.{item_in};
 ghost use Rattle.alt_machine.specs.Keys.{place_of, key_count, byte_count, is_within, key_fits};
 ghost use Rattle.alt_machine.specs.Members.{item_at, unless_fault};
+ghost use Rattle.alt_machine.specs.Ops.PutItem.{of_item};
 ghost use Rattle.alt_machine.specs.Targets.{member_of, place_in};
 ghost use Rattle.alt_machine.specs.Refusals.{or_refused, value_refusal, number_refusal};
-ghost use Rattle.alt_request.specs.Steps.{Comes};
+ghost use Rattle.alt_request.specs.Steps.{Comes, Tested};
 ghost use Rattle.alt_shape.specs.Refusals.{IsKnown, bad_key};
 ghost use Rattle.alt_value.specs.Stands.{tree_of};
 
@@ -15,11 +16,11 @@ use crate::stop::Stop;
 use alt_codec::{ValueFault, item_of_json};
 use alt_decimal::NumberFault;
 use alt_fields::Bytes;
-use alt_machine::Sought;
-use alt_schema::{KeyAttr, TableSchema};
+use alt_machine::{LARGEST_ITEM, Sought};
+use alt_schema::{KeyAttr, TableSchema, index_keys_fit};
 use alt_shape::{Refusal, given};
 use alt_tables::{TableFault, place_of};
-use alt_value::{Attr, Item};
+use alt_value::{Attr, Item, item_size_within};
 use serde_json::{Map, Value};
 use std::alloc::Global;
 
@@ -103,6 +104,19 @@ fn key_count(schema: &TableSchema) -> usize
         Some(_) => 2,
         None => 1,
     }
+}
+
+/// Why an item is refused in its table, beside its key.
+pub fn item_refusal(schema: &TableSchema, item: &Item) -> Result<(), Stop>
+    ensures tested { Tested (of_item schema.now item.now) result }
+{
+    if !index_keys_fit(schema, item) {
+        return Err(Stop::Refused(Refusal::BAD_INDEX_KEY));
+    }
+    if item_size_within(item, LARGEST_ITEM).is_none() {
+        return Err(Stop::Refused(Refusal::ITEM_TOO_LARGE));
+    }
+    Ok(())
 }
 
 /// Whether the values of the key are short enough.

@@ -1,6 +1,9 @@
 //! What every operation does with its body: what is refused before its own work begins, and how it stops.
 #![tactic(auto)]
 
+mod batch;
+mod batch_reads;
+mod batch_writes;
 mod body;
 mod expressions;
 mod items;
@@ -11,9 +14,11 @@ mod stop;
 mod targets;
 mod texts;
 
+pub use batch_reads::{TableReads, reads_asked};
+pub use batch_writes::writes_asked;
 pub use body::{Rules, body_refusal, table_name};
 pub use expressions::Texts;
-pub use items::number_refusal;
+pub use items::{item_refusal, number_refusal};
 pub use lists::{ListTarget, list_target};
 pub use replies::{asks, done, one_member, refuse_with_item};
 pub use stop::Stop;

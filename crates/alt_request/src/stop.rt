@@ -5,6 +5,7 @@ ghost use Rattle.std.specs.Prelude.{◌≡◌};
 use alt_base::NoMemory;
 use alt_shape::Refusal;
 use alt_tables::TableFault;
+use std::alloc::{AllocError, AllocFailed};
 
 /// A request is refused, or a fault ends the run.
 #[derive(Debug, Drop)]
@@ -40,6 +41,28 @@ impl From<NoMemory> for Stop {
     ghost from_gives = { λ _ s. s ≡ stop.Fault fault.NoMemory };
 
     fn from(_: NoMemory) -> Self {
+        Stop::Fault(TableFault::NoMemory)
+    }
+}
+
+impl From<AllocError> for Stop {
+    ghost use Rattle.alt_request.specs.declared.stop.Stop.TheVariants as stop;
+    ghost use Rattle.alt_tables.specs.declared.faults.TableFault.TheVariants as fault;
+
+    ghost from_gives = { λ _ s. s ≡ stop.Fault fault.NoMemory };
+
+    fn from(_: AllocError) -> Self {
+        Stop::Fault(TableFault::NoMemory)
+    }
+}
+
+impl<T: Drop> From<AllocFailed<T>> for Stop {
+    ghost use Rattle.alt_request.specs.declared.stop.Stop.TheVariants as stop;
+    ghost use Rattle.alt_tables.specs.declared.faults.TableFault.TheVariants as fault;
+
+    ghost from_gives = { λ _ s. s ≡ stop.Fault fault.NoMemory };
+
+    fn from(_: AllocFailed<T>) -> Self {
         Stop::Fault(TableFault::NoMemory)
     }
 }

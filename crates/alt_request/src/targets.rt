@@ -80,7 +80,7 @@ pub fn item_target<'t>(
 }
 
 /// The place of an item or a key, where it has one and its key isn't too long.
-fn fitting_place(
+pub(crate) fn fitting_place(
     alloc: Global,
     sought: Sought,
     schema: &TableSchema,

@@ -11,6 +11,7 @@ pub mod ChangeLaws
 pub mod ItemRowLaws
 pub mod OneState
 pub mod WriteLaws
+pub mod Behind
 pub mod CatalogLaws
 pub mod Columns
 pub mod OneColumn

@@ -109,6 +109,9 @@ impl Tables {
         ensures goes { Goes (D.state disk.old) (D.state disk.new) }
         // On every disk: a call that answers that there was nothing to write makes no call of the disk.
         ensures unchanged { result ≡ Ok None → D.state disk.new ≡ D.state disk.old }
+        // Where there is nothing to write it never fails.
+        ensures idle { is_same found.item new ≡ true → result ≡ Ok None }
+        ensures catalog { catalog_of self.new ≡ catalog_of self.old }
         ensures cause { IsErrOf result TableFault.Failed
             → Rose (D.state disk.old).faults (D.state disk.new).faults }
     {

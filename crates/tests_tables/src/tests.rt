@@ -1,4 +1,5 @@
 mod asking;
+mod batches;
 mod conditions;
 mod failures;
 mod stops;

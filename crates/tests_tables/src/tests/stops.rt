@@ -4,6 +4,7 @@ ghost use Rattle.alt_disk.specs.MemoryState.{state_of};
 ghost use Rattle.alt_tables.specs.Stands.{AreReady};
 
 use super::asking::{Request, WRITES, asked, empty, known, opened};
+use super::batches::{BATCHES, MEMBERS};
 use super::conditions::CONDITIONS;
 use super::updates::UPDATES;
 use alt_disk::MemoryDisk;
@@ -111,6 +112,94 @@ fn a_stop_leaves_each_update_whole_or_not_at_all(rt: HostRuntime) {
         assert!(rt;
             stops_at(rt.alloc(), &UPDATES, number) == Some(true),
             "request {number}"
+        );
+    }
+}
+
+// What the store is known by behind the first so many batches, and then behind each of these writes.
+fn states_of(alloc: Global, number: usize, members: &[Request]) -> Option<Vec<Vec<String>>> {
+    let mut disk = empty(alloc)?;
+    let mut tables = opened(alloc, &mut disk)?;
+    for request in BATCHES.iter().take(number) {
+        let _ = asked(alloc, &mut tables, &mut disk, request)?;
+    }
+    let mut states = Vec::new(alloc);
+    states.push(known(alloc, &mut tables, &mut disk)?).ok()?;
+    for request in members {
+        let _ = asked(alloc, &mut tables, &mut disk, request)?;
+        states.push(known(alloc, &mut tables, &mut disk)?).ok()?;
+    }
+    Some(states)
+}
+
+// Whether a stop at this moment leaves one of these states, whatever it picks.
+fn leaves_some(
+    alloc: Global,
+    disk: &MemoryDisk,
+    moment: u64,
+    states: &[Vec<String>],
+) -> Option<bool> {
+    for choice in &CHOICES {
+        let state = left(alloc, disk, moment, choice)?;
+        if !states.iter().any(|one| one.as_slice() == state.as_slice()) {
+            return Some(false);
+        }
+    }
+    Some(true)
+}
+
+// Whether stops at the moments of a batch leave one of these states, and at its end the last of them.
+fn stops_among(
+    alloc: Global,
+    disk: &MemoryDisk,
+    from: u64,
+    to: u64,
+    states: &[Vec<String>],
+) -> Option<bool> {
+    for moment in from..to {
+        if !leaves_some(alloc, disk, moment, states)? {
+            return Some(false);
+        }
+    }
+    let last = states.last()?;
+    leaves_either(alloc, disk, to, last, last)
+}
+
+// Whether a stop at each moment of the batch with that number leaves the first of its members that change something: none, some or all
+// of them, and all at its end.
+fn batch_stops(alloc: Global, number: usize, members: &[Request]) -> Option<bool> {
+    let states = states_of(alloc, number, members)?;
+    let mut disk = empty(alloc)?;
+    let mut tables = opened(alloc, &mut disk)?;
+    for request in BATCHES.iter().take(number) {
+        let _ = asked(alloc, &mut tables, &mut disk, request)?;
+    }
+    let (from, _) = disk.counts();
+    let _ = asked(alloc, &mut tables, &mut disk, BATCHES.get(number)?)?;
+    let (to, _) = disk.counts();
+    stops_among(alloc, &disk, from, to, &states)
+}
+
+#[test]
+fn a_stop_leaves_the_first_members_of_a_batch(rt: HostRuntime) {
+    for (number, members) in [
+        (2, MEMBERS[0]),
+        (3, MEMBERS[1]),
+        (8, MEMBERS[2]),
+    ] {
+        assert!(rt;
+            batch_stops(rt.alloc(), number, members) == Some(true),
+            "batch {number}"
+        );
+    }
+}
+
+#[test]
+fn a_stop_leaves_the_state_of_a_batch_that_changes_nothing(rt: HostRuntime) {
+    for number in 4..8 {
+        assert!(rt;
+            stops_at(rt.alloc(), &BATCHES, number) == Some(true),
+            "batch {number}"
         );
     }
 }

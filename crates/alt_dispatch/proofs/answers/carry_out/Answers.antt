@@ -77,3 +77,15 @@ returns-in-Scan-clause-carried g c =
     carried_as c.args.operation _ c.in-Scan.is c.args.moment (members_view c.args.body.now.entries)
     (Stands (g.D.Disk.state c.args.disk.now) c.args.tables.now)
     (Stands (g.D.Disk.state c.scan.new.disk) c.scan.new.tables) c.scan.result c.scan.ensures.carried
+
+pub returns-in-BatchWriteItem-clause-carried : goal.returns-in-BatchWriteItem-clause-carried
+returns-in-BatchWriteItem-clause-carried g c =
+    carried_as c.args.operation _ c.in-BatchWriteItem.is c.args.moment (members_view c.args.body.now.entries)
+    (Stands (g.D.Disk.state c.args.disk.now) c.args.tables.now)
+    (Stands (g.D.Disk.state c.batch_write_item.new.disk) c.batch_write_item.new.tables) c.batch_write_item.result c.batch_write_item.ensures.carried
+
+pub returns-in-BatchGetItem-clause-carried : goal.returns-in-BatchGetItem-clause-carried
+returns-in-BatchGetItem-clause-carried g c =
+    carried_as c.args.operation _ c.in-BatchGetItem.is c.args.moment (members_view c.args.body.now.entries)
+    (Stands (g.D.Disk.state c.args.disk.now) c.args.tables.now)
+    (Stands (g.D.Disk.state c.batch_get_item.new.disk) c.batch_get_item.new.tables) c.batch_get_item.result c.batch_get_item.ensures.carried

@@ -1,0 +1,56 @@
+-- Members that are looked up, one after another.
+use Rattle.std.proofs.Common.{◌≡◌, refl, sym, ap, subst, ◌∙◌, List, [], ◌∷◌, ◌++◌, map, append_assoc, append-nil}
+use Rattle.std.specs.Prelude.{◌↔◌}
+use Rattle.std.proofs.lemmas.List.{map-append}
+use Rattle.alt_disk.specs.Disk.{DiskState}
+use Rattle.alt_machine.specs.declared.PlacedMember.{PlacedMember}
+use Rattle.alt_machine.specs.Ops.BatchWriteItem.{Written, written_by}
+use Rattle.alt_machine.specs.State.{State, Texts}
+use Rattle.alt_ops_batch.specs.Changed.{Every, written_at, MayWrite, IsFound}
+use Rattle.alt_ops_batch.specs.declared.write.Change.{Change}
+use Rattle.alt_schema.specs.declared.schema.TableSchema.{TableSchema}
+use Rattle.alt_tables.specs.Stands.{AreReady, KeepsCatalog, Reads, Stands, catalog_of}
+use Rattle.alt_tables.specs.declared.tables.Tables.{Tables}
+use Rattle.alt_tables.proofs.Left.{reads_then, ready_on}
+
+-- what holds of a list holds of it with one more
+pub every_more : {A : Type 0} (P : A → Type 0) (xs : List A) (x : A) → Every P xs → P x
+    → Every P (xs ++ x ∷ [])
+every_more P [] x h p = (p, tt)
+every_more P (y ∷ ys) x h p = (h.0, every_more P ys x h.1 p)
+
+-- The first of the members are looked up.
+pub record AreFound (before : DiskState) (old : Tables) (after : DiskState) (now : Tables)
+    (members rest : List PlacedMember) (changes : List Change) : Type 0 where
+  pub reads : Reads before after
+  pub stays : (s : State) → Stands before old s ↔ Stands after now s
+  pub catalog : KeepsCatalog old now
+  pub written : map written_at changes ++ map written_by rest ≡ map written_by members
+  pub may : Every (MayWrite (catalog_of old)) (map written_by rest)
+  pub found : (s : State) → Stands before old s → Every (IsFound s) changes
+
+-- so is one more
+pub found_one : (before mid after : DiskState) (old now new : Tables)
+    (members rest : List PlacedMember) (m : PlacedMember) (changes : List Change) (c : Change)
+    → AreFound before old mid now members (m ∷ rest) changes → Reads mid after
+    → ((s : State) → Stands mid now s ↔ Stands after new s) → KeepsCatalog now new
+    → written_at c ≡ written_by m → ((s : State) → Stands mid now s → IsFound s c)
+    → AreFound before old after new members rest (changes ++ c ∷ [])
+found_one before mid after old now new members rest m changes c so reads stays keeps same found = record {
+  reads = reads_then before mid after so.reads reads;
+  stays = λ s. (
+    λ stands. (stays s).0 ((so.stays s).0 stands),
+    λ stands. (so.stays s).1 ((stays s).1 stands),
+  );
+  catalog = record {
+    catalog = keeps.catalog ∙ so.catalog.catalog;
+    number = keeps.number ∙ so.catalog.number;
+    family = keeps.family ∙ so.catalog.family;
+  };
+  written = ap (λ l. l ++ map written_by rest) (map-append written_at changes (c ∷ []))
+      ∙ append_assoc (map written_at changes) (written_at c ∷ []) (map written_by rest)
+      ∙ ap (λ (w : Written). map written_at changes ++ w ∷ map written_by rest) same ∙ so.written;
+  may = so.may.1;
+  found = λ s stands. every_more (IsFound s) changes c (so.found s stands)
+      (found s ((so.stays s).0 stands));
+}

@@ -1,0 +1,191 @@
+-- The members are refused, or they are looked up, and what they leave is written.
+use Rattle.std.proofs.Common.{◌≡◌, refl, sym, ap, subst, ◌∙◌, List, map, Ok, Err}
+use Rattle.serde_json.specs.Data.{Members}
+use Rattle.serde_json.specs.View.{members_view}
+use Rattle.alt_disk.specs.Disk.{DiskState}
+use Rattle.alt_machine.specs.declared.PlacedMember.{PlacedMember}
+use Rattle.alt_machine.specs.Ops.BatchWriteItem.{Written, all_processed, batch_write_item, written_by, writes_asked, writes_of_all}
+use Rattle.alt_machine.specs.Outcomes.{Outcome, a_number, writes, with_found}
+use Rattle.alt_machine.specs.State.{State, descriptions, Texts}
+use Rattle.alt_ops_batch.specs.Changed.{AreAllApart, Every, MayWrite}
+use Rattle.alt_ops_batch.proofs.Asked.{asked_may_write, all_apart}
+use Rattle.alt_machine.proofs.Batches.{asked_once}
+use Rattle.alt_ops_batch.proofs.Stopping.{asked_is, asked_passed, asked_unfailed}
+use Rattle.alt_ops_batch.proofs.Writes.{write_is, go}
+use Rattle.alt_request.specs.Carried.{Carries, Moves}
+use Rattle.alt_request.specs.declared.stop.Stop.TheVariants.{Fault}
+use Rattle.alt_request.proofs.Carrying.{broke_off, faulted_as, unfound, wrote}
+use Rattle.alt_request.proofs.Moving.{failed_fault, memory_unfailed, moves_reads, moves_stopped, writes_move}
+use Rattle.alt_request.proofs.Reaching.{err_is}
+use Rattle.alt_schema.specs.declared.schema.TableSchema.{TableSchema}
+use Rattle.alt_tables.specs.Faults.{AreMade, BreakOff}
+use Rattle.alt_tables.specs.Images.{Leaves}
+use Rattle.alt_tables.specs.Stands.{Stands, catalog_of}
+use Rattle.alt_tables.proofs.Left.{ready_on}
+use Rattle.alt_ops_batch.proofs.write.batch_write_item.Goals as goal
+
+pub returns-in_err-members-clause-carried : goal.returns-in_err-members-clause-carried
+returns-in_err-members-clause-carried g c =
+    let ms : Members = members_view c.args.body.now.entries in
+    asked_passed (g.D.Disk.state c.args.disk.now) c.args.tables.now (λ v. v.items)
+    (λ catalog. writes_asked catalog ms) (λ s. batch_write_item s c.args.moment ms)
+    (go c.args.moment) (write_is c.args.moment ms)
+    (Stands (g.D.Disk.state c.args.disk.now) c.args.tables.now) c.from_residual.result
+    c.in_err-members.field-0.0 c.from_residual.ensures c.in_err-members.ensures.asked
+    (λ s stands. stands)
+
+pub returns-in_err-members-clause-moves : goal.returns-in_err-members-clause-moves
+returns-in_err-members-clause-moves g c =
+    let ms : Members = members_view c.args.body.now.entries in
+    moves_stopped (λ s. batch_write_item s c.args.moment ms) c.args.tables.now
+    (g.D.Disk.state c.args.disk.now) c.from_residual.result c.in_err-members.field-0.0
+    c.from_residual.ensures
+    (asked_unfailed _ (λ v. v.items) (writes_asked (catalog_of c.args.tables.now) ms)
+    c.in_err-members.field-0.0 c.in_err-members.ensures.asked)
+
+pub find_all-changes-requires-clause-may : goal.find_all-changes-requires-clause-may
+find_all-changes-requires-clause-may g c = asked_may_write (catalog_of c.args.tables.now)
+    (members_view c.args.body.now.entries) c.in_ok-members.members.items
+    c.in_ok-members.ensures.asked
+
+pub returns-in_err-changes-clause-carried : goal.returns-in_err-changes-clause-carried
+returns-in_err-changes-clause-carried g c =
+    let ms : Members = members_view c.args.body.now.entries in
+    let now : State → Type 0 = Stands (g.D.Disk.state c.find_all.new.disk) c.find_all.new.tables in
+    subst (Carries (λ s. batch_write_item s c.args.moment ms)
+    (Stands (g.D.Disk.state c.args.disk.now) c.args.tables.now) now)
+    (sym (err_is c.from_residual-in_err-changes.result (Fault c.in_err-changes.field-0.0)
+    c.from_residual-in_err-changes.ensures))
+    (unfound (λ s. batch_write_item s c.args.moment ms)
+    (Stands (g.D.Disk.state c.args.disk.now) c.args.tables.now) now c.in_err-changes.field-0.0
+    c.in_err-changes.ensures.fault (λ s stands. (c.in_err-changes.ensures.stays s).0 stands))
+
+pub returns-in_err-changes-clause-moves : goal.returns-in_err-changes-clause-moves
+returns-in_err-changes-clause-moves g c =
+    let before : DiskState = g.D.Disk.state c.args.disk.now in
+    let after : DiskState = g.D.Disk.state c.find_all.new.disk in
+    subst (Moves _ _ before after)
+    (sym (err_is c.from_residual-in_err-changes.result (Fault c.in_err-changes.field-0.0)
+    c.from_residual-in_err-changes.ensures))
+    (moves_reads _ c.args.tables.now before after (Err (Fault c.in_err-changes.field-0.0))
+    c.in_err-changes.ensures.disk
+    (failed_fault c.in_err-changes.field-0.0 _ c.in_err-changes.ensures.cause))
+
+pub returns-in_err-reply-clause-carried : goal.returns-in_err-reply-clause-carried
+returns-in_err-reply-clause-carried g c =
+    let ms : Members = members_view c.args.body.now.entries in
+    let now : State → Type 0 = Stands (g.D.Disk.state c.find_all.new.disk) c.find_all.new.tables in
+    subst (Carries (λ s. batch_write_item s c.args.moment ms)
+    (Stands (g.D.Disk.state c.args.disk.now) c.args.tables.now) now)
+    (sym (err_is c.from_residual-in_err-reply.result c.in_err-reply.field-0.0
+    c.from_residual-in_err-reply.ensures))
+    (faulted_as (λ s. batch_write_item s c.args.moment ms)
+    (Stands (g.D.Disk.state c.args.disk.now) c.args.tables.now) now c.in_err-reply.field-0.0
+    c.in_err-reply.ensures.cause (λ s stands. (c.in_ok-changes.ensures.stays s).0 stands))
+
+pub returns-in_err-reply-clause-moves : goal.returns-in_err-reply-clause-moves
+returns-in_err-reply-clause-moves g c =
+    let before : DiskState = g.D.Disk.state c.args.disk.now in
+    let after : DiskState = g.D.Disk.state c.find_all.new.disk in
+    subst (Moves _ _ before after) (sym (err_is c.from_residual-in_err-reply.result
+    c.in_err-reply.field-0.0 c.from_residual-in_err-reply.ensures))
+    (moves_reads _ c.args.tables.now before after (Err c.in_err-reply.field-0.0)
+    c.in_ok-changes.ensures.disk
+    (memory_unfailed _ c.in_err-reply.field-0.0 c.in_err-reply.ensures.cause))
+
+pub write_all-requires : goal.write_all-requires
+write_all-requires g c =
+    let ms : Members = members_view c.args.body.now.entries in
+    let there : List PlacedMember = c.in_ok-members.members.items in
+    let catalog : Texts TableSchema = catalog_of c.args.tables.now in
+    record {
+      ready = ready_on (g.D.Disk.state c.args.disk.now) (g.D.Disk.state c.find_all.new.disk)
+          c.args.tables.now c.find_all.new.tables c.in_ok-changes.ensures.disk.goes
+          c.in_ok-changes.ensures.stays c.requires.ready;
+      may = subst (λ (k : Texts TableSchema). Every (MayWrite k) _)
+          (sym c.in_ok-changes.ensures.catalog.catalog)
+          (subst (Every (MayWrite catalog)) (sym c.in_ok-changes.ensures.written)
+          (asked_may_write catalog ms there c.in_ok-members.ensures.asked));
+      apart = subst AreAllApart (sym c.in_ok-changes.ensures.written)
+          (all_apart there (asked_once catalog ms there c.in_ok-members.ensures.asked));
+      found = λ s stands. c.in_ok-changes.ensures.found s
+          ((c.in_ok-changes.ensures.stays s).1 stands);
+    }
+
+pub returns-in_err-write_all-clause-carried : goal.returns-in_err-write_all-clause-carried
+returns-in_err-write_all-clause-carried g c =
+    let ms : Members = members_view c.args.body.now.entries in
+    let now : State → Type 0 = Stands (g.D.Disk.state c.write_all.new.disk) c.write_all.new.tables in
+    subst (Carries (λ s. batch_write_item s c.args.moment ms)
+    (Stands (g.D.Disk.state c.args.disk.now) c.args.tables.now) now)
+    (sym (err_is c.from_residual-in_err-write_all.result (Fault c.in_err-write_all.field-0.0)
+    c.from_residual-in_err-write_all.ensures))
+    (broke_off (λ s. batch_write_item s c.args.moment ms)
+    (Stands (g.D.Disk.state c.args.disk.now) c.args.tables.now) now c.in_err-write_all.field-0.0
+    a_number (λ s stands. (
+      writes_of_all s c.args.moment (map written_by c.in_ok-members.members.items),
+      all_processed,
+      asked_is (g.D.Disk.state c.args.disk.now) c.args.tables.now (λ v. v.items)
+          (λ catalog. writes_asked catalog ms) (λ s. batch_write_item s c.args.moment ms)
+          (go c.args.moment) (write_is c.args.moment ms) c.in_ok-members.members
+          c.in_ok-members.ensures.asked s stands,
+      subst (λ ws. BreakOff now a_number s (writes_of_all s c.args.moment ws)
+          c.in_err-write_all.field-0.0) c.in_ok-changes.ensures.written
+          (c.in_err-write_all.ensures.writes s ((c.in_ok-changes.ensures.stays s).0 stands)),
+    )))
+
+pub returns-clause-carried : goal.returns-clause-carried
+returns-clause-carried g c =
+    let ms : Members = members_view c.args.body.now.entries in
+    let now : State → Type 0 = Stands (g.D.Disk.state c.write_all.new.disk) c.write_all.new.tables in
+    wrote (λ s. batch_write_item s c.args.moment ms)
+    (Stands (g.D.Disk.state c.args.disk.now) c.args.tables.now) now c.in_ok-reply.reply
+    c.in_ok-reply.ensures.plain a_number (λ s stands. (
+      writes_of_all s c.args.moment (map written_by c.in_ok-members.members.items),
+      asked_is (g.D.Disk.state c.args.disk.now) c.args.tables.now (λ v. v.items)
+          (λ catalog. writes_asked catalog ms) (λ s. batch_write_item s c.args.moment ms)
+          (go c.args.moment) (write_is c.args.moment ms) c.in_ok-members.members
+          c.in_ok-members.ensures.asked s stands
+          ∙ ap (writes (writes_of_all s c.args.moment
+          (map written_by c.in_ok-members.members.items))) (sym c.in_ok-reply.ensures.reply),
+      subst (λ ws. AreMade now a_number s (writes_of_all s c.args.moment ws))
+          c.in_ok-changes.ensures.written
+          (c.in_ok-write_all.ensures.writes s ((c.in_ok-changes.ensures.stays s).0 stands)),
+    ))
+
+pub returns-in_err-write_all-clause-moves : goal.returns-in_err-write_all-clause-moves
+returns-in_err-write_all-clause-moves g c =
+    let ms : Members = members_view c.args.body.now.entries in
+    let before : DiskState = g.D.Disk.state c.args.disk.now in
+    let read : DiskState = g.D.Disk.state c.find_all.new.disk in
+    let after : DiskState = g.D.Disk.state c.write_all.new.disk in
+    subst (Moves _ _ before after) (sym (err_is c.from_residual-in_err-write_all.result
+    (Fault c.in_err-write_all.field-0.0) c.from_residual-in_err-write_all.ensures))
+    (writes_move _ _ c.args.tables.now before (λ s stands. stands) read after
+    (Err (Fault c.in_err-write_all.field-0.0)) c.in_ok-changes.ensures.disk
+    c.in_err-write_all.ensures.goes
+    (λ s stands. subst (λ (o : Outcome). Leaves read after s o.atoms)
+    (sym (asked_is before c.args.tables.now (λ v. v.items) (λ catalog. writes_asked catalog ms)
+    (λ s. batch_write_item s c.args.moment ms) (go c.args.moment) (write_is c.args.moment ms)
+    c.in_ok-members.members c.in_ok-members.ensures.asked s stands))
+    (subst (λ ws. Leaves read after s (writes_of_all s c.args.moment ws))
+    c.in_ok-changes.ensures.written
+    (c.in_err-write_all.ensures.leaves s ((c.in_ok-changes.ensures.stays s).0 stands))))
+    tt (failed_fault c.in_err-write_all.field-0.0 _ c.in_err-write_all.ensures.cause))
+
+pub returns-clause-moves : goal.returns-clause-moves
+returns-clause-moves g c =
+    let ms : Members = members_view c.args.body.now.entries in
+    let before : DiskState = g.D.Disk.state c.args.disk.now in
+    let read : DiskState = g.D.Disk.state c.find_all.new.disk in
+    let after : DiskState = g.D.Disk.state c.write_all.new.disk in
+    writes_move _ _ c.args.tables.now before (λ s stands. stands) read after
+    (Ok c.in_ok-reply.reply) c.in_ok-changes.ensures.disk c.in_ok-write_all.ensures.goes
+    (λ s stands. subst (λ (o : Outcome). Leaves read after s o.atoms)
+    (sym (asked_is before c.args.tables.now (λ v. v.items) (λ catalog. writes_asked catalog ms)
+    (λ s. batch_write_item s c.args.moment ms) (go c.args.moment) (write_is c.args.moment ms)
+    c.in_ok-members.members c.in_ok-members.ensures.asked s stands))
+    (subst (λ ws. Leaves read after s (writes_of_all s c.args.moment ws))
+    c.in_ok-changes.ensures.written
+    (c.in_ok-write_all.ensures.leaves s ((c.in_ok-changes.ensures.stays s).0 stands))))
+    tt tt

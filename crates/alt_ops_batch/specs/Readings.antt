@@ -1,0 +1,85 @@
+-- What a BatchGetItem has read, as the machine has it.
+use Rattle.std.specs.Prelude.{◌≡◌, ℕ, ◌+◌, ◌≤◌, true, false, List, [], ◌∷◌, ◌++◌, length, map, drop, sum_by, Option, Some, None, Result, Ok, Err}
+use Rattle.std.specs.FinMap as finite
+use Rattle.std.specs.List.{filter_map}
+use Rattle.serde_json.specs.View.{view, items_view, members_view}
+use Rattle.serde_json.specs.declared.value.Value.{Value}
+use Rattle.alt_codec.specs.Writing.{json_of_pairs}
+use Rattle.alt_tables.specs.Faults.{IsFindFault}
+use Rattle.serde_json.specs.Written.{items_have_float, members_have_float}
+use Rattle.alt_machine.specs.declared.PlacedMember.{PlacedMember}
+use Rattle.alt_machine.specs.declared.TheConstants.{BATCH_BYTES, LARGEST_ITEM}
+use Rattle.alt_machine.specs.Lists.{items_json}
+use Rattle.alt_machine.specs.Ops.BatchGetItem as machine
+use Rattle.alt_machine.specs.Ops.BatchGetItem.{Shown, found_at, size_at, read_of}
+use Rattle.alt_machine.specs.Ops.GetItem.{parts}
+use Rattle.alt_machine.specs.State.{State, Texts}
+use Rattle.alt_ops_batch.specs.Changed.{Every}
+use Rattle.alt_ops_batch.specs.declared.reading.Read.{Read}
+use Rattle.alt_ops_batch.specs.declared.reading.Taken.{Taken}
+use Rattle.alt_request.specs.Carried.{WhereFailed}
+use Rattle.alt_request.specs.declared.stop.Stop.{Stop}
+use Rattle.alt_request.specs.declared.stop.Stop.TheVariants.{Refused, Fault}
+use Rattle.alt_request.specs.declared.batch_reads.TableReads.{TableReads}
+use Rattle.alt_schema.specs.declared.schema.TableSchema.{TableSchema}
+
+-- what is there, as a list
+abbrev pub option_to_list : {A : Type 0} → Option A → List A
+option_to_list None = []
+option_to_list (Some x) = x ∷ []
+
+-- what is read so far
+abbrev pub read_so : Read → machine.Read
+read_so read = record {
+  size = read.size;
+  responses = members_view read.responses.entries;
+  unprocessed = members_view read.unprocessed.entries;
+}
+
+-- No float stands in it.
+pub record IsPlainRead (read : Read) : Type 0 where
+  pub responses : members_have_float (members_view read.responses.entries) ≡ false
+  pub unprocessed : members_have_float (members_view read.unprocessed.entries) ≡ false
+
+-- the sizes so far are less than what ends a batch and one item more
+abbrev pub IsBounded : ℕ → Type 0
+IsBounded size = size ≤ BATCH_BYTES + LARGEST_ITEM
+
+-- the tables of all keys are there
+abbrev pub AreKnown : Texts TableSchema → List PlacedMember → Type 0
+AreKnown catalog keys = Every (λ (k : PlacedMember). finite.contains_key catalog k.table ≡ true) keys
+
+abbrev pub AreAllKnown : Texts TableSchema → List TableReads → Type 0
+AreAllKnown catalog asked = Every (λ (r : TableReads). AreKnown catalog r.keys.items) asked
+
+-- Of keys these items are taken from a size on, up to this one, and these keys are left.
+pub record IsTaken (s : State) (paths : Shown) (before : ℕ) (keys : List PlacedMember) (taken : Taken)
+    (after : ℕ) : Type 0 where
+  pub items : items_view taken.items.items
+      ≡ items_json (map (parts paths) (filter_map (found_at s) (read_of s before keys)))
+  pub left : items_view taken.left.items
+      ≡ items_json (map (λ (k : PlacedMember). k.item) (drop (length (read_of s before keys)) keys))
+  pub size : after ≡ before + sum_by (size_at s) (read_of s before keys)
+
+-- The item at a key is shown behind those before it, where one stands there.
+abbrev pub ShowsMore : State → Shown → PlacedMember → List Value → List Value → Type 0
+ShowsMore s paths key old new = map view new
+    ≡ map view old ++ map (λ i. json_of_pairs (parts paths i)) (option_to_list (found_at s key))
+
+-- No float stands among them.
+pub record IsPlainTaken (taken : Taken) : Type 0 where
+  pub items : items_have_float (items_view taken.items.items) ≡ false
+  pub left : items_have_float (items_view taken.left.items) ≡ false
+
+-- ---- how it stops
+
+-- by a fault of a call that reads
+abbrev pub IsFault : Stop → Type 0
+IsFault (Refused r) = ⊥
+IsFault (Fault f) = IsFindFault f
+
+-- by a fault, and where the device failed this holds
+abbrev pub IfErrFailed : {A : Type 0} → Result A Stop → Type 0 → Type 0
+IfErrFailed (Ok x) P = Unit {0}
+IfErrFailed (Err (Refused r)) P = ⊥
+IfErrFailed (Err (Fault f)) P = WhereFailed f P

@@ -1,0 +1,10 @@
+//! The operations on batches: BatchWriteItem and BatchGetItem (DynamoDB API Reference, "Actions"; docs/API.md).
+#![tactic(auto)]
+
+mod get;
+mod reading;
+mod replies;
+mod write;
+
+pub use get::batch_get_item;
+pub use write::batch_write_item;

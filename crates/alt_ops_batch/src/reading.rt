@@ -1,0 +1,209 @@
+//! Reading the keys of a batch, table by table, until the sizes of the items have reached 16 MB.
+
+ghost use Rattle.std.specs.Prelude.{◌≡◌, ◌↔◌, ◌+◌, ◌≤◌, All, IfOk, IfErr, OnOk, ◌<◌, true, false, map as each, fold};
+ghost use Rattle.std.specs.FinMap as map;
+ghost use Rattle.serde_json.specs.View.{items_view};
+ghost use Rattle.serde_json.specs.Written.{items_have_float};
+ghost use Rattle.alt_base.specs.Counts.{Rose};
+ghost use Rattle.alt_machine.specs.Ops.BatchGetItem as machine;
+ghost use Rattle.alt_machine.specs.State.{State};
+ghost use Rattle.alt_ops_batch.specs.Readings.{AreAllKnown, AreKnown, IsBounded, IsPlainRead, IsFault, IfErrFailed, IsPlainTaken, IsTaken, ShowsMore, read_so};
+ghost use Rattle.alt_request.specs.Batches.{HasPlainNames, reads_of};
+ghost use Rattle.alt_value.specs.Size.{item_size};
+ghost use Rattle.alt_tables.specs.Stands.{AreReady, KeepsCatalog, Reads, Stands, catalog_of};
+
+use crate::replies::{keys_asked, shown_parts};
+use alt_codec::json_of_item;
+use alt_disk::Disk;
+use alt_expr::Paths;
+use alt_machine::{BATCH_BYTES, LARGEST_ITEM, PlacedMember};
+use alt_request::{Stop, TableReads};
+use alt_tables::{TableFault, Tables};
+use alt_value::{Item, item_size_within};
+use serde_json::{Map, Value};
+use std::alloc::Global;
+
+/// What is read so far: the sizes of the items, the items of each table, and the tables with keys that are left.
+#[derive(Drop)]
+pub(crate) struct Read {
+    pub(crate) size: u64,
+    pub(crate) responses: Map<String, Value>,
+    pub(crate) unprocessed: Map<String, Value>,
+}
+
+/// What is read of the keys of one table: the items as they are shown, and the keys that are left.
+#[derive(Drop)]
+struct Taken {
+    items: Vec<Value>,
+    left: Vec<Value>,
+}
+
+/// Reads the keys of each table.
+pub(crate) fn read_all<D: Disk>(
+    alloc: Global,
+    tables: &mut Tables,
+    disk: &mut D,
+    asked: Vec<TableReads<'_>>,
+) -> Result<Read, Stop>
+    requires ready { AreReady (D.state disk.old) tables.old }
+    requires there { AreAllKnown (catalog_of tables.old) asked.items }
+    requires plain { All HasPlainNames asked.items }
+    ensures read { (s : State) → Stands (D.state disk.old) tables.old s
+        → IfOk result (λ read. read_so read ≡ fold (machine.with_reads s) machine.nothing_read
+        (each reads_of asked.items)) }
+    ensures plain { IfOk result IsPlainRead }
+    ensures stays { (s : State) → Stands (D.state disk.old) tables.old s ↔ Stands
+        (D.state disk.new) tables.new s }
+    ensures catalog { KeepsCatalog tables.old tables.new }
+    ensures fault { (s : State) → Stands (D.state disk.old) tables.old s
+        → IfErr result IsFault }
+    ensures disk { Reads (D.state disk.old) (D.state disk.new) }
+    ensures failed { IfErrFailed result (Rose (D.state disk.old).faults (D.state disk.new).faults) }
+{
+    let mut read = Read {
+        size: 0,
+        responses: Map::new(alloc),
+        unprocessed: Map::new(alloc),
+    };
+    for reads in asked {
+        read_table(alloc, tables, disk, reads, &mut read)?;
+    }
+    Ok(read)
+}
+
+/// Reads the keys of a table.
+fn read_table<D: Disk>(
+    alloc: Global,
+    tables: &mut Tables,
+    disk: &mut D,
+    reads: TableReads<'_>,
+    read: &mut Read,
+) -> Result<(), Stop>
+    requires ready { AreReady (D.state disk.old) tables.old }
+    requires there { AreKnown (catalog_of tables.old) reads.keys.items }
+    requires names { HasPlainNames reads }
+    requires plain { IsPlainRead read.old }
+    requires bounded { IsBounded read.old.size }
+    ensures read { (s : State) → Stands (D.state disk.old) tables.old s
+        → OnOk result (read_so read.new ≡ machine.with_reads s (read_so read.old) (reads_of reads)) }
+    ensures plain { OnOk result (IsPlainRead read.new) }
+    ensures bounded { OnOk result (IsBounded read.new.size) }
+    ensures stays { (s : State) → Stands (D.state disk.old) tables.old s ↔ Stands
+        (D.state disk.new) tables.new s }
+    ensures catalog { KeepsCatalog tables.old tables.new }
+    ensures fault { (s : State) → Stands (D.state disk.old) tables.old s
+        → IfErr result IsFault }
+    ensures disk { Reads (D.state disk.old) (D.state disk.new) }
+    ensures failed { IfErrFailed result (Rose (D.state disk.old).faults (D.state disk.new).faults) }
+{
+    let TableReads {
+        table,
+        body,
+        projection,
+        keys,
+    } = reads;
+    let taken = take(alloc, tables, disk, keys, &projection, &mut read.size);
+    drop(projection);
+    let Taken { items, left } = taken?;
+    let name = table.as_str();
+    serde_json::put(&mut read.responses, alloc, name, Value::Array(items))?;
+    if !left.is_empty() {
+        let asked = keys_asked(alloc, body, left)?;
+        serde_json::put(&mut read.unprocessed, alloc, name, asked)?;
+    }
+    Ok(())
+}
+
+/// Reads these keys, and leaves those behind the item at which the sizes reach 16 MB.
+fn take<D: Disk>(
+    alloc: Global,
+    tables: &mut Tables,
+    disk: &mut D,
+    keys: Vec<PlacedMember>,
+    projection: &Option<Paths>,
+    size: &mut u64,
+) -> Result<Taken, Stop>
+    requires ready { AreReady (D.state disk.old) tables.old }
+    requires there { AreKnown (catalog_of tables.old) keys.items }
+    requires bounded { IsBounded size.old }
+    ensures taken { (s : State) → Stands (D.state disk.old) tables.old s
+        → IfOk result (λ taken. IsTaken s projection.now size.old keys.items taken size.new) }
+    ensures plain { IfOk result IsPlainTaken }
+    ensures bounded { OnOk result (IsBounded size.new) }
+    ensures stays { (s : State) → Stands (D.state disk.old) tables.old s ↔ Stands
+        (D.state disk.new) tables.new s }
+    ensures catalog { KeepsCatalog tables.old tables.new }
+    ensures fault { (s : State) → Stands (D.state disk.old) tables.old s
+        → IfErr result IsFault }
+    ensures disk { Reads (D.state disk.old) (D.state disk.new) }
+    ensures failed { IfErrFailed result (Rose (D.state disk.old).faults (D.state disk.new).faults) }
+{
+    let mut taken = Taken {
+        items: Vec::new(alloc),
+        left: Vec::new(alloc),
+    };
+    for key in keys {
+        if *size >= BATCH_BYTES {
+            taken.left.push(json_of_item(alloc, &key.item)?)?;
+        } else {
+            read_key(
+                alloc,
+                tables,
+                disk,
+                key,
+                projection,
+                &mut taken.items,
+                size,
+            )?;
+        }
+    }
+    Ok(taken)
+}
+
+/// Reads a key: the item that stands there is shown, and its size is counted.
+fn read_key<D: Disk>(
+    alloc: Global,
+    tables: &mut Tables,
+    disk: &mut D,
+    key: PlacedMember,
+    projection: &Option<Paths>,
+    items: &mut Vec<Value>,
+    size: &mut u64,
+) -> Result<(), Stop>
+    requires ready { AreReady (D.state disk.old) tables.old }
+    requires there { map.contains_key (catalog_of tables.old) key.table ≡ true }
+    requires below { size.old < BATCH_BYTES }
+    requires plain { items_have_float (items_view items.old.items) ≡ false }
+    ensures shown { (s : State) → Stands (D.state disk.old) tables.old s
+        → OnOk result (ShowsMore s projection.now key items.old.items items.new.items) }
+    ensures size { (s : State) → Stands (D.state disk.old) tables.old s
+        → OnOk result (size.new ≡ size.old + machine.size_at s key) }
+    ensures plain { OnOk result (items_have_float (items_view items.new.items) ≡ false) }
+    ensures bounded { OnOk result (IsBounded size.new) }
+    ensures stays { (s : State) → Stands (D.state disk.old) tables.old s ↔ Stands
+        (D.state disk.new) tables.new s }
+    ensures catalog { KeepsCatalog tables.old tables.new }
+    ensures fault { (s : State) → Stands (D.state disk.old) tables.old s
+        → IfErr result IsFault }
+    ensures disk { Reads (D.state disk.old) (D.state disk.new) }
+    ensures failed { IfErrFailed result (Rose (D.state disk.old).faults (D.state disk.new).faults) }
+{
+    let PlacedMember { table, place, .. } = key;
+    let found = tables.find(disk, table.as_str(), place)?;
+    if let Some(item) = &found.item {
+        items.push(shown_parts(alloc, projection, item)?)?;
+        *size += size_of(item);
+    }
+    Ok(())
+}
+
+/// The size of an item. One on a disk that keeps what was written is never larger than an item may be.
+fn size_of(item: &Item) -> u64
+    ensures size { item_size item.now ≤ LARGEST_ITEM → result ≡ item_size item.now }
+    ensures most { result ≤ LARGEST_ITEM }
+{
+    match item_size_within(item, LARGEST_ITEM) {
+        Some(size) => size,
+        None => LARGEST_ITEM,
+    }
+}

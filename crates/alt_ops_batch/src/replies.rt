@@ -1,0 +1,102 @@
+//! What a BatchGetItem answers: the items, and the keys that it didn't read, as they may be asked for again.
+
+ghost use Rattle.std.specs.Prelude.{◌≡◌, false, IfOk, IfErr, codes, option_map};
+ghost use Rattle.std.specs.Option.{option_map_or};
+ghost use Rattle.serde_json.specs.Data.{array, object};
+ghost use Rattle.serde_json.specs.View.{view, items_view, members_view};
+ghost use Rattle.serde_json.specs.Written.{has_float, items_have_float, members_have_float};
+ghost use Rattle.alt_codec.specs.Writing.{json_of_pairs};
+ghost use Rattle.alt_machine.specs.Expressions.{names_member};
+ghost use Rattle.alt_machine.specs.Ops.BatchGetItem as machine;
+ghost use Rattle.alt_machine.specs.Ops.GetItem.{parts};
+ghost use Rattle.alt_ops_batch.specs.Readings.{IsPlainRead, read_so};
+ghost use Rattle.alt_request.specs.Steps.{IsMemory};
+ghost use Rattle.alt_shape.specs.Refusals.{answer_of};
+
+use crate::reading::Read;
+use alt_base::NoMemory;
+use alt_codec::json_of_item;
+use alt_expr::Paths;
+use alt_projection::project;
+use alt_request::Stop;
+use alt_shape::{Reply, given, text_at, truth_at};
+use alt_value::Item;
+use serde_json::{Map, Value};
+use std::alloc::Global;
+
+/// The reply.
+pub(crate) fn read_reply(alloc: Global, read: Read) -> Result<Reply, Stop>
+    requires plain { IsPlainRead read }
+    ensures reply { IfOk result (λ reply. answer_of reply ≡ machine.read_answer (read_so read)) }
+    ensures plain { IfOk result (λ reply. has_float (view reply.body) ≡ false) }
+    ensures cause { IfErr result IsMemory }
+{
+    let Read {
+        responses,
+        unprocessed,
+        ..
+    } = read;
+    let mut members = Map::new(alloc);
+    serde_json::put(&mut members, alloc, "Responses", Value::Object(responses))?;
+    serde_json::put(&mut members, alloc, "UnprocessedKeys", Value::Object(unprocessed))?;
+    Ok(Reply::answered(members))
+}
+
+/// What paths choose of an item, or all of it where there are no paths.
+pub(crate) fn shown_parts(
+    alloc: Global,
+    paths: &Option<Paths>,
+    item: &Item,
+) -> Result<Value, NoMemory>
+    ensures json { IfOk result (λ v. view v ≡ json_of_pairs (parts paths.now item.now)) }
+    ensures plain { IfOk result (λ v. has_float (view v) ≡ false) }
+{
+    match paths {
+        Some(paths) => json_of_item(alloc, &project(alloc, paths, item)?),
+        None => json_of_item(alloc, item),
+    }
+}
+
+/// What is asked of keys, with those members of their table that were given.
+pub(crate) fn keys_asked(
+    alloc: Global,
+    body: &Map<String, Value>,
+    keys: Vec<Value>,
+) -> Result<Value, NoMemory>
+    requires names { option_map_or members_have_float (names_member (members_view body.now.entries))
+        false ≡ false }
+    requires keys { items_have_float (items_view keys.items) ≡ false }
+    ensures asked { IfOk result (λ v. view v ≡ machine.keys_object (members_view body.now.entries)
+        (array (items_view keys.items))) }
+    ensures plain { IfOk result (λ v. has_float (view v) ≡ false) }
+{
+    let mut members = Map::new(alloc);
+    if let Some(truth) = truth_at(body, "ConsistentRead") {
+        serde_json::put(&mut members, alloc, "ConsistentRead", Value::Bool(truth))?;
+    }
+    if let Some(names) = names_at(body) {
+        serde_json::put(
+            &mut members,
+            alloc,
+            "ExpressionAttributeNames",
+            names.clone()?,
+        )?;
+    }
+    serde_json::put(&mut members, alloc, "Keys", Value::Array(keys))?;
+    if let Some(text) = text_at(body, "ProjectionExpression") {
+        let text = Value::try_from_str(alloc, text)?;
+        serde_json::put(&mut members, alloc, "ProjectionExpression", text)?;
+    }
+    Ok(Value::Object(members))
+}
+
+/// The names that are given, which are an object.
+fn names_at(body: &Map<String, Value>) -> Option<&Value>
+    ensures { option_map (λ v. view v.now) result ≡ option_map (λ names. object names)
+        (names_member (members_view body.now.entries)) }
+{
+    match given(body, "ExpressionAttributeNames") {
+        Some(names) if names.is_object() => Some(names),
+        _ => None,
+    }
+}

@@ -1,0 +1,96 @@
+-- Writes behind other writes: what a stop leaves of both, and how they break off.
+use Rattle.std.proofs.Common.{◌≡◌, refl, sym, ap, subst, ◌∙◌, ℕ, ◌+◌, ◌≤◌, List, [], ◌∷◌, ◌++◌, length, take, Option, Some, None, arith}
+use Rattle.std.specs.Prelude.{◌-◌}
+use Rattle.std.proofs.lemmas.List.{length-append}
+use Rattle.alt_disk.specs.Disk.{DiskState, Goes}
+use Rattle.alt_disk.proofs.Runs.{spans_on, spans_weaker}
+use Rattle.alt_engine.specs.InHand.{IsWritten}
+use Rattle.alt_machine.specs.Outcomes.{Wants, last_state, state_after}
+use Rattle.alt_machine.specs.State.{State}
+use Rattle.alt_machine.specs.Wanted.{lack_among}
+use Rattle.alt_machine.proofs.Behind.{after_behind, front_of, taken_behind, lacks_behind, lacks_front, lacks_within, take_front}
+use Rattle.alt_tables.specs.Faults.{BreakOff}
+use Rattle.alt_tables.specs.Images.{AfterSome, Leaves, StandsFor}
+use Rattle.alt_tables.specs.Stands.{Stands}
+use Rattle.alt_tables.specs.declared.faults.TableFault.{TableFault}
+use Rattle.alt_tables.specs.declared.faults.TableFault.TheVariants.{Spent, Damaged, BadRow, Failed, NoMemory}
+use Rattle.alt_tables.specs.declared.tables.Tables.{Tables}
+use Rattle.alt_tables.proofs.Left.{leaves_after, leaves_images, leaves_reads}
+
+-- ---- how they break off
+
+-- the first of some writes broke off
+pub broke_front : (now : State → Type 0) (wants : Wants) (s : State) (a b : List State)
+    (f : TableFault) → BreakOff now wants s a f → BreakOff now wants s (a ++ b) f
+broke_front now wants s a b (Spent n) h = (
+  h.0,
+  lacks_front wants a b (record { number = n; before = h.0 }) s h.1,
+  subst (λ l. now (last_state s l)) (sym (take_front h.0 a b
+      (lacks_within wants a (record { number = n; before = h.0 }) s h.1))) h.2,
+)
+broke_front now wants s a b (Damaged file at) h = absurd h
+broke_front now wants s a b (BadRow family key) h = absurd h
+broke_front now wants s a b Failed h = tt
+broke_front now wants s a b NoMemory h =
+    let same = take_front h.0 a b (omega (arith, h.1)) in (
+      h.0,
+      omega (arith, h.1, length-append a b),
+      subst (λ l. lack_among wants s l ≡ None) (sym same) h.2,
+      subst (λ l. now (last_state s l)) (sym same) h.3,
+    )
+
+-- writes broke off behind others that were made
+pub broke_behind : (now : State → Type 0) (wants : Wants) (s : State) (a b : List State)
+    (f : TableFault) → lack_among wants s a ≡ None → 1 ≤ length b
+    → BreakOff now wants (last_state s a) b f → BreakOff now wants s (a ++ b) f
+broke_behind now wants s a b (Spent n) none some h = (
+  length a + h.0,
+  lacks_behind wants a n h.0 (length a + h.0) s b refl none h.1,
+  subst now (sym (after_behind a (length a + h.0) h.0 s b refl)) h.2,
+)
+broke_behind now wants s a b (Damaged file at) none some h = absurd h
+broke_behind now wants s a b (BadRow family key) none some h = absurd h
+broke_behind now wants s a b Failed none some h = tt
+broke_behind now wants s a b NoMemory none some h = (
+  length a + h.0,
+  omega (arith, h.1, some, length-append a b),
+  taken_behind wants a (length a + h.0) h.0 s b refl none h.2,
+  subst now (sym (after_behind a (length a + h.0) h.0 s b refl)) h.3,
+)
+
+-- ---- what a stop leaves of them
+
+front_some : (s : State) (a b : List State) (moment : ℕ) (image : ℕ → Option (List ℕ))
+    → AfterSome s a moment image → AfterSome s (a ++ b) moment image
+front_some s a b moment image h =
+    let front = front_of h.0 s a b in (front.0, subst (StandsFor image) (sym front.1) h.1)
+
+behind_some : (s : State) (a b : List State) (moment : ℕ) (image : ℕ → Option (List ℕ))
+    → AfterSome (last_state s a) b moment image → AfterSome s (a ++ b) moment image
+behind_some s a b moment image h = (
+  length a + h.0,
+  subst (StandsFor image) (sym (after_behind a (length a + h.0) h.0 s b refl)) h.1,
+)
+
+-- what is left of the first is left of all
+pub leaves_front : (old new : DiskState) (t : Tables) (s : State) (a b : List State) → Goes old new
+    → Stands old t s → Leaves old new s a → Leaves old new s (a ++ b)
+leaves_front old new t s [] b goes stands h = leaves_reads old new t s b
+    (record { goes = goes; quiet = λ tells. h }) stands
+leaves_front old new t s (r ∷ rs) b goes stands h =
+    spans_weaker old new IsWritten IsWritten (AfterSome s ((r ∷ rs) ++ b)) (AfterSome s (r ∷ rs)) h
+    (λ g is. is) (λ moment image here. front_some s (r ∷ rs) b moment image here)
+
+-- one call behind another
+pub leaves_both : (old mid new : DiskState) (t u : Tables) (s : State) (a b : List State)
+    → Goes old mid → Stands old t s → Stands mid u (last_state s a) → Leaves old mid s a
+    → Leaves mid new (last_state s a) b → Leaves old new s (a ++ b)
+leaves_both old mid new t u s [] b goes stands later first second =
+    leaves_after old mid new t s b (record { goes = goes; quiet = λ tells. first }) stands second
+leaves_both old mid new t u s (r ∷ rs) b goes stands later first second =
+    spans_on old mid new IsWritten (AfterSome s ((r ∷ rs) ++ b))
+    (leaves_front old mid t s (r ∷ rs) b goes stands first)
+    (spans_weaker mid new IsWritten IsWritten (AfterSome s ((r ∷ rs) ++ b))
+    (AfterSome (last_state s (r ∷ rs)) b)
+    (leaves_images mid new u (last_state s (r ∷ rs)) b later second) (λ g is. is)
+    (λ moment image here. behind_some s (r ∷ rs) b moment image here))

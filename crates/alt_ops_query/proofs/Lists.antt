@@ -11,14 +11,14 @@ use Rattle.std.proofs.lemmas.List.Elements.{All-nil, All-cons, All-head, All-tai
 use Rattle.alt_cells.proofs.CellLaws.{key_total}
 use Rattle.alt_cells.proofs.Entries.{first, second, find_below}
 use Rattle.alt_machine.specs.Lists.{listed}
+use Rattle.alt_machine.specs.Sources.{items_of}
 use Rattle.alt_machine.specs.State.{Table}
-use Rattle.alt_machine.specs.Valid.{IsStored}
 use Rattle.alt_machine.specs.Walks.{end_bound, is_beyond, items_between, placed_items, turned}
-use Rattle.alt_ops_query.specs.Ranges.{HoldsListed}
+use Rattle.alt_ops_query.specs.Ranges.{HoldsListed, MayStand}
+use Rattle.alt_schema.specs.declared.schema.IndexSchema.{IndexSchema}
 use Rattle.alt_tables.proofs.ChangeLaws.{tied, itself}
 use Rattle.alt_value.specs.Members.{text_order}
 use Rattle.alt_value.specs.Tree.{Pair}
-use Rattle.alt_value.specs.Values.{IsItemOfValues}
 
 -- ---- filters
 
@@ -96,21 +96,19 @@ each_entry P (e ∷ es) sorted found = All-cons P e es
 
 -- ---- the list
 
-module _ (t : Table) (stored : (place : List ℕ) (item : List Pair)
-    → finite.get t.items place ≡ Some item
-    → IsStored t.description place item × IsItemOfValues item) where
-  -- the range holds exactly the items of the list, as far as they are in the table
+module _ (t : Table) (i : Option IndexSchema) (stands : (place : List ℕ) (item : List Pair)
+    → finite.get (items_of t i) place ≡ Some item → MayStand t.description i place item) where
+  -- the range holds exactly the items of the list, as far as they are there
   pub items_between-listed : (forward : Bool) (start : Option (List ℕ)) (test : List Pair → Bool)
       (from : List ℕ) (to : Option (List ℕ))
-      → HoldsListed forward start test t.description from to
-      → items_between t from to forward ≡ listed forward start test t
+      → HoldsListed forward start test t.description i from to
+      → items_between t i from to forward ≡ listed forward start test t i
   items_between-listed forward start test from to holds =
-      let es : List (List ℕ × List Pair) = placed_items t in
+      let es : List (List ℕ × List Pair) = placed_items t i in
       let agree = each_entry (λ e. range_contains text_order (Included from) (end_bound to) e.0
-      ≡ (is_beyond forward start e.0 && test e.1)) es (finite.entries_sorted t.items)
-      (λ place item at.
-      let both = stored place item (finite.get-entries t.items place ∙ at) in
-      holds place item both.0 both.1) in
+      ≡ (is_beyond forward start e.0 && test e.1)) es (finite.entries_sorted (items_of t i))
+      (λ place item at. holds place item
+      (stands place item (finite.get-entries (items_of t i) place ∙ at))) in
       ap (λ l. map (λ e. e.1) (turned forward l)) (filter_same _ _ es agree
       ∙ filter_both (λ e. is_beyond forward start e.0) (λ e. test e.1) es)
       ∙ ap (map (λ e. e.1)) (filter-turned (λ e. test e.1) forward

@@ -23,6 +23,6 @@ pub use described::{SchemaFault, schema_of_json};
 pub use json::json_of_schema;
 pub use lists::{IndexList, KeyAttrList, TextList};
 pub use rows::index::{index_keys_fit, index_named};
-pub use rows::projection::index_item;
+pub use rows::projection::{index_at, index_item, is_key};
 pub use rules::is_name;
 pub use schema::{IndexSchema, KeyAttr, Projection, TableSchema, View};

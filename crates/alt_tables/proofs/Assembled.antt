@@ -15,7 +15,7 @@ use Rattle.alt_machine.specs.Valid.{IsStored, IsTable, IsValid}
 use Rattle.alt_machine.proofs.Descriptions.{get-descriptions, len-descriptions}
 use Rattle.alt_schema.specs.Rules.{is_name}
 use Rattle.alt_schema.specs.declared.schema.TableSchema.{TableSchema}
-use Rattle.alt_tables.specs.ItemRows.{item_columns, IsReadItem}
+use Rattle.alt_views.specs.ItemRows.{item_columns, IsReadItem}
 use Rattle.alt_tables.specs.Opening.{Assembled, IsCatalog, IsGood, AreApart}
 use Rattle.alt_tables.specs.Scans.{IsItemAt, ItemsRead}
 use Rattle.alt_tables.specs.StateRows.{Shows, catalog_family, table_row, next_row}

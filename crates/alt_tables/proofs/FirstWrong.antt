@@ -16,7 +16,7 @@ use Rattle.alt_schema.specs.Described.{IsDescription}
 use Rattle.alt_schema.specs.Held.{IsHeld}
 use Rattle.alt_schema.specs.declared.schema.TableSchema.{TableSchema}
 use Rattle.alt_schema.proofs.WholeDescriptions.{one_spelling}
-use Rattle.alt_tables.specs.ItemRows.{item_columns}
+use Rattle.alt_views.specs.ItemRows.{item_columns}
 use Rattle.alt_tables.specs.Opening.{Assembled, IsCatalog, IsGood, AreApart}
 use Rattle.alt_tables.specs.Recovery.{Agrees, IsBefore, IsUpTo, IsFirstWrong}
 use Rattle.alt_tables.specs.Scans.{IsItemAt, IsFirstBad, ItemsRead}

@@ -8,12 +8,13 @@ pub mod Standing
 pub mod Starting
 pub mod Making
 pub mod ChangeLaws
-pub mod ItemRowLaws
+pub mod Moving
+pub mod IndexFamilies
+pub mod IndexShows
 pub mod OneState
 pub mod WriteLaws
 pub mod Behind
 pub mod CatalogLaws
-pub mod Columns
 pub mod OneColumn
 pub mod EachTable
 pub mod Engine

@@ -17,9 +17,9 @@ use Rattle.alt_schema.specs.Format.{description_bytes}
 use Rattle.alt_schema.specs.Rules.{is_name}
 use Rattle.alt_schema.proofs.WholeDescriptions.{one_spelling}
 use Rattle.alt_tables.specs.Images.{StandsFor}
-use Rattle.alt_tables.specs.ItemRows.{item_columns}
+use Rattle.alt_views.specs.ItemRows.{item_columns}
 use Rattle.alt_tables.specs.StateRows.{Shows, IsHeldWhole, item_rows, table_row, next_row, one_column}
-use Rattle.alt_tables.proofs.ItemRowLaws.{item_columns-one}
+use Rattle.alt_views.proofs.ItemRowLaws.{item_columns-one}
 use Rattle.alt_value.specs.Tree.{Pair}
 use Rattle.alt_value.specs.Values.{IsWholeItem}
 

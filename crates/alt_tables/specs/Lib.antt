@@ -1,8 +1,8 @@
 pub mod Codes
+pub mod Families
 pub mod Faults
 pub mod Found
 pub mod Images
-pub mod ItemRows
 pub mod Laws
 pub mod Made
 pub mod Opening

@@ -4,11 +4,9 @@
 mod catalog;
 mod catalog_row;
 mod faults;
-mod item_row;
 mod laws;
 mod made;
 mod opened;
-mod place;
 mod recover;
 mod rows;
 mod scan;
@@ -17,6 +15,5 @@ mod walk;
 
 pub use faults::{OpenFault, TableFault};
 pub use laws::tables_laws;
-pub use place::place_of;
 pub use rows::Found;
 pub use tables::Tables;

@@ -9,7 +9,7 @@ use Rattle.alt_request.specs.Steps.{rules_of}
 use Rattle.alt_request.specs.Targets.{OnList}
 use Rattle.alt_request.specs.Words.{given_of, texts_of}
 use Rattle.alt_request.specs.declared.body.Rules.{Rules}
-use Rattle.alt_request.proofs.Listing.{list_untaken, list_no_words, list_no_start, list_no_table, list_unsaid}
+use Rattle.alt_request.proofs.Listing.{list_untaken, list_no_words, list_no_start, list_no_table, list_no_index, list_unsaid}
 use Rattle.alt_request.proofs.Named.{some_found}
 use Rattle.alt_request.proofs.Reaching.{err_is}
 use Rattle.alt_shape.specs.Refusals.{Answer, not_found}
@@ -68,6 +68,20 @@ returns-in_err-schema c =
           c.in_err-schema.field-0.0 c.in_err-schema.ensures.found);
     }
 
+pub returns-in_err-index : goal.returns-in_err-index
+returns-in_err-index c =
+    let ms : Members = members_view c.args.body.now.entries in
+    let tests = tests_of c.args.broken c.args.mismatched c.args.rules.now ms in record {
+      target = subst (λ r. OnList tests (texts_of c.args.texts.now) (catalog_of c.args.tables.now) ms r)
+          (sym (err_is c.from_residual-in_err-index.result c.in_err-index.field-0.0
+          c.from_residual-in_err-index.ensures))
+          (list_no_index tests (texts_of c.args.texts.now) (catalog_of c.args.tables.now) ms
+          c.in_ok-paired_refusal.ensures.tested (given_of c.in_ok-given.given)
+          c.in_ok-given.ensures.given c.in_ok-start.start c.in_ok-start.ensures.read
+          c.in_ok-schema.schema.now c.in_ok-schema.ensures.found c.in_err-index.field-0.0
+          c.in_err-index.ensures.asked);
+    }
+
 pub expressions-requires : goal.expressions-requires
 expressions-requires c = record { fresh = c.in_ok-given.ensures.fresh }
 
@@ -81,7 +95,8 @@ returns-in_err-said c =
           (list_unsaid tests (texts_of c.args.texts.now) (catalog_of c.args.tables.now) ms
           c.in_ok-paired_refusal.ensures.tested (given_of c.in_ok-given.given)
           c.in_ok-given.ensures.given c.in_ok-start.start c.in_ok-start.ensures.read
-          c.in_ok-schema.schema.now c.in_ok-schema.ensures.found c.in_err-said.field-0.0
+          c.in_ok-schema.schema.now c.in_ok-schema.ensures.found c.in_ok-index.index
+          c.in_ok-index.ensures.asked c.in_err-said.field-0.0
           c.in_err-said.ensures.said);
     }
 
@@ -96,6 +111,7 @@ returns c =
           words = given_of c.in_ok-given.given;
           given = c.in_ok-given.ensures.given;
           read = c.in_ok-start.ensures.read;
+          asks = c.in_ok-index.ensures.asked;
           says = c.in_ok-said.ensures.said;
         };
       };

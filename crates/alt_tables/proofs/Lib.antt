@@ -12,6 +12,9 @@ pub mod Moving
 pub mod IndexFamilies
 pub mod IndexShows
 pub mod OneState
+pub mod IndexKeys
+pub mod IndexRead
+pub mod IndexOwn
 pub mod WriteLaws
 pub mod Behind
 pub mod CatalogLaws
@@ -32,5 +35,7 @@ pub mod WrongTable
 pub mod GoodLaws
 pub mod CatalogSteps
 pub mod TableSteps
+pub mod IndexSteps
+pub mod IndexState
 pub mod Recovering
 pub mod Pages

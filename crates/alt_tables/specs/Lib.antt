@@ -3,6 +3,7 @@ pub mod Families
 pub mod Faults
 pub mod Found
 pub mod Images
+pub mod IndexScans
 pub mod Laws
 pub mod Made
 pub mod Opening

@@ -4,6 +4,7 @@
 mod catalog;
 mod catalog_row;
 mod faults;
+mod index_scan;
 mod laws;
 mod made;
 mod opened;

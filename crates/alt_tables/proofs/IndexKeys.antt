@@ -5,6 +5,7 @@ use Rattle.std.proofs.lemmas.Slice.Eq.{bytes_eq-Decides, slice_eq-Decides}
 use Rattle.std.specs.Bool.{Decides}
 use Rattle.std.specs.Cmp.Lexicographic.{pointwise}
 use Rattle.std.specs.FinMap as map
+use Rattle.std.specs.FinMap.Entries.{find}
 use Rattle.std.specs.Ordering.{is_lt, ordering_reverse}
 use Rattle.std.specs.Prelude.{◌&&◌, if◌then◌else◌}
 use Rattle.std.specs.Str.{bytes_eq}
@@ -65,6 +66,12 @@ not_itself k low =
     let turned : Less ≡ Greater = sym low ∙ key_total.antisymm k k ∙ ap ordering_reverse low in
     let f : ⊥ = cc in f
 
+-- the lesser of two that are there
+pub lesser_is : (a b : Option (List ℕ)) (x y : List ℕ) → a ≡ Some x → b ≡ Some y → (r : Bool)
+    → is_lt (key_cmp y x) ≡ r → (if r then Some y else Some x) ≡ lesser a b
+lesser_is a b x y is_a is_b r is = ap (λ t. if t then Some y else Some x) (sym is)
+    ∙ (λ i. lesser (sym is_a i) (sym is_b i))
+
 -- ---- rows
 
 -- a name and a value are those of another column
@@ -82,6 +89,6 @@ pub same_columns : (a b : Columns) (r : Bool)
     → Decides r (a ≡ b)
 same_columns a b r is = Decides-like r
     (λ same. map.same_map key_total key_exact a b (λ q. map.get-entries a q
-    ∙ ap (map.FinMap.Entries.find key_cmp q) same ∙ sym (map.get-entries b q)))
+    ∙ ap (find key_cmp q) same ∙ sym (map.get-entries b q)))
     (λ e. ap map.entries e)
     (slice_eq-Decides same_column (map.entries a) (map.entries b) r is)

@@ -1,12 +1,16 @@
 -- The rows of an index and of the items beside it, read one after the other.
-use Rattle.std.proofs.Common.{◌≡◌, refl, sym, ap, subst, ◌∙◌, ◌++◌, ◌∷◌, [], ℕ, List, Option, Some, None, IfSome}
+use Rattle.std.proofs.Common.{◌≡◌, ◌⊎◌, ◌<◌, ◌≤◌, ⊎_elim, refl, sym, ap, subst, ◌∙◌, ◌++◌, ◌∷◌, [], ℕ, zero, suc, List, length, Option, Some, None, IfSome, slice_get, arith}
+use Rattle.std.proofs.lemmas.Option.{slice_get_within}
 use Rattle.alt_cells.specs.Changes.{Columns}
 use Rattle.alt_engine.specs.Layout.{Layout, shown}
+use Rattle.alt_machine.specs.Sources.{index_at}
+use Rattle.alt_schema.specs.Indexes.{indexes}
 use Rattle.alt_schema.specs.declared.schema.IndexSchema.{IndexSchema}
 use Rattle.alt_schema.specs.declared.schema.TableSchema.{TableSchema}
-use Rattle.alt_tables.specs.IndexScans.{AreOwn, HasRow, IndexRead, IsAhead, IsFirstForeign, IsFirstOff, IsIndexFault, IsItemThere, IsLeastMissing, IsMissing, IsRightAt, ShowsAhead, TellsMissing, TellsMissingOf, lesser}
+use Rattle.alt_tables.specs.IndexScans.{AreOwn, HasRow, IndexRead, IndexesRead, IndexesWhere, IsAhead, IsFirstForeign, IsFirstOff, IsIndexFault, IsItemThere, IsLeastMissing, IsMissing, IsOwnFault, IsRightAt, ShowsAhead, TellsMissing, TellsMissingOf, lesser}
 use Rattle.alt_tables.specs.Scans.{IsBelow, IsFirstFrom, IsItemAt, IsNextRow, ItemsRead, RowsWhere}
-use Rattle.alt_tables.specs.declared.faults.OpenFault.TheVariants.{BadRow}
+use Rattle.alt_tables.specs.declared.faults.OpenFault.{OpenFault}
+use Rattle.alt_tables.specs.declared.faults.OpenFault.TheVariants.{Damaged, BadRow, Failed, NoMemory}
 use Rattle.alt_tables.proofs.IndexKeys.{ahead_first, ahead_second, not_itself, of_lesser}
 use Rattle.alt_tables.proofs.OneState.{some}
 use Rattle.alt_tables.proofs.Scanning.{rows_all, rows_more, rows_next, rows_none}
@@ -143,3 +147,55 @@ module _ (l : Layout) (d : TableSchema) (i : IndexSchema) where
             → IfSome o (λ k. IsRightAt l d i k → ⊥)
         by_foreign None is = tt
         by_foreign (Some k) (columns, shows, none) = λ right. none (right.own columns shows)
+
+-- ---- the indexes of a table
+
+-- there is one of each lesser number
+there_is : {A : Type 0} (xs : List A) (n : ℕ) → n < length xs → (x : A) × (slice_get xs n ≡ Some x)
+there_is [] n within = absurd (omega (arith, within))
+there_is (x ∷ xs) zero within = (x, refl)
+there_is (x ∷ xs) (suc n) within = there_is xs n (omega (arith, within))
+
+before_or_at : (n k : ℕ) → n < suc k → (n < k) ⊎ (n ≡ k)
+before_or_at n k within = grind arith
+
+module _ (l : Layout) (d : TableSchema) where
+  pub indexes_none : IndexesWhere (λ n. n < 0) l d
+  indexes_none number i none at = absurd (omega (arith, none))
+
+  -- one more
+  pub indexes_more : (number : ℕ) → IndexesWhere (λ n. n < number) l d
+      → ((i : IndexSchema) → index_at d (Some number) ≡ Some i → IndexRead l d i)
+      → IndexesWhere (λ n. n < suc number) l d
+  indexes_more number so_far this n i within at = ⊎_elim
+      (λ (before : n < number). so_far n i before at)
+      (λ (same : n ≡ number). this i (ap (λ k. index_at d (Some k)) (sym same) ∙ at))
+      (before_or_at n number within)
+
+  -- all of them
+  pub indexes_all : (count : ℕ) → length (indexes d) ≤ count → IndexesWhere (λ n. n < count) l d
+      → IndexesRead l d
+  indexes_all count all so_far number i here at =
+      let within : number < length (indexes d) = slice_get_within (indexes d) number i at in
+      so_far number i (omega (arith, within, all)) at
+
+  -- a wrong row of one is the first of all
+  pub own_wrong : (number : ℕ) → number < length (indexes d) → IndexesWhere (λ n. n < number) l d
+      → (fault : OpenFault)
+      → ((i : IndexSchema) → index_at d (Some number) ≡ Some i → IsIndexFault l d i fault)
+      → IsOwnFault l d fault
+  own_wrong number within so_far (Damaged file at) wrong =
+      let (i, at) = there_is (indexes d) number within in wrong i at
+  own_wrong number within so_far (BadRow family key) wrong =
+      let (i, at) = there_is (indexes d) number within in
+      let is = wrong i at in
+      record {
+        number = number;
+        index = i;
+        at = at;
+        of_family = is.0;
+        first = is.1;
+        lesser = so_far;
+      }
+  own_wrong number within so_far Failed wrong = tt
+  own_wrong number within so_far NoMemory wrong = tt

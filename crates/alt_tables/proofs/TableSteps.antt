@@ -6,7 +6,7 @@ use Rattle.alt_machine.specs.declared.TheConstants.{NUMBERS_END}
 use Rattle.alt_machine.specs.State.{Texts}
 use Rattle.alt_schema.specs.declared.schema.TableSchema.{TableSchema}
 use Rattle.alt_tables.specs.IndexScans.{IndexesRead, IsOwnFault}
-use Rattle.alt_tables.specs.Opening.{IsCatalog, IsIndexesFault, IsLeastTable, IsNextTable, IsRowFault}
+use Rattle.alt_tables.specs.Opening.{IsCatalog, IsIndexesFault, IsLeastTable, IsRowFault}
 use Rattle.alt_tables.specs.Recovery.{IsFirstWrong}
 use Rattle.alt_tables.specs.Scans.{IsDeviceFault, IsItemFault, ItemsRead}
 use Rattle.alt_tables.specs.declared.faults.OpenFault.{OpenFault}
@@ -67,11 +67,6 @@ module _ (l : Layout) (next : ℕ) (catalog : Texts TableSchema) (read : IsCatal
           let from = least.least other e at behind in
           absurd (omega (arith, below, from)))
           (up_to_or_above e.family family)
-
-      -- where none follows, it is so of all
-      pub of_all : IsNextTable catalog family None → (name : List ℕ) (d : TableSchema)
-          → map.get catalog name ≡ Some d → P d
-      of_all none name d at = so_far name d at (none name d at)
 
   -- a wrong row of the next table is the first wrong one
   pub wrong_next : (family : ℕ) → ReadUpTo l catalog family → (d : TableSchema)

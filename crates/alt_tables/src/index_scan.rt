@@ -99,7 +99,7 @@ fn lesser(a: Option<Bytes>, b: Option<Bytes>) -> Option<Bytes>
         (None, b) => b,
         (Some(a), None) => Some(a),
         (Some(a), Some(b)) => {
-            if b.as_slice() < a.as_slice() {
+            if b < a {
                 Some(b)
             } else {
                 Some(a)
@@ -316,7 +316,7 @@ fn row_of_own(
 
 /// Whether a row with these columns is shown.
 fn shows(shown: Option<&ShownRow>, columns: &ShownRow) -> bool
-    ensures shows { IsTrue result ↔ (option_map (λ r. r.now) shown ≡ Some columns.now) }
+    ensures shows { IsTrue result ↔ (option_map (λ r. r.now) shown.entry ≡ Some columns.now) }
 {
     match shown {
         Some(shown) => same_columns(shown, columns),

@@ -15,14 +15,15 @@ use Rattle.alt_schema.specs.Indexes.{cut, index_row, is_in_index, is_key}
 use Rattle.alt_schema.specs.declared.schema.IndexSchema.{IndexSchema}
 use Rattle.alt_schema.specs.declared.schema.KeyAttr.{KeyAttr}
 use Rattle.alt_schema.specs.declared.schema.TableSchema.{TableSchema}
-use Rattle.alt_tables.specs.IndexScans.{HasRow}
+use Rattle.alt_tables.specs.IndexScans.{HasRow, TellsMissingOf}
 use Rattle.alt_tables.specs.Scans.{ItemsRead}
 use Rattle.alt_tables.proofs.IndexRead.{row_of}
 use Rattle.alt_tables.proofs.OneState.{some}
 use Rattle.alt_value.specs.Tree.{Tree, Pair}
 use Rattle.alt_views.specs.IndexRows.{row_in_index}
 use Rattle.alt_views.specs.ItemRows.{IsReadItem, item_columns}
-use Rattle.alt_views.specs.Read.{IsKeptAt}
+use Rattle.alt_views.specs.Read.{IsKeptAt, row_at}
+use Rattle.alt_views.specs.declared.indexed.IndexRow.{IndexRow}
 use Rattle.alt_views.proofs.Keeping.{kept_at, table_kept, value-cut}
 
 -- ---- the place of what is kept
@@ -124,3 +125,35 @@ module _ (l : Layout) (d : TableSchema) (number : ℕ) (i : IndexSchema) (made :
           (some _ _ (sym shows ∙ ap (shown l d.family) (some _ _ (sym is_p ∙ placed has))
           ∙ has.there.shows))).1 has.row,
     )
+
+-- ---- the row of an item, where it has one
+
+module _ (l : Layout) (d : TableSchema) (i : IndexSchema) (row : Columns) (own : Option IndexRow)
+    (told : (item : List Pair) → IsReadItem item → row ≡ item_columns item
+    → option_map row_at own ≡ row_in_index d i item) where
+  -- none is missing where it has none
+  pub none_missing : own ≡ None → TellsMissingOf l d i row None
+  none_missing none item read of_item key columns has = absurd (let no : None ≡ Some (key, columns) =
+      ap (option_map row_at) (sym none) ∙ told item read of_item ∙ has in cc no)
+
+  module _ (r : IndexRow) (is : own ≡ Some r) where
+    has_it : (item : List Pair) → IsReadItem item → row ≡ item_columns item
+        → row_in_index d i item ≡ Some (r.key, r.columns)
+    has_it item read of_item = sym (told item read of_item) ∙ ap (option_map row_at) is
+
+    -- or where it is shown
+    pub not_missing : shown l i.family r.key ≡ Some r.columns → TellsMissingOf l d i row None
+    not_missing shows item read of_item key columns has =
+        let one : (r.key, r.columns) ≡ (key, columns) =
+        some _ _ (sym (has_it item read of_item) ∙ has) in
+        ap (shown l i.family) (sym (ap (λ (e : List ℕ × Columns). e.0) one)) ∙ shows
+        ∙ ap (λ (e : List ℕ × Columns). Some e.1) one
+
+    -- and else it is
+    pub is_missing : (shown l i.family r.key ≡ Some r.columns → ⊥)
+        → TellsMissingOf l d i row (Some r.key)
+    is_missing none item read of_item = record {
+      columns = r.columns;
+      row = has_it item read of_item;
+      missing = none;
+    }

@@ -103,6 +103,59 @@ same_items (x ∷ xs) (y ∷ ys) h k e =
     let rest = same_items xs ys (All-tail IsReadItem x xs h) (All-tail IsReadItem y ys k) both.1 in
     λ i. one i ∷ rest i
 
+-- ---- what an index keeps, as it is put row by row
+
+-- what is kept at some rows and one more
+record KeptMore (d : TableSchema) (i : IndexSchema) (page : List (List ℕ × Columns))
+    (e : List ℕ × Columns) (items : List (List Pair)) : Type 0 where
+  front : List (List Pair)
+  item : List Pair
+  are : items ≡ front ++ item ∷ []
+  kept : AreKept d i page front
+  last : IsKeptAt d i item e.0 e.1
+
+kept_more : (d : TableSchema) (i : IndexSchema) (page : List (List ℕ × Columns))
+    (e : List ℕ × Columns) (items : List (List Pair)) → AreKept d i (page ++ e ∷ []) items
+    → KeptMore d i page e items
+kept_more d i [] e [] kept = absurd kept
+kept_more d i [] e (x ∷ []) kept =
+    record { front = []; item = x; are = refl; kept = tt; last = kept.0 }
+kept_more d i [] e (x ∷ y ∷ ys) kept = absurd kept.1
+kept_more d i (p ∷ page) e [] kept = absurd kept
+kept_more d i (p ∷ page) e (x ∷ xs) kept =
+    let rest = kept_more d i page e xs kept.1 in
+    record {
+      front = x ∷ rest.front;
+      item = rest.item;
+      are = ap (λ items. x ∷ items) rest.are;
+      kept = (kept.0, rest.kept);
+      last = rest.last;
+    }
+
+-- what is kept at one row more is put behind what was
+pub put_kept : (d : TableSchema) (i : IndexSchema) (page : List (List ℕ × Columns))
+    (e : List ℕ × Columns) (item : List Pair) (old mid new : List (List Pair))
+    → ((items : List (List Pair)) → AreKept d i page items → mid ≡ old ++ items)
+    → ((kept : List Pair) → IsKeptAt d i kept e.0 e.1 → item ≡ kept) → new ≡ mid ++ item ∷ []
+    → (items : List (List Pair)) → AreKept d i (page ++ e ∷ []) items → new ≡ old ++ items
+put_kept d i page e item old mid new so_far reads push items kept =
+    let more = kept_more d i page e items kept in
+    push ∙ ap (λ put. put ++ item ∷ []) (so_far more.front more.kept)
+    ∙ append_assoc old more.front (item ∷ [])
+    ∙ ap (λ x. old ++ (more.front ++ x ∷ [])) (reads more.item more.last)
+    ∙ ap (λ put. old ++ put) (sym more.are)
+
+-- at each row something is kept
+pub kept_row : (d : TableSchema) (i : IndexSchema) (page : List (List ℕ × Columns))
+    (items : List (List Pair)) (k : ℕ) (e : List ℕ × Columns) → AreKept d i page items
+    → k < length page → e ≡ get_or page k e → (item : List Pair) × IsKeptAt d i item e.0 e.1
+kept_row d i [] items k e kept within is = absurd (omega (arith, within))
+kept_row d i (p ∷ page) [] k e kept within is = absurd kept
+kept_row d i (p ∷ page) (x ∷ xs) zero e kept within is =
+    (x, subst (λ (q : List ℕ × Columns). IsKeptAt d i x q.0 q.1) (sym is) kept.0)
+kept_row d i (p ∷ page) (x ∷ xs) (suc k) e kept within is =
+    kept_row d i page xs k e kept.1 (omega (arith, within)) is
+
 -- ---- entries of items as those of rows
 
 module _ (columns : List Pair → Columns) where
@@ -232,7 +285,7 @@ module _ (disk : DiskState) (tables : Tables) (s : State) (name : List ℕ) (t :
     (known_as : finite.get (catalog_of tables) name ≡ Some d) (from : List ℕ)
     (to : Option (List ℕ)) (forward : Bool) (most : ℕ) (before page : List (List ℕ × Columns))
     (empty : before ≡ []) where
-  same_table : d ≡ t.description
+  pub same_table : d ≡ t.description
   same_table = some _ _ (sym known_as ∙ known disk tables s name t stands at)
 
   -- the rows of a walk over a family are those of the items there
@@ -305,6 +358,7 @@ module _ (disk : DiskState) (tables : Tables) (s : State) (name : List ℕ) (t :
         (kept_at t.description number i item key row (stands.valid.tables name t at).made
         at_own (read_item place item here) entry)
 
+    -- Each row is that of what the index keeps of the items that are to be given.
     pub page_kept : AreKept d i page (take most (items_between t (Some i) from to forward))
     page_kept =
         let items = index_items t.description i t.items in

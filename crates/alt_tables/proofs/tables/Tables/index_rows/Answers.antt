@@ -10,12 +10,14 @@ use Rattle.alt_tables.proofs.Standing.{stays, there}
 use Rattle.alt_tables.proofs.tables.Tables.index_rows.Goals as goal
 
 pub index_at-index-requires : goal.index_at-index-requires
-index_at-index-requires g c = c.requires.index c.in-Some.schema.now (sym c.in-Some.ensures.table)
+index_at-index-requires g c = record {
+  there = c.requires.index c.in-Some.schema.now (sym c.in-Some.ensures.table);
+}
 
 pub returns-in-Ok-clause-rows : goal.returns-in-Ok-clause-rows
 returns-in-Ok-clause-rows g c s t i stands at at_index =
     let known_as = sym c.in-Some.ensures.table in
-    let same : c.index_at-index.result.now ≡ i = some _ _ (c.index_at-index.ensures
+    let same : c.index_at-index.result.now ≡ i = some _ _ (c.index_at-index.ensures.index
     ∙ ap (λ (d : TableSchema). index_at d (Some c.args.number))
     (same_table (g.D.Disk.state c.args.disk.now) c.args.self.now s c.args.table.now t
     c.in-Some.schema.now stands at known_as) ∙ at_index) in
@@ -26,7 +28,7 @@ returns-in-Ok-clause-rows g c s t i stands at at_index =
     c.args.table.now t c.in-Some.schema.now stands at known_as c.args.range.now.from
     c.args.range.now.to c.args.forward c.args.most c.new-page.result.items c.rows.new.out.items
     c.new-page.ensures.items c.args.number c.index_at-index.result.now
-    (sym c.index_at-index.ensures) c.in-Ok.ensures.rows))
+    (sym c.index_at-index.ensures.index) c.in-Ok.ensures.rows))
 
 pub returns-in-Ok-clause-fault : goal.returns-in-Ok-clause-fault
 returns-in-Ok-clause-fault g c s stands =
@@ -38,7 +40,7 @@ returns-in-Ok-clause-fault g c s stands =
     c.in-Some.schema.now stands at known_as c.args.range.now.from
     c.args.range.now.to c.args.forward c.args.most c.new-page.result.items c.rows.new.out.items
     c.new-page.ensures.items c.args.number c.index_at-index.result.now
-    (sym c.index_at-index.ensures) c.in-Ok.ensures.rows))
+    (sym c.index_at-index.ensures.index) c.in-Ok.ensures.rows))
 
 pub returns-in-Ok-clause-stays : goal.returns-in-Ok-clause-stays
 returns-in-Ok-clause-stays g c s = stays (g.D.Disk.state c.args.disk.now)

@@ -34,7 +34,7 @@ pub row_of : (d : TableSchema) (i : IndexSchema) (item : List Pair) (key : List 
 row_of d i item key columns has = by (index_entry d i item) refl has
   where
     by : (o : Option (List ℕ × List Pair)) → index_entry d i item ≡ o
-        → option_map (λ e. (e.0, index_columns d i e.1)) o ≡ Some (key, columns)
+        → option_map {U = List ℕ × Columns} (λ e. (e.0, index_columns d i e.1)) o ≡ Some (key, columns)
         → IsRowOf d i item key columns
     by None is has = absurd (let no : None ≡ Some (key, columns) = has in cc no)
     by (Some e) is has =
@@ -109,7 +109,7 @@ module _ (l : Layout) (s : State) (agrees : AgreesWhole l s) (name : List ℕ) (
               place = g.0;
               item = g.1.0;
               there = item_there g.0 g.1.0 g.1.1.0;
-              row = ap (option_map (λ e. (e.0, index_columns t.description i e.1))) g.1.1.1
+              row = ap (option_map {U = List ℕ × Columns} (λ e. (e.0, index_columns t.description i e.1))) g.1.1.1
                   ∙ ap (λ c. Some (key, c)) (some _ _ is);
             }
 

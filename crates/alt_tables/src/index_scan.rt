@@ -171,10 +171,14 @@ fn missing_key<D: Disk>(
     };
     let IndexRow { key, columns } = own;
     let family = index_at(schema, number).family;
-    match engine.row(disk, family, key.as_slice()) {
-        Ok(shown) if shows(shown.as_ref(), &columns) => Ok(None),
-        Ok(_) => Ok(Some(key)),
-        Err(fault) => Err(unread(fault)),
+    let shown = match engine.row(disk, family, key.as_slice()) {
+        Ok(shown) => shown,
+        Err(fault) => return Err(unread(fault)),
+    };
+    if shows(&shown, &columns) {
+        Ok(None)
+    } else {
+        Ok(Some(key))
     }
 }
 
@@ -248,7 +252,7 @@ fn is_own<D: Disk>(
         Err(fault) => return Err(unread(fault)),
     };
     match is_row_of(alloc, schema, number, &shown, key, row) {
-        Ok(is) => Ok(is),
+        Ok(own) => Ok(own),
         Err(_) => Err(OpenFault::NoMemory),
     }
 }
@@ -280,16 +284,16 @@ fn is_row_of(
     alloc: Global,
     schema: &TableSchema,
     number: usize,
-    own: &ShownRow,
+    shown: &ShownRow,
     key: &Bytes,
     row: &ShownRow,
 ) -> Result<bool, NoMemory>
     requires there { number < length (indexes schema.now) }
-    ensures is { (i : IndexSchema) (item : List Pair) → index_at schema.now (Some number) ≡ Some i
-        → IsReadItem item → own.now ≡ item_columns item → IfOk result (λ is.
-        IsTrue is ↔ (row_in_index schema.now i item ≡ Some (key.now, row.now))) }
+    ensures own { (i : IndexSchema) (item : List Pair) → index_at schema.now (Some number) ≡ Some i
+        → IsReadItem item → shown.now ≡ item_columns item → IfOk result (λ own.
+        IsTrue own ↔ (row_in_index schema.now i item ≡ Some (key.now, row.now))) }
 {
-    match row_of_own(alloc, schema, number, own)? {
+    match row_of_own(alloc, schema, number, shown)? {
         Some(found) => Ok(found.key == *key && same_columns(&found.columns, row)),
         None => Ok(false),
     }
@@ -315,8 +319,8 @@ fn row_of_own(
 }
 
 /// Whether a row with these columns is shown.
-fn shows(shown: Option<&ShownRow>, columns: &ShownRow) -> bool
-    ensures shows { IsTrue result ↔ (option_map (λ r. r.now) shown.entry ≡ Some columns.now) }
+fn shows(shown: &Option<ShownRow>, columns: &ShownRow) -> bool
+    ensures shows { IsTrue result ↔ (shown.now ≡ Some columns.now) }
 {
     match shown {
         Some(shown) => same_columns(shown, columns),

@@ -29,7 +29,7 @@ use Rattle.alt_views.proofs.Keeping.{kept_at, table_kept, value-cut}
 -- ---- the place of what is kept
 
 same_name : (n : List ℕ) → bytes_eq n n ≡ true
-same_name n = grind (bytes_eq-Decides)
+same_name n = (bytes_eq-Decides n n).1 refl
 
 or_true : (a b : Bool) → b ≡ true → (a || b) ≡ true
 or_true true b h = refl

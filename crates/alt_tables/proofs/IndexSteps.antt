@@ -1,5 +1,5 @@
 -- The rows of an index and of the items beside it, read one after the other.
-use Rattle.std.proofs.Common.{◌≡◌, ◌⊎◌, ◌<◌, ◌≤◌, ⊎_elim, refl, sym, ap, subst, ◌∙◌, ◌++◌, ◌∷◌, [], ℕ, zero, suc, List, length, Option, Some, None, IfSome, slice_get, arith}
+use Rattle.std.proofs.Common.{◌≡◌, ◌⊎◌, ◌<◌, ◌≤◌, ◌+◌, ⊎_elim, refl, sym, ap, subst, ◌∙◌, ◌++◌, ◌∷◌, [], ℕ, zero, suc, List, length, Option, Some, None, IfSome, slice_get, arith}
 use Rattle.std.proofs.lemmas.Option.{slice_get_within}
 use Rattle.alt_cells.specs.Changes.{Columns}
 use Rattle.alt_engine.specs.Layout.{Layout, shown}
@@ -156,7 +156,7 @@ there_is [] n within = absurd (omega (arith, within))
 there_is (x ∷ xs) zero within = (x, refl)
 there_is (x ∷ xs) (suc n) within = there_is xs n (omega (arith, within))
 
-before_or_at : (n k : ℕ) → n < suc k → (n < k) ⊎ (n ≡ k)
+before_or_at : (n k : ℕ) → n < k + 1 → (n < k) ⊎ (n ≡ k)
 before_or_at n k within = grind arith
 
 module _ (l : Layout) (d : TableSchema) where
@@ -166,7 +166,7 @@ module _ (l : Layout) (d : TableSchema) where
   -- one more
   pub indexes_more : (number : ℕ) → IndexesWhere (λ n. n < number) l d
       → ((i : IndexSchema) → index_at d (Some number) ≡ Some i → IndexRead l d i)
-      → IndexesWhere (λ n. n < suc number) l d
+      → IndexesWhere (λ n. n < number + 1) l d
   indexes_more number so_far this n i within at = ⊎_elim
       (λ (before : n < number). so_far n i before at)
       (λ (same : n ≡ number). this i (ap (λ k. index_at d (Some k)) (sym same) ∙ at))

@@ -48,5 +48,5 @@ rows-preserved g c =
           c.args.engine.now c.next_row.new.engine l walked tells reads) at)
           c.in-Ok-key_after.after
           (c.in-Ok-key_after.ensures ∙ ap (λ k. k ++ 0 ∷ []) c.as_slice.ensures.same)
-          c.lesser.result c.lesser.ensures;
+          c.lesser-least.result c.lesser-least.ensures;
     }

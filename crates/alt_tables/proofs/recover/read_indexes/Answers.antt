@@ -51,3 +51,8 @@ tables-preserved g c = record {
       c.in-Some.ensures.above.there));
   small = c.held.ensures.held.family;
 }
+
+pub returns-clause-read : goal.returns-clause-read
+returns-clause-read g c tells l next reads read name d at =
+    c.tables.invariant.read tells l next reads read name d at
+    (c.in_default.ensures.above name d at)

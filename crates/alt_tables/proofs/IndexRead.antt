@@ -6,7 +6,6 @@ use Rattle.alt_engine.specs.Layout.{Layout, shown}
 use Rattle.alt_machine.specs.Indexed.{index_entry, index_items}
 use Rattle.alt_machine.specs.Rekeyed.{AreApart}
 use Rattle.alt_machine.specs.State.{State, Table}
-use Rattle.alt_machine.specs.Valid.{IsStored}
 use Rattle.alt_machine.proofs.Indexing.{index_apart}
 use Rattle.alt_machine.proofs.Rekeying.{given_by, gives}
 use Rattle.alt_schema.specs.declared.schema.IndexSchema.{IndexSchema}
@@ -16,7 +15,6 @@ use Rattle.alt_tables.specs.Recovery.{AgreesWhole}
 use Rattle.alt_tables.specs.StateRows.{index_rows}
 use Rattle.alt_tables.proofs.OneState.{has_whole, some}
 use Rattle.alt_value.specs.Tree.{Pair}
-use Rattle.alt_value.specs.Values.{IsItemOfValues}
 use Rattle.alt_views.specs.IndexRows.{index_columns, row_in_index}
 use Rattle.alt_views.specs.ItemRows.{item_columns}
 use Rattle.alt_views.proofs.ItemRowLaws.{item_columns-one}

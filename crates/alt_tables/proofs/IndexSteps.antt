@@ -7,16 +7,15 @@ use Rattle.alt_machine.specs.Sources.{index_at}
 use Rattle.alt_schema.specs.Indexes.{indexes}
 use Rattle.alt_schema.specs.declared.schema.IndexSchema.{IndexSchema}
 use Rattle.alt_schema.specs.declared.schema.TableSchema.{TableSchema}
-use Rattle.alt_tables.specs.IndexScans.{AreOwn, HasRow, IndexRead, IndexesRead, IndexesWhere, IsAhead, IsFirstForeign, IsFirstOff, IsIndexFault, IsItemThere, IsLeastMissing, IsMissing, IsOwnFault, IsRightAt, ShowsAhead, TellsMissing, TellsMissingOf, lesser}
-use Rattle.alt_tables.specs.Scans.{IsBelow, IsFirstFrom, IsItemAt, IsNextRow, ItemsRead, RowsWhere}
+use Rattle.alt_tables.specs.IndexScans.{AreOwn, HasRow, IndexRead, IndexesRead, IndexesWhere, IsAhead, IsFirstForeign, IsIndexFault, IsItemThere, IsLeastMissing, IsMissing, IsOwnFault, IsRightAt, ShowsAhead, TellsMissing, TellsMissingOf, lesser}
+use Rattle.alt_tables.specs.Scans.{IsBelow, IsFirstFrom, IsNextRow, ItemsRead, RowsWhere}
 use Rattle.alt_tables.specs.declared.faults.OpenFault.{OpenFault}
 use Rattle.alt_tables.specs.declared.faults.OpenFault.TheVariants.{Damaged, BadRow, Failed, NoMemory}
 use Rattle.alt_tables.proofs.IndexKeys.{ahead_first, ahead_second, not_itself, of_lesser}
 use Rattle.alt_tables.proofs.OneState.{some}
 use Rattle.alt_tables.proofs.Scanning.{rows_all, rows_more, rows_next, rows_none}
 use Rattle.alt_value.specs.Tree.{Pair}
-use Rattle.alt_views.specs.IndexRows.{row_in_index}
-use Rattle.alt_views.specs.ItemRows.{IsReadItem, item_columns}
+use Rattle.alt_views.specs.ItemRows.{item_columns}
 
 module _ (l : Layout) (d : TableSchema) (i : IndexSchema) where
   -- ---- missing rows

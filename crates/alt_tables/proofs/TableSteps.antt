@@ -1,5 +1,5 @@
 -- The tables of a catalog, read one after the other in the order of their families.
-use Rattle.std.proofs.Common.{◌≡◌, ◌⊎◌, ◌≤◌, ◌<◌, ⊎_elim, sym, subst, ℕ, List, Some, None, arith}
+use Rattle.std.proofs.Common.{◌≡◌, ◌⊎◌, ◌≤◌, ◌<◌, ⊎_elim, sym, subst, ℕ, List, Some, arith}
 use Rattle.std.specs.FinMap as map
 use Rattle.alt_engine.specs.Layout.{Layout}
 use Rattle.alt_machine.specs.declared.TheConstants.{NUMBERS_END}

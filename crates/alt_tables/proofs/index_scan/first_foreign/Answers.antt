@@ -1,7 +1,6 @@
 -- One row more.
 use Rattle.std.proofs.Common.{◌≡◌, sym, ap, subst, ◌∙◌, ◌++◌, ◌∷◌, [], None, IsTrue}
 use Rattle.std.proofs.lemmas.Bool.{false≢true}
-use Rattle.alt_engine.specs.InHand.{Reads}
 use Rattle.alt_schema.specs.declared.schema.IndexSchema.{IndexSchema}
 use Rattle.alt_tables.specs.IndexScans.{HasRow}
 use Rattle.alt_tables.specs.Scans.{IsFirstFrom, IsNextRow, Walked}

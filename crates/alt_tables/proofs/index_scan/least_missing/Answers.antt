@@ -1,5 +1,5 @@
 -- One item more.
-use Rattle.std.proofs.Common.{◌≡◌, refl, sym, ap, subst, ◌∙◌, ◌++◌, ◌∷◌, [], None, IsTrue}
+use Rattle.std.proofs.Common.{refl, sym, ap, subst, ◌∙◌, ◌++◌, ◌∷◌, [], None, IsTrue}
 use Rattle.alt_tables.specs.Scans.{IsFirstFrom, IsNextRow, Walked}
 use Rattle.alt_tables.proofs.IndexSteps.{missing_all, missing_more, missing_none}
 use Rattle.alt_tables.proofs.Scanning.{walk_start, walk_then, reads_on}

@@ -1,8 +1,7 @@
 -- The item's row isn't shown.
-use Rattle.std.proofs.Common.{◌≡◌, sym, ap, ◌∙◌}
+use Rattle.std.proofs.Common.{◌≡◌, sym, ◌∙◌}
 use Rattle.std.proofs.lemmas.Bool.{false≢true}
 use Rattle.alt_engine.specs.Layout.{shown}
-use Rattle.alt_schema.specs.declared.schema.IndexSchema.{IndexSchema}
 use Rattle.alt_tables.proofs.IndexOwn.{is_missing}
 use Rattle.alt_tables.proofs.OneState.{some}
 use Rattle.alt_tables.proofs.index_scan.missing_key.Goals as goal

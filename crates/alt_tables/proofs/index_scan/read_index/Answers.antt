@@ -1,5 +1,5 @@
 -- The lesser of both keys is the first wrong one.
-use Rattle.std.proofs.Common.{◌≡◌, sym, ap, subst, ◌∙◌, IsTrue}
+use Rattle.std.proofs.Common.{sym, ap, subst, ◌∙◌, IsTrue}
 use Rattle.alt_schema.specs.declared.schema.IndexSchema.{IndexSchema}
 use Rattle.alt_tables.proofs.IndexSteps.{index_read, index_wrong}
 use Rattle.alt_tables.proofs.OneState.{some}

@@ -5,7 +5,7 @@ use Rattle.std.proofs.lemmas.List.Elements.{All-head, All-tail}
 use Rattle.std.specs.Prelude.{if◌then◌else◌}
 use Rattle.std.specs.Ordering.{eq_by_cmp}
 use Rattle.alt_cells.specs.declared.batch.RowChange.{RowChange}
-use Rattle.alt_cells.specs.Changes.{Columns, CanShow, change_between, with_columns, columns_of, as_shown, written}
+use Rattle.alt_cells.specs.Changes.{Columns, CanShow, change_between, with_columns, as_shown, written}
 use Rattle.alt_cells.specs.Keys.{key_cmp}
 use Rattle.alt_cells.proofs.ChangeLaws.{written-change_between, none_shown}
 use Rattle.alt_engine.specs.Layout.{change_of, shown_by}

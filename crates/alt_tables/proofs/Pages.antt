@@ -29,7 +29,6 @@ use Rattle.alt_schema.specs.declared.schema.TableSchema.{TableSchema}
 use Rattle.alt_tables.specs.Faults.{IsFindFault, IsReadFault}
 use Rattle.alt_views.specs.ItemRows.{IsReadItem, item_columns}
 use Rattle.alt_tables.specs.Pages.{AreItemsOf, AreKept, ArePut}
-use Rattle.alt_tables.specs.StateRows.{Shows}
 use Rattle.alt_tables.specs.Stands.{Stands, catalog_of}
 use Rattle.alt_tables.specs.declared.faults.TableFault.{TableFault}
 use Rattle.alt_tables.specs.declared.faults.TableFault.TheVariants.{Spent, Damaged, BadRow, Failed, NoMemory}
@@ -386,7 +385,7 @@ module _ (disk : DiskState) (tables : Tables) (s : State) (name : List ℕ) (t :
         kept-take (suc n) (e ∷ es) all = (
           All-head (λ e. IsKeptAt d i e.1 e.0 (index_columns t.description i e.1)) e es all,
           kept-take n es
-          (All-tail (λ e. IsKeptAt d i e.1 e.0 (index_columns t.description i e.1)) e es all),
+              (All-tail (λ e. IsKeptAt d i e.1 e.0 (index_columns t.description i e.1)) e es all),
         )
 
 -- ---- the answer of a walk

@@ -80,9 +80,9 @@ module _ (l : Layout) (d : TableSchema) (number : ℕ) (i : IndexSchema) (made :
       let e = is_entry d i has.item key r.kept r.entry in (
         r.kept,
         subst (λ c. IsKeptAt d i r.kept key c) (sym r.is)
-        (kept_at d number i has.item key r.kept made at has.there.read r.entry),
+            (kept_at d number i has.item key r.kept made at has.there.read r.entry),
         ap (place_of d) (sym (is_cut d i has.item r.kept e.kept)) ∙ place-cut d i has.item
-        ∙ has.there.stored.stands,
+            ∙ has.there.stored.stands,
       )
 
   module _ (place : Option (List ℕ))

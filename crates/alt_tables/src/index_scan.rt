@@ -98,13 +98,7 @@ fn lesser(a: Option<Bytes>, b: Option<Bytes>) -> Option<Bytes>
     match (a, b) {
         (None, b) => b,
         (Some(a), None) => Some(a),
-        (Some(a), Some(b)) => {
-            if b < a {
-                Some(b)
-            } else {
-                Some(a)
-            }
-        }
+        (Some(a), Some(b)) => { if b < a { Some(b) } else { Some(a) } }
     }
 }
 

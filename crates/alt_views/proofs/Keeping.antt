@@ -40,7 +40,7 @@ second_true false b h = absurd (false≢true h)
 -- ---- keys are kept
 
 same_name : (n : List ℕ) → bytes_eq n n ≡ true
-same_name n = grind (bytes_eq-Decides)
+same_name n = grind (arith, bytes_eq-Decides)
 
 or_true : (a b : Bool) → b ≡ true → (a || b) ≡ true
 or_true true b h = refl

@@ -1,5 +1,5 @@
 -- A part of an item: the attributes whose names pass a test.
-use Rattle.std.proofs.Common.{◌≡◌, ◌≤◌, refl, sym, ap, ◌∙◌, ℕ, Bool, true, false, not, cond, T, List, [], ◌∷◌, length, Option, Some, None, max, arith}
+use Rattle.std.proofs.Common.{◌≡◌, ◌≤◌, ◌+◌, refl, sym, ap, ◌∙◌, ℕ, Bool, true, false, not, cond, T, List, [], ◌∷◌, length, Option, Some, None, max, arith}
 use Rattle.std.proofs.lemmas.Map.Text.{is_eq-slice_cmp}
 use Rattle.std.specs.Prelude.{◌&&◌, ◌||◌}
 use Rattle.std.specs.declared.cmp.Ordering.TheVariants.{Equal}
@@ -136,23 +136,27 @@ where-twice : (a b : List ℕ → Bool) (xs : List Pair)
     → where_key text_order (λ n. not (a n || b n)) xs
     ≡ where_key text_order (λ n. not (b n)) (where_key text_order (λ n. not (a n)) xs)
 where-twice a b [] = refl
-where-twice a b (x ∷ xs) = by (a x.0)
+where-twice a b (x ∷ xs) = by (where-twice a b xs) (a x.0)
   where
-    behind : (c : Bool) → cond (not c) (x ∷ where_key text_order (λ n. not (a n || b n)) xs)
+    IsBehind : Type 0
+    IsBehind = where_key text_order (λ n. not (a n || b n)) xs
+        ≡ where_key text_order (λ n. not (b n)) (where_key text_order (λ n. not (a n)) xs)
+
+    behind : IsBehind → (c : Bool) → cond (not c) (x ∷ where_key text_order (λ n. not (a n || b n)) xs)
         (where_key text_order (λ n. not (a n || b n)) xs)
         ≡ cond (not c)
         (x ∷ where_key text_order (λ n. not (b n)) (where_key text_order (λ n. not (a n)) xs))
         (where_key text_order (λ n. not (b n)) (where_key text_order (λ n. not (a n)) xs))
-    behind true = where-twice a b xs
-    behind false = ap (λ ys. x ∷ ys) (where-twice a b xs)
+    behind rest true = rest
+    behind rest false = ap (λ ys. x ∷ ys) rest
 
-    by : (c : Bool) → cond (not (c || b x.0)) (x ∷ where_key text_order (λ n. not (a n || b n)) xs)
+    by : IsBehind → (c : Bool) → cond (not (c || b x.0)) (x ∷ where_key text_order (λ n. not (a n || b n)) xs)
         (where_key text_order (λ n. not (a n || b n)) xs)
         ≡ where_key text_order (λ n. not (b n))
         (cond (not c) (x ∷ where_key text_order (λ n. not (a n)) xs)
         (where_key text_order (λ n. not (a n)) xs))
-    by true = where-twice a b xs
-    by false = behind (b x.0)
+    by rest true = rest
+    by rest false = behind rest (b x.0)
 
 -- ---- an item without its keys
 

@@ -17,12 +17,8 @@ use Rattle.alt_views.proofs.Batched.{has_row-append}
 
 -- ---- a change that may say nothing
 
--- a change without a cell isn't made
-pub unsaid : (c : RowChange) → c.cells ≡ [] → if_said c ≡ []
-unsaid c is = subst (λ given. if_said (record c { cells = given }) ≡ []) (sym is) refl
-
--- and one with a cell is
-pub is_said : (c : RowChange) → (c.cells ≡ [] → ⊥) → if_said c ≡ c ∷ []
+-- a change with a cell is made
+is_said : (c : RowChange) → (c.cells ≡ [] → ⊥) → if_said c ≡ c ∷ []
 is_said c some = by c.cells refl
   where
     by : (cells : List (List ℕ × Option (List ℕ))) → c.cells ≡ cells → if_said c ≡ c ∷ []

@@ -1,5 +1,5 @@
 -- An index row read back: the keys from the row's key, and the other attributes from its columns.
-use Rattle.std.proofs.Common.{◌≡◌, ◌<◌, refl, sym, ap, subst, ◌∙◌, ℕ, List, [], ◌∷◌, ◌++◌, drop, length, Option, Some, None, option_map, Result, Ok, Err, append_assoc, append-nil}
+use Rattle.std.proofs.Common.{◌≡◌, refl, sym, ap, subst, ◌∙◌, ℕ, List, [], ◌++◌, drop, Option, Some, None, option_map, Result, Ok, Err}
 use Rattle.std.proofs.lemmas.Bool.{false≢true}
 use Rattle.std.specs.Prelude.{not, unwrap_or}
 use Rattle.std.specs.Int.{w64, to_be_bytes}
@@ -7,9 +7,9 @@ use Rattle.std.specs.List.{flat_map}
 use Rattle.std.specs.Result.{IsErr, IsErrAnd}
 use Rattle.alt_cells.specs.Changes.{Columns}
 use Rattle.alt_keyorder.specs.KeyBytes.{key_bytes}
-use Rattle.alt_keyorder.specs.Place.{Place, key_values, place_bytes}
+use Rattle.alt_keyorder.specs.Place.{key_values, place_bytes}
 use Rattle.alt_keyorder.specs.Token.{token_of}
-use Rattle.alt_machine.specs.Indexed.{KeyValues, index_place, place_of_both}
+use Rattle.alt_machine.specs.Indexed.{KeyValues, index_place}
 use Rattle.alt_machine.proofs.Indexing.{has_keys}
 use Rattle.alt_schema.specs.Indexes.{is_key}
 use Rattle.alt_schema.specs.declared.schema.IndexSchema.{IndexSchema}
@@ -20,7 +20,7 @@ use Rattle.alt_value.specs.Tree.{Tree, Pair}
 use Rattle.alt_value.proofs.Entries.{IsItem-with_pair}
 use Rattle.alt_views.specs.IndexRows.{beside_keys}
 use Rattle.alt_views.specs.ItemRows.{IsReadItem, item_columns}
-use Rattle.alt_views.specs.Read.{AreValuesOf, IsKeptAt, IsRangeOf, IsValueOf, Reads, Takes, with_range, with_values}
+use Rattle.alt_views.specs.Read.{AreValuesOf, IsKeptAt, IsRangeOf, Reads, Takes, with_range, with_values}
 use Rattle.alt_views.specs.declared.item_row.Unread.{Unread}
 use Rattle.alt_views.specs.declared.item_row.Unread.TheVariants.{Bad, NoMemory}
 use Rattle.alt_views.proofs.Back.{agrees-beside, agrees-values, agrees_all, agrees_itself, names_of}

@@ -1,5 +1,5 @@
 -- A change with a cell is made.
-use Rattle.std.proofs.Common.{◌≡◌, false, List, length, sym, ap, ◌∙◌}
+use Rattle.std.proofs.Common.{◌≡◌, false, length}
 use Rattle.std.specs.Prelude.{◌==◌}
 use Rattle.alt_views.proofs.Moved.{said_new}
 use Rattle.alt_views.proofs.changes.change_columns.Goals as goal

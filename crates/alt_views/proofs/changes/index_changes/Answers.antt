@@ -19,9 +19,13 @@ change_index-requires-clause-rows c = λ i at.
 pub loop-number-preserved : goal.loop-number-preserved
 loop-number-preserved c =
     let d = c.args.schema.now in
-    let within : c.loop-number.number < length (indexes d) = omega (arith,
-    length-append d.locals d.globals, ap length c.as_slice.ensures.members,
-    ap length c.as_slice-2.ensures.members, c.loop-number-test.true) in
+    let within : c.loop-number.number < length (indexes d) = omega (
+      arith,
+      length-append d.locals d.globals,
+      ap length c.as_slice.ensures.members,
+      ap length c.as_slice-2.ensures.members,
+      c.loop-number-test.true,
+    ) in
     let i = found (indexes d) c.loop-number.number within in
     batch_more d (option_map (λ i. i.now) c.args.old) (option_map (λ i. i.now) c.args.new)
     c.args.batch.now c.loop-number.batch c.change_index.new.batch (indexes d) c.loop-number.number

@@ -1,5 +1,5 @@
 -- The keys are put back beside the other attributes.
-use Rattle.std.proofs.Common.{◌≡◌, Err, [], sym, ap, subst, ◌∙◌, ◌++◌, append-nil}
+use Rattle.std.proofs.Common.{Err, [], sym, ap, ◌∙◌, append-nil}
 use Rattle.std.specs.List.{flat_map}
 use Rattle.alt_keyorder.specs.KeyBytes.{key_bytes}
 use Rattle.alt_keyorder.specs.Place.{key_values}

@@ -2,7 +2,6 @@
 use Rattle.std.proofs.Common.{ℕ, List, sym, ap, ◌∙◌, Option}
 use Rattle.alt_schema.specs.declared.schema.KeyAttr.{KeyAttr}
 use Rattle.alt_value.specs.Item.{without}
-use Rattle.alt_value.specs.Tree.{Pair}
 use Rattle.alt_views.specs.IndexRows.{beside}
 use Rattle.alt_views.proofs.Parts.{beside-hash, beside-both}
 use Rattle.alt_views.proofs.indexed.take_out.Goals as goal

@@ -1,5 +1,5 @@
 -- The value whose part stands there is put at the name.
-use Rattle.std.proofs.Common.{◌≡◌, ℕ, List, drop, sym, ap, ◌∙◌, length, ◌+◌}
+use Rattle.std.proofs.Common.{ℕ, drop, sym, ap, ◌∙◌, length}
 use Rattle.std.proofs.Math.Seq.{drop-append_seam}
 use Rattle.std.proofs.lemmas.List.{drop-drop}
 use Rattle.alt_keyorder.specs.KeyBytes.{key_bytes}

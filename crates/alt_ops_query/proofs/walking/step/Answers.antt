@@ -19,7 +19,6 @@ indexed_place : {d e : TableSchema} → d ≡ e → (index : Option ℕ) (item :
 indexed_place same index item place i is there = ap (λ j. place_in _ j item) is
     ∙ ap (λ d. place_in d (index_at d index) item) same ∙ there
 
-
 pub returns-then-not-more-clause-steps : goal.returns-then-not-more-clause-steps
 returns-then-not-more-clause-steps g c s t ask seen stands at h =
     let i = index_at t.description c.args.index in

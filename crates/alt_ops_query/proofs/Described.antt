@@ -1,6 +1,5 @@
 -- The table that is walked: its items stand at their places, and its description is the one at hand.
-use Rattle.std.proofs.Common.{◌≡◌, ◌<◌, refl, sym, ap, ◌∙◌, ℕ, List, length, get_or, slice_get, Option, Some, None, option_map, IfSome}
-use Rattle.std.proofs.lemmas.Option.{slice_get-get_or}
+use Rattle.std.proofs.Common.{◌≡◌, ◌<◌, refl, sym, ap, ◌∙◌, ℕ, zero, suc, List, [], ◌∷◌, length, slice_get, Option, Some, None, option_map, IfSome, arith}
 use Rattle.std.specs.FinMap as finite
 use Rattle.alt_disk.specs.Disk.{DiskState}
 use Rattle.alt_machine.specs.Sources.{index_at, items_of}
@@ -19,6 +18,12 @@ use Rattle.alt_views.proofs.Keeping.{entry_place}
 
 same_some : {A : Type 0} (x y : A) → Some x ≡ Some y → x ≡ y
 same_some x y e = cc
+
+-- where there are more there is one
+none_past : {A : Type 0} (xs : List A) (n : ℕ) → n < length xs → slice_get xs n ≡ None → ⊥
+none_past [] n h e = omega arith
+none_past (x ∷ xs) zero h e = let no : Some x ≡ None = e in cc no
+none_past (x ∷ xs) (suc n) h e = none_past xs n (omega arith) e
 
 module _ (disk : DiskState) (tables : Tables) (s : State) (stands : Stands disk tables s)
     (name : List ℕ) (t : Table) (at : finite.get s.tables name ≡ Some t) where
@@ -42,8 +47,7 @@ module _ (disk : DiskState) (tables : Tables) (s : State) (stands : Stands disk 
 
       by : (o : Option IndexSchema) → slice_get (indexes t.description) number ≡ o
           → finite.get (items_of t o) place ≡ Some item → MayStand t.description o place item
-      by None past found = absurd (let no : None ≡ Some (get_or (indexes t.description) number _) =
-          sym past ∙ slice_get-get_or (indexes t.description) number _ there in cc no)
+      by None past found = absurd (none_past (indexes t.description) number there past)
       by (Some i) is found =
           let has = all_index s name t number i stands.valid stands.rows.held.items at is in
           let (p, x, here, entry) = has.alone place item found in (

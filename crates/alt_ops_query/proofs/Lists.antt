@@ -1,9 +1,10 @@
 -- A walk over a range of places gives the list that a request asks for, where the range holds its items.
-use Rattle.std.proofs.Common.{◌≡◌, refl, sym, ap, ◌∙◌, cond, ℕ, Bool, true, false, ◌&&◌, T, List, [], ◌∷◌, ◌++◌, map, reverse, Option, Some, None, All, append-nil}
+use Rattle.std.proofs.Common.{◌≡◌, refl, sym, ap, ◌∙◌, cond, ℕ, zero, suc, Bool, true, false, ◌&&◌, T, List, [], ◌∷◌, ◌++◌, map, reverse, Option, Some, None, All, append-nil}
+use Rattle.std.specs.Prelude.{slice_get}
 use Rattle.std.specs.BTreeMap.Range.{range_contains}
 use Rattle.std.specs.FinMap as finite
 use Rattle.std.specs.FinMap.Entries.{below_all, find, is_sorted}
-use Rattle.std.specs.List.{filter}
+use Rattle.std.specs.List.{filter, list_all}
 use Rattle.std.specs.Ordering.{eq_by_cmp}
 use Rattle.std.specs.declared.ops.Bound.TheVariants.{Included}
 use Rattle.std.proofs.lemmas.List.{reverse-append}
@@ -19,6 +20,22 @@ use Rattle.alt_schema.specs.declared.schema.IndexSchema.{IndexSchema}
 use Rattle.alt_tables.proofs.ChangeLaws.{tied, itself}
 use Rattle.alt_value.specs.Members.{text_order}
 use Rattle.alt_value.specs.Tree.{Pair}
+
+-- ---- tests
+
+and_false : (b : Bool) → (b && false) ≡ false
+and_false true = refl
+and_false false = refl
+
+-- where one doesn't pass not all do
+pub not_all : {A : Type 0} (p : A → Bool) (xs : List A) (n : ℕ) (x : A) → slice_get xs n ≡ Some x
+    → p x ≡ false → list_all p xs ≡ false
+not_all p [] n x at fails = absurd (let no : None ≡ Some x = at in cc no)
+not_all p (y ∷ ys) zero x at fails =
+    let same : y ≡ x = cc in
+    ap (λ b. b && list_all p ys) (ap p same ∙ fails)
+not_all p (y ∷ ys) (suc n) x at fails = ap (λ b. p y && b) (not_all p ys n x at fails)
+    ∙ and_false (p y)
 
 -- ---- filters
 

@@ -63,15 +63,15 @@ shown_plain ms items d = by (selects (codes "COUNT") ms)
         ap has_float (sym is) ∙ items_plain items
 
 last_plain : (d : TableSchema) (i : Option IndexSchema) (last : Option (List Pair)) (x : Data)
-    → option_map (λ item. json_of_pairs (key_attributes d i item)) last ≡ Some x
+    → option_map (λ row. json_of_pairs (key_attributes d i row)) last ≡ Some x
     → has_float x ≡ false
 last_plain d i None x e = absurd (let f : ⊥ = cc in f)
-last_plain d i (Some item) x e =
-    let is : json_of_pairs (key_attributes d i item) ≡ x = cc in
-    ap has_float (sym is) ∙ pairs_plain (key_attributes d i item)
+last_plain d i (Some row) x e =
+    let is : json_of_pairs (key_attributes d i row) ≡ x = cc in
+    ap has_float (sym is) ∙ pairs_plain (key_attributes d i row)
 
 pub answer_plain : (d : TableSchema) (i : Option IndexSchema) (ms : Members) (page : Page)
     (last : Option (List Pair)) → has_float (page_answer d i ms page last).body ≡ false
 answer_plain d i ms page last = members_plain (shown_items ms page.items)
-    (option_map (λ item. json_of_pairs (key_attributes d i item)) last) page.count page.scanned
+    (option_map (λ row. json_of_pairs (key_attributes d i row)) last) page.count page.scanned
     (shown_plain ms page.items) (last_plain d i last)

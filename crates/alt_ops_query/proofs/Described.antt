@@ -1,5 +1,5 @@
 -- The table that is walked: its items stand at their places, and its description is the one at hand.
-use Rattle.std.proofs.Common.{◌≡◌, ◌<◌, refl, sym, ap, ◌∙◌, ℕ, zero, suc, List, [], ◌∷◌, length, slice_get, Option, Some, None, option_map, IfSome, arith}
+use Rattle.std.proofs.Common.{◌≡◌, ◌<◌, refl, sym, ap, ◌∙◌, ℕ, List, length, slice_get, Option, Some, None, option_map, IfSome}
 use Rattle.std.specs.FinMap as finite
 use Rattle.alt_disk.specs.Disk.{DiskState}
 use Rattle.alt_machine.specs.Sources.{index_at, items_of}
@@ -7,6 +7,7 @@ use Rattle.alt_machine.specs.State.{State, Table}
 use Rattle.alt_machine.proofs.Descriptions.{get-descriptions}
 use Rattle.alt_machine.proofs.Indexing.{all_index}
 use Rattle.alt_ops_query.specs.Ranges.{MayStand, place_in}
+use Rattle.alt_ops_query.proofs.Lists.{none_past}
 use Rattle.alt_request.proofs.Named.{table_found}
 use Rattle.alt_schema.specs.Indexes.{indexes}
 use Rattle.alt_schema.specs.declared.schema.IndexSchema.{IndexSchema}
@@ -18,12 +19,6 @@ use Rattle.alt_views.proofs.Keeping.{entry_place}
 
 same_some : {A : Type 0} (x y : A) → Some x ≡ Some y → x ≡ y
 same_some x y e = cc
-
--- where there are more there is one
-none_past : {A : Type 0} (xs : List A) (n : ℕ) → n < length xs → slice_get xs n ≡ None → ⊥
-none_past [] n h e = omega arith
-none_past (x ∷ xs) zero h e = let no : Some x ≡ None = e in cc no
-none_past (x ∷ xs) (suc n) h e = none_past xs n (omega arith) e
 
 module _ (disk : DiskState) (tables : Tables) (s : State) (stands : Stands disk tables s)
     (name : List ℕ) (t : Table) (at : finite.get s.tables name ≡ Some t) where

@@ -1,5 +1,5 @@
 -- The page that was filled is answered as that of the list.
-use Rattle.std.proofs.Common.{◌≡◌, refl, sym, ap, subst, ◌∙◌, ℕ, Bool, true, false, List, [], length, map, Option, Some, None, Result, Ok, Err, IfOk, IfErr, option_map}
+use Rattle.std.proofs.Common.{◌≡◌, refl, sym, ap, subst, ◌∙◌, ◌<◌, ℕ, Bool, true, false, List, [], length, map, Option, Some, None, Result, Ok, Err, IfOk, IfErr, IfSome, option_map}
 use Rattle.std.specs.Prelude.{if◌then◌else◌, codes}
 use Rattle.std.specs.FinMap as finite
 use Rattle.std.specs.Result.{IsErr, IsErrAnd}
@@ -28,6 +28,7 @@ use Rattle.alt_request.specs.declared.stop.Stop.{Stop}
 use Rattle.alt_request.specs.declared.stop.Stop.TheVariants.{Refused, Fault}
 use Rattle.alt_request.proofs.Carrying.{does_say}
 use Rattle.alt_request.proofs.Reaching.{err_is}
+use Rattle.alt_schema.specs.Indexes.{indexes}
 use Rattle.alt_schema.specs.declared.schema.IndexSchema.{IndexSchema}
 use Rattle.alt_schema.specs.declared.schema.TableSchema.{TableSchema}
 use Rattle.alt_schema.specs.Json.{member_if}
@@ -98,9 +99,9 @@ module _ (d : TableSchema) (x : Option IndexSchema) (ms : Members) (ask : PageAs
 
   -- so is a reply that has it
   pub answered_by : (answer : Answer) (last : Option (List Pair))
-      → answer ≡ page_answer d ms (page_of page) last
-      → last ≡ (if page.ended then filling.last else None) → answer ≡ answer_with d ms ask list
-  answered_by answer last e f = e ∙ ap (page_answer d ms (page_of page)) f ∙ answered_so
+      → answer ≡ page_answer d x ms (page_of page) last
+      → last ≡ (if page.ended then filling.last else None) → answer ≡ answer_with d x ms ask list
+  answered_by answer last e f = e ∙ ap (page_answer d x ms (page_of page)) f ∙ answered_so
 
 -- ---- what is done
 
@@ -163,15 +164,23 @@ some_same : (d x : TableSchema) → Some d ≡ Some x → d ≡ x
 some_same d x same = cc
 
 -- the description of a table is the one that was found
-pub told_of : (found : Option TableSchema) (ms : Members) (filling : Filling)
+pub told_of : (found : Option TableSchema) (index : Option ℕ) (ms : Members) (filling : Filling)
     (r : Result Reply Stop) (d : TableSchema) → Some d ≡ found
-    → IfOk r (λ reply. AnswersPage d ms filling (answer_of reply))
+    → IfOk r (λ reply. AnswersPage d (index_at d index) ms filling (answer_of reply))
     → IfOk r (λ reply. (x : TableSchema) → found ≡ Some x
-    → AnswersPage x ms filling (answer_of reply))
-told_of found ms filling (Ok reply) d is h =
-    λ x at. subst (λ y. AnswersPage y ms filling (answer_of reply))
+    → AnswersPage x (index_at x index) ms filling (answer_of reply))
+told_of found index ms filling (Ok reply) d is h =
+    λ x at. subst (λ y. AnswersPage y (index_at y index) ms filling (answer_of reply))
     (some_same d x (is ∙ at)) h
-told_of found ms filling (Err stop) d is h = tt
+told_of found index ms filling (Err stop) d is h = tt
+
+-- and so is what holds of each description that is there
+pub within_of : (catalog : Texts TableSchema) (name : List ℕ) (index : Option ℕ) (d : TableSchema)
+    → finite.get catalog name ≡ Some d → IfSome index (λ n. n < length (indexes d))
+    → (x : TableSchema) → finite.get catalog name ≡ Some x
+    → IfSome index (λ n. n < length (indexes x))
+within_of catalog name index d is h x at = subst (λ y. IfSome index (λ n. n < length (indexes y)))
+    (some_same d x (sym is ∙ at)) h
 
 -- the reply is that of the description at hand
 pub told_at : (catalog : Texts TableSchema) (name : List ℕ) (index : Option ℕ) (ms : Members)

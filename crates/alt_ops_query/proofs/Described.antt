@@ -1,6 +1,5 @@
 -- The table that is walked: its items stand at their places, and its description is the one at hand.
-use Rattle.std.proofs.Common.{◌≡◌, ◌<◌, refl, sym, ap, ◌∙◌, ℕ, List, length, get_or, slice_get, Option, Some, None, option_map, IfSome}
-use Rattle.std.proofs.lemmas.Option.{slice_get-get_or}
+use Rattle.std.proofs.Common.{◌≡◌, ◌<◌, refl, sym, ap, ◌∙◌, ℕ, List, length, slice_get, Option, Some, None, option_map, IfSome}
 use Rattle.std.specs.FinMap as finite
 use Rattle.alt_disk.specs.Disk.{DiskState}
 use Rattle.alt_machine.specs.Sources.{index_at, items_of}
@@ -8,6 +7,7 @@ use Rattle.alt_machine.specs.State.{State, Table}
 use Rattle.alt_machine.proofs.Descriptions.{get-descriptions}
 use Rattle.alt_machine.proofs.Indexing.{all_index}
 use Rattle.alt_ops_query.specs.Ranges.{MayStand, place_in}
+use Rattle.alt_ops_query.proofs.Lists.{none_past}
 use Rattle.alt_request.proofs.Named.{table_found}
 use Rattle.alt_schema.specs.Indexes.{indexes}
 use Rattle.alt_schema.specs.declared.schema.IndexSchema.{IndexSchema}
@@ -42,8 +42,7 @@ module _ (disk : DiskState) (tables : Tables) (s : State) (stands : Stands disk 
 
       by : (o : Option IndexSchema) → slice_get (indexes t.description) number ≡ o
           → finite.get (items_of t o) place ≡ Some item → MayStand t.description o place item
-      by None past found = absurd (let no : None ≡ Some (get_or (indexes t.description) number _) =
-          sym past ∙ slice_get-get_or (indexes t.description) number _ there in cc no)
+      by None past found = absurd (none_past (indexes t.description) number there past)
       by (Some i) is found =
           let has = all_index s name t number i stands.valid stands.rows.held.items at is in
           let (p, x, here, entry) = has.alone place item found in (

@@ -179,11 +179,13 @@ values_bytes hash (Some range) h r = both_bytes (key_bytes hash) (key_bytes rang
 pub bytes_there : (d : TableSchema) (i : Option IndexSchema) (key : List ℕ) (item : List Pair)
     → MayStand d i key item → AreBytes key
 bytes_there d None key item may =
-    let keys = keyed d item key may.1.fields may.0.stands in
-    subst AreBytes (sym (keys.is))
-    (both_bytes (place_bytes (place_in_table keys.hash keys.range)) [] (values_place keys.hash keys.range
+    let (keys, none) = keyed d item key may.1.fields may.0.stands in
+    subst AreBytes (sym keys.is)
+    (both_bytes (place_bytes (place_in_table keys.hash keys.range)) keys.behind
+    (values_place keys.hash keys.range
     (field_value d.hash.name item keys.hash may.1.fields keys.has_hash.at)
-    (beside_value item d.range keys.range may.1.fields keys.has_range)) tt)
+    (beside_value item d.range keys.range may.1.fields keys.has_range))
+    (subst AreBytes (sym none) tt))
 bytes_there d (Some i) key row may =
     let both = has_both d i may.1 key row may.3 may.4 in
     subst AreBytes (sym both.is)

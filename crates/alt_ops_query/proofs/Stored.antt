@@ -97,30 +97,33 @@ beside item p hash (Some key) h e = by (key_value item key) refl e
     by (Some r) at f =
         (Some r, part_is item key r h at, sym (same_Some (place_in_table hash (Some r)) p f))
 
--- an item has the key whose place it has
+-- an item has the key whose place it has, and nothing is behind its values there
 pub keyed : (d : TableSchema) (item : List Pair) (place : List ℕ) → AreFields (fields_of item)
-    → place_of d item ≡ Some place → IsKeyed d.hash d.range item place
+    → place_of d item ≡ Some place
+    → (k : IsKeyed d.hash d.range item place) × (k.behind ≡ [])
 keyed d item place h e = by (key_value item d.hash) refl e
   where
     with_hash : (hash : Tree) → key_value item d.hash ≡ Some hash → (o : Option Place)
         → place_beside item d.range hash ≡ o → option_map place_bytes o ≡ Some place
-        → IsKeyed d.hash d.range item place
+        → (k : IsKeyed d.hash d.range item place) × (k.behind ≡ [])
     with_hash hash at None stands f = absurd (let g : ⊥ = cc in g)
     with_hash hash at (Some p) stands f =
-        let rest = beside item p hash d.range h stands in
-        record {
-          hash = hash;
-          range = rest.0;
-          has_hash = part_is item d.hash hash h at;
-          has_range = rest.1;
-          behind = [];
-          is = sym (same_Some (place_bytes p) place f) ∙ ap place_bytes rest.2
-              ∙ sym (append-nil (place_bytes (place_in_table hash rest.0)));
-        }
+        let rest = beside item p hash d.range h stands in (
+          record {
+            hash = hash;
+            range = rest.0;
+            has_hash = part_is item d.hash hash h at;
+            has_range = rest.1;
+            behind = [];
+            is = sym (same_Some (place_bytes p) place f) ∙ ap place_bytes rest.2
+                ∙ sym (append-nil (place_bytes (place_in_table hash rest.0)));
+          },
+          refl,
+        )
 
     by : (o : Option Tree) → key_value item d.hash ≡ o
         → option_map place_bytes (option_and_then (place_beside item d.range) o) ≡ Some place
-        → IsKeyed d.hash d.range item place
+        → (k : IsKeyed d.hash d.range item place) × (k.behind ≡ [])
     by None at f = absurd (let g : ⊥ = cc in g)
     by (Some hash) at f = with_hash hash at (place_beside item d.range hash) refl f
 
@@ -208,7 +211,7 @@ has_both d i item key row held entry =
 -- What may stand in a table or in an index has the values of the key by which it lies there.
 pub keyed_there : (d : TableSchema) (i : Option IndexSchema) (key : List ℕ) (item : List Pair)
     → MayStand d i key item → IsKeyed (hash_of d i) (range_of d i) item key
-keyed_there d None key item may = keyed d item key may.1.fields may.0.stands
+keyed_there d None key item may = (keyed d item key may.1.fields may.0.stands).0
 keyed_there d (Some i) key row may =
     let both = has_both d i may.1 key row may.3 may.4 in
     record {

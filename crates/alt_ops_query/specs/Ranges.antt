@@ -22,7 +22,7 @@ IsBeyond forward place from to first last = (key : List ℕ)
 
 -- where an item lies in a table or in an index
 abbrev pub place_in : TableSchema → Option IndexSchema → List Pair → Option (List ℕ)
-place_in d None = place_of d
+place_in d None item = place_of d item
 place_in d (Some i) item = option_map place_bytes (index_place d i item)
 
 -- An item may stand at a place of a table; or of an index, which keeps it of an item that may.

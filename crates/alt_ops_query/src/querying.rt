@@ -46,7 +46,8 @@ static RULES: Rules = Rules {
     named: &["TableName", "IndexName"],
 };
 
-/// Answers a page of the items of one HASH value, by their RANGE values, in a table or in one of its indexes (API Reference, "Query"). The refusals are those of docs/API.md.
+/// Answers a page of the items of one HASH value, by their RANGE values, in a table or in one of its indexes (API Reference, "Query"). The
+/// refusals are those of docs/API.md.
 pub fn query<D: Disk>(
     alloc: Global,
     tables: &mut Tables,

@@ -44,8 +44,8 @@ struct Segment {
     total: u64,
 }
 
-/// Answers a page of all items of a table or of one of its indexes, or of one segment of them, in the order of their places (API Reference, "Scan"). The
-/// refusals are those of docs/API.md.
+/// Answers a page of all items of a table or of one of its indexes, or of one segment of them, in the order of their places (API
+/// Reference, "Scan"). The refusals are those of docs/API.md.
 pub fn scan<D: Disk>(
     alloc: Global,
     tables: &mut Tables,
@@ -170,8 +170,8 @@ fn tokens_of(alloc: Global, segment: Segment) -> Result<KeyRange, NoMemory>
     })
 }
 
-/// The least number that, times `total` and divided by 2^64, is at least `number`: the first token of a segment. That of the segment behind the
-/// last is 2^64.
+/// The least number that, times `total` and divided by 2^64, is at least `number`: the first token of a segment. That of the segment
+/// behind the last is 2^64.
 fn first_token(number: u64, total: u64) -> u128
     requires below { number ≤ total }
     requires some { 0 < total }

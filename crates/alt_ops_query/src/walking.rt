@@ -29,7 +29,6 @@ use alt_paging::Pager;
 use alt_request::Stop;
 use alt_schema::{IndexSchema, TableSchema};
 use alt_tables::{TableFault, Tables};
-
 use alt_value::Item;
 use alt_views::{index_place, place_of};
 use std::alloc::Global;
@@ -41,8 +40,8 @@ pub(crate) struct Filling {
     pub(crate) last: Option<Item>,
 }
 
-/// Examines the items of a table, or of its index of that number, in a range, from its front on or from its end down, until the page ends or the range does. It asks for
-/// no more items than are certain to be examined, so it never goes past the last of them.
+/// Examines the items of a table, or of its index of that number, in a range, from its front on or from its end down, until the page ends
+/// or the range does. It asks for no more items than are certain to be examined, so it never goes past the last of them.
 pub(crate) fn fill<D: Disk>(
     alloc: Global,
     tables: &mut Tables,

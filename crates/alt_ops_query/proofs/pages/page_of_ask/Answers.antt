@@ -35,9 +35,10 @@ returns-clause-does g c s t stands at =
 pub returns-in_err-fill-clause-does : goal.returns-in_err-fill-clause-does
 returns-in_err-fill-clause-does g c s t stands at =
     let ms : Members = members_view c.args.body.now.entries in
+    let i = index_at t.description c.args.index in
     does_fault (Stands (g.D.Disk.state c.fill.new.disk) c.fill.new.tables) s
-    (says (answer_with t.description ms c.args.ask
-    (items_between t c.args.range.from c.args.range.to c.args.forward)))
+    (says (answer_with t.description i ms c.args.ask
+    (items_between t i c.args.range.from c.args.range.to c.args.forward)))
     c.from_residual.result c.in_err-fill.field-0.0 c.from_residual.ensures
     (c.in_err-fill.ensures.fault s t c.args.ask stands
     (ap (map.get s.tables) c.table_name-name.ensures.name ∙ at)

@@ -13,12 +13,11 @@ use Rattle.alt_ops_query.proofs.walking.step.Goals as goal
 use Rattle.alt_ops_query.proofs.walking.step.Goals.{then-not-more-via-then-not-more, then-not-more-via-else-not-more+then-got-most}
 
 -- a place by the description and the index at hand
-indexed_place : {d e : TableSchema} → d ≡ e → (index : Option ℕ) (item : List Pair) (place : List ℕ)
-    (i : Option IndexSchema) → i ≡ index_at d index → place_in e (index_at e index) item ≡ Some place
+indexed_place : (d e : TableSchema) → d ≡ e → (index : Option ℕ) (item : List Pair)
+    (place : List ℕ) (i : Option IndexSchema) → i ≡ index_at d index → place_in e (index_at e index) item ≡ Some place
     → place_in d i item ≡ Some place
-indexed_place same index item place i is there = ap (λ j. place_in _ j item) is
-    ∙ ap (λ d. place_in d (index_at d index) item) same ∙ there
-
+indexed_place d e same index item place i is there = ap (λ j. place_in d j item) is
+    ∙ ap (λ x. place_in x (index_at x index) item) same ∙ there
 
 pub returns-then-not-more-clause-steps : goal.returns-then-not-more-clause-steps
 returns-then-not-more-clause-steps g c s t ask seen stands at h =
@@ -69,7 +68,7 @@ returns-in-Ok-clause-steps g c s t ask seen stands at h =
     (subst (λ b. Examines filling ask seen items b) c.if-not-more.false examined).0
     many c.certain-most.ensures.some c.in-Ok.rest
     (λ item place last there. c.in-Ok.ensures.rest item place last
-    (indexed_place same c.args.index item place _ c.index_of.ensures.index there))
+    (indexed_place _ _ same c.args.index item place _ c.index_of.ensures.index there))
 
 pub returns-in-Err-clause-fault : goal.returns-in-Err-clause-fault
 returns-in-Err-clause-fault g c s t ask seen stands at h =
@@ -96,4 +95,4 @@ returns-in-Err-clause-fault g c s t ask seen stands at h =
     items most given (subst (λ b. Examines filling ask seen items b) c.if-not-more.false examined).0
     many c.certain-most.ensures.some in
     memory_fault c.in-Err.stop (c.in-Err.ensures.fault item place last
-    (indexed_place same c.args.index item place _ c.index_of.ensures.index there))
+    (indexed_place _ _ same c.args.index item place _ c.index_of.ensures.index there))

@@ -135,6 +135,20 @@ wants(
     "ValidationException",
 )
 
+with table.batch_writer(overwrite_by_pkeys=["Artist", "Year"]) as batch:
+    for n in range(60):
+        batch.put_item(Item={"Artist": "batch", "Year": n})
+    batch.delete_item(Key={"Artist": "batch", "Year": 7})
+in_batch = Key("Artist").eq("batch")
+wants("a batch_writer", table.query(KeyConditionExpression=in_batch, Select="COUNT")["Count"], 59)
+asked = {"Keys": [{"Artist": "batch", "Year": n} for n in range(90, -10, -1)], "ProjectionExpression": "#y"}
+asked["ExpressionAttributeNames"] = {"#y": "Year"}
+batch = boto3.resource("dynamodb", **SETTINGS).batch_get_item(RequestItems={"Music": asked})
+wants("batch_get_item", [item["Year"] for item in batch["Responses"]["Music"]], [n for n in range(59, -1, -1) if n != 7])
+wants("all of it", batch["UnprocessedKeys"], {})
+twice = {"Keys": [{"Artist": {"S": "batch"}, "Year": {"N": year}} for year in ("1", "1.0")]}
+wants("a key that stands twice", error_of(client.batch_get_item, RequestItems={"Music": twice}), "ValidationException")
+
 
 def put_some(first):
     mine = boto3.client("dynamodb", **SETTINGS)

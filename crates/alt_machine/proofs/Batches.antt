@@ -14,14 +14,12 @@ use Rattle.alt_machine.specs.Keys.{key_fits}
 use Rattle.alt_machine.specs.Members.{item_at}
 use Rattle.alt_machine.specs.Ops.BatchWriteItem.{of_body, requests, read_member, read_write, of_sought, of_member, of_members, writes_asked, left_of, left_by, written_by, writes_of, writes_of_all, batch_write_item}
 use Rattle.alt_machine.specs.Ops.BatchGetItem.{Reads, Shown, read_table, said_in, placed_all, reads_asked, of_body as get_body}
-use Rattle.alt_machine.specs.Ops.PutItem.{of_item}
-use Rattle.alt_machine.specs.Outcomes.{a_number, last_state, writes}
+use Rattle.alt_machine.specs.Outcomes.{a_number, last_state}
 use Rattle.alt_machine.specs.Refusals.{first_answer, or_refused, refuse_if, unless_answer, ◌>>=◌}
 use Rattle.alt_machine.specs.Same.{is_same}
 use Rattle.alt_machine.specs.State.{State, Table, Texts, descriptions}
 use Rattle.alt_machine.specs.Targets.{member_of, of_length, place_in}
-use Rattle.alt_machine.specs.Valid.{IsStored, IsValid}
-use Rattle.alt_machine.specs.Wanted.{lack_of}
+use Rattle.alt_machine.specs.Valid.{IsStored}
 use Rattle.alt_machine.specs.Writes.{with_write, after_item, item_writes}
 use Rattle.alt_machine.proofs.Chains.{Steps, AreSteps, no_steps, first_step, steps-found, found_is}
 use Rattle.alt_machine.proofs.Descriptions.{get-descriptions}

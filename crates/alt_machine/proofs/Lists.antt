@@ -1,5 +1,5 @@
 -- What an operation on a list of items goes on with, and what it is refused for on the way.
-use Rattle.std.proofs.Common.{◌≡◌, ap, ◌∙◌, ℕ, List, Option, Some, None, Ok, Err}
+use Rattle.std.proofs.Common.{◌≡◌, ap, ◌∙◌, List, Option, Some, None, Ok, Err}
 use Rattle.std.specs.FinMap as map
 use Rattle.serde_json.specs.Data.{Members}
 use Rattle.alt_expr.specs.Given.{Given}

@@ -1,7 +1,7 @@
 -- Batches: what BatchWriteItem and BatchGetItem have in common (DynamoDB API Reference, "BatchWriteItem" and "BatchGetItem"). The members
 -- of a batch stand by the names of their tables in byte order, and in each table in list order. Each step of the refusals is made over
 -- all members before the next step.
-use Rattle.std.specs.Prelude.{ℕ, Bool, true, false, not, ◌&&◌, ◌||◌, nat_le, List, [], ◌∷◌, ◌++◌, map, Option, Some, None, option_and_then, unwrap_or, Result, Ok, Err, codes}
+use Rattle.std.specs.Prelude.{ℕ, Bool, false, ◌&&◌, ◌||◌, nat_le, List, [], ◌∷◌, ◌++◌, map, Option, Some, None, option_and_then, unwrap_or, Result, Ok, codes}
 use Rattle.std.specs.List.{list_any, list_all}
 use Rattle.std.specs.FinMap as finite
 use Rattle.std.specs.Str.{bytes_eq}
@@ -9,8 +9,6 @@ use Rattle.serde_json.specs.Data.{Data, Items, no_items, item, Members, no_membe
 use Rattle.serde_json.specs.Find.{as_array, as_object}
 use Rattle.alt_machine.specs.declared.BatchMember.{BatchMember}
 use Rattle.alt_machine.specs.declared.PlacedMember.{PlacedMember}
-use Rattle.alt_machine.specs.declared.Sought.{Sought}
-use Rattle.alt_machine.specs.declared.Sought.TheVariants.{Item, Key}
 use Rattle.alt_machine.specs.Body.{of_shape}
 use Rattle.alt_machine.specs.Refusals.{first_answer, or_refused, refuse_if, refuse_unless, unless_answer, ◌>>=◌}
 use Rattle.alt_machine.specs.State.{Texts}
@@ -20,7 +18,6 @@ use Rattle.alt_schema.specs.declared.schema.TableSchema.{TableSchema}
 use Rattle.alt_shape.specs.Refusals.{Answer, not_found, not_together, bad_batch, bad_name, bad_key}
 use Rattle.alt_shape.specs.Shape.{given}
 use Rattle.alt_shape.specs.declared.rule.Broken.{Broken}
-use Rattle.alt_value.specs.Tree.{Pair}
 
 -- ---- what a body asks of its tables
 

@@ -1,5 +1,5 @@
 -- A BatchGetItem behind the tests of its members, and how its reads stop.
-use Rattle.std.proofs.Common.{◌≡◌, refl, sym, ap, ◌∙◌, ℕ, true, List, [], ◌∷◌, map, Ok, Err}
+use Rattle.std.proofs.Common.{◌≡◌, refl, true, List, [], ◌∷◌, map, Ok, Err, Vec, Global}
 use Rattle.std.specs.Prelude.{fold}
 use Rattle.std.specs.FinMap as finite
 use Rattle.serde_json.specs.Data.{Members}
@@ -8,7 +8,6 @@ use Rattle.alt_machine.specs.Ops.BatchGetItem.{Reads, Shown, batch_get_item, not
 use Rattle.alt_machine.specs.Outcomes.{Outcome, says, with_found}
 use Rattle.alt_machine.specs.State.{State, Texts, descriptions}
 use Rattle.alt_machine.proofs.Batches as machine
-use Rattle.alt_ops_batch.specs.Changed.{Every}
 use Rattle.alt_ops_batch.specs.Readings.{AreKnown, AreAllKnown, IsFault, IfErrFailed}
 use Rattle.alt_request.specs.Batches.{reads_of}
 use Rattle.alt_request.specs.Carried.{Carries, IfFailed}
@@ -26,6 +25,10 @@ pub get_is : (ms : Members) (s : State) → batch_get_item s ms
     ≡ with_found (reads_asked (descriptions s.tables) ms) (go s)
 unfolding batch_get_item
 get_is ms s = refl
+
+-- what is asked for
+abbrev pub asked_of : Vec TableReads Global → List (Reads Shown PlacedMember)
+asked_of v = map reads_of v.items
 
 -- the tables of all keys are there
 keys_known : (catalog : Texts TableSchema) (ks : List PlacedMember)

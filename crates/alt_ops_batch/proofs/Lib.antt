@@ -1,7 +1,8 @@
 pub mod Asked
 pub mod Finding
 pub mod Gets
-pub mod Reading
+pub mod Showing
 pub mod Stopping
+pub mod Taking
 pub mod Writes
 pub mod Writing

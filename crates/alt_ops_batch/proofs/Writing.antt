@@ -1,5 +1,5 @@
 -- One write behind another: what was found elsewhere stays, and what is made so far.
-use Rattle.std.proofs.Common.{◌≡◌, refl, sym, ap, subst, ◌∙◌, ℕ, Bool, true, false, List, [], ◌∷◌, ◌++◌, map, length, Option, Some, None, Result, Ok, Err, inl, inr, is_some, append_assoc, append-nil, arith}
+use Rattle.std.proofs.Common.{◌≡◌, refl, sym, ap, subst, ◌∙◌, ℕ, Bool, true, false, List, [], ◌∷◌, ◌++◌, map, length, Option, Some, None, inl, inr, is_some, append_assoc, append-nil, arith}
 use Rattle.std.specs.Prelude.{if◌then◌else◌, ◌≤◌}
 use Rattle.std.specs.FinMap as finite
 use Rattle.std.specs.Option.{option_map_or}
@@ -17,7 +17,7 @@ use Rattle.alt_machine.proofs.Looks.{at_insert, insert_elsewhere, remove_elsewhe
 use Rattle.alt_ops_batch.specs.Changed.{Every, written_at, MayWrite, AreApart, AreAllApart, IsFound}
 use Rattle.alt_ops_batch.specs.declared.write.Change.{Change}
 use Rattle.alt_schema.specs.declared.schema.TableSchema.{TableSchema}
-use Rattle.alt_tables.specs.Faults.{AreMade, BreakOff, Writes}
+use Rattle.alt_tables.specs.Faults.{AreMade, BreakOff}
 use Rattle.alt_tables.specs.Found.{IsFoundIn}
 use Rattle.alt_tables.specs.Images.{Leaves}
 use Rattle.alt_tables.specs.Stands.{AreReady, Stands, catalog_of}
@@ -96,29 +96,30 @@ pub record IsUnderWay (before : DiskState) (old : Tables) (after : DiskState) (n
   pub apart : AreAllApart (map written_at rest)
   pub so : (s : State) → Stands before old s → AreDone before old after now s moment all rest
 
+-- what was found for the next of them stands there, in whatever state the tables stand for
+pub found_now : (before mid : DiskState) (old now : Tables) (moment : ℕ) (all rest : List Change)
+    (c : Change) → IsUnderWay before old mid now moment all (c ∷ rest) → AreReady before old
+    → (s : State) → Stands mid now s → IsFound s c
+found_now before mid old now moment all rest c so_far ready s stands =
+    let (first, stood) = ready (trusted_back before mid so_far.goes stands.rows.trusted) in
+    let so = so_far.so first stood in
+    subst (λ (q : State). IsFound q c)
+    (one_stands mid now (last_state first so.done) s so.stands stands) so.found.0
+
 module _ (before mid after : DiskState) (old now new : Tables) (moment : ℕ) (all rest : List Change)
     (c : Change) (so_far : IsUnderWay before old mid now moment all (c ∷ rest))
     (goes : Goes mid after)
     (kept : catalog_of new ≡ catalog_of now) where
-  abbrev w : Written
-  w = written_at c
-
-  -- the writes of the change, where its table is there
-  pub its_writes : (s : State) (t : Table) → finite.get s.tables c.table ≡ Some t
-      → item_writes s moment c.table t c.found.place c.new ≡ writes_of s moment w
-  its_writes s t there = sym (ap (λ o. option_map_or
-      (λ (u : Table). item_writes s moment c.table u c.found.place c.new) o []) there)
-
   -- one more is made
   module _ (made : (s : State) → Stands mid now s
-      → AreMade (Stands after new) a_number s (writes_of s moment w)
-      × Leaves mid after s (writes_of s moment w)) where
+      → AreMade (Stands after new) a_number s (writes_of s moment (written_at c))
+      × Leaves mid after s (writes_of s moment (written_at c))) where
     next_done : (s : State) → Stands before old s → AreDone before old after new s moment all rest
     next_done s stood =
         let so = so_far.so s stood in
         let r : State = last_state s so.done in
         let one = made r so.stands in
-        let ws : List State = writes_of r moment w in
+        let ws : List State = writes_of r moment (written_at c) in
         let last = last_behind s so.done ws in
         record {
           done = so.done ++ ws;
@@ -132,7 +133,7 @@ module _ (before mid after : DiskState) (old now new : Tables) (moment : ℕ) (a
               ∙ ap (λ (q : State). (so.done ++ ws)
               ++ writes_of_all q moment (map written_at rest)) (sym last);
           found = subst (λ (q : State). Every (IsFound q) rest) (sym last)
-              (stay_found r moment w rest so_far.apart.0 so.found.1);
+              (stay_found r moment (written_at c) rest so_far.apart.0 so.found.1);
         }
 
     pub one_more : IsUnderWay before old after new moment all rest
@@ -141,7 +142,7 @@ module _ (before mid after : DiskState) (old now new : Tables) (moment : ℕ) (a
       catalog = kept ∙ so_far.catalog;
       ready = λ trusted.
           let (s, stands) = so_far.ready (trusted_back mid after goes trusted) in
-          (last_state s (writes_of s moment w), (made s stands).0.state);
+          (last_state s (writes_of s moment (written_at c)), (made s stands).0.state);
       may = so_far.may.1;
       apart = so_far.apart.1;
       so = next_done;
@@ -149,15 +150,16 @@ module _ (before mid after : DiskState) (old now new : Tables) (moment : ℕ) (a
 
   -- it broke off
   module _ (f : TableFault) (broke : (s : State) → Stands mid now s → IsFound s c
-      → BreakOff (Stands after new) a_number s (writes_of s moment w) f
-      × (1 ≤ length (writes_of s moment w)) × Leaves mid after s (writes_of s moment w)) where
+      → BreakOff (Stands after new) a_number s (writes_of s moment (written_at c)) f
+      × (1 ≤ length (writes_of s moment (written_at c)))
+      × Leaves mid after s (writes_of s moment (written_at c))) where
     pub broke_off : (s : State) → Stands before old s
         → BreakOff (Stands after new) a_number s (writes_of_all s moment (map written_at all)) f
     broke_off s stood =
         let so = so_far.so s stood in
         let r : State = last_state s so.done in
         let one = broke r so.stands so.found.0 in
-        let ws : List State = writes_of r moment w in
+        let ws : List State = writes_of r moment (written_at c) in
         let others : List State = writes_of_all (last_state r ws) moment (map written_at rest) in
         subst (λ l. BreakOff (Stands after new) a_number s l f)
         (append_assoc so.done ws others ∙ sym so.whole)
@@ -170,7 +172,7 @@ module _ (before mid after : DiskState) (old now new : Tables) (moment : ℕ) (a
         let so = so_far.so s stood in
         let r : State = last_state s so.done in
         let one = broke r so.stands so.found.0 in
-        let ws : List State = writes_of r moment w in
+        let ws : List State = writes_of r moment (written_at c) in
         let others : List State = writes_of_all (last_state r ws) moment (map written_at rest) in
         subst (λ l. Leaves before after s l)
         (append_assoc so.done ws others ∙ sym so.whole)
@@ -178,14 +180,6 @@ module _ (before mid after : DiskState) (old now new : Tables) (moment : ℕ) (a
         (goes_on before mid after so_far.goes goes) stood
         (leaves_both before mid after old now s so.done ws so_far.goes stood so.stands so.leaves
         one.2))
-
-  -- what was found for it stands there, in whatever state the tables stand for
-  pub found_now : AreReady before old → (s : State) → Stands mid now s → IsFound s c
-  found_now ready s stands =
-      let (first, stood) = ready (trusted_back before mid so_far.goes stands.rows.trusted) in
-      let so = so_far.so first stood in
-      subst (λ (q : State). IsFound q c)
-      (one_stands mid now (last_state first so.done) s so.stands stands) so.found.0
 
 -- ---- one write, by the name of its table
 
@@ -244,8 +238,8 @@ module _ (mid after : DiskState) (now new : Tables) (moment : ℕ) (c : Change) 
       by : (t : Table) (b : Bool) → (is_same (finite.get t.items c.found.place) c.new ≡ true → ⊥)
           → is_same (finite.get t.items c.found.place) c.new ≡ b
           → 1 ≤ length (if b then [] else after_item s moment name t c.found.place c.new ∷ [])
-      by t true no e = absurd (no e)
-      by t false no e = omega arith
+      by t true differ e = absurd (differ e)
+      by t false differ e = omega arith
 
 -- ---- at the end
 

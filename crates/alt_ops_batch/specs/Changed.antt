@@ -1,5 +1,5 @@
 -- What a BatchWriteItem is to write, with what was found there.
-use Rattle.std.specs.Prelude.{◌≡◌, ℕ, true, List, [], ◌∷◌, Option, Some, IfSome}
+use Rattle.std.specs.Prelude.{◌≡◌, true, List, [], ◌∷◌, Some, IfSome}
 use Rattle.std.specs.FinMap as map
 use Rattle.alt_machine.specs.Ops.BatchWriteItem.{Written}
 use Rattle.alt_machine.specs.State.{State, Texts}

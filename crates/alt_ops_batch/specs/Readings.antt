@@ -1,17 +1,16 @@
 -- What a BatchGetItem has read, as the machine has it.
-use Rattle.std.specs.Prelude.{◌≡◌, ℕ, ◌+◌, ◌≤◌, true, false, List, [], ◌∷◌, ◌++◌, length, map, drop, sum_by, Option, Some, None, Result, Ok, Err}
+use Rattle.std.specs.Prelude.{◌≡◌, ℕ, ◌+◌, ◌≤◌, true, false, List, [], ◌∷◌, ◌++◌, length, map, drop, sum_by, Option, Result, Ok, Err}
 use Rattle.std.specs.FinMap as finite
-use Rattle.std.specs.List.{filter_map}
-use Rattle.serde_json.specs.View.{view, items_view, members_view}
+use Rattle.std.specs.List.{cons_option, filter_map}
+use Rattle.serde_json.specs.Data.{Data, array, Members, put}
+use Rattle.serde_json.specs.View.{view, items_of, items_view, members_view}
+use Rattle.serde_json.specs.Written.{items_have_float, members_have_float}
 use Rattle.serde_json.specs.declared.value.Value.{Value}
 use Rattle.alt_codec.specs.Writing.{json_of_pairs}
-use Rattle.alt_tables.specs.Faults.{IsFindFault}
-use Rattle.serde_json.specs.Written.{items_have_float, members_have_float}
 use Rattle.alt_machine.specs.declared.PlacedMember.{PlacedMember}
 use Rattle.alt_machine.specs.declared.TheConstants.{BATCH_BYTES, LARGEST_ITEM}
-use Rattle.alt_machine.specs.Lists.{items_json}
 use Rattle.alt_machine.specs.Ops.BatchGetItem as machine
-use Rattle.alt_machine.specs.Ops.BatchGetItem.{Shown, found_at, size_at, read_of}
+use Rattle.alt_machine.specs.Ops.BatchGetItem.{Shown, found_at, keys_object, size_at, read_of}
 use Rattle.alt_machine.specs.Ops.GetItem.{parts}
 use Rattle.alt_machine.specs.State.{State, Texts}
 use Rattle.alt_ops_batch.specs.Changed.{Every}
@@ -22,13 +21,11 @@ use Rattle.alt_request.specs.declared.stop.Stop.{Stop}
 use Rattle.alt_request.specs.declared.stop.Stop.TheVariants.{Refused, Fault}
 use Rattle.alt_request.specs.declared.batch_reads.TableReads.{TableReads}
 use Rattle.alt_schema.specs.declared.schema.TableSchema.{TableSchema}
+use Rattle.alt_tables.specs.Faults.{IsFindFault}
+use Rattle.alt_value.specs.Tree.{Pair}
 
--- what is there, as a list
-abbrev pub option_to_list : {A : Type 0} → Option A → List A
-option_to_list None = []
-option_to_list (Some x) = x ∷ []
+-- ---- what is read so far
 
--- what is read so far
 abbrev pub read_so : Read → machine.Read
 read_so read = record {
   size = read.size;
@@ -52,24 +49,47 @@ AreKnown catalog keys = Every (λ (k : PlacedMember). finite.contains_key catalo
 abbrev pub AreAllKnown : Texts TableSchema → List TableReads → Type 0
 AreAllKnown catalog asked = Every (λ (r : TableReads). AreKnown catalog r.keys.items) asked
 
--- Of keys these items are taken from a size on, up to this one, and these keys are left.
-pub record IsTaken (s : State) (paths : Shown) (before : ℕ) (keys : List PlacedMember) (taken : Taken)
+-- ---- the keys of a table
+
+-- an item as it is shown
+abbrev pub item_json : Shown → List Pair → Data
+item_json paths item = json_of_pairs (parts paths item)
+
+-- a key as it is left
+abbrev pub key_json : PlacedMember → Data
+key_json key = json_of_pairs key.item
+
+-- The items of these keys are shown behind those before, up to the one at which the sizes reach 16 MB, and the keys behind it are left.
+pub record Takes (s : State) (paths : Shown) (before : ℕ) (keys : List PlacedMember) (old new : Taken)
     (after : ℕ) : Type 0 where
-  pub items : items_view taken.items.items
-      ≡ items_json (map (parts paths) (filter_map (found_at s) (read_of s before keys)))
-  pub left : items_view taken.left.items
-      ≡ items_json (map (λ (k : PlacedMember). k.item) (drop (length (read_of s before keys)) keys))
+  pub items : map view new.items.items ≡ map view old.items.items
+      ++ map (item_json paths) (filter_map (found_at s) (read_of s before keys))
+  pub left : map view new.left.items ≡ map view old.left.items
+      ++ map key_json (drop (length (read_of s before keys)) keys)
   pub size : after ≡ before + sum_by (size_at s) (read_of s before keys)
 
--- The item at a key is shown behind those before it, where one stands there.
-abbrev pub ShowsMore : State → Shown → PlacedMember → List Value → List Value → Type 0
-ShowsMore s paths key old new = map view new
-    ≡ map view old ++ map (λ i. json_of_pairs (parts paths i)) (option_to_list (found_at s key))
+-- So they are, with nothing before.
+pub record IsTaken (s : State) (paths : Shown) (before : ℕ) (keys : List PlacedMember) (taken : Taken)
+    (after : ℕ) : Type 0 where
+  pub items : map view taken.items.items
+      ≡ map (item_json paths) (filter_map (found_at s) (read_of s before keys))
+  pub left : map view taken.left.items ≡ map key_json (drop (length (read_of s before keys)) keys)
+  pub size : after ≡ before + sum_by (size_at s) (read_of s before keys)
+
+-- an item is shown behind those before it, where there is one
+abbrev pub ShowsMore : Shown → Option (List Pair) → List Value → List Value → Type 0
+ShowsMore paths found old new =
+    map view new ≡ map view old ++ map (item_json paths) (cons_option found [])
 
 -- No float stands among them.
 pub record IsPlainTaken (taken : Taken) : Type 0 where
   pub items : items_have_float (items_view taken.items.items) ≡ false
   pub left : items_have_float (items_view taken.left.items) ≡ false
+
+-- a table is named with its keys that are left, where there are any
+abbrev pub name_left : List ℕ → Members → List Data → Members → Members
+name_left name body [] ms = ms
+name_left name body (d ∷ ds) ms = put name (keys_object body (array (items_of (d ∷ ds)))) ms
 
 -- ---- how it stops
 

@@ -15,8 +15,8 @@ use alt_tables::Tables;
 use serde_json::{Map, Value};
 use std::alloc::Global;
 
-/// Answers the items of keys, or what projections choose of them, up to the item at which their sizes reach 16 MB, and names the keys behind
-/// it (API Reference, "BatchGetItem"). The refusals are those of docs/API.md.
+/// Answers the items of keys, or what projections choose of them, up to the item at which their sizes reach 16 MB, and names the keys
+/// behind it (API Reference, "BatchGetItem"). The refusals are those of docs/API.md.
 pub fn batch_get_item<D: Disk>(
     alloc: Global,
     tables: &mut Tables,

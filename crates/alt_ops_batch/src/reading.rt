@@ -1,24 +1,25 @@
 //! Reading the keys of a batch, table by table, until the sizes of the items have reached 16 MB.
 
-ghost use Rattle.std.specs.Prelude.{◌≡◌, ◌↔◌, ◌+◌, ◌≤◌, All, IfOk, IfErr, OnOk, ◌<◌, true, false, map as each, fold};
+ghost use Rattle.std.specs.Prelude.{◌≡◌, ◌↔◌, ◌+◌, ◌<◌, ◌≤◌, ◌∷◌, [], true, false, Some, All, IfOk, IfErr, OnOk, fold, map as each};
 ghost use Rattle.std.specs.FinMap as map;
 ghost use Rattle.serde_json.specs.View.{items_view};
 ghost use Rattle.serde_json.specs.Written.{items_have_float};
 ghost use Rattle.alt_base.specs.Counts.{Rose};
 ghost use Rattle.alt_machine.specs.Ops.BatchGetItem as machine;
 ghost use Rattle.alt_machine.specs.State.{State};
-ghost use Rattle.alt_ops_batch.specs.Readings.{AreAllKnown, AreKnown, IsBounded, IsPlainRead, IsFault, IfErrFailed, IsPlainTaken, IsTaken, ShowsMore, read_so};
+ghost use Rattle.alt_ops_batch.specs.Readings.{AreAllKnown, AreKnown, IsBounded, IsPlainRead, IsFault, IfErrFailed, IsPlainTaken, IsTaken, ShowsMore, Takes, read_so};
 ghost use Rattle.alt_request.specs.Batches.{HasPlainNames, reads_of};
-ghost use Rattle.alt_value.specs.Size.{item_size};
+ghost use Rattle.alt_request.specs.Steps.{IsMemory};
 ghost use Rattle.alt_tables.specs.Stands.{AreReady, KeepsCatalog, Reads, Stands, catalog_of};
+ghost use Rattle.alt_value.specs.Size.{item_size};
 
-use crate::replies::{keys_asked, shown_parts};
+use crate::replies::{put_items, put_left, shown_parts};
 use alt_codec::json_of_item;
 use alt_disk::Disk;
 use alt_expr::Paths;
 use alt_machine::{BATCH_BYTES, LARGEST_ITEM, PlacedMember};
 use alt_request::{Stop, TableReads};
-use alt_tables::{TableFault, Tables};
+use alt_tables::Tables;
 use alt_value::{Item, item_size_within};
 use serde_json::{Map, Value};
 use std::alloc::Global;
@@ -50,7 +51,7 @@ pub(crate) fn read_all<D: Disk>(
     requires plain { All HasPlainNames asked.items }
     ensures read { (s : State) → Stands (D.state disk.old) tables.old s
         → IfOk result (λ read. read_so read ≡ fold (machine.with_reads s) machine.nothing_read
-        (each reads_of asked.items)) }
+        (each reads_of asked.entry.items)) }
     ensures plain { IfOk result IsPlainRead }
     ensures stays { (s : State) → Stands (D.state disk.old) tables.old s ↔ Stands
         (D.state disk.new) tables.new s }
@@ -85,7 +86,7 @@ fn read_table<D: Disk>(
     requires plain { IsPlainRead read.old }
     requires bounded { IsBounded read.old.size }
     ensures read { (s : State) → Stands (D.state disk.old) tables.old s
-        → OnOk result (read_so read.new ≡ machine.with_reads s (read_so read.old) (reads_of reads)) }
+        → OnOk result (read_so read.new ≡ machine.with_reads s (read_so read.old) (reads_of reads.entry)) }
     ensures plain { OnOk result (IsPlainRead read.new) }
     ensures bounded { OnOk result (IsBounded read.new.size) }
     ensures stays { (s : State) → Stands (D.state disk.old) tables.old s ↔ Stands
@@ -106,11 +107,8 @@ fn read_table<D: Disk>(
     drop(projection);
     let Taken { items, left } = taken?;
     let name = table.as_str();
-    serde_json::put(&mut read.responses, alloc, name, Value::Array(items))?;
-    if !left.is_empty() {
-        let asked = keys_asked(alloc, body, left)?;
-        serde_json::put(&mut read.unprocessed, alloc, name, asked)?;
-    }
+    put_items(alloc, &mut read.responses, name, items)?;
+    put_left(alloc, &mut read.unprocessed, name, body, left)?;
     Ok(())
 }
 
@@ -143,21 +141,42 @@ fn take<D: Disk>(
         left: Vec::new(alloc),
     };
     for key in keys {
-        if *size >= BATCH_BYTES {
-            taken.left.push(json_of_item(alloc, &key.item)?)?;
-        } else {
-            read_key(
-                alloc,
-                tables,
-                disk,
-                key,
-                projection,
-                &mut taken.items,
-                size,
-            )?;
-        }
+        take_key(alloc, tables, disk, key, projection, &mut taken, size)?;
     }
     Ok(taken)
+}
+
+/// Reads a key, or leaves it where the sizes have reached 16 MB.
+fn take_key<D: Disk>(
+    alloc: Global,
+    tables: &mut Tables,
+    disk: &mut D,
+    key: PlacedMember,
+    projection: &Option<Paths>,
+    taken: &mut Taken,
+    size: &mut u64,
+) -> Result<(), Stop>
+    requires ready { AreReady (D.state disk.old) tables.old }
+    requires there { map.contains_key (catalog_of tables.old) key.table ≡ true }
+    requires plain { IsPlainTaken taken.old }
+    requires bounded { IsBounded size.old }
+    ensures takes { (s : State) → Stands (D.state disk.old) tables.old s
+        → OnOk result (Takes s projection.now size.old (key ∷ []) taken.old taken.new size.new) }
+    ensures plain { OnOk result (IsPlainTaken taken.new) }
+    ensures bounded { OnOk result (IsBounded size.new) }
+    ensures stays { (s : State) → Stands (D.state disk.old) tables.old s ↔ Stands
+        (D.state disk.new) tables.new s }
+    ensures catalog { KeepsCatalog tables.old tables.new }
+    ensures fault { (s : State) → Stands (D.state disk.old) tables.old s
+        → IfErr result IsFault }
+    ensures disk { Reads (D.state disk.old) (D.state disk.new) }
+    ensures failed { IfErrFailed result (Rose (D.state disk.old).faults (D.state disk.new).faults) }
+{
+    if *size >= BATCH_BYTES {
+        taken.left.push(json_of_item(alloc, &key.item)?)?;
+        return Ok(());
+    }
+    read_key(alloc, tables, disk, key, projection, &mut taken.items, size)
 }
 
 /// Reads a key: the item that stands there is shown, and its size is counted.
@@ -172,10 +191,11 @@ fn read_key<D: Disk>(
 ) -> Result<(), Stop>
     requires ready { AreReady (D.state disk.old) tables.old }
     requires there { map.contains_key (catalog_of tables.old) key.table ≡ true }
-    requires below { size.old < BATCH_BYTES }
     requires plain { items_have_float (items_view items.old.items) ≡ false }
+    requires below { size.old < BATCH_BYTES }
     ensures shown { (s : State) → Stands (D.state disk.old) tables.old s
-        → OnOk result (ShowsMore s projection.now key items.old.items items.new.items) }
+        → OnOk result (ShowsMore projection.now (machine.found_at s key) items.old.items
+        items.new.items) }
     ensures size { (s : State) → Stands (D.state disk.old) tables.old s
         → OnOk result (size.new ≡ size.old + machine.size_at s key) }
     ensures plain { OnOk result (items_have_float (items_view items.new.items) ≡ false) }
@@ -190,10 +210,32 @@ fn read_key<D: Disk>(
 {
     let PlacedMember { table, place, .. } = key;
     let found = tables.find(disk, table.as_str(), place)?;
-    if let Some(item) = &found.item {
-        items.push(shown_parts(alloc, projection, item)?)?;
-        *size += size_of(item);
+    match &found.item {
+        Some(item) => show(alloc, projection, item, items, size),
+        None => Ok(()),
     }
+}
+
+/// Shows an item, and counts its size.
+fn show(
+    alloc: Global,
+    projection: &Option<Paths>,
+    item: &Item,
+    items: &mut Vec<Value>,
+    size: &mut u64,
+) -> Result<(), Stop>
+    requires plain { items_have_float (items_view items.old.items) ≡ false }
+    requires below { size.old < BATCH_BYTES }
+    ensures shown { OnOk result (ShowsMore projection.now (Some item.now) items.old.items
+        items.new.items) }
+    ensures size { item_size item.now ≤ LARGEST_ITEM
+        → OnOk result (size.new ≡ size.old + item_size item.now) }
+    ensures plain { OnOk result (items_have_float (items_view items.new.items) ≡ false) }
+    ensures bounded { OnOk result (IsBounded size.new) }
+    ensures cause { IfErr result IsMemory }
+{
+    items.push(shown_parts(alloc, projection, item)?)?;
+    *size += size_of(item);
     Ok(())
 }
 

@@ -1,17 +1,20 @@
 //! What a BatchGetItem answers: the items, and the keys that it didn't read, as they may be asked for again.
 
-ghost use Rattle.std.specs.Prelude.{◌≡◌, false, IfOk, IfErr, codes, option_map};
+ghost use Rattle.std.specs.Prelude.{◌≡◌, false, IfOk, IfErr, OnOk, codes, map, option_and_then, option_map};
 ghost use Rattle.std.specs.Option.{option_map_or};
-ghost use Rattle.serde_json.specs.Data.{array, object};
+ghost use Rattle.serde_json.specs.Data.{array, boolean, object, put, string};
+ghost use Rattle.serde_json.specs.Find.{as_bool, as_str};
 ghost use Rattle.serde_json.specs.View.{view, items_view, members_view};
 ghost use Rattle.serde_json.specs.Written.{has_float, items_have_float, members_have_float};
 ghost use Rattle.alt_codec.specs.Writing.{json_of_pairs};
 ghost use Rattle.alt_machine.specs.Expressions.{names_member};
 ghost use Rattle.alt_machine.specs.Ops.BatchGetItem as machine;
 ghost use Rattle.alt_machine.specs.Ops.GetItem.{parts};
-ghost use Rattle.alt_ops_batch.specs.Readings.{IsPlainRead, read_so};
+ghost use Rattle.alt_ops_batch.specs.Readings.{IsPlainRead, name_left, read_so};
 ghost use Rattle.alt_request.specs.Steps.{IsMemory};
+ghost use Rattle.alt_schema.specs.Json.{put_if};
 ghost use Rattle.alt_shape.specs.Refusals.{answer_of};
+ghost use Rattle.alt_shape.specs.Shape.{given};
 
 use crate::reading::Read;
 use alt_base::NoMemory;
@@ -38,7 +41,12 @@ pub(crate) fn read_reply(alloc: Global, read: Read) -> Result<Reply, Stop>
     } = read;
     let mut members = Map::new(alloc);
     serde_json::put(&mut members, alloc, "Responses", Value::Object(responses))?;
-    serde_json::put(&mut members, alloc, "UnprocessedKeys", Value::Object(unprocessed))?;
+    serde_json::put(
+        &mut members,
+        alloc,
+        "UnprocessedKeys",
+        Value::Object(unprocessed),
+    )?;
     Ok(Reply::answered(members))
 }
 
@@ -57,12 +65,51 @@ pub(crate) fn shown_parts(
     }
 }
 
-/// What is asked of keys, with those members of their table that were given.
-pub(crate) fn keys_asked(
+/// Names a table with its items as they are shown.
+pub(crate) fn put_items(
     alloc: Global,
+    responses: &mut Map<String, Value>,
+    name: &str,
+    items: Vec<Value>,
+) -> Result<(), NoMemory>
+    requires items { items_have_float (items_view items.items) ≡ false }
+    requires before { members_have_float (members_view responses.old.entries) ≡ false }
+    ensures put { OnOk result (members_view responses.new.entries ≡ put name.now
+        (array (items_view items.items)) (members_view responses.old.entries)) }
+    ensures plain { OnOk result (members_have_float (members_view responses.new.entries) ≡ false) }
+{
+    serde_json::put(responses, alloc, name, Value::Array(items))?;
+    Ok(())
+}
+
+/// Names a table with the keys that are left of it, where there are any.
+pub(crate) fn put_left(
+    alloc: Global,
+    unprocessed: &mut Map<String, Value>,
+    name: &str,
     body: &Map<String, Value>,
-    keys: Vec<Value>,
-) -> Result<Value, NoMemory>
+    left: Vec<Value>,
+) -> Result<(), NoMemory>
+    requires names { option_map_or members_have_float (names_member (members_view body.now.entries))
+        false ≡ false }
+    requires left { items_have_float (items_view left.items) ≡ false }
+    requires before { members_have_float (members_view unprocessed.old.entries) ≡ false }
+    ensures put { OnOk result (members_view unprocessed.new.entries ≡ name_left name.now
+        (members_view body.now.entries) (map view left.items)
+        (members_view unprocessed.old.entries)) }
+    ensures plain { OnOk result (members_have_float (members_view unprocessed.new.entries)
+        ≡ false) }
+{
+    if left.is_empty() {
+        return Ok(());
+    }
+    let asked = keys_asked(alloc, body, left)?;
+    serde_json::put(unprocessed, alloc, name, asked)?;
+    Ok(())
+}
+
+/// What is asked of keys, with those members of their table that were given.
+fn keys_asked(alloc: Global, body: &Map<String, Value>, keys: Vec<Value>) -> Result<Value, NoMemory>
     requires names { option_map_or members_have_float (names_member (members_view body.now.entries))
         false ≡ false }
     requires keys { items_have_float (items_view keys.items) ≡ false }
@@ -71,23 +118,62 @@ pub(crate) fn keys_asked(
     ensures plain { IfOk result (λ v. has_float (view v) ≡ false) }
 {
     let mut members = Map::new(alloc);
-    if let Some(truth) = truth_at(body, "ConsistentRead") {
-        serde_json::put(&mut members, alloc, "ConsistentRead", Value::Bool(truth))?;
-    }
-    if let Some(names) = names_at(body) {
-        serde_json::put(
-            &mut members,
-            alloc,
-            "ExpressionAttributeNames",
-            names.clone()?,
-        )?;
-    }
+    put_truth(alloc, &mut members, body)?;
+    put_names(alloc, &mut members, body)?;
     serde_json::put(&mut members, alloc, "Keys", Value::Array(keys))?;
+    put_projection(alloc, &mut members, body)?;
+    Ok(Value::Object(members))
+}
+
+fn put_truth(
+    alloc: Global,
+    members: &mut Map<String, Value>,
+    body: &Map<String, Value>,
+) -> Result<(), NoMemory>
+    ensures put { OnOk result (members_view members.new.entries ≡ put_if (codes "ConsistentRead")
+        (option_map (λ b. boolean b) (option_and_then as_bool
+        (given (codes "ConsistentRead") (members_view body.now.entries))))
+        (members_view members.old.entries)) }
+{
+    if let Some(truth) = truth_at(body, "ConsistentRead") {
+        serde_json::put(members, alloc, "ConsistentRead", Value::Bool(truth))?;
+    }
+    Ok(())
+}
+
+fn put_names(
+    alloc: Global,
+    members: &mut Map<String, Value>,
+    body: &Map<String, Value>,
+) -> Result<(), NoMemory>
+    ensures put { OnOk result (members_view members.new.entries
+        ≡ put_if (codes "ExpressionAttributeNames")
+        (option_map (λ names. object names) (names_member (members_view body.now.entries)))
+        (members_view members.old.entries)) }
+{
+    if let Some(names) = names_at(body) {
+        let names = names.clone()?;
+        serde_json::put(members, alloc, "ExpressionAttributeNames", names)?;
+    }
+    Ok(())
+}
+
+fn put_projection(
+    alloc: Global,
+    members: &mut Map<String, Value>,
+    body: &Map<String, Value>,
+) -> Result<(), NoMemory>
+    ensures put { OnOk result (members_view members.new.entries
+        ≡ put_if (codes "ProjectionExpression") (option_map (λ text. string text)
+        (option_and_then as_str
+        (given (codes "ProjectionExpression") (members_view body.now.entries))))
+        (members_view members.old.entries)) }
+{
     if let Some(text) = text_at(body, "ProjectionExpression") {
         let text = Value::try_from_str(alloc, text)?;
-        serde_json::put(&mut members, alloc, "ProjectionExpression", text)?;
+        serde_json::put(members, alloc, "ProjectionExpression", text)?;
     }
-    Ok(Value::Object(members))
+    Ok(())
 }
 
 /// The names that are given, which are an object.

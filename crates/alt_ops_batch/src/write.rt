@@ -64,11 +64,7 @@ fn all_processed(alloc: Global) -> Result<Reply, Stop>
     ensures plain { IfOk result (λ reply. has_float (view reply.body) ≡ false) }
     ensures cause { IfErr result IsMemory }
 {
-    Ok(one_member(
-        alloc,
-        "UnprocessedItems",
-        Value::Object(Map::new(alloc)),
-    )?)
+    Ok(one_member(alloc, "UnprocessedItems", Value::Object(Map::new(alloc)))?)
 }
 
 /// What stands at the places of these members, with what they leave there.

@@ -1,17 +1,27 @@
 -- Steps over all members of a batch, one after another; and its members, table by table.
-use Rattle.std.proofs.Common.{◌≡◌, ◌<◌, ◌≤◌, refl, sym, ap, ◌∙◌, ℕ, zero, suc, ◌+◌, ◌&&◌, ◌||◌, Bool, true, false, nat_le, nat_lt, List, [], ◌∷◌, ◌++◌, map, length, drop, get_or, append_assoc, append-nil, Option, Some, None, Result, Ok, Err, add-one, arith}
-use Rattle.std.specs.List.{list_any}
-use Rattle.std.proofs.lemmas.List.{length-append, length-map}
+use Rattle.std.proofs.Common.{◌≡◌, ◌<◌, refl, sym, ap, ◌∙◌, ℕ, zero, suc, ◌+◌, ◌&&◌, ◌||◌, Bool, true, false, nat_le, nat_lt, List, [], ◌∷◌, ◌++◌, map, length, drop, get_or, append_assoc, append-nil, Option, Some, None, Result, Ok, Err, add-one, arith}
+use Rattle.std.specs.FinMap as finite
+use Rattle.std.specs.List.{list_any, list_all}
+use Rattle.std.proofs.lemmas.List.{length-append, length-map, map_push}
 use Rattle.serde_json.specs.Data.{Data}
 use Rattle.serde_json.specs.View.{view, items_view}
 use Rattle.serde_json.specs.declared.value.Value.{Value}
+use Rattle.alt_machine.specs.declared.BatchMember.{BatchMember}
 use Rattle.alt_machine.specs.declared.PlacedMember.{PlacedMember}
-use Rattle.alt_machine.specs.Batches.{elements, of_each, each_found, is_sized, is_same_key, has_repeat}
-use Rattle.alt_machine.specs.Ops.BatchWriteItem.{of_member, of_members}
-use Rattle.alt_machine.specs.Refusals.{first_answer, ◌>>=◌}
+use Rattle.alt_machine.specs.Batches.{elements, of_each, each_found, is_sized, at_place, placed_in, placed, is_same_key, has_repeat}
+use Rattle.alt_machine.specs.Ops.BatchWriteItem.{is_one, of_member, of_members}
+use Rattle.alt_machine.specs.Refusals.{first_answer, or_refused, unless_answer, ◌>>=◌}
 use Rattle.alt_machine.specs.State.{Texts}
+use Rattle.alt_machine.specs.Targets.{of_length, place_in}
+use Rattle.alt_request.specs.Batches.{request_of}
+use Rattle.alt_request.specs.Steps.{Comes}
+use Rattle.alt_request.specs.Targets.{place_that_fits}
+use Rattle.alt_request.specs.declared.batch_writes.Request.{Request}
+use Rattle.alt_request.specs.declared.stop.Stop.{Stop}
+use Rattle.alt_request.specs.declared.stop.Stop.TheVariants.{Refused, Fault}
+use Rattle.alt_request.proofs.Walks.{all_mapped}
 use Rattle.alt_schema.specs.declared.schema.TableSchema.{TableSchema}
-use Rattle.alt_shape.specs.Refusals.{Answer}
+use Rattle.alt_shape.specs.Refusals.{Answer, refused, not_found, bad_key}
 
 -- ---- what each step finds
 
@@ -48,6 +58,49 @@ module _ {A B : Type 0} (step : A → Result B Answer) where
   -- all are found
   pub found_end : (done : List B) → behind step done [] ≡ Ok done
   found_end done = ap (λ l. Ok l) (append-nil done)
+
+pub ruleset founds = (found_start, found_more, found_stop, found_end)
+
+-- one more is found of those that are left
+pub one_more_found : {A B : Type 0} (step : A → Result B Answer) (r : Result (List B) Answer)
+    (done next : List B) (left rest : List A) (x : A) (y : B) → r ≡ behind step done left
+    → left ≡ x ∷ rest → next ≡ done ++ y ∷ [] → step x ≡ Ok y → r ≡ behind step next rest
+one_more_found step r done next left rest x y so at more found =
+    so ∙ ap (behind step done) at ∙ found_more step done x y rest found
+    ∙ ap (λ ys. behind step ys rest) (sym more)
+
+-- the same of what is read from those that were found
+pub one_more_seen : {A B Y : Type 0} (step : A → Result B Answer) (of : Y → B)
+    (r : Result (List B) Answer) (done next : List Y) (left rest : List A) (x : A) (y : Y)
+    → r ≡ behind step (map of done) left → left ≡ x ∷ rest → next ≡ done ++ y ∷ []
+    → step x ≡ Ok (of y) → r ≡ behind step (map of next) rest
+one_more_seen step of r done next left rest x y so at more found =
+    one_more_found step r (map of done) (map of next) left rest x (of y) so at
+    (ap (map of) more ∙ map_push of done y) found
+
+-- ---- the place of a member
+
+module _ (catalog : Texts TableSchema) (m : BatchMember) (d : TableSchema)
+    (there : or_refused not_found (finite.get catalog m.table) ≡ Ok d) where
+  placed_so : placed catalog m ≡ placed_in d m
+  placed_so = ap (λ r. r >>= (λ x. placed_in x m)) there
+
+  -- a member that has no place, or whose key is too long, is refused
+  pub unplaced : (stop : Stop)
+      → Comes {X = List ℕ} (λ b. b) (place_that_fits m.sought d m.item) (Err stop)
+      → Comes {X = PlacedMember} (λ p. p) (placed catalog m) (Err stop)
+  unplaced (Refused r) h = (
+    placed_so ∙ by (or_refused bad_key (place_in m.sought d m.item)) (first_answer (of_length d m.item)) h.0,
+    h.1,
+  )
+    where
+      by : (q : Result (List ℕ) Answer) (o : Option Answer)
+          → q >>= (λ place. unless_answer o place) ≡ Err (refused r)
+          → q >>= (λ place. unless_answer o (at_place m place)) ≡ Err (refused r)
+      by (Err b) o e = ap (λ a. Err a) (let same : b ≡ refused r = cc in same)
+      by (Ok place) None e = absurd (let f : ⊥ = cc in f)
+      by (Ok place) (Some b) e = ap (λ a. Err a) (let same : b ≡ refused r = cc in same)
+  unplaced (Fault f) h = h
 
 -- ---- how many members there are
 
@@ -120,6 +173,10 @@ module _ (catalog : Texts TableSchema) where
 
 -- ---- the elements of an array
 
+pub elements_length : (vs : List Value) → length (elements (items_view vs)) ≡ length vs
+elements_length [] = refl
+elements_length (v ∷ vs) = ap suc (elements_length vs)
+
 -- from a place on
 elements_from_suc : (vs : List Value) (i : ℕ) (v : Value) → i < length vs
     → elements (items_view (drop i vs)) ≡ view (get_or vs i v) ∷ elements (items_view (drop (suc i) vs))
@@ -130,3 +187,8 @@ elements_from_suc (x ∷ xs) (suc i) v h = elements_from_suc xs i v (omega arith
 pub elements_from : (vs : List Value) (i : ℕ) (v : Value) → i < length vs
     → elements (items_view (drop i vs)) ≡ view (get_or vs i v) ∷ elements (items_view (drop (i + 1) vs))
 elements_from vs i v h = rw add-one (elements_from_suc vs i v h)
+
+-- each write is one put or one delete
+pub all_one : (rs : List Request) → list_all (λ r. is_one (view r.value.now)) rs
+    ≡ list_all (λ r. is_one r.1) (map request_of rs)
+all_one rs = all_mapped request_of (λ r. is_one r.1) rs

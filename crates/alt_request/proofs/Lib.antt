@@ -1,7 +1,9 @@
+pub mod Asked
 pub mod Carrying
 pub mod Founds
 pub mod Listing
 pub mod Named
+pub mod Plain
 pub mod Reaching
 pub mod Said
 pub mod Walks

@@ -1,5 +1,5 @@
 -- Whether a list is reached, which the machine stops at the same step, and what is done there.
-use Rattle.std.proofs.Common.{◌≡◌, refl, sym, ap, subst, ◌∙◌, ℕ, List, Option, Some, None, Result, Ok, Err, Bor}
+use Rattle.std.proofs.Common.{◌≡◌, sym, ap, subst, ◌∙◌, List, Option, Some, None, Result, Ok, Err, Bor}
 use Rattle.std.specs.Result.{IsErr, IsErrAnd}
 use Rattle.std.specs.FinMap as map
 use Rattle.serde_json.specs.Data.{Members}
@@ -12,7 +12,7 @@ use Rattle.alt_machine.specs.Members.{table_name}
 use Rattle.alt_machine.specs.Outcomes.{Outcome}
 use Rattle.alt_machine.specs.Refusals.{first_answer, or_refused}
 use Rattle.alt_machine.specs.Sources.{index_asked}
-use Rattle.alt_machine.specs.State.{State, Table, Texts, descriptions}
+use Rattle.alt_machine.specs.State.{State, Table, Texts}
 use Rattle.alt_machine.proofs.Lists.{list-refused, list-no_words, list-no_start, list-no_table, list-no_index, list-unsaid, list-target}
 use Rattle.alt_request.specs.Carried.{Carries, IfFailed}
 use Rattle.alt_request.specs.Steps.{Comes, Tested}

@@ -1,21 +1,25 @@
 -- What a batch asks for, as the machine has it.
-use Rattle.std.specs.Prelude.{◌≡◌, ℕ, false, List, map, option_map_or, Option}
-use Rattle.serde_json.specs.Data.{Data}
+use Rattle.std.specs.Prelude.{ℕ, List, Result, Ok}
+use Rattle.std.specs.FinMap as map
+use Rattle.serde_json.specs.Data.{Data, Members}
 use Rattle.serde_json.specs.View.{view, members_view}
-use Rattle.serde_json.specs.Written.{members_have_float}
 use Rattle.alt_expr.specs.Given.{Given}
 use Rattle.alt_machine.specs.declared.BatchMember.{BatchMember}
 use Rattle.alt_machine.specs.declared.PlacedMember.{PlacedMember}
 use Rattle.alt_machine.specs.Batches.{elements_in}
-use Rattle.alt_machine.specs.Expressions.{names_member}
+use Rattle.alt_machine.specs.Expressions.{projecting, expressions}
 use Rattle.alt_machine.specs.Ops.BatchGetItem.{Reads, Shown, keys_in}
+use Rattle.alt_machine.specs.Refusals.{or_refused, ◌>>=◌}
+use Rattle.alt_machine.specs.State.{Texts}
 use Rattle.alt_request.specs.declared.batch.Inside.{Inside}
 use Rattle.alt_request.specs.declared.batch.Inside.TheVariants.{Writes, Keys}
-use Rattle.alt_request.specs.declared.batch_reads.KeysRead.{KeysRead}
-use Rattle.alt_request.specs.declared.batch_reads.KeysSaid.{KeysSaid}
+use Rattle.alt_request.specs.declared.batch_keys.KeysRead.{KeysRead}
+use Rattle.alt_request.specs.declared.batch_keys.KeysSaid.{KeysSaid}
 use Rattle.alt_request.specs.declared.batch_reads.TableReads.{TableReads}
 use Rattle.alt_request.specs.declared.batch_writes.Request.{Request}
-use Rattle.alt_request.specs.Words.{given_of}
+use Rattle.alt_request.specs.Words.{given_of, ArePlainNames}
+use Rattle.alt_schema.specs.declared.schema.TableSchema.{TableSchema}
+use Rattle.alt_shape.specs.Refusals.{Answer, not_found}
 
 -- a write, with the name of its table
 abbrev pub request_of : Request → List ℕ × Data
@@ -44,6 +48,13 @@ keys_said r = record {
   keys = r.keys.items;
 }
 
+-- what the projection of a table shows
+abbrev pub shown_in : Texts TableSchema → List ℕ → Members → Given → Result Shown Answer
+shown_in catalog table body words = do
+  d ← or_refused not_found (map.get catalog table)
+  said ← expressions projecting d body words
+  Ok said.projection
+
 -- with their places
 abbrev pub reads_of : TableReads → Reads Shown PlacedMember
 reads_of r = record {
@@ -53,7 +64,6 @@ reads_of r = record {
   keys = r.keys.items;
 }
 
--- The names that are given are texts, so no float stands among them.
+-- no float stands among the names that are given for the projection of a table
 abbrev pub HasPlainNames : TableReads → Type 0
-HasPlainNames r = option_map_or members_have_float (names_member (members_view r.body.now.entries)) false
-    ≡ false
+HasPlainNames r = ArePlainNames (members_view r.body.now.entries)

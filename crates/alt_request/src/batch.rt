@@ -9,7 +9,7 @@ ghost use Rattle.alt_machine.specs.Batches as machine;
 ghost use Rattle.alt_machine.specs.Refusals.{or_refused};
 ghost use Rattle.alt_request.specs.Batches.{inside_of};
 ghost use Rattle.alt_request.specs.Steps.{Comes, Tested};
-ghost use Rattle.alt_request.specs.Targets.{place_that_fits};
+ghost use Rattle.alt_schema.specs.Rules.{is_name};
 ghost use Rattle.alt_shape.specs.Refusals.{not_found};
 ghost use Rattle.alt_shape.specs.Shape.{given};
 ghost use Rattle.alt_tables.specs.Stands.{catalog_of};
@@ -52,6 +52,7 @@ pub(crate) fn elements_of(inside: Inside, value: &Value) -> Option<&Vec<Value>>
     }
 }
 
+#[tactic(auto, using(crate::proofs::Founds::elements_length))]
 fn count_of(inside: Inside, value: &Value) -> usize
     ensures { result ≡ length (inside_of inside (view value.now)) }
 {
@@ -105,7 +106,7 @@ pub(crate) fn known(tables: &Tables, asked: &Map<String, Value>) -> Result<(), S
 }
 
 /// The members with their places, in their order.
-#[tactic(auto, using(crate::proofs::Founds::found_start, crate::proofs::Founds::found_more, crate::proofs::Founds::found_stop, crate::proofs::Founds::found_end))]
+#[tactic(auto, using(crate::proofs::Founds::founds))]
 pub(crate) fn place_all(
     alloc: Global,
     tables: &Tables,

@@ -5,16 +5,18 @@ ghost use Rattle.std.specs.List.{list_any};
 ghost use Rattle.serde_json.specs.View.{view, items_view, members_view};
 ghost use Rattle.alt_machine.specs.Batches as machine;
 ghost use Rattle.alt_machine.specs.Lists.{is_given};
-ghost use Rattle.alt_machine.specs.Ops.BatchGetItem as read;
+ghost use Rattle.alt_machine.specs.Ops.BatchGetItem as get;
 ghost use Rattle.alt_machine.specs.Refusals.{first_answer, unless_answer};
-ghost use Rattle.alt_request.specs.Batches.{keys_read, keys_said, reads_of, HasPlainNames};
+ghost use Rattle.alt_request.specs.Batches.{keys_read, keys_said, reads_of, shown_in, HasPlainNames};
 ghost use Rattle.alt_request.specs.Steps.{Comes};
+ghost use Rattle.alt_request.specs.Words.{given_of, IsFresh};
 ghost use Rattle.alt_tables.specs.Stands.{catalog_of};
 
 use crate::batch::{
     Inside, all_are_names, elements_of, has_repeat, is_sized, known, place_all, table_named,
     tables_asked,
 };
+use crate::batch_keys::{KeysRead, KeysSaid};
 use crate::expressions::{Given, Texts, expressions, given_at};
 use crate::items::item_of;
 use crate::stop::Stop;
@@ -25,24 +27,6 @@ use alt_tables::Tables;
 use alt_value::Text;
 use serde_json::{Map, Value};
 use std::alloc::Global;
-
-/// The keys that are read in a table and the names that are given for its projection.
-#[derive(Drop)]
-pub(crate) struct KeysRead<'b> {
-    pub(crate) table: Text,
-    pub(crate) body: &'b Map<String, Value>,
-    pub(crate) given: Given,
-    pub(crate) keys: Vec<BatchMember>,
-}
-
-/// The keys that are read in a table and what its projection shows.
-#[derive(Drop)]
-pub(crate) struct KeysSaid<'b> {
-    pub(crate) table: Text,
-    pub(crate) body: &'b Map<String, Value>,
-    pub(crate) projection: Option<Paths>,
-    pub(crate) keys: Vec<BatchMember>,
-}
 
 /// The keys that are read in a table with their places, what is asked of them, and what of their items is shown.
 #[derive(Drop)]
@@ -60,7 +44,7 @@ pub fn reads_asked<'b>(
     tables: &Tables,
     body: &'b Map<String, Value>,
 ) -> Result<Vec<TableReads<'b>>, Stop>
-    ensures asked { Comes (λ v. each reads_of v.items) (read.reads_asked (catalog_of tables.now)
+    ensures asked { Comes (λ v. each reads_of v.items) (get.reads_asked (catalog_of tables.now)
         (members_view body.now.entries)) result }
     ensures plain { IfOk result (λ v. All HasPlainNames v.items) }
 {
@@ -78,7 +62,7 @@ pub fn reads_asked<'b>(
 /// The tables of a body that nothing refuses by itself.
 fn tables_taken(body: &Map<String, Value>) -> Result<&Map<String, Value>, Stop>
     ensures taken { Comes (λ m. machine.pairs_in (members_view m.now.entries)) (unless_answer
-        (first_answer (read.of_body (members_view body.now.entries)))
+        (first_answer (get.of_body (members_view body.now.entries)))
         (machine.tables_asked (members_view body.now.entries))) result }
 {
     if let Some(broken) = bodies::batch_get_item(body) {
@@ -122,12 +106,9 @@ fn is_legacy(value: &Value) -> bool
 }
 
 /// The keys of each table and the names that are given there.
-#[tactic(auto, using(crate::proofs::Founds::found_start, crate::proofs::Founds::found_more, crate::proofs::Founds::found_stop, crate::proofs::Founds::found_end))]
-fn read_all<'b>(
-    alloc: Global,
-    tables: &'b Map<String, Value>,
-) -> Result<Vec<KeysRead<'b>>, Stop>
-    ensures read { Comes (λ v. each keys_read v.items) (machine.each_found read.read_table
+#[tactic(auto, using(crate::proofs::Founds::founds))]
+fn read_all<'b>(alloc: Global, tables: &'b Map<String, Value>) -> Result<Vec<KeysRead<'b>>, Stop>
+    ensures read { Comes (λ v. each keys_read v.items) (machine.each_found get.read_table
         (machine.pairs_in (members_view tables.now.entries))) result }
 {
     let mut read = Vec::with_capacity(alloc, tables.len())?;
@@ -137,8 +118,9 @@ fn read_all<'b>(
     Ok(read)
 }
 
+#[tactic(auto, using(crate::proofs::Plain::names_plain))]
 fn read_table<'b>(alloc: Global, name: &str, value: &'b Value) -> Result<KeysRead<'b>, Stop>
-    ensures read { Comes keys_read (read.read_table (name.now, view value.now)) result }
+    ensures read { Comes keys_read (get.read_table (name.now, view value.now)) result }
 {
     let Some(body) = value.as_object() else {
         return Err(Stop::Refused(Refusal::UNREADABLE));
@@ -155,8 +137,8 @@ fn read_table<'b>(alloc: Global, name: &str, value: &'b Value) -> Result<KeysRea
 }
 
 fn read_keys(alloc: Global, name: &str, value: &Value) -> Result<Vec<BatchMember>, Stop>
-    ensures read { Comes (λ v. v.items) (machine.each_found (read.read_key name.now)
-        (read.keys_in (view value.now))) result }
+    ensures read { Comes (λ v. v.items) (machine.each_found (get.read_key name.now)
+        (get.keys_in (view value.now))) result }
 {
     match elements_of(Inside::Keys, value) {
         Some(elements) => each_key(alloc, name, elements),
@@ -164,9 +146,9 @@ fn read_keys(alloc: Global, name: &str, value: &Value) -> Result<Vec<BatchMember
     }
 }
 
-#[tactic(auto, using(crate::proofs::Founds::found_start, crate::proofs::Founds::found_more, crate::proofs::Founds::found_stop, crate::proofs::Founds::found_end, crate::proofs::Founds::elements_from))]
+#[tactic(auto, using(crate::proofs::Founds::founds, crate::proofs::Founds::elements_from))]
 fn each_key(alloc: Global, name: &str, elements: &[Value]) -> Result<Vec<BatchMember>, Stop>
-    ensures read { Comes (λ v. v.items) (machine.each_found (read.read_key name.now)
+    ensures read { Comes (λ v. v.items) (machine.each_found (get.read_key name.now)
         (machine.elements (items_view elements.now))) result }
 {
     let mut keys = Vec::with_capacity(alloc, elements.len())?;
@@ -177,7 +159,7 @@ fn each_key(alloc: Global, name: &str, elements: &[Value]) -> Result<Vec<BatchMe
 }
 
 fn read_key(alloc: Global, name: &str, value: &Value) -> Result<BatchMember, Stop>
-    ensures read { Comes (λ m. m) (read.read_key name.now (view value.now)) result }
+    ensures read { Comes (λ m. m) (get.read_key name.now (view value.now)) result }
 {
     let item = item_of(alloc, value)?;
     let table = Text::new(alloc, name)?;
@@ -189,14 +171,14 @@ fn read_key(alloc: Global, name: &str, value: &Value) -> Result<BatchMember, Sto
 }
 
 /// What the projection of each table says.
-#[tactic(auto, using(crate::proofs::Founds::found_start, crate::proofs::Founds::found_more, crate::proofs::Founds::found_stop, crate::proofs::Founds::found_end))]
+#[tactic(auto, using(crate::proofs::Founds::founds))]
 fn said_all<'b>(
     alloc: Global,
     tables: &Tables,
     read: Vec<KeysRead<'b>>,
 ) -> Result<Vec<KeysSaid<'b>>, Stop>
     ensures said { Comes (λ v. each keys_said v.items) (machine.each_found
-        (read.said_in (catalog_of tables.now)) (each keys_read read.items)) result }
+        (get.said_in (catalog_of tables.now)) (each keys_read read.entry.items)) result }
 {
     let mut said = Vec::with_capacity(alloc, read.len())?;
     for keys in read {
@@ -205,12 +187,9 @@ fn said_all<'b>(
     Ok(said)
 }
 
-fn said_in<'b>(
-    alloc: Global,
-    tables: &Tables,
-    keys: KeysRead<'b>,
-) -> Result<KeysSaid<'b>, Stop>
-    ensures said { Comes keys_said (read.said_in (catalog_of tables.now) (keys_read keys)) result }
+#[tactic(auto, using(crate::proofs::Asked::unshown, crate::proofs::Asked::shown_so))]
+fn said_in<'b>(alloc: Global, tables: &Tables, keys: KeysRead<'b>) -> Result<KeysSaid<'b>, Stop>
+    ensures said { Comes keys_said (get.said_in (catalog_of tables.now) (keys_read keys.entry)) result }
 {
     let KeysRead {
         table,
@@ -218,9 +197,7 @@ fn said_in<'b>(
         given,
         keys,
     } = keys;
-    let schema = table_named(tables, table.as_str())?;
-    let said = expressions(alloc, &Texts::PROJECTING, schema, body, given)?;
-    let Expressions { projection, .. } = said;
+    let projection = shown_in(alloc, tables, table.as_str(), body, given)?;
     Ok(KeysSaid {
         table,
         body,
@@ -229,15 +206,40 @@ fn said_in<'b>(
     })
 }
 
+/// What the projection of a table shows.
+fn shown_in(
+    alloc: Global,
+    tables: &Tables,
+    table: &str,
+    body: &Map<String, Value>,
+    given: Given,
+) -> Result<Option<Paths>, Stop>
+    requires fresh { IsFresh (members_view body.now.entries) given }
+    ensures shown { Comes (λ p. p) (shown_in (catalog_of tables.now) table.now
+        (members_view body.now.entries) (given_of given)) result }
+{
+    let schema = table_named(tables, table)?;
+    let said = expressions(alloc, &Texts::PROJECTING, schema, body, given)?;
+    Ok(projection_of(said))
+}
+
+fn projection_of(said: Expressions) -> Option<Paths>
+    ensures { result ≡ said.projection }
+{
+    let Expressions { projection, .. } = said;
+    projection
+}
+
 /// The places of the keys of each table.
-#[tactic(auto, using(crate::proofs::Founds::found_start, crate::proofs::Founds::found_more, crate::proofs::Founds::found_stop, crate::proofs::Founds::found_end))]
+#[tactic(auto, using(crate::proofs::Founds::founds))]
 fn placed_tables<'b>(
     alloc: Global,
     tables: &Tables,
     said: Vec<KeysSaid<'b>>,
 ) -> Result<Vec<TableReads<'b>>, Stop>
     ensures placed { Comes (λ v. each reads_of v.items) (machine.each_found
-        (read.placed_all (catalog_of tables.now)) (each keys_said said.items)) result }
+        (get.placed_all (catalog_of tables.now)) (each keys_said said.entry.items)) result }
+    ensures plain { IfOk result (λ v. All HasPlainNames v.items) }
 {
     let mut there = Vec::with_capacity(alloc, said.len())?;
     for keys in said {
@@ -251,8 +253,9 @@ fn placed_table<'b>(
     tables: &Tables,
     said: KeysSaid<'b>,
 ) -> Result<TableReads<'b>, Stop>
-    ensures placed { Comes reads_of (read.placed_all (catalog_of tables.now) (keys_said said))
+    ensures placed { Comes reads_of (get.placed_all (catalog_of tables.now) (keys_said said.entry))
         result }
+    ensures plain { IfOk result HasPlainNames }
 {
     let KeysSaid {
         table,

@@ -1,11 +1,10 @@
 //! The writes that a BatchWriteItem asks for.
 
-ghost use Rattle.std.specs.Prelude.{◌≡◌, ◌∷◌, ◌++◌, IfOk, IfErr, OnOk, map as each};
+ghost use Rattle.std.specs.Prelude.{◌≡◌, ◌∷◌, ◌++◌, IfOk, IfErr, OnOk, map as each, option_map};
 ghost use Rattle.std.specs.List.{list_all};
 ghost use Rattle.serde_json.specs.View.{view, items_view, members_view};
 ghost use Rattle.alt_machine.specs.Batches as machine;
 ghost use Rattle.alt_machine.specs.Ops.BatchWriteItem as write;
-ghost use Rattle.alt_machine.specs.Ops.PutItem.{of_item};
 ghost use Rattle.alt_machine.specs.Refusals.{first_answer, refuse_if, unless_answer};
 ghost use Rattle.alt_request.specs.Batches.{request_of};
 ghost use Rattle.alt_request.specs.Steps.{Comes, IsMemory, Tested};
@@ -13,8 +12,7 @@ ghost use Rattle.alt_shape.specs.Refusals.{bad_batch};
 ghost use Rattle.alt_tables.specs.Stands.{catalog_of};
 
 use crate::batch::{
-    Inside, all_are_names, elements_of, has_repeat, is_sized, known, place_all, table_named,
-    tables_asked,
+    Inside, all_are_names, elements_of, has_repeat, is_sized, known, place_all, tables_asked,
 };
 use crate::items::{item_at, item_refusal};
 use crate::stop::Stop;
@@ -54,6 +52,7 @@ pub fn writes_asked(
 }
 
 /// The writes of a body that nothing refuses by itself.
+#[tactic(auto, using(crate::proofs::Founds::all_one))]
 fn requests<'b>(alloc: Global, body: &'b Map<String, Value>) -> Result<Vec<Request<'b>>, Stop>
     ensures asked { Comes (λ v. each request_of v.items) (unless_answer
         (first_answer (write.of_body (members_view body.now.entries)))
@@ -120,21 +119,26 @@ fn all_are_one(requests: &[Request<'_>]) -> bool
 fn is_one(value: &Value) -> bool
     ensures { result ≡ write.is_one (view value.now) }
 {
-    let Some(request) = value.as_object() else {
-        return false;
-    };
-    if object_at(request, "PutRequest").is_some() {
-        object_at(request, "DeleteRequest").is_none()
+    if object_in(value, "PutRequest").is_some() {
+        object_in(value, "DeleteRequest").is_none()
     } else {
-        object_at(request, "DeleteRequest").is_some()
+        object_in(value, "DeleteRequest").is_some()
     }
 }
 
+/// The object at a member of an object, where one is there.
+fn object_in<'b>(value: &'b Value, name: &str) -> Option<&'b Map<String, Value>>
+    ensures { option_map (λ m. members_view m.now.entries) result
+        ≡ machine.object_in name.now (view value.now) }
+{
+    object_at(value.as_object()?, name)
+}
+
 /// The items that are put and the keys of those that are deleted, in their order.
-#[tactic(auto, using(crate::proofs::Founds::found_start, crate::proofs::Founds::found_more, crate::proofs::Founds::found_stop, crate::proofs::Founds::found_end))]
+#[tactic(auto, using(crate::proofs::Founds::founds, std::proofs::lemmas::List::map_push))]
 fn read_all(alloc: Global, requests: Vec<Request<'_>>) -> Result<Vec<BatchMember>, Stop>
     ensures read { Comes (λ v. v.items) (machine.each_found write.read_write
-        (each request_of requests.items)) result }
+        (each request_of requests.entry.items)) result }
 {
     let mut read = Vec::with_capacity(alloc, requests.len())?;
     for request in requests {
@@ -144,15 +148,12 @@ fn read_all(alloc: Global, requests: Vec<Request<'_>>) -> Result<Vec<BatchMember
 }
 
 fn read_write(alloc: Global, request: Request<'_>) -> Result<BatchMember, Stop>
-    ensures read { Comes (λ m. m) (write.read_write (request_of request)) result }
+    ensures read { Comes (λ m. m) (write.read_write (request_of request.entry)) result }
 {
-    let Some(members) = request.value.as_object() else {
-        return Err(Stop::Refused(Refusal::MEMBER_MISSING));
-    };
-    if let Some(put) = object_at(members, "PutRequest") {
+    if let Some(put) = object_in(request.value, "PutRequest") {
         return read_member(alloc, request.table, Sought::Item, put);
     }
-    match object_at(members, "DeleteRequest") {
+    match object_in(request.value, "DeleteRequest") {
         Some(delete) => read_member(alloc, request.table, Sought::Key, delete),
         None => Err(Stop::Refused(Refusal::MEMBER_MISSING)),
     }

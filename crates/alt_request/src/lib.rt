@@ -2,6 +2,7 @@
 #![tactic(auto)]
 
 mod batch;
+mod batch_keys;
 mod batch_reads;
 mod batch_writes;
 mod body;

@@ -1,6 +1,6 @@
 -- BatchGetItem: answers the items of 1 to 100 keys, or parts of them, and names the keys that it didn't read (DynamoDB API Reference,
 -- "BatchGetItem").
-use Rattle.std.specs.Prelude.{ℕ, ◌+◌, Bool, not, ◌&&◌, nat_le, if◌then◌else◌, List, [], ◌∷◌, ◌++◌, length, map, drop, sum_by, is_some, Option, Some, None, option_map, option_and_then, Result, Ok, codes, fold}
+use Rattle.std.specs.Prelude.{ℕ, ◌+◌, nat_le, if◌then◌else◌, List, [], ◌∷◌, length, map, drop, sum_by, Option, option_map, option_and_then, Result, Ok, codes, fold}
 use Rattle.std.specs.FinMap as finite
 use Rattle.std.specs.List.{list_any, filter_map}
 use Rattle.std.specs.Option.{option_map_or}
@@ -10,7 +10,6 @@ use Rattle.alt_codec.specs.Reading.{item_in}
 use Rattle.alt_expr.specs.Given.{Given}
 use Rattle.alt_expr.specs.declared.path.PathPart.{PathPart}
 use Rattle.alt_machine.specs.declared.BatchMember.{BatchMember}
-use Rattle.alt_machine.specs.declared.Expressions.{Expressions}
 use Rattle.alt_machine.specs.declared.PlacedMember.{PlacedMember}
 use Rattle.alt_machine.specs.declared.Sought.TheVariants.{Key}
 use Rattle.alt_machine.specs.declared.TheConstants.{MOST_KEYS, BATCH_BYTES}

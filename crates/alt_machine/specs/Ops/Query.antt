@@ -1,6 +1,6 @@
 -- Query: answers a page of the items of one HASH value, by their RANGE values, in a table or in one of its indexes (DynamoDB API Reference, "Query"; Developer Guide, "Key condition
 -- expressions for the Query operation").
-use Rattle.std.specs.Prelude.{ℕ, Bool, true, List, [], ◌∷◌, Option, option_map, option_and_then, unwrap_or, Some, Result, codes}
+use Rattle.std.specs.Prelude.{Bool, true, List, [], ◌∷◌, Option, option_map, option_and_then, unwrap_or, Some, Result, codes}
 use Rattle.serde_json.specs.Data.{Members}
 use Rattle.serde_json.specs.Find.{as_bool}
 use Rattle.alt_expr.specs.KeyForm.{Key, Ask, ask_of}

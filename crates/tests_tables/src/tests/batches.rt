@@ -41,35 +41,44 @@ pub(super) static BATCHES: [Request; 9] = [
     ),
 ];
 
-/// The same as single writes, each with what comes before it: the states that a stop in a batch may leave, in their order.
-pub(super) static MEMBERS: [&[Request]; 3] = [
-    &[
-        (
-            "PutItem",
-            r#"{"TableName":"Tab","Item":{"k":{"S":"b"},"n":{"N":"1"}}}"#,
-        ),
-        (
-            "PutItem",
-            r#"{"TableName":"Tab","Item":{"k":{"S":"a"},"n":{"N":"2"}}}"#,
-        ),
-        (
-            "PutItem",
-            r#"{"TableName":"Two","Item":{"k":{"S":"a"},"r":{"N":"-1"}}}"#,
-        ),
-    ],
-    &[
-        (
-            "PutItem",
-            r#"{"TableName":"Tab","Item":{"k":{"S":"a"},"n":{"N":"3"}}}"#,
-        ),
-        ("DeleteItem", r#"{"TableName":"Tab","Key":{"k":{"S":"b"}}}"#),
-    ],
-    &[
-        ("DeleteItem", r#"{"TableName":"Tab","Key":{"k":{"S":"a"}}}"#),
-        ("PutItem", r#"{"TableName":"Tab","Item":{"k":{"S":"b"}}}"#),
-        (
-            "DeleteItem",
-            r#"{"TableName":"Two","Key":{"k":{"S":"a"},"r":{"N":"-1"}}}"#,
-        ),
-    ],
+/// Three of them by their numbers, as the single writes that they make, in order: a stop leaves the first of these.
+pub(super) static MEMBERS: [(usize, &[Request]); 3] = [
+    (
+        2,
+        &[
+            (
+                "PutItem",
+                r#"{"TableName":"Tab","Item":{"k":{"S":"b"},"n":{"N":"1"}}}"#,
+            ),
+            (
+                "PutItem",
+                r#"{"TableName":"Tab","Item":{"k":{"S":"a"},"n":{"N":"2"}}}"#,
+            ),
+            (
+                "PutItem",
+                r#"{"TableName":"Two","Item":{"k":{"S":"a"},"r":{"N":"-1"}}}"#,
+            ),
+        ],
+    ),
+    (
+        3,
+        &[
+            (
+                "PutItem",
+                r#"{"TableName":"Tab","Item":{"k":{"S":"a"},"n":{"N":"3"}}}"#,
+            ),
+            ("DeleteItem", r#"{"TableName":"Tab","Key":{"k":{"S":"b"}}}"#),
+        ],
+    ),
+    (
+        8,
+        &[
+            ("DeleteItem", r#"{"TableName":"Tab","Key":{"k":{"S":"a"}}}"#),
+            ("PutItem", r#"{"TableName":"Tab","Item":{"k":{"S":"b"}}}"#),
+            (
+                "DeleteItem",
+                r#"{"TableName":"Two","Key":{"k":{"S":"a"},"r":{"N":"-1"}}}"#,
+            ),
+        ],
+    ),
 ];

@@ -1,5 +1,6 @@
 //! A store that is stopped at each moment of each of its calls, and opened again.
 
+ghost use Rattle.std.specs.Prelude.{IfSome};
 ghost use Rattle.alt_disk.specs.MemoryState.{state_of};
 ghost use Rattle.alt_tables.specs.Stands.{AreReady};
 
@@ -76,13 +77,28 @@ fn stops_whole(
     stops_between(alloc, disk, from, to, &before, &after)
 }
 
+// Asks the first so many requests.
+fn ask_some(
+    alloc: Global,
+    tables: &mut Tables,
+    disk: &mut MemoryDisk,
+    rows: &[Request],
+    number: usize,
+) -> Option<()>
+    requires { AreReady (state_of disk.old) tables.old }
+    ensures { IfSome result (λ _. AreReady (state_of disk.new) tables.new) }
+{
+    for request in rows.iter().take(number) {
+        let _ = asked(alloc, tables, disk, request)?;
+    }
+    Some(())
+}
+
 // Whether that holds of the request with that number, behind those before it.
 fn stops_at(alloc: Global, rows: &[Request], number: usize) -> Option<bool> {
     let mut disk = empty(alloc)?;
     let mut tables = opened(alloc, &mut disk)?;
-    for request in rows.iter().take(number) {
-        let _ = asked(alloc, &mut tables, &mut disk, request)?;
-    }
+    ask_some(alloc, &mut tables, &mut disk, rows, number)?;
     stops_whole(alloc, &mut tables, &mut disk, rows.get(number)?)
 }
 
@@ -120,9 +136,7 @@ fn a_stop_leaves_each_update_whole_or_not_at_all(rt: HostRuntime) {
 fn states_of(alloc: Global, number: usize, members: &[Request]) -> Option<Vec<Vec<String>>> {
     let mut disk = empty(alloc)?;
     let mut tables = opened(alloc, &mut disk)?;
-    for request in BATCHES.iter().take(number) {
-        let _ = asked(alloc, &mut tables, &mut disk, request)?;
-    }
+    ask_some(alloc, &mut tables, &mut disk, &BATCHES, number)?;
     let mut states = Vec::new(alloc);
     states.push(known(alloc, &mut tables, &mut disk)?).ok()?;
     for request in members {
@@ -171,9 +185,7 @@ fn batch_stops(alloc: Global, number: usize, members: &[Request]) -> Option<bool
     let states = states_of(alloc, number, members)?;
     let mut disk = empty(alloc)?;
     let mut tables = opened(alloc, &mut disk)?;
-    for request in BATCHES.iter().take(number) {
-        let _ = asked(alloc, &mut tables, &mut disk, request)?;
-    }
+    ask_some(alloc, &mut tables, &mut disk, &BATCHES, number)?;
     let (from, _) = disk.counts();
     let _ = asked(alloc, &mut tables, &mut disk, BATCHES.get(number)?)?;
     let (to, _) = disk.counts();
@@ -182,13 +194,9 @@ fn batch_stops(alloc: Global, number: usize, members: &[Request]) -> Option<bool
 
 #[test]
 fn a_stop_leaves_the_first_members_of_a_batch(rt: HostRuntime) {
-    for (number, members) in [
-        (2, MEMBERS[0]),
-        (3, MEMBERS[1]),
-        (8, MEMBERS[2]),
-    ] {
+    for (number, members) in &MEMBERS {
         assert!(rt;
-            batch_stops(rt.alloc(), number, members) == Some(true),
+            batch_stops(rt.alloc(), *number, members) == Some(true),
             "batch {number}"
         );
     }

@@ -1,5 +1,5 @@
 -- The keys are refused, or they are read, and what was read is answered.
-use Rattle.std.proofs.Common.{◌≡◌, sym, ap, subst, ◌∙◌, map, Ok, Err}
+use Rattle.std.proofs.Common.{sym, ap, subst, ◌∙◌, Err}
 use Rattle.serde_json.specs.Data.{Members}
 use Rattle.serde_json.specs.View.{members_view}
 use Rattle.alt_disk.specs.Disk.{DiskState}
@@ -7,9 +7,8 @@ use Rattle.alt_machine.specs.Ops.BatchGetItem.{batch_get_item, read_answer, read
 use Rattle.alt_machine.specs.Outcomes.{says}
 use Rattle.alt_machine.specs.State.{State}
 use Rattle.alt_ops_batch.specs.Readings.{read_so}
-use Rattle.alt_ops_batch.proofs.Gets.{asked_known, get_is, go, read_failed, read_stopped}
+use Rattle.alt_ops_batch.proofs.Gets.{asked_known, asked_of, get_is, go, read_failed, read_stopped}
 use Rattle.alt_ops_batch.proofs.Stopping.{asked_is, asked_passed, asked_unfailed}
-use Rattle.alt_request.specs.Batches.{reads_of}
 use Rattle.alt_request.specs.Carried.{Carries, Moves}
 use Rattle.alt_request.proofs.Carrying.{said_or_not}
 use Rattle.alt_request.proofs.Moving.{moves_reads, moves_stopped, reply_unfailed}
@@ -20,7 +19,7 @@ use Rattle.alt_ops_batch.proofs.get.batch_get_item.Goals as goal
 pub returns-in_err-asked-clause-carried : goal.returns-in_err-asked-clause-carried
 returns-in_err-asked-clause-carried g c =
     let ms : Members = members_view c.args.body.now.entries in
-    asked_passed (g.D.Disk.state c.args.disk.now) c.args.tables.now (λ v. map reads_of v.items)
+    asked_passed (g.D.Disk.state c.args.disk.now) c.args.tables.now asked_of
     (λ catalog. reads_asked catalog ms) (λ s. batch_get_item s ms) go (get_is ms)
     (Stands (g.D.Disk.state c.args.disk.now) c.args.tables.now) c.from_residual.result
     c.in_err-asked.field-0.0 c.from_residual.ensures c.in_err-asked.ensures.asked
@@ -31,11 +30,11 @@ returns-in_err-asked-clause-moves g c =
     let ms : Members = members_view c.args.body.now.entries in
     moves_stopped (λ s. batch_get_item s ms) c.args.tables.now (g.D.Disk.state c.args.disk.now)
     c.from_residual.result c.in_err-asked.field-0.0 c.from_residual.ensures
-    (asked_unfailed _ (λ v. map reads_of v.items) (reads_asked (catalog_of c.args.tables.now) ms)
+    (asked_unfailed _ asked_of (reads_asked (catalog_of c.args.tables.now) ms)
     c.in_err-asked.field-0.0 c.in_err-asked.ensures.asked)
 
-pub read_all-read-requires-clause-there : goal.read_all-read-requires-clause-there
-read_all-read-requires-clause-there g c = asked_known (catalog_of c.args.tables.now)
+pub read_all-requires-clause-there : goal.read_all-requires-clause-there
+read_all-requires-clause-there g c = asked_known (catalog_of c.args.tables.now)
     (members_view c.args.body.now.entries) c.in_ok-asked.asked.items c.in_ok-asked.ensures.asked
 
 pub returns-in_err-read-clause-carried : goal.returns-in_err-read-clause-carried
@@ -69,7 +68,7 @@ returns-clause-carried g c =
     (read_answer (read_so c.in_ok-read.read)) c.read_reply.ensures.reply c.read_reply.ensures.plain
     c.read_reply.ensures.cause
     (λ s stands. asked_is (g.D.Disk.state c.args.disk.now) c.args.tables.now
-    (λ v. map reads_of v.items) (λ catalog. reads_asked catalog ms) (λ s. batch_get_item s ms) go
+    asked_of (λ catalog. reads_asked catalog ms) (λ s. batch_get_item s ms) go
     (get_is ms) c.in_ok-asked.asked c.in_ok-asked.ensures.asked s stands
     ∙ ap (λ read. says (read_answer read)) (sym (c.in_ok-read.ensures.read s stands)))
     (λ s stands. (c.in_ok-read.ensures.stays s).0 stands)

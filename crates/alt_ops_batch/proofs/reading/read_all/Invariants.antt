@@ -1,6 +1,6 @@
 -- The first of the tables are read.
 use Rattle.std.specs.Vec.Iter.{into_iter_items}
-use Rattle.alt_ops_batch.proofs.Reading.{AreRead}
+use Rattle.alt_ops_batch.proofs.Taking.{AreRead}
 use Rattle.alt_ops_batch.proofs.reading.read_all.Given as goal
 
 abbrev pub invariant-loop-reads : goal.invariant-loop-reads

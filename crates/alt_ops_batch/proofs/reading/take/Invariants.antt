@@ -1,6 +1,6 @@
 -- The first of the keys are taken.
 use Rattle.std.specs.Vec.Iter.{into_iter_items}
-use Rattle.alt_ops_batch.proofs.Reading.{AreTaken}
+use Rattle.alt_ops_batch.proofs.Taking.{AreTaken}
 use Rattle.alt_ops_batch.proofs.reading.take.Given as goal
 
 abbrev pub invariant-loop-key : goal.invariant-loop-key

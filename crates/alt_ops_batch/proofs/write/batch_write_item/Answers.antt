@@ -1,13 +1,13 @@
 -- The members are refused, or they are looked up, and what they leave is written.
-use Rattle.std.proofs.Common.{◌≡◌, refl, sym, ap, subst, ◌∙◌, List, map, Ok, Err}
+use Rattle.std.proofs.Common.{sym, ap, subst, ◌∙◌, List, map, Ok, Err, Vec, Global}
 use Rattle.serde_json.specs.Data.{Members}
 use Rattle.serde_json.specs.View.{members_view}
 use Rattle.alt_disk.specs.Disk.{DiskState}
 use Rattle.alt_machine.specs.declared.PlacedMember.{PlacedMember}
-use Rattle.alt_machine.specs.Ops.BatchWriteItem.{Written, all_processed, batch_write_item, written_by, writes_asked, writes_of_all}
-use Rattle.alt_machine.specs.Outcomes.{Outcome, a_number, writes, with_found}
-use Rattle.alt_machine.specs.State.{State, descriptions, Texts}
-use Rattle.alt_ops_batch.specs.Changed.{AreAllApart, Every, MayWrite}
+use Rattle.alt_machine.specs.Ops.BatchWriteItem.{all_processed, batch_write_item, written_by, writes_asked, writes_of_all}
+use Rattle.alt_machine.specs.Outcomes.{Outcome, a_number, writes}
+use Rattle.alt_machine.specs.State.{State, Texts}
+use Rattle.alt_ops_batch.specs.Changed.{AreAllApart, Every, MayWrite, written_at}
 use Rattle.alt_ops_batch.proofs.Asked.{asked_may_write, all_apart}
 use Rattle.alt_machine.proofs.Batches.{asked_once}
 use Rattle.alt_ops_batch.proofs.Stopping.{asked_is, asked_passed, asked_unfailed}
@@ -24,10 +24,14 @@ use Rattle.alt_tables.specs.Stands.{Stands, catalog_of}
 use Rattle.alt_tables.proofs.Left.{ready_on}
 use Rattle.alt_ops_batch.proofs.write.batch_write_item.Goals as goal
 
+-- the members of a list of them
+abbrev listed : Vec PlacedMember Global → List PlacedMember
+listed v = v.items
+
 pub returns-in_err-members-clause-carried : goal.returns-in_err-members-clause-carried
 returns-in_err-members-clause-carried g c =
     let ms : Members = members_view c.args.body.now.entries in
-    asked_passed (g.D.Disk.state c.args.disk.now) c.args.tables.now (λ v. v.items)
+    asked_passed (g.D.Disk.state c.args.disk.now) c.args.tables.now listed
     (λ catalog. writes_asked catalog ms) (λ s. batch_write_item s c.args.moment ms)
     (go c.args.moment) (write_is c.args.moment ms)
     (Stands (g.D.Disk.state c.args.disk.now) c.args.tables.now) c.from_residual.result
@@ -40,11 +44,11 @@ returns-in_err-members-clause-moves g c =
     moves_stopped (λ s. batch_write_item s c.args.moment ms) c.args.tables.now
     (g.D.Disk.state c.args.disk.now) c.from_residual.result c.in_err-members.field-0.0
     c.from_residual.ensures
-    (asked_unfailed _ (λ v. v.items) (writes_asked (catalog_of c.args.tables.now) ms)
+    (asked_unfailed _ listed (writes_asked (catalog_of c.args.tables.now) ms)
     c.in_err-members.field-0.0 c.in_err-members.ensures.asked)
 
-pub find_all-changes-requires-clause-may : goal.find_all-changes-requires-clause-may
-find_all-changes-requires-clause-may g c = asked_may_write (catalog_of c.args.tables.now)
+pub find_all-requires-clause-may : goal.find_all-requires-clause-may
+find_all-requires-clause-may g c = asked_may_write (catalog_of c.args.tables.now)
     (members_view c.args.body.now.entries) c.in_ok-members.members.items
     c.in_ok-members.ensures.asked
 
@@ -102,7 +106,8 @@ write_all-requires g c =
       ready = ready_on (g.D.Disk.state c.args.disk.now) (g.D.Disk.state c.find_all.new.disk)
           c.args.tables.now c.find_all.new.tables c.in_ok-changes.ensures.disk.goes
           c.in_ok-changes.ensures.stays c.requires.ready;
-      may = subst (λ (k : Texts TableSchema). Every (MayWrite k) _)
+      may = subst (λ (k : Texts TableSchema). Every (MayWrite k)
+          (map written_at c.in_ok-changes.changes.items))
           (sym c.in_ok-changes.ensures.catalog.catalog)
           (subst (Every (MayWrite catalog)) (sym c.in_ok-changes.ensures.written)
           (asked_may_write catalog ms there c.in_ok-members.ensures.asked));
@@ -125,7 +130,7 @@ returns-in_err-write_all-clause-carried g c =
     a_number (λ s stands. (
       writes_of_all s c.args.moment (map written_by c.in_ok-members.members.items),
       all_processed,
-      asked_is (g.D.Disk.state c.args.disk.now) c.args.tables.now (λ v. v.items)
+      asked_is (g.D.Disk.state c.args.disk.now) c.args.tables.now listed
           (λ catalog. writes_asked catalog ms) (λ s. batch_write_item s c.args.moment ms)
           (go c.args.moment) (write_is c.args.moment ms) c.in_ok-members.members
           c.in_ok-members.ensures.asked s stands,
@@ -142,7 +147,7 @@ returns-clause-carried g c =
     (Stands (g.D.Disk.state c.args.disk.now) c.args.tables.now) now c.in_ok-reply.reply
     c.in_ok-reply.ensures.plain a_number (λ s stands. (
       writes_of_all s c.args.moment (map written_by c.in_ok-members.members.items),
-      asked_is (g.D.Disk.state c.args.disk.now) c.args.tables.now (λ v. v.items)
+      asked_is (g.D.Disk.state c.args.disk.now) c.args.tables.now listed
           (λ catalog. writes_asked catalog ms) (λ s. batch_write_item s c.args.moment ms)
           (go c.args.moment) (write_is c.args.moment ms) c.in_ok-members.members
           c.in_ok-members.ensures.asked s stands
@@ -165,7 +170,7 @@ returns-in_err-write_all-clause-moves g c =
     (Err (Fault c.in_err-write_all.field-0.0)) c.in_ok-changes.ensures.disk
     c.in_err-write_all.ensures.goes
     (λ s stands. subst (λ (o : Outcome). Leaves read after s o.atoms)
-    (sym (asked_is before c.args.tables.now (λ v. v.items) (λ catalog. writes_asked catalog ms)
+    (sym (asked_is before c.args.tables.now listed (λ catalog. writes_asked catalog ms)
     (λ s. batch_write_item s c.args.moment ms) (go c.args.moment) (write_is c.args.moment ms)
     c.in_ok-members.members c.in_ok-members.ensures.asked s stands))
     (subst (λ ws. Leaves read after s (writes_of_all s c.args.moment ws))
@@ -182,7 +187,7 @@ returns-clause-moves g c =
     writes_move _ _ c.args.tables.now before (λ s stands. stands) read after
     (Ok c.in_ok-reply.reply) c.in_ok-changes.ensures.disk c.in_ok-write_all.ensures.goes
     (λ s stands. subst (λ (o : Outcome). Leaves read after s o.atoms)
-    (sym (asked_is before c.args.tables.now (λ v. v.items) (λ catalog. writes_asked catalog ms)
+    (sym (asked_is before c.args.tables.now listed (λ catalog. writes_asked catalog ms)
     (λ s. batch_write_item s c.args.moment ms) (go c.args.moment) (write_is c.args.moment ms)
     c.in_ok-members.members c.in_ok-members.ensures.asked s stands))
     (subst (λ ws. Leaves read after s (writes_of_all s c.args.moment ws))

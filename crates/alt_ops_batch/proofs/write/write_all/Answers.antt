@@ -1,5 +1,5 @@
 -- One more is written, or the writes break off there.
-use Rattle.std.proofs.Common.{◌≡◌, sym, ap, subst, ◌∙◌, List, [], ◌∷◌, map, Ok, Err, arith}
+use Rattle.std.proofs.Common.{sym, ap, subst, ◌∙◌, List, ◌∷◌, map, arith}
 use Rattle.std.specs.FinMap as finite
 use Rattle.std.specs.Vec.Iter.{into_iter_items}
 use Rattle.std.proofs.lemmas.List.{nil_from_length}
@@ -27,14 +27,14 @@ write-requires g c =
     c.in-Some.ensures.steps.0 c.loop-change.invariant in
     record {
       ready = so.ready;
-      there = ap (finite.contains_key (catalog_of c.loop-change.tables)) c.as_str.ensures
+      there = ap (finite.contains_key (catalog_of c.loop-change.tables)) c.as_str.ensures.same
           ∙ ap (λ k. finite.contains_key k change.table) so.catalog ∙ so.may.0.there;
-      found = λ s stands. subst (λ n. IsFoundIn s n change.found) (sym c.as_str.ensures)
-          (found_now before mid mid c.args.tables.now c.loop-change.tables c.loop-change.tables
-          c.args.moment all rest change so c.requires.ready s stands);
+      found = λ s stands. subst (λ n. IsFoundIn s n change.found) (sym c.as_str.ensures.same)
+          (found_now before mid c.args.tables.now c.loop-change.tables c.args.moment all rest change so
+          c.requires.ready s stands);
       new = λ s stands d at. so.may.0.stored d
           (sym (ap (λ k. finite.get k change.table) so.catalog)
-          ∙ sym (ap (finite.get (catalog_of c.loop-change.tables)) c.as_str.ensures) ∙ at);
+          ∙ sym (ap (finite.get (catalog_of c.loop-change.tables)) c.as_str.ensures.same) ∙ at);
     }
 
 pub loop-change-preserved : goal.loop-change-preserved
@@ -51,7 +51,7 @@ loop-change-preserved g c =
     one_more before mid after c.args.tables.now c.loop-change.tables c.write.new.self c.args.moment
     all rest change so c.in_ok-write.ensures.goes c.in_ok-write.ensures.catalog
     (made_one mid after c.loop-change.tables c.write.new.self c.args.moment change c.as_str.result.now
-    c.as_str.ensures (ap (λ k. finite.contains_key k change.table) so.catalog ∙ so.may.0.there)
+    c.as_str.ensures.same (ap (λ k. finite.contains_key k change.table) so.catalog ∙ so.may.0.there)
     c.in_ok-write.ensures.writes c.in_ok-write.ensures.disk)
 
 pub returns-in_err-write-clause-writes : goal.returns-in_err-write-clause-writes
@@ -72,7 +72,7 @@ returns-in_err-write-clause-writes g c s stands =
     all rest change so c.in_err-write.ensures.goes c.in_err-write.ensures.catalog
     c.in_err-write.field-0.0
     (broke_one mid after c.loop-change.tables c.write.new.self c.args.moment change c.as_str.result.now
-    c.as_str.ensures (ap (λ k. finite.contains_key k change.table) so.catalog ∙ so.may.0.there)
+    c.as_str.ensures.same (ap (λ k. finite.contains_key k change.table) so.catalog ∙ so.may.0.there)
     c.in_err-write.field-0.0 (λ idle. let e = c.in_err-write.ensures.idle idle in let f : ⊥ = cc in f)
     c.in_err-write.ensures.writes c.in_err-write.ensures.disk) s stands)
 
@@ -91,7 +91,7 @@ returns-in_err-write-clause-leaves g c s stands =
     c.args.moment all rest change so c.in_err-write.ensures.goes c.in_err-write.ensures.catalog
     c.in_err-write.field-0.0
     (broke_one mid after c.loop-change.tables c.write.new.self c.args.moment change c.as_str.result.now
-    c.as_str.ensures (ap (λ k. finite.contains_key k change.table) so.catalog ∙ so.may.0.there)
+    c.as_str.ensures.same (ap (λ k. finite.contains_key k change.table) so.catalog ∙ so.may.0.there)
     c.in_err-write.field-0.0 (λ idle. let e = c.in_err-write.ensures.idle idle in let f : ⊥ = cc in f)
     c.in_err-write.ensures.writes c.in_err-write.ensures.disk) s stands
 

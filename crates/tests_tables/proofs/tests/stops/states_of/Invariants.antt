@@ -1,6 +1,6 @@
 use Rattle.alt_disk.specs.MemoryState.{state_of}
 use Rattle.alt_tables.specs.Stands.{AreReady}
-use Rattle.tests_tables.proofs.tests.stops.stops_at.Given as goal
+use Rattle.tests_tables.proofs.tests.stops.states_of.Given as goal
 
 abbrev pub invariant-loop-request : goal.invariant-loop-request
 invariant-loop-request l = AreReady (state_of l.disk) l.tables

@@ -1,0 +1,34 @@
+-- One more table is read.
+use Rattle.std.proofs.Common.{List, ◌∷◌, subst}
+use Rattle.std.specs.Vec.Iter.{into_iter_items}
+use Rattle.alt_disk.specs.Disk.{DiskState}
+use Rattle.alt_ops_batch.proofs.Taking.{AreRead, read_more}
+use Rattle.alt_request.specs.declared.batch_reads.TableReads.{TableReads}
+use Rattle.alt_tables.proofs.Left.{ready_on}
+use Rattle.alt_ops_batch.proofs.reading.read_all.Goals as goal
+
+pub read_table-requires-clause-ready : goal.read_table-requires-clause-ready
+read_table-requires-clause-ready g c = ready_on (g.D.Disk.state c.args.disk.now)
+    (g.D.Disk.state c.loop-reads.disk) c.args.tables.now c.loop-reads.tables
+    c.loop-reads.invariant.kept.reads.goes c.loop-reads.invariant.kept.stays c.requires.ready
+
+pub loop-reads-preserved : goal.loop-reads-preserved
+loop-reads-preserved g c =
+    let before : DiskState = g.D.Disk.state c.args.disk.now in
+    let mid : DiskState = g.D.Disk.state c.loop-reads.disk in
+    let after : DiskState = g.D.Disk.state c.read_table.new.disk in
+    let asked : List TableReads = c.args.asked.items in
+    let rest : List TableReads = into_iter_items c.next.new.self in
+    let so : AreRead before c.args.tables.now mid c.loop-reads.tables asked c.loop-reads.read
+    (c.in-Some.reads ∷ rest) =
+    subst (AreRead before c.args.tables.now mid c.loop-reads.tables asked c.loop-reads.read)
+    c.in-Some.ensures.steps.0 c.loop-reads.invariant in
+    read_more before mid after c.args.tables.now c.loop-reads.tables c.read_table.new.tables asked
+    c.loop-reads.read c.read_table.new.read c.in-Some.reads rest so
+    (record {
+      reads = c.in_ok-read_table.ensures.disk;
+      stays = c.in_ok-read_table.ensures.stays;
+      catalog = c.in_ok-read_table.ensures.catalog;
+    })
+    c.in_ok-read_table.ensures.bounded c.in_ok-read_table.ensures.plain
+    c.in_ok-read_table.ensures.read

@@ -1,0 +1,35 @@
+-- One more key is taken.
+use Rattle.std.proofs.Common.{List, ◌∷◌, subst}
+use Rattle.std.specs.Vec.Iter.{into_iter_items}
+use Rattle.alt_disk.specs.Disk.{DiskState}
+use Rattle.alt_machine.specs.declared.PlacedMember.{PlacedMember}
+use Rattle.alt_ops_batch.proofs.Taking.{AreTaken, taken_more}
+use Rattle.alt_tables.proofs.Left.{ready_on}
+use Rattle.alt_ops_batch.proofs.reading.take.Goals as goal
+
+pub take_key-requires-clause-ready : goal.take_key-requires-clause-ready
+take_key-requires-clause-ready g c = ready_on (g.D.Disk.state c.args.disk.now)
+    (g.D.Disk.state c.loop-key.disk) c.args.tables.now c.loop-key.tables
+    c.loop-key.invariant.kept.reads.goes c.loop-key.invariant.kept.stays c.requires.ready
+
+pub loop-key-preserved : goal.loop-key-preserved
+loop-key-preserved g c =
+    let before : DiskState = g.D.Disk.state c.args.disk.now in
+    let mid : DiskState = g.D.Disk.state c.loop-key.disk in
+    let after : DiskState = g.D.Disk.state c.take_key.new.disk in
+    let keys : List PlacedMember = c.args.keys.items in
+    let rest : List PlacedMember = into_iter_items c.next.new.self in
+    let so : AreTaken before c.args.tables.now mid c.loop-key.tables c.args.projection.now
+    c.args.size.now keys c.loop-key.taken c.loop-key.size (c.in-Some.key ∷ rest) =
+    subst (AreTaken before c.args.tables.now mid c.loop-key.tables c.args.projection.now
+    c.args.size.now keys c.loop-key.taken c.loop-key.size) c.in-Some.ensures.steps.0
+    c.loop-key.invariant in
+    taken_more before mid after c.args.tables.now c.loop-key.tables c.take_key.new.tables
+    c.args.projection.now c.args.size.now keys c.loop-key.taken c.take_key.new.taken c.loop-key.size
+    c.take_key.new.size c.in-Some.key rest so
+    (record {
+      reads = c.in_ok-take_key.ensures.disk;
+      stays = c.in_ok-take_key.ensures.stays;
+      catalog = c.in_ok-take_key.ensures.catalog;
+    })
+    c.in_ok-take_key.ensures.bounded c.in_ok-take_key.ensures.plain c.in_ok-take_key.ensures.takes

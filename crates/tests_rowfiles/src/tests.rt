@@ -1,0 +1,10 @@
+mod cached;
+mod doubted;
+mod failed;
+mod files;
+mod given;
+mod merged;
+mod shapes;
+mod source;
+mod stated;
+mod walked;

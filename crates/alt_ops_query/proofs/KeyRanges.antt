@@ -1,5 +1,5 @@
 -- The range of a key condition holds the items of which it holds.
-use Rattle.std.proofs.Common.{◌≡◌, refl, sym, ap, subst, ◌∙◌, ℕ, Bool, true, false, ◌&&◌, List, [], ◌++◌, Option, Some, None, Result, Ok, Err, option_map, append-nil}
+use Rattle.std.proofs.Common.{◌≡◌, refl, sym, ap, subst, ◌∙◌, ℕ, Bool, true, false, ◌&&◌, List, ◌++◌, Option, Some, None, Result, Ok, Err, option_map}
 use Rattle.std.specs.Cmp.{both_ways}
 use Rattle.alt_expr.specs.Holds.{equal, same}
 use Rattle.alt_expr.specs.KeyForm.{Key, Ask, ask_of, in_range, meets, range_meets}
@@ -19,7 +19,7 @@ use Rattle.alt_machine.specs.Lists.{walk_start}
 use Rattle.alt_machine.specs.Ops.Query.{key_of, key_asked}
 use Rattle.alt_machine.specs.Outcomes.{with_found}
 use Rattle.alt_machine.specs.Refusals.{or_refused}
-use Rattle.alt_machine.specs.Walks.{is_beyond, end_bound}
+use Rattle.alt_machine.specs.Walks.{is_beyond}
 use Rattle.alt_machine.specs.Sources.{hash_of, range_of}
 use Rattle.alt_ops_query.specs.Asked.{AreHeld, Asks, IsAsked, IsPlaced, Places}
 use Rattle.alt_ops_query.specs.Ranges.{IsBeyond, HoldsListed}

@@ -14,7 +14,7 @@ use Rattle.std.proofs.lemmas.List.{reverse-append}
 use Rattle.std.proofs.lemmas.List.Elements.{All-nil, All-cons, All-head, All-tail, All-append, All-filter}
 use Rattle.std.proofs.lemmas.List.Sorted.{All-permutation, IsPermutation-reverse}
 use Rattle.alt_cells.proofs.Entries.{first, second}
-use Rattle.alt_keyorder.specs.Range.{IsInRange, IsBelow, IsBelowEnd, IsUpTo}
+use Rattle.alt_keyorder.specs.Range.{IsInRange}
 use Rattle.alt_machine.specs.Sources.{items_of}
 use Rattle.alt_machine.specs.State.{Table}
 use Rattle.alt_machine.specs.Walks.{end_bound, is_beyond, items_between, placed_items, turned}

@@ -9,7 +9,7 @@ use Rattle.std.proofs.lemmas.List.Elements.{All-nil, All-cons, All-filter, All-t
 use Rattle.std.proofs.lemmas.List.Sorted.{All-permutation, IsPermutation-reverse}
 use Rattle.alt_machine.specs.Sources.{items_of}
 use Rattle.alt_machine.specs.State.{Table}
-use Rattle.alt_machine.specs.Walks.{end_bound, items_between, placed_items, turned, is_beyond}
+use Rattle.alt_machine.specs.Walks.{end_bound, items_between, placed_items, turned}
 use Rattle.alt_keyorder.specs.declared.range.KeyRange.{KeyRange}
 use Rattle.alt_ops_query.specs.Filled.{HasExamined, HasFilled, Examines, Steps}
 use Rattle.alt_ops_query.specs.Ranges.{IsBeyond, place_in}

@@ -2,9 +2,9 @@
 use Rattle.std.proofs.Common.{◌≡◌, refl, sym, ap, subst, ◌∙◌, ℕ, Bool, true, false, cond, List, [], ◌∷◌, ◌++◌, append-nil, append_assoc, Option, Some, None, option_map, is_eq}
 use Rattle.std.proofs.lemmas.Grind.{flat_map-append}
 use Rattle.std.specs.Prelude.{if◌then◌else◌, option_and_then}
-use Rattle.alt_keyorder.specs.Kinds.{IsOfKind, IsKeyFor}
+use Rattle.alt_keyorder.specs.Kinds.{IsOfKind}
 use Rattle.alt_keyorder.specs.Place.{Place, place_in_table, place_bytes, key_values}
-use Rattle.alt_machine.specs.Keys.{can_be_key, if_key, key_value, place_beside, place_of, key_place}
+use Rattle.alt_machine.specs.Keys.{can_be_key, if_key, key_value, place_beside, place_of}
 use Rattle.std.specs.Int.{w64, to_be_bytes}
 use Rattle.std.specs.List.{flat_map}
 use Rattle.alt_keyorder.specs.KeyBytes.{key_bytes}

@@ -104,7 +104,16 @@ fn page_of_ask<D: Disk>(
         pager: Pager::new(alloc, ask),
         last: None,
     };
-    fill(alloc, tables, disk, name, index, range, forward, &mut filling)?;
+    fill(
+        alloc,
+        tables,
+        disk,
+        name,
+        index,
+        range,
+        forward,
+        &mut filling,
+    )?;
     answered(alloc, tables, body, index, filling)
 }
 

@@ -121,11 +121,7 @@ fn place_in_index(
 }
 
 /// The values of a key in a start key, `None` exactly where it hasn't all of it.
-fn start_values<'k>(
-    key: &'k Item,
-    hash: &KeyAttr,
-    range: &Option<KeyAttr>,
-) -> Option<KeyValues<'k>>
+fn start_values<'k>(key: &'k Item, hash: &KeyAttr, range: &Option<KeyAttr>) -> Option<KeyValues<'k>>
     ensures values { option_map values_in result
         ≡ values_of (machine.start_value key.now) hash.now range.now }
     ensures keys { IfSome result AreKeys }

@@ -124,7 +124,14 @@ fn step<D: Disk>(
     let Some(schema) = tables.table(table) else {
         unreachable!();
     };
-    match rest_of(alloc, schema, index_of(schema, index), range, forward, &filling.last) {
+    match rest_of(
+        alloc,
+        schema,
+        index_of(schema, index),
+        range,
+        forward,
+        &filling.last,
+    ) {
         Ok(rest) => Ok(Some(rest)),
         Err(stop) => Err(stop),
     }

@@ -1,11 +1,9 @@
 -- The refusals of a CreateTable, step by step, and what it comes to.
-use Rattle.std.proofs.Common.{◌≡◌, refl, sym, ap, subst, ◌∙◌, ℕ, zero, suc, ◌+◌, ◌<◌, ◌≤◌, take, Err, Bool, true, false, cond, not, nat_le, List, [], ◌∷◌, length, Option, Some, None, option_map, is_some, arith}
-use Rattle.std.specs.Prelude.{◌==◌, IsSome}
-use Rattle.std.proofs.lemmas.Bool.{eqb-true, le-leb}
+use Rattle.std.proofs.Common.{◌≡◌, refl, sym, ap, subst, ◌∙◌, ℕ, zero, suc, ◌+◌, ◌<◌, ◌≤◌, take, Err, Bool, true, false, cond, not, nat_le, [], ◌∷◌, Option, Some, None, option_map, is_some, arith}
+use Rattle.std.specs.Prelude.{IsSome}
+use Rattle.std.proofs.lemmas.Bool.{le-leb}
 use Rattle.std.specs.FinMap as map
 use Rattle.serde_json.specs.Data.{Members}
-use Rattle.serde_json.specs.View.{items_view}
-use Rattle.serde_json.specs.declared.value.Value.{Value}
 use Rattle.alt_disk.specs.Disk.{DiskState}
 use Rattle.alt_machine.specs.declared.TheConstants.{MOST_TABLES, MOST_FAMILIES, FAMILIES_END}
 use Rattle.alt_machine.specs.Members.{table_name}

@@ -1,5 +1,5 @@
 -- The value of the start key is the one that is asked for.
-use Rattle.std.proofs.Common.{sym, ap, ◌∙◌, Some, option_map, ◌≡◌, true}
+use Rattle.std.proofs.Common.{sym, ap, ◌∙◌, Some, option_map, true}
 use Rattle.std.specs.Option.{option_map_or}
 use Rattle.alt_expr.specs.Holds.{equal}
 use Rattle.alt_expr.proofs.SameValues.{same-told}

@@ -1,8 +1,7 @@
 -- An attribute that is no key is one of all.
-use Rattle.std.proofs.Common.{Bool, Option, Some, sym, ap, ◌∙◌, option_map, arith}
+use Rattle.std.proofs.Common.{Bool, sym, ap, ◌∙◌, option_map, arith}
 use Rattle.alt_machine.specs.Sources.{is_key_there}
 use Rattle.alt_ops_query.proofs.Lists.{all_more, all_taken, none_past, not_all}
-use Rattle.alt_schema.specs.declared.schema.IndexSchema.{IndexSchema}
 use Rattle.alt_value.specs.Stands.{tree_of}
 use Rattle.alt_value.specs.Tree.{Pair}
 use Rattle.alt_ops_query.proofs.places.has_keys_alone.Goals as goal

@@ -25,57 +25,57 @@ returns-in_err-paired_refusal-clause-target c =
     let ms : Members = members_view c.args.body.now.entries in
     let tests = tests_of c.args.broken c.args.mismatched c.args.rules.now ms in
     subst (λ r. OnList tests (texts_of c.args.texts.now) (catalog_of c.args.tables.now) ms r)
-        (sym (err_is c.from_residual.result c.in_err-paired_refusal.field-0.0
-        c.from_residual.ensures))
-        (list_untaken tests (texts_of c.args.texts.now) (catalog_of c.args.tables.now) ms
-        c.in_err-paired_refusal.field-0.0 c.in_err-paired_refusal.ensures.tested)
+    (sym (err_is c.from_residual.result c.in_err-paired_refusal.field-0.0
+    c.from_residual.ensures))
+    (list_untaken tests (texts_of c.args.texts.now) (catalog_of c.args.tables.now) ms
+    c.in_err-paired_refusal.field-0.0 c.in_err-paired_refusal.ensures.tested)
 
 pub returns-in_err-given-clause-target : goal.returns-in_err-given-clause-target
 returns-in_err-given-clause-target c =
     let ms : Members = members_view c.args.body.now.entries in
     let tests = tests_of c.args.broken c.args.mismatched c.args.rules.now ms in
     subst (λ r. OnList tests (texts_of c.args.texts.now) (catalog_of c.args.tables.now) ms r)
-        (sym (err_is c.from_residual-in_err-given.result c.in_err-given.field-0.0
-        c.from_residual-in_err-given.ensures))
-        (list_no_words tests (texts_of c.args.texts.now) (catalog_of c.args.tables.now) ms
-        c.in_ok-paired_refusal.ensures.tested c.in_err-given.field-0.0
-        c.in_err-given.ensures.given)
+    (sym (err_is c.from_residual-in_err-given.result c.in_err-given.field-0.0
+    c.from_residual-in_err-given.ensures))
+    (list_no_words tests (texts_of c.args.texts.now) (catalog_of c.args.tables.now) ms
+    c.in_ok-paired_refusal.ensures.tested c.in_err-given.field-0.0
+    c.in_err-given.ensures.given)
 
 pub returns-in_err-start-clause-target : goal.returns-in_err-start-clause-target
 returns-in_err-start-clause-target c =
     let ms : Members = members_view c.args.body.now.entries in
     let tests = tests_of c.args.broken c.args.mismatched c.args.rules.now ms in
     subst (λ r. OnList tests (texts_of c.args.texts.now) (catalog_of c.args.tables.now) ms r)
-        (sym (err_is c.from_residual-in_err-start.result c.in_err-start.field-0.0
-        c.from_residual-in_err-start.ensures))
-        (list_no_start tests (texts_of c.args.texts.now) (catalog_of c.args.tables.now) ms
-        c.in_ok-paired_refusal.ensures.tested (given_of c.in_ok-given.given)
-        c.in_ok-given.ensures.given c.in_err-start.field-0.0 c.in_err-start.ensures.read)
+    (sym (err_is c.from_residual-in_err-start.result c.in_err-start.field-0.0
+    c.from_residual-in_err-start.ensures))
+    (list_no_start tests (texts_of c.args.texts.now) (catalog_of c.args.tables.now) ms
+    c.in_ok-paired_refusal.ensures.tested (given_of c.in_ok-given.given)
+    c.in_ok-given.ensures.given c.in_err-start.field-0.0 c.in_err-start.ensures.read)
 
 pub returns-in_err-schema-clause-target : goal.returns-in_err-schema-clause-target
 returns-in_err-schema-clause-target c =
     let ms : Members = members_view c.args.body.now.entries in
     let tests = tests_of c.args.broken c.args.mismatched c.args.rules.now ms in
     subst (λ r. OnList tests (texts_of c.args.texts.now) (catalog_of c.args.tables.now) ms r)
-        (sym (err_is c.from_residual-in_err-schema.result c.in_err-schema.field-0.0
-        c.from_residual-in_err-schema.ensures))
-        (list_no_table tests (texts_of c.args.texts.now) (catalog_of c.args.tables.now) ms
-        c.in_ok-paired_refusal.ensures.tested (given_of c.in_ok-given.given)
-        c.in_ok-given.ensures.given c.in_ok-start.start c.in_ok-start.ensures.read
-        c.in_err-schema.field-0.0 c.in_err-schema.ensures.found)
+    (sym (err_is c.from_residual-in_err-schema.result c.in_err-schema.field-0.0
+    c.from_residual-in_err-schema.ensures))
+    (list_no_table tests (texts_of c.args.texts.now) (catalog_of c.args.tables.now) ms
+    c.in_ok-paired_refusal.ensures.tested (given_of c.in_ok-given.given)
+    c.in_ok-given.ensures.given c.in_ok-start.start c.in_ok-start.ensures.read
+    c.in_err-schema.field-0.0 c.in_err-schema.ensures.found)
 
 pub returns-in_err-index-clause-target : goal.returns-in_err-index-clause-target
 returns-in_err-index-clause-target c =
     let ms : Members = members_view c.args.body.now.entries in
     let tests = tests_of c.args.broken c.args.mismatched c.args.rules.now ms in
     subst (λ r. OnList tests (texts_of c.args.texts.now) (catalog_of c.args.tables.now) ms r)
-        (sym (err_is c.from_residual-in_err-index.result c.in_err-index.field-0.0
-        c.from_residual-in_err-index.ensures))
-        (list_no_index tests (texts_of c.args.texts.now) (catalog_of c.args.tables.now) ms
-        c.in_ok-paired_refusal.ensures.tested (given_of c.in_ok-given.given)
-        c.in_ok-given.ensures.given c.in_ok-start.start c.in_ok-start.ensures.read
-        c.in_ok-schema.schema.now c.in_ok-schema.ensures.found c.in_err-index.field-0.0
-        c.in_err-index.ensures.asked)
+    (sym (err_is c.from_residual-in_err-index.result c.in_err-index.field-0.0
+    c.from_residual-in_err-index.ensures))
+    (list_no_index tests (texts_of c.args.texts.now) (catalog_of c.args.tables.now) ms
+    c.in_ok-paired_refusal.ensures.tested (given_of c.in_ok-given.given)
+    c.in_ok-given.ensures.given c.in_ok-start.start c.in_ok-start.ensures.read
+    c.in_ok-schema.schema.now c.in_ok-schema.ensures.found c.in_err-index.field-0.0
+    c.in_err-index.ensures.asked)
 
 pub expressions-requires : goal.expressions-requires
 expressions-requires c = record { fresh = c.in_ok-given.ensures.fresh }
@@ -85,14 +85,14 @@ returns-in_err-said-clause-target c =
     let ms : Members = members_view c.args.body.now.entries in
     let tests = tests_of c.args.broken c.args.mismatched c.args.rules.now ms in
     subst (λ r. OnList tests (texts_of c.args.texts.now) (catalog_of c.args.tables.now) ms r)
-        (sym (err_is c.from_residual-in_err-said.result c.in_err-said.field-0.0
-        c.from_residual-in_err-said.ensures))
-        (list_unsaid tests (texts_of c.args.texts.now) (catalog_of c.args.tables.now) ms
-        c.in_ok-paired_refusal.ensures.tested (given_of c.in_ok-given.given)
-        c.in_ok-given.ensures.given c.in_ok-start.start c.in_ok-start.ensures.read
-        c.in_ok-schema.schema.now c.in_ok-schema.ensures.found c.in_ok-index.index
-        c.in_ok-index.ensures.asked c.in_err-said.field-0.0
-        c.in_err-said.ensures.said)
+    (sym (err_is c.from_residual-in_err-said.result c.in_err-said.field-0.0
+    c.from_residual-in_err-said.ensures))
+    (list_unsaid tests (texts_of c.args.texts.now) (catalog_of c.args.tables.now) ms
+    c.in_ok-paired_refusal.ensures.tested (given_of c.in_ok-given.given)
+    c.in_ok-given.ensures.given c.in_ok-start.start c.in_ok-start.ensures.read
+    c.in_ok-schema.schema.now c.in_ok-schema.ensures.found c.in_ok-index.index
+    c.in_ok-index.ensures.asked c.in_err-said.field-0.0
+    c.in_err-said.ensures.said)
 
 pub returns-clause-target : goal.returns-clause-target
 returns-clause-target c =

@@ -93,8 +93,8 @@ pub record WasStored (d : TableSchema) (place : List ℕ) (item : List Pair) : T
   pub full : T (fields_full (fields_of item))
   pub names : IsItem item
 
--- A change has a number between that of its table and the next. The old item and the new one differ, and those of them that are there
--- have one key, which isn't told twice.
+-- A change has a number between that of its table and the next. The old item and the new one differ, and those of them that are there have one
+-- and the same key.
 pub record IsChange (d : TableSchema) (next : ℕ) (c : Change) : Type 0 where
   pub number : (d.number < c.number) × (c.number < next)
   pub differ : c.old ≢ c.new

@@ -14,21 +14,19 @@ use Rattle.alt_machine.specs.Keys.{key_fits}
 use Rattle.alt_machine.specs.Members.{item_at}
 use Rattle.alt_machine.specs.Ops.BatchWriteItem.{of_body, requests, read_member, read_write, of_sought, of_member, of_members, writes_asked, left_of, left_by, written_by, writes_of, writes_of_all, batch_write_item}
 use Rattle.alt_machine.specs.Ops.BatchGetItem.{Reads, Shown, read_table, said_in, placed_all, reads_asked, of_body as get_body}
-use Rattle.alt_machine.specs.Ops.PutItem.{of_item}
-use Rattle.alt_machine.specs.Outcomes.{a_number, last_state, writes}
+use Rattle.alt_machine.specs.Outcomes.{a_number, last_state}
 use Rattle.alt_machine.specs.Refusals.{first_answer, or_refused, refuse_if, unless_answer, ◌>>=◌}
 use Rattle.alt_machine.specs.Same.{is_same}
 use Rattle.alt_machine.specs.State.{State, Table, Texts, descriptions}
 use Rattle.alt_machine.specs.Targets.{member_of, of_length, place_in}
-use Rattle.alt_machine.specs.Valid.{IsStored, IsValid}
-use Rattle.alt_machine.specs.Wanted.{lack_of}
+use Rattle.alt_machine.specs.Valid.{IsStored}
 use Rattle.alt_machine.specs.Writes.{with_write, after_item, item_writes}
 use Rattle.alt_machine.proofs.Chains.{Steps, AreSteps, no_steps, first_step, steps-found, found_is}
 use Rattle.alt_machine.proofs.Descriptions.{get-descriptions}
 use Rattle.alt_machine.proofs.Lacks.{number_room}
 use Rattle.alt_machine.proofs.Looks.{at_insert}
 use Rattle.alt_machine.proofs.Puts.{IsSound, is_read, may_stand}
-use Rattle.alt_machine.proofs.States.{after_item_valid, with_item_stored}
+use Rattle.alt_machine.proofs.States.{after_item_valid}
 use Rattle.alt_machine.proofs.Tests.{unless_holds, if_fails}
 use Rattle.alt_schema.specs.declared.schema.TableSchema.{TableSchema}
 use Rattle.alt_shape.specs.Refusals.{Answer, not_found, bad_batch, bad_key, key_too_long}
@@ -318,18 +316,18 @@ module _ (catalog : Texts TableSchema) (moment : ℕ) where
       at : (o : Option Table) → finite.get s.tables m.table ≡ o
           → AreSteps a_number s (made o ++ rest (last_state s (made o)))
       at None e = behind s known
-      at (Some t) e = by (is_same (finite.get t.items m.place) (left_by m))
+      at (Some t) e = by (is_same (finite.get t.items m.place) (left_by m)) refl
         where
           after : State
           after = after_item s moment m.table t m.place (left_by m)
 
-          by : (b : Bool) → AreSteps a_number s ((if b then [] else after ∷ [])
+          by : (b : Bool) → is_same (finite.get t.items m.place) (left_by m) ≡ b
+              → AreSteps a_number s ((if b then [] else after ∷ [])
               ++ rest (last_state s (if b then [] else after ∷ [])))
-          by true = behind s known
-          by false = first_step a_number s after (rest after) (λ v enough.
-              after_item_valid s moment m.table t m.place (left_by m) v (number_room s enough) e
-              (with_item_stored s m.table t m.place (left_by m) v e
-              (may t.description (known m.table t e))))
+          by true same = behind s known
+          by false differ = first_step a_number s after (rest after) (λ v enough.
+              after_item_valid s moment m.table t m.place (left_by m) v (number_room s enough) e differ
+              (may t.description (known m.table t e)))
               (behind after (known_after catalog s moment m.table t m.place (left_by m) known e))
 
   pub all_steps : (s : State) (ms : List PlacedMember) → Known catalog s

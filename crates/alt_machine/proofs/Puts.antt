@@ -1,5 +1,5 @@
 -- A PutItem and a DeleteItem lead from a valid state to a valid one.
-use Rattle.std.proofs.Common.{◌≡◌, subst, ℕ, ◌≤◌, nat_le, Bool, true, false, T, List, [], ◌∷◌, Option, Some, None, Result, Ok, Err, IfOk}
+use Rattle.std.proofs.Common.{◌≡◌, refl, subst, ℕ, ◌≤◌, nat_le, Bool, true, false, T, List, [], ◌∷◌, Option, Some, None, Result, Ok, Err, IfOk}
 use Rattle.std.specs.Prelude.{codes, if◌then◌else◌}
 use Rattle.std.specs.FinMap as map
 use Rattle.std.proofs.lemmas.Bool.{leb-true}
@@ -29,7 +29,7 @@ use Rattle.alt_machine.proofs.Chains.{Steps, AreSteps, no_steps, one_step, steps
 use Rattle.alt_machine.proofs.Targets.{steps-on_item}
 use Rattle.alt_machine.proofs.Lacks.{number_room}
 use Rattle.alt_codec.proofs.Fits.{item_names, item_depth, item_full}
-use Rattle.alt_machine.proofs.States.{after_item_valid, with_item_stored}
+use Rattle.alt_machine.proofs.States.{after_item_valid}
 use Rattle.alt_machine.proofs.Tests.{unless_holds}
 use Rattle.alt_schema.specs.Indexes.{keys_fit}
 use Rattle.alt_schema.specs.declared.schema.TableSchema.{TableSchema}
@@ -86,14 +86,13 @@ pub writes_steps : (s : State) (moment : ℕ) (name : List ℕ) (t : Table) (pla
     (new : Option (List Pair)) → map.get s.tables name ≡ Some t
     → (IsValid s → (item : List Pair) → new ≡ Some item → IsStored t.description place item)
     → AreSteps a_number s (item_writes s moment name t place new)
-writes_steps s moment name t place new there put = by (is_same (map.get t.items place) new)
+writes_steps s moment name t place new there put = by (is_same (map.get t.items place) new) refl
   where
-    by : (b : Bool) → AreSteps a_number s (if b then [] else after_item s moment name t place
-        new ∷ [])
-    by true = no_steps a_number s
-    by false = one_step a_number s (after_item s moment name t place new) (λ v enough.
-        after_item_valid s moment name t place new v (number_room s enough) there
-        (with_item_stored s name t place new v there (put v)))
+    by : (b : Bool) → is_same (map.get t.items place) new ≡ b
+        → AreSteps a_number s (if b then [] else after_item s moment name t place new ∷ [])
+    by true e = no_steps a_number s
+    by false e = one_step a_number s (after_item s moment name t place new) (λ v enough.
+        after_item_valid s moment name t place new v (number_room s enough) there e (put v))
 
 -- what is done where a condition holds
 pub steps-met : (s : State) (condition : Option Cond) (ms : Members) (old : Option (List Pair))

@@ -1,6 +1,6 @@
 -- A table's changes, and the records that a stream shows of them (DynamoDB Developer Guide, "Change data capture for DynamoDB Streams";
 -- Streams API Reference, "Record" and "StreamRecord").
-use Rattle.std.specs.Prelude.{◌≡◌, ◌≢◌, ℕ, ◌+◌, ◌<◌, Bool, true, false, List, [], ◌∷◌, ◌++◌, map, Option, Some, None, option_map, is_some, codes, if◌then◌else◌}
+use Rattle.std.specs.Prelude.{ℕ, ◌+◌, Bool, true, false, List, [], ◌∷◌, ◌++◌, Option, None, option_map, is_some, codes, if◌then◌else◌}
 use Rattle.std.specs.Option.{option_map_or}
 use Rattle.serde_json.specs.Data.{Data, number, unsigned, string, object, member, no_members}
 use Rattle.alt_codec.specs.Writing.{json_of_pairs}

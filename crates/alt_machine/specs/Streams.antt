@@ -1,6 +1,6 @@
 -- Streams: which of them there are, and the places in one that iterators stand for (DynamoDB Streams API Reference). A stream has one shard.
-use Rattle.std.specs.Prelude.{◌≡◌, ℕ, ◌+◌, ◌-◌, ◌^◌, nat_le, nat_lt, ◌&&◌, ◌==◌, Bool, true, false, List, [], ◌∷◌, ◌++◌, map, length, take, drop, Option, Some, None, option_map, option_and_then, is_some, Result, Ok, codes, if◌then◌else◌}
-use Rattle.std.specs.List.{filter, find}
+use Rattle.std.specs.Prelude.{ℕ, ◌+◌, ◌-◌, ◌^◌, nat_le, ◌&&◌, Bool, true, List, [], ◌∷◌, ◌++◌, map, length, take, drop, Option, Some, None, option_map, option_and_then, is_some, Result, codes, if◌then◌else◌}
+use Rattle.std.specs.List.{find}
 use Rattle.std.specs.FinMap as finite
 use Rattle.std.specs.Option.{option_map_or}
 use Rattle.std.specs.Str.{all_ascii_digits, bytes_eq}
@@ -13,7 +13,7 @@ use Rattle.alt_schema.specs.declared.schema.TableSchema.{TableSchema}
 use Rattle.alt_shape.specs.Refusals.{Answer, not_found}
 use Rattle.alt_shape.specs.Shape.{given}
 use Rattle.alt_machine.specs.Refusals.{or_refused}
-use Rattle.alt_machine.specs.State.{State, Table, Texts}
+use Rattle.alt_machine.specs.State.{State, Table}
 
 -- ---- streams
 
@@ -48,7 +48,7 @@ may_be_shard name ms = option_map_or (λ text. bytes_eq text shard)
 
 -- ---- numbers
 
--- the number of so many digits or fewer, none of them missing, where it isn't above the largest
+-- the number that a text of digits alone denotes, where it is at most the largest
 abbrev pub number_within : ℕ → List ℕ → Option ℕ
 number_within largest digits =
     if all_ascii_digits digits && nat_le (digits_value 10 digits) largest

@@ -80,8 +80,6 @@ pub record IsMade (d : TableSchema) : Type 0 where
   pub globals_few : length d.globals ≤ most_globals
   pub whole : IsDescription d
 
--- ---- tables
-
 -- ---- changes
 
 -- An item that was at a place once: it is as an item there has to be, but that its keys in indexes may not fit.
@@ -93,10 +91,9 @@ pub record WasStored (d : TableSchema) (place : List ℕ) (item : List Pair) : T
   pub full : T (fields_full (fields_of item))
   pub names : IsItem item
 
--- A change has a number between that of its table and the next. The old item and the new one differ, and those of them that are there have one
--- and the same key.
+-- A change has a number below the next. The old item and the new one differ, and those of them that are there have one and the same key.
 pub record IsChange (d : TableSchema) (next : ℕ) (c : Change) : Type 0 where
-  pub number : (d.number < c.number) × (c.number < next)
+  pub number : c.number < next
   pub differ : c.old ≢ c.new
   pub place : List ℕ
   pub old : IfSome c.old (WasStored d place)
@@ -107,6 +104,8 @@ pub record AreChanges (d : TableSchema) (next : ℕ) (changes : List Change) : T
   pub each : All (IsChange d next) changes
   pub rise : AllPairs (λ (a b : Change). a.number < b.number) changes
   pub none : d.stream_family ≡ None → changes ≡ []
+
+-- ---- tables
 
 -- A table stands under its own name. Its number was taken before, and so were its families, of which no two are the same.
 pub record IsTable (s : State) (name : List ℕ) (t : Table) : Type 0 where
@@ -134,11 +133,15 @@ pub record IsValid (s : State) : Type 0 where
   pub next_number : (1 ≤ s.next_number) × (s.next_number ≤ NUMBERS_END)
   pub next_family : (1 ≤ s.next_family) × (s.next_family ≤ FAMILIES_END)
 
--- Each item of the state and of its changes is one that a program can hold: its texts are UTF-8, its numbers fit, and so on at every level. What is read
--- from memory is such, and what is read from JSON as data need not be, so it is told beside what is valid.
+-- both items of a change, where they are there, are such that a program can hold them
+abbrev pub IsHeldChange : Change → Type 0
+IsHeldChange c = IfSome c.old IsItemOfValues × IfSome c.new IsItemOfValues
+
+-- Each item of the state and of its changes is one that a program can hold: its texts are UTF-8, its numbers fit, and so on at every
+-- level. What is read from memory is such, and what is read from JSON as data need not be, so it is told beside what is valid.
 pub record IsHeldState (s : State) : Type 0 where
   pub items : (name place : List ℕ) (t : Table) (item : List Pair) → map.get s.tables name ≡ Some t
       → map.get t.items place ≡ Some item
       → IsItemOfValues item
   pub changes : (name : List ℕ) (t : Table) → map.get s.tables name ≡ Some t
-      → All (λ (c : Change). IfSome c.old IsItemOfValues × IfSome c.new IsItemOfValues) t.changes
+      → All IsHeldChange t.changes

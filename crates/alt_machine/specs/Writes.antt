@@ -11,8 +11,7 @@ abbrev pub with_item : Texts (List Pair) → List ℕ → Option (List Pair) →
 with_item items place None = map.remove items place
 with_item items place (Some item) = map.insert items place item
 
--- The table after the write of a number at a moment, with this item at a place, or with none there, and where it has a stream one change
--- more.
+-- The table after the write of a number at a moment, with this item at a place, or with none there; one with a stream has one change more.
 abbrev pub with_write : ℕ → ℕ → Table → List ℕ → Option (List Pair) → Table
 with_write number moment t place new = record t {
   items = with_item t.items place new;

@@ -1,5 +1,5 @@
 -- DescribeStream: answers what a stream is, with its one shard (DynamoDB Streams API Reference, "DescribeStream"). Its Limit has no effect.
-use Rattle.std.specs.Prelude.{ℕ, List, [], ◌∷◌, Option, Some, None, is_some, codes, if◌then◌else◌}
+use Rattle.std.specs.Prelude.{List, [], ◌∷◌, Option, codes, if◌then◌else◌}
 use Rattle.std.specs.Option.{option_map_or}
 use Rattle.serde_json.specs.Data.{Data, number, unsigned, string, object, array, Items, item, no_items, Members, member, no_members}
 use Rattle.alt_schema.specs.Json.{key_schema_json, label, stream_arn, view_word}

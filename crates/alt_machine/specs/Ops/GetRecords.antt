@@ -1,9 +1,9 @@
 -- GetRecords: answers the records of the changes from an iterator's number on, and an iterator for those behind them (DynamoDB Streams API
 -- Reference, "GetRecords").
-use Rattle.std.specs.Prelude.{ℕ, ◌+◌, nat_le, Bool, ◌||◌, List, [], ◌∷◌, length, map, sum_by, Option, Some, None, option_and_then, is_some, unwrap_or, codes}
+use Rattle.std.specs.Prelude.{ℕ, ◌+◌, nat_le, Bool, ◌||◌, List, [], ◌∷◌, length, map, sum_by, None, option_and_then, unwrap_or, codes}
 use Rattle.std.specs.List.{filter, find, last_or}
 use Rattle.std.specs.Option.{option_map_or}
-use Rattle.serde_json.specs.Data.{Data, string, object, array, Items, no_items, Members, member, no_members}
+use Rattle.serde_json.specs.Data.{string, array, Members, member, no_members}
 use Rattle.alt_expr.specs.Pages.{page_bytes, prefixes}
 use Rattle.alt_schema.specs.Json.{items_by}
 use Rattle.alt_schema.specs.Stated.{text_of}
@@ -38,7 +38,7 @@ page_of most size changes = unwrap_or (find (fills most size) (prefixes changes)
 
 -- the number to go on from: one past the last record, or where there was none the same again
 abbrev pub next_from : ℕ → List Change → ℕ
-next_from from changes = last_or from (map (λ c. c.number + 1) changes)
+next_from from changes = unwrap_or (last_or None (map (λ c. c.number + 1) changes)) from
 
 -- the page of the stream of a table, which shows so much
 abbrev pub records_answer : TableSchema → Iterator → List Change → View → Answer

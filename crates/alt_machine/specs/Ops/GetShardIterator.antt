@@ -1,20 +1,17 @@
 -- GetShardIterator: answers an iterator, which stands for the changes of a stream from a number on (DynamoDB Streams API Reference,
 -- "GetShardIterator").
-use Rattle.std.specs.Prelude.{ℕ, ◌+◌, Bool, true, false, ◌&&◌, ◌||◌, not, List, [], ◌∷◌, Option, Some, None, option_map, option_and_then, is_some, unwrap_or, codes, if◌then◌else◌}
-use Rattle.std.specs.Option.{option_map_or}
+use Rattle.std.specs.Prelude.{ℕ, ◌+◌, Bool, ◌&&◌, ◌||◌, not, List, [], ◌∷◌, Option, is_some, unwrap_or, codes, if◌then◌else◌}
 use Rattle.serde_json.specs.Data.{string, Members}
-use Rattle.serde_json.specs.Find.{as_str}
 use Rattle.alt_schema.specs.Stated.{text_of}
 use Rattle.alt_shape.specs.Bodies as bodies
 use Rattle.alt_shape.specs.Refusals.{Answer, bad_stream_argument}
-use Rattle.alt_shape.specs.Shape.{given}
 use Rattle.alt_machine.specs.Body.{of_shape}
 use Rattle.alt_machine.specs.Lists.{is_given}
 use Rattle.alt_machine.specs.Outcomes.{Outcome, says, unless_refused, with_found}
 use Rattle.alt_machine.specs.Refusals.{refuse_unless}
 use Rattle.alt_machine.specs.Replies.{answers, asks}
 use Rattle.alt_machine.specs.State.{State}
-use Rattle.alt_machine.specs.Streams.{Iterator, arn_in, iterator_text, may_be_shard, sequence_number, stream_at}
+use Rattle.alt_machine.specs.Streams.{arn_in, iterator_text, may_be_shard, sequence_number, stream_at}
 
 -- the kind of the iterator
 abbrev pub is_kind : List ℕ → Members → Bool

@@ -1,10 +1,10 @@
 -- ListStreams: answers the streams of tables, by the names of these, page by page (DynamoDB Streams API Reference, "ListStreams").
-use Rattle.std.specs.Prelude.{ℕ, Bool, true, not, ◌&&◌, List, [], ◌∷◌, length, map, take, nat_lt, is_some, Option, Some, None, option_map, option_and_then, codes, if◌then◌else◌}
+use Rattle.std.specs.Prelude.{ℕ, Bool, true, ◌&&◌, List, [], ◌∷◌, length, map, take, nat_lt, is_some, Option, None, option_map, option_and_then, codes, if◌then◌else◌}
 use Rattle.std.specs.List.{filter, last_or}
 use Rattle.std.specs.Option.{option_map_or}
 use Rattle.std.specs.Ordering.{is_lt}
 use Rattle.std.specs.Str.{bytes_eq}
-use Rattle.serde_json.specs.Data.{Data, string, object, array, Items, Members, member, no_members}
+use Rattle.serde_json.specs.Data.{Data, string, object, array, Members, member, no_members}
 use Rattle.serde_json.specs.Find.{as_str}
 use Rattle.alt_schema.specs.Json.{items_by, label, member_if, stream_arn}
 use Rattle.alt_schema.specs.declared.schema.TableSchema.{TableSchema}
@@ -17,7 +17,7 @@ use Rattle.alt_machine.specs.Members.{may_name}
 use Rattle.alt_machine.specs.Ops.ListTables.{page_length}
 use Rattle.alt_machine.specs.Outcomes.{Outcome, says, unless_refused}
 use Rattle.alt_machine.specs.Refusals.{refuse_unless}
-use Rattle.alt_machine.specs.State.{State, Table}
+use Rattle.alt_machine.specs.State.{State}
 use Rattle.alt_machine.specs.Streams.{all_tables, table_of_stream}
 
 -- the stream to start after, where one is given
@@ -59,8 +59,7 @@ stream_json d = object
 
 -- the last stream of a page, where it isn't the last of all
 abbrev pub continues : ℕ → List TableSchema → Option TableSchema
-continues most ds = if nat_lt most (length ds)
-    then last_or None (map (λ d. Some d) (take most ds)) else None
+continues most ds = if nat_lt most (length ds) then last_or None (take most ds) else None
 
 -- the first of these streams, as many as a page takes
 abbrev pub streams_answer : ℕ → List TableSchema → Answer

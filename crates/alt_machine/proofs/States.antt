@@ -1,6 +1,6 @@
 -- A valid state with a table more, a table less, or a table of other items is valid, where the numbers suffice.
 use Rattle.std.proofs.Common.{◌≡◌, refl, sym, ap, subst, ◌∙◌, ℕ, ◌+◌, ◌-◌, ◌<◌, ◌≤◌, Bool, true, false, cond, is_some, List, [], ◌∷◌, ◌++◌, length, Option, Some, None, inl, inr, Contains, arith, true≢false}
-use Rattle.std.specs.Prelude.{IfSome}
+use Rattle.std.specs.Prelude.{IfSome, if◌then◌else◌}
 use Rattle.std.specs.FinMap.{len-insert, len-remove, len-empty}
 use Rattle.std.specs.FinMap as map
 use Rattle.std.proofs.lemmas.List.Elements.{All-nil, All-push, All-weaker}
@@ -58,8 +58,8 @@ no_changes d n = record {
 
 -- one more, of the next number
 changes_more : (d : TableSchema) (n : ℕ) (c : Change) (changes : List Change) → c.number ≡ n
-    → (is_some d.stream_family ≡ true → IsChange d (n + 1) c) → AreChanges d n changes
-    → AreChanges d (n + 1) (with_change d c changes)
+    → IsChange d (n + 1) c → AreChanges d n changes
+    → AreChanges d (n + 1) (with_change d (Some c) changes)
 changes_more d n c changes e is h = by d.stream_family refl
   where
     later : AreChanges d (n + 1) changes
@@ -69,7 +69,7 @@ changes_more d n c changes e is h = by d.stream_family refl
         → AreChanges d (n + 1) (cond (is_some o) (changes ++ c ∷ []) changes)
     by None f = later
     by (Some family) f = record {
-      each = All-push (IsChange d (n + 1)) changes c later.each (is (ap is_some f));
+      each = All-push (IsChange d (n + 1)) changes c later.each is;
       rise = all_pairs_push (λ (a b : Change). a.number < b.number) changes c h.rise
           (λ k x within. omega (arith, (h.each k x within).number, e));
       none = λ g. absurd (let k : ⊥ = cc (f, g) in k);
@@ -267,8 +267,9 @@ module _ (s : State) (moment : ℕ) (name : List ℕ) (t : Table) (place : List 
         families = old.families;
         differ = old.differ;
         items = with_item_stored s name t place new v there put;
-        changes = changes_more t.description s.next_number change t.changes refl (λ e. change_is)
-            old.changes;
+        changes = subst (AreChanges t.description (s.next_number + 1)) (sym (ap
+            (λ b. with_change t.description (if b then None else Some change) t.changes) differ))
+            (changes_more t.description s.next_number change t.changes refl change_is old.changes);
       }
 
   -- a table of the same description was there

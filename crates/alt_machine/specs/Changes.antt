@@ -1,7 +1,7 @@
 -- A table's changes, and the records that a stream shows of them (DynamoDB Developer Guide, "Change data capture for DynamoDB Streams";
 -- Streams API Reference, "Record" and "StreamRecord").
-use Rattle.std.specs.Prelude.{ℕ, ◌+◌, Bool, true, false, List, [], ◌∷◌, ◌++◌, Option, None, option_map, is_some, codes, if◌then◌else◌}
-use Rattle.std.specs.Option.{option_map_or}
+use Rattle.std.specs.Prelude.{ℕ, ◌+◌, Bool, true, false, List, [], ◌++◌, Option, Some, None, option_map, is_some, codes, if◌then◌else◌}
+use Rattle.std.specs.Option.{option_map_or, option_to_list}
 use Rattle.serde_json.specs.Data.{Data, number, unsigned, string, object, member, no_members}
 use Rattle.alt_codec.specs.Writing.{json_of_pairs}
 use Rattle.alt_schema.specs.Json.{label, member_if, view_word}
@@ -11,13 +11,19 @@ use Rattle.alt_schema.specs.declared.schema.View.TheVariants.{KeysOnly, NewImage
 use Rattle.alt_value.specs.Size.{item_size}
 use Rattle.alt_value.specs.Tree.{Pair}
 use Rattle.alt_machine.specs.Lists.{key_attributes}
+use Rattle.alt_machine.specs.Same.{is_same}
 use Rattle.alt_machine.specs.State.{Change}
 
 -- ---- changes
 
--- Behind a write a table with a stream has one change more.
-abbrev pub with_change : TableSchema → Change → List Change → List Change
-with_change d c changes = if is_some d.stream_family then changes ++ c ∷ [] else changes
+-- The change that a write leaves, where one item gives way to another: none where it stays as it is, or where none was there and none comes.
+abbrev pub change_left : ℕ → ℕ → Option (List Pair) → Option (List Pair) → Option Change
+change_left n moment old new = if is_same old new then None
+    else Some (record { number = n; moment = moment; old = old; new = new })
+
+-- A table with a stream keeps it behind the others.
+abbrev pub with_change : TableSchema → Option Change → List Change → List Change
+with_change d left changes = if is_some d.stream_family then changes ++ option_to_list left else changes
 
 -- ---- what a record shows
 

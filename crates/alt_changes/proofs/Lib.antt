@@ -1,0 +1,3 @@
+pub mod IteratorTexts
+pub mod KeyPut
+pub mod Rows

@@ -1,3 +1,6 @@
+pub mod Floats
+pub mod Found
 pub mod IteratorTexts
 pub mod KeyPut
 pub mod Rows
+pub mod Written

@@ -30,15 +30,18 @@ pub fn change_of(alloc: Global, number: u64, row: &ShownRow) -> Result<Change, B
     let moment = moment_in(row)?;
     let new = item_in(alloc, row, NEW)?;
     let old = item_in(alloc, row, OLD)?;
-    match moment {
-        Some(moment) if has_no_others(row) => Ok(Change {
-            number,
-            moment,
-            old,
-            new,
-        }),
-        _ => Err(BytesFault::Bad { at: 0 }),
+    let Some(moment) = moment else {
+        return Err(BytesFault::Bad { at: 0 });
+    };
+    if !has_no_others(row) {
+        return Err(BytesFault::Bad { at: 0 });
     }
+    Ok(Change {
+        number,
+        moment,
+        old,
+        new,
+    })
 }
 
 /// The moment that a row tells, if it tells one.

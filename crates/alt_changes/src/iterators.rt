@@ -26,6 +26,13 @@ pub fn iterator_text(alloc: Global, schema: &TableSchema, number: u64) -> Result
     ensures again { number ≤ 2 ^ 62 → IfOk result (λ text. machine.iterator_of text
         ≡ Some (record { arn = stream_arn schema.now.name schema.now.number; from = number })) }
 {
+    written(alloc, schema, number)
+}
+
+fn written(alloc: Global, schema: &TableSchema, number: u64) -> Result<Text, NoMemory>
+    ensures { IfOk result (λ text. text ≡ machine.iterator_text
+        (record { arn = stream_arn schema.now.name schema.now.number; from = number })) }
+{
     let mut text = stream_arn(alloc, schema)?;
     text.push_str("|")?;
     text.push_str(label(alloc, number)?.as_str())?;

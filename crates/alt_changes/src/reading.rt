@@ -6,7 +6,7 @@ ghost use Rattle.std.specs.Int.{w64, to_be_bytes};
 ghost use Rattle.std.specs.List.{list_all};
 ghost use Rattle.alt_changes.specs.ChangeRows.{IsReadChange, IsReadItem, change_columns, change_in, item_bytes};
 ghost use Rattle.alt_changes.specs.NoChange.{IsBadAt, IsBadItem, IsBadMoment, NoItem, NoMoment, NoneIs, is_column, is_map};
-ghost use Rattle.alt_machine.specs.State.{Change};
+ghost use Rattle.alt_machine.specs.State as machine;
 
 use crate::changes::{Change, MAP, MOMENT, NEW, OLD};
 use alt_cellbytes::attr_within;
@@ -24,7 +24,7 @@ pub fn change_of(alloc: Global, number: u64, row: &ShownRow) -> Result<Change, B
     ensures change { IfOk result (λ c. (c.number ≡ number) × IsReadChange (change_in c)
         × (row.now ≡ change_columns (change_in c))) }
     ensures none { (at : ℕ) → result ≡ Err (BytesFault.Bad at)
-        → (c : Change) → IsReadChange c → row.now ≡ change_columns c → ⊥ }
+        → (c : machine.Change) → IsReadChange c → row.now ≡ change_columns c → ⊥ }
     ensures place { (at : ℕ) → result ≡ Err (BytesFault.Bad at) → IsBadAt row.now at }
 {
     let moment = moment_in(row)?;

@@ -2,6 +2,7 @@
 
 ghost use Rattle.std.specs.Prelude.{◌≡◌, ◌≤◌, false, IfOk, IfSome, IsSome, None, OnOk, option_map};
 ghost use Rattle.std.specs.Option.{option_map_or};
+ghost use Rattle.serde_json.specs.Data.{put, string};
 ghost use Rattle.serde_json.specs.View.{view, members_view};
 ghost use Rattle.serde_json.specs.Written.{has_float};
 ghost use Rattle.alt_changes.specs.ChangeRows.{change_in};
@@ -20,7 +21,7 @@ use alt_codec::json_of_item;
 use alt_machine::LARGEST_ITEM;
 use alt_schema::{KeyAttr, TableSchema, View};
 use alt_value::{Item, copy, item_size_within};
-use serde_json::{Map, Value, json};
+use serde_json::{Map, Value};
 use std::alloc::Global;
 
 /// The record of a change of a table with a stream, whose items are as large as may be stored at most.
@@ -50,15 +51,30 @@ fn record_shown(
         ≡ machine.record_json schema.now shows (change_in change.now)) }
 {
     let changed = changed_json(alloc, schema, shows, change)?;
-    let label = label(alloc, change.number)?;
-    Ok(json!(in alloc; {
-        "awsRegion": "local",
-        "dynamodb": changed,
-        "eventID": label.as_str(),
-        "eventName": event_name(change),
-        "eventSource": "aws:dynamodb",
-        "eventVersion": "1.1",
-    })?)
+    let number = label(alloc, change.number)?;
+    let mut members = Map::new(alloc);
+    put_text(alloc, &mut members, "awsRegion", "local")?;
+    serde_json::put(&mut members, alloc, "dynamodb", changed)?;
+    put_text(alloc, &mut members, "eventID", number.as_str())?;
+    put_text(alloc, &mut members, "eventName", event_name(change))?;
+    put_text(alloc, &mut members, "eventSource", "aws:dynamodb")?;
+    put_text(alloc, &mut members, "eventVersion", "1.1")?;
+    Ok(Value::Object(members))
+}
+
+/// Puts a text.
+fn put_text(
+    alloc: Global,
+    members: &mut Map<String, Value>,
+    name: &str,
+    text: &str,
+) -> Result<(), NoMemory>
+    ensures { OnOk result (members_view members.new.entries
+        ≡ put name.now (string text.now) (members_view members.old.entries)) }
+{
+    let text = Value::String(String::from_str(alloc, text)?);
+    serde_json::put(members, alloc, name, text)?;
+    Ok(())
 }
 
 /// What was changed.
@@ -90,8 +106,7 @@ fn changed_json(
     put_image(alloc, &mut members, "OldImage", old)?;
     serde_json::put(&mut members, alloc, "SequenceNumber", Value::String(number))?;
     serde_json::put(&mut members, alloc, "SizeBytes", Value::from(size))?;
-    let word = Value::String(String::from_str(alloc, view_word(shows))?);
-    serde_json::put(&mut members, alloc, "StreamViewType", word)?;
+    put_text(alloc, &mut members, "StreamViewType", view_word(shows))?;
     Ok(Value::Object(members))
 }
 

@@ -85,7 +85,7 @@ map_whole item is deep = record {
 pub no_map : (bytes : List ℕ) → is_map bytes ≡ false → NoItem bytes 0 × NoneIs bytes
 no_map bytes other = (
   inl (other, refl),
-  λ item is e. absurd (let no : true ≡ false = sym (ap is_map e) ∙ other in let f : ⊥ = cc in f),
+  λ item is e. absurd (let not_so : true ≡ false = sym (ap is_map e) ∙ other in let f : ⊥ = cc in f),
 )
 
 -- nor are those that are no value's, or of one that is too deep
@@ -138,15 +138,15 @@ module _ (row : Columns) (c : Change) (is : row ≡ change_columns c) where
 
   -- the row of a change has no bad moment
   pub no_bad_moment : (at : ℕ) → IsBadMoment row at → ⊥
-  no_bad_moment at (bytes, there, no) = no_moment c.moment at
+  no_bad_moment at (bytes, there, bad) = no_moment c.moment at
       (subst (λ b. NoMoment b at) (same_Some bytes (to_be_bytes w64 c.moment)
-      (sym there ∙ shows.moment)) no)
+      (sym there ∙ shows.moment)) bad)
 
   -- and no bad item
   bad_item : (name : List ℕ) (at : ℕ) (o : Option (List Pair)) → IfSome o IsReadItem
       → get row name ≡ option_map item_bytes o → IsBadItem row name at → ⊥
-  bad_item name at None read e (bytes, there, no, none) = absurd (let f : ⊥ = cc (there, e) in f)
-  bad_item name at (Some i) read e (bytes, there, no, none) = none i read
+  bad_item name at None read e (bytes, there, bad, none) = absurd (let f : ⊥ = cc (there, e) in f)
+  bad_item name at (Some i) read e (bytes, there, bad, none) = none i read
       (same_Some bytes (item_bytes i) (sym there ∙ e))
 
   pub no_bad_new : (at : ℕ) → IsReadChange c → IsBadItem row (codes "n") at → ⊥
@@ -157,11 +157,11 @@ module _ (row : Columns) (c : Change) (is : row ≡ change_columns c) where
 
   -- it has a moment
   pub some_moment : MomentRead row None → ⊥
-  some_moment h = let no : None ≡ Some (to_be_bytes w64 c.moment) = sym h.1 ∙ shows.moment in cc no
+  some_moment h = let not_so : None ≡ Some (to_be_bytes w64 c.moment) = sym h.1 ∙ shows.moment in cc not_so
 
   -- and no other columns
   pub no_others : list_all (λ e. is_column e.0) (entries row) ≡ false → ⊥
-  no_others other = let no : true ≡ false = sym shows.alone ∙ other in cc no
+  no_others other = let not_so : true ≡ false = sym shows.alone ∙ other in cc not_so
 
 -- a row that was read is that of the change
 pub change_read : (row : Columns) (c : Change) → MomentRead row (Some c.moment)

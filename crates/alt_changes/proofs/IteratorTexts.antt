@@ -70,10 +70,10 @@ module _ {E : Type 0} (digits : List ℕ) (r : Result ℕ E) (all : all_ascii_di
   -- and where none was, it is too large
   is_above : (q : Result ℕ E) → Parses q → result_ok q ≡ None → 2 ^ 62 < value
   is_above (Ok x) h e = absurd (let k : ⊥ = cc in k)
-  is_above (Err f) no e = by (nat_le value (2 ^ 62)) refl
+  is_above (Err f) fails e = by (nat_le value (2 ^ 62)) refl
     where
       by : (b : Bool) → nat_le value (2 ^ 62) ≡ b → 2 ^ 62 < value
-      by true le = absurd (no (some, omega (arith, leb-true value (2 ^ 62) le)))
+      by true le = absurd (fails (some, omega (arith, leb-true value (2 ^ 62) le)))
       by false not_le = above (2 ^ 62) value not_le
 
   pub parsed_small : (n : ℕ) → result_ok r ≡ Some n → n ≤ 2 ^ 62
@@ -176,8 +176,9 @@ module _ (text : List ℕ) where
         is_true = ap (λ l. bytes_eq (take 1 l) (124 ∷ [])) there
 
         behind : drop (at + 1) text ≡ rest
-        behind = ap (λ n. drop n text) (omega arith)
-            ∙ ap (λ l. drop 1 l) (sym split_there ∙ there)
+        behind =
+            let next : at + 1 ≡ suc at = omega arith in
+            ap (λ n. drop n text) next ∙ ap (λ l. drop 1 l) (sym split_there ∙ there)
 
     pub rest_long : (tail rest : List ℕ) → tail ≡ drop at text → tail ≡ 124 ∷ rest
         → 0 < length rest
@@ -206,12 +207,11 @@ module _ (n : ℕ) (small : n ≤ 2 ^ 62) where
 
   label_long : length (label n) ≡ 21
   unfolding label
-  label_long = omega (
-    arith,
-    length-append (replicate (21 - length (decimal n)) 48) (decimal n),
-    length-replicate (21 - length (decimal n)) 48,
-    digits_few,
-  )
+  label_long =
+      let zeros : List ℕ = replicate (21 - length (decimal n)) 48 in
+      let count : length zeros ≡ 21 - length (decimal n) =
+      length-replicate (21 - length (decimal n)) 48 in
+      omega (arith, length-append zeros (decimal n), count, digits_few)
 
   numeral : AllDigits 10 (decimal n) × (digits_value 10 (decimal n) ≡ n)
   numeral = let is = decimal_is_IsNumeral n (omega (arith, small)) in (is.0.1, is.1)

@@ -93,16 +93,18 @@ none_found : (q : List ℕ) → is_column q ≡ false → (es : List (List ℕ �
     → list_all (λ e. is_column e.0) es ≡ true → find key_cmp q es ≡ None
 none_found q other [] known = refl
 none_found q other (e ∷ es) known =
-    by (eq_by_cmp key_cmp q e.0) refl (is_column e.0) refl known
+    by (none_found q other es) (eq_by_cmp key_cmp q e.0) refl (is_column e.0) refl known
   where
-    by : (b : Bool) → eq_by_cmp key_cmp q e.0 ≡ b → (a : Bool) → is_column e.0 ≡ a
+    by : (list_all (λ e. is_column e.0) es ≡ true → find key_cmp q es ≡ None)
+        → (b : Bool) → eq_by_cmp key_cmp q e.0 ≡ b → (a : Bool) → is_column e.0 ≡ a
         → (a && list_all (λ e. is_column e.0) es) ≡ true
         → cond b (Some e.1) (find key_cmp q es) ≡ None
-    by b is false not_known h = absurd (let f : ⊥ = cc in f)
-    by true is true named h =
+    by behind b is false not_known h = absurd (let f : ⊥ = cc in f)
+    by behind true is true named h =
         let same : q ≡ e.0 = key_exact q e.0 (equal _ (subst T (sym is) tt)) in
-        absurd (let no : false ≡ true = sym other ∙ ap is_column same ∙ named in let f : ⊥ = cc in f)
-    by false is true named h = none_found q other es h
+        absurd (let none : false ≡ true = sym other ∙ ap is_column same ∙ named in
+        let f : ⊥ = cc in f)
+    by behind false is true named h = behind h
 
 nowhere : (row : Columns) → list_all (λ e. is_column e.0) (entries row) ≡ true → (q : List ℕ)
     → is_column q ≡ false → get row q ≡ None

@@ -42,11 +42,11 @@ cells_written moment old new first more all e f g =
 pub row_made : (family : ℕ) (c : Change) (cells : Given)
     → cells ≡ map with_value (columns_of c.moment c.old c.new)
     → (let made : RowChange = record {
-    family = family;
-    key = row_key c.number;
-    clear = true;
-    cells = cells;
-  } in made ≡ row_change family c)
+      family = family;
+      key = row_key c.number;
+      clear = true;
+      cells = cells;
+    } in made ≡ row_change family c)
 row_made family c cells e = ap change_of (e ∙ sym (ap (map with_value) (entries-change c)))
   where
     change_of : Given → RowChange

@@ -5,6 +5,7 @@ use Rattle.alt_changes.proofs.IteratorTexts.{iterator_unbarred}
 use Rattle.alt_changes.proofs.iterators.iterator_of.Goals as goal
 
 pub returns-in_err-strip_prefix : goal.returns-in_err-strip_prefix
+unfolding lib.Utf8.encode
 returns-in_err-strip_prefix c =
     let text = c.args.text.now in
     let enough : 22 ≤ length text = search rules in

@@ -17,8 +17,8 @@ returns c =
     let key : c.match-schema.key ≡ key_attributes d None item = elim c.match-schema.branch [
       | in-Some+in_ok-put_attribute-2 w ↦
           w.key-is ∙ w.in_ok-put_attribute-2.ensures.put
-          ∙ ap (with_attribute w.in-Some.range.now.name (at_name w.in-Some.range.now.name item)) one
-          ∙ key_of_both item c.len-count.ensures.item d w.in-Some.range.now w.in-Some.is
+          ∙ ap (with_attribute w.in-Some.range.name (at_name w.in-Some.range.name item)) one
+          ∙ key_of_both item c.len-count.ensures.item d w.in-Some.range w.in-Some.is
       | in_default w ↦
           w.key-is ∙ one ∙ key_of_hash item c.len-count.ensures.item d w.in_default.is
     ] in record {

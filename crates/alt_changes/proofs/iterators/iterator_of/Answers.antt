@@ -1,6 +1,5 @@
 -- Without a bar at its place a text is no iterator's.
-use Rattle.std.proofs.Common.{rules, ◌≡◌, ◌≤◌, ◌∙◌, ℕ, ◌-◌, sym, ap, length, drop, option_map}
-use Rattle.alt_machine.specs.Streams as machine
+use Rattle.std.proofs.Common.{rules, ◌≡◌, ◌≤◌, ◌∙◌, ◌-◌, sym, ap, length, drop, option_map}
 use Rattle.alt_changes.proofs.IteratorTexts.{iterator_unbarred}
 use Rattle.alt_changes.proofs.iterators.iterator_of.Goals as goal
 

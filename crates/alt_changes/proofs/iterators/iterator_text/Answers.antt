@@ -1,6 +1,5 @@
 -- The text is read as the iterator again.
 use Rattle.std.proofs.lemmas.Result.{IfOk-weaker}
-use Rattle.alt_machine.specs.Streams as machine
 use Rattle.alt_schema.specs.Json.{stream_arn}
 use Rattle.alt_changes.proofs.IteratorTexts.{iterator_again}
 use Rattle.alt_changes.proofs.iterators.iterator_text.Goals as goal

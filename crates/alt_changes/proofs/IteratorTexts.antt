@@ -243,6 +243,9 @@ module _ (n : ℕ) (small : n ≤ 2 ^ 62) where
       sym ((λ i. drop (place i) (is i)) ∙ drop-append_seam name tail) in
       let before : take (before_number text) text ≡ name =
       (λ i. take (place i) (is i)) ∙ take-append_seam name tail in
-      iterator_barred text (omega (arith, count)) tail (label n) after refl
-      ∙ ap (option_map (λ m. record { arn = take (before_number text) text; from = m })) label_within
-      ∙ ap (λ l. Some (record { arn = l; from = n })) before
+      let of : ℕ → Iterator = λ m. record { arn = take (before_number text) text; from = m } in
+      let read : iterator_of text ≡ option_map of (number_within (2 ^ 62) (label n)) =
+      iterator_barred text (omega (arith, count)) tail (label n) after refl in
+      let one : option_map of (number_within (2 ^ 62) (label n)) ≡ Some (of n) =
+      ap (option_map of) label_within in
+      read ∙ one ∙ ap (λ l. Some (record { arn = l; from = n })) before

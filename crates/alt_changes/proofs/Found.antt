@@ -57,7 +57,7 @@ no_moment n at (inr long) = omega (arith, long.0)
 -- ---- an item
 
 -- an item that is read is a whole value, as a map
-whole_map : (item : List Pair) → IsReadItem item → IsWhole (M_tree (fields_of item))
+pub whole_map : (item : List Pair) → IsReadItem item → IsWhole (M_tree (fields_of item))
 whole_map item is = (
   (
     subst IsItem (sym (pairs-fields_of item)) is.whole.0.names,

@@ -1,5 +1,5 @@
 -- An item whose keys were taken out is the item again where their values are put back.
-use Rattle.std.proofs.Common.{◌≡◌, ◌<◌, refl, sym, ap, subst, ◌∙◌, ℕ, Bool, true, false, not, cond, List, [], ◌∷◌, ◌++◌, length, Option, Some, None}
+use Rattle.std.proofs.Common.{◌≡◌, refl, sym, ap, ◌∙◌, ℕ, Bool, true, false, not, cond, List, [], ◌∷◌, ◌++◌, Option, Some, None, arith}
 use Rattle.std.proofs.lemmas.Bool.{false≢true}
 use Rattle.std.proofs.lemmas.Slice.Eq.{bytes_eq-Decides}
 use Rattle.std.specs.Prelude.{◌||◌}
@@ -68,14 +68,14 @@ agrees-put whole item name names t at agrees q other =
       where
         equal : eq_by_cmp text_order q name ≡ true → q ≡ name
         equal e = let same : bytes_eq q name ≡ true = sym (ties q name) ∙ e in
-            grind (bytes_eq-Decides)
+            grind (arith, bytes_eq-Decides)
     by_name false e =
         let differs : bytes_eq q name ≡ false = sym (ties q name) ∙ e in
         let turned : bytes_eq name q ≡ false = turn name q differs in
         agrees q (ap (λ b. b || is_among names q) turned ∙ other)
       where
         turn : (a b : List ℕ) → bytes_eq b a ≡ false → bytes_eq a b ≡ false
-        turn a b h = grind (bytes_eq-Decides)
+        turn a b h = grind (arith, bytes_eq-Decides)
 
 -- and where the values of a key are put, at its names
 pub agrees-values : (whole item : List Pair) (names : List (List ℕ)) (hash : KeyAttr)

@@ -1,8 +1,7 @@
 -- The changes of index rows that join a batch one index after another.
-use Rattle.std.proofs.Common.{◌≡◌, ◌≢◌, ◌<◌, ◌≤◌, refl, sym, ap, subst, ◌∙◌, ℕ, zero, suc, Bool, true, false, List, [], ◌∷◌, ◌++◌, map, take, length, Option, Some, None, option_map, slice_get, slice_index_or, All, AllPairs, append_assoc, append-nil, arith}
+use Rattle.std.proofs.Common.{◌≡◌, ◌≢◌, ◌<◌, ◌+◌, refl, sym, ap, subst, ◌∙◌, ℕ, zero, suc, Bool, true, false, List, [], ◌∷◌, ◌++◌, map, take, length, Option, Some, None, slice_get, slice_index_or, All, AllPairs, append_assoc, append-nil, add-one, arith}
 use Rattle.std.proofs.lemmas.Bool.{eqb-true}
 use Rattle.std.proofs.lemmas.List.Elements.{All-nil, All-cons, All-head, All-tail, All-append}
-use Rattle.std.proofs.lemmas.Option.{slice_get-map, slice_get_within, get_or_from_slice_get}
 use Rattle.std.specs.Prelude.{◌==◌, ◌&&◌, ◌||◌, if◌then◌else◌, option_and_then, unwrap_or}
 use Rattle.std.specs.List.{flat_map}
 use Rattle.std.specs.Ordering.{eq_by_cmp}
@@ -62,29 +61,27 @@ none_of : (family other : ℕ) (key : List ℕ) (cs : List RowChange) → family
     → AreOf other cs → has_row cs family key ≡ false
 none_of family other key [] apart of = refl
 none_of family other key (c ∷ cs) apart of =
-    by (c.family == family) refl
+    by (none_of family other key cs apart (All-tail (λ (c : RowChange). c.family ≡ other) c cs of))
+    (c.family == family) refl
   where
-    rest : has_row cs family key ≡ false
-    rest = none_of family other key cs apart
-        (All-tail (λ (c : RowChange). c.family ≡ other) c cs of)
-
-    by : (b : Bool) → (c.family == family) ≡ b
+    by : has_row cs family key ≡ false → (b : Bool) → (c.family == family) ≡ b
         → ((b && bytes_eq c.key key) || has_row cs family key) ≡ false
-    by true same = absurd (apart (sym (eqb-true c.family family same)
+    by rest true same = absurd (apart (sym (eqb-true c.family family same)
         ∙ All-head (λ (c : RowChange). c.family ≡ other) c cs of))
-    by false differs = rest
+    by rest false differs = rest
 
-has_row-append : (bs cs : List RowChange) (family : ℕ) (key : List ℕ)
+-- a row that neither of two lists has, both haven't
+pub has_row-append : (bs cs : List RowChange) (family : ℕ) (key : List ℕ)
     → has_row bs family key ≡ false → has_row cs family key ≡ false
     → has_row (bs ++ cs) family key ≡ false
 has_row-append [] cs family key h k = k
 has_row-append (b ∷ bs) cs family key h k =
-    by ((b.family == family) && bytes_eq b.key key) h
+    by (λ h. has_row-append bs cs family key h k) ((b.family == family) && bytes_eq b.key key) h
   where
-    by : (t : Bool) → (t || has_row bs family key) ≡ false
-        → (t || has_row (bs ++ cs) family key) ≡ false
-    by true h = h
-    by false h = has_row-append bs cs family key h k
+    by : (has_row bs family key ≡ false → has_row (bs ++ cs) family key ≡ false) → (t : Bool)
+        → (t || has_row bs family key) ≡ false → (t || has_row (bs ++ cs) family key) ≡ false
+    by rest true h = h
+    by rest false h = rest h
 
 -- rows that a batch hasn't, nor changes of another family, are new to both
 new-append : (bs cs ds : List RowChange) (family other : ℕ) → family ≢ other → AreOf other cs
@@ -182,16 +179,19 @@ module _ (d : TableSchema) (old new : Option (List Pair)) where
   one_more (j ∷ is) (suc n) i at = ap (λ cs. of_index j ++ cs) (one_more is n i at)
       ∙ sym (append_assoc (of_index j) (flat_map of_index (take n is)) (of_index i))
 
--- ---- a row that goes and one that comes
+  -- so many changes are in the batch when those of one index more are
+  pub batch_more : (batch before after : List RowChange) (is : List IndexSchema) (n : ℕ)
+      (i : IndexSchema) → slice_get is n ≡ Some i → before ≡ batch ++ flat_map of_index (take n is)
+      → after ≡ before ++ of_index i → after ≡ batch ++ flat_map of_index (take (n + 1) is)
+  batch_more batch before after is n i at so_far is_after = is_after
+      ∙ ap (λ cs. cs ++ of_index i) so_far
+      ∙ append_assoc batch (flat_map of_index (take n is)) (of_index i)
+      ∙ ap (λ cs. batch ++ cs) (sym (one_more is n i at)
+      ∙ ap (λ k. flat_map of_index (take k is)) (sym (add-one n)))
 
--- the second of two changes is new behind the first, whose row has another key
-pub second_new : (batch : List RowChange) (c d : RowChange) → AreNew batch (c ∷ d ∷ [])
-    → bytes_eq c.key d.key ≡ false → has_row (batch ++ c ∷ []) d.family d.key ≡ false
-second_new batch c d new differ = has_row-append batch (c ∷ []) d.family d.key
-    (All-head (λ (x : RowChange). has_row batch x.family x.key ≡ false) d []
-    (All-tail (λ (x : RowChange). has_row batch x.family x.key ≡ false) c (d ∷ []) new))
-    (by (c.family == d.family))
-  where
-    by : (b : Bool) → ((b && bytes_eq c.key d.key) || false) ≡ false
-    by true = ap (λ t. t || false) differ
-    by false = refl
+-- there is an index of each number below theirs
+pub found : (is : List IndexSchema) (n : ℕ) → n < length is
+    → (i : IndexSchema) × (slice_get is n ≡ Some i)
+found [] n within = absurd (omega arith)
+found (j ∷ is) zero within = (j, refl)
+found (j ∷ is) (suc n) within = found is n (omega (arith, within))

@@ -5,12 +5,12 @@ use Rattle.std.proofs.lemmas.Slice.Eq.{bytes_eq-Decides}
 use Rattle.std.specs.Prelude.{◌&&◌, ◌||◌, not, if◌then◌else◌, option_and_then, unwrap_or}
 use Rattle.std.specs.List.{list_all}
 use Rattle.std.specs.Str.{bytes_eq}
-use Rattle.alt_keyorder.specs.Place.{Place, place_bytes}
-use Rattle.alt_machine.specs.Indexed.{KeyValues, values_beside, values_of, place_of_both, index_place, index_entry}
+use Rattle.alt_keyorder.specs.Place.{place_bytes}
+use Rattle.alt_machine.specs.Indexed.{values_beside, values_of, place_of_both, index_place, index_entry}
 use Rattle.alt_machine.specs.Keys.{if_key, key_value}
 use Rattle.alt_machine.specs.Sources.{index_at}
 use Rattle.alt_machine.specs.Valid.{IsMade, is_pair}
-use Rattle.alt_machine.proofs.Indexing.{IsEntry, is_entry}
+use Rattle.alt_machine.proofs.Indexing.{is_entry}
 use Rattle.alt_schema.specs.Indexes.{indexes, is_key, is_included, is_projected, is_in_index, cut, index_row, of_range}
 use Rattle.alt_schema.specs.declared.schema.IndexSchema.{IndexSchema}
 use Rattle.alt_schema.specs.declared.schema.KeyAttr.{KeyAttr}
@@ -40,7 +40,7 @@ second_true false b h = absurd (false≢true h)
 -- ---- keys are kept
 
 same_name : (n : List ℕ) → bytes_eq n n ≡ true
-same_name n = grind (bytes_eq-Decides)
+same_name n = grind (arith, bytes_eq-Decides)
 
 or_true : (a b : Bool) → b ≡ true → (a || b) ≡ true
 or_true true b h = refl
@@ -133,7 +133,7 @@ pub are_named : (d : TableSchema) (number : ℕ) (i : IndexSchema) → IsMade d
     → index_at d (Some number) ≡ Some i → AreNamed d i
 are_named d number i made at =
     let own = pair_named i.hash i.range (at_each (λ (i : IndexSchema). is_pair i.hash i.range)
-        (indexes d) number i made.index_keys at) in
+    (indexes d) number i made.index_keys at) in
     let of_table = pair_named d.hash d.range made.keys in
     record { hash = of_table.0; range = of_table.1; own_hash = own.0; own_range = own.1 }
 

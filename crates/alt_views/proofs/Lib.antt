@@ -3,6 +3,8 @@ pub mod Batched
 pub mod Columns
 pub mod ItemRowLaws
 pub mod Keeping
+pub mod Moved
 pub mod Parts
 pub mod Placing
+pub mod Reading
 pub mod Values

@@ -1,13 +1,10 @@
 -- A part of an item: the attributes whose names pass a test.
-use Rattle.std.proofs.Common.{◌≡◌, ◌≤◌, refl, sym, ap, ◌∙◌, ℕ, Bool, true, false, not, cond, T, List, [], ◌∷◌, length, Option, Some, None, max, arith}
+use Rattle.std.proofs.Common.{◌≡◌, ◌≤◌, ◌+◌, refl, sym, ap, ◌∙◌, ℕ, Bool, true, false, not, cond, T, List, [], ◌∷◌, length, Some, None, max, arith}
 use Rattle.std.proofs.lemmas.Map.Text.{is_eq-slice_cmp}
 use Rattle.std.specs.Prelude.{◌&&◌, ◌||◌}
-use Rattle.std.specs.declared.cmp.Ordering.TheVariants.{Equal}
 use Rattle.std.specs.Ordering.{eq_by_cmp, is_lt}
 use Rattle.std.specs.Str.{bytes_eq}
-use Rattle.std.specs.FinMap.Entries.{where_key, below_all, is_sorted, is_sorted-where_key, find-where_key}
-use Rattle.alt_machine.specs.Valid.{deepest}
-use Rattle.alt_schema.specs.Indexes.{is_key}
+use Rattle.std.specs.FinMap.Entries.{where_key, below_all, is_sorted-where_key, find-where_key}
 use Rattle.alt_schema.specs.declared.schema.KeyAttr.{KeyAttr}
 use Rattle.alt_value.specs.Item.{IsItem, at_name, without}
 use Rattle.alt_value.specs.Members.{text_order}
@@ -136,23 +133,27 @@ where-twice : (a b : List ℕ → Bool) (xs : List Pair)
     → where_key text_order (λ n. not (a n || b n)) xs
     ≡ where_key text_order (λ n. not (b n)) (where_key text_order (λ n. not (a n)) xs)
 where-twice a b [] = refl
-where-twice a b (x ∷ xs) = by (a x.0)
+where-twice a b (x ∷ xs) = by (where-twice a b xs) (a x.0)
   where
-    behind : (c : Bool) → cond (not c) (x ∷ where_key text_order (λ n. not (a n || b n)) xs)
+    IsBehind : Type 0
+    IsBehind = where_key text_order (λ n. not (a n || b n)) xs
+        ≡ where_key text_order (λ n. not (b n)) (where_key text_order (λ n. not (a n)) xs)
+
+    behind : IsBehind → (c : Bool) → cond (not c) (x ∷ where_key text_order (λ n. not (a n || b n)) xs)
         (where_key text_order (λ n. not (a n || b n)) xs)
         ≡ cond (not c)
         (x ∷ where_key text_order (λ n. not (b n)) (where_key text_order (λ n. not (a n)) xs))
         (where_key text_order (λ n. not (b n)) (where_key text_order (λ n. not (a n)) xs))
-    behind true = where-twice a b xs
-    behind false = ap (λ ys. x ∷ ys) (where-twice a b xs)
+    behind rest true = rest
+    behind rest false = ap (λ ys. x ∷ ys) rest
 
-    by : (c : Bool) → cond (not (c || b x.0)) (x ∷ where_key text_order (λ n. not (a n || b n)) xs)
+    by : IsBehind → (c : Bool) → cond (not (c || b x.0)) (x ∷ where_key text_order (λ n. not (a n || b n)) xs)
         (where_key text_order (λ n. not (a n || b n)) xs)
         ≡ where_key text_order (λ n. not (b n))
         (cond (not c) (x ∷ where_key text_order (λ n. not (a n)) xs)
         (where_key text_order (λ n. not (a n)) xs))
-    by true = where-twice a b xs
-    by false = behind (b x.0)
+    by rest true = rest
+    by rest false = behind rest (b x.0)
 
 -- ---- an item without its keys
 

@@ -1,5 +1,5 @@
 -- The bytes of a place in an index, as they are put one after another.
-use Rattle.std.proofs.Common.{◌≡◌, refl, sym, ap, ◌∙◌, List, [], ◌∷◌, ◌++◌, Option, Some, None, append-nil}
+use Rattle.std.proofs.Common.{◌≡◌, ap, ◌++◌}
 use Rattle.std.proofs.lemmas.Grind.{flat_map-append}
 use Rattle.std.specs.Int.{w64, to_be_bytes}
 use Rattle.std.specs.List.{flat_map}
@@ -7,7 +7,6 @@ use Rattle.alt_keyorder.specs.KeyBytes.{key_bytes}
 use Rattle.alt_keyorder.specs.Place.{key_values, place_bytes}
 use Rattle.alt_keyorder.specs.Token.{token_of}
 use Rattle.alt_machine.specs.Indexed.{KeyValues, place_of_both}
-use Rattle.alt_value.specs.Tree.{Tree}
 
 -- behind the token stand the parts of the index's key and then those of the table's
 pub place_both : (own key : KeyValues) → place_bytes (place_of_both own key)

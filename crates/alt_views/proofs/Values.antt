@@ -1,18 +1,17 @@
 -- The values of a key as an item has them.
-use Rattle.std.proofs.Common.{◌≡◌, ◌<◌, refl, sym, ap, subst, ◌∙◌, ℕ, Bool, true, false, List, length, Option, Some, None, option_map}
+use Rattle.std.proofs.Common.{◌≡◌, ◌<◌, refl, ap, subst, ◌∙◌, Bool, true, false, List, length, Option, Some, None, option_map}
 use Rattle.std.specs.Prelude.{if◌then◌else◌, option_and_then, unwrap_or}
 use Rattle.alt_keyorder.specs.KeyBytes.{IsKeyOf}
 use Rattle.alt_machine.specs.Indexed.{KeyValues, values_beside, values_of}
 use Rattle.alt_machine.specs.Keys.{can_be_key, if_key, key_value}
 use Rattle.alt_schema.specs.declared.schema.KeyAttr.{KeyAttr}
 use Rattle.alt_value.specs.Item.{at_name}
-use Rattle.alt_value.specs.Members.{text_order}
 use Rattle.alt_value.specs.Tree.{Tree, Pair, S_tree, N_tree, B_tree, fields_of}
 use Rattle.alt_value.specs.Values.{IsValue, AreFields}
 use Rattle.alt_value.specs.declared.kind.KeyKind.{KeyKind}
 use Rattle.alt_value.specs.declared.kind.KeyKind.TheVariants.{S, N, B}
 use Rattle.alt_machine.proofs.Placed.{field_value}
-use Rattle.alt_views.specs.Read.{IsValueOf, IsRangeOf, AreValuesOf}
+use Rattle.alt_views.specs.Read.{AreValuesOf}
 
 some : {A : Type 0} (x y : A) → Some x ≡ Some y → x ≡ y
 some x y e = ap (λ o. unwrap_or o x) e
@@ -45,8 +44,10 @@ at_key item key t fields e = by_value (at_name key.name item) refl e
         → option_and_then (if_key key.kind) o ≡ Some t
         → (at_name key.name item ≡ Some t) × IsKeyOf key.kind t
     by_value None at e = absurd (none t e)
-    by_value (Some u) at e = (at ∙ ap (λ x. Some x) (same_value key.kind u t e),
-        key_of_kind key.kind u t (field_value key.name item u fields at) e)
+    by_value (Some u) at e = (
+      at ∙ ap (λ x. Some x) (same_value key.kind u t e),
+      key_of_kind key.kind u t (field_value key.name item u fields at) e,
+    )
 
 -- the values of a key stand at its names
 abbrev pub StandsAt : List Pair → Option KeyAttr → Option Tree → Type 0

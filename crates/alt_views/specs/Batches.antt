@@ -1,5 +1,5 @@
 -- When changes of index rows may join a batch.
-use Rattle.std.specs.Prelude.{◌≡◌, ◌≢◌, ℕ, false, List, map, All, AllPairs}
+use Rattle.std.specs.Prelude.{◌≡◌, ◌≢◌, false, List, map, All, AllPairs}
 use Rattle.alt_cells.specs.declared.batch.RowChange.{RowChange}
 use Rattle.alt_cells.specs.Batches.{has_row}
 use Rattle.alt_schema.specs.Indexes.{indexes}

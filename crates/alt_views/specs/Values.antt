@@ -1,6 +1,5 @@
 -- The values of a key as they stand in an item.
-use Rattle.std.specs.Prelude.{Option, Some, None, option_map, IfSome}
-use Rattle.std.specs.Borrow.{Bor}
+use Rattle.std.specs.Prelude.{option_map, IfSome}
 use Rattle.alt_keyorder.specs.KeyBytes.{IsKey}
 use Rattle.alt_machine.specs.Indexed as machine
 use Rattle.alt_value.specs.Stands.{tree_of}

@@ -3,7 +3,6 @@
 
 ghost use Rattle.std.specs.Prelude.{◌≡◌, ◌<◌, ◌++◌, ℕ, List, IfOk, drop, length, option_map, option_and_then, slice_get};
 ghost use Rattle.std.specs.List.{flat_map};
-ghost use Rattle.std.specs.Ordering.{eq_by_cmp};
 ghost use Rattle.alt_keyorder.specs.KeyBytes.{key_bytes};
 ghost use Rattle.alt_keyorder.specs.Place.{key_values as parts_of};
 ghost use Rattle.alt_machine.specs.Indexed as machine;

@@ -1,11 +1,10 @@
 -- Writes behind other writes: what a stop leaves of both, and how they break off.
-use Rattle.std.proofs.Common.{◌≡◌, refl, sym, ap, subst, ◌∙◌, ℕ, ◌+◌, ◌≤◌, List, [], ◌∷◌, ◌++◌, length, take, Option, Some, None, arith}
-use Rattle.std.specs.Prelude.{◌-◌}
+use Rattle.std.proofs.Common.{◌≡◌, refl, sym, subst, ℕ, ◌+◌, ◌≤◌, List, [], ◌∷◌, ◌++◌, length, Option, None, arith}
 use Rattle.std.proofs.lemmas.List.{length-append}
 use Rattle.alt_disk.specs.Disk.{DiskState, Goes}
 use Rattle.alt_disk.proofs.Runs.{spans_on, spans_weaker}
 use Rattle.alt_engine.specs.InHand.{IsWritten}
-use Rattle.alt_machine.specs.Outcomes.{Wants, last_state, state_after}
+use Rattle.alt_machine.specs.Outcomes.{Wants, last_state}
 use Rattle.alt_machine.specs.State.{State}
 use Rattle.alt_machine.specs.Wanted.{lack_among}
 use Rattle.alt_machine.proofs.Behind.{after_behind, front_of, taken_behind, lacks_behind, lacks_front, lacks_within, take_front}

@@ -1,5 +1,5 @@
 -- The rows of a state with a table made or dropped.
-use Rattle.std.proofs.Common.{◌≡◌, ◌≤◌, ◌<◌, ◌+◌, ℕ, Bool, true, false, cond, length, List, [], ◌∷◌, Some, None, refl, sym, ap, subst, ◌∙◌, inl, inr, arith}
+use Rattle.std.proofs.Common.{◌≡◌, ◌≤◌, ◌<◌, ◌+◌, ℕ, Bool, true, false, cond, length, List, [], ◌∷◌, Option, Some, None, refl, sym, ap, subst, ◌∙◌, inl, inr, arith}
 use Rattle.std.proofs.lemmas.Bool.{false≢true}
 use Rattle.std.specs.Prelude.{◌==◌, if◌then◌else◌, option_map, codes}
 use Rattle.std.specs.Int.{w32, to_be_bytes}
@@ -14,6 +14,8 @@ use Rattle.alt_engine.specs.InHand.{batch_write}
 use Rattle.alt_engine.specs.Layout.{Layout, Write, with_write, shown, shown_by, change_of, ShowsWrite}
 use Rattle.alt_engine.proofs.LayoutLaws.{shows_write}
 use Rattle.alt_machine.specs.declared.TheConstants.{NUMBERS_END, FAMILIES_END, MOST_FAMILIES, MOST_TABLES}
+use Rattle.alt_machine.specs.Indexed.{index_entry}
+use Rattle.alt_machine.specs.Rekeyed.{rekeyed}
 use Rattle.alt_machine.specs.Sources.{index_at}
 use Rattle.alt_machine.specs.State.{State, Table, new_table, families_of}
 use Rattle.alt_machine.specs.Valid.{IsMade, IsValid}
@@ -21,6 +23,7 @@ use Rattle.alt_machine.specs.Ops.CreateTable.{with_table}
 use Rattle.alt_machine.specs.Ops.DeleteTable.{without_table}
 use Rattle.alt_machine.proofs.Families.{of_contained, families_within}
 use Rattle.alt_machine.proofs.Looks.{at_insert, at_remove, not_there}
+use Rattle.alt_machine.proofs.Rekeying.{given_by}
 use Rattle.alt_machine.proofs.States.{with_table_valid, without_table_valid}
 use Rattle.alt_schema.specs.Described.{IsNew}
 use Rattle.alt_schema.specs.Held.{IsHeld}
@@ -30,6 +33,7 @@ use Rattle.alt_schema.specs.declared.schema.TableSchema.{TableSchema}
 use Rattle.alt_tables.specs.StateRows.{IsHeldWhole, Shows, Turns, catalog_family, catalog_rows, item_rows, index_rows, one_column, table_row, next_row, creation_changes, drop_changes}
 use Rattle.alt_tables.proofs.ChangeLaws.{tied, itself, one_change, two_changes, other_family}
 use Rattle.alt_views.proofs.ItemRowLaws.{can_show}
+use Rattle.alt_views.specs.IndexRows.{index_columns}
 use Rattle.alt_tables.proofs.OneState.{some, nameless}
 use Rattle.alt_tables.proofs.IndexFamilies.{index_family}
 use Rattle.alt_tables.proofs.WriteLaws.{family_within, index_within}
@@ -48,6 +52,17 @@ next_can_show family = by_test (family == 1)
         (one_column (codes "next") (to_be_bytes w32 family)))
     by_test true = none_shown
     by_test false = one_can_show (codes "next") (to_be_bytes w32 family)
+
+-- an index of no items has none
+none_rekeyed : {X Y : Type 0} (g : X → Option (List ℕ × Y)) (key : List ℕ)
+    → map.get (rekeyed g map.empty) key ≡ None
+none_rekeyed {Y = Y} g key = by (map.get (rekeyed g map.empty) key) refl
+  where
+    by : (o : Option Y) → map.get (rekeyed g map.empty) key ≡ o → o ≡ None
+    by None is = refl
+    by (Some v) is =
+        let (place, (x, (here, entry))) = given_by g map.empty key v is in
+        let no : None ≡ Some x = sym (map.get-empty key_cmp place) ∙ here in cc no
 
 -- changes of the catalog leave all other families
 off_catalog : (c : RowChange) (cs : List RowChange) (family : ℕ) (key : List ℕ)
@@ -130,7 +145,7 @@ module _ (l : Layout) (s : State) (shows : Shows l s) (valid : IsValid s) where
         elsewhere i.family key
         (let low = valid.next_family.0 in omega (arith, low, family, is.0))
         ∙ shows.beyond i.family key (omega (arith, family, is.0))
-        ∙ sym (ap (option_map _) (map.get-empty key_cmp key))) at_index
+        ∙ sym (ap (option_map (index_columns d i)) (none_rekeyed (index_entry d i) key))) at_index
     indexes_after other u false e at n i at_index key =
         elsewhere i.family key (index_within s other u (valid.tables other u at) n i at_index).0
         ∙ shows.indexes other u n i at at_index key

@@ -1,17 +1,16 @@
 -- The rows of an index after an item changes: those of the items after it, also where the item's key in the index changes.
-use Rattle.std.proofs.Common.{◌≡◌, ◌≢◌, ℕ, zero, suc, Bool, true, false, List, [], ◌∷◌, ◌++◌, map, Option, Some, None, refl, sym, ap, subst, ◌∙◌, All, AllPairs, option_map, slice_get, slice_index_or, length, ◌<◌, arith}
+use Rattle.std.proofs.Common.{◌≡◌, ◌≢◌, ℕ, zero, suc, Bool, true, false, List, [], ◌∷◌, map, Option, Some, None, refl, sym, ap, ◌∙◌, All, AllPairs, option_map, slice_get, slice_index_or, length, ◌<◌, arith}
 use Rattle.std.proofs.lemmas.List.Elements.{All-head, All-tail}
 use Rattle.std.proofs.lemmas.Option.{slice_get-map, slice_get_within, get_or_from_slice_get}
 use Rattle.std.specs.Prelude.{if◌then◌else◌, option_and_then, unwrap_or}
 use Rattle.std.specs.List.{flat_map}
 use Rattle.std.specs.Ordering.{eq_by_cmp}
 use Rattle.std.specs.FinMap as finite
-use Rattle.alt_cells.specs.declared.batch.RowChange.{RowChange}
-use Rattle.alt_cells.specs.Changes.{Columns, CanShow}
+use Rattle.alt_cells.specs.Changes.{Columns}
 use Rattle.alt_cells.specs.Keys.{key_cmp}
 use Rattle.alt_engine.specs.Layout.{Layout, Write, with_write, shown, shown_by, change_of, ShowsWrite}
 use Rattle.alt_machine.specs.Indexed.{index_entry, index_items}
-use Rattle.alt_machine.specs.Rekeyed.{rekeyed, AreApart, unless_at, moved}
+use Rattle.alt_machine.specs.Rekeyed.{AreApart, unless_at, moved}
 use Rattle.alt_machine.specs.State.{Texts}
 use Rattle.alt_machine.specs.Writes.{with_item}
 use Rattle.alt_machine.proofs.Rekeying.{get-rekeyed-with_item, gives}
@@ -44,9 +43,10 @@ family_at : (is : List IndexSchema) (n : ℕ) (i : IndexSchema) (x : ℕ) → sl
     × (slice_index_or (map (λ (i : IndexSchema). i.family) is) n x ≡ i.family)
 family_at is n i x at =
     let there = slice_get-map (λ (i : IndexSchema). i.family) is n
-        ∙ ap (option_map (λ (i : IndexSchema). i.family)) at in
-    (slice_get_within (map (λ (i : IndexSchema). i.family) is) n i.family there,
-    get_or_from_slice_get (map (λ (i : IndexSchema). i.family) is) n i.family x there)
+    ∙ ap (option_map (λ (i : IndexSchema). i.family)) at in (
+      slice_get_within (map (λ (i : IndexSchema). i.family) is) n i.family there,
+      get_or_from_slice_get (map (λ (i : IndexSchema). i.family) is) n i.family x there,
+    )
 
 -- Of the changes of all indexes, those of the family of one are its own.
 pub change_of-index : (d : TableSchema) (old new : Option (List Pair)) (is : List IndexSchema)
@@ -119,55 +119,63 @@ module _ (d : TableSchema) (i : IndexSchema) where
   can_show (Some e) = item_can_show (beside_keys d i e.1)
 
   module _ (items : Texts (List Pair)) (place : List ℕ) (apart : AreApart (index_entry d i) items)
-      where
-    -- the row of the item at a place was shown at its key
-    was_shown : (key : List ℕ)
-        → WasShown (option_map (row_of (index_columns d i))
-        (option_and_then (index_entry d i) (finite.get items place))) key
-        (option_map (index_columns d i) (finite.get (index_items d i items) key))
-    was_shown key = by_item (finite.get items place) refl
-      where
-        by_entry : (item : List Pair) → finite.get items place ≡ Some item
-            → (e : Option (List ℕ × List Pair)) → index_entry d i item ≡ e
-            → WasShown (option_map (row_of (index_columns d i)) e) key
-            (option_map (index_columns d i) (finite.get (index_items d i items) key))
-        by_entry item at None is = tt
-        by_entry item at (Some e) is = λ same. ap (option_map (index_columns d i))
-            (gives (index_entry d i) items apart key e.1 (place, (item, (at,
-            is ∙ ap (λ k. Some (k, e.1)) (sym same)))))
+    where
+      -- the row of the item at a place was shown at its key
+      was_shown : (key : List ℕ)
+          → WasShown (option_map (row_of (index_columns d i))
+          (option_and_then (index_entry d i) (finite.get items place))) key
+          (option_map (index_columns d i) (finite.get (index_items d i items) key))
+      was_shown key = by_item (finite.get items place) refl
+        where
+          by_entry : (item : List Pair) → finite.get items place ≡ Some item
+              → (e : Option (List ℕ × List Pair)) → index_entry d i item ≡ e
+              → WasShown (option_map (row_of (index_columns d i)) e) key
+              (option_map (index_columns d i) (finite.get (index_items d i items) key))
+          by_entry item at None is = tt
+          by_entry item at (Some e) is = λ same. ap (option_map (index_columns d i))
+              (gives (index_entry d i) items apart key e.1 (
+                place,
+                (
+                  item,
+                  (
+                    at,
+                    is ∙ ap (λ k. Some (k, e.1)) (sym same),
+                  ),
+                ),
+              ))
 
-        by_item : (o : Option (List Pair)) → finite.get items place ≡ o
-            → WasShown (option_map (row_of (index_columns d i))
-            (option_and_then (index_entry d i) o)) key
-            (option_map (index_columns d i) (finite.get (index_items d i items) key))
-        by_item None at = tt
-        by_item (Some item) at = by_entry item at (index_entry d i item) refl
+          by_item : (o : Option (List Pair)) → finite.get items place ≡ o
+              → WasShown (option_map (row_of (index_columns d i))
+              (option_and_then (index_entry d i) o)) key
+              (option_map (index_columns d i) (finite.get (index_items d i items) key))
+          by_item None at = tt
+          by_item (Some item) at = by_entry item at (index_entry d i item) refl
 
-    -- What its rows show after the write of an item are those of the items after it.
-    pub index_shows : (l : Layout) (w : Write) → ShowsWrite l w → (new : Option (List Pair))
-        → AreApart (index_entry d i) (with_item items place new)
-        → ((key : List ℕ) → change_of i.family key w.changes
-        ≡ change_of i.family key (changes_in d (finite.get items place) new i))
-        → ((key : List ℕ) → shown l i.family key
-        ≡ option_map (index_columns d i) (finite.get (index_items d i items) key))
-        → (key : List ℕ) → shown (with_write l w) i.family key
-        ≡ option_map (index_columns d i)
-        (finite.get (index_items d i (with_item items place new)) key)
-    index_shows l w law new apart_after changes before key =
-        law i.family key
-        ∙ (λ j. shown_by (changes key j) (before key j))
-        ∙ (λ j. shown_by (change_of i.family key
-        (moved_changes i.family (row_of-entry (finite.get items place) j) (row_of-entry new j)))
-        (option_map (index_columns d i) (finite.get (index_items d i items) key)))
-        ∙ shown-moved_changes i.family
-        (option_map (row_of (index_columns d i))
-        (option_and_then (index_entry d i) (finite.get items place)))
-        (option_map (row_of (index_columns d i)) (option_and_then (index_entry d i) new)) key
-        (option_map (index_columns d i) (finite.get (index_items d i items) key)) (was_shown key)
-        (can_show (option_and_then (index_entry d i) (finite.get items place)))
-        (can_show (option_and_then (index_entry d i) new))
-        ∙ moved-rows (index_columns d i) key
-        (option_and_then (index_entry d i) (finite.get items place))
-        (option_and_then (index_entry d i) new) (finite.get (index_items d i items) key)
-        ∙ ap (option_map (index_columns d i))
-        (sym (get-rekeyed-with_item (index_entry d i) items place new apart apart_after key))
+      -- What its rows show after the write of an item are those of the items after it.
+      pub index_shows : (l : Layout) (w : Write) → ShowsWrite l w → (new : Option (List Pair))
+          → AreApart (index_entry d i) (with_item items place new)
+          → ((key : List ℕ) → change_of i.family key w.changes
+          ≡ change_of i.family key (changes_in d (finite.get items place) new i))
+          → ((key : List ℕ) → shown l i.family key
+          ≡ option_map (index_columns d i) (finite.get (index_items d i items) key))
+          → (key : List ℕ) → shown (with_write l w) i.family key
+          ≡ option_map (index_columns d i)
+          (finite.get (index_items d i (with_item items place new)) key)
+      index_shows l w law new apart_after changes before key =
+          law i.family key
+          ∙ (λ j. shown_by (changes key j) (before key j))
+          ∙ (λ j. shown_by (change_of i.family key
+          (moved_changes i.family (row_of-entry (finite.get items place) j) (row_of-entry new j)))
+          (option_map (index_columns d i) (finite.get (index_items d i items) key)))
+          ∙ shown-moved_changes i.family
+          (option_map (row_of (index_columns d i))
+          (option_and_then (index_entry d i) (finite.get items place)))
+          (option_map (row_of (index_columns d i)) (option_and_then (index_entry d i) new)) key
+          (option_map (index_columns d i) (finite.get (index_items d i items) key)) (was_shown key)
+          (can_show (option_and_then (index_entry d i) (finite.get items place)))
+          (can_show (option_and_then (index_entry d i) new))
+          ∙ moved-rows (index_columns d i) key
+          (option_and_then (index_entry d i) (finite.get items place))
+          (option_and_then (index_entry d i) new) (finite.get (index_items d i items) key)
+          ∙ ap (option_map (index_columns d i))
+          (sym (get-rekeyed-with_item (index_entry d i) items place new apart apart_after key))

@@ -1,5 +1,5 @@
 -- The rows of the items in a range of places, and the items that are read from them.
-use Rattle.std.proofs.Common.{◌≡◌, ◌<◌, refl, sym, ap, subst, ◌∙◌, ℕ, zero, suc, Bool, true, false, cond, T, List, [], ◌∷◌, ◌++◌, map, reverse, take, length, get_or, Option, Some, None, Result, Ok, Err, OnOk, IfErr, IsTrue, option_map, All, append_assoc, arith}
+use Rattle.std.proofs.Common.{◌≡◌, ◌<◌, refl, sym, ap, subst, ◌∙◌, ℕ, zero, suc, Bool, true, false, cond, T, List, [], ◌∷◌, ◌++◌, map, reverse, take, length, get_or, Option, Some, None, Result, Ok, Err, OnOk, IfErr, IsTrue, option_map, slice_get, All, append_assoc, arith}
 use Rattle.std.proofs.lemmas.List.{map-append, take-map}
 use Rattle.std.proofs.lemmas.List.Elements.{All-nil, All-cons, All-head, All-tail, All-push, All-map, All-take, All-filter}
 use Rattle.std.proofs.lemmas.List.Sorted.{All-permutation, IsPermutation-reverse}
@@ -29,7 +29,6 @@ use Rattle.alt_schema.specs.declared.schema.TableSchema.{TableSchema}
 use Rattle.alt_tables.specs.Faults.{IsFindFault, IsReadFault}
 use Rattle.alt_views.specs.ItemRows.{IsReadItem, item_columns}
 use Rattle.alt_tables.specs.Pages.{AreItemsOf, AreKept, ArePut}
-use Rattle.alt_tables.specs.StateRows.{Shows}
 use Rattle.alt_tables.specs.Stands.{Stands, catalog_of}
 use Rattle.alt_tables.specs.declared.faults.TableFault.{TableFault}
 use Rattle.alt_tables.specs.declared.faults.TableFault.TheVariants.{Spent, Damaged, BadRow, Failed, NoMemory}
@@ -102,6 +101,59 @@ same_items (x ∷ xs) (y ∷ ys) h k e =
     (All-head IsReadItem y ys k).whole both.0 in
     let rest = same_items xs ys (All-tail IsReadItem x xs h) (All-tail IsReadItem y ys k) both.1 in
     λ i. one i ∷ rest i
+
+-- ---- what an index keeps, as it is put row by row
+
+-- what is kept at some rows and one more
+record KeptMore (d : TableSchema) (i : IndexSchema) (page : List (List ℕ × Columns))
+    (e : List ℕ × Columns) (items : List (List Pair)) : Type 0 where
+  front : List (List Pair)
+  item : List Pair
+  are : items ≡ front ++ item ∷ []
+  kept : AreKept d i page front
+  last : IsKeptAt d i item e.0 e.1
+
+kept_more : (d : TableSchema) (i : IndexSchema) (page : List (List ℕ × Columns))
+    (e : List ℕ × Columns) (items : List (List Pair)) → AreKept d i (page ++ e ∷ []) items
+    → KeptMore d i page e items
+kept_more d i [] e [] kept = absurd kept
+kept_more d i [] e (x ∷ []) kept =
+    record { front = []; item = x; are = refl; kept = tt; last = kept.0 }
+kept_more d i [] e (x ∷ y ∷ ys) kept = absurd kept.1
+kept_more d i (p ∷ page) e [] kept = absurd kept
+kept_more d i (p ∷ page) e (x ∷ xs) kept =
+    let rest = kept_more d i page e xs kept.1 in
+    record {
+      front = x ∷ rest.front;
+      item = rest.item;
+      are = ap (λ items. x ∷ items) rest.are;
+      kept = (kept.0, rest.kept);
+      last = rest.last;
+    }
+
+-- what is kept at one row more is put behind what was
+pub put_kept : (d : TableSchema) (i : IndexSchema) (page : List (List ℕ × Columns))
+    (e : List ℕ × Columns) (item : List Pair) (old mid new : List (List Pair))
+    → ((items : List (List Pair)) → AreKept d i page items → mid ≡ old ++ items)
+    → ((kept : List Pair) → IsKeptAt d i kept e.0 e.1 → item ≡ kept) → new ≡ mid ++ item ∷ []
+    → (items : List (List Pair)) → AreKept d i (page ++ e ∷ []) items → new ≡ old ++ items
+put_kept d i page e item old mid new so_far reads push items kept =
+    let more = kept_more d i page e items kept in
+    push ∙ ap (λ put. put ++ item ∷ []) (so_far more.front more.kept)
+    ∙ append_assoc old more.front (item ∷ [])
+    ∙ ap (λ x. old ++ (more.front ++ x ∷ [])) (reads more.item more.last)
+    ∙ ap (λ put. old ++ put) (sym more.are)
+
+-- at each row something is kept
+pub kept_row : (d : TableSchema) (i : IndexSchema) (page : List (List ℕ × Columns))
+    (items : List (List Pair)) (k : ℕ) (e : List ℕ × Columns) → AreKept d i page items
+    → k < length page → e ≡ get_or page k e → (item : List Pair) × IsKeptAt d i item e.0 e.1
+kept_row d i [] items k e kept within is = absurd (omega (arith, within))
+kept_row d i (p ∷ page) [] k e kept within is = absurd kept
+kept_row d i (p ∷ page) (x ∷ xs) zero e kept within is =
+    (x, subst (λ (q : List ℕ × Columns). IsKeptAt d i x q.0 q.1) (sym is) kept.0)
+kept_row d i (p ∷ page) (x ∷ xs) (suc k) e kept within is =
+    kept_row d i page xs k e kept.1 (omega (arith, within)) is
 
 -- ---- entries of items as those of rows
 
@@ -227,13 +279,20 @@ All-placed P items from to forward found =
     (each_found P (finite.entries items) (finite.entries_sorted items)
     (λ place item at. found place item (finite.get-entries items place ∙ at))))
 
+-- the description that is known is that of the table
+pub same_table : (disk : DiskState) (tables : Tables) (s : State) (name : List ℕ) (t : Table)
+    (d : TableSchema) → Stands disk tables s → finite.get s.tables name ≡ Some t
+    → finite.get (catalog_of tables) name ≡ Some d → d ≡ t.description
+same_table disk tables s name t d stands at known_as =
+    some _ _ (sym known_as ∙ known disk tables s name t stands at)
+
 module _ (disk : DiskState) (tables : Tables) (s : State) (name : List ℕ) (t : Table)
     (d : TableSchema) (stands : Stands disk tables s) (at : finite.get s.tables name ≡ Some t)
     (known_as : finite.get (catalog_of tables) name ≡ Some d) (from : List ℕ)
     (to : Option (List ℕ)) (forward : Bool) (most : ℕ) (before page : List (List ℕ × Columns))
     (empty : before ≡ []) where
-  same_table : d ≡ t.description
-  same_table = some _ _ (sym known_as ∙ known disk tables s name t stands at)
+  same : d ≡ t.description
+  same = same_table disk tables s name t d stands at known_as
 
   -- the rows of a walk over a family are those of the items there
   page_rows : (family : ℕ) → (IsTrue disk.tells → (l : Layout) → EngineReads disk tables.engine l
@@ -271,7 +330,7 @@ module _ (disk : DiskState) (tables : Tables) (s : State) (name : List ℕ) (t :
               (All-placed CanBeRead t.items from to forward read_item));
           rows = ap (map (λ (e : List ℕ × Columns). e.1))
               (page_rows d.family walked item_columns t.items (λ key.
-              ap (λ (x : TableSchema). shown stands.rows.layout x.family key) same_table
+              ap (λ (x : TableSchema). shown stands.rows.layout x.family key) same
               ∙ stands.rows.shows.items name t at key))
               ∙ sym (take-map (λ (e : List ℕ × Columns). e.1) most (map (row_at item_columns) placed))
               ∙ ap (take most) (columns-rows item_columns placed)
@@ -291,7 +350,7 @@ module _ (disk : DiskState) (tables : Tables) (s : State) (name : List ℕ) (t :
       (walked : IsTrue disk.tells → (l : Layout) → EngineReads disk tables.engine l
       → page ≡ before ++ take most (rows_between l i.family from to forward)) where
     at_own : index_at t.description (Some number) ≡ Some i
-    at_own = ap (λ (x : TableSchema). index_at x (Some number)) (sym same_table) ∙ at_index
+    at_own = ap (λ (x : TableSchema). index_at x (Some number)) (sym same) ∙ at_index
 
     -- what the index keeps of an item is read from its row
     is_kept : (key : List ℕ) (row : List Pair)
@@ -301,10 +360,11 @@ module _ (disk : DiskState) (tables : Tables) (s : State) (name : List ℕ) (t :
         let indexes = all_index s name t number i stands.valid stands.rows.held.items at at_own in
         let (place, item, here, entry) = indexes.alone key row found in
         subst (λ (x : TableSchema). IsKeptAt x i row key (index_columns t.description i row))
-        (sym same_table)
+        (sym same)
         (kept_at t.description number i item key row (stands.valid.tables name t at).made
         at_own (read_item place item here) entry)
 
+    -- Each row is that of what the index keeps of the items that are to be given.
     pub page_kept : AreKept d i page (take most (items_between t (Some i) from to forward))
     page_kept =
         let items = index_items t.description i t.items in
@@ -325,10 +385,17 @@ module _ (disk : DiskState) (tables : Tables) (s : State) (name : List ℕ) (t :
         kept-take (suc n) (e ∷ es) all = (
           All-head (λ e. IsKeptAt d i e.1 e.0 (index_columns t.description i e.1)) e es all,
           kept-take n es
-          (All-tail (λ e. IsKeptAt d i e.1 e.0 (index_columns t.description i e.1)) e es all),
+              (All-tail (λ e. IsKeptAt d i e.1 e.0 (index_columns t.description i e.1)) e es all),
         )
 
 -- ---- the answer of a walk
+
+-- where a list goes so far, something stands
+pub within_some : {A : Type 0} (xs : List A) (n : ℕ) → n < length xs
+    → (x : A) × (slice_get xs n ≡ Some x)
+within_some [] n within = absurd (omega (arith, within))
+within_some (x ∷ xs) zero within = (x, refl)
+within_some (x ∷ xs) (suc n) within = within_some xs n (omega (arith, within))
 
 -- what holds at Ok holds in other words
 pub ok_then : {A E P Q : Type 0} (r : Result A E) → (P → Q) → OnOk r P → OnOk r Q

@@ -157,8 +157,10 @@ module _ (l : Layout) (s : State) (shows : Shows l s) (valid : IsValid s) (held 
         (λ q item here. (is_table.items q item here, held.items name q t item at here)))
         l w law new
         (index_apart t.description i (with_item t.items place new)
-        (λ q item here. (with_item_stored s name t place new valid at stored q item here,
-        values_after q item here)))
+        (λ q item here. (
+          with_item_stored s name t place new valid at stored q item here,
+          values_after q item here,
+        )))
         (λ key. ap (change_of i.family key) changes
         ∙ other_family change index_part i.family key
         (index_family_differs t.description is_table.differ n i at_index)

@@ -24,10 +24,13 @@ unreachable-requires c = not_both _ _
     c.in-Ok.ensures.within c.in-Ok.ensures.named c.args.schema) c.requires.absent
 
 pub invariant_of-self-in-Err : goal.invariant_of-self-in-Err
-invariant_of-self-in-Err c = ((inserted c).0, All-same HasOwnFamilies _
-    (insert c.self.inside.entries.items c.in-Err.i c.args.schema) c.in_ok-insert-in-Err.ensures.items
-    (All-insert HasOwnFamilies c.self.inside.entries.items c.in-Err.i c.args.schema c.self.invariant.1
-    c.requires.families))
+invariant_of-self-in-Err c = (
+  (inserted c).0,
+  All-same HasOwnFamilies _
+      (insert c.self.inside.entries.items c.in-Err.i c.args.schema) c.in_ok-insert-in-Err.ensures.items
+      (All-insert HasOwnFamilies c.self.inside.entries.items c.in-Err.i c.args.schema c.self.invariant.1
+      c.requires.families),
+)
 
 pub returns-clause-ok : goal.returns-clause-ok
 returns-clause-ok c =

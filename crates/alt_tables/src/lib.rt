@@ -3,6 +3,7 @@
 
 mod catalog;
 mod catalog_row;
+mod changes;
 mod faults;
 mod laws;
 mod made;

@@ -3,7 +3,7 @@ use Rattle.std.proofs.Common.{[], ◌∷◌, ◌++◌, sym, ap, subst, ◌∙◌
 use Rattle.std.specs.Option.{option_copied}
 use Rattle.alt_cells.specs.declared.batch.RowChange.{RowChange}
 use Rattle.alt_tables.proofs.IndexFamilies.{own_families, index_changes_new}
-use Rattle.alt_tables.proofs.rows.item_batch.Goals as goal
+use Rattle.alt_tables.proofs.rows.view_batch.Goals as goal
 use Rattle.alt_views.specs.Batches.{AreNew}
 use Rattle.alt_views.specs.IndexRows.{index_changes}
 

@@ -11,6 +11,9 @@ pub mod ChangeLaws
 pub mod Moving
 pub mod IndexFamilies
 pub mod IndexShows
+pub mod StreamKeys
+pub mod StreamShows
+pub mod ChangePages
 pub mod OneState
 pub mod WriteLaws
 pub mod Behind

@@ -15,9 +15,12 @@ use Rattle.alt_machine.specs.State.{State, Table}
 use Rattle.alt_machine.specs.Valid.{IsTable, IsValid}
 use Rattle.alt_schema.specs.Format.{description_bytes}
 use Rattle.alt_schema.specs.Rules.{is_name}
+use Rattle.alt_schema.specs.declared.schema.TableSchema.{TableSchema}
 use Rattle.alt_schema.proofs.WholeDescriptions.{one_spelling}
 use Rattle.alt_tables.specs.Images.{StandsFor}
 use Rattle.alt_views.specs.ItemRows.{item_columns}
+use Rattle.alt_tables.proofs.StreamKeys.{changes-one}
+use Rattle.alt_tables.proofs.StreamShows.{are_kept, are_small}
 use Rattle.alt_tables.specs.StateRows.{Shows, IsHeldWhole, item_rows, table_row, next_row, one_column}
 use Rattle.alt_views.proofs.ItemRowLaws.{item_columns-one}
 use Rattle.alt_value.specs.Tree.{Pair}
@@ -87,6 +90,28 @@ module _ (l : Layout) (s r : State) (shows_s : Shows l s) (shows_r : Shows l r)
   next_families = next_row-one s.next_family r.next_family small_s small_r
       (sym (shows_s.catalog []) ∙ shows_r.catalog [])
 
+  -- the changes of tables of one description are those of their rows
+  same_changes : (name : List ℕ) (t u : Table) → map.get s.tables name ≡ Some t
+      → map.get r.tables name ≡ Some u → t.description ≡ u.description → (o : Option ℕ)
+      → t.description.stream_family ≡ o → t.changes ≡ u.changes
+  same_changes name t u at_t at_u descriptions None none =
+      (valid_s.tables name t at_t).changes.none none
+      ∙ sym ((valid_r.tables name u at_u).changes.none
+      (ap (λ (d : TableSchema). d.stream_family) (sym descriptions) ∙ none))
+  same_changes name t u at_t at_u descriptions (Some f) stream =
+      let list_t = (valid_s.tables name t at_t).changes in
+      let list_u = (valid_r.tables name u at_u).changes in
+      changes-one t.changes u.changes
+      (are_small t.description s.next_number t.changes
+      (let last = valid_s.next_number.1 in omega (arith, last)) list_t)
+      (are_small u.description r.next_number u.changes
+      (let last = valid_r.next_number.1 in omega (arith, last)) list_u)
+      list_t.rise list_u.rise (are_kept s valid_s held_s name t at_t)
+      (are_kept r valid_r held_r name u at_u)
+      (λ key. sym (shows_s.changes name t f at_t stream key)
+      ∙ shows_r.changes name u f at_u
+      (ap (λ (d : TableSchema). d.stream_family) (sym descriptions) ∙ stream) key)
+
   -- tables of one name are one
   one_table : (name : List ℕ) (t u : Table) → map.get s.tables name ≡ Some t
       → map.get r.tables name ≡ Some u
@@ -101,7 +126,8 @@ module _ (l : Layout) (s r : State) (shows_s : Shows l s) (shows_r : Shows l r)
       (has_whole s valid_s held_s name t at_t) (has_whole r valid_r held_r name u at_u)
       (λ key. sym (shows_s.items name t at_t key) ∙ ap (λ d. shown l d.family key) descriptions
       ∙ shows_r.items name u at_u key) in
-      let changes : t.changes ≡ u.changes = is_t.changes ∙ sym is_u.changes in
+      let changes : t.changes ≡ u.changes =
+      same_changes name t u at_t at_u descriptions t.description.stream_family refl in
       λ i. record { description = descriptions i; items = items i; changes = changes i }
 
   at_name : (name : List ℕ) (o p : Option Table) → map.get s.tables name ≡ o

@@ -167,7 +167,7 @@ module _ (l : Layout) (s : State) (shows : Shows l s) (valid : IsValid s) where
         (let low = valid.next_family.0 in omega (arith, low, family, is.0))
         ∙ shows.beyond g key (omega (arith, family, is.0))
         ∙ sym (ap (option_map change_columns)
-        (map.get-from_sorted key_cmp {X = Change} [] key tt))) stream
+        (map.get-from_sorted {X = Change} key_cmp [] key tt))) stream
     changes_after other u false e at g stream key =
         elsewhere g key (stream_within s other u (valid.tables other u at) g stream).0
         ∙ shows.changes other u g at stream key

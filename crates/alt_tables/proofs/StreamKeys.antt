@@ -1,6 +1,7 @@
 -- The changes of a stream by the keys of their rows, which lie as the numbers do.
-use Rattle.std.proofs.Common.{◌≡◌, ◌<◌, ◌≤◌, ◌^◌, refl, sym, ap, subst, ◌∙◌, ℕ, suc, Bool, true, false, cond, T, List, [], ◌∷◌, ◌++◌, map, length, Option, Some, None, All, append-nil, arith}
-use Rattle.std.proofs.lemmas.Bool.{false≢true}
+use Rattle.std.proofs.Common.{◌≡◌, ◌<◌, ◌≤◌, ◌^◌, refl, sym, ap, subst, ◌∙◌, ℕ, suc, Bool, true, false, cond, T, List, [], ◌∷◌, ◌++◌, map, length, Option, Some, None, All, inl, inr, append-nil, arith}
+use Rattle.std.proofs.lemmas.Bool.{cases_order}
+use Rattle.std.proofs.lemmas.Bool.Decides.{nat_tests}
 use Rattle.std.proofs.lemmas.List.{map-append}
 use Rattle.std.proofs.lemmas.List.Elements.{All-head, All-tail}
 use Rattle.std.proofs.lemmas.Nat.{from_be_bytes-to_be_bytes_8}
@@ -19,7 +20,7 @@ use Rattle.alt_cells.proofs.CellLaws.{key_total, key_exact}
 use Rattle.alt_changes.specs.ChangeRows.{IsReadChange, change_columns, row_key}
 use Rattle.alt_changes.proofs.RowLaws.{change_columns-one}
 use Rattle.alt_keyorder.specs.Place.{Place}
-use Rattle.alt_keyorder.proofs.Parts.{nat_cmp-less, nat_cmp-greater}
+use Rattle.alt_keyorder.proofs.Parts.{nat_cmp-less, nat_cmp-equal, nat_cmp-greater}
 use Rattle.alt_keyorder.proofs.Places.{keys-lie}
 use Rattle.alt_machine.specs.State.{Change}
 use Rattle.alt_tables.specs.StateRows.{keyed_changes}
@@ -150,7 +151,8 @@ found_keyed P (d ∷ ds) key c all found =
         → cond b (Some d) (find key_cmp key (map keyed ds)) ≡ Some c
         → (key ≡ row_key c.number) × P c
     by true same found =
-        let one : d ≡ c = cc found in (
+        let found_here : Some d ≡ Some c = found in
+        let one : d ≡ c = cc found_here in (
           tied key (row_key d.number) same ∙ ap (λ (x : Change). row_key x.number) one,
           subst P one (All-head P d ds all),
         )
@@ -198,8 +200,21 @@ changes-one as bs small_a small_b rise_a rise_b kept_a kept_b same =
 
 -- ---- the changes from a number on
 
+up_to : (m n : ℕ) → m ≤ n → nat_le m n ≡ true
+up_to m n h = grind (arith, nat_tests)
+
+above : (m n : ℕ) → n < m → nat_le m n ≡ false
+above m n h = grind (arith, nat_tests)
+
+-- the order of numbers says which are up to another
 is_le-nat : (m n : ℕ) → is_le (nat_cmp m n) ≡ nat_le m n
-is_le-nat m n = grind arith
+is_le-nat m n = elim (cases_order m n) [
+  | inl same ↦ ap is_le (nat_cmp-equal m n same) ∙ sym (up_to m n (omega (arith, same)))
+  | inr other ↦ elim other [
+    | inl less ↦ ap is_le (nat_cmp-less m n less) ∙ sym (up_to m n (omega (arith, less)))
+    | inr more ↦ ap is_le (nat_cmp-greater m n more) ∙ sym (above m n more)
+  ]
+]
 
 -- those whose keys are from its key on
 pub filter_keyed : (from : ℕ) (cs : List Change) → from < 2 ^ 64 → All IsSmall cs

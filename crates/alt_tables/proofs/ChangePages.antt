@@ -55,16 +55,16 @@ one_change_at key columns a b is_a is_b = change_columns-one a b is_a.read is_b.
     (sym is_a.row ∙ is_b.row)
 
 -- so rows are those of one list
-pub one_changes : (page : List (List ℕ × Columns)) (as bs : List Change) → AreChangesOf page as
-    → AreChangesOf page bs → as ≡ bs
+pub one_changes : (page : List (List ℕ × Columns)) (cs ds : List Change) → AreChangesOf page cs
+    → AreChangesOf page ds → cs ≡ ds
 one_changes [] [] [] p q = refl
-one_changes [] [] (b ∷ bs) p q = absurd q
-one_changes [] (a ∷ as) bs p q = absurd p
-one_changes (e ∷ es) [] bs p q = absurd p
-one_changes (e ∷ es) (a ∷ as) [] p q = absurd q
-one_changes (e ∷ es) (a ∷ as) (b ∷ bs) p q =
+one_changes [] [] (b ∷ ds) p q = absurd q
+one_changes [] (a ∷ cs) ds p q = absurd p
+one_changes (e ∷ es) [] ds p q = absurd p
+one_changes (e ∷ es) (a ∷ cs) [] p q = absurd q
+one_changes (e ∷ es) (a ∷ cs) (b ∷ ds) p q =
     let first = one_change_at e.0 e.1 a b p.0 q.0 in
-    let rest = one_changes es as bs p.1 q.1 in
+    let rest = one_changes es cs ds p.1 q.1 in
     λ i. first i ∷ rest i
 
 -- ---- the rows of a walk

@@ -167,15 +167,15 @@ values_keyed [] = refl
 values_keyed (c ∷ cs) = ap (λ rest. c ∷ rest) (values_keyed cs)
 
 -- Lists of changes whose rows are the same are the same.
-pub changes-one : (as bs : List Change) → All IsSmall as → All IsSmall bs → Rise as → Rise bs
-    → All IsKept as → All IsKept bs
-    → ((key : List ℕ) → option_map change_columns (finite.get (keyed_changes as) key)
-    ≡ option_map change_columns (finite.get (keyed_changes bs) key)) → as ≡ bs
-changes-one as bs small_a small_b rise_a rise_b kept_a kept_b same =
-    sym (values_keyed as)
-    ∙ ap (map (λ (e : List ℕ × Change). e.1)) (sym (entries_keyed as small_a rise_a)
-    ∙ ap finite.entries one ∙ entries_keyed bs small_b rise_b)
-    ∙ values_keyed bs
+pub changes-one : (es fs : List Change) → All IsSmall es → All IsSmall fs → Rise es → Rise fs
+    → All IsKept es → All IsKept fs
+    → ((key : List ℕ) → option_map change_columns (finite.get (keyed_changes es) key)
+    ≡ option_map change_columns (finite.get (keyed_changes fs) key)) → es ≡ fs
+changes-one es fs small_a small_b rise_a rise_b kept_a kept_b same =
+    sym (values_keyed es)
+    ∙ ap (map (λ (e : List ℕ × Change). e.1)) (sym (entries_keyed es small_a rise_a)
+    ∙ ap finite.entries one ∙ entries_keyed fs small_b rise_b)
+    ∙ values_keyed fs
   where
     at_key : (key : List ℕ) (o p : Option Change)
         → ((c : Change) → o ≡ Some c → (key ≡ row_key c.number) × IsKept c)
@@ -191,11 +191,11 @@ changes-one as bs small_a small_b rise_a rise_b kept_a kept_b same =
         (key_one a.number b.number is_a.1.0 is_b.1.0 (sym is_a.0 ∙ is_b.0))
         (let rows : Some (change_columns a) ≡ Some (change_columns b) = e in cc rows))
 
-    one : keyed_changes as ≡ keyed_changes bs
+    one : keyed_changes es ≡ keyed_changes fs
     one = finite.same_map key_total key_exact _ _ (λ key.
-        at_key key (finite.get (keyed_changes as) key) (finite.get (keyed_changes bs) key)
-        (λ c is. found_keyed IsKept as key c kept_a (sym (get_keyed as small_a rise_a key) ∙ is))
-        (λ c is. found_keyed IsKept bs key c kept_b (sym (get_keyed bs small_b rise_b key) ∙ is))
+        at_key key (finite.get (keyed_changes es) key) (finite.get (keyed_changes fs) key)
+        (λ c is. found_keyed IsKept es key c kept_a (sym (get_keyed es small_a rise_a key) ∙ is))
+        (λ c is. found_keyed IsKept fs key c kept_b (sym (get_keyed fs small_b rise_b key) ∙ is))
         (same key))
 
 -- ---- the changes from a number on

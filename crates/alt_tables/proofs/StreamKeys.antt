@@ -145,18 +145,20 @@ found_keyed : (P : Change → Type 0) (cs : List Change) (key : List ℕ) (c : C
     → find key_cmp key (map keyed cs) ≡ Some c → (key ≡ row_key c.number) × P c
 found_keyed P [] key c all found = absurd (let no : None ≡ Some c = found in cc no)
 found_keyed P (d ∷ ds) key c all found =
-    by (eq_by_cmp key_cmp key (row_key d.number)) refl found
+    by (eq_by_cmp key_cmp key (row_key d.number)) refl
+    (λ later. found_keyed P ds key c (All-tail P d ds all) later) found
   where
     by : (b : Bool) → eq_by_cmp key_cmp key (row_key d.number) ≡ b
+        → (find key_cmp key (map keyed ds) ≡ Some c → (key ≡ row_key c.number) × P c)
         → cond b (Some d) (find key_cmp key (map keyed ds)) ≡ Some c
         → (key ≡ row_key c.number) × P c
-    by true same found =
+    by true same behind found =
         let found_here : Some d ≡ Some c = found in
         let one : d ≡ c = cc found_here in (
           tied key (row_key d.number) same ∙ ap (λ (x : Change). row_key x.number) one,
           subst P one (All-head P d ds all),
         )
-    by false differs found = found_keyed P ds key c (All-tail P d ds all) found
+    by false differs behind found = behind found
 
 -- a change that is read back from its row
 abbrev pub IsKept : Change → Type 0
@@ -229,22 +231,20 @@ filter_keyed from (c ∷ cs) small all =
     Unbounded e.0) (map keyed cs)))
     (ap (λ o. is_le o && true) (key_order from c.number small (All-head IsSmall c cs all))
     ∙ and_true (is_le (nat_cmp from c.number)) ∙ is_le-nat from c.number)
-    ∙ by (nat_le from c.number)
+    ∙ by (nat_le from c.number) (filter_keyed from cs small (All-tail IsSmall c cs all))
   where
     and_true : (b : Bool) → (b && true) ≡ b
     and_true true = refl
     and_true false = refl
 
-    rest : filter (λ (e : List ℕ × Change). range_contains text_order (Included (row_key from))
+    by : (b : Bool)
+        → filter (λ (e : List ℕ × Change). range_contains text_order (Included (row_key from))
         Unbounded e.0) (map keyed cs)
-        ≡ map keyed (filter (λ (c : Change). nat_le from c.number) cs)
-    rest = filter_keyed from cs small (All-tail IsSmall c cs all)
-
-    by : (b : Bool) → cond b (keyed c ∷ filter (λ (e : List ℕ × Change). range_contains text_order
+        ≡ map keyed (filter (λ (c : Change). nat_le from c.number) cs) → cond b (keyed c ∷ filter (λ (e : List ℕ × Change). range_contains text_order
         (Included (row_key from)) Unbounded e.0) (map keyed cs))
         (filter (λ (e : List ℕ × Change). range_contains text_order (Included (row_key from))
         Unbounded e.0) (map keyed cs))
         ≡ map keyed (cond b (c ∷ filter (λ (c : Change). nat_le from c.number) cs)
         (filter (λ (c : Change). nat_le from c.number) cs))
-    by true = ap (λ rows. keyed c ∷ rows) rest
-    by false = rest
+    by true rest = ap (λ rows. keyed c ∷ rows) rest
+    by false rest = rest

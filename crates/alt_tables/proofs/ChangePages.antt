@@ -25,6 +25,11 @@ use Rattle.alt_tables.proofs.StreamKeys.{IsKept, IsSmall, Rise, entries_keyed, f
 use Rattle.alt_tables.proofs.StreamShows.{are_kept, are_small}
 use Rattle.alt_value.specs.Members.{text_order}
 
+-- of none there are no first ones
+pub take_none : (n : ℕ) → take {A = Change} n [] ≡ []
+take_none zero = refl
+take_none (suc n) = refl
+
 -- ---- changes as they are read one by one
 
 -- the change of one row more

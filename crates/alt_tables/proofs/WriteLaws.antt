@@ -340,14 +340,20 @@ held_after s moment name t place new held at given fits = record {
 
     -- what holds of all changes and of the one more holds of all then
     all_left : (P : Change → Type 0) → P (record {
-      number = s.next_number; moment = moment; old = map.get t.items place; new = new;
+      number = s.next_number;
+      moment = moment;
+      old = map.get t.items place;
+      new = new;
     }) → All P t.changes → All P (with_row s.next_number moment t place new).changes
     all_left P last all = by (is_some t.description.stream_family)
         (is_same (map.get t.items place) new)
       where
         by : (b c : Bool) → All P (if b then t.changes ++ option_to_list (if c then None else Some
             (record {
-              number = s.next_number; moment = moment; old = map.get t.items place; new = new;
+              number = s.next_number;
+              moment = moment;
+              old = map.get t.items place;
+              new = new;
             })) else t.changes)
         by true true = subst (All P) (sym (append-nil t.changes)) all
         by true false = All-push P t.changes _ all last

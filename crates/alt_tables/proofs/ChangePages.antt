@@ -1,5 +1,5 @@
 -- The changes that are read from the rows of a walk over the family of a stream.
-use Rattle.std.proofs.Common.{◌≡◌, ◌<◌, ◌≤◌, ◌^◌, refl, sym, ap, subst, ◌∙◌, ℕ, zero, suc, Bool, true, false, List, [], ◌∷◌, ◌++◌, map, take, length, get_or, Option, Some, None, IsTrue, All, arith}
+use Rattle.std.proofs.Common.{◌≡◌, ◌<◌, ◌^◌, refl, sym, ap, subst, ◌∙◌, ℕ, zero, suc, true, List, [], ◌∷◌, ◌++◌, map, take, length, get_or, Option, Some, None, IsTrue, All, arith}
 use Rattle.std.proofs.lemmas.List.Elements.{All-head, All-tail, All-filter}
 use Rattle.std.specs.BTreeMap.Range.{range_contains}
 use Rattle.std.specs.FinMap as finite
@@ -7,14 +7,13 @@ use Rattle.std.specs.List.{filter}
 use Rattle.std.specs.Prelude.{nat_le}
 use Rattle.std.specs.declared.ops.Bound.TheVariants.{Included, Unbounded}
 use Rattle.alt_cells.specs.Changes.{Columns}
-use Rattle.alt_changes.specs.ChangeRows.{IsReadChange, change_columns, row_key}
+use Rattle.alt_changes.specs.ChangeRows.{change_columns, row_key}
 use Rattle.alt_changes.proofs.RowLaws.{change_columns-one}
 use Rattle.alt_disk.specs.Disk.{DiskState}
 use Rattle.alt_engine.specs.InHand.{Reads as EngineReads}
 use Rattle.alt_engine.specs.Layout.{Layout, rows_between}
 use Rattle.alt_machine.specs.Ops.GetRecords.{changes_from}
 use Rattle.alt_machine.specs.State.{Change, State, Table}
-use Rattle.alt_machine.specs.Walks.{turned}
 use Rattle.alt_schema.specs.declared.schema.TableSchema.{TableSchema}
 use Rattle.alt_tables.specs.Pages.{AreChangesOf, IsChangeAt}
 use Rattle.alt_tables.specs.StateRows.{keyed_changes}

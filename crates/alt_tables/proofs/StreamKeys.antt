@@ -1,5 +1,5 @@
 -- The changes of a stream by the keys of their rows, which lie as the numbers do.
-use Rattle.std.proofs.Common.{◌≡◌, ◌<◌, ◌≤◌, ◌^◌, refl, sym, ap, subst, ◌∙◌, ℕ, suc, Bool, true, false, cond, T, List, [], ◌∷◌, ◌++◌, map, length, Option, Some, None, All, inl, inr, append-nil, arith}
+use Rattle.std.proofs.Common.{◌≡◌, ◌<◌, ◌≤◌, ◌^◌, refl, sym, ap, subst, ◌∙◌, ℕ, suc, Bool, true, false, cond, T, List, [], ◌∷◌, ◌++◌, map, Option, Some, None, All, inl, inr, append-nil, arith}
 use Rattle.std.proofs.lemmas.Bool.{cases_order}
 use Rattle.std.proofs.lemmas.Bool.Decides.{nat_tests}
 use Rattle.std.proofs.lemmas.List.{map-append}
@@ -8,7 +8,7 @@ use Rattle.std.proofs.lemmas.Nat.{from_be_bytes-to_be_bytes_8}
 use Rattle.std.specs.BTreeMap.Range.{range_contains}
 use Rattle.std.specs.FinMap as finite
 use Rattle.std.specs.FinMap.Entries.{below_all, find, find-append, is_sorted}
-use Rattle.std.specs.Int.{w64, from_be_bytes, to_be_bytes}
+use Rattle.std.specs.Int.{w64, from_be_bytes}
 use Rattle.std.specs.List.{filter}
 use Rattle.std.specs.Ordering.{eq_by_cmp, is_eq, is_le, is_lt, nat_cmp, ordering_then}
 use Rattle.std.specs.Prelude.{◌&&◌, nat_le, option_map, AllPairs}

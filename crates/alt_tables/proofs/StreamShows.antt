@@ -1,35 +1,33 @@
 -- The rows of a stream after an item changes: those of its changes with the one that the write leaves.
-use Rattle.std.proofs.Common.{◌≡◌, ◌≢◌, ◌<◌, ◌≤◌, ◌+◌, ◌^◌, refl, sym, ap, subst, ◌∙◌, ℕ, zero, suc, Bool, true, false, cond, List, [], ◌∷◌, ◌++◌, map, length, Option, Some, None, option_map, slice_get, slice_index_or, Contains, All, IfSome, arith}
+use Rattle.std.proofs.Common.{◌≡◌, ◌≢◌, ◌<◌, ◌≤◌, ◌+◌, refl, sym, ap, subst, ◌∙◌, ℕ, suc, Bool, true, false, cond, List, [], ◌∷◌, ◌++◌, map, length, Option, Some, None, option_map, slice_get, Contains, All, IfSome, arith}
 use Rattle.std.proofs.lemmas.Bool.{eqb-true}
 use Rattle.std.proofs.lemmas.Option.{slice_get-map, slice_get_within, get_or_from_slice_get}
 use Rattle.std.specs.FinMap as finite
-use Rattle.std.specs.List.{list_any}
 use Rattle.std.specs.Option.{option_map_or, option_to_list}
 use Rattle.std.specs.Ordering.{eq_by_cmp}
 use Rattle.std.specs.Prelude.{◌==◌, ◌&&◌, ◌||◌, if◌then◌else◌, is_some}
 use Rattle.std.specs.Str.{bytes_eq}
 use Rattle.alt_cells.specs.Batches.{has_row}
-use Rattle.alt_cells.specs.Changes.{Columns, change_between, written}
 use Rattle.alt_cells.specs.Keys.{key_cmp}
 use Rattle.alt_cells.specs.declared.batch.RowChange.{RowChange}
 use Rattle.alt_cells.proofs.ChangeLaws.{written-change_between}
-use Rattle.alt_changes.specs.ChangeRows.{IsReadChange, IsReadItem, change_columns, row_change, row_changes, row_key}
+use Rattle.alt_changes.specs.ChangeRows.{IsReadItem, change_columns, row_change, row_changes, row_key}
 use Rattle.alt_changes.proofs.RowLaws.{change_can_show}
 use Rattle.alt_engine.specs.Layout.{Layout, Write, ShowsWrite, change_of, shown, shown_by, with_write}
 use Rattle.alt_machine.specs.Changes.{change_left, with_change}
 use Rattle.alt_machine.specs.Same.{is_same}
 use Rattle.alt_machine.specs.Sources.{index_at}
 use Rattle.alt_machine.specs.State.{Change, State, Table, families_of}
-use Rattle.alt_machine.specs.Valid.{AreChanges, IsChange, IsHeldChange, IsValid, WasStored}
+use Rattle.alt_machine.specs.Valid.{AreChanges, IsChange, IsValid, WasStored}
 use Rattle.alt_machine.specs.declared.TheConstants.{NUMBERS_END}
 use Rattle.alt_schema.specs.Indexes.{indexes}
 use Rattle.alt_schema.specs.declared.schema.IndexSchema.{IndexSchema}
 use Rattle.alt_schema.specs.declared.schema.TableSchema.{TableSchema}
 use Rattle.alt_tables.specs.Families.{HasOwnFamilies}
-use Rattle.alt_tables.specs.StateRows.{HasMoment, IsHeldWhole, keyed_changes}
-use Rattle.alt_tables.proofs.ChangeLaws.{AreOthers, one_change, others-append}
-use Rattle.alt_tables.proofs.IndexFamilies.{index_families, index_family_differs, index_at_families, others-index_changes}
-use Rattle.alt_tables.proofs.StreamKeys.{IsKept, IsSmall, Rise, keyed_more}
+use Rattle.alt_tables.specs.StateRows.{IsHeldWhole, keyed_changes}
+use Rattle.alt_tables.proofs.ChangeLaws.{AreOthers, one_change}
+use Rattle.alt_tables.proofs.IndexFamilies.{index_families, index_at_families, others-index_changes}
+use Rattle.alt_tables.proofs.StreamKeys.{IsKept, IsSmall, keyed_more}
 use Rattle.alt_value.specs.Tree.{Pair}
 use Rattle.alt_value.specs.Values.{IsItemOfValues}
 use Rattle.alt_views.specs.IndexRows.{index_changes}

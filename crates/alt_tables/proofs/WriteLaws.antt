@@ -17,7 +17,7 @@ use Rattle.alt_engine.specs.InHand.{batch_write}
 use Rattle.alt_engine.specs.Layout.{Layout, Write, with_write, shown, shown_by, change_of, ShowsWrite}
 use Rattle.alt_engine.proofs.LayoutLaws.{shows_write}
 use Rattle.alt_machine.specs.declared.TheConstants.{NUMBERS_END}
-use Rattle.alt_machine.specs.Changes.{change_left, with_change}
+use Rattle.alt_machine.specs.Changes.{change_left}
 use Rattle.alt_machine.specs.Same.{is_same}
 use Rattle.alt_machine.specs.Sources.{index_at}
 use Rattle.alt_machine.specs.State.{State, Table, Texts, Change, families_of}

@@ -1,5 +1,5 @@
 -- Eight bytes are read, and nothing stands behind them.
-use Rattle.std.proofs.Common.{◌≡◌, ◌∙◌, Some, sym, ap, rules, arith}
+use Rattle.std.proofs.Common.{◌∙◌, Some, sym, ap, rules, arith}
 use Rattle.alt_changes.proofs.Found.{moment_whole}
 use Rattle.alt_tables.proofs.StreamKeys.{key_one}
 use Rattle.alt_tables.proofs.changes.number_of.Goals as goal

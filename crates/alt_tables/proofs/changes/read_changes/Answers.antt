@@ -1,5 +1,5 @@
 -- The change of a row more, and a row that is none of a change.
-use Rattle.std.proofs.Common.{[], ◌∷◌, ◌++◌, ◌≡◌, ◌∙◌, map, sym, ap, subst, Err, length, rules}
+use Rattle.std.proofs.Common.{[], ◌∷◌, ◌++◌, ◌∙◌, map, sym, ap, subst, Err, length, rules}
 use Rattle.std.proofs.lemmas.Iterator.Adapters.{YieldsList-from_vec}
 use Rattle.std.proofs.lemmas.Iterator.Consumers.{YieldsList-turn}
 use Rattle.std.proofs.lemmas.List.{map-append}

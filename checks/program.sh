@@ -95,6 +95,34 @@ logged 'a description that is none' 'alternator: row: family 0 key 546162' "$(wr
 logged 'a row that no table has' 'alternator: row: family 1 key 61' "$(written 1 1 61 62 63)"
 logged 'the first of two wrong rows' 'alternator: row: family 0 key 61' "$(written 1 1 61 62 63)" "$(written 2 0 61 62 63)"
 logged 'a next family that is none' 'alternator: row: family 0 key ' "$(written 1 0 '' 6e657874 00)"
+# a store whose table, of family 1, has one item, which its index, of family 2, has too
+mkdir "$work/indexed"
+says 'a store is made for an index' 0 ok ./alternator "$work/indexed" 0 init
+indexed='CreateTable {"TableName":"Tab","KeySchema":[{"AttributeName":"k","KeyType":"HASH"}],"AttributeDefinitions":[{"AttributeName":"k","AttributeType":"S"},{"AttributeName":"g","AttributeType":"S"}],"GlobalSecondaryIndexes":[{"IndexName":"Gix","KeySchema":[{"AttributeName":"g","KeyType":"HASH"}],"Projection":{"ProjectionType":"ALL"}}]}
+PutItem {"TableName":"Tab","Item":{"k":{"S":"a"},"g":{"S":"a"},"n":{"N":"1"}}}'
+printf '%s\n' "$indexed" | ./alternator "$work/indexed" 0 replay 65536 4 >/dev/null
+# behind NAME NOTE HEX..: that store, in whose log these entries follow
+behind() {
+  local name=$1 note=$2 log='' entry
+  shift 2
+  for entry in "$@"; do log+=$(printf '01%016x%s' $((${#entry} / 2)) "$entry" | sed 's/../\\x&/g'); done
+  rm -rf "$work/spoilt"
+  cp -r "$work/indexed" "$work/spoilt"
+  truncate -s -1 "$work/spoilt/00000002.alt"
+  printf "$log\\0" >>"$work/spoilt/00000002.alt"
+  expect "$name" 3 "$note" ./alternator "$work/spoilt" 0 replay 65536 4
+}
+# cleared NUMBER FAMILY KEY: a write that clears a row
+cleared() { printf '%016x%016x%08x%s01%016x' "$1" 1 "$2" "$(field "$3")" 0; }
+place=b98e9326c737b541610000 # of the item; in the index the table's key follows that of the index
+gone=$(cleared 3 2 "${place}610000")
+behind 'an index row of no item' 'alternator: row: family 2 key 61' "$(written 3 2 61 '' '')"
+behind 'an index row that is missing' "alternator: row: family 2 key ${place}610000" "$gone"
+behind 'an index row of other columns' "alternator: row: family 2 key ${place}610000" "$(written 3 2 "${place}610000" '' '')"
+behind 'an index row whose item is gone' "alternator: row: family 2 key ${place}610000" "$(cleared 3 1 "$place")"
+behind 'a row of no item before a missing one' 'alternator: row: family 2 key 61' "$gone" "$(written 4 2 61 '' '')"
+behind 'a missing row before one of no item' "alternator: row: family 2 key ${place}610000" "$gone" "$(written 4 2 ff '' '')"
+behind 'rows of indexes come last' 'alternator: row: family 3 key 61' "$gone" "$(written 4 3 61 '' '')"
 # a store is held by one process
 mkfifo "$work/wait"
 ./alternator "$work/made" 0 replay 65536 4 <"$work/wait" >/dev/null &

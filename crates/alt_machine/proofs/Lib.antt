@@ -8,6 +8,7 @@ pub mod Full
 pub mod FullActions
 pub mod FullChanges
 pub mod FullTerms
+pub mod Indexing
 pub mod KeyStays
 pub mod Lacks
 pub mod Lists
@@ -16,6 +17,7 @@ pub mod Made
 pub mod Names
 pub mod Placed
 pub mod Puts
+pub mod Rekeying
 pub mod Said
 pub mod Same
 pub mod Spoken

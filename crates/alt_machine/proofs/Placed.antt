@@ -20,7 +20,7 @@ same_Some : {A : Type 0} (x y : A) → Some x ≡ Some y → x ≡ y
 same_Some x y e = cc
 
 -- what is at a name is a value
-field_value : (name : List ℕ) (item : List Pair) (t : Tree) → AreFields (fields_of item)
+pub field_value : (name : List ℕ) (item : List Pair) (t : Tree) → AreFields (fields_of item)
     → at_name name item ≡ Some t → IsValue t
 field_value name [] t h e = absurd (let f : ⊥ = cc in f)
 field_value name (p ∷ ps) t h e = by (is_eq (text_order name p.0)) (field_value name ps t h.2) e
@@ -43,7 +43,7 @@ key_kind B (B_tree b) t v e = subst (IsOfKind B)
     (some_is (can_be_key B (B_tree b)) (B_tree b) t e) tt
 key_kind kind u t v e = absurd (let f : ⊥ = cc in f)
 
-part_kind : (item : List Pair) (key : KeyAttr) (t : Tree) → AreFields (fields_of item)
+pub part_kind : (item : List Pair) (key : KeyAttr) (t : Tree) → AreFields (fields_of item)
     → key_value item key ≡ Some t → IsOfKind key.kind t
 part_kind item key t h e = by (at_name key.name item) refl e
   where

@@ -16,6 +16,7 @@ use Rattle.alt_machine.specs.Ops.Query as query
 use Rattle.alt_machine.specs.Ops.Scan as scan
 use Rattle.alt_machine.specs.Outcomes.{a_number, last_state}
 use Rattle.alt_machine.specs.State.{State, descriptions}
+use Rattle.alt_machine.specs.Sources.{index_at}
 use Rattle.alt_machine.specs.Step.{step, operates, with_body}
 use Rattle.alt_machine.specs.Valid.{IsValid}
 use Rattle.alt_machine.specs.Wanted.{lack_among}
@@ -51,16 +52,19 @@ get_steps s ms = steps-on_item s (get.of_body ms) Key projecting ms _
 query_steps : (s : State) (ms : Members) → Steps s (query.query s ms)
 unfolding query.query
 query_steps s ms = steps-on_list s (query.of_body ms) querying ms (query.queries ms)
-    (λ said start t.
-    steps-found s (query.key_asked t.description said.key_condition) _ (λ ask asks.
-    steps-found s (walk_start t.description (Some ask.hash) start) _ (λ place starts.
+    (λ said start t index.
+    steps-found s (query.key_asked t.description (index_at t.description index) said.key_condition) _
+    (λ ask asks.
+    steps-found s (walk_start t.description (index_at t.description index) (Some ask.hash) start) _
+    (λ place starts.
     no_steps _ s)))
 
 scan_steps : (s : State) (ms : Members) → Steps s (scan.scan s ms)
 unfolding scan.scan
 scan_steps s ms = steps-on_list s (scan.of_body ms) scanning ms (scan.scans ms)
-    (λ said start t.
-    steps-found s (walk_start t.description None start) _ (λ place starts. no_steps _ s))
+    (λ said start t index.
+    steps-found s (walk_start t.description (index_at t.description index) None start) _
+    (λ place starts. no_steps _ s))
 
 batch_get_steps : (s : State) (ms : Members) → Steps s (batch_get.batch_get_item s ms)
 unfolding batch_get.batch_get_item

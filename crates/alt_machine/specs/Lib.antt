@@ -2,6 +2,7 @@ pub mod Batches
 pub mod Body
 pub mod Conditional
 pub mod Expressions
+pub mod Indexed
 pub mod Keys
 pub mod Laws
 pub mod Lists
@@ -10,8 +11,10 @@ pub mod Operations
 pub mod Ops
 pub mod Outcomes
 pub mod Refusals
+pub mod Rekeyed
 pub mod Replies
 pub mod Same
+pub mod Sources
 pub mod State
 pub mod Step
 pub mod Targets

@@ -1,7 +1,7 @@
 -- Reading lists of items: what Query and Scan have in common (DynamoDB API Reference, "Query" and "Scan"; Developer Guide, "Paginating table
 -- query results").
-use Rattle.std.specs.Prelude.{◌≡◌, ℕ, Bool, true, false, not, ◌&&◌, ◌||◌, ◌==◌, List, [], ◌∷◌, length, map, is_some, Option, Some, None, option_map, option_and_then, Result, Ok, codes, if◌then◌else◌}
-use Rattle.std.specs.List.{filter, last_or}
+use Rattle.std.specs.Prelude.{◌≡◌, ℕ, Bool, true, false, not, ◌&&◌, ◌||◌, List, [], ◌∷◌, map, is_some, Option, Some, None, option_map, option_and_then, Result, Ok, codes, if◌then◌else◌}
+use Rattle.std.specs.List.{filter, last_or, list_all}
 use Rattle.std.specs.FinMap.Entries.{where_key}
 use Rattle.std.specs.Option.{option_map_or}
 use Rattle.serde_json.specs.Data.{Data, number, unsigned, array, Items, no_items, item, Members, no_members, member}
@@ -11,8 +11,8 @@ use Rattle.alt_expr.specs.Given.{Given}
 use Rattle.alt_expr.specs.Holds.{equal}
 use Rattle.alt_expr.specs.Pages.{Asked, Page, page_of, examined}
 use Rattle.alt_keyorder.specs.Place.{Place, place_in_table, place_bytes}
-use Rattle.alt_schema.specs.Indexes.{is_key}
 use Rattle.alt_schema.specs.Json.{member_if}
+use Rattle.alt_schema.specs.declared.schema.IndexSchema.{IndexSchema}
 use Rattle.alt_schema.specs.declared.schema.KeyAttr.{KeyAttr}
 use Rattle.alt_schema.specs.declared.schema.TableSchema.{TableSchema}
 use Rattle.alt_shape.specs.Refusals.{Answer, answered, bad_start_key}
@@ -26,11 +26,11 @@ use Rattle.alt_value.specs.declared.kind.KeyKind.{KeyKind}
 use Rattle.alt_value.specs.declared.kind.KeyKind.TheVariants.{S, N, B}
 use Rattle.alt_machine.specs.declared.Expressions.{Expressions}
 use Rattle.alt_machine.specs.Expressions.{Texts, given_at, expressions}
-use Rattle.alt_machine.specs.Keys.{key_count}
+use Rattle.alt_machine.specs.Indexed.{place_read}
 use Rattle.alt_machine.specs.Members.{table_at, unless_fault}
 use Rattle.alt_machine.specs.Outcomes.{Outcome, says, unless_refused, with_found}
 use Rattle.alt_machine.specs.Refusals.{first_answer, or_refused, refuse_unless, unless_answer, ◌>>=◌}
-use Rattle.alt_machine.specs.Replies.{asks}
+use Rattle.alt_machine.specs.Sources.{selects, index_asked, hash_of, is_key_there}
 use Rattle.alt_machine.specs.State.{State, Table}
 use Rattle.alt_machine.specs.Walks.{placed_items, turned, is_beyond}
 
@@ -39,10 +39,6 @@ use Rattle.alt_machine.specs.Walks.{placed_items, turned, is_beyond}
 -- a member is there
 abbrev pub is_given : List ℕ → Members → Bool
 is_given name ms = is_some (given name ms)
-
--- Select is that word
-abbrev pub selects : List ℕ → Members → Bool
-selects = asks (codes "Select")
 
 -- there is a projection, and Select says something else
 abbrev pub is_projection_odd : Members → Bool
@@ -88,31 +84,40 @@ start_beside key None hash = Some (place_in_table hash None)
 start_beside key (Some range) hash = option_map (λ r. place_in_table hash (Some r))
     (start_value key range)
 
+-- its place in the table or in an index, where it has the keys
+abbrev pub place_there : TableSchema → Option IndexSchema → List Pair → Option Place
+place_there d None key = option_and_then (start_beside key d.range) (start_value key d.hash)
+place_there d (Some i) key = place_read (start_value key) d i
+
+-- it has no other attributes
+abbrev pub has_keys_alone : TableSchema → Option IndexSchema → List Pair → Bool
+has_keys_alone d i key = list_all (λ p. is_key_there d i p.0) key
+
 -- The place of a start key, which needn't be that of an item. It has the key attributes and no others, each of its kind.
-abbrev pub start_place : TableSchema → List Pair → Option (List ℕ)
-start_place d key =
-    if length key == key_count d then option_map place_bytes
-    (option_and_then (start_beside key d.range) (start_value key d.hash)) else None
+abbrev pub start_place : TableSchema → Option IndexSchema → List Pair → Option (List ℕ)
+start_place d i key =
+    if has_keys_alone d i key then option_map place_bytes (place_there d i key) else None
 
 -- a start key has the HASH value that is asked for, where one is
-abbrev pub has_hash : TableSchema → Option Attr → List Pair → Bool
-has_hash d hash key = option_map_or
-    (λ v. equal (at_name d.hash.name key) (Some (tree_of v))) hash true
+abbrev pub has_hash : TableSchema → Option IndexSchema → Option Attr → List Pair → Bool
+has_hash d i hash key = option_map_or
+    (λ v. equal (at_name (hash_of d i).name key) (Some (tree_of v))) hash true
 
 -- Where a walk starts: at the place of the start key, if one is given.
-abbrev pub walk_start : TableSchema → Option Attr → Option (List Pair)
+abbrev pub walk_start : TableSchema → Option IndexSchema → Option Attr → Option (List Pair)
     → Result (Option (List ℕ)) Answer
-walk_start d hash None = Ok None
-walk_start d hash (Some key) = or_refused bad_start_key (start_place d key) >>= (λ place.
-    unless_answer (first_answer (refuse_unless (has_hash d hash key) bad_start_key ∷ []))
+walk_start d i hash None = Ok None
+walk_start d i hash (Some key) = or_refused bad_start_key (start_place d i key) >>= (λ place.
+    unless_answer (first_answer (refuse_unless (has_hash d i hash key) bad_start_key ∷ []))
     (Some place))
 
 -- ---- the list and its page
 
--- The items of a table that pass a test, strictly beyond the start, in the walk's direction.
-abbrev pub listed : Bool → Option (List ℕ) → (List Pair → Bool) → Table → List (List Pair)
-listed forward start test t = filter test (map (λ e. e.1)
-    (filter (λ e. is_beyond forward start e.0) (turned forward (placed_items t))))
+-- The items of a table, or of an index, that pass a test, strictly beyond the start, in the walk's direction.
+abbrev pub listed : Bool → Option (List ℕ) → (List Pair → Bool) → Table → Option IndexSchema
+    → List (List Pair)
+listed forward start test t i = filter test (map (λ e. e.1)
+    (filter (λ e. is_beyond forward start e.0) (turned forward (placed_items t i))))
 
 -- what a request asks of its page
 abbrev pub page_asked : Members → Expressions → Asked
@@ -122,9 +127,9 @@ page_asked ms said = record {
   paths = said.projection;
 }
 
--- the key attributes of an item
-abbrev pub key_attributes : TableSchema → List Pair → List Pair
-key_attributes d = where_key text_order (is_key d.hash d.range)
+-- the key attributes of an item, in an index those of both keys
+abbrev pub key_attributes : TableSchema → Option IndexSchema → List Pair → List Pair
+key_attributes d i = where_key text_order (is_key_there d i)
 
 -- the last examined item, where the page has ended early
 abbrev pub last_examined : Asked → List (List Pair) → Option (List Pair)
@@ -142,37 +147,42 @@ abbrev pub shown_items : Members → List (List Pair) → Option Data
 shown_items ms items = if selects (codes "COUNT") ms then None else Some (array (items_json items))
 
 -- A page as it is answered. The key of the last examined item is the place to go on from.
-abbrev pub page_answer : TableSchema → Members → Page → Option (List Pair) → Answer
-page_answer d ms page last = answered
+abbrev pub page_answer : TableSchema → Option IndexSchema → Members → Page → Option (List Pair)
+    → Answer
+page_answer d i ms page last = answered
     (member (codes "Count") (number (unsigned page.count))
     (member_if (codes "Items") (shown_items ms page.items)
-    (member_if (codes "LastEvaluatedKey") (option_map (λ i. json_of_pairs (key_attributes d i)) last)
+    (member_if (codes "LastEvaluatedKey") (option_map (λ item. json_of_pairs (key_attributes d i item)) last)
     (member (codes "ScannedCount") (number (unsigned page.scanned)) no_members))))
 
 -- the page of a list is answered
-abbrev pub pages : TableSchema → Members → Expressions → List (List Pair) → Outcome
-pages d ms said items =
+abbrev pub pages : TableSchema → Option IndexSchema → Members → Expressions → List (List Pair)
+    → Outcome
+pages d i ms said items =
     let ask : Asked = page_asked ms said in
-    says (page_answer d ms (page_of ask items) (last_examined ask items))
+    says (page_answer d i ms (page_of ask items) (last_examined ask items))
 
 -- ---- the operations
 
 -- Behind the tests of its body, an operation on a list of items reads the names, the values and the start key, and then the table that
--- is named and its expressions. It goes on with them.
+-- is named, which of its indexes is named, if one is, and its expressions. It goes on with them.
 abbrev pub on_list : List (Option Answer) → Texts → State → Members
-    → (Expressions → Option (List Pair) → Table → Outcome) → Outcome
+    → (Expressions → Option (List Pair) → Table → Option ℕ → Outcome) → Outcome
 on_list tests texts s ms go =
     unless_refused tests (
     with_found (given_at texts ms) (λ g.
     with_found (start_at ms) (λ start.
     with_found (table_at s ms) (λ t.
-    with_found (expressions texts t.description ms g) (λ said. go said start t)))))
+    with_found (index_asked t.description ms) (λ index.
+    with_found (expressions texts t.description ms g) (λ said. go said start t index))))))
 
--- Nothing refuses the body; those are the start key and what the expressions say to a table of the description.
+-- Nothing refuses the body; those are the start key, the number of the index, and what the expressions say to a table of the
+-- description.
 pub record IsListed (tests : List (Option Answer)) (texts : Texts) (ms : Members)
-    (d : TableSchema) (said : Expressions) (start : Option (List Pair)) : Type 0 where
+    (d : TableSchema) (said : Expressions) (start : Option (List Pair)) (index : Option ℕ) : Type 0 where
   pub body : first_answer tests ≡ None
   pub words : Given
   pub given : given_at texts ms ≡ Ok words
   pub read : start_at ms ≡ Ok start
+  pub asks : index_asked d ms ≡ Ok index
   pub says : expressions texts d ms words ≡ Ok said

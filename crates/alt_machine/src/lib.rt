@@ -4,7 +4,7 @@
 //! and the program share, and no function that does anything.
 #![tactic(auto)]
 
-ghost use Rattle.alt_machine.specs.Laws.{StepsKeepValid, PlacesLie};
+ghost use Rattle.alt_machine.specs.Laws.{StepsKeepValid, PlacesLie, IndexPlacesLie, AllIndex};
 ghost use Rattle.alt_machine.specs.State.{start};
 ghost use Rattle.alt_machine.specs.Valid.{IsValid};
 
@@ -90,10 +90,12 @@ pub const MOST_KEYS: usize = 100;
 /// The bytes of items with which a BatchGetItem ends: 16 MB.
 pub const BATCH_BYTES: u64 = 16_777_216;
 
-/// The laws of the machine: the state of an empty store is valid, each request leads from a valid state to valid ones, and the items
-/// of a table lie by their keys. It does nothing.
+/// The laws of the machine: the state of an empty store is valid, each request leads from a valid state to valid ones, the items of a
+/// table and of an index lie by their keys, and an index has the items of its table that have its keys. It does nothing.
 pub fn laws()
     ensures start { IsValid start }
     ensures steps { StepsKeepValid }
     ensures places { PlacesLie }
+    ensures index_places { IndexPlacesLie }
+    ensures indexes { AllIndex }
 {}

@@ -1,5 +1,5 @@
 -- The page that was filled is answered as that of the list.
-use Rattle.std.proofs.Common.{◌≡◌, refl, sym, ap, subst, ◌∙◌, ℕ, Bool, true, false, List, [], length, map, Option, Some, None, Result, Ok, Err, IfOk, IfErr, option_map}
+use Rattle.std.proofs.Common.{◌≡◌, refl, sym, ap, subst, ◌∙◌, ◌<◌, ℕ, Bool, true, false, List, [], length, map, Option, Some, None, Result, Ok, Err, IfOk, IfErr, IfSome, option_map}
 use Rattle.std.specs.Prelude.{if◌then◌else◌, codes}
 use Rattle.std.specs.FinMap as finite
 use Rattle.std.specs.Result.{IsErr, IsErrAnd}
@@ -9,8 +9,9 @@ use Rattle.serde_json.specs.Written.{has_float}
 use Rattle.alt_codec.specs.Writing.{json_of_pairs}
 use Rattle.alt_expr.specs.Pages as pages
 use Rattle.alt_expr.specs.Pages.{Asked, examined, ends_early, parts, passed}
-use Rattle.alt_machine.specs.Lists.{selects, shown_items, items_json, key_attributes, page_answer, page_asked, last_examined}
+use Rattle.alt_machine.specs.Lists.{shown_items, items_json, key_attributes, page_answer, page_asked, last_examined}
 use Rattle.alt_machine.specs.Outcomes.{Outcome, says}
+use Rattle.alt_machine.specs.Sources.{index_at, selects}
 use Rattle.alt_machine.specs.State.{State, Texts}
 use Rattle.alt_machine.specs.declared.Expressions.{Expressions}
 use Rattle.alt_ops_query.specs.Filled.{HasFilled}
@@ -27,6 +28,8 @@ use Rattle.alt_request.specs.declared.stop.Stop.{Stop}
 use Rattle.alt_request.specs.declared.stop.Stop.TheVariants.{Refused, Fault}
 use Rattle.alt_request.proofs.Carrying.{does_say}
 use Rattle.alt_request.proofs.Reaching.{err_is}
+use Rattle.alt_schema.specs.Indexes.{indexes}
+use Rattle.alt_schema.specs.declared.schema.IndexSchema.{IndexSchema}
 use Rattle.alt_schema.specs.declared.schema.TableSchema.{TableSchema}
 use Rattle.alt_schema.specs.Json.{member_if}
 use Rattle.alt_shape.specs.Refusals.{Answer, answered, answer_of}
@@ -61,7 +64,7 @@ counts_shown : (ms : Members) (items : List (List Pair)) (b : Bool) → b ≡ se
 counts_shown ms items false is = refl
 counts_shown ms items true is = none_shown ms [] (sym is) ∙ sym (none_shown ms items (sym is))
 
-module _ (d : TableSchema) (ms : Members) (ask : PageAsk) (list : List (List Pair))
+module _ (d : TableSchema) (x : Option IndexSchema) (ms : Members) (ask : PageAsk) (list : List (List Pair))
     (filling : Filling) (filled : HasFilled filling ask list)
     (counts : ask.count_only ≡ selects (codes "COUNT") ms) (page : Page)
     (is : IsPage ask (examined ask.limit list) page) where
@@ -82,38 +85,38 @@ module _ (d : TableSchema) (ms : Members) (ask : PageAsk) (list : List (List Pai
   last_is : (if page.ended then filling.last else None) ≡ last_examined (asked_of ask) list
   last_is = λ i. if ap (λ (p : pages.Page). p.ended) page_is i then filled.whole.last i else None
 
-  pub answered_so : page_answer d ms (page_of page) (if page.ended then filling.last else None)
-      ≡ answer_with d ms ask list
-  answered_so = (λ i. page_answer d ms (page_is i) (last_is i))
+  pub answered_so : page_answer d x ms (page_of page) (if page.ended then filling.last else None)
+      ≡ answer_with d x ms ask list
+  answered_so = (λ i. page_answer d x ms (page_is i) (last_is i))
       ∙ ap with_shown (counts_shown ms whole.items ask.count_only counts)
     where
       with_shown : Option Data → Answer
       with_shown shown = answered (member (codes "Count") (number (unsigned whole.count))
           (member_if (codes "Items") shown
           (member_if (codes "LastEvaluatedKey") (option_map
-          (λ i. json_of_pairs (key_attributes d i)) (last_examined (asked_of ask) list))
+          (λ i. json_of_pairs (key_attributes d x i)) (last_examined (asked_of ask) list))
           (member (codes "ScannedCount") (number (unsigned whole.scanned)) no_members))))
 
   -- so is a reply that has it
   pub answered_by : (answer : Answer) (last : Option (List Pair))
-      → answer ≡ page_answer d ms (page_of page) last
-      → last ≡ (if page.ended then filling.last else None) → answer ≡ answer_with d ms ask list
-  answered_by answer last e f = e ∙ ap (page_answer d ms (page_of page)) f ∙ answered_so
+      → answer ≡ page_answer d x ms (page_of page) last
+      → last ≡ (if page.ended then filling.last else None) → answer ≡ answer_with d x ms ask list
+  answered_by answer last e f = e ∙ ap (page_answer d x ms (page_of page)) f ∙ answered_so
 
 -- ---- what is done
 
 -- the page is answered, or memory was wanting for it
-pub page_does : (now : State → Type 0) (s : State) (d : TableSchema) (ms : Members) (ask : PageAsk)
+pub page_does : (now : State → Type 0) (s : State) (d : TableSchema) (x : Option IndexSchema) (ms : Members) (ask : PageAsk)
     (list : List (List Pair)) (filling : Filling) (r : Result Reply Stop) → now s
     → HasFilled filling ask list → ask.count_only ≡ selects (codes "COUNT") ms
-    → IfOk r (λ reply. AnswersPage d ms filling (answer_of reply))
+    → IfOk r (λ reply. AnswersPage d x ms filling (answer_of reply))
     → IfOk r (λ reply. has_float (view reply.body) ≡ false) → IfErr r IsMemory
-    → Does now s (says (answer_with d ms ask list)) r
-page_does now s d ms ask list filling (Ok reply) stands filled counts told plain cause =
-    does_say now (answer_with d ms ask list) s (Ok reply) (told ask list filled counts, plain) stands
-page_does now s d ms ask list filling (Err stop) stands filled counts told plain cause =
-    subst (λ e. Does now s (says (answer_with d ms ask list)) (Err e)) (sym cause)
-    (does_say now (answer_with d ms ask list) s (Err (Fault NoMemory)) refl stands)
+    → Does now s (says (answer_with d x ms ask list)) r
+page_does now s d x ms ask list filling (Ok reply) stands filled counts told plain cause =
+    does_say now (answer_with d x ms ask list) s (Ok reply) (told ask list filled counts, plain) stands
+page_does now s d x ms ask list filling (Err stop) stands filled counts told plain cause =
+    subst (λ e. Does now s (says (answer_with d x ms ask list)) (Err e)) (sym cause)
+    (does_say now (answer_with d x ms ask list) s (Err (Fault NoMemory)) refl stands)
 
 -- the walk stopped before it
 pub fault_does : (now : State → Type 0) (s : State) (outcome : Outcome) (stop : Stop) → IsFault stop
@@ -143,39 +146,48 @@ stop_failed A P (Refused r) h = absurd h
 stop_failed A P (Fault f) h = h
 
 -- what is asked of the page is what the request asks
-pub page_asks : (d : TableSchema) (ms : Members) (said : Expressions) (list : List (List Pair))
+pub page_asks : (d : TableSchema) (x : Option IndexSchema) (ms : Members) (said : Expressions) (list : List (List Pair))
     (ask : PageAsk) → ask ≡ asked_page ms said.condition said.projection → HasLimit ms
-    → answer_with d ms ask list ≡ page_answer d ms (pages.page_of (page_asked ms said) list)
+    → answer_with d x ms ask list ≡ page_answer d x ms (pages.page_of (page_asked ms said) list)
     (last_examined (page_asked ms said) list)
-page_asks d ms said list ask is limit =
-    ap (λ (a : PageAsk). answer_with d ms a list) is ∙ ap with_limit limit
+page_asks d x ms said list ask is limit =
+    ap (λ (a : PageAsk). answer_with d x ms a list) is ∙ ap with_limit limit
   where
     asked : Option ℕ → Asked
     asked most = record { limit = most; condition = said.condition; paths = said.projection }
 
     with_limit : Option ℕ → Answer
-    with_limit most = page_answer d ms (pages.page_of (asked most) list)
+    with_limit most = page_answer d x ms (pages.page_of (asked most) list)
         (last_examined (asked most) list)
 
 some_same : (d x : TableSchema) → Some d ≡ Some x → d ≡ x
 some_same d x same = cc
 
 -- the description of a table is the one that was found
-pub told_of : (found : Option TableSchema) (ms : Members) (filling : Filling)
+pub told_of : (found : Option TableSchema) (index : Option ℕ) (ms : Members) (filling : Filling)
     (r : Result Reply Stop) (d : TableSchema) → Some d ≡ found
-    → IfOk r (λ reply. AnswersPage d ms filling (answer_of reply))
+    → IfOk r (λ reply. AnswersPage d (index_at d index) ms filling (answer_of reply))
     → IfOk r (λ reply. (x : TableSchema) → found ≡ Some x
-    → AnswersPage x ms filling (answer_of reply))
-told_of found ms filling (Ok reply) d is h =
-    λ x at. subst (λ y. AnswersPage y ms filling (answer_of reply))
+    → AnswersPage x (index_at x index) ms filling (answer_of reply))
+told_of found index ms filling (Ok reply) d is h =
+    λ x at. subst (λ y. AnswersPage y (index_at y index) ms filling (answer_of reply))
     (some_same d x (is ∙ at)) h
-told_of found ms filling (Err stop) d is h = tt
+told_of found index ms filling (Err stop) d is h = tt
+
+-- and so is what holds of each description that is there
+pub within_of : (catalog : Texts TableSchema) (name : List ℕ) (index : Option ℕ) (d : TableSchema)
+    → finite.get catalog name ≡ Some d → IfSome index (λ n. n < length (indexes d))
+    → (x : TableSchema) → finite.get catalog name ≡ Some x
+    → IfSome index (λ n. n < length (indexes x))
+within_of catalog name index d is h x at = subst (λ y. IfSome index (λ n. n < length (indexes y)))
+    (some_same d x (sym is ∙ at)) h
 
 -- the reply is that of the description at hand
-pub told_at : (catalog : Texts TableSchema) (name : List ℕ) (ms : Members) (filling : Filling)
-    (r : Result Reply Stop) (d : TableSchema) → finite.get catalog name ≡ Some d
+pub told_at : (catalog : Texts TableSchema) (name : List ℕ) (index : Option ℕ) (ms : Members)
+    (filling : Filling) (r : Result Reply Stop) (d : TableSchema)
+    → finite.get catalog name ≡ Some d
     → IfOk r (λ reply. (x : TableSchema) → finite.get catalog name ≡ Some x
-    → AnswersPage x ms filling (answer_of reply))
-    → IfOk r (λ reply. AnswersPage d ms filling (answer_of reply))
-told_at catalog name ms filling (Ok reply) d at h = h d at
-told_at catalog name ms filling (Err stop) d at h = tt
+    → AnswersPage x (index_at x index) ms filling (answer_of reply))
+    → IfOk r (λ reply. AnswersPage d (index_at d index) ms filling (answer_of reply))
+told_at catalog name index ms filling (Ok reply) d at h = h d at
+told_at catalog name index ms filling (Err stop) d at h = tt

@@ -1,23 +1,72 @@
 -- The table that is walked: its items stand at their places, and its description is the one at hand.
-use Rattle.std.proofs.Common.{◌≡◌, sym, ap, ◌∙◌, ℕ, List, Some}
+use Rattle.std.proofs.Common.{◌≡◌, ◌<◌, refl, sym, ap, ◌∙◌, ℕ, List, length, slice_get, Option, Some, None, option_map, IfSome}
 use Rattle.std.specs.FinMap as finite
 use Rattle.alt_disk.specs.Disk.{DiskState}
-use Rattle.alt_machine.specs.Keys.{place_of}
+use Rattle.alt_machine.specs.Sources.{index_at, items_of}
 use Rattle.alt_machine.specs.State.{State, Table}
+use Rattle.alt_machine.proofs.Descriptions.{get-descriptions}
+use Rattle.alt_machine.proofs.Indexing.{all_index}
+use Rattle.alt_ops_query.specs.Ranges.{MayStand, place_in}
+use Rattle.alt_ops_query.proofs.Lists.{none_past}
 use Rattle.alt_request.proofs.Named.{table_found}
+use Rattle.alt_schema.specs.Indexes.{indexes}
+use Rattle.alt_schema.specs.declared.schema.IndexSchema.{IndexSchema}
 use Rattle.alt_schema.specs.declared.schema.TableSchema.{TableSchema}
 use Rattle.alt_tables.specs.Stands.{KeepsCatalog, Stands, catalog_of}
 use Rattle.alt_tables.specs.declared.tables.Tables.{Tables}
 use Rattle.alt_value.specs.Tree.{Pair}
+use Rattle.alt_views.proofs.Keeping.{entry_place}
 
 same_some : {A : Type 0} (x y : A) → Some x ≡ Some y → x ≡ y
 same_some x y e = cc
 
 module _ (disk : DiskState) (tables : Tables) (s : State) (stands : Stands disk tables s)
     (name : List ℕ) (t : Table) (at : finite.get s.tables name ≡ Some t) where
-  pub stored_at : (place : List ℕ) (item : List Pair) → finite.get t.items place ≡ Some item
-      → place_of t.description item ≡ Some place
-  stored_at place item found = ((stands.valid.tables name t at).items place item found).stands
+  -- what stands at a place of the table, or of its index of that number, may stand there
+  pub may_stand : (index : Option ℕ)
+      → ((d : TableSchema) → finite.get (catalog_of tables) name ≡ Some d
+      → IfSome index (λ n. n < length (indexes d)))
+      → (place : List ℕ) (item : List Pair)
+      → finite.get (items_of t (index_at t.description index)) place ≡ Some item
+      → MayStand t.description (index_at t.description index) place item
+  may_stand None within place item found = (
+    (stands.valid.tables name t at).items place item found,
+    stands.rows.held.items.items name place t item at found,
+  )
+  may_stand (Some number) within place item found =
+      by (slice_get (indexes t.description) number) refl found
+    where
+      there : number < length (indexes t.description)
+      there = within t.description (ap (λ m. finite.get m name) stands.catalog
+          ∙ get-descriptions s.tables name ∙ ap (option_map (λ (x : Table). x.description)) at)
+
+      by : (o : Option IndexSchema) → slice_get (indexes t.description) number ≡ o
+          → finite.get (items_of t o) place ≡ Some item → MayStand t.description o place item
+      by None past found = absurd (none_past (indexes t.description) number there past)
+      by (Some i) is found =
+          let has = all_index s name t number i stands.valid stands.rows.held.items at is in
+          let (p, x, here, entry) = has.alone place item found in (
+            p,
+            x,
+            (stands.valid.tables name t at).items p x here,
+            stands.rows.held.items.items name p t x at here,
+            entry,
+          )
+
+  -- and has that place
+  pub stored_at : (index : Option ℕ)
+      → ((d : TableSchema) → finite.get (catalog_of tables) name ≡ Some d
+      → IfSome index (λ n. n < length (indexes d)))
+      → (place : List ℕ) (item : List Pair)
+      → finite.get (items_of t (index_at t.description index)) place ≡ Some item
+      → place_in t.description (index_at t.description index) item ≡ Some place
+  stored_at index within place item found =
+      by (index_at t.description index) (may_stand index within place item found)
+    where
+      by : (i : Option IndexSchema) → MayStand t.description i place item
+          → place_in t.description i item ≡ Some place
+      by None may = may.0.stands
+      by (Some i) may = entry_place t.description i may.1 place item may.4
 
   pub described : (now : Tables) (d : TableSchema) → KeepsCatalog tables now
       → Some d ≡ finite.get (catalog_of now) name → d ≡ t.description

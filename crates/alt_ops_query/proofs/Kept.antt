@@ -4,8 +4,10 @@ use Rattle.std.specs.FinMap.Entries.{find, is_sorted, where_key, find-put, find-
 use Rattle.std.specs.Str.{bytes_eq}
 use Rattle.alt_cells.proofs.CellLaws.{key_total, key_exact}
 use Rattle.alt_machine.specs.Lists.{key_attributes}
-use Rattle.alt_ops_query.specs.Replied.{with_attribute}
+use Rattle.alt_machine.specs.Sources.{is_key_there}
+use Rattle.alt_ops_query.specs.Replied.{with_attribute, with_key}
 use Rattle.alt_schema.specs.Indexes.{is_key}
+use Rattle.alt_schema.specs.declared.schema.IndexSchema.{IndexSchema}
 use Rattle.alt_schema.specs.declared.schema.KeyAttr.{KeyAttr}
 use Rattle.alt_schema.specs.declared.schema.TableSchema.{TableSchema}
 use Rattle.std.proofs.lemmas.Slice.Eq.{bytes_eq-Decides}
@@ -84,33 +86,51 @@ module _ (item : List Pair) (is_item : IsItem item) where
     λ q. find-where_key text_order p q (λ x tie. ap p (sym (key_exact q x tie))) item,
   )
 
-  or_turned : (a b : Bool) → (a || b) ≡ (b || a)
-  or_turned true true = refl
-  or_turned true false = refl
-  or_turned false true = refl
-  or_turned false false = refl
+  or_false : (a : Bool) → (a || false) ≡ a
+  or_false true = refl
+  or_false false = refl
+
+  same_test : (p q : List ℕ → Bool) (key : List Pair) → ((n : List ℕ) → p n ≡ q n)
+      → KeepsWhere p key → KeepsWhere q key
+  same_test p q key same keeps = (
+    keeps.0,
+    λ n. keeps.1 n ∙ ap (λ c. cond c (find text_order n item) None) (same n),
+  )
 
   none_kept : KeepsWhere (λ q. false) []
   none_kept = (tt, λ q. refl)
 
-  -- The key attributes of an item, put one after the other into an empty one.
-  pub key-two : (d : TableSchema) (range : KeyAttr) → d.range ≡ Some range
-      → with_attribute range.name (at_name range.name item)
-      (with_attribute d.hash.name (at_name d.hash.name item) []) ≡ key_attributes d item
-  key-two d range is = one_key _ _ _ _
-      (kept_more range.name _ _ (kept_more d.hash.name (λ q. false) [] none_kept))
-      (where_kept (is_key d.hash d.range))
-      (λ q. turn (bytes_eq range.name q) (bytes_eq d.hash.name q)
-      ∙ ap (λ (o : Option KeyAttr). is_key d.hash o q) (sym is))
+  -- with the attributes of a key it has those of its names more
+  kept_key : (hash : KeyAttr) (range : Option KeyAttr) (p : List ℕ → Bool) (key : List Pair)
+      → KeepsWhere p key
+      → KeepsWhere (λ q. is_key hash range q || p q) (with_key hash range item key)
+  kept_key hash None p key keeps = same_test _ _ _ (λ q. ap (λ b. b || p q) (sym (or_false _)))
+      (kept_more hash.name p key keeps)
+  kept_key hash (Some range) p key keeps = same_test _ _ _
+      (λ q. turn (bytes_eq range.name q) (bytes_eq hash.name q) (p q))
+      (kept_more range.name _ _ (kept_more hash.name p key keeps))
+    where
+      turn : (a b c : Bool) → (a || (b || c)) ≡ ((b || a) || c)
+      turn true true c = refl
+      turn true false c = refl
+      turn false true c = refl
+      turn false false c = refl
+
+  -- The key attributes of an item, put one after the other into an empty one: those of the table, and in an index those of its key too.
+  pub key-table : (d : TableSchema) → with_key d.hash d.range item [] ≡ key_attributes d None item
+  key-table d = one_key _ _ _ _ (kept_key d.hash d.range (λ q. false) [] none_kept)
+      (where_kept (is_key_there d None)) (λ q. or_false _)
+
+  pub key-index : (d : TableSchema) (i : IndexSchema)
+      → with_key i.hash i.range item (with_key d.hash d.range item [])
+      ≡ key_attributes d (Some i) item
+  key-index d i = one_key _ _ _ _ (kept_key i.hash i.range _ _
+      (kept_key d.hash d.range (λ q. false) [] none_kept))
+      (where_kept (is_key_there d (Some i)))
+      (λ q. turn (is_key i.hash i.range q) (is_key d.hash d.range q))
     where
       turn : (a b : Bool) → (a || (b || false)) ≡ (b || a)
       turn true true = refl
       turn true false = refl
       turn false true = refl
       turn false false = refl
-
-  pub key-one : (d : TableSchema) → d.range ≡ None
-      → with_attribute d.hash.name (at_name d.hash.name item) [] ≡ key_attributes d item
-  key-one d is = one_key _ _ _ _ (kept_more d.hash.name (λ q. false) [] none_kept)
-      (where_kept (is_key d.hash d.range))
-      (λ q. ap (λ (o : Option KeyAttr). is_key d.hash o q) (sym is))

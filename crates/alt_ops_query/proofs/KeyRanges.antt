@@ -1,5 +1,5 @@
 -- The range of a key condition holds the items of which it holds.
-use Rattle.std.proofs.Common.{◌≡◌, refl, sym, ap, subst, ◌∙◌, ℕ, Bool, true, false, ◌&&◌, List, [], ◌++◌, Option, Some, None, Result, Ok, Err, option_map, append-nil}
+use Rattle.std.proofs.Common.{◌≡◌, refl, sym, ap, subst, ◌∙◌, ℕ, Bool, true, false, ◌&&◌, List, ◌++◌, Option, Some, None, Result, Ok, Err, option_map}
 use Rattle.std.specs.Cmp.{both_ways}
 use Rattle.alt_expr.specs.Holds.{equal, same}
 use Rattle.alt_expr.specs.KeyForm.{Key, Ask, ask_of, in_range, meets, range_meets}
@@ -20,15 +20,17 @@ use Rattle.alt_machine.specs.Ops.Query.{key_of, key_asked}
 use Rattle.alt_machine.specs.Outcomes.{with_found}
 use Rattle.alt_machine.specs.Refusals.{or_refused}
 use Rattle.alt_machine.specs.Walks.{is_beyond}
+use Rattle.alt_machine.specs.Sources.{hash_of, range_of}
 use Rattle.alt_ops_query.specs.Asked.{AreHeld, Asks, IsAsked, IsPlaced, Places}
 use Rattle.alt_ops_query.specs.Ranges.{IsBeyond, HoldsListed}
 use Rattle.alt_ops_query.proofs.KeyKinds.{asks_kinds}
-use Rattle.alt_ops_query.proofs.PlaceBytes.{stored_bytes}
+use Rattle.alt_ops_query.proofs.PlaceBytes.{bytes_there}
 use Rattle.alt_ops_query.proofs.Rests.{contains_so, so_contains, contains_beyond}
-use Rattle.alt_ops_query.proofs.Stored.{IsPart, IsBeside, IsKeyed, keyed}
+use Rattle.alt_ops_query.proofs.Stored.{IsPart, IsBeside, IsKeyed, keyed_there}
 use Rattle.alt_request.specs.Steps.{Comes}
 use Rattle.alt_request.specs.declared.stop.Stop.{Stop}
 use Rattle.alt_request.specs.declared.stop.Stop.TheVariants.{Refused, Fault}
+use Rattle.alt_schema.specs.declared.schema.IndexSchema.{IndexSchema}
 use Rattle.alt_schema.specs.declared.schema.KeyAttr.{KeyAttr}
 use Rattle.alt_schema.specs.declared.schema.TableSchema.{TableSchema}
 use Rattle.alt_shape.specs.Refusals.{bad_key_condition}
@@ -77,32 +79,33 @@ range_test item None (Some t) ask beside kinds = absurd beside
 range_test item (Some key) None ask beside kinds = absurd beside
 range_test item (Some key) (Some t) ask beside kinds = ap (in_range (test_of ask)) beside.at
 
-module _ (d : TableSchema) (condition : Option Cond) (ask : KeyAsk)
-    (hash_kind : IsOfKind d.hash.kind (tree_of ask.hash))
-    (range_kind : AsksOfKind (option_map (λ x. x.kind) d.range) ask.range)
+module _ (d : TableSchema) (i : Option IndexSchema) (condition : Option Cond) (ask : KeyAsk)
+    (hash_kind : IsOfKind (hash_of d i).kind (tree_of ask.hash))
+    (range_kind : AsksOfKind (option_map (λ x. x.kind) (range_of d i)) ask.range)
     (holds : (item : List Pair) → passes condition item
-    ≡ meets (key_of d.hash) (option_map key_of d.range) (asks ask) (λ name. at_name name item)) where
+    ≡ meets (key_of (hash_of d i)) (option_map key_of (range_of d i)) (asks ask) (λ name. at_name name item)) where
   -- a stored item passes exactly where its key is one that is asked for
-  passes_is : (key : List ℕ) (item : List Pair) (keys : IsKeyed d item key)
+  passes_is : (key : List ℕ) (item : List Pair) (keys : IsKeyed (hash_of d i) (range_of d i) item key)
       → passes condition item
       ≡ (same keys.hash (tree_of ask.hash) && in_range (test_of ask.range) keys.range)
   passes_is key item keys = holds item
-      ∙ (λ i. equal (keys.has_hash.at i) (Some (tree_of ask.hash)) && range_test item d.range keys.range ask.range
-      keys.has_range range_kind i)
+      ∙ (λ j. equal (keys.has_hash.at j) (Some (tree_of ask.hash)) && range_test item (range_of d i) keys.range ask.range
+      keys.has_range range_kind j)
 
   pub holds_listed : (forward : Bool) (place : Option (List ℕ)) (from : List ℕ)
       (to : Option (List ℕ)) (first : List ℕ) (last : Option (List ℕ)) → HoldsAsked ask from to
       → IsBeyond forward place from to first last
-      → HoldsListed forward place (passes condition) d first last
+      → HoldsListed forward place (passes condition) d i first last
   unfolding HoldsAsked
-  holds_listed forward place from to first last asked beyond key item stored held =
-      let keys = keyed d item key held.fields stored.stands in
-      let kinds = kinds_of item d.hash keys.hash d.range keys.range keys.has_hash keys.has_range in
-      let whole : place_bytes (place_in_table keys.hash keys.range) ++ [] ≡ key =
-      append-nil (place_bytes (place_in_table keys.hash keys.range)) ∙ sym keys.is in
-      let both = asked d.hash.kind (option_map (λ (x : KeyAttr). x.kind) d.range) hash_kind
-      range_kind keys.hash keys.range [] kinds
-      (subst AreBytes (sym whole) (stored_bytes d key item stored held)) in
+  holds_listed forward place from to first last asked beyond key item may =
+      let keys = keyed_there d i key item may in
+      let kinds = kinds_of item (hash_of d i) keys.hash (range_of d i) keys.range keys.has_hash
+      keys.has_range in
+      let whole : place_bytes (place_in_table keys.hash keys.range) ++ keys.behind ≡ key =
+      sym keys.is in
+      let both = asked (hash_of d i).kind (option_map (λ (x : KeyAttr). x.kind) (range_of d i))
+      hash_kind range_kind keys.hash keys.range keys.behind kinds
+      (subst AreBytes (sym whole) (bytes_there d i key item may)) in
       let test = passes_is key item keys in
       contains_beyond forward place from to first last beyond key
       ∙ ap (λ b. b && is_beyond forward place key) (both_ways _ _
@@ -123,60 +126,62 @@ kinds_same None = refl
 kinds_same (Some k) = refl
 
 -- a condition that asks is there
-some_asked : (d : TableSchema) (condition : Option Cond) (ask : Ask) → key_asked d condition ≡ Ok ask
-    → (x : Cond) × (ask_of (key_of d.hash) (option_map key_of d.range) x ≡ Some ask)
-some_asked d None ask e = absurd (let f : ⊥ = cc in f)
-some_asked d (Some x) ask e = (x, by (ask_of (key_of d.hash) (option_map key_of d.range) x) e)
+some_asked : (d : TableSchema) (i : Option IndexSchema) (condition : Option Cond) (ask : Ask)
+    → key_asked d i condition ≡ Ok ask
+    → (x : Cond) × (ask_of (key_of (hash_of d i)) (option_map key_of (range_of d i)) x ≡ Some ask)
+some_asked d i None ask e = absurd (let f : ⊥ = cc in f)
+some_asked d i (Some x) ask e =
+    (x, by (ask_of (key_of (hash_of d i)) (option_map key_of (range_of d i)) x) e)
   where
     by : (o : Option Ask) → or_refused bad_key_condition o ≡ Ok ask → o ≡ Some ask
     by None f = absurd (let g : ⊥ = cc in g)
     by (Some q) f = let same : q ≡ ask = cc in ap (λ z. Some z) same
 
-module _ (d : TableSchema) (condition : Option Cond) (start : Option (List Pair)) (forward : Bool) where
-  pub asked_so : (ask : KeyAsk) → key_asked d condition ≡ Ok (asks ask)
+module _ (d : TableSchema) (i : Option IndexSchema) (condition : Option Cond) (start : Option (List Pair)) (forward : Bool) where
+  pub asked_so : (ask : KeyAsk) → key_asked d i condition ≡ Ok (asks ask)
       → ((item : List Pair) → passes condition item
-      ≡ meets (key_of d.hash) (option_map key_of d.range) (asks ask) (λ name. at_name name item))
+      ≡ meets (key_of (hash_of d i)) (option_map key_of (range_of d i)) (asks ask) (λ name. at_name name item))
       → IsValue (tree_of ask.hash) → AreHeld ask.range → (range : KeyRange)
-      → IsPlaced d ask start forward range → IsAsked d condition start forward range
+      → IsPlaced d i ask start forward range → IsAsked d i condition start forward range
   asked_so ask e holds held range_held range p =
-      let x = some_asked d condition (asks ask) e in
-      let kinds = asks_kinds (key_of d.hash) (option_map key_of d.range) x.0 ask x.1 held range_held in
+      let x = some_asked d i condition (asks ask) e in
+      let kinds = asks_kinds (key_of (hash_of d i)) (option_map key_of (range_of d i)) x.0 ask x.1 held range_held in
       record {
         ask = asks ask;
         asks = e;
         place = p.place;
         starts = p.starts;
-        holds = holds_listed d condition ask kinds.0
-            (subst (λ k. AsksOfKind k ask.range) (kinds_same d.range) kinds.1) holds forward p.place
+        holds = holds_listed d i condition ask kinds.0
+            (subst (λ k. AsksOfKind k ask.range) (kinds_same (range_of d i)) kinds.1) holds forward p.place
             p.from p.to range.from range.to p.holds p.beyond;
       }
 
   -- the machine asks nothing either
-  pub no_ask : (stop : Stop) → Comes {X = KeyAsk} asks (key_asked d condition) (Err stop)
-      → Asks d condition start forward (Err stop)
+  pub no_ask : (stop : Stop) → Comes {X = KeyAsk} asks (key_asked d i condition) (Err stop)
+      → Asks d i condition start forward (Err stop)
   no_ask (Refused r) h = (
     h.1,
     λ go. ap (λ q. with_found q
-        (λ ask. with_found (walk_start d (Some ask.hash) start) (go ask))) h.0,
+        (λ ask. with_found (walk_start d i (Some ask.hash) start) (go ask))) h.0,
   )
   no_ask (Fault f) h = h
 
   -- or it starts nowhere
-  pub no_place : (ask : KeyAsk) → key_asked d condition ≡ Ok (asks ask) → (stop : Stop)
-      → Places d ask start forward (Err stop) → Asks d condition start forward (Err stop)
+  pub no_place : (ask : KeyAsk) → key_asked d i condition ≡ Ok (asks ask) → (stop : Stop)
+      → Places d i ask start forward (Err stop) → Asks d i condition start forward (Err stop)
   no_place ask e (Refused r) h = (
     h.0,
     λ go. ap (λ q. with_found q
-        (λ ask. with_found (walk_start d (Some ask.hash) start) (go ask))) e
+        (λ ask. with_found (walk_start d i (Some ask.hash) start) (go ask))) e
         ∙ ap (λ q. with_found q (go (asks ask))) h.1,
   )
   no_place ask e (Fault f) h = h
 
-  pub asked_by : (ask : KeyAsk) → key_asked d condition ≡ Ok (asks ask)
+  pub asked_by : (ask : KeyAsk) → key_asked d i condition ≡ Ok (asks ask)
       → ((item : List Pair) → passes condition item
-      ≡ meets (key_of d.hash) (option_map key_of d.range) (asks ask) (λ name. at_name name item))
+      ≡ meets (key_of (hash_of d i)) (option_map key_of (range_of d i)) (asks ask) (λ name. at_name name item))
       → IsValue (tree_of ask.hash) → AreHeld ask.range → (result : Result KeyRange Stop)
-      → Places d ask start forward result → Asks d condition start forward result
+      → Places d i ask start forward result → Asks d i condition start forward result
   asked_by ask e holds held range_held (Ok range) p =
       asked_so ask e holds held range_held range p
   asked_by ask e holds held range_held (Err stop) p = no_place ask e stop p

@@ -4,21 +4,22 @@ use Rattle.std.proofs.Math.Utf8.{scalar, scalars, encode, encodes, scalar_cases}
 use Rattle.std.proofs.lemmas.Int.Digits.{all_below_base_digits_of, length-digits_of-le}
 use Rattle.std.specs.Int.{w64, to_be_bytes, is_negative}
 use Rattle.std.specs.Int.Digits.{digits_of, AllBelowBase}
-use Rattle.std.specs.List.{AllByRecursion}
+use Rattle.std.specs.List.{AllByRecursion, flat_map}
 use Rattle.std.specs.Str.{IsUtf8}
 use Rattle.alt_decimal.specs.Digits.{width, trimmed}
 use Rattle.alt_decimal.specs.Number.{Fits, IsMagnitude}
 use Rattle.alt_decimal.specs.Spelled.{spelled, magnitude_bytes, pairs, complement}
 use Rattle.alt_keyorder.specs.KeyBytes.{escaped, closed, key_bytes}
-use Rattle.alt_keyorder.specs.Place.{place_bytes, place_in_table}
+use Rattle.alt_keyorder.specs.Place.{key_values, place_bytes, place_in_table}
 use Rattle.alt_keyorder.specs.Range.{AreBytes}
 use Rattle.alt_keyorder.specs.Token.{token_of}
-use Rattle.alt_machine.specs.Valid.{IsStored}
-use Rattle.alt_ops_query.proofs.Stored.{IsBeside, field_value, keyed, same_Some}
+use Rattle.alt_ops_query.specs.Ranges.{MayStand}
+use Rattle.alt_ops_query.proofs.Stored.{IsBeside, field_value, has_both, keyed, same_Some}
+use Rattle.alt_schema.specs.declared.schema.IndexSchema.{IndexSchema}
 use Rattle.alt_schema.specs.declared.schema.KeyAttr.{KeyAttr}
 use Rattle.alt_schema.specs.declared.schema.TableSchema.{TableSchema}
 use Rattle.alt_value.specs.Tree.{Tree, S_tree, N_tree, B_tree, BOOL_tree, NULL_tree, SS_tree, NS_tree, BS_tree, L_tree, M_tree, Pair, fields_of}
-use Rattle.alt_value.specs.Values.{IsValue, AreFields, IsItemOfValues}
+use Rattle.alt_value.specs.Values.{IsValue, AreFields}
 
 -- bytes behind bytes are bytes
 both_bytes : (a b : List ℕ) → AreBytes a → AreBytes b → AreBytes (a ++ b)
@@ -166,11 +167,33 @@ beside_value item (Some key) None h beside t e = absurd beside
 beside_value item (Some key) (Some u) h beside t e =
     subst IsValue (same_Some u t e) (field_value key.name item u h beside.at)
 
--- the place of a stored item
-pub stored_bytes : (d : TableSchema) (key : List ℕ) (item : List Pair) → IsStored d key item
-    → IsItemOfValues item → AreBytes key
-stored_bytes d key item stored held =
-    let keys = keyed d item key held.fields stored.stands in
-    subst AreBytes (sym keys.is) (values_place keys.hash keys.range
-    (field_value d.hash.name item keys.hash held.fields keys.has_hash.at)
-    (beside_value item d.range keys.range held.fields keys.has_range))
+-- the parts of a key
+values_bytes : (hash : Tree) (range : Option Tree) → IsValue hash
+    → ((t : Tree) → range ≡ Some t → IsValue t)
+    → AreBytes (flat_map key_bytes (key_values hash range))
+values_bytes hash None h r = both_bytes (key_bytes hash) [] (part_bytes hash h) tt
+values_bytes hash (Some range) h r = both_bytes (key_bytes hash) (key_bytes range ++ [])
+    (part_bytes hash h) (both_bytes (key_bytes range) [] (part_bytes range (r range refl)) tt)
+
+-- the place of what stands in a table or in an index
+pub bytes_there : (d : TableSchema) (i : Option IndexSchema) (key : List ℕ) (item : List Pair)
+    → MayStand d i key item → AreBytes key
+bytes_there d None key item may =
+    let (keys, none) = keyed d item key may.1.fields may.0.stands in
+    subst AreBytes (sym keys.is)
+    (both_bytes (place_bytes (place_in_table keys.hash keys.range)) keys.behind
+    (values_place keys.hash keys.range
+    (field_value d.hash.name item keys.hash may.1.fields keys.has_hash.at)
+    (beside_value item d.range keys.range may.1.fields keys.has_range))
+    (subst AreBytes (sym none) tt))
+bytes_there d (Some i) key row may =
+    let both = has_both d i may.1 key row may.3 may.4 in
+    subst AreBytes (sym both.is)
+    (both_bytes (place_bytes (place_in_table both.own.hash both.own.range))
+    (flat_map key_bytes (key_values both.of_table.hash both.of_table.range))
+    (values_place both.own.hash both.own.range
+    (field_value i.hash.name row both.own.hash both.fields both.owns.0.at)
+    (beside_value row i.range both.own.range both.fields both.owns.1))
+    (values_bytes both.of_table.hash both.of_table.range
+    (field_value d.hash.name row both.of_table.hash both.fields both.keys.0.at)
+    (beside_value row d.range both.of_table.range both.fields both.keys.1)))

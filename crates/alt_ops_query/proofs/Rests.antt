@@ -15,11 +15,13 @@ use Rattle.std.proofs.lemmas.List.Elements.{All-nil, All-cons, All-head, All-tai
 use Rattle.std.proofs.lemmas.List.Sorted.{All-permutation, IsPermutation-reverse}
 use Rattle.alt_cells.proofs.Entries.{first, second}
 use Rattle.alt_keyorder.specs.Range.{IsInRange}
+use Rattle.alt_machine.specs.Sources.{items_of}
 use Rattle.alt_machine.specs.State.{Table}
 use Rattle.alt_machine.specs.Walks.{end_bound, is_beyond, items_between, placed_items, turned}
 use Rattle.alt_ops_query.specs.Ranges.{IsBeyond}
 use Rattle.alt_ops_query.proofs.Lists.{filter_same, filter_both, filter-turned}
 use Rattle.alt_value.specs.Members.{text_order}
+use Rattle.alt_schema.specs.declared.schema.IndexSchema.{IndexSchema}
 use Rattle.alt_value.specs.Tree.{Pair}
 
 -- an item with its place
@@ -228,33 +230,33 @@ drop-map f (suc n) [] = refl
 drop-map f (suc n) (x ∷ xs) = drop-map f n xs
 
 -- the entries of a range, in the order of a walk
-unfoldable pub walked : Table → List ℕ → Option (List ℕ) → Bool → List Entry
-walked t from to forward =
-    turned forward (entries_between text_order (Included from) (end_bound to) (placed_items t))
+unfoldable pub walked : Table → Option IndexSchema → List ℕ → Option (List ℕ) → Bool → List Entry
+walked t i from to forward =
+    turned forward (entries_between text_order (Included from) (end_bound to) (placed_items t i))
 
-pub items_walked : (t : Table) (from : List ℕ) (to : Option (List ℕ)) (forward : Bool)
-    → items_between t from to forward ≡ map (λ e. e.1) (walked t from to forward)
+pub items_walked : (t : Table) (i : Option IndexSchema) (from : List ℕ) (to : Option (List ℕ)) (forward : Bool)
+    → items_between t i from to forward ≡ map (λ e. e.1) (walked t i from to forward)
 unfolding walked
-items_walked t from to forward = refl
+items_walked t i from to forward = refl
 
-module _ (t : Table) (forward : Bool) (from : List ℕ) (to : Option (List ℕ)) (first : List ℕ)
+module _ (t : Table) (i : Option IndexSchema) (forward : Bool) (from : List ℕ) (to : Option (List ℕ)) (first : List ℕ)
     (last : Option (List ℕ)) where
   -- The part of a range beyond the last of the first so many of its items has the others.
   pub rest_is : (n : ℕ) (e : Entry) (front : List Entry)
-      → take n (walked t from to forward) ≡ front ++ e ∷ []
+      → take n (walked t i from to forward) ≡ front ++ e ∷ []
       → IsBeyond forward (Some e.0) from to first last
-      → items_between t first last forward ≡ drop n (items_between t from to forward)
+      → items_between t i first last forward ≡ drop n (items_between t i from to forward)
   unfolding walked
   rest_is n e front step beyond =
-      let es : List Entry = placed_items t in
-      let all : List Entry = walked t from to forward in
+      let es : List Entry = placed_items t i in
+      let all : List Entry = walked t i from to forward in
       let whole : all ≡ front ++ e ∷ drop n all =
       sym (take-append-drop n all) ∙ ap (λ l. l ++ drop n all) step
       ∙ append_assoc front (e ∷ []) (drop n all) in
       let ordered : AreOrdered forward all =
       ordered_turned forward (entries_between text_order (Included from) (end_bound to) es)
       (ordered_filter true (λ x. range_contains text_order (Included from) (end_bound to) x.0) es
-      (sorted_ordered es (finite.entries_sorted t.items))) in
+      (sorted_ordered es (finite.entries_sorted (items_of t i)))) in
       ap (λ l. map (λ x. x.1) (turned forward l))
       (filter_same (λ x. range_contains text_order (Included first) (end_bound last) x.0)
       (λ x. range_contains text_order (Included from) (end_bound to) x.0

@@ -1,5 +1,5 @@
 -- The range of a segment holds the places whose tokens are in it.
-use Rattle.std.proofs.Common.{◌≡◌, refl, sym, ap, ◌∙◌, ℕ, ◌+◌, ◌-◌, ◌*◌, ◌/◌, ◌^◌, ◌<◌, ◌≤◌, Bool, true, false, not, ◌&&◌, nat_le, nat_lt, ◌==◌, List, [], ◌∷◌, ◌++◌, Option, Some, None, append-nil, arith}
+use Rattle.std.proofs.Common.{◌≡◌, refl, sym, ap, ◌∙◌, ℕ, ◌+◌, ◌-◌, ◌*◌, ◌/◌, ◌^◌, ◌<◌, ◌≤◌, Bool, true, false, not, ◌&&◌, nat_le, nat_lt, ◌==◌, List, [], ◌∷◌, ◌++◌, Option, Some, None, append-nil, arith, append_assoc}
 use Rattle.std.proofs.Math.Nat.{le-div_iff_mul-le, div-lt_iff_lt-mul}
 use Rattle.std.specs.Prelude.{if◌then◌else◌}
 use Rattle.std.specs.BTreeMap.Range.{is_past_end, range_contains}
@@ -21,7 +21,9 @@ use Rattle.alt_machine.specs.Walks.{end_bound, is_beyond}
 use Rattle.alt_ops_query.specs.Ranges.{IsBeyond, HoldsListed}
 use Rattle.alt_ops_query.specs.Tokens.{first_token, token_bytes, end_token}
 use Rattle.alt_ops_query.proofs.Rests.{contains_beyond}
-use Rattle.alt_ops_query.proofs.Stored.{keyed}
+use Rattle.alt_ops_query.proofs.Stored.{keyed_there}
+use Rattle.alt_machine.specs.Sources.{hash_of}
+use Rattle.alt_schema.specs.declared.schema.IndexSchema.{IndexSchema}
 use Rattle.alt_schema.specs.declared.schema.TableSchema.{TableSchema}
 use Rattle.alt_value.specs.Members.{text_order}
 
@@ -152,31 +154,33 @@ and_turned false true = refl
 and_turned false false = refl
 
 -- The range of a segment's tokens, beyond a place, holds the items of the segment.
-pub segment_holds : (d : TableSchema) (number total : ℕ) → number < total → total ≤ 2 ^ 64
+pub segment_holds : (d : TableSchema) (i : Option IndexSchema) (number total : ℕ) → number < total → total ≤ 2 ^ 64
     → (place : Option (List ℕ)) (first : List ℕ) (last : Option (List ℕ))
     → IsBeyond true place (token_bytes (first_token number total))
     (end_token (first_token (number + 1) total)) first last
     → HoldsListed true place
-    (machine.is_in d (Some (record { number = number; total = total }))) d first last
-segment_holds d number total below few place first last beyond key item stored held =
-    let keys = keyed d item key held.fields stored.stands in
-    let y = flat_map key_bytes (key_values keys.hash keys.range) in
+    (machine.is_in (hash_of d i) (Some (record { number = number; total = total }))) d i first last
+segment_holds d i number total below few place first last beyond key item may =
+    let keys = keyed_there d i key item may in
+    let y = flat_map key_bytes (key_values keys.hash keys.range) ++ keys.behind in
     contains_beyond true place (token_bytes (first_token number total))
     (end_token (first_token (number + 1) total)) first last beyond key
     ∙ ap (λ b. b && is_beyond true place key)
     (ap (range_contains text_order (Included (token_bytes (first_token number total)))
-    (end_bound (end_token (first_token (number + 1) total)))) keys.is
+    (end_bound (end_token (first_token (number + 1) total))))
+    (keys.is ∙ append_assoc (to_be_bytes w64 (token_of keys.hash))
+    (flat_map key_bytes (key_values keys.hash keys.range)) keys.behind)
     ∙ contains_token number total (token_of keys.hash) y below few (token_fits keys.hash)
     ∙ ap (λ o. option_map_or (machine.has_token (record { number = number; total = total })) o false)
     (sym keys.has_hash.at))
-    ∙ and_turned (machine.is_in d (Some (record { number = number; total = total })) item)
+    ∙ and_turned (machine.is_in (hash_of d i) (Some (record { number = number; total = total })) item)
     (is_beyond true place key)
 
 -- all places, beyond one of them, are those of all items
-pub whole_holds : (d : TableSchema) (place : Option (List ℕ)) (first : List ℕ)
+pub whole_holds : (d : TableSchema) (i : Option IndexSchema) (place : Option (List ℕ)) (first : List ℕ)
     (last : Option (List ℕ)) → IsBeyond true place [] None first last
-    → HoldsListed true place (machine.is_in d None) d first last
-whole_holds d place first last beyond key item stored held =
+    → HoldsListed true place (machine.is_in (hash_of d i) None) d i first last
+whole_holds d i place first last beyond key item may =
     contains_beyond true place [] None first last beyond key
     ∙ ap (λ b. (b && true) && is_beyond true place key) (none_first key)
     ∙ and_turned true (is_beyond true place key)

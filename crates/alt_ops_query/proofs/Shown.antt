@@ -6,9 +6,11 @@ use Rattle.serde_json.specs.Written.{has_float, items_have_float, members_have_f
 use Rattle.alt_codec.specs.Writing.{json_of_pairs}
 use Rattle.alt_codec.proofs.Plain.{pairs_plain}
 use Rattle.alt_expr.specs.Pages.{Page}
-use Rattle.alt_machine.specs.Lists.{selects, shown_items, items_json, key_attributes, page_answer}
+use Rattle.alt_machine.specs.Lists.{shown_items, items_json, key_attributes, page_answer}
+use Rattle.alt_machine.specs.Sources.{selects}
 use Rattle.alt_ops_query.specs.Replied.{put_if}
 use Rattle.alt_schema.specs.Json.{items_by, member_if}
+use Rattle.alt_schema.specs.declared.schema.IndexSchema.{IndexSchema}
 use Rattle.alt_schema.specs.declared.schema.TableSchema.{TableSchema}
 use Rattle.alt_shape.proofs.Plain.{items_have_float-item, no_float_either}
 use Rattle.alt_value.specs.Tree.{Pair}
@@ -60,15 +62,16 @@ shown_plain ms items d = by (selects (codes "COUNT") ms)
     by false e = let is : array (items_json items) ≡ d = cc in
         ap has_float (sym is) ∙ items_plain items
 
-last_plain : (schema : TableSchema) (last : Option (List Pair)) (d : Data)
-    → option_map (λ i. json_of_pairs (key_attributes schema i)) last ≡ Some d → has_float d ≡ false
-last_plain schema None d e = absurd (let f : ⊥ = cc in f)
-last_plain schema (Some i) d e =
-    let is : json_of_pairs (key_attributes schema i) ≡ d = cc in
-    ap has_float (sym is) ∙ pairs_plain (key_attributes schema i)
+last_plain : (d : TableSchema) (i : Option IndexSchema) (last : Option (List Pair)) (x : Data)
+    → option_map (λ row. json_of_pairs (key_attributes d i row)) last ≡ Some x
+    → has_float x ≡ false
+last_plain d i None x e = absurd (let f : ⊥ = cc in f)
+last_plain d i (Some row) x e =
+    let is : json_of_pairs (key_attributes d i row) ≡ x = cc in
+    ap has_float (sym is) ∙ pairs_plain (key_attributes d i row)
 
-pub answer_plain : (d : TableSchema) (ms : Members) (page : Page) (last : Option (List Pair))
-    → has_float (page_answer d ms page last).body ≡ false
-answer_plain d ms page last = members_plain (shown_items ms page.items)
-    (option_map (λ i. json_of_pairs (key_attributes d i)) last) page.count page.scanned
-    (shown_plain ms page.items) (last_plain d last)
+pub answer_plain : (d : TableSchema) (i : Option IndexSchema) (ms : Members) (page : Page)
+    (last : Option (List Pair)) → has_float (page_answer d i ms page last).body ≡ false
+answer_plain d i ms page last = members_plain (shown_items ms page.items)
+    (option_map (λ row. json_of_pairs (key_attributes d i row)) last) page.count page.scanned
+    (shown_plain ms page.items) (last_plain d i last)

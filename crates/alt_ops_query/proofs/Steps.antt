@@ -1,5 +1,5 @@
 -- One step of a walk: what its last item leaves of the range.
-use Rattle.std.proofs.Common.{◌≡◌, ◌≢◌, ◌≤◌, sym, ap, subst, ◌∙◌, ℕ, ◌<◌, Bool, true, false, List, [], ◌∷◌, ◌++◌, map, reverse, take, drop, length, Option, Some, None, All, append_assoc, take-append-drop, length-take, arith}
+use Rattle.std.proofs.Common.{◌≡◌, ◌≢◌, ◌≤◌, refl, sym, ap, subst, ◌∙◌, ℕ, ◌<◌, Bool, true, false, List, [], ◌∷◌, ◌++◌, map, reverse, take, drop, length, Option, Some, None, All, append_assoc, take-append-drop, length-take, arith}
 use Rattle.std.specs.BTreeMap.Range.{range_contains}
 use Rattle.std.specs.FinMap as finite
 use Rattle.std.specs.List.{last_or}
@@ -7,12 +7,12 @@ use Rattle.std.specs.declared.ops.Bound.TheVariants.{Included}
 use Rattle.std.proofs.lemmas.List.{map-append, take-map, take_all, length-map}
 use Rattle.std.proofs.lemmas.List.Elements.{All-nil, All-cons, All-filter, All-take, All-head, All-tail}
 use Rattle.std.proofs.lemmas.List.Sorted.{All-permutation, IsPermutation-reverse}
-use Rattle.alt_machine.specs.Keys.{place_of}
+use Rattle.alt_machine.specs.Sources.{items_of}
 use Rattle.alt_machine.specs.State.{Table}
 use Rattle.alt_machine.specs.Walks.{end_bound, items_between, placed_items, turned}
 use Rattle.alt_keyorder.specs.declared.range.KeyRange.{KeyRange}
 use Rattle.alt_ops_query.specs.Filled.{HasExamined, HasFilled, Examines, Steps}
-use Rattle.alt_ops_query.specs.Ranges.{IsBeyond}
+use Rattle.alt_ops_query.specs.Ranges.{IsBeyond, place_in}
 use Rattle.alt_ops_query.specs.Stops.{IsFault}
 use Rattle.alt_ops_query.specs.declared.walking.Filling.{Filling}
 use Rattle.alt_ops_query.proofs.Filling.{last_push, filled_all, filled_front}
@@ -21,6 +21,7 @@ use Rattle.alt_ops_query.proofs.Rests.{HasLast, has_last, walked, items_walked, 
 use Rattle.alt_paging.specs.declared.ask.PageAsk.{PageAsk}
 use Rattle.alt_request.specs.Steps.{IsMemory}
 use Rattle.alt_request.specs.declared.stop.Stop.{Stop}
+use Rattle.alt_schema.specs.declared.schema.IndexSchema.{IndexSchema}
 use Rattle.alt_value.specs.Members.{text_order}
 use Rattle.alt_value.specs.Tree.{Pair}
 
@@ -38,32 +39,32 @@ All-last P (y ∷ ys) x all = All-last P ys x (All-tail P y (ys ++ x ∷ []) all
 same_some : {A : Type 0} (x y : A) → Some x ≡ Some y → x ≡ y
 same_some x y e = cc
 
-module _ (t : Table) (stored : (place : List ℕ) (item : List Pair)
-    → finite.get t.items place ≡ Some item → place_of t.description item ≡ Some place)
+module _ (t : Table) (i : Option IndexSchema) (stored : (place : List ℕ) (item : List Pair)
+    → finite.get (items_of t i) place ≡ Some item → place_in t.description i item ≡ Some place)
     (forward : Bool) (from : List ℕ) (to : Option (List ℕ)) (first : List ℕ)
     (last : Option (List ℕ)) where
   -- each entry of the range stands at its place
-  at_places : All (λ e. place_of t.description e.1 ≡ Some e.0) (walked t from to forward)
+  at_places : All (λ e. place_in t.description i e.1 ≡ Some e.0) (walked t i from to forward)
   unfolding walked
-  at_places = All-turned (λ e. place_of t.description e.1 ≡ Some e.0) forward _ (All-filter
+  at_places = All-turned (λ e. place_in t.description i e.1 ≡ Some e.0) forward _ (All-filter
       (λ e. range_contains text_order (Included from) (end_bound to) e.0)
-      (λ e. place_of t.description e.1 ≡ Some e.0) (placed_items t)
-      (each_entry (λ e. place_of t.description e.1 ≡ Some e.0) (placed_items t)
-      (finite.entries_sorted t.items)
-      (λ place item at. stored place item (finite.get-entries t.items place ∙ at))))
+      (λ e. place_in t.description i e.1 ≡ Some e.0) (placed_items t i)
+      (each_entry (λ e. place_in t.description i e.1 ≡ Some e.0) (placed_items t i)
+      (finite.entries_sorted (items_of t i))
+      (λ place item at. stored place item (finite.get-entries (items_of t i) place ∙ at))))
 
   -- Beyond the last item of a step the range has the items that the step didn't give.
   pub step_rest : (n : ℕ) (seen : List (List Pair)) (item : List Pair)
-      → 0 < length (take n (items_between t from to forward))
-      → last_or None (seen ++ take n (items_between t from to forward)) ≡ Some item
-      → ((place : List ℕ) → place_of t.description item ≡ Some place
+      → 0 < length (take n (items_between t i from to forward))
+      → last_or None (seen ++ take n (items_between t i from to forward)) ≡ Some item
+      → ((place : List ℕ) → place_in t.description i item ≡ Some place
       → IsBeyond forward (Some place) from to first last)
-      → items_between t first last forward ≡ drop n (items_between t from to forward)
+      → items_between t i first last forward ≡ drop n (items_between t i from to forward)
   step_rest n seen item some is beyond =
-      let all : List (List ℕ × List Pair) = walked t from to forward in
-      let given : take n (items_between t from to forward) ≡ map (λ e. e.1) (take n all) =
-      ap (take n) (items_walked t from to forward) ∙ take-map (λ e. e.1) n all in
-      let long : length (take n (items_between t from to forward)) ≡ length (take n all) =
+      let all : List (List ℕ × List Pair) = walked t i from to forward in
+      let given : take n (items_between t i from to forward) ≡ map (λ e. e.1) (take n all) =
+      ap (take n) (items_walked t i from to forward) ∙ take-map (λ e. e.1) n all in
+      let long : length (take n (items_between t i from to forward)) ≡ length (take n all) =
       ap length given ∙ length-map (take n all) (λ (e : List ℕ × List Pair). e.1) in
       let end : HasLast (take n all) = has_last (take n all) (omega (arith, some, long)) in
       let same : end.last.1 ≡ item = same_some _ _ (
@@ -71,30 +72,34 @@ module _ (t : Table) (stored : (place : List ℕ) (item : List Pair)
       ∙ ap (last_or None) (append_assoc seen (map (λ e. e.1) end.front) (end.last.1 ∷ [])
       ∙ ap (λ l. seen ++ l) (sym (map-append (λ (e : List ℕ × List Pair). e.1) end.front
       (end.last ∷ [])) ∙ ap (map (λ e. e.1)) (sym end.is) ∙ sym given)) ∙ is) in
-      let at = All-last (λ e. place_of t.description e.1 ≡ Some e.0) end.front end.last
-      (subst (All (λ e. place_of t.description e.1 ≡ Some e.0)) end.is (All-take (λ e. place_of t.description e.1 ≡ Some e.0) n all at_places)) in
-      rest_is t forward from to first last n end.last end.front end.is
-      (beyond end.last.0 (ap (place_of t.description) (sym same) ∙ at))
+      let at = All-last (λ e. place_in t.description i e.1 ≡ Some e.0) end.front end.last
+      (subst (All (λ e. place_in t.description i e.1 ≡ Some e.0)) end.is (All-take (λ e. place_in t.description i e.1 ≡ Some e.0) n all at_places)) in
+      rest_is t i forward from to first last n end.last end.front end.is
+      (beyond end.last.0 (ap (place_in t.description i) (sym same) ∙ at))
 
   -- an item that has a place isn't empty
-  placed_some : (item : List Pair) (place : List ℕ) → place_of t.description item ≡ Some place
+  placed_some : (item : List Pair) (place : List ℕ) → place_in t.description i item ≡ Some place
       → item ≢ []
-  placed_some item place at empty = let no : None ≡ Some place =
-      ap (place_of t.description) (sym empty) ∙ at in absurd (cc no)
+  placed_some item place at empty = let no : None ≡ Some place = sym (none_placed i)
+      ∙ ap (place_in t.description i) (sym empty) ∙ at in absurd (cc no)
+    where
+      none_placed : (i : Option IndexSchema) → place_in t.description i [] ≡ None
+      none_placed None = refl
+      none_placed (Some i) = refl
 
-  some_items : (es : List (List ℕ × List Pair)) → All (λ e. place_of t.description e.1 ≡ Some e.0) es
+  some_items : (es : List (List ℕ × List Pair)) → All (λ e. place_in t.description i e.1 ≡ Some e.0) es
       → All (λ i. i ≢ []) (map (λ e. e.1) es)
   some_items [] all = All-nil (λ (i : List Pair). i ≢ [])
   some_items (e ∷ es) all = All-cons (λ (i : List Pair). i ≢ []) e.1 (map (λ x. x.1) es)
-      (placed_some e.1 e.0 (All-head (λ x. place_of t.description x.1 ≡ Some x.0) e es all))
-      (some_items es (All-tail (λ x. place_of t.description x.1 ≡ Some x.0) e es all))
+      (placed_some e.1 e.0 (All-head (λ x. place_in t.description i x.1 ≡ Some x.0) e es all))
+      (some_items es (All-tail (λ x. place_in t.description i x.1 ≡ Some x.0) e es all))
 
   -- no item of a step is empty
-  pub steps_some : (n : ℕ) → All (λ i. i ≢ []) (take n (items_between t from to forward))
+  pub steps_some : (n : ℕ) → All (λ i. i ≢ []) (take n (items_between t i from to forward))
   steps_some n = subst (All (λ i. i ≢ []))
-      (sym (ap (take n) (items_walked t from to forward) ∙ take-map (λ e. e.1) n (walked t from to forward)))
-      (some_items (take n (walked t from to forward))
-      (All-take (λ e. place_of t.description e.1 ≡ Some e.0) n (walked t from to forward) at_places))
+      (sym (ap (take n) (items_walked t i from to forward) ∙ take-map (λ e. e.1) n (walked t i from to forward)))
+      (some_items (take n (walked t i from to forward))
+      (All-take (λ e. place_in t.description i e.1 ≡ Some e.0) n (walked t i from to forward) at_places))
 
 -- ---- what a step comes to
 
@@ -123,26 +128,26 @@ module _ (filling : Filling) (ask : PageAsk) (seen list items : List (List Pair)
 
 -- ---- a step behind which the walk goes on
 
-module _ (t : Table) (stored : (place : List ℕ) (item : List Pair)
-    → finite.get t.items place ≡ Some item → place_of t.description item ≡ Some place)
+module _ (t : Table) (i : Option IndexSchema) (stored : (place : List ℕ) (item : List Pair)
+    → finite.get (items_of t i) place ≡ Some item → place_in t.description i item ≡ Some place)
     (forward : Bool) (from : List ℕ) (to : Option (List ℕ)) (filling : Filling) (ask : PageAsk)
     (seen items : List (List Pair)) (most : ℕ)
-    (given : items ≡ take most (items_between t from to forward))
+    (given : items ≡ take most (items_between t i from to forward))
     (h : HasExamined filling ask (seen ++ items)) (many : most ≤ length items) (some : 0 < most) where
   -- the range beyond its last item has the others
   pub step_on : (rest : KeyRange) → ((item : List Pair) (place : List ℕ) → filling.last ≡ Some item
-      → place_of t.description item ≡ Some place
+      → place_in t.description i item ≡ Some place
       → IsBeyond forward (Some place) from to rest.from rest.to)
-      → Steps t forward ask seen filling (items_between t from to forward) (Some rest)
+      → Steps t i forward ask seen filling (items_between t i from to forward) (Some rest)
   step_on rest beyond =
-      let list : List (List Pair) = items_between t from to forward in
+      let list : List (List Pair) = items_between t i from to forward in
       let long : 0 < length items = omega (arith, some, many) in
       let end : HasLast items = has_last items long in
       let is : last_or None (seen ++ items) ≡ Some end.last =
       ap (λ l. last_or None (seen ++ l)) end.is
       ∙ ap (last_or None) (sym (append_assoc seen end.front (end.last ∷ [])))
       ∙ last_push None (seen ++ end.front) end.last in
-      let rests = step_rest t stored forward from to rest.from rest.to most seen end.last
+      let rests = step_rest t i stored forward from to rest.from rest.to most seen end.last
       (subst (λ (l : List (List Pair)). 0 < length l) given long)
       (subst (λ l. last_or None (seen ++ l) ≡ Some end.last) given is)
       (λ place at. beyond end.last place (h.last ∙ is) at) in (
@@ -154,11 +159,11 @@ module _ (t : Table) (stored : (place : List ℕ) (item : List Pair)
 
   -- its last item is at hand, and has a place
   pub step_placed : (item : List Pair) × (place : List ℕ) × (filling.last ≡ Some item)
-      × (place_of t.description item ≡ Some place)
+      × (place_in t.description i item ≡ Some place)
   step_placed =
-      let all : List (List ℕ × List Pair) = walked t from to forward in
+      let all : List (List ℕ × List Pair) = walked t i from to forward in
       let is : items ≡ map (λ e. e.1) (take most all) =
-      given ∙ ap (take most) (items_walked t from to forward) ∙ take-map (λ e. e.1) most all in
+      given ∙ ap (take most) (items_walked t i from to forward) ∙ take-map (λ e. e.1) most all in
       let long : length items ≡ length (take most all) =
       ap length is ∙ length-map (take most all) (λ (e : List ℕ × List Pair). e.1) in
       let end : HasLast (take most all) = has_last (take most all) (omega (arith, some, many, long)) in
@@ -170,9 +175,9 @@ module _ (t : Table) (stored : (place : List ℕ) (item : List Pair)
         h.last ∙ ap (λ l. last_or None (seen ++ l)) split
             ∙ ap (last_or None) (sym (append_assoc seen (map (λ e. e.1) end.front) (end.last.1 ∷ [])))
             ∙ last_push None (seen ++ map (λ e. e.1) end.front) end.last.1,
-        All-last (λ e. place_of t.description e.1 ≡ Some e.0) end.front end.last
-            (subst (All (λ e. place_of t.description e.1 ≡ Some e.0)) end.is
-            (All-take (λ e. place_of t.description e.1 ≡ Some e.0) most all (at_places t stored forward from to from to))),
+        All-last (λ e. place_in t.description i e.1 ≡ Some e.0) end.front end.last
+            (subst (All (λ e. place_in t.description i e.1 ≡ Some e.0)) end.is
+            (All-take (λ e. place_in t.description i e.1 ≡ Some e.0) most all (at_places t i stored forward from to from to))),
       )
 
 -- ---- faults

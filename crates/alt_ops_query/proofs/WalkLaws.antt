@@ -1,5 +1,5 @@
 -- A walk: what was examined so far, and what is ahead.
-use Rattle.std.proofs.Common.{◌≡◌, ◌≢◌, refl, sym, ap, subst, ◌∙◌, Bool, true, false, not, List, [], ◌∷◌, ◌++◌, Some, None, All, append_assoc, append-nil}
+use Rattle.std.proofs.Common.{◌≡◌, ◌≢◌, refl, sym, ap, subst, ◌∙◌, Bool, true, false, not, List, [], ◌∷◌, ◌++◌, Option, Some, None, All, append_assoc, append-nil}
 use Rattle.std.proofs.lemmas.List.Elements.{All-head, All-tail}
 use Rattle.alt_keyorder.specs.declared.range.KeyRange.{KeyRange}
 use Rattle.alt_machine.specs.State.{Table}
@@ -7,6 +7,7 @@ use Rattle.alt_machine.specs.Walks.{items_between}
 use Rattle.alt_ops_query.specs.Filled.{HasExamined, HasFilled, Steps}
 use Rattle.alt_ops_query.specs.declared.walking.Filling.{Filling}
 use Rattle.alt_paging.specs.declared.ask.PageAsk.{PageAsk}
+use Rattle.alt_schema.specs.declared.schema.IndexSchema.{IndexSchema}
 use Rattle.alt_value.specs.Tree.{Pair}
 
 -- ---- the items of a step
@@ -54,32 +55,32 @@ one_more before now then items ahead item ask seen so h = record {
 -- ---- the steps of a walk
 
 -- those were examined, and the range that is left has the others
-pub record IsWalked (now : Filling) (ask : PageAsk) (t : Table) (forward : Bool)
+pub record IsWalked (now : Filling) (ask : PageAsk) (t : Table) (i : Option IndexSchema) (forward : Bool)
     (list : List (List Pair)) (rest : KeyRange) : Type 0 where
   pub seen : List (List Pair)
   pub examined : HasExamined now ask seen
-  pub whole : list ≡ seen ++ items_between t rest.from rest.to forward
+  pub whole : list ≡ seen ++ items_between t i rest.from rest.to forward
 
-pub walk_begun : (filling : Filling) (ask : PageAsk) (t : Table) (forward : Bool) (range : KeyRange)
+pub walk_begun : (filling : Filling) (ask : PageAsk) (t : Table) (i : Option IndexSchema) (forward : Bool) (range : KeyRange)
     → HasExamined filling ask []
-    → IsWalked filling ask t forward (items_between t range.from range.to forward) range
-walk_begun filling ask t forward range h = record { seen = []; examined = h; whole = refl }
+    → IsWalked filling ask t i forward (items_between t i range.from range.to forward) range
+walk_begun filling ask t i forward range h = record { seen = []; examined = h; whole = refl }
 
-module _ (now then : Filling) (ask : PageAsk) (t : Table) (forward : Bool)
-    (list : List (List Pair)) (range : KeyRange) (so : IsWalked now ask t forward list range) where
+module _ (now then : Filling) (ask : PageAsk) (t : Table) (i : Option IndexSchema) (forward : Bool)
+    (list : List (List Pair)) (range : KeyRange) (so : IsWalked now ask t i forward list range) where
   -- a step more
   pub walk_on : (rest : KeyRange)
-      → Steps t forward ask so.seen then (items_between t range.from range.to forward) (Some rest)
-      → IsWalked then ask t forward list rest
+      → Steps t i forward ask so.seen then (items_between t i range.from range.to forward) (Some rest)
+      → IsWalked then ask t i forward list rest
   walk_on rest (front, h, is) = record {
     seen = so.seen ++ front;
     examined = h;
     whole = so.whole ∙ ap (λ l. so.seen ++ l) is
-        ∙ sym (append_assoc so.seen front (items_between t rest.from rest.to forward));
+        ∙ sym (append_assoc so.seen front (items_between t i rest.from rest.to forward));
   }
 
   -- the last one
-  pub walk_ended : Steps t forward ask so.seen then (items_between t range.from range.to forward) None
+  pub walk_ended : Steps t i forward ask so.seen then (items_between t i range.from range.to forward) None
       → HasFilled then ask list
   walk_ended h = subst (HasFilled then ask) (sym so.whole) h
 

@@ -1,5 +1,5 @@
 -- The operations as wholes: the page of a range that holds the list is that of the list, and what stops the program stops the machine.
-use Rattle.std.proofs.Common.{◌≡◌, sym, ap, subst, ◌∙◌, ℕ, ◌||◌, Bool, true, List, Option, Some, None, Result, Err}
+use Rattle.std.proofs.Common.{◌≡◌, sym, ap, subst, ◌∙◌, ◌<◌, ℕ, ◌||◌, Bool, true, List, length, Option, Some, None, Result, Err, IfSome}
 use Rattle.std.specs.FinMap as map
 use Rattle.serde_json.specs.Data.{Members}
 use Rattle.alt_disk.specs.Disk.{DiskState}
@@ -16,10 +16,13 @@ use Rattle.alt_machine.specs.Ops.Query.{query, queries, goes_forward, key_asked}
 use Rattle.alt_machine.specs.Ops.Scan as scanning_of
 use Rattle.alt_machine.specs.Ops.Scan.{scan, scans, is_in, is_segment_odd, segment_of}
 use Rattle.alt_machine.specs.Outcomes.{Outcome, with_found}
+use Rattle.alt_machine.specs.Sources.{hash_of, index_at}
 use Rattle.alt_machine.specs.State.{State, Table}
 use Rattle.alt_machine.specs.Walks.{items_between}
 use Rattle.alt_ops_query.specs.Asked.{Asks, IsAsked, Segments, IsOfSegment}
 use Rattle.alt_ops_query.specs.Ranges.{HoldsListed}
+use Rattle.alt_ops_query.proofs.Answering.{within_of}
+use Rattle.alt_ops_query.proofs.Described.{may_stand}
 use Rattle.alt_ops_query.proofs.Lists.{items_between-listed}
 use Rattle.alt_request.specs.Carried.{Carries, Does, IsPlain, IfFailed}
 use Rattle.alt_request.specs.Targets.{IsListedAt}
@@ -30,6 +33,8 @@ use Rattle.alt_request.proofs.Carrying.{refused_so, faulted}
 use Rattle.alt_request.proofs.Listing.{list_reached}
 use Rattle.alt_request.proofs.Moving.{unfailed_fault}
 use Rattle.alt_keyorder.specs.declared.range.KeyRange.{KeyRange}
+use Rattle.alt_schema.specs.Indexes.{indexes}
+use Rattle.alt_schema.specs.declared.schema.IndexSchema.{IndexSchema}
 use Rattle.alt_schema.specs.declared.schema.TableSchema.{TableSchema}
 use Rattle.alt_shape.specs.Bodies as bodies
 use Rattle.alt_shape.specs.declared.refusal.Reply.{Reply}
@@ -60,124 +65,146 @@ scan_is ms broken mismatched e f s =
 
 module _ (disk : DiskState) (tables : Tables) (s : State) (stands : Stands disk tables s)
     (name : List ℕ) (t : Table) (at : map.get s.tables name ≡ Some t) (d : TableSchema)
-    (same : t.description ≡ d) where
+    (same : t.description ≡ d) (index : Option ℕ)
+    (within : (x : TableSchema) → map.get (catalog_of tables) name ≡ Some x
+    → IfSome index (λ n. n < length (indexes x))) where
   -- the items of a range that holds a list are the list
   list_is : (forward : Bool) (place : Option (List ℕ)) (test : List Pair → Bool) (range : KeyRange)
-      → HoldsListed forward place test d range.from range.to
-      → items_between t range.from range.to forward ≡ listed forward place test t
-  list_is forward place test range holds = items_between-listed t
-      (λ key item found. (
-        (stands.valid.tables name t at).items key item found,
-        stands.rows.held.items.items name key t item at found,
-      ))
-      forward place test range.from range.to
-      (subst (λ x. HoldsListed forward place test x range.from range.to) (sym same) holds)
+      → HoldsListed forward place test d (index_at d index) range.from range.to
+      → items_between t (index_at t.description index) range.from range.to forward
+      ≡ listed forward place test t (index_at t.description index)
+  list_is forward place test range holds = items_between-listed t (index_at t.description index)
+      (may_stand disk tables s stands name t at index within) forward place test range.from range.to
+      (subst (λ x. HoldsListed forward place test x (index_at x index) range.from range.to)
+      (sym same) holds)
 
   module _ (ms : Members) (said : Expressions) (now : State → Type 0) (r : Result Reply Stop)
       (range : KeyRange) where
+    -- the index that is read
+    abbrev there : Option IndexSchema
+    there = index_at t.description index
+
     pub query_page : (start : Option (List Pair))
-        → IsAsked d said.key_condition start (goes_forward ms) range
-        → Does now s (pages t.description ms said
-        (items_between t range.from range.to (goes_forward ms))) r
-        → Does now s (queries ms said start t) r
+        → IsAsked d (index_at d index) said.key_condition start (goes_forward ms) range
+        → Does now s (pages t.description there ms said
+        (items_between t there range.from range.to (goes_forward ms))) r
+        → Does now s (queries ms said start t index) r
     query_page start asked does = subst (λ o. Does now s o r)
-        (ap (pages t.description ms said) (list_is (goes_forward ms) asked.place
+        (ap (pages t.description there ms said) (list_is (goes_forward ms) asked.place
         (passes said.key_condition) range asked.holds) ∙ sym found) does
       where
         go : Ask → Option (List ℕ) → Outcome
-        go ask place = pages t.description ms said
-            (listed (goes_forward ms) place (passes said.key_condition) t)
+        go ask place = pages t.description there ms said
+            (listed (goes_forward ms) place (passes said.key_condition) t there)
 
-        found : queries ms said start t ≡ go asked.ask asked.place
+        found : queries ms said start t index ≡ go asked.ask asked.place
         found = ap (λ q. with_found q (λ ask. with_found
-            (walk_start t.description (Some ask.hash) start) (go ask)))
-            (ap (λ x. key_asked x said.key_condition) same ∙ asked.asks)
+            (walk_start t.description there (Some ask.hash) start) (go ask)))
+            (ap (λ x. key_asked x (index_at x index) said.key_condition) same ∙ asked.asks)
             ∙ ap (λ q. with_found q (go asked.ask))
-            (ap (λ x. walk_start x (Some asked.ask.hash) start) same ∙ asked.starts)
+            (ap (λ x. walk_start x (index_at x index) (Some asked.ask.hash) start) same
+            ∙ asked.starts)
 
-    pub scan_page : (start : Option (List Pair)) → IsOfSegment d (segment_of ms) start range
-        → Does now s (pages t.description ms said (items_between t range.from range.to true)) r
-        → Does now s (scans ms said start t) r
+    pub scan_page : (start : Option (List Pair))
+        → IsOfSegment d (index_at d index) (segment_of ms) start range
+        → Does now s (pages t.description there ms said
+        (items_between t there range.from range.to true)) r
+        → Does now s (scans ms said start t index) r
     scan_page start asked does = subst (λ o. Does now s o r)
-        (ap (pages t.description ms said) (list_is true asked.place
-        (is_in t.description (segment_of ms)) range
-        (subst (λ x. HoldsListed true asked.place (is_in x (segment_of ms)) d range.from range.to)
-        (sym same) asked.holds)) ∙ sym found) does
+        (ap (pages t.description there ms said) (list_is true asked.place
+        (is_in (hash_of t.description there) (segment_of ms)) range
+        (subst (λ x. HoldsListed true asked.place (is_in (hash_of x (index_at x index)) (segment_of ms))
+        d (index_at d index) range.from range.to) (sym same) asked.holds)) ∙ sym found) does
       where
         go : Option (List ℕ) → Outcome
-        go place = pages t.description ms said
-            (listed true place (is_in t.description (segment_of ms)) t)
+        go place = pages t.description there ms said
+            (listed true place (is_in (hash_of t.description there) (segment_of ms)) t there)
 
-        found : scans ms said start t ≡ go asked.place
-        found = ap (λ q. with_found q go) (ap (λ x. walk_start x None start) same ∙ asked.starts)
+        found : scans ms said start t index ≡ go asked.place
+        found = ap (λ q. with_found q go)
+            (ap (λ x. walk_start x (index_at x index) None start) same ∙ asked.starts)
 
 -- ---- what stops an operation behind the steps to its list
 
 module _ (disk : DiskState) (tables : Tables) (now : State → Type 0) (ms : Members)
     (target : ListTarget) (stop : Stop) (stays : (s : State) → Stands disk tables s → now s) where
+  -- the index that is read, in a description
+  abbrev there_in : TableSchema → Option IndexSchema
+  there_in d = index_at d target.index
+
   pub query_stopped : (broken : Option Broken) (mismatched : Bool) → broken ≡ bodies.query ms
       → mismatched ≡ is_mismatched ms
       → IsListedAt (paired_refusals broken mismatched querying_of.rules ms) querying
       (catalog_of tables) ms target
-      → Asks target.schema.now target.said.key_condition target.start (goes_forward ms) (Err stop)
+      → Asks target.schema.now (there_in target.schema.now) target.said.key_condition target.start
+      (goes_forward ms) (Err stop)
       → Carries (λ s. query s ms) (Stands disk tables) now (Err stop)
   query_stopped broken mismatched e f is = by stop
     where
       reached : (s : State) → Stands disk tables s → (t : Table)
           × (map.get s.tables (table_name ms) ≡ Some t) × (t.description ≡ target.schema.now)
-          × (query s ms ≡ queries ms target.said target.start t)
+          × (query s ms ≡ queries ms target.said target.start t target.index)
       reached = list_reached disk tables (paired_refusals broken mismatched querying_of.rules ms) ms
           (λ s. query s ms) querying (λ s. queries ms) (query_is ms broken mismatched e f) target is
 
-      by : (q : Stop) → Asks target.schema.now target.said.key_condition target.start
-          (goes_forward ms) (Err q) → Carries (λ s. query s ms) (Stands disk tables) now (Err q)
+      go : Table → Ask → Option (List ℕ) → Outcome
+      go t ask place = pages t.description (there_in t.description) ms target.said
+          (listed (goes_forward ms) place (passes target.said.key_condition) t
+          (there_in t.description))
+
+      by : (q : Stop) → Asks target.schema.now (there_in target.schema.now)
+          target.said.key_condition target.start (goes_forward ms) (Err q)
+          → Carries (λ s. query s ms) (Stands disk tables) now (Err q)
       by (Refused r) h = refused_so (λ s. query s ms) (Stands disk tables) now r h.0
           (λ s stands. let (t, at, same, is) = reached s stands in is
-          ∙ ap (λ x. with_found (key_asked x target.said.key_condition) (λ ask.
-          with_found (walk_start x (Some ask.hash) target.start) (λ place.
-          pages t.description ms target.said (listed (goes_forward ms) place
-          (passes target.said.key_condition) t)))) same
-          ∙ h.1 (λ ask place. pages t.description ms target.said (listed (goes_forward ms) place
-          (passes target.said.key_condition) t))) stays
+          ∙ ap (λ x. with_found (key_asked x (there_in x) target.said.key_condition) (λ ask.
+          with_found (walk_start x (there_in x) (Some ask.hash) target.start) (go t ask))) same
+          ∙ h.1 (go t)) stays
       by (Fault f) h = faulted (λ s. query s ms) (Stands disk tables) now f h stays
 
   pub scan_stopped : (broken : Option Broken) (mismatched : Bool) → broken ≡ bodies.scan ms
       → mismatched ≡ (is_mismatched ms || is_segment_odd ms)
       → IsListedAt (paired_refusals broken mismatched scanning_of.rules ms) scanning
       (catalog_of tables) ms target
-      → Segments target.schema.now (segment_of ms) target.start (Err stop)
+      → Segments target.schema.now (there_in target.schema.now) (segment_of ms) target.start
+      (Err stop)
       → Carries (λ s. scan s ms) (Stands disk tables) now (Err stop)
   scan_stopped broken mismatched e f is = by stop
     where
       reached : (s : State) → Stands disk tables s → (t : Table)
           × (map.get s.tables (table_name ms) ≡ Some t) × (t.description ≡ target.schema.now)
-          × (scan s ms ≡ scans ms target.said target.start t)
+          × (scan s ms ≡ scans ms target.said target.start t target.index)
       reached = list_reached disk tables (paired_refusals broken mismatched scanning_of.rules ms) ms
           (λ s. scan s ms) scanning (λ s. scans ms) (scan_is ms broken mismatched e f) target is
 
-      by : (q : Stop) → Segments target.schema.now (segment_of ms) target.start (Err q)
-          → Carries (λ s. scan s ms) (Stands disk tables) now (Err q)
+      go : Table → Option (List ℕ) → Outcome
+      go t place = pages t.description (there_in t.description) ms target.said
+          (listed true place (is_in (hash_of t.description (there_in t.description)) (segment_of ms))
+          t (there_in t.description))
+
+      by : (q : Stop) → Segments target.schema.now (there_in target.schema.now) (segment_of ms)
+          target.start (Err q) → Carries (λ s. scan s ms) (Stands disk tables) now (Err q)
       by (Refused r) h = refused_so (λ s. scan s ms) (Stands disk tables) now r h.0
           (λ s stands. let (t, at, same, is) = reached s stands in is
-          ∙ ap (λ x. with_found (walk_start x None target.start) (λ place.
-          pages t.description ms target.said
-          (listed true place (is_in t.description (segment_of ms)) t))) same
-          ∙ h.1 (λ place. pages t.description ms target.said
-          (listed true place (is_in t.description (segment_of ms)) t))) stays
+          ∙ ap (λ x. with_found (walk_start x (there_in x) None target.start) (go t)) same
+          ∙ h.1 (go t)) stays
       by (Fault f) h = faulted (λ s. scan s ms) (Stands disk tables) now f h stays
 
 -- ---- what answers it
 
 module _ (disk : DiskState) (tables : Tables) (now : State → Type 0) (ms : Members)
-    (target : ListTarget) (range : KeyRange) (r : Result Reply Stop) (plain : IsPlain r) where
+    (target : ListTarget) (range : KeyRange) (r : Result Reply Stop) (plain : IsPlain r)
+    (within : IfSome target.index (λ n. n < length (indexes target.schema.now))) where
   pub query_done : (broken : Option Broken) (mismatched : Bool) → broken ≡ bodies.query ms
       → mismatched ≡ is_mismatched ms
       → IsListedAt (paired_refusals broken mismatched querying_of.rules ms) querying
       (catalog_of tables) ms target
-      → IsAsked target.schema.now target.said.key_condition target.start (goes_forward ms) range
+      → IsAsked target.schema.now (index_at target.schema.now target.index)
+      target.said.key_condition target.start (goes_forward ms) range
       → ((s : State) (t : Table) → Stands disk tables s → map.get s.tables (table_name ms) ≡ Some t
-      → Does now s (pages t.description ms target.said
-      (items_between t range.from range.to (goes_forward ms))) r)
+      → Does now s (pages t.description (index_at t.description target.index) ms target.said
+      (items_between t (index_at t.description target.index) range.from range.to
+      (goes_forward ms))) r)
       → Carries (λ s. query s ms) (Stands disk tables) now r
   query_done broken mismatched e f is asked does = record {
     does = λ s stands.
@@ -185,7 +212,9 @@ module _ (disk : DiskState) (tables : Tables) (now : State → Type 0) (ms : Mem
         (paired_refusals broken mismatched querying_of.rules ms) ms (λ s. query s ms) querying
         (λ s. queries ms) (query_is ms broken mismatched e f) target is s stands in
         subst (λ o. Does now s o r) (sym so) (query_page disk tables s stands (table_name ms) t at
-        target.schema.now same ms target.said now r range target.start asked (does s t stands at));
+        target.schema.now same target.index
+        (within_of (catalog_of tables) (table_name ms) target.index target.schema.now is.there within)
+        ms target.said now r range target.start asked (does s t stands at));
     plain = plain;
   }
 
@@ -193,10 +222,11 @@ module _ (disk : DiskState) (tables : Tables) (now : State → Type 0) (ms : Mem
       → mismatched ≡ (is_mismatched ms || is_segment_odd ms)
       → IsListedAt (paired_refusals broken mismatched scanning_of.rules ms) scanning
       (catalog_of tables) ms target
-      → IsOfSegment target.schema.now (segment_of ms) target.start range
+      → IsOfSegment target.schema.now (index_at target.schema.now target.index) (segment_of ms)
+      target.start range
       → ((s : State) (t : Table) → Stands disk tables s → map.get s.tables (table_name ms) ≡ Some t
-      → Does now s (pages t.description ms target.said
-      (items_between t range.from range.to true)) r)
+      → Does now s (pages t.description (index_at t.description target.index) ms target.said
+      (items_between t (index_at t.description target.index) range.from range.to true)) r)
       → Carries (λ s. scan s ms) (Stands disk tables) now r
   scan_done broken mismatched e f is asked does = record {
     does = λ s stands.
@@ -204,19 +234,21 @@ module _ (disk : DiskState) (tables : Tables) (now : State → Type 0) (ms : Mem
         (paired_refusals broken mismatched scanning_of.rules ms) ms (λ s. scan s ms) scanning
         (λ s. scans ms) (scan_is ms broken mismatched e f) target is s stands in
         subst (λ o. Does now s o r) (sym so) (scan_page disk tables s stands (table_name ms) t at
-        target.schema.now same ms target.said now r range target.start asked (does s t stands at));
+        target.schema.now same target.index
+        (within_of (catalog_of tables) (table_name ms) target.index target.schema.now is.there within)
+        ms target.said now r range target.start asked (does s t stands at));
     plain = plain;
   }
 
 -- none of these is a failure of the device
-pub asks_unfailed : (P : Type 0) (d : TableSchema) (condition : Option Cond)
-    (start : Option (List Pair)) (forward : Bool) (stop : Stop)
-    → Asks d condition start forward (Err stop) → IfFailed (Err stop) P
-asks_unfailed P d condition start forward (Refused r) h = tt
-asks_unfailed P d condition start forward (Fault f) h = unfailed_fault f P h
+pub asks_unfailed : (P : Type 0) (d : TableSchema) (i : Option IndexSchema)
+    (condition : Option Cond) (start : Option (List Pair)) (forward : Bool) (stop : Stop)
+    → Asks d i condition start forward (Err stop) → IfFailed (Err stop) P
+asks_unfailed P d i condition start forward (Refused r) h = tt
+asks_unfailed P d i condition start forward (Fault f) h = unfailed_fault f P h
 
-pub segments_unfailed : (P : Type 0) (d : TableSchema) (segment : Option scanning_of.Segment)
-    (start : Option (List Pair)) (stop : Stop) → Segments d segment start (Err stop)
-    → IfFailed (Err stop) P
-segments_unfailed P d segment start (Refused r) h = tt
-segments_unfailed P d segment start (Fault f) h = unfailed_fault f P h
+pub segments_unfailed : (P : Type 0) (d : TableSchema) (i : Option IndexSchema)
+    (segment : Option scanning_of.Segment) (start : Option (List Pair)) (stop : Stop)
+    → Segments d i segment start (Err stop) → IfFailed (Err stop) P
+segments_unfailed P d i segment start (Refused r) h = tt
+segments_unfailed P d i segment start (Fault f) h = unfailed_fault f P h

@@ -9,6 +9,7 @@ use Rattle.alt_machine.specs.Walks.{items_between}
 use Rattle.alt_ops_query.specs.declared.walking.Filling.{Filling}
 use Rattle.alt_paging.specs.Offered.{WasOffered, has_ended}
 use Rattle.alt_paging.specs.declared.ask.PageAsk.{PageAsk}
+use Rattle.alt_schema.specs.declared.schema.IndexSchema.{IndexSchema}
 use Rattle.alt_value.specs.Tree.{Pair}
 
 -- these items were examined, and the last of them is at hand
@@ -30,9 +31,9 @@ pub record HasFilled (filling : Filling) (ask : PageAsk) (list : List (List Pair
   pub ends : ends_early ask.limit (pages.examined ask.limit list) ≡ ends_early ask.limit list
 
 -- A step of a walk over a list examined a front of it, and the rest of the range has the others; or all that the page examines.
-abbrev pub Steps : Table → Bool → PageAsk → List (List Pair) → Filling → List (List Pair)
+abbrev pub Steps : Table → Option IndexSchema → Bool → PageAsk → List (List Pair) → Filling → List (List Pair)
     → Option KeyRange → Type 0
-Steps t forward ask seen filling list None = HasFilled filling ask (seen ++ list)
-Steps t forward ask seen filling list (Some rest) = (front : List (List Pair))
+Steps t i forward ask seen filling list None = HasFilled filling ask (seen ++ list)
+Steps t i forward ask seen filling list (Some rest) = (front : List (List Pair))
     × HasExamined filling ask (seen ++ front)
-    × (list ≡ front ++ items_between t rest.from rest.to forward)
+    × (list ≡ front ++ items_between t i rest.from rest.to forward)

@@ -4,12 +4,14 @@ use Rattle.serde_json.specs.Data.{Members}
 use Rattle.alt_expr.specs.Pages as pages
 use Rattle.alt_expr.specs.declared.cond.Cond.{Cond}
 use Rattle.alt_expr.specs.declared.path.PathPart.{PathPart}
-use Rattle.alt_machine.specs.Lists.{selects, last_examined, page_answer}
+use Rattle.alt_machine.specs.Lists.{last_examined, page_answer}
 use Rattle.alt_machine.specs.Ops.Scan.{whole_at}
+use Rattle.alt_machine.specs.Sources.{selects}
 use Rattle.alt_ops_query.specs.Filled.{HasFilled}
 use Rattle.alt_ops_query.specs.declared.walking.Filling.{Filling}
 use Rattle.alt_paging.specs.Offered.{asked_of}
 use Rattle.alt_paging.specs.declared.ask.PageAsk.{PageAsk}
+use Rattle.alt_schema.specs.declared.schema.IndexSchema.{IndexSchema}
 use Rattle.alt_schema.specs.declared.schema.TableSchema.{TableSchema}
 use Rattle.alt_shape.specs.Refusals.{Answer}
 use Rattle.alt_value.specs.Tree.{Pair}
@@ -33,12 +35,12 @@ asked_page ms filter paths = record {
 }
 
 -- the answer with the page of a list
-abbrev pub answer_with : TableSchema → Members → PageAsk → List (List Pair) → Answer
-answer_with d ms ask list = page_answer d ms (pages.page_of (asked_of ask) list)
+abbrev pub answer_with : TableSchema → Option IndexSchema → Members → PageAsk → List (List Pair) → Answer
+answer_with d i ms ask list = page_answer d i ms (pages.page_of (asked_of ask) list)
     (last_examined (asked_of ask) list)
 
 -- What was filled is answered as the page of each list of which it is one.
-abbrev pub AnswersPage : TableSchema → Members → Filling → Answer → Type 0
-AnswersPage d ms filling answer = (ask : PageAsk) (list : List (List Pair))
+abbrev pub AnswersPage : TableSchema → Option IndexSchema → Members → Filling → Answer → Type 0
+AnswersPage d i ms filling answer = (ask : PageAsk) (list : List (List Pair))
     → HasFilled filling ask list → ask.count_only ≡ selects (codes "COUNT") ms
-    → answer ≡ answer_with d ms ask list
+    → answer ≡ answer_with d i ms ask list

@@ -3,7 +3,8 @@ use Rattle.std.specs.Prelude.{ℕ, List, [], ◌∷◌, Option, Some, None}
 use Rattle.serde_json.specs.Data.{Data, Members, put}
 use Rattle.alt_expr.specs.Pages as pages
 use Rattle.alt_paging.specs.declared.ask.Page.{Page}
-use Rattle.alt_value.specs.Item.{with_pair}
+use Rattle.alt_schema.specs.declared.schema.KeyAttr.{KeyAttr}
+use Rattle.alt_value.specs.Item.{at_name, with_pair}
 use Rattle.alt_value.specs.Tree.{Tree, Pair}
 
 -- a page of the program, as the machine has it
@@ -25,3 +26,9 @@ abbrev pub with_attribute : List ℕ → Option Tree → List Pair → List Pair
 with_attribute [] o key = key
 with_attribute name None key = key
 with_attribute (b ∷ name) (Some t) key = with_pair (b ∷ name) t key
+
+-- with those of a key
+abbrev pub with_key : KeyAttr → Option KeyAttr → List Pair → List Pair → List Pair
+with_key hash None item key = with_attribute hash.name (at_name hash.name item) key
+with_key hash (Some range) item key = with_attribute range.name (at_name range.name item)
+    (with_attribute hash.name (at_name hash.name item) key)

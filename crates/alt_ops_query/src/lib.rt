@@ -8,6 +8,7 @@ mod querying;
 mod replies;
 mod scanning;
 mod selecting;
+mod sources;
 mod walking;
 
 pub use querying::query;

@@ -1,24 +1,27 @@
-//! The page of a range of a table.
+//! The page of a range of a table, or of one of its indexes.
 
-ghost use Rattle.std.specs.Prelude.{◌≡◌, ◌<◌, true, false, Some, None, if◌then◌else◌, IfOk, IfErr, IfSome, codes};
+ghost use Rattle.std.specs.Prelude.{◌≡◌, ◌<◌, true, false, Some, None, if◌then◌else◌, IfOk, IfErr, IfSome, codes, length};
 ghost use Rattle.std.specs.FinMap as map;
 ghost use Rattle.serde_json.specs.View.{view, members_view};
 ghost use Rattle.serde_json.specs.Written.{has_float};
 ghost use Rattle.alt_base.specs.Counts.{Rose};
-ghost use Rattle.alt_machine.specs.Lists.{pages, selects};
+ghost use Rattle.alt_machine.specs.Lists.{pages};
 ghost use Rattle.alt_machine.specs.Members.{table_name};
 ghost use Rattle.alt_machine.specs.Outcomes.{says};
+ghost use Rattle.alt_machine.specs.Sources.{index_at, selects};
 ghost use Rattle.alt_machine.specs.State.{State, Table};
 ghost use Rattle.alt_machine.specs.Walks.{items_between};
 ghost use Rattle.alt_ops_query.specs.Paged.{AnswersPage, HasLimit, answer_with};
 ghost use Rattle.alt_request.specs.Carried.{Does, IsPlain, IfFailed};
 ghost use Rattle.alt_request.specs.Steps.{IsMemory};
+ghost use Rattle.alt_schema.specs.Indexes.{indexes};
 ghost use Rattle.alt_schema.specs.declared.schema.TableSchema.{TableSchema};
 ghost use Rattle.alt_shape.specs.Refusals.{answer_of};
 ghost use Rattle.alt_tables.specs.Stands.{AreReady, Reads, Stands, catalog_of};
 
 use crate::asking::page_ask;
 use crate::replies::page_reply;
+use crate::sources::index_of;
 use crate::walking::{Filling, fill};
 use alt_disk::Disk;
 use alt_keyorder::KeyRange;
@@ -32,24 +35,29 @@ use alt_value::Item;
 use serde_json::{Map, Value};
 use std::alloc::Global;
 
-/// Answers the page of the items of a range in the table that a body names.
+/// Answers the page of the items of a range in the table that a body names, or in its index of that number.
 pub(crate) fn page_of_range<D: Disk>(
     alloc: Global,
     tables: &mut Tables,
     disk: &mut D,
     body: &Map<String, Value>,
     said: Expressions,
+    index: Option<usize>,
     range: KeyRange,
     forward: bool,
 ) -> Result<Reply, Stop>
     requires ready { AreReady (D.state disk.old) tables.old }
     requires there { map.contains_key (catalog_of tables.old)
         (table_name (members_view body.now.entries)) ≡ true }
+    requires index { (d : TableSchema) → map.get (catalog_of tables.old)
+        (table_name (members_view body.now.entries)) ≡ Some d
+        → IfSome index (λ n. n < length (indexes d)) }
     requires limit { HasLimit (members_view body.now.entries) }
     ensures does { (s : State) (t : Table) → Stands (D.state disk.old) tables.old s
         → map.get s.tables (table_name (members_view body.now.entries)) ≡ Some t
         → Does (Stands (D.state disk.new) tables.new) s (pages t.description
-        (members_view body.now.entries) said (items_between t range.from range.to forward)) result }
+        (index_at t.description index) (members_view body.now.entries) said
+        (items_between t (index_at t.description index) range.from range.to forward)) result }
     ensures plain { IsPlain result }
     ensures disk { Reads (D.state disk.old) (D.state disk.new) }
     ensures failed { IfFailed result (Rose (D.state disk.old).faults (D.state disk.new).faults) }
@@ -60,7 +68,7 @@ pub(crate) fn page_of_range<D: Disk>(
         ..
     } = said;
     let ask = page_ask(body, condition, projection);
-    page_of_ask(alloc, tables, disk, body, ask, range, forward)
+    page_of_ask(alloc, tables, disk, body, ask, index, range, forward)
 }
 
 /// Answers the page that is asked for.
@@ -70,18 +78,23 @@ fn page_of_ask<D: Disk>(
     disk: &mut D,
     body: &Map<String, Value>,
     ask: PageAsk,
+    index: Option<usize>,
     range: KeyRange,
     forward: bool,
 ) -> Result<Reply, Stop>
     requires ready { AreReady (D.state disk.old) tables.old }
     requires there { map.contains_key (catalog_of tables.old)
         (table_name (members_view body.now.entries)) ≡ true }
+    requires index { (d : TableSchema) → map.get (catalog_of tables.old)
+        (table_name (members_view body.now.entries)) ≡ Some d
+        → IfSome index (λ n. n < length (indexes d)) }
     requires limit { IfSome ask.limit (λ most. 0 < most) }
     requires counts { ask.count_only ≡ selects (codes "COUNT") (members_view body.now.entries) }
     ensures does { (s : State) (t : Table) → Stands (D.state disk.old) tables.old s
         → map.get s.tables (table_name (members_view body.now.entries)) ≡ Some t
         → Does (Stands (D.state disk.new) tables.new) s (says (answer_with t.description
-        (members_view body.now.entries) ask (items_between t range.from range.to forward))) result }
+        (index_at t.description index) (members_view body.now.entries) ask
+        (items_between t (index_at t.description index) range.from range.to forward))) result }
     ensures plain { IsPlain result }
     ensures disk { Reads (D.state disk.old) (D.state disk.new) }
     ensures failed { IfFailed result (Rose (D.state disk.old).faults (D.state disk.new).faults) }
@@ -91,8 +104,17 @@ fn page_of_ask<D: Disk>(
         pager: Pager::new(alloc, ask),
         last: None,
     };
-    fill(alloc, tables, disk, name, range, forward, &mut filling)?;
-    answered(alloc, tables, body, filling)
+    fill(
+        alloc,
+        tables,
+        disk,
+        name,
+        index,
+        range,
+        forward,
+        &mut filling,
+    )?;
+    answered(alloc, tables, body, index, filling)
 }
 
 /// The reply with the page that was filled.
@@ -100,38 +122,45 @@ fn answered(
     alloc: Global,
     tables: &Tables,
     body: &Map<String, Value>,
+    index: Option<usize>,
     filling: Filling,
 ) -> Result<Reply, Stop>
     requires there { map.contains_key (catalog_of tables.now)
         (table_name (members_view body.now.entries)) ≡ true }
+    requires index { (d : TableSchema) → map.get (catalog_of tables.now)
+        (table_name (members_view body.now.entries)) ≡ Some d
+        → IfSome index (λ n. n < length (indexes d)) }
     ensures reply { IfOk result (λ reply. (d : TableSchema)
         → map.get (catalog_of tables.now) (table_name (members_view body.now.entries)) ≡ Some d
-        → AnswersPage d (members_view body.now.entries) filling (answer_of reply)) }
+        → AnswersPage d (index_at d index) (members_view body.now.entries) filling
+        (answer_of reply)) }
     ensures plain { IfOk result (λ reply. has_float (view reply.body) ≡ false) }
     ensures cause { IfErr result IsMemory }
 {
     let Some(schema) = tables.table(table_name(body)) else {
         unreachable!();
     };
-    filled_reply(alloc, schema, body, filling)
+    filled_reply(alloc, schema, index, body, filling)
 }
 
 /// The reply with the page that was filled from a table of that description.
 fn filled_reply(
     alloc: Global,
     schema: &TableSchema,
+    index: Option<usize>,
     body: &Map<String, Value>,
     filling: Filling,
 ) -> Result<Reply, Stop>
-    ensures reply { IfOk result (λ reply. AnswersPage schema.now (members_view body.now.entries)
-        filling (answer_of reply)) }
+    requires index { IfSome index (λ n. n < length (indexes schema.now)) }
+    ensures reply { IfOk result (λ reply. AnswersPage schema.now (index_at schema.now index)
+        (members_view body.now.entries) filling (answer_of reply)) }
     ensures plain { IfOk result (λ reply. has_float (view reply.body) ≡ false) }
     ensures cause { IfErr result IsMemory }
 {
     let Filling { pager, last } = filling;
     let page = pager.finish();
     let last = last_of(page.ended, last);
-    match page_reply(alloc, schema, body, &page, &last) {
+    match page_reply(alloc, schema, index_of(schema, index), body, &page, &last) {
         Ok(reply) => Ok(reply),
         Err(_) => Err(Stop::Fault(TableFault::NoMemory)),
     }

@@ -1,67 +1,150 @@
 //! Where a walk starts: the place of a start key, and the part of a range beyond it.
 
-ghost use Rattle.std.specs.Prelude.{◌≡◌, ◌++◌, true, Some, IfOk, OnOk, option_map};
+ghost use Rattle.std.specs.Prelude.{◌≡◌, ◌++◌, true, Some, None, IfOk, IfSome, OnOk, option_map};
+ghost use Rattle.std.specs.Option.{option_map_or};
 ghost use Rattle.std.specs.Int.{w64, to_be_bytes};
 ghost use Rattle.alt_keyorder.specs.KeyBytes.{IsKey, key_bytes};
+ghost use Rattle.alt_keyorder.specs.Place.{place_bytes};
 ghost use Rattle.alt_keyorder.specs.Token.{token_of};
-ghost use Rattle.alt_machine.specs.Keys.{key_count};
+ghost use Rattle.alt_machine.specs.Indexed.{values_of};
 ghost use Rattle.alt_machine.specs.Lists as machine;
 ghost use Rattle.alt_ops_query.specs.Ranges.{IsBeyond, IsLesser};
 ghost use Rattle.alt_request.specs.Steps.{Comes};
+ghost use Rattle.alt_expr.specs.Holds.{equal as same};
+ghost use Rattle.alt_value.specs.Item.{at_name};
 ghost use Rattle.alt_value.specs.Stands.{tree_of};
+ghost use Rattle.alt_views.specs.Values.{AreKeys, values_in};
 
+use crate::sources::{hash_of, is_key_there};
 use alt_base::NoMemory;
 use alt_fields::{Bytes, put_u64};
 use alt_keyorder::{KeyRange, key_part, token};
 use alt_request::Stop;
-use alt_schema::{KeyAttr, TableSchema};
+use alt_schema::{IndexSchema, KeyAttr, TableSchema};
 use alt_shape::Refusal;
 use alt_value::{Attr, Item, KeyKind, equal};
+use alt_views::{KeyValues, place_of_both};
 use std::alloc::Global;
 
-/// The place of the key to start after, if one is given. It has the key attributes of the table and no others, each of its kind, and the
-/// HASH value that is asked for, where one is.
+/// The place of the key to start after, if one is given. It has the key attributes of the table, and of the index that is read, if one is,
+/// and no others, each of its kind, and the HASH value that is asked for, where one is.
 pub(crate) fn walk_start(
     alloc: Global,
     schema: &TableSchema,
+    index: Option<&IndexSchema>,
     hash: Option<&Attr>,
     start: &Option<Item>,
 ) -> Result<Option<Bytes>, Stop>
-    ensures start { Comes (λ place. place)
-        (machine.walk_start schema.now (option_map (λ a. a.now) hash.entry) start.now) result }
+    ensures start { Comes (λ place. place) (machine.walk_start schema.now
+        (option_map (λ i. i.now) index.entry) (option_map (λ a. a.now) hash.entry) start.now)
+        result }
 {
     let Some(key) = start else {
         return Ok(None);
     };
-    let Some(place) = start_place(alloc, schema, key)? else {
+    let Some(place) = start_place(alloc, schema, index, key)? else {
         return Err(Stop::Refused(Refusal::BAD_START_KEY));
     };
-    if !has_hash(schema, hash, key) {
+    if !has_hash(hash_of(schema, index), hash, key) {
         return Err(Stop::Refused(Refusal::BAD_START_KEY));
     }
     Ok(Some(place))
 }
 
-fn has_hash(schema: &TableSchema, hash: Option<&Attr>, key: &Item) -> bool
-    ensures { result ≡ machine.has_hash schema.now (option_map (λ a. a.now) hash.entry) key.now }
+/// Whether a start key has the HASH value that is asked for, where one is.
+fn has_hash(attribute: &KeyAttr, hash: Option<&Attr>, key: &Item) -> bool
+    ensures { result ≡ option_map_or
+        (λ v. same (at_name attribute.now.name key.now) (Some (tree_of v)))
+        (option_map (λ a. a.now) hash.entry) true }
 {
     let Some(hash) = hash else {
         return true;
     };
-    match key.get(schema.hash.name.as_str()) {
+    match key.get(attribute.name.as_str()) {
         Some(value) => equal(value, hash),
         None => false,
     }
 }
 
-/// The place of a start key, `None` exactly where it isn't one of the table: the token of its HASH value, and then the parts of its
-/// HASH and RANGE values (docs/formats/key-bytes.md).
-fn start_place(alloc: Global, schema: &TableSchema, key: &Item) -> Result<Option<Bytes>, NoMemory>
-    ensures place { IfOk result (λ place. place ≡ machine.start_place schema.now key.now) }
+/// The place of a start key, `None` exactly where it isn't one of what is read.
+fn start_place(
+    alloc: Global,
+    schema: &TableSchema,
+    index: Option<&IndexSchema>,
+    key: &Item,
+) -> Result<Option<Bytes>, NoMemory>
+    ensures place { IfOk result (λ place. place ≡ machine.start_place schema.now
+        (option_map (λ i. i.now) index.entry) key.now) }
 {
-    if key.len() != key_count(schema) {
+    if !has_keys_alone(schema, index, key) {
         return Ok(None);
     }
+    match index {
+        Some(index) => place_in_index(alloc, schema, index, key),
+        None => place_in_table(alloc, schema, key),
+    }
+}
+
+/// Whether a start key has no attributes but keys.
+fn has_keys_alone(schema: &TableSchema, index: Option<&IndexSchema>, key: &Item) -> bool
+    ensures { result ≡ machine.has_keys_alone schema.now (option_map (λ i. i.now) index.entry)
+        key.now }
+{
+    for at in 0..key.len() {
+        if let Some((name, _)) = key.at(at) {
+            if !is_key_there(schema, index, name) {
+                return false;
+            }
+        }
+    }
+    true
+}
+
+/// The place of its keys in an index: the token of the index's HASH value, and then the parts of the values of both keys
+/// (docs/formats/key-bytes.md).
+fn place_in_index(
+    alloc: Global,
+    schema: &TableSchema,
+    index: &IndexSchema,
+    key: &Item,
+) -> Result<Option<Bytes>, NoMemory>
+    ensures place { IfOk result (λ place. place ≡ option_map place_bytes
+        (machine.place_there schema.now (Some index.now) key.now)) }
+{
+    let Some(own) = start_values(key, &index.hash, &index.range) else {
+        return Ok(None);
+    };
+    let Some(of_table) = start_values(key, &schema.hash, &schema.range) else {
+        return Ok(None);
+    };
+    Ok(Some(place_of_both(alloc, own, of_table)?))
+}
+
+/// The values of a key in a start key, `None` exactly where it hasn't all of it.
+fn start_values<'k>(key: &'k Item, hash: &KeyAttr, range: &Option<KeyAttr>) -> Option<KeyValues<'k>>
+    ensures values { option_map values_in result
+        ≡ values_of (machine.start_value key.now) hash.now range.now }
+    ensures keys { IfSome result AreKeys }
+{
+    let hash = start_value(key, hash)?;
+    match range {
+        Some(range) => Some(KeyValues {
+            hash,
+            range: Some(start_value(key, range)?),
+        }),
+        None => Some(KeyValues { hash, range: None }),
+    }
+}
+
+/// Its place in the table: the token of its HASH value, and then the parts of its HASH and RANGE values.
+fn place_in_table(
+    alloc: Global,
+    schema: &TableSchema,
+    key: &Item,
+) -> Result<Option<Bytes>, NoMemory>
+    ensures place { IfOk result (λ place. place ≡ option_map place_bytes
+        (machine.place_there schema.now None key.now)) }
+{
     let Some(hash) = start_value(key, &schema.hash) else {
         return Ok(None);
     };
@@ -74,15 +157,6 @@ fn start_place(alloc: Global, schema: &TableSchema, key: &Item) -> Result<Option
         key_part(range, &mut out)?;
     }
     Ok(Some(Bytes::from_vec(out)))
-}
-
-fn key_count(schema: &TableSchema) -> usize
-    ensures { result ≡ key_count schema.now }
-{
-    match &schema.range {
-        Some(_) => 2,
-        None => 1,
-    }
 }
 
 /// Appends the token and the part of a HASH value.

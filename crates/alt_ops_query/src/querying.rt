@@ -1,6 +1,6 @@
 //! Query.
 
-ghost use Rattle.std.specs.Prelude.{◌≡◌, List, IfOk, option_map};
+ghost use Rattle.std.specs.Prelude.{◌≡◌, ◌<◌, List, IfOk, IfSome, length, option_map};
 ghost use Rattle.serde_json.specs.View.{members_view};
 ghost use Rattle.alt_expr.specs.KeyForm.{meets};
 ghost use Rattle.alt_expr.specs.Pages.{passes};
@@ -8,6 +8,8 @@ ghost use Rattle.alt_keycond.specs.Asked.{asks};
 ghost use Rattle.alt_keycond.specs.KeysAsked.{AsksKeys};
 ghost use Rattle.alt_keyorder.specs.KeyBytes.{IsKey};
 ghost use Rattle.alt_machine.specs.Ops.Query.{query, goes_forward, key_asked, key_of as machine_key};
+ghost use Rattle.alt_machine.specs.Sources.{index_at, hash_of, range_of};
+ghost use Rattle.alt_schema.specs.Indexes.{indexes};
 ghost use Rattle.alt_ops_query.specs.Asked.{AreHeld, Asks, Places};
 ghost use Rattle.alt_request.specs.Carried.{Carries, Moves};
 ghost use Rattle.alt_request.specs.Steps.{Comes};
@@ -20,12 +22,13 @@ ghost use Rattle.alt_value.specs.Values.{IsValue};
 use crate::pages::page_of_range;
 use crate::places::{beyond, walk_start};
 use crate::selecting::is_mismatched;
+use crate::sources::{hash_of, index_of, range_of};
 use alt_disk::Disk;
 use alt_expr::Cond;
 use alt_keycond::{KeyAsk, KeyCondFault, RangeAsk, key_ask, key_range};
 use alt_keyorder::KeyRange;
 use alt_request::{ListTarget, Rules, Stop, Texts, list_target};
-use alt_schema::{KeyAttr, TableSchema};
+use alt_schema::{IndexSchema, TableSchema};
 use alt_shape::{Refusal, Reply, bodies, truth_at};
 use alt_tables::{TableFault, Tables};
 use alt_value::{Item, held};
@@ -39,11 +42,12 @@ static RULES: Rules = Rules {
         "ConditionalOperator",
         "AttributesToGet",
     ],
-    unbuilt: &["IndexName"],
+    unbuilt: &[],
     named: &["TableName", "IndexName"],
 };
 
-/// Answers a page of the items of one HASH value, by their RANGE values (API Reference, "Query"). The refusals are those of docs/API.md.
+/// Answers a page of the items of one HASH value, by their RANGE values, in a table or in one of its indexes (API Reference, "Query"). The
+/// refusals are those of docs/API.md.
 pub fn query<D: Disk>(
     alloc: Global,
     tables: &mut Tables,
@@ -71,12 +75,13 @@ pub fn query<D: Disk>(
     )?;
     let ListTarget {
         schema,
+        index,
         start,
         said,
     } = target;
     let forward = goes_forward(body);
-    match asked_range(alloc, schema, &said.key_condition, &start, forward) {
-        Ok(range) => page_of_range(alloc, tables, disk, body, said, range, forward),
+    match asked_range(alloc, schema, index, &said.key_condition, &start, forward) {
+        Ok(range) => page_of_range(alloc, tables, disk, body, said, index, range, forward),
         Err(stop) => {
             drop(said);
             Err(stop)
@@ -91,18 +96,23 @@ fn goes_forward(body: &Map<String, Value>) -> bool
     truth_at(body, "ScanIndexForward").unwrap_or(true)
 }
 
-/// The places of the items of which a key condition holds, beyond the start key, if one is given.
+/// The places of the items of which a key condition holds, in the table or in its index of that number, beyond the start key, if one is
+/// given.
 fn asked_range(
     alloc: Global,
     schema: &TableSchema,
+    number: Option<usize>,
     condition: &Option<Cond>,
     start: &Option<Item>,
     forward: bool,
 ) -> Result<KeyRange, Stop>
-    ensures asks { Asks schema.now condition.now start.now forward result }
+    requires index { IfSome number (λ n. n < length (indexes schema.now)) }
+    ensures asks { Asks schema.now (index_at schema.now number) condition.now start.now forward
+        result }
 {
-    match key_asked(schema, condition) {
-        Ok(ask) => range_of_ask(alloc, schema, &ask, start, forward),
+    let index = index_of(schema, number);
+    match key_asked(schema, index, condition) {
+        Ok(ask) => range_of_ask(alloc, schema, index, &ask, start, forward),
         Err(stop) => Err(stop),
     }
 }
@@ -111,48 +121,46 @@ fn asked_range(
 fn range_of_ask(
     alloc: Global,
     schema: &TableSchema,
+    index: Option<&IndexSchema>,
     ask: &KeyAsk,
     start: &Option<Item>,
     forward: bool,
 ) -> Result<KeyRange, Stop>
     requires hash { IsKey (tree_of ask.now.hash) }
     requires range { AsksKeys ask.now.range }
-    ensures places { Places schema.now ask.now start.now forward result }
+    ensures places { Places schema.now (option_map (λ i. i.now) index.entry) ask.now start.now
+        forward result }
     ensures hash { IsValue (tree_of ask.now.hash) }
     ensures held { AreHeld ask.now.range }
 {
     held(&ask.hash);
     range_held(&ask.range);
-    let place = walk_start(alloc, schema, Some(&ask.hash), start)?;
+    let place = walk_start(alloc, schema, index, Some(&ask.hash), start)?;
     let range = key_range(alloc, ask)?;
     Ok(beyond(alloc, range, place, forward)?)
 }
 
 /// What a key condition asks, where it has the form of one.
-fn key_asked(schema: &TableSchema, condition: &Option<Cond>) -> Result<KeyAsk, Stop>
-    ensures asked { Comes asks (key_asked schema.now condition.now) result }
-    ensures holds { IfOk result (λ ask. (item : List Pair) → passes condition.now item
-        ≡ meets (machine_key schema.now.hash) (option_map machine_key schema.now.range) (asks ask)
-        (λ name. at_name name item)) }
+fn key_asked(
+    schema: &TableSchema,
+    index: Option<&IndexSchema>,
+    condition: &Option<Cond>,
+) -> Result<KeyAsk, Stop>
+    ensures asked { Comes asks
+        (key_asked schema.now (option_map (λ i. i.now) index.entry) condition.now) result }
+    ensures holds { IfOk result (λ ask. (item : List Pair) → passes condition.now item ≡ meets
+        (machine_key (hash_of schema.now (option_map (λ i. i.now) index.entry)))
+        (option_map machine_key (range_of schema.now (option_map (λ i. i.now) index.entry)))
+        (asks ask) (λ name. at_name name item)) }
     ensures keys { IfOk result (λ ask. IsKey (tree_of ask.hash) × AsksKeys ask.range) }
 {
     let Some(condition) = condition else {
         return Err(Stop::Refused(Refusal::BAD_KEY_CONDITION));
     };
-    match key_ask(condition, &schema.hash, range_key(schema)) {
+    match key_ask(condition, hash_of(schema, index), range_of(schema, index)) {
         Ok(ask) => Ok(ask),
         Err(KeyCondFault::NotKey) => Err(Stop::Refused(Refusal::BAD_KEY_CONDITION)),
         Err(KeyCondFault::NoMemory) => Err(Stop::Fault(TableFault::NoMemory)),
-    }
-}
-
-/// The RANGE key, if the table has one.
-fn range_key(schema: &TableSchema) -> Option<&KeyAttr>
-    ensures { option_map (λ r. r.now) result ≡ schema.now.range }
-{
-    match &schema.range {
-        Some(range) => Some(range),
-        None => None,
     }
 }
 

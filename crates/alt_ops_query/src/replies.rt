@@ -4,7 +4,7 @@ ghost use Rattle.std.specs.Prelude.{◌≡◌, IfOk, OnOk, codes, option_map};
 ghost use Rattle.serde_json.specs.View.{items_view, members_view};
 ghost use Rattle.alt_codec.specs.Writing.{json_of_pairs};
 ghost use Rattle.alt_machine.specs.Lists as machine;
-ghost use Rattle.alt_ops_query.specs.Replied.{page_of, put_if, with_attribute};
+ghost use Rattle.alt_ops_query.specs.Replied.{page_of, put_if, with_attribute, with_key};
 ghost use Rattle.alt_shape.specs.Refusals.{answer_of};
 ghost use Rattle.alt_value.specs.Item.{at_name};
 
@@ -12,7 +12,7 @@ use crate::selecting::selects;
 use alt_base::NoMemory;
 use alt_codec::json_of_item;
 use alt_paging::Page;
-use alt_schema::{KeyAttr, TableSchema};
+use alt_schema::{IndexSchema, KeyAttr, TableSchema};
 use alt_shape::Reply;
 use alt_value::{Item, copy};
 use serde_json::{Map, Value};
@@ -22,17 +22,19 @@ use std::alloc::Global;
 pub(crate) fn page_reply(
     alloc: Global,
     schema: &TableSchema,
+    index: Option<&IndexSchema>,
     body: &Map<String, Value>,
     page: &Page,
     last: &Option<Item>,
 ) -> Result<Reply, NoMemory>
     ensures reply { IfOk result (λ reply. answer_of reply ≡ machine.page_answer schema.now
-        (members_view body.now.entries) (page_of page.now) last.now) }
+        (option_map (λ i. i.now) index.entry) (members_view body.now.entries) (page_of page.now)
+        last.now) }
 {
     let mut members = Map::new(alloc);
     serde_json::put(&mut members, alloc, "Count", Value::from(page.count))?;
     put_items(alloc, &mut members, body, page.items.as_slice())?;
-    put_last(alloc, &mut members, schema, last)?;
+    put_last(alloc, &mut members, schema, index, last)?;
     serde_json::put(
         &mut members,
         alloc,
@@ -66,16 +68,18 @@ fn put_last(
     alloc: Global,
     members: &mut Map<String, Value>,
     schema: &TableSchema,
+    index: Option<&IndexSchema>,
     last: &Option<Item>,
 ) -> Result<(), NoMemory>
     ensures put { OnOk result (members_view members.new.entries ≡ put_if (codes "LastEvaluatedKey")
-        (option_map (λ i. json_of_pairs (machine.key_attributes schema.now i)) last.now)
+        (option_map (λ i. json_of_pairs (machine.key_attributes schema.now
+        (option_map (λ x. x.now) index.entry) i)) last.now)
         (members_view members.old.entries)) }
 {
     let Some(item) = last else {
         return Ok(());
     };
-    let key = key_attributes(alloc, schema, item)?;
+    let key = key_attributes(alloc, schema, index, item)?;
     let key = json_of_item(alloc, &key)?;
     serde_json::put(members, alloc, "LastEvaluatedKey", key)?;
     Ok(())
@@ -92,17 +96,39 @@ fn json_of_items(alloc: Global, items: &[Item]) -> Result<Vec<Value>, NoMemory>
     Ok(values)
 }
 
-/// The key attributes of an item.
-fn key_attributes(alloc: Global, schema: &TableSchema, item: &Item) -> Result<Item, NoMemory>
-    ensures key { IfOk result (λ key. key ≡ machine.key_attributes schema.now item.now) }
+/// The key attributes of an item, in an index those of both keys.
+fn key_attributes(
+    alloc: Global,
+    schema: &TableSchema,
+    index: Option<&IndexSchema>,
+    item: &Item,
+) -> Result<Item, NoMemory>
+    ensures key { IfOk result (λ key. key ≡ machine.key_attributes schema.now
+        (option_map (λ i. i.now) index.entry) item.now) }
 {
     let _count = item.len();
     let mut key = Item::new(alloc);
-    put_attribute(&mut key, &schema.hash, item)?;
-    if let Some(range) = &schema.range {
-        put_attribute(&mut key, range, item)?;
+    put_key(&mut key, &schema.hash, &schema.range, item)?;
+    if let Some(index) = index {
+        put_key(&mut key, &index.hash, &index.range, item)?;
     }
     Ok(key)
+}
+
+/// Puts the attributes of a key of an item into its key.
+fn put_key(
+    key: &mut Item,
+    hash: &KeyAttr,
+    range: &Option<KeyAttr>,
+    item: &Item,
+) -> Result<(), NoMemory>
+    ensures put { OnOk result (key.new ≡ with_key hash.now range.now item.now key.old) }
+{
+    put_attribute(key, hash, item)?;
+    if let Some(range) = range {
+        put_attribute(key, range, item)?;
+    }
+    Ok(())
 }
 
 /// Puts a key attribute of an item into its key, where the item has it.

@@ -1,10 +1,12 @@
 //! Scan.
 
-ghost use Rattle.std.specs.Prelude.{◌≡◌, ◌||◌, ◌+◌, ◌^◌, ◌<◌, ◌≤◌, [], false, None, IfOk, IfSome, option_map};
+ghost use Rattle.std.specs.Prelude.{◌≡◌, ◌||◌, ◌+◌, ◌^◌, ◌<◌, ◌≤◌, [], false, None, IfOk, IfSome, option_map, length};
 ghost use Rattle.serde_json.specs.View.{members_view};
 ghost use Rattle.alt_machine.specs.Lists.{is_mismatched};
 ghost use Rattle.alt_machine.specs.Ops.Scan as machine;
 ghost use Rattle.alt_machine.specs.Ops.Scan.{scan, is_segment_odd};
+ghost use Rattle.alt_machine.specs.Sources.{index_at};
+ghost use Rattle.alt_schema.specs.Indexes.{indexes};
 ghost use Rattle.alt_ops_query.specs.Asked.{Segments};
 ghost use Rattle.alt_ops_query.specs.Tokens.{segment_in, first_token, token_bytes, end_token};
 ghost use Rattle.alt_request.specs.Carried.{Carries, Moves};
@@ -13,6 +15,7 @@ ghost use Rattle.alt_tables.specs.Stands.{AreReady, Stands};
 use crate::pages::page_of_range;
 use crate::places::{beyond, walk_start};
 use crate::selecting::is_mismatched;
+use crate::sources::index_of;
 use alt_base::NoMemory;
 use alt_disk::Disk;
 use alt_fields::Bytes;
@@ -27,7 +30,7 @@ use std::alloc::Global;
 
 static RULES: Rules = Rules {
     legacy: &["ScanFilter", "ConditionalOperator", "AttributesToGet"],
-    unbuilt: &["IndexName"],
+    unbuilt: &[],
     named: &["TableName", "IndexName"],
 };
 
@@ -41,8 +44,8 @@ struct Segment {
     total: u64,
 }
 
-/// Answers a page of all items of a table, or of one segment of them, in the order of their places (API Reference, "Scan"). The
-/// refusals are those of docs/API.md.
+/// Answers a page of all items of a table or of one of its indexes, or of one segment of them, in the order of their places (API
+/// Reference, "Scan"). The refusals are those of docs/API.md.
 pub fn scan<D: Disk>(
     alloc: Global,
     tables: &mut Tables,
@@ -70,12 +73,13 @@ pub fn scan<D: Disk>(
     )?;
     let ListTarget {
         schema,
+        index,
         start,
         said,
     } = target;
     let segment = segment_of(body);
-    match segment_range(alloc, schema, segment, &start) {
-        Ok(range) => page_of_range(alloc, tables, disk, body, said, range, true),
+    match segment_range(alloc, schema, index, segment, &start) {
+        Ok(range) => page_of_range(alloc, tables, disk, body, said, index, range, true),
         Err(stop) => {
             drop(said);
             Err(stop)
@@ -114,17 +118,21 @@ fn segment_of(body: &Map<String, Value>) -> Option<Segment>
     }
 }
 
-/// The places of the items of a segment, or of all items, beyond the start key, if one is given.
+/// The places of the items of a segment, or of all items, in the table or in its index of that number, beyond the start key, if one is
+/// given.
 fn segment_range(
     alloc: Global,
     schema: &TableSchema,
+    number: Option<usize>,
     segment: Option<Segment>,
     start: &Option<Item>,
 ) -> Result<KeyRange, Stop>
     requires below { IfSome segment (λ s. s.number < s.total) }
-    ensures segments { Segments schema.now (option_map segment_in segment) start.now result }
+    requires index { IfSome number (λ n. n < length (indexes schema.now)) }
+    ensures segments { Segments schema.now (index_at schema.now number)
+        (option_map segment_in segment) start.now result }
 {
-    let place = walk_start(alloc, schema, None, start)?;
+    let place = walk_start(alloc, schema, index_of(schema, number), None, start)?;
     let range = match segment {
         Some(segment) => tokens_of(alloc, segment)?,
         None => whole_range(alloc),
@@ -162,8 +170,8 @@ fn tokens_of(alloc: Global, segment: Segment) -> Result<KeyRange, NoMemory>
     })
 }
 
-/// The least number that, times `total` and divided by 2^64, is at least `number`: the first token of a segment. That of the segment behind the
-/// last is 2^64.
+/// The least number that, times `total` and divided by 2^64, is at least `number`: the first token of a segment. That of the segment
+/// behind the last is 2^64.
 fn first_token(number: u64, total: u64) -> u128
     requires below { number ≤ total }
     requires some { 0 < total }

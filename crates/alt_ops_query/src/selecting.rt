@@ -3,6 +3,7 @@
 ghost use Rattle.std.specs.Prelude.{◌≡◌, codes};
 ghost use Rattle.serde_json.specs.View.{members_view};
 ghost use Rattle.alt_machine.specs.Lists as machine;
+ghost use Rattle.alt_machine.specs.Sources.{selects};
 
 use alt_request::asks;
 use alt_shape::given;
@@ -40,7 +41,7 @@ fn is_given(body: &Map<String, Value>, name: &str) -> bool
 
 /// Whether Select is that word.
 pub(crate) fn selects(body: &Map<String, Value>, word: &str) -> bool
-    ensures { result ≡ machine.selects word.now (members_view body.now.entries) }
+    ensures { result ≡ selects word.now (members_view body.now.entries) }
 {
     asks(body, "Select", word)
 }

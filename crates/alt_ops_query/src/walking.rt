@@ -1,22 +1,25 @@
-//! A walk over the items of a table that ends with a page.
+//! A walk over the items of a table, or of one of its indexes, that ends with a page.
 
-ghost use Rattle.std.specs.Prelude.{◌≡◌, ◌≢◌, ◌↔◌, ◌++◌, ◌∷◌, [], ℕ, not, true, false, List, Some, None, All, IfOk, IfErr, IfSome, OnOk, option_and_then};
+ghost use Rattle.std.specs.Prelude.{◌≡◌, ◌≢◌, ◌↔◌, ◌++◌, ◌∷◌, [], ℕ, not, true, false, List, Some, None, All, IfOk, IfErr, IfSome, OnOk, length, option_and_then, option_map, ◌<◌};
 ghost use Rattle.std.specs.FinMap as map;
 ghost use Rattle.alt_base.specs.Counts.{Rose};
 ghost use Rattle.alt_expr.specs.Pages.{ends_early};
-ghost use Rattle.alt_machine.specs.Keys.{place_of};
+ghost use Rattle.alt_machine.specs.Sources.{index_at};
 ghost use Rattle.alt_machine.specs.State.{State, Table};
 ghost use Rattle.alt_machine.specs.Walks.{items_between};
 ghost use Rattle.alt_ops_query.specs.Filled.{HasExamined, HasFilled, Examines, Steps};
-ghost use Rattle.alt_ops_query.specs.Ranges.{IsBeyond};
+ghost use Rattle.alt_ops_query.specs.Ranges.{IsBeyond, place_in};
 ghost use Rattle.alt_ops_query.specs.Stops.{IsFault, IsUnfailed, IfErrFailed};
 ghost use Rattle.alt_paging.specs.Offered.{has_ended};
 ghost use Rattle.alt_paging.specs.declared.ask.PageAsk.{PageAsk};
 ghost use Rattle.alt_request.specs.Steps.{IsMemory};
+ghost use Rattle.alt_schema.specs.Indexes.{indexes};
+ghost use Rattle.alt_schema.specs.declared.schema.TableSchema.{TableSchema};
 ghost use Rattle.alt_tables.specs.Stands.{AreReady, Reads, Stands, KeepsCatalog, catalog_of};
 ghost use Rattle.alt_value.specs.Tree.{Pair};
 
 use crate::places::beyond;
+use crate::sources::index_of;
 use alt_base::NoMemory;
 use alt_disk::Disk;
 use alt_fields::Bytes;
@@ -24,9 +27,10 @@ use alt_keyorder::KeyRange;
 use alt_machine::LARGEST_ITEM;
 use alt_paging::Pager;
 use alt_request::Stop;
-use alt_schema::TableSchema;
-use alt_tables::{TableFault, Tables, place_of};
+use alt_schema::{IndexSchema, TableSchema};
+use alt_tables::{TableFault, Tables};
 use alt_value::Item;
+use alt_views::{index_place, place_of};
 use std::alloc::Global;
 
 /// A page that is being filled, and the last item that was examined for it.
@@ -36,23 +40,27 @@ pub(crate) struct Filling {
     pub(crate) last: Option<Item>,
 }
 
-/// Examines the items of a table in a range, from its front on or from its end down, until the page ends or the range does. It asks for
-/// no more items than are certain to be examined, so it never goes past the last of them.
+/// Examines the items of a table, or of its index of that number, in a range, from its front on or from its end down, until the page ends
+/// or the range does. It asks for no more items than are certain to be examined, so it never goes past the last of them.
 pub(crate) fn fill<D: Disk>(
     alloc: Global,
     tables: &mut Tables,
     disk: &mut D,
     table: &str,
+    index: Option<usize>,
     range: KeyRange,
     forward: bool,
     filling: &mut Filling,
 ) -> Result<(), Stop>
     requires ready { AreReady (D.state disk.old) tables.old }
     requires there { map.contains_key (catalog_of tables.old) table.now ≡ true }
+    requires index { (d : TableSchema) → map.get (catalog_of tables.old) table.now ≡ Some d
+        → IfSome index (λ n. n < length (indexes d)) }
     requires going { has_ended filling.old.pager ≡ false }
     ensures filled { (s : State) (t : Table) (ask : PageAsk) → Stands (D.state disk.old) tables.old s
         → map.get s.tables table.now ≡ Some t → HasExamined filling.old ask []
-        → OnOk result (HasFilled filling.new ask (items_between t range.from range.to forward)) }
+        → OnOk result (HasFilled filling.new ask
+        (items_between t (index_at t.description index) range.from range.to forward)) }
     ensures stays { (s : State) → Stands (D.state disk.old) tables.old s ↔ Stands
         (D.state disk.new) tables.new s }
     ensures catalog { KeepsCatalog tables.old tables.new }
@@ -64,7 +72,7 @@ pub(crate) fn fill<D: Disk>(
 {
     let mut range = range;
     'steps: for _ in 0..u64::MAX {
-        match step(alloc, tables, disk, table, range, forward, filling) {
+        match step(alloc, tables, disk, table, index, range, forward, filling) {
             Ok(Some(rest)) => range = rest,
             Ok(None) => return Ok(()),
             Err(stop) => return Err(stop),
@@ -79,17 +87,21 @@ fn step<D: Disk>(
     tables: &mut Tables,
     disk: &mut D,
     table: &str,
+    index: Option<usize>,
     range: KeyRange,
     forward: bool,
     filling: &mut Filling,
 ) -> Result<Option<KeyRange>, Stop>
     requires ready { AreReady (D.state disk.old) tables.old }
     requires there { map.contains_key (catalog_of tables.old) table.now ≡ true }
+    requires index { (d : TableSchema) → map.get (catalog_of tables.old) table.now ≡ Some d
+        → IfSome index (λ n. n < length (indexes d)) }
     requires going { has_ended filling.old.pager ≡ false }
     ensures steps { (s : State) (t : Table) (ask : PageAsk) (seen : List (List Pair))
         → Stands (D.state disk.old) tables.old s → map.get s.tables table.now ≡ Some t
         → HasExamined filling.old ask seen → IfOk result
-        (Steps t forward ask seen filling.new (items_between t range.from range.to forward)) }
+        (Steps t (index_at t.description index) forward ask seen filling.new
+        (items_between t (index_at t.description index) range.from range.to forward)) }
     ensures going { IfOk result (λ rest. IfSome rest
         (λ r. has_ended filling.new.pager ≡ false)) }
     ensures stays { (s : State) → Stands (D.state disk.old) tables.old s ↔ Stands
@@ -103,7 +115,7 @@ fn step<D: Disk>(
 {
     let most = filling.pager.certain(LARGEST_ITEM);
     let mut items = Vec::new(alloc);
-    tables.rows(disk, table, None, &range, forward, most, &mut items)?;
+    tables.rows(disk, table, index, &range, forward, most, &mut items)?;
     let got = items.len();
     let more = examine(filling, items)?;
     if !more || got < most as usize {
@@ -112,7 +124,14 @@ fn step<D: Disk>(
     let Some(schema) = tables.table(table) else {
         unreachable!();
     };
-    match rest_of(alloc, schema, range, forward, &filling.last) {
+    match rest_of(
+        alloc,
+        schema,
+        index_of(schema, index),
+        range,
+        forward,
+        &filling.last,
+    ) {
         Ok(rest) => Ok(Some(rest)),
         Err(stop) => Err(stop),
     }
@@ -162,19 +181,21 @@ fn offered(filling: &mut Filling, item: Item) -> Result<bool, Stop>
 fn rest_of(
     alloc: Global,
     schema: &TableSchema,
+    index: Option<&IndexSchema>,
     range: KeyRange,
     forward: bool,
     last: &Option<Item>,
 ) -> Result<KeyRange, Stop>
     ensures rest { IfOk result (λ r. (item : List Pair) (place : List ℕ) → last.now ≡ Some item
-        → place_of schema.now item ≡ Some place
+        → place_in schema.now (option_map (λ i. i.now) index.entry) item ≡ Some place
         → IsBeyond forward (Some place) range.from range.to r.from r.to) }
     ensures fault { (item : List Pair) (place : List ℕ) → last.now ≡ Some item
-        → place_of schema.now item ≡ Some place → IfErr result IsMemory }
+        → place_in schema.now (option_map (λ i. i.now) index.entry) item ≡ Some place
+        → IfErr result IsMemory }
     ensures unfailed { IfErr result IsUnfailed }
 {
     let family = schema.family;
-    match last_place(alloc, schema, last)? {
+    match last_place(alloc, schema, index, last)? {
         Some(place) => Ok(beyond(alloc, range, Some(place), forward)?),
         None => Err(Stop::Fault(TableFault::BadRow {
             family,
@@ -187,12 +208,17 @@ fn rest_of(
 fn last_place(
     alloc: Global,
     schema: &TableSchema,
+    index: Option<&IndexSchema>,
     last: &Option<Item>,
 ) -> Result<Option<Bytes>, NoMemory>
-    ensures place { IfOk result (λ place. place ≡ option_and_then (place_of schema.now) last.now) }
+    ensures place { IfOk result (λ place. place ≡ option_and_then
+        (place_in schema.now (option_map (λ i. i.now) index.entry)) last.now) }
 {
-    match last {
-        Some(item) => place_of(alloc, schema, item),
-        None => Ok(None),
+    let Some(item) = last else {
+        return Ok(None);
+    };
+    match index {
+        Some(index) => index_place(alloc, schema, index, item),
+        None => place_of(alloc, schema, item),
     }
 }

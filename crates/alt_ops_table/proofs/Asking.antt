@@ -1,15 +1,13 @@
 -- The refusals of a CreateTable, step by step, and what it comes to.
-use Rattle.std.proofs.Common.{◌≡◌, refl, sym, ap, subst, ◌∙◌, ℕ, zero, suc, ◌+◌, ◌<◌, ◌≤◌, take, Err, Bool, true, false, cond, not, nat_le, List, [], ◌∷◌, length, Option, Some, None, option_map, is_some, arith}
-use Rattle.std.specs.Prelude.{◌==◌, IsSome}
-use Rattle.std.proofs.lemmas.Bool.{eqb-true, le-leb}
+use Rattle.std.proofs.Common.{◌≡◌, refl, sym, ap, subst, ◌∙◌, ℕ, zero, suc, ◌+◌, ◌<◌, ◌≤◌, take, Err, Bool, true, false, cond, not, nat_le, [], ◌∷◌, Option, Some, None, option_map, is_some, arith}
+use Rattle.std.specs.Prelude.{IsSome}
+use Rattle.std.proofs.lemmas.Bool.{le-leb}
 use Rattle.std.specs.FinMap as map
 use Rattle.serde_json.specs.Data.{Members}
-use Rattle.serde_json.specs.View.{items_view}
-use Rattle.serde_json.specs.declared.value.Value.{Value}
 use Rattle.alt_disk.specs.Disk.{DiskState}
 use Rattle.alt_machine.specs.declared.TheConstants.{MOST_TABLES, MOST_FAMILIES, FAMILIES_END}
 use Rattle.alt_machine.specs.Members.{table_name}
-use Rattle.alt_machine.specs.Ops.CreateTable.{some_items, of_body, of_tables, creates, create_table}
+use Rattle.alt_machine.specs.Ops.CreateTable.{of_body, of_tables, creates, create_table}
 use Rattle.alt_machine.specs.Outcomes.{Outcome, refuses, unless_refused, a_table, state_after}
 use Rattle.alt_machine.specs.Refusals.{first_answer, refuse_if, refuse_by}
 use Rattle.alt_machine.specs.State.{State, Texts, descriptions}
@@ -39,12 +37,6 @@ use Rattle.alt_schema.specs.declared.schema.TableSchema.{TableSchema}
 use Rattle.alt_shape.specs.Refusals.{refused, table_exists, too_many_tables, IsKnown}
 use Rattle.alt_shape.specs.declared.refusal.Refusal.{Refusal}
 use Rattle.alt_shape.specs.declared.refusal.Refusal.TheVariants.{Invalid}
-
-pub some-items : (vs : List Value) (n : ℕ) (b : Bool) → b ≡ (n == 0) → n ≡ length vs
-    → not b ≡ some_items (items_view vs)
-some-items [] n b e l = rw (e, l) refl
-some-items (v ∷ vs) n true e l = absurd (omega (arith, eqb-true n 0 (sym e)))
-some-items (v ∷ vs) n false e l = refl
 
 -- ---- the refusals of a body for its names, keys or indexes
 

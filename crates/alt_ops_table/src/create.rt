@@ -1,8 +1,8 @@
 //! CreateTable.
 
-ghost use Rattle.std.specs.Prelude.{◌≡◌, ◌+◌, ◌<◌, ◌≤◌, IfOk, false, unwrap_or};
-ghost use Rattle.serde_json.specs.View.{members_view, items_view};
-ghost use Rattle.alt_machine.specs.Ops.CreateTable.{enables, shows, mismatched, of_stream, some_items, lists_any, is_unbuilt, of_body, create_table};
+ghost use Rattle.std.specs.Prelude.{◌≡◌, ◌+◌, ◌<◌, ◌≤◌, IfOk};
+ghost use Rattle.serde_json.specs.View.{members_view};
+ghost use Rattle.alt_machine.specs.Ops.CreateTable.{shows, mismatched, of_stream, is_unbuilt, of_body, create_table};
 ghost use Rattle.alt_ops_table.specs.Asked.{IsAsked};
 ghost use Rattle.alt_request.specs.Carried.{Carries, Moves};
 ghost use Rattle.alt_request.specs.Steps.{Tested};
@@ -14,7 +14,7 @@ use alt_disk::Disk;
 use alt_machine::{FAMILIES_END, MOST_FAMILIES, MOST_TABLES};
 use alt_request::Stop;
 use alt_schema::{SchemaFault, TableSchema, schema_of_json};
-use alt_shape::{Refusal, Reply, array_at, bodies, given, object_at, truth_at};
+use alt_shape::{Refusal, Reply, bodies, given, object_at, truth_at};
 use alt_tables::{TableFault, Tables};
 use serde_json::{Map, Value};
 use std::alloc::Global;
@@ -119,33 +119,9 @@ fn shows(specification: &Map<String, Value>) -> bool
     given(specification, "StreamViewType").is_some()
 }
 
-/// Whether an index or a stream is asked for. They aren't built yet.
+/// Whether a stream is asked for. It isn't built yet.
 fn is_unbuilt(body: &Map<String, Value>) -> bool
     ensures { result ≡ is_unbuilt (members_view body.now.entries) }
-{
-    lists_any(body, "LocalSecondaryIndexes")
-        || lists_any(body, "GlobalSecondaryIndexes")
-        || enables_stream(body)
-}
-
-fn lists_any(body: &Map<String, Value>, name: &str) -> bool
-    ensures { result ≡ lists_any name.now (members_view body.now.entries) }
-{
-    match array_at(body, name) {
-        Some(items) => has_some(items),
-        None => false,
-    }
-}
-
-fn has_some(items: &Vec<Value>) -> bool
-    ensures { result ≡ some_items (items_view items.now.items) }
-{
-    !items.is_empty()
-}
-
-fn enables_stream(body: &Map<String, Value>) -> bool
-    ensures { result ≡ of_stream (λ specification. unwrap_or (enables specification) false)
-        (members_view body.now.entries) }
 {
     match object_at(body, "StreamSpecification") {
         Some(specification) => truth_at(specification, "StreamEnabled").unwrap_or(false),

@@ -1,5 +1,5 @@
 -- Whether a list is reached, which the machine stops at the same step, and what is done there.
-use Rattle.std.proofs.Common.{◌≡◌, sym, ap, subst, ◌∙◌, List, Option, Some, None, Result, Ok, Err, Bor}
+use Rattle.std.proofs.Common.{ℕ, ◌≡◌, sym, ap, subst, ◌∙◌, List, Option, Some, None, Result, Ok, Err, Bor}
 use Rattle.std.specs.Result.{IsErr, IsErrAnd}
 use Rattle.std.specs.FinMap as map
 use Rattle.serde_json.specs.Data.{Members}
@@ -11,8 +11,9 @@ use Rattle.alt_machine.specs.Lists.{start_at, on_list, IsListed}
 use Rattle.alt_machine.specs.Members.{table_name}
 use Rattle.alt_machine.specs.Outcomes.{Outcome}
 use Rattle.alt_machine.specs.Refusals.{first_answer, or_refused}
+use Rattle.alt_machine.specs.Sources.{index_asked}
 use Rattle.alt_machine.specs.State.{State, Table, Texts}
-use Rattle.alt_machine.proofs.Lists.{list-refused, list-no_words, list-no_start, list-no_table, list-unsaid, list-target}
+use Rattle.alt_machine.proofs.Lists.{list-refused, list-no_words, list-no_start, list-no_table, list-no_index, list-unsaid, list-target}
 use Rattle.alt_request.specs.Carried.{Carries, IfFailed}
 use Rattle.alt_request.specs.Steps.{Comes, Tested}
 use Rattle.alt_request.specs.Targets.{OnList, IsListedAt}
@@ -78,20 +79,35 @@ module _ (tests : List (Option Answer)) (texts : machine.Texts) (catalog : Texts
       )
       list_no_table (Fault f) h = h
 
-      pub list_unsaid : (d : TableSchema)
+      pub list_no_index : (d : TableSchema)
           → or_refused not_found (map.get catalog (table_name ms)) ≡ Ok d → (e : Stop)
-          → Comes {X = Expressions} (λ x. x) (machine.expressions texts d ms g) (Err e)
+          → Comes {X = Option ℕ} (λ number. number) (index_asked d ms) (Err e)
           → OnList tests texts catalog ms (Err e)
-      list_unsaid d there (Refused q) h = (
+      list_no_index d there (Refused q) h = (
         h.1,
         λ s go same.
             let found = table_found s catalog same (table_name ms) d
             (some_found not_found (map.get catalog (table_name ms)) d there) in
-            list-unsaid tests texts s ms go free g words start read found.0 found.1
-            (refused q)
+            list-no_index tests texts s ms go free g words start read found.0 found.1
+            (refused q) (ap (λ (x : TableSchema). index_asked x ms) found.2 ∙ h.0),
+      )
+      list_no_index d there (Fault f) h = h
+
+      pub list_unsaid : (d : TableSchema)
+          → or_refused not_found (map.get catalog (table_name ms)) ≡ Ok d → (index : Option ℕ)
+          → index_asked d ms ≡ Ok index → (e : Stop)
+          → Comes {X = Expressions} (λ x. x) (machine.expressions texts d ms g) (Err e)
+          → OnList tests texts catalog ms (Err e)
+      list_unsaid d there index asks (Refused q) h = (
+        h.1,
+        λ s go same.
+            let found = table_found s catalog same (table_name ms) d
+            (some_found not_found (map.get catalog (table_name ms)) d there) in
+            list-unsaid tests texts s ms go free g words start read found.0 found.1 index
+            (ap (λ (x : TableSchema). index_asked x ms) found.2 ∙ asks) (refused q)
             (ap (λ (x : TableSchema). machine.expressions texts x ms g) found.2 ∙ h.0),
       )
-      list_unsaid d there (Fault f) h = h
+      list_unsaid d there index asks (Fault f) h = h
 
 -- ---- behind it
 
@@ -104,7 +120,7 @@ list_unfailed P tests texts catalog ms (Fault f) h = unfailed_fault f P h
 
 module _ (disk : DiskState) (tables : Tables) (tests : List (Option Answer)) (ms : Members)
     (outcome : State → Outcome) (texts : machine.Texts)
-    (go : State → Expressions → Option (List Pair) → Table → Outcome)
+    (go : State → Expressions → Option (List Pair) → Table → Option ℕ → Outcome)
     (is : (s : State) → outcome s ≡ on_list tests texts s ms (go s)) where
   list_stopped : (now : State → Type 0) (stop : Stop)
       → OnList tests texts (catalog_of tables) ms (Err stop)
@@ -127,14 +143,16 @@ module _ (disk : DiskState) (tables : Tables) (tests : List (Option Answer)) (ms
   pub list_reached : (target : ListTarget) → IsListedAt tests texts (catalog_of tables) ms target
       → (s : State) → Stands disk tables s
       → (t : Table) × (map.get s.tables (table_name ms) ≡ Some t)
-      × (t.description ≡ target.schema.now) × (outcome s ≡ go s target.said target.start t)
+      × (t.description ≡ target.schema.now)
+      × (outcome s ≡ go s target.said target.start t target.index)
   list_reached target h s stands =
       let found = table_found s (catalog_of tables) (sym stands.catalog)
       (table_name ms) target.schema.now h.there in (
         found.0,
         found.1,
         found.2,
-        is s ∙ list-target tests texts s ms (go s) target.said target.start found.0 found.1
-            (subst (λ (d : TableSchema). IsListed tests texts ms d target.said target.start)
+        is s ∙ list-target tests texts s ms (go s) target.said target.start found.0 target.index
+            found.1
+            (subst (λ (d : TableSchema). IsListed tests texts ms d target.said target.start target.index)
             (sym found.2) h.listed),
       )

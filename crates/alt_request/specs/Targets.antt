@@ -52,17 +52,17 @@ OnItem tests sought texts catalog ms (Err (Refused r)) =
     → descriptions s.tables ≡ catalog → on_item tests sought texts s ms go ≡ refuses r)
 OnItem tests sought texts catalog ms (Err (Fault f)) = IsReadFault f
 
--- the table is the one that is named, and those are the start key and what the expressions say to it
+-- the table is the one that is named, and those are its index, the start key and what the expressions say to it
 pub record IsListedAt (tests : List (Option Answer)) (texts : machine.Texts)
     (catalog : Texts TableSchema) (ms : Members) (target : ListTarget) : Type 0 where
   pub there : map.get catalog (table_name ms) ≡ Some target.schema.now
-  pub listed : IsListed tests texts ms target.schema.now target.said target.start
+  pub listed : IsListed tests texts ms target.schema.now target.said target.start target.index
 
 -- That is so; or the machine refuses the request too, whatever its operation goes on to do.
 abbrev pub OnList : List (Option Answer) → machine.Texts → Texts TableSchema → Members
     → Result ListTarget Stop → Type 0
 OnList tests texts catalog ms (Ok target) = IsListedAt tests texts catalog ms target
 OnList tests texts catalog ms (Err (Refused r)) =
-    IsKnown r × ((s : State) (go : Expressions → Option (List Pair) → Table → Outcome)
+    IsKnown r × ((s : State) (go : Expressions → Option (List Pair) → Table → Option ℕ → Outcome)
     → descriptions s.tables ≡ catalog → on_list tests texts s ms go ≡ refuses r)
 OnList tests texts catalog ms (Err (Fault f)) = IsReadFault f

@@ -19,8 +19,9 @@ use alt_fields::Bytes;
 use alt_machine::{LARGEST_ITEM, Sought};
 use alt_schema::{KeyAttr, TableSchema, index_keys_fit};
 use alt_shape::{Refusal, given};
-use alt_tables::{TableFault, place_of};
+use alt_tables::TableFault;
 use alt_value::{Attr, Item, item_size_within};
+use alt_views::place_of;
 use serde_json::{Map, Value};
 use std::alloc::Global;
 

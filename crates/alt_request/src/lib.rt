@@ -7,6 +7,7 @@ mod batch_reads;
 mod batch_writes;
 mod body;
 mod expressions;
+mod indexed;
 mod items;
 mod key_update;
 mod lists;

@@ -1,17 +1,19 @@
-//! What an operation on a list of items goes on with: the table that its body names, the key to start after, and what its expressions
-//! say.
+//! What an operation on a list of items goes on with: the table that its body names, the index of it, if one is named, the key to start
+//! after, and what its expressions say.
 
-ghost use Rattle.std.specs.Prelude.{◌≡◌};
+ghost use Rattle.std.specs.Prelude.{◌≡◌, ◌<◌, IfOk, IfSome, length};
 ghost use Rattle.serde_json.specs.View.{members_view};
 ghost use Rattle.alt_machine.specs.Body.{paired_refusals};
 ghost use Rattle.alt_machine.specs.Lists.{start_at};
 ghost use Rattle.alt_request.specs.Steps.{Comes, rules_of};
 ghost use Rattle.alt_request.specs.Targets.{OnList};
 ghost use Rattle.alt_request.specs.Words.{texts_of};
+ghost use Rattle.alt_schema.specs.Indexes.{indexes};
 ghost use Rattle.alt_tables.specs.Stands.{catalog_of};
 
 use crate::body::{Rules, paired_refusal, table_of};
 use crate::expressions::{Texts, expressions, given_at};
+use crate::indexed::index_asked;
 use crate::items::item_of;
 use crate::stop::Stop;
 use alt_machine::Expressions;
@@ -22,15 +24,18 @@ use alt_value::Item;
 use serde_json::{Map, Value};
 use std::alloc::Global;
 
-/// The description of the table, the key to start after, if one is given, and what the request's expressions say.
+/// The description of the table, the number of the index, if one is named, the key to start after, if one is given, and what the
+/// request's expressions say.
 #[derive(Drop)]
 pub struct ListTarget<'t> {
     pub schema: &'t TableSchema,
+    pub index: Option<usize>,
     pub start: Option<Item>,
     pub said: Expressions,
 }
 
-/// The table that a body names, the key to start after, and what the body's expressions say, where nothing refuses them.
+/// The table that a body names, the index of it that is named, the key to start after, and what the body's expressions say, where nothing
+/// refuses them.
 pub fn list_target<'t>(
     alloc: Global,
     tables: &'t Tables,
@@ -43,14 +48,18 @@ pub fn list_target<'t>(
     ensures target { OnList (paired_refusals broken mismatched (rules_of rules.now)
         (members_view body.now.entries)) (texts_of texts.now) (catalog_of tables.now)
         (members_view body.now.entries) result }
+    ensures index { IfOk result (λ target. IfSome target.index
+        (λ number. number < length (indexes target.schema.now))) }
 {
     paired_refusal(broken, mismatched, rules, body)?;
     let given = given_at(alloc, texts, body)?;
     let start = start_at(alloc, body)?;
     let schema = table_of(tables, body)?;
+    let index = index_asked(schema, body)?;
     let said = expressions(alloc, texts, schema, body, given)?;
     Ok(ListTarget {
         schema,
+        index,
         start,
         said,
     })

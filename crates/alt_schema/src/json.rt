@@ -131,8 +131,10 @@ fn index_arn(alloc: Global, table: &str, name: &str) -> Result<String, NoMemory>
     Ok(arn)
 }
 
-fn stream_arn(alloc: Global, table: &str, number: u64) -> Result<String, NoMemory>
-    ensures { IfOk result (λ s. string_bytes s ≡ stream_arn table.now number) }
+/// The name of a table's stream as a resource (Service Authorization Reference, "Resource types defined by Amazon DynamoDB"): its
+/// table's name and the label of `number`, the number of the write that made the table. Fails for want of memory alone.
+pub fn stream_arn(alloc: Global, table: &str, number: u64) -> Result<String, NoMemory>
+    ensures named { IfOk result (λ s. string_bytes s ≡ stream_arn table.now number) }
 {
     let mut arn = table_arn(alloc, table)?;
     arn.push_str("/stream/")?;
@@ -140,10 +142,11 @@ fn stream_arn(alloc: Global, table: &str, number: u64) -> Result<String, NoMemor
     Ok(arn)
 }
 
-/// A write number in 21 digits, which labels a stream and tells a change's place in it.
+/// A write number in 21 digits, which labels a stream and tells a change's place in it (DynamoDB Streams API Reference, "Stream" and
+/// "StreamRecord": StreamLabel, SequenceNumber). Fails for want of memory alone.
 #[tactic(auto, unfolding(crate::specs::Json::label))]
-fn label(alloc: Global, number: u64) -> Result<String, NoMemory>
-    ensures { IfOk result (λ s. string_bytes s ≡ label number) }
+pub fn label(alloc: Global, number: u64) -> Result<String, NoMemory>
+    ensures digits { IfOk result (λ s. string_bytes s ≡ label number) }
 {
     Ok(format!(in alloc; "{number:021}")?)
 }
@@ -326,8 +329,9 @@ fn specification_json(alloc: Global, shows: View) -> Result<Value, NoMemory>
     Ok(json!(in alloc; {"StreamEnabled": true, "StreamViewType": view_word(shows)})?)
 }
 
-fn view_word(view: View) -> &'static str
-    ensures { result.now ≡ view_word view }
+/// The word for what a stream's records show (DynamoDB API Reference, "StreamSpecification": StreamViewType).
+pub fn view_word(view: View) -> &'static str
+    ensures word { result.now ≡ view_word view }
 {
     match view {
         View::KeysOnly => "KEYS_ONLY",

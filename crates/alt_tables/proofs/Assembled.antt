@@ -1,4 +1,4 @@
--- Where every row can be read, there is a state that the rows show.
+-- Where every row of the catalog and of the tables can be read, there is a state whose rows they are.
 use Rattle.std.proofs.Common.{◌≡◌, ◌≤◌, ℕ, Bool, true, false, cond, List, [], ◌∷◌, Option, Some, None, refl, sym, ap, subst, ◌∙◌, arith}
 use Rattle.std.proofs.lemmas.Bool.{false≢true}
 use Rattle.std.specs.Prelude.{if◌then◌else◌, option_and_then, option_map}
@@ -15,10 +15,10 @@ use Rattle.alt_machine.specs.Valid.{IsStored, IsTable, IsValid}
 use Rattle.alt_machine.proofs.Descriptions.{get-descriptions, len-descriptions}
 use Rattle.alt_schema.specs.Rules.{is_name}
 use Rattle.alt_schema.specs.declared.schema.TableSchema.{TableSchema}
-use Rattle.alt_tables.specs.ItemRows.{item_columns, IsReadItem}
-use Rattle.alt_tables.specs.Opening.{Assembled, IsCatalog, IsGood, AreApart}
+use Rattle.alt_views.specs.ItemRows.{item_columns, IsReadItem}
+use Rattle.alt_tables.specs.Opening.{AssembledTables, IsCatalog, IsGood, AreApart}
 use Rattle.alt_tables.specs.Scans.{IsItemAt, ItemsRead}
-use Rattle.alt_tables.specs.StateRows.{Shows, catalog_family, table_row, next_row}
+use Rattle.alt_tables.specs.StateRows.{catalog_family, table_row, next_row}
 use Rattle.alt_tables.proofs.ChangeLaws.{tied, itself}
 use Rattle.alt_tables.proofs.ChosenLaws.{AllRead, IsRead, map_read}
 use Rattle.alt_tables.proofs.Maps.{same_texts}
@@ -212,14 +212,6 @@ module _ (l : Layout) (family : ℕ) (catalog : Texts TableSchema)
           row (Some c) is = ap (λ x. Some x) is.1.1.row
               ∙ sym (ap (option_map (λ (t : Table). table_row t.description)) is.1.0)
 
-  assembled_shows : Shows l assembled_state
-  assembled_shows = record {
-    number = refl;
-    catalog = catalog_shown;
-    items = λ name t at. (table_is name t at).0.0;
-    beyond = beyond;
-  }
-
   -- ---- it is valid
 
   good_at : (name : List ℕ) (t : Table) → map.get chosen.0 name ≡ Some t
@@ -264,17 +256,22 @@ module _ (l : Layout) (family : ℕ) (catalog : Texts TableSchema)
   }
 
   -- The state of these rows.
-  pub assembled : (s : State) × Assembled l family catalog s
+  pub assembled : (s : State) × AssembledTables l family catalog s
   assembled = (
     assembled_state,
     record {
-      shows = assembled_shows;
-      valid = assembled_valid;
-      held = record {
-        items = record {
-          items = λ name key t item at here. ((table_is name t at).0.1 key item here).1.whole.0;
+      agrees = record {
+        number = refl;
+        catalog = λ key here. catalog_shown key;
+        items = λ name t at key here. (table_is name t at).0.0 key;
+        beyond = λ f key high here. beyond f key high;
+        valid = assembled_valid;
+        held = record {
+          items = record {
+            items = λ name key t item at here. ((table_is name t at).0.1 key item here).1.whole.0;
+          };
+          descriptions = λ name t at. (good_at name t at).held;
         };
-        descriptions = λ name t at. (good_at name t at).held;
       };
       catalog = same_catalog;
       family = refl;

@@ -1,5 +1,5 @@
 -- The rows of a state with a table made or dropped.
-use Rattle.std.proofs.Common.{◌≡◌, ◌≤◌, ◌<◌, ◌+◌, ℕ, Bool, true, false, cond, length, List, [], ◌∷◌, Some, None, refl, sym, ap, subst, ◌∙◌, inl, inr, arith}
+use Rattle.std.proofs.Common.{◌≡◌, ◌≤◌, ◌<◌, ◌+◌, ℕ, Bool, true, false, cond, length, List, [], ◌∷◌, Option, Some, None, refl, sym, ap, subst, ◌∙◌, inl, inr, arith}
 use Rattle.std.proofs.lemmas.Bool.{false≢true}
 use Rattle.std.specs.Prelude.{◌==◌, if◌then◌else◌, option_map, codes}
 use Rattle.std.specs.Int.{w32, to_be_bytes}
@@ -14,21 +14,29 @@ use Rattle.alt_engine.specs.InHand.{batch_write}
 use Rattle.alt_engine.specs.Layout.{Layout, Write, with_write, shown, shown_by, change_of, ShowsWrite}
 use Rattle.alt_engine.proofs.LayoutLaws.{shows_write}
 use Rattle.alt_machine.specs.declared.TheConstants.{NUMBERS_END, FAMILIES_END, MOST_FAMILIES, MOST_TABLES}
+use Rattle.alt_machine.specs.Indexed.{index_entry}
+use Rattle.alt_machine.specs.Rekeyed.{rekeyed}
+use Rattle.alt_machine.specs.Sources.{index_at}
 use Rattle.alt_machine.specs.State.{State, Table, new_table, families_of}
 use Rattle.alt_machine.specs.Valid.{IsMade, IsValid}
 use Rattle.alt_machine.specs.Ops.CreateTable.{with_table}
 use Rattle.alt_machine.specs.Ops.DeleteTable.{without_table}
+use Rattle.alt_machine.proofs.Families.{of_contained, families_within}
 use Rattle.alt_machine.proofs.Looks.{at_insert, at_remove, not_there}
+use Rattle.alt_machine.proofs.Rekeying.{given_by}
 use Rattle.alt_machine.proofs.States.{with_table_valid, without_table_valid}
 use Rattle.alt_schema.specs.Described.{IsNew}
 use Rattle.alt_schema.specs.Held.{IsHeld}
 use Rattle.alt_schema.specs.Rules.{is_name}
+use Rattle.alt_schema.specs.declared.schema.IndexSchema.{IndexSchema}
 use Rattle.alt_schema.specs.declared.schema.TableSchema.{TableSchema}
-use Rattle.alt_tables.specs.StateRows.{IsHeldWhole, Shows, Turns, catalog_family, catalog_rows, item_rows, one_column, table_row, next_row, creation_changes, drop_changes}
+use Rattle.alt_tables.specs.StateRows.{IsHeldWhole, Shows, Turns, catalog_family, catalog_rows, item_rows, index_rows, one_column, table_row, next_row, creation_changes, drop_changes}
 use Rattle.alt_tables.proofs.ChangeLaws.{tied, itself, one_change, two_changes, other_family}
-use Rattle.alt_tables.proofs.ItemRowLaws.{can_show}
+use Rattle.alt_views.proofs.ItemRowLaws.{can_show}
+use Rattle.alt_views.specs.IndexRows.{index_columns}
 use Rattle.alt_tables.proofs.OneState.{some, nameless}
-use Rattle.alt_tables.proofs.WriteLaws.{family_within}
+use Rattle.alt_tables.proofs.IndexFamilies.{index_family}
+use Rattle.alt_tables.proofs.WriteLaws.{family_within, index_within}
 
 -- a row of one column can be shown
 pub one_can_show : (name value : List ℕ) → CanShow (Some (one_column name value))
@@ -45,6 +53,17 @@ next_can_show family = by_test (family == 1)
     by_test true = none_shown
     by_test false = one_can_show (codes "next") (to_be_bytes w32 family)
 
+-- an index of no items has none
+none_rekeyed : {X Y : Type 0} (g : X → Option (List ℕ × Y)) (key : List ℕ)
+    → map.get (rekeyed g map.empty) key ≡ None
+none_rekeyed {Y = Y} g key = by (map.get (rekeyed g map.empty) key) refl
+  where
+    by : (o : Option Y) → map.get (rekeyed g map.empty) key ≡ o → o ≡ None
+    by None is = refl
+    by (Some v) is =
+        let (place, (x, (here, entry))) = given_by g map.empty key v is in
+        let no : None ≡ Some x = sym (map.get-empty key_cmp place) ∙ here in cc no
+
 -- changes of the catalog leave all other families
 off_catalog : (c : RowChange) (cs : List RowChange) (family : ℕ) (key : List ℕ)
     → c.family ≡ catalog_family → 1 ≤ family
@@ -58,7 +77,7 @@ module _ (l : Layout) (s : State) (shows : Shows l s) (valid : IsValid s) where
   module _ (d : TableSchema) (after : ℕ) (counted : after ≡ s.next_family + length (families_of d))
       (absent : map.get s.tables d.name ≡ None)
       (named : eq_by_cmp key_cmp [] d.name ≡ false) (family : d.family ≡ s.next_family)
-      (w : Write) (changes : w.changes ≡ creation_changes s.next_family after d)
+      (new : IsNew d) (w : Write) (changes : w.changes ≡ creation_changes s.next_family after d)
       (numbered : w.number ≡ l.next_number) (law : ShowsWrite l w) where
     abbrev first_change : RowChange
     first_change = change_between catalog_family d.name None (Some (table_row d))
@@ -114,6 +133,23 @@ module _ (l : Layout) (s : State) (shows : Shows l s) (valid : IsValid s) where
         elsewhere u.description.family key (family_within s other u (valid.tables other u at)).0
         ∙ shows.items other u at key
 
+    indexes_after : (other : List ℕ) (u : Table) (b : Bool) → eq_by_cmp key_cmp other d.name ≡ b
+        → cond b (Some (new_table d)) (map.get s.tables other) ≡ Some u → (n : ℕ)
+        (i : IndexSchema) → index_at u.description (Some n) ≡ Some i
+        → (key : List ℕ) → shown (with_write l w) i.family key ≡ index_rows u i key
+    indexes_after other u true e at n i at_index key =
+        subst (λ u. index_at u.description (Some n) ≡ Some i
+        → shown (with_write l w) i.family key ≡ index_rows u i key) (some _ _ at)
+        (λ at_index. let is = of_contained (λ f. (d.family ≤ f) × (f < d.family + length (families_of d)))
+        (families_of d) i.family (families_within d new) (index_family d n i at_index) in
+        elsewhere i.family key
+        (let low = valid.next_family.0 in omega (arith, low, family, is.0))
+        ∙ shows.beyond i.family key (omega (arith, family, is.0))
+        ∙ sym (ap (option_map (index_columns d i)) (none_rekeyed (index_entry d i) key))) at_index
+    indexes_after other u false e at n i at_index key =
+        elsewhere i.family key (index_within s other u (valid.tables other u at) n i at_index).0
+        ∙ shows.indexes other u n i at at_index key
+
     -- the rows are then those of the state with the table
     pub shows_creation : Shows (with_write l w) (with_table s d)
     shows_creation = record {
@@ -121,6 +157,9 @@ module _ (l : Layout) (s : State) (shows : Shows l s) (valid : IsValid s) where
       catalog = catalog_after;
       items = λ other u at. items_after other u (eq_by_cmp key_cmp other d.name) refl
           (sym (map.get-insert key_total s.tables d.name (new_table d) other) ∙ at);
+      indexes = λ other u n i at at_index key. indexes_after other u
+          (eq_by_cmp key_cmp other d.name) refl
+          (sym (map.get-insert key_total s.tables d.name (new_table d) other) ∙ at) n i at_index key;
       beyond = λ f key high. elsewhere f key
           (let low = valid.next_family.0 in omega (arith, low, family, high))
           ∙ shows.beyond f key (omega (arith, family, high));
@@ -169,6 +208,16 @@ module _ (l : Layout) (s : State) (shows : Shows l s) (valid : IsValid s) where
         kept u.description.family key (family_within s other u (valid.tables other u at_other)).0
         ∙ shows.items other u at_other key
 
+    indexes_without : (other : List ℕ) (u : Table) (b : Bool)
+        → cond b None (map.get s.tables other) ≡ Some u → (n : ℕ) (i : IndexSchema)
+        → index_at u.description (Some n) ≡ Some i
+        → (key : List ℕ) → shown (with_write l w) i.family key ≡ index_rows u i key
+    indexes_without other u true at_other n i at_index key =
+        absurd (let n : None ≡ Some u = at_other in cc n)
+    indexes_without other u false at_other n i at_index key =
+        kept i.family key (index_within s other u (valid.tables other u at_other) n i at_index).0
+        ∙ shows.indexes other u n i at_other at_index key
+
     -- the rows are then those of the state without it
     pub shows_drop : Shows (with_write l w) (without_table s name)
     shows_drop = record {
@@ -176,6 +225,9 @@ module _ (l : Layout) (s : State) (shows : Shows l s) (valid : IsValid s) where
       catalog = catalog_without;
       items = λ other u at_other. items_without other u (eq_by_cmp key_cmp other name)
           (sym (map.get-remove key_total s.tables name other) ∙ at_other);
+      indexes = λ other u n i at_other at_index key. indexes_without other u
+          (eq_by_cmp key_cmp other name)
+          (sym (map.get-remove key_total s.tables name other) ∙ at_other) n i at_index key;
       beyond = λ f key high. kept f key (let low = valid.next_family.0 in omega (arith, low, high))
           ∙ shows.beyond f key high;
     }
@@ -203,7 +255,7 @@ pub creation_turns : (s : State) (d : TableSchema) (after : ℕ)
 creation_turns s d after counted valid held absent made new is_held number family few enough =
     record {
       shows = λ l past shows. shows_creation l s shows valid d after counted absent
-          (new_named d d.name refl made) family
+          (new_named d d.name refl made) family new
           (batch_write l (creation_changes s.next_family after d)) refl refl
           (shows_write l (batch_write l (creation_changes s.next_family after d)) past
           (omega arith));

@@ -1,5 +1,5 @@
 -- Which of the changes of a write is that of a row.
-use Rattle.std.proofs.Common.{◌≡◌, ◌≢◌, ℕ, Bool, true, false, T, List, [], ◌∷◌, Option, Some, None, refl, ap, ◌∙◌, arith}
+use Rattle.std.proofs.Common.{◌≡◌, ◌≢◌, ℕ, Bool, true, false, T, List, [], ◌∷◌, ◌++◌, Option, Some, None, refl, ap, ◌∙◌, arith}
 use Rattle.std.proofs.lemmas.Bool.{eqb-true}
 use Rattle.std.proofs.lemmas.Bool.Decides.{nat_tests}
 use Rattle.std.specs.Prelude.{◌==◌, if◌then◌else◌}
@@ -58,3 +58,38 @@ other_family c cs family key other = by_test (c.family == family) refl
         else change_of family key cs) ≡ change_of family key cs
     by_test true e = absurd (other (eqb-true c.family family e))
     by_test false e = refl
+
+-- ---- changes of other families
+
+-- each of the changes is of another family
+abbrev pub AreOthers : ℕ → List RowChange → Type 0
+AreOthers family [] = Unit {0}
+AreOthers family (c ∷ cs) = (c.family ≢ family) × AreOthers family cs
+
+-- so are those of two lists
+pub others-append : (family : ℕ) (cs ds : List RowChange) → AreOthers family cs
+    → AreOthers family ds → AreOthers family (cs ++ ds)
+others-append family [] ds h k = k
+others-append family (c ∷ cs) ds h k = (h.0, others-append family cs ds h.1 k)
+
+-- in front they don't count
+pub change_of-behind : (family : ℕ) (key : List ℕ) (cs ds : List RowChange) → AreOthers family cs
+    → change_of family key (cs ++ ds) ≡ change_of family key ds
+change_of-behind family key [] ds others = refl
+change_of-behind family key (c ∷ cs) ds others =
+    other_family c (cs ++ ds) family key others.0 ∙ change_of-behind family key cs ds others.1
+
+-- nor alone
+pub change_of-none : (family : ℕ) (key : List ℕ) (cs : List RowChange) → AreOthers family cs
+    → change_of family key cs ≡ None
+change_of-none family key [] others = refl
+change_of-none family key (c ∷ cs) others =
+    other_family c cs family key others.0 ∙ change_of-none family key cs others.1
+
+-- nor behind
+pub change_of-front : (family : ℕ) (key : List ℕ) (cs ds : List RowChange) → AreOthers family ds
+    → change_of family key (cs ++ ds) ≡ change_of family key cs
+change_of-front family key [] ds others = change_of-none family key ds others
+change_of-front family key (c ∷ cs) ds others =
+    ap (λ o. if c.family == family then (if eq_by_cmp key_cmp key c.key then Some c else o) else o)
+    (change_of-front family key cs ds others)

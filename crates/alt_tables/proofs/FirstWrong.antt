@@ -1,4 +1,4 @@
--- The first wrong row: before it the rows are those of a state, and with it those of none.
+-- The first wrong row of the catalog and of the tables: before it the rows are those of a state, and with it those of none.
 use Rattle.std.proofs.Common.{◌≡◌, ◌≤◌, ◌<◌, inl, inr, ⊎_elim, ℕ, Bool, true, false, cond, List, [], Option, Some, None, refl, sym, ap, subst, ◌∙◌, arith, Contains, Less, T}
 use Rattle.std.proofs.lemmas.Bool.{false≢true}
 use Rattle.std.proofs.lemmas.Bool.Decides.{nat_tests}
@@ -16,8 +16,8 @@ use Rattle.alt_schema.specs.Described.{IsDescription}
 use Rattle.alt_schema.specs.Held.{IsHeld}
 use Rattle.alt_schema.specs.declared.schema.TableSchema.{TableSchema}
 use Rattle.alt_schema.proofs.WholeDescriptions.{one_spelling}
-use Rattle.alt_tables.specs.ItemRows.{item_columns}
-use Rattle.alt_tables.specs.Opening.{Assembled, IsCatalog, IsGood, AreApart}
+use Rattle.alt_views.specs.ItemRows.{item_columns}
+use Rattle.alt_tables.specs.Opening.{AssembledTables, IsCatalog, IsGood, AreApart}
 use Rattle.alt_tables.specs.Recovery.{Agrees, IsBefore, IsUpTo, IsFirstWrong}
 use Rattle.alt_tables.specs.Scans.{IsItemAt, IsFirstBad, ItemsRead}
 use Rattle.alt_tables.specs.StateRows.{catalog_family, table_row, next_row}
@@ -114,19 +114,20 @@ module _ (l : Layout) (Here : ℕ → List ℕ → Type 0) (r : State) (agrees :
 
 -- a state of the rows before one, taken alone, agrees there
 pub agrees_before : (l : Layout) (family : ℕ) (key : List ℕ) (next : ℕ)
-    (catalog : Texts TableSchema) (s : State) → Assembled (cut (before_row family key) l) next catalog s
+    (catalog : Texts TableSchema) (s : State)
+    → AssembledTables (cut (before_row family key) l) next catalog s
     → Agrees (λ f k. IsBefore f k family key) l s
 agrees_before l family key next catalog s made = record {
-  number = made.shows.number;
+  number = made.agrees.number;
   catalog = λ k here. sym (shown-here (before_row family key) l catalog_family k
-      (is_before family key catalog_family k here)) ∙ made.shows.catalog k;
+      (is_before family key catalog_family k here)) ∙ made.agrees.catalog k tt;
   items = λ name t at k here.
       sym (shown-here (before_row family key) l t.description.family k
-      (is_before family key t.description.family k here)) ∙ made.shows.items name t at k;
+      (is_before family key t.description.family k here)) ∙ made.agrees.items name t at k tt;
   beyond = λ f k high here. sym (shown-here (before_row family key) l f k
-      (is_before family key f k here)) ∙ made.shows.beyond f k high;
-  valid = made.valid;
-  held = made.held;
+      (is_before family key f k here)) ∙ made.agrees.beyond f k high tt;
+  valid = made.agrees.valid;
+  held = made.agrees.held;
 }
 
 -- ---- a wrong item, or a row from the next family on
@@ -202,7 +203,7 @@ module _ (l : Layout) (next : ℕ) (catalog : Texts TableSchema) (read : IsCatal
       → ((other : List ℕ) (e : TableSchema) → map.get catalog other ≡ Some e
       → e.family < d.family → ItemsRead l e)
       → (key : List ℕ) → IsFirstBad l d key → IsFirstWrong l d.family key
-  item_wrong name d at lower key bad = record {
+  item_wrong name d at lower key bad = inl (record {
     before = state_before d.family key within.0
         (λ other e at_e k row is shows. by_family other e at_e k row
         (passed d.family key within.0 e.family k row shows))
@@ -216,7 +217,7 @@ module _ (l : Layout) (next : ℕ) (catalog : Texts TableSchema) (read : IsCatal
         (inl (inl (omega (arith, within.0)))) (not_empty l.next_number next name d good)
         good.made.whole good.held (read.stands name d at).1 in
         no_item r agrees t there same;
-  }
+  })
     where
       within : (1 ≤ d.family) × (d.family < next)
       within = known_family name d at
@@ -259,7 +260,7 @@ module _ (l : Layout) (next : ℕ) (catalog : Texts TableSchema) (read : IsCatal
   pub beyond_wrong : ((name : List ℕ) (d : TableSchema) → map.get catalog name ≡ Some d
       → ItemsRead l d) → (family : ℕ) (key : List ℕ) → IsFirstShown (shown l) next (family, key)
       → IsFirstWrong l family key
-  beyond_wrong items family key first = record {
+  beyond_wrong items family key first = inl (record {
     before = state_before family key high
         (λ name d at k row is shows. items name d at k row is
         (passed family key high d.family k row shows).1)
@@ -270,7 +271,7 @@ module _ (l : Layout) (next : ℕ) (catalog : Texts TableSchema) (read : IsCatal
         (inl (inl (omega (arith, high)))) read.next.low read.next.high read.next.row in
         first.shows (agrees.beyond family key (omega (arith, same, first.later))
         (inr (refl, refl)));
-  }
+  })
     where
       high : 1 ≤ family
       high = omega (arith, first.later, read.next.low)

@@ -8,12 +8,16 @@ pub mod Standing
 pub mod Starting
 pub mod Making
 pub mod ChangeLaws
-pub mod ItemRowLaws
+pub mod Moving
+pub mod IndexFamilies
+pub mod IndexShows
 pub mod OneState
+pub mod IndexKeys
+pub mod IndexRead
+pub mod IndexOwn
 pub mod WriteLaws
 pub mod Behind
 pub mod CatalogLaws
-pub mod Columns
 pub mod OneColumn
 pub mod EachTable
 pub mod Engine
@@ -31,5 +35,7 @@ pub mod WrongTable
 pub mod GoodLaws
 pub mod CatalogSteps
 pub mod TableSteps
+pub mod IndexSteps
+pub mod IndexState
 pub mod Recovering
 pub mod Pages

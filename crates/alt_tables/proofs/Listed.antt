@@ -1,5 +1,6 @@
 -- The list of the tables and the map that it stands for: what a search found, and what a change there leaves.
-use Rattle.std.proofs.Common.{◌≡◌, refl, true, false, cond, sym, ap, ◌∙◌, ℕ, ◌+◌, ◌<◌, ◌≤◌, List, [], ◌∷◌, length, get_or, map, Option, Some, None, option_map, slice_get, MatchOption, Bor, arith}
+use Rattle.std.proofs.Common.{◌≡◌, refl, true, false, cond, sym, ap, ◌∙◌, ℕ, ◌+◌, ◌<◌, ◌≤◌, List, [], ◌∷◌, length, get_or, map, Option, Some, None, option_map, slice_get, MatchOption, Bor, All, take, drop, suc, arith}
+use Rattle.std.proofs.lemmas.List.Elements.{All-append, All-cons, All-take, All-drop}
 use Rattle.std.specs.List.{insert, remove, filter, HoldsAt}
 use Rattle.std.specs.List.{find as find_first}
 use Rattle.std.specs.List.Sorted.{IsPartitionPoint}
@@ -15,6 +16,21 @@ use Rattle.alt_tables.specs.Order.{first_after}
 use Rattle.alt_schema.specs.declared.schema.TableSchema.{TableSchema}
 use Rattle.alt_tables.proofs.Named.{entry, IsInOrder, Stands, Goes, stands, goes, find-stands, find-goes, put-goes, where_key-stands, where_key-goes, after-stands, after-goes, next_stands, next_goes}
 use Rattle.alt_tables.proofs.Sorted.{put-in_order, map-put, where_key-in_order, map-where_key}
+
+-- ---- what holds of each of a list
+
+module _ {X : Type 0} (P : X → Type 0) where
+  -- holds with one more of which it holds
+  pub All-insert : (xs : List X) (i : ℕ) (y : X) → All P xs → P y → All P (insert xs i y)
+  All-insert xs i y all holds = All-append P (take i xs) (y ∷ drop i xs) (All-take P i xs all)
+      (All-cons P y (drop i xs) holds (All-drop P i xs all))
+
+  -- and with one less
+  pub All-remove : (xs : List X) (i : ℕ) → All P xs → All P (remove xs i)
+  All-remove xs i all = All-append P (take i xs) (drop (suc i) xs) (All-take P i xs all)
+      (All-drop P (suc i) xs all)
+
+-- ---- descriptions in order
 
 -- a description as it is
 abbrev pub itself : TableSchema → TableSchema

@@ -17,9 +17,10 @@ use Rattle.alt_schema.specs.Format.{description_bytes}
 use Rattle.alt_schema.specs.Rules.{is_name}
 use Rattle.alt_schema.proofs.WholeDescriptions.{one_spelling}
 use Rattle.alt_tables.specs.Images.{StandsFor}
-use Rattle.alt_tables.specs.ItemRows.{item_columns}
+use Rattle.alt_tables.specs.Recovery.{Agrees, AgreesWhole}
+use Rattle.alt_views.specs.ItemRows.{item_columns}
 use Rattle.alt_tables.specs.StateRows.{Shows, IsHeldWhole, item_rows, table_row, next_row, one_column}
-use Rattle.alt_tables.proofs.ItemRowLaws.{item_columns-one}
+use Rattle.alt_views.proofs.ItemRowLaws.{item_columns-one}
 use Rattle.alt_value.specs.Tree.{Pair}
 use Rattle.alt_value.specs.Values.{IsWholeItem}
 
@@ -79,28 +80,28 @@ pub has_whole : (s : State) → IsValid s → IsHeldWhole s → (name : List ℕ
 has_whole s valid held name t at place item here =
     (held.items.items name place t item at here, ((valid.tables name t at).items place item here).full)
 
-module _ (l : Layout) (s r : State) (shows_s : Shows l s) (shows_r : Shows l r)
-    (valid_s : IsValid s) (valid_r : IsValid r) (held_s : IsHeldWhole s) (held_r : IsHeldWhole r)
+module _ (l : Layout) (s r : State) (agrees_s : AgreesWhole l s) (agrees_r : AgreesWhole l r)
     (named_s : map.get s.tables [] ≡ None) (named_r : map.get r.tables [] ≡ None)
     (small_s : s.next_family < 2 ^ 32) (small_r : r.next_family < 2 ^ 32) where
   next_families : s.next_family ≡ r.next_family
   next_families = next_row-one s.next_family r.next_family small_s small_r
-      (sym (shows_s.catalog []) ∙ shows_r.catalog [])
+      (sym (agrees_s.catalog [] tt) ∙ agrees_r.catalog [] tt)
 
   -- tables of one name are one
   one_table : (name : List ℕ) (t u : Table) → map.get s.tables name ≡ Some t
       → map.get r.tables name ≡ Some u
       → description_bytes t.description ≡ description_bytes u.description → t ≡ u
   one_table name t u at_t at_u same =
-      let is_t : IsTable s name t = valid_s.tables name t at_t in
-      let is_u : IsTable r name u = valid_r.tables name u at_u in
+      let is_t : IsTable s name t = agrees_s.valid.tables name t at_t in
+      let is_u : IsTable r name u = agrees_r.valid.tables name u at_u in
       let descriptions : t.description ≡ u.description = one_spelling t.description u.description
-      is_t.made.whole (held_s.descriptions name t at_t)
-      is_u.made.whole (held_r.descriptions name u at_u) same in
+      is_t.made.whole (agrees_s.held.descriptions name t at_t)
+      is_u.made.whole (agrees_r.held.descriptions name u at_u) same in
       let items : t.items ≡ u.items = items-one t u
-      (has_whole s valid_s held_s name t at_t) (has_whole r valid_r held_r name u at_u)
-      (λ key. sym (shows_s.items name t at_t key) ∙ ap (λ d. shown l d.family key) descriptions
-      ∙ shows_r.items name u at_u key) in
+      (has_whole s agrees_s.valid agrees_s.held name t at_t)
+      (has_whole r agrees_r.valid agrees_r.held name u at_u)
+      (λ key. sym (agrees_s.items name t at_t key tt)
+      ∙ ap (λ d. shown l d.family key) descriptions ∙ agrees_r.items name u at_u key tt) in
       let changes : t.changes ≡ u.changes = is_t.changes ∙ sym is_u.changes in
       λ i. record { description = descriptions i; items = items i; changes = changes i }
 
@@ -120,14 +121,14 @@ module _ (l : Layout) (s r : State) (shows_s : Shows l s) (shows_r : Shows l r)
       → map.get s.tables name ≡ map.get r.tables name
   by_name [] b e = named_s ∙ sym named_r
   by_name (c ∷ cs) b e = at_name (c ∷ cs) _ _ refl refl
-      (sym (shows_s.catalog (c ∷ cs)) ∙ shows_r.catalog (c ∷ cs))
+      (sym (agrees_s.catalog (c ∷ cs) tt) ∙ agrees_r.catalog (c ∷ cs) tt)
 
   -- the rows show one state at most
   one_shown : s ≡ r
   one_shown =
       let tables : s.tables ≡ r.tables =
       map.same_map key_total key_exact _ _ (λ name. by_name name _ refl) in
-      let numbers : s.next_number ≡ r.next_number = sym shows_s.number ∙ shows_r.number in
+      let numbers : s.next_number ≡ r.next_number = sym agrees_s.number ∙ agrees_r.number in
       λ i. record { tables = tables i; next_number = numbers i; next_family = next_families i }
 
 -- no table of a valid state has the empty name
@@ -141,13 +142,31 @@ nameless s valid = by_table (map.get s.tables []) refl
         let spelled : is_name [] ≡ true = ap is_name (sym table.named) ∙ table.made.spelled in
         absurd (false≢true spelled)
 
--- Rows show one valid state at most.
+-- Rows of the catalog and of tables are those of one valid state at most.
+pub one_agrees : (l : Layout) (s r : State) → AgreesWhole l s → AgreesWhole l r → s ≡ r
+one_agrees l s r agrees_s agrees_r =
+    one_shown l s r agrees_s agrees_r (nameless s agrees_s.valid) (nameless r agrees_r.valid)
+    (let last = agrees_s.valid.next_family.1 in omega (arith, last))
+    (let last = agrees_r.valid.next_family.1 in omega (arith, last))
+
+-- where rows show a state, those of some places are its rows
+pub agrees_all : (Here : ℕ → List ℕ → Type 0) (l : Layout) (s : State) → Shows l s → IsValid s
+    → IsHeldWhole s → Agrees Here l s
+agrees_all Here l s shows valid held = record {
+  number = shows.number;
+  catalog = λ key here. shows.catalog key;
+  items = λ name t at key here. shows.items name t at key;
+  beyond = λ family key high here. shows.beyond family key high;
+  valid = valid;
+  held = held;
+}
+
+-- So rows show one valid state at most.
 pub one_state : (l : Layout) (s r : State) → Shows l s → Shows l r → IsValid s → IsValid r
     → IsHeldWhole s → IsHeldWhole r → s ≡ r
-one_state l s r shows_s shows_r valid_s valid_r held_s held_r =
-    one_shown l s r shows_s shows_r valid_s valid_r held_s held_r (nameless s valid_s)
-    (nameless r valid_r) (let last = valid_s.next_family.1 in omega (arith, last))
-    (let last = valid_r.next_family.1 in omega (arith, last))
+one_state l s r shows_s shows_r valid_s valid_r held_s held_r = one_agrees l s r
+    (agrees_all (λ f k. Unit {0}) l s shows_s valid_s held_s)
+    (agrees_all (λ f k. Unit {0}) l r shows_r valid_r held_r)
 
 -- An image stands for at most one state.
 pub one_state_of_image : (image : ℕ → Option (List ℕ)) (s r : State) → StandsFor image s

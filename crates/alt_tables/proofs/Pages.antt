@@ -1,5 +1,5 @@
 -- The rows of the items in a range of places, and the items that are read from them.
-use Rattle.std.proofs.Common.{◌≡◌, ◌<◌, refl, sym, ap, ◌∙◌, ℕ, zero, suc, Bool, true, false, cond, T, List, [], ◌∷◌, ◌++◌, map, reverse, take, length, get_or, Option, Some, None, Result, Ok, Err, OnOk, IfErr, IsTrue, option_map, All, append_assoc, arith}
+use Rattle.std.proofs.Common.{◌≡◌, ◌<◌, refl, sym, ap, subst, ◌∙◌, ℕ, zero, suc, Bool, true, false, cond, T, List, [], ◌∷◌, ◌++◌, map, reverse, take, length, get_or, Option, Some, None, Result, Ok, Err, OnOk, IfErr, IsTrue, option_map, slice_get, All, append_assoc, arith}
 use Rattle.std.proofs.lemmas.List.{map-append, take-map}
 use Rattle.std.proofs.lemmas.List.Elements.{All-nil, All-cons, All-head, All-tail, All-push, All-map, All-take, All-filter}
 use Rattle.std.proofs.lemmas.List.Sorted.{All-permutation, IsPermutation-reverse}
@@ -17,22 +17,28 @@ use Rattle.alt_cells.proofs.Entries.{first, second, find_below}
 use Rattle.alt_disk.specs.Disk.{DiskState}
 use Rattle.alt_disk.proofs.Runs.{tells_of}
 use Rattle.alt_engine.specs.InHand.{Reads as EngineReads}
-use Rattle.alt_engine.specs.Layout.{Layout, rows_between, shown_of, shown_rows, end_bound as rows_end}
+use Rattle.alt_engine.specs.Layout.{Layout, rows_between, shown, shown_of, shown_rows, end_bound as rows_end}
 use Rattle.alt_engine.proofs.ShownLaws.{find-shown, is_sorted-shown, shown-filter, shown-turned}
-use Rattle.alt_machine.specs.State.{State, Table}
-use Rattle.alt_machine.specs.Walks.{end_bound, items_between, placed_items, turned}
+use Rattle.alt_machine.specs.Indexed.{index_items}
+use Rattle.alt_machine.specs.Sources.{index_at}
+use Rattle.alt_machine.specs.State.{State, Table, Texts}
+use Rattle.alt_machine.specs.Walks.{end_bound, items_between, turned}
+use Rattle.alt_machine.proofs.Indexing.{all_index}
+use Rattle.alt_schema.specs.declared.schema.IndexSchema.{IndexSchema}
 use Rattle.alt_schema.specs.declared.schema.TableSchema.{TableSchema}
 use Rattle.alt_tables.specs.Faults.{IsFindFault, IsReadFault}
-use Rattle.alt_tables.specs.ItemRows.{IsReadItem, item_columns}
-use Rattle.alt_tables.specs.Pages.{AreItemsOf, ArePut}
-use Rattle.alt_tables.specs.StateRows.{Shows}
+use Rattle.alt_views.specs.ItemRows.{IsReadItem, item_columns}
+use Rattle.alt_tables.specs.Pages.{AreItemsOf, AreKept, ArePut}
 use Rattle.alt_tables.specs.Stands.{Stands, catalog_of}
 use Rattle.alt_tables.specs.declared.faults.TableFault.{TableFault}
 use Rattle.alt_tables.specs.declared.faults.TableFault.TheVariants.{Spent, Damaged, BadRow, Failed, NoMemory}
 use Rattle.alt_tables.specs.declared.tables.Tables.{Tables}
 use Rattle.alt_tables.proofs.ChangeLaws.{tied, itself}
 use Rattle.alt_tables.proofs.Engine.{finds_shown}
-use Rattle.alt_tables.proofs.ItemRowLaws.{item_columns-one}
+use Rattle.alt_views.specs.IndexRows.{index_columns}
+use Rattle.alt_views.specs.Read.{IsKeptAt}
+use Rattle.alt_views.proofs.ItemRowLaws.{item_columns-one}
+use Rattle.alt_views.proofs.Keeping.{kept_at}
 use Rattle.alt_tables.proofs.OneState.{some, has_whole}
 use Rattle.alt_tables.proofs.Standing.{known}
 use Rattle.alt_value.specs.Members.{text_order}
@@ -96,31 +102,85 @@ same_items (x ∷ xs) (y ∷ ys) h k e =
     let rest = same_items xs ys (All-tail IsReadItem x xs h) (All-tail IsReadItem y ys k) both.1 in
     λ i. one i ∷ rest i
 
+-- ---- what an index keeps, as it is put row by row
+
+-- what is kept at some rows and one more
+record KeptMore (d : TableSchema) (i : IndexSchema) (page : List (List ℕ × Columns))
+    (e : List ℕ × Columns) (items : List (List Pair)) : Type 0 where
+  front : List (List Pair)
+  item : List Pair
+  are : items ≡ front ++ item ∷ []
+  kept : AreKept d i page front
+  last : IsKeptAt d i item e.0 e.1
+
+kept_more : (d : TableSchema) (i : IndexSchema) (page : List (List ℕ × Columns))
+    (e : List ℕ × Columns) (items : List (List Pair)) → AreKept d i (page ++ e ∷ []) items
+    → KeptMore d i page e items
+kept_more d i [] e [] kept = absurd kept
+kept_more d i [] e (x ∷ []) kept =
+    record { front = []; item = x; are = refl; kept = tt; last = kept.0 }
+kept_more d i [] e (x ∷ y ∷ ys) kept = absurd kept.1
+kept_more d i (p ∷ page) e [] kept = absurd kept
+kept_more d i (p ∷ page) e (x ∷ xs) kept =
+    let rest = kept_more d i page e xs kept.1 in
+    record {
+      front = x ∷ rest.front;
+      item = rest.item;
+      are = ap (λ items. x ∷ items) rest.are;
+      kept = (kept.0, rest.kept);
+      last = rest.last;
+    }
+
+-- what is kept at one row more is put behind what was
+pub put_kept : (d : TableSchema) (i : IndexSchema) (page : List (List ℕ × Columns))
+    (e : List ℕ × Columns) (item : List Pair) (old mid new : List (List Pair))
+    → ((items : List (List Pair)) → AreKept d i page items → mid ≡ old ++ items)
+    → ((kept : List Pair) → IsKeptAt d i kept e.0 e.1 → item ≡ kept) → new ≡ mid ++ item ∷ []
+    → (items : List (List Pair)) → AreKept d i (page ++ e ∷ []) items → new ≡ old ++ items
+put_kept d i page e item old mid new so_far reads push items kept =
+    let more = kept_more d i page e items kept in
+    push ∙ ap (λ put. put ++ item ∷ []) (so_far more.front more.kept)
+    ∙ append_assoc old more.front (item ∷ [])
+    ∙ ap (λ x. old ++ (more.front ++ x ∷ [])) (reads more.item more.last)
+    ∙ ap (λ put. old ++ put) (sym more.are)
+
+-- at each row something is kept
+pub kept_row : (d : TableSchema) (i : IndexSchema) (page : List (List ℕ × Columns))
+    (items : List (List Pair)) (k : ℕ) (e : List ℕ × Columns) → AreKept d i page items
+    → k < length page → e ≡ get_or page k e → (item : List Pair) × IsKeptAt d i item e.0 e.1
+kept_row d i [] items k e kept within is = absurd (omega (arith, within))
+kept_row d i (p ∷ page) [] k e kept within is = absurd kept
+kept_row d i (p ∷ page) (x ∷ xs) zero e kept within is =
+    (x, subst (λ (q : List ℕ × Columns). IsKeptAt d i x q.0 q.1) (sym is) kept.0)
+kept_row d i (p ∷ page) (x ∷ xs) (suc k) e kept within is =
+    kept_row d i page xs k e kept.1 (omega (arith, within)) is
+
 -- ---- entries of items as those of rows
 
--- the row of an item is shown
-abbrev as_row : List Pair → Option Columns
-as_row item = Some (item_columns item)
+module _ (columns : List Pair → Columns) where
+  -- the row of an item is shown
+  abbrev as_row : List Pair → Option Columns
+  as_row item = Some (columns item)
 
--- the row of an item at its place
-abbrev row_at : List ℕ × List Pair → List ℕ × Columns
-row_at e = (e.0, item_columns e.1)
+  -- the row of an item at its place
+  abbrev row_at : List ℕ × List Pair → List ℕ × Columns
+  row_at e = (e.0, columns e.1)
 
--- the rows that are shown are those of all
-shown_of-rows : (es : List (List ℕ × List Pair)) → shown_of as_row es ≡ map row_at es
-shown_of-rows [] = refl
-shown_of-rows (e ∷ es) = ap (λ rows. row_at e ∷ rows) (shown_of-rows es)
+  -- the rows that are shown are those of all
+  shown_of-rows : (es : List (List ℕ × List Pair)) → shown_of as_row es ≡ map row_at es
+  shown_of-rows [] = refl
+  shown_of-rows (e ∷ es) = ap (λ rows. row_at e ∷ rows) (shown_of-rows es)
 
--- their columns
-columns-rows : (es : List (List ℕ × List Pair))
-    → map (λ (e : List ℕ × Columns). e.1) (map row_at es) ≡ map item_columns (map (λ e. e.1) es)
-columns-rows [] = refl
-columns-rows (e ∷ es) = ap (λ cs. item_columns e.1 ∷ cs) (columns-rows es)
+  -- their columns
+  columns-rows : (es : List (List ℕ × List Pair))
+      → map (λ (e : List ℕ × Columns). e.1) (map row_at es) ≡ map columns (map (λ e. e.1) es)
+  columns-rows [] = refl
+  columns-rows (e ∷ es) = ap (λ cs. columns e.1 ∷ cs) (columns-rows es)
 
--- the row of an item that may not be there
-row_of : (o : Option (List Pair)) → option_map item_columns o ≡ option_and_then as_row o
-row_of None = refl
-row_of (Some item) = refl
+  -- the row of an item that may not be there
+  row_of : (o : Option (List Pair)) → option_map columns o ≡ option_and_then as_row o
+  row_of None = refl
+  row_of (Some item) = refl
 
 -- a walk over rows goes as one over items
 same_turned : {A : Type 0} (forward : Bool) (xs : List A)
@@ -136,11 +196,12 @@ same_end (Some to) = refl
 -- ---- what holds of each item
 
 -- of each that is found, so of each entry
-each_found : (P : List Pair → Type 0) (es : List (List ℕ × List Pair)) → T (is_sorted key_cmp es)
-    → ((place : List ℕ) (item : List Pair) → find key_cmp place es ≡ Some item → P item)
-    → All (λ e. P e.1) es
-each_found P [] sorted found = All-nil (λ (e : List ℕ × List Pair). P e.1)
-each_found P (e ∷ es) sorted found = All-cons (λ (e : List ℕ × List Pair). P e.1) e es
+each_found : (P : List ℕ × List Pair → Type 0) (es : List (List ℕ × List Pair))
+    → T (is_sorted key_cmp es)
+    → ((place : List ℕ) (item : List Pair) → find key_cmp place es ≡ Some item → P (place, item))
+    → All P es
+each_found P [] sorted found = All-nil P
+each_found P (e ∷ es) sorted found = All-cons P e es
     (found e.0 e.1 (ap (λ b. cond b (Some e.1) (find key_cmp e.0 es)) (itself e.0)))
     (each_found P es (second (below_all key_cmp e.0 es) _ sorted)
     (λ place item at. found place item (later place item at (eq_by_cmp key_cmp place e.0) refl)))
@@ -163,98 +224,178 @@ All-turned : {A : Type 0} (P : A → Type 0) (forward : Bool) (xs : List A) → 
 All-turned P true xs all = all
 All-turned P false xs all = All-permutation P xs (reverse xs) (IsPermutation-reverse xs) all
 
--- ---- the rows of a table
+-- ---- the rows of a family
 
-module _ (l : Layout) (s : State) (name : List ℕ) (t : Table) (shows : Shows l s)
-    (at : finite.get s.tables name ≡ Some t) where
-  -- the rows that the table's family shows
+module _ (columns : List Pair → Columns) (l : Layout) (family : ℕ) (items : Texts (List Pair))
+    (shows : (key : List ℕ) → shown l family key ≡ option_map columns (finite.get items key)) where
+  -- the rows that the family shows
   abbrev rows : finite.FinMap key_cmp Columns
-  rows = shown_rows l t.description.family
+  rows = shown_rows l family
 
   -- are those of its items, in the order of their places
-  entries-rows : finite.entries rows ≡ shown_of as_row (placed_items t)
+  entries-rows : finite.entries rows ≡ shown_of (as_row columns) (finite.entries items)
   entries-rows = same_entries key_cmp key_total key_exact _ _ (finite.entries_sorted rows)
-      (is_sorted-shown as_row (placed_items t) (finite.entries_sorted t.items))
-      (λ q. sym (finite.get-entries rows q) ∙ finds_shown l t.description.family q
-      ∙ shows.items name t at q ∙ row_of (finite.get t.items q)
-      ∙ ap (option_and_then as_row) (finite.get-entries t.items q)
-      ∙ sym (find-shown as_row q (placed_items t) (finite.entries_sorted t.items)))
+      (is_sorted-shown (as_row columns) (finite.entries items) (finite.entries_sorted items))
+      (λ q. sym (finite.get-entries rows q) ∙ finds_shown l family q
+      ∙ shows q ∙ row_of columns (finite.get items q)
+      ∙ ap (option_and_then (as_row columns)) (finite.get-entries items q)
+      ∙ sym (find-shown (as_row columns) q (finite.entries items) (finite.entries_sorted items)))
 
   -- and so they are in a range
-  rows_between-items : (from : List ℕ) (to : Option (List ℕ)) (forward : Bool)
-      → rows_between l t.description.family from to forward ≡ map row_at (turned forward
-      (entries_between text_order (Included from) (end_bound to) (placed_items t)))
+  pub rows_between-items : (from : List ℕ) (to : Option (List ℕ)) (forward : Bool)
+      → rows_between l family from to forward ≡ map (row_at columns) (turned forward
+      (entries_between text_order (Included from) (end_bound to) (finite.entries items)))
   rows_between-items from to forward =
       let within : List (List ℕ × List Pair) =
-      entries_between text_order (Included from) (end_bound to) (placed_items t) in
+      entries_between text_order (Included from) (end_bound to) (finite.entries items) in
       ap (λ end. rows_turned forward (entries_between key_cmp (Included from) end
       (finite.entries rows))) (same_end to)
       ∙ ap (λ es. rows_turned forward (entries_between key_cmp (Included from) (end_bound to) es))
       entries-rows
-      ∙ ap (rows_turned forward) (sym (shown-filter as_row (range_contains key_cmp (Included from)
-      (end_bound to)) (placed_items t)))
-      ∙ sym (shown-turned as_row forward within)
-      ∙ shown_of-rows (rows_turned forward within)
-      ∙ ap (map row_at) (same_turned forward within)
+      ∙ ap (rows_turned forward) (sym (shown-filter (as_row columns) (range_contains key_cmp
+      (Included from) (end_bound to)) (finite.entries items)))
+      ∙ sym (shown-turned (as_row columns) forward within)
+      ∙ shown_of-rows columns (rows_turned forward within)
+      ∙ ap (map (row_at columns)) (same_turned forward within)
 
 -- ---- the rows that a walk gave
+
+-- the items of a range with their places
+abbrev placed_between : Texts (List Pair) → List ℕ → Option (List ℕ) → Bool
+    → List (List ℕ × List Pair)
+placed_between items from to forward = turned forward
+    (entries_between text_order (Included from) (end_bound to) (finite.entries items))
+
+-- what holds of each item that is found holds of each of a range
+All-placed : (P : List ℕ × List Pair → Type 0) (items : Texts (List Pair)) (from : List ℕ)
+    (to : Option (List ℕ)) (forward : Bool)
+    → ((place : List ℕ) (item : List Pair) → finite.get items place ≡ Some item → P (place, item))
+    → All P (placed_between items from to forward)
+All-placed P items from to forward found =
+    All-turned P forward (entries_between text_order (Included from) (end_bound to)
+    (finite.entries items))
+    (All-filter (λ (e : List ℕ × List Pair). range_contains text_order (Included from)
+    (end_bound to) e.0) P (finite.entries items)
+    (each_found P (finite.entries items) (finite.entries_sorted items)
+    (λ place item at. found place item (finite.get-entries items place ∙ at))))
+
+-- the description that is known is that of the table
+pub same_table : (disk : DiskState) (tables : Tables) (s : State) (name : List ℕ) (t : Table)
+    (d : TableSchema) → Stands disk tables s → finite.get s.tables name ≡ Some t
+    → finite.get (catalog_of tables) name ≡ Some d → d ≡ t.description
+same_table disk tables s name t d stands at known_as =
+    some _ _ (sym known_as ∙ known disk tables s name t stands at)
 
 module _ (disk : DiskState) (tables : Tables) (s : State) (name : List ℕ) (t : Table)
     (d : TableSchema) (stands : Stands disk tables s) (at : finite.get s.tables name ≡ Some t)
     (known_as : finite.get (catalog_of tables) name ≡ Some d) (from : List ℕ)
     (to : Option (List ℕ)) (forward : Bool) (most : ℕ) (before page : List (List ℕ × Columns))
-    (empty : before ≡ []) (walked : IsTrue disk.tells → (l : Layout)
-    → EngineReads disk tables.engine l
-    → page ≡ before ++ take most (rows_between l d.family from to forward)) where
-  -- the items of the range with their places
-  abbrev placed : List (List ℕ × List Pair)
-  placed = turned forward
-      (entries_between text_order (Included from) (end_bound to) (placed_items t))
+    (empty : before ≡ []) where
+  same : d ≡ t.description
+  same = same_table disk tables s name t d stands at known_as
 
-  -- the rows are theirs
-  page_rows : page ≡ take most (map row_at placed)
-  page_rows =
+  -- the rows of a walk over a family are those of the items there
+  page_rows : (family : ℕ) → (IsTrue disk.tells → (l : Layout) → EngineReads disk tables.engine l
+      → page ≡ before ++ take most (rows_between l family from to forward))
+      → (columns : List Pair → Columns) (items : Texts (List Pair))
+      → ((key : List ℕ) → shown stands.rows.layout family key
+      ≡ option_map columns (finite.get items key))
+      → page ≡ take most (map (row_at columns) (placed_between items from to forward))
+  page_rows family walked columns items shows =
       let l = stands.rows.layout in
       walked (tells_of disk stands.rows.trusted) l stands.rows.is.reads
       ∙ ap (λ (rows : List (List ℕ × Columns)). rows
-      ++ take most (rows_between l d.family from to forward)) empty
-      ∙ ap (λ (x : TableSchema). take most (rows_between l x.family from to forward))
-      (some _ _ (sym known_as ∙ known disk tables s name t stands at))
-      ∙ ap (take most) (rows_between-items l s name t stands.rows.shows at from to forward)
+      ++ take most (rows_between l family from to forward)) empty
+      ∙ ap (take most) (rows_between-items columns l family items shows from to forward)
+
+  -- ---- of a table
 
   -- an item of the table can be read
-  read_item : (place : List ℕ) (item : List Pair)
-      → find key_cmp place (finite.entries t.items) ≡ Some item → IsReadItem item
-  read_item place item found =
-      let here : finite.get t.items place ≡ Some item = finite.get-entries t.items place ∙ found in
-      record {
-        whole = has_whole s stands.valid stands.rows.held name t at place item here;
-        depth = ((stands.valid.tables name t at).items place item here).depth;
-      }
-
-  -- they are the rows of the items that are to be given
-  pub page_reads : AreItemsOf page (take most (items_between t from to forward))
-  page_reads = record {
-    read = All-take IsReadItem most (items_between t from to forward)
-        (All-map IsReadItem (λ (e : List ℕ × List Pair). e.1) placed
-        (All-turned CanBeRead forward (entries_between text_order (Included from) (end_bound to)
-        (placed_items t))
-        (All-filter (λ (e : List ℕ × List Pair). range_contains text_order (Included from)
-        (end_bound to) e.0) CanBeRead (placed_items t)
-        (each_found IsReadItem (placed_items t) (finite.entries_sorted t.items) read_item))));
-    rows = ap (map (λ (e : List ℕ × Columns). e.1)) page_rows
-        ∙ sym (take-map (λ (e : List ℕ × Columns). e.1) most (map row_at placed))
-        ∙ ap (take most) (columns-rows placed)
-        ∙ take-map item_columns most (map (λ (e : List ℕ × List Pair). e.1) placed);
+  read_item : (place : List ℕ) (item : List Pair) → finite.get t.items place ≡ Some item
+      → IsReadItem item
+  read_item place item here = record {
+    whole = has_whole s stands.valid stands.rows.held name t at place item here;
+    depth = ((stands.valid.tables name t at).items place item here).depth;
   }
 
-  -- so what was read of them are these items
-  pub page_items : (old new : List (List Pair)) → ArePut page old new
-      → new ≡ old ++ take most (items_between t from to forward)
-  page_items old new put = put.put ∙ ap (λ items. old ++ items)
-      (same_items put.items _ put.are.read page_reads.read (sym put.are.rows ∙ page_reads.rows))
+  module _ (walked : IsTrue disk.tells → (l : Layout) → EngineReads disk tables.engine l
+      → page ≡ before ++ take most (rows_between l d.family from to forward)) where
+    -- the rows are those of the items that are to be given
+    pub page_reads : AreItemsOf page (take most (items_between t None from to forward))
+    page_reads =
+        let placed = placed_between t.items from to forward in
+        record {
+          read = All-take IsReadItem most (items_between t None from to forward)
+              (All-map IsReadItem (λ (e : List ℕ × List Pair). e.1) placed
+              (All-placed CanBeRead t.items from to forward read_item));
+          rows = ap (map (λ (e : List ℕ × Columns). e.1))
+              (page_rows d.family walked item_columns t.items (λ key.
+              ap (λ (x : TableSchema). shown stands.rows.layout x.family key) same
+              ∙ stands.rows.shows.items name t at key))
+              ∙ sym (take-map (λ (e : List ℕ × Columns). e.1) most (map (row_at item_columns) placed))
+              ∙ ap (take most) (columns-rows item_columns placed)
+              ∙ take-map item_columns most (map (λ (e : List ℕ × List Pair). e.1) placed);
+        }
+
+    -- so what was read of them are these items
+    pub page_items : (old new : List (List Pair)) → ArePut page old new
+        → new ≡ old ++ take most (items_between t None from to forward)
+    page_items old new put = put.put ∙ ap (λ items. old ++ items)
+        (same_items put.items _ put.are.read page_reads.read
+        (sym put.are.rows ∙ page_reads.rows))
+
+  -- ---- of an index
+
+  module _ (number : ℕ) (i : IndexSchema) (at_index : index_at d (Some number) ≡ Some i)
+      (walked : IsTrue disk.tells → (l : Layout) → EngineReads disk tables.engine l
+      → page ≡ before ++ take most (rows_between l i.family from to forward)) where
+    at_own : index_at t.description (Some number) ≡ Some i
+    at_own = ap (λ (x : TableSchema). index_at x (Some number)) (sym same) ∙ at_index
+
+    -- what the index keeps of an item is read from its row
+    is_kept : (key : List ℕ) (row : List Pair)
+        → finite.get (index_items t.description i t.items) key ≡ Some row
+        → IsKeptAt d i row key (index_columns t.description i row)
+    is_kept key row found =
+        let indexes = all_index s name t number i stands.valid stands.rows.held.items at at_own in
+        let (place, item, here, entry) = indexes.alone key row found in
+        subst (λ (x : TableSchema). IsKeptAt x i row key (index_columns t.description i row))
+        (sym same)
+        (kept_at t.description number i item key row (stands.valid.tables name t at).made
+        at_own (read_item place item here) entry)
+
+    -- Each row is that of what the index keeps of the items that are to be given.
+    pub page_kept : AreKept d i page (take most (items_between t (Some i) from to forward))
+    page_kept =
+        let items = index_items t.description i t.items in
+        let columns = index_columns t.description i in
+        let placed = placed_between items from to forward in
+        subst (λ rows. AreKept d i rows (take most (map (λ e. e.1) placed)))
+        (sym (page_rows i.family walked columns items
+        (stands.rows.shows.indexes name t number i at at_own)))
+        (kept-take most placed
+        (All-placed (λ e. IsKeptAt d i e.1 e.0 (columns e.1)) items from to forward is_kept))
+      where
+        kept-take : (n : ℕ) (es : List (List ℕ × List Pair))
+            → All (λ e. IsKeptAt d i e.1 e.0 (index_columns t.description i e.1)) es
+            → AreKept d i (take n (map (row_at (index_columns t.description i)) es))
+            (take n (map (λ e. e.1) es))
+        kept-take zero es all = tt
+        kept-take (suc n) [] all = tt
+        kept-take (suc n) (e ∷ es) all = (
+          All-head (λ e. IsKeptAt d i e.1 e.0 (index_columns t.description i e.1)) e es all,
+          kept-take n es
+              (All-tail (λ e. IsKeptAt d i e.1 e.0 (index_columns t.description i e.1)) e es all),
+        )
 
 -- ---- the answer of a walk
+
+-- where a list goes so far, something stands
+pub within_some : {A : Type 0} (xs : List A) (n : ℕ) → n < length xs
+    → (x : A) × (slice_get xs n ≡ Some x)
+within_some [] n within = absurd (omega (arith, within))
+within_some (x ∷ xs) zero within = (x, refl)
+within_some (x ∷ xs) (suc n) within = within_some xs n (omega (arith, within))
 
 -- what holds at Ok holds in other words
 pub ok_then : {A E P Q : Type 0} (r : Result A E) → (P → Q) → OnOk r P → OnOk r Q

@@ -1,6 +1,7 @@
 -- What is known of a store that is opened.
-use Rattle.std.proofs.Common.{◌≡◌, ◌≤◌, refl, sym, subst, ◌∙◌, ℕ, List, [], ◌∷◌, Option, arith}
+use Rattle.std.proofs.Common.{◌≡◌, ◌≤◌, inl, inr, refl, sym, ap, subst, ◌∙◌, ℕ, List, [], ◌∷◌, Option, arith}
 use Rattle.std.specs.Prelude.{⊤}
+use Rattle.std.specs.FinMap as map
 use Rattle.alt_disk.specs.Disk.{DiskState, IsTrusted}
 use Rattle.alt_disk.specs.Runs.{Quiet, Spans}
 use Rattle.alt_disk.proofs.Runs.{trusted_on, tells_of, quiet_start}
@@ -18,7 +19,7 @@ use Rattle.alt_machine.specs.State.{State}
 use Rattle.alt_machine.specs.Valid.{IsValid}
 use Rattle.alt_tables.specs.Images.{StandsFor}
 use Rattle.alt_tables.specs.Opening.{Assembled, IsRowFault}
-use Rattle.alt_tables.specs.Recovery.{Agrees, IsUpTo, IsExplained, HasNoState, WasLeft, unopened}
+use Rattle.alt_tables.specs.Recovery.{IsFirstWrong, IsUpTo, IsExplained, HasNoState, WasLeft, unopened}
 use Rattle.alt_tables.specs.Scans.{Walked}
 use Rattle.alt_tables.specs.StateRows.{Shows, IsHeldWhole}
 use Rattle.alt_tables.specs.Stands.{Stands}
@@ -26,7 +27,7 @@ use Rattle.alt_tables.specs.declared.faults.OpenFault.{OpenFault}
 use Rattle.alt_tables.specs.declared.faults.OpenFault.TheVariants.{Damaged, BadRow, Failed, NoMemory}
 use Rattle.alt_tables.specs.declared.tables.Tables.{Tables}
 use Rattle.alt_tables.proofs.Engine.{stays_quiet}
-use Rattle.alt_tables.proofs.OneState.{one_state_of_image}
+use Rattle.alt_tables.proofs.OneState.{agrees_all, one_agrees, one_state_of_image}
 
 -- ---- the number
 
@@ -106,17 +107,16 @@ module _ (old mid new : DiskState) (e f : Engine) (l : Layout) (is : IsLayout ol
 
 -- ---- no state was read
 
--- where rows show a state, those of some places are its rows
-pub agrees_all : (Here : ℕ → List ℕ → Type 0) (l : Layout) (s : State) → Shows l s → IsValid s
-    → IsHeldWhole s → Agrees Here l s
-agrees_all Here l s shows valid held = record {
-  number = shows.number;
-  catalog = λ key here. shows.catalog key;
-  items = λ name t at key here. shows.items name t at key;
-  beyond = λ family key high here. shows.beyond family key high;
-  valid = valid;
-  held = held;
-}
+-- rows that a state shows have no first wrong one
+pub none_wrong : (l : Layout) (family : ℕ) (key : List ℕ) → IsFirstWrong l family key → (s : State)
+    → Shows l s → IsValid s → IsHeldWhole s → ⊥
+none_wrong l family key (inl first) s shows valid held = first.none s
+    (agrees_all (λ f k. IsUpTo f k family key) l s shows valid held)
+none_wrong l family key (inr first) s shows valid held =
+    let one : first.state ≡ s = one_agrees l first.state s first.agrees
+    (agrees_all (λ f k. Unit {0}) l s shows valid held) in
+    first.wrong (shows.indexes first.name first.table first.number first.index
+    (ap (λ (r : State). map.get r.tables first.name) (sym one) ∙ first.there) first.at key)
 
 module _ (files : ℕ → Option (List ℕ)) where
   -- a fault of the rows of the files
@@ -130,11 +130,9 @@ module _ (files : ℕ → Option (List ℕ)) where
   pub rows_no_state : (l : Layout) → IsLayout files l → (fault : OpenFault) → IsRowFault l fault
       → HasNoState files fault
   rows_no_state l is (Damaged file at) wrong = absurd wrong
-  rows_no_state l is (BadRow family key) wrong = λ s stands. wrong.none s
-      (subst (λ m. Agrees (λ f k. IsUpTo f k family key) m s)
-      (one_layout files stands.layout l stands.is is)
-      (agrees_all (λ f k. IsUpTo f k family key) stands.layout s stands.shows stands.valid
-      stands.held))
+  rows_no_state l is (BadRow family key) wrong = λ s stands. none_wrong l family key wrong s
+      (subst (λ m. Shows m s) (one_layout files stands.layout l stands.is is) stands.shows)
+      stands.valid stands.held
   rows_no_state l is Failed wrong = wrong
   rows_no_state l is NoMemory wrong = wrong
 

@@ -9,11 +9,9 @@ use Rattle.alt_disk.proofs.Runs.{quiet_start, quiet_then}
 use Rattle.alt_engine.specs.InHand.{Reads, SameEngine}
 use Rattle.alt_engine.specs.Layout.{Layout, shown}
 use Rattle.alt_engine.specs.declared.engine.Engine.{Engine}
-use Rattle.alt_schema.specs.declared.schema.TableSchema.{TableSchema}
-use Rattle.alt_tables.specs.Scans.{IsBelow, IsFirstFrom, IsNextRow, IsItemAt, ItemsWhere, ItemsRead, Walked}
+use Rattle.alt_tables.specs.Scans.{IsBelow, IsFirstFrom, IsNextRow, RowsWhere, Walked}
 use Rattle.alt_tables.proofs.Engine.{reads_quiet}
 use Rattle.alt_tables.proofs.NextRow.{below_after}
-use Rattle.alt_value.specs.Tree.{Pair}
 
 -- ---- walks
 
@@ -49,7 +47,10 @@ pub reads_on : (a b : DiskState) (e f : Engine) (l : Layout) → Walked a b e f 
 reads_on a b e f l walked tells reads = walked.same.reads b l
     (reads_quiet a b e l reads (walked.quiet tells))
 
--- ---- items
+-- ---- rows of a family
+
+same_Some : {A : Type 0} (x y : A) → Some x ≡ Some y → x ≡ y
+same_Some x y e = cc
 
 -- a key is below another, or it isn't
 pub below_or_not : (k from : List ℕ) → IsBelow k from ⊎ (IsBelow k from → ⊥)
@@ -60,48 +61,40 @@ below_or_not k from = by (key_cmp k from) refl
     by Equal e = inr (λ low. let f : Equal ≡ Less = sym e ∙ low in let g : ⊥ = cc in g)
     by Greater e = inr (λ low. let f : Greater ≡ Less = sym e ∙ low in let g : ⊥ = cc in g)
 
-module _ (l : Layout) (d : TableSchema) (from : List ℕ)
-    (so_far : ItemsWhere (λ k. IsBelow k from) l d) where
-  -- those before the next row
-  pub items_next : (key : List ℕ) (row : Columns) → IsFirstFrom l d.family from key row
-      → ItemsWhere (λ k. IsBelow k key) l d
-  items_next key row first k c low shows = ⊎_elim
-      (λ (below : IsBelow k from). so_far k c below shows)
-      (λ (above : IsBelow k from → ⊥). absurd (let no : None ≡ Some c =
-      sym (first.between k above low) ∙ shows in let f : ⊥ = cc in f))
-      (below_or_not k from)
+module _ (l : Layout) (family : ℕ) (P : List ℕ → Columns → Type 0) where
+  module _ (from : List ℕ) (so_far : RowsWhere (λ k. IsBelow k from) l family P) where
+    -- those before the next row
+    pub rows_next : (key : List ℕ) (row : Columns) → IsFirstFrom l family from key row
+        → RowsWhere (λ k. IsBelow k key) l family P
+    rows_next key row first k c low shows = ⊎_elim
+        (λ (below : IsBelow k from). so_far k c below shows)
+        (λ (above : IsBelow k from → ⊥). absurd (let no : None ≡ Some c =
+        sym (first.between k above low) ∙ shows in let f : ⊥ = cc in f))
+        (below_or_not k from)
 
-  -- all, where none follows
-  pub items_all : IsNextRow l d.family from None → ItemsRead l d
-  items_all none k c here shows = ⊎_elim
-      (λ (below : IsBelow k from). so_far k c below shows)
-      (λ (above : IsBelow k from → ⊥). absurd (let no : None ≡ Some c =
-      sym (none k above) ∙ shows in let f : ⊥ = cc in f))
-      (below_or_not k from)
+    -- all, where none follows
+    pub rows_all : IsNextRow l family from None → RowsWhere (λ k. Unit {0}) l family P
+    rows_all none k c here shows = ⊎_elim
+        (λ (below : IsBelow k from). so_far k c below shows)
+        (λ (above : IsBelow k from → ⊥). absurd (let no : None ≡ Some c =
+        sym (none k above) ∙ shows in let f : ⊥ = cc in f))
+        (below_or_not k from)
 
-same_Some : {A : Type 0} (x y : A) → Some x ≡ Some y → x ≡ y
-same_Some x y e = cc
+  -- and the one at a key
+  pub rows_more : (key : List ℕ) (row : Columns) → RowsWhere (λ k. IsBelow k key) l family P
+      → shown l family key ≡ Some row → P key row → (after : List ℕ) → after ≡ key ++ 0 ∷ []
+      → RowsWhere (λ k. IsBelow k after) l family P
+  rows_more key row so_far shows is after at k c low there = ⊎_elim
+      (λ (below : IsBelow k key). so_far k c below there)
+      (λ (same : k ≡ key). subst (λ q. P q c) (sym same)
+      (subst (P key)
+      (same_Some row c (sym shows ∙ ap (shown l family) (sym same) ∙ there)) is))
+      (below_after k key (subst (IsBelow k) at low))
 
--- and the one at a key
-pub items_more : (l : Layout) (d : TableSchema) (key : List ℕ) (row : Columns) (item : List Pair)
-    → ItemsWhere (λ k. IsBelow k key) l d → shown l d.family key ≡ Some row
-    → IsItemAt d key row item → (after : List ℕ) → after ≡ key ++ 0 ∷ []
-    → ItemsWhere (λ k. IsBelow k after) l d
-items_more l d key row item so_far shows is after at k c low there = ⊎_elim
-    (λ (below : IsBelow k key). so_far k c below there)
-    (λ (same : k ≡ key). (
-      item,
-      subst (λ q. IsItemAt d q c item) (sym same)
-          (subst (λ x. IsItemAt d key x item)
-          (same_Some row c (sym shows ∙ ap (shown l d.family) (sym same) ∙ there)) is),
-    ))
-    (below_after k key (subst (IsBelow k) at low))
-
--- where no key is below the first, none was read
-pub items_none : (l : Layout) (d : TableSchema) (from : List ℕ) → from ≡ []
-    → ItemsWhere (λ k. IsBelow k from) l d
-items_none l d from none k c low shows = absurd (by k (subst (IsBelow k) none low))
-  where
-    by : (k : List ℕ) → IsBelow k [] → ⊥
-    by [] low = let f : ⊥ = cc in f
-    by (x ∷ xs) low = let f : ⊥ = cc in f
+  -- where no key is below the first, none was read
+  pub rows_none : (from : List ℕ) → from ≡ [] → RowsWhere (λ k. IsBelow k from) l family P
+  rows_none from none k c low shows = absurd (by k (subst (IsBelow k) none low))
+    where
+      by : (k : List ℕ) → IsBelow k [] → ⊥
+      by [] low = let f : ⊥ = cc in f
+      by (x ∷ xs) low = let f : ⊥ = cc in f

@@ -12,13 +12,13 @@ use Rattle.alt_engine.specs.Layout.{Layout, shown}
 use Rattle.alt_machine.specs.State.{State, Table, Texts, descriptions}
 use Rattle.alt_machine.proofs.Descriptions.{get-descriptions, no_description, table_of_description}
 use Rattle.alt_schema.specs.declared.schema.TableSchema.{TableSchema}
-use Rattle.alt_tables.specs.ItemRows.{IsReadItem, item_columns}
+use Rattle.alt_views.specs.ItemRows.{IsReadItem, item_columns}
 use Rattle.alt_tables.specs.Stands.{AreReady, Stands, catalog_of}
 use Rattle.alt_tables.specs.declared.tables.Tables.{Tables}
 use Rattle.alt_tables.proofs.ChangeLaws.{tied}
 use Rattle.alt_tables.proofs.Holding.{one_held}
 use Rattle.alt_tables.proofs.Engine.{stays_quiet}
-use Rattle.alt_tables.proofs.ItemRowLaws.{item_columns-one}
+use Rattle.alt_views.proofs.ItemRowLaws.{item_columns-one}
 use Rattle.alt_tables.proofs.OneState.{some, has_whole}
 use Rattle.alt_tables.proofs.Maps.{same_texts}
 use Rattle.alt_value.specs.Tree.{Pair}

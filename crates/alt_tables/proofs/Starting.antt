@@ -37,6 +37,7 @@ shows_start = record {
   number = refl;
   catalog = λ key. nothing 0 key ∙ sym (no_catalog key);
   items = λ name t at key. no_table name t at;
+  indexes = λ name t number i at at_index key. no_table name t at;
   beyond = λ family key high. nothing family key;
 }
 

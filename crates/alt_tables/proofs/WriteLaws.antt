@@ -1,5 +1,5 @@
 -- The rows of a state with the write of an item joined are the rows of the state after it.
-use Rattle.std.proofs.Common.{◌≡◌, ◌≢◌, ◌+◌, ◌<◌, ◌≤◌, ℕ, Bool, true, false, cond, List, [], ◌∷◌, Option, Some, None, IfSome, refl, sym, ap, subst, ◌∙◌, ◌⊎◌, inl, inr, Contains, arith}
+use Rattle.std.proofs.Common.{◌≡◌, ◌+◌, ◌<◌, ◌≤◌, ℕ, Bool, true, false, cond, List, [], ◌∷◌, Option, Some, None, IfSome, refl, sym, ap, subst, ◌∙◌, ◌⊎◌, inl, inr, Contains, arith}
 use Rattle.std.proofs.lemmas.Bool.{false≢true}
 use Rattle.std.specs.Prelude.{if◌then◌else◌, option_map}
 use Rattle.std.specs.Ordering.{eq_by_cmp}
@@ -13,18 +13,25 @@ use Rattle.alt_engine.specs.InHand.{batch_write}
 use Rattle.alt_engine.specs.Layout.{Layout, Write, with_write, shown, shown_by, change_of, ShowsWrite}
 use Rattle.alt_engine.proofs.LayoutLaws.{shows_write}
 use Rattle.alt_machine.specs.declared.TheConstants.{NUMBERS_END}
+use Rattle.alt_machine.specs.Sources.{index_at}
 use Rattle.alt_machine.specs.State.{State, Table, Texts, families_of}
-use Rattle.alt_machine.specs.Valid.{IsStored, IsTable, IsValid}
+use Rattle.alt_machine.specs.Valid.{IsStored, IsTable, IsValid, IsHeldState}
 use Rattle.alt_machine.specs.Writes.{with_item, with_write as with_row, after_item}
 use Rattle.alt_machine.proofs.Families.{of_contained}
+use Rattle.alt_machine.proofs.Indexing.{index_apart}
 use Rattle.alt_machine.proofs.Looks.{at_insert}
 use Rattle.alt_machine.proofs.States.{after_item_valid, with_item_stored}
 use Rattle.alt_schema.specs.Held.{IsHeld}
+use Rattle.alt_schema.specs.Indexes.{indexes}
+use Rattle.alt_schema.specs.declared.schema.IndexSchema.{IndexSchema}
 use Rattle.alt_schema.specs.declared.schema.TableSchema.{TableSchema}
-use Rattle.alt_tables.specs.ItemRows.{item_columns}
-use Rattle.alt_tables.specs.StateRows.{IsHeldWhole, Shows, Turns, catalog_family, catalog_rows, item_rows, table_row, next_row, item_changes}
-use Rattle.alt_tables.proofs.ChangeLaws.{tied, itself, one_change, other_family}
-use Rattle.alt_tables.proofs.ItemRowLaws.{items_can_show}
+use Rattle.alt_views.specs.ItemRows.{item_columns}
+use Rattle.alt_tables.specs.StateRows.{IsHeldWhole, Shows, Turns, catalog_family, catalog_rows, item_rows, index_rows, table_row, next_row, item_changes}
+use Rattle.alt_tables.proofs.ChangeLaws.{tied, itself, one_change, other_family, AreOthers, change_of-none, change_of-front}
+use Rattle.alt_tables.proofs.IndexShows.{change_of-index, index_shows}
+use Rattle.alt_tables.proofs.IndexFamilies.{index_family, index_family_differs, own_families, others-index_changes}
+use Rattle.alt_views.specs.IndexRows.{index_changes}
+use Rattle.alt_views.proofs.ItemRowLaws.{items_can_show}
 use Rattle.alt_tables.proofs.OneState.{some}
 use Rattle.alt_value.specs.Tree.{Pair}
 use Rattle.alt_value.specs.Values.{IsItemOfValues}
@@ -45,9 +52,18 @@ pub family_within : (s : State) (name : List ℕ) (t : Table) → IsTable s name
 family_within s name t is = of_contained (λ f. (1 ≤ f) × (f < s.next_family))
     (families_of t.description) t.description.family is.families (own_family t.description)
 
-module _ (l : Layout) (s : State) (shows : Shows l s) (valid : IsValid s) (moment : ℕ)
-    (name : List ℕ) (t : Table) (at : map.get s.tables name ≡ Some t) (place : List ℕ)
-    (new : Option (List Pair)) where
+-- the families of the indexes lie in the range of the table's
+pub index_within : (s : State) (name : List ℕ) (t : Table) → IsTable s name t → (n : ℕ)
+    (i : IndexSchema) → index_at t.description (Some n) ≡ Some i
+    → (1 ≤ i.family) × (i.family < s.next_family)
+index_within s name t is n i at = of_contained (λ f. (1 ≤ f) × (f < s.next_family))
+    (families_of t.description) i.family is.families (index_family t.description n i at)
+
+module _ (l : Layout) (s : State) (shows : Shows l s) (valid : IsValid s) (held : IsHeldState s)
+    (moment : ℕ) (name : List ℕ) (t : Table) (at : map.get s.tables name ≡ Some t)
+    (place : List ℕ) (new : Option (List Pair))
+    (stored : (item : List Pair) → new ≡ Some item → IsStored t.description place item)
+    (given : IfSome new IsItemOfValues) where
   abbrev change : RowChange
   change = change_between t.description.family place
       (option_map item_columns (map.get t.items place)) (option_map item_columns new)
@@ -76,23 +92,49 @@ module _ (l : Layout) (s : State) (shows : Shows l s) (valid : IsValid s) (momen
       by_name false e = ap (λ b. option_map (λ t. table_row t.description)
           (cond b (Some changed) (map.get s.tables key))) (sym e)
 
-  within : (1 ≤ t.description.family) × (t.description.family < s.next_family)
-  within = family_within s name t (valid.tables name t at)
+  -- each family of the table is one of those before the next
+  within_all : (family : ℕ) → Contains (families_of t.description) family
+      → (1 ≤ family) × (family < s.next_family)
+  within_all family = of_contained (λ f. (1 ≤ f) × (f < s.next_family))
+      (families_of t.description) family (valid.tables name t at).families
 
-  module _ (w : Write) (changes : w.changes ≡ change ∷ []) (numbered : w.number ≡ l.next_number)
-      (law : ShowsWrite l w) where
-    -- families without a change show what they showed
-    elsewhere : (family : ℕ) (key : List ℕ) → t.description.family ≢ family
+  -- what the indexes keep of the item that was there, and of the one that is to be there
+  abbrev index_part : List RowChange
+  index_part = index_changes t.description (map.get t.items place) new
+
+  is_table : IsTable s name t
+  is_table = valid.tables name t at
+
+  -- none of those changes is of the table's own family
+  index_part_apart : AreOthers t.description.family index_part
+  index_part_apart = others-index_changes t.description (map.get t.items place) new
+      t.description.family (indexes t.description)
+      (λ n i at same. index_family_differs t.description is_table.differ n i at (sym same))
+
+  module _ (w : Write) (changes : w.changes ≡ change ∷ index_part)
+      (numbered : w.number ≡ l.next_number) (law : ShowsWrite l w) where
+    -- families that aren't the table's show what they showed
+    elsewhere : (family : ℕ) (key : List ℕ)
+        → (Contains (families_of t.description) family → ⊥)
         → shown (with_write l w) family key ≡ shown l family key
     elsewhere family key other = law family key ∙ ap (λ c. shown_by c (shown l family key))
-        (ap (change_of family key) changes ∙ other_family change [] family key other)
+        (ap (change_of family key) changes
+        ∙ other_family change index_part family key
+        (λ same. other (subst (Contains (families_of t.description)) same
+        (own_family t.description)))
+        ∙ change_of-none family key index_part (others-index_changes t.description
+        (map.get t.items place) new family (indexes t.description)
+        (λ n i at same. other (subst (Contains (families_of t.description)) same
+        (index_family t.description n i at)))))
 
     -- and the table's shows the new item at its place
     here : (key : List ℕ) → shown (with_write l w) t.description.family key
         ≡ option_map item_columns (map.get (with_item t.items place new) key)
     here key = law t.description.family key
         ∙ ap (λ c. shown_by c (shown l t.description.family key))
-        (ap (change_of t.description.family key) changes ∙ one_change change key)
+        (ap (change_of t.description.family key) changes
+        ∙ change_of-front t.description.family key (change ∷ []) index_part index_part_apart
+        ∙ one_change change key)
         ∙ ap (shown_by (cond (eq_by_cmp key_cmp key place) (Some change) None))
         (shows.items name t at key)
         ∙ at_key (eq_by_cmp key_cmp key place) refl
@@ -107,6 +149,44 @@ module _ (l : Layout) (s : State) (shows : Shows l s) (valid : IsValid s) (momen
             (items_can_show new)
         at_key false e = refl
 
+    -- those of the indexes show what these keep of the items then
+    there : (n : ℕ) (i : IndexSchema) → index_at t.description (Some n) ≡ Some i
+        → (key : List ℕ) → shown (with_write l w) i.family key ≡ index_rows changed i key
+    there n i at_index = index_shows t.description i t.items place
+        (index_apart t.description i t.items
+        (λ q item here. (is_table.items q item here, held.items name q t item at here)))
+        l w law new
+        (index_apart t.description i (with_item t.items place new)
+        (λ q item here. (
+          with_item_stored s name t place new valid at stored q item here,
+          values_after q item here,
+        )))
+        (λ key. ap (change_of i.family key) changes
+        ∙ other_family change index_part i.family key
+        (index_family_differs t.description is_table.differ n i at_index)
+        ∙ change_of-index t.description (map.get t.items place) new (indexes t.description) n i
+        (own_families t.description is_table.differ) at_index key)
+        (shows.indexes name t n i at at_index)
+      where
+        values_after : (q : List ℕ) (item : List Pair)
+            → map.get (with_item t.items place new) q ≡ Some item → IsItemOfValues item
+        values_after q item here = by_key new (eq_by_cmp key_cmp q place) given
+            (sym (get-with_item t.items place new q) ∙ here)
+          where
+            by_key : (to : Option (List Pair)) (b : Bool) → IfSome to IsItemOfValues
+                → cond b to (map.get t.items q) ≡ Some item → IsItemOfValues item
+            by_key None true given e = let no : None ≡ Some item = e in cc no
+            by_key (Some x) true given e = subst IsItemOfValues (some x item e) given
+            by_key to false given e = held.items name q t item at e
+
+    -- the families of another table aren't those of this one
+    apart_from : (other : List ℕ) (u : Table) (family : ℕ) → map.get s.tables other ≡ Some u
+        → eq_by_cmp key_cmp other name ≡ false → Contains (families_of u.description) family
+        → Contains (families_of t.description) family → ⊥
+    apart_from other u family at_other e of_other own =
+        let one : other ≡ name = valid.families other name u t family at_other at of_other own in
+        false≢true (sym e ∙ ap (λ k. eq_by_cmp key_cmp k name) one ∙ itself name)
+
     items_after : (other : List ℕ) (u : Table) (b : Bool) → eq_by_cmp key_cmp other name ≡ b
         → cond b (Some changed) (map.get s.tables other) ≡ Some u
         → (key : List ℕ) → shown (with_write l w) u.description.family key ≡ item_rows u key
@@ -114,25 +194,38 @@ module _ (l : Layout) (s : State) (shows : Shows l s) (valid : IsValid s) (momen
         subst (λ u. shown (with_write l w) u.description.family key ≡ item_rows u key)
         (some _ _ at_other) (here key)
     items_after other u false e at_other key =
-        elsewhere u.description.family key (λ same. apart same) ∙ shows.items other u at_other key
-      where
-        apart : t.description.family ≢ u.description.family
-        apart same =
-            let one : other ≡ name = valid.families other name u t u.description.family
-            at_other at (own_family u.description)
-            (subst (Contains (families_of t.description)) same (own_family t.description)) in
-            false≢true (sym e ∙ ap (λ k. eq_by_cmp key_cmp k name) one ∙ itself name)
+        elsewhere u.description.family key
+        (apart_from other u u.description.family at_other e (own_family u.description))
+        ∙ shows.items other u at_other key
+
+    indexes_after : (other : List ℕ) (u : Table) (b : Bool) → eq_by_cmp key_cmp other name ≡ b
+        → cond b (Some changed) (map.get s.tables other) ≡ Some u → (n : ℕ) (i : IndexSchema)
+        → index_at u.description (Some n) ≡ Some i
+        → (key : List ℕ) → shown (with_write l w) i.family key ≡ index_rows u i key
+    indexes_after other u true e at_other n i at_index key =
+        subst (λ u. index_at u.description (Some n) ≡ Some i
+        → shown (with_write l w) i.family key ≡ index_rows u i key)
+        (some _ _ at_other) (λ at_index. there n i at_index key) at_index
+    indexes_after other u false e at_other n i at_index key =
+        elsewhere i.family key (apart_from other u i.family at_other e
+        (index_family u.description n i at_index))
+        ∙ shows.indexes other u n i at_other at_index key
 
     -- the rows are then those of the state with the item
     pub shows_item : Shows (with_write l w) after
     shows_item = record {
       number = ap (λ n. n + 1) (numbered ∙ shows.number);
-      catalog = λ key. elsewhere catalog_family key (λ same. omega (arith, same, within.0))
+      catalog = λ key. elsewhere catalog_family key (λ of_table.
+          let low = within_all catalog_family of_table in omega (arith, low.0))
           ∙ shows.catalog key ∙ same_catalog key;
       items = λ other u at_other. items_after other u (eq_by_cmp key_cmp other name) refl
           (sym (map.get-insert key_total s.tables name changed other) ∙ at_other);
-      beyond = λ family key high. elsewhere family key
-          (λ same. omega (arith, same, high, within.1)) ∙ shows.beyond family key high;
+      indexes = λ other u n i at_other at_index key. indexes_after other u
+          (eq_by_cmp key_cmp other name) refl
+          (sym (map.get-insert key_total s.tables name changed other) ∙ at_other) n i at_index key;
+      beyond = λ family key high. elsewhere family key (λ of_table.
+          let low = within_all family of_table in omega (arith, low.1, high))
+          ∙ shows.beyond family key high;
     }
 
 -- a state with an item more is held, as far as the item is
@@ -180,7 +273,7 @@ pub item_turns : (s : State) (moment : ℕ) (name : List ℕ) (t : Table) (place
     → Turns (item_changes t.description place (map.get t.items place) new) s
     (after_item s moment name t place new)
 item_turns s moment name t place new valid held room at stored given = record {
-  shows = λ l past shows. shows_item l s shows valid moment name t at place new
+  shows = λ l past shows. shows_item l s shows valid held.items moment name t at place new stored given
       (batch_write l (item_changes t.description place (map.get t.items place) new)) refl refl
       (shows_write l
       (batch_write l (item_changes t.description place (map.get t.items place) new)) past

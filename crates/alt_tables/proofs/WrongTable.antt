@@ -109,7 +109,7 @@ empty_valid n within = record {
 pub next_wrong : (l : Layout) → (1 ≤ l.next_number) × (l.next_number ≤ NUMBERS_END)
     → ((family : ℕ) → 1 ≤ family → family ≤ FAMILIES_END
     → shown l catalog_family [] ≡ next_row family → ⊥) → IsFirstWrong l catalog_family []
-next_wrong l number none = record {
+next_wrong l number none = inl (record {
   before = (
     empty_state l.next_number,
     record {
@@ -126,7 +126,7 @@ next_wrong l number none = record {
   );
   none = λ r agrees. none r.next_family agrees.valid.next_family.0 agrees.valid.next_family.1
       (agrees.catalog [] (inr (refl, refl)));
-}
+})
 
 -- ---- a table
 
@@ -244,7 +244,7 @@ module _ (l : Layout) (next : ℕ) (catalog : Texts TableSchema) (name : List �
 
   -- the row is that of no table that may stand there
   pub table_wrong : IsFirstWrong l catalog_family name
-  table_wrong = record {
+  table_wrong = inl (record {
     before =
         let (s, made) = assembled front next catalog front_catalog
         (λ other d at k r is shown_there. absurd (let no : None ≡ Some r =
@@ -255,7 +255,7 @@ module _ (l : Layout) (next : ℕ) (catalog : Texts TableSchema) (name : List �
         let (t, there, is_row) = table_at l (λ f k. IsUpTo f k catalog_family name) r agrees name
         row (inr (refl, refl)) named shows in
         none t.description (is_table_at r agrees t there is_row);
-  }
+  })
     where
       known_low : (other : List ℕ) (d : TableSchema) → map.get catalog other ≡ Some d
           → 1 ≤ d.family

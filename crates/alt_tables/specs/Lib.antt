@@ -1,8 +1,9 @@
 pub mod Codes
+pub mod Families
 pub mod Faults
 pub mod Found
 pub mod Images
-pub mod ItemRows
+pub mod IndexScans
 pub mod Laws
 pub mod Made
 pub mod Opening

@@ -11,7 +11,8 @@ use Rattle.alt_machine.specs.Valid.{IsMade, IsValid}
 use Rattle.alt_schema.specs.Held.{IsHeld}
 use Rattle.alt_schema.specs.declared.schema.TableSchema.{TableSchema}
 use Rattle.alt_tables.specs.Made.{is_as_made}
-use Rattle.alt_tables.specs.Recovery.{IsFirstWrong}
+use Rattle.alt_tables.specs.IndexScans.{IndexesRead, IsFirstOfOwn}
+use Rattle.alt_tables.specs.Recovery.{AgreesWhole, IsFirstWrong}
 use Rattle.alt_tables.specs.Scans.{IsBelow, ItemsRead}
 use Rattle.alt_tables.specs.StateRows.{Shows, IsHeldWhole, catalog_family, next_row, table_row}
 use Rattle.alt_tables.specs.declared.faults.OpenFault.{OpenFault}
@@ -145,7 +146,42 @@ IsLeastAbove ds family d = (family < d.family) × ((k : ℕ) (e : TableSchema) �
 
 -- ---- all of it
 
+-- The rows of the catalog and of the tables are read, and none stands from the next family on.
+pub record AreTablesRead (l : Layout) (next : ℕ) (known : Texts TableSchema) : Type 0 where
+  pub catalog : IsCatalog l next known
+  pub items : AllItemsRead l known
+  pub beyond : (family : ℕ) (key : List ℕ) → next ≤ family → shown l family key ≡ None
+
 -- A state whose rows these are, and whose tables are those of the catalog.
+pub record AssembledTables (l : Layout) (next : ℕ) (known : Texts TableSchema)
+    (s : State) : Type 0 where
+  pub agrees : AgreesWhole l s
+  pub catalog : descriptions s.tables ≡ known
+  pub family : s.next_family ≡ next
+
+-- the indexes of its tables are read
+abbrev pub AllIndexesRead : Layout → Texts TableSchema → Type 0
+AllIndexesRead l catalog = (name : List ℕ) (d : TableSchema) → map.get catalog name ≡ Some d
+    → IndexesRead l d
+
+-- The first wrong row of an index of its tables, of which those of lesser families are read.
+pub record IsFirstIn (l : Layout) (catalog : Texts TableSchema) (family : ℕ)
+    (key : List ℕ) : Type 0 where
+  pub name : List ℕ
+  pub description : TableSchema
+  pub there : map.get catalog name ≡ Some description
+  pub first : IsFirstOfOwn l description family key
+  pub lesser : (other : List ℕ) (e : TableSchema) → map.get catalog other ≡ Some e
+      → e.family < description.family → IndexesRead l e
+
+-- a wrong row of an index is the first one
+abbrev pub IsIndexesFault : Layout → Texts TableSchema → OpenFault → Type 0
+IsIndexesFault l catalog (Damaged file at) = ⊥
+IsIndexesFault l catalog (BadRow family key) = IsFirstIn l catalog family key
+IsIndexesFault l catalog Failed = Unit {0}
+IsIndexesFault l catalog NoMemory = Unit {0}
+
+-- A state whose rows these are with those of indexes, and whose tables are those of the catalog.
 pub record Assembled (l : Layout) (next : ℕ) (known : Texts TableSchema)
     (s : State) : Type 0 where
   pub shows : Shows l s

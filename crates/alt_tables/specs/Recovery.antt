@@ -9,10 +9,12 @@ use Rattle.alt_engine.specs.Layout.{Layout, shown}
 use Rattle.alt_engine.specs.Recovery.{IsBadAt}
 use Rattle.alt_engine.specs.declared.recover.RecoverFault.{RecoverFault}
 use Rattle.alt_engine.specs.declared.recover.RecoverFault.TheVariants as engine
+use Rattle.alt_machine.specs.Sources.{index_at}
 use Rattle.alt_machine.specs.State.{State, Table}
 use Rattle.alt_machine.specs.Valid.{IsValid}
+use Rattle.alt_schema.specs.declared.schema.IndexSchema.{IndexSchema}
 use Rattle.alt_tables.specs.Images.{StandsFor}
-use Rattle.alt_tables.specs.StateRows.{IsHeldWhole, catalog_family, catalog_rows, item_rows}
+use Rattle.alt_tables.specs.StateRows.{IsHeldWhole, catalog_family, catalog_rows, index_rows, item_rows}
 use Rattle.alt_tables.specs.declared.faults.OpenFault.{OpenFault}
 use Rattle.alt_tables.specs.declared.faults.OpenFault.TheVariants.{Damaged, BadRow, Failed, NoMemory}
 
@@ -28,7 +30,8 @@ IsBefore f k family key = (f < family) ⊎ ((f ≡ family) × (key_cmp k key ≡
 abbrev pub IsUpTo : ℕ → List ℕ → ℕ → List ℕ → Type 0
 IsUpTo f k family key = IsBefore f k family key ⊎ ((f ≡ family) × (k ≡ key))
 
--- The rows at these places are those of the state (`Shows` says it of all), which is valid and held.
+-- The rows at these places are those of the state, which is valid and held: those of the catalog and of the tables, and none from the
+-- next family on. Those of indexes are told apart, since they are a function of these.
 pub record Agrees (Here : ℕ → List ℕ → Type 0) (l : Layout) (s : State) : Type 0 where
   pub number : l.next_number ≡ s.next_number
   pub catalog : (key : List ℕ) → Here catalog_family key
@@ -40,11 +43,44 @@ pub record Agrees (Here : ℕ → List ℕ → Type 0) (l : Layout) (s : State) 
   pub valid : IsValid s
   pub held : IsHeldWhole s
 
--- The first wrong row: those before it are rows of a state, and with it they are those of none. Families come in the order of their
--- numbers, the catalog before all, and in each its keys.
-pub record IsFirstWrong (l : Layout) (family : ℕ) (key : List ℕ) : Type 0 where
+-- all of these rows are
+abbrev pub AgreesWhole : Layout → State → Type 0
+AgreesWhole l s = Agrees (λ f k. Unit {0}) l s
+
+-- The first wrong one of these rows: those before it are rows of a state, and with it they are those of none. Families come in the
+-- order of their numbers, the catalog before all, and in each its keys.
+pub record IsFirstOfTables (l : Layout) (family : ℕ) (key : List ℕ) : Type 0 where
   pub before : (s : State) × Agrees (λ f k. IsBefore f k family key) l s
   pub none : (s : State) → Agrees (λ f k. IsUpTo f k family key) l s → ⊥
+
+-- an index shows the rows of its items
+abbrev pub IndexAgrees : Layout → Table → IndexSchema → Type 0
+IndexAgrees l t i = (key : List ℕ) → shown l i.family key ≡ index_rows t i key
+
+-- Where all these rows are those of a state, the first wrong one of an index: what stands at that key, or is missing there, isn't what
+-- the state's items give. Tables come in the order of their families, the indexes of each in that of their numbers, and in each its keys.
+pub record IsFirstOfIndexes (l : Layout) (family : ℕ) (key : List ℕ) : Type 0 where
+  pub state : State
+  pub agrees : AgreesWhole l state
+  pub name : List ℕ
+  pub table : Table
+  pub there : map.get state.tables name ≡ Some table
+  pub number : ℕ
+  pub index : IndexSchema
+  pub at : index_at table.description (Some number) ≡ Some index
+  pub of_family : family ≡ index.family
+  pub wrong : shown l index.family key ≡ index_rows table index key → ⊥
+  pub keys : (k : List ℕ) → key_cmp k key ≡ Less
+      → shown l index.family k ≡ index_rows table index k
+  pub numbers : (n : ℕ) (i : IndexSchema) → n < number
+      → index_at table.description (Some n) ≡ Some i → IndexAgrees l table i
+  pub tables : (other : List ℕ) (u : Table) (n : ℕ) (i : IndexSchema)
+      → map.get state.tables other ≡ Some u → u.description.family < table.description.family
+      → index_at u.description (Some n) ≡ Some i → IndexAgrees l u i
+
+-- The first wrong row: those of indexes come behind all others.
+abbrev pub IsFirstWrong : Layout → ℕ → List ℕ → Type 0
+IsFirstWrong l family key = IsFirstOfTables l family key ⊎ IsFirstOfIndexes l family key
 
 -- files whose rows are those of no state, the first wrong one being this
 pub record HasBadRow (files : ℕ → Option (List ℕ)) (family : ℕ) (key : List ℕ) : Type 0 where

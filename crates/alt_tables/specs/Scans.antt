@@ -10,7 +10,7 @@ use Rattle.alt_engine.specs.Layout.{Layout, shown}
 use Rattle.alt_engine.specs.declared.engine.Engine.{Engine}
 use Rattle.alt_machine.specs.Valid.{IsStored}
 use Rattle.alt_schema.specs.declared.schema.TableSchema.{TableSchema}
-use Rattle.alt_tables.specs.ItemRows.{item_columns, IsReadItem}
+use Rattle.alt_views.specs.ItemRows.{item_columns, IsReadItem}
 use Rattle.alt_tables.specs.declared.faults.OpenFault.{OpenFault}
 use Rattle.alt_tables.specs.declared.faults.OpenFault.TheVariants.{Damaged, BadRow, Failed, NoMemory}
 use Rattle.alt_value.specs.Tree.{Pair}
@@ -43,6 +43,11 @@ abbrev pub IsNextRow : Layout → ℕ → List ℕ → Option (List ℕ × Colum
 IsNextRow l family from None = (k : List ℕ) → (IsBelow k from → ⊥) → shown l family k ≡ None
 IsNextRow l family from (Some e) = IsFirstFrom l family from e.0 e.1
 
+-- something is so of each row of a family, of those whose keys pass
+abbrev pub RowsWhere : (List ℕ → Type 0) → Layout → ℕ → (List ℕ → Columns → Type 0) → Type 0
+RowsWhere Here l family P = (key : List ℕ) (row : Columns) → Here key
+    → shown l family key ≡ Some row → P key row
+
 -- ---- items
 
 -- the row is that of the item, which may stand at the key
@@ -52,10 +57,13 @@ pub record IsItemAt (d : TableSchema) (key : List ℕ) (columns : Columns) (item
   pub read : IsReadItem item
   pub row : columns ≡ item_columns item
 
+-- it is that of one
+abbrev pub IsItemRow : TableSchema → List ℕ → Columns → Type 0
+IsItemRow d key columns = (item : List Pair) × IsItemAt d key columns item
+
 -- each row of a table's family, of those whose keys pass, is that of an item
 abbrev pub ItemsWhere : (List ℕ → Type 0) → Layout → TableSchema → Type 0
-ItemsWhere Here l d = (key : List ℕ) (row : Columns) → Here key → shown l d.family key ≡ Some row
-    → (item : List Pair) × IsItemAt d key row item
+ItemsWhere Here l d = RowsWhere Here l d.family (IsItemRow d)
 
 -- each row is
 abbrev pub ItemsRead : Layout → TableSchema → Type 0

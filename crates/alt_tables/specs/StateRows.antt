@@ -8,12 +8,16 @@ use Rattle.alt_cells.specs.Changes.{Columns, change_between}
 use Rattle.alt_cells.specs.Keys.{key_cmp}
 use Rattle.alt_engine.specs.InHand.{batch_write}
 use Rattle.alt_engine.specs.Layout.{Layout, IsPast, shown, with_write}
+use Rattle.alt_machine.specs.Indexed.{index_items}
+use Rattle.alt_machine.specs.Sources.{index_at}
 use Rattle.alt_machine.specs.State.{State, Table}
 use Rattle.alt_machine.specs.Valid.{IsValid, IsHeldState}
 use Rattle.alt_schema.specs.Format.{description_bytes}
 use Rattle.alt_schema.specs.Held.{IsHeld}
+use Rattle.alt_schema.specs.declared.schema.IndexSchema.{IndexSchema}
 use Rattle.alt_schema.specs.declared.schema.TableSchema.{TableSchema}
-use Rattle.alt_tables.specs.ItemRows.{item_columns}
+use Rattle.alt_views.specs.IndexRows.{index_columns, index_changes}
+use Rattle.alt_views.specs.ItemRows.{item_columns}
 use Rattle.alt_value.specs.Tree.{Pair}
 
 -- a row of one column
@@ -47,13 +51,21 @@ catalog_rows s key =
 abbrev pub item_rows : Table → List ℕ → Option Columns
 item_rows t key = option_map item_columns (map.get t.items key)
 
--- What the rows show is the state: its numbers, its catalog, the items of each table in the table's family, and nothing from the
--- next family on. Families below it that no table has count for nothing.
+-- what an index keeps of the items, each at its place there, in the family of the index
+abbrev pub index_rows : Table → IndexSchema → List ℕ → Option Columns
+index_rows t i key = option_map (index_columns t.description i)
+    (map.get (index_items t.description i t.items) key)
+
+-- What the rows show is the state: its numbers, its catalog, the items of each table in the table's family, those of each of its
+-- indexes in that of the index, and nothing from the next family on. Families below it that no table has count for nothing.
 pub record Shows (l : Layout) (s : State) : Type 0 where
   pub number : l.next_number ≡ s.next_number
   pub catalog : (key : List ℕ) → shown l catalog_family key ≡ catalog_rows s key
   pub items : (name : List ℕ) (t : Table) → map.get s.tables name ≡ Some t
       → (key : List ℕ) → shown l t.description.family key ≡ item_rows t key
+  pub indexes : (name : List ℕ) (t : Table) (number : ℕ) (i : IndexSchema)
+      → map.get s.tables name ≡ Some t → index_at t.description (Some number) ≡ Some i
+      → (key : List ℕ) → shown l i.family key ≡ index_rows t i key
   pub beyond : (family : ℕ) (key : List ℕ) → s.next_family ≤ family → shown l family key ≡ None
 
 -- Each item and each description of the state is one that a program can hold, so its bytes tell it from every other.
@@ -64,11 +76,11 @@ pub record IsHeldWhole (s : State) : Type 0 where
 
 -- ---- the row changes of a write
 
--- of an item: the change of its row
+-- of an item: the change of its row, and those of its rows in the indexes
 abbrev pub item_changes : TableSchema → List ℕ → Option (List Pair) → Option (List Pair)
     → List RowChange
 item_changes d place old new = change_between d.family place (option_map item_columns old)
-    (option_map item_columns new) ∷ []
+    (option_map item_columns new) ∷ index_changes d old new
 
 -- of a new table: its description, and the next family
 abbrev pub creation_changes : ℕ → ℕ → TableSchema → List RowChange

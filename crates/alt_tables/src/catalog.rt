@@ -1,6 +1,6 @@
 //! The descriptions of the tables by their names. There are 256 at most, so they stand in one sorted list.
 
-ghost use Rattle.std.specs.Prelude.{◌≡◌, ◌≢◌, ◌<◌, ◌≤◌, ◌==◌, ◌||◌, ◌↔◌, ℕ, List, T, false, None, Some, OnOk, OnErr, IfOk, IfErr, option_map, length, map as each, slice_get, slice_index_or};
+ghost use Rattle.std.specs.Prelude.{◌≡◌, ◌≢◌, ◌<◌, ◌≤◌, ◌==◌, ◌||◌, ◌↔◌, ℕ, List, T, false, None, Some, OnOk, OnErr, IfOk, IfErr, IfSome, option_map, length, map as each, slice_get, slice_index_or};
 ghost use Rattle.std.specs.FinMap as map;
 ghost use Rattle.std.specs.FinMap.Entries.{is_sorted};
 ghost use Rattle.std.specs.List.{HoldsAt, list_any};
@@ -9,6 +9,7 @@ ghost use Rattle.std.specs.declared.cmp.Ordering.TheVariants.{Less, Greater};
 ghost use Rattle.alt_machine.specs.Ops.ListTables.{names_after};
 ghost use Rattle.std.specs.Option.{option_map_or};
 ghost use Rattle.alt_schema.specs.declared.schema.TableSchema.{TableSchema};
+ghost use Rattle.alt_tables.specs.Families.{HasOwnFamilies};
 ghost use Rattle.alt_tables.specs.Opening.{IsLeastAbove, IsNextTable, shares};
 ghost use Rattle.alt_tables.specs.Order.{first_after};
 ghost use Rattle.alt_value.specs.Members.{text_order};
@@ -27,13 +28,14 @@ pub(crate) struct Catalog {
 }
 
 impl Model for Catalog {
-    ghost use Rattle.std.specs.Prelude.{T, map};
+    ghost use Rattle.std.specs.Prelude.{T, map, All};
     ghost use Rattle.std.specs.FinMap.{from_sorted};
     ghost use Rattle.std.specs.FinMap.Entries.{is_sorted};
     ghost use Rattle.alt_value.specs.Members.{text_order};
     ghost use Rattle.alt_machine.specs.State.{Texts};
     ghost use Rattle.alt_schema.specs.declared.schema.TableSchema.{TableSchema};
     ghost use Rattle.alt_tables.specs.Codes.{coded_catalog};
+    ghost use Rattle.alt_tables.specs.Families.{HasOwnFamilies};
 
     ghost Value = { Texts TableSchema };
 
@@ -41,7 +43,8 @@ impl Model for Catalog {
 
     ghost view = { λ a. from_sorted (map (λ d. (d.name, d)) a.entries.items) };
 
-    ghost invariant = { λ a. T (is_sorted text_order (map (λ d. (d.name, d)) a.entries.items)) };
+    ghost invariant = { λ a. T (is_sorted text_order (map (λ d. (d.name, d)) a.entries.items))
+        × All HasOwnFamilies a.entries.items };
 }
 
 impl Catalog {
@@ -59,9 +62,10 @@ impl Catalog {
         self.entries.len()
     }
 
-    /// The description of the table of that name, None exactly where there is none.
+    /// The description of the table of that name, None exactly where there is none. Its families differ.
     pub(crate) fn get(&self, name: &str) -> Option<&TableSchema>
         ensures table { option_map (λ d. d.now) result ≡ map.get self.now name.now }
+        ensures families { IfSome result (λ d. HasOwnFamilies d.now) }
     {
         match seek(&self.entries, name) {
             Ok(i) => Some(&self.entries[i]),
@@ -81,9 +85,10 @@ impl Catalog {
         }
     }
 
-    /// Puts a description where no table has its name.
+    /// Puts a description, whose families differ, where no table has its name.
     pub(crate) fn add(&mut self, schema: TableSchema) -> Result<(), NoMemory>
-        requires { map.get self.old schema.name ≡ None }
+        requires absent { map.get self.old schema.name ≡ None }
+        requires families { HasOwnFamilies schema }
         ensures ok { OnOk result (self.new ≡ map.insert self.old schema.name schema) }
         ensures err { OnErr result (self.new ≡ self.old) }
     {

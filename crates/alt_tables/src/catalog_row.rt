@@ -7,12 +7,12 @@ ghost use Rattle.alt_schema.specs.Held.{IsHeld};
 ghost use Rattle.alt_schema.specs.declared.schema.TableSchema.{TableSchema};
 ghost use Rattle.alt_tables.specs.StateRows.{one_column, next_row, table_row};
 
-use crate::item_row::Unread;
 use alt_base::NoMemory;
 use alt_cells::ShownRow;
 use alt_fields::{Bytes, BytesFault, put_u32, take_u32};
 use alt_machine::FAMILIES_END;
 use alt_schema::{TableSchema, held, schema_bytes, schema_of_bytes};
+use alt_views::Unread;
 use std::alloc::Global;
 
 /// The column of the next family.

@@ -4,11 +4,10 @@
 mod catalog;
 mod catalog_row;
 mod faults;
-mod item_row;
+mod index_scan;
 mod laws;
 mod made;
 mod opened;
-mod place;
 mod recover;
 mod rows;
 mod scan;
@@ -17,6 +16,5 @@ mod walk;
 
 pub use faults::{OpenFault, TableFault};
 pub use laws::tables_laws;
-pub use place::place_of;
 pub use rows::Found;
 pub use tables::Tables;

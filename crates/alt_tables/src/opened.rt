@@ -16,7 +16,6 @@ ghost use Rattle.alt_tables.specs.Scans.{Walked};
 use crate::catalog::Catalog;
 use crate::catalog_row::{family_of_row, schema_of_row};
 use crate::faults::OpenFault;
-use crate::item_row::Unread;
 use crate::made::is_as_made;
 use crate::scan::{key_after, next_row, unread};
 use crate::tables::CATALOG;
@@ -27,6 +26,7 @@ use alt_engine::Engine;
 use alt_fields::Bytes;
 use alt_machine::MOST_TABLES;
 use alt_schema::{IndexSchema, TableSchema};
+use alt_views::Unread;
 use std::alloc::Global;
 
 /// What the rows of a catalog tell: the descriptions of its tables, and the next family.

@@ -8,13 +8,14 @@ ghost use Rattle.alt_engine.specs.InHand.{Reads};
 ghost use Rattle.alt_engine.specs.Layout.{Layout};
 ghost use Rattle.alt_machine.specs.State.{State};
 ghost use Rattle.alt_tables.specs.Images.{StandsFor};
-ghost use Rattle.alt_tables.specs.Opening.{AllItemsRead, Assembled, IsCatalog, IsRowFault};
+ghost use Rattle.alt_tables.specs.Opening.{AllIndexesRead, AllItemsRead, AreTablesRead, Assembled, IsCatalog, IsIndexesFault, IsRowFault};
 ghost use Rattle.alt_tables.specs.Recovery.{IsExplained, HasNoState, WasLeft, unopened};
 ghost use Rattle.alt_tables.specs.Scans.{Walked};
 ghost use Rattle.alt_tables.specs.Stands.{Stands};
 
 use crate::catalog::Catalog;
 use crate::faults::OpenFault;
+use crate::index_scan::read_own_indexes;
 use crate::opened::{Opened, read_catalog};
 use crate::scan::{read_items, unread};
 use crate::tables::Tables;
@@ -76,6 +77,31 @@ fn read_rows<D: Disk>(alloc: Global, disk: &mut D, engine: &mut Engine) -> Resul
     ensures cause { IsErrOf result OpenFault.Failed
         → Rose (D.state disk.old).faults (D.state disk.new).faults }
 {
+    let opened = match read_state(alloc, disk, engine) {
+        Ok(opened) => opened,
+        Err(fault) => return Err(fault),
+    };
+    match read_indexes(alloc, disk, engine, &opened.catalog) {
+        Ok(()) => Ok(opened),
+        Err(fault) => Err(fault),
+    }
+}
+
+/// Reads the rows that make the state, which are all but those of indexes.
+fn read_state<D: Disk>(
+    alloc: Global,
+    disk: &mut D,
+    engine: &mut Engine,
+) -> Result<Opened, OpenFault>
+    ensures read { IsTrue (D.state disk.old).tells → (l : Layout)
+        → Reads (D.state disk.old) engine.old l
+        → IfOk result (λ o. AreTablesRead l o.family o.catalog) }
+    ensures wrong { IsTrue (D.state disk.old).tells → (l : Layout)
+        → Reads (D.state disk.old) engine.old l → IfErr result (IsRowFault l) }
+    ensures walked { Walked (D.state disk.old) (D.state disk.new) engine.old engine.new }
+    ensures cause { IsErrOf result OpenFault.Failed
+        → Rose (D.state disk.old).faults (D.state disk.new).faults }
+{
     let opened = match read_catalog(alloc, disk, engine) {
         Ok(opened) => opened,
         Err(fault) => return Err(fault),
@@ -112,6 +138,35 @@ fn read_tables<D: Disk>(
     'tables: while let Some(schema) = catalog.above(family) {
         held(schema);
         match read_items(alloc, disk, engine, schema) {
+            Ok(()) => {}
+            Err(fault) => return Err(fault),
+        }
+        family = schema.family;
+    }
+    Ok(())
+}
+
+/// Tests the indexes of all tables, in the order of the tables' families.
+fn read_indexes<D: Disk>(
+    alloc: Global,
+    disk: &mut D,
+    engine: &mut Engine,
+    catalog: &Catalog,
+) -> Result<(), OpenFault>
+    ensures read { IsTrue (D.state disk.old).tells → (l : Layout) (next : ℕ)
+        → Reads (D.state disk.old) engine.old l → AreTablesRead l next catalog.now
+        → OnOk result (AllIndexesRead l catalog.now) }
+    ensures wrong { IsTrue (D.state disk.old).tells → (l : Layout) (next : ℕ)
+        → Reads (D.state disk.old) engine.old l → AreTablesRead l next catalog.now
+        → IfErr result (IsIndexesFault l catalog.now) }
+    ensures walked { Walked (D.state disk.old) (D.state disk.new) engine.old engine.new }
+    ensures cause { IsErrOf result OpenFault.Failed
+        → Rose (D.state disk.old).faults (D.state disk.new).faults }
+{
+    let mut family = 0;
+    'tables: while let Some(schema) = catalog.above(family) {
+        held(schema);
+        match read_own_indexes(alloc, disk, engine, schema) {
             Ok(()) => {}
             Err(fault) => return Err(fault),
         }

@@ -11,18 +11,17 @@ ghost use Rattle.alt_machine.specs.State.{State, Table};
 ghost use Rattle.alt_machine.specs.Valid.{IsStored};
 ghost use Rattle.alt_machine.specs.Writes.{item_writes};
 ghost use Rattle.alt_schema.specs.declared.schema.TableSchema.{TableSchema};
+ghost use Rattle.alt_tables.specs.Families.{HasOwnFamilies};
 ghost use Rattle.alt_tables.specs.Faults.{IsFindFault, IsUnspent, Writes};
 ghost use Rattle.alt_tables.specs.Found.{IsFoundIn, number_taken};
 ghost use Rattle.alt_tables.specs.Images.{Leaves};
-ghost use Rattle.alt_tables.specs.ItemRows.{IsReadItem, item_columns};
+ghost use Rattle.alt_views.specs.ItemRows.{IsReadItem, item_columns};
 ghost use Rattle.alt_tables.specs.StateRows.{item_changes};
 ghost use Rattle.alt_tables.specs.Stands.{AreReady, Reads, Stands, KeepsCatalog, catalog_of, number_of};
 ghost use Rattle.alt_value.specs.Tree.{Pair};
 ghost use Rattle.alt_value.specs.Values.{IsItemOfValues};
 
 use crate::faults::{TableFault, fault_of};
-use crate::item_row::{Unread, item_of_row, row_of_item};
-use crate::place::place_of;
 use crate::tables::Tables;
 use alt_base::NoMemory;
 use alt_cells::{Batch, RowChange, ShownRow};
@@ -31,6 +30,7 @@ use alt_fields::Bytes;
 use alt_machine::NUMBERS_END;
 use alt_schema::TableSchema;
 use alt_value::{Item, item_equal};
+use alt_views::{Unread, index_changes, item_of_row, place_of, row_of_item};
 use std::alloc::Global;
 
 /// What was found at a place of a table. A write takes it back.
@@ -260,7 +260,8 @@ fn item_of(alloc: Global, row: &Option<ShownRow>) -> Result<Option<Item>, Unread
     }
 }
 
-/// The row change of an item: one that is made or removed is cleared, and of one that changes only what differs is written.
+/// The row changes of an item, in its table and in the indexes: a row that is made or removed is cleared, and of one that changes only
+/// what differs is written.
 fn item_batch(
     alloc: Global,
     schema: &TableSchema,
@@ -268,6 +269,7 @@ fn item_batch(
     old: &Option<Item>,
     new: &Option<Item>,
 ) -> Result<Batch, NoMemory>
+    requires families { HasOwnFamilies schema.now }
     ensures changes { IfOk result (λ batch.
         batch ≡ item_changes schema.now place old.now new.now) }
     ensures held { OnOk result (IfSome new.now IsItemOfValues) }
@@ -277,6 +279,7 @@ fn item_batch(
     let change = RowChange::between(alloc, schema.family, place, before.as_ref(), after.as_ref())?;
     let mut batch = Batch::new(alloc);
     batch.add(change)?;
+    index_changes(alloc, schema, old.as_ref(), new.as_ref(), &mut batch)?;
     Ok(batch)
 }
 

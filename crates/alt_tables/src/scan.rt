@@ -5,13 +5,11 @@ ghost use Rattle.alt_base.specs.Counts.{Rose};
 ghost use Rattle.alt_engine.specs.InHand.{Reads};
 ghost use Rattle.alt_engine.specs.Layout.{Layout};
 ghost use Rattle.alt_machine.specs.Valid.{IsStored};
-ghost use Rattle.alt_tables.specs.ItemRows.{IsReadItem};
+ghost use Rattle.alt_views.specs.ItemRows.{IsReadItem};
 ghost use Rattle.alt_tables.specs.Scans.{Walked, IsNextRow, ItemsRead, IsItemFault, IsDeviceFault, IsItemAt};
 ghost use Rattle.alt_value.specs.Tree.{Pair};
 
 use crate::faults::OpenFault;
-use crate::item_row::{Unread, item_of_row};
-use crate::place::{key_fits, place_of};
 use alt_base::NoMemory;
 use alt_cells::ShownRow;
 use alt_disk::Disk;
@@ -21,6 +19,7 @@ use alt_keyorder::KeyRange;
 use alt_machine::LARGEST_ITEM;
 use alt_schema::{TableSchema, index_keys_fit};
 use alt_value::{Item, item_size_within};
+use alt_views::{Unread, item_of_row, key_fits, place_of};
 use std::alloc::Global;
 
 /// The first row that a family shows from a key on, None where there is none.

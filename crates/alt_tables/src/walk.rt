@@ -1,30 +1,35 @@
-//! Walks over the items of a table, in the order of their places or the other way.
+//! Walks over the items of a table, or of one of its indexes, in the order of their places or the other way.
 
-ghost use Rattle.std.specs.Prelude.{◌≡◌, ◌↔◌, ◌++◌, take, true, List, Option, Some, None, IfErr, OnOk, OnErr, IsErrOf};
+ghost use Rattle.std.specs.Prelude.{◌≡◌, ◌↔◌, ◌++◌, ◌<◌, take, length, true, List, Some, None, IfErr, IfSome, OnOk, OnErr, IsErrOf};
 ghost use Rattle.std.specs.FinMap as map;
 ghost use Rattle.alt_base.specs.Counts.{Rose};
 ghost use Rattle.alt_base.specs.Prefix.{IsPrefix};
+ghost use Rattle.alt_machine.specs.Sources.{index_at};
 ghost use Rattle.alt_machine.specs.State.{State, Table};
 ghost use Rattle.alt_machine.specs.Walks.{items_between};
+ghost use Rattle.alt_schema.specs.Indexes.{indexes};
+ghost use Rattle.alt_schema.specs.declared.schema.IndexSchema.{IndexSchema};
+ghost use Rattle.alt_schema.specs.declared.schema.TableSchema.{TableSchema};
 ghost use Rattle.alt_tables.specs.Faults.{IsFindFault, IsReadFault, IsUnspent};
-ghost use Rattle.alt_tables.specs.Pages.{AreItemsOf, ArePut};
+ghost use Rattle.alt_tables.specs.Pages.{AreItemsOf, AreKept, ArePut};
 ghost use Rattle.alt_tables.specs.Stands.{AreReady, Reads, Stands, KeepsCatalog, catalog_of};
 ghost use Rattle.alt_value.specs.Tree.{Pair};
 
 use crate::faults::{TableFault, fault_of};
-use crate::item_row::{Unread, item_of_row};
 use crate::tables::Tables;
 use alt_cells::ShownRow;
 use alt_disk::Disk;
 use alt_fields::Bytes;
 use alt_keyorder::KeyRange;
+use alt_schema::{IndexSchema, TableSchema, index_at};
 use alt_value::Item;
+use alt_views::{Unread, item_of_index_row, item_of_row};
 use std::alloc::Global;
 
 impl Tables {
-    /// Puts those items of a table that is there whose places are in the range at the end of the list: the first `most` of them, or
-    /// all where there are fewer. They rise where it goes forward, and else they fall from the range's end. `index` names none, since
-    /// the rows of indexes aren't kept yet.
+    /// Puts those items of a table that is there, or of its index of that number, whose places there are in the range at the end of the
+    /// list: the first `most` of them, or all where there are fewer. They rise where it goes forward, and else they fall from the range's
+    /// end. An index has the items that have its keys, with what it keeps of them.
     pub fn rows<D: Disk>(
         &mut self,
         disk: &mut D,
@@ -37,11 +42,12 @@ impl Tables {
     ) -> Result<(), TableFault>
         requires ready { AreReady (D.state disk.old) self.old }
         requires there { map.contains_key (catalog_of self.old) table.now ≡ true }
-        requires no_index { index ≡ None }
+        requires index { (d : TableSchema) → map.get (catalog_of self.old) table.now ≡ Some d
+            → IfSome index (λ number. number < length (indexes d)) }
         ensures rows { (s : State) (t : Table) → Stands (D.state disk.old) self.old s
             → map.get s.tables table.now ≡ Some t
-            → OnOk result (out.new.items ≡ out.old.items
-            ++ take most (items_between t range.now.from range.now.to forward)) }
+            → OnOk result (out.new.items ≡ out.old.items ++ take most
+            (items_between t (index_at t.description index) range.now.from range.now.to forward)) }
         ensures begun { OnErr result (IsPrefix out.old.items out.new.items) }
         ensures stays { (s : State) → Stands (D.state disk.old) self.old s ↔ Stands
             (D.state disk.new) self.new s }
@@ -53,7 +59,39 @@ impl Tables {
         ensures cause { IsErrOf result TableFault.Failed
             → Rose (D.state disk.old).faults (D.state disk.new).faults }
     {
-        let _ = index;
+        match index {
+            Some(number) => self.index_rows(disk, table, number, range, forward, most, out),
+            None => self.table_rows(disk, table, range, forward, most, out),
+        }
+    }
+
+    /// The same for a table.
+    fn table_rows<D: Disk>(
+        &mut self,
+        disk: &mut D,
+        table: &str,
+        range: &KeyRange,
+        forward: bool,
+        most: u32,
+        out: &mut Vec<Item>,
+    ) -> Result<(), TableFault>
+        requires ready { AreReady (D.state disk.old) self.old }
+        requires there { map.contains_key (catalog_of self.old) table.now ≡ true }
+        ensures rows { (s : State) (t : Table) → Stands (D.state disk.old) self.old s
+            → map.get s.tables table.now ≡ Some t
+            → OnOk result (out.new.items ≡ out.old.items
+            ++ take most (items_between t None range.now.from range.now.to forward)) }
+        ensures begun { OnErr result (IsPrefix out.old.items out.new.items) }
+        ensures stays { (s : State) → Stands (D.state disk.old) self.old s ↔ Stands
+            (D.state disk.new) self.new s }
+        ensures catalog { KeepsCatalog self.old self.new }
+        ensures unspent { IfErr result IsUnspent }
+        ensures fault { (s : State) → Stands (D.state disk.old) self.old s
+            → IfErr result IsFindFault }
+        ensures disk { Reads (D.state disk.old) (D.state disk.new) }
+        ensures cause { IsErrOf result TableFault.Failed
+            → Rose (D.state disk.old).faults (D.state disk.new).faults }
+    {
         let Some(schema) = self.catalog.get(table) else {
             unreachable!();
         };
@@ -64,6 +102,51 @@ impl Tables {
             .rows(disk, family, range, forward, most, &mut page)
         {
             Ok(()) => read_page(self.alloc, family, page, out),
+            Err(fault) => Err(fault_of(fault)),
+        }
+    }
+
+    /// The same for the index of that number.
+    fn index_rows<D: Disk>(
+        &mut self,
+        disk: &mut D,
+        table: &str,
+        number: usize,
+        range: &KeyRange,
+        forward: bool,
+        most: u32,
+        out: &mut Vec<Item>,
+    ) -> Result<(), TableFault>
+        requires ready { AreReady (D.state disk.old) self.old }
+        requires there { map.contains_key (catalog_of self.old) table.now ≡ true }
+        requires index { (d : TableSchema) → map.get (catalog_of self.old) table.now ≡ Some d
+            → number < length (indexes d) }
+        ensures rows { (s : State) (t : Table) (i : IndexSchema)
+            → Stands (D.state disk.old) self.old s → map.get s.tables table.now ≡ Some t
+            → index_at t.description (Some number) ≡ Some i
+            → OnOk result (out.new.items ≡ out.old.items
+            ++ take most (items_between t (Some i) range.now.from range.now.to forward)) }
+        ensures begun { OnErr result (IsPrefix out.old.items out.new.items) }
+        ensures stays { (s : State) → Stands (D.state disk.old) self.old s ↔ Stands
+            (D.state disk.new) self.new s }
+        ensures catalog { KeepsCatalog self.old self.new }
+        ensures unspent { IfErr result IsUnspent }
+        ensures fault { (s : State) → Stands (D.state disk.old) self.old s
+            → IfErr result IsFindFault }
+        ensures disk { Reads (D.state disk.old) (D.state disk.new) }
+        ensures cause { IsErrOf result TableFault.Failed
+            → Rose (D.state disk.old).faults (D.state disk.new).faults }
+    {
+        let Some(schema) = self.catalog.get(table) else {
+            unreachable!();
+        };
+        let index = index_at(schema, number);
+        let mut page = Vec::new(self.alloc);
+        match self
+            .engine
+            .rows(disk, index.family, range, forward, most, &mut page)
+        {
+            Ok(()) => read_index_page(self.alloc, schema, index, page, out),
             Err(fault) => Err(fault_of(fault)),
         }
     }
@@ -87,6 +170,33 @@ fn read_page(
         match item_of_row(alloc, &row) {
             Ok(item) => out.push(item)?,
             Err(Unread::Bad) => return Err(TableFault::BadRow { family, key: place }),
+            Err(Unread::NoMemory) => return Err(TableFault::NoMemory),
+        }
+    }
+    Ok(())
+}
+
+/// Puts what an index keeps of items at the end of the list, from its rows. A row is let go as soon as it is read.
+fn read_index_page(
+    alloc: Global,
+    schema: &TableSchema,
+    index: &IndexSchema,
+    page: Vec<(Bytes, ShownRow)>,
+    out: &mut Vec<Item>,
+) -> Result<(), TableFault>
+    ensures items { (items : List (List Pair)) → AreKept schema.now index.now page.items items
+        → OnOk result (out.new.items ≡ out.old.items ++ items) }
+    ensures begun { OnErr result (IsPrefix out.old.items out.new.items) }
+    ensures unspent { IfErr result IsUnspent }
+    ensures fault { (items : List (List Pair)) → AreKept schema.now index.now page.items items
+        → IfErr result IsReadFault }
+    ensures unfailed { IsErrOf result TableFault.Failed → ⊥ }
+{
+    let family = index.family;
+    for (key, row) in page {
+        match item_of_index_row(alloc, schema, index, key.as_slice(), &row) {
+            Ok(item) => out.push(item)?,
+            Err(Unread::Bad) => return Err(TableFault::BadRow { family, key }),
             Err(Unread::NoMemory) => return Err(TableFault::NoMemory),
         }
     }

@@ -1,9 +1,9 @@
 -- CreateTable: adds an empty table and answers its description (DynamoDB API Reference, "CreateTable").
-use Rattle.std.specs.Prelude.{ℕ, ◌+◌, nat_le, Bool, true, false, not, List, [], ◌∷◌, length, Option, is_some, option_and_then, unwrap_or, codes, ◌||◌}
+use Rattle.std.specs.Prelude.{ℕ, ◌+◌, nat_le, Bool, true, false, not, List, [], ◌∷◌, length, Option, is_some, option_and_then, unwrap_or, codes}
 use Rattle.std.specs.Option.{option_map_or}
 use Rattle.std.specs.FinMap as map
-use Rattle.serde_json.specs.Data.{Members, Items, no_items, item}
-use Rattle.serde_json.specs.Find.{as_array, as_bool, as_object}
+use Rattle.serde_json.specs.Data.{Members}
+use Rattle.serde_json.specs.Find.{as_bool, as_object}
 use Rattle.alt_shape.specs.Bodies as bodies
 use Rattle.alt_shape.specs.Refusals.{Answer, not_together, not_built, table_exists, too_many_tables}
 use Rattle.alt_shape.specs.Shape.{given}
@@ -43,21 +43,9 @@ abbrev pub of_stream : (Members → Bool) → Members → Bool
 of_stream test ms = option_map_or test (option_and_then as_object
     (given (codes "StreamSpecification") ms)) false
 
--- an array has elements
-abbrev pub some_items : Items → Bool
-some_items no_items = false
-some_items (item d ds) = true
-
--- the array at a member has elements
-abbrev pub lists_any : List ℕ → Members → Bool
-lists_any name ms = option_map_or some_items (option_and_then as_array (given name ms)) false
-
--- an index or a stream is asked for; they aren't built yet
+-- a stream is asked for; it isn't built yet
 abbrev pub is_unbuilt : Members → Bool
-is_unbuilt ms =
-    lists_any (codes "LocalSecondaryIndexes") ms
-    || (lists_any (codes "GlobalSecondaryIndexes") ms || of_stream
-    (λ specification. unwrap_or (enables specification) false) ms)
+is_unbuilt ms = of_stream (λ specification. unwrap_or (enables specification) false) ms
 
 -- ---- the operation
 

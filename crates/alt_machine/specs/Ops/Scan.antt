@@ -1,10 +1,10 @@
--- Scan: answers a page of all items of a table, or of one segment of them, in the order of their places (DynamoDB API Reference, "Scan";
+-- Scan: answers a page of all items of a table or of one of its indexes, or of one segment of them, in the order of their places (DynamoDB API Reference, "Scan";
 -- Developer Guide, "Parallel scan").
 use Rattle.std.specs.Prelude.{ℕ, Bool, true, false, not, nat_lt, ◌==◌, ◌*◌, ◌/◌, ◌^◌, ◌||◌, List, [], ◌∷◌, Option, Some, None, option_and_then, codes}
 use Rattle.std.specs.Option.{option_map_or}
 use Rattle.serde_json.specs.Data.{Members}
 use Rattle.alt_keyorder.specs.Token.{token_of}
-use Rattle.alt_schema.specs.declared.schema.TableSchema.{TableSchema}
+use Rattle.alt_schema.specs.declared.schema.KeyAttr.{KeyAttr}
 use Rattle.alt_shape.specs.Bodies as bodies
 use Rattle.alt_shape.specs.Refusals.{Answer}
 use Rattle.alt_shape.specs.Shape.{given, natural_of}
@@ -15,13 +15,14 @@ use Rattle.alt_machine.specs.declared.Expressions.{Expressions}
 use Rattle.alt_machine.specs.Expressions.{scanning}
 use Rattle.alt_machine.specs.Lists.{is_mismatched, walk_start, listed, pages, on_list}
 use Rattle.alt_machine.specs.Outcomes.{Outcome, with_found}
+use Rattle.alt_machine.specs.Sources.{index_at, hash_of}
 use Rattle.alt_machine.specs.State.{State, Table}
 
--- three members are of an older interface; indexes aren't built yet
+-- three members are of an older interface
 abbrev pub rules : Rules
 rules = record {
   legacy = codes "ScanFilter" ∷ codes "ConditionalOperator" ∷ codes "AttributesToGet" ∷ [];
-  unbuilt = codes "IndexName" ∷ [];
+  unbuilt = [];
   named = codes "TableName" ∷ codes "IndexName" ∷ [];
 }
 
@@ -59,10 +60,10 @@ segment_of ms = segment_in (whole_at (codes "Segment") ms) (whole_at (codes "Tot
 abbrev pub has_token : Segment → Tree → Bool
 has_token segment hash = token_of hash * segment.total / 2 ^ 64 == segment.number
 
--- an item is in the segment
-abbrev pub is_in : TableSchema → Option Segment → List Pair → Bool
-is_in d None item = true
-is_in d (Some segment) item = option_map_or (has_token segment) (at_name d.hash.name item) false
+-- an item is in the segment, by the HASH value of that key
+abbrev pub is_in : KeyAttr → Option Segment → List Pair → Bool
+is_in hash None item = true
+is_in hash (Some segment) item = option_map_or (has_token segment) (at_name hash.name item) false
 
 -- ---- the operation
 
@@ -71,10 +72,12 @@ abbrev pub of_body : Members → List (Option Answer)
 of_body ms = paired_refusals (bodies.scan ms) (is_mismatched ms || is_segment_odd ms) rules ms
 
 -- the list is that of the segment
-abbrev pub scans : Members → Expressions → Option (List Pair) → Table → Outcome
-scans ms said start t =
-    with_found (walk_start t.description None start) (λ place.
-    pages t.description ms said (listed true place (is_in t.description (segment_of ms)) t))
+abbrev pub scans : Members → Expressions → Option (List Pair) → Table → Option ℕ → Outcome
+scans ms said start t index =
+    let i = index_at t.description index in
+    with_found (walk_start t.description i None start) (λ place.
+    pages t.description i ms said
+    (listed true place (is_in (hash_of t.description i) (segment_of ms)) t i))
 
 unfoldable pub scan : State → Members → Outcome
 scan s ms = on_list (of_body ms) scanning s ms (scans ms)

@@ -29,9 +29,10 @@ pub fn index_item(
     Ok(Some(cut(alloc, s, index, item)?))
 }
 
-fn index_at(s: &TableSchema, index: usize) -> &IndexSchema
-    requires { index < length (indexes s.now) }
-    ensures { Some result.now ≡ slice_get (indexes s.now) index }
+/// The index of that number, below the number of the indexes.
+pub fn index_at(s: &TableSchema, index: usize) -> &IndexSchema
+    requires there { index < length (indexes s.now) }
+    ensures index { Some result.now ≡ slice_get (indexes s.now) index }
 {
     let locals = s.locals.as_slice();
     if index < locals.len() {
@@ -112,8 +113,9 @@ fn stands_in(names: &[Text], name: &str) -> bool
     names.iter().any(|other| other.as_str() == name)
 }
 
-fn is_key(hash: &KeyAttr, range: &Option<KeyAttr>, name: &str) -> bool
-    ensures { result ≡ is_key hash.now range.now name.now }
+/// Whether an attribute of that name is a key of these.
+pub fn is_key(hash: &KeyAttr, range: &Option<KeyAttr>, name: &str) -> bool
+    ensures key { result ≡ is_key hash.now range.now name.now }
 {
     let is_range = match range {
         Some(range) => has_key_name(range, name),

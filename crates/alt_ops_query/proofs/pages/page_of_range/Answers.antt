@@ -3,6 +3,7 @@ use Rattle.std.proofs.Common.{List, subst}
 use Rattle.serde_json.specs.Data.{Members}
 use Rattle.serde_json.specs.View.{members_view}
 use Rattle.alt_machine.specs.Outcomes.{says}
+use Rattle.alt_machine.specs.Sources.{index_at}
 use Rattle.alt_machine.specs.Walks.{items_between}
 use Rattle.alt_ops_query.proofs.Answering.{page_asks}
 use Rattle.alt_request.specs.Carried.{Does}
@@ -13,8 +14,9 @@ use Rattle.alt_ops_query.proofs.pages.page_of_range.Goals as goal
 pub returns-clause-does : goal.returns-clause-does
 returns-clause-does g c s t stands at =
     let ms : Members = members_view c.args.body.now.entries in
-    let list : List (List Pair) = items_between t c.args.range.from c.args.range.to c.args.forward in
+    let i = index_at t.description c.args.index in
+    let list : List (List Pair) = items_between t i c.args.range.from c.args.range.to c.args.forward in
     subst (λ o. Does (Stands (g.D.Disk.state c.page_of_ask.new.disk) c.page_of_ask.new.tables) s
     (says o) c.page_of_ask.result)
-    (page_asks t.description ms c.args.said list c.page_ask-ask.result c.page_ask-ask.ensures.asks
+    (page_asks t.description i ms c.args.said list c.page_ask-ask.result c.page_ask-ask.ensures.asks
     c.requires.limit) (c.page_of_ask.ensures.does s t stands at)

@@ -5,9 +5,12 @@ use Rattle.serde_json.specs.View.{members_view}
 use Rattle.alt_machine.specs.Body.{paired_refusals}
 use Rattle.alt_machine.specs.Expressions.{querying}
 use Rattle.alt_machine.specs.Lists.{pages}
+use Rattle.alt_machine.specs.Members.{table_name}
 use Rattle.alt_machine.specs.Ops.Query.{rules, query, queries}
+use Rattle.alt_machine.specs.Sources.{index_at}
 use Rattle.alt_machine.specs.Walks.{items_between}
 use Rattle.alt_ops_query.specs.Asked.{Asks}
+use Rattle.alt_ops_query.proofs.Answering.{within_of}
 use Rattle.alt_ops_query.proofs.Limited.{none_broken, query_limit}
 use Rattle.alt_ops_query.proofs.Whole.{query_is, query_done, query_stopped, asks_unfailed}
 use Rattle.alt_request.proofs.Listing.{list_passed, list_unfailed}
@@ -40,21 +43,30 @@ page_of_range-requires-clause-limit g c =
     query_limit ms (sym c.query-broken.ensures ∙ none_broken c.query-broken.result c.is_mismatched-mismatched.result rules ms
     c.in_ok-target.ensures.target.listed.body)
 
+pub page_of_range-requires-clause-index : goal.page_of_range-requires-clause-index
+page_of_range-requires-clause-index g c = within_of (catalog_of c.args.tables.now)
+    (table_name (members_view c.args.body.now.entries)) c.in_ok-target.target.index
+    c.in_ok-target.target.schema.now c.in_ok-target.ensures.target.there
+    c.in_ok-target.ensures.index
+
 pub returns-in-Ok-clause-carried : goal.returns-in-Ok-clause-carried
 returns-in-Ok-clause-carried g c =
     let ms : Members = members_view c.args.body.now.entries in
     query_done (g.D.Disk.state c.args.disk.now) c.args.tables.now
     (Stands (g.D.Disk.state c.page_of_range.new.disk) c.page_of_range.new.tables) ms
     c.in_ok-target.target c.in-Ok.range c.page_of_range.result c.page_of_range.ensures.plain
+    c.in_ok-target.ensures.index
     c.query-broken.result c.is_mismatched-mismatched.result c.query-broken.ensures
     c.is_mismatched-mismatched.ensures c.in_ok-target.ensures.target
-    (subst (λ b. Asks c.in_ok-target.target.schema.now c.in_ok-target.target.said.key_condition
-    c.in_ok-target.target.start b (Ok c.in-Ok.range)) c.goes_forward-forward.ensures
+    (subst (λ b. Asks c.in_ok-target.target.schema.now
+    (index_at c.in_ok-target.target.schema.now c.in_ok-target.target.index)
+    c.in_ok-target.target.said.key_condition c.in_ok-target.target.start b (Ok c.in-Ok.range)) c.goes_forward-forward.ensures
     c.in-Ok.ensures.asks)
     (λ s t stands at. subst (λ b. Does
     (Stands (g.D.Disk.state c.page_of_range.new.disk) c.page_of_range.new.tables) s
-    (pages t.description ms c.in_ok-target.target.said
-    (items_between t c.in-Ok.range.from c.in-Ok.range.to b)) c.page_of_range.result)
+    (pages t.description (index_at t.description c.in_ok-target.target.index) ms
+    c.in_ok-target.target.said (items_between t (index_at t.description c.in_ok-target.target.index)
+    c.in-Ok.range.from c.in-Ok.range.to b)) c.page_of_range.result)
     c.goes_forward-forward.ensures (c.page_of_range.ensures.does s t stands at))
 
 pub returns-in-Ok-clause-moves : goal.returns-in-Ok-clause-moves
@@ -71,13 +83,15 @@ returns-clause-carried g c =
     c.in_ok-target.target c.in-Err.stop (λ s stands. stands)
     c.query-broken.result c.is_mismatched-mismatched.result c.query-broken.ensures
     c.is_mismatched-mismatched.ensures c.in_ok-target.ensures.target
-    (subst (λ b. Asks c.in_ok-target.target.schema.now c.in_ok-target.target.said.key_condition
-    c.in_ok-target.target.start b (Err c.in-Err.stop)) c.goes_forward-forward.ensures
+    (subst (λ b. Asks c.in_ok-target.target.schema.now
+    (index_at c.in_ok-target.target.schema.now c.in_ok-target.target.index)
+    c.in_ok-target.target.said.key_condition c.in_ok-target.target.start b (Err c.in-Err.stop)) c.goes_forward-forward.ensures
     c.in-Err.ensures.asks)
 
 pub returns-clause-moves : goal.returns-clause-moves
 returns-clause-moves g c =
     moves_nothing (λ s. query s (members_view c.args.body.now.entries)) c.args.tables.now
     (g.D.Disk.state c.args.disk.now) _
-    (asks_unfailed _ c.in_ok-target.target.schema.now c.in_ok-target.target.said.key_condition
-    c.in_ok-target.target.start c.goes_forward-forward.result c.in-Err.stop c.in-Err.ensures.asks)
+    (asks_unfailed _ c.in_ok-target.target.schema.now
+    (index_at c.in_ok-target.target.schema.now c.in_ok-target.target.index)
+    c.in_ok-target.target.said.key_condition c.in_ok-target.target.start c.goes_forward-forward.result c.in-Err.stop c.in-Err.ensures.asks)

@@ -5,9 +5,12 @@ use Rattle.serde_json.specs.View.{members_view}
 use Rattle.alt_machine.specs.Body.{paired_refusals}
 use Rattle.alt_machine.specs.Expressions.{scanning}
 use Rattle.alt_machine.specs.Lists.{is_mismatched}
+use Rattle.alt_machine.specs.Members.{table_name}
 use Rattle.alt_machine.specs.Ops.Scan.{rules, scan, scans, is_segment_odd}
+use Rattle.alt_machine.specs.Sources.{index_at}
 use Rattle.alt_ops_query.specs.Asked.{Segments}
 use Rattle.alt_ops_query.specs.Tokens.{segment_in}
+use Rattle.alt_ops_query.proofs.Answering.{within_of}
 use Rattle.alt_ops_query.proofs.Limited.{none_broken, none_mismatched, second_false, scan_limit}
 use Rattle.alt_ops_query.proofs.Whole.{scan_is, scan_done, scan_stopped, segments_unfailed}
 use Rattle.alt_request.proofs.Listing.{list_passed, list_unfailed}
@@ -39,6 +42,12 @@ page_of_range-requires-clause-limit g c =
     scan_limit ms (sym c.scan-broken.ensures ∙ none_broken c.scan-broken.result c.are_odd-mismatched.result rules ms
     c.in_ok-target.ensures.target.listed.body)
 
+pub page_of_range-requires-clause-index : goal.page_of_range-requires-clause-index
+page_of_range-requires-clause-index g c = within_of (catalog_of c.args.tables.now)
+    (table_name (members_view c.args.body.now.entries)) c.in_ok-target.target.index
+    c.in_ok-target.target.schema.now c.in_ok-target.ensures.target.there
+    c.in_ok-target.ensures.index
+
 pub returns-in-Ok-clause-carried : goal.returns-in-Ok-clause-carried
 returns-in-Ok-clause-carried g c =
     let ms : Members = members_view c.args.body.now.entries in
@@ -48,8 +57,10 @@ returns-in-Ok-clause-carried g c =
     scan_done (g.D.Disk.state c.args.disk.now) c.args.tables.now
     (Stands (g.D.Disk.state c.page_of_range.new.disk) c.page_of_range.new.tables) ms
     c.in_ok-target.target c.in-Ok.range c.page_of_range.result c.page_of_range.ensures.plain
+    c.in_ok-target.ensures.index
     c.scan-broken.result c.are_odd-mismatched.result c.scan-broken.ensures c.are_odd-mismatched.ensures.odd c.in_ok-target.ensures.target
-    (subst (λ o. Segments c.in_ok-target.target.schema.now o c.in_ok-target.target.start (Ok c.in-Ok.range))
+    (subst (λ o. Segments c.in_ok-target.target.schema.now
+    (index_at c.in_ok-target.target.schema.now c.in_ok-target.target.index) o c.in_ok-target.target.start (Ok c.in-Ok.range))
     (c.segment_of-segment.ensures.segment odd) c.in-Ok.ensures.segments)
     (λ s t stands at. c.page_of_range.ensures.does s t stands at)
 
@@ -71,12 +82,15 @@ returns-clause-carried g c =
     c.in_ok-target.target c.in-Err.stop (λ s stands. stands)
     c.scan-broken.result c.are_odd-mismatched.result c.scan-broken.ensures
     c.are_odd-mismatched.ensures.odd c.in_ok-target.ensures.target
-    (subst (λ o. Segments c.in_ok-target.target.schema.now o c.in_ok-target.target.start (Err c.in-Err.stop))
+    (subst (λ o. Segments c.in_ok-target.target.schema.now
+    (index_at c.in_ok-target.target.schema.now c.in_ok-target.target.index) o c.in_ok-target.target.start (Err c.in-Err.stop))
     (c.segment_of-segment.ensures.segment odd) c.in-Err.ensures.segments)
 
 pub returns-clause-moves : goal.returns-clause-moves
 returns-clause-moves g c =
     moves_nothing (λ s. scan s (members_view c.args.body.now.entries)) c.args.tables.now
     (g.D.Disk.state c.args.disk.now) _
-    (segments_unfailed _ c.in_ok-target.target.schema.now (option_map segment_in c.segment_of-segment.result)
+    (segments_unfailed _ c.in_ok-target.target.schema.now
+    (index_at c.in_ok-target.target.schema.now c.in_ok-target.target.index)
+    (option_map segment_in c.segment_of-segment.result)
     c.in_ok-target.target.start c.in-Err.stop c.in-Err.ensures.segments)

@@ -3,6 +3,7 @@ use Rattle.std.proofs.Common.{◌≡◌, false, Some, []}
 use Rattle.std.specs.Prelude.{◌↔◌}
 use Rattle.std.specs.FinMap as map
 use Rattle.alt_machine.specs.State.{State, Table}
+use Rattle.alt_machine.specs.Sources.{index_at}
 use Rattle.alt_machine.specs.Walks.{items_between}
 use Rattle.alt_ops_query.specs.Filled.{HasExamined}
 use Rattle.alt_ops_query.proofs.WalkLaws.{IsWalked}
@@ -15,8 +16,8 @@ abbrev pub invariant-steps : goal.invariant-steps
 invariant-steps g l = record {
   walked : (s : State) (t : Table) (ask : PageAsk) → Stands (g.D.Disk.state l.fn.disk) l.fn.tables s
       → map.get s.tables l.table ≡ Some t → HasExamined l.fn.filling ask []
-      → IsWalked l.filling ask t l.forward
-      (items_between t l.fn.range.from l.fn.range.to l.forward) l.range;
+      → IsWalked l.filling ask t (index_at t.description l.index) l.forward
+      (items_between t (index_at t.description l.index) l.fn.range.from l.fn.range.to l.forward) l.range;
   stays : (s : State) → Stands (g.D.Disk.state l.fn.disk) l.fn.tables s
       ↔ Stands (g.D.Disk.state l.disk) l.tables s;
   catalog : KeepsCatalog l.fn.tables l.tables;

@@ -5,6 +5,7 @@ use Rattle.alt_schema.proofs.Labels.{label_written}
 use Rattle.alt_schema.proofs.json.label.Goals as goal
 
 pub returns : goal.returns
-returns c =
-    c.in_ok-format.ensures.ok ∙ ap (λ s. styled_decimal s c.args.number) c.laid_out.ensures
-    ∙ label_written c.args.number
+returns c = record {
+  digits = c.in_ok-format.ensures.ok ∙ ap (λ s. styled_decimal s c.args.number) c.laid_out.ensures
+      ∙ label_written c.args.number;
+}

@@ -1,15 +1,17 @@
 -- One table more.
 use Rattle.std.proofs.Common.{sym, subst, IsTrue, arith}
+use Rattle.alt_tables.specs.Scans.{ItemsRead}
 use Rattle.alt_tables.proofs.Recovering.{number_within}
 use Rattle.alt_tables.proofs.Scanning.{walk_start, walk_then, reads_on}
-use Rattle.alt_tables.proofs.TableSteps.{none_yet, read_more, wrong_next}
+use Rattle.alt_tables.proofs.TableSteps.{none_yet, one_more, wrong_next}
 use Rattle.alt_tables.proofs.recover.read_tables.Goals as goal
 
 pub tables-init : goal.tables-init
 tables-init g c = record {
   walked = walk_start (g.D.Disk.state c.args.disk.now) c.args.engine.now;
   read = λ tells layout next reads catalog. none_yet layout next c.args.catalog.now catalog
-      (number_within (g.D.Disk.state c.args.disk.now) c.args.engine.now layout reads);
+      (number_within (g.D.Disk.state c.args.disk.now) c.args.engine.now layout reads)
+      (ItemsRead layout);
   small = omega arith;
 }
 
@@ -33,9 +35,9 @@ tables-preserved g c = record {
   walked = walk_then (g.D.Disk.state c.args.disk.now) (g.D.Disk.state c.tables.disk)
       (g.D.Disk.state c.read_items.new.disk) c.args.engine.now c.tables.engine
       c.read_items.new.engine c.tables.invariant.walked c.read_items.ensures.walked;
-  read = λ tells layout next reads catalog. read_more layout next c.args.catalog.now catalog
+  read = λ tells layout next reads catalog. one_more layout next c.args.catalog.now catalog
       (number_within (g.D.Disk.state c.args.disk.now) c.args.engine.now layout reads)
-      c.tables.family (c.tables.invariant.read tells layout next reads catalog)
+      (ItemsRead layout) c.tables.family (c.tables.invariant.read tells layout next reads catalog)
       c.in-Some.schema.now c.in-Some.ensures.above
       (c.in-Ok.ensures.read (subst IsTrue (sym c.tables.invariant.walked.goes.tells) tells) layout
       (reads_on (g.D.Disk.state c.args.disk.now) (g.D.Disk.state c.tables.disk)

@@ -1,7 +1,7 @@
 -- An item that may not stand there is the only one with that row.
 use Rattle.std.proofs.Common.{◌≡◌, sym, subst, ◌∙◌, IsTrue}
 use Rattle.alt_machine.specs.Valid.{IsStored}
-use Rattle.alt_tables.proofs.ItemRowLaws.{item_columns-one}
+use Rattle.alt_views.proofs.ItemRowLaws.{item_columns-one}
 use Rattle.alt_tables.proofs.scan.test_item.Goals as goal
 
 pub returns-clause-none : goal.returns-clause-none

@@ -11,7 +11,7 @@ pub returns : goal.returns
 returns c = record {
   above = subst (λ (m : Texts TableSchema). IsNextTable m c.args.family
       (option_map (λ d. d.now) c.get.result)) c.self.view_is
-      (next_table c.self.inside.entries.items c.self.invariant c.get.result c.deref.result.now
+      (next_table c.self.inside.entries.items c.self.invariant.0 c.get.result c.deref.result.now
       c.least_above.result c.args.family c.get.ensures.lookup.3 c.deref.ensures.value
       (subst (λ (es : List TableSchema). c.least_above.result ≤ length es) c.as_slice.ensures.value
       c.least_above.ensures.within)

@@ -13,7 +13,7 @@ pub returns : goal.returns
 returns c = subst (λ (m : Texts TableSchema). c.any_clashes.result ≡ false
     ↔ ((name : List ℕ) (d : TableSchema) → map.get m name ≡ Some d
     → (d.number ≢ c.args.number) × (shares c.args.families.now d ≡ false))) c.self.view_is
-    (no_clash c.self.inside.entries.items c.self.invariant c.args.number c.args.families.now
+    (no_clash c.self.inside.entries.items c.self.invariant.0 c.args.number c.args.families.now
     c.any_clashes.result
     (c.any_clashes.ensures ∙ ap (list_any (λ (d : TableSchema). d.number == c.args.number
     || shares c.args.families.now d)) c.as_slice.ensures.value))

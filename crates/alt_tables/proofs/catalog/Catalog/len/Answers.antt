@@ -12,7 +12,7 @@ returns c =
     let counted : c.len.result ≡ length c.self.inside.entries.items = omega arith in
     record {
       count = counted
-          ∙ sym (len-map (pairs c.self.inside.entries.items) c.self.invariant
+          ∙ sym (len-map (pairs c.self.inside.entries.items) c.self.invariant.0
           ∙ length-map c.self.inside.entries.items (entry name_of itself))
           ∙ ap map.len c.self.view_is;
     }

@@ -4,6 +4,7 @@ use Rattle.std.specs.FinMap as map
 use Rattle.alt_disk.proofs.Runs.{quiet_start}
 use Rattle.alt_machine.specs.Ops.CreateTable.{with_table}
 use Rattle.alt_machine.specs.Outcomes.{a_table}
+use Rattle.alt_machine.proofs.Families.{families_differ}
 use Rattle.alt_machine.proofs.Lacks.{has_table, lacks_table_family}
 use Rattle.alt_machine.specs.Wanted.{table_lack}
 use Rattle.alt_tables.specs.Faults.{BreakOff}
@@ -54,6 +55,9 @@ pub returns-in_err-name-clause-disk : goal.returns-in_err-name-clause-disk
 returns-in_err-name-clause-disk g c s stands =
     leaves_quiet (g.D.Disk.state c.args.disk.now) (g.D.Disk.state c.args.disk.now) c.args.self.now.engine s
     (with_table s c.args.schema ∷ []) stands.rows stands.valid (quiet_start (g.D.Disk.state c.args.disk.now))
+
+pub add-requires-clause-families : goal.add-requires-clause-families
+add-requires-clause-families g c = families_differ c.args.schema c.requires.new
 
 pub returns-in_err-add-clause-writes : goal.returns-in_err-add-clause-writes
 returns-in_err-add-clause-writes g c s stands =

@@ -1,33 +1,32 @@
--- The rows of the walk are those of the items, and nothing else changed.
-use Rattle.std.proofs.Common.{refl, sym}
-use Rattle.alt_tables.proofs.Pages.{find_fault, ok_then, page_items, page_reads}
-use Rattle.alt_tables.proofs.Standing.{stays, there}
+-- An index that is asked is one of the table's.
+use Rattle.std.proofs.Common.{◌≡◌, ◌<◌, ◌++◌, IfSome, OnOk, length, take, sym, ap, subst, ◌∙◌}
+use Rattle.alt_machine.specs.Sources.{index_at}
+use Rattle.alt_machine.specs.Walks.{items_between}
+use Rattle.alt_schema.specs.Indexes.{indexes}
+use Rattle.alt_tables.proofs.Pages.{within_some}
+use Rattle.alt_tables.proofs.Standing.{known}
 use Rattle.alt_tables.proofs.tables.Tables.rows.Goals as goal
 
-pub returns-in-Ok-clause-rows : goal.returns-in-Ok-clause-rows
-returns-in-Ok-clause-rows g c s t stands at = ok_then c.read_page.result
-    (page_items (g.D.Disk.state c.args.disk.now) c.args.self.now s c.args.table.now t
-    c.in-Some.schema.now stands at (sym c.in-Some.ensures.table) c.args.range.now.from
-    c.args.range.now.to c.args.forward c.args.most c.new-page.result.items c.rows.new.out.items
-    c.new-page.ensures.items c.in-Ok.ensures.rows c.args.out.now.items
-    c.read_page.new.out.items) c.read_page.ensures.items
+pub index_rows-requires-clause-index : goal.index_rows-requires-clause-index
+index_rows-requires-clause-index g c d at =
+    subst (λ o. IfSome o (λ number. number < length (indexes d))) c.in-Some.is
+    (c.requires.index d at)
 
-pub returns-in-Ok-clause-fault : goal.returns-in-Ok-clause-fault
-returns-in-Ok-clause-fault g c s stands =
-    let (t, at, same) = there (g.D.Disk.state c.args.disk.now) c.args.self.now s c.args.table.now
-    c.in-Some.schema.now stands (sym c.in-Some.ensures.table) in
-    find_fault c.read_page.result (c.read_page.ensures.fault _
-    (page_reads (g.D.Disk.state c.args.disk.now) c.args.self.now s c.args.table.now t
-    c.in-Some.schema.now stands at (sym c.in-Some.ensures.table) c.args.range.now.from
-    c.args.range.now.to c.args.forward c.args.most c.new-page.result.items c.rows.new.out.items
-    c.new-page.ensures.items c.in-Ok.ensures.rows))
+pub returns-in-Some-clause-rows : goal.returns-in-Some-clause-rows
+returns-in-Some-clause-rows g c s t stands at =
+    let within : c.in-Some.number < length (indexes t.description) =
+    subst (λ o. IfSome o (λ number. number < length (indexes t.description))) c.in-Some.is
+    (c.requires.index t.description (known (g.D.Disk.state c.args.disk.now) c.args.self.now s
+    c.args.table.now t stands at)) in
+    let (i, is) = within_some (indexes t.description) c.in-Some.number within in
+    subst (λ o. OnOk c.index_rows.result (c.index_rows.new.out.items ≡ c.args.out.now.items
+    ++ take c.args.most (items_between t o c.args.range.now.from c.args.range.now.to
+    c.args.forward))) (sym is ∙ ap (index_at t.description) (sym c.in-Some.is))
+    (c.index_rows.ensures.rows s t i stands at is)
 
-pub returns-in-Ok-clause-stays : goal.returns-in-Ok-clause-stays
-returns-in-Ok-clause-stays g c s = stays (g.D.Disk.state c.args.disk.now)
-    (g.D.Disk.state c.rows.new.disk) c.args.self.now _ refl refl c.rows.ensures.goes
-    c.rows.ensures.quiet c.rows.ensures.same c.requires.ready s
-
-pub returns-in-Err-clause-stays : goal.returns-in-Err-clause-stays
-returns-in-Err-clause-stays g c s = stays (g.D.Disk.state c.args.disk.now)
-    (g.D.Disk.state c.rows.new.disk) c.args.self.now _ refl refl c.rows.ensures.goes
-    c.rows.ensures.quiet c.rows.ensures.same c.requires.ready s
+pub returns-in-None-clause-rows : goal.returns-in-None-clause-rows
+returns-in-None-clause-rows g c s t stands at =
+    subst (λ o. OnOk c.table_rows.result (c.table_rows.new.out.items ≡ c.args.out.now.items
+    ++ take c.args.most (items_between t o c.args.range.now.from c.args.range.now.to
+    c.args.forward))) (ap (index_at t.description) (sym c.in-None.is))
+    (c.table_rows.ensures.rows s t stands at)

@@ -1,0 +1,53 @@
+-- The rows of the walk are those of what the index keeps, and nothing else changed.
+use Rattle.std.proofs.Common.{◌≡◌, ◌++◌, Some, refl, sym, ap, subst, ◌∙◌, take, OnOk}
+use Rattle.alt_machine.specs.Sources.{index_at}
+use Rattle.alt_machine.specs.Walks.{items_between}
+use Rattle.alt_schema.specs.declared.schema.IndexSchema.{IndexSchema}
+use Rattle.alt_schema.specs.declared.schema.TableSchema.{TableSchema}
+use Rattle.alt_tables.proofs.OneState.{some}
+use Rattle.alt_tables.proofs.Pages.{find_fault, page_kept, same_table}
+use Rattle.alt_tables.proofs.Standing.{stays, there}
+use Rattle.alt_tables.proofs.tables.Tables.index_rows.Goals as goal
+
+pub index_at-index-requires : goal.index_at-index-requires
+index_at-index-requires g c = record {
+  there = c.requires.index c.in-Some.schema.now (sym c.in-Some.ensures.table);
+}
+
+pub returns-in-Ok-clause-rows : goal.returns-in-Ok-clause-rows
+returns-in-Ok-clause-rows g c s t i stands at at_index =
+    let known_as = sym c.in-Some.ensures.table in
+    let same : c.index_at-index.result.now ≡ i = some _ _ (c.index_at-index.ensures.index
+    ∙ ap (λ (d : TableSchema). index_at d (Some c.args.number))
+    (same_table (g.D.Disk.state c.args.disk.now) c.args.self.now s c.args.table.now t
+    c.in-Some.schema.now stands at known_as) ∙ at_index) in
+    subst (λ (x : IndexSchema). OnOk c.read_index_page.result (c.read_index_page.new.out.items
+    ≡ c.args.out.now.items ++ take c.args.most (items_between t (Some x) c.args.range.now.from
+    c.args.range.now.to c.args.forward))) same
+    (c.read_index_page.ensures.items _ (page_kept (g.D.Disk.state c.args.disk.now) c.args.self.now s
+    c.args.table.now t c.in-Some.schema.now stands at known_as c.args.range.now.from
+    c.args.range.now.to c.args.forward c.args.most c.new-page.result.items c.rows.new.out.items
+    c.new-page.ensures.items c.args.number c.index_at-index.result.now
+    (sym c.index_at-index.ensures.index) c.in-Ok.ensures.rows))
+
+pub returns-in-Ok-clause-fault : goal.returns-in-Ok-clause-fault
+returns-in-Ok-clause-fault g c s stands =
+    let known_as = sym c.in-Some.ensures.table in
+    let (t, at, same) = there (g.D.Disk.state c.args.disk.now) c.args.self.now s c.args.table.now
+    c.in-Some.schema.now stands known_as in
+    find_fault c.read_index_page.result (c.read_index_page.ensures.fault _
+    (page_kept (g.D.Disk.state c.args.disk.now) c.args.self.now s c.args.table.now t
+    c.in-Some.schema.now stands at known_as c.args.range.now.from
+    c.args.range.now.to c.args.forward c.args.most c.new-page.result.items c.rows.new.out.items
+    c.new-page.ensures.items c.args.number c.index_at-index.result.now
+    (sym c.index_at-index.ensures.index) c.in-Ok.ensures.rows))
+
+pub returns-in-Ok-clause-stays : goal.returns-in-Ok-clause-stays
+returns-in-Ok-clause-stays g c s = stays (g.D.Disk.state c.args.disk.now)
+    (g.D.Disk.state c.rows.new.disk) c.args.self.now _ refl refl c.rows.ensures.goes
+    c.rows.ensures.quiet c.rows.ensures.same c.requires.ready s
+
+pub returns-in-Err-clause-stays : goal.returns-in-Err-clause-stays
+returns-in-Err-clause-stays g c s = stays (g.D.Disk.state c.args.disk.now)
+    (g.D.Disk.state c.rows.new.disk) c.args.self.now _ refl refl c.rows.ensures.goes
+    c.rows.ensures.quiet c.rows.ensures.same c.requires.ready s

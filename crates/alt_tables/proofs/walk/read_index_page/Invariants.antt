@@ -1,0 +1,13 @@
+-- What an index keeps at the rows so far is put.
+use Rattle.std.proofs.Common.{◌≡◌, ◌++◌, List}
+use Rattle.alt_base.specs.Prefix.{IsPrefix}
+use Rattle.alt_tables.specs.Pages.{AreKept}
+use Rattle.alt_tables.proofs.walk.read_index_page.Given as goal
+use Rattle.alt_value.specs.Tree.{Pair}
+
+abbrev pub invariant-loop-key : goal.invariant-loop-key
+invariant-loop-key l = record {
+  begun : IsPrefix l.initial.out.items l.out.items;
+  put : (items : List (List Pair)) → AreKept l.schema l.index l.yielded items
+      → l.out.items ≡ l.initial.out.items ++ items;
+}

@@ -1,0 +1,179 @@
+-- What an index keeps of an item stands at its row's key.
+use Rattle.std.proofs.Common.{◌≡◌, ◌<◌, refl, sym, ap, subst, ◌∙◌, ℕ, zero, suc, Bool, true, false, cond, List, [], ◌∷◌, length, Option, Some, None, option_map, slice_get, nat_lt, arith}
+use Rattle.std.proofs.lemmas.Bool.{false≢true}
+use Rattle.std.proofs.lemmas.Slice.Eq.{bytes_eq-Decides}
+use Rattle.std.specs.Prelude.{◌&&◌, ◌||◌, not, if◌then◌else◌, option_and_then, unwrap_or}
+use Rattle.std.specs.List.{list_all}
+use Rattle.std.specs.Str.{bytes_eq}
+use Rattle.alt_keyorder.specs.Place.{place_bytes}
+use Rattle.alt_machine.specs.Indexed.{values_beside, values_of, place_of_both, index_place, index_entry}
+use Rattle.alt_machine.specs.Keys.{if_key, key_value}
+use Rattle.alt_machine.specs.Sources.{index_at}
+use Rattle.alt_machine.specs.Valid.{IsMade, is_pair}
+use Rattle.alt_machine.proofs.Indexing.{is_entry}
+use Rattle.alt_schema.specs.Indexes.{indexes, is_key, is_included, is_projected, is_in_index, cut, index_row, of_range}
+use Rattle.alt_schema.specs.declared.schema.IndexSchema.{IndexSchema}
+use Rattle.alt_schema.specs.declared.schema.KeyAttr.{KeyAttr}
+use Rattle.alt_schema.specs.declared.schema.TableSchema.{TableSchema}
+use Rattle.alt_value.specs.Item.{at_name}
+use Rattle.alt_value.specs.Tree.{Tree, Pair}
+use Rattle.alt_value.specs.Values.{IsItemOfValues}
+use Rattle.alt_views.specs.IndexRows.{index_columns}
+use Rattle.alt_views.specs.ItemRows.{IsReadItem}
+use Rattle.alt_views.specs.Read.{AreNamed, IsKeptAt}
+use Rattle.alt_views.proofs.Parts.{at_name-where, read-where, values-where}
+
+some : {A : Type 0} (x y : A) → Some x ≡ Some y → x ≡ y
+some x y e = ap (λ o. unwrap_or o x) e
+
+none : {A : Type 0} (x : A) → None ≡ Some x → ⊥
+none x e = let no : None ≡ Some x = e in cc no
+
+first_true : (a b : Bool) → (a && b) ≡ true → a ≡ true
+first_true true b h = refl
+first_true false b h = absurd (false≢true h)
+
+second_true : (a b : Bool) → (a && b) ≡ true → b ≡ true
+second_true true b h = h
+second_true false b h = absurd (false≢true h)
+
+-- ---- keys are kept
+
+same_name : (n : List ℕ) → bytes_eq n n ≡ true
+same_name n = grind (arith, bytes_eq-Decides)
+
+or_true : (a b : Bool) → b ≡ true → (a || b) ≡ true
+or_true true b h = refl
+or_true false b h = h
+
+true_or : (a b : Bool) → a ≡ true → (a || b) ≡ true
+true_or true b h = refl
+true_or false b h = absurd (false≢true h)
+
+-- the HASH and the RANGE attribute are keys
+hash_is_key : (hash : KeyAttr) (range : Option KeyAttr) → is_key hash range hash.name ≡ true
+hash_is_key hash range = true_or (bytes_eq hash.name hash.name) _ (same_name hash.name)
+
+range_is_key : (hash range : KeyAttr) → is_key hash (Some range) range.name ≡ true
+range_is_key hash range = or_true (bytes_eq hash.name range.name) _ (same_name range.name)
+
+-- keys of the index and of its table are projected
+pub own_kept : (d : TableSchema) (i : IndexSchema) (name : List ℕ)
+    → is_key i.hash i.range name ≡ true → is_projected d i name ≡ true
+own_kept d i name h = or_true (is_included i.projection name) _
+    (or_true (is_key d.hash d.range name) _ h)
+
+pub table_kept : (d : TableSchema) (i : IndexSchema) (name : List ℕ)
+    → is_key d.hash d.range name ≡ true → is_projected d i name ≡ true
+table_kept d i name h = or_true (is_included i.projection name) _
+    (true_or (is_key d.hash d.range name) _ h)
+
+-- so the value of a key attribute is that of the item
+pub value-cut : (d : TableSchema) (i : IndexSchema) (item : List Pair) (key : KeyAttr)
+    → is_projected d i key.name ≡ true
+    → key_value (cut d i item) key ≡ key_value item key
+value-cut d i item key kept = ap (option_and_then (if_key key.kind))
+    (at_name-where (is_projected d i) key.name item
+    ∙ ap (λ b. cond b (at_name key.name item) None) kept)
+
+values-cut : (d : TableSchema) (i : IndexSchema) (item : List Pair) (hash : KeyAttr)
+    (range : Option KeyAttr)
+    → ((name : List ℕ) → is_key hash range name ≡ true → is_projected d i name ≡ true)
+    → values_of (key_value (cut d i item)) hash range ≡ values_of (key_value item) hash range
+values-cut d i item hash range kept =
+    ap (option_and_then (values_beside (key_value (cut d i item)) range))
+    (value-cut d i item hash (kept hash.name (hash_is_key hash range)))
+    ∙ by_hash (key_value item hash)
+  where
+    beside : (r : Option KeyAttr)
+        → ((name : List ℕ) → is_key hash r name ≡ true → is_projected d i name ≡ true) → (h : Tree)
+        → values_beside (key_value (cut d i item)) r h ≡ values_beside (key_value item) r h
+    beside None kept h = refl
+    beside (Some r) kept h = ap (option_map (λ v. record { hash = h; range = Some v }))
+        (value-cut d i item r (kept r.name (range_is_key hash r)))
+
+    by_hash : (o : Option Tree)
+        → option_and_then (values_beside (key_value (cut d i item)) range) o
+        ≡ option_and_then (values_beside (key_value item) range) o
+    by_hash None = refl
+    by_hash (Some h) = beside range kept h
+
+-- and so is the place in the index
+pub place-cut : (d : TableSchema) (i : IndexSchema) (item : List Pair)
+    → index_place d i (cut d i item) ≡ index_place d i item
+place-cut d i item =
+    λ j. option_and_then (λ own. option_map (place_of_both own)
+    (values-cut d i item d.hash d.range (table_kept d i) j))
+    (values-cut d i item i.hash i.range (own_kept d i) j)
+
+-- ---- names of keys
+
+has_bytes : (n : ℕ) → nat_lt 0 n ≡ true → 0 < n
+has_bytes n h = grind arith
+
+-- keys of a pair have names
+pair_named : (hash : KeyAttr) (range : Option KeyAttr) → is_pair hash range ≡ true
+    → (0 < length hash.name) × ((r : KeyAttr) → range ≡ Some r → 0 < length r.name)
+pair_named hash range h = (has_bytes _ (first_true _ _ h), beside range (second_true _ _ h))
+  where
+    beside : (o : Option KeyAttr)
+        → of_range (λ r. nat_lt 0 (length r.name) && not (bytes_eq hash.name r.name)) true o ≡ true
+        → (r : KeyAttr) → o ≡ Some r → 0 < length r.name
+    beside None h r e = absurd (none r e)
+    beside (Some q) h r e = subst (λ (k : KeyAttr). 0 < length k.name) (some q r e)
+        (has_bytes _ (first_true _ _ h))
+
+at_each : {A : Type 0} (test : A → Bool) (xs : List A) (n : ℕ) (x : A) → list_all test xs ≡ true
+    → slice_get xs n ≡ Some x → test x ≡ true
+at_each test [] n x all e = absurd (none x e)
+at_each test (y ∷ ys) zero x all e = ap test (sym (some y x e)) ∙ first_true _ _ all
+at_each test (y ∷ ys) (suc n) x all e = at_each test ys n x (second_true _ _ all) e
+
+pub are_named : (d : TableSchema) (number : ℕ) (i : IndexSchema) → IsMade d
+    → index_at d (Some number) ≡ Some i → AreNamed d i
+are_named d number i made at =
+    let own = pair_named i.hash i.range (at_each (λ (i : IndexSchema). is_pair i.hash i.range)
+    (indexes d) number i made.index_keys at) in
+    let of_table = pair_named d.hash d.range made.keys in
+    record { hash = of_table.0; range = of_table.1; own_hash = own.0; own_range = own.1 }
+
+-- ---- what is kept
+
+is_cut : (d : TableSchema) (i : IndexSchema) (item row : List Pair)
+    → index_row d item i ≡ Some row → cut d i item ≡ row
+is_cut d i item row e = by_test (is_in_index i item) e
+  where
+    by_test : (b : Bool) → (if b then Some (cut d i item) else None) ≡ Some row → cut d i item ≡ row
+    by_test true e = some (cut d i item) row e
+    by_test false e = absurd (none row e)
+
+-- What an index has at a key is what it keeps of an item there.
+pub kept_at : (d : TableSchema) (number : ℕ) (i : IndexSchema) (item : List Pair) (key : List ℕ)
+    (row : List Pair) → IsMade d → index_at d (Some number) ≡ Some i → IsReadItem item
+    → index_entry d i item ≡ Some (key, row) → IsKeptAt d i row key (index_columns d i row)
+kept_at d number i item key row made at read is =
+    let e = is_entry d i item key row is in
+    let row_is = is_cut d i item row e.kept in
+    subst (λ x. IsKeptAt d i x key (index_columns d i x)) row_is (record {
+      named = are_named d number i made at;
+      read = read-where (is_projected d i) item read;
+      place = ap (option_map place_bytes) (place-cut d i item ∙ e.at) ∙ ap (λ b. Some b) e.bytes;
+      shows = refl;
+    })
+
+-- It has that place there.
+pub entry_place : (d : TableSchema) (i : IndexSchema) (item : List Pair) (key : List ℕ)
+    (row : List Pair) → index_entry d i item ≡ Some (key, row)
+    → option_map place_bytes (index_place d i row) ≡ Some key
+entry_place d i item key row is =
+    let e = is_entry d i item key row is in
+    ap (λ x. option_map place_bytes (index_place d i x)) (sym (is_cut d i item row e.kept))
+    ∙ ap (option_map place_bytes) (place-cut d i item ∙ e.at) ∙ ap (λ b. Some b) e.bytes
+
+-- What an index keeps of an item of values is one.
+pub kept_values : (d : TableSchema) (i : IndexSchema) (item : List Pair) (key : List ℕ)
+    (row : List Pair) → IsItemOfValues item → index_entry d i item ≡ Some (key, row)
+    → IsItemOfValues row
+kept_values d i item key row values is = subst IsItemOfValues
+    (is_cut d i item row (is_entry d i item key row is).kept)
+    (values-where (is_projected d i) item values)

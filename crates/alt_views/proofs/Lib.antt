@@ -1,0 +1,10 @@
+pub mod Back
+pub mod Batched
+pub mod Columns
+pub mod ItemRowLaws
+pub mod Keeping
+pub mod Moved
+pub mod Parts
+pub mod Placing
+pub mod Reading
+pub mod Values

@@ -1,0 +1,5 @@
+pub mod Batches
+pub mod IndexRows
+pub mod ItemRows
+pub mod Read
+pub mod Values

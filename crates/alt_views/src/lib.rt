@@ -1,0 +1,13 @@
+//! The rows of items: those of a table, at the places of their keys, and those of its indexes; and the row changes that turn the index
+//! rows of one item into those of another.
+#![tactic(auto)]
+
+mod changes;
+mod indexed;
+mod item_row;
+mod place;
+
+pub use changes::index_changes;
+pub use indexed::{IndexRow, index_row, item_of_index_row};
+pub use item_row::{Unread, item_of_row, row_of_item};
+pub use place::{KeyValues, index_place, key_fits, key_values, place_of, place_of_both};

@@ -149,6 +149,61 @@ wants("all of it", batch["UnprocessedKeys"], {})
 twice = {"Keys": [{"Artist": {"S": "batch"}, "Year": {"N": year}} for year in ("1", "1.0")]}
 wants("a key that stands twice", error_of(client.batch_get_item, RequestItems={"Music": twice}), "ValidationException")
 
+streams = boto3.client("dynamodbstreams", **SETTINGS)
+client.create_table(
+    TableName="Followed",
+    KeySchema=[{"AttributeName": "k", "KeyType": "HASH"}],
+    AttributeDefinitions=[{"AttributeName": "k", "AttributeType": "S"}],
+    BillingMode="PAY_PER_REQUEST",
+    StreamSpecification={"StreamEnabled": True, "StreamViewType": "NEW_AND_OLD_IMAGES"},
+)
+arn = client.describe_table(TableName="Followed")["Table"]["LatestStreamArn"]
+wants("list_streams", [s["StreamArn"] for s in streams.list_streams(TableName="Followed")["Streams"]], [arn])
+wants("streams of a table without one", streams.list_streams(TableName="Music")["Streams"], [])
+described = streams.describe_stream(StreamArn=arn)["StreamDescription"]
+wants("describe_stream", (described["StreamStatus"], described["TableName"]), ("ENABLED", "Followed"))
+SHARD = described["Shards"][0]["ShardId"]
+
+
+def place(**kind):
+    return streams.get_shard_iterator(StreamArn=arn, ShardId=SHARD, **kind)["ShardIterator"]
+
+
+def follow(iterator, limit):
+    """The records from there on, page by page, and the iterator from which to go on later."""
+    records = []
+    while True:
+        page = streams.get_records(ShardIterator=iterator, Limit=limit)
+        if not page["Records"]:
+            return records, page["NextShardIterator"]
+        records += page["Records"]
+        iterator = page["NextShardIterator"]
+
+
+kept = place(ShardIteratorType="TRIM_HORIZON")
+followed = boto3.resource("dynamodb", **SETTINGS).Table("Followed")
+for n in range(5):
+    followed.put_item(Item={"k": "a", "n": n})
+followed.put_item(Item={"k": "a", "n": 4})
+records, kept = follow(kept, 2)
+wants("records of five puts", [r["eventName"] for r in records], ["INSERT"] + 4 * ["MODIFY"])
+wants("their new items", [r["dynamodb"]["NewImage"]["n"]["N"] for r in records], [str(n) for n in range(5)])
+wants("the old item of the last", records[-1]["dynamodb"]["OldImage"]["n"]["N"], "3")
+wants("their numbers rise", sorted(r["eventID"] for r in records), [r["eventID"] for r in records])
+wants("nothing new", follow(kept, 2), ([], kept))
+latest = place(ShardIteratorType="LATEST")
+followed.delete_item(Key={"k": "a"})
+records, kept = follow(kept, 1000)
+wants("the reader goes on", [(r["eventName"], r["dynamodb"]["Keys"]) for r in records], [("REMOVE", {"k": {"S": "a"}})])
+wants("from the latest on", follow(latest, 1000), (records, kept))
+number = records[0]["dynamodb"]["SequenceNumber"]
+wants("at a number", follow(place(ShardIteratorType="AT_SEQUENCE_NUMBER", SequenceNumber=number), 9)[0], records)
+wants("after it", follow(place(ShardIteratorType="AFTER_SEQUENCE_NUMBER", SequenceNumber=number), 9), ([], kept))
+wants("a bad iterator", error_of(streams.get_records, ShardIterator="x"), "ValidationException")
+client.delete_table(TableName="Followed")
+wants("a stream that is gone", error_of(streams.get_records, ShardIterator=kept), "ResourceNotFoundException")
+wants("and its name", error_of(streams.describe_stream, StreamArn=arn), "ResourceNotFoundException")
+
 
 def put_some(first):
     mine = boto3.client("dynamodb", **SETTINGS)

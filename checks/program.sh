@@ -101,16 +101,18 @@ says 'a store is made for an index' 0 ok ./alternator "$work/indexed" 0 init
 indexed='CreateTable {"TableName":"Tab","KeySchema":[{"AttributeName":"k","KeyType":"HASH"}],"AttributeDefinitions":[{"AttributeName":"k","AttributeType":"S"},{"AttributeName":"g","AttributeType":"S"}],"GlobalSecondaryIndexes":[{"IndexName":"Gix","KeySchema":[{"AttributeName":"g","KeyType":"HASH"}],"Projection":{"ProjectionType":"ALL"}}]}
 PutItem {"TableName":"Tab","Item":{"k":{"S":"a"},"g":{"S":"a"},"n":{"N":"1"}}}'
 printf '%s\n' "$indexed" | ./alternator "$work/indexed" 0 replay 65536 4 >/dev/null
-# behind NAME NOTE HEX..: that store, in whose log these entries follow
+# behind NAME NOTE HEX..: that store, or another one by the variable base, in whose log these entries follow; no note where it is opened
+base=indexed
 behind() {
-  local name=$1 note=$2 log='' entry
+  local name=$1 note=$2 log='' entry status=3
+  [ -n "$note" ] || status=0
   shift 2
   for entry in "$@"; do log+=$(printf '01%016x%s' $((${#entry} / 2)) "$entry" | sed 's/../\\x&/g'); done
   rm -rf "$work/spoilt"
-  cp -r "$work/indexed" "$work/spoilt"
+  cp -r "$work/$base" "$work/spoilt"
   truncate -s -1 "$work/spoilt/00000002.alt"
   printf "$log\\0" >>"$work/spoilt/00000002.alt"
-  expect "$name" 3 "$note" ./alternator "$work/spoilt" 0 replay 65536 4
+  expect "$name" "$status" "$note" ./alternator "$work/spoilt" 0 replay 65536 4
 }
 # cleared NUMBER FAMILY KEY: a write that clears a row
 cleared() { printf '%016x%016x%08x%s01%016x' "$1" 1 "$2" "$(field "$3")" 0; }
@@ -119,10 +121,58 @@ gone=$(cleared 3 2 "${place}610000")
 behind 'an index row of no item' 'alternator: row: family 2 key 61' "$(written 3 2 61 '' '')"
 behind 'an index row that is missing' "alternator: row: family 2 key ${place}610000" "$gone"
 behind 'an index row of other columns' "alternator: row: family 2 key ${place}610000" "$(written 3 2 "${place}610000" '' '')"
+behind 'an index row with another value' "alternator: row: family 2 key ${place}610000" "$(written 3 2 "${place}610000" 6e 0203821500)"
+behind 'an index row with a column too many' "alternator: row: family 2 key ${place}610000" "$(written 3 2 "${place}610000" 6d 05)"
 behind 'an index row whose item is gone' "alternator: row: family 2 key ${place}610000" "$(cleared 3 1 "$place")"
 behind 'a row of no item before a missing one' 'alternator: row: family 2 key 61' "$gone" "$(written 4 2 61 '' '')"
 behind 'a missing row before one of no item' "alternator: row: family 2 key ${place}610000" "$gone" "$(written 4 2 ff '' '')"
 behind 'rows of indexes come last' 'alternator: row: family 3 key 61' "$gone" "$(written 4 3 61 '' '')"
+# stores whose table, of family 1, has one item, and a stream with one change; the second has an index besides, of family 2
+stream='"StreamSpecification":{"StreamEnabled":true,"StreamViewType":"KEYS_ONLY"}'
+for base in streamed both; do
+  mkdir "$work/$base"
+  says "a store is made: $base" 0 ok ./alternator "$work/$base" 0 init
+  made=${indexed/\"GlobalSecondaryIndexes\"/$stream,\"GlobalSecondaryIndexes\"}
+  [ "$base" = both ] || made=$(printf '%s\n' "$made" | sed 's/,"GlobalSecondaryIndexes":.*/}/; s/,{"AttributeName":"g","AttributeType":"S"}//')
+  printf '%s\n' "$made" | ./alternator "$work/$base" 0 replay 65536 4 >"$work/said"
+  [ "$(cut -c1-4 "$work/said" | tr -d '\n')" = '200 200 ' ] && passed=$((passed + 1)) || { failed=$((failed + 1)); echo "the store $base: $(cat "$work/said")"; }
+done
+# row_of NUMBER FAMILY KEY NAME VALUE..: a write of a row with these columns, in hexadecimal
+row_of() {
+  local head cells='' count=0
+  head=$(printf '%016x%016x%08x%s01' "$1" 1 "$2" "$(field "$3")")
+  shift 3
+  while [ $# -gt 0 ]; do
+    cells+="$(field "$1")01$(field "$2")"
+    count=$((count + 1))
+    shift 2
+  done
+  printf '%s%016x%s' "$head" "$count" "$cells"
+}
+# item_of NAME TEXT: an item with that attribute, a text, as the cell bytes of a map
+item_of() { printf '0a%016x%s01%s' 1 "$(field "$1")" "$(field "$2")"; }
+second=0000000000000000
+third=0000000000000003
+a=$(item_of 6b 61)
+b=$(item_of 6b 62)
+at_third='alternator: row: family 2 key '$third
+base=streamed
+behind 'a change that a table may keep' '' "$(row_of 3 2 $third 6d $second 6e "$a" 6f "$(item_of 6b 61 | sed 's/^0a0000000000000001/0a0000000000000002/')$(field 6e)05")"
+behind 'a change whose key is no number' 'alternator: row: family 2 key 61' "$(row_of 3 2 61 6d $second 6e "$a")"
+behind 'a change of a number to come' 'alternator: row: family 2 key 0000000000000004' "$(row_of 3 2 0000000000000004 6d $second 6e "$a")"
+behind 'a change without a second' "$at_third" "$(row_of 3 2 $third 6e "$a")"
+behind 'a second of seven bytes' "$at_third" "$(row_of 3 2 $third 6d 00000000000000 6e "$a")"
+behind 'a change of no items' "$at_third" "$(row_of 3 2 $third 6d $second)"
+behind 'a change that changes nothing' "$at_third" "$(row_of 3 2 $third 6d $second 6e "$a" 6f "$a")"
+behind 'a change of two keys' "$at_third" "$(row_of 3 2 $third 6d $second 6e "$a" 6f "$b")"
+behind 'a change with another column' "$at_third" "$(row_of 3 2 $third 6d $second 6e "$a" 78 "$b")"
+behind 'an item of a change that is none' "$at_third" "$(row_of 3 2 $third 6d $second 6e "01$(field 61)")"
+behind 'an item of a change without the key' "$at_third" "$(row_of 3 2 $third 6d $second 6e "$(item_of 6e 61)")"
+behind 'the first of two wrong changes' 'alternator: row: family 2 key 0000000000000001' "$(row_of 3 2 $third 6d $second)" "$(row_of 4 2 0000000000000001 6d $second)"
+behind 'a change that is gone' '' "$(cleared 3 2 0000000000000002)"
+behind 'rows of no table come before those of streams' 'alternator: row: family 3 key 61' "$(row_of 3 2 61 6d $second)" "$(written 4 3 61 '' '')"
+base=both
+behind 'rows of indexes come behind those of streams' 'alternator: row: family 3 key 61' "$(written 3 2 61 '' '')" "$(row_of 4 3 61 6d $second)"
 # a store is held by one process
 mkfifo "$work/wait"
 ./alternator "$work/made" 0 replay 65536 4 <"$work/wait" >/dev/null &
@@ -184,7 +234,6 @@ row "$(bad 'bad table or index name')" DescribeTable '{"TableName":"ab"}'
 row "$(bad 'a required member is missing')" DescribeTable '{"TableName":null}'
 row "$missing" DescribeTable '{"TableName":"abc"}'
 row "$(bad 'bad key schema or attribute definitions')" CreateTable '{"TableName":"Tab","KeySchema":[],'"$kinds"'}'
-row "$(bad 'not built yet')" CreateTable "$(table Abc | sed 's/}$/,"StreamSpecification":{"StreamEnabled":true,"StreamViewType":"NEW_IMAGE"}}/')"
 row "$(bad 'members do not go together')" CreateTable "$(table Abc | sed 's/}$/,"StreamSpecification":{"StreamEnabled":true}}/')"
 
 # values

@@ -11,7 +11,7 @@ awk -v dir="$work" '
   /^```/      { file = ""; next }
   file        { print > file }
 ' README.md
-plain() { sed -E 's/"CreationDateTime":[0-9]+/"CreationDateTime":1700000000/g'; }
+plain() { sed -E 's/("[A-Za-z]*DateTime":)[0-9]+/\11700000000/g'; }
 passed=0
 failed=0
 for script in "$work"/*.sh; do

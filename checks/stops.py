@@ -1,10 +1,12 @@
 """A store under a program that is killed: python3 checks/stops.py PROGRAM TIMES.
 
 Each time `replay` is fed puts over one store and killed at a random moment; then the store is opened again, and has to have each put
-that was answered, at most one more (the one that was begun), and none half. Puts go to new keys and over old ones in turn. Then a
-counter is raised by 1,000 updates in the same way: no kill sets it back.
+that was answered, at most one more (the one that was begun), and none half. Puts go to new keys and over old ones in turn. The table has
+a stream, which at the end has one record of each put, in their order. Then a counter is raised by 1,000 updates in the same way: no kill
+sets it back.
 """
 
+import json
 import random
 import subprocess
 import sys
@@ -14,7 +16,8 @@ import threading
 PROGRAM, TIMES = sys.argv[1], int(sys.argv[2])
 TABLE = (
     '{"TableName":"Tab","KeySchema":[{"AttributeName":"k","KeyType":"HASH"}],'
-    '"AttributeDefinitions":[{"AttributeName":"k","AttributeType":"S"}]}'
+    '"AttributeDefinitions":[{"AttributeName":"k","AttributeType":"S"}],'
+    '"StreamSpecification":{"StreamEnabled":true,"StreamViewType":"NEW_IMAGE"}}'
 )
 KEYS = 40
 
@@ -92,7 +95,28 @@ def main():
                 return 1
             done = after[0]
         print("stops: %d kills, %d puts: each answered one is there" % (TIMES, done))
-        return 1 if not done else raised(store)
+        return 1 if not done or followed(store, done) else raised(store)
+
+
+def followed(store, puts):
+    """Reads the stream of so many puts, a page of 1,000 records after another: the table was made by write 1."""
+    arn = "arn:aws:dynamodb:local:000000000000:table/Tab/stream/%021d" % 1
+    first = 0
+    for page in replay(
+        store, "".join('GetRecords {"ShardIterator":"%s|%021d"}\n' % (arn, n) for n in range(2, puts + 2, 1000))
+    ):
+        for record in json.loads(page[4:])["Records"]:
+            event, number = "INSERT" if first < KEYS else "MODIFY", "%021d" % (first + 2)
+            item = json.loads(shown(first)[4:])["Item"]
+            if (record["eventName"], record["eventID"], record["dynamodb"]["NewImage"]) != (event, number, item):
+                print("stops: record %d of %d puts is %s" % (first, puts, record))
+                return 1
+            first += 1
+    if first != puts:
+        print("stops: %d records of %d puts" % (first, puts))
+        return 1
+    print("stops: the stream has one record of each put")
+    return 0
 
 
 def raised(store):

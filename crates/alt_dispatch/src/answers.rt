@@ -26,12 +26,13 @@ use alt_ops_query::{query, scan};
 use alt_ops_table::{create_table, delete_table, describe_table, list_tables};
 use alt_request::Stop;
 use alt_shape::{Refusal, Reply, refuse};
+use alt_streams::{describe_stream, get_records, get_shard_iterator, list_streams};
 use alt_tables::{TableFault, Tables};
 use serde_json::{Map, Value};
 use std::alloc::Global;
 
 /// The operations that are built, by name.
-static OPERATIONS: [(&str, Operation); 12] = [
+static OPERATIONS: [(&str, Operation); 16] = [
     ("CreateTable", Operation::CreateTable),
     ("DescribeTable", Operation::DescribeTable),
     ("ListTables", Operation::ListTables),
@@ -44,6 +45,10 @@ static OPERATIONS: [(&str, Operation); 12] = [
     ("Scan", Operation::Scan),
     ("BatchWriteItem", Operation::BatchWriteItem),
     ("BatchGetItem", Operation::BatchGetItem),
+    ("ListStreams", Operation::ListStreams),
+    ("DescribeStream", Operation::DescribeStream),
+    ("GetShardIterator", Operation::GetShardIterator),
+    ("GetRecords", Operation::GetRecords),
 ];
 
 /// The built operation of that name, `None` exactly where there is none.
@@ -165,5 +170,9 @@ fn carry_out<D: Disk>(
         Operation::Scan => scan(alloc, tables, disk, body, moment),
         Operation::BatchWriteItem => batch_write_item(alloc, tables, disk, body, moment),
         Operation::BatchGetItem => batch_get_item(alloc, tables, disk, body, moment),
+        Operation::ListStreams => list_streams(alloc, tables, disk, body, moment),
+        Operation::DescribeStream => describe_stream(alloc, tables, disk, body, moment),
+        Operation::GetShardIterator => get_shard_iterator(alloc, tables, disk, body, moment),
+        Operation::GetRecords => get_records(alloc, tables, disk, body, moment),
     }
 }

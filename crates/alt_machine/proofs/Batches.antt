@@ -26,7 +26,7 @@ use Rattle.alt_machine.proofs.Descriptions.{get-descriptions}
 use Rattle.alt_machine.proofs.Lacks.{number_room}
 use Rattle.alt_machine.proofs.Looks.{at_insert}
 use Rattle.alt_machine.proofs.Puts.{IsSound, is_read, may_stand}
-use Rattle.alt_machine.proofs.States.{after_item_valid, with_item_stored}
+use Rattle.alt_machine.proofs.States.{after_item_valid}
 use Rattle.alt_machine.proofs.Tests.{unless_holds, if_fails}
 use Rattle.alt_schema.specs.declared.schema.TableSchema.{TableSchema}
 use Rattle.alt_shape.specs.Refusals.{Answer, not_found, bad_batch, bad_key, key_too_long}
@@ -82,6 +82,7 @@ record IsThere (catalog : Texts TableSchema) (m : PlacedMember) : Type 0 where
   at : (d : TableSchema) → finite.get catalog m.table ≡ Some d
       → (place_in m.sought d m.item ≡ Some m.place) × (key_fits d m.item ≡ true)
 
+-- the item or the key of a member that was read is sound
 sound_read : (table : List ℕ) (sought : Sought) (ms : Members) (m : BatchMember)
     → read_member table sought ms ≡ Ok m → IsSound m.item
 sound_read table sought ms m e =
@@ -94,6 +95,7 @@ sound_read table sought ms m e =
     item_or (Ok b) = b.item
     item_or (Err a) = []
 
+-- so is that of a put or of a delete
 write_sound : (r : List ℕ × Data) (m : BatchMember) → read_write r ≡ Ok m → IsSound m.item
 write_sound r m e = by (object_in (codes "PutRequest") r.1) e
   where
@@ -104,9 +106,11 @@ write_sound r m e = by (object_in (codes "PutRequest") r.1) e
         (unwrap_or (object_in (codes "DeleteRequest") r.1) no_members) m f
     by (Some ms) f = sound_read r.0 Item ms m f
 
+-- options that are equal have equal values
 same_Some : {A : Type 0} (x y : A) → Some x ≡ Some y → x ≡ y
 same_Some x y e = cc
 
+-- a sound member that was placed has its place in its table, and its key isn't too long
 placed_there : (catalog : Texts TableSchema) (b : BatchMember) (m : PlacedMember) → IsSound b.item
     → placed catalog b ≡ Ok m → IsThere catalog m
 placed_there catalog b m sound e =
@@ -134,6 +138,7 @@ first_of_both [] b e = (refl, e)
 first_of_both (None ∷ a) b e = first_of_both a b e
 first_of_both (Some x ∷ a) b e = absurd (let f : ⊥ = cc in f)
 
+-- what such a member leaves may stand at its place, where its table refuses nothing of it
 there_may : (catalog : Texts TableSchema) (m : PlacedMember) → IsThere catalog m
     → first_answer (of_member catalog m) ≡ None → MayStand catalog m
 unfolding MayStand
@@ -151,6 +156,7 @@ there_may catalog m there free d known i left =
         (may_stand d m.place m.item there.sound at.0 at.1 tests)
     by Key left tests at = absurd (let f : ⊥ = cc in f)
 
+-- so may what all of them leave
 all_may : (catalog : Texts TableSchema) (ms : List PlacedMember)
     → Every (IsThere catalog) ms → first_answer (of_members catalog ms) ≡ None
     → Every (MayStand catalog) ms
@@ -256,6 +262,7 @@ all_named catalog r q e =
     keys_or (Ok s) = s.keys
     keys_or (Err x) = []
 
+-- so are those of the keys in all reads that a request asks for
 pub reads_named : (catalog : Texts TableSchema) (ms : Members) (there : List (Reads Shown PlacedMember))
     → reads_asked catalog ms ≡ Ok there
     → Every (λ (r : Reads Shown PlacedMember).
@@ -284,6 +291,7 @@ pub Known : Texts TableSchema → State → Type 0
 Known catalog s = (name : List ℕ) (t : Table) → finite.get s.tables name ≡ Some t
     → finite.get catalog name ≡ Some t.description
 
+-- the descriptions that a state gives are those of its tables
 pub known_descriptions : (s : State) → Known (descriptions s.tables) s
 unfolding Known
 known_descriptions s name t there = get-descriptions s.tables name
@@ -316,20 +324,21 @@ module _ (catalog : Texts TableSchema) (moment : ℕ) where
       at : (o : Option Table) → finite.get s.tables m.table ≡ o
           → AreSteps a_number s (made o ++ rest (last_state s (made o)))
       at None e = behind s known
-      at (Some t) e = by (is_same (finite.get t.items m.place) (left_by m))
+      at (Some t) e = by (is_same (finite.get t.items m.place) (left_by m)) refl
         where
           after : State
           after = after_item s moment m.table t m.place (left_by m)
 
-          by : (b : Bool) → AreSteps a_number s ((if b then [] else after ∷ [])
+          by : (b : Bool) → is_same (finite.get t.items m.place) (left_by m) ≡ b
+              → AreSteps a_number s ((if b then [] else after ∷ [])
               ++ rest (last_state s (if b then [] else after ∷ [])))
-          by true = behind s known
-          by false = first_step a_number s after (rest after) (λ v enough.
-              after_item_valid s moment m.table t m.place (left_by m) v (number_room s enough) e
-              (with_item_stored s m.table t m.place (left_by m) v e
-              (may t.description (known m.table t e))))
+          by true same = behind s known
+          by false differ = first_step a_number s after (rest after) (λ v enough.
+              after_item_valid s moment m.table t m.place (left_by m) v (number_room s enough) e differ
+              (may t.description (known m.table t e)))
               (behind after (known_after catalog s moment m.table t m.place (left_by m) known e))
 
+  -- the writes of members that may be written are steps
   pub all_steps : (s : State) (ms : List PlacedMember) → Known catalog s
       → Every (MayStand catalog) ms
       → AreSteps a_number s (writes_of_all s moment (map written_by ms))
@@ -338,6 +347,7 @@ module _ (catalog : Texts TableSchema) (moment : ℕ) where
       next_steps s m (λ r. writes_of_all r moment (map written_by ms)) known may.0
       (λ r h. all_steps r ms h may.1)
 
+-- each write of a BatchWriteItem leads from a valid state to a valid one
 pub batch_write_steps : (s : State) (moment : ℕ) (ms : Members)
     → Steps s (batch_write_item s moment ms)
 unfolding batch_write_item

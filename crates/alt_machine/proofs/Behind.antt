@@ -27,6 +27,7 @@ front_of (suc k) s (t ∷ ts) b = let more = front_of k t ts b in (suc more.0, m
 
 -- ---- what is lacked
 
+-- nothing is lacked among writes and others behind them, where nothing is among either
 pub lack_behind : (wants : Wants) (a : List State) (s : State) (b : List State)
     → lack_among wants s a ≡ None → lack_among wants (last_state s a) b ≡ None
     → lack_among wants s (a ++ b) ≡ None

@@ -18,10 +18,12 @@ AreSteps wants s (t ∷ ts) = (IsValid s → lack_of wants s ≡ None → IsVali
 abbrev pub Steps : State → Outcome → Type 0
 Steps s outcome = AreSteps outcome.wants s outcome.atoms
 
+-- where nothing is written there is nothing to keep
 pub no_steps : (wants : Wants) (s : State) → AreSteps wants s []
 unfolding AreSteps
 no_steps wants s = tt
 
+-- a single write that keeps what is valid is a step
 pub one_step : (wants : Wants) (s t : State) → (IsValid s → lack_of wants s ≡ None → IsValid t)
     → AreSteps wants s (t ∷ [])
 unfolding AreSteps
@@ -36,6 +38,7 @@ first_step wants s t ts h rest = (h, rest)
 
 -- ---- behind a test
 
+-- the writes behind tests are steps, if they are where no test applies
 pub steps-unless : (s : State) (tests : List (Option Answer)) (outcome : Outcome)
     → (first_answer tests ≡ None → Steps s outcome) → Steps s (unless_refused tests outcome)
 steps-unless s tests outcome h = by (first_answer tests) refl
@@ -44,6 +47,7 @@ steps-unless s tests outcome h = by (first_answer tests) refl
     by None e = h e
     by (Some a) e = no_steps _ s
 
+-- so are those behind what is looked for, if they are with all that may be found
 pub steps-found : {A : Type 0} (s : State) (r : Result A Answer) (go : A → Outcome)
     → ((x : A) → r ≡ Ok x → Steps s (go x)) → Steps s (with_found r go)
 steps-found s r go h = by r refl
@@ -52,6 +56,7 @@ steps-found s r go h = by r refl
     by (Ok x) e = h x e
     by (Err a) e = no_steps _ s
 
+-- what was found and not refused was there
 pub found_is : {A : Type 0} (r : Refusal) (o : Option A) (x : A) → or_refused r o ≡ Ok x
     → o ≡ Some x
 found_is r None x e = absurd (let f : ⊥ = cc in f)
@@ -59,6 +64,7 @@ found_is r (Some y) x e = ap Some (let f : y ≡ x = cc in f)
 
 -- ---- all of them
 
+-- the first so many of such writes lead from a valid state to a valid one, where they lack nothing
 pub first_valid : (wants : Wants) (k : ℕ) (s : State) (ts : List State) → AreSteps wants s ts
     → lack_among wants s (take k ts) ≡ None → IsValid s → IsValid (last_state s (take k ts))
 unfolding AreSteps

@@ -18,9 +18,11 @@ use Rattle.alt_schema.specs.Rules.{refusal_of}
 use Rattle.alt_shape.specs.Refusals.{table_exists, too_many_tables}
 use Rattle.alt_shape.specs.declared.refusal.Refusal.{Refusal}
 
+-- a number that doesn't reach a bound is below it
 not_full : (m n : ℕ) → nat_le m n ≡ false → n < m
 not_full m n e = grind arith
 
+-- where a refusal answers nothing there is none
 not_refused : (o : Option Refusal) → refuse_by o ≡ None → o ≡ None
 not_refused None e = refl
 not_refused (Some r) e = absurd (let f : ⊥ = cc in f)
@@ -33,6 +35,7 @@ module _ (s : State) (ms : Members) (free : first_answer (of_tables s ms) ≡ No
   schema_taken = let front = rest_none (refuse_by (refusal_of ms)) _ free in
       (not_refused (refusal_of ms) front.0, front.1)
 
+  -- nothing of names, keys and indexes is refused
   pub is_taken : refusal_of ms ≡ None
   is_taken = schema_taken.0
 
@@ -41,13 +44,16 @@ module _ (s : State) (ms : Members) (free : first_answer (of_tables s ms) ≡ No
       ≡ None)
   room_test = if_fails (map.contains_key s.tables (table_name ms)) table_exists _ schema_taken.1
 
+  -- no table has the name
   pub is_absent : map.contains_key s.tables (table_name ms) ≡ false
   is_absent = room_test.0
 
+  -- there are fewer tables than there may be
   pub has_room : map.len s.tables < MOST_TABLES
   has_room = not_full MOST_TABLES (map.len s.tables)
       (if_fails (nat_le MOST_TABLES (map.len s.tables)) too_many_tables _ room_test.1).0
 
+-- each write of a CreateTable leads from a valid state to a valid one
 pub create_steps : (s : State) (moment : ℕ) (ms : Members) → Steps s (create_table s moment ms)
 unfolding create_table
 create_steps s moment ms =

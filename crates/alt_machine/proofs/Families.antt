@@ -12,6 +12,7 @@ row : ℕ → ℕ → List ℕ
 row f zero = []
 row f (suc n) = f ∷ row (suc f) n
 
+-- it has as many as that
 length-row : (f n : ℕ) → length (row f n) ≡ n
 unfolding row
 length-row f zero = refl
@@ -24,11 +25,13 @@ row-at f zero i x within = absurd (omega arith)
 row-at f (suc n) zero x within = omega arith
 row-at f (suc n) (suc i) x within = omega (arith, row-at (suc f) n i x (omega arith))
 
+-- numbers that rise by one over a list are a row of the list's length
 from_on-row : {A : Type 0} (f : ℕ) (xs : List A) → from_on f xs ≡ row f (length xs)
 unfolding row
 from_on-row f [] = refl
 from_on-row f (x ∷ xs) = ap (λ rest. f ∷ rest) (from_on-row (suc f) xs)
 
+-- a row and the one that goes on where it ends are one
 row-append : (f n k : ℕ) → row f n ++ row (f + n) k ≡ row f (n + k)
 unfolding row
 row-append f zero k = rw (zero_left k, add_nothing f) refl
@@ -51,6 +54,7 @@ unfolding row
 stream_row f None stream e = ap (λ s. option_map_or (λ g. g ∷ []) s []) e
 stream_row f (Some v) stream e = ap (λ s. option_map_or (λ g. g ∷ []) s []) e
 
+-- a stream takes one family at most
 one_stream : {V : Type 0} (v : Option V) → option_map_or (λ _. 1) v 0 ≤ 1
 one_stream None = omega arith
 one_stream (Some w) = omega arith
@@ -60,6 +64,7 @@ count : TableSchema → ℕ
 count d = suc (length (indexes d) + option_map_or (λ v. 1) d.view 0)
 
 module _ (d : TableSchema) (new : IsNew d) where
+  -- the families of a new description are a row from the table's on
   is_row : families_of d ≡ row d.family (count d)
   unfolding row count
   is_row = ap (λ rest. d.family ∷ rest) (
@@ -70,6 +75,7 @@ module _ (d : TableSchema) (new : IsNew d) where
       ∙ row-append (d.family + 1) (length (indexes d)) (option_map_or (λ v. 1) d.view 0)
       ∙ ap (λ f. row f (length (indexes d) + option_map_or (λ v. 1) d.view 0)) (omega arith))
 
+  -- and as many as it takes
   how_many : length (families_of d) ≡ count d
   how_many = ap length is_row ∙ length-row d.family (count d)
 
@@ -85,6 +91,7 @@ module _ (d : TableSchema) (new : IsNew d) where
     one_stream d.view,
   )
 
+  -- the one at a place is the table's, and as much more
   at_place : (i x : ℕ) → i < length (families_of d)
       → slice_index_or (families_of d) i x ≡ d.family + i
   at_place i x within = ap (λ fs. slice_index_or fs i x) is_row
@@ -98,6 +105,7 @@ module _ (d : TableSchema) (new : IsNew d) where
     omega (arith, at_place i x within),
   )
 
+  -- no two of them are the same
   pub families_differ : AllPairs (λ f g. f ≢ g) (families_of d)
   families_differ i j x before within e = omega
       (arith, at_place i x (omega arith), at_place j x within, e)

@@ -27,9 +27,11 @@ use Rattle.alt_value.specs.Values.{AreFields, IsItemOfValues}
 use Rattle.alt_value.specs.declared.kind.KeyKind.{KeyKind}
 use Rattle.alt_value.specs.declared.kind.KeyKind.TheVariants.{S, N, B}
 
+-- options that are equal have equal values
 some : {A : Type 0} (x y : A) → Some x ≡ Some y → x ≡ y
 some x y e = ap (λ o. unwrap_or o x) e
 
+-- an option without a value isn't one with a value
 none : {A : Type 0} (x : A) → None ≡ Some x → ⊥
 none x e = let no : None ≡ Some x = e in cc no
 
@@ -41,6 +43,7 @@ and_then : {A B : Type 0} (f : A → Option B) (o : Option A) (y : B) → option
 and_then f None y e = absurd (none y e)
 and_then f (Some x) y e = (x, refl, e)
 
+-- a mapped option that has a value has it from one that was there
 mapped : {A B : Type 0} (f : A → B) (o : Option A) (y : B) → option_map f o ≡ Some y
     → (x : A) × (o ≡ Some x) × (f x ≡ y)
 mapped f None y e = absurd (none y e)
@@ -110,6 +113,7 @@ has_keys d i item p e =
     let b = mapped (place_of_both a.0) (values_of (key_value item) d.hash d.range) p a.2 in
     record { own = a.0; key = b.0; owns = a.1; keys = b.1; is = b.2 }
 
+-- the items of an index lie by its keys and then by the table's
 pub index_places_lie : IndexPlacesLie
 index_places_lie d i x y p q hx hy ex ey =
     let a = has_keys d i x p ex in
@@ -153,6 +157,7 @@ pub record IsEntry (d : TableSchema) (i : IndexSchema) (item : List Pair) (key :
   pub at : index_place d i item ≡ Some place
   pub bytes : place_bytes place ≡ key
 
+-- the entry of an item has its row, under the bytes of its place in the index
 pub is_entry : (d : TableSchema) (i : IndexSchema) (item : List Pair) (key : List ℕ)
     (row : List Pair) → index_entry d i item ≡ Some (key, row) → IsEntry d i item key row
 is_entry d i item key row e =
@@ -183,10 +188,12 @@ index_apart d i items stored p q x y key v w at_p at_q is_x is_y =
 
 -- ---- the items that are in an index
 
+-- where two tests pass, the first does
 first_true : (a b : Bool) → (a && b) ≡ true → a ≡ true
 first_true true b h = refl
 first_true false b h = absurd (false≢true h)
 
+-- and the second
 second_true : (a b : Bool) → (a && b) ≡ true → b ≡ true
 second_true true b h = h
 second_true false b h = absurd (false≢true h)
@@ -276,6 +283,7 @@ entry_there d number i place item row stored at e =
           ∙ ap (option_map (λ place. (place_bytes place, row))) is,
     )
 
+-- each index of a valid state has the items of its table that it takes, and no others
 pub all_index : AllIndex
 all_index s name t number i valid held there at = record {
   each = λ place item row here is.

@@ -6,9 +6,11 @@ use Rattle.alt_machine.specs.Outcomes.{Wants}
 use Rattle.alt_machine.specs.State.{State}
 use Rattle.alt_machine.specs.Wanted.{number_lack, family_lack, table_lack, lack_of, lack_among, or_later, Lack}
 
+-- a number that doesn't reach a bound is below it
 not_full : (m n : ℕ) → nat_le m n ≡ false → n < m
 not_full m n e = grind arith
 
+-- and one that isn't above a bound is the bound or below it
 not_above : (m n : ℕ) → nat_lt m n ≡ false → n ≤ m
 not_above m n e = grind arith
 
@@ -18,10 +20,12 @@ not_lacked : {A : Type 0} (b : Bool) (n : A) (o : Option A) → cond b (Some n) 
 not_lacked true n o e = absurd (let f : ⊥ = cc in f)
 not_lacked false n o e = (refl, e)
 
+-- where no number is lacked the next one is below the end
 pub number_room : (s : State) → number_lack s.next_number ≡ None → s.next_number < NUMBERS_END
 number_room s e = not_full NUMBERS_END s.next_number
     (not_lacked (nat_le NUMBERS_END s.next_number) s.next_number None e).0
 
+-- where a new table lacks nothing there is a number for it, and as many families as a table may take
 pub table_room : (s : State) → table_lack s.next_number s.next_family ≡ None
     → (s.next_number < NUMBERS_END) × (s.next_family + MOST_FAMILIES ≤ FAMILIES_END)
 table_room s e =
@@ -45,6 +49,7 @@ first_has wants s t ts e = by (lack_of wants s) (lack_among wants t ts) e
 
 -- ---- what is lacked and what isn't, of one write
 
+-- a number below the end isn't lacked
 pub has_number : (n : ℕ) → n < NUMBERS_END → number_lack n ≡ None
 has_number n h = by (nat_le NUMBERS_END n) refl
   where
@@ -52,9 +57,11 @@ has_number n h = by (nat_le NUMBERS_END n) refl
     by true e = absurd (omega (arith, leb-true NUMBERS_END n e))
     by false e = refl
 
+-- any other is
 pub lacks_number : (n : ℕ) → NUMBERS_END ≤ n → number_lack n ≡ Some n
 lacks_number n h = ap (λ b. cond b (Some n) None) (le-leb NUMBERS_END n h)
 
+-- families are not lacked, where as many as a table may take are there before the end
 pub has_family : (f : ℕ) → f + MOST_FAMILIES ≤ FAMILIES_END → family_lack f ≡ None
 has_family f h = by (nat_lt FAMILIES_END (f + MOST_FAMILIES)) refl
   where
@@ -65,6 +72,7 @@ has_family f h = by (nat_lt FAMILIES_END (f + MOST_FAMILIES)) refl
     by true e = absurd (omega (arith, above FAMILIES_END (f + MOST_FAMILIES) e))
     by false e = refl
 
+-- a new table lacks nothing, where there is a number for it and so many families
 pub has_table : (n f : ℕ) → n < NUMBERS_END → f + MOST_FAMILIES ≤ FAMILIES_END
     → table_lack n f ≡ None
 has_table n f h g = by (nat_le NUMBERS_END n) refl
@@ -73,9 +81,11 @@ has_table n f h g = by (nat_le NUMBERS_END n) refl
     by true e = absurd (omega (arith, leb-true NUMBERS_END n e))
     by false e = has_family f g
 
+-- without a number for it that is what it lacks
 pub lacks_table_number : (n f : ℕ) → NUMBERS_END ≤ n → table_lack n f ≡ Some n
 lacks_table_number n f h = ap (λ b. cond b (Some n) (family_lack f)) (le-leb NUMBERS_END n h)
 
+-- with one, but without so many families, it lacks these
 pub lacks_table_family : (n f : ℕ) → n < NUMBERS_END → FAMILIES_END < f + MOST_FAMILIES
     → table_lack n f ≡ Some f
 lacks_table_family n f h g = by (nat_le NUMBERS_END n) refl
@@ -90,6 +100,7 @@ pub one_has : (wants : Wants) (s t : State) → lack_of wants s ≡ None
     → lack_among wants s (t ∷ []) ≡ None
 one_has wants s t e = ap (λ o. or_later o None) e
 
+-- what it lacks is lacked before any write
 pub one_lacks : (wants : Wants) (s t : State) (n : ℕ) → lack_of wants s ≡ Some n
     → lack_among wants s (t ∷ []) ≡ Some (record { number = n; before = 0 })
 one_lacks wants s t n e = ap (λ o. or_later o None) e

@@ -97,6 +97,7 @@ module _ (tests : List (Option Answer)) (texts : Texts) (s : State) (ms : Member
 
 -- ---- its writes, of which there are none
 
+-- the writes of an operation on a list are steps, if those are that it goes on to
 pub steps-on_list : (s : State) (tests : List (Option Answer)) (texts : Texts) (ms : Members)
     (go : Expressions → Option (List Pair) → Table → Option ℕ → Outcome)
     → ((said : Expressions) (start : Option (List Pair)) (t : Table) (index : Option ℕ)

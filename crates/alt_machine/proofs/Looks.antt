@@ -8,6 +8,7 @@ use Rattle.alt_machine.specs.State.{Texts}
 use Rattle.alt_value.specs.Members.{text_order}
 use Rattle.alt_value.proofs.Texts.{text_total, text_apart}
 
+-- options that are equal have equal values
 same_Some : {A : Type 0} (x y : A) → Some x ≡ Some y → x ≡ y
 same_Some x y e = cc
 
@@ -32,6 +33,7 @@ module _ {X : Type 0} (m : Texts X) (k q : List ℕ) (x : X) where
       by_test true f = absurd (let g : ⊥ = cc in g)
       by_test false f = f
 
+-- nothing is found in an empty map
 pub not_there : {X : Type 0} (k : List ℕ) (x : X)
     → map.get (map.empty {X = X} {R = text_order}) k ≡ Some x → ⊥
 not_there {X} k x e = let f : None ≡ Some x = sym (get-empty {X = X} text_order k) ∙ e in cc

@@ -17,10 +17,12 @@ use Rattle.alt_schema.specs.declared.stated.Element.{Element}
 use Rattle.alt_schema.specs.declared.stated.StatedIndex.{StatedIndex}
 use Rattle.alt_schema.proofs.NewDescriptions.{left, right, names_hold, keys_hold, indexes_hold, new_description}
 
+-- what holds on both sides of a test holds of the one that is taken
 if_either : {A : Type 0} (Q : A → Type 0) (b : Bool) (x y : A) → Q x → Q y → Q (if b then x else y)
 if_either Q true x y p q = p
 if_either Q false x y p q = q
 
+-- two tests that pass pass together
 both : (a b : Bool) → a ≡ true → b ≡ true → (a && b) ≡ true
 both true b p q = q
 both false b p q = p
@@ -40,6 +42,7 @@ module _ (ds : List KeyAttr) (p : StatedIndex → Bool) (q : IndexSchema → Boo
   kept_both f g (l ∷ ls) gs e = both (q (index_for ds f l)) _ (h f l (left (p l) _ e))
       (kept_both (suc f) g ls gs (right (p l) _ e))
 
+-- the key attributes of a good key schema are a pair: their names differ and have bytes
 pair_kept : (ds : List KeyAttr) (keys : List Element) → rules.is_key_schema keys ≡ true
     → is_pair (hash_of ds keys) (range_of ds keys) ≡ true
 pair_kept ds [] e = cc
@@ -55,6 +58,7 @@ pair_kept ds (h ∷ r ∷ []) e =
     (right (rules.plays (codes "RANGE") r) _ second))
 pair_kept ds (h ∷ r ∷ x ∷ xs) e = cc
 
+-- a local index with good keys has the HASH key of its table and another RANGE key
 local_kept : (ds : List KeyAttr) (table index : List Element) → rules.is_local_to table index ≡ true
     → (bytes_eq (hash_of ds index).name (hash_of ds table).name && are_two (range_of ds table)
     (range_of ds index)) ≡ true
@@ -66,6 +70,7 @@ local_kept ds (h ∷ r ∷ []) (i ∷ j ∷ []) e = e
 local_kept ds (h ∷ r ∷ []) (i ∷ j ∷ x ∷ xs) e = cc
 local_kept ds (h ∷ r ∷ y ∷ ys) index e = cc
 
+-- a test or one that fails is that test
 or_false : (b : Bool) → (b || false) ≡ b
 or_false true = refl
 or_false false = refl
@@ -80,6 +85,7 @@ used_kept ds (h ∷ r ∷ []) name e = ap (λ b. bytes_eq h.name name || b)
     (or_false (bytes_eq r.name name))
 used_kept ds (h ∷ r ∷ x ∷ xs) name e = cc
 
+-- the key schemas of stated indexes use a name exactly where the keys of the indexes that are made of them have it
 used_by : (ds : List KeyAttr) (f : ℕ) (is : List StatedIndex) (name : List ℕ)
     → list_all (λ i. rules.is_key_schema i.keys) is ≡ true
     → list_any (λ i. rules.is_used_in name i.keys) is
@@ -89,6 +95,7 @@ used_by ds f (i ∷ is) name e =
     λ j. used_kept ds i.keys name (left (rules.is_key_schema i.keys) _ e) j || used_by ds
     (suc f) is name (right (rules.is_key_schema i.keys) _ e) j
 
+-- and those of local and of global indexes together
 used_by_both : (ds : List KeyAttr) (f g : ℕ) (ls gs : List StatedIndex) (name : List ℕ)
     → list_all (λ i. rules.is_key_schema i.keys) (ls ++ gs) ≡ true
     → list_any (λ i. rules.is_used_in name i.keys) (ls ++ gs)
@@ -104,6 +111,7 @@ tests_alike : (p q : List ℕ → Bool) (ds : List KeyAttr) → ((name : List �
 tests_alike p q [] h = refl
 tests_alike p q (d ∷ ds) h = λ j. h d.name j && tests_alike p q ds h j
 
+-- a good projection that names attributes names 1 to 20, each with bytes
 projection_kept : (word : List ℕ) (names : Option (List (List ℕ)))
     → rules.is_projection word names ≡ true → names_few (projection_for word names) ≡ true
 projection_kept word None e = if_either (λ p. names_few p ≡ true)
@@ -154,6 +162,7 @@ module _ (ms : Members) (moment number family : ℕ) where
     unfolding description_of rules.refusal_of
     made_new = new_description (stated ms) taken moment number family
 
+    -- it is as the description of a table in a state has to be
     pub made_is : IsMade (description_of ms moment number family)
     unfolding description_of described_by rules.refusal_of
     made_is =

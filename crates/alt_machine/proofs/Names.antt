@@ -40,6 +40,7 @@ at_name-has_bytes [] t ps item e =
     absurd (let g : ⊥ = cc in g)
 at_name-has_bytes (c ∷ cs) t ps item e = omega arith
 
+-- an item stays one when an attribute is put in; under the empty name none is
 IsItem-put_name : (name : List ℕ) (t : Tree) (ps : List Pair) → IsItem ps
     → IsItem (put_name name t ps)
 IsItem-put_name [] t ps h = h
@@ -66,11 +67,13 @@ IsItem-with_key ((name, t) ∷ key) item h f =
 
 -- ---- what stands at a name
 
+-- a comparison that ties is `Equal`
 tied : (o : Ordering) → is_eq o ≡ true → o ≡ Equal
 tied Less e = absurd (let f : ⊥ = cc in f)
 tied Equal e = refl
 tied Greater e = absurd (let f : ⊥ = cc in f)
 
+-- what stands at a name once an attribute was put in: its value where it has that name, and else what stood there
 at_name-put_name : (n name : List ℕ) (t : Tree) (ps : List Pair) → 0 < length n
     → at_name n (put_name name t ps) ≡ cond (eq_by_cmp text_order n name) (Some t) (at_name n ps)
 at_name-put_name [] [] t ps some = absurd (omega arith)

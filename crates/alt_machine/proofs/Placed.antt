@@ -16,6 +16,7 @@ use Rattle.alt_value.specs.Values.{IsValue, AreFields}
 use Rattle.alt_value.specs.declared.kind.KeyKind.{KeyKind}
 use Rattle.alt_value.specs.declared.kind.KeyKind.TheVariants.{S, N, B}
 
+-- options that are equal have equal values
 same_Some : {A : Type 0} (x y : A) → Some x ≡ Some y → x ≡ y
 same_Some x y e = cc
 
@@ -30,6 +31,7 @@ field_value name (p ∷ ps) t h e = by (is_eq (text_order name p.0)) (field_valu
     by true rest f = subst IsValue (same_Some p.1 t f) h.1
     by false rest f = rest f
 
+-- a value that is taken where a test passes is that value, where one is taken
 some_is : (b : Bool) (u t : Tree) → (if b then Some u else None) ≡ Some t → u ≡ t
 some_is true u t e = same_Some u t e
 some_is false u t e = absurd (let f : ⊥ = cc in f)
@@ -43,6 +45,7 @@ key_kind B (B_tree b) t v e = subst (IsOfKind B)
     (some_is (can_be_key B (B_tree b)) (B_tree b) t e) tt
 key_kind kind u t v e = absurd (let f : ⊥ = cc in f)
 
+-- the value of a key attribute is of the attribute's kind
 pub part_kind : (item : List Pair) (key : KeyAttr) (t : Tree) → AreFields (fields_of item)
     → key_value item key ≡ Some t → IsOfKind key.kind t
 part_kind item key t h e = by (at_name key.name item) refl e
@@ -59,6 +62,7 @@ record IsPlaceOfKey (d : TableSchema) (p : Place) : Type 0 where
   key : IsKeyFor d.hash.kind (option_map (λ r. r.kind) d.range) hash range
   is : p ≡ place_in_table hash range
 
+-- a place of a HASH value of its kind, and of the RANGE value of an item, is of a key of the table
 beside : (d : TableSchema) (item : List Pair) (p : Place) (hash : Tree) (range : Option KeyAttr)
     → range ≡ d.range → AreFields (fields_of item)
     → IsOfKind d.hash.kind hash → place_beside item range hash ≡ Some p → IsPlaceOfKey d p
@@ -82,6 +86,7 @@ beside d item p hash (Some range) same h k e = by (key_value item range) refl e
       is = sym (same_Some (place_in_table hash (Some r)) p f);
     }
 
+-- the place of an item is of a key of its table
 key_of_place : (d : TableSchema) (item : List Pair) (p : Place) → AreFields (fields_of item)
     → key_place d item ≡ Some p → IsPlaceOfKey d p
 key_of_place d item p h e = by (key_value item d.hash) refl e
@@ -91,6 +96,7 @@ key_of_place d item p h e = by (key_value item d.hash) refl e
     by None at f = absurd (let g : ⊥ = cc in g)
     by (Some hash) at f = beside d item p hash d.range refl h (part_kind item d.hash hash h at) f
 
+-- the items of a table lie by their keys
 pub places_lie : PlacesLie
 places_lie d i j p q hi hj ei ej =
     let a = key_of_place d i p hi.fields ei in

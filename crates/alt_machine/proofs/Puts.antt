@@ -1,5 +1,5 @@
 -- A PutItem and a DeleteItem lead from a valid state to a valid one.
-use Rattle.std.proofs.Common.{◌≡◌, subst, ℕ, ◌≤◌, nat_le, Bool, true, false, T, List, [], ◌∷◌, Option, Some, None, Result, Ok, Err, IfOk}
+use Rattle.std.proofs.Common.{◌≡◌, refl, subst, ℕ, ◌≤◌, nat_le, Bool, true, false, T, List, [], ◌∷◌, Option, Some, None, Result, Ok, Err, IfOk}
 use Rattle.std.specs.Prelude.{codes, if◌then◌else◌}
 use Rattle.std.specs.FinMap as map
 use Rattle.std.proofs.lemmas.Bool.{leb-true}
@@ -29,7 +29,7 @@ use Rattle.alt_machine.proofs.Chains.{Steps, AreSteps, no_steps, one_step, steps
 use Rattle.alt_machine.proofs.Targets.{steps-on_item}
 use Rattle.alt_machine.proofs.Lacks.{number_room}
 use Rattle.alt_codec.proofs.Fits.{item_names, item_depth, item_full}
-use Rattle.alt_machine.proofs.States.{after_item_valid, with_item_stored}
+use Rattle.alt_machine.proofs.States.{after_item_valid}
 use Rattle.alt_machine.proofs.Tests.{unless_holds}
 use Rattle.alt_schema.specs.Indexes.{keys_fit}
 use Rattle.alt_schema.specs.declared.schema.TableSchema.{TableSchema}
@@ -46,6 +46,7 @@ pub record IsSound (item : List Pair) : Type 0 where
   pub depth : fields_depth (fields_of item) ≤ 32
   pub full : T (fields_full (fields_of item))
 
+-- an item that a reading answers is sound, where the reading answers only items of such names, depth and sets
 read_so : (r : Result (List Pair) ValueFault) (item : List Pair) → unless_fault r ≡ Ok item
     → IfOk r IsItem → IfOk r (λ ps. fields_depth (fields_of ps) ≤ 32)
     → IfOk r (λ ps. T (fields_full (fields_of ps))) → IsSound item
@@ -54,6 +55,7 @@ read_so (Ok ps) item e names depth full =
     subst (λ qs. IsSound qs) same (record { names = names; depth = depth; full = full })
 read_so (Err f) item e names depth full = absurd (let g : ⊥ = cc in g)
 
+-- so is the item that a member's data is
 of_data : (d : Option Data) (item : List Pair) → item_of d ≡ Ok item → IsSound item
 of_data None item e = absurd (let g : ⊥ = cc in g)
 of_data (Some d) item e = read_so (item_in 32 d) item e (item_names 32 d) (item_depth 32 d)
@@ -86,14 +88,13 @@ pub writes_steps : (s : State) (moment : ℕ) (name : List ℕ) (t : Table) (pla
     (new : Option (List Pair)) → map.get s.tables name ≡ Some t
     → (IsValid s → (item : List Pair) → new ≡ Some item → IsStored t.description place item)
     → AreSteps a_number s (item_writes s moment name t place new)
-writes_steps s moment name t place new there put = by (is_same (map.get t.items place) new)
+writes_steps s moment name t place new there put = by (is_same (map.get t.items place) new) refl
   where
-    by : (b : Bool) → AreSteps a_number s (if b then [] else after_item s moment name t place
-        new ∷ [])
-    by true = no_steps a_number s
-    by false = one_step a_number s (after_item s moment name t place new) (λ v enough.
-        after_item_valid s moment name t place new v (number_room s enough) there
-        (with_item_stored s name t place new v there (put v)))
+    by : (b : Bool) → is_same (map.get t.items place) new ≡ b
+        → AreSteps a_number s (if b then [] else after_item s moment name t place new ∷ [])
+    by true e = no_steps a_number s
+    by false e = one_step a_number s (after_item s moment name t place new) (λ v enough.
+        after_item_valid s moment name t place new v (number_room s enough) there e (put v))
 
 -- what is done where a condition holds
 pub steps-met : (s : State) (condition : Option Cond) (ms : Members) (old : Option (List Pair))
@@ -116,6 +117,7 @@ writes_if-steps condition s moment ms t place new there put =
     (item_answer (codes "Attributes") (asked (codes "ReturnValues") ms (map.get t.items place))))
     (writes_steps s moment (table_name ms) t place new there (λ v. put))
 
+-- each write of a PutItem leads from a valid state to a valid one
 pub put_steps : (s : State) (moment : ℕ) (ms : Members) → Steps s (put_item s moment ms)
 unfolding put_item
 put_steps s moment ms =
@@ -127,6 +129,7 @@ put_steps s moment ms =
     (may_stand t.description place item (is_read (codes "Item") ms item target.read) target.at
     target.fits free))))
 
+-- and each write of a DeleteItem does
 pub delete_steps : (s : State) (moment : ℕ) (ms : Members) → Steps s (delete_item s moment ms)
 unfolding delete_item
 delete_steps s moment ms =

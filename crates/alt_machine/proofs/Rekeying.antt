@@ -15,24 +15,29 @@ use Rattle.alt_machine.specs.State.{Texts}
 use Rattle.alt_machine.specs.Writes.{with_item}
 use Rattle.alt_value.specs.Tree.{Pair}
 
+-- a test that is true passes
 holds : (b : Bool) → b ≡ true → T b
 holds true h = tt
 holds false h = absurd (cc h)
 
+-- a comparison that ties is `Equal`
 equal : (r : Ordering) → T (is_eq r) → r ≡ Equal
 equal Less p = absurd p
 equal Equal p = refl
 equal Greater p = absurd p
 
+-- and one that is less is `Less`
 less : (r : Ordering) → T (is_lt r) → r ≡ Less
 less Less p = refl
 less Equal p = absurd p
 less Greater p = absurd p
 
+-- where two tests pass, the first does
 first : (a b : Bool) → T (a && b) → T a
 first true b p = tt
 first false b p = p
 
+-- and the second
 second : (a b : Bool) → T (a && b) → T b
 second true b p = p
 second false b p = absurd p
@@ -52,6 +57,7 @@ one_key q k e = text_apart q k (equal _ (holds _ e))
 pub itself : (q : List ℕ) → eq_by_cmp text_order q q ≡ true
 itself q = ap is_eq (tied_itself text_total q)
 
+-- options that are equal have equal values
 some : {A : Type 0} (x y : A) → Some x ≡ Some y → x ≡ y
 some x y e = ap (λ o. unwrap_or o x) e
 

@@ -30,6 +30,7 @@ use Rattle.alt_shape.specs.Shape.{given}
 use Rattle.alt_value.specs.Tree.{Pair, fields_of}
 use Rattle.alt_value.specs.Values.{fields_full}
 
+-- answers that are equal and Ok have equal values
 same_Ok : {A : Type 0} {E : Type 0} (x y : A) → ◌≡◌ {A = Result A E} (Ok x) (Ok y) → x ≡ y
 same_Ok x y e = cc
 
@@ -41,6 +42,7 @@ found_first (Err a) next y e = absurd (let f : ⊥ = cc in f)
 
 -- ---- what is given
 
+-- no set in the values that a member gives is empty
 values_full : (d : Option Data) → IfOk (values_in d) PairsFull
 values_full None = tt
 values_full (Some d) = by (item_in 32 d) (item_full 32 d)
@@ -50,6 +52,7 @@ values_full (Some d) = by (item_in 32 d) (item_full 32 d)
     by (Ok ps) h = h
     by (Err f) h = tt
 
+-- nor in those that an operation reads, where it reads any
 values_at-full : (texts : Texts) (ms : Members) → IfOk (values_at texts ms) PairsFull
 values_at-full texts ms = by texts.condition
   where

@@ -4,17 +4,21 @@ use Rattle.std.specs.Prelude.{◌↔◌, IsTrue}
 use Rattle.alt_value.specs.Tree.{Pair}
 use Rattle.alt_machine.specs.Same.{holds, is_same, equality}
 
+-- what a decision says holds
 holds_so : {A : Type 0} (d : Dec A) → holds d ≡ true → A
 holds_so (yes x) e = x
 holds_so (no f) e = absurd (let g : ⊥ = cc in g)
 
+-- and it says so of what holds
 so_holds : {A : Type 0} (d : Dec A) → A → holds d ≡ true
 so_holds (yes x) a = refl
 so_holds (no f) a = absurd (f a)
 
+-- items that are told to be equal are
 pub same_is : (old new : Option (List Pair)) → is_same old new ≡ true → old ≡ new
 same_is old new e = holds_so (equality old new) e
 
+-- and those that are equal are told to be
 pub is_same-equal : (old new : Option (List Pair)) → old ≡ new → is_same old new ≡ true
 is_same-equal old new e = so_holds (equality old new) e
 

@@ -46,6 +46,7 @@ words_are text toks lexes =
     let of_text = tokens_of text in
     (tokens_once text of_text.toks toks of_text.whole true of_text.lexes lexes).0
 
+-- the names that are used behind a parser are those from before and those of the text's words
 pub hashes_noted : {A : Type 0} (text : List ℕ) (old new : Names) (a : A)
     → NotesHashes text old new (Ok a)
     → used_names new ≡ with_hashes (words_of (Some text)) (used_names old)
@@ -53,6 +54,7 @@ unfolding NotesHashes
 hashes_noted text old new a h = h.2
     ∙ ap (λ ts. with_hashes ts (used_names old)) (sym (words_are text h.0 h.1))
 
+-- and so are the values
 pub colons_noted : {A : Type 0} (text : List ℕ) (old new : Values) (a : A)
     → NotesColons text old new (Ok a)
     → used_values new ≡ with_colons (words_of (Some text)) (used_values old)

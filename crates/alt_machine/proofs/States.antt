@@ -1,7 +1,10 @@
 -- A valid state with a table more, a table less, or a table of other items is valid, where the numbers suffice.
-use Rattle.std.proofs.Common.{◌≡◌, refl, sym, ap, subst, ◌∙◌, ℕ, ◌+◌, ◌-◌, ◌<◌, ◌≤◌, Bool, true, false, cond, is_some, List, length, Option, Some, None, inl, inr, Contains, arith}
+use Rattle.std.proofs.Common.{◌≡◌, refl, sym, ap, subst, ◌∙◌, ℕ, ◌+◌, ◌-◌, ◌<◌, ◌≤◌, Bool, true, false, cond, is_some, List, [], ◌∷◌, ◌++◌, length, Option, Some, None, inl, inr, Contains, arith, true≢false}
+use Rattle.std.specs.Prelude.{IfSome, if◌then◌else◌}
 use Rattle.std.specs.FinMap.{len-insert, len-remove, len-empty}
 use Rattle.std.specs.FinMap as map
+use Rattle.std.proofs.lemmas.List.Elements.{All-nil, All-push, All-weaker}
+use Rattle.std.proofs.lemmas.List.Quantifiers.{all_pairs_push}
 use Rattle.alt_schema.specs.Described.{IsNew}
 use Rattle.alt_schema.specs.declared.schema.TableSchema.{TableSchema}
 use Rattle.alt_value.specs.Members.{text_order}
@@ -10,10 +13,13 @@ use Rattle.alt_value.proofs.Texts.{text_total}
 use Rattle.alt_machine.specs.declared.TheConstants.{NUMBERS_END, FAMILIES_END, MOST_FAMILIES, MOST_TABLES}
 use Rattle.alt_machine.specs.Ops.CreateTable.{with_table}
 use Rattle.alt_machine.specs.Ops.DeleteTable.{without_table}
-use Rattle.alt_machine.specs.State.{State, Table, start, new_table, families_of}
-use Rattle.alt_machine.specs.Valid.{IsStored, IsMade, IsTable, IsValid}
+use Rattle.alt_machine.specs.Changes.{with_change}
+use Rattle.alt_machine.specs.Same.{is_same}
+use Rattle.alt_machine.specs.State.{State, Table, Change, start, new_table, families_of}
+use Rattle.alt_machine.specs.Valid.{IsStored, WasStored, IsChange, AreChanges, IsMade, IsTable, IsValid}
 use Rattle.alt_machine.specs.Writes.{with_item, with_write, after_item}
 use Rattle.alt_machine.proofs.Families.{families_few, families_within, families_differ, of_contained}
+use Rattle.alt_machine.proofs.Same.{is_same-equal}
 use Rattle.alt_machine.proofs.Looks.{at_insert, at_remove, not_there}
 
 -- the empty store
@@ -27,6 +33,48 @@ start_valid = record {
   next_family = (omega arith, omega arith);
 }
 
+-- the changes of a table, where the next number is later
+changes_later : (d : TableSchema) (n m : ℕ) (changes : List Change) → n ≤ m → AreChanges d n changes
+    → AreChanges d m changes
+changes_later d n m changes le h = record {
+  each = All-weaker (IsChange d n) (IsChange d m) (λ (c : Change) is. record {
+    number = omega (arith, is.number, le);
+    differ = is.differ;
+    place = is.place;
+    old = is.old;
+    new = is.new;
+  }) changes h.each;
+  rise = h.rise;
+  none = h.none;
+}
+
+-- a new table has none
+no_changes : (d : TableSchema) (n : ℕ) → AreChanges d n []
+no_changes d n = record {
+  each = All-nil (IsChange d n);
+  rise = λ i j x lt within. absurd (omega (arith, within));
+  none = λ e. refl;
+}
+
+-- one more, of the next number
+changes_more : (d : TableSchema) (n : ℕ) (c : Change) (changes : List Change) → c.number ≡ n
+    → IsChange d (n + 1) c → AreChanges d n changes
+    → AreChanges d (n + 1) (with_change d (Some c) changes)
+changes_more d n c changes e is h = by d.stream_family refl
+  where
+    later : AreChanges d (n + 1) changes
+    later = changes_later d n (n + 1) changes (omega arith) h
+
+    by : (o : Option ℕ) → d.stream_family ≡ o
+        → AreChanges d (n + 1) (cond (is_some o) (changes ++ c ∷ []) changes)
+    by None f = later
+    by (Some family) f = record {
+      each = All-push (IsChange d (n + 1)) changes c later.each is;
+      rise = all_pairs_push (λ (a b : Change). a.number < b.number) changes c h.rise
+          (λ k x within. omega (arith, (h.each k x within).number, e));
+      none = λ g. absurd (let k : ⊥ = cc (f, g) in k);
+    }
+
 -- a table in a state with later numbers
 table_later : (s r : State) (name : List ℕ) (t : Table) → s.next_number ≤ r.next_number
     → s.next_family ≤ r.next_family → IsTable s name t → IsTable r name t
@@ -37,17 +85,20 @@ table_later s r name t n f h = record {
   families = λ k x within. let was = h.families k x within in (was.0, omega (arith, was.1, f));
   differ = h.differ;
   items = h.items;
-  changes = h.changes;
+  changes = changes_later t.description s.next_number r.next_number t.changes n h.changes;
 }
 
+-- a count that grows by one or stays has grown by one at most
 one_more : (b : Bool) (n : ℕ) → cond b n (n + 1) ≤ n + 1
 one_more true n = omega arith
 one_more false n = omega arith
 
+-- a count that falls by one or stays hasn't grown
 one_less : (b : Bool) (n : ℕ) → cond b (n - 1) n ≤ n
 one_less true n = omega arith
 one_less false n = omega arith
 
+-- where the name was there the count stays
 same_count : (b : Bool) (n : ℕ) → b ≡ true → cond b n (n + 1) ≡ n
 same_count true n e = refl
 same_count false n e = absurd (let f : ⊥ = cc in f)
@@ -58,6 +109,7 @@ module _ (s : State) (d : TableSchema) (v : IsValid s) (made : IsMade d) (new : 
     (number : d.number ≡ s.next_number) (family : d.family ≡ s.next_family)
     (room : map.len s.tables < MOST_TABLES) (enough : (s.next_number < NUMBERS_END)
     × (s.next_family + MOST_FAMILIES ≤ FAMILIES_END)) where
+  -- a table is made as one has to be, from a description whose number and first family are the next ones
   new_is : IsTable (with_table s d) d.name (new_table d)
   new_is = record {
     named = refl;
@@ -68,9 +120,10 @@ module _ (s : State) (d : TableSchema) (v : IsValid s) (made : IsMade d) (new : 
         (omega (arith, is.0, family, v.next_family.0), omega (arith, is.1, family));
     differ = families_differ d new;
     items = λ place item e. absurd (not_there place item e);
-    changes = refl;
+    changes = no_changes d (s.next_number + 1);
   }
 
+  -- no family of a table that was there is one of the new table's
   above_old : (name : List ℕ) (t : Table) (f : ℕ) → map.get s.tables name ≡ Some t
       → Contains (families_of t.description) f → Contains (families_of d) f → ⊥
   above_old name t f e h i =
@@ -82,10 +135,12 @@ module _ (s : State) (d : TableSchema) (v : IsValid s) (made : IsMade d) (new : 
       (families_within d new) i in
       omega (arith, old.1, is.0, family)
 
+  -- and no such table has its number
   after_old : (name : List ℕ) (t : Table) → map.get s.tables name ≡ Some t
       → t.description.number ≡ d.number → ⊥
   after_old name t e h = omega (arith, (v.tables name t e).number.1, h, number)
 
+  -- a valid state stays valid with a new table, where there is room for one more and for its numbers
   pub with_table_valid : IsValid (with_table s d)
   with_table_valid = record {
     few = omega (
@@ -130,6 +185,7 @@ module _ (s : State) (d : TableSchema) (v : IsValid s) (made : IsMade d) (new : 
 
 -- ---- a table less
 
+-- a valid state stays valid without a table, where the next number is below the end
 pub without_table_valid : (s : State) (name : List ℕ) → IsValid s → s.next_number < NUMBERS_END
     → IsValid (without_table s name)
 without_table_valid s gone v room = record {
@@ -151,17 +207,65 @@ without_table_valid s gone v room = record {
 
 -- ---- a table of other items
 
+-- what stands there after an item was put, or taken out, is stored as it was
+pub with_item_stored : (s : State) (name : List ℕ) (t : Table) (place : List ℕ)
+    (new : Option (List Pair)) → IsValid s → map.get s.tables name ≡ Some t
+    → ((item : List Pair) → new ≡ Some item → IsStored t.description place item)
+    → (q : List ℕ) (item : List Pair) → map.get (with_item t.items place new) q ≡ Some item
+    → IsStored t.description q item
+with_item_stored s name t place None v there put q x e =
+    (v.tables name t there).items q x (at_remove t.items place q x e)
+with_item_stored s name t place (Some item) v there put q x e =
+    elim (at_insert t.items place q x item e) [
+      | inl new ↦ subst (λ i. IsStored t.description q i) new.1
+          (subst (λ p. IsStored t.description p item) (sym new.0) (put item refl))
+      | inr old ↦ (v.tables name t there).items q x old
+    ]
+
+-- what is stored at a place was stored there
+pub was_stored : (d : TableSchema) (place : List ℕ) (item : List Pair) → IsStored d place item
+    → WasStored d place item
+was_stored d place item is = record {
+  stands = is.stands;
+  fits = is.fits;
+  size = is.size;
+  depth = is.depth;
+  full = is.full;
+  names = is.names;
+}
+
+-- so is what may be there
+may_have_been : (d : TableSchema) (place : List ℕ) (o : Option (List Pair))
+    → ((item : List Pair) → o ≡ Some item → IsStored d place item) → IfSome o (WasStored d place)
+may_have_been d place None h = tt
+may_have_been d place (Some item) h = was_stored d place item (h item refl)
+
 module _ (s : State) (moment : ℕ) (name : List ℕ) (t : Table) (place : List ℕ)
     (new : Option (List Pair)) (v : IsValid s) (room : s.next_number < NUMBERS_END)
     (there : map.get s.tables name ≡ Some t)
-    (stored : (q : List ℕ) (item : List Pair) → map.get (with_item t.items place new) q ≡ Some item
-    → IsStored t.description q item) where
+    (differ : is_same (map.get t.items place) new ≡ false)
+    (put : (item : List Pair) → new ≡ Some item → IsStored t.description place item) where
   abbrev r : State
   r = after_item s moment name t place new
 
   abbrev changed : Table
   changed = with_write s.next_number moment t place new
 
+  -- the change of that write
+  abbrev change : Change
+  change = record { number = s.next_number; moment = moment; old = map.get t.items place; new = new }
+
+  change_is : IsChange t.description (s.next_number + 1) change
+  change_is = record {
+    number = omega arith;
+    differ = λ e. true≢false (sym (is_same-equal (map.get t.items place) new e) ∙ differ);
+    place = place;
+    old = may_have_been t.description place (map.get t.items place)
+        ((v.tables name t there).items place);
+    new = may_have_been t.description place new put;
+  }
+
+  -- the table that a write leaves is as one has to be, where what is put may be stored
   changed_is : IsTable r name changed
   changed_is =
       let old : IsTable s name t = v.tables name t there in
@@ -171,8 +275,10 @@ module _ (s : State) (moment : ℕ) (name : List ℕ) (t : Table) (place : List 
         number = (old.number.0, omega (arith, old.number.1));
         families = old.families;
         differ = old.differ;
-        items = stored;
-        changes = old.changes;
+        items = with_item_stored s name t place new v there put;
+        changes = subst (AreChanges t.description (s.next_number + 1)) (sym (ap
+            (λ b. with_change t.description (if b then None else Some change) t.changes) differ))
+            (changes_more t.description s.next_number change t.changes refl change_is old.changes);
       }
 
   -- a table of the same description was there
@@ -183,6 +289,7 @@ module _ (s : State) (moment : ℕ) (name : List ℕ) (t : Table) (place : List 
     | inr old ↦ (u, old, refl)
   ]
 
+  -- a valid state stays valid with that table
   pub after_item_valid : IsValid r
   after_item_valid = record {
     few = omega (
@@ -210,18 +317,3 @@ module _ (s : State) (moment : ℕ) (name : List ℕ) (t : Table) (place : List 
     next_number = (omega arith, omega (arith, room));
     next_family = v.next_family;
   }
-
--- what stands there after an item was put, or taken out, is stored as it was
-pub with_item_stored : (s : State) (name : List ℕ) (t : Table) (place : List ℕ)
-    (new : Option (List Pair)) → IsValid s → map.get s.tables name ≡ Some t
-    → ((item : List Pair) → new ≡ Some item → IsStored t.description place item)
-    → (q : List ℕ) (item : List Pair) → map.get (with_item t.items place new) q ≡ Some item
-    → IsStored t.description q item
-with_item_stored s name t place None v there put q x e =
-    (v.tables name t there).items q x (at_remove t.items place q x e)
-with_item_stored s name t place (Some item) v there put q x e =
-    elim (at_insert t.items place q x item e) [
-      | inl new ↦ subst (λ i. IsStored t.description q i) new.1
-          (subst (λ p. IsStored t.description p item) (sym new.0) (put item refl))
-      | inr old ↦ (v.tables name t there).items q x old
-    ]

@@ -115,6 +115,7 @@ module _ (tests : List (Option Answer)) (sought : Sought) (texts : Texts) (s : S
 
 -- ---- its writes
 
+-- the writes of an operation on a table are steps, if those are that it goes on to
 pub steps-on_table : (s : State) (tests : List (Option Answer)) (ms : Members)
     (go : Table → Outcome) → ((t : Table) → IsTarget tests s ms t → Steps s (go t))
     → Steps s (on_table tests s ms go)
@@ -127,6 +128,7 @@ steps-on_table s tests ms go h =
           (map.get s.tables (table_name ms)) t there;
     })))
 
+-- so are those of an operation on an item
 pub steps-on_item : (s : State) (tests : List (Option Answer)) (sought : Sought) (texts : Texts)
     (ms : Members) (go : Expressions → List Pair → Table → List ℕ → Outcome)
     → ((said : Expressions) (item : List Pair) (t : Table) (at : List ℕ)

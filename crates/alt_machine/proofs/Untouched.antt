@@ -19,10 +19,12 @@ use Rattle.alt_value.specs.Tree.{Tree, L_tree, M_tree, Trees, no_trees, tree_the
 
 -- ---- without edits a value stays
 
+-- the elements of a list make that list
 same_elements : (ts : Trees) → trees_of (elements ts) ≡ ts
 same_elements no_trees = refl
 same_elements (tree_then t ts) = ap (tree_then t) (same_elements ts)
 
+-- and the pairs of a map that map
 same_pairs : (fs : Fields) → fields_of (pairs fs) ≡ fs
 same_pairs no_fields = refl
 same_pairs (field_then name t fs) = ap (field_then name t) (same_pairs fs)
@@ -50,6 +52,7 @@ mutual
       ap (λ o. pair_then name o (changed_fields [] fs)) (unchanged t)
       ∙ ap (field_then name t) (unchanged_fields fs)
 
+-- what was there is as it was, and what wasn't stays away
 after-none : (o : Option Tree) → after [] o ≡ o
 after-none None = refl
 after-none (Some t) = unchanged t

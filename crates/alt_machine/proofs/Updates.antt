@@ -172,11 +172,13 @@ module _ (s : State) (ms : Members) (said : Expressions) (key : List Pair) (t : 
   abbrev actions : List Action
   actions = unwrap_or said.update []
 
+  -- what the update puts has no empty set, where what is there has none
   acts_full : (view : View) → ViewFull view → ActionsFull view actions
   acts_full view full = stated_full view target.words full
       (given_full updating ms target.words target.given) (text_at updating.update ms) said.update
       (says_update updating t.description ms target.words said target.says).0
 
+  -- it changes no part of a key
   keeps : KeepsKeys t.description actions
   keeps = keeps_keys t.description said.update
       (says_update updating t.description ms target.words said target.says).1
@@ -207,6 +209,7 @@ module _ (s : State) (ms : Members) (said : Expressions) (key : List Pair) (t : 
           (place_of-key t.description key place target.at) target.fits
           (acts_full (seen None) (λ name. tt)) e) f)
 
+  -- the write of what is left is a step
   leave_steps : (moment : ℕ) (item : List Pair)
       → map.get s.tables (table_name ms) ≡ Some t
       → item_after actions (map.get t.items place) ≡ Ok item
@@ -222,6 +225,7 @@ module _ (s : State) (ms : Members) (said : Expressions) (key : List Pair) (t : 
       may_be_left old (λ was at. (v.tables (table_name ms) t there).items place was at) item e
       free i is))
 
+-- each write of an UpdateItem leads from a valid state to a valid one
 pub update_steps : (s : State) (moment : ℕ) (ms : Members) → Steps s (update_item s moment ms)
 unfolding update_item
 update_steps s moment ms =

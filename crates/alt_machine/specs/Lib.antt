@@ -1,5 +1,6 @@
 pub mod Batches
 pub mod Body
+pub mod Changes
 pub mod Conditional
 pub mod Expressions
 pub mod Indexed
@@ -17,6 +18,7 @@ pub mod Same
 pub mod Sources
 pub mod State
 pub mod Step
+pub mod Streams
 pub mod Targets
 pub mod Valid
 pub mod Walks

@@ -3,7 +3,7 @@ use Rattle.std.specs.Prelude.{ℕ, List, [], ◌∷◌, Option, option_map, code
 use Rattle.std.specs.List.{find}
 use Rattle.std.specs.Str.{bytes_eq}
 use Rattle.alt_machine.specs.declared.Operation.{Operation}
-use Rattle.alt_machine.specs.declared.Operation.TheVariants.{CreateTable, DescribeTable, ListTables, DeleteTable, PutItem, GetItem, DeleteItem, UpdateItem, Query, Scan, BatchWriteItem, BatchGetItem}
+use Rattle.alt_machine.specs.declared.Operation.TheVariants.{CreateTable, DescribeTable, ListTables, DeleteTable, PutItem, GetItem, DeleteItem, UpdateItem, Query, Scan, BatchWriteItem, BatchGetItem, ListStreams, DescribeStream, GetShardIterator, GetRecords}
 
 -- the operations that are built
 abbrev pub operations : List (List ℕ × Operation)
@@ -19,7 +19,11 @@ operations =
     (codes "Query", Query) ∷
     (codes "Scan", Scan) ∷
     (codes "BatchWriteItem", BatchWriteItem) ∷
-    (codes "BatchGetItem", BatchGetItem) ∷ []
+    (codes "BatchGetItem", BatchGetItem) ∷
+    (codes "ListStreams", ListStreams) ∷
+    (codes "DescribeStream", DescribeStream) ∷
+    (codes "GetShardIterator", GetShardIterator) ∷
+    (codes "GetRecords", GetRecords) ∷ []
 
 -- the operation of a name among these
 abbrev pub named_in : List (List ℕ × Operation) → List ℕ → Option Operation

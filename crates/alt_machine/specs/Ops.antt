@@ -4,8 +4,12 @@ pub mod BatchWriteItem
 pub mod CreateTable
 pub mod DeleteItem
 pub mod DeleteTable
+pub mod DescribeStream
 pub mod DescribeTable
 pub mod GetItem
+pub mod GetRecords
+pub mod GetShardIterator
+pub mod ListStreams
 pub mod ListTables
 pub mod PutItem
 pub mod Query

@@ -31,6 +31,7 @@ refuse_by = option_map refused
 
 -- what comes next, behind what was found
 infixl 10 ◌>>=◌
+-- an answer on the way stays the answer
 abbrev pub ◌>>=◌ : {A B : Type 0} → Result A Answer → (A → Result B Answer) → Result B Answer
 Ok x >>= next = next x
 Err answer >>= next = Err answer

@@ -8,11 +8,13 @@ use mathlib.Core.Logic.{dite}
 use Rattle.alt_value.specs.TreeCode.{coded_pair}
 use Rattle.alt_value.specs.Tree.{Pair}
 
+-- the first half of a code that is a pair
 first_of : Gv → Gv
 first_of gnil = gnil
 first_of (gnum n) = gnil
 first_of (gcons a b) = a
 
+-- and the second half
 second_of : Gv → Gv
 second_of gnil = gnil
 second_of (gnum n) = gnil

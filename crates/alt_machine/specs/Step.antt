@@ -3,15 +3,19 @@ use Rattle.std.specs.Prelude.{ℕ, List, Option, Some, None}
 use Rattle.serde_json.specs.Data.{Members}
 use Rattle.alt_shape.specs.Refusals.{unknown_operation, unreadable}
 use Rattle.alt_machine.specs.declared.Operation.{Operation}
-use Rattle.alt_machine.specs.declared.Operation.TheVariants.{CreateTable, DescribeTable, ListTables, DeleteTable, PutItem, GetItem, DeleteItem, UpdateItem, Query, Scan, BatchWriteItem, BatchGetItem}
+use Rattle.alt_machine.specs.declared.Operation.TheVariants.{CreateTable, DescribeTable, ListTables, DeleteTable, PutItem, GetItem, DeleteItem, UpdateItem, Query, Scan, BatchWriteItem, BatchGetItem, ListStreams, DescribeStream, GetShardIterator, GetRecords}
 use Rattle.alt_machine.specs.Members.{body_of}
 use Rattle.alt_machine.specs.Ops.BatchGetItem.{batch_get_item}
 use Rattle.alt_machine.specs.Ops.BatchWriteItem.{batch_write_item}
 use Rattle.alt_machine.specs.Ops.CreateTable.{create_table}
 use Rattle.alt_machine.specs.Ops.DeleteItem.{delete_item}
 use Rattle.alt_machine.specs.Ops.DeleteTable.{delete_table}
+use Rattle.alt_machine.specs.Ops.DescribeStream.{describe_stream}
 use Rattle.alt_machine.specs.Ops.DescribeTable.{describe_table}
 use Rattle.alt_machine.specs.Ops.GetItem.{get_item}
+use Rattle.alt_machine.specs.Ops.GetRecords.{get_records}
+use Rattle.alt_machine.specs.Ops.GetShardIterator.{get_shard_iterator}
+use Rattle.alt_machine.specs.Ops.ListStreams.{list_streams}
 use Rattle.alt_machine.specs.Ops.ListTables.{list_tables}
 use Rattle.alt_machine.specs.Ops.PutItem.{put_item}
 use Rattle.alt_machine.specs.Ops.Query.{query}
@@ -34,6 +38,10 @@ operates s Query moment ms = query s ms
 operates s Scan moment ms = scan s ms
 operates s BatchWriteItem moment ms = batch_write_item s moment ms
 operates s BatchGetItem moment ms = batch_get_item s ms
+operates s ListStreams moment ms = list_streams s ms
+operates s DescribeStream moment ms = describe_stream s ms
+operates s GetShardIterator moment ms = get_shard_iterator s ms
+operates s GetRecords moment ms = get_records s ms
 
 -- an operation on a body, if that is one
 abbrev pub with_body : State → Operation → ℕ → Option Members → Outcome

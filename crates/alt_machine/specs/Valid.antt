@@ -1,5 +1,5 @@
 -- What holds of every state that the machine comes to from the empty store.
-use Rattle.std.specs.Prelude.{◌≡◌, ◌≢◌, ◌≤◌, ◌<◌, ◌&&◌, ◌||◌, ℕ, Bool, true, false, not, nat_lt, nat_le, T, List, [], length, Option, Some, None, All, AllPairs, Contains}
+use Rattle.std.specs.Prelude.{◌≡◌, ◌≢◌, ◌≤◌, ◌<◌, ◌&&◌, ◌||◌, ℕ, Bool, true, false, not, nat_lt, nat_le, T, List, [], length, Option, Some, None, IfSome, All, AllPairs, Contains}
 use Rattle.std.specs.List.{list_all, list_any}
 use Rattle.std.specs.Str.{bytes_eq}
 use Rattle.std.specs.FinMap as map
@@ -17,7 +17,7 @@ use Rattle.alt_value.specs.Tree.{Pair, fields_of}
 use Rattle.alt_value.specs.Values.{IsItemOfValues, fields_full}
 use Rattle.alt_machine.specs.declared.TheConstants.{LARGEST_ITEM, MOST_TABLES, NUMBERS_END, FAMILIES_END}
 use Rattle.alt_machine.specs.Keys.{key_fits, place_of}
-use Rattle.alt_machine.specs.State.{State, Table, families_of}
+use Rattle.alt_machine.specs.State.{State, Table, Change, families_of}
 
 -- ---- items
 
@@ -80,10 +80,34 @@ pub record IsMade (d : TableSchema) : Type 0 where
   pub globals_few : length d.globals ≤ most_globals
   pub whole : IsDescription d
 
+-- ---- changes
+
+-- An item that was at a place once: it is as an item there has to be, but that its keys in indexes may not fit.
+pub record WasStored (d : TableSchema) (place : List ℕ) (item : List Pair) : Type 0 where
+  pub stands : place_of d item ≡ Some place
+  pub fits : key_fits d item ≡ true
+  pub size : item_size item ≤ LARGEST_ITEM
+  pub depth : fields_depth (fields_of item) ≤ deepest
+  pub full : T (fields_full (fields_of item))
+  pub names : IsItem item
+
+-- A change has a number below the next. The old item and the new one differ, and those of them that are there have one and the same key.
+pub record IsChange (d : TableSchema) (next : ℕ) (c : Change) : Type 0 where
+  pub number : c.number < next
+  pub differ : c.old ≢ c.new
+  pub place : List ℕ
+  pub old : IfSome c.old (WasStored d place)
+  pub new : IfSome c.new (WasStored d place)
+
+-- The changes of a table rise by their numbers, and one without a stream has none.
+pub record AreChanges (d : TableSchema) (next : ℕ) (changes : List Change) : Type 0 where
+  pub each : All (IsChange d next) changes
+  pub rise : AllPairs (λ (a b : Change). a.number < b.number) changes
+  pub none : d.stream_family ≡ None → changes ≡ []
+
 -- ---- tables
 
--- A table stands under its own name. Its number was taken before, and so were its families, of which no two are the same. It has
--- no changes, since a table with a stream isn't built yet.
+-- A table stands under its own name. Its number was taken before, and so were its families, of which no two are the same.
 pub record IsTable (s : State) (name : List ℕ) (t : Table) : Type 0 where
   pub named : t.description.name ≡ name
   pub made : IsMade t.description
@@ -92,7 +116,7 @@ pub record IsTable (s : State) (name : List ℕ) (t : Table) : Type 0 where
   pub differ : AllPairs (λ f g. f ≢ g) (families_of t.description)
   pub items : (place : List ℕ) (item : List Pair) → map.get t.items place ≡ Some item
       → IsStored t.description place item
-  pub changes : t.changes ≡ []
+  pub changes : AreChanges t.description s.next_number t.changes
 
 -- There are at most 256 tables, each of them as it is to be; a number is of one table alone, and so is a family; and the next
 -- number and the next family are in their ranges.
@@ -109,9 +133,15 @@ pub record IsValid (s : State) : Type 0 where
   pub next_number : (1 ≤ s.next_number) × (s.next_number ≤ NUMBERS_END)
   pub next_family : (1 ≤ s.next_family) × (s.next_family ≤ FAMILIES_END)
 
--- Each item of the state is one that a program can hold: its texts are UTF-8, its numbers fit, and so on at every level. What is read
--- from memory is such, and what is read from JSON as data need not be, so it is told beside what is valid.
+-- both items of a change, where they are there, are such that a program can hold them
+abbrev pub IsHeldChange : Change → Type 0
+IsHeldChange c = IfSome c.old IsItemOfValues × IfSome c.new IsItemOfValues
+
+-- Each item of the state and of its changes is one that a program can hold: its texts are UTF-8, its numbers fit, and so on at every
+-- level. What is read from memory is such, and what is read from JSON as data need not be, so it is told beside what is valid.
 pub record IsHeldState (s : State) : Type 0 where
   pub items : (name place : List ℕ) (t : Table) (item : List Pair) → map.get s.tables name ≡ Some t
       → map.get t.items place ≡ Some item
       → IsItemOfValues item
+  pub changes : (name : List ℕ) (t : Table) → map.get s.tables name ≡ Some t
+      → All IsHeldChange t.changes

@@ -2,6 +2,7 @@
 use Rattle.std.specs.Prelude.{ℕ, List, [], ◌∷◌, Option, Some, None, if◌then◌else◌}
 use Rattle.std.specs.FinMap as map
 use Rattle.alt_value.specs.Tree.{Pair}
+use Rattle.alt_machine.specs.Changes.{change_left, with_change}
 use Rattle.alt_machine.specs.Same.{is_same}
 use Rattle.alt_machine.specs.State.{State, Table, Texts, after_write}
 
@@ -10,10 +11,13 @@ abbrev pub with_item : Texts (List Pair) → List ℕ → Option (List Pair) →
 with_item items place None = map.remove items place
 with_item items place (Some item) = map.insert items place item
 
--- The table after the write of a number at a moment, with this item at a place, or with none there. Its changes stay, since a
--- table with a stream isn't built yet.
+-- The table after the write of a number at a moment, with this item at a place, or with none there; one with a stream keeps the change.
 abbrev pub with_write : ℕ → ℕ → Table → List ℕ → Option (List Pair) → Table
-with_write number moment t place new = record t { items = with_item t.items place new }
+with_write number moment t place new = record t {
+  items = with_item t.items place new;
+  changes = with_change t.description (change_left number moment (map.get t.items place) new)
+      t.changes;
+}
 
 -- the state after it, in the table of that name
 abbrev pub after_item : State → ℕ → List ℕ → Table → List ℕ → Option (List Pair) → State

@@ -27,6 +27,10 @@ pub enum Operation {
     Scan,
     BatchWriteItem,
     BatchGetItem,
+    ListStreams,
+    DescribeStream,
+    GetShardIterator,
+    GetRecords,
 }
 
 /// What a request has of an item: all of it, at its member Item, or the key alone, at Key.
@@ -86,6 +90,9 @@ pub const MOST_WRITES: usize = 25;
 
 /// The most keys of a BatchGetItem (API Reference, "BatchGetItem").
 pub const MOST_KEYS: usize = 100;
+
+/// The records of a GetRecords where the request doesn't say how many (Streams API Reference, "GetRecords").
+pub const MOST_RECORDS: u64 = 1000;
 
 /// The bytes of items with which a BatchGetItem ends: 16 MB.
 pub const BATCH_BYTES: u64 = 16_777_216;

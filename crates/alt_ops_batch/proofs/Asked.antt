@@ -25,6 +25,7 @@ may_all catalog (m ∷ ms) may named = (
   may_all catalog ms may.1 named.1,
 )
 
+-- what the writes that are asked for leave may be written
 pub asked_may_write : (catalog : Texts TableSchema) (ms : Members) (there : List PlacedMember)
     → writes_asked catalog ms ≡ Ok there → Every (MayWrite catalog) (map written_by there)
 asked_may_write catalog ms there e = may_all catalog there (asked_may catalog ms there e)
@@ -35,6 +36,7 @@ neither : (a b : Bool) → (a || b) ≡ false → (a ≡ false) × (b ≡ false)
 neither true b e = absurd (let f : ⊥ = cc in f)
 neither false b e = (refl, e)
 
+-- members of different keys are at different places
 one_key : (m n : PlacedMember) → is_same_key m n ≡ false → AreApart (written_by m) (written_by n)
 one_key m n e table place = by (bytes_eq m.table n.table) refl e
   where
@@ -42,6 +44,7 @@ one_key m n e table place = by (bytes_eq m.table n.table) refl e
     by true f g = bytes_differ m.place n.place g place
     by false f g = bytes_differ m.table n.table f table
 
+-- so are a member and all those of other keys
 apart_from : (m : PlacedMember) (ms : List PlacedMember) → list_any (is_same_key m) ms ≡ false
     → Every (AreApart (written_by m)) (map written_by ms)
 apart_from m [] e = tt
@@ -49,6 +52,7 @@ apart_from m (n ∷ ns) e =
     let both = neither (is_same_key m n) (list_any (is_same_key m) ns) e in
     (one_key m n both.0, apart_from m ns both.1)
 
+-- and so are all of them, where no key stands twice
 pub all_apart : (ms : List PlacedMember) → has_repeat ms ≡ false → AreAllApart (map written_by ms)
 all_apart [] e = tt
 all_apart (m ∷ ms) e =

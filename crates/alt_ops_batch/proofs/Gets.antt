@@ -21,6 +21,7 @@ use Rattle.alt_schema.specs.declared.schema.TableSchema.{TableSchema}
 abbrev pub go : State → List (Reads Shown PlacedMember) → Outcome
 go s tables = says (read_answer (fold (with_reads s) nothing_read tables))
 
+-- a BatchGetItem looks for the reads that are asked for, and goes on with them
 pub get_is : (ms : Members) (s : State) → batch_get_item s ms
     ≡ with_found (reads_asked (descriptions s.tables) ms) (go s)
 unfolding batch_get_item
@@ -37,6 +38,7 @@ keys_known : (catalog : Texts TableSchema) (ks : List PlacedMember)
 keys_known catalog [] h = tt
 keys_known catalog (k ∷ ks) h = (h.0, keys_known catalog ks h.1)
 
+-- so are those of all keys of each read
 all_known : (catalog : Texts TableSchema) (asked : List TableReads)
     → machine.Every (λ (r : Reads Shown PlacedMember).
     machine.Every (λ (m : PlacedMember). finite.contains_key catalog m.table ≡ true) r.keys)
@@ -44,6 +46,7 @@ all_known : (catalog : Texts TableSchema) (asked : List TableReads)
 all_known catalog [] h = tt
 all_known catalog (r ∷ rs) h = (keys_known catalog r.keys.items h.0, all_known catalog rs h.1)
 
+-- and so it is with the reads that a request asks for
 pub asked_known : (catalog : Texts TableSchema) (ms : Members) (asked : List TableReads)
     → reads_asked catalog ms ≡ Ok (map reads_of asked) → AreAllKnown catalog asked
 asked_known catalog ms asked e = all_known catalog asked
@@ -56,6 +59,7 @@ pub read_stopped : (outcome : State → Outcome) (old now : State → Type 0) (P
 read_stopped outcome old now P (Refused r) fault failed stays = absurd failed
 read_stopped outcome old now P (Fault f) fault failed stays = unfound outcome old now f fault stays
 
+-- and it is a failure of the device only where that failed
 pub read_failed : (P : Type 0) (stop : Stop) → IfErrFailed {A = Unit {0}} (Err stop) P
     → IfFailed (Err stop) P
 read_failed P (Refused r) failed = tt

@@ -21,6 +21,7 @@ use Rattle.alt_value.specs.Tree.{Pair}
 
 -- ---- what is found
 
+-- what is told to be there is
 some_there : {A : Type 0} (o : Option A) → is_some o ≡ true → (x : A) × (o ≡ Some x)
 some_there None e = absurd (let f : ⊥ = cc in f)
 some_there (Some x) e = (x, refl)
@@ -29,18 +30,22 @@ module _ (disk : DiskState) (tables : Tables) (s : State) (stands : Stands disk 
     (key : PlacedMember) (known : finite.contains_key (catalog_of tables) key.table ≡ true)
     (name : List ℕ) (named : name ≡ key.table) (found : Found) (at : found.place ≡ key.place)
     (is : IsFoundIn s name found) where
+  -- the table of the key is there
   table_there : (t : Table) × (finite.get s.tables key.table ≡ Some t)
   table_there = some_there (finite.get s.tables key.table)
       (sym (there-descriptions s.tables key.table)
       ∙ ap (λ m. finite.contains_key m key.table) (sym stands.catalog) ∙ known)
 
+  -- and has at the key's place what was found
   item_there : finite.get table_there.0.items key.place ≡ found.item
   item_there = sym (is table_there.0 (ap (finite.get s.tables) named ∙ table_there.1)
       ∙ ap (finite.get table_there.0.items) at)
 
+  -- so that is what stands at the key
   pub found_is : found_at s key ≡ found.item
   found_is = ap (option_and_then (λ t. finite.get t.items key.place)) table_there.1 ∙ item_there
 
+  -- an item that was found is no larger than an item may be
   pub found_fits : (i : List Pair) → found.item ≡ Some i → item_size i ≤ LARGEST_ITEM
   found_fits i e = ((stands.valid.tables key.table table_there.0 table_there.1).items key.place i
       (item_there ∙ e)).size

@@ -39,6 +39,7 @@ pub record Kept (before : DiskState) (old : Tables) (after : DiskState) (now : T
   pub stays : (s : State) → Stands before old s ↔ Stands after now s
   pub catalog : KeepsCatalog old now
 
+-- so do calls behind others that did
 pub kept_then : (before mid after : DiskState) (old now new : Tables) → Kept before old mid now
     → Kept mid now after new → Kept before old after new
 kept_then before mid after old now new first then = record {
@@ -76,6 +77,7 @@ record Parts (s : State) (size : ℕ) (k : PlacedMember) (after : ℕ) (rest : L
   left : drop (length (read_of s size (k ∷ rest))) (k ∷ rest)
       ≡ drop (length (read_of s size (k ∷ []))) (k ∷ []) ++ drop (length (read_of s after rest)) rest
 
+-- what is read of a key and of those behind it is what is read of that and then of those, and so with what is left
 parts_so : (s : State) (size : ℕ) (k : PlacedMember) (after : ℕ) (rest : List PlacedMember)
     → after ≡ size + sum_by (size_at s) (read_of s size (k ∷ [])) → Parts s size k after rest
 parts_so s size k after rest e = by (nat_le BATCH_BYTES size) refl
@@ -117,6 +119,7 @@ pub record SoFar (s : State) (paths : Shown) (before : ℕ) (keys : List PlacedM
       ≡ before + sum_by (size_at s) (read_of s before keys)
 
 module _ (s : State) (paths : Shown) (before : ℕ) (keys : List PlacedMember) where
+  -- so it is with one key more that is taken
   so_more : (old new : Taken) (size after : ℕ) (k : PlacedMember) (rest : List PlacedMember)
       → SoFar s paths before keys old size (k ∷ rest) → Takes s paths size (k ∷ []) old new after
       → SoFar s paths before keys new after rest
@@ -161,6 +164,7 @@ pub record AreTaken (before : DiskState) (old : Tables) (after : DiskState) (now
   pub so : (s : State) → Stands before old s → SoFar s paths first keys taken size rest
 
 module _ (before mid after : DiskState) (old now new : Tables) where
+  -- one key more is taken
   pub taken_more : (paths : Shown) (first : ℕ) (keys : List PlacedMember) (taken more : Taken)
       (size next : ℕ) (k : PlacedMember) (rest : List PlacedMember)
       → AreTaken before old mid now paths first keys taken size (k ∷ rest)
@@ -220,6 +224,7 @@ pub record AreRead (before : DiskState) (old : Tables) (after : DiskState) (now 
       ≡ fold (with_reads s) (read_so read) (map reads_of rest)
 
 module _ (before mid after : DiskState) (old now new : Tables) where
+  -- one table more is read
   pub read_more : (asked : List TableReads) (read more : Read) (r : TableReads)
       (rest : List TableReads) → AreRead before old mid now asked read (r ∷ rest)
       → Kept mid now after new → IsBounded more.size → IsPlainRead more

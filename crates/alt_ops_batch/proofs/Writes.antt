@@ -10,6 +10,7 @@ use Rattle.alt_machine.specs.State.{State, descriptions}
 abbrev pub go : ℕ → State → List PlacedMember → Outcome
 go moment s there = writes (writes_of_all s moment (map written_by there)) all_processed
 
+-- a BatchWriteItem looks for the writes that are asked for, and goes on with them
 pub write_is : (moment : ℕ) (ms : Members) (s : State) → batch_write_item s moment ms
     ≡ with_found (writes_asked (descriptions s.tables) ms) (go moment s)
 unfolding batch_write_item

@@ -30,6 +30,7 @@ use Rattle.alt_value.specs.Tree.{Pair}
 
 -- ---- what was found elsewhere stays
 
+-- at another place a table has what it had
 other_item : (items : Texts (List Pair)) (place q : List ℕ) (new : Option (List Pair))
     → (q ≡ place → ⊥) → finite.get (with_item items place new) q ≡ finite.get items q
 other_item items place q None apart = remove_elsewhere items place q apart
@@ -37,6 +38,7 @@ other_item items place q (Some i) apart = insert_elsewhere items place q apart i
 
 module _ (s : State) (moment : ℕ) (w : Written) (name : List ℕ) (f : Found)
     (apart : w.table ≡ name → w.place ≡ f.place → ⊥) (found : IsFoundIn s name f) where
+  -- what was found at a place stands there after a write to another table or place
   after_write_found : (t : Table) → finite.get s.tables w.table ≡ Some t
       → IsFoundIn (after_item s moment w.table t w.place w.new) name f
   after_write_found t there u e =
@@ -47,6 +49,7 @@ module _ (s : State) (moment : ℕ) (w : Written) (name : List ℕ) (f : Found)
         | inr old ↦ found u old
       ]
 
+  -- and it does where a member's write may be none
   pub stays_found : IsFoundIn (last_state s (writes_of s moment w)) name f
   stays_found = at (finite.get s.tables w.table) refl
     where
@@ -185,6 +188,7 @@ module _ (before mid after : DiskState) (old now new : Tables) (moment : ℕ) (a
 
 module _ (mid after : DiskState) (now new : Tables) (moment : ℕ) (c : Change) (name : List ℕ)
     (same : name ≡ c.table) (named : finite.contains_key (catalog_of now) c.table ≡ true) where
+  -- its table is there
   its_table : (s : State) → Stands mid now s
       → (t : Table) × (finite.get s.tables c.table ≡ Some t)
   its_table s stands = by (finite.get (catalog_of now) c.table) refl named
@@ -194,6 +198,7 @@ module _ (mid after : DiskState) (now new : Tables) (moment : ℕ) (c : Change) 
       by None e h = absurd (let f : ⊥ = cc in f)
       by (Some d) e h = let at = there mid now s c.table d stands e in (at.0, at.1)
 
+  -- what is written by that name are its writes
   one_write : (s : State) (t : Table) → finite.get s.tables c.table ≡ Some t
       → item_writes s moment name t c.found.place c.new ≡ writes_of s moment (written_at c)
   one_write s t at = ap (λ n. item_writes s moment n t c.found.place c.new) same
@@ -245,6 +250,7 @@ module _ (mid after : DiskState) (now new : Tables) (moment : ℕ) (c : Change) 
 
 module _ (before after : DiskState) (old now : Tables) (moment : ℕ) (all : List Change)
     (so_far : IsUnderWay before old after now moment all []) where
+  -- all writes are made
   pub all_made : (s : State) → Stands before old s
       → AreMade (Stands after now) a_number s (writes_of_all s moment (map written_at all))
   all_made s stood =
@@ -253,6 +259,7 @@ module _ (before after : DiskState) (old now : Tables) (moment : ℕ) (all : Lis
       (sym (so.whole ∙ append-nil so.done))
       (record { state = so.stands; enough = so.enough })
 
+  -- and a stop at any moment leaves what some of them leave, or where there are none every file
   pub all_left : (s : State) → Stands before old s
       → Leaves before after s (writes_of_all s moment (map written_at all))
   all_left s stood =

@@ -26,6 +26,7 @@ use Rattle.alt_value.specs.Tree.{Pair}
 
 -- ---- what is read so far
 
+-- the sizes, the items of each table and the keys that are left, as JSON
 abbrev pub read_so : Read → machine.Read
 read_so read = record {
   size = read.size;
@@ -46,6 +47,7 @@ IsBounded size = size ≤ BATCH_BYTES + LARGEST_ITEM
 abbrev pub AreKnown : Texts TableSchema → List PlacedMember → Type 0
 AreKnown catalog keys = Every (λ (k : PlacedMember). finite.contains_key catalog k.table ≡ true) keys
 
+-- those of the keys of each read are
 abbrev pub AreAllKnown : Texts TableSchema → List TableReads → Type 0
 AreAllKnown catalog asked = Every (λ (r : TableReads). AreKnown catalog r.keys.items) asked
 

@@ -59,6 +59,7 @@ none_shown : (ms : Members) (items : List (List Pair)) → selects (codes "COUNT
     → shown_items ms items ≡ None
 none_shown ms items is = ap (λ c. if c then None else Some (array (items_json items))) is
 
+-- so items that are left out where counts alone are wanted make no difference
 counts_shown : (ms : Members) (items : List (List Pair)) (b : Bool) → b ≡ selects (codes "COUNT") ms
     → shown_items ms (unless_counts b items) ≡ shown_items ms items
 counts_shown ms items false is = refl
@@ -135,11 +136,13 @@ pub does_fault : (now : State → Type 0) (s : State) (outcome : Outcome) (r : R
 does_fault now s outcome r stop same fault stands =
     subst (Does now s outcome) (sym (err_is r stop same)) (fault_does now s outcome stop fault stands)
 
+-- what stopped a step that refuses nothing is a fault, which has no words to check
 pub stop_plain : (A : Type 0) (P : Type 0) (stop : Stop) → IfErrFailed {A = A} (Err stop) P
     → IsPlain (Err stop)
 stop_plain A P (Refused r) h = absurd h
 stop_plain A P (Fault f) h = tt
 
+-- and it is a failure of the device only where that failed
 pub stop_failed : (A : Type 0) (P : Type 0) (stop : Stop) → IfErrFailed {A = A} (Err stop) P
     → IfFailed (Err stop) P
 stop_failed A P (Refused r) h = absurd h
@@ -160,6 +163,7 @@ page_asks d x ms said list ask is limit =
     with_limit most = page_answer d x ms (pages.page_of (asked most) list)
         (last_examined (asked most) list)
 
+-- options that are equal have equal descriptions
 some_same : (d x : TableSchema) → Some d ≡ Some x → d ≡ x
 some_same d x same = cc
 

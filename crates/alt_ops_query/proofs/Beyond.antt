@@ -11,31 +11,37 @@ use Rattle.alt_value.specs.Members.{text_order}
 
 -- ---- orders of bytes
 
+-- an order that is `Less` is told to be below
 less_true : (o : Ordering) → o ≡ Less → is_lt o ≡ true
 less_true Less e = refl
 less_true Equal e = absurd (let f : ⊥ = cc in f)
 less_true Greater e = absurd (let f : ⊥ = cc in f)
 
+-- and one that is told to be is `Less`
 true_less : (o : Ordering) → is_lt o ≡ true → o ≡ Less
 true_less Less e = refl
 true_less Equal e = absurd (let f : ⊥ = cc in f)
 true_less Greater e = absurd (let f : ⊥ = cc in f)
 
+-- one that is told to be above is `Greater`
 gt_is : (o : Ordering) → is_gt o ≡ true → o ≡ Greater
 gt_is Less e = absurd (let f : ⊥ = cc in f)
 gt_is Equal e = absurd (let f : ⊥ = cc in f)
 gt_is Greater e = refl
 
+-- and one that isn't told to be isn't
 gt_not : (o : Ordering) → is_gt o ≡ false → o ≢ Greater
 gt_not Less e = λ f. cc
 gt_not Equal e = λ f. cc
 gt_not Greater e = absurd (let f : ⊥ = cc in f)
 
+-- what isn't less isn't greater the other way round
 lt_not : (o : Ordering) → is_lt o ≡ false → ordering_reverse o ≢ Greater
 lt_not Less e = absurd (let f : ⊥ = cc in f)
 lt_not Equal e = λ f. cc
 lt_not Greater e = λ f. cc
 
+-- what is less isn't greater
 less_not : (o : Ordering) → o ≡ Less → o ≢ Greater
 less_not Less e = λ f. cc
 less_not Equal e = absurd (let f : ⊥ = cc in f)
@@ -69,6 +75,7 @@ apart a b p q = p (nat_list_cmp_total.antisymm a b ∙ ap ordering_reverse q)
 not_itself : (a : List ℕ) → IsBelow a a → ⊥
 not_itself a p = apart a a (less_not (text_order a a) p) p
 
+-- bytes that others are above are below these
 above_is : (a b : List ℕ) → text_order a b ≡ Greater → IsBelow b a
 above_is a b e = nat_list_cmp_total.antisymm b a ∙ ap ordering_reverse e
 
@@ -112,6 +119,7 @@ beyond_after from to place reaches key = (
 
 -- ---- backward
 
+-- the end of a range is the lesser one where it is below the place
 pub lesser_end : (end place : List ℕ) → is_lt (text_order end place) ≡ true
     → IsLesser (Some end) place end
 lesser_end end place low key = (
@@ -119,6 +127,7 @@ lesser_end end place low key = (
   λ h. h.0,
 )
 
+-- the place is, where the end isn't below it
 pub lesser_place : (end place : List ℕ) → is_lt (text_order end place) ≡ false
     → IsLesser (Some end) place place
 lesser_place end place high key = (
@@ -130,6 +139,7 @@ lesser_place end place high key = (
   λ h. h.1,
 )
 
+-- and where the range has no end
 pub lesser_alone : (place : List ℕ) → IsLesser None place place
 lesser_alone place key = (λ h. (tt, h), λ h. h.1)
 
@@ -145,6 +155,7 @@ beyond_end from to place end lesser key = (
 
 -- ---- without a place
 
+-- without a place all of a range is beyond it
 pub beyond_none : (forward : Bool) (from : List ℕ) (to : Option (List ℕ))
     → IsBeyond forward None from to from to
 beyond_none forward from to key = (λ h. (h, refl), λ h. h.0)

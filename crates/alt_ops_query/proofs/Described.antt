@@ -17,6 +17,7 @@ use Rattle.alt_tables.specs.declared.tables.Tables.{Tables}
 use Rattle.alt_value.specs.Tree.{Pair}
 use Rattle.alt_views.proofs.Keeping.{entry_place}
 
+-- options that are equal have equal values
 same_some : {A : Type 0} (x y : A) → Some x ≡ Some y → x ≡ y
 same_some x y e = cc
 

@@ -51,6 +51,7 @@ AreOf (Some k) (r.Between low high) = Has k low × Has k high
 AreOf (Some k) (r.Begins v) = Has k v
 AreOf None _ = ⊥
 
+-- so as values of the machine they are of that kind
 asks_of : (k : Option KeyKind) (ask : RangeAsk) → AreOf k ask → AreHeld ask → AsksOfKind k ask
 unfolding AreOf
 asks_of k r.All h held = tt
@@ -82,11 +83,13 @@ found_kind key (o.Value w) v e = by (f.has_kind key.kind w) refl e
     by true is e = ap (f.has_kind key.kind) (sym (some_is w v e)) ∙ is
     by false is e = absurd (let no : ⊥ = cc in no)
 
+-- the value of a comparison is the one that was there
 valued : (by : Comparison) (w : Option Attr) (c : Comparison) (v : Attr)
     → f.with_value by w ≡ Some (c, v) → w ≡ Some v
 valued by None c v e = absurd (let no : ⊥ = cc in no)
 valued by (Some u) c v e = ap Some (some_pair (by, u) (c, v) e).1
 
+-- the value that a key is compared with, on either side, is of the key's kind
 tested_kind : (key : Key) (by : Comparison) (x y : Operand) (c : Comparison) (v : Attr)
     → f.key_test key by x y ≡ Some (c, v) → Has key.kind v
 tested_kind key by x y c v e = at (f.is_key key x) e
@@ -102,12 +105,14 @@ tested_kind key by x y c v e = at (f.is_key key x) e
     at true e = found_kind key y v (valued by (f.value_for key y) c v e)
     at false e = behind (f.is_key key y) e
 
+-- a value that is to be equalled stands in a comparison with `=`
 equal_is : (t : Option (Comparison × Attr)) (v : Attr) → f.equal_value t ≡ Some v
     → t ≡ Some (c.Equal, v)
 equal_is None v e = absurd (let no : ⊥ = cc in no)
 equal_is (Some (c.Equal, w)) v e = ap (λ u. Some (c.Equal, u)) (some_is w v e)
 equal_is (Some (_, w)) v e = absurd (let no : ⊥ = cc in no)
 
+-- the value that the HASH attribute is to equal is of its kind
 hash_kind : (key : Key) (top : Cond-F Cond) (v : Attr) → f.hash_at key top ≡ Some v → Has key.kind v
 hash_kind key (Cond-F.Compare by x y) v e =
     tested_kind key by x y c.Equal v (equal_is (f.key_test key by x y) v e)
@@ -115,6 +120,7 @@ hash_kind key _ v e = absurd (let no : ⊥ = cc in no)
 
 -- ---- the RANGE attribute
 
+-- a comparison with a value of the kind asks for values of that kind
 compared_kind : (k : KeyKind) (by : Comparison) (v : Attr) (ask : RangeAsk) → Has k v
     → f.compared by v ≡ test_of ask → AreOf (Some k) ask
 unfolding AreOf
@@ -127,6 +133,7 @@ compared_kind k by v (r.Ge w) h e = let is : v ≡ w = cc in subst (Has k) is h
 compared_kind k by v (r.Between low high) h e = absurd (let no : ⊥ = cc in no)
 compared_kind k by v (r.Begins w) h e = absurd (let no : ⊥ = cc in no)
 
+-- so do two bounds of the kind
 between_kind : (k : KeyKind) (l h : Attr) (ask : RangeAsk) → Has k l → Has k h
     → f.between l h ≡ test_of ask → AreOf (Some k) ask
 unfolding AreOf
@@ -142,6 +149,7 @@ between_kind k l h (r.Gt w) p q e = absurd (let no : ⊥ = cc in no)
 between_kind k l h (r.Ge w) p q e = absurd (let no : ⊥ = cc in no)
 between_kind k l h (r.Begins w) p q e = absurd (let no : ⊥ = cc in no)
 
+-- and so does a front
 fronted_kind : (k : KeyKind) (v : Attr) (ask : RangeAsk) → Has k v → f.fronted v ≡ test_of ask
     → AreOf (Some k) ask
 unfolding AreOf
@@ -154,6 +162,7 @@ fronted_kind k v (r.Gt w) h e = absurd (let no : ⊥ = cc in no)
 fronted_kind k v (r.Ge w) h e = absurd (let no : ⊥ = cc in no)
 fronted_kind k v (r.Between low high) h e = absurd (let no : ⊥ = cc in no)
 
+-- what a comparison with the RANGE attribute asks for is of the attribute's kind
 comparison_kind : (key : Key) (by : Comparison) (x y : Operand) (ask : RangeAsk)
     (q : Option (Comparison × Attr)) → f.key_test key by x y ≡ q
     → f.range_comparison q ≡ Some (test_of ask) → AreOf (Some key.kind) ask
@@ -170,6 +179,7 @@ comparison_kind key by x y ask (Some (c.Greater, v)) is e = compared_kind key.ki
 comparison_kind key by x y ask (Some (c.GreaterEqual, v)) is e = compared_kind key.kind
     c.GreaterEqual v ask (tested_kind key by x y c.GreaterEqual v is) (some_is _ _ e)
 
+-- so are the bounds of a BETWEEN
 bound_kind : (key : Key) (low high : Operand) (ask : RangeAsk) (l h : Option Attr)
     → f.value_for key low ≡ l → f.value_for key high ≡ h
     → f.range_between l h ≡ Some (test_of ask) → AreOf (Some key.kind) ask
@@ -178,6 +188,7 @@ bound_kind key low high ask (Some l) (Some h) is_low is_high e = between_kind ke
 bound_kind key low high ask None h is_low is_high e = absurd (let no : ⊥ = cc in no)
 bound_kind key low high ask (Some l) None is_low is_high e = absurd (let no : ⊥ = cc in no)
 
+-- and the front of a `begins_with`
 front_kind : (key : Key) (y : Operand) (ask : RangeAsk) (k : KeyKind) (v : Option Attr)
     → key.kind ≡ k → f.value_for key y ≡ v → f.range_front k v ≡ Some (test_of ask)
     → AreOf (Some key.kind) ask
@@ -189,11 +200,13 @@ front_kind key y ask kind.B (Some v) same is e =
 front_kind key y ask kind.S None same is e = absurd (let no : ⊥ = cc in no)
 front_kind key y ask kind.B None same is e = absurd (let no : ⊥ = cc in no)
 
+-- what is asked for where a test passes is asked for without it
 first_alone : (b : Bool) (q : Option RangeTest) (t : RangeTest)
     → (if b then q else None) ≡ Some t → q ≡ Some t
 first_alone true q t e = e
 first_alone false q t e = absurd (let no : ⊥ = cc in no)
 
+-- whatever is asked of the RANGE attribute, it is of the attribute's kind
 range_kind : (key : Key) (top : Cond-F Cond) (ask : RangeAsk)
     → f.range_at key top ≡ Some (test_of ask) → AreOf (Some key.kind) ask
 range_kind key (Cond-F.Compare by x y) ask e =
@@ -209,6 +222,7 @@ range_kind key _ ask e = absurd (let no : ⊥ = cc in no)
 
 -- ---- the whole
 
+-- what is asked for as a whole is what both parts ask for
 both_parts : (v : Option Attr) (t : Option RangeTest) (ask : Ask) → f.asked v t ≡ Some ask
     → (v ≡ Some ask.hash) × (t ≡ Some ask.range)
 both_parts (Some v) (Some t) ask e =
@@ -220,6 +234,7 @@ both_parts (Some v) None ask e = absurd (let no : ⊥ = cc in no)
 abbrev BothOf : Key → Option Key → KeyAsk → Type 0
 BothOf hash range ask = Has hash.kind ask.hash × AreOf (option_map (λ k. k.kind) range) ask.range
 
+-- what two conditions ask for, the first of HASH and the second of RANGE, is of the kinds of these
 pair_kinds : (hash : Key) (range : Option Key) (x y : Cond) (ask : KeyAsk)
     → f.both_asked hash range x y ≡ Some (asks ask) → BothOf hash range ask
 pair_kinds hash (Some range) x y ask e =
@@ -229,6 +244,7 @@ pair_kinds hash (Some range) x y ask e =
     )
 pair_kinds hash None x y ask e = absurd (let no : ⊥ = cc in no)
 
+-- so is what they ask for in either order
 joined_kinds : (hash : Key) (range : Option Key) (xs : List Cond) (ask : KeyAsk)
     → f.joined_ask hash range xs ≡ Some (asks ask) → BothOf hash range ask
 joined_kinds hash range (x ∷ y ∷ []) ask e = at (f.both_asked hash range x y) refl e
@@ -241,6 +257,7 @@ joined_kinds hash range [] ask e = absurd (let no : ⊥ = cc in no)
 joined_kinds hash range (x ∷ []) ask e = absurd (let no : ⊥ = cc in no)
 joined_kinds hash range (x ∷ y ∷ z ∷ zs) ask e = absurd (let no : ⊥ = cc in no)
 
+-- where nothing is asked of a RANGE value, no value has to be of a kind
 nothing_kind : (k : Option KeyKind) (ask : RangeAsk) → f.anything ≡ test_of ask → AreOf k ask
 unfolding AreOf
 nothing_kind k r.All e = tt
@@ -252,6 +269,7 @@ nothing_kind k (r.Ge w) e = absurd (let no : ⊥ = cc in no)
 nothing_kind k (r.Between low high) e = absurd (let no : ⊥ = cc in no)
 nothing_kind k (r.Begins w) e = absurd (let no : ⊥ = cc in no)
 
+-- so it is with both conditions, and with the one of HASH alone
 top_kinds : (hash : Key) (range : Option Key) (top : Cond-F Cond) (ask : KeyAsk)
     → f.ask_at hash range top ≡ Some (asks ask) → BothOf hash range ask
 top_kinds hash range (Cond-F.All xs) ask e = joined_kinds hash range xs ask e

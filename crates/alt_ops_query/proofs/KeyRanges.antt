@@ -39,14 +39,17 @@ use Rattle.alt_value.specs.Stands.{tree_of}
 use Rattle.alt_value.specs.Tree.{Tree, Pair}
 use Rattle.alt_value.specs.Values.{IsValue}
 
+-- where two tests pass together each does
 both_true : (a b : Bool) → (a && b) ≡ true → (a ≡ true) × (b ≡ true)
 both_true true b e = (refl, e)
 both_true false b e = absurd (let f : ⊥ = cc in f)
 
+-- where each of two tests passes they pass together
 true_both : (a b : Bool) → a ≡ true → b ≡ true → (a && b) ≡ true
 true_both true b e f = f
 true_both false b e f = e
 
+-- two tests pass together in either order
 and_turned : (a b : Bool) → (a && b) ≡ (b && a)
 and_turned true true = refl
 and_turned true false = refl
@@ -92,6 +95,7 @@ module _ (d : TableSchema) (i : Option IndexSchema) (condition : Option Cond) (a
       ∙ (λ j. equal (keys.has_hash.at j) (Some (tree_of ask.hash)) && range_test item (range_of d i) keys.range ask.range
       keys.has_range range_kind j)
 
+  -- A range that holds what is asked for holds the listed items in its part beyond a place.
   pub holds_listed : (forward : Bool) (place : Option (List ℕ)) (from : List ℕ)
       (to : Option (List ℕ)) (first : List ℕ) (last : Option (List ℕ)) → HoldsAsked ask from to
       → IsBeyond forward place from to first last
@@ -120,6 +124,7 @@ module _ (d : TableSchema) (i : Option IndexSchema) (condition : Option Cond) (a
 
 -- ---- what is asked, and what stops it
 
+-- a key attribute has its kind in key conditions too
 kinds_same : (k : Option KeyAttr)
     → option_map (λ (x : Key). x.kind) (option_map key_of k) ≡ option_map (λ (x : KeyAttr). x.kind) k
 kinds_same None = refl

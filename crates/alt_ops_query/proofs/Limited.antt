@@ -13,10 +13,12 @@ use Rattle.alt_shape.specs.declared.rule.Broken.TheVariants.{OutOfRange}
 
 -- ---- demands that are met
 
+-- where neither of two demands is broken the first isn't
 first_none : (a b : Option Broken) → or_next a b ≡ None → a ≡ None
 first_none None b e = refl
 first_none (Some x) b e = e
 
+-- nor is the second
 next_none : (a b : Option Broken) → or_next a b ≡ None → b ≡ None
 next_none None b e = e
 next_none (Some x) b e = let no : Some x ≡ None = e in absurd (let f : ⊥ = cc in f)
@@ -33,6 +35,7 @@ met_at (suc n) (x ∷ demands) ms e d at =
 
 -- ---- the limit
 
+-- a number that the demand of a limit takes is one that a page takes
 in_limit : (n : ℕ) (b : Bool) → (nat_le 1 n && nat_le n 2147483647) ≡ b
     → (if b then None else Some OutOfRange) ≡ None → limit_in (Some n) ≡ Some n
 in_limit n true is e =
@@ -40,6 +43,7 @@ in_limit n true is e =
     ap (λ b. if b then Some n else None) fits
 in_limit n false is e = absurd (let f : ⊥ = cc in f)
 
+-- what that demand takes at a member is such a limit, or none
 limited_at : (o : Option Data) → fault_of (a_whole 1 2147483647) false o ≡ None
     → limit_in (option_and_then natural_of o) ≡ option_and_then natural_of o
 limited_at None e = refl
@@ -65,6 +69,7 @@ query_demands =
     optional (codes "ScanIndexForward") a_truth ∷ optional (codes "ExclusiveStartKey") an_object ∷
     optional (codes "ConsistentRead") a_truth ∷ optional (codes "Select") (a_word selections) ∷ []
 
+-- a Scan has no key condition and no direction, but it may have a segment
 abbrev scan_demands : List Demand
 scan_demands =
     required (codes "TableName") a_text ∷ optional (codes "IndexName") a_text ∷
@@ -76,11 +81,13 @@ scan_demands =
     optional (codes "Select") (a_word selections) ∷ optional (codes "Segment") (a_whole 0 999999) ∷
     optional (codes "TotalSegments") (a_whole 1 1000000) ∷ []
 
+-- a Query whose body breaks no demand has a limit that a page takes, or none
 pub query_limit : (ms : Members) → bodies.query ms ≡ None → HasLimit ms
 unfolding bodies.query
 query_limit ms e = limited_at (given (codes "Limit") ms)
     (met_at 7 query_demands ms e (optional (codes "Limit") (a_whole 1 2147483647)) refl)
 
+-- and so has a Scan
 pub scan_limit : (ms : Members) → bodies.scan ms ≡ None → HasLimit ms
 unfolding bodies.scan
 scan_limit ms e = limited_at (given (codes "Limit") ms)

@@ -23,6 +23,7 @@ use Rattle.alt_value.specs.Tree.{Pair}
 
 -- ---- tests
 
+-- where the second of two tests fails they don't pass together
 and_false : (b : Bool) → (b && false) ≡ false
 and_false true = refl
 and_false false = refl
@@ -51,6 +52,7 @@ more_suc p (y ∷ ys) (suc n) x at passes all = by (p y) (more_suc p ys n x at p
     by true more e = more e
     by false more e = e
 
+-- the first of a list pass, with one more that does
 pub all_more : {A : Type 0} (p : A → Bool) (xs : List A) (n : ℕ) (x : A) → slice_get xs n ≡ Some x
     → p x ≡ true → list_all p (take n xs) ≡ true → list_all p (take (n + 1) xs) ≡ true
 all_more p xs n x at passes all = rw add-one (more_suc p xs n x at passes all)

@@ -32,25 +32,30 @@ by_test : (b : Bool) (x y : List ℕ) → (b ≡ true → AreBytes x) → (b ≡
 by_test true x y h k = h refl
 by_test false x y h k = k refl
 
+-- numbers below 256 are bytes
 all_bytes : (bs : List ℕ) → AllByRecursion (λ b. b < 256) bs → AreBytes bs
 all_bytes [] h = tt
 all_bytes (b ∷ bs) h = (h.0, all_bytes bs h.1)
 
 -- ---- texts and binaries
 
+-- bytes in which each 0 is escaped are bytes
 escaped_bytes : (s : List ℕ) → AreBytes s → AreBytes (escaped s)
 escaped_bytes [] h = tt
 escaped_bytes (zero ∷ s) h = (omega arith, (omega arith, escaped_bytes s h.1))
 escaped_bytes (suc b ∷ s) h = (h.0, escaped_bytes s h.1)
 
+-- so are those with the end that is put behind them
 closed_bytes : (s : List ℕ) → AreBytes s → AreBytes (closed s)
 closed_bytes s h =
     both_bytes (escaped s) (0 ∷ 0 ∷ []) (escaped_bytes s h) (omega arith, (omega arith, tt))
 
+-- the number of a character is below 1114112
 scalar_below : (c : ℕ) → scalar c ≡ true → c < 1114112
 scalar_below c e = ⊎_elim (λ (h : c < 55296). omega (arith, h))
     (λ (h : (57344 ≤ c) × (c < 1114112)). h.1) (scalar_cases c e)
 
+-- so what stands for it in UTF-8 is bytes
 character_bytes : (c : ℕ) → scalar c ≡ true → AreBytes (encode c)
 unfolding encode
 character_bytes c ok =
@@ -68,6 +73,7 @@ character_bytes c ok =
     (omega (arith, low), (omega arith, (omega arith, tt))))
     (λ g. (omega (arith, most), (omega arith, (omega arith, (omega arith, tt)))))))
 
+-- and what stands for several characters is
 characters_bytes : (cs : List ℕ) → scalars cs ≡ true → AreBytes (encodes cs)
 characters_bytes [] ok = tt
 characters_bytes (c ∷ cs) ok = by (scalar c) refl ok (λ e. characters_bytes cs e)
@@ -77,20 +83,24 @@ characters_bytes (c ∷ cs) ok = by (scalar c) refl ok (λ e. characters_bytes c
     by true is e rest = both_bytes (encode c) (encodes cs) (character_bytes c is) (rest e)
     by false is e rest = absurd (let f : ⊥ = cc in f)
 
+-- a text that is UTF-8 is bytes
 text_bytes : (s : List ℕ) → IsUtf8 s → AreBytes s
 text_bytes s u = subst AreBytes u.1.1 (characters_bytes u.0 u.1.0)
 
 -- ---- numbers
 
+-- digits in pairs are bytes
 pairs_bytes : (ds : List ℕ) → AllBelowBase 10 ds → AreBytes (pairs ds)
 pairs_bytes [] h = tt
 pairs_bytes (a ∷ []) h = (omega (arith, h.0), tt)
 pairs_bytes (a ∷ b ∷ ds) h = (omega (arith, h.0, h.1.0), pairs_bytes ds h.1.1)
 
+-- so are the complements of any bytes
 complement_bytes : (bs : List ℕ) → AreBytes (complement bs)
 complement_bytes [] = tt
 complement_bytes (b ∷ bs) = (omega arith, complement_bytes bs)
 
+-- the exponent and the digits of a number that fits are bytes
 magnitude_are_bytes : (m : ℕ) → IsMagnitude m → AreBytes (magnitude_bytes m)
 unfolding magnitude_bytes width
 magnitude_are_bytes m size =
@@ -101,6 +111,7 @@ magnitude_are_bytes m size =
           (omega arith, tt),
     )
 
+-- and its key part is, whatever its sign
 spelled_bytes : (z : ℤ) → Fits z → AreBytes (spelled z)
 unfolding spelled
 spelled_bytes z fits = by_test (nat_abs z == 0) _ _ (λ e. (omega arith, tt))
@@ -128,6 +139,7 @@ part_bytes (BS_tree bs) v = tt
 part_bytes (L_tree ts) v = tt
 part_bytes (M_tree fs) v = tt
 
+-- a token is spelled in bytes
 token_are_bytes : (n : ℕ) → AreBytes (to_be_bytes w64 n)
 token_are_bytes n = (
   omega arith,
@@ -159,6 +171,7 @@ values_place hash (Some range) h r =
     (token_are_bytes (token_of hash)) (both_bytes (key_bytes hash) (key_bytes range ++ [])
     (part_bytes hash h) (both_bytes (key_bytes range) [] (part_bytes range (r range refl)) tt))
 
+-- the RANGE value of an item is a value
 beside_value : (item : List Pair) (k : Option KeyAttr) (range : Option Tree)
     → AreFields (fields_of item) → IsBeside item k range → (t : Tree) → range ≡ Some t → IsValue t
 beside_value item None None h beside t e = absurd (let f : ⊥ = cc in f)

@@ -30,34 +30,41 @@ Entry = List ℕ × List Pair
 
 -- ---- a range, as a test and as a fact
 
+-- what is at most isn't `Greater`
 le_not : (o : Ordering) → is_le o ≡ true → o ≢ Greater
 le_not Less e = λ f. cc
 le_not Equal e = λ f. cc
 le_not Greater e = absurd (let f : ⊥ = cc in f)
 
+-- and what isn't `Greater` is at most
 not_le : (o : Ordering) → o ≢ Greater → is_le o ≡ true
 not_le Less h = refl
 not_le Equal h = refl
 not_le Greater h = absurd (h refl)
 
+-- what is more is less the other way round
 over_less : (o : Ordering) → not (is_le o) ≡ true → ordering_reverse o ≡ Less
 over_less Less e = absurd (let f : ⊥ = cc in f)
 over_less Equal e = absurd (let f : ⊥ = cc in f)
 over_less Greater e = refl
 
+-- and what is less the other way round is more
 less_over : (o : Ordering) → ordering_reverse o ≡ Less → not (is_le o) ≡ true
 less_over Less e = absurd (let f : ⊥ = cc in f)
 less_over Equal e = absurd (let f : ⊥ = cc in f)
 less_over Greater e = refl
 
+-- where two tests pass together each does
 both_true : (a b : Bool) → (a && b) ≡ true → (a ≡ true) × (b ≡ true)
 both_true true b e = (refl, e)
 both_true false b e = absurd (let f : ⊥ = cc in f)
 
+-- where each of two tests passes they pass together
 true_both : (a b : Bool) → a ≡ true → b ≡ true → (a && b) ≡ true
 true_both true b e f = f
 true_both false b e f = e
 
+-- a key that a range is told to contain is in it
 pub contains_so : (from : List ℕ) (to : Option (List ℕ)) (key : List ℕ)
     → range_contains text_order (Included from) (end_bound to) key ≡ true → IsInRange from to key
 contains_so from None key e = (le_not (text_order from key) (both_true _ _ e).0, tt)
@@ -67,6 +74,7 @@ contains_so from (Some to) key e =
       nat_list_cmp_total.antisymm key to ∙ over_less (text_order to key) both.1,
     )
 
+-- and a range is told to contain each key that is in it
 pub so_contains : (from : List ℕ) (to : Option (List ℕ)) (key : List ℕ) → IsInRange from to key
     → range_contains text_order (Included from) (end_bound to) key ≡ true
 so_contains from None key h = true_both (is_le (text_order from key)) true
@@ -101,6 +109,7 @@ AreOrdered : Bool → List Entry → Type 0
 AreOrdered forward [] = Unit {0}
 AreOrdered forward (e ∷ es) = All (After forward e) es × AreOrdered forward es
 
+-- a key below the entries of a list is below each of them
 all_below : (key : List ℕ) (es : List Entry) → T (below_all text_order key es)
     → All (λ x. is_lt (text_order key x.0) ≡ true) es
 all_below key [] h = All-nil (λ (x : Entry). is_lt (text_order key x.0) ≡ true)
@@ -111,6 +120,7 @@ all_below key (e ∷ es) h = All-cons (λ (x : Entry). is_lt (text_order key x.0
     is_so true t = refl
     is_so false t = absurd t
 
+-- entries whose places rise are in the order of a walk forward
 sorted_ordered : (es : List Entry) → T (is_sorted text_order es) → AreOrdered true es
 unfolding AreOrdered
 sorted_ordered [] h = tt
@@ -119,6 +129,7 @@ sorted_ordered (e ∷ es) h = (
   sorted_ordered es (second (below_all text_order e.0 es) _ h),
 )
 
+-- entries in order stay so with one more that is beyond all of them
 ordered_push : (forward : Bool) (xs : List Entry) (e : Entry) → AreOrdered forward xs
     → All (λ x. After forward x e) xs → AreOrdered forward (xs ++ e ∷ [])
 unfolding AreOrdered
@@ -129,6 +140,7 @@ ordered_push forward (x ∷ xs) e h all = (
   ordered_push forward xs e h.1 (All-tail (λ y. After forward y e) x xs all),
 )
 
+-- turned round they are in the order of a walk backward
 ordered_reverse : (es : List Entry) → AreOrdered true es → AreOrdered false (reverse es)
 unfolding AreOrdered
 ordered_reverse [] h = tt
@@ -136,11 +148,13 @@ ordered_reverse (e ∷ es) h = subst (AreOrdered false) (sym (reverse-append (e 
     (ordered_push false (reverse es) e (ordered_reverse es h.1)
     (All-permutation (λ x. After false x e) es (reverse es) (IsPermutation-reverse es) h.0))
 
+-- in either direction they are in its order
 ordered_turned : (forward : Bool) (es : List Entry) → AreOrdered true es
     → AreOrdered forward (turned forward es)
 ordered_turned true es h = h
 ordered_turned false es h = ordered_reverse es h
 
+-- those of them that pass a test are in order too
 ordered_filter : (forward : Bool) (p : Entry → Bool) (es : List Entry) → AreOrdered forward es
     → AreOrdered forward (filter p es)
 unfolding AreOrdered
@@ -155,21 +169,25 @@ ordered_filter forward p (e ∷ es) h = by (p e) (ordered_filter forward p es h.
 
 -- ---- what is beyond one of them
 
+-- an order that is told to be below is `Less`
 is_less : (o : Ordering) → is_lt o ≡ true → o ≡ Less
 is_less Less e = refl
 is_less Equal e = absurd (let f : ⊥ = cc in f)
 is_less Greater e = absurd (let f : ⊥ = cc in f)
 
+-- and isn't below the other way round
 reverse_not : (o : Ordering) → is_lt o ≡ true → is_lt (ordering_reverse o) ≡ false
 reverse_not Less e = refl
 reverse_not Equal e = absurd (let f : ⊥ = cc in f)
 reverse_not Greater e = absurd (let f : ⊥ = cc in f)
 
+-- an order that is the same the other way round isn't below
 self_not : (o : Ordering) → o ≡ ordering_reverse o → is_lt o ≡ false
 self_not Less e = absurd (let f : ⊥ = cc in f)
 self_not Equal e = refl
 self_not Greater e = refl
 
+-- a place isn't beyond one that is beyond it
 not_back : (forward : Bool) (x e : Entry) → After forward x e
     → is_beyond forward (Some e.0) x.0 ≡ false
 not_back true x e h = ap is_lt (nat_list_cmp_total.antisymm e.0 x.0)
@@ -177,10 +195,12 @@ not_back true x e h = ap is_lt (nat_list_cmp_total.antisymm e.0 x.0)
 not_back false x e h = ap is_lt (nat_list_cmp_total.antisymm x.0 e.0)
     ∙ reverse_not (text_order e.0 x.0) h
 
+-- and it isn't beyond itself
 not_self : (forward : Bool) (e : Entry) → is_beyond forward (Some e.0) e.0 ≡ false
 not_self true e = self_not (text_order e.0 e.0) (nat_list_cmp_total.antisymm e.0 e.0)
 not_self false e = self_not (text_order e.0 e.0) (nat_list_cmp_total.antisymm e.0 e.0)
 
+-- where each element passes a test all of them stay
 filter_all : {A : Type 0} (p : A → Bool) (xs : List A) → All (λ x. p x ≡ true) xs
     → filter p xs ≡ xs
 filter_all p [] all = refl
@@ -188,6 +208,7 @@ filter_all p (x ∷ xs) all =
     ap (λ b. cond b (x ∷ filter p xs) (filter p xs)) (All-head (λ y. p y ≡ true) x xs all)
     ∙ ap (λ l. x ∷ l) (filter_all p xs (All-tail (λ y. p y ≡ true) x xs all))
 
+-- an entry of a list is beyond one that all of the list are beyond
 middle : (forward : Bool) (x : Entry) (xs : List Entry) (e : Entry) (ys : List Entry)
     → All (After forward x) (xs ++ e ∷ ys) → After forward x e
 middle forward x [] e ys all = All-head (After forward x) e ys all
@@ -217,6 +238,7 @@ pub record HasLast {A : Type 0} (xs : List A) : Type 0 where
   pub last : A
   pub is : xs ≡ front ++ last ∷ []
 
+-- that is any list of one element or more
 pub has_last : {A : Type 0} (xs : List A) → 0 < length xs → HasLast xs
 has_last [] h = absurd (omega arith)
 has_last (x ∷ []) h = record { front = []; last = x; is = refl }
@@ -234,6 +256,7 @@ unfoldable pub walked : Table → Option IndexSchema → List ℕ → Option (Li
 walked t i from to forward =
     turned forward (entries_between text_order (Included from) (end_bound to) (placed_items t i))
 
+-- the items of a range are those of its entries, in the order of a walk
 pub items_walked : (t : Table) (i : Option IndexSchema) (from : List ℕ) (to : Option (List ℕ)) (forward : Bool)
     → items_between t i from to forward ≡ map (λ e. e.1) (walked t i from to forward)
 unfolding walked

@@ -147,6 +147,7 @@ module _ (number total token : ℕ) (y : List ℕ) (below : number < total) (few
       && not (first_reached (number + 1) total token (omega (arith, below)) i))
       ∙ sym (in_segment number total token)
 
+-- two tests pass together in either order
 and_turned : (a b : Bool) → (a && b) ≡ (b && a)
 and_turned true true = refl
 and_turned true false = refl

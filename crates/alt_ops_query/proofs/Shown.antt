@@ -15,12 +15,14 @@ use Rattle.alt_schema.specs.declared.schema.TableSchema.{TableSchema}
 use Rattle.alt_shape.proofs.Plain.{items_have_float-item, no_float_either}
 use Rattle.alt_value.specs.Tree.{Pair}
 
+-- a list of items as JSON, item by item
 pub items_by-pairs : (items : List (List Pair)) → items_by json_of_pairs items ≡ items_json items
 items_by-pairs [] = refl
 items_by-pairs (i ∷ items) = ap (λ ds. item (json_of_pairs i) ds) (items_by-pairs items)
 
 -- ---- the members are put in the order of their names
 
+-- Count, Items, LastEvaluatedKey and ScannedCount, as far as they are there, stand in that order
 pub members_put : (count scanned : Data) (items last : Option Data) → put (codes "ScannedCount") scanned
     (put_if (codes "LastEvaluatedKey") last (put_if (codes "Items") items
     (put (codes "Count") count no_members)))
@@ -33,11 +35,13 @@ members_put count scanned (Some i) (Some l) = refl
 
 -- ---- no float stands in it
 
+-- the items of a page have none
 items_plain : (items : List (List Pair)) → items_have_float (items_json items) ≡ false
 items_plain [] = refl
 items_plain (i ∷ items) = items_have_float-item (json_of_pairs i) (items_json items)
     (pairs_plain i) (items_plain items)
 
+-- nor have the members, where the items and the key have none
 members_plain : (items last : Option Data) (count scanned : ℕ)
     → ((d : Data) → items ≡ Some d → has_float d ≡ false)
     → ((d : Data) → last ≡ Some d → has_float d ≡ false)
@@ -52,6 +56,7 @@ members_plain (Some i) (Some l) count scanned h k = no_float_either (has_float i
     (member (codes "ScannedCount") (number (unsigned scanned)) no_members)))
     (h i refl) (no_float_either (has_float l) false (k l refl) refl)
 
+-- nor have the items that are shown
 shown_plain : (ms : Members) (items : List (List Pair)) (d : Data)
     → shown_items ms items ≡ Some d → has_float d ≡ false
 shown_plain ms items d = by (selects (codes "COUNT") ms)
@@ -62,6 +67,7 @@ shown_plain ms items d = by (selects (codes "COUNT") ms)
     by false e = let is : array (items_json items) ≡ d = cc in
         ap has_float (sym is) ∙ items_plain items
 
+-- nor has the key to go on after
 last_plain : (d : TableSchema) (i : Option IndexSchema) (last : Option (List Pair)) (x : Data)
     → option_map (λ row. json_of_pairs (key_attributes d i row)) last ≡ Some x
     → has_float x ≡ false
@@ -70,6 +76,7 @@ last_plain d i (Some row) x e =
     let is : json_of_pairs (key_attributes d i row) ≡ x = cc in
     ap has_float (sym is) ∙ pairs_plain (key_attributes d i row)
 
+-- nor has the answer
 pub answer_plain : (d : TableSchema) (i : Option IndexSchema) (ms : Members) (page : Page)
     (last : Option (List Pair)) → has_float (page_answer d i ms page last).body ≡ false
 answer_plain d i ms page last = members_plain (shown_items ms page.items)

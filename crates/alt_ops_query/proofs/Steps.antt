@@ -36,6 +36,7 @@ All-last : {A : Type 0} (P : A → Type 0) (front : List A) (x : A) → All P (f
 All-last P [] x all = All-head P x [] all
 All-last P (y ∷ ys) x all = All-last P ys x (All-tail P y (ys ++ x ∷ []) all)
 
+-- options that are equal have equal values
 same_some : {A : Type 0} (x y : A) → Some x ≡ Some y → x ≡ y
 same_some x y e = cc
 

@@ -24,6 +24,7 @@ use Rattle.alt_views.proofs.Keeping.{entry_place, kept_values}
 use Rattle.alt_value.specs.declared.kind.KeyKind.{KeyKind}
 use Rattle.alt_value.specs.declared.kind.KeyKind.TheVariants.{S, N, B}
 
+-- options that are equal have equal values
 pub same_Some : {A : Type 0} (x y : A) → Some x ≡ Some y → x ≡ y
 same_Some x y e = cc
 
@@ -38,6 +39,7 @@ field_value name (p ∷ ps) t h e = by (is_eq (text_order name p.0)) (field_valu
     by true rest f = subst IsValue (same_Some p.1 t f) h.1
     by false rest f = rest f
 
+-- a value that is taken where a test passes is that value, where one is taken
 some_is : (b : Bool) (u t : Tree) → (if b then Some u else None) ≡ Some t → u ≡ t
 some_is true u t e = same_Some u t e
 some_is false u t e = absurd (let f : ⊥ = cc in f)
@@ -47,6 +49,7 @@ pub record IsPart (item : List Pair) (key : KeyAttr) (t : Tree) : Type 0 where
   pub at : at_name key.name item ≡ Some t
   pub kind : IsOfKind key.kind t
 
+-- what is taken of a value as a key is the value itself, of the key's kind
 kept : (kind : KeyKind) (u t : Tree) → IsValue u → if_key kind u ≡ Some t
     → (u ≡ t) × IsOfKind kind t
 kept S (S_tree s) t v e =
@@ -57,6 +60,7 @@ kept B (B_tree b) t v e =
     let same = some_is (can_be_key B (B_tree b)) (B_tree b) t e in (same, subst (IsOfKind B) same tt)
 kept kind u t v e = absurd (let f : ⊥ = cc in f)
 
+-- the value of a key attribute is what the item has there, and of the attribute's kind
 part_is : (item : List Pair) (key : KeyAttr) (t : Tree) → AreFields (fields_of item)
     → key_value item key ≡ Some t → IsPart item key t
 part_is item key t h e = by (at_name key.name item) refl e
@@ -84,6 +88,7 @@ pub record IsKeyed (h : KeyAttr) (k : Option KeyAttr) (item : List Pair) (place 
   pub behind : List ℕ
   pub is : place ≡ place_bytes (place_in_table hash range) ++ behind
 
+-- a place that is made of a HASH value has the RANGE value of the item beside it, where the key has one
 beside : (item : List Pair) (p : Place) (hash : Tree) (range : Option KeyAttr)
     → AreFields (fields_of item) → place_beside item range hash ≡ Some p
     → (r : Option Tree) × IsBeside item range r × (p ≡ place_in_table hash r)
@@ -192,6 +197,7 @@ pub record HasBoth (d : TableSchema) (i : IndexSchema) (row : List Pair) (key : 
   pub is : key ≡ place_bytes (place_in_table own.hash own.range)
       ++ flat_map key_bytes (key_values of_table.hash of_table.range)
 
+-- what an index keeps of an item has the values of both keys, and lies under them
 pub has_both : (d : TableSchema) (i : IndexSchema) (item : List Pair) (key : List ℕ)
     (row : List Pair) → IsItemOfValues item → index_entry d i item ≡ Some (key, row)
     → HasBoth d i row key

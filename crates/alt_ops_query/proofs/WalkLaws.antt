@@ -19,6 +19,7 @@ pub record SoFar (before now : Filling) (items ahead : List (List Pair)) (ask : 
   pub is : items ≡ front ++ ahead
   pub examined : HasExamined now ask (seen ++ front)
 
+-- before a step nothing more was examined, and all of its items are ahead
 pub none_yet : (filling : Filling) (items : List (List Pair)) (ask : PageAsk)
     (seen : List (List Pair)) → HasExamined filling ask seen
     → SoFar filling filling items items ask seen
@@ -35,6 +36,7 @@ All-ahead P [] x ahead all = All-head P x ahead all
 All-ahead P (y ∷ ys) x ahead all =
     All-ahead P ys x ahead (All-tail P y (ys ++ x ∷ ahead) all)
 
+-- the next item isn't empty where none of the step's is
 pub next_some : (before now : Filling) (items ahead : List (List Pair)) (item : List Pair)
     (ask : PageAsk) (seen : List (List Pair)) → SoFar before now items (item ∷ ahead) ask seen
     → All (λ i. i ≢ []) items → item ≢ []
@@ -61,6 +63,7 @@ pub record IsWalked (now : Filling) (ask : PageAsk) (t : Table) (i : Option Inde
   pub examined : HasExamined now ask seen
   pub whole : list ≡ seen ++ items_between t i rest.from rest.to forward
 
+-- before the first step nothing was examined, and all of the range is ahead
 pub walk_begun : (filling : Filling) (ask : PageAsk) (t : Table) (i : Option IndexSchema) (forward : Bool) (range : KeyRange)
     → HasExamined filling ask []
     → IsWalked filling ask t i forward (items_between t i range.from range.to forward) range

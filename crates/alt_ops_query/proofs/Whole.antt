@@ -45,6 +45,7 @@ use Rattle.alt_value.specs.Tree.{Pair}
 
 -- ---- the operations with the tests of their bodies
 
+-- a Query is an operation on a list, behind tests of its body that were worked out before
 pub query_is : (ms : Members) (broken : Option Broken) (mismatched : Bool)
     → broken ≡ bodies.query ms → mismatched ≡ is_mismatched ms → (s : State)
     → query s ms ≡ on_list (paired_refusals broken mismatched querying_of.rules ms) querying s ms
@@ -53,6 +54,7 @@ unfolding query
 query_is ms broken mismatched e f s =
     λ i. on_list (paired_refusals (sym e i) (sym f i) querying_of.rules ms) querying s ms (queries ms)
 
+-- so is a Scan, whose tests take in its segment
 pub scan_is : (ms : Members) (broken : Option Broken) (mismatched : Bool)
     → broken ≡ bodies.scan ms → mismatched ≡ (is_mismatched ms || is_segment_odd ms) → (s : State)
     → scan s ms ≡ on_list (paired_refusals broken mismatched scanning_of.rules ms) scanning s ms
@@ -84,6 +86,7 @@ module _ (disk : DiskState) (tables : Tables) (s : State) (stands : Stands disk 
     abbrev there : Option IndexSchema
     there = index_at t.description index
 
+    -- the page of the range that is asked for is that of the Query
     pub query_page : (start : Option (List Pair))
         → IsAsked d (index_at d index) said.key_condition start (goes_forward ms) range
         → Does now s (pages t.description there ms said
@@ -105,6 +108,7 @@ module _ (disk : DiskState) (tables : Tables) (s : State) (stands : Stands disk 
             (ap (λ x. walk_start x (index_at x index) (Some asked.ask.hash) start) same
             ∙ asked.starts)
 
+    -- and that of a segment's range is that of the Scan
     pub scan_page : (start : Option (List Pair))
         → IsOfSegment d (index_at d index) (segment_of ms) start range
         → Does now s (pages t.description there ms said
@@ -132,6 +136,7 @@ module _ (disk : DiskState) (tables : Tables) (now : State → Type 0) (ms : Mem
   abbrev there_in : TableSchema → Option IndexSchema
   there_in d = index_at d target.index
 
+  -- what stops a Query on its way to a range is what it comes to
   pub query_stopped : (broken : Option Broken) (mismatched : Bool) → broken ≡ bodies.query ms
       → mismatched ≡ is_mismatched ms
       → IsListedAt (paired_refusals broken mismatched querying_of.rules ms) querying
@@ -162,6 +167,7 @@ module _ (disk : DiskState) (tables : Tables) (now : State → Type 0) (ms : Mem
           ∙ h.1 (go t)) stays
       by (Fault f) h = faulted (λ s. query s ms) (Stands disk tables) now f h stays
 
+  -- and so it is with a Scan
   pub scan_stopped : (broken : Option Broken) (mismatched : Bool) → broken ≡ bodies.scan ms
       → mismatched ≡ (is_mismatched ms || is_segment_odd ms)
       → IsListedAt (paired_refusals broken mismatched scanning_of.rules ms) scanning
@@ -195,6 +201,7 @@ module _ (disk : DiskState) (tables : Tables) (now : State → Type 0) (ms : Mem
 module _ (disk : DiskState) (tables : Tables) (now : State → Type 0) (ms : Members)
     (target : ListTarget) (range : KeyRange) (r : Result Reply Stop) (plain : IsPlain r)
     (within : IfSome target.index (λ n. n < length (indexes target.schema.now))) where
+  -- a Query is carried out by the page of the range that is asked for
   pub query_done : (broken : Option Broken) (mismatched : Bool) → broken ≡ bodies.query ms
       → mismatched ≡ is_mismatched ms
       → IsListedAt (paired_refusals broken mismatched querying_of.rules ms) querying
@@ -218,6 +225,7 @@ module _ (disk : DiskState) (tables : Tables) (now : State → Type 0) (ms : Mem
     plain = plain;
   }
 
+  -- and a Scan by that of its segment's range
   pub scan_done : (broken : Option Broken) (mismatched : Bool) → broken ≡ bodies.scan ms
       → mismatched ≡ (is_mismatched ms || is_segment_odd ms)
       → IsListedAt (paired_refusals broken mismatched scanning_of.rules ms) scanning
@@ -247,6 +255,7 @@ pub asks_unfailed : (P : Type 0) (d : TableSchema) (i : Option IndexSchema)
 asks_unfailed P d i condition start forward (Refused r) h = tt
 asks_unfailed P d i condition start forward (Fault f) h = unfailed_fault f P h
 
+-- nor is what stops a Scan on its way to a range
 pub segments_unfailed : (P : Type 0) (d : TableSchema) (i : Option IndexSchema)
     (segment : Option scanning_of.Segment) (start : Option (List Pair)) (stop : Stop)
     → Segments d i segment start (Err stop) → IfFailed (Err stop) P

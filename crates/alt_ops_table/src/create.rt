@@ -2,7 +2,7 @@
 
 ghost use Rattle.std.specs.Prelude.{◌≡◌, ◌+◌, ◌<◌, ◌≤◌, IfOk};
 ghost use Rattle.serde_json.specs.View.{members_view};
-ghost use Rattle.alt_machine.specs.Ops.CreateTable.{shows, mismatched, of_stream, is_unbuilt, of_body, create_table};
+ghost use Rattle.alt_machine.specs.Ops.CreateTable.{shows, mismatched, of_stream, of_body, create_table};
 ghost use Rattle.alt_ops_table.specs.Asked.{IsAsked};
 ghost use Rattle.alt_request.specs.Carried.{Carries, Moves};
 ghost use Rattle.alt_request.specs.Steps.{Tested};
@@ -87,9 +87,6 @@ fn unfit(body: &Map<String, Value>) -> Result<(), Stop>
     if is_mismatched(body) {
         return Err(Stop::Refused(Refusal::NOT_TOGETHER));
     }
-    if is_unbuilt(body) {
-        return Err(Stop::Refused(Refusal::NOT_BUILT));
-    }
     Ok(())
 }
 
@@ -117,14 +114,4 @@ fn shows(specification: &Map<String, Value>) -> bool
     ensures { result ≡ shows (members_view specification.now.entries) }
 {
     given(specification, "StreamViewType").is_some()
-}
-
-/// Whether a stream is asked for. It isn't built yet.
-fn is_unbuilt(body: &Map<String, Value>) -> bool
-    ensures { result ≡ is_unbuilt (members_view body.now.entries) }
-{
-    match object_at(body, "StreamSpecification") {
-        Some(specification) => truth_at(specification, "StreamEnabled").unwrap_or(false),
-        None => false,
-    }
 }

@@ -104,6 +104,7 @@ module _ (catalog : Texts TableSchema) (m : BatchMember) (d : TableSchema)
 
 -- ---- how many members there are
 
+-- there are as many as in the first table and in the others
 pub of_each_length : (inside : Data → List Data) (t : List ℕ × Data) (ts : List (List ℕ × Data))
     → length (of_each inside (t ∷ ts)) ≡ length (inside t.1) + length (of_each inside ts)
 of_each_length inside t ts = length-append (map (λ d. (t.0, d)) (inside t.1)) (of_each inside ts)
@@ -126,6 +127,7 @@ sized_by_room most count room e = grind (arith, e)
 
 -- ---- keys that stand twice
 
+-- from a place on a key stands twice where the one there stands again, or where one does behind it
 has_repeat_from_suc : (ms : List PlacedMember) (i : ℕ) (m : PlacedMember) → i < length ms
     → has_repeat (drop i ms)
     ≡ (list_any (is_same_key (get_or ms i m)) (drop (suc i) ms) || has_repeat (drop (suc i) ms))
@@ -133,6 +135,7 @@ has_repeat_from_suc [] i m h = absurd (omega arith)
 has_repeat_from_suc (x ∷ xs) zero m h = refl
 has_repeat_from_suc (x ∷ xs) (suc i) m h = has_repeat_from_suc xs i m (omega arith)
 
+-- the same, with the next place counted by + 1
 pub has_repeat_from : (ms : List PlacedMember) (i : ℕ) (m : PlacedMember) → i < length ms
     → has_repeat (drop i ms)
     ≡ (list_any (is_same_key (get_or ms i m)) (drop (i + 1) ms) || has_repeat (drop (i + 1) ms))
@@ -140,11 +143,13 @@ has_repeat_from ms i m h = rw add-one (has_repeat_from_suc ms i m h)
 
 -- ---- tests of each member
 
+-- behind tests that don't apply the others tell
 both_tests : (a b : List (Option Answer)) → first_answer a ≡ None → first_answer (a ++ b) ≡ first_answer b
 both_tests [] b e = refl
 both_tests (None ∷ a) b e = both_tests a b e
 both_tests (Some x ∷ a) b e = absurd (let f : ⊥ = cc in f)
 
+-- and the first that applies does so whatever stands behind
 first_test : (a b : List (Option Answer)) (x : Answer) → first_answer a ≡ Some x
     → first_answer (a ++ b) ≡ Some x
 first_test [] b x e = absurd (let f : ⊥ = cc in f)
@@ -152,6 +157,7 @@ first_test (None ∷ a) b x e = first_test a b x e
 first_test (Some y ∷ a) b x e = e
 
 module _ (catalog : Texts TableSchema) where
+  -- where the member at a place isn't refused, those from there on are refused as those behind it
   taken_on_suc : (ms : List PlacedMember) (i : ℕ) (m : PlacedMember) → i < length ms
       → first_answer (of_member catalog (get_or ms i m)) ≡ None
       → first_answer (of_members catalog (drop i ms)) ≡ first_answer (of_members catalog (drop (suc i) ms))
@@ -159,11 +165,13 @@ module _ (catalog : Texts TableSchema) where
   taken_on_suc (x ∷ xs) zero m h e = both_tests (of_member catalog x) (of_members catalog xs) e
   taken_on_suc (x ∷ xs) (suc i) m h e = taken_on_suc xs i m (omega arith) e
 
+  -- the same, with the next place counted by + 1
   pub taken_on : (ms : List PlacedMember) (i : ℕ) (m : PlacedMember) → i < length ms
       → first_answer (of_member catalog (get_or ms i m)) ≡ None
       → first_answer (of_members catalog (drop i ms)) ≡ first_answer (of_members catalog (drop (i + 1) ms))
   taken_on ms i m h e = rw add-one (taken_on_suc ms i m h e)
 
+  -- where it is refused, so are those from there on, for the same
   pub refused_at : (ms : List PlacedMember) (i : ℕ) (m : PlacedMember) (a : Answer) → i < length ms
       → first_answer (of_member catalog (get_or ms i m)) ≡ Some a
       → first_answer (of_members catalog (drop i ms)) ≡ Some a
@@ -173,6 +181,7 @@ module _ (catalog : Texts TableSchema) where
 
 -- ---- the elements of an array
 
+-- an array has as many elements as values
 pub elements_length : (vs : List Value) → length (elements (items_view vs)) ≡ length vs
 elements_length [] = refl
 elements_length (v ∷ vs) = ap suc (elements_length vs)
@@ -184,6 +193,7 @@ elements_from_suc [] i v h = absurd (omega arith)
 elements_from_suc (x ∷ xs) zero v h = refl
 elements_from_suc (x ∷ xs) (suc i) v h = elements_from_suc xs i v (omega arith)
 
+-- the same, with the next place counted by + 1
 pub elements_from : (vs : List Value) (i : ℕ) (v : Value) → i < length vs
     → elements (items_view (drop i vs)) ≡ view (get_or vs i v) ∷ elements (items_view (drop (i + 1) vs))
 elements_from vs i v h = rw add-one (elements_from_suc vs i v h)

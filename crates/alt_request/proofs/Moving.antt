@@ -93,6 +93,7 @@ failed_in (BadRow family key) P Q leads h = tt
 failed_in Failed P Q leads h = leads h
 failed_in NoMemory P Q leads h = tt
 
+-- and so may what holds where a result is a failure
 pub failed_on : (r : Result Reply Stop) (P Q : Type 0) → (P → Q) → IfFailed r P → IfFailed r Q
 failed_on (Ok reply) P Q leads h = tt
 failed_on (Err (Refused r)) P Q leads h = tt

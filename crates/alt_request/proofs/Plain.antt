@@ -18,6 +18,7 @@ texts_plain (member word (string []) ms) e = absurd (let f : ⊥ = cc in f)
 texts_plain (member word (string (b ∷ bs)) ms) e = texts_plain ms e
 texts_plain (member word other ms) e = absurd (let f : ⊥ = cc in f)
 
+-- so none stands among the names of a request whose names and values were read
 pub names_plain : (texts : machine.Texts) (ms : Members) (g : expr.Given)
     → machine.given_at texts ms ≡ Ok g → ArePlainNames ms
 unfolding machine.given_at

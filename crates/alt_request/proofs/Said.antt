@@ -36,6 +36,7 @@ one_more : (ms : Members) (o : Option Refusal)
 one_more ms None e = e
 one_more ms (Some r) e = refl
 
+-- so it is with all of them
 first_is : (ms : Members) → first_answer (machine.of_names ms) ≡ option_map refused (names_refusal ms)
 first_is no_members = refl
 first_is (member word d ms) = one_more ms (machine.name_refusal d) (first_is ms)
@@ -44,29 +45,35 @@ first_is (member word d ms) = one_more ms (machine.name_refusal d) (first_is ms)
 some_known : (q r : Refusal) → IsKnown q → Some q ≡ Some r → IsKnown r
 some_known q r h e = subst IsKnown (let same : q ≡ r = cc in same) h
 
+-- what refuses a single name has a message
 one_known : (d : Data) (r : Refusal) → machine.name_refusal d ≡ Some r → IsKnown r
 one_known (string []) r e = some_known not_one_kind r (omega arith) e
 one_known (string (b ∷ bs)) r e = absurd (let f : ⊥ = cc in f)
 one_known other r e = some_known unreadable r tt e
 
+-- so has what refuses it or, where nothing does, those behind it
 either_known : (ms : Members) (d : Data) (r : Refusal) (o : Option Refusal)
     → machine.name_refusal d ≡ o → (names_refusal ms ≡ Some r → IsKnown r)
     → earlier o (names_refusal ms) ≡ Some r → IsKnown r
 either_known ms d r None same rest f = rest f
 either_known ms d r (Some q) same rest f = one_known d r (same ∙ f)
 
+-- and what refuses any of the names
 pub names_known : (ms : Members) (r : Refusal) → names_refusal ms ≡ Some r → IsKnown r
 names_known no_members r e = absurd (let f : ⊥ = cc in f)
 names_known (member word d ms) r e =
     either_known ms d r (machine.name_refusal d) refl (names_known ms r) e
 
+-- where nothing does, each is a text that isn't empty
 pub names_free : (ms : Members) → names_refusal ms ≡ None → gives_names ms ≡ true
 names_free ms e = are_given ms (first_is ms ∙ ap (option_map refused) e)
 
+-- and all of them are read
 pub names_read : (ms : Members) → names_refusal ms ≡ None → names_in ms ≡ Ok (expr_names [] ms)
 names_read ms e = ap (λ o. unless_answer o (expr_names [] ms))
     (first_is ms ∙ ap (option_map refused) e)
 
+-- what does refuse them is what is answered
 pub names_refused : (ms : Members) (r : Refusal) → names_refusal ms ≡ Some r
     → names_in ms ≡ Err (refused r)
 names_refused ms r e = ap (λ o. unless_answer o (expr_names [] ms))
@@ -106,6 +113,7 @@ module _ (texts : machine.Texts) (d : TableSchema) (ms : Members) (g : expr.Give
           (is_p ∙ ap (λ x. Err x) (let f : b ≡ a = cc in f))
       by (Ok k) is (Ok c) is_c (Ok u) is_u (Ok p) is_p e = absurd (let f : ⊥ = cc in f)
 
+  -- what stops the texts stops the expressions
   pub unsaid : (stop : Stop)
       → Comes {X = Expressions} (λ e. e) (all_stated texts ms g) (Err stop)
       → Comes {X = Expressions} (λ e. e) (machine.expressions texts d ms g) (Err stop)

@@ -173,12 +173,14 @@ module _ (texts : machine.Texts) (ms : Members) (g : expr.Given) where
 
 -- ---- their words
 
+-- the names in words that stand behind others are noted behind theirs
 pub with_hashes-append : (a b : List Tok) (used : List (List ℕ))
     → with_hashes (a ++ b) used ≡ with_hashes b (with_hashes a used)
 with_hashes-append [] b used = refl
 with_hashes-append (hash w ∷ a) b used = with_hashes-append a b _
 with_hashes-append (t ∷ a) b used = with_hashes-append a b used
 
+-- and so are the values
 pub with_colons-append : (a b : List Tok) (used : List (List ℕ))
     → with_colons (a ++ b) used ≡ with_colons b (with_colons a used)
 with_colons-append [] b used = refl
@@ -207,22 +209,27 @@ colons_all a b c d t u v w e f g none =
     let three = g ∙ ap (with_colons c) two ∙ sym (with_colons-append (a ++ b) c t) in
     three ∙ sym (none (with_colons (a ++ b ++ c) t)) ∙ sym (with_colons-append (a ++ b ++ c) d t)
 
+-- words without one for a value have none behind others without
 none_append : (a b : List Tok) → NoColons a → NoColons b → NoColons (a ++ b)
 none_append a b h k used = with_colons-append a b used ∙ k (with_colons a used) ∙ h used
 
+-- a step of a path has no word for a value
 step_none : (s : StepPhrase) → NoColons (step_toks s)
 step_none (dotted (plain w)) used = refl
 step_none (dotted (hashed w)) used = refl
 step_none (indexed n) used = refl
 
+-- nor have several steps
 steps_none : (ss : List StepPhrase) → NoColons (steps_toks ss)
 steps_none [] used = refl
 steps_none (s ∷ ss) used = none_append (step_toks s) (steps_toks ss) (step_none s) (steps_none ss) used
 
+-- nor has a path
 path_none : (p : PathPhrase) → NoColons (path_toks p)
 path_none (path (plain w) ss) used = steps_none ss used
 path_none (path (hashed w) ss) used = steps_none ss used
 
+-- nor have paths with commas between them
 between_none : (p : PathPhrase) (ps : List PathPhrase)
     → NoColons (between_toks path_toks (mark m.Comma) p ps)
 between_none p [] used = path_none p used
@@ -230,6 +237,7 @@ between_none p (q ∷ ps) used = none_append (path_toks p)
     (mark m.Comma ∷ between_toks path_toks (mark m.Comma) q ps) (path_none p)
     (λ other. between_none q ps other) used
 
+-- nor has what a projection is derived from
 paths_none : (d : PathsPhrase) → NoColons (projections.toks d)
 unfolding projections
 paths_none (paths p ps) used = between_none p ps used
@@ -245,6 +253,7 @@ parsed_none g text tree parsed used =
     of_text.whole true of_text.lexes derived.1).0)
     ∙ paths_none derived.0 used
 
+-- nor has the text of a projection that was stated, or that isn't given
 pub paths_words : (g : expr.Given) (text : Option (List ℕ))
     (projection : Option (List (List PathPart))) → machine.stated paths_of g text ≡ Ok projection
     → NoColons (machine.words_of text)

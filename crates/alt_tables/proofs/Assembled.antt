@@ -1,6 +1,7 @@
--- Where every row of the catalog and of the tables can be read, there is a state whose rows they are.
-use Rattle.std.proofs.Common.{◌≡◌, ◌≤◌, ℕ, Bool, true, false, cond, List, [], ◌∷◌, Option, Some, None, refl, sym, ap, subst, ◌∙◌, arith}
+-- Where every row of the catalog and of the tables can be read, there is a state whose rows they are, with whatever changes its tables may have.
+use Rattle.std.proofs.Common.{◌≡◌, ◌≤◌, ℕ, Bool, true, false, cond, List, [], ◌∷◌, Option, Some, None, All, refl, sym, ap, subst, ◌∙◌, arith}
 use Rattle.std.proofs.lemmas.Bool.{false≢true}
+use Rattle.std.proofs.lemmas.List.Elements.{All-nil}
 use Rattle.std.specs.Prelude.{if◌then◌else◌, option_and_then, option_map}
 use Rattle.std.specs.Ordering.{eq_by_cmp}
 use Rattle.std.specs.FinMap as map
@@ -10,15 +11,15 @@ use Rattle.alt_cells.specs.Shown.{row_shown}
 use Rattle.alt_cells.proofs.CellLaws.{key_total}
 use Rattle.alt_engine.specs.Layout.{Layout, shown}
 use Rattle.alt_machine.specs.declared.TheConstants.{NUMBERS_END}
-use Rattle.alt_machine.specs.State.{State, Table, Texts, descriptions}
-use Rattle.alt_machine.specs.Valid.{IsStored, IsTable, IsValid}
+use Rattle.alt_machine.specs.State.{Change, State, Table, Texts, descriptions}
+use Rattle.alt_machine.specs.Valid.{AreChanges, IsChange, IsHeldChange, IsStored, IsTable, IsValid}
 use Rattle.alt_machine.proofs.Descriptions.{get-descriptions, len-descriptions}
 use Rattle.alt_schema.specs.Rules.{is_name}
 use Rattle.alt_schema.specs.declared.schema.TableSchema.{TableSchema}
 use Rattle.alt_views.specs.ItemRows.{item_columns, IsReadItem}
-use Rattle.alt_tables.specs.Opening.{AssembledTables, IsCatalog, IsGood, AreApart}
+use Rattle.alt_tables.specs.Opening.{AssembledRows, IsCatalog, IsGood, AreApart}
 use Rattle.alt_tables.specs.Scans.{IsItemAt, ItemsRead}
-use Rattle.alt_tables.specs.StateRows.{catalog_family, table_row, next_row}
+use Rattle.alt_tables.specs.StateRows.{HasMoment, catalog_family, table_row, next_row}
 use Rattle.alt_tables.proofs.ChangeLaws.{tied, itself}
 use Rattle.alt_tables.proofs.ChosenLaws.{AllRead, IsRead, map_read}
 use Rattle.alt_tables.proofs.Maps.{same_texts}
@@ -33,11 +34,32 @@ not_empty number family [] d good =
     absurd (false≢true f)
 not_empty number family (c ∷ cs) d good = refl
 
+-- changes that a table may have
+pub record MayHave (next : ℕ) (d : TableSchema) (changes : List Change) : Type 0 where
+  pub are : AreChanges d next changes
+  pub held : All IsHeldChange changes
+  pub moments : All HasMoment changes
+
+-- each may have none
+pub none_had : (next : ℕ) (d : TableSchema) → MayHave next d []
+none_had next d = record {
+  are = record {
+    each = All-nil (IsChange d next);
+    rise = λ i j x less within. absurd (omega (arith, within));
+    none = λ e. refl;
+  };
+  held = All-nil IsHeldChange;
+  moments = All-nil HasMoment;
+}
+
 module _ (l : Layout) (family : ℕ) (catalog : Texts TableSchema)
     (read : IsCatalog l family catalog)
     (items : (name : List ℕ) (d : TableSchema) → map.get catalog name ≡ Some d → ItemsRead l d)
     (beyond : (f : ℕ) (key : List ℕ) → family ≤ f → shown l f key ≡ None)
-    (number : (1 ≤ l.next_number) × (l.next_number ≤ NUMBERS_END)) where
+    (number : (1 ≤ l.next_number) × (l.next_number ≤ NUMBERS_END))
+    (Has : TableSchema → List Change → Type 0)
+    (list : (name : List ℕ) (d : TableSchema) → map.get catalog name ≡ Some d
+    → (cs : List Change) × MayHave l.next_number d cs × Has d cs) where
   -- ---- the items of a table
 
   abbrev IsRow : TableSchema → List ℕ → Columns → List Pair → Type 0
@@ -77,12 +99,13 @@ module _ (l : Layout) (family : ℕ) (catalog : Texts TableSchema)
 
   -- ---- the tables
 
-  -- a row of the catalog is that of this table, whose family shows its items
+  -- a row of the catalog is that of this table, whose family shows its items, and whose changes are those of its list
   record IsTableOf (name : List ℕ) (columns : Columns) (t : Table) : Type 0 where
     row : columns ≡ table_row t.description
     known : map.get catalog name ≡ Some t.description
     has : HasItems t.description t.items
-    changes : t.changes ≡ []
+    may : MayHave l.next_number t.description t.changes
+    listed : Has t.description t.changes
 
   tables_read : AllRead row_shown IsTableOf (map.get (map.remove (l.rows catalog_family) []))
   tables_read name row at = by (eq_by_cmp key_cmp name []) refl
@@ -97,13 +120,15 @@ module _ (l : Layout) (family : ℕ) (catalog : Texts TableSchema)
       by false e at =
           let (d, is) = read.read name row tt (λ none. false≢true
           (sym e ∙ ap (λ k. eq_by_cmp key_cmp k []) none ∙ itself [])) at in
-          let m = items_of d (items name d is) in (
-            record { description = d; items = m.0; changes = [] },
+          let m = items_of d (items name d is) in
+          let c = list name d is in (
+            record { description = d; items = m.0; changes = c.0 },
             record {
               row = same_Some _ _ (sym at ∙ (read.stands name d is).1);
               known = is;
               has = m.1;
-              changes = refl;
+              may = c.1;
+              listed = c.2;
             },
           )
 
@@ -154,8 +179,12 @@ module _ (l : Layout) (family : ℕ) (catalog : Texts TableSchema)
 
   table_is : (name : List ℕ) (t : Table) → map.get chosen.0 name ≡ Some t
       → HasItems t.description t.items × (map.get catalog name ≡ Some t.description)
-      × (t.changes ≡ [])
-  table_is name t at = let (row, (e, is)) = table_here name t at in (is.has, is.known, is.changes)
+  table_is name t at = let (row, (e, is)) = table_here name t at in (is.has, is.known)
+
+  -- its changes may stand there
+  may_have : (name : List ℕ) (t : Table) → map.get chosen.0 name ≡ Some t
+      → MayHave l.next_number t.description t.changes
+  may_have name t at = let (row, (e, is)) = table_here name t at in is.may
 
   -- a table that is known stands there
   known_there : (name : List ℕ) (d : TableSchema) → map.get catalog name ≡ Some d
@@ -240,7 +269,7 @@ module _ (l : Layout) (family : ℕ) (catalog : Texts TableSchema)
         families = good.families;
         differ = good.differ;
         items = λ key item here. ((table_is name t at).0.1 key item here).0;
-        changes = (table_is name t at).2;
+        changes = (may_have name t at).are;
       }
 
   assembled_valid : IsValid assembled_state
@@ -255,9 +284,11 @@ module _ (l : Layout) (family : ℕ) (catalog : Texts TableSchema)
     next_family = (read.next.low, read.next.high);
   }
 
-  -- The state of these rows.
-  pub assembled : (s : State) × AssembledTables l family catalog s
-  assembled = (
+  -- The state of these rows, with these changes.
+  pub assembled_with : (s : State) × AssembledRows l family catalog s
+      × ((name : List ℕ) (t : Table) → map.get s.tables name ≡ Some t
+      → Has t.description t.changes)
+  assembled_with = (
     assembled_state,
     record {
       agrees = record {
@@ -269,11 +300,25 @@ module _ (l : Layout) (family : ℕ) (catalog : Texts TableSchema)
         held = record {
           items = record {
             items = λ name key t item at here. ((table_is name t at).0.1 key item here).1.whole.0;
+            changes = λ name t at. (may_have name t at).held;
           };
+          moments = λ name t at. (may_have name t at).moments;
           descriptions = λ name t at. (good_at name t at).held;
         };
       };
       catalog = same_catalog;
       family = refl;
     },
+    λ name t at. let (row, (e, is)) = table_here name t at in is.listed,
   )
+
+-- The state of these rows, whose tables have no changes.
+pub assembled : (l : Layout) (family : ℕ) (catalog : Texts TableSchema) → IsCatalog l family catalog
+    → ((name : List ℕ) (d : TableSchema) → map.get catalog name ≡ Some d → ItemsRead l d)
+    → ((f : ℕ) (key : List ℕ) → family ≤ f → shown l f key ≡ None)
+    → (1 ≤ l.next_number) × (l.next_number ≤ NUMBERS_END)
+    → (s : State) × AssembledRows l family catalog s
+assembled l family catalog read items beyond number =
+    let (s, made, none) = assembled_with l family catalog read items beyond number
+    (λ d cs. Unit {0}) (λ name d at. ([], none_had l.next_number d, tt)) in
+    (s, made)

@@ -1,6 +1,8 @@
 -- The rows of a state with a table made or dropped.
 use Rattle.std.proofs.Common.{◌≡◌, ◌≤◌, ◌<◌, ◌+◌, ℕ, Bool, true, false, cond, length, List, [], ◌∷◌, Option, Some, None, refl, sym, ap, subst, ◌∙◌, inl, inr, arith}
+use Rattle.std.proofs.Common.{All}
 use Rattle.std.proofs.lemmas.Bool.{false≢true}
+use Rattle.std.proofs.lemmas.List.Elements.{All-nil}
 use Rattle.std.specs.Prelude.{◌==◌, if◌then◌else◌, option_map, codes}
 use Rattle.std.specs.Int.{w32, to_be_bytes}
 use Rattle.std.specs.Ordering.{eq_by_cmp}
@@ -10,6 +12,7 @@ use Rattle.alt_cells.specs.Changes.{CanShow, change_between}
 use Rattle.alt_cells.specs.Keys.{key_cmp}
 use Rattle.alt_cells.proofs.CellLaws.{key_total}
 use Rattle.alt_cells.proofs.ChangeLaws.{written-change_between, none_shown}
+use Rattle.alt_changes.specs.ChangeRows.{change_columns}
 use Rattle.alt_engine.specs.InHand.{batch_write}
 use Rattle.alt_engine.specs.Layout.{Layout, Write, with_write, shown, shown_by, change_of, ShowsWrite}
 use Rattle.alt_engine.proofs.LayoutLaws.{shows_write}
@@ -17,8 +20,8 @@ use Rattle.alt_machine.specs.declared.TheConstants.{NUMBERS_END, FAMILIES_END, M
 use Rattle.alt_machine.specs.Indexed.{index_entry}
 use Rattle.alt_machine.specs.Rekeyed.{rekeyed}
 use Rattle.alt_machine.specs.Sources.{index_at}
-use Rattle.alt_machine.specs.State.{State, Table, new_table, families_of}
-use Rattle.alt_machine.specs.Valid.{IsMade, IsValid}
+use Rattle.alt_machine.specs.State.{State, Table, Change, new_table, families_of}
+use Rattle.alt_machine.specs.Valid.{IsHeldChange, IsMade, IsValid}
 use Rattle.alt_machine.specs.Ops.CreateTable.{with_table}
 use Rattle.alt_machine.specs.Ops.DeleteTable.{without_table}
 use Rattle.alt_machine.proofs.Families.{of_contained, families_within}
@@ -30,13 +33,14 @@ use Rattle.alt_schema.specs.Held.{IsHeld}
 use Rattle.alt_schema.specs.Rules.{is_name}
 use Rattle.alt_schema.specs.declared.schema.IndexSchema.{IndexSchema}
 use Rattle.alt_schema.specs.declared.schema.TableSchema.{TableSchema}
-use Rattle.alt_tables.specs.StateRows.{IsHeldWhole, Shows, Turns, catalog_family, catalog_rows, item_rows, index_rows, one_column, table_row, next_row, creation_changes, drop_changes}
+use Rattle.alt_tables.specs.StateRows.{HasMoment, IsHeldWhole, Shows, Turns, catalog_family, catalog_rows, item_rows, index_rows, change_rows, one_column, table_row, next_row, creation_changes, drop_changes}
 use Rattle.alt_tables.proofs.ChangeLaws.{tied, itself, one_change, two_changes, other_family}
 use Rattle.alt_views.proofs.ItemRowLaws.{can_show}
 use Rattle.alt_views.specs.IndexRows.{index_columns}
 use Rattle.alt_tables.proofs.OneState.{some, nameless}
 use Rattle.alt_tables.proofs.IndexFamilies.{index_family}
-use Rattle.alt_tables.proofs.WriteLaws.{family_within, index_within}
+use Rattle.alt_tables.proofs.StreamShows.{stream_family}
+use Rattle.alt_tables.proofs.WriteLaws.{family_within, index_within, stream_within}
 
 -- a row of one column can be shown
 pub one_can_show : (name value : List ℕ) → CanShow (Some (one_column name value))
@@ -150,6 +154,24 @@ module _ (l : Layout) (s : State) (shows : Shows l s) (valid : IsValid s) where
         elsewhere i.family key (index_within s other u (valid.tables other u at) n i at_index).0
         ∙ shows.indexes other u n i at at_index key
 
+    changes_after : (other : List ℕ) (u : Table) (b : Bool) → eq_by_cmp key_cmp other d.name ≡ b
+        → cond b (Some (new_table d)) (map.get s.tables other) ≡ Some u → (g : ℕ)
+        → u.description.stream_family ≡ Some g
+        → (key : List ℕ) → shown (with_write l w) g key ≡ change_rows u key
+    changes_after other u true e at g stream key =
+        subst (λ u. u.description.stream_family ≡ Some g
+        → shown (with_write l w) g key ≡ change_rows u key) (some _ _ at)
+        (λ stream. let is = of_contained (λ f. (d.family ≤ f) × (f < d.family + length (families_of d)))
+        (families_of d) g (families_within d new) (stream_family d g stream) in
+        elsewhere g key
+        (let low = valid.next_family.0 in omega (arith, low, family, is.0))
+        ∙ shows.beyond g key (omega (arith, family, is.0))
+        ∙ sym (ap (option_map change_columns)
+        (map.get-from_sorted {X = Change} key_cmp [] key tt))) stream
+    changes_after other u false e at g stream key =
+        elsewhere g key (stream_within s other u (valid.tables other u at) g stream).0
+        ∙ shows.changes other u g at stream key
+
     -- the rows are then those of the state with the table
     pub shows_creation : Shows (with_write l w) (with_table s d)
     shows_creation = record {
@@ -160,6 +182,8 @@ module _ (l : Layout) (s : State) (shows : Shows l s) (valid : IsValid s) where
       indexes = λ other u n i at at_index key. indexes_after other u
           (eq_by_cmp key_cmp other d.name) refl
           (sym (map.get-insert key_total s.tables d.name (new_table d) other) ∙ at) n i at_index key;
+      changes = λ other u g at stream key. changes_after other u (eq_by_cmp key_cmp other d.name) refl
+          (sym (map.get-insert key_total s.tables d.name (new_table d) other) ∙ at) g stream key;
       beyond = λ f key high. elsewhere f key
           (let low = valid.next_family.0 in omega (arith, low, family, high))
           ∙ shows.beyond f key (omega (arith, family, high));
@@ -218,6 +242,16 @@ module _ (l : Layout) (s : State) (shows : Shows l s) (valid : IsValid s) where
         kept i.family key (index_within s other u (valid.tables other u at_other) n i at_index).0
         ∙ shows.indexes other u n i at_other at_index key
 
+    changes_without : (other : List ℕ) (u : Table) (b : Bool)
+        → cond b None (map.get s.tables other) ≡ Some u → (g : ℕ)
+        → u.description.stream_family ≡ Some g
+        → (key : List ℕ) → shown (with_write l w) g key ≡ change_rows u key
+    changes_without other u true at_other g stream key =
+        absurd (let n : None ≡ Some u = at_other in cc n)
+    changes_without other u false at_other g stream key =
+        kept g key (stream_within s other u (valid.tables other u at_other) g stream).0
+        ∙ shows.changes other u g at_other stream key
+
     -- the rows are then those of the state without it
     pub shows_drop : Shows (with_write l w) (without_table s name)
     shows_drop = record {
@@ -228,6 +262,9 @@ module _ (l : Layout) (s : State) (shows : Shows l s) (valid : IsValid s) where
       indexes = λ other u n i at_other at_index key. indexes_without other u
           (eq_by_cmp key_cmp other name)
           (sym (map.get-remove key_total s.tables name other) ∙ at_other) n i at_index key;
+      changes = λ other u g at_other stream key. changes_without other u
+          (eq_by_cmp key_cmp other name)
+          (sym (map.get-remove key_total s.tables name other) ∙ at_other) g stream key;
       beyond = λ f key high. kept f key (let low = valid.next_family.0 in omega (arith, low, high))
           ∙ shows.beyond f key high;
     }
@@ -268,7 +305,16 @@ creation_turns s d after counted valid held absent made new is_held number famil
                     (ap (λ (x : Table). map.get x.items q) made.1 ∙ here))
                 | inr old ↦ held.items.items other q u item old here
               ];
+          changes = λ other u at. elim (at_insert s.tables d.name other u (new_table d) at) [
+            | inl made ↦ subst (λ (x : Table). All IsHeldChange x.changes) made.1
+                (All-nil IsHeldChange)
+            | inr old ↦ held.items.changes other u old
+          ];
         };
+        moments = λ other u at. elim (at_insert s.tables d.name other u (new_table d) at) [
+          | inl made ↦ subst (λ (x : Table). All HasMoment x.changes) made.1 (All-nil HasMoment)
+          | inr old ↦ held.moments other u old
+        ];
         descriptions = λ other u at. elim (at_insert s.tables d.name other u (new_table d) at) [
           | inl made ↦ subst (λ (x : Table). IsHeld x.description) made.1 is_held
           | inr old ↦ held.descriptions other u old
@@ -289,7 +335,9 @@ drop_turns s name t valid held room at = record {
     items = record {
       items = λ other q u item at here. held.items.items other q u item
           (at_remove s.tables name other u at) here;
+      changes = λ other u at. held.items.changes other u (at_remove s.tables name other u at);
     };
+    moments = λ other u at. held.moments other u (at_remove s.tables name other u at);
     descriptions = λ other u at. held.descriptions other u (at_remove s.tables name other u at);
   };
 }

@@ -17,7 +17,7 @@ use Rattle.alt_schema.specs.Held.{IsHeld}
 use Rattle.alt_schema.specs.declared.schema.TableSchema.{TableSchema}
 use Rattle.alt_schema.proofs.WholeDescriptions.{one_spelling}
 use Rattle.alt_views.specs.ItemRows.{item_columns}
-use Rattle.alt_tables.specs.Opening.{AssembledTables, IsCatalog, IsGood, AreApart}
+use Rattle.alt_tables.specs.Opening.{AssembledRows, IsCatalog, IsGood, AreApart}
 use Rattle.alt_tables.specs.Recovery.{Agrees, IsBefore, IsUpTo, IsFirstWrong}
 use Rattle.alt_tables.specs.Scans.{IsItemAt, IsFirstBad, ItemsRead}
 use Rattle.alt_tables.specs.StateRows.{catalog_family, table_row, next_row}
@@ -115,7 +115,7 @@ module _ (l : Layout) (Here : ℕ → List ℕ → Type 0) (r : State) (agrees :
 -- a state of the rows before one, taken alone, agrees there
 pub agrees_before : (l : Layout) (family : ℕ) (key : List ℕ) (next : ℕ)
     (catalog : Texts TableSchema) (s : State)
-    → AssembledTables (cut (before_row family key) l) next catalog s
+    → AssembledRows (cut (before_row family key) l) next catalog s
     → Agrees (λ f k. IsBefore f k family key) l s
 agrees_before l family key next catalog s made = record {
   number = made.agrees.number;

@@ -23,7 +23,7 @@ use Rattle.alt_views.specs.Batches.{AreNew, AreOfOwnFamilies}
 use Rattle.alt_views.specs.IndexRows.{changes_in, index_changes, row_in_index}
 
 -- the families of the indexes of a table
-abbrev index_families : TableSchema → List ℕ
+abbrev pub index_families : TableSchema → List ℕ
 index_families d = map (λ (i : IndexSchema). i.family) (indexes d)
 
 -- that of its stream, if it has one
@@ -31,7 +31,7 @@ abbrev stream_families : TableSchema → List ℕ
 stream_families d = option_map_or (λ f. f ∷ []) d.stream_family []
 
 -- they stand behind the table's own
-index_at_families : (d : TableSchema) (n : ℕ) (i : IndexSchema)
+pub index_at_families : (d : TableSchema) (n : ℕ) (i : IndexSchema)
     → index_at d (Some n) ≡ Some i → slice_get (families_of d) (suc n) ≡ Some i.family
 index_at_families d n i at = front (index_families d) n i.family
     (slice_get-map (λ (i : IndexSchema). i.family) (indexes d) n

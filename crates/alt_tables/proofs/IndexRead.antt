@@ -51,11 +51,11 @@ module _ (l : Layout) (s : State) (agrees : AgreesWhole l s) (name : List ℕ) (
   item_there : (place : List ℕ) (item : List Pair) → map.get t.items place ≡ Some item
       → IsItemThere l t.description place item
   item_there place item here = record {
-    shows = agrees.items name t at place tt ∙ ap (option_map item_columns) here;
-    stored = (agrees.valid.tables name t at).items place item here;
+    shows = agrees.rows.items name t at place tt ∙ ap (option_map item_columns) here;
+    stored = (agrees.rows.valid.tables name t at).items place item here;
     read = record {
-      whole = has_whole s agrees.valid agrees.held name t at place item here;
-      depth = ((agrees.valid.tables name t at).items place item here).depth;
+      whole = has_whole s agrees.rows.valid agrees.rows.held name t at place item here;
+      depth = ((agrees.rows.valid.tables name t at).items place item here).depth;
     };
   }
 
@@ -66,11 +66,11 @@ module _ (l : Layout) (s : State) (agrees : AgreesWhole l s) (name : List ℕ) (
     where
       by : (o : Option (List Pair)) → map.get t.items place ≡ o → o ≡ Some item
       by None e = absurd (let no : None ≡ Some (item_columns item) =
-          sym (agrees.items name t at place tt ∙ ap (option_map item_columns) e) ∙ there.shows in
+          sym (agrees.rows.items name t at place tt ∙ ap (option_map item_columns) e) ∙ there.shows in
           cc no)
       by (Some x) e = ap (λ y. Some y) (item_columns-one x item (item_there place x e).read.whole
           there.read.whole
-          (some _ _ (sym (agrees.items name t at place tt ∙ ap (option_map item_columns) e)
+          (some _ _ (sym (agrees.rows.items name t at place tt ∙ ap (option_map item_columns) e)
           ∙ there.shows)))
 
   -- ---- an index of it
@@ -78,8 +78,8 @@ module _ (l : Layout) (s : State) (agrees : AgreesWhole l s) (name : List ℕ) (
   module _ (i : IndexSchema) where
     apart : AreApart (index_entry t.description i) t.items
     apart = index_apart t.description i t.items (λ place item here. (
-      (agrees.valid.tables name t at).items place item here,
-      agrees.held.items.items name place t item at here,
+      (agrees.rows.valid.tables name t at).items place item here,
+      agrees.rows.held.items.items name place t item at here,
     ))
 
     -- a row that an item has is that of the index's items

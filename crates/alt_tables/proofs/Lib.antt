@@ -11,6 +11,9 @@ pub mod ChangeLaws
 pub mod Moving
 pub mod IndexFamilies
 pub mod IndexShows
+pub mod StreamKeys
+pub mod StreamShows
+pub mod ChangePages
 pub mod OneState
 pub mod IndexKeys
 pub mod IndexRead
@@ -34,6 +37,9 @@ pub mod FirstWrong
 pub mod WrongTable
 pub mod GoodLaws
 pub mod CatalogSteps
+pub mod StreamList
+pub mod StreamState
+pub mod StreamSteps
 pub mod TableSteps
 pub mod IndexSteps
 pub mod IndexState

@@ -1,5 +1,5 @@
 -- The writes of the tables: what they leave is what the machine's writes leave.
-use Rattle.std.proofs.Common.{◌≡◌, refl, sym, ap, subst, ◌∙◌, ℕ, ◌+◌, ◌<◌, ◌≤◌, false, length, List, [], ◌∷◌, Option, Some, None, Err, Result, IfSome, arith}
+use Rattle.std.proofs.Common.{◌≡◌, refl, sym, ap, subst, ◌∙◌, ℕ, ◌+◌, ◌<◌, ◌≤◌, ◌^◌, false, length, List, [], ◌∷◌, Option, Some, None, Err, Result, IfSome, arith}
 use Rattle.std.specs.Prelude.{if◌then◌else◌, ◌-◌, IsSome}
 use Rattle.std.specs.Result.{IsErrAnd}
 use Rattle.std.proofs.lemmas.Bool.{false≢true}
@@ -92,20 +92,23 @@ module _ (before : DiskState) (old : Tables) (s : State) (t : Table) (stands : S
       (ap (λ o. is_same o to) (sym there) ∙ differ)
 
   -- its row change turns the rows of the state into those of the state after it
-  pub item_turned : (d : TableSchema) (batch : List RowChange)
-      → map.get (catalog_of old) name ≡ Some d → batch ≡ item_changes d place found to
-      → number_of old < NUMBERS_END → IfSome to (IsStored d place) → IfSome to IsItemOfValues
+  pub item_turned : (d : TableSchema) (number : ℕ) (batch : List RowChange)
+      → map.get (catalog_of old) name ≡ Some d → number ≡ number_of old
+      → batch ≡ item_changes d number moment place found to
+      → number_of old < NUMBERS_END → is_same found to ≡ false
+      → IfSome to (IsStored d place) → IfSome to IsItemOfValues → moment < 2 ^ 64
       → Turns batch s after
-  item_turned d batch described is room stored given =
+  item_turned d number batch described numbered is room differ stored given fits =
       let same : t.description ≡ d = same_Some _ _
       (sym (known before old s name t stands at) ∙ described) in
       subst (λ cs. Turns cs s after)
-      (ap (λ o. item_changes t.description place o to) (sym there)
-      ∙ ap (λ d. item_changes d place found to) same ∙ sym is)
+      (ap (λ o. item_changes t.description s.next_number moment place o to) (sym there)
+      ∙ (λ i. item_changes (same i) (sym (numbered ∙ stands.number) i) moment place found to)
+      ∙ sym is)
       (item_turns s moment name t place to stands.valid stands.rows.held
-      (omega (arith, room, stands.number)) at
+      (omega (arith, room, stands.number)) at (ap (λ o. is_same o to) (sym there) ∙ differ)
       (λ item e. subst (λ d. IsStored d place item) (sym same)
-      (of_some (IsStored d place) to item stored e)) given)
+      (of_some (IsStored d place) to item stored e)) given fits)
 
   -- the tables stand for that
   pub item_stands : (now : DiskState) (new : Tables) → Holds now new.engine after → IsValid after

@@ -15,10 +15,13 @@ use Rattle.alt_machine.specs.State.{State, Table}
 use Rattle.alt_machine.specs.Valid.{IsTable, IsValid}
 use Rattle.alt_schema.specs.Format.{description_bytes}
 use Rattle.alt_schema.specs.Rules.{is_name}
+use Rattle.alt_schema.specs.declared.schema.TableSchema.{TableSchema}
 use Rattle.alt_schema.proofs.WholeDescriptions.{one_spelling}
 use Rattle.alt_tables.specs.Images.{StandsFor}
 use Rattle.alt_tables.specs.Recovery.{Agrees, AgreesWhole}
 use Rattle.alt_views.specs.ItemRows.{item_columns}
+use Rattle.alt_tables.proofs.StreamKeys.{changes-one}
+use Rattle.alt_tables.proofs.StreamShows.{are_kept, are_small}
 use Rattle.alt_tables.specs.StateRows.{Shows, IsHeldWhole, item_rows, table_row, next_row, one_column}
 use Rattle.alt_views.proofs.ItemRowLaws.{item_columns-one}
 use Rattle.alt_value.specs.Tree.{Pair}
@@ -85,24 +88,48 @@ module _ (l : Layout) (s r : State) (agrees_s : AgreesWhole l s) (agrees_r : Agr
     (small_s : s.next_family < 2 ^ 32) (small_r : r.next_family < 2 ^ 32) where
   next_families : s.next_family ≡ r.next_family
   next_families = next_row-one s.next_family r.next_family small_s small_r
-      (sym (agrees_s.catalog [] tt) ∙ agrees_r.catalog [] tt)
+      (sym (agrees_s.rows.catalog [] tt) ∙ agrees_r.rows.catalog [] tt)
+
+  -- the changes of tables of one description are those of their rows
+  same_changes : (name : List ℕ) (t u : Table) → map.get s.tables name ≡ Some t
+      → map.get r.tables name ≡ Some u → t.description ≡ u.description → (o : Option ℕ)
+      → t.description.stream_family ≡ o → t.changes ≡ u.changes
+  same_changes name t u at_t at_u descriptions None none =
+      (agrees_s.rows.valid.tables name t at_t).changes.none none
+      ∙ sym ((agrees_r.rows.valid.tables name u at_u).changes.none
+      (ap (λ (d : TableSchema). d.stream_family) (sym descriptions) ∙ none))
+  same_changes name t u at_t at_u descriptions (Some f) stream =
+      let list_t = (agrees_s.rows.valid.tables name t at_t).changes in
+      let list_u = (agrees_r.rows.valid.tables name u at_u).changes in
+      changes-one t.changes u.changes
+      (are_small t.description s.next_number t.changes
+      (let last = agrees_s.rows.valid.next_number.1 in omega (arith, last)) list_t)
+      (are_small u.description r.next_number u.changes
+      (let last = agrees_r.rows.valid.next_number.1 in omega (arith, last)) list_u)
+      list_t.rise list_u.rise
+      (are_kept s agrees_s.rows.valid agrees_s.rows.held name t at_t)
+      (are_kept r agrees_r.rows.valid agrees_r.rows.held name u at_u)
+      (λ key. sym (agrees_s.changes name t f at_t stream key)
+      ∙ agrees_r.changes name u f at_u
+      (ap (λ (d : TableSchema). d.stream_family) (sym descriptions) ∙ stream) key)
 
   -- tables of one name are one
   one_table : (name : List ℕ) (t u : Table) → map.get s.tables name ≡ Some t
       → map.get r.tables name ≡ Some u
       → description_bytes t.description ≡ description_bytes u.description → t ≡ u
   one_table name t u at_t at_u same =
-      let is_t : IsTable s name t = agrees_s.valid.tables name t at_t in
-      let is_u : IsTable r name u = agrees_r.valid.tables name u at_u in
+      let is_t : IsTable s name t = agrees_s.rows.valid.tables name t at_t in
+      let is_u : IsTable r name u = agrees_r.rows.valid.tables name u at_u in
       let descriptions : t.description ≡ u.description = one_spelling t.description u.description
-      is_t.made.whole (agrees_s.held.descriptions name t at_t)
-      is_u.made.whole (agrees_r.held.descriptions name u at_u) same in
+      is_t.made.whole (agrees_s.rows.held.descriptions name t at_t)
+      is_u.made.whole (agrees_r.rows.held.descriptions name u at_u) same in
       let items : t.items ≡ u.items = items-one t u
-      (has_whole s agrees_s.valid agrees_s.held name t at_t)
-      (has_whole r agrees_r.valid agrees_r.held name u at_u)
-      (λ key. sym (agrees_s.items name t at_t key tt)
-      ∙ ap (λ d. shown l d.family key) descriptions ∙ agrees_r.items name u at_u key tt) in
-      let changes : t.changes ≡ u.changes = is_t.changes ∙ sym is_u.changes in
+      (has_whole s agrees_s.rows.valid agrees_s.rows.held name t at_t)
+      (has_whole r agrees_r.rows.valid agrees_r.rows.held name u at_u)
+      (λ key. sym (agrees_s.rows.items name t at_t key tt)
+      ∙ ap (λ d. shown l d.family key) descriptions ∙ agrees_r.rows.items name u at_u key tt) in
+      let changes : t.changes ≡ u.changes =
+      same_changes name t u at_t at_u descriptions t.description.stream_family refl in
       λ i. record { description = descriptions i; items = items i; changes = changes i }
 
   at_name : (name : List ℕ) (o p : Option Table) → map.get s.tables name ≡ o
@@ -121,14 +148,14 @@ module _ (l : Layout) (s r : State) (agrees_s : AgreesWhole l s) (agrees_r : Agr
       → map.get s.tables name ≡ map.get r.tables name
   by_name [] b e = named_s ∙ sym named_r
   by_name (c ∷ cs) b e = at_name (c ∷ cs) _ _ refl refl
-      (sym (agrees_s.catalog (c ∷ cs) tt) ∙ agrees_r.catalog (c ∷ cs) tt)
+      (sym (agrees_s.rows.catalog (c ∷ cs) tt) ∙ agrees_r.rows.catalog (c ∷ cs) tt)
 
   -- the rows show one state at most
   one_shown : s ≡ r
   one_shown =
       let tables : s.tables ≡ r.tables =
       map.same_map key_total key_exact _ _ (λ name. by_name name _ refl) in
-      let numbers : s.next_number ≡ r.next_number = sym agrees_s.number ∙ agrees_r.number in
+      let numbers : s.next_number ≡ r.next_number = sym agrees_s.rows.number ∙ agrees_r.rows.number in
       λ i. record { tables = tables i; next_number = numbers i; next_family = next_families i }
 
 -- no table of a valid state has the empty name
@@ -142,12 +169,12 @@ nameless s valid = by_table (map.get s.tables []) refl
         let spelled : is_name [] ≡ true = ap is_name (sym table.named) ∙ table.made.spelled in
         absurd (false≢true spelled)
 
--- Rows of the catalog and of tables are those of one valid state at most.
+-- Rows of the catalog, of tables and of streams are those of one valid state at most.
 pub one_agrees : (l : Layout) (s r : State) → AgreesWhole l s → AgreesWhole l r → s ≡ r
 one_agrees l s r agrees_s agrees_r =
-    one_shown l s r agrees_s agrees_r (nameless s agrees_s.valid) (nameless r agrees_r.valid)
-    (let last = agrees_s.valid.next_family.1 in omega (arith, last))
-    (let last = agrees_r.valid.next_family.1 in omega (arith, last))
+    one_shown l s r agrees_s agrees_r (nameless s agrees_s.rows.valid) (nameless r agrees_r.rows.valid)
+    (let last = agrees_s.rows.valid.next_family.1 in omega (arith, last))
+    (let last = agrees_r.rows.valid.next_family.1 in omega (arith, last))
 
 -- where rows show a state, those of some places are its rows
 pub agrees_all : (Here : ℕ → List ℕ → Type 0) (l : Layout) (s : State) → Shows l s → IsValid s
@@ -161,12 +188,19 @@ agrees_all Here l s shows valid held = record {
   held = held;
 }
 
+-- and so are all, with those of streams
+pub agrees_whole : (l : Layout) (s : State) → Shows l s → IsValid s → IsHeldWhole s
+    → AgreesWhole l s
+agrees_whole l s shows valid held = record {
+  rows = agrees_all (λ f k. Unit {0}) l s shows valid held;
+  changes = shows.changes;
+}
+
 -- So rows show one valid state at most.
 pub one_state : (l : Layout) (s r : State) → Shows l s → Shows l r → IsValid s → IsValid r
     → IsHeldWhole s → IsHeldWhole r → s ≡ r
 one_state l s r shows_s shows_r valid_s valid_r held_s held_r = one_agrees l s r
-    (agrees_all (λ f k. Unit {0}) l s shows_s valid_s held_s)
-    (agrees_all (λ f k. Unit {0}) l r shows_r valid_r held_r)
+    (agrees_whole l s shows_s valid_s held_s) (agrees_whole l r shows_r valid_r held_r)
 
 -- An image stands for at most one state.
 pub one_state_of_image : (image : ℕ → Option (List ℕ)) (s r : State) → StandsFor image s

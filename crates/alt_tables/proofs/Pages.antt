@@ -157,28 +157,28 @@ kept_row d i (p ∷ page) (x ∷ xs) (suc k) e kept within is =
 
 -- ---- entries of items as those of rows
 
-module _ (columns : List Pair → Columns) where
+module _ {X : Type 0} (columns : X → Columns) where
   -- the row of an item is shown
-  abbrev as_row : List Pair → Option Columns
+  abbrev as_row : X → Option Columns
   as_row item = Some (columns item)
 
   -- the row of an item at its place
-  abbrev row_at : List ℕ × List Pair → List ℕ × Columns
+  abbrev pub row_at : List ℕ × X → List ℕ × Columns
   row_at e = (e.0, columns e.1)
 
   -- the rows that are shown are those of all
-  shown_of-rows : (es : List (List ℕ × List Pair)) → shown_of as_row es ≡ map row_at es
+  shown_of-rows : (es : List (List ℕ × X)) → shown_of as_row es ≡ map row_at es
   shown_of-rows [] = refl
   shown_of-rows (e ∷ es) = ap (λ rows. row_at e ∷ rows) (shown_of-rows es)
 
   -- their columns
-  columns-rows : (es : List (List ℕ × List Pair))
+  columns-rows : (es : List (List ℕ × X))
       → map (λ (e : List ℕ × Columns). e.1) (map row_at es) ≡ map columns (map (λ e. e.1) es)
   columns-rows [] = refl
   columns-rows (e ∷ es) = ap (λ cs. columns e.1 ∷ cs) (columns-rows es)
 
   -- the row of an item that may not be there
-  row_of : (o : Option (List Pair)) → option_map columns o ≡ option_and_then as_row o
+  row_of : (o : Option X) → option_map columns o ≡ option_and_then as_row o
   row_of None = refl
   row_of (Some item) = refl
 
@@ -196,17 +196,17 @@ same_end (Some to) = refl
 -- ---- what holds of each item
 
 -- of each that is found, so of each entry
-each_found : (P : List ℕ × List Pair → Type 0) (es : List (List ℕ × List Pair))
+each_found : {X : Type 0} (P : List ℕ × X → Type 0) (es : List (List ℕ × X))
     → T (is_sorted key_cmp es)
-    → ((place : List ℕ) (item : List Pair) → find key_cmp place es ≡ Some item → P (place, item))
+    → ((place : List ℕ) (item : X) → find key_cmp place es ≡ Some item → P (place, item))
     → All P es
 each_found P [] sorted found = All-nil P
-each_found P (e ∷ es) sorted found = All-cons P e es
+each_found {X = X} P (e ∷ es) sorted found = All-cons P e es
     (found e.0 e.1 (ap (λ b. cond b (Some e.1) (find key_cmp e.0 es)) (itself e.0)))
     (each_found P es (second (below_all key_cmp e.0 es) _ sorted)
     (λ place item at. found place item (later place item at (eq_by_cmp key_cmp place e.0) refl)))
   where
-    later : (place : List ℕ) (item : List Pair) → find key_cmp place es ≡ Some item → (b : Bool)
+    later : (place : List ℕ) (item : X) → find key_cmp place es ≡ Some item → (b : Bool)
         → eq_by_cmp key_cmp place e.0 ≡ b → find key_cmp place (e ∷ es) ≡ Some item
     later place item at true same = absurd (let no : None ≡ Some item =
         sym (find_below key_cmp key_total e.0 es (first _ (is_sorted key_cmp es) sorted))
@@ -226,7 +226,7 @@ All-turned P false xs all = All-permutation P xs (reverse xs) (IsPermutation-rev
 
 -- ---- the rows of a family
 
-module _ (columns : List Pair → Columns) (l : Layout) (family : ℕ) (items : Texts (List Pair))
+module _ {X : Type 0} (columns : X → Columns) (l : Layout) (family : ℕ) (items : Texts X)
     (shows : (key : List ℕ) → shown l family key ≡ option_map columns (finite.get items key)) where
   -- the rows that the family shows
   abbrev rows : finite.FinMap key_cmp Columns
@@ -246,7 +246,7 @@ module _ (columns : List Pair → Columns) (l : Layout) (family : ℕ) (items : 
       → rows_between l family from to forward ≡ map (row_at columns) (turned forward
       (entries_between text_order (Included from) (end_bound to) (finite.entries items)))
   rows_between-items from to forward =
-      let within : List (List ℕ × List Pair) =
+      let within : List (List ℕ × X) =
       entries_between text_order (Included from) (end_bound to) (finite.entries items) in
       ap (λ end. rows_turned forward (entries_between key_cmp (Included from) end
       (finite.entries rows))) (same_end to)
@@ -261,8 +261,8 @@ module _ (columns : List Pair → Columns) (l : Layout) (family : ℕ) (items : 
 -- ---- the rows that a walk gave
 
 -- the items of a range with their places
-abbrev placed_between : Texts (List Pair) → List ℕ → Option (List ℕ) → Bool
-    → List (List ℕ × List Pair)
+abbrev pub placed_between : {X : Type 0} → Texts X → List ℕ → Option (List ℕ) → Bool
+    → List (List ℕ × X)
 placed_between items from to forward = turned forward
     (entries_between text_order (Included from) (end_bound to) (finite.entries items))
 
@@ -295,9 +295,9 @@ module _ (disk : DiskState) (tables : Tables) (s : State) (name : List ℕ) (t :
   same = same_table disk tables s name t d stands at known_as
 
   -- the rows of a walk over a family are those of the items there
-  page_rows : (family : ℕ) → (IsTrue disk.tells → (l : Layout) → EngineReads disk tables.engine l
+  pub page_rows : {X : Type 0} (family : ℕ) → (IsTrue disk.tells → (l : Layout) → EngineReads disk tables.engine l
       → page ≡ before ++ take most (rows_between l family from to forward))
-      → (columns : List Pair → Columns) (items : Texts (List Pair))
+      → (columns : X → Columns) (items : Texts X)
       → ((key : List ℕ) → shown stands.rows.layout family key
       ≡ option_map columns (finite.get items key))
       → page ≡ take most (map (row_at columns) (placed_between items from to forward))

@@ -27,7 +27,8 @@ use Rattle.alt_tables.specs.declared.faults.OpenFault.{OpenFault}
 use Rattle.alt_tables.specs.declared.faults.OpenFault.TheVariants.{Damaged, BadRow, Failed, NoMemory}
 use Rattle.alt_tables.specs.declared.tables.Tables.{Tables}
 use Rattle.alt_tables.proofs.Engine.{stays_quiet}
-use Rattle.alt_tables.proofs.OneState.{agrees_all, one_agrees, one_state_of_image}
+use Rattle.alt_tables.proofs.OneState.{agrees_all, agrees_whole, one_agrees, one_state_of_image}
+use Rattle.alt_tables.proofs.StreamState.{none_wrong_stream}
 
 -- ---- the number
 
@@ -112,9 +113,11 @@ pub none_wrong : (l : Layout) (family : ℕ) (key : List ℕ) → IsFirstWrong l
     → Shows l s → IsValid s → IsHeldWhole s → ⊥
 none_wrong l family key (inl first) s shows valid held = first.none s
     (agrees_all (λ f k. IsUpTo f k family key) l s shows valid held)
-none_wrong l family key (inr first) s shows valid held =
+none_wrong l family key (inr (inl first)) s shows valid held =
+    none_wrong_stream l s (agrees_whole l s shows valid held) family key first
+none_wrong l family key (inr (inr first)) s shows valid held =
     let one : first.state ≡ s = one_agrees l first.state s first.agrees
-    (agrees_all (λ f k. Unit {0}) l s shows valid held) in
+    (agrees_whole l s shows valid held) in
     first.wrong (shows.indexes first.name first.table first.number first.index
     (ap (λ (r : State). map.get r.tables first.name) (sym one) ∙ first.there) first.at key)
 

@@ -38,13 +38,18 @@ shows_start = record {
   catalog = λ key. nothing 0 key ∙ sym (no_catalog key);
   items = λ name t at key. no_table name t at;
   indexes = λ name t number i at at_index key. no_table name t at;
+  changes = λ name t family at stream key. no_table name t at;
   beyond = λ family key high. nothing family key;
 }
 
 -- Its items and descriptions, of which there are none, are held.
 pub held_start : IsHeldWhole start
 held_start = record {
-  items = record { items = λ name place t item at here. no_table name t at };
+  items = record {
+    items = λ name place t item at here. no_table name t at;
+    changes = λ name t at. no_table name t at;
+  };
+  moments = λ name t at. no_table name t at;
   descriptions = λ name t at. no_table name t at;
 }
 

@@ -6,9 +6,10 @@ use Rattle.alt_machine.specs.declared.TheConstants.{NUMBERS_END}
 use Rattle.alt_machine.specs.State.{Texts}
 use Rattle.alt_schema.specs.declared.schema.TableSchema.{TableSchema}
 use Rattle.alt_tables.specs.IndexScans.{IndexesRead, IsOwnFault}
-use Rattle.alt_tables.specs.Opening.{IsCatalog, IsIndexesFault, IsLeastTable, IsRowFault}
+use Rattle.alt_tables.specs.Opening.{IsCatalog, IsIndexesFault, IsLeastTable, IsRowFault, IsStreamsFault}
 use Rattle.alt_tables.specs.Recovery.{IsFirstWrong}
 use Rattle.alt_tables.specs.Scans.{IsDeviceFault, IsItemFault, ItemsRead}
+use Rattle.alt_tables.specs.StreamScans.{ChangesRead, IsStreamFault}
 use Rattle.alt_tables.specs.declared.faults.OpenFault.{OpenFault}
 use Rattle.alt_tables.specs.declared.faults.OpenFault.TheVariants.{Damaged, BadRow, Failed, NoMemory}
 use Rattle.alt_tables.proofs.FirstWrong.{known_family, same_table, item_wrong}
@@ -32,6 +33,10 @@ AreUpTo P catalog family = (name : List ℕ) (d : TableSchema) → map.get catal
 -- the items of the tables up to a family are read
 abbrev pub ReadUpTo : Layout → Texts TableSchema → ℕ → Type 0
 ReadUpTo l catalog family = AreUpTo (ItemsRead l) catalog family
+
+-- and their streams
+abbrev pub ChangesUpTo : Layout → Texts TableSchema → ℕ → Type 0
+ChangesUpTo l catalog family = AreUpTo (ChangesRead l) catalog family
 
 -- and their indexes
 abbrev pub IndexesUpTo : Layout → Texts TableSchema → ℕ → Type 0
@@ -79,6 +84,21 @@ module _ (l : Layout) (next : ℕ) (catalog : Texts TableSchema) (read : IsCatal
       (of_lesser (ItemsRead l) family so_far d least) key is.1)
   wrong_next family so_far d least Failed is = is
   wrong_next family so_far d least NoMemory is = is
+
+  -- one of its stream is the first of the streams
+  pub wrong_stream : (family : ℕ) → ChangesUpTo l catalog family → (d : TableSchema)
+      → IsLeastTable catalog family d → (fault : OpenFault) → IsStreamFault l d fault
+      → IsStreamsFault l catalog fault
+  wrong_stream family so_far d least (Damaged file at) is = is
+  wrong_stream family so_far d least (BadRow f key) is = record {
+    name = least.name;
+    description = d;
+    there = least.there;
+    first = is;
+    lesser = of_lesser (ChangesRead l) family so_far d least;
+  }
+  wrong_stream family so_far d least Failed is = is
+  wrong_stream family so_far d least NoMemory is = is
 
   -- and one of its indexes is the first of the indexes
   pub wrong_index : (family : ℕ) → IndexesUpTo l catalog family → (d : TableSchema)

@@ -1,7 +1,10 @@
 -- The rows of a state with the write of an item joined are the rows of the state after it.
-use Rattle.std.proofs.Common.{◌≡◌, ◌+◌, ◌<◌, ◌≤◌, ℕ, Bool, true, false, cond, List, [], ◌∷◌, Option, Some, None, IfSome, refl, sym, ap, subst, ◌∙◌, ◌⊎◌, inl, inr, Contains, arith}
+use Rattle.std.proofs.Common.{◌≡◌, ◌≢◌, ◌+◌, ◌<◌, ◌≤◌, ℕ, Bool, true, false, cond, List, [], ◌∷◌, Option, Some, None, IfSome, refl, sym, ap, subst, ◌∙◌, ◌⊎◌, inl, inr, Contains, arith}
 use Rattle.std.proofs.lemmas.Bool.{false≢true}
-use Rattle.std.specs.Prelude.{if◌then◌else◌, option_map}
+use Rattle.std.proofs.Common.{append-nil}
+use Rattle.std.proofs.lemmas.List.Elements.{All-push}
+use Rattle.std.specs.Option.{option_to_list}
+use Rattle.std.specs.Prelude.{if◌then◌else◌, ◌++◌, ◌^◌, is_some, option_map, All}
 use Rattle.std.specs.Ordering.{eq_by_cmp}
 use Rattle.std.specs.FinMap as map
 use Rattle.alt_cells.specs.declared.batch.RowChange.{RowChange}
@@ -9,13 +12,16 @@ use Rattle.alt_cells.specs.Changes.{change_between, written}
 use Rattle.alt_cells.specs.Keys.{key_cmp}
 use Rattle.alt_cells.proofs.CellLaws.{key_total}
 use Rattle.alt_cells.proofs.ChangeLaws.{written-change_between}
+use Rattle.alt_changes.specs.ChangeRows.{row_changes}
 use Rattle.alt_engine.specs.InHand.{batch_write}
 use Rattle.alt_engine.specs.Layout.{Layout, Write, with_write, shown, shown_by, change_of, ShowsWrite}
 use Rattle.alt_engine.proofs.LayoutLaws.{shows_write}
 use Rattle.alt_machine.specs.declared.TheConstants.{NUMBERS_END}
+use Rattle.alt_machine.specs.Changes.{change_left}
+use Rattle.alt_machine.specs.Same.{is_same}
 use Rattle.alt_machine.specs.Sources.{index_at}
-use Rattle.alt_machine.specs.State.{State, Table, Texts, families_of}
-use Rattle.alt_machine.specs.Valid.{IsStored, IsTable, IsValid, IsHeldState}
+use Rattle.alt_machine.specs.State.{State, Table, Texts, Change, families_of}
+use Rattle.alt_machine.specs.Valid.{AreChanges, IsStored, IsTable, IsValid, IsHeldChange, IsHeldState}
 use Rattle.alt_machine.specs.Writes.{with_item, with_write as with_row, after_item}
 use Rattle.alt_machine.proofs.Families.{of_contained}
 use Rattle.alt_machine.proofs.Indexing.{index_apart}
@@ -26,10 +32,11 @@ use Rattle.alt_schema.specs.Indexes.{indexes}
 use Rattle.alt_schema.specs.declared.schema.IndexSchema.{IndexSchema}
 use Rattle.alt_schema.specs.declared.schema.TableSchema.{TableSchema}
 use Rattle.alt_views.specs.ItemRows.{item_columns}
-use Rattle.alt_tables.specs.StateRows.{IsHeldWhole, Shows, Turns, catalog_family, catalog_rows, item_rows, index_rows, table_row, next_row, item_changes}
-use Rattle.alt_tables.proofs.ChangeLaws.{tied, itself, one_change, other_family, AreOthers, change_of-none, change_of-front}
+use Rattle.alt_tables.specs.StateRows.{HasMoment, IsHeldWhole, Shows, Turns, catalog_family, catalog_rows, item_rows, index_rows, change_rows, table_row, next_row, item_changes}
+use Rattle.alt_tables.proofs.ChangeLaws.{tied, itself, one_change, other_family, AreOthers, others-append, change_of-none, change_of-front, change_of-behind}
 use Rattle.alt_tables.proofs.IndexShows.{change_of-index, index_shows}
 use Rattle.alt_tables.proofs.IndexFamilies.{index_family, index_family_differs, own_families, others-index_changes}
+use Rattle.alt_tables.proofs.StreamShows.{others-row_changes, stream_family, stream_family_differs, stream_index_differs, stream_shows}
 use Rattle.alt_views.specs.IndexRows.{index_changes}
 use Rattle.alt_views.proofs.ItemRowLaws.{items_can_show}
 use Rattle.alt_tables.proofs.OneState.{some}
@@ -59,9 +66,16 @@ pub index_within : (s : State) (name : List ℕ) (t : Table) → IsTable s name 
 index_within s name t is n i at = of_contained (λ f. (1 ≤ f) × (f < s.next_family))
     (families_of t.description) i.family is.families (index_family t.description n i at)
 
+-- and so does that of the stream
+pub stream_within : (s : State) (name : List ℕ) (t : Table) → IsTable s name t → (f : ℕ)
+    → t.description.stream_family ≡ Some f → (1 ≤ f) × (f < s.next_family)
+stream_within s name t is f stream = of_contained (λ f. (1 ≤ f) × (f < s.next_family))
+    (families_of t.description) f is.families (stream_family t.description f stream)
+
 module _ (l : Layout) (s : State) (shows : Shows l s) (valid : IsValid s) (held : IsHeldState s)
     (moment : ℕ) (name : List ℕ) (t : Table) (at : map.get s.tables name ≡ Some t)
-    (place : List ℕ) (new : Option (List Pair))
+    (place : List ℕ) (new : Option (List Pair)) (room : s.next_number < NUMBERS_END)
+    (differ : is_same (map.get t.items place) new ≡ false)
     (stored : (item : List Pair) → new ≡ Some item → IsStored t.description place item)
     (given : IfSome new IsItemOfValues) where
   abbrev change : RowChange
@@ -105,13 +119,33 @@ module _ (l : Layout) (s : State) (shows : Shows l s) (valid : IsValid s) (held 
   is_table : IsTable s name t
   is_table = valid.tables name t at
 
-  -- none of those changes is of the table's own family
-  index_part_apart : AreOthers t.description.family index_part
-  index_part_apart = others-index_changes t.description (map.get t.items place) new
-      t.description.family (indexes t.description)
-      (λ n i at same. index_family_differs t.description is_table.differ n i at (sym same))
+  -- and what the stream keeps
+  abbrev stream_part : List RowChange
+  stream_part = row_changes t.description
+      (change_left s.next_number moment (map.get t.items place) new)
 
-  module _ (w : Write) (changes : w.changes ≡ change ∷ index_part)
+  -- changes of index rows are of none but their families
+  index_part_apart : (family : ℕ)
+      → ((n : ℕ) (i : IndexSchema) → index_at t.description (Some n) ≡ Some i → i.family ≢ family)
+      → AreOthers family index_part
+  index_part_apart family apart = others-index_changes t.description (map.get t.items place) new
+      family (indexes t.description) apart
+
+  -- and that of the stream's row, of the stream's
+  stream_part_apart : (family : ℕ)
+      → ((f : ℕ) → t.description.stream_family ≡ Some f → f ≢ family) → AreOthers family stream_part
+  stream_part_apart family apart = others-row_changes t.description
+      (change_left s.next_number moment (map.get t.items place) new) family apart
+
+  -- none of those changes is of the table's own family
+  rest_apart : AreOthers t.description.family (index_part ++ stream_part)
+  rest_apart = others-append t.description.family index_part stream_part
+      (index_part_apart t.description.family
+      (λ n i at same. index_family_differs t.description is_table.differ n i at (sym same)))
+      (stream_part_apart t.description.family
+      (λ f stream same. stream_family_differs t.description is_table.differ f stream (sym same)))
+
+  module _ (w : Write) (changes : w.changes ≡ change ∷ (index_part ++ stream_part))
       (numbered : w.number ≡ l.next_number) (law : ShowsWrite l w) where
     -- families that aren't the table's show what they showed
     elsewhere : (family : ℕ) (key : List ℕ)
@@ -119,13 +153,17 @@ module _ (l : Layout) (s : State) (shows : Shows l s) (valid : IsValid s) (held 
         → shown (with_write l w) family key ≡ shown l family key
     elsewhere family key other = law family key ∙ ap (λ c. shown_by c (shown l family key))
         (ap (change_of family key) changes
-        ∙ other_family change index_part family key
+        ∙ other_family change (index_part ++ stream_part) family key
         (λ same. other (subst (Contains (families_of t.description)) same
         (own_family t.description)))
-        ∙ change_of-none family key index_part (others-index_changes t.description
-        (map.get t.items place) new family (indexes t.description)
+        ∙ change_of-none family key (index_part ++ stream_part)
+        (others-append family index_part stream_part
+        (index_part_apart family
         (λ n i at same. other (subst (Contains (families_of t.description)) same
-        (index_family t.description n i at)))))
+        (index_family t.description n i at))))
+        (stream_part_apart family
+        (λ f stream same. other (subst (Contains (families_of t.description)) same
+        (stream_family t.description f stream))))))
 
     -- and the table's shows the new item at its place
     here : (key : List ℕ) → shown (with_write l w) t.description.family key
@@ -133,7 +171,8 @@ module _ (l : Layout) (s : State) (shows : Shows l s) (valid : IsValid s) (held 
     here key = law t.description.family key
         ∙ ap (λ c. shown_by c (shown l t.description.family key))
         (ap (change_of t.description.family key) changes
-        ∙ change_of-front t.description.family key (change ∷ []) index_part index_part_apart
+        ∙ change_of-front t.description.family key (change ∷ []) (index_part ++ stream_part)
+        rest_apart
         ∙ one_change change key)
         ∙ ap (shown_by (cond (eq_by_cmp key_cmp key place) (Some change) None))
         (shows.items name t at key)
@@ -162,8 +201,11 @@ module _ (l : Layout) (s : State) (shows : Shows l s) (valid : IsValid s) (held 
           values_after q item here,
         )))
         (λ key. ap (change_of i.family key) changes
-        ∙ other_family change index_part i.family key
+        ∙ other_family change (index_part ++ stream_part) i.family key
         (index_family_differs t.description is_table.differ n i at_index)
+        ∙ change_of-front i.family key index_part stream_part (stream_part_apart i.family
+        (λ f stream same. stream_index_differs t.description is_table.differ n i at_index f stream
+        (sym same)))
         ∙ change_of-index t.description (map.get t.items place) new (indexes t.description) n i
         (own_families t.description is_table.differ) at_index key)
         (shows.indexes name t n i at at_index)
@@ -178,6 +220,25 @@ module _ (l : Layout) (s : State) (shows : Shows l s) (valid : IsValid s) (held 
             by_key None true given e = let no : None ≡ Some item = e in cc no
             by_key (Some x) true given e = subst IsItemOfValues (some x item e) given
             by_key to false given e = held.items name q t item at e
+
+    -- the changes are as they have to be
+    after_changes : AreChanges t.description (s.next_number + 1) changed.changes
+    after_changes = ((after_item_valid s moment name t place new valid room at differ stored).tables
+        name changed (map.get-insert key_total s.tables name changed name
+        ∙ ap (λ b. cond b (Some changed) (map.get s.tables name)) (itself name))).changes
+
+    -- that of the stream shows the change then
+    behind : (f : ℕ) → t.description.stream_family ≡ Some f
+        → (key : List ℕ) → shown (with_write l w) f key ≡ change_rows changed key
+    behind f stream = stream_shows t.description f stream s.next_number moment
+        (map.get t.items place) new differ l w law t.changes is_table.changes
+        after_changes room
+        (λ key. ap (change_of f key) changes
+        ∙ other_family change (index_part ++ stream_part) f key
+        (stream_family_differs t.description is_table.differ f stream)
+        ∙ change_of-behind f key index_part stream_part (index_part_apart f
+        (λ n i at_index. stream_index_differs t.description is_table.differ n i at_index f stream)))
+        (shows.changes name t f at stream)
 
     -- the families of another table aren't those of this one
     apart_from : (other : List ℕ) (u : Table) (family : ℕ) → map.get s.tables other ≡ Some u
@@ -211,6 +272,18 @@ module _ (l : Layout) (s : State) (shows : Shows l s) (valid : IsValid s) (held 
         (index_family u.description n i at_index))
         ∙ shows.indexes other u n i at_other at_index key
 
+    changes_after : (other : List ℕ) (u : Table) (b : Bool) → eq_by_cmp key_cmp other name ≡ b
+        → cond b (Some changed) (map.get s.tables other) ≡ Some u → (f : ℕ)
+        → u.description.stream_family ≡ Some f
+        → (key : List ℕ) → shown (with_write l w) f key ≡ change_rows u key
+    changes_after other u true e at_other f stream key =
+        subst (λ u. u.description.stream_family ≡ Some f
+        → shown (with_write l w) f key ≡ change_rows u key)
+        (some _ _ at_other) (λ stream. behind f stream key) stream
+    changes_after other u false e at_other f stream key =
+        elsewhere f key (apart_from other u f at_other e (stream_family u.description f stream))
+        ∙ shows.changes other u f at_other stream key
+
     -- the rows are then those of the state with the item
     pub shows_item : Shows (with_write l w) after
     shows_item = record {
@@ -223,6 +296,9 @@ module _ (l : Layout) (s : State) (shows : Shows l s) (valid : IsValid s) (held 
       indexes = λ other u n i at_other at_index key. indexes_after other u
           (eq_by_cmp key_cmp other name) refl
           (sym (map.get-insert key_total s.tables name changed other) ∙ at_other) n i at_index key;
+      changes = λ other u f at_other stream key. changes_after other u
+          (eq_by_cmp key_cmp other name) refl
+          (sym (map.get-insert key_total s.tables name changed other) ∙ at_other) f stream key;
       beyond = λ family key high. elsewhere family key (λ of_table.
           let low = within_all family of_table in omega (arith, low.1, high))
           ∙ shows.beyond family key high;
@@ -231,12 +307,17 @@ module _ (l : Layout) (s : State) (shows : Shows l s) (valid : IsValid s) (held 
 -- a state with an item more is held, as far as the item is
 held_after : (s : State) (moment : ℕ) (name : List ℕ) (t : Table) (place : List ℕ)
     (new : Option (List Pair)) → IsHeldWhole s → map.get s.tables name ≡ Some t
-    → IfSome new IsItemOfValues → IsHeldWhole (after_item s moment name t place new)
-held_after s moment name t place new held at given = record {
+    → IfSome new IsItemOfValues → moment < 2 ^ 64
+    → IsHeldWhole (after_item s moment name t place new)
+held_after s moment name t place new held at given fits = record {
   items = record {
     items = λ other q u item at_other here. items other u q item here
         (at_insert s.tables name other u (with_row s.next_number moment t place new) at_other);
+    changes = λ other u at_other. changes other u
+        (at_insert s.tables name other u (with_row s.next_number moment t place new) at_other);
   };
+  moments = λ other u at_other. moments other u
+      (at_insert s.tables name other u (with_row s.next_number moment t place new) at_other);
   descriptions = λ other u at_other. descriptions other u
       (at_insert s.tables name other u (with_row s.next_number moment t place new) at_other);
 }
@@ -257,6 +338,46 @@ held_after s moment name t place new held at given = record {
         ∙ ap (λ (x : Table). map.get x.items q) changed.1 ∙ here)
     items other u q item here (inr old) = held.items.items other q u item old here
 
+    -- what holds of all changes and of the one more holds of all then
+    all_left : (P : Change → Type 0) → P (record {
+      number = s.next_number;
+      moment = moment;
+      old = map.get t.items place;
+      new = new;
+    }) → All P t.changes → All P (with_row s.next_number moment t place new).changes
+    all_left P last all = by (is_some t.description.stream_family)
+        (is_same (map.get t.items place) new)
+      where
+        by : (b c : Bool) → All P (if b then t.changes ++ option_to_list (if c then None else Some
+            (record {
+              number = s.next_number;
+              moment = moment;
+              old = map.get t.items place;
+              new = new;
+            })) else t.changes)
+        by true true = subst (All P) (sym (append-nil t.changes)) all
+        by true false = All-push P t.changes _ all last
+        by false c = all
+
+    was_held : (o : Option (List Pair)) → map.get t.items place ≡ o → IfSome o IsItemOfValues
+    was_held None is = tt
+    was_held (Some item) is = held.items.items name place t item at is
+
+    changes : (other : List ℕ) (u : Table)
+        → ((other ≡ name) × (with_row s.next_number moment t place new ≡ u))
+        ⊎ (map.get s.tables other ≡ Some u) → All IsHeldChange u.changes
+    changes other u (inl changed) = subst (λ (x : Table). All IsHeldChange x.changes) changed.1
+        (all_left IsHeldChange (was_held (map.get t.items place) refl, given)
+        (held.items.changes name t at))
+    changes other u (inr old) = held.items.changes other u old
+
+    moments : (other : List ℕ) (u : Table)
+        → ((other ≡ name) × (with_row s.next_number moment t place new ≡ u))
+        ⊎ (map.get s.tables other ≡ Some u) → All HasMoment u.changes
+    moments other u (inl changed) = subst (λ (x : Table). All HasMoment x.changes) changed.1
+        (all_left HasMoment fits (held.moments name t at))
+    moments other u (inr old) = held.moments other u old
+
     descriptions : (other : List ℕ) (u : Table)
         → ((other ≡ name) × (with_row s.next_number moment t place new ≡ u))
         ⊎ (map.get s.tables other ≡ Some u) → IsHeld u.description
@@ -264,21 +385,23 @@ held_after s moment name t place new held at given = record {
         (held.descriptions name t at)
     descriptions other u (inr old) = held.descriptions other u old
 
--- The change of an item's row turns the state into the one with that item.
+-- The change of an item's row, with those of its rows in the indexes and in the stream, turns the state into the one with that item.
 pub item_turns : (s : State) (moment : ℕ) (name : List ℕ) (t : Table) (place : List ℕ)
     (new : Option (List Pair)) → IsValid s → IsHeldWhole s → s.next_number < NUMBERS_END
-    → map.get s.tables name ≡ Some t
+    → map.get s.tables name ≡ Some t → is_same (map.get t.items place) new ≡ false
     → ((item : List Pair) → new ≡ Some item → IsStored t.description place item)
-    → IfSome new IsItemOfValues
-    → Turns (item_changes t.description place (map.get t.items place) new) s
+    → IfSome new IsItemOfValues → moment < 2 ^ 64
+    → Turns (item_changes t.description s.next_number moment place (map.get t.items place) new) s
     (after_item s moment name t place new)
-item_turns s moment name t place new valid held room at stored given = record {
-  shows = λ l past shows. shows_item l s shows valid held.items moment name t at place new stored given
-      (batch_write l (item_changes t.description place (map.get t.items place) new)) refl refl
+item_turns s moment name t place new valid held room at differ stored given fits = record {
+  shows = λ l past shows. shows_item l s shows valid held.items moment name t at place new room
+      differ stored given
+      (batch_write l
+      (item_changes t.description s.next_number moment place (map.get t.items place) new)) refl refl
       (shows_write l
-      (batch_write l (item_changes t.description place (map.get t.items place) new)) past
+      (batch_write l
+      (item_changes t.description s.next_number moment place (map.get t.items place) new)) past
       (omega arith));
-  valid = after_item_valid s moment name t place new valid room at
-      (with_item_stored s name t place new valid at stored);
-  held = held_after s moment name t place new held at given;
+  valid = after_item_valid s moment name t place new valid room at differ stored;
+  held = held_after s moment name t place new held at given fits;
 }

@@ -119,7 +119,11 @@ next_wrong l number none = inl (record {
       beyond = λ f k high here. absurd (none_before f k here);
       valid = empty_valid l.next_number number;
       held = record {
-        items = record { items = λ name place t item at here. absurd (not_there name t at) };
+        items = record {
+          items = λ name place t item at here. absurd (not_there name t at);
+          changes = λ name t at. absurd (not_there name t at);
+        };
+        moments = λ name t at. absurd (not_there name t at);
         descriptions = λ name t at. absurd (not_there name t at);
       };
     },

@@ -13,3 +13,4 @@ pub mod Recovery
 pub mod Scans
 pub mod Stands
 pub mod StateRows
+pub mod StreamScans

@@ -12,9 +12,10 @@ use Rattle.alt_schema.specs.Held.{IsHeld}
 use Rattle.alt_schema.specs.declared.schema.TableSchema.{TableSchema}
 use Rattle.alt_tables.specs.Made.{is_as_made}
 use Rattle.alt_tables.specs.IndexScans.{IndexesRead, IsFirstOfOwn}
-use Rattle.alt_tables.specs.Recovery.{AgreesWhole, IsFirstWrong}
+use Rattle.alt_tables.specs.Recovery.{Agrees, AgreesWhole, IsFirstWrong}
 use Rattle.alt_tables.specs.Scans.{IsBelow, ItemsRead}
 use Rattle.alt_tables.specs.StateRows.{Shows, IsHeldWhole, catalog_family, next_row, table_row}
+use Rattle.alt_tables.specs.StreamScans.{ChangesRead, IsFirstOfStream}
 use Rattle.alt_tables.specs.declared.faults.OpenFault.{OpenFault}
 use Rattle.alt_tables.specs.declared.faults.OpenFault.TheVariants.{Damaged, BadRow, Failed, NoMemory}
 
@@ -152,7 +153,36 @@ pub record AreTablesRead (l : Layout) (next : ℕ) (known : Texts TableSchema) :
   pub items : AllItemsRead l known
   pub beyond : (family : ℕ) (key : List ℕ) → next ≤ family → shown l family key ≡ None
 
--- A state whose rows these are, and whose tables are those of the catalog.
+-- A state whose rows of the catalog and of tables these are, and whose tables are those of the catalog.
+pub record AssembledRows (l : Layout) (next : ℕ) (known : Texts TableSchema)
+    (s : State) : Type 0 where
+  pub agrees : Agrees (λ f k. Unit {0}) l s
+  pub catalog : descriptions s.tables ≡ known
+  pub family : s.next_family ≡ next
+
+-- the streams of its tables are read
+abbrev pub AllChangesRead : Layout → Texts TableSchema → Type 0
+AllChangesRead l catalog = (name : List ℕ) (d : TableSchema) → map.get catalog name ≡ Some d
+    → ChangesRead l d
+
+-- The first wrong row of a stream of its tables, of which those of lesser families are read.
+pub record IsFirstAmong (l : Layout) (catalog : Texts TableSchema) (family : ℕ)
+    (key : List ℕ) : Type 0 where
+  pub name : List ℕ
+  pub description : TableSchema
+  pub there : map.get catalog name ≡ Some description
+  pub first : IsFirstOfStream l description family key
+  pub lesser : (other : List ℕ) (e : TableSchema) → map.get catalog other ≡ Some e
+      → e.family < description.family → ChangesRead l e
+
+-- a wrong row of a stream is the first one
+abbrev pub IsStreamsFault : Layout → Texts TableSchema → OpenFault → Type 0
+IsStreamsFault l catalog (Damaged file at) = ⊥
+IsStreamsFault l catalog (BadRow family key) = IsFirstAmong l catalog family key
+IsStreamsFault l catalog Failed = Unit {0}
+IsStreamsFault l catalog NoMemory = Unit {0}
+
+-- A state whose rows these are with those of streams, and whose tables are those of the catalog.
 pub record AssembledTables (l : Layout) (next : ℕ) (known : Texts TableSchema)
     (s : State) : Type 0 where
   pub agrees : AgreesWhole l s
@@ -181,7 +211,7 @@ IsIndexesFault l catalog (BadRow family key) = IsFirstIn l catalog family key
 IsIndexesFault l catalog Failed = Unit {0}
 IsIndexesFault l catalog NoMemory = Unit {0}
 
--- A state whose rows these are with those of indexes, and whose tables are those of the catalog.
+-- A state whose rows these are with those of streams and of indexes, and whose tables are those of the catalog.
 pub record Assembled (l : Layout) (next : ℕ) (known : Texts TableSchema)
     (s : State) : Type 0 where
   pub shows : Shows l s

@@ -1,6 +1,8 @@
--- What is read of the rows that a walk over the family of a table or of an index gives.
-use Rattle.std.specs.Prelude.{◌≡◌, ◌++◌, ℕ, List, [], ◌∷◌, map, All}
+-- What is read of the rows that a walk over the family of a table, of an index or of a stream gives.
+use Rattle.std.specs.Prelude.{◌≡◌, ◌<◌, ◌^◌, ◌++◌, ℕ, List, [], ◌∷◌, map, All}
 use Rattle.alt_cells.specs.Changes.{Columns}
+use Rattle.alt_changes.specs.ChangeRows.{IsReadChange, change_columns, row_key}
+use Rattle.alt_machine.specs.State.{Change}
 use Rattle.alt_views.specs.ItemRows.{IsReadItem, item_columns}
 use Rattle.alt_schema.specs.declared.schema.IndexSchema.{IndexSchema}
 use Rattle.alt_schema.specs.declared.schema.TableSchema.{TableSchema}
@@ -24,3 +26,19 @@ pub record ArePut (page : List (List ℕ × Columns)) (old new : List (List Pair
   pub items : List (List Pair)
   pub are : AreItemsOf page items
   pub put : new ≡ old ++ items
+
+-- ---- changes
+
+-- The row at a key is that of a change which can be read, whose number is the key.
+pub record IsChangeAt (key : List ℕ) (columns : Columns) (c : Change) : Type 0 where
+  pub number : c.number < 2 ^ 64
+  pub place : key ≡ row_key c.number
+  pub read : IsReadChange c
+  pub row : columns ≡ change_columns c
+
+-- These are the rows of the changes, one by one.
+abbrev pub AreChangesOf : List (List ℕ × Columns) → List Change → Type 0
+AreChangesOf [] [] = Unit {0}
+AreChangesOf [] (c ∷ cs) = ⊥
+AreChangesOf (e ∷ es) [] = ⊥
+AreChangesOf (e ∷ es) (c ∷ cs) = IsChangeAt e.0 e.1 c × AreChangesOf es cs

@@ -14,7 +14,8 @@ use Rattle.alt_machine.specs.State.{State, Table}
 use Rattle.alt_machine.specs.Valid.{IsValid}
 use Rattle.alt_schema.specs.declared.schema.IndexSchema.{IndexSchema}
 use Rattle.alt_tables.specs.Images.{StandsFor}
-use Rattle.alt_tables.specs.StateRows.{IsHeldWhole, catalog_family, catalog_rows, index_rows, item_rows}
+use Rattle.alt_tables.specs.StateRows.{IsHeldWhole, catalog_family, catalog_rows, change_rows, index_rows, item_rows}
+use Rattle.alt_tables.specs.StreamScans.{ChangesRead, IsFirstOfStream}
 use Rattle.alt_tables.specs.declared.faults.OpenFault.{OpenFault}
 use Rattle.alt_tables.specs.declared.faults.OpenFault.TheVariants.{Damaged, BadRow, Failed, NoMemory}
 
@@ -31,7 +32,7 @@ abbrev pub IsUpTo : ℕ → List ℕ → ℕ → List ℕ → Type 0
 IsUpTo f k family key = IsBefore f k family key ⊎ ((f ≡ family) × (k ≡ key))
 
 -- The rows at these places are those of the state, which is valid and held: those of the catalog and of the tables, and none from the
--- next family on. Those of indexes are told apart, since they are a function of these.
+-- next family on. Those of streams and of indexes are told apart.
 pub record Agrees (Here : ℕ → List ℕ → Type 0) (l : Layout) (s : State) : Type 0 where
   pub number : l.next_number ≡ s.next_number
   pub catalog : (key : List ℕ) → Here catalog_family key
@@ -43,9 +44,13 @@ pub record Agrees (Here : ℕ → List ℕ → Type 0) (l : Layout) (s : State) 
   pub valid : IsValid s
   pub held : IsHeldWhole s
 
--- all of these rows are
-abbrev pub AgreesWhole : Layout → State → Type 0
-AgreesWhole l s = Agrees (λ f k. Unit {0}) l s
+-- All of these rows are, and each stream shows the changes of its table. So the rows tell the state, and those of indexes are a function
+-- of it.
+pub record AgreesWhole (l : Layout) (s : State) : Type 0 where
+  pub rows : Agrees (λ f k. Unit {0}) l s
+  pub changes : (name : List ℕ) (t : Table) (family : ℕ) → map.get s.tables name ≡ Some t
+      → t.description.stream_family ≡ Some family
+      → (key : List ℕ) → shown l family key ≡ change_rows t key
 
 -- The first wrong one of these rows: those before it are rows of a state, and with it they are those of none. Families come in the
 -- order of their numbers, the catalog before all, and in each its keys.
@@ -53,11 +58,23 @@ pub record IsFirstOfTables (l : Layout) (family : ℕ) (key : List ℕ) : Type 0
   pub before : (s : State) × Agrees (λ f k. IsBefore f k family key) l s
   pub none : (s : State) → Agrees (λ f k. IsUpTo f k family key) l s → ⊥
 
+-- Where all these rows are those of a state, the first wrong one of a stream: it isn't that of a change that the table may keep. Tables
+-- come in the order of their families, and in each stream its keys.
+pub record IsFirstOfStreams (l : Layout) (family : ℕ) (key : List ℕ) : Type 0 where
+  pub state : State
+  pub agrees : Agrees (λ f k. Unit {0}) l state
+  pub name : List ℕ
+  pub table : Table
+  pub there : map.get state.tables name ≡ Some table
+  pub first : IsFirstOfStream l table.description family key
+  pub tables : (other : List ℕ) (u : Table) → map.get state.tables other ≡ Some u
+      → u.description.family < table.description.family → ChangesRead l u.description
+
 -- an index shows the rows of its items
 abbrev pub IndexAgrees : Layout → Table → IndexSchema → Type 0
 IndexAgrees l t i = (key : List ℕ) → shown l i.family key ≡ index_rows t i key
 
--- Where all these rows are those of a state, the first wrong one of an index: what stands at that key, or is missing there, isn't what
+-- Where these rows and those of streams are those of a state, the first wrong one of an index: what stands at that key, or is missing there, isn't what
 -- the state's items give. Tables come in the order of their families, the indexes of each in that of their numbers, and in each its keys.
 pub record IsFirstOfIndexes (l : Layout) (family : ℕ) (key : List ℕ) : Type 0 where
   pub state : State
@@ -78,9 +95,10 @@ pub record IsFirstOfIndexes (l : Layout) (family : ℕ) (key : List ℕ) : Type 
       → map.get state.tables other ≡ Some u → u.description.family < table.description.family
       → index_at u.description (Some n) ≡ Some i → IndexAgrees l u i
 
--- The first wrong row: those of indexes come behind all others.
+-- The first wrong row: those of streams come behind those of tables, and those of indexes behind all others.
 abbrev pub IsFirstWrong : Layout → ℕ → List ℕ → Type 0
-IsFirstWrong l family key = IsFirstOfTables l family key ⊎ IsFirstOfIndexes l family key
+IsFirstWrong l family key = IsFirstOfTables l family key
+    ⊎ (IsFirstOfStreams l family key ⊎ IsFirstOfIndexes l family key)
 
 -- files whose rows are those of no state, the first wrong one being this
 pub record HasBadRow (files : ℕ → Option (List ℕ)) (family : ℕ) (key : List ℕ) : Type 0 where

@@ -1,16 +1,18 @@
 -- The rows that stand for a state (docs/formats/table-rows.md), and the changes of rows that a write of the state makes.
-use Rattle.std.specs.Prelude.{◌≡◌, ◌≤◌, ◌==◌, ℕ, List, [], ◌∷◌, if◌then◌else◌, Option, Some, None, option_map, codes}
+use Rattle.std.specs.Prelude.{◌≡◌, ◌≤◌, ◌<◌, ◌^◌, ◌==◌, ℕ, List, [], ◌∷◌, ◌++◌, map as each, All, if◌then◌else◌, Option, Some, None, option_map, codes}
 use Rattle.std.specs.Int.{w32, to_be_bytes}
 use Rattle.std.specs.Ordering.{eq_by_cmp}
 use Rattle.std.specs.FinMap as map
 use Rattle.alt_cells.specs.declared.batch.RowChange.{RowChange}
 use Rattle.alt_cells.specs.Changes.{Columns, change_between}
 use Rattle.alt_cells.specs.Keys.{key_cmp}
+use Rattle.alt_changes.specs.ChangeRows.{change_columns, row_changes, row_key}
 use Rattle.alt_engine.specs.InHand.{batch_write}
 use Rattle.alt_engine.specs.Layout.{Layout, IsPast, shown, with_write}
+use Rattle.alt_machine.specs.Changes.{change_left}
 use Rattle.alt_machine.specs.Indexed.{index_items}
 use Rattle.alt_machine.specs.Sources.{index_at}
-use Rattle.alt_machine.specs.State.{State, Table}
+use Rattle.alt_machine.specs.State.{State, Table, Texts, Change}
 use Rattle.alt_machine.specs.Valid.{IsValid, IsHeldState}
 use Rattle.alt_schema.specs.Format.{description_bytes}
 use Rattle.alt_schema.specs.Held.{IsHeld}
@@ -56,8 +58,17 @@ abbrev pub index_rows : Table → IndexSchema → List ℕ → Option Columns
 index_rows t i key = option_map (index_columns t.description i)
     (map.get (index_items t.description i t.items) key)
 
+-- changes by the keys of their rows
+abbrev pub keyed_changes : List Change → Texts Change
+keyed_changes changes = map.from_sorted (each (λ (c : Change). (row_key c.number, c)) changes)
+
+-- each change at its number, in the family of the stream
+abbrev pub change_rows : Table → List ℕ → Option Columns
+change_rows t key = option_map change_columns (map.get (keyed_changes t.changes) key)
+
 -- What the rows show is the state: its numbers, its catalog, the items of each table in the table's family, those of each of its
--- indexes in that of the index, and nothing from the next family on. Families below it that no table has count for nothing.
+-- indexes in that of the index, its changes in that of its stream, and nothing from the next family on. Families below it that no
+-- table has count for nothing.
 pub record Shows (l : Layout) (s : State) : Type 0 where
   pub number : l.next_number ≡ s.next_number
   pub catalog : (key : List ℕ) → shown l catalog_family key ≡ catalog_rows s key
@@ -66,21 +77,32 @@ pub record Shows (l : Layout) (s : State) : Type 0 where
   pub indexes : (name : List ℕ) (t : Table) (number : ℕ) (i : IndexSchema)
       → map.get s.tables name ≡ Some t → index_at t.description (Some number) ≡ Some i
       → (key : List ℕ) → shown l i.family key ≡ index_rows t i key
+  pub changes : (name : List ℕ) (t : Table) (family : ℕ) → map.get s.tables name ≡ Some t
+      → t.description.stream_family ≡ Some family
+      → (key : List ℕ) → shown l family key ≡ change_rows t key
   pub beyond : (family : ℕ) (key : List ℕ) → s.next_family ≤ family → shown l family key ≡ None
 
--- Each item and each description of the state is one that a program can hold, so its bytes tell it from every other.
+-- a moment fits in 8 bytes
+abbrev pub HasMoment : Change → Type 0
+HasMoment c = c.moment < 2 ^ 64
+
+-- Each item, each change and each description of the state is one that a program can hold, so its bytes tell it from every other.
 pub record IsHeldWhole (s : State) : Type 0 where
   pub items : IsHeldState s
+  pub moments : (name : List ℕ) (t : Table) → map.get s.tables name ≡ Some t
+      → All HasMoment t.changes
   pub descriptions : (name : List ℕ) (t : Table) → map.get s.tables name ≡ Some t
       → IsHeld t.description
 
 -- ---- the row changes of a write
 
--- of an item: the change of its row, and those of its rows in the indexes
-abbrev pub item_changes : TableSchema → List ℕ → Option (List Pair) → Option (List Pair)
+-- of an item, by the write of a number at a moment: the change of its row, those of its rows in the indexes, and the row that the
+-- stream gets
+abbrev pub item_changes : TableSchema → ℕ → ℕ → List ℕ → Option (List Pair) → Option (List Pair)
     → List RowChange
-item_changes d place old new = change_between d.family place (option_map item_columns old)
-    (option_map item_columns new) ∷ index_changes d old new
+item_changes d number moment place old new = change_between d.family place
+    (option_map item_columns old) (option_map item_columns new)
+    ∷ (index_changes d old new ++ row_changes d (change_left number moment old new))
 
 -- of a new table: its description, and the next family
 abbrev pub creation_changes : ℕ → ℕ → TableSchema → List RowChange

@@ -3,6 +3,8 @@
 
 mod catalog;
 mod catalog_row;
+mod change_scan;
+mod changes;
 mod faults;
 mod index_scan;
 mod laws;

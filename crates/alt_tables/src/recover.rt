@@ -8,12 +8,13 @@ ghost use Rattle.alt_engine.specs.InHand.{Reads};
 ghost use Rattle.alt_engine.specs.Layout.{Layout};
 ghost use Rattle.alt_machine.specs.State.{State};
 ghost use Rattle.alt_tables.specs.Images.{StandsFor};
-ghost use Rattle.alt_tables.specs.Opening.{AllIndexesRead, AllItemsRead, AreTablesRead, Assembled, IsCatalog, IsIndexesFault, IsRowFault};
+ghost use Rattle.alt_tables.specs.Opening.{AllChangesRead, AllIndexesRead, AllItemsRead, AreTablesRead, Assembled, IsCatalog, IsIndexesFault, IsRowFault, IsStreamsFault};
 ghost use Rattle.alt_tables.specs.Recovery.{IsExplained, HasNoState, WasLeft, unopened};
 ghost use Rattle.alt_tables.specs.Scans.{Walked};
 ghost use Rattle.alt_tables.specs.Stands.{Stands};
 
 use crate::catalog::Catalog;
+use crate::change_scan::read_stream;
 use crate::faults::OpenFault;
 use crate::index_scan::read_own_indexes;
 use crate::opened::{Opened, read_catalog};
@@ -81,13 +82,17 @@ fn read_rows<D: Disk>(alloc: Global, disk: &mut D, engine: &mut Engine) -> Resul
         Ok(opened) => opened,
         Err(fault) => return Err(fault),
     };
+    match read_streams(alloc, disk, engine, &opened.catalog) {
+        Ok(()) => {}
+        Err(fault) => return Err(fault),
+    }
     match read_indexes(alloc, disk, engine, &opened.catalog) {
         Ok(()) => Ok(opened),
         Err(fault) => Err(fault),
     }
 }
 
-/// Reads the rows that make the state, which are all but those of indexes.
+/// Reads the rows of the catalog and of the tables, and what stands from the next family on.
 fn read_state<D: Disk>(
     alloc: Global,
     disk: &mut D,
@@ -138,6 +143,35 @@ fn read_tables<D: Disk>(
     'tables: while let Some(schema) = catalog.above(family) {
         held(schema);
         match read_items(alloc, disk, engine, schema) {
+            Ok(()) => {}
+            Err(fault) => return Err(fault),
+        }
+        family = schema.family;
+    }
+    Ok(())
+}
+
+/// Tests the streams of all tables, in the order of the tables' families.
+fn read_streams<D: Disk>(
+    alloc: Global,
+    disk: &mut D,
+    engine: &mut Engine,
+    catalog: &Catalog,
+) -> Result<(), OpenFault>
+    ensures read { IsTrue (D.state disk.old).tells → (l : Layout) (next : ℕ)
+        → Reads (D.state disk.old) engine.old l → AreTablesRead l next catalog.now
+        → OnOk result (AllChangesRead l catalog.now) }
+    ensures wrong { IsTrue (D.state disk.old).tells → (l : Layout) (next : ℕ)
+        → Reads (D.state disk.old) engine.old l → AreTablesRead l next catalog.now
+        → IfErr result (IsStreamsFault l catalog.now) }
+    ensures walked { Walked (D.state disk.old) (D.state disk.new) engine.old engine.new }
+    ensures cause { IsErrOf result OpenFault.Failed
+        → Rose (D.state disk.old).faults (D.state disk.new).faults }
+{
+    let mut family = 0;
+    'tables: while let Some(schema) = catalog.above(family) {
+        held(schema);
+        match read_stream(alloc, disk, engine, schema) {
             Ok(()) => {}
             Err(fault) => return Err(fault),
         }

@@ -1,8 +1,9 @@
 //! The items of tables: what stands at a place, and what is to stand there.
 
-ghost use Rattle.std.specs.Prelude.{◌≡◌, ◌↔◌, ℕ, true, false, None, Some, IsSome, IfOk, IfErr, IfSome, OnOk, IsErrOf, Ok, Err, List, Option, option_map};
+ghost use Rattle.std.specs.Prelude.{◌≡◌, ◌↔◌, ◌∷◌, [], ℕ, true, false, None, Some, IsSome, IfOk, IfErr, IfSome, OnOk, IsErrOf, Ok, Err, List, Option, option_map};
 ghost use Rattle.std.specs.FinMap as map;
 ghost use Rattle.alt_base.specs.Counts.{Rose};
+ghost use Rattle.alt_cells.specs.Changes.{change_between};
 ghost use Rattle.alt_disk.specs.Disk.{Goes};
 ghost use Rattle.alt_machine.specs.Keys.{place_of};
 ghost use Rattle.alt_machine.specs.Outcomes.{a_number};
@@ -15,6 +16,7 @@ ghost use Rattle.alt_tables.specs.Families.{HasOwnFamilies};
 ghost use Rattle.alt_tables.specs.Faults.{IsFindFault, IsUnspent, Writes};
 ghost use Rattle.alt_tables.specs.Found.{IsFoundIn, number_taken};
 ghost use Rattle.alt_tables.specs.Images.{Leaves};
+ghost use Rattle.alt_views.specs.IndexRows.{index_changes};
 ghost use Rattle.alt_views.specs.ItemRows.{IsReadItem, item_columns};
 ghost use Rattle.alt_tables.specs.StateRows.{item_changes};
 ghost use Rattle.alt_tables.specs.Stands.{AreReady, Reads, Stands, KeepsCatalog, catalog_of, number_of};
@@ -25,6 +27,7 @@ use crate::faults::{TableFault, fault_of};
 use crate::tables::Tables;
 use alt_base::NoMemory;
 use alt_cells::{Batch, RowChange, ShownRow};
+use alt_changes::change_row;
 use alt_disk::Disk;
 use alt_fields::Bytes;
 use alt_machine::NUMBERS_END;
@@ -115,7 +118,6 @@ impl Tables {
         ensures cause { IsErrOf result TableFault.Failed
             → Rose (D.state disk.old).faults (D.state disk.new).faults }
     {
-        let _ = moment;
         if same(&found.item, &new) {
             return Ok(None);
         }
@@ -126,7 +128,15 @@ impl Tables {
         let Some(schema) = self.catalog.get(table) else {
             unreachable!();
         };
-        let batch = item_batch(self.alloc, schema, found.place, &found.item, &new)?;
+        let batch = item_batch(
+            self.alloc,
+            schema,
+            number,
+            moment,
+            found.place,
+            &found.item,
+            &new,
+        )?;
         match self.make(disk, &batch) {
             Ok(number) => Ok(Some(number)),
             Err(fault) => Err(fault),
@@ -260,9 +270,36 @@ fn item_of(alloc: Global, row: &Option<ShownRow>) -> Result<Option<Item>, Unread
     }
 }
 
-/// The row changes of an item, in its table and in the indexes: a row that is made or removed is cleared, and of one that changes only
-/// what differs is written.
+/// The row changes of an item by the write of a number at a moment: in its table, in the indexes and in the stream.
 fn item_batch(
+    alloc: Global,
+    schema: &TableSchema,
+    number: u64,
+    moment: u64,
+    place: Bytes,
+    old: &Option<Item>,
+    new: &Option<Item>,
+) -> Result<Batch, NoMemory>
+    requires families { HasOwnFamilies schema.now }
+    ensures changes { IfOk result (λ batch.
+        batch ≡ item_changes schema.now number moment place old.now new.now) }
+    ensures held { OnOk result (IfSome new.now IsItemOfValues) }
+{
+    let mut batch = view_batch(alloc, schema, place, old, new)?;
+    change_row(
+        alloc,
+        schema,
+        old.as_ref(),
+        new.as_ref(),
+        number,
+        moment,
+        &mut batch,
+    )?;
+    Ok(batch)
+}
+
+/// Those in its table and in the indexes: a row that is made or removed is cleared, and of one that changes only what differs is written.
+fn view_batch(
     alloc: Global,
     schema: &TableSchema,
     place: Bytes,
@@ -270,8 +307,9 @@ fn item_batch(
     new: &Option<Item>,
 ) -> Result<Batch, NoMemory>
     requires families { HasOwnFamilies schema.now }
-    ensures changes { IfOk result (λ batch.
-        batch ≡ item_changes schema.now place old.now new.now) }
+    ensures changes { IfOk result (λ batch. batch ≡ change_between schema.now.family place
+        (option_map item_columns old.now) (option_map item_columns new.now)
+        ∷ index_changes schema.now old.now new.now) }
     ensures held { OnOk result (IfSome new.now IsItemOfValues) }
 {
     let before = row_of(alloc, old)?;
@@ -308,7 +346,7 @@ fn copy_of(item: Option<&Item>) -> Result<Option<Item>, NoMemory>
 }
 
 /// Whether both are one item, or neither is there.
-fn same(old: &Option<Item>, new: &Option<Item>) -> bool
+pub(crate) fn same(old: &Option<Item>, new: &Option<Item>) -> bool
     ensures { result ≡ is_same old.now new.now }
 {
     match (old, new) {

@@ -28,6 +28,7 @@ pub AgreesBut : List Pair → List (List ℕ) → List Pair → Type 0
 AgreesBut whole names item = (q : List ℕ) → is_among names q ≡ false
     → at_name q item ≡ at_name q whole
 
+-- where not one of two tests passes, neither does
 either : (a b : Bool) → (a || b) ≡ false → (a ≡ false) × (b ≡ false)
 either true b h = absurd (false≢true (sym h))
 either false b h = (refl, h)
@@ -105,6 +106,7 @@ unfolding AgreesBut is_among
 agrees_all whole item is is_item agrees =
     same_entries text_order text_total text_apart item whole is_item.0 is.0 (λ q. agrees q refl)
 
+-- an item agrees with itself at all names
 pub agrees_itself : (whole : List Pair) → AgreesBut whole [] whole
 unfolding AgreesBut
 agrees_itself whole q other = refl

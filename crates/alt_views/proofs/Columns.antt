@@ -65,6 +65,7 @@ row_is row ps is same = same_entries_map row (item_columns ps)
 
 -- ---- fronts
 
+-- a key below all entries is below those of a front
 below_front : (q : List ℕ) (xs ys : List (List ℕ × List ℕ)) → T (below_all key_cmp q (xs ++ ys))
     → T (below_all key_cmp q xs)
 below_front q [] ys h = tt
@@ -87,6 +88,7 @@ sorted_first k es h = sorted_front (([], []) ∷ take k es) (drop k es)
 
 -- ---- one column more is read
 
+-- the columns of pairs with one more are theirs and its own
 map-snoc : (ps : List Pair) (p : Pair) → map column_of (ps ++ p ∷ [])
     ≡ map column_of ps ++ column_of p ∷ []
 map-snoc ps p = map-append column_of ps (p ∷ [])
@@ -169,6 +171,7 @@ read_attribute ps is es same k e within at =
 
 -- ---- one attribute more is written
 
+-- the first pairs, and the one at the next place
 take_snoc : (ps : List Pair) (k : ℕ) (p : Pair) → Some p ≡ slice_get ps k
     → take (suc k) ps ≡ take k ps ++ p ∷ []
 take_snoc [] k p at = absurd (let no : Some p ≡ None = at in let f : ⊥ = cc in f)
@@ -206,6 +209,7 @@ bad_is {A} {B} (Err x) e b passed is = sym passed.1 ∙ (let same : x ≡ b = cc
 
 -- ---- the row that is read
 
+-- lists that are equal have equal rests
 tail_of : {A : Type 0} (x y : A) (xs ys : List A) → x ∷ xs ≡ y ∷ ys → xs ≡ ys
 tail_of x y xs ys e = ap (λ zs. drop 1 zs) e
 

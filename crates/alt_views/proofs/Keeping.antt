@@ -23,29 +23,36 @@ use Rattle.alt_views.specs.ItemRows.{IsReadItem}
 use Rattle.alt_views.specs.Read.{AreNamed, IsKeptAt}
 use Rattle.alt_views.proofs.Parts.{at_name-where, read-where, values-where}
 
+-- options that are equal have equal values
 some : {A : Type 0} (x y : A) → Some x ≡ Some y → x ≡ y
 some x y e = ap (λ o. unwrap_or o x) e
 
+-- an option without a value isn't one with a value
 none : {A : Type 0} (x : A) → None ≡ Some x → ⊥
 none x e = let no : None ≡ Some x = e in cc no
 
+-- where two tests pass together the first does
 first_true : (a b : Bool) → (a && b) ≡ true → a ≡ true
 first_true true b h = refl
 first_true false b h = absurd (false≢true h)
 
+-- and the second
 second_true : (a b : Bool) → (a && b) ≡ true → b ≡ true
 second_true true b h = h
 second_true false b h = absurd (false≢true h)
 
 -- ---- keys are kept
 
+-- a name is equal to itself
 same_name : (n : List ℕ) → bytes_eq n n ≡ true
 same_name n = grind (arith, bytes_eq-Decides)
 
+-- one of two tests passes where the second does
 or_true : (a b : Bool) → b ≡ true → (a || b) ≡ true
 or_true true b h = refl
 or_true false b h = h
 
+-- and where the first does
 true_or : (a b : Bool) → a ≡ true → (a || b) ≡ true
 true_or true b h = refl
 true_or false b h = absurd (false≢true h)
@@ -54,6 +61,7 @@ true_or false b h = absurd (false≢true h)
 hash_is_key : (hash : KeyAttr) (range : Option KeyAttr) → is_key hash range hash.name ≡ true
 hash_is_key hash range = true_or (bytes_eq hash.name hash.name) _ (same_name hash.name)
 
+-- the RANGE attribute is one beside any HASH attribute
 range_is_key : (hash range : KeyAttr) → is_key hash (Some range) range.name ≡ true
 range_is_key hash range = or_true (bytes_eq hash.name range.name) _ (same_name range.name)
 
@@ -63,6 +71,7 @@ pub own_kept : (d : TableSchema) (i : IndexSchema) (name : List ℕ)
 own_kept d i name h = or_true (is_included i.projection name) _
     (or_true (is_key d.hash d.range name) _ h)
 
+-- those of the table, whatever keys the index has
 pub table_kept : (d : TableSchema) (i : IndexSchema) (name : List ℕ)
     → is_key d.hash d.range name ≡ true → is_projected d i name ≡ true
 table_kept d i name h = or_true (is_included i.projection name) _
@@ -76,6 +85,7 @@ value-cut d i item key kept = ap (option_and_then (if_key key.kind))
     (at_name-where (is_projected d i) key.name item
     ∙ ap (λ b. cond b (at_name key.name item) None) kept)
 
+-- so are the values of a key whose attributes are projected
 values-cut : (d : TableSchema) (i : IndexSchema) (item : List Pair) (hash : KeyAttr)
     (range : Option KeyAttr)
     → ((name : List ℕ) → is_key hash range name ≡ true → is_projected d i name ≡ true)
@@ -108,6 +118,7 @@ place-cut d i item =
 
 -- ---- names of keys
 
+-- a number that is told to be above 0 is
 has_bytes : (n : ℕ) → nat_lt 0 n ≡ true → 0 < n
 has_bytes n h = grind arith
 
@@ -123,12 +134,14 @@ pair_named hash range h = (has_bytes _ (first_true _ _ h), beside range (second_
     beside (Some q) h r e = subst (λ (k : KeyAttr). 0 < length k.name) (some q r e)
         (has_bytes _ (first_true _ _ h))
 
+-- what each of a list passes, the one at a place does
 at_each : {A : Type 0} (test : A → Bool) (xs : List A) (n : ℕ) (x : A) → list_all test xs ≡ true
     → slice_get xs n ≡ Some x → test x ≡ true
 at_each test [] n x all e = absurd (none x e)
 at_each test (y ∷ ys) zero x all e = ap test (sym (some y x e)) ∙ first_true _ _ all
 at_each test (y ∷ ys) (suc n) x all e = at_each test ys n x (second_true _ _ all) e
 
+-- the keys of a table that is made have names, and so have those of its indexes
 pub are_named : (d : TableSchema) (number : ℕ) (i : IndexSchema) → IsMade d
     → index_at d (Some number) ≡ Some i → AreNamed d i
 are_named d number i made at =
@@ -139,6 +152,7 @@ are_named d number i made at =
 
 -- ---- what is kept
 
+-- the row of an item is the item, cut to what the index keeps
 is_cut : (d : TableSchema) (i : IndexSchema) (item row : List Pair)
     → index_row d item i ≡ Some row → cut d i item ≡ row
 is_cut d i item row e = by_test (is_in_index i item) e

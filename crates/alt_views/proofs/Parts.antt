@@ -15,19 +15,23 @@ use Rattle.alt_value.proofs.Texts.{text_apart}
 use Rattle.alt_views.specs.IndexRows.{beside}
 use Rattle.alt_views.specs.ItemRows.{IsReadItem}
 
+-- two tests that pass pass together
 both : (a b : Bool) → T a → T b → T (a && b)
 both true b p q = q
 both false b p q = p
 
+-- where two tests pass together the first does
 first : (a b : Bool) → T (a && b) → T a
 first true b p = tt
 first false b p = p
 
+-- and the second
 second : (a b : Bool) → T (a && b) → T b
 second true b p = p
 second false b p = absurd p
 
 module _ (p : List ℕ → Bool) where
+  -- its names are above one that the item's are above
   below-where : (name : List ℕ) (qs : List Pair) → T (below_all text_order name qs)
       → T (below_all text_order name (where_key text_order p qs))
   below-where name [] h = tt
@@ -43,6 +47,7 @@ module _ (p : List ℕ → Bool) where
   pub item-where : (qs : List Pair) → IsItem qs → IsItem (where_key text_order p qs)
   item-where qs h = (is_sorted-where_key text_order p qs h.0, below-where [] qs h.1)
 
+  -- its attributes are values where the item's are
   fields-where : (qs : List Pair) → AreFields (fields_of qs)
       → AreFields (fields_of (where_key text_order p qs))
   fields-where [] h = tt
@@ -53,6 +58,7 @@ module _ (p : List ℕ → Bool) where
         | false ↦ fields-where qs h.2
       ]
 
+  -- they are no more than the item's
   fewer : (qs : List Pair) → length (where_key text_order p qs) ≤ length qs
   fewer [] = omega arith
   fewer (q ∷ qs) =
@@ -71,6 +77,7 @@ module _ (p : List ℕ → Bool) where
     count = omega (arith, fewer qs, h.count);
   }
 
+  -- no set in it is empty where none in the item is
   full-where : (qs : List Pair) → T (fields_full (fields_of qs))
       → T (fields_full (fields_of (where_key text_order p qs)))
   full-where [] h = tt
@@ -81,6 +88,7 @@ module _ (p : List ℕ → Bool) where
         | false ↦ full-where qs (second _ _ h)
       ]
 
+  -- it is no deeper
   depth-where : (qs : List Pair) → fields_depth (fields_of (where_key text_order p qs))
       ≤ fields_depth (fields_of qs)
   depth-where [] = omega arith
@@ -122,6 +130,7 @@ module _ (p : List ℕ → Bool) where
 pub ties : (a b : List ℕ) → eq_by_cmp text_order a b ≡ bytes_eq a b
 ties a b = is_eq-slice_cmp a b
 
+-- tests that agree on each name choose the same attributes
 pub where-alike : (p q : List ℕ → Bool) (xs : List Pair) → ((n : List ℕ) → p n ≡ q n)
     → where_key text_order p xs ≡ where_key text_order q xs
 where-alike p q [] h = refl
@@ -157,15 +166,18 @@ where-twice a b (x ∷ xs) = by (where-twice a b xs) (a x.0)
 
 -- ---- an item without its keys
 
+-- a test or one that fails is that test
 is_nothing : (b : Bool) → (b || false) ≡ b
 is_nothing true = refl
 is_nothing false = refl
 
+-- the attributes beside a HASH key alone are those without the one of its name
 pub beside-hash : (hash : KeyAttr) (item : List Pair)
     → beside hash None item ≡ without hash.name item
 beside-hash hash item = where-alike _ _ item
     (λ n. ap not (is_nothing (bytes_eq hash.name n) ∙ sym (ties hash.name n)))
 
+-- beside both keys, they are those without the two of their names
 pub beside-both : (hash range : KeyAttr) (item : List Pair)
     → beside hash (Some range) item ≡ without range.name (without hash.name item)
 beside-both hash range item =

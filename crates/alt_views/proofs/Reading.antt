@@ -54,6 +54,7 @@ reads_none wanted key behind item NoMemory kept takes = tt
 behind_token : (n : ℕ) (rest : List ℕ) → drop 8 (to_be_bytes w64 n ++ rest) ≡ rest
 behind_token n rest = refl
 
+-- a mapped option that has a value has it from one that was there
 mapped : {A B : Type 0} (f : A → B) (o : Option A) (y : B) → option_map f o ≡ Some y
     → (x : A) × (o ≡ Some x) × (f x ≡ y)
 mapped f None y e = absurd (let no : None ≡ Some y = e in cc no)

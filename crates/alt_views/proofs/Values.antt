@@ -13,12 +13,15 @@ use Rattle.alt_value.specs.declared.kind.KeyKind.TheVariants.{S, N, B}
 use Rattle.alt_machine.proofs.Placed.{field_value}
 use Rattle.alt_views.specs.Read.{AreValuesOf}
 
+-- options that are equal have equal values
 some : {A : Type 0} (x y : A) → Some x ≡ Some y → x ≡ y
 some x y e = ap (λ o. unwrap_or o x) e
 
+-- an option without a value isn't one with a value
 none : {A : Type 0} (x : A) → None ≡ Some x → ⊥
 none x e = let no : None ≡ Some x = e in cc no
 
+-- a value that is taken where a test passes is that value, where one is taken
 if_so : (b : Bool) (u t : Tree) → (if b then Some u else None) ≡ Some t → u ≡ t
 if_so true u t e = some u t e
 if_so false u t e = absurd (none t e)
@@ -32,6 +35,7 @@ key_of_kind B (B_tree b) t v e = subst (IsKeyOf B)
     (if_so (can_be_key B (B_tree b)) (B_tree b) t e) tt
 key_of_kind kind u t v e = absurd (none t e)
 
+-- what is taken of a value as a key is the value itself
 same_value : (kind : KeyKind) (u t : Tree) → if_key kind u ≡ Some t → u ≡ t
 same_value kind u t e = if_so (can_be_key kind u) u t e
 
@@ -61,6 +65,7 @@ pub record HasValues (item : List Pair) (hash : KeyAttr) (range : Option KeyAttr
   pub range_at : StandsAt item range values.range
   pub are : AreValuesOf hash range values
 
+-- so do the values of an item, where the attributes of the key have names
 pub has_values : (item : List Pair) (hash : KeyAttr) (range : Option KeyAttr) (values : KeyValues)
     → AreFields (fields_of item) → 0 < length hash.name
     → ((r : KeyAttr) → range ≡ Some r → 0 < length r.name)

@@ -157,6 +157,7 @@ read_answer read = answered
     (member (codes "Responses") (object read.responses)
     (member (codes "UnprocessedKeys") (object read.unprocessed) no_members))
 
+-- where nothing refuses them the reads are carried out, table by table, and nothing is written
 unfoldable pub batch_get_item : State → Members → Outcome
 batch_get_item s ms = with_found (reads_asked (descriptions s.tables) ms)
     (λ tables. says (read_answer (fold (with_reads s) nothing_read tables)))

@@ -49,6 +49,7 @@ abbrev pub read_member : List ℕ → Sought → Members → Result BatchMember 
 read_member table sought ms = item_at (member_of sought) ms
     >>= (λ i. Ok (record { table = table; sought = sought; item = i }))
 
+-- a put has its item, and a delete its key
 abbrev pub read_write : List ℕ × Data → Result BatchMember Answer
 read_write r = option_map_or (read_member r.0 Item) (object_in (codes "PutRequest") r.1)
     (read_member r.0 Key (unwrap_or (object_in (codes "DeleteRequest") r.1) no_members))
@@ -60,6 +61,7 @@ abbrev pub of_sought : Sought → TableSchema → List Pair → List (Option Ans
 of_sought Item d i = of_item d i
 of_sought Key d key = []
 
+-- a table that isn't there says nothing
 abbrev pub of_member : Texts TableSchema → PlacedMember → List (Option Answer)
 of_member catalog m = option_map_or (λ d. of_sought m.sought d m.item) (finite.get catalog m.table) []
 
@@ -85,6 +87,7 @@ abbrev pub left_of : Sought → List Pair → Option (List Pair)
 left_of Item i = Some i
 left_of Key key = None
 
+-- what a member leaves, by whether it gives an item or a key
 abbrev pub left_by : PlacedMember → Option (List Pair)
 left_by m = left_of m.sought m.item
 
@@ -94,6 +97,7 @@ pub record Written : Type 0 where
   pub place : List ℕ
   pub new : Option (List Pair)
 
+-- what a member leaves, at its place in its table
 abbrev pub written_by : PlacedMember → Written
 written_by m = record { table = m.table; place = m.place; new = left_by m }
 
@@ -112,6 +116,7 @@ writes_of_all s moment (w ∷ ws) = writes_of s moment w
 abbrev pub all_processed : Answer
 all_processed = answers (codes "UnprocessedItems") (object no_members)
 
+-- where nothing refuses them the writes are made, one after another
 unfoldable pub batch_write_item : State → ℕ → Members → Outcome
 batch_write_item s moment ms = with_found (writes_asked (descriptions s.tables) ms)
     (λ there. writes (writes_of_all s moment (map written_by there)) all_processed)

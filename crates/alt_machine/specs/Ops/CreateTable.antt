@@ -1,11 +1,11 @@
 -- CreateTable: adds an empty table and answers its description (DynamoDB API Reference, "CreateTable").
-use Rattle.std.specs.Prelude.{ℕ, ◌+◌, nat_le, Bool, true, false, not, List, [], ◌∷◌, length, Option, is_some, option_and_then, unwrap_or, codes}
+use Rattle.std.specs.Prelude.{ℕ, ◌+◌, nat_le, Bool, true, false, not, List, [], ◌∷◌, length, Option, is_some, option_and_then, codes}
 use Rattle.std.specs.Option.{option_map_or}
 use Rattle.std.specs.FinMap as map
 use Rattle.serde_json.specs.Data.{Members}
 use Rattle.serde_json.specs.Find.{as_bool, as_object}
 use Rattle.alt_shape.specs.Bodies as bodies
-use Rattle.alt_shape.specs.Refusals.{Answer, not_together, not_built, table_exists, too_many_tables}
+use Rattle.alt_shape.specs.Refusals.{Answer, not_together, table_exists, too_many_tables}
 use Rattle.alt_shape.specs.Shape.{given}
 use Rattle.alt_schema.specs.Described.{description_of}
 use Rattle.alt_schema.specs.Json.{description_json}
@@ -19,7 +19,7 @@ use Rattle.alt_machine.specs.Refusals.{refuse_if, refuse_by}
 use Rattle.alt_machine.specs.Replies.{answers}
 use Rattle.alt_machine.specs.State.{State, new_table, families_of}
 
--- ---- members that don't go together, and what isn't built yet
+-- ---- members that don't go together
 
 -- whether a stream is asked for, where that is said
 abbrev pub enables : Members → Option Bool
@@ -43,18 +43,13 @@ abbrev pub of_stream : (Members → Bool) → Members → Bool
 of_stream test ms = option_map_or test (option_and_then as_object
     (given (codes "StreamSpecification") ms)) false
 
--- a stream is asked for; it isn't built yet
-abbrev pub is_unbuilt : Members → Bool
-is_unbuilt ms = of_stream (λ specification. unwrap_or (enables specification) false) ms
-
 -- ---- the operation
 
 -- what the body alone says, before its names, keys and indexes are read
 abbrev pub of_body : Members → List (Option Answer)
 of_body ms =
     of_shape (bodies.create_table ms) ∷
-    refuse_if (of_stream mismatched ms) not_together ∷
-    refuse_if (is_unbuilt ms) not_built ∷ []
+    refuse_if (of_stream mismatched ms) not_together ∷ []
 
 -- what it says of names, keys and indexes, and then what the tables say
 abbrev pub of_tables : State → Members → List (Option Answer)
@@ -79,6 +74,7 @@ created d = answers (codes "TableDescription") (description_json d (codes "ACTIV
 abbrev pub creates : State → TableSchema → Outcome
 creates s d = makes (with_table s d) (created d)
 
+-- behind all tests the table that the body describes is made, with the next number and the next families
 unfoldable pub create_table : State → ℕ → Members → Outcome
 create_table s moment ms = unless_refused (of_body ms) (unless_refused (of_tables s ms)
     (creates s (description_of ms moment s.next_number s.next_family)))

@@ -29,5 +29,6 @@ of_body ms = body_refusals (bodies.delete_item ms) rules ms
 abbrev pub deletes : State → ℕ → Members → Expressions → List Pair → Table → List ℕ → Outcome
 deletes s moment ms said key t place = writes_if said.condition s moment ms t place None
 
+-- behind the tests of the body, the key is read and placed in its table, and what is there is taken out
 unfoldable pub delete_item : State → ℕ → Members → Outcome
 delete_item s moment ms = on_item (of_body ms) Key conditional s ms (deletes s moment ms)

@@ -30,6 +30,7 @@ without_table s name = after_write s (map.remove s.tables name)
 abbrev pub deleted : TableSchema → Answer
 deleted d = answers (codes "TableDescription") (description_json d (codes "DELETING"))
 
+-- behind the tests the table that is named is taken out
 unfoldable pub delete_table : State → Members → Outcome
 delete_table s ms = on_table (of_body ms) s ms
     (λ t. writes (without_table s (table_name ms) ∷ []) (deleted t.description))

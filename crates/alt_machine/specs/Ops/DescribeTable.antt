@@ -23,5 +23,6 @@ of_body ms = body_refusals (bodies.describe_table ms) rules ms
 abbrev pub described : TableSchema → Answer
 described d = answers (codes "Table") (description_json d (codes "ACTIVE"))
 
+-- behind the tests the description of the table that is named is answered
 unfoldable pub describe_table : State → Members → Outcome
 describe_table s ms = on_table (of_body ms) s ms (λ t. says (described t.description))

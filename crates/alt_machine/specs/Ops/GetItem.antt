@@ -39,5 +39,6 @@ abbrev pub gets : Expressions → List Pair → Table → List ℕ → Outcome
 gets said key t place = says (item_answer (codes "Item")
     (option_map (parts said.projection) (map.get t.items place)))
 
+-- behind the tests of the body, the key is read and placed in its table, and what is there is answered
 unfoldable pub get_item : State → Members → Outcome
 get_item s ms = on_item (of_body ms) Key projecting s ms gets

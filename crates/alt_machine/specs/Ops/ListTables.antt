@@ -50,6 +50,7 @@ listed (Some last) page =
 abbrev pub page_of : ℕ → List (List ℕ) → Answer
 page_of most names = listed (continues most names) (take most names)
 
+-- behind the tests the first page of the names after the one to start after is answered
 unfoldable pub list_tables : State → Members → Outcome
 list_tables s ms = unless_refused (of_body ms)
     (says (page_of (page_length ms) (names_after (start_name ms) s.tables)))

@@ -41,5 +41,6 @@ abbrev pub puts : State → ℕ → Members → Expressions → List Pair → Ta
 puts s moment ms said item t place = unless_refused (of_item t.description item)
     (writes_if said.condition s moment ms t place (Some item))
 
+-- behind the tests of the body, the item is read and placed in its table, and is put there
 unfoldable pub put_item : State → ℕ → Members → Outcome
 put_item s moment ms = on_item (of_body ms) Item conditional s ms (puts s moment ms)

@@ -55,5 +55,6 @@ queries ms said start t index =
     with_found (walk_start t.description i (Some ask.hash) start) (λ place.
     pages t.description i ms said (listed (goes_forward ms) place (passes said.key_condition) t i)))
 
+-- behind the tests, in the table or the index that is asked for, the page of that list is answered
 unfoldable pub query : State → Members → Outcome
 query s ms = on_list (of_body ms) querying s ms (queries ms)

@@ -79,5 +79,6 @@ scans ms said start t index =
     pages t.description i ms said
     (listed true place (is_in (hash_of t.description i) (segment_of ms)) t i))
 
+-- behind the tests, in the table or the index that is asked for, the page of that list is answered
 unfoldable pub scan : State → Members → Outcome
 scan s ms = on_list (of_body ms) scanning s ms (scans ms)

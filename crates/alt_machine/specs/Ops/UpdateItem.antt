@@ -149,5 +149,6 @@ updates s moment ms said key t place =
     with_found (item_after update old) (λ item.
     leaves s moment ms update t place (left said key old item)))
 
+-- behind the tests of the body, the key is read and placed in its table, and what is there is changed
 unfoldable pub update_item : State → ℕ → Members → Outcome
 update_item s moment ms = on_item (of_body ms) Key updating s ms (updates s moment ms)

@@ -12,8 +12,8 @@ use alt_disk::MemoryDisk;
 use alt_tables::Tables;
 use std::alloc::Global;
 
-// Bytes by which a stop may pick what it leaves: the first of everything, all of it, and something between.
-static CHOICES: [&[u8]; 3] = [&[], &[1; 99], &[2, 0, 255, 7, 1, 1, 0, 3, 128, 1, 0, 1]];
+/// Bytes by which a stop may pick what it leaves: the first of everything, all of it, and something between.
+pub(super) static CHOICES: [&[u8]; 3] = [&[], &[1; 99], &[2, 0, 255, 7, 1, 1, 0, 3, 128, 1, 0, 1]];
 
 // What the store is known by that a stop at this moment leaves.
 fn left(alloc: Global, disk: &MemoryDisk, moment: u64, choice: &[u8]) -> Option<Vec<String>> {
@@ -77,8 +77,8 @@ fn stops_whole(
     stops_between(alloc, disk, from, to, &before, &after)
 }
 
-// Asks the first so many requests.
-fn ask_some(
+/// Asks the first so many requests.
+pub(super) fn ask_some(
     alloc: Global,
     tables: &mut Tables,
     disk: &mut MemoryDisk,

@@ -89,3 +89,27 @@ returns-in-BatchGetItem-clause-carried g c =
     carried_as c.args.operation _ c.in-BatchGetItem.is c.args.moment (members_view c.args.body.now.entries)
     (Stands (g.D.Disk.state c.args.disk.now) c.args.tables.now)
     (Stands (g.D.Disk.state c.batch_get_item.new.disk) c.batch_get_item.new.tables) c.batch_get_item.result c.batch_get_item.ensures.carried
+
+pub returns-in-ListStreams-clause-carried : goal.returns-in-ListStreams-clause-carried
+returns-in-ListStreams-clause-carried g c =
+    carried_as c.args.operation _ c.in-ListStreams.is c.args.moment (members_view c.args.body.now.entries)
+    (Stands (g.D.Disk.state c.args.disk.now) c.args.tables.now)
+    (Stands (g.D.Disk.state c.list_streams.new.disk) c.list_streams.new.tables) c.list_streams.result c.list_streams.ensures.carried
+
+pub returns-in-DescribeStream-clause-carried : goal.returns-in-DescribeStream-clause-carried
+returns-in-DescribeStream-clause-carried g c =
+    carried_as c.args.operation _ c.in-DescribeStream.is c.args.moment (members_view c.args.body.now.entries)
+    (Stands (g.D.Disk.state c.args.disk.now) c.args.tables.now)
+    (Stands (g.D.Disk.state c.describe_stream.new.disk) c.describe_stream.new.tables) c.describe_stream.result c.describe_stream.ensures.carried
+
+pub returns-in-GetShardIterator-clause-carried : goal.returns-in-GetShardIterator-clause-carried
+returns-in-GetShardIterator-clause-carried g c =
+    carried_as c.args.operation _ c.in-GetShardIterator.is c.args.moment (members_view c.args.body.now.entries)
+    (Stands (g.D.Disk.state c.args.disk.now) c.args.tables.now)
+    (Stands (g.D.Disk.state c.get_shard_iterator.new.disk) c.get_shard_iterator.new.tables) c.get_shard_iterator.result c.get_shard_iterator.ensures.carried
+
+pub returns-in-GetRecords-clause-carried : goal.returns-in-GetRecords-clause-carried
+returns-in-GetRecords-clause-carried g c =
+    carried_as c.args.operation _ c.in-GetRecords.is c.args.moment (members_view c.args.body.now.entries)
+    (Stands (g.D.Disk.state c.args.disk.now) c.args.tables.now)
+    (Stands (g.D.Disk.state c.get_records.new.disk) c.get_records.new.tables) c.get_records.result c.get_records.ensures.carried

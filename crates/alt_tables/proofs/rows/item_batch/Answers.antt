@@ -1,20 +1,20 @@
--- The changes of index rows are of other families than the change of the item's row.
-use Rattle.std.proofs.Common.{[], ◌∷◌, ◌++◌, sym, ap, subst, ◌∙◌}
-use Rattle.std.specs.Option.{option_copied}
+-- The row of the change is of another family than the changes of the item's row and of its index rows.
+use Rattle.std.proofs.Common.{refl, sym, subst, false, List, ◌≡◌}
+use Rattle.std.specs.Prelude.{option_map}
+use Rattle.alt_cells.specs.Batches.{has_row}
 use Rattle.alt_cells.specs.declared.batch.RowChange.{RowChange}
-use Rattle.alt_tables.proofs.IndexFamilies.{own_families, index_changes_new}
+use Rattle.alt_cells.specs.Changes.{change_between}
+use Rattle.alt_changes.specs.ChangeRows.{row_key}
+use Rattle.alt_tables.proofs.StreamShows.{change_new}
 use Rattle.alt_tables.proofs.rows.item_batch.Goals as goal
-use Rattle.alt_views.specs.Batches.{AreNew}
-use Rattle.alt_views.specs.IndexRows.{index_changes}
+use Rattle.alt_views.specs.ItemRows.{item_columns}
 
-pub index_changes-requires-clause-families : goal.index_changes-requires-clause-families
-index_changes-requires-clause-families c = own_families c.args.schema.now c.requires.families
-
-pub index_changes-requires-clause-rows : goal.index_changes-requires-clause-rows
-index_changes-requires-clause-rows c =
-    subst (λ (batch : _). AreNew batch (index_changes c.args.schema.now
-    (option_copied c.as_ref-3.result) (option_copied c.as_ref-4.result)))
-    (sym (c.in_ok-add.ensures.ok
-    ∙ ap (λ changes. changes ++ c.in_ok-change.change ∷ []) c.new-batch.ensures))
-    (index_changes_new c.args.schema.now c.requires.families _ _ c.in_ok-change.change
-    (ap (λ (x : RowChange). x.family) c.in_ok-change.ensures))
+pub change_row-requires : goal.change_row-requires
+change_row-requires c = record {
+  row = λ family stream. subst (λ (batch : List RowChange).
+      has_row batch family (row_key c.args.number) ≡ false) (sym c.in_ok-batch.ensures.changes)
+      (change_new c.args.schema.now c.requires.families c.args.old.now c.args.new.now
+      (change_between c.args.schema.now.family c.args.place
+      (option_map item_columns c.args.old.now) (option_map item_columns c.args.new.now)) refl family
+      stream (row_key c.args.number));
+}

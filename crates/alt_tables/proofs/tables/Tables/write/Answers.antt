@@ -1,5 +1,5 @@
 -- What is there differs from what is to be there, so one write is made.
-use Rattle.std.proofs.Common.{sym, ap, ◌∙◌, List, Err, subst, arith}
+use Rattle.std.proofs.Common.{sym, ap, ◌∙◌, List, Err, subst, arith, rules}
 use Rattle.alt_disk.proofs.Runs.{quiet_start}
 use Rattle.alt_machine.specs.Outcomes.{a_number}
 use Rattle.alt_machine.specs.State.{State}
@@ -38,10 +38,12 @@ returns-in-Ok-clause-writes g c s t stands at =
     let turned = item_turned (g.D.Disk.state c.args.disk.now) c.args.self.now s t stands
     c.args.moment c.args.table.now c.args.found.place c.args.found.item c.args.new at
     (c.requires.found s stands t at)
-    c.in-Some.schema.now c.in_ok-batch.batch (sym c.in-Some.ensures.table)
-    c.in_ok-batch.ensures.changes (omega (arith, c.next_number-number.ensures.next, c.if-number-ge-NUMBERS_END.false))
+    c.in-Some.schema.now c.next_number-number.result c.in_ok-batch.batch
+    (sym c.in-Some.ensures.table) c.next_number-number.ensures.next c.in_ok-batch.ensures.changes
+    (omega (arith, c.next_number-number.ensures.next, c.if-number-ge-NUMBERS_END.false))
+    (sym c.if-same.ensures)
     (c.requires.new s stands c.in-Some.schema.now (sym c.in-Some.ensures.table))
-    c.in_ok-batch.ensures.held in
+    c.in_ok-batch.ensures.held (search rules) in
     subst (λ (ts : List State). AreMade (Stands (g.D.Disk.state c.make.new.disk) c.make.new.self) a_number s ts)
     (sym (item_differs (g.D.Disk.state c.args.disk.now) c.args.self.now s t stands
     c.args.moment c.args.table.now c.args.found.place c.args.found.item c.args.new at
@@ -62,10 +64,12 @@ returns-in-Ok-clause-disk g c s t stands at =
     let turned = item_turned (g.D.Disk.state c.args.disk.now) c.args.self.now s t stands
     c.args.moment c.args.table.now c.args.found.place c.args.found.item c.args.new at
     (c.requires.found s stands t at)
-    c.in-Some.schema.now c.in_ok-batch.batch (sym c.in-Some.ensures.table)
-    c.in_ok-batch.ensures.changes (omega (arith, c.next_number-number.ensures.next, c.if-number-ge-NUMBERS_END.false))
+    c.in-Some.schema.now c.next_number-number.result c.in_ok-batch.batch
+    (sym c.in-Some.ensures.table) c.next_number-number.ensures.next c.in_ok-batch.ensures.changes
+    (omega (arith, c.next_number-number.ensures.next, c.if-number-ge-NUMBERS_END.false))
+    (sym c.if-same.ensures)
     (c.requires.new s stands c.in-Some.schema.now (sym c.in-Some.ensures.table))
-    c.in_ok-batch.ensures.held in
+    c.in_ok-batch.ensures.held (search rules) in
     subst (λ (ts : List State). Leaves (g.D.Disk.state c.args.disk.now) (g.D.Disk.state c.make.new.disk) s ts)
     (sym (item_differs (g.D.Disk.state c.args.disk.now) c.args.self.now s t stands
     c.args.moment c.args.table.now c.args.found.place c.args.found.item c.args.new at
@@ -98,10 +102,12 @@ returns-clause-disk g c s t stands at =
     let turned = item_turned (g.D.Disk.state c.args.disk.now) c.args.self.now s t stands
     c.args.moment c.args.table.now c.args.found.place c.args.found.item c.args.new at
     (c.requires.found s stands t at)
-    c.in-Some.schema.now c.in_ok-batch.batch (sym c.in-Some.ensures.table)
-    c.in_ok-batch.ensures.changes (omega (arith, c.next_number-number.ensures.next, c.if-number-ge-NUMBERS_END.false))
+    c.in-Some.schema.now c.next_number-number.result c.in_ok-batch.batch
+    (sym c.in-Some.ensures.table) c.next_number-number.ensures.next c.in_ok-batch.ensures.changes
+    (omega (arith, c.next_number-number.ensures.next, c.if-number-ge-NUMBERS_END.false))
+    (sym c.if-same.ensures)
     (c.requires.new s stands c.in-Some.schema.now (sym c.in-Some.ensures.table))
-    c.in_ok-batch.ensures.held in
+    c.in_ok-batch.ensures.held (search rules) in
     subst (λ (ts : List State). Leaves (g.D.Disk.state c.args.disk.now) (g.D.Disk.state c.make.new.disk) s ts)
     (sym (item_differs (g.D.Disk.state c.args.disk.now) c.args.self.now s t stands
     c.args.moment c.args.table.now c.args.found.place c.args.found.item c.args.new at

@@ -1,0 +1,140 @@
+-- The key of an item, put together from its attributes; it is no larger than the item.
+use Rattle.std.proofs.Common.{◌≡◌, ◌≤◌, refl, sym, ap, ◌∙◌, cond, ℕ, Bool, true, false, ◌||◌, T, List, [], ◌∷◌, Option, Some, None, arith}
+use Rattle.std.specs.Cmp.Lexicographic.{nat_list_eq_equiv, texts_ties}
+use Rattle.std.specs.Ordering.{eq_by_cmp}
+use Rattle.std.specs.FinMap.Entries.{find, is_sorted, where_key, find-put, find-where_key, is_sorted-put, is_sorted-where_key, same_entries}
+use Rattle.std.specs.Str.{bytes_eq}
+use Rattle.alt_cells.proofs.CellLaws.{key_total, key_exact}
+use Rattle.alt_machine.specs.Lists.{key_attributes}
+use Rattle.alt_machine.specs.Sources.{is_key_there}
+use Rattle.alt_changes.specs.KeyOf.{with_attribute}
+use Rattle.alt_schema.specs.Indexes.{is_key}
+use Rattle.alt_schema.specs.declared.schema.KeyAttr.{KeyAttr}
+use Rattle.alt_schema.specs.declared.schema.TableSchema.{TableSchema}
+use Rattle.std.proofs.lemmas.Slice.Eq.{bytes_eq-Decides}
+use Rattle.alt_cells.proofs.Entries.{find_below}
+use Rattle.alt_value.specs.Item.{IsItem, at_name}
+use Rattle.alt_value.specs.Members.{text_order}
+use Rattle.alt_value.specs.Size.{item_size}
+use Rattle.alt_value.specs.Tree.{Tree, Pair}
+
+-- two ways to tell that a name is another
+same_name : (m n : List ℕ) → eq_by_cmp text_order n m ≡ bytes_eq m n
+same_name m n = sym (texts_ties n m) ∙ nat_list_eq_equiv.symm n m
+
+-- no attribute has the empty name
+no_empty : (item : List Pair) → IsItem item → find text_order [] item ≡ None
+no_empty item h = find_below text_order key_total [] item h.1
+
+-- ---- one attribute more
+
+module _ (item : List Pair) (is_item : IsItem item) where
+  -- of each name the key has what the item has, for names that pass
+  abbrev KeepsWhere : (List ℕ → Bool) → List Pair → Type 0
+  KeepsWhere p key = T (is_sorted text_order key)
+      × ((q : List ℕ) → find text_order q key ≡ cond (p q) (find text_order q item) None)
+
+  none_either : (b : Bool) (o : Option Tree) → o ≡ None → cond b o None ≡ o
+  none_either true o e = refl
+  none_either false o e = sym e
+
+  -- with an attribute it has that of one name more
+  kept_more : (name : List ℕ) (p : List ℕ → Bool) (key : List Pair) → KeepsWhere p key
+      → KeepsWhere (λ q. bytes_eq name q || p q)
+      (with_attribute name (at_name name item) key)
+  kept_more name p key keeps = by name refl (at_name name item) refl
+    where
+      -- a name that isn't there adds nothing
+      without : (q : List ℕ) → find text_order name item ≡ None → find text_order q key
+          ≡ cond (bytes_eq name q || p q) (find text_order q item) None
+      without q none = one (bytes_eq name q) refl
+        where
+          one : (b : Bool) → bytes_eq name q ≡ b
+              → find text_order q key ≡ cond (b || p q) (find text_order q item) None
+          one true same = keeps.1 q ∙ none_either (p q) (find text_order q item)
+              (ap (λ n. find text_order n item) (sym ((bytes_eq-Decides name q).0 same)) ∙ none)
+          one false other = keeps.1 q
+
+      by : (n : List ℕ) → name ≡ n → (o : Option Tree) → at_name name item ≡ o
+          → KeepsWhere (λ q. bytes_eq name q || p q) (with_attribute n o key)
+      by [] is o at = (
+        keeps.0,
+        λ q. without q (ap (λ n. find text_order n item) is
+            ∙ no_empty item is_item),
+      )
+      by (b ∷ bs) is None at = (keeps.0, λ q. without q at)
+      by (b ∷ bs) is (Some t) at = (
+        is_sorted-put text_order key_total (b ∷ bs) t key keeps.0,
+        λ q. find-put text_order key_total q (b ∷ bs) t key
+            ∙ ap (λ c. cond c (Some t) (find text_order q key))
+            (same_name (b ∷ bs) q ∙ ap (λ n. bytes_eq n q) (sym is))
+            ∙ two q (bytes_eq name q) refl,
+      )
+        where
+          two : (q : List ℕ) (c : Bool) → bytes_eq name q ≡ c
+              → cond c (Some t) (find text_order q key)
+              ≡ cond (c || p q) (find text_order q item) None
+          two q true same = sym (ap (λ n. find text_order n item)
+              (sym ((bytes_eq-Decides name q).0 same)) ∙ at)
+          two q false other = keeps.1 q
+
+  -- two keys that have the same are one
+  one_key : (p q : List ℕ → Bool) (a b : List Pair) → KeepsWhere p a → KeepsWhere q b
+      → ((n : List ℕ) → p n ≡ q n) → a ≡ b
+  one_key p q a b h k same = same_entries text_order key_total key_exact a b h.0 k.0
+      (λ n. h.1 n ∙ ap (λ c. cond c (find text_order n item) None) (same n) ∙ sym (k.1 n))
+
+  -- that of the item itself
+  where_kept : (p : List ℕ → Bool) → KeepsWhere p (where_key text_order p item)
+  where_kept p = (
+    is_sorted-where_key text_order p item is_item.0,
+    λ q. find-where_key text_order p q (λ x tie. ap p (sym (key_exact q x tie))) item,
+  )
+
+  none_kept : KeepsWhere (λ q. false) []
+  none_kept = (tt, λ q. refl)
+
+  -- with the HASH attribute alone, or with the RANGE attribute too, it has those of their names
+  pub key_of_hash : (d : TableSchema) → d.range ≡ None
+      → with_attribute d.hash.name (at_name d.hash.name item) [] ≡ key_attributes d None item
+  key_of_hash d none = one_key _ _ _ _ (kept_more d.hash.name (λ q. false) [] none_kept)
+      (where_kept (is_key_there d None))
+      (λ q. ap (is_named q) (sym none))
+    where
+      is_named : List ℕ → Option KeyAttr → Bool
+      is_named q range = is_key d.hash range q
+
+  pub key_of_both : (d : TableSchema) (range : KeyAttr) → d.range ≡ Some range
+      → with_attribute range.name (at_name range.name item)
+      (with_attribute d.hash.name (at_name d.hash.name item) []) ≡ key_attributes d None item
+  key_of_both d range some = one_key _ _ _ _
+      (kept_more range.name _ _ (kept_more d.hash.name (λ q. false) [] none_kept))
+      (where_kept (is_key_there d None))
+      (λ q. turn (bytes_eq range.name q) (bytes_eq d.hash.name q) ∙ ap (is_named q) (sym some))
+    where
+      is_named : List ℕ → Option KeyAttr → Bool
+      is_named q o = is_key d.hash o q
+
+      turn : (a b : Bool) → (a || (b || false)) ≡ (b || a)
+      turn true true = refl
+      turn true false = refl
+      turn false true = refl
+      turn false false = refl
+
+-- ---- its size
+
+-- some of the attributes are no larger than all
+pub some_size : (p : List ℕ → Bool) (item : List Pair)
+    → item_size (where_key text_order p item) ≤ item_size item
+some_size p [] = omega arith
+some_size p (e ∷ es) = by (p e.0) (some_size p es)
+  where
+    by : (b : Bool) → item_size (where_key text_order p es) ≤ item_size es
+        → item_size (cond b (e ∷ where_key text_order p es) (where_key text_order p es))
+        ≤ item_size (e ∷ es)
+    by true h = omega (arith, h)
+    by false h = omega (arith, h)
+
+pub key_size : (d : TableSchema) (item : List Pair)
+    → item_size (key_attributes d None item) ≤ item_size item
+key_size d item = some_size (is_key_there d None) item

@@ -1,0 +1,7 @@
+pub mod Floats
+pub mod Found
+pub mod IteratorTexts
+pub mod KeyPut
+pub mod RowLaws
+pub mod Rows
+pub mod Written

@@ -1,0 +1,3 @@
+pub mod ChangeRows
+pub mod KeyOf
+pub mod NoChange

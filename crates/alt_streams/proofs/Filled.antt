@@ -1,0 +1,91 @@
+-- A page that is being filled: a record more, and the page of the changes that were read.
+use Rattle.std.proofs.Common.{◌≡◌, refl, sym, ap, ◌∙◌, ℕ, ◌+◌, ◌-◌, ◌||◌, ◌==◌, true, false, nat_le, List, [], ◌∷◌, ◌++◌, length, map, sum_by, codes, arith, length-append}
+use Rattle.std.proofs.lemmas.List.{map_push}
+use Rattle.std.proofs.lemmas.List.Sums.{sum_by_push}
+use Rattle.serde_json.specs.Data.{Data, string, array, item, member, no_members}
+use Rattle.serde_json.specs.View.{view, items_view, items_of}
+use Rattle.serde_json.specs.declared.value.Value.{Value}
+use Rattle.alt_expr.specs.Pages.{page_bytes}
+use Rattle.alt_machine.specs.Changes.{record_json, record_size}
+use Rattle.alt_machine.specs.Ops.GetRecords.{fills, page_of, records_answer}
+use Rattle.alt_machine.specs.State.{Change}
+use Rattle.alt_machine.specs.Streams.{iterator_text}
+use Rattle.alt_schema.specs.Json.{items_by}
+use Rattle.alt_schema.specs.declared.schema.TableSchema.{TableSchema}
+use Rattle.alt_schema.specs.declared.schema.View.{View}
+use Rattle.alt_shape.specs.Refusals.{answered}
+use Rattle.alt_streams.specs.Paged.{HasRead, is_full, iterator_at, page_answer}
+use Rattle.alt_streams.specs.declared.page.Page.{Page}
+use Rattle.alt_streams.proofs.Prefixes.{first_push, page_full, page_whole}
+use Rattle.alt_streams.proofs.Numbers.{past-append}
+
+items_of-map : {A : Type 0} (shown : A → Data) (xs : List A) → items_of (map shown xs)
+    ≡ items_by shown xs
+items_of-map shown [] = refl
+items_of-map shown (x ∷ xs) = ap (λ ds. item (shown x) ds) (items_of-map shown xs)
+
+-- nothing is left exactly where it was reached
+none_left : (most count : ℕ) → (most - count == 0) ≡ nat_le most count
+none_left most count = grind arith
+
+module _ (d : TableSchema) (shows : View) (most from : ℕ) where
+  abbrev size : Change → ℕ
+  size = record_size d shows
+
+  -- a page is full exactly where its records fill it
+  pub full_is : (page : Page) (seen : List Change) → HasRead d shows most from page seen
+      → is_full page ≡ fills most size seen
+  full_is page seen h = (λ i. (h.room i == 0) || (h.left i == 0))
+      ∙ (λ i. none_left most (length seen) i || none_left page_bytes (sum_by size seen) i)
+
+  -- a page without records
+  pub begun : (page : Page) → page.records.items ≡ [] → page.room ≡ most
+      → page.left ≡ page_bytes → page.next ≡ from → HasRead d shows most from page []
+  begun page records room left next = record {
+    records = ap (map view) records;
+    room = omega (arith, room);
+    left = omega (arith, left);
+    next = next;
+    first = refl;
+  }
+
+  -- a record more
+  pub put_on : (old new : Page) (seen : List Change) (c : Change) (one : Value)
+      → HasRead d shows most from old seen → is_full old ≡ false
+      → new.records.items ≡ old.records.items ++ one ∷ [] → view one ≡ record_json d shows c
+      → new.room ≡ old.room - 1 → new.left ≡ old.left - size c → new.next ≡ c.number + 1
+      → HasRead d shows most from new (seen ++ c ∷ [])
+  put_on old new seen c one h going put is room left next =
+      let count = length-append seen (c ∷ []) in
+      let total = sum_by_push size seen c in
+      let was_room = h.room in
+      let was_left = h.left in
+      record {
+        records = ap (map view) put ∙ map_push view old.records.items one
+            ∙ (λ i. h.records i ++ is i ∷ []) ∙ sym (map_push (record_json d shows) seen c);
+        room = omega (arith, room, was_room, count);
+        left = omega (arith, left, was_left, total);
+        next = next ∙ sym (past-append (λ (x : Change). x.number) from seen (c ∷ []));
+        first = first_push (fills most size) seen c h.first (sym (full_is old seen h) ∙ going);
+      }
+
+  -- the page of a list of which a front was read that fills it
+  pub page_ended : (page : Page) (seen rest : List Change) → HasRead d shows most from page seen
+      → is_full page ≡ true → page_of most size (seen ++ rest) ≡ seen
+  page_ended page seen rest h full =
+      page_full (fills most size) seen rest h.first (sym (full_is page seen h) ∙ full)
+
+  -- and of one that was read whole
+  pub page_all : (page : Page) (seen : List Change) → HasRead d shows most from page seen
+      → page_of most size seen ≡ seen
+  page_all page seen h = page_whole (fills most size) seen h.first
+
+  -- the page is answered with its records
+  pub page_records : (page : Page) (changes : List Change) → HasRead d shows most from page changes
+      → page_answer d page ≡ records_answer d (iterator_at d from) changes shows
+  page_records page changes h =
+      let items : items_view page.records.items ≡ items_by (record_json d shows) changes =
+      ap items_of h.records ∙ items_of-map (record_json d shows) changes in
+      (λ j. answered
+      (member (codes "NextShardIterator") (string (iterator_text (iterator_at d (h.next j))))
+      (member (codes "Records") (array (items j)) no_members)))

@@ -1,0 +1,16 @@
+pub mod Answering
+pub mod Describing
+pub mod Ending
+pub mod Entries
+pub mod Filled
+pub mod Following
+pub mod Iterating
+pub mod Naming
+pub mod Numbers
+pub mod Pieces
+pub mod Placing
+pub mod Plain
+pub mod Prefixes
+pub mod Reached
+pub mod Reaching
+pub mod Rising

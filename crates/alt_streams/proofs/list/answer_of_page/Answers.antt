@@ -1,0 +1,14 @@
+-- The streams of the page.
+use Rattle.std.proofs.Common.{◌∙◌}
+use Rattle.alt_machine.specs.Ops.ListStreams.{streams_answer}
+use Rattle.alt_streams.specs.Listed.{streams_after}
+use Rattle.alt_streams.proofs.Answering.{page-answered, page_said}
+use Rattle.alt_streams.proofs.list.answer_of_page.Goals as goal
+use Rattle.alt_tables.specs.Stands.{catalog_of}
+
+pub returns-clause-reply : goal.returns-clause-reply
+returns-clause-reply c named = page_said c.listed.result _ _
+    (page-answered _ _ _ _ (c.in_ok-page.ensures.streams named) (c.in_ok-page.ensures.more named)
+    ∙ (λ i. streams_answer (c.page_length.ensures i)
+    (streams_after (c.start_name.ensures i) (c.text_at-name.ensures i) (catalog_of c.args.tables.now))))
+    c.listed.ensures.reply

@@ -1,0 +1,209 @@
+-- The rows of a stream after an item changes: those of its changes with the one that the write leaves.
+use Rattle.std.proofs.Common.{◌≡◌, ◌≢◌, ◌<◌, ◌≤◌, ◌+◌, refl, sym, ap, subst, ◌∙◌, ℕ, suc, Bool, true, false, cond, List, [], ◌∷◌, ◌++◌, map, length, Option, Some, None, option_map, slice_get, Contains, All, IfSome, arith}
+use Rattle.std.proofs.lemmas.Bool.{eqb-true}
+use Rattle.std.proofs.lemmas.Option.{slice_get-map, slice_get_within, get_or_from_slice_get}
+use Rattle.std.specs.FinMap as finite
+use Rattle.std.specs.Option.{option_map_or, option_to_list}
+use Rattle.std.specs.Ordering.{eq_by_cmp}
+use Rattle.std.specs.Prelude.{◌==◌, ◌&&◌, ◌||◌, if◌then◌else◌, is_some}
+use Rattle.std.specs.Str.{bytes_eq}
+use Rattle.alt_cells.specs.Batches.{has_row}
+use Rattle.alt_cells.specs.Keys.{key_cmp}
+use Rattle.alt_cells.specs.declared.batch.RowChange.{RowChange}
+use Rattle.alt_cells.proofs.ChangeLaws.{written-change_between}
+use Rattle.alt_changes.specs.ChangeRows.{IsReadItem, change_columns, row_change, row_changes, row_key}
+use Rattle.alt_changes.proofs.RowLaws.{change_can_show}
+use Rattle.alt_engine.specs.Layout.{Layout, Write, ShowsWrite, change_of, shown, shown_by, with_write}
+use Rattle.alt_machine.specs.Changes.{change_left, with_change}
+use Rattle.alt_machine.specs.Same.{is_same}
+use Rattle.alt_machine.specs.Sources.{index_at}
+use Rattle.alt_machine.specs.State.{Change, State, Table, families_of}
+use Rattle.alt_machine.specs.Valid.{AreChanges, IsChange, IsValid, WasStored}
+use Rattle.alt_machine.specs.declared.TheConstants.{NUMBERS_END}
+use Rattle.alt_schema.specs.Indexes.{indexes}
+use Rattle.alt_schema.specs.declared.schema.IndexSchema.{IndexSchema}
+use Rattle.alt_schema.specs.declared.schema.TableSchema.{TableSchema}
+use Rattle.alt_tables.specs.Families.{HasOwnFamilies}
+use Rattle.alt_tables.specs.StateRows.{IsHeldWhole, keyed_changes}
+use Rattle.alt_tables.proofs.ChangeLaws.{AreOthers, one_change}
+use Rattle.alt_tables.proofs.IndexFamilies.{index_families, index_at_families, others-index_changes}
+use Rattle.alt_tables.proofs.StreamKeys.{IsKept, IsSmall, keyed_more}
+use Rattle.alt_value.specs.Tree.{Pair}
+use Rattle.alt_value.specs.Values.{IsItemOfValues}
+use Rattle.alt_views.specs.IndexRows.{index_changes}
+
+-- ---- the family of a stream
+
+-- it stands behind those of the indexes
+stream_at_families : (d : TableSchema) (f : ℕ) → d.stream_family ≡ Some f
+    → slice_get (families_of d) (suc (length (index_families d))) ≡ Some f
+stream_at_families d f stream =
+    ap (λ o. slice_get (index_families d ++ option_map_or (λ f. f ∷ []) o [])
+    (length (index_families d))) stream
+    ∙ last (index_families d)
+  where
+    last : (xs : List ℕ) → slice_get (xs ++ f ∷ []) (length xs) ≡ Some f
+    last [] = refl
+    last (x ∷ xs) = last xs
+
+-- it is one of its table's
+pub stream_family : (d : TableSchema) (f : ℕ) → d.stream_family ≡ Some f
+    → Contains (families_of d) f
+stream_family d f stream =
+    let there = stream_at_families d f stream in (
+      suc (length (index_families d)),
+      slice_get_within (families_of d) (suc (length (index_families d))) f there,
+      get_or_from_slice_get (families_of d) (suc (length (index_families d))) f f there,
+    )
+
+-- it isn't the table's own
+pub stream_family_differs : (d : TableSchema) → HasOwnFamilies d → (f : ℕ)
+    → d.stream_family ≡ Some f → d.family ≢ f
+stream_family_differs d differ f stream same =
+    let there = stream_at_families d f stream in
+    differ 0 (suc (length (index_families d))) f (omega arith)
+    (slice_get_within (families_of d) (suc (length (index_families d))) f there)
+    (same ∙ sym (get_or_from_slice_get (families_of d) (suc (length (index_families d))) f f there))
+
+-- nor that of an index
+pub stream_index_differs : (d : TableSchema) → HasOwnFamilies d → (n : ℕ) (i : IndexSchema)
+    → index_at d (Some n) ≡ Some i → (f : ℕ) → d.stream_family ≡ Some f → i.family ≢ f
+stream_index_differs d differ n i at f stream same =
+    let there = stream_at_families d f stream in
+    let here = index_at_families d n i at in
+    let within : n < length (index_families d) =
+    slice_get_within (index_families d) n i.family
+    (slice_get-map (λ (i : IndexSchema). i.family) (indexes d) n
+    ∙ ap (option_map (λ (i : IndexSchema). i.family)) at) in
+    differ (suc n) (suc (length (index_families d))) f (omega (arith, within))
+    (slice_get_within (families_of d) (suc (length (index_families d))) f there)
+    (get_or_from_slice_get (families_of d) (suc n) i.family f here ∙ same
+    ∙ sym (get_or_from_slice_get (families_of d) (suc (length (index_families d))) f f there))
+
+-- ---- the change of a row of a stream
+
+-- it is of no other family
+pub others-row_changes : (d : TableSchema) (left : Option Change) (family : ℕ)
+    → ((f : ℕ) → d.stream_family ≡ Some f → f ≢ family) → AreOthers family (row_changes d left)
+others-row_changes d left family apart = by d.stream_family left apart
+  where
+    by : (o : Option ℕ) (left : Option Change) → ((f : ℕ) → o ≡ Some f → f ≢ family)
+        → AreOthers family (option_map_or (λ f. map (row_change f) (option_to_list left)) o [])
+    by None left apart = tt
+    by (Some f) None apart = tt
+    by (Some f) (Some c) apart = (apart f refl, tt)
+
+-- changes of other families are of no row of this one
+pub no_row : (family : ℕ) (key : List ℕ) (cs : List RowChange) → AreOthers family cs
+    → has_row cs family key ≡ false
+no_row family key [] others = refl
+no_row family key (c ∷ cs) others = by (c.family == family) refl ∙ no_row family key cs others.1
+  where
+    by : (b : Bool) → (c.family == family) ≡ b
+        → ((b && bytes_eq c.key key) || has_row cs family key) ≡ has_row cs family key
+    by true same = absurd (others.0 (eqb-true c.family family same))
+    by false differs = refl
+
+-- So it may join the changes of an item's row and of its index rows.
+pub change_new : (d : TableSchema) → HasOwnFamilies d → (old new : Option (List Pair))
+    → (c : RowChange) → c.family ≡ d.family → (family : ℕ) → d.stream_family ≡ Some family
+    → (key : List ℕ) → has_row (c ∷ index_changes d old new) family key ≡ false
+change_new d differ old new c of_table family stream key =
+    no_row family key (c ∷ index_changes d old new) (
+      λ same. stream_family_differs d differ family stream (sym of_table ∙ same),
+      others-index_changes d old new family (indexes d)
+          (λ n i at. stream_index_differs d differ n i at family stream),
+    )
+
+-- ---- what holds of the changes of a state
+
+-- what holds of each holds of each in other words
+each_so : (P Q : Change → Type 0) (cs : List Change) → ((c : Change) → P c → Q c) → All P cs
+    → All Q cs
+each_so P Q cs f all k x within = f _ (all k x within)
+
+-- their numbers fit
+pub are_small : (d : TableSchema) (next : ℕ) (cs : List Change) → next ≤ NUMBERS_END + 1
+    → AreChanges d next cs → All IsSmall cs
+are_small d next cs high changes = each_so (IsChange d next) IsSmall cs
+    (λ c is. let low = is.number in omega (arith, low, high)) changes.each
+
+read_item : (d : TableSchema) (place : List ℕ) (o : Option (List Pair))
+    → IfSome o (WasStored d place) → IfSome o IsItemOfValues → IfSome o IsReadItem
+read_item d place None was held = tt
+read_item d place (Some item) was held = record { whole = (held, was.full); depth = was.depth }
+
+-- and they can be read back from their rows
+pub are_kept : (s : State) → IsValid s → IsHeldWhole s → (name : List ℕ) (t : Table)
+    → finite.get s.tables name ≡ Some t → All IsKept t.changes
+are_kept s valid held name t at k x within =
+    let is = (valid.tables name t at).changes.each k x within in
+    let low = is.number in
+    let high = valid.next_number.1 in
+    let whole = held.items.changes name t at k x within in (
+      omega (arith, low, high),
+      record {
+        moment = held.moments name t at k x within;
+        old = read_item t.description is.place _ is.old whole.0;
+        new = read_item t.description is.place _ is.new whole.1;
+      },
+    )
+
+-- ---- a stream after a write
+
+module _ (d : TableSchema) (family : ℕ) (stream : d.stream_family ≡ Some family) (n moment : ℕ)
+    (old new : Option (List Pair)) (differ : is_same old new ≡ false) where
+  -- the change that the write leaves
+  abbrev change : Change
+  change = record { number = n; moment = moment; old = old; new = new }
+
+  is_left : change_left n moment old new ≡ Some change
+  is_left = ap (λ b. if b then None else Some change) differ
+
+  -- its row
+  row_left : row_changes d (change_left n moment old new) ≡ row_change family change ∷ []
+  row_left i = option_map_or (λ f. map (row_change f) (option_to_list (is_left i))) (stream i) []
+
+  -- the list with it
+  list_left : (cs : List Change)
+      → with_change d (change_left n moment old new) cs ≡ cs ++ change ∷ []
+  list_left cs i = if is_some (stream i) then cs ++ option_to_list (is_left i) else cs
+
+  -- What the family shows after the write are the changes with that one.
+  pub stream_shows : (l : Layout) (w : Write) → ShowsWrite l w → (cs : List Change)
+      → AreChanges d n cs → AreChanges d (n + 1) (with_change d (change_left n moment old new) cs)
+      → n < NUMBERS_END
+      → ((key : List ℕ) → change_of family key w.changes
+      ≡ change_of family key (row_changes d (change_left n moment old new)))
+      → ((key : List ℕ) → shown l family key
+      ≡ option_map change_columns (finite.get (keyed_changes cs) key))
+      → (key : List ℕ) → shown (with_write l w) family key
+      ≡ option_map change_columns (finite.get
+      (keyed_changes (with_change d (change_left n moment old new) cs)) key)
+  stream_shows l w law cs before after room changes shows key =
+      law family key
+      ∙ ap (λ c. shown_by c (shown l family key))
+      (changes key ∙ ap (change_of family key) row_left
+      ∙ one_change (row_change family change) key)
+      ∙ ap (shown_by (if eq_by_cmp key_cmp key (row_key n) then Some (row_change family change)
+      else None)) (shows key)
+      ∙ by (eq_by_cmp key_cmp key (row_key n)) (finite.get (keyed_changes cs) key)
+      ∙ ap (option_map change_columns) (sym (keyed_more cs change
+      (are_small d n cs (omega (arith, room)) before) before.rise
+      (are_small d (n + 1) (cs ++ change ∷ []) (omega (arith, room)) with_it) with_it.rise
+      (omega (arith, room))
+      (each_so (IsChange d n) (λ (x : Change). x.number < n) cs (λ c is. is.number) before.each)
+      key))
+      ∙ ap (λ list. option_map change_columns (finite.get (keyed_changes list) key))
+      (sym (list_left cs))
+    where
+      with_it : AreChanges d (n + 1) (cs ++ change ∷ [])
+      with_it = subst (AreChanges d (n + 1)) (list_left cs) after
+
+      by : (b : Bool) (o : Option Change)
+          → shown_by (if b then Some (row_change family change) else None)
+          (option_map change_columns o)
+          ≡ option_map change_columns (cond b (Some change) o)
+      by true o = written-change_between family (row_key n) None (Some (change_columns change))
+          (change_can_show change)
+      by false o = refl

@@ -37,7 +37,12 @@ expect 'serving without a port' 0 '' ./alternator "$store" 0 serve 1 1 65536 4
 expect 'no request on a connection' 1 'alternator: words' ./alternator . 0 serve 0 1 65536 4
 expect 'no connection' 1 'alternator: words' ./alternator . 0 serve 1 0 65536 4
 expect 'too many connections' 1 'alternator: words' ./alternator . 0 serve 1 4294967296 65536 4
-expect 'a command that is not built' 1 'alternator: words' ./alternator . 0 trial 1 1 65536 4
+expect 'another command' 1 'alternator: words' ./alternator . 0 tryout 1 1 65536 4
+expect 'no request of a trial' 1 'alternator: words' ./alternator . 0 trial 1 0 65536 4
+expect 'too many requests of a trial' 1 'alternator: words' ./alternator . 0 trial 1 1000001 65536 4
+expect 'a seed too great' 1 'alternator: words' ./alternator . 0 trial 18446744073709551616 1 65536 4
+expect 'a seed with a leading zero' 1 'alternator: words' ./alternator . 0 trial 07 1 65536 4
+expect 'a trial without a merge' 1 'alternator: words' ./alternator . 0 trial 1 1 65536
 expect 'a word behind init' 1 'alternator: words' ./alternator "$work/other" 0 init 65536
 [ ! -e "$work/other" ] && passed=$((passed + 1)) || { failed=$((failed + 1)); echo 'wrong words made a folder'; }
 expect 'a closed standard output' 4 'alternator: device' closed
@@ -65,6 +70,50 @@ rm "$work/part/0000001f.alt"
 says 'other names are passed over' 0 ok ./alternator "$work/part" 0 init
 [ "$(cat "$work/made/"*.alt | od -An -tx1 | tr -d ' \n')" = 414c544c4f473031010000000000000020000000030000000000000001000000000000000100000002000000000000000000414c544c4f47303100 ] \
   && passed=$((passed + 1)) || { failed=$((failed + 1)); echo 'the bytes of an empty store'; }
+
+# ---- trials, each over a store of its own
+
+# tried FLUSH WORD..: what a trial with these words, and that FLUSH, says over a fresh store
+tried() {
+  local flush=$1
+  shift
+  rm -rf "$work/trial"
+  ./alternator "$work/trial" 0 init >/dev/null
+  ./alternator "$work/trial" 0 trial "$@" "$flush" 4 </dev/null
+}
+# sums NAME COUNT FLUSH WORD..: that it ends with 0 and says four lines whose second and third count up to COUNT, and the same with that FLUSH
+sums() {
+  local name=$1 count=$2 flush=$3 first second got
+  shift 3
+  first=$(tried 65536 "$@")
+  got=$?
+  second=$(tried "$flush" "$@")
+  if [ "$got$?" = 00 ] && [ "$first" = "$second" ] && printf '%s\n' "$first" | awk -v count="$count" '
+    NR == 1 { good = $0 == "requests " count }
+    NR == 2 { good = good && $1 == "200"; sum = $2 }
+    NR == 3 { good = good && $1 == "400" && sum + $2 == count }
+    NR == 4 { good = good && $0 ~ /^replies [0-9a-f]+$/ && length($2) == 64 }
+    END { exit !(good && NR == 4) }'; then
+    passed=$((passed + 1))
+  else
+    failed=$((failed + 1))
+    echo "$name: status $got and '$first', and then '$second'"
+  fi
+}
+sums 'a trial' 200 1073741824 7 200
+sums 'the greatest seed' 1 65536 18446744073709551615 1
+# The digest is that of what replay says to one request, whose reply has no moment in it.
+printf '%s\n' 'CreateTable {"AttributeDefinitions":[{"AttributeName":"k","AttributeType":"S"}],"KeySchema":[{"AttributeName":"k","KeyType":"HASH"}],"TableName":"Trial"}' \
+  | ./alternator "$store" 0 replay 65536 4 >/dev/null
+printf '%s\n' 'CreateTable {"AttributeDefinitions":[{"AttributeName":"g","AttributeType":"S"},{"AttributeName":"k","AttributeType":"S"},{"AttributeName":"r","AttributeType":"N"}],"GlobalSecondaryIndexes":[{"IndexName":"Gix","KeySchema":[{"AttributeName":"g","KeyType":"HASH"}],"Projection":{"ProjectionType":"KEYS_ONLY"}}],"KeySchema":[{"AttributeName":"k","KeyType":"HASH"},{"AttributeName":"r","KeyType":"RANGE"}],"StreamSpecification":{"StreamEnabled":true,"StreamViewType":"NEW_AND_OLD_IMAGES"},"TableName":"Trial"}' \
+  | ./alternator "$store" 0 replay 65536 4 >"$work/refused"
+says 'a trial over a store that has its table' 0 "requests 1
+200 0
+400 1
+replies $(sha256sum <"$work/refused" | cut -d' ' -f1)" ./alternator "$store" 0 trial 7 1 65536 4
+rm -rf "$store"
+./alternator "$store" 0 init >/dev/null
+
 mkdir "$work/none"
 expect 'no store' 3 'alternator: damaged: file 1 at 0' ./alternator "$work/none" 0 replay 65536 4
 # spoilt NAME NOTE FILE BYTES: a store in which the file has these bytes

@@ -15,6 +15,7 @@ use Rattle.alternator.specs.Stretches.{DoesSome}
 use Rattle.alternator.specs.TalkRules.{rules}
 use Rattle.alternator.specs.TalkStops.{LeftAmong, ServedOn, ServedSomeOn}
 use Rattle.alternator.specs.Talks.{Rules, Turn}
+use Rattle.alternator.specs.Trials.{Tries, TriesSome, LeftOfTrial, as_turn}
 use Rattle.alternator.specs.Words.{IsOverStore}
 use Rattle.alt_tables.specs.Recovery.{WasLeft}
 use Rattle.alternator.specs.declared.serve.RunFault.{RunFault}
@@ -22,7 +23,7 @@ use Rattle.alternator.specs.declared.serve.RunFault.TheVariants as why
 use Rattle.alternator.specs.declared.ending.Ending.{Ending}
 use Rattle.alternator.specs.declared.ending.Ending.TheVariants.{Whole, Words, NotEmpty, Damaged, BadRow, Device, Memory, Spent}
 use Rattle.alternator.specs.declared.words.Job.{Job}
-use Rattle.alternator.specs.declared.words.Job.TheVariants.{Init, Replay, Serve}
+use Rattle.alternator.specs.declared.words.Job.TheVariants.{Init, Replay, Serve, Trial}
 use Rattle.alternator.proofs.Serving.{stretch_quiet, stretch_as}
 use Rattle.alternator.proofs.Initing.{quiet_behind}
 use Rattle.alternator.proofs.Stopping.{leaves-before-aside}
@@ -72,6 +73,17 @@ some_served r per count fault s es ms x = record {
   most = x.most;
 }
 
+-- and a trial
+some_tries : (a b : DiskState) (fault : RunFault) (s : State) (seed count : ℕ) (es : Log) (ms : List ℕ)
+    → TriesSome fault s seed count a b es ms → TriesSome why.NoMemory s seed count a b es ms
+some_tries a b fault s seed count es ms x = record {
+  said = x.said;
+  rests = x.rests;
+  unasked = x.unasked;
+  wants = tt;
+  leaves = x.leaves;
+}
+
 broken_memory : (job : Job) (fault : RunFault) (s : State) (a b : DiskState)
     → Broken fault job s a b → Broken why.NoMemory job s a b
 unfolding some_served
@@ -81,6 +93,9 @@ broken_memory Replay fault s a b x = stretch_as a b {P = AnswersSome fault s}
 broken_memory (Serve per count) fault s a b x = stretch_as a b
     {P = ServedSomeOn rules per count fault s} {Q = ServedSomeOn rules per count why.NoMemory s}
     (λ es ms within y. (some_served rules per count fault s es ms y.0, y.1)) x
+broken_memory (Trial seed count) fault s a b x = stretch_as a b
+    {P = TriesSome fault s seed count} {Q = TriesSome why.NoMemory s seed count}
+    (λ es ms within y. some_tries a b fault s seed count es ms y) x
 
 opened_memory : (a b : DiskState) (fault : RunFault) (job : Job) → Opened a b (Broken fault job)
     → Opened a b (Broken why.NoMemory job)
@@ -138,6 +153,7 @@ as_memory a b None ending n h = absurd (none_memory a b ending n h)
 as_memory a b (Some Init) ending n h = made_memory a b ending n
 as_memory a b (Some Replay) ending n h = run_memory a b Replay ending n h
 as_memory a b (Some (Serve per count)) ending n h = run_memory a b (Serve per count) ending n h
+as_memory a b (Some (Trial seed count)) ending n h = run_memory a b (Trial seed count) ending n h
 
 -- ---- behind a note
 
@@ -160,6 +176,26 @@ module _ (b c : DiskState) (g : Grows b.beside c.beside [])
     breaks = x.breaks;
     said = x.said;
     leaves = leaves-before-aside a b c (LeftThen s es ms) aside x.leaves;
+  }
+
+  tries_behind : (a : DiskState) (s : State) (seed count : ℕ) (es : Log) (ms : List ℕ)
+      → Tries s seed count a b es ms → Tries s seed count a c es ms
+  tries_behind a s seed count es ms x = record {
+    said = x.said;
+    rests = x.rests;
+    unasked = x.unasked;
+    enough = x.enough;
+    leaves = leaves-before-aside a b c (LeftOfTrial s (as_turn s seed count) es) aside x.leaves;
+  }
+
+  tries_some_behind : (a : DiskState) (fault : RunFault) (s : State) (seed count : ℕ) (es : Log)
+      (ms : List ℕ) → TriesSome fault s seed count a b es ms → TriesSome fault s seed count a c es ms
+  tries_some_behind a fault s seed count es ms x = record {
+    said = x.said;
+    rests = x.rests;
+    unasked = x.unasked;
+    wants = x.wants;
+    leaves = leaves-before-aside a b c (LeftOfTrial s (as_turn s seed count) es) aside x.leaves;
   }
 
   makes_behind : (a : DiskState) (es : Log) (ms : List ℕ) → Makes a b es ms → Makes a c es ms
@@ -194,6 +230,8 @@ module _ (b c : DiskState) (g : Grows b.beside c.beside [])
         ),
       ))
       x aside g m
+  done_behind (Trial seed count) s o x = stretch_quiet o b c {P = Tries s seed count}
+      (tries_behind o s seed count) x aside g m
 
   broken_behind : (fault : RunFault) (job : Job) (s : State) (o : DiskState)
       → Broken fault job s o b → Broken fault job s o c
@@ -207,6 +245,8 @@ module _ (b c : DiskState) (g : Grows b.beside c.beside [])
         leaves-before-aside o b c (LeftAmong rules per s (y.0.all ++ y.0.last)) aside y.1,
       ))
       x aside g m
+  broken_behind fault (Trial seed count) s o x = stretch_quiet o b c
+      {P = TriesSome fault s seed count} (tries_some_behind o fault s seed count) x aside g m
 
   opened_behind : (a : DiskState) (P : State → DiskState → DiskState → Type 0)
       → ((s : State) (o : DiskState) → P s o b → P s o c) → Opened a b P → Opened a c P
@@ -279,6 +319,7 @@ module _ (b c : DiskState) (g : Grows b.beside c.beside [])
   still_done a (Some Init) (Spent number) h = absurd h
   still_done a (Some Replay) ending h = run_behind a Replay ending h
   still_done a (Some (Serve per count)) ending h = run_behind a (Serve per count) ending h
+  still_done a (Some (Trial seed count)) ending h = run_behind a (Trial seed count) ending h
 
 abbrev IsNoted : Ending → Ending → Type 0
 IsNoted ending noted = (noted ≡ ending) ⊎ ((noted ≡ Memory) × HasNumbers ending)
@@ -346,6 +387,8 @@ words_end a b (Some job) ending h = (
     never_words a b Replay ending h e = subst (λ (x : Ending). HasRun Replay x a b) e h
     never_words a b (Serve per count) ending h e =
         subst (λ (x : Ending). HasRun (Serve per count) x a b) e h
+    never_words a b (Trial seed count) ending h e =
+        subst (λ (x : Ending). HasRun (Trial seed count) x a b) e h
 
 -- a run over a store ends whole, or a device failed, or memory was refused, or numbers are spent
 run_completes : (a b : DiskState) (job : Job) (ending : Ending) (status : ℕ)
@@ -376,6 +419,8 @@ completes a b Replay ending status e over h trusted readable well =
     run_completes a b Replay ending status e h trusted readable well
 completes a b (Serve per count) ending status e over h trusted readable well =
     run_completes a b (Serve per count) ending status e h trusted readable well
+completes a b (Trial seed count) ending status e over h trusted readable well =
+    run_completes a b (Trial seed count) ending status e h trusted readable well
 
 -- a run of `init` over no files makes a store, or a device failed, or memory was refused
 pub makes_all : (a b : DiskState) (ending : Ending) (status : ℕ) → status ≡ status_of ending

@@ -22,5 +22,6 @@ pub mod TalkLeaving
 pub mod TalkLogs
 pub mod TalkPulls
 pub mod TalkReach
+pub mod Trying
 pub mod TurnLaws
 pub mod Uttering

@@ -4,8 +4,8 @@ use Rattle.std.proofs.Common.{◌<◌, suc, length, drop, get_or, drop-cons, add
 use Rattle.std.proofs.lemmas.List.{drop_all}
 use Rattle.std.specs.Char.{is_ascii_digit}
 use Rattle.std.specs.Prelude.{option_and_then, nat_le, ◌&&◌, Bool}
-use Rattle.std.proofs.lemmas.Bool.{cases_lt, lt-leb}
-use Rattle.alternator.specs.Words.{digits_from, small_port, small_some, serve_of}
+use Rattle.std.proofs.lemmas.Bool.{cases_lt, lt-leb, le-leb}
+use Rattle.alternator.specs.Words.{digits_from, small_port, small_some, small_count, small_seed, serve_of, trial_of}
 
 abbrev pub capped : Option ℕ → Option ℕ
 capped o = option_map (λ n. min n (2 ^ 64 - 1)) o
@@ -100,3 +100,86 @@ serve_many (a ∷ b ∷ c ∷ []) many = absurd (omega arith)
 serve_many (a ∷ b ∷ c ∷ d ∷ []) many = absurd (omega arith)
 serve_many (a ∷ b ∷ c ∷ d ∷ e ∷ []) many = absurd (omega arith)
 serve_many (a ∷ b ∷ c ∷ d ∷ e ∷ f ∷ ws) many = refl
+
+-- nor do they for a trial
+pub trial_few : (ws : List (List ℕ)) → length ws < 5 → None ≡ trial_of ws
+trial_few [] few = refl
+trial_few (a ∷ []) few = refl
+trial_few (a ∷ b ∷ []) few = refl
+trial_few (a ∷ b ∷ c ∷ []) few = refl
+trial_few (a ∷ b ∷ c ∷ d ∷ []) few = refl
+trial_few (a ∷ b ∷ c ∷ d ∷ e ∷ ws) few = absurd (omega arith)
+
+pub trial_many : (ws : List (List ℕ)) → 6 ≤ length ws → None ≡ trial_of ws
+trial_many [] many = absurd (omega arith)
+trial_many (a ∷ []) many = absurd (omega arith)
+trial_many (a ∷ b ∷ []) many = absurd (omega arith)
+trial_many (a ∷ b ∷ c ∷ []) many = absurd (omega arith)
+trial_many (a ∷ b ∷ c ∷ d ∷ []) many = absurd (omega arith)
+trial_many (a ∷ b ∷ c ∷ d ∷ e ∷ []) many = absurd (omega arith)
+trial_many (a ∷ b ∷ c ∷ d ∷ e ∷ f ∷ ws) many = refl
+
+none_many : (n : ℕ) → 1000000 < n → small_count n ≡ None
+none_many n large =
+    ap (λ (b : Bool). cond (nat_le 1 n && b) (Some n) None) (lt-leb n 1000000 large)
+    ∙ ap (λ (b : Bool). cond b (Some n) None) (and_no (nat_le 1 n))
+
+small_count_capped : (n : ℕ) → small_count (min n (2 ^ 64 - 1)) ≡ small_count n
+small_count_capped n = elim (cases_lt 1000000 n) [
+  | inr small ↦ ap small_count (let e : min n (2 ^ 64 - 1) ≡ n = omega arith in e)
+  | inl large ↦ none_many (min n (2 ^ 64 - 1)) (omega arith) ∙ sym (none_many n large)
+]
+
+-- a number that stops at the end of 64 bits counts requests exactly where the number does
+pub count_capped : (o p : Option ℕ) → p ≡ capped o
+    → option_and_then small_count p ≡ option_and_then small_count o
+count_capped None p e = ap (option_and_then small_count) e
+count_capped (Some n) p e = ap (option_and_then small_count) e ∙ small_count_capped n
+
+-- ---- numbers below 2^64
+
+none_seed : (n : ℕ) → 2 ^ 64 ≤ n → small_seed n ≡ None
+none_seed n large =
+    ap (λ (b : Bool). cond b (Some n) None) (lt-leb n (2 ^ 64 - 1) (omega (arith, large)))
+
+-- a number that is too great stays so, whatever digits follow
+pub seed_large : (ds : List ℕ) (n : ℕ) → 2 ^ 64 ≤ n
+    → option_and_then small_seed (digits_from n ds) ≡ None
+seed_large [] n large = none_seed n large
+seed_large (d ∷ ds) n large =
+    let next : 2 ^ 64 ≤ 10 * n + (d - 48) = omega (arith, large) in
+    elim (is_ascii_digit d) as (λ b. option_and_then small_seed
+    (cond b (digits_from (10 * n + (d - 48)) ds) None) ≡ None) [
+      | true ↦ seed_large ds (10 * n + (d - 48)) next
+      | false ↦ refl
+    ]
+
+-- one digit more
+pub seed_more : (word : List ℕ) (i n x : ℕ) → i < length word → x ≡ get_or word i 0
+    → is_ascii_digit x ≡ true
+    → digits_from n (drop i word) ≡ digits_from (10 * n + (x - 48)) (drop (i + 1) word)
+seed_more word i n x within is digit =
+    let parts : drop i word ≡ x ∷ drop (i + 1) word =
+    drop-cons word i 0 within ∙ ap (λ y. y ∷ drop (suc i) word) (sym is)
+    ∙ ap (λ j. x ∷ drop j word) (sym (add-one i)) in
+    ap (digits_from n) parts
+    ∙ ap (λ b. cond b (digits_from (10 * n + (x - 48)) (drop (i + 1) word)) None) digit
+
+-- no digit more
+pub seed_over : (word : List ℕ) (i n : ℕ) → length word ≤ i → n ≤ 2 ^ 64 - 1
+    → option_and_then small_seed (digits_from n (drop i word)) ≡ Some n
+seed_over word i n over fits =
+    ap (λ ds. option_and_then small_seed (digits_from n ds)) (drop_all i word over)
+    ∙ ap (λ (b : Bool). cond b (Some n) None) (le-leb n (2 ^ 64 - 1) fits)
+
+-- a byte that is no digit
+pub seed_none : (word : List ℕ) (i n x : ℕ) → i < length word → x ≡ get_or word i 0
+    → is_ascii_digit x ≡ false
+    → option_and_then small_seed (digits_from n (drop i word)) ≡ None
+seed_none word i n x within is other =
+    let parts : drop i word ≡ x ∷ drop (i + 1) word =
+    drop-cons word i 0 within ∙ ap (λ y. y ∷ drop (suc i) word) (sym is)
+    ∙ ap (λ j. x ∷ drop j word) (sym (add-one i)) in
+    ap (λ ds. option_and_then small_seed (digits_from n ds)) parts
+    ∙ ap (λ (b : Bool). option_and_then small_seed
+    (cond b (digits_from (10 * n + (x - 48)) (drop (i + 1) word)) None)) other

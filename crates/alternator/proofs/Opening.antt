@@ -13,7 +13,7 @@ use Rattle.alternator.specs.Endings.{HasRun, Done, Broken, BreaksOff, WasDamaged
 use Rattle.alternator.specs.declared.ending.Ending.TheVariants as ending
 use Rattle.alternator.specs.Runs.{IsOpening, Opened}
 use Rattle.alternator.specs.declared.words.Job.{Job}
-use Rattle.alternator.specs.declared.words.Job.TheVariants.{Init, Replay, Serve}
+use Rattle.alternator.specs.declared.words.Job.TheVariants.{Init, Replay, Serve, Trial}
 use Rattle.alternator.specs.Stops.{AtEach}
 use Rattle.alt_tables.specs.Stands.{Stands}
 use Rattle.alt_tables.specs.Images.{StandsFor}
@@ -111,6 +111,7 @@ broken_well (Serve per count) fault s b c never h = ⊎_elim
     (λ x. never None x.1)
     (λ x. never _ x.2.wants)
     h.holds.0.some
+broken_well (Trial seed count) fault s b c never h = never _ h.holds.wants
 
 trusted_by : (a : DiskState) → IsTrue a.tells → a.honest ≡ true → IsTrusted a
 trusted_by a tells honest = grind (arith, tells, honest)

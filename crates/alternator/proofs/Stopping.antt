@@ -431,7 +431,7 @@ leaves-here a P here trusted = keeps-spans a a P (keeps-none a)
     (λ t image low is_image. here trusted t image is_image)
 
 -- the first of some writes are no more than there are
-take-within : (k : ℕ) (xs : List State) → take (min k (length xs)) xs ≡ take k xs
+pub take-within : (k : ℕ) (xs : List State) → take (min k (length xs)) xs ≡ take k xs
 take-within k xs = ⊎_elim
     (λ (few : k ≤ length xs). ap (λ n. take n xs) (min-few k (length xs) few))
     (λ (many : length xs ≤ k). ap (λ n. take n xs) (min-many k (length xs) many)

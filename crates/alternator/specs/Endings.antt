@@ -11,12 +11,13 @@ use Rattle.alt_tables.specs.Images.{StandsFor}
 use Rattle.alternator.specs.Runs.{Stretch, Answers, AnswersSome, IsOpening, Opened}
 use Rattle.alternator.specs.TalkRules.{rules}
 use Rattle.alternator.specs.TalkStops.{ServedOn, ServedSomeOn}
+use Rattle.alternator.specs.Trials.{Tries, TriesSome}
 use Rattle.alternator.specs.declared.serve.RunFault.{RunFault}
 use Rattle.alternator.specs.declared.serve.RunFault.TheVariants as fault
 use Rattle.alternator.specs.declared.ending.Ending.{Ending}
 use Rattle.alternator.specs.declared.ending.Ending.TheVariants.{Whole, Words, NotEmpty, Damaged, BadRow, Device, Memory, Spent}
 use Rattle.alternator.specs.declared.words.Job.{Job}
-use Rattle.alternator.specs.declared.words.Job.TheVariants.{Init, Replay, Serve}
+use Rattle.alternator.specs.declared.words.Job.TheVariants.{Init, Replay, Serve, Trial}
 
 -- the status of each ending
 abbrev pub status_of : Ending → ℕ
@@ -88,19 +89,20 @@ HasMade Device old new = Rose old.faults new.faults
 HasMade Memory old new = Unit {0}
 HasMade (Spent number) old new = ⊥
 
--- ---- replay and serve
+-- ---- replay, serve and trial
 
 -- the files stand for a state
 abbrev pub IsReadable : (ℕ → Option (List ℕ)) → Type 0
 IsReadable files = (s : State) × StandsFor files s
 
 -- What a job has done that ended whole, from the state for which the store stood and the disk as it was opened: every line of the input
--- was answered, or every connection served.
+-- was answered, or every connection served, or every request of a trial carried out and the four lines said.
 abbrev pub Done : Job → State → DiskState → DiskState → Type 0
 Done Init s opened new = ⊥
 Done Replay s opened new = Stretch opened new (Answers s)
 Done (Serve per connections) s opened new = Stretch opened new
     (λ old new es ms. (t : State) × ServedOn rules per connections s t old new es ms)
+Done (Trial seed count) s opened new = Stretch opened new (Tries s seed count)
 
 -- What a job has done that was broken off behind the opening: what it said is a prefix of what there was to say, on each connection by
 -- itself. For a number, the first that was wanted and is never given out.
@@ -109,6 +111,7 @@ Broken why Init s opened new = ⊥
 Broken why Replay s opened new = Stretch opened new (AnswersSome why s)
 Broken why (Serve per connections) s opened new = Stretch opened new
     (ServedSomeOn rules per connections why s)
+Broken why (Trial seed count) s opened new = Stretch opened new (TriesSome why s seed count)
 
 -- The run was broken off while the store was opened, or behind that.
 abbrev pub BreaksOff : RunFault → Job → DiskState → DiskState → Type 0
@@ -152,6 +155,7 @@ HasDone (Some Init) ending old new = HasMade ending old new
 HasDone (Some Replay) ending old new = HasRun Replay ending old new
 HasDone (Some (Serve per connections)) ending old new =
     HasRun (Serve per connections) ending old new
+HasDone (Some (Trial seed count)) ending old new = HasRun (Trial seed count) ending old new
 
 -- a run that ended so, with its note
 pub record Ended (job : Option Job) (ending : Ending) (status : ℕ) (old new : DiskState) : Type 0 where

@@ -12,5 +12,6 @@ pub mod TalkStops
 pub mod TalkTexts
 pub mod TalkViews
 pub mod Talks
+pub mod Trials
 pub mod Turns
 pub mod Words

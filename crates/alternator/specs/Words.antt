@@ -1,10 +1,10 @@
 -- The words of the command line.
-use Rattle.std.specs.Prelude.{ℕ, ◌<◌, ⊤, ◌+◌, ◌-◌, ◌*◌, ◌==◌, ◌&&◌, List, [], ◌∷◌, map, Bool, false, Option, Some, None, if◌then◌else◌, nat_le, codes, String, string_bytes, option_and_then}
+use Rattle.std.specs.Prelude.{ℕ, ◌<◌, ⊤, ◌+◌, ◌-◌, ◌*◌, ◌^◌, ◌==◌, ◌&&◌, List, [], ◌∷◌, map, Bool, false, Option, Some, None, if◌then◌else◌, nat_le, codes, String, string_bytes, option_and_then}
 use Rattle.std.specs.declared.alloc.Global.{Global}
 use Rattle.std.specs.Char.{is_ascii_digit}
 use Rattle.std.specs.Str.{bytes_eq}
 use Rattle.alternator.specs.declared.words.Job.{Job}
-use Rattle.alternator.specs.declared.words.Job.TheVariants.{Init, Replay, Serve}
+use Rattle.alternator.specs.declared.words.Job.TheVariants.{Init, Replay, Serve, Trial}
 
 -- the number of these digits behind this one
 abbrev pub digits_from : ℕ → List ℕ → Option ℕ
@@ -38,6 +38,22 @@ small_some n = if nat_le 1 n && nat_le n 4294967295 then Some n else None
 abbrev pub some_of : List ℕ → Option ℕ
 some_of word = option_and_then small_some (number_of word)
 
+-- COUNT is 1 to 1,000,000
+abbrev pub small_count : ℕ → Option ℕ
+small_count n = if nat_le 1 n && nat_le n 1000000 then Some n else None
+
+-- such a number, where a word is one
+abbrev pub count_of : List ℕ → Option ℕ
+count_of word = option_and_then small_count (number_of word)
+
+-- SEED is below 2^64
+abbrev pub small_seed : ℕ → Option ℕ
+small_seed n = if nat_le n (2 ^ 64 - 1) then Some n else None
+
+-- such a number, where a word is one
+abbrev pub seed_of : List ℕ → Option ℕ
+seed_of word = option_and_then small_seed (number_of word)
+
 -- `init`
 abbrev pub init_of : List (List ℕ) → Option Job
 init_of (word ∷ []) = if bytes_eq word (codes "init") then Some Init else None
@@ -62,14 +78,31 @@ serve_of (word ∷ per ∷ connections ∷ flush ∷ merge ∷ []) =
     then serve_with (some_of per) (some_of connections) else None
 serve_of words = None
 
+-- so many requests of a seed, where both are numbers
+abbrev pub trial_with : Option ℕ → Option ℕ → Option Job
+trial_with None count = None
+trial_with (Some seed) None = None
+trial_with (Some seed) (Some count) = Some (Trial seed count)
+
+-- `trial SEED COUNT FLUSH MERGE`
+abbrev pub trial_of : List (List ℕ) → Option Job
+trial_of (word ∷ seed ∷ count ∷ flush ∷ merge ∷ []) =
+    if bytes_eq word (codes "trial") && is_flush flush && is_merge merge
+    then trial_with (seed_of seed) (count_of count) else None
+trial_of words = None
+
 -- the first of two jobs, where there is one
 abbrev pub or_else : Option Job → Option Job → Option Job
 or_else None job = job
 or_else (Some first) job = Some first
 
+-- the job that has no input of lines
+abbrev pub served_of : List (List ℕ) → Option Job
+served_of words = or_else (serve_of words) (trial_of words)
+
 -- the job over a store that words ask for
 abbrev pub run_of : List (List ℕ) → Option Job
-run_of words = or_else (replay_of words) (serve_of words)
+run_of words = or_else (replay_of words) (served_of words)
 
 -- The job that words ask for.
 abbrev pub job_of : List (List ℕ) → Option Job
@@ -80,12 +113,14 @@ abbrev pub IsServable : Job → Type 0
 IsServable Init = ⊤
 IsServable Replay = ⊤
 IsServable (Serve per connections) = 0 < per
+IsServable (Trial seed count) = ⊤
 
 -- a job over a store that is there
 abbrev pub IsOverStore : Job → Type 0
 IsOverStore Init = ⊥
 IsOverStore Replay = ⊤
 IsOverStore (Serve per connections) = ⊤
+IsOverStore (Trial seed count) = ⊤
 
 -- a number of at most 65,535
 abbrev pub small_port : ℕ → Option ℕ

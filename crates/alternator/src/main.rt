@@ -12,6 +12,8 @@ mod reply;
 mod response;
 mod run;
 mod serve;
+mod tally;
+mod trial;
 mod words;
 
 use alt_disk::DiskFault;

@@ -24,6 +24,7 @@ use crate::ending::{Ending, noted, status_of};
 use crate::init::init;
 use crate::open::open;
 use crate::serve::{RunFault, pull};
+use crate::trial::carry_out_trial;
 use crate::words::{self, Job};
 use alt_base::NoMemory;
 use alt_lines::{LONGEST_LINE, Lines};
@@ -138,6 +139,7 @@ fn carry_out<S: Shell>(
         Job::Init => unreachable!(),
         Job::Replay => replay(alloc, tables, shell),
         Job::Serve { per, connections } => serve(alloc, tables, per, connections, shell),
+        Job::Trial { seed, count } => carry_out_trial(alloc, tables, seed, count, shell),
     }
 }
 
@@ -204,17 +206,20 @@ fn ended<S: Shell>(alloc: Global, words: &[String], shell: &mut S) -> Ending
         Some(Job::Serve { per, connections }) => {
             finished(alloc, Job::Serve { per, connections }, shell)
         }
+        Some(Job::Trial { seed, count }) => finished(alloc, Job::Trial { seed, count }, shell),
     }
 }
 
 /// A run of the words behind folder and port, which answers its status: 0 done, 1 the words are wrong, 2 a file is there already,
 /// 3 the files are those of no store, 4 the device failed, 5 memory was refused, 6 the numbers of writes or the families of tables are
-/// spent. The words are `init`, `replay FLUSH MERGE` and `serve PER CONNECTIONS FLUSH MERGE`; FLUSH and MERGE have no effect yet.
+/// spent. The words are `init`, `replay FLUSH MERGE`, `serve PER CONNECTIONS FLUSH MERGE` and `trial SEED COUNT FLUSH MERGE`; FLUSH and
+/// MERGE have no effect yet.
 pub fn run<S: Shell>(alloc: Global, words: &[String], shell: &mut S) -> u8
     requires quiet { talks (S.state shell.old).beside ≡ false }
     // It ends in one of eight ways, each with its status, its note, and what it has done by then. With 0 a replay read its input to
     // its end and said all of its Out, each request at a moment of its own, and whatever a stop at any moment left holds every write that
-    // was answered by then; and a serve has served as many connections as it was to, or none came any more.
+    // was answered by then; and a serve has served as many connections as it was to, or none came any more; and a trial has carried out
+    // all its requests, of which a stop leaves some until it says something, and then all, and has said its four lines.
     ensures ended { (ending : RunEnding) × Ended (job_of (bytes_of words.now)) ending result
         (S.state shell.old) (S.state shell.new) }
 

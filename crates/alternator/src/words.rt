@@ -1,8 +1,8 @@
 //! The words of the command line, read by hand.
 
-ghost use Rattle.std.specs.Prelude.{◌≡◌, ◌<◌, ◌^◌, ◌-◌, ◌&&◌, true, false, Some, None, min, option_map, codes, IfSome};
+ghost use Rattle.std.specs.Prelude.{◌≡◌, ◌<◌, ◌^◌, ◌-◌, ◌&&◌, true, false, Some, None, min, option_map, option_and_then, codes, IfSome};
 ghost use Rattle.std.specs.Str.{bytes_eq};
-ghost use Rattle.alternator.specs.Words.{digits_from, number_of, is_within, is_flush, is_merge, small_some, some_of, serve_with, init_of, replay_of, serve_of, run_of, job_of, IsServable, port_of, small_port, bytes_of};
+ghost use Rattle.alternator.specs.Words.{digits_from, number_of, is_within, is_flush, is_merge, small_some, some_of, small_count, count_of, small_seed, seed_of, serve_with, trial_with, init_of, replay_of, serve_of, trial_of, served_of, run_of, job_of, IsServable, port_of, small_port, bytes_of};
 
 // The number of the digits, 2^64 - 1 where it is greater.
 fn digits(word: &[u8]) -> Option<u64>
@@ -30,6 +30,37 @@ fn number(word: &[u8]) -> Option<u64>
     }
 }
 
+// The number of the digits, where it is below 2^64.
+fn seed_digits(word: &[u8]) -> Option<u64>
+    ensures { result ≡ option_and_then small_seed (digits_from 0 word.now) }
+{
+    let mut number: u64 = 0;
+    for digit in word {
+        if !digit.is_ascii_digit() {
+            return None;
+        }
+        let Some(more) = number.checked_mul(10) else {
+            return None;
+        };
+        let Some(sum) = more.checked_add(u64::from(*digit - b'0')) else {
+            return None;
+        };
+        number = sum;
+    }
+    Some(number)
+}
+
+/// A number below 2^64.
+fn seed(word: &[u8]) -> Option<u64>
+    ensures { result ≡ seed_of word.now }
+{
+    match word {
+        [] => None,
+        [b'0', _next, ..] => None,
+        _ => seed_digits(word),
+    }
+}
+
 fn is_within(least: u64, most: u64, word: &[u8]) -> bool
     requires { most < 2 ^ 64 - 1 }
     ensures { result ≡ is_within least most (number_of word.now) }
@@ -49,6 +80,8 @@ pub enum Job {
     Replay,
     /// So many connections, one after another, with so many requests at most on each.
     Serve { per: u32, connections: u32 },
+    /// So many requests that this number makes, and a summary of their replies.
+    Trial { seed: u64, count: u32 },
 }
 
 fn is_flush(word: &[u8]) -> bool
@@ -86,6 +119,27 @@ fn some(word: &[u8]) -> Option<u32>
     }
 }
 
+fn small_count(number: u64) -> Option<u32>
+    ensures { result ≡ small_count number }
+{
+    if 1 <= number && number <= 1_000_000 {
+        Some(number as u32)
+    } else {
+        None
+    }
+}
+
+/// A number from 1 to 1,000,000.
+#[tactic(auto, using(crate::proofs::Numbers::count_capped))]
+fn count(word: &[u8]) -> Option<u32>
+    ensures { result ≡ count_of word.now }
+{
+    match number(word) {
+        Some(number) => small_count(number),
+        None => None,
+    }
+}
+
 fn serve_with(per: Option<u32>, connections: Option<u32>) -> Option<Job>
     requires some { IfSome per (λ n. 0 < n) }
     ensures job { result ≡ serve_with per connections }
@@ -93,6 +147,16 @@ fn serve_with(per: Option<u32>, connections: Option<u32>) -> Option<Job>
 {
     match (per, connections) {
         (Some(per), Some(connections)) => Some(Job::Serve { per, connections }),
+        _ => None,
+    }
+}
+
+fn trial_with(seed: Option<u64>, count: Option<u32>) -> Option<Job>
+    ensures job { result ≡ trial_with seed count }
+    ensures servable { IfSome result IsServable }
+{
+    match (seed, count) {
+        (Some(seed), Some(count)) => Some(Job::Trial { seed, count }),
         _ => None,
     }
 }
@@ -107,6 +171,12 @@ fn is_serve(word: &str, flush: &[u8], merge: &[u8]) -> bool
     ensures { result ≡ (bytes_eq word.now (codes "serve") && is_flush flush.now && is_merge merge.now) }
 {
     word == "serve" && is_flush(flush) && is_merge(merge)
+}
+
+fn is_trial(word: &str, flush: &[u8], merge: &[u8]) -> bool
+    ensures { result ≡ (bytes_eq word.now (codes "trial") && is_flush flush.now && is_merge merge.now) }
+{
+    word == "trial" && is_flush(flush) && is_merge(merge)
 }
 
 fn init_of(words: &[String]) -> Option<Job>
@@ -157,6 +227,32 @@ fn serve_of(words: &[String]) -> Option<Job>
     }
 }
 
+fn trial_of(words: &[String]) -> Option<Job>
+    ensures job { result ≡ trial_of (bytes_of words.now) }
+    ensures servable { IfSome result IsServable }
+{
+    match words {
+        [word, seeding, counting, flush, merge] => {
+            if is_trial(word.as_str(), flush.as_bytes(), merge.as_bytes()) {
+                trial_with(seed(seeding.as_bytes()), count(counting.as_bytes()))
+            } else {
+                None
+            }
+        }
+        _ => None,
+    }
+}
+
+fn served_of(words: &[String]) -> Option<Job>
+    ensures job { result ≡ served_of (bytes_of words.now) }
+    ensures servable { IfSome result IsServable }
+{
+    match serve_of(words) {
+        Some(job) => Some(job),
+        None => trial_of(words),
+    }
+}
+
 /// The job over a store that words ask for.
 fn run_of(words: &[String]) -> Option<Job>
     ensures job { result ≡ run_of (bytes_of words.now) }
@@ -164,12 +260,13 @@ fn run_of(words: &[String]) -> Option<Job>
 {
     match replay_of(words) {
         Some(job) => Some(job),
-        None => serve_of(words),
+        None => served_of(words),
     }
 }
 
-/// The job that the words behind folder and port ask for: `init`, `replay FLUSH MERGE`, or `serve PER CONNECTIONS FLUSH MERGE`. FLUSH
-/// is from 65,536 to 1,073,741,824 bytes, MERGE from 2 to 64 files, PER and CONNECTIONS from 1 to 4,294,967,295.
+/// The job that the words behind folder and port ask for: `init`, `replay FLUSH MERGE`, `serve PER CONNECTIONS FLUSH MERGE`, or
+/// `trial SEED COUNT FLUSH MERGE`. FLUSH is from 65,536 to 1,073,741,824 bytes, MERGE from 2 to 64 files, PER and CONNECTIONS from 1 to
+/// 4,294,967,295, SEED from 0 to 18,446,744,073,709,551,615 and COUNT from 1 to 1,000,000.
 pub(crate) fn job_of(words: &[String]) -> Option<Job>
     ensures job { result ≡ job_of (bytes_of words.now) }
     ensures servable { IfSome result IsServable }

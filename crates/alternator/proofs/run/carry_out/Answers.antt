@@ -21,5 +21,14 @@ returns-in-Serve-clause-done g c = λ s stands.
     subst (λ (j : Job). MatchResult c.serve.result (λ _. Done j s a d) (λ f. Broken f j s a d))
     (sym c.in-Serve.is) (c.serve.ensures.served s stands)
 
+pub returns-in-Trial-clause-done : goal.returns-in-Trial-clause-done
+returns-in-Trial-clause-done g c = λ s stands.
+    let state = g.S.Disk.state in
+    let a = state c.args.shell.now in
+    let d = state c.carry_out_trial.new.shell in
+    subst (λ (j : Job). MatchResult c.carry_out_trial.result (λ _. Done j s a d)
+    (λ f. Broken f j s a d))
+    (sym c.in-Trial.is) (c.carry_out_trial.ensures.tried s stands)
+
 pub serve-requires-clause-some : goal.serve-requires-clause-some
 serve-requires-clause-some g c = subst IsServable c.in-Serve.is c.requires.some

@@ -1,0 +1,13 @@
+use Rattle.std.proofs.Common.{◌≤◌, ◌-◌}
+use Rattle.alt_disk.specs.Disk.{Goes}
+use Rattle.alt_lines.specs.Trial.{generator, next_lines, trial_lines}
+use Rattle.alternator.proofs.Trying.{Trying}
+use Rattle.alternator.proofs.trial.requests.Given as goal
+
+abbrev pub invariant-requests : goal.invariant-requests
+invariant-requests g l =
+    let state = g.D.Disk.state in
+    Trying (state l.initial.disk) l.initial.tables (state l.disk) l.tables l.tally
+    (trial_lines l.seed l.count) (next_lines (l.count - l.counter) (generator l.trial))
+    × (l.tally.good ≤ l.counter) × (l.tally.bad ≤ l.counter)
+    × Goes (state l.initial.disk) (state l.disk)

@@ -15,7 +15,7 @@ type Limit = (
     Option<ExprFault>,
 );
 
-static CONDITIONS: [Limit; 18] = [
+static CONDITIONS: [Limit; 20] = [
     ("a = :x", " ", 4090, "", None),
     ("a = :x", " ", 4091, "", Some(ExprFault::TooLong)),
     ("$", " ", 4096, "", Some(ExprFault::TooLong)),
@@ -23,6 +23,20 @@ static CONDITIONS: [Limit; 18] = [
     ("", "not ", 65, "a = :x", Some(ExprFault::TooDeep)),
     ("a = :x $", " NOT", 65, "", Some(ExprFault::Syntax)),
     ("(((a = :x)", "", 1, "))", None),
+    (
+        "",
+        "(",
+        64,
+        "a = :x))))))))))))))))))))))))))))))))))))))))))))))))))))))))))))))))",
+        None,
+    ),
+    (
+        "",
+        "(",
+        65,
+        "a = :x)))))))))))))))))))))))))))))))))))))))))))))))))))))))))))))))))",
+        Some(ExprFault::TooDeep),
+    ),
     ("", "(", 64, "a = :x", Some(ExprFault::Syntax)),
     ("", "(", 65, "a = :x", Some(ExprFault::TooDeep)),
     ("", "(", 64, "size(a) = :x", Some(ExprFault::TooDeep)),
@@ -42,9 +56,11 @@ static CONDITIONS: [Limit; 18] = [
     ("a IN (:x", ", :x", 100, ")", Some(ExprFault::TooMany)),
 ];
 
-static PROJECTIONS: [Limit; 7] = [
+static PROJECTIONS: [Limit; 9] = [
     ("a", " ", 4095, "", None),
     ("a", " ", 4096, "", Some(ExprFault::TooLong)),
+    ("", "(", 64, "a", Some(ExprFault::Syntax)),
+    ("", "(", 65, "a", Some(ExprFault::TooDeep)),
     ("a", ".a", 31, "", None),
     ("a", ".a", 32, "", Some(ExprFault::TooMany)),
     ("a", "[999999999]", 31, ", a", Some(ExprFault::Overlap)),

@@ -133,6 +133,7 @@ module _ (count : ℕ) (done : List (List ℕ × Option (List ℕ))) (bytes rest
 -- ---- a change
 
 module _ (bytes : List ℕ) where
+  -- where no family is named there is no change
   pub no_change-family : NoFamily bytes → NoChange bytes
   no_change-family non d y h e = non d.family _ h.family (e ∙ change_pieces d y)
 
@@ -252,6 +253,7 @@ same_behind (a ∷ done) (b ∷ cs) rest y h k n e =
 -- ---- a write
 
 module _ (least : ℕ) (bytes : List ℕ) where
+  -- where no number stands there is no write
   pub no_write-number : NoNumber bytes → IsNoWrite least bytes
   unfolding write_bytes
   no_write-number non w h later e =

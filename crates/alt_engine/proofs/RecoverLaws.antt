@@ -321,6 +321,7 @@ pub on_ok : {A E : Type 0} (r : Result A E) (P Q : Type 0) → (P → Q) → OnO
 on_ok (Ok x) P Q leads ok = leads ok
 on_ok (Err e) P Q leads ok = tt
 
+-- what follows from the one follows of a result that is Ok
 pub if_ok : {A E : Type 0} (r : Result A E) (P Q : A → Type 0) → ((x : A) → P x → Q x) → IfOk r P
     → IfOk r Q
 if_ok (Ok x) P Q leads ok = leads x ok

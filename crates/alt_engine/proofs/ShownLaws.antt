@@ -136,6 +136,7 @@ pub find-lookup : (es : List (List ℕ × Columns)) (k : List ℕ)
 find-lookup [] k = refl
 find-lookup (e ∷ es) k = ap (cond (eq_by_cmp key_cmp k e.0) (Some e.1)) (find-lookup es k)
 
+-- a key that is below all keys of entries is below all entries
 below_keys : (k : List ℕ) (es : List (List ℕ × Columns))
     → AllByRecursion (λ y. key_cmp k y ≡ Less) (map (λ e. e.0) es) → T (below_all key_cmp k es)
 below_keys k [] h = tt

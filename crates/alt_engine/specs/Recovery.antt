@@ -96,6 +96,7 @@ pub record IsBadEntry (entries : List (List ℕ)) (at : ℕ) : Type 0 where
   pub none : IsNoWrite (with_writes no_rows writes).next_number entry
   pub place : at ≡ gate_place first_form entries (length writes)
 
+-- why the files aren't those of a store, where the log of the entries itself reads
 abbrev pub ExplainsEntries : List (List ℕ) → RecoverFault → Type 0
 ExplainsEntries entries (Damaged file at) = (file ≡ entries_file) × IsBadEntry entries at
 ExplainsEntries entries Failed = Unit {0}

@@ -14,6 +14,7 @@ use Rattle.alt_fields.proofs.Numbers.{stands_within}
 pub front : {A : Type 0} (x y : A) (xs ys : List A) → x ∷ xs ≡ y ∷ ys → x ≡ y
 front x y xs ys e = cc
 
+-- equal lists have equal tails
 pub back : {A : Type 0} (x y : A) (xs ys : List A) → x ∷ xs ≡ y ∷ ys → xs ≡ ys
 back x y xs ys e = cc
 
@@ -36,10 +37,12 @@ module _ {A : Type 0} (P : A → Type 0) where
   all_append [] ys a b = b
   all_append (x ∷ xs) ys a b = (a.0, all_append xs ys a.1 b)
 
+  -- what holds of each of two lists together holds of each of the first
   pub all_front : (xs ys : List A) → AllByRecursion P (xs ++ ys) → AllByRecursion P xs
   all_front [] ys a = tt
   all_front (x ∷ xs) ys a = (a.0, all_front xs ys a.1)
 
+  -- what holds of each of two lists together holds of each of the second
   pub all_back : (xs ys : List A) → AllByRecursion P (xs ++ ys) → AllByRecursion P ys
   all_back [] ys a = a
   all_back (x ∷ xs) ys a = all_back xs ys a.1
@@ -95,6 +98,7 @@ module _ {K : Type 0} (spell : K → List ℕ) (P : K → Type 0) where
     pub is : ls ≡ ks ++ next ∷ others
     pub there : x ≡ spell next ++ (flat_map spell others ++ y)
 
+  -- where pieces read alike and there are more of the second kind, those left over stand where the first ones end
   pub further : (ks ls : List K) (x y : List ℕ) → AllByRecursion IsApart ks → AllByRecursion P ls
       → length ks < length ls → flat_map spell ks ++ x ≡ flat_map spell ls ++ y → Further ks ls x y
   further [] [] x y a b n e = absurd (omega (arith, n))

@@ -31,6 +31,7 @@ module _ (p : List ℕ) where
   under_eq v q from to e h = λ key bytes.
       through (back (subst (λ z. IsPrefix z key ↔ IsInRange from to key) e (h key bytes))) (part_behind p (key_bytes (tree_of v)) key)
 
+  -- the keys whose RANGE value begins with a value are those between the front of its bytes and the end behind it
   pub under_begins : (v : Attr) (q from : List ℕ) (to : Option (List ℕ)) → q ≡ p ++ front_bytes (tree_of v) → IsRangeOf q from to → IsRangeUnder p (r.Begins v) from to
   unfolding IsRangeOf IsRangeUnder
   under_begins v q from to e h = λ key bytes.

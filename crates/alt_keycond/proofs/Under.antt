@@ -99,6 +99,7 @@ part_behind p part key = (
   (λ h. (h.2.0, h.1 ∙ ap (λ z. p ++ z) h.2.1 ∙ sym (append_assoc p part h.2.0))),
 )
 
+-- a front that two keys share doesn't matter for which of them is up to the other
 up_behind : (p part y : List ℕ) → IsUpTo (p ++ part) (p ++ y) → IsUpTo part y
 up_behind p part y h = λ e. h (text_order-front p part y ∙ e)
 
@@ -123,6 +124,7 @@ module _ (p : List ℕ) (key : List ℕ) where
   )
 
 module _ (p : List ℕ) (end : Option (List ℕ)) (ends : Ends p end) (key : List ℕ) (bytes : AreBytes key) where
+  -- a key at or above the front and below its end begins with it
   under_end : IsUpTo p key → IsBelowEnd key end → IsPrefix p key
   under_end up below = (ends key bytes).1 (up, below)
 
@@ -135,6 +137,7 @@ module _ (p : List ℕ) (end : Option (List ℕ)) (ends : Ends p end) (key : Lis
 
 module _ (p : List ℕ) (key : List ℕ) (bytes : AreBytes key) (part : List ℕ) (part_end : Option (List ℕ)) (part_ends : Ends (p ++ part) part_end)
     (part_bytes : AreBytes (p ++ part)) where
+  -- a key at or above the front and below the end of a part goes on behind it, up to that part
   to_part_front : IsUpTo p key → IsBelowEnd key part_end → (y : List ℕ) × (key ≡ p ++ y) × IsUpToPart y part
   to_part_front up below = elim (one_or_other key (p ++ part)) [
     | inl low ↦ let f = begins_between p part key up low in (f.0, f.1, inl (sym (text_order-front p f.0 part) ∙ ap (λ k. text_order k (p ++ part)) (sym f.1) ∙ low))
@@ -208,5 +211,6 @@ module _ (p : List ℕ) (end : Option (List ℕ)) (ends : Ends p end) (key : Lis
     ((ends key bytes).0 (h.0, h.1)).1,
   )
 
+  -- the keys of the range behind a part are those that go on above it, and not with it
   pub behind_part : IsInRange b end key ↔ ((y : List ℕ) × (key ≡ p ++ y) × (IsUpTo part y × (IsPrefix part y → ⊥)))
   behind_part = (behind_up, behind_down)

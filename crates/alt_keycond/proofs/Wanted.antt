@@ -141,15 +141,19 @@ module _ (k : KeyKind) (t v : Tree) (kt : IsOfKind k t) (kv : IsOfKind k v) (res
     (λ h. (rest, ap (λ u. key_bytes u ++ rest) ((same_decides t v).0 h))),
   )
 
+  -- what goes on is below the whole key of a value exactly where the RANGE value is less
   pub meets_lt : IsBelow whole (key_bytes v) ↔ (compares c.Less (Some t) (Some v) ≡ true)
   meets_lt = ((λ h. ap (is_some_and is_lt) is ∙ below_is.0 h), λ h. below_is.1 (ap (is_some_and is_lt) (sym is) ∙ h))
 
+  -- what goes on is up to the part of a value exactly where the RANGE value is less or equal
   pub meets_le : IsUpToPart whole (key_bytes v) ↔ (compares c.LessEqual (Some t) (Some v) ≡ true)
   meets_le = ((λ h. ap (is_some_and is_le) is ∙ up_to_is.0 h), λ h. up_to_is.1 (ap (is_some_and is_le) (sym is) ∙ h))
 
+  -- the key of a value is up to what goes on exactly where the RANGE value is greater or equal
   pub meets_ge : IsUpTo (key_bytes v) whole ↔ (compares c.GreaterEqual (Some t) (Some v) ≡ true)
   meets_ge = ((λ h. ap (is_some_and is_ge) is ∙ up_is.0 h), λ h. up_is.1 (ap (is_some_and is_ge) (sym is) ∙ h))
 
+  -- what goes on is above the key of a value and doesn't begin with it exactly where the RANGE value is greater
   pub meets_gt : (IsUpTo (key_bytes v) whole × (IsPrefix (key_bytes v) whole → ⊥)) ↔ (compares c.Greater (Some t) (Some v) ≡ true)
   meets_gt = (
     (λ h. ap (is_some_and is_gt) is ∙ gt_cases o (up_is.0 h.0) (λ e. h.1 (tied_prefix e))),
@@ -215,6 +219,7 @@ fronts (suc a ∷ f) (suc b ∷ s) rest =
           (p.0, ap (λ (x : ℕ). x ∷ (closed s ++ rest)) (sym (eqb-true (suc a) (suc b) w.0)) ∙ ap (λ (u : List ℕ). suc a ∷ u) p.1),
     )
 
+-- a part begins with the front of a value's bytes exactly where its value begins with the value
 pub meets_front : (k : KeyKind) (t v : Tree) (rest : List ℕ) → IsOfKind k t → IsOfKind k v → HasFront v
     → IsPrefix (front_bytes v) (key_bytes t ++ rest) ↔ (begins (Some t) (Some v) ≡ true)
 meets_front kind.S (S_tree s) (S_tree f) rest h g front = fronts f s rest

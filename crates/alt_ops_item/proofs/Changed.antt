@@ -174,6 +174,7 @@ pub seen_is : (old : Option (List Pair)) → seen old ≡ (λ name. at_name name
 seen_is None = refl
 seen_is (Some item) = refl
 
+-- an option that has no value is None
 no_value : (o : Option Tree) → is_some o ≡ false → o ≡ None
 no_value None e = refl
 no_value (Some t) e = absurd (let f : ⊥ = cc in f)
@@ -247,6 +248,7 @@ module _ (old : Option (List Pair)) (update : List Action) (cs : List AttrChange
       ]) refl
       ∙ sym (at_made (c ∷ rest) some)
 
+  -- an item's pairs at the names that an update may touch are those that were made
   pub pairs_are : pairs_of now (names_of update old) ≡ made
   pairs_are = same_entries text_order text_total text_apart
       (pairs_of now (names_of update old)) made

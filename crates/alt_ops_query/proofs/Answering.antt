@@ -86,6 +86,7 @@ module _ (d : TableSchema) (x : Option IndexSchema) (ms : Members) (ask : PageAs
   last_is : (if page.ended then filling.last else None) ≡ last_examined (asked_of ask) list
   last_is = λ i. if ap (λ (p : pages.Page). p.ended) page_is i then filled.whole.last i else None
 
+  -- the page that was filled is answered as the machine answers the whole list
   pub answered_so : page_answer d x ms (page_of page) (if page.ended then filling.last else None)
       ≡ answer_with d x ms ask list
   answered_so = (λ i. page_answer d x ms (page_is i) (last_is i))

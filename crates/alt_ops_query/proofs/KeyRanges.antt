@@ -143,6 +143,7 @@ some_asked d i (Some x) ask e =
     by (Some q) f = let same : q ≡ ask = cc in ap (λ z. Some z) same
 
 module _ (d : TableSchema) (i : Option IndexSchema) (condition : Option Cond) (start : Option (List Pair)) (forward : Bool) where
+  -- a range that is placed as the ask says holds the items of which the key condition holds
   pub asked_so : (ask : KeyAsk) → key_asked d i condition ≡ Ok (asks ask)
       → ((item : List Pair) → passes condition item
       ≡ meets (key_of (hash_of d i)) (option_map key_of (range_of d i)) (asks ask) (λ name. at_name name item))
@@ -182,6 +183,7 @@ module _ (d : TableSchema) (i : Option IndexSchema) (condition : Option Cond) (s
   )
   no_place ask e (Fault f) h = h
 
+  -- a result that is placed as the ask says answers the key condition
   pub asked_by : (ask : KeyAsk) → key_asked d i condition ≡ Ok (asks ask)
       → ((item : List Pair) → passes condition item
       ≡ meets (key_of (hash_of d i)) (option_map key_of (range_of d i)) (asks ask) (λ name. at_name name item))

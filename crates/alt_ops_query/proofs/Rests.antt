@@ -246,6 +246,7 @@ has_last (x ∷ y ∷ ys) h =
     let rest = has_last (y ∷ ys) (omega arith) in
     record { front = x ∷ rest.front; last = rest.last; is = ap (λ l. x ∷ l) rest.is }
 
+-- dropping from a mapped list is mapping what is left
 drop-map : {A B : Type 0} (f : A → B) (n : ℕ) (xs : List A) → drop n (map f xs) ≡ map f (drop n xs)
 drop-map f zero xs = refl
 drop-map f (suc n) [] = refl

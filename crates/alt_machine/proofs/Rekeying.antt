@@ -54,6 +54,7 @@ find_below q (e ∷ es) h =
 pub one_key : (q k : List ℕ) → eq_by_cmp text_order q k ≡ true → q ≡ k
 one_key q k e = text_apart q k (equal _ (holds _ e))
 
+-- a text equals itself
 pub itself : (q : List ℕ) → eq_by_cmp text_order q q ≡ true
 itself q = ap is_eq (tied_itself text_total q)
 

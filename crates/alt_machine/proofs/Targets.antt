@@ -20,13 +20,16 @@ use Rattle.alt_value.specs.Tree.{Pair}
 -- ---- what a request comes to
 
 module _ (tests : List (Option Answer)) (s : State) (ms : Members) (go : Table → Outcome) where
+  -- an operation on a table is refused as its first test says
   pub table-refused : (a : Answer) → first_answer tests ≡ Some a → on_table tests s ms go ≡ says a
   table-refused a e = stopped tests _ a e
 
+  -- else it is refused where its table isn't found
   pub table-missed : (a : Answer) → first_answer tests ≡ None → table_at s ms ≡ Err a
       → on_table tests s ms go ≡ says a
   table-missed a free e = passed tests _ free ∙ missed (table_at s ms) go a e
 
+  -- where the table is found, it goes on with that
   pub table-target : (t : Table) → IsTarget tests s ms t → on_table tests s ms go ≡ go t
   table-target t target = passed tests _ target.body
       ∙ found (table_at s ms) go t (ap (or_refused not_found) target.there)
@@ -50,6 +53,7 @@ module _ (tests : List (Option Answer)) (sought : Sought) (texts : Texts) (s : S
   abbrev of_item : List Pair → Outcome
   of_item item = with_found (given_at texts ms) (of_words item)
 
+  -- an operation on an item is refused as its first test says
   pub item-refused : (a : Answer) → first_answer tests ≡ Some a
       → on_item tests sought texts s ms go ≡ says a
   item-refused a e = stopped tests _ a e
@@ -103,6 +107,7 @@ module _ (tests : List (Option Answer)) (sought : Sought) (texts : Texts) (s : S
                 ∙ ap (λ b. unless_refused (refuse_unless b key_too_long ∷ []) (go said item t at))
                 long
 
+  -- where its place is found, it goes on with the item, the table and that
   pub item-target : (said : Expressions) (item : List Pair) (t : Table) (at : List ℕ)
       → map.get s.tables (table_name ms) ≡ Some t
       → IsPlaced tests sought texts ms t.description said item at

@@ -35,6 +35,7 @@ use Rattle.alt_value.specs.Tree.{Pair}
 pub before_row : ℕ → List ℕ → ℕ → List ℕ → Bool
 before_row family key f k = nat_lt f family || ((f == family) && is_lt (key_cmp k key))
 
+-- a row before another is told to be before it
 pub is_before : (family : ℕ) (key : List ℕ) (f : ℕ) (k : List ℕ) → IsBefore f k family key
     → before_row family key f k ≡ true
 unfolding before_row
@@ -46,6 +47,7 @@ is_before family key f k (inl low) = ap (λ b. b || ((f == family) && is_lt (key
 is_before family key f k (inr (same, low)) =
     grind (arith, nat_tests, same, ap is_lt low)
 
+-- and one that is told to be before it is
 pub before_is : (family : ℕ) (key : List ℕ) (f : ℕ) (k : List ℕ) → before_row family key f k ≡ true
     → IsBefore f k family key
 unfolding before_row

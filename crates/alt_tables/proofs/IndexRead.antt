@@ -26,6 +26,7 @@ pub record IsRowOf (d : TableSchema) (i : IndexSchema) (item : List Pair) (key :
   pub entry : index_entry d i item ≡ Some (key, kept)
   pub is : columns ≡ index_columns d i kept
 
+-- a row that the index has of an item is a row of it at that key, with these columns
 pub row_of : (d : TableSchema) (i : IndexSchema) (item : List Pair) (key : List ℕ)
     (columns : Columns) → row_in_index d i item ≡ Some (key, columns)
     → IsRowOf d i item key columns

@@ -159,6 +159,7 @@ before_or_at : (n k : ℕ) → n < k + 1 → (n < k) ⊎ (n ≡ k)
 before_or_at n k within = grind arith
 
 module _ (l : Layout) (d : TableSchema) where
+  -- before the first index no rows were read
   pub indexes_none : IndexesWhere (λ n. n < 0) l d
   indexes_none number i none at = absurd (omega (arith, none))
 

@@ -86,6 +86,7 @@ has_whole s valid held name t at place item here =
 module _ (l : Layout) (s r : State) (agrees_s : AgreesWhole l s) (agrees_r : AgreesWhole l r)
     (named_s : map.get s.tables [] ≡ None) (named_r : map.get r.tables [] ≡ None)
     (small_s : s.next_family < 2 ^ 32) (small_r : r.next_family < 2 ^ 32) where
+  -- both states have the same next family
   next_families : s.next_family ≡ r.next_family
   next_families = next_row-one s.next_family r.next_family small_s small_r
       (sym (agrees_s.rows.catalog [] tt) ∙ agrees_r.rows.catalog [] tt)

@@ -291,6 +291,7 @@ module _ (disk : DiskState) (tables : Tables) (s : State) (name : List ℕ) (t :
     (known_as : finite.get (catalog_of tables) name ≡ Some d) (from : List ℕ)
     (to : Option (List ℕ)) (forward : Bool) (most : ℕ) (before page : List (List ℕ × Columns))
     (empty : before ≡ []) where
+  -- the description is that of the table
   same : d ≡ t.description
   same = same_table disk tables s name t d stands at known_as
 

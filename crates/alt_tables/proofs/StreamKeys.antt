@@ -67,6 +67,7 @@ IsSmall c = c.number < 2 ^ 64
 abbrev pub Rise : List Change → Type 0
 Rise changes = AllPairs (λ (a b : Change). a.number < b.number) changes
 
+-- two that hold, hold both
 both : (a b : Bool) → T a → T b → T (a && b)
 both true b p q = q
 both false b p q = absurd p
@@ -164,6 +165,7 @@ found_keyed P (d ∷ ds) key c all found =
 abbrev pub IsKept : Change → Type 0
 IsKept c = IsSmall c × IsReadChange c
 
+-- the values of changes by their keys are the changes
 values_keyed : (cs : List Change) → map (λ (e : List ℕ × Change). e.1) (map keyed cs) ≡ cs
 values_keyed [] = refl
 values_keyed (c ∷ cs) = ap (λ rest. c ∷ rest) (values_keyed cs)

@@ -107,6 +107,7 @@ module _ (outcome : State → Outcome) (old now : State → Type 0) where
   untested tests (Refused r) h is stays = refused_so r h.1 (λ s stands. is s stands r h.0) stays
   untested tests (Fault f) h is stays = faulted f h stays
 
+  -- want of memory before anything was written
   pub faulted_as : (stop : Stop) → IsMemory stop → ((s : State) → old s → now s)
       → Carries outcome old now (Err stop)
   faulted_as stop cause stays = subst (λ e. Carries outcome old now (Err e)) (sym cause)

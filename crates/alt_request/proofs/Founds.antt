@@ -30,6 +30,7 @@ abbrev pub behind : {A B : Type 0} → (A → Result B Answer) → List B → Li
 behind step done rest = each_found step rest >>= (λ ys. Ok (done ++ ys))
 
 module _ {A B : Type 0} (step : A → Result B Answer) where
+  -- with nothing found yet, all is found of the rest
   pub found_start : (xs : List A) → each_found step xs ≡ behind step [] xs
   found_start xs = by (each_found step xs)
     where

@@ -95,6 +95,7 @@ unread tests sought texts catalog ms free (Fault f) h = h
 module _ (tests : List (Option Answer)) (sought : Sought) (texts : machine.Texts)
     (catalog : Texts TableSchema) (ms : Members) (free : first_answer tests ≡ None)
     (item : List Pair) (read : item_at (member_of sought) ms ≡ Ok item) where
+  -- where no words are given, the item isn't reached
   pub no_words : (e : Stop) → Comes {X = Given} given_of (machine.given_at texts ms) (Err e)
       → OnItem tests sought texts catalog ms (Err e)
   no_words (Refused q) h = (

@@ -9,6 +9,7 @@ module _ {A : Type 0} (number : A → ℕ) where
   abbrev pub those_from : ℕ → List A → List A
   those_from n xs = filter (λ x. nat_le n (number x)) xs
 
+  -- the numbers of a list rise
   abbrev pub Rise : List A → Type 0
   Rise xs = AllPairs (λ a b. number a < number b) xs
 
@@ -16,6 +17,7 @@ module _ {A : Type 0} (number : A → ℕ) where
   abbrev pub past : ℕ → List A → ℕ
   past n xs = unwrap_or (last_or None (map (λ x. number x + 1) xs)) n
 
+  -- what is above a number isn't up to it
   not_le : (m n : ℕ) → n < m → nat_le m n ≡ false
   not_le m n h = grind arith
 
@@ -98,9 +100,11 @@ module _ {A : Type 0} (number : A → ℕ) where
   past_some n k [] = refl
   past_some n k (j ∷ ks) = past_some n j ks ∙ sym (past_some k j ks)
 
+  -- the number past a list is the one past its rest, counted from past its first element
   pub past_cons : (n : ℕ) (x : A) (xs : List A) → past n (x ∷ xs) ≡ past (number x + 1) xs
   past_cons n x xs = past_some n (number x + 1) (map (λ y. number y + 1) xs)
 
+  -- the number past two lists is the one past the second, counted from past the first
   pub past-append : (n : ℕ) (xs ys : List A) → past n (xs ++ ys) ≡ past (past n xs) ys
   past-append n [] ys = refl
   past-append n (x ∷ xs) ys = past_cons n x (xs ++ ys) ∙ past-append (number x + 1) xs ys

@@ -89,6 +89,7 @@ module _ (disk : DiskState) (tables : Tables) (ms : Members) where
   place_stops (Fault f) h = faulted (λ s. get_records s ms) (Stands disk tables)
       (Stands disk tables) f h (λ s stands. stands)
 
+  -- where no place is reached, a GetRecords changes nothing and passes that on
   pub place_passed : (r : Result Reply Stop) (stop : Stop) → IsErr r × IsErrAnd r (λ e. e ≡ stop)
       → OnPlace (catalog_of tables) ms (Err stop)
       → Carries (λ s. get_records s ms) (Stands disk tables) (Stands disk tables) r
@@ -96,6 +97,7 @@ module _ (disk : DiskState) (tables : Tables) (ms : Members) where
       (Carries (λ s. get_records s ms) (Stands disk tables) (Stands disk tables))
       (sym (err_is r stop same)) (place_stops stop h)
 
+  -- nor did the device fail then
   pub place_unfailed : (P : Type 0) (stop : Stop) → OnPlace (catalog_of tables) ms (Err stop)
       → IfFailed (Err stop) P
   place_unfailed P (Refused r) h = tt

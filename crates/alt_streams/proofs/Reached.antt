@@ -88,6 +88,7 @@ module _ (s : State) (valid : IsValid s) (arn : List ℕ) (t : Table)
       let there : finite.get s.tables k ≡ Some t = get-entries s.tables k ∙ at in
       ap (finite.get s.tables) (valid.tables k t there).named ∙ there
 
+  -- the table that was reached has a stream, of the name that the iterator has
   pub stream_named : (is_some t.description.view ≡ true)
       × (stream_arn t.description.name t.description.number ≡ arn)
   stream_named = stream_is arn t.description
@@ -144,6 +145,7 @@ pub stream_there : (o : Option TableSchema) → has_stream o ≡ true → is_som
 stream_there None e = absurd (let no : ⊥ = cc in no)
 stream_there (Some d) e = refl
 
+-- a stream that a description has shows a view
 pub stream_shows : (o : Option TableSchema) (d : TableSchema) → has_stream o ≡ true → o ≡ Some d
     → IsSome d.view
 stream_shows o d e is = sym (ap has_stream is) ∙ e
@@ -152,6 +154,7 @@ module _ (s : State) (valid : IsValid s) (catalog : Texts TableSchema)
     (same : descriptions s.tables ≡ catalog) (arn name : List ℕ)
     (stream : has_stream (finite.get catalog name) ≡ true)
     (named : IsStreamOf catalog arn (finite.get catalog name)) where
+  -- the descriptions at hand are those of the tables
   described : finite.get catalog name
       ≡ option_map (λ (u : Table). u.description) (finite.get s.tables name)
   described = ap (λ m. finite.get m name) (sym same) ∙ get-descriptions s.tables name
@@ -192,6 +195,7 @@ module _ (ms : Members) where
   abbrev tests : List (Option Answer)
   tests = of_shape (bodies.get_records ms) ∷ []
 
+  -- a GetRecords whose body is unfit is refused so
   pub records_broken : (s : State) (a : Answer) → first_answer tests ≡ Some a
       → get_records s ms ≡ says a
   unfolding get_records
@@ -242,6 +246,7 @@ module _ (disk : DiskState) (tables : Tables) (ms : Members) (place : Place)
       → answer ≡ records_answer t.description (iterator_at t.description place.from)
       (page_of most (record_size t.description shows) (changes_from place.from t.changes)) shows
 
+  -- of the table that was reached, the answer is as its view says
   by_view : (answer : Answer) → Told answer → (s : State) → Stands disk tables s → (t : Table)
       → table_of_stream s is.iterator.arn ≡ Some t → finite.get s.tables place.table ≡ Some t
       → stream_arn t.description.name t.description.number ≡ is.iterator.arn
@@ -255,6 +260,7 @@ module _ (disk : DiskState) (tables : Tables) (ms : Members) (place : Place)
       ∙ (λ j. records_answer t.description (record { arn = named j; from = is.from j })
       (page_of (m j) (record_size t.description shows) (changes_from (is.from j) t.changes)) shows)))
 
+  -- what is told of the place is what a GetRecords answers
   pub records_told : (answer : Answer) → Told answer → (s : State) → Stands disk tables s
       → get_records s ms ≡ says answer
   records_told answer told s stands =

@@ -11,14 +11,17 @@ use Rattle.alt_value.proofs.Places.{first, second, both, less, is_less}
 use Rattle.alt_value.proofs.Texts.{text_total}
 use Rattle.alt_streams.proofs.Entries.{some}
 
+-- what is told to hold holds
 pub holds : (b : Bool) → b ≡ true → T b
 holds true e = tt
 holds false e = absurd (let f : ⊥ = cc in f)
 
+-- what holds is told to
 pub is_true : (b : Bool) → T b → b ≡ true
 is_true true h = refl
 is_true false h = absurd h
 
+-- where less follows from less, not less follows from not less
 not_less : (r s : Ordering) → (r ≡ Less → s ≡ Less) → is_lt s ≡ false → is_lt r ≡ false
 not_less Less s h e = sym (ap is_lt (h refl)) ∙ e
 not_less Equal s h e = refl
@@ -34,6 +37,7 @@ below_less last k (e ∷ es) l h = both _ _
 
 -- ---- the first
 
+-- the first that passes a test is the first of all that pass
 pub find-filter : {X : Type 0} (p : X → Bool) (xs : List X) → find p xs ≡ slice_get (filter p xs) 0
 find-filter p [] = refl
 find-filter p (x ∷ xs) = by (p x) (find-filter p xs)
@@ -62,6 +66,7 @@ module _ {X : Type 0} (name : X → List ℕ) where
   abbrev pub Rises : List X → Type 0
   Rises xs = T (is_sorted text_order (keyed xs))
 
+  -- the first whose name passes is found by its key
   pub find-keyed : (g : List ℕ → Bool) (xs : List X)
       → option_map (λ e. e.1) (find (λ e. g e.0) (keyed xs)) ≡ find (λ x. g (name x)) xs
   find-keyed g [] = refl
@@ -243,6 +248,7 @@ module _ {X Y : Type 0} (f : List ℕ × X → Y) where
   below-each k [] h = h
   below-each k (e ∷ es) h = both _ _ (first _ _ h) (below-each k es (second _ _ h))
 
+  -- entries that rise by their keys rise as they are listed
   pub sorted-each : (es : List (List ℕ × X)) → T (is_sorted text_order es)
       → T (is_sorted text_order (each es))
   sorted-each [] h = h

@@ -36,14 +36,17 @@ use Rattle.alt_updeval.proofs.Under.{changed-none, named-under}
 abbrev pub known : List Edit → Result (List Edit) Fault → Result (List Edit) Fault
 known es rest = rest >>= (λ more. Ok (es ++ more))
 
+-- with no edit known yet, all are those of the rest
 pub known-none : (rest : Result (List Edit) Fault) → rest ≡ known [] rest
 known-none (Ok es) = refl
 known-none (Err f) = refl
 
+-- one edit more is known before the rest
 pub known-more : (es : List Edit) (e : Edit) (rest : Result (List Edit) Fault) → known es (rest >>= (λ more. Ok (e ∷ more))) ≡ known (es ++ e ∷ []) rest
 known-more es e (Ok more) = ap Ok (sym (append_assoc es (e ∷ []) more))
 known-more es e (Err f) = refl
 
+-- the edit of one action more is known
 pub edits_more : (item : View) (actions : List Action) (i : ℕ) (a : Action) (es : List Edit) (e : Edit) → i < length actions → a ≡ get_or actions i a
     → edit item a ≡ Ok e → edits item actions ≡ known es (edits item (drop i actions)) → edits item actions ≡ known (es ++ e ∷ []) (edits item (drop (i + 1) actions))
 edits_more item actions i a es e lt is done so_far =
@@ -134,6 +137,7 @@ names_rise gs cs names rising =
 module _ (item : View) (pairs : List (Bor (List ℕ) × Rest))
     (xs : List (Bor (List ℕ) × Vec Rest Global)) (rising : IsStrictlySortedBy str_cmp (keys_of xs))
     (held : (q : Bor (List ℕ)) → option_map_or (λ g. g.items) (lookup (eq_by_cmp str_cmp q) xs) [] ≡ map (λ (p : Bor (List ℕ) × Rest). p.1) (filter (λ (p : Bor (List ℕ) × Rest). eq_by_cmp str_cmp p.0 q) pairs)) where
+  -- the edits of the update
   abbrev es : List Edit
   es = map shown_at pairs
 
@@ -143,6 +147,7 @@ module _ (item : View) (pairs : List (Bor (List ℕ) × Rest))
       group_at (λ (k : Bor (List ℕ)). k.now) text_order text_total shown pairs (named_edits es) (by_names pairs) xs rising held i x.0 x.1 stands
       ∙ named-under x.0.now es
 
+  -- one group more is seen by its name
   seen_more : (gs : List (Bor (List ℕ) × Vec Rest Global)) (x : Bor (List ℕ) × Vec Rest Global) (q : List ℕ)
       → is_seen (gs ++ x ∷ []) q ≡ (is_seen gs q || eq_by_cmp text_order q x.0.now)
   seen_more [] x q = or_false (eq_by_cmp text_order q x.0.now)
@@ -156,6 +161,7 @@ module _ (item : View) (pairs : List (Bor (List ℕ) × Rest))
       or_more true b c d e = refl
       or_more false b c d e = e
 
+  -- the change of one group more is made, as its edits say
   pub change_more : (gs : List (Bor (List ℕ) × Vec Rest Global)) (x : Bor (List ℕ) × Vec Rest Global) (cs : List AttrChange) (c : AttrChange)
       → map shown x.1.items ≡ under (Name x.0.now) es → Changes item es gs cs → c.name ≡ x.0.now → option_map tree_of c.value ≡ after (map shown x.1.items) (item x.0.now)
       → Changes item es (gs ++ x ∷ []) (cs ++ c ∷ [])
@@ -181,10 +187,12 @@ module _ (item : View) (pairs : List (Bor (List ℕ) × Rest))
       any_false true t u = refl
       any_false false t u = refl
 
+  -- what no edit is under stays as it is
   untouched : (o : Option Tree) → o ≡ after [] o
   untouched None = refl
   untouched (Some t) = sym (changed-none t)
 
+  -- behind the last group the changes are those of all edits
   pub change_all : (cs : List AttrChange) → Changes item es xs cs → (q : List ℕ) → changed_by cs item q ≡ after (under (Name q) es) (item q)
   change_all cs was q =
       was q ∙ elim (is_seen xs q) as (λ b. is_seen xs q ≡ b → cond b (wanted item es q) (item q) ≡ wanted item es q) [

@@ -42,6 +42,7 @@ module _ {K Key T W : Type 0} (at : K → Key) (R : Key → Key → Ordering) (o
   abbrev cmp : K → K → Ordering
   cmp x y = R (at x) (at y)
 
+  -- what is taken of a group's values is the group of what is taken
   pub commute : (k : Key) (pairs : List (K × T))
       → map what (map (λ (p : K × T). p.1) (filter (λ (p : K × T). is_eq (R (at p.0) k)) pairs))
       ≡ map (λ (p : Key × W). p.1) (filter (λ (p : Key × W). eq_by_cmp R p.0 k) (map (λ (p : K × T). (at p.0, what p.1)) pairs))

@@ -5,11 +5,13 @@ use Rattle.alt_value.proofs.Trees.{elements-trees_of}
 use Rattle.alt_expr.specs.Updated.{Edit, put_here, is_taken, outcome, past, changed, changed_elements, after}
 use Rattle.alt_updeval.specs.Shown.{is_put, is_out, is_whole}
 
+-- one edit more here: it puts its value, or what the others put stays
 pub put_one : (e : Edit) (es : List Edit) → put_here (e ∷ es) ≡ cond (is_put e) e.1 (put_here es)
 put_one ([], Some t) es = refl
 put_one ([], None) es = refl
 put_one (p ∷ ps, v) es = refl
 
+-- one edit more here: it takes what is there away, or the others do
 pub taken_one : (e : Edit) (es : List Edit) → is_taken (e ∷ es) ≡ (is_out e || is_taken es)
 taken_one ([], Some t) es = refl
 taken_one ([], None) es = refl

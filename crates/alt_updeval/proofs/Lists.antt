@@ -25,20 +25,24 @@ abbrev pub walked : (ℕ → List Edit) → ℕ → List Tree → List Tree
 walked edits i [] = []
 walked edits i (t ∷ ts) = option_to_list (changed (edits i) t) ++ walked edits (suc i) ts
 
+-- an element that may be there comes before the rest
 elements-then : (o : Option Tree) (ts : Trees) → elements (element_then o ts) ≡ option_to_list o ++ elements ts
 elements-then None ts = refl
 elements-then (Some t) ts = refl
 
+-- a walk over a list makes of it what the edits do
 pub walked-elements : (es : List Edit) (i : ℕ) (ts : List Tree) → walked (λ k. under (Index k) es) i ts ≡ elements (changed_elements es i (trees_of ts))
 walked-elements es i [] = refl
 walked-elements es i (t ∷ ts) =
     ap (λ (l : List Tree). option_to_list (changed (under (Index i) es) t) ++ l) (walked-elements es (suc i) ts)
     ∙ sym (elements-then (changed (under (Index i) es) t) (changed_elements es (suc i) (trees_of ts)))
 
+-- walks by the same edits make the same
 pub walked-same : (f g : ℕ → List Edit) (i : ℕ) (ts : List Tree) → ((k : ℕ) → f k ≡ g k) → walked f i ts ≡ walked g i ts
 walked-same f g i [] e = refl
 walked-same f g i (t ∷ ts) e = λ j. option_to_list (changed (e i j) t) ++ walked-same f g (suc i) ts e j
 
+-- a walk goes on with what its edits make of one element more
 walked-append : (f : ℕ → List Edit) (i n : ℕ) (ts : List Tree) (t : Tree) → n ≡ i + length ts
     → walked f i (ts ++ t ∷ []) ≡ walked f i ts ++ option_to_list (changed (f n) t)
 walked-append f i n [] t e =
@@ -125,6 +129,7 @@ find-past n q ((Index i ∷ p ∷ ps, v) ∷ es) =
     find-past n q es ∙ ap (from_n n q) (passed (p ∷ ps, v) (under (Index q) es) (q == i) (λ vs. refl))
 
 module _ {V : Type 0} (edits : V → List Edit) where
+  -- entries with this one in front, if it has a value
   abbrev pub kept : ℕ → Option Tree → List (ℕ × Tree) → List (ℕ × Tree)
   kept k None ps = ps
   kept k (Some t) ps = (k, t) ∷ ps
@@ -134,6 +139,7 @@ module _ {V : Type 0} (edits : V → List Edit) where
   puts [] = []
   puts (g ∷ gs) = kept g.0 (put_here (edits g.1)) (puts gs)
 
+  -- what is kept in front stays in front
   kept-append : (k : ℕ) (o : Option Tree) (ps qs : List (ℕ × Tree)) → kept k o (ps ++ qs) ≡ kept k o ps ++ qs
   kept-append k None ps qs = refl
   kept-append k (Some t) ps qs = refl
@@ -159,6 +165,7 @@ module _ {V : Type 0} (edits : V → List Edit) where
       ∙ sym (map-append (λ (p : ℕ × Tree). p.1) (puts gs) (puts (g ∷ [])))
       ∙ ap (map (λ (p : ℕ × Tree). p.1)) (sym (puts-append gs (g ∷ []))))
 
+  -- a key below all entries is below what is kept of them
   below-kept : (x k : ℕ) (o : Option Tree) (ps : List (ℕ × Tree)) → nat_cmp x k ≡ Less → T (below_all nat_cmp x ps) → T (below_all nat_cmp x (kept k o ps))
   below-kept x k None ps p h = h
   below-kept x k (Some t) ps p h = both _ _ (is_less _ p) h
@@ -207,10 +214,12 @@ module _ {V : Type 0} (edits : V → List Edit) where
         | false ↦ λ e. rest
       ] refl
 
+  -- the edits of a group, if there is one
   abbrev pub edits_of : Option V → List Edit
   edits_of None = []
   edits_of (Some v) = edits v
 
+  -- what a group puts is what its edits put here
   put_edits : (o : Option V) → put_of o ≡ put_here (edits_of o)
   put_edits None = refl
   put_edits (Some v) = refl

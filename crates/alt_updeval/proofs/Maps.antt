@@ -21,11 +21,13 @@ use Rattle.alt_expr.specs.Updated.{Edit, under, changed, changed_fields, put_her
 use Rattle.alt_updeval.specs.Shown.{put_at, new_at, put_if, put_new_if}
 use Rattle.alt_updeval.proofs.Under.{put-changed}
 
+-- an order that is told to be equal is Equal
 pub equal : (r : Ordering) → is_eq r ≡ true → r ≡ Equal
 equal Less e = cc
 equal Equal e = refl
 equal Greater e = cc
 
+-- a name below all pairs isn't among them
 not_there : (q : List ℕ) (ps : List Pair) → T (below_all text_order q ps) → at_name q ps ≡ None
 not_there q [] h = refl
 not_there q (p ∷ ps) h =
@@ -60,6 +62,7 @@ at_name-fields es q (p ∷ ps) h =
       | false ↦ λ e. rest
     ] refl
 
+-- a name below all pairs is below one pair more that is above it
 below-picked : (x name : List ℕ) (o : Option Tree) (fs : Fields) → T (is_lt (text_order x name)) → T (below_all text_order x (pairs fs))
     → T (below_all text_order x (pairs (pair_then name o fs)))
 below-picked x name None fs p h = h
@@ -118,6 +121,7 @@ named (c ∷ cs) (d ∷ ds) t es ps before is =
       | false ↦ is
     ]
 
+-- what stands at a name after edits put is what they put there, or what stood there
 pub at_name-put_names : (es : List Edit) (ps : List Pair) (q : List ℕ) → at_name q (put_names es ps) ≡ option_or (put_at es q) (at_name q ps)
 at_name-put_names [] ps [] = refl
 at_name-put_names [] ps (c ∷ cs) = refl
@@ -127,6 +131,7 @@ at_name-put_names ((Name n ∷ [], Some t) ∷ es) ps q = named q n t es ps (put
 at_name-put_names ((Name n ∷ [], None) ∷ es) ps q = at_name-put_names es ps q ∙ ap (λ o. option_or o (at_name q ps)) (skipped q n [] None es (λ vs. refl))
 at_name-put_names ((Name n ∷ s ∷ ss, v) ∷ es) ps q = at_name-put_names es ps q ∙ ap (λ o. option_or o (at_name q ps)) (skipped q n (s ∷ ss) v es (λ vs. refl))
 
+-- pairs that rise do so with one more put in
 sorted-put_name : (n : List ℕ) (t : Tree) (ps : List Pair) → T (is_sorted text_order ps) → T (is_sorted text_order (put_name n t ps))
 sorted-put_name [] t ps h = h
 sorted-put_name (c ∷ cs) t ps h = is_sorted-put text_order text_total (c ∷ cs) t ps h
@@ -148,6 +153,7 @@ covered es q None = refl
 covered es [] (Some t) = refl
 covered es (c ∷ cs) (Some t) = sym (put-changed (under (Name (c ∷ cs)) es) t)
 
+-- a map made of old pairs with their edits, and of new ones, is the map with all edits
 pub map-from : (es : List Edit) (ps out : List Pair) → IsItem ps → IsItem out
     → ((q : List ℕ) → at_name q out ≡ option_or (new_at es ps q) (option_and_then (changed (under (Name q) es)) (at_name q ps)))
     → out ≡ put_names es (pairs (changed_fields es (fields_of ps)))
@@ -159,11 +165,13 @@ map-from es ps out is_item is_out each =
 
 -- ---- one pair more
 
+-- what stands at a name after a value that may be there was put
 pub at_name-put_if : (q name : List ℕ) (o : Option Tree) (ps : List Pair)
     → at_name q (put_if name o ps) ≡ cond (eq_by_cmp text_order q name) (option_or o (at_name q ps)) (at_name q ps)
 at_name-put_if q name None ps = elim (eq_by_cmp text_order q name) as (λ b. at_name q ps ≡ cond b (at_name q ps) (at_name q ps)) [ true ↦ refl | false ↦ refl ]
 at_name-put_if q name (Some t) ps = find-put text_order text_total q name t ps
 
+-- a name below all pairs is below each of them
 below_at : (x : List ℕ) (ps : List Pair) (i : ℕ) (name : List ℕ) (v : Tree) → T (below_all text_order x ps) → slice_get ps i ≡ Some (name, v) → text_order x name ≡ Less
 below_at x [] i name v h e = cc
 below_at x (p ∷ ps) zero name v h e = ap (λ (r : Pair). text_order x r.0) (sym (same_Some p (name, v) e)) ∙ less (text_order x p.0) (first _ _ h)
@@ -182,6 +190,7 @@ module _ (es : List Edit) (ps : List Pair) where
   abbrev pub Upto : ℕ → List Pair → Type 0
   Upto i out = (q : List ℕ) → at_name q out ≡ option_and_then (changed (under (Name q) es)) (at_name q (take i ps))
 
+  -- one pair more is looked at, with what its edits make of it
   pub one_more : (i : ℕ) (name : List ℕ) (v : Tree) (before now : List Pair) → T (is_sorted text_order ps) → slice_get ps i ≡ Some (name, v)
       → take (i + 1) ps ≡ take i ps ++ (name, v) ∷ [] → Upto i before → now ≡ put_if name (changed (under (Name name) es) v) before → Upto (i + 1) now
   one_more i name v before now sorted stands more was put q =
@@ -201,6 +210,7 @@ module _ (es : List Edit) (ps : List Pair) where
 
 -- ---- one new name more
 
+-- a new name is put exactly where edits put it
 pub put_new : (name : List ℕ) (b : Bool) (es : List Edit) (before : List Pair)
     → put_new_if name (put_here (if b then under (Name name) es else [])) before ≡ put_if name (if b then put_at es name else None) before
 put_new [] true es before = refl
@@ -208,6 +218,7 @@ put_new [] false es before = refl
 put_new (c ∷ cs) true es before = refl
 put_new (c ∷ cs) false es before = refl
 
+-- a value that is put a second time changes nothing
 over_again : (o p : Option Tree) (b : Bool) → option_or o (cond b (option_or o p) p) ≡ option_or o p
 over_again None p true = refl
 over_again None p false = refl
@@ -218,6 +229,7 @@ module _ (es : List Edit) (ps out0 : List Pair) where
   abbrev pub Seen : (List ℕ → Bool) → List Pair → Type 0
   Seen seen out = (q : List ℕ) → at_name q out ≡ cond (seen q) (option_or (new_at es ps q) (at_name q out0)) (at_name q out0)
 
+  -- a new name more is seen, and what is put there is
   pub seen_more : (seen more : List ℕ → Bool) (name : List ℕ) (before now : List Pair) → Seen seen before
       → ((q : List ℕ) → more q ≡ cond (eq_by_cmp text_order q name) true (seen q)) → now ≡ put_if name (new_at es ps name) before → Seen more now
   seen_more seen more name before now was is put q =

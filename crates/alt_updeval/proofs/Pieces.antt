@@ -7,6 +7,7 @@ use Rattle.alt_value.proofs.Trees.{elements-trees_of}
 use Rattle.alt_expr.specs.Updated.{joined}
 use Rattle.alt_updeval.specs.Shown.{joined_pieces, list_in}
 
+-- pieces one behind another are joined one behind another
 pub pieces-append : (xs ys : List (Bor (List Tree))) → joined_pieces (xs ++ ys) ≡ joined_pieces xs ++ joined_pieces ys
 pieces-append [] ys = refl
 pieces-append (x ∷ xs) ys = ap (λ l. x.now ++ l) (pieces-append xs ys) ∙ sym (append_assoc x.now (joined_pieces xs) (joined_pieces ys))
@@ -20,6 +21,7 @@ joined_are (L_tree ss) (L_tree ts) xs ys p q =
 joined_are (L_tree ss) _ xs ys p q = absurd (cc)
 joined_are _ t xs ys p q = absurd (cc)
 
+-- a list is one piece
 pub one_piece : (ts : List Tree) → list_in (L_tree (trees_of ts)) ≡ Ok (ts ++ [])
 one_piece ts = ap Ok (elements-trees_of ts ∙ sym (append-nil ts))
 

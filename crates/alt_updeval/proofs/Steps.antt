@@ -26,9 +26,11 @@ use Rattle.alt_updeval.proofs.Maps.{Seen, seen_more, put_new}
 use Rattle.alt_updeval.proofs.Taking.{take-one_more}
 use Rattle.alt_updeval.proofs.Under.{at_key, at_filter, named-under, indexed-under}
 
+-- what goes on behind a first name or index
 abbrev pub Way : Type 0
 Way = Bor (List PathPart) × Option (Bor Made)
 
+-- the order of names by their texts
 abbrev pub str_cmp : Bor (List ℕ) → Bor (List ℕ) → Ordering
 str_cmp x y = text_order x.now y.now
 
@@ -60,12 +62,14 @@ at_text es pairs same r o q is held =
 
 -- ---- the elements of a list
 
+-- one element more, with what its edits make of it
 pub list_more : (es us : List Edit) (ts : List Tree) (i : ℕ) (t : Tree) (before now : List Tree) → us ≡ under (Index i) es → i < length ts → Some t ≡ slice_get ts i
     → before ≡ walked (λ k. under (Index k) es) 0 (take i ts) → now ≡ before ++ option_to_list (changed us t) → now ≡ walked (λ k. under (Index k) es) 0 (take (i + 1) ts)
 list_more es us ts i t before now is lt stands was put =
     put ∙ ap (λ (vs : List Edit). before ++ option_to_list (changed vs t)) is ∙ ap (λ (l : List Tree). l ++ option_to_list (changed (under (Index i) es) t)) was
     ∙ sym (walked-more (λ k. under (Index k) es) ts i t (omega arith) (take-one_more ts i t stands))
 
+-- behind the last element stand those that are put past the end
 pub list_all : (es : List Edit) (ts : List Tree) (i : ℕ) (out now : List Tree) → length ts ≤ i → out ≡ walked (λ k. under (Index k) es) 0 (take i ts)
     → now ≡ out ++ map (λ (p : ℕ × Tree). p.1) (past (length ts) es)
     → now ≡ elements (changed_elements es 0 (trees_of ts)) ++ map (λ (p : ℕ × Tree). p.1) (past (length ts) es)
@@ -75,12 +79,14 @@ list_all es ts i out now le was put =
 
 -- ---- what is put past the end
 
+-- the edits of a group
 abbrev pub shown_group : Vec Way Global → List Edit
 shown_group v = map way_of v.items
 
 module _ (es : List Edit) (n : ℕ) (pairs : List (ℕ × Way)) (same : map way_at_index pairs ≡ past_end n (indexed_edits es))
     (xs : List (ℕ × Vec Way Global)) (rising : IsStrictlySortedBy nat_cmp (keys_of xs))
     (held : (q : ℕ) → option_map_or (λ g. g.items) (lookup (eq_by_cmp nat_cmp q) xs) [] ≡ map (λ (p : ℕ × Way). p.1) (filter (λ (p : ℕ × Way). eq_by_cmp nat_cmp p.0 q) pairs)) where
+  -- a group that may be there has its edits, or there are none
   in_group : (o : Option (Vec Way Global)) → edits_of shown_group o ≡ map way_of (option_map_or (λ g. g.items) o [])
   in_group None = refl
   in_group (Some v) = refl
@@ -90,12 +96,14 @@ module _ (es : List Edit) (n : ℕ) (pairs : List (ℕ × Way)) (same : map way_
       in_group (lookup (eq_by_cmp nat_cmp q) xs) ∙ ap (map way_of) (held q) ∙ commute (λ (k : ℕ). k) nat_cmp nat_cmp_total way_of q pairs
       ∙ ap (at_key (λ k. eq_by_cmp nat_cmp k q)) same ∙ past-under n q es
 
+  -- behind the last group all that is put past the end stands
   pub past_all : (i : ℕ) (base out : List Tree) → length xs ≤ i → out ≡ base ++ map (λ (p : ℕ × Tree). p.1) (puts shown_group (take i xs))
       → out ≡ base ++ map (λ (p : ℕ × Tree). p.1) (past n es)
   past_all i base out le was =
       was ∙ ap (λ (gs : List (ℕ × Vec Way Global)). base ++ map (λ (p : ℕ × Tree). p.1) (puts shown_group gs)) (take_all i xs le)
       ∙ ap (λ (ps : List (ℕ × Tree)). base ++ map (λ (p : ℕ × Tree). p.1) ps) (puts-past shown_group n es xs rising each)
 
+-- one group more of those past the end
 pub past_more : (xs : List (ℕ × Vec Way Global)) (i : ℕ) (x : ℕ × Vec Way Global) (base before now : List Tree) → i < length xs → x ≡ get_or xs i x
     → before ≡ base ++ map (λ (p : ℕ × Tree). p.1) (puts shown_group (take i xs)) → now ≡ before ++ option_to_list (put_here (map way_of x.1.items))
     → now ≡ base ++ map (λ (p : ℕ × Tree). p.1) (puts shown_group (take (i + 1) xs))
@@ -110,12 +118,15 @@ module _ (es : List Edit) (ps : List Pair) (pairs : List (Bor (List ℕ) × Way)
     (xs : List (Bor (List ℕ) × Vec Way Global)) (rising : IsStrictlySortedBy str_cmp (keys_of xs))
     (held : (q : Bor (List ℕ)) → option_map_or (λ g. g.items) (lookup (eq_by_cmp str_cmp q) xs) [] ≡ map (λ (p : Bor (List ℕ) × Way). p.1) (filter (λ (p : Bor (List ℕ) × Way). eq_by_cmp str_cmp p.0 q) pairs))
     (out0 : List Pair) where
+  -- the names of the groups before this one
   abbrev pub seen_by : ℕ → List ℕ → Bool
   seen_by i q = list_any (λ (p : Bor (List ℕ) × Vec Way Global). eq_by_cmp text_order q p.0.now) (take i xs)
 
+  -- a name that is new has the edits under it, and one that is there has none
   new_under : (name : List ℕ) → at_key (λ k. eq_by_cmp text_order k name) (new_names ps (named_edits es)) ≡ cond (is_none (at_name name ps)) (under (Name name) es) []
   new_under name = at_filter text_order text_apart (λ m. is_none (at_name m ps)) name (named_edits es) ∙ ap (λ (l : List Edit). cond (is_none (at_name name ps)) l []) (named-under name es)
 
+  -- one group more of those with new names
   pub new_more : (i : ℕ) (x : Bor (List ℕ) × Vec Way Global) (before now : List Pair) → i < length xs → x ≡ get_or xs i x
       → Seen es ps out0 (seen_by i) before → now ≡ put_new_if x.0.now (put_here (map way_of x.1.items)) before → Seen es ps out0 (seen_by (i + 1)) now
   new_more i x before now lt is was put =
@@ -126,6 +137,7 @@ module _ (es : List Edit) (ps : List Pair) (pairs : List (Bor (List ℕ) × Way)
       (λ q. any_more (λ (p : Bor (List ℕ) × Vec Way Global). eq_by_cmp text_order q p.0.now) xs i x lt is)
       (put ∙ ap (λ (us : List Edit). put_new_if x.0.now (put_here us) before) group ∙ put_new x.0.now (is_none (at_name x.0.now ps)) es before)
 
+  -- a name that no group has isn't put
   nowhere : (q : List ℕ) → list_any (λ (g : Bor (List ℕ) × Vec Way Global). eq_by_cmp text_order q g.0.now) xs ≡ false → new_at es ps q ≡ None
   nowhere q none = absent q (is_none (at_name q ps))
       (sym (new_under q) ∙ no_group (λ (k : Bor (List ℕ)). k.now) text_order text_total way_of pairs (new_names ps (named_edits es)) same xs rising held (record { ref_ptr = (0, 0); now = q }) none)
@@ -135,6 +147,7 @@ module _ (es : List Edit) (ps : List Pair) (pairs : List (Bor (List ℕ) × Way)
       absent (c ∷ cs) true e = ap put_here e
       absent q false e = refl
 
+  -- behind the last group all new names are put
   pub new_all : (i : ℕ) (out : List Pair) → length xs ≤ i → Seen es ps out0 (seen_by i) out
       → (q : List ℕ) → at_name q out ≡ option_or (new_at es ps q) (at_name q out0)
   new_all i out le was q =

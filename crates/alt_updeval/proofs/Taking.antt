@@ -14,6 +14,7 @@ module _ {X : Type 0} where
   pub take-one_more : (xs : List X) (i : ℕ) (x : X) → Some x ≡ slice_get xs i → take (i + 1) xs ≡ take i xs ++ x ∷ []
   take-one_more xs i x e = ap (λ n. take n xs) (add-one i) ∙ upto xs i x e
 
+  -- past its end nothing more is taken of a list
   past : (xs : List X) (i : ℕ) → None ≡ slice_get xs i → take (suc i) xs ≡ take i xs
   past [] zero e = refl
   past [] (suc i) e = refl

@@ -22,6 +22,7 @@ use Rattle.alt_updeval.specs.Shown.{named_edits, indexed_edits}
 abbrev pub at_key : {K : Type 0} → (K → Bool) → List (K × Edit) → List Edit
 at_key {K} test es = map (λ (p : K × Edit). p.1) (filter (λ (p : K × Edit). test p.0) es)
 
+-- an order that is told to be equal is Equal
 tied : (r : Ordering) → is_eq r ≡ true → r ≡ Equal
 tied Less e = cc
 tied Equal e = refl
@@ -58,9 +59,11 @@ module _ {K : Type 0} (R : K → K → Ordering) (apart : IsAntisymmetric R) (p 
         ]
       ] refl
 
+-- names that tie are equal byte by byte
 pub same_name : (m n : List ℕ) → eq_by_cmp text_order n m ≡ bytes_eq m n
 same_name m n = sym (texts_ties n m) ∙ nat_list_eq_equiv.symm n m
 
+-- the edits grouped at a name are those that go on from it
 pub named-under : (name : List ℕ) (es : List Edit) → at_key (λ n. eq_by_cmp text_order n name) (named_edits es) ≡ under (Name name) es
 named-under name [] = refl
 named-under name (([], v) ∷ es) = named-under name es
@@ -73,6 +76,7 @@ named-under name ((Name n ∷ ps, v) ∷ es) =
       | false ↦ λ e. rw e (named-under name es)
     ] (same_name name n)
 
+-- the edits grouped at an index are those that go on from it
 pub indexed-under : (k : ℕ) (es : List Edit) → at_key (λ i. eq_by_cmp nat_cmp i k) (indexed_edits es) ≡ under (Index k) es
 indexed-under k [] = refl
 indexed-under k (([], v) ∷ es) = indexed-under k es
@@ -88,6 +92,7 @@ indexed-under k ((Index j ∷ ps, v) ∷ es) =
 -- ---- without edits a value stays
 
 mutual
+  -- a value without edits stays
   pub changed-none : (t : Tree) → changed [] t ≡ Some t
   changed-none (L_tree ts) =
       ap (λ (us : Trees). Some (L_tree (trees_of (elements us ++ [])))) (elements-none 0 ts)
@@ -96,6 +101,7 @@ mutual
       ap (λ (gs : Fields). Some (M_tree (fields_of (pairs gs)))) (fields-none fs) ∙ ap (λ (gs : Fields). Some (M_tree gs)) (fields_of-pairs fs)
   changed-none _ = refl
 
+  -- so do the elements of a list
   elements-none : (i : ℕ) (ts : Trees) → changed_elements [] i ts ≡ ts
   elements-none i no_trees = refl
   elements-none i (tree_then t ts) =
@@ -113,6 +119,7 @@ put_first : (o : Option Tree) (out : Bool) (w : Tree) → option_or o (outcome o
 put_first None out w = refl
 put_first (Some t) out w = refl
 
+-- what edits put at a place stands there, whatever else they do
 pub put-changed : (es : List Edit) (t : Tree) → option_or (put_here es) (changed es t) ≡ changed es t
 put-changed es (L_tree ts) = put_first (put_here es) (is_taken es) _
 put-changed es (M_tree fs) = put_first (put_here es) (is_taken es) _

@@ -184,19 +184,23 @@ test_first (contains a b) rest = (refl, refl)
 -- ---- how deep NOT and brackets stand in one another, which is at most the number of tokens
 
 abbrev mutual
+  -- how deep brackets and NOTs nest in an OR
   pub cond_nest : CondPhrase → ℕ
   cond_nest (last a) = and_nest a
   cond_nest (either a o) = and_nest a + cond_nest o
 
+  -- how deep they nest in an AND
   pub and_nest : AndPhrase → ℕ
   and_nest (final d) = not_nest d
   and_nest (both d a) = not_nest d + and_nest a
 
+  -- how deep they nest in what a NOT may stand before
   pub not_nest : NotPhrase → ℕ
   not_nest (negated d) = not_nest d + 1
   not_nest (group o) = cond_nest o + 1
   not_nest (test t) = 1
 
+-- an operand has a token
 operand_first_some : (d : OperandPhrase) (xs : List Tok) → 0 < length (operand_toks d ++ xs)
 operand_first_some d xs = omega (arith, operand_some d, length-append (operand_toks d) xs)
 
@@ -211,10 +215,12 @@ test_some (begins a b) = omega arith
 test_some (contains a b) = omega arith
 
 mutual
+  -- an OR nests no deeper than it has tokens
   pub cond_fits : (o : CondPhrase) → cond_nest o ≤ length (cond_toks o)
   cond_fits (last a) = and_fits a
   cond_fits (either a o) = omega (arith, and_fits a, cond_fits o, length-append (and_toks a) (key k.Or ∷ cond_toks o))
 
+  -- nor does an AND
   and_fits : (a : AndPhrase) → and_nest a ≤ length (and_toks a)
   and_fits (final d) = not_fits d
   and_fits (both d a) = omega (arith, not_fits d, and_fits a, length-append (not_toks d) (key k.And ∷ and_toks a))
@@ -307,6 +313,7 @@ any_of_more g a (last b) = refl
 any_of_more g a (either b o) = refl
 
 mutual
+  -- a phrase that nests no deeper than the turns is read as its tree
   pub not_read : (g : Given) (d : NotPhrase) (n : ℕ) (rest : List Tok) → not_nest d ≤ n → Ends rest → r.one g n (not_toks d ++ rest) ≡ Some (not_tree g d, rest)
   not_read g d zero rest fits e = absurd (omega (arith, not_nests d))
   not_read g (negated d) (suc n) rest fits e = one_not g n _ rest (not_tree g d) (not_read g d n rest (omega arith) e)

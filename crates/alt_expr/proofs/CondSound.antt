@@ -236,6 +236,7 @@ test_sound g i x rest h = elim (either_way (calls (codes "attribute_exists") i))
 
 -- ---- conditions
 
+-- members that were read behind others, with commas or words between
 pub record Members {D : Type 0} (toks : D → List Tok) (trees : D → List Cond) (found : List Cond) (i : List Tok) (xs : List Cond) (rest : List Tok) : Type 0 where
   pub by : D
   pub tokens : i ≡ toks by ++ rest
@@ -287,9 +288,11 @@ module _ (one : Parser Cond) {D : Type 0} (toks : D → List Tok) (tree : D → 
               record { by = only d.by; tokens = d.tokens ∙ ap (λ t. toks d.by ++ t) e.1 ∙ ap (λ t. t ++ rest) (sym (only_toks d.by)); stands = sym e.0 ∙ d.stands ∙ sym (one_whole d.by) }
         ]
 
+-- the tree of an AND
 abbrev pub and_tree : Given → AndPhrase → Cond
 and_tree g a = all_of (and_trees g a)
 
+-- the tree of an AND of two and more is that of all of them
 all_more : (g : Given) (d : NotPhrase) (a : AndPhrase) → all_of (and_trees g (both d a)) ≡ cond.All (and_trees g (both d a))
 all_more g d (final e) = refl
 all_more g d (both e a) = refl
@@ -304,12 +307,14 @@ unfolding r.all
 all_sound g f sound i x rest h =
     joined_sound f not_toks (not_tree g) sound and_toks (and_trees g) k.And final both (λ d. refl) (λ d e. refl) (λ d. refl) (λ d e. refl) cond.All all_of (λ d. refl) (all_more g) i x rest h
 
+-- an OR that was read was derived
 pub any_sound : (g : Given) (f : Parser Cond) → ((i : List Tok) (x : Cond) (rest : List Tok) → f i ≡ Some (x, rest) → Derived not_toks (not_tree g) i x rest)
     → (i : List Tok) (x : Cond) (rest : List Tok) → r.any f i ≡ Some (x, rest) → Derived cond_toks (cond_tree g) i x rest
 unfolding r.any
 any_sound g f sound i x rest h =
     joined_sound (r.all f) and_toks (and_tree g) (all_sound g f sound) cond_toks (cond_trees g) k.Or last either (λ d. refl) (λ d e. refl) (λ d. refl) (λ d e. refl) cond.Any any_of (λ d. refl) (any_more g) i x rest h
 
+-- a phrase that was read was derived
 pub one_sound : (g : Given) (n : ℕ) (i : List Tok) (x : Cond) (rest : List Tok) → r.one g n i ≡ Some (x, rest) → Derived not_toks (not_tree g) i x rest
 unfolding r.one r.prim after_key after_mark
 one_sound g zero i x rest h = absurd (cc)

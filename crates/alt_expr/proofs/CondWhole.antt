@@ -54,14 +54,17 @@ pub unique : (g : Given) (d e : CondPhrase) → conditions.toks d ≡ conditions
 unfolding conditions
 unique g d e same = one_tree g d e same
 
+-- a condition repeats no clause
 pub never_repeats : (d : CondPhrase) → conditions.repeats d ≡ false
 unfolding conditions
 never_repeats d = refl
 
+-- nor does it name paths that overlap
 pub never_overlaps : (t : Cond) → conditions.overlaps t ≡ false
 unfolding conditions
 never_overlaps t = refl
 
+-- the language's test for crowded trees is that of conditions
 pub crowded_is : (t : Cond) → conditions.is_crowded t ≡ is_crowded t
 unfolding conditions
 crowded_is t = refl

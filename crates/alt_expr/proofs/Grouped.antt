@@ -15,9 +15,11 @@ tied Equal e = refl
 tied Greater e = cc
 
 module _ {K T V : Type 0} (R : K → K → Ordering) (o : IsTotalOrder R) (items : V → List T) where
+  -- the values of pairs that have a key
   abbrev pub grouped : K → List (K × T) → List T
   grouped q ps = map (λ p. p.1) (filter (λ p. eq_by_cmp R p.0 q) ps)
 
+  -- one pair more adds its value to those of its key, and nothing to the others
   more : (q key : K) (value : T) (ps : List (K × T)) → grouped q (ps ++ (key, value) ∷ []) ≡ grouped q ps ++ grouped q ((key, value) ∷ [])
   more q key value ps =
       ap (λ (l : List (K × T)). map (λ p. p.1) l) (filter-append (λ (p : K × T). eq_by_cmp R p.0 q) ps ((key, value) ∷ []))
@@ -26,6 +28,7 @@ module _ {K T V : Type 0} (R : K → K → Ordering) (o : IsTotalOrder R) (items
   alike : (q key : K) (ps : List (K × T)) → R key q ≡ Equal → grouped key ps ≡ grouped q ps
   alike q key ps e = λ i. map (λ p. p.1) (filter (λ (p : K × T). is_eq (alike_right o key q p.0 e i)) ps)
 
+  -- one value more in its key's group leaves each group what it has to be
   pub one_more : (q key : K) (value : T) (ps : List (K × T)) {now : Option V} (before : Option V) (w r : V)
       → now ≡ cond (eq_by_cmp R key q) (Some w) before → option_map_or items before [] ≡ grouped q ps
       → items w ≡ items r ++ value ∷ [] → items r ≡ grouped key ps

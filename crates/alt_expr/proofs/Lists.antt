@@ -12,10 +12,12 @@ module _ {D T : Type 0} (toks : D → List Tok) (tree : D → T) (one : Parser T
   more_toks [] = []
   more_toks (d ∷ ds) = mark m.Comma ∷ (toks d ++ more_toks ds)
 
+  -- the tokens of a list are those of its first member, and those of the others behind commas
   pub between_is : (d : D) (ds : List D) → between_toks toks (mark m.Comma) d ds ≡ toks d ++ more_toks ds
   between_is d [] = sym (append-nil (toks d))
   between_is d (e ∷ es) = ap (λ t. toks d ++ mark m.Comma ∷ t) (between_is e es)
 
+  -- each member behind a comma has a token
   enough : (ds : List D) → length ds ≤ length (more_toks ds)
   enough [] = omega arith
   enough (d ∷ ds) = omega (arith, enough ds, length-append (toks d) (more_toks ds))

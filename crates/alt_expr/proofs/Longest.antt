@@ -41,6 +41,7 @@ not_beyond p (b ∷ bs) (suc n) h w = elim (either_way (p b)) [
   | inr no_b ↦ rw no_b refl
 ]
 
+-- the front of bytes that pass a test is no longer than they
 pub prefix_fits : (p : ℕ → Bool) (bs : List ℕ) → prefix_len p bs ≤ length bs
 prefix_fits p [] = omega arith
 prefix_fits p (b ∷ bs) = elim (either_way (p b)) [
@@ -52,6 +53,7 @@ prefix_fits p (b ∷ bs) = elim (either_way (p b)) [
 abbrev pub Holds : List ℕ → Option (Kind × ℕ) → Type 0
 Holds text answer = MatchOption answer (NoneStands text) (λ p. Stands text p.1 (kind_tok p.0 (take p.1 text)))
 
+-- nothing is told with what doesn't hold
 and_none : (b : Bool) → (b && false) ≡ false
 and_none true = refl
 and_none false = refl
@@ -199,6 +201,7 @@ nothing : NoneStands []
 nothing zero fits = refl
 nothing (suc n) fits = refl
 
+-- what is found of a text is its longest token
 pub scan_holds : (text : List ℕ) → Holds text (found text)
 scan_holds [] = nothing
 scan_holds (b ∷ bs) = elim (either_way (is_ascii_alphabetic b)) [
@@ -250,6 +253,7 @@ cut_after : (bs : List ℕ) (n : ℕ) → IsUtf8 bs → n ≤ length bs → ((m 
 cut_after bs zero utf8 within last = IsCharBoundary-start bs utf8
 cut_after bs (suc m) utf8 within last = rw (← add-one) (IsCharBoundary-after_ascii bs m utf8 (omega (arith, within)) (last m refl))
 
+-- behind blanks a text may be cut
 pub blank_cut : (bs : List ℕ) → IsUtf8 bs → IsCharBoundary bs (prefix_len is_blank bs)
 blank_cut bs utf8 = cut_after bs (prefix_len is_blank bs) utf8 (prefix_fits is_blank bs) (λ m e. blank_ascii (get_or bs m 0) (prefix_last is_blank bs m (omega (arith, e))))
 
@@ -257,6 +261,7 @@ blank_cut bs utf8 = cut_after bs (prefix_len is_blank bs) utf8 (prefix_fits is_b
 abbrev pub IsAsciiCut : List ℕ → Option (Kind × ℕ) → Type 0
 IsAsciiCut text answer = MatchOption answer ⊤ (λ p. (m : ℕ) × (p.1 ≡ suc m) × (get_or text m 0 < 128))
 
+-- within a run of bytes below 128 a text may be cut
 run_cut : (p : ℕ → Bool) → ((b : ℕ) → p b ≡ true → b < 128) → (b : ℕ) (bs : List ℕ) → b < 128 → (m : ℕ) → m ≤ prefix_len p bs → get_or (b ∷ bs) m 0 < 128
 run_cut p ascii b bs first zero h = first
 run_cut p ascii b bs first (suc m) h = ascii (get_or bs m 0) (prefix_last p bs m (omega (arith, h)))
@@ -298,9 +303,11 @@ found_ascii (b ∷ bs) = elim (either_way (is_ascii_alphabetic b)) [
 
 -- ---- an index has at most nine digits
 
+-- what was found is within the text
 abbrev pub Fits9 : List ℕ → Option (Kind × ℕ) → Type 0
 Fits9 text answer = MatchOption answer ⊤ (λ p. LooksFit p.0 (take p.1 text))
 
+-- digits behind a first one fit an index's look, up to nine of them
 digits_fit : (b : ℕ) (bs : List ℕ) → is_ascii_digit b ≡ true → LooksFit k.Index (take (suc (min (prefix_len is_ascii_digit bs) 8)) (b ∷ bs))
 digits_fit b bs digit =
     let n = min (prefix_len is_ascii_digit bs) 8 in
@@ -332,6 +339,7 @@ found_fit (b ∷ bs) = elim (either_way (is_ascii_alphabetic b)) [
   ]
 ]
 
+-- what was found fits the look of its kind
 pub fits_nine : (text : List ℕ) (kind : Kind) (n : ℕ) → found text ≡ Some (kind, n) → LooksFit kind (take n text)
 fits_nine text kind n e = subst (Fits9 text) e (found_fit text)
 
@@ -339,18 +347,22 @@ fits_nine text kind n e = subst (Fits9 text) e (found_fit text)
 pub stands_of : (text : List ℕ) (kind : Kind) (n : ℕ) → found text ≡ Some (kind, n) → Stands text n (kind_tok kind (take n text))
 stands_of text kind n e = subst (Holds text) e (scan_holds text)
 
+-- where nothing was found no token stands
 pub none_of : (text : List ℕ) → found text ≡ None → NoneStands text
 none_of text e = subst (Holds text) e (scan_holds text)
 
+-- behind what was found a text may be cut
 pub found_cut : (text : List ℕ) (kind : Kind) (n : ℕ) → IsUtf8 text → found text ≡ Some (kind, n) → IsCharBoundary text n
 found_cut text kind n utf8 e =
     let a = subst (IsAsciiCut text) e (found_ascii text) in
     let s = stands_of text kind n e in
     cut_after text n utf8 s.within (λ m h. let same : a.0 ≡ m = omega (arith, h, a.1) in subst (λ i. get_or text i 0 < 128) same a.2)
 
+-- behind blanks no more is left than there was
 pub skip_fits : (text : List ℕ) → length (skip text) ≤ length text
 skip_fits text = omega (arith, length-drop (prefix_len is_blank text) text)
 
+-- a text that has a length isn't empty
 pub not_empty : (text : List ℕ) → false ≡ (length text == 0) → text ≡ [] → ⊥
 not_empty [] f e = cc
 not_empty (b ∷ bs) f e = cc

@@ -24,6 +24,7 @@ module _ (P Q : ExprFault → Type 0) (to : (f : ExprFault) → P f → Q f) (ba
   none_as [] h = tt
   none_as (e ∷ es) h = ((λ q. h.0 (back e q)), none_as es h.1)
 
+  -- what is answered with one tree is answered with what follows of it
   pub answers_as : {A : Type 0} (T U : A → Type 0) → ((a : A) → T a → U a) → (r : Result A ExprFault) → Answers P T r → Answers Q U r
   answers_as T U tree (Ok a) h = (none_as fault_order h.0, tree a h.1)
   answers_as T U tree (Err fault.TooLong) h = first_as fault_order fault.TooLong h

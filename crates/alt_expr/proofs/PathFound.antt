@@ -62,11 +62,13 @@ part_sound names i x rest h = elim (either_way (sees_mark m.Dot i)) [
   ]
 ]
 
+-- steps that were read behind others
 pub record Steps (names : List Pair) (found : List PathPart) (i : List Tok) (xs : List PathPart) (rest : List Tok) : Type 0 where
   pub by : List StepPhrase
   pub tokens : i ≡ steps_toks by ++ rest
   pub stands : xs ≡ found ++ map (step_part names) by
 
+-- one step more was read
 parts_next : (names : List Pair) (n : ℕ) (found : List PathPart) (i : List Tok) (xs : List PathPart) (rest : List Tok) (x : Option PathPart) (now : List Tok) → Parted names i now x
     → ((found : List PathPart) (i : List Tok) (xs : List PathPart) (rest : List Tok) → parts_from names n found i ≡ Some (xs, rest) → Steps names found i xs rest)
     → r.parts_on (parts_from names n) found x now ≡ Some (xs, rest) → Steps names found i xs rest

@@ -57,18 +57,22 @@ module _ (g : Given) where
   pub one_tree : (d e : PathsPhrase) → paths_toks d ≡ paths_toks e → paths_tree g d ≡ paths_tree g e
   one_tree d e same = (some_pair _ _ (sym (whole_read d) ∙ ap (listed (r.path g.names)) same ∙ whole_read e)).0
 
+  -- one list of tokens has one tree
   pub unique : (d e : PathsPhrase) → projections.toks d ≡ projections.toks e → projections.tree g d ≡ projections.tree g e
   unfolding projections
   unique d e same = one_tree d e same
 
+-- paths repeat no clause
 pub never_repeats : (d : PathsPhrase) → projections.repeats d ≡ false
 unfolding projections
 never_repeats d = refl
 
+-- the language's test for overlaps is that of paths
 pub overlaps_is : (t : List (List PathPart)) → projections.overlaps t ≡ some_overlap t
 unfolding projections
 overlaps_is t = refl
 
+-- its test for crowded trees is whether a path is too long
 pub crowded_is : (t : List (List PathPart)) → projections.is_crowded t ≡ list_any is_long t
 unfolding projections
 crowded_is t = refl

@@ -73,9 +73,11 @@ mutual
   fields_themselves (field_then n t fs) =
       both (bytes_eq n n && same t t) _ (both (bytes_eq n n) _ ((bytes_decides n n).1 refl) (same_itself t)) (fields_themselves fs)
 
+-- the test decides whether two values are one
 pub same_decides : (s t : Tree) → Decides (same s t) (s ≡ t)
 same_decides s t = (is_one s t, λ e. ap (same s) (sym e) ∙ same_itself s)
 
+-- a test that holds exactly where another does is the other
 told : (b c : Bool) (P : Type 0) → Decides c P → (IsTrue b → P) → (P → IsTrue b) → b ≡ c
 told true true P d f g = refl
 told true false P d f g = sym (d.1 (f refl))

@@ -22,19 +22,24 @@ pub then_some : {A B : Type 0} (o : Outcome A) (f : A → Parser B) (q : B × Li
 then_some None f q h = absurd (cc)
 then_some (Some p) f q h = (p, refl, h)
 
+-- pairs that are equal as options are equal in both parts
 pub some_pair : {A B : Type 0} (p q : A × B) → Some p ≡ Some q → (p.0 ≡ q.0) × (p.1 ≡ q.1)
 some_pair p q h = let e : p ≡ q = ap (λ o. unwrap_or o p) h in (ap (λ x. x.0) e, ap (λ x. x.1) e)
 
+-- something isn't nothing
 pub none_some : {A : Type 0} (a : A) → None ≡ Some a → ⊥
 none_some a h = cc
 
+-- values that are equal as options are equal
 pub some_is : {A : Type 0} (a b : A) → Some a ≡ Some b → a ≡ b
 some_is a b h = cc
 
+-- a test holds or it doesn't
 pub either_way : (b : Bool) → (b ≡ true) ⊎ (b ≡ false)
 either_way true = inl refl
 either_way false = inr refl
 
+-- marks that are told to be the same are
 same_marks : (a b : Mark) → same_mark a b ≡ true → a ≡ b
 same_marks a b h = same_true marks.the_type (search rules) a b h
 
@@ -71,6 +76,7 @@ expected_key j i u rest h = elim (either_way (sees_key j i)) [
   | inr none ↦ let g = rw none at h in absurd (cc)
 ]
 
+-- of two that hold together each does
 and_true : (b c : Bool) → (b && c) ≡ true → (b ≡ true) × (c ≡ true)
 and_true true c h = (refl, h)
 and_true false c h = absurd (cc)

@@ -12,6 +12,7 @@ put_behind before o = and_then o (λ xs j. Some (before ++ xs, j))
 
 module _ (one : Parser Action) (n : ℕ) (before : List Action)
     (rest_behind : (found : List Action) (i : List Tok) → listed_from one n (before ++ found) i ≡ put_behind before (listed_from one n found i)) where
+  -- one action more, behind others, is behind those too
   next : (found : List Action) (o : Outcome Action)
       → and_then o (λ x. listed_from one n ((before ++ found) ++ x ∷ [])) ≡ put_behind before (and_then o (λ x. listed_from one n (found ++ x ∷ [])))
   next found None = refl
@@ -28,6 +29,7 @@ unfolding listed_from
 from_behind one zero before found i = refl
 from_behind one (suc n) before found i = turn one n before (λ f j. from_behind one n before f j) found (sees_mark m.Comma i) (after_mark m.Comma i)
 
+-- actions listed behind others are those listed alone, behind the others
 pub behind : (one : Parser Action) (found : List Action) (i : List Tok) → listed_behind one found i ≡ put_behind found (listed one i)
 unfolding listed_behind listed
 behind one found i = first one found (length i) (one i)

@@ -23,6 +23,7 @@ pub record Closed (rest : List Tok) : Type 0 where
   pub no_plus : sees_mark m.Plus rest ≡ false
   pub no_minus : sees_mark m.Minus rest ≡ false
 
+-- a comma may stand there
 closed_comma : (ts : List Tok) → Closed (mark m.Comma ∷ ts)
 unfolding sees_mark
 closed_comma ts = record { ends = ends_comma ts; no_plus = refl; no_minus = refl }
@@ -177,6 +178,7 @@ pub record Over (rest : List Tok) : Type 0 where
   pub closed : Closed rest
   pub no_comma : sees_mark m.Comma rest ≡ false
 
+-- the keyword of another one may
 over_key : (j : Keyword) (ts : List Tok) → Over (key j ∷ ts)
 unfolding sees_mark
 over_key j ts = record { closed = closed_key j ts; no_comma = refl }

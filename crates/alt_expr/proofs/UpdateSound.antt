@@ -316,6 +316,7 @@ pub record Updates (g : Given) (i : List Tok) (xs : List Action) (rest : List To
   pub stands : xs ≡ update_tree g by
   pub none : rest ≡ []
 
+-- an update that was read was derived
 pub update_sound : (g : Given) (i : List Tok) (xs : List Action) (rest : List Tok) → r.update g i ≡ Some (xs, rest) → Updates g i xs rest
 unfolding r.update
 update_sound g i xs rest h =

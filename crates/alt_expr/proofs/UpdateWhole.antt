@@ -40,10 +40,12 @@ pub repeats_by : (d : UpdatePhrase) (toks : List Tok) → toks ≡ updates.toks 
 unfolding updates
 repeats_by d toks is = ap (λ ts. list_any (is_twice ts) clause_keys) is ∙ repeats_is d
 
+-- the language's test for crowded trees is whether an action is too long
 pub crowded_is : (xs : List Action) → updates.is_crowded xs ≡ list_any is_long_action xs
 unfolding updates
 crowded_is xs = refl
 
+-- its test for overlaps is that of the actions' targets
 pub overlaps_is : (xs : List Action) → updates.overlaps xs ≡ targets_overlap xs
 unfolding updates
 overlaps_is xs = refl

@@ -26,6 +26,7 @@ pub unused_on : (given : List Pair) (used : List (List ℕ)) (i : ℕ)
     → has_unused (drop i given) used ≡ (option_map_or (stays used) (slice_get given i) false || has_unused (drop (i + 1) given) used)
 unused_on given used i = rw add-one (unused_step given used i)
 
+-- two that hold, hold together
 and_both : (a b : Bool) → a ≡ true → b ≡ true → (a && b) ≡ true
 and_both true b p q = q
 and_both false b p q = p

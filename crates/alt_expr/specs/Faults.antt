@@ -69,6 +69,7 @@ unfoldable pub NotesHashes : {A : Type 0} → List ℕ → Names → Names → R
 NotesHashes text old new (Ok a) = (toks : List Tok) × Lexes text toks true × (used_names new ≡ with_hashes toks (used_names old))
 NotesHashes text old new (Err f) = f ≢ fault.NoMemory → used_names new ≡ used_names old
 
+-- the same of the words for values
 unfoldable pub NotesColons : {A : Type 0} → List ℕ → Values → Values → Result A ExprFault → Type 0
 NotesColons text old new (Ok a) = (toks : List Tok) × Lexes text toks true × (used_values new ≡ with_colons toks (used_values old))
 NotesColons text old new (Err f) = f ≢ fault.NoMemory → used_values new ≡ used_values old

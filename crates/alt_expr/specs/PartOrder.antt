@@ -10,6 +10,7 @@ use Rattle.alt_expr.specs.PathOrder.{numbers_of, part_cmp}
 use Rattle.alt_expr.specs.declared.path.PathPart.{PathPart}
 use Rattle.alt_expr.specs.declared.path.PathPart.TheVariants.{Name, Index}
 
+-- what is told with what holds is told alone
 and_true : (b : Bool) → (b && true) ≡ b
 and_true true = refl
 and_true false = refl

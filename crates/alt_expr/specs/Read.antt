@@ -13,6 +13,7 @@ module _ {D A : Type 0} (L : Language D A) (g : Given) (toks : List Tok) where
   abbrev pub IsOf : Type 0
   IsOf = (d : D) × (toks ≡ L.toks d)
 
+  -- the tokens are those of a phrase, and this is its tree
   abbrev pub IsTree : A → Type 0
   IsTree a = (d : D) × (toks ≡ L.toks d) × (a ≡ L.tree g d)
 
@@ -32,5 +33,6 @@ module _ {D A : Type 0} (L : Language D A) (g : Given) (toks : List Tok) where
   TokensHave whole fault.Overlap = (whole ≡ true) × ((d : D) × (toks ≡ L.toks d) × (L.overlaps (L.tree g d) ≡ true))
   TokensHave whole fault.NoMemory = ⊥
 
+  -- the tokens so far may be cut off: a tree only where they are whole
   unfoldable pub ReadTokens : Bool → Result A ExprFault → Type 0
   ReadTokens whole result = Answers (TokensHave whole) (λ a. (whole ≡ true) × IsTree a) result

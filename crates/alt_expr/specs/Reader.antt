@@ -32,10 +32,12 @@ and_then None f = None
 and_then (Some p) f = f p.0 p.1
 
 infixl 10 ◌>>=◌
+-- a parser, and behind it the parser that its tree picks
 abbrev pub ◌>>=◌ : {A B : Type 0} → Parser A → (A → Parser B) → Parser B
 p >>= f = λ i. and_then (p i) f
 
 infixl 10 ◌>>◌
+-- a parser, and behind it another whatever the first one gave
 abbrev pub ◌>>◌ : {A B : Type 0} → Parser A → Parser B → Parser B
 p >> q = p >>= (λ _. q)
 
@@ -44,6 +46,7 @@ abbrev pub pure : {A : Type 0} → A → Parser A
 pure a = λ i. Some (a, i)
 
 infixr 11 ◌<$>◌
+-- a parser with its tree made into another
 abbrev pub ◌<$>◌ : {A B : Type 0} → (A → B) → Parser A → Parser B
 f <$> p = p >>= (λ x. pure (f x))
 

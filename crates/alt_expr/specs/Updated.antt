@@ -28,6 +28,7 @@ pub data Fault : Type 0 where
 
 -- what comes next, unless there was a fault
 infixl 10 ◌>>=◌
+-- what comes next, of a result that is Ok; a fault stays
 abbrev pub ◌>>=◌ : {A B : Type 0} → Result A Fault → (A → Result B Fault) → Result B Fault
 Ok a >>= next = next a
 Err f >>= next = Err f

@@ -89,7 +89,8 @@ map_whole item is deep = record {
 pub no_map : (bytes : List ℕ) → is_map bytes ≡ false → NoItem bytes 0 × NoneIs bytes
 no_map bytes other = (
   inl (other, refl),
-  λ item is e. absurd (let not_so : true ≡ false = sym (ap is_map e) ∙ other in let f : ⊥ = cc in f),
+  λ item is e. absurd
+      (let not_so : true ≡ false = sym (ap is_map e) ∙ other in let f : ⊥ = cc in f),
 )
 
 -- nor are those that are no value's, or of one that is too deep
@@ -111,7 +112,8 @@ bad_is {A} {B} (Err x) e b passed is = sym passed.1 ∙ (let same : x ≡ b = cc
 
 -- the moment that was read of a row, and the item of a column
 abbrev pub MomentRead : Columns → Option ℕ → Type 0
-MomentRead row o = IfSome o (λ n. n < 2 ^ 64) × (get row (codes "m") ≡ option_map (to_be_bytes w64) o)
+MomentRead row o = IfSome o (λ n. n < 2 ^ 64)
+    × (get row (codes "m") ≡ option_map (to_be_bytes w64) o)
 
 -- the item that was read of a column
 abbrev pub ItemRead : Columns → List ℕ → Option (List Pair) → Type 0
@@ -166,7 +168,8 @@ module _ (row : Columns) (c : Change) (is : row ≡ change_columns c) where
 
   -- it has a moment
   pub some_moment : MomentRead row None → ⊥
-  some_moment h = let not_so : None ≡ Some (to_be_bytes w64 c.moment) = sym h.1 ∙ shows.moment in cc not_so
+  some_moment h = let not_so : None ≡ Some (to_be_bytes w64 c.moment) = sym h.1
+      ∙ shows.moment in cc not_so
 
   -- and no other columns
   pub no_others : list_all (λ e. is_column e.0) (entries row) ≡ false → ⊥

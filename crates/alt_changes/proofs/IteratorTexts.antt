@@ -28,7 +28,8 @@ within_is largest digits all small =
 pub within_none : (largest : ℕ) (digits : List ℕ) → all_ascii_digits digits ≡ false
     → number_within largest digits ≡ None
 within_none largest digits other =
-    ap (λ b. cond (b && nat_le (digits_value 10 digits) largest) (Some (digits_value 10 digits)) None)
+    ap (λ b. cond (b && nat_le (digits_value 10 digits) largest)
+    (Some (digits_value 10 digits)) None)
     other
 
 -- digits that are above the largest number are none
@@ -161,7 +162,8 @@ module _ (text : List ℕ) where
 
     -- a bar is a character of its own
     pub iterator_uncut : (IsCharBoundary text at → ⊥) → iterator_of text ≡ None
-    iterator_uncut uncut = iterator_other (λ e. uncut (omega arith, λ within large. omega (arith, e, large)))
+    iterator_uncut uncut =
+        iterator_other (λ e. uncut (omega arith, λ within large. omega (arith, e, large)))
 
     -- where none stands at the front of what is left, it is none
     pub iterator_unbarred : (tail : List ℕ) → tail ≡ drop at text

@@ -69,7 +69,8 @@ has_version s l entries is reads ends = record {
 }
 
 -- damaged versions explain a store
-pub versions_explain : (s : DiskState) (l : GateLog) (entries : List (List ℕ)) (fault : RecoverFault)
+pub versions_explain : (s : DiskState) (l : GateLog) (entries : List (List ℕ))
+    (fault : RecoverFault)
     → file_of l ≡ versions_file → LogReads s l entries → ExplainsVersion entries fault
     → ExplainsStore s.file fault
 versions_explain s l entries (Damaged file at) is reads h = ⊎_elim

@@ -69,9 +69,11 @@ module _ {X : Type 0} (f : X → Option Columns) where
           ≡ option_and_then f (cond b (Some e.1) (find key_cmp q es))
       by rest None is false other = rest
       by rest None is true tied = none tied ∙ sym is
-      by rest (Some c) is false other = ap (λ b. cond b (Some c) (find key_cmp q (shown_of f es))) other
+      by rest (Some c) is false other =
+          ap (λ b. cond b (Some c) (find key_cmp q (shown_of f es))) other
           ∙ rest
-      by rest (Some c) is true tied = ap (λ b. cond b (Some c) (find key_cmp q (shown_of f es))) tied
+      by rest (Some c) is true tied =
+          ap (λ b. cond b (Some c) (find key_cmp q (shown_of f es))) tied
           ∙ sym is
 
   -- those in a range of keys
@@ -162,7 +164,8 @@ entries_shown l family es sorted same =
     ∙ sym (get-shown_rows l family q) ∙ get-entries (shown_rows l family) q)
 
 -- a range of such a tree
-pub range_shown : (l : Layout) (family : ℕ) (es : List (List ℕ × Columns)) (low high : Bound (List ℕ))
+pub range_shown : (l : Layout) (family : ℕ) (es : List (List ℕ × Columns))
+    (low high : Bound (List ℕ))
     (forward : Bool) → T (is_sorted key_cmp es)
     → ((key : List ℕ) → option_and_then as_shown (lookup (is_at (key_cmp key)) es)
     ≡ shown l family key)

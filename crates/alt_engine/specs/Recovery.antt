@@ -38,7 +38,8 @@ pub data IsBadAt (files : ℕ → Option (List ℕ)) (f at : ℕ) : Type 0 where
   -- an entry behind writes with rising numbers is no write with a later one
   no_write : f ≡ entries_file → (writes : List Write) (entry : List ℕ) (behind : List (List ℕ))
       → IsLog first_form (map write_bytes writes ++ entry ∷ behind) (files entries_file)
-      → AllHeld writes → AreRising 1 writes → IsNoWrite (with_writes no_rows writes).next_number entry
+      → AllHeld writes → AreRising 1 writes
+      → IsNoWrite (with_writes no_rows writes).next_number entry
       → at ≡ gate_place first_form (map write_bytes writes ++ entry ∷ behind) (length writes)
       → IsBadAt files f at
 

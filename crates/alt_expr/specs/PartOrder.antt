@@ -24,7 +24,8 @@ by_numbers (Index i) (Index j) = and_true (nat_eq i j)
 
 -- being one step is an equality
 pub parts_equiv : IsEquivalence same_step
-parts_equiv = subst IsEquivalence (λ i s t. by_numbers s t i) (on_equiv numbers_of nat_list_eq_equiv)
+parts_equiv =
+    subst IsEquivalence (λ i s t. by_numbers s t i) (on_equiv numbers_of nat_list_eq_equiv)
 
 -- the same, as `PartialEq` asks for it
 pub parts_per : IsPartialEquivalence same_step

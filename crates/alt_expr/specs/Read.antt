@@ -27,10 +27,14 @@ module _ {D A : Type 0} (L : Language D A) (g : Given) (toks : List Tok) where
   TokensHave whole fault.TooLong = ⊥
   TokensHave whole fault.TooDeep = TooDeep toks
   TokensHave whole fault.Syntax = (whole ≡ true) × IsOf → ⊥
-  TokensHave whole fault.Undefined = (whole ≡ true) × ((d : D) × (toks ≡ L.toks d) × (list_any (is_unknown g) (L.toks d) ≡ true))
-  TokensHave whole fault.TooMany = (whole ≡ true) × ((d : D) × (toks ≡ L.toks d) × (L.is_crowded (L.tree g d) ≡ true))
-  TokensHave whole fault.RepeatedClause = (whole ≡ true) × ((d : D) × (toks ≡ L.toks d) × (L.repeats d ≡ true))
-  TokensHave whole fault.Overlap = (whole ≡ true) × ((d : D) × (toks ≡ L.toks d) × (L.overlaps (L.tree g d) ≡ true))
+  TokensHave whole fault.Undefined = (whole ≡ true)
+      × ((d : D) × (toks ≡ L.toks d) × (list_any (is_unknown g) (L.toks d) ≡ true))
+  TokensHave whole fault.TooMany = (whole ≡ true)
+      × ((d : D) × (toks ≡ L.toks d) × (L.is_crowded (L.tree g d) ≡ true))
+  TokensHave whole fault.RepeatedClause = (whole ≡ true)
+      × ((d : D) × (toks ≡ L.toks d) × (L.repeats d ≡ true))
+  TokensHave whole fault.Overlap = (whole ≡ true)
+      × ((d : D) × (toks ≡ L.toks d) × (L.overlaps (L.tree g d) ≡ true))
   TokensHave whole fault.NoMemory = ⊥
 
   -- the tokens so far may be cut off: a tree only where they are whole

@@ -156,7 +156,8 @@ part names = do
         pure (Some x)) else pure None)
 
 -- further parts behind one that was read, or the parts found
-abbrev pub parts_on : (List PathPart → Parser (List PathPart)) → List PathPart → Option PathPart → Parser (List PathPart)
+abbrev pub parts_on : (List PathPart → Parser (List PathPart)) → List PathPart → Option PathPart
+    → Parser (List PathPart)
 parts_on more found (Some x) = more (found ++ x ∷ [])
 parts_on more found None = pure found
 

@@ -63,7 +63,8 @@ keys_of_kinds item fields hash range kv e =
     beside None h k f = subst (λ (v : KeyValues). IsKeyFor hash.kind None v.hash v.range)
         (some _ kv f) k
     beside (Some r) h k f =
-        let v = mapped (λ (t : Tree). record { hash = h; range = Some t }) (key_value item r) kv f in
+        let v = mapped (λ (t : Tree). record { hash = h; range = Some t })
+        (key_value item r) kv f in
         subst (λ (v : KeyValues). IsKeyFor hash.kind (Some r.kind) v.hash v.range) v.2
         (k, part_kind item r v.0 fields v.1)
 
@@ -146,7 +147,8 @@ one_place d i x y p q hx hy ex ey same =
     place-of_values d x
     ∙ ap (option_map (λ (kv : KeyValues). place_bytes (place_in_table kv.hash kv.range))) a.keys
     ∙ (λ j. Some (place_bytes (place_in_table (told.2 j) (told.3 j))))
-    ∙ ap (option_map (λ (kv : KeyValues). place_bytes (place_in_table kv.hash kv.range))) (sym b.keys)
+    ∙ ap (option_map (λ (kv : KeyValues). place_bytes (place_in_table kv.hash kv.range)))
+    (sym b.keys)
     ∙ sym (place-of_values d y)
 
 -- what an entry is made of
@@ -183,7 +185,8 @@ index_apart d i items stored p q x y key v w at_p at_q is_x is_y =
     let b = stored q y at_q in
     let e = is_entry d i x key v is_x in
     let f = is_entry d i y key w is_y in
-    some p q (sym a.0.stands ∙ one_place d i x y e.place f.place a.1 b.1 e.at f.at (e.bytes ∙ sym f.bytes)
+    some p q (sym a.0.stands ∙ one_place d i x y e.place f.place a.1 b.1 e.at f.at
+    (e.bytes ∙ sym f.bytes)
     ∙ b.0.stands)
 
 -- ---- the items that are in an index
@@ -260,7 +263,8 @@ is_inside : (d : TableSchema) (i : IndexSchema) (item row : List Pair)
     → index_row d item i ≡ Some row → is_in_index i item ≡ true
 is_inside d i item row e = by_test (is_in_index i item) refl e
   where
-    by_test : (b : Bool) → is_in_index i item ≡ b → (if b then Some (cut d i item) else None) ≡ Some row
+    by_test : (b : Bool) → is_in_index i item ≡ b
+        → (if b then Some (cut d i item) else None) ≡ Some row
         → is_in_index i item ≡ true
     by_test true inside e = inside
     by_test false inside e = absurd (none row e)

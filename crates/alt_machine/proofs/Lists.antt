@@ -112,5 +112,6 @@ steps-on_list s tests texts ms go h =
     steps-found s (table_at s ms) (in_table tests texts s ms go g start) (λ t there.
     steps-found s (index_asked t.description ms) (of_index tests texts s ms go g start t)
     (λ index asks.
-    steps-found s (expressions texts t.description ms g) (expressed tests texts s ms go start t index)
+    steps-found s (expressions texts t.description ms g)
+    (expressed tests texts s ms go start t index)
     (λ said says_so. h said start t index))))))

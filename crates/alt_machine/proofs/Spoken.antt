@@ -31,7 +31,8 @@ use Rattle.alt_shape.specs.Refusals.{Answer, refused, key_update, unused_name}
 -- ---- one text
 
 -- what a parser of a grammar answers of a text is what the text states
-pub stated_is : {D A : Type 0} (L : Language D A) (told : (g : Given) (text : List ℕ) → Told L g text)
+pub stated_is : {D A : Type 0} (L : Language D A)
+    (told : (g : Given) (text : List ℕ) → Told L g text)
     (g : Given) → ((d e : D) → L.toks d ≡ L.toks e → L.tree g d ≡ L.tree g e) → (text : List ℕ)
     (r : Result A ExprFault) → Parsed L g text r → IsTold r
     → stated told g (Some text) ≡ read_or_refused r

@@ -86,11 +86,14 @@ module _ (tests : List (Option Answer)) (sought : Sought) (texts : Texts) (s : S
 
           pub item-unsaid : (a : Answer) → expressions texts t.description ms g ≡ Err a
               → on_item tests sought texts s ms go ≡ says a
-          item-unsaid a e = at_table ∙ missed (expressions texts t.description ms g) (expressed item t) a e
+          item-unsaid a e =
+              at_table ∙ missed (expressions texts t.description ms g) (expressed item t) a e
 
-          module _ (said : Expressions) (says_so : expressions texts t.description ms g ≡ Ok said) where
+          module _ (said : Expressions)
+              (says_so : expressions texts t.description ms g ≡ Ok said) where
             pub item-said : on_item tests sought texts s ms go ≡ expressed item t said
-            item-said = at_table ∙ found (expressions texts t.description ms g) (expressed item t) said says_so
+            item-said = at_table ∙ found (expressions texts t.description ms g)
+                (expressed item t) said says_so
 
             pub item-no_place : (a : Answer)
                 → or_refused bad_key (place_in sought t.description item) ≡ Err a
@@ -146,7 +149,8 @@ steps-on_item s tests sought texts ms go h =
     (λ item read.
     steps-found s (given_at texts ms) (of_words tests sought texts s ms go item) (λ g words.
     steps-found s (table_at s ms) (in_table tests sought texts s ms go item g) (λ t there.
-    steps-found s (expressions texts t.description ms g) (expressed tests sought texts s ms go item t)
+    steps-found s (expressions texts t.description ms g)
+    (expressed tests sought texts s ms go item t)
     (λ said says_so.
     steps-found s (or_refused bad_key (place_in sought t.description item))
     (placed tests sought texts s ms go item t said) (λ at stands.

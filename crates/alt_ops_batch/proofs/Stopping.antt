@@ -29,7 +29,8 @@ module _ {A X : Type 0} (disk : DiskState) (tables : Tables) (of : X → A)
     (go : State → A → Outcome)
     (is : (s : State) → outcome s ≡ with_found (asked (descriptions s.tables)) (go s)) where
   -- a batch whose members the tables refuse changes nothing, and is answered by that refusal
-  asked_stopped : (now : State → Type 0) (stop : Stop) → Comes of (asked (catalog_of tables)) (Err stop)
+  asked_stopped : (now : State → Type 0) (stop : Stop)
+      → Comes of (asked (catalog_of tables)) (Err stop)
       → ((s : State) → Stands disk tables s → now s)
       → Carries outcome (Stands disk tables) now (Err stop)
   asked_stopped now (Refused r) h stays = refused_so outcome (Stands disk tables) now r h.1

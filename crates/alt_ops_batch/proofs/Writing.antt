@@ -79,7 +79,8 @@ stay_found s moment w (c ∷ cs) apart found = (
 -- ---- what is made so far
 
 -- Of the writes of a state `done` are made, and those of the changes that are left come behind them.
-pub record AreDone (before : DiskState) (old : Tables) (after : DiskState) (now : Tables) (s : State)
+pub record AreDone (before : DiskState) (old : Tables) (after : DiskState)
+    (now : Tables) (s : State)
     (moment : ℕ) (all rest : List Change) : Type 0 where
   pub done : List State
   pub stands : Stands after now (last_state s done)

@@ -126,7 +126,8 @@ same_Ok x y e = cc
 -- an action changes its target
 edit-target : (view : View) (a : Action) (e : Edit) → edit view a ≡ Ok e → e.0 ≡ target a
 edit-target view (Set path sum) e h =
-    let one = found_first (sum_of view sum) (λ t. parent view path >>= (λ _. Ok (path, Some t))) e h in
+    let one = found_first (sum_of view sum) (λ t. parent view path
+    >>= (λ _. Ok (path, Some t))) e h in
     let two = found_first (parent view path) (λ _. Ok (path, Some one.0)) e one.2 in
     ap (λ (x : Edit). x.0) (sym (same_Ok (path, Some one.0) e two.2))
 edit-target view (Remove path) e h =
@@ -219,7 +220,8 @@ no_empty ps item = by (at_name [] ps) refl
     by : (o : Option Tree) → at_name [] ps ≡ o → at_name [] ps ≡ None
     by None e = e
     by (Some t) e =
-        let some : 0 < length {A = ℕ} [] = at_name-has_bytes [] t ps item e in absurd (omega (arith, some))
+        let some : 0 < length {A = ℕ} [] = at_name-has_bytes [] t ps item e in
+        absurd (omega (arith, some))
 
 module _ (old : Option (List Pair)) (update : List Action) (cs : List AttrChange)
     (item : IsItem (unwrap_or old []))

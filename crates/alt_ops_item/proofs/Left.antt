@@ -47,7 +47,8 @@ with_key-take : (key item : List Pair) (i : ℕ) (p : Pair) → slice_get key i 
 with_key-take [] item i p e = absurd (let f : ⊥ = cc in f)
 with_key-take ((name, t) ∷ key) item zero p e =
     ap (λ (q : Pair). with_pair q.0 q.1 item) (same_pair (name, t) p e)
-with_key-take ((name, t) ∷ key) item (suc i) p e = ap (with_pair name t) (with_key-take key item i p e)
+with_key-take ((name, t) ∷ key) item (suc i) p e =
+    ap (with_pair name t) (with_key-take key item i p e)
 
 -- one of them was put
 pub part_put : (key item new : List Pair) (i : ℕ) → WithPart (slice_get key i) item new

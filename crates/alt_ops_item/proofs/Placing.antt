@@ -78,7 +78,8 @@ module _ (condition : Option Cond) (s : State) (moment : ℕ) (ms : Members) (t 
 
       pub made : (reply : Reply)
           → answer_of reply ≡ item_answer (codes "Attributes") (asked (codes "ReturnValues") ms old)
-          → AreMade now a_number s (item_writes s moment name t at new) → Does now s whole (Ok reply)
+          → AreMade now a_number s (item_writes s moment name t at new)
+          → Does now s whole (Ok reply)
       made reply told are_made =
           let so : AreMade now a_number s (item_writes s moment (table_name ms) t place new) =
           subst (λ atoms. AreMade now a_number s atoms) atoms_so are_made in

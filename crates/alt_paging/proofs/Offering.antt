@@ -87,11 +87,13 @@ module _ (ask : PageAsk) (old new : Pager) (items : List (List Pair)) (item : Li
 
   kept_so : new.kept ≡ unless_counts ask.count_only
       (map (parts ask.paths) (passed (asked_of ask) (items ++ item ∷ [])))
-  kept_so = grows.kept ∙ (λ i. was.kept i ++ shown_of (was.for i) item) ∙ sym (kept_push ask items item)
+  kept_so = grows.kept ∙ (λ i. was.kept i ++ shown_of (was.for i) item)
+      ∙ sym (kept_push ask items item)
 
   count_so : new.count ≡ length (passed (asked_of ask) (items ++ item ∷ []))
   count_so = grows.count
-      ∙ (λ i. was.count i + (if passes (ap (λ (a : PageAsk). a.filter) was.for i) item then 1 else 0))
+      ∙ (λ i. was.count i + (if passes (ap (λ (a : PageAsk). a.filter) was.for i) item
+      then 1 else 0))
       ∙ sym (count_push ask items item)
 
   -- with one item more, what was offered is offered

@@ -155,6 +155,7 @@ module _ (disk : DiskState) (tables : Tables) (tests : List (Option Answer)) (ms
         found.2,
         is s ∙ list-target tests texts s ms (go s) target.said target.start found.0 target.index
             found.1
-            (subst (λ (d : TableSchema). IsListed tests texts ms d target.said target.start target.index)
+            (subst (λ (d : TableSchema). IsListed tests texts ms d target.said
+            target.start target.index)
             (sym found.2) h.listed),
       )

@@ -140,7 +140,8 @@ module _ (tests : List (Option Answer)) (sought : Sought) (texts : machine.Texts
       unsaid (Fault f) h = h
 
       module _ (said : Expressions) (says_so : machine.expressions texts d ms g ≡ Ok said) where
-        pub unplaced : (e : Stop) → Comes {X = List ℕ} (λ b. b) (place_that_fits sought d item) (Err e)
+        pub unplaced : (e : Stop)
+            → Comes {X = List ℕ} (λ b. b) (place_that_fits sought d item) (Err e)
             → OnItem tests sought texts catalog ms (Err e)
         unplaced (Refused q) h = (
           h.1,

@@ -226,7 +226,8 @@ step_none (indexed n) used = refl
 -- nor have several steps
 steps_none : (ss : List StepPhrase) → NoColons (steps_toks ss)
 steps_none [] used = refl
-steps_none (s ∷ ss) used = none_append (step_toks s) (steps_toks ss) (step_none s) (steps_none ss) used
+steps_none (s ∷ ss) used =
+    none_append (step_toks s) (steps_toks ss) (step_none s) (steps_none ss) used
 
 -- nor has a path
 path_none : (p : PathPhrase) → NoColons (path_toks p)

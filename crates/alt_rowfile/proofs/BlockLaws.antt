@@ -102,7 +102,8 @@ pub block_read : (rows : List Entry) (bytes : List ℕ) (before : ℕ) (f l : En
     → Some f ≡ slice_get rows 0 → Some l ≡ slice_get rows (length rows - 1) → IsAbove after f.0
     → one ≡ f.0 → two ≡ l.0 → count ≡ length rows → (b : List Entry)
     × IsNextBlock after is_last bytes b × IsReadBlock one two count b
-block_read [] bytes before f l after is_last one two count are is place short full small fst lst above p q n = absurd (let g : ⊥ = cc in g)
+block_read [] bytes before f l after is_last one two count are is place short full small fst lst
+    above p q n = absurd (let g : ⊥ = cc in g)
 block_read (x ∷ rows)
     bytes before f l after is_last one two count are is place short full small fst lst above p q n =
     let s = split_last x rows in
@@ -281,7 +282,8 @@ pub one_block_more : (bytes rest behind : List ℕ) (at next : ℕ) (after : Opt
     → 0 < length rest → IsNext after rest behind b → IsReadBlock first last count b
     → next ≡ at + (length rest - length behind) → new ≡ marks ++ (at, first) ∷ []
     → BlocksSoFar bytes behind next (Some last) new (rows + count)
-one_block_more bytes rest behind at next after marks new rows count first last b so_far some n r place added =
+one_block_more bytes rest behind at next after marks new rows count first last b so_far some n
+    r place added =
     let key = block_key b n.block in
     let joined : rows_of (so_far.blocks ++ b ∷ []) ≡ rows_of so_far.blocks ++ b =
     rows_of-push so_far.blocks b in
@@ -344,7 +346,8 @@ pub no_more_blocks : (bytes rest : List ℕ) (at : ℕ) (after : Option (List �
     → ((b : List Entry) (behind : List ℕ) → IsNext after rest behind b → ⊥)
     → (blocks : List (List Entry)) → AreBlocksOf blocks bytes → ⊥
 no_more_blocks bytes rest at after marks rows so_far some none blocks are =
-    let r = rest_of block_bytes IsHeldBlock block-apart block_some so_far.blocks blocks rest so_far.held are.held (sym so_far.is ∙ are.is) in
+    let r = rest_of block_bytes IsHeldBlock block-apart block_some so_far.blocks blocks rest
+    so_far.held are.held (sym so_far.is ∙ are.is) in
     refute r.0 r.2 (subst AreBlocks r.1 are.cut)
     (subst (λ (l : List (List Entry)). T (is_sorted key_cmp (rows_of l))) r.1 are.rising)
     (subst (AllByRecursion IsHeldBlock) r.1 are.held)

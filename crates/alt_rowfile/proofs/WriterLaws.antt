@@ -119,24 +119,27 @@ pub row_more : (s : DiskState) (sink : Sink) (block new_block : List ℕ)
     → (length block ≡ 0 → new_marks ≡ marks ++ (sink.at, e.0) ∷ [])
     → (0 < length block → new_marks ≡ marks) → new_count ≡ count + 1
     → WritesAs s sink new_block new_marks new_count closed (waiting ++ e ∷ [])
-row_more s sink block new_block marks new_marks count new_count closed waiting e w short rising held bytes set kept counted = record {
-  put = w.put;
-  blocks = w.blocks;
-  held = w.held;
-  opens = open_push waiting e short;
-  open_held = all_append IsHeldEntry waiting (e ∷ []) w.open_held (held, tt);
-  rising = rising;
-  bytes = bytes ∙ ap (λ (l : List ℕ). l ++ entry_bytes e) w.bytes ∙ sym (rows_bytes-push waiting e);
-  marks_are = marks_more closed waiting e sink.at block marks new_marks w.put.at w.bytes w.marks_are set kept;
-  count_is = omega (
-    arith,
-    counted,
-    w.count_is,
-    length-append (rows_of closed) (waiting ++ e ∷ []),
-    length-append waiting (e ∷ []),
-    length-append (rows_of closed) waiting,
-  );
-}
+row_more s sink block new_block marks new_marks count new_count closed waiting e w short rising held
+    bytes set kept counted = record {
+      put = w.put;
+      blocks = w.blocks;
+      held = w.held;
+      opens = open_push waiting e short;
+      open_held = all_append IsHeldEntry waiting (e ∷ []) w.open_held (held, tt);
+      rising = rising;
+      bytes = bytes ∙ ap (λ (l : List ℕ). l ++ entry_bytes e) w.bytes
+          ∙ sym (rows_bytes-push waiting e);
+      marks_are = marks_more closed waiting e sink.at block marks new_marks w.put.at w.bytes
+          w.marks_are set kept;
+      count_is = omega (
+        arith,
+        counted,
+        w.count_is,
+        length-append (rows_of closed) (waiting ++ e ∷ []),
+        length-append waiting (e ∷ []),
+        length-append (rows_of closed) waiting,
+      );
+    }
 
 -- a block that has a row is a piece
 piece_some : (waiting : List Entry) → IsBlock waiting → piece waiting ≡ waiting ∷ []
@@ -151,7 +154,8 @@ pub block_more : (s t : DiskState) (sink new_sink : Sink) (block written cleared
     → ((done : List ℕ) → IsPut s sink done → IsPut t new_sink (done ++ written)) → cleared ≡ []
     → WritesAs t new_sink cleared marks count (closed ++ waiting ∷ []) []
 unfolding block_bytes
-block_more s t sink new_sink block written cleared marks count closed waiting w is small bytes puts none =
+block_more s t sink new_sink block written cleared marks count closed waiting w is small
+    bytes puts none =
     let here : written ≡ block_bytes waiting = bytes ∙ ap field w.bytes in
     let rows : rows_of (closed ++ waiting ∷ []) ++ [] ≡ rows_of closed ++ waiting =
     append-nil (rows_of (closed ++ waiting ∷ [])) ∙ rows_of-push closed waiting in

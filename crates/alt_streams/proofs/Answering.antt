@@ -80,19 +80,23 @@ module _ (s : State) (valid : IsValid s) (catalog : Texts TableSchema)
       → listed s ms ≡ streams_after (start_name start) (name_given ms) catalog
   listed-streams ms start is = ap (filter (chosen ms)) all_known
       ∙ chosen_alike (chosen ms) (is_listed (start_name start) (name_given ms)) (entries catalog)
-      (entries_sorted catalog) (λ j d at. ap (λ b. is_some d.view && (b && is_named (name_given ms) d))
+      (entries_sorted catalog)
+      (λ j d at. ap (λ b. is_some d.view && (b && is_named (name_given ms) d))
       (by d (has_name j d (get-entries catalog j ∙ at))
       (option_and_then (table_of_stream s) (start_of ms)) start is))
     where
-      by : (d : TableSchema) → is_name d.name ≡ true → (o : Option Table) (start : Option TableSchema)
+      by : (d : TableSchema) → is_name d.name ≡ true
+          → (o : Option Table) (start : Option TableSchema)
           → option_map (λ (t : Table). t.description) o ≡ start
           → option_map_or (λ (t : Table). is_lt (text_order t.description.name d.name)) o true
           ≡ is_lt (text_order (option_map_or (λ (x : TableSchema). x.name) start []) d.name)
       by d spelled None start e = sym (before_name d.name spelled)
-          ∙ ap (λ (p : Option TableSchema). is_lt (text_order (option_map_or (λ (x : TableSchema). x.name) p [])
+          ∙ ap (λ (p : Option TableSchema). is_lt
+          (text_order (option_map_or (λ (x : TableSchema). x.name) p [])
           d.name)) e
       by d spelled (Some t) start e =
-          ap (λ (p : Option TableSchema). is_lt (text_order (option_map_or (λ (x : TableSchema). x.name) p [])
+          ap (λ (p : Option TableSchema). is_lt
+          (text_order (option_map_or (λ (x : TableSchema). x.name) p [])
           d.name)) e
 
   -- where nothing refuses it, it answers the page of those

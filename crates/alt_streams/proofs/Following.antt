@@ -34,7 +34,8 @@ names_less last k m h =
     (sorted-each (λ e. e.0) (entries m) (entries_sorted m)) in
     let next : names_after last m ≡ k ∷ names_after k m =
     chosen_next (λ (k : List ℕ). k) (λ b k. b) (λ k. refl) last k (map (λ e. e.0) (entries m)) rises
-    (find-filter (λ (n : List ℕ). is_lt (text_order last n)) (map (λ e. e.0) (entries m)) ∙ sym h) in
+    (find-filter (λ (n : List ℕ). is_lt (text_order last n)) (map (λ e. e.0) (entries m))
+    ∙ sym h) in
     omega (arith, ap length next)
 
 -- ---- the streams
@@ -117,13 +118,15 @@ module _ (catalog : Texts TableSchema) (named : AreNamed catalog) where
   -- a table behind the name that has a stream is the one that is found
   pub walk_here : (last : List ℕ) (d : TableSchema) → Some d ≡ first_after last catalog
       → is_some d.view ≡ true → Some d ≡ find (is_listed last None) ds
-  walk_here last d e is = sym (walk_found (λ (d : TableSchema). d.name) (test None) (off None) last d ds
+  walk_here last d e is =
+      sym (walk_found (λ (d : TableSchema). d.name) (test None) (off None) last d ds
       (sym (first-behind last) ∙ sym e) (always (is_some d.view) ∙ is))
 
   -- one that has none is passed over
   pub walk_next : (last : List ℕ) (d : TableSchema) → Some d ≡ first_after last catalog
       → is_some d.view ≡ false → find (is_listed last None) ds ≡ find (is_listed d.name None) ds
-  walk_next last d e is = walk_on (λ (d : TableSchema). d.name) (test None) (off None) last d ds rises
+  walk_next last d e is =
+      walk_on (λ (d : TableSchema). d.name) (test None) (off None) last d ds rises
       (sym (first-behind last) ∙ sym e) (always (is_some d.view) ∙ is)
 
   -- behind the last table none is found
@@ -161,7 +164,8 @@ module _ (catalog : Texts TableSchema) (named : AreNamed catalog) where
         let passes : is_listed last (Some name) d ≡ true =
         (λ i. shown i && (is_lt (text_order last (own i)) && bytes_eq (own i) name))
         ∙ (λ i. less i && (bytes_eq-Decides name name).1 refl i) in
-        sym (found_only (is_listed last (Some name)) name d (entries catalog) (entries_sorted catalog)
+        sym (found_only (is_listed last (Some name)) name d (entries catalog)
+        (entries_sorted catalog)
         (sym (get-entries catalog name) ∙ sym there) passes
         (λ j e at f. sym (named j e (get-entries catalog j ∙ at)) ∙ (parts e f).2))
 
@@ -176,4 +180,5 @@ module _ (catalog : Texts TableSchema) (named : AreNamed catalog) where
         by true e = named_one d there e less
         by false e = named_none (λ x at shown behind_so.
             let one : d ≡ x = some d x (there ∙ at) in
-            let no : false ≡ true = sym e ∙ ap (λ (y : TableSchema). is_some y.view) one ∙ shown in cc no)
+            let no : false ≡ true = sym e ∙ ap (λ (y : TableSchema). is_some y.view) one
+            ∙ shown in cc no)

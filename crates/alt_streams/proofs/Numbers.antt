@@ -41,7 +41,8 @@ module _ {A : Type 0} (number : A → ℕ) where
   all_from n m [] h small = refl
   all_from n m (x ∷ xs) h small =
       let above = All-head (λ y. n < number y) x xs h in
-      ap (λ b. cond b (x ∷ those_from m xs) (those_from m xs)) (is_le m (number x) (omega (arith, above, small)))
+      ap (λ b. cond b (x ∷ those_from m xs) (those_from m xs))
+      (is_le m (number x) (omega (arith, above, small)))
       ∙ ap (λ l. x ∷ l) (all_from n m xs (All-tail (λ y. n < number y) x xs h) small)
 
   same_head : (x y : A) (xs ys : List A) → x ∷ xs ≡ y ∷ ys → x ≡ y
@@ -74,7 +75,8 @@ module _ {A : Type 0} (number : A → ℕ) where
       (behind_first n xs y rest (rise_tail x xs rise))
     where
       skipped : (m : ℕ) → number x < m → those_from m (x ∷ xs) ≡ those_from m xs
-      skipped m less = ap (λ b. cond b (x ∷ those_from m xs) (those_from m xs)) (not_le m (number x) less)
+      skipped m less =
+          ap (λ b. cond b (x ∷ those_from m xs) (those_from m xs)) (not_le m (number x) less)
 
       by : (b : Bool) → nat_le n (number x) ≡ b
           → (those_from n xs ≡ y ∷ rest → those_from (number y + 1) xs ≡ rest)
@@ -96,7 +98,8 @@ module _ {A : Type 0} (number : A → ℕ) where
           ∙ more is
 
   -- the last number, step by step
-  past_some : (n k : ℕ) (ks : List ℕ) → unwrap_or (last_or (Some k) ks) n ≡ unwrap_or (last_or None ks) k
+  past_some : (n k : ℕ) (ks : List ℕ) → unwrap_or (last_or (Some k) ks) n
+      ≡ unwrap_or (last_or None ks) k
   past_some n k [] = refl
   past_some n k (j ∷ ks) = past_some n j ks ∙ sym (past_some k j ks)
 

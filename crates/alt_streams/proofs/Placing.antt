@@ -56,7 +56,8 @@ module _ (catalog : Texts TableSchema) (ms : Members) where
         → OnPlace catalog ms (Err (Refused bad_stream_argument))
     place_unread e = (known_argument, λ s valid same. records_unread ms free s e)
 
-    module _ (i : Iterator) (reads : iterator_of (text_of (codes "ShardIterator") ms) ≡ Some i) where
+    module _ (i : Iterator)
+        (reads : iterator_of (text_of (codes "ShardIterator") ms) ≡ Some i) where
       -- its stream isn't there
       pub place_missed : (stop : Stop) → OnStreaming catalog i.arn (Err stop)
           → OnPlace catalog ms (Err stop)
@@ -85,7 +86,8 @@ module _ (disk : DiskState) (tables : Tables) (ms : Members) where
   place_stops : (stop : Stop) → OnPlace (catalog_of tables) ms (Err stop)
       → Carries (λ s. get_records s ms) (Stands disk tables) (Stands disk tables) (Err stop)
   place_stops (Refused r) h = refused_so (λ s. get_records s ms) (Stands disk tables)
-      (Stands disk tables) r h.0 (λ s stands. h.1 s stands.valid (sym stands.catalog)) (λ s stands. stands)
+      (Stands disk tables) r h.0 (λ s stands. h.1 s stands.valid (sym stands.catalog))
+      (λ s stands. stands)
   place_stops (Fault f) h = faulted (λ s. get_records s ms) (Stands disk tables)
       (Stands disk tables) f h (λ s stands. stands)
 

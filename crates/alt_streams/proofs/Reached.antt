@@ -177,7 +177,8 @@ module _ (s : State) (valid : IsValid s) (catalog : Texts TableSchema)
 
   by_name : (o : Option Table) → finite.get s.tables name ≡ o → Reached
   by_name None at = absurd (let no : false ≡ true =
-      sym (ap has_stream (described ∙ ap (option_map (λ (u : Table). u.description)) at)) ∙ stream in
+      sym (ap has_stream (described ∙ ap (option_map (λ (u : Table). u.description)) at))
+      ∙ stream in
       cc no)
   by_name (Some u) at = by_stream u at (table_of_stream s arn) refl
       (named s valid same ∙ described ∙ ap (option_map (λ (t : Table). t.description)) at)
@@ -211,7 +212,8 @@ module _ (ms : Members) where
       pub records_at : (s : State) → get_records s ms
           ≡ with_found (stream_at s i.arn) (λ t. says (pages t ms i))
       unfolding get_records
-      records_at s = passed tests _ free ∙ found_some bad_stream_argument (iterator_of text) _ i reads
+      records_at s =
+          passed tests _ free ∙ found_some bad_stream_argument (iterator_of text) _ i reads
 
       pub records_missed : (catalog : Texts TableSchema) → IsStreamOf catalog i.arn None
           → (s : State) → IsValid s → descriptions s.tables ≡ catalog
@@ -231,10 +233,12 @@ module _ (ms : Members) where
 -- the page of a table whose stream shows so much
 pub pages_so : (t : Table) (ms : Members) (i : Iterator) (shows : View)
     → t.description.view ≡ Some shows → pages t ms i ≡ records_answer t.description i
-    (page_of (page_length ms) (record_size t.description shows) (changes_from i.from t.changes)) shows
+    (page_of (page_length ms) (record_size t.description shows) (changes_from i.from t.changes))
+    shows
 pages_so t ms i shows e = ap (λ (o : Option View). option_map_or
     (λ view. records_answer t.description i
-    (page_of (page_length ms) (record_size t.description view) (changes_from i.from t.changes)) view)
+    (page_of (page_length ms) (record_size t.description view) (changes_from i.from t.changes))
+    view)
     o (answered no_members)) e
 
 module _ (disk : DiskState) (tables : Tables) (ms : Members) (place : Place)
@@ -258,7 +262,8 @@ module _ (disk : DiskState) (tables : Tables) (ms : Members) (place : Place)
       ∙ ap says (pages_so t ms is.iterator shows view
       ∙ sym (told s t shows stands at view
       ∙ (λ j. records_answer t.description (record { arn = named j; from = is.from j })
-      (page_of (m j) (record_size t.description shows) (changes_from (is.from j) t.changes)) shows)))
+      (page_of (m j) (record_size t.description shows) (changes_from (is.from j) t.changes))
+      shows)))
 
   -- what is told of the place is what a GetRecords answers
   pub records_told : (answer : Answer) → Told answer → (s : State) → Stands disk tables s

@@ -1,4 +1,5 @@
--- Where every row of the catalog and of the tables can be read, there is a state whose rows they are, with whatever changes its tables may have.
+-- Where every row of the catalog and of the tables can be read, there is a state whose rows they are, with whatever changes its
+-- tables may have.
 use Rattle.std.proofs.Common.{◌≡◌, ◌≤◌, ℕ, Bool, true, false, cond, List, [], ◌∷◌, Option, Some, None, All, refl, sym, ap, subst, ◌∙◌, arith}
 use Rattle.std.proofs.lemmas.Bool.{false≢true}
 use Rattle.std.proofs.lemmas.List.Elements.{All-nil}

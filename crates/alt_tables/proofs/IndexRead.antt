@@ -33,7 +33,8 @@ pub row_of : (d : TableSchema) (i : IndexSchema) (item : List Pair) (key : List 
 row_of d i item key columns has = by (index_entry d i item) refl has
   where
     by : (o : Option (List ℕ × List Pair)) → index_entry d i item ≡ o
-        → option_map {U = List ℕ × Columns} (λ e. (e.0, index_columns d i e.1)) o ≡ Some (key, columns)
+        → option_map {U = List ℕ × Columns} (λ e. (e.0, index_columns d i e.1)) o
+        ≡ Some (key, columns)
         → IsRowOf d i item key columns
     by None is has = absurd (let no : None ≡ Some (key, columns) = has in cc no)
     by (Some e) is has =
@@ -67,7 +68,8 @@ module _ (l : Layout) (s : State) (agrees : AgreesWhole l s) (name : List ℕ) (
     where
       by : (o : Option (List Pair)) → map.get t.items place ≡ o → o ≡ Some item
       by None e = absurd (let no : None ≡ Some (item_columns item) =
-          sym (agrees.rows.items name t at place tt ∙ ap (option_map item_columns) e) ∙ there.shows in
+          sym (agrees.rows.items name t at place tt ∙ ap (option_map item_columns) e)
+          ∙ there.shows in
           cc no)
       by (Some x) e = ap (λ y. Some y) (item_columns-one x item (item_there place x e).read.whole
           there.read.whole
@@ -108,7 +110,8 @@ module _ (l : Layout) (s : State) (agrees : AgreesWhole l s) (name : List ℕ) (
               place = g.0;
               item = g.1.0;
               there = item_there g.0 g.1.0 g.1.1.0;
-              row = ap (option_map {U = List ℕ × Columns} (λ e. (e.0, index_columns t.description i e.1))) g.1.1.1
+              row = ap (option_map {U = List ℕ × Columns}
+                  (λ e. (e.0, index_columns t.description i e.1))) g.1.1.1
                   ∙ ap (λ c. Some (key, c)) (some _ _ is);
             }
 

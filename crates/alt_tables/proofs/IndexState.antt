@@ -24,7 +24,8 @@ module _ (l : Layout) (next : ℕ) (known : Texts TableSchema) (s : State)
       items = λ name t at key. made.agrees.rows.items name t at key tt;
       indexes = λ name t number i at at_index key.
           right_agrees l s made.agrees name t at i key
-          (read name t.description (known_at known s made.catalog name t at) number i tt at_index key);
+          (read name t.description (known_at known s made.catalog name t at) number i tt
+          at_index key);
       changes = made.agrees.changes;
       beyond = λ family key high. made.agrees.rows.beyond family key high tt;
     };

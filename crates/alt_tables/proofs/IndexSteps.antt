@@ -124,7 +124,8 @@ module _ (l : Layout) (d : TableSchema) (i : IndexSchema) where
       record {
         before = λ k low. right_ahead k (subst (IsAhead k) (sym some) low);
         wrong = subst (λ o. IfSome o (λ k. IsRightAt l d i k → ⊥)) some
-            (of_lesser (λ k. IsRightAt l d i k → ⊥) missing foreign (by_missing missing least.missing)
+            (of_lesser (λ k. IsRightAt l d i k → ⊥) missing foreign
+            (by_missing missing least.missing)
             (by_foreign foreign first.foreign));
       },
     )

@@ -81,7 +81,8 @@ rise_first : (c : Change) (cs : List Change) → Rise (c ∷ cs)
 rise_first c cs rise k x within = rise 0 (suc k) x (omega arith) (omega (arith, within))
 
 below_keys : (c : Change) (cs : List Change) → IsSmall c → All IsSmall cs
-    → All (λ (b : Change). c.number < b.number) cs → T (below_all key_cmp (row_key c.number) (map keyed cs))
+    → All (λ (b : Change). c.number < b.number) cs
+    → T (below_all key_cmp (row_key c.number) (map keyed cs))
 below_keys c [] small all above = tt
 below_keys c (d ∷ ds) small all above =
     let next : d.number < 2 ^ 64 = All-head IsSmall d ds all in
@@ -242,7 +243,8 @@ filter_keyed from (c ∷ cs) small all =
     by : (b : Bool)
         → filter (λ (e : List ℕ × Change). range_contains text_order (Included (row_key from))
         Unbounded e.0) (map keyed cs)
-        ≡ map keyed (filter (λ (c : Change). nat_le from c.number) cs) → cond b (keyed c ∷ filter (λ (e : List ℕ × Change). range_contains text_order
+        ≡ map keyed (filter (λ (c : Change). nat_le from c.number) cs)
+        → cond b (keyed c ∷ filter (λ (e : List ℕ × Change). range_contains text_order
         (Included (row_key from)) Unbounded e.0) (map keyed cs))
         (filter (λ (e : List ℕ × Change). range_contains text_order (Included (row_key from))
         Unbounded e.0) (map keyed cs))

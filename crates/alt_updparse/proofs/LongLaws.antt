@@ -18,11 +18,13 @@ unfolding is_long_term
 value_law v = search (rules, the_lemmas)
 
 -- `if_not_exists` is too long where its path or its operand is
-pub if_law : (path : List PathPart) (x : Term) → is_long_term (term.IfNotExists path x) ≡ (is_long path || is_long_term x)
+pub if_law : (path : List PathPart) (x : Term)
+    → is_long_term (term.IfNotExists path x) ≡ (is_long path || is_long_term x)
 unfolding is_long_term
 if_law path x = search (rules, the_lemmas)
 
 -- `list_append` is too long where one of its operands is
-pub append_law : (x y : Term) → is_long_term (term.ListAppend x y) ≡ (is_long_term x || is_long_term y)
+pub append_law : (x y : Term) → is_long_term (term.ListAppend x y)
+    ≡ (is_long_term x || is_long_term y)
 unfolding is_long_term
 append_law x y = search (rules, the_lemmas)

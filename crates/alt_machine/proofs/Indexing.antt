@@ -11,12 +11,11 @@ use Rattle.alt_keyorder.proofs.PlaceLaws.{index_tell, index_lie}
 use Rattle.alt_machine.specs.Indexed.{KeyValues, values_beside, values_of, place_of_both, place_read, index_place, index_entry, index_items}
 use Rattle.alt_machine.specs.Keys.{can_be_key, if_key, key_value, key_place, place_beside, place_of}
 use Rattle.alt_machine.specs.Laws.{IndexPlacesLie, Indexes, AllIndex}
-use Rattle.alt_machine.specs.Rekeyed.{AreApart}
 use Rattle.alt_machine.specs.Sources.{index_at}
 use Rattle.alt_machine.specs.State.{State, Table, Texts}
 use Rattle.alt_machine.specs.Valid.{IsStored, IsValid, IsHeldState}
 use Rattle.alt_machine.proofs.Placed.{part_kind}
-use Rattle.alt_machine.proofs.Rekeying.{given_by, gives}
+use Rattle.alt_machine.proofs.Rekeying.{AreApart, given_by, gives}
 use Rattle.alt_schema.specs.Indexes.{index_row, is_in_index, cut, has_part, of_range, is_key_value, is_key_length, is_key_or_none, part_fits, index_fits, indexes, keys_fit, longest_hash, longest_range}
 use Rattle.alt_schema.specs.declared.schema.IndexSchema.{IndexSchema}
 use Rattle.alt_schema.specs.declared.schema.KeyAttr.{KeyAttr}

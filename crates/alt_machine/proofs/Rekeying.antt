@@ -10,10 +10,27 @@ use Rattle.std.specs.FinMap.{entries, entries_sorted, get, get-entries, get-from
 use Rattle.std.specs.FinMap.Entries.{find, is_sorted, below_all}
 use Rattle.alt_value.specs.Members.{text_order}
 use Rattle.alt_value.proofs.Texts.{text_total, text_apart}
-use Rattle.alt_machine.specs.Rekeyed.{before_those, rekeyed_entries, rekeyed, AreApart, unless_at, moved}
+use Rattle.alt_machine.specs.Rekeyed.{before_those, rekeyed_entries, rekeyed}
 use Rattle.alt_machine.specs.State.{Texts}
 use Rattle.alt_machine.specs.Writes.{with_item}
 use Rattle.alt_value.specs.Tree.{Pair}
+
+-- no two values of a map have one key
+abbrev pub AreApart : {X Y : Type 0} → (X → Option (List ℕ × Y)) → Texts X → Type 0
+AreApart {X = X} {Y = Y} g m = (p q : List ℕ) (x y : X) (key : List ℕ) (v w : Y)
+    → get m p ≡ Some x → get m q ≡ Some y → g x ≡ Some (key, v) → g y ≡ Some (key, w) → p ≡ q
+
+-- nothing at the key of an entry, and else what was there
+abbrev pub unless_at : {Y : Type 0} → List ℕ → Option (List ℕ × Y) → Option Y → Option Y
+unless_at key None before = before
+unless_at key (Some e) before = if eq_by_cmp text_order key e.0 then None else before
+
+-- what stands at a key after one entry left and another came
+abbrev pub moved : {Y : Type 0} → List ℕ → Option (List ℕ × Y) → Option (List ℕ × Y) → Option Y
+    → Option Y
+moved key old None before = unless_at key old before
+moved key old (Some e) before =
+    if eq_by_cmp text_order key e.0 then Some e.1 else unless_at key old before
 
 -- a test that is true passes
 holds : (b : Bool) → b ≡ true → T b

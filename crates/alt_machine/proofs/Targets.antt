@@ -11,11 +11,17 @@ use Rattle.alt_machine.specs.Members.{table_name, table_at, item_at}
 use Rattle.alt_machine.specs.Outcomes.{Outcome, says, refuses, unless_refused, with_found}
 use Rattle.alt_machine.specs.Refusals.{first_answer, or_refused, refuse_unless}
 use Rattle.alt_machine.specs.State.{State, Table}
-use Rattle.alt_machine.specs.Targets.{on_table, of_length, on_item, member_of, place_in, IsTarget, IsPlaced}
+use Rattle.alt_machine.specs.Targets.{on_table, of_length, on_item, member_of, place_in, IsPlaced}
 use Rattle.alt_machine.proofs.Chains.{Steps, steps-unless, steps-found, found_is}
 use Rattle.alt_machine.proofs.Tests.{passed, stopped, found, missed, unless_holds}
 use Rattle.alt_shape.specs.Refusals.{Answer, not_found, bad_key, key_too_long}
 use Rattle.alt_value.specs.Tree.{Pair}
+
+-- nothing refuses the body, and that is the table that it names
+pub record IsTarget (tests : List (Option Answer)) (s : State) (ms : Members)
+    (t : Table) : Type 0 where
+  pub body : first_answer tests ≡ None
+  pub there : map.get s.tables (table_name ms) ≡ Some t
 
 -- ---- what a request comes to
 

@@ -7,10 +7,10 @@ use Rattle.std.proofs.lemmas.Bool.{false≢true}
 use Rattle.alt_disk.specs.declared.disk.DiskFault.{DiskFault}
 use Rattle.alt_disk.specs.declared.disk.DiskFault.TheVariants.{Failed, NoMemory}
 use Rattle.alt_disk.specs.Disk.{DiskState, answered, Call, Written, Synced, contents, bytes_or_none, overwritten}
-use Rattle.alt_disk.specs.Runs.{Run, RunSoFar, Spans}
+use Rattle.alt_disk.specs.Runs.{Run, Spans}
 use Rattle.alt_cells.specs.Walks.{Anything as All}
 use Rattle.alt_rowfile.specs.Writing.{itself}
-use Rattle.alt_disk.proofs.Runs.{begun, started, run_spans, after_call, after_sync}
+use Rattle.alt_disk.proofs.Runs.{RunSoFar, begun, started, run_spans, after_call, after_sync}
 use Rattle.alt_rowfile.specs.Sinks.{Anything, Lasts}
 
 -- bytes put at the end

@@ -17,11 +17,11 @@ use Rattle.alt_schema.specs.Held.{IsHeld}
 use Rattle.alt_schema.specs.declared.schema.TableSchema.{TableSchema}
 use Rattle.alt_schema.proofs.WholeDescriptions.{one_spelling}
 use Rattle.alt_views.specs.ItemRows.{item_columns}
-use Rattle.alt_tables.specs.Opening.{AssembledRows, IsCatalog, IsGood, AreApart}
+use Rattle.alt_tables.specs.Opening.{IsCatalog, IsGood, AreApart}
 use Rattle.alt_tables.specs.Recovery.{Agrees, IsBefore, IsUpTo, IsFirstWrong}
 use Rattle.alt_tables.specs.Scans.{IsItemAt, IsFirstBad, ItemsRead}
 use Rattle.alt_tables.specs.StateRows.{catalog_family, table_row, next_row}
-use Rattle.alt_tables.proofs.Assembled.{assembled, not_empty}
+use Rattle.alt_tables.proofs.Assembled.{AssembledRows, assembled, not_empty}
 use Rattle.alt_tables.proofs.ChangeLaws.{tied, itself}
 use Rattle.alt_tables.proofs.Cuts.{cut, shown-cut, shown-here, shown-not}
 use Rattle.alt_tables.proofs.Making.{same_Some}

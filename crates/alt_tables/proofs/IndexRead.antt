@@ -4,10 +4,9 @@ use Rattle.std.specs.FinMap as map
 use Rattle.alt_cells.specs.Changes.{Columns}
 use Rattle.alt_engine.specs.Layout.{Layout, shown}
 use Rattle.alt_machine.specs.Indexed.{index_entry, index_items}
-use Rattle.alt_machine.specs.Rekeyed.{AreApart}
 use Rattle.alt_machine.specs.State.{State, Table}
 use Rattle.alt_machine.proofs.Indexing.{index_apart}
-use Rattle.alt_machine.proofs.Rekeying.{given_by, gives}
+use Rattle.alt_machine.proofs.Rekeying.{AreApart, given_by, gives}
 use Rattle.alt_schema.specs.declared.schema.IndexSchema.{IndexSchema}
 use Rattle.alt_schema.specs.declared.schema.TableSchema.{TableSchema}
 use Rattle.alt_tables.specs.IndexScans.{HasRow, IsItemThere, IsRightAt}

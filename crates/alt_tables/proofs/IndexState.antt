@@ -6,12 +6,12 @@ use Rattle.alt_machine.specs.declared.TheConstants.{NUMBERS_END}
 use Rattle.alt_machine.specs.State.{State, Table, Texts}
 use Rattle.alt_schema.specs.declared.schema.TableSchema.{TableSchema}
 use Rattle.alt_tables.specs.IndexScans.{IsFirstOfOwn}
-use Rattle.alt_tables.specs.Opening.{AllChangesRead, AllIndexesRead, AreTablesRead, Assembled, AssembledTables, IsFirstIn, IsIndexesFault, IsRowFault}
+use Rattle.alt_tables.specs.Opening.{AllChangesRead, AllIndexesRead, AreTablesRead, Assembled, IsFirstIn, IsIndexesFault, IsRowFault}
 use Rattle.alt_tables.specs.Recovery.{IsFirstWrong}
 use Rattle.alt_tables.specs.declared.faults.OpenFault.{OpenFault}
 use Rattle.alt_tables.specs.declared.faults.OpenFault.TheVariants.{Damaged, BadRow, Failed, NoMemory}
 use Rattle.alt_tables.proofs.IndexRead.{agrees_right, right_agrees}
-use Rattle.alt_tables.proofs.StreamState.{assembled_tables, known_at, table_of}
+use Rattle.alt_tables.proofs.StreamState.{AssembledTables, assembled_tables, known_at, table_of}
 
 module _ (l : Layout) (next : ℕ) (known : Texts TableSchema) (s : State)
     (made : AssembledTables l next known s) where

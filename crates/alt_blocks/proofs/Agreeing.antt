@@ -9,11 +9,13 @@ use Rattle.alt_disk.specs.Disk.{DiskState, Read, bytes_or_none}
 use Rattle.alt_blocks.specs.Places.{Keeps, Agrees, Within, Adds, Place, given, same_place}
 use Rattle.alt_blocks.specs.declared.cache.BlockCache.{BlockCache}
 
+-- what agrees with one disk agrees with another whose files read the same
 pub agrees_same : (a b : DiskState) (cache : BlockCache) → ((g : ℕ) → b.file g ≡ a.file g)
     → Agrees a cache → Agrees b cache
 agrees_same a b cache same h = λ p bytes c.
     h p bytes c ∙ ap (λ (l : List ℕ). take p.2 (drop p.1 l)) (ap bytes_or_none (sym (same p.0)))
 
+-- the same, where files need to read the same only of a disk that tells what it reads
 pub agrees_on : (a b : DiskState) (cache : BlockCache) → (IsTrue a.tells → Agrees a cache)
     → b.tells ≡ a.tells
     → (IsTrue a.tells → (g : ℕ) → b.file g ≡ a.file g) → IsTrue b.tells → Agrees b cache
@@ -29,6 +31,7 @@ and_true false b e = absurd (false≢true e)
 same_number : (m n : ℕ) → (m == n) ≡ true → m ≡ n
 same_number m n e = grind arith
 
+-- places that are told to be the same are the same
 pub same_is : (p q : Place) → same_place p q ≡ true → p ≡ q
 same_is p q e =
     let two = and_true ((p.0 == q.0) && (p.1 == q.1)) (p.2 == q.2) e in
@@ -52,6 +55,7 @@ pub within_promoted : (old new : List (Place × List ℕ)) (test : Place → Boo
 within_promoted old new test is p bytes kept = Contains-promoted test old (p, bytes)
     (subst (λ (l : List (Place × List ℕ)). Contains l (p, bytes)) is kept)
 
+-- a cache that holds no more than one before agrees with the disk as that one did
 pub agrees_within : (s : DiskState) (old new : BlockCache) → Within old new → Agrees s old
     → Agrees s new
 agrees_within s old new within h p bytes kept = h p bytes (within p bytes kept)
@@ -70,16 +74,19 @@ adds_put old new place bytes is p b kept = ⊎_elim (λ before. inl before)
     at_place (inl e) = e
     at_place (inr o) = sym (same_is place p o.2)
 
+-- a cache that adds what the disk gives at a place goes on agreeing with it
 pub agrees_adds : (s : DiskState) (old new : BlockCache) (place : Place) (bytes : List ℕ)
     → Adds old new place bytes → bytes ≡ given s place → Agrees s old → Agrees s new
 agrees_adds s old new place bytes adds is h p b kept = ⊎_elim (λ before. h p b before)
     (λ put. put.1 ∙ is ∙ ap (given s) (sym put.0)) (adds p b kept)
 
+-- what adds to a cache that holds no more than one before adds to that one
 pub adds_within : (old middle new : BlockCache) (place : Place) (bytes : List ℕ)
     → Within old middle → Adds middle new place bytes → Adds old new place bytes
 adds_within old middle new place bytes within adds p b kept = ⊎_elim
     (λ before. inl (within p b before)) (λ put. inr put) (adds p b kept)
 
+-- a cache that holds no more than one before adds nothing to it, whatever the place
 pub adds_none : (old new : BlockCache) (place : Place) (bytes : List ℕ) → Within old new
     → Adds old new place bytes
 adds_none old new place bytes within p b kept = inl (within p b kept)

@@ -20,6 +20,7 @@ module _ {D : Type 0} {G : Ghosts D} where
   abbrev pub disk_of : Cached D G → D
   disk_of c = c.disk.now
 
+  -- the cache in front of the disk
   abbrev pub cache_of : Cached D G → BlockCache
   cache_of c = c.cache.now
 

@@ -33,6 +33,7 @@ module _ {S M : Type 0} (Holds : DiskState → S → M → Type 0) (reads_of : S
         λ t. quiet_start s;
   }
 
+  -- what one call keeps and the next keeps, both together keep
   pub keeps_then : (a b c : DiskState) (x y z : S) → Keeps Holds reads_of a b x y
       → Keeps Holds reads_of b c y z → Keeps Holds reads_of a c x z
   keeps_then a b c x y z first then = record {
@@ -42,6 +43,7 @@ module _ {S M : Type 0} (Holds : DiskState → S → M → Type 0) (reads_of : S
     quiet = λ t. quiet_then a b c (first.quiet t) (then.quiet (tells_on a b first.goes t));
   }
 
+  -- where a call keeps and the next one fails, both together fail so
   pub fails_then : (a b c : DiskState) (x y : S) (fault : SourceFault)
       → Keeps Holds reads_of a b x y → Fails Holds b c y fault → Fails Holds a c x fault
   fails_then a b c x y fault first fails = record {

@@ -22,6 +22,7 @@ pub walk_total : (forward : Bool) → IsTotalOrder (walk_cmp forward)
 walk_total true = key_total
 walk_total false = back_total key_total
 
+-- keys that tie in either direction are the same key
 pub walk_exact : (forward : Bool) → IsAntisymmetric (walk_cmp forward)
 walk_exact true = key_exact
 walk_exact false = λ x y e. sym (key_exact y x e)

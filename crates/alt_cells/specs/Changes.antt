@@ -35,11 +35,13 @@ one_cell number e = from_sorted ((e.0, cell_at number e.1) ∷ [])
 -- the cells that a write gives, joined: of several of one name the winner stays
 abbrev pub cells_given : ℕ → Given → FinMap key_cmp Cell
 cells_given number [] = empty
-cells_given number (e ∷ es) = joined_map (greater cell_cmp) (one_cell number e) (cells_given number es)
+cells_given number (e ∷ es) =
+    joined_map (greater cell_cmp) (one_cell number e) (cells_given number es)
 
 -- a change as the row that the write of that number joins to what is there
 abbrev pub row_of_change : ℕ → RowChange → RowCells
-row_of_change number c = record { gone = if c.clear then Some number else None; cells = cells_given number c.cells }
+row_of_change number c =
+    record { gone = if c.clear then Some number else None; cells = cells_given number c.cells }
 
 -- ---- in columns shown
 
@@ -51,7 +53,8 @@ tied v (Some w) = greater value_cmp v w
 -- what is given to a column, if anything is: of several the winner in a tie
 abbrev pub given_to : List ℕ → Given → Option (Option (List ℕ))
 given_to q [] = None
-given_to q (e ∷ es) = if eq_by_cmp key_cmp q e.0 then Some (tied e.1 (given_to q es)) else given_to q es
+given_to q (e ∷ es) =
+    if eq_by_cmp key_cmp q e.0 then Some (tied e.1 (given_to q es)) else given_to q es
 
 -- with a value at a column, or none
 abbrev pub with_column : List ℕ → Option (List ℕ) → Columns → Columns
@@ -126,7 +129,8 @@ is_cleared (Some old) (Some new) = false
 
 -- the change of the row of that family and key that turns what it shows into what it is to show
 abbrev pub change_between : ℕ → List ℕ → Option Columns → Option Columns → RowChange
-change_between family key old new = record { family = family; key = key; clear = is_cleared old new; cells = cells_between old new }
+change_between family key old new =
+    record { family = family; key = key; clear = is_cleared old new; cells = cells_between old new }
 
 -- it can be shown: a row has a column
 abbrev pub CanShow : Option Columns → Type 0

@@ -47,7 +47,9 @@ turned false xs = reverse xs
 -- the rows that a walk gives after it sought a place
 abbrev pub rows_from : RowMap → Option (List ℕ) → Bool → RowList
 rows_from rows from forward =
-    turned forward (entries_between key_cmp (first_bound forward from) (last_bound forward from) (entries rows))
+    turned forward
+    (entries_between key_cmp (first_bound forward from) (last_bound forward from)
+    (entries rows))
 
 -- what `next` answers where these rows are left, and that afterwards the others are
 abbrev pub Gives : (RowList → Type 0) → RowList → Option (List ℕ × RowCells) → Type 0

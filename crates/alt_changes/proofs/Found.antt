@@ -30,11 +30,13 @@ take_all bytes n e = ap (λ k. take k bytes) e ∙ whole bytes
     whole [] = refl
     whole (b ∷ bs) = ap (λ cs. b ∷ cs) (whole bs)
 
+-- eight bytes that hold a moment and end where the cell does are the whole cell
 pub moment_whole : (bytes : List ℕ) (n end : ℕ) → StandsAt bytes 0 (to_be_bytes w64 n)
     → end ≡ 0 + 8 → end ≡ length bytes → bytes ≡ to_be_bytes w64 n
 moment_whole bytes n end stands at whole =
     sym (take_all bytes 8 (omega (arith, at, whole))) ∙ stands
 
+-- where the cell goes on behind its moment it is bad there
 pub moment_behind : (bytes : List ℕ) (n end at : ℕ) → StandsAt bytes 0 (to_be_bytes w64 n)
     → end ≡ 0 + 8 → (end ≡ length bytes → ⊥) → at ≡ end → NoMoment bytes at
 moment_behind bytes n end at stands is other same = inr (
@@ -45,6 +47,7 @@ moment_behind bytes n end at stands is other same = inr (
     longer : 0 + 8 ≤ length bytes → 8 < length bytes
     longer h = grind (arith, h, other, is)
 
+-- a cell of fewer than eight bytes is bad at its end
 pub moment_short : (bytes : List ℕ) (at : ℕ) → at ≡ length bytes → length bytes < 0 + 8
     → NoMoment bytes at
 moment_short bytes at is short = inl (omega (arith, short), is)
@@ -67,6 +70,7 @@ whole_map item is = (
   is.whole.1,
 )
 
+-- a map that was read whole, and isn't too deep, is an item that can be read
 pub map_whole : (item : List Pair) → IsWhole (M_tree (fields_of item))
     → depth (M_tree (fields_of item)) ≤ deepest + 1 → IsReadItem item
 map_whole item is deep = record {
@@ -85,7 +89,8 @@ map_whole item is deep = record {
 pub no_map : (bytes : List ℕ) → is_map bytes ≡ false → NoItem bytes 0 × NoneIs bytes
 no_map bytes other = (
   inl (other, refl),
-  λ item is e. absurd (let not_so : true ≡ false = sym (ap is_map e) ∙ other in let f : ⊥ = cc in f),
+  λ item is e. absurd
+      (let not_so : true ≡ false = sym (ap is_map e) ∙ other in let f : ⊥ = cc in f),
 )
 
 -- nor are those that are no value's, or of one that is too deep
@@ -107,11 +112,14 @@ bad_is {A} {B} (Err x) e b passed is = sym passed.1 ∙ (let same : x ≡ b = cc
 
 -- the moment that was read of a row, and the item of a column
 abbrev pub MomentRead : Columns → Option ℕ → Type 0
-MomentRead row o = IfSome o (λ n. n < 2 ^ 64) × (get row (codes "m") ≡ option_map (to_be_bytes w64) o)
+MomentRead row o = IfSome o (λ n. n < 2 ^ 64)
+    × (get row (codes "m") ≡ option_map (to_be_bytes w64) o)
 
+-- the item that was read of a column
 abbrev pub ItemRead : Columns → List ℕ → Option (List Pair) → Type 0
 ItemRead row name o = IfSome o IsReadItem × (get row name ≡ option_map item_bytes o)
 
+-- where a moment was read, the column has one or is missing
 pub moment_good : (row : Columns) (o : Option ℕ) → MomentRead row o
     → IfSome (get row (codes "m")) IsMoment
 moment_good row o h = subst (λ g. IfSome g IsMoment) (sym h.1) (by o h.0)
@@ -121,6 +129,7 @@ moment_good row o h = subst (λ g. IfSome g IsMoment) (sym h.1) (by o h.0)
     by None fits = tt
     by (Some n) fits = (n, fits, refl)
 
+-- where an item was read, the column has one or is missing
 pub item_good : (row : Columns) (name : List ℕ) (o : Option (List Pair)) → ItemRead row name o
     → IfSome (get row name) IsItemCell
 item_good row name o h = subst (λ g. IfSome g IsItemCell) (sym h.1) (by o h.0)
@@ -149,15 +158,18 @@ module _ (row : Columns) (c : Change) (is : row ≡ change_columns c) where
   bad_item name at (Some i) read e (bytes, there, bad, none) = none i read
       (same_Some bytes (item_bytes i) (sym there ∙ e))
 
+  -- the new item of a change that can be read isn't bad
   pub no_bad_new : (at : ℕ) → IsReadChange c → IsBadItem row (codes "n") at → ⊥
   no_bad_new at read = bad_item (codes "n") at c.new read.new shows.new
 
+  -- nor is the old one
   pub no_bad_old : (at : ℕ) → IsReadChange c → IsBadItem row (codes "o") at → ⊥
   no_bad_old at read = bad_item (codes "o") at c.old read.old shows.old
 
   -- it has a moment
   pub some_moment : MomentRead row None → ⊥
-  some_moment h = let not_so : None ≡ Some (to_be_bytes w64 c.moment) = sym h.1 ∙ shows.moment in cc not_so
+  some_moment h = let not_so : None ≡ Some (to_be_bytes w64 c.moment) = sym h.1
+      ∙ shows.moment in cc not_so
 
   -- and no other columns
   pub no_others : list_all (λ e. is_column e.0) (entries row) ≡ false → ⊥

@@ -24,12 +24,15 @@ within_is largest digits all small =
     (λ i. cond (all i && le-leb (digits_value 10 digits) largest small i)
     (Some (digits_value 10 digits)) None)
 
+-- what isn't digits is no number
 pub within_none : (largest : ℕ) (digits : List ℕ) → all_ascii_digits digits ≡ false
     → number_within largest digits ≡ None
 within_none largest digits other =
-    ap (λ b. cond (b && nat_le (digits_value 10 digits) largest) (Some (digits_value 10 digits)) None)
+    ap (λ b. cond (b && nat_le (digits_value 10 digits) largest)
+    (Some (digits_value 10 digits)) None)
     other
 
+-- digits that are above the largest number are none
 pub within_above : (largest : ℕ) (digits : List ℕ) → all_ascii_digits digits ≡ true
     → largest < digits_value 10 digits → number_within largest digits ≡ None
 within_above largest digits all large =
@@ -43,6 +46,7 @@ within_above largest digits all large =
         by true e = absurd (omega (arith, leb-true (digits_value 10 digits) largest e, large))
         by false e = e
 
+-- what isn't up to a number is above it
 above : (m n : ℕ) → nat_le n m ≡ false → m < n
 above m n e = grind arith
 
@@ -76,17 +80,20 @@ module _ {E : Type 0} (digits : List ℕ) (r : Result ℕ E) (all : all_ascii_di
       by true le = absurd (fails (some, omega (arith, leb-true value (2 ^ 62) le)))
       by false not_le = above (2 ^ 62) value not_le
 
+  -- digits that were parsed as a number of at most 2^62 are that number
   pub parsed_small : (n : ℕ) → result_ok r ≡ Some n → n ≤ 2 ^ 62
       → number_within (2 ^ 62) digits ≡ Some n
   parsed_small n is small =
       let same : n ≡ value = is_value r n parsed is in
       within_is (2 ^ 62) digits all (omega (arith, small, same)) ∙ ap Some (sym same)
 
+  -- those of a larger one are none
   pub parsed_large : (n : ℕ) → result_ok r ≡ Some n → 2 ^ 62 < n
       → number_within (2 ^ 62) digits ≡ None
   parsed_large n is large =
       within_above (2 ^ 62) digits all (omega (arith, large, is_value r n parsed is))
 
+  -- nor are those that were parsed as none
   pub parsed_none : result_ok r ≡ None → number_within (2 ^ 62) digits ≡ None
   parsed_none is = within_above (2 ^ 62) digits all (is_above r parsed is)
 
@@ -117,6 +124,7 @@ module _ (text : List ℕ) where
   abbrev barred : Bool
   barred = bytes_eq (take 1 (drop at text)) (124 ∷ [])
 
+  -- a text of fewer than 22 bytes is no iterator
   pub iterator_short : length text < 22 → iterator_of text ≡ None
   iterator_short h = by long refl
     where
@@ -154,7 +162,8 @@ module _ (text : List ℕ) where
 
     -- a bar is a character of its own
     pub iterator_uncut : (IsCharBoundary text at → ⊥) → iterator_of text ≡ None
-    iterator_uncut uncut = iterator_other (λ e. uncut (omega arith, λ within large. omega (arith, e, large)))
+    iterator_uncut uncut =
+        iterator_other (λ e. uncut (omega arith, λ within large. omega (arith, e, large)))
 
     -- where none stands at the front of what is left, it is none
     pub iterator_unbarred : (tail : List ℕ) → tail ≡ drop at text

@@ -104,6 +104,7 @@ module _ (item : List Pair) (is_item : IsItem item) where
       is_named : List ℕ → Option KeyAttr → Bool
       is_named q range = is_key d.hash range q
 
+  -- with a RANGE attribute, the HASH attribute and that one are the key
   pub key_of_both : (d : TableSchema) (range : KeyAttr) → d.range ≡ Some range
       → with_attribute range.name (at_name range.name item)
       (with_attribute d.hash.name (at_name d.hash.name item) []) ≡ key_attributes d None item
@@ -135,6 +136,7 @@ some_size p (e ∷ es) = by (p e.0) (some_size p es)
     by true h = omega (arith, h)
     by false h = omega (arith, h)
 
+-- the key of an item is no larger than the item
 pub key_size : (d : TableSchema) (item : List Pair)
     → item_size (key_attributes d None item) ≤ item_size item
 key_size d item = some_size (is_key_there d None) item

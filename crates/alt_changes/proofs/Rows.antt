@@ -25,6 +25,7 @@ columns_rise moment None (Some n) = tt
 columns_rise moment (Some o) None = tt
 columns_rise moment (Some o) (Some n) = tt
 
+-- the entries of a change's row are its columns in their order
 pub entries-change : (c : Change) → entries (change_columns c) ≡ columns_of c.moment c.old c.new
 entries-change c = entries-from_sorted key_cmp (columns_of c.moment c.old c.new)
     (columns_rise c.moment c.old c.new)
@@ -75,6 +76,7 @@ pub record Shows (row : Columns) (c : Change) : Type 0 where
   pub old : get row (codes "o") ≡ option_map item_bytes c.old
   pub alone : list_all (λ e. is_column e.0) (entries row) ≡ true
 
+-- the row of a change shows it
 pub shows_so : (row : Columns) (c : Change) → row ≡ change_columns c → Shows row c
 shows_so row c is = record {
   moment = ap (λ r. get r (codes "m")) is ∙ moment_found c;

@@ -1,5 +1,5 @@
-//! The row of a change in the family of its stream (docs/formats/table-rows.md): its moment, and the item before and after it, where one was
-//! there.
+//! The row of a change in the family of its stream (docs/formats/table-rows.md): its moment, and the item before and after it,
+//! where one was there.
 
 ghost use Rattle.std.specs.Prelude.{◌≡◌, ◌++◌, ℕ, Some, false, IfOk, OnOk, map as each, option_map};
 ghost use Rattle.std.specs.List.{flat_map};

@@ -61,8 +61,8 @@ fn record_shown(
     Ok(Value::Object(members))
 }
 
-/// The size of the record of a change of a table with a stream: those of the key and of the items that it shows. `None` exactly where an item
-/// is larger than may be stored.
+/// The size of the record of a change of a table with a stream: those of the key and of the items that it shows. `None` exactly
+/// where an item is larger than may be stored.
 pub fn record_size(
     alloc: Global,
     schema: &TableSchema,

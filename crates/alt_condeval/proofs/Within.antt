@@ -19,35 +19,45 @@ by_either : {P : Type 0} (a b : Bool) → (a || b) ≡ true → (a ≡ true → 
 by_either true b e f g = f refl
 by_either false b e f g = g e
 
-starts : (needle hay : List ℕ) → take (length needle) hay ≡ needle → starts_with nat_eq hay needle ≡ true
+starts : (needle hay : List ℕ) → take (length needle) hay ≡ needle
+    → starts_with nat_eq hay needle ≡ true
 starts needle hay e = (bytes_decides needle (take (length needle) hay)).1 (sym e)
 
-starts_so : (needle hay : List ℕ) → starts_with nat_eq hay needle ≡ true → take (length needle) hay ≡ needle
+starts_so : (needle hay : List ℕ) → starts_with nat_eq hay needle ≡ true
+    → take (length needle) hay ≡ needle
 starts_so needle hay e = sym ((bytes_decides needle (take (length needle) hay)).0 e)
 
-found : (needle hay : List ℕ) (k : ℕ) → k ≤ length hay → take (length needle) (drop k hay) ≡ needle → stands_in needle hay ≡ true
+found : (needle hay : List ℕ) (k : ℕ) → k ≤ length hay → take (length needle) (drop k hay) ≡ needle
+    → stands_in needle hay ≡ true
 found needle [] zero le e = starts needle [] e
 found needle [] (suc k) le e = absurd (omega arith)
-found needle (c ∷ cs) zero le e = left (starts_with nat_eq (c ∷ cs) needle) _ (starts needle (c ∷ cs) e)
-found needle (c ∷ cs) (suc k) le e = right (starts_with nat_eq (c ∷ cs) needle) _ (found needle cs k (omega arith) e)
+found needle (c ∷ cs) zero le e =
+    left (starts_with nat_eq (c ∷ cs) needle) _ (starts needle (c ∷ cs) e)
+found needle (c ∷ cs) (suc k) le e =
+    right (starts_with nat_eq (c ∷ cs) needle) _ (found needle cs k (omega arith) e)
 
-place : (needle hay : List ℕ) → stands_in needle hay ≡ true → (k : ℕ) × (k ≤ length hay) × (take (length needle) (drop k hay) ≡ needle)
+place : (needle hay : List ℕ) → stands_in needle hay ≡ true
+    → (k : ℕ) × (k ≤ length hay) × (take (length needle) (drop k hay) ≡ needle)
 place needle [] e = (0, omega arith, starts_so needle [] e)
 place needle (c ∷ cs) e =
     by_either (starts_with nat_eq (c ∷ cs) needle) (stands_in needle cs) e
     (λ here. (0, omega arith, starts_so needle (c ∷ cs) here))
     (λ later. let p = place needle cs later in (suc p.0, omega (arith, p.1), p.2))
 
-occurs : (needle hay : List ℕ) (k : ℕ) → k ≤ length hay → take (length needle) (drop k hay) ≡ needle → OccursAt hay needle k
+occurs : (needle hay : List ℕ) (k : ℕ) → k ≤ length hay → take (length needle) (drop k hay) ≡ needle
+    → OccursAt hay needle k
 occurs needle hay k le e =
     let long : length (take (length needle) (drop k hay)) ≡ length needle = ap length e in
-    OccursAt-from_part hay needle k (omega (arith, long, length-take (length needle) (drop k hay), length-drop k hay)) e
+    OccursAt-from_part hay needle k
+    (omega (arith, long, length-take (length needle) (drop k hay), length-drop k hay)) e
 
 -- a search finds them exactly where they stand
-pub told : (hay needle : List ℕ) (r : Option ℕ) → FindsNeedle hay needle 0 r → is_some r ≡ stands_in needle hay
+pub told : (hay needle : List ℕ) (r : Option ℕ) → FindsNeedle hay needle 0 r
+    → is_some r ≡ stands_in needle hay
 told hay needle None h =
     elim (stands_in needle hay) as (λ b. stands_in needle hay ≡ b → false ≡ b) [
-      | true ↦ λ e. let p = place needle hay e in absurd (h p.0 (omega arith) (omega (arith, p.1)) (occurs needle hay p.0 p.1 p.2))
+      | true ↦ λ e. let p = place needle hay e in
+          absurd (h p.0 (omega arith) (omega (arith, p.1)) (occurs needle hay p.0 p.1 p.2))
       | false ↦ λ e. refl
     ] refl
 told hay needle (Some k) h =

@@ -39,7 +39,8 @@ pub fn compares(by: Comparison, a: &Denoted<'_>, b: &Denoted<'_>) -> bool
 
 /// From `low` to `high`, both included.
 pub fn is_between(a: &Denoted<'_>, low: &Denoted<'_>, high: &Denoted<'_>) -> bool
-    ensures { result ≡ (spec.compares Comparison.GreaterEqual (stands_for a.now) (stands_for low.now)
+    ensures { result
+        ≡ (spec.compares Comparison.GreaterEqual (stands_for a.now) (stands_for low.now)
         && spec.compares Comparison.LessEqual (stands_for a.now) (stands_for high.now)) }
 {
     compares(Comparison::GreaterEqual, a, low) && compares(Comparison::LessEqual, a, high)
@@ -47,7 +48,9 @@ pub fn is_between(a: &Denoted<'_>, low: &Denoted<'_>, high: &Denoted<'_>) -> boo
 
 /// Equal to one of the operands.
 pub fn is_among<V: AttrView>(a: &Denoted<'_>, operands: &[Operand], view: &V) -> bool
-    ensures { result ≡ list_any (λ y. spec.equal (stands_for a.now) (spec.denoted (V.attribute view.now) y)) operands.now }
+    ensures { result
+        ≡ list_any (λ y. spec.equal (stands_for a.now) (spec.denoted (V.attribute view.now) y))
+        operands.now }
 {
     for operand in operands {
         if is_same(a, &value_of(operand, view)) {

@@ -54,7 +54,8 @@ pub fn at<'a, V: AttrView>(path: &[PathPart], view: &'a V) -> Denoted<'a>
 
 /// The size of the part that a path leads to.
 fn size_at<'a, V: AttrView>(path: &[PathPart], view: &'a V) -> Denoted<'a>
-    ensures { stands_for result ≡ option_and_then spec.size_of (place (V.attribute view.now) path.now) }
+    ensures { stands_for result ≡ option_and_then spec.size_of
+        (place (V.attribute view.now) path.now) }
 {
     match located(path, view) {
         Some(value) => size(value),

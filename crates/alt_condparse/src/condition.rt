@@ -15,7 +15,8 @@ pub(crate) fn any(
     tokens: &mut Cursor<'_>,
     depth: usize,
 ) -> Result<Cond, ExprFault>
-    ensures { Reads (spec.any (spec.one (given_to given.now) depth) (left tokens.old)) result (left tokens.new) }
+    ensures { Reads (spec.any (spec.one (given_to given.now) depth) (left tokens.old)) result
+        (left tokens.new) }
 {
     let turns = tokens.len();
     let first = all(given, tokens, depth)?;
@@ -35,7 +36,8 @@ pub(crate) fn any(
 
 #[cycle(condition)]
 fn all(given: &Lookups<'_>, tokens: &mut Cursor<'_>, depth: usize) -> Result<Cond, ExprFault>
-    ensures { Reads (spec.all (spec.one (given_to given.now) depth) (left tokens.old)) result (left tokens.new) }
+    ensures { Reads (spec.all (spec.one (given_to given.now) depth) (left tokens.old)) result
+        (left tokens.new) }
 {
     let turns = tokens.len();
     let first = one(given, tokens, depth)?;
@@ -55,7 +57,8 @@ fn all(given: &Lookups<'_>, tokens: &mut Cursor<'_>, depth: usize) -> Result<Con
 
 #[cycle(condition)]
 fn one(given: &Lookups<'_>, tokens: &mut Cursor<'_>, depth: usize) -> Result<Cond, ExprFault>
-    ensures { Reads (spec.one (given_to given.now) depth (left tokens.old)) result (left tokens.new) }
+    ensures { Reads (spec.one (given_to given.now) depth (left tokens.old)) result
+        (left tokens.new) }
 {
     if depth == 0 {
         return Err(ExprFault::Syntax);
@@ -69,7 +72,9 @@ fn one(given: &Lookups<'_>, tokens: &mut Cursor<'_>, depth: usize) -> Result<Con
 
 #[cycle(condition)]
 fn prim(given: &Lookups<'_>, tokens: &mut Cursor<'_>, depth: usize) -> Result<Cond, ExprFault>
-    ensures { Reads (spec.prim (given_to given.now) (spec.one (given_to given.now) depth) (left tokens.old)) result (left tokens.new) }
+    ensures { Reads
+        (spec.prim (given_to given.now) (spec.one (given_to given.now) depth) (left tokens.old))
+        result (left tokens.new) }
 {
     if !tokens.eat(Mark::LeftRound) {
         return test(given, tokens);

@@ -43,7 +43,8 @@ pub(crate) fn operands(
     given: &Lookups<'_>,
     tokens: &mut Cursor<'_>,
 ) -> Result<OperandList, ExprFault>
-    ensures { Reads (spec.operands (given_to given.now) (left tokens.old)) result (left tokens.new) }
+    ensures { Reads (spec.operands (given_to given.now) (left tokens.old)) result
+        (left tokens.new) }
 {
     let turns = tokens.len();
     let mut found = Items::new(given.alloc);

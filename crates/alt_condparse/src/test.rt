@@ -15,7 +15,8 @@ use alt_expr::{
 /// A condition without NOT, AND, OR and brackets of its own.
 #[tactic(auto, unfolding(alt_expr::specs::CondReader::whole_test))]
 pub(crate) fn test(given: &Lookups<'_>, tokens: &mut Cursor<'_>) -> Result<Cond, ExprFault>
-    ensures { Reads (spec.whole_test (given_to given.now) (left tokens.old)) result (left tokens.new) }
+    ensures { Reads (spec.whole_test (given_to given.now) (left tokens.old)) result
+        (left tokens.new) }
 {
     if tokens.calls("attribute_exists") {
         tokens.skip(2);
@@ -31,7 +32,8 @@ pub(crate) fn test(given: &Lookups<'_>, tokens: &mut Cursor<'_>) -> Result<Cond,
 /// A test that has an operand.
 #[tactic(auto, unfolding(alt_expr::specs::CondReader::operand_test))]
 fn operand_test(given: &Lookups<'_>, tokens: &mut Cursor<'_>) -> Result<Cond, ExprFault>
-    ensures { Reads (spec.operand_test (given_to given.now) (left tokens.old)) result (left tokens.new) }
+    ensures { Reads (spec.operand_test (given_to given.now) (left tokens.old)) result
+        (left tokens.new) }
 {
     if tokens.calls("attribute_type") {
         tokens.skip(2);
@@ -62,7 +64,8 @@ fn kind(given: &Lookups<'_>, tokens: &mut Cursor<'_>) -> Result<Cond, ExprFault>
 
 #[tactic(auto, unfolding(alt_expr::specs::CondReader::pair))]
 fn begins(given: &Lookups<'_>, tokens: &mut Cursor<'_>) -> Result<Cond, ExprFault>
-    ensures { Reads (spec.pair (given_to given.now) cond.BeginsWith (left tokens.old)) result (left tokens.new) }
+    ensures { Reads (spec.pair (given_to given.now) cond.BeginsWith (left tokens.old)) result
+        (left tokens.new) }
 {
     let whole = operand(given, tokens)?;
     tokens.expect(Mark::Comma)?;
@@ -73,7 +76,8 @@ fn begins(given: &Lookups<'_>, tokens: &mut Cursor<'_>) -> Result<Cond, ExprFaul
 
 #[tactic(auto, unfolding(alt_expr::specs::CondReader::pair))]
 fn contains(given: &Lookups<'_>, tokens: &mut Cursor<'_>) -> Result<Cond, ExprFault>
-    ensures { Reads (spec.pair (given_to given.now) cond.Contains (left tokens.old)) result (left tokens.new) }
+    ensures { Reads (spec.pair (given_to given.now) cond.Contains (left tokens.old)) result
+        (left tokens.new) }
 {
     let whole = operand(given, tokens)?;
     tokens.expect(Mark::Comma)?;
@@ -85,7 +89,8 @@ fn contains(given: &Lookups<'_>, tokens: &mut Cursor<'_>) -> Result<Cond, ExprFa
 /// What stands behind the first operand.
 #[tactic(auto, unfolding(alt_expr::specs::CondReader::tail))]
 fn tail(given: &Lookups<'_>, tokens: &mut Cursor<'_>, first: Operand) -> Result<Cond, ExprFault>
-    ensures { Reads (spec.tail (given_to given.now) first (left tokens.old)) result (left tokens.new) }
+    ensures { Reads (spec.tail (given_to given.now) first (left tokens.old)) result
+        (left tokens.new) }
 {
     if let Some(by) = comparison(tokens) {
         tokens.skip(1);
@@ -102,7 +107,8 @@ fn tail(given: &Lookups<'_>, tokens: &mut Cursor<'_>, first: Operand) -> Result<
 
 #[tactic(auto, unfolding(alt_expr::specs::CondReader::between))]
 fn between(given: &Lookups<'_>, tokens: &mut Cursor<'_>, first: Operand) -> Result<Cond, ExprFault>
-    ensures { Reads (spec.between (given_to given.now) first (left tokens.old)) result (left tokens.new) }
+    ensures { Reads (spec.between (given_to given.now) first (left tokens.old)) result
+        (left tokens.new) }
 {
     let low = operand(given, tokens)?;
     tokens.expect_key(Keyword::And)?;
@@ -112,7 +118,8 @@ fn between(given: &Lookups<'_>, tokens: &mut Cursor<'_>, first: Operand) -> Resu
 
 #[tactic(auto, unfolding(alt_expr::specs::CondReader::among, alt_expr::specs::Reader::in_brackets))]
 fn among(given: &Lookups<'_>, tokens: &mut Cursor<'_>, first: Operand) -> Result<Cond, ExprFault>
-    ensures { Reads (spec.among (given_to given.now) first (left tokens.old)) result (left tokens.new) }
+    ensures { Reads (spec.among (given_to given.now) first (left tokens.old)) result
+        (left tokens.new) }
 {
     tokens.expect(Mark::LeftRound)?;
     let members = operands(given, tokens)?;

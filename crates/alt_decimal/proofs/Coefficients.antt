@@ -27,10 +27,12 @@ module _ (whole fraction w f : List ℕ) (behind : ℕ) (t : Trims whole fractio
   all_digits = subst (AllDigits 10) t.digits.1
       (AllDigits-append whole fraction all_whole all_fraction)
 
+  -- what is left of digits that are trimmed are digits
   pub all_trimmed : AllDigits 10 (w ++ f)
   all_trimmed = AllDigits-back (zeros t.digits.0) (w ++ f)
       (AllDigits-front (zeros t.digits.0 ++ (w ++ f)) (zeros behind) all_digits)
 
+  -- the number of all digits is that of the trimmed ones, with the zeros behind them
   pub trimmed_value : digits_value 10 (whole ++ fraction) ≡ digits_value 10 (w ++ f) * 10 ^ behind
   trimmed_value =
       ap (digits_value 10) t.digits.1 ∙ value_zeros_behind (zeros t.digits.0 ++ (w ++ f)) behind
@@ -57,6 +59,7 @@ module _ (whole fraction w f : List ℕ) (behind : ℕ) (t : Trims whole fractio
         width-gt n _ long,
       )
 
+  -- 38 trimmed digits and fewer are a coefficient
   pub coefficient_trimmed : length (w ++ f) ≤ 38
       → IsCoefficient (digits_value 10 (whole ++ fraction)) (digits_value 10 (w ++ f)) behind
   coefficient_trimmed few = record {
@@ -107,6 +110,7 @@ module _ (negative : Bool) (c : ℕ) (few : c < 10 ^ 38) (last : 0 < c % 10) whe
   few_c : digit_count c ≤ 38
   few_c = omega (arith, digit_count-trimmed c last, width-le 38 c few)
 
+  -- an exponent above 0 may be capped at 10^36: the answer is the same
   pub capped_up : (v k d : ℕ) → k < 2 ^ 65 → d < 2 ^ 65
       → fitted (number negative c (k + min v (10 ^ 36)) d) ≡ fitted (number negative c (k + v) d)
   capped_up v k d room_k room_d = elim (cases_lt v (10 ^ 36)) [
@@ -117,6 +121,7 @@ module _ (negative : Bool) (c : ℕ) (few : c < 10 ^ 38) (last : 0 < c % 10) whe
         ∙ sym (fitted-large negative c (k + v) d (omega arith) few_c (omega arith)))
   ]
 
+  -- so may one below 0
   pub capped_down : (v k d : ℕ) → k < 2 ^ 65 → d < 2 ^ 65
       → fitted (number negative c k (min v (10 ^ 36) + d)) ≡ fitted (number negative c k (v + d))
   capped_down v k d room_k room_d = elim (cases_lt v (10 ^ 36)) [
@@ -154,15 +159,18 @@ number_many negative n up down many = elim (cases_lt 0 n) [
 ]
 
 module _ (negative : Bool) (n c k : ℕ) (is : IsCoefficient n c k) where
+  -- a coefficient of 0 is zero, whatever the exponent
   pub number_none : (up down : ℕ) → c ≡ 0 → fitted (number negative n up down) ≡ Ok (pos 0)
   number_none up down z = fitted-zero negative n up down
       (is.value ∙ ap (λ m. m * 10 ^ k) z ∙ zero_times (10 ^ k))
 
+  -- the coefficient, with its zeros in the exponent, stands for the number of all digits
   whole_number : (up down : ℕ) → 0 < c → fitted (number negative c (k + up) down)
       ≡ fitted (number negative n up down)
   whole_number up down above = sym (ap (λ m. fitted (number negative m up down)) is.value
       ∙ fitted-shift negative c k up down (is.last above))
 
+  -- so it does with an exponent below 0 that was capped
   pub number_below : (v places : ℕ) → places < 2 ^ 65 → 0 < c
       → fitted (number negative c k (min v (10 ^ 36) + places))
       ≡ fitted (number negative n 0 (v + places))
@@ -171,6 +179,7 @@ module _ (negative : Bool) (n c k : ℕ) (is : IsCoefficient n c k) where
       ∙ ap (λ up. fitted (number negative c up (v + places))) (sym (plus_none k))
       ∙ whole_number 0 (v + places) above
 
+  -- and with one above 0 that was capped
   pub number_above : (v places : ℕ) → places < 2 ^ 65 → 0 < c
       → fitted (number negative c (k + min v (10 ^ 36)) places)
       ≡ fitted (number negative n v (0 + places))

@@ -17,6 +17,7 @@ module _ (negative : Bool) (first c n : ℕ) (some : 0 < n) (few : n ≤ 19) (be
   small : c < 10 ^ 38
   small = omega (arith, below, ten_pow-le (2 * n) 38 (omega arith))
 
+  -- pairs whose last digit isn't 0 are a number in normal form
   pub normal_even : 0 < c % 10 → IsNormal (record {
     negative = negative;
     coefficient = c;
@@ -26,6 +27,7 @@ module _ (negative : Bool) (first c n : ℕ) (some : 0 < n) (few : n ≤ 19) (be
   normal_even last = IsNormal-from negative c (first + 38 - 2 * n) small last
       (omega (arith, width_c)) (omega (arith, width_c, byte))
 
+  -- and they are read as that number
   pub decodes_even : 0 < c % 10 → Decodes negative first c n
       (with_sign negative (c * 10 ^ (first + 38 - 2 * n)))
   decodes_even last = record {
@@ -38,6 +40,7 @@ module _ (negative : Bool) (first c n : ℕ) (some : 0 < n) (few : n ≤ 19) (be
     digits = inl (refl, width_c);
   }
 
+  -- a number whose last digit is 0 is ten times what stands before that
   ten : c % 10 ≡ 0 → c ≡ c / 10 * 10
   ten none = omega (arith, none)
 
@@ -56,6 +59,7 @@ module _ (negative : Bool) (first c n : ℕ) (some : 0 < n) (few : n ≤ 19) (be
   last_short : c % 10 ≡ 0 → c % 100 ≢ 0 → 0 < c / 10 % 10
   last_short none both = omega (arith, none, both)
 
+  -- pairs whose last digit alone is 0 are a number in normal form, by the digits before it
   pub normal_odd : c % 10 ≡ 0 → c % 100 ≢ 0 → IsNormal
       (record { negative = negative; coefficient = c / 10; zeros = first + 39 - 2 * n })
   normal_odd none both =
@@ -63,6 +67,7 @@ module _ (negative : Bool) (first c n : ℕ) (some : 0 < n) (few : n ≤ 19) (be
       (last_short none both)
       (omega (arith, width_short none)) (omega (arith, width_short none, byte))
 
+  -- and they are read as that number
   pub decodes_odd : c % 10 ≡ 0 → c % 100 ≢ 0 → Decodes negative first c n
       (with_sign negative (c / 10 * 10 ^ (first + 39 - 2 * n)))
   decodes_odd none both = record {

@@ -120,6 +120,7 @@ pub with_sign-nat_abs : (z : ℤ) → with_sign (is_negative z) (nat_abs z) ≡ 
 with_sign-nat_abs (pos n) = rw (not_below_zero n) refl
 with_sign-nat_abs (negsuc n) = refl
 
+-- a magnitude fits
 fitted_units-magnitude : (z : ℤ) → IsMagnitude (nat_abs z) → fitted_units z ≡ Ok z
 fitted_units-magnitude z h =
     let m = nat_abs z in

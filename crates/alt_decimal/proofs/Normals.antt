@@ -44,10 +44,12 @@ magnitude_normal z m =
     let t : Trimmed (nat_abs z) = trimmed_of (nat_abs z) (omega (arith, m.least)) in
     let c = t.coefficient in
     let k = t.behind in
-    let digits : width c ≤ 38 = omega (arith, m.few_digits, ap digit_count t.is, digit_count-mul c k t.last) in
+    let digits : width c ≤ 38 =
+    omega (arith, m.few_digits, ap digit_count t.is, digit_count-mul c k t.last) in
     let few : c < 10 ^ 38 = omega (arith, lt-width c, ten_pow-le (width c) 38 digits) in
     let low : 37 < width c + k = mul-width_gt c k 37 (rw (← t.is) m.least) in
-    let high : width c + k ≤ 293 = mul-width_le c k 293 (omega (arith, t.last)) (rw (← t.is) m.below) in
+    let high : width c + k ≤ 293 =
+    mul-width_le c k 293 (omega (arith, t.last)) (rw (← t.is) m.below) in
     record {
       fields = record { negative = is_negative z; coefficient = c; zeros = k };
       normal = IsNormal-from (is_negative z) c k few t.last low high;
@@ -58,7 +60,8 @@ normal_of : (z : ℤ) → Fits z → Normal z
 normal_of z h = elim h [ inl e ↦ rw e zero_normal | inr m ↦ magnitude_normal z m ]
 
 -- whatever follows it, a spelling is that of one number
-pub spelled_apart : (u v : ℤ) (x y : List ℕ) → Fits u → Fits v → spelled u ++ x ≡ spelled v ++ y → (u ≡ v) × (x ≡ y)
+pub spelled_apart : (u v : ℤ) (x y : List ℕ) → Fits u → Fits v → spelled u ++ x ≡ spelled v ++ y
+    → (u ≡ v) × (x ≡ y)
 spelled_apart u v x y fu fv e =
     let a = normal_of u fu in
     let b = normal_of v fv in
@@ -67,7 +70,8 @@ spelled_apart u v x y fu fv e =
     (same, append_cancel_left (spelled u) x y (e ∙ ap (λ z. spelled z ++ y) (sym same)))
 
 -- numbers lie as their spellings do
-pub spelled_order : (u v : ℤ) → Fits u → Fits v → int_cmp u v ≡ slice_cmp nat_cmp (spelled u) (spelled v)
+pub spelled_order : (u v : ℤ) → Fits u → Fits v
+    → int_cmp u v ≡ slice_cmp nat_cmp (spelled u) (spelled v)
 spelled_order u v fu fv =
     let a = normal_of u fu in
     let b = normal_of v fv in

@@ -38,6 +38,7 @@ nat_cmp-mul m n p h = elim (cases_order m n) [
 pub int_cmp-pos : (m n : ℕ) → int_cmp (pos m) (pos n) ≡ nat_cmp m n
 int_cmp-pos m n = grind arith
 
+-- numbers below 0 lie the other way round than their sizes
 int_cmp-negsuc : (m n : ℕ) → int_cmp (negsuc m) (negsuc n) ≡ nat_cmp (suc n) (suc m)
 int_cmp-negsuc m n = grind arith
 

@@ -21,6 +21,7 @@ use Rattle.alt_decimal.proofs.Layouts.{text_whole, text_split, text_fraction}
 abbrev pub unsigned_text : ℕ → List ℕ
 unsigned_text m = whole_text (m / 10 ^ 167) ++ fraction_text (m % 10 ^ 167)
 
+-- a whole number above 0 is printed by its digits
 whole_text-above : (n : ℕ) → 0 < n → whole_text n ≡ glyphs 48 (padded (width n) n)
 unfolding whole_text
 whole_text-above n h = rw (ne_eqb n 0 (λ z. omega arith)) (ap (glyphs 48) (digits_of-padded n))

@@ -73,6 +73,7 @@ pairs_before (suc n) (b ∷ bs) le h = (
 pub Ends-pairs : (bs : List ℕ) (n : ℕ) → Ends bs n → IsPairs (take n bs)
 Ends-pairs bs n e = pairs_before n bs (omega (arith, e.within)) e.pairs
 
+-- there are as many bytes before the end as its place says
 Ends-length : (bs : List ℕ) (n : ℕ) → Ends bs n → length (take n bs) ≡ n
 Ends-length bs n e = omega (arith, length-take n bs, e.within)
 
@@ -81,6 +82,7 @@ pub Ends-below : (bs : List ℕ) (n : ℕ) → Ends bs n → pairs_value_after 0
 Ends-below bs n e = subst (λ (k : ℕ). pairs_value_after 0 (take n bs) < 10 ^ (2 * k))
     (Ends-length bs n e) (pairs_below (take n bs) (Ends-pairs bs n e))
 
+-- bytes end at one place
 Ends-same : (bs : List ℕ) (m n : ℕ) → Ends bs m → Ends bs n → m ≡ n
 Ends-same bs m n e f = elim (cases_order m n) [
   | inl same ↦ same
@@ -112,6 +114,7 @@ Ends-append ps rest h few = record {
 pub record Filled (t c n : ℕ) : Type 0 where
   pub digits : ((t ≡ c) × (width t ≡ 2 * n)) ⊎ ((c ≡ t * 10) × (width t + 1 ≡ 2 * n))
 
+-- a coefficient has the pairs of its digits, filled to whole pairs
 pairs-Filled : (t c n : ℕ) → 0 < n → ((t ≡ c) × (width t ≡ 2 * n))
     ⊎ ((c ≡ t * 10) × (width t + 1 ≡ 2 * n)) → pairs (digits_of 10 t) ≡ pairs (padded (2 * n) c)
 pairs-Filled t c n some h = elim h [
@@ -206,6 +209,7 @@ module _ (negative : Bool) (first : ℕ) (rest : List ℕ) (c n : ℕ) (z : ℤ)
     below = mul-lt t d.behind 293 (omega (arith, d.place, raw-byte negative first bytes_first));
   }
 
+  -- bytes that were read are the spelling of the number that they were read as
   pub IsSpelledAt-decoded : IsSpelledAt negative (first ∷ rest) z (n + 3)
   IsSpelledAt-decoded = record {
     spelling = ap spelled d.is ∙ spelled-with_sign negative m (mul-pos t_pos (ten_pow_pos d.behind))
@@ -261,6 +265,7 @@ filling t = elim (cases_eq (width t % 2) 0) [
 ]
 
 module _ (t : ℕ) (last : 0 < t % 10) (few : t < 10 ^ 38) (f : Filling t) where
+  -- a coefficient above 0 has a pair
   filled_some : 0 < f.n
   filled_some = elim f.digits [
     | inl h ↦ omega
@@ -268,6 +273,7 @@ module _ (t : ℕ) (last : 0 < t % 10) (few : t < 10 ^ 38) (f : Filling t) where
     | inr h ↦ omega (arith, h.1)
   ]
 
+  -- one below 10^38 has at most 19 pairs
   pub filled_few : f.n ≤ 19
   filled_few = elim f.digits [
     | inl h ↦ omega (arith, h.1, width-le 38 t few)
@@ -275,12 +281,14 @@ module _ (t : ℕ) (last : 0 < t % 10) (few : t < 10 ^ 38) (f : Filling t) where
         (arith, h.1, width-le 38 t few)
   ]
 
+  -- the filled coefficient has no more digits than its pairs
   filled_below : f.c < 10 ^ (2 * f.n)
   filled_below = elim f.digits [
     | inl h ↦ rw (← h.0, ← h.1) (lt-width t)
     | inr h ↦ rw (← h.1, h.0) (omega (arith, lt-width t, pow-add 10 (width t) 1))
   ]
 
+  -- the pairs are whole: the first isn't 0, nor is the last
   pub filled_whole : IsWhole f.c f.n
   filled_whole = elim f.digits [
     | inl h ↦
@@ -303,6 +311,7 @@ module _ (t : ℕ) (last : 0 < t % 10) (few : t < 10 ^ 38) (f : Filling t) where
         }
   ]
 
+  -- the pairs are those of the filled coefficient
   pub filled_pairs : AreOf f.n f.c (pairs (digits_of 10 t))
   filled_pairs = rw (pairs-Filled t f.c f.n filled_some f.digits) (pairs_of f.n f.c filled_below)
 
@@ -319,12 +328,15 @@ module _ (t : ℕ) (last : 0 < t % 10) (few : t < 10 ^ 38) (f : Filling t) where
   ]
 
 module _ (negative : Bool) (m : ℕ) (size : IsMagnitude m) (t : Trimmed m) where
+  -- the coefficient of the magnitude
   abbrev pub co : ℕ
   co = t.coefficient
 
+  -- the zeros behind it
   abbrev pub be : ℕ
   be = t.behind
 
+  -- it is above 0
   co_pos : 0 < co
   co_pos = omega (arith, t.last)
 
@@ -344,25 +356,31 @@ module _ (negative : Bool) (m : ℕ) (size : IsMagnitude m) (t : Trimmed m) wher
       ) in
       omega (arith, lt-width co, ten_pow-le (width co) 38 short)
 
+  -- the coefficient filled to whole pairs
   abbrev pub fill : Filling co
   fill = filling co
 
+  -- these pairs
   abbrev pub ps : List ℕ
   ps = pairs (digits_of 10 co)
 
+  -- the place of the first digit, as its byte has it
   abbrev pub place : ℕ
   place = width co + be - 38
 
+  -- the bytes of the magnitude are its place, its pairs and a 0
   bytes_of : magnitude_bytes m ≡ place ∷ (ps ++ 0 ∷ [])
   bytes_of = ap magnitude_bytes t.is ∙ magnitude_bytes-mul co be t.last
 
   are : AreOf fill.n fill.c ps
   are = filled_pairs co t.last few_co fill
 
+  -- with the byte of the sign it is three bytes longer than its pairs
   pub length-magnitude : 1 + length (magnitude_bytes m) ≡ fill.n + 3
   length-magnitude = ap (λ bs. 1 + length bs) bytes_of
       ∙ omega (arith, length-append ps (0 ∷ []), are.count)
 
+-- pairs and a 0 behind them are bytes
 Bytes-pairs : (ps : List ℕ) → IsPairs ps → Bytes (ps ++ 0 ∷ [])
 Bytes-pairs [] h = (omega arith, tt)
 Bytes-pairs (p ∷ ps) h = (omega (arith, h.0), Bytes-pairs ps h.1)
@@ -394,6 +412,7 @@ module _ (negative : Bool) (m : ℕ) (size : IsMagnitude m) (t : Trimmed m) (b :
       (Bytes-pairs digits_ps held_are.all))
       ∙ append_assoc digits_ps (0 ∷ []) (raws negative rest)
 
+  -- the bytes at hand end behind these pairs
   pub ends : Ends (raws negative bs) held.n
   ends =
       let few : length digits_ps ≤ 19 = omega (
@@ -405,6 +424,7 @@ module _ (negative : Bool) (m : ℕ) (size : IsMagnitude m) (t : Trimmed m) (b :
       rw tail_is (subst (λ (n : ℕ). Ends (digits_ps ++ 0 ∷ raws negative rest) n) held_are.count
       (Ends-append digits_ps (raws negative rest) held_are.all few))
 
+  -- the number of the pairs before the end is the filled coefficient
   value_of : pairs_value_after 0 (take held.n (raws negative bs)) ≡ held.c
   value_of =
       ap (λ ts. pairs_value_after 0 (take held.n ts)) tail_is

@@ -367,6 +367,7 @@ module _ (text : List ℕ) where
   abbrev tail : List ℕ
   tail = behind_digits rest
 
+  -- the parts that the reader finds, with this exponent
   abbrev pub parts_with : Option Exponent → NumberText
   parts_with e = record {
     sign = sign_of text;
@@ -376,6 +377,7 @@ module _ (text : List ℕ) where
     exponent = e;
   }
 
+  -- a text is the text of its parts
   text_parts : (e : Option Exponent) → ExponentParts (behind_fraction tail) e
       → text ≡ text_of (parts_with e)
   text_parts e p =
@@ -402,6 +404,7 @@ module _ (text : List ℕ) where
         | inr e ↦ rw (e, broken) refl
       ])
 
+  -- with a digit and an exponent that is one, the text reads as what its parts stand for
   pub ReadsAs-parts : (e : Option Exponent) (answer : Result ℤ NumberFault)
       → exponent_of (behind_fraction tail) ≡ Some e
       → 0 < length (front_digits rest) + length (fraction_digits (fraction_of tail))
@@ -433,13 +436,16 @@ module _ (text r1 whole r2 fraction r3 : List ℕ) (e1 : r1 ≡ behind_sign text
   end_is : r3 ≡ behind_fraction (tail text)
   end_is = e5 ∙ ap behind_fraction tail_is
 
+  -- the same where the calls found no digit
   pub found_empty : length whole ≡ 0 → length fraction ≡ 0 → ReadsAs text (Err NotANumber)
   found_empty no_whole no_fraction = ReadsAs-empty text (sym (ap length whole_is) ∙ no_whole)
       (sym (ap length fraction_is) ∙ no_fraction)
 
+  -- the same where they found no exponent behind the digits
   pub found_broken : exponent_of r3 ≡ None → ReadsAs text (Err NotANumber)
   found_broken broken = ReadsAs-broken text (ap exponent_of (sym end_is) ∙ broken)
 
+  -- the number that they found, with this exponent
   abbrev pub found_number : Option Exponent → Number
   found_number e = record {
     negative = is_minus (sign_of text);
@@ -448,10 +454,12 @@ module _ (text r1 whole r2 fraction r3 : List ℕ) (e1 : r1 ≡ behind_sign text
     down = (if below_of e then digits_value 10 (exponent_digits e) else 0) + length fraction;
   }
 
+  -- it is the one that the parts stand for
   same_number : (e : Option Exponent) → found_number e ≡ denoted (parts_with text e)
   same_number None = rw (← whole_is, ← fraction_is) refl
   same_number (Some e) = rw (← whole_is, ← fraction_is) refl
 
+  -- a text reads as the number of what the calls found in it
   pub found : (negative below : Bool) (digits : List ℕ) (answer : Result ℤ NumberFault)
       → negative ≡ is_minus (sign_of text)
       → ExponentIs (exponent_of r3) below digits → 0 < length whole + length fraction

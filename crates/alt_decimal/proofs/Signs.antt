@@ -44,6 +44,7 @@ scaled_same true true x y s p h e = rw e (omega (arith, ints))
 scaled_same false true x y s p h e = cc
 scaled_same true false x y s p h e = cc
 
+-- signs that are told to differ do
 beq-unlike : (a b : Bool) → beq a b ≡ false → a ≢ b
 beq-unlike false false h e = cc
 beq-unlike true true h e = cc

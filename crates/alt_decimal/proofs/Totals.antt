@@ -59,6 +59,7 @@ many_widened an a (suc k) bn b z few_a few_b last long = elim (cases_Bool (beq a
   | inr unlike ↦ many_unlike an a k bn b z unlike last (omega (arith, long))
 ]
 
+-- signs that are the same are told to be
 beq-same : (a b : Bool) → a ≡ b → beq a b ≡ true
 beq-same false false e = refl
 beq-same true true e = refl

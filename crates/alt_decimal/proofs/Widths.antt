@@ -68,6 +68,7 @@ pub case_pos : (n : ℕ) → 0 < n → (w : ℕ) × (n ≡ suc w)
 case_pos zero h = absurd (omega arith)
 case_pos (suc w) h = (w, refl)
 
+-- zeros behind a number that has digits make it longer by as many
 width-mul_from : (a k w : ℕ) → width a ≡ suc w → width (a * 10 ^ k) ≡ width a + k
 width-mul_from a k w e =
     let low : 10 ^ w * 10 ^ k ≤ a * 10 ^ k = mul-le-mul_right (10 ^ k) (width-low a w e) in

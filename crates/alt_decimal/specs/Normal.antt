@@ -84,6 +84,7 @@ fields_of-zero d n h =
     rw z refl in
     e ∙ same_fields d false 0 0 (sym (n.zero_sign h)) (sym h) (sym (n.zero_zeros h))
 
+-- nor is there another for a number that isn't zero
 fields_of-above : (d : Inside) → IsNormal d → 0 < d.coefficient → fields_of (units_of d) ≡ d
 unfolding fields_of
 fields_of-above d n h =

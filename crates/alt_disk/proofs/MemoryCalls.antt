@@ -102,6 +102,7 @@ last_call calls new m n fa fb ra rb timed stays last same reads later rose =
 
 module _ (calls : List Made) (m fa fb ra rb : ℕ) (made : Made) (timed : All (Timed m) calls)
     (at_end : made.time ≡ m + 1) where
+  -- what was made before, with this call behind it
   abbrev pushed : List Made
   pushed = calls ++ made ∷ []
 

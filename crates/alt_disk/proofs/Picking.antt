@@ -14,6 +14,7 @@ opened-nothing zero (suc n) (k ∷ known) none = absurd (omega (arith, none))
 opened-nothing (suc a) n (k ∷ known) none = ap (λ (l : List (Option ℕ)). k ∷ l)
     (opened-nothing a n known none)
 
+-- where one place more is opened, behind those that are open, one more of them is
 set-opened : (known : List (Option ℕ)) (a n i m : ℕ) → i ≡ a + n → m ≡ n + 1 → i < length known
     → slice_set (opened a n known) i None ≡ opened a m known
 set-opened [] a n i m is more below = absurd (omega (arith, below))
@@ -53,6 +54,7 @@ opened-within (k ∷ known) (suc at) n (suc from) m is_from is_m =
     ap (λ (l : List (Option ℕ)). k ∷ l) (opened-within known at n from m (omega (arith, is_from))
     (omega (arith, is_m)))
 
+-- the open bytes from a place on begin with one that isn't known
 open-more : (n c : ℕ) → c < n → open_bytes (n - c) ≡ None ∷ open_bytes (n - (c + 1))
 open-more n c less = let e : n - c ≡ suc (n - (c + 1)) = omega (arith, less) in ap open_bytes e
 

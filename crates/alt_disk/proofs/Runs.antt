@@ -3,7 +3,12 @@ use Rattle.std.proofs.Common.{◌&&◌, IsTrue, ◌≡◌, ◌≢◌, ◌⊎◌,
 use Rattle.alt_base.specs.Counts.{next_moment}
 use Rattle.alt_disk.specs.Fates.{Fates, Fits}
 use Rattle.alt_disk.specs.Disk.{DiskState, Goes, Call, Others, Same, Synced, IsTrusted, now}
-use Rattle.alt_disk.specs.Runs.{Run, RunSoFar, Spans, Quiet}
+use Rattle.alt_disk.specs.Runs.{Run, Spans, Quiet}
+
+-- A run so far, and what a stop now leaves of its file.
+pub record RunSoFar (old new : DiskState) (f : ℕ) (P : ℕ → Option (List ℕ) → Type 0) : Type 0 where
+  pub run : Run old new f P
+  pub here : (left : Option (List ℕ)) → Fits (now new f) left → P new.moment left
 
 -- a moment up to the end of one call is up to its start, or is its end
 at_or_before : (t m n : ℕ) → t ≤ n → n ≤ next_moment m → m ≤ n → (t ≤ m) ⊎ (t ≡ n)

@@ -24,9 +24,11 @@ module _ (f : ℕ) (bytes : Vec ℕ Global) where
   abbrev pub written_call : Made
   written_call = record { time = 0; file = f; deed = Write 0 bytes }
 
+  -- the second of the two calls: a sync of what was written
   abbrev pub synced_call : Made
   synced_call = record { time = 0; file = f; deed = Sync }
 
+  -- a write of all bytes and a sync behind it leave these bytes, whatever stood before
   settles : after Sync (after (Write 0 bytes) nothing) ≡ settled (Some bytes.items)
   settles = ap (λ (l : List ℕ). settled (Some l)) (overwritten-nil bytes.items)
 

@@ -49,6 +49,7 @@ synced_settled s f bytes there kept = λ left fits. synced_fits bytes left
     (subst (λ (x : Fates). Fits x left) kept fits) ∙ sym there
 
 module _ (front back : List ℕ) (at n : ℕ) (is : at ≡ length front) where
+  -- what a write behind the front may leave: a file that still begins with it
   abbrev Left : Option (List ℕ) → Type 0
   Left left = (l : List ℕ) × (left ≡ Some l) × Begins front l
 

@@ -13,11 +13,6 @@ pub record Run (old new : DiskState) (f : ℕ) (P : ℕ → Option (List ℕ) �
   pub each : (t : ℕ) (left : Option (List ℕ)) → old.moment ≤ t → t ≤ new.moment
       → Fits (new.fates t f) left → P t left
 
--- A run so far, and what a stop now leaves of its file.
-pub record RunSoFar (old new : DiskState) (f : ℕ) (P : ℕ → Option (List ℕ) → Type 0) : Type 0 where
-  pub run : Run old new f P
-  pub here : (left : Option (List ℕ)) → Fits (now new f) left → P new.moment left
-
 -- The same of several files and whole images: the files that aren't touched stay at each moment, and each image on the way has P
 -- of its moment.
 pub record Spans (old new : DiskState) (touched : ℕ → Type 0)

@@ -24,6 +24,7 @@ module _ (now : State → Type 0) (s : State) (outcome : Outcome) where
     subst (λ atoms. now (last_state s atoms)) h.unwritten h.answered.state,
   )
 
+  -- what was carried out settles the request: its answer as it is, its refusal as it is told
   pub settled : (carried : Result Reply Stop) (told : Result Reply TableFault)
       → Does now s outcome carried → Tells carried told → Settles now s outcome told
   settled (Ok reply) told h is = subst (Settles now s outcome) (sym is) h

@@ -31,7 +31,8 @@ on_streams operation = if is_on_streams operation then Some operation else None
 
 -- the built operation whose name stands behind this version, where it passes
 abbrev pub behind : List ℕ → (Operation → Option Operation) → List ℕ → Option Operation
-behind version passes target = option_and_then passes (operation_named (drop (length version) target))
+behind version passes target =
+    option_and_then passes (operation_named (drop (length version) target))
 
 -- a text begins with this version
 abbrev pub begins : List ℕ → List ℕ → Bool

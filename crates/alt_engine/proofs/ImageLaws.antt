@@ -52,6 +52,7 @@ pub reads_past : (s : DiskState) (e : Engine) (l : Layout) → Reads s e l → I
 reads_past s e l reads = subst IsPast (sym reads.is)
     (is_past no_rows reads.writes no_rows_past reads.rising)
 
+-- an engine that stands is past all numbers that its layout names
 pub stands_past : (s : DiskState) (e : Engine) (l : Layout) → Stands s e l → IsPast l
 stands_past s e l stands = reads_past s e l stands.reads
 
@@ -163,6 +164,7 @@ module _ (old new : Engine) (log : SameLog old.log new.log) (next : next_of new 
     rows = λ f k. rows f k ∙ reads.rows f k;
   }
 
+  -- an engine with the same files and the same memory is the same engine
   pub same_engine : SameEngine old new
   same_engine = record {
     next = next;

@@ -21,7 +21,8 @@ pub row_after-push : (rs : List NewRow) (r : NewRow) (f : ℕ) (k : List ℕ) (b
     → row_after (rs ++ r ∷ []) f k before ≡ row_after rs f k (row_after (r ∷ []) f k before)
 row_after-push [] r f k before = refl
 row_after-push (x ∷ xs) r f k before =
-    ap (λ rest. if x.family == f then (if eq_by_cmp key_cmp k x.key then option_and_then as_shown x.row else rest) else rest)
+    ap (λ rest. if x.family == f
+    then (if eq_by_cmp key_cmp k x.key then option_and_then as_shown x.row else rest) else rest)
     (row_after-push xs r f k before)
 
 -- the test of two keys tells equal ones
@@ -102,7 +103,8 @@ pub put_shown : (key k : List ℕ) (row : Option Columns) (m : Columns)
     (old new : List ℕ → Option Columns)
     → ((q : List ℕ) → new q ≡ cond (is_eq (key_cmp key q)) (Some m) (old q))
     → as_shown m ≡ option_and_then as_shown row
-    → option_and_then as_shown (new k) ≡ (if eq_by_cmp key_cmp k key then option_and_then as_shown row
+    → option_and_then as_shown (new k)
+    ≡ (if eq_by_cmp key_cmp k key then option_and_then as_shown row
     else option_and_then as_shown (old k))
 put_shown key k row m old new is shows =
     ap (option_and_then as_shown) (is k

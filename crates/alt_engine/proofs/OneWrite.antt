@@ -75,7 +75,8 @@ cells_apart (a ∷ es) (b ∷ fs) x y h k n e =
         ∙ append_assoc (field a.0) (value_bytes a.1) (cells_bytes es ++ x)
 
 -- two bytes that say whether a row is cleared
-pub clear_apart : (a b : Bool) (x y : List ℕ) → clear_byte a ∷ x ≡ clear_byte b ∷ y → (a ≡ b) × (x ≡ y)
+pub clear_apart : (a b : Bool) (x y : List ℕ) → clear_byte a ∷ x ≡ clear_byte b ∷ y
+    → (a ≡ b) × (x ≡ y)
 clear_apart true true x y e = (refl, ap (drop 1) e)
 clear_apart false false x y e = (refl, ap (drop 1) e)
 clear_apart true false x y e = let no : 1 ∷ x ≡ 0 ∷ y = e in cc no

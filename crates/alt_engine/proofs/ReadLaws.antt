@@ -133,6 +133,7 @@ module _ (count : ℕ) (done : List (List ℕ × Option (List ℕ))) (bytes rest
 -- ---- a change
 
 module _ (bytes : List ℕ) where
+  -- where no family is named there is no change
   pub no_change-family : NoFamily bytes → NoChange bytes
   no_change-family non d y h e = non d.family _ h.family (e ∙ change_pieces d y)
 
@@ -158,10 +159,12 @@ module _ (bytes : List ℕ) where
         pub no_change-flag : NoFlag flagged → NoChange bytes
         no_change-flag non d y h e = non d.clear _ (behind_key d y h e)
 
-        module _ (clear : Bool) (counted : List ℕ) (flag : flagged ≡ clear_byte clear ∷ counted) where
+        module _ (clear : Bool) (counted : List ℕ)
+            (flag : flagged ≡ clear_byte clear ∷ counted) where
           behind_flag : (d : RowChange) (y : List ℕ) → IsHeldChange d → bytes ≡ change_bytes d ++ y
               → counted ≡ to_be_bytes w64 (length d.cells) ++ (cells_bytes d.cells ++ y)
-          behind_flag d y h e = (clear_apart clear d.clear counted _ (sym flag ∙ behind_key d y h e)).1
+          behind_flag d y h e =
+              (clear_apart clear d.clear counted _ (sym flag ∙ behind_key d y h e)).1
 
           pub no_change-count : NoNumber counted → NoChange bytes
           no_change-count non d y h e = non (length d.cells) _ h.count (behind_flag d y h e)
@@ -170,7 +173,8 @@ module _ (bytes : List ℕ) where
               (told : counted ≡ to_be_bytes w64 count ++ listed) where
             pub no_change-cells : NoCells count listed → NoChange bytes
             no_change-cells non d y h e =
-                let parts = eight_apart count (length d.cells) listed (cells_bytes d.cells ++ y) fits
+                let parts = eight_apart count (length d.cells) listed
+                (cells_bytes d.cells ++ y) fits
                 h.count (sym told ∙ behind_flag d y h e) in
                 non d.cells y h.cells (sym parts.0) parts.1
 
@@ -252,6 +256,7 @@ same_behind (a ∷ done) (b ∷ cs) rest y h k n e =
 -- ---- a write
 
 module _ (least : ℕ) (bytes : List ℕ) where
+  -- where no number stands there is no write
   pub no_write-number : NoNumber bytes → IsNoWrite least bytes
   unfolding write_bytes
   no_write-number non w h later e =

@@ -69,7 +69,8 @@ has_version s l entries is reads ends = record {
 }
 
 -- damaged versions explain a store
-pub versions_explain : (s : DiskState) (l : GateLog) (entries : List (List ℕ)) (fault : RecoverFault)
+pub versions_explain : (s : DiskState) (l : GateLog) (entries : List (List ℕ))
+    (fault : RecoverFault)
     → file_of l ≡ versions_file → LogReads s l entries → ExplainsVersion entries fault
     → ExplainsStore s.file fault
 versions_explain s l entries (Damaged file at) is reads h = ⊎_elim
@@ -321,6 +322,7 @@ pub on_ok : {A E : Type 0} (r : Result A E) (P Q : Type 0) → (P → Q) → OnO
 on_ok (Ok x) P Q leads ok = leads ok
 on_ok (Err e) P Q leads ok = tt
 
+-- what follows from the one follows of a result that is Ok
 pub if_ok : {A E : Type 0} (r : Result A E) (P Q : A → Type 0) → ((x : A) → P x → Q x) → IfOk r P
     → IfOk r Q
 if_ok (Ok x) P Q leads ok = leads x ok

@@ -69,9 +69,11 @@ module _ {X : Type 0} (f : X → Option Columns) where
           ≡ option_and_then f (cond b (Some e.1) (find key_cmp q es))
       by rest None is false other = rest
       by rest None is true tied = none tied ∙ sym is
-      by rest (Some c) is false other = ap (λ b. cond b (Some c) (find key_cmp q (shown_of f es))) other
+      by rest (Some c) is false other =
+          ap (λ b. cond b (Some c) (find key_cmp q (shown_of f es))) other
           ∙ rest
-      by rest (Some c) is true tied = ap (λ b. cond b (Some c) (find key_cmp q (shown_of f es))) tied
+      by rest (Some c) is true tied =
+          ap (λ b. cond b (Some c) (find key_cmp q (shown_of f es))) tied
           ∙ sym is
 
   -- those in a range of keys
@@ -136,6 +138,7 @@ pub find-lookup : (es : List (List ℕ × Columns)) (k : List ℕ)
 find-lookup [] k = refl
 find-lookup (e ∷ es) k = ap (cond (eq_by_cmp key_cmp k e.0) (Some e.1)) (find-lookup es k)
 
+-- a key that is below all keys of entries is below all entries
 below_keys : (k : List ℕ) (es : List (List ℕ × Columns))
     → AllByRecursion (λ y. key_cmp k y ≡ Less) (map (λ e. e.0) es) → T (below_all key_cmp k es)
 below_keys k [] h = tt
@@ -161,7 +164,8 @@ entries_shown l family es sorted same =
     ∙ sym (get-shown_rows l family q) ∙ get-entries (shown_rows l family) q)
 
 -- a range of such a tree
-pub range_shown : (l : Layout) (family : ℕ) (es : List (List ℕ × Columns)) (low high : Bound (List ℕ))
+pub range_shown : (l : Layout) (family : ℕ) (es : List (List ℕ × Columns))
+    (low high : Bound (List ℕ))
     (forward : Bool) → T (is_sorted key_cmp es)
     → ((key : List ℕ) → option_and_then as_shown (lookup (is_at (key_cmp key)) es)
     ≡ shown l family key)

@@ -96,7 +96,8 @@ abbrev pub entry_by : {X : Type 0} → (X → Option Columns) → List ℕ × X 
 entry_by f e = option_map (λ columns. (e.0, columns)) (f e.1)
 
 -- those of entries
-abbrev pub shown_of : {X : Type 0} → (X → Option Columns) → List (List ℕ × X) → List (List ℕ × Columns)
+abbrev pub shown_of : {X : Type 0} → (X → Option Columns) → List (List ℕ × X)
+    → List (List ℕ × Columns)
 shown_of f es = filter_map (entry_by f) es
 
 -- the rows that a family shows, by key
@@ -114,7 +115,8 @@ rows_between l family from to forward = turned forward
     (entries_between key_cmp (Included from) (end_bound to) (entries (shown_rows l family)))
 
 -- The first key of the least family from one on that shows a row.
-pub record IsFirstShown (rows : ℕ → List ℕ → Option Columns) (family : ℕ) (found : ℕ × List ℕ) : Type 0 where
+pub record IsFirstShown (rows : ℕ → List ℕ → Option Columns) (family : ℕ)
+    (found : ℕ × List ℕ) : Type 0 where
   pub later : family ≤ found.0
   pub shows : rows found.0 found.1 ≢ None
   pub first : (key : List ℕ) → key_cmp key found.1 ≡ Less → rows found.0 key ≡ None

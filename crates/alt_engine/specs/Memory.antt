@@ -14,13 +14,16 @@ row_at rows key = option_and_then as_shown (get key_cmp rows key)
 
 -- what a change makes of its row, by what is shown
 abbrev pub new_row : (ℕ → List ℕ → Option Columns) → RowChange → NewRow
-new_row before c = record { family = c.family; key = c.key; row = written c (before c.family c.key) }
+new_row before c =
+    record { family = c.family; key = c.key; row = written c (before c.family c.key) }
 
 -- what is made of the row of a family and key: the first of it, or else it is as before; one without columns is none
 abbrev pub row_after : List NewRow → ℕ → List ℕ → Option Columns → Option Columns
 row_after [] family key before = before
 row_after (r ∷ rs) family key before =
-    if r.family == family then (if eq_by_cmp key_cmp key r.key then option_and_then as_shown r.row else row_after rs family key
+    if r.family == family
+    then (if eq_by_cmp key_cmp key r.key then option_and_then as_shown r.row
+    else row_after rs family key
     before) else row_after rs family key before
 
 -- whether the map has a place for a row

@@ -38,7 +38,8 @@ pub data IsBadAt (files : ℕ → Option (List ℕ)) (f at : ℕ) : Type 0 where
   -- an entry behind writes with rising numbers is no write with a later one
   no_write : f ≡ entries_file → (writes : List Write) (entry : List ℕ) (behind : List (List ℕ))
       → IsLog first_form (map write_bytes writes ++ entry ∷ behind) (files entries_file)
-      → AllHeld writes → AreRising 1 writes → IsNoWrite (with_writes no_rows writes).next_number entry
+      → AllHeld writes → AreRising 1 writes
+      → IsNoWrite (with_writes no_rows writes).next_number entry
       → at ≡ gate_place first_form (map write_bytes writes ++ entry ∷ behind) (length writes)
       → IsBadAt files f at
 
@@ -96,6 +97,7 @@ pub record IsBadEntry (entries : List (List ℕ)) (at : ℕ) : Type 0 where
   pub none : IsNoWrite (with_writes no_rows writes).next_number entry
   pub place : at ≡ gate_place first_form entries (length writes)
 
+-- why the files aren't those of a store, where the log of the entries itself reads
 abbrev pub ExplainsEntries : List (List ℕ) → RecoverFault → Type 0
 ExplainsEntries entries (Damaged file at) = (file ≡ entries_file) × IsBadEntry entries at
 ExplainsEntries entries Failed = Unit {0}

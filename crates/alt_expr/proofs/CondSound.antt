@@ -25,17 +25,21 @@ use Rattle.alt_expr.specs.CondReader.{joined, joined_from}
 
 -- ---- operands
 
-named_sound : (g : Given) (i : List Tok) (x : Operand) (rest : List Tok) → r.named g i ≡ Some (x, rest) → Derived operand_toks (operand_tree g) i x rest
+named_sound : (g : Given) (i : List Tok) (x : Operand) (rest : List Tok)
+    → r.named g i ≡ Some (x, rest) → Derived operand_toks (operand_tree g) i x rest
 unfolding r.named
 named_sound g i x rest h = elim (either_way (calls (codes "size") i)) [
   | inl seen ↦
       let b = simp seen at h in
       let a = then_some (in_brackets (path g.names) (drop 2 i)) _ _ b in
       let e = some_pair _ _ a.2 in
-      let d = bracketed path_toks (path_tree g.names) (path g.names) (path_sound g.names) (drop 2 i) _ _ a.1 in
+      let d = bracketed path_toks (path_tree g.names) (path g.names) (path_sound g.names)
+      (drop 2 i) _ _ a.1 in
       record {
         by = size d.by;
-        tokens = called (codes "size") i seen ∙ ap (λ t. word (codes "size") ∷ mark m.LeftRound ∷ t) (d.tokens ∙ ap (λ t. (path_toks d.by ++ mark m.RightRound ∷ []) ++ t) e.1);
+        tokens = called (codes "size") i seen
+            ∙ ap (λ t. word (codes "size") ∷ mark m.LeftRound ∷ t)
+            (d.tokens ∙ ap (λ t. (path_toks d.by ++ mark m.RightRound ∷ []) ++ t) e.1);
         stands = sym e.0 ∙ ap o.Size d.stands;
       }
   | inr no_size ↦ elim (either_way (is_call i)) [
@@ -49,9 +53,11 @@ named_sound g i x rest h = elim (either_way (calls (codes "size") i)) [
   ]
 ]
 
-operand_sound : (g : Given) (i : List Tok) (x : Operand) (rest : List Tok) → r.operand g i ≡ Some (x, rest) → Derived operand_toks (operand_tree g) i x rest
+operand_sound : (g : Given) (i : List Tok) (x : Operand) (rest : List Tok)
+    → r.operand g i ≡ Some (x, rest) → Derived operand_toks (operand_tree g) i x rest
 unfolding r.operand
-operand_sound g (colon w ∷ i) x rest h = let e = some_pair (o.Value (value_of g.values w), i) (x, rest) h in record { by = value w; tokens = ap (λ t. colon w ∷ t) e.1; stands = sym e.0 }
+operand_sound g (colon w ∷ i) x rest h = let e = some_pair (o.Value (value_of g.values w), i)
+    (x, rest) h in record { by = value w; tokens = ap (λ t. colon w ∷ t) e.1; stands = sym e.0 }
 operand_sound g i x rest h = named_sound g i x rest h
 
 -- ---- comparisons
@@ -66,17 +72,22 @@ compares m.Greater by h = ap mark_of (some_is c.Greater by h)
 compares m.GreaterEqual by h = ap mark_of (some_is c.GreaterEqual by h)
 compares _ by h = absurd (none_some by h)
 
-comparison_seen : (i : List Tok) (by : Comparison) → r.sees_comparison i ≡ Some by → i ≡ mark (mark_of by) ∷ drop 1 i
+comparison_seen : (i : List Tok) (by : Comparison) → r.sees_comparison i ≡ Some by
+    → i ≡ mark (mark_of by) ∷ drop 1 i
 unfolding r.sees_comparison
 comparison_seen [] by h = absurd (none_some by h)
 comparison_seen (mark mk ∷ i) by h = ap (λ x. mark x ∷ i) (compares mk by h)
 comparison_seen (_ ∷ i) by h = absurd (none_some by h)
 
 -- the tokens behind the first operand of a test
-data Tails (g : Given) (a : OperandPhrase) (i : List Tok) (x : Cond) (rest : List Tok) : Type 0 where
-  tail : (d : TestPhrase) (more : List Tok) → test_toks d ≡ operand_toks a ++ more → i ≡ more ++ rest → x ≡ test_tree g d → Tails g a i x rest
+data Tails (g : Given) (a : OperandPhrase) (i : List Tok) (x : Cond)
+    (rest : List Tok) : Type 0 where
+  tail : (d : TestPhrase) (more : List Tok) → test_toks d ≡ operand_toks a ++ more
+      → i ≡ more ++ rest → x ≡ test_tree g d → Tails g a i x rest
 
-between_sound : (g : Given) (a : OperandPhrase) (i : List Tok) (x : Cond) (rest : List Tok) → sees_key k.Between i ≡ true → r.between g (operand_tree g a) (drop 1 i) ≡ Some (x, rest) → Tails g a i x rest
+between_sound : (g : Given) (a : OperandPhrase) (i : List Tok) (x : Cond) (rest : List Tok)
+    → sees_key k.Between i ≡ true → r.between g (operand_tree g a) (drop 1 i) ≡ Some (x, rest)
+    → Tails g a i x rest
 unfolding r.between
 between_sound g a i x rest seen h =
     let b = then_some (r.operand g (drop 1 i)) _ _ h in
@@ -86,12 +97,18 @@ between_sound g a i x rest seen h =
     let high = operand_sound g _ _ _ v.1 in
     let e = some_pair _ _ v.2 in
     let inner = operand_toks low.by ++ key k.And ∷ operand_toks high.by in
-    let back : b.0.1 ≡ key k.And ∷ (operand_toks high.by ++ rest) = expected_key k.And _ u.0.0 _ u.1 ∙ ap (λ t. key k.And ∷ t) (high.tokens ∙ ap (λ t. operand_toks high.by ++ t) e.1) in
+    let back : b.0.1 ≡ key k.And ∷ (operand_toks high.by ++ rest) = expected_key k.And _ u.0.0 _ u.1
+    ∙ ap (λ t. key k.And ∷ t) (high.tokens ∙ ap (λ t. operand_toks high.by ++ t) e.1) in
     tail (between a low.by high.by) (key k.Between ∷ inner) refl
-    (key_seen k.Between i seen ∙ ap (λ t. key k.Between ∷ t) (low.tokens ∙ ap (λ t. operand_toks low.by ++ t) back ∙ sym (append_assoc (operand_toks low.by) (key k.And ∷ operand_toks high.by) rest)))
-    (sym e.0 ∙ ap (λ t. cond.Between (operand_tree g a) t v.0.0) low.stands ∙ ap (λ t. cond.Between (operand_tree g a) (operand_tree g low.by) t) high.stands)
+    (key_seen k.Between i seen ∙ ap (λ t. key k.Between ∷ t)
+    (low.tokens ∙ ap (λ t. operand_toks low.by ++ t) back
+    ∙ sym (append_assoc (operand_toks low.by) (key k.And ∷ operand_toks high.by) rest)))
+    (sym e.0 ∙ ap (λ t. cond.Between (operand_tree g a) t v.0.0) low.stands
+    ∙ ap (λ t. cond.Between (operand_tree g a) (operand_tree g low.by) t) high.stands)
 
-among_sound : (g : Given) (a : OperandPhrase) (i : List Tok) (x : Cond) (rest : List Tok) → sees_key k.Among i ≡ true → r.among g (operand_tree g a) (drop 1 i) ≡ Some (x, rest) → Tails g a i x rest
+among_sound : (g : Given) (a : OperandPhrase) (i : List Tok) (x : Cond) (rest : List Tok)
+    → sees_key k.Among i ≡ true → r.among g (operand_tree g a) (drop 1 i) ≡ Some (x, rest)
+    → Tails g a i x rest
 unfolding r.among in_brackets
 among_sound g a i x rest seen h =
     let u = then_some (expect m.LeftRound (drop 1 i)) _ _ h in
@@ -99,23 +116,31 @@ among_sound g a i x rest seen h =
     let s = then_some (r.operands g u.0.1) _ _ v.1 in
     let t = then_some (expect m.RightRound s.0.1) _ _ s.2 in
     let f = some_pair _ _ t.2 in
-    let l = listed_sound operand_toks (operand_tree g) (r.operand g) (operand_sound g) u.0.1 s.0.0 s.0.1 s.1 in
+    let l = listed_sound operand_toks (operand_tree g) (r.operand g)
+    (operand_sound g) u.0.1 s.0.0 s.0.1 s.1 in
     let e = some_pair _ _ v.2 in
-    let close : s.0.1 ≡ mark m.RightRound ∷ rest = expected m.RightRound _ t.0.0 _ t.1 ∙ ap (λ z. mark m.RightRound ∷ z) (f.1 ∙ e.1) in
+    let close : s.0.1 ≡ mark m.RightRound ∷ rest = expected m.RightRound _ t.0.0 _ t.1
+    ∙ ap (λ z. mark m.RightRound ∷ z) (f.1 ∙ e.1) in
     let list = operands_toks l.first l.others in
-    tail (among a l.first l.others) (key k.Among ∷ mark m.LeftRound ∷ (list ++ mark m.RightRound ∷ [])) refl
+    tail (among a l.first l.others)
+    (key k.Among ∷ mark m.LeftRound ∷ (list ++ mark m.RightRound ∷ [])) refl
     (key_seen k.Among i seen ∙ ap (λ z. key k.Among ∷ z)
-    (expected m.LeftRound _ u.0.0 _ u.1 ∙ ap (λ z. mark m.LeftRound ∷ z) (l.tokens ∙ ap (λ z. list ++ z) close ∙ sym (append_assoc list (mark m.RightRound ∷ []) rest))))
+    (expected m.LeftRound _ u.0.0 _ u.1 ∙ ap (λ z. mark m.LeftRound ∷ z)
+    (l.tokens ∙ ap (λ z. list ++ z) close
+    ∙ sym (append_assoc list (mark m.RightRound ∷ []) rest))))
     (sym e.0 ∙ ap (cond.Among (operand_tree g a)) (sym f.0 ∙ l.stands))
 
-compared_sound : (g : Given) (a : OperandPhrase) (i : List Tok) (by : Option Comparison) (x : Cond) (rest : List Tok) → r.sees_comparison i ≡ by → r.compared g (operand_tree g a) by i ≡ Some (x, rest) → Tails g a i x rest
+compared_sound : (g : Given) (a : OperandPhrase) (i : List Tok) (by : Option Comparison) (x : Cond)
+    (rest : List Tok) → r.sees_comparison i ≡ by
+    → r.compared g (operand_tree g a) by i ≡ Some (x, rest) → Tails g a i x rest
 unfolding after_key
 compared_sound g a i (Some by) x rest is h =
     let b = then_some (r.operand g (drop 1 i)) _ _ h in
     let d = operand_sound g _ _ _ b.1 in
     let e = some_pair _ _ b.2 in
     tail (compared a by d.by) (mark (mark_of by) ∷ operand_toks d.by) refl
-    (comparison_seen i by is ∙ ap (λ t. mark (mark_of by) ∷ t) (d.tokens ∙ ap (λ t. operand_toks d.by ++ t) e.1))
+    (comparison_seen i by is ∙ ap (λ t. mark (mark_of by) ∷ t)
+    (d.tokens ∙ ap (λ t. operand_toks d.by ++ t) e.1))
     (sym e.0 ∙ ap (λ t. cond.Compare by (operand_tree g a) t) d.stands)
 compared_sound g a i None x rest is h = elim (either_way (sees_key k.Between i)) [
   | inl seen ↦ between_sound g a i x rest seen (simp seen at h)
@@ -125,23 +150,27 @@ compared_sound g a i None x rest is h = elim (either_way (sees_key k.Between i))
   ]
 ]
 
-tail_sound : (g : Given) (i : List Tok) (a : OperandPhrase) (x : Cond) (rest now : List Tok) → i ≡ operand_toks a ++ now → Tails g a now x rest → Derived test_toks (test_tree g) i x rest
+tail_sound : (g : Given) (i : List Tok) (a : OperandPhrase) (x : Cond) (rest now : List Tok)
+    → i ≡ operand_toks a ++ now → Tails g a now x rest → Derived test_toks (test_tree g) i x rest
 tail_sound g i a x rest now is (tail d more toks left stands) =
     record { by = d; tokens = is ∙ ap (λ t. operand_toks a ++ t) left ∙ sym (append_assoc (operand_toks a) more rest) ∙ ap (λ t. t ++ rest) (sym toks); stands = stands }
 
 -- ---- functions
 
 -- two parts with a comma between, and the bracket behind them
-comma_found : (xs ys rest : List Tok) → xs ++ mark m.Comma ∷ (ys ++ mark m.RightRound ∷ rest) ≡ ((xs ++ mark m.Comma ∷ ys) ++ mark m.RightRound ∷ []) ++ rest
+comma_found : (xs ys rest : List Tok) → xs ++ mark m.Comma ∷ (ys ++ mark m.RightRound ∷ rest)
+    ≡ ((xs ++ mark m.Comma ∷ ys) ++ mark m.RightRound ∷ []) ++ rest
 comma_found xs ys rest = sym (simp append_assoc)
 
-record TwoOperands (g : Given) (f : Operand → Operand → Cond) (i : List Tok) (x : Cond) (rest : List Tok) : Type 0 where
+record TwoOperands (g : Given) (f : Operand → Operand → Cond) (i : List Tok) (x : Cond)
+    (rest : List Tok) : Type 0 where
   a : OperandPhrase
   b : OperandPhrase
   tokens : i ≡ ((operand_toks a ++ mark m.Comma ∷ operand_toks b) ++ mark m.RightRound ∷ []) ++ rest
   stands : x ≡ f (operand_tree g a) (operand_tree g b)
 
-pair_sound : (g : Given) (f : Operand → Operand → Cond) (i : List Tok) (x : Cond) (rest : List Tok) → r.pair g f i ≡ Some (x, rest) → TwoOperands g f i x rest
+pair_sound : (g : Given) (f : Operand → Operand → Cond) (i : List Tok) (x : Cond) (rest : List Tok)
+    → r.pair g f i ≡ Some (x, rest) → TwoOperands g f i x rest
 unfolding r.pair
 pair_sound g f i x rest h =
     let s = then_some (r.operand g i) _ _ h in
@@ -151,13 +180,16 @@ pair_sound g f i x rest h =
     let b = operand_sound g _ _ _ u.1 in
     let v = then_some (expect m.RightRound u.0.1) _ _ u.2 in
     let e = some_pair _ _ v.2 in
-    let close : u.0.1 ≡ mark m.RightRound ∷ rest = expected m.RightRound _ v.0.0 _ v.1 ∙ ap (λ z. mark m.RightRound ∷ z) e.1 in
+    let close : u.0.1 ≡ mark m.RightRound ∷ rest = expected m.RightRound _ v.0.0 _ v.1
+    ∙ ap (λ z. mark m.RightRound ∷ z) e.1 in
     let comma : s.0.1 ≡ mark m.Comma ∷ (operand_toks b.by ++ mark m.RightRound ∷ rest) =
-    expected m.Comma _ t.0.0 _ t.1 ∙ ap (λ z. mark m.Comma ∷ z) (b.tokens ∙ ap (λ z. operand_toks b.by ++ z) close) in
+    expected m.Comma _ t.0.0 _ t.1 ∙ ap (λ z. mark m.Comma ∷ z)
+    (b.tokens ∙ ap (λ z. operand_toks b.by ++ z) close) in
     record {
       a = a.by;
       b = b.by;
-      tokens = a.tokens ∙ ap (λ z. operand_toks a.by ++ z) comma ∙ comma_found (operand_toks a.by) (operand_toks b.by) rest;
+      tokens = a.tokens ∙ ap (λ z. operand_toks a.by ++ z) comma
+          ∙ comma_found (operand_toks a.by) (operand_toks b.by) rest;
       stands = sym e.0 ∙ ap (λ z. f z u.0.0) a.stands ∙ ap (f (operand_tree g a.by)) b.stands;
     }
 
@@ -167,7 +199,8 @@ record PathAndOperand (g : Given) (i : List Tok) (x : Cond) (rest : List Tok) : 
   tokens : i ≡ ((path_toks p ++ mark m.Comma ∷ operand_toks a) ++ mark m.RightRound ∷ []) ++ rest
   stands : x ≡ cond.HasKind (path_tree g.names p) (operand_tree g a)
 
-kind_sound : (g : Given) (i : List Tok) (x : Cond) (rest : List Tok) → r.kind g i ≡ Some (x, rest) → PathAndOperand g i x rest
+kind_sound : (g : Given) (i : List Tok) (x : Cond) (rest : List Tok) → r.kind g i ≡ Some (x, rest)
+    → PathAndOperand g i x rest
 unfolding r.kind
 kind_sound g i x rest h =
     let s = then_some (path g.names i) _ _ h in
@@ -177,27 +210,36 @@ kind_sound g i x rest h =
     let b = operand_sound g _ _ _ u.1 in
     let v = then_some (expect m.RightRound u.0.1) _ _ u.2 in
     let e = some_pair _ _ v.2 in
-    let close : u.0.1 ≡ mark m.RightRound ∷ rest = expected m.RightRound _ v.0.0 _ v.1 ∙ ap (λ z. mark m.RightRound ∷ z) e.1 in
+    let close : u.0.1 ≡ mark m.RightRound ∷ rest = expected m.RightRound _ v.0.0 _ v.1
+    ∙ ap (λ z. mark m.RightRound ∷ z) e.1 in
     let comma : s.0.1 ≡ mark m.Comma ∷ (operand_toks b.by ++ mark m.RightRound ∷ rest) =
-    expected m.Comma _ t.0.0 _ t.1 ∙ ap (λ z. mark m.Comma ∷ z) (b.tokens ∙ ap (λ z. operand_toks b.by ++ z) close) in
+    expected m.Comma _ t.0.0 _ t.1 ∙ ap (λ z. mark m.Comma ∷ z)
+    (b.tokens ∙ ap (λ z. operand_toks b.by ++ z) close) in
     record {
       p = p.by;
       a = b.by;
-      tokens = p.tokens ∙ ap (λ z. path_toks p.by ++ z) comma ∙ comma_found (path_toks p.by) (operand_toks b.by) rest;
-      stands = sym e.0 ∙ ap (λ z. cond.HasKind z u.0.0) p.stands ∙ ap (cond.HasKind (path_tree g.names p.by)) b.stands;
+      tokens = p.tokens ∙ ap (λ z. path_toks p.by ++ z) comma
+          ∙ comma_found (path_toks p.by) (operand_toks b.by) rest;
+      stands = sym e.0 ∙ ap (λ z. cond.HasKind z u.0.0) p.stands
+          ∙ ap (cond.HasKind (path_tree g.names p.by)) b.stands;
     }
 
 -- a path in the brackets of a function
-path_call : (g : Given) (name : List ℕ) (f : List PathPart → Cond) (i : List Tok) (x : Cond) (rest : List Tok) → calls name i ≡ true
+path_call : (g : Given) (name : List ℕ) (f : List PathPart → Cond) (i : List Tok) (x : Cond)
+    (rest : List Tok) → calls name i ≡ true
     → and_then (in_brackets (path g.names) (drop 2 i)) (λ p j. Some (f p, j)) ≡ Some (x, rest)
-    → (d : PathPhrase) × (i ≡ word name ∷ mark m.LeftRound ∷ ((path_toks d ++ mark m.RightRound ∷ []) ++ rest)) × (x ≡ f (path_tree g.names d))
+    → (d : PathPhrase)
+    × (i ≡ word name ∷ mark m.LeftRound ∷ ((path_toks d ++ mark m.RightRound ∷ []) ++ rest))
+    × (x ≡ f (path_tree g.names d))
 path_call g name f i x rest seen h =
     let a = then_some (in_brackets (path g.names) (drop 2 i)) _ _ h in
     let e = some_pair _ _ a.2 in
-    let d = bracketed path_toks (path_tree g.names) (path g.names) (path_sound g.names) (drop 2 i) _ _ a.1 in
+    let d = bracketed path_toks (path_tree g.names) (path g.names) (path_sound g.names)
+    (drop 2 i) _ _ a.1 in
     (d.by, called name i seen ∙ ap (λ t. word name ∷ mark m.LeftRound ∷ t) (d.tokens ∙ ap (λ t. (path_toks d.by ++ mark m.RightRound ∷ []) ++ t) e.1), sym e.0 ∙ ap f d.stands)
 
-operand_test_sound : (g : Given) (i : List Tok) (x : Cond) (rest : List Tok) → r.operand_test g i ≡ Some (x, rest) → Derived test_toks (test_tree g) i x rest
+operand_test_sound : (g : Given) (i : List Tok) (x : Cond) (rest : List Tok)
+    → r.operand_test g i ≡ Some (x, rest) → Derived test_toks (test_tree g) i x rest
 unfolding r.operand_test r.tail
 operand_test_sound g i x rest h = elim (either_way (calls (codes "attribute_type") i)) [
   | inl seen ↦
@@ -209,18 +251,23 @@ operand_test_sound g i x rest h = elim (either_way (calls (codes "attribute_type
         record { by = begins s.a s.b; tokens = called (codes "begins_with") i seen ∙ ap (λ t. word (codes "begins_with") ∷ mark m.LeftRound ∷ t) s.tokens; stands = s.stands }
     | inr no_begins ↦ elim (either_way (calls (codes "contains") i)) [
       | inl seen ↦
-          let s = pair_sound g cond.Contains (drop 2 i) x rest (simp (no_type, no_begins, seen) at h) in
+          let s = pair_sound g cond.Contains (drop 2 i) x rest
+          (simp (no_type, no_begins, seen) at h) in
           record { by = contains s.a s.b; tokens = called (codes "contains") i seen ∙ ap (λ t. word (codes "contains") ∷ mark m.LeftRound ∷ t) s.tokens; stands = s.stands }
       | inr none ↦
           let b = simp (no_type, no_begins, none) at h in
           let a = then_some (r.operand g i) _ _ b in
           let d = operand_sound g i _ _ a.1 in
-          tail_sound g i d.by x rest a.0.1 d.tokens (compared_sound g d.by a.0.1 _ x rest refl (subst (λ t. r.compared g t (r.sees_comparison a.0.1) a.0.1 ≡ Some (x, rest)) d.stands a.2))
+          tail_sound g i d.by x rest a.0.1 d.tokens
+          (compared_sound g d.by a.0.1 _ x rest refl
+          (subst (λ t. r.compared g t (r.sees_comparison a.0.1) a.0.1 ≡ Some (x, rest))
+          d.stands a.2))
     ]
   ]
 ]
 
-test_sound : (g : Given) (i : List Tok) (x : Cond) (rest : List Tok) → r.whole_test g i ≡ Some (x, rest) → Derived test_toks (test_tree g) i x rest
+test_sound : (g : Given) (i : List Tok) (x : Cond) (rest : List Tok)
+    → r.whole_test g i ≡ Some (x, rest) → Derived test_toks (test_tree g) i x rest
 unfolding r.whole_test
 test_sound g i x rest h = elim (either_way (calls (codes "attribute_exists") i)) [
   | inl seen ↦
@@ -228,7 +275,8 @@ test_sound g i x rest h = elim (either_way (calls (codes "attribute_exists") i))
       record { by = exists s.0; tokens = s.1; stands = s.2 }
   | inr no_exists ↦ elim (either_way (calls (codes "attribute_not_exists") i)) [
     | inl seen ↦
-        let s = path_call g (codes "attribute_not_exists") cond.NotExists i x rest seen (simp (no_exists, seen) at h) in
+        let s = path_call g (codes "attribute_not_exists") cond.NotExists i x rest seen
+        (simp (no_exists, seen) at h) in
         record { by = not_exists s.0; tokens = s.1; stands = s.2 }
     | inr none ↦ operand_test_sound g i x rest (simp (no_exists, none) at h)
   ]
@@ -236,18 +284,25 @@ test_sound g i x rest h = elim (either_way (calls (codes "attribute_exists") i))
 
 -- ---- conditions
 
-pub record Members {D : Type 0} (toks : D → List Tok) (trees : D → List Cond) (found : List Cond) (i : List Tok) (xs : List Cond) (rest : List Tok) : Type 0 where
+-- members that were read behind others, with commas or words between
+pub record Members {D : Type 0} (toks : D → List Tok) (trees : D → List Cond) (found : List Cond)
+    (i : List Tok) (xs : List Cond) (rest : List Tok) : Type 0 where
   pub by : D
   pub tokens : i ≡ toks by ++ rest
   pub stands : xs ≡ found ++ trees by
 
 -- a list of members, by the reader of one
 module _ (one : Parser Cond) {D : Type 0} (toks : D → List Tok) (tree : D → Cond)
-    (sound : (i : List Tok) (x : Cond) (rest : List Tok) → one i ≡ Some (x, rest) → Derived toks tree i x rest)
-    {E : Type 0} (all_toks : E → List Tok) (trees : E → List Cond) (j : Keyword) (only : D → E) (more : D → E → E)
-    (only_toks : (d : D) → all_toks (only d) ≡ toks d) (more_toks : (d : D) (e : E) → all_toks (more d e) ≡ toks d ++ key j ∷ all_toks e)
-    (only_trees : (d : D) → trees (only d) ≡ tree d ∷ []) (more_trees : (d : D) (e : E) → trees (more d e) ≡ tree d ∷ trees e) where
-  members_sound : (turns : ℕ) (found : List Cond) (i : List Tok) (xs : List Cond) (rest : List Tok) → joined_from one j turns found i ≡ Some (xs, rest) → Members all_toks trees found i xs rest
+    (sound : (i : List Tok) (x : Cond) (rest : List Tok) → one i ≡ Some (x, rest)
+    → Derived toks tree i x rest)
+    {E : Type 0} (all_toks : E → List Tok) (trees : E → List Cond) (j : Keyword) (only : D → E)
+    (more : D → E → E)
+    (only_toks : (d : D) → all_toks (only d) ≡ toks d)
+    (more_toks : (d : D) (e : E) → all_toks (more d e) ≡ toks d ++ key j ∷ all_toks e)
+    (only_trees : (d : D) → trees (only d) ≡ tree d ∷ [])
+    (more_trees : (d : D) (e : E) → trees (more d e) ≡ tree d ∷ trees e) where
+  members_sound : (turns : ℕ) (found : List Cond) (i : List Tok) (xs : List Cond) (rest : List Tok)
+      → joined_from one j turns found i ≡ Some (xs, rest) → Members all_toks trees found i xs rest
   unfolding joined_from after_key
   members_sound zero found i xs rest h = absurd (cc)
   members_sound (suc n) found i xs rest h =
@@ -255,62 +310,93 @@ module _ (one : Parser Cond) {D : Type 0} (toks : D → List Tok) (tree : D → 
       let d = sound i _ _ a.1 in
       elim (either_way (sees_key j a.0.1)) [
         | inl seen ↦
-            let b = members_sound n (found ++ a.0.0 ∷ []) (drop 1 a.0.1) xs rest (simp seen at a.2) in
+            let b = members_sound n (found ++ a.0.0 ∷ []) (drop 1 a.0.1) xs rest
+            (simp seen at a.2) in
             record {
               by = more d.by b.by;
-              tokens = d.tokens ∙ ap (λ t. toks d.by ++ t) (key_seen j _ seen ∙ ap (λ t. key j ∷ t) b.tokens) ∙ sym (append_assoc (toks d.by) (key j ∷ all_toks b.by) rest) ∙ ap (λ t. t ++ rest) (sym (more_toks d.by b.by));
-              stands = b.stands ∙ append_assoc found (a.0.0 ∷ []) (trees b.by) ∙ ap (λ t. found ++ t ∷ trees b.by) d.stands ∙ ap (λ t. found ++ t) (sym (more_trees d.by b.by));
+              tokens = d.tokens ∙ ap (λ t. toks d.by ++ t)
+                  (key_seen j _ seen ∙ ap (λ t. key j ∷ t) b.tokens)
+                  ∙ sym (append_assoc (toks d.by) (key j ∷ all_toks b.by) rest)
+                  ∙ ap (λ t. t ++ rest) (sym (more_toks d.by b.by));
+              stands = b.stands ∙ append_assoc found (a.0.0 ∷ []) (trees b.by)
+                  ∙ ap (λ t. found ++ t ∷ trees b.by) d.stands
+                  ∙ ap (λ t. found ++ t) (sym (more_trees d.by b.by));
             }
         | inr none ↦
             let e = some_pair _ _ (simp none at a.2) in
             record { by = only d.by; tokens = d.tokens ∙ ap (λ t. toks d.by ++ t) e.1 ∙ ap (λ t. t ++ rest) (sym (only_toks d.by)); stands = sym e.0 ∙ ap (λ t. found ++ t ∷ []) d.stands ∙ ap (λ t. found ++ t) (sym (only_trees d.by)) }
       ]
 
-  module _ (wrap whole : List Cond → Cond) (one_whole : (d : D) → whole (trees (only d)) ≡ tree d) (more_whole : (d : D) (e : E) → whole (trees (more d e)) ≡ wrap (trees (more d e))) where
-    pub joined_sound : (i : List Tok) (x : Cond) (rest : List Tok) → joined one j wrap i ≡ Some (x, rest) → Derived all_toks (λ e. whole (trees e)) i x rest
+  module _ (wrap whole : List Cond → Cond) (one_whole : (d : D) → whole (trees (only d)) ≡ tree d)
+      (more_whole : (d : D) (e : E) → whole (trees (more d e)) ≡ wrap (trees (more d e))) where
+    pub joined_sound : (i : List Tok) (x : Cond) (rest : List Tok)
+        → joined one j wrap i ≡ Some (x, rest) → Derived all_toks (λ e. whole (trees e)) i x rest
     unfolding joined after_key
     joined_sound i x rest h =
         let a = then_some (one i) _ _ h in
         let d = sound i _ _ a.1 in
         elim (either_way (sees_key j a.0.1)) [
           | inl seen ↦
-              let c = then_some (joined_from one j (length i) (a.0.0 ∷ []) (drop 1 a.0.1)) _ _ (simp seen at a.2) in
+              let c = then_some (joined_from one j (length i) (a.0.0 ∷ []) (drop 1 a.0.1)) _ _
+              (simp seen at a.2) in
               let b = members_sound (length i) (a.0.0 ∷ []) (drop 1 a.0.1) c.0.0 c.0.1 c.1 in
               let e = some_pair _ _ c.2 in
               record {
                 by = more d.by b.by;
-                tokens = d.tokens ∙ ap (λ t. toks d.by ++ t) (key_seen j _ seen ∙ ap (λ t. key j ∷ t) (b.tokens ∙ ap (λ t. all_toks b.by ++ t) e.1)) ∙ sym (append_assoc (toks d.by) (key j ∷ all_toks b.by) rest) ∙ ap (λ t. t ++ rest) (sym (more_toks d.by b.by));
-                stands = sym e.0 ∙ ap wrap (b.stands ∙ ap (λ t. t ∷ trees b.by) d.stands ∙ sym (more_trees d.by b.by)) ∙ sym (more_whole d.by b.by);
+                tokens = d.tokens ∙ ap (λ t. toks d.by ++ t)
+                    (key_seen j _ seen ∙ ap (λ t. key j ∷ t)
+                    (b.tokens ∙ ap (λ t. all_toks b.by ++ t) e.1))
+                    ∙ sym (append_assoc (toks d.by) (key j ∷ all_toks b.by) rest)
+                    ∙ ap (λ t. t ++ rest) (sym (more_toks d.by b.by));
+                stands = sym e.0
+                    ∙ ap wrap (b.stands ∙ ap (λ t. t ∷ trees b.by) d.stands
+                    ∙ sym (more_trees d.by b.by)) ∙ sym (more_whole d.by b.by);
               }
           | inr none ↦
               let e = some_pair _ _ (simp none at a.2) in
               record { by = only d.by; tokens = d.tokens ∙ ap (λ t. toks d.by ++ t) e.1 ∙ ap (λ t. t ++ rest) (sym (only_toks d.by)); stands = sym e.0 ∙ d.stands ∙ sym (one_whole d.by) }
         ]
 
+-- the tree of an AND
 abbrev pub and_tree : Given → AndPhrase → Cond
 and_tree g a = all_of (and_trees g a)
 
-all_more : (g : Given) (d : NotPhrase) (a : AndPhrase) → all_of (and_trees g (both d a)) ≡ cond.All (and_trees g (both d a))
+-- the tree of an AND of two and more is that of all of them
+all_more : (g : Given) (d : NotPhrase) (a : AndPhrase)
+    → all_of (and_trees g (both d a)) ≡ cond.All (and_trees g (both d a))
 all_more g d (final e) = refl
 all_more g d (both e a) = refl
 
-any_more : (g : Given) (a : AndPhrase) (o : CondPhrase) → any_of (cond_trees g (either a o)) ≡ cond.Any (cond_trees g (either a o))
+any_more : (g : Given) (a : AndPhrase) (o : CondPhrase)
+    → any_of (cond_trees g (either a o)) ≡ cond.Any (cond_trees g (either a o))
 any_more g a (last b) = refl
 any_more g a (either b o) = refl
 
-all_sound : (g : Given) (f : Parser Cond) → ((i : List Tok) (x : Cond) (rest : List Tok) → f i ≡ Some (x, rest) → Derived not_toks (not_tree g) i x rest)
-    → (i : List Tok) (x : Cond) (rest : List Tok) → r.all f i ≡ Some (x, rest) → Derived and_toks (and_tree g) i x rest
+all_sound : (g : Given) (f : Parser Cond)
+    → ((i : List Tok) (x : Cond) (rest : List Tok) → f i ≡ Some (x, rest)
+    → Derived not_toks (not_tree g) i x rest)
+    → (i : List Tok) (x : Cond) (rest : List Tok) → r.all f i ≡ Some (x, rest)
+    → Derived and_toks (and_tree g) i x rest
 unfolding r.all
 all_sound g f sound i x rest h =
-    joined_sound f not_toks (not_tree g) sound and_toks (and_trees g) k.And final both (λ d. refl) (λ d e. refl) (λ d. refl) (λ d e. refl) cond.All all_of (λ d. refl) (all_more g) i x rest h
+    joined_sound f not_toks (not_tree g) sound and_toks (and_trees g) k.And final both (λ d. refl)
+    (λ d e. refl) (λ d. refl) (λ d e. refl) cond.All all_of (λ d. refl) (all_more g) i x rest h
 
-pub any_sound : (g : Given) (f : Parser Cond) → ((i : List Tok) (x : Cond) (rest : List Tok) → f i ≡ Some (x, rest) → Derived not_toks (not_tree g) i x rest)
-    → (i : List Tok) (x : Cond) (rest : List Tok) → r.any f i ≡ Some (x, rest) → Derived cond_toks (cond_tree g) i x rest
+-- an OR that was read was derived
+pub any_sound : (g : Given) (f : Parser Cond)
+    → ((i : List Tok) (x : Cond) (rest : List Tok) → f i ≡ Some (x, rest)
+    → Derived not_toks (not_tree g) i x rest)
+    → (i : List Tok) (x : Cond) (rest : List Tok) → r.any f i ≡ Some (x, rest)
+    → Derived cond_toks (cond_tree g) i x rest
 unfolding r.any
 any_sound g f sound i x rest h =
-    joined_sound (r.all f) and_toks (and_tree g) (all_sound g f sound) cond_toks (cond_trees g) k.Or last either (λ d. refl) (λ d e. refl) (λ d. refl) (λ d e. refl) cond.Any any_of (λ d. refl) (any_more g) i x rest h
+    joined_sound (r.all f) and_toks (and_tree g) (all_sound g f sound) cond_toks
+    (cond_trees g) k.Or last either (λ d. refl) (λ d e. refl) (λ d. refl)
+    (λ d e. refl) cond.Any any_of (λ d. refl) (any_more g) i x rest h
 
-pub one_sound : (g : Given) (n : ℕ) (i : List Tok) (x : Cond) (rest : List Tok) → r.one g n i ≡ Some (x, rest) → Derived not_toks (not_tree g) i x rest
+-- a phrase that was read was derived
+pub one_sound : (g : Given) (n : ℕ) (i : List Tok) (x : Cond) (rest : List Tok)
+    → r.one g n i ≡ Some (x, rest) → Derived not_toks (not_tree g) i x rest
 unfolding r.one r.prim after_key after_mark
 one_sound g zero i x rest h = absurd (cc)
 one_sound g (suc n) i x rest h = elim (either_way (sees_key k.Not i)) [
@@ -321,7 +407,9 @@ one_sound g (suc n) i x rest h = elim (either_way (sees_key k.Not i)) [
       record { by = negated d.by; tokens = key_seen k.Not i seen ∙ ap (λ t. key k.Not ∷ t) (d.tokens ∙ ap (λ t. not_toks d.by ++ t) e.1); stands = sym e.0 ∙ ap cond.Not d.stands }
   | inr no_key ↦ elim (either_way (sees_mark m.LeftRound i)) [
     | inl seen ↦
-        let d = bracketed cond_toks (cond_tree g) (r.any (r.one g n)) (any_sound g (r.one g n) (λ j y t. one_sound g n j y t)) (drop 1 i) x rest (simp (no_key, seen) at h) in
+        let d = bracketed cond_toks (cond_tree g) (r.any (r.one g n))
+        (any_sound g (r.one g n) (λ j y t. one_sound g n j y t)) (drop 1 i) x rest
+        (simp (no_key, seen) at h) in
         record { by = group d.by; tokens = mark_seen m.LeftRound i seen ∙ ap (λ t. mark m.LeftRound ∷ t) d.tokens; stands = d.stands }
     | inr none ↦
         let d = test_sound g i x rest (simp (no_key, none) at h) in

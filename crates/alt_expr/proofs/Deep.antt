@@ -10,7 +10,8 @@ use Rattle.alt_expr.specs.Walks.{deep_from, is_deep}
 
 -- too deep after this many of each
 abbrev Deep : ℕ → ℕ → ℕ → List Tok → Type 0
-Deep o c n ts = ((k : ℕ) × (c + closed (take k ts) + 64 < o + opened (take k ts))) ⊎ (64 < n + nots ts)
+Deep o c n ts = ((k : ℕ) × (c + closed (take k ts) + 64 < o + opened (take k ts)))
+    ⊎ (64 < n + nots ts)
 
 either_way : (b : Bool) → (b ≡ true) ⊎ (b ≡ false)
 either_way true = inl refl
@@ -37,10 +38,12 @@ one_if false n = omega arith
 nots_on : (t : Tok) (ts : List Tok) → nots (t ∷ ts) ≡ cond (is_key Not t) 1 0 + nots ts
 nots_on t ts = one_if _ _
 
-opened_on : (k : ℕ) (t : Tok) (ts : List Tok) → opened (take (suc k) (t ∷ ts)) ≡ cond (is_mark LeftRound t) 1 0 + opened (take k ts)
+opened_on : (k : ℕ) (t : Tok) (ts : List Tok)
+    → opened (take (suc k) (t ∷ ts)) ≡ cond (is_mark LeftRound t) 1 0 + opened (take k ts)
 opened_on k t ts = one_if _ _
 
-closed_on : (k : ℕ) (t : Tok) (ts : List Tok) → closed (take (suc k) (t ∷ ts)) ≡ cond (is_mark RightRound t) 1 0 + closed (take k ts)
+closed_on : (k : ℕ) (t : Tok) (ts : List Tok)
+    → closed (take (suc k) (t ∷ ts)) ≡ cond (is_mark RightRound t) 1 0 + closed (take k ts)
 closed_on k t ts = one_if _ _
 
 found : (ts : List Tok) (o c n : ℕ) → deep_from o c n ts ≡ true → Deep o c n ts
@@ -51,7 +54,8 @@ found (t ∷ ts) o c n h =
     let z : ℕ = cond (is_key Not t) 1 0 in
     elim (either_way (nat_lt (c + y + 64) (o + x) || nat_lt 64 (n + z))) [
       | inl here ↦ elim (or_true _ _ here) [
-        | inl a ↦ let f : c + y + 64 < o + x = less _ _ a in inl (1, omega (arith, f, opened_on 0 t ts, closed_on 0 t ts))
+        | inl a ↦ let f : c + y + 64 < o + x = less _ _ a in
+            inl (1, omega (arith, f, opened_on 0 t ts, closed_on 0 t ts))
         | inr b ↦ let f : 64 < n + z = less _ _ b in inr (omega (arith, f, nots_on t ts))
       ]
       | inr on ↦ elim (found ts (o + x) (c + y) (n + z) (rw on at h)) [
@@ -60,7 +64,8 @@ found (t ∷ ts) o c n h =
       ]
     ]
 
-missed : (ts : List Tok) (o c n : ℕ) → o ≤ c + 64 → n ≤ 64 → deep_from o c n ts ≡ false → Deep o c n ts → ⊥
+missed : (ts : List Tok) (o c n : ℕ) → o ≤ c + 64 → n ≤ 64 → deep_from o c n ts ≡ false
+    → Deep o c n ts → ⊥
 missed [] o c n a b h (inl (zero, more)) = omega arith
 missed [] o c n a b h (inl (suc k, more)) = omega arith
 missed [] o c n a b h (inr more) = omega arith
@@ -83,11 +88,14 @@ missed (t ∷ ts) o c n a b h d =
 
 deep_yes : (toks : List Tok) → is_deep toks ≡ true → TooDeep toks
 unfolding is_deep
-deep_yes toks h = elim (found toks 0 0 0 h) [ inl (k, more) ↦ inl (k, omega (arith, more)) | inr more ↦ inr (omega (arith, more)) ]
+deep_yes toks h =
+    elim (found toks 0 0 0
+    h) [ inl (k, more) ↦ inl (k, omega (arith, more)) | inr more ↦ inr (omega (arith, more)) ]
 
 deep_no : (toks : List Tok) → is_deep toks ≡ false → TooDeep toks → ⊥
 unfolding is_deep
-deep_no toks h d = missed toks 0 0 0 (omega arith) (omega arith) h (elim d [ inl (k, more) ↦ inl (k, omega (arith, more)) | inr more ↦ inr (omega (arith, more)) ])
+deep_no toks h d = missed toks 0 0 0 (omega arith) (omega arith) h
+    (elim d [ inl (k, more) ↦ inl (k, omega (arith, more)) | inr more ↦ inr (omega (arith, more)) ])
 
 -- the walk's answer
 pub deep_is : (toks : List Tok) → IsTrue (is_deep toks) ↔ TooDeep toks

@@ -12,11 +12,15 @@ some_same : (a b : Tok) → Some a ≡ Some b → a ≡ b
 some_same a b h = cc
 
 -- the longest token that stands at the front is one, of one length
-one_token : (text : List ℕ) (m n : ℕ) (t u : Tok) → Stands text m t → Stands text n u → (m ≡ n) × (t ≡ u)
+one_token : (text : List ℕ) (m n : ℕ) (t u : Tok) → Stands text m t → Stands text n u
+    → (m ≡ n) × (t ≡ u)
 one_token text m n t u a b = elim (cases_order m n) [
-  | inl same ↦ (same, some_same t u (sym a.spells ∙ ap (λ k. spelled (take k text)) same ∙ b.spells))
-  | inr (inl below) ↦ absurd (differ u (spelled (take n text)) b.spells (a.longest n below b.within))
-  | inr (inr above) ↦ absurd (differ t (spelled (take m text)) a.spells (b.longest m above a.within))
+  | inl same ↦
+      (same, some_same t u (sym a.spells ∙ ap (λ k. spelled (take k text)) same ∙ b.spells))
+  | inr (inl below) ↦
+      absurd (differ u (spelled (take n text)) b.spells (a.longest n below b.within))
+  | inr (inr above) ↦
+      absurd (differ t (spelled (take m text)) a.spells (b.longest m above a.within))
 ]
 
 nothing_stands : (text : List ℕ) (n : ℕ) (t : Tok) → Stands text n t → NoneStands text → ⊥
@@ -30,7 +34,8 @@ none_at_end : (text : List ℕ) (n : ℕ) (t : Tok) → Stands text n t → text
 none_at_end text n t s e = empty_spells n t (subst (λ x. Stands x n t) e s)
 
 -- the tokens of a text, and whether they reach its end, are told by the text
-pub tokens_once : (text : List ℕ) (ts us : List Tok) (v w : Bool) → Lexes text ts v → Lexes text us w → (ts ≡ us) × (v ≡ w)
+pub tokens_once : (text : List ℕ) (ts us : List Tok) (v w : Bool) → Lexes text ts v
+    → Lexes text us w → (ts ≡ us) × (v ≡ w)
 tokens_once text [] [] true true a b = (refl, refl)
 tokens_once text [] [] true false a b = absurd (b.0 a)
 tokens_once text [] [] false true a b = absurd (a.0 b)
@@ -41,6 +46,7 @@ tokens_once text (t ∷ ts) [] v true a b = absurd (none_at_end (skip text) a.0 
 tokens_once text (t ∷ ts) [] v false a b = absurd (nothing_stands (skip text) a.0 t a.1 b.1)
 tokens_once text (t ∷ ts) (u ∷ us) v w a b =
     let same = one_token (skip text) a.0 b.0 t u a.1 b.1 in
-    let next : Lexes (drop b.0 (skip text)) ts v = subst (λ n. Lexes (drop n (skip text)) ts v) same.0 a.2 in
+    let next : Lexes (drop b.0 (skip text)) ts v =
+    subst (λ n. Lexes (drop n (skip text)) ts v) same.0 a.2 in
     let rest = tokens_once (drop b.0 (skip text)) ts us v w next b.2 in
     (ap (λ x. x ∷ ts) same.1 ∙ ap (λ xs. u ∷ xs) rest.0, rest.1)

@@ -14,7 +14,8 @@ use Rattle.alt_expr.proofs.Once.{tokens_once}
 
 -- ---- answers by other words for the same faults
 
-module _ (P Q : ExprFault → Type 0) (to : (f : ExprFault) → P f → Q f) (back : (f : ExprFault) → Q f → P f) where
+module _ (P Q : ExprFault → Type 0) (to : (f : ExprFault) → P f → Q f)
+    (back : (f : ExprFault) → Q f → P f) where
   first_as : (es : List ExprFault) (f : ExprFault) → IsFirst P es f → IsFirst Q es f
   first_as [] f h = h
   first_as (e ∷ es) f (inl h) = inl (h.0, to e h.1)
@@ -24,7 +25,9 @@ module _ (P Q : ExprFault → Type 0) (to : (f : ExprFault) → P f → Q f) (ba
   none_as [] h = tt
   none_as (e ∷ es) h = ((λ q. h.0 (back e q)), none_as es h.1)
 
-  pub answers_as : {A : Type 0} (T U : A → Type 0) → ((a : A) → T a → U a) → (r : Result A ExprFault) → Answers P T r → Answers Q U r
+  -- what is answered with one tree is answered with what follows of it
+  pub answers_as : {A : Type 0} (T U : A → Type 0) → ((a : A) → T a → U a)
+      → (r : Result A ExprFault) → Answers P T r → Answers Q U r
   answers_as T U tree (Ok a) h = (none_as fault_order h.0, tree a h.1)
   answers_as T U tree (Err fault.TooLong) h = first_as fault_order fault.TooLong h
   answers_as T U tree (Err fault.TooDeep) h = first_as fault_order fault.TooDeep h
@@ -40,7 +43,8 @@ module _ {D A : Type 0} (L : Language D A) (g : Given) where
 
   module _ (text : List ℕ) (toks : List Tok) (whole : Bool) (lexes : Lexes text toks whole) where
     by_tokens : (d : D) → whole ≡ true → toks ≡ L.toks d → Lexes text (L.toks d) true
-    by_tokens d w is = subst (λ v. Lexes text (L.toks d) v) w (subst (λ ts. Lexes text ts whole) is lexes)
+    by_tokens d w is =
+        subst (λ v. Lexes text (L.toks d) v) w (subst (λ ts. Lexes text ts whole) is lexes)
 
     once : (d : D) → Lexes text (L.toks d) true → (toks ≡ L.toks d) × (whole ≡ true)
     once d l = tokens_once text toks (L.toks d) whole true lexes l
@@ -55,9 +59,11 @@ module _ {D A : Type 0} (L : Language D A) (g : Given) where
     to_text fault.Overlap h = (h.1.0, by_tokens h.1.0 h.0 h.1.1, h.1.2)
     to_text fault.NoMemory h = h
 
-    to_tokens : length text ≤ 4096 → (f : ExprFault) → HasFault L g text f → TokensHave L g toks whole f
+    to_tokens : length text ≤ 4096 → (f : ExprFault) → HasFault L g text f
+        → TokensHave L g toks whole f
     to_tokens short fault.TooLong h = absurd (omega (arith, short, h))
-    to_tokens short fault.TooDeep h = subst TooDeep (sym (tokens_once text toks h.0 whole h.1 lexes h.2).0) h.3
+    to_tokens short fault.TooDeep h =
+        subst TooDeep (sym (tokens_once text toks h.0 whole h.1 lexes h.2).0) h.3
     to_tokens short fault.Syntax h = λ p. h (p.1.0, by_tokens p.1.0 p.0 p.1.1)
     to_tokens short fault.Undefined h = let o = once h.0 h.1 in (o.1, (h.0, o.0, h.2))
     to_tokens short fault.TooMany h = let o = once h.0 h.1 in (o.1, (h.0, o.0, h.2))
@@ -66,10 +72,12 @@ module _ {D A : Type 0} (L : Language D A) (g : Given) where
     to_tokens short fault.NoMemory h = h
 
     -- the answer by the tokens is that by the text
-    pub parsed_by_tokens : length text ≤ 4096 → (r : Result A ExprFault) → ReadTokens L g toks whole r → Parsed L g text r
+    pub parsed_by_tokens : length text ≤ 4096 → (r : Result A ExprFault)
+        → ReadTokens L g toks whole r → Parsed L g text r
     unfolding ReadTokens Parsed
     parsed_by_tokens short r h =
-        answers_as (TokensHave L g toks whole) (HasFault L g text) to_text (to_tokens short) _ (IsTreeOf L g text)
+        answers_as (TokensHave L g toks whole) (HasFault L g text) to_text (to_tokens short) _
+        (IsTreeOf L g text)
         (λ a t. (t.1.0, by_tokens t.1.0 t.0 t.1.1, t.1.2)) r h
 
   -- a text that is too long
@@ -83,7 +91,8 @@ module _ {D A : Type 0} (L : Language D A) (g : Given) where
   parsed_no_memory text = tt
 
   -- and so it is of tokens
-  pub read_no_memory : (toks : List Tok) (whole : Bool) → ReadTokens L g toks whole (Err fault.NoMemory)
+  pub read_no_memory : (toks : List Tok) (whole : Bool)
+      → ReadTokens L g toks whole (Err fault.NoMemory)
   unfolding ReadTokens
   read_no_memory toks whole = tt
 
@@ -101,12 +110,14 @@ module _ {D A : Type 0} (L : Language D A) (g : Given) where
     unfolding ReadTokens
     read_cut shallow cut = inr (no_length, inr (shallow, inl (refl, λ p. let e : true ≡ false = sym p.0 ∙ cut in absurd (cc))))
 
-    pub read_syntax : (TooDeep toks → ⊥) → (IsOf L g toks → ⊥) → ReadTokens L g toks whole (Err fault.Syntax)
+    pub read_syntax : (TooDeep toks → ⊥) → (IsOf L g toks → ⊥)
+        → ReadTokens L g toks whole (Err fault.Syntax)
     unfolding ReadTokens
     read_syntax shallow none = inr (no_length, inr (shallow, inl (refl, λ p. none p.1)))
 
     -- an error of the reader
-    pub read_err : (f : ExprFault) → (TooDeep toks → ⊥) → ReadsWhole L g toks (Err f) → ReadTokens L g toks whole (Err f)
+    pub read_err : (f : ExprFault) → (TooDeep toks → ⊥) → ReadsWhole L g toks (Err f)
+        → ReadTokens L g toks whole (Err f)
     unfolding ReadTokens ReadsWhole
     read_err fault.TooLong shallow h = let e = (h (λ e. cc)).0 in absurd (cc)
     read_err fault.TooDeep shallow h = let e = (h (λ e. cc)).0 in absurd (cc)
@@ -117,7 +128,8 @@ module _ {D A : Type 0} (L : Language D A) (g : Given) where
     read_err fault.Overlap shallow h = let e = (h (λ e. cc)).0 in absurd (cc)
     read_err fault.NoMemory shallow h = tt
 
-    module _ (shallow : TooDeep toks → ⊥) (is_whole : whole ≡ true) (a : A) (tree : IsTree L g toks a)
+    module _ (shallow : TooDeep toks → ⊥) (is_whole : whole ≡ true) (a : A)
+        (tree : IsTree L g toks a)
         (one_tree : (d e : D) → L.toks d ≡ L.toks e → L.tree g d ≡ L.tree g e) where
       has_syntax : TokensHave L g toks whole fault.Syntax → ⊥
       has_syntax h = h (is_whole, (tree.0, tree.1))
@@ -129,14 +141,16 @@ module _ {D A : Type 0} (L : Language D A) (g : Given) where
       differ : (b : Bool) → b ≡ true → b ≡ false → ⊥
       differ b p q = cc
 
-      pub read_undefined : list_any (is_unknown g) toks ≡ true → ReadTokens L g toks whole (Err fault.Undefined)
+      pub read_undefined : list_any (is_unknown g) toks ≡ true
+          → ReadTokens L g toks whole (Err fault.Undefined)
       unfolding ReadTokens
       read_undefined h =
           inr (no_length, inr (shallow, inr (has_syntax, inl (refl, (is_whole, (tree.0, tree.1, subst (λ ts. list_any (is_unknown g) ts ≡ true) tree.1 h))))))
 
       module _ (known : list_any (is_unknown g) toks ≡ false) where
         no_unknown : TokensHave L g toks whole fault.Undefined → ⊥
-        no_unknown h = differ _ (subst (λ ts. list_any (is_unknown g) ts ≡ true) (sym h.1.1) h.1.2) known
+        no_unknown h =
+            differ _ (subst (λ ts. list_any (is_unknown g) ts ≡ true) (sym h.1.1) h.1.2) known
 
         pub read_too_many : L.is_crowded a ≡ true → ReadTokens L g toks whole (Err fault.TooMany)
         unfolding ReadTokens
@@ -145,10 +159,12 @@ module _ {D A : Type 0} (L : Language D A) (g : Given) where
 
         module _ (few : L.is_crowded a ≡ false) where
           not_crowded : TokensHave L g toks whole fault.TooMany → ⊥
-          not_crowded h = differ _ (subst (λ b. L.is_crowded b ≡ true) (same_tree h.1.0 h.1.1) h.1.2) few
+          not_crowded h =
+              differ _ (subst (λ b. L.is_crowded b ≡ true) (same_tree h.1.0 h.1.1) h.1.2) few
 
           module _ (told : (d : D) → toks ≡ L.toks d → L.repeats d ≡ L.repeats tree.0) where
-            pub read_repeated : L.repeats tree.0 ≡ true → ReadTokens L g toks whole (Err fault.RepeatedClause)
+            pub read_repeated : L.repeats tree.0 ≡ true
+                → ReadTokens L g toks whole (Err fault.RepeatedClause)
             unfolding ReadTokens
             read_repeated h =
                 inr (no_length, inr (shallow, inr (has_syntax, inr (no_unknown, inr (not_crowded, inl (refl, (is_whole, (tree.0, tree.1, h))))))))
@@ -176,7 +192,9 @@ module _ {D A : Type 0} (L : Language D A) (g : Given) where
     whole_tree a t = t
 
     -- what isn't of the grammar
-    pub whole_none : (f : ExprFault) → (f ≢ fault.NoMemory → (f ≡ fault.Syntax) × (IsOf L g toks → ⊥)) → ReadsWhole L g toks (Err f)
+    pub whole_none : (f : ExprFault)
+        → (f ≢ fault.NoMemory → (f ≡ fault.Syntax) × (IsOf L g toks → ⊥))
+        → ReadsWhole L g toks (Err f)
     unfolding ReadsWhole
     whole_none f h = h
 

@@ -47,7 +47,8 @@ mutual
   fields_one (field_then m s es) (field_then n t fs) e =
       let rest = second (bytes_eq m n && same s t) _ e in
       let here = first (bytes_eq m n && same s t) _ e in
-      λ i. field_then ((bytes_decides m n).0 (first (bytes_eq m n) _ here) i) (is_one s t (second (bytes_eq m n) _ here) i) (fields_one es fs rest i)
+      λ i. field_then ((bytes_decides m n).0 (first (bytes_eq m n) _ here) i)
+      (is_one s t (second (bytes_eq m n) _ here) i) (fields_one es fs rest i)
   fields_one _ _ e = cc
 
 mutual
@@ -71,11 +72,15 @@ mutual
   fields_themselves : (fs : Fields) → same_fields fs fs ≡ true
   fields_themselves no_fields = refl
   fields_themselves (field_then n t fs) =
-      both (bytes_eq n n && same t t) _ (both (bytes_eq n n) _ ((bytes_decides n n).1 refl) (same_itself t)) (fields_themselves fs)
+      both (bytes_eq n n && same t t) _
+      (both (bytes_eq n n) _ ((bytes_decides n n).1 refl) (same_itself t))
+      (fields_themselves fs)
 
+-- the test decides whether two values are one
 pub same_decides : (s t : Tree) → Decides (same s t) (s ≡ t)
 same_decides s t = (is_one s t, λ e. ap (same s) (sym e) ∙ same_itself s)
 
+-- a test that holds exactly where another does is the other
 told : (b c : Bool) (P : Type 0) → Decides c P → (IsTrue b → P) → (P → IsTrue b) → b ≡ c
 told true true P d f g = refl
 told true false P d f g = sym (d.1 (f refl))

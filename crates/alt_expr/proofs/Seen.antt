@@ -12,29 +12,36 @@ use Rattle.alt_expr.specs.declared.token.Mark.TheVariants as m
 use Rattle.alt_expr.specs.Reader.{Outcome, Parser, and_then, sees_mark, sees_key, calls, expect, expect_key}
 
 -- a phrase of what stands in front of the rest, whose tree is x
-pub record Derived {D T : Type 0} (toks : D → List Tok) (tree : D → T) (i : List Tok) (x : T) (rest : List Tok) : Type 0 where
+pub record Derived {D T : Type 0} (toks : D → List Tok) (tree : D → T) (i : List Tok) (x : T)
+    (rest : List Tok) : Type 0 where
   pub by : D
   pub tokens : i ≡ toks by ++ rest
   pub stands : x ≡ tree by
 
 -- both halves of a reader that read something
-pub then_some : {A B : Type 0} (o : Outcome A) (f : A → Parser B) (q : B × List Tok) → and_then o f ≡ Some q → (p : A × List Tok) × (o ≡ Some p) × (f p.0 p.1 ≡ Some q)
+pub then_some : {A B : Type 0} (o : Outcome A) (f : A → Parser B) (q : B × List Tok)
+    → and_then o f ≡ Some q → (p : A × List Tok) × (o ≡ Some p) × (f p.0 p.1 ≡ Some q)
 then_some None f q h = absurd (cc)
 then_some (Some p) f q h = (p, refl, h)
 
+-- pairs that are equal as options are equal in both parts
 pub some_pair : {A B : Type 0} (p q : A × B) → Some p ≡ Some q → (p.0 ≡ q.0) × (p.1 ≡ q.1)
 some_pair p q h = let e : p ≡ q = ap (λ o. unwrap_or o p) h in (ap (λ x. x.0) e, ap (λ x. x.1) e)
 
+-- something isn't nothing
 pub none_some : {A : Type 0} (a : A) → None ≡ Some a → ⊥
 none_some a h = cc
 
+-- values that are equal as options are equal
 pub some_is : {A : Type 0} (a b : A) → Some a ≡ Some b → a ≡ b
 some_is a b h = cc
 
+-- a test holds or it doesn't
 pub either_way : (b : Bool) → (b ≡ true) ⊎ (b ≡ false)
 either_way true = inl refl
 either_way false = inr refl
 
+-- marks that are told to be the same are
 same_marks : (a b : Mark) → same_mark a b ≡ true → a ≡ b
 same_marks a b h = same_true marks.the_type (search rules) a b h
 
@@ -56,7 +63,8 @@ key_seen j (key n ∷ i) h = ap (λ x. key x ∷ i) (same_keywords n j h)
 key_seen j (_ ∷ i) h = absurd (cc)
 
 -- the mark that was expected was the next token
-pub expected : (m : Mark) (i : List Tok) (u : Unit {0}) (rest : List Tok) → expect m i ≡ Some (u, rest) → i ≡ mark m ∷ rest
+pub expected : (m : Mark) (i : List Tok) (u : Unit {0}) (rest : List Tok)
+    → expect m i ≡ Some (u, rest) → i ≡ mark m ∷ rest
 unfolding expect
 expected m i u rest h = elim (either_way (sees_mark m i)) [
   | inl seen ↦ let g = rw seen at h in mark_seen m i seen ∙ ap (λ x. mark m ∷ x) (some_pair _ _ g).1
@@ -64,13 +72,15 @@ expected m i u rest h = elim (either_way (sees_mark m i)) [
 ]
 
 -- the keyword that was expected was the next token
-pub expected_key : (j : Keyword) (i : List Tok) (u : Unit {0}) (rest : List Tok) → expect_key j i ≡ Some (u, rest) → i ≡ key j ∷ rest
+pub expected_key : (j : Keyword) (i : List Tok) (u : Unit {0}) (rest : List Tok)
+    → expect_key j i ≡ Some (u, rest) → i ≡ key j ∷ rest
 unfolding expect_key
 expected_key j i u rest h = elim (either_way (sees_key j i)) [
   | inl seen ↦ let g = rw seen at h in key_seen j i seen ∙ ap (λ x. key j ∷ x) (some_pair _ _ g).1
   | inr none ↦ let g = rw none at h in absurd (cc)
 ]
 
+-- of two that hold together each does
 and_true : (b c : Bool) → (b && c) ≡ true → (b ≡ true) × (c ≡ true)
 and_true true c h = (refl, h)
 and_true false c h = absurd (cc)
@@ -79,10 +89,12 @@ bytes_same : (a b : List ℕ) → bytes_eq a b ≡ true → a ≡ b
 bytes_same a b h = grind (arith, bytes_eq-Decides, h)
 
 -- a call that was seen: the function's name and a bracket
-pub called : (name : List ℕ) (i : List Tok) → calls name i ≡ true → i ≡ word name ∷ mark m.LeftRound ∷ drop 2 i
+pub called : (name : List ℕ) (i : List Tok) → calls name i ≡ true
+    → i ≡ word name ∷ mark m.LeftRound ∷ drop 2 i
 unfolding calls
 called name [] h = absurd (cc)
 called name (word w ∷ i) h =
     let e = and_true _ _ h in
-    ap (λ x. word x ∷ i) (bytes_same w name e.0) ∙ ap (λ t. word name ∷ t) (mark_seen m.LeftRound i e.1)
+    ap (λ x. word x ∷ i) (bytes_same w name e.0)
+    ∙ ap (λ t. word name ∷ t) (mark_seen m.LeftRound i e.1)
 called name (_ ∷ i) h = absurd (cc)

@@ -51,5 +51,6 @@ lexed : (m : ℕ) (text : List ℕ) → length text ≤ m → TextTokens text
 lexed zero text fits = at_end text (length_none (skip text) (omega (arith, fits, skip_fits text)))
 lexed (suc m) text fits = looked m text fits (lexed m) (empty (skip text)) (found (skip text)) refl
 
+-- each text has tokens, up to its end or to what begins none
 pub tokens_of : (text : List ℕ) → TextTokens text
 tokens_of text = lexed (length text) text (omega arith)

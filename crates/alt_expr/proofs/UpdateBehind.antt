@@ -11,28 +11,43 @@ abbrev pub put_behind : List Action → Outcome (List Action) → Outcome (List 
 put_behind before o = and_then o (λ xs j. Some (before ++ xs, j))
 
 module _ (one : Parser Action) (n : ℕ) (before : List Action)
-    (rest_behind : (found : List Action) (i : List Tok) → listed_from one n (before ++ found) i ≡ put_behind before (listed_from one n found i)) where
+    (rest_behind : (found : List Action) (i : List Tok)
+    → listed_from one n (before ++ found) i
+    ≡ put_behind before (listed_from one n found i)) where
+  -- one action more, behind others, is behind those too
   next : (found : List Action) (o : Outcome Action)
-      → and_then o (λ x. listed_from one n ((before ++ found) ++ x ∷ [])) ≡ put_behind before (and_then o (λ x. listed_from one n (found ++ x ∷ [])))
+      → and_then o (λ x. listed_from one n ((before ++ found) ++ x ∷ []))
+      ≡ put_behind before (and_then o (λ x. listed_from one n (found ++ x ∷ [])))
   next found None = refl
-  next found (Some p) = ap (λ xs. listed_from one n xs p.1) (append_assoc before found (p.0 ∷ [])) ∙ rest_behind (found ++ p.0 ∷ []) p.1
+  next found (Some p) = ap (λ xs. listed_from one n xs p.1) (append_assoc before found (p.0 ∷ []))
+      ∙ rest_behind (found ++ p.0 ∷ []) p.1
 
   turn : (found : List Action) (b : Bool) (j : List Tok)
-      → cond {A = Parser (List Action)} b (λ i. and_then (one i) (λ x. listed_from one n ((before ++ found) ++ x ∷ []))) (λ i. Some (before ++ found, i)) j
-      ≡ put_behind before (cond {A = Parser (List Action)} b (λ i. and_then (one i) (λ x. listed_from one n (found ++ x ∷ []))) (λ i. Some (found, i)) j)
+      → cond {A = Parser (List Action)} b
+      (λ i. and_then (one i) (λ x. listed_from one n ((before ++ found) ++ x ∷ [])))
+      (λ i. Some (before ++ found, i)) j
+      ≡ put_behind before
+      (cond {A = Parser (List Action)} b
+      (λ i. and_then (one i) (λ x. listed_from one n (found ++ x ∷ [])))
+      (λ i. Some (found, i)) j)
   turn found false j = refl
   turn found true j = next found (one j)
 
-from_behind : (one : Parser Action) (n : ℕ) (before found : List Action) (i : List Tok) → listed_from one n (before ++ found) i ≡ put_behind before (listed_from one n found i)
+from_behind : (one : Parser Action) (n : ℕ) (before found : List Action) (i : List Tok)
+    → listed_from one n (before ++ found) i ≡ put_behind before (listed_from one n found i)
 unfolding listed_from
 from_behind one zero before found i = refl
-from_behind one (suc n) before found i = turn one n before (λ f j. from_behind one n before f j) found (sees_mark m.Comma i) (after_mark m.Comma i)
+from_behind one (suc n) before found i = turn one n before
+    (λ f j. from_behind one n before f j) found (sees_mark m.Comma i) (after_mark m.Comma i)
 
-pub behind : (one : Parser Action) (found : List Action) (i : List Tok) → listed_behind one found i ≡ put_behind found (listed one i)
+-- actions listed behind others are those listed alone, behind the others
+pub behind : (one : Parser Action) (found : List Action) (i : List Tok)
+    → listed_behind one found i ≡ put_behind found (listed one i)
 unfolding listed_behind listed
 behind one found i = first one found (length i) (one i)
   where
     first : (one : Parser Action) (found : List Action) (n : ℕ) (o : Outcome Action)
-        → and_then o (λ x. listed_from one n (found ++ x ∷ [])) ≡ put_behind found (and_then o (λ x. listed_from one n (x ∷ [])))
+        → and_then o (λ x. listed_from one n (found ++ x ∷ []))
+        ≡ put_behind found (and_then o (λ x. listed_from one n (x ∷ [])))
     first one found n None = refl
     first one found n (Some p) = from_behind one n found (p.0 ∷ []) p.1

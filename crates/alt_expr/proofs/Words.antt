@@ -15,7 +15,9 @@ abbrev stays : List (List ℕ) → Pair → Bool
 stays used p = not (has_member text_order p.0 used)
 
 unused_step : (given : List Pair) (used : List (List ℕ)) (i : ℕ)
-    → has_unused (drop i given) used ≡ (option_map_or (stays used) (slice_get given i) false || has_unused (drop (suc i) given) used)
+    → has_unused (drop i given) used
+    ≡ (option_map_or (stays used) (slice_get given i) false
+    || has_unused (drop (suc i) given) used)
 unused_step [] used zero = refl
 unused_step [] used (suc i) = refl
 unused_step (p ∷ ps) used zero = refl
@@ -23,9 +25,12 @@ unused_step (p ∷ ps) used (suc i) = unused_step ps used i
 
 -- the word at a place, and those behind it
 pub unused_on : (given : List Pair) (used : List (List ℕ)) (i : ℕ)
-    → has_unused (drop i given) used ≡ (option_map_or (stays used) (slice_get given i) false || has_unused (drop (i + 1) given) used)
+    → has_unused (drop i given) used
+    ≡ (option_map_or (stays used) (slice_get given i) false
+    || has_unused (drop (i + 1) given) used)
 unused_on given used i = rw add-one (unused_step given used i)
 
+-- two that hold, hold together
 and_both : (a b : Bool) → a ≡ true → b ≡ true → (a && b) ≡ true
 and_both true b p q = q
 and_both false b p q = p
@@ -39,17 +44,21 @@ and_second true b p = p
 and_second false b p = absurd (cc)
 
 -- names with one name more are names
-pub are_names-with_pair : (w : List ℕ) (t : Tree) (ps : List Pair) → is_name t ≡ true → are_names ps ≡ true → are_names (with_pair w t ps) ≡ true
+pub are_names-with_pair : (w : List ℕ) (t : Tree) (ps : List Pair) → is_name t ≡ true
+    → are_names ps ≡ true → are_names (with_pair w t ps) ≡ true
 are_names-with_pair w t [] name names = and_both _ _ name refl
 are_names-with_pair w t (p ∷ ps) name names =
-    elim (text_order w p.0) as (λ o. are_names (by_order o ((w, t) ∷ p ∷ ps) ((p.0, t) ∷ ps) (p ∷ with_pair w t ps)) ≡ true) [
+    elim (text_order w p.0) as (λ o. are_names
+    (by_order o ((w, t) ∷ p ∷ ps) ((p.0, t) ∷ ps) (p ∷ with_pair w t ps)) ≡ true) [
       | Less ↦ and_both _ _ name names
       | Equal ↦ and_both _ _ name (and_second (is_name p.1) _ names)
-      | Greater ↦ and_both _ _ (and_first _ _ names) (are_names-with_pair w t ps name (and_second (is_name p.1) _ names))
+      | Greater ↦ and_both _ _ (and_first _ _ names)
+          (are_names-with_pair w t ps name (and_second (is_name p.1) _ names))
     ]
 
 -- the same of an answer
-pub names_put : {E : Type 0} (r : Result (Unit {0}) E) (w : List ℕ) (t : Tree) (old new : List Pair) → is_name t ≡ true → are_names old ≡ true
+pub names_put : {E : Type 0} (r : Result (Unit {0}) E) (w : List ℕ) (t : Tree) (old new : List Pair)
+    → is_name t ≡ true → are_names old ≡ true
     → OnOk r (new ≡ with_pair w t old) → OnOk r (are_names new ≡ true)
 names_put (Ok u) w t old new name names is = rw is (are_names-with_pair w t old name names)
 names_put (Err e) w t old new name names is = tt

@@ -84,13 +84,18 @@ operands_toks = between_toks operand_toks (mark m.Comma)
 -- the tokens of a test
 abbrev pub test_toks : TestPhrase → List Tok
 test_toks (compared a by b) = operand_toks a ++ mark (mark_of by) ∷ operand_toks b
-test_toks (between a low high) = operand_toks a ++ key k.Between ∷ (operand_toks low ++ key k.And ∷ operand_toks high)
-test_toks (among a b bs) = operand_toks a ++ key k.Among ∷ mark m.LeftRound ∷ (operands_toks b bs ++ mark m.RightRound ∷ [])
+test_toks (between a low high) =
+    operand_toks a ++ key k.Between ∷ (operand_toks low ++ key k.And ∷ operand_toks high)
+test_toks (among a b bs) = operand_toks a ++ key k.Among ∷ mark m.LeftRound
+    ∷ (operands_toks b bs ++ mark m.RightRound ∷ [])
 test_toks (exists p) = call_toks (codes "attribute_exists") (path_toks p)
 test_toks (not_exists p) = call_toks (codes "attribute_not_exists") (path_toks p)
-test_toks (has_kind p a) = call_toks (codes "attribute_type") (path_toks p ++ mark m.Comma ∷ operand_toks a)
-test_toks (begins a b) = call_toks (codes "begins_with") (operand_toks a ++ mark m.Comma ∷ operand_toks b)
-test_toks (contains a b) = call_toks (codes "contains") (operand_toks a ++ mark m.Comma ∷ operand_toks b)
+test_toks (has_kind p a) =
+    call_toks (codes "attribute_type") (path_toks p ++ mark m.Comma ∷ operand_toks a)
+test_toks (begins a b) =
+    call_toks (codes "begins_with") (operand_toks a ++ mark m.Comma ∷ operand_toks b)
+test_toks (contains a b) =
+    call_toks (codes "contains") (operand_toks a ++ mark m.Comma ∷ operand_toks b)
 
 abbrev mutual
   -- the tokens of a condition
@@ -120,8 +125,10 @@ operand_tree g (size p) = o.Size (path_tree g.names p)
 -- the condition that a test stands for
 abbrev pub test_tree : Given → TestPhrase → Cond
 test_tree g (compared a by b) = cond.Compare by (operand_tree g a) (operand_tree g b)
-test_tree g (between a low high) = cond.Between (operand_tree g a) (operand_tree g low) (operand_tree g high)
-test_tree g (among a b bs) = cond.Among (operand_tree g a) (operand_tree g b ∷ map (operand_tree g) bs)
+test_tree g (between a low high) =
+    cond.Between (operand_tree g a) (operand_tree g low) (operand_tree g high)
+test_tree g (among a b bs) =
+    cond.Among (operand_tree g a) (operand_tree g b ∷ map (operand_tree g) bs)
 test_tree g (exists p) = cond.Exists (path_tree g.names p)
 test_tree g (not_exists p) = cond.NotExists (path_tree g.names p)
 test_tree g (has_kind p a) = cond.HasKind (path_tree g.names p) (operand_tree g a)

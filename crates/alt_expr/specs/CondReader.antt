@@ -110,8 +110,10 @@ operand_test g = λ i. if calls (codes "attribute_type") i then (skip 2 >> kind 
 
 -- one test: of whether a path exists, or of operands
 unfoldable pub whole_test : Given → Parser Cond
-whole_test g = λ i. if calls (codes "attribute_exists") i then (skip 2 >> (cond.Exists <$> in_brackets (path g.names))) i
-    else if calls (codes "attribute_not_exists") i then (skip 2 >> (cond.NotExists <$> in_brackets (path g.names))) i
+whole_test g = λ i. if calls (codes "attribute_exists") i
+    then (skip 2 >> (cond.Exists <$> in_brackets (path g.names))) i
+    else if calls (codes "attribute_not_exists") i
+    then (skip 2 >> (cond.NotExists <$> in_brackets (path g.names))) i
     else operand_test g i
 
 -- ---- conditions

@@ -22,7 +22,8 @@ pub record Language (D A : Type 0) : Type 0 where
 
 -- the order in which faults are told
 abbrev pub fault_order : List ExprFault
-fault_order = fault.TooLong ∷ fault.TooDeep ∷ fault.Syntax ∷ fault.Undefined ∷ fault.TooMany ∷ fault.RepeatedClause ∷ fault.Overlap ∷ []
+fault_order = fault.TooLong ∷ fault.TooDeep ∷ fault.Syntax ∷ fault.Undefined ∷ fault.TooMany
+    ∷ fault.RepeatedClause ∷ fault.Overlap ∷ []
 
 -- it is the first of the list that applies
 abbrev pub IsFirst : (ExprFault → Type 0) → List ExprFault → ExprFault → Type 0
@@ -35,7 +36,8 @@ NoneApplies Applies [] = ⊤
 NoneApplies Applies (e ∷ es) = (Applies e → ⊥) × NoneApplies Applies es
 
 -- a tree exactly where no fault applies, and else the first that does
-abbrev pub Answers : {A : Type 0} → (ExprFault → Type 0) → (A → Type 0) → Result A ExprFault → Type 0
+abbrev pub Answers : {A : Type 0} → (ExprFault → Type 0) → (A → Type 0)
+    → Result A ExprFault → Type 0
 Answers Applies IsTree (Ok a) = NoneApplies Applies fault_order × IsTree a
 Answers Applies IsTree (Err fault.NoMemory) = ⊤
 Answers Applies IsTree (Err f) = IsFirst Applies fault_order f
@@ -66,11 +68,14 @@ module _ {D A : Type 0} (L : Language D A) (g : Given) (text : List ℕ) where
 
 -- the words of a text that was parsed are noted; where it wasn't, none is
 unfoldable pub NotesHashes : {A : Type 0} → List ℕ → Names → Names → Result A ExprFault → Type 0
-NotesHashes text old new (Ok a) = (toks : List Tok) × Lexes text toks true × (used_names new ≡ with_hashes toks (used_names old))
+NotesHashes text old new (Ok a) = (toks : List Tok) × Lexes text toks true
+    × (used_names new ≡ with_hashes toks (used_names old))
 NotesHashes text old new (Err f) = f ≢ fault.NoMemory → used_names new ≡ used_names old
 
+-- the same of the words for values
 unfoldable pub NotesColons : {A : Type 0} → List ℕ → Values → Values → Result A ExprFault → Type 0
-NotesColons text old new (Ok a) = (toks : List Tok) × Lexes text toks true × (used_values new ≡ with_colons toks (used_values old))
+NotesColons text old new (Ok a) = (toks : List Tok) × Lexes text toks true
+    × (used_values new ≡ with_colons toks (used_values old))
 NotesColons text old new (Err f) = f ≢ fault.NoMemory → used_values new ≡ used_values old
 
 -- what is given stays

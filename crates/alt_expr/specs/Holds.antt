@@ -45,7 +45,8 @@ abbrev mutual
   -- whether two maps have equal values under equal names
   pub same_fields : Fields → Fields → Bool
   same_fields no_fields no_fields = true
-  same_fields (field_then m s es) (field_then n t fs) = bytes_eq m n && same s t && same_fields es fs
+  same_fields (field_then m s es) (field_then n t fs) =
+      bytes_eq m n && same s t && same_fields es fs
   same_fields _ _ = false
 
 -- The size of a text or a binary is its bytes, that of a set, a list or a map its elements; nothing else has one.
@@ -139,7 +140,8 @@ judged item (Cond-F.All held) = list_all (λ b. b) held
 judged item (Cond-F.Not held) = not held
 judged item (Cond-F.Compare by x y) = compares by (denoted item x) (denoted item y)
 judged item (Cond-F.Between x low high) =
-    compares GreaterEqual (denoted item x) (denoted item low) && compares LessEqual (denoted item x) (denoted item high)
+    compares GreaterEqual (denoted item x) (denoted item low)
+    && compares LessEqual (denoted item x) (denoted item high)
 judged item (Cond-F.Among x ys) = list_any (λ y. equal (denoted item x) (denoted item y)) ys
 judged item (Cond-F.Exists path) = is_some (located item path)
 judged item (Cond-F.NotExists path) = not (is_some (located item path))

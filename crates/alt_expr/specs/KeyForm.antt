@@ -117,8 +117,10 @@ range_front _ None = None
 -- what is asked of the RANGE attribute, by the top of a tree
 abbrev pub range_at : Key → Cond-F Cond → Option RangeTest
 range_at key (Cond-F.Compare by x y) = range_comparison (key_test key by x y)
-range_at key (Cond-F.Between x low high) = if is_key key x then range_between (value_for key low) (value_for key high) else None
-range_at key (Cond-F.BeginsWith x y) = if is_key key x then range_front key.kind (value_for key y) else None
+range_at key (Cond-F.Between x low high) =
+    if is_key key x then range_between (value_for key low) (value_for key high) else None
+range_at key (Cond-F.BeginsWith x y) =
+    if is_key key x then range_front key.kind (value_for key y) else None
 range_at key _ = None
 
 -- what a condition asks of the RANGE attribute
@@ -162,7 +164,8 @@ ask_of hash range x = ask_at hash range (out-Cond x)
 abbrev pub in_range : RangeTest → Option Tree → Bool
 in_range anything t = true
 in_range (compared by v) t = compares by t (Some (tree_of v))
-in_range (between low high) t = compares c.GreaterEqual t (Some (tree_of low)) && compares c.LessEqual t (Some (tree_of high))
+in_range (between low high) t =
+    compares c.GreaterEqual t (Some (tree_of low)) && compares c.LessEqual t (Some (tree_of high))
 in_range (fronted v) t = begins t (Some (tree_of v))
 
 -- the RANGE value of an item meets the test; where there is no RANGE key, nothing is asked
@@ -172,4 +175,5 @@ range_meets None test item = true
 
 -- an item has the HASH value, and its RANGE value meets the test
 abbrev pub meets : Key → Option Key → Ask → View → Bool
-meets hash range ask item = compares c.Equal (item hash.name) (Some (tree_of ask.hash)) && range_meets range ask.range item
+meets hash range ask item =
+    compares c.Equal (item hash.name) (Some (tree_of ask.hash)) && range_meets range ask.range item

@@ -9,12 +9,15 @@ use Rattle.alt_expr.specs.Spelling.{Stands, NoneStands, skip}
 -- left, and the place in the text where no token stands. In the last two cases as much is left as before.
 abbrev pub Lexed : List ℕ → List ℕ → Result (Option Token) At → List ℕ → Type 0
 Lexed text left (Ok None) new = (skip left ≡ []) × (new ≡ left)
-Lexed text left (Ok (Some t)) new = (len : ℕ) × Stands (skip left) len (tok_of t) × (new ≡ drop len (skip left))
+Lexed text left (Ok (Some t)) new = (len : ℕ) × Stands (skip left) len (tok_of t)
+    × (new ≡ drop len (skip left))
 Lexed text left (Err e) new =
-    (skip left ≡ [] → ⊥) × NoneStands (skip left) × (e.at ≤ length text) × (drop e.at text ≡ skip left) × (new ≡ left)
+    (skip left ≡ [] → ⊥) × NoneStands (skip left) × (e.at ≤ length text)
+    × (drop e.at text ≡ skip left) × (new ≡ left)
 
 -- a text has these tokens, up to its end, or else up to the first place where none stands
 abbrev pub Lexes : List ℕ → List Tok → Bool → Type 0
 Lexes text [] true = skip text ≡ []
 Lexes text [] false = (skip text ≡ [] → ⊥) × NoneStands (skip text)
-Lexes text (t ∷ ts) whole = (len : ℕ) × Stands (skip text) len t × Lexes (drop len (skip text)) ts whole
+Lexes text (t ∷ ts) whole = (len : ℕ) × Stands (skip text) len t
+    × Lexes (drop len (skip text)) ts whole

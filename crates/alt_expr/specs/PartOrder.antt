@@ -10,6 +10,7 @@ use Rattle.alt_expr.specs.PathOrder.{numbers_of, part_cmp}
 use Rattle.alt_expr.specs.declared.path.PathPart.{PathPart}
 use Rattle.alt_expr.specs.declared.path.PathPart.TheVariants.{Name, Index}
 
+-- what is told with what holds is told alone
 and_true : (b : Bool) → (b && true) ≡ b
 and_true true = refl
 and_true false = refl
@@ -23,7 +24,8 @@ by_numbers (Index i) (Index j) = and_true (nat_eq i j)
 
 -- being one step is an equality
 pub parts_equiv : IsEquivalence same_step
-parts_equiv = subst IsEquivalence (λ i s t. by_numbers s t i) (on_equiv numbers_of nat_list_eq_equiv)
+parts_equiv =
+    subst IsEquivalence (λ i s t. by_numbers s t i) (on_equiv numbers_of nat_list_eq_equiv)
 
 -- the same, as `PartialEq` asks for it
 pub parts_per : IsPartialEquivalence same_step

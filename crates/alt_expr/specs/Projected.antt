@@ -55,19 +55,23 @@ pair_then name (Some t) fs = field_then name t fs
 abbrev mutual
   -- what the paths choose of a value: the whole where one ends, else the parts that they name
   pub chosen : List (List PathPart) → Tree → Option Tree
-  chosen paths (L_tree ts) = if is_whole paths then Some (L_tree ts) else some_list (chosen_elements paths 0 ts)
-  chosen paths (M_tree fs) = if is_whole paths then Some (M_tree fs) else some_map (chosen_fields paths fs)
+  chosen paths (L_tree ts) =
+      if is_whole paths then Some (L_tree ts) else some_list (chosen_elements paths 0 ts)
+  chosen paths (M_tree fs) =
+      if is_whole paths then Some (M_tree fs) else some_map (chosen_fields paths fs)
   chosen paths t = if is_whole paths then Some t else None
 
   -- what the paths choose of the elements from an index on
   pub chosen_elements : List (List PathPart) → ℕ → Trees → Trees
   chosen_elements paths i no_trees = no_trees
-  chosen_elements paths i (tree_then t ts) = element_then (chosen (under (Index i) paths) t) (chosen_elements paths (suc i) ts)
+  chosen_elements paths i (tree_then t ts) =
+      element_then (chosen (under (Index i) paths) t) (chosen_elements paths (suc i) ts)
 
   -- what the paths choose of the fields of a map
   pub chosen_fields : List (List PathPart) → Fields → Fields
   chosen_fields paths no_fields = no_fields
-  chosen_fields paths (field_then name t fs) = pair_then name (chosen (under (Name name) paths) t) (chosen_fields paths fs)
+  chosen_fields paths (field_then name t fs) =
+      pair_then name (chosen (under (Name name) paths) t) (chosen_fields paths fs)
 
 -- what paths choose of an item
 abbrev pub projected : List (List PathPart) → List Pair → List Pair

@@ -13,6 +13,7 @@ module _ {D A : Type 0} (L : Language D A) (g : Given) (toks : List Tok) where
   abbrev pub IsOf : Type 0
   IsOf = (d : D) × (toks ≡ L.toks d)
 
+  -- the tokens are those of a phrase, and this is its tree
   abbrev pub IsTree : A → Type 0
   IsTree a = (d : D) × (toks ≡ L.toks d) × (a ≡ L.tree g d)
 
@@ -26,11 +27,16 @@ module _ {D A : Type 0} (L : Language D A) (g : Given) (toks : List Tok) where
   TokensHave whole fault.TooLong = ⊥
   TokensHave whole fault.TooDeep = TooDeep toks
   TokensHave whole fault.Syntax = (whole ≡ true) × IsOf → ⊥
-  TokensHave whole fault.Undefined = (whole ≡ true) × ((d : D) × (toks ≡ L.toks d) × (list_any (is_unknown g) (L.toks d) ≡ true))
-  TokensHave whole fault.TooMany = (whole ≡ true) × ((d : D) × (toks ≡ L.toks d) × (L.is_crowded (L.tree g d) ≡ true))
-  TokensHave whole fault.RepeatedClause = (whole ≡ true) × ((d : D) × (toks ≡ L.toks d) × (L.repeats d ≡ true))
-  TokensHave whole fault.Overlap = (whole ≡ true) × ((d : D) × (toks ≡ L.toks d) × (L.overlaps (L.tree g d) ≡ true))
+  TokensHave whole fault.Undefined = (whole ≡ true)
+      × ((d : D) × (toks ≡ L.toks d) × (list_any (is_unknown g) (L.toks d) ≡ true))
+  TokensHave whole fault.TooMany = (whole ≡ true)
+      × ((d : D) × (toks ≡ L.toks d) × (L.is_crowded (L.tree g d) ≡ true))
+  TokensHave whole fault.RepeatedClause = (whole ≡ true)
+      × ((d : D) × (toks ≡ L.toks d) × (L.repeats d ≡ true))
+  TokensHave whole fault.Overlap = (whole ≡ true)
+      × ((d : D) × (toks ≡ L.toks d) × (L.overlaps (L.tree g d) ≡ true))
   TokensHave whole fault.NoMemory = ⊥
 
+  -- the tokens so far may be cut off: a tree only where they are whole
   unfoldable pub ReadTokens : Bool → Result A ExprFault → Type 0
   ReadTokens whole result = Answers (TokensHave whole) (λ a. (whole ≡ true) × IsTree a) result

@@ -32,10 +32,12 @@ and_then None f = None
 and_then (Some p) f = f p.0 p.1
 
 infixl 10 ◌>>=◌
+-- a parser, and behind it the parser that its tree picks
 abbrev pub ◌>>=◌ : {A B : Type 0} → Parser A → (A → Parser B) → Parser B
 p >>= f = λ i. and_then (p i) f
 
 infixl 10 ◌>>◌
+-- a parser, and behind it another whatever the first one gave
 abbrev pub ◌>>◌ : {A B : Type 0} → Parser A → Parser B → Parser B
 p >> q = p >>= (λ _. q)
 
@@ -44,6 +46,7 @@ abbrev pub pure : {A : Type 0} → A → Parser A
 pure a = λ i. Some (a, i)
 
 infixr 11 ◌<$>◌
+-- a parser with its tree made into another
 abbrev pub ◌<$>◌ : {A B : Type 0} → (A → B) → Parser A → Parser B
 f <$> p = p >>= (λ x. pure (f x))
 
@@ -153,7 +156,8 @@ part names = do
         pure (Some x)) else pure None)
 
 -- further parts behind one that was read, or the parts found
-abbrev pub parts_on : (List PathPart → Parser (List PathPart)) → List PathPart → Option PathPart → Parser (List PathPart)
+abbrev pub parts_on : (List PathPart → Parser (List PathPart)) → List PathPart → Option PathPart
+    → Parser (List PathPart)
 parts_on more found (Some x) = more (found ++ x ∷ [])
 parts_on more found None = pure found
 

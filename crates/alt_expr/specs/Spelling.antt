@@ -84,7 +84,8 @@ spelled (b ∷ bs) =
     else if b == 35 then (if is_some_inner bs then Some (hash (b ∷ bs)) else None)
     else if b == 58 then (if is_some_inner bs then Some (colon (b ∷ bs)) else None)
     else if is_ascii_digit b then
-    (if list_all is_ascii_digit bs && nat_le (length bs) 8 then Some (index (number_of (b ∷ bs))) else None)
+    (if list_all is_ascii_digit bs && nat_le (length bs) 8
+    then Some (index (number_of (b ∷ bs))) else None)
     else spelled_mark b bs
 
 -- the token is the longest that a front of the text spells, and has this length

@@ -57,8 +57,10 @@ pub data UpdatePhrase : Type 0 where
 abbrev pub term_toks : TermPhrase → List Tok
 term_toks (at p) = path_toks p
 term_toks (value w) = colon w ∷ []
-term_toks (if_not_exists p x) = call_toks (codes "if_not_exists") (path_toks p ++ mark m.Comma ∷ term_toks x)
-term_toks (list_append x y) = call_toks (codes "list_append") (term_toks x ++ mark m.Comma ∷ term_toks y)
+term_toks (if_not_exists p x) =
+    call_toks (codes "if_not_exists") (path_toks p ++ mark m.Comma ∷ term_toks x)
+term_toks (list_append x y) =
+    call_toks (codes "list_append") (term_toks x ++ mark m.Comma ∷ term_toks y)
 
 -- the tokens of a sum
 abbrev pub sum_toks : SumPhrase → List Tok

@@ -50,7 +50,8 @@ list_append one = do
 -- a term, to a depth
 unfoldable pub term : Given → ℕ → Parser Term
 term g zero = refuse
-term g (suc depth) = λ i. if calls (codes "if_not_exists") i then (skip 2 >> if_not_exists g (term g depth)) i
+term g (suc depth) =
+    λ i. if calls (codes "if_not_exists") i then (skip 2 >> if_not_exists g (term g depth)) i
     else if calls (codes "list_append") i then (skip 2 >> list_append (term g depth)) i
     else operand g i
 
@@ -140,7 +141,8 @@ is_done i = length i == 0
 -- further clauses, up to the last token
 unfoldable pub clauses_from : Given → ℕ → List Action → Parser (List Action)
 clauses_from g zero found = refuse
-clauses_from g (suc n) found = λ i. if is_done i then Some (found, i) else (clause g found >>= clauses_from g n) i
+clauses_from g (suc n) found =
+    λ i. if is_done i then Some (found, i) else (clause g found >>= clauses_from g n) i
 
 -- one or more clauses, up to the last token
 unfoldable pub update : Given → Parser (List Action)

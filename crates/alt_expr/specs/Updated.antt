@@ -28,6 +28,7 @@ pub data Fault : Type 0 where
 
 -- what comes next, unless there was a fault
 infixl 10 ◌>>=◌
+-- what comes next, of a result that is Ok; a fault stays
 abbrev pub ◌>>=◌ : {A B : Type 0} → Result A Fault → (A → Result B Fault) → Result B Fault
 Ok a >>= next = next a
 Err f >>= next = Err f
@@ -105,7 +106,8 @@ takes _ _ = Err wrong_kind
 -- A path of more than one part needs its parent there before, of the kind that takes its last part.
 abbrev pub parent : View → List PathPart → Result (Unit {0}) Fault
 parent item path =
-    if nat_lt 1 (length path) then there (located item (take (length path - 1) path)) >>= (λ t. takes t (slice_get path (length path - 1)))
+    if nat_lt 1 (length path) then there (located item (take (length path - 1) path))
+    >>= (λ t. takes t (slice_get path (length path - 1)))
     else Ok tt
 
 -- ADD puts a number or a set where nothing was, and else adds to a number, or unites a set with a set of its kind.
@@ -182,7 +184,8 @@ is_taken (_ ∷ es) = is_taken es
 -- what is put at an index past the end, by rising index
 abbrev pub past : ℕ → List Edit → List (ℕ × Tree)
 past n [] = []
-past n ((Index i ∷ [], Some t) ∷ es) = if nat_le n i then entries.put nat_cmp i t (past n es) else past n es
+past n ((Index i ∷ [], Some t) ∷ es) =
+    if nat_le n i then entries.put nat_cmp i t (past n es) else past n es
 past n (_ ∷ es) = past n es
 
 -- the pairs with a value at a name; a map has no empty name, and no text has one either
@@ -206,19 +209,24 @@ outcome None false within = Some within
 abbrev mutual
   -- a value after edits: put, taken away, or changed within
   pub changed : List Edit → Tree → Option Tree
-  changed es (L_tree ts) = outcome (put_here es) (is_taken es) (L_tree (trees_of (elements (changed_elements es 0 ts) ++ map (λ p. p.1) (past (length (elements ts)) es))))
-  changed es (M_tree fs) = outcome (put_here es) (is_taken es) (M_tree (fields_of (put_names es (pairs (changed_fields es fs)))))
+  changed es (L_tree ts) = outcome (put_here es) (is_taken es)
+      (L_tree (trees_of
+      (elements (changed_elements es 0 ts) ++ map (λ p. p.1) (past (length (elements ts)) es))))
+  changed es (M_tree fs) = outcome (put_here es) (is_taken es)
+      (M_tree (fields_of (put_names es (pairs (changed_fields es fs)))))
   changed es t = outcome (put_here es) (is_taken es) t
 
   -- the elements from an index on, after edits
   pub changed_elements : List Edit → ℕ → Trees → Trees
   changed_elements es i no_trees = no_trees
-  changed_elements es i (tree_then t ts) = element_then (changed (under (Index i) es) t) (changed_elements es (suc i) ts)
+  changed_elements es i (tree_then t ts) =
+      element_then (changed (under (Index i) es) t) (changed_elements es (suc i) ts)
 
   -- the fields of a map, after edits
   pub changed_fields : List Edit → Fields → Fields
   changed_fields es no_fields = no_fields
-  changed_fields es (field_then name t fs) = pair_then name (changed (under (Name name) es) t) (changed_fields es fs)
+  changed_fields es (field_then name t fs) =
+      pair_then name (changed (under (Name name) es) t) (changed_fields es fs)
 
 -- what becomes of a place, where something may have been
 abbrev pub after : List Edit → Option Tree → Option Tree
@@ -227,4 +235,5 @@ after es (Some t) = changed es t
 
 -- the item after an update, or why the first refused action is
 abbrev pub updated : View → List Action → Result View Fault
-updated item update = edits item update >>= (λ es. Ok (λ name. after (under (Name name) es) (item name)))
+updated item update =
+    edits item update >>= (λ es. Ok (λ name. after (under (Name name) es) (item name)))

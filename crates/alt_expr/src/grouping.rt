@@ -38,7 +38,8 @@ pub fn groups<K: Ord + Drop, T: Drop>(
     pairs: Vec<(K, T)>,
 ) -> Result<Vec<(K, Vec<T>)>, NoMemory>
     ensures rising { IfOk result (λ v. IsStrictlySortedBy K.cmp (keys_of v.items)) }
-    ensures groups { IfOk result (λ v. (q : K) → option_map_or (λ g. g.items) (lookup (eq_by_cmp K.cmp q) v.items) []
+    ensures groups { IfOk result (λ v. (q : K)
+        → option_map_or (λ g. g.items) (lookup (eq_by_cmp K.cmp q) v.items) []
         ≡ map (λ p. p.1) (filter (λ p. eq_by_cmp K.cmp p.0 q) pairs.items)) }
 {
     let by_key = gathered(alloc, pairs)?;

@@ -9,7 +9,8 @@ use alt_value::Attr;
 
 /// The part of the item that the path leads to, None exactly where it is missing.
 pub fn located<'a, V: AttrView>(path: &[PathPart], view: &'a V) -> Option<&'a Attr>
-    ensures part { option_map (λ a. tree_of a.now) result ≡ spec.located (V.attribute view.now) path.now }
+    ensures part { option_map (λ a. tree_of a.now) result
+        ≡ spec.located (V.attribute view.now) path.now }
 {
     match path {
         [PathPart::Name(name), steps @ ..] => match view.attr(name.as_str()) {
@@ -22,7 +23,8 @@ pub fn located<'a, V: AttrView>(path: &[PathPart], view: &'a V) -> Option<&'a At
 
 /// The part of a value that the steps lead to, None exactly where it is missing.
 pub fn part<'a>(steps: &[PathPart], value: &'a Attr) -> Option<&'a Attr>
-    ensures part { option_map (λ a. tree_of a.now) result ≡ spec.part steps.now (tree_of value.now) }
+    ensures part { option_map (λ a. tree_of a.now) result
+        ≡ spec.part steps.now (tree_of value.now) }
 {
     let mut here = value;
     for step in steps {

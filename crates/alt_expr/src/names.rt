@@ -34,9 +34,11 @@ impl Names {
     pub fn of_json(alloc: Global, v: Option<&Map<String, Value>>) -> Result<Names, NoMemory>
         requires { IfSome v (λ m. gives_names (members_view m.now.entries) ≡ true) }
         ensures given { IfOk result
-            (λ n. given_names n ≡ option_map_or (λ m. names_in [] (members_view m.now.entries)) v.entry []) }
+            (λ n. given_names n ≡ option_map_or
+            (λ m. names_in [] (members_view m.now.entries)) v.entry []) }
         ensures empty { IfOk result
-            (λ n. is_empty_given n ≡ option_map_or (λ m. gives_empty (members_view m.now.entries)) v.entry false) }
+            (λ n. is_empty_given n ≡ option_map_or
+            (λ m. gives_empty (members_view m.now.entries)) v.entry false) }
         ensures unused { IfOk result (λ n. used_names n ≡ []) }
     {
         let mut given = Item::new(alloc);
@@ -53,7 +55,8 @@ impl Names {
 
     /// Whether a given word stands in none of the texts that were parsed.
     pub fn unused(&self) -> bool
-        ensures unused { result ≡ (is_empty_given self.now || has_unused (given_names self.now) (used_names self.now)) }
+        ensures unused { result
+            ≡ (is_empty_given self.now || has_unused (given_names self.now) (used_names self.now)) }
     {
         self.empty || has_unused(&self.given, &self.used)
     }
@@ -80,7 +83,8 @@ impl Names {
 
     /// Notes the words of a text that was parsed. Where memory is wanting, some of them may be noted.
     pub fn use_words(&mut self, tokens: &[Token<'_>]) -> Result<(), NoMemory>
-        ensures used { OnOk result (used_names self.new ≡ with_hashes (map tok_of tokens.now) (used_names self.old)) }
+        ensures used { OnOk result (used_names self.new
+            ≡ with_hashes (map tok_of tokens.now) (used_names self.old)) }
         ensures given { given_names self.new ≡ given_names self.old }
         ensures empty { is_empty_given self.new ≡ is_empty_given self.old }
     {
@@ -101,7 +105,8 @@ fn put_names(
 ) -> Result<bool, NoMemory>
     requires members { gives_names (members_view members.now.entries) ≡ true }
     requires names { are_names given.old ≡ true }
-    ensures given { OnOk result (given.new ≡ names_in given.old (members_view members.now.entries)) }
+    ensures given { OnOk result
+        (given.new ≡ names_in given.old (members_view members.now.entries)) }
     ensures empty { IfOk result (λ e. e ≡ gives_empty (members_view members.now.entries)) }
     ensures names { OnOk result (are_names given.new ≡ true) }
 {

@@ -37,7 +37,8 @@ pub fn read_path_in_brackets(
     names: &Names,
     tokens: &mut Cursor<'_>,
 ) -> Result<Path, ExprFault>
-    ensures { Reads (spec.in_brackets (spec.path (given_names names.now)) (left tokens.old)) result (left tokens.new) }
+    ensures { Reads (spec.in_brackets (spec.path (given_names names.now)) (left tokens.old)) result
+        (left tokens.new) }
 {
     let path = read_path(alloc, names, tokens)?;
     tokens.expect(Mark::RightRound)?;

@@ -12,7 +12,8 @@ use crate::values::Values;
 
 /// Whether one of the `#` and `:` words isn't given.
 pub fn is_undefined(tokens: &[Token<'_>], names: &Names, values: &Values) -> bool
-    ensures { result ≡ list_any (is_unknown (given_by names.now values.now)) (map tok_of tokens.now) }
+    ensures { result ≡ list_any (is_unknown (given_by names.now values.now))
+        (map tok_of tokens.now) }
 {
     for token in tokens {
         if is_unknown(*token, names, values) {

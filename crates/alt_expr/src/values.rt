@@ -44,7 +44,8 @@ impl Values {
 
     /// The value that a word stands for.
     pub fn value(&self, word: &str) -> Option<&Attr>
-        ensures value { option_map (λ a. tree_of a.now) result ≡ at_name word.now (given_values self.now) }
+        ensures value { option_map (λ a. tree_of a.now) result
+            ≡ at_name word.now (given_values self.now) }
     {
         self.given.get(word)
     }
@@ -61,7 +62,8 @@ impl Values {
 
     /// Notes the words of a text that was parsed. Where memory is wanting, some of them may be noted.
     pub fn use_words(&mut self, tokens: &[Token<'_>]) -> Result<(), NoMemory>
-        ensures used { OnOk result (used_values self.new ≡ with_colons (map tok_of tokens.now) (used_values self.old)) }
+        ensures used { OnOk result (used_values self.new
+            ≡ with_colons (map tok_of tokens.now) (used_values self.old)) }
         ensures given { given_values self.new ≡ given_values self.old }
     {
         for token in tokens {
@@ -96,7 +98,8 @@ pub(crate) fn has_unused(given: &Item, used: &TextSet) -> bool
 }
 
 fn is_unused(given: &Item, place: usize, used: &TextSet) -> bool
-    ensures { result ≡ option_map_or (λ p. not (has_member text_order p.0 used.now)) (slice_get given.now place) false }
+    ensures { result ≡ option_map_or (λ p. not (has_member text_order p.0 used.now))
+        (slice_get given.now place) false }
 {
     match given.at(place) {
         Some((word, _)) => !used.contains(word),

@@ -14,6 +14,7 @@ use Rattle.alt_fields.proofs.Numbers.{stands_within}
 pub front : {A : Type 0} (x y : A) (xs ys : List A) → x ∷ xs ≡ y ∷ ys → x ≡ y
 front x y xs ys e = cc
 
+-- equal lists have equal tails
 pub back : {A : Type 0} (x y : A) (xs ys : List A) → x ∷ xs ≡ y ∷ ys → xs ≡ ys
 back x y xs ys e = cc
 
@@ -22,7 +23,8 @@ pub nothing : {A : Type 0} (x : A) (xs : List A) → [] ≡ x ∷ xs → ⊥
 nothing x xs e = absurd (cc)
 
 -- lists of one length in front of others
-pub same_fronts : {A : Type 0} (s t x y : List A) → length s ≡ length t → s ++ x ≡ t ++ y → (s ≡ t) × (x ≡ y)
+pub same_fronts : {A : Type 0} (s t x y : List A) → length s ≡ length t → s ++ x ≡ t ++ y
+    → (s ≡ t) × (x ≡ y)
 same_fronts [] [] x y n e = (refl, e)
 same_fronts [] (b ∷ t) x y n e = absurd (omega (arith, n))
 same_fronts (a ∷ s) [] x y n e = absurd (omega (arith, n))
@@ -32,20 +34,24 @@ same_fronts (a ∷ s) (b ∷ t) x y n e =
 
 -- what holds of each element of two lists holds of those of both, of the front and of the back
 module _ {A : Type 0} (P : A → Type 0) where
-  pub all_append : (xs ys : List A) → AllByRecursion P xs → AllByRecursion P ys → AllByRecursion P (xs ++ ys)
+  pub all_append : (xs ys : List A) → AllByRecursion P xs → AllByRecursion P ys
+      → AllByRecursion P (xs ++ ys)
   all_append [] ys a b = b
   all_append (x ∷ xs) ys a b = (a.0, all_append xs ys a.1 b)
 
+  -- what holds of each of two lists together holds of each of the first
   pub all_front : (xs ys : List A) → AllByRecursion P (xs ++ ys) → AllByRecursion P xs
   all_front [] ys a = tt
   all_front (x ∷ xs) ys a = (a.0, all_front xs ys a.1)
 
+  -- what holds of each of two lists together holds of each of the second
   pub all_back : (xs ys : List A) → AllByRecursion P (xs ++ ys) → AllByRecursion P ys
   all_back [] ys a = a
   all_back (x ∷ xs) ys a = all_back xs ys a.1
 
 -- what follows of each element
-pub all_map : {A : Type 0} (P Q : A → Type 0) (xs : List A) → ((x : A) → P x → Q x) → AllByRecursion P xs
+pub all_map : {A : Type 0} (P Q : A → Type 0) (xs : List A) → ((x : A) → P x → Q x)
+    → AllByRecursion P xs
     → AllByRecursion Q xs
 all_map P Q [] f a = tt
 all_map P Q (x ∷ xs) f a = (f x a.0, all_map P Q xs f a.1)
@@ -63,11 +69,13 @@ module _ {K : Type 0} (spell : K → List ℕ) (P : K → Type 0) where
       → (k ≡ l) × (flat_map spell ks ++ x ≡ flat_map spell ls ++ y)
   step k l ks ls x y a b e =
       a l (flat_map spell ks ++ x) (flat_map spell ls ++ y) b
-      (sym (append_assoc (spell k) (flat_map spell ks) x) ∙ e ∙ append_assoc (spell l) (flat_map spell ls) y)
+      (sym (append_assoc (spell k) (flat_map spell ks) x) ∙ e
+      ∙ append_assoc (spell l) (flat_map spell ls) y)
 
   -- as many spellings are of the same
   pub same_many : (ks ls : List K) (x y : List ℕ) → AllByRecursion IsApart ks → AllByRecursion P ls
-      → length ks ≡ length ls → flat_map spell ks ++ x ≡ flat_map spell ls ++ y → (ks ≡ ls) × (x ≡ y)
+      → length ks ≡ length ls → flat_map spell ks ++ x ≡ flat_map spell ls ++ y
+      → (ks ≡ ls) × (x ≡ y)
   same_many [] [] x y a b n e = (refl, e)
   same_many [] (l ∷ ls) x y a b n e = absurd (omega (arith, n))
   same_many (k ∷ ks) [] x y a b n e = absurd (omega (arith, n))
@@ -95,6 +103,7 @@ module _ {K : Type 0} (spell : K → List ℕ) (P : K → Type 0) where
     pub is : ls ≡ ks ++ next ∷ others
     pub there : x ≡ spell next ++ (flat_map spell others ++ y)
 
+  -- where pieces read alike and there are more of the second kind, those left over stand where the first ones end
   pub further : (ks ls : List K) (x y : List ℕ) → AllByRecursion IsApart ks → AllByRecursion P ls
       → length ks < length ls → flat_map spell ks ++ x ≡ flat_map spell ls ++ y → Further ks ls x y
   further [] [] x y a b n e = absurd (omega (arith, n))
@@ -123,8 +132,10 @@ module _ {K : Type 0} (spell : K → List ℕ) (P : K → Type 0) where
 -- ---- numbers and fields
 
 -- the number that eight bytes spell
-pub told : (n : ℕ) (x : List ℕ) → n < 2 ^ 64 → from_be_bytes w64 (take 8 (to_be_bytes w64 n ++ x)) ≡ n
-told n x h = ap (from_be_bytes w64) (take_at (to_be_bytes w64 n) x 8 refl) ∙ from_be_bytes-to_be_bytes_8 n h
+pub told : (n : ℕ) (x : List ℕ) → n < 2 ^ 64
+    → from_be_bytes w64 (take 8 (to_be_bytes w64 n ++ x)) ≡ n
+told n x h = ap (from_be_bytes w64) (take_at (to_be_bytes w64 n) x 8 refl)
+    ∙ from_be_bytes-to_be_bytes_8 n h
 
 -- whatever follows them, eight bytes are those of one number
 pub number-apart : (m n : ℕ) (x y : List ℕ) → m < 2 ^ 64 → n < 2 ^ 64
@@ -135,10 +146,12 @@ number-apart m n x y hm hn e = (
 )
 
 -- whatever follows it, a field is that of one byte string
-pub field-apart : (s t x y : List ℕ) → IsShort s → IsShort t → field s ++ x ≡ field t ++ y → (s ≡ t) × (x ≡ y)
+pub field-apart : (s t x y : List ℕ) → IsShort s → IsShort t → field s ++ x ≡ field t ++ y
+    → (s ≡ t) × (x ≡ y)
 field-apart s t x y hs ht e =
     let h = number-apart (length s) (length t) (s ++ x) (t ++ y) hs ht
-    (sym (append_assoc (to_be_bytes w64 (length s)) s x) ∙ e ∙ append_assoc (to_be_bytes w64 (length t)) t y) in
+    (sym (append_assoc (to_be_bytes w64 (length s)) s x) ∙ e
+    ∙ append_assoc (to_be_bytes w64 (length t)) t y) in
     same_fronts s t x y h.0 h.1
 
 -- how long a field is
@@ -164,6 +177,7 @@ cut_front bytes piece rest end at e r =
     ∙ ap (λ s. piece ++ s) (sym r)
 
 -- a number that stands there ends within the bytes
-pub number_within : (bytes : List ℕ) (n end : ℕ) → StandsAt bytes 0 (to_be_bytes w64 n) → end ≡ 8 → end ≤ length bytes
+pub number_within : (bytes : List ℕ) (n end : ℕ) → StandsAt bytes 0 (to_be_bytes w64 n) → end ≡ 8
+    → end ≤ length bytes
 number_within bytes n end at e =
     omega (arith, stands_within bytes (to_be_bytes w64 n) 0 8 at refl (omega arith), e)

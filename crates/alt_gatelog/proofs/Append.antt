@@ -142,6 +142,7 @@ module _ (form : Form) (s0 : DiskState) (f at : ℕ) (places : List ℕ) (entrie
   before_all settled t left fits =
       inl (before_log left reads.gate reads.rest reads.closed (settled left fits ∙ reads.file))
 
+  -- a file that reads is cut before its gate and behind it
   split : front ++ reads.gate ∷ reads.rest ≡ (front ++ reads.gate ∷ []) ++ reads.rest
   split = sym (append_assoc front (reads.gate ∷ []) reads.rest)
 
@@ -166,6 +167,7 @@ module _ (form : Form) (s0 : DiskState) (f at : ℕ) (places : List ℕ) (entrie
   abbrev pub staged : List ℕ
   staged = front ++ (reads.gate ∷ []) ++ (body ++ tail)
 
+  -- the body written behind the gate makes the file as it is staged
   pub staged_is : overwritten (contents s0 f) (at + 1) body ≡ staged
   staged_is =
       ap (λ (l : List ℕ). overwritten l (at + 1) body) (ap bytes_or_none reads.file ∙ split)

@@ -5,8 +5,7 @@ use Rattle.std.specs.Result.{IsErrOf}
 use Rattle.std.proofs.lemmas.Bool.{false≢true}
 use Rattle.alt_base.specs.Counts.{next_moment}
 use Rattle.alt_disk.specs.Disk.{DiskState, Tick, Call, Written, Synced, now, contents, overwritten}
-use Rattle.alt_disk.specs.Runs.{RunSoFar}
-use Rattle.alt_disk.proofs.Runs.{begun, after_call, after_sync}
+use Rattle.alt_disk.proofs.Runs.{RunSoFar, begun, after_call, after_sync}
 use Rattle.alt_gatelog.specs.InHand.{AroundWrite, Lasts}
 
 module _ (s0 : DiskState) (f at : ℕ) (bytes : List ℕ) where

@@ -110,6 +110,7 @@ pub cut_long : (ahead : List ℕ) (n : ℕ) → get_or ahead 0 0 ≡ 1
 cut_long [] n gate number short = tt
 cut_long (b ∷ ahead) n gate number short = (gate, inr (omega (arith, short, number)))
 
+-- taking a number of bytes twice takes no fewer
 take-twice : (n : ℕ) (l : List ℕ) → take n (take n l) ≡ take n l
 take-twice zero l = refl
 take-twice (suc n) [] = refl

@@ -4,6 +4,7 @@ use Rattle.alt_disk.specs.Disk.{DiskState}
 use Rattle.alt_disk.specs.Fates.{missing}
 use Rattle.alt_shell.specs.Log.{talk_head}
 
+-- a state of which nothing is told but the moment, the faults and the talk
 abbrev pub untold : ℕ → ℕ → ℕ × List ℕ → DiskState
 untold moment faults talk = record {
   tells = false;

@@ -15,7 +15,8 @@ const MOST_BYTES: u64 = 1 << 62;
 impl<R: Runtime<File = File> + Net> Disk for HostShell<R> {
     ghost use Rattle.std.proofs.lemmas.Bool.{false≢true};
 
-    ghost state = { λ s. told s.moment s.faults s.talking s.talk_faults s.takes_missed s.says_missed };
+    ghost state = { λ s. told s.moment s.faults s.talking s.talk_faults s.takes_missed
+        s.says_missed };
 
     ghost reads_as_image = { λ s trusted f. absurd (false≢true trusted) };
 

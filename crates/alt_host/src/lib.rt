@@ -1,5 +1,5 @@
-//! The real shell: a folder of files, the standard streams, connections on the loopback address and the system's clock. It is the trusted edge of the program, and
-//! tells nothing but its counts (docs/OPERATING.md has what it makes of the folder).
+//! The real shell: a folder of files, the standard streams, connections on the loopback address and the system's clock. It is the
+//! trusted edge of the program, and tells nothing but its counts (docs/OPERATING.md has what it makes of the folder).
 #![tactic(auto)]
 
 mod disk;

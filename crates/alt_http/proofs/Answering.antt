@@ -144,6 +144,7 @@ unfolding scan_of
 scan_of-is bytes = by_front bytes (front_of (window bytes)) (front_is (window bytes))
     (read_head (front_of (window bytes))) (Reads-head (front_of (window bytes)))
 
+-- and the answer that the grammar gives is the one that the reading gives
 pub is-scan_of : (bytes : List ℕ) (scan : Scan) → IsScan bytes scan → scan ≡ scan_of bytes
 is-scan_of bytes scan is = IsScan_unique bytes scan (scan_of bytes) is (scan_of-is bytes)
 

@@ -65,13 +65,16 @@ module _ (bytes new : List ℕ) (within : IsWithin bytes) where
       ((skipped.0, h.0.1), h.1, skipped.2)) none in
       Refutes_next Section RequestStart_deterministic {a = within.start} start_new section
 
+  -- behind whole lines of a head there is no head where no section follows
   pub within_none : HasNoSection new → HasNoRequest (bytes ++ new)
   within_none none = request_not_yet (refutes_behind (NotYet_intro (λ h. none h.0.0 h.0.1 h.1 h.2)))
 
+  -- nor can one come where no section can
   pub within_never : NeverHasSection new → NeverHasRequest (bytes ++ new)
   within_never none = request_never (refutes_behind
       (Never_intro (λ more h. none more h.0.0 h.0.1 h.1 h.2)))
 
+  -- one can come where a section can
   pub within_may : MayBecomeSection new → MayBecomeRequest (bytes ++ new)
   within_may x =
       let section : Completes Section new = record {
@@ -126,10 +129,12 @@ head_before es text h rest reads =
           ∙ sym (print_request-append (record h { blank = es ++ h.blank }) rest),
     )
 
+-- behind empty lines there is no head where none follows
 pub blank_none : (es : List LineEnd) (new : List ℕ) → HasNoRequest new
     → HasNoRequest (print_blank es ++ new)
 blank_none es new none h rest reads = let k = head_behind es new h rest reads in none k.0 rest k.1
 
+-- nor can one come where none can
 pub blank_never : (es : List LineEnd) (new : List ℕ) → NeverHasRequest new
     → NeverHasRequest (print_blank es ++ new)
 blank_never es new none more h rest reads =
@@ -137,6 +142,7 @@ blank_never es new none more h rest reads =
     (subst (λ (l : List ℕ). ReadsRequest l h rest)
     (append_assoc (print_blank es) new more) reads) in none more k.0 rest k.1
 
+-- one can come where one can
 pub blank_may : (es : List LineEnd) (new : List ℕ) → EndsInFeed new → MayBecomeRequest new
     → MayBecomeRequest (print_blank es ++ new)
 blank_may es new ends (inr target) = absurd (not_in_target new ends.line ends.is target)
@@ -241,6 +247,7 @@ pub record FilledAt (bytes : List ℕ) : Type 0 where
   pub pair : get_or bytes (length bytes - 2) 0 ≡ 13
       → (3 ≤ length bytes) × (is_newline (get_or bytes (length bytes - 3) 0) ≡ false)
 
+-- a line with a byte before its end is filled
 filled_at : (front : List ℕ) (b : ℕ) (end : LineEnd) → is_newline b ≡ false
     → FilledAt ((front ++ b ∷ []) ++ print_end end)
 filled_at front b lf other =
@@ -283,6 +290,7 @@ filled_at front b crlf other =
       pair = λ _. (omega (arith, n, m), subst (λ (k : ℕ). is_newline k ≡ false) (sym here) other);
     }
 
+-- bytes that are filled end so
 pub filled_bytes : (bytes : List ℕ) → IsFilled bytes → FilledAt bytes
 filled_bytes bytes f = subst FilledAt (sym f.is) (filled_at f.front f.byte f.end f.other)
 
@@ -294,6 +302,7 @@ blank_bytes (crlf ∷ es) = All-cons (λ b. is_newline b ≡ true) 13 (10 ∷ pr
 blank_bytes (lf ∷ es) = All-cons (λ b. is_newline b ≡ true) 10 (print_blank es) refl
     (blank_bytes es)
 
+-- each byte of empty lines is one of a line's end
 pub blank_at : (bytes : List ℕ) (k : ℕ) → IsBlank bytes → k < length bytes
     → is_newline (get_or bytes k 0) ≡ true
 blank_at bytes k blank below =
@@ -329,6 +338,7 @@ open_short bytes front on is_front = go (read_head front) (Reads-head front)
     go never read = let may = on.each front is_front in
         absurd (request_never read may.more may.head [] may.reads)
 
+-- bytes that can go on have a front that is within a head, or blank
 pub resumed_far : (bytes front : List ℕ) → CanGoOn bytes → IsFront bytes front
     → IsWithin front ⊎ IsBlank front
 resumed_far bytes front on is_front = so_far front
@@ -375,6 +385,7 @@ new_ends bytes front before r more = by_tail (tail_behind front (take before fro
     by_tail (inl none) = let n = ap length none in let m = length-drop before front in
         let w = r.within in absurd (more (omega (arith, n, m)))
 
+-- where a section may come behind the lines that were read, more bytes are wanted
 pub fields_on : (bytes front : List ℕ) (before : ℕ) → IsResumed bytes front before
     → IsWithin (take before front) → HasNoSection (drop before front)
     → MayBecomeSection (drop before front) → CanGoOn bytes
@@ -384,6 +395,7 @@ fields_on bytes front before r within none may =
     (within_none (take before front) (drop before front) within none))
     (subst MayBecomeRequest whole (within_may (take before front) (drop before front) within may))
 
+-- where none can come the bytes are refused
 pub fields_bad : (bytes front : List ℕ) (before : ℕ) → IsResumed bytes front before
     → IsWithin (take before front) → NeverHasSection (drop before front) → IsScan bytes (Refused 1)
 fields_bad bytes front before r within none =
@@ -396,6 +408,7 @@ blank_whole' : (front : List ℕ) (before : ℕ) (blank : IsBlank (take before f
 blank_whole' front before blank = ap (λ (l : List ℕ). l ++ drop before front) (sym blank.is)
     ∙ take-append-drop before front
 
+-- where a head may come behind the empty lines, more bytes are wanted
 pub start_on : (bytes front : List ℕ) (before : ℕ) → IsResumed bytes front before
     → before ≢ length front → IsBlank (take before front)
     → HasNoRequest (drop before front) → MayBecomeRequest (drop before front) → CanGoOn bytes
@@ -406,6 +419,7 @@ start_on bytes front before r more blank none may =
     (subst MayBecomeRequest whole (blank_may blank.ends (drop before front)
     (new_ends bytes front before r more) may))
 
+-- where none can come the bytes are refused
 pub start_bad : (bytes front : List ℕ) (before : ℕ) → IsResumed bytes front before
     → IsBlank (take before front) → NeverHasRequest (drop before front) → IsScan bytes (Refused 1)
 start_bad bytes front before r blank none =

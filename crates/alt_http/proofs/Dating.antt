@@ -17,6 +17,7 @@ pub record IsPast (days_in days_of : ℕ → ℕ) (most days : ℕ) (past : ℕ 
   pub within : past.1 < days_in past.0
   pub few : past.0 < most
 
+-- whole periods that have passed, and the days behind them, are told by how many days came before
 pub periods_past-is : (days_in days_of : ℕ → ℕ)
     → ((k : ℕ) → days_of (suc k) ≡ days_of k + days_in k) → (n k days : ℕ)
     → days_of k + days < days_of (k + n) → IsPast days_in days_of (k + n) (days_of k + days)

@@ -69,6 +69,7 @@ pub record EndsInFeed (bytes : List ℕ) : Type 0 where
   pub line : List ℕ
   pub is : bytes ≡ line ++ 10 ∷ []
 
+-- the end of a line ends in a line feed
 end_feed : (front : List ℕ) (end : LineEnd) → EndsInFeed (front ++ print_end end)
 end_feed front crlf = record {
   line = front ++ 13 ∷ [];
@@ -77,6 +78,7 @@ end_feed front crlf = record {
 }
 end_feed front lf = record { line = front; is = refl }
 
+-- so does a head
 pub head_ends : (h : RequestHead) → EndsInFeed (print_request h)
 unfolding print_request
 head_ends h =
@@ -132,6 +134,7 @@ front_in_front bytes front other last is_front =
     is_front.ends last.plain (sym is_front.parts ∙ last.is_front.parts) in
     (inside.0, inside.1)
 
+-- where no head stands in the longest front, and one may come, the bytes can go on
 pub go_on : (bytes front : List ℕ) → IsLastFront bytes front → HasNoRequest front
     → MayBecomeRequest front → CanGoOn bytes
 go_on bytes front last none (inr target) = absurd
@@ -167,6 +170,7 @@ go_on_plain bytes plain = record {
     nothing_feed [] (b ∷ line) s e n = cc
     nothing_feed (c ∷ p) line s e n = cc
 
+-- where none can come, the bytes are bad
 pub bad : (bytes front : List ℕ) → IsLastFront bytes front → NeverHasRequest front → IsBad bytes
 bad bytes front last never = record { front = front; is_front = last.is_front; never = never }
 
@@ -188,6 +192,7 @@ fields_long (f ∷ fields) all =
     end_long crlf = omega arith
     end_long lf = omega arith
 
+-- each field has three bytes at least
 pub head_long : (h : RequestHead) → All IsField h.fields
     → length h.fields * 3 ≤ length (print_request h)
 unfolding print_request

@@ -42,6 +42,7 @@ parts_same buf headers spans h at =
       fields = at.fields i;
     }
 
+-- where spans tell a head in a front of the bytes, the answer is what is judged of its parts
 pub found_head : (bytes front : List ℕ) (headers : List HeaderSpan) (spans : RequestSpans)
     (scan : Scan) → IsFront bytes front
     → (h : RequestHead) × IsRequestAt front headers spans h
@@ -66,6 +67,7 @@ bad_no_more : (bytes : List ℕ) → CanGoOn bytes → IsBad bytes → ⊥
 bad_no_more bytes on bad = let may = on.each bad.front bad.is_front in
     bad.never may.more may.head [] may.reads
 
+-- bytes have one answer
 pub IsScan_unique : (bytes : List ℕ) (a b : Scan) → IsScan bytes a → IsScan bytes b → a ≡ b
 IsScan_unique bytes a b (by_head h x e) (by_head k y f) =
     let same = request_unique (window bytes) h k x.0 y.0 x.1 y.1 in
@@ -110,6 +112,7 @@ window_full : (bytes more : List ℕ) → most_of_head ≤ length bytes
     → window (bytes ++ more) ≡ window bytes
 window_full bytes more full = take-append-le most_of_head bytes more full
 
+-- a front of the bytes is one of more bytes
 pub front_stays : (bytes more front : List ℕ) → IsFront bytes front → IsFront (bytes ++ more) front
 front_stays bytes more front is_front =
     let w = window_more bytes more in record {
@@ -120,6 +123,7 @@ front_stays bytes more front is_front =
           ∙ append_assoc front is_front.rest w.0;
     }
 
+-- bytes that fill the window and can go on do so with more bytes
 full_stays : (bytes more : List ℕ) → most_of_head ≤ length bytes → CanGoOn bytes
     → CanGoOn (bytes ++ more)
 full_stays bytes more full on = record {

@@ -19,6 +19,7 @@ use Rattle.alt_http.proofs.Fronts.{EndsInFeed, prefix_split}
 abbrev pub IsTail : List ℕ → Type 0
 IsTail bytes = (bytes ≡ []) ⊎ EndsInFeed bytes
 
+-- behind a part of a line feed there is nothing, or it ends in one
 one_feed : (s r : List ℕ) → 10 ∷ [] ≡ s ++ r → IsTail r
 one_feed [] r f = inr (record { line = []; is = sym f })
 one_feed (c ∷ s) [] f = inl refl
@@ -91,12 +92,15 @@ end_after_cr : (e : LineEnd) (b c : ℕ) (text rest : List ℕ) → Newline e (b
 end_after_cr crlf b c text rest h x y = let feed : c ≡ 10 = cc in grind arith
 end_after_cr lf b c text rest h x y = let feed : b ≡ 10 = cc in grind arith
 
+-- a byte that is told to be a line feed is 10
 pub is_feed : (b : ℕ) → (b == 10) ≡ true → b ≡ 10
 is_feed b h = grind arith
 
+-- a byte that is told to be a carriage return is 13
 pub is_cr : (b : ℕ) → (b == 13) ≡ true → b ≡ 13
 is_cr b h = grind arith
 
+-- no line ends in another byte alone than a line feed
 cut_cr : (e : LineEnd) (b : ℕ) (rest : List ℕ) → Newline e (b ∷ []) rest → (b == 10) ≡ false → ⊥
 cut_cr crlf b rest h x = cc
 cut_cr lf b rest h x = let feed : b ≡ 10 = cc in grind arith
@@ -104,6 +108,7 @@ cut_cr lf b rest h x = let feed : b ≡ 10 = cc in grind arith
 cut_newline : (b : ℕ) → (b == 10) ≡ false → NotYet (Begins Newline) (b ∷ [])
 cut_newline b other = NotYet_intro (λ h. cut_cr h.0 b h.1 h.2 other)
 
+-- the end of a line is read as the grammar has it
 pub Reads-end : (text : List ℕ) → Reads Newline text (read_end text)
 Reads-end [] = (NotYet_intro (λ h. end_none h.0 h.1 h.2), λ tail. some_newline)
 Reads-end (b ∷ []) = by_feed (b == 10) (b == 13) refl refl
@@ -128,11 +133,13 @@ Reads-end (b ∷ c ∷ text) = by_feed (b == 10) (b == 13) (c == 10) refl refl r
     by_feed false false z is cr feed = Never_intro
         (λ more h. end_first h.0 b (c ∷ (text ++ more)) h.1 h.2 is cr)
 
+-- the end of a line is a front of the bytes
 pub Newline_front : IsFront Newline
 Newline_front e text rest h = (print_end e, h)
 
 -- ---- empty lines
 
+-- empty lines alone may go on
 pub blank_cut : (es : List LineEnd) (whole : List ℕ) → whole ≡ print_blank es ++ []
     → Completes BlankLines whole
 blank_cut es whole e = record {
@@ -141,6 +148,7 @@ blank_cut es whole e = record {
   reads = λ rest. ap (λ (l : List ℕ). l ++ rest) (e ∙ append-nil (print_blank es));
 }
 
+-- another byte than a carriage return and a line feed ends no line
 no_newline : (b : ℕ) → (b == 10) ≡ false → (b == 13) ≡ false → is_newline b ≡ false
 no_newline b x y = grind (arith, nat_tests)
 
@@ -244,6 +252,7 @@ Reads-word test stop some fails passes word whole (b ∷ text) all e =
     by_byte false false z is here full later =
         wrong is (λ first most. let other : b ≢ stop = grind (arith, nat_tests) in other first)
 
+-- a word is a front of the bytes
 pub Word_front : (test : ℕ → Bool) (stop : ℕ) → IsFront (Word test stop)
 Word_front test stop word text rest h = (
   word ++ stop ∷ [],
@@ -271,6 +280,7 @@ word_short test stop word (b ∷ text) all is =
 
 -- ---- the first line
 
+-- the method is read as the grammar has it
 pub Reads-method : (text : List ℕ) → Reads Method text (read_method text)
 Reads-method text = Reads-word is_token_byte 32 65 space_ends_token letter_is_token [] text text
     (All-nil _) refl
@@ -305,12 +315,14 @@ target_by text (got target rest) all read = by_test (is_utf8 target) refl
 target_by text short all read = (Target_word read.0, target_open text (all refl))
 target_by text never all read = Target_word read
 
+-- the target is read as the grammar has it
 pub Reads-target : (text : List ℕ) → Reads Target text (read_target text)
 Reads-target text =
     target_by text (read_word is_uri_byte 32 [] text)
     (word_short is_uri_byte 32 [] text (All-nil _))
     (Reads-word is_uri_byte 32 47 refl refl [] text text (All-nil _) refl)
 
+-- the target is a front of the bytes
 pub Target_front : IsFront Target
 Target_front target text rest h = Word_front is_uri_byte 32 target text rest h.0
 
@@ -325,6 +337,7 @@ bytes_more e b wanted text short same read = (
 )
 bytes_more e b wanted text never same read = Refutes_by (λ more h. (tt, h.1, cc)) read
 
+-- bytes that are wanted are read as the grammar has them
 pub Reads-bytes : (wanted text : List ℕ) → Reads (Bytes wanted) text (read_bytes wanted text)
 unfolding read_bytes
 Reads-bytes [] text = refl
@@ -364,6 +377,7 @@ version_by text (b ∷ rest) e = by_byte (b == 48) (b == 49) refl refl
         (ap (λ (l : List ℕ). l ++ more) (sym e) ∙ h.2.1) in
         let first : b ≡ 48 + h.0 = cc in other is one h.0 h.2.0 first)
 
+-- the version is read as the grammar has it
 pub Reads-version : (text : List ℕ) → Reads Version text (read_version text)
 Reads-version text = go (read_bytes (codes "HTTP/1.") text) (Reads-bytes (codes "HTTP/1.") text)
   where
@@ -373,6 +387,7 @@ Reads-version text = go (read_bytes (codes "HTTP/1.") text) (Reads-bytes (codes 
     go short read = (Version_bytes read.0, λ tail. Version_after_bytes (read.1 tail))
     go never read = Version_bytes read
 
+-- the version is a front of the bytes
 pub Version_front : IsFront Version
 Version_front minor text rest h = (print_version minor, h.1)
 
@@ -412,6 +427,7 @@ value_by value whole b text all stops e short read = (
 )
 value_by value whole b text all stops e never read = value_end value whole b text all stops e read
 
+-- the value of a field is read as the grammar has it
 pub Reads-value : (value whole text : List ℕ) → AllPass is_value_byte value → whole ≡ value ++ text
     → Reads Text whole (read_value value text)
 unfolding read_value
@@ -438,6 +454,7 @@ Reads-value value whole (b ∷ text) all e =
     by_byte false is later = value_by value whole b text all is e (read_end (b ∷ text))
         (Reads-end (b ∷ text))
 
+-- a line of a field is read by its name and its value
 field_by : (text : List ℕ) (r : Read (List ℕ × (List ℕ × LineEnd)))
     → Reads (Then (Word is_token_byte 58) Text) text r
     → Reads FieldLine text (by_read r (λ f rest. got
@@ -446,6 +463,7 @@ field_by text (got f rest) read = FieldLine_done f.0 f.1.0 f.1.1 text read.0 res
 field_by text short read = (FieldLine_row read.0, λ tail. FieldLine_of_row (read.1 tail))
 field_by text never read = FieldLine_row read
 
+-- a line of a field is read as the grammar has it
 pub Reads-field : (text : List ℕ) → Reads FieldLine text (read_field text)
 Reads-field text =
     field_by text (then_read (read_word is_token_byte 58 [] text) (read_value []))
@@ -545,9 +563,11 @@ rest_front : IsFront (Then Method (Then Target (Then Version Newline)))
 rest_front = then_front Method _ (Word_front is_token_byte 32)
     (then_front Target _ Target_front (then_front Version Newline Version_front Newline_front))
 
+-- the first line, and the empty ones before it, are a front of the bytes
 pub Start_front : IsFront RequestStart
 Start_front = then_front Blank _ blank_front rest_front
 
+-- with nothing read, a version and the end of a line may come
 some_end : Completes (Then Version Newline) []
 some_end = Completes_first some_version some_newline
 
@@ -590,10 +610,12 @@ start_by text short read = (
 start_by text never read = Refutes_first Blank
     (Then Method (Then Target (Then Version Newline))) read
 
+-- the first line, and the empty ones before it, are read as the grammar has them
 pub Reads-start : (text : List ℕ) → Reads RequestStart text (read_start text)
 unfolding read_start
 Reads-start text = start_by text (read_blank [] text) (Reads-blank [] text text refl)
 
+-- a head is read as the grammar has it
 pub Reads-head : (text : List ℕ) → Reads (Then RequestStart Section) text (read_head text)
 unfolding read_head
 Reads-head text =

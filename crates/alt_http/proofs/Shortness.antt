@@ -67,6 +67,7 @@ short_split {A} {B} (got a rest) f is = inr (a, rest, refl, second (f rest) is)
 short_split short f is = inl refl
 short_split never f is = cc
 
+-- a line feed is no byte of a token
 token_feed : is_token_byte 10 ≡ false
 unfolding is_token_byte
 token_feed = refl

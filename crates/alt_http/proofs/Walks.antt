@@ -29,9 +29,11 @@ same_capped limit a b (d ∷ digits) same = same_capped limit (a * 10 + digit_va
 pub digit_value-digit : (c : ℕ) → is_ascii_digit c ≡ true → digit_value c ≡ c - 48
 digit_value-digit c is = grind (arith, nat_tests)
 
+-- a digit is a byte from 48 to 57
 pub is_ascii_digit-range : (c : ℕ) → is_ascii_digit c ≡ true → (48 ≤ c) × (c ≤ 57)
 is_ascii_digit-range c is = grind (arith, nat_tests)
 
+-- what is told with one that isn't, isn't told
 no_and : (t : Bool) → (t && false) ≡ true → ⊥
 no_and true e = cc
 no_and false e = cc
@@ -64,6 +66,7 @@ first_is_length first rest none = go (is_length first)
 
 -- What the lengths that are given come to, by the first of them.
 
+-- where another length is given, the lengths are refused
 pub length_other : (values : List (List ℕ)) (first : List ℕ) → Some first ≡ first_of values
     → true ≡ list_any (is_other_length first) values
     → length_refusal values ≡ Some 8
@@ -86,6 +89,7 @@ same_first : (v first : List ℕ) (vs : List (List ℕ)) (t : Bool) → v ≡ fi
 same_first v first vs t same is = ap (λ (l : List ℕ). list_any (is_other_length l) (v ∷ vs)) same
     ∙ sym is
 
+-- where the first is past the longest body, the lengths are refused
 pub length_long : (values : List (List ℕ)) (first : List ℕ) → Some first ≡ first_of values
     → false ≡ list_any (is_other_length first) values
     → 16777216 < min (digits_value 10 first) 16777217 → length_refusal values ≡ Some 9
@@ -99,6 +103,7 @@ length_long (v ∷ vs) first is none long =
     above : (n : ℕ) → 16777216 < min n 16777217 → nat_lt 16777216 n ≡ true
     above n h = let more : 16777216 < n = omega arith in grind (arith, nat_tests)
 
+-- else they aren't, and the first is the length of the body
 pub length_fits : (values : List (List ℕ)) (first : List ℕ) → Some first ≡ first_of values
     → false ≡ list_any (is_other_length first) values
     → min (digits_value 10 first) 16777217 ≤ 16777216

@@ -12,12 +12,14 @@ use Rattle.alt_keycond.specs.declared.ask.KeyAsk.{KeyAsk}
 use Rattle.alt_keycond.specs.declared.ask.KeyCondFault.{KeyCondFault}
 
 -- the members of AND
-pub ask_of_all : (hash : Key) (range : Option Key) (members : List Cond) → ask_of hash range (cond.All members) ≡ joined_ask hash range members
+pub ask_of_all : (hash : Key) (range : Option Key) (members : List Cond)
+    → ask_of hash range (cond.All members) ≡ joined_ask hash range members
 unfolding ask_of
 ask_of_all hash range members = search (rules, the_lemmas)
 
 -- a condition holds of what meets the ask that was answered
-pub held : (hash : Key) (range : Option Key) (x : Cond) (r : Result KeyAsk KeyCondFault) → IfOk r (λ a. ask_of hash range x ≡ Some (asks a))
+pub held : (hash : Key) (range : Option Key) (x : Cond) (r : Result KeyAsk KeyCondFault)
+    → IfOk r (λ a. ask_of hash range x ≡ Some (asks a))
     → IfOk r (λ a. (item : View) → holds item x ≡ meets hash range (asks a) item)
 held hash range x (Ok a) e = λ item. holds_as_asked hash range x (asks a) e item
 held hash range x (Err f) e = tt

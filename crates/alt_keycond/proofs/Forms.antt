@@ -19,37 +19,48 @@ back f = (f.1, f.0)
 
 module _ (p : List ℕ) where
   -- all keys that begin with the front
-  pub under_all : (q from : List ℕ) (to : Option (List ℕ)) → q ≡ p → IsRangeOf q from to → IsRangeUnder p r.All from to
+  pub under_all : (q from : List ℕ) (to : Option (List ℕ)) → q ≡ p → IsRangeOf q from to
+      → IsRangeUnder p r.All from to
   unfolding IsRangeOf IsRangeUnder
   under_all q from to e h = λ key bytes.
       through (back (subst (λ z. IsPrefix z key ↔ IsInRange from to key) e (h key bytes)))
       ((λ g. (g.0, g.1, tt)), λ g. (g.0, g.1))
 
   -- those that go on with a part
-  pub under_eq : (v : Attr) (q from : List ℕ) (to : Option (List ℕ)) → q ≡ p ++ key_bytes (tree_of v) → IsRangeOf q from to → IsRangeUnder p (r.Eq v) from to
+  pub under_eq : (v : Attr) (q from : List ℕ) (to : Option (List ℕ))
+      → q ≡ p ++ key_bytes (tree_of v) → IsRangeOf q from to → IsRangeUnder p (r.Eq v) from to
   unfolding IsRangeOf IsRangeUnder
   under_eq v q from to e h = λ key bytes.
-      through (back (subst (λ z. IsPrefix z key ↔ IsInRange from to key) e (h key bytes))) (part_behind p (key_bytes (tree_of v)) key)
+      through (back (subst (λ z. IsPrefix z key ↔ IsInRange from to key) e (h key bytes)))
+      (part_behind p (key_bytes (tree_of v)) key)
 
-  pub under_begins : (v : Attr) (q from : List ℕ) (to : Option (List ℕ)) → q ≡ p ++ front_bytes (tree_of v) → IsRangeOf q from to → IsRangeUnder p (r.Begins v) from to
+  -- the keys whose RANGE value begins with a value are those between the front of its bytes and the end behind it
+  pub under_begins : (v : Attr) (q from : List ℕ) (to : Option (List ℕ))
+      → q ≡ p ++ front_bytes (tree_of v) → IsRangeOf q from to → IsRangeUnder p (r.Begins v) from to
   unfolding IsRangeOf IsRangeUnder
   under_begins v q from to e h = λ key bytes.
-      through (back (subst (λ z. IsPrefix z key ↔ IsInRange from to key) e (h key bytes))) (part_behind p (front_bytes (tree_of v)) key)
+      through (back (subst (λ z. IsPrefix z key ↔ IsInRange from to key) e (h key bytes)))
+      (part_behind p (front_bytes (tree_of v)) key)
 
   module _ (v : Attr) where
     abbrev part : List ℕ
     part = key_bytes (tree_of v)
 
-    pub under_lt : (from to : List ℕ) → from ≡ p → to ≡ p ++ key_bytes (tree_of v) → IsRangeUnder p (r.Lt v) from (Some to)
+    pub under_lt : (from to : List ℕ) → from ≡ p → to ≡ p ++ key_bytes (tree_of v)
+        → IsRangeUnder p (r.Lt v) from (Some to)
     unfolding IsRangeUnder
     under_lt from to ef et = λ key bytes.
-        subst (λ f. IsInRange f (Some to) key ↔ ((y : List ℕ) × (key ≡ p ++ y) × Meets (r.Lt v) y)) (sym ef)
-        (subst (λ t. IsInRange p (Some t) key ↔ ((y : List ℕ) × (key ≡ p ++ y) × Meets (r.Lt v) y)) (sym et) (below_part p key part))
+        subst (λ f. IsInRange f (Some to) key
+        ↔ ((y : List ℕ) × (key ≡ p ++ y) × Meets (r.Lt v) y)) (sym ef)
+        (subst (λ t. IsInRange p (Some t) key ↔ ((y : List ℕ) × (key ≡ p ++ y) × Meets (r.Lt v) y))
+        (sym et) (below_part p key part))
 
-    pub under_ge : (from : List ℕ) (end : Option (List ℕ)) → from ≡ p ++ key_bytes (tree_of v) → Ends p end → IsRangeUnder p (r.Ge v) from end
+    pub under_ge : (from : List ℕ) (end : Option (List ℕ)) → from ≡ p ++ key_bytes (tree_of v)
+        → Ends p end → IsRangeUnder p (r.Ge v) from end
     unfolding IsRangeUnder
     under_ge from end ef ends = λ key bytes.
-        subst (λ f. IsInRange f end key ↔ ((y : List ℕ) × (key ≡ p ++ y) × Meets (r.Ge v) y)) (sym ef) (from_part p end ends key bytes part)
+        subst (λ f. IsInRange f end key ↔ ((y : List ℕ) × (key ≡ p ++ y) × Meets (r.Ge v) y))
+        (sym ef) (from_part p end ends key bytes part)
 
     module _ (q : List ℕ) (is : q ≡ p ++ key_bytes (tree_of v)) (q_bytes : AreBytes q) where
       part_bytes : AreBytes (p ++ key_bytes (tree_of v))
@@ -58,31 +69,42 @@ module _ (p : List ℕ) where
       ends_there : (end : Option (List ℕ)) → Ends q end → Ends (p ++ key_bytes (tree_of v)) end
       ends_there end h = subst (λ z. Ends z end) is h
 
-      pub under_le : (from : List ℕ) (end : Option (List ℕ)) → from ≡ p → Ends q end → IsRangeUnder p (r.Le v) from end
+      pub under_le : (from : List ℕ) (end : Option (List ℕ)) → from ≡ p → Ends q end
+          → IsRangeUnder p (r.Le v) from end
       unfolding IsRangeUnder
       under_le from end ef ends = λ key bytes.
-          subst (λ f. IsInRange f end key ↔ ((y : List ℕ) × (key ≡ p ++ y) × Meets (r.Le v) y)) (sym ef)
+          subst (λ f. IsInRange f end key ↔ ((y : List ℕ) × (key ≡ p ++ y) × Meets (r.Le v) y))
+          (sym ef)
           (to_part p key bytes part end (ends_there end ends) part_bytes)
 
-      pub under_between : (low : Attr) (from : List ℕ) (end : Option (List ℕ)) → from ≡ p ++ key_bytes (tree_of low) → Ends q end → IsRangeUnder p (r.Between low v) from end
+      pub under_between : (low : Attr) (from : List ℕ) (end : Option (List ℕ))
+          → from ≡ p ++ key_bytes (tree_of low) → Ends q end
+          → IsRangeUnder p (r.Between low v) from end
       unfolding IsRangeUnder
       under_between low from end ef ends = λ key bytes.
-          subst (λ f. IsInRange f end key ↔ ((y : List ℕ) × (key ≡ p ++ y) × Meets (r.Between low v) y)) (sym ef)
+          subst (λ f. IsInRange f end key
+          ↔ ((y : List ℕ) × (key ≡ p ++ y) × Meets (r.Between low v) y)) (sym ef)
           (from_to p key bytes part end (ends_there end ends) part_bytes (key_bytes (tree_of low)))
 
-      pub under_gt : (b : List ℕ) (end : Option (List ℕ)) → Ends q (Some b) → Ends p end → IsRangeUnder p (r.Gt v) b end
+      pub under_gt : (b : List ℕ) (end : Option (List ℕ)) → Ends q (Some b) → Ends p end
+          → IsRangeUnder p (r.Gt v) b end
       unfolding IsRangeUnder
-      under_gt b end part_ends ends = λ key bytes. behind_part p end ends key bytes part (Some b) (ends_there (Some b) part_ends) part_bytes b refl
+      under_gt b end part_ends ends = λ key bytes. behind_part p end ends key bytes part (Some b)
+          (ends_there (Some b) part_ends) part_bytes b refl
 
-      pub under_none : (from to : List ℕ) → from ≡ [] → to ≡ [] → Ends q None → IsRangeUnder p (r.Gt v) from (Some to)
+      pub under_none : (from to : List ℕ) → from ≡ [] → to ≡ [] → Ends q None
+          → IsRangeUnder p (r.Gt v) from (Some to)
       unfolding IsRangeUnder
       under_none from to ef et part_ends = λ key bytes.
-          subst (λ f. IsInRange f (Some to) key ↔ ((y : List ℕ) × (key ≡ p ++ y) × Meets (r.Gt v) y)) (sym ef)
-          (subst (λ t. IsInRange [] (Some t) key ↔ ((y : List ℕ) × (key ≡ p ++ y) × Meets (r.Gt v) y)) (sym et)
+          subst (λ f. IsInRange f (Some to) key
+          ↔ ((y : List ℕ) × (key ≡ p ++ y) × Meets (r.Gt v) y)) (sym ef)
+          (subst (λ t. IsInRange [] (Some t) key
+          ↔ ((y : List ℕ) × (key ≡ p ++ y) × Meets (r.Gt v) y)) (sym et)
           (behind_all p key bytes part None (ends_there None part_ends) part_bytes refl))
 
 -- what follows of a value follows of an answer
-pub ok_on : {T E : Type 0} (P Q : T → Type 0) → ((t : T) → P t → Q t) → (a : Result T E) → IfOk a P → IfOk a Q
+pub ok_on : {T E : Type 0} (P Q : T → Type 0) → ((t : T) → P t → Q t) → (a : Result T E)
+    → IfOk a P → IfOk a Q
 ok_on P Q f (Ok t) h = f t h
 ok_on P Q f (Err e) h = tt
 

@@ -47,7 +47,8 @@ not_less Less p h = absurd (h refl)
 not_less Equal p h = refl
 not_less Greater p h = refl
 
-not_less_so : (o p : Ordering) → (p ≡ Less → ⊥) → is_ge o ≡ true → ordering_reverse (ordering_then o p) ≡ Greater → ⊥
+not_less_so : (o p : Ordering) → (p ≡ Less → ⊥) → is_ge o ≡ true
+    → ordering_reverse (ordering_then o p) ≡ Greater → ⊥
 not_less_so Less p none h e = cc
 not_less_so Equal Less none h e = none refl
 not_less_so Equal Equal none h e = cc
@@ -80,10 +81,13 @@ gt_ge Equal h = cc
 gt_ge Greater h = (refl, λ e. cc)
 
 -- values of one kind that tie are one value
-tied : (k : KeyKind) (t v : Tree) → IsOfKind k t → IsOfKind k v → tree_order t v ≡ Some Equal → t ≡ v
-tied kind.S (S_tree s) (S_tree t) h g e = ap S_tree (slice_cmp-IsAntisymmetric nat_cmp-IsAntisymmetric s t (some_is _ _ e))
+tied : (k : KeyKind) (t v : Tree) → IsOfKind k t → IsOfKind k v
+    → tree_order t v ≡ Some Equal → t ≡ v
+tied kind.S (S_tree s) (S_tree t) h g e =
+    ap S_tree (slice_cmp-IsAntisymmetric nat_cmp-IsAntisymmetric s t (some_is _ _ e))
 tied kind.N (N_tree y) (N_tree z) h g e = ap N_tree (int_cmp-IsAntisymmetric y z (some_is _ _ e))
-tied kind.B (B_tree s) (B_tree t) h g e = ap B_tree (slice_cmp-IsAntisymmetric nat_cmp-IsAntisymmetric s t (some_is _ _ e))
+tied kind.B (B_tree s) (B_tree t) h g e =
+    ap B_tree (slice_cmp-IsAntisymmetric nat_cmp-IsAntisymmetric s t (some_is _ _ e))
 tied kind.S (S_tree s) v h g e = absurd g
 tied kind.N (N_tree y) v h g e = absurd g
 tied kind.B (B_tree s) v h g e = absurd g
@@ -110,7 +114,8 @@ module _ (k : KeyKind) (t v : Tree) (kt : IsOfKind k t) (kv : IsOfKind k v) (res
   order_is : text_order whole (key_bytes v) ≡ ordering_then o (text_order rest [])
   order_is = ap (text_order whole) (sym (append-nil (key_bytes v))) ∙ lies rest []
 
-  order_back : text_order (key_bytes v) whole ≡ ordering_reverse (ordering_then o (text_order rest []))
+  order_back : text_order (key_bytes v) whole
+      ≡ ordering_reverse (ordering_then o (text_order rest []))
   order_back = nat_list_cmp_total.antisymm (key_bytes v) whole ∙ ap ordering_reverse order_is
 
   below_is : IsBelow whole (key_bytes v) ↔ (is_lt o ≡ true)
@@ -123,7 +128,8 @@ module _ (k : KeyKind) (t v : Tree) (kt : IsOfKind k t) (kv : IsOfKind k v) (res
   )
 
   prefix_tied : IsPrefix (key_bytes v) whole → o ≡ Equal
-  prefix_tied p = equal_first o (text_order rest p.0) (sym (lies rest p.0) ∙ ap (text_order whole) (sym p.1) ∙ text_order-refl whole)
+  prefix_tied p = equal_first o (text_order rest p.0)
+      (sym (lies rest p.0) ∙ ap (text_order whole) (sym p.1) ∙ text_order-refl whole)
 
   tied_prefix : o ≡ Equal → IsPrefix (key_bytes v) whole
   tied_prefix e = (rest, ap (λ u. key_bytes u ++ rest) (tied k t v kt kv (is ∙ ap Some e)))
@@ -141,19 +147,25 @@ module _ (k : KeyKind) (t v : Tree) (kt : IsOfKind k t) (kv : IsOfKind k v) (res
     (λ h. (rest, ap (λ u. key_bytes u ++ rest) ((same_decides t v).0 h))),
   )
 
+  -- what goes on is below the whole key of a value exactly where the RANGE value is less
   pub meets_lt : IsBelow whole (key_bytes v) ↔ (compares c.Less (Some t) (Some v) ≡ true)
   meets_lt = ((λ h. ap (is_some_and is_lt) is ∙ below_is.0 h), λ h. below_is.1 (ap (is_some_and is_lt) (sym is) ∙ h))
 
+  -- what goes on is up to the part of a value exactly where the RANGE value is less or equal
   pub meets_le : IsUpToPart whole (key_bytes v) ↔ (compares c.LessEqual (Some t) (Some v) ≡ true)
   meets_le = ((λ h. ap (is_some_and is_le) is ∙ up_to_is.0 h), λ h. up_to_is.1 (ap (is_some_and is_le) (sym is) ∙ h))
 
+  -- the key of a value is up to what goes on exactly where the RANGE value is greater or equal
   pub meets_ge : IsUpTo (key_bytes v) whole ↔ (compares c.GreaterEqual (Some t) (Some v) ≡ true)
   meets_ge = ((λ h. ap (is_some_and is_ge) is ∙ up_is.0 h), λ h. up_is.1 (ap (is_some_and is_ge) (sym is) ∙ h))
 
-  pub meets_gt : (IsUpTo (key_bytes v) whole × (IsPrefix (key_bytes v) whole → ⊥)) ↔ (compares c.Greater (Some t) (Some v) ≡ true)
+  -- what goes on is above the key of a value and doesn't begin with it exactly where the RANGE value is greater
+  pub meets_gt : (IsUpTo (key_bytes v) whole × (IsPrefix (key_bytes v) whole → ⊥))
+      ↔ (compares c.Greater (Some t) (Some v) ≡ true)
   meets_gt = (
     (λ h. ap (is_some_and is_gt) is ∙ gt_cases o (up_is.0 h.0) (λ e. h.1 (tied_prefix e))),
-    (λ h. let g = gt_ge o (ap (is_some_and is_gt) (sym is) ∙ h) in (up_is.1 g.0, λ p. g.1 (prefix_tied p))),
+    (λ h. let g = gt_ge o (ap (is_some_and is_gt) (sym is) ∙ h) in
+        (up_is.1 g.0, λ p. g.1 (prefix_tied p))),
   )
 
 -- ---- fronts
@@ -181,7 +193,8 @@ and_so : (a b : Bool) → a ≡ true → b ≡ true → (a && b) ≡ true
 and_so a b p q = ap (λ x. x && b) p ∙ q
 
 -- a value begins with a front where its part begins with the front's bytes
-fronts : (f s rest : List ℕ) → IsPrefix (escaped f) (closed s ++ rest) ↔ (starts_with nat_eq s f ≡ true)
+fronts : (f s rest : List ℕ) → IsPrefix (escaped f) (closed s ++ rest)
+    ↔ (starts_with nat_eq s f ≡ true)
 fronts [] s rest = ((λ h. refl), λ h. (closed s ++ rest, refl))
 fronts (zero ∷ f) [] rest = (
   (λ h. let e = tail_same 0 0 0 255 rest (escaped f ++ h.0) h.1 in absurd (apart_bytes 0 e.0 refl)),
@@ -193,29 +206,36 @@ fronts (zero ∷ f) (zero ∷ s) rest =
       λ g. let p = r.1 g in (p.0, ap (λ (u : List ℕ). 0 ∷ 255 ∷ u) p.1),
     )
 fronts (zero ∷ f) (suc b ∷ s) rest = (
-  (λ h. absurd (no_zero b (head_same (suc b) 0 (closed s ++ rest) (255 ∷ (escaped f ++ h.0)) h.1).0)),
-  λ h. absurd (no_zero b (sym (eqb-true 0 (suc b) (and_both (nat_eq 0 (suc b)) (starts_with nat_eq s f) h).0))),
+  (λ h. absurd
+      (no_zero b (head_same (suc b) 0 (closed s ++ rest) (255 ∷ (escaped f ++ h.0)) h.1).0)),
+  λ h. absurd (no_zero b
+      (sym (eqb-true 0 (suc b) (and_both (nat_eq 0 (suc b)) (starts_with nat_eq s f) h).0))),
 )
 fronts (suc a ∷ f) [] rest = (
   (λ h. absurd (no_zero a (sym (head_same 0 (suc a) (0 ∷ rest) (escaped f ++ h.0) h.1).0))),
   λ h. cc,
 )
 fronts (suc a ∷ f) (zero ∷ s) rest = (
-  (λ h. absurd (no_zero a (sym (head_same 0 (suc a) (255 ∷ (closed s ++ rest)) (escaped f ++ h.0) h.1).0))),
-  λ h. absurd (no_zero a (eqb-true (suc a) 0 (and_both (nat_eq (suc a) 0) (starts_with nat_eq s f) h).0)),
+  (λ h. absurd
+      (no_zero a (sym (head_same 0 (suc a) (255 ∷ (closed s ++ rest)) (escaped f ++ h.0) h.1).0))),
+  λ h. absurd (no_zero a
+      (eqb-true (suc a) 0 (and_both (nat_eq (suc a) 0) (starts_with nat_eq s f) h).0)),
 )
 fronts (suc a ∷ f) (suc b ∷ s) rest =
     let r = fronts f s rest in (
       (λ h.
           let e = head_same (suc b) (suc a) (closed s ++ rest) (escaped f ++ h.0) h.1 in
-          and_so (nat_eq (suc a) (suc b)) (starts_with nat_eq s f) (eq-eqb (suc a) (suc b) (sym e.0)) (r.0 (h.0, e.1))),
+          and_so (nat_eq (suc a) (suc b)) (starts_with nat_eq s f)
+          (eq-eqb (suc a) (suc b) (sym e.0)) (r.0 (h.0, e.1))),
       λ g.
           let w = and_both (nat_eq (suc a) (suc b)) (starts_with nat_eq s f) g in
           let p = r.1 w.1 in
           (p.0, ap (λ (x : ℕ). x ∷ (closed s ++ rest)) (sym (eqb-true (suc a) (suc b) w.0)) ∙ ap (λ (u : List ℕ). suc a ∷ u) p.1),
     )
 
-pub meets_front : (k : KeyKind) (t v : Tree) (rest : List ℕ) → IsOfKind k t → IsOfKind k v → HasFront v
+-- a part begins with the front of a value's bytes exactly where its value begins with the value
+pub meets_front : (k : KeyKind) (t v : Tree) (rest : List ℕ) → IsOfKind k t
+    → IsOfKind k v → HasFront v
     → IsPrefix (front_bytes v) (key_bytes t ++ rest) ↔ (begins (Some t) (Some v) ≡ true)
 meets_front kind.S (S_tree s) (S_tree f) rest h g front = fronts f s rest
 meets_front kind.B (B_tree s) (B_tree f) rest h g front = fronts f s rest

@@ -73,14 +73,17 @@ Meets (r.Lt v) y = IsBelow y (key_bytes (tree_of v))
 Meets (r.Le v) y = IsUpToPart y (key_bytes (tree_of v))
 Meets (r.Gt v) y = IsUpTo (key_bytes (tree_of v)) y × (IsPrefix (key_bytes (tree_of v)) y → ⊥)
 Meets (r.Ge v) y = IsUpTo (key_bytes (tree_of v)) y
-Meets (r.Between low high) y = IsUpTo (key_bytes (tree_of low)) y × IsUpToPart y (key_bytes (tree_of high))
+Meets (r.Between low high) y = IsUpTo (key_bytes (tree_of low)) y
+    × IsUpToPart y (key_bytes (tree_of high))
 Meets (r.Begins v) y = IsPrefix (front_bytes (tree_of v)) y
 
 -- the keys of a range are those that begin with the front and go on with what meets the ask
 unfoldable pub IsRangeUnder : List ℕ → RangeAsk → List ℕ → Option (List ℕ) → Type 0
 IsRangeUnder front range from to =
-    (key : List ℕ) → AreBytes key → IsInRange from to key ↔ ((y : List ℕ) × (key ≡ front ++ y) × Meets range y)
+    (key : List ℕ) → AreBytes key → IsInRange from to key
+    ↔ ((y : List ℕ) × (key ≡ front ++ y) × Meets range y)
 
 -- the keys of a range are those that begin with the prefix
 unfoldable pub IsRangeOf : List ℕ → List ℕ → Option (List ℕ) → Type 0
-IsRangeOf prefix from to = (key : List ℕ) → AreBytes key → IsPrefix prefix key ↔ IsInRange from to key
+IsRangeOf prefix from to = (key : List ℕ) → AreBytes key → IsPrefix prefix key
+    ↔ IsInRange from to key

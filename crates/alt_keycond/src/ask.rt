@@ -56,14 +56,17 @@ impl From<NoMemory> for KeyCondFault {
 /// (Developer Guide, "Key condition expressions for the Query operation").
 pub fn key_ask(cond: &Cond, hash: &KeyAttr, range: Option<&KeyAttr>) -> Result<KeyAsk, KeyCondFault>
     ensures ask { IfOk result
-        (λ a. form.ask_of (key_of hash.now) (option_map (λ r. key_of r.now) range.entry) cond.now ≡ Some (asks a)) }
+        (λ a. form.ask_of (key_of hash.now) (option_map (λ r. key_of r.now) range.entry) cond.now
+        ≡ Some (asks a)) }
     // The condition holds exactly of the items that meet the ask.
     ensures holds { IfOk result (λ a. (item : View) →
-        holds item cond.now ≡ form.meets (key_of hash.now) (option_map (λ r. key_of r.now) range.entry) (asks a) item) }
+        holds item cond.now ≡ form.meets (key_of hash.now)
+        (option_map (λ r. key_of r.now) range.entry) (asks a) item) }
     // So it is an ask that `key_range` takes.
     ensures keys { IfOk result (λ a. IsKey (tree_of a.hash) × AsksKeys a.range) }
     ensures cause { IfErr result (λ f. f ≢ KeyCondFault.NoMemory → (f ≡ KeyCondFault.NotKey)
-        × (form.ask_of (key_of hash.now) (option_map (λ r. key_of r.now) range.entry) cond.now ≡ None)) }
+        × (form.ask_of (key_of hash.now) (option_map (λ r. key_of r.now) range.entry) cond.now
+        ≡ None)) }
 {
     asked(cond, hash, range)
 }
@@ -72,9 +75,11 @@ pub fn key_ask(cond: &Cond, hash: &KeyAttr, range: Option<&KeyAttr>) -> Result<K
 #[tactic(auto, using(crate::proofs::FormLaws::ask_of_all), unfolding(alt_expr::specs::KeyForm::ask_of))]
 fn asked(cond: &Cond, hash: &KeyAttr, range: Option<&KeyAttr>) -> Result<KeyAsk, KeyCondFault>
     ensures ask { IfOk result
-        (λ a. form.ask_of (key_of hash.now) (option_map (λ r. key_of r.now) range.entry) cond.now ≡ Some (asks a)) }
+        (λ a. form.ask_of (key_of hash.now) (option_map (λ r. key_of r.now) range.entry) cond.now
+        ≡ Some (asks a)) }
     ensures cause { IfErr result (λ f. f ≢ KeyCondFault.NoMemory → (f ≡ KeyCondFault.NotKey)
-        × (form.ask_of (key_of hash.now) (option_map (λ r. key_of r.now) range.entry) cond.now ≡ None)) }
+        × (form.ask_of (key_of hash.now) (option_map (λ r. key_of r.now) range.entry) cond.now
+        ≡ None)) }
 {
     match cond {
         Cond::All(members) => joined(members.as_slice(), hash, range),
@@ -85,7 +90,8 @@ fn asked(cond: &Cond, hash: &KeyAttr, range: Option<&KeyAttr>) -> Result<KeyAsk,
 /// The HASH attribute alone.
 fn alone(cond: &Cond, hash: &KeyAttr) -> Result<KeyAsk, KeyCondFault>
     ensures ask { IfOk result
-        (λ a. form.asked (form.hash_value (key_of hash.now) cond.now) (Some form.anything) ≡ Some (asks a)) }
+        (λ a. form.asked (form.hash_value (key_of hash.now) cond.now) (Some form.anything)
+        ≡ Some (asks a)) }
     ensures cause { IfErr result (λ f. f ≢ KeyCondFault.NoMemory → (f ≡ KeyCondFault.NotKey)
         × (form.asked (form.hash_value (key_of hash.now) cond.now) (Some form.anything) ≡ None)) }
 {
@@ -102,9 +108,11 @@ fn alone(cond: &Cond, hash: &KeyAttr) -> Result<KeyAsk, KeyCondFault>
 /// Two conditions, of which one is on the HASH attribute and the other on the RANGE attribute.
 fn joined(members: &[Cond], hash: &KeyAttr, range: Option<&KeyAttr>) -> Result<KeyAsk, KeyCondFault>
     ensures ask { IfOk result
-        (λ a. form.joined_ask (key_of hash.now) (option_map (λ r. key_of r.now) range.entry) members.now ≡ Some (asks a)) }
+        (λ a. form.joined_ask (key_of hash.now)
+        (option_map (λ r. key_of r.now) range.entry) members.now ≡ Some (asks a)) }
     ensures cause { IfErr result (λ f. f ≢ KeyCondFault.NoMemory → (f ≡ KeyCondFault.NotKey)
-        × (form.joined_ask (key_of hash.now) (option_map (λ r. key_of r.now) range.entry) members.now ≡ None)) }
+        × (form.joined_ask (key_of hash.now) (option_map (λ r. key_of r.now) range.entry)
+        members.now ≡ None)) }
 {
     let [first, second] = members else {
         return Err(KeyCondFault::NotKey);
@@ -129,7 +137,8 @@ fn both(
     range: &KeyAttr,
 ) -> Result<Option<KeyAsk>, NoMemory>
     ensures { IfOk result (λ o. option_map asks o
-        ≡ form.asked (form.hash_value (key_of hash.now) first.now) (form.range_test (key_of range.now) second.now)) }
+        ≡ form.asked (form.hash_value (key_of hash.now) first.now)
+        (form.range_test (key_of range.now) second.now)) }
 {
     let Some(value) = hash_value(first, hash) else {
         return Ok(None);

@@ -52,7 +52,8 @@ fn key_test<'a>(
     y: &'a Operand,
     key: &KeyAttr,
 ) -> Option<(Comparison, &'a Attr)>
-    ensures { option_map (λ t. (t.0, t.1.now)) result ≡ form.key_test (key_of key.now) by x.now y.now }
+    ensures { option_map (λ t. (t.0, t.1.now)) result
+        ≡ form.key_test (key_of key.now) by x.now y.now }
 {
     if is_key(x, key) {
         let value = value_for(y, key)?;
@@ -79,7 +80,8 @@ fn mirrored(by: Comparison) -> Comparison
 }
 
 fn range_test(test: Option<(Comparison, &Attr)>) -> Result<Option<RangeAsk>, NoMemory>
-    ensures { IfOk result (λ o. option_map test_of o ≡ form.range_comparison (option_map (λ t. (t.0, t.1.now)) test.entry)) }
+    ensures { IfOk result (λ o. option_map test_of o
+        ≡ form.range_comparison (option_map (λ t. (t.0, t.1.now)) test.entry)) }
 {
     let Some((by, value)) = test else {
         return Ok(None);
@@ -95,7 +97,9 @@ fn range_test(test: Option<(Comparison, &Attr)>) -> Result<Option<RangeAsk>, NoM
 }
 
 fn between(low: Option<&Attr>, high: Option<&Attr>) -> Result<Option<RangeAsk>, NoMemory>
-    ensures { IfOk result (λ o. option_map test_of o ≡ form.range_between (option_map (λ v. v.now) low.entry) (option_map (λ v. v.now) high.entry)) }
+    ensures { IfOk result (λ o. option_map test_of o
+        ≡ form.range_between (option_map (λ v. v.now) low.entry)
+        (option_map (λ v. v.now) high.entry)) }
 {
     let Some(low) = low else {
         return Ok(None);
@@ -110,7 +114,8 @@ fn between(low: Option<&Attr>, high: Option<&Attr>) -> Result<Option<RangeAsk>, 
 
 /// A text or a binary may begin with a front; a number has none.
 fn front_of(kind: KeyKind, front: Option<&Attr>) -> Result<Option<RangeAsk>, NoMemory>
-    ensures { IfOk result (λ o. option_map test_of o ≡ form.range_front kind (option_map (λ v. v.now) front.entry)) }
+    ensures { IfOk result (λ o. option_map test_of o
+        ≡ form.range_front kind (option_map (λ v. v.now) front.entry)) }
 {
     match (kind, front) {
         (KeyKind::S, Some(front)) => Ok(Some(RangeAsk::Begins(copied(front)?))),

@@ -168,7 +168,8 @@ fn above(alloc: Global, front: &[u8], value: &Attr) -> Result<KeyRange, NoMemory
 fn between(alloc: Global, front: &[u8], low: &Attr, high: &Attr) -> Result<KeyRange, NoMemory>
     requires low { IsKey (tree_of low.now) }
     requires high { IsKey (tree_of high.now) }
-    ensures { IfOk result (λ r. IsRangeUnder front.now (asks.Between low.now high.now) r.from r.to) }
+    ensures { IfOk result
+        (λ r. IsRangeUnder front.now (asks.Between low.now high.now) r.from r.to) }
 {
     let from = with_part(alloc, front, low)?;
     let last = with_part(alloc, front, high)?;

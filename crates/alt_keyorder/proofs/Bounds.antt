@@ -20,6 +20,7 @@ pub record IsEnd (front prefix : List ℕ) : Type 0 where
 pub end_at_first : (s : List ℕ) → IsEnd s s
 end_at_first s = record { behind = []; is = sym (append-nil s); full = tt }
 
+-- a last byte of 255 is one of those behind: the prefix is what stands before it, and then bytes of 255
 pub end_before : (front before prefix : List ℕ) (last : ℕ) → front ≡ before ++ last ∷ []
     → last ≡ 255 → IsEnd front prefix → IsEnd before prefix
 end_before front before prefix last e high h = record {
@@ -42,6 +43,7 @@ bound_here front before prefix last e low h = record {
 pub all_full : (prefix : List ℕ) → IsEnd [] prefix → IsFull prefix
 all_full prefix h = rw h.is h.full
 
+-- less isn't greater
 less-greater : Less ≡ Greater → ⊥
 less-greater e = cc
 
@@ -120,10 +122,12 @@ below_bound f x t r =
     ∙ text_order-front f ((x ∷ t) ++ r) ((x + 1) ∷ [])
     ∙ rw (nat_cmp-less x (x + 1) (omega arith)) refl
 
+-- each byte of a full prefix is 255
 full-last : (f : List ℕ) (x : ℕ) (t : List ℕ) → IsFull (f ++ x ∷ t) → x ≡ 255
 full-last [] x t full = full.0
 full-last (y ∷ f) x t full = full-last f x t full.1
 
+-- a prefix with a bound isn't full
 pub bound-not_full : (f : List ℕ) (x : ℕ) (p : List ℕ) → IsBoundOf f x p → IsFull p → ⊥
 bound-not_full f x p h full =
     let e : x ≡ 255 = full-last f x h.behind (let P : List ℕ
@@ -157,6 +161,7 @@ pub full_range : (p k : List ℕ) → IsPrefix p k → IsUpTo p k
 full_range p k under = let P : List ℕ → Type 0 = λ s. IsUpTo p s in
     subst P (sym under.1) (up_to_append p under.0)
 
+-- what is below another is up to it
 less-not_greater : (s t : List ℕ) → IsBelow s t → IsUpTo s t
 less-not_greater s t h = λ g. less-greater (sym h ∙ g)
 

@@ -35,6 +35,7 @@ pub clean_as : (s : List ℕ) (i : ℕ) (front : List ℕ) → ((k : ℕ) → k 
 clean_as s i front before h e = let P : List ℕ
     → Type 0 = λ t. IsClean t in subst P (sym e) (clean_front s i before h)
 
+-- bytes are cut at a 0 into those before it and those behind it
 pub cut_as : (s : List ℕ) (i : ℕ) (front rest behind : List ℕ) → i < length s → get_or s i 0 ≡ 0
     → front ≡ take i s → rest ≡ drop i s
     → behind ≡ drop 1 rest → s ≡ front ++ 0 ∷ behind
@@ -48,6 +49,7 @@ escaped-clean [] clean = refl
 escaped-clean (zero ∷ s) clean = absurd clean
 escaped-clean (suc b ∷ s) clean = ap (λ (t : List ℕ). suc b ∷ t) (escaped-clean s clean)
 
+-- bytes one behind another are escaped one behind another
 pub escaped-append : (s t : List ℕ) → escaped (s ++ t) ≡ escaped s ++ escaped t
 escaped-append [] t = refl
 escaped-append (zero ∷ s) t = ap (λ (u : List ℕ). 0 ∷ 255 ∷ u) (escaped-append s t)
@@ -73,5 +75,6 @@ pub last_step : (out s : List ℕ) → IsClean s → (out ++ s) ++ 0 ∷ 0 ∷ [
 last_step out s clean = append_assoc out s (0 ∷ 0 ∷ [])
     ∙ ap (λ t. out ++ (t ++ 0 ∷ 0 ∷ [])) (sym (escaped-clean s clean))
 
+-- a prefix of bytes is one of longer bytes
 pub prefix-more : (a b c d : List ℕ) → IsPrefix a b → c ≡ b ++ d → IsPrefix a c
 prefix-more a b c d p e = (p.0 ++ d, e ∙ ap (λ t. t ++ d) p.1 ∙ append_assoc a p.0 d)

@@ -15,9 +15,11 @@ use Rattle.alt_keyorder.specs.KeyBytes.{closed, IsPartOrder, AreApart}
 pub nat_cmp-less : (m n : ℕ) → m < n → nat_cmp m n ≡ Less
 nat_cmp-less m n h = grind arith
 
+-- equal numbers compare as equal
 pub nat_cmp-equal : (m n : ℕ) → m ≡ n → nat_cmp m n ≡ Equal
 nat_cmp-equal m n h = grind arith
 
+-- a greater number compares as greater
 pub nat_cmp-greater : (m n : ℕ) → n < m → nat_cmp m n ≡ Greater
 nat_cmp-greater m n h = grind arith
 
@@ -28,6 +30,7 @@ then-assoc Less p q = refl
 then-assoc Equal p q = refl
 then-assoc Greater p q = refl
 
+-- where one order and then another is equal, the first is
 pub then-equal : (o p : Ordering) → ordering_then o p ≡ Equal → o ≡ Equal
 then-equal Less p h = h
 then-equal Equal p h = refl
@@ -94,6 +97,7 @@ text_parts s t = λ x y. closed-order s t x y
 pub text_apart : (s t : List ℕ) → AreApart (S_tree s) (S_tree t)
 text_apart s t = λ x y e. ap S_tree (closed-apart s t x y e)
 
+-- the parts of two binaries end at one place, whatever follows them
 pub binary_apart : (s t : List ℕ) → AreApart (B_tree s) (B_tree t)
 binary_apart s t = λ x y e. ap B_tree (closed-apart s t x y e)
 
@@ -102,6 +106,7 @@ pub text_law : (s : List ℕ) (u : Tree) → IfSome (tree_order (S_tree s) u) (I
 text_law s (S_tree t) = text_parts s t
 text_law s u = tt
 
+-- the part of a binary lies before or behind another's as the binary does
 pub binary_law : (s : List ℕ) (u : Tree) → IfSome (tree_order (B_tree s) u)
     (IsPartOrder (B_tree s) u)
 binary_law s (B_tree t) = text_parts s t
@@ -113,6 +118,7 @@ pub text_apart_law : (s : List ℕ) (u : Tree) → IfSome (tree_order (S_tree s)
 text_apart_law s (S_tree t) = text_apart s t
 text_apart_law s u = tt
 
+-- the part of a binary and of what can be compared with it end at one place
 pub binary_apart_law : (s : List ℕ) (u : Tree)
     → IfSome (tree_order (B_tree s) u) (λ o. AreApart (B_tree s) u)
 binary_apart_law s (B_tree t) = binary_apart s t
@@ -123,14 +129,17 @@ pub from_texts : (r : Option Ordering) (a b : Tree) (s : List ℕ) → r ≡ tre
     → IfSome r (IsPartOrder a b)
 from_texts r a b s e is = rw (e, is) (text_law s b)
 
+-- the order of parts, where the first value is a binary
 pub from_binaries : (r : Option Ordering) (a b : Tree) (s : List ℕ) → r ≡ tree_order a b
     → a ≡ B_tree s → IfSome r (IsPartOrder a b)
 from_binaries r a b s e is = rw (e, is) (binary_law s b)
 
+-- that parts end at one place, where the first value is a text
 pub apart_from_texts : (r : Option Ordering) (a b : Tree) (s : List ℕ) → r ≡ tree_order a b
     → a ≡ S_tree s → IfSome r (λ o. AreApart a b)
 apart_from_texts r a b s e is = rw (e, is) (text_apart_law s b)
 
+-- that parts end at one place, where the first value is a binary
 pub apart_from_binaries : (r : Option Ordering) (a b : Tree) (s : List ℕ) → r ≡ tree_order a b
     → a ≡ B_tree s → IfSome r (λ o. AreApart a b)
 apart_from_binaries r a b s e is = rw (e, is) (binary_apart_law s b)

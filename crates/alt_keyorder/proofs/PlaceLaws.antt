@@ -130,6 +130,7 @@ table_tell h r hash range other beside k l e =
     ∙ sym (append-nil (key_values other beside))) in
     (values.0, values.1)
 
+-- the keys of places in a table lie as the places do
 pub table_lie : TableKeysLie
 table_lie h r hash range other beside k l =
     places_lie (kinds_of h r) _ _ (in_table h r hash range k) (in_table h r other beside l)
@@ -145,6 +146,7 @@ index_tell ih ir h r a b c d e f g i ka kc ke kg same =
     (append-nil (key_values c d) ∙ first.2 ∙ sym (append-nil (key_values g i))) in
     (first.0, first.1, second.0, second.1)
 
+-- the keys of places in an index lie as the places do
 pub index_lie : IndexKeysLie
 index_lie ih ir h r a b c d e f g i ka kc ke kg =
     places_lie (kinds_of ih ir ++ kinds_of h r) _ _ (in_index ih ir h r a b c d ka kc)

@@ -79,6 +79,7 @@ unmarked s front mark after is clean no_end no_escape = λ t r e.
     let m = marked front (mark ∷ after) t r clean (sym is ∙ e) in
     elim m.1 [ inl f ↦ no_end (first _ _ _ _ f) | inr f ↦ no_escape (first _ _ _ _ f) ]
 
+-- bytes aren't closed where nothing stands behind the first 0
 pub unfinished : (s front : List ℕ) → s ≡ front ++ 0 ∷ [] → IsClean front → IsUnclosed s
 unfinished s front is clean = λ t r e.
     let m = marked front [] t r clean (sym is ∙ e) in
@@ -120,6 +121,7 @@ pub unfinished_at : (s front behind : List ℕ) → s ≡ front ++ 0 ∷ behind 
 unfinished_at s front [] is clean none = unfinished s front is clean
 unfinished_at s front (x ∷ behind) is clean none = absurd (omega arith)
 
+-- nor where another byte than a mark stands there
 pub unmarked_at : (s front behind : List ℕ) → s ≡ front ++ 0 ∷ behind → IsClean front
     → 1 ≤ length behind
     → (get_or behind 0 0 ≡ 255 → ⊥) → (get_or behind 0 0 ≡ 0 → ⊥) → IsUnclosed s
@@ -135,6 +137,7 @@ read_on bytes c rest front after g is cut e =
     read_step bytes c rest front after is (cut.is
     ∙ ap (λ (b : Bool). front ++ 0 ∷ (if b then 255 else 0) ∷ after) e) cut.clean
 
+-- a step of reading whose mark is 0 is the end of closed bytes
 pub read_whole : (bytes c rest front after : List ℕ) (g : Bool) (len : ℕ)
     → bytes ≡ escaped c ++ rest → IsCut rest front g after → g ≡ false
     → len ≡ length bytes - length after → IsClosedAt bytes (c ++ front) len
@@ -200,6 +203,7 @@ no_part_of_nothing N (N_tree z) behind key e = nothing_spelled z behind e
 no_part_of_nothing B (B_tree t) behind key e = nothing_closed t behind e
 no_part_of_nothing kind t behind key e = absurd key
 
+-- past the end of the bytes stands no part
 pub no_part_past : (kind : KeyKind) (bytes : List ℕ) (at : ℕ) → length bytes < at
     → NoPart kind (drop at bytes)
 no_part_past kind [] zero past = absurd (omega arith)

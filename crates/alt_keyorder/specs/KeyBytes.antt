@@ -49,7 +49,8 @@ IsKey _ = ⊥
 
 -- that is the order of the key parts of two values, whatever follows them: what follows decides where the values are equal
 abbrev pub IsPartOrder : Tree → Tree → Ordering → Type 0
-IsPartOrder t u o = (x y : List ℕ) → text_order (key_bytes t ++ x) (key_bytes u ++ y) ≡ ordering_then o (text_order x y)
+IsPartOrder t u o = (x y : List ℕ) → text_order (key_bytes t ++ x) (key_bytes u ++ y)
+    ≡ ordering_then o (text_order x y)
 
 -- the key part of one value begins bytes that the part of the other begins only where they are one value
 abbrev pub AreApart : Tree → Tree → Type 0
@@ -64,7 +65,8 @@ pub record IsPart (kind : KeyKind) (bytes : List ℕ) (t : Tree) (len : ℕ) : T
 
 -- no key part of that kind stands at the front
 abbrev pub NoPart : KeyKind → List ℕ → Type 0
-NoPart kind bytes = (t : Tree) (behind : List ℕ) → IsKeyOf kind t → bytes ≡ key_bytes t ++ behind → ⊥
+NoPart kind bytes = (t : Tree) (behind : List ℕ) → IsKeyOf kind t
+    → bytes ≡ key_bytes t ++ behind → ⊥
 
 -- no closed bytes stand at the front
 abbrev pub IsUnclosed : List ℕ → Type 0

@@ -51,7 +51,8 @@ PlacesLie = (kinds : List KeyKind) (p q : Place) → IsPlaceOf kinds p → IsPla
 
 -- Whatever follows them, the key bytes of a place are those of no other place whose parts are of the same kinds.
 abbrev pub OnePlace : Type 0
-OnePlace = (kinds : List KeyKind) (p q : Place) (x y : List ℕ) → IsPlaceOf kinds p → IsPlaceOf kinds q
+OnePlace = (kinds : List KeyKind) (p q : Place) (x y : List ℕ) → IsPlaceOf kinds p
+    → IsPlaceOf kinds q
     → place_bytes p ++ x ≡ place_bytes q ++ y → (p ≡ q) × (x ≡ y)
 
 -- ---- laws of tables and indexes
@@ -62,26 +63,31 @@ TokensFit = (t : Tree) → token_of t < 2 ^ 64
 
 -- In a table equal key bytes are those of equal keys.
 abbrev pub TableKeysTell : Type 0
-TableKeysTell = (h : KeyKind) (r : Option KeyKind) (hash : Tree) (range : Option Tree) (other : Tree) (beside : Option Tree)
+TableKeysTell = (h : KeyKind) (r : Option KeyKind) (hash : Tree) (range : Option Tree)
+    (other : Tree) (beside : Option Tree)
     → IsKeyFor h r hash range → IsKeyFor h r other beside
     → place_bytes (place_in_table hash range) ≡ place_bytes (place_in_table other beside)
     → (hash ≡ other) × (range ≡ beside)
 
 -- In a table key bytes lie as places do: by the token, then by the HASH value, then by the RANGE value.
 abbrev pub TableKeysLie : Type 0
-TableKeysLie = (h : KeyKind) (r : Option KeyKind) (hash : Tree) (range : Option Tree) (other : Tree) (beside : Option Tree)
+TableKeysLie = (h : KeyKind) (r : Option KeyKind) (hash : Tree) (range : Option Tree) (other : Tree)
+    (beside : Option Tree)
     → IsKeyFor h r hash range → IsKeyFor h r other beside
     → Lie (place_in_table hash range) (place_in_table other beside)
 
 -- The keys with one HASH value are those that begin with the key bytes of a place with no RANGE value.
 abbrev pub HashKeysBegin : Type 0
-HashKeysBegin = (h : KeyKind) (hash other : Tree) (range : Option Tree) → IsOfKind h hash → IsOfKind h other
-    → (hash ≡ other) ↔ IsPrefix (place_bytes (place_in_table hash None)) (place_bytes (place_in_table other range))
+HashKeysBegin = (h : KeyKind) (hash other : Tree) (range : Option Tree) → IsOfKind h hash
+    → IsOfKind h other
+    → (hash ≡ other) ↔ IsPrefix (place_bytes (place_in_table hash None))
+    (place_bytes (place_in_table other range))
 
 -- In an index equal key bytes are those of equal keys of the index and of equal keys of the table.
 abbrev pub IndexKeysTell : Type 0
 IndexKeysTell = (ih : KeyKind) (ir : Option KeyKind) (h : KeyKind) (r : Option KeyKind)
-    (a : Tree) (b : Option Tree) (c : Tree) (d : Option Tree) (e : Tree) (f : Option Tree) (g : Tree) (i : Option Tree)
+    (a : Tree) (b : Option Tree) (c : Tree) (d : Option Tree) (e : Tree) (f : Option Tree)
+    (g : Tree) (i : Option Tree)
     → IsKeyFor ih ir a b → IsKeyFor h r c d → IsKeyFor ih ir e f → IsKeyFor h r g i
     → place_bytes (place_in_index a b c d) ≡ place_bytes (place_in_index e f g i)
     → (a ≡ e) × (b ≡ f) × (c ≡ g) × (d ≡ i)
@@ -89,6 +95,7 @@ IndexKeysTell = (ih : KeyKind) (ir : Option KeyKind) (h : KeyKind) (r : Option K
 -- In an index key bytes lie as places do: by the index's keys as in a table, and then by the table's.
 abbrev pub IndexKeysLie : Type 0
 IndexKeysLie = (ih : KeyKind) (ir : Option KeyKind) (h : KeyKind) (r : Option KeyKind)
-    (a : Tree) (b : Option Tree) (c : Tree) (d : Option Tree) (e : Tree) (f : Option Tree) (g : Tree) (i : Option Tree)
+    (a : Tree) (b : Option Tree) (c : Tree) (d : Option Tree) (e : Tree) (f : Option Tree)
+    (g : Tree) (i : Option Tree)
     → IsKeyFor ih ir a b → IsKeyFor h r c d → IsKeyFor ih ir e f → IsKeyFor h r g i
     → Lie (place_in_index a b c d) (place_in_index e f g i)

@@ -31,7 +31,8 @@ unless_empty (b ∷ bytes) = (b ∷ bytes) ∷ []
 -- The lines as they stand in the input, without their line feeds. The last bytes are a line only once the end of the input
 -- was taken, since more might follow.
 unfoldable pub raw_lines : Bool → List ℕ → List (List ℕ)
-raw_lines ended bytes = but_last (pieces bytes) ++ (if ended then unless_empty (last_piece (pieces bytes)) else [])
+raw_lines ended bytes =
+    but_last (pieces bytes) ++ (if ended then unless_empty (last_piece (pieces bytes)) else [])
 
 -- a line as it is read: its bytes, or that it had too many
 pub data Line : Type 0 where
@@ -40,7 +41,8 @@ pub data Line : Type 0 where
 
 -- A line of at most so many bytes is read whole, without the one carriage return at its end. The bytes are counted with it.
 unfoldable pub read_line : ℕ → List ℕ → Line
-read_line most bytes = if nat_le (length bytes) most then whole (strip_carriage_return bytes) else too_long
+read_line most bytes =
+    if nat_le (length bytes) most then whole (strip_carriage_return bytes) else too_long
 
 -- the lines of an input, of which each has at most so many bytes or is too long
 abbrev pub lines_of : ℕ → Bool → List ℕ → List Line

@@ -28,7 +28,8 @@ pub record HasNone (old new : Unread) : Type 0 where
   pub none : lines_now old ≡ []
   pub most : new.most ≡ old.most
   pub ended : new.ended ≡ old.ended
-  pub later : (more : List ℕ) (ended : Bool) → lines_later new more ended ≡ lines_later old more ended
+  pub later : (more : List ℕ) (ended : Bool) → lines_later new more ended
+      ≡ lines_later old more ended
   pub few : length new.bytes ≤ suc old.most
 
 -- one line is taken from the front, whatever follows
@@ -36,7 +37,8 @@ pub record TakesLine (line : Line) (old new : Unread) : Type 0 where
   pub now : lines_now old ≡ line ∷ lines_now new
   pub most : new.most ≡ old.most
   pub ended : new.ended ≡ old.ended
-  pub later : old.ended ≡ false → (more : List ℕ) (ended : Bool) → lines_later old more ended ≡ line ∷ lines_later new more ended
+  pub later : old.ended ≡ false → (more : List ℕ) (ended : Bool)
+      → lines_later old more ended ≡ line ∷ lines_later new more ended
 
 -- A line that is whole is appended, and `Whole` tells of it. Of one that is too long nothing is appended.
 abbrev pub Tells : Line → Cut → List ℕ → List ℕ → Type 0

@@ -117,8 +117,10 @@ placed_there catalog b m sound e =
     let known = then_found (or_refused not_found (finite.get catalog b.table))
     (λ d. placed_in d b) m e in
     let here = then_found (or_refused bad_key (place_in b.sought known.0 b.item))
-    (λ place. unless_answer (first_answer (of_length known.0 b.item)) (at_place b place)) m known.2 in
-    let fits = unless_found (first_answer (of_length known.0 b.item)) (at_place b here.0) m here.2 in
+    (λ place. unless_answer (first_answer (of_length known.0 b.item)) (at_place b place)) m
+    known.2 in
+    let fits = unless_found (first_answer (of_length known.0 b.item))
+    (at_place b here.0) m here.2 in
     subst (IsThere catalog) fits.1 (record {
       sound = sound;
       at = λ d there.
@@ -144,7 +146,8 @@ there_may : (catalog : Texts TableSchema) (m : PlacedMember) → IsThere catalog
 unfolding MayStand
 there_may catalog m there free d known i left =
     let tests : first_answer (of_sought m.sought d m.item) ≡ None =
-    sym (ap (λ o. first_answer (option_map_or (λ (x : TableSchema). of_sought m.sought x m.item) o []))
+    sym (ap (λ o. first_answer
+    (option_map_or (λ (x : TableSchema). of_sought m.sought x m.item) o []))
     known) ∙ free in
     by m.sought left tests (there.at d known)
   where
@@ -172,15 +175,18 @@ unfolding writes_asked
 asked_may catalog ms there e =
     let body = then_found (unless_answer (first_answer (of_body ms)) (requests ms)) _ there e in
     let read = then_found (each_found read_write body.0) _ there body.2 in
-    let known = then_found (unless_answer (first_answer (of_catalog catalog (tables_asked ms))) read.0)
+    let known = then_found
+    (unless_answer (first_answer (of_catalog catalog (tables_asked ms))) read.0)
     _ there read.2 in
     let at = then_found (each_found (placed catalog) known.0) _ there known.2 in
     let free = unless_found (first_answer (refuse_if (has_repeat at.0) bad_batch
     ∷ of_members catalog at.0)) at.0 there at.2 in
-    let same = unless_found (first_answer (of_catalog catalog (tables_asked ms))) read.0 known.0 known.1 in
+    let same = unless_found (first_answer (of_catalog catalog (tables_asked ms))) read.0
+    known.0 known.1 in
     let sound : Every (λ (b : BatchMember). IsSound b.item) read.0 =
     each_so (λ r. Unit {0}) (λ (b : BatchMember). IsSound b.item) read_write
-    (λ r m h f. write_sound r m f) body.0 read.0 read.1 (each_always (λ r. Unit {0}) (λ r. tt) body.0) in
+    (λ r m h f. write_sound r m f) body.0 read.0 read.1
+    (each_always (λ r. Unit {0}) (λ r. tt) body.0) in
     let found : Every (IsThere catalog) at.0 =
     each_so (λ (b : BatchMember). IsSound b.item) (IsThere catalog) (placed catalog)
     (placed_there catalog) known.0 at.0 at.1
@@ -192,7 +198,8 @@ asked_may catalog ms there e =
 
 -- what a member leaves may stand there
 pub may_be_left : (catalog : Texts TableSchema) (m : PlacedMember) → MayStand catalog m
-    → (d : TableSchema) → finite.get catalog m.table ≡ Some d → IfSome (left_by m) (IsStored d m.place)
+    → (d : TableSchema) → finite.get catalog m.table ≡ Some d
+    → IfSome (left_by m) (IsStored d m.place)
 unfolding MayStand
 may_be_left catalog m may d known = by (left_by m) refl
   where
@@ -207,8 +214,10 @@ placed_named catalog b m e =
     let known = then_found (or_refused not_found (finite.get catalog b.table))
     (λ d. placed_in d b) m e in
     let here = then_found (or_refused bad_key (place_in b.sought known.0 b.item))
-    (λ place. unless_answer (first_answer (of_length known.0 b.item)) (at_place b place)) m known.2 in
-    let fits = unless_found (first_answer (of_length known.0 b.item)) (at_place b here.0) m here.2 in
+    (λ place. unless_answer (first_answer (of_length known.0 b.item)) (at_place b place)) m
+    known.2 in
+    let fits = unless_found (first_answer (of_length known.0 b.item))
+    (at_place b here.0) m here.2 in
     subst (λ (p : PlacedMember). finite.contains_key catalog p.table ≡ true) fits.1
     (ap is_some (found_is not_found (finite.get catalog b.table) known.0 known.1))
 
@@ -220,7 +229,8 @@ unfolding writes_asked
 asked_named catalog ms there e =
     let body = then_found (unless_answer (first_answer (of_body ms)) (requests ms)) _ there e in
     let read = then_found (each_found read_write body.0) _ there body.2 in
-    let known = then_found (unless_answer (first_answer (of_catalog catalog (tables_asked ms))) read.0)
+    let known = then_found
+    (unless_answer (first_answer (of_catalog catalog (tables_asked ms))) read.0)
     _ there read.2 in
     let at = then_found (each_found (placed catalog) known.0) _ there known.2 in
     let free = unless_found (first_answer (refuse_if (has_repeat at.0) bad_batch
@@ -237,7 +247,8 @@ unfolding writes_asked
 asked_once catalog ms there e =
     let body = then_found (unless_answer (first_answer (of_body ms)) (requests ms)) _ there e in
     let read = then_found (each_found read_write body.0) _ there body.2 in
-    let known = then_found (unless_answer (first_answer (of_catalog catalog (tables_asked ms))) read.0)
+    let known = then_found
+    (unless_answer (first_answer (of_catalog catalog (tables_asked ms))) read.0)
     _ there read.2 in
     let at = then_found (each_found (placed catalog) known.0) _ there known.2 in
     let free = unless_found (first_answer (refuse_if (has_repeat at.0) bad_batch
@@ -246,7 +257,8 @@ asked_once catalog ms there e =
     (if_fails (has_repeat at.0) bad_batch (of_members catalog at.0) free.0).0
 
 -- so are the tables of all keys that are read
-all_named : (catalog : Texts TableSchema) (r : Reads Shown BatchMember) (q : Reads Shown PlacedMember)
+all_named : (catalog : Texts TableSchema) (r : Reads Shown BatchMember)
+    (q : Reads Shown PlacedMember)
     → placed_all catalog r ≡ Ok q
     → Every (λ (m : PlacedMember). finite.contains_key catalog m.table ≡ true) q.keys
 all_named catalog r q e =
@@ -263,19 +275,23 @@ all_named catalog r q e =
     keys_or (Err x) = []
 
 -- so are those of the keys in all reads that a request asks for
-pub reads_named : (catalog : Texts TableSchema) (ms : Members) (there : List (Reads Shown PlacedMember))
+pub reads_named : (catalog : Texts TableSchema) (ms : Members)
+    (there : List (Reads Shown PlacedMember))
     → reads_asked catalog ms ≡ Ok there
     → Every (λ (r : Reads Shown PlacedMember).
     Every (λ (m : PlacedMember). finite.contains_key catalog m.table ≡ true) r.keys) there
 unfolding reads_asked
 reads_named catalog ms there e =
-    let body = then_found (unless_answer (first_answer (get_body ms)) (tables_asked ms)) _ there e in
+    let body = then_found
+    (unless_answer (first_answer (get_body ms)) (tables_asked ms)) _ there e in
     let read = then_found (each_found read_table body.0) _ there body.2 in
-    let known = then_found (unless_answer (first_answer (of_catalog catalog (tables_asked ms))) read.0)
+    let known = then_found
+    (unless_answer (first_answer (of_catalog catalog (tables_asked ms))) read.0)
     _ there read.2 in
     let said = then_found (each_found (said_in catalog) known.0) _ there known.2 in
     let at = then_found (each_found (placed_all catalog) said.0) _ there said.2 in
-    let free = unless_found (first_answer (refuse_if (list_any (λ r. has_repeat r.keys) at.0) bad_batch
+    let free = unless_found
+    (first_answer (refuse_if (list_any (λ r. has_repeat r.keys) at.0) bad_batch
     ∷ [])) at.0 there at.2 in
     subst (Every (λ (r : Reads Shown PlacedMember).
     Every (λ (m : PlacedMember). finite.contains_key catalog m.table ≡ true) r.keys)) free.1
@@ -299,7 +315,8 @@ known_descriptions s name t there = get-descriptions s.tables name
 
 -- they go on to have them after a write
 pub known_after : (catalog : Texts TableSchema) (s : State) (moment : ℕ) (name : List ℕ) (t : Table)
-    (place : List ℕ) (new : Option (List Pair)) → Known catalog s → finite.get s.tables name ≡ Some t
+    (place : List ℕ) (new : Option (List Pair)) → Known catalog s
+    → finite.get s.tables name ≡ Some t
     → Known catalog (after_item s moment name t place new)
 unfolding Known
 known_after catalog s moment name t place new known there q u e =
@@ -334,7 +351,8 @@ module _ (catalog : Texts TableSchema) (moment : ℕ) where
               ++ rest (last_state s (if b then [] else after ∷ [])))
           by true same = behind s known
           by false differ = first_step a_number s after (rest after) (λ v enough.
-              after_item_valid s moment m.table t m.place (left_by m) v (number_room s enough) e differ
+              after_item_valid s moment m.table t m.place (left_by m) v
+              (number_room s enough) e differ
               (may t.description (known m.table t e)))
               (behind after (known_after catalog s moment m.table t m.place (left_by m) known e))
 

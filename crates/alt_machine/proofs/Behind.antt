@@ -42,7 +42,8 @@ pub taken_behind : (wants : Wants) (a : List State) (n k : ℕ) (s : State) (b :
     → n ≡ length a + k → lack_among wants s a ≡ None
     → lack_among wants (last_state s a) (take k b) ≡ None
     → lack_among wants s (take n (a ++ b)) ≡ None
-taken_behind wants [] n k s b e none f = ap (λ m. lack_among wants s (take m b)) (omega (arith, e)) ∙ f
+taken_behind wants [] n k s b e none f =
+    ap (λ m. lack_among wants s (take m b)) (omega (arith, e)) ∙ f
 taken_behind wants (t ∷ ts) zero k s b e none f = absurd (omega (arith, e))
 taken_behind wants (t ∷ ts) (suc n) k s b e none f =
     let has = first_has wants s t ts none in
@@ -50,7 +51,8 @@ taken_behind wants (t ∷ ts) (suc n) k s b e none f =
     ∙ ap (option_map later) (taken_behind wants ts n k t b (omega (arith, e)) has.1 f)
 
 -- the first that one of them lacks
-pub lacks_behind : (wants : Wants) (a : List State) (number before n : ℕ) (s : State) (b : List State)
+pub lacks_behind : (wants : Wants) (a : List State) (number before n : ℕ) (s : State)
+    (b : List State)
     → n ≡ length a + before → lack_among wants s a ≡ None
     → lack_among wants (last_state s a) b ≡ Some (record { number = number; before = before })
     → lack_among wants s (a ++ b) ≡ Some (record { number = number; before = n })

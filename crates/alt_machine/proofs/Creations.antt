@@ -39,6 +39,7 @@ module _ (s : State) (ms : Members) (free : first_answer (of_tables s ms) ≡ No
   pub is_taken : refusal_of ms ≡ None
   is_taken = schema_taken.0
 
+  -- what the tests of a CreateTable tell: the name is free, and there is room for a table
   room_test : (map.contains_key s.tables (table_name ms) ≡ false)
       × (first_answer (refuse_if (nat_le MOST_TABLES (map.len s.tables)) too_many_tables ∷ [])
       ≡ None)

@@ -52,6 +52,7 @@ module _ (tables : Texts Table) where
   sorted : T (is_sorted text_order (each (λ (t : Table). t.description) (entries tables)))
   sorted = sorted-each (λ (t : Table). t.description) (entries tables) (entries_sorted tables)
 
+  -- the description at a name is that of the table there
   pub get-descriptions : (name : List ℕ) → get (descriptions tables) name
       ≡ option_map (λ t. t.description) (get tables name)
   get-descriptions name = get-from_sorted text_order
@@ -59,11 +60,13 @@ module _ (tables : Texts Table) where
       ∙ find-each (λ (t : Table). t.description) name (entries tables)
       ∙ sym (ap (option_map (λ (t : Table). t.description)) (get-entries tables name))
 
+  -- descriptions have the names of the tables
   pub keys-descriptions : keys (descriptions tables) ≡ keys tables
   keys-descriptions = ap (map (λ (e : List ℕ × TableSchema). e.0))
       (entries-from_sorted text_order (each (λ (t : Table). t.description) (entries tables)) sorted)
       ∙ names-each (λ (t : Table). t.description) (entries tables)
 
+  -- there are as many descriptions as tables
   pub len-descriptions : len (descriptions tables) ≡ len tables
   len-descriptions = len-entries (descriptions tables)
       ∙ ap length (entries-from_sorted text_order
@@ -71,6 +74,7 @@ module _ (tables : Texts Table) where
       ∙ length-map (entries tables) (λ (e : List ℕ × Table). (e.0, e.1.description))
       ∙ sym (len-entries tables)
 
+  -- a name has a description exactly where it has a table
   pub there-descriptions : (name : List ℕ) → contains_key (descriptions tables) name
       ≡ contains_key tables name
   there-descriptions name = ap is_some (get-descriptions name) ∙ same (get tables name)

@@ -85,6 +85,7 @@ module _ (view : View) where
       (λ e f. behind EditsFull EditsFull (edits view more) (λ es. Ok (e ∷ es))
       (full-edits more h.1) (λ es k. (f, k)))
 
+  -- actions one behind another put no empty set where neither of both does
   actions-append : (xs ys : List Action) → ActionsFull xs → ActionsFull ys → ActionsFull (xs ++ ys)
   actions-append [] ys h k = k
   actions-append (x ∷ xs) ys h k = (h.0, actions-append xs ys h.1 k)

@@ -54,6 +54,7 @@ pub full-as_number : (r : Result ℤ NumberFault) → FullOk (as_number r)
 full-as_number (Ok z) = tt
 full-as_number (Err f) = tt
 
+-- a sum has no empty set
 full-plus : (s t : Tree) → FullOk (u.plus s t)
 full-plus (N_tree y) (N_tree z) = full-as_number (fitted_units (y +ℤ z))
 full-plus (N_tree y) _ = tt

@@ -11,12 +11,11 @@ use Rattle.alt_keyorder.proofs.PlaceLaws.{index_tell, index_lie}
 use Rattle.alt_machine.specs.Indexed.{KeyValues, values_beside, values_of, place_of_both, place_read, index_place, index_entry, index_items}
 use Rattle.alt_machine.specs.Keys.{can_be_key, if_key, key_value, key_place, place_beside, place_of}
 use Rattle.alt_machine.specs.Laws.{IndexPlacesLie, Indexes, AllIndex}
-use Rattle.alt_machine.specs.Rekeyed.{AreApart}
 use Rattle.alt_machine.specs.Sources.{index_at}
 use Rattle.alt_machine.specs.State.{State, Table, Texts}
 use Rattle.alt_machine.specs.Valid.{IsStored, IsValid, IsHeldState}
 use Rattle.alt_machine.proofs.Placed.{part_kind}
-use Rattle.alt_machine.proofs.Rekeying.{given_by, gives}
+use Rattle.alt_machine.proofs.Rekeying.{AreApart, given_by, gives}
 use Rattle.alt_schema.specs.Indexes.{index_row, is_in_index, cut, has_part, of_range, is_key_value, is_key_length, is_key_or_none, part_fits, index_fits, indexes, keys_fit, longest_hash, longest_range}
 use Rattle.alt_schema.specs.declared.schema.IndexSchema.{IndexSchema}
 use Rattle.alt_schema.specs.declared.schema.KeyAttr.{KeyAttr}
@@ -63,7 +62,8 @@ keys_of_kinds item fields hash range kv e =
     beside None h k f = subst (λ (v : KeyValues). IsKeyFor hash.kind None v.hash v.range)
         (some _ kv f) k
     beside (Some r) h k f =
-        let v = mapped (λ (t : Tree). record { hash = h; range = Some t }) (key_value item r) kv f in
+        let v = mapped (λ (t : Tree). record { hash = h; range = Some t })
+        (key_value item r) kv f in
         subst (λ (v : KeyValues). IsKeyFor hash.kind (Some r.kind) v.hash v.range) v.2
         (k, part_kind item r v.0 fields v.1)
 
@@ -146,7 +146,8 @@ one_place d i x y p q hx hy ex ey same =
     place-of_values d x
     ∙ ap (option_map (λ (kv : KeyValues). place_bytes (place_in_table kv.hash kv.range))) a.keys
     ∙ (λ j. Some (place_bytes (place_in_table (told.2 j) (told.3 j))))
-    ∙ ap (option_map (λ (kv : KeyValues). place_bytes (place_in_table kv.hash kv.range))) (sym b.keys)
+    ∙ ap (option_map (λ (kv : KeyValues). place_bytes (place_in_table kv.hash kv.range)))
+    (sym b.keys)
     ∙ sym (place-of_values d y)
 
 -- what an entry is made of
@@ -183,7 +184,8 @@ index_apart d i items stored p q x y key v w at_p at_q is_x is_y =
     let b = stored q y at_q in
     let e = is_entry d i x key v is_x in
     let f = is_entry d i y key w is_y in
-    some p q (sym a.0.stands ∙ one_place d i x y e.place f.place a.1 b.1 e.at f.at (e.bytes ∙ sym f.bytes)
+    some p q (sym a.0.stands ∙ one_place d i x y e.place f.place a.1 b.1 e.at f.at
+    (e.bytes ∙ sym f.bytes)
     ∙ b.0.stands)
 
 -- ---- the items that are in an index
@@ -260,7 +262,8 @@ is_inside : (d : TableSchema) (i : IndexSchema) (item row : List Pair)
     → index_row d item i ≡ Some row → is_in_index i item ≡ true
 is_inside d i item row e = by_test (is_in_index i item) refl e
   where
-    by_test : (b : Bool) → is_in_index i item ≡ b → (if b then Some (cut d i item) else None) ≡ Some row
+    by_test : (b : Bool) → is_in_index i item ≡ b
+        → (if b then Some (cut d i item) else None) ≡ Some row
         → is_in_index i item ≡ true
     by_test true inside e = inside
     by_test false inside e = absurd (none row e)

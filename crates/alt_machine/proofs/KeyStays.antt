@@ -97,6 +97,7 @@ module _ (d : TableSchema) (old new : List Pair) (keeps : KeepsKey d old new) (p
   pub still_stands : place_of d new ≡ Some place
   still_stands = ap (λ o. option_map place_bytes o) place_same ∙ stands
 
+  -- the test of a RANGE value's length answers the same of both items
   within_same : (range : Option KeyAttr) → d.range ≡ range
       → of_range (is_within longest_range new) true range
       ≡ of_range (is_within longest_range old) true range

@@ -37,6 +37,7 @@ module _ (tests : List (Option Answer)) (texts : Texts) (s : State) (ms : Member
   abbrev of_words : Given → Outcome
   of_words g = with_found (start_at ms) (of_start g)
 
+  -- an operation on a list is refused as its first test says
   pub list-refused : (a : Answer) → first_answer tests ≡ Some a
       → on_list tests texts s ms go ≡ says a
   list-refused a e = stopped tests _ a e
@@ -87,6 +88,7 @@ module _ (tests : List (Option Answer)) (texts : Texts) (s : State) (ms : Member
             list-said said says_so = at_index ∙ found (expressions texts t.description ms g)
                 (expressed start t index) said says_so
 
+  -- where the list is reached, the operation goes on with it
   pub list-target : (said : Expressions) (start : Option (List Pair)) (t : Table)
       (index : Option ℕ) → map.get s.tables (table_name ms) ≡ Some t
       → IsListed tests texts ms t.description said start index
@@ -110,5 +112,6 @@ steps-on_list s tests texts ms go h =
     steps-found s (table_at s ms) (in_table tests texts s ms go g start) (λ t there.
     steps-found s (index_asked t.description ms) (of_index tests texts s ms go g start t)
     (λ index asks.
-    steps-found s (expressions texts t.description ms g) (expressed tests texts s ms go start t index)
+    steps-found s (expressions texts t.description ms g)
+    (expressed tests texts s ms go start t index)
     (λ said says_so. h said start t index))))))

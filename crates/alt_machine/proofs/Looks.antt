@@ -48,8 +48,11 @@ module _ {X : Type 0} (m : Texts X) (k q : List ℕ) (apart : q ≡ k → ⊥) w
       by Equal t = absurd (apart (text_apart q k t))
       by Greater t = refl
 
+  -- an insertion leaves what is found elsewhere
   pub insert_elsewhere : (v : X) → map.get (map.insert m k v) q ≡ map.get m q
-  insert_elsewhere v = get-insert text_total m k v q ∙ ap (λ b. cond b (Some v) (map.get m q)) is_other
+  insert_elsewhere v = get-insert text_total m k v q
+      ∙ ap (λ b. cond b (Some v) (map.get m q)) is_other
 
+  -- a removal leaves what is found elsewhere
   pub remove_elsewhere : map.get (map.remove m k) q ≡ map.get m q
   remove_elsewhere = get-remove text_total m k q ∙ ap (λ b. cond b None (map.get m q)) is_other

@@ -119,10 +119,12 @@ projection_kept word None e = if_either (λ p. names_few p ≡ true)
 projection_kept word (Some names) e = right (bytes_eq word (codes "INCLUDE")) _ e
 
 module _ (ms : Members) (moment number family : ℕ) where
+  -- the description has the number that it is made with
   pub made_number : (description_of ms moment number family).number ≡ number
   unfolding description_of described_by
   made_number = refl
 
+  -- the description has the family that it is made with
   pub made_family : (description_of ms moment number family).family ≡ family
   unfolding description_of described_by
   made_family = refl

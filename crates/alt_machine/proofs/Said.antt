@@ -125,6 +125,7 @@ module _ (texts : Texts) (d : TableSchema) (ms : Members) (g : Given) where
       (update.1 ∙ ap Ok passed.0, ap (changes_key d) (sym passed.0) ∙ passed.1)
 
 module _ (view : View) (g : Given) (full : ViewFull view) (values : PairsFull g.values) where
+  -- an update that was parsed puts no empty set, where no value that is given has one
   of_parsed : (text : List ℕ) (r : Result (List Action) ExprFault) → Parsed updates g text r
       → (update : Option (List Action)) → read_or_refused r ≡ Ok update
       → ActionsFull view (unwrap_or update [])

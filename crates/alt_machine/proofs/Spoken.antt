@@ -31,7 +31,8 @@ use Rattle.alt_shape.specs.Refusals.{Answer, refused, key_update, unused_name}
 -- ---- one text
 
 -- what a parser of a grammar answers of a text is what the text states
-pub stated_is : {D A : Type 0} (L : Language D A) (told : (g : Given) (text : List ℕ) → Told L g text)
+pub stated_is : {D A : Type 0} (L : Language D A)
+    (told : (g : Given) (text : List ℕ) → Told L g text)
     (g : Given) → ((d e : D) → L.toks d ≡ L.toks e → L.tree g d ≡ L.tree g e) → (text : List ℕ)
     (r : Result A ExprFault) → Parsed L g text r → IsTold r
     → stated told g (Some text) ≡ read_or_refused r
@@ -69,12 +70,15 @@ module _ (texts : Texts) (d : TableSchema) (ms : Members) (g : Given) where
   abbrev pub keys_said : Result (Option Cond) Answer
   keys_said = stated condition_of g (text_at texts.key_condition ms)
 
+  -- what the condition's text states
   abbrev pub condition_said : Result (Option Cond) Answer
   condition_said = stated condition_of g (text_at texts.condition ms)
 
+  -- what the update's text states
   abbrev pub update_said : Result (Option (List Action)) Answer
   update_said = stated update_of g (text_at texts.update ms)
 
+  -- what the projection's text states
   abbrev pub paths_said : Result (Option (List (List PathPart))) Answer
   paths_said = stated paths_of (names_alone g.names) (text_at texts.projection ms)
 
@@ -90,20 +94,25 @@ module _ (texts : Texts) (d : TableSchema) (ms : Members) (g : Given) where
         projection = paths;
       })
 
+  -- behind the key condition, the condition and the update
   abbrev pub with_update : Option Cond → Option Cond → Option (List Action)
       → Result Expressions Answer
   with_update keys condition update = paths_said >>= with_paths keys condition update
 
+  -- behind the key condition and the condition
   abbrev pub with_condition : Option Cond → Option Cond → Result Expressions Answer
   with_condition keys condition = update_said >>= with_update keys condition
 
+  -- behind the key condition
   abbrev pub with_keys : Option Cond → Result Expressions Answer
   with_keys keys = condition_said >>= with_condition keys
 
+  -- the texts are read one after another
   pub all_said : expressions texts d ms g ≡ keys_said >>= with_keys
   unfolding expressions
   all_said = refl
 
+  -- a key condition that is refused refuses them all
   pub expressions-no_keys : (answer : Answer) → keys_said ≡ Err answer
       → expressions texts d ms g ≡ Err answer
   expressions-no_keys answer e = all_said ∙ ap (λ r. r >>= with_keys) e

@@ -66,7 +66,8 @@ query_steps : (s : State) (ms : Members) → Steps s (query.query s ms)
 unfolding query.query
 query_steps s ms = steps-on_list s (query.of_body ms) querying ms (query.queries ms)
     (λ said start t index.
-    steps-found s (query.key_asked t.description (index_at t.description index) said.key_condition) _
+    steps-found s
+    (query.key_asked t.description (index_at t.description index) said.key_condition) _
     (λ ask asks.
     steps-found s (walk_start t.description (index_at t.description index) (Some ask.hash) start) _
     (λ place starts.

@@ -11,22 +11,31 @@ use Rattle.alt_machine.specs.Members.{table_name, table_at, item_at}
 use Rattle.alt_machine.specs.Outcomes.{Outcome, says, refuses, unless_refused, with_found}
 use Rattle.alt_machine.specs.Refusals.{first_answer, or_refused, refuse_unless}
 use Rattle.alt_machine.specs.State.{State, Table}
-use Rattle.alt_machine.specs.Targets.{on_table, of_length, on_item, member_of, place_in, IsTarget, IsPlaced}
+use Rattle.alt_machine.specs.Targets.{on_table, of_length, on_item, member_of, place_in, IsPlaced}
 use Rattle.alt_machine.proofs.Chains.{Steps, steps-unless, steps-found, found_is}
 use Rattle.alt_machine.proofs.Tests.{passed, stopped, found, missed, unless_holds}
 use Rattle.alt_shape.specs.Refusals.{Answer, not_found, bad_key, key_too_long}
 use Rattle.alt_value.specs.Tree.{Pair}
 
+-- nothing refuses the body, and that is the table that it names
+pub record IsTarget (tests : List (Option Answer)) (s : State) (ms : Members)
+    (t : Table) : Type 0 where
+  pub body : first_answer tests ≡ None
+  pub there : map.get s.tables (table_name ms) ≡ Some t
+
 -- ---- what a request comes to
 
 module _ (tests : List (Option Answer)) (s : State) (ms : Members) (go : Table → Outcome) where
+  -- an operation on a table is refused as its first test says
   pub table-refused : (a : Answer) → first_answer tests ≡ Some a → on_table tests s ms go ≡ says a
   table-refused a e = stopped tests _ a e
 
+  -- else it is refused where its table isn't found
   pub table-missed : (a : Answer) → first_answer tests ≡ None → table_at s ms ≡ Err a
       → on_table tests s ms go ≡ says a
   table-missed a free e = passed tests _ free ∙ missed (table_at s ms) go a e
 
+  -- where the table is found, it goes on with that
   pub table-target : (t : Table) → IsTarget tests s ms t → on_table tests s ms go ≡ go t
   table-target t target = passed tests _ target.body
       ∙ found (table_at s ms) go t (ap (or_refused not_found) target.there)
@@ -50,6 +59,7 @@ module _ (tests : List (Option Answer)) (sought : Sought) (texts : Texts) (s : S
   abbrev of_item : List Pair → Outcome
   of_item item = with_found (given_at texts ms) (of_words item)
 
+  -- an operation on an item is refused as its first test says
   pub item-refused : (a : Answer) → first_answer tests ≡ Some a
       → on_item tests sought texts s ms go ≡ says a
   item-refused a e = stopped tests _ a e
@@ -82,11 +92,14 @@ module _ (tests : List (Option Answer)) (sought : Sought) (texts : Texts) (s : S
 
           pub item-unsaid : (a : Answer) → expressions texts t.description ms g ≡ Err a
               → on_item tests sought texts s ms go ≡ says a
-          item-unsaid a e = at_table ∙ missed (expressions texts t.description ms g) (expressed item t) a e
+          item-unsaid a e =
+              at_table ∙ missed (expressions texts t.description ms g) (expressed item t) a e
 
-          module _ (said : Expressions) (says_so : expressions texts t.description ms g ≡ Ok said) where
+          module _ (said : Expressions)
+              (says_so : expressions texts t.description ms g ≡ Ok said) where
             pub item-said : on_item tests sought texts s ms go ≡ expressed item t said
-            item-said = at_table ∙ found (expressions texts t.description ms g) (expressed item t) said says_so
+            item-said = at_table ∙ found (expressions texts t.description ms g)
+                (expressed item t) said says_so
 
             pub item-no_place : (a : Answer)
                 → or_refused bad_key (place_in sought t.description item) ≡ Err a
@@ -103,6 +116,7 @@ module _ (tests : List (Option Answer)) (sought : Sought) (texts : Texts) (s : S
                 ∙ ap (λ b. unless_refused (refuse_unless b key_too_long ∷ []) (go said item t at))
                 long
 
+  -- where its place is found, it goes on with the item, the table and that
   pub item-target : (said : Expressions) (item : List Pair) (t : Table) (at : List ℕ)
       → map.get s.tables (table_name ms) ≡ Some t
       → IsPlaced tests sought texts ms t.description said item at
@@ -141,7 +155,8 @@ steps-on_item s tests sought texts ms go h =
     (λ item read.
     steps-found s (given_at texts ms) (of_words tests sought texts s ms go item) (λ g words.
     steps-found s (table_at s ms) (in_table tests sought texts s ms go item g) (λ t there.
-    steps-found s (expressions texts t.description ms g) (expressed tests sought texts s ms go item t)
+    steps-found s (expressions texts t.description ms g)
+    (expressed tests sought texts s ms go item t)
     (λ said says_so.
     steps-found s (or_refused bad_key (place_in sought t.description item))
     (placed tests sought texts s ms go item t said) (λ at stands.

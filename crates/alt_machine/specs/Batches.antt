@@ -75,7 +75,8 @@ is_sized most count = nat_le 1 count && nat_le count most
 
 -- What a body alone is refused for: its shape, a member of an older interface, its members (how many they are, and what else says that
 -- they are bad), and a name that no table can have.
-abbrev pub batch_refusals : Option Broken → Bool → Bool → List (List ℕ × Data) → List (Option Answer)
+abbrev pub batch_refusals : Option Broken → Bool → Bool → List (List ℕ × Data)
+    → List (Option Answer)
 batch_refusals broken legacy good tables =
     of_shape broken ∷
     refuse_if legacy not_together ∷

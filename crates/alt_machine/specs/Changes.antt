@@ -16,14 +16,16 @@ use Rattle.alt_machine.specs.State.{Change}
 
 -- ---- changes
 
--- The change that a write leaves, where one item gives way to another: none where it stays as it is, or where none was there and none comes.
+-- The change that a write leaves, where one item gives way to another: none where it stays as it is, or where none was there and
+-- none comes.
 abbrev pub change_left : ℕ → ℕ → Option (List Pair) → Option (List Pair) → Option Change
 change_left n moment old new = if is_same old new then None
     else Some (record { number = n; moment = moment; old = old; new = new })
 
 -- A table with a stream keeps it behind the others.
 abbrev pub with_change : TableSchema → Option Change → List Change → List Change
-with_change d left changes = if is_some d.stream_family then changes ++ option_to_list left else changes
+with_change d left changes =
+    if is_some d.stream_family then changes ++ option_to_list left else changes
 
 -- ---- what a record shows
 

@@ -89,7 +89,8 @@ of_names (member word d ms) = refuse_by (name_refusal d) ∷ of_names ms
 
 -- the given names, none where there is no such member
 abbrev pub names_at : Members → Result (List Pair) Answer
-names_at ms = option_map_or (λ names. unless_answer (first_answer (of_names names)) (names_in [] names))
+names_at ms =
+    option_map_or (λ names. unless_answer (first_answer (of_names names)) (names_in [] names))
     (names_member ms) (Ok [])
 
 -- the values that a member gives, which are read as an item is
@@ -128,7 +129,8 @@ read_or_refused (Ok tree) = Ok (Some tree)
 read_or_refused (Err fault) = Err (refused (expression_refusal fault))
 
 -- What a text states over what is given, if there is a text. What a text is of a grammar is one (`Told`).
-abbrev pub stated : {D A : Type 0} {L : Language D A} → ((g : Given) (text : List ℕ) → Told L g text)
+abbrev pub stated : {D A : Type 0} {L : Language D A}
+    → ((g : Given) (text : List ℕ) → Told L g text)
     → Given → Option (List ℕ) → Result (Option A) Answer
 stated told g None = Ok None
 stated told g (Some text) = let of_text = told g text in read_or_refused of_text.result
@@ -144,7 +146,8 @@ words_of (Some text) = let tokens : TextTokens text = tokens_of text in tokens.t
 
 -- the words of all texts
 abbrev pub words_at : Texts → Members → List Tok
-words_at texts ms = words_of (text_at texts.key_condition ms) ++ words_of (text_at texts.condition ms)
+words_at texts ms =
+    words_of (text_at texts.key_condition ms) ++ words_of (text_at texts.condition ms)
     ++ words_of (text_at texts.update ms) ++ words_of (text_at texts.projection ms)
 
 -- ---- all of them

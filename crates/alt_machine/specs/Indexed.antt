@@ -1,5 +1,6 @@
--- The items of an index: those of its table that have its key attributes, each cut to what the index keeps, in the order of their places there
--- (DynamoDB Developer Guide, "Using Global Secondary Indexes" and "Local Secondary Indexes"). They are a function of the table's items.
+-- The items of an index: those of its table that have its key attributes, each cut to what the index keeps, in the order of their
+-- places there (DynamoDB Developer Guide, "Using Global Secondary Indexes" and "Local Secondary Indexes"). They are a function of
+-- the table's items.
 use Rattle.std.specs.Prelude.{ℕ, List, Option, Some, None, option_map, option_and_then}
 use Rattle.alt_keyorder.specs.Place.{Place, place_in_index, place_bytes}
 use Rattle.alt_schema.specs.Indexes.{index_row}

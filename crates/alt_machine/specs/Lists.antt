@@ -1,5 +1,5 @@
--- Reading lists of items: what Query and Scan have in common (DynamoDB API Reference, "Query" and "Scan"; Developer Guide, "Paginating table
--- query results").
+-- Reading lists of items: what Query and Scan have in common (DynamoDB API Reference, "Query" and "Scan"; Developer Guide,
+-- "Paginating table query results").
 use Rattle.std.specs.Prelude.{◌≡◌, ℕ, Bool, true, false, not, ◌&&◌, ◌||◌, List, [], ◌∷◌, map, is_some, Option, Some, None, option_map, option_and_then, Result, Ok, codes, if◌then◌else◌}
 use Rattle.std.specs.List.{filter, last_or, list_all}
 use Rattle.std.specs.FinMap.Entries.{where_key}
@@ -152,7 +152,8 @@ abbrev pub page_answer : TableSchema → Option IndexSchema → Members → Page
 page_answer d i ms page last = answered
     (member (codes "Count") (number (unsigned page.count))
     (member_if (codes "Items") (shown_items ms page.items)
-    (member_if (codes "LastEvaluatedKey") (option_map (λ item. json_of_pairs (key_attributes d i item)) last)
+    (member_if (codes "LastEvaluatedKey")
+    (option_map (λ item. json_of_pairs (key_attributes d i item)) last)
     (member (codes "ScannedCount") (number (unsigned page.scanned)) no_members))))
 
 -- the page of a list is answered
@@ -179,7 +180,8 @@ on_list tests texts s ms go =
 -- Nothing refuses the body; those are the start key, the number of the index, and what the expressions say to a table of the
 -- description.
 pub record IsListed (tests : List (Option Answer)) (texts : Texts) (ms : Members)
-    (d : TableSchema) (said : Expressions) (start : Option (List Pair)) (index : Option ℕ) : Type 0 where
+    (d : TableSchema) (said : Expressions) (start : Option (List Pair))
+    (index : Option ℕ) : Type 0 where
   pub body : first_answer tests ≡ None
   pub words : Given
   pub given : given_at texts ms ≡ Ok words

@@ -1,4 +1,5 @@
--- What Query and Scan read: a table, or one of its indexes (DynamoDB API Reference, "Query" and "Scan", IndexName, ConsistentRead and Select).
+-- What Query and Scan read: a table, or one of its indexes (DynamoDB API Reference, "Query" and "Scan", IndexName, ConsistentRead
+-- and Select).
 use Rattle.std.specs.Prelude.{ℕ, Bool, true, false, not, ◌&&◌, ◌||◌, nat_le, List, [], ◌∷◌, length, slice_get, Option, Some, None, option_and_then, Result, Ok, codes}
 use Rattle.std.specs.List.{position}
 use Rattle.std.specs.Option.{option_map_or}
@@ -52,7 +53,8 @@ selects = asks (codes "Select")
 
 -- the last state is to be read
 abbrev pub is_consistent : Members → Bool
-is_consistent ms = option_map_or (λ b. b) (option_and_then as_bool (given (codes "ConsistentRead") ms)) false
+is_consistent ms =
+    option_map_or (λ b. b) (option_and_then as_bool (given (codes "ConsistentRead") ms)) false
 
 -- an index keeps all attributes
 abbrev pub keeps_all : Projection → Bool

@@ -1,4 +1,5 @@
--- Streams: which of them there are, and the places in one that iterators stand for (DynamoDB Streams API Reference). A stream has one shard.
+-- Streams: which of them there are, and the places in one that iterators stand for (DynamoDB Streams API Reference). A stream has
+-- one shard.
 use Rattle.std.specs.Prelude.{ℕ, ◌+◌, ◌-◌, ◌^◌, nat_le, ◌&&◌, Bool, true, List, [], ◌∷◌, ◌++◌, map, length, take, drop, Option, Some, None, option_map, option_and_then, is_some, Result, codes, if◌then◌else◌}
 use Rattle.std.specs.List.{find}
 use Rattle.std.specs.FinMap as finite

@@ -1,6 +1,5 @@
 -- What operations go on with: a table, or an item and its place in one.
 use Rattle.std.specs.Prelude.{◌≡◌, ℕ, true, List, [], ◌∷◌, Option, Some, None, Ok, codes}
-use Rattle.std.specs.FinMap as map
 use Rattle.serde_json.specs.Data.{Members}
 use Rattle.alt_schema.specs.declared.schema.TableSchema.{TableSchema}
 use Rattle.alt_shape.specs.Refusals.{Answer, bad_key, key_too_long}
@@ -11,7 +10,7 @@ use Rattle.alt_machine.specs.declared.Sought.{Sought}
 use Rattle.alt_machine.specs.declared.Sought.TheVariants.{Item, Key}
 use Rattle.alt_machine.specs.Expressions.{Texts, given_at, expressions}
 use Rattle.alt_machine.specs.Keys.{key_fits, place_of, place_of_key}
-use Rattle.alt_machine.specs.Members.{table_name, table_at, item_at}
+use Rattle.alt_machine.specs.Members.{table_at, item_at}
 use Rattle.alt_machine.specs.Outcomes.{Outcome, unless_refused, with_found}
 use Rattle.alt_machine.specs.Refusals.{first_answer, or_refused, refuse_unless}
 use Rattle.alt_machine.specs.State.{State, Table}
@@ -48,12 +47,6 @@ on_item tests sought texts s ms go =
     unless_refused (of_length t.description item) (go said item t place)))))))
 
 -- ---- what they went on with
-
--- nothing refuses the body, and that is the table that it names
-pub record IsTarget (tests : List (Option Answer)) (s : State) (ms : Members)
-    (t : Table) : Type 0 where
-  pub body : first_answer tests ≡ None
-  pub there : map.get s.tables (table_name ms) ≡ Some t
 
 -- Nothing refuses the body; those are the item or the key and what the expressions say, and the item is placed by the description of
 -- the table.

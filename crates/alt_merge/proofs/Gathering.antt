@@ -30,6 +30,7 @@ module _ (forward : Bool) (key : List ℕ) where
       (not_equal forward key other e) r
   left_alone End t e r = (tt, tt)
 
+  -- one head more that is taken, where it has the key, keeps what the heads and the row stand for together
   pub gather_step : (row joined_row : RowCells) (n : ℕ) (heads : List Head) (tails : List RowList)
       (d h : Head) → ReadyFrom forward key n heads tails → n < length heads
       → Takes key row (get_or heads n d) h joined_row

@@ -18,12 +18,14 @@ use Rattle.alt_merge.specs.Merges.{Each2, with_head, with_heads, AllSorted, Read
 use Rattle.alt_merge.proofs.Lists.{each2_one, each2_at}
 
 module _ (forward : Bool) where
+  -- sorted lists joined are sorted
   pub sorted_all : (ls : List RowList) → AllSorted forward ls
       → T (is_sorted (walk_cmp forward) (all_joined (walk_cmp forward) join_row ls))
   sorted_all [] s = tt
   sorted_all (l ∷ ls) s = is_sorted-joined (walk_cmp forward) (walk_total forward) join_row l
       (all_joined (walk_cmp forward) join_row ls) s.0 (sorted_all ls s.1)
 
+  -- the key in hand and what is behind it rise, where they do with the head
   sorted_tail : (h : Head) (key : List ℕ) (row : RowCells) (t : RowList) → h ≡ Held key row
       → T (is_sorted (walk_cmp forward) (with_head h t))
       → T (is_sorted (walk_cmp forward) ((key, row) ∷ t))
@@ -79,6 +81,7 @@ module _ (forward : Bool) where
       ∙ ap (λ z. joined R join_row z rest) (joined-comm R o join_row x j l ((key, row) ∷ []) s.0 tt)
       ∙ joined-assoc R o join_row x j ((key, row) ∷ []) l rest tt s.0 sr
 
+  -- all that a source still gives is behind the key, and rises
   abbrev Passed : List ℕ → Head → RowList → Type 0
   Passed key h t = T (below_all (walk_cmp forward) key (with_head h t))
       × T (is_sorted (walk_cmp forward) (with_head h t))
@@ -91,12 +94,14 @@ module _ (forward : Bool) where
   ReadyFrom key (suc n) (h ∷ heads) [] = ⊥
   ReadyFrom key (suc n) (h ∷ heads) (t ∷ tails) = Passed key h t × ReadyFrom key n heads tails
 
+  -- a source that is ready gives what rises
   ready_sorted : (key : List ℕ) (h : Head) (t : RowList) → Ready forward key h t
       → T (is_sorted (walk_cmp forward) (with_head h t))
   ready_sorted key Due t r = r.1
   ready_sorted key (Held other row) t r = r.1
   ready_sorted key End t r = tt
 
+  -- all sources that are ready give what rises
   pub sorted_of : (key : List ℕ) (n : ℕ) (heads : List Head) (tails : List RowList)
       → ReadyFrom key n heads tails → AllSorted forward (with_heads heads tails)
   sorted_of key zero [] [] r = tt
@@ -109,6 +114,7 @@ module _ (forward : Bool) where
   sorted_of key (suc n) (h ∷ heads) [] r = tt
   sorted_of key (suc n) (h ∷ heads) (t ∷ tails) r = (r.0.1, sorted_of key n heads tails r.1)
 
+  -- there are as many heads as lists behind them
   pub length_of : (key : List ℕ) (n : ℕ) (heads : List Head) (tails : List RowList)
       → ReadyFrom key n heads tails → length heads ≡ length tails
   length_of key zero [] [] r = refl
@@ -120,6 +126,7 @@ module _ (forward : Bool) where
   length_of key (suc n) (h ∷ heads) [] r = absurd r
   length_of key (suc n) (h ∷ heads) (t ∷ tails) r = ap suc (length_of key n heads tails r.1)
 
+  -- where the next head is passed, one list more is behind the key
   pub pass_set : (key : List ℕ) (n : ℕ) (heads : List Head) (tails : List RowList) (d h : Head)
       → ReadyFrom key n heads tails → n < length heads
       → ((t : RowList) → Ready forward key (get_or heads n d) t → Passed key h t)
@@ -132,6 +139,7 @@ module _ (forward : Bool) where
   pass_set key (suc n) (x ∷ heads) (t ∷ tails) d h r lt f =
       (r.0, pass_set key n heads tails d h r.1 (omega arith) f)
 
+  -- where all lists are passed, all that is joined of them is behind the key
   below_of : (key : List ℕ) (heads : List Head) (tails : List RowList)
       → ReadyFrom key (length heads) heads tails
       → T (below_all (walk_cmp forward) key (all_joined (walk_cmp forward) join_row
@@ -177,6 +185,7 @@ module _ (forward : Bool) where
       ∙ ap (λ z. joined R join_row z rest) (joined-tied R o join_row x IsJoin-join_row key row
       more))
 
+  -- a head that isn't above its key is ready for it
   ready_one : (key : List ℕ) (h : Head) (t : RowList) → IsFilled h → NotAbove forward key h
       → T (is_sorted (walk_cmp forward) (with_head h t)) → Ready forward key h t
   ready_one key Due t f n s = absurd f

@@ -8,6 +8,7 @@ use Rattle.alt_merge.specs.declared.head.Head.{Head}
 use Rattle.alt_merge.specs.Merges.{Each2, with_head, with_heads, any_reads, HoldsEach, LeftWith, IsFilled, AllFilled}
 
 module _ {A B : Type 0} where
+  -- what holds of each two holds of those at a place
   pub each2_at : (P : A → B → Type 0) (xs : List A) (ys : List B) → Each2 P xs ys → (i : ℕ)
       → i < length xs → (d : A) (e : B) → P (get_or xs i d) (get_or ys i e)
   each2_at P [] [] each i lt d e = absurd (omega arith)
@@ -16,6 +17,7 @@ module _ {A B : Type 0} where
   each2_at P (x ∷ xs) (y ∷ ys) each zero lt d e = each.0
   each2_at P (x ∷ xs) (y ∷ ys) each (suc i) lt d e = each2_at P xs ys each.1 i (omega arith) d e
 
+  -- it stays where both at a place change to what it holds of
   pub each2_set : (P : A → B → Type 0) (xs : List A) (ys : List B) → Each2 P xs ys
       → (i : ℕ) (x : A) (y : B) → P x y → Each2 P (set xs i x) (set ys i y)
   each2_set P [] [] each i x y p = each
@@ -24,6 +26,7 @@ module _ {A B : Type 0} where
   each2_set P (x' ∷ xs) (y' ∷ ys) each zero x y p = (p, each.1)
   each2_set P (x' ∷ xs) (y' ∷ ys) each (suc i) x y p = (each.0, each2_set P xs ys each.1 i x y p)
 
+  -- it stays where one at a place changes to what it holds of with the other
   pub each2_one : (P : A → B → Type 0) (xs : List A) (ys : List B) → Each2 P xs ys
       → (i : ℕ) (x : A) (e : B) → i < length xs → P x (get_or ys i e) → Each2 P (set xs i x) ys
   each2_one P [] [] each i x e lt p = each
@@ -33,6 +36,7 @@ module _ {A B : Type 0} where
   each2_one P (x' ∷ xs) (y' ∷ ys) each (suc i) x e lt p =
       (each.0, each2_one P xs ys each.1 i x e (omega arith) p)
 
+  -- what follows of two follows of each two
   pub each2_map : (P Q : A → B → Type 0) → ((x : A) (y : B) → P x y → Q x y)
       → (xs : List A) (ys : List B) → Each2 P xs ys → Each2 Q xs ys
   each2_map P Q f [] [] each = each
@@ -40,6 +44,7 @@ module _ {A B : Type 0} where
   each2_map P Q f (x ∷ xs) [] each = each
   each2_map P Q f (x ∷ xs) (y ∷ ys) each = (f x y each.0, each2_map P Q f xs ys each.1)
 
+  -- lists each two of which hold are as long as each other
   pub each2_length : (P : A → B → Type 0) (xs : List A) (ys : List B) → Each2 P xs ys
       → length xs ≡ length ys
   each2_length P [] [] each = refl
@@ -72,6 +77,7 @@ module _ {S : Type 0} (Holds : DiskState → S → RowMap → Type 0) (reads_of 
       quiet = k.quiet;
     }
 
+  -- where one source fails, all of them together fail so
   pub fails_at : (a b : DiskState) (xs : List S) (i : ℕ) (d : S) (fault : SourceFault)
       → i < length xs → Fails Holds a b (get_or xs i d) fault → Fails (HoldsEach Holds) a b xs fault
   fails_at a b xs i d fault lt fails = record {
@@ -159,6 +165,7 @@ get_or-map f [] i d e lt = absurd (omega arith)
 get_or-map f (x ∷ xs) zero d e lt = refl
 get_or-map f (x ∷ xs) (suc i) d e lt = get_or-map f xs i d e (omega arith)
 
+-- a mapped list has the length of the list
 pub length_map : {A B : Type 0} (f : A → B) (xs : List A) → length (map f xs) ≡ length xs
 length_map f [] = refl
 length_map f (x ∷ xs) = ap suc (length_map f xs)

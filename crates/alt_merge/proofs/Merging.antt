@@ -21,6 +21,7 @@ use Rattle.alt_merge.proofs.Heads.{ready_start, take_head, none_left}
 use Rattle.alt_merge.proofs.Least.{get_or_any}
 
 module _ {S : Type 0} (Holds : DiskState → S → RowMap → Type 0) where
+  -- what a call keeps of the sources it keeps of the merge
   pub keeps_merge : (reads : S → ℕ → Bool) (a b : DiskState) (old new : Merge S) (xs ys : List S)
       → xs ≡ old.sources.items → new.sources.items ≡ ys
       → Keeps (HoldsEach Holds) (any_reads reads) a b xs ys
@@ -38,6 +39,7 @@ module _ {S : Type 0} (Holds : DiskState → S → RowMap → Type 0) where
     quiet = k.quiet;
   }
 
+  -- where a call on the sources fails, one on the merge fails so
   pub fails_merge : (a b : DiskState) (old : Merge S) (fault : SourceFault) (xs : List S)
       → xs ≡ old.sources.items → Fails (HoldsEach Holds) a b xs fault
       → Fails (merge_holds Holds) a b old fault
@@ -59,6 +61,7 @@ due_with (Due ∷ heads) (t ∷ tails) due len = ap (λ l. t ∷ l)
 due_with (Held key row ∷ heads) (t ∷ tails) due len = absurd due
 due_with (End ∷ heads) (t ∷ tails) due len = absurd due
 
+-- one source more whose head is due leaves all heads due
 pub due_push : (heads : List Head) → AllDue heads → AllDue (heads ++ Due ∷ [])
 due_push [] due = tt
 due_push (Due ∷ heads) due = due_push heads due
@@ -84,6 +87,7 @@ rows_from_all (m ∷ maps) from forward = rows_from-joined m (all_rows maps) fro
     (rows_from_all maps from forward)
 
 module _ {S : Type 0} (Left : S → RowList → Type 0) where
+  -- sources that were sought from a place give what all rows joined show from there
   pub seek_merge : (sources : List S) (heads : List Head) (maps : List RowMap) (rows : RowMap)
       (from : Option (List ℕ)) (forward : Bool)
       → Each2 Left sources (map (λ m. rows_from m from forward) maps) → AllDue heads
@@ -101,6 +105,7 @@ module _ {S : Type 0} (Left : S → RowList → Type 0) where
             ∙ ap (all_joined (walk_cmp forward) join_row) (sym plain);
       }
 
+  -- a merge gives the least of the heads, joined with its equals
   pub gives_merge : (sources : List S) (before heads : List Head) (forward : Bool)
       (tails : List RowList) (given : Option (List ℕ × RowCells)) (rows : RowList)
       → Each2 Left sources tails → length heads ≡ length sources
@@ -121,6 +126,7 @@ module _ {S : Type 0} (Left : S → RowList → Type 0) where
         },
       )
 
+  -- where no head is left, the merge gives nothing
   pub ends_merge : (sources : List S) (heads : List Head) (forward : Bool) (tails : List RowList)
       (rows : RowList)
       → Each2 Left sources tails → length heads ≡ length sources

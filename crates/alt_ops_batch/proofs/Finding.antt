@@ -36,21 +36,23 @@ pub found_one : (before mid after : DiskState) (old now new : Tables)
     → ((s : State) → Stands mid now s ↔ Stands after new s) → KeepsCatalog now new
     → written_at c ≡ written_by m → ((s : State) → Stands mid now s → IsFound s c)
     → AreFound before old after new members rest (changes ++ c ∷ [])
-found_one before mid after old now new members rest m changes c so reads stays keeps same found = record {
-  reads = reads_then before mid after so.reads reads;
-  stays = λ s. (
-    λ stands. (stays s).0 ((so.stays s).0 stands),
-    λ stands. (so.stays s).1 ((stays s).1 stands),
-  );
-  catalog = record {
-    catalog = keeps.catalog ∙ so.catalog.catalog;
-    number = keeps.number ∙ so.catalog.number;
-    family = keeps.family ∙ so.catalog.family;
-  };
-  written = ap (λ l. l ++ map written_by rest) (map-append written_at changes (c ∷ []))
-      ∙ append_assoc (map written_at changes) (written_at c ∷ []) (map written_by rest)
-      ∙ ap (λ (w : Written). map written_at changes ++ w ∷ map written_by rest) same ∙ so.written;
-  may = so.may.1;
-  found = λ s stands. every_more (IsFound s) changes c (so.found s stands)
-      (found s ((so.stays s).0 stands));
-}
+found_one before mid after old now new members rest m changes c so reads stays keeps same found =
+    record {
+      reads = reads_then before mid after so.reads reads;
+      stays = λ s. (
+        λ stands. (stays s).0 ((so.stays s).0 stands),
+        λ stands. (so.stays s).1 ((stays s).1 stands),
+      );
+      catalog = record {
+        catalog = keeps.catalog ∙ so.catalog.catalog;
+        number = keeps.number ∙ so.catalog.number;
+        family = keeps.family ∙ so.catalog.family;
+      };
+      written = ap (λ l. l ++ map written_by rest) (map-append written_at changes (c ∷ []))
+          ∙ append_assoc (map written_at changes) (written_at c ∷ []) (map written_by rest)
+          ∙ ap (λ (w : Written). map written_at changes ++ w ∷ map written_by rest) same
+          ∙ so.written;
+      may = so.may.1;
+      found = λ s stands. every_more (IsFound s) changes c (so.found s stands)
+          (found s ((so.stays s).0 stands));
+    }

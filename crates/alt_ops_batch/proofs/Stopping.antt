@@ -28,7 +28,9 @@ module _ {A X : Type 0} (disk : DiskState) (tables : Tables) (of : X → A)
     (asked : Texts TableSchema → Result A Answer) (outcome : State → Outcome)
     (go : State → A → Outcome)
     (is : (s : State) → outcome s ≡ with_found (asked (descriptions s.tables)) (go s)) where
-  asked_stopped : (now : State → Type 0) (stop : Stop) → Comes of (asked (catalog_of tables)) (Err stop)
+  -- a batch whose members the tables refuse changes nothing, and is answered by that refusal
+  asked_stopped : (now : State → Type 0) (stop : Stop)
+      → Comes of (asked (catalog_of tables)) (Err stop)
       → ((s : State) → Stands disk tables s → now s)
       → Carries outcome (Stands disk tables) now (Err stop)
   asked_stopped now (Refused r) h stays = refused_so outcome (Stands disk tables) now r h.1
@@ -36,12 +38,14 @@ module _ {A X : Type 0} (disk : DiskState) (tables : Tables) (of : X → A)
       (ap asked (sym stands.catalog) ∙ h.0)) stays
   asked_stopped now (Fault f) h stays = faulted outcome (Stands disk tables) now f h stays
 
+  -- the same, where the refusal comes through a result that was passed on
   pub asked_passed : (now : State → Type 0) (r : Result Reply Stop) (stop : Stop)
       → IsErr r × IsErrAnd r (λ e. e ≡ stop) → Comes of (asked (catalog_of tables)) (Err stop)
       → ((s : State) → Stands disk tables s → now s) → Carries outcome (Stands disk tables) now r
   asked_passed now r stop same h stays = subst (Carries outcome (Stands disk tables) now)
       (sym (err_is r stop same)) (asked_stopped now stop h stays)
 
+  -- a batch whose members are known comes to what its run makes of them
   pub asked_is : (x : X) → Comes of (asked (catalog_of tables)) (Ok x) → (s : State)
       → Stands disk tables s → outcome s ≡ go s (of x)
   asked_is x h s stands = is s ∙ found (asked (descriptions s.tables)) (go s) (of x)

@@ -34,7 +34,8 @@ json_of_each of (x ∷ xs) = ap (λ ds. item (json_of_pairs (of x)) ds) (json_of
 -- ---- calls that read, one after another
 
 -- The calls so far read alone, and the tables stand for what they stood for.
-pub record Kept (before : DiskState) (old : Tables) (after : DiskState) (now : Tables) : Type 0 where
+pub record Kept (before : DiskState) (old : Tables) (after : DiskState)
+    (now : Tables) : Type 0 where
   pub reads : Reads before after
   pub stays : (s : State) → Stands before old s ↔ Stands after now s
   pub catalog : KeepsCatalog old now
@@ -75,7 +76,8 @@ record Parts (s : State) (size : ℕ) (k : PlacedMember) (after : ℕ) (rest : L
     : Type 0 where
   read : read_of s size (k ∷ rest) ≡ read_of s size (k ∷ []) ++ read_of s after rest
   left : drop (length (read_of s size (k ∷ rest))) (k ∷ rest)
-      ≡ drop (length (read_of s size (k ∷ []))) (k ∷ []) ++ drop (length (read_of s after rest)) rest
+      ≡ drop (length (read_of s size (k ∷ []))) (k ∷ [])
+      ++ drop (length (read_of s after rest)) rest
 
 -- what is read of a key and of those behind it is what is read of that and then of those, and so with what is left
 parts_so : (s : State) (size : ℕ) (k : PlacedMember) (after : ℕ) (rest : List PlacedMember)
@@ -85,7 +87,8 @@ parts_so s size k after rest e = by (nat_le BATCH_BYTES size) refl
     by : (b : Bool) → nat_le BATCH_BYTES size ≡ b → Parts s size k after rest
     by true full =
         let none : read_of s size (k ∷ []) ≡ [] = none_read s size (k ∷ []) full in
-        let same : after ≡ size = e ∙ ap (λ ks. size + sum_by (size_at s) ks) none ∙ (omega arith) in
+        let same : after ≡ size = e ∙ ap (λ ks. size + sum_by (size_at s) ks) none
+        ∙ (omega arith) in
         let others : read_of s after rest ≡ [] = ap (λ n. read_of s n rest) same
         ∙ none_read s size rest full in
         record {
@@ -98,7 +101,8 @@ parts_so s size k after rest e = by (nat_le BATCH_BYTES size) refl
         let one : read_of s size (k ∷ []) ≡ k ∷ [] = one_read s size k [] under in
         let same : after ≡ size + size_at s k = e ∙ ap (λ ks. size + sum_by (size_at s) ks) one
         ∙ (omega arith) in
-        let all : read_of s size (k ∷ rest) ≡ k ∷ read_of s after rest = one_read s size k rest under
+        let all : read_of s size (k ∷ rest) ≡ k ∷ read_of s after rest =
+        one_read s size k rest under
         ∙ ap (λ n. k ∷ read_of s n rest) (sym same) in
         record {
           read = all ∙ sym (ap (λ ks. ks ++ read_of s after rest) one);
@@ -124,7 +128,8 @@ module _ (s : State) (paths : Shown) (before : ℕ) (keys : List PlacedMember) w
       → SoFar s paths before keys old size (k ∷ rest) → Takes s paths size (k ∷ []) old new after
       → SoFar s paths before keys new after rest
   so_more old new size after k rest so takes =
-      let shown : List PlacedMember → List _ = λ ks. map (item_json paths) (filter_map (found_at s) ks) in
+      let shown : List PlacedMember → List _ =
+      λ ks. map (item_json paths) (filter_map (found_at s) ks) in
       let one : List PlacedMember = read_of s size (k ∷ []) in
       let others : List PlacedMember = read_of s after rest in
       let both = parts_so s size k after rest takes.size in

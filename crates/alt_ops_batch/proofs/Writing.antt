@@ -79,7 +79,8 @@ stay_found s moment w (c ∷ cs) apart found = (
 -- ---- what is made so far
 
 -- Of the writes of a state `done` are made, and those of the changes that are left come behind them.
-pub record AreDone (before : DiskState) (old : Tables) (after : DiskState) (now : Tables) (s : State)
+pub record AreDone (before : DiskState) (old : Tables) (after : DiskState)
+    (now : Tables) (s : State)
     (moment : ℕ) (all rest : List Change) : Type 0 where
   pub done : List State
   pub stands : Stands after now (last_state s done)
@@ -205,6 +206,7 @@ module _ (mid after : DiskState) (now new : Tables) (moment : ℕ) (c : Change) 
       ∙ sym (ap (λ o. option_map_or
       (λ (u : Table). item_writes s moment c.table u c.found.place c.new) o []) at)
 
+  -- where an item is changed, one write more makes what its changes of that table make
   pub made_one : ((s : State) (t : Table) → Stands mid now s → finite.get s.tables name ≡ Some t
       → AreMade (Stands after new) a_number s (item_writes s moment name t c.found.place c.new))
       → ((s : State) (t : Table) → Stands mid now s → finite.get s.tables name ≡ Some t
@@ -220,6 +222,7 @@ module _ (mid after : DiskState) (now new : Tables) (moment : ℕ) (c : Change) 
         subst (λ l. Leaves mid after s l) is (leaves s at.0 stands there),
       )
 
+  -- where an item is changed and its write breaks off, the changes of that table break off so
   pub broke_one : (f : TableFault) → (is_same c.found.item c.new ≡ true → ⊥)
       → ((s : State) (t : Table) → Stands mid now s → finite.get s.tables name ≡ Some t
       → BreakOff (Stands after new) a_number s (item_writes s moment name t c.found.place c.new) f)

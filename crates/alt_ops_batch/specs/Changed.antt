@@ -20,7 +20,8 @@ written_at c = record { table = c.table; place = c.found.place; new = c.new }
 -- its table is there, and what it leaves may stand at its place
 pub record MayWrite (catalog : Texts TableSchema) (w : Written) : Type 0 where
   pub there : map.contains_key catalog w.table ≡ true
-  pub stored : (d : TableSchema) → map.get catalog w.table ≡ Some d → IfSome w.new (IsStored d w.place)
+  pub stored : (d : TableSchema) → map.get catalog w.table ≡ Some d
+      → IfSome w.new (IsStored d w.place)
 
 -- two write at different places, or in different tables
 abbrev pub AreApart : Written → Written → Type 0

@@ -45,7 +45,8 @@ IsBounded size = size ≤ BATCH_BYTES + LARGEST_ITEM
 
 -- the tables of all keys are there
 abbrev pub AreKnown : Texts TableSchema → List PlacedMember → Type 0
-AreKnown catalog keys = Every (λ (k : PlacedMember). finite.contains_key catalog k.table ≡ true) keys
+AreKnown catalog keys =
+    Every (λ (k : PlacedMember). finite.contains_key catalog k.table ≡ true) keys
 
 -- those of the keys of each read are
 abbrev pub AreAllKnown : Texts TableSchema → List TableReads → Type 0
@@ -62,7 +63,8 @@ abbrev pub key_json : PlacedMember → Data
 key_json key = json_of_pairs key.item
 
 -- The items of these keys are shown behind those before, up to the one at which the sizes reach 16 MB, and the keys behind it are left.
-pub record Takes (s : State) (paths : Shown) (before : ℕ) (keys : List PlacedMember) (old new : Taken)
+pub record Takes (s : State) (paths : Shown) (before : ℕ) (keys : List PlacedMember)
+    (old new : Taken)
     (after : ℕ) : Type 0 where
   pub items : map view new.items.items ≡ map view old.items.items
       ++ map (item_json paths) (filter_map (found_at s) (read_of s before keys))
@@ -71,7 +73,8 @@ pub record Takes (s : State) (paths : Shown) (before : ℕ) (keys : List PlacedM
   pub size : after ≡ before + sum_by (size_at s) (read_of s before keys)
 
 -- So they are, with nothing before.
-pub record IsTaken (s : State) (paths : Shown) (before : ℕ) (keys : List PlacedMember) (taken : Taken)
+pub record IsTaken (s : State) (paths : Shown) (before : ℕ) (keys : List PlacedMember)
+    (taken : Taken)
     (after : ℕ) : Type 0 where
   pub items : map view taken.items.items
       ≡ map (item_json paths) (filter_map (found_at s) (read_of s before keys))

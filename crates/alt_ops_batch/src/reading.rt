@@ -86,7 +86,8 @@ fn read_table<D: Disk>(
     requires plain { IsPlainRead read.old }
     requires bounded { IsBounded read.old.size }
     ensures read { (s : State) → Stands (D.state disk.old) tables.old s
-        → OnOk result (read_so read.new ≡ machine.with_reads s (read_so read.old) (reads_of reads.entry)) }
+        → OnOk result
+        (read_so read.new ≡ machine.with_reads s (read_so read.old) (reads_of reads.entry)) }
     ensures plain { OnOk result (IsPlainRead read.new) }
     ensures bounded { OnOk result (IsBounded read.new.size) }
     ensures stays { (s : State) → Stands (D.state disk.old) tables.old s ↔ Stands

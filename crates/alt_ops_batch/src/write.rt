@@ -46,7 +46,8 @@ pub fn batch_write_item<D: Disk>(
     moment: u64,
 ) -> Result<Reply, Stop>
     requires ready { AreReady (D.state disk.old) tables.old }
-    ensures carried { Carries (λ s. machine.batch_write_item s moment (members_view body.now.entries))
+    ensures carried { Carries
+        (λ s. machine.batch_write_item s moment (members_view body.now.entries))
         (Stands (D.state disk.old) tables.old) (Stands (D.state disk.new) tables.new) result }
     ensures moves { Moves (λ s. machine.batch_write_item s moment (members_view body.now.entries))
         (Stands (D.state disk.old) tables.old) (D.state disk.old) (D.state disk.new) result }

@@ -126,7 +126,8 @@ same_Ok x y e = cc
 -- an action changes its target
 edit-target : (view : View) (a : Action) (e : Edit) → edit view a ≡ Ok e → e.0 ≡ target a
 edit-target view (Set path sum) e h =
-    let one = found_first (sum_of view sum) (λ t. parent view path >>= (λ _. Ok (path, Some t))) e h in
+    let one = found_first (sum_of view sum) (λ t. parent view path
+    >>= (λ _. Ok (path, Some t))) e h in
     let two = found_first (parent view path) (λ _. Ok (path, Some one.0)) e one.2 in
     ap (λ (x : Edit). x.0) (sym (same_Ok (path, Some one.0) e two.2))
 edit-target view (Remove path) e h =
@@ -174,6 +175,7 @@ pub seen_is : (old : Option (List Pair)) → seen old ≡ (λ name. at_name name
 seen_is None = refl
 seen_is (Some item) = refl
 
+-- an option that has no value is None
 no_value : (o : Option Tree) → is_some o ≡ false → o ≡ None
 no_value None e = refl
 no_value (Some t) e = absurd (let f : ⊥ = cc in f)
@@ -218,7 +220,8 @@ no_empty ps item = by (at_name [] ps) refl
     by : (o : Option Tree) → at_name [] ps ≡ o → at_name [] ps ≡ None
     by None e = e
     by (Some t) e =
-        let some : 0 < length {A = ℕ} [] = at_name-has_bytes [] t ps item e in absurd (omega (arith, some))
+        let some : 0 < length {A = ℕ} [] = at_name-has_bytes [] t ps item e in
+        absurd (omega (arith, some))
 
 module _ (old : Option (List Pair)) (update : List Action) (cs : List AttrChange)
     (item : IsItem (unwrap_or old []))
@@ -247,6 +250,7 @@ module _ (old : Option (List Pair)) (update : List Action) (cs : List AttrChange
       ]) refl
       ∙ sym (at_made (c ∷ rest) some)
 
+  -- an item's pairs at the names that an update may touch are those that were made
   pub pairs_are : pairs_of now (names_of update old) ≡ made
   pairs_are = same_entries text_order text_total text_apart
       (pairs_of now (names_of update old)) made

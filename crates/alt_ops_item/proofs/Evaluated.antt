@@ -25,7 +25,8 @@ use Rattle.alt_value.specs.Tree.{Pair}
 -- the item of what an update makes of the attributes
 abbrev behind_view : List Action → Option (List Pair) → Result View Fault
     → Result (List Pair) Answer
-behind_view update old r = or_update_refusal r >>= (λ view. Ok (pairs_of view (names_of update old)))
+behind_view update old r = or_update_refusal r
+    >>= (λ view. Ok (pairs_of view (names_of update old)))
 
 -- the refusal of a number has a message
 number_known : (f : NumberFault) → IsKnown (number_refusal f)

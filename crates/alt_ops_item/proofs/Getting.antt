@@ -18,6 +18,7 @@ use Rattle.alt_shape.specs.declared.refusal.Reply.{Reply}
 use Rattle.alt_shape.specs.declared.rule.Broken.{Broken}
 use Rattle.alt_value.specs.Tree.{Pair}
 
+-- a GetItem is its steps to an item and its key, and then the answer of what is found there
 pub get_is : (ms : Members) (broken : Option Broken) → broken ≡ bodies.get_item ms → (s : State)
     → get_item s ms ≡ on_item (body_refusals broken rules ms) Key projecting s ms gets
 unfolding get_item

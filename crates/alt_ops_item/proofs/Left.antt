@@ -47,7 +47,8 @@ with_key-take : (key item : List Pair) (i : ℕ) (p : Pair) → slice_get key i 
 with_key-take [] item i p e = absurd (let f : ⊥ = cc in f)
 with_key-take ((name, t) ∷ key) item zero p e =
     ap (λ (q : Pair). with_pair q.0 q.1 item) (same_pair (name, t) p e)
-with_key-take ((name, t) ∷ key) item (suc i) p e = ap (with_pair name t) (with_key-take key item i p e)
+with_key-take ((name, t) ∷ key) item (suc i) p e =
+    ap (with_pair name t) (with_key-take key item i p e)
 
 -- one of them was put
 pub part_put : (key item new : List Pair) (i : ℕ) → WithPart (slice_get key i) item new
@@ -60,6 +61,7 @@ part_put key item new i = by (slice_get key i) refl
     by (Some p) e h = ap (with_key (take i key)) h ∙ sym (with_key-take key item i p e)
         ∙ ap (λ n. with_key (take n key) item) (let f : suc i ≡ i + 1 = omega arith in f)
 
+-- a name above the empty one has bytes
 has_bytes : (name : List ℕ) → T (is_lt (text_order [] name)) → 0 < length name
 has_bytes [] h = absurd h
 has_bytes (c ∷ cs) h = omega arith
@@ -72,6 +74,7 @@ below_get (q ∷ ps) zero p h e =
     subst (λ (r : Pair). 0 < length r.0) (same_pair q p e) (has_bytes q.0 (first _ _ h))
 below_get (q ∷ ps) (suc i) p h e = below_get ps i p (second _ _ h) e
 
+-- each name of an item has bytes
 pub part_named : (ps : List Pair) (i : ℕ) (p : Pair) → IsItem ps → slice_get ps i ≡ Some p
     → 0 < length p.0
 part_named ps i p item e = below_get ps i p item.1 e

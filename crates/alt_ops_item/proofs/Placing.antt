@@ -24,6 +24,7 @@ use Rattle.alt_tables.specs.declared.faults.TableFault.TheVariants.{Spent, Damag
 use Rattle.alt_tables.specs.Images.{Leaves}
 use Rattle.alt_value.specs.Tree.{Pair}
 
+-- values that are equal as options are equal
 pub same_Some : {A : Type 0} (x y : A) → Some x ≡ Some y → x ≡ y
 same_Some x y e = cc
 
@@ -38,6 +39,7 @@ unread now s outcome NoMemory known stands = (0, none_made outcome.atoms, refl, 
 
 module _ (condition : Option Cond) (s : State) (moment : ℕ) (ms : Members) (t : Table)
     (place : List ℕ) (new : Option (List Pair)) where
+  -- what the whole request comes to, by its condition
   abbrev whole : Outcome
   whole = writes_if condition s moment ms t place new
 
@@ -76,7 +78,8 @@ module _ (condition : Option Cond) (s : State) (moment : ℕ) (ms : Members) (t 
 
       pub made : (reply : Reply)
           → answer_of reply ≡ item_answer (codes "Attributes") (asked (codes "ReturnValues") ms old)
-          → AreMade now a_number s (item_writes s moment name t at new) → Does now s whole (Ok reply)
+          → AreMade now a_number s (item_writes s moment name t at new)
+          → Does now s whole (Ok reply)
       made reply told are_made =
           let so : AreMade now a_number s (item_writes s moment (table_name ms) t place new) =
           subst (λ atoms. AreMade now a_number s atoms) atoms_so are_made in

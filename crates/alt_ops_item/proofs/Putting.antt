@@ -22,6 +22,7 @@ use Rattle.alt_shape.specs.declared.refusal.Refusal.{Refusal}
 use Rattle.alt_shape.specs.declared.rule.Broken.{Broken}
 use Rattle.alt_value.specs.Tree.{Pair}
 
+-- a PutItem is its steps to an item and its place, and then the write of what it gives
 pub put_is : (moment : ℕ) (ms : Members) (broken : Option Broken) → broken ≡ bodies.put_item ms
     → (s : State) → put_item s moment ms
     ≡ on_item (body_refusals broken rules ms) Item conditional s ms (puts s moment ms)
@@ -37,6 +38,7 @@ module _ (s : State) (moment : ℕ) (ms : Members) (said : Expressions) (item : 
   puts-refused r e = stopped (of_item t.description item) _ (refused r)
       (ap (λ (x : TableSchema). first_answer (of_item x item)) same ∙ e)
 
+  -- where nothing refuses the item that is given, it is written if the condition holds
   pub puts-written : first_answer (of_item d item) ≡ None
       → puts s moment ms said item t place
       ≡ writes_if said.condition s moment ms t place (Some item)

@@ -71,6 +71,7 @@ has_some (Some x) e = (x, refl)
 
 module _ (said : Expressions) (key : List Pair) (s : State) (moment : ℕ) (ms : Members) (t : Table)
     (place : List ℕ) where
+  -- what the whole update comes to, by its condition
   abbrev whole : Outcome
   whole = updates s moment ms said key t place
 

@@ -9,4 +9,5 @@ use Rattle.alt_machine.specs.State.{Table}
 
 -- the parts that paths choose of the item at a place, if one is there, or all of it where there are no paths
 abbrev pub shows : Option (List (List PathPart)) → Table → List ℕ → Outcome
-shows paths t place = says (item_answer (codes "Item") (option_map (parts paths) (map.get t.items place)))
+shows paths t place =
+    says (item_answer (codes "Item") (option_map (parts paths) (map.get t.items place)))

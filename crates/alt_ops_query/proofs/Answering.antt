@@ -48,7 +48,8 @@ page_with ask seen ended = record {
 }
 
 -- the page of what a page of the list examines is that of the list
-same_page : (ask : PageAsk) (list : List (List Pair)) (filling : Filling) → HasFilled filling ask list
+same_page : (ask : PageAsk) (list : List (List Pair)) (filling : Filling)
+    → HasFilled filling ask list
     → pages.page_of (asked_of ask) (examined ask.limit list) ≡ pages.page_of (asked_of ask) list
 unfolding page_with
 same_page ask list filling filled = λ i. page_with (asked_of ask) (filled.whole.offered.whole i)
@@ -65,7 +66,8 @@ counts_shown : (ms : Members) (items : List (List Pair)) (b : Bool) → b ≡ se
 counts_shown ms items false is = refl
 counts_shown ms items true is = none_shown ms [] (sym is) ∙ sym (none_shown ms items (sym is))
 
-module _ (d : TableSchema) (x : Option IndexSchema) (ms : Members) (ask : PageAsk) (list : List (List Pair))
+module _ (d : TableSchema) (x : Option IndexSchema) (ms : Members) (ask : PageAsk)
+    (list : List (List Pair))
     (filling : Filling) (filled : HasFilled filling ask list)
     (counts : ask.count_only ≡ selects (codes "COUNT") ms) (page : Page)
     (is : IsPage ask (examined ask.limit list) page) where
@@ -86,6 +88,7 @@ module _ (d : TableSchema) (x : Option IndexSchema) (ms : Members) (ask : PageAs
   last_is : (if page.ended then filling.last else None) ≡ last_examined (asked_of ask) list
   last_is = λ i. if ap (λ (p : pages.Page). p.ended) page_is i then filled.whole.last i else None
 
+  -- the page that was filled is answered as the machine answers the whole list
   pub answered_so : page_answer d x ms (page_of page) (if page.ended then filling.last else None)
       ≡ answer_with d x ms ask list
   answered_so = (λ i. page_answer d x ms (page_is i) (last_is i))
@@ -107,14 +110,16 @@ module _ (d : TableSchema) (x : Option IndexSchema) (ms : Members) (ask : PageAs
 -- ---- what is done
 
 -- the page is answered, or memory was wanting for it
-pub page_does : (now : State → Type 0) (s : State) (d : TableSchema) (x : Option IndexSchema) (ms : Members) (ask : PageAsk)
+pub page_does : (now : State → Type 0) (s : State) (d : TableSchema) (x : Option IndexSchema)
+    (ms : Members) (ask : PageAsk)
     (list : List (List Pair)) (filling : Filling) (r : Result Reply Stop) → now s
     → HasFilled filling ask list → ask.count_only ≡ selects (codes "COUNT") ms
     → IfOk r (λ reply. AnswersPage d x ms filling (answer_of reply))
     → IfOk r (λ reply. has_float (view reply.body) ≡ false) → IfErr r IsMemory
     → Does now s (says (answer_with d x ms ask list)) r
 page_does now s d x ms ask list filling (Ok reply) stands filled counts told plain cause =
-    does_say now (answer_with d x ms ask list) s (Ok reply) (told ask list filled counts, plain) stands
+    does_say now (answer_with d x ms ask list) s (Ok reply)
+    (told ask list filled counts, plain) stands
 page_does now s d x ms ask list filling (Err stop) stands filled counts told plain cause =
     subst (λ e. Does now s (says (answer_with d x ms ask list)) (Err e)) (sym cause)
     (does_say now (answer_with d x ms ask list) s (Err (Fault NoMemory)) refl stands)
@@ -134,7 +139,8 @@ pub does_fault : (now : State → Type 0) (s : State) (outcome : Outcome) (r : R
     (stop : Stop) → IsErr r × IsErrAnd r (λ e. e ≡ stop) → IsFault stop → now s
     → Does now s outcome r
 does_fault now s outcome r stop same fault stands =
-    subst (Does now s outcome) (sym (err_is r stop same)) (fault_does now s outcome stop fault stands)
+    subst (Does now s outcome) (sym (err_is r stop same))
+    (fault_does now s outcome stop fault stands)
 
 -- what stopped a step that refuses nothing is a fault, which has no words to check
 pub stop_plain : (A : Type 0) (P : Type 0) (stop : Stop) → IfErrFailed {A = A} (Err stop) P
@@ -149,7 +155,8 @@ stop_failed A P (Refused r) h = absurd h
 stop_failed A P (Fault f) h = h
 
 -- what is asked of the page is what the request asks
-pub page_asks : (d : TableSchema) (x : Option IndexSchema) (ms : Members) (said : Expressions) (list : List (List Pair))
+pub page_asks : (d : TableSchema) (x : Option IndexSchema) (ms : Members) (said : Expressions)
+    (list : List (List Pair))
     (ask : PageAsk) → ask ≡ asked_page ms said.condition said.projection → HasLimit ms
     → answer_with d x ms ask list ≡ page_answer d x ms (pages.page_of (page_asked ms said) list)
     (last_examined (page_asked ms said) list)

@@ -96,7 +96,8 @@ beyond_above from to place above key = (
 -- the bytes behind a place are up to all that are above it
 after_up_to : (place key : List ℕ) → IsBelow place key → IsUpTo (place ++ 0 ∷ []) key
 after_up_to place key above low = ⊎_elim
-    (λ (below : IsBelow key place). not_itself key (nat_list_cmp_total.trans key place key below above))
+    (λ (below : IsBelow key place). not_itself key
+    (nat_list_cmp_total.trans key place key below above))
     (λ (same : key ≡ place). not_itself key (subst (λ k. IsBelow k key) (sym same) above))
     (below_after key place (above_is (place ++ 0 ∷ []) key low))
 
@@ -106,7 +107,8 @@ pub beyond_after : (from : List ℕ) (to : Option (List ℕ)) (place : List ℕ)
     → IsBeyond true (Some place) from to (place ++ 0 ∷ []) to
 beyond_after from to place reaches key = (
   λ h.
-      let above = below_up_to place (place ++ 0 ∷ []) key (after_below place place (inr refl)) h.0 in (
+      let above = below_up_to place (place ++ 0 ∷ []) key
+      (after_below place place (inr refl)) h.0 in (
         (
           less_not (text_order from key)
               (up_to_below from place key (gt_not (text_order from place) reaches) above),

@@ -69,6 +69,7 @@ module _ (disk : DiskState) (tables : Tables) (s : State) (stands : Stands disk 
       by None may = may.0.stands
       by (Some i) may = entry_place t.description i may.1 place item may.4
 
+  -- the description at hand is that of the table that is walked
   pub described : (now : Tables) (d : TableSchema) → KeepsCatalog tables now
       → Some d ≡ finite.get (catalog_of now) name → d ≡ t.description
   described now d keeps e =

@@ -10,12 +10,14 @@ use Rattle.alt_paging.proofs.PageLaws.{full_prefix-ended, examined-ended}
 use Rattle.alt_value.specs.Tree.{Pair}
 
 -- the last of a list with one more
-pub last_push : {A : Type 0} (o : Option A) (xs : List A) (x : A) → last_or o (xs ++ x ∷ []) ≡ Some x
+pub last_push : {A : Type 0} (o : Option A) (xs : List A) (x : A)
+    → last_or o (xs ++ x ∷ []) ≡ Some x
 last_push o [] x = refl
 last_push o (y ∷ ys) x = last_push (Some y) ys x
 
 -- one more after others
-pub examined_on : (filling : Filling) (ask : PageAsk) (seen some : List (List Pair)) (item : List Pair)
+pub examined_on : (filling : Filling) (ask : PageAsk) (seen some : List (List Pair))
+    (item : List Pair)
     → HasExamined filling ask ((seen ++ some) ++ item ∷ [])
     → HasExamined filling ask (seen ++ (some ++ item ∷ []))
 examined_on filling ask seen some item h =

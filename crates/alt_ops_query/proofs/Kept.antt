@@ -121,6 +121,7 @@ module _ (item : List Pair) (is_item : IsItem item) where
   key-table d = one_key _ _ _ _ (kept_key d.hash d.range (λ q. false) [] none_kept)
       (where_kept (is_key_there d None)) (λ q. or_false _)
 
+  -- the key attributes of the index put into those of the table are the key of an item of the index
   pub key-index : (d : TableSchema) (i : IndexSchema)
       → with_key i.hash i.range item (with_key d.hash d.range item [])
       ≡ key_attributes d (Some i) item

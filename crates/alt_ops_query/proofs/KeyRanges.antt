@@ -86,13 +86,16 @@ module _ (d : TableSchema) (i : Option IndexSchema) (condition : Option Cond) (a
     (hash_kind : IsOfKind (hash_of d i).kind (tree_of ask.hash))
     (range_kind : AsksOfKind (option_map (λ x. x.kind) (range_of d i)) ask.range)
     (holds : (item : List Pair) → passes condition item
-    ≡ meets (key_of (hash_of d i)) (option_map key_of (range_of d i)) (asks ask) (λ name. at_name name item)) where
+    ≡ meets (key_of (hash_of d i)) (option_map key_of (range_of d i)) (asks ask)
+    (λ name. at_name name item)) where
   -- a stored item passes exactly where its key is one that is asked for
-  passes_is : (key : List ℕ) (item : List Pair) (keys : IsKeyed (hash_of d i) (range_of d i) item key)
+  passes_is : (key : List ℕ) (item : List Pair)
+      (keys : IsKeyed (hash_of d i) (range_of d i) item key)
       → passes condition item
       ≡ (same keys.hash (tree_of ask.hash) && in_range (test_of ask.range) keys.range)
   passes_is key item keys = holds item
-      ∙ (λ j. equal (keys.has_hash.at j) (Some (tree_of ask.hash)) && range_test item (range_of d i) keys.range ask.range
+      ∙ (λ j. equal (keys.has_hash.at j) (Some (tree_of ask.hash))
+      && range_test item (range_of d i) keys.range ask.range
       keys.has_range range_kind j)
 
   -- A range that holds what is asked for holds the listed items in its part beyond a place.
@@ -126,7 +129,8 @@ module _ (d : TableSchema) (i : Option IndexSchema) (condition : Option Cond) (a
 
 -- a key attribute has its kind in key conditions too
 kinds_same : (k : Option KeyAttr)
-    → option_map (λ (x : Key). x.kind) (option_map key_of k) ≡ option_map (λ (x : KeyAttr). x.kind) k
+    → option_map (λ (x : Key). x.kind) (option_map key_of k)
+    ≡ option_map (λ (x : KeyAttr). x.kind) k
 kinds_same None = refl
 kinds_same (Some k) = refl
 
@@ -142,22 +146,27 @@ some_asked d i (Some x) ask e =
     by None f = absurd (let g : ⊥ = cc in g)
     by (Some q) f = let same : q ≡ ask = cc in ap (λ z. Some z) same
 
-module _ (d : TableSchema) (i : Option IndexSchema) (condition : Option Cond) (start : Option (List Pair)) (forward : Bool) where
+module _ (d : TableSchema) (i : Option IndexSchema) (condition : Option Cond)
+    (start : Option (List Pair)) (forward : Bool) where
+  -- a range that is placed as the ask says holds the items of which the key condition holds
   pub asked_so : (ask : KeyAsk) → key_asked d i condition ≡ Ok (asks ask)
       → ((item : List Pair) → passes condition item
-      ≡ meets (key_of (hash_of d i)) (option_map key_of (range_of d i)) (asks ask) (λ name. at_name name item))
+      ≡ meets (key_of (hash_of d i)) (option_map key_of (range_of d i)) (asks ask)
+      (λ name. at_name name item))
       → IsValue (tree_of ask.hash) → AreHeld ask.range → (range : KeyRange)
       → IsPlaced d i ask start forward range → IsAsked d i condition start forward range
   asked_so ask e holds held range_held range p =
       let x = some_asked d i condition (asks ask) e in
-      let kinds = asks_kinds (key_of (hash_of d i)) (option_map key_of (range_of d i)) x.0 ask x.1 held range_held in
+      let kinds = asks_kinds (key_of (hash_of d i))
+      (option_map key_of (range_of d i)) x.0 ask x.1 held range_held in
       record {
         ask = asks ask;
         asks = e;
         place = p.place;
         starts = p.starts;
         holds = holds_listed d i condition ask kinds.0
-            (subst (λ k. AsksOfKind k ask.range) (kinds_same (range_of d i)) kinds.1) holds forward p.place
+            (subst (λ k. AsksOfKind k ask.range) (kinds_same (range_of d i)) kinds.1) holds
+            forward p.place
             p.from p.to range.from range.to p.holds p.beyond;
       }
 
@@ -182,9 +191,11 @@ module _ (d : TableSchema) (i : Option IndexSchema) (condition : Option Cond) (s
   )
   no_place ask e (Fault f) h = h
 
+  -- a result that is placed as the ask says answers the key condition
   pub asked_by : (ask : KeyAsk) → key_asked d i condition ≡ Ok (asks ask)
       → ((item : List Pair) → passes condition item
-      ≡ meets (key_of (hash_of d i)) (option_map key_of (range_of d i)) (asks ask) (λ name. at_name name item))
+      ≡ meets (key_of (hash_of d i)) (option_map key_of (range_of d i)) (asks ask)
+      (λ name. at_name name item))
       → IsValue (tree_of ask.hash) → AreHeld ask.range → (result : Result KeyRange Stop)
       → Places d i ask start forward result → Asks d i condition start forward result
   asked_by ask e holds held range_held (Ok range) p =

@@ -91,6 +91,7 @@ filter_both p q (x ∷ xs) = by (p x) (filter_both p q xs)
     by true rest = ap (λ l. cond (q x) (x ∷ l) l) rest
     by false rest = rest
 
+-- what passes of a reversed list is what passes of the list, reversed
 filter-reverse : {A : Type 0} (p : A → Bool) (xs : List A)
     → filter p (reverse xs) ≡ reverse (filter p xs)
 filter-reverse p [] = refl

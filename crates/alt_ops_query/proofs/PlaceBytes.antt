@@ -65,7 +65,8 @@ character_bytes c ok =
     (240 + c / 262144) ∷ next (c / 4096) ∷ next (c / 64) ∷ next c ∷ [] in
     let three : List ℕ = (224 + c / 4096) ∷ next (c / 64) ∷ next c ∷ [] in
     let two : List ℕ = (192 + c / 64) ∷ next c ∷ [] in
-    by_test (ltb c 128) (c ∷ []) (cond (ltb c 2048) two (cond (ltb c 65536) three four)) (λ e. let low : c < 128 = grind (arith, e) in (omega (arith, low), tt))
+    by_test (ltb c 128) (c ∷ []) (cond (ltb c 2048) two (cond (ltb c 65536) three four))
+    (λ e. let low : c < 128 = grind (arith, e) in (omega (arith, low), tt))
     (λ e. by_test (ltb c 2048) two (cond (ltb c 65536) three four)
     (λ f. let low : c < 2048 = grind (arith, f) in (omega (arith, low), (omega arith, tt)))
     (λ f. by_test (ltb c 65536) three four
@@ -104,10 +105,12 @@ complement_bytes (b ∷ bs) = (omega arith, complement_bytes bs)
 magnitude_are_bytes : (m : ℕ) → IsMagnitude m → AreBytes (magnitude_bytes m)
 unfolding magnitude_bytes width
 magnitude_are_bytes m size =
-    let few : length (digits_of 10 m) ≤ 293 = length-digits_of-le 10 293 m (omega arith) size.below in (
+    let few : length (digits_of 10 m) ≤ 293 =
+    length-digits_of-le 10 293 m (omega arith) size.below in (
       omega (arith, few),
       both_bytes (pairs (digits_of 10 (trimmed m))) (0 ∷ [])
-          (pairs_bytes (digits_of 10 (trimmed m)) (all_below_base_digits_of 10 (trimmed m) (omega arith)))
+          (pairs_bytes (digits_of 10 (trimmed m))
+          (all_below_base_digits_of 10 (trimmed m) (omega arith)))
           (omega arith, tt),
     )
 
@@ -115,7 +118,8 @@ magnitude_are_bytes m size =
 spelled_bytes : (z : ℤ) → Fits z → AreBytes (spelled z)
 unfolding spelled
 spelled_bytes z fits = by_test (nat_abs z == 0) _ _ (λ e. (omega arith, tt))
-    (λ e. by_test (is_negative z) _ _ (λ f. (omega arith, complement_bytes (magnitude_bytes (nat_abs z))))
+    (λ e. by_test (is_negative z) _ _
+    (λ f. (omega arith, complement_bytes (magnitude_bytes (nat_abs z))))
     (λ f. (omega arith, magnitude_are_bytes (nat_abs z) (size e))))
   where
     size : (nat_abs z == 0) ≡ false → IsMagnitude (nat_abs z)

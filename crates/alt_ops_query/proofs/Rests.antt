@@ -113,7 +113,8 @@ AreOrdered forward (e ∷ es) = All (After forward e) es × AreOrdered forward e
 all_below : (key : List ℕ) (es : List Entry) → T (below_all text_order key es)
     → All (λ x. is_lt (text_order key x.0) ≡ true) es
 all_below key [] h = All-nil (λ (x : Entry). is_lt (text_order key x.0) ≡ true)
-all_below key (e ∷ es) h = All-cons (λ (x : Entry). is_lt (text_order key x.0) ≡ true) e es (is_so (is_lt (text_order key e.0)) (first _ _ h))
+all_below key (e ∷ es) h = All-cons (λ (x : Entry). is_lt (text_order key x.0) ≡ true) e es
+    (is_so (is_lt (text_order key e.0)) (first _ _ h))
     (all_below key es (second (is_lt (text_order key e.0)) _ h))
   where
     is_so : (b : Bool) → T b → b ≡ true
@@ -246,6 +247,7 @@ has_last (x ∷ y ∷ ys) h =
     let rest = has_last (y ∷ ys) (omega arith) in
     record { front = x ∷ rest.front; last = rest.last; is = ap (λ l. x ∷ l) rest.is }
 
+-- dropping from a mapped list is mapping what is left
 drop-map : {A B : Type 0} (f : A → B) (n : ℕ) (xs : List A) → drop n (map f xs) ≡ map f (drop n xs)
 drop-map f zero xs = refl
 drop-map f (suc n) [] = refl
@@ -257,12 +259,14 @@ walked t i from to forward =
     turned forward (entries_between text_order (Included from) (end_bound to) (placed_items t i))
 
 -- the items of a range are those of its entries, in the order of a walk
-pub items_walked : (t : Table) (i : Option IndexSchema) (from : List ℕ) (to : Option (List ℕ)) (forward : Bool)
+pub items_walked : (t : Table) (i : Option IndexSchema) (from : List ℕ) (to : Option (List ℕ))
+    (forward : Bool)
     → items_between t i from to forward ≡ map (λ e. e.1) (walked t i from to forward)
 unfolding walked
 items_walked t i from to forward = refl
 
-module _ (t : Table) (i : Option IndexSchema) (forward : Bool) (from : List ℕ) (to : Option (List ℕ)) (first : List ℕ)
+module _ (t : Table) (i : Option IndexSchema) (forward : Bool) (from : List ℕ)
+    (to : Option (List ℕ)) (first : List ℕ)
     (last : Option (List ℕ)) where
   -- The part of a range beyond the last of the first so many of its items has the others.
   pub rest_is : (n : ℕ) (e : Entry) (front : List Entry)
@@ -286,7 +290,8 @@ module _ (t : Table) (i : Option IndexSchema) (forward : Bool) (from : List ℕ)
       && is_beyond forward (Some e.0) x.0) es (all_same
       (λ x. range_contains text_order (Included first) (end_bound last) x.0
       ≡ (range_contains text_order (Included from) (end_bound to) x.0
-      && is_beyond forward (Some e.0) x.0)) es (λ x. contains_beyond forward (Some e.0) from to first last
+      && is_beyond forward (Some e.0) x.0)) es
+      (λ x. contains_beyond forward (Some e.0) from to first last
       beyond x.0))
       ∙ filter_both (λ x. range_contains text_order (Included from) (end_bound to) x.0)
       (λ x. is_beyond forward (Some e.0) x.0) es)

@@ -75,13 +75,15 @@ first_reached number total token some = both_ways _ _
     (λ e.
     let le : first_token number total ≤ token = grind (arith, e) in
     let below : (number * 2 ^ 64 + (total - 1)) / total < token + 1 = omega (arith, le) in
-    let more = (div-lt_iff_lt-mul {k = total} {x = number * 2 ^ 64 + (total - 1)} {y = token + 1} some).0 below in
+    let more = (div-lt_iff_lt-mul {k = total} {x = number * 2 ^ 64 + (total - 1)} {y = token + 1}
+    some).0 below in
     let grown : (token + 1) * total ≡ token * total + total = omega arith in
     grind (arith, more, grown, some))
     (λ e.
     let le : number * 2 ^ 64 ≤ token * total = grind (arith, e) in
     let grown : (token + 1) * total ≡ token * total + total = omega arith in
-    let below = (div-lt_iff_lt-mul {k = total} {x = number * 2 ^ 64 + (total - 1)} {y = token + 1} some).1
+    let below = (div-lt_iff_lt-mul {k = total} {x = number * 2 ^ 64 + (total - 1)}
+    {y = token + 1} some).1
     (omega (arith, le, grown, some)) in
     grind (arith, below))
 
@@ -101,7 +103,8 @@ in_segment number total token = both_ways _ _
     (λ e.
     let both : (number * 2 ^ 64 ≤ token * total) × (token * total < (number + 1) * 2 ^ 64) =
     grind (arith, e) in
-    let low = (le-div_iff_mul-le {k = 2 ^ 64} {x = number} {y = token * total} (omega arith)).1 both.0 in
+    let low = (le-div_iff_mul-le {k = 2 ^ 64} {x = number} {y = token * total} (omega arith)).1
+    both.0 in
     let high = (div-lt_iff_lt-mul {k = 2 ^ 64} {x = token * total} {y = number + 1} (omega arith)).1
     both.1 in
     grind (arith, low, high))
@@ -112,7 +115,8 @@ in_segment number total token = both_ways _ _
 first_fits : (number total : ℕ) → number < total → total ≤ 2 ^ 64
     → first_token number total < 2 ^ 64
 first_fits number total below few =
-    (div-lt_iff_lt-mul {k = total} {x = number * 2 ^ 64 + (total - 1)} {y = 2 ^ 64} (omega (arith, below))).1
+    (div-lt_iff_lt-mul {k = total} {x = number * 2 ^ 64 + (total - 1)} {y = 2 ^ 64}
+    (omega (arith, below))).1
     (omega (arith, below, few))
 
 module _ (number total token : ℕ) (y : List ℕ) (below : number < total) (few : total ≤ 2 ^ 64)
@@ -141,7 +145,8 @@ module _ (number total token : ℕ) (y : List ℕ) (below : number < total) (few
       (end_bound (end_token (first_token (number + 1) total))) key
       ≡ (token * total / 2 ^ 64 == number)
   contains_token =
-      (λ i. token_up_to (first_token number total) token y (first_fits number total below few) fits i
+      (λ i. token_up_to (first_token number total) token y
+      (first_fits number total below few) fits i
       && end_is i)
       ∙ (λ i. first_reached number total token (omega (arith, below)) i
       && not (first_reached (number + 1) total token (omega (arith, below)) i))
@@ -155,7 +160,8 @@ and_turned false true = refl
 and_turned false false = refl
 
 -- The range of a segment's tokens, beyond a place, holds the items of the segment.
-pub segment_holds : (d : TableSchema) (i : Option IndexSchema) (number total : ℕ) → number < total → total ≤ 2 ^ 64
+pub segment_holds : (d : TableSchema) (i : Option IndexSchema) (number total : ℕ) → number < total
+    → total ≤ 2 ^ 64
     → (place : Option (List ℕ)) (first : List ℕ) (last : Option (List ℕ))
     → IsBeyond true place (token_bytes (first_token number total))
     (end_token (first_token (number + 1) total)) first last
@@ -172,13 +178,16 @@ segment_holds d i number total below few place first last beyond key item may =
     (keys.is ∙ append_assoc (to_be_bytes w64 (token_of keys.hash))
     (flat_map key_bytes (key_values keys.hash keys.range)) keys.behind)
     ∙ contains_token number total (token_of keys.hash) y below few (token_fits keys.hash)
-    ∙ ap (λ o. option_map_or (machine.has_token (record { number = number; total = total })) o false)
+    ∙ ap (λ o. option_map_or
+    (machine.has_token (record { number = number; total = total })) o false)
     (sym keys.has_hash.at))
-    ∙ and_turned (machine.is_in (hash_of d i) (Some (record { number = number; total = total })) item)
+    ∙ and_turned
+    (machine.is_in (hash_of d i) (Some (record { number = number; total = total })) item)
     (is_beyond true place key)
 
 -- all places, beyond one of them, are those of all items
-pub whole_holds : (d : TableSchema) (i : Option IndexSchema) (place : Option (List ℕ)) (first : List ℕ)
+pub whole_holds : (d : TableSchema) (i : Option IndexSchema) (place : Option (List ℕ))
+    (first : List ℕ)
     (last : Option (List ℕ)) → IsBeyond true place [] None first last
     → HoldsListed true place (machine.is_in (hash_of d i) None) d i first last
 whole_holds d i place first last beyond key item may =

@@ -23,7 +23,8 @@ items_by-pairs (i ∷ items) = ap (λ ds. item (json_of_pairs i) ds) (items_by-p
 -- ---- the members are put in the order of their names
 
 -- Count, Items, LastEvaluatedKey and ScannedCount, as far as they are there, stand in that order
-pub members_put : (count scanned : Data) (items last : Option Data) → put (codes "ScannedCount") scanned
+pub members_put : (count scanned : Data) (items last : Option Data)
+    → put (codes "ScannedCount") scanned
     (put_if (codes "LastEvaluatedKey") last (put_if (codes "Items") items
     (put (codes "Count") count no_members)))
     ≡ member (codes "Count") count (member_if (codes "Items") items

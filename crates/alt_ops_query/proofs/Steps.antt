@@ -74,7 +74,8 @@ module _ (t : Table) (i : Option IndexSchema) (stored : (place : List ℕ) (item
       ∙ ap (λ l. seen ++ l) (sym (map-append (λ (e : List ℕ × List Pair). e.1) end.front
       (end.last ∷ [])) ∙ ap (map (λ e. e.1)) (sym end.is) ∙ sym given)) ∙ is) in
       let at = All-last (λ e. place_in t.description i e.1 ≡ Some e.0) end.front end.last
-      (subst (All (λ e. place_in t.description i e.1 ≡ Some e.0)) end.is (All-take (λ e. place_in t.description i e.1 ≡ Some e.0) n all at_places)) in
+      (subst (All (λ e. place_in t.description i e.1 ≡ Some e.0)) end.is
+      (All-take (λ e. place_in t.description i e.1 ≡ Some e.0) n all at_places)) in
       rest_is t i forward from to first last n end.last end.front end.is
       (beyond end.last.0 (ap (place_in t.description i) (sym same) ∙ at))
 
@@ -88,7 +89,8 @@ module _ (t : Table) (i : Option IndexSchema) (stored : (place : List ℕ) (item
       none_placed None = refl
       none_placed (Some i) = refl
 
-  some_items : (es : List (List ℕ × List Pair)) → All (λ e. place_in t.description i e.1 ≡ Some e.0) es
+  some_items : (es : List (List ℕ × List Pair))
+      → All (λ e. place_in t.description i e.1 ≡ Some e.0) es
       → All (λ i. i ≢ []) (map (λ e. e.1) es)
   some_items [] all = All-nil (λ (i : List Pair). i ≢ [])
   some_items (e ∷ es) all = All-cons (λ (i : List Pair). i ≢ []) e.1 (map (λ x. x.1) es)
@@ -98,9 +100,11 @@ module _ (t : Table) (i : Option IndexSchema) (stored : (place : List ℕ) (item
   -- no item of a step is empty
   pub steps_some : (n : ℕ) → All (λ i. i ≢ []) (take n (items_between t i from to forward))
   steps_some n = subst (All (λ i. i ≢ []))
-      (sym (ap (take n) (items_walked t i from to forward) ∙ take-map (λ e. e.1) n (walked t i from to forward)))
+      (sym (ap (take n) (items_walked t i from to forward)
+      ∙ take-map (λ e. e.1) n (walked t i from to forward)))
       (some_items (take n (walked t i from to forward))
-      (All-take (λ e. place_in t.description i e.1 ≡ Some e.0) n (walked t i from to forward) at_places))
+      (All-take (λ e. place_in t.description i e.1 ≡ Some e.0) n
+      (walked t i from to forward) at_places))
 
 -- ---- what a step comes to
 
@@ -134,7 +138,8 @@ module _ (t : Table) (i : Option IndexSchema) (stored : (place : List ℕ) (item
     (forward : Bool) (from : List ℕ) (to : Option (List ℕ)) (filling : Filling) (ask : PageAsk)
     (seen items : List (List Pair)) (most : ℕ)
     (given : items ≡ take most (items_between t i from to forward))
-    (h : HasExamined filling ask (seen ++ items)) (many : most ≤ length items) (some : 0 < most) where
+    (h : HasExamined filling ask (seen ++ items)) (many : most ≤ length items)
+    (some : 0 < most) where
   -- the range beyond its last item has the others
   pub step_on : (rest : KeyRange) → ((item : List Pair) (place : List ℕ) → filling.last ≡ Some item
       → place_in t.description i item ≡ Some place
@@ -167,18 +172,21 @@ module _ (t : Table) (i : Option IndexSchema) (stored : (place : List ℕ) (item
       given ∙ ap (take most) (items_walked t i from to forward) ∙ take-map (λ e. e.1) most all in
       let long : length items ≡ length (take most all) =
       ap length is ∙ length-map (take most all) (λ (e : List ℕ × List Pair). e.1) in
-      let end : HasLast (take most all) = has_last (take most all) (omega (arith, some, many, long)) in
+      let end : HasLast (take most all) =
+      has_last (take most all) (omega (arith, some, many, long)) in
       let split : items ≡ map (λ e. e.1) end.front ++ end.last.1 ∷ [] =
       is ∙ ap (map (λ e. e.1)) end.is
       ∙ map-append (λ (e : List ℕ × List Pair). e.1) end.front (end.last ∷ []) in (
         end.last.1,
         end.last.0,
         h.last ∙ ap (λ l. last_or None (seen ++ l)) split
-            ∙ ap (last_or None) (sym (append_assoc seen (map (λ e. e.1) end.front) (end.last.1 ∷ [])))
+            ∙ ap (last_or None)
+            (sym (append_assoc seen (map (λ e. e.1) end.front) (end.last.1 ∷ [])))
             ∙ last_push None (seen ++ map (λ e. e.1) end.front) end.last.1,
         All-last (λ e. place_in t.description i e.1 ≡ Some e.0) end.front end.last
             (subst (All (λ e. place_in t.description i e.1 ≡ Some e.0)) end.is
-            (All-take (λ e. place_in t.description i e.1 ≡ Some e.0) most all (at_places t i stored forward from to from to))),
+            (All-take (λ e. place_in t.description i e.1 ≡ Some e.0) most all
+            (at_places t i stored forward from to from to))),
       )
 
 -- ---- faults

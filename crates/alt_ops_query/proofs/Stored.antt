@@ -53,11 +53,13 @@ pub record IsPart (item : List Pair) (key : KeyAttr) (t : Tree) : Type 0 where
 kept : (kind : KeyKind) (u t : Tree) → IsValue u → if_key kind u ≡ Some t
     → (u ≡ t) × IsOfKind kind t
 kept S (S_tree s) t v e =
-    let same = some_is (can_be_key S (S_tree s)) (S_tree s) t e in (same, subst (IsOfKind S) same tt)
+    let same = some_is (can_be_key S (S_tree s)) (S_tree s) t e in
+    (same, subst (IsOfKind S) same tt)
 kept N (N_tree z) t v e =
     let same = same_Some (N_tree z) t e in (same, subst (IsOfKind N) same v)
 kept B (B_tree b) t v e =
-    let same = some_is (can_be_key B (B_tree b)) (B_tree b) t e in (same, subst (IsOfKind B) same tt)
+    let same = some_is (can_be_key B (B_tree b)) (B_tree b) t e in
+    (same, subst (IsOfKind B) same tt)
 kept kind u t v e = absurd (let f : ⊥ = cc in f)
 
 -- the value of a key attribute is what the item has there, and of the attribute's kind
@@ -80,7 +82,8 @@ IsBeside item (Some key) None = ⊥
 IsBeside item (Some key) (Some t) = IsPart item key t
 
 -- the values of a key, and that the place begins with theirs
-pub record IsKeyed (h : KeyAttr) (k : Option KeyAttr) (item : List Pair) (place : List ℕ) : Type 0 where
+pub record IsKeyed (h : KeyAttr) (k : Option KeyAttr) (item : List Pair)
+    (place : List ℕ) : Type 0 where
   pub hash : Tree
   pub range : Option Tree
   pub has_hash : IsPart item h hash
@@ -188,7 +191,8 @@ row_fields : (d : TableSchema) (i : IndexSchema) (item : List Pair) (key : List 
 row_fields d i item key row held entry = (kept_values d i item key row held entry).fields
 
 -- the values of both keys of what stands in an index
-pub record HasBoth (d : TableSchema) (i : IndexSchema) (row : List Pair) (key : List ℕ) : Type 0 where
+pub record HasBoth (d : TableSchema) (i : IndexSchema) (row : List Pair)
+    (key : List ℕ) : Type 0 where
   pub fields : AreFields (fields_of row)
   pub own : KeyValues
   pub of_table : KeyValues
@@ -202,7 +206,8 @@ pub has_both : (d : TableSchema) (i : IndexSchema) (item : List Pair) (key : Lis
     (row : List Pair) → IsItemOfValues item → index_entry d i item ≡ Some (key, row)
     → HasBoth d i row key
 has_both d i item key row held entry =
-    let (p, there, bytes) = of_place (index_place d i row) key (entry_place d i item key row entry) in
+    let (p, there, bytes) =
+    of_place (index_place d i row) key (entry_place d i item key row entry) in
     let keys = has_keys d i row p there in
     let fields = row_fields d i item key row held entry in
     record {

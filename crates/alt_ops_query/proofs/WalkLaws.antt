@@ -57,23 +57,27 @@ one_more before now then items ahead item ask seen so h = record {
 -- ---- the steps of a walk
 
 -- those were examined, and the range that is left has the others
-pub record IsWalked (now : Filling) (ask : PageAsk) (t : Table) (i : Option IndexSchema) (forward : Bool)
+pub record IsWalked (now : Filling) (ask : PageAsk) (t : Table) (i : Option IndexSchema)
+    (forward : Bool)
     (list : List (List Pair)) (rest : KeyRange) : Type 0 where
   pub seen : List (List Pair)
   pub examined : HasExamined now ask seen
   pub whole : list ≡ seen ++ items_between t i rest.from rest.to forward
 
 -- before the first step nothing was examined, and all of the range is ahead
-pub walk_begun : (filling : Filling) (ask : PageAsk) (t : Table) (i : Option IndexSchema) (forward : Bool) (range : KeyRange)
+pub walk_begun : (filling : Filling) (ask : PageAsk) (t : Table) (i : Option IndexSchema)
+    (forward : Bool) (range : KeyRange)
     → HasExamined filling ask []
     → IsWalked filling ask t i forward (items_between t i range.from range.to forward) range
 walk_begun filling ask t i forward range h = record { seen = []; examined = h; whole = refl }
 
 module _ (now then : Filling) (ask : PageAsk) (t : Table) (i : Option IndexSchema) (forward : Bool)
-    (list : List (List Pair)) (range : KeyRange) (so : IsWalked now ask t i forward list range) where
+    (list : List (List Pair)) (range : KeyRange)
+    (so : IsWalked now ask t i forward list range) where
   -- a step more
   pub walk_on : (rest : KeyRange)
-      → Steps t i forward ask so.seen then (items_between t i range.from range.to forward) (Some rest)
+      → Steps t i forward ask so.seen
+      then (items_between t i range.from range.to forward) (Some rest)
       → IsWalked then ask t i forward list rest
   walk_on rest (front, h, is) = record {
     seen = so.seen ++ front;
@@ -83,7 +87,8 @@ module _ (now then : Filling) (ask : PageAsk) (t : Table) (i : Option IndexSchem
   }
 
   -- the last one
-  pub walk_ended : Steps t i forward ask so.seen then (items_between t i range.from range.to forward) None
+  pub walk_ended : Steps t i forward ask so.seen
+      then (items_between t i range.from range.to forward) None
       → HasFilled then ask list
   walk_ended h = subst (HasFilled then ask) (sym so.whole) h
 

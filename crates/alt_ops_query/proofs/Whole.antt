@@ -52,7 +52,8 @@ pub query_is : (ms : Members) (broken : Option Broken) (mismatched : Bool)
     (queries ms)
 unfolding query
 query_is ms broken mismatched e f s =
-    λ i. on_list (paired_refusals (sym e i) (sym f i) querying_of.rules ms) querying s ms (queries ms)
+    λ i. on_list (paired_refusals (sym e i) (sym f i) querying_of.rules ms) querying s
+    ms (queries ms)
 
 -- so is a Scan, whose tests take in its segment
 pub scan_is : (ms : Members) (broken : Option Broken) (mismatched : Bool)
@@ -117,7 +118,8 @@ module _ (disk : DiskState) (tables : Tables) (s : State) (stands : Stands disk 
     scan_page start asked does = subst (λ o. Does now s o r)
         (ap (pages t.description there ms said) (list_is true asked.place
         (is_in (hash_of t.description there) (segment_of ms)) range
-        (subst (λ x. HoldsListed true asked.place (is_in (hash_of x (index_at x index)) (segment_of ms))
+        (subst (λ x. HoldsListed true asked.place
+        (is_in (hash_of x (index_at x index)) (segment_of ms))
         d (index_at d index) range.from range.to) (sym same) asked.holds)) ∙ sym found) does
       where
         go : Option (List ℕ) → Outcome
@@ -185,7 +187,8 @@ module _ (disk : DiskState) (tables : Tables) (now : State → Type 0) (ms : Mem
 
       go : Table → Option (List ℕ) → Outcome
       go t place = pages t.description (there_in t.description) ms target.said
-          (listed true place (is_in (hash_of t.description (there_in t.description)) (segment_of ms))
+          (listed true place
+          (is_in (hash_of t.description (there_in t.description)) (segment_of ms))
           t (there_in t.description))
 
       by : (q : Stop) → Segments target.schema.now (there_in target.schema.now) (segment_of ms)
@@ -220,7 +223,8 @@ module _ (disk : DiskState) (tables : Tables) (now : State → Type 0) (ms : Mem
         (λ s. queries ms) (query_is ms broken mismatched e f) target is s stands in
         subst (λ o. Does now s o r) (sym so) (query_page disk tables s stands (table_name ms) t at
         target.schema.now same target.index
-        (within_of (catalog_of tables) (table_name ms) target.index target.schema.now is.there within)
+        (within_of (catalog_of tables) (table_name ms) target.index target.schema.now
+        is.there within)
         ms target.said now r range target.start asked (does s t stands at));
     plain = plain;
   }
@@ -243,7 +247,8 @@ module _ (disk : DiskState) (tables : Tables) (now : State → Type 0) (ms : Mem
         (λ s. scans ms) (scan_is ms broken mismatched e f) target is s stands in
         subst (λ o. Does now s o r) (sym so) (scan_page disk tables s stands (table_name ms) t at
         target.schema.now same target.index
-        (within_of (catalog_of tables) (table_name ms) target.index target.schema.now is.there within)
+        (within_of (catalog_of tables) (table_name ms) target.index target.schema.now
+        is.there within)
         ms target.said now r range target.start asked (does s t stands at));
     plain = plain;
   }

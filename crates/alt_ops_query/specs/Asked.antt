@@ -38,7 +38,8 @@ AreHeld (r.Begins v) = IsValue (tree_of v)
 -- ---- a Query
 
 -- The range is the part of one that holds the keys of an ask, beyond the start key.
-pub record IsPlaced (d : TableSchema) (i : Option IndexSchema) (ask : KeyAsk) (start : Option (List Pair)) (forward : Bool)
+pub record IsPlaced (d : TableSchema) (i : Option IndexSchema) (ask : KeyAsk)
+    (start : Option (List Pair)) (forward : Bool)
     (range : KeyRange) : Type 0 where
   pub place : Option (List ℕ)
   pub starts : walk_start d i (Some ask.hash) start ≡ Ok place
@@ -48,14 +49,16 @@ pub record IsPlaced (d : TableSchema) (i : Option IndexSchema) (ask : KeyAsk) (s
   pub beyond : IsBeyond forward place from to range.from range.to
 
 -- That is so; or the start key is refused.
-abbrev pub Places : TableSchema → Option IndexSchema → KeyAsk → Option (List Pair) → Bool → Result KeyRange Stop → Type 0
+abbrev pub Places : TableSchema → Option IndexSchema → KeyAsk → Option (List Pair) → Bool
+    → Result KeyRange Stop → Type 0
 Places d i ask start forward (Ok range) = IsPlaced d i ask start forward range
 Places d i ask start forward (Err (Refused r)) = IsKnown r
     × (walk_start d i (Some ask.hash) start ≡ Err (refused r))
 Places d i ask start forward (Err (Fault f)) = IsReadFault f
 
 -- The range holds the items of which the key condition holds, beyond the start key.
-pub record IsAsked (d : TableSchema) (i : Option IndexSchema) (condition : Option Cond) (start : Option (List Pair))
+pub record IsAsked (d : TableSchema) (i : Option IndexSchema) (condition : Option Cond)
+    (start : Option (List Pair))
     (forward : Bool) (range : KeyRange) : Type 0 where
   pub ask : Ask
   pub asks : key_asked d i condition ≡ Ok ask
@@ -64,10 +67,12 @@ pub record IsAsked (d : TableSchema) (i : Option IndexSchema) (condition : Optio
   pub holds : HoldsListed forward place (passes condition) d i range.from range.to
 
 -- That is so; or the machine refuses the request there too, whatever it would go on to do.
-abbrev pub Asks : TableSchema → Option IndexSchema → Option Cond → Option (List Pair) → Bool → Result KeyRange Stop
+abbrev pub Asks : TableSchema → Option IndexSchema → Option Cond → Option (List Pair) → Bool
+    → Result KeyRange Stop
     → Type 0
 Asks d i condition start forward (Ok range) = IsAsked d i condition start forward range
-Asks d i condition start forward (Err (Refused r)) = IsKnown r × ((go : Ask → Option (List ℕ) → Outcome)
+Asks d i condition start forward (Err (Refused r)) = IsKnown r
+    × ((go : Ask → Option (List ℕ) → Outcome)
     → with_found (key_asked d i condition)
     (λ ask. with_found (walk_start d i (Some ask.hash) start) (go ask)) ≡ refuses r)
 Asks d i condition start forward (Err (Fault f)) = IsReadFault f
@@ -75,14 +80,16 @@ Asks d i condition start forward (Err (Fault f)) = IsReadFault f
 -- ---- a Scan
 
 -- The range holds the items of the segment, beyond the start key.
-pub record IsOfSegment (d : TableSchema) (i : Option IndexSchema) (segment : Option Segment) (start : Option (List Pair))
+pub record IsOfSegment (d : TableSchema) (i : Option IndexSchema) (segment : Option Segment)
+    (start : Option (List Pair))
     (range : KeyRange) : Type 0 where
   pub place : Option (List ℕ)
   pub starts : walk_start d i None start ≡ Ok place
   pub holds : HoldsListed true place (is_in (hash_of d i) segment) d i range.from range.to
 
 -- That is so; or the machine refuses the request there too.
-abbrev pub Segments : TableSchema → Option IndexSchema → Option Segment → Option (List Pair) → Result KeyRange Stop
+abbrev pub Segments : TableSchema → Option IndexSchema → Option Segment → Option (List Pair)
+    → Result KeyRange Stop
     → Type 0
 Segments d i segment start (Ok range) = IsOfSegment d i segment start range
 Segments d i segment start (Err (Refused r)) = IsKnown r × ((go : Option (List ℕ) → Outcome)

@@ -31,7 +31,8 @@ pub record HasFilled (filling : Filling) (ask : PageAsk) (list : List (List Pair
   pub ends : ends_early ask.limit (pages.examined ask.limit list) ≡ ends_early ask.limit list
 
 -- A step of a walk over a list examined a front of it, and the rest of the range has the others; or all that the page examines.
-abbrev pub Steps : Table → Option IndexSchema → Bool → PageAsk → List (List Pair) → Filling → List (List Pair)
+abbrev pub Steps : Table → Option IndexSchema → Bool → PageAsk → List (List Pair) → Filling
+    → List (List Pair)
     → Option KeyRange → Type 0
 Steps t i forward ask seen filling list None = HasFilled filling ask (seen ++ list)
 Steps t i forward ask seen filling list (Some rest) = (front : List (List Pair))

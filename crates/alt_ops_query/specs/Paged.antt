@@ -35,7 +35,8 @@ asked_page ms filter paths = record {
 }
 
 -- the answer with the page of a list
-abbrev pub answer_with : TableSchema → Option IndexSchema → Members → PageAsk → List (List Pair) → Answer
+abbrev pub answer_with : TableSchema → Option IndexSchema → Members → PageAsk
+    → List (List Pair) → Answer
 answer_with d i ms ask list = page_answer d i ms (pages.page_of (asked_of ask) list)
     (last_examined (asked_of ask) list)
 

@@ -34,7 +34,8 @@ MayStand d (Some i) key row = (place : List ℕ) × (item : List Pair)
 -- Of the items that may stand there, a range holds exactly those that are beyond a place and pass a test.
 abbrev pub HoldsListed : Bool → Option (List ℕ) → (List Pair → Bool) → TableSchema
     → Option IndexSchema → List ℕ → Option (List ℕ) → Type 0
-HoldsListed forward place test d i from to = (key : List ℕ) (item : List Pair) → MayStand d i key item
+HoldsListed forward place test d i from to = (key : List ℕ) (item : List Pair)
+    → MayStand d i key item
     → range_contains text_order (Included from) (end_bound to) key
     ≡ (is_beyond forward place key && test item)
 

@@ -154,7 +154,8 @@ fn whole_range(alloc: Global) -> KeyRange
 /// The places whose tokens are in a segment.
 fn tokens_of(alloc: Global, segment: Segment) -> Result<KeyRange, NoMemory>
     requires below { segment.number < segment.total }
-    ensures tokens { IfOk result (λ r. (r.from ≡ token_bytes (first_token segment.number segment.total))
+    ensures tokens { IfOk result
+        (λ r. (r.from ≡ token_bytes (first_token segment.number segment.total))
         × (r.to ≡ end_token (first_token (segment.number + 1) segment.total))) }
     ensures few { segment.total ≤ 2 ^ 64 }
 {

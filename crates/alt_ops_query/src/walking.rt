@@ -57,7 +57,8 @@ pub(crate) fn fill<D: Disk>(
     requires index { (d : TableSchema) → map.get (catalog_of tables.old) table.now ≡ Some d
         → IfSome index (λ n. n < length (indexes d)) }
     requires going { has_ended filling.old.pager ≡ false }
-    ensures filled { (s : State) (t : Table) (ask : PageAsk) → Stands (D.state disk.old) tables.old s
+    ensures filled { (s : State) (t : Table) (ask : PageAsk)
+        → Stands (D.state disk.old) tables.old s
         → map.get s.tables table.now ≡ Some t → HasExamined filling.old ask []
         → OnOk result (HasFilled filling.new ask
         (items_between t (index_at t.description index) range.from range.to forward)) }

@@ -56,6 +56,7 @@ known_by true true false r e = subst IsKnown (same e) (omega arith)
     same e = cc
 known_by true true true r e = absurd (let f : ⊥ = cc in f)
 
+-- each refusal of a body is one of those that are known
 pub known : (ms : Members) (r : Refusal) → rules.refusal_of ms ≡ Some r → IsKnown r
 unfolding rules.refusal_of rules.refused_for
 known ms r e = known_by (rules.names_fit (stated ms)) (rules.keys_fit_together (stated ms))
@@ -63,16 +64,19 @@ known ms r e = known_by (rules.names_fit (stated ms)) (rules.keys_fit_together (
 
 -- ---- the description that is made
 
+-- the description has the name that the body states
 pub name-described : (ms : Members) (moment number family : ℕ) (d : TableSchema)
     → d ≡ description_of ms moment number family → d.name ≡ table_name ms
 unfolding description_of described_by
 name-described ms moment number family d e = ap (λ (x : TableSchema). x.name) e
 
+-- the description has the number that it is made with
 pub number-described : (ms : Members) (moment number family : ℕ) (d : TableSchema)
     → d ≡ description_of ms moment number family → d.number ≡ number
 unfolding description_of described_by
 number-described ms moment number family d e = ap (λ (x : TableSchema). x.number) e
 
+-- the description has the family that it is made with
 pub family-described : (ms : Members) (moment number family : ℕ) (d : TableSchema)
     → d ≡ description_of ms moment number family → d.family ≡ family
 unfolding description_of described_by
@@ -92,6 +96,7 @@ module _ (s : State) (moment : ℕ) (ms : Members) where
   abbrev made : Outcome
   made = creates s (description_of ms moment s.next_number s.next_family)
 
+  -- a body that is unfit is refused as its first test says
   pub create-unfit : (r : Refusal) → first_answer (of_body ms) ≡ Some (refused r)
       → create_table s moment ms ≡ refuses r
   unfolding create_table
@@ -139,11 +144,13 @@ module _ (s : State) (moment : ℕ) (ms : Members) where
 
 -- ---- whether a name is there
 
+-- where an option that was mapped has a value, the mapped one has
 pub some_there : {A B : Type 0} (f : A → B) (o : Option A) (p : Option B) → option_map f o ≡ p
     → is_some o ≡ true → is_some p ≡ true
 some_there f None p e h = absurd (let g : ⊥ = cc in g)
 some_there f (Some x) p e h = ap is_some (sym e)
 
+-- where an option that was mapped has none, the mapped one is None
 pub none_there : {A B : Type 0} (f : A → B) (o : Option A) (p : Option B) → option_map f o ≡ p
     → is_some o ≡ false → p ≡ None
 none_there f None p e h = sym e
@@ -196,15 +203,18 @@ to_be_made tables disk moment ms d h s stands = (
       (h.next ((λ i. table_lack (stands.number i) (stands.family i)) ∙ free) ∙ stands.family),
 )
 
+-- a table that is to be made is as a made table has to be
 pub is_made : (tables : Tables) (moment : ℕ) (ms : Members) (d : TableSchema)
     → IsToBeMade tables moment ms d → IsMade d
 is_made tables moment ms d h = subst IsMade (sym h.is)
     (made_is ms moment (number_of tables) h.family h.taken)
 
+-- a table that is to be made gets the next number
 pub has_number : (tables : Tables) (moment : ℕ) (ms : Members) (d : TableSchema)
     → IsToBeMade tables moment ms d → d.number ≡ number_of tables
 has_number tables moment ms d h = number-described ms moment (number_of tables) h.family d h.is
 
+-- a table that is to be made gets the next family, where numbers and families aren't used up
 pub has_family : (tables : Tables) (moment : ℕ) (ms : Members) (d : TableSchema)
     → IsToBeMade tables moment ms d
     → table_lack (number_of tables) (family_of tables) ≡ None → d.family ≡ family_of tables
@@ -222,10 +232,12 @@ lacks_nothing s t e = by (table_lack s.next_number s.next_family) e
 
 module _ (s t u : State) (now : State → Type 0)
     (same : table_lack s.next_number s.next_family ≡ None → t ≡ u) where
+  -- where the first of the lacks is none, nothing is lacked
   nothing_lacked : (o : Option ℕ) → or_later o None ≡ None → o ≡ None
   nothing_lacked None e = refl
   nothing_lacked (Some n) e = absurd (let f : ⊥ = cc in f)
 
+  -- tables that are alike are made alike
   pub made_alike : AreMade now a_table s (t ∷ []) → AreMade now a_table s (u ∷ [])
   made_alike h = record {
     state = subst now (same
@@ -258,6 +270,7 @@ module _ (s t u : State) (now : State → Type 0)
   later_lack (suc zero) = refl
   later_lack (suc (suc k)) = refl
 
+  -- where tables are alike, making one breaks off as making the other does
   pub broken_alike : (f : TableFault) → BreakOff now a_table s (t ∷ []) f
       → BreakOff now a_table s (u ∷ []) f
   broken_alike (Spent n) (before, lacks, h) =

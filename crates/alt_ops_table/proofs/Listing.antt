@@ -21,6 +21,7 @@ use Rattle.std.specs.List.{filter}
 use Rattle.std.specs.Ordering.{is_lt}
 use Rattle.alt_value.specs.Members.{text_order}
 
+-- a body that is unfit is refused as its first test says
 pub list-refused : (s : State) (ms : Members) (r : Refusal)
     → first_answer (of_body ms) ≡ Some (refused r) → list_tables s ms ≡ refuses r
 unfolding list_tables
@@ -36,6 +37,7 @@ list-page s ms catalog same free = passed (of_body ms) _ free
     (filter (λ name. is_lt (text_order (start_name ms) name)) names)))
     (sym (keys-descriptions s.tables) ∙ ap (λ m. map.keys m) (sym same))
 
+-- the names of a page, told with its last one where there are more, are the page of all names
 pub page-listed : (more : Bool) (names all : List (List ℕ)) (most : ℕ) → names ≡ take most all
     → more ≡ nat_lt most (length all)
     → listed (if more then last_or None names else None) names ≡ page_of most all
@@ -55,16 +57,19 @@ listed_plain : (last : Option (List ℕ)) (names : List (List ℕ))
 listed_plain None names = or_false _ (strings_plain names)
 listed_plain (Some l) names = or_false _ (strings_plain names)
 
+-- a reply that lists names has no float in it
 pub reply_plain : (reply : Reply) (last : Option (List ℕ)) (names : List (List ℕ))
     → answer_of reply ≡ listed last names → has_float (view reply.body) ≡ false
 reply_plain reply last names e = ap (λ (a : Answer). has_float a.body) e ∙ listed_plain last names
 
+-- nor has any that a call gives back, if it does
 pub page_plain : {E : Type 0} (r : Result Reply E) (last : Option (List ℕ)) (names : List (List ℕ))
     → IfOk r (λ reply. answer_of reply ≡ listed last names)
     → IfOk r (λ reply. has_float (view reply.body) ≡ false)
 page_plain (Ok reply) last names h = reply_plain reply last names h
 page_plain (Err e) last names h = tt
 
+-- a reply that has one answer has every answer that is equal to it
 pub page_said : {E : Type 0} (r : Result Reply E) (a b : Answer) → a ≡ b
     → IfOk r (λ reply. answer_of reply ≡ a) → IfOk r (λ reply. answer_of reply ≡ b)
 page_said (Ok reply) a b e h = h ∙ e

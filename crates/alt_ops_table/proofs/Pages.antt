@@ -28,12 +28,14 @@ last_from : {A : Type 0} (x : A) (xs : List A)
 last_from x [] = refl
 last_from x (y ∷ ys) = last_from y ys
 
+-- the last of a list stands at its length less one
 pub last_get : {A : Type 0} (xs : List A) → slice_get xs (length xs - 1) ≡ last_or None xs
 last_get [] = refl
 last_get (x ∷ xs) = ap (slice_get (x ∷ xs)) (omega arith) ∙ sym (last_from x xs)
 
 -- ---- texts as strings
 
+-- names written one by one as texts are the texts of the names
 pub items_by-string : (ss : List (List ℕ)) → items_by (λ s. string s) ss ≡ strings ss
 items_by-string [] = refl
 items_by-string (s ∷ ss) = ap (λ ds. item (string s) ds) (items_by-string ss)
@@ -110,6 +112,7 @@ module _ {X : Type 0} where
   next name k (p ∷ ps) s h = by_test (is_lt (text_order name p.0)) name k p ps refl s h
       (λ e. next name k ps (second _ _ s) e)
 
+-- the names after one begin with the next, and go on with those after that
 pub names-next : {X : Type 0} (last k : List ℕ) (m : Texts X)
     → Some k ≡ slice_get (names_after last m) 0 → names_after last m ≡ k ∷ names_after k m
 names-next last k m h = (next last k (map.entries m) (entries_sorted m) (sym h)).1
@@ -130,12 +133,14 @@ pub data Ends (most : ℕ) (ns rest : List (List ℕ)) : Type 0 where
   is_full : length ns ≡ most → Ends most ns rest
   is_last : None ≡ slice_get rest 0 → length ns ≤ most → Ends most ns rest
 
+-- taking at least as many as there are takes all
 take_all : {A : Type 0} (xs : List A) (i : ℕ) → length xs ≤ i → take i (xs ++ []) ≡ xs
 take_all [] zero h = refl
 take_all [] (suc i) h = refl
 take_all (x ∷ xs) zero h = absurd (omega arith)
 take_all (x ∷ xs) (suc i) h = ap (λ zs. x ∷ zs) (take_all xs i (omega arith))
 
+-- names that end so are the first ones, as many as a page takes
 pub page-names : (most : ℕ) (ns rest all : List (List ℕ)) → Ends most ns rest → ns ++ rest ≡ all
     → ns ≡ take most all
 page-names most ns rest all (is_full l) e = sym
@@ -143,12 +148,14 @@ page-names most ns rest all (is_full l) e = sym
 page-names most ns [] all (is_last n l) e = sym (ap (take most) (sym e) ∙ take_all ns most l)
 page-names most ns (k ∷ rest) all (is_last n l) e = absurd (let f : ⊥ = cc in f)
 
+-- a number below another is told to be so
 lt-true : (m n : ℕ) → suc m ≤ n → true ≡ nat_lt m n
 lt-true m n h = sym (lt-ltb m n h)
 
 lt-false : (m n : ℕ) → n ≤ m → false ≡ nat_lt m n
 lt-false m n h = ltb_from_iff ((λ e. absurd (let f : ⊥ = cc in f)), (λ l. absurd (omega arith)))
 
+-- where names end so there is one behind them exactly if there are more than a page takes
 pub page-more : {A : Type 0} (f : A → List ℕ) (o : Option A) (most : ℕ)
     (ns rest all : List (List ℕ)) → Ends most ns rest → ns ++ rest ≡ all
     → option_map f o ≡ slice_get rest 0 → is_some o ≡ nat_lt most (length all)

@@ -87,13 +87,16 @@ module _ (ask : PageAsk) (old new : Pager) (items : List (List Pair)) (item : Li
 
   kept_so : new.kept ≡ unless_counts ask.count_only
       (map (parts ask.paths) (passed (asked_of ask) (items ++ item ∷ [])))
-  kept_so = grows.kept ∙ (λ i. was.kept i ++ shown_of (was.for i) item) ∙ sym (kept_push ask items item)
+  kept_so = grows.kept ∙ (λ i. was.kept i ++ shown_of (was.for i) item)
+      ∙ sym (kept_push ask items item)
 
   count_so : new.count ≡ length (passed (asked_of ask) (items ++ item ∷ []))
   count_so = grows.count
-      ∙ (λ i. was.count i + (if passes (ap (λ (a : PageAsk). a.filter) was.for i) item then 1 else 0))
+      ∙ (λ i. was.count i + (if passes (ap (λ (a : PageAsk). a.filter) was.for i) item
+      then 1 else 0))
       ∙ sym (count_push ask items item)
 
+  -- with one item more, what was offered is offered
   pub offered_one : WasOffered new ask (items ++ item ∷ [])
   offered_one = record {
     for = grows.ask ∙ was.for;
@@ -119,11 +122,13 @@ fills_none (Some most) above = by (nat_le most 0) (not_le most above)
     by true e = e
     by false e = e
 
+-- a list of no items doesn't end early, as a limit is above 0
 pub none_ends : (limit : Option ℕ) → IfSome limit (λ most. 0 < most)
     → ends_early limit [] ≡ false
 none_ends limit above =
     ap (λ b. is_some {T = List (List Pair)} (cond b (Some []) None)) (fills_none limit above)
 
+-- of no items none is examined
 pub none_examined : (limit : Option ℕ) → examined limit [] ≡ []
 none_examined limit = by (fills limit [])
   where
@@ -131,6 +136,7 @@ none_examined limit = by (fills limit [])
     by true = refl
     by false = refl
 
+-- of no items none is kept
 pub none_kept : (counts : Bool) → unless_counts counts [] ≡ []
 none_kept true = refl
 none_kept false = refl

@@ -55,6 +55,7 @@ module _ (limit : Option ℕ) where
   stays None p e = absurd (let f : ⊥ = cc in f)
   stays (Some x) p e = refl
 
+  -- behind the end of a full page nothing changes it
   pub full_prefix-ended : (xs ys : List (List Pair)) → ends_early limit xs ≡ true
       → full_prefix limit (xs ++ ys) ≡ full_prefix limit xs
   full_prefix-ended xs ys e = full_prefix-append xs ys ∙ stays (full_prefix limit xs) _ e
@@ -76,6 +77,7 @@ module _ (limit : Option ℕ) where
   unwrap_cond true x = refl
   unwrap_cond false x = refl
 
+  -- a page that isn't full ends with one item more exactly where that fills it
   pub ends_early_push : (xs : List (List Pair)) (y : List Pair) → ends_early limit xs ≡ false
       → ends_early limit (xs ++ y ∷ []) ≡ fills limit (xs ++ y ∷ [])
   ends_early_push xs y e = ap is_some (one_more xs y e)
@@ -87,15 +89,18 @@ module _ (limit : Option ℕ) where
   examined_push xs y e = ap (λ o. unwrap_or o (xs ++ y ∷ [])) (one_more xs y e)
       ∙ unwrap_cond (fills limit (xs ++ y ∷ [])) (xs ++ y ∷ [])
 
+  -- before its end a page examines every item
   pub examined_open : (xs : List (List Pair)) → ends_early limit xs ≡ false
       → examined limit xs ≡ xs
   examined_open xs e = ap (λ o. unwrap_or o xs) (not_there (full_prefix limit xs) e)
 
+  -- where an option has a value, what stands in its place doesn't matter
   same_some : (o : Option (List (List Pair))) (x y : List (List Pair)) → is_some o ≡ true
       → unwrap_or o x ≡ unwrap_or o y
   same_some None x y e = absurd (let f : ⊥ = cc in f)
   same_some (Some z) x y e = refl
 
+  -- behind its end a page examines no more
   pub examined-ended : (xs ys : List (List Pair)) → ends_early limit xs ≡ true
       → examined limit (xs ++ ys) ≡ examined limit xs
   examined-ended xs ys e = ap (λ o. unwrap_or o (xs ++ ys)) (full_prefix-ended xs ys e)
@@ -124,6 +129,7 @@ module _ (limit : Option ℕ) (largest : ℕ) where
   abbrev pub Within : ℕ → Type 0
   Within n = IfSome limit (λ most. n < most)
 
+  -- what is above a number isn't up to it
   not_le : (m n : ℕ) → n < m → nat_le m n ≡ false
   not_le m n h = grind arith
 

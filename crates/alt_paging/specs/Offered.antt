@@ -30,7 +30,8 @@ has_ended pager = pager.ended
 -- The pager was made for that ask and was offered these items, one after the other: all of them are examined.
 pub record WasOffered (pager : Pager) (ask : PageAsk) (items : List (List Pair)) : Type 0 where
   pub for : pager.ask ≡ ask
-  pub kept : pager.kept ≡ unless_counts ask.count_only (map (parts ask.paths) (passed (asked_of ask) items))
+  pub kept : pager.kept ≡ unless_counts ask.count_only
+      (map (parts ask.paths) (passed (asked_of ask) items))
   pub count : pager.count ≡ length (passed (asked_of ask) items)
   pub scanned : pager.scanned ≡ length items
   pub left : pager.left ≡ page_bytes - sum_by item_size items

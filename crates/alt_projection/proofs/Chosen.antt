@@ -29,22 +29,26 @@ not_there q (p ∷ ps) h =
 -- ---- no paths choose nothing
 
 mutual
+  -- no paths choose nothing of a value
   pub chosen-none : (t : Tree) → chosen [] t ≡ None
   chosen-none (L_tree ts) = ap some_list (elements-none 0 ts)
   chosen-none (M_tree fs) = ap some_map (fields-none fs)
   chosen-none _ = refl
 
+  -- nor of a list's elements
   pub elements-none : (i : ℕ) (ts : Trees) → chosen_elements [] i ts ≡ no_trees
   elements-none i no_trees = refl
   elements-none i (tree_then t ts) =
       ap (λ o. element_then o (chosen_elements [] (suc i) ts)) (chosen-none t)
       ∙ elements-none (suc i) ts
 
+  -- nor of a map's pairs
   fields-none : (fs : Fields) → chosen_fields [] fs ≡ no_fields
   fields-none no_fields = refl
   fields-none (field_then name t fs) =
       ap (λ o. pair_then name o (chosen_fields [] fs)) (chosen-none t) ∙ fields-none fs
 
+-- nor of what may be there
 pub none_of : (o : Option Tree) → option_and_then (chosen []) o ≡ None
 none_of None = refl
 none_of (Some t) = chosen-none t
@@ -75,10 +79,12 @@ named-under name ((Name n ∷ rest) ∷ ways) =
 
 -- ---- looking up a name
 
+-- the first of two, if it is there, or else the second
 abbrev pub or_else : Option Tree → Option Tree → Option Tree
 or_else None o = o
 or_else (Some t) o = Some t
 
+-- what is found of a map with one pair more that may be there
 picked : (q name : List ℕ) (o : Option Tree) (fs : Fields)
     → at_name q (pairs (pair_then name o fs))
     ≡ cond (eq_by_cmp text_order q name) (or_else o (at_name q (pairs fs)))
@@ -101,6 +107,7 @@ below_tied : (q n : List ℕ) (ps : List Pair) → q ≡ n → T (below_all text
     → T (below_all text_order q ps)
 below_tied q n ps e h = subst (λ (m : List ℕ). T (below_all text_order m ps)) (sym e) h
 
+-- what is chosen of a map has at a name what the paths under that name choose there
 pub at_name-projected : (paths : List (List PathPart)) (q : List ℕ) (ps : List Pair)
     → T (is_sorted text_order ps)
     → at_name q (projected paths ps)
@@ -174,12 +181,14 @@ at_name-put_if q name None ps =
     [ true ↦ refl | false ↦ refl ]
 at_name-put_if q name (Some t) ps = find-put text_order text_total q name t ps
 
+-- where a value is the wanted one or none, the wanted one stands in for it
 either : (w o : Option Tree) (b : Bool) → o ≡ cond b w None → or_else w o ≡ w
 either None o true e = e
 either None o false e = e
 either (Some t) o b e = refl
 
 module _ (paths : List (List PathPart)) (item : List Pair) where
+  -- what the paths choose of the item at a name
   abbrev pub wanted : List ℕ → Option Tree
   wanted q = option_and_then (chosen (under (Name q) paths)) (at_name q item)
 
@@ -187,6 +196,7 @@ module _ (paths : List (List PathPart)) (item : List Pair) where
   abbrev pub Seen : (List ℕ → Bool) → List Pair → Type 0
   Seen seen out = (q : List ℕ) → at_name q out ≡ cond (seen q) (wanted q) None
 
+  -- a name more is seen, and what is chosen there is put
   pub seen_more : (seen more : List ℕ → Bool) (name : List ℕ) (before now : List Pair)
       → Seen seen before
       → ((q : List ℕ) → more q ≡ cond (eq_by_cmp text_order q name) true (seen q))

@@ -10,6 +10,7 @@ pub some_list-is : (ts : List Tree) → (length ts ≢ 0)
 some_list-is [] h = absurd (h refl)
 some_list-is (t ∷ ts) h = refl
 
+-- a map with something in it is given
 pub some_map-is : (ps : List Pair) → (length ps ≢ 0)
     → Some (M_tree (fields_of ps)) ≡ some_map (fields_of ps)
 some_map-is [] h = absurd (h refl)
@@ -20,6 +21,7 @@ pub trees_of-elements : (ts : Trees) → trees_of (elements ts) ≡ ts
 trees_of-elements no_trees = refl
 trees_of-elements (tree_then t ts) = ap (tree_then t) (trees_of-elements ts)
 
+-- a map is what its pairs make
 pub fields_of-pairs : (fs : Fields) → fields_of (pairs fs) ≡ fs
 fields_of-pairs no_fields = refl
 fields_of-pairs (field_then name t fs) = ap (field_then name t) (fields_of-pairs fs)
@@ -35,6 +37,7 @@ chosen-list paths ts given o none is whole =
     ∙ sym (ap (λ b. cond b (Some (L_tree (trees_of ts)))
     (some_list (chosen_elements paths 0 (trees_of ts)))) none)
 
+-- the pairs that were chosen, as a map if there are any, are what paths choose of the map
 pub chosen-map : (paths : List (List PathPart)) (ps : List Pair) (given : List Pair)
     (o : Option Tree) → is_whole paths ≡ false
     → o ≡ some_map (fields_of given) → given ≡ projected paths ps

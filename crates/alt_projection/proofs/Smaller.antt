@@ -16,6 +16,7 @@ depth-element (s ∷ ts) zero t e = let d : depth s ≡ depth t = ap depth (same
     omega (arith, d)
 depth-element (s ∷ ts) (suc i) t e = omega (arith, depth-element ts i t e)
 
+-- what a map holds at a name is no deeper than its pairs
 pub depth-field : (name : List ℕ) (ps : List Pair) (t : Tree) → at_name name ps ≡ Some t
     → depth t ≤ fields_depth (fields_of ps)
 depth-field name [] t e = cc

@@ -23,12 +23,15 @@ use Rattle.alt_projection.proofs.Chosen.{Seen, seen_more, seen_all, named-under,
 use Rattle.alt_projection.proofs.Groups.{any_more, group_at, no_group}
 use Rattle.alt_projection.proofs.Walk.{picks, pick_at, picks-all, picks-more}
 
+-- what goes on behind a first name or index
 abbrev pub Way : Type 0
 Way = Bor (List PathPart)
 
+-- the paths that these are
 abbrev pub nows : List Way → List (List PathPart)
 nows ways = map (λ w. w.now) ways
 
+-- the order of names by their texts
 abbrev pub str_cmp : Bor (List ℕ) → Bor (List ℕ) → Ordering
 str_cmp x y = text_order x.now y.now
 
@@ -39,10 +42,12 @@ module _ (ways : List (List PathPart)) (pairs : List (Bor (List ℕ) × Way))
     (held : (q : Bor (List ℕ)) → option_map_or (λ g. g.items) (lookup (eq_by_cmp str_cmp q) xs) []
     ≡ map (λ p. p.1) (filter (λ p. eq_by_cmp str_cmp p.0 q) pairs))
     (item : List Pair) where
+  -- the names of the groups before this one
   abbrev pub seen_by : ℕ → List ℕ → Bool
   seen_by i q =
       list_any (λ (p : Bor (List ℕ) × Vec Way Global). eq_by_cmp text_order q p.0.now) (take i xs)
 
+  -- with one group more, its name is seen
   pub name_more : (i : ℕ) (x : Bor (List ℕ) × Vec Way Global) (before now : List Pair)
       → i < length xs → x ≡ get_or xs i x
       → Seen ways item (seen_by i) before
@@ -59,6 +64,7 @@ module _ (ways : List (List PathPart)) (pairs : List (Bor (List ℕ) × Way))
       (put ∙ ap (λ (us : List (List PathPart)).
       put_if x.0.now (option_and_then (chosen us) (at_name x.0.now item)) before) group)
 
+  -- behind the last group the item is what the paths choose
   pub name_all : (i : ℕ) (out : List Pair) → length xs ≤ i → IsItem item → IsItem out
       → Seen ways item (seen_by i) out → out ≡ projected ways item
   name_all i out le is_item is_out was =
@@ -79,6 +85,7 @@ module _ (ways : List (List PathPart)) (pairs : List (ℕ × Way))
     (held : (q : ℕ) → option_map_or (λ g. g.items) (lookup (eq_by_cmp nat_cmp q) xs) []
     ≡ map (λ p. p.1) (filter (λ p. eq_by_cmp nat_cmp p.0 q) pairs))
     (ts : List Tree) where
+  -- with one group of indexes more, the list goes on with what it chooses
   pub index_more : (i : ℕ) (x : ℕ × Vec Way Global) (before now : List Tree) → i < length xs
       → x ≡ get_or xs i x
       → before ≡ picks (pick_at ways ts) (map (λ p. p.0) (take i xs))
@@ -101,12 +108,14 @@ module _ (ways : List (List PathPart)) (pairs : List (ℕ × Way))
       ∙ sym (ap (picks (pick_at ways ts)) keys
       ∙ picks-more (pick_at ways ts) (map (λ p. p.0) (take i xs)) x.0)
 
+  -- a group is found exactly where its key is
   any_keys : (q : ℕ) (ys : List (ℕ × Vec Way Global))
       → list_any (λ (g : ℕ × Vec Way Global). eq_by_cmp nat_cmp q g.0) ys
       ≡ list_any (eq_by_cmp nat_cmp q) (keys_of ys)
   any_keys q [] = refl
   any_keys q (y ∷ ys) = ap (λ b. eq_by_cmp nat_cmp q y.0 || b) (any_keys q ys)
 
+  -- behind the last group the list is what the paths choose of the elements
   pub index_all : (i : ℕ) (out : List Tree) → length xs ≤ i
       → out ≡ picks (pick_at ways ts) (map (λ p. p.0) (take i xs))
       → out ≡ elements (chosen_elements ways 0 (trees_of ts))

@@ -29,6 +29,7 @@ pick_at paths ts k = option_and_then (chosen (under (Index k) paths)) (slice_get
 abbrev pick_from : List (List PathPart) → ℕ → List Tree → ℕ → Option Tree
 pick_from paths i ts k = option_and_then (chosen (under (Index k) paths)) (slice_get ts (k - i))
 
+-- an index is among these
 abbrev pub is_in : ℕ → List ℕ → Bool
 is_in j ks = list_any (eq_by_cmp nat_cmp j) ks
 

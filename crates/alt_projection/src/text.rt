@@ -51,7 +51,8 @@ pub fn parse(alloc: Global, text: &str, names: &mut Names) -> Result<Paths, Expr
 
 /// The paths that all tokens are, else their first fault.
 fn read(alloc: Global, tokens: &[Token<'_>], whole: bool, names: &Names) -> Result<Paths, ExprFault>
-    ensures { ReadTokens projections (names_alone (given_names names.now)) (map tok_of tokens.now) whole result }
+    ensures { ReadTokens projections (names_alone (given_names names.now))
+        (map tok_of tokens.now) whole result }
 {
     if is_too_deep(tokens) {
         return Err(ExprFault::TooDeep);
@@ -87,7 +88,8 @@ fn read(alloc: Global, tokens: &[Token<'_>], whole: bool, names: &Names) -> Resu
 
 /// The paths that the tokens are, whether their words are given or not.
 fn read_whole(alloc: Global, tokens: &[Token<'_>], names: &Names) -> Result<Paths, ExprFault>
-    ensures { ReadsWhole projections (names_alone (given_names names.now)) (map tok_of tokens.now) result }
+    ensures { ReadsWhole projections (names_alone (given_names names.now))
+        (map tok_of tokens.now) result }
 {
     let mut cursor = Cursor::new(tokens);
     match read_paths(alloc, names, &mut cursor) {
@@ -104,7 +106,8 @@ fn read_whole(alloc: Global, tokens: &[Token<'_>], names: &Names) -> Result<Path
 
 /// One or more paths with commas between.
 fn read_paths(alloc: Global, names: &Names, tokens: &mut Cursor<'_>) -> Result<Paths, ExprFault>
-    ensures { Reads (listed (path (given_names names.now)) (left tokens.old)) result (left tokens.new) }
+    ensures { Reads (listed (path (given_names names.now)) (left tokens.old)) result
+        (left tokens.new) }
 {
     let turns = tokens.len();
     let mut found = Items::new(alloc);
@@ -120,7 +123,8 @@ fn read_paths(alloc: Global, names: &Names, tokens: &mut Cursor<'_>) -> Result<P
 
 /// Whether a `#` word isn't given. No value is, and a projection has no `:` word.
 fn has_unknown(tokens: &[Token<'_>], names: &Names) -> bool
-    ensures { result ≡ list_any (is_unknown (names_alone (given_names names.now))) (map tok_of tokens.now) }
+    ensures { result ≡ list_any (is_unknown (names_alone (given_names names.now)))
+        (map tok_of tokens.now) }
 {
     for token in tokens {
         if is_unknown(*token, names) {

@@ -65,18 +65,22 @@ module _ (catalog : Texts TableSchema) (r : Reads Given BatchMember) where
 
 module _ (catalog : Texts TableSchema) (ms asked : Members)
     (taken : unless_answer (first_answer (of_body ms)) (tables_asked ms) ≡ Ok (pairs_in asked))
-    (read : List (Reads Given BatchMember)) (reads : each_found read_table (pairs_in asked) ≡ Ok read)
+    (read : List (Reads Given BatchMember))
+    (reads : each_found read_table (pairs_in asked) ≡ Ok read)
     (known : first_answer (of_catalog catalog (pairs_in asked)) ≡ None)
     (said : List (Reads Shown BatchMember)) (says : each_found (said_in catalog) read ≡ Ok said)
     (there : List TableReads)
     (places : each_found (placed_all catalog) said ≡ Ok (map reads_of there)) where
   abbrev told : List (Reads Shown PlacedMember) → Result (List (Reads Shown PlacedMember)) Answer
-  told rs = unless_answer (first_answer (refuse_if (list_any (λ r. has_repeat r.keys) rs) bad_batch ∷ [])) rs
+  told rs = unless_answer
+      (first_answer (refuse_if (list_any (λ r. has_repeat r.keys) rs) bad_batch ∷ [])) rs
 
-  abbrev from_said : List (Reads Shown BatchMember) → Result (List (Reads Shown PlacedMember)) Answer
+  abbrev from_said : List (Reads Shown BatchMember)
+      → Result (List (Reads Shown PlacedMember)) Answer
   from_said rs = each_found (placed_all catalog) rs >>= told
 
-  abbrev from_read : List (Reads Given BatchMember) → Result (List (Reads Shown PlacedMember)) Answer
+  abbrev from_read : List (Reads Given BatchMember)
+      → Result (List (Reads Shown PlacedMember)) Answer
   from_read rs = each_found (said_in catalog) rs >>= from_said
 
   known_all : first_answer (of_catalog catalog (tables_asked ms)) ≡ None
@@ -90,8 +94,10 @@ module _ (catalog : Texts TableSchema) (ms asked : Members)
   unfolding reads_asked
   reads_told b e =
       ap (λ ts. ts >>= (λ tables. each_found read_table tables
-      >>= (λ rs. unless_answer (first_answer (of_catalog catalog (tables_asked ms))) rs >>= from_read))) taken
-      ∙ ap (λ rs. rs >>= (λ rs. unless_answer (first_answer (of_catalog catalog (tables_asked ms))) rs
+      >>= (λ rs. unless_answer (first_answer (of_catalog catalog (tables_asked ms))) rs
+      >>= from_read))) taken
+      ∙ ap (λ rs. rs
+      >>= (λ rs. unless_answer (first_answer (of_catalog catalog (tables_asked ms))) rs
       >>= from_read)) reads
       ∙ ap (λ o. unless_answer o read >>= from_read) known_all
       ∙ ap (λ rs. rs >>= from_said) says

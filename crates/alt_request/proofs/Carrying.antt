@@ -107,6 +107,7 @@ module _ (outcome : State → Outcome) (old now : State → Type 0) where
   untested tests (Refused r) h is stays = refused_so r h.1 (λ s stands. is s stands r h.0) stays
   untested tests (Fault f) h is stays = faulted f h stays
 
+  -- want of memory before anything was written
   pub faulted_as : (stop : Stop) → IsMemory stop → ((s : State) → old s → now s)
       → Carries outcome old now (Err stop)
   faulted_as stop cause stays = subst (λ e. Carries outcome old now (Err e)) (sym cause)
@@ -206,7 +207,8 @@ module _ (disk : DiskState) (tables : Tables) (tests : List (Option Answer)) (ms
     pub item_reached : (target : Target) → IsAt tests sought texts (catalog_of tables) ms target
         → (s : State) → Stands disk tables s
         → (t : Table) × (map.get s.tables (table_name ms) ≡ Some t)
-        × (t.description ≡ target.schema.now) × (outcome s ≡ go s target.said target.item t target.place)
+        × (t.description ≡ target.schema.now)
+        × (outcome s ≡ go s target.said target.item t target.place)
     item_reached target h s stands =
         let found = table_found s (catalog_of tables) (sym stands.catalog)
         (table_name ms) target.schema.now h.there in (
@@ -222,7 +224,8 @@ module _ (disk : DiskState) (tables : Tables) (tests : List (Option Answer)) (ms
 
     -- what is done there is done for the whole request
     pub item_done : (now : State → Type 0) (target : Target)
-        → IsAt tests sought texts (catalog_of tables) ms target → (r : Result Reply Stop) → IsPlain r
+        → IsAt tests sought texts (catalog_of tables) ms target
+        → (r : Result Reply Stop) → IsPlain r
         → ((s : State) (t : Table) → Stands disk tables s
         → map.get s.tables (table_name ms) ≡ Some t → t.description ≡ target.schema.now
         → Does now s (go s target.said target.item t target.place) r)

@@ -26,10 +26,12 @@ use Rattle.alt_shape.specs.Refusals.{Answer, refused, not_found, bad_key}
 -- ---- what each step finds
 
 -- what is found of the others, behind what was found
-abbrev pub behind : {A B : Type 0} → (A → Result B Answer) → List B → List A → Result (List B) Answer
+abbrev pub behind : {A B : Type 0} → (A → Result B Answer) → List B → List A
+    → Result (List B) Answer
 behind step done rest = each_found step rest >>= (λ ys. Ok (done ++ ys))
 
 module _ {A B : Type 0} (step : A → Result B Answer) where
+  -- with nothing found yet, all is found of the rest
   pub found_start : (xs : List A) → each_found step xs ≡ behind step [] xs
   found_start xs = by (each_found step xs)
     where
@@ -41,7 +43,8 @@ module _ {A B : Type 0} (step : A → Result B Answer) where
   pub found_more : (done : List B) (x : A) (y : B) (rest : List A) → step x ≡ Ok y
       → behind step done (x ∷ rest) ≡ behind step (done ++ y ∷ []) rest
   found_more done x y rest e =
-      ap (λ r. (r >>= (λ z. each_found step rest >>= (λ zs. Ok (z ∷ zs)))) >>= (λ ys. Ok (done ++ ys))) e
+      ap (λ r. (r >>= (λ z. each_found step rest >>= (λ zs. Ok (z ∷ zs))))
+      >>= (λ ys. Ok (done ++ ys))) e
       ∙ by (each_found step rest)
     where
       by : (r : Result (List B) Answer) → ((r >>= (λ zs. Ok (y ∷ zs))) >>= (λ ys. Ok (done ++ ys)))
@@ -53,7 +56,8 @@ module _ {A B : Type 0} (step : A → Result B Answer) where
   pub found_stop : (done : List B) (x : A) (rest : List A) (a : Answer) → step x ≡ Err a
       → behind step done (x ∷ rest) ≡ Err a
   found_stop done x rest a e =
-      ap (λ r. (r >>= (λ z. each_found step rest >>= (λ zs. Ok (z ∷ zs)))) >>= (λ ys. Ok (done ++ ys))) e
+      ap (λ r. (r >>= (λ z. each_found step rest >>= (λ zs. Ok (z ∷ zs))))
+      >>= (λ ys. Ok (done ++ ys))) e
 
   -- all are found
   pub found_end : (done : List B) → behind step done [] ≡ Ok done
@@ -90,7 +94,8 @@ module _ (catalog : Texts TableSchema) (m : BatchMember) (d : TableSchema)
       → Comes {X = List ℕ} (λ b. b) (place_that_fits m.sought d m.item) (Err stop)
       → Comes {X = PlacedMember} (λ p. p) (placed catalog m) (Err stop)
   unplaced (Refused r) h = (
-    placed_so ∙ by (or_refused bad_key (place_in m.sought d m.item)) (first_answer (of_length d m.item)) h.0,
+    placed_so ∙ by (or_refused bad_key (place_in m.sought d m.item))
+        (first_answer (of_length d m.item)) h.0,
     h.1,
   )
     where
@@ -122,7 +127,8 @@ too_many most count h = by (nat_le 1 count) (nat_le count most) (above most coun
     by false b e = refl
 
 -- as many as the room that isn't left
-pub sized_by_room : (most count room : ℕ) → count + room ≡ most → is_sized most count ≡ nat_lt room most
+pub sized_by_room : (most count room : ℕ) → count + room ≡ most
+    → is_sized most count ≡ nat_lt room most
 sized_by_room most count room e = grind (arith, e)
 
 -- ---- keys that stand twice
@@ -144,7 +150,8 @@ has_repeat_from ms i m h = rw add-one (has_repeat_from_suc ms i m h)
 -- ---- tests of each member
 
 -- behind tests that don't apply the others tell
-both_tests : (a b : List (Option Answer)) → first_answer a ≡ None → first_answer (a ++ b) ≡ first_answer b
+both_tests : (a b : List (Option Answer)) → first_answer a ≡ None
+    → first_answer (a ++ b) ≡ first_answer b
 both_tests [] b e = refl
 both_tests (None ∷ a) b e = both_tests a b e
 both_tests (Some x ∷ a) b e = absurd (let f : ⊥ = cc in f)
@@ -160,7 +167,8 @@ module _ (catalog : Texts TableSchema) where
   -- where the member at a place isn't refused, those from there on are refused as those behind it
   taken_on_suc : (ms : List PlacedMember) (i : ℕ) (m : PlacedMember) → i < length ms
       → first_answer (of_member catalog (get_or ms i m)) ≡ None
-      → first_answer (of_members catalog (drop i ms)) ≡ first_answer (of_members catalog (drop (suc i) ms))
+      → first_answer (of_members catalog (drop i ms))
+      ≡ first_answer (of_members catalog (drop (suc i) ms))
   taken_on_suc [] i m h e = absurd (omega arith)
   taken_on_suc (x ∷ xs) zero m h e = both_tests (of_member catalog x) (of_members catalog xs) e
   taken_on_suc (x ∷ xs) (suc i) m h e = taken_on_suc xs i m (omega arith) e
@@ -168,7 +176,8 @@ module _ (catalog : Texts TableSchema) where
   -- the same, with the next place counted by + 1
   pub taken_on : (ms : List PlacedMember) (i : ℕ) (m : PlacedMember) → i < length ms
       → first_answer (of_member catalog (get_or ms i m)) ≡ None
-      → first_answer (of_members catalog (drop i ms)) ≡ first_answer (of_members catalog (drop (i + 1) ms))
+      → first_answer (of_members catalog (drop i ms))
+      ≡ first_answer (of_members catalog (drop (i + 1) ms))
   taken_on ms i m h e = rw add-one (taken_on_suc ms i m h e)
 
   -- where it is refused, so are those from there on, for the same
@@ -188,14 +197,16 @@ elements_length (v ∷ vs) = ap suc (elements_length vs)
 
 -- from a place on
 elements_from_suc : (vs : List Value) (i : ℕ) (v : Value) → i < length vs
-    → elements (items_view (drop i vs)) ≡ view (get_or vs i v) ∷ elements (items_view (drop (suc i) vs))
+    → elements (items_view (drop i vs)) ≡ view (get_or vs i v) ∷ elements
+    (items_view (drop (suc i) vs))
 elements_from_suc [] i v h = absurd (omega arith)
 elements_from_suc (x ∷ xs) zero v h = refl
 elements_from_suc (x ∷ xs) (suc i) v h = elements_from_suc xs i v (omega arith)
 
 -- the same, with the next place counted by + 1
 pub elements_from : (vs : List Value) (i : ℕ) (v : Value) → i < length vs
-    → elements (items_view (drop i vs)) ≡ view (get_or vs i v) ∷ elements (items_view (drop (i + 1) vs))
+    → elements (items_view (drop i vs)) ≡ view (get_or vs i v) ∷ elements
+    (items_view (drop (i + 1) vs))
 elements_from vs i v h = rw add-one (elements_from_suc vs i v h)
 
 -- each write is one put or one delete

@@ -47,6 +47,7 @@ list_untaken tests texts catalog ms (Fault f) h = h
 
 module _ (tests : List (Option Answer)) (texts : machine.Texts) (catalog : Texts TableSchema)
     (ms : Members) (free : first_answer tests ≡ None) where
+  -- where no words are given, the list isn't reached
   pub list_no_words : (e : Stop) → Comes {X = Given} given_of (machine.given_at texts ms) (Err e)
       → OnList tests texts catalog ms (Err e)
   list_no_words (Refused q) h = (
@@ -122,6 +123,7 @@ module _ (disk : DiskState) (tables : Tables) (tests : List (Option Answer)) (ms
     (outcome : State → Outcome) (texts : machine.Texts)
     (go : State → Expressions → Option (List Pair) → Table → Option ℕ → Outcome)
     (is : (s : State) → outcome s ≡ on_list tests texts s ms (go s)) where
+  -- a list that isn't reached is carried out as that says, and nothing is written
   list_stopped : (now : State → Type 0) (stop : Stop)
       → OnList tests texts (catalog_of tables) ms (Err stop)
       → ((s : State) → Stands disk tables s → now s)
@@ -153,6 +155,7 @@ module _ (disk : DiskState) (tables : Tables) (tests : List (Option Answer)) (ms
         found.2,
         is s ∙ list-target tests texts s ms (go s) target.said target.start found.0 target.index
             found.1
-            (subst (λ (d : TableSchema). IsListed tests texts ms d target.said target.start target.index)
+            (subst (λ (d : TableSchema). IsListed tests texts ms d target.said
+            target.start target.index)
             (sym found.2) h.listed),
       )

@@ -60,11 +60,13 @@ module _ (P : Type 0) where
   tested_unfailed tests (Refused r) h = tt
   tested_unfailed tests (Fault f) h = unfailed_fault f P h
 
+  -- a table that isn't reached is no failure of the device
   pub table_unfailed : (tests : List (Option Answer)) (catalog : Texts TableSchema) (ms : Members)
       (stop : Stop) → OnTable tests catalog ms (Err stop) → IfFailed (Err stop) P
   table_unfailed tests catalog ms (Refused r) h = tt
   table_unfailed tests catalog ms (Fault f) h = unfailed_fault f P h
 
+  -- nor is an item that isn't
   pub item_unfailed : (tests : List (Option Answer)) (sought : Sought) (texts : machine.Texts)
       (catalog : Texts TableSchema) (ms : Members)
       (stop : Stop) → OnItem tests sought texts catalog ms (Err stop) → IfFailed (Err stop) P
@@ -75,6 +77,7 @@ module _ (P : Type 0) where
   pub memory_unfailed : (stop : Stop) → IsMemory stop → IfFailed (Err stop) P
   memory_unfailed stop h = subst (λ e. IfFailed (Err e) P) (sym h) tt
 
+  -- nor is a reply for which memory was wanting
   pub reply_unfailed : (r : Result Reply Stop) → IfErr r IsMemory → IfFailed r P
   reply_unfailed (Ok reply) h = tt
   reply_unfailed (Err stop) h = memory_unfailed stop h
@@ -168,6 +171,7 @@ module _ (before after : DiskState) (tables : Tables) (tests : List (Option Answ
     (outcome : State → Outcome) (sought : Sought) (texts : machine.Texts)
     (go : State → Expressions → List Pair → Table → List ℕ → Outcome)
     (is : (s : State) → outcome s ≡ on_item tests sought texts s ms (go s)) where
+  -- where an item is reached, what moves as its outcome says moves as the operation's does
   pub item_moved : (target : Target) → IsAt tests sought texts (catalog_of tables) ms target
       → (does : State → Table → Outcome)
       → ((s : State) (t : Table) → t.description ≡ target.schema.now

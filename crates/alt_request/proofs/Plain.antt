@@ -12,7 +12,8 @@ use Rattle.alt_shape.specs.Refusals.{Answer}
 use Rattle.alt_value.specs.Tree.{Pair}
 
 -- no float stands among names of which none is refused
-texts_plain : (ms : Members) → first_answer (machine.of_names ms) ≡ None → members_have_float ms ≡ false
+texts_plain : (ms : Members) → first_answer (machine.of_names ms) ≡ None
+    → members_have_float ms ≡ false
 texts_plain no_members e = refl
 texts_plain (member word (string []) ms) e = absurd (let f : ⊥ = cc in f)
 texts_plain (member word (string (b ∷ bs)) ms) e = texts_plain ms e
@@ -32,7 +33,8 @@ names_plain texts ms g e = by (machine.names_member ms) (machine.values_at texts
     by_test names (Some a) free v f = absurd (let k : ⊥ = cc in k)
 
     by : (o : Option Members) (v : Result (List Pair) Answer)
-        → option_map_or (λ names. unless_answer (first_answer (machine.of_names names)) (names_in [] names))
+        → option_map_or
+        (λ names. unless_answer (first_answer (machine.of_names names)) (names_in [] names))
         o (Ok [])
         >>= (λ ns. v >>= (λ vs. Ok (record { names = ns; values = vs }))) ≡ Ok g
         → option_map_or members_have_float o false ≡ false

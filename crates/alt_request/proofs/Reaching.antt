@@ -95,6 +95,7 @@ unread tests sought texts catalog ms free (Fault f) h = h
 module _ (tests : List (Option Answer)) (sought : Sought) (texts : machine.Texts)
     (catalog : Texts TableSchema) (ms : Members) (free : first_answer tests ≡ None)
     (item : List Pair) (read : item_at (member_of sought) ms ≡ Ok item) where
+  -- where no words are given, the item isn't reached
   pub no_words : (e : Stop) → Comes {X = Given} given_of (machine.given_at texts ms) (Err e)
       → OnItem tests sought texts catalog ms (Err e)
   no_words (Refused q) h = (
@@ -139,7 +140,8 @@ module _ (tests : List (Option Answer)) (sought : Sought) (texts : machine.Texts
       unsaid (Fault f) h = h
 
       module _ (said : Expressions) (says_so : machine.expressions texts d ms g ≡ Ok said) where
-        pub unplaced : (e : Stop) → Comes {X = List ℕ} (λ b. b) (place_that_fits sought d item) (Err e)
+        pub unplaced : (e : Stop)
+            → Comes {X = List ℕ} (λ b. b) (place_that_fits sought d item) (Err e)
             → OnItem tests sought texts catalog ms (Err e)
         unplaced (Refused q) h = (
           h.1,

@@ -37,7 +37,8 @@ one_more ms None e = e
 one_more ms (Some r) e = refl
 
 -- so it is with all of them
-first_is : (ms : Members) → first_answer (machine.of_names ms) ≡ option_map refused (names_refusal ms)
+first_is : (ms : Members) → first_answer (machine.of_names ms)
+    ≡ option_map refused (names_refusal ms)
 first_is no_members = refl
 first_is (member word d ms) = one_more ms (machine.name_refusal d) (first_is ms)
 

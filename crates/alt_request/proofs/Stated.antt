@@ -89,6 +89,7 @@ keeps_on a b c h k = record { names = k.names ∙ h.names; empty = k.empty ∙ h
 module _ {D A : Type 0} (L : Language D A)
     (told : (g : expr.Given) (text : List ℕ) → Told L g text) (g h : expr.Given) (same : g ≡ h)
     (text at : Option (List ℕ)) (is : text ≡ at) where
+  -- what is told of equal texts, with equal words, is the same
   stated_same : machine.stated told g text ≡ machine.stated told h at
   stated_same = λ i. machine.stated told (same i) (is i)
 
@@ -128,12 +129,15 @@ module _ (texts : machine.Texts) (ms : Members) (g : expr.Given) where
   abbrev pub keys_at : Result (Option Cond) Answer
   keys_at = machine.stated condition_of g (machine.text_at texts.key_condition ms)
 
+  -- the text of the condition
   abbrev pub condition_at : Result (Option Cond) Answer
   condition_at = machine.stated condition_of g (machine.text_at texts.condition ms)
 
+  -- the text of the update
   abbrev pub update_at : Result (Option (List Action)) Answer
   update_at = machine.stated update_of g (machine.text_at texts.update ms)
 
+  -- the text of the projection
   abbrev pub paths_at : Result (Option (List (List PathPart))) Answer
   paths_at = machine.stated paths_of (names_alone g.names) (machine.text_at texts.projection ms)
 
@@ -222,7 +226,8 @@ step_none (indexed n) used = refl
 -- nor have several steps
 steps_none : (ss : List StepPhrase) → NoColons (steps_toks ss)
 steps_none [] used = refl
-steps_none (s ∷ ss) used = none_append (step_toks s) (steps_toks ss) (step_none s) (steps_none ss) used
+steps_none (s ∷ ss) used =
+    none_append (step_toks s) (steps_toks ss) (step_none s) (steps_none ss) used
 
 -- nor has a path
 path_none : (p : PathPhrase) → NoColons (path_toks p)

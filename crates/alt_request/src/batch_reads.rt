@@ -189,7 +189,8 @@ fn said_all<'b>(
 
 #[tactic(auto, using(crate::proofs::Asked::unshown, crate::proofs::Asked::shown_so))]
 fn said_in<'b>(alloc: Global, tables: &Tables, keys: KeysRead<'b>) -> Result<KeysSaid<'b>, Stop>
-    ensures said { Comes keys_said (get.said_in (catalog_of tables.now) (keys_read keys.entry)) result }
+    ensures said { Comes keys_said
+        (get.said_in (catalog_of tables.now) (keys_read keys.entry)) result }
 {
     let KeysRead {
         table,

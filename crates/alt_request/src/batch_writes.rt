@@ -80,7 +80,8 @@ fn requests<'b>(alloc: Global, body: &'b Map<String, Value>) -> Result<Vec<Reque
 /// The writes of each table, in their order.
 fn requests_in<'b>(alloc: Global, tables: &'b Map<String, Value>) -> Result<Vec<Request<'b>>, Stop>
     ensures asked { IfOk result (λ v. each request_of v.items
-        ≡ machine.of_each machine.elements_in (machine.pairs_in (members_view tables.now.entries))) }
+        ≡ machine.of_each machine.elements_in
+        (machine.pairs_in (members_view tables.now.entries))) }
     ensures cause { IfErr result IsMemory }
 {
     let mut requests = Vec::new(alloc);

@@ -79,9 +79,11 @@ fn condition_stated(
     ensures stated { Comes (λ c. c) (machine.stated condition_of
         (given_by names.old values.old) (option_map (λ t. t.now) text.entry)) result }
     ensures names { OnOk result (used_names names.new
-        ≡ with_hashes (machine.words_of (option_map (λ t. t.now) text.entry)) (used_names names.old)) }
+        ≡ with_hashes (machine.words_of (option_map (λ t. t.now) text.entry))
+        (used_names names.old)) }
     ensures values { OnOk result (used_values values.new
-        ≡ with_colons (machine.words_of (option_map (λ t. t.now) text.entry)) (used_values values.old)) }
+        ≡ with_colons (machine.words_of (option_map (λ t. t.now) text.entry))
+        (used_values values.old)) }
     ensures keeps_names { KeepsNames names.old names.new }
     ensures keeps_values { given_values values.new ≡ given_values values.old }
 {
@@ -104,9 +106,11 @@ fn update_stated(
     ensures stated { Comes (λ u. u) (machine.stated update_of
         (given_by names.old values.old) (option_map (λ t. t.now) text.entry)) result }
     ensures names { OnOk result (used_names names.new
-        ≡ with_hashes (machine.words_of (option_map (λ t. t.now) text.entry)) (used_names names.old)) }
+        ≡ with_hashes (machine.words_of (option_map (λ t. t.now) text.entry))
+        (used_names names.old)) }
     ensures values { OnOk result (used_values values.new
-        ≡ with_colons (machine.words_of (option_map (λ t. t.now) text.entry)) (used_values values.old)) }
+        ≡ with_colons (machine.words_of (option_map (λ t. t.now) text.entry))
+        (used_values values.old)) }
     ensures keeps_names { KeepsNames names.old names.new }
     ensures keeps_values { given_values values.new ≡ given_values values.old }
 {
@@ -124,7 +128,8 @@ fn paths_stated(alloc: Global, text: Option<&str>, names: &mut Names) -> Result<
     ensures stated { Comes (λ p. p) (machine.stated paths_of
         (names_alone (given_names names.old)) (option_map (λ t. t.now) text.entry)) result }
     ensures names { OnOk result (used_names names.new
-        ≡ with_hashes (machine.words_of (option_map (λ t. t.now) text.entry)) (used_names names.old)) }
+        ≡ with_hashes (machine.words_of (option_map (λ t. t.now) text.entry))
+        (used_names names.old)) }
     ensures keeps_names { KeepsNames names.old names.new }
 {
     let Some(text) = text else {

@@ -22,6 +22,7 @@ use Rattle.alt_rowfile.proofs.OneFile.{one_block, block-apart, block_some, lengt
 use Rattle.alt_rowfile.proofs.WriterLaws.{rows_of-push, front-push, length-front, marks-push, is_some}
 use Rattle.alt_rowfile.proofs.DecodeLaws.{rest_of, some_left}
 
+-- a test for less tells whether an order is Less
 pub less_tested : (b : Bool) (r : Ordering) → b ≡ is_lt r → (IsTrue b → r ≡ Less)
     × (r ≡ Less → IsTrue b)
 less_tested b Less e = ((λ t. refl), (λ l. e))
@@ -32,12 +33,14 @@ less_tested b Greater e =
 
 -- ---- rows behind rows
 
+-- the last key of rows behind others is that of those behind
 pub last_key-append : (xs : List Entry) (y : Entry) (ys : List Entry)
     → last_key (xs ++ y ∷ ys) ≡ last_key (y ∷ ys)
 last_key-append [] y ys = refl
 last_key-append (x ∷ []) y ys = refl
 last_key-append (x ∷ z ∷ xs) y ys = last_key-append (z ∷ xs) y ys
 
+-- the last of the rows has the last key
 pub last_at : (rows : List Entry) (l : Entry) → Some l ≡ slice_get rows (length rows - 1)
     → Some l.0 ≡ last_key rows
 last_at [] l e = absurd (let f : ⊥ = cc in f)
@@ -48,6 +51,7 @@ last_at (x ∷ rows) l e = at_end x rows l (simp unary_clauses at e)
     at_end x [] l e = let f : l ≡ x = cc in ap (λ (y : Entry). Some y.0) f
     at_end x (z ∷ rows) l e = at_end z rows l e
 
+-- the first of the rows has the first key
 pub first_at : (rows : List Entry) (f : Entry) → Some f ≡ slice_get rows 0 → f.0 ≡ first_key rows
 first_at [] f e = absurd (let g : ⊥ = cc in g)
 first_at (x ∷ rows) f e = let g : f ≡ x = cc in ap (λ (y : Entry). y.0) g
@@ -76,18 +80,21 @@ above_join [] y ys h = tt
 above_join (x ∷ []) y ys h = less _ (first _ _ (first _ _ h))
 above_join (x ∷ z ∷ xs) y ys h = above_join (z ∷ xs) y ys (second _ _ h)
 
+-- the rows behind others rise, where all do
 pub sorted_back : (xs ys : List Entry) → T (is_sorted key_cmp (xs ++ ys)) → T (is_sorted key_cmp ys)
 sorted_back [] ys h = h
 sorted_back (x ∷ xs) ys h = sorted_back xs ys (second _ _ h)
 
 -- ---- a block
 
+-- rows of which there are some have a last one
 pub split_last : (x : Entry) (rows : List Entry) → (front : List Entry) × (last : Entry)
     × (x ∷ rows ≡ front ++ last ∷ [])
 split_last x [] = ([], x, refl)
 split_last x (y ∷ rows) = let s = split_last y rows in
     (x ∷ s.0, s.1, ap (λ (l : List Entry). x ∷ l) s.2)
 
+-- rows that were read of a block's bytes, all of them, are the next block
 pub block_read : (rows : List Entry) (bytes : List ℕ) (before : ℕ) (f l : Entry)
     (after : Option (List ℕ)) (is_last : Bool) (one two : List ℕ) (count : ℕ) → AreRows rows
     → bytes ≡ rows_bytes rows → StandBefore before rows
@@ -95,7 +102,8 @@ pub block_read : (rows : List Entry) (bytes : List ℕ) (before : ℕ) (f l : En
     → Some f ≡ slice_get rows 0 → Some l ≡ slice_get rows (length rows - 1) → IsAbove after f.0
     → one ≡ f.0 → two ≡ l.0 → count ≡ length rows → (b : List Entry)
     × IsNextBlock after is_last bytes b × IsReadBlock one two count b
-block_read [] bytes before f l after is_last one two count are is place short full small fst lst above p q n = absurd (let g : ⊥ = cc in g)
+block_read [] bytes before f l after is_last one two count are is place short full small fst lst
+    above p q n = absurd (let g : ⊥ = cc in g)
 block_read (x ∷ rows)
     bytes before f l after is_last one two count are is place short full small fst lst above p q n =
     let s = split_last x rows in
@@ -128,16 +136,19 @@ pub same_rows : (rows b : List Entry) (bytes : List ℕ) → AreRows rows → by
     → IsHeldBlock b → bytes ≡ rows_bytes b → rows ≡ b
 same_rows rows b bytes are is held there = one_block rows b are.0 held.0 (sym is ∙ there)
 
+-- where there is no first row there is none
 pub no_first : (rows : List Entry) → None ≡ slice_get rows 0 → rows ≡ []
 no_first [] e = refl
 no_first (x ∷ rows) e = absurd (let f : ⊥ = cc in f)
 
+-- a block has a row
 pub no_block : (b : List Entry) → IsBlock b → b ≡ [] → ⊥
 no_block b is none =
     omega (arith, ap length (sym none ∙ is.is), length-append is.rows (is.last ∷ []))
 
 -- ---- blocks behind blocks
 
+-- the rows of blocks behind others stand behind those of the others
 pub rows_of-append : (xs ys : List (List Entry)) → rows_of (xs ++ ys) ≡ rows_of xs ++ rows_of ys
 rows_of-append xs ys = flat_map-append (λ (b : List Entry). b) xs ys
 
@@ -155,10 +166,12 @@ pub record BlocksSoFar (bytes rest : List ℕ) (at : ℕ) (after : Option (List 
   pub after_is : after ≡ last_key (rows_of blocks)
   pub found : IsFoundAs marks rows blocks
 
+-- a block has a first row
 pub block_key : (b : List Entry) → IsBlock b → (e : Entry) × (es : List Entry) × (b ≡ e ∷ es)
 block_key [] is = absurd (no_block [] is refl)
 block_key (e ∷ es) is = (e, es, refl)
 
+-- a block behind full ones leaves them cut as blocks have to be
 pub cut_push : (blocks : List (List Entry)) (b : List Entry) → AllByRecursion IsBlock blocks
     → AllByRecursion IsFull blocks → IsBlock b → AreBlocks (blocks ++ b ∷ [])
 cut_push [] b each full is = is
@@ -174,12 +187,14 @@ block_within [] b (c ∷ more) cut = cut.0
 block_within (x ∷ []) b more cut = block_within [] b more cut.2
 block_within (x ∷ y ∷ blocks) b more cut = block_within (y ∷ blocks) b more cut.2
 
+-- a block with another behind it is full
 pub full_within : (blocks : List (List Entry)) (b c : List Entry) (more : List (List Entry))
     → AreBlocks (blocks ++ b ∷ c ∷ more) → IsFull b
 full_within [] b c more cut = cut.1
 full_within (x ∷ []) b c more cut = full_within [] b c more cut.2
 full_within (x ∷ y ∷ blocks) b c more cut = full_within (y ∷ blocks) b c more cut.2
 
+-- of two cases, the first holds where the second doesn't
 pub full_from : {P : Type 0} (b : Bool) → ((b ≡ false) × P) ⊎ (b ≡ true) → b ≡ false → P
 full_from b (inl p) is = p.1
 full_from b (inr other) is = absurd (let f : true ≡ false = sym other ∙ is in cc f)
@@ -198,6 +213,7 @@ next_whole after is_last bytes block behind b last is n = record {
   is = is ∙ ap (λ (l : List ℕ). field l ++ behind) n.is;
 }
 
+-- where a field holds no block, no block is next
 pub no_next_block : (after : Option (List ℕ)) (is_last : Bool) (bytes block behind : List ℕ)
     → is_last ≡ (length behind == 0) → length block < 2 ^ 64 → bytes ≡ field block ++ behind
     → ((b : List Entry) → IsNextBlock after is_last block b → ⊥) → (b : List Entry) (x : List ℕ)
@@ -215,6 +231,7 @@ no_next_block after is_last bytes block behind last small is none b x n =
       is = same.0;
     })
 
+-- where there is no field, no block is next
 pub no_next_field : (after : Option (List ℕ)) (bytes : List ℕ)
     → ((s x : List ℕ) → length s < 2 ^ 64 → bytes ≡ field s ++ x → ⊥)
     → (b : List Entry) (x : List ℕ) → IsNext after bytes x b → ⊥
@@ -227,6 +244,7 @@ rows_few [] = omega arith
 rows_few (e ∷ rows) =
     omega (arith, rows_few rows, length-append (entry_bytes e) (rows_bytes rows), length-entry e)
 
+-- blocks have no more rows than bytes
 pub blocks_few : (blocks : List (List Entry))
     → length (rows_of blocks) ≤ length (flat_map block_bytes blocks)
 blocks_few [] = omega arith
@@ -240,6 +258,7 @@ blocks_few (b ∷ blocks) =
       length-append (block_bytes b) (flat_map block_bytes blocks),
     )
 
+-- before the first block none was read
 pub no_blocks_yet : (bytes : List ℕ) (marks : List Mark) → marks ≡ []
     → BlocksSoFar bytes bytes 8 None marks 0
 unfolding Rattle.alt_rowfile.specs.Format.header
@@ -263,7 +282,8 @@ pub one_block_more : (bytes rest behind : List ℕ) (at next : ℕ) (after : Opt
     → 0 < length rest → IsNext after rest behind b → IsReadBlock first last count b
     → next ≡ at + (length rest - length behind) → new ≡ marks ++ (at, first) ∷ []
     → BlocksSoFar bytes behind next (Some last) new (rows + count)
-one_block_more bytes rest behind at next after marks new rows count first last b so_far some n r place added =
+one_block_more bytes rest behind at next after marks new rows count first last b so_far some n
+    r place added =
     let key = block_key b n.block in
     let joined : rows_of (so_far.blocks ++ b ∷ []) ≡ rows_of so_far.blocks ++ b =
     rows_of-push so_far.blocks b in
@@ -326,7 +346,8 @@ pub no_more_blocks : (bytes rest : List ℕ) (at : ℕ) (after : Option (List �
     → ((b : List Entry) (behind : List ℕ) → IsNext after rest behind b → ⊥)
     → (blocks : List (List Entry)) → AreBlocksOf blocks bytes → ⊥
 no_more_blocks bytes rest at after marks rows so_far some none blocks are =
-    let r = rest_of block_bytes IsHeldBlock block-apart block_some so_far.blocks blocks rest so_far.held are.held (sym so_far.is ∙ are.is) in
+    let r = rest_of block_bytes IsHeldBlock block-apart block_some so_far.blocks blocks rest
+    so_far.held are.held (sym so_far.is ∙ are.is) in
     refute r.0 r.2 (subst AreBlocks r.1 are.cut)
     (subst (λ (l : List (List Entry)). T (is_sorted key_cmp (rows_of l))) r.1 are.rising)
     (subst (AllByRecursion IsHeldBlock) r.1 are.held)

@@ -30,6 +30,7 @@ body_last blocks =
     ap (λ (l : List ℕ). drop (length l - 8) l) whole ∙ ap (λ (n : ℕ). drop n (before ++ last)) size
     ∙ drop_at before last (length before) refl
 
+-- what stands before the digest is at least 24 bytes longer than the header and the blocks
 pub body_long : (blocks : List (List Entry)) → length (front blocks) + 24 ≤ length (body blocks)
 unfolding tail_bytes
 body_long blocks =
@@ -45,25 +46,30 @@ body_long blocks =
       length-append (to_be_bytes w64 (length marks)) (flat_map mark_bytes marks),
     )
 
+-- the header and the blocks have at least eight bytes
 pub front_long : (blocks : List (List Entry)) → 8 ≤ length (front blocks)
 unfolding header
 front_long blocks = omega arith
 
+-- what stands before the digest begins with the header
 pub body_header : (blocks : List (List Entry)) → take 8 (body blocks) ≡ header
 unfolding header
 body_header blocks = refl
 
 -- ---- no body
 
+-- fewer than 32 bytes are no body
 pub too_short : (bytes : List ℕ) → length bytes < 32 → (blocks : List (List Entry))
     → IsBody blocks bytes → ⊥
 too_short bytes short blocks is =
     omega (arith, short, ap length is.is, body_long blocks, front_long blocks)
 
+-- nor are bytes that begin otherwise
 pub other_header : (bytes head : List ℕ) → head ≡ take 8 bytes → head ≢ header
     → (blocks : List (List Entry)) → IsBody blocks bytes → ⊥
 other_header bytes head same other blocks is = other (same ∙ ap (take 8) is.is ∙ body_header blocks)
 
+-- the last eight bytes of a body tell where its index stands
 pub place_of : (bytes : List ℕ) (place : ℕ) → place < 2 ^ 64
     → drop (length bytes - 8) bytes ≡ to_be_bytes w64 place → (blocks : List (List Entry))
     → IsBody blocks bytes → place ≡ length (front blocks)
@@ -73,6 +79,7 @@ place_of bytes place fits last blocks is =
     (number-apart place (length (front blocks)) [] [] fits is.place
     (ap (λ (l : List ℕ). l ++ []) here)).0
 
+-- bytes whose last eight tell a place outside them are no body
 pub other_place : (bytes : List ℕ) (place : ℕ) → place < 2 ^ 64
     → drop (length bytes - 8) bytes ≡ to_be_bytes w64 place → (8 ≤ place → place ≤ length bytes → ⊥)
     → (blocks : List (List Entry)) → IsBody blocks bytes → ⊥
@@ -83,6 +90,7 @@ other_place bytes place fits last outside blocks is =
 
 -- ---- its parts
 
+-- a body is cut at its index: before it stand the header and the blocks, and from there on the tail
 pub body_parts : (bytes : List ℕ) (end : ℕ) → end < 2 ^ 64
     → drop (length bytes - 8) bytes ≡ to_be_bytes w64 end → (blocks : List (List Entry))
     → IsBody blocks bytes
@@ -99,6 +107,7 @@ body_parts bytes end fits last blocks is =
           ∙ ap (tail_bytes (marks_from 8 blocks) (length (rows_of blocks))) (sym place),
     )
 
+-- bytes that have the header, blocks and the tail of these are the body of these blocks
 pub body_whole : (bytes made : List ℕ) (end rows : ℕ) (marks : List Mark)
     (blocks : List (List Entry)) → 8 ≤ end → end ≤ length bytes → end < 2 ^ 64
     → take 8 bytes ≡ header → AreBlocksOf blocks (drop 8 (take end bytes))
@@ -126,6 +135,7 @@ body_whole bytes made end rows marks blocks low high fits head are found tail sa
       place,
     )
 
+-- bytes whose tail isn't that of their blocks are no body
 pub other_tail : (bytes made : List ℕ) (end rows : ℕ) (marks : List Mark)
     (found : List (List Entry)) → end < 2 ^ 64 → drop (length bytes - 8) bytes ≡ to_be_bytes w64 end
     → AreBlocksOf found (drop 8 (take end bytes))
@@ -139,6 +149,7 @@ other_tail bytes made end rows marks found fits last are found_as tail other blo
     ∙ ap (λ (b : List (List Entry)). tail_bytes (marks_from 8 b) (length (rows_of b)) end) same
     ∙ sym parts.1)
 
+-- the place that is read of the last eight bytes is the number that they hold
 pub last_eight : (bytes last : List ℕ) (place : ℕ) → 8 ≤ length bytes
     → last ≡ drop (length bytes - 8) bytes → take 8 last ≡ to_be_bytes w64 place
     → drop (length bytes - 8) bytes ≡ to_be_bytes w64 place

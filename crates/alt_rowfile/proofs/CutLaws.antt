@@ -15,11 +15,13 @@ use Rattle.alt_rowfile.specs.Format.{Entry}
 use Rattle.alt_rowfile.specs.Cut.{IsBelow, IsFrom, CutsAt, IsCutFrom}
 use Rattle.alt_rowfile.proofs.SearchLaws.{at_or_above, first_below, sorted_behind}
 
+-- an order that is told to be less is Less
 pub lower : (r : Ordering) → is_lt r ≡ true → r ≡ Less
 lower Less e = refl
 lower Equal e = absurd (let f : false ≡ true = e in cc f)
 lower Greater e = absurd (let f : false ≡ true = e in cc f)
 
+-- one that isn't told so isn't
 not_lower : (r : Ordering) → is_lt r ≡ false → r ≢ Less
 not_lower Less e is = absurd (let f : true ≡ false = e in cc f)
 not_lower Equal e is = cc is
@@ -43,6 +45,7 @@ module _ (key : List ℕ) where
     from_behind y es n (second _ _ h),
   )
 
+  -- where the first of sorted rows is at a key or behind it, all are
   pub from_first : (y : Entry) (ys : List Entry) → T (is_sorted key_cmp (y ∷ ys)) → IsFrom key y
       → AllByRecursion (IsFrom key) (y ∷ ys)
   from_first y ys h n = (n, from_behind y ys n (first _ _ h))

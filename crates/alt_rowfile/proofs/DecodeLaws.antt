@@ -37,6 +37,7 @@ rest_of spell P apart some (k ∷ ks) (l ∷ ls) more a b e =
     let t = rest_of spell P apart some ks ls more a.1 b.1 h.1 in
     (t.0, (λ i. sym h.0 i ∷ t.1 i), t.2)
 
+-- the field of a key and that of its row are an entry
 pub entry_whole : (key row_bytes behind bytes rest : List ℕ) (row : RowCells)
     → bytes ≡ field key ++ behind → behind ≡ field row_bytes ++ rest → row_bytes ≡ bytes_of_row row
     → bytes ≡ entry_bytes (key, row) ++ rest
@@ -51,6 +52,7 @@ pub entry_key : (e : Entry) (x : List ℕ)
 unfolding entry_bytes
 entry_key e x = append_assoc (field e.0) (field (bytes_of_row e.1)) x
 
+-- a key with a field behind it that holds no row is no entry
 pub no_row_entry : (key row_bytes behind bytes rest : List ℕ) → length key < 2 ^ 64
     → length row_bytes < 2 ^ 64 → bytes ≡ field key ++ behind → behind ≡ field row_bytes ++ rest
     → NoRow row_bytes
@@ -61,6 +63,7 @@ no_row_entry key row_bytes behind bytes rest short fits first then none e x held
     let r = field-apart row_bytes (bytes_of_row e.1) rest x fits held.2 (sym then ∙ k.1) in
     none e.1 held.1 r.0
 
+-- a key with no field behind it is no entry
 pub no_field_behind : (key behind bytes : List ℕ) → length key < 2 ^ 64
     → bytes ≡ field key ++ behind → ((s x : List ℕ) → length s < 2 ^ 64 → behind ≡ field s ++ x → ⊥)
     → (e : Entry) (x : List ℕ) → IsHeldEntry e → bytes ≡ entry_bytes e ++ x → ⊥
@@ -75,14 +78,17 @@ pub record RowsSoFar (bytes rest : List ℕ) (before : ℕ) (rows : List Entry) 
   pub is : bytes ≡ rows_bytes rows ++ rest
   pub place : StandBefore before rows
 
+-- no rows have a last one
 none_before : (front : List Entry) (last : Entry) → [] ≡ front ++ last ∷ [] → ⊥
 none_before [] last e = absurd (cc)
 none_before (x ∷ front) last e = absurd (cc)
 
+-- before the first row none was read
 pub no_rows_yet : (bytes : List ℕ) → RowsSoFar bytes bytes 0 []
 no_rows_yet bytes =
     record { are = (tt, tt); is = refl; place = λ front last e. absurd (none_before front last e) }
 
+-- one row more was read, where its key is behind the others
 pub one_row_more : (bytes rest behind : List ℕ) (before next : ℕ) (rows new : List Entry)
     (key : List ℕ) (row : RowCells) → RowsSoFar bytes rest before rows → IsHeldEntry (key, row)
     → IsNextKey rows key
@@ -159,11 +165,13 @@ no_key_next bytes rest behind before rows key row so_far held there low others a
         low (sorted_other key_cmp key_total rows key row
         (record { gone = None; cells = empty }) first)
 
+-- bytes that hold no field hold no entry
 pub no_field_at : (bytes : List ℕ) → ((s x : List ℕ) → length s < 2 ^ 64 → bytes ≡ field s ++ x → ⊥)
     → (e : Entry) (x : List ℕ) → IsHeldEntry e → bytes ≡ entry_bytes e ++ x → ⊥
 no_field_at bytes none e x held is =
     none e.0 (field (bytes_of_row e.1) ++ x) held.0 (is ∙ entry_key e x)
 
+-- behind an entry fewer bytes are left
 pub left_shorter : (rest behind key : List ℕ) (row : RowCells)
     → rest ≡ entry_bytes (key, row) ++ behind → length behind < length rest
 left_shorter rest behind key row is =
@@ -174,5 +182,6 @@ left_shorter rest behind key row is =
       length-entry (key, row),
     )
 
+-- what isn't told to be 0 is above 0
 pub some_left : (n : ℕ) → false ≡ (n == 0) → 0 < n
 some_left n e = grind arith

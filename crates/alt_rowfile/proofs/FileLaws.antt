@@ -10,6 +10,7 @@ use Rattle.alt_rowfile.specs.InHand.{FileAs, ReadsAs}
 use Rattle.alt_disk.specs.Disk.{DiskState, contents, bytes_or_none}
 use Rattle.alt_rowfile.specs.Recovery.{HasDigest, NoRowFile}
 
+-- a file without its digest is the body of its blocks
 pub body_of_file : (bytes : List ℕ) (blocks : List (List Entry)) → IsFileOf blocks bytes
     → IsBody blocks (take (length bytes - 32) bytes)
 body_of_file bytes blocks is =
@@ -29,6 +30,7 @@ body_of_file bytes blocks is =
           ∙ take_at (body blocks) (sha256 (body blocks)) (length bytes - 32) size;
     }
 
+-- a body with its digest behind it is a file of its blocks' rows
 pub file_of_body : (bytes : List ℕ) (marks : List Mark) (end : ℕ) (blocks : List (List Entry))
     → HasDigest bytes → IsBody blocks (take (length bytes - 32) bytes) → marks ≡ marks_from 8 blocks
     → end ≡ length (front blocks)
@@ -51,11 +53,13 @@ file_of_body bytes marks end blocks digest is are place = (
   },
 )
 
+-- where what stands before the digest is no body, the bytes are no row file
 pub no_file : (bytes : List ℕ)
     → ((blocks : List (List Entry)) → IsBody blocks (take (length bytes - 32) bytes) → ⊥)
     → NoRowFile bytes
 no_file bytes none rows is = none is.blocks (body_of_file bytes is.blocks is.file)
 
+-- a file with bytes in it is there
 there_is : (file : Option (List ℕ)) → 0 < length (bytes_or_none file)
     → file ≡ Some (bytes_or_none file)
 there_is None some = absurd (omega (arith, some))
@@ -80,26 +84,32 @@ module _ (bytes found kept : List ℕ) (at : ℕ) (size : length bytes ≡ at + 
   before : length bytes - 32 ≡ at
   before = omega (arith, size)
 
+  -- what was kept are the last 32 bytes
   pub kept_last : kept ≡ drop (length bytes - 32) bytes
   kept_last = is_kept ∙ take_all 32 (drop at bytes) (omega (arith, length-drop at bytes, size))
       ∙ ap (λ n. drop n bytes) (sym before)
 
+  -- what was found is the digest of all before them
   pub found_rest : found ≡ sha256 (take (length bytes - 32) bytes)
   found_rest = is_found ∙ ap (λ n. sha256 (take n bytes)) (sym before)
 
+  -- where both are the same the bytes have their digest
   pub digest_agrees : found ≡ kept → HasDigest bytes
   digest_agrees same = sym found_rest ∙ same ∙ kept_last
 
+-- what two together lead to holds of a result that is Ok
 pub if_ok_both : {X E : Type 0} (r : Result X E) (P Q R : X → Type 0) → IfOk r P → IfOk r Q
     → ((x : X) → P x → Q x → R x) → IfOk r R
 if_ok_both (Ok x) P Q R p q leads = leads x p q
 if_ok_both (Err e) P Q R p q leads = tt
 
+-- what one leads to holds of an option's value
 pub if_some_weaker : {X : Type 0} (o : Option X) (P Q : X → Type 0) → ((x : X) → P x → Q x)
     → IfSome o P → IfSome o Q
 if_some_weaker (Some x) P Q leads p = leads x p
 if_some_weaker None P Q leads p = tt
 
+-- what one leads to holds where an option has none
 pub if_none_weaker : {X : Type 0} (o : Option X) (P Q : Type 0) → (P → Q) → IfNone o P → IfNone o Q
 if_none_weaker (Some x) P Q leads p = tt
 if_none_weaker None P Q leads p = leads p

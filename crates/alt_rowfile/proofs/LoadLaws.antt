@@ -23,6 +23,7 @@ use Rattle.alt_disk.specs.Disk.{DiskState, contents, bytes_or_none}
 use Rattle.std.specs.FinMap.Entries.{is_sorted}
 use Rattle.sha2.specs.Sha256.{sha256}
 
+-- blocks before one, that one, and those behind it
 pub record SplitAt (blocks : List (List Entry)) (i : ℕ) : Type 0 where
   pub before : List (List Entry)
   pub here : List Entry
@@ -31,6 +32,7 @@ pub record SplitAt (blocks : List (List Entry)) (i : ℕ) : Type 0 where
   pub size : length before ≡ i
   pub at : get_or blocks i [] ≡ here
 
+-- blocks are split so at each of their places
 pub split_at : (blocks : List (List Entry)) (i : ℕ) → i < length blocks → SplitAt blocks i
 split_at [] i less = absurd (omega (arith, less))
 split_at (b ∷ blocks) zero less =
@@ -47,12 +49,14 @@ split_at (b ∷ blocks) (suc i) less =
       at = s.at;
     }
 
+-- there are as many marks as blocks
 pub length-marks : (at : ℕ) (blocks : List (List Entry))
     → length (marks_from at blocks) ≡ length blocks
 length-marks at [] = refl
 length-marks at (b ∷ blocks) =
     ap (λ (n : ℕ). suc n) (length-marks (at + length (block_bytes b)) blocks)
 
+-- the mark of a block has its place, behind the blocks before it, and its first key
 pub marks-append : (at : ℕ) (xs : List (List Entry)) (b : List Entry) (ys : List (List Entry))
     → marks_from at (xs ++ b ∷ ys)
     ≡ marks_from at xs ++ (at + length (flat_map block_bytes xs), first_key b)
@@ -83,6 +87,7 @@ place_is blocks i xs b ys is size =
     (get_or_at marks (8 + length (flat_map block_bytes xs), first_key b) rest (0, []) i
     (length-marks 8 xs ∙ size)) ∙ sym (length-front xs)
 
+-- what a test of two numbers picks, by whether they are equal
 by_test : (a b x y z : ℕ) → (a ≡ b → x ≡ z) → (a ≢ b → y ≡ z) → (if a == b then x else y) ≡ z
 by_test a b x y z same other = ⊎_elim
     (λ (is : a ≡ b). (let chosen : (if a == b then x else y) ≡ x = grind (arith, nat_tests, is) in
@@ -163,6 +168,7 @@ pub record LoadedAt (bytes : List ℕ) (marks : List Mark) (end i : ℕ) (b : Li
   pub held : IsHeldBlock b
   pub rising : T (is_sorted key_cmp b)
 
+-- the rows of each block rise
 all_at : (xs : List (List Entry)) (b : List Entry) (ys : List (List Entry))
     → T (is_sorted key_cmp (rows_of (xs ++ b ∷ ys))) → T (is_sorted key_cmp b)
 all_at xs b ys sorted =
@@ -170,6 +176,7 @@ all_at xs b ys sorted =
     (sorted_back (rows_of xs) (b ++ rows_of ys)
     (subst (λ (l : List Entry). T (is_sorted key_cmp l)) (rows_of-append xs (b ∷ ys)) sorted))
 
+-- at the place that its mark tells, up to the next one, stands a block
 pub loaded_at : (bytes : List ℕ) (marks : List Mark) (end i : ℕ) (rows : List Entry)
     (is : FileAs bytes marks end rows) → i < length marks
     → LoadedAt bytes marks end i (get_or is.blocks i [])
@@ -195,12 +202,14 @@ loaded_at bytes marks end i rows is less =
 
 -- ---- what was loaded
 
+-- the bytes of a block are a field
 pub no_block_field : (bytes : List ℕ) (b : List Entry) → IsHeldBlock b → bytes ≡ block_bytes b
     → ((s x : List ℕ) → length s < 2 ^ 64 → bytes ≡ field s ++ x → ⊥) → ⊥
 unfolding block_bytes
 no_block_field bytes b held is none =
     none (rows_bytes b) [] held.1 (is ∙ sym (append-nil (field (rows_bytes b))))
 
+-- what the field holds are the block's rows
 pub block_content : (bytes block behind : List ℕ) (b : List Entry) → IsHeldBlock b
     → bytes ≡ block_bytes b → length block < 2 ^ 64 → bytes ≡ field block ++ behind
     → block ≡ rows_bytes b
@@ -211,9 +220,11 @@ block_content bytes block behind b held is short there =
 
 module _ (s : DiskState) (f : ℕ) (marks : List Mark) (end i : ℕ) (rows : List Entry)
     (reads : ReadsAs s f marks end rows) (less : i < length marks) where
+  -- the block at hand
   abbrev pub here : List Entry
   here = get_or reads.as_file.blocks i []
 
+  -- it stands at its place
   pub at_place : LoadedAt reads.bytes marks end i here
   at_place = loaded_at reads.bytes marks end i rows reads.as_file less
 

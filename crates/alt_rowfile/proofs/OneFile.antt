@@ -11,6 +11,7 @@ use Rattle.std.specs.List.{AllByRecursion}
 use Rattle.alt_fields.proofs.Apart.{same_fronts, number-apart, field-apart, length-field, same_whole, all_map, IsApart}
 use Rattle.alt_rowfile.specs.Format.{Entry, entry_bytes, rows_bytes, block_bytes, front, rows_of, marks_from, tail_bytes, body, file_bytes, IsHeldEntry, IsHeldBlock, IsFileOf, IsRowFile}
 
+-- how many bytes an entry has
 pub length-entry : (e : Entry)
     → length (entry_bytes e) ≡ 16 + length e.0 + length (bytes_of_row e.1)
 unfolding entry_bytes
@@ -22,10 +23,12 @@ length-entry e =
       length-field (bytes_of_row e.1),
     )
 
+-- how many bytes a block has
 pub length-block : (b : List Entry) → length (block_bytes b) ≡ 8 + length (rows_bytes b)
 unfolding block_bytes
 length-block b = length-field (rows_bytes b)
 
+-- an entry's bytes end at one place, whatever follows them, and are those of one entry
 pub entry-apart : (a b : Entry) (x y : List ℕ) → IsHeldEntry a → IsHeldEntry b
     → entry_bytes a ++ x ≡ entry_bytes b ++ y → (a ≡ b) × (x ≡ y)
 unfolding entry_bytes
@@ -38,6 +41,7 @@ entry-apart a b x y h k e =
     let same = row-apart a.1 b.1 [] [] h.1 k.1 (ap (λ l. l ++ []) row.0) in
     ((λ i. (key.0 i, same.0 i)), row.1)
 
+-- an entry has bytes
 pub entry_some : (e : Entry) → 0 < length (entry_bytes e)
 entry_some e = omega (arith, length-entry e)
 
@@ -49,9 +53,11 @@ one_block a b h k e =
     (all_map IsHeldEntry (IsApart entry_bytes IsHeldEntry) a
     (λ x held y p q other same. entry-apart x y p q held other same) h) k e
 
+-- a block has bytes
 pub block_some : (b : List Entry) → 0 < length (block_bytes b)
 block_some b = omega (arith, length-block b)
 
+-- a block's bytes end at one place, whatever follows them, and are those of one block
 pub block-apart : (a b : List Entry) (x y : List ℕ) → IsHeldBlock a → IsHeldBlock b
     → block_bytes a ++ x ≡ block_bytes b ++ y → (a ≡ b) × (x ≡ y)
 unfolding block_bytes
@@ -84,6 +90,7 @@ pub tail_last : (f : List ℕ) (blocks : List (List Entry)) (rows at : ℕ)
     ≡ (f ++ tail_bytes (marks_from 8 blocks) rows at)
 tail_last f blocks rows at = refl
 
+-- bytes that end in the same eight bytes end in the same number
 same_ends : (p q : List ℕ) (m n : ℕ) → m < 2 ^ 64 → n < 2 ^ 64
     → p ++ to_be_bytes w64 m ≡ q ++ to_be_bytes w64 n → m ≡ n
 same_ends p q m n hm hn e =

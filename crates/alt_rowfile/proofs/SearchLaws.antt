@@ -18,12 +18,14 @@ use Rattle.alt_rowfile.proofs.LoadLaws.{split_at, length-marks, marks-append}
 
 -- ---- halving
 
+-- what is known between two marks: those before them aren't above the key, and those behind them are
 pub record Halves (marks : List Mark) (key : List ℕ) (low high : ℕ) : Type 0 where
   pub order : low ≤ high
   pub within : high ≤ length marks
   pub below : (k : ℕ) → low ≡ k + 1 → is_gt (key_cmp (key_at marks k) key) ≡ false
   pub above : high < length marks → is_gt (key_cmp (key_at marks high) key) ≡ true
 
+-- at first nothing is known
 pub halves_start : (marks : List Mark) (key : List ℕ) → Halves marks key 0 (length marks)
 halves_start marks key =
     record {
@@ -34,6 +36,7 @@ halves_start marks key =
       above = λ less. absurd (omega (arith, less));
     }
 
+-- where both meet, the search ends there
 pub halves_end : (marks : List Mark) (key : List ℕ) (low high : ℕ) → Halves marks key low high
     → high ≤ low → EndsAt marks key low
 halves_end marks key low high h done =
@@ -55,6 +58,7 @@ find_past x es q lower =
     let greater : key_cmp q x.0 ≡ Greater = turned_greater key_cmp key_total x.0 q lower in
     ap (λ (r : Ordering). cond (is_eq r) (Some x.1) (find key_cmp q es)) greater
 
+-- a key below one that isn't above another is below that
 pub at_or_above : (x y q : List ℕ) → key_cmp x y ≡ Less → is_gt (key_cmp y q) ≡ false
     → key_cmp x q ≡ Less
 at_or_above x y q lower up = by_cases (key_cmp y q) refl up
@@ -64,6 +68,7 @@ at_or_above x y q lower up = by_cases (key_cmp y q) refl up
     by_cases Equal is up = ap (key_cmp x) (sym (key_exact y q is)) ∙ lower
     by_cases Greater is up = absurd (let f : true ≡ false = up in cc f)
 
+-- the first of rising rows is below each one behind it
 pub first_below : (x : Entry) (xs : List Entry) (y : Entry) (ys : List Entry)
     → T (is_sorted key_cmp (x ∷ (xs ++ y ∷ ys))) → key_cmp x.0 y.0 ≡ Less
 first_below x [] y ys h = less _ (first _ _ (first _ _ h))
@@ -87,6 +92,7 @@ find_back [] ys q none = none
 find_back (x ∷ xs) ys q none =
     ap (cond (eq_by_cmp key_cmp q x.0) (Some x.1)) (find_back xs ys q none)
 
+-- where the first of rising rows is above a key, the key isn't among them
 pub find_above : (y : Entry) (ys : List Entry) (q : List ℕ) → T (is_sorted key_cmp (y ∷ ys))
     → is_gt (key_cmp y.0 q) ≡ true → find key_cmp q (y ∷ ys) ≡ None
 find_above y ys q h up =
@@ -103,6 +109,7 @@ find_above y ys q h up =
 
 -- ---- loops
 
+-- one row more is compared with the key
 pub find_more : (rows : List Entry) (i : ℕ) (x : Entry) (key : List ℕ) (b : Bool) → i < length rows
     → x ≡ get_or rows i x → b ≡ is_eq (key_cmp key x.0)
     → find key_cmp key (drop i rows) ≡ cond b (Some x.1) (find key_cmp key (drop (i + 1) rows))
@@ -128,10 +135,12 @@ key_is blocks i xs b ys is size =
     (get_or_at marks (8 + length (flat_map block_bytes xs), first_key b) rest (0, []) i
     (length-marks 8 xs ∙ size))
 
+-- a block has a first row
 pub open_block : (b : List Entry) → IsBlock b → (e : Entry) × (es : List Entry) × (b ≡ e ∷ es)
 open_block [] is = absurd (no_block [] is refl)
 open_block (e ∷ es) is = (e, es, refl)
 
+-- the rows behind others rise, where all do
 pub sorted_behind : (xs ys : List Entry) → T (is_sorted key_cmp (xs ++ ys))
     → T (is_sorted key_cmp ys)
 sorted_behind [] ys h = h
@@ -177,6 +186,7 @@ in_block xs b ys q block cut h low high =
     ∙ ap (λ (l : List Entry). find key_cmp q (l ++ rows_of ys)) (sym k.2)
     ∙ find_back b (rows_of ys) q behind
 
+-- the blocks behind others are cut as blocks have to be
 cut_behind : (xs ys : List (List Entry)) → AreBlocks (xs ++ ys) → AreBlocks ys
 cut_behind [] ys cut = cut
 cut_behind (x ∷ []) [] cut = tt
@@ -198,6 +208,7 @@ pub record AtBlock (blocks : List (List Entry)) (i : ℕ) (q : List ℕ) : Type 
   pub high : (y : List Entry) (more : List (List Entry)) → behind ≡ y ∷ more
       → is_gt (key_cmp (first_key y) q) ≡ true
 
+-- where the search ended, the key is in the block before, or nowhere
 pub at_block : (bytes : List ℕ) (marks : List Mark) (end n i : ℕ) (rows : List Entry)
     (is : FileAs bytes marks end rows) (q : List ℕ) → EndsAt marks q n → n ≡ i + 1
     → AtBlock is.blocks i q

@@ -47,6 +47,7 @@ module _ {A : Type 0} (p : A → Bool) where
       → filter p (xs ++ ys) ≡ ys
   filter_back xs ys h k = filter-append p xs ys ∙ (λ i. filter_none xs h i ++ filter_all ys k i)
 
+  -- where the test holds of all of a front and of none behind it, what passes is the front
   pub filter_front : (xs ys : List A) → AllByRecursion (λ x. p x ≡ true) xs
       → AllByRecursion (λ x. p x ≡ false) ys
       → filter p (xs ++ ys) ≡ xs
@@ -102,6 +103,7 @@ module _ (key : List ℕ) where
       (all_leads (IsFrom key) (λ e. p e ≡ false)
       (λ e b. ap (λ t. true && not t) (from_le e b)) back k))
 
+-- with no bounds each row is in the range
 all_true : (es : List Entry)
     → AllByRecursion (λ e. range_contains key_cmp Unbounded Unbounded e.0 ≡ true) es
 all_true [] = tt
@@ -112,6 +114,7 @@ pub all_forward : (es : List Entry) → list_from es None true ≡ es
 all_forward es =
     filter_all (λ (e : Entry). range_contains key_cmp Unbounded Unbounded e.0) es (all_true es)
 
+-- with no key all rows are given, from the last to the first
 pub all_backward : (es : List Entry) → list_from es None false ≡ reverse es
 all_backward es =
     ap reverse (filter_all (λ (e : Entry). range_contains key_cmp Unbounded Unbounded e.0) es
@@ -148,6 +151,7 @@ module _ (key : List ℕ) where
     pub below : AllByRecursion (IsBelow key) front
     pub from : AllByRecursion (IsFrom key) back
 
+  -- where a key cuts a block, it cuts all rows there
   pub cut_block : (blocks : List (List Entry)) (i n : ℕ) (at : AtBlock blocks i key)
       → CutsAt key at.here n
       → InTwo (rows_of blocks) (rows_of at.before ++ take n at.here)
@@ -242,6 +246,7 @@ module _ (s t : DiskState) (file : RowFile) (key : List ℕ) (rows : List Entry)
     (same : t.file file.file ≡ s.file file.file)
     (n i : ℕ) (ends : EndsAt file.marks.items key n) (place : n ≡ i + 1) (block held : List Entry)
     (loaded : block ≡ get_or r.as_file.blocks i []) where
+  -- upwards, what is left is the rest of the block and the blocks behind it
   pub sought_up : (forward : Bool) → forward ≡ true → IsCutFrom key forward block held
       → LeftAs t file forward n held (list_from rows (Some key) forward)
   sought_up true e cut =
@@ -249,6 +254,7 @@ module _ (s t : DiskState) (file : RowFile) (key : List ℕ) (rows : List Entry)
       (subst (λ b. CutsAt key b cut.0) loaded cut.1) held (cut.2 ∙ ap (drop cut.0) loaded)
   sought_up false e cut = absurd (false≢true e)
 
+  -- downwards, what is left is the front of the block and the blocks before it
   pub sought_down : (forward : Bool) → forward ≡ false → IsCutFrom key forward block held
       → LeftAs t file forward i held (list_from rows (Some key) forward)
   sought_down false e cut =
@@ -265,6 +271,7 @@ module _ (s t : DiskState) (file : RowFile) (key : List ℕ) (rows : List Entry)
   all_from = from_blocks key r.as_file.blocks r.as_file.file.cut r.as_file.file.rising
       (above_first r.bytes file.marks.items file.end n rows r.as_file key ends none)
 
+  -- upwards all rows are left
   pub sought_all : LeftAs t file true 0 [] (list_from rows (Some key) true)
   sought_all = record {
     all = rows;
@@ -274,6 +281,7 @@ module _ (s t : DiskState) (file : RowFile) (key : List ℕ) (rows : List Entry)
         ∙ cut_forward key [] (rows_of r.as_file.blocks) tt all_from;
   }
 
+  -- downwards none is
   pub sought_none : LeftAs t file false 0 [] (list_from rows (Some key) false)
   sought_none = record {
     all = rows;
@@ -283,6 +291,7 @@ module _ (s t : DiskState) (file : RowFile) (key : List ℕ) (rows : List Entry)
         ∙ cut_backward key [] (rows_of r.as_file.blocks) tt all_from;
   }
 
+  -- both, with nothing in hand
   pub sought_first : (forward : Bool) (held : List Entry) → held ≡ []
       → LeftAs t file forward 0 held (list_from rows (Some key) forward)
   sought_first true held e =
@@ -293,10 +302,12 @@ module _ (s t : DiskState) (file : RowFile) (key : List ℕ) (rows : List Entry)
 -- with no key all is left
 module _ (s : DiskState) (file : RowFile) (rows : List Entry)
     (r : ReadsAs s file.file file.marks.items file.end rows) where
+  -- upwards from the first block
   pub left_forward : LeftAs s file true 0 [] (list_from rows None true)
   left_forward =
       record { all = rows; reads = r; within = omega arith; is = all_forward rows ∙ r.as_file.are }
 
+  -- downwards from the last block
   pub left_backward : (n : ℕ) → n ≡ length file.marks.items
       → LeftAs s file false n [] (list_from rows None false)
   left_backward n is = record {
@@ -309,12 +320,14 @@ module _ (s : DiskState) (file : RowFile) (rows : List Entry)
         (omega (arith, is, count_blocks s file.file file.marks.items file.end rows r))));
   }
 
+  -- a walk that goes up, with nothing in hand
   pub left_up : (forward : Bool) → forward ≡ true → (held : List Entry) → held ≡ []
       → LeftAs s file forward 0 held (list_from rows None forward)
   left_up true e held none =
       subst (λ h. LeftAs s file true 0 h (list_from rows None true)) (sym none) left_forward
   left_up false e held none = absurd (false≢true e)
 
+  -- a walk that goes down, with nothing in hand
   pub left_down : (forward : Bool) → forward ≡ false → (held : List Entry) → held ≡ [] → (n : ℕ)
       → n ≡ length file.marks.items → LeftAs s file forward n held (list_from rows None forward)
   left_down false e held none n is =

@@ -7,10 +7,10 @@ use Rattle.std.proofs.lemmas.Bool.{false≢true}
 use Rattle.alt_disk.specs.declared.disk.DiskFault.{DiskFault}
 use Rattle.alt_disk.specs.declared.disk.DiskFault.TheVariants.{Failed, NoMemory}
 use Rattle.alt_disk.specs.Disk.{DiskState, answered, Call, Written, Synced, contents, bytes_or_none, overwritten}
-use Rattle.alt_disk.specs.Runs.{Run, RunSoFar, Spans}
+use Rattle.alt_disk.specs.Runs.{Run, Spans}
 use Rattle.alt_cells.specs.Walks.{Anything as All}
 use Rattle.alt_rowfile.specs.Writing.{itself}
-use Rattle.alt_disk.proofs.Runs.{begun, started, run_spans, after_call, after_sync}
+use Rattle.alt_disk.proofs.Runs.{RunSoFar, begun, started, run_spans, after_call, after_sync}
 use Rattle.alt_rowfile.specs.Sinks.{Anything, Lasts}
 
 -- bytes put at the end
@@ -22,12 +22,14 @@ put_end old bytes at is =
     drop_all (at + length bytes) old (omega (arith, is)) in
     (λ i. front i ++ bytes ++ back i) ∙ append-nil (old ++ bytes)
 
+-- one write leaves what a run of calls on the file may
 pub wrote_run : (s0 s1 : DiskState) (f at : ℕ) (bytes : List ℕ) (ok : Bool) → Call s0 s1 ok
     → Written s0 s1 f at bytes ok → RunSoFar s0 s1 f Anything
 wrote_run s0 s1 f at bytes ok call written =
     after_call s0 s0 s1 f Anything ok (begun s0 f Anything (λ left fits. tt)) call written.others
     (λ left fits. tt)
 
+-- a sync behind a run of them does so too
 pub synced_run : (s0 s1 s2 : DiskState) (f : ℕ) (ok : Bool) → RunSoFar s0 s1 f Anything
     → Call s1 s2 ok → Synced s1 s2 f ok → RunSoFar s0 s2 f Anything
 synced_run s0 s1 s2 f ok so_far call synced =
@@ -41,6 +43,7 @@ put_file s0 s1 f at done bytes is place written =
     ∙ ap (λ (l : List ℕ). Some l) (ap (λ (l : List ℕ). overwritten l at bytes) is
     ∙ put_end done bytes at place)
 
+-- what is put at the end of a file stands behind what it had
 pub put_contents : (s0 s1 : DiskState) (f at : ℕ) (done bytes : List ℕ) → contents s0 f ≡ done
     → at ≡ length done → Written s0 s1 f at bytes true → contents s1 f ≡ done ++ bytes
 put_contents s0 s1 f at done bytes is place written =
@@ -60,6 +63,7 @@ pub writer_spans : (s t : DiskState) (f : ℕ) → Run s t f Anything
 writer_spans s t f run =
     run_spans s t f Anything (λ g. IsTrue (g == f)) All run (itself f) (λ t image here others. tt)
 
+-- where no call is made the other files stay
 pub none_spans : (s : DiskState) (f : ℕ) → Spans s s (λ g. IsTrue (g == f)) All
 none_spans s f = writer_spans s s f (started s f Anything (λ left fits. tt))
 

@@ -14,6 +14,7 @@ use Rattle.alt_disk.specs.Runs.{Quiet}
 pub same_bytes : (a b : DiskState) (f : ℕ) → Quiet a b → contents b f ≡ contents a f
 same_bytes a b f quiet = ap bytes_or_none (quiet.file f)
 
+-- a disk that goes on tells what it told
 pub told_on : (a b : DiskState) → Goes a b → IsTrue a.tells → IsTrue b.tells
 told_on a b goes told = subst (λ (v : Bool). IsTrue v) (sym goes.tells) told
 
@@ -21,6 +22,7 @@ told_on a b goes told = subst (λ (v : Bool). IsTrue v) (sym goes.tells) told
 pub ok_is_none : {T E : Type 0} (x : T) (e : E) → IsErrOf {T = T} {E = E} (Ok x) e → ⊥
 ok_is_none x e is = cc is
 
+-- equal numbers are told to be equal
 same_test : (m n : ℕ) → m ≡ n → (m == n) ≡ true
 same_test m n e = grind arith
 
@@ -53,6 +55,7 @@ module _ (bytes : List ℕ) where
       sym (take-take n (end - at) (drop at bytes) (omega (arith, within)))
       ∙ ap (take n) (up_to at (end - at) end (omega (arith, within)))
 
+  -- the bytes from one place up to another are as many as lie between them
   pub length_up_to : (at end : ℕ) → end ≤ length bytes
       → length (drop at (take end bytes)) ≡ end - at
   length_up_to at end within =

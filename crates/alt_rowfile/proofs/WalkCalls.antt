@@ -26,6 +26,7 @@ walk_keeps s t w v same goes quiet = record {
 }
 
 module _ {T : Type 0} where
+  -- a fault that comes of a failed call has its cause
   cause_of : (s t : DiskState) (fault : SourceFault)
       → (IsErrOf {T = T} (Err fault) Failed → Rose s.faults t.faults) → HasCause s t fault
   cause_of s t (Damaged f at) c = tt

@@ -32,6 +32,7 @@ pub none_rising : (blocks : List (List Entry)) (n : ℕ) → length blocks ≤ n
     → rows_ahead true n blocks ≡ []
 none_rising blocks n past = ap rows_of (drop_all n blocks past)
 
+-- downwards nothing is ahead of the first block
 pub none_falling : (blocks : List (List Entry)) (n : ℕ) → n ≡ 0 → rows_ahead false n blocks ≡ []
 none_falling blocks n none = ap (λ (k : ℕ). reverse (rows_of (take k blocks))) none
 
@@ -47,14 +48,17 @@ abbrev pub reads_at : (s t : DiskState) (f : ℕ) (marks : List Mark) (end : ℕ
 reads_at s t f marks end rows same r =
     record { bytes = r.bytes; there = same ∙ r.there; as_file = r.as_file }
 
+-- a list of no length is empty
 nil_of : (l : List Entry) → length l ≡ 0 → l ≡ []
 nil_of [] e = refl
 nil_of (x ∷ l) e = absurd (omega (arith, e))
 
+-- there are as many marks as blocks
 pub count_blocks : (s : DiskState) (f : ℕ) (marks : List Mark) (end : ℕ) (rows : List Entry)
     (r : ReadsAs s f marks end rows) → length marks ≡ length r.as_file.blocks
 count_blocks s f marks end rows r = ap length r.as_file.marks_are ∙ length-marks 8 r.as_file.blocks
 
+-- no block is empty
 some_block : (s : DiskState) (f : ℕ) (marks : List Mark) (end : ℕ) (rows : List Entry)
     (r : ReadsAs s f marks end rows) (i : ℕ) → i < length marks → get_or r.as_file.blocks i [] ≡ []
     → ⊥
@@ -79,6 +83,7 @@ module _ (s t : DiskState) (file : RowFile) (forward : Bool) (next : ℕ) (held 
       ∙ none_rising l.reads.as_file.blocks next
       (omega (arith, past, count_blocks s file.file file.marks.items file.end l.all l.reads))
 
+  -- downwards, with nothing in hand and nothing ahead, nothing is left
   pub at_end_falling : forward ≡ false → length held ≡ 0 → next ≡ 0 → rows ≡ []
   at_end_falling down none first =
       l.is ∙ ap (λ (h : List Entry). reverse h ++ rows_ahead forward next l.reads.as_file.blocks)
@@ -112,6 +117,7 @@ module _ (s t : DiskState) (file : RowFile) (forward : Bool) (next : ℕ) (held 
             ∙ ap reverse empty))),
       )
 
+  -- downwards, the block before the next one is taken in hand
   pub filled_falling : forward ≡ false → length held ≡ 0 → (m : ℕ) → next ≡ m + 1
       → m < length file.marks.items → (new : List Entry) → new ≡ get_or l.reads.as_file.blocks m []
       → LeftAs t file forward m new rows × (new ≡ [] → rows ≡ [])
@@ -146,6 +152,7 @@ popped s file forward next held rest rows x l is =
     subst (λ (r : List Entry). Gives (LeftAs s file forward next rest) r (Some x)) (sym whole)
     (refl, record { all = l.all; reads = l.reads; within = l.within; is = refl })
 
+-- with nothing in hand and nothing left, a walk gives nothing
 pub popped_none : (s : DiskState) (file : RowFile) (forward : Bool) (next : ℕ)
     (held rest rows : List Entry) → LeftAs s file forward next held rows → held ≡ [] → rest ≡ []
     → rows ≡ [] → Gives (LeftAs s file forward next rest) rows None
@@ -160,6 +167,7 @@ popped_none s file forward next held rest rows l empty none end =
           (empty ∙ sym none);
     })
 
+-- a walk gives the last row that it has in hand, or nothing where none is left
 pub popped_any : (s : DiskState) (file : RowFile) (forward : Bool) (next : ℕ)
     (held rest rows : List Entry) (o : Option Entry) (n m : ℕ)
     → LeftAs s file forward next held rows → (held ≡ [] → rows ≡ []) → n ≡ length held

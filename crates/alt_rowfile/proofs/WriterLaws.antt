@@ -19,26 +19,31 @@ use Rattle.alt_rowfile.specs.Writing.{piece, IsOpen, WritesAs}
 use Rattle.alt_rowfile.specs.declared.sink.Sink.{Sink}
 use Rattle.alt_rowfile.proofs.OneFile.{length-entry}
 
+-- the bytes of rows with one more are theirs, and its own behind them
 pub rows_bytes-push : (rows : List Entry) (e : Entry)
     → rows_bytes (rows ++ e ∷ []) ≡ rows_bytes rows ++ entry_bytes e
 rows_bytes-push rows e = flat_map-append entry_bytes rows (e ∷ [])
     ∙ ap (λ (l : List ℕ). rows_bytes rows ++ l) (append-nil (entry_bytes e))
 
+-- the rows of blocks with one more are theirs, and its own behind them
 pub rows_of-push : (blocks : List (List Entry)) (b : List Entry)
     → rows_of (blocks ++ b ∷ []) ≡ rows_of blocks ++ b
 rows_of-push blocks b = flat_map-append (λ (x : List Entry). x) blocks (b ∷ [])
     ∙ ap (λ (l : List Entry). rows_of blocks ++ l) (append-nil b)
 
+-- the bytes of blocks with one more are theirs, and its own behind them
 pub blocks_bytes-push : (blocks : List (List Entry)) (b : List Entry)
     → flat_map block_bytes (blocks ++ b ∷ []) ≡ flat_map block_bytes blocks ++ block_bytes b
 blocks_bytes-push blocks b = flat_map-append block_bytes blocks (b ∷ [])
     ∙ ap (λ (l : List ℕ). flat_map block_bytes blocks ++ l) (append-nil (block_bytes b))
 
+-- a file before its index, with one block more, has that block behind what it had
 pub front-push : (blocks : List (List Entry)) (b : List Entry)
     → front (blocks ++ b ∷ []) ≡ front blocks ++ block_bytes b
 front-push blocks b = ap (λ (l : List ℕ). header ++ l) (blocks_bytes-push blocks b)
     ∙ sym (append_assoc header (flat_map block_bytes blocks) (block_bytes b))
 
+-- the header has eight bytes, and the blocks stand behind it
 pub length-front : (blocks : List (List Entry))
     → length (front blocks) ≡ 8 + length (flat_map block_bytes blocks)
 unfolding header
@@ -63,14 +68,17 @@ pub piece-push : (waiting : List Entry) (e : Entry)
 piece-push [] e = refl
 piece-push (x ∷ waiting) e = refl
 
+-- the first key of an open block stays with one row more
 first-push : (waiting : List Entry) (e x : Entry) → first_key ((x ∷ waiting) ++ e ∷ []) ≡ x.0
 first-push waiting e x = refl
 
+-- an open block that isn't full stays open with one row more
 pub open_push : (waiting : List Entry) (e : Entry) → length (rows_bytes waiting) < 4096
     → IsOpen (waiting ++ e ∷ [])
 open_push [] e short = record { rows = []; last = e; is = refl; short = short }
 open_push (x ∷ waiting) e short = record { rows = x ∷ waiting; last = e; is = refl; short = short }
 
+-- with one row more it is a block
 pub block_push : (waiting : List Entry) (e : Entry) → length (rows_bytes waiting) < 4096
     → IsBlock (waiting ++ e ∷ [])
 block_push waiting e short = record { rows = waiting; last = e; is = refl; short = short }
@@ -81,6 +89,7 @@ rows_none [] e = refl
 rows_none (x ∷ rows) e =
     absurd (omega (arith, e, length-append (entry_bytes x) (rows_bytes rows), length-entry x))
 
+-- rows of which there are some have bytes
 pub rows_some : (x : Entry) (rows : List Entry) → 0 < length (rows_bytes (x ∷ rows))
 rows_some x rows = omega (arith, length-append (entry_bytes x) (rows_bytes rows), length-entry x)
 
@@ -110,25 +119,29 @@ pub row_more : (s : DiskState) (sink : Sink) (block new_block : List ℕ)
     → (length block ≡ 0 → new_marks ≡ marks ++ (sink.at, e.0) ∷ [])
     → (0 < length block → new_marks ≡ marks) → new_count ≡ count + 1
     → WritesAs s sink new_block new_marks new_count closed (waiting ++ e ∷ [])
-row_more s sink block new_block marks new_marks count new_count closed waiting e w short rising held bytes set kept counted = record {
-  put = w.put;
-  blocks = w.blocks;
-  held = w.held;
-  opens = open_push waiting e short;
-  open_held = all_append IsHeldEntry waiting (e ∷ []) w.open_held (held, tt);
-  rising = rising;
-  bytes = bytes ∙ ap (λ (l : List ℕ). l ++ entry_bytes e) w.bytes ∙ sym (rows_bytes-push waiting e);
-  marks_are = marks_more closed waiting e sink.at block marks new_marks w.put.at w.bytes w.marks_are set kept;
-  count_is = omega (
-    arith,
-    counted,
-    w.count_is,
-    length-append (rows_of closed) (waiting ++ e ∷ []),
-    length-append waiting (e ∷ []),
-    length-append (rows_of closed) waiting,
-  );
-}
+row_more s sink block new_block marks new_marks count new_count closed waiting e w short rising held
+    bytes set kept counted = record {
+      put = w.put;
+      blocks = w.blocks;
+      held = w.held;
+      opens = open_push waiting e short;
+      open_held = all_append IsHeldEntry waiting (e ∷ []) w.open_held (held, tt);
+      rising = rising;
+      bytes = bytes ∙ ap (λ (l : List ℕ). l ++ entry_bytes e) w.bytes
+          ∙ sym (rows_bytes-push waiting e);
+      marks_are = marks_more closed waiting e sink.at block marks new_marks w.put.at w.bytes
+          w.marks_are set kept;
+      count_is = omega (
+        arith,
+        counted,
+        w.count_is,
+        length-append (rows_of closed) (waiting ++ e ∷ []),
+        length-append waiting (e ∷ []),
+        length-append (rows_of closed) waiting,
+      );
+    }
 
+-- a block that has a row is a piece
 piece_some : (waiting : List Entry) → IsBlock waiting → piece waiting ≡ waiting ∷ []
 piece_some [] b = absurd (omega (arith, ap length b.is, length-append b.rows (b.last ∷ [])))
 piece_some (x ∷ waiting) b = refl
@@ -141,7 +154,8 @@ pub block_more : (s t : DiskState) (sink new_sink : Sink) (block written cleared
     → ((done : List ℕ) → IsPut s sink done → IsPut t new_sink (done ++ written)) → cleared ≡ []
     → WritesAs t new_sink cleared marks count (closed ++ waiting ∷ []) []
 unfolding block_bytes
-block_more s t sink new_sink block written cleared marks count closed waiting w is small bytes puts none =
+block_more s t sink new_sink block written cleared marks count closed waiting w is small
+    bytes puts none =
     let here : written ≡ block_bytes waiting = bytes ∙ ap field w.bytes in
     let rows : rows_of (closed ++ waiting ∷ []) ++ [] ≡ rows_of closed ++ waiting =
     append-nil (rows_of (closed ++ waiting ∷ [])) ∙ rows_of-push closed waiting in
@@ -171,6 +185,7 @@ are_blocks (b ∷ []) (x ∷ waiting) blocks full opens = (blocks.0, full.0, ope
 are_blocks (b ∷ c ∷ closed) waiting blocks full opens =
     (blocks.0, full.0, are_blocks (c ∷ closed) waiting blocks.1 full.1 opens)
 
+-- the rows of the open block stand behind those of the others
 pub rows_of-piece : (closed : List (List Entry)) (waiting : List Entry)
     → rows_of (closed ++ piece waiting) ≡ rows_of closed ++ waiting
 rows_of-piece closed [] = ap rows_of (append-nil closed) ∙ sym (append-nil (rows_of closed))
@@ -188,6 +203,7 @@ nothing_waits s t sink block marks count closed waiting w none =
     subst (λ (c : List (List Entry)). WritesAs s sink block marks count c []) (sym same)
     (subst (WritesAs s sink block marks count closed) empty w)
 
+-- where the open block has bytes it has a row
 pub something_waits : (s : DiskState) (sink : Sink) (block : List ℕ) (marks : List Mark) (count : ℕ)
     (closed : List (List Entry)) (waiting : List Entry)
     → WritesAs s sink block marks count closed waiting → 0 < length block → IsBlock waiting
@@ -237,6 +253,7 @@ stands_after s t sink block tail marks count closed w cut small is lasts =
           ((front closed ++ tail) ++ sha256 (front closed ++ tail)) lasts.file lasts.kept;
     }
 
+-- a row put down in two fields is its entry
 pub two_put : (block one two key row_bytes : List ℕ) (row : RowCells) → row_bytes ≡ bytes_of_row row
     → one ≡ block ++ field key → two ≡ one ++ field row_bytes
     → two ≡ block ++ entry_bytes (key, row)
@@ -246,14 +263,18 @@ two_put block one two key row_bytes row is first then =
     ∙ append_assoc block (field key) (field row_bytes)
     ∙ ap (λ (r : List ℕ). block ++ (field key ++ field r)) is
 
+-- a number that is 0 is told to be
 pub is_zero : (n : ℕ) → n ≡ 0 → (n == 0) ≡ true
 is_zero n e = grind arith
 
+-- a number above 0 isn't
 pub is_some : (n : ℕ) → 0 < n → (n == 0) ≡ false
 is_some n e = grind arith
 
+-- a number that is told to be 0 is
 pub zero_from : (n : ℕ) → true ≡ (n == 0) → n ≡ 0
 zero_from n e = grind arith
 
+-- a number that isn't told so is above 0
 pub some_from : (n : ℕ) → false ≡ (n == 0) → 0 < n
 some_from n e = grind arith

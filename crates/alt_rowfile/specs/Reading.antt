@@ -17,6 +17,7 @@ ReadsOnce old new f at most = (new ≡ old) ⊎ ReadIs old new f at most
 abbrev pub place_of : RowFile → ℕ → ℕ
 place_of file i = place_at file.marks.items i
 
+-- the length of a block of a file in hand, up to the next one
 abbrev pub length_of : RowFile → ℕ → ℕ
 length_of file i = next_place file.marks.items file.end i - place_of file i
 

@@ -50,6 +50,7 @@ walk_holds s walk rows = Reads s walk.file.now (entries rows)
 abbrev pub walk_left : DiskState → RowFileWalk → RowList → Type 0
 walk_left s walk rows = LeftAs s walk.file.now walk.forward walk.next walk.held.items rows
 
+-- a number equals itself
 pub itself : (n : ℕ) → (n == n) ≡ true
 itself n = grind arith
 
@@ -64,10 +65,12 @@ reads_on old new file rows same r =
       as_file = r.as_file;
     }
 
+-- the rows of a walk last while its file reads the same
 pub walk_holds_on : (old new : DiskState) (walk : RowFileWalk) (rows : RowMap)
     → SameFiles (walk_reads walk) old new → walk_holds old walk rows → walk_holds new walk rows
 walk_holds_on old new walk rows same r = reads_on old new walk.file.now (entries rows) same r
 
+-- and so do those that are left of it
 pub walk_left_on : (old new : DiskState) (walk : RowFileWalk) (rows : RowList)
     → SameFiles (walk_reads walk) old new → walk_left old walk rows → walk_left new walk rows
 walk_left_on old new walk rows same l =

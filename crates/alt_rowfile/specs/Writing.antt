@@ -38,6 +38,7 @@ pub record WritesAs (s : DiskState) (sink : Sink) (block : List ℕ) (marks : Li
   pub marks_are : marks ≡ marks_from 8 (closed ++ piece waiting)
   pub count_is : count ≡ length (rows_of closed ++ waiting)
 
+-- the same of a writer, by its parts
 abbrev pub WritesTo : DiskState → RowFileWriter → List (List Entry) → List Entry → Type 0
 WritesTo s w closed waiting = WritesAs s w.sink w.block.items w.marks.items w.count closed waiting
 
@@ -54,6 +55,7 @@ pub record Writes (s : DiskState) (w : RowFileWriter) (rows : List Entry) : Type
 abbrev pub writer_writes : RowFileWriter → ℕ → Bool
 writer_writes w f = f == w.sink.file
 
+-- a number equals itself
 pub itself : (n : ℕ) → (n == n) ≡ true
 itself n = grind arith
 

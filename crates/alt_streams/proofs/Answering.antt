@@ -53,11 +53,13 @@ before_name (c ∷ cs) e = refl
 
 module _ (s : State) (valid : IsValid s) (catalog : Texts TableSchema)
     (same : descriptions s.tables ≡ catalog) where
+  -- each description stands at its own name
   pub are_named : AreNamed catalog
   are_named name d at =
       let found = table_found s catalog same name d at in
       ap (λ (x : TableSchema). x.name) (sym found.2) ∙ (valid.tables name found.0 found.1).named
 
+  -- the name of a table is one that a table can have
   has_name : (name : List ℕ) (d : TableSchema) → finite.get catalog name ≡ Some d
       → is_name d.name ≡ true
   has_name name d at =
@@ -78,19 +80,23 @@ module _ (s : State) (valid : IsValid s) (catalog : Texts TableSchema)
       → listed s ms ≡ streams_after (start_name start) (name_given ms) catalog
   listed-streams ms start is = ap (filter (chosen ms)) all_known
       ∙ chosen_alike (chosen ms) (is_listed (start_name start) (name_given ms)) (entries catalog)
-      (entries_sorted catalog) (λ j d at. ap (λ b. is_some d.view && (b && is_named (name_given ms) d))
+      (entries_sorted catalog)
+      (λ j d at. ap (λ b. is_some d.view && (b && is_named (name_given ms) d))
       (by d (has_name j d (get-entries catalog j ∙ at))
       (option_and_then (table_of_stream s) (start_of ms)) start is))
     where
-      by : (d : TableSchema) → is_name d.name ≡ true → (o : Option Table) (start : Option TableSchema)
+      by : (d : TableSchema) → is_name d.name ≡ true
+          → (o : Option Table) (start : Option TableSchema)
           → option_map (λ (t : Table). t.description) o ≡ start
           → option_map_or (λ (t : Table). is_lt (text_order t.description.name d.name)) o true
           ≡ is_lt (text_order (option_map_or (λ (x : TableSchema). x.name) start []) d.name)
       by d spelled None start e = sym (before_name d.name spelled)
-          ∙ ap (λ (p : Option TableSchema). is_lt (text_order (option_map_or (λ (x : TableSchema). x.name) p [])
+          ∙ ap (λ (p : Option TableSchema). is_lt
+          (text_order (option_map_or (λ (x : TableSchema). x.name) p [])
           d.name)) e
       by d spelled (Some t) start e =
-          ap (λ (p : Option TableSchema). is_lt (text_order (option_map_or (λ (x : TableSchema). x.name) p [])
+          ap (λ (p : Option TableSchema). is_lt
+          (text_order (option_map_or (λ (x : TableSchema). x.name) p [])
           d.name)) e
 
   -- where nothing refuses it, it answers the page of those
@@ -102,6 +108,7 @@ module _ (s : State) (valid : IsValid s) (catalog : Texts TableSchema)
   list-page ms start free is = passed (refusals s ms) _ free
       ∙ ap (λ ds. says (streams_answer (page_length ms) ds)) (listed-streams ms start is)
 
+-- a ListStreams that its body refuses is refused so
 pub list-refused : (s : State) (ms : Members) (r : Refusal)
     → first_answer (refusals s ms) ≡ Some (refused r) → list_streams s ms ≡ refuses r
 unfolding list_streams
@@ -109,6 +116,7 @@ list-refused s ms r e = stopped (refusals s ms) _ (refused r) e
 
 -- ---- the request stops
 
+-- one that stops for what is asked changes nothing, and is answered so
 pub asked_stops : (tables : Tables) (disk : DiskState) (now : State → Type 0) (ms : Members)
     (stop : Stop) → IsAsked (catalog_of tables) ms (Err stop)
     → ((s : State) → Stands disk tables s → now s)
@@ -119,6 +127,7 @@ asked_stops tables disk now ms (Refused r) h stays =
 asked_stops tables disk now ms (Fault f) h stays =
     faulted (λ s. list_streams s ms) (Stands disk tables) now f h stays
 
+-- nor did the device fail then
 pub asked_unfailed : (P : Type 0) (tables : Tables) (ms : Members) (stop : Stop)
     → IsAsked (catalog_of tables) ms (Err stop) → IfFailed (Err stop) P
 asked_unfailed P tables ms (Refused r) h = tt
@@ -126,6 +135,7 @@ asked_unfailed P tables ms (Fault f) h = unfailed_fault f P h
 
 -- ---- the page
 
+-- the streams of a page, told with the last where there are more, are the page of all streams
 pub page-answered : (more : Bool) (ds all : List TableSchema) (most : ℕ) → ds ≡ take most all
     → more ≡ nat_lt most (length all) → page_answer more ds ≡ streams_answer most all
 page-answered more ds all most e f = λ i. page_answer (f i) (e i)
@@ -145,6 +155,7 @@ members_plain : (o : Option TableSchema) (ds : List TableSchema)
 members_plain None ds = or_false _ (streams_plain ds)
 members_plain (Some d) ds = or_false _ (streams_plain ds)
 
+-- a reply that lists streams has no float in it
 pub reply_plain : {E : Type 0} (r : Result Reply E) (more : Bool) (ds : List TableSchema)
     → IfOk r (λ reply. answer_of reply ≡ page_answer more ds)
     → IfOk r (λ reply. has_float (view reply.body) ≡ false)
@@ -152,6 +163,7 @@ reply_plain (Ok reply) more ds is =
     ap (λ (a : Answer). has_float a.body) is ∙ members_plain (last_of more ds) ds
 reply_plain (Err e) more ds is = tt
 
+-- a reply that has one answer has every answer that is equal to it
 pub page_said : {E : Type 0} (r : Result Reply E) (a b : Answer) → a ≡ b
     → IfOk r (λ reply. answer_of reply ≡ a) → IfOk r (λ reply. answer_of reply ≡ b)
 page_said (Ok reply) a b e h = h ∙ e
@@ -159,6 +171,7 @@ page_said (Err x) a b e h = tt
 
 -- ---- what each stream shows
 
+-- what is shown of each as it is mapped is what is shown of the mapped list
 pub items_by-each : {A B : Type 0} (shown : B → Data) (f : A → B) (xs : List A)
     → items_by (λ x. shown (f x)) xs ≡ items_by shown (map f xs)
 items_by-each shown f [] = refl

@@ -19,6 +19,7 @@ use Rattle.alt_schema.specs.declared.schema.View.{View}
 use Rattle.alt_shape.specs.Refusals.{refused}
 use Rattle.alt_shape.specs.declared.refusal.Refusal.{Refusal}
 
+-- a DescribeStream that its body refuses is refused so
 pub describe-refused : (s : State) (ms : Members) (r : Refusal)
     → first_answer (of_body ms) ≡ Some (refused r) → describe_stream s ms ≡ refuses r
 unfolding describe_stream
@@ -37,7 +38,8 @@ describe-on ms arn is free s = passed (of_body ms) _ free
 neither : (a b : Bool) → a ≡ false → b ≡ false → (a || b) ≡ false
 neither a b e f = (λ i. e i || f i)
 
-keys_plain : (hash : KeyAttr) (range : Option KeyAttr) → has_float (key_schema_json hash range) ≡ false
+keys_plain : (hash : KeyAttr) (range : Option KeyAttr)
+    → has_float (key_schema_json hash range) ≡ false
 keys_plain hash None = refl
 keys_plain hash (Some k) = refl
 
@@ -56,7 +58,9 @@ stream_plain : (d : TableSchema) (ms : Members) (shows : View)
 stream_plain d ms shows = neither _ _ (keys_plain d.hash d.range)
     (neither _ false (shards_plain d ms) refl)
 
-pub written_plain : {E : Type 0} (r : Result Value E) (d : TableSchema) (ms : Members) (shows : View)
+-- a description that was written has no float in it
+pub written_plain : {E : Type 0} (r : Result Value E) (d : TableSchema) (ms : Members)
+    (shows : View)
     → IfOk r (λ v. view v ≡ stream_json d ms shows) → IfOk r (λ v. has_float (view v) ≡ false)
 written_plain (Ok v) d ms shows is = ap has_float is ∙ stream_plain d ms shows
 written_plain (Err e) d ms shows is = tt

@@ -13,10 +13,12 @@ last_from : {A : Type 0} (x : A) (xs : List A)
 last_from x [] = refl
 last_from x (y ∷ ys) = last_from y ys
 
+-- the last of a list stands at its length less one
 pub last_get : {A : Type 0} (xs : List A) → slice_get xs (length xs - 1) ≡ last_or None xs
 last_get [] = refl
 last_get (x ∷ xs) = ap (slice_get (x ∷ xs)) (omega arith) ∙ sym (last_from x xs)
 
+-- the last of a mapped list is the last of the list, mapped
 pub last_mapped : {A B : Type 0} (f : A → B) (xs : List A)
     → option_map f (slice_get xs (length xs - 1)) ≡ last_or None (map f xs)
 last_mapped f xs = sym (slice_get-map f xs (length xs - 1))
@@ -27,12 +29,14 @@ pub data Ends {A : Type 0} (most : ℕ) (xs rest : List A) : Type 0 where
   is_full : length xs ≡ most → Ends most xs rest
   is_last : rest ≡ [] → length xs ≤ most → Ends most xs rest
 
+-- taking at least as many as there are takes all
 take_all : {A : Type 0} (xs : List A) (i : ℕ) → length xs ≤ i → take i (xs ++ []) ≡ xs
 take_all [] zero h = refl
 take_all [] (suc i) h = refl
 take_all (x ∷ xs) zero h = absurd (omega arith)
 take_all (x ∷ xs) (suc i) h = ap (λ zs. x ∷ zs) (take_all xs i (omega arith))
 
+-- a page that ends so is the first of all, as many as it takes
 pub page_taken : {A : Type 0} (most : ℕ) (xs rest all : List A) → Ends most xs rest
     → xs ++ rest ≡ all → xs ≡ take most all
 page_taken most xs rest all (is_full l) e = sym
@@ -40,6 +44,7 @@ page_taken most xs rest all (is_full l) e = sym
 page_taken most xs rest all (is_last n l) e =
     sym (ap (take most) (sym e ∙ ap (λ ys. xs ++ ys) n) ∙ take_all xs most l)
 
+-- a number below another is told to be so
 lt-true : (m n : ℕ) → suc m ≤ n → true ≡ nat_lt m n
 lt-true m n h = sym (lt-ltb m n h)
 

@@ -23,6 +23,7 @@ one_key q k e = text_apart q k (equal _ e)
 itself : (q : List ℕ) → eq_by_cmp text_order q q ≡ true
 itself q = ap is_eq (tied_itself text_total q)
 
+-- values that are equal as options are equal
 pub some : {A : Type 0} (x y : A) → Some x ≡ Some y → x ≡ y
 some x y e = ap (λ o. unwrap_or o x) e
 

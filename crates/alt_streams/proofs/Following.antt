@@ -24,6 +24,7 @@ keys_beside : {X : Type 0} (es : List (List ℕ × X))
 keys_beside [] = refl
 keys_beside (e ∷ es) = ap (λ ks. (e.0, e.0) ∷ ks) (keys_beside es)
 
+-- behind a name that follows another there are fewer names
 pub names_less : {X : Type 0} (last k : List ℕ) (m : Texts X)
     → Some k ≡ slice_get (names_after last m) 0
     → length (names_after k m) < length (names_after last m)
@@ -33,7 +34,8 @@ names_less last k m h =
     (sorted-each (λ e. e.0) (entries m) (entries_sorted m)) in
     let next : names_after last m ≡ k ∷ names_after k m =
     chosen_next (λ (k : List ℕ). k) (λ b k. b) (λ k. refl) last k (map (λ e. e.0) (entries m)) rises
-    (find-filter (λ (n : List ℕ). is_lt (text_order last n)) (map (λ e. e.0) (entries m)) ∙ sym h) in
+    (find-filter (λ (n : List ℕ). is_lt (text_order last n)) (map (λ e. e.0) (entries m))
+    ∙ sym h) in
     omega (arith, ap length next)
 
 -- ---- the streams
@@ -89,12 +91,14 @@ module _ (catalog : Texts TableSchema) (named : AreNamed catalog) where
 
   -- ---- a page
 
+  -- the stream that is found behind a name is the next one
   pub streams_next : (last : List ℕ) (name : Option (List ℕ)) (d : TableSchema)
       → Some d ≡ find (is_listed last name) ds
       → streams_after last name catalog ≡ d ∷ streams_after d.name name catalog
   streams_next last name d e = chosen_next (λ (d : TableSchema). d.name) (test name) (off name)
       last d ds rises (sym e)
 
+  -- where none is found there are no more
   pub streams_none : (last : List ℕ) (name : Option (List ℕ)) → None ≡ find (is_listed last name) ds
       → streams_after last name catalog ≡ []
   streams_none last name e = by (streams_after last name catalog)
@@ -104,22 +108,28 @@ module _ (catalog : Texts TableSchema) (named : AreNamed catalog) where
       by [] at = refl
       by (x ∷ xs) at = absurd (let f : ⊥ = cc in f)
 
+  -- what is found behind a name is the first of those that follow
   pub streams_first : (last : List ℕ) (name : Option (List ℕ)) → find (is_listed last name) ds
       ≡ slice_get (streams_after last name catalog) 0
   streams_first last name = find-filter (is_listed last name) ds
 
   -- ---- a walk over all
 
+  -- a table behind the name that has a stream is the one that is found
   pub walk_here : (last : List ℕ) (d : TableSchema) → Some d ≡ first_after last catalog
       → is_some d.view ≡ true → Some d ≡ find (is_listed last None) ds
-  walk_here last d e is = sym (walk_found (λ (d : TableSchema). d.name) (test None) (off None) last d ds
+  walk_here last d e is =
+      sym (walk_found (λ (d : TableSchema). d.name) (test None) (off None) last d ds
       (sym (first-behind last) ∙ sym e) (always (is_some d.view) ∙ is))
 
+  -- one that has none is passed over
   pub walk_next : (last : List ℕ) (d : TableSchema) → Some d ≡ first_after last catalog
       → is_some d.view ≡ false → find (is_listed last None) ds ≡ find (is_listed d.name None) ds
-  walk_next last d e is = walk_on (λ (d : TableSchema). d.name) (test None) (off None) last d ds rises
+  walk_next last d e is =
+      walk_on (λ (d : TableSchema). d.name) (test None) (off None) last d ds rises
       (sym (first-behind last) ∙ sym e) (always (is_some d.view) ∙ is)
 
+  -- behind the last table none is found
   pub walk_end : (last : List ℕ) → None ≡ first_after last catalog
       → None ≡ find (is_listed last None) ds
   walk_end last e = sym (walk_none (λ (d : TableSchema). d.name) (test None) (off None) last ds
@@ -154,7 +164,8 @@ module _ (catalog : Texts TableSchema) (named : AreNamed catalog) where
         let passes : is_listed last (Some name) d ≡ true =
         (λ i. shown i && (is_lt (text_order last (own i)) && bytes_eq (own i) name))
         ∙ (λ i. less i && (bytes_eq-Decides name name).1 refl i) in
-        sym (found_only (is_listed last (Some name)) name d (entries catalog) (entries_sorted catalog)
+        sym (found_only (is_listed last (Some name)) name d (entries catalog)
+        (entries_sorted catalog)
         (sym (get-entries catalog name) ∙ sym there) passes
         (λ j e at f. sym (named j e (get-entries catalog j ∙ at)) ∙ (parts e f).2))
 
@@ -169,4 +180,5 @@ module _ (catalog : Texts TableSchema) (named : AreNamed catalog) where
         by true e = named_one d there e less
         by false e = named_none (λ x at shown behind_so.
             let one : d ≡ x = some d x (there ∙ at) in
-            let no : false ≡ true = sym e ∙ ap (λ (y : TableSchema). is_some y.view) one ∙ shown in cc no)
+            let no : false ≡ true = sym e ∙ ap (λ (y : TableSchema). is_some y.view) one
+            ∙ shown in cc no)

@@ -20,6 +20,7 @@ use Rattle.alt_streams.proofs.Reaching.{something}
 use Rattle.alt_tables.specs.Stands.{Stands, catalog_of, number_of}
 use Rattle.alt_tables.specs.declared.tables.Tables.{Tables}
 
+-- a GetShardIterator that its body refuses is refused so
 pub iterator-refused : (s : State) (ms : Members) (r : Refusal)
     → first_answer (of_body ms) ≡ Some (refused r) → get_shard_iterator s ms ≡ refuses r
 unfolding get_shard_iterator

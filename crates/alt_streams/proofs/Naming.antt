@@ -29,6 +29,7 @@ abbrev pub tail : ℕ → List ℕ
 tail n = codes "/stream/" ++ label n
 
 module _ (n : ℕ) (small : n < 2 ^ 62) where
+  -- a number has at most 21 digits
   digits_few : length (decimal n) ≤ 21
   digits_few = omega (arith, length-decimal-le 20 n (omega arith) (omega (arith, small)) (omega (arith, small)))
 
@@ -87,6 +88,7 @@ abbrev pub Cuts : List ℕ → Option (List ℕ) → Type 0
 Cuts arn cut = (name : List ℕ) (number : ℕ) → number < 2 ^ 62 → arn ≡ stream_arn name number
     → cut ≡ Some name
 
+-- of two that hold, the second does
 both_true : (a b : Bool) → (a && b) ≡ true → b ≡ true
 both_true true b e = e
 both_true false b e = absurd (let f : ⊥ = cc in f)

@@ -9,6 +9,7 @@ module _ {A : Type 0} (number : A → ℕ) where
   abbrev pub those_from : ℕ → List A → List A
   those_from n xs = filter (λ x. nat_le n (number x)) xs
 
+  -- the numbers of a list rise
   abbrev pub Rise : List A → Type 0
   Rise xs = AllPairs (λ a b. number a < number b) xs
 
@@ -16,6 +17,7 @@ module _ {A : Type 0} (number : A → ℕ) where
   abbrev pub past : ℕ → List A → ℕ
   past n xs = unwrap_or (last_or None (map (λ x. number x + 1) xs)) n
 
+  -- what is above a number isn't up to it
   not_le : (m n : ℕ) → n < m → nat_le m n ≡ false
   not_le m n h = grind arith
 
@@ -39,7 +41,8 @@ module _ {A : Type 0} (number : A → ℕ) where
   all_from n m [] h small = refl
   all_from n m (x ∷ xs) h small =
       let above = All-head (λ y. n < number y) x xs h in
-      ap (λ b. cond b (x ∷ those_from m xs) (those_from m xs)) (is_le m (number x) (omega (arith, above, small)))
+      ap (λ b. cond b (x ∷ those_from m xs) (those_from m xs))
+      (is_le m (number x) (omega (arith, above, small)))
       ∙ ap (λ l. x ∷ l) (all_from n m xs (All-tail (λ y. n < number y) x xs h) small)
 
   same_head : (x y : A) (xs ys : List A) → x ∷ xs ≡ y ∷ ys → x ≡ y
@@ -72,7 +75,8 @@ module _ {A : Type 0} (number : A → ℕ) where
       (behind_first n xs y rest (rise_tail x xs rise))
     where
       skipped : (m : ℕ) → number x < m → those_from m (x ∷ xs) ≡ those_from m xs
-      skipped m less = ap (λ b. cond b (x ∷ those_from m xs) (those_from m xs)) (not_le m (number x) less)
+      skipped m less =
+          ap (λ b. cond b (x ∷ those_from m xs) (those_from m xs)) (not_le m (number x) less)
 
       by : (b : Bool) → nat_le n (number x) ≡ b
           → (those_from n xs ≡ y ∷ rest → those_from (number y + 1) xs ≡ rest)
@@ -94,13 +98,16 @@ module _ {A : Type 0} (number : A → ℕ) where
           ∙ more is
 
   -- the last number, step by step
-  past_some : (n k : ℕ) (ks : List ℕ) → unwrap_or (last_or (Some k) ks) n ≡ unwrap_or (last_or None ks) k
+  past_some : (n k : ℕ) (ks : List ℕ) → unwrap_or (last_or (Some k) ks) n
+      ≡ unwrap_or (last_or None ks) k
   past_some n k [] = refl
   past_some n k (j ∷ ks) = past_some n j ks ∙ sym (past_some k j ks)
 
+  -- the number past a list is the one past its rest, counted from past its first element
   pub past_cons : (n : ℕ) (x : A) (xs : List A) → past n (x ∷ xs) ≡ past (number x + 1) xs
   past_cons n x xs = past_some n (number x + 1) (map (λ y. number y + 1) xs)
 
+  -- the number past two lists is the one past the second, counted from past the first
   pub past-append : (n : ℕ) (xs ys : List A) → past n (xs ++ ys) ≡ past (past n xs) ys
   past-append n [] ys = refl
   past-append n (x ∷ xs) ys = past_cons n x (xs ++ ys) ∙ past-append (number x + 1) xs ys

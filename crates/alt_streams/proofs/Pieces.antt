@@ -50,6 +50,7 @@ module _ (s : State) (valid : IsValid s) (name : List ℕ) (t : Table)
       (is_fit t.description s.next_number (omega (arith, valid.next_number.1)))
       t.changes (valid.tables name t at).changes.each))
 
+  -- the numbers of a table's changes rise
   pub rising : Rise (λ (c : Change). c.number) t.changes
   rising = (valid.tables name t at).changes.rise
 
@@ -73,6 +74,7 @@ module _ (d : TableSchema) (shows : View) (most from : ℕ) (seen changes : List
     pub is : changes ≡ front ++ ahead
     pub read : HasRead d shows most from now (seen ++ front)
 
+  -- with nothing read yet, the page has what was read so far
   pub none_yet : (page : Page) → HasRead d shows most from page seen → SoFar page changes
   none_yet page h = record {
     front = [];
@@ -97,6 +99,7 @@ module _ (d : TableSchema) (shows : View) (most from : ℕ) (seen changes : List
         → is_full then ≡ true → Puts d shows most from then seen changes false
     one_last h full = let more = one_more h in (more.front, ahead, more.is, more.read, full)
 
+  -- all changes that were read are put into the page
   pub all_put : (now : Page) → SoFar now [] → Puts d shows most from now seen changes true
   all_put now so = subst (λ l. HasRead d shows most from now (seen ++ l))
       (sym (so.is ∙ append-nil so.front)) so.read
@@ -165,6 +168,7 @@ module _ (d : TableSchema) (shows : View) (most from : ℕ) (t : Table) (list : 
     pub read : HasRead d shows most from page seen
     pub whole : list ≡ seen ++ changes_from page.next t.changes
 
+  -- a page that begins with nothing has read the changes from its place on
   pub read_begun : (page : Page) → HasRead d shows most from page []
       → list ≡ changes_from page.next t.changes → IsRead page
   read_begun page h is = record { seen = []; read = h; whole = is }
@@ -235,6 +239,7 @@ puts_at d e same old now changes more = subst (λ (x : TableSchema).
     → HasRead x shows most from old seen → All IsFit changes
     → Puts x shows most from now seen changes more) same
 
+-- a fault of reading is one of finding
 find_fault : (f : TableFault) → IsReadFault f → IsFindFault f
 find_fault (Spent n) h = absurd h
 find_fault (Damaged file at) h = absurd h
@@ -248,8 +253,10 @@ module _ {A : Type 0} (r : Result A TableFault) (f : TableFault)
   pub read_passed : IsReadFault f → IfErr r IsReadFault
   read_passed h = subst (λ q. IfErr q IsReadFault) (sym (err_is r f same)) h
 
+  -- a fault of finding may be passed on
   pub find_passed : IsFindFault f → IfErr r IsFindFault
   find_passed h = subst (λ q. IfErr q IsFindFault) (sym (err_is r f same)) h
 
+  -- and so may one of reading
   pub read_found : IsReadFault f → IfErr r IsFindFault
   read_found h = find_passed (find_fault f h)

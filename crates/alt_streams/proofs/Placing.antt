@@ -56,7 +56,8 @@ module _ (catalog : Texts TableSchema) (ms : Members) where
         → OnPlace catalog ms (Err (Refused bad_stream_argument))
     place_unread e = (known_argument, λ s valid same. records_unread ms free s e)
 
-    module _ (i : Iterator) (reads : iterator_of (text_of (codes "ShardIterator") ms) ≡ Some i) where
+    module _ (i : Iterator)
+        (reads : iterator_of (text_of (codes "ShardIterator") ms) ≡ Some i) where
       -- its stream isn't there
       pub place_missed : (stop : Stop) → OnStreaming catalog i.arn (Err stop)
           → OnPlace catalog ms (Err stop)
@@ -85,10 +86,12 @@ module _ (disk : DiskState) (tables : Tables) (ms : Members) where
   place_stops : (stop : Stop) → OnPlace (catalog_of tables) ms (Err stop)
       → Carries (λ s. get_records s ms) (Stands disk tables) (Stands disk tables) (Err stop)
   place_stops (Refused r) h = refused_so (λ s. get_records s ms) (Stands disk tables)
-      (Stands disk tables) r h.0 (λ s stands. h.1 s stands.valid (sym stands.catalog)) (λ s stands. stands)
+      (Stands disk tables) r h.0 (λ s stands. h.1 s stands.valid (sym stands.catalog))
+      (λ s stands. stands)
   place_stops (Fault f) h = faulted (λ s. get_records s ms) (Stands disk tables)
       (Stands disk tables) f h (λ s stands. stands)
 
+  -- where no place is reached, a GetRecords changes nothing and passes that on
   pub place_passed : (r : Result Reply Stop) (stop : Stop) → IsErr r × IsErrAnd r (λ e. e ≡ stop)
       → OnPlace (catalog_of tables) ms (Err stop)
       → Carries (λ s. get_records s ms) (Stands disk tables) (Stands disk tables) r
@@ -96,6 +99,7 @@ module _ (disk : DiskState) (tables : Tables) (ms : Members) where
       (Carries (λ s. get_records s ms) (Stands disk tables) (Stands disk tables))
       (sym (err_is r stop same)) (place_stops stop h)
 
+  -- nor did the device fail then
   pub place_unfailed : (P : Type 0) (stop : Stop) → OnPlace (catalog_of tables) ms (Err stop)
       → IfFailed (Err stop) P
   place_unfailed P (Refused r) h = tt

@@ -88,6 +88,7 @@ module _ (s : State) (valid : IsValid s) (arn : List ℕ) (t : Table)
       let there : finite.get s.tables k ≡ Some t = get-entries s.tables k ∙ at in
       ap (finite.get s.tables) (valid.tables k t there).named ∙ there
 
+  -- the table that was reached has a stream, of the name that the iterator has
   pub stream_named : (is_some t.description.view ≡ true)
       × (stream_arn t.description.name t.description.number ≡ arn)
   stream_named = stream_is arn t.description
@@ -144,6 +145,7 @@ pub stream_there : (o : Option TableSchema) → has_stream o ≡ true → is_som
 stream_there None e = absurd (let no : ⊥ = cc in no)
 stream_there (Some d) e = refl
 
+-- a stream that a description has shows a view
 pub stream_shows : (o : Option TableSchema) (d : TableSchema) → has_stream o ≡ true → o ≡ Some d
     → IsSome d.view
 stream_shows o d e is = sym (ap has_stream is) ∙ e
@@ -152,6 +154,7 @@ module _ (s : State) (valid : IsValid s) (catalog : Texts TableSchema)
     (same : descriptions s.tables ≡ catalog) (arn name : List ℕ)
     (stream : has_stream (finite.get catalog name) ≡ true)
     (named : IsStreamOf catalog arn (finite.get catalog name)) where
+  -- the descriptions at hand are those of the tables
   described : finite.get catalog name
       ≡ option_map (λ (u : Table). u.description) (finite.get s.tables name)
   described = ap (λ m. finite.get m name) (sym same) ∙ get-descriptions s.tables name
@@ -174,7 +177,8 @@ module _ (s : State) (valid : IsValid s) (catalog : Texts TableSchema)
 
   by_name : (o : Option Table) → finite.get s.tables name ≡ o → Reached
   by_name None at = absurd (let no : false ≡ true =
-      sym (ap has_stream (described ∙ ap (option_map (λ (u : Table). u.description)) at)) ∙ stream in
+      sym (ap has_stream (described ∙ ap (option_map (λ (u : Table). u.description)) at))
+      ∙ stream in
       cc no)
   by_name (Some u) at = by_stream u at (table_of_stream s arn) refl
       (named s valid same ∙ described ∙ ap (option_map (λ (t : Table). t.description)) at)
@@ -192,6 +196,7 @@ module _ (ms : Members) where
   abbrev tests : List (Option Answer)
   tests = of_shape (bodies.get_records ms) ∷ []
 
+  -- a GetRecords whose body is unfit is refused so
   pub records_broken : (s : State) (a : Answer) → first_answer tests ≡ Some a
       → get_records s ms ≡ says a
   unfolding get_records
@@ -207,7 +212,8 @@ module _ (ms : Members) where
       pub records_at : (s : State) → get_records s ms
           ≡ with_found (stream_at s i.arn) (λ t. says (pages t ms i))
       unfolding get_records
-      records_at s = passed tests _ free ∙ found_some bad_stream_argument (iterator_of text) _ i reads
+      records_at s =
+          passed tests _ free ∙ found_some bad_stream_argument (iterator_of text) _ i reads
 
       pub records_missed : (catalog : Texts TableSchema) → IsStreamOf catalog i.arn None
           → (s : State) → IsValid s → descriptions s.tables ≡ catalog
@@ -227,10 +233,12 @@ module _ (ms : Members) where
 -- the page of a table whose stream shows so much
 pub pages_so : (t : Table) (ms : Members) (i : Iterator) (shows : View)
     → t.description.view ≡ Some shows → pages t ms i ≡ records_answer t.description i
-    (page_of (page_length ms) (record_size t.description shows) (changes_from i.from t.changes)) shows
+    (page_of (page_length ms) (record_size t.description shows) (changes_from i.from t.changes))
+    shows
 pages_so t ms i shows e = ap (λ (o : Option View). option_map_or
     (λ view. records_answer t.description i
-    (page_of (page_length ms) (record_size t.description view) (changes_from i.from t.changes)) view)
+    (page_of (page_length ms) (record_size t.description view) (changes_from i.from t.changes))
+    view)
     o (answered no_members)) e
 
 module _ (disk : DiskState) (tables : Tables) (ms : Members) (place : Place)
@@ -242,6 +250,7 @@ module _ (disk : DiskState) (tables : Tables) (ms : Members) (place : Place)
       → answer ≡ records_answer t.description (iterator_at t.description place.from)
       (page_of most (record_size t.description shows) (changes_from place.from t.changes)) shows
 
+  -- of the table that was reached, the answer is as its view says
   by_view : (answer : Answer) → Told answer → (s : State) → Stands disk tables s → (t : Table)
       → table_of_stream s is.iterator.arn ≡ Some t → finite.get s.tables place.table ≡ Some t
       → stream_arn t.description.name t.description.number ≡ is.iterator.arn
@@ -253,8 +262,10 @@ module _ (disk : DiskState) (tables : Tables) (ms : Members) (place : Place)
       ∙ ap says (pages_so t ms is.iterator shows view
       ∙ sym (told s t shows stands at view
       ∙ (λ j. records_answer t.description (record { arn = named j; from = is.from j })
-      (page_of (m j) (record_size t.description shows) (changes_from (is.from j) t.changes)) shows)))
+      (page_of (m j) (record_size t.description shows) (changes_from (is.from j) t.changes))
+      shows)))
 
+  -- what is told of the place is what a GetRecords answers
   pub records_told : (answer : Answer) → Told answer → (s : State) → Stands disk tables s
       → get_records s ms ≡ says answer
   records_told answer told s stands =

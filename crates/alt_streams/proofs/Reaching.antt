@@ -35,7 +35,8 @@ module _ (disk : DiskState) (tables : Tables) (arn : List ℕ) (outcome : State 
     (go : State → Table → Outcome)
     (is : (s : State) → outcome s ≡ with_found (stream_at s arn) (go s)) where
   -- it isn't reached
-  stream_stopped : (now : State → Type 0) (stop : Stop) → OnStream (catalog_of tables) arn (Err stop)
+  stream_stopped : (now : State → Type 0) (stop : Stop)
+      → OnStream (catalog_of tables) arn (Err stop)
       → ((s : State) → Stands disk tables s → now s)
       → Carries outcome (Stands disk tables) now (Err stop)
   stream_stopped now (Refused r) h stays = refused_so outcome (Stands disk tables) now r

@@ -11,14 +11,17 @@ use Rattle.alt_value.proofs.Places.{first, second, both, less, is_less}
 use Rattle.alt_value.proofs.Texts.{text_total}
 use Rattle.alt_streams.proofs.Entries.{some}
 
+-- what is told to hold holds
 pub holds : (b : Bool) → b ≡ true → T b
 holds true e = tt
 holds false e = absurd (let f : ⊥ = cc in f)
 
+-- what holds is told to
 pub is_true : (b : Bool) → T b → b ≡ true
 is_true true h = refl
 is_true false h = absurd h
 
+-- where less follows from less, not less follows from not less
 not_less : (r s : Ordering) → (r ≡ Less → s ≡ Less) → is_lt s ≡ false → is_lt r ≡ false
 not_less Less s h e = sym (ap is_lt (h refl)) ∙ e
 not_less Equal s h e = refl
@@ -34,6 +37,7 @@ below_less last k (e ∷ es) l h = both _ _
 
 -- ---- the first
 
+-- the first that passes a test is the first of all that pass
 pub find-filter : {X : Type 0} (p : X → Bool) (xs : List X) → find p xs ≡ slice_get (filter p xs) 0
 find-filter p [] = refl
 find-filter p (x ∷ xs) = by (p x) (find-filter p xs)
@@ -44,7 +48,8 @@ find-filter p (x ∷ xs) = by (p x) (find-filter p xs)
     by false rest = rest
 
 -- what is found passes the test
-pub found_passes : {X : Type 0} (p : X → Bool) (x : X) (xs : List X) → find p xs ≡ Some x → p x ≡ true
+pub found_passes : {X : Type 0} (p : X → Bool) (x : X) (xs : List X)
+    → find p xs ≡ Some x → p x ≡ true
 found_passes p x [] e = absurd (let no : None ≡ Some x = e in cc no)
 found_passes p x (y ∷ xs) e = by (p y) refl e (found_passes p x xs)
   where
@@ -62,14 +67,17 @@ module _ {X : Type 0} (name : X → List ℕ) where
   abbrev pub Rises : List X → Type 0
   Rises xs = T (is_sorted text_order (keyed xs))
 
+  -- the first whose name passes is found by its key
   pub find-keyed : (g : List ℕ → Bool) (xs : List X)
       → option_map (λ e. e.1) (find (λ e. g e.0) (keyed xs)) ≡ find (λ x. g (name x)) xs
   find-keyed g [] = refl
   find-keyed g (x ∷ xs) = by (g (name x)) (find-keyed g xs)
     where
       by : (b : Bool)
-          → option_map (λ (e : List ℕ × X). e.1) (find (λ e. g e.0) (keyed xs)) ≡ find (λ x. g (name x)) xs
-          → option_map (λ (e : List ℕ × X). e.1) (cond b (Some (name x, x)) (find (λ e. g e.0) (keyed xs)))
+          → option_map (λ (e : List ℕ × X). e.1) (find (λ e. g e.0) (keyed xs))
+          ≡ find (λ x. g (name x)) xs
+          → option_map (λ (e : List ℕ × X). e.1)
+          (cond b (Some (name x, x)) (find (λ e. g e.0) (keyed xs)))
           ≡ cond b (Some x) (find (λ x. g (name x)) xs)
       by true rest = refl
       by false rest = rest
@@ -187,7 +195,8 @@ module _ {X : Type 0} (name : X → List ℕ) where
 
     -- or of one that doesn't, and then the walk goes on behind it
     chosen_on : (last : List ℕ) (x : X) (xs : List X) → Rises xs
-        → find (is_behind last) xs ≡ Some x → test true x ≡ false → chosen last xs ≡ chosen (name x) xs
+        → find (is_behind last) xs ≡ Some x → test true x ≡ false
+        → chosen last xs ≡ chosen (name x) xs
     chosen_on last x [] s e is = refl
     chosen_on last x (y ∷ xs) s e is =
         by (is_behind last y) refl e (λ f. chosen_on last x xs (second _ _ s) f is)
@@ -205,7 +214,8 @@ module _ {X : Type 0} (name : X → List ℕ) where
             ∙ sym (ap (λ b. cond b (y ∷ chosen (name y) xs) (chosen (name y) xs)) (itself y))
             ∙ ap (λ z. cond (listed (name z) y) (y ∷ chosen (name z) xs) (chosen (name z) xs)) one
         by false same found rest =
-            let l : text_order last (name x) ≡ Less = less _ (holds _ (found_passes (is_behind last) x xs found)) in
+            let l : text_order last (name x) ≡ Less =
+            less _ (holds _ (found_passes (is_behind last) x xs found)) in
             ap (λ b. cond b (y ∷ chosen last xs) (chosen last xs)) (ap (λ b. test b y) same ∙ off y)
             ∙ rest found
             ∙ sym (ap (λ b. cond b (y ∷ chosen (name x) xs) (chosen (name x) xs))
@@ -215,7 +225,8 @@ module _ {X : Type 0} (name : X → List ℕ) where
         → find (is_behind last) xs ≡ Some x → test true x ≡ false
         → find (listed last) xs ≡ find (listed (name x)) xs
     walk_on last x xs s e is = find-filter (listed last) xs
-        ∙ ap (λ zs. slice_get zs 0) (chosen_on last x xs s e is) ∙ sym (find-filter (listed (name x)) xs)
+        ∙ ap (λ zs. slice_get zs 0) (chosen_on last x xs s e is)
+        ∙ sym (find-filter (listed (name x)) xs)
 
     -- or there is none
     pub walk_none : (last : List ℕ) (xs : List X) → find (is_behind last) xs ≡ None
@@ -243,7 +254,9 @@ module _ {X Y : Type 0} (f : List ℕ × X → Y) where
   below-each k [] h = h
   below-each k (e ∷ es) h = both _ _ (first _ _ h) (below-each k es (second _ _ h))
 
+  -- entries that rise by their keys rise as they are listed
   pub sorted-each : (es : List (List ℕ × X)) → T (is_sorted text_order es)
       → T (is_sorted text_order (each es))
   sorted-each [] h = h
-  sorted-each (e ∷ es) h = both _ _ (below-each e.0 es (first _ _ h)) (sorted-each es (second _ _ h))
+  sorted-each (e ∷ es) h =
+      both _ _ (below-each e.0 es (first _ _ h)) (sorted-each es (second _ _ h))

@@ -50,7 +50,8 @@ Puts d shows most from page seen changes false = (front : List Change) × (rest 
     × (is_full page ≡ true)
 
 -- A step read a front of the changes, and the others are those from the page's next number on; or the page or the changes end with it.
-abbrev pub Steps : TableSchema → View → ℕ → ℕ → Page → List Change → Table → List Change → Bool → Type 0
+abbrev pub Steps : TableSchema → View → ℕ → ℕ → Page → List Change → Table → List Change
+    → Bool → Type 0
 Steps d shows most from page seen t list true = (front : List Change)
     × HasRead d shows most from page (seen ++ front)
     × (list ≡ front ++ changes_from page.next t.changes)

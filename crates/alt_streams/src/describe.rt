@@ -79,7 +79,8 @@ fn description_json(
     body: &Map<String, Value>,
 ) -> Result<Value, NoMemory>
     ensures json { IfOk result (λ v. view v ≡ option_map_or
-        (stream_json schema.now (members_view body.now.entries)) schema.now.view (object no_members)) }
+        (stream_json schema.now (members_view body.now.entries)) schema.now.view
+        (object no_members)) }
     ensures plain { IfOk result (λ v. has_float (view v) ≡ false) }
 {
     match schema.view {

@@ -71,8 +71,8 @@ impl Page {
         most.min(self.room) as u32
     }
 
-    /// Puts the record of a change behind the others. A change whose items are larger than may be stored is of a disk that doesn't keep what
-    /// was written.
+    /// Puts the record of a change behind the others. A change whose items are larger than may be stored is of a disk that doesn't
+    /// keep what was written.
     pub(crate) fn put(
         &mut self,
         alloc: Global,

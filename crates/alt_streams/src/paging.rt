@@ -21,8 +21,8 @@ use alt_schema::TableSchema;
 use alt_tables::{TableFault, Tables};
 use std::alloc::Global;
 
-/// Puts records of the changes of a table with a stream from the page's next number on into a page, until it is full or no change is left. No
-/// piece that is read is longer than what the page may still take.
+/// Puts records of the changes of a table with a stream from the page's next number on into a page, until it is full or no change
+/// is left. No piece that is read is longer than what the page may still take.
 pub(crate) fn fill<D: Disk>(
     alloc: Global,
     tables: &mut Tables,

@@ -1,4 +1,5 @@
--- Where every row of the catalog and of the tables can be read, there is a state whose rows they are, with whatever changes its tables may have.
+-- Where every row of the catalog and of the tables can be read, there is a state whose rows they are, with whatever changes its
+-- tables may have.
 use Rattle.std.proofs.Common.{◌≡◌, ◌≤◌, ℕ, Bool, true, false, cond, List, [], ◌∷◌, Option, Some, None, All, refl, sym, ap, subst, ◌∙◌, arith}
 use Rattle.std.proofs.lemmas.Bool.{false≢true}
 use Rattle.std.proofs.lemmas.List.Elements.{All-nil}
@@ -17,7 +18,8 @@ use Rattle.alt_machine.proofs.Descriptions.{get-descriptions, len-descriptions}
 use Rattle.alt_schema.specs.Rules.{is_name}
 use Rattle.alt_schema.specs.declared.schema.TableSchema.{TableSchema}
 use Rattle.alt_views.specs.ItemRows.{item_columns, IsReadItem}
-use Rattle.alt_tables.specs.Opening.{AssembledRows, IsCatalog, IsGood, AreApart}
+use Rattle.alt_tables.specs.Opening.{IsCatalog, IsGood, AreApart}
+use Rattle.alt_tables.specs.Recovery.{Agrees}
 use Rattle.alt_tables.specs.Scans.{IsItemAt, ItemsRead}
 use Rattle.alt_tables.specs.StateRows.{HasMoment, catalog_family, table_row, next_row}
 use Rattle.alt_tables.proofs.ChangeLaws.{tied, itself}
@@ -25,6 +27,13 @@ use Rattle.alt_tables.proofs.ChosenLaws.{AllRead, IsRead, map_read}
 use Rattle.alt_tables.proofs.Maps.{same_texts}
 use Rattle.alt_tables.proofs.Making.{same_Some}
 use Rattle.alt_value.specs.Tree.{Pair}
+
+-- A state whose rows of the catalog and of tables these are, and whose tables are those of the catalog.
+pub record AssembledRows (l : Layout) (next : ℕ) (known : Texts TableSchema)
+    (s : State) : Type 0 where
+  pub agrees : Agrees (λ f k. Unit {0}) l s
+  pub catalog : descriptions s.tables ≡ known
+  pub family : s.next_family ≡ next
 
 -- no name of a good description is empty
 pub not_empty : (number family : ℕ) (name : List ℕ) (d : TableSchema)

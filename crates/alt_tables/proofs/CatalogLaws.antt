@@ -144,7 +144,8 @@ module _ (l : Layout) (s : State) (shows : Shows l s) (valid : IsValid s) where
     indexes_after other u true e at n i at_index key =
         subst (λ u. index_at u.description (Some n) ≡ Some i
         → shown (with_write l w) i.family key ≡ index_rows u i key) (some _ _ at)
-        (λ at_index. let is = of_contained (λ f. (d.family ≤ f) × (f < d.family + length (families_of d)))
+        (λ at_index. let is = of_contained (λ f. (d.family ≤ f)
+        × (f < d.family + length (families_of d)))
         (families_of d) i.family (families_within d new) (index_family d n i at_index) in
         elsewhere i.family key
         (let low = valid.next_family.0 in omega (arith, low, family, is.0))
@@ -161,7 +162,8 @@ module _ (l : Layout) (s : State) (shows : Shows l s) (valid : IsValid s) where
     changes_after other u true e at g stream key =
         subst (λ u. u.description.stream_family ≡ Some g
         → shown (with_write l w) g key ≡ change_rows u key) (some _ _ at)
-        (λ stream. let is = of_contained (λ f. (d.family ≤ f) × (f < d.family + length (families_of d)))
+        (λ stream. let is = of_contained (λ f. (d.family ≤ f)
+        × (f < d.family + length (families_of d)))
         (families_of d) g (families_within d new) (stream_family d g stream) in
         elsewhere g key
         (let low = valid.next_family.0 in omega (arith, low, family, is.0))
@@ -181,8 +183,10 @@ module _ (l : Layout) (s : State) (shows : Shows l s) (valid : IsValid s) where
           (sym (map.get-insert key_total s.tables d.name (new_table d) other) ∙ at);
       indexes = λ other u n i at at_index key. indexes_after other u
           (eq_by_cmp key_cmp other d.name) refl
-          (sym (map.get-insert key_total s.tables d.name (new_table d) other) ∙ at) n i at_index key;
-      changes = λ other u g at stream key. changes_after other u (eq_by_cmp key_cmp other d.name) refl
+          (sym (map.get-insert key_total s.tables d.name (new_table d) other)
+          ∙ at) n i at_index key;
+      changes = λ other u g at stream key. changes_after other u
+          (eq_by_cmp key_cmp other d.name) refl
           (sym (map.get-insert key_total s.tables d.name (new_table d) other) ∙ at) g stream key;
       beyond = λ f key high. elsewhere f key
           (let low = valid.next_family.0 in omega (arith, low, family, high))

@@ -105,6 +105,7 @@ module _ (l : Layout) (next : ℕ) (catalog new : Texts TableSchema) (name after
             ∙ ap (λ b. cond b (Some d) (map.get catalog other)) e ∙ old.1,
       )
 
+  -- the rows below the next key are read, as those before it are and none lies between
   pub catalog_more : CatalogWhere (λ n. IsBelow n after) l next new
   catalog_more = record {
     next = so_far.next;

@@ -23,6 +23,7 @@ tied q k e = key_exact q k (equal _ (holds _ e))
 pub itself : (q : List ℕ) → eq_by_cmp key_cmp q q ≡ true
 itself q = ap is_eq (tied_itself key_total q)
 
+-- equal numbers are told to be equal
 test : (m n : ℕ) → m ≡ n → (m == n) ≡ true
 test m n e = grind (arith, nat_tests)
 

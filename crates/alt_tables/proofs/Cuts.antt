@@ -11,6 +11,7 @@ use Rattle.alt_engine.specs.Layout.{Layout, shown}
 abbrev pub cut : (ℕ → List ℕ → Bool) → Layout → Layout
 cut here l = record l { rows = λ family. retain_keys (l.rows family) (here family) }
 
+-- a row that may be left out is shown if it isn't
 shown_if : (b : Bool) (o : Option RowCells) → option_and_then row_shown (cond b o None)
     ≡ cond b (option_and_then row_shown o) None
 shown_if true o = refl

@@ -17,11 +17,11 @@ use Rattle.alt_schema.specs.Held.{IsHeld}
 use Rattle.alt_schema.specs.declared.schema.TableSchema.{TableSchema}
 use Rattle.alt_schema.proofs.WholeDescriptions.{one_spelling}
 use Rattle.alt_views.specs.ItemRows.{item_columns}
-use Rattle.alt_tables.specs.Opening.{AssembledRows, IsCatalog, IsGood, AreApart}
+use Rattle.alt_tables.specs.Opening.{IsCatalog, IsGood, AreApart}
 use Rattle.alt_tables.specs.Recovery.{Agrees, IsBefore, IsUpTo, IsFirstWrong}
 use Rattle.alt_tables.specs.Scans.{IsItemAt, IsFirstBad, ItemsRead}
 use Rattle.alt_tables.specs.StateRows.{catalog_family, table_row, next_row}
-use Rattle.alt_tables.proofs.Assembled.{assembled, not_empty}
+use Rattle.alt_tables.proofs.Assembled.{AssembledRows, assembled, not_empty}
 use Rattle.alt_tables.proofs.ChangeLaws.{tied, itself}
 use Rattle.alt_tables.proofs.Cuts.{cut, shown-cut, shown-here, shown-not}
 use Rattle.alt_tables.proofs.Making.{same_Some}
@@ -35,6 +35,7 @@ use Rattle.alt_value.specs.Tree.{Pair}
 pub before_row : ℕ → List ℕ → ℕ → List ℕ → Bool
 before_row family key f k = nat_lt f family || ((f == family) && is_lt (key_cmp k key))
 
+-- a row before another is told to be before it
 pub is_before : (family : ℕ) (key : List ℕ) (f : ℕ) (k : List ℕ) → IsBefore f k family key
     → before_row family key f k ≡ true
 unfolding before_row
@@ -46,6 +47,7 @@ is_before family key f k (inl low) = ap (λ b. b || ((f == family) && is_lt (key
 is_before family key f k (inr (same, low)) =
     grind (arith, nat_tests, same, ap is_lt low)
 
+-- and one that is told to be before it is
 pub before_is : (family : ℕ) (key : List ℕ) (f : ℕ) (k : List ℕ) → before_row family key f k ≡ true
     → IsBefore f k family key
 unfolding before_row

@@ -23,6 +23,7 @@ same_at (f ∷ fs) (suc k) a b within = same_at fs k a b (omega (arith, within))
 
 -- ---- families
 
+-- the test decides whether all families are within those that were given out
 pub within_is : (next : ℕ) (families : List ℕ)
     → Decides (are_within next families) (All (λ f. (1 ≤ f) × (f < next)) families)
 within_is next families = Decides-by_and (λ f. nat_le 1 f && nat_lt f next)
@@ -39,6 +40,7 @@ found_is family families = Decides-like (list_any (λ g. g == family) families)
     (Decides-by_or (λ g. g == family) (λ g. g ≡ family) (list_any (λ g. g == family))
     (λ g. Decides-eqb g family) refl (λ g gs. refl) families)
 
+-- the test decides whether families are apart
 pub apart_is : (families : List ℕ)
     → Decides (are_apart families) (AllPairs (λ f g. f ≢ g) families)
 apart_is [] = (λ e i j d low within. absurd (omega (arith, within)), λ h. refl)
@@ -56,6 +58,7 @@ apart_is (f ∷ fs) = Decides-like (not (list_any (λ g. g == f) fs) && are_apar
 
 module _ (number next : ℕ) (name : List ℕ) (d : TableSchema) (whole : IsDescription d)
     (held : IsHeld d) where
+  -- the tests decide whether a description is good
   pub good_is : Decides (passes number next name d) (IsGood number next name d)
   good_is = Decides-like (passes number next name d)
       (λ h. record {

@@ -54,7 +54,8 @@ holds_quiet old new engine s tells honest quiet holds = record {
 pub one_held : (disk : DiskState) (engine : Engine) (s r : State) → Holds disk engine s
     → Holds disk engine r → IsValid s → IsValid r → s ≡ r
 one_held disk engine s r holds_s holds_r valid_s valid_r = one_state holds_s.layout s r
-    holds_s.shows (subst (λ l. Shows l r) (one_layout_in_hand disk engine holds_r.layout holds_s.layout
+    holds_s.shows
+    (subst (λ l. Shows l r) (one_layout_in_hand disk engine holds_r.layout holds_s.layout
     holds_r.is holds_s.is) holds_r.shows) valid_s valid_r holds_s.held holds_r.held
 
 -- ---- a write

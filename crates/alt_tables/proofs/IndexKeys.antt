@@ -49,6 +49,7 @@ ahead_first k (Some a) (Some b) low = by (key_cmp b a) refl low
     by Equal e low = low
     by Greater e low = low
 
+-- what is ahead of the lesser of two is ahead of the second
 pub ahead_second : (k : List ℕ) (a b : Option (List ℕ)) → IsAhead k (lesser a b) → IsAhead k b
 ahead_second k None b low = low
 ahead_second k (Some a) None low = tt

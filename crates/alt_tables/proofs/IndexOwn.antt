@@ -133,7 +133,8 @@ module _ (l : Layout) (d : TableSchema) (i : IndexSchema) (row : Columns) (own :
     → option_map row_at own ≡ row_in_index d i item) where
   -- none is missing where it has none
   pub none_missing : own ≡ None → TellsMissingOf l d i row None
-  none_missing none item read of_item key columns has = absurd (let no : None ≡ Some (key, columns) =
+  none_missing none item read of_item key columns has =
+      absurd (let no : None ≡ Some (key, columns) =
       ap (option_map row_at) (sym none) ∙ told item read of_item ∙ has in cc no)
 
   module _ (r : IndexRow) (is : own ≡ Some r) where

@@ -4,10 +4,9 @@ use Rattle.std.specs.FinMap as map
 use Rattle.alt_cells.specs.Changes.{Columns}
 use Rattle.alt_engine.specs.Layout.{Layout, shown}
 use Rattle.alt_machine.specs.Indexed.{index_entry, index_items}
-use Rattle.alt_machine.specs.Rekeyed.{AreApart}
 use Rattle.alt_machine.specs.State.{State, Table}
 use Rattle.alt_machine.proofs.Indexing.{index_apart}
-use Rattle.alt_machine.proofs.Rekeying.{given_by, gives}
+use Rattle.alt_machine.proofs.Rekeying.{AreApart, given_by, gives}
 use Rattle.alt_schema.specs.declared.schema.IndexSchema.{IndexSchema}
 use Rattle.alt_schema.specs.declared.schema.TableSchema.{TableSchema}
 use Rattle.alt_tables.specs.IndexScans.{HasRow, IsItemThere, IsRightAt}
@@ -26,13 +25,15 @@ pub record IsRowOf (d : TableSchema) (i : IndexSchema) (item : List Pair) (key :
   pub entry : index_entry d i item ≡ Some (key, kept)
   pub is : columns ≡ index_columns d i kept
 
+-- a row that the index has of an item is a row of it at that key, with these columns
 pub row_of : (d : TableSchema) (i : IndexSchema) (item : List Pair) (key : List ℕ)
     (columns : Columns) → row_in_index d i item ≡ Some (key, columns)
     → IsRowOf d i item key columns
 row_of d i item key columns has = by (index_entry d i item) refl has
   where
     by : (o : Option (List ℕ × List Pair)) → index_entry d i item ≡ o
-        → option_map {U = List ℕ × Columns} (λ e. (e.0, index_columns d i e.1)) o ≡ Some (key, columns)
+        → option_map {U = List ℕ × Columns} (λ e. (e.0, index_columns d i e.1)) o
+        ≡ Some (key, columns)
         → IsRowOf d i item key columns
     by None is has = absurd (let no : None ≡ Some (key, columns) = has in cc no)
     by (Some e) is has =
@@ -66,7 +67,8 @@ module _ (l : Layout) (s : State) (agrees : AgreesWhole l s) (name : List ℕ) (
     where
       by : (o : Option (List Pair)) → map.get t.items place ≡ o → o ≡ Some item
       by None e = absurd (let no : None ≡ Some (item_columns item) =
-          sym (agrees.rows.items name t at place tt ∙ ap (option_map item_columns) e) ∙ there.shows in
+          sym (agrees.rows.items name t at place tt ∙ ap (option_map item_columns) e)
+          ∙ there.shows in
           cc no)
       by (Some x) e = ap (λ y. Some y) (item_columns-one x item (item_there place x e).read.whole
           there.read.whole
@@ -107,7 +109,8 @@ module _ (l : Layout) (s : State) (agrees : AgreesWhole l s) (name : List ℕ) (
               place = g.0;
               item = g.1.0;
               there = item_there g.0 g.1.0 g.1.1.0;
-              row = ap (option_map {U = List ℕ × Columns} (λ e. (e.0, index_columns t.description i e.1))) g.1.1.1
+              row = ap (option_map {U = List ℕ × Columns}
+                  (λ e. (e.0, index_columns t.description i e.1))) g.1.1.1
                   ∙ ap (λ c. Some (key, c)) (some _ _ is);
             }
 

@@ -10,10 +10,9 @@ use Rattle.alt_cells.specs.Changes.{Columns}
 use Rattle.alt_cells.specs.Keys.{key_cmp}
 use Rattle.alt_engine.specs.Layout.{Layout, Write, with_write, shown, shown_by, change_of, ShowsWrite}
 use Rattle.alt_machine.specs.Indexed.{index_entry, index_items}
-use Rattle.alt_machine.specs.Rekeyed.{AreApart, unless_at, moved}
 use Rattle.alt_machine.specs.State.{Texts}
 use Rattle.alt_machine.specs.Writes.{with_item}
-use Rattle.alt_machine.proofs.Rekeying.{get-rekeyed-with_item, gives}
+use Rattle.alt_machine.proofs.Rekeying.{AreApart, unless_at, moved, get-rekeyed-with_item, gives}
 use Rattle.alt_schema.specs.declared.schema.IndexSchema.{IndexSchema}
 use Rattle.alt_schema.specs.declared.schema.TableSchema.{TableSchema}
 use Rattle.alt_tables.proofs.ChangeLaws.{AreOthers, others-append, change_of-behind, change_of-front}

@@ -6,12 +6,12 @@ use Rattle.alt_machine.specs.declared.TheConstants.{NUMBERS_END}
 use Rattle.alt_machine.specs.State.{State, Table, Texts}
 use Rattle.alt_schema.specs.declared.schema.TableSchema.{TableSchema}
 use Rattle.alt_tables.specs.IndexScans.{IsFirstOfOwn}
-use Rattle.alt_tables.specs.Opening.{AllChangesRead, AllIndexesRead, AreTablesRead, Assembled, AssembledTables, IsFirstIn, IsIndexesFault, IsRowFault}
+use Rattle.alt_tables.specs.Opening.{AllChangesRead, AllIndexesRead, AreTablesRead, Assembled, IsFirstIn, IsIndexesFault, IsRowFault}
 use Rattle.alt_tables.specs.Recovery.{IsFirstWrong}
 use Rattle.alt_tables.specs.declared.faults.OpenFault.{OpenFault}
 use Rattle.alt_tables.specs.declared.faults.OpenFault.TheVariants.{Damaged, BadRow, Failed, NoMemory}
 use Rattle.alt_tables.proofs.IndexRead.{agrees_right, right_agrees}
-use Rattle.alt_tables.proofs.StreamState.{assembled_tables, known_at, table_of}
+use Rattle.alt_tables.proofs.StreamState.{AssembledTables, assembled_tables, known_at, table_of}
 
 module _ (l : Layout) (next : ℕ) (known : Texts TableSchema) (s : State)
     (made : AssembledTables l next known s) where
@@ -24,7 +24,8 @@ module _ (l : Layout) (next : ℕ) (known : Texts TableSchema) (s : State)
       items = λ name t at key. made.agrees.rows.items name t at key tt;
       indexes = λ name t number i at at_index key.
           right_agrees l s made.agrees name t at i key
-          (read name t.description (known_at known s made.catalog name t at) number i tt at_index key);
+          (read name t.description (known_at known s made.catalog name t at) number i tt
+          at_index key);
       changes = made.agrees.changes;
       beyond = λ family key high. made.agrees.rows.beyond family key high tt;
     };

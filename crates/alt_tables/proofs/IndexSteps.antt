@@ -124,7 +124,8 @@ module _ (l : Layout) (d : TableSchema) (i : IndexSchema) where
       record {
         before = λ k low. right_ahead k (subst (IsAhead k) (sym some) low);
         wrong = subst (λ o. IfSome o (λ k. IsRightAt l d i k → ⊥)) some
-            (of_lesser (λ k. IsRightAt l d i k → ⊥) missing foreign (by_missing missing least.missing)
+            (of_lesser (λ k. IsRightAt l d i k → ⊥) missing foreign
+            (by_missing missing least.missing)
             (by_foreign foreign first.foreign));
       },
     )
@@ -159,6 +160,7 @@ before_or_at : (n k : ℕ) → n < k + 1 → (n < k) ⊎ (n ≡ k)
 before_or_at n k within = grind arith
 
 module _ (l : Layout) (d : TableSchema) where
+  -- before the first index no rows were read
   pub indexes_none : IndexesWhere (λ n. n < 0) l d
   indexes_none number i none at = absurd (omega (arith, none))
 

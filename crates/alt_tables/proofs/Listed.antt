@@ -100,6 +100,7 @@ pub not_both : {X P : Type 0} (o : Option X) (x : X) → o ≡ Some x → o ≡ 
 not_both o x some none = let e : Some x ≡ None = sym some ∙ none in cc
 
 module _ (name : List ℕ) (es : List TableSchema) (i : ℕ) (sorted : AreInOrder es) where
+  -- the first of the tables behind a name is the first whose name is greater
   first_of : slice_get (names_after name (tables es)) 0
       ≡ option_map (λ p. p.0) (find_first (λ p. is_lt (text_order name p.0)) (pairs es))
   first_of = ap (λ ps. slice_get (filter (λ k. is_lt (text_order name k)) (map (λ p. p.0) ps)) 0)

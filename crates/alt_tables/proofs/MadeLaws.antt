@@ -37,6 +37,7 @@ module _ (d : TableSchema) where
   abbrev named : IndexSchema → Bool
   named i = names_few i.projection
 
+  -- a description that passes the test is as it is made
   pub as_made : is_as_made d ≡ true → IsDescription d → IsMade d
   as_made e whole =
       let few : are_few_indexes d ≡ true = left (are_few_indexes d) _ e in
@@ -66,6 +67,7 @@ module _ (d : TableSchema) where
         whole = whole;
       }
 
+  -- and one that is as it is made passes
   pub made_as : IsMade d → is_as_made d ≡ true
   made_as m = both _ _ (both _ _ (le-leb (length d.locals) most_locals m.locals_few)
       (le-leb (length d.globals) most_globals m.globals_few))

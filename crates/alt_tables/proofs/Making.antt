@@ -37,6 +37,7 @@ use Rattle.alt_value.specs.Values.{IsItemOfValues}
 pub same_Some : {A : Type 0} (x y : A) → Some x ≡ Some y → x ≡ y
 same_Some x y e = cc
 
+-- what holds of an option's value holds of it by name
 of_some : {A : Type 0} (P : A → Type 0) (o : Option A) (x : A) → IfSome o P → o ≡ Some x → P x
 of_some P None x h e = absurd (let f : ⊥ = cc in f)
 of_some P (Some y) x h e = subst P (let f : y ≡ x = cc in f) h

@@ -9,7 +9,7 @@ use Rattle.alt_cells.specs.Changes.{Columns, CanShow, change_between, with_colum
 use Rattle.alt_cells.specs.Keys.{key_cmp}
 use Rattle.alt_cells.proofs.ChangeLaws.{written-change_between, none_shown}
 use Rattle.alt_engine.specs.Layout.{change_of, shown_by}
-use Rattle.alt_machine.specs.Rekeyed.{moved}
+use Rattle.alt_machine.proofs.Rekeying.{moved}
 use Rattle.alt_tables.proofs.ChangeLaws.{tied, itself, one_change, two_changes, AreOthers}
 use Rattle.alt_views.specs.IndexRows.{KeyedRow, if_said, moved_changes}
 use Rattle.alt_views.proofs.Batched.{AreOf, moved_changes-of}
@@ -129,7 +129,8 @@ shown-moved_changes family (Some o) None key before was can_old can =
     ap (λ c. shown_by c before) (one_change (change_between family o.0 (Some o.1) None) key)
     ∙ by_key (eq_by_cmp key_cmp key o.0)
   where
-    by_key : (b : Bool) → shown_by (if b then Some (change_between family o.0 (Some o.1) None) else None)
+    by_key : (b : Bool)
+        → shown_by (if b then Some (change_between family o.0 (Some o.1) None) else None)
         before ≡ (if b then None else before)
     by_key true = none_shown
     by_key false = refl
@@ -137,7 +138,8 @@ shown-moved_changes family None (Some n) key before was can_old can =
     ap (λ c. shown_by c before) (one_change (change_between family n.0 None (Some n.1)) key)
     ∙ by_key (eq_by_cmp key_cmp key n.0)
   where
-    by_key : (b : Bool) → shown_by (if b then Some (change_between family n.0 None (Some n.1)) else None)
+    by_key : (b : Bool)
+        → shown_by (if b then Some (change_between family n.0 None (Some n.1)) else None)
         before ≡ (if b then Some n.1 else before)
     by_key true = made family n before can
     by_key false = refl
@@ -169,5 +171,6 @@ others-of family other (c ∷ cs) apart of = (
 -- so are those of a row that moves
 pub others-moved_changes : (family other : ℕ) (o n : Option KeyedRow) → family ≢ other
     → AreOthers other (moved_changes family o n)
-others-moved_changes family other o n apart = others-of family other (moved_changes family o n) apart
+others-moved_changes family other o n apart =
+    others-of family other (moved_changes family o n) apart
     (moved_changes-of family o n)

@@ -24,6 +24,7 @@ name_itself : (name other : List ℕ) → other ≡ name → text_order name oth
 name_itself name other e = rw e (tied_itself text_total name)
 
 module _ {E X : Type 0} (name_of : E → List ℕ) (seen : E → X) where
+  -- an entry as a pair of its name and what it stands for
   abbrev pub entry : E → List ℕ × X
   entry e = (name_of e, seen e)
 
@@ -39,6 +40,7 @@ module _ {E X : Type 0} (name_of : E → List ℕ) (seen : E → X) where
   abbrev pub Above : List ℕ → List E → ℕ → Type 0
   Above name es i = After text_order text_total name_of name es i
 
+  -- a name below all entries is below each of them
   below_at : (x : List ℕ) (es : List E) (k : ℕ) (d : E) → T (below_all text_order x (map entry es))
       → k < length es
       → text_order x (name_of (get_or es k d)) ≡ Less
@@ -122,6 +124,7 @@ module _ {E X : Type 0} (name_of : E → List ℕ) (seen : E → X) where
     after = parts.1;
   }
 
+  -- what stands at a place of all but the first entry stands there
   later_stands : (name : List ℕ) (e : E) (es : List E) (i : ℕ) → Stands name (e ∷ es) (suc i)
       → Stands name es i
   later_stands name e es i s = record {
@@ -246,6 +249,7 @@ module _ {E X : Type 0} (name_of : E → List ℕ) (seen : E → X) where
       rw (name_after name (name_of e) (g.before 0 e (omega arith)))
       (next_goes name es i (later_goes name e es i g))
 
+  -- the first entry above a name that is below all of them is the first
   next_above : (name other : List ℕ) (es : List E) → other ≡ name
       → T (below_all text_order other (map entry es))
       → find_first (λ (p : List ℕ × X). is_lt (text_order name p.0)) (map entry es)
@@ -266,6 +270,7 @@ module _ {E X : Type 0} (name_of : E → List ℕ) (seen : E → X) where
       rw (name_after name (name_of e) (s.before 0 e (omega arith)))
       (next_stands name es i (second _ _ sorted) (later_stands name e es i s))
 
+  -- the value that was found is what the entry that was found stands for
   value_of : (o : Option E) → option_map (λ (p : List ℕ × X). p.1) (option_map entry o)
       ≡ option_map seen o
   value_of None = refl

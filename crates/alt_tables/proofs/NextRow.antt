@@ -164,6 +164,7 @@ below_after (x ∷ xs) (c ∷ cs) low = by (λ below. below_after xs cs below) (
         (rest f)
     by rest Greater e f = absurd (let g : ⊥ = cc in g)
 
+-- a key below another is below that with a 0 behind it
 below_append : (k key : List ℕ) → IsBelow k key → IsBelow k (key ++ 0 ∷ [])
 below_append [] [] low = absurd (let g : ⊥ = cc in g)
 below_append [] (c ∷ cs) low = refl
@@ -182,12 +183,14 @@ self_append [] = refl
 self_append (c ∷ cs) = heads c c Equal (tied_itself nat_cmp_total c) cs (cs ++ 0 ∷ [])
     ∙ self_append cs
 
+-- a key up to another is below that with a 0 behind it
 pub after_below : (k key : List ℕ) → IsBelow k key ⊎ (k ≡ key) → IsBelow k (key ++ 0 ∷ [])
 after_below k key (inl low) = below_append k key low
 after_below k key (inr same) = subst (λ q. IsBelow q (key ++ 0 ∷ [])) (sym same) (self_append key)
 
 -- ---- the first of a page of one
 
+-- what was popped of one row at most is the first row, if there is one
 pub popped : {X : Type 0} (xs old ys : List X) (o : Option X) (n : ℕ) → old ≡ take 1 xs
     → old ≡ ys ++ option_to_list o → IsSome o ↔ (0 < n) → n ≡ length old → o ≡ slice_get xs 0
 popped [] old ys None n page items some long = refl

@@ -86,6 +86,7 @@ has_whole s valid held name t at place item here =
 module _ (l : Layout) (s r : State) (agrees_s : AgreesWhole l s) (agrees_r : AgreesWhole l r)
     (named_s : map.get s.tables [] ≡ None) (named_r : map.get r.tables [] ≡ None)
     (small_s : s.next_family < 2 ^ 32) (small_r : r.next_family < 2 ^ 32) where
+  -- both states have the same next family
   next_families : s.next_family ≡ r.next_family
   next_families = next_row-one s.next_family r.next_family small_s small_r
       (sym (agrees_s.rows.catalog [] tt) ∙ agrees_r.rows.catalog [] tt)
@@ -155,7 +156,8 @@ module _ (l : Layout) (s r : State) (agrees_s : AgreesWhole l s) (agrees_r : Agr
   one_shown =
       let tables : s.tables ≡ r.tables =
       map.same_map key_total key_exact _ _ (λ name. by_name name _ refl) in
-      let numbers : s.next_number ≡ r.next_number = sym agrees_s.rows.number ∙ agrees_r.rows.number in
+      let numbers : s.next_number ≡ r.next_number = sym agrees_s.rows.number
+      ∙ agrees_r.rows.number in
       λ i. record { tables = tables i; next_number = numbers i; next_family = next_families i }
 
 -- no table of a valid state has the empty name
@@ -172,7 +174,8 @@ nameless s valid = by_table (map.get s.tables []) refl
 -- Rows of the catalog, of tables and of streams are those of one valid state at most.
 pub one_agrees : (l : Layout) (s r : State) → AgreesWhole l s → AgreesWhole l r → s ≡ r
 one_agrees l s r agrees_s agrees_r =
-    one_shown l s r agrees_s agrees_r (nameless s agrees_s.rows.valid) (nameless r agrees_r.rows.valid)
+    one_shown l s r agrees_s agrees_r (nameless s agrees_s.rows.valid)
+    (nameless r agrees_r.rows.valid)
     (let last = agrees_s.rows.valid.next_family.1 in omega (arith, last))
     (let last = agrees_r.rows.valid.next_family.1 in omega (arith, last))
 

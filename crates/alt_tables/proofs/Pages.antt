@@ -291,11 +291,13 @@ module _ (disk : DiskState) (tables : Tables) (s : State) (name : List ℕ) (t :
     (known_as : finite.get (catalog_of tables) name ≡ Some d) (from : List ℕ)
     (to : Option (List ℕ)) (forward : Bool) (most : ℕ) (before page : List (List ℕ × Columns))
     (empty : before ≡ []) where
+  -- the description is that of the table
   same : d ≡ t.description
   same = same_table disk tables s name t d stands at known_as
 
   -- the rows of a walk over a family are those of the items there
-  pub page_rows : {X : Type 0} (family : ℕ) → (IsTrue disk.tells → (l : Layout) → EngineReads disk tables.engine l
+  pub page_rows : {X : Type 0} (family : ℕ)
+      → (IsTrue disk.tells → (l : Layout) → EngineReads disk tables.engine l
       → page ≡ before ++ take most (rows_between l family from to forward))
       → (columns : X → Columns) (items : Texts X)
       → ((key : List ℕ) → shown stands.rows.layout family key
@@ -332,7 +334,8 @@ module _ (disk : DiskState) (tables : Tables) (s : State) (name : List ℕ) (t :
               (page_rows d.family walked item_columns t.items (λ key.
               ap (λ (x : TableSchema). shown stands.rows.layout x.family key) same
               ∙ stands.rows.shows.items name t at key))
-              ∙ sym (take-map (λ (e : List ℕ × Columns). e.1) most (map (row_at item_columns) placed))
+              ∙ sym (take-map (λ (e : List ℕ × Columns). e.1) most
+              (map (row_at item_columns) placed))
               ∙ ap (take most) (columns-rows item_columns placed)
               ∙ take-map item_columns most (map (λ (e : List ℕ × List Pair). e.1) placed);
         }

@@ -40,6 +40,7 @@ number_after l [] held within = within
 number_after l (w ∷ ws) held within = number_after (with_write l w) ws held.1
     (omega arith, let high = held.0.number in omega (arith, high))
 
+-- the next number of a layout that reads lies between 1 and the end of all numbers
 pub number_within : (s : DiskState) (e : Engine) (l : Layout) → Reads s e l
     → (1 ≤ l.next_number) × (l.next_number ≤ NUMBERS_END)
 number_within s e l reads =
@@ -61,6 +62,7 @@ left_before a b c narrows quiet =
       each = λ t image low high is f. all.each t f (image f) low high (is f);
     }
 
+-- where one state narrows another, what it may leave the other might have left
 pub left_at_once : (a b : DiskState) → Narrows a b → Spans a b (λ _. ⊤) (WasLeft a)
 left_at_once a b narrows = left_before a b b narrows (quiet_start b)
 
@@ -130,6 +132,7 @@ module _ (files : ℕ → Option (List ℕ)) where
   rows_explain l is Failed wrong = wrong
   rows_explain l is NoMemory wrong = wrong
 
+  -- where a row is wrong the files stand for no state
   pub rows_no_state : (l : Layout) → IsLayout files l → (fault : OpenFault) → IsRowFault l fault
       → HasNoState files fault
   rows_no_state l is (Damaged file at) wrong = absurd wrong
@@ -146,6 +149,7 @@ module _ (files : ℕ → Option (List ℕ)) where
   files_explain engine.Failed bad = bad
   files_explain engine.NoMemory bad = bad
 
+  -- where the files are no store's they stand for no state
   pub files_no_state : (fault : RecoverFault) → HasNoLayout files fault
       → HasNoState files (unopened fault)
   files_no_state (engine.Damaged file at) none = λ s stands. none stands.layout stands.is

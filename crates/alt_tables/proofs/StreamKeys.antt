@@ -67,6 +67,7 @@ IsSmall c = c.number < 2 ^ 64
 abbrev pub Rise : List Change → Type 0
 Rise changes = AllPairs (λ (a b : Change). a.number < b.number) changes
 
+-- two that hold, hold both
 both : (a b : Bool) → T a → T b → T (a && b)
 both true b p q = q
 both false b p q = absurd p
@@ -80,7 +81,8 @@ rise_first : (c : Change) (cs : List Change) → Rise (c ∷ cs)
 rise_first c cs rise k x within = rise 0 (suc k) x (omega arith) (omega (arith, within))
 
 below_keys : (c : Change) (cs : List Change) → IsSmall c → All IsSmall cs
-    → All (λ (b : Change). c.number < b.number) cs → T (below_all key_cmp (row_key c.number) (map keyed cs))
+    → All (λ (b : Change). c.number < b.number) cs
+    → T (below_all key_cmp (row_key c.number) (map keyed cs))
 below_keys c [] small all above = tt
 below_keys c (d ∷ ds) small all above =
     let next : d.number < 2 ^ 64 = All-head IsSmall d ds all in
@@ -164,6 +166,7 @@ found_keyed P (d ∷ ds) key c all found =
 abbrev pub IsKept : Change → Type 0
 IsKept c = IsSmall c × IsReadChange c
 
+-- the values of changes by their keys are the changes
 values_keyed : (cs : List Change) → map (λ (e : List ℕ × Change). e.1) (map keyed cs) ≡ cs
 values_keyed [] = refl
 values_keyed (c ∷ cs) = ap (λ rest. c ∷ rest) (values_keyed cs)
@@ -240,7 +243,8 @@ filter_keyed from (c ∷ cs) small all =
     by : (b : Bool)
         → filter (λ (e : List ℕ × Change). range_contains text_order (Included (row_key from))
         Unbounded e.0) (map keyed cs)
-        ≡ map keyed (filter (λ (c : Change). nat_le from c.number) cs) → cond b (keyed c ∷ filter (λ (e : List ℕ × Change). range_contains text_order
+        ≡ map keyed (filter (λ (c : Change). nat_le from c.number) cs)
+        → cond b (keyed c ∷ filter (λ (e : List ℕ × Change). range_contains text_order
         (Included (row_key from)) Unbounded e.0) (map keyed cs))
         (filter (λ (e : List ℕ × Change). range_contains text_order (Included (row_key from))
         Unbounded e.0) (map keyed cs))

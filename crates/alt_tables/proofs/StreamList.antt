@@ -52,6 +52,7 @@ each_entry {X} P (e ∷ es) sorted all = All-cons (λ (e : List ℕ × X). P e.0
 abbrev pub IsOwn : List ℕ → Change → Type 0
 IsOwn key c = (key ≡ row_key c.number) × IsSmall c
 
+-- each entry is one
 abbrev pub AreOwn : List (List ℕ × Change) → Type 0
 AreOwn es = All (λ (e : List ℕ × Change). IsOwn e.0 e.1) es
 
@@ -122,6 +123,7 @@ module _ (m : Texts Change)
       (each_entry (λ key c. P c) (finite.entries m) (finite.entries_sorted m)
       (λ key c at. all key c (finite.get-entries m key ∙ at)))
 
+  -- the changes that are listed rise
   pub rise_listed : Rise (changes_in (finite.entries m))
   rise_listed = rise_in (finite.entries m) (finite.entries_sorted m) entries_own
 

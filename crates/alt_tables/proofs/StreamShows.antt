@@ -128,6 +128,7 @@ pub are_small : (d : TableSchema) (next : ℕ) (cs : List Change) → next ≤ N
 are_small d next cs high changes = each_so (IsChange d next) IsSmall cs
     (λ c is. let low = is.number in omega (arith, low, high)) changes.each
 
+-- an item that was stored, and is made of values, can be read back
 read_item : (d : TableSchema) (place : List ℕ) (o : Option (List Pair))
     → IfSome o (WasStored d place) → IfSome o IsItemOfValues → IfSome o IsReadItem
 read_item d place None was held = tt

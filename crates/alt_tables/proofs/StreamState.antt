@@ -13,7 +13,7 @@ use Rattle.alt_machine.specs.Valid.{IsChange, IsTable}
 use Rattle.alt_machine.proofs.Descriptions.{get-descriptions}
 use Rattle.alt_schema.specs.Rules.{is_name}
 use Rattle.alt_schema.specs.declared.schema.TableSchema.{TableSchema}
-use Rattle.alt_tables.specs.Opening.{AllChangesRead, AreTablesRead, AssembledTables, IsFirstAmong, IsRowFault, IsStreamsFault}
+use Rattle.alt_tables.specs.Opening.{AllChangesRead, AreTablesRead, IsFirstAmong, IsRowFault, IsStreamsFault}
 use Rattle.alt_tables.specs.Pages.{IsChangeAt}
 use Rattle.alt_tables.specs.Recovery.{AgreesWhole, IsFirstOfStreams, IsFirstWrong}
 use Rattle.alt_tables.specs.StateRows.{keyed_changes, next_row, table_row}
@@ -26,6 +26,13 @@ use Rattle.alt_tables.proofs.Making.{same_Some}
 use Rattle.alt_tables.proofs.StreamKeys.{IsKept, found_keyed, get_keyed}
 use Rattle.alt_tables.proofs.StreamList.{ShowsChanges, list_read}
 use Rattle.alt_tables.proofs.StreamShows.{are_kept, are_small}
+
+-- A state whose rows these are with those of streams, and whose tables are those of the catalog.
+pub record AssembledTables (l : Layout) (next : ℕ) (known : Texts TableSchema)
+    (s : State) : Type 0 where
+  pub agrees : AgreesWhole l s
+  pub catalog : descriptions s.tables ≡ known
+  pub family : s.next_family ≡ next
 
 -- ---- the tables of a state and of the catalog
 

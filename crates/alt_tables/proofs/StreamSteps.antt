@@ -80,6 +80,7 @@ module _ (d : TableSchema) (old new : Option (List Pair)) where
         λ is. one.1 (is.0, (tells_a is.0).1 is.1, (tells_b is.0).1 is.2),
       ))
 
+  -- a place was found exactly where the item was stored at one
   some_place : (a : List Pair) (o : Option (List ℕ)) → TellsPlace d a o → (r : Bool)
       → r ≡ is_some o → IsTrue r ↔ ((place : List ℕ) × WasStored d place a)
   some_place a None tells r is = (

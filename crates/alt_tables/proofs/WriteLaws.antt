@@ -78,6 +78,7 @@ module _ (l : Layout) (s : State) (shows : Shows l s) (valid : IsValid s) (held 
     (differ : is_same (map.get t.items place) new ≡ false)
     (stored : (item : List Pair) → new ≡ Some item → IsStored t.description place item)
     (given : IfSome new IsItemOfValues) where
+  -- what the write changes of the row
   abbrev change : RowChange
   change = change_between t.description.family place
       (option_map item_columns (map.get t.items place)) (option_map item_columns new)

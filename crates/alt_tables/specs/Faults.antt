@@ -20,9 +20,10 @@ pub record AreMade (now : State → Type 0) (wants : Wants) (s : State)
 abbrev pub AreSome : ℕ → List State → Type 0
 AreSome k atoms = k ≤ length atoms - 1
 
--- The writes broke off: where a number or a family can't be had, just before the one that lacks it, the first that does; and for want
--- of memory, which may come at any time before the last of them is made, after some, none of which lacked one. Where the device failed, the tables stand for
--- no state from then on, and what a stop leaves is told of the disk. Rows that stand for a state are never damaged or bad.
+-- The writes broke off: where a number or a family can't be had, just before the one that lacks it, the first that does; and for
+-- want of memory, which may come at any time before the last of them is made, after some, none of which lacked one. Where the
+-- device failed, the tables stand for no state from then on, and what a stop leaves is told of the disk. Rows that stand for a
+-- state are never damaged or bad.
 abbrev pub BreakOff : (State → Type 0) → Wants → State → List State → TableFault → Type 0
 BreakOff now wants s atoms (Spent number) =
     (before : ℕ) × (lack_among wants s atoms ≡ Some (record { number = number; before = before }))

@@ -12,7 +12,7 @@ use Rattle.alt_schema.specs.Held.{IsHeld}
 use Rattle.alt_schema.specs.declared.schema.TableSchema.{TableSchema}
 use Rattle.alt_tables.specs.Made.{is_as_made}
 use Rattle.alt_tables.specs.IndexScans.{IndexesRead, IsFirstOfOwn}
-use Rattle.alt_tables.specs.Recovery.{Agrees, AgreesWhole, IsFirstWrong}
+use Rattle.alt_tables.specs.Recovery.{IsFirstWrong}
 use Rattle.alt_tables.specs.Scans.{IsBelow, ItemsRead}
 use Rattle.alt_tables.specs.StateRows.{Shows, IsHeldWhole, catalog_family, next_row, table_row}
 use Rattle.alt_tables.specs.StreamScans.{ChangesRead, IsFirstOfStream}
@@ -153,13 +153,6 @@ pub record AreTablesRead (l : Layout) (next : ℕ) (known : Texts TableSchema) :
   pub items : AllItemsRead l known
   pub beyond : (family : ℕ) (key : List ℕ) → next ≤ family → shown l family key ≡ None
 
--- A state whose rows of the catalog and of tables these are, and whose tables are those of the catalog.
-pub record AssembledRows (l : Layout) (next : ℕ) (known : Texts TableSchema)
-    (s : State) : Type 0 where
-  pub agrees : Agrees (λ f k. Unit {0}) l s
-  pub catalog : descriptions s.tables ≡ known
-  pub family : s.next_family ≡ next
-
 -- the streams of its tables are read
 abbrev pub AllChangesRead : Layout → Texts TableSchema → Type 0
 AllChangesRead l catalog = (name : List ℕ) (d : TableSchema) → map.get catalog name ≡ Some d
@@ -181,13 +174,6 @@ IsStreamsFault l catalog (Damaged file at) = ⊥
 IsStreamsFault l catalog (BadRow family key) = IsFirstAmong l catalog family key
 IsStreamsFault l catalog Failed = Unit {0}
 IsStreamsFault l catalog NoMemory = Unit {0}
-
--- A state whose rows these are with those of streams, and whose tables are those of the catalog.
-pub record AssembledTables (l : Layout) (next : ℕ) (known : Texts TableSchema)
-    (s : State) : Type 0 where
-  pub agrees : AgreesWhole l s
-  pub catalog : descriptions s.tables ≡ known
-  pub family : s.next_family ≡ next
 
 -- the indexes of its tables are read
 abbrev pub AllIndexesRead : Layout → Texts TableSchema → Type 0

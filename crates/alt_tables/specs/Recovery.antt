@@ -74,8 +74,9 @@ pub record IsFirstOfStreams (l : Layout) (family : ℕ) (key : List ℕ) : Type 
 abbrev pub IndexAgrees : Layout → Table → IndexSchema → Type 0
 IndexAgrees l t i = (key : List ℕ) → shown l i.family key ≡ index_rows t i key
 
--- Where these rows and those of streams are those of a state, the first wrong one of an index: what stands at that key, or is missing there, isn't what
--- the state's items give. Tables come in the order of their families, the indexes of each in that of their numbers, and in each its keys.
+-- Where these rows and those of streams are those of a state, the first wrong one of an index: what stands at that key, or is
+-- missing there, isn't what the state's items give. Tables come in the order of their families, the indexes of each in that of
+-- their numbers, and in each its keys.
 pub record IsFirstOfIndexes (l : Layout) (family : ℕ) (key : List ℕ) : Type 0 where
   pub state : State
   pub agrees : AgreesWhole l state

@@ -21,15 +21,18 @@ use Rattle.alt_expr.specs.Updated.{Edit, under, changed, changed_fields, put_her
 use Rattle.alt_updeval.specs.Shown.{put_at, new_at, put_if, put_new_if}
 use Rattle.alt_updeval.proofs.Under.{put-changed}
 
+-- an order that is told to be equal is Equal
 pub equal : (r : Ordering) → is_eq r ≡ true → r ≡ Equal
 equal Less e = cc
 equal Equal e = refl
 equal Greater e = cc
 
+-- a name below all pairs isn't among them
 not_there : (q : List ℕ) (ps : List Pair) → T (below_all text_order q ps) → at_name q ps ≡ None
 not_there q [] h = refl
 not_there q (p ∷ ps) h =
-    ap (λ r. cond (is_eq r) (Some p.1) (at_name q ps)) (less (text_order q p.0) (first _ _ h)) ∙ not_there q ps (second _ _ h)
+    ap (λ r. cond (is_eq r) (Some p.1) (at_name q ps)) (less (text_order q p.0) (first _ _ h))
+    ∙ not_there q ps (second _ _ h)
 
 or-none : (o : Option Tree) → option_or o None ≡ o
 or-none None = refl
@@ -38,44 +41,59 @@ or-none (Some t) = refl
 -- ---- what becomes of the values
 
 picked : (q name : List ℕ) (o : Option Tree) (fs : Fields)
-    → at_name q (pairs (pair_then name o fs)) ≡ cond (eq_by_cmp text_order q name) (option_or o (at_name q (pairs fs))) (at_name q (pairs fs))
-picked q name None fs = elim (eq_by_cmp text_order q name) as (λ b. at_name q (pairs fs) ≡ cond b (at_name q (pairs fs)) (at_name q (pairs fs))) [ true ↦ refl | false ↦ refl ]
+    → at_name q (pairs (pair_then name o fs))
+    ≡ cond (eq_by_cmp text_order q name) (option_or o (at_name q (pairs fs)))
+    (at_name q (pairs fs))
+picked q name None fs = elim (eq_by_cmp text_order q name) as (λ b. at_name q (pairs fs)
+    ≡ cond b (at_name q (pairs fs)) (at_name q (pairs fs))) [ true ↦ refl | false ↦ refl ]
 picked q name (Some t) fs = refl
 
 -- each name has what becomes of its value
 pub at_name-fields : (es : List Edit) (q : List ℕ) (ps : List Pair) → T (is_sorted text_order ps)
-    → at_name q (pairs (changed_fields es (fields_of ps))) ≡ option_and_then (changed (under (Name q) es)) (at_name q ps)
+    → at_name q (pairs (changed_fields es (fields_of ps)))
+    ≡ option_and_then (changed (under (Name q) es)) (at_name q ps)
 at_name-fields es q [] h = refl
 at_name-fields es q (p ∷ ps) h =
     let rest = at_name-fields es q ps (second _ _ h) in
     picked q p.0 (changed (under (Name p.0) es) p.1) (changed_fields es (fields_of ps)) ∙
     elim (eq_by_cmp text_order q p.0) as (λ b. eq_by_cmp text_order q p.0 ≡ b
-    → cond b (option_or (changed (under (Name p.0) es) p.1) (at_name q (pairs (changed_fields es (fields_of ps))))) (at_name q (pairs (changed_fields es (fields_of ps))))
+    → cond b (option_or (changed (under (Name p.0) es) p.1)
+    (at_name q (pairs (changed_fields es (fields_of ps)))))
+    (at_name q (pairs (changed_fields es (fields_of ps))))
     ≡ option_and_then (changed (under (Name q) es)) (cond b (Some p.1) (at_name q ps))) [
       | true ↦ λ e.
           let same : q ≡ p.0 = text_apart q p.0 (equal (text_order q p.0) e) in
-          let gone : at_name q ps ≡ None = ap (λ (m : List ℕ). at_name m ps) same ∙ not_there p.0 ps (first _ _ h) in
-          ap (option_or (changed (under (Name p.0) es) p.1)) (rest ∙ ap (option_and_then (changed (under (Name q) es))) gone)
-          ∙ or-none (changed (under (Name p.0) es) p.1) ∙ ap (λ (m : List ℕ). changed (under (Name m) es) p.1) (sym same)
+          let gone : at_name q ps ≡ None = ap (λ (m : List ℕ). at_name m ps) same
+          ∙ not_there p.0 ps (first _ _ h) in
+          ap (option_or (changed (under (Name p.0) es) p.1))
+          (rest ∙ ap (option_and_then (changed (under (Name q) es))) gone)
+          ∙ or-none (changed (under (Name p.0) es) p.1)
+          ∙ ap (λ (m : List ℕ). changed (under (Name m) es) p.1) (sym same)
       | false ↦ λ e. rest
     ] refl
 
-below-picked : (x name : List ℕ) (o : Option Tree) (fs : Fields) → T (is_lt (text_order x name)) → T (below_all text_order x (pairs fs))
+-- a name below all pairs is below one pair more that is above it
+below-picked : (x name : List ℕ) (o : Option Tree) (fs : Fields) → T (is_lt (text_order x name))
+    → T (below_all text_order x (pairs fs))
     → T (below_all text_order x (pairs (pair_then name o fs)))
 below-picked x name None fs p h = h
 below-picked x name (Some t) fs p h = both _ _ p h
 
-below-fields : (x : List ℕ) (es : List Edit) (ps : List Pair) → T (below_all text_order x ps) → T (below_all text_order x (pairs (changed_fields es (fields_of ps))))
+below-fields : (x : List ℕ) (es : List Edit) (ps : List Pair) → T (below_all text_order x ps)
+    → T (below_all text_order x (pairs (changed_fields es (fields_of ps))))
 below-fields x es [] h = tt
 below-fields x es (p ∷ ps) h =
-    below-picked x p.0 (changed (under (Name p.0) es) p.1) (changed_fields es (fields_of ps)) (first _ _ h) (below-fields x es ps (second _ _ h))
+    below-picked x p.0 (changed (under (Name p.0) es) p.1) (changed_fields es (fields_of ps))
+    (first _ _ h) (below-fields x es ps (second _ _ h))
 
-sorted-picked : (name : List ℕ) (o : Option Tree) (fs : Fields) → T (below_all text_order name (pairs fs)) → T (is_sorted text_order (pairs fs))
+sorted-picked : (name : List ℕ) (o : Option Tree) (fs : Fields)
+    → T (below_all text_order name (pairs fs)) → T (is_sorted text_order (pairs fs))
     → T (is_sorted text_order (pairs (pair_then name o fs)))
 sorted-picked name None fs b h = h
 sorted-picked name (Some t) fs b h = both _ _ b h
 
-sorted-fields : (es : List Edit) (ps : List Pair) → T (is_sorted text_order ps) → T (is_sorted text_order (pairs (changed_fields es (fields_of ps))))
+sorted-fields : (es : List Edit) (ps : List Pair) → T (is_sorted text_order ps)
+    → T (is_sorted text_order (pairs (changed_fields es (fields_of ps))))
 sorted-fields es [] h = tt
 sorted-fields es (p ∷ ps) h =
     sorted-picked p.0 (changed (under (Name p.0) es) p.1) (changed_fields es (fields_of ps))
@@ -84,16 +102,20 @@ sorted-fields es (p ∷ ps) h =
 -- ---- what is put at names
 
 -- an edit that puts nothing here is passed over, and so is one elsewhere
-passed : (e : Edit) (us : List Edit) (b : Bool) → ((vs : List Edit) → put_here (e ∷ vs) ≡ put_here vs) → put_here us ≡ put_here (cond b (e ∷ []) [] ++ us)
+passed : (e : Edit) (us : List Edit) (b : Bool)
+    → ((vs : List Edit) → put_here (e ∷ vs) ≡ put_here vs)
+    → put_here us ≡ put_here (cond b (e ∷ []) [] ++ us)
 passed e us true h = sym (h us)
 passed e us false h = refl
 
-skipped : (q n : List ℕ) (ss : List PathPart) (v : Option Tree) (es : List Edit) → ((vs : List Edit) → put_here ((ss, v) ∷ vs) ≡ put_here vs)
+skipped : (q n : List ℕ) (ss : List PathPart) (v : Option Tree) (es : List Edit)
+    → ((vs : List Edit) → put_here ((ss, v) ∷ vs) ≡ put_here vs)
     → put_at es q ≡ put_at ((Name n ∷ ss, v) ∷ es) q
 skipped [] n ss v es h = refl
 skipped (c ∷ cs) n ss v es h = passed (ss, v) (under (Name (c ∷ cs)) es) (bytes_eq (c ∷ cs) n) h
 
-elsewhere : (q : List ℕ) (i : ℕ) (ss : List PathPart) (v : Option Tree) (es : List Edit) → put_at es q ≡ put_at ((Index i ∷ ss, v) ∷ es) q
+elsewhere : (q : List ℕ) (i : ℕ) (ss : List PathPart) (v : Option Tree) (es : List Edit)
+    → put_at es q ≡ put_at ((Index i ∷ ss, v) ∷ es) q
 elsewhere [] i ss v es = refl
 elsewhere (c ∷ cs) i ss v es = refl
 
@@ -105,37 +127,52 @@ same_text : (q n : List ℕ) → eq_by_cmp text_order q n ≡ bytes_eq q n
 same_text q n = sym (texts_ties q n)
 
 -- one name more is put
-named : (q n : List ℕ) (t : Tree) (es : List Edit) (ps : List Pair) (before : List Pair) → at_name q before ≡ option_or (put_at es q) (at_name q ps)
-    → at_name q (put_name n t before) ≡ option_or (put_at ((Name n ∷ [], Some t) ∷ es) q) (at_name q ps)
+named : (q n : List ℕ) (t : Tree) (es : List Edit) (ps : List Pair) (before : List Pair)
+    → at_name q before ≡ option_or (put_at es q) (at_name q ps)
+    → at_name q (put_name n t before) ≡ option_or (put_at ((Name n ∷ [], Some t) ∷ es) q)
+    (at_name q ps)
 named [] [] t es ps before is = is
 named (c ∷ cs) [] t es ps before is = is
 named [] (d ∷ ds) t es ps before is = find-put text_order text_total [] (d ∷ ds) t before ∙ is
 named (c ∷ cs) (d ∷ ds) t es ps before is =
     find-put text_order text_total (c ∷ cs) (d ∷ ds) t before
     ∙ ap (λ b. cond b (Some t) (at_name (c ∷ cs) before)) (same_text (c ∷ cs) (d ∷ ds))
-    ∙ elim (bytes_eq (c ∷ cs) (d ∷ ds)) as (λ b. cond b (Some t) (at_name (c ∷ cs) before) ≡ option_or (put_here (cond b (([], Some t) ∷ []) [] ++ under (Name (c ∷ cs)) es)) (at_name (c ∷ cs) ps)) [
+    ∙ elim (bytes_eq (c ∷ cs) (d ∷ ds)) as (λ b. cond b (Some t) (at_name (c ∷ cs) before)
+    ≡ option_or (put_here (cond b (([], Some t) ∷ []) [] ++ under (Name (c ∷ cs)) es))
+    (at_name (c ∷ cs) ps)) [
       | true ↦ refl
       | false ↦ is
     ]
 
-pub at_name-put_names : (es : List Edit) (ps : List Pair) (q : List ℕ) → at_name q (put_names es ps) ≡ option_or (put_at es q) (at_name q ps)
+-- what stands at a name after edits put is what they put there, or what stood there
+pub at_name-put_names : (es : List Edit) (ps : List Pair) (q : List ℕ)
+    → at_name q (put_names es ps) ≡ option_or (put_at es q) (at_name q ps)
 at_name-put_names [] ps [] = refl
 at_name-put_names [] ps (c ∷ cs) = refl
-at_name-put_names (([], v) ∷ es) ps q = at_name-put_names es ps q ∙ ap (λ o. option_or o (at_name q ps)) (above q v es)
-at_name-put_names ((Index i ∷ ss, v) ∷ es) ps q = at_name-put_names es ps q ∙ ap (λ o. option_or o (at_name q ps)) (elsewhere q i ss v es)
-at_name-put_names ((Name n ∷ [], Some t) ∷ es) ps q = named q n t es ps (put_names es ps) (at_name-put_names es ps q)
-at_name-put_names ((Name n ∷ [], None) ∷ es) ps q = at_name-put_names es ps q ∙ ap (λ o. option_or o (at_name q ps)) (skipped q n [] None es (λ vs. refl))
-at_name-put_names ((Name n ∷ s ∷ ss, v) ∷ es) ps q = at_name-put_names es ps q ∙ ap (λ o. option_or o (at_name q ps)) (skipped q n (s ∷ ss) v es (λ vs. refl))
+at_name-put_names (([], v) ∷ es) ps q = at_name-put_names es ps q
+    ∙ ap (λ o. option_or o (at_name q ps)) (above q v es)
+at_name-put_names ((Index i ∷ ss, v) ∷ es) ps q = at_name-put_names es ps q
+    ∙ ap (λ o. option_or o (at_name q ps)) (elsewhere q i ss v es)
+at_name-put_names ((Name n ∷ [], Some t) ∷ es) ps q =
+    named q n t es ps (put_names es ps) (at_name-put_names es ps q)
+at_name-put_names ((Name n ∷ [], None) ∷ es) ps q = at_name-put_names es ps q
+    ∙ ap (λ o. option_or o (at_name q ps)) (skipped q n [] None es (λ vs. refl))
+at_name-put_names ((Name n ∷ s ∷ ss, v) ∷ es) ps q = at_name-put_names es ps q
+    ∙ ap (λ o. option_or o (at_name q ps)) (skipped q n (s ∷ ss) v es (λ vs. refl))
 
-sorted-put_name : (n : List ℕ) (t : Tree) (ps : List Pair) → T (is_sorted text_order ps) → T (is_sorted text_order (put_name n t ps))
+-- pairs that rise do so with one more put in
+sorted-put_name : (n : List ℕ) (t : Tree) (ps : List Pair) → T (is_sorted text_order ps)
+    → T (is_sorted text_order (put_name n t ps))
 sorted-put_name [] t ps h = h
 sorted-put_name (c ∷ cs) t ps h = is_sorted-put text_order text_total (c ∷ cs) t ps h
 
-sorted-put_names : (es : List Edit) (ps : List Pair) → T (is_sorted text_order ps) → T (is_sorted text_order (put_names es ps))
+sorted-put_names : (es : List Edit) (ps : List Pair) → T (is_sorted text_order ps)
+    → T (is_sorted text_order (put_names es ps))
 sorted-put_names [] ps h = h
 sorted-put_names (([], v) ∷ es) ps h = sorted-put_names es ps h
 sorted-put_names ((Index i ∷ ss, v) ∷ es) ps h = sorted-put_names es ps h
-sorted-put_names ((Name n ∷ [], Some t) ∷ es) ps h = sorted-put_name n t (put_names es ps) (sorted-put_names es ps h)
+sorted-put_names ((Name n ∷ [], Some t) ∷ es) ps h =
+    sorted-put_name n t (put_names es ps) (sorted-put_names es ps h)
 sorted-put_names ((Name n ∷ [], None) ∷ es) ps h = sorted-put_names es ps h
 sorted-put_names ((Name n ∷ s ∷ ss, v) ∷ es) ps h = sorted-put_names es ps h
 
@@ -143,71 +180,100 @@ sorted-put_names ((Name n ∷ s ∷ ss, v) ∷ es) ps h = sorted-put_names es ps
 
 -- what is put at a name that is there is what becomes of it
 covered : (es : List Edit) (q : List ℕ) (o : Option Tree)
-    → option_or (if is_none o then put_at es q else None) (option_and_then (changed (under (Name q) es)) o) ≡ option_or (put_at es q) (option_and_then (changed (under (Name q) es)) o)
+    → option_or (if is_none o then put_at es q else None)
+    (option_and_then (changed (under (Name q) es)) o)
+    ≡ option_or (put_at es q) (option_and_then (changed (under (Name q) es)) o)
 covered es q None = refl
 covered es [] (Some t) = refl
 covered es (c ∷ cs) (Some t) = sym (put-changed (under (Name (c ∷ cs)) es) t)
 
+-- a map made of old pairs with their edits, and of new ones, is the map with all edits
 pub map-from : (es : List Edit) (ps out : List Pair) → IsItem ps → IsItem out
-    → ((q : List ℕ) → at_name q out ≡ option_or (new_at es ps q) (option_and_then (changed (under (Name q) es)) (at_name q ps)))
+    → ((q : List ℕ) → at_name q out ≡ option_or (new_at es ps q)
+    (option_and_then (changed (under (Name q) es)) (at_name q ps)))
     → out ≡ put_names es (pairs (changed_fields es (fields_of ps)))
 map-from es ps out is_item is_out each =
-    same_entries text_order text_total text_apart out (put_names es (pairs (changed_fields es (fields_of ps)))) is_out.0
+    same_entries text_order text_total text_apart out
+    (put_names es (pairs (changed_fields es (fields_of ps)))) is_out.0
     (sorted-put_names es (pairs (changed_fields es (fields_of ps))) (sorted-fields es ps is_item.0))
     (λ q. each q ∙ covered es q (at_name q ps)
-    ∙ sym (at_name-put_names es (pairs (changed_fields es (fields_of ps))) q ∙ ap (option_or (put_at es q)) (at_name-fields es q ps is_item.0)))
+    ∙ sym (at_name-put_names es (pairs (changed_fields es (fields_of ps))) q
+    ∙ ap (option_or (put_at es q)) (at_name-fields es q ps is_item.0)))
 
 -- ---- one pair more
 
+-- what stands at a name after a value that may be there was put
 pub at_name-put_if : (q name : List ℕ) (o : Option Tree) (ps : List Pair)
-    → at_name q (put_if name o ps) ≡ cond (eq_by_cmp text_order q name) (option_or o (at_name q ps)) (at_name q ps)
-at_name-put_if q name None ps = elim (eq_by_cmp text_order q name) as (λ b. at_name q ps ≡ cond b (at_name q ps) (at_name q ps)) [ true ↦ refl | false ↦ refl ]
+    → at_name q (put_if name o ps) ≡ cond (eq_by_cmp text_order q name) (option_or o (at_name q ps))
+    (at_name q ps)
+at_name-put_if q name None ps = elim (eq_by_cmp text_order q name) as (λ b. at_name q ps
+    ≡ cond b (at_name q ps) (at_name q ps)) [ true ↦ refl | false ↦ refl ]
 at_name-put_if q name (Some t) ps = find-put text_order text_total q name t ps
 
-below_at : (x : List ℕ) (ps : List Pair) (i : ℕ) (name : List ℕ) (v : Tree) → T (below_all text_order x ps) → slice_get ps i ≡ Some (name, v) → text_order x name ≡ Less
+-- a name below all pairs is below each of them
+below_at : (x : List ℕ) (ps : List Pair) (i : ℕ) (name : List ℕ) (v : Tree)
+    → T (below_all text_order x ps) → slice_get ps i ≡ Some (name, v) → text_order x name ≡ Less
 below_at x [] i name v h e = cc
-below_at x (p ∷ ps) zero name v h e = ap (λ (r : Pair). text_order x r.0) (sym (same_Some p (name, v) e)) ∙ less (text_order x p.0) (first _ _ h)
+below_at x (p ∷ ps) zero name v h e = ap (λ (r : Pair). text_order x r.0)
+    (sym (same_Some p (name, v) e)) ∙ less (text_order x p.0) (first _ _ h)
 below_at x (p ∷ ps) (suc i) name v h e = below_at x ps i name v (second _ _ h) e
 
 -- a name doesn't stand before its place
-gone : (ps : List Pair) (i : ℕ) (name : List ℕ) (v : Tree) → T (is_sorted text_order ps) → slice_get ps i ≡ Some (name, v) → at_name name (take i ps) ≡ None
+gone : (ps : List Pair) (i : ℕ) (name : List ℕ) (v : Tree) → T (is_sorted text_order ps)
+    → slice_get ps i ≡ Some (name, v) → at_name name (take i ps) ≡ None
 gone [] i name v h e = cc
 gone (p ∷ ps) zero name v h e = refl
 gone (p ∷ ps) (suc i) name v h e =
-    let over : text_order name p.0 ≡ Greater = turned text_order text_total p.0 name Less (below_at p.0 ps i name v (first _ _ h) e) in
-    ap (λ r. cond (is_eq r) (Some p.1) (at_name name (take i ps))) over ∙ gone ps i name v (second _ _ h) e
+    let over : text_order name p.0 ≡ Greater =
+    turned text_order text_total p.0 name Less (below_at p.0 ps i name v (first _ _ h) e) in
+    ap (λ r. cond (is_eq r) (Some p.1) (at_name name (take i ps))) over
+    ∙ gone ps i name v (second _ _ h) e
 
 module _ (es : List Edit) (ps : List Pair) where
   -- each name so far has what becomes of its value
   abbrev pub Upto : ℕ → List Pair → Type 0
-  Upto i out = (q : List ℕ) → at_name q out ≡ option_and_then (changed (under (Name q) es)) (at_name q (take i ps))
+  Upto i out = (q : List ℕ)
+      → at_name q out ≡ option_and_then (changed (under (Name q) es)) (at_name q (take i ps))
 
-  pub one_more : (i : ℕ) (name : List ℕ) (v : Tree) (before now : List Pair) → T (is_sorted text_order ps) → slice_get ps i ≡ Some (name, v)
-      → take (i + 1) ps ≡ take i ps ++ (name, v) ∷ [] → Upto i before → now ≡ put_if name (changed (under (Name name) es) v) before → Upto (i + 1) now
+  -- one pair more is looked at, with what its edits make of it
+  pub one_more : (i : ℕ) (name : List ℕ) (v : Tree) (before now : List Pair)
+      → T (is_sorted text_order ps) → slice_get ps i ≡ Some (name, v)
+      → take (i + 1) ps ≡ take i ps ++ (name, v) ∷ [] → Upto i before
+      → now ≡ put_if name (changed (under (Name name) es) v) before → Upto (i + 1) now
   one_more i name v before now sorted stands more was put q =
-      let before_q : at_name q (take (i + 1) ps) ≡ cond (eq_by_cmp text_order q name) (Some v) (at_name q (take i ps)) =
-      ap (at_name q) more ∙ find-append text_order text_total (take i ps) name v q (gone ps i name v sorted stands) in
+      let before_q : at_name q (take (i + 1) ps)
+      ≡ cond (eq_by_cmp text_order q name) (Some v) (at_name q (take i ps)) =
+      ap (at_name q) more ∙ find-append text_order text_total (take i ps) name v q
+      (gone ps i name v sorted stands) in
       ap (at_name q) put ∙ at_name-put_if q name (changed (under (Name name) es) v) before ∙
       elim (eq_by_cmp text_order q name) as (λ b. eq_by_cmp text_order q name ≡ b
-      → cond b (option_or (changed (under (Name name) es) v) (at_name q before)) (at_name q before) ≡ option_and_then (changed (under (Name q) es)) (cond b (Some v) (at_name q (take i ps)))) [
+      → cond b (option_or (changed (under (Name name) es) v) (at_name q before)) (at_name q before)
+      ≡ option_and_then (changed (under (Name q) es))
+      (cond b (Some v) (at_name q (take i ps)))) [
         | true ↦ λ e.
             let same : q ≡ name = text_apart q name (equal (text_order q name) e) in
-            let none : at_name q (take i ps) ≡ None = ap (λ (m : List ℕ). at_name m (take i ps)) same ∙ gone ps i name v sorted stands in
-            ap (option_or (changed (under (Name name) es) v)) (was q ∙ ap (option_and_then (changed (under (Name q) es))) none)
-            ∙ or-none (changed (under (Name name) es) v) ∙ ap (λ (m : List ℕ). changed (under (Name m) es) v) (sym same)
+            let none : at_name q (take i ps) ≡ None =
+            ap (λ (m : List ℕ). at_name m (take i ps)) same ∙ gone ps i name v sorted stands in
+            ap (option_or (changed (under (Name name) es) v))
+            (was q ∙ ap (option_and_then (changed (under (Name q) es))) none)
+            ∙ or-none (changed (under (Name name) es) v)
+            ∙ ap (λ (m : List ℕ). changed (under (Name m) es) v) (sym same)
         | false ↦ λ e. was q
       ] refl
       ∙ sym (ap (option_and_then (changed (under (Name q) es))) before_q)
 
 -- ---- one new name more
 
+-- a new name is put exactly where edits put it
 pub put_new : (name : List ℕ) (b : Bool) (es : List Edit) (before : List Pair)
-    → put_new_if name (put_here (if b then under (Name name) es else [])) before ≡ put_if name (if b then put_at es name else None) before
+    → put_new_if name (put_here (if b then under (Name name) es else [])) before
+    ≡ put_if name (if b then put_at es name else None) before
 put_new [] true es before = refl
 put_new [] false es before = refl
 put_new (c ∷ cs) true es before = refl
 put_new (c ∷ cs) false es before = refl
 
+-- a value that is put a second time changes nothing
 over_again : (o p : Option Tree) (b : Bool) → option_or o (cond b (option_or o p) p) ≡ option_or o p
 over_again None p true = refl
 over_again None p false = refl
@@ -216,25 +282,36 @@ over_again (Some t) p b = refl
 module _ (es : List Edit) (ps out0 : List Pair) where
   -- each new name that was seen has what is put there
   abbrev pub Seen : (List ℕ → Bool) → List Pair → Type 0
-  Seen seen out = (q : List ℕ) → at_name q out ≡ cond (seen q) (option_or (new_at es ps q) (at_name q out0)) (at_name q out0)
+  Seen seen out = (q : List ℕ) → at_name q out
+      ≡ cond (seen q) (option_or (new_at es ps q) (at_name q out0)) (at_name q out0)
 
-  pub seen_more : (seen more : List ℕ → Bool) (name : List ℕ) (before now : List Pair) → Seen seen before
-      → ((q : List ℕ) → more q ≡ cond (eq_by_cmp text_order q name) true (seen q)) → now ≡ put_if name (new_at es ps name) before → Seen more now
+  -- a new name more is seen, and what is put there is
+  pub seen_more : (seen more : List ℕ → Bool) (name : List ℕ) (before now : List Pair)
+      → Seen seen before
+      → ((q : List ℕ) → more q ≡ cond (eq_by_cmp text_order q name) true (seen q))
+      → now ≡ put_if name (new_at es ps name) before → Seen more now
   seen_more seen more name before now was is put q =
       ap (at_name q) put ∙ at_name-put_if q name (new_at es ps name) before ∙
       elim (eq_by_cmp text_order q name) as (λ b. eq_by_cmp text_order q name ≡ b
-      → cond b (option_or (new_at es ps name) (at_name q before)) (at_name q before) ≡ cond (more q) (option_or (new_at es ps q) (at_name q out0)) (at_name q out0)) [
+      → cond b (option_or (new_at es ps name) (at_name q before)) (at_name q before)
+      ≡ cond (more q) (option_or (new_at es ps q) (at_name q out0)) (at_name q out0)) [
         | true ↦ λ e.
             let same : q ≡ name = text_apart q name (equal (text_order q name) e) in
             ap (λ (m : List ℕ). option_or (new_at es ps m) (at_name q before)) (sym same)
-            ∙ ap (option_or (new_at es ps q)) (was q) ∙ over_again (new_at es ps q) (at_name q out0) (seen q)
-            ∙ ap (λ b. cond b (option_or (new_at es ps q) (at_name q out0)) (at_name q out0)) (sym (is q ∙ ap (λ b. cond b true (seen q)) e))
-        | false ↦ λ e. was q ∙ ap (λ b. cond b (option_or (new_at es ps q) (at_name q out0)) (at_name q out0)) (sym (is q ∙ ap (λ b. cond b true (seen q)) e))
+            ∙ ap (option_or (new_at es ps q)) (was q)
+            ∙ over_again (new_at es ps q) (at_name q out0) (seen q)
+            ∙ ap (λ b. cond b (option_or (new_at es ps q) (at_name q out0)) (at_name q out0))
+            (sym (is q ∙ ap (λ b. cond b true (seen q)) e))
+        | false ↦ λ e. was q
+            ∙ ap (λ b. cond b (option_or (new_at es ps q) (at_name q out0)) (at_name q out0))
+            (sym (is q ∙ ap (λ b. cond b true (seen q)) e))
       ] refl
 
 -- a name that stands in a map isn't empty
-pub name_some : (ps : List Pair) (i : ℕ) (name : List ℕ) (v : Tree) → IsItem ps → slice_get ps i ≡ Some (name, v) → 0 < length name
-name_some ps i [] v item e = let below : text_order [] [] ≡ Less = below_at [] ps i [] v item.1 e in absurd (not_below below)
+pub name_some : (ps : List Pair) (i : ℕ) (name : List ℕ) (v : Tree) → IsItem ps
+    → slice_get ps i ≡ Some (name, v) → 0 < length name
+name_some ps i [] v item e = let below : text_order [] [] ≡ Less = below_at [] ps i [] v item.1 e in
+    absurd (not_below below)
   where
     not_below : text_order [] [] ≡ Less → ⊥
     not_below e = cc

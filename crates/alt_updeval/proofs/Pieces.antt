@@ -7,25 +7,33 @@ use Rattle.alt_value.proofs.Trees.{elements-trees_of}
 use Rattle.alt_expr.specs.Updated.{joined}
 use Rattle.alt_updeval.specs.Shown.{joined_pieces, list_in}
 
-pub pieces-append : (xs ys : List (Bor (List Tree))) → joined_pieces (xs ++ ys) ≡ joined_pieces xs ++ joined_pieces ys
+-- pieces one behind another are joined one behind another
+pub pieces-append : (xs ys : List (Bor (List Tree)))
+    → joined_pieces (xs ++ ys) ≡ joined_pieces xs ++ joined_pieces ys
 pieces-append [] ys = refl
-pieces-append (x ∷ xs) ys = ap (λ l. x.now ++ l) (pieces-append xs ys) ∙ sym (append_assoc x.now (joined_pieces xs) (joined_pieces ys))
+pieces-append (x ∷ xs) ys = ap (λ l. x.now ++ l) (pieces-append xs ys)
+    ∙ sym (append_assoc x.now (joined_pieces xs) (joined_pieces ys))
 
 -- two lists are joined
-pub joined_are : (s t : Tree) (xs ys : List Tree) → list_in s ≡ Ok xs → list_in t ≡ Ok ys → joined s t ≡ Ok (L_tree (trees_of (xs ++ ys)))
+pub joined_are : (s t : Tree) (xs ys : List Tree) → list_in s ≡ Ok xs → list_in t ≡ Ok ys
+    → joined s t ≡ Ok (L_tree (trees_of (xs ++ ys)))
 joined_are (L_tree ss) (L_tree ts) xs ys p q =
     let e : elements ss ≡ xs = cc p in
     let f : elements ts ≡ ys = cc q in
-    ap (λ (l : List Tree). Ok (L_tree (trees_of (l ++ elements ts)))) e ∙ ap (λ (l : List Tree). Ok (L_tree (trees_of (xs ++ l)))) f
+    ap (λ (l : List Tree). Ok (L_tree (trees_of (l ++ elements ts)))) e
+    ∙ ap (λ (l : List Tree). Ok (L_tree (trees_of (xs ++ l)))) f
 joined_are (L_tree ss) _ xs ys p q = absurd (cc)
 joined_are _ t xs ys p q = absurd (cc)
 
+-- a list is one piece
 pub one_piece : (ts : List Tree) → list_in (L_tree (trees_of ts)) ≡ Ok (ts ++ [])
 one_piece ts = ap Ok (elements-trees_of ts ∙ sym (append-nil ts))
 
 -- a list that was pushed alone
-pub one_pushed : (ts : List Tree) (before now : List (Bor (List Tree))) (p : Bor (List Tree)) → now ≡ before ++ p ∷ [] → before ≡ [] → p.now ≡ ts
+pub one_pushed : (ts : List Tree) (before now : List (Bor (List Tree))) (p : Bor (List Tree))
+    → now ≡ before ++ p ∷ [] → before ≡ [] → p.now ≡ ts
     → list_in (L_tree (trees_of ts)) ≡ Ok (joined_pieces now)
 one_pushed ts before now p pushed none is =
     one_piece ts ∙ ap (λ (l : List Tree). Ok (l ++ [])) (sym is)
-    ∙ ap (λ (l : List (Bor (List Tree))). Ok (joined_pieces l)) (sym (pushed ∙ ap (λ (l : List (Bor (List Tree))). l ++ p ∷ []) none))
+    ∙ ap (λ (l : List (Bor (List Tree))). Ok (joined_pieces l))
+    (sym (pushed ∙ ap (λ (l : List (Bor (List Tree))). l ++ p ∷ []) none))

@@ -10,7 +10,8 @@ use Rattle.alt_expr.specs.Located.{View, located}
 use Rattle.alt_expr.specs.Updated.{◌>>=◌, there, or_else, joined, term as value}
 
 -- a path that stands as a term has to be there
-pub term-At : (item : View) (path : List PathPart) → value item (term.At path) ≡ there (located item path)
+pub term-At : (item : View) (path : List PathPart)
+    → value item (term.At path) ≡ there (located item path)
 unfolding value
 term-At item path = search (rules, the_lemmas)
 
@@ -20,12 +21,15 @@ unfolding value
 term-Value item a = search (rules, the_lemmas)
 
 -- if_not_exists gives the part where it is there, else the other term
-pub term-IfNotExists : (item : View) (path : List PathPart) (other : Term) → value item (term.IfNotExists path other) ≡ or_else (located item path) (value item other)
+pub term-IfNotExists : (item : View) (path : List PathPart) (other : Term)
+    → value item (term.IfNotExists path other) ≡ or_else (located item path) (value item other)
 unfolding value
 term-IfNotExists item path other = search (rules, the_lemmas)
 
 -- list_append joins what its terms stand for, the first before the second
-pub term-ListAppend : (item : View) (x y : Term) → value item (term.ListAppend x y) ≡ (value item x >>= (λ s. value item y >>= (λ t. joined s t)))
+pub term-ListAppend : (item : View) (x y : Term)
+    → value item (term.ListAppend x y)
+    ≡ (value item x >>= (λ s. value item y >>= (λ t. joined s t)))
 unfolding value
 term-ListAppend item x y = search (rules, the_lemmas)
 

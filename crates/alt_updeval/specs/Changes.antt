@@ -8,4 +8,5 @@ use Rattle.alt_updeval.specs.declared.update.AttrChange.{AttrChange}
 -- changes are made one after another: a name gets its new value, or has none
 abbrev pub changed_by : List AttrChange → View → View
 changed_by [] item = item
-changed_by (c ∷ cs) item = changed_by cs (λ name. if bytes_eq name c.name then option_map tree_of c.value else item name)
+changed_by (c ∷ cs) item =
+    changed_by cs (λ name. if bytes_eq name c.name then option_map tree_of c.value else item name)

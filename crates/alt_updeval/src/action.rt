@@ -47,7 +47,8 @@ fn set<'a, V: AttrView>(
     view: &'a V,
 ) -> Result<Edit<'a>, UpdateFault>
     requires { begins_with_name path.now ≡ true }
-    ensures { Answers shown_at result (spec.edit (V.attribute view.now) (action.Set path.now sum.now)) }
+    ensures { Answers shown_at result
+        (spec.edit (V.attribute view.now) (action.Set path.now sum.now)) }
 {
     let value = sum_of(alloc, sum, view)?;
     parent(path, view)?;
@@ -99,7 +100,8 @@ fn takes(parent: &Attr, last: &PathPart) -> Result<(), UpdateFault>
 }
 
 fn add<'a, V: AttrView>(name: &'a str, value: &'a Attr, view: &V) -> Result<Edit<'a>, UpdateFault>
-    ensures { Answers shown_at result (spec.edit (V.attribute view.now) (action.Add name.now value.now)) }
+    ensures { Answers shown_at result
+        (spec.edit (V.attribute view.now) (action.Add name.now value.now)) }
 {
     let new = match view.attr(name) {
         Some(old) => added(old, value)?,
@@ -113,7 +115,8 @@ fn delete<'a, V: AttrView>(
     value: &'a Attr,
     view: &V,
 ) -> Result<Edit<'a>, UpdateFault>
-    ensures { Answers shown_at result (spec.edit (V.attribute view.now) (action.Delete name.now value.now)) }
+    ensures { Answers shown_at result
+        (spec.edit (V.attribute view.now) (action.Delete name.now value.now)) }
 {
     let rest = match view.attr(name) {
         Some(old) => taken(old, value)?,

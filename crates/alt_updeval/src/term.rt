@@ -67,7 +67,8 @@ fn term<'a, V: AttrView>(
 
 /// The elements of the second list behind those of the first.
 fn append<'a>(alloc: Global, front: Made<'a>, back: Made<'a>) -> Result<Made<'a>, UpdateFault>
-    ensures { Answers made_tree result (spec.joined (made_tree front.entry) (made_tree back.entry)) }
+    ensures { Answers made_tree result
+        (spec.joined (made_tree front.entry) (made_tree back.entry)) }
 {
     let mut pieces = pieces_of(alloc, front)?;
     let more = pieces_of(alloc, back)?;

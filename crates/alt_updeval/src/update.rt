@@ -39,7 +39,8 @@ pub fn changed<V: AttrView>(
     requires begins { begin_with_names update.now ≡ true }
     ensures changed { Answers (λ cs. changed_by cs.items (V.attribute view.now)) result
         (spec.updated (V.attribute view.now) update.now) }
-    ensures rising { IfOk result (λ cs. IsStrictlySortedBy text_order (map (λ c. c.name) cs.items)) }
+    ensures rising { IfOk result
+        (λ cs. IsStrictlySortedBy text_order (map (λ c. c.name) cs.items)) }
 {
     let all = edits(alloc, update.as_slice(), view)?;
     Ok(changes(alloc, all, view)?)
@@ -52,7 +53,8 @@ fn edits<'a, V: AttrView>(
     view: &'a V,
 ) -> Result<Vec<Edit<'a>>, UpdateFault>
     requires { begin_with_names actions.now ≡ true }
-    ensures { Answers (λ v. map shown_at v.items) result (spec.edits (V.attribute view.now) actions.now) }
+    ensures { Answers (λ v. map shown_at v.items) result
+        (spec.edits (V.attribute view.now) actions.now) }
 {
     let mut all = Vec::new(alloc);
     for action in actions {
@@ -67,9 +69,12 @@ fn changes<V: AttrView>(
     all: Vec<Edit<'_>>,
     view: &V,
 ) -> Result<Vec<AttrChange>, NoMemory>
-    ensures after { IfOk result (λ cs. (name : List ℕ) → changed_by cs.items (V.attribute view.now) name
-        ≡ spec.after (spec.under (Name name) (map shown_at all.entry.items)) (V.attribute view.now name)) }
-    ensures rising { IfOk result (λ cs. IsStrictlySortedBy text_order (map (λ c. c.name) cs.items)) }
+    ensures after { IfOk result (λ cs. (name : List ℕ)
+        → changed_by cs.items (V.attribute view.now) name
+        ≡ spec.after (spec.under (Name name) (map shown_at all.entry.items))
+        (V.attribute view.now name)) }
+    ensures rising { IfOk result
+        (λ cs. IsStrictlySortedBy text_order (map (λ c. c.name) cs.items)) }
 {
     let mut list = Vec::new(alloc);
     for (name, rests) in groups(alloc, all)? {

@@ -130,7 +130,8 @@ fn push_past(
     ways: &[Way<'_>],
     count: usize,
 ) -> Result<(), NoMemory>
-    ensures { OnOk result (out.new ≡ out.old ++ map (λ p. p.1) (spec.past count (map way_of ways.now))) }
+    ensures { OnOk result
+        (out.new ≡ out.old ++ map (λ p. p.1) (spec.past count (map way_of ways.now))) }
 {
     let indexed = groups(alloc, past_end(alloc, ways, count)?)?;
     for (_, behind) in &indexed {
@@ -140,7 +141,8 @@ fn push_past(
 }
 
 fn push_put(alloc: Global, out: &mut AttrList, ways: &[Way<'_>]) -> Result<(), NoMemory>
-    ensures { OnOk result (out.new ≡ out.old ++ option_to_list (spec.put_here (map way_of ways.now))) }
+    ensures { OnOk result
+        (out.new ≡ out.old ++ option_to_list (spec.put_here (map way_of ways.now))) }
 {
     match put_here(ways) {
         Some(new) => out.push(copied(alloc, new)?),
@@ -229,7 +231,8 @@ fn put_new_names(
 
 /// Puts what is put at a new name. No name is empty.
 fn put_new(alloc: Global, out: &mut Item, name: &str, ways: &[Way<'_>]) -> Result<(), NoMemory>
-    ensures { OnOk result (out.new ≡ put_new_if name.now (spec.put_here (map way_of ways.now)) out.old) }
+    ensures { OnOk result
+        (out.new ≡ put_new_if name.now (spec.put_here (map way_of ways.now)) out.old) }
 {
     if name.is_empty() {
         return Ok(());

@@ -14,14 +14,17 @@ abbrev Begins : Action → Type 0
 Begins a = begins_with_name (target a) ≡ true
 
 -- a test of an action, and of those behind it
-both : (a : Action) (xs : List Action) → Begins a → begin_with_names xs ≡ true → begin_with_names (a ∷ xs) ≡ true
+both : (a : Action) (xs : List Action) → Begins a → begin_with_names xs ≡ true
+    → begin_with_names (a ∷ xs) ≡ true
 both a xs p q = ap (λ b. b && begin_with_names xs) p ∙ q
 
-each : {D : Type 0} (f : D → Action) → ((d : D) → Begins (f d)) → (ds : List D) → begin_with_names (map f ds) ≡ true
+each : {D : Type 0} (f : D → Action) → ((d : D) → Begins (f d)) → (ds : List D)
+    → begin_with_names (map f ds) ≡ true
 each f p [] = refl
 each f p (d ∷ ds) = both (f d) (map f ds) (p d) (each f p ds)
 
-append : (xs ys : List Action) → begin_with_names xs ≡ true → begin_with_names ys ≡ true → begin_with_names (xs ++ ys) ≡ true
+append : (xs ys : List Action) → begin_with_names xs ≡ true → begin_with_names ys ≡ true
+    → begin_with_names (xs ++ ys) ≡ true
 append [] ys p q = q
 append (a ∷ xs) ys p q = both a (xs ++ ys) (first _ _ p) (append xs ys (second _ _ p) q)
   where
@@ -56,13 +59,16 @@ clause_begins g (deletes x xs) = each (delete_tree g) (delete_begins g) (x ∷ x
 
 clauses_begin : (g : Given) (cs : List ClausePhrase) → begin_with_names (clauses_tree g cs) ≡ true
 clauses_begin g [] = refl
-clauses_begin g (c ∷ cs) = append (clause_tree g c) (clauses_tree g cs) (clause_begins g c) (clauses_begin g cs)
+clauses_begin g (c ∷ cs) =
+    append (clause_tree g c) (clauses_tree g cs) (clause_begins g c) (clauses_begin g cs)
 
 -- and so do all of an update's
 pub update_begins : (g : Given) (d : UpdatePhrase) → begin_with_names (update_tree g d) ≡ true
-update_begins g (clauses c cs) = append (clause_tree g c) (clauses_tree g cs) (clause_begins g c) (clauses_begin g cs)
+update_begins g (clauses c cs) =
+    append (clause_tree g c) (clauses_tree g cs) (clause_begins g c) (clauses_begin g cs)
 
 -- and so do those of what was read
-pub read_begins : (g : Given) (toks : List Tok) (whole : Bool) (xs : List Action) → ReadTokens updates g toks whole (Ok xs) → begin_with_names xs ≡ true
+pub read_begins : (g : Given) (toks : List Tok) (whole : Bool) (xs : List Action)
+    → ReadTokens updates g toks whole (Ok xs) → begin_with_names xs ≡ true
 unfolding ReadTokens updates
 read_begins g toks whole xs h = ap begin_with_names h.1.1.2 ∙ update_begins g h.1.1.0

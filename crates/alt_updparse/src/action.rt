@@ -16,7 +16,8 @@ pub(crate) fn action(
     given: &Lookups<'_>,
     tokens: &mut Cursor<'_>,
 ) -> Result<Action, ExprFault>
-    ensures { Reads (spec.action (given_to given.now) clause (left tokens.old)) result (left tokens.new) }
+    ensures { Reads (spec.action (given_to given.now) clause (left tokens.old)) result
+        (left tokens.new) }
 {
     match clause {
         Keyword::Set => set(given, tokens),

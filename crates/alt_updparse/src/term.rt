@@ -25,7 +25,8 @@ pub(crate) fn sum(given: &Lookups<'_>, tokens: &mut Cursor<'_>) -> Result<Sum, E
 /// A term, whose functions stand no deeper in one another than there are tokens.
 #[tactic(auto, unfolding(alt_expr::specs::UpdateReader::whole_term))]
 fn whole_term(given: &Lookups<'_>, tokens: &mut Cursor<'_>) -> Result<Term, ExprFault>
-    ensures { Reads (spec.whole_term (given_to given.now) (left tokens.old)) result (left tokens.new) }
+    ensures { Reads (spec.whole_term (given_to given.now) (left tokens.old)) result
+        (left tokens.new) }
 {
     let most = tokens.len();
     term(given, tokens, most)
@@ -34,7 +35,8 @@ fn whole_term(given: &Lookups<'_>, tokens: &mut Cursor<'_>) -> Result<Term, Expr
 /// A term, in which functions stand at most so deep in one another.
 #[cycle(term)]
 fn term(given: &Lookups<'_>, tokens: &mut Cursor<'_>, depth: usize) -> Result<Term, ExprFault>
-    ensures { Reads (spec.term (given_to given.now) depth (left tokens.old)) result (left tokens.new) }
+    ensures { Reads (spec.term (given_to given.now) depth (left tokens.old)) result
+        (left tokens.new) }
 {
     if depth == 0 {
         return Err(ExprFault::Syntax);
@@ -57,7 +59,9 @@ fn if_not_exists(
     tokens: &mut Cursor<'_>,
     depth: usize,
 ) -> Result<Term, ExprFault>
-    ensures { Reads (spec.if_not_exists (given_to given.now) (spec.term (given_to given.now) depth) (left tokens.old)) result (left tokens.new) }
+    ensures { Reads
+        (spec.if_not_exists (given_to given.now) (spec.term (given_to given.now) depth)
+        (left tokens.old)) result (left tokens.new) }
 {
     let path = read_path(given.alloc, given.names, tokens)?;
     tokens.expect(Mark::Comma)?;
@@ -73,7 +77,8 @@ fn list_append(
     tokens: &mut Cursor<'_>,
     depth: usize,
 ) -> Result<Term, ExprFault>
-    ensures { Reads (spec.list_append (spec.term (given_to given.now) depth) (left tokens.old)) result (left tokens.new) }
+    ensures { Reads (spec.list_append (spec.term (given_to given.now) depth) (left tokens.old))
+        result (left tokens.new) }
 {
     let front = term(given, tokens, depth)?;
     tokens.expect(Mark::Comma)?;

@@ -57,8 +57,10 @@ pub fn parse(
 
 /// Notes the words of a text that was parsed.
 fn note(tokens: &[Token<'_>], names: &mut Names, values: &mut Values) -> Result<(), NoMemory>
-    ensures names { OnOk result (used_names names.new ≡ with_hashes (map tok_of tokens.now) (used_names names.old)) }
-    ensures values { OnOk result (used_values values.new ≡ with_colons (map tok_of tokens.now) (used_values values.old)) }
+    ensures names { OnOk result (used_names names.new
+        ≡ with_hashes (map tok_of tokens.now) (used_names names.old)) }
+    ensures values { OnOk result (used_values values.new
+        ≡ with_colons (map tok_of tokens.now) (used_values values.old)) }
     ensures keeps_names { KeepsNames names.old names.new }
     ensures keeps_values { given_values values.new ≡ given_values values.old }
 {
@@ -74,7 +76,8 @@ fn read(
     names: &Names,
     values: &Values,
 ) -> Result<Update, ExprFault>
-    ensures { ReadTokens updates (given_by names.now values.now) (map tok_of tokens.now) whole result }
+    ensures { ReadTokens updates (given_by names.now values.now)
+        (map tok_of tokens.now) whole result }
 {
     if is_too_deep(tokens) {
         return Err(ExprFault::TooDeep);

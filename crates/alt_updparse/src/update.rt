@@ -33,7 +33,8 @@ fn is_done(tokens: &Cursor<'_>) -> bool
 /// The actions found, and behind them those of a clause.
 #[tactic(auto, unfolding(alt_expr::specs::UpdateReader::clause))]
 fn clause(given: &Lookups<'_>, tokens: &mut Cursor<'_>, found: Update) -> Result<Update, ExprFault>
-    ensures { Reads (spec.clause (given_to given.now) found (left tokens.old)) result (left tokens.new) }
+    ensures { Reads (spec.clause (given_to given.now) found (left tokens.old)) result
+        (left tokens.new) }
 {
     match tokens.peek() {
         Some(Token::Keyword(keyword)) => {
@@ -51,7 +52,9 @@ fn actions(
     tokens: &mut Cursor<'_>,
     found: Update,
 ) -> Result<Update, ExprFault>
-    ensures { Reads (spec.listed_behind (spec.action (given_to given.now) clause) found (left tokens.old)) result (left tokens.new) }
+    ensures { Reads
+        (spec.listed_behind (spec.action (given_to given.now) clause) found (left tokens.old))
+        result (left tokens.new) }
 {
     let turns = tokens.len();
     let mut found = found;

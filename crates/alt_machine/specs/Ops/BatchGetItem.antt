@@ -68,27 +68,31 @@ read_table t = do
   Ok (record { table = t.0; body = body; words = words; keys = keys })
 
 -- what its projection says
-abbrev pub said_in : Texts TableSchema → Reads Given BatchMember → Result (Reads Shown BatchMember) Answer
+abbrev pub said_in : Texts TableSchema → Reads Given BatchMember
+    → Result (Reads Shown BatchMember) Answer
 said_in catalog r = do
   d ← or_refused not_found (finite.get catalog r.table)
   said ← expressions projecting d r.body r.words
   Ok (record { table = r.table; body = r.body; words = said.projection; keys = r.keys })
 
 -- where its keys are
-abbrev pub placed_all : Texts TableSchema → Reads Shown BatchMember → Result (Reads Shown PlacedMember) Answer
+abbrev pub placed_all : Texts TableSchema → Reads Shown BatchMember
+    → Result (Reads Shown PlacedMember) Answer
 placed_all catalog r = each_found (placed catalog) r.keys
     >>= (λ keys. Ok (record { table = r.table; body = r.body; words = r.words; keys = keys }))
 
 -- The reads that are asked for, table by table, where nothing refuses them: what the body says; each table's keys and names; the tables;
 -- the projection of each; the places of its keys; and that no key stands twice.
-unfoldable pub reads_asked : Texts TableSchema → Members → Result (List (Reads Shown PlacedMember)) Answer
+unfoldable pub reads_asked : Texts TableSchema → Members
+    → Result (List (Reads Shown PlacedMember)) Answer
 reads_asked catalog ms = do
   tables ← unless_answer (first_answer (of_body ms)) (tables_asked ms)
   read ← each_found read_table tables
   known ← unless_answer (first_answer (of_catalog catalog (tables_asked ms))) read
   said ← each_found (said_in catalog) known
   there ← each_found (placed_all catalog) said
-  unless_answer (first_answer (refuse_if (list_any (λ r. has_repeat r.keys) there) bad_batch ∷ [])) there
+  unless_answer
+      (first_answer (refuse_if (list_any (λ r. has_repeat r.keys) there) bad_batch ∷ [])) there
 
 -- ---- what is read
 
@@ -119,7 +123,8 @@ abbrev pub keys_object : Members → Data → Data
 keys_object body keys = object
     (member_if (codes "ConsistentRead") (option_map (λ b. boolean b)
     (option_and_then as_bool (given (codes "ConsistentRead") body)))
-    (member_if (codes "ExpressionAttributeNames") (option_map (λ names. object names) (names_member body))
+    (member_if (codes "ExpressionAttributeNames")
+    (option_map (λ names. object names) (names_member body))
     (member (codes "Keys") keys
     (member_if (codes "ProjectionExpression") (option_map (λ text. string text)
     (option_and_then as_str (given (codes "ProjectionExpression") body))) no_members))))

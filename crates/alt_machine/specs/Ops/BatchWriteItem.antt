@@ -63,7 +63,8 @@ of_sought Key d key = []
 
 -- a table that isn't there says nothing
 abbrev pub of_member : Texts TableSchema → PlacedMember → List (Option Answer)
-of_member catalog m = option_map_or (λ d. of_sought m.sought d m.item) (finite.get catalog m.table) []
+of_member catalog m =
+    option_map_or (λ d. of_sought m.sought d m.item) (finite.get catalog m.table) []
 
 -- of each of them
 abbrev pub of_members : Texts TableSchema → List PlacedMember → List (Option Answer)
@@ -78,7 +79,8 @@ writes_asked catalog ms = do
   read ← each_found read_write rs
   known ← unless_answer (first_answer (of_catalog catalog (tables_asked ms))) read
   there ← each_found (placed catalog) known
-  unless_answer (first_answer (refuse_if (has_repeat there) bad_batch ∷ of_members catalog there)) there
+  unless_answer
+      (first_answer (refuse_if (has_repeat there) bad_batch ∷ of_members catalog there)) there
 
 -- ---- the writes
 

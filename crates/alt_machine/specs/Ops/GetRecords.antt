@@ -51,7 +51,8 @@ records_answer d i changes view = answered
 abbrev pub pages : Table → Members → Iterator → Answer
 pages t ms i = option_map_or
     (λ view. records_answer t.description i
-    (page_of (page_length ms) (record_size t.description view) (changes_from i.from t.changes)) view)
+    (page_of (page_length ms) (record_size t.description view) (changes_from i.from t.changes))
+    view)
     t.description.view (answered no_members)
 
 -- behind the test of the shape the iterator is read, and a page of its stream is answered

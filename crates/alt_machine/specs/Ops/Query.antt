@@ -1,5 +1,5 @@
--- Query: answers a page of the items of one HASH value, by their RANGE values, in a table or in one of its indexes (DynamoDB API Reference, "Query"; Developer Guide, "Key condition
--- expressions for the Query operation").
+-- Query: answers a page of the items of one HASH value, by their RANGE values, in a table or in one of its indexes (DynamoDB API
+-- Reference, "Query"; Developer Guide, "Key condition expressions for the Query operation").
 use Rattle.std.specs.Prelude.{ℕ, Bool, true, List, [], ◌∷◌, Option, option_map, option_and_then, unwrap_or, Some, Result, codes}
 use Rattle.serde_json.specs.Data.{Members}
 use Rattle.serde_json.specs.Find.{as_bool}
@@ -25,7 +25,8 @@ use Rattle.alt_machine.specs.State.{State, Table}
 -- four members are of an older interface
 abbrev pub rules : Rules
 rules = record {
-  legacy = codes "KeyConditions" ∷ codes "QueryFilter" ∷ codes "ConditionalOperator" ∷ codes "AttributesToGet" ∷ [];
+  legacy = codes "KeyConditions" ∷ codes "QueryFilter" ∷ codes "ConditionalOperator"
+      ∷ codes "AttributesToGet" ∷ [];
   unbuilt = [];
   named = codes "TableName" ∷ codes "IndexName" ∷ [];
 }

@@ -1,5 +1,5 @@
--- Scan: answers a page of all items of a table or of one of its indexes, or of one segment of them, in the order of their places (DynamoDB API Reference, "Scan";
--- Developer Guide, "Parallel scan").
+-- Scan: answers a page of all items of a table or of one of its indexes, or of one segment of them, in the order of their places
+-- (DynamoDB API Reference, "Scan"; Developer Guide, "Parallel scan").
 use Rattle.std.specs.Prelude.{ℕ, Bool, true, false, not, nat_lt, ◌==◌, ◌*◌, ◌/◌, ◌^◌, ◌||◌, List, [], ◌∷◌, Option, Some, None, option_and_then, codes}
 use Rattle.std.specs.Option.{option_map_or}
 use Rattle.serde_json.specs.Data.{Members}

@@ -67,7 +67,8 @@ name_of parts = []
 
 -- the names of attributes that may be there after an update: those of the item and those that it changes
 abbrev pub names_of : List Action → Option (List Pair) → List (List ℕ)
-names_of update old = map (λ p. p.0) (unwrap_or old []) ++ map (λ action. name_of (target action)) update
+names_of update old =
+    map (λ p. p.0) (unwrap_or old []) ++ map (λ action. name_of (target action)) update
 
 -- the attributes of these names, as pairs with rising names, of which none is empty
 abbrev pub pairs_of : View → List (List ℕ) → List Pair

@@ -64,8 +64,8 @@ static MOVES: [Request; 13] = [
     ),
 ];
 
-/// Reads of the table, and such of its indexes as have to show the same items in the same order. Both indexes keep all attributes, all items have
-/// one HASH value, and the values of `v` rise as those of `r` do.
+/// Reads of the table, and such of its indexes as have to show the same items in the same order. Both indexes keep all attributes,
+/// all items have one HASH value, and the values of `v` rise as those of `r` do.
 static READ_TWICE: [(Request, Request); 3] = [
     (
         (

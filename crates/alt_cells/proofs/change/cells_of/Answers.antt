@@ -6,7 +6,8 @@ use Rattle.alt_cells.proofs.AfterLaws.{made_below, copy_shown}
 use Rattle.alt_cells.proofs.change.cells_of.Goals as goal
 
 pub returns-clause-below : goal.returns-clause-below
-returns-clause-below c = subst (IsBelow 1) (sym c.in_ok-cells.ensures) (made_below c.in_ok-made.made)
+returns-clause-below c =
+    subst (IsBelow 1) (sym c.in_ok-cells.ensures) (made_below c.in_ok-made.made)
 
 pub returns-clause-shown : goal.returns-clause-shown
 returns-clause-shown c =

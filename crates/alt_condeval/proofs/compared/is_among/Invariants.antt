@@ -7,5 +7,6 @@ use Rattle.alt_condeval.proofs.compared.is_among.Given as goal
 
 abbrev pub invariant-loop-operand : goal.invariant-loop-operand
 invariant-loop-operand g l =
-    let is_it : Operand → Bool = λ y. spec.equal (stands_for l.a) (spec.denoted (g.V.AttrView.attribute l.view) y) in
+    let is_it : Operand → Bool =
+    λ y. spec.equal (stands_for l.a) (spec.denoted (g.V.AttrView.attribute l.view) y) in
     list_any is_it l.operands ≡ list_any is_it (drop l.operand-index l.operands)

@@ -5,8 +5,10 @@ use Rattle.alt_condeval.proofs.holding.+holds.Given as goal
 
 abbrev pub invariant-any-loop-member : goal.invariant-any-loop-member
 invariant-any-loop-member g l =
-    list_any (holds (g.V.AttrView.attribute l.view)) l.members ≡ list_any (holds (g.V.AttrView.attribute l.view)) (drop l.member-index l.members)
+    list_any (holds (g.V.AttrView.attribute l.view)) l.members
+    ≡ list_any (holds (g.V.AttrView.attribute l.view)) (drop l.member-index l.members)
 
 abbrev pub invariant-all-loop-member : goal.invariant-all-loop-member
 invariant-all-loop-member g l =
-    list_all (holds (g.V.AttrView.attribute l.view)) l.members ≡ list_all (holds (g.V.AttrView.attribute l.view)) (drop l.member-index l.members)
+    list_all (holds (g.V.AttrView.attribute l.view)) l.members
+    ≡ list_all (holds (g.V.AttrView.attribute l.view)) (drop l.member-index l.members)

@@ -27,25 +27,37 @@ all-loop-turn-init t c =
 pub all-returns-in_err-one : goal.all-returns-in_err-one
 unfolding all joined_from
 all-returns-in_err-one t c =
-    let e = one_more (λ n. (cond.All <$> joined_from (one (given_to c.args.given.now) c.args.depth) And n c.loop-turn.found) (left c.loop-turn.tokens)) _ c.loop-turn._turn c.loop-turn-test.true c.loop-turn.invariant in
+    let e = one_more
+    (λ n. (cond.All <$> joined_from (one (given_to c.args.given.now) c.args.depth) And n
+    c.loop-turn.found) (left c.loop-turn.tokens)) _ c.loop-turn._turn c.loop-turn-test.true
+    c.loop-turn.invariant in
     first_of (search rules, grind (arith, common_steps))
 
 pub all-returns-then-not-eat_key-2 : goal.all-returns-then-not-eat_key-2
 unfolding all joined_from
 all-returns-then-not-eat_key-2 t c =
-    let e = one_more (λ n. (cond.All <$> joined_from (one (given_to c.args.given.now) c.args.depth) And n c.loop-turn.found) (left c.loop-turn.tokens)) _ c.loop-turn._turn c.loop-turn-test.true c.loop-turn.invariant in
+    let e = one_more
+    (λ n. (cond.All <$> joined_from (one (given_to c.args.given.now) c.args.depth) And n
+    c.loop-turn.found) (left c.loop-turn.tokens)) _ c.loop-turn._turn c.loop-turn-test.true
+    c.loop-turn.invariant in
     first_of (search rules, grind (arith, common_steps))
 
 pub all-loop-turn-preserved : goal.all-loop-turn-preserved
 unfolding joined_from
 all-loop-turn-preserved t c =
-    let e = one_more (λ n. (cond.All <$> joined_from (one (given_to c.args.given.now) c.args.depth) And n c.loop-turn.found) (left c.loop-turn.tokens)) _ c.loop-turn._turn c.loop-turn-test.true c.loop-turn.invariant in
+    let e = one_more
+    (λ n. (cond.All <$> joined_from (one (given_to c.args.given.now) c.args.depth) And n
+    c.loop-turn.found) (left c.loop-turn.tokens)) _ c.loop-turn._turn c.loop-turn-test.true
+    c.loop-turn.invariant in
     first_of (search rules, grind (arith, common_steps))
 
 pub all-returns : goal.all-returns
 unfolding all joined_from
 all-returns t c =
-    let e = no_more (λ n. (cond.All <$> joined_from (one (given_to c.args.given.now) c.args.depth) And n c.loop-turn.found) (left c.loop-turn.tokens)) _ c.loop-turn._turn c.loop-turn-test.false c.loop-turn.invariant in
+    let e = no_more
+    (λ n. (cond.All <$> joined_from (one (given_to c.args.given.now) c.args.depth) And n
+    c.loop-turn.found) (left c.loop-turn.tokens)) _ c.loop-turn._turn c.loop-turn-test.false
+    c.loop-turn.invariant in
     first_of (search rules, grind (arith, common_steps))
 
 pub any-returns-in_err-first : goal.any-returns-in_err-first
@@ -66,49 +78,65 @@ any-loop-turn-init t c =
 pub any-returns-in_err-all : goal.any-returns-in_err-all
 unfolding any joined_from
 any-returns-in_err-all t c =
-    let e = one_more (λ n. (cond.Any <$> joined_from (all (one (given_to c.args.given.now) c.args.depth)) Or n c.loop-turn.found) (left c.loop-turn.tokens)) _ c.loop-turn._turn c.loop-turn-test.true c.loop-turn.invariant in
+    let e = one_more
+    (λ n. (cond.Any <$> joined_from (all (one (given_to c.args.given.now) c.args.depth)) Or n
+    c.loop-turn.found) (left c.loop-turn.tokens)) _ c.loop-turn._turn c.loop-turn-test.true
+    c.loop-turn.invariant in
     first_of (search rules, grind (arith, common_steps))
 
 pub any-returns-then-not-eat_key-2 : goal.any-returns-then-not-eat_key-2
 unfolding any joined_from
 any-returns-then-not-eat_key-2 t c =
-    let e = one_more (λ n. (cond.Any <$> joined_from (all (one (given_to c.args.given.now) c.args.depth)) Or n c.loop-turn.found) (left c.loop-turn.tokens)) _ c.loop-turn._turn c.loop-turn-test.true c.loop-turn.invariant in
+    let e = one_more
+    (λ n. (cond.Any <$> joined_from (all (one (given_to c.args.given.now) c.args.depth)) Or n
+    c.loop-turn.found) (left c.loop-turn.tokens)) _ c.loop-turn._turn c.loop-turn-test.true
+    c.loop-turn.invariant in
     first_of (search rules, grind (arith, common_steps))
 
 pub any-loop-turn-preserved : goal.any-loop-turn-preserved
 unfolding joined_from
 any-loop-turn-preserved t c =
-    let e = one_more (λ n. (cond.Any <$> joined_from (all (one (given_to c.args.given.now) c.args.depth)) Or n c.loop-turn.found) (left c.loop-turn.tokens)) _ c.loop-turn._turn c.loop-turn-test.true c.loop-turn.invariant in
+    let e = one_more
+    (λ n. (cond.Any <$> joined_from (all (one (given_to c.args.given.now) c.args.depth)) Or n
+    c.loop-turn.found) (left c.loop-turn.tokens)) _ c.loop-turn._turn c.loop-turn-test.true
+    c.loop-turn.invariant in
     first_of (search rules, grind (arith, common_steps))
 
 pub any-returns : goal.any-returns
 unfolding any joined_from
 any-returns t c =
-    let e = no_more (λ n. (cond.Any <$> joined_from (all (one (given_to c.args.given.now) c.args.depth)) Or n c.loop-turn.found) (left c.loop-turn.tokens)) _ c.loop-turn._turn c.loop-turn-test.false c.loop-turn.invariant in
+    let e = no_more
+    (λ n. (cond.Any <$> joined_from (all (one (given_to c.args.given.now) c.args.depth)) Or n
+    c.loop-turn.found) (left c.loop-turn.tokens)) _ c.loop-turn._turn c.loop-turn-test.false
+    c.loop-turn.invariant in
     first_of (search rules, grind (arith, common_steps))
 
 pub one-returns-then-depth-eq0 : goal.one-returns-then-depth-eq0
 unfolding one
 one-returns-then-depth-eq0 t c =
-    let e = (let none : c.args.depth ≡ 0 = omega arith in ap (λ n. one (given_to c.args.given.now) n (left c.args.tokens.now)) none) in
+    let e = (let none : c.args.depth ≡ 0 = omega arith in
+    ap (λ n. one (given_to c.args.given.now) n (left c.args.tokens.now)) none) in
     first_of (search rules, grind (arith, common_steps))
 
 pub one-returns-then-not-eat_key : goal.one-returns-then-not-eat_key
 unfolding one
 one-returns-then-not-eat_key t c =
-    let e = deeper (λ n. one (given_to c.args.given.now) n (left c.args.tokens.now)) c.args.depth (omega arith) in
+    let e = deeper (λ n. one (given_to c.args.given.now) n (left c.args.tokens.now)) c.args.depth
+    (omega arith) in
     first_of (search rules, grind (arith, common_steps))
 
 pub one-returns-in_err-inner : goal.one-returns-in_err-inner
 unfolding one
 one-returns-in_err-inner t c =
-    let e = deeper (λ n. one (given_to c.args.given.now) n (left c.args.tokens.now)) c.args.depth (omega arith) in
+    let e = deeper (λ n. one (given_to c.args.given.now) n (left c.args.tokens.now)) c.args.depth
+    (omega arith) in
     first_of (search rules, grind (arith, common_steps))
 
 pub one-returns : goal.one-returns
 unfolding one
 one-returns t c =
-    let e = deeper (λ n. one (given_to c.args.given.now) n (left c.args.tokens.now)) c.args.depth (omega arith) in
+    let e = deeper (λ n. one (given_to c.args.given.now) n (left c.args.tokens.now)) c.args.depth
+    (omega arith) in
     first_of (search rules, grind (arith, common_steps))
 
 pub prim-returns-then-not-eat : goal.prim-returns-then-not-eat

@@ -22,9 +22,11 @@ decreases-prim l = 4 * l.depth + 3
 abbrev pub invariant-all-loop-turn : goal.invariant-all-loop-turn
 invariant-all-loop-turn l =
     joined (one (given_to l.given) l.depth) And cond.All (left l.fn.tokens)
-    ≡ (cond.All <$> joined_from (one (given_to l.given) l.depth) And (l.turns - l._turn) l.found) (left l.tokens)
+    ≡ (cond.All <$> joined_from (one (given_to l.given) l.depth) And (l.turns - l._turn) l.found)
+    (left l.tokens)
 
 abbrev pub invariant-any-loop-turn : goal.invariant-any-loop-turn
 invariant-any-loop-turn l =
     joined (all (one (given_to l.given) l.depth)) Or cond.Any (left l.fn.tokens)
-    ≡ (cond.Any <$> joined_from (all (one (given_to l.given) l.depth)) Or (l.turns - l._turn) l.found) (left l.tokens)
+    ≡ (cond.Any <$> joined_from (all (one (given_to l.given) l.depth)) Or
+    (l.turns - l._turn) l.found) (left l.tokens)

@@ -6,4 +6,5 @@ use Rattle.alt_expr.specs.CondReader.{operand}
 use Rattle.alt_condparse.proofs.operand.operands.Given as goal
 
 abbrev pub invariant-loop-turn : goal.invariant-loop-turn
-invariant-loop-turn l = listed (operand (given_to l.given)) (left l.fn.tokens) ≡ listed_from (operand (given_to l.given)) (l.turns - l._turn) l.found (left l.tokens)
+invariant-loop-turn l = listed (operand (given_to l.given)) (left l.fn.tokens)
+    ≡ listed_from (operand (given_to l.given)) (l.turns - l._turn) l.found (left l.tokens)

@@ -13,15 +13,18 @@ use Rattle.alt_expr.proofs.Noting.{notes_hashes, no_hashes, notes_colons, no_col
 use Rattle.alt_expr.proofs.Shared.{was_ok}
 use Rattle.alt_condparse.proofs.text.parse.Goals as goal
 
-pub returns-then-text-gt-MOST_BYTES-clause-parsed : goal.returns-then-text-gt-MOST_BYTES-clause-parsed
+pub returns-then-text-gt-MOST_BYTES-clause-parsed :
+    goal.returns-then-text-gt-MOST_BYTES-clause-parsed
 returns-then-text-gt-MOST_BYTES-clause-parsed c =
-    parsed_too_long conditions (given_by c.args.names.now c.args.values.now) c.args.text.now (omega (arith, c.if-text-gt-MOST_BYTES.true))
+    parsed_too_long conditions (given_by c.args.names.now c.args.values.now) c.args.text.now
+    (omega (arith, c.if-text-gt-MOST_BYTES.true))
 
 pub returns-then-text-gt-MOST_BYTES-clause-names : goal.returns-then-text-gt-MOST_BYTES-clause-names
 returns-then-text-gt-MOST_BYTES-clause-names c =
     no_hashes Cond c.args.text.now c.args.names.now c.args.names.now fault.TooLong (λ other. refl)
 
-pub returns-then-text-gt-MOST_BYTES-clause-values : goal.returns-then-text-gt-MOST_BYTES-clause-values
+pub returns-then-text-gt-MOST_BYTES-clause-values :
+    goal.returns-then-text-gt-MOST_BYTES-clause-values
 returns-then-text-gt-MOST_BYTES-clause-values c =
     no_colons Cond c.args.text.now c.args.values.now c.args.values.now fault.TooLong (λ other. refl)
 
@@ -35,13 +38,16 @@ returns-in_default-clause-names c =
 
 pub returns-in_default-clause-values : goal.returns-in_default-clause-values
 returns-in_default-clause-values c =
-    no_colons Cond c.args.text.now c.args.values.now c.args.values.now fault.NoMemory (λ other. refl)
+    no_colons Cond c.args.text.now c.args.values.now c.args.values.now fault.NoMemory
+    (λ other. refl)
 
 pub returns-in-Err-clause-parsed : goal.returns-in-Err-clause-parsed
 returns-in-Err-clause-parsed c =
-    parsed_by_tokens conditions (given_by c.args.names.now c.args.values.now) c.args.text.now (map tok_of c.in-Ok.found.items) c.in-Ok.whole c.in-Ok.ensures
+    parsed_by_tokens conditions (given_by c.args.names.now c.args.values.now) c.args.text.now
+    (map tok_of c.in-Ok.found.items) c.in-Ok.whole c.in-Ok.ensures
     (omega (arith, c.if-text-gt-MOST_BYTES.false)) (Err c.in-Err.fault)
-    (subst (λ ts. ReadTokens conditions (given_by c.args.names.now c.args.values.now) (map tok_of ts) c.in-Ok.whole (Err c.in-Err.fault)) c.deref.ensures.value c.in-Err.ensures)
+    (subst (λ ts. ReadTokens conditions (given_by c.args.names.now c.args.values.now)
+    (map tok_of ts) c.in-Ok.whole (Err c.in-Err.fault)) c.deref.ensures.value c.in-Err.ensures)
 
 pub returns-in-Err-clause-names : goal.returns-in-Err-clause-names
 returns-in-Err-clause-names c =
@@ -49,7 +55,8 @@ returns-in-Err-clause-names c =
 
 pub returns-in-Err-clause-values : goal.returns-in-Err-clause-values
 returns-in-Err-clause-values c =
-    no_colons Cond c.args.text.now c.args.values.now c.args.values.now c.in-Err.fault (λ other. refl)
+    no_colons Cond c.args.text.now c.args.values.now c.args.values.now c.in-Err.fault
+    (λ other. refl)
 
 pub returns-then-is_err-clause-parsed : goal.returns-then-is_err-clause-parsed
 returns-then-is_err-clause-parsed c =
@@ -57,30 +64,49 @@ returns-then-is_err-clause-parsed c =
 
 pub returns-then-is_err-clause-names : goal.returns-then-is_err-clause-names
 returns-then-is_err-clause-names c =
-    no_hashes Cond c.args.text.now c.args.names.now c.note.new.names fault.NoMemory (λ other. absurd (other refl))
+    no_hashes Cond c.args.text.now c.args.names.now c.note.new.names fault.NoMemory
+    (λ other. absurd (other refl))
 
 pub returns-then-is_err-clause-values : goal.returns-then-is_err-clause-values
 returns-then-is_err-clause-values c =
-    no_colons Cond c.args.text.now c.args.values.now c.note.new.values fault.NoMemory (λ other. absurd (other refl))
+    no_colons Cond c.args.text.now c.args.values.now c.note.new.values fault.NoMemory
+    (λ other. absurd (other refl))
 
 pub returns-clause-parsed : goal.returns-clause-parsed
 returns-clause-parsed c =
-    parsed_by_tokens conditions (given_by c.args.names.now c.args.values.now) c.args.text.now (map tok_of c.in-Ok.found.items) c.in-Ok.whole c.in-Ok.ensures
+    parsed_by_tokens conditions (given_by c.args.names.now c.args.values.now) c.args.text.now
+    (map tok_of c.in-Ok.found.items) c.in-Ok.whole c.in-Ok.ensures
     (omega (arith, c.if-text-gt-MOST_BYTES.false)) (Ok c.in-Ok-read.condition)
-    (subst (λ ts. ReadTokens conditions (given_by c.args.names.now c.args.values.now) (map tok_of ts) c.in-Ok.whole (Ok c.in-Ok-read.condition)) c.deref.ensures.value c.in-Ok-read.ensures)
+    (subst (λ ts. ReadTokens conditions (given_by c.args.names.now c.args.values.now)
+    (map tok_of ts) c.in-Ok.whole (Ok c.in-Ok-read.condition)) c.deref.ensures.value
+    c.in-Ok-read.ensures)
 
 pub returns-clause-names : goal.returns-clause-names
 returns-clause-names c =
-    let whole = reaches_end conditions (given_by c.args.names.now c.args.values.now) (map tok_of c.in-Ok.found.items) c.in-Ok.whole c.in-Ok-read.condition
-    (subst (λ ts. ReadTokens conditions (given_by c.args.names.now c.args.values.now) (map tok_of ts) c.in-Ok.whole (Ok c.in-Ok-read.condition)) c.deref.ensures.value c.in-Ok-read.ensures) in
-    let noted = was_ok c.note.result _ (sym c.is_err.ensures.value ∙ c.if-is_err.false) c.note.ensures.names in
-    notes_hashes c.args.text.now (map tok_of c.in-Ok.found.items) c.in-Ok.whole c.args.names.now c.note.new.names c.in-Ok-read.condition c.in-Ok.ensures whole
-    (subst (λ ts. used_names c.note.new.names ≡ with_hashes (map tok_of ts) (used_names c.args.names.now)) c.deref-in-Ok-read.ensures.value noted)
+    let whole = reaches_end conditions (given_by c.args.names.now c.args.values.now)
+    (map tok_of c.in-Ok.found.items) c.in-Ok.whole c.in-Ok-read.condition
+    (subst (λ ts. ReadTokens conditions (given_by c.args.names.now c.args.values.now)
+    (map tok_of ts) c.in-Ok.whole (Ok c.in-Ok-read.condition)) c.deref.ensures.value
+    c.in-Ok-read.ensures) in
+    let noted = was_ok c.note.result _ (sym c.is_err.ensures.value
+    ∙ c.if-is_err.false) c.note.ensures.names in
+    notes_hashes c.args.text.now (map tok_of c.in-Ok.found.items) c.in-Ok.whole c.args.names.now
+    c.note.new.names c.in-Ok-read.condition c.in-Ok.ensures whole
+    (subst (λ ts. used_names c.note.new.names
+    ≡ with_hashes (map tok_of ts) (used_names c.args.names.now))
+    c.deref-in-Ok-read.ensures.value noted)
 
 pub returns-clause-values : goal.returns-clause-values
 returns-clause-values c =
-    let whole = reaches_end conditions (given_by c.args.names.now c.args.values.now) (map tok_of c.in-Ok.found.items) c.in-Ok.whole c.in-Ok-read.condition
-    (subst (λ ts. ReadTokens conditions (given_by c.args.names.now c.args.values.now) (map tok_of ts) c.in-Ok.whole (Ok c.in-Ok-read.condition)) c.deref.ensures.value c.in-Ok-read.ensures) in
-    let noted = was_ok c.note.result _ (sym c.is_err.ensures.value ∙ c.if-is_err.false) c.note.ensures.values in
-    notes_colons c.args.text.now (map tok_of c.in-Ok.found.items) c.in-Ok.whole c.args.values.now c.note.new.values c.in-Ok-read.condition c.in-Ok.ensures whole
-    (subst (λ ts. used_values c.note.new.values ≡ with_colons (map tok_of ts) (used_values c.args.values.now)) c.deref-in-Ok-read.ensures.value noted)
+    let whole = reaches_end conditions (given_by c.args.names.now c.args.values.now)
+    (map tok_of c.in-Ok.found.items) c.in-Ok.whole c.in-Ok-read.condition
+    (subst (λ ts. ReadTokens conditions (given_by c.args.names.now c.args.values.now)
+    (map tok_of ts) c.in-Ok.whole (Ok c.in-Ok-read.condition)) c.deref.ensures.value
+    c.in-Ok-read.ensures) in
+    let noted = was_ok c.note.result _ (sym c.is_err.ensures.value
+    ∙ c.if-is_err.false) c.note.ensures.values in
+    notes_colons c.args.text.now (map tok_of c.in-Ok.found.items) c.in-Ok.whole c.args.values.now
+    c.note.new.values c.in-Ok-read.condition c.in-Ok.ensures whole
+    (subst (λ ts. used_values c.note.new.values
+    ≡ with_colons (map tok_of ts) (used_values c.args.values.now))
+    c.deref-in-Ok-read.ensures.value noted)

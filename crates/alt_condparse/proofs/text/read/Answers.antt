@@ -11,24 +11,30 @@ use Rattle.alt_condparse.proofs.text.read.Goals as goal
 
 pub returns-then-is_too_deep : goal.returns-then-is_too_deep
 returns-then-is_too_deep c =
-    read_too_deep conditions (given_by c.args.names.now c.args.values.now) (map tok_of c.args.tokens.now) c.args.whole (c.is_too_deep.ensures.0 c.if-is_too_deep.true)
+    read_too_deep conditions (given_by c.args.names.now c.args.values.now)
+    (map tok_of c.args.tokens.now) c.args.whole (c.is_too_deep.ensures.0 c.if-is_too_deep.true)
 
 pub returns-then-not-whole : goal.returns-then-not-whole
 returns-then-not-whole c =
-    read_cut conditions (given_by c.args.names.now c.args.values.now) (map tok_of c.args.tokens.now) c.args.whole
-    (λ deep. clash c.is_too_deep.result (c.is_too_deep.ensures.1 deep) c.if-is_too_deep.false) c.if-not-whole.true
+    read_cut conditions (given_by c.args.names.now c.args.values.now)
+    (map tok_of c.args.tokens.now) c.args.whole
+    (λ deep. clash c.is_too_deep.result (c.is_too_deep.ensures.1 deep) c.if-is_too_deep.false)
+    c.if-not-whole.true
 
 pub returns-in-Err : goal.returns-in-Err
 returns-in-Err c =
-    read_err conditions (given_by c.args.names.now c.args.values.now) (map tok_of c.args.tokens.now) c.args.whole c.in-Err.fault
-    (λ deep. clash c.is_too_deep.result (c.is_too_deep.ensures.1 deep) c.if-is_too_deep.false) c.in-Err.ensures
+    read_err conditions (given_by c.args.names.now c.args.values.now)
+    (map tok_of c.args.tokens.now) c.args.whole c.in-Err.fault
+    (λ deep. clash c.is_too_deep.result (c.is_too_deep.ensures.1 deep) c.if-is_too_deep.false)
+    c.in-Err.ensures
 
 pub returns-then-is_undefined : goal.returns-then-is_undefined
 returns-then-is_undefined c =
     let g = given_by c.args.names.now c.args.values.now in
     let toks = map tok_of c.args.tokens.now in
     read_undefined conditions g toks c.args.whole
-    (λ deep. clash c.is_too_deep.result (c.is_too_deep.ensures.1 deep) c.if-is_too_deep.false) c.if-not-whole.false
+    (λ deep. clash c.is_too_deep.result (c.is_too_deep.ensures.1 deep) c.if-is_too_deep.false)
+    c.if-not-whole.false
     c.in-Ok.condition (tree_read conditions g toks c.in-Ok.condition c.in-Ok.ensures) (unique g)
     (sym c.is_undefined.ensures ∙ c.if-is_undefined.true)
 
@@ -37,7 +43,8 @@ returns-then-is_crowded c =
     let g = given_by c.args.names.now c.args.values.now in
     let toks = map tok_of c.args.tokens.now in
     read_too_many conditions g toks c.args.whole
-    (λ deep. clash c.is_too_deep.result (c.is_too_deep.ensures.1 deep) c.if-is_too_deep.false) c.if-not-whole.false
+    (λ deep. clash c.is_too_deep.result (c.is_too_deep.ensures.1 deep) c.if-is_too_deep.false)
+    c.if-not-whole.false
     c.in-Ok.condition (tree_read conditions g toks c.in-Ok.condition c.in-Ok.ensures) (unique g)
     (sym c.is_undefined.ensures ∙ c.if-is_undefined.false)
     (crowded_is c.in-Ok.condition ∙ sym c.is_crowded.ensures ∙ c.if-is_crowded.true)
@@ -48,8 +55,10 @@ returns-else-is_crowded c =
     let toks = map tok_of c.args.tokens.now in
     let tree = tree_read conditions g toks c.in-Ok.condition c.in-Ok.ensures in
     read_tree conditions g toks c.args.whole
-    (λ deep. clash c.is_too_deep.result (c.is_too_deep.ensures.1 deep) c.if-is_too_deep.false) c.if-not-whole.false
+    (λ deep. clash c.is_too_deep.result (c.is_too_deep.ensures.1 deep) c.if-is_too_deep.false)
+    c.if-not-whole.false
     c.in-Ok.condition tree (unique g)
     (sym c.is_undefined.ensures ∙ c.if-is_undefined.false)
     (crowded_is c.in-Ok.condition ∙ sym c.is_crowded.ensures ∙ c.if-is_crowded.false)
-    (λ d is. never_repeats d ∙ sym (never_repeats tree.0)) (never_repeats tree.0) (never_overlaps c.in-Ok.condition)
+    (λ d is. never_repeats d ∙ sym (never_repeats tree.0)) (never_repeats tree.0)
+    (never_overlaps c.in-Ok.condition)

@@ -15,7 +15,8 @@ returns-in-Err c =
     let toks = map tok_of c.args.tokens.now in
     let n : ℕ = length c.args.tokens.now in
     read_none g toks n c.in-Err.fault (sym (length-map c.args.tokens.now tok_of))
-    (λ other. let h = c.in-Err.ensures other in (subst (λ i. any (one g n) i ≡ None) c.new-cursor.ensures h.0, h.1))
+    (λ other. let h = c.in-Err.ensures other in
+    (subst (λ i. any (one g n) i ≡ None) c.new-cursor.ensures h.0, h.1))
 
 pub returns-then-len-ne0 : goal.returns-then-len-ne0
 returns-then-len-ne0 c =
@@ -24,7 +25,8 @@ returns-then-len-ne0 c =
     let n : ℕ = length c.args.tokens.now in
     let rest = left c.any.new.tokens in
     read_part g toks n c.in-Ok.condition rest (sym (length-map c.args.tokens.now tok_of))
-    (subst (λ i. any (one g n) i ≡ Some (c.in-Ok.condition, rest)) c.new-cursor.ensures c.in-Ok.ensures)
+    (subst (λ i. any (one g n) i ≡ Some (c.in-Ok.condition, rest)) c.new-cursor.ensures
+    c.in-Ok.ensures)
     (λ none. let e = ap length none in omega (arith, e, c.len.ensures, c.if-len-ne0.true))
 
 pub returns-else-len-ne0 : goal.returns-else-len-ne0
@@ -34,5 +36,7 @@ returns-else-len-ne0 c =
     let n : ℕ = length c.args.tokens.now in
     let rest = left c.any.new.tokens in
     let none : rest ≡ [] = length_none rest (omega (arith, c.len.ensures, c.if-len-ne0.false)) in
-    let h = subst (λ i. any (one g n) i ≡ Some (c.in-Ok.condition, rest)) c.new-cursor.ensures c.in-Ok.ensures in
-    read_all g toks n c.in-Ok.condition (subst (λ r. any (one g n) toks ≡ Some (c.in-Ok.condition, r)) none h)
+    let h = subst (λ i. any (one g n) i ≡ Some (c.in-Ok.condition, rest)) c.new-cursor.ensures
+    c.in-Ok.ensures in
+    read_all g toks n c.in-Ok.condition
+    (subst (λ r. any (one g n) toks ≡ Some (c.in-Ok.condition, r)) none h)

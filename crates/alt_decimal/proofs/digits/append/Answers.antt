@@ -3,18 +3,21 @@ use Rattle.std.specs.Str.Parse.{AllDigits, digits_value_after}
 use Rattle.alt_decimal.proofs.Values.{value_append, AllDigits-front, AllDigits-back, few_digits, HasRoom-front, HasRoom-back}
 use Rattle.alt_decimal.proofs.digits.append.Goals as goal
 
-pub append_half-requires-else-digits-le19-clause-room : goal.append_half-requires-else-digits-le19-clause-room
+pub append_half-requires-else-digits-le19-clause-room :
+    goal.append_half-requires-else-digits-le19-clause-room
 append_half-requires-else-digits-le19-clause-room c =
     let parts = c.split_at.ensures.by_index.0 in
     HasRoom-front c.args.c c.split_at.result.0.now c.split_at.result.1.now
     (rw (← parts) c.requires.room)
 
-pub append_half-requires-else-digits-le19-2-clause-digits : goal.append_half-requires-else-digits-le19-2-clause-digits
+pub append_half-requires-else-digits-le19-2-clause-digits :
+    goal.append_half-requires-else-digits-le19-2-clause-digits
 append_half-requires-else-digits-le19-2-clause-digits c =
     let parts = c.split_at.ensures.by_index.0 in
     AllDigits-back c.split_at.result.0.now c.split_at.result.1.now (rw (← parts) c.requires.digits)
 
-pub append_half-requires-else-digits-le19-2-clause-few : goal.append_half-requires-else-digits-le19-2-clause-few
+pub append_half-requires-else-digits-le19-2-clause-few :
+    goal.append_half-requires-else-digits-le19-2-clause-few
 append_half-requires-else-digits-le19-2-clause-few c =
     omega (
       arith,
@@ -22,7 +25,8 @@ append_half-requires-else-digits-le19-2-clause-few c =
       few_digits c.args.c c.args.digits.now c.requires.room,
     )
 
-pub append_half-requires-else-digits-le19-2-clause-room : goal.append_half-requires-else-digits-le19-2-clause-room
+pub append_half-requires-else-digits-le19-2-clause-room :
+    goal.append_half-requires-else-digits-le19-2-clause-room
 append_half-requires-else-digits-le19-2-clause-room c =
     let parts = c.split_at.ensures.by_index.0 in
     let front : AllDigits 10 c.split_at.result.0.now =

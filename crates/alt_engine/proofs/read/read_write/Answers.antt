@@ -19,7 +19,8 @@ returns-then-number-least-clause-none c =
     no_write-early c.args.least c.args.bytes.now c.in_ok-number.number c.in_ok-number.counted.now
     number.0 number.1 c.if-number-least.true
 
-pub returns-then-number-ge-LAST_NUMBER-clause-none : goal.returns-then-number-ge-LAST_NUMBER-clause-none
+pub returns-then-number-ge-LAST_NUMBER-clause-none :
+    goal.returns-then-number-ge-LAST_NUMBER-clause-none
 returns-then-number-ge-LAST_NUMBER-clause-none c =
     let number = c.in_ok-number.ensures.number in
     no_write-last c.args.least c.args.bytes.now c.in_ok-number.number c.in_ok-number.counted.now

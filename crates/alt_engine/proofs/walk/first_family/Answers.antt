@@ -36,7 +36,8 @@ loop-number-preserved c =
           (none_shown_at c.in-Some.rows.now.entries
           (is_sorted-tree c.in-Some.rows.now.entries c.first_shown.ensures.ordered)
           c.in_default-first_shown.ensures.first);
-      from = lower_from next c.args.family (c.in-Some.number.now + 1) (omega (arith, from.0)) from.1;
+      from = lower_from next c.args.family (c.in-Some.number.now + 1)
+          (omega (arith, from.0)) from.1;
     }
 
 pub returns-in-Some-first_shown : goal.returns-in-Some-first_shown
@@ -57,7 +58,8 @@ returns-in-Some-first_shown c =
     ∙ of_first (n, rows) next k in
     record {
       later = from.0;
-      shows = λ none. let bad : Some begins.0 ≡ None = sym here.0 ∙ sym (whole key) ∙ none in cc bad;
+      shows = λ none. let bad : Some begins.0 ≡ None = sym here.0 ∙ sym (whole key)
+          ∙ none in cc bad;
       first = λ q less. whole q ∙ here.1 q less;
       before = λ f k low less. inv.rest f k low ∙ ap (λ (l : FamilyList). row_of l f k) steps
           ∙ none_before ((n, rows) ∷ next) n f k (omega arith, from.1) less;

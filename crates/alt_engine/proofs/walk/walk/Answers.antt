@@ -23,7 +23,8 @@ loop-left-preserved-then-not-is_empty c =
     c.in_ok-push.ensures.items ∙ (λ i. out
     ++ (c.in_ok-copy.ensures.same i, c.in_ok-copy-2.ensures.same i) ∷ []) in
     record {
-      rest = ap (λ (l : List (List ℕ × Columns)). l ++ take (left - 1) (shown_of as_shown rest)) push
+      rest = ap (λ (l : List (List ℕ × Columns)). l ++ take (left - 1) (shown_of as_shown rest))
+          push
           ∙ taken_row out key row rest left
           (sym c.is_empty-in-loop-left.ensures ∙ c.if-not-is_empty.true)
           c.loop-left-test.true

@@ -15,11 +15,17 @@ loop-key-preserved g c = record {
   groups = λ q.
       let key = c.in-Some.key in
       let cmp = g.K.Ord.cmp in
-      let is : get cmp c.insert.new.self q ≡ cond (eq_by_cmp cmp key q) (Some c.push.new.self) (get cmp c.loop-key.groups q) =
-      c.in_ok-insert.ensures.updates.0 q ∙ ap (λ o. cond (eq_by_cmp cmp key q) (Some c.push.new.self) o) (c.remove.ensures.updates.0 q)
+      let is : get cmp c.insert.new.self q ≡ cond (eq_by_cmp cmp key q) (Some c.push.new.self)
+      (get cmp c.loop-key.groups q) =
+      c.in_ok-insert.ensures.updates.0 q ∙ ap
+      (λ o. cond (eq_by_cmp cmp key q) (Some c.push.new.self) o) (c.remove.ensures.updates.0 q)
       ∙ put_back (eq_by_cmp cmp key q) (Some c.push.new.self) None (get cmp c.loop-key.groups q) in
-      let read : c.match-remove.group.items ≡ option_map_or (λ v. v.items) (get cmp c.loop-key.groups key) [] =
+      let read : c.match-remove.group.items ≡ option_map_or (λ v. v.items)
+      (get cmp c.loop-key.groups key) [] =
       grind (arith, c.remove.ensures.value) in
-      one_more cmp g.met.K.Ord.total (λ v. v.items) q key c.in-Some.value c.loop-key.yielded {now = get cmp c.insert.new.self q} (get cmp c.loop-key.groups q)
-      c.push.new.self c.match-remove.group is (c.loop-key.invariant.groups q) c.in_ok-push.ensures.items (read ∙ c.loop-key.invariant.groups key);
+      one_more cmp g.met.K.Ord.total (λ v. v.items) q key c.in-Some.value c.loop-key.yielded
+      {now = get cmp c.insert.new.self q} (get cmp c.loop-key.groups q)
+      c.push.new.self c.match-remove.group is
+      (c.loop-key.invariant.groups q) c.in_ok-push.ensures.items
+      (read ∙ c.loop-key.invariant.groups key);
 }

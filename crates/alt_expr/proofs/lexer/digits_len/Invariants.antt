@@ -4,4 +4,5 @@ use Rattle.std.specs.Char.{is_ascii_digit}
 use Rattle.alt_expr.proofs.lexer.digits_len.Given as goal
 
 abbrev pub invariant-loop-at : goal.invariant-loop-at
-invariant-loop-at l = prefix_len is_ascii_digit l.bytes ≡ l.at + prefix_len is_ascii_digit (drop l.at l.bytes)
+invariant-loop-at l = prefix_len is_ascii_digit l.bytes
+    ≡ l.at + prefix_len is_ascii_digit (drop l.at l.bytes)

@@ -7,4 +7,5 @@ pub returns-in-M : goal.returns-in-M
 returns-in-M c = record { part = rw (c.in-Name.is, c.in-M.is, pairs-fields_of) (rw c.as_str.ensures.same at c.get.ensures.value) }
 
 pub returns-in-L : goal.returns-in-L
-returns-in-L c = record { part = rw (c.in-Index.is, c.in-L.is, elements-trees_of) c.get-in-L.ensures.element }
+returns-in-L c =
+    record { part = rw (c.in-Index.is, c.in-L.is, elements-trees_of) c.get-in-L.ensures.element }

@@ -8,4 +8,6 @@ use Rattle.alt_expr.proofs.names.put_name.Goals as goal
 pub returns-clause-names : goal.returns-clause-names
 returns-clause-names c =
     let is = c.in_ok-value.ensures in
-    names_put c.put.result c.args.word.now (tree_of c.in_ok-value.value) c.args.given.now c.put.new.self (subst (λ t. is_name t ≡ true) (sym is) c.requires.name) c.requires.names c.put.ensures.ok
+    names_put c.put.result c.args.word.now (tree_of c.in_ok-value.value) c.args.given.now
+    c.put.new.self (subst (λ t. is_name t ≡ true) (sym is) c.requires.name) c.requires.names
+    c.put.ensures.ok

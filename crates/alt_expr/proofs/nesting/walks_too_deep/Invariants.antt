@@ -10,4 +10,6 @@ pub record Walked (all : Bool) (here : Bool) (opened closed nots at : ℕ) : Typ
   pub few_nots : nots ≤ at
 
 abbrev pub invariant-loop-token : goal.invariant-loop-token
-invariant-loop-token l = Walked (deep_from 0 0 0 (map tok_of l.tokens)) (deep_from l.opened l.closed l.nots (map tok_of (drop l.token-index l.tokens))) l.opened l.closed l.nots l.token-index
+invariant-loop-token l = Walked (deep_from 0 0 0 (map tok_of l.tokens))
+    (deep_from l.opened l.closed l.nots (map tok_of (drop l.token-index l.tokens))) l.opened
+    l.closed l.nots l.token-index

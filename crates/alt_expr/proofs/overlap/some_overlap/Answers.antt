@@ -9,7 +9,11 @@ use Rattle.alt_expr.proofs.overlap.some_overlap.Goals as goal
 
 pub returns : goal.returns
 returns c = record {
-  overlap = c.is_before_one.ensures ∙ ap (λ (ws : List (Bor (List PathPart))). is_before_one (map (λ w. w.now) ws)) c.deref.ensures.value
-      ∙ sym (overlap_sorted (λ (w : Bor (List PathPart)). w.now) c.in_ok-ways.ways.items c.sort_unstable.new.self.items c.sort_unstable.ensures.permutation c.sort_unstable.ensures.sorted)
+  overlap = c.is_before_one.ensures
+      ∙ ap (λ (ws : List (Bor (List PathPart))). is_before_one (map (λ w. w.now) ws))
+      c.deref.ensures.value
+      ∙ sym (overlap_sorted (λ (w : Bor (List PathPart)). w.now) c.in_ok-ways.ways.items
+      c.sort_unstable.new.self.items c.sort_unstable.ensures.permutation
+      c.sort_unstable.ensures.sorted)
       ∙ ap some_overlap c.in_ok-ways.ensures;
 }

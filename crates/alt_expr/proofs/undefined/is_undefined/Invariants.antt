@@ -6,4 +6,5 @@ use Rattle.alt_expr.specs.Lookups.{given_by}
 use Rattle.alt_expr.proofs.undefined.is_undefined.Given as goal
 
 abbrev pub invariant-loop-token : goal.invariant-loop-token
-invariant-loop-token l = list_any (is_unknown (given_by l.names l.values)) (map tok_of l.tokens) ≡ list_any (is_unknown (given_by l.names l.values)) (map tok_of (drop l.token-index l.tokens))
+invariant-loop-token l = list_any (is_unknown (given_by l.names l.values)) (map tok_of l.tokens)
+    ≡ list_any (is_unknown (given_by l.names l.values)) (map tok_of (drop l.token-index l.tokens))

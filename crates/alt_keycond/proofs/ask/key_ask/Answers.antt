@@ -13,11 +13,13 @@ use Rattle.alt_keycond.proofs.ask.key_ask.Goals as goal
 
 pub returns-clause-holds : goal.returns-clause-holds
 returns-clause-holds c =
-    held (key_of c.args.hash.now) (option_map (λ r. key_of r.now) c.args.range) c.args.cond.now c.asked.result c.asked.ensures.ask
+    held (key_of c.args.hash.now) (option_map (λ r. key_of r.now) c.args.range) c.args.cond.now
+    c.asked.result c.asked.ensures.ask
 
 pub returns-clause-keys : goal.returns-clause-keys
 returns-clause-keys c =
     let hash = key_of c.args.hash.now in
     let range = option_map (λ r. key_of r.now) c.args.range in
-    ok_on (λ a. ask_of hash range c.args.cond.now ≡ Some (asks a)) (λ a. IsKey (tree_of a.hash) × AsksKeys a.range)
+    ok_on (λ a. ask_of hash range c.args.cond.now ≡ Some (asks a))
+    (λ a. IsKey (tree_of a.hash) × AsksKeys a.range)
     (λ a e. asks_keys hash range c.args.cond.now a e) c.asked.result c.asked.ensures.ask

@@ -8,4 +8,5 @@ pub returns : goal.returns
 returns c =
     let q = c.in_ok-from_slice.field-0.items in
     ok_on (λ r. IsRangeOf q r.from r.to) (λ r. IsRangeUnder c.args.front.now asks.All r.from r.to)
-    (λ r h. under_all c.args.front.now q r.from r.to c.in_ok-from_slice.ensures.items h) c.under.result c.under.ensures
+    (λ r h. under_all c.args.front.now q r.from r.to c.in_ok-from_slice.ensures.items h)
+    c.under.result c.under.ensures

@@ -7,7 +7,10 @@ use Rattle.alt_keycond.proofs.range.key_range.Goals as goal
 
 pub returns : goal.returns
 returns c = record {
-  holds = ok_on (λ r. IsRangeUnder c.as_slice.result.now c.args.ask.now.range r.from r.to) (λ r. HoldsAsked c.args.ask.now r.from r.to)
-      (λ r h. holds_asked c.args.ask.now r.from r.to c.requires.range (subst (λ p. IsRangeUnder p c.args.ask.now.range r.from r.to) (c.as_slice.ensures.value ∙ c.in_ok-hash.ensures) h))
+  holds = ok_on (λ r. IsRangeUnder c.as_slice.result.now c.args.ask.now.range r.from r.to)
+      (λ r. HoldsAsked c.args.ask.now r.from r.to)
+      (λ r h. holds_asked c.args.ask.now r.from r.to c.requires.range
+      (subst (λ p. IsRangeUnder p c.args.ask.now.range r.from r.to)
+      (c.as_slice.ensures.value ∙ c.in_ok-hash.ensures) h))
       c.range_under.result c.range_under.ensures;
 }

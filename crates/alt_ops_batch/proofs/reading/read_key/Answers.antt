@@ -23,7 +23,8 @@ returns-in-Some-clause-size g c s stands =
     found_is (g.D.Disk.state c.args.disk.now) c.args.tables.now s stands c.args.key c.requires.there
     c.as_str.result.now c.as_str.ensures.same c.in_ok-found.found c.in_ok-found.ensures.place
     (c.in_ok-found.ensures.item s stands) ∙ c.in-Some.is in
-    subst (λ o. OnOk c.show.result (c.show.new.size ≡ c.args.size.now + option_map_or item_size o 0))
+    subst (λ o. OnOk c.show.result (c.show.new.size
+    ≡ c.args.size.now + option_map_or item_size o 0))
     (sym is)
     (c.show.ensures.size (found_fits (g.D.Disk.state c.args.disk.now) c.args.tables.now s stands
     c.args.key c.requires.there c.as_str.result.now c.as_str.ensures.same c.in_ok-found.found

@@ -5,7 +5,8 @@ use Rattle.serde_json.specs.Written.{items_have_float}
 use Rattle.alt_ops_batch.proofs.Showing.{plain_more}
 use Rattle.alt_ops_batch.proofs.reading.take_key.Goals as goal
 
-pub returns-then-size-ge-BATCH_BYTES-clause-plain : goal.returns-then-size-ge-BATCH_BYTES-clause-plain
+pub returns-then-size-ge-BATCH_BYTES-clause-plain :
+    goal.returns-then-size-ge-BATCH_BYTES-clause-plain
 returns-then-size-ge-BATCH_BYTES-clause-plain g c = record {
   items = c.requires.plain.items;
   left = ap (λ vs. items_have_float (items_view vs)) c.in_ok-push.ensures.items

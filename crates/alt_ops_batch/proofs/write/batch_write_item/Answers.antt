@@ -120,7 +120,8 @@ write_all-requires g c =
 pub returns-in_err-write_all-clause-carried : goal.returns-in_err-write_all-clause-carried
 returns-in_err-write_all-clause-carried g c =
     let ms : Members = members_view c.args.body.now.entries in
-    let now : State → Type 0 = Stands (g.D.Disk.state c.write_all.new.disk) c.write_all.new.tables in
+    let now : State → Type 0 =
+    Stands (g.D.Disk.state c.write_all.new.disk) c.write_all.new.tables in
     subst (Carries (λ s. batch_write_item s c.args.moment ms)
     (Stands (g.D.Disk.state c.args.disk.now) c.args.tables.now) now)
     (sym (err_is c.from_residual-in_err-write_all.result (Fault c.in_err-write_all.field-0.0)
@@ -142,7 +143,8 @@ returns-in_err-write_all-clause-carried g c =
 pub returns-clause-carried : goal.returns-clause-carried
 returns-clause-carried g c =
     let ms : Members = members_view c.args.body.now.entries in
-    let now : State → Type 0 = Stands (g.D.Disk.state c.write_all.new.disk) c.write_all.new.tables in
+    let now : State → Type 0 =
+    Stands (g.D.Disk.state c.write_all.new.disk) c.write_all.new.tables in
     wrote (λ s. batch_write_item s c.args.moment ms)
     (Stands (g.D.Disk.state c.args.disk.now) c.args.tables.now) now c.in_ok-reply.reply
     c.in_ok-reply.ensures.plain a_number (λ s stands. (

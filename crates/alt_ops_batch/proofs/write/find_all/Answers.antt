@@ -40,7 +40,8 @@ loop-member-preserved g c =
     subst (λ l. AreFound before c.args.tables.now mid c.loop-member.tables members l
     c.loop-member.changes.items) c.in-Some.ensures.steps.0 c.loop-member.invariant in
     rw c.in_ok-push.ensures.items
-    (found_one before mid after c.args.tables.now c.loop-member.tables c.find.new.tables members rest
+    (found_one before mid after c.args.tables.now c.loop-member.tables
+    c.find.new.tables members rest
     c.in-Some.member c.loop-member.changes.items c.in_ok-find.field-0 so c.in_ok-find.ensures.disk
     c.in_ok-find.ensures.stays c.in_ok-find.ensures.catalog c.in_ok-find.ensures.written
     c.in_ok-find.ensures.found)

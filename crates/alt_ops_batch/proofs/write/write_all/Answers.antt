@@ -22,7 +22,8 @@ write-requires g c =
     let all : List Change = c.args.changes.items in
     let rest : List Change = into_iter_items c.next.new.self in
     let change : Change = c.in-Some.change in
-    let so : IsUnderWay before c.args.tables.now mid c.loop-change.tables c.args.moment all (change ∷ rest) =
+    let so : IsUnderWay before c.args.tables.now mid c.loop-change.tables c.args.moment all
+    (change ∷ rest) =
     subst (IsUnderWay before c.args.tables.now mid c.loop-change.tables c.args.moment all)
     c.in-Some.ensures.steps.0 c.loop-change.invariant in
     record {
@@ -30,7 +31,8 @@ write-requires g c =
       there = ap (finite.contains_key (catalog_of c.loop-change.tables)) c.as_str.ensures.same
           ∙ ap (λ k. finite.contains_key k change.table) so.catalog ∙ so.may.0.there;
       found = λ s stands. subst (λ n. IsFoundIn s n change.found) (sym c.as_str.ensures.same)
-          (found_now before mid c.args.tables.now c.loop-change.tables c.args.moment all rest change so
+          (found_now before mid c.args.tables.now c.loop-change.tables c.args.moment all
+          rest change so
           c.requires.ready s stands);
       new = λ s stands d at. so.may.0.stored d
           (sym (ap (λ k. finite.get k change.table) so.catalog)
@@ -45,12 +47,14 @@ loop-change-preserved g c =
     let all : List Change = c.args.changes.items in
     let rest : List Change = into_iter_items c.next.new.self in
     let change : Change = c.in-Some.change in
-    let so : IsUnderWay before c.args.tables.now mid c.loop-change.tables c.args.moment all (change ∷ rest) =
+    let so : IsUnderWay before c.args.tables.now mid c.loop-change.tables c.args.moment all
+    (change ∷ rest) =
     subst (IsUnderWay before c.args.tables.now mid c.loop-change.tables c.args.moment all)
     c.in-Some.ensures.steps.0 c.loop-change.invariant in
     one_more before mid after c.args.tables.now c.loop-change.tables c.write.new.self c.args.moment
     all rest change so c.in_ok-write.ensures.goes c.in_ok-write.ensures.catalog
-    (made_one mid after c.loop-change.tables c.write.new.self c.args.moment change c.as_str.result.now
+    (made_one mid after c.loop-change.tables c.write.new.self c.args.moment change
+    c.as_str.result.now
     c.as_str.ensures.same (ap (λ k. finite.contains_key k change.table) so.catalog ∙ so.may.0.there)
     c.in_ok-write.ensures.writes c.in_ok-write.ensures.disk)
 
@@ -62,18 +66,22 @@ returns-in_err-write-clause-writes g c s stands =
     let all : List Change = c.args.changes.items in
     let rest : List Change = into_iter_items c.next.new.self in
     let change : Change = c.in-Some.change in
-    let so : IsUnderWay before c.args.tables.now mid c.loop-change.tables c.args.moment all (change ∷ rest) =
+    let so : IsUnderWay before c.args.tables.now mid c.loop-change.tables c.args.moment all
+    (change ∷ rest) =
     subst (IsUnderWay before c.args.tables.now mid c.loop-change.tables c.args.moment all)
     c.in-Some.ensures.steps.0 c.loop-change.invariant in
     subst (Writes (Stands after c.write.new.self) a_number s
     (writes_of_all s c.args.moment (map written_at all)))
     (sym (err_is c.from_residual.result c.in_err-write.field-0.0 c.from_residual.ensures))
-    (broke_off before mid after c.args.tables.now c.loop-change.tables c.write.new.self c.args.moment
+    (broke_off before mid after c.args.tables.now c.loop-change.tables
+    c.write.new.self c.args.moment
     all rest change so c.in_err-write.ensures.goes c.in_err-write.ensures.catalog
     c.in_err-write.field-0.0
-    (broke_one mid after c.loop-change.tables c.write.new.self c.args.moment change c.as_str.result.now
+    (broke_one mid after c.loop-change.tables c.write.new.self c.args.moment change
+    c.as_str.result.now
     c.as_str.ensures.same (ap (λ k. finite.contains_key k change.table) so.catalog ∙ so.may.0.there)
-    c.in_err-write.field-0.0 (λ idle. let e = c.in_err-write.ensures.idle idle in let f : ⊥ = cc in f)
+    c.in_err-write.field-0.0
+    (λ idle. let e = c.in_err-write.ensures.idle idle in let f : ⊥ = cc in f)
     c.in_err-write.ensures.writes c.in_err-write.ensures.disk) s stands)
 
 pub returns-in_err-write-clause-leaves : goal.returns-in_err-write-clause-leaves
@@ -84,15 +92,18 @@ returns-in_err-write-clause-leaves g c s stands =
     let all : List Change = c.args.changes.items in
     let rest : List Change = into_iter_items c.next.new.self in
     let change : Change = c.in-Some.change in
-    let so : IsUnderWay before c.args.tables.now mid c.loop-change.tables c.args.moment all (change ∷ rest) =
+    let so : IsUnderWay before c.args.tables.now mid c.loop-change.tables c.args.moment all
+    (change ∷ rest) =
     subst (IsUnderWay before c.args.tables.now mid c.loop-change.tables c.args.moment all)
     c.in-Some.ensures.steps.0 c.loop-change.invariant in
     broken_leaves before mid after c.args.tables.now c.loop-change.tables c.write.new.self
     c.args.moment all rest change so c.in_err-write.ensures.goes c.in_err-write.ensures.catalog
     c.in_err-write.field-0.0
-    (broke_one mid after c.loop-change.tables c.write.new.self c.args.moment change c.as_str.result.now
+    (broke_one mid after c.loop-change.tables c.write.new.self c.args.moment change
+    c.as_str.result.now
     c.as_str.ensures.same (ap (λ k. finite.contains_key k change.table) so.catalog ∙ so.may.0.there)
-    c.in_err-write.field-0.0 (λ idle. let e = c.in_err-write.ensures.idle idle in let f : ⊥ = cc in f)
+    c.in_err-write.field-0.0
+    (λ idle. let e = c.in_err-write.ensures.idle idle in let f : ⊥ = cc in f)
     c.in_err-write.ensures.writes c.in_err-write.ensures.disk) s stands
 
 pub returns-clause-writes : goal.returns-clause-writes

@@ -16,7 +16,8 @@ pub returns-in_err-target-clause-carried : goal.returns-in_err-target-clause-car
 returns-in_err-target-clause-carried g c =
     let ms : Members = members_view c.args.body.now.entries in
     item_passed (g.D.Disk.state c.args.disk.now) c.args.tables.now
-    (body_refusals c.get_item-broken.result rules ms) ms (λ s. get_item s ms) Key projecting (λ s. gets)
+    (body_refusals c.get_item-broken.result rules ms) ms
+    (λ s. get_item s ms) Key projecting (λ s. gets)
     (get_is ms c.get_item-broken.result c.get_item-broken.ensures)
     (Stands (g.D.Disk.state c.args.disk.now) c.args.tables.now)
     c.from_residual.result c.in_err-target.field-0.0 c.from_residual.ensures
@@ -29,7 +30,8 @@ pub returns-clause-carried : goal.returns-clause-carried
 returns-clause-carried g c =
     let ms : Members = members_view c.args.body.now.entries in
     item_done (g.D.Disk.state c.args.disk.now) c.args.tables.now
-    (body_refusals c.get_item-broken.result rules ms) ms (λ s. get_item s ms) Key projecting (λ s. gets)
+    (body_refusals c.get_item-broken.result rules ms) ms
+    (λ s. get_item s ms) Key projecting (λ s. gets)
     (get_is ms c.get_item-broken.result c.get_item-broken.ensures)
     (Stands (g.D.Disk.state c.parts_at-shown.new.disk) c.parts_at-shown.new.tables)
     c.in_ok-target.target c.in_ok-target.ensures.target

@@ -15,7 +15,8 @@ pub returns-in-Ok-clause-reply : goal.returns-in-Ok-clause-reply
 returns-in-Ok-clause-reply c ask list filled counts =
     answered_by c.args.schema.now (index_at c.args.schema.now c.args.index)
     (members_view c.args.body.now.entries) ask list c.args.filling filled counts
-    c.finish-page.result (c.finish-page.ensures.page ask (examined ask.limit list) filled.whole.offered)
+    c.finish-page.result
+    (c.finish-page.ensures.page ask (examined ask.limit list) filled.whole.offered)
     (answer_of c.in-Ok.reply) c.last_of-last.result
     (c.in-Ok.ensures.reply
     ∙ ap (λ x. page_answer c.args.schema.now x (members_view c.args.body.now.entries)

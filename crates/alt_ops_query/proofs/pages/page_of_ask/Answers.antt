@@ -19,14 +19,16 @@ pub returns-clause-does : goal.returns-clause-does
 returns-clause-does g c s t stands at =
     let ms : Members = members_view c.args.body.now.entries in
     let i = index_at t.description c.args.index in
-    let list : List (List Pair) = items_between t i c.args.range.from c.args.range.to c.args.forward in
+    let list : List (List Pair) =
+    items_between t i c.args.range.from c.args.range.to c.args.forward in
     let then = (c.fill.ensures.stays s).0 stands in
     let filled = c.in_ok-fill.ensures.filled s t c.args.ask stands
     (ap (map.get s.tables) c.table_name-name.ensures.name ∙ at)
     (record { offered = c.new.ensures.offered; last = refl }) in
     page_does (Stands (g.D.Disk.state c.fill.new.disk) c.fill.new.tables) s t.description i ms
     c.args.ask list c.fill.new.filling c.answered.result then filled c.requires.counts
-    (told_at (catalog_of c.fill.new.tables) (table_name ms) c.args.index ms c.fill.new.filling c.answered.result
+    (told_at (catalog_of c.fill.new.tables) (table_name ms) c.args.index ms c.fill.new.filling
+    c.answered.result
     t.description
     (ap (λ m. map.get m (table_name ms)) then.catalog ∙ get-descriptions s.tables (table_name ms)
     ∙ ap (option_map (λ (x : Table). x.description)) at) c.answered.ensures.reply)

@@ -15,7 +15,8 @@ pub returns-clause-does : goal.returns-clause-does
 returns-clause-does g c s t stands at =
     let ms : Members = members_view c.args.body.now.entries in
     let i = index_at t.description c.args.index in
-    let list : List (List Pair) = items_between t i c.args.range.from c.args.range.to c.args.forward in
+    let list : List (List Pair) =
+    items_between t i c.args.range.from c.args.range.to c.args.forward in
     subst (λ o. Does (Stands (g.D.Disk.state c.page_of_ask.new.disk) c.page_of_ask.new.tables) s
     (says o) c.page_of_ask.result)
     (page_asks t.description i ms c.args.said list c.page_ask-ask.result c.page_ask-ask.ensures.asks

@@ -13,5 +13,6 @@ returns-in-Some-get c =
     c.equal.ensures.same
     ∙ ap (λ o. equal o (Some (tree_of c.in-Some.hash.now)))
     (c.in-Some-get.ensures.value ∙ ap (λ n. at_name n c.args.key.now) c.as_str.ensures.same)
-    ∙ ap (λ o. option_map_or (λ v. equal (at_name c.args.attribute.now.name c.args.key.now) (Some (tree_of v)))
+    ∙ ap (λ o. option_map_or
+    (λ v. equal (at_name c.args.attribute.now.name c.args.key.now) (Some (tree_of v)))
     (option_map (λ a. a.now) o) true) (sym c.in-Some.is)

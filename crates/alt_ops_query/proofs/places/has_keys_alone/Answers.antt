@@ -24,7 +24,8 @@ loop-at-preserved c =
           (sym w.in-Some.ensures.pair) (sym w.if-not-is_key_there.ensures.key) c.loop-at.invariant
       | in_default w ↦ absurd (none_past c.args.key.now c.loop-at.at
           (omega (arith, c.loop-at-test.true, c.len-at-end.ensures.count))
-          (sym c.at.ensures.pair ∙ ap (option_map (λ p. (p.0.now, tree_of p.1.now))) w.in_default.is))
+          (sym c.at.ensures.pair
+          ∙ ap (option_map (λ p. (p.0.now, tree_of p.1.now))) w.in_default.is))
     ]
 
 pub returns : goal.returns

@@ -23,8 +23,11 @@ pub returns-in_err-target-clause-carried : goal.returns-in_err-target-clause-car
 returns-in_err-target-clause-carried g c =
     let ms : Members = members_view c.args.body.now.entries in
     list_passed (g.D.Disk.state c.args.disk.now) c.args.tables.now
-    (paired_refusals c.query-broken.result c.is_mismatched-mismatched.result rules ms) ms (λ s. query s ms) querying
-    (λ s. queries ms) (query_is ms c.query-broken.result c.is_mismatched-mismatched.result c.query-broken.ensures c.is_mismatched-mismatched.ensures)
+    (paired_refusals c.query-broken.result c.is_mismatched-mismatched.result rules ms) ms
+    (λ s. query s ms) querying
+    (λ s. queries ms)
+    (query_is ms c.query-broken.result c.is_mismatched-mismatched.result c.query-broken.ensures
+    c.is_mismatched-mismatched.ensures)
     (Stands (g.D.Disk.state c.args.disk.now) c.args.tables.now)
     c.from_residual.result c.in_err-target.field-0.0 c.from_residual.ensures
     c.in_err-target.ensures.target (λ s stands. stands)
@@ -34,13 +37,15 @@ returns-in_err-target-clause-moves g c =
     let ms : Members = members_view c.args.body.now.entries in
     moves_stopped (λ s. query s ms) c.args.tables.now (g.D.Disk.state c.args.disk.now)
     c.from_residual.result c.in_err-target.field-0.0 c.from_residual.ensures
-    (list_unfailed _ (paired_refusals c.query-broken.result c.is_mismatched-mismatched.result rules ms) querying
+    (list_unfailed _
+    (paired_refusals c.query-broken.result c.is_mismatched-mismatched.result rules ms) querying
     (catalog_of c.args.tables.now) ms c.in_err-target.field-0.0 c.in_err-target.ensures.target)
 
 pub page_of_range-requires-clause-limit : goal.page_of_range-requires-clause-limit
 page_of_range-requires-clause-limit g c =
     let ms : Members = members_view c.args.body.now.entries in
-    query_limit ms (sym c.query-broken.ensures ∙ none_broken c.query-broken.result c.is_mismatched-mismatched.result rules ms
+    query_limit ms (sym c.query-broken.ensures
+    ∙ none_broken c.query-broken.result c.is_mismatched-mismatched.result rules ms
     c.in_ok-target.ensures.target.listed.body)
 
 pub page_of_range-requires-clause-index : goal.page_of_range-requires-clause-index
@@ -60,7 +65,8 @@ returns-in-Ok-clause-carried g c =
     c.is_mismatched-mismatched.ensures c.in_ok-target.ensures.target
     (subst (λ b. Asks c.in_ok-target.target.schema.now
     (index_at c.in_ok-target.target.schema.now c.in_ok-target.target.index)
-    c.in_ok-target.target.said.key_condition c.in_ok-target.target.start b (Ok c.in-Ok.range)) c.goes_forward-forward.ensures
+    c.in_ok-target.target.said.key_condition c.in_ok-target.target.start b (Ok c.in-Ok.range))
+    c.goes_forward-forward.ensures
     c.in-Ok.ensures.asks)
     (λ s t stands at. subst (λ b. Does
     (Stands (g.D.Disk.state c.page_of_range.new.disk) c.page_of_range.new.tables) s
@@ -85,7 +91,8 @@ returns-clause-carried g c =
     c.is_mismatched-mismatched.ensures c.in_ok-target.ensures.target
     (subst (λ b. Asks c.in_ok-target.target.schema.now
     (index_at c.in_ok-target.target.schema.now c.in_ok-target.target.index)
-    c.in_ok-target.target.said.key_condition c.in_ok-target.target.start b (Err c.in-Err.stop)) c.goes_forward-forward.ensures
+    c.in_ok-target.target.said.key_condition c.in_ok-target.target.start b (Err c.in-Err.stop))
+    c.goes_forward-forward.ensures
     c.in-Err.ensures.asks)
 
 pub returns-clause-moves : goal.returns-clause-moves
@@ -94,4 +101,5 @@ returns-clause-moves g c =
     (g.D.Disk.state c.args.disk.now) _
     (asks_unfailed _ c.in_ok-target.target.schema.now
     (index_at c.in_ok-target.target.schema.now c.in_ok-target.target.index)
-    c.in_ok-target.target.said.key_condition c.in_ok-target.target.start c.goes_forward-forward.result c.in-Err.stop c.in-Err.ensures.asks)
+    c.in_ok-target.target.said.key_condition c.in_ok-target.target.start
+    c.goes_forward-forward.result c.in-Err.stop c.in-Err.ensures.asks)

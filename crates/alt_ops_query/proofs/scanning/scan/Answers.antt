@@ -22,8 +22,11 @@ pub returns-in_err-target-clause-carried : goal.returns-in_err-target-clause-car
 returns-in_err-target-clause-carried g c =
     let ms : Members = members_view c.args.body.now.entries in
     list_passed (g.D.Disk.state c.args.disk.now) c.args.tables.now
-    (paired_refusals c.scan-broken.result c.are_odd-mismatched.result rules ms) ms (λ s. scan s ms) scanning
-    (λ s. scans ms) (scan_is ms c.scan-broken.result c.are_odd-mismatched.result c.scan-broken.ensures c.are_odd-mismatched.ensures.odd)
+    (paired_refusals c.scan-broken.result c.are_odd-mismatched.result rules ms) ms
+    (λ s. scan s ms) scanning
+    (λ s. scans ms)
+    (scan_is ms c.scan-broken.result c.are_odd-mismatched.result c.scan-broken.ensures
+    c.are_odd-mismatched.ensures.odd)
     (Stands (g.D.Disk.state c.args.disk.now) c.args.tables.now)
     c.from_residual.result c.in_err-target.field-0.0 c.from_residual.ensures
     c.in_err-target.ensures.target (λ s stands. stands)
@@ -33,13 +36,16 @@ returns-in_err-target-clause-moves g c =
     let ms : Members = members_view c.args.body.now.entries in
     moves_stopped (λ s. scan s ms) c.args.tables.now (g.D.Disk.state c.args.disk.now)
     c.from_residual.result c.in_err-target.field-0.0 c.from_residual.ensures
-    (list_unfailed _ (paired_refusals c.scan-broken.result c.are_odd-mismatched.result rules ms) scanning
+    (list_unfailed _
+    (paired_refusals c.scan-broken.result c.are_odd-mismatched.result rules ms) scanning
     (catalog_of c.args.tables.now) ms c.in_err-target.field-0.0 c.in_err-target.ensures.target)
 
 pub page_of_range-requires-clause-limit : goal.page_of_range-requires-clause-limit
 page_of_range-requires-clause-limit g c =
     let ms : Members = members_view c.args.body.now.entries in
-    scan_limit ms (sym c.scan-broken.ensures ∙ none_broken c.scan-broken.result c.are_odd-mismatched.result rules ms
+    scan_limit ms
+    (sym c.scan-broken.ensures
+    ∙ none_broken c.scan-broken.result c.are_odd-mismatched.result rules ms
     c.in_ok-target.ensures.target.listed.body)
 
 pub page_of_range-requires-clause-index : goal.page_of_range-requires-clause-index
@@ -51,16 +57,19 @@ page_of_range-requires-clause-index g c = within_of (catalog_of c.args.tables.no
 pub returns-in-Ok-clause-carried : goal.returns-in-Ok-clause-carried
 returns-in-Ok-clause-carried g c =
     let ms : Members = members_view c.args.body.now.entries in
-    let odd : is_segment_odd ms ≡ false = second_false (is_mismatched ms) (is_segment_odd ms) (sym c.are_odd-mismatched.ensures.odd
+    let odd : is_segment_odd ms ≡ false =
+    second_false (is_mismatched ms) (is_segment_odd ms) (sym c.are_odd-mismatched.ensures.odd
     ∙ none_mismatched c.scan-broken.result c.are_odd-mismatched.result rules ms
     c.in_ok-target.ensures.target.listed.body) in
     scan_done (g.D.Disk.state c.args.disk.now) c.args.tables.now
     (Stands (g.D.Disk.state c.page_of_range.new.disk) c.page_of_range.new.tables) ms
     c.in_ok-target.target c.in-Ok.range c.page_of_range.result c.page_of_range.ensures.plain
     c.in_ok-target.ensures.index
-    c.scan-broken.result c.are_odd-mismatched.result c.scan-broken.ensures c.are_odd-mismatched.ensures.odd c.in_ok-target.ensures.target
+    c.scan-broken.result c.are_odd-mismatched.result c.scan-broken.ensures
+    c.are_odd-mismatched.ensures.odd c.in_ok-target.ensures.target
     (subst (λ o. Segments c.in_ok-target.target.schema.now
-    (index_at c.in_ok-target.target.schema.now c.in_ok-target.target.index) o c.in_ok-target.target.start (Ok c.in-Ok.range))
+    (index_at c.in_ok-target.target.schema.now c.in_ok-target.target.index) o
+    c.in_ok-target.target.start (Ok c.in-Ok.range))
     (c.segment_of-segment.ensures.segment odd) c.in-Ok.ensures.segments)
     (λ s t stands at. c.page_of_range.ensures.does s t stands at)
 
@@ -83,7 +92,8 @@ returns-clause-carried g c =
     c.scan-broken.result c.are_odd-mismatched.result c.scan-broken.ensures
     c.are_odd-mismatched.ensures.odd c.in_ok-target.ensures.target
     (subst (λ o. Segments c.in_ok-target.target.schema.now
-    (index_at c.in_ok-target.target.schema.now c.in_ok-target.target.index) o c.in_ok-target.target.start (Err c.in-Err.stop))
+    (index_at c.in_ok-target.target.schema.now c.in_ok-target.target.index) o
+    c.in_ok-target.target.start (Err c.in-Err.stop))
     (c.segment_of-segment.ensures.segment odd) c.in-Err.ensures.segments)
 
 pub returns-clause-moves : goal.returns-clause-moves

@@ -17,7 +17,8 @@ returns c =
     let place = c.in_ok-place.place in
     let first = c.in_ok-beyond.field-0.from in
     let last = c.in_ok-beyond.field-0.to in
-    let beyond : IsBeyond true place c.match-segment.range.from c.match-segment.range.to first last =
+    let beyond : IsBeyond true place c.match-segment.range.from
+    c.match-segment.range.to first last =
     c.in_ok-beyond.ensures.beyond in
     record {
       segments = record {
@@ -28,9 +29,11 @@ returns c =
           | in-Some+in_ok-range-in-Some w ↦
               let number = w.in-Some.segment.number in
               let total = w.in-Some.segment.total in
-              subst (λ o. HoldsListed true place (is_in (hash_of d i) (option_map segment_in o)) d i first last)
+              subst (λ o. HoldsListed true place
+              (is_in (hash_of d i) (option_map segment_in o)) d i first last)
               (sym w.in-Some.is)
-              (segment_holds d i number total (subst (λ o. IfSome o (λ s. s.number < s.total)) w.in-Some.is c.requires.below)
+              (segment_holds d i number total
+              (subst (λ o. IfSome o (λ s. s.number < s.total)) w.in-Some.is c.requires.below)
               w.tokens_of.ensures.few place
               first last
               (subst (λ x. IsBeyond true place x (end_token (first_token (number + 1) total)) first
@@ -40,7 +43,8 @@ returns c =
               (ap (λ (r : KeyRange). r.to) w.range-is ∙ w.in_ok-range-in-Some.ensures.tokens.1)
               beyond)))
           | in-None w ↦
-              subst (λ o. HoldsListed true place (is_in (hash_of d i) (option_map segment_in o)) d i first last)
+              subst (λ o. HoldsListed true place
+              (is_in (hash_of d i) (option_map segment_in o)) d i first last)
               (sym w.in-None.is)
               (whole_holds d i place first last
               (subst (λ x. IsBeyond true place x None first last)

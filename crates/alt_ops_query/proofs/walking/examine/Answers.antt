@@ -35,7 +35,8 @@ loop-item-preserved c = record {
       let so : SoFar before c.loop-item.filling items (c.in-Some.item ∷ ahead) ask seen =
       subst (λ l. SoFar before c.loop-item.filling items l ask seen) c.in-Some.ensures.steps.0
       (c.loop-item.invariant.examined ask seen h all) in
-      one_more before c.loop-item.filling c.offered.new.filling items ahead c.in-Some.item ask seen so
+      one_more before c.loop-item.filling c.offered.new.filling items ahead
+      c.in-Some.item ask seen so
       (c.in_ok-offered.ensures.examines ask (seen ++ so.front) so.examined
       (next_some before c.loop-item.filling items ahead c.in-Some.item ask seen so all)).0;
   going = search rules;

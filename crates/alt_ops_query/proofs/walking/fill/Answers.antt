@@ -16,11 +16,15 @@ step-requires-clause-ready g c = ready_on (g.D.Disk.state c.args.disk.now)
 
 pub returns-in-Ok-None-clause-filled : goal.returns-in-Ok-None-clause-filled
 returns-in-Ok-None-clause-filled g c s t ask stands at h =
-    let list : List (List Pair) = items_between t (index_at t.description c.args.index) c.args.range.from c.args.range.to c.args.forward in
+    let list : List (List Pair) = items_between t
+    (index_at t.description c.args.index) c.args.range.from c.args.range.to c.args.forward in
     let so = c.steps.invariant.walked s t ask stands at h in
-    walk_ended c.steps.filling c.step.new.filling ask t (index_at t.description c.args.index) c.args.forward list c.steps.range so
-    (subst (λ o. Steps t (index_at t.description c.args.index) c.args.forward ask so.seen c.step.new.filling
-    (items_between t (index_at t.description c.args.index) c.steps.range.from c.steps.range.to c.args.forward) o) c.in-Ok-None.field-0-is
+    walk_ended c.steps.filling c.step.new.filling ask t
+    (index_at t.description c.args.index) c.args.forward list c.steps.range so
+    (subst (λ o. Steps t (index_at t.description c.args.index) c.args.forward ask so.seen
+    c.step.new.filling
+    (items_between t (index_at t.description c.args.index) c.steps.range.from c.steps.range.to
+    c.args.forward) o) c.in-Ok-None.field-0-is
     (c.in-Ok-None.ensures.steps s t ask so.seen ((c.steps.invariant.stays s).0 stands) at
     so.examined))
 
@@ -28,12 +32,16 @@ pub steps-preserved : goal.steps-preserved
 steps-preserved g c = record {
   walked = λ s t ask stands at h.
       let list : List (List Pair) =
-      items_between t (index_at t.description c.args.index) c.args.range.from c.args.range.to c.args.forward in
+      items_between t (index_at t.description c.args.index) c.args.range.from c.args.range.to
+      c.args.forward in
       let so = c.steps.invariant.walked s t ask stands at h in
-      walk_on c.steps.filling c.step.new.filling ask t (index_at t.description c.args.index) c.args.forward list c.steps.range so
+      walk_on c.steps.filling c.step.new.filling ask t
+      (index_at t.description c.args.index) c.args.forward list c.steps.range so
       c.in-Ok-Some.rest
-      (subst (λ o. Steps t (index_at t.description c.args.index) c.args.forward ask so.seen c.step.new.filling
-      (items_between t (index_at t.description c.args.index) c.steps.range.from c.steps.range.to c.args.forward) o)
+      (subst (λ o. Steps t (index_at t.description c.args.index) c.args.forward ask so.seen
+      c.step.new.filling
+      (items_between t (index_at t.description c.args.index) c.steps.range.from c.steps.range.to
+      c.args.forward) o)
       c.in-Ok-Some.field-0-is
       (c.in-Ok-Some.ensures.steps s t ask so.seen ((c.steps.invariant.stays s).0 stands) at
       so.examined));

@@ -17,7 +17,8 @@ invariant-steps g l = record {
   walked : (s : State) (t : Table) (ask : PageAsk) → Stands (g.D.Disk.state l.fn.disk) l.fn.tables s
       → map.get s.tables l.table ≡ Some t → HasExamined l.fn.filling ask []
       → IsWalked l.filling ask t (index_at t.description l.index) l.forward
-      (items_between t (index_at t.description l.index) l.fn.range.from l.fn.range.to l.forward) l.range;
+      (items_between t (index_at t.description l.index) l.fn.range.from l.fn.range.to l.forward)
+      l.range;
   stays : (s : State) → Stands (g.D.Disk.state l.fn.disk) l.fn.tables s
       ↔ Stands (g.D.Disk.state l.disk) l.tables s;
   catalog : KeepsCatalog l.fn.tables l.tables;

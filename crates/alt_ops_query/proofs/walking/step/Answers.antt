@@ -14,7 +14,8 @@ use Rattle.alt_ops_query.proofs.walking.step.Goals.{then-not-more-via-then-not-m
 
 -- a place by the description and the index at hand
 indexed_place : (d e : TableSchema) → d ≡ e → (index : Option ℕ) (item : List Pair)
-    (place : List ℕ) (i : Option IndexSchema) → i ≡ index_at d index → place_in e (index_at e index) item ≡ Some place
+    (place : List ℕ) (i : Option IndexSchema) → i ≡ index_at d index
+    → place_in e (index_at e index) item ≡ Some place
     → place_in d i item ≡ Some place
 indexed_place d e same index item place i is there = ap (λ j. place_in d j item) is
     ∙ ap (λ x. place_in x (index_at x index) item) same ∙ there

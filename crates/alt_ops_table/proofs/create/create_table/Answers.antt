@@ -108,7 +108,8 @@ pub returns-in_err-reply-clause-moves : goal.returns-in_err-reply-clause-moves
 returns-in_err-reply-clause-moves g c =
     moves_stopped (λ s. create_table s c.args.moment (members_view c.args.body.now.entries))
     c.args.tables.now (g.D.Disk.state c.args.disk.now)
-    c.from_residual-in_err-reply.result c.in_err-reply.field-0.0 c.from_residual-in_err-reply.ensures
+    c.from_residual-in_err-reply.result c.in_err-reply.field-0.0
+    c.from_residual-in_err-reply.ensures
     (memory_unfailed _ c.in_err-reply.field-0.0 c.in_err-reply.ensures.cause)
 
 pub returns-in_err-create-clause-moves : goal.returns-in_err-create-clause-moves
@@ -116,7 +117,8 @@ returns-in_err-create-clause-moves g c =
     let ms : Members = members_view c.args.body.now.entries in
     let before = g.D.Disk.state c.args.disk.now in
     let later = g.D.Disk.state c.create.new.disk in
-    subst (Moves (λ s. create_table s c.args.moment ms) (Stands before c.args.tables.now) before later)
+    subst (Moves (λ s. create_table s c.args.moment ms)
+    (Stands before c.args.tables.now) before later)
     (sym (err_is c.from_residual-in_err-create.result
     (Fault c.in_err-create.field-0.0) c.from_residual-in_err-create.ensures))
     (record {

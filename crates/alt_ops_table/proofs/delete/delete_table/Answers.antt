@@ -97,14 +97,16 @@ returns-in_err-schema-clause-moves g c =
     let ms : Members = members_view c.args.body.now.entries in
     moves_stopped (λ s. delete_table s ms) c.args.tables.now (g.D.Disk.state c.args.disk.now)
     c.from_residual.result c.in_err-schema.field-0.0 c.from_residual.ensures
-    (table_unfailed _ (body_refusals c.delete_table.result rules ms) (catalog_of c.args.tables.now) ms
+    (table_unfailed _ (body_refusals c.delete_table.result rules ms)
+    (catalog_of c.args.tables.now) ms
     c.in_err-schema.field-0.0 c.in_err-schema.ensures.target)
 
 pub returns-in_err-reply-clause-moves : goal.returns-in_err-reply-clause-moves
 returns-in_err-reply-clause-moves g c =
     moves_stopped (λ s. delete_table s (members_view c.args.body.now.entries)) c.args.tables.now
     (g.D.Disk.state c.args.disk.now)
-    c.from_residual-in_err-reply.result c.in_err-reply.field-0.0 c.from_residual-in_err-reply.ensures
+    c.from_residual-in_err-reply.result c.in_err-reply.field-0.0
+    c.from_residual-in_err-reply.ensures
     (memory_unfailed _ c.in_err-reply.field-0.0 c.in_err-reply.ensures.cause)
 
 pub returns-in_err-drop_table-clause-moves : goal.returns-in_err-drop_table-clause-moves

@@ -51,7 +51,8 @@ returns-in_err-schema-clause-moves g c =
     let ms : Members = members_view c.args.body.now.entries in
     moves_stopped (λ s. describe_table s ms) c.args.tables.now (g.D.Disk.state c.args.disk.now)
     c.from_residual.result c.in_err-schema.field-0.0 c.from_residual.ensures
-    (table_unfailed _ (body_refusals c.describe_table.result rules ms) (catalog_of c.args.tables.now) ms
+    (table_unfailed _ (body_refusals c.describe_table.result rules ms)
+    (catalog_of c.args.tables.now) ms
     c.in_err-schema.field-0.0 c.in_err-schema.ensures.target)
 
 pub returns-clause-moves : goal.returns-clause-moves

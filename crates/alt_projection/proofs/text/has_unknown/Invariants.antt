@@ -7,4 +7,6 @@ use Rattle.alt_expr.specs.NamesGiven.{given_names}
 use Rattle.alt_projection.proofs.text.has_unknown.Given as goal
 
 abbrev pub invariant-loop-token : goal.invariant-loop-token
-invariant-loop-token l = list_any (is_unknown (names_alone (given_names l.names))) (map tok_of l.tokens) ≡ list_any (is_unknown (names_alone (given_names l.names))) (map tok_of (drop l.token-index l.tokens))
+invariant-loop-token l = list_any (is_unknown (names_alone (given_names l.names)))
+    (map tok_of l.tokens) ≡ list_any (is_unknown (names_alone (given_names l.names)))
+    (map tok_of (drop l.token-index l.tokens))

@@ -13,13 +13,16 @@ use Rattle.alt_expr.proofs.Noting.{notes_hashes, no_hashes}
 use Rattle.alt_expr.proofs.Shared.{was_ok}
 use Rattle.alt_projection.proofs.text.parse.Goals as goal
 
-pub returns-then-text-gt-MOST_BYTES-clause-parsed : goal.returns-then-text-gt-MOST_BYTES-clause-parsed
+pub returns-then-text-gt-MOST_BYTES-clause-parsed :
+    goal.returns-then-text-gt-MOST_BYTES-clause-parsed
 returns-then-text-gt-MOST_BYTES-clause-parsed c =
-    parsed_too_long projections (names_alone (given_names c.args.names.now)) c.args.text.now (omega (arith, c.if-text-gt-MOST_BYTES.true))
+    parsed_too_long projections (names_alone (given_names c.args.names.now)) c.args.text.now
+    (omega (arith, c.if-text-gt-MOST_BYTES.true))
 
 pub returns-then-text-gt-MOST_BYTES-clause-names : goal.returns-then-text-gt-MOST_BYTES-clause-names
 returns-then-text-gt-MOST_BYTES-clause-names c =
-    no_hashes (List (List PathPart)) c.args.text.now c.args.names.now c.args.names.now fault.TooLong (λ other. refl)
+    no_hashes (List (List PathPart)) c.args.text.now c.args.names.now c.args.names.now fault.TooLong
+    (λ other. refl)
 
 pub returns-in_default-clause-parsed : goal.returns-in_default-clause-parsed
 returns-in_default-clause-parsed c =
@@ -27,17 +30,21 @@ returns-in_default-clause-parsed c =
 
 pub returns-in_default-clause-names : goal.returns-in_default-clause-names
 returns-in_default-clause-names c =
-    no_hashes (List (List PathPart)) c.args.text.now c.args.names.now c.args.names.now fault.NoMemory (λ other. refl)
+    no_hashes (List (List PathPart)) c.args.text.now c.args.names.now c.args.names.now
+    fault.NoMemory (λ other. refl)
 
 pub returns-in-Err-clause-parsed : goal.returns-in-Err-clause-parsed
 returns-in-Err-clause-parsed c =
-    parsed_by_tokens projections (names_alone (given_names c.args.names.now)) c.args.text.now (map tok_of c.in-Ok.found.items) c.in-Ok.whole c.in-Ok.ensures
+    parsed_by_tokens projections (names_alone (given_names c.args.names.now)) c.args.text.now
+    (map tok_of c.in-Ok.found.items) c.in-Ok.whole c.in-Ok.ensures
     (omega (arith, c.if-text-gt-MOST_BYTES.false)) (Err c.in-Err.fault)
-    (subst (λ ts. ReadTokens projections (names_alone (given_names c.args.names.now)) (map tok_of ts) c.in-Ok.whole (Err c.in-Err.fault)) c.deref.ensures.value c.in-Err.ensures)
+    (subst (λ ts. ReadTokens projections (names_alone (given_names c.args.names.now))
+    (map tok_of ts) c.in-Ok.whole (Err c.in-Err.fault)) c.deref.ensures.value c.in-Err.ensures)
 
 pub returns-in-Err-clause-names : goal.returns-in-Err-clause-names
 returns-in-Err-clause-names c =
-    no_hashes (List (List PathPart)) c.args.text.now c.args.names.now c.args.names.now c.in-Err.fault (λ other. refl)
+    no_hashes (List (List PathPart)) c.args.text.now c.args.names.now c.args.names.now
+    c.in-Err.fault (λ other. refl)
 
 pub returns-then-is_err-clause-parsed : goal.returns-then-is_err-clause-parsed
 returns-then-is_err-clause-parsed c =
@@ -45,18 +52,29 @@ returns-then-is_err-clause-parsed c =
 
 pub returns-then-is_err-clause-names : goal.returns-then-is_err-clause-names
 returns-then-is_err-clause-names c =
-    no_hashes (List (List PathPart)) c.args.text.now c.args.names.now c.use_words.new.self fault.NoMemory (λ other. absurd (other refl))
+    no_hashes (List (List PathPart)) c.args.text.now c.args.names.now c.use_words.new.self
+    fault.NoMemory (λ other. absurd (other refl))
 
 pub returns-clause-parsed : goal.returns-clause-parsed
 returns-clause-parsed c =
-    parsed_by_tokens projections (names_alone (given_names c.args.names.now)) c.args.text.now (map tok_of c.in-Ok.found.items) c.in-Ok.whole c.in-Ok.ensures
+    parsed_by_tokens projections (names_alone (given_names c.args.names.now)) c.args.text.now
+    (map tok_of c.in-Ok.found.items) c.in-Ok.whole c.in-Ok.ensures
     (omega (arith, c.if-text-gt-MOST_BYTES.false)) (Ok c.in-Ok-read.paths)
-    (subst (λ ts. ReadTokens projections (names_alone (given_names c.args.names.now)) (map tok_of ts) c.in-Ok.whole (Ok c.in-Ok-read.paths)) c.deref.ensures.value c.in-Ok-read.ensures)
+    (subst (λ ts. ReadTokens projections (names_alone (given_names c.args.names.now))
+    (map tok_of ts) c.in-Ok.whole (Ok c.in-Ok-read.paths)) c.deref.ensures.value
+    c.in-Ok-read.ensures)
 
 pub returns-clause-names : goal.returns-clause-names
 returns-clause-names c =
-    let whole = reaches_end projections (names_alone (given_names c.args.names.now)) (map tok_of c.in-Ok.found.items) c.in-Ok.whole c.in-Ok-read.paths
-    (subst (λ ts. ReadTokens projections (names_alone (given_names c.args.names.now)) (map tok_of ts) c.in-Ok.whole (Ok c.in-Ok-read.paths)) c.deref.ensures.value c.in-Ok-read.ensures) in
-    let noted = was_ok c.use_words.result _ (sym c.is_err.ensures.value ∙ c.if-is_err.false) c.use_words.ensures.used in
-    notes_hashes c.args.text.now (map tok_of c.in-Ok.found.items) c.in-Ok.whole c.args.names.now c.use_words.new.self c.in-Ok-read.paths c.in-Ok.ensures whole
-    (subst (λ ts. used_names c.use_words.new.self ≡ with_hashes (map tok_of ts) (used_names c.args.names.now)) c.deref-in-Ok-read.ensures.value noted)
+    let whole = reaches_end projections (names_alone (given_names c.args.names.now))
+    (map tok_of c.in-Ok.found.items) c.in-Ok.whole c.in-Ok-read.paths
+    (subst (λ ts. ReadTokens projections (names_alone (given_names c.args.names.now))
+    (map tok_of ts) c.in-Ok.whole (Ok c.in-Ok-read.paths)) c.deref.ensures.value
+    c.in-Ok-read.ensures) in
+    let noted = was_ok c.use_words.result _ (sym c.is_err.ensures.value
+    ∙ c.if-is_err.false) c.use_words.ensures.used in
+    notes_hashes c.args.text.now (map tok_of c.in-Ok.found.items) c.in-Ok.whole c.args.names.now
+    c.use_words.new.self c.in-Ok-read.paths c.in-Ok.ensures whole
+    (subst (λ ts. used_names c.use_words.new.self
+    ≡ with_hashes (map tok_of ts) (used_names c.args.names.now))
+    c.deref-in-Ok-read.ensures.value noted)

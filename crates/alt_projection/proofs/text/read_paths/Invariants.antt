@@ -5,4 +5,5 @@ use Rattle.alt_expr.specs.Reader.{left, listed, listed_from, path}
 use Rattle.alt_projection.proofs.text.read_paths.Given as goal
 
 abbrev pub invariant-loop-turn : goal.invariant-loop-turn
-invariant-loop-turn l = listed (path (given_names l.names)) (left l.fn.tokens) ≡ listed_from (path (given_names l.names)) (l.turns - l._turn) l.found (left l.tokens)
+invariant-loop-turn l = listed (path (given_names l.names)) (left l.fn.tokens)
+    ≡ listed_from (path (given_names l.names)) (l.turns - l._turn) l.found (left l.tokens)

@@ -9,5 +9,7 @@ use Rattle.alt_request.proofs.batch.known.Given as goal
 
 abbrev pub invariant-loop-name : goal.invariant-loop-name
 invariant-loop-name l =
-    list_all (λ t. map.contains_key (catalog_of l.tables) t.0) (pairs_in (members_view l.asked.entries))
-    ≡ list_all (λ t. map.contains_key (catalog_of l.tables) t.0) (pairs_in (members_view l.name-iterator))
+    list_all (λ t. map.contains_key (catalog_of l.tables) t.0)
+    (pairs_in (members_view l.asked.entries))
+    ≡ list_all (λ t. map.contains_key (catalog_of l.tables) t.0)
+    (pairs_in (members_view l.name-iterator))

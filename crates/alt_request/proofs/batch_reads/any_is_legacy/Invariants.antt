@@ -9,6 +9,7 @@ use Rattle.alt_request.proofs.batch_reads.any_is_legacy.Given as goal
 
 abbrev pub invariant-loop-value : goal.invariant-loop-value
 invariant-loop-value l =
-    list_any (λ t. is_given (codes "AttributesToGet") (members_in t.1)) (pairs_in (members_view l.tables.entries))
+    list_any (λ t. is_given (codes "AttributesToGet") (members_in t.1))
+    (pairs_in (members_view l.tables.entries))
     ≡ list_any (λ t. is_given (codes "AttributesToGet") (members_in t.1))
     (pairs_in (members_view l.value-iterator))

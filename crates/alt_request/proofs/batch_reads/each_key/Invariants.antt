@@ -8,4 +8,5 @@ use Rattle.alt_request.proofs.batch_reads.each_key.Given as goal
 
 abbrev pub invariant-loop-element : goal.invariant-loop-element
 invariant-loop-element l = each_found (read_key l.name) (elements (items_view l.elements))
-    ≡ behind (read_key l.name) l.keys.items (elements (items_view (drop l.element-index l.elements)))
+    ≡ behind (read_key l.name) l.keys.items
+    (elements (items_view (drop l.element-index l.elements)))

@@ -14,7 +14,8 @@ pub loop-keys-preserved : goal.loop-keys-preserved
 loop-keys-preserved c =
     let catalog = catalog_of c.args.tables.now in record {
       placed = one_more_seen (placed_all catalog) reads_of
-          (each_found (placed_all catalog) (map keys_said c.args.said.items)) c.loop-keys.there.items
+          (each_found (placed_all catalog) (map keys_said c.args.said.items))
+          c.loop-keys.there.items
           c.push.new.self.items (map keys_said (into_iter_items c.loop-keys.keys-iterator))
           (map keys_said (into_iter_items c.next.new.self)) (keys_said c.in-Some.keys)
           c.in_ok-placed_table.field-0 c.loop-keys.invariant.placed

@@ -8,4 +8,5 @@ use Rattle.alt_request.proofs.batch_writes.push_requests.Given as goal
 abbrev pub invariant-loop-value : goal.invariant-loop-value
 invariant-loop-value l = map request_of l.requests.items
     ++ map (λ d. (l.table, d)) (elements (items_view (drop l.value-index l.elements)))
-    ≡ map request_of l.fn.requests.items ++ map (λ d. (l.table, d)) (elements (items_view l.elements))
+    ≡ map request_of l.fn.requests.items ++ map (λ d. (l.table, d))
+    (elements (items_view l.elements))

@@ -7,4 +7,5 @@ use Rattle.alt_request.proofs.batch_writes.requests_in.Given as goal
 
 abbrev pub invariant-loop-name : goal.invariant-loop-name
 invariant-loop-name l = of_each elements_in (pairs_in (members_view l.tables.entries))
-    ≡ map request_of l.requests.items ++ of_each elements_in (pairs_in (members_view l.name-iterator))
+    ≡ map request_of l.requests.items ++ of_each elements_in
+    (pairs_in (members_view l.name-iterator))

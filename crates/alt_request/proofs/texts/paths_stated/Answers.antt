@@ -23,7 +23,8 @@ pub returns-in-Ok-clause-stated : goal.returns-in-Ok-clause-stated
 returns-in-Ok-clause-stated c =
     let g = names_alone (given_names c.args.names.now) in
     ap (λ o. machine.stated paths_of g (text_in o)) c.in-Some.is
-    ∙ read_ok projections paths_of g (unique g) c.in-Some.text.now c.in-Ok.paths c.in-Ok.ensures.parsed
+    ∙ read_ok projections paths_of g (unique g) c.in-Some.text.now c.in-Ok.paths
+    c.in-Ok.ensures.parsed
 
 pub returns-in-Ok-clause-names : goal.returns-in-Ok-clause-names
 returns-in-Ok-clause-names c =
@@ -37,6 +38,8 @@ returns-in-Err-clause-stated c =
     let g = names_alone (given_names c.args.names.now) in
     subst (λ (stop : Stop). Comes {X = Option (List (List PathPart))} (λ x. x)
     (machine.stated paths_of g (text_in c.args.text)) (Err stop)) (sym c.stop_of.ensures)
-    (subst (λ o. Comes {X = Option (List (List PathPart))} (λ x. x) (machine.stated paths_of g (text_in o))
+    (subst (λ o. Comes {X = Option (List (List PathPart))} (λ x. x)
+    (machine.stated paths_of g (text_in o))
     (Err (stop_of c.in-Err.fault))) (sym c.in-Some.is)
-    (read_err projections paths_of g (unique g) c.in-Some.text.now c.in-Err.fault c.in-Err.ensures.parsed))
+    (read_err projections paths_of g (unique g) c.in-Some.text.now c.in-Err.fault
+    c.in-Err.ensures.parsed))

@@ -23,7 +23,8 @@ pub returns-in-Ok-clause-stated : goal.returns-in-Ok-clause-stated
 returns-in-Ok-clause-stated c =
     let g = given_by c.args.names.now c.args.values.now in
     ap (λ o. machine.stated update_of g (text_in o)) c.in-Some.is
-    ∙ read_ok updates update_of g (unique g) c.in-Some.text.now c.in-Ok.update c.in-Ok.ensures.parsed
+    ∙ read_ok updates update_of g (unique g) c.in-Some.text.now c.in-Ok.update
+    c.in-Ok.ensures.parsed
 
 pub returns-in-Ok-clause-names : goal.returns-in-Ok-clause-names
 returns-in-Ok-clause-names c =
@@ -46,4 +47,5 @@ returns-in-Err-clause-stated c =
     (machine.stated update_of g (text_in c.args.text)) (Err stop)) (sym c.stop_of.ensures)
     (subst (λ o. Comes {X = Option (List Action)} (λ x. x) (machine.stated update_of g (text_in o))
     (Err (stop_of c.in-Err.fault))) (sym c.in-Some.is)
-    (read_err updates update_of g (unique g) c.in-Some.text.now c.in-Err.fault c.in-Err.ensures.parsed))
+    (read_err updates update_of g (unique g) c.in-Some.text.now c.in-Err.fault
+    c.in-Err.ensures.parsed))

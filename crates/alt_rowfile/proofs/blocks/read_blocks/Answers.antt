@@ -53,7 +53,8 @@ each-preserved g c =
           let left = length_up_to bytes next end room in
           one_block_more (drop 8 (take end bytes)) (drop at (take end bytes))
           (drop next (take end bytes))
-          at next c.each.after c.each.marks.items c.push.new.self.items c.each.rows c.in-Some.read.rows
+          at next c.each.after c.each.marks.items c.push.new.self.items c.each.rows
+          c.in-Some.read.rows
           c.in-Some.read.first c.in-Some.read.last p.0 (inv.read told room)
           (omega (arith, long, c.each-test.true)) p.1 p.2
           (omega (arith, long, left, place.0, place.1)) c.in_ok-push-in-Some.ensures.items;

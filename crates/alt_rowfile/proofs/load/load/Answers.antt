@@ -27,7 +27,8 @@ returns-in-Ok-Some-rows_of-clause-rows g c = λ told rows reads.
     (c.in-Ok-Some-rows_of.ensures.some
     (here s file.file marks file.end i rows reads c.requires) loaded.held loaded.rising
     (c.deref.ensures.value
-    ∙ are_bytes s file.file marks file.end i rows reads c.requires at n is_at is_n c.in-Ok-Some.bytes.items there))
+    ∙ are_bytes s file.file marks file.end i rows reads c.requires at n is_at is_n
+    c.in-Ok-Some.bytes.items there))
 
 pub returns-in-Ok-None-rows_of-clause-undamaged : goal.returns-in-Ok-None-rows_of-clause-undamaged
 returns-in-Ok-None-rows_of-clause-undamaged g c = λ told rows reads damaged.
@@ -48,7 +49,8 @@ returns-in-Ok-None-rows_of-clause-undamaged g c = λ told rows reads damaged.
     (c.in-Ok-None-rows_of.ensures.none
     (here s file.file marks file.end i rows reads c.requires) loaded.held loaded.rising
     (c.deref.ensures.value
-    ∙ are_bytes s file.file marks file.end i rows reads c.requires at n is_at is_n c.in-Ok-Some.bytes.items there))
+    ∙ are_bytes s file.file marks file.end i rows reads c.requires at n is_at is_n
+    c.in-Ok-Some.bytes.items there))
 
 pub returns-in-Ok-None-clause-undamaged : goal.returns-in-Ok-None-clause-undamaged
 returns-in-Ok-None-clause-undamaged g c = λ told rows reads damaged.
@@ -77,4 +79,5 @@ returns-in-Ok-Some-rows_of-clause-one_block g c =
     (get_or_read file.marks.items c.args.i c.index.result.now c.requires c.index.ensures (0, [])) in
     let is_n : n ≡ length_of file c.args.i = c.saturating_sub-count.ensures
     ∙ (λ j. c.next_place-next.ensures j - is_at j) in
-    asked (g.D.Disk.state c.args.disk.now) (g.D.Disk.state c.bytes_at.new.disk) file c.args.i at n c.requires is_at is_n c.bytes_at.ensures.one
+    asked (g.D.Disk.state c.args.disk.now) (g.D.Disk.state c.bytes_at.new.disk) file c.args.i at n
+    c.requires is_at is_n c.bytes_at.ensures.one

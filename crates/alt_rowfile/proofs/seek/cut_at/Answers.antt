@@ -25,7 +25,8 @@ returns-then-forward c = λ sorted.
       ap length c.reverse.ensures.items,
       length-reverse rows,
     ) in
-    cut_from_up c.args.key.now c.args.forward c.if-forward.true rows c.truncate.new.self.items n c.saturating_sub.result cuts count
+    cut_from_up c.args.key.now c.args.forward c.if-forward.true rows c.truncate.new.self.items n
+    c.saturating_sub.result cuts count
     (c.truncate.ensures.items ∙ ap (take c.saturating_sub.result) c.reverse.ensures.items)
 
 pub returns-else-forward : goal.returns-else-forward
@@ -36,4 +37,5 @@ returns-else-forward c = λ sorted.
     subst (λ (l : List Entry). CutsAt c.args.key.now l n) c.deref.ensures.value
     (c.rows_below-below.ensures
     (subst (λ (l : List Entry). T (is_sorted key_cmp l)) (sym c.deref.ensures.value) sorted)) in
-    cut_from_down c.args.key.now c.args.forward c.if-forward.false rows c.truncate-else-forward.new.self.items n cuts c.truncate-else-forward.ensures.items
+    cut_from_down c.args.key.now c.args.forward c.if-forward.false rows
+    c.truncate-else-forward.new.self.items n cuts c.truncate-else-forward.ensures.items

@@ -11,10 +11,13 @@ pub returns-then-forward-clause-left : goal.returns-then-forward-clause-left
 returns-then-forward-clause-left g c = λ told rows reads.
     rw c.in-None.is
     (left_up (g.D.Disk.state c.args.disk.now)
-    c.args.file.now rows reads c.args.forward c.if-forward.true c.new-held.result.items c.new-held.ensures.items)
+    c.args.file.now rows reads c.args.forward c.if-forward.true c.new-held.result.items
+    c.new-held.ensures.items)
 
 pub returns-else-forward-clause-left : goal.returns-else-forward-clause-left
 returns-else-forward-clause-left g c = λ told rows reads.
     rw c.in-None.is
     (left_down (g.D.Disk.state c.args.disk.now)
-    c.args.file.now rows reads c.args.forward c.if-forward.false c.new-held.result.items c.new-held.ensures.items c.len.result (omega (arith, c.len.ensures, c.args.file.now.marks.ok)))
+    c.args.file.now rows reads c.args.forward c.if-forward.false c.new-held.result.items
+    c.new-held.ensures.items c.len.result
+    (omega (arith, c.len.ensures, c.args.file.now.marks.ok)))

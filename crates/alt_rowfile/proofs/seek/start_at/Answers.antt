@@ -17,7 +17,8 @@ returns-then-count-eq0-clause-left g c = λ told rows reads.
     let ends : EndsAt file.marks.items c.args.key.now n =
     subst (λ (m : List Mark). EndsAt m c.args.key.now n)
     c.deref.ensures.value c.blocks_up_to-count.ensures in
-    sought_first s s file c.args.key.now rows reads refl n ends c.if-count-eq0.true c.args.forward c.new.result.items c.new.ensures.items
+    sought_first s s file c.args.key.now rows reads refl n ends c.if-count-eq0.true c.args.forward
+    c.new.result.items c.new.ensures.items
 
 pub returns-then-forward-clause-left : goal.returns-then-forward-clause-left
 returns-then-forward-clause-left g c = λ told rows reads.

@@ -56,7 +56,8 @@ returns-in_err-unfit-clause-moves g c =
 
 pub returns-in_err-schema-clause-moves : goal.returns-in_err-schema-clause-moves
 returns-in_err-schema-clause-moves g c =
-    moves_stopped (λ s. get_shard_iterator s (members_view c.args.body.now.entries)) c.args.tables.now
+    moves_stopped (λ s. get_shard_iterator s (members_view c.args.body.now.entries))
+    c.args.tables.now
     (g.D.Disk.state c.args.disk.now) c.from_residual-in_err-schema.result
     c.in_err-schema.field-0.0 c.from_residual-in_err-schema.ensures
     (stream_unfailed _ c.args.tables.now c.arn_in.result.now c.in_err-schema.field-0.0
@@ -64,6 +65,7 @@ returns-in_err-schema-clause-moves g c =
 
 pub returns-clause-moves : goal.returns-clause-moves
 returns-clause-moves g c =
-    moves_nothing (λ s. get_shard_iterator s (members_view c.args.body.now.entries)) c.args.tables.now
+    moves_nothing (λ s. get_shard_iterator s (members_view c.args.body.now.entries))
+    c.args.tables.now
     (g.D.Disk.state c.args.disk.now) c.iterator_reply.result
     (reply_unfailed _ c.iterator_reply.result c.iterator_reply.ensures.cause)

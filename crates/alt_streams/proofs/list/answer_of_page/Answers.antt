@@ -10,5 +10,6 @@ pub returns-clause-reply : goal.returns-clause-reply
 returns-clause-reply c named = page_said c.listed.result _ _
     (page-answered _ _ _ _ (c.in_ok-page.ensures.streams named) (c.in_ok-page.ensures.more named)
     ∙ (λ i. streams_answer (c.page_length.ensures i)
-    (streams_after (c.start_name.ensures i) (c.text_at-name.ensures i) (catalog_of c.args.tables.now))))
+    (streams_after (c.start_name.ensures i) (c.text_at-name.ensures i)
+    (catalog_of c.args.tables.now))))
     c.listed.ensures.reply

@@ -9,7 +9,8 @@ pub returns-then-not-is_lt : goal.returns-then-not-is_lt
 returns-then-not-is_lt c = record {
   named = λ named. named_none (catalog_of c.args.tables.now) named c.args.last.now c.args.name.now
       (λ d there shown less.
-      let no : false ≡ true = sym c.if-not-is_lt.true ∙ c.is_lt.ensures ∙ ap is_lt c.cmp.ensures ∙ less in
+      let no : false ≡ true = sym c.if-not-is_lt.true ∙ c.is_lt.ensures
+      ∙ ap is_lt c.cmp.ensures ∙ less in
       cc no);
 }
 

@@ -26,7 +26,8 @@ loop-preserved c =
           (streams_next (catalog_of c.args.tables.now) named c.loop.last.now name
           c.in-Some.schema.now (c.in-Some.ensures.next named))
           (ap (map (λ (d : Bor TableSchema). d.now)) is
-          ∙ map-append (λ (d : Bor TableSchema). d.now) c.loop.schemas.items (c.in-Some.schema ∷ []))
+          ∙ map-append (λ (d : Bor TableSchema). d.now) c.loop.schemas.items
+          (c.in-Some.schema ∷ []))
           (c.loop.invariant.2 named),
     )
 

@@ -40,7 +40,8 @@ pieces-preserved g c = record {
       c.pieces.page c.step.new.page so
       (subst (Steps t.description shows most from c.step.new.page so.seen t
       (changes_from c.pieces.page.next t.changes)) c.if-not-more.false
-      (c.in_ok-more.ensures.steps s t shows most from so.seen ((c.pieces.invariant.stays s).0 stands)
+      (c.in_ok-more.ensures.steps s t shows most from so.seen
+      ((c.pieces.invariant.stays s).0 stands)
       at view so.read));
   stays = λ s. (
     λ stands. (c.step.ensures.stays s).0 ((c.pieces.invariant.stays s).0 stands),

@@ -17,7 +17,8 @@ loop-change-preserved c = record {
       let so : SoFar d shows most from seen changes c.loop-change.page (one ∷ map change_in ahead) =
       subst (λ l. SoFar d shows most from seen changes c.loop-change.page (map change_in l))
       c.in-Some.ensures.steps.0 (c.loop-change.invariant.put shows most from seen is h all) in
-      one_more d shows most from seen changes c.loop-change.page c.put.new.self one (map change_in ahead) so
+      one_more d shows most from seen changes c.loop-change.page c.put.new.self one
+      (map change_in ahead) so
       (c.in_ok-put.ensures.read shows most from (seen ++ so.front) is so.read
       (next_fit d shows most from seen changes c.loop-change.page c.put.new.self one
       (map change_in ahead) so all));
@@ -38,7 +39,8 @@ loop-change-preserved-else-is_full c = record {
       let so : SoFar d shows most from seen changes c.loop-change.page (one ∷ map change_in ahead) =
       subst (λ l. SoFar d shows most from seen changes c.loop-change.page (map change_in l))
       c.in-Some.ensures.steps.0 (c.loop-change.invariant.put shows most from seen is h all) in
-      one_more d shows most from seen changes c.loop-change.page c.put.new.self one (map change_in ahead) so
+      one_more d shows most from seen changes c.loop-change.page c.put.new.self one
+      (map change_in ahead) so
       (c.in_ok-put.ensures.read shows most from (seen ++ so.front) is so.read
       (next_fit d shows most from seen changes c.loop-change.page c.put.new.self one
       (map change_in ahead) so all));
@@ -58,7 +60,8 @@ returns-then-is_full-clause-puts c shows most from seen is h all =
     let so : SoFar d shows most from seen changes c.loop-change.page (one ∷ map change_in ahead) =
     subst (λ l. SoFar d shows most from seen changes c.loop-change.page (map change_in l))
     c.in-Some.ensures.steps.0 (c.loop-change.invariant.put shows most from seen is h all) in
-    one_last d shows most from seen changes c.loop-change.page c.put.new.self one (map change_in ahead) so
+    one_last d shows most from seen changes c.loop-change.page c.put.new.self one
+    (map change_in ahead) so
     (c.in_ok-put.ensures.read shows most from (seen ++ so.front) is so.read
     (next_fit d shows most from seen changes c.loop-change.page c.put.new.self one
     (map change_in ahead) so all)) (sym c.is_full.ensures.full ∙ c.if-is_full.true)
@@ -76,5 +79,6 @@ returns-clause-puts c shows most from seen is h all =
     let changes = map change_in c.args.changes.items in
     all_put d shows most from seen changes c.loop-change.page
     (subst (λ l. SoFar d shows most from seen changes c.loop-change.page (map change_in l))
-    (none_ahead (into_iter_items c.loop-change.change-iterator) (sym c.loop-change.change-iterator.rest.ok.0 ∙ c.in-None.ensures.steps.0))
+    (none_ahead (into_iter_items c.loop-change.change-iterator)
+    (sym c.loop-change.change-iterator.rest.ok.0 ∙ c.in-None.ensures.steps.0))
     (c.loop-change.invariant.put shows most from seen is h all))

@@ -24,8 +24,10 @@ returns-then-not-more-clause-steps g c s t shows most from seen stands at view h
     let got : List Change = map change_in c.in_ok-changes.changes.items in
     let is : got ≡ take c.piece-most.result (changes_from c.args.page.now.next t.changes) =
     c.in_ok-changes.ensures.changes s t stands at in
-    let same = described (g.D.Disk.state c.args.disk.now) c.args.tables.now s stands c.args.table.now
-    c.changes.new.self c.changes.ensures.catalog c.in-Some.schema.now c.in-Some.ensures.table t at in
+    let same = described (g.D.Disk.state c.args.disk.now) c.args.tables.now s stands
+    c.args.table.now
+    c.changes.new.self c.changes.ensures.catalog c.in-Some.schema.now
+    c.in-Some.ensures.table t at in
     let fit : All IsFit got = subst (All IsFit) (sym is)
     (piece_fit s stands.valid c.args.table.now t at c.args.page.now.next c.piece-most.result) in
     let puts : Puts t.description shows most from c.put_all.new.page seen got c.in_ok-more.more =
@@ -35,10 +37,13 @@ returns-then-not-more-clause-steps g c s t shows most from seen stands at view h
     elim c.then-not-more.branch [
       | then-not-more-via-then-not-more w ↦ step_full t.description shows most from seen t rise
           c.args.page.now c.put_all.new.page h c.piece-most.result got is
-          (subst (Puts t.description shows most from c.put_all.new.page seen got) w.if-not-more.true puts)
-      | then-not-more-via-else-not-more+then-got-most w ↦ step_last t.description shows most from seen t
+          (subst (Puts t.description shows most from c.put_all.new.page seen got)
+          w.if-not-more.true puts)
+      | then-not-more-via-else-not-more+then-got-most w ↦
+          step_last t.description shows most from seen t
           rise c.args.page.now c.put_all.new.page h c.piece-most.result got is
-          (subst (Puts t.description shows most from c.put_all.new.page seen got) w.if-not-more.false puts)
+          (subst (Puts t.description shows most from c.put_all.new.page seen got)
+          w.if-not-more.false puts)
           (omega (
             arith,
             w.if-got-most.true,
@@ -52,8 +57,10 @@ returns-clause-steps g c s t shows most from seen stands at view h =
     let got : List Change = map change_in c.in_ok-changes.changes.items in
     let is : got ≡ take c.piece-most.result (changes_from c.args.page.now.next t.changes) =
     c.in_ok-changes.ensures.changes s t stands at in
-    let same = described (g.D.Disk.state c.args.disk.now) c.args.tables.now s stands c.args.table.now
-    c.changes.new.self c.changes.ensures.catalog c.in-Some.schema.now c.in-Some.ensures.table t at in
+    let same = described (g.D.Disk.state c.args.disk.now) c.args.tables.now s stands
+    c.args.table.now
+    c.changes.new.self c.changes.ensures.catalog c.in-Some.schema.now
+    c.in-Some.ensures.table t at in
     let fit : All IsFit got = subst (All IsFit) (sym is)
     (piece_fit s stands.valid c.args.table.now t at c.args.page.now.next c.piece-most.result) in
     let puts : Puts t.description shows most from c.put_all.new.page seen got c.in_ok-more.more =
@@ -61,4 +68,5 @@ returns-clause-steps g c s t shows most from seen stands at view h =
     c.in_ok-more.more c.in_ok-more.ensures.puts shows most from seen view h fit in
     step_on t.description shows most from seen t (rising s stands.valid c.args.table.now t at)
     c.args.page.now c.put_all.new.page h c.piece-most.result got is
-    (subst (Puts t.description shows most from c.put_all.new.page seen got) c.if-not-more.false puts)
+    (subst (Puts t.description shows most from c.put_all.new.page seen got)
+    c.if-not-more.false puts)

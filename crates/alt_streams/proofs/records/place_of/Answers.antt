@@ -15,13 +15,15 @@ returns-in-Some c = record {
 pub returns-in_default-iterator_of : goal.returns-in_default-iterator_of
 returns-in_default-iterator_of c = record {
   place = place_unread (catalog_of c.args.tables.now) (members_view c.args.body.now.entries)
-      c.in_default.ensures (ap iterator_of (sym c.iterator_in.ensures) ∙ sym c.in_default-iterator_of.ensures.iterator);
+      c.in_default.ensures (ap iterator_of (sym c.iterator_in.ensures)
+      ∙ sym c.in_default-iterator_of.ensures.iterator);
 }
 
 pub returns-in-Ok : goal.returns-in-Ok
 returns-in-Ok c = record {
   place = place_found (catalog_of c.args.tables.now) (members_view c.args.body.now.entries)
-      c.in_default.ensures (record { arn = c.in-Some-iterator_of.arn.now; from = c.in-Some-iterator_of.from })
+      c.in_default.ensures
+      (record { arn = c.in-Some-iterator_of.arn.now; from = c.in-Some-iterator_of.from })
       (ap iterator_of (sym c.iterator_in.ensures) ∙ sym c.in-Some-iterator_of.ensures.iterator)
       _ refl c.in-Ok.ensures.found;
 }
@@ -29,7 +31,8 @@ returns-in-Ok c = record {
 pub returns-in-Err : goal.returns-in-Err
 returns-in-Err c = record {
   place = place_missed (catalog_of c.args.tables.now) (members_view c.args.body.now.entries)
-      c.in_default.ensures (record { arn = c.in-Some-iterator_of.arn.now; from = c.in-Some-iterator_of.from })
+      c.in_default.ensures
+      (record { arn = c.in-Some-iterator_of.arn.now; from = c.in-Some-iterator_of.from })
       (ap iterator_of (sym c.iterator_in.ensures) ∙ sym c.in-Some-iterator_of.ensures.iterator)
       c.in-Err.stop c.in-Err.ensures.found;
 }

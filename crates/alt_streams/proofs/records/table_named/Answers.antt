@@ -14,7 +14,8 @@ returns-in_err-schema c =
     record {
       found = subst (OnStreaming catalog c.args.arn.now)
           (sym (err_is c.from_residual.result c.in_err-schema.field-0.0 c.from_residual.ensures))
-          (stop_named catalog c.args.arn.now c.in_err-schema.field-0.0 c.in_err-schema.ensures.found);
+          (stop_named catalog c.args.arn.now c.in_err-schema.field-0.0
+          c.in_err-schema.ensures.found);
     }
 
 pub returns-then-not-has_stream : goal.returns-then-not-has_stream
@@ -39,6 +40,7 @@ returns c =
         ap (λ n. has_stream (map.get catalog n)) (own ∙ sym c.as_str.ensures.same)
             ∙ sym c.has_stream.ensures ∙ c.if-not-has_stream.false,
         subst (λ n. IsStreamOf catalog c.args.arn.now (map.get catalog n)) (sym own)
-            (streams_so catalog c.args.arn.now c.in_ok-schema.schema.now c.in_ok-schema.ensures.found),
+            (streams_so catalog c.args.arn.now c.in_ok-schema.schema.now
+            c.in_ok-schema.ensures.found),
       );
     }

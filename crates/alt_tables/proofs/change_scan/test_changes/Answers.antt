@@ -8,13 +8,15 @@ use Rattle.alt_tables.proofs.change_scan.test_changes.Goals as goal
 pub rows-init : goal.rows-init
 rows-init g c = record {
   walked = walk_start (g.D.Disk.state c.args.disk.now) c.args.engine.now;
-  changes = λ tells layout reads. rows_none layout c.args.family (IsChangeRow c.args.schema.now c.args.next) c.from_vec-from.result
+  changes = λ tells layout reads. rows_none layout c.args.family
+      (IsChangeRow c.args.schema.now c.args.next) c.from_vec-from.result
       (c.from_vec-from.ensures.same ∙ c.new.ensures.items);
 }
 
 pub returns-in-Ok-None-clause-read : goal.returns-in-Ok-None-clause-read
 returns-in-Ok-None-clause-read g c tells l reads =
-    rows_all l c.args.family (IsChangeRow c.args.schema.now c.args.next) c.rows.from (c.rows.invariant.changes tells l reads)
+    rows_all l c.args.family (IsChangeRow c.args.schema.now c.args.next) c.rows.from
+    (c.rows.invariant.changes tells l reads)
     (subst (IsNextRow l c.args.family c.rows.from) c.in-Ok-None.field-0-is
     (c.in-Ok-None.ensures.row
     (subst IsTrue (sym c.rows.invariant.walked.goes.tells) tells) l
@@ -32,7 +34,8 @@ returns-in-Err-Bad-clause-wrong g c tells l reads =
     c.rows.engine l c.rows.invariant.walked tells reads)) in (
       refl,
       record {
-        before = rows_next l c.args.family (IsChangeRow c.args.schema.now c.args.next) c.rows.from (c.rows.invariant.changes tells l reads)
+        before = rows_next l c.args.family (IsChangeRow c.args.schema.now c.args.next) c.rows.from
+            (c.rows.invariant.changes tells l reads)
             c.in-Ok-Some.next.0 c.in-Ok-Some.next.1 first;
         row = c.in-Ok-Some.next.1;
         shows = first.shows;
@@ -55,7 +58,8 @@ rows-preserved g c = record {
       c.rows.engine l c.rows.invariant.walked tells reads)) in
       rows_more l c.args.family (IsChangeRow c.args.schema.now c.args.next) c.in-Ok-Some.next.0
       c.in-Ok-Some.next.1
-      (rows_next l c.args.family (IsChangeRow c.args.schema.now c.args.next) c.rows.from (c.rows.invariant.changes tells l reads)
+      (rows_next l c.args.family (IsChangeRow c.args.schema.now c.args.next) c.rows.from
+      (c.rows.invariant.changes tells l reads)
       c.in-Ok-Some.next.0 c.in-Ok-Some.next.1 first) first.shows c.in-Ok.ensures.change
       c.in-Ok-key_after.after
       (c.in-Ok-key_after.ensures ∙ ap (λ k. k ++ 0 ∷ []) c.as_slice.ensures.same);

@@ -7,13 +7,15 @@ use Rattle.alt_tables.proofs.scan.read_items.Goals as goal
 pub rows-init : goal.rows-init
 rows-init g c = record {
   walked = walk_start (g.D.Disk.state c.args.disk.now) c.args.engine.now;
-  items = λ tells layout reads. rows_none layout c.args.schema.now.family (IsItemRow c.args.schema.now) c.from_vec-from.result
+  items = λ tells layout reads. rows_none layout c.args.schema.now.family
+      (IsItemRow c.args.schema.now) c.from_vec-from.result
       (c.from_vec-from.ensures.same ∙ c.new.ensures.items);
 }
 
 pub returns-in-Ok-None-clause-read : goal.returns-in-Ok-None-clause-read
 returns-in-Ok-None-clause-read g c tells l reads =
-    rows_all l c.args.schema.now.family (IsItemRow c.args.schema.now) c.rows.from (c.rows.invariant.items tells l reads)
+    rows_all l c.args.schema.now.family (IsItemRow c.args.schema.now) c.rows.from
+    (c.rows.invariant.items tells l reads)
     (subst (IsNextRow l c.args.schema.now.family c.rows.from) c.in-Ok-None.field-0-is
     (c.in-Ok-None.ensures.row
     (subst IsTrue (sym c.rows.invariant.walked.goes.tells) tells) l
@@ -31,7 +33,8 @@ returns-in-Err-Bad-clause-wrong g c tells l reads =
     c.rows.engine l c.rows.invariant.walked tells reads)) in (
       refl,
       record {
-        before = rows_next l c.args.schema.now.family (IsItemRow c.args.schema.now) c.rows.from (c.rows.invariant.items tells l reads)
+        before = rows_next l c.args.schema.now.family (IsItemRow c.args.schema.now) c.rows.from
+            (c.rows.invariant.items tells l reads)
             c.in-Ok-Some.next.0 c.in-Ok-Some.next.1 first;
         row = c.in-Ok-Some.next.1;
         shows = first.shows;
@@ -54,7 +57,8 @@ rows-preserved g c = record {
       c.rows.engine l c.rows.invariant.walked tells reads)) in
       rows_more l c.args.schema.now.family (IsItemRow c.args.schema.now) c.in-Ok-Some.next.0
       c.in-Ok-Some.next.1
-      (rows_next l c.args.schema.now.family (IsItemRow c.args.schema.now) c.rows.from (c.rows.invariant.items tells l reads)
+      (rows_next l c.args.schema.now.family (IsItemRow c.args.schema.now) c.rows.from
+      (c.rows.invariant.items tells l reads)
       c.in-Ok-Some.next.0 c.in-Ok-Some.next.1 first) first.shows c.in-Ok.ensures.item
       c.in-Ok-key_after.after
       (c.in-Ok-key_after.ensures ∙ ap (λ k. k ++ 0 ∷ []) c.as_slice.ensures.same);

@@ -7,4 +7,5 @@ use Rattle.alt_updeval.proofs.term.one_piece.Goals as goal
 pub returns-in_ok-push-in-L : goal.returns-in_ok-push-in-L
 returns-in_ok-push-in-L c =
     ap (λ v. list_in (tree_of v)) c.in-L.is
-    ∙ one_pushed c.in-L.list c.new-pieces.result.items c.push.new.self.items _ c.in_ok-push-in-L.ensures.items c.new-pieces.ensures.items refl
+    ∙ one_pushed c.in-L.list c.new-pieces.result.items c.push.new.self.items _
+    c.in_ok-push-in-L.ensures.items c.new-pieces.ensures.items refl

@@ -20,11 +20,16 @@ loop-name-preserved g c =
     let v = c.in_ok-items.items in
     let x : Bor (List ℕ) × Vec Rest Global = (c.in-Some.name, c.in-Some.rests) in
     let given = c.into_iter-name-iterator.ensures.into_iter_gives in
-    let count : into_iter_len c.into_iter-name-iterator.result ≡ length v.items = omega (arith, given.1, v.ok) in
-    let turn = YieldsList-turn (YieldsList-from_vec v.items given.0 count) c.loop-name.yielded c.loop-name.name-iterator c.loop-name.yielded_by c.next.result c.next.new.self x c.in-Some.is c.next.ensures.steps in
-    let group = group_is item c.args.all.items v.items c.in_ok-items.ensures.rising c.in_ok-items.ensures.groups (length c.loop-name.yielded) x
+    let count : into_iter_len c.into_iter-name-iterator.result
+    ≡ length v.items = omega (arith, given.1, v.ok) in
+    let turn = YieldsList-turn (YieldsList-from_vec v.items given.0 count) c.loop-name.yielded
+    c.loop-name.name-iterator c.loop-name.yielded_by c.next.result c.next.new.self x
+    c.in-Some.is c.next.ensures.steps in
+    let group = group_is item c.args.all.items v.items c.in_ok-items.ensures.rising
+    c.in_ok-items.ensures.groups (length c.loop-name.yielded) x
     (slice_get_read v.items (length v.items) (length c.loop-name.yielded) x refl turn.0 turn.1) in
-    subst (λ cs. ChangesSoFar item es (c.loop-name.yielded ++ x ∷ []) cs) (sym c.in_ok-push.ensures.items) (record {
+    subst (λ cs. ChangesSoFar item es (c.loop-name.yielded ++ x ∷ []) cs)
+    (sym c.in_ok-push.ensures.items) (record {
       changes = change_more item c.args.all.items v.items c.in_ok-items.ensures.rising
           c.in_ok-items.ensures.groups c.loop-name.yielded x c.loop-name.list.items
           c.in_ok-change.field-0 group c.loop-name.invariant.changes c.in_ok-change.ensures.name
@@ -39,10 +44,15 @@ returns-clause-after g c =
     let es = map shown_at c.args.all.items in
     let v = c.in_ok-items.items in
     let given = c.into_iter-name-iterator.ensures.into_iter_gives in
-    let count : into_iter_len c.into_iter-name-iterator.result ≡ length v.items = omega (arith, given.1, v.ok) in
-    let done = YieldsList-end (YieldsList-from_vec v.items given.0 count) c.loop-name.yielded c.loop-name.name-iterator c.loop-name.yielded_by c.next.result c.next.new.self c.in-None.is c.next.ensures.steps in
-    change_all item c.args.all.items v.items c.in_ok-items.ensures.rising c.in_ok-items.ensures.groups c.loop-name.list.items
-    (subst (λ gs. ChangesSoFar item es gs c.loop-name.list.items) (sym (map_same c.loop-name.yielded) ∙ done.0) c.loop-name.invariant).changes
+    let count : into_iter_len c.into_iter-name-iterator.result
+    ≡ length v.items = omega (arith, given.1, v.ok) in
+    let done = YieldsList-end (YieldsList-from_vec v.items given.0 count) c.loop-name.yielded
+    c.loop-name.name-iterator c.loop-name.yielded_by c.next.result c.next.new.self c.in-None.is
+    c.next.ensures.steps in
+    change_all item c.args.all.items v.items c.in_ok-items.ensures.rising
+    c.in_ok-items.ensures.groups c.loop-name.list.items
+    (subst (λ gs. ChangesSoFar item es gs c.loop-name.list.items)
+    (sym (map_same c.loop-name.yielded) ∙ done.0) c.loop-name.invariant).changes
 
 pub returns-clause-rising : goal.returns-clause-rising
 returns-clause-rising g c =
@@ -50,8 +60,12 @@ returns-clause-rising g c =
     let es = map shown_at c.args.all.items in
     let v = c.in_ok-items.items in
     let given = c.into_iter-name-iterator.ensures.into_iter_gives in
-    let count : into_iter_len c.into_iter-name-iterator.result ≡ length v.items = omega (arith, given.1, v.ok) in
-    let done = YieldsList-end (YieldsList-from_vec v.items given.0 count) c.loop-name.yielded c.loop-name.name-iterator c.loop-name.yielded_by c.next.result c.next.new.self c.in-None.is c.next.ensures.steps in
+    let count : into_iter_len c.into_iter-name-iterator.result
+    ≡ length v.items = omega (arith, given.1, v.ok) in
+    let done = YieldsList-end (YieldsList-from_vec v.items given.0 count) c.loop-name.yielded
+    c.loop-name.name-iterator c.loop-name.yielded_by c.next.result c.next.new.self c.in-None.is
+    c.next.ensures.steps in
     names_rise v.items c.loop-name.list.items
-    (subst (λ gs. ChangesSoFar item es gs c.loop-name.list.items) (sym (map_same c.loop-name.yielded) ∙ done.0) c.loop-name.invariant).names
+    (subst (λ gs. ChangesSoFar item es gs c.loop-name.list.items)
+    (sym (map_same c.loop-name.yielded) ∙ done.0) c.loop-name.invariant).names
     c.in_ok-items.ensures.rising

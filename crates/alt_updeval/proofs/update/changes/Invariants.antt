@@ -5,4 +5,5 @@ use Rattle.alt_updeval.proofs.All.{ChangesSoFar}
 use Rattle.alt_updeval.proofs.update.changes.Given as goal
 
 abbrev pub invariant-loop-name : goal.invariant-loop-name
-invariant-loop-name g l = ChangesSoFar (g.V.AttrView.attribute l.view) (map shown_at l.fn.all.items) l.yielded l.list.items
+invariant-loop-name g l = ChangesSoFar (g.V.AttrView.attribute l.view)
+    (map shown_at l.fn.all.items) l.yielded l.list.items

@@ -10,10 +10,14 @@ pub loop-action-preserved : goal.loop-action-preserved
 loop-action-preserved g c =
     let item = g.V.AttrView.attribute c.args.view.now in
     let before = c.loop-action.all.items in
-    let all = ap (map shown_at) c.in_ok-push.ensures.items ∙ map-append shown_at before (c.in_ok-edit.field-0 ∷ []) in
+    let all = ap (map shown_at) c.in_ok-push.ensures.items
+    ∙ map-append shown_at before (c.in_ok-edit.field-0 ∷ []) in
     record {
-      told = edits_more item c.args.actions.now c.loop-action.action-index c.action-item.result (map shown_at before) (shown_at c.in_ok-edit.field-0)
+      told = edits_more item c.args.actions.now c.loop-action.action-index c.action-item.result
+          (map shown_at before) (shown_at c.in_ok-edit.field-0)
           c.loop-action-test.true c.action-item.is c.in_ok-edit.ensures c.loop-action.invariant.told
-          ∙ ap (λ es. known es (edits item (drop (c.loop-action.action-index + 1) c.args.actions.now))) (sym all);
-      begins = begins_more c.args.actions.now c.loop-action.action-index c.action-item.result c.loop-action-test.true c.loop-action.invariant.begins;
+          ∙ ap (λ es. known es
+          (edits item (drop (c.loop-action.action-index + 1) c.args.actions.now))) (sym all);
+      begins = begins_more c.args.actions.now c.loop-action.action-index c.action-item.result
+          c.loop-action-test.true c.loop-action.invariant.begins;
     }

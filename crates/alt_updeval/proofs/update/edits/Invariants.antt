@@ -8,6 +8,8 @@ use Rattle.alt_updeval.proofs.update.edits.Given as goal
 
 abbrev pub invariant-loop-action : goal.invariant-loop-action
 invariant-loop-action g l = record {
-  told : edits (g.V.AttrView.attribute l.view) l.actions ≡ known (map shown_at l.all.items) (edits (g.V.AttrView.attribute l.view) (drop l.action-index l.actions));
+  told : edits (g.V.AttrView.attribute l.view) l.actions
+      ≡ known (map shown_at l.all.items)
+      (edits (g.V.AttrView.attribute l.view) (drop l.action-index l.actions));
   begins : begin_with_names (drop l.action-index l.actions) ≡ true;
 }

@@ -27,7 +27,8 @@ decreases-put_changed l = 3 * depth (tree_of l.value.now) + 1
 
 -- the elements so far, each with what becomes of it
 abbrev pub invariant-changed_list-loop-i : goal.invariant-changed_list-loop-i
-invariant-changed_list-loop-i l = l.out ≡ walked (λ k. under (Index k) (map way_of l.ways)) 0 (take l.i-counter l.list)
+invariant-changed_list-loop-i l =
+    l.out ≡ walked (λ k. under (Index k) (map way_of l.ways)) 0 (take l.i-counter l.list)
 
 -- each name so far has what becomes of its value
 abbrev pub invariant-changed_map-loop-i : goal.invariant-changed_map-loop-i

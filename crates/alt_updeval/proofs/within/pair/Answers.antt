@@ -3,4 +3,5 @@ use Rattle.alt_updeval.proofs.Maps.{name_some}
 use Rattle.alt_updeval.proofs.within.pair.Goals as goal
 
 pub returns-clause-named : goal.returns-clause-named
-returns-clause-named c = name_some c.args.map.now c.args.i _ _ c.len-held.ensures.item (sym c.in-Some.ensures.pair)
+returns-clause-named c =
+    name_some c.args.map.now c.args.i _ _ c.len-held.ensures.item (sym c.in-Some.ensures.pair)

@@ -14,17 +14,22 @@ use Rattle.alt_updparse.proofs.Begins.{read_begins}
 use Rattle.alt_expr.proofs.Shared.{was_ok}
 use Rattle.alt_updparse.proofs.text.parse.Goals as goal
 
-pub returns-then-text-gt-MOST_BYTES-clause-parsed : goal.returns-then-text-gt-MOST_BYTES-clause-parsed
+pub returns-then-text-gt-MOST_BYTES-clause-parsed :
+    goal.returns-then-text-gt-MOST_BYTES-clause-parsed
 returns-then-text-gt-MOST_BYTES-clause-parsed c =
-    parsed_too_long updates (given_by c.args.names.now c.args.values.now) c.args.text.now (omega (arith, c.if-text-gt-MOST_BYTES.true))
+    parsed_too_long updates (given_by c.args.names.now c.args.values.now) c.args.text.now
+    (omega (arith, c.if-text-gt-MOST_BYTES.true))
 
 pub returns-then-text-gt-MOST_BYTES-clause-names : goal.returns-then-text-gt-MOST_BYTES-clause-names
 returns-then-text-gt-MOST_BYTES-clause-names c =
-    no_hashes (List Action) c.args.text.now c.args.names.now c.args.names.now fault.TooLong (λ other. refl)
+    no_hashes (List Action) c.args.text.now c.args.names.now c.args.names.now fault.TooLong
+    (λ other. refl)
 
-pub returns-then-text-gt-MOST_BYTES-clause-values : goal.returns-then-text-gt-MOST_BYTES-clause-values
+pub returns-then-text-gt-MOST_BYTES-clause-values :
+    goal.returns-then-text-gt-MOST_BYTES-clause-values
 returns-then-text-gt-MOST_BYTES-clause-values c =
-    no_colons (List Action) c.args.text.now c.args.values.now c.args.values.now fault.TooLong (λ other. refl)
+    no_colons (List Action) c.args.text.now c.args.values.now c.args.values.now fault.TooLong
+    (λ other. refl)
 
 pub returns-in_default-clause-parsed : goal.returns-in_default-clause-parsed
 returns-in_default-clause-parsed c =
@@ -32,25 +37,31 @@ returns-in_default-clause-parsed c =
 
 pub returns-in_default-clause-names : goal.returns-in_default-clause-names
 returns-in_default-clause-names c =
-    no_hashes (List Action) c.args.text.now c.args.names.now c.args.names.now fault.NoMemory (λ other. refl)
+    no_hashes (List Action) c.args.text.now c.args.names.now c.args.names.now fault.NoMemory
+    (λ other. refl)
 
 pub returns-in_default-clause-values : goal.returns-in_default-clause-values
 returns-in_default-clause-values c =
-    no_colons (List Action) c.args.text.now c.args.values.now c.args.values.now fault.NoMemory (λ other. refl)
+    no_colons (List Action) c.args.text.now c.args.values.now c.args.values.now fault.NoMemory
+    (λ other. refl)
 
 pub returns-in-Err-clause-parsed : goal.returns-in-Err-clause-parsed
 returns-in-Err-clause-parsed c =
-    parsed_by_tokens updates (given_by c.args.names.now c.args.values.now) c.args.text.now (map tok_of c.in-Ok.found.items) c.in-Ok.whole c.in-Ok.ensures
+    parsed_by_tokens updates (given_by c.args.names.now c.args.values.now) c.args.text.now
+    (map tok_of c.in-Ok.found.items) c.in-Ok.whole c.in-Ok.ensures
     (omega (arith, c.if-text-gt-MOST_BYTES.false)) (Err c.in-Err.fault)
-    (subst (λ ts. ReadTokens updates (given_by c.args.names.now c.args.values.now) (map tok_of ts) c.in-Ok.whole (Err c.in-Err.fault)) c.deref.ensures.value c.in-Err.ensures)
+    (subst (λ ts. ReadTokens updates (given_by c.args.names.now c.args.values.now)
+    (map tok_of ts) c.in-Ok.whole (Err c.in-Err.fault)) c.deref.ensures.value c.in-Err.ensures)
 
 pub returns-in-Err-clause-names : goal.returns-in-Err-clause-names
 returns-in-Err-clause-names c =
-    no_hashes (List Action) c.args.text.now c.args.names.now c.args.names.now c.in-Err.fault (λ other. refl)
+    no_hashes (List Action) c.args.text.now c.args.names.now c.args.names.now c.in-Err.fault
+    (λ other. refl)
 
 pub returns-in-Err-clause-values : goal.returns-in-Err-clause-values
 returns-in-Err-clause-values c =
-    no_colons (List Action) c.args.text.now c.args.values.now c.args.values.now c.in-Err.fault (λ other. refl)
+    no_colons (List Action) c.args.text.now c.args.values.now c.args.values.now c.in-Err.fault
+    (λ other. refl)
 
 pub returns-then-is_err-clause-parsed : goal.returns-then-is_err-clause-parsed
 returns-then-is_err-clause-parsed c =
@@ -58,35 +69,57 @@ returns-then-is_err-clause-parsed c =
 
 pub returns-then-is_err-clause-names : goal.returns-then-is_err-clause-names
 returns-then-is_err-clause-names c =
-    no_hashes (List Action) c.args.text.now c.args.names.now c.note.new.names fault.NoMemory (λ other. absurd (other refl))
+    no_hashes (List Action) c.args.text.now c.args.names.now c.note.new.names fault.NoMemory
+    (λ other. absurd (other refl))
 
 pub returns-then-is_err-clause-values : goal.returns-then-is_err-clause-values
 returns-then-is_err-clause-values c =
-    no_colons (List Action) c.args.text.now c.args.values.now c.note.new.values fault.NoMemory (λ other. absurd (other refl))
+    no_colons (List Action) c.args.text.now c.args.values.now c.note.new.values fault.NoMemory
+    (λ other. absurd (other refl))
 
 pub returns-clause-parsed : goal.returns-clause-parsed
 returns-clause-parsed c =
-    parsed_by_tokens updates (given_by c.args.names.now c.args.values.now) c.args.text.now (map tok_of c.in-Ok.found.items) c.in-Ok.whole c.in-Ok.ensures
+    parsed_by_tokens updates (given_by c.args.names.now c.args.values.now) c.args.text.now
+    (map tok_of c.in-Ok.found.items) c.in-Ok.whole c.in-Ok.ensures
     (omega (arith, c.if-text-gt-MOST_BYTES.false)) (Ok c.in-Ok-read.actions)
-    (subst (λ ts. ReadTokens updates (given_by c.args.names.now c.args.values.now) (map tok_of ts) c.in-Ok.whole (Ok c.in-Ok-read.actions)) c.deref.ensures.value c.in-Ok-read.ensures)
+    (subst (λ ts. ReadTokens updates (given_by c.args.names.now c.args.values.now)
+    (map tok_of ts) c.in-Ok.whole (Ok c.in-Ok-read.actions)) c.deref.ensures.value
+    c.in-Ok-read.ensures)
 
 pub returns-clause-names : goal.returns-clause-names
 returns-clause-names c =
-    let whole = reaches_end updates (given_by c.args.names.now c.args.values.now) (map tok_of c.in-Ok.found.items) c.in-Ok.whole c.in-Ok-read.actions
-    (subst (λ ts. ReadTokens updates (given_by c.args.names.now c.args.values.now) (map tok_of ts) c.in-Ok.whole (Ok c.in-Ok-read.actions)) c.deref.ensures.value c.in-Ok-read.ensures) in
-    let noted = was_ok c.note.result _ (sym c.is_err.ensures.value ∙ c.if-is_err.false) c.note.ensures.names in
-    notes_hashes c.args.text.now (map tok_of c.in-Ok.found.items) c.in-Ok.whole c.args.names.now c.note.new.names c.in-Ok-read.actions c.in-Ok.ensures whole
-    (subst (λ ts. used_names c.note.new.names ≡ with_hashes (map tok_of ts) (used_names c.args.names.now)) c.deref-in-Ok-read.ensures.value noted)
+    let whole = reaches_end updates (given_by c.args.names.now c.args.values.now)
+    (map tok_of c.in-Ok.found.items) c.in-Ok.whole c.in-Ok-read.actions
+    (subst (λ ts. ReadTokens updates (given_by c.args.names.now c.args.values.now)
+    (map tok_of ts) c.in-Ok.whole (Ok c.in-Ok-read.actions)) c.deref.ensures.value
+    c.in-Ok-read.ensures) in
+    let noted = was_ok c.note.result _ (sym c.is_err.ensures.value
+    ∙ c.if-is_err.false) c.note.ensures.names in
+    notes_hashes c.args.text.now (map tok_of c.in-Ok.found.items) c.in-Ok.whole c.args.names.now
+    c.note.new.names c.in-Ok-read.actions c.in-Ok.ensures whole
+    (subst (λ ts. used_names c.note.new.names
+    ≡ with_hashes (map tok_of ts) (used_names c.args.names.now))
+    c.deref-in-Ok-read.ensures.value noted)
 
 pub returns-clause-values : goal.returns-clause-values
 returns-clause-values c =
-    let whole = reaches_end updates (given_by c.args.names.now c.args.values.now) (map tok_of c.in-Ok.found.items) c.in-Ok.whole c.in-Ok-read.actions
-    (subst (λ ts. ReadTokens updates (given_by c.args.names.now c.args.values.now) (map tok_of ts) c.in-Ok.whole (Ok c.in-Ok-read.actions)) c.deref.ensures.value c.in-Ok-read.ensures) in
-    let noted = was_ok c.note.result _ (sym c.is_err.ensures.value ∙ c.if-is_err.false) c.note.ensures.values in
-    notes_colons c.args.text.now (map tok_of c.in-Ok.found.items) c.in-Ok.whole c.args.values.now c.note.new.values c.in-Ok-read.actions c.in-Ok.ensures whole
-    (subst (λ ts. used_values c.note.new.values ≡ with_colons (map tok_of ts) (used_values c.args.values.now)) c.deref-in-Ok-read.ensures.value noted)
+    let whole = reaches_end updates (given_by c.args.names.now c.args.values.now)
+    (map tok_of c.in-Ok.found.items) c.in-Ok.whole c.in-Ok-read.actions
+    (subst (λ ts. ReadTokens updates (given_by c.args.names.now c.args.values.now)
+    (map tok_of ts) c.in-Ok.whole (Ok c.in-Ok-read.actions)) c.deref.ensures.value
+    c.in-Ok-read.ensures) in
+    let noted = was_ok c.note.result _ (sym c.is_err.ensures.value
+    ∙ c.if-is_err.false) c.note.ensures.values in
+    notes_colons c.args.text.now (map tok_of c.in-Ok.found.items) c.in-Ok.whole c.args.values.now
+    c.note.new.values c.in-Ok-read.actions c.in-Ok.ensures whole
+    (subst (λ ts. used_values c.note.new.values
+    ≡ with_colons (map tok_of ts) (used_values c.args.values.now))
+    c.deref-in-Ok-read.ensures.value noted)
 
 pub returns-clause-begins : goal.returns-clause-begins
 returns-clause-begins c =
-    read_begins (given_by c.args.names.now c.args.values.now) (map tok_of c.in-Ok.found.items) c.in-Ok.whole c.in-Ok-read.actions
-    (subst (λ ts. ReadTokens updates (given_by c.args.names.now c.args.values.now) (map tok_of ts) c.in-Ok.whole (Ok c.in-Ok-read.actions)) c.deref.ensures.value c.in-Ok-read.ensures)
+    read_begins (given_by c.args.names.now c.args.values.now)
+    (map tok_of c.in-Ok.found.items) c.in-Ok.whole c.in-Ok-read.actions
+    (subst (λ ts. ReadTokens updates (given_by c.args.names.now c.args.values.now)
+    (map tok_of ts) c.in-Ok.whole (Ok c.in-Ok-read.actions)) c.deref.ensures.value
+    c.in-Ok-read.ensures)

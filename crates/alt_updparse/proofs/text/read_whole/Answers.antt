@@ -13,7 +13,8 @@ use Rattle.alt_expr.specs.UpdateReader.{update}
 use Rattle.alt_expr.proofs.UpdateWhole.{read_all, read_none}
 use Rattle.alt_updparse.proofs.text.read_whole.Goals as goal
 
-read_to : (g : Given) (toks : List Tok) (r : Result (List Action) ExprFault) (rest : List Tok) → Reads (update g toks) r rest → ReadsWhole updates g toks r
+read_to : (g : Given) (toks : List Tok) (r : Result (List Action) ExprFault) (rest : List Tok)
+    → Reads (update g toks) r rest → ReadsWhole updates g toks r
 read_to g toks (Ok xs) rest h = read_all g toks xs rest h
 read_to g toks (Err f) rest h = read_none g toks f h
 
@@ -21,4 +22,5 @@ pub returns : goal.returns
 returns c =
     let g = given_to c.args.given.now in
     read_to g (map tok_of c.args.tokens.now) c.update.result (left c.update.new.tokens)
-    (subst (λ i. Reads (update g i) c.update.result (left c.update.new.tokens)) c.new-cursor.ensures c.update.ensures)
+    (subst (λ i. Reads (update g i) c.update.result (left c.update.new.tokens)) c.new-cursor.ensures
+    c.update.ensures)

@@ -15,19 +15,28 @@ loop-turn-init c =
 pub returns-then-not-eat : goal.returns-then-not-eat
 unfolding listed_from
 returns-then-not-eat c =
-    let e = one_more (λ n. listed_from (action (given_to c.args.given.now) c.args.clause) n c.loop-turn.found (left c.loop-turn.tokens)) _ c.loop-turn._turn c.loop-turn-test.true c.loop-turn.invariant in
+    let e = one_more
+    (λ n. listed_from (action (given_to c.args.given.now) c.args.clause) n c.loop-turn.found
+    (left c.loop-turn.tokens)) _ c.loop-turn._turn c.loop-turn-test.true
+    c.loop-turn.invariant in
     first_of (search rules, grind (arith, common_steps))
 
 pub loop-turn-preserved : goal.loop-turn-preserved
 unfolding listed_from
 loop-turn-preserved c =
-    let e = one_more (λ n. listed_from (action (given_to c.args.given.now) c.args.clause) n c.loop-turn.found (left c.loop-turn.tokens)) _ c.loop-turn._turn c.loop-turn-test.true c.loop-turn.invariant in
+    let e = one_more
+    (λ n. listed_from (action (given_to c.args.given.now) c.args.clause) n c.loop-turn.found
+    (left c.loop-turn.tokens)) _ c.loop-turn._turn c.loop-turn-test.true
+    c.loop-turn.invariant in
     first_of (search rules, grind (arith, common_steps))
 
 pub returns : goal.returns
 unfolding listed_from
 returns c =
-    let e = no_more (λ n. listed_from (action (given_to c.args.given.now) c.args.clause) n c.loop-turn.found (left c.loop-turn.tokens)) _ c.loop-turn._turn c.loop-turn-test.false c.loop-turn.invariant in
+    let e = no_more
+    (λ n. listed_from (action (given_to c.args.given.now) c.args.clause) n c.loop-turn.found
+    (left c.loop-turn.tokens)) _ c.loop-turn._turn c.loop-turn-test.false
+    c.loop-turn.invariant in
     first_of (search rules, grind (arith, common_steps))
 
 pub returns-in_err-action : goal.returns-in_err-action
@@ -38,5 +47,8 @@ returns-in_err-action c =
 pub returns-in_err-action-2 : goal.returns-in_err-action-2
 unfolding listed_from
 returns-in_err-action-2 c =
-    let e = one_more (λ n. listed_from (action (given_to c.args.given.now) c.args.clause) n c.loop-turn.found (left c.loop-turn.tokens)) _ c.loop-turn._turn c.loop-turn-test.true c.loop-turn.invariant in
+    let e = one_more
+    (λ n. listed_from (action (given_to c.args.given.now) c.args.clause) n c.loop-turn.found
+    (left c.loop-turn.tokens)) _ c.loop-turn._turn c.loop-turn-test.true
+    c.loop-turn.invariant in
     first_of (search rules, grind (arith, common_steps))

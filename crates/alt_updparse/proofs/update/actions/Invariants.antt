@@ -7,4 +7,6 @@ use Rattle.alt_updparse.proofs.update.actions.Given as goal
 
 abbrev pub invariant-loop-turn : goal.invariant-loop-turn
 invariant-loop-turn l =
-    listed_behind (action (given_to l.given) l.clause) l.fn.found (left l.fn.tokens) ≡ listed_from (action (given_to l.given) l.clause) (l.turns - l._turn) l.found (left l.tokens)
+    listed_behind (action (given_to l.given) l.clause) l.fn.found (left l.fn.tokens)
+    ≡ listed_from (action (given_to l.given) l.clause) (l.turns - l._turn) l.found
+    (left l.tokens)

@@ -20,23 +20,35 @@ returns-in_err-found c =
 pub returns-then-is_done : goal.returns-then-is_done
 unfolding clauses_from
 returns-then-is_done c =
-    let e = one_more (λ n. clauses_from (given_to c.args.given.now) n c.loop-turn.found (left c.loop-turn.tokens)) _ c.loop-turn._turn c.loop-turn-test.true c.loop-turn.invariant in
+    let e = one_more
+    (λ n. clauses_from (given_to c.args.given.now) n c.loop-turn.found
+    (left c.loop-turn.tokens)) _ c.loop-turn._turn c.loop-turn-test.true
+    c.loop-turn.invariant in
     first_of (search rules, grind (arith, common_steps))
 
 pub returns-in_err-found-2 : goal.returns-in_err-found-2
 unfolding clauses_from
 returns-in_err-found-2 c =
-    let e = one_more (λ n. clauses_from (given_to c.args.given.now) n c.loop-turn.found (left c.loop-turn.tokens)) _ c.loop-turn._turn c.loop-turn-test.true c.loop-turn.invariant in
+    let e = one_more
+    (λ n. clauses_from (given_to c.args.given.now) n c.loop-turn.found
+    (left c.loop-turn.tokens)) _ c.loop-turn._turn c.loop-turn-test.true
+    c.loop-turn.invariant in
     first_of (search rules, grind (arith, common_steps))
 
 pub loop-turn-preserved : goal.loop-turn-preserved
 unfolding clauses_from
 loop-turn-preserved c =
-    let e = one_more (λ n. clauses_from (given_to c.args.given.now) n c.loop-turn.found (left c.loop-turn.tokens)) _ c.loop-turn._turn c.loop-turn-test.true c.loop-turn.invariant in
+    let e = one_more
+    (λ n. clauses_from (given_to c.args.given.now) n c.loop-turn.found
+    (left c.loop-turn.tokens)) _ c.loop-turn._turn c.loop-turn-test.true
+    c.loop-turn.invariant in
     first_of (search rules, grind (arith, common_steps))
 
 pub returns : goal.returns
 unfolding clauses_from
 returns c =
-    let e = no_more (λ n. clauses_from (given_to c.args.given.now) n c.loop-turn.found (left c.loop-turn.tokens)) _ c.loop-turn._turn c.loop-turn-test.false c.loop-turn.invariant in
+    let e = no_more
+    (λ n. clauses_from (given_to c.args.given.now) n c.loop-turn.found
+    (left c.loop-turn.tokens)) _ c.loop-turn._turn c.loop-turn-test.false
+    c.loop-turn.invariant in
     first_of (search rules, grind (arith, common_steps))

@@ -6,4 +6,5 @@ use Rattle.alt_expr.specs.UpdateReader.{update, clauses_from}
 use Rattle.alt_updparse.proofs.update.update.Given as goal
 
 abbrev pub invariant-loop-turn : goal.invariant-loop-turn
-invariant-loop-turn l = update (given_to l.given) (left l.fn.tokens) ≡ clauses_from (given_to l.given) (l.turns - l._turn) l.found (left l.tokens)
+invariant-loop-turn l = update (given_to l.given) (left l.fn.tokens)
+    ≡ clauses_from (given_to l.given) (l.turns - l._turn) l.found (left l.tokens)

@@ -19,5 +19,6 @@ returns-in-Some-clause-hit c = λ s h.
     let same = c.as_slice.ensures.same in
     read_given (contents s c.args.f) c.args.buf.now c.copy_front-count.new.buf bytes c.args.at
     c.copy_front-count.result is
-    (c.copy_front-count.ensures.count ∙ ap (λ (l : List ℕ). min (length c.args.buf.now) (length l)) same)
+    (c.copy_front-count.ensures.count
+    ∙ ap (λ (l : List ℕ). min (length c.args.buf.now) (length l)) same)
     (c.copy_front-count.ensures.front ∙ ap (take c.copy_front-count.result) same)

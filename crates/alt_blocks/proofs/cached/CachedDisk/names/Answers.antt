@@ -9,5 +9,6 @@ invariant_of-self g c =
     let t : DiskState = g.D.Disk.state c.names.new.self in
     record {
       agrees =
-          agrees_on s t c.args.self.now.cache.now c.args.self.now.agrees c.names.ensures.call.call.goes.tells (λ t. (c.names.ensures.same t).file);
+          agrees_on s t c.args.self.now.cache.now c.args.self.now.agrees
+          c.names.ensures.call.call.goes.tells (λ t. (c.names.ensures.same t).file);
     }

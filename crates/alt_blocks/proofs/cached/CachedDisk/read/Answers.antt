@@ -9,7 +9,8 @@ pub invariant_of-self : goal.invariant_of-self
 invariant_of-self g c =
     record {
       agrees =
-          λ told. agrees_within (g.D.Disk.state c.args.self.now.disk.now) c.args.self.now.cache.now c.recall.new.self c.recall.ensures.within
+          λ told. agrees_within (g.D.Disk.state c.args.self.now.disk.now) c.args.self.now.cache.now
+          c.recall.new.self c.recall.ensures.within
           (c.args.self.now.agrees told);
     }
 
@@ -20,7 +21,8 @@ invariant_of-self-in-Break-1 g c =
     record {
       agrees =
           agrees_on s t c.recall.new.self
-          (λ told. agrees_within s c.args.self.now.cache.now c.recall.new.self c.recall.ensures.within (c.args.self.now.agrees told))
+          (λ told. agrees_within s c.args.self.now.cache.now c.recall.new.self
+          c.recall.ensures.within (c.args.self.now.agrees told))
           c.read.ensures.call.call.goes.tells (λ told. (c.read.ensures.same told).file);
     }
 
@@ -45,7 +47,8 @@ invariant_of-self-in-None g c =
           (c.in_ok-count-in-None.ensures.bytes told_s)
           ∙ (λ j. take (long j) (drop at (same j))))
           (agrees_on s t c.recall.new.self
-          (λ told. agrees_within s c.args.self.now.cache.now c.recall.new.self c.recall.ensures.within (c.args.self.now.agrees told))
+          (λ told. agrees_within s c.args.self.now.cache.now c.recall.new.self
+          c.recall.ensures.within (c.args.self.now.agrees told))
           c.read.ensures.call.call.goes.tells (λ told. (c.read.ensures.same told).file) told);
     }
 
@@ -57,7 +60,8 @@ returns-in-Some-clause-bytes g c =
 pub returns-in_ok-count-in-None-clause-adds : goal.returns-in_ok-count-in-None-clause-adds
 returns-in_ok-count-in-None-clause-adds g c =
     let long : length c.recall.new.buf ≡ length c.args.buf.now = omega (arith, c.recall.auto.buf) in
-    let size : length c.read.new.buf ≡ length c.args.buf.now = omega (arith, c.read.auto.buf, long) in
+    let size : length c.read.new.buf ≡ length c.args.buf.now =
+    omega (arith, c.read.auto.buf, long) in
     subst (λ (n : ℕ). Adds c.args.self.now.cache.now c.keep.new.self (c.args.f, c.args.at, n)
     (take c.in_ok-count-in-None.count c.read.new.buf)) size
     (adds_within c.args.self.now.cache.now c.recall.new.self c.keep.new.self

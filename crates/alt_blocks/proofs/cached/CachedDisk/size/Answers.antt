@@ -9,5 +9,6 @@ invariant_of-self g c =
     let t : DiskState = g.D.Disk.state c.size.new.self in
     record {
       agrees =
-          agrees_on s t c.args.self.now.cache.now c.args.self.now.agrees c.size.ensures.call.call.goes.tells (λ t. (c.size.ensures.same t).file);
+          agrees_on s t c.args.self.now.cache.now c.args.self.now.agrees
+          c.size.ensures.call.call.goes.tells (λ t. (c.size.ensures.same t).file);
     }

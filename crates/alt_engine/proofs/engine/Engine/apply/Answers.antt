@@ -9,7 +9,8 @@ use Rattle.alt_engine.proofs.ImageLaws.{images_at_rest, images_on, stands_on, sp
 use Rattle.alt_engine.proofs.MemoryLaws.{shown_on}
 use Rattle.alt_engine.proofs.engine.Engine.apply.Goals as goal
 
-pub returns-then-self-ge-LAST_NUMBER-clause-any_moment : goal.returns-then-self-ge-LAST_NUMBER-clause-any_moment
+pub returns-then-self-ge-LAST_NUMBER-clause-any_moment :
+    goal.returns-then-self-ge-LAST_NUMBER-clause-any_moment
 returns-then-self-ge-LAST_NUMBER-clause-any_moment g c trusted l stands =
     images_at_rest (g.D.Disk.state c.args.disk.now) c.args.self.now l c.args.batch.now stands
 
@@ -93,6 +94,7 @@ returns-clause-ok g c trusted l stands =
     (log_of s c.args.self.now l stands))
     (c.in-Ok.ensures.ok trusted (map write_bytes stands.reads.writes) stands.reads.log)
     c.append.ensures.file refl
-    (λ f k. c.sweep.ensures f k ∙ c.commit.ensures f k ∙ (λ i. row_after (made i) f k (c.prepare.ensures.same f k i))
+    (λ f k. c.sweep.ensures f k ∙ c.commit.ensures f k
+    ∙ (λ i. row_after (made i) f k (c.prepare.ensures.same f k i))
     ∙ shown_on l (batch_write l c.args.batch.now) before
     (stands_past s c.args.self.now l stands) (omega arith) stands.reads.rows f k)

@@ -5,7 +5,8 @@ use Rattle.alt_expr.proofs.names.Names.use_words.Given as goal
 
 abbrev pub invariant-loop-token : goal.invariant-loop-token
 invariant-loop-token l = record {
-  used : with_hashes (map tok_of l.tokens) l.initial.self.used ≡ with_hashes (map tok_of (drop l.token-index l.tokens)) l.self.used;
+  used : with_hashes (map tok_of l.tokens) l.initial.self.used
+      ≡ with_hashes (map tok_of (drop l.token-index l.tokens)) l.self.used;
   given : l.self.given ≡ l.initial.self.given;
   empty : l.self.empty ≡ l.initial.self.empty;
 }

@@ -9,7 +9,8 @@ use Rattle.alt_gatelog.specs.InHand.{AroundWrite, Lasts}
 use Rattle.alt_gatelog.proofs.Append.{first_run, second_run, staged_is, opened_is, after_is, stands_after, below_push}
 use Rattle.alt_gatelog.proofs.gatelog.GateLog.append.Goals as goal
 
-pub returns-in_err-write_and_sync-clause-any_moment : goal.returns-in_err-write_and_sync-clause-any_moment
+pub returns-in_err-write_and_sync-clause-any_moment :
+    goal.returns-in_err-write_and_sync-clause-any_moment
 returns-in_err-write_and_sync-clause-any_moment g c trusted entries stands =
     let log = c.args.self.now in
     let entry = c.args.bytes.now in
@@ -22,7 +23,8 @@ returns-in_err-write_and_sync-clause-any_moment g c trusted entries stands =
     (subst (λ (b : List ℕ). Run s0 s1 log.file (AroundWrite s0 log.file (log.gate + 1) (length b)))
     block (c.write_and_sync.ensures.any_moment trusted))
 
-pub returns-in_err-write_and_sync-2-clause-any_moment : goal.returns-in_err-write_and_sync-2-clause-any_moment
+pub returns-in_err-write_and_sync-2-clause-any_moment :
+    goal.returns-in_err-write_and_sync-2-clause-any_moment
 returns-in_err-write_and_sync-2-clause-any_moment g c trusted entries stands =
     let log = c.args.self.now in
     let entry = c.args.bytes.now in

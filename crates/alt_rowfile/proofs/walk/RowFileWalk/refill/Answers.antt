@@ -34,7 +34,8 @@ returns-then-self-clause-left g c = λ told rows l.
 
 pub returns-in_err-self-clause-undamaged : goal.returns-in_err-self-clause-undamaged
 returns-in_err-self-clause-undamaged g c = λ told rows reads.
-    let p = err_from_is_err_and c.from_residual-in_err-self.result c.from_residual-in_err-self.ensures.1 in
+    let p = err_from_is_err_and c.from_residual-in_err-self.result
+    c.from_residual-in_err-self.ensures.1 in
     rw (p.1, p.2) (c.in_err-self.ensures.undamaged told rows reads)
 
 pub returns-clause-left : goal.returns-clause-left

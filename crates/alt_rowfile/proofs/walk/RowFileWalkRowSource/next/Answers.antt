@@ -10,7 +10,9 @@ returns-in-Ok-clause-gives g c = λ told rows l.
     let t : DiskState = g.D.Disk.state c.refill.new.disk in
     let walk = c.refill.new.self in
     let left = c.in-Ok.ensures.left told rows l in
-    popped_any t walk.file.now walk.forward walk.next walk.held.items c.pop.new.self.items rows c.pop.result walk.held.len c.pop.new.self.len left.0 left.1 (omega (arith, walk.held.ok)) c.pop.ensures.items c.pop.ensures.cases
+    popped_any t walk.file.now walk.forward walk.next walk.held.items c.pop.new.self.items rows
+    c.pop.result walk.held.len c.pop.new.self.len left.0 left.1
+    (omega (arith, walk.held.ok)) c.pop.ensures.items c.pop.ensures.cases
 
 pub returns-in-Ok-clause-keeps : goal.returns-in-Ok-clause-keeps
 returns-in-Ok-clause-keeps g c =

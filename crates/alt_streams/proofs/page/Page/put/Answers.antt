@@ -21,7 +21,8 @@ returns-clause-read c shows most from seen is h fit =
     let one = change_in c.args.change.now in
     let size : c.in-Some.size ≡ record_size d shows one =
     subst (λ o. IfSome o (λ n. n ≡ record_size d shows one)) c.in-Some.is
-    (subst (λ o. IfSome o (λ view. IfSome c.in_ok-size.field-0 (λ n. n ≡ record_size d view one))) is
+    (subst (λ o. IfSome o (λ view. IfSome c.in_ok-size.field-0 (λ n. n ≡ record_size d view one)))
+    is
     c.in_ok-size.ensures.size) in
     put_on d shows most from c.args.self.now _ seen one c.in_ok-record_json.field-0 h
     c.requires.going c.in_ok-push.ensures.items

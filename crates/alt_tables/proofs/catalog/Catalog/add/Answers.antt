@@ -27,8 +27,10 @@ pub invariant_of-self-in-Err : goal.invariant_of-self-in-Err
 invariant_of-self-in-Err c = (
   (inserted c).0,
   All-same HasOwnFamilies _
-      (insert c.self.inside.entries.items c.in-Err.i c.args.schema) c.in_ok-insert-in-Err.ensures.items
-      (All-insert HasOwnFamilies c.self.inside.entries.items c.in-Err.i c.args.schema c.self.invariant.1
+      (insert c.self.inside.entries.items c.in-Err.i c.args.schema)
+      c.in_ok-insert-in-Err.ensures.items
+      (All-insert HasOwnFamilies c.self.inside.entries.items c.in-Err.i c.args.schema
+      c.self.invariant.1
       c.requires.families),
 )
 

@@ -25,7 +25,8 @@ returns-in-Ok c = record {
 pub returns-in-Err : goal.returns-in-Err
 returns-in-Err c = record {
   rest = sym c.self.view_is
-      ∙ remove-missed c.args.name.now c.self.inside.entries.items c.in-Err.field-0 c.self.invariant.0
+      ∙ remove-missed c.args.name.now c.self.inside.entries.items c.in-Err.field-0
+      c.self.invariant.0
       c.in-Err.ensures.goes c.in-Err.ensures.apart
       ∙ ap (λ m. map.remove m c.args.name.now) c.self.view_is;
 }

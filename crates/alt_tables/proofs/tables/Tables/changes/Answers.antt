@@ -16,7 +16,8 @@ returns-in-Ok-rows-clause-changes g c s t stands at =
     (take c.args.most (changes_from c.args.from t.changes)) are
     (page_changes (g.D.Disk.state c.args.disk.now) c.args.self.now s c.args.table.now t
     c.in-Some.schema.now stands at (sym c.in-Some.ensures.table) c.in-Some-stream_family.family
-    c.in-Some-stream_family.is c.args.from (search rules) c.in-Ok.range.from c.in-Ok.range.to c.args.most
+    c.in-Some-stream_family.is c.args.from (search rules) c.in-Ok.range.from
+    c.in-Ok.range.to c.args.most
     c.in-Ok.ensures.from c.in-Ok.ensures.to c.new-page.result.items c.rows.new.out.items
     c.new-page.ensures.items c.in-Ok-rows.ensures.rows))
     c.read_changes.ensures.changes
@@ -29,7 +30,8 @@ returns-in-Ok-rows-clause-fault g c s stands =
     (take c.args.most (changes_from c.args.from t.changes))
     (page_changes (g.D.Disk.state c.args.disk.now) c.args.self.now s c.args.table.now t
     c.in-Some.schema.now stands at (sym c.in-Some.ensures.table) c.in-Some-stream_family.family
-    c.in-Some-stream_family.is c.args.from (search rules) c.in-Ok.range.from c.in-Ok.range.to c.args.most
+    c.in-Some-stream_family.is c.args.from (search rules) c.in-Ok.range.from
+    c.in-Ok.range.to c.args.most
     c.in-Ok.ensures.from c.in-Ok.ensures.to c.new-page.result.items c.rows.new.out.items
     c.new-page.ensures.items c.in-Ok-rows.ensures.rows))
 
@@ -44,7 +46,8 @@ returns-clause-stays g c s = stays (g.D.Disk.state c.args.disk.now)
     c.rows.ensures.quiet c.rows.ensures.same c.requires.ready s
 
 -- a table without a stream has no changes
-pub returns-in_default-stream_family-clause-changes : goal.returns-in_default-stream_family-clause-changes
+pub returns-in_default-stream_family-clause-changes :
+    goal.returns-in_default-stream_family-clause-changes
 returns-in_default-stream_family-clause-changes g c s t stands at =
     ap (map change_in) c.new.ensures.items
     ∙ sym (ap (λ (changes : List Change). take c.args.most (changes_from c.args.from changes))

@@ -15,53 +15,69 @@ use Rattle.alt_tables.proofs.Making.{broke, not_lacking, one_made, spent, table_
 use Rattle.alt_tables.proofs.Standing.{remove-insert}
 use Rattle.alt_tables.proofs.tables.Tables.create.Goals as goal
 
-pub returns-then-number-ge-NUMBERS_END-clause-disk : goal.returns-then-number-ge-NUMBERS_END-clause-disk
+pub returns-then-number-ge-NUMBERS_END-clause-disk :
+    goal.returns-then-number-ge-NUMBERS_END-clause-disk
 returns-then-number-ge-NUMBERS_END-clause-disk g c s stands =
-    leaves_quiet (g.D.Disk.state c.args.disk.now) (g.D.Disk.state c.args.disk.now) c.args.self.now.engine s
-    (with_table s c.args.schema ∷ []) stands.rows stands.valid (quiet_start (g.D.Disk.state c.args.disk.now))
+    leaves_quiet (g.D.Disk.state c.args.disk.now)
+    (g.D.Disk.state c.args.disk.now) c.args.self.now.engine s
+    (with_table s c.args.schema ∷ []) stands.rows stands.valid
+    (quiet_start (g.D.Disk.state c.args.disk.now))
 
 pub returns-then-self-clause-writes : goal.returns-then-self-clause-writes
 returns-then-self-clause-writes g c s stands =
-    subst (λ (n : ℕ). BreakOff (Stands (g.D.Disk.state c.args.disk.now) c.args.self.now) a_table s (with_table s c.args.schema ∷ []) (Spent n))
+    subst (λ (n : ℕ). BreakOff (Stands (g.D.Disk.state c.args.disk.now) c.args.self.now) a_table s
+    (with_table s c.args.schema ∷ []) (Spent n))
     (sym c.from.ensures)
-    (spent (Stands (g.D.Disk.state c.args.disk.now) c.args.self.now) a_table s (with_table s c.args.schema) c.args.self.now.family
-    (table_lacked (g.D.Disk.state c.args.disk.now) c.args.self.now s stands c.args.schema c.requires.few c.requires.made c.requires.new
+    (spent (Stands (g.D.Disk.state c.args.disk.now) c.args.self.now) a_table s
+    (with_table s c.args.schema) c.args.self.now.family
+    (table_lacked (g.D.Disk.state c.args.disk.now) c.args.self.now s stands c.args.schema
+    c.requires.few c.requires.made c.requires.new
     c.requires.number c.requires.family c.requires.absent c.args.self.now.family
     (lacks_table_family c.args.self.now.engine.next c.args.self.now.family
-    (omega (arith, c.next_number-number.ensures.next, c.if-number-ge-NUMBERS_END.false)) (omega arith)))
+    (omega (arith, c.next_number-number.ensures.next, c.if-number-ge-NUMBERS_END.false))
+    (omega arith)))
     stands)
 
 pub returns-then-self-clause-disk : goal.returns-then-self-clause-disk
 returns-then-self-clause-disk g c s stands =
-    leaves_quiet (g.D.Disk.state c.args.disk.now) (g.D.Disk.state c.args.disk.now) c.args.self.now.engine s
-    (with_table s c.args.schema ∷ []) stands.rows stands.valid (quiet_start (g.D.Disk.state c.args.disk.now))
+    leaves_quiet (g.D.Disk.state c.args.disk.now)
+    (g.D.Disk.state c.args.disk.now) c.args.self.now.engine s
+    (with_table s c.args.schema ∷ []) stands.rows stands.valid
+    (quiet_start (g.D.Disk.state c.args.disk.now))
 
 pub returns-in_err-batch-clause-writes : goal.returns-in_err-batch-clause-writes
 returns-in_err-batch-clause-writes g c s stands =
-    want_told (Stands (g.D.Disk.state c.args.disk.now) c.args.self.now) a_table s (with_table s c.args.schema ∷ [])
+    want_told (Stands (g.D.Disk.state c.args.disk.now) c.args.self.now) a_table s
+    (with_table s c.args.schema ∷ [])
     c.from_residual.result c.from_residual.ensures.1 stands
 
 pub returns-in_err-batch-clause-disk : goal.returns-in_err-batch-clause-disk
 returns-in_err-batch-clause-disk g c s stands =
-    leaves_quiet (g.D.Disk.state c.args.disk.now) (g.D.Disk.state c.args.disk.now) c.args.self.now.engine s
-    (with_table s c.args.schema ∷ []) stands.rows stands.valid (quiet_start (g.D.Disk.state c.args.disk.now))
+    leaves_quiet (g.D.Disk.state c.args.disk.now)
+    (g.D.Disk.state c.args.disk.now) c.args.self.now.engine s
+    (with_table s c.args.schema ∷ []) stands.rows stands.valid
+    (quiet_start (g.D.Disk.state c.args.disk.now))
 
 pub returns-in_err-name-clause-writes : goal.returns-in_err-name-clause-writes
 returns-in_err-name-clause-writes g c s stands =
-    want_told (Stands (g.D.Disk.state c.args.disk.now) c.args.self.now) a_table s (with_table s c.args.schema ∷ [])
+    want_told (Stands (g.D.Disk.state c.args.disk.now) c.args.self.now) a_table s
+    (with_table s c.args.schema ∷ [])
     c.from_residual-in_err-name.result c.from_residual-in_err-name.ensures.1 stands
 
 pub returns-in_err-name-clause-disk : goal.returns-in_err-name-clause-disk
 returns-in_err-name-clause-disk g c s stands =
-    leaves_quiet (g.D.Disk.state c.args.disk.now) (g.D.Disk.state c.args.disk.now) c.args.self.now.engine s
-    (with_table s c.args.schema ∷ []) stands.rows stands.valid (quiet_start (g.D.Disk.state c.args.disk.now))
+    leaves_quiet (g.D.Disk.state c.args.disk.now)
+    (g.D.Disk.state c.args.disk.now) c.args.self.now.engine s
+    (with_table s c.args.schema ∷ []) stands.rows stands.valid
+    (quiet_start (g.D.Disk.state c.args.disk.now))
 
 pub add-requires-clause-families : goal.add-requires-clause-families
 add-requires-clause-families g c = families_differ c.args.schema c.requires.new
 
 pub returns-in_err-add-clause-writes : goal.returns-in_err-add-clause-writes
 returns-in_err-add-clause-writes g c s stands =
-    want_told (Stands (g.D.Disk.state c.args.disk.now) _) a_table s (with_table s c.args.schema ∷ [])
+    want_told (Stands (g.D.Disk.state c.args.disk.now) _) a_table s
+    (with_table s c.args.schema ∷ [])
     c.from_residual-in_err-add.result c.from_residual-in_err-add.ensures.1 (record {
       catalog = c.in_err-add.ensures.err ∙ stands.catalog;
       number = stands.number;
@@ -72,8 +88,10 @@ returns-in_err-add-clause-writes g c s stands =
 
 pub returns-in_err-add-clause-disk : goal.returns-in_err-add-clause-disk
 returns-in_err-add-clause-disk g c s stands =
-    leaves_quiet (g.D.Disk.state c.args.disk.now) (g.D.Disk.state c.args.disk.now) c.args.self.now.engine s
-    (with_table s c.args.schema ∷ []) stands.rows stands.valid (quiet_start (g.D.Disk.state c.args.disk.now))
+    leaves_quiet (g.D.Disk.state c.args.disk.now)
+    (g.D.Disk.state c.args.disk.now) c.args.self.now.engine s
+    (with_table s c.args.schema ∷ []) stands.rows stands.valid
+    (quiet_start (g.D.Disk.state c.args.disk.now))
 
 pub make-requires-clause-ready : goal.make-requires-clause-ready
 make-requires-clause-ready g c trusted =
@@ -83,28 +101,36 @@ pub returns-in-Ok-clause-writes : goal.returns-in-Ok-clause-writes
 returns-in-Ok-clause-writes g c s stands =
     let turned = table_turned (g.D.Disk.state c.args.disk.now) c.args.self.now s stands
     c.args.schema c.requires.few c.requires.made c.requires.new
-    c.requires.number c.requires.family c.requires.absent (c.args.self.now.family + c.family_count.result)
+    c.requires.number c.requires.family c.requires.absent
+    (c.args.self.now.family + c.family_count.result)
     c.in_ok-batch.batch (ap (λ n. c.args.self.now.family + n) c.family_count.ensures.count)
-    c.in_ok-batch.ensures.changes c.held.ensures.held (omega (arith, c.next_number-number.ensures.next, c.if-number-ge-NUMBERS_END.false))
+    c.in_ok-batch.ensures.changes c.held.ensures.held
+    (omega (arith, c.next_number-number.ensures.next, c.if-number-ge-NUMBERS_END.false))
     (omega (arith, c.if-self.false)) in
     one_made (Stands (g.D.Disk.state c.make.new.disk) _) a_table s (with_table s c.args.schema)
     (table_stands (g.D.Disk.state c.args.disk.now) c.args.self.now s stands
     c.args.schema c.requires.few c.requires.made c.requires.new
     c.requires.number c.requires.family c.requires.absent
-    (g.D.Disk.state c.make.new.disk) _ (c.in-Ok.ensures.ok s (with_table s c.args.schema) stands.rows turned)
+    (g.D.Disk.state c.make.new.disk) _
+    (c.in-Ok.ensures.ok s (with_table s c.args.schema) stands.rows turned)
     turned.valid (c.make.ensures.kept.0 ∙ c.in_ok-add.ensures.ok)
     (ap (λ n. c.args.self.now.family + n) c.family_count.ensures.count) c.in-Ok.ensures.next)
-    (sym (λ i. table_lack (stands.number i) (stands.family i)) ∙ has_table c.args.self.now.engine.next
-    c.args.self.now.family (omega (arith, c.next_number-number.ensures.next, c.if-number-ge-NUMBERS_END.false)) (omega arith))
+    (sym (λ i. table_lack (stands.number i) (stands.family i))
+    ∙ has_table c.args.self.now.engine.next
+    c.args.self.now.family
+    (omega (arith, c.next_number-number.ensures.next, c.if-number-ge-NUMBERS_END.false))
+    (omega arith))
 
 pub returns-in-Ok-clause-disk : goal.returns-in-Ok-clause-disk
 returns-in-Ok-clause-disk g c s stands =
     c.make.ensures.disk s (with_table s c.args.schema) stands.rows stands.valid
     (table_turned (g.D.Disk.state c.args.disk.now) c.args.self.now s stands
     c.args.schema c.requires.few c.requires.made c.requires.new
-    c.requires.number c.requires.family c.requires.absent (c.args.self.now.family + c.family_count.result)
+    c.requires.number c.requires.family c.requires.absent
+    (c.args.self.now.family + c.family_count.result)
     c.in_ok-batch.batch (ap (λ n. c.args.self.now.family + n) c.family_count.ensures.count)
-    c.in_ok-batch.ensures.changes c.held.ensures.held (omega (arith, c.next_number-number.ensures.next, c.if-number-ge-NUMBERS_END.false))
+    c.in_ok-batch.ensures.changes c.held.ensures.held
+    (omega (arith, c.next_number-number.ensures.next, c.if-number-ge-NUMBERS_END.false))
     (omega (arith, c.if-self.false)))
 
 pub returns-clause-writes : goal.returns-clause-writes
@@ -128,9 +154,11 @@ returns-clause-disk g c s stands =
     c.make.ensures.disk s (with_table s c.args.schema) stands.rows stands.valid
     (table_turned (g.D.Disk.state c.args.disk.now) c.args.self.now s stands
     c.args.schema c.requires.few c.requires.made c.requires.new
-    c.requires.number c.requires.family c.requires.absent (c.args.self.now.family + c.family_count.result)
+    c.requires.number c.requires.family c.requires.absent
+    (c.args.self.now.family + c.family_count.result)
     c.in_ok-batch.batch (ap (λ n. c.args.self.now.family + n) c.family_count.ensures.count)
-    c.in_ok-batch.ensures.changes c.held.ensures.held (omega (arith, c.next_number-number.ensures.next, c.if-number-ge-NUMBERS_END.false))
+    c.in_ok-batch.ensures.changes c.held.ensures.held
+    (omega (arith, c.next_number-number.ensures.next, c.if-number-ge-NUMBERS_END.false))
     (omega (arith, c.if-self.false)))
 
 pub returns-in-Ok-clause-lacking : goal.returns-in-Ok-clause-lacking

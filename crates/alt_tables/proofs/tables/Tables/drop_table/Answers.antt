@@ -12,7 +12,8 @@ use Rattle.alt_tables.proofs.Holding.{leaves_quiet}
 use Rattle.alt_tables.proofs.Making.{broke, drop_stands, drop_turned, one_made}
 use Rattle.alt_tables.proofs.tables.Tables.drop_table.Goals as goal
 
-pub returns-then-number-ge-NUMBERS_END-clause-disk : goal.returns-then-number-ge-NUMBERS_END-clause-disk
+pub returns-then-number-ge-NUMBERS_END-clause-disk :
+    goal.returns-then-number-ge-NUMBERS_END-clause-disk
 returns-then-number-ge-NUMBERS_END-clause-disk g c s stands =
     leaves_quiet (g.D.Disk.state c.args.disk.now) (g.D.Disk.state c.args.disk.now)
     c.args.self.now.engine s (without_table s c.args.name.now ∷ []) stands.rows stands.valid
@@ -32,13 +33,16 @@ pub returns-in-Ok-clause-writes : goal.returns-in-Ok-clause-writes
 returns-in-Ok-clause-writes g c s stands =
     let turned = drop_turned (g.D.Disk.state c.args.disk.now) c.args.self.now s stands
     c.args.name.now c.in-Some.schema.now c.in_ok-batch.batch (sym c.in-Some.ensures.table)
-    c.in_ok-batch.ensures.changes (omega (arith, c.next_number-number.ensures.next, c.if-number-ge-NUMBERS_END.false)) in
+    c.in_ok-batch.ensures.changes
+    (omega (arith, c.next_number-number.ensures.next, c.if-number-ge-NUMBERS_END.false)) in
     one_made (Stands (g.D.Disk.state c.make.new.disk) _) a_number s
     (without_table s c.args.name.now)
     (drop_stands (g.D.Disk.state c.args.disk.now) c.args.self.now s stands
     c.args.name.now (g.D.Disk.state c.make.new.disk) _
     (c.in-Ok.ensures.ok s (without_table s c.args.name.now) stands.rows turned) turned.valid
-    (c.remove.ensures.rest ∙ ap (λ (m : Texts TableSchema). map.remove m c.args.name.now) c.make.ensures.kept.0) c.make.ensures.kept.1
+    (c.remove.ensures.rest
+    ∙ ap (λ (m : Texts TableSchema). map.remove m c.args.name.now) c.make.ensures.kept.0)
+    c.make.ensures.kept.1
     c.in-Ok.ensures.next)
     (has_number s.next_number (omega (arith, stands.number, c.next_number-number.ensures.next, c.if-number-ge-NUMBERS_END.false)))
 
@@ -47,7 +51,8 @@ returns-in-Ok-clause-disk g c s stands =
     c.make.ensures.disk s (without_table s c.args.name.now) stands.rows stands.valid
     (drop_turned (g.D.Disk.state c.args.disk.now) c.args.self.now s stands
     c.args.name.now c.in-Some.schema.now c.in_ok-batch.batch (sym c.in-Some.ensures.table)
-    c.in_ok-batch.ensures.changes (omega (arith, c.next_number-number.ensures.next, c.if-number-ge-NUMBERS_END.false)))
+    c.in_ok-batch.ensures.changes
+    (omega (arith, c.next_number-number.ensures.next, c.if-number-ge-NUMBERS_END.false)))
 
 pub returns-clause-writes : goal.returns-clause-writes
 returns-clause-writes g c s stands =
@@ -66,4 +71,5 @@ returns-clause-disk g c s stands =
     c.make.ensures.disk s (without_table s c.args.name.now) stands.rows stands.valid
     (drop_turned (g.D.Disk.state c.args.disk.now) c.args.self.now s stands
     c.args.name.now c.in-Some.schema.now c.in_ok-batch.batch (sym c.in-Some.ensures.table)
-    c.in_ok-batch.ensures.changes (omega (arith, c.next_number-number.ensures.next, c.if-number-ge-NUMBERS_END.false)))
+    c.in_ok-batch.ensures.changes
+    (omega (arith, c.next_number-number.ensures.next, c.if-number-ge-NUMBERS_END.false)))

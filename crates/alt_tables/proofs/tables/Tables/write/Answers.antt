@@ -12,20 +12,24 @@ use Rattle.alt_tables.proofs.Holding.{leaves_quiet}
 use Rattle.alt_tables.proofs.Making.{broke, item_differs, item_turned, item_stands, one_made, want_told}
 use Rattle.alt_tables.proofs.tables.Tables.write.Goals as goal
 
-pub returns-then-number-ge-NUMBERS_END-clause-disk : goal.returns-then-number-ge-NUMBERS_END-clause-disk
+pub returns-then-number-ge-NUMBERS_END-clause-disk :
+    goal.returns-then-number-ge-NUMBERS_END-clause-disk
 returns-then-number-ge-NUMBERS_END-clause-disk g c s t stands at =
-    leaves_quiet (g.D.Disk.state c.args.disk.now) (g.D.Disk.state c.args.disk.now) c.args.self.now.engine s
+    leaves_quiet (g.D.Disk.state c.args.disk.now)
+    (g.D.Disk.state c.args.disk.now) c.args.self.now.engine s
     (item_writes s c.args.moment c.args.table.now t c.args.found.place c.args.new)
     stands.rows stands.valid (quiet_start (g.D.Disk.state c.args.disk.now))
 
 pub returns-in_err-batch-clause-writes : goal.returns-in_err-batch-clause-writes
 returns-in_err-batch-clause-writes g c s t stands at =
     want_told (Stands (g.D.Disk.state c.args.disk.now) c.args.self.now) a_number s
-    (item_writes s c.args.moment c.args.table.now t c.args.found.place c.args.new) c.from_residual.result c.from_residual.ensures.1 stands
+    (item_writes s c.args.moment c.args.table.now t c.args.found.place c.args.new)
+    c.from_residual.result c.from_residual.ensures.1 stands
 
 pub returns-in_err-batch-clause-disk : goal.returns-in_err-batch-clause-disk
 returns-in_err-batch-clause-disk g c s t stands at =
-    leaves_quiet (g.D.Disk.state c.args.disk.now) (g.D.Disk.state c.args.disk.now) c.args.self.now.engine s
+    leaves_quiet (g.D.Disk.state c.args.disk.now)
+    (g.D.Disk.state c.args.disk.now) c.args.self.now.engine s
     (item_writes s c.args.moment c.args.table.now t c.args.found.place c.args.new)
     stands.rows stands.valid (quiet_start (g.D.Disk.state c.args.disk.now))
 
@@ -44,7 +48,8 @@ returns-in-Ok-clause-writes g c s t stands at =
     (sym c.if-same.ensures)
     (c.requires.new s stands c.in-Some.schema.now (sym c.in-Some.ensures.table))
     c.in_ok-batch.ensures.held (search rules) in
-    subst (λ (ts : List State). AreMade (Stands (g.D.Disk.state c.make.new.disk) c.make.new.self) a_number s ts)
+    subst (λ (ts : List State). AreMade (Stands (g.D.Disk.state c.make.new.disk) c.make.new.self)
+    a_number s ts)
     (sym (item_differs (g.D.Disk.state c.args.disk.now) c.args.self.now s t stands
     c.args.moment c.args.table.now c.args.found.place c.args.found.item c.args.new at
     (c.requires.found s stands t at)
@@ -55,7 +60,8 @@ returns-in-Ok-clause-writes g c s t stands at =
     c.args.moment c.args.table.now c.args.found.place c.args.found.item c.args.new at
     (c.requires.found s stands t at)
     (g.D.Disk.state c.make.new.disk) c.make.new.self (c.in-Ok.ensures.ok s
-    (after_item s c.args.moment c.args.table.now t c.args.found.place c.args.new) stands.rows turned)
+    (after_item s c.args.moment c.args.table.now t c.args.found.place c.args.new)
+    stands.rows turned)
     turned.valid c.make.ensures.kept.0 c.make.ensures.kept.1 c.in-Ok.ensures.next)
     (has_number s.next_number (omega (arith, stands.number, c.next_number-number.ensures.next, c.if-number-ge-NUMBERS_END.false))))
 
@@ -70,17 +76,20 @@ returns-in-Ok-clause-disk g c s t stands at =
     (sym c.if-same.ensures)
     (c.requires.new s stands c.in-Some.schema.now (sym c.in-Some.ensures.table))
     c.in_ok-batch.ensures.held (search rules) in
-    subst (λ (ts : List State). Leaves (g.D.Disk.state c.args.disk.now) (g.D.Disk.state c.make.new.disk) s ts)
+    subst (λ (ts : List State). Leaves (g.D.Disk.state c.args.disk.now)
+    (g.D.Disk.state c.make.new.disk) s ts)
     (sym (item_differs (g.D.Disk.state c.args.disk.now) c.args.self.now s t stands
     c.args.moment c.args.table.now c.args.found.place c.args.found.item c.args.new at
     (c.requires.found s stands t at)
     (sym c.if-same.ensures)))
-    (c.make.ensures.disk s (after_item s c.args.moment c.args.table.now t c.args.found.place c.args.new)
+    (c.make.ensures.disk s
+    (after_item s c.args.moment c.args.table.now t c.args.found.place c.args.new)
     stands.rows stands.valid turned)
 
 pub returns-clause-writes : goal.returns-clause-writes
 returns-clause-writes g c s t stands at =
-    subst (λ (ts : List State). BreakOff (Stands (g.D.Disk.state c.make.new.disk) c.make.new.self) a_number s ts
+    subst (λ (ts : List State). BreakOff
+    (Stands (g.D.Disk.state c.make.new.disk) c.make.new.self) a_number s ts
     c.in-Err.fault)
     (sym (item_differs (g.D.Disk.state c.args.disk.now) c.args.self.now s t stands
     c.args.moment c.args.table.now c.args.found.place c.args.found.item c.args.new at
@@ -108,10 +117,12 @@ returns-clause-disk g c s t stands at =
     (sym c.if-same.ensures)
     (c.requires.new s stands c.in-Some.schema.now (sym c.in-Some.ensures.table))
     c.in_ok-batch.ensures.held (search rules) in
-    subst (λ (ts : List State). Leaves (g.D.Disk.state c.args.disk.now) (g.D.Disk.state c.make.new.disk) s ts)
+    subst (λ (ts : List State). Leaves (g.D.Disk.state c.args.disk.now)
+    (g.D.Disk.state c.make.new.disk) s ts)
     (sym (item_differs (g.D.Disk.state c.args.disk.now) c.args.self.now s t stands
     c.args.moment c.args.table.now c.args.found.place c.args.found.item c.args.new at
     (c.requires.found s stands t at)
     (sym c.if-same.ensures)))
-    (c.make.ensures.disk s (after_item s c.args.moment c.args.table.now t c.args.found.place c.args.new)
+    (c.make.ensures.disk s
+    (after_item s c.args.moment c.args.table.now t c.args.found.place c.args.new)
     stands.rows stands.valid turned)

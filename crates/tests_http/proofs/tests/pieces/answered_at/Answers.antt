@@ -23,7 +23,9 @@ scan_more-requires-clause-within c =
 pub scan_more-requires-clause-more : goal.scan_more-requires-clause-more
 scan_more-requires-clause-more c =
     let behind = c.loop-place.invariant.behind in
-    ap scan_of (take_front c.loop-place.seen (c.loop-place.place + 1) c.args.bytes.now (omega arith)) ∙ c.loop-place.invariant.more
+    ap scan_of (take_front c.loop-place.seen (c.loop-place.place + 1) c.args.bytes.now
+    (omega arith)) ∙ c.loop-place.invariant.more
 
 pub loop-place-preserved : goal.loop-place-preserved
-loop-place-preserved c = record { behind = omega arith; more = sym c.in-Ok-More.ensures ∙ c.in-Ok-More.field-0-is }
+loop-place-preserved c =
+    record { behind = omega arith; more = sym c.in-Ok-More.ensures ∙ c.in-Ok-More.field-0-is }

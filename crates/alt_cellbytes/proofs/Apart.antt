@@ -22,9 +22,11 @@ use Rattle.alt_fields.proofs.Apart.{front, back, IsApart, same_many, number-apar
 pub text_apart : (s : List ℕ) → IsText s → IsApart field IsText s
 text_apart s h = λ t x y k e. field-apart s t x y h.1 k.1 e
 
+-- so are fields of byte strings
 pub binary_apart : (s : List ℕ) → IsShort s → IsApart field IsShort s
 binary_apart s h = λ t x y k e. field-apart s t x y h k e
 
+-- and spelled numbers
 pub number_apart : (z : ℤ) → Fits z → IsApart spelled Fits z
 number_apart z h = λ v x y k e. spelled_apart z v x y h k e
 
@@ -54,6 +56,7 @@ list_front ts x =
     ∙ ap (λ s. 9 ∷ s) (append_assoc (counted (length (elements ts)))
     (flat_map cell_bytes (elements ts)) x)
 
+-- and a map's, with its entries as a list
 pub map_front : (fs : Fields) (x : List ℕ) → cell_bytes (M_tree fs) ++ x
     ≡ 10 ∷ behind_count entry_bytes (pairs fs) x
 map_front fs x =
@@ -72,7 +75,9 @@ entry_apart name t h a = λ q x y k e.
     let g = a q.1 x y k.1 f.1 in
     (rw (f.0, g.0) refl, g.1)
 
+-- so values are, kind by kind
 mutual
+  -- whatever follows a value, no other one stands there
   pub value_apart : (t : Tree) → HasBytes t → IsApart cell_bytes HasBytes t
   value_apart (S_tree s) h = λ u x y k e.
       let d = kind_of u 1 (field s ++ x) y e in
@@ -132,6 +137,7 @@ mutual
       (all_entries d.0 w.2) d.2 in
       (sym (ap M_tree (fields_of-pairs fs)) ∙ ap (λ qs. M_tree (fields_of qs)) f.0 ∙ sym d.1, f.1)
 
+  -- nor where an element of a list or an entry of a map does
   values_apart : (ts : Trees) → HaveBytes ts → AllByRecursion (IsApart cell_bytes HasBytes)
       (elements ts)
   values_apart no_trees h = tt

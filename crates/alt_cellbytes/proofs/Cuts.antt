@@ -23,6 +23,7 @@ pub past : {A : Type 0} (xs : List A) (count : ℕ) → count ≡ length xs → 
 past xs zero n some e = some refl
 past xs (suc i) n some e = omega (arith, n, past_at xs (suc i - 1) e)
 
+-- a test as a truth, and back
 is_T : (b : Bool) → IsTrue b → T b
 is_T true t = tt
 is_T false t = absurd (let f : ⊥ = cc in f)
@@ -62,6 +63,7 @@ name_tested ps (suc i) l name t b h n some e is =
           (is_less (text_order l.0 name) (name_above ps i l name t s here)))),
     )
 
+-- no test is both
 pub not_both : (b : Bool) → b ≡ false → IsTrue b → ⊥
 not_both true e t = absurd (let f : ⊥ = cc in f)
 not_both false e t = absurd (let f : ⊥ = cc in f)

@@ -44,6 +44,7 @@ element_below t ks ts u us n is parts d =
       within_list ts u us,
     )
 
+-- and so is what stands in a map
 pub entry_below : (t : Tree) (ks ps : List Pair) (q : Pair) (qs : List Pair) (n : ℕ)
     → t ≡ M_tree (fields_of ks)
     → ks ≡ ps ++ q ∷ qs → depth t ≤ suc n → depth q.1 ≤ n

@@ -55,11 +55,12 @@ number-refuted P bytes left stops z behind fits right is = elim stops [
       other.4 (rw same.0 right)
 ]
 
--- nor where a number stops
+-- the same of a choice
 left_if : (b : Bool) (n left : ℕ) → left ≡ (if b then 0 else n) → left ≤ n
 left_if true n left e = omega (arith, e)
 left_if false n left e = omega (arith, e)
 
+-- nor where a number stops
 pub number-left : (P : ℤ → Type 0) (bytes : List ℕ) (left : ℕ) → NoNumber P bytes left
     → left ≤ length bytes
 number-left P bytes left stops = elim stops [

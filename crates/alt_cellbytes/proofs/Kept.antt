@@ -19,6 +19,7 @@ stop_into P Q D (Left n) f h = f n h
 stop_into P Q D (Deep n) f h = absurd h
 stop_into P Q D NoMemory f h = tt
 
+-- what follows of either stop
 pub both_map : (P Q C D : ℕ → Type 0) (s : Stop) → ((n : ℕ) → P n → Q n) → ((n : ℕ) → C n → D n)
     → IsStopAt P C s → IsStopAt Q D s
 both_map P Q C D (Left n) f g h = f n h
@@ -29,10 +30,12 @@ both_map P Q C D NoMemory f g h = tt
 pub kind_is : (k n : ℕ) (bytes tail : List ℕ) → k ≡ n → bytes ≡ tail → k ∷ bytes ≡ n ∷ tail
 kind_is k n bytes tail e f = cc
 
+-- how long bytes are that tell a count
 pub length-told : (n : ℕ) (bytes more : List ℕ) → bytes ≡ counted n ++ more
     → length bytes ≡ 8 + length more
 length-told n bytes more e = ap length e ∙ length-counted n more
 
+-- a count that is 0
 pub zero_told : (count : ℕ) (bytes more : List ℕ) → count ≡ 0 → bytes ≡ counted count ++ more
     → bytes ≡ counted 0 ++ more
 zero_told count bytes more z e = e ∙ ap (λ n. counted n ++ more) z

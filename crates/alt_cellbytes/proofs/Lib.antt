@@ -1,6 +1,7 @@
 pub mod Apart
 pub mod Cuts
 pub mod Deep
+pub mod DeepFirst
 pub mod Fields
 pub mod Kept
 pub mod OneMore

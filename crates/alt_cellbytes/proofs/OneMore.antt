@@ -19,11 +19,12 @@ use Rattle.alt_cellbytes.proofs.Rising.{with_member-last, with_pair-last, item_o
 
 -- ---- read
 
--- one member more, and its bytes behind the others
+-- a list with one member more is longer by one
 pub length-snoc : {A : Type 0} (xs : List A) (x : A) (n : ℕ) → length xs ≡ n
     → length (xs ++ x ∷ []) ≡ n + 1
 length-snoc xs x n e = omega (arith, e, length-append xs (x ∷ []))
 
+-- and its bytes stand behind the others'
 pub bytes-snoc : {K : Type 0} (spell : K → List ℕ) (P : K → Type 0) (ks : List K) (k : K)
     (bytes rest behind : List ℕ) → bytes ≡ flat_map spell ks ++ rest
     → rest ≡ spell k ++ behind → bytes ≡ flat_map spell (ks ++ k ∷ []) ++ behind
@@ -32,6 +33,7 @@ bytes-snoc spell P ks k bytes rest behind is e =
 
 module _ {K : Type 0} (R : K → K → Ordering) (o : IsTotalOrder R) (spell : K → List ℕ)
     (P : K → Type 0) where
+  -- a set with a member more that stands above the others
   pub one_more : (set new : List K) (k : K) (n : ℕ) (bytes rest behind : List ℕ) → length set ≡ n
       → AreRising P R set → bytes ≡ flat_map spell set ++ rest
       → P k → IsSet R (set ++ k ∷ []) → rest ≡ spell k ++ behind → new ≡ with_member R k set
@@ -59,7 +61,7 @@ take_whole [] (suc i) e = refl
 take_whole (x ∷ xs) zero e = absurd (let f : ⊥ = cc in f)
 take_whole (x ∷ xs) (suc i) e = ap (λ zs. x ∷ zs) (take_whole xs i e)
 
--- one spelling more is written, and all of them
+-- one spelling more is written
 pub wrote_more : {K : Type 0} (spell : K → List ℕ) (xs : List K) (i : ℕ) (x : K)
     (first out new : List ℕ) → out ≡ first ++ flat_map spell (take i xs)
     → Some x ≡ slice_get xs i → new ≡ out ++ spell x
@@ -78,6 +80,7 @@ wrote_more {K} spell xs i x first out new so_far here e =
     append_nil [] = refl
     append_nil (y ∷ ys) = ap (λ zs. y ∷ zs) (append_nil ys)
 
+-- and all of them are, where none is left
 pub wrote_whole : {K : Type 0} (spell : K → List ℕ) (xs : List K) (i : ℕ) (first out : List ℕ)
     → out ≡ first ++ flat_map spell (take i xs)
     → None ≡ slice_get xs i → out ≡ first ++ flat_map spell xs

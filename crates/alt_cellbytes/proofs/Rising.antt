@@ -33,6 +33,7 @@ module _ {K : Type 0} (R : K → K → Ordering) (o : IsTotalOrder R) where
   below_at x (z ∷ xs) zero l h e = let f : l ≡ z = cc in rw f (less _ (first _ _ h))
   below_at x (z ∷ xs) (suc i) l h e = below_at x xs i l (second _ _ h) e
 
+  -- the first members of a set are a set
   pub rising_front : (xs ys : List K) → IsSet R (xs ++ ys) → IsSet R xs
   rising_front [] ys h = tt
   rising_front (x ∷ xs) ys h = both _ _ (below_front x xs ys (first _ _ h))
@@ -136,12 +137,13 @@ item_first [] name t n lt = more_from [] name t
     (rising_more text_order text_total ([] ∷ []) 0 [] name tt refl refl lt)
 item_first (p ∷ ps) name t n lt = absurd (omega (arith, n))
 
--- a next name is above the last one, and is none that is empty
+-- a next name is above the last one
 pub name_above : (ps : List Pair) (i : ℕ) (l : Pair) (name : List ℕ) (t : Tree)
     → IsItem (ps ++ (name, t) ∷ []) → Some l ≡ slice_get ps i → text_order l.0 name ≡ Less
 name_above ps i l name t h e = above_last text_order text_total ([] ∷ names ps) (suc i) l.0 name
     (more_to ps name t h) (name_at ps i l e)
 
+-- and is none that is empty
 pub name_some : (ps : List Pair) (name : List ℕ) (t : Tree) → IsItem (ps ++ (name, t) ∷ [])
     → text_order [] name ≡ Less
 name_some ps name t h = above_last text_order text_total ([] ∷ names ps) 0 [] name
@@ -172,6 +174,7 @@ put_last (p ∷ ps) name t h =
     (below_last text_order text_total p.0 (names ps) name (first _ _ h)) in
     rw above (ap (λ qs. p ∷ qs) (put_last ps name t (second _ _ h)))
 
+-- so a next name is put behind the others
 pub with_pair-last : (ps : List Pair) (name : List ℕ) (t u : Tree) → IsItem (ps ++ (name, u) ∷ [])
     → with_pair name t ps ≡ ps ++ (name, t) ∷ []
 with_pair-last ps name t u h = put_last ps name t (second _ _ (more_to ps name u h))

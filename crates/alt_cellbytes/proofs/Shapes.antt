@@ -13,43 +13,49 @@ use Rattle.alt_fields.proofs.Apart.{front, back}
 
 -- ---- lists and maps, seen as lists
 
--- trees and fields are lists of trees and pairs
+-- trees are a list of trees
 pub trees_of-elements : (ts : Trees) → trees_of (elements ts) ≡ ts
 trees_of-elements no_trees = refl
 trees_of-elements (tree_then t ts) = ap (λ us. tree_then t us) (trees_of-elements ts)
 
+-- and fields are a list of pairs
 pub fields_of-pairs : (fs : Fields) → fields_of (pairs fs) ≡ fs
 fields_of-pairs no_fields = refl
 fields_of-pairs (field_then name t fs) = ap (λ gs. field_then name t gs) (fields_of-pairs fs)
 
--- values of a list, and entries of a map
+-- the elements of a list that has bytes have bytes
 pub all_values : (ts : List Tree) → HaveBytes (trees_of ts) → AllByRecursion HasBytes ts
 all_values [] h = tt
 all_values (t ∷ ts) h = (h.0, all_values ts h.1)
 
+-- and a list has bytes where they do
 pub values_all : (ts : List Tree) → AllByRecursion HasBytes ts → HaveBytes (trees_of ts)
 values_all [] h = tt
 values_all (t ∷ ts) h = (h.0, values_all ts h.1)
 
+-- the pairs of a map that has bytes are entries
 pub all_entries : (ps : List Pair) → FieldsHaveBytes (fields_of ps) → AllByRecursion IsEntry ps
 all_entries [] h = tt
 all_entries (p ∷ ps) h = ((h.0, h.1), all_entries ps h.2)
 
+-- and a map has bytes where they are
 pub entries_all : (ps : List Pair) → AllByRecursion IsEntry ps → FieldsHaveBytes (fields_of ps)
 entries_all [] h = tt
 entries_all (p ∷ ps) h = (h.0.0, h.0.1, entries_all ps h.1)
 
 -- ---- shapes
 
--- members one behind another
+-- fields one behind another
 pub fields_shape : (ss : List (List ℕ)) → fields_bytes ss ≡ flat_map field ss
 fields_shape [] = refl
 fields_shape (s ∷ ss) = ap (λ t. field s ++ t) (fields_shape ss)
 
+-- and spelled numbers
 pub numbers_shape : (zs : List ℤ) → numbers_bytes zs ≡ flat_map spelled zs
 numbers_shape [] = refl
 numbers_shape (z ∷ zs) = ap (λ t. spelled z ++ t) (numbers_shape zs)
 
+-- elements and entries one behind another, behind the count
 elements_shape : (ts : List Tree) → drop 9 (cell_bytes (L_tree (trees_of ts)))
     ≡ flat_map cell_bytes ts
 elements_shape [] = refl
@@ -61,25 +67,29 @@ entries_shape [] = refl
 entries_shape (p ∷ ps) =
     ap (λ s. (field p.0 ++ cell_bytes p.1) ++ s) (entries_shape ps)
 
+-- the bytes of a set of texts, with its members as a list
 pub texts_bytes : (ss : List (List ℕ)) → cell_bytes (SS_tree ss)
     ≡ 6 ∷ (counted (length ss) ++ flat_map field ss)
 texts_bytes ss = ap (λ s. 6 ∷ (counted (length ss) ++ s)) (fields_shape ss)
 
+-- and those of a set of numbers
 pub numbers_bytes-set : (zs : List ℤ) → cell_bytes (NS_tree zs)
     ≡ 7 ∷ (counted (length zs) ++ flat_map spelled zs)
 numbers_bytes-set zs = ap (λ s. 7 ∷ (counted (length zs) ++ s)) (numbers_shape zs)
 
+-- and those of a set of byte strings
 pub binaries_bytes : (bs : List (List ℕ)) → cell_bytes (BS_tree bs)
     ≡ 8 ∷ (counted (length bs) ++ flat_map field bs)
 binaries_bytes bs = ap (λ s. 8 ∷ (counted (length bs) ++ s)) (fields_shape bs)
 
--- the bytes of a set, a list and a map, with their members as lists
+-- the bytes of a list, with its elements as a list
 pub list_bytes : (ts : List Tree) → cell_bytes (L_tree (trees_of ts))
     ≡ 9 ∷ (counted (length ts) ++ flat_map cell_bytes ts)
 list_bytes ts =
     ap (λ s. 9 ∷ (counted (length (elements (trees_of ts))) ++ s)) (elements_shape ts)
     ∙ ap (λ us. 9 ∷ (counted (length us) ++ flat_map cell_bytes ts)) (elements-trees_of ts)
 
+-- and those of a map, with its entries as a list
 pub map_bytes : (ps : List Pair) → cell_bytes (M_tree (fields_of ps))
     ≡ 10 ∷ (counted (length ps) ++ flat_map entry_bytes ps)
 map_bytes ps =
@@ -123,6 +133,7 @@ counted_tail : (n : ℕ) (members bytes x : List ℕ) → members ≡ bytes
 counted_tail n members bytes x e = ap (λ s. (counted n ++ s) ++ x) e
     ∙ append_assoc (counted n) bytes x
 
+-- by its first byte a value is of one kind
 pub kind_of : (t : Tree) (k : ℕ) (more x : List ℕ) → k ∷ more ≡ cell_bytes t ++ x
     → KindIs k t more x
 kind_of (S_tree s) k more x e = at_kind k 1 (S_tree s) more _ x e (s, refl, back k 1 more _ e)

@@ -46,7 +46,8 @@ member-refuted spell P Are NoNext apart each next ls count bytes x left n are is
 snoc_is : {A : Type 0} (ks : List A) (l : A) (ms : List A) → ks ++ l ∷ ms ≡ (ks ++ l ∷ []) ++ ms
 snoc_is ks l ms = sym (append_assoc ks (l ∷ []) ms)
 
-here : {A : Type 0} (P : A → Type 0) (ks : List A) (l : A) (ms : List A)
+-- what holds of each holds of it
+pub here : {A : Type 0} (P : A → Type 0) (ks : List A) (l : A) (ms : List A)
     → AllByRecursion P (ks ++ l ∷ ms) → P l
 here P ks l ms h = (all_back P ks (l ∷ ms) h).0
 
@@ -79,7 +80,7 @@ next_number ks l ms more x left are is non =
     (subst (IsSet int_cmp) (snoc_is ks l ms) are.1)) is
 
 -- and so can the next name of a map
-next_name_of : (ks : List Pair) (l : Pair) (ms : List Pair) → AreEntries (ks ++ l ∷ ms)
+pub next_name_of : (ks : List Pair) (l : Pair) (ms : List Pair) → AreEntries (ks ++ l ∷ ms)
     → IsEntry l × IsNextName ks l.0
 next_name_of ks l ms are =
     let e : IsEntry l = here IsEntry ks l ms are.0 in (
@@ -248,15 +249,17 @@ here-refuted bytes left (no_name count more small is non) t x v e =
 behind : (a b c : List ℕ) (x y : List ℕ) → x ≡ (a ++ b) ++ c → x ≡ y → a ++ (b ++ c) ≡ y
 behind a b c x y e f = sym (append_assoc a b c) ∙ sym e ∙ f
 
--- Within what is open there, no value begins that is nested so deep at most, where none does at the place.
-around-refuted : (around : List Around) (within bytes : List ℕ) (room : ℕ)
-    → ((t : Tree) (x : List ℕ) → HasBytes t → depth t ≤ room → within ≡ cell_bytes t ++ x → ⊥)
+-- Where a value begins that is nested so deep at most, one begins at the place too, within what is open there, and no less is
+-- left behind it: so what follows of that one holds.
+around-next : {Q : Type 0} (around : List Around) (within bytes : List ℕ) (room least : ℕ)
+    → ((t : Tree) (x : List ℕ) → HasBytes t → depth t ≤ room → least ≤ length x
+    → within ≡ cell_bytes t ++ x → Q)
     → AllByRecursion IsAround around → bytes ≡ all_around around ++ within
-    → (t : Tree) (x : List ℕ) → HasBytes t → depth t ≤ room + length around
-    → bytes ≡ cell_bytes t ++ x → ⊥
-around-refuted [] within bytes room none opened is t x v d e =
-    none t x v (omega (arith, d)) (sym is ∙ e)
-around-refuted (in_list count ts ∷ around) within bytes room none opened is t x v d e =
+    → (t : Tree) (x : List ℕ) → HasBytes t → depth t ≤ room + length around → least ≤ length x
+    → bytes ≡ cell_bytes t ++ x → Q
+around-next [] within bytes room least follows opened is t x v d b e =
+    follows t x v (omega (arith, d)) b (sym is ∙ e)
+around-next (in_list count ts ∷ around) within bytes room least follows opened is t x v d b e =
     let rest = all_around around ++ within in
     let f : 9 ∷ (counted count ++ (flat_map cell_bytes ts ++ rest)) ≡ cell_bytes t ++ x =
     ap (λ s. 9 ∷ s) (sym (append_assoc (counted count) (flat_map cell_bytes ts) rest))
@@ -268,11 +271,12 @@ around-refuted (in_list count ts ∷ around) within bytes room none opened is t 
     let g = further cell_bytes HasBytes ts k.0 rest x
     (all_map HasBytes (IsApart cell_bytes HasBytes) ts value_apart opened.0.2) w.1
     (omega (arith, opened.0.1, c.0)) c.1 in
-    around-refuted around within rest room none opened.1 refl g.next _
+    around-next around within rest room least follows opened.1 refl g.next
+    (flat_map cell_bytes g.others ++ x)
     (here HasBytes ts g.next g.others (subst (AllByRecursion HasBytes) g.is w.1))
     (element_below t k.0 ts g.next g.others (room + length around) k.1 g.is (omega (arith, d)))
-    g.there
-around-refuted (in_map count ps name ∷ around) within bytes room none opened is t x v d e =
+    (omega (arith, b, length-append (flat_map cell_bytes g.others) x)) g.there
+around-next (in_map count ps name ∷ around) within bytes room least follows opened is t x v d b e =
     let rest = all_around around ++ within in
     let f : 10 ∷ (counted count ++ (flat_map entry_bytes ps ++ (field name ++ rest)))
     ≡ cell_bytes t ++ x =
@@ -293,16 +297,18 @@ around-refuted (in_map count ps name ∷ around) within bytes room none opened i
     (subst (AllByRecursion IsEntry) g.is w.1.0) in
     let h = field-apart name g.next.0 rest _ opened.0.3 p.0.1
     (g.there ∙ append_assoc (field g.next.0) (cell_bytes g.next.1) _) in
-    around-refuted around within rest room none opened.1 refl g.next.1 _ p.1
-    (entry_below t k.0 ps g.next g.others (room + length around) k.1 g.is (omega (arith, d))) h.1
+    around-next around within rest room least follows opened.1 refl g.next.1
+    (flat_map entry_bytes g.others ++ x) p.1
+    (entry_below t k.0 ps g.next g.others (room + length around) k.1 g.is (omega (arith, d)))
+    (omega (arith, b, length-append (flat_map entry_bytes g.others) x)) h.1
 
 -- bytes that stop begin with no value's cell bytes
 pub stops-refuted : (bytes : List ℕ) (left : ℕ) → Stops bytes left
     → (t : Tree) (x : List ℕ) → HasBytes t → bytes ≡ cell_bytes t ++ x → ⊥
 stops-refuted bytes left s t x v e =
-    around-refuted s.around s.here bytes (depth t)
-    (λ u y w d f. here-refuted s.here left s.stops u y w f)
-    s.open_there s.is t x v (omega arith) e
+    around-next s.around s.here bytes (depth t) 0
+    (λ u y w d b f. here-refuted s.here left s.stops u y w f)
+    s.open_there s.is t x v (omega arith) (omega arith) e
 
 -- a list or a map is nested at least once
 nested-refuted : (within : List ℕ) → IsNested within → (t : Tree) (x : List ℕ) → depth t ≤ 0
@@ -321,8 +327,17 @@ nested-refuted (b ∷ within) n t x d e = elim n [
 pub deep-refuted : (most : ℕ) (bytes : List ℕ) (left : ℕ) → TooDeep most bytes left
     → (t : Tree) (x : List ℕ) → HasBytes t → depth t ≤ most → bytes ≡ cell_bytes t ++ x → ⊥
 deep-refuted most bytes left s t x v d e =
-    around-refuted s.around s.here bytes 0 (λ u y w f g. nested-refuted s.here s.stops.1 u y f g)
-    s.open_there s.is t x v (omega (arith, d, s.stops.0)) e
+    around-next s.around s.here bytes 0 0
+    (λ u y w f b g. nested-refuted s.here s.stops.1 u y f g)
+    s.open_there s.is t x v (omega (arith, d, s.stops.0)) (omega arith) e
+
+-- what is nested too deep in a value begins before the value ends
+pub deep-inside : (most : ℕ) (bytes : List ℕ) (left : ℕ) → TooDeep most bytes left
+    → (t : Tree) (x : List ℕ) → HasBytes t → bytes ≡ cell_bytes t ++ x → length x ≤ left
+deep-inside most bytes left s t x v e =
+    around-next s.around s.here bytes (depth t) (length x)
+    (λ u y w d b f. omega (arith, b, s.stops.2, ap length f, length-append (cell_bytes u) y))
+    s.open_there s.is t x v (omega arith) (omega arith) e
 
 -- ---- a stop is within the bytes
 
@@ -382,10 +397,12 @@ within-left H bytes left bound s =
       length-append (all_around s.around) s.here,
     )
 
+-- so it is where bytes stop
 pub stops-left : (bytes : List ℕ) (left : ℕ) → Stops bytes left → left ≤ length bytes
 stops-left bytes left s = within-left (λ around. StopsHere) bytes left
     (λ around here h. here-left here left h) s
 
+-- and where something is nested too deep
 pub deep-left : (most : ℕ) (bytes : List ℕ) (left : ℕ) → TooDeep most bytes left
     → left ≤ length bytes
 deep-left most bytes left s =
@@ -468,6 +485,7 @@ list_stops count bytes more left small is non =
     list_within (λ around. StopsHere) (λ around. StopsHere) count bytes more left
     (λ a around here h. h) small is non
 
+-- and a map where a name or a value does
 pub map_stops : (count : ℕ) (bytes more : List ℕ) (left : ℕ) → count < 2 ^ 64
     → bytes ≡ 10 ∷ (counted count ++ more)
     → NoEntry count more left → Stops bytes left
@@ -495,6 +513,7 @@ list_deep most count bytes more left some small is non =
     more left
     (λ a around here h. one_around most some a around here left h) small is non
 
+-- and a map where a value is
 pub map_deep : (most count : ℕ) (bytes more : List ℕ) (left : ℕ) → 0 < most → count < 2 ^ 64
     → bytes ≡ 10 ∷ (counted count ++ more) → NoEntryOf (TooDeep (most - 1)) count more left
     → TooDeep most bytes left

@@ -72,6 +72,7 @@ mutual
   full_of (L_tree ts) h = full_elements ts h.1
   full_of (M_tree fs) h = full_fields fs h.2
 
+  -- nor in its elements or the values of its names
   full_elements : (ts : Trees) → HaveBytes ts → T (elements_full ts)
   full_elements no_trees h = tt
   full_elements (tree_then t ts) h = both (sets_full t) (elements_full ts) (full_of t h.0)
@@ -117,6 +118,7 @@ mutual
         length-append behind [],
       )
 
+  -- nor is that of elements or of fields
   elements-short : (ts : Trees) → elements_depth ts ≤ length (flat_map cell_bytes (elements ts))
   elements-short no_trees = omega arith
   elements-short (tree_then t ts) =

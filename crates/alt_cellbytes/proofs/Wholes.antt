@@ -8,7 +8,7 @@ use Rattle.alt_fields.specs.declared.bytes.BytesFault.TheVariants.{Bad}
 use Rattle.alt_value.specs.CellBytes.{cell_bytes, counted}
 use Rattle.alt_value.specs.Item.{IsItem}
 use Rattle.alt_value.specs.Tree.{Tree, L_tree, M_tree, Pair, trees_of, fields_of}
-use Rattle.alt_cellbytes.specs.Places.{AreEntries, entry_bytes, Stops, TooDeep, IsBadAt, IsDeepAt}
+use Rattle.alt_cellbytes.specs.Places.{AreEntries, entry_bytes, Stops, TooDeep, IsBadAt, IsDeepAt, IsFirstDeepAt}
 use Rattle.alt_cellbytes.specs.Values.{HasBytes}
 use Rattle.alt_cellbytes.proofs.Apart.{cell_bytes-apart}
 use Rattle.alt_value.proofs.Trees.{elements-trees_of, pairs-fields_of}
@@ -17,7 +17,7 @@ use Rattle.alt_cellbytes.proofs.Stopped.{stops-refuted, stops-left, deep-left}
 
 -- ---- written
 
--- a list or a map that was written
+-- a list that was written
 pub put_list : {T E : Type 0} (r : Result T E) (ts : List Tree) (t : Tree) (old new : List ℕ)
     → t ≡ L_tree (trees_of ts)
     → OnOk r (new ≡ old ++ 9 ∷ (counted (length ts) ++ flat_map cell_bytes ts))
@@ -25,6 +25,7 @@ pub put_list : {T E : Type 0} (r : Result T E) (ts : List Tree) (t : Tree) (old 
 put_list r ts t old new is h = on_ok_weaker r
     (λ e. e ∙ ap (λ s. old ++ s) (sym (list_bytes ts) ∙ ap cell_bytes (sym is))) h
 
+-- and a map that was
 pub put_map : {T E : Type 0} (r : Result T E) (ps : List Pair) (t : Tree) (old new : List ℕ)
     → t ≡ M_tree (fields_of ps)
     → OnOk r (new ≡ old ++ 10 ∷ (counted (length ps) ++ flat_map entry_bytes ps))
@@ -34,7 +35,7 @@ put_map r ps t old new is h = on_ok_weaker r (λ e. e
 
 -- ---- read
 
--- a list or a map that was read
+-- a list that was read
 pub list_whole : (ts : List Tree) (count : ℕ) (bytes rest behind : List ℕ) → count < 2 ^ 64
     → bytes ≡ counted count ++ rest → length ts ≡ count
     → AllByRecursion HasBytes ts → rest ≡ flat_map cell_bytes ts ++ behind
@@ -50,6 +51,7 @@ list_whole ts count bytes rest behind small is n are there = (
       ∙ ap (λ s. s ++ behind) (sym (list_bytes ts)),
 )
 
+-- and a map that was
 pub map_whole : (ps : List Pair) (count : ℕ) (bytes rest behind : List ℕ) → count < 2 ^ 64
     → bytes ≡ counted count ++ rest → length ps ≡ count
     → AreEntries ps → rest ≡ flat_map entry_bytes ps ++ behind
@@ -82,7 +84,7 @@ head_tail (b ∷ bytes) h = ap (λ s. b ∷ s) (ap (λ n. take n bytes) (omega a
 abbrev pub NoneHas : List ℕ → Type 0
 NoneHas bytes = (t : Tree) → HasBytes t → bytes ≡ cell_bytes t → ⊥
 
--- the place of a stop, and of what stands behind a whole value
+-- the place of a stop
 pub stop_place : (bytes : List ℕ) (left at : ℕ) → Stops bytes left → at ≡ length bytes - left
     → IsBadAt bytes at × NoneHas bytes
 stop_place bytes left at s e = (
@@ -90,6 +92,7 @@ stop_place bytes left at s e = (
   (λ t v is. stops-refuted bytes left s t [] v (is ∙ sym (append-nil (cell_bytes t)))),
 )
 
+-- and of what stands behind a whole value
 pub behind_place : (bytes rest : List ℕ) (t : Tree) (at : ℕ) → HasBytes t
     → bytes ≡ cell_bytes t ++ rest → 0 < length rest → at ≡ length bytes - length rest
     → IsBadAt bytes at × NoneHas bytes
@@ -109,6 +112,15 @@ pub deep_place : (most : ℕ) (bytes : List ℕ) (left at : ℕ) → TooDeep mos
     → IsDeepAt most bytes at
 deep_place most bytes left at s e = (left, s, omega (arith, e, deep-left most bytes left s))
 
+-- the first such place, where no other is further from the end
+pub first_place : (most : ℕ) (bytes : List ℕ) (left at : ℕ) → TooDeep most bytes left
+    → ((n : ℕ) → TooDeep most bytes n → n ≤ left) → at ≡ length bytes - left
+    → IsFirstDeepAt most bytes at
+first_place most bytes left at s told e = (
+  deep_place most bytes left at s e,
+  (λ n d. omega (arith, e, told d.0 d.1, d.2)),
+)
+
 -- a fault names one place
 pub one_place : {T : Type 0} (x at : ℕ) → (let r : Result T BytesFault = Err (Bad x) in
     r ≡ Err (Bad at)) → x ≡ at
@@ -125,8 +137,10 @@ pub nothing_left : (bytes rest : List ℕ) (t : Tree) → bytes ≡ cell_bytes t
 nothing_left bytes [] t e n = e ∙ append-nil (cell_bytes t)
 nothing_left bytes (b ∷ rest) t e n = absurd (omega (arith, n))
 
+-- by the test of a length nothing is left
 pub zero_from : (n : ℕ) → true ≡ (n == 0) → n ≡ 0
 zero_from n e = grind arith
 
+-- or something is
 pub some_from : (n : ℕ) → false ≡ (n == 0) → 0 < n
 some_from n e = grind arith

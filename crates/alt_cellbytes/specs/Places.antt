@@ -205,6 +205,10 @@ IsBadAt bytes at =
 abbrev pub IsDeepAt : ℕ → List ℕ → ℕ → Type 0
 IsDeepAt most bytes at = (left : ℕ) × TooDeep most bytes left × (at + left ≡ length bytes)
 
+-- The first such place.
+abbrev pub IsFirstDeepAt : ℕ → List ℕ → ℕ → Type 0
+IsFirstDeepAt most bytes at = IsDeepAt most bytes at × ((n : ℕ) → IsDeepAt most bytes n → at ≤ n)
+
 -- the bytes are no value's cell bytes
 abbrev pub NoValue : List ℕ → Type 0
 NoValue bytes = (t : Tree) → IsWhole t → bytes ≡ cell_bytes t → ⊥
@@ -218,6 +222,12 @@ abbrev pub IsReadAs : Tree → Result Attr BytesFault → Type 0
 IsReadAs t (Ok a) = tree_of a ≡ t
 IsReadAs t (Err e) = e ≡ fault.NoMemory
 
+-- Bad at the first place where a list or a map is within as many as may be, or else want of memory
+abbrev pub IsDeepAnswer : ℕ → List ℕ → Result Attr BytesFault → Type 0
+IsDeepAnswer most bytes (Ok a) = ⊥
+IsDeepAnswer most bytes (Err e) =
+    (e ≡ fault.NoMemory) ⊎ ((at : ℕ) × (e ≡ fault.Bad at) × IsFirstDeepAt most bytes at)
+
 -- where it stops by bytes that are left, the first holds of them, and where it stops at a value that is nested too deep, the second
 abbrev pub IsStopAt : (ℕ → Type 0) → (ℕ → Type 0) → Stop → Type 0
 IsStopAt P D (Left n) = P n
@@ -227,3 +237,8 @@ IsStopAt P D NoMemory = Unit {0}
 -- where it stops by bytes that are left, this holds of them
 abbrev pub IsStop : (ℕ → Type 0) → Stop → Type 0
 IsStop P = IsStopAt P (λ n. ⊥)
+
+-- it stops at what is nested too deep, with so many bytes left at least, or for want of memory
+abbrev pub StopsDeep : {A : Type 0} → ℕ → Result A Stop → Type 0
+StopsDeep left (Ok a) = ⊥
+StopsDeep left (Err s) = IsStopAt (λ n. ⊥) (λ n. left ≤ n) s

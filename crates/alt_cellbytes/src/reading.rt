@@ -13,7 +13,7 @@ ghost use Rattle.alt_value.specs.Size.{depth};
 ghost use Rattle.alt_value.specs.Stands.{tree_of};
 ghost use Rattle.alt_value.specs.Tree.{NULL_tree, Tree};
 ghost use Rattle.alt_value.specs.Values.{IsWhole};
-ghost use Rattle.alt_cellbytes.specs.Places.{IsBadAt, IsDeepAt, IsReadAs, NoValue, NoValueWithin, IsStop, IsStopAt, Stops, TooDeep, StopsHere, NoField, IsNextName, NoElementOf, NoEntry, NoEntryOf, AreEntries, entry_bytes};
+ghost use Rattle.alt_cellbytes.specs.Places.{IsBadAt, IsDeepAt, IsDeepAnswer, StopsDeep, IsReadAs, NoValue, NoValueWithin, IsStop, IsStopAt, Stops, TooDeep, StopsHere, NoField, IsNextName, NoElementOf, NoEntry, NoEntryOf, AreEntries, entry_bytes};
 ghost use Rattle.alt_cellbytes.specs.Values.{AreApart, HasBytes};
 
 use crate::fault::Stop;
@@ -40,8 +40,10 @@ pub fn attr_of(alloc: Global, bytes: &[u8]) -> Result<Attr, BytesFault>
     attr_within(alloc, bytes, bytes.len())
 }
 
-/// The same, but a list or a map within as many of them as may be is Bad where it begins, and nothing
-/// behind it is looked at: so the stack that is used grows with `most`, and not with the bytes.
+/// The same, but a list or a map within as many of them as may be is Bad where it begins.
+///
+/// No call is made for what stands in it, so the stack that is used grows with `most`, and not with the
+/// bytes. (That is seen in the body: no clause speaks of a stack.)
 pub fn attr_within(alloc: Global, bytes: &[u8], most: usize) -> Result<Attr, BytesFault>
     ensures value { IfOk result (λ a. IsWhole (tree_of a) × (depth (tree_of a) ≤ most)
         × (bytes.now ≡ cell_bytes (tree_of a))) }
@@ -50,6 +52,8 @@ pub fn attr_within(alloc: Global, bytes: &[u8], most: usize) -> Result<Attr, Byt
     ensures place { (at : ℕ) → result ≡ Err (BytesFault.Bad at)
         → IsBadAt bytes.now at ⊎ IsDeepAt most bytes.now at }
     ensures none { (at : ℕ) → result ≡ Err (BytesFault.Bad at) → NoValueWithin most bytes.now }
+    // Where a list or a map is nested too deep, the answer is Bad at the first one, whatever stands behind its first byte.
+    ensures deep { (at : ℕ) → IsDeepAt most bytes.now at → IsDeepAnswer most bytes.now result }
 {
     match take_value(alloc, most, bytes) {
         Ok((a, rest)) => {
@@ -78,6 +82,7 @@ fn take_value(alloc: Global, most: usize, bytes: &[u8]) -> Result<(Attr, &[u8]),
     ensures value { IfOk result (λ p. HasBytes (tree_of p.0) × (depth (tree_of p.0) ≤ most)
         × (bytes.now ≡ cell_bytes (tree_of p.0) ++ p.1.now)) }
     ensures stop { IfErr result (IsStopAt (Stops bytes.now) (TooDeep most bytes.now)) }
+    ensures deep { (left : ℕ) → TooDeep most bytes.now left → StopsDeep left result }
 {
     match bytes {
         [kind, rest @ ..] => match *kind {
@@ -106,6 +111,7 @@ fn take_list(alloc: Global, most: usize, bytes: &[u8]) -> Result<(Attr, &[u8]), 
     ensures value { IfOk result (λ p. HasBytes (tree_of p.0) × (depth (tree_of p.0) ≤ most)
         × (9 ∷ bytes.now ≡ cell_bytes (tree_of p.0) ++ p.1.now)) }
     ensures stop { IfErr result (IsStopAt (Stops (9 ∷ bytes.now)) (TooDeep most (9 ∷ bytes.now))) }
+    ensures deep { (left : ℕ) → TooDeep most (9 ∷ bytes.now) left → StopsDeep left result }
 {
     let (count, rest) = take_count(bytes)?;
     match take_elements(alloc, most - 1, count, rest) {
@@ -127,6 +133,8 @@ fn take_elements(
         × (bytes.now ≡ flat_map cell_bytes p.0 ++ p.1.now)) }
     ensures stop { IfErr result (IsStopAt (NoElementOf Stops count bytes.now)
         (NoElementOf (TooDeep most) count bytes.now)) }
+    ensures deep { (left : ℕ) → NoElementOf (TooDeep most) count bytes.now left
+        → StopsDeep left result }
 {
     let mut list = AttrList::new(alloc);
     let mut rest = bytes;
@@ -150,6 +158,7 @@ fn take_map(alloc: Global, most: usize, bytes: &[u8]) -> Result<(Attr, &[u8]), S
         × (10 ∷ bytes.now ≡ cell_bytes (tree_of p.0) ++ p.1.now)) }
     ensures stop { IfErr result
         (IsStopAt (Stops (10 ∷ bytes.now)) (TooDeep most (10 ∷ bytes.now))) }
+    ensures deep { (left : ℕ) → TooDeep most (10 ∷ bytes.now) left → StopsDeep left result }
 {
     let (count, rest) = take_count(bytes)?;
     match take_entries(alloc, most - 1, count, rest) {
@@ -166,6 +175,8 @@ fn take_entries(alloc: Global, most: usize, count: u64, bytes: &[u8]) -> Result<
         × (bytes.now ≡ flat_map entry_bytes p.0 ++ p.1.now)) }
     ensures stop { IfErr result (IsStopAt (NoEntry count bytes.now)
         (NoEntryOf (TooDeep most) count bytes.now)) }
+    ensures deep { (left : ℕ) → NoEntryOf (TooDeep most) count bytes.now left
+        → StopsDeep left result }
 {
     let mut map = Item::new(alloc);
     let mut rest = bytes;

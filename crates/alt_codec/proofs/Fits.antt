@@ -214,6 +214,7 @@ mutual
   value_fits room (array ds) = tt
   value_fits room (object ms) = only_fits room ms
 
+  -- so does what the one member that isn't null is read as
   only_fits : (room : ℕ) (ms : Members) → IfOk (only_member room ms) (Fits room)
   only_fits room no_members = tt
   only_fits room (member name d ms) = first_fits (only_member room ms) (all_null ms) room name d

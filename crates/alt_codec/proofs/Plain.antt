@@ -21,6 +21,7 @@ or_false : (b : _) → b ≡ false → (b || false) ≡ false
 or_false b e = rw e refl
 
 mutual
+  -- nor is what a value is written as
   pub json_plain : (t : Tree) → has_float (json_of t) ≡ false
   json_plain (S_tree s) = refl
   json_plain (N_tree z) = refl
@@ -33,10 +34,12 @@ mutual
   json_plain (L_tree ts) = or_false _ (elements_plain ts)
   json_plain (M_tree fs) = or_false _ (fields_plain fs)
 
+  -- nor are the elements of a list
   elements_plain : (ts : Trees) → items_have_float (json_items ts) ≡ false
   elements_plain no_trees = refl
   elements_plain (tree_then t ts) = rw (json_plain t) (elements_plain ts)
 
+  -- nor the values of a map
   pub fields_plain : (fs : Fields) → members_have_float (json_members fs) ≡ false
   fields_plain no_fields = refl
   fields_plain (field_then name t fs) = rw (json_plain t) (fields_plain fs)

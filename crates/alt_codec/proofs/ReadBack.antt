@@ -126,6 +126,7 @@ binaries_return bs rising h room full fits =
 pub some_room : {A : Type 0} (room : ℕ) (r : Result A ValueFault) → 0 < room → if_room room r ≡ r
 some_room room r h = rw (ne_eqb room 0 (λ z. omega (arith, z, h))) refl
 
+-- the elements of a list are read back, where each is
 elements_in-written : (ts : List Tree) → Each Returns ts → (room : ℕ)
     → T (elements_full (trees_of ts)) → elements_depth (trees_of ts) ≤ room
     → elements_in room (json_items (trees_of ts)) ≡ Ok ts

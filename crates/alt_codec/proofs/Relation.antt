@@ -17,7 +17,7 @@ use Rattle.alt_value.specs.Members.{set_of, text_order}
 use Rattle.alt_value.specs.Tree.{Tree, S_tree, N_tree, B_tree, BOOL_tree, NULL_tree, SS_tree, NS_tree, BS_tree, L_tree, M_tree, Pair, trees_of, fields_of}
 use Rattle.alt_codec.specs.declared.fault.ValueFault.{ValueFault}
 use Rattle.alt_codec.specs.declared.fault.ValueFault.TheVariants as fault
-use Rattle.alt_codec.specs.JsonOf.{present, IsOnly, IsTextOf, IsNumberOf, IsBinaryOf, IsMemberOf, AreMembersOf, IsSetOf, with_pairs, JsonOf, is_text, is_number, is_binary, is_truth, is_none, is_texts, is_numbers, is_binaries, is_list, is_map, ElementsOf, no_elements, element_then, PairsOf, no_pairs, pair_then, ItemJsonOf}
+use Rattle.alt_codec.specs.JsonOf.{present, IsOnly, IsTextOf, IsNumberOf, IsBinaryOf, IsMemberOf, AreMembersOf, IsSetOf, with_pairs, JsonOf, is_text, is_number, is_binary, is_truth, is_none, is_texts, is_numbers, is_binaries, is_list, is_map, ElementsOf, no_elements, element_then, PairsOf, no_pairs, pair_then, ItemJsonOf, SendsNumber}
 use Rattle.alt_codec.specs.Numbers.{number_of}
 use Rattle.alt_codec.specs.Reading.{all_null, only_present, value_in, payload_in, list_in, map_in, flat_in, if_room, elements_in, fields_in, item_in}
 use Rattle.alt_codec.specs.Scalars.{text_in, number_in, binary_in, truth_in, null_in, or_bad_number, or_bad_base64}
@@ -503,6 +503,7 @@ value-there (suc n) d t e = level-there (suc n)
 -- ---- what the JSON stands for is read
 
 mutual
+  -- what the JSON stands for is the reader's answer
   pub value-back : {room : ℕ} {d : Data} {t : Tree} → JsonOf room d t → value_in room d ≡ Ok t
   value-back (is_text room ms s o) = value_in-only room ms (codes "S") (string s) o
   value-back (is_number room ms text z o h) =
@@ -538,6 +539,7 @@ mutual
       ∙ ap (λ k. map_ok (λ qs. M_tree (fields_of qs)) (fields_in k [] os)) (less_room room)
       ∙ ap (map_ok (λ qs. M_tree (fields_of qs))) (pairs-back h [])
 
+  -- so it is of elements and of pairs
   elements-back : {room : ℕ} {ds : Items} {ts : List Tree} → ElementsOf room ds ts
       → elements_in room ds ≡ Ok ts
   elements-back (no_elements room) = refl
@@ -593,3 +595,35 @@ pub written_stands : (r : Result Value NoMemory) (t : Tree) → IfOk r (λ v. vi
 written_stands (Ok v) t is h = λ full fits. value-there 32 (view v) t
     (ap (value_in 32) is ∙ h 32 full fits)
 written_stands (Err e) t is h = h
+
+-- ---- the answer to a number
+
+-- a number that was sent is told by its text alone
+number_sent : (d : Data) (text : List ℕ) → SendsNumber d text
+    → value_in 32 d ≡ map_ok N_tree (or_bad_number (number_of text))
+number_sent d text s = ap (value_in 32) s.1 ∙ value_in-only 32 s.0 (codes "N") (string text) s.2
+
+-- the number that was read, and the fault of a text that is none
+as_number : (r : Result ℤ NumberFault) (t : Tree) → map_ok N_tree (or_bad_number r) ≡ Ok t
+    → (z : ℤ) × (t ≡ N_tree z) × (r ≡ Ok z)
+as_number (Ok z) t e = (z, cc, refl)
+as_number (Err n) t e = absurd (let h : ⊥ = cc in h)
+
+as_fault : (r : Result ℤ NumberFault) (f : ValueFault) → map_ok N_tree (or_bad_number r) ≡ Err f
+    → (n : NumberFault) × (f ≡ fault.BadNumber n) × (r ≡ Err n)
+as_fault (Ok z) f e = absurd (let h : ⊥ = cc in h)
+as_fault (Err n) f e = (n, cc, refl)
+
+-- by the grammar it is the number that the text denotes
+pub number_read : (d : Data) (text : List ℕ) (t : Tree) → SendsNumber d text → value_in 32 d ≡ Ok t
+    → (z : ℤ) × (t ≡ N_tree z) × ReadsAs text (Ok z)
+number_read d text t s e =
+    let r = as_number (number_of text) t (sym (number_sent d text s) ∙ e) in
+    (r.0, r.1, subst (ReadsAs text) r.2 (reads text))
+
+-- and else the fault is why it denotes none
+pub number_refused : (d : Data) (text : List ℕ) (f : ValueFault) → SendsNumber d text
+    → value_in 32 d ≡ Err f → (n : NumberFault) × (f ≡ fault.BadNumber n) × ReadsAs text (Err n)
+number_refused d text f s e =
+    let r = as_fault (number_of text) f (sym (number_sent d text s) ∙ e) in
+    (r.0, r.1, subst (ReadsAs text) r.2 (reads text))

@@ -1,15 +1,20 @@
 -- Which JSON stands for which value, by the ten kinds (DynamoDB API Reference, "AttributeValue"): an object with one member, which
 -- is named by the kind. A member that is null counts as absent. No list or map stands more than so many levels deep.
-use Rattle.std.specs.Prelude.{◌≡◌, ℕ, suc, ◌<◌, ℤ, Bool, true, if◌then◌else◌, List, [], ◌∷◌, codes, length, Some, Ok, ⊤}
+use Rattle.std.specs.Prelude.{◌≡◌, ℕ, suc, ◌<◌, ℤ, Bool, true, if◌then◌else◌, List, [], ◌∷◌, codes, length, Some, Result, Ok, Err, ◌≢◌, ⊤}
 use Rattle.std.specs.Ordering.{int_cmp}
 use Rattle.std.specs.declared.cmp.Ordering.{Ordering}
 use Rattle.base64.specs.Engines.{standard}
 use Rattle.base64.specs.GeneralPurpose.{decode_of}
 use Rattle.serde_json.specs.Data.{Data, null, boolean, number, string, array, object, Items, no_items, item, Members, no_members, member}
+use Rattle.alt_decimal.specs.declared.fault.NumberFault.{NumberFault}
 use Rattle.alt_decimal.specs.NumberText.{ReadsAs}
+use Rattle.alt_value.specs.declared.attr.Attr.{Attr}
 use Rattle.alt_value.specs.Item.{with_pair}
 use Rattle.alt_value.specs.Members.{set_of, text_order}
+use Rattle.alt_value.specs.Stands.{tree_of}
 use Rattle.alt_value.specs.Tree.{Tree, S_tree, N_tree, B_tree, BOOL_tree, NULL_tree, SS_tree, NS_tree, BS_tree, L_tree, M_tree, Pair, trees_of, fields_of}
+use Rattle.alt_codec.specs.declared.fault.ValueFault.{ValueFault}
+use Rattle.alt_codec.specs.declared.fault.ValueFault.TheVariants as fault
 use Rattle.alt_codec.specs.Reading.{is_null}
 
 -- the members that aren't null
@@ -109,3 +114,15 @@ mutual
 abbrev pub ItemJsonOf : ℕ → Data → List Pair → Type 0
 ItemJsonOf room d i = (ms : Members) × (ps : List Pair) × (d ≡ object ms) × PairsOf room ms ps
     × (i ≡ with_pairs [] ps)
+
+-- ---- numbers, and why a text is none
+
+-- an object sends a number as that text
+abbrev pub SendsNumber : Data → List ℕ → Type 0
+SendsNumber d text = (ms : Members) × (d ≡ object ms) × IsOnly ms (codes "N") (string text)
+
+-- The answer to that text, by the grammar of number texts: the number that it denotes, or else why it stands for none.
+abbrev pub AnswersNumber : List ℕ → Result Attr ValueFault → Type 0
+AnswersNumber text (Ok a) = (z : ℤ) × (tree_of a ≡ N_tree z) × ReadsAs text (Ok z)
+AnswersNumber text (Err f) =
+    f ≢ fault.NoMemory → (n : NumberFault) × (f ≡ fault.BadNumber n) × ReadsAs text (Err n)

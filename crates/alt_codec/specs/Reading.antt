@@ -68,6 +68,7 @@ abbrev mutual
   only_member room no_members = Err fault.NotOneMember
   only_member room (member name d ms) = first_member (only_member room ms) (all_null ms) room name d
 
+  -- the answer by the first member, from that of the others, and whether those are all null
   pub first_member : Answer → Bool → ℕ → List ℕ → Data → Answer
   first_member others alone room name null = others
   first_member others alone room name (boolean b) =
@@ -88,6 +89,7 @@ abbrev mutual
       (if_room room (map_ok (λ ps. M_tree (fields_of ps)) (fields_in (room - 1) [] ms)))
       (flat_in name (object ms)) else Err fault.NotOneMember
 
+  -- the elements of a list, each with the value that it stands for
   pub elements_in : ℕ → Items → Result (List Tree) ValueFault
   elements_in room no_items = Ok []
   elements_in room (item d ds) = and_then (λ t. map_ok (λ ts. t ∷ ts) (elements_in room ds))

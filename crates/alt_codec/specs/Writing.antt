@@ -29,10 +29,12 @@ abbrev mutual
   json_of (L_tree ts) = of_kind (codes "L") (array (json_items ts))
   json_of (M_tree fs) = of_kind (codes "M") (object (json_members fs))
 
+  -- the elements of a list, each as its value is written
   pub json_items : Trees → Items
   json_items no_trees = no_items
   json_items (tree_then t ts) = item (json_of t) (json_items ts)
 
+  -- the names of a map, each with its value as that is written
   pub json_members : Fields → Members
   json_members no_fields = no_members
   json_members (field_then name t fs) = member name (json_of t) (json_members fs)

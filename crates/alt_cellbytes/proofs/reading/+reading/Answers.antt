@@ -1,5 +1,5 @@
 -- An element or an entry more; a list or a map that is whole; and where one stops.
-use Rattle.std.proofs.Common.{◌-◌, refl, ap, subst, ◌∙◌, List, ℕ, ◌∷◌, ◌++◌, rules, arith}
+use Rattle.std.proofs.Common.{◌-◌, refl, sym, ap, subst, ◌∙◌, List, ℕ, ◌∷◌, ◌++◌, length, get_or, rules, arith}
 use Rattle.std.specs.List.{flat_map}
 use Rattle.std.proofs.lemmas.Result.{err_from_is_err_and, IfErr-weaker}
 use Rattle.alt_value.specs.Item.{with_pair}
@@ -8,6 +8,7 @@ use Rattle.alt_value.specs.Tree.{Tree}
 use Rattle.alt_cellbytes.specs.Places.{Stops, TooDeep, StopsHere, no_count, entry_bytes}
 use Rattle.alt_cellbytes.proofs.Kept.{stop_into, both_map, kind_is}
 use Rattle.alt_cellbytes.proofs.Deep.{elements_within, fields_within}
+use Rattle.alt_cellbytes.proofs.DeepFirst.{deep_kind, other_kind, list_deeper, map_deeper, list_uncounted, map_uncounted, elements_ahead, entries_ahead, ahead_stop, name_stop, behind_name, never_ok}
 use Rattle.alt_cellbytes.proofs.OneMore.{entry_more, entry_shallow, name_length}
 use Rattle.alt_cellbytes.proofs.Stopped.{stops_here, list_stops, map_stops, list_deep, map_deep}
 use Rattle.alt_cellbytes.proofs.Wholes.{list_whole, map_whole, head_tail}
@@ -103,3 +104,91 @@ take_value-returns-in_default-clause-stop t c =
     (subst (λ bytes. StopsHere bytes n) (head_tail c.args.bytes.now c.in-len1-up.len_at_least) k))
     h)
     c.take_flat.ensures.stop
+
+-- ---- nothing is read past the first list or map that is too deep
+
+pub take_elements-returns-in-Err-clause-deep : goal.take_elements-returns-in-Err-clause-deep
+take_elements-returns-in-Err-clause-deep t c = λ left non.
+    let a = elements_ahead c.args.most c.loop-done.list c.args.count c.args.bytes.now
+    c.loop-done.rest.now left c.loop-done.invariant.members c.loop-done.invariant.shallow
+    c.loop-done.invariant.bytes non in
+    ahead_stop c.args.most left c.loop-done.rest.now c.in-Err.stop a.1 c.in-Err.ensures.stop
+    c.in-Err.ensures.deep
+
+pub take_elements-returns-clause-deep : goal.take_elements-returns-clause-deep
+take_elements-returns-clause-deep t c = λ left non.
+    let a = elements_ahead c.args.most c.loop-done.list c.args.count c.args.bytes.now
+    c.loop-done.rest.now left c.loop-done.invariant.members c.loop-done.invariant.shallow
+    c.loop-done.invariant.bytes non in
+    never_ok (length c.loop-done.list) c.args.count a.0 (search rules)
+
+pub take_entries-returns-in_err-name-clause-deep :
+    goal.take_entries-returns-in_err-name-clause-deep
+take_entries-returns-in_err-name-clause-deep t c = λ left non.
+    let a = entries_ahead c.args.most c.loop-done.map c.args.count c.args.bytes.now
+    c.loop-done.rest.now left c.loop-done.invariant.members c.loop-done.invariant.shallow
+    c.loop-done.invariant.bytes non in
+    let p = err_from_is_err_and c.from_residual.result c.from_residual.ensures.1 in
+    rw (p.1, p.2) (name_stop c.args.most c.loop-done.map c.loop-done.rest.now left
+    c.in_err-name.field-0.0 a.1 c.in_err-name.ensures.stop)
+
+pub take_entries-returns-in-Err-clause-deep : goal.take_entries-returns-in-Err-clause-deep
+take_entries-returns-in-Err-clause-deep t c = λ left non.
+    let a = entries_ahead c.args.most c.loop-done.map c.args.count c.args.bytes.now
+    c.loop-done.rest.now left c.loop-done.invariant.members c.loop-done.invariant.shallow
+    c.loop-done.invariant.bytes non in
+    let b = behind_name c.args.most c.loop-done.map c.loop-done.rest.now c.in_ok-name.name.now
+    c.in_ok-name.behind.now left a.1 c.in_ok-name.ensures.name.0 c.in_ok-name.ensures.name.2 in
+    ahead_stop c.args.most left c.in_ok-name.behind.now c.in-Err.stop b c.in-Err.ensures.stop
+    c.in-Err.ensures.deep
+
+pub take_entries-returns-clause-deep : goal.take_entries-returns-clause-deep
+take_entries-returns-clause-deep t c = λ left non.
+    let a = entries_ahead c.args.most c.loop-done.map c.args.count c.args.bytes.now
+    c.loop-done.rest.now left c.loop-done.invariant.members c.loop-done.invariant.shallow
+    c.loop-done.invariant.bytes non in
+    never_ok (length c.loop-done.map) c.args.count a.0 (search rules)
+
+pub take_list-returns-in_err-count-clause-deep : goal.take_list-returns-in_err-count-clause-deep
+take_list-returns-in_err-count-clause-deep t c = λ left s.
+    let p = err_from_is_err_and c.from_residual.result c.from_residual.ensures.1 in
+    rw (p.1, p.2) (list_uncounted c.args.most c.args.bytes.now left c.in_err-count.field-0.0
+    c.requires s c.in_err-count.ensures.stop)
+
+pub take_list-returns-in-Ok-clause-deep : goal.take_list-returns-in-Ok-clause-deep
+take_list-returns-in-Ok-clause-deep t c = λ left s.
+    c.in-Ok.ensures.deep left (list_deeper c.args.most c.in_ok-count.count c.args.bytes.now
+    c.in_ok-count.rest.now left c.requires c.in_ok-count.ensures.count.0
+    c.in_ok-count.ensures.count.1 s)
+
+pub take_list-returns-in-Err-clause-deep : goal.take_list-returns-in-Err-clause-deep
+take_list-returns-in-Err-clause-deep t c = λ left s.
+    c.in-Err.ensures.deep left (list_deeper c.args.most c.in_ok-count.count c.args.bytes.now
+    c.in_ok-count.rest.now left c.requires c.in_ok-count.ensures.count.0
+    c.in_ok-count.ensures.count.1 s)
+
+pub take_map-returns-in_err-count-clause-deep : goal.take_map-returns-in_err-count-clause-deep
+take_map-returns-in_err-count-clause-deep t c = λ left s.
+    let p = err_from_is_err_and c.from_residual.result c.from_residual.ensures.1 in
+    rw (p.1, p.2) (map_uncounted c.args.most c.args.bytes.now left c.in_err-count.field-0.0
+    c.requires s c.in_err-count.ensures.stop)
+
+pub take_map-returns-in-Ok-clause-deep : goal.take_map-returns-in-Ok-clause-deep
+take_map-returns-in-Ok-clause-deep t c = λ left s.
+    c.in-Ok.ensures.deep left (map_deeper c.args.most c.in_ok-count.count c.args.bytes.now
+    c.in_ok-count.rest.now left c.requires c.in_ok-count.ensures.count.0
+    c.in_ok-count.ensures.count.1 s)
+
+pub take_map-returns-in-Err-clause-deep : goal.take_map-returns-in-Err-clause-deep
+take_map-returns-in-Err-clause-deep t c = λ left s.
+    c.in-Err.ensures.deep left (map_deeper c.args.most c.in_ok-count.count c.args.bytes.now
+    c.in_ok-count.rest.now left c.requires c.in_ok-count.ensures.count.0
+    c.in_ok-count.ensures.count.1 s)
+
+pub take_value-returns-in_default-clause-deep : goal.take_value-returns-in_default-clause-deep
+take_value-returns-in_default-clause-deep t c = λ left s.
+    absurd (other_kind (get_or c.args.bytes.now 0 0)
+    (deep_kind c.args.most (get_or c.args.bytes.now 0 0) _ left
+    (subst (λ bytes. TooDeep c.args.most bytes left)
+    (sym (head_tail c.args.bytes.now c.in-len1-up.len_at_least)) s))
+    (search rules))

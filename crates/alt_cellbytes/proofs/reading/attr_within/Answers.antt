@@ -3,9 +3,10 @@ use Rattle.std.proofs.Common.{◌-◌, [], inl, inr, refl, sym, ◌∙◌, lengt
 use Rattle.std.proofs.lemmas.List.{append-nil}
 use Rattle.alt_value.specs.CellBytes.{cell_bytes}
 use Rattle.alt_value.specs.Stands.{tree_of}
+use Rattle.alt_cellbytes.proofs.DeepFirst.{left_shallow, deep_least}
 use Rattle.alt_cellbytes.proofs.Stopped.{deep-refuted}
 use Rattle.alt_cellbytes.proofs.WholeValues.{whole_has, full_of}
-use Rattle.alt_cellbytes.proofs.Wholes.{one_place, same_read, nothing_left, zero_from, some_from, stop_place, behind_place, deep_place}
+use Rattle.alt_cellbytes.proofs.Wholes.{one_place, same_read, nothing_left, zero_from, some_from, stop_place, behind_place, deep_place, first_place}
 use Rattle.alt_cellbytes.proofs.reading.attr_within.Goals as goal
 
 pub returns-then-is_empty-clause-value : goal.returns-then-is_empty-clause-value
@@ -73,3 +74,23 @@ returns-in-Err-Deep-clause-none c = λ at f t w d e.
     deep-refuted c.args.most c.args.bytes.now c.in-Err-Deep.left (search rules) t []
     (whole_has t w) d
     (e ∙ sym (append-nil (cell_bytes t)))
+
+pub returns-then-is_empty-clause-deep : goal.returns-then-is_empty-clause-deep
+returns-then-is_empty-clause-deep c = λ at d. absurd (c.in-Ok.ensures.deep d.0 d.1)
+
+pub returns-else-is_empty-clause-deep : goal.returns-else-is_empty-clause-deep
+returns-else-is_empty-clause-deep c = λ at d. absurd (c.in-Ok.ensures.deep d.0 d.1)
+
+pub returns-in-Err-Left-clause-deep : goal.returns-in-Err-Left-clause-deep
+returns-in-Err-Left-clause-deep c = λ at d.
+    absurd (left_shallow c.in-Err-Left.left d.0 c.in-Err-Left.field-0 (search rules)
+    (c.in-Err-Left.ensures.deep d.0 d.1))
+
+pub returns-in-Err-Deep-clause-deep : goal.returns-in-Err-Deep-clause-deep
+returns-in-Err-Deep-clause-deep c = λ at d. inr (
+  length c.args.bytes.now - c.in-Err-Deep.left,
+  refl,
+  first_place c.args.most c.args.bytes.now c.in-Err-Deep.left _ (search rules)
+      (λ n s. deep_least c.in-Err-Deep.left n c.in-Err-Deep.field-0 (search rules)
+      (c.in-Err-Deep.ensures.deep n s)) refl,
+)

@@ -32,7 +32,8 @@ put_each_element-put_value-requires t c = (
   tt,
 )
 
-pub put_each_element-returns-in_err-put_value-clause-begun : goal.put_each_element-returns-in_err-put_value-clause-begun
+pub put_each_element-returns-in_err-put_value-clause-begun :
+    goal.put_each_element-returns-in_err-put_value-clause-begun
 put_each_element-returns-in_err-put_value-clause-begun t c =
     on_err_holds c.from_residual.result (begins c.args.out.now.items _ c.loop-place.out.items
     c.put_value.new.out.items c.loop-place.invariant c.in_err-put_value.ensures.begun)
@@ -44,12 +45,14 @@ put_each_element-loop-place-preserved t c =
     c.put_value.new.out.items
     c.loop-place.invariant c.in-Some.ensures.element c.in_ok-put_value.ensures.appended
 
-pub put_each_element-returns-in_default-clause-appended : goal.put_each_element-returns-in_default-clause-appended
+pub put_each_element-returns-in_default-clause-appended :
+    goal.put_each_element-returns-in_default-clause-appended
 put_each_element-returns-in_default-clause-appended t c =
     wrote_whole cell_bytes c.args.list.now c.loop-place.place c.args.out.now.items
     c.loop-place.out.items c.loop-place.invariant c.in_default.ensures.element
 
-pub put_each_entry-returns-in_err-put_bytes-clause-begun : goal.put_each_entry-returns-in_err-put_bytes-clause-begun
+pub put_each_entry-returns-in_err-put_bytes-clause-begun :
+    goal.put_each_entry-returns-in_err-put_bytes-clause-begun
 put_each_entry-returns-in_err-put_bytes-clause-begun t c =
     on_err_holds c.from_residual.result (begins c.args.out.now.items _ c.loop-place.out.items
     c.put_bytes.new.out.items c.loop-place.invariant c.in_err-put_bytes.ensures.err)
@@ -65,7 +68,8 @@ put_each_entry-put_value-requires t c = (
   tt,
 )
 
-pub put_each_entry-returns-in_err-put_value-clause-begun : goal.put_each_entry-returns-in_err-put_value-clause-begun
+pub put_each_entry-returns-in_err-put_value-clause-begun :
+    goal.put_each_entry-returns-in_err-put_value-clause-begun
 put_each_entry-returns-in_err-put_value-clause-begun t c =
     on_err_holds c.from_residual-in_err-put_value.result
     (begins c.args.out.now.items _ c.loop-place.out.items c.put_value.new.out.items
@@ -84,7 +88,8 @@ put_each_entry-loop-place-preserved t c =
     (c.in_ok-put_bytes.ensures.ok ∙ ap (λ s. c.loop-place.out.items ++ field s)
     c.as_bytes.ensures.value) c.in_ok-put_value.ensures.appended)
 
-pub put_each_entry-returns-in_default-clause-appended : goal.put_each_entry-returns-in_default-clause-appended
+pub put_each_entry-returns-in_default-clause-appended :
+    goal.put_each_entry-returns-in_default-clause-appended
 put_each_entry-returns-in_default-clause-appended t c =
     wrote_whole entry_bytes c.args.map.now c.loop-place.place c.args.out.now.items
     c.loop-place.out.items c.loop-place.invariant c.in_default.ensures.pair

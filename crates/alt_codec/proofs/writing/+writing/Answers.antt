@@ -119,7 +119,8 @@ json_of_value-returns-in_ok-json_of_byte_strings-in-Bs-clause-read_back t c =
     when_ok c.args.a.now (Bs c.in-Bs.set) _ c.in-Bs.is
     c.in_ok-json_of_byte_strings-in-Bs.ensures.read_back
 
-pub json_of_value-returns-in_ok-json_of_elements-in-L-clause-read_back : goal.json_of_value-returns-in_ok-json_of_elements-in-L-clause-read_back
+pub json_of_value-returns-in_ok-json_of_elements-in-L-clause-read_back :
+    goal.json_of_value-returns-in_ok-json_of_elements-in-L-clause-read_back
 json_of_value-returns-in_ok-json_of_elements-in-L-clause-read_back t c =
     when_ok c.args.a.now (L c.in-L.list) _ c.in-L.is
     (list_returns c.in-L.list c.in_ok-json_of_elements-in-L.ensures.read_back)

@@ -21,6 +21,7 @@ pub u64_taken : (bytes : List ℕ) (n : ℕ) → n < 2 ^ 64 → StandsAt bytes 0
 u64_taken bytes n h stands =
     ap read_u64 (front bytes (to_be_bytes w64 n) stands) ∙ u64_read n (drop 8 bytes) h
 
+-- the same of 4 bytes
 pub u32_taken : (bytes : List ℕ) (n : ℕ) → n < 2 ^ 32 → StandsAt bytes 0 (to_be_bytes w32 n)
     → read_u32 bytes ≡ got n (drop 4 bytes)
 u32_taken bytes n h stands =
@@ -41,12 +42,14 @@ field_taken bytes content h stands =
 fewer : (m n : ℕ) → n < m → nat_le m n ≡ false
 fewer m n h = grind (arith, nat_tests)
 
+-- fewer than 8 bytes give no number
 pub u64_short : (bytes : List ℕ) → length bytes < 8 → read_u64 bytes ≡ stops 0
 unfolding read_u64
 u64_short bytes h =
     ap (λ b. cond b (got (from_be_bytes w64 (take 8 bytes)) (drop 8 bytes)) (stops 0))
     (fewer 8 (length bytes) h)
 
+-- the same of 4 bytes
 pub u32_short : (bytes : List ℕ) → length bytes < 4 → read_u32 bytes ≡ stops 0
 unfolding read_u32
 u32_short bytes h =
@@ -59,6 +62,7 @@ unfolding read_bytes
 content_short n bytes h =
     ap (λ b. cond b (got (take n bytes) (drop n bytes)) (stops 0)) (fewer n (length bytes) h)
 
+-- fewer bytes than a field has give none
 pub field_short : (bytes : List ℕ) → length bytes < 8 + told_length bytes 0
     → read_field bytes ≡ stops 0
 unfolding read_field read_u64
@@ -74,28 +78,33 @@ field_short bytes h =
 
 -- ---- as the calls answer
 
+-- a number that was taken ends within the bytes
 pub u64_within : (bytes : List ℕ) (n end : ℕ) → StandsAt bytes 0 (to_be_bytes w64 n) → end ≡ 0 + 8
     → end ≤ length bytes
 u64_within bytes n end stands e =
     omega (arith, e, stands_within bytes (to_be_bytes w64 n) 0 8 stands refl (omega arith))
 
+-- a number that was taken is read, with what is behind it
 pub u64_part : (bytes : List ℕ) (n end : ℕ) (rest : List ℕ) → n < 2 ^ 64
     → StandsAt bytes 0 (to_be_bytes w64 n) → end ≡ 0 + 8 → rest ≡ drop end bytes
     → read_u64 bytes ≡ got n rest
 u64_part bytes n end rest h stands e back =
     u64_taken bytes n h stands ∙ (λ j. got n (drop (sym e j) bytes)) ∙ ap (got n) (sym back)
 
+-- the same of 4 bytes: it ends within them
 pub u32_within : (bytes : List ℕ) (n end : ℕ) → StandsAt bytes 0 (to_be_bytes w32 n) → end ≡ 0 + 4
     → end ≤ length bytes
 u32_within bytes n end stands e =
     omega (arith, e, stands_within bytes (to_be_bytes w32 n) 0 4 stands refl (omega arith))
 
+-- and is read
 pub u32_part : (bytes : List ℕ) (n end : ℕ) (rest : List ℕ) → n < 2 ^ 32
     → StandsAt bytes 0 (to_be_bytes w32 n) → end ≡ 0 + 4 → rest ≡ drop end bytes
     → read_u32 bytes ≡ got n rest
 u32_part bytes n end rest h stands e back =
     u32_taken bytes n h stands ∙ (λ j. got n (drop (sym e j) bytes)) ∙ ap (got n) (sym back)
 
+-- a field that was taken is read, with what is behind it
 pub field_part : (bytes content : List ℕ) (end : ℕ) (rest : List ℕ) → length content < 2 ^ 64
     → StandsAt bytes 0 (field content) → end ≡ 0 + 8 + length content → rest ≡ drop end bytes
     → read_field bytes ≡ got content rest

@@ -4,6 +4,7 @@ use Rattle.std.proofs.lemmas.List.{append-nil}
 use Rattle.std.specs.Fmt.{styled_decimal, format_spec, padded_integral, char_count}
 use Rattle.alt_schema.specs.Json.{label}
 
+-- what is written so is the label of the number
 pub label_written : (n : ℕ) → styled_decimal (format_spec 32 0 4 21 18446744073709551615) n
     ≡ label n
 unfolding label padded_integral char_count

@@ -16,4 +16,3 @@ pub mod WholeLists
 pub mod WholeDescriptions
 pub mod Steady
 pub mod Stopped
-pub mod Elements

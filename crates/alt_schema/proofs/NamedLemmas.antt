@@ -46,6 +46,7 @@ pub none_of : {A : Type 0} (o : Option A) (fresh : Bool) → fresh ≡ not (is_s
 none_of None fresh e t = refl
 none_of (Some x) fresh e t = absurd (let wrong : ⊥ = cc in wrong)
 
+-- and finds one, where it isn't
 pub some_of : {A : Type 0} (o : Option A) (fresh : Bool) → fresh ≡ not (is_some o) → fresh ≡ false
     → is_some o ≡ true
 some_of None fresh e t = absurd (let wrong : ⊥ = cc in wrong)

@@ -223,12 +223,15 @@ module _ (b : Stated) (taken : refused_for b ≡ None) where
       && list_all (λ i. is_projection i.projects i.includes) (stated_indexes b)))) ≡ true
   fit' = right (nat_le (length b.locals) most_locals) _ fit
 
+  -- there are at most 5 local indexes
   pub few_locals : length b.locals ≤ 5
   few_locals = at_most _ _ (left (nat_le (length b.locals) most_locals) _ fit)
 
+  -- and at most 20 global ones
   pub few_globals : length b.globals ≤ 20
   few_globals = at_most _ _ (left (nat_le (length b.globals) most_globals) _ fit')
 
+  -- no two indexes have one name
   names : all_differ (λ i. i.name) (stated_indexes b) ≡ true
   names = left (all_differ (λ i. i.name) (stated_indexes b)) _
       (right (nat_le (length b.globals) most_globals) _ fit')
@@ -240,6 +243,7 @@ module _ (b : Stated) (taken : refused_for b ≡ None) where
       sym (list_all-append (λ i. test i.keys) b.locals b.globals)
       ∙ right (test b.keys) (list_all (λ i. test i.keys) (stated_indexes b)) h
 
+  -- what such a body describes is a description as it is made
   pub new_description : (moment number family : ℕ) → IsNew (described_by b moment number family)
   unfolding described_by
   new_description moment number family = record {

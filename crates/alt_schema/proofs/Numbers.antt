@@ -12,6 +12,7 @@ in_both (Some i) n r = Some i
 in_both None n r = option_map (λ i. n + i) r
 
 module _ {X : Type 0} (p : X → Bool) where
+  -- a place in a list, with one more in front
   later : (a n : ℕ) → cond (nat_lt (1 + a) (suc n)) (Some (1 + a)) None
       ≡ option_map suc (cond (nat_lt a n) (Some a) None)
   later a n = grind (arith, nat_tests, common_steps)
@@ -32,6 +33,7 @@ module _ {X : Type 0} (p : X → Bool) where
   shifted None (Some j) n = ap Some (omega arith)
   shifted None None n = refl
 
+  -- the place in two lists, one behind the other
   pub position-append : (xs ys : List X) → position p (xs ++ ys)
       ≡ in_both (position p xs) (length xs) (position p ys)
   position-append [] ys = elim (position p ys) as (λ r. r ≡ option_map (λ i. 0 + i) r)

@@ -1,14 +1,9 @@
 -- Bytes put one piece behind another.
 use Rattle.std.proofs.Common.{◌≡◌, ℕ, suc, ◌+◌, ◌<◌, List, ◌∷◌, ◌++◌, length, drop, get_or, add-one, Result, Ok, Err, OnErr, ap, sym, ◌∙◌, append_assoc}
 use Rattle.std.proofs.Math.Seq.{drop-cons}
-use Rattle.alt_base.specs.Prefix.{IsPrefix}
 use Rattle.alt_schema.specs.Format.{each}
 
 module _ {A : Type 0} where
-  -- what begins with a list that begins with another begins with that one
-  pub prefix_trans : (a b c : List A) → IsPrefix a b → IsPrefix b c → IsPrefix a c
-  prefix_trans a b c p q = (p.0 ++ q.0, q.1 ∙ ap (λ xs. xs ++ q.0) p.1 ∙ append_assoc a p.0 q.0)
-
   -- two pieces behind a list
   pub two_pieces : (out one two a b : List A) → one ≡ out ++ a → two ≡ one ++ b → two ≡ out
       ++ (a ++ b)
@@ -31,11 +26,6 @@ module _ {A : Type 0} where
       two_pieces out one six a (b ++ (c ++ (d ++ (e ++ f)))) p
       (two_pieces one two six b (c ++ (d ++ (e ++ f))) q
       (four_pieces two three four five six c d e f r s t u))
-
--- what holds, holds on an error
-pub on_err_holds : {T E P : Type 0} (r : Result T E) → P → OnErr r P
-on_err_holds (Ok x) p = tt
-on_err_holds (Err e) p = p
 
 -- what follows from it, too
 pub on_err_map : {T E P Q : Type 0} (r : Result T E) → (P → Q) → OnErr r P → OnErr r Q

@@ -1,22 +1,24 @@
 -- Reading looks at what it reads alone: what is behind doesn't matter, and where it stops, no more
 -- bytes help.
-use Rattle.std.proofs.Common.{◌≡◌, refl, sym, ap, subst, ◌∙◌, ℕ, zero, suc, ◌+◌, ◌-◌, ◌<◌, Bool, true, false, cond, ◌&&◌, ◌==◌, nat_le, if◌then◌else◌, List, [], ◌∷◌, ◌++◌, length, take, drop, Option, Some, None, arith, append_assoc, length-append}
+use Rattle.std.proofs.Common.{◌≡◌, refl, sym, ap, subst, ◌∙◌, ℕ, zero, suc, ◌+◌, ◌-◌, ◌<◌, ◌⊎◌, inl, inr, Bool, true, false, cond, ◌&&◌, ◌==◌, nat_le, if◌then◌else◌, List, [], ◌∷◌, ◌++◌, length, take, drop, Option, Some, None, arith, append_assoc, length-append}
 use Rattle.std.specs.Int.{w32, w64, from_be_bytes}
 use Rattle.std.specs.List.{find}
 use Rattle.std.specs.Option.{option_map_or}
 use Rattle.std.specs.Str.{is_utf8}
-use Rattle.std.proofs.lemmas.List.{append-nil, take-append-drop, length-take-le, take_at, drop_at}
+use Rattle.std.proofs.lemmas.List.{append-nil, take-append-drop, length-take-le, length-drop, take_at, drop_at}
+use Rattle.alt_fields.specs.Field.{told_length}
 use Rattle.alt_schema.specs.Described.{key_attr, IsDescription}
 use Rattle.alt_schema.specs.Format.{kind_byte, view_byte, description_bytes, truth_byte, projection_byte}
 use Rattle.alt_schema.specs.Held.{IsHeld}
 use Rattle.alt_schema.specs.Parts.{Read, got, stops, followed_by, read_bytes, read_u64, read_u32, read_field, read_name, any_name, read_byte, read_more, read_counted, kinds, read_definition, read_key, truths, read_range, projections, read_included, read_projection, read_index, views, read_stream, read_head, read_keyed, read_description, left_of, StopsAt}
+use Rattle.alt_schema.specs.Places.{NoFurther}
 use Rattle.alt_schema.specs.Rules.{is_defined}
 use Rattle.alt_schema.specs.declared.schema.KeyAttr.{KeyAttr}
 use Rattle.alt_schema.specs.declared.schema.Projection.{Projection}
 use Rattle.alt_schema.specs.declared.schema.Projection.TheVariants.{All, KeysOnly, Include}
 use Rattle.alt_schema.specs.declared.schema.View.{View}
 use Rattle.alt_schema.specs.declared.schema.TableSchema.{TableSchema}
-use Rattle.alt_schema.proofs.Wholes.{got_value, got_rest, no_stop, both_got, within, passes, le_true, some_got}
+use Rattle.alt_schema.proofs.Wholes.{got_value, got_rest, no_stop, both_got, within, passes, le_true, bytes_got, some_got}
 use Rattle.alt_schema.proofs.WholeDescriptions.{description_read}
 
 -- bytes that give a value: a piece of theirs does, whatever follows
@@ -26,14 +28,23 @@ pub record Gives {A : Type 0} (R : List ℕ → Read A) (bytes : List ℕ) (v : 
   pub is : bytes ≡ piece ++ rest
   pub alone : (z : List ℕ) → R (piece ++ z) ≡ got v z
 
--- bytes that stop: those before the place are cut off, and if there are others, no more bytes help
+-- a piece at the front of those behind, a byte or a whole field, with which reading stops at it,
+-- whatever follows
+pub record Wrong {A : Type 0} (R : List ℕ → Read A) (front back : List ℕ) : Type 0 where
+  pub piece : List ℕ
+  pub behind : List ℕ
+  pub is : back ≡ piece ++ behind
+  pub whole : (length piece ≡ 1) ⊎ (length piece ≡ 8 + told_length back 0)
+  pub alone : (z : List ℕ) → R (front ++ (piece ++ z)) ≡ stops (length (piece ++ z))
+
+-- bytes that stop: those before the place are cut off, and if there are others, a wrong piece stands there
 pub record Halts {A : Type 0} (R : List ℕ → Read A) (bytes : List ℕ) (n : ℕ) : Type 0 where
   pub front : List ℕ
   pub back : List ℕ
   pub is : bytes ≡ front ++ back
   pub left : length back ≡ n
   pub cut : R front ≡ stops 0
-  pub no_more : 0 < n → (z : List ℕ) → R (bytes ++ z) ≡ stops (n + length z)
+  pub wrong : 0 < n → Wrong R front back
 
 -- reading looks at what it reads alone
 pub record Steady {A : Type 0} (R : List ℕ → Read A) : Type 0 where
@@ -90,7 +101,15 @@ module _ {A B : Type 0} (next : A → List ℕ → Read B) (R : List ℕ → Rea
         is = h.is;
         left = h.left;
         cut = ap (followed_by next) h.cut;
-        no_more = λ some z. ap (followed_by next) (h.no_more some z);
+        wrong = λ some.
+            let w = h.wrong some in
+            record {
+              piece = w.piece;
+              behind = w.behind;
+              is = w.is;
+              whole = w.whole;
+              alone = λ z. ap (followed_by next) (w.alone z);
+            };
       }
 
   halts_second : (bytes : List ℕ) (x : A) (mid : List ℕ) (n : ℕ) → R bytes ≡ got x mid → next x mid
@@ -104,9 +123,17 @@ module _ {A B : Type 0} (next : A → List ℕ → Read B) (R : List ℕ → Rea
         is = p.is ∙ ap (λ m. p.piece ++ m) h.is ∙ sym (append_assoc p.piece h.front h.back);
         left = h.left;
         cut = ap (followed_by next) (p.alone h.front) ∙ h.cut;
-        no_more = λ some z. ap (λ m. followed_by next (R m))
-            (ap (λ m. m ++ z) p.is ∙ append_assoc p.piece mid z)
-            ∙ ap (followed_by next) (p.alone (mid ++ z)) ∙ h.no_more some z;
+        wrong = λ some.
+            let w = h.wrong some in
+            record {
+              piece = w.piece;
+              behind = w.behind;
+              is = w.is;
+              whole = w.whole;
+              alone = λ z. ap (λ m. followed_by next (R m))
+                  (append_assoc p.piece h.front (w.piece ++ z))
+                  ∙ ap (followed_by next) (p.alone (h.front ++ (w.piece ++ z))) ∙ w.alone z;
+            };
       }
 
   halts_both : (bytes : List ℕ) (r : Read A) (n : ℕ) → R bytes ≡ r → followed_by next r ≡ stops n
@@ -114,6 +141,7 @@ module _ {A B : Type 0} (next : A → List ℕ → Read B) (R : List ℕ → Rea
   halts_both bytes (got x mid) n e f = halts_second bytes x mid n e f
   halts_both bytes (stops m) n e f = halts_first bytes n (e ∙ ap stops (stop_count m n f))
 
+  -- two parts, one behind the other, are looked at alone too
   pub steady_both : Steady (λ b. followed_by next (R b))
   steady_both = record {
     gives = gives_both;
@@ -141,7 +169,7 @@ halts_at_end R bytes n e z = record {
   is = sym (append-nil bytes);
   left = z;
   cut = e ∙ ap stops (sym z);
-  no_more = λ some w. absurd (omega arith);
+  wrong = λ some. absurd (omega arith);
 }
 
 -- so many bytes, of which a value is made
@@ -184,6 +212,28 @@ content n = fixed n (λ b. b)
 field_steady : Steady read_field
 unfolding read_field
 field_steady = steady_both read_bytes read_u64 u64 content
+
+-- a field that is read has the length that it tells
+field_whole : (bytes x mid : List ℕ) → read_field bytes ≡ got x mid
+    → length bytes ≡ (8 + told_length bytes 0) + length mid
+unfolding read_field read_u64
+field_whole bytes x mid e =
+    let b = both_got read_bytes (read_u64 bytes) x mid e in
+    let w = within 8 (length bytes)
+    (got (from_be_bytes w64 (take 8 bytes)) (drop 8 bytes)) 0 b.x b.mid b.first in
+    let told : told_length bytes 0 ≡ b.x = got_value _ _ _ _ w.1 in
+    let rest : drop 8 bytes ≡ b.mid = got_rest _ _ _ _ w.1 in
+    let c = bytes_got b.x b.mid x mid b.second in
+    omega (
+      arith,
+      told,
+      w.0,
+      ap length rest,
+      length-drop 8 bytes,
+      ap length c.0,
+      length-append x mid,
+      c.1,
+    )
 
 -- a text that isn't taken failed its test
 pub name_fails : (test : List ℕ → Bool) (x mid : List ℕ) (k n : ℕ)
@@ -232,11 +282,18 @@ name_halts test bytes (stops m) n e f =
       left = h.left ∙ same;
       cut = ap (followed_by (λ s q. if is_utf8 s
           && test s then got s q else stops (length h.front))) h.cut;
-      no_more = λ some z.
-          ap (followed_by (λ s q. if is_utf8 s
-          && test s then got s q else stops (length (bytes ++ z))))
-          (h.no_more (subst (λ k. 0 < k) (sym same) some) z)
-          ∙ ap (λ k. stops (k + length z)) same;
+      wrong = λ some.
+          let w = h.wrong (subst (λ k. 0 < k) (sym same) some) in
+          record {
+            piece = w.piece;
+            behind = w.behind;
+            is = w.is;
+            whole = w.whole;
+            alone = λ z.
+                ap (followed_by (λ s q. if is_utf8 s
+                && test s then got s q else stops (length (h.front ++ (w.piece ++ z)))))
+                (w.alone z);
+          };
     }
 name_halts test bytes (got x mid) n e f =
     let t = name_fails test x mid (length bytes) n f in
@@ -247,13 +304,21 @@ name_halts test bytes (got x mid) n e f =
       is = refl;
       left = t.1;
       cut = refl;
-      no_more = λ some z.
-          ap (followed_by (λ s q. if is_utf8 s
-          && test s then got s q else stops (length (bytes ++ z))))
-          (ap read_field (ap (λ m. m ++ z) p.is ∙ append_assoc p.piece mid z)
-          ∙ p.alone (mid ++ z))
-          ∙ ap (λ b. cond b (got x (mid ++ z)) (stops (length (bytes ++ z)))) t.0
-          ∙ ap stops (length-append bytes z ∙ ap (λ k. k + length z) t.1);
+      wrong = λ some. record {
+        piece = p.piece;
+        behind = mid;
+        is = p.is;
+        whole = inr (omega (
+          arith,
+          field_whole bytes x mid e,
+          ap length p.is,
+          length-append p.piece mid,
+        ));
+        alone = λ z.
+            ap (followed_by (λ s q. if is_utf8 s
+            && test s then got s q else stops (length (p.piece ++ z)))) (p.alone z)
+            ∙ ap (λ b. cond b (got x z) (stops (length (p.piece ++ z)))) t.0;
+      };
     }
 
 -- texts that pass a test
@@ -300,10 +365,14 @@ byte_halts byte_of values (b ∷ bytes) n e =
       is = refl;
       left = s.1;
       cut = refl;
-      no_more = λ some z.
-          ap (λ o. option_map_or (λ x. got x (bytes ++ z)) o (stops (suc (length (bytes ++ z)))))
-          s.0
-          ∙ ap stops (length-append (b ∷ bytes) z ∙ ap (λ k. k + length z) s.1);
+      wrong = λ some. record {
+        piece = b ∷ [];
+        behind = bytes;
+        is = refl;
+        whole = inl refl;
+        alone =
+            λ z. ap (λ o. option_map_or (λ x. got x z) o (stops (suc (length z)))) s.0;
+      };
     }
 
 -- bytes that stand for some values
@@ -423,11 +492,44 @@ no_description : (bytes z : List ℕ) (s : TableSchema) → IsDescription s → 
 no_description bytes z s d h e =
     ap read_description (sym e ∙ sym (append-nil (description_bytes s))) ∙ description_read s [] d h
 
--- the place is within the bytes, and where bytes stand there, no description begins with them all
+-- the length that is told behind a front
+told_at : (bytes back : List ℕ) (at n : ℕ) → drop at bytes ≡ back
+    → (n ≡ 1) ⊎ (n ≡ 8 + told_length back 0)
+    → (n ≡ 1) ⊎ (n ≡ 8 + told_length bytes at)
+told_at bytes back at n e (inl h) = inl h
+told_at bytes back at n e (inr h) = inr (h ∙ ap (λ b. 8 + told_length b 0) (sym e))
+
+-- a piece behind a front with which no description is read, whatever follows
+none_at : (bytes front piece behind : List ℕ) (at : ℕ) → bytes ≡ front ++ (piece ++ behind)
+    → length front ≡ at → (length piece ≡ 1) ⊎ (length piece ≡ 8 + told_length (piece ++ behind) 0)
+    → ((z : List ℕ) (s : TableSchema) → read_description (front ++ (piece ++ z)) ≡ got s [] → ⊥)
+    → NoFurther bytes at
+none_at bytes front piece behind at e l whole none =
+    let long : length (front ++ piece) ≡ at + length piece
+    = omega (arith, l, length-append front piece) in
+    let both : take (at + length piece) bytes ≡ front ++ piece
+    = ap (take (at + length piece)) (e ∙ sym (append_assoc front piece behind))
+    ∙ take_at (front ++ piece) behind (at + length piece) long in
+    record {
+      size = length piece;
+      piece = told_at bytes (piece ++ behind) at (length piece)
+          (ap (drop at) e ∙ drop_at front (piece ++ behind) at l) whole;
+      within = omega (
+        arith,
+        l,
+        ap length e,
+        length-append front (piece ++ behind),
+        length-append piece behind,
+      );
+      none = λ t z d h f.
+          none z t (ap read_description (sym (append_assoc front piece z))
+          ∙ no_description (front ++ piece) z t d h (f ∙ ap (λ m. m ++ z) both));
+    }
+
+-- the place is within the bytes, and where bytes stand there, the piece there is a wrong one
 pub record FirstPlace (bytes : List ℕ) (at left : ℕ) : Type 0 where
   pub within : at + left ≡ length bytes
-  pub no_further : at < length bytes → (s : TableSchema) (more : List ℕ) → IsDescription s
-      → IsHeld s → description_bytes s ≡ bytes ++ more → ⊥
+  pub no_further : at < length bytes → NoFurther bytes at
 
 -- the place from what was read
 first_from : (bytes : List ℕ) (at left : ℕ) (r : Read TableSchema) → read_description bytes ≡ r
@@ -436,26 +538,27 @@ first_from bytes at left (got s []) e l p = absurd (none_some left l)
 first_from bytes at left (got s (b ∷ rest)) e l p =
     let g = description.gives bytes s (b ∷ rest) e in
     let n : suc (length rest) ≡ left = some_count _ _ l in
+    let long = length-append g.piece (b ∷ rest) in
     record {
-      within = omega (arith, p, n, ap length g.is, length-append g.piece (b ∷ rest));
-      no_further = λ some t z d h f.
-          not_nil b (rest ++ z)
-          (got_rest s t ((b ∷ rest) ++ z) []
-          (sym (ap read_description
-          (ap (λ m. m ++ z) g.is ∙ append_assoc g.piece (b ∷ rest) z)
-          ∙ g.alone ((b ∷ rest) ++ z))
-          ∙ no_description bytes z t d h f));
+      within = omega (arith, p, n, ap length g.is, long);
+      no_further = λ some.
+          none_at bytes g.piece (b ∷ []) rest at g.is (omega (arith, p, n, ap length g.is, long))
+          (inl refl)
+          (λ z t f. not_nil b z (got_rest s t (b ∷ z) [] (sym (g.alone (b ∷ z)) ∙ f)));
     }
 first_from bytes at left (stops m) e l p =
     let h = description.halts bytes m e in
     let n : m ≡ left = some_count m left l in
-    let inside : at + left ≡ length bytes
-    = omega (arith, p, n, h.left, ap length h.is, length-append h.front h.back) in
+    let long = length-append h.front h.back in
+    let inside : at + left ≡ length bytes = omega (arith, p, n, h.left, ap length h.is, long) in
     record {
       within = inside;
-      no_further = λ some t z d k f.
-          no_stop (m + length z) t []
-          (sym (h.no_more (omega (arith, inside, n, some)) z) ∙ no_description bytes z t d k f);
+      no_further = λ some.
+          let w = h.wrong (omega (arith, inside, n, some)) in
+          none_at bytes h.front w.piece w.behind at (h.is ∙ ap (λ m. h.front ++ m) w.is)
+          (omega (arith, inside, n, h.left, ap length h.is, long))
+          (told_at (w.piece ++ w.behind) h.back 0 (length w.piece) (sym w.is) w.whole)
+          (λ z t f. no_stop (length (w.piece ++ z)) t [] (sym (w.alone z) ∙ f));
     }
 
 -- the place that is told

@@ -99,6 +99,7 @@ module _ {A B : Type 0} (bytes_of : A → List ℕ) (Is : A → Type 0) (NoFirst
     (NoNext : A → List ℕ → ℕ → Type 0) (R : List ℕ → Read A) (next : A → List ℕ → Read B)
     (sound : Sound bytes_of Is R) (none : Complete NoFirst R)
     (after : (x : A) → Is x → Complete (NoNext x) (next x)) where
+  -- whichever of the two stops
   one_by_one : (bytes : List ℕ) (r : Read A) (n : ℕ) → Small bytes → R bytes ≡ r
       → followed_by next r ≡ stops n → Unfinished bytes_of Is NoFirst NoNext bytes n
   one_by_one bytes (got x mid) n small e f =
@@ -108,6 +109,7 @@ module _ {A B : Type 0} (bytes_of : A → List ℕ) (Is : A → Type 0) (NoFirst
   one_by_one bytes (stops m) n small e f =
       no_first (none bytes n small (e ∙ ap stops (stop_count m n f)))
 
+  -- where reading two parts stops, the first doesn't stand there, or the next not behind it
   pub unfinished : (bytes : List ℕ) (n : ℕ) → Small bytes → followed_by next (R bytes) ≡ stops n
       → Unfinished bytes_of Is NoFirst NoNext bytes n
   unfinished bytes n small e = one_by_one bytes (R bytes) n small refl e
@@ -130,6 +132,7 @@ module _ {A B C : Type 0} (bytes_of : A → List ℕ) (Is : A → Type 0)
     (next : A → List ℕ → Read B) (k : B → List ℕ → Read C)
     (sound : Sound bytes_of Is R) (none : Complete NoFirst R)
     (after : (x : A) → Is x → Complete (NoNext x) (λ q. followed_by k (next x q))) where
+  -- where reading stops, the same holds
   pub unfinished_in : Complete (Unfinished bytes_of Is NoFirst NoNext)
       (λ b. followed_by k (followed_by next (R b)))
   unfinished_in = λ b n small e.
@@ -209,6 +212,7 @@ module _ {A : Type 0} (bytes_of : A → List ℕ) (P : List A → A → Type 0)
       })
       b n small e
 
+  -- a count and parts that are read stand there, and are right ones
   pub counted_sound : Sound (counted bytes_of) (AllNext P []) (read_counted R)
   counted_sound = λ b xs r small e. counted_got bytes_of P R sound b xs r small e
 
@@ -284,6 +288,7 @@ held_name test bytes s rest small e =
 
 module _ (test : List ℕ → Bool) (Fits : List ℕ → Type 0)
     (passed : (s : List ℕ) → Fits s → test s ≡ true) where
+  -- whatever is read as the field
   text_by : (bytes : List ℕ) (r : Read (List ℕ)) (n : ℕ) → Small bytes → read_field bytes ≡ r
       → followed_by (λ s q. if is_utf8 s && test s then got s q else stops (length bytes)) r
       ≡ stops n
@@ -298,6 +303,7 @@ module _ (test : List ℕ → Bool) (Fits : List ℕ → Type 0)
       (passed x fits)) ∙ t.0))
       (sym t.1)
 
+  -- where no text is read, none stands
   pub text_none : Complete (NoText Fits) (read_name test)
   unfolding read_name
   text_none = λ b n small e. text_by b (read_field b) n small refl e
@@ -314,6 +320,7 @@ any_sound = λ b s r small e. ((name_got any_name b s r small e).0, held_name an
 
 module _ {A : Type 0} (byte_of : A → ℕ) (values : List A)
     (all : (x : A) → is_some (find (λ y. byte_of x == byte_of y) values) ≡ true) where
+  -- where no byte of these is read, none stands
   pub byte_none : Complete (NoByte byte_of) (read_byte byte_of values)
   unfolding read_byte
   byte_none = λ b. elim b as (λ l. (n : ℕ) → Small l → read_byte byte_of values l ≡ stops n
@@ -373,7 +380,8 @@ definition_sound before = λ b d r small e.
       g.0,
       (
         subst (λ (k : KeyAttr). IsHeldText k.name) v
-            (held_name (λ name. not (is_defined before name)) b parts.x parts.mid small parts.first),
+            (held_name (λ name. not (is_defined before name)) b parts.x parts.mid
+            small parts.first),
         g.1,
       ),
     )

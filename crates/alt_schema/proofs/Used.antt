@@ -35,6 +35,7 @@ module _ {A : Type 0} (ok : A → Bool) (uses : List ℕ → A → Bool) where
   pub goes_first : (initial : Kinds) (xs : List A) → Goes initial initial xs 0
   goes_first initial xs = record { well = refl; used = λ name. refl }
 
+  -- those from a place on begin with the one there
   front : (xs : List A) (i : ℕ) (x : A) → i < length xs → x ≡ get_or xs i x
       → drop i xs ≡ x ∷ drop (i + 1) xs
   front xs i x within at =
@@ -70,6 +71,7 @@ module _ {A : Type 0} (ok : A → Bool) (uses : List ℕ → A → Bool) where
       → Goes initial now xs i → true ≡ list_all ok xs
   goes_all initial now xs i end g = sym (g.well ∙ ap (list_all ok) (drop_all i xs end))
 
+  -- so the map has what they all use
   pub goes_used : (initial now : Kinds) (xs : List A) (i : ℕ) → length xs ≤ i
       → Goes initial now xs i → HasMore initial now (λ name. list_any (uses name) xs)
   goes_used initial now xs i end g = λ name.

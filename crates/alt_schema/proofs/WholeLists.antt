@@ -92,11 +92,13 @@ module _ {A : Type 0} (bytes_of : A → List ℕ) (P : List A → A → Type 0)
 
 -- ---- those of which nothing before tells
 
+-- what holds of each holds of each in view of those before
 pub all_next : {A : Type 0} (P : A → Type 0) (xs before : List A) → AllByRecursion P xs
     → AllNext (λ b. P) before xs
 all_next P [] before h = tt
 all_next P (x ∷ xs) before h = (h.0, all_next P xs (before ++ x ∷ []) h.1)
 
+-- and the other way round
 pub next_all : {A : Type 0} (P : A → Type 0) (xs before : List A) → AllNext (λ b. P) before xs
     → AllByRecursion P xs
 next_all P [] before h = tt
@@ -104,9 +106,11 @@ next_all P (x ∷ xs) before h = (h.0, next_all P xs (before ++ x ∷ []) h.1)
 
 -- ---- names that differ
 
+-- a definition whose name no one before has
 abbrev pub HasNewName : List KeyAttr → KeyAttr → Type 0
 HasNewName before d = is_defined before d.name ≡ false
 
+-- where either is false, both are
 either_false : (a b : Bool) → (a || b) ≡ false → (a ≡ false) × (b ≡ false)
 either_false true b h = cc
 either_false false b h = (refl, h)
@@ -131,6 +135,7 @@ differ_more (b ∷ before) d h new =
         (list_any (λ y. bytes_eq y.name b.name) xs) h in
         neither _ _ f.0 (last_other xs b d f.1 e)
 
+-- where each name is new behind those before, all differ
 pub next_differ : (ds before : List KeyAttr) → all_differ (λ k. k.name) before ≡ true
     → AllNext HasNewName before ds → all_differ (λ k. k.name) (before ++ ds) ≡ true
 next_differ [] before h new = ap (all_differ (λ k. k.name)) (append-nil before) ∙ h
@@ -155,6 +160,7 @@ not_before (b ∷ before) d ds h =
         (either_false (bytes_eq x.name b.name)
         (list_any (λ y. bytes_eq y.name b.name) (xs ++ d ∷ ds)) h).1
 
+-- and where all differ, each is new
 pub differ_next : (ds before : List KeyAttr) → all_differ (λ k. k.name) (before ++ ds) ≡ true
     → AllNext HasNewName before ds
 differ_next [] before h = tt

@@ -248,6 +248,7 @@ not_utf8 s wrong =
 -- ---- one part of many
 
 module _ {A : Type 0} (R : List A → List ℕ → Read A) where
+  -- where one of many is read, the rest is read behind it
   pub more_step : (n d : ℕ) (before : List A) (bytes : List ℕ) (x : A) (mid : List ℕ) → d < n
       → R before bytes ≡ got x mid
       → read_more R (n - d) before bytes ≡ read_more R (n - (d + 1)) (before ++ x ∷ []) mid
@@ -257,6 +258,7 @@ module _ {A : Type 0} (R : List A → List ℕ → Read A) where
       ap (λ m. read_more R m before bytes) k
       ∙ ap (followed_by (λ y rest. read_more R (n - (d + 1)) (before ++ y ∷ []) rest)) e
 
+  -- where it isn't, reading many stops there too
   pub more_stop : (n d : ℕ) (before : List A) (bytes : List ℕ) (left : ℕ) → d < n → R before bytes
       ≡ stops left
       → read_more R (n - d) before bytes ≡ stops left
@@ -266,6 +268,7 @@ module _ {A : Type 0} (R : List A → List ℕ → Read A) where
       ap (λ m. read_more R m before bytes) k
       ∙ ap (followed_by (λ y rest. read_more R (n - (d + 1)) (before ++ y ∷ []) rest)) e
 
+  -- where all are read, they are what is read
   pub more_end : (n d : ℕ) (before : List A) (bytes : List ℕ) → n ≤ d
       → read_more R (n - d) before bytes ≡ got before bytes
   unfolding read_more

@@ -5,7 +5,7 @@
 -- Before the place stand whole pieces with which a description begins, and at it no piece that
 -- could be the next one. A piece that the bytes cut off stops at their end, any other where it
 -- begins. A place is told by how many bytes are left from it on.
-use Rattle.std.specs.Prelude.{◌≡◌, ℕ, ◌+◌, ◌<◌, ◌^◌, ◌⊎◌, true, false, List, [], ◌∷◌, ◌++◌, length, Option, None, Some, is_some}
+use Rattle.std.specs.Prelude.{◌≡◌, ℕ, ◌+◌, ◌<◌, ◌≤◌, ◌^◌, ◌⊎◌, true, false, List, [], ◌∷◌, ◌++◌, length, take, Option, None, Some, is_some}
 use Rattle.std.specs.Int.{w32, w64, to_be_bytes}
 use Rattle.std.specs.List.{AllByRecursion}
 use Rattle.std.specs.Str.{IsUtf8}
@@ -174,11 +174,24 @@ NoDescription =
     Unfinished (counted definition_bytes) (AllNext IsNextDefinition [])
     (NoCounted definition_bytes IsNextDefinition NoDefinition) NoKeyed))))))
 
+-- no description begins with these bytes
+abbrev pub NoneBegins : List ℕ → Type 0
+NoneBegins bytes = (s : TableSchema) (more : List ℕ) → IsDescription s → IsHeld s
+    → description_bytes s ≡ bytes ++ more → ⊥
+
+-- A whole piece stands at the place, a byte or a field of the length that it tells, and no description
+-- begins with the bytes up to and with it. So none that begins with the bytes before has it there.
+pub record NoFurther (bytes : List ℕ) (at : ℕ) : Type 0 where
+  pub size : ℕ
+  pub piece : (size ≡ 1) ⊎ (size ≡ 8 + told_length bytes at)
+  pub within : at + size ≤ length bytes
+  pub none : NoneBegins (take (at + size) bytes)
+
 -- The place where bytes are bad: they stop there before a description is whole, or something stands
--- behind one; and where bytes stand at the place, no description begins with all of them.
+-- behind one; and where bytes stand at the place, no description begins with those up to and with
+-- the piece there.
 pub record IsBadAt (bytes : List ℕ) (at : ℕ) : Type 0 where
   pub stops : ((left : ℕ) × NoDescription bytes left × (at + left ≡ length bytes))
       ⊎ ((s : TableSchema) × (behind : List ℕ) × IsDescription s × (0 < length behind)
       × (bytes ≡ description_bytes s ++ behind) × (at ≡ length (description_bytes s)))
-  pub no_further : at < length bytes → (s : TableSchema) (more : List ℕ) → IsDescription s
-      → IsHeld s → description_bytes s ≡ bytes ++ more → ⊥
+  pub no_further : at < length bytes → NoFurther bytes at

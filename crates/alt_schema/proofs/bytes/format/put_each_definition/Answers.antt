@@ -1,5 +1,5 @@
 -- What was there before stays in front.
-use Rattle.alt_schema.proofs.Pieces.{prefix_trans, on_err_holds}
+use Rattle.alt_base.proofs.Prefixes.{prefix_trans, on_err_holds}
 use Rattle.alt_schema.proofs.bytes.format.put_each_definition.Goals as goal
 
 pub returns-in_err-put_definition-clause-begun : goal.returns-in_err-put_definition-clause-begun

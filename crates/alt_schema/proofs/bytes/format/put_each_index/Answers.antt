@@ -1,6 +1,7 @@
 -- One index more; what was there before stays in front.
 use Rattle.alt_schema.specs.Format.{index_bytes}
-use Rattle.alt_schema.proofs.Pieces.{prefix_trans, on_err_holds, one_more}
+use Rattle.alt_base.proofs.Prefixes.{prefix_trans, on_err_holds}
+use Rattle.alt_schema.proofs.Pieces.{one_more}
 use Rattle.alt_schema.proofs.bytes.format.put_each_index.Goals as goal
 
 pub loop-index-preserved : goal.loop-index-preserved

@@ -2,7 +2,8 @@
 use Rattle.std.proofs.Common.{◌∙◌, ◌∷◌, ◌++◌, ap}
 use Rattle.std.proofs.lemmas.Result.{on_ok_weaker}
 use Rattle.alt_schema.specs.Format.{counted, view_byte, stream_bytes, definition_bytes, index_bytes, keys_bytes, head_bytes, description_bytes}
-use Rattle.alt_schema.proofs.Pieces.{six_pieces, prefix_trans, on_err_map}
+use Rattle.alt_base.proofs.Prefixes.{prefix_trans}
+use Rattle.alt_schema.proofs.Pieces.{six_pieces, on_err_map}
 use Rattle.alt_schema.proofs.bytes.format.schema_bytes.Goals as goal
 
 pub returns-clause-appended : goal.returns-clause-appended

@@ -1,6 +1,6 @@
 -- One more, and all.
 use Rattle.alt_schema.specs.Held.{IsHeldText}
-use Rattle.alt_schema.proofs.Elements.{all_more, all_whole}
+use Rattle.alt_base.proofs.Lists.{all_more, all_whole}
 use Rattle.alt_schema.proofs.bytes.holding.definitions_held.Goals as goal
 
 pub loop-definition-preserved : goal.loop-definition-preserved

@@ -1,6 +1,6 @@
 -- One more, and all.
 use Rattle.alt_schema.specs.Held.{IsHeldIndex}
-use Rattle.alt_schema.proofs.Elements.{all_more, all_whole}
+use Rattle.alt_base.proofs.Lists.{all_more, all_whole}
 use Rattle.alt_schema.proofs.bytes.holding.indexes_held.Goals as goal
 
 pub loop-index-preserved : goal.loop-index-preserved

@@ -44,7 +44,7 @@ second_true false b h = absurd (false≢true h)
 -- ---- keys are kept
 
 -- a name is equal to itself
-same_name : (n : List ℕ) → bytes_eq n n ≡ true
+pub same_name : (n : List ℕ) → bytes_eq n n ≡ true
 same_name n = grind (arith, bytes_eq-Decides)
 
 -- one of two tests passes where the second does
@@ -58,11 +58,11 @@ true_or true b h = refl
 true_or false b h = absurd (false≢true h)
 
 -- the HASH and the RANGE attribute are keys
-hash_is_key : (hash : KeyAttr) (range : Option KeyAttr) → is_key hash range hash.name ≡ true
+pub hash_is_key : (hash : KeyAttr) (range : Option KeyAttr) → is_key hash range hash.name ≡ true
 hash_is_key hash range = true_or (bytes_eq hash.name hash.name) _ (same_name hash.name)
 
 -- the RANGE attribute is one beside any HASH attribute
-range_is_key : (hash range : KeyAttr) → is_key hash (Some range) range.name ≡ true
+pub range_is_key : (hash range : KeyAttr) → is_key hash (Some range) range.name ≡ true
 range_is_key hash range = or_true (bytes_eq hash.name range.name) _ (same_name range.name)
 
 -- keys of the index and of its table are projected

@@ -1,5 +1,7 @@
+pub mod Alike
 pub mod Back
 pub mod Batched
+pub mod Beside
 pub mod Columns
 pub mod ItemRowLaws
 pub mod Keeping

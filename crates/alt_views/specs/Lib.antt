@@ -1,4 +1,5 @@
 pub mod Batches
+pub mod Changed
 pub mod IndexRows
 pub mod ItemRows
 pub mod Read

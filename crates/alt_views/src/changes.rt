@@ -1,14 +1,16 @@
 //! The changes of index rows that a write of an item makes.
 
-ghost use Rattle.std.specs.Prelude.{◌≡◌, ◌++◌, ◌∷◌, [], ◌<◌, false, IfOk, OnOk, length, option_map, option_and_then, slice_get, Some, None};
+ghost use Rattle.std.specs.Prelude.{◌≡◌, ◌++◌, ◌∷◌, [], ◌<◌, false, IfOk, OnOk, length, map, option_map, option_and_then, slice_get, Some, None};
 ghost use Rattle.alt_cells.specs.Batches.{has_row};
 ghost use Rattle.alt_cells.specs.Changes.{change_between};
 ghost use Rattle.alt_schema.specs.Indexes.{indexes};
 ghost use Rattle.alt_schema.specs.declared.schema.IndexSchema.{IndexSchema};
 ghost use Rattle.alt_views.specs.Batches.{AreNew, AreOfOwnFamilies};
+ghost use Rattle.alt_views.specs.Changed.{DifferAt};
 ghost use Rattle.alt_views.specs.IndexRows.{changes_in, if_said, index_changes, moved_changes, row_in_index};
 ghost use Rattle.alt_views.specs.Read.{row_at};
 
+use crate::changed::{changed_names, may_change};
 use crate::indexed::{IndexRow, index_row};
 use alt_base::NoMemory;
 use alt_cells::{Batch, RowChange};
@@ -33,22 +35,26 @@ pub fn index_changes(
         (option_map (λ i. i.now) old.entry) (option_map (λ i. i.now) new.entry)) }
 {
     let count = schema.locals.as_slice().len() + schema.globals.as_slice().len();
+    let names = &changed_names(alloc, count, old, new)?;
     for number in 0..count {
-        change_index(alloc, schema, number, old, new, batch)?;
+        change_index(alloc, schema, number, names, old, new, batch)?;
     }
     Ok(())
 }
 
-/// The same for one index.
+/// The same for one index, with the names at which the items differ where these are told. Where it keeps none of them no row is made.
 fn change_index(
     alloc: Global,
     schema: &TableSchema,
     number: usize,
+    names: &Option<Vec<&str>>,
     old: Option<&Item>,
     new: Option<&Item>,
     batch: &mut Batch,
 ) -> Result<(), NoMemory>
     requires there { number < length (indexes schema.now) }
+    requires names { DifferAt (option_map (λ v. map (λ n. n.now) v.items) names.now)
+        (option_map (λ i. i.now) old) (option_map (λ i. i.now) new) }
     requires rows { (i : IndexSchema) → slice_get (indexes schema.now) number ≡ Some i
         → AreNew batch.old
         (changes_in schema.now (option_map (λ i. i.now) old) (option_map (λ i. i.now) new) i) }
@@ -56,7 +62,11 @@ fn change_index(
         → OnOk result (batch.new ≡ batch.old ++ changes_in schema.now
         (option_map (λ i. i.now) old.entry) (option_map (λ i. i.now) new.entry) i) }
 {
-    let family = index_at(schema, number).family;
+    let index = index_at(schema, number);
+    if !may_change(schema, index, names) {
+        return Ok(());
+    }
+    let family = index.family;
     let before = row_of(alloc, schema, number, old)?;
     let after = row_of(alloc, schema, number, new)?;
     change_row(alloc, family, before, after, batch)

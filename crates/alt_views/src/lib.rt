@@ -2,6 +2,7 @@
 //! rows of one item into those of another.
 #![tactic(auto)]
 
+mod changed;
 mod changes;
 mod indexed;
 mod item_row;

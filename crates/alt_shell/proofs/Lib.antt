@@ -2,4 +2,6 @@ pub mod Keeping
 pub mod Telling
 pub mod Ending
 mod Ticking
+mod Leaving
 mod Missing
+mod Sending

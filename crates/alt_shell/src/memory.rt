@@ -337,13 +337,15 @@ impl MemoryShell {
     {
         let (moment, _) = self.disk.counts();
         let told = self.clock.count;
-        if !self.talks.missed(stream) {
-            self.kept.push_spare(Call {
-                moment,
-                told,
-                act: Act::Failed(stream),
-            });
+        if self.talks.missed(stream) {
+            self.talks.miss(stream);
+            return;
         }
+        self.kept.push_spare(Call {
+            moment,
+            told,
+            act: Act::Failed(stream),
+        });
         self.talks.miss(stream);
     }
 

@@ -50,6 +50,7 @@ impl Talks {
             × (pieces_of result.talk.pieces ≡ []) }
         ensures streams { streams_by result ≡ untouched }
         ensures calls { result.calls ≡ 0 }
+        ensures none_fails { (n : ℕ) → is_to_fail result n ≡ false }
     {
         Talks {
             alloc,

@@ -45,9 +45,9 @@ pub sent_ok : {T E : Type 0} (result : Result T E) (qs : List Pieces) (last new 
     ≡ sent_last (map pieces_of qs) piece)
     × (ps ≡ sent_here (map pieces_of qs) talking over ps piece))
 sent_ok (Ok x) qs last new piece talking over ps len size some is more = (
-      sent_at qs (len - 1) last new piece (omega (arith, some, size)) is more,
-      not_here qs talking over ps piece (omega (arith, some, size)),
-    )
+  sent_at qs (len - 1) last new piece (omega (arith, some, size)) is more,
+  not_here qs talking over ps piece (omega (arith, some, size)),
+)
 sent_ok (Err e) qs last new piece talking over ps len size some is more = tt
 
 -- and what wasn't, for want of memory

@@ -1,6 +1,7 @@
 //! A shell in memory, for tests: pieces of input, connections, moments to tell, and a list of what was done. It tells everything.
 
 ghost use Rattle.std.specs.Prelude.{◌≡◌, ◌<◌, ◌≤◌, ◌^◌, ◌++◌, ◌∷◌, [], take, drop, length, true, false, IfOk, OnOk, OnErr, MatchResult};
+ghost use Rattle.alt_base.specs.Counts.{Rose};
 ghost use Rattle.alt_disk.specs.MemoryState.{state_of};
 ghost use Rattle.alt_shell.specs.declared.shell.TheConstants.{CLOCK_END};
 ghost use Rattle.alt_shell.specs.Kept.{promised};
@@ -169,7 +170,6 @@ impl MemoryShell {
 
 impl MemoryShell {
     ghost use Rattle.std.specs.Prelude.{ℕ, ◌⊎◌, ◌↔◌, ◌-◌, None, MatchOption, IfSome, if◌then◌else◌};
-    ghost use Rattle.alt_base.specs.Counts.{Rose};
     ghost use Rattle.alt_disk.specs.MemoryState.{fails_at};
     ghost use Rattle.alt_shell.specs.Calls.{ShellCall, Adds, Accepted};
     ghost use Rattle.alt_shell.specs.Kept.{failed_of, fails_of};
@@ -376,7 +376,7 @@ impl MemoryShell {
         ensures later { self.old.faults ≤ self.new.faults }
         ensures rose { Rose self.old.faults self.new.faults }
     {
-        self.faults = self.faults.saturating_add(1);
+        self.faults = raised(self.faults);
         Failed
     }
 
@@ -432,17 +432,21 @@ impl MemoryShell {
         let came = !self.talks.coming.is_empty();
         let (moment, _) = self.disk.counts();
         let told = self.clock.count;
-        let act = if came {
-            Act::Accepted
-        } else {
-            Act::NoneCame
-        };
+        let act = if came { Act::Accepted } else { Act::NoneCame };
         self.kept.push(Call { moment, told, act })?;
         if came {
             self.talks.begin();
         }
         Ok(came)
     }
+}
+
+// A count of faults after one more.
+fn raised(faults: u64) -> u64
+    ensures rose { Rose faults result }
+    ensures later { faults ≤ result }
+{
+    faults.saturating_add(1)
 }
 
 impl Disk for MemoryShell {
@@ -471,7 +475,7 @@ impl Disk for MemoryShell {
     {
         let made = self.disk.names(list);
         if let Err(DiskFault::Failed) = made {
-            self.fault();
+            self.faults = raised(self.faults);
         }
         made
     }
@@ -488,7 +492,10 @@ impl Disk for MemoryShell {
     {
         match self.disk.size(f) {
             Ok(size) => Ok(size),
-            Err(_) => Err(self.fault()),
+            Err(failed) => {
+                self.faults = raised(self.faults);
+                Err(failed)
+            }
         }
     }
 
@@ -506,7 +513,10 @@ impl Disk for MemoryShell {
     {
         match self.disk.read(f, at, buf) {
             Ok(count) => Ok(count),
-            Err(_) => Err(self.fault()),
+            Err(failed) => {
+                self.faults = raised(self.faults);
+                Err(failed)
+            }
         }
     }
 
@@ -523,7 +533,10 @@ impl Disk for MemoryShell {
     {
         match self.disk.write_at(f, at, bytes) {
             Ok(()) => Ok(()),
-            Err(_) => Err(self.fault()),
+            Err(failed) => {
+                self.faults = raised(self.faults);
+                Err(failed)
+            }
         }
     }
 
@@ -540,7 +553,10 @@ impl Disk for MemoryShell {
     {
         match self.disk.sync(f) {
             Ok(()) => Ok(()),
-            Err(_) => Err(self.fault()),
+            Err(failed) => {
+                self.faults = raised(self.faults);
+                Err(failed)
+            }
         }
     }
 
@@ -559,7 +575,10 @@ impl Disk for MemoryShell {
     {
         match self.disk.remove(f) {
             Ok(()) => Ok(()),
-            Err(_) => Err(self.fault()),
+            Err(failed) => {
+                self.faults = raised(self.faults);
+                Err(failed)
+            }
         }
     }
 }

@@ -1,11 +1,11 @@
 -- What a shell in memory tells, and what it will give.
-use Rattle.std.specs.Prelude.{◌≡◌, ◌+◌, ℕ, Bool, true, false, List, [], ◌∷◌, length, if◌then◌else◌}
+use Rattle.std.specs.Prelude.{◌≡◌, ℕ, Bool, true, false, List, [], ◌∷◌, if◌then◌else◌}
 use Rattle.alt_disk.specs.declared.memory.MemoryDisk.{MemoryDisk}
 use Rattle.alt_disk.specs.Disk.{DiskState, with_beside}
 use Rattle.alt_base.specs.Counts.{next_moment}
 use Rattle.alt_disk.specs.MemoryState.{state_of, fails_at}
 use Rattle.alt_shell.specs.declared.memory.MemoryShell.{MemoryShell}
-use Rattle.alt_shell.specs.States.{told_by, kept_entries, pieces_at_hand, pieces_aside, coming_of, is_to_fail, head_of}
+use Rattle.alt_shell.specs.States.{told_by, kept_entries, pieces_at_hand, pieces_aside, coming_of, added_to, is_to_fail, head_of}
 use Rattle.alt_shell.specs.Waiting.{pieces_of}
 use Rattle.alt_shell.specs.Log.{Log, log, taken}
 use Rattle.alt_shell.specs.Streams.{Streams, streams_of}
@@ -52,7 +52,7 @@ streams s = streams_of (entries_by s)
 
 -- how many connections were added
 abbrev pub added : MemoryShell → ℕ
-added s = length (streams s).past + (if (streams s).talking then 1 else 0) + length (coming s)
+added s = added_to s.talks
 
 -- whether the call of this number, of the takes and says in talks, is to fail
 abbrev pub fails_talk : MemoryShell → ℕ → Bool
@@ -83,6 +83,7 @@ pub record SameInput (old new : MemoryShell) : Type 0 where
 -- What a call leaves that begins and ends no talk, and adds nothing to one: the connections to come, and the list of calls that are to fail.
 pub record SameComing (old new : MemoryShell) : Type 0 where
   pub coming_stays : coming new ≡ coming old
+  pub added_stays : added new ≡ added old
   pub fails_stay : (n : ℕ) → fails_talk new n ≡ fails_talk old n
 
 -- What a call leaves that also takes nothing in a talk.

@@ -1,5 +1,5 @@
 -- The parts of a shell in memory: its clock, the calls that it kept, its streams and its talks.
-use Rattle.std.specs.Prelude.{◌≡◌, ◌==◌, ℕ, Bool, List, map, if◌then◌else◌}
+use Rattle.std.specs.Prelude.{◌≡◌, ◌==◌, ◌+◌, length, ℕ, Bool, List, map, if◌then◌else◌}
 use Rattle.std.specs.List.{list_any}
 use Rattle.alt_shell.specs.declared.wire.Wire.{Wire}
 use Rattle.alt_shell.specs.declared.talks.Talks.{Talks}
@@ -48,6 +48,11 @@ pieces_aside talks =
 -- the connections that will be accepted, each as its pieces
 abbrev pub coming_of : Talks → List (List (List ℕ))
 coming_of talks = map pieces_of talks.coming.items
+
+-- how many connections were added: those that are over, the one at hand, and those to come
+abbrev pub added_to : Talks → ℕ
+added_to talks = length (streams_by talks).past + (if talks.talking then 1 else 0)
+    + length (coming_of talks)
 
 -- whether the call of this number is to fail, counted over all talks from 0
 abbrev pub is_to_fail : Talks → ℕ → Bool

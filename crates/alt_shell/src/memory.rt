@@ -39,7 +39,7 @@ pub struct MemoryShell {
 }
 
 impl MemoryShell {
-    ghost use Rattle.std.specs.Prelude.{ℕ, ◌≢◌, Option, Some, IfSome};
+    ghost use Rattle.std.specs.Prelude.{ℕ, ◌≢◌, ◌+◌, IfSome};
     ghost use Rattle.alt_shell.specs.Memory.{log_of, pieces, clock_left, last_moment, disk_in, streams, coming};
     ghost use Rattle.alt_shell.specs.Memory.{added, talk_pieces, talk_calls, fails_talk, SameInput, SameTalk};
     ghost use Rattle.alt_shell.specs.Pieces.{with_more, sent_last, sent_here};
@@ -88,6 +88,7 @@ impl MemoryShell {
     /// Adds a connection: one more will be accepted, behind those added before.
     pub fn connection(&mut self) -> Result<(), NoMemory>
         ensures ok { OnOk result (coming self.new ≡ coming self.old ++ [] ∷ []) }
+        ensures added { OnOk result (added self.new ≡ added self.old + 1) }
         ensures err { OnErr result (coming self.new ≡ coming self.old) }
         ensures log { log_of self.new ≡ log_of self.old }
         ensures disk { disk_in self.new ≡ disk_in self.old }
@@ -108,6 +109,7 @@ impl MemoryShell {
             (streams self.old).talk.over (talk_pieces self.old) piece.now)) }
         ensures err { OnErr result ((coming self.new ≡ coming self.old)
             × (talk_pieces self.new ≡ talk_pieces self.old)) }
+        ensures added { added self.new ≡ added self.old }
         ensures log { log_of self.new ≡ log_of self.old }
         ensures disk { disk_in self.new ≡ disk_in self.old }
         ensures input { SameInput self.old self.new }
@@ -140,6 +142,7 @@ impl MemoryShell {
         ensures disk { disk_in self.new ≡ disk_in self.old }
         ensures input { SameInput self.old self.new }
         ensures coming { coming self.new ≡ coming self.old }
+        ensures added { added self.new ≡ added self.old }
         ensures talk { talk_pieces self.new ≡ talk_pieces self.old }
         ensures calls { talk_calls self.new ≡ talk_calls self.old }
     {
@@ -176,7 +179,7 @@ impl MemoryShell {
     ghost use Rattle.alt_shell.specs.Log.{entry, took, said, none_came, accepted, talk_head};
     ghost use Rattle.alt_shell.specs.Pieces.{given_of, pieces_behind};
     ghost use Rattle.alt_shell.specs.Memory.{shell_state, pieces, coming, talk_pieces, at_hand, aside, entries_by, streams};
-    ghost use Rattle.alt_shell.specs.Memory.{talk_calls, fails_now, CallCounted, SameNotes, SameRest, SameList, Unmoved, NextOf};
+    ghost use Rattle.alt_shell.specs.Memory.{added, talk_calls, fails_now, CallCounted, SameNotes, SameRest, SameList, Unmoved, NextOf};
     ghost use Rattle.alt_shell.specs.States.{told_by, head_of};
     ghost use Rattle.alt_shell.specs.Steps.{Starts, Fails};
 
@@ -390,6 +393,7 @@ impl MemoryShell {
         ensures next { MatchOption result ((coming self.new ≡ coming self.old)
             × (talk_pieces self.new ≡ talk_pieces self.old))
             (λ came. NextOf (coming self.old) self.old self.new came) }
+        ensures added { added self.new ≡ added self.old }
         ensures pieces { pieces self.new ≡ pieces self.old }
         ensures clock { self.new.clock ≡ self.old.clock }
         ensures notes { SameNotes self.old self.new }
@@ -423,6 +427,7 @@ impl MemoryShell {
             (λ came. NextOf (coming self.old) self.old self.new came)
             (λ _. (coming self.new ≡ coming self.old)
             × (talk_pieces self.new ≡ talk_pieces self.old)) }
+        ensures added { added self.new ≡ added self.old }
         ensures pieces { pieces self.new ≡ pieces self.old }
         ensures clock { self.new.clock ≡ self.old.clock }
         ensures notes { SameNotes self.old self.new }
@@ -591,7 +596,7 @@ impl Shell for MemoryShell {
     ghost use Rattle.alt_shell.specs.Log.{hung_up, talk_of, talks, talk_faults, takes_missed, says_missed};
     ghost use Rattle.alt_shell.specs.Pieces.{given_of, pieces_behind, told_of};
     ghost use Rattle.alt_shell.specs.Memory.{shell_state, pieces, talk_pieces, at_hand, aside, coming, streams, clock_left, last_moment};
-    ghost use Rattle.alt_shell.specs.Memory.{fails_now, CallCounted, SameInput, SameComing, SameTalk, SameList, NextOf};
+    ghost use Rattle.alt_shell.specs.Memory.{added, fails_now, CallCounted, SameInput, SameComing, SameTalk, SameList, NextOf};
 
     fn take(&mut self, buf: &mut [u8]) -> Result<usize, Failed>
         requires { 0 < length buf.old }
@@ -673,6 +678,7 @@ impl Shell for MemoryShell {
         ensures next { MatchResult result (λ came. NextOf (coming self.old) self.old self.new came)
             (λ _. (coming self.new ≡ coming self.old)
             × (talk_pieces self.new ≡ talk_pieces self.old)) }
+        ensures added { added self.new ≡ added self.old }
         ensures input { SameInput self.old self.new }
         ensures list { SameList self.old self.new }
         ensures to_fail { fails_at self.old.disk (shell_state self.old).moment ≡ true
@@ -703,6 +709,7 @@ impl Shell for MemoryShell {
 
         // It takes no memory. What the client sent and wasn't taken is dropped.
         ensures dropped { talks (shell_state self.old).beside ≡ true → talk_pieces self.new ≡ [] }
+        ensures added { added self.new ≡ added self.old }
         ensures input { SameInput self.old self.new }
         ensures coming { coming self.new ≡ coming self.old }
         ensures list { SameList self.old self.new }

@@ -39,7 +39,7 @@ impl Talks {
     ghost use Rattle.alt_shell.specs.Streams.{unheard, untouched, said_on, is_none, on_hand, after_take, after_say, after_event};
     ghost use Rattle.alt_shell.specs.States.{heard_by, streams_by, pieces_at_hand, pieces_aside};
     ghost use Rattle.alt_shell.specs.Waiting.{pieces_of};
-    ghost use Rattle.alt_shell.specs.States.{coming_of, is_to_fail, head_of, missed_by, KeepsHead, KeepsList};
+    ghost use Rattle.alt_shell.specs.States.{coming_of, added_to, is_to_fail, head_of, missed_by, KeepsHead, KeepsList};
     ghost use Rattle.alt_shell.specs.Kept.{other_of};
 
     /// No connections.
@@ -82,6 +82,7 @@ impl Talks {
     /// Adds a connection.
     pub(crate) fn add(&mut self) -> Result<(), NoMemory>
         ensures ok { OnOk result (coming_of self.new ≡ coming_of self.old ++ [] ∷ []) }
+        ensures added { OnOk result (added_to self.new ≡ added_to self.old + 1) }
         ensures err { OnErr result (coming_of self.new ≡ coming_of self.old) }
         ensures streams { streams_by self.new ≡ streams_by self.old }
         ensures pieces { (self.new.standard.pieces ≡ self.old.standard.pieces)
@@ -106,6 +107,7 @@ impl Talks {
             (pieces_of self.old.talk.pieces) piece.now)) }
         ensures err { OnErr result ((coming_of self.new ≡ coming_of self.old)
             × (pieces_of self.new.talk.pieces ≡ pieces_of self.old.talk.pieces)) }
+        ensures added { added_to self.new ≡ added_to self.old }
         ensures streams { streams_by self.new ≡ streams_by self.old }
         ensures pieces { self.new.standard.pieces ≡ self.old.standard.pieces }
         ensures head { KeepsHead self.old self.new }
@@ -205,6 +207,7 @@ impl Talks {
         requires comes { 0 < length self.old.coming.items }
         ensures coming { coming_of self.old
             ≡ pieces_of self.new.talk.pieces ∷ coming_of self.new }
+        ensures added { added_to self.new ≡ added_to self.old }
         ensures streams { streams_by self.new ≡ after_event (Some accepted) (streams_by self.old) }
         ensures pieces { self.new.standard.pieces ≡ self.old.standard.pieces }
         ensures talking { self.new.talking ≡ true }
@@ -224,6 +227,7 @@ impl Talks {
     pub(crate) fn end(&mut self)
         requires { self.old.talking ≡ true }
         ensures streams { streams_by self.new ≡ after_event (Some hung_up) (streams_by self.old) }
+        ensures added { added_to self.new ≡ added_to self.old }
         ensures dropped { pieces_of self.new.talk.pieces ≡ [] }
         ensures pieces { self.new.standard.pieces ≡ self.old.standard.pieces }
         ensures coming { coming_of self.new ≡ coming_of self.old }

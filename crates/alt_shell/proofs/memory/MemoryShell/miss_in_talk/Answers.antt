@@ -1,5 +1,5 @@
 use Rattle.std.proofs.Common.{◌∙◌, sym, ap, length, refl}
-use Rattle.alt_shell.specs.States.{kept_entries, streams_by, coming_of, is_to_fail}
+use Rattle.alt_shell.specs.States.{kept_entries, streams_by, coming_of, added_to, is_to_fail}
 use Rattle.alt_shell.specs.Waiting.{pieces_of}
 use Rattle.alt_shell.specs.declared.talks.Talks.{Talks}
 use Rattle.alt_shell.proofs.Missing.{with_failed}
@@ -46,6 +46,7 @@ returns-clause-stays c =
         notes_stay = record { noted_stays = refl; tells_stay = refl };
         others = record {
           coming_stays = ap coming_of same;
+          added_stays = ap added_to same;
           fails_stay = λ n. ap (λ (t : Talks). is_to_fail t n) same;
         };
       };

@@ -1,6 +1,6 @@
 -- A piece that is sent goes to the connection added last.
 use Rattle.std.proofs.Common.{◌≡◌, ◌<◌, ◌-◌, ℕ, zero, suc, Bool, List, [], ◌∷◌, length, map, slice_index_or, slice_set}
-use Rattle.std.proofs.Common.{Result, Ok, Err, IfOk, OnErr, refl, ap, sym, ◌∙◌, arith}
+use Rattle.std.proofs.Common.{Result, Ok, Err, IfOk, OnErr, refl, ap, ◌∙◌, arith}
 use Rattle.alt_shell.specs.declared.pieces.Pieces.{Pieces}
 use Rattle.alt_shell.specs.Pieces.{with_piece, sent_last, sent_here}
 use Rattle.alt_shell.specs.Waiting.{pieces_of}

@@ -1,5 +1,5 @@
 -- What the entries of a log tell of the standard streams, and of each talk.
-use Rattle.std.specs.Prelude.{ℕ, List, [], ◌∷◌, ◌++◌, Bool, true, false, ◌||◌, Option, Some, None, get_or, if◌then◌else◌}
+use Rattle.std.specs.Prelude.{ℕ, List, [], ◌∷◌, ◌++◌, Bool, true, false, ◌||◌, Option, Some, None, get_or}
 use Rattle.std.specs.List.{fold}
 use Rattle.alt_shell.specs.Log.{Log, Event, event_of, took, said, take_failed, say_failed, accepted, none_came, hung_up}
 

@@ -88,7 +88,7 @@ impl Kept {
         }
     }
 
-    /// Adds a call. After an error nothing was added. It leaves as many spare as a talk may need.
+    /// Adds a call. After an error nothing was added, else three are spare, as many as a talk may need.
     pub(crate) fn push(&mut self, call: Call) -> Result<(), NoMemory>
         ensures ok { OnOk result (kept_entries self.new
             ≡ kept_entries self.old ++ entry_by call ∷ []) }
@@ -101,7 +101,8 @@ impl Kept {
         Ok(())
     }
 
-    /// Takes the memory for one call, and for as many as a talk may need.
+    /// Takes the memory for one call and for the three that a talk may need without: its first failed take, its first failed say, and
+    /// its end.
     pub(crate) fn reserve(&mut self) -> Result<(), NoMemory>
         ensures entries { kept_entries self.new ≡ kept_entries self.old }
         ensures spare { MatchResult result (λ _. self.new.spare ≡ 4)

@@ -1,4 +1,4 @@
-use Rattle.std.proofs.Common.{◌∙◌, sym, length, arith}
+use Rattle.std.proofs.Common.{◌∙◌, length, arith}
 use Rattle.alt_shell.specs.States.{kept_entries, streams_by}
 use Rattle.alt_shell.proofs.Ending.{hand_ends, is_zero, none_is, streams-took, taken_push}
 use Rattle.alt_shell.proofs.memory.MemoryShell.give.Goals as goal

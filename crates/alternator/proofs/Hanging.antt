@@ -11,11 +11,12 @@ use Rattle.alternator.specs.Runs.{Passes, Stretch}
 use Rattle.alternator.specs.Talks.{Turn, Rules, Lawful, Place, at, turns, closes}
 use Rattle.alternator.specs.TalkStops.{ComesOn, ComesSomeOn, LeavesNow}
 use Rattle.alternator.specs.TalkTexts.{text}
-use Rattle.alternator.specs.Stretches.{SaidOf, over, Does, DoesSome, GoesSome, Ends}
-use Rattle.alternator.specs.Connections.{Serves}
+use Rattle.alternator.specs.Stretches.{SaidOf, over, Hushes, TakesIdle, Does, DoesSome, GoesSome, Ends}
+use Rattle.alternator.specs.Connections.{Serves, Breaks, fresh}
 use Rattle.alternator.proofs.Serving.{taken-append, said_in-append}
 use Rattle.alternator.proofs.TalkLeaving.{left_silent}
-use Rattle.alternator.proofs.TalkLogs.{stretch_one, over-append, broken-append}
+use Rattle.alternator.proofs.TalkIdle.{idle_other, idle-append, counted_behind}
+use Rattle.alternator.proofs.TalkLogs.{stretch_one, over-append, broken-append, hushes-append}
 use Rattle.alternator.proofs.TalkCuts.{closes_end}
 
 or_false : (b : Bool) → (b || false) ≡ b
@@ -41,6 +42,15 @@ module _ (r : Rules) (per : ℕ) (s : State) (es : Log) (ms : List ℕ) (from si
   same_ended : over (es ++ entry upto clocked hung_up ∷ []) ≡ over es
   same_ended = over-append es (entry upto clocked hung_up ∷ []) ∙ or_false (over es)
 
+  hushed : Hushes es → Hushes (es ++ entry upto clocked hung_up ∷ [])
+  hushed h = hushes-append es (entry upto clocked hung_up ∷ []) h (λ f. absurd (let g : ⊥ = cc in g), tt)
+      (λ _. refl)
+
+  idle_hung : TakesIdle r (fresh per) s false ms [] es
+      → TakesIdle r (fresh per) s false ms [] (es ++ entry upto clocked hung_up ∷ [])
+  idle_hung h = idle-append r (fresh per) s false ms [] es (entry upto clocked hung_up ∷ []) h
+      (idle_other r (fresh per) s false ms es (entry upto clocked hung_up) refl)
+
   pub serves_hung : (q : Place) (t : State) (n : Bool) → 0 < per → Ends r (at per false []) s false q t n es ms
       → Serves r per s (record { moment = from; clocked = since; entries = es ++ entry upto clocked hung_up ∷ []; told = ms }) t
   serves_hung q t n some e =
@@ -50,10 +60,12 @@ module _ (r : Rules) (per : ℕ) (s : State) (es : Log) (ms : List ℕ) (from si
       let whole : Does r s false ts t n (es ++ entry upto clocked hung_up ∷ []) ms = record {
         said = subst (λ (bs : List ℕ). SaidOf n bs (text r s ts ms)) (sym same_said) moved.said;
         state = moved.state;
-        count = moved.count;
+        count = counted_behind r s false ts ms n es (entry upto clocked hung_up ∷ []) moved.count;
         enough = moved.enough;
         broke = moved.broke ∙ sym same_broken;
         silent = λ z. absurd (let f : ⊥ = cc in f);
+        hush = hushed d.hush;
+        still = λ z. absurd (let f : ⊥ = cc in f);
       } in
       record {
         does = subst (λ (b : Bool). Does r s false ts t b (es ++ entry upto clocked hung_up ∷ []) ms) whole.broke whole;
@@ -62,6 +74,7 @@ module _ (r : Rules) (per : ℕ) (s : State) (es : Log) (ms : List ℕ) (from si
           | inr (inl mute) ↦ inr (inl (same_broken ∙ sym d.broke ∙ mute))
           | inr (inr done) ↦ inr (inr (ap (λ bs. closes (turns r per false bs)) same_taken ∙ closes_end r per false (taken es) some (ap (λ (p : Place). p.left) (sym e.goes.place) ∙ done)))
         ];
+        idle = idle_hung e.goes.idle;
         before = es;
         at = upto;
         clocked = clocked;
@@ -69,13 +82,19 @@ module _ (r : Rules) (per : ℕ) (s : State) (es : Log) (ms : List ℕ) (from si
         inside = e.goes.inside;
       }
 
-  pub some_hung : (fault : RunFault) → GoesSome r fault (at per false []) s false es ms → DoesSome r fault s false (turns r per false (taken (es ++ entry upto clocked hung_up ∷ []))) (es ++ entry upto clocked hung_up ∷ []) ms
+  pub some_hung : (fault : RunFault) → GoesSome r fault (at per false []) s false es ms
+      → Breaks r per fault s (record { moment = from; clocked = since; entries = es ++ entry upto clocked hung_up ∷ []; told = ms })
   some_hung fault e =
       let moved = subst (λ (bs : List ℕ). DoesSome r fault s false (turns r per false bs) es ms) (sym same_taken) e.some in record {
-        said = (moved.said.0, moved.said.1 ∙ ap (λ bs. bs ++ moved.said.0) (sym same_said));
-        most = moved.most;
-        wants = moved.wants;
-        silent = λ z. absurd (let f : ⊥ = cc in f);
+        some = record {
+          said = (moved.said.0, moved.said.1 ∙ ap (λ bs. bs ++ moved.said.0) (sym same_said));
+          most = moved.most;
+          wants = moved.wants;
+          silent = λ z. absurd (let f : ⊥ = cc in f);
+          hush = hushed moved.hush;
+          still = λ z. absurd (let f : ⊥ = cc in f);
+        };
+        idle = idle_hung e.idle;
       }
 
 -- none came

@@ -56,6 +56,8 @@ some_more r fault s m ts us vs es ms e a =
         most = let x = asks-append ts us in let y = a.some.most in omega (arith, x, y);
         wants = subst (λ w. IsCausedBy w fault) (sym (wanted-more r s ts us ms a.some.most)) a.some.wants;
         silent = a.some.silent;
+        hush = a.some.hush;
+        still = a.some.still;
       };
       quiet = a.quiet;
     })

@@ -9,7 +9,7 @@ use Rattle.alt_shell.specs.Calls.{Aside}
 use Rattle.alt_shell.specs.Log.{Log, Grows, moments_of}
 use Rattle.alt_shell.proofs.Telling.{Grows-then}
 use Rattle.alternator.specs.Connections.{ServedSome, turns_of}
-use Rattle.alternator.specs.Endings.{status_of, HasDone, HasMade, HasRun, HasNumbers, Makes, BreaksOff, WasDamaged, IsReadable, Done, Broken}
+use Rattle.alternator.specs.Endings.{status_of, HasDone, HasMade, HasRun, HasNumbers, Makes, BreaksOff, WasDamaged, IsReadable, Done, Broken, LacksNumber}
 use Rattle.alternator.specs.Runs.{Answers, AnswersSome, LeftThen, IsOpening, Opened}
 use Rattle.alternator.specs.Stretches.{DoesSome}
 use Rattle.alternator.specs.TalkRules.{rules}
@@ -395,7 +395,8 @@ run_completes : (a b : DiskState) (job : Job) (ending : Ending) (status : ℕ)
     → status ≡ status_of ending
     → HasRun job ending a b → IsTrusted a → IsReadable a.file
     → (Rose a.faults b.faults → ⊥)
-    → ((status ≡ 0) × Opened a b (Done job)) ⊎ (status ≡ 5) ⊎ (status ≡ 6)
+    → ((status ≡ 0) × Opened a b (Done job)) ⊎ (status ≡ 5)
+    ⊎ ((status ≡ 6) × LacksNumber job a b)
 run_completes a b job Whole status e h trusted readable well = inl (e, h.1 trusted)
 run_completes a b job Words status e h trusted readable well = absurd h
 run_completes a b job (NotEmpty first) status e h trusted readable well = absurd h
@@ -407,13 +408,15 @@ run_completes a b job (BadRow family key) status e h trusted readable well =
     (h (tells_of a trusted)))
 run_completes a b job Device status e h trusted readable well = absurd (well h.0)
 run_completes a b job Memory status e h trusted readable well = inr (inl e)
-run_completes a b job (Spent n) status e h trusted readable well = inr (inr e)
+run_completes a b job (Spent n) status e h trusted readable well =
+    inr (inr (e, (n, h.1 trusted)))
 
 pub completes : (a b : DiskState) (job : Job) (ending : Ending) (status : ℕ)
     → status ≡ status_of ending → IsOverStore job
     → HasDone (Some job) ending a b → IsTrusted a → IsReadable a.file
     → (Rose a.faults b.faults → ⊥)
-    → ((status ≡ 0) × Opened a b (Done job)) ⊎ (status ≡ 5) ⊎ (status ≡ 6)
+    → ((status ≡ 0) × Opened a b (Done job)) ⊎ (status ≡ 5)
+    ⊎ ((status ≡ 6) × LacksNumber job a b)
 completes a b Init ending status e over h trusted readable well = absurd over
 completes a b Replay ending status e over h trusted readable well =
     run_completes a b Replay ending status e h trusted readable well

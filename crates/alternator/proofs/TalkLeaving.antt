@@ -15,7 +15,7 @@ use Rattle.alt_tables.specs.Images.{StandsFor}
 use Rattle.alternator.specs.Faults.{IsCausedBy}
 use Rattle.alternator.specs.Runs.{OfStretch, Stretch}
 use Rattle.alternator.specs.Stops.{IsLeft, IsAmong, AtEach, AreWithin}
-use Rattle.alternator.specs.Stretches.{Utters, AtRest}
+use Rattle.alternator.specs.Stretches.{Utters, AtRest, Idle}
 use Rattle.alternator.specs.Talks.{Turn, onward, asked, refused, Rules, Lawful, Request, Head, Place, at, unread, bad, good, greets, is_whole, size_of, request_of, turns, final, turns_at}
 use Rattle.alternator.specs.TalkStops.{deeds, carrying, saying, LeavesNow, LeftOn, AnswersOn, AnswersSomeOn, CarriesOn, CarriesSomeOn, MovesOn, StepsOn, MovesAllOn, MovesSomeOn, GoesOn, GoesSomeOn}
 use Rattle.alternator.specs.TalkTexts.{asks}
@@ -373,22 +373,22 @@ module _ (r : Rules) (p : Place) (s : State) (a b c : DiskState) (bytes : List �
   into = at p.left p.greeted (p.bytes ++ bytes)
 
   -- bytes were taken, and the turns at hand then were done
-  pub goes_taken_on : (w : Lawful r) (m : Bool) (q : Place) (t : State) (n : Bool) (es : Log)
+  pub goes_taken_on : (w : Lawful r) (m : Bool) (ready : Idle r p s m [] []) (q : Place) (t : State) (n : Bool) (es : Log)
       (ms : List ℕ) → AreWithin b.moment c.moment es → 0 < length bytes
       → MovesAllOn r into s m q t n b c es ms → GoesOn r true p s m q t n a c (one ∷ es) ms
-  goes_taken_on w m q t n es ms within some x = (
-    goes_taken r p s m bytes b.moment clocked q t n es ms some x.0,
+  goes_taken_on w m ready q t n es ms within some x = (
+    goes_taken r p s m bytes b.moment clocked ready q t n es ms some x.0,
     subst (λ (bs : List ℕ). AtEach a c (LeftOn r s (turns_at r p bs) (one ∷ es) ms))
         (sym (all_taken es x.0.quiet.still))
         (left_taken w (turns_at r p bytes) es ms within x.1),
   )
 
   -- that broke off
-  pub goes_some_taken_on : (w : Lawful r) (m : Bool) (fault : RunFault) (es : Log) (ms : List ℕ)
+  pub goes_some_taken_on : (w : Lawful r) (m : Bool) (ready : Idle r p s m [] []) (fault : RunFault) (es : Log) (ms : List ℕ)
       → AreWithin b.moment c.moment es → MovesSomeOn r fault into s m b c es ms
       → GoesSomeOn r fault p s m a c (one ∷ es) ms
-  goes_some_taken_on w m fault es ms within x = (
-    goes_some_taken r p s m bytes b.moment clocked fault es ms x.0,
+  goes_some_taken_on w m ready fault es ms within x = (
+    goes_some_taken r p s m bytes b.moment clocked ready fault es ms x.0,
     subst (λ (bs : List ℕ). AtEach a c (LeftOn r s (turns_at r p bs) (one ∷ es) ms))
         (sym (all_taken es x.0.quiet.still))
         (left_taken w (turns_at r p bytes) es ms within x.1),
@@ -439,17 +439,17 @@ module _ (r : Rules) (w : Lawful r) (a b c : DiskState) where
 
 -- a take that failed in a talk in which none had failed
 pub goes_missed_on : (r : Rules) (w : Lawful r) (p : Place) (s : State) (m : Bool) (rest : AtRest r p)
-    (a b : DiskState) → talks a.beside ≡ true → takes_missed a.beside ≡ false
+    (ready : Idle r p s m [] []) (a b : DiskState) → talks a.beside ≡ true → takes_missed a.beside ≡ false
     → (Adds a b take_failed ⊎ Untold a b takes_failed takes_missed)
     → moments_of b.beside ≡ moments_of a.beside → Keeps a b → LeavesNow a s
     → Stretch a b (GoesOn r false p s m p s m)
-goes_missed_on r w p s m rest a b talking none (inl told) moments keeps here =
+goes_missed_on r w p s m rest ready a b talking none (inl told) moments keeps here =
     stretch_one a b (GoesOn r false p s m p s m) _ told moments (keeps.later, omega arith, tt) keeps (
-      goes_failed r p s m rest b.moment (told_count a.beside),
+      goes_failed r p s m rest b.moment (told_count a.beside) ready,
       left_silent r w a b s (turns_at r p [])
           (entry b.moment (told_count a.beside) take_failed ∷ []) [] keeps refl here,
     )
-goes_missed_on r w p s m rest a b talking none (inr untold) moments keeps here =
+goes_missed_on r w p s m rest ready a b talking none (inr untold) moments keeps here =
     let why = subst (λ (t : Bool). IsUntoldBy t a takes_failed takes_missed) talking untold.why in
     absurd (true≢false (sym why ∙ none))
 

@@ -113,6 +113,10 @@ Broken why (Serve per connections) s opened new = Stretch opened new
     (ServedSomeOn rules per connections why s)
 Broken why (Trial seed count) s opened new = Stretch opened new (TriesSome why s seed count)
 
+-- The store was opened, and the run broke off behind that for want of a number, which is the first that was wanted and is never given out.
+abbrev pub LacksNumber : Job → DiskState → DiskState → Type 0
+LacksNumber job old new = (number : ℕ) × Opened old new (Broken (fault.Spent number) job)
+
 -- The run was broken off while the store was opened, or behind that.
 abbrev pub BreaksOff : RunFault → Job → DiskState → DiskState → Type 0
 BreaksOff why job old new = IsTrusted old → IsOpening old new ⊎ Opened old new (Broken why job)

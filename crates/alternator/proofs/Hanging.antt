@@ -93,6 +93,7 @@ module _ (r : Rules) (per : ℕ) (s : State) (es : Log) (ms : List ℕ) (from si
           silent = λ z. absurd (let f : ⊥ = cc in f);
           hush = hushed moved.hush;
           still = λ z. absurd (let f : ⊥ = cc in f);
+          begins = moved.begins;
         };
         idle = idle_hung e.idle;
       }

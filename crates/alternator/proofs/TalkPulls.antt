@@ -12,7 +12,7 @@ use Rattle.alternator.proofs.Serving.{taken-append}
 use Rattle.alternator.proofs.TalkLogs.{over-append, crosses-append}
 use Rattle.alternator.proofs.TalkCuts.{turns_cut, final_cut, at_unread}
 use Rattle.alternator.proofs.TalkIdle.{one_more, idle_quiet, idle_both, counted_front}
-use Rattle.alternator.proofs.Uttering.{does_none, does_then, does_break, clear_then}
+use Rattle.alternator.proofs.Uttering.{begins_none, does_none, does_then, does_break, clear_then}
 
 some_is_no_end : (bytes : List ℕ) → 0 < length bytes → is_over (Some (took bytes)) ≡ false
 some_is_no_end [] h = absurd (omega arith)
@@ -69,13 +69,14 @@ module _ (r : Rules) (p : Place) (s : State) (m : Bool) (bytes : List ℕ) (mome
               silent = a.some.silent;
               hush = (λ f. absurd (let g : ⊥ = cc in g), a.some.hush);
               still = a.some.still;
+              begins = a.some.begins;
             });
         inside = a.quiet.inside;
         idle = idle_taken es ms a.quiet.still a.quiet.goes_on;
       }
 
   pub goes_some_none : GoesSome r NoMemory p s m (entry moment clocked (took bytes) ∷ []) []
-  goes_some_none = record { some = record { said = (text r s (turns_at r p (taken (entry moment clocked (took bytes) ∷ []))) [], refl); most = omega arith; wants = tt; silent = λ _. refl; hush = (λ f. absurd (let g : ⊥ = cc in g), tt); still = λ _. refl }; inside = refl; idle = idle_taken [] [] refl refl }
+  goes_some_none = record { some = record { said = (text r s (turns_at r p (taken (entry moment clocked (took bytes) ∷ []))) [], refl); most = omega arith; wants = tt; silent = λ _. refl; hush = (λ f. absurd (let g : ⊥ = cc in g), tt); still = λ _. refl; begins = begins_none (turns_at r p (taken (entry moment clocked (took bytes) ∷ []))) }; inside = refl; idle = idle_taken [] [] refl refl }
 
 -- the end came
 module _ (r : Rules) (p : Place) (s : State) (m : Bool) (rest : AtRest r p) where

@@ -15,7 +15,7 @@ use Rattle.alternator.specs.declared.serve.RunFault.TheVariants.{NoMemory}
 use Rattle.alternator.specs.Turns.{or_next}
 use Rattle.alternator.specs.Talks.{Turn, onward, asked, refused, Rules, Request, Place, at, turns, final, has_refused}
 use Rattle.alternator.specs.TalkTexts.{text, after, requests, asks, wanted}
-use Rattle.alternator.specs.Stretches.{SaidOf, Quiet, Utters, Does, DoesSome, AnswersSome, Moves, MovesAll, MovesSome, AtRest, over, says, Counted}
+use Rattle.alternator.specs.Stretches.{SaidOf, Quiet, Utters, Does, DoesSome, AnswersSome, Moves, MovesAll, MovesSome, AtRest, over, says, Counted, Begins}
 use Rattle.alternator.proofs.Serving.{said_in-append, taken-append}
 use Rattle.alternator.proofs.Stopping.{IsPrefix-self, one-by}
 use Rattle.alternator.proofs.TalkLogs.{Clocked, stretch_one, over-append, broken-append, crosses-append, says-append, hushes-append, or-assoc, or_right}
@@ -213,9 +213,17 @@ alone : (w : Option Lack) → w ≡ or_next w None
 alone None = refl
 alone (Some n) = refl
 
+-- none was begun
+pub begins_none : (ts : List Turn) → Begins ts []
+begins_none ts = record { done = []; begun = []; rest = ts; parts = refl; few = omega arith; count = inl refl }
+
+-- the one turn was, and asked for its moment
+begins_one : (t : Turn) (at : ℕ) → 1 ≡ asks (t ∷ []) → Begins (t ∷ []) (at ∷ [])
+begins_one t at e = record { done = []; begun = t ∷ []; rest = []; parts = refl; few = omega arith; count = inl e }
+
 -- a turn that broke off before its text was said
 pub answers_some_none : (r : Rules) (s : State) (m : Bool) (ts : List Turn) → AnswersSome r NoMemory s m ts [] []
-answers_some_none r s m ts = record { some = record { said = (text r s ts [], refl); most = omega arith; wants = tt; silent = λ _. refl; hush = tt; still = λ _. refl }; quiet = quiet_none }
+answers_some_none r s m ts = record { some = record { said = (text r s ts [], refl); most = omega arith; wants = tt; silent = λ _. refl; hush = tt; still = λ _. refl; begins = begins_none ts }; quiet = quiet_none }
 
 pub some_asked : (r : Rules) (fault : RunFault) (s : State) (m : Bool) (q : Request) (at : ℕ) (es : Log) (ms : List ℕ)
     → Clocked at es ms → IsCausedBy (r.wants s q at) fault → AnswersSome r fault s m (asked q ∷ []) es ms
@@ -230,6 +238,7 @@ some_asked r fault s m q at es ms t w =
         silent = λ _. refl;
         hush = tt;
         still = λ _. refl;
+        begins = begins_one (asked q) at refl;
       };
       quiet = quiet_none;
     }))
@@ -239,7 +248,7 @@ some_refused r s m k at es ms t =
     let none = t.nothing in let one = t.one in
     subst (λ (fs : Log). AnswersSome r NoMemory s m (refused k ∷ []) fs ms) (sym none)
     (subst (λ (ns : List ℕ). AnswersSome r NoMemory s m (refused k ∷ []) [] ns) (sym one) (record {
-      some = record { said = (text r s (refused k ∷ []) (at ∷ []), refl); most = omega arith; wants = tt; silent = λ _. refl; hush = tt; still = λ _. refl };
+      some = record { said = (text r s (refused k ∷ []) (at ∷ []), refl); most = omega arith; wants = tt; silent = λ _. refl; hush = tt; still = λ _. refl; begins = begins_one (refused k) at refl };
       quiet = quiet_none;
     }))
 
@@ -248,6 +257,25 @@ module _ (r : Rules) (fault : RunFault) (s t : State) (m n : Bool) (ts us : List
     (a : Does r s m ts t n es ms) (b : DoesSome r fault t n us fs ns) where
   told_of : length ms ≡ asks ts
   told_of = exact_count r s t m n ts es ms clear a
+
+  begun_both : (us ks : List Turn) → (length ns ≡ asks (us ++ ks)) ⊎ (length ns ≡ requests (us ++ ks))
+      → (length (ms ++ ns) ≡ asks ((ts ++ us) ++ ks)) ⊎ (length (ms ++ ns) ≡ requests ((ts ++ us) ++ ks))
+  begun_both us ks (inl e) =
+      let same = ap asks (append_assoc ts us ks) in
+      inl (let a = length-append ms ns in let b = asks-append ts (us ++ ks) in let c = told_of in omega (arith, same, a, b, c, e))
+  begun_both us ks (inr e) =
+      let same = ap requests (append_assoc ts us ks) in
+      inr (let a = length-append ms ns in let b = requests-append ts (us ++ ks) in let c = told_of in let d = asks-requests ts clear in omega (arith, same, a, b, c, d, e))
+
+  begins_both : Begins (ts ++ us) (ms ++ ns)
+  begins_both = record {
+    done = ts ++ b.begins.done;
+    begun = b.begins.begun;
+    rest = b.begins.rest;
+    parts = ap (λ l. ts ++ l) b.begins.parts ∙ sym (append_assoc ts b.begins.done (b.begins.begun ++ b.begins.rest));
+    few = b.begins.few;
+    count = begun_both b.begins.done b.begins.begun b.begins.count;
+  }
 
   pub does_break : DoesSome r fault s m (ts ++ us) (es ++ fs) (ms ++ ns)
   does_break = record {
@@ -261,6 +289,7 @@ module _ (r : Rules) (fault : RunFault) (s t : State) (m n : Bool) (ts us : List
     silent = λ e. said_in-append es fs ∙ ap (λ bs. bs ++ said_in fs) (a.silent e).0 ∙ b.silent (or_true m (says_failed es) n a.broke e);
     hush = hushes-append es fs a.hush b.hush (λ e. b.still (a.broke ∙ ap (λ v. m || v) e ∙ or_right m));
     still = λ e. says-append es fs ∙ ap (λ v. v || says fs) (a.still e) ∙ b.still (or_true m (says_failed es) n a.broke e);
+    begins = begins_both;
   }
 
 -- moves and then a break

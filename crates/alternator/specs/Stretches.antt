@@ -108,6 +108,16 @@ pub record Answers (r : Rules) (s : State) (mute : Bool) (ts : List Turn) (t : S
   pub does : Does r s mute ts t after_it entries told
   pub quiet : Quiet entries
 
+-- Of turns that broke off some were done, and at most one more was begun. Just these asked for their moments: each request, and a refused
+-- head unless a say had failed.
+pub record Begins (ts : List Turn) (told : List ℕ) : Type 0 where
+  pub done : List Turn
+  pub begun : List Turn
+  pub rest : List Turn
+  pub parts : ts ≡ done ++ (begun ++ rest)
+  pub few : length begun ≤ 1
+  pub count : (length told ≡ asks (done ++ begun)) ⊎ (length told ≡ requests (done ++ begun))
+
 -- Doing these turns broke off.
 pub record DoesSome (r : Rules) (fault : RunFault) (s : State) (mute : Bool) (ts : List Turn) (entries : Log) (told : List ℕ) : Type 0 where
   pub said : IsPrefix (said_in entries) (text r s ts told)
@@ -116,6 +126,7 @@ pub record DoesSome (r : Rules) (fault : RunFault) (s : State) (mute : Bool) (ts
   pub silent : mute ≡ true → said_in entries ≡ []
   pub hush : Hushes entries
   pub still : mute ≡ true → says entries ≡ false
+  pub begins : Begins ts told
 
 -- and nothing was taken
 pub record AnswersSome (r : Rules) (fault : RunFault) (s : State) (mute : Bool) (ts : List Turn) (entries : Log) (told : List ℕ) : Type 0 where

@@ -85,7 +85,8 @@ pub none_comes : (r : Rules) (w : Lawful r) (per : ℕ) (s : State) (a b : DiskS
 none_comes r w per s a b g m keeps here = stretch_one a b (ComesOn r per false s s) _ g m
     (keeps.later, omega arith, tt) keeps (
       (refl, (b.moment, told_count a.beside, refl), refl),
-      left_silent r w a b s [] (entry b.moment (told_count a.beside) none_came ∷ []) [] keeps refl here,
+      left_silent r w (at per false []) s a b (entry b.moment (told_count a.beside) none_came ∷ []) []
+          keeps refl here,
     )
 
 -- the wait failed
@@ -93,7 +94,7 @@ pub wait_failed : (r : Rules) (w : Lawful r) (per : ℕ) (s : State) (a b : Disk
     → Grows a.beside b.beside [] → moments_of b.beside ≡ moments_of a.beside → Keeps a b
     → LeavesNow a s → Stretch a b (ComesSomeOn r per Failed s)
 wait_failed r w per s a b g m keeps here = stretch_one a b (ComesSomeOn r per Failed s) [] g m tt keeps
-    (inl ((refl, refl, tt), left_silent r w a b s [] [] [] keeps refl here))
+    (inl (refl, refl, tt), left_silent r w (at per false []) s a b [] [] keeps refl here)
 
 -- what is kept from the accept to the hanging up
 pub hung_passes : (a b c d : DiskState) → talks a.beside ≡ false → Keeps a b

@@ -346,9 +346,9 @@ module _ (r : Rules) (w : Lawful r) (p : Place) (s : State) where
   pub left_same : (es fs : Log) (ms : List ℕ) (t u : ℕ) (image : Image)
       → taken (until u fs) ≡ taken (until t es) → said_in (until u fs) ≡ said_in (until t es)
       → LeftTaken r p s es ms t image → LeftTaken r p s fs ms u image
-  left_same es fs ms t u image took said x =
-      subst (λ (bs : List ℕ). LeftFor r p s bs ms (said_in (until u fs)) image) (sym took)
-      (subst (λ (bs : List ℕ). LeftFor r p s (taken (until t es)) ms bs image) (sym said) x)
+  left_same es fs ms t u image same alike x =
+      subst (λ (bs : List ℕ). LeftFor r p s bs ms (said_in (until u fs)) image) (sym same)
+      (subst (λ (bs : List ℕ). LeftFor r p s (taken (until t es)) ms bs image) (sym alike) x)
 
   -- by a moment by which nothing was said
   pub left_unsaid : (es : Log) (ms : List ℕ) (u : ℕ) (image : Image) → said_in (until u es) ≡ []

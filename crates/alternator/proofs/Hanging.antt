@@ -12,7 +12,7 @@ use Rattle.alternator.specs.Talks.{Turn, Rules, Lawful, Place, at, turns, closes
 use Rattle.alternator.specs.TalkStops.{ComesOn, ComesSomeOn, LeavesNow}
 use Rattle.alternator.specs.TalkTexts.{text}
 use Rattle.alternator.specs.Stretches.{SaidOf, over, Hushes, TakesIdle, Does, DoesSome, GoesSome, Ends}
-use Rattle.alternator.specs.Connections.{Serves, Breaks, fresh}
+use Rattle.alternator.specs.Connections.{Serves, Breaks, start}
 use Rattle.alternator.proofs.Serving.{taken-append, said_in-append}
 use Rattle.alternator.proofs.TalkLeaving.{left_silent}
 use Rattle.alternator.proofs.TalkIdle.{idle_other, idle-append, counted_behind}
@@ -46,10 +46,10 @@ module _ (r : Rules) (per : ℕ) (s : State) (es : Log) (ms : List ℕ) (from si
   hushed h = hushes-append es (entry upto clocked hung_up ∷ []) h (λ f. absurd (let g : ⊥ = cc in g), tt)
       (λ _. refl)
 
-  idle_hung : TakesIdle r (fresh per) s false ms [] es
-      → TakesIdle r (fresh per) s false ms [] (es ++ entry upto clocked hung_up ∷ [])
-  idle_hung h = idle-append r (fresh per) s false ms [] es (entry upto clocked hung_up ∷ []) h
-      (idle_other r (fresh per) s false ms es (entry upto clocked hung_up) refl)
+  idle_hung : TakesIdle r (start per) s false ms [] es
+      → TakesIdle r (start per) s false ms [] (es ++ entry upto clocked hung_up ∷ [])
+  idle_hung h = idle-append r (start per) s false ms [] es (entry upto clocked hung_up ∷ []) h
+      (idle_other r (start per) s false ms es (entry upto clocked hung_up) refl)
 
   pub serves_hung : (q : Place) (t : State) (n : Bool) → 0 < per → Ends r (at per false []) s false q t n es ms
       → Serves r per s (record { moment = from; clocked = since; entries = es ++ entry upto clocked hung_up ∷ []; told = ms }) t
@@ -105,7 +105,8 @@ pub none_comes : (r : Rules) (w : Lawful r) (per : ℕ) (s : State) (a b : DiskS
 none_comes r w per s a b g m keeps here = stretch_one a b (ComesOn r per false s s) _ g m
     (keeps.later, omega arith, tt) keeps (
       (refl, (b.moment, told_count a.beside, refl), refl),
-      left_silent r w a b s [] (entry b.moment (told_count a.beside) none_came ∷ []) [] keeps refl here,
+      left_silent r w (at per false []) s a b (entry b.moment (told_count a.beside) none_came ∷ []) []
+          keeps refl here,
     )
 
 -- the wait failed
@@ -113,7 +114,7 @@ pub wait_failed : (r : Rules) (w : Lawful r) (per : ℕ) (s : State) (a b : Disk
     → Grows a.beside b.beside [] → moments_of b.beside ≡ moments_of a.beside → Keeps a b
     → LeavesNow a s → Stretch a b (ComesSomeOn r per Failed s)
 wait_failed r w per s a b g m keeps here = stretch_one a b (ComesSomeOn r per Failed s) [] g m tt keeps
-    (inl ((refl, refl, tt), left_silent r w a b s [] [] [] keeps refl here))
+    (inl (refl, refl, tt), left_silent r w (at per false []) s a b [] [] keeps refl here)
 
 -- what is kept from the accept to the hanging up
 pub hung_passes : (a b c d : DiskState) → talks a.beside ≡ false → Keeps a b

@@ -30,8 +30,8 @@ abbrev pub turns_of : Rules → ℕ → Connection → List Turn
 turns_of r per k = turns r per false (taken k.entries)
 
 -- where a connection begins
-abbrev pub fresh : ℕ → Place
-fresh per = at per false []
+abbrev pub start : ℕ → Place
+start per = at per false []
 
 -- A connection was served and hung up: where its end was taken, a take or a say on it failed, or its turns ended. Where no say failed
 -- its whole text was said, and else a part from the front; the state is that of its requests, answered or not. Bytes were taken only
@@ -39,7 +39,7 @@ fresh per = at per false []
 pub record Serves (r : Rules) (per : ℕ) (s : State) (k : Connection) (t : State) : Type 0 where
   pub does : Does r s false (turns_of r per k) t (says_failed k.entries) k.entries k.told
   pub cause : (over k.entries ≡ true) ⊎ (says_failed k.entries ≡ true) ⊎ (closes (turns_of r per k) ≡ true)
-  pub idle : TakesIdle r (fresh per) s false k.told [] k.entries
+  pub idle : TakesIdle r (start per) s false k.told [] k.entries
   pub before : Log
   pub at : ℕ
   pub clocked : ℕ
@@ -58,7 +58,7 @@ Missed fault entries told = (entries ≡ []) × (told ≡ []) × IsCausedBy None
 -- Serving a connection broke off; bytes were taken as on one that was served.
 pub record Breaks (r : Rules) (per : ℕ) (fault : RunFault) (s : State) (k : Connection) : Type 0 where
   pub some : DoesSome r fault s false (turns_of r per k) k.entries k.told
-  pub idle : TakesIdle r (fresh per) s false k.told [] k.entries
+  pub idle : TakesIdle r (start per) s false k.told [] k.entries
 
 -- one came, broke off and was hung up
 abbrev pub Broke : Rules → ℕ → RunFault → State → Log → List ℕ → Type 0

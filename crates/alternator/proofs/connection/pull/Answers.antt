@@ -6,7 +6,7 @@ use Rattle.alternator.specs.Stops.{AreWithin}
 use Rattle.alternator.specs.TalkRules.{rules}
 use Rattle.alternator.specs.TalkStops.{MovesAllOn, MovesSomeOn, GoesOn, GoesSomeOn}
 use Rattle.alternator.specs.TalkViews.{place_of}
-use Rattle.alternator.specs.Talks.{at, turns_at}
+use Rattle.alternator.specs.Talks.{at}
 use Rattle.alternator.specs.declared.serve.RunFault.TheVariants.{NoMemory}
 use Rattle.alternator.proofs.Stopping.{ready_kept, stands_kept}
 use Rattle.alternator.proofs.TalkIdle.{idle_start}
@@ -112,7 +112,7 @@ returns-then-count-eq0-clause-turned g c = λ s stands rest.
           c.in-Ok.ensures.moments (keeps.later, omega arith, tt) keeps (
             goes_end rules p s m rest b.moment (told_count a.beside)
                 (idle_start rules p s m rest c.requires.going c.requires.heard),
-            left_silent rules lawful a b s (turns_at rules p [])
+            left_silent rules lawful p s a b
                 (entry b.moment (told_count a.beside) (took []) ∷ []) [] keeps refl
                 (λ trusted image is. stands_left a c.args.tables.now s stands image is),
           );
@@ -132,8 +132,8 @@ returns-in-Err-extend-clause-turned g c = λ s stands rest.
     c.in-Ok.ensures.taken c.in-Ok.ensures.moments (keeps.later, omega arith, tt) keeps (
       goes_some_none rules p s m bytes b.moment (told_count a.beside)
           (idle_start rules p s m rest c.requires.going c.requires.heard),
-      left_silent rules lawful a b s _ (entry b.moment (told_count a.beside) (took bytes) ∷ []) [] keeps
-          refl
+      left_silent rules lawful p s a b (entry b.moment (told_count a.beside) (took bytes) ∷ []) []
+          keeps refl
           (λ trusted image is. stands_left a c.args.tables.now s stands image is),
     )
 

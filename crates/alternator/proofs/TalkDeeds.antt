@@ -142,7 +142,7 @@ module _ (r : Rules) (w : Lawful r) (a b c : DiskState) (s t : State) (m n : Boo
     (clear : has_refused ts ≡ false) (p : Does r s m ts t n es ms)
     (mute : n ≡ true → said_in fs ≡ []) where
   exact : length ms ≡ asks ts
-  exact = elim p.count [ inl e ↦ e | inr e ↦ e.1 ∙ asks-requests ts clear ]
+  exact = elim p.count [ inl e ↦ e.0 | inr e ↦ e.1 ∙ asks-requests ts clear ]
 
   pub both : deeds r s (ts ++ us) (ms ++ ns) ≡ deeds r s ts ms ++ deeds r t us ns
   both = deeds-append r s ts us ms ns exact

@@ -79,6 +79,14 @@ pub left_nothing : (a : DiskState) (s : State) (vs : List Deed) → AllSay vs �
 left_nothing a s vs say here = leaves-here a (λ u image. IsLeft s vs (said_in (until u [])) image)
     (λ trusted u image is. left-nothing-of s vs image say (here trusted image is))
 
+-- nothing was said, whatever turns were begun
+pub left_untold : (r : Rules) (w : Lawful r) (a b : DiskState) (s : State) (ts : List Turn)
+    (ms : List ℕ) → Keeps a b → LeavesNow a s → AtEach a b (LeftOn r s ts [] ms)
+left_untold r w a b s ts ms keeps here trusted =
+    keeps-spans a b (LeftOn r s ts [] ms) keeps
+    (λ u image low is. left-nothing-of s (deeds r s ts ms) image (deeds_say r w s ts ms)
+    (here trusted image is))
+
 -- nothing was done
 pub none_on : (r : Rules) (a : DiskState) (s : State) → LeavesNow a s
     → AtEach a a (LeftOn r s [] [] [])
@@ -333,7 +341,7 @@ taken-behind e es u still = by_test (nat_le e.0 u)
     by_test false = refl
 
 -- An entry says nothing and takes nothing.
-pub record Idle (e : ℕ × List ℕ) : Type 0 where
+pub record Passive (e : ℕ × List ℕ) : Type 0 where
   pub silent : said_in (e ∷ []) ≡ []
   pub still : taken (e ∷ []) ≡ []
 
@@ -359,7 +367,7 @@ module _ (r : Rules) (w : Lawful r) (p : Place) (s : State) where
       (left-nothing-of s (deeds r s ts ms) image (deeds_say r w s ts ms) stands)
 
   -- what is left behind one that left all files is left with it
-  pub left_front : (a b c : DiskState) (x : ℕ × List ℕ) → Idle x → Keeps a b → LeavesNow a s
+  pub left_front : (a b c : DiskState) (x : ℕ × List ℕ) → Passive x → Keeps a b → LeavesNow a s
       → (es : Log) (ms : List ℕ) → AreWithin b.moment c.moment es
       → AtEach b c (LeftTaken r p s es ms) → AtEach a c (LeftTaken r p s (x ∷ es) ms)
   left_front a b c x idle keeps here es ms within left trusted =
@@ -375,7 +383,7 @@ module _ (r : Rules) (w : Lawful r) (p : Place) (s : State) where
       (said-behind x es u idle.silent) y)
 
   -- and so is what is left before one that takes no moment
-  pub left_end : (a b c : DiskState) (x : ℕ × List ℕ) → Idle x → Aside b c → (es : Log)
+  pub left_end : (a b c : DiskState) (x : ℕ × List ℕ) → Passive x → Aside b c → (es : Log)
       (ms : List ℕ) → AtEach a b (LeftTaken r p s es ms)
       → AtEach a c (LeftTaken r p s (es ++ x ∷ []) ms)
   left_end a b c x idle aside es ms left =

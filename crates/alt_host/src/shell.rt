@@ -1,6 +1,6 @@
 //! The shell in hand: its counts and what it stands on.
 
-ghost use Rattle.std.specs.Prelude.{◌≡◌, ◌≤◌, false, IfOk};
+ghost use Rattle.std.specs.Prelude.{◌≡◌, ◌≤◌, true, false, IfOk, is_none};
 ghost use Rattle.alt_base.specs.Counts.{Rose, next_moment};
 
 use crate::folder::Folder;
@@ -35,6 +35,7 @@ impl<R: Runtime<File = File> + Net> HostShell<R> {
         ensures counts { IfOk result (λ s. (s.moment ≡ 0) × (s.given ≡ 0) × (s.faults ≡ 0)
             × (s.talk_faults ≡ 0)) }
         ensures quiet { IfOk result (λ s. s.talking ≡ false) }
+        ensures listener { port ≡ 0 → IfOk result (λ s. is_none s.listener ≡ true) }
     {
         let folder = match Folder::open(&rt, alloc, folder) {
             Ok(folder) => folder,
@@ -71,6 +72,7 @@ impl<R: Runtime<File = File> + Net> HostShell<R> {
         ensures talk { self.new.talk_faults ≡ self.old.talk_faults }
         ensures takes { self.new.takes_missed ≡ self.old.takes_missed }
         ensures says { self.new.says_missed ≡ self.old.says_missed }
+        ensures listener { self.new.listener ≡ self.old.listener }
     {
         self.moment = self.moment.saturating_add(1);
         self.faults = self.faults.saturating_add(1);

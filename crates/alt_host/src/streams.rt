@@ -1,10 +1,10 @@
 //! The standard streams, the connections and the clock.
 
-ghost use Rattle.std.specs.Prelude.{◌≡◌, ◌≤◌, true, false, length, IfOk};
+ghost use Rattle.std.specs.Prelude.{◌≡◌, ◌≤◌, true, false, length, IfOk, is_none, is_ok};
 ghost use Rattle.alt_base.specs.Counts.{Rose, next_moment};
 ghost use Rattle.alt_host.specs.Host.{told};
-ghost use Rattle.alt_shell.specs.Calls.{ShellCall, StaysIn};
-ghost use Rattle.alt_shell.specs.Log.{takes_missed, says_missed};
+ghost use Rattle.alt_shell.specs.Calls.{Accepts, ShellCall, StaysIn};
+ghost use Rattle.alt_shell.specs.Log.{talks, takes_missed, says_missed};
 
 use crate::shell::HostShell;
 use crate::talk::{self, Peer};
@@ -134,7 +134,25 @@ impl<R: Runtime<File = File> + Net> Shell for HostShell<R> {
         Ok(())
     }
 
-    fn accept(&mut self) -> Result<bool, Failed> {
+    fn accept(&mut self) -> Result<bool, Failed>
+        requires { talks
+            (told self.old.moment self.old.faults self.old.talking self.old.talk_faults
+            self.old.takes_missed self.old.says_missed).beside ≡ false }
+        ensures accepted { Accepts
+            (told self.old.moment self.old.faults self.old.talking self.old.talk_faults
+            self.old.takes_missed self.old.says_missed)
+            (told self.new.moment self.new.faults self.new.talking self.new.talk_faults
+            self.new.takes_missed self.new.says_missed) result }
+        ensures call { ShellCall
+            (told self.old.moment self.old.faults self.old.talking self.old.talk_faults
+            self.old.takes_missed self.old.says_missed)
+            (told self.new.moment self.new.faults self.new.talking self.new.talk_faults
+            self.new.takes_missed self.new.says_missed) (is_ok result) }
+
+        // Without a listener, so where the port is 0, none comes.
+        ensures alone { is_none self.old.listener ≡ true → IfOk result (λ came. came ≡ false) }
+        ensures listener { self.new.listener ≡ self.old.listener }
+    {
         if self.moment == u64::MAX {
             return Err(self.fails());
         }

@@ -9,7 +9,7 @@ use Rattle.alt_shell.specs.Calls.{Aside}
 use Rattle.alt_shell.specs.Log.{Log, Grows, moments_of}
 use Rattle.alt_shell.proofs.Telling.{Grows-then}
 use Rattle.alternator.specs.Connections.{ServedSome, turns_of}
-use Rattle.alternator.specs.Endings.{status_of, HasDone, HasMade, HasRun, HasNumbers, Makes, BreaksOff, WasDamaged, IsReadable, Done, Broken}
+use Rattle.alternator.specs.Endings.{status_of, HasDone, HasMade, HasRun, HasNumbers, Makes, BreaksOff, WasDamaged, IsReadable, Done, Broken, LacksNumber}
 use Rattle.alternator.specs.Runs.{Answers, AnswersSome, LeftThen, IsOpening, Opened}
 use Rattle.alternator.specs.Stretches.{DoesSome}
 use Rattle.alternator.specs.TalkRules.{rules}
@@ -54,7 +54,15 @@ some_answers a b fault s es ms x = record {
 does_some : (r : Rules) (fault : RunFault) (s : State) (m : Bool) (ts : List Turn) (es : Log)
     (ms : List ℕ) → DoesSome r fault s m ts es ms → DoesSome r why.NoMemory s m ts es ms
 does_some r fault s m ts es ms x =
-    record { said = x.said; most = x.most; wants = tt; silent = x.silent }
+    record {
+      said = x.said;
+      most = x.most;
+      wants = tt;
+      silent = x.silent;
+      hush = x.hush;
+      still = x.still;
+      begins = x.begins;
+    }
 
 -- and connections
 some_served : (r : Rules) (per count : ℕ) (fault : RunFault) (s : State) (es : Log) (ms : List ℕ)
@@ -68,7 +76,10 @@ some_served r per count fault s es ms x = record {
   moments = x.moments;
   some = elim x.some [
     | inl none ↦ inl (none.0, tt)
-    | inr one ↦ inr (one.0, one.1, does_some r fault x.halfway _ (turns_of r per one.0) _ _ one.2)
+    | inr one ↦ inr (one.0, one.1, record {
+        some = does_some r fault x.halfway _ (turns_of r per one.0) _ _ one.2.some;
+        idle = one.2.idle;
+      })
   ];
   most = x.most;
 }
@@ -120,8 +131,16 @@ damaged_early fault a b h trusted = ⊎_elim
     (h (tells_of a trusted))
 
 -- where there was no memory for the numbers of a note, the run has done what one does that ends for want of memory
-made_memory : (a b : DiskState) (ending : Ending) → HasNumbers ending → HasMade Memory a b
-made_memory a b ending n = tt
+made_memory : (a b : DiskState) (ending : Ending) → HasNumbers ending → HasMade ending a b
+    → HasMade Memory a b
+made_memory a b Whole n h = absurd n
+made_memory a b Words n h = absurd n
+made_memory a b (NotEmpty first) n h = h.0
+made_memory a b (Damaged file at) n h = absurd h
+made_memory a b (BadRow family key) n h = absurd h
+made_memory a b Device n h = absurd n
+made_memory a b Memory n h = absurd n
+made_memory a b (Spent number) n h = absurd h
 
 run_memory : (a b : DiskState) (job : Job) (ending : Ending) → HasNumbers ending
     → HasRun job ending a b → HasRun job Memory a b
@@ -150,7 +169,7 @@ none_memory a b (Spent number) n h = h
 as_memory : (a b : DiskState) (job : Option Job) (ending : Ending) → HasNumbers ending
     → HasDone job ending a b → HasDone job Memory a b
 as_memory a b None ending n h = absurd (none_memory a b ending n h)
-as_memory a b (Some Init) ending n h = made_memory a b ending n
+as_memory a b (Some Init) ending n h = made_memory a b ending n h
 as_memory a b (Some Replay) ending n h = run_memory a b Replay ending n h
 as_memory a b (Some (Serve per count)) ending n h = run_memory a b (Serve per count) ending n h
 as_memory a b (Some (Trial seed count)) ending n h = run_memory a b (Trial seed count) ending n h
@@ -310,12 +329,12 @@ module _ (b c : DiskState) (g : Grows b.beside c.beside [])
   still_done a None (Spent number) h = absurd h
   still_done a (Some Init) Whole h = stretch_quiet a b c {P = Makes} (makes_behind a) h aside g m
   still_done a (Some Init) Words h = absurd h
-  still_done a (Some Init) (NotEmpty first) h = λ tells.
-      ((h tells).0, quiet_behind a b c aside (h tells).1)
+  still_done a (Some Init) (NotEmpty first) h =
+      (m ∙ h.0, λ tells. ((h.1 tells).0, quiet_behind a b c aside (h.1 tells).1))
   still_done a (Some Init) (Damaged file at) h = absurd h
   still_done a (Some Init) (BadRow family key) h = absurd h
-  still_done a (Some Init) Device h = subst (Rose a.faults) (sym aside.faults) h
-  still_done a (Some Init) Memory h = tt
+  still_done a (Some Init) Device h = (m ∙ h.0, subst (Rose a.faults) (sym aside.faults) h.1)
+  still_done a (Some Init) Memory h = m ∙ h
   still_done a (Some Init) (Spent number) h = absurd h
   still_done a (Some Replay) ending h = run_behind a Replay ending h
   still_done a (Some (Serve per count)) ending h = run_behind a (Serve per count) ending h
@@ -395,7 +414,8 @@ run_completes : (a b : DiskState) (job : Job) (ending : Ending) (status : ℕ)
     → status ≡ status_of ending
     → HasRun job ending a b → IsTrusted a → IsReadable a.file
     → (Rose a.faults b.faults → ⊥)
-    → ((status ≡ 0) × Opened a b (Done job)) ⊎ (status ≡ 5) ⊎ (status ≡ 6)
+    → ((status ≡ 0) × Opened a b (Done job)) ⊎ (status ≡ 5)
+    ⊎ ((status ≡ 6) × LacksNumber job a b)
 run_completes a b job Whole status e h trusted readable well = inl (e, h.1 trusted)
 run_completes a b job Words status e h trusted readable well = absurd h
 run_completes a b job (NotEmpty first) status e h trusted readable well = absurd h
@@ -407,13 +427,15 @@ run_completes a b job (BadRow family key) status e h trusted readable well =
     (h (tells_of a trusted)))
 run_completes a b job Device status e h trusted readable well = absurd (well h.0)
 run_completes a b job Memory status e h trusted readable well = inr (inl e)
-run_completes a b job (Spent n) status e h trusted readable well = inr (inr e)
+run_completes a b job (Spent n) status e h trusted readable well =
+    inr (inr (e, (n, h.1 trusted)))
 
 pub completes : (a b : DiskState) (job : Job) (ending : Ending) (status : ℕ)
     → status ≡ status_of ending → IsOverStore job
     → HasDone (Some job) ending a b → IsTrusted a → IsReadable a.file
     → (Rose a.faults b.faults → ⊥)
-    → ((status ≡ 0) × Opened a b (Done job)) ⊎ (status ≡ 5) ⊎ (status ≡ 6)
+    → ((status ≡ 0) × Opened a b (Done job)) ⊎ (status ≡ 5)
+    ⊎ ((status ≡ 6) × LacksNumber job a b)
 completes a b Init ending status e over h trusted readable well = absurd over
 completes a b Replay ending status e over h trusted readable well =
     run_completes a b Replay ending status e h trusted readable well
@@ -430,9 +452,9 @@ pub makes_all : (a b : DiskState) (ending : Ending) (status : ℕ) → status �
 makes_all a b Whole status e h trusted none well = inl e
 makes_all a b Words status e h trusted none well = absurd h
 makes_all a b (NotEmpty first) status e h trusted none well =
-    absurd ((h (tells_of a trusted)).0.there (none first))
+    absurd ((h.1 (tells_of a trusted)).0.there (none first))
 makes_all a b (Damaged file at) status e h trusted none well = absurd h
 makes_all a b (BadRow family key) status e h trusted none well = absurd h
-makes_all a b Device status e h trusted none well = absurd (well h)
+makes_all a b Device status e h trusted none well = absurd (well h.1)
 makes_all a b Memory status e h trusted none well = inr e
 makes_all a b (Spent n) status e h trusted none well = absurd h

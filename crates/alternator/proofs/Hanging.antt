@@ -11,11 +11,12 @@ use Rattle.alternator.specs.Runs.{Passes, Stretch}
 use Rattle.alternator.specs.Talks.{Turn, Rules, Lawful, Place, at, turns, closes}
 use Rattle.alternator.specs.TalkStops.{ComesOn, ComesSomeOn, LeavesNow}
 use Rattle.alternator.specs.TalkTexts.{text}
-use Rattle.alternator.specs.Stretches.{SaidOf, over, Does, DoesSome, GoesSome, Ends}
-use Rattle.alternator.specs.Connections.{Serves}
+use Rattle.alternator.specs.Stretches.{SaidOf, over, Hushes, TakesIdle, Does, DoesSome, GoesSome, Ends}
+use Rattle.alternator.specs.Connections.{Serves, Breaks, start}
 use Rattle.alternator.proofs.Serving.{taken-append, said_in-append}
 use Rattle.alternator.proofs.TalkLeaving.{left_silent}
-use Rattle.alternator.proofs.TalkLogs.{stretch_one, over-append, broken-append}
+use Rattle.alternator.proofs.TalkIdle.{idle_other, idle-append, counted_behind}
+use Rattle.alternator.proofs.TalkLogs.{stretch_one, over-append, broken-append, hushes-append}
 use Rattle.alternator.proofs.TalkCuts.{closes_end}
 
 or_false : (b : Bool) → (b || false) ≡ b
@@ -41,6 +42,15 @@ module _ (r : Rules) (per : ℕ) (s : State) (es : Log) (ms : List ℕ) (from si
   same_ended : over (es ++ entry upto clocked hung_up ∷ []) ≡ over es
   same_ended = over-append es (entry upto clocked hung_up ∷ []) ∙ or_false (over es)
 
+  hushed : Hushes es → Hushes (es ++ entry upto clocked hung_up ∷ [])
+  hushed h = hushes-append es (entry upto clocked hung_up ∷ []) h (λ f. absurd (let g : ⊥ = cc in g), tt)
+      (λ _. refl)
+
+  idle_hung : TakesIdle r (start per) s false ms [] es
+      → TakesIdle r (start per) s false ms [] (es ++ entry upto clocked hung_up ∷ [])
+  idle_hung h = idle-append r (start per) s false ms [] es (entry upto clocked hung_up ∷ []) h
+      (idle_other r (start per) s false ms es (entry upto clocked hung_up) refl)
+
   pub serves_hung : (q : Place) (t : State) (n : Bool) → 0 < per → Ends r (at per false []) s false q t n es ms
       → Serves r per s (record { moment = from; clocked = since; entries = es ++ entry upto clocked hung_up ∷ []; told = ms }) t
   serves_hung q t n some e =
@@ -50,10 +60,12 @@ module _ (r : Rules) (per : ℕ) (s : State) (es : Log) (ms : List ℕ) (from si
       let whole : Does r s false ts t n (es ++ entry upto clocked hung_up ∷ []) ms = record {
         said = subst (λ (bs : List ℕ). SaidOf n bs (text r s ts ms)) (sym same_said) moved.said;
         state = moved.state;
-        count = moved.count;
+        count = counted_behind r s false ts ms n es (entry upto clocked hung_up ∷ []) moved.count;
         enough = moved.enough;
         broke = moved.broke ∙ sym same_broken;
         silent = λ z. absurd (let f : ⊥ = cc in f);
+        hush = hushed d.hush;
+        still = λ z. absurd (let f : ⊥ = cc in f);
       } in
       record {
         does = subst (λ (b : Bool). Does r s false ts t b (es ++ entry upto clocked hung_up ∷ []) ms) whole.broke whole;
@@ -62,6 +74,7 @@ module _ (r : Rules) (per : ℕ) (s : State) (es : Log) (ms : List ℕ) (from si
           | inr (inl mute) ↦ inr (inl (same_broken ∙ sym d.broke ∙ mute))
           | inr (inr done) ↦ inr (inr (ap (λ bs. closes (turns r per false bs)) same_taken ∙ closes_end r per false (taken es) some (ap (λ (p : Place). p.left) (sym e.goes.place) ∙ done)))
         ];
+        idle = idle_hung e.goes.idle;
         before = es;
         at = upto;
         clocked = clocked;
@@ -69,13 +82,20 @@ module _ (r : Rules) (per : ℕ) (s : State) (es : Log) (ms : List ℕ) (from si
         inside = e.goes.inside;
       }
 
-  pub some_hung : (fault : RunFault) → GoesSome r fault (at per false []) s false es ms → DoesSome r fault s false (turns r per false (taken (es ++ entry upto clocked hung_up ∷ []))) (es ++ entry upto clocked hung_up ∷ []) ms
+  pub some_hung : (fault : RunFault) → GoesSome r fault (at per false []) s false es ms
+      → Breaks r per fault s (record { moment = from; clocked = since; entries = es ++ entry upto clocked hung_up ∷ []; told = ms })
   some_hung fault e =
       let moved = subst (λ (bs : List ℕ). DoesSome r fault s false (turns r per false bs) es ms) (sym same_taken) e.some in record {
-        said = (moved.said.0, moved.said.1 ∙ ap (λ bs. bs ++ moved.said.0) (sym same_said));
-        most = moved.most;
-        wants = moved.wants;
-        silent = λ z. absurd (let f : ⊥ = cc in f);
+        some = record {
+          said = (moved.said.0, moved.said.1 ∙ ap (λ bs. bs ++ moved.said.0) (sym same_said));
+          most = moved.most;
+          wants = moved.wants;
+          silent = λ z. absurd (let f : ⊥ = cc in f);
+          hush = hushed moved.hush;
+          still = λ z. absurd (let f : ⊥ = cc in f);
+          begins = moved.begins;
+        };
+        idle = idle_hung e.idle;
       }
 
 -- none came
@@ -85,7 +105,8 @@ pub none_comes : (r : Rules) (w : Lawful r) (per : ℕ) (s : State) (a b : DiskS
 none_comes r w per s a b g m keeps here = stretch_one a b (ComesOn r per false s s) _ g m
     (keeps.later, omega arith, tt) keeps (
       (refl, (b.moment, told_count a.beside, refl), refl),
-      left_silent r w a b s [] (entry b.moment (told_count a.beside) none_came ∷ []) [] keeps refl here,
+      left_silent r w (at per false []) s a b (entry b.moment (told_count a.beside) none_came ∷ []) []
+          keeps refl here,
     )
 
 -- the wait failed
@@ -93,7 +114,7 @@ pub wait_failed : (r : Rules) (w : Lawful r) (per : ℕ) (s : State) (a b : Disk
     → Grows a.beside b.beside [] → moments_of b.beside ≡ moments_of a.beside → Keeps a b
     → LeavesNow a s → Stretch a b (ComesSomeOn r per Failed s)
 wait_failed r w per s a b g m keeps here = stretch_one a b (ComesSomeOn r per Failed s) [] g m tt keeps
-    (inl ((refl, refl, tt), left_silent r w a b s [] [] [] keeps refl here))
+    (inl (refl, refl, tt), left_silent r w (at per false []) s a b [] [] keeps refl here)
 
 -- what is kept from the accept to the hanging up
 pub hung_passes : (a b c d : DiskState) → talks a.beside ≡ false → Keeps a b

@@ -12,7 +12,7 @@ use Rattle.alt_engine.specs.declared.make.MakeFault.TheVariants.{NotEmpty}
 use Rattle.alt_shell.specs.Calls.{Adds, Aside, ShellCall}
 use Rattle.alt_shell.specs.Log.{Log, Grows, moments_of, entry, told_count, said}
 use Rattle.alt_shell.proofs.Telling.{Grows-then, Grows-nil, Tells-nil}
-use Rattle.alternator.specs.Endings.{Makes, IsFirstFile}
+use Rattle.alternator.specs.Endings.{Makes, IsFirstFile, Unasked}
 use Rattle.alternator.specs.Runs.{Stretch}
 use Rattle.alternator.proofs.Stopping.{trusts-kept, within-wider}
 use Rattle.alt_tables.proofs.Left.{stands_made}
@@ -58,11 +58,19 @@ quiet_behind a b c aside p = record {
       aside.keeps.past t g before ∙ p.fates t g low before;
 }
 
+-- calls of a disk alone don't ask the clock
+pub unasked_by : (a b : DiskState) → Goes a b → Unasked a b
+unasked_by a b goes = ap moments_of goes.beside
+
 -- where files were there, the first was named and all of them were left
-pub none_made : (a b : DiskState) (fault : MakeFault) (first : ℕ) → fault ≡ NotEmpty first
+pub none_made : (a b : DiskState) (fault : MakeFault) (first : ℕ) → Goes a b
+    → fault ≡ NotEmpty first
     → (IsTrue a.tells → NamesFirst a.file fault)
     → (IsTrue a.tells → (f : ℕ) → a.file f ≢ None → Quiet a b)
-    → IsTrue a.tells → IsFirstFile a.file first × Quiet a b
-none_made a b fault first same names left tells =
-    let named : NamesFirst a.file (NotEmpty first) = subst (NamesFirst a.file) same (names tells) in
-    (record { there = named.0; none = named.1 }, left tells first named.0)
+    → Unasked a b × (IsTrue a.tells → IsFirstFile a.file first × Quiet a b)
+none_made a b fault first goes same names left = (
+  unasked_by a b goes,
+  λ tells.
+      let named : NamesFirst a.file (NotEmpty first) = subst (NamesFirst a.file) same (names tells) in
+      (record { there = named.0; none = named.1 }, left tells first named.0),
+)

@@ -17,6 +17,7 @@ pub mod TalkAmong
 pub mod TalkCuts
 pub mod TalkDeeds
 pub mod TalkFolds
+pub mod TalkIdle
 pub mod TalkLaws
 pub mod TalkLeaving
 pub mod TalkLogs

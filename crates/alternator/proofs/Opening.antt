@@ -109,7 +109,7 @@ broken_well Init fault s b c never h = h
 broken_well Replay fault s b c never h = never _ h.holds.breaks.wants
 broken_well (Serve per count) fault s b c never h = ⊎_elim
     (λ x. never None x.1)
-    (λ x. never _ x.2.wants)
+    (λ x. never _ x.2.some.wants)
     h.holds.0.some
 broken_well (Trial seed count) fault s b c never h = never _ h.holds.wants
 

@@ -9,7 +9,7 @@ use Rattle.alternator.specs.Turns.{or_next}
 use Rattle.alternator.specs.TalkViews.{asking}
 use Rattle.alternator.specs.Talks.{Turn, onward, asked, refused, Rules, Head, unread, bad, good, Place, at, turns, final, greets, is_whole, size_of, request_of, has_refused}
 use Rattle.alternator.specs.TalkTexts.{asks, wanted}
-use Rattle.alternator.specs.Stretches.{Utters, Answers, AnswersSome, Moves, MovesSome, Steps}
+use Rattle.alternator.specs.Stretches.{Utters, Answers, AnswersSome, Begins, Moves, MovesSome, Steps}
 use Rattle.alternator.proofs.TalkCuts.{at_unread, at_bad, at_hello, at_whole, at_short}
 use Rattle.alternator.proofs.TalkFolds.{text-more, asks-append}
 use Rattle.alternator.proofs.Uttering.{does_none, does_onward, quiet_none, moves_none}
@@ -46,6 +46,17 @@ wanted-more r s (asked q ∷ ts) us (m ∷ ms) h = ap (or_next (r.wants s q m)) 
 wanted-more r s (refused k ∷ ts) us [] h = wanted-more r s ts us [] (omega arith)
 wanted-more r s (refused k ∷ ts) us (m ∷ ms) h = wanted-more r s ts us ms (omega arith)
 
+begins_more : (ts us : List Turn) (ms : List ℕ) → Begins ts ms → Begins (ts ++ us) ms
+begins_more ts us ms b = record {
+  done = b.done;
+  begun = b.begun;
+  rest = b.rest ++ us;
+  parts = ap (λ l. l ++ us) b.parts ∙ append_assoc b.done (b.begun ++ b.rest) us
+      ∙ ap (λ l. b.done ++ l) (append_assoc b.begun b.rest us);
+  few = b.few;
+  count = b.count;
+}
+
 -- a break is one of more turns
 pub some_more : (r : Rules) (fault : RunFault) (s : State) (m : Bool) (ts us vs : List Turn) (es : Log) (ms : List ℕ) → vs ≡ ts ++ us
     → AnswersSome r fault s m ts es ms → AnswersSome r fault s m vs es ms
@@ -56,6 +67,9 @@ some_more r fault s m ts us vs es ms e a =
         most = let x = asks-append ts us in let y = a.some.most in omega (arith, x, y);
         wants = subst (λ w. IsCausedBy w fault) (sym (wanted-more r s ts us ms a.some.most)) a.some.wants;
         silent = a.some.silent;
+        hush = a.some.hush;
+        still = a.some.still;
+        begins = begins_more ts us ms a.some.begins;
       };
       quiet = a.quiet;
     })

@@ -90,6 +90,24 @@ module _ (r : Rules) (w : Lawful r) where
       let e = deeds-more s ts us ms (omega arith) in
       (e.0, e.1, ap (λ ds. saying (r.refusal k m) ∷ ds) e.2)
 
+  -- and with more moments
+  pub deeds-longer : (s : State) (ts : List Turn) (ms ns : List ℕ)
+      → (ds : List Deed) × AllSay ds × (deeds r s ts (ms ++ ns) ≡ deeds r s ts ms ++ ds)
+  deeds-longer s [] ms ns = ([], tt, refl)
+  deeds-longer s (onward ∷ ts) ms ns =
+      let e = deeds-longer s ts ms ns in
+      (e.0, e.1, ap (λ ds. saying r.greeting ∷ ds) e.2)
+  deeds-longer s (asked q ∷ ts) [] ns =
+      (deeds r s (asked q ∷ ts) ns, deeds_say s (asked q ∷ ts) ns, refl)
+  deeds-longer s (asked q ∷ ts) (m ∷ ms) ns =
+      let e = deeds-longer (r.next s q m) ts ms ns in
+      (e.0, e.1, ap (λ ds. carrying r s q m ∷ ds) e.2)
+  deeds-longer s (refused k ∷ ts) [] ns =
+      (deeds r s (refused k ∷ ts) ns, deeds_say s (refused k ∷ ts) ns, refl)
+  deeds-longer s (refused k ∷ ts) (m ∷ ms) ns =
+      let e = deeds-longer s ts ms ns in
+      (e.0, e.1, ap (λ ds. saying (r.refusal k m) ∷ ds) e.2)
+
 -- ---- what is left
 
 -- behind turns of which a say failed nothing more is said
@@ -124,9 +142,9 @@ module _ (r : Rules) (w : Lawful r) (a b c : DiskState) (s t : State) (m n : Boo
     (clear : has_refused ts ≡ false) (p : Does r s m ts t n es ms)
     (mute : n ≡ true → said_in fs ≡ []) where
   exact : length ms ≡ asks ts
-  exact = elim p.count [ inl e ↦ e | inr e ↦ e.1 ∙ asks-requests ts clear ]
+  exact = elim p.count [ inl e ↦ e.0 | inr e ↦ e.1 ∙ asks-requests ts clear ]
 
-  both : deeds r s (ts ++ us) (ms ++ ns) ≡ deeds r s ts ms ++ deeds r t us ns
+  pub both : deeds r s (ts ++ us) (ms ++ ns) ≡ deeds r s ts ms ++ deeds r t us ns
   both = deeds-append r s ts us ms ns exact
       ∙ ap (λ (u : State). deeds r s ts ms ++ deeds r u us ns) (sym p.state)
 
@@ -134,7 +152,7 @@ module _ (r : Rules) (w : Lawful r) (a b c : DiskState) (s t : State) (m n : Boo
   reached = p.state ∙ sym (after-deeds r w s ts ms)
 
   -- what was said by a moment behind the first
-  behind : (v : ℕ) (image : Image) → (x : Bool) → n ≡ x
+  pub behind : (v : ℕ) (image : Image) → (x : Bool) → n ≡ x
       → IsLeft t (deeds r t us ns) (said_in (until v fs)) image
       → IsLeft s (deeds r s ts ms ++ deeds r t us ns) (said_in es ++ said_in (until v fs)) image
   behind v image true is left =

@@ -1,7 +1,7 @@
 -- What a stop leaves while the turns of a connection are done, rung by rung.
 use Rattle.std.proofs.Common.{◌≡◌, ◌≤◌, ◌<◌, ◌-◌, ◌⊎◌, inl, inr, ◌&&◌, IsTrue, ℕ, List, [], ◌∷◌, ◌++◌, length, Bool, true, false, None, cond, drop, refl, sym, ap, subst, ◌∙◌, append-nil, arith}
 use Rattle.std.specs.Prelude.{◌||◌, nat_le}
-use Rattle.std.proofs.lemmas.Bool.{true≢false}
+use Rattle.std.proofs.lemmas.Bool.{true≢false, le-leb}
 use Rattle.alt_base.specs.Prefix.{IsPrefix}
 use Rattle.alt_disk.specs.Fates.{Fates, Fits}
 use Rattle.alt_disk.specs.Disk.{DiskState, Goes as DiskGoes, IsTrusted}
@@ -9,22 +9,22 @@ use Rattle.alt_disk.proofs.Runs.{trusted_on}
 use Rattle.alt_machine.specs.Outcomes.{last_state}
 use Rattle.alt_machine.specs.State.{State}
 use Rattle.alt_shell.specs.Calls.{Adds, Aside, Keeps, Untold, IsUntoldBy}
-use Rattle.alt_shell.specs.Log.{Log, Grows, Tells, moments_of, until, entry, told_count, took, take_failed, takes_failed, takes_missed, talks, accepted, hung_up, said_in, taken, bytes_said, event_of}
+use Rattle.alt_shell.specs.Log.{Log, Grows, Tells, moments_of, until, entry, told_count, took, take_failed, takes_failed, takes_missed, talks, accepted, hung_up, said_in, taken, bytes_said, bytes_taken, event_of}
 use Rattle.alt_shell.proofs.Telling.{Grows-then, Tells-then}
 use Rattle.alt_tables.specs.Images.{StandsFor}
 use Rattle.alternator.specs.Faults.{IsCausedBy}
 use Rattle.alternator.specs.Runs.{OfStretch, Stretch}
-use Rattle.alternator.specs.Stops.{IsLeft, IsAmong, AtEach, AreWithin}
-use Rattle.alternator.specs.Stretches.{Utters, AtRest}
+use Rattle.alternator.specs.Stops.{Image, IsLeft, IsAmong, AtEach, AreWithin}
+use Rattle.alternator.specs.Stretches.{Utters, AtRest, Idle, Goes}
 use Rattle.alternator.specs.Talks.{Turn, onward, asked, refused, Rules, Lawful, Request, Head, Place, at, unread, bad, good, greets, is_whole, size_of, request_of, turns, final, turns_at}
-use Rattle.alternator.specs.TalkStops.{deeds, carrying, saying, LeavesNow, LeftOn, AnswersOn, AnswersSomeOn, CarriesOn, CarriesSomeOn, MovesOn, StepsOn, MovesAllOn, MovesSomeOn, GoesOn, GoesSomeOn}
+use Rattle.alternator.specs.TalkStops.{deeds, carrying, saying, LeavesNow, LeftOn, LeftTaken, AnswersOn, AnswersSomeOn, CarriesOn, CarriesSomeOn, MovesOn, StepsOn, MovesAllOn, MovesSomeOn, GoesOn, GoesSomeOn}
 use Rattle.alternator.specs.TalkTexts.{asks}
 use Rattle.alternator.specs.Turns.{Turn as Deed}
 use Rattle.alternator.specs.declared.serve.RunFault.{RunFault}
 use Rattle.alternator.proofs.Serving.{said_in-append, stretch_as, taken-append}
 use Rattle.alternator.proofs.Stepping.{answers_greeted, steps_short, steps_bad, steps_unread, moves_hello, moves_some, whole_at, fewer_left}
-use Rattle.alternator.proofs.Stopping.{AllSay, Meet, left-more, left-nothing-of, leaves-here, leaves-said, leaves-unsaid, leaves-weaker, spans_two, keeps-spans, trusts-kept, until-append, until-before, within-then, within-wider, leaves-before-aside, leaves-behind-aside, none-shorter, said-by}
-use Rattle.alternator.proofs.TalkDeeds.{deeds_say, deeds-more, left_then}
+use Rattle.alternator.proofs.Stopping.{AllSay, Meet, left-more, left-nothing-of, leaves-here, leaves-said, leaves-unsaid, leaves-weaker, spans_two, keeps-spans, trusts-kept, until-append, until-before, until-behind, taken-until, within-then, within-wider, leaves-before-aside, leaves-behind-aside, none-shorter, said-by}
+use Rattle.alternator.proofs.TalkDeeds.{deeds_say, deeds-more, deeds-longer, both, behind, left_then}
 use Rattle.alternator.proofs.TalkLogs.{stretch_one, then_one, took_then}
 use Rattle.alternator.proofs.TalkPulls.{goes_failed, goes_start, goes_taken, goes_some_taken, goes_then, goes_break, joined}
 use Rattle.alternator.proofs.Uttering.{does_asked, does_refused, some_asked, moves_none, moves_then, moves_all, moves_break}
@@ -78,6 +78,14 @@ pub left_nothing : (a : DiskState) (s : State) (vs : List Deed) → AllSay vs �
     → AtEach a a (λ u image. IsLeft s vs (said_in (until u [])) image)
 left_nothing a s vs say here = leaves-here a (λ u image. IsLeft s vs (said_in (until u [])) image)
     (λ trusted u image is. left-nothing-of s vs image say (here trusted image is))
+
+-- nothing was said, whatever turns were begun
+pub left_untold : (r : Rules) (w : Lawful r) (a b : DiskState) (s : State) (ts : List Turn)
+    (ms : List ℕ) → Keeps a b → LeavesNow a s → AtEach a b (LeftOn r s ts [] ms)
+left_untold r w a b s ts ms keeps here trusted =
+    keeps-spans a b (LeftOn r s ts [] ms) keeps
+    (λ u image low is. left-nothing-of s (deeds r s ts ms) image (deeds_say r w s ts ms)
+    (here trusted image is))
 
 -- nothing was done
 pub none_on : (r : Rules) (a : DiskState) (s : State) → LeavesNow a s
@@ -310,7 +318,7 @@ module _ (r : Rules) (w : Lawful r) (a b c : DiskState) where
         moves_break_on fault p mid s t m n es fs ms ns meet l first
         (moves_some_on r w b c fault mid t n fs ns (whole ∷ []) _ f.0 y)
 
--- ---- entries that say nothing
+-- ---- entries that say and take nothing
 
 -- of an entry that isn't a say nothing is said by any moment
 pub said-behind : (e : ℕ × List ℕ) (es : Log) (u : ℕ) → said_in (e ∷ []) ≡ []
@@ -322,36 +330,84 @@ said-behind e es u silent = by_test (nat_le e.0 u)
         (sym (append-nil (bytes_said (event_of e.1))) ∙ silent)
     by_test false = refl
 
--- what is left behind one that left all files is left with it
-pub left_front : (r : Rules) (w : Lawful r) (s : State) (a b c : DiskState) (x : ℕ × List ℕ)
-    → said_in (x ∷ []) ≡ [] → Keeps a b → LeavesNow a s → (ts : List Turn) (es : Log) (ms : List ℕ)
-    → AreWithin b.moment c.moment es
-    → AtEach b c (LeftOn r s ts es ms) → AtEach a c (LeftOn r s ts (x ∷ es) ms)
-left_front r w s a b c x silent keeps here ts es ms within left trusted =
-    spans_two a b c (λ _ image. StandsFor image s) (LeftOn r s ts es ms)
-    (LeftOn r s ts (x ∷ es) ms)
-    (keeps-spans a b (λ _ image. StandsFor image s) keeps
-    (λ u image low is. here trusted image is))
-    (left (trusts-kept a b keeps trusted))
-    (λ u image before y. subst (λ (bs : List ℕ). IsLeft s (deeds r s ts ms) bs image)
-    (sym (said-behind x es u silent
-    ∙ ap said_in (until-before b.moment c.moment u es within before)))
-    (left-nothing-of s (deeds r s ts ms) image (deeds_say r w s ts ms) y))
-    (λ u image from y. subst (λ (bs : List ℕ). IsLeft s (deeds r s ts ms) bs image)
-    (sym (said-behind x es u silent)) y)
+-- and of one that isn't a take nothing is taken
+pub taken-behind : (e : ℕ × List ℕ) (es : Log) (u : ℕ) → taken (e ∷ []) ≡ []
+    → taken (until u (e ∷ es)) ≡ taken (until u es)
+taken-behind e es u still = by_test (nat_le e.0 u)
+  where
+    by_test : (x : Bool) → taken (cond x (e ∷ until u es) (until u es)) ≡ taken (until u es)
+    by_test true = ap (λ (bs : List ℕ). bs ++ taken (until u es))
+        (sym (append-nil (bytes_taken (event_of e.1))) ∙ still)
+    by_test false = refl
 
--- and so is what is left before one that takes no moment
-pub left_end : (r : Rules) (s : State) (a b c : DiskState) (x : ℕ × List ℕ) → said_in (x ∷ []) ≡ []
-    → Aside b c → (ts : List Turn) (es : Log) (ms : List ℕ)
-    → AtEach a b (LeftOn r s ts es ms) → AtEach a c (LeftOn r s ts (es ++ x ∷ []) ms)
-left_end r s a b c x silent aside ts es ms left =
-    leaves-weaker a c (LeftOn r s ts es ms) (LeftOn r s ts (es ++ x ∷ []) ms)
-    (λ u image y. subst (λ (bs : List ℕ). IsLeft s (deeds r s ts ms) bs image)
-    (sym (ap said_in (until-append u es (x ∷ []))
-    ∙ said_in-append (until u es) (until u (x ∷ []))
-    ∙ ap (λ (bs : List ℕ). said_in (until u es) ++ bs) (said-behind x [] u silent)
-    ∙ append-nil (said_in (until u es)))) y)
-    (leaves-before-aside a b c (LeftOn r s ts es ms) aside left)
+-- An entry says nothing and takes nothing.
+pub record Passive (e : ℕ × List ℕ) : Type 0 where
+  pub silent : said_in (e ∷ []) ≡ []
+  pub still : taken (e ∷ []) ≡ []
+
+-- what is left where these bytes were taken and these said
+abbrev LeftFor : Rules → Place → State → List ℕ → List ℕ → List ℕ → Image → Type 0
+LeftFor r p s bytes ms said image = IsLeft s (deeds r s (turns_at r p bytes) ms) said image
+
+module _ (r : Rules) (w : Lawful r) (p : Place) (s : State) where
+  -- where the same bytes were taken and said
+  pub left_same : (es fs : Log) (ms : List ℕ) (t u : ℕ) (image : Image)
+      → taken (until u fs) ≡ taken (until t es) → said_in (until u fs) ≡ said_in (until t es)
+      → LeftTaken r p s es ms t image → LeftTaken r p s fs ms u image
+  left_same es fs ms t u image same alike x =
+      subst (λ (bs : List ℕ). LeftFor r p s bs ms (said_in (until u fs)) image) (sym same)
+      (subst (λ (bs : List ℕ). LeftFor r p s (taken (until t es)) ms bs image) (sym alike) x)
+
+  -- by a moment by which nothing was said
+  pub left_unsaid : (es : Log) (ms : List ℕ) (u : ℕ) (image : Image) → said_in (until u es) ≡ []
+      → StandsFor image s → LeftTaken r p s es ms u image
+  left_unsaid es ms u image silent stands =
+      let ts : List Turn = turns_at r p (taken (until u es)) in
+      subst (λ (bs : List ℕ). IsLeft s (deeds r s ts ms) bs image) (sym silent)
+      (left-nothing-of s (deeds r s ts ms) image (deeds_say r w s ts ms) stands)
+
+  -- what is left behind one that left all files is left with it
+  pub left_front : (a b c : DiskState) (x : ℕ × List ℕ) → Passive x → Keeps a b → LeavesNow a s
+      → (es : Log) (ms : List ℕ) → AreWithin b.moment c.moment es
+      → AtEach b c (LeftTaken r p s es ms) → AtEach a c (LeftTaken r p s (x ∷ es) ms)
+  left_front a b c x idle keeps here es ms within left trusted =
+      spans_two a b c (λ _ image. StandsFor image s) (LeftTaken r p s es ms)
+      (LeftTaken r p s (x ∷ es) ms)
+      (keeps-spans a b (λ _ image. StandsFor image s) keeps
+      (λ u image low is. here trusted image is))
+      (left (trusts-kept a b keeps trusted))
+      (λ u image before y. left_unsaid (x ∷ es) ms u image
+      (said-behind x es u idle.silent
+      ∙ ap said_in (until-before b.moment c.moment u es within before)) y)
+      (λ u image from y. left_same es (x ∷ es) ms u u image (taken-behind x es u idle.still)
+      (said-behind x es u idle.silent) y)
+
+  -- and so is what is left before one that takes no moment
+  pub left_end : (a b c : DiskState) (x : ℕ × List ℕ) → Passive x → Aside b c → (es : Log)
+      (ms : List ℕ) → AtEach a b (LeftTaken r p s es ms)
+      → AtEach a c (LeftTaken r p s (es ++ x ∷ []) ms)
+  left_end a b c x idle aside es ms left =
+      leaves-weaker a c (LeftTaken r p s es ms) (LeftTaken r p s (es ++ x ∷ []) ms)
+      (λ u image y. left_same es (es ++ x ∷ []) ms u u image
+      (ap taken (until-append u es (x ∷ []))
+      ∙ taken-append (until u es) (until u (x ∷ []))
+      ∙ ap (λ (bs : List ℕ). taken (until u es) ++ bs) (taken-behind x [] u idle.still)
+      ∙ append-nil (taken (until u es)))
+      (ap said_in (until-append u es (x ∷ []))
+      ∙ said_in-append (until u es) (until u (x ∷ []))
+      ∙ ap (λ (bs : List ℕ). said_in (until u es) ++ bs) (said-behind x [] u idle.silent)
+      ∙ append-nil (said_in (until u es))) y)
+      (leaves-before-aside a b c (LeftTaken r p s es ms) aside left)
+
+  -- calls that leave all files, where nothing was said, leave what stood
+  pub left_silent : (a b : DiskState) (es : Log) (ms : List ℕ) → Keeps a b → said_in es ≡ []
+      → LeavesNow a s → AtEach a b (LeftTaken r p s es ms)
+  left_silent a b es ms keeps silent here trusted =
+      keeps-spans a b (LeftTaken r p s es ms) keeps
+      (λ u image low is. left_unsaid es ms u image
+      (none-shorter (said_in (until u es))
+      (let h = said-by u es in let k = ap length silent in omega (arith, h, k)))
+      (here trusted image is))
 
 -- ---- taking
 
@@ -360,49 +416,51 @@ module _ (r : Rules) (p : Place) (s : State) (a b c : DiskState) (bytes : List �
   abbrev one : ℕ × List ℕ
   one = entry b.moment clocked (took bytes)
 
-  -- what is left behind a take is left with it
-  pub left_taken : (w : Lawful r) (ts : List Turn) (es : Log) (ms : List ℕ)
-      → AreWithin b.moment c.moment es
-      → AtEach b c (LeftOn r s ts es ms) → AtEach a c (LeftOn r s ts (one ∷ es) ms)
-  left_taken w ts es ms within left = left_front r w s a b c one refl keeps here ts es ms within left
-
   all_taken : (es : Log) → taken es ≡ [] → taken (one ∷ es) ≡ bytes
   all_taken es e = ap (λ bs. bytes ++ bs) e ∙ append-nil bytes
+
+  -- Before the take nothing is taken; what is left behind it is left with it.
+  pub left_taken : (w : Lawful r) (es : Log) (ms : List ℕ)
+      → AreWithin b.moment c.moment es → taken es ≡ []
+      → AtEach b c (LeftOn r s (turns_at r p bytes) es ms)
+      → AtEach a c (LeftTaken r p s (one ∷ es) ms)
+  left_taken w es ms within still left trusted =
+      spans_two a b c (λ _ image. StandsFor image s) (LeftOn r s (turns_at r p bytes) es ms)
+      (LeftTaken r p s (one ∷ es) ms)
+      (keeps-spans a b (λ _ image. StandsFor image s) keeps
+      (λ u image low is. here trusted image is))
+      (left (trusts-kept a b keeps trusted))
+      (λ u image before y. left_unsaid r w p s (one ∷ es) ms u image
+      (said-behind one es u refl
+      ∙ ap said_in (until-before b.moment c.moment u es within before)) y)
+      (λ u image from y.
+      let front : until u (one ∷ es) ≡ one ∷ until u es =
+      ap (λ (v : Bool). cond v (one ∷ until u es) (until u es)) (le-leb b.moment u from) in
+      subst (λ (bs : List ℕ). LeftFor r p s bs ms (said_in (until u (one ∷ es))) image)
+      (sym (ap taken front ∙ all_taken (until u es) (taken-until u es still)))
+      (subst (λ (bs : List ℕ). LeftFor r p s bytes ms bs image)
+      (sym (said-behind one es u refl)) y))
 
   abbrev into : Place
   into = at p.left p.greeted (p.bytes ++ bytes)
 
   -- bytes were taken, and the turns at hand then were done
-  pub goes_taken_on : (w : Lawful r) (m : Bool) (q : Place) (t : State) (n : Bool) (es : Log)
+  pub goes_taken_on : (w : Lawful r) (m : Bool) (ready : Idle r p s m [] []) (q : Place) (t : State) (n : Bool) (es : Log)
       (ms : List ℕ) → AreWithin b.moment c.moment es → 0 < length bytes
       → MovesAllOn r into s m q t n b c es ms → GoesOn r true p s m q t n a c (one ∷ es) ms
-  goes_taken_on w m q t n es ms within some x = (
-    goes_taken r p s m bytes b.moment clocked q t n es ms some x.0,
-    subst (λ (bs : List ℕ). AtEach a c (LeftOn r s (turns_at r p bs) (one ∷ es) ms))
-        (sym (all_taken es x.0.quiet.still))
-        (left_taken w (turns_at r p bytes) es ms within x.1),
+  goes_taken_on w m ready q t n es ms within some x = (
+    goes_taken r p s m bytes b.moment clocked ready q t n es ms some x.0,
+    left_taken w es ms within x.0.quiet.still x.1,
   )
 
   -- that broke off
-  pub goes_some_taken_on : (w : Lawful r) (m : Bool) (fault : RunFault) (es : Log) (ms : List ℕ)
+  pub goes_some_taken_on : (w : Lawful r) (m : Bool) (ready : Idle r p s m [] []) (fault : RunFault) (es : Log) (ms : List ℕ)
       → AreWithin b.moment c.moment es → MovesSomeOn r fault into s m b c es ms
       → GoesSomeOn r fault p s m a c (one ∷ es) ms
-  goes_some_taken_on w m fault es ms within x = (
-    goes_some_taken r p s m bytes b.moment clocked fault es ms x.0,
-    subst (λ (bs : List ℕ). AtEach a c (LeftOn r s (turns_at r p bs) (one ∷ es) ms))
-        (sym (all_taken es x.0.quiet.still))
-        (left_taken w (turns_at r p bytes) es ms within x.1),
+  goes_some_taken_on w m ready fault es ms within x = (
+    goes_some_taken r p s m bytes b.moment clocked ready fault es ms x.0,
+    left_taken w es ms within x.0.quiet.still x.1,
   )
-
--- calls that leave all files, where nothing was said, leave what stood
-pub left_silent : (r : Rules) (w : Lawful r) (a b : DiskState) (s : State) (ts : List Turn) (es : Log)
-    (ms : List ℕ) → Keeps a b → said_in es ≡ [] → LeavesNow a s → AtEach a b (LeftOn r s ts es ms)
-left_silent r w a b s ts es ms keeps silent here trusted =
-    keeps-spans a b (LeftOn r s ts es ms) keeps
-    (λ u image low is. subst (λ (bs : List ℕ). IsLeft s (deeds r s ts ms) bs image)
-    (sym (none-shorter (said_in (until u es))
-    (let h = said-by u es in let k = ap length silent in omega (arith, h, k))))
-    (left-nothing-of s (deeds r s ts ms) image (deeds_say r w s ts ms) (here trusted image is)))
 
 -- ---- one take after another
 
@@ -415,15 +473,48 @@ goes_start_on r w a p s m rest here = (
 )
 
 module _ (r : Rules) (w : Lawful r) (a b c : DiskState) where
+  -- what is left while more is taken behind what was
+  left_goes : (p q : Place) (s t : State) (m n : Bool) (es fs : Log) (ms ns : List ℕ)
+      → Meet a b c es fs → 0 < q.left → Goes r true p s m q t n es ms
+      → (n ≡ true → said_in fs ≡ []) → AtEach a b (LeftTaken r p s es ms)
+      → AtEach b c (LeftTaken r q t fs ns) → AtEach a c (LeftTaken r p s (es ++ fs) (ms ++ ns))
+  left_goes p q s t m n es fs ms ns meet going x mute first then trusted =
+      spans_two a b c (LeftTaken r p s es ms) (LeftTaken r q t fs ns)
+      (LeftTaken r p s (es ++ fs) (ms ++ ns))
+      (first trusted) (then (meet.trusts trusted))
+      (λ u image before y.
+      let same : until u (es ++ fs) ≡ until u es =
+      until-append u es fs
+      ∙ ap (λ (gs : Log). until u es ++ gs) (until-before b.moment c.moment u fs meet.behind before)
+      ∙ append-nil (until u es) in
+      let ts : List Turn = turns_at r p (taken (until u es)) in
+      let more = deeds-longer r w s ts ms ns in
+      left_same r w p s es (es ++ fs) (ms ++ ns) u u image (ap taken same) (ap said_in same)
+      (subst (λ (ds : List Deed). IsLeft s ds (said_in (until u es)) image) (sym more.2)
+      (left-more s (deeds r s ts ms) more.0 (said_in (until u es)) image more.1 y)))
+      (λ u image from y.
+      let gs : Log = until u fs in
+      let same : until u (es ++ fs) ≡ es ++ gs =
+      until-append u es fs
+      ∙ ap (λ (hs : Log). hs ++ gs) (until-behind a.moment b.moment u es meet.before from) in
+      let ts : List Turn = turns_at r p (taken es) in
+      let us : List Turn = turns_at r q (taken gs) in
+      subst (λ (hs : Log). LeftFor r p s (taken hs) (ms ++ ns) (said_in hs) image) (sym same)
+      (subst (λ (ks : List Turn). IsLeft s (deeds r s ks (ms ++ ns)) (said_in (es ++ gs)) image)
+      (sym (joined r w p q s t m n es gs ms going x))
+      (subst (λ (ds : List Deed). IsLeft s ds (said_in (es ++ gs)) image)
+      (sym (both r w a b c s t m n ts us es fs ms ns meet (x.clear going) x.does mute))
+      (subst (λ (bs : List ℕ). IsLeft s (deeds r s ts ms ++ deeds r t us ns) bs image)
+      (sym (said_in-append es gs))
+      (behind r w a b c s t m n ts us es fs ms ns meet (x.clear going) x.does mute u image n refl
+      y)))))
+
   pub goes_then_on : (more : Bool) (p q v : Place) (s t u : State) (m n o : Bool) (es fs : Log)
       (ms ns : List ℕ) → Meet a b c es fs → 0 < q.left → GoesOn r true p s m q t n a b es ms
       → GoesOn r more q t n v u o b c fs ns → GoesOn r more p s m v u o a c (es ++ fs) (ms ++ ns)
   goes_then_on more p q v s t u m n o es fs ms ns meet going x y = (
     goes_then r w more p q v s t u m n o es fs ms ns going x.0 y.0,
-    subst (λ (ts : List Turn). AtEach a c (LeftOn r s ts (es ++ fs) (ms ++ ns)))
-        (sym (joined r w p q s t m n es fs ms going x.0))
-        (left_then r w a b c s t m n (turns_at r p (taken es)) (turns_at r q (taken fs)) es fs ms ns
-        meet (x.0.clear going) x.0.does (λ e. (y.0.does.silent e).0) x.1 y.1),
+    left_goes p q s t m n es fs ms ns meet going x.0 (λ e. (y.0.does.silent e).0) x.1 y.1,
   )
 
   pub goes_break_on : (fault : RunFault) (p q : Place) (s t : State) (m n : Bool) (es fs : Log)
@@ -431,25 +522,22 @@ module _ (r : Rules) (w : Lawful r) (a b c : DiskState) where
       → GoesSomeOn r fault q t n b c fs ns → GoesSomeOn r fault p s m a c (es ++ fs) (ms ++ ns)
   goes_break_on fault p q s t m n es fs ms ns meet going x y = (
     goes_break r w fault p q s t m n es fs ms ns going x.0 y.0,
-    subst (λ (ts : List Turn). AtEach a c (LeftOn r s ts (es ++ fs) (ms ++ ns)))
-        (sym (joined r w p q s t m n es fs ms going x.0))
-        (left_then r w a b c s t m n (turns_at r p (taken es)) (turns_at r q (taken fs)) es fs ms ns
-        meet (x.0.clear going) x.0.does y.0.some.silent x.1 y.1),
+    left_goes p q s t m n es fs ms ns meet going x.0 y.0.some.silent x.1 y.1,
   )
 
 -- a take that failed in a talk in which none had failed
 pub goes_missed_on : (r : Rules) (w : Lawful r) (p : Place) (s : State) (m : Bool) (rest : AtRest r p)
-    (a b : DiskState) → talks a.beside ≡ true → takes_missed a.beside ≡ false
+    (ready : Idle r p s m [] []) (a b : DiskState) → talks a.beside ≡ true → takes_missed a.beside ≡ false
     → (Adds a b take_failed ⊎ Untold a b takes_failed takes_missed)
     → moments_of b.beside ≡ moments_of a.beside → Keeps a b → LeavesNow a s
     → Stretch a b (GoesOn r false p s m p s m)
-goes_missed_on r w p s m rest a b talking none (inl told) moments keeps here =
+goes_missed_on r w p s m rest ready a b talking none (inl told) moments keeps here =
     stretch_one a b (GoesOn r false p s m p s m) _ told moments (keeps.later, omega arith, tt) keeps (
-      goes_failed r p s m rest b.moment (told_count a.beside),
-      left_silent r w a b s (turns_at r p [])
-          (entry b.moment (told_count a.beside) take_failed ∷ []) [] keeps refl here,
+      goes_failed r p s m rest b.moment (told_count a.beside) ready,
+      left_silent r w p s a b (entry b.moment (told_count a.beside) take_failed ∷ []) [] keeps refl
+          here,
     )
-goes_missed_on r w p s m rest a b talking none (inr untold) moments keeps here =
+goes_missed_on r w p s m rest ready a b talking none (inr untold) moments keeps here =
     let why = subst (λ (t : Bool). IsUntoldBy t a takes_failed takes_missed) talking untold.why in
     absurd (true≢false (sym why ∙ none))
 
@@ -476,19 +564,16 @@ stretch_hung a b c d since clocked P Q came m keeps went n aside join p =
     (λ es ms within q. (within, q)) p))
 
 -- what is left while a connection is served is left from its accept to its hanging up
-pub left_hung : (r : Rules) (w : Lawful r) (per : ℕ) (s : State) (a b c d : DiskState)
+pub left_hung : (r : Rules) (w : Lawful r) (p : Place) (s : State) (a b c d : DiskState)
     (since clocked : ℕ) → Keeps a b → Aside c d → LeavesNow a s → (es : Log) (ms : List ℕ)
     → AreWithin b.moment c.moment es → b.moment ≤ c.moment
-    → AtEach b c (LeftOn r s (turns r per false (taken es)) es ms)
-    → AtEach a d (LeftOn r s (turns r per false (taken (es ++ entry d.moment clocked hung_up ∷ [])))
+    → AtEach b c (LeftTaken r p s es ms)
+    → AtEach a d (LeftTaken r p s
     (entry b.moment since accepted ∷ (es ++ entry d.moment clocked hung_up ∷ [])) ms)
-left_hung r w per s a b c d since clocked keeps aside here es ms within later left =
+left_hung r w p s a b c d since clocked keeps aside here es ms within later left =
     let y = entry d.moment clocked hung_up in
-    let ts : List Turn = turns r per false (taken es) in
-    subst (λ (us : List Turn). AtEach a d (LeftOn r s us (entry b.moment since accepted ∷ (es ++ y ∷ []))
-    ms))
-    (sym (ap (turns r per false) (taken-append es (y ∷ []) ∙ append-nil (taken es))))
-    (left_front r w s a b d (entry b.moment since accepted) refl keeps here ts (es ++ y ∷ []) ms
+    left_front r w p s a b d (entry b.moment since accepted) (record { silent = refl; still = refl })
+    keeps here (es ++ y ∷ []) ms
     (within-then b.moment c.moment d.moment es (y ∷ []) within
     (aside.keeps.later, omega arith, tt) later aside.keeps.later)
-    (left_end r s b c d y refl aside ts es ms left))
+    (left_end r w p s b c d y (record { silent = refl; still = refl }) aside es ms left)

@@ -8,7 +8,7 @@ use Rattle.alt_shell.specs.Log.{Log, Grows, Tells, moments_of, event_of, Event, 
 use Rattle.alt_shell.proofs.Telling.{Grows-then, Tells-then, Tells-nil}
 use Rattle.alternator.specs.Runs.{OfStretch, Stretch}
 use Rattle.alternator.specs.Stops.{AreWithin}
-use Rattle.alternator.specs.Stretches.{is_over, over}
+use Rattle.alternator.specs.Stretches.{is_over, over, is_say, says, Hushes}
 use Rattle.alternator.proofs.Stopping.{trusts-kept, within-then, within-wider}
 
 pub or-assoc : (a b c : Bool) → (a || (b || c)) ≡ ((a || b) || c)
@@ -32,6 +32,34 @@ broken-append es fs = any-append is_say_failed es fs
 
 pub crosses-append : (es fs : Log) → crosses (es ++ fs) ≡ (crosses es || crosses fs)
 crosses-append es fs = any-append is_bound es fs
+
+pub says-append : (es fs : Log) → says (es ++ fs) ≡ (says es || says fs)
+says-append es fs = any-append is_say es fs
+
+pub or_right : (b : Bool) → (b || true) ≡ true
+or_right true = refl
+or_right false = refl
+
+-- of two tests that fail together each fails
+pub left_false : (a b : Bool) → (a || b) ≡ false → a ≡ false
+left_false true b e = absurd (let f : ⊥ = cc in f)
+left_false false b e = refl
+
+pub right_false : (a b : Bool) → (a || b) ≡ false → b ≡ false
+right_false true b e = absurd (let f : ⊥ = cc in f)
+right_false false b e = e
+
+-- nothing is said behind a say that failed in the first entries, nor behind one in the others
+pub hushes-append : (es fs : Log) → Hushes es → Hushes fs → (says_failed es ≡ true → says fs ≡ false)
+    → Hushes (es ++ fs)
+hushes-append [] fs h k still = k
+hushes-append (e ∷ es) fs h k still = (
+  λ f. says-append es fs ∙ ap (λ b. b || says fs) (h.0 f)
+      ∙ still (ap (λ b. b || says_failed es) f),
+  hushes-append es fs h.1 k
+      (λ f. still (ap (λ b. is_say_failed (event_of e.1) || b) f
+      ∙ or_right (is_say_failed (event_of e.1)))),
+)
 
 -- one call, which told no moment and left all files
 pub stretch_one : (a b : DiskState) (P : OfStretch) (es : Log) → Grows a.beside b.beside es

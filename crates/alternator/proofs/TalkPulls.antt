@@ -7,22 +7,32 @@ use Rattle.alt_machine.specs.State.{State}
 use Rattle.alt_shell.specs.Log.{Log, entry, took, take_failed, taken, crosses}
 use Rattle.alternator.specs.Talks.{Turn, Rules, Lawful, Place, at, turns, final, turns_at, final_at, has_refused}
 use Rattle.alternator.specs.TalkTexts.{text}
-use Rattle.alternator.specs.Stretches.{is_over, over, Does, DoesSome, MovesAll, MovesSome, Goes, GoesSome, AtRest}
+use Rattle.alternator.specs.Stretches.{is_over, over, Does, DoesSome, MovesAll, MovesSome, Goes, GoesSome, AtRest, Idle, TakesIdle}
 use Rattle.alternator.proofs.Serving.{taken-append}
 use Rattle.alternator.proofs.TalkLogs.{over-append, crosses-append}
 use Rattle.alternator.proofs.TalkCuts.{turns_cut, final_cut, at_unread}
-use Rattle.alternator.proofs.Uttering.{does_none, does_then, does_break, clear_then}
+use Rattle.alternator.proofs.TalkIdle.{one_more, idle_quiet, idle_both, counted_front}
+use Rattle.alternator.proofs.Uttering.{begins_none, does_none, does_then, does_break, clear_then}
 
 some_is_no_end : (bytes : List ℕ) → 0 < length bytes → is_over (Some (took bytes)) ≡ false
 some_is_no_end [] h = absurd (omega arith)
 some_is_no_end (b ∷ bytes) h = refl
 
-module _ (r : Rules) (p : Place) (s : State) (m : Bool) (bytes : List ℕ) (moment clocked : ℕ) where
+module _ (r : Rules) (p : Place) (s : State) (m : Bool) (bytes : List ℕ) (moment clocked : ℕ)
+    (ready : Idle r p s m [] []) where
   into : Place
   into = at p.left p.greeted (p.bytes ++ bytes)
 
   all_taken : (es : Log) → taken es ≡ [] → taken (entry moment clocked (took bytes) ∷ es) ≡ bytes
   all_taken es e = ap (λ bs. bytes ++ bs) e ∙ append-nil bytes
+
+  -- the take came where one may, and behind it none did
+  idle_taken : (es : Log) (ms : List ℕ) → taken es ≡ [] → over es ≡ false
+      → TakesIdle r p s m ms [] (entry moment clocked (took bytes) ∷ es)
+  idle_taken es ms e o = (
+    λ _. one_more r p s m [] ms [] ready,
+    idle_quiet r p s m ms (entry moment clocked (took bytes) ∷ []) es e o,
+  )
 
   pub goes_taken : (q : Place) (t : State) (n : Bool) (es : Log) (ms : List ℕ) → 0 < length bytes
       → MovesAll r (at p.left p.greeted (p.bytes ++ bytes)) s m q t n es ms → Goes r true p s m q t n (entry moment clocked (took bytes) ∷ es) ms
@@ -33,15 +43,18 @@ module _ (r : Rules) (p : Place) (s : State) (m : Bool) (bytes : List ℕ) (mome
         does = subst (λ (bs : List ℕ). Does r s m (turns_at r p bs) t n (entry moment clocked (took bytes) ∷ es) ms) (sym all) (record {
           said = d.said;
           state = d.state;
-          count = d.count;
+          count = counted_front r s m (turns_at r p bytes) ms n (entry moment clocked (took bytes)) es refl refl d.count;
           enough = d.enough;
           broke = d.broke;
           silent = d.silent;
+          hush = (λ f. absurd (let g : ⊥ = cc in g), d.hush);
+          still = d.still;
         });
         place = a.place ∙ ap (final_at r p) (sym all);
         clear = λ z. ap (λ bs. has_refused (turns_at r p bs)) all ∙ a.clear z;
         ends = ap (λ b. b || over es) (some_is_no_end bytes h) ∙ a.quiet.goes_on;
         inside = a.quiet.inside;
+        idle = idle_taken es ms a.quiet.still a.quiet.goes_on;
       }
 
   pub goes_some_taken : (fault : RunFault) (es : Log) (ms : List ℕ) → MovesSome r fault (at p.left p.greeted (p.bytes ++ bytes)) s m es ms → GoesSome r fault p s m (entry moment clocked (took bytes) ∷ es) ms
@@ -49,12 +62,21 @@ module _ (r : Rules) (p : Place) (s : State) (m : Bool) (bytes : List ℕ) (mome
       let all = all_taken es a.quiet.still in
       record {
         some = subst (λ (bs : List ℕ). DoesSome r fault s m (turns_at r p bs) (entry moment clocked (took bytes) ∷ es) ms) (sym all)
-            (record { said = a.some.said; most = a.some.most; wants = a.some.wants; silent = a.some.silent });
+            (record {
+              said = a.some.said;
+              most = a.some.most;
+              wants = a.some.wants;
+              silent = a.some.silent;
+              hush = (λ f. absurd (let g : ⊥ = cc in g), a.some.hush);
+              still = a.some.still;
+              begins = a.some.begins;
+            });
         inside = a.quiet.inside;
+        idle = idle_taken es ms a.quiet.still a.quiet.goes_on;
       }
 
   pub goes_some_none : GoesSome r NoMemory p s m (entry moment clocked (took bytes) ∷ []) []
-  goes_some_none = record { some = record { said = (text r s (turns_at r p (taken (entry moment clocked (took bytes) ∷ []))) [], refl); most = omega arith; wants = tt; silent = λ _. refl }; inside = refl }
+  goes_some_none = record { some = record { said = (text r s (turns_at r p (taken (entry moment clocked (took bytes) ∷ []))) [], refl); most = omega arith; wants = tt; silent = λ _. refl; hush = (λ f. absurd (let g : ⊥ = cc in g), tt); still = λ _. refl; begins = begins_none (turns_at r p (taken (entry moment clocked (took bytes) ∷ []))) }; inside = refl; idle = idle_taken [] [] refl refl }
 
 -- the end came
 module _ (r : Rules) (p : Place) (s : State) (m : Bool) (rest : AtRest r p) where
@@ -68,22 +90,42 @@ module _ (r : Rules) (p : Place) (s : State) (m : Bool) (rest : AtRest r p) wher
   does_end = subst (λ (ts : List Turn). Does r s m ts s m [] []) (sym none_more) (does_none r s m)
 
   pub goes_start : Goes r true p s m p s m [] []
-  goes_start = record { does = does_end; place = still_there; clear = λ _. ap has_refused none_more; ends = refl; inside = refl }
+  goes_start = record { does = does_end; place = still_there; clear = λ _. ap has_refused none_more; ends = refl; inside = refl; idle = tt }
 
-  pub goes_end : (moment clocked : ℕ) → Goes r false p s m p s m (entry moment clocked (took []) ∷ []) []
-  goes_end moment clocked =
+  pub goes_end : (moment clocked : ℕ) → Idle r p s m [] [] → Goes r false p s m p s m (entry moment clocked (took []) ∷ []) []
+  goes_end moment clocked ready =
       let d = does_end in record {
-        does = record { said = d.said; state = d.state; count = d.count; enough = d.enough; broke = d.broke; silent = d.silent };
+        does = record {
+          said = d.said;
+          state = d.state;
+          count = counted_front r s m (turns_at r p []) [] m (entry moment clocked (took [])) [] refl refl d.count;
+          enough = d.enough;
+          broke = d.broke;
+          silent = d.silent;
+          hush = (λ f. absurd (let g : ⊥ = cc in g), tt);
+          still = d.still;
+        };
+        idle = (λ _. ready, tt);
         place = still_there;
         clear = λ _. ap has_refused none_more;
         ends = refl;
         inside = refl;
       }
 
-  pub goes_failed : (moment clocked : ℕ) → Goes r false p s m p s m (entry moment clocked take_failed ∷ []) []
-  goes_failed moment clocked =
+  pub goes_failed : (moment clocked : ℕ) → Idle r p s m [] [] → Goes r false p s m p s m (entry moment clocked take_failed ∷ []) []
+  goes_failed moment clocked ready =
       let d = does_end in record {
-        does = record { said = d.said; state = d.state; count = d.count; enough = d.enough; broke = d.broke; silent = d.silent };
+        does = record {
+          said = d.said;
+          state = d.state;
+          count = counted_front r s m (turns_at r p []) [] m (entry moment clocked take_failed) [] refl refl d.count;
+          enough = d.enough;
+          broke = d.broke;
+          silent = d.silent;
+          hush = (λ f. absurd (let g : ⊥ = cc in g), tt);
+          still = d.still;
+        };
+        idle = (λ _. ready, tt);
         place = still_there;
         clear = λ _. ap has_refused none_more;
         ends = refl;
@@ -115,6 +157,7 @@ module _ (r : Rules) (w : Lawful r) (more : Bool) (p q v : Place) (s t u : State
     clear = λ z. ap has_refused (joined r w p q s t m n es fs ms going a) ∙ clear_then (turns_at r p (taken es)) (turns_at r q (taken fs)) (a.clear going) (b.clear z);
     ends = over-append es fs ∙ ap (λ e. e || over fs) a.ends ∙ b.ends;
     inside = crosses-append es fs ∙ ap (λ e. e || crosses fs) a.inside ∙ b.inside;
+    idle = idle_both r w p q s t m n es ms (a.clear going) a.does a.ends a.place fs ns a.idle b.idle;
   }
 
 -- what a take and its turns left is at rest, so that the next take may come
@@ -139,6 +182,7 @@ goes_none r w per s =
       clear = λ _. ap has_refused f.0;
       ends = refl;
       inside = refl;
+      idle = tt;
     }
 
 -- turns then a break
@@ -148,4 +192,5 @@ goes_break r w fault p q s t m n es fs ms ns going a b = record {
   some = subst (λ (ts : List Turn). DoesSome r fault s m ts (es ++ fs) (ms ++ ns)) (sym (joined r w p q s t m n es fs ms going a))
       (does_break r fault s t m n (turns_at r p (taken es)) (turns_at r q (taken fs)) es fs ms ns (a.clear going) a.does b.some);
   inside = crosses-append es fs ∙ ap (λ e. e || crosses fs) a.inside ∙ b.inside;
+  idle = idle_both r w p q s t m n es ms (a.clear going) a.does a.ends a.place fs ns a.idle b.idle;
 }

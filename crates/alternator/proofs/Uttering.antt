@@ -15,10 +15,11 @@ use Rattle.alternator.specs.declared.serve.RunFault.TheVariants.{NoMemory}
 use Rattle.alternator.specs.Turns.{or_next}
 use Rattle.alternator.specs.Talks.{Turn, onward, asked, refused, Rules, Request, Place, at, turns, final, has_refused}
 use Rattle.alternator.specs.TalkTexts.{text, after, requests, asks, wanted}
-use Rattle.alternator.specs.Stretches.{SaidOf, Quiet, Utters, Does, DoesSome, AnswersSome, Moves, MovesAll, MovesSome, AtRest, over}
+use Rattle.alternator.specs.Stretches.{SaidOf, Quiet, Utters, Does, DoesSome, AnswersSome, Moves, MovesAll, MovesSome, AtRest, over, says, Counted, Begins}
 use Rattle.alternator.proofs.Serving.{said_in-append, taken-append}
 use Rattle.alternator.proofs.Stopping.{IsPrefix-self, one-by}
-use Rattle.alternator.proofs.TalkLogs.{Clocked, stretch_one, over-append, broken-append, crosses-append, or-assoc}
+use Rattle.alternator.proofs.TalkLogs.{Clocked, stretch_one, over-append, broken-append, crosses-append, says-append, hushes-append, or-assoc, or_right}
+use Rattle.alternator.proofs.TalkIdle.{exact_count, heard_then, refused_behind}
 use Rattle.alternator.proofs.TalkFolds.{asks-append, requests-append, asks-requests, text-append, after-append, wanted-append}
 
 pub utters_said : (bytes : List ℕ) (m k : ℕ) → Utters false bytes false (entry m k (said bytes) ∷ []) []
@@ -28,6 +29,8 @@ utters_said bytes m k = record {
       (subst (λ (bs : List ℕ). IsPrefix bs bytes) (sym (append-nil bytes)) (IsPrefix-self bytes));
   broke = refl;
   silent = λ e. absurd (let f : ⊥ = cc in f);
+  hush = (λ _. refl, tt);
+  still = λ e. absurd (let f : ⊥ = cc in f);
   quiet = record { still = refl; goes_on = refl; inside = refl };
   timeless = refl;
 }
@@ -39,6 +42,8 @@ utters_part bytes m k n = record {
       (drop n bytes, sym (take-append-drop n bytes) ∙ ap (λ bs. bs ++ drop n bytes) (sym (append-nil (take n bytes))));
   broke = refl;
   silent = λ e. absurd (let f : ⊥ = cc in f);
+  hush = (λ _. refl, tt);
+  still = λ e. absurd (let f : ⊥ = cc in f);
   quiet = record { still = refl; goes_on = refl; inside = refl };
   timeless = refl;
 }
@@ -49,6 +54,8 @@ utters_none bytes = record {
   by = λ u. (bytes, refl);
   broke = refl;
   silent = λ _. refl;
+  hush = tt;
+  still = λ _. refl;
   quiet = record { still = refl; goes_on = refl; inside = refl };
   timeless = refl;
 }
@@ -61,39 +68,57 @@ module _ (r : Rules) (s : State) (m n : Bool) (es : Log) where
       subst (λ (ts : List ℕ). Does r s m (onward ∷ []) s n es ts) (sym none) (record {
         said = subst (λ (bs : List ℕ). SaidOf n (said_in es) bs) (sym (append-nil r.greeting)) u.said;
         state = refl;
-        count = inl refl;
+        count = inl (refl, λ h. absurd (let f : ⊥ = cc in f));
         enough = refl;
         broke = u.broke;
         silent = λ e. (u.silent e, refl);
+        hush = u.hush;
+        still = u.still;
       })
 
   pub does_asked : (q : Request) (at : ℕ) → r.wants s q at ≡ None → Utters m (r.reply s q at) n es [] → Does r s m (asked q ∷ []) (r.next s q at) n es (at ∷ [])
   does_asked q at w u = record {
     said = subst (λ (bs : List ℕ). SaidOf n (said_in es) bs) (sym (append-nil (r.reply s q at))) u.said;
     state = refl;
-    count = inl refl;
+    count = inl (refl, λ h. absurd (let f : ⊥ = cc in f));
     enough = ap (λ v. or_next v None) w;
     broke = u.broke;
     silent = λ e. (u.silent e, refl);
+    hush = u.hush;
+    still = u.still;
   }
 
   pub does_refused : (k at : ℕ) → m ≡ false → Utters m (r.refusal k at) n es [] → Does r s m (refused k ∷ []) s n es (at ∷ [])
   does_refused k at heard u = record {
     said = subst (λ (bs : List ℕ). SaidOf n (said_in es) bs) (sym (append-nil (r.refusal k at))) u.said;
     state = refl;
-    count = inl refl;
+    count = inl (refl, λ _. record {
+      first = [];
+      refusal = k;
+      last = refl;
+      moments = [];
+      moment = at;
+      ends = refl;
+      before = [];
+      behind = es;
+      splits = refl;
+      well = ap (λ b. b || false) heard;
+      said = refl;
+    });
     enough = refl;
     broke = u.broke;
     silent = λ e. absurd (let f : ⊥ = cc in f);
+    hush = u.hush;
+    still = u.still;
   }
 
 -- after a failed say a refusal says nothing and takes no moment
 pub does_refused_mute : (r : Rules) (s : State) (k : ℕ) → Does r s true (refused k ∷ []) s true [] []
-does_refused_mute r s k = record { said = ([], refl); state = refl; count = inr (refl, refl); enough = refl; broke = refl; silent = λ _. (refl, refl) }
+does_refused_mute r s k = record { said = ([], refl); state = refl; count = inr (refl, refl); enough = refl; broke = refl; silent = λ _. (refl, refl); hush = tt; still = λ _. refl }
 
 pub does_none : (r : Rules) (s : State) (m : Bool) → Does r s m [] s m [] []
-does_none r s true = record { said = ([], refl); state = refl; count = inl refl; enough = refl; broke = refl; silent = λ _. (refl, refl) }
-does_none r s false = record { said = refl; state = refl; count = inl refl; enough = refl; broke = refl; silent = λ _. (refl, refl) }
+does_none r s true = record { said = ([], refl); state = refl; count = inl (refl, λ h. absurd (let f : ⊥ = cc in f)); enough = refl; broke = refl; silent = λ _. (refl, refl); hush = tt; still = λ _. refl }
+does_none r s false = record { said = refl; state = refl; count = inl (refl, λ h. absurd (let f : ⊥ = cc in f)); enough = refl; broke = refl; silent = λ _. (refl, refl); hush = tt; still = λ _. refl }
 
 said_then : (m n : Bool) (x y xs ys : List ℕ) → SaidOf m x xs → SaidOf n y ys → (m ≡ true → y ≡ []) → (m ≡ true → n ≡ true) → SaidOf n (x ++ y) (xs ++ ys)
 said_then false false x y xs ys p q none on = ap (λ v. v ++ y) p ∙ ap (λ v. xs ++ v) q
@@ -110,13 +135,19 @@ or_true false b n e h = absurd (let f : ⊥ = cc in f)
 module _ (r : Rules) (s t u : State) (m n o : Bool) (ts us : List Turn) (es fs : Log) (ms ns : List ℕ) (clear : has_refused ts ≡ false)
     (p : Does r s m ts t n es ms) (q : Does r t n us u o fs ns) where
   exact : length ms ≡ asks ts
-  exact = elim p.count [ inl e ↦ e | inr e ↦ e.1 ∙ asks-requests ts clear ]
+  exact = exact_count r s t m n ts es ms clear p
 
-  counted : (length (ms ++ ns) ≡ asks (ts ++ us)) ⊎ ((o ≡ true) × (length (ms ++ ns) ≡ requests (ts ++ us)))
+  counted : Counted r s m (ts ++ us) o (es ++ fs) (ms ++ ns)
   counted = elim q.count [
-    | inl e ↦ inl (let a = length-append ms ns in let b = asks-append ts us in let c = exact in omega (arith, a, b, c, e))
+    | inl e ↦ inl (
+        let a = length-append ms ns in let b = asks-append ts us in let c = exact in let d = e.0 in omega (arith, a, b, c, d),
+        λ h. heard_then r s t m n ts es ms clear p us fs ns (e.1 (refused_behind ts us clear h)),
+      )
     | inr e ↦ inr (e.0, let a = length-append ms ns in let b = requests-append ts us in let c = exact in let d = asks-requests ts clear in let f = e.1 in omega (arith, a, b, c, d, f))
   ]
+
+  broken_now : says_failed es ≡ true → n ≡ true
+  broken_now e = p.broke ∙ ap (λ b. m || b) e ∙ or_right m
 
   pub does_then : Does r s m (ts ++ us) u o (es ++ fs) (ms ++ ns)
   does_then = record {
@@ -134,6 +165,8 @@ module _ (r : Rules) (s t u : State) (m n o : Bool) (ts us : List Turn) (es fs :
           said_in-append es fs ∙ ap (λ bs. bs ++ said_in fs) (p.silent e).0 ∙ (q.silent mute).0,
           let a = length-append ms ns in let b = requests-append ts us in let c = (p.silent e).1 in let d = (q.silent mute).1 in omega (arith, a, b, c, d),
         );
+    hush = hushes-append es fs p.hush q.hush (λ e. q.still (broken_now e));
+    still = λ e. says-append es fs ∙ ap (λ b. b || says fs) (p.still e) ∙ q.still (or_true m (says_failed es) n p.broke e);
   }
 
 pub quiet_then : (es fs : Log) → Quiet es → Quiet fs → Quiet (es ++ fs)
@@ -180,9 +213,17 @@ alone : (w : Option Lack) → w ≡ or_next w None
 alone None = refl
 alone (Some n) = refl
 
+-- none was begun
+pub begins_none : (ts : List Turn) → Begins ts []
+begins_none ts = record { done = []; begun = []; rest = ts; parts = refl; few = omega arith; count = inl refl }
+
+-- the one turn was, and asked for its moment
+begins_one : (t : Turn) (at : ℕ) → 1 ≡ asks (t ∷ []) → Begins (t ∷ []) (at ∷ [])
+begins_one t at e = record { done = []; begun = t ∷ []; rest = []; parts = refl; few = omega arith; count = inl e }
+
 -- a turn that broke off before its text was said
 pub answers_some_none : (r : Rules) (s : State) (m : Bool) (ts : List Turn) → AnswersSome r NoMemory s m ts [] []
-answers_some_none r s m ts = record { some = record { said = (text r s ts [], refl); most = omega arith; wants = tt; silent = λ _. refl }; quiet = quiet_none }
+answers_some_none r s m ts = record { some = record { said = (text r s ts [], refl); most = omega arith; wants = tt; silent = λ _. refl; hush = tt; still = λ _. refl; begins = begins_none ts }; quiet = quiet_none }
 
 pub some_asked : (r : Rules) (fault : RunFault) (s : State) (m : Bool) (q : Request) (at : ℕ) (es : Log) (ms : List ℕ)
     → Clocked at es ms → IsCausedBy (r.wants s q at) fault → AnswersSome r fault s m (asked q ∷ []) es ms
@@ -195,6 +236,9 @@ some_asked r fault s m q at es ms t w =
         most = omega arith;
         wants = subst (λ v. IsCausedBy v fault) (alone (r.wants s q at)) w;
         silent = λ _. refl;
+        hush = tt;
+        still = λ _. refl;
+        begins = begins_one (asked q) at refl;
       };
       quiet = quiet_none;
     }))
@@ -204,7 +248,7 @@ some_refused r s m k at es ms t =
     let none = t.nothing in let one = t.one in
     subst (λ (fs : Log). AnswersSome r NoMemory s m (refused k ∷ []) fs ms) (sym none)
     (subst (λ (ns : List ℕ). AnswersSome r NoMemory s m (refused k ∷ []) [] ns) (sym one) (record {
-      some = record { said = (text r s (refused k ∷ []) (at ∷ []), refl); most = omega arith; wants = tt; silent = λ _. refl };
+      some = record { said = (text r s (refused k ∷ []) (at ∷ []), refl); most = omega arith; wants = tt; silent = λ _. refl; hush = tt; still = λ _. refl; begins = begins_one (refused k) at refl };
       quiet = quiet_none;
     }))
 
@@ -212,7 +256,26 @@ some_refused r s m k at es ms t =
 module _ (r : Rules) (fault : RunFault) (s t : State) (m n : Bool) (ts us : List Turn) (es fs : Log) (ms ns : List ℕ) (clear : has_refused ts ≡ false)
     (a : Does r s m ts t n es ms) (b : DoesSome r fault t n us fs ns) where
   told_of : length ms ≡ asks ts
-  told_of = elim a.count [ inl e ↦ e | inr e ↦ e.1 ∙ asks-requests ts clear ]
+  told_of = exact_count r s t m n ts es ms clear a
+
+  begun_both : (us ks : List Turn) → (length ns ≡ asks (us ++ ks)) ⊎ (length ns ≡ requests (us ++ ks))
+      → (length (ms ++ ns) ≡ asks ((ts ++ us) ++ ks)) ⊎ (length (ms ++ ns) ≡ requests ((ts ++ us) ++ ks))
+  begun_both us ks (inl e) =
+      let same = ap asks (append_assoc ts us ks) in
+      inl (let a = length-append ms ns in let b = asks-append ts (us ++ ks) in let c = told_of in omega (arith, same, a, b, c, e))
+  begun_both us ks (inr e) =
+      let same = ap requests (append_assoc ts us ks) in
+      inr (let a = length-append ms ns in let b = requests-append ts (us ++ ks) in let c = told_of in let d = asks-requests ts clear in omega (arith, same, a, b, c, d, e))
+
+  begins_both : Begins (ts ++ us) (ms ++ ns)
+  begins_both = record {
+    done = ts ++ b.begins.done;
+    begun = b.begins.begun;
+    rest = b.begins.rest;
+    parts = ap (λ l. ts ++ l) b.begins.parts ∙ sym (append_assoc ts b.begins.done (b.begins.begun ++ b.begins.rest));
+    few = b.begins.few;
+    count = begun_both b.begins.done b.begins.begun b.begins.count;
+  }
 
   pub does_break : DoesSome r fault s m (ts ++ us) (es ++ fs) (ms ++ ns)
   does_break = record {
@@ -224,6 +287,9 @@ module _ (r : Rules) (fault : RunFault) (s t : State) (m n : Bool) (ts us : List
     most = let x = length-append ms ns in let y = asks-append ts us in let k = told_of in let z = b.most in omega (arith, x, y, k, z);
     wants = subst (λ v. IsCausedBy v fault) (ap (λ v. wanted r v us ns) a.state ∙ sym (wanted-append r s ts us ms ns told_of a.enough)) b.wants;
     silent = λ e. said_in-append es fs ∙ ap (λ bs. bs ++ said_in fs) (a.silent e).0 ∙ b.silent (or_true m (says_failed es) n a.broke e);
+    hush = hushes-append es fs a.hush b.hush (λ e. b.still (a.broke ∙ ap (λ v. m || v) e ∙ or_right m));
+    still = λ e. says-append es fs ∙ ap (λ v. v || says fs) (a.still e) ∙ b.still (or_true m (says_failed es) n a.broke e);
+    begins = begins_both;
   }
 
 -- moves and then a break

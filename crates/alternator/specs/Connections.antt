@@ -5,9 +5,9 @@ use Rattle.alt_machine.specs.State.{State}
 use Rattle.alt_shell.specs.Log.{Log, accepted, none_came, hung_up, entry, taken, says_failed, crosses}
 use Rattle.alternator.specs.Faults.{IsCausedBy}
 use Rattle.alternator.specs.declared.serve.RunFault.{RunFault}
-use Rattle.alternator.specs.Talks.{Turn, Rules, turns, closes}
+use Rattle.alternator.specs.Talks.{Turn, Rules, Place, at, turns, closes}
 use Rattle.alternator.specs.TalkTexts.{after}
-use Rattle.alternator.specs.Stretches.{Does, DoesSome, over}
+use Rattle.alternator.specs.Stretches.{Does, DoesSome, TakesIdle, over}
 
 -- A connection: the moment at which it was accepted and how many moments had been told by then, the entries from then on, its hanging up
 -- among them, and the moments told on it.
@@ -29,11 +29,17 @@ told_of ks = flat_map (λ k. k.told) ks
 abbrev pub turns_of : Rules → ℕ → Connection → List Turn
 turns_of r per k = turns r per false (taken k.entries)
 
+-- where a connection begins
+abbrev pub start : ℕ → Place
+start per = at per false []
+
 -- A connection was served and hung up: where its end was taken, a take or a say on it failed, or its turns ended. Where no say failed
--- its whole text was said, and else a part from the front; the state is that of its requests, answered or not.
+-- its whole text was said, and else a part from the front; the state is that of its requests, answered or not. Bytes were taken only
+-- where all turns of those before were done, and none once the turns had ended or a say failed.
 pub record Serves (r : Rules) (per : ℕ) (s : State) (k : Connection) (t : State) : Type 0 where
   pub does : Does r s false (turns_of r per k) t (says_failed k.entries) k.entries k.told
   pub cause : (over k.entries ≡ true) ⊎ (says_failed k.entries ≡ true) ⊎ (closes (turns_of r per k) ≡ true)
+  pub idle : TakesIdle r (start per) s false k.told [] k.entries
   pub before : Log
   pub at : ℕ
   pub clocked : ℕ
@@ -49,10 +55,15 @@ Comes r per false s t entries told = (t ≡ s) × ((m n : ℕ) × (entries ≡ e
 abbrev pub Missed : RunFault → Log → List ℕ → Type 0
 Missed fault entries told = (entries ≡ []) × (told ≡ []) × IsCausedBy None fault
 
+-- Serving a connection broke off; bytes were taken as on one that was served.
+pub record Breaks (r : Rules) (per : ℕ) (fault : RunFault) (s : State) (k : Connection) : Type 0 where
+  pub some : DoesSome r fault s false (turns_of r per k) k.entries k.told
+  pub idle : TakesIdle r (start per) s false k.told [] k.entries
+
 -- one came, broke off and was hung up
 abbrev pub Broke : Rules → ℕ → RunFault → State → Log → List ℕ → Type 0
 Broke r per fault s entries told = (k : Connection)
-    × DoesSome r fault s false (turns_of r per k) k.entries k.told
+    × Breaks r per fault s k
     × (entries ≡ entry k.moment k.clocked accepted ∷ k.entries) × (told ≡ k.told)
 
 -- either
@@ -87,5 +98,5 @@ pub record ServedSome (r : Rules) (per connections : ℕ) (fault : RunFault) (s 
   pub last : List Connection
   pub made : entries ≡ entries_of all ++ entries_of last
   pub moments : told ≡ told_of all ++ told_of last
-  pub some : ((last ≡ []) × IsCausedBy None fault) ⊎ ((k : Connection) × (last ≡ k ∷ []) × DoesSome r fault halfway false (turns_of r per k) k.entries k.told)
+  pub some : ((last ≡ []) × IsCausedBy None fault) ⊎ ((k : Connection) × (last ≡ k ∷ []) × Breaks r per fault halfway k)
   pub most : length all + length last ≤ connections

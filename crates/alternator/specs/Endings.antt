@@ -72,21 +72,26 @@ pub record Makes (old new : DiskState) (entries : Log) (told : List ℕ) : Type 
   pub stands : IsTrusted old → (image : ℕ → Option (List ℕ)) → IsImage new new.moment image
       → StandsFor image start
 
+-- the clock wasn't asked
+abbrev pub Unasked : DiskState → DiskState → Type 0
+Unasked old new = moments_of new.beside ≡ moments_of old.beside
+
 -- this file was there, and none before it
 pub record IsFirstFile (files : ℕ → Option (List ℕ)) (first : ℕ) : Type 0 where
   pub there : files first ≢ None
   pub none : (f : ℕ) → f < first → files f ≡ None
 
--- What a run of `init` has done that ended so. Where a file was there it left all of them, in reads and in what a stop leaves at
--- each moment.
+-- What a run of `init` has done that ended so: the clock wasn't asked, and where a file was there it left all of them, in reads and in
+-- what a stop leaves at each moment.
 abbrev pub HasMade : Ending → DiskState → DiskState → Type 0
 HasMade Whole old new = Stretch old new Makes
 HasMade Words old new = ⊥
-HasMade (NotEmpty first) old new = IsTrue old.tells → IsFirstFile old.file first × Quiet old new
+HasMade (NotEmpty first) old new = Unasked old new
+    × (IsTrue old.tells → IsFirstFile old.file first × Quiet old new)
 HasMade (Damaged file at) old new = ⊥
 HasMade (BadRow family key) old new = ⊥
-HasMade Device old new = Rose old.faults new.faults
-HasMade Memory old new = Unit {0}
+HasMade Device old new = Unasked old new × Rose old.faults new.faults
+HasMade Memory old new = Unasked old new
 HasMade (Spent number) old new = ⊥
 
 -- ---- replay, serve and trial
@@ -112,6 +117,10 @@ Broken why Replay s opened new = Stretch opened new (AnswersSome why s)
 Broken why (Serve per connections) s opened new = Stretch opened new
     (ServedSomeOn rules per connections why s)
 Broken why (Trial seed count) s opened new = Stretch opened new (TriesSome why s seed count)
+
+-- The store was opened, and the run broke off behind that for want of a number, which is the first that was wanted and is never given out.
+abbrev pub LacksNumber : Job → DiskState → DiskState → Type 0
+LacksNumber job old new = (number : ℕ) × Opened old new (Broken (fault.Spent number) job)
 
 -- The run was broken off while the store was opened, or behind that.
 abbrev pub BreaksOff : RunFault → Job → DiskState → DiskState → Type 0

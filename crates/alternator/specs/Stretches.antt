@@ -1,12 +1,13 @@
 -- What a part of the serving of connections says, takes and leaves: one word for each rung.
-use Rattle.std.specs.Prelude.{◌≡◌, ◌<◌, ◌≤◌, ◌-◌, ◌⊎◌, if◌then◌else◌, drop, ℕ, List, [], ◌∷◌, ◌++◌, length, Bool, true, false, not, ◌||◌, Option, None}
+use Rattle.std.specs.Prelude.{◌≡◌, ◌<◌, ◌≤◌, ◌-◌, ◌⊎◌, if◌then◌else◌, drop, ℕ, List, [], ◌∷◌, ◌++◌, length, Bool, true, false, not, ◌||◌, Option, Some, None}
 use Rattle.std.specs.List.{list_any}
 use Rattle.alt_base.specs.Prefix.{IsPrefix}
 use Rattle.alt_machine.specs.State.{State}
-use Rattle.alt_shell.specs.Log.{Log, Event, event_of, is_end, is_take_failed, until, taken, said_in, says_failed, crosses}
+use Rattle.alt_shell.specs.Log as event
+use Rattle.alt_shell.specs.Log.{Log, Event, event_of, is_end, is_take_failed, is_say_failed, until, taken, said_in, says_failed, crosses}
 use Rattle.alternator.specs.Faults.{IsCausedBy}
 use Rattle.alternator.specs.declared.serve.RunFault.{RunFault}
-use Rattle.alternator.specs.Talks.{Turn, asked, Rules, Head, Place, at, size_of, request_of, turns, final, turns_at, final_at, has_refused}
+use Rattle.alternator.specs.Talks.{Turn, asked, refused, Rules, Head, Place, at, size_of, request_of, turns, final, turns_at, final_at, has_refused}
 use Rattle.alternator.specs.TalkTexts.{text, after, requests, asks, wanted}
 
 -- the end was taken, or a take failed
@@ -16,6 +17,37 @@ is_over e = is_end e || is_take_failed e
 -- whether no more bytes will come
 abbrev pub over : Log → Bool
 over es = list_any (λ e. is_over (event_of e.1)) es
+
+-- a take: it gave bytes, told the end, or failed
+abbrev pub is_take : Option Event → Bool
+is_take None = false
+is_take (Some (event.took bytes)) = true
+is_take (Some (event.said bytes)) = false
+is_take (Some event.take_failed) = true
+is_take (Some (event.say_failed bytes)) = false
+is_take (Some event.accepted) = false
+is_take (Some event.none_came) = false
+is_take (Some event.hung_up) = false
+
+-- a say, that failed or not
+abbrev pub is_say : Option Event → Bool
+is_say None = false
+is_say (Some (event.took bytes)) = false
+is_say (Some (event.said bytes)) = true
+is_say (Some event.take_failed) = false
+is_say (Some (event.say_failed bytes)) = true
+is_say (Some event.accepted) = false
+is_say (Some event.none_came) = false
+is_say (Some event.hung_up) = false
+
+-- whether something was to be said
+abbrev pub says : Log → Bool
+says es = list_any (λ e. is_say (event_of e.1)) es
+
+-- behind a say that failed nothing more is said
+abbrev pub Hushes : Log → Type 0
+Hushes [] = Unit {0}
+Hushes (e ∷ es) = (is_say_failed (event_of e.1) ≡ true → says es ≡ false) × Hushes es
 
 -- nothing was taken, and no connection came or went
 pub record Quiet (entries : Log) : Type 0 where
@@ -34,23 +66,57 @@ pub record Utters (mute : Bool) (bytes : List ℕ) (after_it : Bool) (entries : 
   pub broke : after_it ≡ (mute || says_failed entries)
   pub silent : mute ≡ true → said_in entries ≡ []
   pub by : (moment : ℕ) → IsPrefix (said_in (until moment entries)) bytes
+  pub hush : Hushes entries
+  pub still : mute ≡ true → says entries ≡ false
   pub quiet : Quiet entries
   pub timeless : told ≡ []
 
+-- The moment of a refused head was asked for when the texts of all turns before it had been said, and no say had failed.
+pub record Heard (r : Rules) (s : State) (mute : Bool) (ts : List Turn) (entries : Log) (told : List ℕ) : Type 0 where
+  pub first : List Turn
+  pub refusal : ℕ
+  pub last : ts ≡ first ++ refused refusal ∷ []
+  pub moments : List ℕ
+  pub moment : ℕ
+  pub ends : told ≡ moments ++ moment ∷ []
+  pub before : Log
+  pub behind : Log
+  pub splits : entries ≡ before ++ behind
+  pub well : (mute || says_failed before) ≡ false
+  pub said : said_in before ≡ text r s first moments
+
+-- How many moments turns took: one for each request, and one for a refused head exactly where no say had failed before it.
+abbrev pub Counted : Rules → State → Bool → List Turn → Bool → Log → List ℕ → Type 0
+Counted r s mute ts after_it entries told =
+    ((length told ≡ asks ts) × (has_refused ts ≡ true → Heard r s mute ts entries told))
+    ⊎ ((after_it ≡ true) × (length told ≡ requests ts))
+
 -- Turns were done, from a state to a state. `mute` tells whether a say on the connection had failed before, and `after_it` whether one
--- has now: what was said is then a part from the front. Each request took a moment, and so did a refusal unless a say failed before it.
+-- has now: what was said is then a part from the front, and nothing was said behind it.
 pub record Does (r : Rules) (s : State) (mute : Bool) (ts : List Turn) (t : State) (after_it : Bool) (entries : Log) (told : List ℕ) : Type 0 where
   pub said : SaidOf after_it (said_in entries) (text r s ts told)
   pub state : t ≡ after r s ts told
-  pub count : (length told ≡ asks ts) ⊎ ((after_it ≡ true) × (length told ≡ requests ts))
+  pub count : Counted r s mute ts after_it entries told
   pub enough : wanted r s ts told ≡ None
   pub broke : after_it ≡ (mute || says_failed entries)
   pub silent : mute ≡ true → (said_in entries ≡ []) × (length told ≡ requests ts)
+  pub hush : Hushes entries
+  pub still : mute ≡ true → says entries ≡ false
 
 -- and nothing was taken
 pub record Answers (r : Rules) (s : State) (mute : Bool) (ts : List Turn) (t : State) (after_it : Bool) (entries : Log) (told : List ℕ) : Type 0 where
   pub does : Does r s mute ts t after_it entries told
   pub quiet : Quiet entries
+
+-- Of turns that broke off some were done, and at most one more was begun. Just these asked for their moments: each request, and a refused
+-- head unless a say had failed.
+pub record Begins (ts : List Turn) (told : List ℕ) : Type 0 where
+  pub done : List Turn
+  pub begun : List Turn
+  pub rest : List Turn
+  pub parts : ts ≡ done ++ (begun ++ rest)
+  pub few : length begun ≤ 1
+  pub count : (length told ≡ asks (done ++ begun)) ⊎ (length told ≡ requests (done ++ begun))
 
 -- Doing these turns broke off.
 pub record DoesSome (r : Rules) (fault : RunFault) (s : State) (mute : Bool) (ts : List Turn) (entries : Log) (told : List ℕ) : Type 0 where
@@ -58,6 +124,9 @@ pub record DoesSome (r : Rules) (fault : RunFault) (s : State) (mute : Bool) (ts
   pub most : length told ≤ asks ts
   pub wants : IsCausedBy (wanted r s ts told) fault
   pub silent : mute ≡ true → said_in entries ≡ []
+  pub hush : Hushes entries
+  pub still : mute ≡ true → says entries ≡ false
+  pub begins : Begins ts told
 
 -- and nothing was taken
 pub record AnswersSome (r : Rules) (fault : RunFault) (s : State) (mute : Bool) (ts : List Turn) (entries : Log) (told : List ℕ) : Type 0 where
@@ -99,6 +168,25 @@ pub record MovesAll (r : Rules) (p : Place) (s : State) (mute : Bool) (q : Place
   pub clear : 0 < q.left → has_refused (turns r p.left p.greeted p.bytes) ≡ false
   pub quiet : Quiet entries
 
+-- Bytes may be taken on a connection that began at a place and a state: the end hasn't come, no say failed, another request may come,
+-- and the turns of the bytes taken before were all done, with the first moments, and all of their text said.
+pub record Idle (r : Rules) (p : Place) (s : State) (mute : Bool) (told : List ℕ) (before : Log) : Type 0 where
+  pub goes_on : over before ≡ false
+  pub heard : (mute || says_failed before) ≡ false
+  pub goes : 0 < (final_at r p (taken before)).left
+  pub first : List ℕ
+  pub rest : List ℕ
+  pub moments : told ≡ first ++ rest
+  pub count : length first ≡ asks (turns_at r p (taken before))
+  pub said : said_in before ≡ text r s (turns_at r p (taken before)) first
+
+-- Each take of these entries, with those before them, came where bytes may be taken.
+abbrev pub TakesIdle : Rules → Place → State → Bool → List ℕ → Log → Log → Type 0
+TakesIdle r p s mute told before [] = Unit {0}
+TakesIdle r p s mute told before (e ∷ es) =
+    (is_take (event_of e.1) ≡ true → Idle r p s mute told before)
+    × TakesIdle r p s mute told (before ++ e ∷ []) es
+
 -- Some bytes were taken, and the turns at hand then were done. There is more, or the end came.
 pub record Goes (r : Rules) (more : Bool) (p : Place) (s : State) (mute : Bool) (q : Place) (t : State) (after_it : Bool) (entries : Log) (told : List ℕ) : Type 0 where
   pub does : Does r s mute (turns_at r p (taken entries)) t after_it entries told
@@ -106,6 +194,7 @@ pub record Goes (r : Rules) (more : Bool) (p : Place) (s : State) (mute : Bool) 
   pub clear : 0 < q.left → has_refused (turns_at r p (taken entries)) ≡ false
   pub ends : over entries ≡ not more
   pub inside : crosses entries ≡ false
+  pub idle : TakesIdle r p s mute told [] entries
 
 -- the turns at hand broke off, and nothing was taken
 pub record MovesSome (r : Rules) (fault : RunFault) (p : Place) (s : State) (mute : Bool) (entries : Log) (told : List ℕ) : Type 0 where
@@ -122,3 +211,4 @@ pub record Ends (r : Rules) (p : Place) (s : State) (mute : Bool) (q : Place) (t
 pub record GoesSome (r : Rules) (fault : RunFault) (p : Place) (s : State) (mute : Bool) (entries : Log) (told : List ℕ) : Type 0 where
   pub some : DoesSome r fault s mute (turns_at r p (taken entries)) entries told
   pub inside : crosses entries ≡ false
+  pub idle : TakesIdle r p s mute told [] entries

@@ -1,14 +1,14 @@
 -- What a stop leaves at each moment while connections are served.
-use Rattle.std.specs.Prelude.{◌≡◌, ◌-◌, ◌⊎◌, ℕ, List, [], ◌∷◌, ◌++◌, Bool, true, false, None}
+use Rattle.std.specs.Prelude.{◌≡◌, ◌-◌, ◌⊎◌, ℕ, List, [], ◌∷◌, ◌++◌, Bool, false, None}
 use Rattle.alt_disk.specs.Disk.{DiskState, IsImage, IsTrusted}
 use Rattle.alt_machine.specs.State.{State}
 use Rattle.alt_shell.specs.Log.{Log, until, taken, said_in}
 use Rattle.alt_tables.specs.Images.{StandsFor}
-use Rattle.alternator.specs.Connections.{Connection, Comes, Missed, Broke, Served, ServedSome, entries_of, turns_of}
+use Rattle.alternator.specs.Connections.{Connection, start, Comes, ComesSome, Served, ServedSome, entries_of, turns_of}
 use Rattle.alternator.specs.Runs.{OfStretch}
 use Rattle.alternator.specs.Stops.{Image, IsLeft, AtEach}
 use Rattle.alternator.specs.Stretches.{Answers, AnswersSome, Moves, MovesAll, MovesSome, Steps, Carries, Goes, GoesSome, Ends}
-use Rattle.alternator.specs.Talks.{Turn, onward, asked, refused, Rules, Request, Head, Place, request_of, turns, turns_at}
+use Rattle.alternator.specs.Talks.{Turn, onward, asked, refused, Rules, Request, Head, Place, at, request_of, turns, turns_at}
 use Rattle.alternator.specs.TalkTexts.{after}
 use Rattle.alternator.specs.Turns.{Turn as Deed}
 use Rattle.alternator.specs.declared.serve.RunFault.{RunFault}
@@ -35,6 +35,12 @@ deeds r s (refused k ∷ ts) (m ∷ ms) = saying (r.refusal k m) ∷ deeds r s t
 abbrev pub LeftOn : Rules → State → List Turn → Log → List ℕ → ℕ → Image → Type 0
 LeftOn r s ts entries told t image = IsLeft s (deeds r s ts told) (said_in (until t entries)) image
 
+-- What a stop at a moment leaves while bytes are taken at a place and their turns are done from a state: the turns are those of the bytes
+-- taken by then. So no write is left of a request that wasn't whole by then, and what was said by then is the front of their text.
+abbrev pub LeftTaken : Rules → Place → State → Log → List ℕ → ℕ → Image → Type 0
+LeftTaken r p s entries told t image =
+    LeftOn r s (turns_at r p (taken (until t entries))) entries told t image
+
 -- on a disk that can be relied on, whatever a stop now leaves stands for the state
 abbrev pub LeavesNow : DiskState → State → Type 0
 LeavesNow disk s = IsTrusted disk → (image : Image) → IsImage disk disk.moment image
@@ -45,6 +51,11 @@ abbrev pub Leaving : Rules → State → (P : Log → List ℕ → Type 0)
     → ((entries : Log) (told : List ℕ) → P entries told → List Turn) → OfStretch
 Leaving r s P done old new entries told =
     (x : P entries told) × AtEach old new (LeftOn r s (done entries told x) entries told)
+
+-- calls that have P, and what a stop leaves at each of their moments while bytes are taken at a place
+abbrev pub Taking : Rules → Place → State → (P : Log → List ℕ → Type 0) → OfStretch
+Taking r p s P old new entries told =
+    P entries told × AtEach old new (LeftTaken r p s entries told)
 
 -- ---- on one connection
 
@@ -87,48 +98,37 @@ MovesSomeOn r fault p s mute = Leaving r s (MovesSome r fault p s mute)
 
 -- bytes were taken, and the turns at hand then were done
 abbrev pub GoesOn : Rules → Bool → Place → State → Bool → Place → State → Bool → OfStretch
-GoesOn r more p s mute q t after_it = Leaving r s (Goes r more p s mute q t after_it)
-    (λ entries _ _. turns_at r p (taken entries))
+GoesOn r more p s mute q t after_it = Taking r p s (Goes r more p s mute q t after_it)
 
 -- that broke off
 abbrev pub GoesSomeOn : Rules → RunFault → Place → State → Bool → OfStretch
-GoesSomeOn r fault p s mute = Leaving r s (GoesSome r fault p s mute)
-    (λ entries _ _. turns_at r p (taken entries))
+GoesSomeOn r fault p s mute = Taking r p s (GoesSome r fault p s mute)
 
 -- that went on until no more came, a say failed, or the turns ended
 abbrev pub EndsOn : Rules → Place → State → Bool → Place → State → Bool → OfStretch
-EndsOn r p s mute q t after_it = Leaving r s (Ends r p s mute q t after_it)
-    (λ entries _ _. turns_at r p (taken entries))
+EndsOn r p s mute q t after_it = Taking r p s (Ends r p s mute q t after_it)
 
 -- ---- connections
 
--- the turns of the one that came, none where none did
-abbrev pub turns_come : (r : Rules) (per : ℕ) (came : Bool) (s t : State) (entries : Log)
-    (told : List ℕ) → Comes r per came s t entries told → List Turn
-turns_come r per true s t entries told x = turns_of r per x.0
-turns_come r per false s t entries told x = []
-
 -- a connection came and was served, or none came any more
 abbrev pub ComesOn : Rules → ℕ → Bool → State → State → OfStretch
-ComesOn r per came s t = Leaving r s (Comes r per came s t) (turns_come r per came s t)
+ComesOn r per came s t = Taking r (start per) s (Comes r per came s t)
 
 -- none came since the wait failed; or one came, broke off and was hung up
 abbrev pub ComesSomeOn : Rules → ℕ → RunFault → State → OfStretch
-ComesSomeOn r per fault s old new entries told =
-    (Missed fault entries told × AtEach old new (LeftOn r s [] entries told))
-    ⊎ ((x : Broke r per fault s entries told)
-    × AtEach old new (LeftOn r s (turns_of r per x.0) entries told))
+ComesSomeOn r per fault s = Taking r (start per) s (ComesSome r per fault s)
 
 -- A stop at a moment leaves this while connections are served from a state, one after another. It is left while the first is served, and
--- by then nothing was said on the others; or all requests of the first were carried out, and it is left while the others are served.
+-- no call of the others had ended by then; or all calls of the first had, and it is left while the others are served.
 abbrev pub LeftAmong : Rules → ℕ → State → List Connection → ℕ → Image → Type 0
 LeftAmong r per s [] t image = StandsFor image s
 LeftAmong r per s (k ∷ ks) t image =
-    (LeftOn r s (turns_of r per k) k.entries k.told t image
-    × (said_in (until t (entries_of ks)) ≡ []))
-    ⊎ LeftAmong r per (after r s (turns_of r per k) k.told) ks t image
+    (LeftTaken r (start per) s k.entries k.told t image × (until t (entries_of ks) ≡ []))
+    ⊎ ((until t k.entries ≡ k.entries)
+    × LeftAmong r per (after r s (turns_of r per k) k.told) ks t image)
 
--- Status 0: so many connections were served, or none came any more. A stop at any moment leaves every write that was answered by then.
+-- Status 0: so many connections were served, or none came any more. A stop at any moment leaves every write that was answered by then, and
+-- none of a request that wasn't whole by then.
 abbrev pub ServedOn : Rules → ℕ → ℕ → State → State → OfStretch
 ServedOn r per connections s t old new entries told =
     (x : Served r per connections s t entries told)

@@ -385,6 +385,7 @@ fn pull<S: Shell>(
 ) -> Result<bool, RunFault>
     requires ready { AreReady (S.state shell.old) tables.old }
     requires buffer { 0 < length buf.old }
+    requires going { 0 < talk.old.left }
     requires heard { talk.old.mute ≡ false }
     requires talking { talks (S.state shell.old).beside ≡ true }
     requires hears { says_missed (S.state shell.old).beside ≡ false }

@@ -6,7 +6,7 @@ ghost use Rattle.alt_disk.specs.Disk.{IsTrusted};
 ghost use Rattle.alt_machine.specs.State.{State};
 ghost use Rattle.alt_shell.specs.Log.{talks};
 ghost use Rattle.alt_tables.specs.Stands.{AreReady, Stands};
-ghost use Rattle.alternator.specs.Endings.{Ended, HasDone, HasRun, Done, Broken, IsReadable};
+ghost use Rattle.alternator.specs.Endings.{Ended, HasDone, HasRun, Done, Broken, IsReadable, LacksNumber};
 ghost use Rattle.alternator.specs.Faults.{IsUnreadable};
 ghost use Rattle.alternator.specs.Rereading.{ReadAgain};
 ghost use Rattle.alternator.specs.Runs.{Stretch, Passes, Answers, AnswersSome, IsOpening, Opened};
@@ -226,13 +226,14 @@ pub fn run<S: Shell>(alloc: Global, words: &[String], shell: &mut S) -> u8
     // 1 comes exactly where the words are wrong.
     ensures words { (result ≡ 1) ↔ (job_of (bytes_of words.now) ≡ None) }
 
-    // Where the files are those of a store and no device fails, all is done, or memory was refused, or numbers are spent. What fails on
-    // a connection is no failure of a device.
+    // Where the files are those of a store and no device fails, all is done, or memory was refused, or a number was wanted that is never
+    // given out. What fails on a connection is no failure of a device.
     ensures complete { (job : RunJob) → job_of (bytes_of words.now) ≡ Some job → IsOverStore job
         → IsTrusted (S.state shell.old) → IsReadable (S.state shell.old).file
         → ¬ (Rose (S.state shell.old).faults (S.state shell.new).faults)
         → ((result ≡ 0) × Opened (S.state shell.old) (S.state shell.new) (Done job))
-        ⊎ (result ≡ 5) ⊎ (result ≡ 6) }
+        ⊎ (result ≡ 5)
+        ⊎ ((result ≡ 6) × LacksNumber job (S.state shell.old) (S.state shell.new)) }
 
     // And where there was no file, a store is made, or memory was refused.
     ensures made { job_of (bytes_of words.now) ≡ Some Init → IsTrusted (S.state shell.old)

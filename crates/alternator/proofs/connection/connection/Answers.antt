@@ -54,7 +54,7 @@ returns-in-Ok-clause-served g c = λ s stands.
               refl,
               refl,
             ),
-            left_hung rules lawful per s a b d e (told_count a.beside) (told_count d.beside)
+            left_hung rules lawful (at per false []) s a b d e (told_count a.beside) (told_count d.beside)
                 c.in-Ok-true.ensures.call.keeps c.hang_up.ensures.call
                 (λ trusted image is. stands_left a c.args.tables.now s stands image is)
                 es ms within c.pulls-served.ensures.passes.later p.1,
@@ -82,8 +82,8 @@ returns-in-Ok-true-clause-served g c = λ s stands.
     came.0 c.in-Ok-true.ensures.moments c.in-Ok-true.ensures.call.keeps
     (c.hang_up.ensures.hung (c.pulls-served.ensures.passes.talking ∙ came.1))
     c.hang_up.ensures.moments c.hang_up.ensures.call
-    (λ (es : Log) (ms : List ℕ) (within : AreWithin b.moment d.moment es) p. inr (
-      (
+    (λ (es : Log) (ms : List ℕ) (within : AreWithin b.moment d.moment es) p. (
+      inr (
         record {
           moment = b.moment;
           clocked = told_count a.beside;
@@ -95,7 +95,7 @@ returns-in-Ok-true-clause-served g c = λ s stands.
         refl,
         refl,
       ),
-      left_hung rules lawful per s a b d e (told_count a.beside) (told_count d.beside)
+      left_hung rules lawful (at per false []) s a b d e (told_count a.beside) (told_count d.beside)
           c.in-Ok-true.ensures.call.keeps c.hang_up.ensures.call
           (λ trusted image is. stands_left a c.args.tables.now s stands image is)
           es ms within c.pulls-served.ensures.passes.later p.1,

@@ -6,9 +6,10 @@ use Rattle.alternator.specs.Stops.{AreWithin}
 use Rattle.alternator.specs.TalkRules.{rules}
 use Rattle.alternator.specs.TalkStops.{MovesAllOn, MovesSomeOn, GoesOn, GoesSomeOn}
 use Rattle.alternator.specs.TalkViews.{place_of}
-use Rattle.alternator.specs.Talks.{at, turns_at}
+use Rattle.alternator.specs.Talks.{at}
 use Rattle.alternator.specs.declared.serve.RunFault.TheVariants.{NoMemory}
 use Rattle.alternator.proofs.Stopping.{ready_kept, stands_kept}
+use Rattle.alternator.proofs.TalkIdle.{idle_start}
 use Rattle.alternator.proofs.TalkLaws.{lawful}
 use Rattle.alternator.proofs.TalkLeaving.{goes_taken_on, goes_some_taken_on, goes_missed_on, left_silent}
 use Rattle.alternator.proofs.TalkLogs.{stretch_one, took_then}
@@ -44,7 +45,8 @@ returns-in-Ok-at_hand-clause-turned g c = λ s stands rest.
           (λ (es : Log) (ms : List ℕ) (within : AreWithin b.moment d.moment es) x.
           goes_taken_on rules p s a b d bytes clocked keeps
           (λ trusted image is. stands_left a c.args.tables.now s stands image is)
-          lawful m q went.to n es ms within some x)
+          lawful m (idle_start rules p s m rest c.requires.going c.requires.heard) q went.to n es ms
+          within some x)
           went.calls;
     }
 
@@ -71,7 +73,7 @@ returns-in-Err-at_hand-clause-turned g c = λ s stands rest.
     (λ (es : Log) (ms : List ℕ) (within : AreWithin b.moment d.moment es) x.
     goes_some_taken_on rules p s a b d bytes clocked keeps
     (λ trusted image is. stands_left a c.args.tables.now s stands image is)
-    lawful m fault es ms within x)
+    lawful m (idle_start rules p s m rest c.requires.going c.requires.heard) fault es ms within x)
     went
 
 pub returns-in-Err-clause-turned : goal.returns-in-Err-clause-turned
@@ -85,7 +87,8 @@ returns-in-Err-clause-turned g c = λ s stands rest.
     record {
       to = s;
       stands = stands_kept a b keeps c.args.tables.now s stands;
-      calls = goes_missed_on rules lawful p s m rest a b c.requires.talking c.requires.taking
+      calls = goes_missed_on rules lawful p s m rest
+          (idle_start rules p s m rest c.requires.going c.requires.heard) a b c.requires.talking c.requires.taking
           c.in-Err.ensures.taken c.in-Err.ensures.moments keeps
           (λ trusted image is. stands_left a c.args.tables.now s stands image is);
     }
@@ -107,8 +110,9 @@ returns-then-count-eq0-clause-turned g c = λ s stands rest.
           (subst (λ (bs : List ℕ). Grows a.beside b.beside
           (entry b.moment (told_count a.beside) (took bs) ∷ [])) none c.in-Ok.ensures.taken)
           c.in-Ok.ensures.moments (keeps.later, omega arith, tt) keeps (
-            goes_end rules p s m rest b.moment (told_count a.beside),
-            left_silent rules lawful a b s (turns_at rules p [])
+            goes_end rules p s m rest b.moment (told_count a.beside)
+                (idle_start rules p s m rest c.requires.going c.requires.heard),
+            left_silent rules lawful p s a b
                 (entry b.moment (told_count a.beside) (took []) ∷ []) [] keeps refl
                 (λ trusted image is. stands_left a c.args.tables.now s stands image is),
           );
@@ -126,9 +130,10 @@ returns-in-Err-extend-clause-turned g c = λ s stands rest.
     stretch_one a b (GoesSomeOn rules NoMemory p s m)
     (entry b.moment (told_count a.beside) (took bytes) ∷ [])
     c.in-Ok.ensures.taken c.in-Ok.ensures.moments (keeps.later, omega arith, tt) keeps (
-      goes_some_none rules p s m bytes b.moment (told_count a.beside),
-      left_silent rules lawful a b s _ (entry b.moment (told_count a.beside) (took bytes) ∷ []) [] keeps
-          refl
+      goes_some_none rules p s m bytes b.moment (told_count a.beside)
+          (idle_start rules p s m rest c.requires.going c.requires.heard),
+      left_silent rules lawful p s a b (entry b.moment (told_count a.beside) (took bytes) ∷ []) []
+          keeps refl
           (λ trusted image is. stands_left a c.args.tables.now s stands image is),
     )
 

@@ -10,7 +10,7 @@ use Rattle.alternator.specs.declared.serve.RunFault.TheVariants.{NoMemory}
 use Rattle.alternator.proofs.Serving.{stretch_none}
 use Rattle.alternator.proofs.Stopping.{trusts-kept}
 use Rattle.alternator.proofs.TalkLaws.{lawful, rules-refusal}
-use Rattle.alternator.proofs.TalkLeaving.{left_nothing, left_silent, told_alone, told_then, refused_on}
+use Rattle.alternator.proofs.TalkLeaving.{left_nothing, left_untold, told_alone, told_then, refused_on}
 use Rattle.alternator.proofs.Uttering.{does_refused_mute, quiet_none, some_refused}
 use Rattle.alternator.proofs.connection.refuse.Goals as goal
 
@@ -58,5 +58,5 @@ returns-in-Err-clause-answered g c = λ s here.
     told_alone a b {R = AnswersSomeOn rules NoMemory s m (refused k ∷ [])} at
     c.now-moment.ensures.log c.now-moment.ensures.told keeps.later (trusts-kept a b keeps) (
       some_refused rules s m k at [] (at ∷ []) (record { nothing = refl; one = refl }),
-      left_silent rules lawful a b s (refused k ∷ []) [] (at ∷ []) keeps refl here,
+      left_untold rules lawful a b s (refused k ∷ []) (at ∷ []) keeps here,
     )

@@ -12,5 +12,6 @@ pub returns-in-Err-NotEmpty-clause-done : goal.returns-in-Err-NotEmpty-clause-do
 returns-in-Err-NotEmpty-clause-done g c =
     let state = g.S.Disk.state in
     none_made (state c.args.shell.now) (state c.make_store.new.disk) _ _
+    c.make_store.ensures.goes
     c.in-Err-NotEmpty.field-0-is c.in-Err-NotEmpty.ensures.not_empty
     c.in-Err-NotEmpty.ensures.untouched

@@ -76,10 +76,14 @@ some_served r per count fault s es ms x = record {
   moments = x.moments;
   some = elim x.some [
     | inl none ↦ inl (none.0, tt)
-    | inr one ↦ inr (one.0, one.1, record {
+    | inr one ↦ inr (
+      one.0,
+      one.1,
+      record {
         some = does_some r fault x.halfway _ (turns_of r per one.0) _ _ one.2.some;
         idle = one.2.idle;
-      })
+      },
+    )
   ];
   most = x.most;
 }

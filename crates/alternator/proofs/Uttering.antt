@@ -92,19 +92,22 @@ module _ (r : Rules) (s : State) (m n : Bool) (es : Log) where
   does_refused k at heard u = record {
     said = subst (λ (bs : List ℕ). SaidOf n (said_in es) bs) (sym (append-nil (r.refusal k at))) u.said;
     state = refl;
-    count = inl (refl, λ _. record {
-      first = [];
-      refusal = k;
-      last = refl;
-      moments = [];
-      moment = at;
-      ends = refl;
-      before = [];
-      behind = es;
-      splits = refl;
-      well = ap (λ b. b || false) heard;
-      said = refl;
-    });
+    count = inl (
+      refl,
+      λ _. record {
+        first = [];
+        refusal = k;
+        last = refl;
+        moments = [];
+        moment = at;
+        ends = refl;
+        before = [];
+        behind = es;
+        splits = refl;
+        well = ap (λ b. b || false) heard;
+        said = refl;
+      },
+    );
     enough = refl;
     broke = u.broke;
     silent = λ e. absurd (let f : ⊥ = cc in f);
@@ -140,9 +143,9 @@ module _ (r : Rules) (s t u : State) (m n o : Bool) (ts us : List Turn) (es fs :
   counted : Counted r s m (ts ++ us) o (es ++ fs) (ms ++ ns)
   counted = elim q.count [
     | inl e ↦ inl (
-        let a = length-append ms ns in let b = asks-append ts us in let c = exact in let d = e.0 in omega (arith, a, b, c, d),
-        λ h. heard_then r s t m n ts es ms clear p us fs ns (e.1 (refused_behind ts us clear h)),
-      )
+      let a = length-append ms ns in let b = asks-append ts us in let c = exact in let d = e.0 in omega (arith, a, b, c, d),
+      λ h. heard_then r s t m n ts es ms clear p us fs ns (e.1 (refused_behind ts us clear h)),
+    )
     | inr e ↦ inr (e.0, let a = length-append ms ns in let b = requests-append ts us in let c = exact in let d = asks-requests ts clear in let f = e.1 in omega (arith, a, b, c, d, f))
   ]
 

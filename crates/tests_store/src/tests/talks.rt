@@ -105,7 +105,14 @@ fn tells_each(alloc: Global) -> bool {
     shell.hang_up();
     let behind = shell.say(b"put").is_ok() && shell.said(None) == b"output".as_slice();
     let told = shell.said(Some(0)) == b"one".as_slice() && shell.said(Some(1)) == b"two".as_slice();
-    added && before && first && at_hand && second && behind && told && shell.said(Some(2)).is_empty()
+    added
+        && before
+        && first
+        && at_hand
+        && second
+        && behind
+        && told
+        && shell.said(Some(2)).is_empty()
 }
 
 #[test]

@@ -115,6 +115,7 @@ module _ {K : Type 0} (R : K → K → Ordering) (o : IsTotalOrder R) where
   below_none x [] h = refl
   below_none x (y ∷ ys) h = rw (less (R x y) (first _ _ h)) (below_none x ys (second _ _ h))
 
+  -- what is equal to one that is below each of them isn't among them
   tied_none : (x y : K) (ys : List K) → R x y ≡ Equal → T (is_below_each R y ys) → times x ys ≡ 0
   tied_none x y ys e h = times-tied x y ys e ∙ times-none y ys (below_none y ys h)
 
@@ -159,6 +160,7 @@ module _ {K : Type 0} (R : K → K → Ordering) (o : IsTotalOrder R) where
       has_member-with_member x y (gathered R ys)
       ∙ ap (λ b. is_eq (R x y) || b) (has_member-gathered x ys)
 
+  -- what is gathered rises
   pub is_rising-gathered : (ys : List K) → T (is_rising R (gathered R ys))
   is_rising-gathered [] = tt
   is_rising-gathered (y ∷ ys) = is_rising-with_member R o y (gathered R ys) (is_rising-gathered ys)

@@ -215,6 +215,7 @@ module _ {K : Type 0} (R : K → K → Ordering) (o : IsTotalOrder R) where
       ∙ sym (ap (λ l. (out ++ drop i xs) ++ l) (at_drop_all (λ l. l) ys j past)
       ∙ append-nil (out ++ drop i xs))
 
+  -- at the end of either, what is left of both completes the union
   pub both-end : (xs ys out made : List K) (i j : ℕ) → (length xs ≤ i) ⊎ (length ys ≤ j)
       → T (is_rising R xs)
       → Gives (with_members R) xs ys out i j → made ≡ out ++ take (length xs - i) (drop i xs)
@@ -223,6 +224,7 @@ module _ {K : Type 0} (R : K → K → Ordering) (o : IsTotalOrder R) where
       (λ k. (is ∙ ap (λ l. out ++ l) (take_rest xs i)) k ++ take_rest ys j k)
       ∙ sym (ends xs ys out i j past h g)
 
+  -- at the end of either, what is left of the second
   remains : (xs ys out : List K) (i j : ℕ) → (length xs ≤ i) ⊎ (length ys ≤ j)
       → Gives (without_members R) xs ys out i j → without_members R xs ys ≡ out ++ drop j ys
   remains xs ys out i j (inl past) g =
@@ -232,6 +234,7 @@ module _ {K : Type 0} (R : K → K → Ordering) (o : IsTotalOrder R) where
       g ∙ ap (λ l. out ++ without_members R (drop i xs) l) (at_drop_all (λ l. l) ys j past)
       ∙ sym (ap (λ l. out ++ l) (at_drop_all (λ l. l) ys j past))
 
+  -- so that completes the rest
   pub rest-end : (xs ys out : List K) (i j : ℕ) → (length xs ≤ i) ⊎ (length ys ≤ j)
       → Gives (without_members R) xs ys out i j
       → out ++ take (length ys - j) (drop j ys) ≡ without_members R xs ys
@@ -240,12 +243,14 @@ module _ {K : Type 0} (R : K → K → Ordering) (o : IsTotalOrder R) where
 
   -- ---- what is made is a set of the same kind
 
+  -- a union is a set
   pub is_rising-with_members : (xs ys : List K) → T (is_rising R ys)
       → T (is_rising R (with_members R xs ys))
   is_rising-with_members [] ys h = h
   is_rising-with_members (x ∷ xs) ys h = is_rising-with_member R o x (with_members R xs ys)
       (is_rising-with_members xs ys h)
 
+  -- those of a set that pass a test are a set
   below_each-filter : (test : K → Bool) (x : K) (ys : List K) → T (is_below_each R x ys)
       → T (is_below_each R x (filter test ys))
   below_each-filter test x [] h = tt
@@ -263,6 +268,7 @@ module _ {K : Type 0} (R : K → K → Ordering) (o : IsTotalOrder R) where
     | inr e ↦ rw e (is_rising-filter test ys (second _ _ h))
   ]
 
+  -- what is left of a set is a set
   pub is_rising-without_members : (xs ys : List K) → T (is_rising R ys)
       → T (is_rising R (without_members R xs ys))
   is_rising-without_members xs ys h = is_rising-filter (λ y. not (has_member R y xs)) ys h

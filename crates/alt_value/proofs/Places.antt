@@ -105,6 +105,7 @@ module _ {K : Type 0} (R : K → K → Ordering) (o : IsTotalOrder R) where
   below_at x (y ∷ ys) zero d h within = less _ (first _ _ h)
   below_at x (y ∷ ys) (suc k) d h within = below_at x ys k d (second _ _ h) (omega arith)
 
+  -- each member of a set is below those behind it
   pub rises-is_rising : (ys : List K) → T (is_rising R ys) → Rises (λ y. y) ys
   rises-is_rising [] h i j d below within = absurd (omega arith)
   rises-is_rising (y ∷ ys) h i zero d below within = absurd (omega arith)
@@ -123,6 +124,7 @@ module _ {K : Type 0} (R : K → K → Ordering) (o : IsTotalOrder R) where
       (ap (λ zs. y ∷ zs) (with_member-present x ys i (omega arith)
       (later_before (λ y. y) x y ys i before) tied))
 
+  -- what was found is a member
   pub has_member-present : (x : K) (ys : List K) (i : ℕ) → i < length ys
       → ((d : K) → R (get_or ys i d) x ≡ Equal)
       → has_member R x ys ≡ true
@@ -149,6 +151,7 @@ module _ {K : Type 0} (R : K → K → Ordering) (o : IsTotalOrder R) where
       (ap (λ zs. y ∷ zs) (with_member-absent x ys i (omega arith)
       (later_before (λ y. y) x y ys i before) (later_after (λ y. y) x y ys i after)))
 
+  -- and one that isn't there is none
   pub has_member-absent : (x : K) (ys : List K) (i : ℕ) → i ≤ length ys → Before (λ y. y) x ys i
       → After (λ y. y) x ys i
       → has_member R x ys ≡ false
@@ -162,6 +165,7 @@ module _ {K : Type 0} (R : K → K → Ordering) (o : IsTotalOrder R) where
       (has_member-absent x ys i (omega arith) (later_before (λ y. y) x y ys i before)
       (later_after (λ y. y) x y ys i after))
 
+  -- what is below one that is below each of them is below each
   pub below_each_below : (x y : K) (ys : List K) → R x y ≡ Less → T (is_below_each R y ys)
       → T (is_below_each R x ys)
   below_each_below x y [] p h = tt
@@ -208,6 +212,7 @@ module _ {K : Type 0} (R : K → K → Ordering) (o : IsTotalOrder R) where
         has_member-present m zs i within tied,
       )
 
+  -- the same where the search found none
   pub missed : (x m : K) (zs xs ys : List K) (i : ℕ) → m ≡ x → zs ≡ xs → xs ≡ ys
       → T (is_rising R xs) → i ≤ length zs
       → (IsNonDecreasingBy (λ y. ordering_index (R y m)) zs

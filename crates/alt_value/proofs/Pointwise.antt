@@ -36,6 +36,7 @@ module _ {A B : Type 0} (f : A → B) where
       let r : drop (suc i) (map f xs) ≡ drop (suc i) (map f ys) = rw (ea, eb, ← add-one i) rest in
       rw (← ea, ← eb) (same_more xs ys i x y p q at at' e r)
 
+  -- equal lists are seen alike at each place
   pub differ_seen : (xs ys : List A) (us vs : List B) (i : ℕ) (x y : A) → map f xs ≡ us
       → map f ys ≡ vs → i < length xs → i < length ys
       → x ≡ get_or xs i x → y ≡ get_or ys i y → us ≡ vs → f x ≡ f y

@@ -23,6 +23,7 @@ pub IsListOfValues-push : (ts : List Tree) (t : Tree) → IsListOfValues ts → 
     → IsListOfValues (ts ++ t ∷ [])
 IsListOfValues-push ts t h v short = (AreValues-push ts t h.0 v, short)
 
+-- pairs of values, with one put in
 AreFields-with_pair : (name : List ℕ) (t : Tree) (ps : List Pair) → IsText name → IsValue t
     → AreFields (fields_of ps)
     → AreFields (fields_of (with_pair name t ps))
@@ -45,6 +46,7 @@ IsItemOfValues-with_pair name t ps some n v short h = record {
   count = short;
 }
 
+-- those of them whose names pass a test, which are no more
 AreFields-where : (p : List ℕ → Bool) (qs : List Pair) → AreFields (fields_of qs)
     → AreFields (fields_of (where_key text_order p qs))
 AreFields-where p [] h = tt

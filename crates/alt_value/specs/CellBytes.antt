@@ -38,10 +38,12 @@ abbrev mutual
   cell_bytes (L_tree ts) = 9 ∷ (counted (length (elements ts)) ++ elements_bytes ts)
   cell_bytes (M_tree fs) = 10 ∷ (counted (length (pairs fs)) ++ entries_bytes fs)
 
+  -- the elements of a list, one after another
   elements_bytes : Trees → List ℕ
   elements_bytes no_trees = []
   elements_bytes (tree_then t ts) = cell_bytes t ++ elements_bytes ts
 
+  -- the pairs of a map, each its name and its value
   entries_bytes : Fields → List ℕ
   entries_bytes no_fields = []
   entries_bytes (field_then name t fs) = field name ++ cell_bytes t ++ entries_bytes fs

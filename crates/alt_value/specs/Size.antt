@@ -21,10 +21,12 @@ abbrev mutual
   size (L_tree ts) = 3 + length (elements ts) + elements_size ts
   size (M_tree fs) = 3 + length (pairs fs) + fields_size fs
 
+  -- the sum of the elements of a list
   pub elements_size : Trees → ℕ
   elements_size no_trees = 0
   elements_size (tree_then t ts) = size t + elements_size ts
 
+  -- the sum of the names and values of a map
   pub fields_size : Fields → ℕ
   fields_size no_fields = 0
   fields_size (field_then name t fs) = length name + size t + fields_size fs
@@ -47,10 +49,12 @@ abbrev mutual
   depth (L_tree ts) = suc (elements_depth ts)
   depth (M_tree fs) = suc (fields_depth fs)
 
+  -- the depth of the deepest element of a list, and 0 where there is none
   pub elements_depth : Trees → ℕ
   elements_depth no_trees = 0
   elements_depth (tree_then t ts) = max (depth t) (elements_depth ts)
 
+  -- the same of the values of a map
   pub fields_depth : Fields → ℕ
   fields_depth no_fields = 0
   fields_depth (field_then name t fs) = max (depth t) (fields_depth fs)

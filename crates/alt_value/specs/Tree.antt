@@ -5,6 +5,7 @@
 use Rattle.std.specs.Prelude.{ℕ, ℤ, Bool, List, [], ◌∷◌}
 
 mutual
+  -- a value of one of the ten kinds
   pub data Tree : Type 0 where
     S_tree : List ℕ → Tree
     N_tree : ℤ → Tree

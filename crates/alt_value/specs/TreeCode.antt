@@ -23,6 +23,7 @@ bytes_in gnil = []
 bytes_in (gnum n) = []
 bytes_in (gcons a b) = number_in a ∷ bytes_in b
 
+-- its code gives a list of numbers back
 bytes_in-code_bytes : (s : List ℕ) → bytes_in (code_bytes s) ≡ s
 bytes_in-code_bytes [] = refl
 bytes_in-code_bytes (n ∷ ns) = ap (λ (t : List ℕ). n ∷ t) (bytes_in-code_bytes ns)
@@ -38,6 +39,7 @@ texts_in gnil = []
 texts_in (gnum n) = []
 texts_in (gcons a b) = bytes_in a ∷ texts_in b
 
+-- its code gives a list of lists back
 texts_in-code_texts : (ss : List (List ℕ)) → texts_in (code_texts ss) ≡ ss
 texts_in-code_texts [] = refl
 texts_in-code_texts (s ∷ ss) = λ i. bytes_in-code_bytes s i ∷ texts_in-code_texts ss i
@@ -59,6 +61,7 @@ whole_in gnil = pos 0
 whole_in (gnum n) = pos 0
 whole_in (gcons a b) = signed_by a (number_in b)
 
+-- its code gives a whole number back
 whole_in-code_whole : (z : ℤ) → whole_in (code_whole z) ≡ z
 whole_in-code_whole (pos n) = refl
 whole_in-code_whole (negsuc n) = refl
@@ -74,6 +77,7 @@ wholes_in gnil = []
 wholes_in (gnum n) = []
 wholes_in (gcons a b) = whole_in a ∷ wholes_in b
 
+-- its code gives a list of whole numbers back
 wholes_in-code_wholes : (zs : List ℤ) → wholes_in (code_wholes zs) ≡ zs
 wholes_in-code_wholes [] = refl
 wholes_in-code_wholes (z ∷ zs) = λ i. whole_in-code_whole z i ∷ wholes_in-code_wholes zs i
@@ -89,6 +93,7 @@ truth_in gnil = false
 truth_in (gnum n) = true
 truth_in (gcons a b) = true
 
+-- its code gives a truth value back
 truth_in-code_truth : (b : Bool) → truth_in (code_truth b) ≡ b
 truth_in-code_truth true = refl
 truth_in-code_truth false = refl
@@ -107,10 +112,12 @@ abbrev mutual
   code_tree (L_tree ts) = gcons (gnum 8) (code_trees ts)
   code_tree (M_tree fs) = gcons (gnum 9) (code_fields fs)
 
+  -- the elements of a list, a pair for each
   code_trees : Trees → Gv
   code_trees no_trees = gnil
   code_trees (tree_then t ts) = gcons (code_tree t) (code_trees ts)
 
+  -- the pairs of a map: each its name, its value and the rest
   code_fields : Fields → Gv
   code_fields no_fields = gnil
   code_fields (field_then name t fs) = gcons (code_bytes name)
@@ -136,22 +143,26 @@ abbrev mutual
   tree_in (gnum n) = NULL_tree
   tree_in (gcons a b) = of_kind (number_in a) b (trees_in b) (fields_in b)
 
+  -- the elements that were coded so
   trees_in : Gv → Trees
   trees_in gnil = no_trees
   trees_in (gnum n) = no_trees
   trees_in (gcons a b) = tree_then (tree_in a) (trees_in b)
 
+  -- the pairs that were coded so
   fields_in : Gv → Fields
   fields_in gnil = no_fields
   fields_in (gnum n) = no_fields
   fields_in (gcons a b) = fields_behind (bytes_in a) b
 
+  -- a pair of that name, and the pairs behind it
   fields_behind : List ℕ → Gv → Fields
   fields_behind name gnil = no_fields
   fields_behind name (gnum n) = no_fields
   fields_behind name (gcons a b) = field_then name (tree_in a) (fields_in b)
 
 mutual
+  -- its code gives a tree back
   pub tree_in-code_tree : (t : Tree) → tree_in (code_tree t) ≡ t
   tree_in-code_tree (S_tree s) = ap S_tree (bytes_in-code_bytes s)
   tree_in-code_tree (N_tree z) = ap N_tree (whole_in-code_whole z)
@@ -164,11 +175,13 @@ mutual
   tree_in-code_tree (L_tree ts) = ap L_tree (trees_in-code_trees ts)
   tree_in-code_tree (M_tree fs) = ap M_tree (fields_in-code_fields fs)
 
+  -- the same of the elements of a list
   trees_in-code_trees : (ts : Trees) → trees_in (code_trees ts) ≡ ts
   trees_in-code_trees no_trees = refl
   trees_in-code_trees (tree_then t ts) = λ i. tree_then (tree_in-code_tree t i)
       (trees_in-code_trees ts i)
 
+  -- the same of the pairs of a map
   fields_in-code_fields : (fs : Fields) → fields_in (code_fields fs) ≡ fs
   fields_in-code_fields no_fields = refl
   fields_in-code_fields (field_then name t fs) =

@@ -18,7 +18,7 @@ pub(crate) fn operand(given: &Lookups<'_>, tokens: &mut Cursor<'_>) -> Result<Op
     match tokens.peek() {
         Some(Token::ColonWord(word)) => {
             tokens.skip(1);
-            Ok(Operand::Value(given.values.copied(word)?))
+            Ok(Operand::Value(given.values.shared(word)?))
         }
         _ => named(given, tokens),
     }

@@ -19,9 +19,10 @@ pub mod PathFound
 pub mod PathRead
 pub mod PathsTexts
 pub mod PathsWhole
+pub mod PlacesOfWords
+pub mod PlainFacts
 pub mod SameValues
 pub mod Seen
-pub mod Shared
 pub mod Suffix
 pub mod TextTokens
 pub mod Texts

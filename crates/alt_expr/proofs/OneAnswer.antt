@@ -3,7 +3,7 @@ use Rattle.std.proofs.Common.{◌≡◌, refl, sym, ap, ◌∙◌, ℕ, ◌⊎�
 use Rattle.std.specs.Prelude.{Result}
 use Rattle.alt_expr.specs.Faults.{Language, IsFirst, NoneApplies, Answers, fault_order, HasFault, IsTreeOf, Parsed}
 use Rattle.alt_expr.specs.Given.{Given}
-use Rattle.alt_expr.specs.Told.{IsTold}
+use Rattle.alt_expr.specs.Told.{IsTold, IsOnly}
 use Rattle.alt_expr.specs.declared.fault.ExprFault.{ExprFault}
 use Rattle.alt_expr.specs.declared.fault.ExprFault.TheVariants as fault
 use Rattle.alt_expr.proofs.Once.{tokens_once}
@@ -53,3 +53,10 @@ unfolding Parsed
 one_answer L g one_tree text r q h i t u = one_of (HasFault L g text) (IsTreeOf L g text)
     (λ a b x y. x.2 ∙ one_tree x.0 y.0
     (tokens_once text (L.toks x.0) (L.toks y.0) true true x.1 y.1).0 ∙ sym y.2) r q h i t u
+
+-- so what is answered is the only answer
+pub only_answer : {D A : Type 0} (L : Language D A) (g : Given)
+    → ((d e : D) → L.toks d ≡ L.toks e → L.tree g d ≡ L.tree g e) → (text : List ℕ)
+    → (r : Result A ExprFault) → Parsed L g text r → IsOnly L g text r
+unfolding IsOnly
+only_answer L g one_tree text r h told q i other = one_answer L g one_tree text r q h i told other

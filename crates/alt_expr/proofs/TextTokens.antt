@@ -5,7 +5,7 @@ use Rattle.alt_expr.specs.Spelling.{skip}
 use Rattle.alt_expr.specs.Told.{TextTokens}
 use Rattle.alt_expr.specs.declared.lexer.Kind.{Kind}
 use Rattle.alt_expr.proofs.Longest.{stands_of, none_of, skip_fits}
-use Rattle.alt_expr.proofs.Shared.{length_none}
+use Rattle.alt_expr.proofs.PlainFacts.{length_none}
 use Rattle.alt_expr.proofs.Tokenized.{stands_some}
 
 empty : (xs : List ℕ) → (xs ≡ []) ⊎ (xs ≡ [] → ⊥)

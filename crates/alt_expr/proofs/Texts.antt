@@ -14,7 +14,7 @@ use Rattle.alt_expr.specs.declared.fault.ExprFault.{ExprFault}
 use Rattle.alt_expr.specs.declared.fault.ExprFault.TheVariants as fault
 use Rattle.alt_expr.proofs.Deep.{deep_is}
 use Rattle.alt_expr.proofs.Parsing.{parsed_too_long, parsed_by_tokens, read_too_deep, read_cut, read_err, read_undefined, read_too_many, read_repeated, read_overlap, read_tree, tree_read}
-use Rattle.alt_expr.proofs.Shared.{clash}
+use Rattle.alt_expr.proofs.PlainFacts.{clash}
 use Rattle.alt_expr.proofs.TextTokens.{tokens_of}
 
 module _ {D A : Type 0} (L : Language D A) (g : Given) where

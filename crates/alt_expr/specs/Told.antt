@@ -23,3 +23,9 @@ pub record Told {D A : Type 0} (L : Language D A) (g : Given) (text : List ℕ) 
   pub result : Result A ExprFault
   pub parsed : Parsed L g text result
   pub told : IsTold result
+
+-- What was answered of a text is all that there is to tell of it: by no other derivation has it another tree, or a fault.
+unfoldable pub IsOnly : {D A : Type 0} (L : Language D A) (g : Given) (text : List ℕ)
+    → Result A ExprFault → Type 0
+IsOnly {A = A} L g text result = IsTold result → (other : Result A ExprFault)
+    → Parsed L g text other → IsTold other → result ≡ other

@@ -1,6 +1,6 @@
 //! Trees of conditions.
 
-use crate::{Boxed, Items, Path};
+use crate::{Boxed, Items, Path, Shared};
 use alt_value::Attr;
 
 /// How two operands are compared.
@@ -18,7 +18,7 @@ pub enum Comparison {
 #[derive(Drop)]
 pub enum Operand {
     At(Path),
-    Value(Attr),
+    Value(Shared<Attr>),
     Size(Path),
 }
 

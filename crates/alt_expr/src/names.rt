@@ -1,16 +1,16 @@
 //! The names that a request gives for the `#` words of its expressions.
 
-ghost use Rattle.std.specs.Prelude.{◌≡◌, ◌||◌, ◌<◌, [], ◌∷◌, List, false, true, length, map, option_map, is_some, IfOk, OnOk, IfSome};
+ghost use Rattle.std.specs.Prelude.{◌≡◌, ◌||◌, ◌<◌, [], ◌∷◌, List, false, true, not, length, map, option_map, slice_get, is_some, IfOk, OnOk, IfSome};
 ghost use Rattle.std.specs.Option.{option_map_or};
 ghost use Rattle.serde_json.specs.View.{view, members_view};
 ghost use Rattle.alt_value.specs.Stands.{tree_of};
 ghost use Rattle.alt_value.specs.Item.{at_name, with_pair};
+ghost use Rattle.alt_value.specs.Members.{text_order, has_member};
 ghost use Rattle.alt_expr.specs.Tokens.{tok_of};
 ghost use Rattle.alt_expr.specs.Given.{name_of, with_hashes, has_unused, are_names, is_name};
 ghost use Rattle.alt_expr.specs.NamesIn.{gives_names, names_in, name_in, gives_empty};
 
 use crate::token::Token;
-use crate::values::has_unused;
 use alt_base::NoMemory;
 use alt_value::{Attr, Item, Text, TextSet};
 use serde_json::{Map, Value};
@@ -140,4 +140,26 @@ fn value_of(alloc: Global, name: &Value) -> Result<Attr, NoMemory>
         return Ok(Attr::Null);
     };
     Ok(Attr::S(Text::new(alloc, text)?))
+}
+
+/// Whether a given word isn't among the used ones.
+#[tactic(auto, using(crate::proofs::Words::unused_on))]
+fn has_unused(given: &Item, used: &TextSet) -> bool
+    ensures { result ≡ has_unused given.now used.now }
+{
+    for place in 0..given.len() {
+        if is_unused(given, place, used) {
+            return true;
+        }
+    }
+    false
+}
+
+fn is_unused(given: &Item, place: usize, used: &TextSet) -> bool
+    ensures { result ≡ option_map_or (λ p. not (has_member text_order p.0 used.now)) (slice_get given.now place) false }
+{
+    match given.at(place) {
+        Some((word, _)) => !used.contains(word),
+        None => false,
+    }
 }

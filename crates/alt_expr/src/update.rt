@@ -1,13 +1,13 @@
 //! Trees of updates.
 
-use crate::{Boxed, Items, Path};
+use crate::{Boxed, Items, Path, Shared};
 use alt_value::{Attr, Text};
 
 /// A part of the item, a given value, or what a function makes of others.
 #[derive(Drop)]
 pub enum Term {
     At(Path),
-    Value(Attr),
+    Value(Shared<Attr>),
     IfNotExists(Path, Boxed<Term>),
     ListAppend(Boxed<Term>, Boxed<Term>),
 }
@@ -25,8 +25,8 @@ pub enum Sum {
 pub enum Action {
     Set(Path, Sum),
     Remove(Path),
-    Add(Text, Attr),
-    Delete(Text, Attr),
+    Add(Text, Shared<Attr>),
+    Delete(Text, Shared<Attr>),
 }
 
 /// All actions in text order.

@@ -8,16 +8,18 @@ ghost use Rattle.alt_value.specs.Item.{at_name};
 ghost use Rattle.alt_expr.specs.Tokens.{tok_of};
 ghost use Rattle.alt_expr.specs.Given.{value_of, attr_of, with_colons, has_unused};
 
+use crate::shared::Shared;
 use crate::token::Token;
+use crate::word_values::WordValues;
 use alt_base::NoMemory;
-use alt_value::{Attr, Item, TextSet, copy};
+use alt_value::{Attr, Item, TextSet};
 use std::alloc::Global;
 
 /// Given values by word, and the words of the texts that were parsed with them. A word that doesn't begin with `:` may be given;
-/// no text has it.
+/// no text has it. Each value is there once, however many trees have it.
 #[derive(Drop)]
 pub struct Values {
-    given: Item,
+    given: WordValues,
     used: TextSet,
 }
 
@@ -30,7 +32,7 @@ impl Values {
         ensures unused { IfOk result (λ v. used_values v ≡ []) }
     {
         Ok(Values {
-            given: i,
+            given: WordValues::of_item(alloc, &i)?,
             used: TextSet::new(alloc),
         })
     }
@@ -47,16 +49,19 @@ impl Values {
         ensures value { option_map (λ a. tree_of a.now) result
             ≡ at_name word.now (given_values self.now) }
     {
-        self.given.get(word)
+        match self.given.get(word) {
+            Some(value) => Some(value.get()),
+            None => None,
+        }
     }
 
-    /// A copy of the value that a word stands for; NULL where it isn't given.
-    pub fn copied(&self, word: &str) -> Result<Attr, NoMemory>
+    /// The value that a word stands for, without a copy; NULL where it isn't given.
+    pub fn shared(&self, word: &str) -> Result<Shared<Attr>, NoMemory>
         ensures value { IfOk result (λ a. a ≡ value_of (given_values self.now) word.now) }
     {
-        match self.value(word) {
-            Some(value) => copied(value),
-            None => Ok(Attr::Null),
+        match self.given.get(word) {
+            Some(value) => shared(value),
+            None => Shared::new(self.given.alloc(), Attr::Null),
         }
     }
 
@@ -75,18 +80,15 @@ impl Values {
     }
 }
 
-fn copied(value: &Attr) -> Result<Attr, NoMemory>
+fn shared(value: &Shared<Attr>) -> Result<Shared<Attr>, NoMemory>
     ensures { IfOk result (λ a. a ≡ attr_of (tree_of value.now)) }
 {
-    match copy(value) {
-        Ok(copied) => Ok(copied),
-        Err(wanting) => Err(wanting),
-    }
+    value.share()
 }
 
 /// Whether a given word isn't among the used ones.
 #[tactic(auto, using(crate::proofs::Words::unused_on))]
-pub(crate) fn has_unused(given: &Item, used: &TextSet) -> bool
+fn has_unused(given: &WordValues, used: &TextSet) -> bool
     ensures { result ≡ has_unused given.now used.now }
 {
     for place in 0..given.len() {
@@ -97,7 +99,7 @@ pub(crate) fn has_unused(given: &Item, used: &TextSet) -> bool
     false
 }
 
-fn is_unused(given: &Item, place: usize, used: &TextSet) -> bool
+fn is_unused(given: &WordValues, place: usize, used: &TextSet) -> bool
     ensures { result ≡ option_map_or (λ p. not (has_member text_order p.0 used.now))
         (slice_get given.now place) false }
 {

@@ -6,6 +6,7 @@ ghost use Rattle.alt_expr.specs.Tokens.{tok_of};
 ghost use Rattle.alt_expr.specs.Crowded.{is_long};
 ghost use Rattle.alt_expr.specs.Given.{is_unknown};
 ghost use Rattle.alt_expr.specs.Faults.{Parsed, NotesHashes, KeepsNames};
+ghost use Rattle.alt_expr.specs.Told.{IsOnly};
 ghost use Rattle.alt_expr.specs.Languages.{projections};
 ghost use Rattle.alt_expr.specs.Lookups.{names_alone};
 ghost use Rattle.alt_expr.specs.NamesGiven.{given_names};
@@ -28,6 +29,7 @@ const MOST_PARTS: usize = 32;
 /// where it has a fault.
 pub fn parse(alloc: Global, text: &str, names: &mut Names) -> Result<Paths, ExprFault>
     ensures parsed { Parsed projections (names_alone (given_names names.old)) text.now result }
+    ensures only { IsOnly projections (names_alone (given_names names.old)) text.now result }
     ensures names { NotesHashes text.now names.old names.new result }
     ensures keeps_names { KeepsNames names.old names.new }
 {

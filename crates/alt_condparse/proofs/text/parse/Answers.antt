@@ -10,7 +10,7 @@ use Rattle.alt_expr.specs.declared.fault.ExprFault.TheVariants as fault
 use Rattle.alt_expr.specs.declared.cond.Cond.{Cond}
 use Rattle.alt_expr.proofs.Parsing.{parsed_too_long, parsed_by_tokens, reaches_end, parsed_no_memory}
 use Rattle.alt_expr.proofs.Noting.{notes_hashes, no_hashes, notes_colons, no_colons}
-use Rattle.alt_expr.proofs.Shared.{was_ok}
+use Rattle.alt_expr.proofs.PlainFacts.{was_ok}
 use Rattle.alt_condparse.proofs.text.parse.Goals as goal
 
 pub returns-then-text-gt-MOST_BYTES-clause-parsed :

@@ -6,7 +6,7 @@ use Rattle.alt_expr.specs.Lookups.{given_by}
 use Rattle.alt_expr.specs.Languages.{conditions}
 use Rattle.alt_expr.proofs.Parsing.{read_too_deep, read_cut, read_err, read_undefined, read_too_many, read_tree, tree_read}
 use Rattle.alt_expr.proofs.CondWhole.{unique, never_repeats, never_overlaps, crowded_is}
-use Rattle.alt_expr.proofs.Shared.{clash}
+use Rattle.alt_expr.proofs.PlainFacts.{clash}
 use Rattle.alt_condparse.proofs.text.read.Goals as goal
 
 pub returns-then-is_too_deep : goal.returns-then-is_too_deep

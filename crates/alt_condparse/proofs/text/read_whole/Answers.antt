@@ -6,7 +6,7 @@ use Rattle.alt_expr.specs.Lookups.{given_to}
 use Rattle.alt_expr.specs.Reader.{left}
 use Rattle.alt_expr.specs.CondReader.{any, one}
 use Rattle.alt_expr.proofs.CondWhole.{read_all, read_part, read_none}
-use Rattle.alt_expr.proofs.Shared.{length_none}
+use Rattle.alt_expr.proofs.PlainFacts.{length_none}
 use Rattle.alt_condparse.proofs.text.read_whole.Goals as goal
 
 pub returns-in-Err : goal.returns-in-Err

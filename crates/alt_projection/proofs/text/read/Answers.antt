@@ -8,7 +8,7 @@ use Rattle.alt_expr.specs.Lookups.{names_alone}
 use Rattle.alt_expr.specs.NamesGiven.{given_names}
 use Rattle.alt_expr.specs.Languages.{projections}
 use Rattle.alt_expr.proofs.Parsing.{read_too_deep, read_cut, read_err, read_undefined, read_too_many, read_overlap, read_tree, tree_read, read_no_memory}
-use Rattle.alt_expr.proofs.Shared.{clash}
+use Rattle.alt_expr.proofs.PlainFacts.{clash}
 use Rattle.alt_expr.proofs.PathsWhole.{unique, never_repeats, overlaps_is, crowded_is}
 use Rattle.alt_projection.proofs.text.read.Goals as goal
 

@@ -5,7 +5,7 @@ use Rattle.alt_expr.specs.Lookups.{names_alone}
 use Rattle.alt_expr.specs.NamesGiven.{given_names}
 use Rattle.alt_expr.specs.Reader.{left, listed, path}
 use Rattle.alt_expr.proofs.PathsWhole.{read_all, read_part, read_none}
-use Rattle.alt_expr.proofs.Shared.{length_none}
+use Rattle.alt_expr.proofs.PlainFacts.{length_none}
 use Rattle.alt_projection.proofs.text.read_whole.Goals as goal
 
 pub returns-in-Err : goal.returns-in-Err

@@ -1,5 +1,4 @@
-//! Alternator: the interface of Amazon DynamoDB over a store in one folder. So far it answers eight operations, and requests as lines or
-//! over HTTP.
+//! Alternator: the interface of Amazon DynamoDB over a store in one folder. It answers sixteen operations, asked as lines or over HTTP.
 #![tactic(auto)]
 
 mod connection;

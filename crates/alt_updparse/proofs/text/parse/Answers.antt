@@ -11,7 +11,7 @@ use Rattle.alt_expr.specs.declared.update.Action.{Action}
 use Rattle.alt_expr.proofs.Parsing.{parsed_too_long, parsed_by_tokens, reaches_end, parsed_no_memory}
 use Rattle.alt_expr.proofs.Noting.{notes_hashes, no_hashes, notes_colons, no_colons}
 use Rattle.alt_updparse.proofs.Begins.{read_begins}
-use Rattle.alt_expr.proofs.Shared.{was_ok}
+use Rattle.alt_expr.proofs.PlainFacts.{was_ok}
 use Rattle.alt_updparse.proofs.text.parse.Goals as goal
 
 pub returns-then-text-gt-MOST_BYTES-clause-parsed :

@@ -37,7 +37,7 @@ pub fn value_of<'a, V: AttrView>(operand: &'a Operand, view: &'a V) -> Denoted<'
 {
     match operand {
         Operand::At(path) => at(path.as_slice(), view),
-        Operand::Value(value) => Denoted::Borrowed(value),
+        Operand::Value(value) => Denoted::Borrowed(value.get()),
         Operand::Size(path) => size_at(path.as_slice(), view),
     }
 }

@@ -3,6 +3,7 @@
 ghost use Rattle.std.specs.Prelude.{◌≡◌, map, OnOk};
 ghost use Rattle.alt_expr.specs.Tokens.{tok_of};
 ghost use Rattle.alt_expr.specs.Faults.{Parsed, NotesHashes, NotesColons, KeepsNames};
+ghost use Rattle.alt_expr.specs.Told.{IsOnly};
 ghost use Rattle.alt_expr.specs.Languages.{conditions};
 ghost use Rattle.alt_expr.specs.Lookups.{given_by, given_to};
 ghost use Rattle.alt_expr.specs.Given.{with_hashes, with_colons};
@@ -29,6 +30,7 @@ pub fn parse(
     values: &mut Values,
 ) -> Result<Cond, ExprFault>
     ensures parsed { Parsed conditions (given_by names.old values.old) text.now result }
+    ensures only { IsOnly conditions (given_by names.old values.old) text.now result }
     ensures names { NotesHashes text.now names.old names.new result }
     ensures values { NotesColons text.now values.old values.new result }
     ensures keeps_names { KeepsNames names.old names.new }

@@ -6,7 +6,7 @@ ghost use Rattle.alt_expr.specs.Lookups.{given_to};
 ghost use Rattle.alt_expr.specs.UpdateReader as spec;
 
 use crate::term::sum;
-use alt_expr::{Action, Cursor, ExprFault, Keyword, Lookups, Mark, Token, read_path};
+use alt_expr::{Action, Cursor, ExprFault, Keyword, Lookups, Mark, Shared, Token, read_path};
 use alt_value::Attr;
 
 /// An action of the clause that has the keyword.
@@ -62,13 +62,13 @@ fn delete(given: &Lookups<'_>, tokens: &mut Cursor<'_>) -> Result<Action, ExprFa
 
 /// The value of a `:` word.
 #[tactic(auto, unfolding(alt_expr::specs::UpdateReader::value))]
-fn value(given: &Lookups<'_>, tokens: &mut Cursor<'_>) -> Result<Attr, ExprFault>
+fn value(given: &Lookups<'_>, tokens: &mut Cursor<'_>) -> Result<Shared<Attr>, ExprFault>
     ensures { Reads (spec.value (given_to given.now) (left tokens.old)) result (left tokens.new) }
 {
     match tokens.peek() {
         Some(Token::ColonWord(word)) => {
             tokens.skip(1);
-            Ok(given.values.copied(word)?)
+            Ok(given.values.shared(word)?)
         }
         _ => Err(ExprFault::Syntax),
     }

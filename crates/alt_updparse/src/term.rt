@@ -98,7 +98,7 @@ fn operand(given: &Lookups<'_>, tokens: &mut Cursor<'_>) -> Result<Term, ExprFau
     match tokens.peek() {
         Some(Token::ColonWord(word)) => {
             tokens.skip(1);
-            Ok(Term::Value(given.values.copied(word)?))
+            Ok(Term::Value(given.values.shared(word)?))
         }
         _ => located(given, tokens),
     }

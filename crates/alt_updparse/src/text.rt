@@ -3,6 +3,7 @@
 ghost use Rattle.std.specs.Prelude.{◌≡◌, true, map, IfOk, OnOk};
 ghost use Rattle.alt_expr.specs.Tokens.{tok_of};
 ghost use Rattle.alt_expr.specs.Faults.{Parsed, NotesHashes, NotesColons, KeepsNames};
+ghost use Rattle.alt_expr.specs.Told.{IsOnly};
 ghost use Rattle.alt_expr.specs.UpdateLanguage.{updates, begin_with_names};
 ghost use Rattle.alt_expr.specs.Lookups.{given_by, given_to};
 ghost use Rattle.alt_expr.specs.Given.{with_hashes, with_colons};
@@ -31,6 +32,7 @@ pub fn parse(
     values: &mut Values,
 ) -> Result<Update, ExprFault>
     ensures parsed { Parsed updates (given_by names.old values.old) text.now result }
+    ensures only { IsOnly updates (given_by names.old values.old) text.now result }
     ensures begins { IfOk result (λ u. begin_with_names u ≡ true) }
     ensures names { NotesHashes text.now names.old names.new result }
     ensures values { NotesColons text.now values.old values.new result }

@@ -9,6 +9,8 @@ use Rattle.alt_expr.specs.NamesGiven.{used_names, used_values}
 use Rattle.alt_expr.specs.declared.fault.ExprFault.TheVariants as fault
 use Rattle.alt_expr.specs.declared.cond.Cond.{Cond}
 use Rattle.alt_expr.proofs.Parsing.{parsed_too_long, parsed_by_tokens, reaches_end, parsed_no_memory}
+use Rattle.alt_expr.proofs.OneAnswer.{only_answer}
+use Rattle.alt_expr.proofs.CondWhole.{unique}
 use Rattle.alt_expr.proofs.Noting.{notes_hashes, no_hashes, notes_colons, no_colons}
 use Rattle.alt_expr.proofs.PlainFacts.{was_ok}
 use Rattle.alt_condparse.proofs.text.parse.Goals as goal
@@ -18,6 +20,12 @@ pub returns-then-text-gt-MOST_BYTES-clause-parsed :
 returns-then-text-gt-MOST_BYTES-clause-parsed c =
     parsed_too_long conditions (given_by c.args.names.now c.args.values.now) c.args.text.now
     (omega (arith, c.if-text-gt-MOST_BYTES.true))
+
+pub returns-then-text-gt-MOST_BYTES-clause-only : goal.returns-then-text-gt-MOST_BYTES-clause-only
+returns-then-text-gt-MOST_BYTES-clause-only c =
+    let given = given_by c.args.names.now c.args.values.now in
+    only_answer conditions given (unique given) c.args.text.now (Err fault.TooLong)
+    (returns-then-text-gt-MOST_BYTES-clause-parsed c)
 
 pub returns-then-text-gt-MOST_BYTES-clause-names : goal.returns-then-text-gt-MOST_BYTES-clause-names
 returns-then-text-gt-MOST_BYTES-clause-names c =
@@ -31,6 +39,12 @@ returns-then-text-gt-MOST_BYTES-clause-values c =
 pub returns-in_default-clause-parsed : goal.returns-in_default-clause-parsed
 returns-in_default-clause-parsed c =
     parsed_no_memory conditions (given_by c.args.names.now c.args.values.now) c.args.text.now
+
+pub returns-in_default-clause-only : goal.returns-in_default-clause-only
+returns-in_default-clause-only c =
+    let given = given_by c.args.names.now c.args.values.now in
+    only_answer conditions given (unique given) c.args.text.now (Err fault.NoMemory)
+    (returns-in_default-clause-parsed c)
 
 pub returns-in_default-clause-names : goal.returns-in_default-clause-names
 returns-in_default-clause-names c =
@@ -49,6 +63,12 @@ returns-in-Err-clause-parsed c =
     (subst (λ ts. ReadTokens conditions (given_by c.args.names.now c.args.values.now)
     (map tok_of ts) c.in-Ok.whole (Err c.in-Err.fault)) c.deref.ensures.value c.in-Err.ensures)
 
+pub returns-in-Err-clause-only : goal.returns-in-Err-clause-only
+returns-in-Err-clause-only c =
+    let given = given_by c.args.names.now c.args.values.now in
+    only_answer conditions given (unique given) c.args.text.now (Err c.in-Err.fault)
+    (returns-in-Err-clause-parsed c)
+
 pub returns-in-Err-clause-names : goal.returns-in-Err-clause-names
 returns-in-Err-clause-names c =
     no_hashes Cond c.args.text.now c.args.names.now c.args.names.now c.in-Err.fault (λ other. refl)
@@ -61,6 +81,12 @@ returns-in-Err-clause-values c =
 pub returns-then-is_err-clause-parsed : goal.returns-then-is_err-clause-parsed
 returns-then-is_err-clause-parsed c =
     parsed_no_memory conditions (given_by c.args.names.now c.args.values.now) c.args.text.now
+
+pub returns-then-is_err-clause-only : goal.returns-then-is_err-clause-only
+returns-then-is_err-clause-only c =
+    let given = given_by c.args.names.now c.args.values.now in
+    only_answer conditions given (unique given) c.args.text.now (Err fault.NoMemory)
+    (returns-then-is_err-clause-parsed c)
 
 pub returns-then-is_err-clause-names : goal.returns-then-is_err-clause-names
 returns-then-is_err-clause-names c =
@@ -80,6 +106,12 @@ returns-clause-parsed c =
     (subst (λ ts. ReadTokens conditions (given_by c.args.names.now c.args.values.now)
     (map tok_of ts) c.in-Ok.whole (Ok c.in-Ok-read.condition)) c.deref.ensures.value
     c.in-Ok-read.ensures)
+
+pub returns-clause-only : goal.returns-clause-only
+returns-clause-only c =
+    let given = given_by c.args.names.now c.args.values.now in
+    only_answer conditions given (unique given) c.args.text.now (Ok c.in-Ok-read.condition)
+    (returns-clause-parsed c)
 
 pub returns-clause-names : goal.returns-clause-names
 returns-clause-names c =

@@ -5,7 +5,7 @@ use Rattle.alt_expr.specs.Tokens.{tok_of}
 use Rattle.alt_expr.specs.Lookups.{given_by}
 use Rattle.alt_expr.specs.UpdateLanguage.{updates, is_long_action, targets_overlap}
 use Rattle.alt_expr.proofs.Parsing.{read_too_deep, read_cut, read_err, read_undefined, read_too_many, read_repeated, read_overlap, read_tree, tree_read, read_no_memory}
-use Rattle.alt_expr.proofs.Shared.{clash}
+use Rattle.alt_expr.proofs.PlainFacts.{clash}
 use Rattle.alt_expr.proofs.UpdateWhole.{unique, repeats_by, crowded_is, overlaps_is}
 use Rattle.alt_updparse.proofs.text.read.Goals as goal
 

@@ -143,6 +143,7 @@ fn value_for<'a>(operand: &'a Operand, key: &KeyAttr) -> Option<&'a Attr>
 {
     match operand {
         Operand::Value(value) => {
+            let value = value.get();
             if has_kind(value, key.kind) {
                 return Some(value);
             }

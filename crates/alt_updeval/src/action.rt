@@ -35,8 +35,8 @@ pub(crate) fn edit<'a, V: AttrView>(
     match action {
         Action::Set(path, sum) => set(alloc, path.as_slice(), sum, view),
         Action::Remove(path) => remove(path.as_slice(), view),
-        Action::Add(name, value) => add(name.as_str(), value, view),
-        Action::Delete(name, value) => delete(name.as_str(), value, view),
+        Action::Add(name, value) => add(name.as_str(), value.get(), view),
+        Action::Delete(name, value) => delete(name.as_str(), value.get(), view),
     }
 }
 

@@ -52,7 +52,7 @@ fn term<'a, V: AttrView>(
             Some(value) => Ok(Made::Borrowed(value)),
             None => Err(UpdateFault::BadPath),
         },
-        Term::Value(value) => Ok(Made::Borrowed(value)),
+        Term::Value(value) => Ok(Made::Borrowed(value.get())),
         Term::IfNotExists(path, other) => match located(path.as_slice(), view) {
             Some(value) => Ok(Made::Borrowed(value)),
             None => term(alloc, other.get(), view),

@@ -1,5 +1,8 @@
 pub mod Keeping
 pub mod Telling
-pub mod Ending
-mod Ticking
+mod Ending
+mod Leaving
 mod Missing
+mod Over
+mod Sending
+mod Ticking

@@ -4,4 +4,7 @@ pub mod Log
 pub mod Memory
 pub mod Pieces
 pub mod States
+pub mod Steps
+pub mod Streams
 pub mod Told
+pub mod Waiting

@@ -1,10 +1,27 @@
 -- Pieces of input, and moments to tell, as a shell in memory gives them out.
-use Rattle.std.specs.Prelude.{ℕ, List, [], ◌∷◌, ◌++◌, take, drop}
+use Rattle.std.specs.Prelude.{ℕ, List, [], ◌∷◌, ◌++◌, take, drop, Bool, true, false}
 
 -- the pieces with one more; an empty one is none
 abbrev pub with_piece : List (List ℕ) → List ℕ → List (List ℕ)
 with_piece ps [] = ps
 with_piece ps (b ∷ bytes) = ps ++ (b ∷ bytes) ∷ []
+
+-- so where the end wasn't taken; behind an end that was taken comes none
+abbrev pub with_more : Bool → List (List ℕ) → List ℕ → List (List ℕ)
+with_more true ps piece = ps
+with_more false ps piece = with_piece ps piece
+
+-- connections, each as its pieces, with one more piece on the one added last
+abbrev pub sent_last : List (List (List ℕ)) → List ℕ → List (List (List ℕ))
+sent_last [] piece = []
+sent_last (ps ∷ []) piece = with_piece ps piece ∷ []
+sent_last (ps ∷ qs ∷ more) piece = ps ∷ sent_last (qs ∷ more) piece
+
+-- what a piece that is sent leaves of the talk at hand: it is one of its own where no connection was added behind it
+abbrev pub sent_here : List (List (List ℕ)) → Bool → Bool → List (List ℕ) → List ℕ → List (List ℕ)
+sent_here [] true over ps piece = with_more over ps piece
+sent_here [] false over ps piece = ps
+sent_here (qs ∷ more) talking over ps piece = ps
 
 -- the piece in front, empty where none is left
 abbrev pub front_of : List (List ℕ) → List ℕ

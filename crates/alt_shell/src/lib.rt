@@ -6,6 +6,8 @@ mod kept;
 mod memory;
 mod pieces;
 mod shell;
+mod talks;
+mod wire;
 
 pub use memory::MemoryShell;
 pub use shell::{CLOCK_END, Shell};

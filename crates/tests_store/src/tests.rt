@@ -3,3 +3,4 @@
 mod disk;
 mod gatelog;
 mod shell;
+mod talks;

@@ -214,7 +214,7 @@ def asked(server, text, size=1 << 30, pause=0.0, ends=False):
 
 # ---- one connection of two requests at most: the name, the bytes, whether their end follows, what is said, the keys that are stored then
 
-POST = "POST / HTTP/1.1"
+POST, CLOSE = "POST / HTTP/1.1", "Connection: close"
 REFUSED = [
     ("a version that is none", b"POST / HTTP/2.0\r\n", 400, "bad head"),
     ("a head without a line end", b"POST /" + 16378 * b"a", 431, "head too large"),
@@ -239,7 +239,7 @@ TALKS += [
     ("a put, and one cut inside its body", put("a") + put("b")[:-1], True, DONE, ["a"]),
     ("two puts in one piece", put("a") + put("b"), False, DONE + LAST, ["a", "b"]),
     ("a third put where two may come", put("a") + put("b") + put("c"), False, DONE + LAST, ["a", "b"]),
-    ("a put that closes, and a put", put("a", "Connection: close") + put("b"), False, LAST, ["a"]),
+    ("a put that closes, and a put", put("a", CLOSE) + put("b"), False, LAST, ["a"]),
     ("a put of HTTP/1.0, and a put", put("a", version="1.0") + put("b"), False, LAST, ["a"]),
     ("a put, and a head that is refused", put("a") + head("GET / HTTP/1.1"), False, DONE + refused(405, "only POST"), ["a"]),
     ("a put that waits to go on, in one piece", put("a", "Expect: 100-continue"), True, CONTINUE + DONE, ["a"]),
@@ -392,16 +392,16 @@ class Waiting(threading.Thread):
     def __init__(self, name, deed, least, most):
         super().__init__(daemon=True)
         self.name, self.deed, self.least, self.most = name, deed, least, most
-        self.server = Server(1, 3)
+        self.server = Server(2, 3)
         self.found = None
-        wants("an item for " + name, asked(self.server, put("a", text="leave it at the door " * 18000)), LAST)
+        wants("an item for " + name, asked(self.server, put("a", CLOSE, text="leave it at the door " * 18000)), LAST)
         self.start()
 
     def run(self):
         begun = time.monotonic()
         peer = narrow(self.server)
         next_one = self.server.connection()
-        send(next_one, get("b"))
+        send(next_one, get("b", CLOSE))
         doer = threading.Thread(target=self.deed, args=(peer,), daemon=True)
         doer.start()
         text = heard(next_one)
@@ -415,6 +415,10 @@ class Waiting(threading.Thread):
 
 def is_silent(peer):
     send(peer, put("c")[:-1])
+
+
+def keeps_its_connection(peer):
+    send(peer, put("c"))
 
 
 def is_slow(peer):
@@ -431,6 +435,7 @@ def main():
     replayed(made, TABLE)
     waiting = [
         Waiting("a peer that is silent", is_silent, 14.5, 25),
+        Waiting("a peer that keeps its connection", keeps_its_connection, 14.5, 25),
         Waiting("a peer that sends too slowly", is_slow, 29.5, 40),
         Waiting("a peer that takes no reply", takes_nothing, 14.5, 25),
     ]

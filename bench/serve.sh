@@ -1,13 +1,17 @@
 #!/usr/bin/env bash
 # What serving costs, over the built program: a GetItem on a connection each, beside a server in C that says the same bytes (bench/fixed.c) to the
-# same client (bench/client.c); synced puts over HTTP beside `replay` of the same puts; and the memory of a server after 1,000 connections and
-# after 100,000. Of three rounds the quickest counts. Not part of the gate.
+# same client (bench/client.c), and its instructions beside those of a line; synced puts over HTTP beside `replay` of the same puts; and the memory
+# of a server after 1,000 connections and after 100,000. Of three rounds the quickest counts. Not part of the gate.
 # Usage: bench/serve.sh [FOLDER], where the stores are laid; a folder of its own by default. PROGRAM=path names another program.
 set -eu
 cd "$(dirname "$0")/.."
 work=$(mktemp -d "${1:-/tmp}/serve.XXXXXX")
 declare -A running=() # by their processes
-trap '[ ${#running[@]} = 0 ] || kill "${!running[@]}" 2>/dev/null || true; rm -rf "$work"' EXIT
+ending() {
+  [ ${#running[@]} = 0 ] || kill "${!running[@]}" 2>/dev/null || true
+  rm -rf "$work"
+}
+trap ending EXIT
 program=${PROGRAM:-crates/alternator/out/alternator}
 [ -n "${PROGRAM:-}" ] || ./alternator . 0 >/dev/null 2>&1 || true
 for name in client fixed; do cc -O2 -o "$work/$name" "bench/$name.c"; done
@@ -90,6 +94,21 @@ for at_once in 1 4; do
 done
 stop "$server"
 stop "$ours"
+
+# instructions of a get, where they can be counted: over HTTP, and as a line
+if command -v valgrind >/dev/null 2>&1; then
+  count=(valgrind --tool=callgrind --callgrind-out-file=/dev/null)
+  for of in 200 1200; do
+    serving "${count[@]}" --log-file="$work/served.$of" "$program" "$work/gets" PORT serve 1 "$of" 65536 4
+    "$work/client" "$port" "$of" 1 1 300 "$work/get" >/dev/null
+    wait "$server"
+    unset "running[$server]"
+    yes "GetItem $get" | head -n "$of" >"$work/lines"
+    "${count[@]}" --log-file="$work/lines.$of" "$program" "$work/gets" 0 replay 65536 4 <"$work/lines" >/dev/null
+  done
+  awk '/Collected/ { print $4 }' "$work"/{served,lines}.{200,1200} | paste -s | awk '{ a = ($2 - $1) / 1000; b = ($4 - $3) / 1000
+    printf "a GetItem on a connection: %d instructions; as a line: %d, %.2f times\n", a, b, a / b }'
+fi
 
 # puts, beside the same puts as lines
 lines "$puts" >"$work/lines"

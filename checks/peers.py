@@ -181,7 +181,8 @@ def send(peer, text, size=1 << 30, pause=0.0):
     try:
         for place in range(0, len(text), size):
             peer.sendall(text[place : place + size])
-            time.sleep(pause)
+            if pause:
+                time.sleep(pause)
     except OSError:
         pass
 
@@ -306,11 +307,11 @@ def first():
 
 
 def pieces():
-    """A request of 70,000 bytes and its reply, in pieces of each size."""
-    sizes = [1, 7, 1 << 16]
+    """A put and a get in pieces of each size, some 3,000 of the small ones, and what is stored then."""
+    sizes = {1: 150, 7: 1000, 1 << 16: 15000}
     server = Server(1, 2 * len(sizes))
-    text = "leave it at the door " * 3333
-    for size in sizes:
+    for size, times in sizes.items():
+        text = times * "leave it at the door "
         wants("a put in pieces of %d" % size, asked(server, put(size, text=text), size), LAST)
         wants("a get in pieces of %d" % size, asked(server, get(size), size), item(size, text))
     wants("pieces", server.end(), ENDED)
@@ -409,7 +410,7 @@ class Waiting(threading.Thread):
         reset(peer)
 
     def tell(self):
-        self.join(LIMIT)
+        self.join(2 * LIMIT)
         wants(self.name, (self.found, self.server.end()), ((LAST, True), ENDED))
 
 
@@ -437,7 +438,8 @@ def main():
         Waiting("a peer that is silent", is_silent, 14.5, 25),
         Waiting("a peer that keeps its connection", keeps_its_connection, 14.5, 25),
         Waiting("a peer that sends too slowly", is_slow, 29.5, 40),
-        Waiting("a peer that takes no reply", takes_nothing, 14.5, 25),
+        # A write that moved a few bytes before it waited for 15 seconds counts as one that moved some, so this takes 30 to 45.
+        Waiting("a peer that takes no reply", takes_nothing, 14.5, 60),
     ]
     for rows in [first, seven, talks, unheard, pieces, each_byte, thousand, vanishing] + [one.tell for one in waiting]:
         try:

@@ -1,6 +1,6 @@
 #!/usr/bin/env bash
 # Servers on the loopback address, and peers that send what is no request, a part of one, or one in pieces, that reset, wait, or come by the
-# thousand. What they are answered, and what is stored then, is known for each. It takes half a minute, for which silent peers are waited for.
+# thousand. What they are answered, and what is stored then, is known for each. It takes three quarters of a minute, for which peers that wait are waited for.
 #
 #   checks/peers.sh       PROGRAM=path names another program than the built one
 set -u

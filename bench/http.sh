@@ -1,6 +1,8 @@
 #!/usr/bin/env bash
-# Instructions to scan a head of 700 bytes, to write a reply, and to scan heads that come byte by byte. Not part of the gate.
+# What serving costs, by bench/serve.sh over the built program; then, of alt_http by itself, the instructions to scan a head of 700 bytes, to
+# write a reply, and to scan heads that come byte by byte. Not part of the gate. Usage: bench/http.sh [FOLDER], where stores are laid.
 set -eu
+"$(dirname "$0")/serve.sh" "$@"
 # shellcheck source=bench/rounds.sh
 . "$(dirname "$0")/rounds.sh"
 begin HEAD alt_http alt_base alt_fields alt_http

@@ -19,17 +19,24 @@ const REQUEST: u64 = 30_000;
 /// How long a reply may take to be taken.
 const REPLY: u64 = 60_000;
 
+/// How long one write waits at most, in milliseconds: so silence is seen soon after it began, also where the first bytes went at once.
+const BEAT: u64 = 1_000;
+
+/// How many calls of the system a take or a say makes at most. Each waits for its time, unless a signal cuts it short.
+const CALLS: u32 = 1_000;
+
 /// How long a talk that was hung up is listened to, so that its last reply isn't lost.
 const FAREWELL: u64 = 500;
 
 /// How many connections in a row may die before they are accepted.
 const TRIES: u32 = 10_000;
 
-/// A connection, and when its accept or its last reply was.
+/// A connection, when its accept or its last reply was, and whether its reads wait for less than a silence may last.
 #[derive(Drop)]
 pub(crate) struct Peer<S: Drop> {
     stream: S,
     since: Instant,
+    hurried: bool,
 }
 
 /// Listens on 127.0.0.1 at that port.
@@ -74,8 +81,20 @@ fn greet<C: Clock, S: OpenStream + Drop>(clock: &C, stream: S) -> io::Result<Pee
     let since = Instant::now(clock)?;
     stream.set_nodelay(true)?;
     stream.set_read_timeout(Some(Duration::from_millis(SILENCE)))?;
-    stream.set_write_timeout(Some(Duration::from_millis(SILENCE)))?;
-    Ok(Peer { stream, since })
+    stream.set_write_timeout(Some(Duration::from_millis(BEAT)))?;
+    Ok(Peer {
+        stream,
+        since,
+        hurried: false,
+    })
+}
+
+/// Whether a write may be tried again: it waited for its beat, or a signal came.
+fn is_beat(kind: ErrorKind) -> bool {
+    matches!(
+        kind,
+        ErrorKind::WouldBlock | ErrorKind::TimedOut | ErrorKind::Interrupted
+    )
 }
 
 /// What is left of a time that began then, if anything is.
@@ -92,16 +111,30 @@ impl<S: OpenStream + Read + Write + Drop> Peer<S> {
     pub(crate) fn take<C: Clock>(&mut self, clock: &C, buf: &mut [u8]) -> Result<usize, Failed>
         ensures { IfOk result (λ n. n ≤ length buf.new) }
     {
+        for _ in 0..CALLS {
+            let Ok(()) = self.hurry(clock) else {
+                return Err(Failed);
+            };
+            match self.stream.read(buf) {
+                Ok(count) => return Ok(count),
+                Err(e) if e.kind() == ErrorKind::Interrupted => {}
+                Err(_) => return Err(Failed),
+            }
+        }
+        Err(Failed)
+    }
+
+    /// Lets the next read wait for no longer than the request has left, which is none where its time is over.
+    fn hurry<C: Clock>(&mut self, clock: &C) -> Result<(), Failed> {
         let Some(time) = left(clock, self.since, REQUEST) else {
             return Err(Failed);
         };
-        if time < Duration::from_millis(SILENCE)
-            && self.stream.set_read_timeout(Some(time)).is_err()
-        {
-            return Err(Failed);
+        if time >= Duration::from_millis(SILENCE) {
+            return Ok(());
         }
-        match self.stream.read(buf) {
-            Ok(count) => Ok(count),
+        self.hurried = true;
+        match self.stream.set_read_timeout(Some(time)) {
+            Ok(()) => Ok(()),
             Err(_) => Err(Failed),
         }
     }
@@ -111,18 +144,29 @@ impl<S: OpenStream + Read + Write + Drop> Peer<S> {
         let Ok(begun) = Instant::now(clock) else {
             return Err(Failed);
         };
+        let mut moved = begun;
         let mut done = 0;
-        while done < bytes.len() {
-            if left(clock, begun, REPLY).is_none() {
+        'calls: for _ in 0..CALLS {
+            if done == bytes.len() {
+                return self.rest(clock);
+            }
+            if left(clock, begun, REPLY).is_none() || left(clock, moved, SILENCE).is_none() {
                 return Err(Failed);
             }
             match self.stream.write(&bytes[done..]) {
                 Ok(0) => return Err(Failed),
-                Ok(count) => done += count,
+                Ok(count) => {
+                    done += count;
+                    let Ok(now) = Instant::now(clock) else {
+                        return Err(Failed);
+                    };
+                    moved = now;
+                }
+                Err(e) if is_beat(e.kind()) => {}
                 Err(_) => return Err(Failed),
             }
         }
-        self.rest(clock)
+        Err(Failed)
     }
 
     /// The next request may take its time from now on.
@@ -131,14 +175,17 @@ impl<S: OpenStream + Read + Write + Drop> Peer<S> {
             return Err(Failed);
         };
         self.since = now;
-        if self
+        if !self.hurried {
+            return Ok(());
+        }
+        self.hurried = false;
+        match self
             .stream
             .set_read_timeout(Some(Duration::from_millis(SILENCE)))
-            .is_err()
         {
-            return Err(Failed);
+            Ok(()) => Ok(()),
+            Err(_) => Err(Failed),
         }
-        Ok(())
     }
 
     /// Ends the connection. Where the peer still sends, it is let finish for a moment: a connection that is closed over bytes

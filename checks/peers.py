@@ -438,8 +438,7 @@ def main():
         Waiting("a peer that is silent", is_silent, 14.5, 25),
         Waiting("a peer that keeps its connection", keeps_its_connection, 14.5, 25),
         Waiting("a peer that sends too slowly", is_slow, 29.5, 40),
-        # A write that moved a few bytes before it waited for 15 seconds counts as one that moved some, so this takes 30 to 45.
-        Waiting("a peer that takes no reply", takes_nothing, 14.5, 60),
+        Waiting("a peer that takes no reply", takes_nothing, 14.5, 25),
     ]
     for rows in [first, seven, talks, unheard, pieces, each_byte, thousand, vanishing] + [one.tell for one in waiting]:
         try:

@@ -63,7 +63,7 @@ spent, steps, began = {}, {}, time.time()
 while gate.poll() is None:
     for pid in children(gate.pid):
         try:
-            if (pid, 0) not in steps:
+            if not steps.get((pid, 0)):  # a process that was just forked isn't the prover yet
                 steps[pid, 0] = step_of(pid, words_of(pid))
             if steps[pid, 0]:
                 spent[pid, steps[pid, 0]] = seconds_of(pid)

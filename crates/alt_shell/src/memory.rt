@@ -455,7 +455,9 @@ fn raised(faults: u64) -> u64
 }
 
 impl Disk for MemoryShell {
-    ghost use Rattle.std.specs.Prelude.{ℕ, ◌≢◌, ◌+◌, None, IsTrue, OnOk, is_ok};
+    ghost use Rattle.std.specs.Prelude.{ℕ, ◌≢◌, ◌+◌, ◌-◌, false, None, IsTrue, OnOk, OnErr, is_ok};
+    ghost use Rattle.alt_disk.specs.Acted.{Acted};
+    ghost use Rattle.alt_disk.specs.declared.made.Deed.TheVariants.{WriteFailed, RemoveFailed};
     ghost use Rattle.alt_disk.specs.Honest.{reads_as_image_of};
     ghost use Rattle.alt_disk.specs.Disk.{IsNames, contents, answered, Tick, ReadCall, Same, Written, Synced, Removed, Read};
     ghost use Rattle.alt_disk.specs.MemoryState.{fails_at};
@@ -531,6 +533,13 @@ impl Disk for MemoryShell {
             (is_ok result) }
         ensures fits { OnOk result (at + length bytes.now ≤ 2 ^ 62) }
         ensures call { Tick (shell_state self.old) (shell_state self.new) (is_ok result) }
+        ensures listed { fails_at self.old.disk (state_of self.old.disk).moment ≡ true
+            → (state_of self.old.disk).moment < 2 ^ 64 - 1
+            → Acted (state_of self.old.disk) (state_of self.new.disk) f
+            (WriteFailed at (length bytes.now)) }
+        ensures unlisted { fails_at self.old.disk (state_of self.old.disk).moment ≡ false
+            → at + length bytes.now ≤ 2 ^ 62
+            → OnErr result (Same (state_of self.old.disk) (state_of self.new.disk)) }
         ensures stays { self.new ≡ record self.old { disk = self.new.disk; faults = self.new.faults } }
         ensures to_fail { fails_at self.old.disk (shell_state self.old).moment ≡ true
             → is_ok result ≡ false }
@@ -573,6 +582,11 @@ impl Disk for MemoryShell {
         ensures call { Tick (shell_state self.old) (shell_state self.new) (is_ok result) }
         ensures others { (g : ℕ) → g ≢ f
             → (shell_state self.new).file g ≡ (shell_state self.old).file g }
+        ensures listed { fails_at self.old.disk (state_of self.old.disk).moment ≡ true
+            → (state_of self.old.disk).moment < 2 ^ 64 - 1
+            → Acted (state_of self.old.disk) (state_of self.new.disk) f RemoveFailed }
+        ensures unlisted { fails_at self.old.disk (state_of self.old.disk).moment ≡ false
+            → OnErr result (Same (state_of self.old.disk) (state_of self.new.disk)) }
         ensures stays { self.new ≡ record self.old { disk = self.new.disk; faults = self.new.faults } }
         ensures to_fail { fails_at self.old.disk (shell_state self.old).moment ≡ true
             → is_ok result ≡ false }

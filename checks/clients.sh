@@ -1,6 +1,6 @@
 #!/usr/bin/env bash
-# A server on the loopback address, and clients of DynamoDB against it: curl, and boto3 where it is installed. It ends by itself: the server
-# serves so many connections at most and is stopped at the end, and every wait has a limit.
+# A server on the loopback address, and clients of DynamoDB against it: curl, and boto3 and the AWS SDK for Go where they are installed.
+# It ends by itself: the server serves so many connections at most and is stopped at the end, and every wait has a limit.
 #
 #   checks/clients.sh [PORT]      the first of 21 ports to try, default 47120
 #   PROGRAM=path checks/clients.sh       the program to try, default ./alternator
@@ -68,6 +68,18 @@ if python3 -c 'import boto3' 2>/dev/null; then
   fi
 else
   echo 'clients: boto3 is not installed, and its part was skipped'
+fi
+# The SDK for Go as Debian's packages have it: without modules, and nothing is fetched.
+export GO111MODULE=off GOPROXY=off GOFLAGS= GOPATH=/usr/share/gocode
+if go list github.com/aws/aws-sdk-go/service/dynamodb >/dev/null 2>&1; then
+  if timeout 900 go build -o "$work/clients" checks/clients.go && timeout 240 "$work/clients" "$port"; then
+    passed=$((passed + 1))
+  else
+    failed=$((failed + 1))
+    echo 'clients: the part of Go failed'
+  fi
+else
+  echo 'clients: go or its SDK is not installed, and its part was skipped'
 fi
 kill -0 "$server" 2>/dev/null || { failed=$((failed + 1)); echo 'clients: the server ended'; }
 echo "clients: $passed passed, $failed failed"

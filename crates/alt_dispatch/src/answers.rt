@@ -3,7 +3,7 @@
 ghost use Rattle.std.specs.Prelude.{◌≡◌, false, IfOk, IsErrOf, OnOk, map, option_map};
 ghost use Rattle.std.specs.List.{find};
 ghost use Rattle.std.specs.Str.{bytes_eq};
-ghost use Rattle.serde_json.specs.View.{view, members_view};
+ghost use Rattle.serde_json.specs.View.{members_view};
 ghost use Rattle.serde_json.specs.Written.{has_float};
 ghost use Rattle.alt_base.specs.Counts.{Rose};
 ghost use Rattle.alt_disk.specs.Disk.{Goes};
@@ -16,6 +16,7 @@ ghost use Rattle.alt_dispatch.specs.Settled.{Settles, Tells};
 ghost use Rattle.alt_request.specs.Carried.{Carries, IsPlain, Moves};
 ghost use Rattle.alt_tables.specs.Images.{Leaves};
 ghost use Rattle.alt_tables.specs.Stands.{AreReady, Stands};
+ghost use Rattle.alt_shape.specs.Body.{body_json};
 
 use crate::bodies;
 use alt_disk::Disk;
@@ -91,7 +92,7 @@ pub fn answer<D: Disk>(
     // What holds of every state from the empty store on goes on to hold.
     ensures valid { (s : State) → Stands (D.state disk.old) tables.old s
         → OnOk result (IsValid (last_state s (step s operation body.now moment).atoms)) }
-    ensures plain { IfOk result (λ reply. has_float (view reply.body) ≡ false) }
+    ensures plain { IfOk result (λ reply. has_float (body_json reply.body) ≡ false) }
     // A stop at any moment of the call leaves the state after some of the writes; a request without writes leaves every file.
     ensures leaves { (s : State) → Stands (D.state disk.old) tables.old s
         → Leaves (D.state disk.old) (D.state disk.new) s (step s operation body.now moment).atoms }
@@ -107,7 +108,7 @@ pub fn answer<D: Disk>(
 fn told(alloc: Global, carried: Result<Reply, Stop>) -> Result<Reply, TableFault>
     requires { IsPlain carried }
     ensures told { Tells carried result }
-    ensures plain { IfOk result (λ reply. has_float (view reply.body) ≡ false) }
+    ensures plain { IfOk result (λ reply. has_float (body_json reply.body) ≡ false) }
 {
     match carried {
         Ok(reply) => Ok(reply),

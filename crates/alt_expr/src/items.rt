@@ -48,6 +48,15 @@ impl<T> Items<T> {
     }
 }
 
+impl<T> Items<T> {
+    /// The members as a `Vec`.
+    pub fn into_vec(self) -> Vec<T>
+        ensures members { result.items ≡ self }
+    {
+        self.items
+    }
+}
+
 impl<T: Drop> Items<T> {
     /// Puts one more at the end. Where memory is wanting, the list is as it was.
     pub fn push(&mut self, item: T) -> Result<(), NoMemory>

@@ -3,7 +3,7 @@
 use Rattle.std.specs.Prelude.{ℕ, Bool, true, List, Option, Some, None, option_and_then, codes, if◌then◌else◌}
 use Rattle.std.specs.Option.{option_map_or}
 use Rattle.std.specs.FinMap as map
-use Rattle.serde_json.specs.Data.{Data, string, object, Members, no_members, member}
+use Rattle.serde_json.specs.Data.{Members}
 use Rattle.alt_codec.specs.Writing.{json_of_pairs}
 use Rattle.alt_expr.specs.Holds.{holds}
 use Rattle.alt_expr.specs.Located.{View}
@@ -13,7 +13,7 @@ use Rattle.alt_machine.specs.Outcomes.{Outcome, says, writes}
 use Rattle.alt_machine.specs.Replies.{asks, item_answer}
 use Rattle.alt_machine.specs.State.{State, Table}
 use Rattle.alt_machine.specs.Writes.{item_writes}
-use Rattle.alt_shape.specs.Refusals.{Answer, refused, name_of, message_of, condition_failed}
+use Rattle.alt_shape.specs.Refusals.{Answer, refused, refused_with, condition_failed}
 use Rattle.alt_shape.specs.declared.refusal.Refusal.{Refusal}
 use Rattle.alt_value.specs.Item.{at_name}
 use Rattle.alt_value.specs.Tree.{Pair}
@@ -30,20 +30,10 @@ meets condition old = option_map_or (holds (seen old)) condition true
 abbrev pub asked : List ℕ → Members → Option (List Pair) → Option (List Pair)
 asked name ms old = if asks name (codes "ALL_OLD") ms then old else None
 
--- a refusal that shows an item
-abbrev pub refused_with_item : Data → Refusal → Answer
-refused_with_item item r = record {
-  status = 400;
-  body = object
-      (member (codes "Item") item
-      (member (codes "__type") (string (name_of r))
-      (member (codes "message") (string (message_of r)) no_members)));
-}
-
 -- the refusal, and in it the item, if there is one to show
 abbrev pub failed : Option (List Pair) → Answer
 failed None = refused condition_failed
-failed (Some item) = refused_with_item (json_of_pairs item) condition_failed
+failed (Some item) = refused_with (json_of_pairs item) condition_failed
 
 -- It goes on where the condition holds of what is there. Else nothing is written, and the refusal shows what is there where that is
 -- asked for.

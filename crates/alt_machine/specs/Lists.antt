@@ -15,6 +15,7 @@ use Rattle.alt_schema.specs.Json.{member_if}
 use Rattle.alt_schema.specs.declared.schema.IndexSchema.{IndexSchema}
 use Rattle.alt_schema.specs.declared.schema.KeyAttr.{KeyAttr}
 use Rattle.alt_schema.specs.declared.schema.TableSchema.{TableSchema}
+use Rattle.alt_shape.specs.Body.{items_json}
 use Rattle.alt_shape.specs.Refusals.{Answer, answered, bad_start_key}
 use Rattle.alt_shape.specs.Shape.{given, natural_of}
 use Rattle.alt_value.specs.Item.{at_name}
@@ -136,11 +137,6 @@ abbrev pub last_examined : Asked → List (List Pair) → Option (List Pair)
 last_examined ask items =
     let page : Page = page_of ask items in
     if page.ended then last_or None (examined ask.limit items) else None
-
--- items as JSON, in their order
-abbrev pub items_json : List (List Pair) → Items
-items_json [] = no_items
-items_json (i ∷ is) = item (json_of_pairs i) (items_json is)
 
 -- the items that are shown, none for COUNT
 abbrev pub shown_items : Members → List (List Pair) → Option Data

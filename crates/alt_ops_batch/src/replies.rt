@@ -13,6 +13,7 @@ ghost use Rattle.alt_machine.specs.Ops.GetItem.{parts};
 ghost use Rattle.alt_ops_batch.specs.Readings.{IsPlainRead, name_left, read_so};
 ghost use Rattle.alt_request.specs.Steps.{IsMemory};
 ghost use Rattle.alt_schema.specs.Json.{put_if};
+ghost use Rattle.alt_shape.specs.Body.{body_json};
 ghost use Rattle.alt_shape.specs.Refusals.{answer_of};
 ghost use Rattle.alt_shape.specs.Shape.{given};
 
@@ -31,7 +32,7 @@ use std::alloc::Global;
 pub(crate) fn read_reply(alloc: Global, read: Read) -> Result<Reply, Stop>
     requires plain { IsPlainRead read }
     ensures reply { IfOk result (λ reply. answer_of reply ≡ machine.read_answer (read_so read)) }
-    ensures plain { IfOk result (λ reply. has_float (view reply.body) ≡ false) }
+    ensures plain { IfOk result (λ reply. has_float (body_json reply.body) ≡ false) }
     ensures cause { IfErr result IsMemory }
 {
     let Read {

@@ -1,7 +1,7 @@
 //! BatchWriteItem.
 
 ghost use Rattle.std.specs.Prelude.{◌≡◌, ◌↔◌, false, codes, Some, IfOk, IfErr, IsErrOf, map as each};
-ghost use Rattle.serde_json.specs.View.{view, members_view};
+ghost use Rattle.serde_json.specs.View.{members_view};
 ghost use Rattle.serde_json.specs.Written.{has_float};
 ghost use Rattle.alt_base.specs.Counts.{Rose};
 ghost use Rattle.alt_disk.specs.Disk.{Goes};
@@ -12,6 +12,7 @@ ghost use Rattle.alt_machine.specs.State.{State};
 ghost use Rattle.alt_ops_batch.specs.Changed.{AreAllApart, Every, IsFound, MayWrite, written_at};
 ghost use Rattle.alt_request.specs.Carried.{Carries, Moves};
 ghost use Rattle.alt_request.specs.Steps.{IsMemory};
+ghost use Rattle.alt_shape.specs.Body.{body_json};
 ghost use Rattle.alt_shape.specs.Refusals.{answer_of};
 ghost use Rattle.alt_tables.specs.Faults.{IsFindFault, Writes};
 ghost use Rattle.alt_tables.specs.Images.{Leaves};
@@ -62,7 +63,7 @@ pub fn batch_write_item<D: Disk>(
 /// The reply: nothing is left unprocessed.
 fn all_processed(alloc: Global) -> Result<Reply, Stop>
     ensures reply { IfOk result (λ reply. answer_of reply ≡ machine.all_processed) }
-    ensures plain { IfOk result (λ reply. has_float (view reply.body) ≡ false) }
+    ensures plain { IfOk result (λ reply. has_float (body_json reply.body) ≡ false) }
     ensures cause { IfErr result IsMemory }
 {
     Ok(one_member(alloc, "UnprocessedItems", Value::Object(Map::new(alloc)))?)

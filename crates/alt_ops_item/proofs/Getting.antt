@@ -1,7 +1,6 @@
 -- A GetItem behind the steps to its key.
 use Rattle.std.proofs.Common.{◌≡◌, refl, sym, subst, false, List, Option, Some, None, option_map, Result, Ok, Err, IfOk, IfErr}
 use Rattle.serde_json.specs.Data.{Members}
-use Rattle.serde_json.specs.View.{view}
 use Rattle.serde_json.specs.Written.{has_float}
 use Rattle.alt_machine.specs.declared.Sought.TheVariants.{Key}
 use Rattle.alt_machine.specs.Body.{body_refusals}
@@ -12,6 +11,7 @@ use Rattle.alt_machine.specs.Targets.{on_item}
 use Rattle.alt_request.specs.Carried.{IsPlain, Says}
 use Rattle.alt_request.specs.Steps.{IsMemory}
 use Rattle.alt_request.specs.declared.stop.Stop.{Stop}
+use Rattle.alt_shape.specs.Body.{body_json}
 use Rattle.alt_shape.specs.Bodies as bodies
 use Rattle.alt_shape.specs.Refusals.{Answer, answer_of}
 use Rattle.alt_shape.specs.declared.refusal.Reply.{Reply}
@@ -26,12 +26,12 @@ get_is ms broken e s = λ i. on_item (body_refusals (sym e i) rules ms) Key proj
 
 -- a reply with an answer, or want of memory for it, says that answer
 pub says_so : (a : Answer) (r : Result Reply Stop) → IfOk r (λ reply. answer_of reply ≡ a)
-    → IfOk r (λ reply. has_float (view reply.body) ≡ false) → IfErr r IsMemory → Says a r
+    → IfOk r (λ reply. has_float (body_json reply.body) ≡ false) → IfErr r IsMemory → Says a r
 says_so a (Ok reply) told plain cause = (told, plain)
 says_so a (Err stop) told plain cause = subst (λ e. Says a (Err e)) (sym cause) refl
 
 -- and is plain
-pub plain_so : (r : Result Reply Stop) → IfOk r (λ reply. has_float (view reply.body) ≡ false)
+pub plain_so : (r : Result Reply Stop) → IfOk r (λ reply. has_float (body_json reply.body) ≡ false)
     → IfErr r IsMemory → IsPlain r
 plain_so (Ok reply) plain cause = plain
 plain_so (Err stop) plain cause = subst (λ e. IsPlain (Err e)) (sym cause) tt

@@ -11,15 +11,14 @@ ghost use Rattle.alt_request.specs.Carried.{Does, IsPlain, Moves, Says};
 ghost use Rattle.alt_schema.specs.declared.schema.TableSchema.{TableSchema};
 ghost use Rattle.alt_tables.specs.Stands.{AreReady, Stands, catalog_of};
 
-use crate::items::{item_reply, shown};
-use alt_codec::json_of_item;
+use crate::items::{shown, shown_reply};
 use alt_condeval::holds;
 use alt_disk::Disk;
 use alt_expr::Cond;
 use alt_fields::Bytes;
 use alt_machine::Expressions;
-use alt_request::{Stop, asks, refuse_with_item, table_name};
-use alt_shape::{Refusal, Reply};
+use alt_request::{Stop, asks, table_name};
+use alt_shape::{Refusal, Reply, refuse_with};
 use alt_tables::{TableFault, Tables};
 use alt_value::Item;
 use serde_json::{Map, Value};
@@ -104,7 +103,7 @@ fn write_where<D: Disk>(
         return failed(alloc, told);
     }
     let old = asked(body, "ReturnValues", &found.item);
-    let reply = item_reply(alloc, "Attributes", old)?;
+    let reply = shown_reply(alloc, "Attributes", old)?;
     tables.write(disk, name, found, new, moment)?;
     Ok(reply)
 }
@@ -145,10 +144,10 @@ pub(crate) fn failed(alloc: Global, item: Option<&Item>) -> Result<Reply, Stop>
     let Some(item) = item else {
         return Err(Stop::Refused(Refusal::CONDITION_FAILED));
     };
-    let Ok(value) = json_of_item(alloc, item) else {
+    let Ok(item) = item.copy() else {
         return Err(Stop::Fault(TableFault::NoMemory));
     };
-    match refuse_with_item(alloc, Refusal::CONDITION_FAILED, value) {
+    match refuse_with(alloc, Refusal::CONDITION_FAILED, item) {
         Ok(reply) => Ok(reply),
         Err(_) => Err(Stop::Fault(TableFault::NoMemory)),
     }

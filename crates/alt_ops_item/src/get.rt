@@ -85,5 +85,5 @@ fn parts_at<D: Disk>(
         (D.state disk.old) (D.state disk.new) result }
 {
     let found = tables.find(disk, table_name(body), place)?;
-    parts_reply(alloc, "Item", paths, &found.item)
+    parts_reply(alloc, "Item", paths, found.item)
 }

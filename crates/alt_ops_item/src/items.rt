@@ -1,38 +1,53 @@
 //! Items as they are answered.
 
 ghost use Rattle.std.specs.Prelude.{◌≡◌, false, Some, IfOk, IfErr, option_map};
-ghost use Rattle.serde_json.specs.View.{view};
 ghost use Rattle.serde_json.specs.Written.{has_float};
 ghost use Rattle.alt_expr.specs.Projected.{projected};
 ghost use Rattle.alt_machine.specs.Ops.GetItem.{parts};
 ghost use Rattle.alt_machine.specs.Replies.{item_answer};
 ghost use Rattle.alt_request.specs.Steps.{IsMemory};
+ghost use Rattle.alt_shape.specs.Body.{body_json};
 ghost use Rattle.alt_shape.specs.Refusals.{answer_of};
 
-use alt_codec::json_of_item;
 use alt_expr::Paths;
 use alt_projection::project;
-use alt_request::{Stop, done, one_member};
+use alt_request::{Stop, done, item_member};
 use alt_shape::Reply;
 use alt_tables::TableFault;
 use alt_value::Item;
 use std::alloc::Global;
 
 /// The reply with an item at a member, if there is one.
-pub(crate) fn item_reply(alloc: Global, name: &str, item: Option<&Item>) -> Result<Reply, Stop>
-    ensures reply { IfOk result (λ reply. answer_of reply
-        ≡ item_answer name.now (option_map (λ i. i.now) item.entry)) }
-    ensures plain { IfOk result (λ reply. has_float (view reply.body) ≡ false) }
+fn item_reply(alloc: Global, name: &'static str, item: Option<Item>) -> Result<Reply, Stop>
+    ensures reply { IfOk result (λ reply. answer_of reply ≡ item_answer name.now item) }
+    ensures plain { IfOk result (λ reply. has_float (body_json reply.body) ≡ false) }
     ensures cause { IfErr result IsMemory }
 {
     let Some(item) = item else {
         return Ok(done(alloc));
     };
-    let Ok(value) = json_of_item(alloc, item) else {
-        return Err(Stop::Fault(TableFault::NoMemory));
-    };
-    match one_member(alloc, name, value) {
+    match item_member(alloc, name, item) {
         Ok(reply) => Ok(reply),
+        Err(_) => Err(Stop::Fault(TableFault::NoMemory)),
+    }
+}
+
+/// The reply with a copy of an item at a member, if there is one.
+pub(crate) fn shown_reply(
+    alloc: Global,
+    name: &'static str,
+    item: Option<&Item>,
+) -> Result<Reply, Stop>
+    ensures reply { IfOk result (λ reply. answer_of reply
+        ≡ item_answer name.now (option_map (λ i. i.now) item.entry)) }
+    ensures plain { IfOk result (λ reply. has_float (body_json reply.body) ≡ false) }
+    ensures cause { IfErr result IsMemory }
+{
+    let Some(item) = item else {
+        return Ok(done(alloc));
+    };
+    match item.copy() {
+        Ok(item) => item_reply(alloc, name, Some(item)),
         Err(_) => Err(Stop::Fault(TableFault::NoMemory)),
     }
 }
@@ -41,35 +56,40 @@ pub(crate) fn item_reply(alloc: Global, name: &str, item: Option<&Item>) -> Resu
 #[tactic(auto, using(crate::proofs::Getting::all_parts))]
 pub(crate) fn parts_reply(
     alloc: Global,
-    name: &str,
+    name: &'static str,
     paths: &Option<Paths>,
-    item: &Option<Item>,
+    item: Option<Item>,
 ) -> Result<Reply, Stop>
     ensures reply { IfOk result (λ reply. answer_of reply
-        ≡ item_answer name.now (option_map (parts paths.now) item.now)) }
-    ensures plain { IfOk result (λ reply. has_float (view reply.body) ≡ false) }
+        ≡ item_answer name.now (option_map (parts paths.now) item)) }
+    ensures plain { IfOk result (λ reply. has_float (body_json reply.body) ≡ false) }
     ensures cause { IfErr result IsMemory }
 {
     let Some(paths) = paths else {
-        return item_reply(alloc, name, shown(item));
+        return item_reply(alloc, name, item);
     };
     let Some(item) = item else {
         return Ok(done(alloc));
     };
-    chosen_reply(alloc, name, paths, item)
+    chosen_reply(alloc, name, paths, &item)
 }
 
 /// The reply with what paths choose of an item.
-fn chosen_reply(alloc: Global, name: &str, paths: &Paths, item: &Item) -> Result<Reply, Stop>
+pub(crate) fn chosen_reply(
+    alloc: Global,
+    name: &'static str,
+    paths: &Paths,
+    item: &Item,
+) -> Result<Reply, Stop>
     ensures reply { IfOk result (λ reply. answer_of reply
         ≡ item_answer name.now (Some (projected paths.now item.now))) }
-    ensures plain { IfOk result (λ reply. has_float (view reply.body) ≡ false) }
+    ensures plain { IfOk result (λ reply. has_float (body_json reply.body) ≡ false) }
     ensures cause { IfErr result IsMemory }
 {
     let Ok(chosen) = project(alloc, paths, item) else {
         return Err(Stop::Fault(TableFault::NoMemory));
     };
-    item_reply(alloc, name, Some(&chosen))
+    item_reply(alloc, name, Some(chosen))
 }
 
 /// An item, if there is one, borrowed.

@@ -1,14 +1,15 @@
 //! What an update answers.
 
 ghost use Rattle.std.specs.Prelude.{◌≡◌, false, [], Some, IfOk, IfErr, codes, unwrap_or};
-ghost use Rattle.serde_json.specs.View.{view, members_view};
+ghost use Rattle.serde_json.specs.View.{members_view};
 ghost use Rattle.serde_json.specs.Written.{has_float};
 ghost use Rattle.alt_machine.specs.Ops.UpdateItem.{changed_parts, not_empty, returned};
 ghost use Rattle.alt_machine.specs.Replies.{item_answer};
 ghost use Rattle.alt_request.specs.Steps.{IsMemory};
+ghost use Rattle.alt_shape.specs.Body.{body_json};
 ghost use Rattle.alt_shape.specs.Refusals.{answer_of};
 
-use crate::items::item_reply;
+use crate::items::shown_reply;
 use alt_expr::{Items, Update};
 use alt_projection::project;
 use alt_request::{Stop, asks, done};
@@ -30,7 +31,7 @@ pub(crate) fn update_reply(
     ensures reply { IfOk result (λ reply. answer_of reply ≡ item_answer (codes "Attributes")
         (not_empty (returned (members_view body.now.entries) (unwrap_or update.now []) old.now
         new.now))) }
-    ensures plain { IfOk result (λ reply. has_float (view reply.body) ≡ false) }
+    ensures plain { IfOk result (λ reply. has_float (body_json reply.body) ≡ false) }
     ensures cause { IfErr result IsMemory }
 {
     if asks(body, "ReturnValues", "ALL_OLD") {
@@ -51,7 +52,7 @@ pub(crate) fn update_reply(
 fn whole_reply(alloc: Global, item: &Option<Item>) -> Result<Reply, Stop>
     ensures reply { IfOk result (λ reply. answer_of reply
         ≡ item_answer (codes "Attributes") (not_empty item.now)) }
-    ensures plain { IfOk result (λ reply. has_float (view reply.body) ≡ false) }
+    ensures plain { IfOk result (λ reply. has_float (body_json reply.body) ≡ false) }
     ensures cause { IfErr result IsMemory }
 {
     match item {
@@ -64,7 +65,7 @@ fn whole_reply(alloc: Global, item: &Option<Item>) -> Result<Reply, Stop>
 fn changed_reply(alloc: Global, update: &Option<Update>, item: &Option<Item>) -> Result<Reply, Stop>
     ensures reply { IfOk result (λ reply. answer_of reply ≡ item_answer (codes "Attributes")
         (not_empty (changed_parts (unwrap_or update.now []) item.now))) }
-    ensures plain { IfOk result (λ reply. has_float (view reply.body) ≡ false) }
+    ensures plain { IfOk result (λ reply. has_float (body_json reply.body) ≡ false) }
     ensures cause { IfErr result IsMemory }
 {
     let Some(item) = item else {
@@ -79,7 +80,7 @@ fn changed_reply(alloc: Global, update: &Option<Update>, item: &Option<Item>) ->
 fn parts_reply(alloc: Global, update: &Update, item: &Item) -> Result<Reply, Stop>
     ensures reply { IfOk result (λ reply. answer_of reply ≡ item_answer (codes "Attributes")
         (not_empty (changed_parts update.now (Some item.now)))) }
-    ensures plain { IfOk result (λ reply. has_float (view reply.body) ≡ false) }
+    ensures plain { IfOk result (λ reply. has_float (body_json reply.body) ≡ false) }
     ensures cause { IfErr result IsMemory }
 {
     let Ok(paths) = targets(alloc, update.as_slice()) else {
@@ -95,11 +96,11 @@ fn parts_reply(alloc: Global, update: &Update, item: &Item) -> Result<Reply, Sto
 fn attributes_reply(alloc: Global, item: &Item) -> Result<Reply, Stop>
     ensures reply { IfOk result (λ reply. answer_of reply
         ≡ item_answer (codes "Attributes") (not_empty (Some item.now))) }
-    ensures plain { IfOk result (λ reply. has_float (view reply.body) ≡ false) }
+    ensures plain { IfOk result (λ reply. has_float (body_json reply.body) ≡ false) }
     ensures cause { IfErr result IsMemory }
 {
     if item.len() == 0 {
         return Ok(done(alloc));
     }
-    item_reply(alloc, "Attributes", Some(item))
+    shown_reply(alloc, "Attributes", Some(item))
 }

@@ -4,12 +4,11 @@ use Rattle.std.specs.Prelude.{if◌then◌else◌, codes}
 use Rattle.std.specs.FinMap as finite
 use Rattle.std.specs.Result.{IsErr, IsErrAnd}
 use Rattle.serde_json.specs.Data.{Data, Members, member, no_members, number, unsigned, array}
-use Rattle.serde_json.specs.View.{view}
 use Rattle.serde_json.specs.Written.{has_float}
 use Rattle.alt_codec.specs.Writing.{json_of_pairs}
 use Rattle.alt_expr.specs.Pages as pages
 use Rattle.alt_expr.specs.Pages.{Asked, examined, ends_early, parts, passed}
-use Rattle.alt_machine.specs.Lists.{shown_items, items_json, key_attributes, page_answer, page_asked, last_examined}
+use Rattle.alt_machine.specs.Lists.{shown_items, key_attributes, page_answer, page_asked, last_examined}
 use Rattle.alt_machine.specs.Outcomes.{Outcome, says}
 use Rattle.alt_machine.specs.Sources.{index_at, selects}
 use Rattle.alt_machine.specs.State.{State, Texts}
@@ -32,6 +31,7 @@ use Rattle.alt_schema.specs.Indexes.{indexes}
 use Rattle.alt_schema.specs.declared.schema.IndexSchema.{IndexSchema}
 use Rattle.alt_schema.specs.declared.schema.TableSchema.{TableSchema}
 use Rattle.alt_schema.specs.Json.{member_if}
+use Rattle.alt_shape.specs.Body.{body_json, items_json}
 use Rattle.alt_shape.specs.Refusals.{Answer, answered, answer_of}
 use Rattle.alt_shape.specs.declared.refusal.Reply.{Reply}
 use Rattle.alt_tables.specs.declared.faults.TableFault.TheVariants.{Spent, Damaged, BadRow, Failed, NoMemory}
@@ -115,7 +115,7 @@ pub page_does : (now : State → Type 0) (s : State) (d : TableSchema) (x : Opti
     (list : List (List Pair)) (filling : Filling) (r : Result Reply Stop) → now s
     → HasFilled filling ask list → ask.count_only ≡ selects (codes "COUNT") ms
     → IfOk r (λ reply. AnswersPage d x ms filling (answer_of reply))
-    → IfOk r (λ reply. has_float (view reply.body) ≡ false) → IfErr r IsMemory
+    → IfOk r (λ reply. has_float (body_json reply.body) ≡ false) → IfErr r IsMemory
     → Does now s (says (answer_with d x ms ask list)) r
 page_does now s d x ms ask list filling (Ok reply) stands filled counts told plain cause =
     does_say now (answer_with d x ms ask list) s (Ok reply)

@@ -1,48 +1,47 @@
 -- A page as JSON.
-use Rattle.std.proofs.Common.{◌≡◌, refl, sym, ap, ◌∙◌, ℕ, Bool, true, false, List, [], ◌∷◌, Option, Some, None, option_map}
+use Rattle.std.proofs.Common.{◌≡◌, refl, sym, ap, ◌∙◌, ℕ, Bool, true, false, List, [], ◌∷◌, ◌++◌, Option, Some, None, option_map}
 use Rattle.std.specs.Prelude.{if◌then◌else◌, codes}
-use Rattle.serde_json.specs.Data.{Data, number, unsigned, array, item, Members, no_members, member, put}
-use Rattle.serde_json.specs.Written.{has_float, items_have_float, members_have_float}
+use Rattle.serde_json.specs.Data.{Data, number, unsigned, array, Members, no_members, member}
+use Rattle.serde_json.specs.Written.{has_float, members_have_float}
 use Rattle.alt_codec.specs.Writing.{json_of_pairs}
 use Rattle.alt_codec.proofs.Plain.{pairs_plain}
 use Rattle.alt_expr.specs.Pages.{Page}
-use Rattle.alt_machine.specs.Lists.{shown_items, items_json, key_attributes, page_answer}
+use Rattle.alt_machine.specs.Lists.{shown_items, key_attributes, page_answer}
 use Rattle.alt_machine.specs.Sources.{selects}
-use Rattle.alt_ops_query.specs.Replied.{put_if}
-use Rattle.alt_schema.specs.Json.{items_by, member_if}
+use Rattle.alt_ops_query.specs.Replied.{behind}
+use Rattle.alt_schema.specs.Json.{member_if}
 use Rattle.alt_schema.specs.declared.schema.IndexSchema.{IndexSchema}
 use Rattle.alt_schema.specs.declared.schema.TableSchema.{TableSchema}
-use Rattle.alt_shape.proofs.Plain.{items_have_float-item, no_float_either}
+use Rattle.alt_shape.specs.Body.{items_json, members_json, part_json}
+use Rattle.alt_shape.specs.declared.body.Member.{Member}
+use Rattle.alt_shape.proofs.Plain.{items_plain, no_float_either}
 use Rattle.alt_value.specs.Tree.{Pair}
 
--- a list of items as JSON, item by item
-pub items_by-pairs : (items : List (List Pair)) → items_by json_of_pairs items ≡ items_json items
-items_by-pairs [] = refl
-items_by-pairs (i ∷ items) = ap (λ ds. item (json_of_pairs i) ds) (items_by-pairs items)
+-- ---- the members stand in the order of their names
 
--- ---- the members are put in the order of their names
+-- members behind others are those of the lists joined
+pub members_behind : (xs ys : List Member)
+    → members_json (xs ++ ys) ≡ behind (members_json xs) (members_json ys)
+members_behind [] ys = refl
+members_behind (m ∷ xs) ys =
+    ap (λ ms. member m.name.now (part_json m.value) ms) (members_behind xs ys)
 
--- Count, Items, LastEvaluatedKey and ScannedCount, as far as they are there, stand in that order
-pub members_put : (count scanned : Data) (items last : Option Data)
-    → put (codes "ScannedCount") scanned
-    (put_if (codes "LastEvaluatedKey") last (put_if (codes "Items") items
-    (put (codes "Count") count no_members)))
+-- Count, Items, LastEvaluatedKey and ScannedCount, as far as they are there, one behind another
+pub members_in_order : (count scanned : Data) (items last : Option Data)
+    → behind (behind (behind (member (codes "Count") count no_members)
+    (member_if (codes "Items") items no_members))
+    (member_if (codes "LastEvaluatedKey") last no_members))
+    (member (codes "ScannedCount") scanned no_members)
     ≡ member (codes "Count") count (member_if (codes "Items") items
     (member_if (codes "LastEvaluatedKey") last (member (codes "ScannedCount") scanned no_members)))
-members_put count scanned None None = refl
-members_put count scanned (Some i) None = refl
-members_put count scanned None (Some l) = refl
-members_put count scanned (Some i) (Some l) = refl
+members_in_order count scanned None None = refl
+members_in_order count scanned (Some i) None = refl
+members_in_order count scanned None (Some l) = refl
+members_in_order count scanned (Some i) (Some l) = refl
 
 -- ---- no float stands in it
 
--- the items of a page have none
-items_plain : (items : List (List Pair)) → items_have_float (items_json items) ≡ false
-items_plain [] = refl
-items_plain (i ∷ items) = items_have_float-item (json_of_pairs i) (items_json items)
-    (pairs_plain i) (items_plain items)
-
--- nor have the members, where the items and the key have none
+-- the members have none, where the items and the key have none
 members_plain : (items last : Option Data) (count scanned : ℕ)
     → ((d : Data) → items ≡ Some d → has_float d ≡ false)
     → ((d : Data) → last ≡ Some d → has_float d ≡ false)

@@ -1,6 +1,6 @@
 -- A page of the program, its members, and the key of an item.
 use Rattle.std.specs.Prelude.{ℕ, List, [], ◌∷◌, Option, Some, None}
-use Rattle.serde_json.specs.Data.{Data, Members, put}
+use Rattle.serde_json.specs.Data.{Members, no_members, member}
 use Rattle.alt_expr.specs.Pages as pages
 use Rattle.alt_paging.specs.declared.ask.Page.{Page}
 use Rattle.alt_schema.specs.declared.schema.KeyAttr.{KeyAttr}
@@ -16,10 +16,10 @@ page_of page = record {
   ended = page.ended;
 }
 
--- with a member, where it applies
-abbrev pub put_if : List ℕ → Option Data → Members → Members
-put_if name None ms = ms
-put_if name (Some d) ms = put name d ms
+-- members behind others
+abbrev pub behind : Members → Members → Members
+behind no_members ms = ms
+behind (member name d more) ms = member name d (behind more ms)
 
 -- with the value of an attribute, where it is there; no attribute has the empty name
 abbrev pub with_attribute : List ℕ → Option Tree → List Pair → List Pair

@@ -2,7 +2,7 @@
 
 ghost use Rattle.std.specs.Prelude.{◌≡◌, ◌<◌, true, false, Some, None, if◌then◌else◌, IfOk, IfErr, IfSome, codes, length};
 ghost use Rattle.std.specs.FinMap as map;
-ghost use Rattle.serde_json.specs.View.{view, members_view};
+ghost use Rattle.serde_json.specs.View.{members_view};
 ghost use Rattle.serde_json.specs.Written.{has_float};
 ghost use Rattle.alt_base.specs.Counts.{Rose};
 ghost use Rattle.alt_machine.specs.Lists.{pages};
@@ -16,6 +16,7 @@ ghost use Rattle.alt_request.specs.Carried.{Does, IsPlain, IfFailed};
 ghost use Rattle.alt_request.specs.Steps.{IsMemory};
 ghost use Rattle.alt_schema.specs.Indexes.{indexes};
 ghost use Rattle.alt_schema.specs.declared.schema.TableSchema.{TableSchema};
+ghost use Rattle.alt_shape.specs.Body.{body_json};
 ghost use Rattle.alt_shape.specs.Refusals.{answer_of};
 ghost use Rattle.alt_tables.specs.Stands.{AreReady, Reads, Stands, catalog_of};
 
@@ -134,7 +135,7 @@ fn answered(
         → map.get (catalog_of tables.now) (table_name (members_view body.now.entries)) ≡ Some d
         → AnswersPage d (index_at d index) (members_view body.now.entries) filling
         (answer_of reply)) }
-    ensures plain { IfOk result (λ reply. has_float (view reply.body) ≡ false) }
+    ensures plain { IfOk result (λ reply. has_float (body_json reply.body) ≡ false) }
     ensures cause { IfErr result IsMemory }
 {
     let Some(schema) = tables.table(table_name(body)) else {
@@ -154,13 +155,13 @@ fn filled_reply(
     requires index { IfSome index (λ n. n < length (indexes schema.now)) }
     ensures reply { IfOk result (λ reply. AnswersPage schema.now (index_at schema.now index)
         (members_view body.now.entries) filling (answer_of reply)) }
-    ensures plain { IfOk result (λ reply. has_float (view reply.body) ≡ false) }
+    ensures plain { IfOk result (λ reply. has_float (body_json reply.body) ≡ false) }
     ensures cause { IfErr result IsMemory }
 {
     let Filling { pager, last } = filling;
     let page = pager.finish();
     let last = last_of(page.ended, last);
-    match page_reply(alloc, schema, index_of(schema, index), body, &page, &last) {
+    match page_reply(alloc, schema, index_of(schema, index), body, page, &last) {
         Ok(reply) => Ok(reply),
         Err(_) => Err(Stop::Fault(TableFault::NoMemory)),
     }

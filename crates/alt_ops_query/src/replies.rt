@@ -1,19 +1,21 @@
 //! A page as it is answered.
 
 ghost use Rattle.std.specs.Prelude.{◌≡◌, IfOk, OnOk, codes, option_map};
-ghost use Rattle.serde_json.specs.View.{items_view, members_view};
+ghost use Rattle.serde_json.specs.Data.{member, no_members};
+ghost use Rattle.serde_json.specs.View.{members_view};
 ghost use Rattle.alt_codec.specs.Writing.{json_of_pairs};
 ghost use Rattle.alt_machine.specs.Lists as machine;
-ghost use Rattle.alt_ops_query.specs.Replied.{page_of, put_if, with_attribute, with_key};
+ghost use Rattle.alt_ops_query.specs.Replied.{behind, page_of, with_attribute, with_key};
+ghost use Rattle.alt_schema.specs.Json.{member_if};
+ghost use Rattle.alt_shape.specs.Body.{members_json, part_json};
 ghost use Rattle.alt_shape.specs.Refusals.{answer_of};
 ghost use Rattle.alt_value.specs.Item.{at_name};
 
 use crate::selecting::selects;
 use alt_base::NoMemory;
-use alt_codec::json_of_item;
 use alt_paging::Page;
 use alt_schema::{IndexSchema, KeyAttr, TableSchema};
-use alt_shape::Reply;
+use alt_shape::{Body, Member, Part, Reply};
 use alt_value::{Item, copy};
 use serde_json::{Map, Value};
 use std::alloc::Global;
@@ -24,76 +26,77 @@ pub(crate) fn page_reply(
     schema: &TableSchema,
     index: Option<&IndexSchema>,
     body: &Map<String, Value>,
-    page: &Page,
+    page: Page,
     last: &Option<Item>,
 ) -> Result<Reply, NoMemory>
     ensures reply { IfOk result (λ reply. answer_of reply ≡ machine.page_answer schema.now
-        (option_map (λ i. i.now) index.entry) (members_view body.now.entries) (page_of page.now)
+        (option_map (λ i. i.now) index.entry) (members_view body.now.entries) (page_of page)
         last.now) }
 {
-    let mut members = Map::new(alloc);
-    serde_json::put(&mut members, alloc, "Count", Value::from(page.count))?;
-    put_items(alloc, &mut members, body, page.items.as_slice())?;
+    let Page {
+        items,
+        count,
+        scanned,
+        ..
+    } = page;
+    let mut members = Vec::with_capacity(alloc, 4)?;
+    put(&mut members, "Count", Part::Count(u64::from(count)))?;
+    put_items(&mut members, body, items.into_vec())?;
     put_last(alloc, &mut members, schema, index, last)?;
-    serde_json::put(
+    put(
         &mut members,
-        alloc,
         "ScannedCount",
-        Value::from(page.scanned),
+        Part::Count(u64::from(scanned)),
     )?;
-    Ok(Reply::answered(members))
+    Ok(Reply {
+        status: 200,
+        body: Body::Members(members),
+    })
+}
+
+/// Puts a member behind those that are there.
+fn put(members: &mut Vec<Member>, name: &'static str, value: Part) -> Result<(), NoMemory>
+    ensures put { OnOk result (members_json members.new.items
+        ≡ behind (members_json members.old.items) (member name.now (part_json value) no_members)) }
+{
+    members.push(Member { name, value })?;
+    Ok(())
 }
 
 /// Puts the items of a page, but for COUNT.
 fn put_items(
-    alloc: Global,
-    members: &mut Map<String, Value>,
+    members: &mut Vec<Member>,
     body: &Map<String, Value>,
-    items: &[Item],
+    items: Vec<Item>,
 ) -> Result<(), NoMemory>
-    ensures put { OnOk result (members_view members.new.entries ≡ put_if (codes "Items")
-        (machine.shown_items (members_view body.now.entries) items.now)
-        (members_view members.old.entries)) }
+    ensures put { OnOk result (members_json members.new.items
+        ≡ behind (members_json members.old.items) (member_if (codes "Items")
+        (machine.shown_items (members_view body.now.entries) items.items) no_members)) }
 {
     if selects(body, "COUNT") {
         return Ok(());
     }
-    let items = json_of_items(alloc, items)?;
-    serde_json::put(members, alloc, "Items", Value::Array(items))?;
-    Ok(())
+    put(members, "Items", Part::Items(items))
 }
 
 /// Puts the key of the last item that was examined, where there is one to go on from.
 fn put_last(
     alloc: Global,
-    members: &mut Map<String, Value>,
+    members: &mut Vec<Member>,
     schema: &TableSchema,
     index: Option<&IndexSchema>,
     last: &Option<Item>,
 ) -> Result<(), NoMemory>
-    ensures put { OnOk result (members_view members.new.entries ≡ put_if (codes "LastEvaluatedKey")
+    ensures put { OnOk result (members_json members.new.items
+        ≡ behind (members_json members.old.items) (member_if (codes "LastEvaluatedKey")
         (option_map (λ i. json_of_pairs (machine.key_attributes schema.now
-        (option_map (λ x. x.now) index.entry) i)) last.now)
-        (members_view members.old.entries)) }
+        (option_map (λ x. x.now) index.entry) i)) last.now) no_members)) }
 {
     let Some(item) = last else {
         return Ok(());
     };
     let key = key_attributes(alloc, schema, index, item)?;
-    let key = json_of_item(alloc, &key)?;
-    serde_json::put(members, alloc, "LastEvaluatedKey", key)?;
-    Ok(())
-}
-
-/// Items as JSON, in their order.
-fn json_of_items(alloc: Global, items: &[Item]) -> Result<Vec<Value>, NoMemory>
-    ensures json { IfOk result (λ values. items_view values.items ≡ machine.items_json items.now) }
-{
-    let mut values = Vec::with_capacity(alloc, items.len())?;
-    for item in items {
-        values.push(json_of_item(alloc, item)?)?;
-    }
-    Ok(values)
+    put(members, "LastEvaluatedKey", Part::Item(key))
 }
 
 /// The key attributes of an item, in an index those of both keys.

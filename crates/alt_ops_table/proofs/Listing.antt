@@ -3,7 +3,6 @@ use Rattle.std.proofs.Common.{◌≡◌, refl, sym, ap, ◌∙◌, ℕ, Bool, fa
 use Rattle.std.specs.Prelude.{◌||◌, if◌then◌else◌}
 use Rattle.std.specs.List.{last_or}
 use Rattle.serde_json.specs.Data.{Members}
-use Rattle.serde_json.specs.View.{view}
 use Rattle.serde_json.specs.Written.{has_float, items_have_float}
 use Rattle.alt_codec.specs.Writing.{strings}
 use Rattle.alt_machine.specs.Ops.ListTables.{of_body, start_name, page_length, names_after, listed, page_of, list_tables}
@@ -13,6 +12,7 @@ use Rattle.alt_machine.specs.State.{State, Texts, descriptions}
 use Rattle.alt_machine.proofs.Descriptions.{keys-descriptions}
 use Rattle.alt_machine.proofs.Tests.{passed, stopped}
 use Rattle.alt_schema.specs.declared.schema.TableSchema.{TableSchema}
+use Rattle.alt_shape.specs.Body.{body_json}
 use Rattle.alt_shape.specs.Refusals.{Answer, answer_of, refused}
 use Rattle.alt_shape.specs.declared.refusal.Refusal.{Refusal}
 use Rattle.alt_shape.specs.declared.refusal.Reply.{Reply}
@@ -59,13 +59,13 @@ listed_plain (Some l) names = or_false _ (strings_plain names)
 
 -- a reply that lists names has no float in it
 pub reply_plain : (reply : Reply) (last : Option (List ℕ)) (names : List (List ℕ))
-    → answer_of reply ≡ listed last names → has_float (view reply.body) ≡ false
+    → answer_of reply ≡ listed last names → has_float (body_json reply.body) ≡ false
 reply_plain reply last names e = ap (λ (a : Answer). has_float a.body) e ∙ listed_plain last names
 
 -- nor has any that a call gives back, if it does
 pub page_plain : {E : Type 0} (r : Result Reply E) (last : Option (List ℕ)) (names : List (List ℕ))
     → IfOk r (λ reply. answer_of reply ≡ listed last names)
-    → IfOk r (λ reply. has_float (view reply.body) ≡ false)
+    → IfOk r (λ reply. has_float (body_json reply.body) ≡ false)
 page_plain (Ok reply) last names h = reply_plain reply last names h
 page_plain (Err e) last names h = tt
 

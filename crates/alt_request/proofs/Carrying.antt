@@ -3,7 +3,6 @@ use Rattle.std.proofs.Common.{◌≡◌, refl, sym, ap, subst, ◌∙◌, ℕ, f
 use Rattle.std.specs.Result.{IsErr, IsErrAnd}
 use Rattle.std.specs.FinMap as map
 use Rattle.serde_json.specs.Data.{Members}
-use Rattle.serde_json.specs.View.{view}
 use Rattle.serde_json.specs.Written.{has_float}
 use Rattle.alt_disk.specs.Disk.{DiskState}
 use Rattle.alt_machine.specs.declared.Expressions.{Expressions}
@@ -23,6 +22,7 @@ use Rattle.alt_request.proofs.Named.{table_found}
 use Rattle.alt_request.proofs.Reaching.{err_is}
 use Rattle.alt_request.specs.declared.stop.Stop.{Stop}
 use Rattle.alt_request.specs.declared.stop.Stop.TheVariants.{Refused, Fault}
+use Rattle.alt_shape.specs.Body.{body_json}
 use Rattle.alt_shape.specs.Refusals.{Answer, answer_of, refused, IsKnown}
 use Rattle.alt_shape.specs.declared.refusal.Refusal.{Refusal}
 use Rattle.alt_shape.specs.declared.refusal.Reply.{Reply}
@@ -89,7 +89,7 @@ module _ (outcome : State → Outcome) (old now : State → Type 0) where
   }
 
   -- an answer without a write
-  pub said : (reply : Reply) → has_float (view reply.body) ≡ false
+  pub said : (reply : Reply) → has_float (body_json reply.body) ≡ false
       → ((s : State) → old s → outcome s ≡ says (answer_of reply)) → ((s : State) → old s → now s)
       → Carries outcome old now (Ok reply)
   said reply plain is stays = record {
@@ -125,7 +125,7 @@ module _ (outcome : State → Outcome) (old now : State → Type 0) where
   }
 
   -- writes were made, and answered
-  pub wrote : (reply : Reply) → has_float (view reply.body) ≡ false → (wants : Wants)
+  pub wrote : (reply : Reply) → has_float (body_json reply.body) ≡ false → (wants : Wants)
       → ((s : State) → old s → (atoms : List State)
       × (outcome s ≡ record { answer = answer_of reply; atoms = atoms; wants = wants })
       × AreMade now wants s atoms) → Carries outcome old now (Ok reply)
@@ -138,7 +138,7 @@ module _ (outcome : State → Outcome) (old now : State → Type 0) where
 
   -- an answer without a write, or want of memory for it
   pub said_or_not : (r : Result Reply Stop) (a : Answer) → IfOk r (λ reply. answer_of reply ≡ a)
-      → IfOk r (λ reply. has_float (view reply.body) ≡ false)
+      → IfOk r (λ reply. has_float (body_json reply.body) ≡ false)
       → IfErr r IsMemory → ((s : State) → old s → outcome s ≡ says a)
       → ((s : State) → old s → now s) → Carries outcome old now r
   said_or_not (Ok reply) a told plain cause is stays =

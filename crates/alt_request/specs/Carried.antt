@@ -4,13 +4,13 @@ use Rattle.alt_base.specs.Counts.{Rose}
 use Rattle.alt_disk.specs.Disk.{DiskState, Goes}
 use Rattle.alt_disk.specs.Runs.{Quiet}
 use Rattle.alt_tables.specs.Images.{Leaves}
-use Rattle.serde_json.specs.View.{view}
 use Rattle.serde_json.specs.Written.{has_float}
 use Rattle.alt_machine.specs.Outcomes.{Outcome, last_state}
 use Rattle.alt_machine.specs.State.{State}
 use Rattle.alt_machine.specs.Wanted.{wanted}
 use Rattle.alt_request.specs.declared.stop.Stop.{Stop}
 use Rattle.alt_request.specs.declared.stop.Stop.TheVariants.{Refused, Fault}
+use Rattle.alt_shape.specs.Body.{body_json}
 use Rattle.alt_shape.specs.Refusals.{Answer, answer_of, refused, IsKnown}
 use Rattle.alt_shape.specs.declared.refusal.Refusal.{Refusal}
 use Rattle.alt_shape.specs.declared.refusal.Reply.{Reply}
@@ -41,13 +41,13 @@ Does now s outcome (Err (Fault fault)) = BreakOff now outcome.wants s outcome.at
 
 -- No float stands in a reply, so its text is the compact one, and a refusal has a message.
 abbrev pub IsPlain : Result Reply Stop → Type 0
-IsPlain (Ok reply) = has_float (view reply.body) ≡ false
+IsPlain (Ok reply) = has_float (body_json reply.body) ≡ false
 IsPlain (Err (Refused r)) = IsKnown r
 IsPlain (Err (Fault fault)) = Unit {0}
 
 -- A reply or a refusal is this answer, and no float stands in it; or memory was wanting for it.
 abbrev pub Says : Answer → Result Reply Stop → Type 0
-Says answer (Ok reply) = (answer_of reply ≡ answer) × (has_float (view reply.body) ≡ false)
+Says answer (Ok reply) = (answer_of reply ≡ answer) × (has_float (body_json reply.body) ≡ false)
 Says answer (Err (Refused r)) = (refused r ≡ answer) × IsKnown r
 Says answer (Err (Fault fault)) = fault ≡ NoMemory
 

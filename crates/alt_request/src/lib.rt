@@ -22,6 +22,6 @@ pub use body::{Rules, body_refusal, table_name};
 pub use expressions::Texts;
 pub use items::{item_refusal, number_refusal};
 pub use lists::{ListTarget, list_target};
-pub use replies::{asks, done, one_member, refuse_with_item};
+pub use replies::{asks, done, item_member, one_member};
 pub use stop::Stop;
 pub use targets::{Target, item_target, table_target};

@@ -1,21 +1,23 @@
-//! Replies without members, and of one member; and whether a body asks for more.
+//! Replies without members, of one member and of one item; and whether a body asks for more.
 
-ghost use Rattle.std.specs.Prelude.{◌≡◌, false, IfOk, IfErr};
+ghost use Rattle.std.specs.Prelude.{◌≡◌, false, IfOk};
 ghost use Rattle.serde_json.specs.View.{view, members_view};
 ghost use Rattle.serde_json.specs.Written.{has_float};
-ghost use Rattle.alt_machine.specs.Conditional.{refused_with_item};
+ghost use Rattle.alt_codec.specs.Writing.{json_of_pairs};
 ghost use Rattle.alt_machine.specs.Replies.{done, answers, asks};
-ghost use Rattle.alt_shape.specs.Refusals.{IsKnown, answer_of};
+ghost use Rattle.alt_shape.specs.Body.{body_json};
+ghost use Rattle.alt_shape.specs.Refusals.{answer_of};
 
 use alt_base::NoMemory;
-use alt_shape::{Refusal, Reply, refuse, text_at};
+use alt_shape::{Body, Member, Part, Reply, text_at};
+use alt_value::Item;
 use serde_json::{Map, Value};
 use std::alloc::Global;
 
 /// The reply without members.
 pub fn done(alloc: Global) -> Reply
     ensures reply { answer_of result ≡ done }
-    ensures plain { has_float (view result.body) ≡ false }
+    ensures plain { has_float (body_json result.body) ≡ false }
 {
     Reply::answered(Map::new(alloc))
 }
@@ -24,28 +26,27 @@ pub fn done(alloc: Global) -> Reply
 pub fn one_member(alloc: Global, name: &str, value: Value) -> Result<Reply, NoMemory>
     requires { has_float (view value) ≡ false }
     ensures reply { IfOk result (λ reply. answer_of reply ≡ answers name.now (view value)) }
-    ensures plain { IfOk result (λ reply. has_float (view reply.body) ≡ false) }
+    ensures plain { IfOk result (λ reply. has_float (body_json reply.body) ≡ false) }
 {
     let mut members = Map::new(alloc);
     serde_json::put(&mut members, alloc, name, value)?;
     Ok(Reply::answered(members))
 }
 
-/// The reply to a request that is refused, and in it an item: the one on which a condition was tested.
-pub fn refuse_with_item(alloc: Global, refusal: Refusal, item: Value) -> Result<Reply, NoMemory>
-    requires known { IsKnown refusal }
-    requires plain { has_float (view item) ≡ false }
-    ensures told { IfOk result (λ reply. answer_of reply ≡ refused_with_item (view item) refusal) }
-    ensures plain { IfOk result (λ reply. has_float (view reply.body) ≡ false) }
+/// The reply with an item at a member.
+pub fn item_member(alloc: Global, name: &'static str, item: Item) -> Result<Reply, NoMemory>
+    ensures reply { IfOk result (λ reply. answer_of reply
+        ≡ answers name.now (json_of_pairs item)) }
+    ensures plain { IfOk result (λ reply. has_float (body_json reply.body) ≡ false) }
 {
-    let Reply { status, body } = refuse(alloc, refusal)?;
-    let Value::Object(mut members) = body else {
-        unreachable!();
-    };
-    serde_json::put(&mut members, alloc, "Item", item)?;
+    let mut members = Vec::with_capacity(alloc, 1)?;
+    members.push(Member {
+        name,
+        value: Part::Item(item),
+    })?;
     Ok(Reply {
-        status,
-        body: Value::Object(members),
+        status: 200,
+        body: Body::Members(members),
     })
 }
 

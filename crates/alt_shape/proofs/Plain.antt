@@ -1,11 +1,18 @@
 -- Replies without a float. A reply whose body has none is printed as its text, by `to_string` of
 -- serde_json; so each operation shows it of its answer, member by member.
-use Rattle.std.proofs.Common.{◌≡◌, ℕ, List, Bool, true, false, Ordering, Less, Equal, Greater, refl, ap, ◌∙◌, nat_cmp}
+use Rattle.std.proofs.Common.{◌≡◌, ℕ, List, [], ◌∷◌, Bool, true, false, Ordering, Less, Equal, Greater, refl, ap, ◌∙◌, nat_cmp}
 use Rattle.std.specs.Prelude.{◌||◌}
 use Rattle.std.specs.Ordering.{match_ordering}
 use Rattle.std.specs.Cmp.Lexicographic.{slice_cmp}
 use Rattle.serde_json.specs.Data.{Data, Items, item, Members, no_members, member, put}
 use Rattle.serde_json.specs.Written.{has_float, items_have_float, members_have_float}
+use Rattle.alt_codec.specs.Writing.{json_of_pairs}
+use Rattle.alt_codec.proofs.Plain.{pairs_plain}
+use Rattle.alt_shape.specs.Body.{items_json, members_json, part_json}
+use Rattle.alt_shape.specs.declared.body.Member.{Member}
+use Rattle.alt_shape.specs.declared.body.Part.{Part}
+use Rattle.alt_shape.specs.declared.body.Part.TheVariants as part
+use Rattle.alt_value.specs.Tree.{Pair}
 
 -- where neither of two has one, none of them has
 pub no_float_either : (a b : Bool) → a ≡ false → b ≡ false → (a || b) ≡ false
@@ -46,3 +53,24 @@ members_have_float-put k d no_members p q = no_float_either (has_float d) false 
 members_have_float-put k d (member l e ms) p q =
     put_at (slice_cmp nat_cmp k l) k l d e ms p q
     (members_have_float-put k d ms p (no_float_second (has_float e) (members_have_float ms) q))
+
+-- ---- what a reply says by its members
+
+-- the items of a list
+pub items_plain : (items : List (List Pair)) → items_have_float (items_json items) ≡ false
+items_plain [] = refl
+items_plain (i ∷ items) = items_have_float-item (json_of_pairs i) (items_json items)
+    (pairs_plain i) (items_plain items)
+
+-- the value of a member
+part_plain : (p : Part) → has_float (part_json p) ≡ false
+part_plain (part.Text text) = refl
+part_plain (part.Count n) = refl
+part_plain (part.Item i) = pairs_plain i
+part_plain (part.Items is) = items_plain is.items
+
+-- the members
+pub members_plain : (ms : List Member) → members_have_float (members_json ms) ≡ false
+members_plain [] = refl
+members_plain (m ∷ ms) = no_float_either (has_float (part_json m.value))
+    (members_have_float (members_json ms)) (part_plain m.value) (members_plain ms)

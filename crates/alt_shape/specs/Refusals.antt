@@ -1,8 +1,10 @@
 -- What a refused client is told (DynamoDB Developer Guide, "Error handling with DynamoDB": the names
 -- of the exceptions; the messages and the one prefix are Alternator's own, docs/API.md).
-use Rattle.std.specs.Prelude.{ℕ, ◌≤◌, List, [], ◌∷◌, codes, slice_get, unwrap_or}
+use Rattle.std.specs.Prelude.{ℕ, ◌≤◌, List, [], ◌∷◌, Option, Some, None, codes, slice_get, unwrap_or}
 use Rattle.serde_json.specs.Data.{Data, string, object, Members, no_members, member}
-use Rattle.serde_json.specs.View.{view}
+use Rattle.alt_codec.specs.Writing.{json_of_pairs}
+use Rattle.alt_value.specs.Tree.{Pair}
+use Rattle.alt_shape.specs.Body.{body_json}
 use Rattle.alt_shape.specs.declared.refusal.Refusal.{Refusal}
 use Rattle.alt_shape.specs.declared.refusal.Refusal.TheVariants.{E1, E2, E4, E5, E6, E7, E8, Invalid}
 use Rattle.alt_shape.specs.declared.refusal.Reply.{Reply}
@@ -265,7 +267,7 @@ pub record Answer : Type 0 where
 
 -- the answer that a reply of the program stands for
 abbrev pub answer_of : Reply → Answer
-answer_of reply = record { status = reply.status; body = view reply.body }
+answer_of reply = record { status = reply.status; body = body_json reply.body }
 
 -- the answer to a request that wasn't refused
 abbrev pub answered : Members → Answer
@@ -279,6 +281,21 @@ refused r = record {
       (member (codes "__type") (string (name_of r))
       (member (codes "message") (string (message_of r)) no_members));
 }
+
+-- the answer to a request that was refused, which shows an item
+abbrev pub refused_with : Data → Refusal → Answer
+refused_with shown r = record {
+  status = 400;
+  body = object
+      (member (codes "Item") shown
+      (member (codes "__type") (string (name_of r))
+      (member (codes "message") (string (message_of r)) no_members)));
+}
+
+-- the one or the other, whether there is an item
+abbrev pub refused_as : Option (List Pair) → Refusal → Answer
+refused_as None r = refused r
+refused_as (Some i) r = refused_with (json_of_pairs i) r
 
 -- the refusal of a body that breaks a rule
 abbrev pub refusal_of : Broken → Refusal

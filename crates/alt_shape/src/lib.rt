@@ -3,6 +3,7 @@
 #![tactic(auto)]
 
 pub mod bodies;
+mod body;
 mod checking;
 mod fields;
 mod inside;
@@ -10,7 +11,8 @@ mod refusal;
 mod rule;
 pub mod tables;
 
+pub use body::{Body, Member, Part};
 pub use checking::{check, given};
 pub use fields::{array_at, object_at, text_at, truth_at, whole_at};
-pub use refusal::{Refusal, Reply, refuse};
+pub use refusal::{Refusal, Reply, refuse, refuse_with};
 pub use rule::{Broken, Kind, Rule, ShapeFault};

@@ -1,13 +1,17 @@
 //! What a refused client is told: the status, the name and the message of each refusal.
 
 ghost use Rattle.std.specs.Prelude.{◌≡◌, false, IfOk};
-ghost use Rattle.serde_json.specs.View.{view, members_view};
+ghost use Rattle.serde_json.specs.View.{members_view};
 ghost use Rattle.serde_json.specs.Written.{has_float};
-ghost use Rattle.alt_shape.specs.Refusals.{IsKnown, name_of, message_of, answer_of, answered, refused, refusal_of};
+ghost use Rattle.alt_codec.specs.Writing.{json_of_pairs};
+ghost use Rattle.alt_shape.specs.Body.{body_json};
+ghost use Rattle.alt_shape.specs.Refusals.{IsKnown, name_of, message_of, answer_of, answered, refused, refused_as, refused_with, refusal_of};
 
+use crate::body::{Body, Member, Part};
 use crate::rule::{Broken, ShapeFault};
 use alt_base::NoMemory;
-use serde_json::{Map, Value, json};
+use alt_value::Item;
+use serde_json::{Map, Value};
 use std::alloc::Global;
 
 /// Why a request is refused. Of several that apply a client is told the first, in the order that
@@ -185,10 +189,10 @@ impl From<ShapeFault> for Refusal {
 }
 
 /// What a client is answered: an HTTP status and a JSON object.
-#[derive(Debug, PartialEq, Drop)]
+#[derive(Drop)]
 pub struct Reply {
     pub status: u16,
-    pub body: Value,
+    pub body: Body,
 }
 
 impl Reply {
@@ -198,7 +202,7 @@ impl Reply {
     {
         Reply {
             status: 200,
-            body: Value::Object(members),
+            body: Body::Tree(Value::Object(members)),
         }
     }
 }
@@ -208,10 +212,45 @@ impl Reply {
 pub fn refuse(alloc: Global, r: Refusal) -> Result<Reply, NoMemory>
     requires { IsKnown r }
     ensures told { IfOk result (λ reply. answer_of reply ≡ refused r) }
-    ensures no_float { IfOk result (λ reply. has_float (view reply.body) ≡ false) }
+    ensures no_float { IfOk result (λ reply. has_float (body_json reply.body) ≡ false) }
 {
-    let body = json!(in alloc; {"__type": type_text(r), "message": message_text(r)})?;
-    Ok(Reply { status: 400, body })
+    refused_as(alloc, r, None)
+}
+
+/// The reply to a request that is refused, and in it an item, at a member Item.
+pub fn refuse_with(alloc: Global, r: Refusal, item: Item) -> Result<Reply, NoMemory>
+    requires { IsKnown r }
+    ensures told { IfOk result (λ reply. answer_of reply ≡ refused_with (json_of_pairs item) r) }
+    ensures no_float { IfOk result (λ reply. has_float (body_json reply.body) ≡ false) }
+{
+    refused_as(alloc, r, Some(item))
+}
+
+#[tactic(auto, using(crate::proofs::Plain::members_plain))]
+fn refused_as(alloc: Global, r: Refusal, item: Option<Item>) -> Result<Reply, NoMemory>
+    requires { IsKnown r }
+    ensures told { IfOk result (λ reply. answer_of reply ≡ refused_as item r) }
+    ensures no_float { IfOk result (λ reply. has_float (body_json reply.body) ≡ false) }
+{
+    let mut members = Vec::with_capacity(alloc, 3)?;
+    if let Some(item) = item {
+        members.push(Member {
+            name: "Item",
+            value: Part::Item(item),
+        })?;
+    }
+    members.push(Member {
+        name: "__type",
+        value: Part::Text(type_text(r)),
+    })?;
+    members.push(Member {
+        name: "message",
+        value: Part::Text(message_text(r)),
+    })?;
+    Ok(Reply {
+        status: 400,
+        body: Body::Members(members),
+    })
 }
 
 macro_rules! exception {

@@ -28,6 +28,7 @@ use Rattle.alt_request.proofs.Named.{table_found}
 use Rattle.alt_schema.specs.Json.{items_by, member_if, stream_arn}
 use Rattle.alt_schema.specs.Rules.{is_name}
 use Rattle.alt_schema.specs.declared.schema.TableSchema.{TableSchema}
+use Rattle.alt_shape.specs.Body.{body_json}
 use Rattle.alt_shape.specs.Refusals.{Answer, answer_of, refused}
 use Rattle.alt_shape.specs.declared.refusal.Refusal.{Refusal}
 use Rattle.alt_shape.specs.declared.refusal.Reply.{Reply}
@@ -158,7 +159,7 @@ members_plain (Some d) ds = or_false _ (streams_plain ds)
 -- a reply that lists streams has no float in it
 pub reply_plain : {E : Type 0} (r : Result Reply E) (more : Bool) (ds : List TableSchema)
     → IfOk r (λ reply. answer_of reply ≡ page_answer more ds)
-    → IfOk r (λ reply. has_float (view reply.body) ≡ false)
+    → IfOk r (λ reply. has_float (body_json reply.body) ≡ false)
 reply_plain (Ok reply) more ds is =
     ap (λ (a : Answer). has_float a.body) is ∙ members_plain (last_of more ds) ds
 reply_plain (Err e) more ds is = tt

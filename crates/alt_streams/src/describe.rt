@@ -8,6 +8,7 @@ ghost use Rattle.serde_json.specs.Written.{has_float};
 ghost use Rattle.alt_machine.specs.Ops.DescribeStream.{of_body, shard_json, shards_json, stream_json, described, describe_stream};
 ghost use Rattle.alt_request.specs.Carried.{Carries, Moves};
 ghost use Rattle.alt_request.specs.Steps.{IsMemory, Tested};
+ghost use Rattle.alt_shape.specs.Body.{body_json};
 ghost use Rattle.alt_shape.specs.Refusals.{answer_of};
 ghost use Rattle.alt_tables.specs.Stands.{Stands};
 
@@ -60,7 +61,7 @@ fn unfit(body: &Map<String, Value>) -> Result<(), Stop>
 fn described(alloc: Global, schema: &TableSchema, body: &Map<String, Value>) -> Result<Reply, Stop>
     ensures reply { IfOk result (λ reply. answer_of reply
         ≡ described schema.now (members_view body.now.entries)) }
-    ensures plain { IfOk result (λ reply. has_float (view reply.body) ≡ false) }
+    ensures plain { IfOk result (λ reply. has_float (body_json reply.body) ≡ false) }
     ensures cause { IfErr result IsMemory }
 {
     let Ok(description) = description_json(alloc, schema, body) else {

@@ -2,7 +2,7 @@
 
 ghost use Rattle.std.specs.Prelude.{◌≡◌, ◌&&◌, ◌<◌, ◌^◌, false, IfErr, IfOk, IfSome, codes};
 ghost use Rattle.serde_json.specs.Data.{string};
-ghost use Rattle.serde_json.specs.View.{view, members_view};
+ghost use Rattle.serde_json.specs.View.{members_view};
 ghost use Rattle.serde_json.specs.Written.{has_float};
 ghost use Rattle.alt_machine.specs.Ops.GetShardIterator.{get_shard_iterator, is_kind, is_numbered, number_given, of_body, starts};
 ghost use Rattle.alt_machine.specs.Replies.{answers};
@@ -10,6 +10,7 @@ ghost use Rattle.alt_machine.specs.State.{State};
 ghost use Rattle.alt_machine.specs.Streams.{iterator_text, may_be_shard};
 ghost use Rattle.alt_request.specs.Carried.{Carries, Moves};
 ghost use Rattle.alt_request.specs.Steps.{IsMemory, Tested};
+ghost use Rattle.alt_shape.specs.Body.{body_json};
 ghost use Rattle.alt_shape.specs.Refusals.{answer_of};
 ghost use Rattle.alt_streams.specs.Paged.{iterator_at};
 ghost use Rattle.alt_tables.specs.Stands.{Stands};
@@ -115,7 +116,7 @@ fn starts(next: u64, body: &Map<String, Value>) -> u64
 fn iterator_reply(alloc: Global, schema: &TableSchema, from: u64) -> Result<Reply, Stop>
     ensures reply { IfOk result (λ reply. answer_of reply ≡ answers (codes "ShardIterator")
         (string (iterator_text (iterator_at schema.now from)))) }
-    ensures plain { IfOk result (λ reply. has_float (view reply.body) ≡ false) }
+    ensures plain { IfOk result (λ reply. has_float (body_json reply.body) ≡ false) }
     ensures cause { IfErr result IsMemory }
 {
     match iterator_member(alloc, schema, from) {
@@ -127,7 +128,7 @@ fn iterator_reply(alloc: Global, schema: &TableSchema, from: u64) -> Result<Repl
 fn iterator_member(alloc: Global, schema: &TableSchema, from: u64) -> Result<Reply, NoMemory>
     ensures reply { IfOk result (λ reply. answer_of reply ≡ answers (codes "ShardIterator")
         (string (iterator_text (iterator_at schema.now from)))) }
-    ensures plain { IfOk result (λ reply. has_float (view reply.body) ≡ false) }
+    ensures plain { IfOk result (λ reply. has_float (body_json reply.body) ≡ false) }
 {
     let text = iterator_text(alloc, schema, from)?;
     let text = Value::String(String::from_str(alloc, text.as_str())?);

@@ -9,6 +9,7 @@ ghost use Rattle.alt_machine.specs.Ops.ListStreams.{list_streams, stream_json, s
 ghost use Rattle.alt_machine.specs.Ops.ListTables.{page_length};
 ghost use Rattle.alt_request.specs.Carried.{Carries, Moves};
 ghost use Rattle.alt_schema.specs.Json.{items_by};
+ghost use Rattle.alt_shape.specs.Body.{body_json};
 ghost use Rattle.alt_shape.specs.Refusals.{answer_of};
 ghost use Rattle.alt_streams.specs.Listed.{AreNamed, IsAsked, IsStart, all_in, is_listed, last_of, name_given, page_answer, start_name, streams_after};
 ghost use Rattle.alt_tables.specs.Stands.{Stands, catalog_of};
@@ -134,7 +135,7 @@ fn answer_of_page(
         ≡ streams_answer (page_length (members_view body.now.entries))
         (streams_after (start_name (option_map (λ d. d.now) start.entry))
         (name_given (members_view body.now.entries)) (catalog_of tables.now))) }
-    ensures plain { IfOk result (λ reply. has_float (view reply.body) ≡ false) }
+    ensures plain { IfOk result (λ reply. has_float (body_json reply.body) ≡ false) }
 {
     let name = text_at(body, "TableName");
     let page = page_after(alloc, tables, start_name(start), name, page_length(body))?;
@@ -224,7 +225,7 @@ fn stream_after<'t>(tables: &'t Tables, name: &str) -> Option<&'t TableSchema>
 fn listed(alloc: Global, page: &Page) -> Result<Reply, NoMemory>
     ensures reply { IfOk result (λ reply. answer_of reply
         ≡ page_answer page.now.more (each (λ d. d.now) page.now.schemas.items)) }
-    ensures plain { IfOk result (λ reply. has_float (view reply.body) ≡ false) }
+    ensures plain { IfOk result (λ reply. has_float (body_json reply.body) ≡ false) }
 {
     written(alloc, page)
 }

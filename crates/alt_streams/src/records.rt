@@ -12,6 +12,7 @@ ghost use Rattle.alt_request.specs.Carried.{Carries, Moves};
 ghost use Rattle.alt_schema.specs.Stated.{text_of};
 ghost use Rattle.alt_schema.specs.declared.schema.TableSchema.{TableSchema};
 ghost use Rattle.alt_schema.specs.declared.schema.View.{View};
+ghost use Rattle.alt_shape.specs.Body.{body_json};
 ghost use Rattle.alt_shape.specs.Refusals.{answer_of};
 ghost use Rattle.alt_streams.specs.Paged.{iterator_at, page_answer};
 ghost use Rattle.alt_streams.specs.Placed.{OnPlace, OnStreaming, has_stream};
@@ -133,7 +134,7 @@ fn page_at<D: Disk>(
         → IfOk result (λ reply. answer_of reply
         ≡ records_answer t.description (iterator_at t.description from)
         (page_of most (record_size t.description shows) (changes_from from t.changes)) shows) }
-    ensures plain { IfOk result (λ reply. has_float (view reply.body) ≡ false) }
+    ensures plain { IfOk result (λ reply. has_float (body_json reply.body) ≡ false) }
     ensures stays { (s : State) → Stands (D.state disk.old) tables.old s ↔ Stands
         (D.state disk.new) tables.new s }
     ensures fault { (s : State) → Stands (D.state disk.old) tables.old s
@@ -156,7 +157,7 @@ fn page_at<D: Disk>(
 /// The reply with the records of a page, and the iterator for the changes behind them.
 fn page_reply(alloc: Global, schema: &TableSchema, page: Page) -> Result<Reply, NoMemory>
     ensures reply { IfOk result (λ reply. answer_of reply ≡ page_answer schema.now page) }
-    ensures plain { IfOk result (λ reply. has_float (view reply.body) ≡ false) }
+    ensures plain { IfOk result (λ reply. has_float (body_json reply.body) ≡ false) }
 {
     let next = iterator_text(alloc, schema, page.next)?;
     let next = Value::String(String::from_str(alloc, next.as_str())?);

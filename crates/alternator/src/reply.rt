@@ -1,11 +1,11 @@
 //! The text that answers a request.
 
 ghost use Rattle.std.specs.Prelude.{◌≡◌, false, None, IfOk, IfErr, IsErrOf, OnOk, string_bytes};
-ghost use Rattle.serde_json.specs.View.{view};
 ghost use Rattle.serde_json.specs.Written.{has_float};
 ghost use Rattle.alt_base.specs.Counts.{Rose};
 ghost use Rattle.alt_disk.specs.Disk.{Goes};
 ghost use Rattle.alt_machine.specs.State.{State};
+ghost use Rattle.alt_shape.specs.Body.{body_json};
 ghost use Rattle.alt_shape.specs.Refusals.{answer_of};
 ghost use Rattle.alt_tables.specs.Stands.{AreReady, Stands};
 ghost use Rattle.alternator.specs.Faults.{IsCausedBy, request_fault};
@@ -23,7 +23,7 @@ use std::alloc::Global;
 
 /// The line of a reply.
 fn line_of(alloc: Global, reply: &Reply) -> Result<String, NoMemory>
-    requires { has_float (view reply.now.body) ≡ false }
+    requires { has_float (body_json reply.now.body) ≡ false }
     ensures { IfOk result (λ s. string_bytes s ≡ line_of (answer_of reply.now)) }
 {
     let text = reply.body.to_string(alloc)?;

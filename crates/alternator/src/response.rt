@@ -1,7 +1,6 @@
 //! The texts that are said on a connection.
 
 ghost use Rattle.std.specs.Prelude.{◌≡◌, ◌≤◌, ◌<◌, true, false, None, IfOk, IfErr, IsErrOf, OnOk, option_and_then};
-ghost use Rattle.serde_json.specs.View.{view};
 ghost use Rattle.serde_json.specs.Written.{has_float};
 ghost use Rattle.alt_base.specs.Counts.{Rose};
 ghost use Rattle.alt_disk.specs.Disk.{Goes};
@@ -10,6 +9,7 @@ ghost use Rattle.alt_http.specs.Replies.{reply_text, refusal_status, refusal_bod
 ghost use Rattle.alt_machine.specs.Outcomes.{last_state};
 ghost use Rattle.alt_machine.specs.State.{State};
 ghost use Rattle.alt_machine.specs.Wanted.{wanted};
+ghost use Rattle.alt_shape.specs.Body.{body_json};
 ghost use Rattle.alt_shape.specs.Refusals.{answer_of};
 ghost use Rattle.alt_tables.specs.Stands.{AreReady, Stands};
 ghost use Rattle.alternator.specs.Faults.{IsCausedBy};
@@ -58,7 +58,7 @@ fn status_said(status: u16) -> u16
 
 /// The bytes of a reply.
 fn text_of(alloc: Global, answer: &Reply, moment: u64, close: bool) -> Result<Vec<u8>, NoMemory>
-    requires plain { has_float (view answer.now.body) ≡ false }
+    requires plain { has_float (body_json answer.now.body) ≡ false }
     requires dated { moment < 253402300800 }
     ensures { IfOk result (λ text. text.items ≡ http_text (answer_of answer.now) moment close) }
 {

@@ -7,3 +7,4 @@ pub mod Written
 pub mod ReadBack
 pub mod Fits
 pub mod Relation
+pub mod Tokens

@@ -6,8 +6,10 @@ mod flat;
 mod reading;
 mod scalars;
 mod sets;
+mod text;
 mod writing;
 
 pub use fault::ValueFault;
 pub use reading::{attr_of_json, item_of_json};
+pub use text::{write_attr, write_item};
 pub use writing::{json_of_attr, json_of_item};

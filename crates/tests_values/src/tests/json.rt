@@ -1,8 +1,9 @@
-//! Worked values and their faults, nesting on both sides of its limit, an item, and values written as JSON.
+//! Worked values and their faults, nesting on both sides of its limit, an item, and values written as JSON and as its text.
 
-use alt_codec::{ValueFault, attr_of_json, item_of_json, json_of_attr, json_of_item};
+use alt_codec::{ValueFault, attr_of_json, item_of_json, json_of_attr, json_of_item, write_item};
 use alt_decimal::NumberFault;
 use alt_value::depth_within;
+use json::Writer;
 use serde_json::Value;
 use std::alloc::Global;
 
@@ -207,4 +208,55 @@ fn values_are_written(rt: HostRuntime) {
             r#"{"b":{"BS":["AAH/","Ag=="]},"l":{"L":[{"NS":["9","10"]},{"NULL":true}]},"n":{"N":"-125"}}"#
         )
     );
+}
+
+// Items, and the text that they are written as: each of the ten kinds, and characters that JSON escapes.
+static TEXTS: [(&str, &str); 14] = [
+    (r#"{}"#, r#"{}"#),
+    (r#"{"a":{"S":"x\"y"}}"#, r#"{"a":{"S":"x\"y"}}"#),
+    (
+        r#"{"b\\":{"S":""},"a":{"S":"\u00e9"}}"#,
+        r#"{"a":{"S":"é"},"b\\":{"S":""}}"#,
+    ),
+    (r#"{"a":{"N":"-0012.500E1"}}"#, r#"{"a":{"N":"-125"}}"#),
+    (r#"{"a":{"B":"AAH/"}}"#, r#"{"a":{"B":"AAH/"}}"#),
+    (r#"{"a":{"BOOL":true}}"#, r#"{"a":{"BOOL":true}}"#),
+    (r#"{"a":{"BOOL":false}}"#, r#"{"a":{"BOOL":false}}"#),
+    (r#"{"a":{"NULL":true}}"#, r#"{"a":{"NULL":true}}"#),
+    (r#"{"a":{"SS":["b","a"]}}"#, r#"{"a":{"SS":["a","b"]}}"#),
+    (r#"{"a":{"NS":["10","9.0"]}}"#, r#"{"a":{"NS":["9","10"]}}"#),
+    (
+        r#"{"a":{"BS":["Ag==","AAH/"]}}"#,
+        r#"{"a":{"BS":["AAH/","Ag=="]}}"#,
+    ),
+    (r#"{"a":{"L":[]}}"#, r#"{"a":{"L":[]}}"#),
+    (
+        r#"{"a":{"L":[{"S":"x"},{"L":[{"NULL":true}]}]}}"#,
+        r#"{"a":{"L":[{"S":"x"},{"L":[{"NULL":true}]}]}}"#,
+    ),
+    (
+        r#"{"a":{"M":{"c":{"N":"1"},"b":{"M":{}}}}}"#,
+        r#"{"a":{"M":{"b":{"M":{}},"c":{"N":"1"}}}}"#,
+    ),
+];
+
+fn has_text(alloc: Global, text: &str, want: &str) -> bool {
+    let Ok(v) = Value::from_str(alloc, text) else {
+        return false;
+    };
+    let Ok(item) = item_of_json(alloc, &v) else {
+        return false;
+    };
+    let mut out = Writer::new(Vec::new(alloc));
+    let Ok(()) = write_item(alloc, &mut out, &item) else {
+        return false;
+    };
+    out.into_inner().as_slice() == want.as_bytes()
+}
+
+#[test]
+fn items_are_written_as_text(rt: HostRuntime) {
+    for (text, want) in &TEXTS {
+        assert!(rt; has_text(rt.alloc(), text, want), "{text}");
+    }
 }

@@ -1,0 +1,13 @@
+-- What is written, with what is left, is the whole.
+use Rattle.std.proofs.Common.{◌≡◌, ◌++◌, drop}
+use Rattle.serde_json.specs.Data.{string}
+use Rattle.alt_decimal.specs.Printed.{printed}
+use Rattle.alt_codec.proofs.Tokens.{elements_then_end}
+use Rattle.alt_codec.proofs.text.write_numbers.Given as goal
+
+abbrev pub invariant-loop-place : goal.invariant-loop-place
+invariant-loop-place l = record {
+  written : l.initial.out.tokens ++ elements_then_end (λ z. string (printed z)) l.set
+      ≡ l.out.tokens ++ elements_then_end (λ z. string (printed z)) (drop l.place l.set);
+  before : l.out.before ≡ l.initial.out.before;
+}

@@ -1,9 +1,8 @@
 -- Given words one by one.
-use Rattle.std.proofs.Common.{◌≡◌, refl, sym, ap, ◌∙◌, ℕ, zero, suc, ◌+◌, Bool, true, false, ◌&&◌, ◌||◌, not, ◌⊎◌, inl, inr, List, [], ◌∷◌, drop, Option, Some, None, OnOk, Result, Ok, Err, add-one}
-use Rattle.std.proofs.Math.Seq.{drop-nil}
+use Rattle.std.proofs.Common.{◌≡◌, refl, ℕ, zero, suc, ◌+◌, Bool, true, false, ◌&&◌, ◌||◌, not, List, [], ◌∷◌, drop, Some, OnOk, Result, Ok, Err, add-one}
 use Rattle.std.specs.Prelude.{slice_get}
 use Rattle.std.specs.Option.{option_map_or}
-use Rattle.std.specs.List.{list_any, list_all}
+use Rattle.std.specs.List.{list_all}
 use Rattle.std.specs.declared.cmp.Ordering.TheVariants.{Less, Equal, Greater}
 use Rattle.std.specs.FinMap.Entries.{by_order}
 use Rattle.alt_value.specs.Item.{with_pair}
@@ -62,3 +61,17 @@ pub names_put : {E : Type 0} (r : Result (Unit {0}) E) (w : List ℕ) (t : Tree)
     → OnOk r (new ≡ with_pair w t old) → OnOk r (are_names new ≡ true)
 names_put (Ok u) w t old new name names is = rw is (are_names-with_pair w t old name names)
 names_put (Err e) w t old new name names is = tt
+
+-- what holds of each value holds of the one at a place
+pub kept_at : (holds : Tree → Bool) (ps : List Pair) (i : ℕ) (p : Pair) → Some p ≡ slice_get ps i
+    → list_all (λ q. holds q.1) ps ≡ true → holds p.1 ≡ true
+kept_at holds [] zero p at all = absurd (cc)
+kept_at holds [] (suc i) p at all = absurd (cc)
+kept_at holds (q ∷ qs) zero p at all =
+    let same : p ≡ q = cc in rw same (and_first (holds q.1) _ all)
+kept_at holds (q ∷ qs) (suc i) p at all = kept_at holds qs i p at (and_second (holds q.1) _ all)
+
+-- each value may be kept where all may
+pub each_kept : (ps : List Pair) → list_all (λ (p : Pair). true) ps ≡ true
+each_kept [] = refl
+each_kept (p ∷ ps) = each_kept ps

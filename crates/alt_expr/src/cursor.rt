@@ -6,6 +6,7 @@ ghost use Rattle.alt_expr.specs.Reader as spec;
 
 use crate::fault::ExprFault;
 use crate::names::Names;
+use crate::shared::Shared;
 use crate::token::{Keyword, Mark, Token, same_keyword, same_mark};
 use alt_value::Text;
 use std::alloc::Global;
@@ -122,19 +123,19 @@ impl<'a> Cursor<'a> {
         found
     }
 
-    /// The name that the next token is or stands for.
+    /// The name that the next token is or stands for. A given one isn't copied.
     #[tactic(auto, unfolding(crate::specs::Reader::name))]
-    pub fn name(&mut self, alloc: Global, names: &Names) -> Result<Text, ExprFault>
+    pub fn name(&mut self, alloc: Global, names: &Names) -> Result<Shared<Text>, ExprFault>
         ensures { Reads (spec.name (given_names names.now) (left self.old)) result (left self.new) }
     {
         match self.peek() {
             Some(Token::Word(word)) => {
                 self.skip(1);
-                Ok(Text::new(alloc, word)?)
+                Ok(Shared::new(alloc, Text::new(alloc, word)?)?)
             }
             Some(Token::HashWord(word)) => {
                 self.skip(1);
-                Ok(Text::new(alloc, names.name(word))?)
+                Ok(names.shared(word)?)
             }
             _ => Err(ExprFault::Syntax),
         }

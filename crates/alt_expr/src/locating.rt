@@ -13,7 +13,7 @@ pub fn located<'a, V: AttrView>(path: &[PathPart], view: &'a V) -> Option<&'a At
         ≡ spec.located (V.attribute view.now) path.now }
 {
     match path {
-        [PathPart::Name(name), steps @ ..] => match view.attr(name.as_str()) {
+        [PathPart::Name(name), steps @ ..] => match view.attr(name.get().as_str()) {
             Some(value) => part(steps, value),
             None => None,
         },
@@ -42,7 +42,7 @@ pub fn stepped<'a>(step: &PathPart, value: &'a Attr) -> Option<&'a Attr>
 {
     match step {
         PathPart::Name(name) => match value {
-            Attr::M(map) => map.get(name.as_str()),
+            Attr::M(map) => map.get(name.get().as_str()),
             _ => None,
         },
         PathPart::Index(i) => match value {

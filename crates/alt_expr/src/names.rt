@@ -1,26 +1,27 @@
 //! The names that a request gives for the `#` words of its expressions.
 
-ghost use Rattle.std.specs.Prelude.{◌≡◌, ◌||◌, ◌<◌, [], ◌∷◌, List, false, true, not, length, map, option_map, slice_get, is_some, IfOk, OnOk, IfSome};
+ghost use Rattle.std.specs.Prelude.{◌≡◌, ◌||◌, ◌<◌, [], false, true, length, map, is_some, IfOk, OnOk, IfSome};
 ghost use Rattle.std.specs.Option.{option_map_or};
 ghost use Rattle.serde_json.specs.View.{view, members_view};
 ghost use Rattle.alt_value.specs.Stands.{tree_of};
 ghost use Rattle.alt_value.specs.Item.{at_name, with_pair};
-ghost use Rattle.alt_value.specs.Members.{text_order, has_member};
 ghost use Rattle.alt_expr.specs.Tokens.{tok_of};
 ghost use Rattle.alt_expr.specs.Given.{name_of, with_hashes, has_unused, are_names, is_name};
 ghost use Rattle.alt_expr.specs.NamesIn.{gives_names, names_in, name_in, gives_empty};
 
+use crate::shared::Shared;
 use crate::token::Token;
+use crate::word_values::WordValues;
 use alt_base::NoMemory;
 use alt_value::{Attr, Item, Text, TextSet};
 use serde_json::{Map, Value};
 use std::alloc::Global;
 
 /// Given names by word, and the words of the texts that were parsed with them. A word that doesn't begin with `#` may be given;
-/// no text has it.
+/// no text has it. Each name is there once, however many trees have it.
 #[derive(Drop)]
 pub struct Names {
-    given: Item,
+    given: WordValues<Text>,
     used: TextSet,
     /// The empty word is given, which no item holds and no text has.
     empty: bool,
@@ -47,7 +48,7 @@ impl Names {
             empty = put_names(alloc, &mut given, members)?;
         }
         Ok(Names {
-            given,
+            given: WordValues::of_item(alloc, &given)?,
             used: TextSet::new(alloc),
             empty,
         })
@@ -58,7 +59,7 @@ impl Names {
         ensures unused { result
             ≡ (is_empty_given self.now || has_unused (given_names self.now) (used_names self.now)) }
     {
-        self.empty || has_unused(&self.given, &self.used)
+        self.empty || self.given.has_unused(&self.used)
     }
 
     /// Whether a word is given.
@@ -70,14 +71,16 @@ impl Names {
         self.given.get(word).is_some()
     }
 
-    /// The name that a word stands for; the word itself where it isn't given.
-    pub fn name<'a>(&'a self, word: &'a str) -> &'a str
-        ensures name { result.now ≡ name_of (given_names self.now) word.now }
+    /// The name that a word stands for, without a copy; the word itself where it isn't given.
+    pub fn shared(&self, word: &str) -> Result<Shared<Text>, NoMemory>
+        ensures name { IfOk result (λ n. n ≡ name_of (given_names self.now) word.now) }
     {
         match self.given.get(word) {
-            Some(Attr::S(name)) => name.as_str(),
-            Some(_) => "",
-            None => word,
+            Some(name) => name.share(),
+            None => {
+                let alloc = self.given.alloc();
+                Shared::new(alloc, Text::new(alloc, word)?)
+            }
         }
     }
 
@@ -140,26 +143,4 @@ fn value_of(alloc: Global, name: &Value) -> Result<Attr, NoMemory>
         return Ok(Attr::Null);
     };
     Ok(Attr::S(Text::new(alloc, text)?))
-}
-
-/// Whether a given word isn't among the used ones.
-#[tactic(auto, using(crate::proofs::Words::unused_on))]
-fn has_unused(given: &Item, used: &TextSet) -> bool
-    ensures { result ≡ has_unused given.now used.now }
-{
-    for place in 0..given.len() {
-        if is_unused(given, place, used) {
-            return true;
-        }
-    }
-    false
-}
-
-fn is_unused(given: &Item, place: usize, used: &TextSet) -> bool
-    ensures { result ≡ option_map_or (λ p. not (has_member text_order p.0 used.now)) (slice_get given.now place) false }
-{
-    match given.at(place) {
-        Some((word, _)) => !used.contains(word),
-        None => false,
-    }
 }

@@ -61,7 +61,7 @@ impl PartialEq for PathPart {
 
     fn eq(&self, other: &PathPart) -> bool {
         match (self, other) {
-            (PathPart::Name(m), PathPart::Name(n)) => m.as_str() == n.as_str(),
+            (PathPart::Name(m), PathPart::Name(n)) => m.get().as_str() == n.get().as_str(),
             (PathPart::Index(i), PathPart::Index(j)) => i == j,
             _ => false,
         }
@@ -103,7 +103,7 @@ impl Ord for PathPart {
 
     fn cmp(&self, other: &PathPart) -> Ordering {
         match (self, other) {
-            (PathPart::Name(m), PathPart::Name(n)) => m.as_str().cmp(n.as_str()),
+            (PathPart::Name(m), PathPart::Name(n)) => m.get().as_str().cmp(n.get().as_str()),
             (PathPart::Index(i), PathPart::Index(j)) => i.cmp(j),
             (PathPart::Name(_), PathPart::Index(_)) => Ordering::Less,
             (PathPart::Index(_), PathPart::Name(_)) => Ordering::Greater,

@@ -1,12 +1,12 @@
 //! Paths to a part of an item.
 
-use crate::Items;
+use crate::{Items, Shared};
 use alt_value::Text;
 
 /// A step of a path: to a name in a map, or to an index in a list.
 #[derive(Drop)]
 pub enum PathPart {
-    Name(Text),
+    Name(Shared<Text>),
     Index(u32),
 }
 

@@ -25,8 +25,8 @@ pub enum Sum {
 pub enum Action {
     Set(Path, Sum),
     Remove(Path),
-    Add(Text, Shared<Attr>),
-    Delete(Text, Shared<Attr>),
+    Add(Shared<Text>, Shared<Attr>),
+    Delete(Shared<Text>, Shared<Attr>),
 }
 
 /// All actions in text order.

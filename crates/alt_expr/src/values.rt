@@ -1,8 +1,6 @@
 //! The values that a request gives for the `:` words of its expressions.
 
-ghost use Rattle.std.specs.Prelude.{◌≡◌, [], false, not, map, option_map, slice_get, IfOk, OnOk};
-ghost use Rattle.std.specs.Option.{option_map_or};
-ghost use Rattle.alt_value.specs.Members.{text_order, has_member};
+ghost use Rattle.std.specs.Prelude.{◌≡◌, [], map, option_map, IfOk, OnOk};
 ghost use Rattle.alt_value.specs.Stands.{tree_of};
 ghost use Rattle.alt_value.specs.Item.{at_name};
 ghost use Rattle.alt_expr.specs.Tokens.{tok_of};
@@ -19,7 +17,7 @@ use std::alloc::Global;
 /// no text has it. Each value is there once, however many trees have it.
 #[derive(Drop)]
 pub struct Values {
-    given: WordValues,
+    given: WordValues<Attr>,
     used: TextSet,
 }
 
@@ -41,7 +39,7 @@ impl Values {
     pub fn unused(&self) -> bool
         ensures unused { result ≡ has_unused (given_values self.now) (used_values self.now) }
     {
-        has_unused(&self.given, &self.used)
+        self.given.has_unused(&self.used)
     }
 
     /// The value that a word stands for.
@@ -84,27 +82,4 @@ fn shared(value: &Shared<Attr>) -> Result<Shared<Attr>, NoMemory>
     ensures { IfOk result (λ a. a ≡ attr_of (tree_of value.now)) }
 {
     value.share()
-}
-
-/// Whether a given word isn't among the used ones.
-#[tactic(auto, using(crate::proofs::Words::unused_on))]
-fn has_unused(given: &WordValues, used: &TextSet) -> bool
-    ensures { result ≡ has_unused given.now used.now }
-{
-    for place in 0..given.len() {
-        if is_unused(given, place, used) {
-            return true;
-        }
-    }
-    false
-}
-
-fn is_unused(given: &WordValues, place: usize, used: &TextSet) -> bool
-    ensures { result ≡ option_map_or (λ p. not (has_member text_order p.0 used.now))
-        (slice_get given.now place) false }
-{
-    match given.at(place) {
-        Some((word, _)) => !used.contains(word),
-        None => false,
-    }
 }

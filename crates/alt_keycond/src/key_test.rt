@@ -130,7 +130,7 @@ fn is_key(operand: &Operand, key: &KeyAttr) -> bool
 {
     match operand {
         Operand::At(path) => match path.as_slice() {
-            [PathPart::Name(name)] => name.as_str() == key.name.as_str(),
+            [PathPart::Name(name)] => name.get().as_str() == key.name.as_str(),
             _ => false,
         },
         _ => false,

@@ -18,7 +18,7 @@ pub fn by_name<'a>(
     let mut named = Vec::new(alloc);
     for way in ways {
         match *way {
-            [PathPart::Name(name), rest @ ..] => named.push((name.as_str(), rest))?,
+            [PathPart::Name(name), rest @ ..] => named.push((name.get().as_str(), rest))?,
             _ => {}
         }
     }

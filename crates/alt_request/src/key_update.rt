@@ -31,8 +31,8 @@ fn is_key_change(schema: &TableSchema, action: &Action) -> bool
     match action {
         Action::Set(path, _) => begins_with_key(schema, path.as_slice()),
         Action::Remove(path) => begins_with_key(schema, path.as_slice()),
-        Action::Add(name, _) => is_key(schema, name.as_str()),
-        Action::Delete(name, _) => is_key(schema, name.as_str()),
+        Action::Add(name, _) => is_key(schema, name.get().as_str()),
+        Action::Delete(name, _) => is_key(schema, name.get().as_str()),
     }
 }
 
@@ -40,7 +40,7 @@ fn begins_with_key(schema: &TableSchema, path: &[PathPart]) -> bool
     ensures { result ≡ machine.begins_with_key schema.now path.now }
 {
     match path {
-        [PathPart::Name(name), ..] => is_key(schema, name.as_str()),
+        [PathPart::Name(name), ..] => is_key(schema, name.get().as_str()),
         _ => false,
     }
 }

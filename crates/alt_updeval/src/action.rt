@@ -35,8 +35,8 @@ pub(crate) fn edit<'a, V: AttrView>(
     match action {
         Action::Set(path, sum) => set(alloc, path.as_slice(), sum, view),
         Action::Remove(path) => remove(path.as_slice(), view),
-        Action::Add(name, value) => add(name.as_str(), value.get(), view),
-        Action::Delete(name, value) => delete(name.as_str(), value.get(), view),
+        Action::Add(name, value) => add(name.get().as_str(), value.get(), view),
+        Action::Delete(name, value) => delete(name.get().as_str(), value.get(), view),
     }
 }
 
@@ -69,7 +69,7 @@ fn at<'a>(path: &'a [PathPart], value: Option<Made<'a>>) -> Edit<'a>
     ensures { shown_at result ≡ (path.now, option_map made_tree value.entry) }
 {
     match path {
-        [PathPart::Name(name), rest @ ..] => (name.as_str(), (rest, value)),
+        [PathPart::Name(name), rest @ ..] => (name.get().as_str(), (rest, value)),
         _ => unreachable!(),
     }
 }

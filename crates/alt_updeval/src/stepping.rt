@@ -24,7 +24,7 @@ pub(crate) fn by_name<'a>(
     let mut named = Vec::new(alloc);
     for way in ways {
         match way.0 {
-            [PathPart::Name(name), rest @ ..] => named.push((name.as_str(), (rest, way.1)))?,
+            [PathPart::Name(name), rest @ ..] => named.push((name.get().as_str(), (rest, way.1)))?,
             _ => {}
         }
     }
@@ -44,8 +44,8 @@ pub(crate) fn by_new_name<'a>(
     for way in ways {
         match way.0 {
             [PathPart::Name(name), rest @ ..] => {
-                if old.get(name.as_str()).is_none() {
-                    named.push((name.as_str(), (rest, way.1)))?;
+                if old.get(name.get().as_str()).is_none() {
+                    named.push((name.get().as_str(), (rest, way.1)))?;
                 }
             }
             _ => {}

@@ -5,7 +5,7 @@ ghost use Rattle.alt_expr.specs.UpdateLanguage.{target, targets_overlap as two_o
 ghost use Rattle.alt_expr.specs.declared.path.PathPart.TheVariants.{Name};
 
 use alt_base::NoMemory;
-use alt_expr::{Action, Items, Path, PathPart, Paths, some_overlap};
+use alt_expr::{Action, Items, Path, PathPart, Paths, Shared, some_overlap};
 use alt_value::Text;
 use std::alloc::Global;
 
@@ -19,7 +19,7 @@ pub(crate) fn targets_overlap(alloc: Global, actions: &[Action]) -> Result<bool,
     }
 }
 
-/// The paths that actions change, each a copy, since an addition has only a name.
+/// The paths that actions change, each of its own, since an addition has only a name. They share the names.
 pub fn targets(alloc: Global, actions: &[Action]) -> Result<Paths, NoMemory>
     ensures targets { IfOk result (λ paths. paths ≡ map target actions.now) }
 {
@@ -41,11 +41,11 @@ fn path_of(alloc: Global, action: &Action) -> Result<Path, NoMemory>
     }
 }
 
-fn named(alloc: Global, name: &Text) -> Result<Path, NoMemory>
+fn named(alloc: Global, name: &Shared<Text>) -> Result<Path, NoMemory>
     ensures { IfOk result (λ p. p ≡ Name name.now ∷ []) }
 {
     let mut path = Items::new(alloc);
-    path.push(PathPart::Name(name.copy()?))?;
+    path.push(PathPart::Name(name.share()?))?;
     Ok(path)
 }
 
@@ -63,7 +63,7 @@ fn copy_part(part: &PathPart) -> Result<PathPart, NoMemory>
     ensures { IfOk result (λ p. p ≡ part.now) }
 {
     match part {
-        PathPart::Name(name) => Ok(PathPart::Name(name.copy()?)),
+        PathPart::Name(name) => Ok(PathPart::Name(name.share()?)),
         PathPart::Index(i) => Ok(PathPart::Index(*i)),
     }
 }

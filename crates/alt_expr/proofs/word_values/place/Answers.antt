@@ -5,10 +5,10 @@ use Rattle.alt_expr.proofs.PlacesOfWords.{before_more, after_more, stands_here}
 use Rattle.alt_expr.proofs.word_values.place.Goals as goal
 
 pub loop-low-preserved-in-Less : goal.loop-low-preserved-in-Less
-loop-low-preserved-in-Less c = record {
+loop-low-preserved-in-Less g c = record {
   ordered = omega arith;
   within = c.loop-low.invariant.within;
-  before = before_more c.args.word.now c.args.entries.now.items _ c.index.result.now c.requires
+  before = before_more g.V.Kept.tree c.args.word.now c.args.entries.now.items _ c.index.result.now c.requires
       (omega arith) c.index.ensures
       (ap (λ s. text_order s c.args.word.now) (sym c.as_str.ensures.same) ∙ sym c.cmp.ensures
       ∙ c.in-Less.is);
@@ -16,17 +16,17 @@ loop-low-preserved-in-Less c = record {
 }
 
 pub returns-in-Equal : goal.returns-in-Equal
-returns-in-Equal c = stands_here c.args.word.now c.args.entries.now.items _ c.index.result.now
+returns-in-Equal g c = stands_here g.V.Kept.tree c.args.word.now c.args.entries.now.items _ c.index.result.now
     c.requires (omega arith) c.index.ensures
     (ap (λ s. text_order s c.args.word.now) (sym c.as_str.ensures.same) ∙ sym c.cmp.ensures
     ∙ c.in-Equal.is)
 
 pub loop-low-preserved : goal.loop-low-preserved
-loop-low-preserved c = record {
+loop-low-preserved g c = record {
   ordered = omega arith;
   within = omega arith;
   before = c.loop-low.invariant.before;
-  after = after_more c.args.word.now c.args.entries.now.items _ c.index.result.now c.requires
+  after = after_more g.V.Kept.tree c.args.word.now c.args.entries.now.items _ c.index.result.now c.requires
       (omega arith) c.index.ensures
       (ap (λ s. text_order s c.args.word.now) (sym c.as_str.ensures.same) ∙ sym c.cmp.ensures
       ∙ c.in-Greater.is);

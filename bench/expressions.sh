@@ -9,6 +9,12 @@ copy=$(mktemp -d)
 trap 'rm -rf "$copy"' EXIT
 crates="alt_base alt_decimal alt_fields alt_value alt_codec alt_expr alt_condparse alt_condeval alt_projection"
 git archive "${1:-HEAD}" $(printf 'crates/%s ' $crates) crates.txt | tar -x -C "$copy"
+# Libraries that are built here are taken where they were made from the same sources.
+for name in $crates; do
+  [ -d "crates/$name/out/rlib" ] || continue
+  mkdir -p "$copy/crates/$name/out"
+  cp -al "crates/$name/out/rlib" "$copy/crates/$name/out/" 2>/dev/null || cp -a "crates/$name/out/rlib" "$copy/crates/$name/out/"
+done
 grep -E "^($(echo "$crates" | tr ' ' '|')):" "$copy/crates.txt" >"$copy/listed"
 mv "$copy/listed" "$copy/crates.txt"
 (cd "$copy" && rt new crates/expression_rounds start_io >/dev/null)

@@ -2,7 +2,7 @@
 # What the gate costs: processor seconds of the prover by crate and step, of a run of `rt ci` from nothing.
 #
 #   bench/gate.sh            proves everything anew (the better part of an hour on four processors)
-#   bench/gate.sh NAME..     these crates and those below them, as `rt ci NAME..` does, without what is kept
+#   bench/gate.sh NAME..     these crates and those below them, with a kit whose `rt ci` takes names
 #
 # While the gate runs, each process of the prover is looked at four times a second, and its user and system time is
 # charged to its crate and step: proof, tests (the second check of a crate that has `#[test]` functions) or edits (the wrong bodies
@@ -58,7 +58,10 @@ def children(root):
 
 os.makedirs('bench/out', exist_ok=True)
 log = 'bench/out/gate.log'
-gate = subprocess.Popen(['rt', 'ci', '--anew', *sys.argv[1:]], stdout=open(log, 'w'), stderr=subprocess.STDOUT)
+# Some kits keep what a gate passed, unless they are told otherwise.
+knows = subprocess.run(['rt', '--help'], stdout=subprocess.PIPE, stderr=subprocess.STDOUT, text=True).stdout
+anew = ['--anew'] if '--anew' in knows else []
+gate = subprocess.Popen(['rt', 'ci', *anew, *sys.argv[1:]], stdout=open(log, 'w'), stderr=subprocess.STDOUT)
 spent, steps, began = {}, {}, time.time()
 while gate.poll() is None:
     for pid in children(gate.pid):

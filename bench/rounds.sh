@@ -12,10 +12,21 @@ trap 'rm -rf "$copy"' EXIT
 main=$copy/crates/rounds/src/main.rt
 program=$copy/crates/rounds/out/rounds
 
+# Libraries of these crates that are built here: rt takes those that were made from the same sources.
+kept() {
+  local name
+  for name in "$@"; do
+    [ -d "crates/$name/out/rlib" ] || continue
+    mkdir -p "$copy/crates/$name/out"
+    cp -al "crates/$name/out/rlib" "$copy/crates/$name/out/" 2>/dev/null || cp -a "crates/$name/out/rlib" "$copy/crates/$name/out/"
+  done
+}
+
 begin() {
   local commit=$1 libraries=$2 names
   shift 2
   git archive "$commit" "${@/#/crates/}" crates.txt | tar -x -C "$copy"
+  kept "$@"
   names=$(printf '%s|' "$@")
   grep -E "^(${names%|}):" "$copy/crates.txt" >"$copy/listed"
   mv "$copy/listed" "$copy/crates.txt"

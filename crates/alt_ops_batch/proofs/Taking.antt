@@ -11,7 +11,7 @@ use Rattle.alt_codec.specs.Writing.{json_of_pairs}
 use Rattle.alt_disk.specs.Disk.{DiskState}
 use Rattle.alt_machine.specs.declared.PlacedMember.{PlacedMember}
 use Rattle.alt_machine.specs.declared.TheConstants.{BATCH_BYTES}
-use Rattle.alt_machine.specs.Lists.{items_json}
+use Rattle.alt_shape.specs.Body.{items_json}
 use Rattle.alt_machine.specs.Ops.BatchGetItem.{Reads as Asked, Shown, found_at, keys_object, size_at, read_of, with_left, with_reads, nothing_read}
 use Rattle.alt_machine.specs.Ops.GetItem.{parts}
 use Rattle.alt_machine.specs.State.{State}

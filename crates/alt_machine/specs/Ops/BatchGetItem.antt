@@ -15,7 +15,8 @@ use Rattle.alt_machine.specs.declared.Sought.TheVariants.{Key}
 use Rattle.alt_machine.specs.declared.TheConstants.{MOST_KEYS, BATCH_BYTES}
 use Rattle.alt_machine.specs.Batches.{members_in, elements_of, tables_asked, of_each, each_found, is_sized, batch_refusals, of_catalog, placed, has_repeat}
 use Rattle.alt_machine.specs.Expressions.{projecting, given_at, names_member, expressions}
-use Rattle.alt_machine.specs.Lists.{is_given, items_json}
+use Rattle.alt_machine.specs.Lists.{is_given}
+use Rattle.alt_shape.specs.Body.{items_json}
 use Rattle.alt_machine.specs.Members.{unless_fault}
 use Rattle.alt_machine.specs.Ops.GetItem.{parts}
 use Rattle.alt_machine.specs.Outcomes.{Outcome, says, with_found}

@@ -14,6 +14,7 @@ use Rattle.alt_schema.specs.declared.schema.IndexSchema.{IndexSchema}
 use Rattle.alt_schema.specs.declared.schema.TableSchema.{TableSchema}
 use Rattle.alt_shape.specs.Body.{items_json, members_json, part_json}
 use Rattle.alt_shape.specs.declared.body.Member.{Member}
+use Rattle.alt_shape.specs.Refusals.{answered}
 use Rattle.alt_shape.proofs.Plain.{items_plain, no_float_either}
 use Rattle.alt_value.specs.Tree.{Pair}
 
@@ -25,6 +26,19 @@ pub members_behind : (xs ys : List Member)
 members_behind [] ys = refl
 members_behind (m ∷ xs) ys =
     ap (λ ms. member m.name.now (part_json m.value) ms) (members_behind xs ys)
+
+-- nothing behind others changes nothing
+pub nothing_behind : (ms : Members) → ms ≡ behind ms no_members
+nothing_behind no_members = refl
+nothing_behind (member name d ms) = ap (λ more. member name d more) (nothing_behind ms)
+
+-- where counts alone are wanted no items stand behind what is there
+pub none_behind : (ms there : Members) (items : List (List Pair))
+    → selects (codes "COUNT") ms ≡ true
+    → there ≡ behind there (member_if (codes "Items") (shown_items ms items) no_members)
+none_behind ms there items is = nothing_behind there
+    ∙ sym (ap (λ c. behind there (member_if (codes "Items")
+    (if c then None else Some (array (items_json items))) no_members)) is)
 
 -- Count, Items, LastEvaluatedKey and ScannedCount, as far as they are there, one behind another
 pub members_in_order : (count scanned : Data) (items last : Option Data)
@@ -38,6 +52,43 @@ members_in_order count scanned None None = refl
 members_in_order count scanned (Some i) None = refl
 members_in_order count scanned None (Some l) = refl
 members_in_order count scanned (Some i) (Some l) = refl
+
+-- so a page is answered by its members
+pub page_members : (d : TableSchema) (i : Option IndexSchema) (ms : Members) (page : Page)
+    (last : Option (List Pair)) (count scanned : ℕ) (items : List (List Pair))
+    (one two three four : Members)
+    → count ≡ page.count → scanned ≡ page.scanned → items ≡ page.items
+    → one ≡ member (codes "Count") (number (unsigned count)) no_members
+    → two ≡ behind one (member_if (codes "Items") (shown_items ms items) no_members)
+    → three ≡ behind two (member_if (codes "LastEvaluatedKey")
+    (option_map (λ row. json_of_pairs (key_attributes d i row)) last) no_members)
+    → four ≡ behind three (member (codes "ScannedCount") (number (unsigned scanned)) no_members)
+    → answered four ≡ page_answer d i ms page last
+page_members d i ms page last count scanned items one two three four
+    count_is scanned_is items_is first second third fourth =
+    ap answered (fourth ∙ (λ j. behind (third_is j)
+    (member (codes "ScannedCount") (number (unsigned (scanned_is j))) no_members))
+    ∙ members_in_order (number (unsigned page.count)) (number (unsigned page.scanned))
+    (shown_items ms page.items) key)
+  where
+    key : Option Data
+    key = option_map (λ row. json_of_pairs (key_attributes d i row)) last
+
+    first_is : one ≡ member (codes "Count") (number (unsigned page.count)) no_members
+    first_is = first
+        ∙ (λ j. member (codes "Count") (number (unsigned (count_is j))) no_members)
+
+    second_is : two ≡ behind (member (codes "Count") (number (unsigned page.count)) no_members)
+        (member_if (codes "Items") (shown_items ms page.items) no_members)
+    second_is = second ∙ (λ j. behind (first_is j)
+        (member_if (codes "Items") (shown_items ms (items_is j)) no_members))
+
+    third_is : three ≡ behind (behind
+        (member (codes "Count") (number (unsigned page.count)) no_members)
+        (member_if (codes "Items") (shown_items ms page.items) no_members))
+        (member_if (codes "LastEvaluatedKey") key no_members)
+    third_is = third
+        ∙ ap (λ x. behind x (member_if (codes "LastEvaluatedKey") key no_members)) second_is
 
 -- ---- no float stands in it
 

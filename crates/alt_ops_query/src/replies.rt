@@ -55,6 +55,7 @@ pub(crate) fn page_reply(
 }
 
 /// Puts a member behind those that are there.
+#[tactic(auto, using(crate::proofs::Shown::members_behind))]
 fn put(members: &mut Vec<Member>, name: &'static str, value: Part) -> Result<(), NoMemory>
     ensures put { OnOk result (members_json members.new.items
         ≡ behind (members_json members.old.items) (member name.now (part_json value) no_members)) }
@@ -80,6 +81,7 @@ fn put_items(
 }
 
 /// Puts the key of the last item that was examined, where there is one to go on from.
+#[tactic(auto, using(crate::proofs::Shown::nothing_behind))]
 fn put_last(
     alloc: Global,
     members: &mut Vec<Member>,
@@ -92,11 +94,13 @@ fn put_last(
         (option_map (λ i. json_of_pairs (machine.key_attributes schema.now
         (option_map (λ x. x.now) index.entry) i)) last.now) no_members)) }
 {
-    let Some(item) = last else {
-        return Ok(());
-    };
-    let key = key_attributes(alloc, schema, index, item)?;
-    put(members, "LastEvaluatedKey", Part::Item(key))
+    match last {
+        Some(item) => {
+            let key = key_attributes(alloc, schema, index, item)?;
+            put(members, "LastEvaluatedKey", Part::Item(key))
+        }
+        None => Ok(()),
+    }
 }
 
 /// The key attributes of an item, in an index those of both keys.

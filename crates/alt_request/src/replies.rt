@@ -34,6 +34,7 @@ pub fn one_member(alloc: Global, name: &str, value: Value) -> Result<Reply, NoMe
 }
 
 /// The reply with an item at a member.
+#[tactic(auto, using(alt_shape::proofs::Plain::members_plain))]
 pub fn item_member(alloc: Global, name: &'static str, item: Item) -> Result<Reply, NoMemory>
     ensures reply { IfOk result (λ reply. answer_of reply
         ≡ answers name.now (json_of_pairs item)) }

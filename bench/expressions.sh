@@ -18,7 +18,7 @@ done
 grep -E "^($(echo "$crates" | tr ' ' '|')):" "$copy/crates.txt" >"$copy/listed"
 mv "$copy/listed" "$copy/crates.txt"
 (cd "$copy" && rt new crates/expression_rounds start_io >/dev/null)
-rm -rf "$copy"/crates/expression_rounds/{src,stdin,stdout}
+rm -rf "$copy"/crates/expression_rounds/{src,stdin,stdout,BUILD.bazel} "$copy"/{BUILD,MODULE}.bazel
 mkdir "$copy/crates/expression_rounds/src"
 echo 'expression_rounds: alt_codec alt_condeval alt_condparse alt_expr alt_projection alt_value serde_json' >>"$copy/crates.txt"
 cat >"$copy/crates/expression_rounds/src/main.rt" <<'RATTLE'

@@ -31,7 +31,7 @@ begin() {
   grep -E "^(${names%|}):" "$copy/crates.txt" >"$copy/listed"
   mv "$copy/listed" "$copy/crates.txt"
   (cd "$copy" && rt new crates/rounds start_io >/dev/null)
-  rm -rf "$copy"/crates/rounds/{src,stdin,stdout,proofs,specs}
+  rm -rf "$copy"/crates/rounds/{src,stdin,stdout,proofs,specs,BUILD.bazel} "$copy"/{BUILD,MODULE}.bazel
   mkdir "$copy/crates/rounds/src"
   echo "rounds: $libraries" >>"$copy/crates.txt"
 }

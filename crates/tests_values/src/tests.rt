@@ -1,5 +1,5 @@
 mod decimals;
 mod fields;
-mod json;
+mod json_forms;
 mod sets;
 mod values;

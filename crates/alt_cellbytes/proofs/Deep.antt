@@ -1,31 +1,16 @@
 -- What stands in a list or an item is no deeper than it.
-use Rattle.std.proofs.Common.{◌≡◌, ℕ, zero, suc, ◌≤◌, List, [], ◌∷◌, ◌++◌, Some, arith, ap}
+use Rattle.std.proofs.Common.{◌≡◌, ℕ, suc, ◌≤◌, List, [], ◌∷◌, ◌++◌, arith, ap}
 use Rattle.std.specs.List.{AllByRecursion}
-use Rattle.std.specs.Prelude.{slice_get}
 use Rattle.alt_value.specs.Size.{depth, elements_depth, fields_depth}
 use Rattle.alt_value.specs.Tree.{Tree, Pair, trees_of, fields_of, L_tree, M_tree}
 
--- an element is no deeper than its list
-pub element_depth : (ts : List Tree) (i : ℕ) (t : Tree) → Some t ≡ slice_get ts i
-    → depth t ≤ elements_depth (trees_of ts)
-element_depth [] i t e = absurd (let f : ⊥ = cc in f)
-element_depth (u ∷ ts) zero t e = let f : t ≡ u = cc in omega (arith, ap depth f)
-element_depth (u ∷ ts) (suc i) t e = omega (arith, element_depth ts i t e)
-
--- nor a value than its map
-pub value_depth : (ps : List Pair) (i : ℕ) (p : Pair) → Some p ≡ slice_get ps i
-    → depth p.1 ≤ fields_depth (fields_of ps)
-value_depth [] i p e = absurd (let f : ⊥ = cc in f)
-value_depth (q ∷ ps) zero p e = let f : p ≡ q = cc in omega (arith, ap (λ (r : Pair). depth r.1) f)
-value_depth (q ∷ ps) (suc i) p e = omega (arith, value_depth ps i p e)
-
--- the same of an element or an entry behind others
+-- an element behind others is no deeper than its list
 within_list : (ts : List Tree) (u : Tree) (us : List Tree)
     → depth u ≤ elements_depth (trees_of (ts ++ u ∷ us))
 within_list [] u us = omega arith
 within_list (t ∷ ts) u us = omega (arith, within_list ts u us)
 
--- and of an entry behind others
+-- nor an entry than its map
 within_map : (ps : List Pair) (q : Pair) (qs : List Pair)
     → depth q.1 ≤ fields_depth (fields_of (ps ++ q ∷ qs))
 within_map [] q qs = omega arith

@@ -34,6 +34,7 @@ use Rattle.alt_value.specs.Item.{IsItem, with_pair}
 use Rattle.alt_value.specs.Members.{text_order}
 use Rattle.alt_value.specs.Size.{depth, fields_depth}
 use Rattle.alt_value.specs.Tree.{Pair, fields_of}
+use Rattle.alt_value.proofs.Depths.{value_depth}
 use Rattle.alt_value.proofs.Places.{first, second}
 
 -- ---- the key
@@ -81,13 +82,6 @@ part_named ps i p item e = below_get ps i p item.1 e
 
 -- ---- depth
 
--- a value is no deeper than its item
-pub value_depth : (ps : List Pair) (i : ℕ) (p : Pair) → slice_get ps i ≡ Some p
-    → depth p.1 ≤ fields_depth (fields_of ps)
-value_depth [] i p e = absurd (let f : ⊥ = cc in f)
-value_depth (q ∷ ps) zero p e = omega (arith, ap (λ (r : Pair). depth r.1) (same_pair q p e))
-value_depth (q ∷ ps) (suc i) p e = omega (arith, value_depth ps i p e)
-
 -- the attributes so far, and one more
 pub depth-take : (ps : List Pair) (i n : ℕ) (p : Pair) → slice_get ps i ≡ Some p → depth p.1 ≤ n
     → fields_depth (fields_of (take i ps)) ≤ n → fields_depth (fields_of (take (suc i) ps)) ≤ n
@@ -131,7 +125,7 @@ too_deep ps i steep = by (slice_get ps i) refl
     by (Some p) e =
         let high : deepest < depth p.1 =
         leb-false (depth p.1) deepest (sym (ap is_flat e) ∙ steep) in
-        let low : depth p.1 ≤ fields_depth (fields_of ps) = value_depth ps i p e in
+        let low : depth p.1 ≤ fields_depth (fields_of ps) = value_depth ps i p (sym e) in
         lt-leb (fields_depth (fields_of ps)) deepest (omega (arith, high, low))
 
 -- ---- what is left

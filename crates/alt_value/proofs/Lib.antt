@@ -8,3 +8,4 @@ pub mod Pointwise
 pub mod Gathered
 pub mod Merged
 pub mod Values
+pub mod Depths

@@ -4,7 +4,7 @@ use Rattle.alt_fields.specs.Field.{field}
 use Rattle.alt_value.specs.CellBytes.{cell_bytes}
 use Rattle.alt_value.specs.Stands.{tree_of}
 use Rattle.alt_cellbytes.specs.Places.{entry_bytes}
-use Rattle.alt_cellbytes.proofs.Deep.{element_depth, value_depth}
+use Rattle.alt_value.proofs.Depths.{element_depth, value_depth}
 use Rattle.alt_base.proofs.Prefixes.{prefix_trans, on_err_holds}
 use Rattle.alt_cellbytes.proofs.OneMore.{wrote_more, wrote_whole, wrote_entry, begins}
 use Rattle.alt_cellbytes.proofs.Wholes.{put_list, put_map}

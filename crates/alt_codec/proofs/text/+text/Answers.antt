@@ -3,7 +3,7 @@ use Rattle.std.proofs.Common.{◌∙◌, arith}
 use Rattle.std.proofs.lemmas.Result.{on_ok_weaker}
 use Rattle.alt_value.specs.Stands.{tree_of}
 use Rattle.alt_codec.specs.Writing.{json_of}
-use Rattle.alt_codec.proofs.Deep.{element_depth, value_depth}
+use Rattle.alt_value.proofs.Depths.{element_depth, value_depth}
 use Rattle.alt_codec.proofs.Written.{past_end}
 use Rattle.alt_codec.proofs.Tokens.{element_more, array_whole, trees_tokens, pair_more, object_whole}
 use Rattle.alt_codec.proofs.text.+text.Goals as goal

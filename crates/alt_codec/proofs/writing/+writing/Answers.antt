@@ -5,7 +5,7 @@ use Rattle.serde_json.specs.View.{view, members_view}
 use Rattle.alt_value.specs.Stands.{tree_of}
 use Rattle.alt_value.specs.declared.attr.Attr.TheVariants.{Bs, L}
 use Rattle.alt_codec.specs.Writing.{json_of}
-use Rattle.alt_codec.proofs.Deep.{element_depth, value_depth}
+use Rattle.alt_value.proofs.Depths.{element_depth, value_depth}
 use Rattle.alt_codec.specs.Returning.{Returns}
 use Rattle.alt_codec.proofs.ReadBack.{list_returns, item_returns, each_more, each_whole, when_ok}
 use Rattle.alt_codec.proofs.Written.{written_more, written_whole, past_end, items_of-trees, put_more, put_whole}

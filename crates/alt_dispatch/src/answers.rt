@@ -7,10 +7,11 @@ ghost use Rattle.serde_json.specs.View.{members_view};
 ghost use Rattle.serde_json.specs.Written.{has_float};
 ghost use Rattle.alt_base.specs.Counts.{Rose};
 ghost use Rattle.alt_disk.specs.Disk.{Goes};
+ghost use Rattle.alt_machine.specs.Members.{body_of};
 ghost use Rattle.alt_machine.specs.Operations.{named_in, operation_named};
 ghost use Rattle.alt_machine.specs.Outcomes.{last_state};
 ghost use Rattle.alt_machine.specs.State.{State};
-ghost use Rattle.alt_machine.specs.Step.{step, operates};
+ghost use Rattle.alt_machine.specs.Step.{step, operates, with_body};
 ghost use Rattle.alt_machine.specs.Valid.{IsValid};
 ghost use Rattle.alt_dispatch.specs.Settled.{Settles, Tells};
 ghost use Rattle.alt_request.specs.Carried.{Carries, IsPlain, Moves};
@@ -22,10 +23,10 @@ use crate::bodies;
 use alt_disk::Disk;
 use alt_machine::Operation;
 use alt_ops_batch::{batch_get_item, batch_write_item};
-use alt_ops_item::{delete_item, get_item, put_item, update_item};
+use alt_ops_item::{delete_item, get_item, put_item, put_item_ahead, update_item};
 use alt_ops_query::{query, scan};
 use alt_ops_table::{create_table, delete_table, describe_table, list_tables};
-use alt_request::Stop;
+use alt_request::{ReadAhead, Stop, read_ahead};
 use alt_shape::{Refusal, Reply, refuse};
 use alt_streams::{describe_stream, get_records, get_shard_iterator, list_streams};
 use alt_tables::{TableFault, Tables};
@@ -134,9 +135,51 @@ fn respond<D: Disk>(
     ensures moves { Moves (λ s. step s operation body.now moment)
         (Stands (D.state disk.old) tables.old) (D.state disk.old) (D.state disk.new) result }
 {
-    let Some(operation) = operation else {
-        return Err(Stop::Refused(Refusal::UNKNOWN_OPERATION));
-    };
+    match operation {
+        Some(Operation::PutItem) => respond_to_put(alloc, tables, disk, body, moment),
+        Some(operation) => respond_to(alloc, tables, disk, operation, body, moment),
+        None => Err(Stop::Refused(Refusal::UNKNOWN_OPERATION)),
+    }
+}
+
+/// A put, whose item is read straight from the text of its body where that can be.
+fn respond_to_put<D: Disk>(
+    alloc: Global,
+    tables: &mut Tables,
+    disk: &mut D,
+    body: &[u8],
+    moment: u64,
+) -> Result<Reply, Stop>
+    requires ready { AreReady (D.state disk.old) tables.old }
+    ensures carried { Carries (λ s. with_body s Operation.PutItem moment (body_of body.now))
+        (Stands (D.state disk.old) tables.old) (Stands (D.state disk.new) tables.new) result }
+    ensures moves { Moves (λ s. with_body s Operation.PutItem moment (body_of body.now))
+        (Stands (D.state disk.old) tables.old) (D.state disk.old) (D.state disk.new) result }
+{
+    match read_ahead(alloc, body) {
+        Ok(Some(ReadAhead { members, item })) => {
+            put_item_ahead(alloc, tables, disk, &members, item, moment)
+        }
+        Ok(None) => respond_to(alloc, tables, disk, Operation::PutItem, body, moment),
+        Err(_) => Err(Stop::Fault(TableFault::NoMemory)),
+    }
+}
+
+/// An operation whose body is read to a JSON tree.
+fn respond_to<D: Disk>(
+    alloc: Global,
+    tables: &mut Tables,
+    disk: &mut D,
+    operation: Operation,
+    body: &[u8],
+    moment: u64,
+) -> Result<Reply, Stop>
+    requires ready { AreReady (D.state disk.old) tables.old }
+    ensures carried { Carries (λ s. with_body s operation moment (body_of body.now))
+        (Stands (D.state disk.old) tables.old) (Stands (D.state disk.new) tables.new) result }
+    ensures moves { Moves (λ s. with_body s operation moment (body_of body.now))
+        (Stands (D.state disk.old) tables.old) (D.state disk.old) (D.state disk.new) result }
+{
     match bodies::body_of(alloc, body) {
         Ok(Some(members)) => carry_out(alloc, tables, disk, operation, &members, moment),
         Ok(None) => Err(Stop::Refused(Refusal::UNREADABLE)),

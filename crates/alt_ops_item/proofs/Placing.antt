@@ -1,5 +1,5 @@
 -- What a write that may be conditional comes to, once it is known what was found at its place.
-use Rattle.std.proofs.Common.{◌≡◌, refl, sym, ap, subst, ◌∙◌, ℕ, Bool, true, false, List, Option, Some, Ok, Err}
+use Rattle.std.proofs.Common.{◌≡◌, sym, ap, subst, ◌∙◌, ℕ, Bool, true, false, List, Option, Some, Ok, Err}
 use Rattle.std.specs.Prelude.{Result, codes, if◌then◌else◌}
 use Rattle.std.specs.FinMap as map
 use Rattle.serde_json.specs.Data.{Members}
@@ -17,25 +17,14 @@ use Rattle.alt_request.specs.declared.stop.Stop.TheVariants.{Fault}
 use Rattle.alt_request.proofs.Carrying.{does_say}
 use Rattle.alt_shape.specs.Refusals.{answer_of}
 use Rattle.alt_shape.specs.declared.refusal.Reply.{Reply}
-use Rattle.alt_tables.proofs.Making.{none_made}
-use Rattle.alt_tables.specs.Faults.{AreMade, BreakOff, IsFindFault}
+use Rattle.alt_tables.specs.Faults.{AreMade, BreakOff}
 use Rattle.alt_tables.specs.declared.faults.TableFault.{TableFault}
-use Rattle.alt_tables.specs.declared.faults.TableFault.TheVariants.{Spent, Damaged, BadRow, Failed, NoMemory}
 use Rattle.alt_tables.specs.Images.{Leaves}
 use Rattle.alt_value.specs.Tree.{Pair}
 
 -- values that are equal as options are equal
 pub same_Some : {A : Type 0} (x y : A) → Some x ≡ Some y → x ≡ y
 same_Some x y e = cc
-
--- a fault before anything was written
-pub unread : (now : State → Type 0) (s : State) (outcome : Outcome) (f : TableFault)
-    → IsFindFault f → now s → Does now s outcome (Err (Fault f))
-unread now s outcome (Spent n) known stands = absurd known
-unread now s outcome (Damaged file at) known stands = absurd known
-unread now s outcome (BadRow family key) known stands = absurd known
-unread now s outcome Failed known stands = tt
-unread now s outcome NoMemory known stands = (0, none_made outcome.atoms, refl, stands)
 
 module _ (condition : Option Cond) (s : State) (moment : ℕ) (ms : Members) (t : Table)
     (place : List ℕ) (new : Option (List Pair)) where

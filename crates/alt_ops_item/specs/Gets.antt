@@ -1,13 +1,11 @@
--- What is answered of the item at a place.
-use Rattle.std.specs.Prelude.{ℕ, List, Option, option_map, codes}
-use Rattle.std.specs.FinMap as map
-use Rattle.alt_expr.specs.declared.path.PathPart.{PathPart}
+-- What a GetItem answers of what stands at its key.
+use Rattle.std.specs.Prelude.{List, Option, option_map, codes}
+use Rattle.alt_machine.specs.declared.Expressions.{Expressions}
 use Rattle.alt_machine.specs.Ops.GetItem.{parts}
-use Rattle.alt_machine.specs.Outcomes.{Outcome, says}
 use Rattle.alt_machine.specs.Replies.{item_answer}
-use Rattle.alt_machine.specs.State.{Table}
+use Rattle.alt_shape.specs.Refusals.{Answer}
+use Rattle.alt_value.specs.Tree.{Pair}
 
--- the parts that paths choose of the item at a place, if one is there, or all of it where there are no paths
-abbrev pub shows : Option (List (List PathPart)) → Table → List ℕ → Outcome
-shows paths t place =
-    says (item_answer (codes "Item") (option_map (parts paths) (map.get t.items place)))
+-- the parts that the projection chooses of the item, if one is there
+abbrev pub shown : Expressions → Option (List Pair) → Answer
+shown said item = item_answer (codes "Item") (option_map (parts said.projection) item)

@@ -1,23 +1,17 @@
 //! GetItem.
 
-ghost use Rattle.std.specs.Prelude.{◌≡◌, true, Some};
-ghost use Rattle.std.specs.FinMap as map;
 ghost use Rattle.serde_json.specs.View.{members_view};
-ghost use Rattle.alt_machine.specs.Members.{table_name};
 ghost use Rattle.alt_machine.specs.Ops.GetItem.{get_item};
-ghost use Rattle.alt_machine.specs.State.{State, Table};
-ghost use Rattle.alt_ops_item.specs.Gets.{shows};
-ghost use Rattle.alt_request.specs.Carried.{Carries, Does, IsPlain, Moves};
-ghost use Rattle.alt_tables.specs.Stands.{AreReady, Stands, catalog_of};
+ghost use Rattle.alt_request.specs.Carried.{Carries, Moves};
+ghost use Rattle.alt_tables.specs.Stands.{AreReady, Stands};
 
 use crate::items::parts_reply;
 use alt_disk::Disk;
-use alt_expr::Paths;
-use alt_fields::Bytes;
-use alt_machine::Sought;
-use alt_request::{Rules, Stop, Target, Texts, item_target, table_name};
-use alt_shape::{Reply, bodies};
+use alt_machine::Expressions;
+use alt_request::{ItemRead, Rules, Stop, Texts, read_item};
+use alt_shape::{Broken, Reply, bodies};
 use alt_tables::Tables;
+use alt_value::Item;
 use serde_json::{Map, Value};
 use std::alloc::Global;
 
@@ -27,7 +21,42 @@ static RULES: Rules = Rules {
     named: &["TableName"],
 };
 
+/// The item that is there, or what a projection chooses of it.
+struct Shown;
+
+impl ItemRead for Shown {
+    ghost use Rattle.alt_machine.specs.Expressions.{projecting};
+    ghost use Rattle.alt_machine.specs.Ops.GetItem.{rules};
+    ghost use Rattle.alt_ops_item.specs.Gets.{shown};
+    ghost use Rattle.alt_shape.specs.Bodies as bodies;
+
+    ghost shape = { bodies.get_item };
+
+    ghost rules = { rules };
+
+    ghost texts = { projecting };
+
+    ghost answer = { shown };
+
+    fn broken(&self, body: &Map<String, Value>) -> Option<Broken> {
+        bodies::get_item(body)
+    }
+
+    fn rules(&self) -> &'static Rules {
+        &RULES
+    }
+
+    fn texts(&self) -> Texts {
+        Texts::PROJECTING
+    }
+
+    fn reply(&self, alloc: Global, said: &Expressions, item: Option<Item>) -> Result<Reply, Stop> {
+        parts_reply(alloc, "Item", &said.projection, item)
+    }
+}
+
 /// Answers the item of a key, or what a projection chooses of it (API Reference, "GetItem"). The refusals are those of docs/API.md.
+#[tactic(auto, unfolding(alt_machine::specs::Ops::GetItem::get_item))]
 pub fn get_item<D: Disk>(
     alloc: Global,
     tables: &mut Tables,
@@ -42,48 +71,5 @@ pub fn get_item<D: Disk>(
         (Stands (D.state disk.old) tables.old) (D.state disk.old) (D.state disk.new) result }
 {
     let _ = moment;
-    let broken = bodies::get_item(body);
-    let target = item_target(
-        alloc,
-        tables,
-        body,
-        broken,
-        &RULES,
-        Sought::Key,
-        &Texts::PROJECTING,
-    )?;
-    let Target {
-        item: _key,
-        place,
-        said,
-        ..
-    } = target;
-    let shown = parts_at(alloc, tables, disk, body, &said.projection, place);
-    drop(said);
-    shown
-}
-
-/// The parts that paths choose of the item at a place in the table that a body names.
-fn parts_at<D: Disk>(
-    alloc: Global,
-    tables: &mut Tables,
-    disk: &mut D,
-    body: &Map<String, Value>,
-    paths: &Option<Paths>,
-    place: Bytes,
-) -> Result<Reply, Stop>
-    requires ready { AreReady (D.state disk.old) tables.old }
-    requires there { map.contains_key (catalog_of tables.old)
-        (table_name (members_view body.now.entries)) ≡ true }
-    ensures does { (s : State) (t : Table) → Stands (D.state disk.old) tables.old s
-        → map.get s.tables (table_name (members_view body.now.entries)) ≡ Some t
-        → Does (Stands (D.state disk.new) tables.new) s (shows paths.now t place) result }
-    ensures plain { IsPlain result }
-    ensures moves { (t : Table) → Moves (λ s. shows paths.now t place)
-        (λ s. Stands (D.state disk.old) tables.old s
-        × (map.get s.tables (table_name (members_view body.now.entries)) ≡ Some t))
-        (D.state disk.old) (D.state disk.new) result }
-{
-    let found = tables.find(disk, table_name(body), place)?;
-    parts_reply(alloc, "Item", paths, found.item)
+    read_item(alloc, &Shown, tables, disk, body)
 }

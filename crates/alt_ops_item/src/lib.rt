@@ -13,5 +13,5 @@ mod update;
 
 pub use delete::delete_item;
 pub use get::get_item;
-pub use put::put_item;
+pub use put::{put_item, put_item_ahead};
 pub use update::update_item;

@@ -1,17 +1,19 @@
 //! PutItem.
 
 ghost use Rattle.std.specs.Prelude.{◌≡◌};
+ghost use Rattle.serde_json.specs.Data.{Members};
 ghost use Rattle.serde_json.specs.View.{members_view};
 ghost use Rattle.alt_machine.specs.Ops.PutItem.{put_item};
 ghost use Rattle.alt_request.specs.Carried.{Carries, Moves};
+ghost use Rattle.alt_request.specs.Direct.{IsGiven, IsReadAhead};
 ghost use Rattle.alt_tables.specs.Stands.{AreReady, Stands};
 
 use crate::conditional::write_if;
 use alt_disk::Disk;
-use alt_machine::Sought;
-use alt_request::{Rules, Stop, Target, Texts, item_refusal, item_target};
+use alt_request::{Rules, Stop, Target, item_refusal, put_target};
 use alt_shape::{Reply, bodies};
 use alt_tables::Tables;
+use alt_value::Item;
 use serde_json::{Map, Value};
 use std::alloc::Global;
 
@@ -37,16 +39,49 @@ pub fn put_item<D: Disk>(
     ensures moves { Moves (λ s. put_item s moment (members_view body.now.entries))
         (Stands (D.state disk.old) tables.old) (D.state disk.old) (D.state disk.new) result }
 {
+    put_given(alloc, tables, disk, body, None, moment)
+}
+
+/// The same, of a request whose item was read ahead: the body has an empty object in its place.
+pub fn put_item_ahead<D: Disk>(
+    alloc: Global,
+    tables: &mut Tables,
+    disk: &mut D,
+    body: &Map<String, Value>,
+    item: Item,
+    moment: u64,
+) -> Result<Reply, Stop>
+    requires ready { AreReady (D.state disk.old) tables.old }
+    requires read { (ms : Members) × IsReadAhead ms (members_view body.now.entries) item }
+    ensures carried { (ms : Members) → IsReadAhead ms (members_view body.now.entries) item
+        → Carries (λ s. put_item s moment ms)
+        (Stands (D.state disk.old) tables.old) (Stands (D.state disk.new) tables.new) result }
+    ensures moves { (ms : Members) → IsReadAhead ms (members_view body.now.entries) item
+        → Moves (λ s. put_item s moment ms)
+        (Stands (D.state disk.old) tables.old) (D.state disk.old) (D.state disk.new) result }
+{
+    put_given(alloc, tables, disk, body, Some(item), moment)
+}
+
+fn put_given<D: Disk>(
+    alloc: Global,
+    tables: &mut Tables,
+    disk: &mut D,
+    body: &Map<String, Value>,
+    ahead: Option<Item>,
+    moment: u64,
+) -> Result<Reply, Stop>
+    requires ready { AreReady (D.state disk.old) tables.old }
+    requires given { (ms : Members) × IsGiven ms (members_view body.now.entries) ahead }
+    ensures carried { (ms : Members) → IsGiven ms (members_view body.now.entries) ahead
+        → Carries (λ s. put_item s moment ms)
+        (Stands (D.state disk.old) tables.old) (Stands (D.state disk.new) tables.new) result }
+    ensures moves { (ms : Members) → IsGiven ms (members_view body.now.entries) ahead
+        → Moves (λ s. put_item s moment ms)
+        (Stands (D.state disk.old) tables.old) (D.state disk.old) (D.state disk.new) result }
+{
     let broken = bodies::put_item(body);
-    let target = item_target(
-        alloc,
-        tables,
-        body,
-        broken,
-        &RULES,
-        Sought::Item,
-        &Texts::CONDITIONAL,
-    )?;
+    let target = put_target(alloc, tables, body, broken, &RULES, ahead)?;
     match item_refusal(target.schema, &target.item) {
         Ok(()) => {}
         Err(stop) => {

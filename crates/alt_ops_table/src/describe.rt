@@ -8,8 +8,9 @@ ghost use Rattle.alt_tables.specs.Stands.{Stands};
 
 use crate::replies::described;
 use alt_disk::Disk;
-use alt_request::{Rules, Stop, table_target};
-use alt_shape::{Reply, bodies};
+use alt_request::{Rules, Stop, TableRead, read_table};
+use alt_schema::TableSchema;
+use alt_shape::{Broken, Reply, bodies};
 use alt_tables::Tables;
 use serde_json::{Map, Value};
 use std::alloc::Global;
@@ -20,7 +21,34 @@ static RULES: Rules = Rules {
     named: &["TableName"],
 };
 
+/// The description of a table.
+struct Described;
+
+impl TableRead for Described {
+    ghost use Rattle.alt_machine.specs.Ops.DescribeTable.{rules, described};
+    ghost use Rattle.alt_shape.specs.Bodies as bodies;
+
+    ghost shape = { bodies.describe_table };
+
+    ghost rules = { rules };
+
+    ghost answer = { described };
+
+    fn broken(&self, body: &Map<String, Value>) -> Option<Broken> {
+        bodies::describe_table(body)
+    }
+
+    fn rules(&self) -> &'static Rules {
+        &RULES
+    }
+
+    fn reply(&self, alloc: Global, schema: &TableSchema) -> Result<Reply, Stop> {
+        described(alloc, "Table", schema, "ACTIVE")
+    }
+}
+
 /// Answers a table's description (API Reference, "DescribeTable"). The refusals are those of docs/API.md.
+#[tactic(auto, unfolding(alt_machine::specs::Ops::DescribeTable::describe_table))]
 pub fn describe_table<D: Disk>(
     alloc: Global,
     tables: &mut Tables,
@@ -34,8 +62,6 @@ pub fn describe_table<D: Disk>(
         (Stands (D.state disk.old) tables.old) (D.state disk.old) (D.state disk.new) result }
     ensures disk { D.state disk.new ≡ D.state disk.old }
 {
-    let _ = disk;
     let _ = moment;
-    let schema = table_target(tables, body, bodies::describe_table(body), &RULES)?;
-    described(alloc, "Table", schema, "ACTIVE")
+    read_table(alloc, &Described, tables, disk, body)
 }

@@ -46,6 +46,27 @@ does_say now answer s (Err (Refused q)) h stands = record {
 does_say now answer s (Err (Fault f)) h stands =
     subst (λ g. Does now s (says answer) (Err (Fault g))) (sym h) (0, none_made [], refl, stands)
 
+-- a fault before anything was written
+pub unread : (now : State → Type 0) (s : State) (outcome : Outcome) (f : TableFault)
+    → IsFindFault f → now s → Does now s outcome (Err (Fault f))
+unread now s outcome (Spent n) known stands = absurd known
+unread now s outcome (Damaged file at) known stands = absurd known
+unread now s outcome (BadRow family key) known stands = absurd known
+unread now s outcome Failed known stands = tt
+unread now s outcome NoMemory known stands = (0, none_made outcome.atoms, refl, stands)
+
+-- a reply with an answer, or want of memory for it, says that answer
+pub says_so : (a : Answer) (r : Result Reply Stop) → IfOk r (λ reply. answer_of reply ≡ a)
+    → IfOk r (λ reply. has_float (body_json reply.body) ≡ false) → IfErr r IsMemory → Says a r
+says_so a (Ok reply) told plain cause = (told, plain)
+says_so a (Err stop) told plain cause = subst (λ e. Says a (Err e)) (sym cause) refl
+
+-- and is plain
+pub plain_so : (r : Result Reply Stop) → IfOk r (λ reply. has_float (body_json reply.body) ≡ false)
+    → IfErr r IsMemory → IsPlain r
+plain_so (Ok reply) plain cause = plain
+plain_so (Err stop) plain cause = subst (λ e. IsPlain (Err e)) (sym cause) tt
+
 module _ (outcome : State → Outcome) (old now : State → Type 0) where
   -- a refusal, which leaves the state
   pub refused_so : (r : Refusal) → IsKnown r → ((s : State) → old s → outcome s ≡ refuses r)

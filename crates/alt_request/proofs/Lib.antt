@@ -1,6 +1,7 @@
 pub mod Asked
 pub mod Carrying
 pub mod Founds
+pub mod Given
 pub mod Listing
 pub mod Named
 pub mod Plain
@@ -9,3 +10,10 @@ pub mod Said
 pub mod Walks
 pub mod Moving
 pub mod Stated
+pub mod BesideItem
+pub mod Putting
+pub mod Converted
+pub mod Loops
+pub mod Payloads
+pub mod SoFar
+pub mod Turns

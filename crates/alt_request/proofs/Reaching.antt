@@ -1,5 +1,5 @@
 -- Whether a table, or an item and its place, is reached: the machine stops at the same step.
-use Rattle.std.proofs.Common.{◌≡◌, refl, sym, ap, ◌∙◌, ℕ, Bool, true, false, List, [], ◌∷◌, Option, Some, None, Result, Ok, Err, Bor}
+use Rattle.std.proofs.Common.{◌≡◌, refl, sym, ap, subst, ◌∙◌, ℕ, Bool, true, false, List, [], ◌∷◌, Option, Some, None, Result, Ok, Err, Bor}
 use Rattle.std.specs.Result.{IsErr, IsErrAnd}
 use Rattle.std.specs.FinMap as map
 use Rattle.serde_json.specs.Data.{Members}
@@ -19,6 +19,7 @@ use Rattle.alt_request.specs.Targets.{OnTable, OnItem, place_that_fits}
 use Rattle.alt_request.specs.Words.{given_of}
 use Rattle.alt_request.specs.declared.expressions.Given.{Given}
 use Rattle.alt_request.specs.declared.stop.Stop.{Stop}
+use Rattle.alt_request.specs.declared.targets.Target.{Target}
 use Rattle.alt_request.specs.declared.stop.Stop.TheVariants.{Refused, Fault}
 use Rattle.alt_request.proofs.Named.{some_found, none_found, table_found, table_missed}
 use Rattle.alt_schema.specs.declared.schema.TableSchema.{TableSchema}
@@ -29,6 +30,14 @@ use Rattle.alt_value.specs.Tree.{Pair}
 pub err_is : {A E : Type 0} (r : Result A E) (e : E) → IsErr r × IsErrAnd r (λ x. x ≡ e) → r ≡ Err e
 err_is (Ok x) e h = absurd (let g = h.0 in let f : ⊥ = cc in f)
 err_is (Err x) e h = ap Err h.1
+
+-- and what is so of it is so of what it is passed on as
+pub passed_on : (tests : List (Option Answer)) (sought : Sought) (texts : machine.Texts)
+    (catalog : Texts TableSchema) (ms : Members) (r : Result Target Stop) (e : Stop)
+    → IsErr r × IsErrAnd r (λ x. x ≡ e)
+    → OnItem tests sought texts catalog ms (Err e) → OnItem tests sought texts catalog ms r
+passed_on tests sought texts catalog ms r e h on =
+    subst (OnItem tests sought texts catalog ms) (sym (err_is r e h)) on
 
 -- what a place that fits comes to is what the machine goes on with
 module _ (tests : List (Option Answer)) (sought : Sought) (texts : machine.Texts) (s : State)

@@ -3,15 +3,18 @@ use Rattle.std.specs.Prelude.{◌≡◌, ℕ, List, Option, Some, None, Result, 
 use Rattle.std.specs.Borrow.{Bor}
 use Rattle.std.specs.FinMap as map
 use Rattle.serde_json.specs.Data.{Members}
+use Rattle.alt_expr.specs.Given.{Given}
 use Rattle.alt_machine.specs.declared.Expressions.{Expressions}
 use Rattle.alt_machine.specs.declared.Sought.{Sought}
+use Rattle.alt_machine.specs.declared.Sought.TheVariants.{Item}
 use Rattle.alt_machine.specs.Expressions as machine
 use Rattle.alt_machine.specs.Lists.{on_list, IsListed}
-use Rattle.alt_machine.specs.Members.{table_name}
+use Rattle.alt_machine.specs.Members.{table_name, item_at}
 use Rattle.alt_machine.specs.Outcomes.{Outcome, refuses}
 use Rattle.alt_machine.specs.Refusals.{first_answer, or_refused, unless_answer, ◌>>=◌}
 use Rattle.alt_machine.specs.State.{State, Table, Texts, descriptions}
-use Rattle.alt_machine.specs.Targets.{on_table, on_item, of_length, place_in, IsPlaced}
+use Rattle.alt_machine.specs.Targets.{on_table, on_item, member_of, of_length, place_in, IsPlaced}
+use Rattle.alt_request.specs.Direct.{IsGiven, IsReadAhead}
 use Rattle.alt_request.specs.declared.lists.ListTarget.{ListTarget}
 use Rattle.alt_request.specs.declared.stop.Stop.{Stop}
 use Rattle.alt_request.specs.declared.stop.Stop.TheVariants.{Refused, Fault}
@@ -37,6 +40,13 @@ abbrev pub place_that_fits : Sought → TableSchema → List Pair → Result (Li
 place_that_fits sought d item = or_refused bad_key (place_in sought d item)
     >>= (λ place. unless_answer (first_answer (of_length d item)) place)
 
+-- two bodies say the same beside an item: their names and values, their table and their expressions
+pub record SaySame (texts : machine.Texts) (ms bs : Members) : Type 0 where
+  pub words : machine.given_at texts ms ≡ machine.given_at texts bs
+  pub table : table_name ms ≡ table_name bs
+  pub says : (d : TableSchema) (g : Given)
+      → machine.expressions texts d ms g ≡ machine.expressions texts d bs g
+
 -- the item or the key has its place in the table that is named, and that is what the expressions say
 pub record IsAt (tests : List (Option Answer)) (sought : Sought) (texts : machine.Texts)
     (catalog : Texts TableSchema) (ms : Members) (target : Target) : Type 0 where
@@ -51,6 +61,25 @@ OnItem tests sought texts catalog ms (Err (Refused r)) =
     IsKnown r × ((s : State) (go : Expressions → List Pair → Table → List ℕ → Outcome)
     → descriptions s.tables ≡ catalog → on_item tests sought texts s ms go ≡ refuses r)
 OnItem tests sought texts catalog ms (Err (Fault f)) = IsReadFault f
+
+-- That is so behind tests that don't refuse it, of each body that has this item or key and says the same as `bs` beside it.
+abbrev pub OnItemRead : Sought → machine.Texts → Texts TableSchema → Members → List Pair
+    → Result Target Stop → Type 0
+OnItemRead sought texts catalog bs item result = (tests : List (Option Answer)) (ms : Members)
+    → SaySame texts ms bs → first_answer tests ≡ None → item_at (member_of sought) ms ≡ Ok item
+    → OnItem tests sought texts catalog ms result
+
+-- It is so of each body from which the item was read ahead, where the tests are those of what is left of it, `bs`.
+abbrev pub OnItemAhead : (Members → List (Option Answer)) → Texts TableSchema → Members
+    → List Pair → Result Target Stop → Type 0
+OnItemAhead tests catalog bs item result = (ms : Members) → IsReadAhead ms bs item
+    → tests ms ≡ tests bs → OnItem (tests ms) Item machine.conditional catalog ms result
+
+-- It is so of each body that is given, in whole or with its item read ahead.
+abbrev pub OnItemGiven : (Members → List (Option Answer)) → Texts TableSchema → Members
+    → Option (List Pair) → Result Target Stop → Type 0
+OnItemGiven tests catalog bs ahead result = (ms : Members) → IsGiven ms bs ahead
+    → tests ms ≡ tests bs → OnItem (tests ms) Item machine.conditional catalog ms result
 
 -- the table is the one that is named, and those are its index, the start key and what the expressions say to it
 pub record IsListedAt (tests : List (Option Answer)) (texts : machine.Texts)

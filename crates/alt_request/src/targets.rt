@@ -4,7 +4,7 @@ ghost use Rattle.std.specs.Prelude.{◌≡◌};
 ghost use Rattle.serde_json.specs.View.{members_view};
 ghost use Rattle.alt_machine.specs.Body.{body_refusals};
 ghost use Rattle.alt_request.specs.Steps.{Comes, rules_of};
-ghost use Rattle.alt_request.specs.Targets.{OnTable, OnItem, place_that_fits};
+ghost use Rattle.alt_request.specs.Targets.{OnTable, OnItem, OnItemRead, OnItemAhead, OnItemGiven, place_that_fits};
 ghost use Rattle.alt_request.specs.Words.{texts_of};
 ghost use Rattle.alt_tables.specs.Stands.{catalog_of};
 
@@ -62,6 +62,63 @@ pub fn item_target<'t>(
 {
     body_refusal(broken, rules, body)?;
     let item = item_at(alloc, body, sought)?;
+    target_of_item(alloc, tables, body, sought, texts, item)
+}
+
+/// As `item_target` of a put, whose item may have been read ahead.
+pub fn put_target<'t>(
+    alloc: Global,
+    tables: &'t Tables,
+    body: &Map<String, Value>,
+    broken: Option<Broken>,
+    rules: &Rules,
+    ahead: Option<Item>,
+) -> Result<Target<'t>, Stop>
+    ensures target { OnItemGiven (body_refusals broken (rules_of rules.now)) (catalog_of tables.now)
+        (members_view body.now.entries) ahead result }
+{
+    match ahead {
+        Some(item) => read_target(alloc, tables, body, broken, rules, item),
+        None => item_target(
+            alloc,
+            tables,
+            body,
+            broken,
+            rules,
+            Sought::Item,
+            &Texts::CONDITIONAL,
+        ),
+    }
+}
+
+/// As `item_target` of a write that may be conditional, whose item was read ahead: the body has an empty object in its place.
+fn read_target<'t>(
+    alloc: Global,
+    tables: &'t Tables,
+    body: &Map<String, Value>,
+    broken: Option<Broken>,
+    rules: &Rules,
+    item: Item,
+) -> Result<Target<'t>, Stop>
+    ensures target { OnItemAhead (body_refusals broken (rules_of rules.now)) (catalog_of tables.now)
+        (members_view body.now.entries) item result }
+{
+    body_refusal(broken, rules, body)?;
+    target_of_item(alloc, tables, body, Sought::Item, &Texts::CONDITIONAL, item)
+}
+
+/// What is behind an item or a key that was read.
+fn target_of_item<'t>(
+    alloc: Global,
+    tables: &'t Tables,
+    body: &Map<String, Value>,
+    sought: Sought,
+    texts: &Texts,
+    item: Item,
+) -> Result<Target<'t>, Stop>
+    ensures target { OnItemRead sought (texts_of texts.now) (catalog_of tables.now)
+        (members_view body.now.entries) item result }
+{
     let given = given_at(alloc, texts, body)?;
     let schema = table_of(tables, body)?;
     let said = expressions(alloc, texts, schema, body, given)?;

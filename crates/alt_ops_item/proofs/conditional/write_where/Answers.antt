@@ -9,7 +9,8 @@ use Rattle.alt_machine.specs.Conditional.{failed, writes_if}
 use Rattle.alt_machine.specs.Replies.{item_answer}
 use Rattle.alt_machine.specs.State.{State}
 use Rattle.alt_machine.specs.Valid.{IsStored}
-use Rattle.alt_ops_item.proofs.Placing.{unread, fails, breaks, made, left}
+use Rattle.alt_ops_item.proofs.Placing.{fails, breaks, made, left}
+use Rattle.alt_request.proofs.Carrying.{unread}
 use Rattle.alt_request.specs.Carried.{Does, IsPlain, Moves, Says}
 use Rattle.alt_request.specs.declared.stop.Stop.TheVariants.{Fault}
 use Rattle.alt_request.proofs.Moving.{reads_move, writes_move, says_unfailed, memory_unfailed, failed_fault}

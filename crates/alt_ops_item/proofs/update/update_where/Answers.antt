@@ -10,7 +10,7 @@ use Rattle.alt_machine.specs.Ops.UpdateItem.{updates}
 use Rattle.alt_machine.specs.State.{State}
 use Rattle.alt_machine.specs.Valid.{IsStored}
 use Rattle.alt_ops_item.specs.Updates.{left_after}
-use Rattle.alt_ops_item.proofs.Placing.{unread}
+use Rattle.alt_request.proofs.Carrying.{unread}
 use Rattle.alt_ops_item.proofs.Updating.{stop_unfailed, has_some, fails, stops, breaks, made, moved}
 use Rattle.alt_request.specs.Carried.{Does, IsPlain, Moves, Says}
 use Rattle.alt_request.specs.declared.stop.Stop.TheVariants.{Fault}

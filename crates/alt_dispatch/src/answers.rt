@@ -135,10 +135,12 @@ fn respond<D: Disk>(
     ensures moves { Moves (λ s. step s operation body.now moment)
         (Stands (D.state disk.old) tables.old) (D.state disk.old) (D.state disk.new) result }
 {
+    let Some(operation) = operation else {
+        return Err(Stop::Refused(Refusal::UNKNOWN_OPERATION));
+    };
     match operation {
-        Some(Operation::PutItem) => respond_to_put(alloc, tables, disk, body, moment),
-        Some(operation) => respond_to(alloc, tables, disk, operation, body, moment),
-        None => Err(Stop::Refused(Refusal::UNKNOWN_OPERATION)),
+        Operation::PutItem => respond_to_put(alloc, tables, disk, body, moment),
+        _ => respond_to(alloc, tables, disk, operation, body, moment),
     }
 }
 

@@ -1,0 +1,37 @@
+-- An operation that is built is carried out, a put by its own way.
+use Rattle.std.proofs.Common.{Option, Some, sym, subst, ap, ◌∙◌}
+use Rattle.alt_machine.specs.declared.Operation.{Operation}
+use Rattle.alt_machine.specs.Step.{step}
+use Rattle.alt_request.specs.Carried.{Carries, Moves}
+use Rattle.alt_tables.specs.Stands.{Stands}
+use Rattle.alt_dispatch.proofs.answers.respond.Goals as goal
+
+pub returns-in-PutItem-clause-carried : goal.returns-in-PutItem-clause-carried
+returns-in-PutItem-clause-carried g c =
+    subst (λ (o : Option Operation). Carries (λ s. step s o c.args.body.now c.args.moment)
+    (Stands (g.D.Disk.state c.args.disk.now) c.args.tables.now)
+    (Stands (g.D.Disk.state c.respond_to_put.new.disk) c.respond_to_put.new.tables)
+    c.respond_to_put.result)
+    (sym (c.in-Some.is ∙ ap Some c.in-PutItem.is)) c.respond_to_put.ensures.carried
+
+pub returns-in-PutItem-clause-moves : goal.returns-in-PutItem-clause-moves
+returns-in-PutItem-clause-moves g c =
+    subst (λ (o : Option Operation). Moves (λ s. step s o c.args.body.now c.args.moment)
+    (Stands (g.D.Disk.state c.args.disk.now) c.args.tables.now)
+    (g.D.Disk.state c.args.disk.now) (g.D.Disk.state c.respond_to_put.new.disk)
+    c.respond_to_put.result)
+    (sym (c.in-Some.is ∙ ap Some c.in-PutItem.is)) c.respond_to_put.ensures.moves
+
+pub returns-in_default-operation-clause-carried : goal.returns-in_default-operation-clause-carried
+returns-in_default-operation-clause-carried g c =
+    subst (λ (o : Option Operation). Carries (λ s. step s o c.args.body.now c.args.moment)
+    (Stands (g.D.Disk.state c.args.disk.now) c.args.tables.now)
+    (Stands (g.D.Disk.state c.respond_to.new.disk) c.respond_to.new.tables)
+    c.respond_to.result) (sym c.in-Some.is) c.respond_to.ensures.carried
+
+pub returns-in_default-operation-clause-moves : goal.returns-in_default-operation-clause-moves
+returns-in_default-operation-clause-moves g c =
+    subst (λ (o : Option Operation). Moves (λ s. step s o c.args.body.now c.args.moment)
+    (Stands (g.D.Disk.state c.args.disk.now) c.args.tables.now)
+    (g.D.Disk.state c.args.disk.now) (g.D.Disk.state c.respond_to.new.disk)
+    c.respond_to.result) (sym c.in-Some.is) c.respond_to.ensures.moves

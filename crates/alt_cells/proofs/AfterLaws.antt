@@ -1,10 +1,11 @@
 -- What a row shows after a change, by cells that show what it showed.
-use Rattle.std.proofs.Common.{◌≡◌, ◌+◌, ◌<◌, ℕ, List, [], Bool, true, Option, Some, None, sym, ap, subst, ◌∙◌}
+use Rattle.std.proofs.Common.{◌≡◌, ℕ, List, [], map, Bool, true, Option, Some, None, sym, ap, subst, ◌∙◌}
 use Rattle.std.specs.Prelude.{if◌then◌else◌, option_and_then}
-use Rattle.std.specs.FinMap.{empty, get-empty, same_map}
+use Rattle.std.specs.FinMap.{FinMap, empty, entries, get-empty, same_map}
 use Rattle.alt_cells.specs.declared.batch.RowChange.{RowChange}
+use Rattle.alt_cells.specs.declared.cell.Cell.{Cell}
 use Rattle.alt_cells.specs.declared.row.RowCells.{RowCells}
-use Rattle.alt_cells.specs.Changes.{Columns, row_of_change, with_columns, as_shown, columns_of, written, change_between, IsBelow}
+use Rattle.alt_cells.specs.Changes.{Columns, cells_given, row_of_change, with_columns, with_value, as_shown, columns_of, written, change_between, IsBelow}
 use Rattle.alt_cells.specs.Keys.{key_cmp}
 use Rattle.alt_cells.specs.Rows.{join_row}
 use Rattle.alt_cells.specs.Shown.{value_shown, columns_shown, row_shown}
@@ -44,6 +45,12 @@ made_shown number c = ap row_shown (sym (join_row-empty (row_of_change number c)
 pub copy_shown : (key : List ℕ) (m : Columns)
     → row_shown (row_of_change 0 (change_between 0 key None (Some m))) ≡ as_shown m
 copy_shown key m = made_shown 0 (change_between 0 key None (Some m)) ∙ written-made 0 key m
+
+-- the cells of a row's columns are those of the change that makes it
+pub made_is : (cells : FinMap key_cmp Cell) (m : Columns)
+    → cells ≡ cells_given 0 (map with_value (entries m))
+    → record { gone = Some 0; cells = cells } ≡ row_of_change 0 (change_between 0 [] None (Some m))
+made_is cells m is i = record { gone = Some 0; cells = is i }
 
 -- a row that is cleared is as one that is made
 pub written-cleared : (c : RowChange) (before : Option Columns) → c.clear ≡ true

@@ -1,4 +1,5 @@
 pub mod AfterLaws
+pub mod Alone
 pub mod BatchLaws
 pub mod CellLaws
 pub mod ChangeLaws

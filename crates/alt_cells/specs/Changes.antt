@@ -1,6 +1,6 @@
 -- What a row change is in cells, what a row shows after it, and the change that turns one row into another.
-use Rattle.std.specs.Prelude.{◌≡◌, ◌<◌, ◌+◌, ◌==◌, ◌++◌, ℕ, List, [], ◌∷◌, Bool, true, false, not, map, if◌then◌else◌, Option, Some, None, is_none}
-use Rattle.std.specs.Option.{option_map_or}
+use Rattle.std.specs.Prelude.{◌≡◌, ◌<◌, ◌+◌, ◌==◌, ◌++◌, ℕ, List, [], ◌∷◌, Bool, true, false, not, map, if◌then◌else◌, Option, Some, None, is_none, option_map}
+use Rattle.std.specs.Option.{option_map_or, option_to_list}
 use Rattle.std.specs.Ordering.{eq_by_cmp}
 use Rattle.std.specs.Str.{bytes_eq}
 use Rattle.std.specs.FinMap.{FinMap, empty, entries, from_sorted, insert, remove, get, len}
@@ -55,6 +55,15 @@ abbrev pub given_to : List ℕ → Given → Option (Option (List ℕ))
 given_to q [] = None
 given_to q (e ∷ es) =
     if eq_by_cmp key_cmp q e.0 then Some (tied e.1 (given_to q es)) else given_to q es
+
+-- the column with the value that it is given, if it is given one
+abbrev pub value_given : List ℕ × Option (List ℕ) → List (List ℕ × List ℕ)
+value_given e = option_to_list (option_map (λ v. (e.0, v)) e.1)
+
+-- the columns that are given a value, with it
+abbrev pub values_given : Given → List (List ℕ × List ℕ)
+values_given [] = []
+values_given (e ∷ es) = value_given e ++ values_given es
 
 -- with a value at a column, or none
 abbrev pub with_column : List ℕ → Option (List ℕ) → Columns → Columns

@@ -1,10 +1,10 @@
 //! The cells that a row change makes, and the change that turns one row into another.
 
-ghost use Rattle.std.specs.Prelude.{◌≡◌, ◌++◌, ◌∷◌, [], ◌<◌, IfOk, OnOk, IsTrue, T, not, length, map, option_map};
+ghost use Rattle.std.specs.Prelude.{◌≡◌, ◌++◌, ◌∷◌, [], ◌<◌, IfOk, OnOk, IsTrue, T, None, Some, not, length, map, option_map};
 ghost use Rattle.std.specs.FinMap.{entries, get};
 ghost use Rattle.std.specs.FinMap.Entries.{is_sorted};
 ghost use Rattle.alt_cells.specs.Keys.{key_cmp};
-ghost use Rattle.alt_cells.specs.Changes.{cell_at, cells_given, row_of_change, with_value, differs, changed_cells, gone_cells, cells_between, change_between, ShowsChanges, StaysBelow, TurnsRows, written, as_shown, IsBelow};
+ghost use Rattle.alt_cells.specs.Changes.{cell_at, cells_given, row_of_change, with_value, differs, changed_cells, gone_cells, cells_between, change_between, ShowsChanges, StaysBelow, TurnsRows, written, as_shown, value_given, values_given, IsBelow};
 ghost use Rattle.alt_cells.specs.Shown.{row_shown};
 
 use crate::{Cell, CellList, CellMap, RowCells, RowChange, ShownRow};
@@ -99,18 +99,49 @@ impl RowChange {
         ensures { IfOk result (λ row. row
             ≡ written self.now (option_map (λ r. r.now) before.entry)) }
     {
-        let given = RowCells::of_change(alloc, 1, self)?;
         match before {
             Some(row) => {
                 if self.clear {
-                    return given.shown();
+                    return self.shown_alone(alloc);
                 }
+                let given = RowCells::of_change(alloc, 1, self)?;
                 let mut cells = cells_of(alloc, row)?;
                 cells.join(&given)?;
-                cells.shown()
+                cells.into_shown(alloc)
             }
-            None => given.shown(),
+            None => self.shown_alone(alloc),
         }
+    }
+
+    /// What the change shows where there is nothing else. Where the names rise no cells are made.
+    fn shown_alone(&self, alloc: Global) -> Result<Option<ShownRow>, NoMemory>
+        ensures { IfOk result (λ row. row ≡ row_shown (row_of_change 1 self.now)) }
+    {
+        let given = self.cells.as_slice();
+        if is_rising(given) {
+            let entries = values_given(alloc, given)?;
+            return Ok(ShownRow::of_rising(entries));
+        }
+        let row = RowCells::of_change(alloc, 1, self)?;
+        row.shown()
+    }
+
+    /// The change that makes a row where none is shown. Its columns are moved.
+    pub fn made(
+        alloc: Global,
+        family: u32,
+        key: Bytes,
+        row: ShownRow,
+    ) -> Result<RowChange, NoMemory>
+        ensures { IfOk result (λ change. change ≡ change_between family key None (Some row)) }
+    {
+        let cells = cells_made(alloc, row)?;
+        Ok(RowChange {
+            family,
+            key,
+            clear: true,
+            cells,
+        })
     }
 
     /// The change that turns a row from what it shows into what it is to show; a row that isn't shown
@@ -136,15 +167,73 @@ impl RowChange {
     }
 }
 
+/// The columns that are given a value, with it.
+fn values_given(
+    alloc: Global,
+    given: &[(Bytes, Option<Bytes>)],
+) -> Result<Vec<(Bytes, Bytes)>, NoMemory>
+    ensures { IfOk result (λ out. out.items ≡ values_given given.now) }
+{
+    let mut out = Vec::with_capacity(alloc, given.len())?;
+    for (name, value) in given {
+        take_value(&mut out, name, value)?;
+    }
+    Ok(out)
+}
+
+fn take_value(
+    out: &mut Vec<(Bytes, Bytes)>,
+    name: &Bytes,
+    value: &Option<Bytes>,
+) -> Result<(), NoMemory>
+    ensures { OnOk result (out.new.items
+        ≡ out.old.items ++ value_given (name.now, value.now)) }
+{
+    if let Some(value) = value {
+        let entry = (name.copy()?, value.copy()?);
+        out.push(entry)?;
+    }
+    Ok(())
+}
+
+/// The columns of a row, each given its value.
+fn cells_made(alloc: Global, row: ShownRow) -> Result<CellList, NoMemory>
+    ensures { IfOk result (λ cells. cells ≡ map with_value (entries row)) }
+{
+    let columns = row.into_entries();
+    let mut cells = CellList::with_capacity(alloc, columns.len())?;
+    for (name, value) in columns {
+        cells.push(name, Some(value))?;
+    }
+    Ok(cells)
+}
+
 /// What a row shows, as the cells of a write before any other.
 fn cells_of(alloc: Global, row: &ShownRow) -> Result<RowCells, NoMemory>
     ensures below { IfOk result (IsBelow 1) }
     ensures shown { IfOk result (λ cells. row_shown cells ≡ as_shown row.now) }
 {
-    let key = Bytes::from_vec(Vec::new(alloc));
-    let made = RowChange::between(alloc, 0, key, None, Some(row))?;
-    let cells = RowCells::of_change(alloc, 0, &made)?;
-    Ok(cells)
+    let cells = column_cells(alloc, row.as_slice())?;
+    Ok(RowCells {
+        gone: Some(0),
+        cells,
+    })
+}
+
+/// Columns whose names rise, as the cells that the first write of all gives.
+fn column_cells(alloc: Global, columns: &[(Bytes, Bytes)]) -> Result<CellMap, NoMemory>
+    requires { T (is_sorted key_cmp columns.now) }
+    ensures { IfOk result (λ cells. cells ≡ cells_given 0 (map with_value columns.now)) }
+{
+    let mut cells = Vec::with_capacity(alloc, columns.len())?;
+    for (name, value) in columns {
+        let cell = Cell {
+            at: 0,
+            value: Some(value.copy()?),
+        };
+        cells.push((name.copy()?, cell))?;
+    }
+    Ok(CellMap::from_rising(cells))
 }
 
 fn cells_between(

@@ -74,6 +74,14 @@ impl CellMap {
         self.entries.as_slice()
     }
 
+    /// The names with their cells, in order, which are moved.
+    pub(crate) fn into_entries(self) -> Vec<(Bytes, Cell)>
+        ensures { result.items ≡ map.entries self }
+    {
+        let CellMap { entries } = self;
+        entries
+    }
+
     pub(crate) fn allocator(&self) -> Global {
         *self.entries.allocator()
     }

@@ -9,3 +9,4 @@ pub mod RecoverLaws
 pub mod ShownLaws
 pub mod SyncLaws
 mod Fresh
+mod Heads

@@ -1,7 +1,7 @@
 -- What a write makes of the rows in memory.
 use Rattle.std.proofs.Common.{◌≡◌, ◌≤◌, ◌<◌, ◌+◌, ◌==◌, ◌++◌, ℕ, Bool, true, false, cond, List, [], ◌∷◌, map, length, take, get_or, Option, Some, None, refl, sym, ap, ◌∙◌, eqb-true}
 use Rattle.std.proofs.lemmas.List.{take_more, map-append}
-use Rattle.std.specs.Prelude.{if◌then◌else◌, option_and_then, option_map, is_some}
+use Rattle.std.specs.Prelude.{if◌then◌else◌, option_and_then, option_map, is_some, unwrap_or}
 use Rattle.std.specs.Cmp.{eq_by_cmp_equiv}
 use Rattle.std.specs.FinMap.{empty, len}
 use Rattle.std.specs.Ordering.{eq_by_cmp, is_eq}
@@ -84,18 +84,23 @@ shown_on l w before past later same f k =
 
 -- ---- one family's rows
 
--- a place for a row shows nothing
+-- what stands at a place that is made where there was none shows nothing, and else what it showed
+pub room_value : (o : Option Columns) (m : Columns) → as_shown m ≡ None
+    → as_shown (unwrap_or o m) ≡ option_and_then as_shown o
+room_value None m bare = bare
+room_value (Some r) m bare = refl
+
+-- a place at which that stands changes no row
 pub room_shown : (key k : List ℕ) (m : Columns) (old new : List ℕ → Option Columns)
     → ((q : List ℕ) → new q ≡ cond (is_eq (key_cmp key q)) (Some m) (old q))
-    → as_shown m ≡ None → old key ≡ None
+    → as_shown m ≡ option_and_then as_shown (old key)
     → option_and_then as_shown (new k) ≡ option_and_then as_shown (old k)
-room_shown key k m old new is bare absent = by (is_eq (key_cmp key k)) refl
+room_shown key k m old new is shows = by (is_eq (key_cmp key k)) refl
   where
     by : (b : Bool) → is_eq (key_cmp key k) ≡ b
         → option_and_then as_shown (new k) ≡ option_and_then as_shown (old k)
-    by true e = ap (option_and_then as_shown) (is k ∙ ap (λ b. cond b (Some m) (old k)) e) ∙ bare
-        ∙ sym (ap (option_and_then as_shown)
-        (ap old (sym (same_key key k e)) ∙ absent))
+    by true e = ap (option_and_then as_shown) (is k ∙ ap (λ b. cond b (Some m) (old k)) e) ∙ shows
+        ∙ ap (λ q. option_and_then as_shown (old q)) (same_key key k e)
     by false e = ap (option_and_then as_shown) (is k ∙ ap (λ b. cond b (Some m) (old k)) e)
 
 -- a row that is put in is shown, and the others stay
@@ -144,11 +149,6 @@ pub rows_more : (g : RowChange → NewRow) (cs : List RowChange) (i : ℕ) (c : 
 rows_more g cs i c rows more r made within at push is =
     push ∙ (λ j. made j ++ (is ∙ ap g at) j ∷ [])
     ∙ sym (ap (map g) (take_more cs i c within) ∙ map-append g (take i cs) (get_or cs i c ∷ []))
-
--- nothing is there
-pub none_there : (o : Option Columns) → is_some o ≡ false → o ≡ None
-none_there None e = refl
-none_there (Some m) e = let n : true ≡ false = e in cc n
 
 -- a row that shows nothing may be taken out
 pub gone_shown : (key k : List ℕ) (old new : List ℕ → Option Columns)

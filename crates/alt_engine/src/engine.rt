@@ -7,8 +7,9 @@ ghost use Rattle.alt_disk.specs.Runs.{Spans, Quiet};
 ghost use Rattle.alt_engine.specs.Layout.{Layout, with_write, shown};
 ghost use Rattle.alt_engine.specs.InHand.{next_of, Reads, Stands, SameEngine, IsSpentAt, IsUnspent, batch_write, BeforeOrWith, IsWritten};
 
-use crate::format::put_write;
-use crate::memory::{Families, commit, find, prepare, sweep};
+use crate::format::write_of;
+use crate::memory::{Families, find, prepare, settle};
+use crate::place::Place;
 use alt_base::NoMemory;
 use alt_cells::{Batch, ShownRow};
 use alt_disk::{Disk, DiskFault};
@@ -91,16 +92,14 @@ impl Engine {
         if self.next >= LAST_NUMBER {
             return Err(EngineFault::Spent { number: self.next });
         }
-        let mut bytes = Vec::new(self.alloc);
-        put_write(&mut bytes, self.next, batch.as_slice())?;
+        let bytes = write_of(self.alloc, self.next, batch.as_slice())?;
         let rows = prepare(self.alloc, &mut self.families, batch.as_slice())?;
         match self.log.append(disk, bytes.as_slice()) {
             Ok(()) => {}
             Err(DiskFault::Failed) => return Err(EngineFault::Failed),
             Err(DiskFault::NoMemory) => return Err(EngineFault::NoMemory),
         }
-        commit(self.alloc, &mut self.families, rows);
-        sweep(&mut self.families, batch.as_slice());
+        settle(self.alloc, &mut self.families, rows, batch.as_slice());
         let number = self.next;
         self.next = number + 1;
         Ok(number)
@@ -125,7 +124,7 @@ impl Engine {
             → Rose (D.state disk.old).faults (D.state disk.new).faults }
         ensures well { OnOk result ((D.state disk.new).faults ≡ (D.state disk.old).faults) }
     {
-        let key = Bytes::new(self.alloc, key)?;
+        let key = Place::new(Bytes::new(self.alloc, key)?);
         match find(&self.families, family, &key) {
             Some(row) => Ok(Some(row.copy()?)),
             None => Ok(None),

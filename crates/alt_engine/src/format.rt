@@ -1,6 +1,6 @@
 //! The bytes of a write.
 
-ghost use Rattle.std.specs.Prelude.{◌≡◌, ◌<◌, ◌-◌, ◌^◌, ◌++◌, ◌∷◌, [], OnOk, length, ℕ, List};
+ghost use Rattle.std.specs.Prelude.{◌≡◌, ◌<◌, ◌-◌, ◌^◌, ◌++◌, ◌∷◌, [], IfOk, OnOk, length, ℕ, List};
 ghost use Rattle.std.specs.Int.{w32, w64, to_be_bytes};
 ghost use Rattle.alt_fields.specs.Bytes.{IsShort};
 ghost use Rattle.alt_fields.specs.Field.{field};
@@ -9,13 +9,29 @@ ghost use Rattle.alt_engine.specs.Image.{clear_byte, value_bytes, cells_bytes, c
 use alt_base::NoMemory;
 use alt_cells::RowChange;
 use alt_fields::{Bytes, put_bytes, put_u32, put_u64};
+use std::alloc::Global;
 
-/// Appends the bytes of a write.
-pub(crate) fn put_write(
-    out: &mut Vec<u8>,
+/// Most writes take no more bytes than this, and so one block of memory.
+const ROOM: usize = 1_000;
+
+/// The bytes of a write.
+pub(crate) fn write_of(
+    alloc: Global,
     number: u64,
     changes: &[RowChange],
-) -> Result<(), NoMemory>
+) -> Result<Vec<u8>, NoMemory>
+    requires { number < 2 ^ 62 - 1 }
+    ensures bytes { IfOk result (λ bytes. bytes.items
+        ≡ write_bytes (record { number = number; changes = changes.now })) }
+    ensures held { OnOk result (IsHeldWrite (record { number = number; changes = changes.now })) }
+{
+    let mut bytes = Vec::with_capacity(alloc, ROOM)?;
+    put_write(&mut bytes, number, changes)?;
+    Ok(bytes)
+}
+
+/// Appends the bytes of a write.
+fn put_write(out: &mut Vec<u8>, number: u64, changes: &[RowChange]) -> Result<(), NoMemory>
     requires { number < 2 ^ 62 - 1 }
     ensures appended { OnOk result (out.new.items
         ≡ out.old.items ++ write_bytes (record { number = number; changes = changes.now })) }

@@ -6,6 +6,7 @@ mod format;
 mod laws;
 mod make;
 mod memory;
+mod place;
 mod read;
 mod recover;
 mod sync;

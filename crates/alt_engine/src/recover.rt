@@ -12,7 +12,7 @@ ghost use Rattle.alt_engine.specs.Recovery.{ExplainsStore, HasNoLayout, Narrows,
 
 use crate::engine::Engine;
 use crate::make::{ENTRIES, FIRST_VERSION, VERSIONS};
-use crate::memory::{Families, commit, prepare, sweep};
+use crate::memory::{Families, prepare, settle};
 use crate::read::{Stop, read_write};
 use crate::sync::sync_all;
 use alt_base::NoMemory;
@@ -240,8 +240,7 @@ fn replay_one<D: Disk>(
     match read_write(alloc, next, bytes.as_slice()) {
         Ok((number, changes)) => {
             let rows = prepare(alloc, families, changes.as_slice())?;
-            commit(alloc, families, rows);
-            sweep(families, changes.as_slice());
+            settle(alloc, families, rows, changes.as_slice());
             Ok(number + 1)
         }
         Err(Stop::Bad) => Err(RecoverFault::Damaged {

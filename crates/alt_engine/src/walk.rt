@@ -18,6 +18,7 @@ ghost use Rattle.alt_engine.specs.Memory.{ends_early, BeginsWith};
 
 use crate::engine::{Engine, EngineFault};
 use crate::memory::Families;
+use crate::place::Place;
 use alt_base::NoMemory;
 use alt_cells::ShownRow;
 use alt_disk::Disk;
@@ -86,7 +87,7 @@ impl Engine {
 
 /// Puts the first rows of a range at the end of the list.
 fn walk(
-    rows: &BTreeMap<Bytes, ShownRow>,
+    rows: &BTreeMap<Place, ShownRow>,
     range: &KeyRange,
     forward: bool,
     most: u32,
@@ -109,7 +110,7 @@ fn walk(
             return Ok(());
         };
         if !row.is_empty() {
-            let entry = (key.copy()?, row.copy()?);
+            let entry = (key.key().copy()?, row.copy()?);
             out.push(entry)?;
             left -= 1;
         }
@@ -119,9 +120,9 @@ fn walk(
 
 /// The next row of a range, in a direction.
 fn step<'a>(
-    ahead: &mut Range<'a, Bytes, ShownRow>,
+    ahead: &mut Range<'a, Place, ShownRow>,
     forward: bool,
-) -> Option<(&'a Bytes, &'a ShownRow)>
+) -> Option<(&'a Place, &'a ShownRow)>
     ensures { MatchOption result (turned forward ahead.old ≡ [])
         (λ p. turned forward ahead.old ≡ (p.0.now, p.1.now) ∷ turned forward ahead.new) }
 {
@@ -133,13 +134,16 @@ fn step<'a>(
 }
 
 /// Where the keys of a range begin and end.
-fn bounds_of(range: &KeyRange) -> Result<(Bound<Bytes>, Bound<Bytes>), NoMemory>
+fn bounds_of(range: &KeyRange) -> Result<(Bound<Place>, Bound<Place>), NoMemory>
     ensures { IfOk result (λ b. (b.0 ≡ Included range.now.from)
         × (b.1 ≡ end_bound range.now.to)) }
 {
-    let from = range.from.copy()?;
+    let from = Place::new(range.from.copy()?);
     match &range.to {
-        Some(to) => Ok((Bound::Included(from), Bound::Excluded(to.copy()?))),
+        Some(to) => Ok((
+            Bound::Included(from),
+            Bound::Excluded(Place::new(to.copy()?)),
+        )),
         None => Ok((Bound::Included(from), Bound::Unbounded)),
     }
 }
@@ -169,7 +173,7 @@ fn first_family(families: &Families, family: u32) -> Option<(u32, &Bytes)>
 }
 
 /// The first key of a shown row.
-fn first_shown(rows: &BTreeMap<Bytes, ShownRow>) -> Option<&Bytes>
+fn first_shown(rows: &BTreeMap<Place, ShownRow>) -> Option<&Bytes>
     ensures first { MatchOption result (shown_of as_shown rows.now.entries ≡ [])
         (λ key. BeginsWith key.now (shown_of as_shown rows.now.entries)) }
     ensures ordered { IsStrictlySortedBy key_cmp (keys_of rows.now.entries) }
@@ -178,7 +182,7 @@ fn first_shown(rows: &BTreeMap<Bytes, ShownRow>) -> Option<&Bytes>
     let mut ahead = rows.range(..);
     while let Some((key, row)) = step(&mut ahead, true) {
         if !row.is_empty() {
-            return Some(key);
+            return Some(key.key());
         }
     }
     None

@@ -314,11 +314,27 @@ fn view_batch(
 {
     let before = row_of(alloc, old)?;
     let after = row_of(alloc, new)?;
-    let change = RowChange::between(alloc, schema.family, place, before.as_ref(), after.as_ref())?;
+    let change = change_of(alloc, schema.family, place, before, after)?;
     let mut batch = Batch::new(alloc);
     batch.add(change)?;
     index_changes(alloc, schema, old.as_ref(), new.as_ref(), &mut batch)?;
     Ok(batch)
+}
+
+/// The change that turns one row into another; one that is made is moved.
+fn change_of(
+    alloc: Global,
+    family: u32,
+    key: Bytes,
+    old: Option<ShownRow>,
+    new: Option<ShownRow>,
+) -> Result<RowChange, NoMemory>
+    ensures { IfOk result (λ change. change ≡ change_between family key old new) }
+{
+    match (old, new) {
+        (None, Some(row)) => RowChange::made(alloc, family, key, row),
+        (old, new) => RowChange::between(alloc, family, key, old.as_ref(), new.as_ref()),
+    }
 }
 
 /// The row of an item, where there is one.

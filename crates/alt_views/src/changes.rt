@@ -134,7 +134,7 @@ fn make(alloc: Global, family: u32, row: IndexRow, batch: &mut Batch) -> Result<
         ++ change_between family row.key None (Some row.columns) ∷ []) }
 {
     let IndexRow { key, columns } = row;
-    batch.add(RowChange::between(alloc, family, key, None, Some(&columns))?)
+    batch.add(RowChange::made(alloc, family, key, columns)?)
 }
 
 /// A row that stays at its key, if a column of it changes.

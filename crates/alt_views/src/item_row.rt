@@ -18,6 +18,9 @@ use std::alloc::Global;
 /// The most lists and maps around a value.
 const DEEPEST: usize = 32;
 
+/// The buffer for the bytes of a value grows only beyond this.
+const ROOM: usize = 256;
+
 /// Why a row isn't read.
 #[derive(Clone, Copy, Debug, PartialEq, Eq)]
 pub enum Unread {
@@ -41,13 +44,14 @@ impl From<NoMemory> for Unread {
 pub fn row_of_item(alloc: Global, item: &Item) -> Result<ShownRow, NoMemory>
     ensures row { IfOk result (λ row. row ≡ item_columns item.now) }
 {
-    let mut row = ShownRow::new(alloc);
+    let mut row = ShownRow::with_capacity(alloc, item.len().saturating_add(1))?;
     push_marker(alloc, &mut row)?;
+    let mut bytes = Vec::with_capacity(alloc, ROOM)?;
     for at in 0..item.len() {
         let Some((name, value)) = item.at(at) else {
             unreachable!();
         };
-        push_attribute(alloc, &mut row, name, value)?;
+        push_attribute(alloc, &mut row, name, value, &mut bytes)?;
     }
     Ok(row)
 }
@@ -60,12 +64,14 @@ fn push_marker(alloc: Global, row: &mut ShownRow) -> Result<(), NoMemory>
     row.push(Bytes::new(alloc, &[])?, Bytes::new(alloc, &[])?)
 }
 
-/// Puts the column of an attribute at the end.
+/// Puts the column of an attribute at the end. Its bytes are made in a buffer for all, so that they are kept in no more room than they
+/// take.
 fn push_attribute(
     alloc: Global,
     row: &mut ShownRow,
     name: &str,
     value: &Attr,
+    bytes: &mut Vec<u8>,
 ) -> Result<(), NoMemory>
     requires { T (is_sorted key_cmp
         (entries row.old ++ column_of (name.now, tree_of value.now) ∷ [])) }
@@ -73,9 +79,9 @@ fn push_attribute(
         (entries row.new ≡ entries row.old ++ column_of (name.now, tree_of value.now) ∷ []) }
 {
     let name = Bytes::new(alloc, name.as_bytes())?;
-    let mut bytes = Vec::new(alloc);
-    bytes_of(value, &mut bytes)?;
-    row.push(name, Bytes::from_vec(bytes))
+    bytes.clear();
+    bytes_of(value, bytes)?;
+    row.push(name, Bytes::new(alloc, bytes.as_slice())?)
 }
 
 /// The item whose row this is: behind the marker each column is an attribute, with a value that isn't too deep.

@@ -1,5 +1,5 @@
 -- The first row with a column.
-use Rattle.std.proofs.Common.{sym, ap, ◌∙◌}
+use Rattle.std.proofs.Common.{◌∷◌, sym, ap, ◌∙◌}
 use Rattle.alt_cells.specs.Changes.{as_shown}
 use Rattle.alt_engine.specs.Layout.{shown_of}
 use Rattle.alt_engine.proofs.ShownLaws.{all_between, shown_row}
@@ -15,5 +15,6 @@ returns-then-not-is_empty-clause-first c = (
   shown_of as_shown c.step.new.ahead,
   c.loop-key.invariant ∙ ap (shown_of as_shown) c.in-Some.ensures
       ∙ shown_row c.in-Some.key.now c.in-Some.row.now c.step.new.ahead
-      (sym c.is_empty.ensures ∙ c.if-not-is_empty.true),
+      (sym c.is_empty.ensures ∙ c.if-not-is_empty.true)
+      ∙ (λ i. (sym c.key.ensures.same i, c.in-Some.row.now) ∷ shown_of as_shown c.step.new.ahead),
 )

@@ -21,7 +21,7 @@ loop-left-preserved-then-not-is_empty c =
     let rest = turned c.args.forward c.step.new.ahead in
     let push : c.push.new.self.items ≡ out ++ (key, row) ∷ [] =
     c.in_ok-push.ensures.items ∙ (λ i. out
-    ++ (c.in_ok-copy.ensures.same i, c.in_ok-copy-2.ensures.same i) ∷ []) in
+    ++ ((c.in_ok-copy.ensures.same ∙ c.key.ensures.same) i, c.in_ok-copy-2.ensures.same i) ∷ []) in
     record {
       rest = ap (λ (l : List (List ℕ × Columns)). l ++ take (left - 1) (shown_of as_shown rest))
           push

@@ -13,7 +13,7 @@ index_changes-requires-clause-families c = own_families c.args.schema.now c.requ
 pub index_changes-requires-clause-rows : goal.index_changes-requires-clause-rows
 index_changes-requires-clause-rows c =
     subst (λ (batch : _). AreNew batch (index_changes c.args.schema.now
-    (option_copied c.as_ref-3.result) (option_copied c.as_ref-4.result)))
+    (option_copied c.as_ref.result) (option_copied c.as_ref-2.result)))
     (sym (c.in_ok-add.ensures.ok
     ∙ ap (λ changes. changes ++ c.in_ok-change.change ∷ []) c.new-batch.ensures))
     (index_changes_new c.args.schema.now c.requires.families _ _ c.in_ok-change.change

@@ -17,12 +17,12 @@ returns-then-self-ge-LAST_NUMBER-clause-any_moment g c trusted l stands =
 pub returns-then-self-ge-LAST_NUMBER-clause-err : goal.returns-then-self-ge-LAST_NUMBER-clause-err
 returns-then-self-ge-LAST_NUMBER-clause-err g c = same_self c.args.self.now
 
-pub returns-in_err-put_write-clause-any_moment : goal.returns-in_err-put_write-clause-any_moment
-returns-in_err-put_write-clause-any_moment g c trusted l stands =
+pub returns-in_err-bytes-clause-any_moment : goal.returns-in_err-bytes-clause-any_moment
+returns-in_err-bytes-clause-any_moment g c trusted l stands =
     images_at_rest (g.D.Disk.state c.args.disk.now) c.args.self.now l c.args.batch.now stands
 
-pub returns-in_err-put_write-clause-err : goal.returns-in_err-put_write-clause-err
-returns-in_err-put_write-clause-err g c =
+pub returns-in_err-bytes-clause-err : goal.returns-in_err-bytes-clause-err
+returns-in_err-bytes-clause-err g c =
     on_err_holds c.from_residual.result (same_self c.args.self.now)
 
 pub returns-in_err-rows-clause-any_moment : goal.returns-in_err-rows-clause-any_moment
@@ -48,9 +48,9 @@ returns-in-Err-Failed-clause-any_moment g c trusted l stands =
     images_on s (g.D.Disk.state c.append.new.disk) c.args.self.now l c.args.batch.now
     c.as_slice-3.result.now stands (spelled_as s c.args.self.now l c.args.batch.now
     c.as_slice-3.result.now _ _ _ stands c.as_slice-3.ensures.value
-    c.in_ok-put_write.ensures.appended c.new-bytes.ensures.items c.as_slice.ensures.changes)
+    c.in_ok-bytes.ensures.bytes refl c.as_slice.ensures.changes)
     (fits_as s c.args.self.now l c.args.batch.now _ stands c.as_slice.ensures.changes
-    c.in_ok-put_write.ensures.held)
+    c.in_ok-bytes.ensures.held)
     (c.append.ensures.any_moment trusted (map write_bytes stands.reads.writes)
     (log_of s c.args.self.now l stands))
 
@@ -60,9 +60,9 @@ returns-in-Err-NoMemory-clause-any_moment g c trusted l stands =
     images_on s (g.D.Disk.state c.append.new.disk) c.args.self.now l c.args.batch.now
     c.as_slice-3.result.now stands (spelled_as s c.args.self.now l c.args.batch.now
     c.as_slice-3.result.now _ _ _ stands c.as_slice-3.ensures.value
-    c.in_ok-put_write.ensures.appended c.new-bytes.ensures.items c.as_slice.ensures.changes)
+    c.in_ok-bytes.ensures.bytes refl c.as_slice.ensures.changes)
     (fits_as s c.args.self.now l c.args.batch.now _ stands c.as_slice.ensures.changes
-    c.in_ok-put_write.ensures.held)
+    c.in_ok-bytes.ensures.held)
     (c.append.ensures.any_moment trusted (map write_bytes stands.reads.writes)
     (log_of s c.args.self.now l stands))
 
@@ -72,9 +72,9 @@ returns-clause-any_moment g c trusted l stands =
     images_on s (g.D.Disk.state c.append.new.disk) c.args.self.now l c.args.batch.now
     c.as_slice-3.result.now stands (spelled_as s c.args.self.now l c.args.batch.now
     c.as_slice-3.result.now _ _ _ stands c.as_slice-3.ensures.value
-    c.in_ok-put_write.ensures.appended c.new-bytes.ensures.items c.as_slice.ensures.changes)
+    c.in_ok-bytes.ensures.bytes refl c.as_slice.ensures.changes)
     (fits_as s c.args.self.now l c.args.batch.now _ stands c.as_slice.ensures.changes
-    c.in_ok-put_write.ensures.held)
+    c.in_ok-bytes.ensures.held)
     (c.append.ensures.any_moment trusted (map write_bytes stands.reads.writes)
     (log_of s c.args.self.now l stands))
 
@@ -87,14 +87,14 @@ returns-clause-ok g c trusted l stands =
     stands_on s (g.D.Disk.state c.append.new.disk) c.args.self.now l c.args.batch.now
     c.as_slice-3.result.now stands (spelled_as s c.args.self.now l c.args.batch.now
     c.as_slice-3.result.now _ _ _ stands c.as_slice-3.ensures.value
-    c.in_ok-put_write.ensures.appended c.new-bytes.ensures.items c.as_slice.ensures.changes)
+    c.in_ok-bytes.ensures.bytes refl c.as_slice.ensures.changes)
     (fits_as s c.args.self.now l c.args.batch.now _ stands c.as_slice.ensures.changes
-    c.in_ok-put_write.ensures.held) _
+    c.in_ok-bytes.ensures.held) _
     (c.append.ensures.any_moment trusted (map write_bytes stands.reads.writes)
     (log_of s c.args.self.now l stands))
     (c.in-Ok.ensures.ok trusted (map write_bytes stands.reads.writes) stands.reads.log)
     c.append.ensures.file refl
-    (λ f k. c.sweep.ensures f k ∙ c.commit.ensures f k
+    (λ f k. c.settle.ensures f k
     ∙ (λ i. row_after (made i) f k (c.prepare.ensures.same f k i))
     ∙ shown_on l (batch_write l c.args.batch.now) before
     (stands_past s c.args.self.now l stands) (omega arith) stands.reads.rows f k)

@@ -31,6 +31,7 @@ use alt_lines::{LONGEST_LINE, Lines};
 use alt_shell::Shell;
 use alt_tables::Tables;
 use std::alloc::Global;
+use std::mem::forget;
 
 /// How many bytes are taken at a time at most.
 const TAKE: usize = 65_536;
@@ -165,7 +166,12 @@ fn over_store<S: Shell>(alloc: Global, job: Job, shell: &mut S) -> Result<(), Ru
     ensures passes { Passes (S.state shell.old) (S.state shell.new) }
 {
     match open(alloc, shell) {
-        Ok(mut tables) => carry_out(alloc, &mut tables, job, shell),
+        Ok(mut tables) => {
+            let done = carry_out(alloc, &mut tables, job, shell);
+            // The process ends here, and the system takes all of its memory back at once.
+            forget(tables);
+            done
+        }
         Err(fault) => Err(fault),
     }
 }

@@ -23,28 +23,28 @@ returns-in-Err-clause-readable g c = λ tells.
       c.in-Err.ensures.unreadable tells,
     )
 
-pub carry_out-requires-clause-ready : goal.carry_out-requires-clause-ready
-carry_out-requires-clause-ready g c = λ trusted.
+pub carry_out-done-requires-clause-ready : goal.carry_out-done-requires-clause-ready
+carry_out-done-requires-clause-ready g c = λ trusted.
     let state = g.S.Disk.state in
     let old = state c.args.shell.now in
     let back = trusted_back old (state c.open.new.disk) c.in-Ok.ensures.goes trusted in
     let stood = c.in-Ok.ensures.reads (tells_of old back) in
     (stood.0, c.in-Ok.ensures.stands back stood.0 stood.1)
 
-pub carry_out-requires-clause-quiet : goal.carry_out-requires-clause-quiet
-carry_out-requires-clause-quiet g c = ap talks c.in-Ok.ensures.goes.beside ∙ c.requires.quiet
+pub carry_out-done-requires-clause-quiet : goal.carry_out-done-requires-clause-quiet
+carry_out-done-requires-clause-quiet g c = ap talks c.in-Ok.ensures.goes.beside ∙ c.requires.quiet
 
 pub returns-in-Ok-clause-done : goal.returns-in-Ok-clause-done
 returns-in-Ok-clause-done g c = λ trusted.
     let state = g.S.Disk.state in
     let old = state c.args.shell.now in
     let stood = c.in-Ok.ensures.reads (tells_of old trusted) in
-    opened_result old (state c.open.new.disk) (state c.carry_out.new.shell) stood.0 c.args.job stood.1
-    c.in-Ok.ensures.goes c.in-Ok.ensures.leaves c.carry_out.result
-    (c.carry_out.ensures.done stood.0 (c.in-Ok.ensures.stands trusted stood.0 stood.1))
+    opened_result old (state c.open.new.disk) (state c.carry_out-done.new.shell) stood.0 c.args.job
+    stood.1 c.in-Ok.ensures.goes c.in-Ok.ensures.leaves c.carry_out-done.result
+    (c.carry_out-done.ensures.done stood.0 (c.in-Ok.ensures.stands trusted stood.0 stood.1))
 
 pub returns-in-Ok-clause-reread : goal.returns-in-Ok-clause-reread
 returns-in-Ok-clause-reread g c = λ is.
     let state = g.S.Disk.state in
-    opened_again (state c.args.shell.now) (state c.open.new.disk) (state c.carry_out.new.shell)
-    c.in-Ok.ensures.goes c.carry_out.result (c.carry_out.ensures.reread is)
+    opened_again (state c.args.shell.now) (state c.open.new.disk) (state c.carry_out-done.new.shell)
+    c.in-Ok.ensures.goes c.carry_out-done.result (c.carry_out-done.ensures.reread is)

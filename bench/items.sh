@@ -1,16 +1,20 @@
 #!/usr/bin/env bash
 # Lines a second, memory, and instructions a line of `replay` for items of 337 bytes of JSON, alone and among 256 tables and 100,000
-# items, and for items of 400 KB, over the built program. Not part of the gate.
+# items, and for items of 400 KB, over the built program. Not part of the gate. The store lies in memory (/dev/shm), where there is such
+# a folder, since on a disk the syncs are what is measured.
 # Usage: bench/items.sh [LINES], 100000 by default.
 set -eu
 cd "$(dirname "$0")/.."
 lines=${1:-100000}
 out=bench/out
 mkdir -p "$out"
+work=$(mktemp -d -p "$([ -w /dev/shm ] && echo /dev/shm || echo "$out")")
+trap 'rm -rf "$work"' EXIT
+store=$work/store
 program=${PROGRAM:-crates/alternator/out/alternator}
 [ -n "${PROGRAM:-}" ] || ./alternator . 0 >/dev/null 2>&1 || true
 # an empty store for the next run
-empty() { rm -rf "$out/store" && "$program" "$out/store" 0 init >/dev/null; }
+empty() { rm -rf "$store" && "$program" "$store" 0 init >/dev/null; }
 create() { # NAME
   printf 'CreateTable {"TableName":"%s","KeySchema":[{"AttributeName":"pk","KeyType":"HASH"}],"AttributeDefinitions":[{"AttributeName":"pk","AttributeType":"S"}]}\n' "$1"
 }
@@ -30,14 +34,14 @@ timed() { # WHAT LINES FILE
   local start end
   start=$(date +%s.%N)
   empty
-  "$program" "$out/store" 0 replay 65536 4 <"$3" >/dev/null
+  "$program" "$store" 0 replay 65536 4 <"$3" >/dev/null
   end=$(date +%s.%N)
   awk -v k="$1" -v n="$2" -v a="$start" -v b="$end" 'BEGIN { printf "%s: %d lines in %.2f s, %d lines a second\n", k, n, b - a, n / (b - a) }'
-  if [ -x /usr/bin/time ]; then empty; /usr/bin/time -f "$1: %M KB at most" "$program" "$out/store" 0 replay 65536 4 <"$3" >/dev/null; fi
+  if [ -x /usr/bin/time ]; then empty; /usr/bin/time -f "$1: %M KB at most" "$program" "$store" 0 replay 65536 4 <"$3" >/dev/null; fi
 }
 counted() { # FILE
   empty
-  valgrind --tool=callgrind --callgrind-out-file="$out/counted.callgrind" "$program" "$out/store" 0 replay 65536 4 <"$1" 2>&1 >/dev/null | awk '/Collected/ { print $4 }'
+  valgrind --tool=callgrind --callgrind-out-file="$out/counted.callgrind" "$program" "$store" 0 replay 65536 4 <"$1" 2>&1 >/dev/null | awk '/Collected/ { print $4 }'
 }
 { tables 1; puts "$lines"; } >"$out/puts.lines"
 timed "put 337 bytes under a new key" "$lines" "$out/puts.lines"
@@ -60,7 +64,7 @@ timed "put and get 400 KB" 100 "$out/large.lines"
 processor() { # FILE, seconds of the processor
   local TIMEFORMAT=%U
   empty
-  { time "$program" "$out/store" 0 replay 65536 4 <"$1" >/dev/null; } 2>&1
+  { time "$program" "$store" 0 replay 65536 4 <"$1" >/dev/null; } 2>&1
 }
 for size in "1 1" "256 100000"; do
   read -r count items <<<"$size"

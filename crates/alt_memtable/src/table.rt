@@ -18,6 +18,7 @@ use alt_cells::RowCells;
 use alt_fields::Bytes;
 use std::alloc::Global;
 use std::collections::BTreeMap;
+use std::collections::btree_map::Range;
 use std::marker::Model;
 
 /// Rows by key, and a count of the bytes that were put.
@@ -93,6 +94,14 @@ impl Memtable {
     {
         self.rows = BTreeMap::new(self.alloc);
         self.bytes = 0;
+    }
+
+    /// The rows, in the order of their keys.
+    pub fn rows(&self) -> Range<'_, Bytes, RowCells>
+        ensures { result ≡ map.entries self.now.0 }
+    {
+        let _count = self.rows.len();
+        self.rows.range(..)
     }
 
     /// A walk over the rows, as they stand while it lasts.

@@ -22,7 +22,7 @@ abbrev name_of : Entry → List ℕ
 name_of e = e.name
 
 -- what is below each name is below the one at a place
-below_at : (x : List ℕ) (es : List Entry) (k : ℕ) (d : Entry)
+pub below_at : (x : List ℕ) (es : List Entry) (k : ℕ) (d : Entry)
     → T (below_all text_order x (map pair_of es)) → k < length es
     → text_order x (get_or es k d).name ≡ Less
 below_at x [] k d h within = absurd (omega arith)

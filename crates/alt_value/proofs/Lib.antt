@@ -1,6 +1,7 @@
 pub mod Places
 pub mod Texts
 pub mod Entries
+pub mod InTurn
 pub mod Trees
 pub mod Budget
 pub mod Same

@@ -1,6 +1,7 @@
 pub mod CellBytes
 pub mod Item
 pub mod Members
+pub mod Named
 pub mod Order
 pub mod Place
 pub mod Size

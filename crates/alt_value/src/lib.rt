@@ -2,6 +2,7 @@
 #![tactic(auto)]
 
 mod attr;
+mod building;
 mod bytes_set;
 mod compare;
 mod copies;
@@ -15,6 +16,7 @@ mod text;
 mod text_set;
 
 pub use attr::{Attr, AttrList, Item, held};
+pub use building::ItemBuilder;
 pub use bytes_set::BytesSet;
 pub use compare::{equal, item_equal, order};
 pub use copies::copy;

@@ -1,40 +1,78 @@
 #!/usr/bin/env bash
-# The most memory that `replay` holds for a request of 4 MB whose text of 4 KB names one value of 4 MB some 500 times, beside one that names
-# it once: in a condition, in an update that is refused at its first action, and in one that is worked out and found too large. The same of
-# one name of 4 MB, in a condition, in an update that is refused and in a projection. Over the built program. Not part of the gate.
-# Usage: bench/hostile.sh [BYTES], of the value or the name, 4000000 by default.
+# What requests cost that are made to cost much: the processor seconds of `replay` over each, and the most memory that it holds, beside the
+# bytes of the request. The cases are the table at the end: a line each, of its name and what prints its lines. Over the built program,
+# on a new store each. Not part of the gate.
+# Usage: bench/hostile.sh [WORD], only the cases whose names have the word. BYTES=N: of the long values and names, 4000000 by default.
 set -eu
 cd "$(dirname "$0")/.."
-bytes=${1:-4000000}
+bytes=${BYTES:-4000000}
+only=${1:-}
 out=bench/out
 mkdir -p "$out"
 program=${PROGRAM:-crates/alternator/out/alternator}
 [ -n "${PROGRAM:-}" ] || ./alternator . 0 >/dev/null 2>&1 || true
 create='CreateTable {"TableName":"Tab","KeySchema":[{"AttributeName":"k","KeyType":"HASH"}],"AttributeDefinitions":[{"AttributeName":"k","AttributeType":"S"}]}'
-value=$(head -c "$bytes" /dev/zero | tr '\0' x)
-# COUNT FORMAT BETWEEN: so many pieces of a text, each with its number in the place of %03d or %d
+# measured NAME LINES..: runs the lines that the command LINES prints, and tells of the last
+measured() {
+  local name=$1
+  shift
+  case $name in *"$only"*) ;; *) return 0 ;; esac
+  rm -rf "$out/store" && "$program" "$out/store" 0 init >/dev/null
+  "$@" >"$out/hostile.lines"
+  /usr/bin/time -f '%U %S %M' -o "$out/hostile.cost" "$program" "$out/store" 0 replay 65536 4 <"$out/hostile.lines" >"$out/hostile.replies"
+  awk -v name="$name" -v given="$(wc -c <"$out/hostile.lines")" -v reply="$(tail -n 1 "$out/hostile.replies" | cut -c 1-80)" '
+    { printf "%s: %d bytes, %.2f s, %.2f s a MB, %d KB at most, %.1f times the bytes; %s\n", name, given, $1 + $2, ($1 + $2) * 1e6 / given, $3, $3 * 1024 / given, reply }' "$out/hostile.cost"
+}
+
+# ---- lines
+
+# a text of BYTES bytes
+long() { head -c "$bytes" /dev/zero | tr '\0' x; }
+# pieces COUNT FORMAT BETWEEN: so many pieces of a text, each with its number in the place of %03d or %d
 pieces() { seq 0 $(($1 - 1)) | awk -v format="$2" -v between="$3" '{ printf "%s" format, (NR > 1 ? between : ""), $1 }'; }
 # what is given, by its one word
 values='"ExpressionAttributeValues":{":v":{"S":"%s"}}'
 names='"ExpressionAttributeNames":{"#n":"%s"}'
-request() { # OPERATION MEMBER TEXT GIVEN
-  printf '%s\n%s {"TableName":"Tab","Key":{"k":{"S":"a"}},"%s":"%s",'"$4"'}\n' "$create" "$1" "$2" "$3" "$value"
+# text OPERATION MEMBER TEXT GIVEN: a text beside a long value or a long name
+text() { printf '%s\n%s {"TableName":"Tab","Key":{"k":{"S":"a"}},"%s":"%s",'"$4"'}\n' "$create" "$1" "$2" "$3" "$(long)"; }
+# attributes ORDER COUNT: so many attributes with names of three bytes, which rise, fall or come in no order, or each of which comes twice
+attributes() {
+  awk -v order="$1" -v count="$2" 'BEGIN {
+    for (i = 0; i < count; i++) {
+      at = order == "falling" ? count - 1 - i : order == "random" ? (i * 7919) % count : order == "twice" ? i % (count / 2) : i
+      printf "%s\"%c%c%c\":{\"NULL\":true}", (i > 0 ? "," : ""), 48 + int(at / 1936), 48 + int(at / 44) % 44, 48 + at % 44
+    }
+  }'
 }
-held() { # NAME OPERATION MEMBER TEXT GIVEN
-  rm -rf "$out/store" && "$program" "$out/store" 0 init >/dev/null
-  request "$2" "$3" "$4" "$5" >"$out/hostile.lines"
-  /usr/bin/time -f %M -o "$out/hostile.kb" "$program" "$out/store" 0 replay 65536 4 <"$out/hostile.lines" >"$out/hostile.replies"
-  awk -v name="$1" -v given="$(wc -c <"$out/hostile.lines")" -v text="${#4}" -v reply="$(tail -n 1 "$out/hostile.replies" | cut -c 1-120)" '
-    { printf "%s, of %d bytes: %d KB at most, %.1f times the bytes of the request; %s\n", name, text, $1, $1 * 1024 / given, reply }' "$out/hostile.kb"
+# put ORDER COUNT: an item with so many attributes; within ORDER COUNT: one with a map of so many
+put() { printf '%s\nPutItem {"TableName":"Tab","Item":{"k":{"S":"a"},%s}}\n' "$create" "$(attributes "$1" "$2")"; }
+within() { printf '%s\nPutItem {"TableName":"Tab","Item":{"k":{"S":"a"},"m":{"M":{%s}}}}\n' "$create" "$(attributes "$1" "$2")"; }
+# the same with a last attribute that is spelled with a null beside its kind, so that the body is read to a JSON tree first
+through_a_tree() { "$@" | sed 's/}}$/,"~":{"NULL":true,"S":null}}}/'; }
+# nested COUNT: so many attributes, each with maps of one entry in one another, 31 deep
+nested() {
+  awk -v count="$1" 'BEGIN {
+    for (i = 0; i < 31; i++) { open = open "{\"M\":{\"a\":"; close_ = close_ "}}" }
+    for (i = 0; i < count; i++) printf "%s\"%06d\":%s{\"NULL\":true}%s", (i > 0 ? "," : ""), i, open, close_
+  }'
 }
-update() { # NAME MEMBER TEXT GIVEN
-  held "$1" UpdateItem "$2" "$3" "$4"
-}
-update "a condition that names a value once" ConditionExpression "k = :v" "$values"
-update "a condition that names it 500 times" ConditionExpression "$(pieces 500 'k=:v' ' OR ')" "$values"
-update "an update that names it 500 times and is refused" UpdateExpression "ADD $(pieces 500 'a%03d :v' ',')" "$values"
-update "an update that puts it 500 times" UpdateExpression "SET $(pieces 500 'a%03d=:v' ',')" "$values"
-update "a condition that names an attribute once" ConditionExpression "#n = k" "$names"
-update "a condition that names it 500 times" ConditionExpression "$(pieces 500 '#n=k' ' OR ')" "$names"
-update "an update that names it 500 times and is refused" UpdateExpression "REMOVE $(pieces 500 '#n[%d]' ',')" "$names"
-held "a projection that names it 500 times" GetItem ProjectionExpression "$(pieces 500 '#n[%d]' ',')" "$names"
+deep() { printf '%s\nPutItem {"TableName":"Tab","Item":{"k":{"S":"a"},%s}}\n' "$create" "$(nested "$1")"; }
+
+# ---- the cases
+
+for order in rising falling random twice; do
+  for count in 20000 40000 80000; do measured "names $order, $count in an item" put "$order" "$count"; done
+  for count in 20000 40000 80000; do measured "names $order, $count in a map" within "$order" "$count"; done
+  for count in 20000 40000 80000; do measured "names $order, $count in a map, through a tree" through_a_tree within "$order" "$count"; done
+done
+measured "maps of one entry in one another, 400 KB" deep 1000
+measured "maps of one entry in one another, 4 MB" deep 10000
+measured "a condition that names a value once" text UpdateItem ConditionExpression "k = :v" "$values"
+measured "a condition that names it 500 times" text UpdateItem ConditionExpression "$(pieces 500 'k=:v' ' OR ')" "$values"
+measured "an update that names it 500 times and is refused" text UpdateItem UpdateExpression "ADD $(pieces 500 'a%03d :v' ',')" "$values"
+measured "an update that puts it 500 times" text UpdateItem UpdateExpression "SET $(pieces 500 'a%03d=:v' ',')" "$values"
+measured "a condition that names an attribute once" text UpdateItem ConditionExpression "#n = k" "$names"
+measured "a condition that names it 500 times, an attribute" text UpdateItem ConditionExpression "$(pieces 500 '#n=k' ' OR ')" "$names"
+measured "an update that names it 500 times and is refused, an attribute" text UpdateItem UpdateExpression "REMOVE $(pieces 500 '#n[%d]' ',')" "$names"
+measured "a projection that names it 500 times, an attribute" text GetItem ProjectionExpression "$(pieces 500 '#n[%d]' ',')" "$names"
+rm -rf "$out/store"

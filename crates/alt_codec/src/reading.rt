@@ -12,7 +12,7 @@ ghost use Rattle.alt_codec.specs.Reading.{value_in, item_in, only_member, only_p
 
 use crate::ValueFault;
 use crate::flat::flat_of;
-use alt_value::{Attr, AttrList, Item, held};
+use alt_value::{Attr, AttrList, Item, ItemBuilder, held};
 use serde_json::{Map, Value};
 use std::alloc::Global;
 
@@ -175,7 +175,7 @@ fn fields_at(alloc: Global, members: &Map<String, Value>, room: u32) -> Result<I
     ensures fault { IfErr result (λ f. f ≢ ValueFault.NoMemory
         → fields_in room [] (members_view members.now.entries) ≡ Err f) }
 {
-    let mut item = Item::new(alloc);
+    let mut item = ItemBuilder::new(alloc);
     for (name, v) in members {
         if name.is_empty() {
             return Err(ValueFault::EmptyName);
@@ -183,5 +183,8 @@ fn fields_at(alloc: Global, members: &Map<String, Value>, room: u32) -> Result<I
         let value = value_at(alloc, v, room)?;
         item.put(name.as_str(), value)?;
     }
-    Ok(item)
+    match item.into_item() {
+        Ok(item) => Ok(item),
+        Err(_) => Err(ValueFault::NoMemory),
+    }
 }

@@ -4,6 +4,7 @@ Each server is over a store of its own with the empty table Tab, and is given th
 itself, with status 0 and without a note. What was said is compared byte for byte but for the date, which has to be that of now.
 """
 
+import http.client
 import json
 import os
 import re
@@ -384,6 +385,25 @@ def narrow(server):
     return server.connection(SO_RCVBUF=4096, TCP_MAXSEG=536)
 
 
+def refused_late():
+    """Heads that are refused, whose bodies come once the reply was said: their peers read it, and so does a client that reads only then."""
+    server = Server(1, len(REFUSED) + 2)
+    for name, text, *why in REFUSED:
+        peer = server.connection()
+        send(peer, text)
+        time.sleep(0.1)
+        send(peer, bytes(300000))
+        time.sleep(0.1)
+        send(peer, b"}")
+        wants(name + ", and a body later", heard(peer), refused(*why))
+    client = http.client.HTTPConnection("127.0.0.1", server.port, timeout=LIMIT)
+    client.request("POST", "/", bytes(16777217))
+    reply = client.getresponse()
+    wants("a body too long of http.client", (reply.status, reply.read()), (413, b'{"message":"request too long"}'))
+    wants("behind those", asked(server, put("a")), LAST)
+    wants("the refused", server.end(), ENDED)
+
+
 # ---- peers that wait, each on a server of its own, all at once: no peer stops the others for long
 
 
@@ -426,6 +446,13 @@ def is_slow(peer):
     send(peer, put("c"), 1, 2.5)
 
 
+def is_let_go_on_late(peer):
+    text = put("c", "Expect: 100-continue")
+    body = text.index(b"{")
+    send(peer, text[:body], body // 7, 2.5)
+    send(peer, text[body:], 1, 2.5)
+
+
 def takes_nothing(peer):
     send(peer, get("a"))
 
@@ -438,9 +465,10 @@ def main():
         Waiting("a peer that is silent", is_silent, 14.5, 25),
         Waiting("a peer that keeps its connection", keeps_its_connection, 14.5, 25),
         Waiting("a peer that sends too slowly", is_slow, 29.5, 40),
+        Waiting("a peer that is let go on late and sends too slowly", is_let_go_on_late, 29.5, 40),
         Waiting("a peer that takes no reply", takes_nothing, 14.5, 25),
     ]
-    for rows in [first, seven, talks, unheard, pieces, each_byte, thousand, vanishing] + [one.tell for one in waiting]:
+    for rows in [first, seven, talks, unheard, pieces, each_byte, thousand, vanishing, refused_late] + [one.tell for one in waiting]:
         try:
             rows()
         except (OSError, ValueError, subprocess.SubprocessError) as error:

@@ -71,6 +71,67 @@ says 'other names are passed over' 0 ok ./alternator "$work/part" 0 init
 [ "$(cat "$work/made/"*.alt | od -An -tx1 | tr -d ' \n')" = 414c544c4f473031010000000000000020000000030000000000000001000000000000000100000002000000000000000000414c544c4f47303100 ] \
   && passed=$((passed + 1)) || { failed=$((failed + 1)); echo 'the bytes of an empty store'; }
 
+# ---- closed standard streams: no file of a store comes into the place of one, so nothing is said or noted into it
+
+printf '%s\n' "PutItem $(printf '{"TableName":"Tab","Item":{"k":{"S":"a"}}}')" >"$work/put"
+mkdir "$work/tabled"
+./alternator "$work/tabled" 0 init >/dev/null
+printf '%s\n' 'CreateTable {"TableName":"Tab","KeySchema":[{"AttributeName":"k","KeyType":"HASH"}],"AttributeDefinitions":[{"AttributeName":"k","AttributeType":"S"}]}' \
+  | ./alternator "$work/tabled" 0 replay 65536 4 >/dev/null
+cp -r "$work/tabled" "$work/crooked"
+printf 'ALTLOG02\0' | dd of="$work/crooked/00000002.alt" conv=notrunc 2>/dev/null
+# without STREAMS COMMAND..: runs it without these standard streams, some of the digits 0, 1 and 2
+without() {
+  local streams=$1
+  shift
+  (
+    exec <"$work/put" >"$work/said" 2>"$work/noted"
+    [ "${streams/0/}" = "$streams" ] || exec <&-
+    [ "${streams/1/}" = "$streams" ] || exec >&-
+    [ "${streams/2/}" = "$streams" ] || exec 2>&-
+    exec "$@"
+  )
+}
+# closes NAME STATUS BEFORE AFTER LISTED SCANNED WORD..: how a run with these words ends over a copy of the store BEFORE. It leaves what AFTER
+# has, byte for byte, or, where AFTER is -, a store that is opened and lists and scans so.
+closes() {
+  local name="$1, $program without $streams" status=$2 before=$3 after=$4 wanted="200 {\"TableNames\":[$5]}
+200 $6" got left
+  shift 6
+  rm -rf "$work/closed"
+  [ "$before" = - ] || cp -r "$work/$before" "$work/closed"
+  without "$streams" "$program" "$work/closed" "$@"
+  got=$?
+  if [ "$after" = - ]; then
+    left=$(printf '%s\n' 'ListTables {}' 'Scan {"TableName":"Tab"}' | ./alternator "$work/closed" 0 replay 65536 4 2>&1)
+    [ "$left" = "$wanted" ]
+  else
+    left=$(diff -rq "$work/$after" "$work/closed" 2>&1)
+  fi
+  if [ $? = 0 ] && [ "$got" = "$status" ]; then
+    passed=$((passed + 1))
+  else
+    failed=$((failed + 1))
+    echo "$name: status $got and '$left', not $status"
+  fi
+}
+empty='{"Count":0,"Items":[],"ScannedCount":0}'
+one='{"Count":1,"Items":[{"k":{"S":"a"}}],"ScannedCount":1}'
+for program in ./alternator crates/alternator/out/alternator; do
+  for streams in 0 1 2 01 02 12 012; do
+    taken=0 said=0 items=$one
+    [ "${streams/0/}" = "$streams" ] || taken=4 items=$empty
+    [ "${streams/1/}" = "$streams" ] || said=4
+    closes init "$said" - made '' '' 0 init
+    closes 'init over a store' 2 tabled tabled '' '' 0 init
+    closes replay $((taken | said)) tabled - '"Tab"' "$items" 0 replay 65536 4
+    closes serve 0 tabled tabled '' '' 0 serve 1 1 65536 4
+    closes 'serve over no store' 3 crooked crooked '' '' 0 serve 1 1 65536 4
+    closes trial "$said" tabled - '"Tab","Trial"' "$empty" 0 trial 7 1 65536 4
+    closes 'wrong words' 1 tabled tabled '' '' 0 replay 65535 4
+  done
+done
+
 # ---- trials, each over a store of its own
 
 # tried FLUSH WORD..: what a trial with these words, and that FLUSH, says over a fresh store

@@ -5,6 +5,7 @@
 mod disk;
 mod folder;
 mod shell;
+mod standard;
 mod streams;
 mod talk;
 

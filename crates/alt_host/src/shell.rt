@@ -4,6 +4,7 @@ ghost use Rattle.std.specs.Prelude.{◌≡◌, ◌≤◌, true, false, IfOk, is_
 ghost use Rattle.alt_base.specs.Counts.{Rose, next_moment};
 
 use crate::folder::Folder;
+use crate::standard;
 use crate::talk::{self, Peer};
 use alt_disk::{DiskFault, Failed};
 use std::alloc::Global;
@@ -16,6 +17,8 @@ use std::rt::Runtime;
 #[derive(Drop)]
 pub struct HostShell<R: Runtime<File = File> + Net> {
     pub(crate) rt: R,
+    /// In the place of standard streams that were closed.
+    pub(crate) closed: Vec<File>,
     pub(crate) folder: Folder,
     pub(crate) listener: Option<R::Listener>,
     pub(crate) peer: Option<Peer<R::Stream>>,
@@ -30,13 +33,18 @@ pub struct HostShell<R: Runtime<File = File> + Net> {
 
 impl<R: Runtime<File = File> + Net> HostShell<R> {
     /// Opens the folder of that path, which is made where it isn't there, and holds it under a lock; and listens on 127.0.0.1 at the
-    /// port, unless that is 0. Failed where another process has the folder or the port, or where the system fails.
+    /// port, unless that is 0. Failed where another process has the folder or the port, or where the system fails. Before that it takes
+    /// the places of the standard streams that are closed, so that no file of the folder is one.
     pub fn new(rt: R, alloc: Global, folder: &str, port: u16) -> Result<HostShell<R>, DiskFault>
         ensures counts { IfOk result (λ s. (s.moment ≡ 0) × (s.given ≡ 0) × (s.faults ≡ 0)
             × (s.talk_faults ≡ 0)) }
         ensures quiet { IfOk result (λ s. s.talking ≡ false) }
         ensures listener { port ≡ 0 → IfOk result (λ s. is_none s.listener ≡ true) }
     {
+        let closed = match standard::held(&rt, alloc) {
+            Ok(closed) => closed,
+            Err(fault) => return Err(fault),
+        };
         let folder = match Folder::open(&rt, alloc, folder) {
             Ok(folder) => folder,
             Err(fault) => return Err(fault),
@@ -50,6 +58,7 @@ impl<R: Runtime<File = File> + Net> HostShell<R> {
         }
         Ok(HostShell {
             rt,
+            closed,
             folder,
             listener,
             peer: None,

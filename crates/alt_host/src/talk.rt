@@ -1,7 +1,8 @@
 //! Connections: a listener on the loopback address, and the one connection that the shell talks on.
 //!
 //! No client stops the others for long. A talk on which no byte moves for 15 seconds fails, and so does one whose request isn't
-//! whole 30 seconds after the accept or the last reply, or whose reply isn't taken after 60.
+//! whole 30 seconds after the accept or the last reply, whatever was said to let it go on, or whose reply isn't taken after 60. So one
+//! request and its reply take 90 seconds of the peer's at most, the farewell among them.
 
 ghost use Rattle.std.specs.Prelude.{◌≤◌, ◌<◌, length, IfOk};
 
@@ -16,8 +17,8 @@ const SILENCE: u64 = 15_000;
 /// How long a request may take to come, from the accept or the last reply on.
 const REQUEST: u64 = 30_000;
 
-/// How long a reply may take to be taken.
-const REPLY: u64 = 60_000;
+/// How long after its begin a reply is still written to. With the last write's beat and the farewell these are 60 seconds.
+const REPLY: u64 = 60_000 - BEAT - FAREWELL;
 
 /// How long one write waits at most, in milliseconds: so silence is seen soon after it began, also where the first bytes went at once.
 const BEAT: u64 = 1_000;
@@ -31,12 +32,26 @@ const FAREWELL: u64 = 500;
 /// How many connections in a row may die before they are accepted.
 const TRIES: u32 = 10_000;
 
-/// A connection, when its accept or its last reply was, and whether its reads wait for less than a silence may last.
+/// How an interim reply begins, which lets a client go on and isn't the answer to its request (RFC 9110, section 15.2).
+const INTERIM: &[u8] = b"HTTP/1.1 1";
+
+/// How a reply begins that answers a request by its result.
+const RESULT: &[u8] = b"HTTP/1.1 200";
+
+/// What stands in a reply to a head that was refused, between its head and its text. Any other body names its exception first.
+const REFUSED: &[u8] = b"\r\n\r\n{\"message\":";
+
+/// How many bytes such a reply has at most.
+const LONGEST_REFUSAL: usize = 256;
+
+/// A connection, when its accept or its last reply was, whether its reads wait for less than a silence may last, and whether the last
+/// reply refused a head, so that its peer may still send what was to follow.
 #[derive(Drop)]
 pub(crate) struct Peer<S: Drop> {
     stream: S,
     since: Instant,
     hurried: bool,
+    refused: bool,
 }
 
 /// Listens on 127.0.0.1 at that port.
@@ -86,6 +101,7 @@ fn greet<C: Clock, S: OpenStream + Drop>(clock: &C, stream: S) -> io::Result<Pee
         stream,
         since,
         hurried: false,
+        refused: false,
     })
 }
 
@@ -95,6 +111,13 @@ fn is_beat(kind: ErrorKind) -> bool {
         kind,
         ErrorKind::WouldBlock | ErrorKind::TimedOut | ErrorKind::Interrupted
     )
+}
+
+/// Whether a reply refuses a head, so that what was to follow it isn't taken.
+fn is_refusal(reply: &[u8]) -> bool {
+    reply.len() <= LONGEST_REFUSAL
+        && !reply.starts_with(RESULT)
+        && reply.windows(REFUSED.len()).any(|bytes| bytes == REFUSED)
 }
 
 /// What is left of a time that began then, if anything is.
@@ -139,18 +162,39 @@ impl<S: OpenStream + Read + Write + Drop> Peer<S> {
         }
     }
 
-    /// Says all of the bytes.
+    /// Says a reply. An interim one is a part of the time that its request has.
     pub(crate) fn say<C: Clock>(&mut self, clock: &C, bytes: &[u8]) -> Result<(), Failed> {
+        if bytes.starts_with(INTERIM) {
+            return self.send(clock, self.since, REQUEST, bytes);
+        }
         let Ok(begun) = Instant::now(clock) else {
             return Err(Failed);
         };
-        let mut moved = begun;
+        match self.send(clock, begun, REPLY, bytes) {
+            Ok(()) => {}
+            Err(fault) => return Err(fault),
+        }
+        self.refused = is_refusal(bytes);
+        self.rest(clock)
+    }
+
+    /// Sends all of the bytes within a time that began then.
+    fn send<C: Clock>(
+        &mut self,
+        clock: &C,
+        begun: Instant,
+        most: u64,
+        bytes: &[u8],
+    ) -> Result<(), Failed> {
+        let Ok(mut moved) = Instant::now(clock) else {
+            return Err(Failed);
+        };
         let mut done = 0;
         'calls: for _ in 0..CALLS {
             if done == bytes.len() {
-                return self.rest(clock);
+                return Ok(());
             }
-            if left(clock, begun, REPLY).is_none() || left(clock, moved, SILENCE).is_none() {
+            if left(clock, begun, most).is_none() || left(clock, moved, SILENCE).is_none() {
                 return Err(Failed);
             }
             match self.stream.write(&bytes[done..]) {
@@ -188,17 +232,11 @@ impl<S: OpenStream + Read + Write + Drop> Peer<S> {
         }
     }
 
-    /// Ends the connection. Where the peer still sends, it is let finish for a moment: a connection that is closed over bytes
-    /// that came is reset, and the last reply would be lost.
+    /// Ends the connection. Where the peer still sends, or may since its head was refused, it is let finish for a moment: a connection that
+    /// is closed over bytes that came, or to which some come later, is reset, and the last reply would be lost.
     pub(crate) fn end<C: Clock>(mut self, clock: &C) {
-        let mut buf = [0u8; 4096];
-        if self.stream.set_nonblocking(true).is_err() {
+        if !self.refused && !self.sends() {
             return;
-        }
-        match self.stream.read(&mut buf) {
-            Ok(0) => return,
-            Ok(_) => {}
-            Err(_) => return,
         }
         let _ = self.stream.shutdown(std::net::Shutdown::Write);
         if self.stream.set_nonblocking(false).is_err() {
@@ -207,6 +245,7 @@ impl<S: OpenStream + Read + Write + Drop> Peer<S> {
         let Ok(begun) = Instant::now(clock) else {
             return;
         };
+        let mut buf = [0u8; 4096];
         for _ in 0..16_384 {
             let Some(time) = left(clock, begun, FAREWELL) else {
                 return;
@@ -219,6 +258,18 @@ impl<S: OpenStream + Read + Write + Drop> Peer<S> {
                 Ok(_) => {}
                 Err(_) => return,
             }
+        }
+    }
+
+    /// Whether bytes came that weren't taken.
+    fn sends(&mut self) -> bool {
+        if self.stream.set_nonblocking(true).is_err() {
+            return false;
+        }
+        let mut byte = [0u8; 1];
+        match self.stream.read(&mut byte) {
+            Ok(count) => count > 0,
+            Err(_) => false,
         }
     }
 }

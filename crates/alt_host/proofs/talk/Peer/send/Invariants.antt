@@ -1,5 +1,5 @@
 use Rattle.std.proofs.Common.{length, ◌≤◌}
-use Rattle.alt_host.proofs.talk.Peer.say.Given as goal
+use Rattle.alt_host.proofs.talk.Peer.send.Given as goal
 
 abbrev pub invariant-calls : goal.invariant-calls
 invariant-calls g l = l.done ≤ length l.bytes

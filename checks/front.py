@@ -12,7 +12,7 @@ port = int(sys.argv[1])
 
 
 def client():
-    return boto3.client('dynamodb', endpoint_url=f'http://127.0.0.1:{port}', region_name='local', config=Config(retries={'max_attempts': 0}, read_timeout=60))
+    return boto3.client('dynamodb', endpoint_url=f'http://127.0.0.1:{port}', region_name='us-east-1', config=Config(retries={'max_attempts': 0}, read_timeout=60))
 
 
 one = client()
@@ -59,8 +59,8 @@ for it in clients:
     it.join(110)
 assert not faults, faults[:3]
 assert not any(it.is_alive() for it in clients), 'a client waits'
-# Behind an idle one alone a client would wait for 15 seconds.
-assert longest[0] < 10, f'a put and a get took {longest[0]:.1f} s'
+# Behind ten that are idle a client would wait for 150 seconds.
+assert longest[0] < 30, f'a put and a get took {longest[0]:.1f} s'
 big = {'k': {'S': 'big'}, 'v': {'S': 'y' * 390000}}
 one.put_item(TableName='Front', Item=big)
 assert one.get_item(TableName='Front', Key={'k': {'S': 'big'}})['Item'] == big

@@ -1,23 +1,21 @@
 -- What paths choose of a map, name by name.
-use Rattle.std.proofs.Common.{◌≡◌, ◌<◌, length, refl, sym, ap, subst, ◌∙◌, ℕ, suc, Bool, true, false, cond, ◌&&◌, T, List, [], ◌∷◌, ◌++◌, map, Option, Some, None, arith}
-use Rattle.std.specs.Prelude.{option_and_then, filter, ◌==◌}
-use Rattle.std.specs.Str.{bytes_eq}
-use Rattle.std.specs.Ordering.{eq_by_cmp, is_eq, is_lt, nat_cmp}
-use Rattle.std.specs.Cmp.{IsTotalOrder, tied_itself, unsigned_ties, nat_eq_equiv}
-use Rattle.std.specs.Cmp.Lexicographic.{texts_ties, nat_list_eq_equiv}
+use Rattle.std.proofs.Common.{◌≡◌, ◌<◌, ◌≤◌, ◌+◌, length, refl, sym, ap, subst, ◌∙◌, ℕ, zero, suc, true, false, cond, T, List, [], ◌∷◌, ◌++◌, take, Option, Some, None, arith}
+use Rattle.std.specs.Prelude.{option_and_then, slice_get}
+use Rattle.std.specs.Ordering.{eq_by_cmp, is_eq, is_lt}
 use Rattle.std.specs.declared.cmp.Ordering.{Ordering}
 use Rattle.std.specs.declared.cmp.Ordering.TheVariants.{Less, Equal, Greater}
-use Rattle.std.specs.FinMap.Entries.{find-put, below_all, is_sorted, same_entries}
-use Rattle.std.proofs.lemmas.Option.{none-some}
-use Rattle.alt_value.specs.Item.{IsItem, at_name, with_pair}
+use Rattle.std.specs.FinMap.Entries.{find-put, find-append, below_all, is_sorted, same_entries}
+use Rattle.std.proofs.lemmas.List.{take_all}
+use Rattle.std.proofs.lemmas.Option.{same_Some}
+use Rattle.alt_value.specs.Item.{IsItem, at_name}
 use Rattle.alt_value.specs.Members.{text_order}
-use Rattle.alt_value.specs.Tree.{Tree, S_tree, N_tree, B_tree, BOOL_tree, NULL_tree, SS_tree, NS_tree, BS_tree, L_tree, M_tree, Trees, no_trees, tree_then, Fields, no_fields, field_then, Pair, fields_of, pairs}
-use Rattle.alt_value.proofs.Places.{first, second, both, less}
+use Rattle.alt_value.specs.Tree.{Tree, L_tree, M_tree, Trees, no_trees, tree_then, Fields, no_fields, field_then, Pair, fields_of, pairs}
+use Rattle.alt_value.proofs.Places.{first, second, both, less, turned}
 use Rattle.alt_value.proofs.Texts.{text_total, text_apart}
 use Rattle.alt_expr.specs.declared.path.PathPart.{PathPart}
-use Rattle.alt_expr.specs.declared.path.PathPart.TheVariants.{Name, Index}
-use Rattle.alt_expr.specs.Projected.{same_step, behind, under, chosen, chosen_elements, chosen_fields, pair_then, element_then, some_list, some_map, projected}
-use Rattle.alt_projection.specs.Ways.{named_ways, indexed_ways, put_if}
+use Rattle.alt_expr.specs.declared.path.PathPart.TheVariants.{Name}
+use Rattle.alt_expr.specs.Projected.{under, chosen, chosen_elements, chosen_fields, pair_then, element_then, some_list, some_map, projected}
+use Rattle.alt_projection.specs.Ways.{put_if}
 
 -- a name below all others isn't there
 not_there : (q : List ℕ) (ps : List Pair) → T (below_all text_order q ps) → at_name q ps ≡ None
@@ -47,35 +45,6 @@ mutual
   fields-none no_fields = refl
   fields-none (field_then name t fs) =
       ap (λ o. pair_then name o (chosen_fields [] fs)) (chosen-none t) ∙ fields-none fs
-
--- nor of what may be there
-pub none_of : (o : Option Tree) → option_and_then (chosen []) o ≡ None
-none_of None = refl
-none_of (Some t) = chosen-none t
-
--- ---- the paths of a name
-
--- two ways to tell that a name is another
-pub same_name : (m n : List ℕ) → eq_by_cmp text_order n m ≡ bytes_eq m n
-same_name m n = sym (texts_ties n m) ∙ nat_list_eq_equiv.symm n m
-
--- the paths behind a name
-pub named-under : (name : List ℕ) (ways : List (List PathPart))
-    → map (λ p. p.1) (filter (λ p. eq_by_cmp text_order p.0 name) (named_ways ways))
-    ≡ under (Name name) ways
-named-under name [] = refl
-named-under name ([] ∷ ways) = named-under name ways
-named-under name ((Index i ∷ rest) ∷ ways) = named-under name ways
-named-under name ((Name n ∷ rest) ∷ ways) =
-    elim (bytes_eq name n) as (λ b. eq_by_cmp text_order n name ≡ b
-    → map (λ p. p.1)
-    (cond (eq_by_cmp text_order n name) ((n, rest)
-    ∷ filter (λ p. eq_by_cmp text_order p.0 name) (named_ways ways))
-    (filter (λ p. eq_by_cmp text_order p.0 name) (named_ways ways)))
-    ≡ cond b (rest ∷ []) [] ++ under (Name name) ways) [
-      | true ↦ λ e. rw e (ap (λ (l : List (List PathPart)). rest ∷ l) (named-under name ways))
-      | false ↦ λ e. rw e (named-under name ways)
-    ] (same_name name n)
 
 -- ---- looking up a name
 
@@ -181,73 +150,71 @@ at_name-put_if q name None ps =
     [ true ↦ refl | false ↦ refl ]
 at_name-put_if q name (Some t) ps = find-put text_order text_total q name t ps
 
--- where a value is the wanted one or none, the wanted one stands in for it
-either : (w o : Option Tree) (b : Bool) → o ≡ cond b w None → or_else w o ≡ w
-either None o true e = e
-either None o false e = e
-either (Some t) o b e = refl
+-- a name below all pairs is below each of them
+below_at : (x : List ℕ) (ps : List Pair) (i : ℕ) (name : List ℕ) (v : Tree)
+    → T (below_all text_order x ps) → slice_get ps i ≡ Some (name, v) → text_order x name ≡ Less
+below_at x [] i name v h e = cc
+below_at x (p ∷ ps) zero name v h e = ap (λ (r : Pair). text_order x r.0)
+    (sym (same_Some p (name, v) e)) ∙ less (text_order x p.0) (first _ _ h)
+below_at x (p ∷ ps) (suc i) name v h e = below_at x ps i name v (second _ _ h) e
 
-module _ (paths : List (List PathPart)) (item : List Pair) where
-  -- what the paths choose of the item at a name
-  abbrev pub wanted : List ℕ → Option Tree
-  wanted q = option_and_then (chosen (under (Name q) paths)) (at_name q item)
+-- a name doesn't stand before its place
+gone : (ps : List Pair) (i : ℕ) (name : List ℕ) (v : Tree) → T (is_sorted text_order ps)
+    → slice_get ps i ≡ Some (name, v) → at_name name (take i ps) ≡ None
+gone [] i name v h e = cc
+gone (p ∷ ps) zero name v h e = refl
+gone (p ∷ ps) (suc i) name v h e =
+    let over : text_order name p.0 ≡ Greater =
+    turned text_order text_total p.0 name Less (below_at p.0 ps i name v (first _ _ h) e) in
+    ap (λ r. cond (is_eq r) (Some p.1) (at_name name (take i ps))) over
+    ∙ gone ps i name v (second _ _ h) e
 
-  -- Each name that was seen has what is chosen of it, and no other has anything.
-  abbrev pub Seen : (List ℕ → Bool) → List Pair → Type 0
-  Seen seen out = (q : List ℕ) → at_name q out ≡ cond (seen q) (wanted q) None
+module _ (paths : List (List PathPart)) (ps : List Pair) where
+  -- each name so far has what the paths choose of its value
+  abbrev pub Upto : ℕ → List Pair → Type 0
+  Upto i out = (q : List ℕ)
+      → at_name q out ≡ option_and_then (chosen (under (Name q) paths)) (at_name q (take i ps))
 
-  -- a name more is seen, and what is chosen there is put
-  pub seen_more : (seen more : List ℕ → Bool) (name : List ℕ) (before now : List Pair)
-      → Seen seen before
-      → ((q : List ℕ) → more q ≡ cond (eq_by_cmp text_order q name) true (seen q))
-      → now ≡ put_if name (wanted name) before → Seen more now
-  seen_more seen more name before now was is put q =
-      ap (at_name q) put ∙ at_name-put_if q name (wanted name) before ∙
+  -- one pair more is looked at, with what the paths choose of it
+  pub one_more : (i : ℕ) (name : List ℕ) (v : Tree) (before now : List Pair)
+      → T (is_sorted text_order ps) → slice_get ps i ≡ Some (name, v)
+      → take (i + 1) ps ≡ take i ps ++ (name, v) ∷ [] → Upto i before
+      → now ≡ put_if name (chosen (under (Name name) paths) v) before → Upto (i + 1) now
+  one_more i name v before now sorted stands more was put q =
+      let before_q : at_name q (take (i + 1) ps)
+      ≡ cond (eq_by_cmp text_order q name) (Some v) (at_name q (take i ps)) =
+      ap (at_name q) more ∙ find-append text_order text_total (take i ps) name v q
+      (gone ps i name v sorted stands) in
+      ap (at_name q) put ∙ at_name-put_if q name (chosen (under (Name name) paths) v) before ∙
       elim (eq_by_cmp text_order q name) as (λ b. eq_by_cmp text_order q name ≡ b
-      → cond b (or_else (wanted name) (at_name q before)) (at_name q before)
-      ≡ cond (more q) (wanted q) None) [
+      → cond b (or_else (chosen (under (Name name) paths) v) (at_name q before)) (at_name q before)
+      ≡ option_and_then (chosen (under (Name q) paths))
+      (cond b (Some v) (at_name q (take i ps)))) [
         | true ↦ λ e.
             let same : q ≡ name = text_apart q name (equal (text_order q name) e) in
-            either (wanted name) (at_name q before) (seen q) (was q
-            ∙ ap (λ (m : List ℕ). cond (seen q) (wanted m) None) same)
-            ∙ ap wanted (sym same)
-            ∙ ap (λ b. cond b (wanted q) None) (sym (is q ∙ ap (λ b. cond b true (seen q)) e))
+            let none : at_name q (take i ps) ≡ None =
+            ap (λ (m : List ℕ). at_name m (take i ps)) same ∙ gone ps i name v sorted stands in
+            ap (or_else (chosen (under (Name name) paths) v))
+            (was q ∙ ap (option_and_then (chosen (under (Name q) paths))) none)
+            ∙ or_else-none (chosen (under (Name name) paths) v)
+            ∙ ap (λ (m : List ℕ). chosen (under (Name m) paths) v) (sym same)
         | false ↦ λ e. was q
-            ∙ ap (λ b. cond b (wanted q) None) (sym (is q ∙ ap (λ b. cond b true (seen q)) e))
       ] refl
+      ∙ sym (ap (option_and_then (chosen (under (Name q) paths))) before_q)
 
-  -- once each name with a path was seen, it is what is chosen of the item
-  pub seen_all : (seen : List ℕ → Bool) (out : List Pair) → IsItem item → IsItem out → Seen seen out
-      → ((q : List ℕ) → seen q ≡ false → under (Name q) paths ≡ []) → out ≡ projected paths item
-  seen_all seen out is_item is_out was rest =
-      projected-from paths item out is_item is_out (λ q. was q ∙
-      elim (seen q) as (λ b. seen q ≡ b → cond b (wanted q) None ≡ wanted q) [
-        | true ↦ λ e. refl
-        | false ↦ λ e.
-            sym (ap (λ (us : List (List PathPart)). option_and_then (chosen us) (at_name q item))
-            (rest q e) ∙ none_of (at_name q item))
-      ] refl)
+  -- behind the last pair it is what the paths choose of the item
+  pub all_looked_at : (i : ℕ) (out : List Pair) → length ps ≤ i → IsItem ps → IsItem out
+      → Upto i out → out ≡ projected paths ps
+  all_looked_at i out le is_item is_out was =
+      projected-from paths ps out is_item is_out (λ q. was q
+      ∙ ap (λ l. option_and_then (chosen (under (Name q) paths)) (at_name q l)) (take_all i ps le))
 
--- the same of an index
-pub indexed-under : (k : ℕ) (ways : List (List PathPart))
-    → map (λ p. p.1) (filter (λ p. eq_by_cmp nat_cmp p.0 k) (indexed_ways ways))
-    ≡ under (Index k) ways
-indexed-under k [] = refl
-indexed-under k ([] ∷ ways) = indexed-under k ways
-indexed-under k ((Name n ∷ rest) ∷ ways) = indexed-under k ways
-indexed-under k ((Index j ∷ rest) ∷ ways) =
-    elim (k == j) as (λ b. eq_by_cmp nat_cmp j k ≡ b
-    → map (λ p. p.1)
-    (cond (eq_by_cmp nat_cmp j k) ((j, rest)
-    ∷ filter (λ p. eq_by_cmp nat_cmp p.0 k) (indexed_ways ways))
-    (filter (λ p. eq_by_cmp nat_cmp p.0 k) (indexed_ways ways)))
-    ≡ cond b (rest ∷ []) [] ++ under (Index k) ways) [
-      | true ↦ λ e. rw e (ap (λ (l : List (List PathPart)). rest ∷ l) (indexed-under k ways))
-      | false ↦ λ e. rw e (indexed-under k ways)
-    ] (sym (unsigned_ties j k) ∙ nat_eq_equiv.symm j k)
-
--- a name that is there isn't empty
-pub name-some : (name : List ℕ) (t : Tree) (ps : List Pair) → IsItem ps → at_name name ps ≡ Some t
-    → 0 < length name
-name-some [] t ps h e = absurd (none-some t (sym (not_there [] ps h.1) ∙ e))
-name-some (c ∷ cs) t ps h e = omega arith
+-- a name that stands in a map isn't empty
+pub name_some : (ps : List Pair) (i : ℕ) (name : List ℕ) (v : Tree) → IsItem ps
+    → slice_get ps i ≡ Some (name, v) → 0 < length name
+name_some ps i [] v item e = let below : text_order [] [] ≡ Less = below_at [] ps i [] v item.1 e in
+    absurd (not_below below)
+  where
+    not_below : text_order [] [] ≡ Less → ⊥
+    not_below e = cc
+name_some ps i (c ∷ cs) v item e = omega arith

@@ -1,5 +1,5 @@
 -- A list or a map with something in it is given.
-use Rattle.std.proofs.Common.{◌≡◌, refl, sym, ap, ◌∙◌, ◌≢◌, ℕ, false, cond, List, [], ◌∷◌, length, Option, Some}
+use Rattle.std.proofs.Common.{◌≡◌, refl, sym, ap, ◌∙◌, ◌≢◌, false, cond, List, [], ◌∷◌, length, Option, Some}
 use Rattle.alt_value.specs.Tree.{Tree, Pair, L_tree, M_tree, Trees, no_trees, tree_then, Fields, no_fields, field_then, trees_of, fields_of, elements, pairs}
 use Rattle.alt_expr.specs.declared.path.PathPart.{PathPart}
 use Rattle.alt_expr.specs.Projected.{is_whole, chosen, chosen_elements, chosen_fields, projected, some_list, some_map}

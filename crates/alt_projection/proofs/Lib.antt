@@ -1,6 +1,7 @@
 pub mod Chosen
 pub mod Kept
-pub mod Walk
 pub mod Smaller
-pub mod Groups
-pub mod Steps
+pub mod Order
+pub mod Range
+pub mod Sameness
+pub mod Loops

@@ -1,10 +1,7 @@
 -- What a list or a map holds is less deep than it.
-use Rattle.std.proofs.Common.{◌≡◌, ap, ◌∙◌, sym, ℕ, zero, suc, ◌≤◌, Bool, true, false, cond, List, [], ◌∷◌, Option, Some, None, arith}
-use Rattle.std.specs.Prelude.{slice_get, max}
-use Rattle.std.specs.Ordering.{eq_by_cmp}
+use Rattle.std.proofs.Common.{◌≡◌, ap, ℕ, zero, suc, ◌≤◌, List, [], ◌∷◌, Some, arith}
+use Rattle.std.specs.Prelude.{slice_get}
 use Rattle.std.proofs.lemmas.Option.{same_Some}
-use Rattle.alt_value.specs.Item.{at_name}
-use Rattle.alt_value.specs.Members.{text_order}
 use Rattle.alt_value.specs.Size.{depth, elements_depth, fields_depth}
 use Rattle.alt_value.specs.Tree.{Tree, Pair, trees_of, fields_of}
 
@@ -16,13 +13,11 @@ depth-element (s ∷ ts) zero t e = let d : depth s ≡ depth t = ap depth (same
     omega (arith, d)
 depth-element (s ∷ ts) (suc i) t e = omega (arith, depth-element ts i t e)
 
--- what a map holds at a name is no deeper than its pairs
-pub depth-field : (name : List ℕ) (ps : List Pair) (t : Tree) → at_name name ps ≡ Some t
+-- what a map holds is no deeper than its pairs
+pub depth-pair : (ps : List Pair) (i : ℕ) (name : List ℕ) (t : Tree) → slice_get ps i ≡ Some (name, t)
     → depth t ≤ fields_depth (fields_of ps)
-depth-field name [] t e = cc
-depth-field name (p ∷ ps) t e =
-    elim (eq_by_cmp text_order name p.0) as (λ b. cond b (Some p.1) (at_name name ps) ≡ Some t
-    → depth t ≤ max (depth p.1) (fields_depth (fields_of ps))) [
-      | true ↦ λ h. let d : depth p.1 ≡ depth t = ap depth (same_Some p.1 t h) in omega (arith, d)
-      | false ↦ λ h. omega (arith, depth-field name ps t h)
-    ] e
+depth-pair [] i name t e = cc
+depth-pair (p ∷ ps) zero name t e =
+    let d : depth p.1 ≡ depth t = ap (λ (q : Pair). depth q.1) (same_Some p (name, t) e) in
+    omega (arith, d)
+depth-pair (p ∷ ps) (suc i) name t e = omega (arith, depth-pair ps i name t e)

@@ -1,10 +1,10 @@
 //! Projections: the paths of a text, and what they choose of an item.
 #![tactic(auto)]
 
+mod behind;
 mod choosing;
-mod projecting;
-mod stepping;
+mod projection;
 mod text;
 
-pub use projecting::project;
+pub use projection::{Projection, project};
 pub use text::parse;

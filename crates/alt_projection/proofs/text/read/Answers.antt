@@ -1,5 +1,5 @@
 -- Each test is made in the order of the faults.
-use Rattle.std.proofs.Common.{◌≡◌, sym, ap, ◌∙◌, map, true, false}
+use Rattle.std.proofs.Common.{sym, ap, ◌∙◌, map}
 use Rattle.std.specs.List.{list_any}
 use Rattle.alt_expr.specs.Crowded.{is_long}
 use Rattle.alt_expr.specs.PathsGrammar.{some_overlap}

@@ -1,5 +1,5 @@
 -- What the reader gives of all tokens is what the grammar gives.
-use Rattle.std.proofs.Common.{◌≡◌, sym, ap, subst, [], map, length, Some, None, arith}
+use Rattle.std.proofs.Common.{◌≡◌, ap, subst, [], map, length, Some, None, arith}
 use Rattle.alt_expr.specs.Tokens.{tok_of}
 use Rattle.alt_expr.specs.Lookups.{names_alone}
 use Rattle.alt_expr.specs.NamesGiven.{given_names}

@@ -1,0 +1,7 @@
+use Rattle.std.proofs.Common.{sym}
+use Rattle.alt_projection.proofs.Chosen.{name_some}
+use Rattle.alt_projection.proofs.choosing.pair.Goals as goal
+
+pub returns-clause-named : goal.returns-clause-named
+returns-clause-named c =
+    name_some c.args.map.now c.args.i _ _ c.len-held.ensures.item (sym c.in-Some.ensures.pair)

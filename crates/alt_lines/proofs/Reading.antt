@@ -191,3 +191,15 @@ below-true test a b is holds = grind (arith, nat_tests)
 -- and what one that fails says
 pub below-false : (test : Bool) (a b : ℕ) → test ≡ nat_lt a b → test ≡ false → b ≤ a
 below-false test a b is fails = grind (arith, nat_tests)
+
+-- the bytes that are kept stand among those that aren't given out
+pub held-few : (most : ℕ) (past : Bool) (bytes : List ℕ)
+    → length bytes ≤ length (cond past (too_many most) [] ++ bytes)
+held-few most past bytes =
+    let l = length-append (cond past (too_many most) []) bytes in omega (arith, l)
+
+-- where these are too many for a line, a line that isn't too long already is now
+pub held-long : (most : ℕ) (past : Bool) (bytes : List ℕ)
+    → most < length (cond past (too_many most) [] ++ bytes) → past ≡ false → most < length bytes
+held-long most true bytes more e = absurd (let f : ⊥ = cc in f)
+held-long most false bytes more e = more

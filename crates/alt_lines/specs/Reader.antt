@@ -1,5 +1,5 @@
 -- A reader of lines as contracts see it.
-use Rattle.std.specs.Prelude.{[], ◌++◌, drop, if◌then◌else◌}
+use Rattle.std.specs.Prelude.{ℕ, [], ◌++◌, drop, length, if◌then◌else◌}
 use Rattle.alt_lines.specs.Unread.{Unread, too_many}
 use Rattle.alt_lines.specs.declared.reader.Lines.{Lines}
 
@@ -10,3 +10,7 @@ unread lines = record {
   bytes = (if lines.past then too_many lines.most else []) ++ drop lines.start lines.held.items;
   ended = lines.ended;
 }
+
+-- how many bytes it keeps in memory, those that were given out and weren't dropped yet among them
+abbrev pub held_by : Lines → ℕ
+held_by lines = length lines.held.items

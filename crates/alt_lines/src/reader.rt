@@ -1,6 +1,6 @@
 //! A reader of lines. It keeps what was given and not given out yet, but of a line that is too long only that it is.
 
-ghost use Rattle.std.specs.Prelude.{◌≡◌, ◌≢◌, ℕ, ◌≤◌, ◌<◌, length, slice_index};
+ghost use Rattle.std.specs.Prelude.{◌≡◌, ◌≢◌, ℕ, ◌≤◌, ◌<◌, ◌+◌, ◌*◌, length, slice_index};
 
 use crate::feed::{Cut, line_feed, read};
 use alt_base::NoMemory;
@@ -30,7 +30,7 @@ impl Lines {
     ghost use Rattle.std.specs.Prelude.{◌≡◌, ◌<◌, ◌≤◌, ◌++◌, length, drop, slice_range, [], false, true, OnOk, OnErr, IfOk, IfSome, IfNone, IsSomeAnd, if◌then◌else◌};
     ghost use Rattle.alt_lines.specs.Feeds.{AllPlain};
     ghost use Rattle.alt_lines.specs.Lines.{Line, too_long, read_line};
-    ghost use Rattle.alt_lines.specs.Reader.{unread};
+    ghost use Rattle.alt_lines.specs.Reader.{held_by, unread};
     ghost use Rattle.alt_lines.specs.Unread.{HasNone, TakesLine, Tells};
 
     /// Nothing was given yet. A line may have `most` bytes before its line feed.
@@ -53,6 +53,9 @@ impl Lines {
             (unread self.new
             ≡ record (unread self.old) { bytes = (unread self.old).bytes ++ piece.now }) }
         ensures err { OnErr result (unread self.new ≡ unread self.old) }
+        // It keeps no more than twice what isn't given out, besides the piece.
+        ensures keeps { held_by self.new
+            ≤ 2 * length (unread self.old).bytes + length piece.now }
     {
         self.forget();
         match self.held.extend_from_slice(piece) {
@@ -64,7 +67,8 @@ impl Lines {
     /// Drops the lines that were given out, once they are half of what is held: so each byte is moved at most once for a byte
     /// that is dropped.
     fn forget(&mut self)
-        ensures { unread self.new ≡ unread self.old }
+        ensures same { unread self.new ≡ unread self.old }
+        ensures keeps { held_by self.new ≤ 2 * length (unread self.old).bytes }
     {
         let kept = self.held.len() - self.start;
         if self.start < kept || self.start == 0 {
@@ -92,6 +96,11 @@ impl Lines {
             ((out.new.items ≡ out.old.items) × HasNone (unread self.old) (unread self.new))) }
         ensures err { OnErr result
             ((out.new.items ≡ out.old.items) × (unread self.new ≡ unread self.old)) }
+        // Of a line that is too long nothing is kept, and otherwise no more than before.
+        ensures keeps { held_by self.new ≤ held_by self.old }
+        ensures drops { IfOk result (λ found. IfNone found
+            ((unread self.old).most < length (unread self.old).bytes
+            → held_by self.new ≡ 0)) }
     {
         match line_feed(&self.held[self.seen..]) {
             Some(place) => {
@@ -112,6 +121,10 @@ impl Lines {
             ((out.new.items ≡ out.old.items) × HasNone (unread self.old) (unread self.new))) }
         ensures err { OnErr result
             ((out.new.items ≡ out.old.items) × (unread self.new ≡ unread self.old)) }
+        ensures keeps { held_by self.new ≤ held_by self.old }
+        ensures drops { IfOk result (λ found. IfNone found
+            ((unread self.old).most < length (unread self.old).bytes
+            → held_by self.new ≡ 0)) }
     {
         let end = self.held.len();
         if self.ended && (self.past || self.start < end) {
@@ -126,7 +139,10 @@ impl Lines {
         requires plain { AllPlain (drop self.old.start self.old.held.items) }
         requires going { self.old.ended ≡ true
             → (self.old.past ≡ false) × (length self.old.held.items ≤ self.old.start) }
-        ensures { HasNone (unread self.old) (unread self.new) }
+        ensures none { HasNone (unread self.old) (unread self.new) }
+        ensures keeps { held_by self.new ≤ held_by self.old }
+        ensures drops { (unread self.old).most < length (unread self.old).bytes
+            → held_by self.new ≡ 0 }
     {
         let end = self.held.len();
         if self.past || end - self.start > self.most {
@@ -155,6 +171,7 @@ impl Lines {
         }) }
         ensures err { OnErr result
             ((out.new.items ≡ out.old.items) × (unread self.new ≡ unread self.old)) }
+        ensures keeps { held_by self.new ≡ held_by self.old }
     {
         match read(self.past, self.most, &self.held[self.start..end], out) {
             Ok(cut) => {

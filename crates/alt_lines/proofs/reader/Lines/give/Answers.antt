@@ -20,11 +20,11 @@ returns-in-Ok-clause-ok c =
     ap (λ (l : List ℕ). held self.most self.past l self.ended) more
     ∙ ap (λ (l : List ℕ). record { most = self.most; bytes = l; ended = self.ended })
     (sym (append_assoc (cond self.past (too_many self.most) []) (drop self.start bytes) piece))
-    ∙ ap (λ (u : Unread). record u { bytes = u.bytes ++ piece }) c.forget.ensures
+    ∙ ap (λ (u : Unread). record u { bytes = u.bytes ++ piece }) c.forget.ensures.same
 
 pub returns-in-Err-clause-err : goal.returns-in-Err-clause-err
 unfolding unread
 returns-in-Err-clause-err c =
     let self = c.forget.new.self in
     ap (λ (l : List ℕ). held self.most self.past (drop self.start l) self.ended)
-    c.in-Err.ensures.items ∙ c.forget.ensures
+    c.in-Err.ensures.items ∙ c.forget.ensures.same

@@ -2,8 +2,8 @@
 
 use alt_codec::{attr_of_json, item_of_json};
 use alt_value::{
-    Attr, AttrList, Item, Text, copy, depth_within, equal, item_equal, item_size_within, order,
-    size_within,
+    Attr, AttrList, Item, ItemBuilder, Text, copy, depth_within, equal, item_equal,
+    item_size_within, order, size_within,
 };
 use serde_json::Value;
 use std::alloc::Global;
@@ -115,6 +115,42 @@ fn a_name_is_removed_once(alloc: Global) -> bool {
 fn items_hold_one_value_a_name_in_name_order(rt: HostRuntime) {
     assert!(rt; a_name_has_one_value(rt.alloc()));
     assert!(rt; a_name_is_removed_once(rt.alloc()));
+}
+
+// How far the next of 101 names is behind the one before: names that rise, that fall, and that come in no order. 202 pairs have each
+// name twice.
+static STEPS: [u64; 4] = [1, 100, 37, 50];
+
+fn the_last_of_a_name_counts(alloc: Global, step: u64) -> bool {
+    let mut builder = ItemBuilder::new(alloc);
+    let mut item = Item::new(alloc);
+    for turn in 0..202_u64 {
+        let at = turn.wrapping_mul(step) % 101;
+        let Ok(name) = format!(in alloc; "name {at}") else {
+            return false;
+        };
+        if name.is_empty() {
+            return false;
+        }
+        let last = turn > 100;
+        let Ok(()) = builder.put(name.as_str(), Attr::Bool(last)) else {
+            return false;
+        };
+        let Ok(()) = item.put(name.as_str(), Attr::Bool(true)) else {
+            return false;
+        };
+    }
+    let Ok(made) = builder.into_item() else {
+        return false;
+    };
+    (made.len() == 101) & item_equal(&made, &item)
+}
+
+#[test]
+fn pairs_in_any_order_make_an_item(rt: HostRuntime) {
+    for step in &STEPS {
+        assert!(rt; the_last_of_a_name_counts(rt.alloc(), *step), "{step}");
+    }
 }
 
 fn a_list_keeps_its_order(alloc: Global) -> bool {

@@ -1,2 +1,3 @@
 pub mod Within
 pub mod Elements
+pub mod Alike

@@ -1,5 +1,5 @@
 -- Bytes that stand within others: what a search for them tells.
-use Rattle.std.proofs.Common.{◌≡◌, refl, sym, ap, ◌∙◌, ℕ, zero, suc, ◌+◌, ◌≤◌, Bool, true, false, ◌||◌, List, [], ◌∷◌, length, take, drop, Option, Some, None, arith, length-take, length-drop}
+use Rattle.std.proofs.Common.{◌≡◌, refl, sym, ap, ◌∙◌, ℕ, zero, suc, ◌≤◌, ◌<◌, Bool, true, false, ◌||◌, nat_le, List, [], ◌∷◌, length, take, drop, Option, Some, None, arith, length-take, length-drop}
 use Rattle.std.specs.Prelude.{nat_eq, is_some}
 use Rattle.std.specs.List.{starts_with}
 use Rattle.std.specs.Cmp.Lexicographic.{bytes_decides}
@@ -63,3 +63,29 @@ told hay needle None h =
 told hay needle (Some k) h =
     let o = h.1 in
     sym (found needle hay k (omega (arith, o.fits)) (OccursAt-part hay needle k o))
+
+-- what is longer than the bytes doesn't stand in them
+pub too_long : (needle hay : List ℕ) → length hay < length needle → stands_in needle hay ≡ false
+too_long needle hay less =
+    elim (stands_in needle hay) as (λ b. stands_in needle hay ≡ b → b ≡ false) [
+      | true ↦ λ e.
+          let p = place needle hay e in
+          let long : length (take (length needle) (drop p.0 hay)) ≡ length needle = ap length p.2 in
+          absurd (omega (
+            arith,
+            long,
+            less,
+            length-take (length needle) (drop p.0 hay),
+            length-drop p.0 hay,
+          ))
+      | false ↦ λ e. refl
+    ] refl
+
+over : (m n : ℕ) → n < m → nat_le m n ≡ false
+over m n lt = grind arith
+
+-- and no search is needed for that
+pub told_by_length : (needle hay : List ℕ) → length hay < length needle
+    → nat_le (length needle) (length hay) ≡ stands_in needle hay
+told_by_length needle hay less =
+    over (length needle) (length hay) less ∙ sym (too_long needle hay less)

@@ -91,8 +91,9 @@ fn has_front(bytes: &[u8], front: &[u8]) -> bool
     bytes.starts_with(front)
 }
 
+/// In line with `bytes`: a needle that is longer isn't looked at.
 fn stands_in(needle: &[u8], bytes: &[u8]) -> bool
     ensures { result ≡ spec.stands_in needle.now bytes.now }
 {
-    memmem::find(bytes, needle).is_some()
+    needle.len() <= bytes.len() && memmem::find(bytes, needle).is_some()
 }

@@ -33,11 +33,12 @@ impl Model for Projection {
 
 impl Projection {
     /// The paths, made ready: the one call that costs their sorting.
-    pub fn new(alloc: Global, paths: Paths) -> Result<Projection, NoMemory>
-        ensures paths { IfOk result (λ p. p ≡ paths) }
+    pub fn new(alloc: Global, paths: &Paths) -> Result<Projection, NoMemory>
+        ensures paths { IfOk result (λ p. p ≡ paths.now) }
     {
-        let ways = in_order(alloc, &paths)?;
-        Ok(Projection { paths, ways })
+        let ways = in_order(alloc, paths)?;
+        let same = same(alloc, paths)?;
+        Ok(Projection { paths: same, ways })
     }
 
     /// The parts of the item that the paths choose, in the item's structure.
@@ -58,6 +59,15 @@ pub fn project(alloc: Global, paths: &Paths, item: &Item) -> Result<Item, NoMemo
     let ways = in_order(alloc, paths)?;
     let parts = chosen_fields(alloc, ways.as_slice(), 0, item)?;
     Ok(parts)
+}
+
+/// The same paths.
+fn same(alloc: Global, paths: &Paths) -> Result<Paths, NoMemory>
+    ensures { IfOk result (λ copy. copy ≡ paths.now) }
+{
+    let ways = ways_of(alloc, paths)?;
+    let copy = copies(alloc, ways.as_slice())?;
+    Ok(copy)
 }
 
 /// The paths in rising order.

@@ -1,0 +1,10 @@
+pub mod BatchLaws
+pub mod FreshLaws
+pub mod RowLaws
+pub mod FamilyLaws
+pub mod FlushLaws
+pub mod PastLaws
+pub mod MergeLaws
+pub mod OneLayout
+pub mod FileLaws
+pub mod MomentLaws

@@ -16,11 +16,12 @@ tells_on a b goes tells = subst (λ (v : Bool). IsTrue v) (sym goes.tells) tells
 rose_then : (a b c : ℕ) → a ≤ b → Rose b c → Rose a c
 rose_then a b c le rose = grind arith
 
-cause_then : (a b c : DiskState) (fault : SourceFault) → Goes a b → HasCause b c fault
-    → HasCause a c fault
-cause_then a b c (Damaged f at) goes cause = tt
-cause_then a b c Failed goes cause = rose_then _ _ _ goes.faults cause
-cause_then a b c NoMemory goes cause = tt
+-- a later call's cause is one of both calls
+pub cause_then : (reads : ℕ → Bool) (a b c : DiskState) (fault : SourceFault) → Goes a b
+    → HasCause reads b c fault → HasCause reads a c fault
+cause_then reads a b c (Damaged f at) goes cause = cause
+cause_then reads a b c Failed goes cause = rose_then _ _ _ goes.faults cause
+cause_then reads a b c NoMemory goes cause = tt
 
 module _ {S M : Type 0} (Holds : DiskState → S → M → Type 0) (reads_of : S → ℕ → Bool) where
   -- no call, and two calls one after another, of which the second may fail
@@ -45,8 +46,10 @@ module _ {S M : Type 0} (Holds : DiskState → S → M → Type 0) (reads_of : S
 
   -- where a call keeps and the next one fails, both together fail so
   pub fails_then : (a b c : DiskState) (x y : S) (fault : SourceFault)
-      → Keeps Holds reads_of a b x y → Fails Holds b c y fault → Fails Holds a c x fault
+      → Keeps Holds reads_of a b x y → Fails Holds reads_of b c y fault
+      → Fails Holds reads_of a c x fault
   fails_then a b c x y fault first fails = record {
-    cause = cause_then a b c fault first.goes fails.cause;
+    cause = cause_then (reads_of x) a b c fault first.goes
+        (subst (λ reads. HasCause reads b c fault) first.reads fails.cause);
     sound = λ tells m h. fails.sound (tells_on a b first.goes tells) m (first.holds tells m h);
   }

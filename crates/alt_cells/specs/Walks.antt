@@ -59,11 +59,11 @@ Gives After [] (Some row) = ⊥
 Gives After (row ∷ rows) None = ⊥
 Gives After (row ∷ rows) (Some given) = (given ≡ row) × After rows
 
--- why a call may fail
-abbrev pub HasCause : DiskState → DiskState → SourceFault → Type 0
-HasCause old new (Damaged f at) = Unit {0}
-HasCause old new Failed = Rose old.faults new.faults
-HasCause old new NoMemory = Unit {0}
+-- why a call may fail: the file that isn't right is one of those that are read
+abbrev pub HasCause : (ℕ → Bool) → DiskState → DiskState → SourceFault → Type 0
+HasCause reads old new (Damaged f at) = IsTrue (reads f)
+HasCause reads old new Failed = Rose old.faults new.faults
+HasCause reads old new NoMemory = Unit {0}
 
 -- a fault that says that a file isn't right
 abbrev pub IsDamaged : SourceFault → Type 0
@@ -95,7 +95,7 @@ answered_by (Err Failed) = false
 answered_by (Err NoMemory) = true
 
 -- why a call failed: never by damage where the disk tells its contents and the source holds rows
-pub record Fails {S M : Type 0} (Holds : DiskState → S → M → Type 0) (old new : DiskState)
-    (before : S) (fault : SourceFault) : Type 0 where
-  pub cause : HasCause old new fault
+pub record Fails {S M : Type 0} (Holds : DiskState → S → M → Type 0) (reads_of : S → ℕ → Bool)
+    (old new : DiskState) (before : S) (fault : SourceFault) : Type 0 where
+  pub cause : HasCause (reads_of before) old new fault
   pub sound : IsTrue old.tells → (rows : M) → Holds old before rows → IsDamaged fault → ⊥

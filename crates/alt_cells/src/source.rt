@@ -1,6 +1,6 @@
 //! Sources of rows in the order of their keys, which may read files and may fail.
 
-ghost use Rattle.std.specs.Prelude.{◌≡◌, ℕ, Bool, IsTrue, IfOk, IfErr, OnOk};
+ghost use Rattle.std.specs.Prelude.{◌≡◌, ◌≤◌, ◌+◌, ℕ, Bool, IsTrue, IfOk, IfErr, OnOk};
 ghost use Rattle.std.specs.Option.{option_copied};
 ghost use Rattle.alt_disk.specs.Disk.{DiskState};
 ghost use Rattle.alt_cells.specs.Walks.{RowMap, RowList, rows_from, Gives, Keeps, Fails, SameFiles, answered_by};
@@ -52,6 +52,9 @@ pub trait RowSource<D: Disk> {
     /// After a `seek`: these rows are left, in the direction sought.
     ghost left: { DiskState → Self → RowList → Type 0 };
 
+    /// The most reads that one call of `seek` or `next` costs.
+    ghost width: { Self → ℕ };
+
     /// Goes to a key: forward to the first one at or above it, backward to the last one below it. With no
     /// key it goes to the first, or to the last.
     fn seek(&mut self, disk: &mut D, from: Option<&[u8]>, forward: bool) -> Result<(), SourceFault>
@@ -60,9 +63,12 @@ pub trait RowSource<D: Disk> {
             → OnOk result (left (D.state disk.new) self.new
             (rows_from rows (option_copied from.entry) forward)) }
         ensures keeps { Keeps holds reads (D.state disk.old) (D.state disk.new) self.old self.new }
+        ensures reads { (D.state disk.new).reads ≤ (D.state disk.old).reads + width self.old }
+        ensures width { width self.new ≡ width self.old }
         ensures well { IsTrue (answered_by result)
             → (D.state disk.new).faults ≡ (D.state disk.old).faults }
-        ensures fails { IfErr result (Fails holds (D.state disk.old) (D.state disk.new) self.old) };
+        ensures fails { IfErr result (Fails holds reads (D.state disk.old)
+            (D.state disk.new) self.old) };
 
     /// The next row. None is the end, and never a read that failed.
     fn next(&mut self, disk: &mut D) -> Result<Option<(Bytes, RowCells)>, SourceFault>
@@ -70,9 +76,12 @@ pub trait RowSource<D: Disk> {
             → (rows : RowList) → left (D.state disk.old) self.old rows
             → IfOk result (Gives (left (D.state disk.new) self.new) rows) }
         ensures keeps { Keeps holds reads (D.state disk.old) (D.state disk.new) self.old self.new }
+        ensures reads { (D.state disk.new).reads ≤ (D.state disk.old).reads + width self.old }
+        ensures width { width self.new ≡ width self.old }
         ensures well { IsTrue (answered_by result)
             → (D.state disk.new).faults ≡ (D.state disk.old).faults }
-        ensures fails { IfErr result (Fails holds (D.state disk.old) (D.state disk.new) self.old) };
+        ensures fails { IfErr result (Fails holds reads (D.state disk.old)
+            (D.state disk.new) self.old) };
 
     /// What it holds and what is left last while the files that it reads stay as they read.
     ghost holds_on: { (old new : DiskState) (source : Self) (rows : RowMap)

@@ -1,10 +1,12 @@
 -- Lists of sources, and what each has left, where one of them was called.
-use Rattle.std.proofs.Common.{◌≡◌, ◌<◌, ◌||◌, ℕ, zero, suc, Bool, List, [], ◌∷◌, length, get_or, set, map, refl, ap, ◌∙◌, arith}
+use Rattle.std.proofs.Common.{◌≡◌, ◌<◌, ◌||◌, ℕ, zero, suc, Bool, IsTrue, List, [], ◌∷◌, length, get_or, set, map, refl, ap, ◌∙◌, arith}
 use Rattle.std.specs.FinMap.{empty}
 use Rattle.alt_disk.specs.Disk.{DiskState}
 use Rattle.alt_cells.specs.declared.source.SourceFault.{SourceFault}
-use Rattle.alt_cells.specs.Walks.{RowMap, RowList, Keeps, Fails, SameFiles}
+use Rattle.alt_cells.specs.declared.source.SourceFault.TheVariants.{Damaged, Failed, NoMemory}
+use Rattle.alt_cells.specs.Walks.{RowMap, RowList, HasCause, Keeps, Fails, SameFiles}
 use Rattle.alt_merge.specs.declared.head.Head.{Head}
+use Rattle.alt_merge.specs.MergeLaws.{or_left, or_right}
 use Rattle.alt_merge.specs.Merges.{Each2, with_head, with_heads, any_reads, HoldsEach, LeftWith, IsFilled, AllFilled}
 
 module _ {A B : Type 0} where
@@ -77,11 +79,27 @@ module _ {S : Type 0} (Holds : DiskState → S → RowMap → Type 0) (reads_of 
       quiet = k.quiet;
     }
 
+  -- a file that one source reads is one of all
+  any_at : (xs : List S) (i : ℕ) (d : S) (f : ℕ) → i < length xs
+      → IsTrue (reads_of (get_or xs i d) f) → IsTrue (any_reads reads_of xs f)
+  any_at [] i d f lt r = absurd (omega arith)
+  any_at (y ∷ xs) zero d f lt r = or_left (reads_of y f) (any_reads reads_of xs f) r
+  any_at (y ∷ xs) (suc i) d f lt r = or_right (reads_of y f) (any_reads reads_of xs f)
+      (any_at xs i d f (omega arith) r)
+
+  -- so the cause of a fault of one source is one of all
+  cause_at : (a b : DiskState) (xs : List S) (i : ℕ) (d : S) (fault : SourceFault) → i < length xs
+      → HasCause (reads_of (get_or xs i d)) a b fault → HasCause (any_reads reads_of xs) a b fault
+  cause_at a b xs i d (Damaged f at) lt cause = any_at xs i d f lt cause
+  cause_at a b xs i d Failed lt cause = cause
+  cause_at a b xs i d NoMemory lt cause = tt
+
   -- where one source fails, all of them together fail so
   pub fails_at : (a b : DiskState) (xs : List S) (i : ℕ) (d : S) (fault : SourceFault)
-      → i < length xs → Fails Holds a b (get_or xs i d) fault → Fails (HoldsEach Holds) a b xs fault
+      → i < length xs → Fails Holds reads_of a b (get_or xs i d) fault
+      → Fails (HoldsEach Holds) (any_reads reads_of) a b xs fault
   fails_at a b xs i d fault lt fails = record {
-    cause = fails.cause;
+    cause = cause_at a b xs i d fault lt fails.cause;
     sound = λ tells maps h. fails.sound tells (get_or maps i empty)
         (each2_at (Holds a) xs maps h i lt d empty);
   }

@@ -7,11 +7,12 @@ use Rattle.alt_cells.specs.declared.source.SourceFault.{SourceFault}
 use Rattle.alt_cells.specs.Joined.{all_joined, joined}
 use Rattle.alt_cells.specs.declared.row.RowCells.{RowCells}
 use Rattle.alt_cells.specs.Rows.{join_row}
-use Rattle.alt_cells.specs.Walks.{RowMap, RowList, walk_cmp, rows_from, Keeps, Fails, Gives}
+use Rattle.alt_cells.specs.Walks.{RowMap, RowList, walk_cmp, rows_from, HasCause, Keeps, Fails, Gives}
 use Rattle.alt_cells.proofs.WalkLaws.{is_sorted-rows_from, rows_from-joined, rows_from-empty}
 use Rattle.alt_merge.specs.declared.merge.Merge.{Merge}
 use Rattle.alt_merge.specs.declared.head.Head.{Head}
 use Rattle.alt_merge.specs.declared.head.Head.TheVariants.{Due, Held, End}
+use Rattle.alt_merge.specs.Costs.{HasLists}
 use Rattle.alt_merge.specs.Merges.{Each2, HoldsEach, any_reads, with_heads, AllSorted, AllDue, AllFilled, NoneHeld, all_rows, MergeLeft, GivesFirst, Gathers, LeftWith}
 use Rattle.alt_merge.specs.Tied.{IsLeastAt}
 use Rattle.alt_merge.specs.Whole.{merge_reads, merge_holds}
@@ -40,11 +41,12 @@ module _ {S : Type 0} (Holds : DiskState → S → RowMap → Type 0) where
   }
 
   -- where a call on the sources fails, one on the merge fails so
-  pub fails_merge : (a b : DiskState) (old : Merge S) (fault : SourceFault) (xs : List S)
-      → xs ≡ old.sources.items → Fails (HoldsEach Holds) a b xs fault
-      → Fails (merge_holds Holds) a b old fault
-  fails_merge a b old fault xs is f = record {
-    cause = f.cause;
+  pub fails_merge : (reads : S → ℕ → Bool) (a b : DiskState) (old : Merge S) (fault : SourceFault)
+      (xs : List S) → xs ≡ old.sources.items
+      → Fails (HoldsEach Holds) (any_reads reads) a b xs fault
+      → Fails (merge_holds Holds) (merge_reads reads) a b old fault
+  fails_merge reads a b old fault xs is f = record {
+    cause = subst (λ l. HasCause (any_reads reads l) a b fault) is f.cause;
     sound =
         λ tells rows h. f.sound tells h.maps
         (subst (λ l. Each2 (Holds a) l h.maps) (sym is) h.each);
@@ -103,6 +105,21 @@ module _ {S : Type 0} (Left : S → RowList → Type 0) where
         sorted = subst (AllSorted forward) (sym plain) (sorted_from maps from forward);
         same = ap (λ (r : RowMap). rows_from r from forward) same ∙ rows_from_all maps from forward
             ∙ ap (all_joined (walk_cmp forward) join_row) (sym plain);
+      }
+
+  -- and these lists are left with their heads
+  pub lists_sought : (sources : List S) (heads : List Head) (maps : List RowMap)
+      (from : Option (List ℕ)) (forward : Bool)
+      → Each2 Left sources (map (λ m. rows_from m from forward) maps) → AllDue heads
+      → length heads ≡ length sources
+      → HasLists Left sources heads forward (map (λ m. rows_from m from forward) maps)
+  lists_sought sources heads maps from forward each due counted =
+      let tails = map (λ m. rows_from m from forward) maps in
+      let plain = due_with heads tails due (counted ∙ each2_length Left sources tails each) in
+      record {
+        with_head = (tails, each, plain);
+        counted = counted;
+        sorted = sorted_from maps from forward;
       }
 
   -- a merge gives the least of the heads, joined with its equals

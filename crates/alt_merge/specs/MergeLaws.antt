@@ -8,13 +8,13 @@ use Rattle.alt_merge.specs.Merges.{Each2, any_reads}
 use Rattle.alt_merge.specs.Whole.{merge_reads, merge_holds, merge_left}
 
 -- a file that the first source reads is read
-or_left : (a b : Bool) → IsTrue a → IsTrue (a || b)
+pub or_left : (a b : Bool) → IsTrue a → IsTrue (a || b)
 or_left true b h = refl
 or_left false b h = absurd (subst (λ v. elim v as (λ _. Type 0) [ true ↦ ⊥ | false ↦ Unit {0} ]) h
     tt)
 
 -- and one that the others read
-or_right : (a b : Bool) → IsTrue b → IsTrue (a || b)
+pub or_right : (a b : Bool) → IsTrue b → IsTrue (a || b)
 or_right true b h = refl
 or_right false b h = h
 

@@ -1,10 +1,11 @@
 //! Seeks and reads on, source by source.
 
-ghost use Rattle.std.specs.Prelude.{◌≡◌, ◌≤◌, ◌<◌, ℕ, Bool, List, IsTrue, IfOk, IfErr, OnOk, length, map, Option};
+ghost use Rattle.std.specs.Prelude.{◌≡◌, ◌≤◌, ◌<◌, ◌+◌, ℕ, Bool, List, IsTrue, IfOk, IfErr, OnOk, length, map, Option};
 ghost use Rattle.std.specs.Option.{option_copied};
 ghost use Rattle.std.specs.List.{All};
 ghost use Rattle.alt_disk.specs.Disk.{DiskState, IsTrusted};
 ghost use Rattle.alt_cells.specs.Walks.{RowMap, RowList, rows_from, Keeps, Fails, answered_by};
+ghost use Rattle.alt_merge.specs.Costs.{all_width, due_of, all_due};
 ghost use Rattle.alt_merge.specs.Merges.{Each2, with_head, with_heads, any_reads, IsFilled, AllFilled, HoldsEach, LeftWith};
 
 use crate::head::Head;
@@ -22,9 +23,12 @@ pub(crate) fn next_head<D: Disk, S: RowSource<D>>(
         × (with_head head tail ≡ rows)) }
     ensures keeps { Keeps S.holds S.reads (D.state disk.old)
         (D.state disk.new) source.old source.new }
+    ensures reads { (D.state disk.new).reads ≤ (D.state disk.old).reads + S.width source.old }
+    ensures width { S.width source.new ≡ S.width source.old }
     ensures well { IsTrue (answered_by result)
         → (D.state disk.new).faults ≡ (D.state disk.old).faults }
-    ensures fails { IfErr result (Fails S.holds (D.state disk.old) (D.state disk.new) source.old) }
+    ensures fails { IfErr result (Fails S.holds S.reads (D.state disk.old)
+        (D.state disk.new) source.old) }
 {
     match source.next(disk)? {
         Some((key, row)) => Ok(Head::Held(key, row)),
@@ -45,9 +49,13 @@ fn fill<D: Disk, S: RowSource<D>>(
         × (with_head head.new rest ≡ with_head head.old tail)) }
     ensures keeps { Keeps S.holds S.reads (D.state disk.old)
         (D.state disk.new) source.old source.new }
+    ensures reads { (D.state disk.new).reads
+        ≤ (D.state disk.old).reads + due_of head.old (S.width source.old) }
+    ensures width { S.width source.new ≡ S.width source.old }
     ensures well { IsTrue (answered_by result)
         → (D.state disk.new).faults ≡ (D.state disk.old).faults }
-    ensures fails { IfErr result (Fails S.holds (D.state disk.old) (D.state disk.new) source.old) }
+    ensures fails { IfErr result (Fails S.holds S.reads (D.state disk.old)
+        (D.state disk.new) source.old) }
 {
     if let Head::Due = head {
         *head = next_head(source, disk)?;
@@ -67,9 +75,13 @@ pub(crate) fn fill_all<D: Disk, S: RowSource<D>>(
         → OnOk result (LeftWith (S.left (D.state disk.new)) sources.new heads.new lists) }
     ensures keeps { Keeps (HoldsEach S.holds) (any_reads S.reads) (D.state disk.old)
         (D.state disk.new) sources.old sources.new }
+    ensures reads { (D.state disk.new).reads
+        ≤ (D.state disk.old).reads + all_due S.width heads.old sources.old }
+    ensures width { all_width S.width sources.new ≡ all_width S.width sources.old }
+    ensures widths { map S.width sources.new ≡ map S.width sources.old }
     ensures well { IsTrue (answered_by result)
         → (D.state disk.new).faults ≡ (D.state disk.old).faults }
-    ensures fails { IfErr result (Fails (HoldsEach S.holds) (D.state disk.old)
+    ensures fails { IfErr result (Fails (HoldsEach S.holds) (any_reads S.reads) (D.state disk.old)
         (D.state disk.new) sources.old) }
 {
     for i in 0..sources.len() {
@@ -90,9 +102,13 @@ pub(crate) fn seek_all<D: Disk, S: RowSource<D>>(
         (map (λ m. rows_from m (option_copied from.entry) forward) maps)) }
     ensures keeps { Keeps (HoldsEach S.holds) (any_reads S.reads) (D.state disk.old)
         (D.state disk.new) sources.old sources.new }
+    ensures reads { (D.state disk.new).reads
+        ≤ (D.state disk.old).reads + all_width S.width sources.old }
+    ensures width { all_width S.width sources.new ≡ all_width S.width sources.old }
+    ensures widths { map S.width sources.new ≡ map S.width sources.old }
     ensures well { IsTrue (answered_by result)
         → (D.state disk.new).faults ≡ (D.state disk.old).faults }
-    ensures fails { IfErr result (Fails (HoldsEach S.holds) (D.state disk.old)
+    ensures fails { IfErr result (Fails (HoldsEach S.holds) (any_reads S.reads) (D.state disk.old)
         (D.state disk.new) sources.old) }
 {
     for i in 0..sources.len() {

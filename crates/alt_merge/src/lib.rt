@@ -5,5 +5,7 @@ mod fill;
 mod gather;
 mod head;
 mod merge;
+mod passing;
 
 pub use merge::Merge;
+pub use passing::pass_over;

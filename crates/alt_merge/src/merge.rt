@@ -1,6 +1,7 @@
 //! Several sources walked as one.
 
 ghost use Rattle.std.specs.Prelude.{◌≡◌, ◌+◌, ℕ, [], length, IfOk, OnOk, vec_len};
+ghost use Rattle.alt_merge.specs.Whole.{sources_of};
 
 use crate::fill::{fill_all, seek_all};
 use crate::gather::{due_heads, give, least};
@@ -22,7 +23,7 @@ pub struct Merge<S> {
 
 impl<S> Merge<S> {
     pub fn new(alloc: Global, sources: Vec<S>) -> Merge<S>
-        ensures { result.sources ≡ sources }
+        ensures { sources_of result ≡ sources.items }
     {
         Merge {
             alloc,
@@ -34,10 +35,17 @@ impl<S> Merge<S> {
 }
 
 impl<D: Disk, S: RowSource<D>> RowSource<D> for Merge<S> {
-    ghost use Rattle.alt_merge.specs.Whole.{merge_reads, merge_holds, merge_left};
+    ghost use Rattle.alt_merge.specs.Whole.{heads_of, is_forward, merge_reads, merge_width, merge_holds, merge_left};
+    ghost use Rattle.std.specs.Prelude.{◌≤◌, List, IsTrue, IfErr, map};
+    ghost use Rattle.std.specs.Option.{option_copied};
+    ghost use Rattle.alt_merge.specs.Merges.{AllDue, HoldsEach};
+    ghost use Rattle.alt_cells.specs.Walks.{RowMap, RowList, rows_from, Gives, Keeps, Fails, answered_by};
+    ghost use Rattle.alt_merge.specs.Costs.{HasLists, CallSpends};
     ghost use Rattle.alt_merge.specs.MergeLaws.{merge_holds_on, merge_left_on};
 
     ghost reads = { merge_reads S.reads };
+
+    ghost width = { merge_width S.width };
 
     ghost holds = { merge_holds S.holds };
 
@@ -47,18 +55,58 @@ impl<D: Disk, S: RowSource<D>> RowSource<D> for Merge<S> {
 
     ghost left_on = { merge_left_on S.reads S.left S.left_on };
 
-    fn seek(
-        &mut self,
-        disk: &mut D,
-        from: Option<&[u8]>,
-        forward: bool,
-    ) -> Result<(), SourceFault> {
+    fn seek(&mut self, disk: &mut D, from: Option<&[u8]>, forward: bool) -> Result<(), SourceFault>
+        ensures sought { IsTrue (D.state disk.old).tells
+            → (rows : RowMap) → merge_holds S.holds (D.state disk.old) self.old rows
+            → OnOk result (merge_left S.left (D.state disk.new) self.new
+            (rows_from rows (option_copied from.entry) forward)) }
+        ensures keeps { Keeps (merge_holds S.holds) (merge_reads S.reads) (D.state disk.old)
+            (D.state disk.new) self.old self.new }
+        ensures reads { (D.state disk.new).reads
+            ≤ (D.state disk.old).reads + merge_width S.width self.old }
+        ensures width { merge_width S.width self.new ≡ merge_width S.width self.old }
+        ensures well { IsTrue (answered_by result)
+            → (D.state disk.new).faults ≡ (D.state disk.old).faults }
+        ensures fails { IfErr result (Fails (merge_holds S.holds) (merge_reads S.reads)
+            (D.state disk.old) (D.state disk.new) self.old) }
+        // Beyond the trait: what is left of each source, of which nothing is in hand yet.
+        ensures begins { IsTrue (D.state disk.old).tells → (maps : List RowMap)
+            → HoldsEach S.holds (D.state disk.old) (sources_of self.old) maps
+            → OnOk result (HasLists (S.left (D.state disk.new)) (sources_of self.new)
+            (heads_of self.new) forward
+            (map (λ m. rows_from m (option_copied from.entry) forward) maps)) }
+        ensures due { OnOk result (AllDue (heads_of self.new)) }
+        ensures way { OnOk result (is_forward self.new ≡ forward) }
+        ensures widths { map S.width (sources_of self.new)
+            ≡ map S.width (sources_of self.old) }
+    {
         self.heads = due_heads(self.alloc, self.sources.len())?;
         self.forward = forward;
         seek_all(&mut self.sources, disk, from, forward)
     }
 
-    fn next(&mut self, disk: &mut D) -> Result<Option<(Bytes, RowCells)>, SourceFault> {
+    fn next(&mut self, disk: &mut D) -> Result<Option<(Bytes, RowCells)>, SourceFault>
+        ensures gives { IsTrue (D.state disk.old).tells
+            → (rows : RowList) → merge_left S.left (D.state disk.old) self.old rows
+            → IfOk result (Gives (merge_left S.left (D.state disk.new) self.new) rows) }
+        ensures keeps { Keeps (merge_holds S.holds) (merge_reads S.reads) (D.state disk.old)
+            (D.state disk.new) self.old self.new }
+        ensures reads { (D.state disk.new).reads
+            ≤ (D.state disk.old).reads + merge_width S.width self.old }
+        ensures width { merge_width S.width self.new ≡ merge_width S.width self.old }
+        ensures well { IsTrue (answered_by result)
+            → (D.state disk.new).faults ≡ (D.state disk.old).faults }
+        ensures fails { IfErr result (Fails (merge_holds S.holds) (merge_reads S.reads)
+            (D.state disk.old) (D.state disk.new) self.old) }
+        // Beyond the trait: each row that is passed pays for one read of its source.
+        ensures spends { IsTrue (D.state disk.old).tells → (lists : List RowList)
+            → HasLists (S.left (D.state disk.old)) (sources_of self.old) (heads_of self.old)
+            (is_forward self.old) lists
+            → IfOk result (CallSpends S.width (S.left (D.state disk.new)) (D.state disk.old).reads
+            (D.state disk.new).reads (sources_of self.old) (sources_of self.new)
+            (heads_of self.old) (heads_of self.new) (is_forward self.old) lists) }
+        ensures way { is_forward self.new ≡ is_forward self.old }
+    {
         // It wasn't sought.
         if self.heads.len() != self.sources.len() {
             return Ok(None);

@@ -10,7 +10,7 @@ use Rattle.alt_rowfile.specs.Format.{Entry, Mark, block_bytes, rows_bytes, IsHel
 use Rattle.alt_rowfile.specs.InHand.{FileAs, ReadsAs, count_of, file_of}
 use Rattle.alt_rowfile.specs.Reading.{ReadIs, ReadsOnce, ReadsAtMostABlock, place_of, length_of}
 use Rattle.alt_rowfile.specs.declared.rowfile.RowFile.{RowFile}
-use Rattle.alt_rowfile.specs.Loading.{place_at, next_place}
+use Rattle.alt_rowfile.specs.Loading.{place_at, next_place, LoadedAt}
 use Rattle.alt_rowfile.proofs.WriterLaws.{length-front, front-push}
 use Rattle.alt_rowfile.proofs.OneFile.{block_some}
 use Rattle.alt_rowfile.proofs.BlockLaws.{sorted_back, rows_of-append}
@@ -161,13 +161,6 @@ block_there bytes blocks xs b ys is split =
     (drop_at (front xs) (block_bytes b ++ rest) (length (front xs)) refl)
     ∙ take_at (block_bytes b) rest (length (block_bytes b)) refl
 
--- what a read at a block's place gives
-pub record LoadedAt (bytes : List ℕ) (marks : List Mark) (end i : ℕ) (b : List Entry) : Type 0 where
-  pub size : next_place marks end i - place_at marks i ≡ length (block_bytes b)
-  pub there : take (length (block_bytes b)) (drop (place_at marks i) bytes) ≡ block_bytes b
-  pub held : IsHeldBlock b
-  pub rising : T (is_sorted key_cmp b)
-
 -- the rows of each block rise
 all_at : (xs : List (List Entry)) (b : List Entry) (ys : List (List Entry))
     → T (is_sorted key_cmp (rows_of (xs ++ b ∷ ys))) → T (is_sorted key_cmp b)
@@ -218,6 +211,31 @@ block_content bytes block behind b held is short there =
     (field-apart block (rows_bytes b) behind [] short held.1 (sym there ∙ is
     ∙ sym (append-nil (field (rows_bytes b))))).0
 
+-- a block that stands at its place, where so many bytes are read there
+module _ (bytes : List ℕ) (marks : List Mark) (end i : ℕ) (b : List Entry)
+    (l : LoadedAt bytes marks end i b) (at n : ℕ) (is_at : at ≡ place_at marks i)
+    (is_n : n ≡ next_place marks end i - at) where
+  long : n ≡ length (block_bytes b)
+  long = omega (arith, is_n, is_at, l.size)
+
+  -- what stands at the block's place, as long as the block, are its bytes
+  pub are_bytes : (v : List ℕ) → v ≡ take n (drop at bytes) → v ≡ block_bytes b
+  are_bytes v is = is ∙ (λ j. take (long j) (drop (is_at j) bytes)) ∙ l.there
+
+  -- and all of them are there
+  pub has_bytes : at + n ≤ length bytes
+  has_bytes =
+      let some : 0 < length (block_bytes b) = block_some b in
+      omega (
+        arith,
+        long,
+        is_at,
+        some,
+        ap length l.there,
+        length-take (length (block_bytes b)) (drop (place_at marks i) bytes),
+        length-drop (place_at marks i) bytes,
+      )
+
 module _ (s : DiskState) (f : ℕ) (marks : List Mark) (end i : ℕ) (rows : List Entry)
     (reads : ReadsAs s f marks end rows) (less : i < length marks) where
   -- the block at hand
@@ -225,32 +243,9 @@ module _ (s : DiskState) (f : ℕ) (marks : List Mark) (end i : ℕ) (rows : Lis
   here = get_or reads.as_file.blocks i []
 
   -- it stands at its place
-  pub at_place : LoadedAt reads.bytes marks end i here
-  at_place = loaded_at reads.bytes marks end i rows reads.as_file less
-
-  module _ (at n : ℕ) (is_at : at ≡ place_at marks i) (is_n : n ≡ next_place marks end i - at) where
-    -- what stands at the block's place, as long as the block, are its bytes
-    pub are_bytes : (v : List ℕ) → v ≡ take n (drop at (contents s f)) → v ≡ block_bytes here
-    are_bytes v is =
-        let long : n ≡ length (block_bytes here) = omega (arith, is_n, is_at, at_place.size) in
-        is ∙ ap (λ l. take n (drop at (bytes_or_none l))) reads.there
-        ∙ (λ j. take (long j) (drop (is_at j) reads.bytes)) ∙ at_place.there
-
-    -- and all of them are there
-    pub has_bytes : at + n ≤ length (contents s f)
-    has_bytes =
-        let long : n ≡ length (block_bytes here) = omega (arith, is_n, is_at, at_place.size) in
-        let some : 0 < length (block_bytes here) = block_some here in
-        omega (
-          arith,
-          long,
-          is_at,
-          some,
-          ap length at_place.there,
-          length-take (length (block_bytes here)) (drop (place_at marks i) reads.bytes),
-          length-drop (place_at marks i) reads.bytes,
-          ap (λ l. length (bytes_or_none l)) reads.there,
-        )
+  pub at_place : LoadedAt (contents s f) marks end i here
+  at_place = subst (λ o. LoadedAt (bytes_or_none o) marks end i here) (sym reads.there)
+      (loaded_at reads.bytes marks end i rows reads.as_file less)
 
 -- a read from its place on, of its length, is of a block
 pub asked : (s t : DiskState) (file : RowFile) (i at n : ℕ) → i < count_of file

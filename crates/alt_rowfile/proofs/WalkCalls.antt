@@ -11,7 +11,8 @@ use Rattle.alt_cells.specs.declared.source.SourceFault.{SourceFault}
 use Rattle.alt_cells.specs.declared.source.SourceFault.TheVariants.{Damaged, Failed, NoMemory}
 use Rattle.alt_rowfile.specs.Format.{Entry}
 use Rattle.alt_rowfile.specs.InHand.{Reads}
-use Rattle.alt_rowfile.specs.Walking.{walk_reads, walk_holds, reads_on}
+use Rattle.alt_rowfile.specs.Damage.{IsDamageIn}
+use Rattle.alt_rowfile.specs.Walking.{walk_reads, walk_holds, reads_on, itself}
 use Rattle.alt_rowfile.specs.declared.walk.RowFileWalk.{RowFileWalk}
 
 -- a walk over the same file stands for the same rows, and reads the same file
@@ -26,20 +27,22 @@ walk_keeps s t w v same goes quiet = record {
 }
 
 module _ {T : Type 0} where
-  -- a fault that comes of a failed call has its cause
-  cause_of : (s t : DiskState) (fault : SourceFault)
-      → (IsErrOf {T = T} (Err fault) Failed → Rose s.faults t.faults) → HasCause s t fault
-  cause_of s t (Damaged f at) c = tt
-  cause_of s t Failed c = c refl
-  cause_of s t NoMemory c = tt
+  -- a fault that comes of a failed call, or of this file, has its cause
+  cause_of : (s t : DiskState) (w : RowFileWalk) (fault : SourceFault)
+      → (IsErrOf {T = T} (Err fault) Failed → Rose s.faults t.faults)
+      → IsDamageIn s w.file.now fault → HasCause (walk_reads w) s t fault
+  cause_of s t w (Damaged f at) c damage =
+      subst (λ n. IsTrue (n == w.file.now.file)) (sym damage.0) (itself w.file.now.file)
+  cause_of s t w Failed c damage = c refl
+  cause_of s t w NoMemory c damage = tt
 
   -- a call failed by the disk or for want of memory
   pub walk_fails : (s t : DiskState) (w : RowFileWalk) (fault : SourceFault)
       → (IsErrOf {T = T} (Err fault) Failed → Rose s.faults t.faults)
       → (IsTrue s.tells → (rows : List Entry) → Reads s w.file.now rows → IsDamaged fault → ⊥)
-      → Fails walk_holds s t w fault
-  walk_fails s t w fault cause sound = record {
-    cause = cause_of s t fault cause;
+      → IsDamageIn s w.file.now fault → Fails walk_holds walk_reads s t w fault
+  walk_fails s t w fault cause sound damage = record {
+    cause = cause_of s t w fault cause damage;
     sound = λ tells rows h damaged. sound tells (entries rows) h damaged;
   }
 

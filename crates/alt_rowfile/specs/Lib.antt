@@ -10,3 +10,4 @@ pub mod Reading
 pub mod Searching
 pub mod Cut
 pub mod Walking
+pub mod Damage

@@ -8,6 +8,7 @@ ghost use Rattle.alt_disk.specs.Runs.{Quiet};
 ghost use Rattle.alt_cells.specs.Keys.{key_cmp};
 ghost use Rattle.alt_cells.specs.Walks.{IsDamaged};
 ghost use Rattle.alt_rowfile.specs.Format.{Entry, block_bytes, IsHeldBlock};
+ghost use Rattle.alt_rowfile.specs.Damage.{IsDamageIn};
 ghost use Rattle.alt_rowfile.specs.InHand.{Reads, count_of};
 ghost use Rattle.alt_rowfile.specs.Loading.{next_place};
 ghost use Rattle.alt_rowfile.specs.Reading.{ReadsAtMostABlock};
@@ -34,6 +35,7 @@ pub(crate) fn load<D: Disk>(
     ensures undamaged { IsTrue (D.state disk.old).tells
         → (rows : List Entry) → Reads (D.state disk.old) file.now rows
         → IfErr result (λ fault. IsDamaged fault → ⊥) }
+    ensures damage { IfErr result (IsDamageIn (D.state disk.old) file.now) }
     ensures quiet { IsTrue (D.state disk.old).tells
         → Quiet (D.state disk.old) (D.state disk.new) }
     ensures goes { Goes (D.state disk.old) (D.state disk.new) }
@@ -47,19 +49,17 @@ pub(crate) fn load<D: Disk>(
     let at = file.marks[i].0;
     let next = next_place(file, i);
     let count = next.saturating_sub(at) as usize;
+    let damaged = SourceFault::Damaged {
+        file: file.file,
+        at,
+    };
     match bytes_at(file.alloc, disk, file.file, at, count) {
         Ok(Some(bytes)) => match rows_of(file.alloc, &bytes) {
             Ok(Some(rows)) => Ok(rows),
-            Ok(None) => Err(SourceFault::Damaged {
-                file: file.file,
-                at,
-            }),
+            Ok(None) => Err(damaged),
             Err(_) => Err(SourceFault::NoMemory),
         },
-        Ok(None) => Err(SourceFault::Damaged {
-            file: file.file,
-            at,
-        }),
+        Ok(None) => Err(damaged),
         Err(DiskFault::Failed) => Err(SourceFault::Failed),
         Err(DiskFault::NoMemory) => Err(SourceFault::NoMemory),
     }

@@ -25,6 +25,7 @@ impl RowFile {
     ghost use Rattle.alt_disk.specs.Disk.{DiskState, Goes, contents};
     ghost use Rattle.alt_disk.specs.Runs.{Quiet};
     ghost use Rattle.alt_rowfile.specs.Format.{Entry};
+    ghost use Rattle.alt_rowfile.specs.Damage.{IsDamageIn};
     ghost use Rattle.alt_rowfile.specs.InHand.{Reads, file_of};
     ghost use Rattle.alt_rowfile.specs.Reading.{ReadsAtMostABlock};
     ghost use Rattle.alt_rowfile.specs.Walking.{walk_holds, walk_reads};
@@ -59,6 +60,7 @@ impl RowFile {
             → IfOk result (λ row. row ≡ find key_cmp key.now rows) }
         ensures undamaged { IsTrue (D.state disk.old).tells → (rows : List Entry)
             → Reads (D.state disk.old) self.now rows → IfErr result (λ fault. IsDamaged fault → ⊥) }
+        ensures damage { IfErr result (IsDamageIn (D.state disk.old) self.now) }
         ensures quiet { IsTrue (D.state disk.old).tells
             → Quiet (D.state disk.old) (D.state disk.new) }
         ensures goes { Goes (D.state disk.old) (D.state disk.new) }

@@ -9,6 +9,7 @@ ghost use Rattle.alt_disk.specs.Runs.{Quiet};
 ghost use Rattle.alt_cells.specs.Keys.{key_cmp};
 ghost use Rattle.alt_cells.specs.Walks.{IsDamaged};
 ghost use Rattle.alt_rowfile.specs.Format.{Entry};
+ghost use Rattle.alt_rowfile.specs.Damage.{IsDamageIn};
 ghost use Rattle.alt_rowfile.specs.InHand.{Reads};
 ghost use Rattle.alt_rowfile.specs.Reading.{ReadsAtMostABlock};
 ghost use Rattle.alt_rowfile.specs.Cut.{CutsAt, IsCutFrom};
@@ -36,6 +37,7 @@ pub(crate) fn start<D: Disk>(
     ensures undamaged { IsTrue (D.state disk.old).tells
         → (rows : List Entry) → Reads (D.state disk.old) file.now rows
         → IfErr result (λ fault. IsDamaged fault → ⊥) }
+    ensures damage { IfErr result (IsDamageIn (D.state disk.old) file.now) }
     ensures quiet { IsTrue (D.state disk.old).tells
         → Quiet (D.state disk.old) (D.state disk.new) }
     ensures goes { Goes (D.state disk.old) (D.state disk.new) }
@@ -73,6 +75,7 @@ fn start_at<D: Disk>(
     ensures undamaged { IsTrue (D.state disk.old).tells
         → (rows : List Entry) → Reads (D.state disk.old) file.now rows
         → IfErr result (λ fault. IsDamaged fault → ⊥) }
+    ensures damage { IfErr result (IsDamageIn (D.state disk.old) file.now) }
     ensures quiet { IsTrue (D.state disk.old).tells
         → Quiet (D.state disk.old) (D.state disk.new) }
     ensures goes { Goes (D.state disk.old) (D.state disk.new) }

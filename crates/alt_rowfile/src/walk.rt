@@ -5,6 +5,7 @@ ghost use Rattle.alt_base.specs.Counts.{Rose};
 ghost use Rattle.alt_disk.specs.Disk.{Goes};
 ghost use Rattle.alt_disk.specs.Runs.{Quiet};
 ghost use Rattle.alt_cells.specs.Walks.{IsDamaged, answered_by};
+ghost use Rattle.alt_rowfile.specs.Damage.{IsDamageIn};
 ghost use Rattle.alt_rowfile.specs.Format.{Entry};
 ghost use Rattle.alt_rowfile.specs.InHand.{Reads};
 ghost use Rattle.alt_rowfile.specs.Reading.{ReadsAtMostABlock};
@@ -31,9 +32,11 @@ impl<'a, D: Disk> RowSource<D> for RowFileWalk<'a> {
     ghost use Rattle.std.specs.Prelude.{IfOk};
     ghost use Rattle.std.specs.Option.{option_copied};
     ghost use Rattle.alt_cells.specs.Walks.{RowMap, RowList, rows_from, Gives, Keeps, Fails};
-    ghost use Rattle.alt_rowfile.specs.Walking.{walk_reads, walk_holds, walk_left, walk_holds_on, walk_left_on};
+    ghost use Rattle.alt_rowfile.specs.Walking.{walk_reads, walk_width, walk_holds, walk_left, walk_holds_on, walk_left_on};
 
     ghost reads = { walk_reads };
+
+    ghost width = { walk_width };
 
     ghost holds = { walk_holds };
 
@@ -50,10 +53,13 @@ impl<'a, D: Disk> RowSource<D> for RowFileWalk<'a> {
             (rows_from rows (option_copied from.entry) forward)) }
         ensures keeps { Keeps walk_holds walk_reads (D.state disk.old) (D.state disk.new)
             self.old self.new }
+        ensures reads { (D.state disk.new).reads ≤ (D.state disk.old).reads + walk_width self.old }
+        ensures width { walk_width self.new ≡ walk_width self.old }
         ensures well { IsTrue (answered_by result)
             → (D.state disk.new).faults ≡ (D.state disk.old).faults }
         ensures fails { IfErr result
-            (Fails walk_holds (D.state disk.old) (D.state disk.new) self.old) }
+            (Fails walk_holds walk_reads (D.state disk.old) (D.state disk.new) self.old) }
+        ensures damage { IfErr result (IsDamageIn (D.state disk.old) (walk_file self.old)) }
         ensures one_block { ReadsAtMostABlock (D.state disk.old) (D.state disk.new)
             (walk_file self.old) }
     {
@@ -74,10 +80,13 @@ impl<'a, D: Disk> RowSource<D> for RowFileWalk<'a> {
             → IfOk result (Gives (walk_left (D.state disk.new) self.new) rows) }
         ensures keeps { Keeps walk_holds walk_reads (D.state disk.old) (D.state disk.new)
             self.old self.new }
+        ensures reads { (D.state disk.new).reads ≤ (D.state disk.old).reads + walk_width self.old }
+        ensures width { walk_width self.new ≡ walk_width self.old }
         ensures well { IsTrue (answered_by result)
             → (D.state disk.new).faults ≡ (D.state disk.old).faults }
         ensures fails { IfErr result
-            (Fails walk_holds (D.state disk.old) (D.state disk.new) self.old) }
+            (Fails walk_holds walk_reads (D.state disk.old) (D.state disk.new) self.old) }
+        ensures damage { IfErr result (IsDamageIn (D.state disk.old) (walk_file self.old)) }
         ensures one_block { ReadsAtMostABlock (D.state disk.old) (D.state disk.new)
             (walk_file self.old) }
     {
@@ -98,6 +107,7 @@ impl<'a> RowFileWalk<'a> {
         ensures undamaged { IsTrue (D.state disk.old).tells
             → (rows : List Entry) → Reads (D.state disk.old) self.old.file.now rows
             → IfErr result (λ fault. IsDamaged fault → ⊥) }
+        ensures damage { IfErr result (IsDamageIn (D.state disk.old) (walk_file self.old)) }
         ensures quiet { IsTrue (D.state disk.old).tells
             → Quiet (D.state disk.old) (D.state disk.new) }
         ensures goes { Goes (D.state disk.old) (D.state disk.new) }

@@ -1,6 +1,6 @@
 //! A walk of either kind. It promises nothing of its rows: what tests show of a merge of such walks they show by looking.
 
-ghost use Rattle.std.specs.Prelude.{false};
+ghost use Rattle.std.specs.Prelude.{true};
 
 use alt_cells::{RowCells, RowSource, SourceFault};
 use alt_disk::Disk;
@@ -15,7 +15,9 @@ pub(crate) enum Source<'a> {
 }
 
 impl<'a, D: Disk> RowSource<D> for Source<'a> {
-    ghost reads = { λ source f. false };
+    ghost reads = { λ source f. true };
+
+    ghost width = { λ source. 1 };
 
     ghost holds = { λ s source rows. ⊥ };
 

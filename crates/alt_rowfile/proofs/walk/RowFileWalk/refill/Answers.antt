@@ -18,6 +18,11 @@ returns-in_err-rows-clause-undamaged g c = λ told rows reads.
     let p = err_from_is_err_and c.from_residual.result c.from_residual.ensures.1 in
     rw (p.1, p.2) (c.in_err-rows.ensures.undamaged told rows reads)
 
+pub returns-in_err-rows-clause-damage : goal.returns-in_err-rows-clause-damage
+returns-in_err-rows-clause-damage g c =
+    let p = err_from_is_err_and c.from_residual.result c.from_residual.ensures.1 in
+    rw (p.1, p.2) c.in_err-rows.ensures.damage
+
 pub returns-then-self-clause-left : goal.returns-then-self-clause-left
 returns-then-self-clause-left g c = λ told rows l.
     let s : DiskState = g.D.Disk.state c.args.disk.now in
@@ -37,6 +42,12 @@ returns-in_err-self-clause-undamaged g c = λ told rows reads.
     let p = err_from_is_err_and c.from_residual-in_err-self.result
     c.from_residual-in_err-self.ensures.1 in
     rw (p.1, p.2) (c.in_err-self.ensures.undamaged told rows reads)
+
+pub returns-in_err-self-clause-damage : goal.returns-in_err-self-clause-damage
+returns-in_err-self-clause-damage g c =
+    let p = err_from_is_err_and c.from_residual-in_err-self.result
+    c.from_residual-in_err-self.ensures.1 in
+    rw (p.1, p.2) c.in_err-self.ensures.damage
 
 pub returns-clause-left : goal.returns-clause-left
 returns-clause-left g c = λ told rows l.

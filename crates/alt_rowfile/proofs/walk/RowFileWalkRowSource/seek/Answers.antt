@@ -30,3 +30,4 @@ returns-in-Err-clause-fails g c =
     walk_fails (g.D.Disk.state c.args.disk.now)
     (g.D.Disk.state c.start.new.disk)
     c.args.self.now c.in-Err.stop c.in-Err.ensures.cause c.in-Err.ensures.undamaged
+    c.in-Err.ensures.damage

@@ -1,6 +1,9 @@
 pub mod Asked
+pub mod AskedReads
 pub mod Finding
+pub mod Founds
 pub mod Gets
+pub mod Plain
 pub mod Showing
 pub mod Stopping
 pub mod Taking

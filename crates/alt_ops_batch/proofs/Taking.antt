@@ -18,8 +18,8 @@ use Rattle.alt_machine.specs.State.{State}
 use Rattle.alt_ops_batch.specs.Readings.{AreAllKnown, AreKnown, IsBounded, IsPlainRead, IsPlainTaken, IsTaken, Takes, item_json, key_json, name_left, read_so}
 use Rattle.alt_ops_batch.specs.declared.reading.Read.{Read}
 use Rattle.alt_ops_batch.specs.declared.reading.Taken.{Taken}
-use Rattle.alt_request.specs.Batches.{HasPlainNames, reads_of}
-use Rattle.alt_request.specs.declared.batch_reads.TableReads.{TableReads}
+use Rattle.alt_ops_batch.specs.Batches.{HasPlainNames, reads_of}
+use Rattle.alt_ops_batch.specs.declared.asked_reads.TableReads.{TableReads}
 use Rattle.alt_tables.specs.Stands.{KeepsCatalog, Reads, Stands, catalog_of}
 use Rattle.alt_tables.specs.declared.tables.Tables.{Tables}
 use Rattle.alt_tables.proofs.Left.{reads_then}

@@ -1,2 +1,4 @@
+pub mod Batches
 pub mod Changed
+pub mod Names
 pub mod Readings

@@ -19,7 +19,7 @@ use Rattle.alt_ops_batch.specs.declared.reading.Taken.{Taken}
 use Rattle.alt_request.specs.Carried.{WhereFailed}
 use Rattle.alt_request.specs.declared.stop.Stop.{Stop}
 use Rattle.alt_request.specs.declared.stop.Stop.TheVariants.{Refused, Fault}
-use Rattle.alt_request.specs.declared.batch_reads.TableReads.{TableReads}
+use Rattle.alt_ops_batch.specs.declared.asked_reads.TableReads.{TableReads}
 use Rattle.alt_schema.specs.declared.schema.TableSchema.{TableSchema}
 use Rattle.alt_tables.specs.Faults.{IsFindFault}
 use Rattle.alt_value.specs.Tree.{Pair}

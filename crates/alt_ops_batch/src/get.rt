@@ -6,10 +6,11 @@ ghost use Rattle.alt_machine.specs.Ops.BatchGetItem.{batch_get_item};
 ghost use Rattle.alt_request.specs.Carried.{Carries, Moves};
 ghost use Rattle.alt_tables.specs.Stands.{AreReady, Stands};
 
+use crate::asked_reads::reads_asked;
 use crate::reading::read_all;
 use crate::replies::read_reply;
 use alt_disk::Disk;
-use alt_request::{Stop, reads_asked};
+use alt_request::Stop;
 use alt_shape::Reply;
 use alt_tables::Tables;
 use serde_json::{Map, Value};

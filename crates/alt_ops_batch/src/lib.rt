@@ -1,7 +1,11 @@
 //! The operations on batches: BatchWriteItem and BatchGetItem (DynamoDB API Reference, "Actions"; docs/API.md).
 #![tactic(auto)]
 
+mod asked_reads;
+mod asked_writes;
 mod get;
+mod keys;
+mod members;
 mod reading;
 mod replies;
 mod write;

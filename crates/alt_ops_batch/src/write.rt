@@ -18,9 +18,10 @@ ghost use Rattle.alt_tables.specs.Faults.{IsFindFault, Writes};
 ghost use Rattle.alt_tables.specs.Images.{Leaves};
 ghost use Rattle.alt_tables.specs.Stands.{AreReady, KeepsCatalog, Reads, Stands, catalog_of};
 
+use crate::asked_writes::writes_asked;
 use alt_disk::Disk;
 use alt_machine::{PlacedMember, Sought};
-use alt_request::{Stop, one_member, writes_asked};
+use alt_request::{Stop, one_member};
 use alt_shape::Reply;
 use alt_tables::{Found, TableFault, Tables};
 use alt_value::{Item, Text};

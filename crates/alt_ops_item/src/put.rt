@@ -5,7 +5,7 @@ ghost use Rattle.serde_json.specs.Data.{Members};
 ghost use Rattle.serde_json.specs.View.{members_view};
 ghost use Rattle.alt_machine.specs.Ops.PutItem.{put_item};
 ghost use Rattle.alt_request.specs.Carried.{Carries, Moves};
-ghost use Rattle.alt_request.specs.Direct.{IsGiven, IsReadAhead};
+ghost use Rattle.alt_readahead.specs.Direct.{IsGiven, IsReadAhead};
 ghost use Rattle.alt_tables.specs.Stands.{AreReady, Stands};
 
 use crate::conditional::write_if;

@@ -19,7 +19,7 @@ use Rattle.alt_shape.specs.Refusals.{not_found}
 use Rattle.alt_shape.specs.Shape.{given}
 use Rattle.alt_shape.specs.declared.rule.Broken.{Broken}
 use Rattle.alt_value.specs.Tree.{Pair}
-use Rattle.alt_request.specs.Direct.{IsReadAhead}
+use Rattle.alt_readahead.specs.Direct.{IsReadAhead}
 use Rattle.alt_request.specs.Targets.{SaySame}
 
 module _ (ms bs : Members) (item : List Pair) (h : IsReadAhead ms bs item) where

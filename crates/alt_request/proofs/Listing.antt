@@ -18,7 +18,7 @@ use Rattle.alt_request.specs.Carried.{Carries, IfFailed}
 use Rattle.alt_request.specs.Steps.{Comes, Tested}
 use Rattle.alt_request.specs.Targets.{OnList, IsListedAt}
 use Rattle.alt_request.specs.Words.{given_of}
-use Rattle.alt_request.specs.declared.expressions.Given.{Given}
+use Rattle.alt_request.specs.declared.words.Given.{Given}
 use Rattle.alt_request.specs.declared.lists.ListTarget.{ListTarget}
 use Rattle.alt_request.specs.declared.stop.Stop.{Stop}
 use Rattle.alt_request.specs.declared.stop.Stop.TheVariants.{Refused, Fault}

@@ -17,7 +17,7 @@ use Rattle.alt_machine.proofs.Targets.{table-missed, item-refused, item-unread, 
 use Rattle.alt_request.specs.Steps.{Comes, Tested}
 use Rattle.alt_request.specs.Targets.{OnTable, OnItem, place_that_fits}
 use Rattle.alt_request.specs.Words.{given_of}
-use Rattle.alt_request.specs.declared.expressions.Given.{Given}
+use Rattle.alt_request.specs.declared.words.Given.{Given}
 use Rattle.alt_request.specs.declared.stop.Stop.{Stop}
 use Rattle.alt_request.specs.declared.targets.Target.{Target}
 use Rattle.alt_request.specs.declared.stop.Stop.TheVariants.{Refused, Fault}

@@ -18,7 +18,7 @@ use Rattle.alt_machine.specs.Refusals.{first_answer, refuse_by, unless_answer}
 use Rattle.alt_machine.proofs.Spoken.{keys_said, condition_said, update_said, paths_said, expressions-no_keys, expressions-no_condition, expressions-no_update, expressions-no_paths, expressions-key_update, expressions-unused, expressions-said, are_given}
 use Rattle.alt_request.specs.Steps.{Comes}
 use Rattle.alt_request.specs.Words.{IsFresh, given_of, names_refusal, names_in, earlier, has_more, all_stated}
-use Rattle.alt_request.specs.declared.expressions.Given.{Given}
+use Rattle.alt_request.specs.declared.words.Given.{Given}
 use Rattle.alt_request.specs.declared.stop.Stop.{Stop}
 use Rattle.alt_request.specs.declared.stop.Stop.TheVariants.{Refused, Fault}
 use Rattle.alt_request.proofs.Stated.{behind, with_all}

@@ -1,8 +1,4 @@
-pub mod Ahead
-pub mod Batches
 pub mod Carried
-pub mod Direct
-pub mod Payloads
 pub mod Reads
 pub mod Steps
 pub mod Targets

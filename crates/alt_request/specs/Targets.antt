@@ -14,7 +14,7 @@ use Rattle.alt_machine.specs.Outcomes.{Outcome, refuses}
 use Rattle.alt_machine.specs.Refusals.{first_answer, or_refused, unless_answer, ◌>>=◌}
 use Rattle.alt_machine.specs.State.{State, Table, Texts, descriptions}
 use Rattle.alt_machine.specs.Targets.{on_table, on_item, member_of, of_length, place_in, IsPlaced}
-use Rattle.alt_request.specs.Direct.{IsGiven, IsReadAhead}
+use Rattle.alt_readahead.specs.Direct.{IsGiven, IsReadAhead}
 use Rattle.alt_request.specs.declared.lists.ListTarget.{ListTarget}
 use Rattle.alt_request.specs.declared.stop.Stop.{Stop}
 use Rattle.alt_request.specs.declared.stop.Stop.TheVariants.{Refused, Fault}

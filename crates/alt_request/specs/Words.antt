@@ -2,7 +2,6 @@
 use Rattle.std.specs.Prelude.{◌≡◌, ◌||◌, Bool, false, List, [], Option, Some, None, Result, Ok, option_map}
 use Rattle.std.specs.Option.{option_map_or}
 use Rattle.serde_json.specs.Data.{Members, no_members, member}
-use Rattle.serde_json.specs.Written.{members_have_float}
 use Rattle.alt_expr.specs.Given as expr
 use Rattle.alt_expr.specs.Given.{has_unused}
 use Rattle.alt_expr.specs.Lookups.{given_by, names_alone}
@@ -18,8 +17,8 @@ use Rattle.alt_expr.proofs.UpdateTexts.{update_of}
 use Rattle.alt_machine.specs.declared.Expressions.{Expressions}
 use Rattle.alt_machine.specs.Expressions as machine
 use Rattle.alt_machine.specs.Refusals.{first_answer, unless_answer, ◌>>=◌}
-use Rattle.alt_request.specs.declared.expressions.Given.{Given}
-use Rattle.alt_request.specs.declared.expressions.Texts.{Texts}
+use Rattle.alt_request.specs.declared.words.Given.{Given}
+use Rattle.alt_request.specs.declared.words.Texts.{Texts}
 use Rattle.alt_request.specs.declared.stop.Stop.{Stop}
 use Rattle.alt_request.specs.declared.stop.Stop.TheVariants.{Refused, Fault}
 use Rattle.alt_shape.specs.Refusals.{Answer}
@@ -63,10 +62,6 @@ pub record AreFreshNames (ms : Members) (names : Names) : Type 0 where
 pub record IsFresh (ms : Members) (g : Given) : Type 0 where
   pub names : AreFreshNames ms g.names
   pub values : used_values g.values ≡ []
-
--- The names that are given are texts, so no float stands among them.
-abbrev pub ArePlainNames : Members → Type 0
-ArePlainNames ms = option_map_or members_have_float (machine.names_member ms) false ≡ false
 
 -- a name or a value stands in none of the texts that were parsed
 abbrev pub has_more : Names → Values → Bool

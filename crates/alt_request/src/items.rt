@@ -31,11 +31,7 @@ const LONGEST_HASH: usize = 2048;
 const LONGEST_RANGE: usize = 1024;
 
 /// The item or the key of a body.
-pub(crate) fn item_at(
-    alloc: Global,
-    body: &Map<String, Value>,
-    sought: Sought,
-) -> Result<Item, Stop>
+pub fn item_at(alloc: Global, body: &Map<String, Value>, sought: Sought) -> Result<Item, Stop>
     ensures read { Comes (λ i. i) (item_at (member_of sought) (members_view body.now.entries))
         result }
 {
@@ -46,7 +42,7 @@ pub(crate) fn item_at(
 }
 
 /// The item that a JSON tree is.
-pub(crate) fn item_of(alloc: Global, value: &Value) -> Result<Item, Stop>
+pub fn item_of(alloc: Global, value: &Value) -> Result<Item, Stop>
     ensures read { Comes (λ i. i) (unless_fault (item_in 32 (view value.now))) result }
 {
     match item_of_json(alloc, value) {

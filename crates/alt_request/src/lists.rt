@@ -12,10 +12,10 @@ ghost use Rattle.alt_schema.specs.Indexes.{indexes};
 ghost use Rattle.alt_tables.specs.Stands.{catalog_of};
 
 use crate::body::{Rules, paired_refusal, table_of};
-use crate::expressions::{Texts, expressions, given_at};
 use crate::indexed::index_asked;
 use crate::items::item_of;
 use crate::stop::Stop;
+use crate::words::{Texts, expressions, given_at};
 use alt_machine::Expressions;
 use alt_schema::TableSchema;
 use alt_shape::{Broken, given};

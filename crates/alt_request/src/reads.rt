@@ -26,9 +26,9 @@ ghost use Rattle.alt_tables.specs.Stands.{AreReady, Stands, catalog_of};
 ghost use Rattle.alt_value.specs.Tree.{Pair};
 
 use crate::body::{Rules, table_name};
-use crate::expressions::Texts;
 use crate::stop::Stop;
 use crate::targets::{Target, item_target, table_target};
+use crate::words::Texts;
 use alt_disk::Disk;
 use alt_fields::Bytes;
 use alt_machine::{Expressions, Sought};

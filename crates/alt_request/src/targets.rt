@@ -9,9 +9,9 @@ ghost use Rattle.alt_request.specs.Words.{texts_of};
 ghost use Rattle.alt_tables.specs.Stands.{catalog_of};
 
 use crate::body::{Rules, body_refusal, table_of};
-use crate::expressions::{Texts, expressions, given_at};
 use crate::items::{item_at, key_fits, place_in};
 use crate::stop::Stop;
+use crate::words::{Texts, expressions, given_at};
 use alt_fields::Bytes;
 use alt_machine::{Expressions, Sought};
 use alt_schema::TableSchema;
@@ -137,7 +137,7 @@ fn target_of_item<'t>(
 }
 
 /// The place of an item or a key, where it has one and its key isn't too long.
-pub(crate) fn fitting_place(
+pub fn fitting_place(
     alloc: Global,
     sought: Sought,
     schema: &TableSchema,

@@ -14,8 +14,8 @@ ghost use Rattle.alt_machine.specs.Expressions as machine;
 ghost use Rattle.alt_request.specs.Steps.{Comes};
 ghost use Rattle.alt_request.specs.Words.{texts_of, all_stated, stop_of};
 
-use crate::expressions::Texts;
 use crate::stop::Stop;
+use crate::words::Texts;
 use alt_expr::{Cond, ExprFault, Names, Paths, Update, Values};
 use alt_machine::Expressions;
 use alt_shape::{Refusal, text_at};

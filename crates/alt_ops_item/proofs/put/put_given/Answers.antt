@@ -16,7 +16,7 @@ use Rattle.alt_machine.specs.Valid.{IsStored}
 use Rattle.alt_ops_item.proofs.Placing.{same_Some}
 use Rattle.alt_ops_item.proofs.Putting.{put_is, puts-refused, puts-written, may_be_put}
 use Rattle.alt_request.specs.Carried.{Does, Moves}
-use Rattle.alt_request.proofs.Given.{shape_given, tests_given, name_given, writes_given}
+use Rattle.alt_request.proofs.GivenAhead.{shape_given, tests_given, name_given, writes_given}
 use Rattle.alt_request.proofs.Moving.{moves_stopped, moves_nothing, item_moved, item_unfailed, tested_unfailed}
 use Rattle.alt_request.proofs.Carrying.{untested, item_passed, item_reached, item_done}
 use Rattle.alt_request.specs.declared.stop.Stop.{Stop}

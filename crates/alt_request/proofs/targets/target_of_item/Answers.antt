@@ -10,7 +10,7 @@ use Rattle.alt_machine.specs.Refusals.{or_refused}
 use Rattle.alt_machine.specs.State.{Texts}
 use Rattle.alt_request.specs.Steps.{Comes}
 use Rattle.alt_request.specs.Words.{given_of, texts_of}
-use Rattle.alt_request.specs.declared.expressions.Given.{Given}
+use Rattle.alt_request.specs.declared.words.Given.{Given}
 use Rattle.alt_request.proofs.Named.{some_found}
 use Rattle.alt_request.proofs.Reaching.{passed_on, no_words, no_table, unsaid, unplaced, fits_so}
 use Rattle.alt_schema.specs.declared.schema.TableSchema.{TableSchema}

@@ -1,0 +1,6 @@
+pub mod Converted
+pub mod Loops
+pub mod Payloads
+pub mod Putting
+pub mod SoFar
+pub mod Turns

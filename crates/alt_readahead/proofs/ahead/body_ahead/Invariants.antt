@@ -1,0 +1,21 @@
+-- The body is what was read so far, with the members that are still to come.
+use Rattle.std.proofs.Common.{◌≡◌, ℕ, ◌≤◌, length}
+use Rattle.json.specs.Json.{members, value}
+use Rattle.serde_json.specs.Data.{Members, no_members}
+use Rattle.serde_json.specs.Read.{of_members, converted}
+use Rattle.serde_json.specs.View.{members_view}
+use Rattle.alt_readahead.specs.Ahead.{IsReadSoFar}
+use Rattle.alt_readahead.proofs.ahead.body_ahead.Given as goal
+
+-- the members read so far, with those to come
+abbrev pub invariant-members : goal.invariant-members
+invariant-members l =
+    (n : ℕ) × (length l.reader ≤ n)
+    × (ms : Members)
+    × (converted (λ os. of_members os no_members)
+    (members (value 126) (length l.initial.reader) l.initial.reader)
+    ≡ converted (λ os. of_members os ms) (members (value 126) n l.reader))
+    × IsReadSoFar ms (members_view l.members.entries) l.item
+
+abbrev pub decreases-members : goal.decreases-members
+decreases-members l = length l.reader

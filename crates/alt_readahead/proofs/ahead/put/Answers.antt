@@ -1,0 +1,16 @@
+-- The entry that is inserted is the member that is put.
+use Rattle.std.proofs.Common.{◌≡◌, string_bytes, ap, ◌∙◌, rules}
+use Rattle.serde_json.specs.Data.{put}
+use Rattle.serde_json.specs.View.{view, members_view}
+use Rattle.serde_json.proofs.Views.{members_view-insert_entry}
+use Rattle.alt_readahead.proofs.ahead.put.Goals as goal
+
+pub returns : goal.returns
+returns c =
+    let old = c.args.found.now.entries in
+    let copied : string_bytes c.in_ok-name.name ≡ c.args.name.now = search rules in
+    record {
+      put = ap members_view c.in_ok-insert.ensures.entries
+          ∙ members_view-insert_entry old c.in_ok-name.name c.args.value
+          ∙ ap (λ name. put name (view c.args.value) (members_view old)) copied;
+    }

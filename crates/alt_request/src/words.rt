@@ -1,0 +1,189 @@
+//! The expressions of a body: the names and values that it gives, what its texts say, and that each given word stands in one of them.
+
+ghost use Rattle.std.specs.Prelude.{◌≡◌, [], IfOk};
+ghost use Rattle.serde_json.specs.View.{view, members_view};
+ghost use Rattle.alt_expr.specs.NamesGiven.{given_names, used_names, is_empty_given, given_values, used_values};
+ghost use Rattle.alt_expr.specs.NamesIn.{gives_empty};
+ghost use Rattle.alt_machine.specs.Expressions as machine;
+ghost use Rattle.alt_request.specs.Steps.{Comes};
+ghost use Rattle.alt_request.specs.Words.{IsFresh, AreFreshNames, given_of, texts_of, names_in, names_refusal, has_more};
+
+use crate::items::item_of;
+use crate::key_update::changes_key;
+use crate::stop::Stop;
+use crate::texts::all_stated;
+use alt_expr::{Names, Values};
+use alt_machine::Expressions;
+use alt_schema::TableSchema;
+use alt_shape::{Refusal, given, object_at};
+use alt_value::Item;
+use serde_json::{Map, Value};
+use std::alloc::Global;
+
+/// The members of an operation that are expressions, each where it takes one. An operation that takes a condition takes values.
+#[derive(Clone, Copy)]
+pub struct Texts {
+    pub key_condition: Option<&'static str>,
+    pub condition: Option<&'static str>,
+    pub update: Option<&'static str>,
+    pub projection: Option<&'static str>,
+}
+
+impl Texts {
+    /// A write that may be conditional.
+    pub const CONDITIONAL: Texts = Texts {
+        key_condition: None,
+        condition: Some("ConditionExpression"),
+        update: None,
+        projection: None,
+    };
+
+    /// An update, which may be conditional.
+    pub const UPDATING: Texts = Texts {
+        key_condition: None,
+        condition: Some("ConditionExpression"),
+        update: Some("UpdateExpression"),
+        projection: None,
+    };
+
+    /// A read that may show parts.
+    pub const PROJECTING: Texts = Texts {
+        key_condition: None,
+        condition: None,
+        update: None,
+        projection: Some("ProjectionExpression"),
+    };
+
+    /// A Scan, whose condition is a filter.
+    pub const SCANNING: Texts = Texts {
+        key_condition: None,
+        condition: Some("FilterExpression"),
+        update: None,
+        projection: Some("ProjectionExpression"),
+    };
+
+    /// A Query, which has a condition on keys too.
+    pub const QUERYING: Texts = Texts {
+        key_condition: Some("KeyConditionExpression"),
+        condition: Some("FilterExpression"),
+        update: None,
+        projection: Some("ProjectionExpression"),
+    };
+}
+
+/// The names and values that a body gives for the words of its expressions.
+#[derive(Drop)]
+pub struct Given {
+    pub names: Names,
+    pub values: Values,
+}
+
+/// The names and values of a body, none of them used yet.
+#[tactic(auto, unfolding(alt_machine::specs::Expressions::given_at))]
+pub fn given_at(alloc: Global, texts: &Texts, body: &Map<String, Value>) -> Result<Given, Stop>
+    ensures given { Comes given_of (machine.given_at (texts_of texts.now)
+        (members_view body.now.entries)) result }
+    ensures fresh { IfOk result (IsFresh (members_view body.now.entries)) }
+{
+    let names = names_at(alloc, body)?;
+    let values = values_at(alloc, texts, body)?;
+    Ok(Given { names, values })
+}
+
+fn names_at(alloc: Global, body: &Map<String, Value>) -> Result<Names, Stop>
+    ensures given { Comes given_names (machine.names_at (members_view body.now.entries)) result }
+    ensures fresh { IfOk result (AreFreshNames (members_view body.now.entries)) }
+{
+    let names = object_at(body, "ExpressionAttributeNames");
+    let Some(names) = names else {
+        return Ok(Names::of_json(alloc, None)?);
+    };
+    names_of(alloc, names)
+}
+
+fn names_of(alloc: Global, names: &Map<String, Value>) -> Result<Names, Stop>
+    ensures given { Comes given_names (names_in (members_view names.now.entries)) result }
+    ensures used { IfOk result (λ n. used_names n ≡ []) }
+    ensures empty { IfOk result (λ n. is_empty_given n
+        ≡ gives_empty (members_view names.now.entries)) }
+{
+    match names_refusal(names) {
+        Some(refusal) => Err(Stop::Refused(refusal)),
+        None => Ok(Names::of_json(alloc, Some(names))?),
+    }
+}
+
+/// The refusal of the first entry of the names that isn't a text, or has no bytes.
+fn names_refusal(names: &Map<String, Value>) -> Option<Refusal>
+    ensures { result ≡ names_refusal (members_view names.now.entries) }
+{
+    for (_, name) in names {
+        if let Some(refusal) = name_refusal(name) {
+            return Some(refusal);
+        }
+    }
+    None
+}
+
+fn name_refusal(name: &Value) -> Option<Refusal>
+    ensures { result ≡ machine.name_refusal (view name.now) }
+{
+    let Some(text) = name.as_str() else {
+        return Some(Refusal::UNREADABLE);
+    };
+    if text.is_empty() {
+        return Some(Refusal::NOT_ONE_KIND);
+    }
+    None
+}
+
+fn values_at(alloc: Global, texts: &Texts, body: &Map<String, Value>) -> Result<Values, Stop>
+    ensures given { Comes given_values (machine.values_at (texts_of texts.now)
+        (members_view body.now.entries)) result }
+    ensures fresh { IfOk result (λ values. used_values values ≡ []) }
+{
+    if texts.condition.is_none() {
+        return Ok(Values::of_item(alloc, Item::new(alloc))?);
+    }
+    let Some(value) = given(body, "ExpressionAttributeValues") else {
+        return Ok(Values::of_item(alloc, Item::new(alloc))?);
+    };
+    let item = item_of(alloc, value)?;
+    Ok(Values::of_item(alloc, item)?)
+}
+
+/// What the expressions of a body say to a table: each text is refused for its first fault, and then all of them, where the update
+/// changes a key attribute, or a name or a value stands in none.
+pub fn expressions(
+    alloc: Global,
+    texts: &Texts,
+    schema: &TableSchema,
+    body: &Map<String, Value>,
+    given: Given,
+) -> Result<Expressions, Stop>
+    requires fresh { IsFresh (members_view body.now.entries) given }
+    ensures said { Comes (λ e. e) (machine.expressions (texts_of texts.now) schema.now
+        (members_view body.now.entries) (given_of given)) result }
+{
+    let Given {
+        mut names,
+        mut values,
+    } = given;
+    let said = all_stated(alloc, texts, body, &mut names, &mut values)?;
+    if changes_key(schema, &said.update) {
+        drop(said);
+        return Err(Stop::Refused(Refusal::KEY_UPDATE));
+    }
+    if is_unused(&names, &values) {
+        drop(said);
+        return Err(Stop::Refused(Refusal::UNUSED_NAME));
+    }
+    Ok(said)
+}
+
+/// Whether a name or a value stands in none of the texts.
+fn is_unused(names: &Names, values: &Values) -> bool
+    ensures { result ≡ has_more names.now values.now }
+{
+    names.unused() || values.unused()
+}

@@ -10,7 +10,7 @@ ghost use Rattle.alt_readahead.specs.Payloads.{ReadsBy, ReadsElements, ReadsFiel
 use crate::flat_ahead::{binary_value, null_value, number_value, text_value, truth_value};
 use crate::sets_ahead::{binaries_value, numbers_value, texts_value};
 use crate::tokens::{Unread, close_object, name, open_array, open_object};
-use alt_value::{Attr, AttrList, Item};
+use alt_value::{Attr, AttrList, Item, ItemBuilder};
 use json::Reader;
 use std::alloc::Global;
 
@@ -122,7 +122,8 @@ fn map_at(alloc: Global, reader: &mut Reader<'_>, depth: usize, room: u32) -> Re
     Ok(Attr::M(fields))
 }
 
-/// The pairs of an item or of a map, whose names come in any order.
+/// The pairs of an item or of a map, whose names come in any order: they take time in line with their number, but for the logarithm of
+/// a sort.
 #[cycle(direct)]
 fn fields_at(
     alloc: Global,
@@ -132,7 +133,7 @@ fn fields_at(
 ) -> Result<Item, Unread>
     ensures fields { IfOk result (λ i. ReadsFields depth room reader.old i reader.new) }
 {
-    let mut item = Item::new(alloc);
+    let mut item = ItemBuilder::new(alloc);
     'fields: while let Some(name) = reader.next_key()? {
         if name.is_empty() {
             return Err(Unread::Otherwise);
@@ -140,5 +141,8 @@ fn fields_at(
         let value = value_at(alloc, reader, depth, room)?;
         item.put(name, value)?;
     }
-    Ok(item)
+    match item.into_item() {
+        Ok(item) => Ok(item),
+        Err(_) => Err(Unread::NoMemory),
+    }
 }

@@ -1,12 +1,13 @@
 -- Each turn reads one element or member more; a value is an object of its kind and payload.
-use Rattle.std.proofs.Common.{◌≡◌, refl, ◌<◌, length, None, Some, arith}
+use Rattle.std.proofs.Common.{◌≡◌, refl, sym, subst, List, ◌<◌, length, None, Some, arith}
 use Rattle.std.specs.Prelude.{codes}
 use Rattle.json.specs.Json.{after_end_array, read_key}
 use Rattle.alt_codec.specs.Reading.{value_in}
 use Rattle.alt_codec.specs.Scalars.{text_in, number_in, binary_in, truth_in, null_in}
 use Rattle.alt_codec.specs.Steps.{map_ok}
 use Rattle.alt_value.specs.Stands.{tree_of}
-use Rattle.alt_value.specs.Tree.{S_tree, N_tree, B_tree}
+use Rattle.alt_value.specs.Tree.{Pair, S_tree, N_tree, B_tree}
+use Rattle.alt_readahead.specs.Payloads.{ReadsFields}
 use Rattle.alt_readahead.proofs.Loops.{reads_shorter, elements_begin, elements_turn, elements_end, fields_begin, fields_turn, fields_less, fields_end}
 use Rattle.alt_readahead.proofs.Payloads.{reads_kind, reads_list, reads_map, reads_value}
 use Rattle.alt_readahead.proofs.direct.+direct.Goals as goal
@@ -63,13 +64,15 @@ fields_at-fields-smaller t c =
     fields_less c.args.depth c.args.room c.args.reader.now c.fields.reader c.next_key.new.self
     c.value_at.new.reader k (tree_of c.in_ok-value.value) named c.in_ok-value.ensures.value
 
-pub fields_at-returns : goal.fields_at-returns
-fields_at-returns t c =
+pub fields_at-returns-in-Ok : goal.fields_at-returns-in-Ok
+fields_at-returns-in-Ok t c =
     let l = c.fields in
     let over : read_key l.reader ≡ Some (None, c.next_key.new.self) = grind arith in
     record {
-      fields = fields_end c.args.depth c.args.room c.args.reader.now l.reader c.next_key.new.self
-          l.item l.invariant over;
+      fields = subst (λ (i : List Pair). ReadsFields c.args.depth c.args.room c.args.reader.now i
+          c.next_key.new.self) (sym c.in-Ok.ensures.item)
+          (fields_end c.args.depth c.args.room c.args.reader.now l.reader c.next_key.new.self
+          l.item l.invariant over);
     }
 
 pub list_at-returns : goal.list_at-returns

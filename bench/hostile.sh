@@ -44,6 +44,30 @@ attributes() {
     }
   }'
 }
+# small COUNT: so many small items, each with a map; scanned COUNT MEMBERS: these and a scan of them
+small() {
+  printf '%s\n' "$create"
+  seq "$1" | awk '{ printf "PutItem {\"TableName\":\"Tab\",\"Item\":{\"k\":{\"S\":\"%06d\"},\"aa\":{\"N\":\"1\"},\"m\":{\"M\":{\"aa\":{\"N\":\"1\"}}}}}\n", $1 }'
+}
+scanned() { small "$1" && printf 'Scan {"TableName":"Tab",%s}\n' "$2"; }
+# paths COUNT BEFORE: so many names of one or two bytes, with commas between and that before each
+paths() {
+  awk -v count="$1" -v before="$2" 'BEGIN {
+    letters = "abcdefghijklmnopqrstuvwxyzABCDEFGHIJKLMNOPQRSTUVWXYZ"
+    signs = letters "0123456789"
+    for (i = 0; i < count; i++) {
+      at = i - 52
+      name = i < 52 ? substr(letters, i + 1, 1) : substr(letters, int(at / 62) + 1, 1) substr(signs, at % 62 + 1, 1)
+      if (name ~ /^([oO][rR]|[iI][nN])$/) name = name "0" # else a keyword
+      printf "%s%s%s", (i > 0 ? "," : ""), before, name
+    }
+  }'
+}
+# filtered COUNT TEXT: a scan of so many small items by a filter over two values of BYTES bytes that are equal
+filtered() {
+  small "$1"
+  printf 'Scan {"TableName":"Tab","FilterExpression":"%s","ExpressionAttributeValues":{":v":{"S":"%s"},":w":{"S":"%s"}}}\n' "$2" "$(long)" "$(long)"
+}
 # put ORDER COUNT: an item with so many attributes; within ORDER COUNT: one with a map of so many
 put() { printf '%s\nPutItem {"TableName":"Tab","Item":{"k":{"S":"a"},%s}}\n' "$create" "$(attributes "$1" "$2")"; }
 within() { printf '%s\nPutItem {"TableName":"Tab","Item":{"k":{"S":"a"},"m":{"M":{%s}}}}\n' "$create" "$(attributes "$1" "$2")"; }
@@ -75,4 +99,11 @@ measured "a condition that names an attribute once" text UpdateItem ConditionExp
 measured "a condition that names it 500 times, an attribute" text UpdateItem ConditionExpression "$(pieces 500 '#n=k' ' OR ')" "$names"
 measured "an update that names it 500 times and is refused, an attribute" text UpdateItem UpdateExpression "REMOVE $(pieces 500 '#n[%d]' ',')" "$names"
 measured "a projection that names it 500 times, an attribute" text GetItem ProjectionExpression "$(pieces 500 '#n[%d]' ',')" "$names"
+measured "a scan of 30,000 small items" scanned 30000 '"Limit":100000'
+measured "a scan of 30,000 small items, 1,300 paths" scanned 30000 "\"ProjectionExpression\":\"$(paths 1300 '')\""
+measured "a scan of 30,000 small items, 800 paths in a map" scanned 30000 "\"ProjectionExpression\":\"$(paths 800 m.)\""
+measured "a filter of one comparison of two values, 20 items" filtered 20 ":v=:w"
+measured "a filter of 370 comparisons of two values, 20 items" filtered 20 "$(pieces 370 ':v=:w' ' AND ')"
+measured "a filter of 370 comparisons of two values, 2,000 items" filtered 2000 "$(pieces 370 ':v=:w' ' AND ')"
+measured "a filter that seeks each key 200 times in a value, 20 items" filtered 20 "$(pieces 200 'contains(:v,k)' ' OR ')"
 rm -rf "$out/store"

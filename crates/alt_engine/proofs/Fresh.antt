@@ -1,5 +1,5 @@
 -- A fresh store: that a stop leaves it, and that no file is there where the first is named.
-use Rattle.std.proofs.Common.{◌≡◌, ◌≢◌, ◌<◌, ◌==◌, ◌||◌, ℕ, zero, suc, Bool, true, false, List, [], ◌∷◌}
+use Rattle.std.proofs.Common.{◌≡◌, ◌≢◌, ◌<◌, ◌==◌, ◌||◌, ◌++◌, inl, inr, ℕ, zero, suc, Bool, true, false, List, [], ◌∷◌}
 use Rattle.std.proofs.Common.{length, get_or, drop, Option, Some, None, is_some, refl, sym, ap, subst, ◌∙◌, arith, lit<, append_assoc}
 use Rattle.std.proofs.lemmas.Bool.{false≢true}
 use Rattle.std.proofs.lemmas.Bool.Decides.{nat_tests}
@@ -8,10 +8,13 @@ use Rattle.std.proofs.lemmas.Map.Keys.{below_from_sorted}
 use Rattle.std.specs.List.{list_any}
 use Rattle.alt_disk.specs.Fates.{Fates, Fits}
 use Rattle.alt_disk.specs.Disk.{DiskState, IsImage, IsSettled, IsNames}
-use Rattle.alt_disk.specs.Runs.{Run}
+use Rattle.alt_disk.specs.Runs.{Quiet, Run, Spans}
+use Rattle.alt_disk.proofs.Runs.{quiet_spans, run_spans, spans_on}
 use Rattle.alt_gatelog.specs.Log.{IsLog, first_form, header, log_bytes, IsShortEntry}
 use Rattle.alt_engine.specs.Layout.{no_rows}
-use Rattle.alt_engine.specs.Image.{IsLayout, IsFresh, HasVersion, first_version, versions_file, entries_file}
+use Rattle.alt_engine.specs.Image.{IsLayout, IsFresh, IsMade, HasVersion, first_version, versions_file, entries_file}
+use Rattle.alt_engine.specs.Making.{HasSegment, LeavesNoVersions}
+use Rattle.std.specs.Prelude.{⊤}
 
 -- the header of a log has eight bytes
 length-header : length (header first_form) ≡ 8
@@ -59,6 +62,41 @@ settled_on a b f g P run other settled left fits =
     settled left (subst (λ (x : Fates). Fits x left)
     (run.fates b.moment g other run.later (omega arith)) fits)
     ∙ sym (run.file g other)
+
+-- ---- no version without its segment
+
+-- a file that is missing has no version
+no_version : (file : Option (List ℕ)) → file ≡ None → HasVersion file → ⊥
+no_version file missing version =
+    let both : None ≡ Some (log_bytes first_form (version.before ++ first_version ∷ [])
+    version.is.gate version.is.rest) = sym missing ∙ version.is.is in let f : ⊥ = cc in f
+
+-- where nothing is made no stop leaves one
+pub segment_quiet : (a b : DiskState) → LeavesNoVersions a → Quiet a b → Spans a b IsMade HasSegment
+segment_quiet a b none quiet = quiet_spans a b IsMade HasSegment quiet
+    (λ t image fits version. absurd (no_version (image versions_file)
+    (none (image versions_file) (fits versions_file)) version))
+
+-- nor before the versions are made
+pub segment_first : (a b c : DiskState) → LeavesNoVersions a → Quiet a b → Run b c 2 (λ _ _. ⊤)
+    → Spans a c IsMade HasSegment
+segment_first a b c none quiet run = spans_on a b c IsMade HasSegment
+    (segment_quiet a b none quiet)
+    (run_spans b c 2 (λ _ _. ⊤) IsMade HasSegment run (inr refl)
+    (λ t image here others version. absurd (no_version (image versions_file)
+    (none (image versions_file) (subst (λ (x : Fates). Fits x (image versions_file))
+    (quiet.fates b.moment versions_file quiet.later (omega arith))
+    (others versions_file (omega arith)))) version)))
+
+-- Behind the segment, which lasts, the versions may be made.
+pub segment_then : (a c d : DiskState) (f : ℕ) → f ≡ 1 → Spans a c IsMade HasSegment
+    → IsSettled c 2 → c.file 2 ≡ Some (log_bytes first_form [] 0 []) → Run c d f (λ _ _. ⊤)
+    → Spans a d IsMade HasSegment
+segment_then a c d f is_first so_far settled empty run = spans_on a c d IsMade HasSegment so_far
+    (run_spans c d f (λ _ _. ⊤) IsMade HasSegment run (inl is_first)
+    (λ t image here others version. has_none (image entries_file)
+    (settled (image entries_file) (others entries_file (λ same. omega (arith, same, is_first)))
+    ∙ empty)))
 
 -- what stands behind the closed gate of an empty log with nothing behind it
 pub rest_none : (file : Option (List ℕ)) (gate : ℕ) (rest : List ℕ)

@@ -6,7 +6,7 @@ ghost use Rattle.alt_disk.specs.Disk.{IsTrusted, Goes, IsImage, IsNames};
 ghost use Rattle.alt_disk.specs.Runs.{Spans, Quiet};
 ghost use Rattle.alt_engine.specs.Layout.{no_rows};
 ghost use Rattle.alt_engine.specs.Image.{IsLayout, IsFresh, IsMade};
-ghost use Rattle.alt_engine.specs.Making.{NamesFirst};
+ghost use Rattle.alt_engine.specs.Making.{HasSegment, LeavesNoVersions, NamesFirst};
 
 use alt_disk::{Disk, DiskFault};
 use alt_gatelog::GateLog;
@@ -60,6 +60,9 @@ pub fn make_store<D: Disk>(alloc: Global, disk: &mut D) -> Result<(), MakeFault>
         → (D.state disk.old).file f ≢ None → Quiet (D.state disk.old) (D.state disk.new) }
     ensures others { IsTrusted (D.state disk.old)
         → Spans (D.state disk.old) (D.state disk.new) IsMade (λ _ _. ⊤) }
+    // A stop at any moment leaves no version without the segment that it names, unless one was left before.
+    ensures segment { IsTrusted (D.state disk.old) → LeavesNoVersions (D.state disk.old)
+        → Spans (D.state disk.old) (D.state disk.new) IsMade HasSegment }
     ensures goes { Goes (D.state disk.old) (D.state disk.new) }
     ensures cause { IsErrOf result MakeFault.Failed
         → Rose (D.state disk.old).faults (D.state disk.new).faults }

@@ -8,7 +8,7 @@ ghost use Rattle.alt_gatelog.specs.InHand.{count_of, Reads as LogReads};
 ghost use Rattle.alt_engine.specs.Layout.{Layout};
 ghost use Rattle.alt_engine.specs.Image.{IsLayout, HasVersion, first_version, versions_file};
 ghost use Rattle.alt_engine.specs.InHand.{Reads, Stands};
-ghost use Rattle.alt_engine.specs.Recovery.{ExplainsStore, HasNoLayout, Narrows, Replayed, ReplaysOne, EndsWithVersion, ExplainsVersion, ExplainsEntry, ExplainsEntries, log_fault};
+ghost use Rattle.alt_engine.specs.Recovery.{ExplainsStore, HasNoLayout, Narrows, AllSynced, Replayed, ReplaysOne, EndsWithVersion, ExplainsVersion, ExplainsEntry, ExplainsEntries, log_fault};
 
 use crate::engine::Engine;
 use crate::make::{ENTRIES, FIRST_VERSION, VERSIONS};
@@ -61,6 +61,9 @@ impl Engine {
         // Whatever a stop leaves from then on holds these rows.
         ensures stands { IfOk result (λ e. IsTrusted (D.state disk.old) → (l : Layout)
             → Reads (D.state disk.new) e l → Stands (D.state disk.new) e l) }
+        // And every file that is there lasts.
+        ensures synced { OnOk result (IsTrusted (D.state disk.old)
+            → AllSynced (D.state disk.new)) }
         ensures files { IsTrue (D.state disk.old).tells → (f : ℕ)
             → (D.state disk.new).file f ≡ (D.state disk.old).file f }
 

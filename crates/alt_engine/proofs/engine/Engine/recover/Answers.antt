@@ -6,7 +6,7 @@ use Rattle.alt_gatelog.proofs.OneList.{if_err}
 use Rattle.alt_engine.specs.Layout.{Layout}
 use Rattle.alt_engine.specs.Image.{IsLayout}
 use Rattle.alt_engine.specs.InHand.{Reads, Stands}
-use Rattle.alt_engine.specs.Recovery.{ExplainsStore, HasNoLayout}
+use Rattle.alt_engine.specs.Recovery.{AllSynced, ExplainsStore, HasNoLayout}
 use Rattle.alt_engine.specs.declared.engine.Engine.{Engine}
 use Rattle.alt_engine.proofs.ImageLaws.{files_hold}
 use Rattle.alt_engine.proofs.RecoverLaws.{if_ok, if_always, engine_stands, no_layout}
@@ -59,3 +59,14 @@ returns-in-Ok-clause-no_layout g c told =
     let a : DiskState = g.D.Disk.state c.args.disk.now in
     if_err c.read_store.result (ExplainsStore a.file) (HasNoLayout a.file) (no_layout a.file)
     (returns-in-Ok-clause-damaged g c told)
+
+pub returns-in-Ok-clause-synced : goal.returns-in-Ok-clause-synced
+returns-in-Ok-clause-synced g c =
+    let a : DiskState = g.D.Disk.state c.args.disk.now in
+    let b : DiskState = g.D.Disk.state c.sync_all.new.disk in
+    let n : DiskState = g.D.Disk.state c.read_store.new.disk in
+    if_always c.read_store.result (λ (e : Engine). IsTrusted a → AllSynced n)
+    (λ e trusted.
+    let trusted_b : IsTrusted b = trusted_on a b c.sync_all.ensures.goes trusted in
+    synced_quiet b n (c.in-Ok.ensures.synced trusted)
+    (c.read_store.ensures.quiet (tells_of b trusted_b)))

@@ -1,7 +1,7 @@
+pub mod BesideItem
 pub mod Changed
 pub mod Evaluated
 pub mod Getting
-pub mod Placing
-pub mod Putting
 pub mod Left
+pub mod Putting
 pub mod Updating

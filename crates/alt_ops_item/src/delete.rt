@@ -1,17 +1,18 @@
 //! DeleteItem.
 
-ghost use Rattle.std.specs.Prelude.{◌≡◌};
 ghost use Rattle.serde_json.specs.View.{members_view};
 ghost use Rattle.alt_machine.specs.Ops.DeleteItem.{delete_item};
 ghost use Rattle.alt_request.specs.Carried.{Carries, Moves};
 ghost use Rattle.alt_tables.specs.Stands.{AreReady, Stands};
 
-use crate::conditional::write_if;
+use crate::items::old_reply;
 use alt_disk::Disk;
-use alt_machine::Sought;
-use alt_request::{Rules, Stop, Target, Texts, item_target};
-use alt_shape::{Reply, bodies};
+use alt_machine::{Expressions, Sought};
+use alt_request::{ItemWrite, Rules, Stop, Texts, write_item};
+use alt_schema::TableSchema;
+use alt_shape::{Broken, Reply, bodies};
 use alt_tables::Tables;
+use alt_value::Item;
 use serde_json::{Map, Value};
 use std::alloc::Global;
 
@@ -20,6 +21,57 @@ static RULES: Rules = Rules {
     unbuilt: &[],
     named: &["TableName"],
 };
+
+/// Nothing in the place of the item that is there.
+struct Delete;
+
+impl ItemWrite for Delete {
+    ghost use Rattle.alt_ops_item.specs.Writes.{deleting};
+
+    ghost says = { deleting };
+
+    fn broken(&self, body: &Map<String, Value>) -> Option<Broken> {
+        bodies::delete_item(body)
+    }
+
+    fn rules(&self) -> &'static Rules {
+        &RULES
+    }
+
+    fn sought(&self) -> Sought {
+        Sought::Key
+    }
+
+    fn texts(&self) -> Texts {
+        Texts::CONDITIONAL
+    }
+
+    fn refusal(&self, _schema: &TableSchema, _key: &Item) -> Result<(), Stop> {
+        Ok(())
+    }
+
+    fn left(
+        &self,
+        _alloc: Global,
+        _schema: &TableSchema,
+        _said: &Expressions,
+        _key: Item,
+        _old: &Option<Item>,
+    ) -> Result<Option<Item>, Stop> {
+        Ok(None)
+    }
+
+    fn reply(
+        &self,
+        alloc: Global,
+        body: &Map<String, Value>,
+        _said: &Expressions,
+        old: &Option<Item>,
+        _new: &Option<Item>,
+    ) -> Result<Reply, Stop> {
+        old_reply(alloc, body, old)
+    }
+}
 
 /// Takes out the item of a key, where the condition holds of it (API Reference, "DeleteItem"). Where none is there, nothing is
 /// written. The refusals are those of docs/API.md.
@@ -36,21 +88,5 @@ pub fn delete_item<D: Disk>(
     ensures moves { Moves (λ s. delete_item s moment (members_view body.now.entries))
         (Stands (D.state disk.old) tables.old) (D.state disk.old) (D.state disk.new) result }
 {
-    let broken = bodies::delete_item(body);
-    let target = item_target(
-        alloc,
-        tables,
-        body,
-        broken,
-        &RULES,
-        Sought::Key,
-        &Texts::CONDITIONAL,
-    )?;
-    let Target {
-        item: _key,
-        place,
-        said,
-        ..
-    } = target;
-    write_if(alloc, tables, disk, body, said, place, None, moment)
+    write_item(alloc, &Delete, tables, disk, body, None, moment)
 }

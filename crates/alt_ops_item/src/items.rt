@@ -1,8 +1,10 @@
 //! Items as they are answered.
 
-ghost use Rattle.std.specs.Prelude.{◌≡◌, false, Some, IfOk, IfErr, option_map};
+ghost use Rattle.std.specs.Prelude.{◌≡◌, false, Some, IfOk, IfErr, codes, option_map};
+ghost use Rattle.serde_json.specs.View.{members_view};
 ghost use Rattle.serde_json.specs.Written.{has_float};
 ghost use Rattle.alt_expr.specs.Projected.{projected};
+ghost use Rattle.alt_machine.specs.Conditional.{asked};
 ghost use Rattle.alt_machine.specs.Ops.GetItem.{parts};
 ghost use Rattle.alt_machine.specs.Replies.{item_answer};
 ghost use Rattle.alt_request.specs.Steps.{IsMemory};
@@ -11,10 +13,11 @@ ghost use Rattle.alt_shape.specs.Refusals.{answer_of};
 
 use alt_expr::Paths;
 use alt_projection::project;
-use alt_request::{Stop, done, item_member};
+use alt_request::{Stop, asked, done, item_member};
 use alt_shape::Reply;
 use alt_tables::TableFault;
 use alt_value::Item;
+use serde_json::{Map, Value};
 use std::alloc::Global;
 
 /// The reply with an item at a member, if there is one.
@@ -92,12 +95,16 @@ pub(crate) fn chosen_reply(
     item_reply(alloc, name, Some(chosen))
 }
 
-/// An item, if there is one, borrowed.
-pub(crate) fn shown(item: &Option<Item>) -> Option<&Item>
-    ensures { option_map (λ i. i.now) result ≡ item.now }
+/// The reply with the item that was there, where a body asks for it.
+pub(crate) fn old_reply(
+    alloc: Global,
+    body: &Map<String, Value>,
+    old: &Option<Item>,
+) -> Result<Reply, Stop>
+    ensures reply { IfOk result (λ reply. answer_of reply ≡ item_answer (codes "Attributes")
+        (asked (codes "ReturnValues") (members_view body.now.entries) old.now)) }
+    ensures plain { IfOk result (λ reply. has_float (body_json reply.body) ≡ false) }
+    ensures cause { IfErr result IsMemory }
 {
-    match item {
-        Some(item) => Some(item),
-        None => None,
-    }
+    shown_reply(alloc, "Attributes", asked(body, "ReturnValues", old))
 }

@@ -1,15 +1,12 @@
 //! What an update leaves at the place of its key.
 
 ghost use Rattle.std.specs.Prelude.{◌≡◌, ◌<◌, true, [], length, Some, None, IfOk, IfErr, OnOk, nat_le, slice_get, unwrap_or};
-ghost use Rattle.std.specs.FinMap as map;
 ghost use Rattle.std.specs.List.{list_all};
 ghost use Rattle.alt_expr.specs.UpdateLanguage.{begin_with_names};
 ghost use Rattle.alt_machine.specs.Ops.UpdateItem as machine;
 ghost use Rattle.alt_machine.specs.Valid.{deepest};
 ghost use Rattle.alt_ops_item.specs.Updates.{left_after, WithPart, is_flat};
 ghost use Rattle.alt_request.specs.Steps.{Comes, IsMemory, Tested};
-ghost use Rattle.alt_schema.specs.declared.schema.TableSchema.{TableSchema};
-ghost use Rattle.alt_tables.specs.Stands.{catalog_of};
 ghost use Rattle.alt_value.specs.Size.{fields_depth};
 ghost use Rattle.alt_value.specs.Tree.{fields_of};
 
@@ -19,7 +16,7 @@ use alt_machine::Expressions;
 use alt_request::{Stop, item_refusal};
 use alt_schema::TableSchema;
 use alt_shape::Refusal;
-use alt_tables::{TableFault, Tables};
+use alt_tables::TableFault;
 use alt_value::{Item, copy, depth_within};
 use std::alloc::Global;
 
@@ -27,26 +24,7 @@ use std::alloc::Global;
 const DEEPEST: u32 = 32;
 
 /// What an update leaves in a table, where nothing refuses it: the item, which has its key where it is new, or none.
-pub(crate) fn left_at(
-    alloc: Global,
-    tables: &Tables,
-    name: &str,
-    said: &Expressions,
-    key: Item,
-    old: &Option<Item>,
-) -> Result<Option<Item>, Stop>
-    requires there { map.contains_key (catalog_of tables.now) name.now ≡ true }
-    requires begins { begin_with_names (unwrap_or said.now.update []) ≡ true }
-    ensures left { (d : TableSchema) → map.get (catalog_of tables.now) name.now ≡ Some d
-        → Comes (λ o. o) (left_after d said.now key old.now) result }
-{
-    let Some(schema) = tables.table(name) else {
-        unreachable!();
-    };
-    left_in(alloc, schema, said, key, old)
-}
-
-fn left_in(
+pub(crate) fn left_in(
     alloc: Global,
     schema: &TableSchema,
     said: &Expressions,

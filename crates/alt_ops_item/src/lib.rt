@@ -2,7 +2,6 @@
 #![tactic(auto)]
 
 mod changing;
-mod conditional;
 mod delete;
 mod get;
 mod items;

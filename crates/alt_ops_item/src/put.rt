@@ -1,17 +1,18 @@
 //! PutItem.
 
-ghost use Rattle.std.specs.Prelude.{◌≡◌};
 ghost use Rattle.serde_json.specs.Data.{Members};
 ghost use Rattle.serde_json.specs.View.{members_view};
 ghost use Rattle.alt_machine.specs.Ops.PutItem.{put_item};
+ghost use Rattle.alt_readahead.specs.Direct.{IsReadAhead};
 ghost use Rattle.alt_request.specs.Carried.{Carries, Moves};
-ghost use Rattle.alt_readahead.specs.Direct.{IsGiven, IsReadAhead};
 ghost use Rattle.alt_tables.specs.Stands.{AreReady, Stands};
 
-use crate::conditional::write_if;
+use crate::items::old_reply;
 use alt_disk::Disk;
-use alt_request::{Rules, Stop, Target, item_refusal, put_target};
-use alt_shape::{Reply, bodies};
+use alt_machine::{Expressions, Sought};
+use alt_request::{ItemWrite, Rules, Stop, Texts, item_refusal, write_item};
+use alt_schema::TableSchema;
+use alt_shape::{Broken, Reply, bodies};
 use alt_tables::Tables;
 use alt_value::Item;
 use serde_json::{Map, Value};
@@ -22,6 +23,57 @@ static RULES: Rules = Rules {
     unbuilt: &[],
     named: &["TableName"],
 };
+
+/// The item of the request in the place of the one that is there.
+struct Put;
+
+impl ItemWrite for Put {
+    ghost use Rattle.alt_ops_item.specs.Writes.{putting};
+
+    ghost says = { putting };
+
+    fn broken(&self, body: &Map<String, Value>) -> Option<Broken> {
+        bodies::put_item(body)
+    }
+
+    fn rules(&self) -> &'static Rules {
+        &RULES
+    }
+
+    fn sought(&self) -> Sought {
+        Sought::Item
+    }
+
+    fn texts(&self) -> Texts {
+        Texts::CONDITIONAL
+    }
+
+    fn refusal(&self, schema: &TableSchema, item: &Item) -> Result<(), Stop> {
+        item_refusal(schema, item)
+    }
+
+    fn left(
+        &self,
+        _alloc: Global,
+        _schema: &TableSchema,
+        _said: &Expressions,
+        item: Item,
+        _old: &Option<Item>,
+    ) -> Result<Option<Item>, Stop> {
+        Ok(Some(item))
+    }
+
+    fn reply(
+        &self,
+        alloc: Global,
+        body: &Map<String, Value>,
+        _said: &Expressions,
+        old: &Option<Item>,
+        _new: &Option<Item>,
+    ) -> Result<Reply, Stop> {
+        old_reply(alloc, body, old)
+    }
+}
 
 /// Puts an item in the place of the one with its key, where the condition holds of that (API Reference, "PutItem"). A put of the item
 /// that is there is no write.
@@ -39,7 +91,7 @@ pub fn put_item<D: Disk>(
     ensures moves { Moves (λ s. put_item s moment (members_view body.now.entries))
         (Stands (D.state disk.old) tables.old) (D.state disk.old) (D.state disk.new) result }
 {
-    put_given(alloc, tables, disk, body, None, moment)
+    write_item(alloc, &Put, tables, disk, body, None, moment)
 }
 
 /// The same, of a request whose item was read ahead: the body has an empty object in its place.
@@ -60,40 +112,5 @@ pub fn put_item_ahead<D: Disk>(
         → Moves (λ s. put_item s moment ms)
         (Stands (D.state disk.old) tables.old) (D.state disk.old) (D.state disk.new) result }
 {
-    put_given(alloc, tables, disk, body, Some(item), moment)
-}
-
-fn put_given<D: Disk>(
-    alloc: Global,
-    tables: &mut Tables,
-    disk: &mut D,
-    body: &Map<String, Value>,
-    ahead: Option<Item>,
-    moment: u64,
-) -> Result<Reply, Stop>
-    requires ready { AreReady (D.state disk.old) tables.old }
-    requires given { (ms : Members) × IsGiven ms (members_view body.now.entries) ahead }
-    ensures carried { (ms : Members) → IsGiven ms (members_view body.now.entries) ahead
-        → Carries (λ s. put_item s moment ms)
-        (Stands (D.state disk.old) tables.old) (Stands (D.state disk.new) tables.new) result }
-    ensures moves { (ms : Members) → IsGiven ms (members_view body.now.entries) ahead
-        → Moves (λ s. put_item s moment ms)
-        (Stands (D.state disk.old) tables.old) (D.state disk.old) (D.state disk.new) result }
-{
-    let broken = bodies::put_item(body);
-    let target = put_target(alloc, tables, body, broken, &RULES, ahead)?;
-    match item_refusal(target.schema, &target.item) {
-        Ok(()) => {}
-        Err(stop) => {
-            drop(target);
-            return Err(stop);
-        }
-    }
-    let Target {
-        item,
-        place,
-        said,
-        ..
-    } = target;
-    write_if(alloc, tables, disk, body, said, place, Some(item), moment)
+    write_item(alloc, &Put, tables, disk, body, Some(item), moment)
 }

@@ -1,5 +1,5 @@
 -- What is read straight from the tokens of a text, without a tree, and a body in which an item was read so.
-use Rattle.std.specs.Prelude.{◌≡◌, ◌≢◌, ℕ, List, Option, Some, None, Ok, codes}
+use Rattle.std.specs.Prelude.{◌≡◌, ◌≢◌, ℕ, List, Some, Ok, codes}
 use Rattle.std.specs.Str.{IsUtf8}
 use Rattle.json.specs.Token.{Token}
 use Rattle.json.specs.Json.{value}
@@ -30,8 +30,3 @@ pub record IsReadAhead (ms bs : Members) (item : List Pair) : Type 0 where
   pub read : (os : Members) × (given (codes "Item") ms ≡ Some (object os))
       × (item_in 32 (object os) ≡ Ok item)
   pub stub : given (codes "Item") bs ≡ Some (object no_members)
-
--- A body says `ms`: all of it was kept, or its item was read ahead.
-abbrev pub IsGiven : Members → Members → Option (List Pair) → Type 0
-IsGiven ms bs None = ms ≡ bs
-IsGiven ms bs (Some item) = IsReadAhead ms bs item

@@ -1,5 +1,5 @@
+pub mod Asking
 pub mod Carrying
-pub mod GivenAhead
 pub mod Listing
 pub mod Named
 pub mod Reaching
@@ -7,4 +7,5 @@ pub mod Said
 pub mod Walks
 pub mod Moving
 pub mod Stated
-pub mod BesideItem
+pub mod Decisions
+pub mod Working

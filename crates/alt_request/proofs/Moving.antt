@@ -14,7 +14,7 @@ use Rattle.alt_machine.specs.Members.{table_name}
 use Rattle.alt_machine.specs.Outcomes.{Outcome}
 use Rattle.alt_machine.specs.State.{State, Table, Texts, new_table}
 use Rattle.alt_machine.specs.Targets.{on_item}
-use Rattle.alt_request.specs.Carried.{IfRefused, IfFailed, WhereFailed, Moves, Says}
+use Rattle.alt_request.specs.Carried.{IfRefused, IfFailed, WhereFailed, Moves}
 use Rattle.alt_request.specs.Steps.{IsMemory, Tested}
 use Rattle.alt_request.specs.Targets.{OnTable, OnItem, IsAt}
 use Rattle.alt_request.proofs.Carrying.{item_reached}
@@ -81,12 +81,6 @@ module _ (P : Type 0) where
   pub reply_unfailed : (r : Result Reply Stop) → IfErr r IsMemory → IfFailed r P
   reply_unfailed (Ok reply) h = tt
   reply_unfailed (Err stop) h = memory_unfailed stop h
-
-  -- nor does an answer
-  pub says_unfailed : (a : Answer) (r : Result Reply Stop) → Says a r → IfFailed r P
-  says_unfailed a (Ok reply) h = tt
-  says_unfailed a (Err (Refused r)) h = tt
-  says_unfailed a (Err (Fault f)) h = subst (λ g. WhereFailed g P) (sym h) tt
 
 -- what holds of a failure may be weakened
 failed_in : (f : TableFault) (P Q : Type 0) → (P → Q) → WhereFailed f P → WhereFailed f Q

@@ -6,7 +6,6 @@ use Rattle.serde_json.specs.Data.{Members}
 use Rattle.alt_expr.specs.Given.{Given}
 use Rattle.alt_machine.specs.declared.Expressions.{Expressions}
 use Rattle.alt_machine.specs.declared.Sought.{Sought}
-use Rattle.alt_machine.specs.declared.Sought.TheVariants.{Item}
 use Rattle.alt_machine.specs.Expressions as machine
 use Rattle.alt_machine.specs.Lists.{on_list, IsListed}
 use Rattle.alt_machine.specs.Members.{table_name, item_at}
@@ -14,7 +13,6 @@ use Rattle.alt_machine.specs.Outcomes.{Outcome, refuses}
 use Rattle.alt_machine.specs.Refusals.{first_answer, or_refused, unless_answer, ◌>>=◌}
 use Rattle.alt_machine.specs.State.{State, Table, Texts, descriptions}
 use Rattle.alt_machine.specs.Targets.{on_table, on_item, member_of, of_length, place_in, IsPlaced}
-use Rattle.alt_readahead.specs.Direct.{IsGiven, IsReadAhead}
 use Rattle.alt_request.specs.declared.lists.ListTarget.{ListTarget}
 use Rattle.alt_request.specs.declared.stop.Stop.{Stop}
 use Rattle.alt_request.specs.declared.stop.Stop.TheVariants.{Refused, Fault}
@@ -69,17 +67,22 @@ OnItemRead sought texts catalog bs item result = (tests : List (Option Answer)) 
     → SaySame texts ms bs → first_answer tests ≡ None → item_at (member_of sought) ms ≡ Ok item
     → OnItem tests sought texts catalog ms result
 
--- It is so of each body from which the item was read ahead, where the tests are those of what is left of it, `bs`.
-abbrev pub OnItemAhead : (Members → List (Option Answer)) → Texts TableSchema → Members
-    → List Pair → Result Target Stop → Type 0
-OnItemAhead tests catalog bs item result = (ms : Members) → IsReadAhead ms bs item
-    → tests ms ≡ tests bs → OnItem (tests ms) Item machine.conditional catalog ms result
+-- the item or the key of a body, where it wasn't read already
+abbrev pub given_item : Sought → Members → Option (List Pair) → Result (List Pair) Answer
+given_item sought bs None = item_at (member_of sought) bs
+given_item sought bs (Some item) = Ok item
 
--- It is so of each body that is given, in whole or with its item read ahead.
-abbrev pub OnItemGiven : (Members → List (Option Answer)) → Texts TableSchema → Members
+-- A request says `ms`. What is at hand of it says the same: a body, and the item or the key, where that was read already.
+pub record IsAtHand (sought : Sought) (texts : machine.Texts) (ms bs : Members)
+    (ahead : Option (List Pair)) : Type 0 where
+  pub beside : SaySame texts ms bs
+  pub item : item_at (member_of sought) ms ≡ given_item sought bs ahead
+
+-- That is so, behind these tests, of each request of which this is at hand.
+abbrev pub OnItemGiven : List (Option Answer) → Sought → machine.Texts → Texts TableSchema → Members
     → Option (List Pair) → Result Target Stop → Type 0
-OnItemGiven tests catalog bs ahead result = (ms : Members) → IsGiven ms bs ahead
-    → tests ms ≡ tests bs → OnItem (tests ms) Item machine.conditional catalog ms result
+OnItemGiven tests sought texts catalog bs ahead result = (ms : Members)
+    → IsAtHand sought texts ms bs ahead → OnItem tests sought texts catalog ms result
 
 -- the table is the one that is named, and those are its index, the start key and what the expressions say to it
 pub record IsListedAt (tests : List (Option Answer)) (texts : machine.Texts)

@@ -4,7 +4,7 @@ ghost use Rattle.std.specs.Prelude.{◌≡◌};
 ghost use Rattle.serde_json.specs.View.{members_view};
 ghost use Rattle.alt_machine.specs.Body.{body_refusals};
 ghost use Rattle.alt_request.specs.Steps.{Comes, rules_of};
-ghost use Rattle.alt_request.specs.Targets.{OnTable, OnItem, OnItemRead, OnItemAhead, OnItemGiven, place_that_fits};
+ghost use Rattle.alt_request.specs.Targets.{OnTable, OnItem, OnItemRead, OnItemGiven, given_item, place_that_fits};
 ghost use Rattle.alt_request.specs.Words.{texts_of};
 ghost use Rattle.alt_tables.specs.Stands.{catalog_of};
 
@@ -60,51 +60,47 @@ pub fn item_target<'t>(
         (members_view body.now.entries)) sought (texts_of texts.now)
         (catalog_of tables.now) (members_view body.now.entries) result }
 {
-    body_refusal(broken, rules, body)?;
-    let item = item_at(alloc, body, sought)?;
-    target_of_item(alloc, tables, body, sought, texts, item)
+    given_target(alloc, tables, body, broken, rules, sought, texts, None)
 }
 
-/// As `item_target` of a put, whose item may have been read ahead.
-pub fn put_target<'t>(
+/// The same of each body that says what is at hand: this body, and its item or key, where that was read already.
+pub(crate) fn given_target<'t>(
     alloc: Global,
     tables: &'t Tables,
     body: &Map<String, Value>,
     broken: Option<Broken>,
     rules: &Rules,
+    sought: Sought,
+    texts: &Texts,
     ahead: Option<Item>,
 ) -> Result<Target<'t>, Stop>
-    ensures target { OnItemGiven (body_refusals broken (rules_of rules.now)) (catalog_of tables.now)
-        (members_view body.now.entries) ahead result }
+    ensures target { OnItemGiven (body_refusals broken (rules_of rules.now)
+        (members_view body.now.entries)) sought (texts_of texts.now)
+        (catalog_of tables.now) (members_view body.now.entries) ahead result }
 {
-    match ahead {
-        Some(item) => read_target(alloc, tables, body, broken, rules, item),
-        None => item_target(
-            alloc,
-            tables,
-            body,
-            broken,
-            rules,
-            Sought::Item,
-            &Texts::CONDITIONAL,
-        ),
+    match body_refusal(broken, rules, body) {
+        Ok(()) => {}
+        Err(stop) => return Err(stop),
+    }
+    match given_item(alloc, body, sought, ahead) {
+        Ok(item) => target_of_item(alloc, tables, body, sought, texts, item),
+        Err(stop) => Err(stop),
     }
 }
 
-/// As `item_target` of a write that may be conditional, whose item was read ahead: the body has an empty object in its place.
-fn read_target<'t>(
+/// The item or the key of a body, where it wasn't read already.
+fn given_item(
     alloc: Global,
-    tables: &'t Tables,
     body: &Map<String, Value>,
-    broken: Option<Broken>,
-    rules: &Rules,
-    item: Item,
-) -> Result<Target<'t>, Stop>
-    ensures target { OnItemAhead (body_refusals broken (rules_of rules.now)) (catalog_of tables.now)
-        (members_view body.now.entries) item result }
+    sought: Sought,
+    ahead: Option<Item>,
+) -> Result<Item, Stop>
+    ensures read { Comes (λ i. i) (given_item sought (members_view body.now.entries) ahead) result }
 {
-    body_refusal(broken, rules, body)?;
-    target_of_item(alloc, tables, body, Sought::Item, &Texts::CONDITIONAL, item)
+    match ahead {
+        Some(item) => Ok(item),
+        None => item_at(alloc, body, sought),
+    }
 }
 
 /// What is behind an item or a key that was read.

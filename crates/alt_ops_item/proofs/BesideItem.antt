@@ -1,26 +1,23 @@
 -- A body from which the item was read ahead says what it said before, beside the item.
 use Rattle.std.proofs.Common.{◌≡◌, refl, ap, ◌∙◌, ℕ, ◌<◌, List, length, Ok, arith}
-use Rattle.std.specs.Prelude.{codes, Option}
-use Rattle.std.specs.FinMap as map
+use Rattle.std.specs.Prelude.{codes, Option, Some}
 use Rattle.serde_json.specs.Data.{Members}
 use Rattle.alt_expr.specs.Given.{Given}
 use Rattle.alt_machine.specs.declared.Expressions.{Expressions}
-use Rattle.alt_expr.specs.declared.cond.Cond.{Cond}
 use Rattle.alt_machine.specs.Body.{body_refusals}
-use Rattle.alt_machine.specs.Conditional.{writes_if}
 use Rattle.alt_machine.specs.Expressions.{conditional, given_at, expressions}
-use Rattle.alt_machine.specs.Members.{table_name, table_at, unless_fault, item_of, item_at}
-use Rattle.alt_machine.specs.Ops.PutItem.{rules, of_body, puts}
-use Rattle.alt_machine.specs.Refusals.{or_refused}
+use Rattle.alt_machine.specs.Members.{table_name, unless_fault, item_of, item_at}
+use Rattle.alt_machine.specs.Ops.PutItem.{rules, of_body}
 use Rattle.alt_machine.specs.State.{State, Table}
 use Rattle.alt_schema.specs.declared.schema.TableSchema.{TableSchema}
 use Rattle.alt_shape.specs.Bodies.{put_item}
-use Rattle.alt_shape.specs.Refusals.{not_found}
 use Rattle.alt_shape.specs.Shape.{given}
 use Rattle.alt_shape.specs.declared.rule.Broken.{Broken}
 use Rattle.alt_value.specs.Tree.{Pair}
 use Rattle.alt_readahead.specs.Direct.{IsReadAhead}
+use Rattle.alt_request.specs.ItemWrites.{IsAsked, changes}
 use Rattle.alt_request.specs.Targets.{SaySame}
+use Rattle.alt_ops_item.specs.Writes.{putting}
 
 module _ (ms bs : Members) (item : List Pair) (h : IsReadAhead ms bs item) where
   -- a member whose name is longer than that of the item
@@ -28,7 +25,7 @@ module _ (ms bs : Members) (item : List Pair) (h : IsReadAhead ms bs item) where
   same name long = h.others name (λ e. omega (arith, long, ap length e))
 
   -- the shape of the body has the same fault, since an object stands at the item in both
-  pub shape_same : put_item ms ≡ put_item bs
+  shape_same : put_item ms ≡ put_item bs
   unfolding put_item
   shape_same =
       rw (
@@ -43,7 +40,7 @@ module _ (ms bs : Members) (item : List Pair) (h : IsReadAhead ms bs item) where
       ) refl
 
   -- and the same tests refuse it
-  pub body_same : (broken : Option Broken) → body_refusals broken rules ms
+  body_same : (broken : Option Broken) → body_refusals broken rules ms
       ≡ body_refusals broken rules bs
   body_same broken =
       rw (
@@ -53,11 +50,11 @@ module _ (ms bs : Members) (item : List Pair) (h : IsReadAhead ms bs item) where
       ) refl
 
   -- those of the body's shape too
-  pub tests_same : of_body ms ≡ of_body bs
+  tests_same : of_body ms ≡ of_body bs
   tests_same = ap (λ broken. body_refusals broken rules ms) shape_same ∙ body_same (put_item bs)
 
   -- the names and the values are the same
-  pub given_same : given_at conditional ms ≡ given_at conditional bs
+  given_same : given_at conditional ms ≡ given_at conditional bs
   unfolding given_at
   given_same =
       rw (
@@ -66,15 +63,11 @@ module _ (ms bs : Members) (item : List Pair) (h : IsReadAhead ms bs item) where
       ) refl
 
   -- and the name of the table
-  pub name_same : table_name ms ≡ table_name bs
+  name_same : table_name ms ≡ table_name bs
   name_same = rw (same (codes "TableName") (omega arith)) refl
 
-  -- and so the table
-  pub table_same : (s : State) → table_at s ms ≡ table_at s bs
-  table_same s = ap (λ name. or_refused not_found (map.get s.tables name)) name_same
-
   -- and what the expressions say
-  pub said_same : (d : TableSchema) (g : Given)
+  said_same : (d : TableSchema) (g : Given)
       → expressions conditional d ms g ≡ expressions conditional d bs g
   unfolding expressions
   said_same d g =
@@ -84,24 +77,14 @@ module _ (ms bs : Members) (item : List Pair) (h : IsReadAhead ms bs item) where
       ) refl
 
   -- so they say the same beside the item
-  pub say_same : SaySame conditional ms bs
+  say_same : SaySame conditional ms bs
   say_same = record { words = given_same; table = name_same; says = said_same }
 
-  -- the same is written where a condition holds
-  pub writes_same : (condition : Option Cond) (s : State) (moment : ℕ) (t : Table) (place : List ℕ)
-      (new : Option (List Pair))
-      → writes_if condition s moment ms t place new ≡ writes_if condition s moment bs t place new
-  writes_same condition s moment t place new =
-      rw (
-        same (codes "TableName") (omega arith),
-        same (codes "ReturnValues") (omega arith),
-        same (codes "ReturnValuesOnConditionCheckFailure") (omega arith),
-      ) refl
-
-  -- and any item is put alike
-  pub puts_same : (s : State) (moment : ℕ) (said : Expressions) (i : List Pair) (t : Table)
-      (place : List ℕ) → puts s moment ms said i t place ≡ puts s moment bs said i t place
-  puts_same s moment said i t place =
+  -- and come to the same
+  changes_same : (s : State) (moment : ℕ) (said : Expressions) (i : List Pair) (t : Table)
+      (place : List ℕ)
+      → changes putting s moment ms said i t place ≡ changes putting s moment bs said i t place
+  changes_same s moment said i t place =
       rw (
         same (codes "TableName") (omega arith),
         same (codes "ReturnValues") (omega arith),
@@ -109,5 +92,13 @@ module _ (ms bs : Members) (item : List Pair) (h : IsReadAhead ms bs item) where
       ) refl
 
   -- the item is that which was read ahead
-  pub item_read : item_at (codes "Item") ms ≡ Ok item
+  item_read : item_at (codes "Item") ms ≡ Ok item
   item_read = ap item_of h.read.1 ∙ ap unless_fault h.read.2
+
+  -- so the put that the body asks for is at hand
+  pub asked_ahead : IsAsked putting ms bs (Some item)
+  asked_ahead = record {
+    tests = tests_same;
+    at_hand = record { beside = say_same; item = item_read };
+    changed = changes_same;
+  }

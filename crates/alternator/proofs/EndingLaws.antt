@@ -8,30 +8,30 @@ use Rattle.alt_machine.specs.State.{State}
 use Rattle.alt_shell.specs.Calls.{Aside}
 use Rattle.alt_shell.specs.Log.{Log, Grows, moments_of}
 use Rattle.alt_shell.proofs.Telling.{Grows-then}
-use Rattle.alternator.specs.Connections.{ServedSome, turns_of}
+use Rattle.alt_talks.specs.Connections.{ServedSome, turns_of}
 use Rattle.alternator.specs.Endings.{status_of, HasDone, HasMade, HasRun, HasNumbers, Makes, BreaksOff, WasDamaged, IsReadable, Done, Broken, LacksNumber}
 use Rattle.alternator.specs.Runs.{Answers, AnswersSome, LeftThen, IsOpening, Opened}
-use Rattle.alternator.specs.Stretches.{DoesSome}
-use Rattle.alternator.specs.TalkRules.{rules}
-use Rattle.alternator.specs.TalkStops.{LeftAmong, ServedOn, ServedSomeOn}
-use Rattle.alternator.specs.Talks.{Rules, Turn}
+use Rattle.alt_talks.specs.Stretches.{DoesSome}
+use Rattle.alt_talks.specs.TalkRules.{rules}
+use Rattle.alt_talks.specs.TalkStops.{LeftAmong, ServedOn, ServedSomeOn}
+use Rattle.alt_talks.specs.Talks.{Rules, Turn}
 use Rattle.alternator.specs.Trials.{Tries, TriesSome, LeftOfTrial, as_turn}
 use Rattle.alternator.specs.Words.{IsOverStore}
 use Rattle.alt_tables.specs.Recovery.{WasLeft}
-use Rattle.alternator.specs.declared.serve.RunFault.{RunFault}
-use Rattle.alternator.specs.declared.serve.RunFault.TheVariants as why
+use Rattle.alt_tables.specs.declared.faults.TableFault.{TableFault}
+use Rattle.alt_tables.specs.declared.faults.TableFault.TheVariants as why
 use Rattle.alternator.specs.declared.ending.Ending.{Ending}
 use Rattle.alternator.specs.declared.ending.Ending.TheVariants.{Whole, Words, NotEmpty, Damaged, BadRow, Device, Memory, Spent}
 use Rattle.alternator.specs.declared.words.Job.{Job}
 use Rattle.alternator.specs.declared.words.Job.TheVariants.{Init, Replay, Serve, Trial}
-use Rattle.alternator.proofs.Serving.{stretch_quiet, stretch_as}
+use Rattle.alt_talks.proofs.Stretching.{stretch_quiet, stretch_as}
 use Rattle.alternator.proofs.Initing.{quiet_behind}
-use Rattle.alternator.proofs.Stopping.{leaves-before-aside}
+use Rattle.alt_talks.proofs.Stopping.{leaves-before-aside}
 
 -- ---- what was done, whatever the cause was
 
 -- a run that was broken off is one that was broken off for want of memory
-pub some_answers : (a b : DiskState) (fault : RunFault) (s : State) (es : Log) (ms : List ℕ)
+pub some_answers : (a b : DiskState) (fault : TableFault) (s : State) (es : Log) (ms : List ℕ)
     → AnswersSome fault s a b es ms → AnswersSome why.NoMemory s a b es ms
 some_answers a b fault s es ms x = record {
   breaks = record {
@@ -51,7 +51,7 @@ some_answers a b fault s es ms x = record {
 }
 
 -- so are turns that broke off
-does_some : (r : Rules) (fault : RunFault) (s : State) (m : Bool) (ts : List Turn) (es : Log)
+does_some : (r : Rules) (fault : TableFault) (s : State) (m : Bool) (ts : List Turn) (es : Log)
     (ms : List ℕ) → DoesSome r fault s m ts es ms → DoesSome r why.NoMemory s m ts es ms
 does_some r fault s m ts es ms x =
     record {
@@ -65,7 +65,7 @@ does_some r fault s m ts es ms x =
     }
 
 -- and connections
-some_served : (r : Rules) (per count : ℕ) (fault : RunFault) (s : State) (es : Log) (ms : List ℕ)
+some_served : (r : Rules) (per count : ℕ) (fault : TableFault) (s : State) (es : Log) (ms : List ℕ)
     → ServedSome r per count fault s es ms → ServedSome r per count why.NoMemory s es ms
 some_served r per count fault s es ms x = record {
   all = x.all;
@@ -89,7 +89,7 @@ some_served r per count fault s es ms x = record {
 }
 
 -- and a trial
-some_tries : (a b : DiskState) (fault : RunFault) (s : State) (seed count : ℕ) (es : Log) (ms : List ℕ)
+some_tries : (a b : DiskState) (fault : TableFault) (s : State) (seed count : ℕ) (es : Log) (ms : List ℕ)
     → TriesSome fault s seed count a b es ms → TriesSome why.NoMemory s seed count a b es ms
 some_tries a b fault s seed count es ms x = record {
   said = x.said;
@@ -99,7 +99,7 @@ some_tries a b fault s seed count es ms x = record {
   leaves = x.leaves;
 }
 
-broken_memory : (job : Job) (fault : RunFault) (s : State) (a b : DiskState)
+broken_memory : (job : Job) (fault : TableFault) (s : State) (a b : DiskState)
     → Broken fault job s a b → Broken why.NoMemory job s a b
 unfolding some_served
 broken_memory Init fault s a b x = absurd x
@@ -112,7 +112,7 @@ broken_memory (Trial seed count) fault s a b x = stretch_as a b
     {P = TriesSome fault s seed count} {Q = TriesSome why.NoMemory s seed count}
     (λ es ms within y. some_tries a b fault s seed count es ms y) x
 
-opened_memory : (a b : DiskState) (fault : RunFault) (job : Job) → Opened a b (Broken fault job)
+opened_memory : (a b : DiskState) (fault : TableFault) (job : Job) → Opened a b (Broken fault job)
     → Opened a b (Broken why.NoMemory job)
 opened_memory a b fault job h = record {
   from = h.from;
@@ -127,7 +127,7 @@ honest_of : (s : DiskState) → IsTrusted s → s.honest ≡ false → ⊥
 honest_of s trusted e = grind (arith, trusted, e)
 
 -- on such a disk damage is found in the opening alone
-damaged_early : (fault : RunFault) (a b : DiskState) → WasDamaged fault a b → IsTrusted a
+damaged_early : (fault : TableFault) (a b : DiskState) → WasDamaged fault a b → IsTrusted a
     → IsOpening a b
 damaged_early fault a b h trusted = ⊎_elim
     (λ x. x.0)
@@ -193,7 +193,7 @@ module _ (b c : DiskState) (g : Grows b.beside c.beside [])
     leaves = leaves-before-aside a b c (LeftThen s es ms) aside x.leaves;
   }
 
-  some_behind : (a : DiskState) (fault : RunFault) (s : State) (es : Log) (ms : List ℕ)
+  some_behind : (a : DiskState) (fault : TableFault) (s : State) (es : Log) (ms : List ℕ)
       → AnswersSome fault s a b es ms → AnswersSome fault s a c es ms
   some_behind a fault s es ms x = record {
     breaks = x.breaks;
@@ -211,7 +211,7 @@ module _ (b c : DiskState) (g : Grows b.beside c.beside [])
     leaves = leaves-before-aside a b c (LeftOfTrial s (as_turn s seed count) es) aside x.leaves;
   }
 
-  tries_some_behind : (a : DiskState) (fault : RunFault) (s : State) (seed count : ℕ) (es : Log)
+  tries_some_behind : (a : DiskState) (fault : TableFault) (s : State) (seed count : ℕ) (es : Log)
       (ms : List ℕ) → TriesSome fault s seed count a b es ms → TriesSome fault s seed count a c es ms
   tries_some_behind a fault s seed count es ms x = record {
     said = x.said;
@@ -256,7 +256,7 @@ module _ (b c : DiskState) (g : Grows b.beside c.beside [])
   done_behind (Trial seed count) s o x = stretch_quiet o b c {P = Tries s seed count}
       (tries_behind o s seed count) x aside g m
 
-  broken_behind : (fault : RunFault) (job : Job) (s : State) (o : DiskState)
+  broken_behind : (fault : TableFault) (job : Job) (s : State) (o : DiskState)
       → Broken fault job s o b → Broken fault job s o c
   broken_behind fault Init s o x = absurd x
   broken_behind fault Replay s o x =
@@ -281,14 +281,14 @@ module _ (b c : DiskState) (g : Grows b.beside c.beside [])
     behind = law h.from h.opened h.behind;
   }
 
-  breaks_behind : (a : DiskState) (fault : RunFault) (job : Job) → BreaksOff fault job a b
+  breaks_behind : (a : DiskState) (fault : TableFault) (job : Job) → BreaksOff fault job a b
       → BreaksOff fault job a c
   breaks_behind a fault job h trusted = ⊎_elim
       (λ x. inl (opening_behind a x))
       (λ x. inr (opened_behind a (Broken fault job) (broken_behind fault job) x))
       (h trusted)
 
-  damaged_behind : (a : DiskState) (fault : RunFault) → WasDamaged fault a b → WasDamaged fault a c
+  damaged_behind : (a : DiskState) (fault : TableFault) → WasDamaged fault a b → WasDamaged fault a c
   damaged_behind a fault h tells = ⊎_elim
       (λ x. inl (opening_behind a x.0, x.1))
       (λ x. inr x)

@@ -13,8 +13,8 @@ use Rattle.alt_shell.specs.Calls.{Adds, Aside, ShellCall}
 use Rattle.alt_shell.specs.Log.{Log, Grows, moments_of, entry, told_count, said}
 use Rattle.alt_shell.proofs.Telling.{Grows-then, Grows-nil, Tells-nil}
 use Rattle.alternator.specs.Endings.{Makes, IsFirstFile, Unasked}
-use Rattle.alternator.specs.Runs.{Stretch}
-use Rattle.alternator.proofs.Stopping.{trusts-kept, within-wider}
+use Rattle.alt_talks.specs.Runs.{Stretch}
+use Rattle.alt_talks.proofs.Stopping.{trusts-kept, within-wider}
 use Rattle.alt_tables.proofs.Left.{stands_made}
 
 pub makes : (a b c : DiskState) → Goes a b → ShellCall b c true → Adds b c (said (codes "ok\n"))

@@ -12,18 +12,21 @@ use Rattle.alt_shell.proofs.Keeping.{keeps-none}
 use Rattle.alt_shell.specs.Log.{Log, Grows, Tells, moments_of, until, entry, told_count, event_of, took, take_failed, takes_failed, takes_missed, is_end, taken, said_in, ended}
 use Rattle.alt_tables.specs.Stands.{Stands}
 use Rattle.alt_tables.specs.declared.tables.Tables.{Tables}
-use Rattle.alternator.specs.Moments.{answered}
-use Rattle.alternator.specs.Runs.{OfStretch, Stretch, Leads, Rests, Serves, Breaks, ServesAtHand, BreaksAtHand, HandsOut, Goes, Ends, GoesOrEnds, GoesSome, LeftBy, Answers, AnswersSome, asked_now, asked_later}
-use Rattle.alternator.specs.Stops.{Image, IsLeft, AtEach, LeftAtHand, AreWithin}
+use Rattle.alt_talks.specs.Turns.{answered, Turn, text_of, after}
+use Rattle.alt_talks.specs.Runs.{OfStretch, Stretch, Leads}
+use Rattle.alternator.specs.Runs.{Rests, Serves, Breaks, ServesAtHand, BreaksAtHand, HandsOut, Goes, Ends, GoesOrEnds, GoesSome, LeftBy, Answers, AnswersSome, asked_now, asked_later, LeftAtHand}
+use Rattle.alt_talks.specs.Stops.{Image, IsLeft, AtEach, AreWithin}
 use Rattle.alt_tables.specs.Images.{StandsFor}
 use Rattle.alt_tables.proofs.Left.{stands_left}
-use Rattle.alternator.proofs.Stopping.{Meet, IsPrefix-longer, until-append, until-before, until-behind, said-by, none-shorter, taken-until, ended-until, within-wider, turns-more, left-more, left-behind, left-nothing-said, spans_two, keeps-spans, trusts-kept}
-use Rattle.alternator.specs.declared.serve.RunFault.{RunFault}
-use Rattle.alternator.specs.declared.serve.RunFault.TheVariants.{Failed, NoMemory}
-use Rattle.alternator.specs.Turns.{Asked, Turn, turns, text_of, after, asks, asked_of, longest_line}
+use Rattle.alt_talks.proofs.Stopping.{Meet, IsPrefix-longer, until-append, until-before, until-behind, said-by, none-shorter, taken-until, ended-until, within-wider, left-more, left-behind, spans_two, keeps-spans, trusts-kept}
+use Rattle.alternator.proofs.TurnLaws.{turns-more, left-nothing-said, turns-append}
+use Rattle.alt_tables.specs.declared.faults.TableFault.{TableFault}
+use Rattle.alt_tables.specs.declared.faults.TableFault.TheVariants.{Failed, NoMemory}
+use Rattle.alternator.specs.Turns.{Asked, turns, asks, asked_of, longest_line}
 use Rattle.alt_shell.proofs.Telling.{Grows-then, Tells-nil}
-use Rattle.alternator.proofs.Serving.{said_in-append, taken-append, ended-append, turns_both, stretch_none, stretch_then, serves_none, serves_then, serves_break, breaks_none}
-use Rattle.alternator.proofs.TurnLaws.{turns-append, text_of-append, answered-all}
+use Rattle.alt_talks.proofs.Stretching.{said_in-append, taken-append, ended-append, stretch_none, stretch_then}
+use Rattle.alternator.proofs.Serving.{turns_both, serves_none, serves_then, serves_break, breaks_none}
+use Rattle.alt_talks.proofs.TurnLaws.{text_of-append, answered-all}
 
 some_is_no_end : (bytes : List ℕ) → 0 < length bytes → is_end (event_of (0 ∷ 0 ∷ bytes)) ≡ false
 some_is_no_end [] h = absurd (omega arith)
@@ -194,7 +197,7 @@ module _ (a b c : DiskState) (call : ShellCall a b true) (t1 : Tables) (s : Stat
         (subst (λ (x : Unread). HandsOut x v) same outs)
 
     -- that broke off
-    pub pull_breaks : (fault : RunFault) → Stretch b c (BreaksAtHand fault s (asked_now given))
+    pub pull_breaks : (fault : TableFault) → Stretch b c (BreaksAtHand fault s (asked_now given))
         → Stretch a c (GoesSome fault s u)
     pull_breaks fault q = with_take a b c call piece g m
         {P = BreaksAtHand fault s (asked_now given)} {Q = GoesSome fault s u}
@@ -292,7 +295,7 @@ module _ (a b c : DiskState) (call : ShellCall a b true) (t1 : Tables) (s : Stat
     }
 
     -- that broke off
-    pub pull_end_breaks : (fault : RunFault)
+    pub pull_end_breaks : (fault : TableFault)
         → Stretch b c (BreaksAtHand fault s (asked_now (record u { ended = true })))
         → Stretch a c (GoesSome fault s u)
     pull_end_breaks fault q = with_take a b c call [] at_end m
@@ -473,7 +476,7 @@ module _ (a b c : DiskState) (t1 : Tables) (s : State) (u v : Unread)
       p.calls q.calls
 
   -- and then a break
-  pub goes_breaks : (fault : RunFault) → Stretch b c (GoesSome fault p.to v)
+  pub goes_breaks : (fault : TableFault) → Stretch b c (GoesSome fault p.to v)
       → Stretch a c (GoesSome fault s u)
   goes_breaks fault q = stretch_then a b c {P = Goes s u p.to v} {Q = GoesSome fault p.to v} {R =
       GoesSome fault s u}
@@ -509,7 +512,7 @@ answers_all a b s t es ms x = record {
 }
 
 -- some was
-pub answers_some : (a b : DiskState) (fault : RunFault) (s : State) (es : Log) (ms : List ℕ)
+pub answers_some : (a b : DiskState) (fault : TableFault) (s : State) (es : Log) (ms : List ℕ)
     → GoesSome fault s fresh a b es ms → AnswersSome fault s a b es ms
 answers_some a b fault s es ms x =
     let br = x.breaks in

@@ -10,10 +10,11 @@ use Rattle.alt_shell.proofs.Telling.{Grows-then, Grows-nil}
 use Rattle.alternator.specs.Endings.{IsReadable}
 use Rattle.alternator.specs.Rereading.{ReadAgain, last_reopens, AreReadable, Rereads, RereadsAtHand, RereadsSome, RereadsRest}
 use Rattle.alternator.specs.Runs.{HandsOut, asked_now, asked_later}
-use Rattle.alternator.specs.declared.serve.RunFault.{RunFault}
+use Rattle.alt_tables.specs.declared.faults.TableFault.{TableFault}
 use Rattle.alternator.specs.Turns.{Asked, request, reopen, unread}
 use Rattle.alternator.proofs.Pulling.{fresh, took_is_no_end, given_later, ended_now}
-use Rattle.alternator.proofs.Serving.{taken-append, ended-append, rests_then}
+use Rattle.alt_talks.proofs.Stretching.{taken-append, ended-append}
+use Rattle.alternator.proofs.Serving.{rests_then}
 
 -- ---- which line is the last
 
@@ -217,7 +218,7 @@ read_again_opened a b c goes p = record {
 }
 
 -- however what was done behind it ended
-pub opened_again : (a b c : DiskState) → Goes a b → (result : Result Unit RunFault)
+pub opened_again : (a b c : DiskState) → Goes a b → (result : Result Unit TableFault)
     → OnOk result (ReadAgain b c) → OnOk result (ReadAgain a c)
 opened_again a b c goes (Ok done) p = read_again_opened a b c goes p
 opened_again a b c goes (Err fault) p = tt

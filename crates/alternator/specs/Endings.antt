@@ -8,12 +8,13 @@ use Rattle.alt_machine.specs.State.{State, start}
 use Rattle.alt_shell.specs.Log.{Log, Grows, StillGrows, notes_of, moments_of, taken, said_in}
 use Rattle.alternator.specs.Faults.{IsUnreadable}
 use Rattle.alt_tables.specs.Images.{StandsFor}
-use Rattle.alternator.specs.Runs.{Stretch, Answers, AnswersSome, IsOpening, Opened}
-use Rattle.alternator.specs.TalkRules.{rules}
-use Rattle.alternator.specs.TalkStops.{ServedOn, ServedSomeOn}
+use Rattle.alt_talks.specs.Runs.{Stretch}
+use Rattle.alternator.specs.Runs.{Answers, AnswersSome, IsOpening, Opened}
+use Rattle.alt_talks.specs.TalkRules.{rules}
+use Rattle.alt_talks.specs.TalkStops.{ServedOn, ServedSomeOn}
 use Rattle.alternator.specs.Trials.{Tries, TriesSome}
-use Rattle.alternator.specs.declared.serve.RunFault.{RunFault}
-use Rattle.alternator.specs.declared.serve.RunFault.TheVariants as fault
+use Rattle.alt_tables.specs.declared.faults.TableFault.{TableFault}
+use Rattle.alt_tables.specs.declared.faults.TableFault.TheVariants as fault
 use Rattle.alternator.specs.declared.ending.Ending.{Ending}
 use Rattle.alternator.specs.declared.ending.Ending.TheVariants.{Whole, Words, NotEmpty, Damaged, BadRow, Device, Memory, Spent}
 use Rattle.alternator.specs.declared.words.Job.{Job}
@@ -111,7 +112,7 @@ Done (Trial seed count) s opened new = Stretch opened new (Tries s seed count)
 
 -- What a job has done that was broken off behind the opening: what it said is a prefix of what there was to say, on each connection by
 -- itself. For a number, the first that was wanted and is never given out.
-abbrev pub Broken : RunFault → Job → State → DiskState → DiskState → Type 0
+abbrev pub Broken : TableFault → Job → State → DiskState → DiskState → Type 0
 Broken why Init s opened new = ⊥
 Broken why Replay s opened new = Stretch opened new (AnswersSome why s)
 Broken why (Serve per connections) s opened new = Stretch opened new
@@ -123,11 +124,11 @@ abbrev pub LacksNumber : Job → DiskState → DiskState → Type 0
 LacksNumber job old new = (number : ℕ) × Opened old new (Broken (fault.Spent number) job)
 
 -- The run was broken off while the store was opened, or behind that.
-abbrev pub BreaksOff : RunFault → Job → DiskState → DiskState → Type 0
+abbrev pub BreaksOff : TableFault → Job → DiskState → DiskState → Type 0
 BreaksOff why job old new = IsTrusted old → IsOpening old new ⊎ Opened old new (Broken why job)
 
 -- The files stood for no state, as is told; or they stood for one, and the disk, which isn't honest, changed them since.
-abbrev pub WasDamaged : RunFault → DiskState → DiskState → Type 0
+abbrev pub WasDamaged : TableFault → DiskState → DiskState → Type 0
 WasDamaged why old new = IsTrue old.tells → (IsOpening old new × IsUnreadable old.file why)
     ⊎ (IsReadable old.file × (old.honest ≡ false))
 

@@ -13,11 +13,12 @@ use Rattle.alt_shell.specs.Log.{Log, until, said_in}
 use Rattle.alt_tables.specs.Images.{StandsFor}
 use Rattle.alt_tables.specs.Stands.{Stands}
 use Rattle.alt_tables.specs.declared.tables.Tables.{Tables}
-use Rattle.alternator.specs.Faults.{IsCausedBy}
+use Rattle.alt_talks.specs.Faults.{IsCausedBy}
 use Rattle.alternator.specs.Runs.{Rests}
-use Rattle.alternator.specs.Stops.{Image, atoms_of, AtEach, IsAmong}
-use Rattle.alternator.specs.Turns.{Asked, Turn, asked_by, turns, text_of, after, wanted, requests}
-use Rattle.alternator.specs.declared.serve.RunFault.{RunFault}
+use Rattle.alt_talks.specs.Stops.{Image, atoms_of, AtEach, IsAmong}
+use Rattle.alternator.specs.Turns.{Asked, asked_by, turns, requests}
+use Rattle.alt_talks.specs.Turns.{Turn, text_of, after, wanted}
+use Rattle.alt_tables.specs.declared.faults.TableFault.{TableFault}
 use Rattle.alternator.specs.declared.tally.Tally.{Tally}
 
 -- ---- the requests, and what they come to
@@ -81,7 +82,7 @@ pub record Tries (s : State) (seed count : ℕ) (old new : DiskState) (entries :
   pub leaves : AtEach old new (LeftOfTrial s (as_turn s seed count) entries)
 
 -- That broke off: what was said is the front of the four lines. Where a request lacked a number, it is the first that one lacked.
-pub record TriesSome (fault : RunFault) (s : State) (seed count : ℕ) (old new : DiskState)
+pub record TriesSome (fault : TableFault) (s : State) (seed count : ℕ) (old new : DiskState)
     (entries : Log) (told : List ℕ) : Type 0 where
   pub said : IsPrefix (said_in entries) (as_turn s seed count).text
   pub rests : Rests entries
@@ -106,7 +107,7 @@ pub record Counted (s : State) (ls : List Asked) (before behind : Tally) (old ne
   pub leaves : AtEach old new (λ _ image. IsAmong image s (atoms_of (trial_turns s ls)))
 
 -- that broke off
-pub record CountedSome (fault : RunFault) (s : State) (ls : List Asked)
+pub record CountedSome (fault : TableFault) (s : State) (ls : List Asked)
     (old new : DiskState) : Type 0 where
   pub wants : IsCausedBy (wanted (trial_turns s ls)) fault
   pub leaves : AtEach old new (λ _ image. IsAmong image s (atoms_of (trial_turns s ls)))

@@ -1,14 +1,11 @@
 //! Alternator: the interface of Amazon DynamoDB over a store in one folder. It answers sixteen operations, asked as lines or over HTTP.
 #![tactic(auto)]
 
-mod connection;
 mod ending;
-mod front;
 mod init;
 mod lines;
 mod open;
 mod reply;
-mod response;
 mod run;
 mod serve;
 mod tally;

@@ -4,11 +4,12 @@ use Rattle.alt_lines.specs.Unread.{Unread}
 use Rattle.alt_machine.specs.State.{State}
 use Rattle.alt_disk.specs.Disk.{DiskState}
 use Rattle.alternator.specs.Rereading.{RereadsSome, RereadsOn}
-use Rattle.alternator.specs.Runs.{Leads, Goes, GoesOrEnds, GoesSome, Ends, Answers, AnswersSome}
-use Rattle.alternator.proofs.Passing.{passes_none, passes_then, passes_back}
+use Rattle.alt_talks.specs.Runs.{Leads}
+use Rattle.alternator.specs.Runs.{Goes, GoesOrEnds, GoesSome, Ends, Answers, AnswersSome}
+use Rattle.alt_talks.proofs.Passing.{passes_none, passes_then, passes_back}
 use Rattle.alternator.proofs.Pulling.{fresh, goes_none, goes_then, goes_ends, goes_breaks, answers_all, answers_some}
 use Rattle.alternator.proofs.Rereading.{some_none, some_then, rest_then, read_again}
-use Rattle.alternator.proofs.Serving.{stretch_as}
+use Rattle.alt_talks.proofs.Stretching.{stretch_as}
 use Rattle.alternator.proofs.run.pulls.Goals as goal
 
 pub pulls-init : goal.pulls-init

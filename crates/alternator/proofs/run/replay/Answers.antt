@@ -1,11 +1,13 @@
 use Rattle.std.proofs.Common.{[], false}
 use Rattle.alternator.specs.Turns.{asks}
 use Rattle.alternator.specs.Runs.{AnswersSome, LeftThen}
-use Rattle.alternator.specs.declared.serve.RunFault.TheVariants.{NoMemory}
+use Rattle.alt_tables.specs.declared.faults.TableFault.TheVariants.{NoMemory}
 use Rattle.alternator.proofs.Pulling.{answers_some}
-use Rattle.alternator.proofs.Serving.{stretch_none, breaks_none}
+use Rattle.alt_talks.proofs.Stretching.{stretch_none}
+use Rattle.alternator.proofs.Serving.{breaks_none}
 use Rattle.alt_tables.proofs.Left.{stands_left}
-use Rattle.alternator.proofs.Stopping.{leaves-here, left-nothing}
+use Rattle.alt_talks.proofs.Stopping.{leaves-here}
+use Rattle.alternator.proofs.TurnLaws.{left-nothing}
 use Rattle.alternator.proofs.run.replay.Goals as goal
 
 pub returns-in_default-clause-answered : goal.returns-in_default-clause-answered

@@ -4,7 +4,7 @@ use Rattle.alternator.proofs.Beginning.{begins_again}
 use Rattle.alt_disk.proofs.Runs.{tells_of}
 use Rattle.alternator.proofs.Opening.{still_stands, readable_cause}
 use Rattle.alt_tables.proofs.Left.{stands_read, stands_trusted}
-use Rattle.alternator.proofs.Stopping.{stands_kept}
+use Rattle.alt_talks.proofs.Stopping.{stands_kept}
 use Rattle.alternator.proofs.Rereading.{at_hand_said, silent_of, rereads_opened}
 use Rattle.alternator.proofs.Serving.{turn_served, turn_cut, turn_unsaid}
 use Rattle.alternator.proofs.serve.reopen.Goals as goal

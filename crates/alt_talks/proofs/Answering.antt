@@ -1,5 +1,5 @@
 -- A request that was carried out, or has no answer.
-use Rattle.std.proofs.Common.{◌≡◌, List, [], ◌∷◌, option_map, ap}
+use Rattle.std.proofs.Common.{List, option_map, ap}
 use Rattle.alt_disk.specs.Disk.{DiskState}
 use Rattle.alt_machine.specs.Outcomes.{Outcome}
 use Rattle.alt_machine.specs.State.{State}

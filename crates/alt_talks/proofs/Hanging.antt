@@ -96,6 +96,11 @@ module _ (r : Rules) (per : ℕ) (s : State) (es : Log) (ms : List ℕ) (from si
           begins = moved.begins;
         };
         idle = idle_hung e.idle;
+        before = es;
+        at = upto;
+        clocked = clocked;
+        hung = refl;
+        inside = e.inside;
       }
 
 -- none came

@@ -46,8 +46,9 @@ wanted-more r s (asked q ∷ ts) us (m ∷ ms) h = ap (or_next (r.wants s q m)) 
 wanted-more r s (refused k ∷ ts) us [] h = wanted-more r s ts us [] (omega arith)
 wanted-more r s (refused k ∷ ts) us (m ∷ ms) h = wanted-more r s ts us ms (omega arith)
 
-begins_more : (ts us : List Turn) (ms : List ℕ) → Begins ts ms → Begins (ts ++ us) ms
-begins_more ts us ms b = record {
+begins_more : (r : Rules) (s : State) (ts us : List Turn) (ms : List ℕ) → Begins r s ts ms
+    → Begins r s (ts ++ us) ms
+begins_more r s ts us ms b = record {
   done = b.done;
   begun = b.begun;
   rest = b.rest ++ us;
@@ -55,6 +56,7 @@ begins_more ts us ms b = record {
       ∙ ap (λ l. b.done ++ l) (append_assoc b.begun b.rest us);
   few = b.few;
   count = b.count;
+  enough = b.enough;
 }
 
 -- a break is one of more turns
@@ -69,7 +71,7 @@ some_more r fault s m ts us vs es ms e a =
         silent = a.some.silent;
         hush = a.some.hush;
         still = a.some.still;
-        begins = begins_more ts us ms a.some.begins;
+        begins = begins_more r s ts us ms a.some.begins;
       };
       quiet = a.quiet;
     })

@@ -76,7 +76,7 @@ module _ (r : Rules) (p : Place) (s : State) (m : Bool) (bytes : List ℕ) (mome
       }
 
   pub goes_some_none : GoesSome r NoMemory p s m (entry moment clocked (took bytes) ∷ []) []
-  goes_some_none = record { some = record { said = (text r s (turns_at r p (taken (entry moment clocked (took bytes) ∷ []))) [], refl); most = omega arith; wants = tt; silent = λ _. refl; hush = (λ f. absurd (let g : ⊥ = cc in g), tt); still = λ _. refl; begins = begins_none (turns_at r p (taken (entry moment clocked (took bytes) ∷ []))) }; inside = refl; idle = idle_taken [] [] refl refl }
+  goes_some_none = record { some = record { said = (text r s (turns_at r p (taken (entry moment clocked (took bytes) ∷ []))) [], refl); most = omega arith; wants = tt; silent = λ _. refl; hush = (λ f. absurd (let g : ⊥ = cc in g), tt); still = λ _. refl; begins = begins_none r s (turns_at r p (taken (entry moment clocked (took bytes) ∷ []))) }; inside = refl; idle = idle_taken [] [] refl refl }
 
 -- the end came
 module _ (r : Rules) (p : Place) (s : State) (m : Bool) (rest : AtRest r p) where

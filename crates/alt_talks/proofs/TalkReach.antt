@@ -7,11 +7,12 @@ use Rattle.alt_shell.specs.Log.{Log}
 use Rattle.alt_tables.specs.Stands.{Stands}
 use Rattle.alt_tables.specs.declared.tables.Tables.{Tables}
 use Rattle.alt_talks.specs.TalkRules.{rules}
-use Rattle.alt_talks.specs.TalkStops.{ServedOn, ServedSomeOn}
+use Rattle.alt_talks.specs.TalkStops.{ServedOn, ServedSomeOn, LeavesNow}
 use Rattle.alt_talks.specs.Runs.{Leads, OfStretch, Stretch}
 use Rattle.alt_tables.specs.declared.faults.TableFault.{TableFault}
 use Rattle.alt_talks.proofs.Stretching.{stretch_none, stretch_as, stretch_then}
 use Rattle.alt_talks.proofs.Stopping.{Meet}
+use Rattle.alt_tables.proofs.Left.{stands_left}
 
 -- nothing was done
 pub reach_none : (a : DiskState) (tables : Tables) (s : State) (P : State → OfStretch)
@@ -56,16 +57,21 @@ reach_break a b c t1 P Q R law p go =
     stretch_then a b c {P = P p.to} {Q = Q p.to} {R = R}
     (λ es fs ms ns meet x y. law p.to es fs ms ns meet x y) p.calls (go p.to p.stands)
 
--- connections that were served, whichever state that left
+-- connections that were served, whichever state that left: a stop now leaves it
 pub run_served : {T : Type 0} (result : Result T TableFault) (a d : DiskState) (tables : Tables)
     (per count : ℕ) (s : State)
     → MatchResult result (λ _. Leads a d tables (λ t. ServedOn rules per count s t))
     (λ f. Stretch a d (ServedSomeOn rules per count f s))
     → MatchResult result
-    (λ _. Stretch a d (λ old new es ms. (t : State) × ServedOn rules per count s t old new es ms))
+    (λ _. Stretch a d (λ old new es ms. (t : State) × ServedOn rules per count s t old new es ms
+    × LeavesNow new t))
     (λ f. Stretch a d (ServedSomeOn rules per count f s))
 run_served (Ok x) a d tables per count s h =
     stretch_as a d {P = ServedOn rules per count s h.to}
-    {Q = λ old new es ms. (t : State) × ServedOn rules per count s t old new es ms}
-    (λ es ms within y. (h.to, y)) h.calls
+    {Q = λ old new es ms. (t : State) × ServedOn rules per count s t old new es ms × LeavesNow new t}
+    (λ es ms within y. (
+      h.to,
+      y,
+      λ trusted image is_image. stands_left d tables h.to h.stands image is_image,
+    )) h.calls
 run_served (Err e) a d tables per count s h = h

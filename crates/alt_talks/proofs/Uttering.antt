@@ -217,16 +217,18 @@ alone None = refl
 alone (Some n) = refl
 
 -- none was begun
-pub begins_none : (ts : List Turn) → Begins ts []
-begins_none ts = record { done = []; begun = []; rest = ts; parts = refl; few = omega arith; count = inl refl }
+pub begins_none : (r : Rules) (s : State) (ts : List Turn) → Begins r s ts []
+begins_none r s ts = record { done = []; begun = []; rest = ts; parts = refl; few = omega arith; count = inl refl; enough = refl }
 
 -- the one turn was, and asked for its moment
-begins_one : (t : Turn) (at : ℕ) → 1 ≡ asks (t ∷ []) → Begins (t ∷ []) (at ∷ [])
-begins_one t at e = record { done = []; begun = t ∷ []; rest = []; parts = refl; few = omega arith; count = inl e }
+begins_one : (r : Rules) (s : State) (t : Turn) (at : ℕ) → 1 ≡ asks (t ∷ [])
+    → Begins r s (t ∷ []) (at ∷ [])
+begins_one r s t at e =
+    record { done = []; begun = t ∷ []; rest = []; parts = refl; few = omega arith; count = inl e; enough = refl }
 
 -- a turn that broke off before its text was said
 pub answers_some_none : (r : Rules) (s : State) (m : Bool) (ts : List Turn) → AnswersSome r NoMemory s m ts [] []
-answers_some_none r s m ts = record { some = record { said = (text r s ts [], refl); most = omega arith; wants = tt; silent = λ _. refl; hush = tt; still = λ _. refl; begins = begins_none ts }; quiet = quiet_none }
+answers_some_none r s m ts = record { some = record { said = (text r s ts [], refl); most = omega arith; wants = tt; silent = λ _. refl; hush = tt; still = λ _. refl; begins = begins_none r s ts }; quiet = quiet_none }
 
 pub some_asked : (r : Rules) (fault : TableFault) (s : State) (m : Bool) (q : Request) (at : ℕ) (es : Log) (ms : List ℕ)
     → Clocked at es ms → IsCausedBy (r.wants s q at) fault → AnswersSome r fault s m (asked q ∷ []) es ms
@@ -241,7 +243,7 @@ some_asked r fault s m q at es ms t w =
         silent = λ _. refl;
         hush = tt;
         still = λ _. refl;
-        begins = begins_one (asked q) at refl;
+        begins = begins_one r s (asked q) at refl;
       };
       quiet = quiet_none;
     }))
@@ -251,7 +253,7 @@ some_refused r s m k at es ms t =
     let none = t.nothing in let one = t.one in
     subst (λ (fs : Log). AnswersSome r NoMemory s m (refused k ∷ []) fs ms) (sym none)
     (subst (λ (ns : List ℕ). AnswersSome r NoMemory s m (refused k ∷ []) [] ns) (sym one) (record {
-      some = record { said = (text r s (refused k ∷ []) (at ∷ []), refl); most = omega arith; wants = tt; silent = λ _. refl; hush = tt; still = λ _. refl; begins = begins_one (refused k) at refl };
+      some = record { said = (text r s (refused k ∷ []) (at ∷ []), refl); most = omega arith; wants = tt; silent = λ _. refl; hush = tt; still = λ _. refl; begins = begins_one r s (refused k) at refl };
       quiet = quiet_none;
     }))
 
@@ -270,7 +272,7 @@ module _ (r : Rules) (fault : TableFault) (s t : State) (m n : Bool) (ts us : Li
       let same = ap requests (append_assoc ts us ks) in
       inr (let a = length-append ms ns in let b = requests-append ts (us ++ ks) in let c = told_of in let d = asks-requests ts clear in omega (arith, same, a, b, c, d, e))
 
-  begins_both : Begins (ts ++ us) (ms ++ ns)
+  begins_both : Begins r s (ts ++ us) (ms ++ ns)
   begins_both = record {
     done = ts ++ b.begins.done;
     begun = b.begins.begun;
@@ -278,6 +280,8 @@ module _ (r : Rules) (fault : TableFault) (s t : State) (m n : Bool) (ts us : Li
     parts = ap (λ l. ts ++ l) b.begins.parts ∙ sym (append_assoc ts b.begins.done (b.begins.begun ++ b.begins.rest));
     few = b.begins.few;
     count = begun_both b.begins.done b.begins.begun b.begins.count;
+    enough = wanted-append r s ts b.begins.done ms ns told_of a.enough
+        ∙ ap (λ (v : State). wanted r v b.begins.done ns) (sym a.state) ∙ b.begins.enough;
   }
 
   pub does_break : DoesSome r fault s m (ts ++ us) (es ++ fs) (ms ++ ns)

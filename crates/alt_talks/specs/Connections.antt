@@ -55,10 +55,15 @@ Comes r per false s t entries told = (t ≡ s) × ((m n : ℕ) × (entries ≡ e
 abbrev pub Missed : TableFault → Log → List ℕ → Type 0
 Missed fault entries told = (entries ≡ []) × (told ≡ []) × IsCausedBy None fault
 
--- Serving a connection broke off; bytes were taken as on one that was served.
+-- Serving a connection broke off, and it was hung up; bytes were taken as on one that was served, and no other connection came or went.
 pub record Breaks (r : Rules) (per : ℕ) (fault : TableFault) (s : State) (k : Connection) : Type 0 where
   pub some : DoesSome r fault s false (turns_of r per k) k.entries k.told
   pub idle : TakesIdle r (start per) s false k.told [] k.entries
+  pub before : Log
+  pub at : ℕ
+  pub clocked : ℕ
+  pub hung : k.entries ≡ before ++ entry at clocked hung_up ∷ []
+  pub inside : crosses before ≡ false
 
 -- one came, broke off and was hung up
 abbrev pub Broke : Rules → ℕ → TableFault → State → Log → List ℕ → Type 0

@@ -109,14 +109,15 @@ pub record Answers (r : Rules) (s : State) (mute : Bool) (ts : List Turn) (t : S
   pub quiet : Quiet entries
 
 -- Of turns that broke off some were done, and at most one more was begun. Just these asked for their moments: each request, and a refused
--- head unless a say had failed.
-pub record Begins (ts : List Turn) (told : List ℕ) : Type 0 where
+-- head unless a say had failed. No request that was done lacked a number or a family.
+pub record Begins (r : Rules) (s : State) (ts : List Turn) (told : List ℕ) : Type 0 where
   pub done : List Turn
   pub begun : List Turn
   pub rest : List Turn
   pub parts : ts ≡ done ++ (begun ++ rest)
   pub few : length begun ≤ 1
   pub count : (length told ≡ asks (done ++ begun)) ⊎ (length told ≡ requests (done ++ begun))
+  pub enough : wanted r s done told ≡ None
 
 -- Doing these turns broke off.
 pub record DoesSome (r : Rules) (fault : TableFault) (s : State) (mute : Bool) (ts : List Turn) (entries : Log) (told : List ℕ) : Type 0 where
@@ -126,7 +127,7 @@ pub record DoesSome (r : Rules) (fault : TableFault) (s : State) (mute : Bool) (
   pub silent : mute ≡ true → said_in entries ≡ []
   pub hush : Hushes entries
   pub still : mute ≡ true → says entries ≡ false
-  pub begins : Begins ts told
+  pub begins : Begins r s ts told
 
 -- and nothing was taken
 pub record AnswersSome (r : Rules) (fault : TableFault) (s : State) (mute : Bool) (ts : List Turn) (entries : Log) (told : List ℕ) : Type 0 where

@@ -1,5 +1,5 @@
 -- What a stop leaves at each moment while connections are served.
-use Rattle.std.specs.Prelude.{◌≡◌, ◌-◌, ◌⊎◌, ℕ, List, [], ◌∷◌, ◌++◌, Bool, false, None}
+use Rattle.std.specs.Prelude.{◌≡◌, ◌-◌, ◌⊎◌, ℕ, List, [], ◌∷◌, ◌++◌, Bool, None}
 use Rattle.alt_disk.specs.Disk.{DiskState, IsImage, IsTrusted}
 use Rattle.alt_machine.specs.State.{State}
 use Rattle.alt_shell.specs.Log.{Log, until, taken, said_in}
@@ -8,7 +8,7 @@ use Rattle.alt_talks.specs.Connections.{Connection, start, Comes, ComesSome, Ser
 use Rattle.alt_talks.specs.Runs.{OfStretch}
 use Rattle.alt_talks.specs.Stops.{Image, IsLeft, AtEach}
 use Rattle.alt_talks.specs.Stretches.{Answers, AnswersSome, Moves, MovesAll, MovesSome, Steps, Carries, Goes, GoesSome, Ends}
-use Rattle.alt_talks.specs.Talks.{Turn, onward, asked, refused, Rules, Request, Head, Place, at, request_of, turns, turns_at}
+use Rattle.alt_talks.specs.Talks.{Turn, onward, asked, refused, Rules, Request, Head, Place, request_of, turns, turns_at}
 use Rattle.alt_talks.specs.TalkTexts.{after}
 use Rattle.alt_talks.specs.Turns.{Turn as Deed}
 use Rattle.alt_tables.specs.declared.faults.TableFault.{TableFault}

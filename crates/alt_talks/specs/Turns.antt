@@ -1,5 +1,5 @@
 -- What turns come to, whatever asked for them: what is said to each, what it writes, and what it lacks.
-use Rattle.std.specs.Prelude.{ℕ, List, [], ◌∷◌, ◌++◌, ◌==◌, if◌then◌else◌, Option, Some, None, length, drop, nat_le}
+use Rattle.std.specs.Prelude.{ℕ, List, [], ◌∷◌, if◌then◌else◌, Option, Some, None, length, drop, nat_le}
 use Rattle.std.specs.List.{flat_map}
 use Rattle.alt_machine.specs.Outcomes.{last_state}
 use Rattle.alt_machine.specs.State.{State}

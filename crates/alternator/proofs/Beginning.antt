@@ -1,5 +1,5 @@
 -- A request up to its reply: its moment was asked for, and it was carried out.
-use Rattle.std.proofs.Common.{◌≡◌, ℕ, List, [], ◌∷◌, refl, sym, ap, subst, arith}
+use Rattle.std.proofs.Common.{ℕ, List, [], ◌∷◌, refl, sym, ap, subst, arith}
 use Rattle.alt_disk.specs.Disk.{DiskState, Goes}
 use Rattle.alt_disk.proofs.Runs.{trusted_on}
 use Rattle.alt_machine.specs.State.{State}
@@ -9,7 +9,7 @@ use Rattle.alt_talks.specs.Stops.{IsAmong, AtEach}
 use Rattle.alt_shell.proofs.Telling.{Grows-nil, Tells-nil}
 use Rattle.alt_tables.specs.Stands.{Stands}
 use Rattle.alt_tables.specs.declared.tables.Tables.{Tables}
-use Rattle.alternator.specs.Turns.{request, reopen, unread, opened_again, turned_away, carried_out}
+use Rattle.alternator.specs.Turns.{request, control, reopen, unread, opened_again, turned_away, carried_out}
 use Rattle.alt_tables.specs.Recovery.{WasLeft}
 use Rattle.alternator.proofs.Serving.{Begins}
 use Rattle.alt_tables.proofs.Left.{stands_left}
@@ -50,7 +50,7 @@ begins_away old tables s stands = record {
 
 -- the store was opened again, and nothing was written
 pub begins_again : (old mid : DiskState) (tables : Tables) (s : State) → Stands old tables s
-    → Goes old mid → AtEach old mid (WasLeft old) → Begins old mid s reopen opened_again []
+    → Goes old mid → AtEach old mid (WasLeft old) → Begins old mid s (control reopen) opened_again []
 begins_again old mid tables s stands goes leaves = record {
   one = refl;
   count = refl;

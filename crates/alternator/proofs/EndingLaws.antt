@@ -1,19 +1,19 @@
 -- A note changes nothing that a run has done, and what each ending tells of completeness.
-use Rattle.std.proofs.Common.{◌≡◌, ◌⊎◌, inl, inr, ⊎_elim, ℕ, List, [], ◌++◌, Bool, false, Option, Some, None, refl, sym, ap, subst, ◌∙◌, arith}
+use Rattle.std.proofs.Common.{◌≡◌, ◌⊎◌, inl, inr, ⊎_elim, ℕ, List, [], ◌++◌, Bool, false, Option, Some, None, refl, sym, ap, subst, ◌∙◌, arith, append-nil, true, IsTrue, ◌&&◌}
 use Rattle.alt_base.specs.Counts.{Rose}
 use Rattle.alt_disk.specs.Fates.{Fates, Fits}
 use Rattle.alt_disk.specs.Disk.{DiskState, IsTrusted}
 use Rattle.alt_disk.proofs.Runs.{tells_of}
 use Rattle.alt_machine.specs.State.{State}
 use Rattle.alt_shell.specs.Calls.{Aside}
-use Rattle.alt_shell.specs.Log.{Log, Grows, moments_of}
+use Rattle.alt_shell.specs.Log.{Log, Grows, moments_of, taken}
 use Rattle.alt_shell.proofs.Telling.{Grows-then}
 use Rattle.alt_talks.specs.Connections.{ServedSome, turns_of}
-use Rattle.alternator.specs.Endings.{status_of, HasDone, HasMade, HasRun, HasNumbers, Makes, BreaksOff, WasDamaged, IsReadable, Done, Broken, LacksNumber}
+use Rattle.alternator.specs.Endings.{status_of, HasDone, HasMade, HasRun, HasNumbers, Makes, BreaksOff, WasDamaged, IsReadable, Done, Broken, LacksNumber, SaysNothing, SaysSome}
 use Rattle.alternator.specs.Runs.{Answers, AnswersSome, LeftThen, IsOpening, Opened}
 use Rattle.alt_talks.specs.Stretches.{DoesSome}
 use Rattle.alt_talks.specs.TalkRules.{rules}
-use Rattle.alt_talks.specs.TalkStops.{LeftAmong, ServedOn, ServedSomeOn}
+use Rattle.alt_talks.specs.TalkStops.{LeftAmong, ServedOn, ServedSomeOn, LeavesNow}
 use Rattle.alt_talks.specs.Talks.{Rules, Turn}
 use Rattle.alternator.specs.Trials.{Tries, TriesSome, LeftOfTrial, as_turn}
 use Rattle.alternator.specs.Words.{IsOverStore}
@@ -27,6 +27,9 @@ use Rattle.alternator.specs.declared.words.Job.TheVariants.{Init, Replay, Serve,
 use Rattle.alt_talks.proofs.Stretching.{stretch_quiet, stretch_as}
 use Rattle.alternator.proofs.Initing.{quiet_behind}
 use Rattle.alt_talks.proofs.Stopping.{leaves-before-aside}
+use Rattle.alt_talks.specs.Turns.{after}
+use Rattle.alternator.specs.Turns.{turns, asks}
+use Rattle.alt_machine.specs.Outcomes.{last_state}
 
 -- ---- what was done, whatever the cause was
 
@@ -46,6 +49,7 @@ some_answers a b fault s es ms x = record {
     enough = x.breaks.enough;
     wants = tt;
   };
+  inside = x.inside;
   said = x.said;
   leaves = x.leaves;
 }
@@ -82,6 +86,11 @@ some_served r per count fault s es ms x = record {
       record {
         some = does_some r fault x.halfway _ (turns_of r per one.0) _ _ one.2.some;
         idle = one.2.idle;
+        before = one.2.before;
+        at = one.2.at;
+        clocked = one.2.clocked;
+        hung = one.2.hung;
+        inside = one.2.inside;
       },
     )
   ];
@@ -182,21 +191,33 @@ as_memory a b (Some (Trial seed count)) ending n h = run_memory a b (Trial seed 
 
 module _ (b c : DiskState) (g : Grows b.beside c.beside [])
     (m : moments_of c.beside ≡ moments_of b.beside) (aside : Aside b c) where
+  -- what a stop now leaves stands for the same state
+  last_behind : (s : State) → LeavesNow b s → LeavesNow c s
+  last_behind s now trusted image is_image =
+      now (subst (λ (v : Bool). IsTrue v) (λ i. aside.keeps.tells i && aside.keeps.honest i) trusted)
+      image
+      (λ f. subst (λ (fates : Fates). Fits fates (image f))
+      (ap (λ (t : ℕ). c.fates t f) aside.moment ∙ aside.keeps.past b.moment f (omega arith))
+      (is_image f))
+
   all_behind : (a : DiskState) (s : State) (es : Log) (ms : List ℕ) → Answers s a b es ms
       → Answers s a c es ms
   all_behind a s es ms x = record {
     at_end = x.at_end;
+    inside = x.inside;
     said = x.said;
     count = x.count;
     every = x.every;
     enough = x.enough;
     leaves = leaves-before-aside a b c (LeftThen s es ms) aside x.leaves;
+    last = last_behind (after s (turns s (asks true (taken es)) ms)) x.last;
   }
 
   some_behind : (a : DiskState) (fault : TableFault) (s : State) (es : Log) (ms : List ℕ)
       → AnswersSome fault s a b es ms → AnswersSome fault s a c es ms
   some_behind a fault s es ms x = record {
     breaks = x.breaks;
+    inside = x.inside;
     said = x.said;
     leaves = leaves-before-aside a b c (LeftThen s es ms) aside x.leaves;
   }
@@ -209,6 +230,7 @@ module _ (b c : DiskState) (g : Grows b.beside c.beside [])
     unasked = x.unasked;
     enough = x.enough;
     leaves = leaves-before-aside a b c (LeftOfTrial s (as_turn s seed count) es) aside x.leaves;
+    last = last_behind (last_state s (as_turn s seed count).atoms) x.last;
   }
 
   tries_some_behind : (a : DiskState) (fault : TableFault) (s : State) (seed count : ℕ) (es : Log)
@@ -225,9 +247,31 @@ module _ (b c : DiskState) (g : Grows b.beside c.beside [])
   makes_behind a es ms x = record {
     said = x.said;
     untaken = x.untaken;
+    inside = x.inside;
     unasked = x.unasked;
     none = x.none;
     stands = λ trusted image is_image. x.stands trusted image
+        (λ f. subst (λ (fates : Fates). Fits fates (image f))
+        (ap (λ (t : ℕ). c.fates t f) aside.moment ∙ aside.keeps.past b.moment f (omega arith))
+        (is_image f));
+  }
+
+  silent_behind : (a : DiskState) → SaysNothing a b → SaysNothing a c
+  silent_behind a x = record {
+    silent = Grows-then a.beside b.beside c.beside [] [] x.silent g;
+    unasked = m ∙ x.unasked;
+  }
+
+  said_behind : (a : DiskState) → SaysSome a b → SaysSome a c
+  said_behind a x = record {
+    entries = x.entries;
+    grows = subst (λ (es : Log). Grows a.beside c.beside es) (append-nil x.entries)
+        (Grows-then a.beside b.beside c.beside x.entries [] x.grows g);
+    said = x.said;
+    untaken = x.untaken;
+    inside = x.inside;
+    unasked = m ∙ x.unasked;
+    stands = λ more trusted image is_image. x.stands more trusted image
         (λ f. subst (λ (fates : Fates). Fits fates (image f))
         (ap (λ (t : ℕ). c.fates t f) aside.moment ∙ aside.keeps.past b.moment f (omega arith))
         (is_image f));
@@ -244,13 +288,14 @@ module _ (b c : DiskState) (g : Grows b.beside c.beside [])
   done_behind Init s o x = absurd x
   done_behind Replay s o x = stretch_quiet o b c {P = Answers s} (all_behind o s) x aside g m
   done_behind (Serve per count) s o x = stretch_quiet o b c
-      {P = λ old new es ms. (t : State) × ServedOn rules per count s t old new es ms}
+      {P = λ old new es ms. (t : State) × ServedOn rules per count s t old new es ms × LeavesNow new t}
       (λ es ms y. (
         y.0,
         (
           y.1.0,
           leaves-before-aside o b c (LeftAmong rules per s y.1.0.all) aside y.1.1,
         ),
+        last_behind y.0 y.2,
       ))
       x aside g m
   done_behind (Trial seed count) s o x = stretch_quiet o b c {P = Tries s seed count}
@@ -333,12 +378,17 @@ module _ (b c : DiskState) (g : Grows b.beside c.beside [])
   still_done a None (Spent number) h = absurd h
   still_done a (Some Init) Whole h = stretch_quiet a b c {P = Makes} (makes_behind a) h aside g m
   still_done a (Some Init) Words h = absurd h
-  still_done a (Some Init) (NotEmpty first) h =
-      (m ∙ h.0, λ tells. ((h.1 tells).0, quiet_behind a b c aside (h.1 tells).1))
+  still_done a (Some Init) (NotEmpty first) h = (
+    silent_behind a h.0,
+    λ tells. ((h.1 tells).0, quiet_behind a b c aside (h.1 tells).1),
+  )
   still_done a (Some Init) (Damaged file at) h = absurd h
   still_done a (Some Init) (BadRow family key) h = absurd h
-  still_done a (Some Init) Device h = (m ∙ h.0, subst (Rose a.faults) (sym aside.faults) h.1)
-  still_done a (Some Init) Memory h = m ∙ h
+  still_done a (Some Init) Device h = (
+    said_behind a h.0,
+    subst (Rose a.faults) (sym aside.faults) h.1,
+  )
+  still_done a (Some Init) Memory h = silent_behind a h
   still_done a (Some Init) (Spent number) h = absurd h
   still_done a (Some Replay) ending h = run_behind a Replay ending h
   still_done a (Some (Serve per count)) ending h = run_behind a (Serve per count) ending h

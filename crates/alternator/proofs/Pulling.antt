@@ -9,7 +9,7 @@ use Rattle.alt_lines.specs.Unread.{Unread}
 use Rattle.alt_machine.specs.State.{State}
 use Rattle.alt_shell.specs.Calls.{Adds, Keeps, ShellCall, Untold}
 use Rattle.alt_shell.proofs.Keeping.{keeps-none}
-use Rattle.alt_shell.specs.Log.{Log, Grows, Tells, moments_of, until, entry, told_count, event_of, took, take_failed, takes_failed, takes_missed, is_end, taken, said_in, ended}
+use Rattle.alt_shell.specs.Log.{Log, Grows, Tells, moments_of, until, entry, told_count, event_of, took, take_failed, takes_failed, takes_missed, is_end, taken, said_in, ended, crosses}
 use Rattle.alt_tables.specs.Stands.{Stands}
 use Rattle.alt_tables.specs.declared.tables.Tables.{Tables}
 use Rattle.alt_talks.specs.Turns.{answered, Turn, text_of, after}
@@ -27,6 +27,8 @@ use Rattle.alt_shell.proofs.Telling.{Grows-then, Tells-nil}
 use Rattle.alt_talks.proofs.Stretching.{said_in-append, taken-append, ended-append, stretch_none, stretch_then}
 use Rattle.alternator.proofs.Serving.{turns_both, serves_none, serves_then, serves_break, breaks_none}
 use Rattle.alt_talks.proofs.TurnLaws.{text_of-append, answered-all}
+use Rattle.alt_talks.proofs.TalkLogs.{crosses-append}
+use Rattle.alt_talks.specs.TalkStops.{LeavesNow}
 
 some_is_no_end : (bytes : List ℕ) → 0 < length bytes → is_end (event_of (0 ∷ 0 ∷ bytes)) ≡ false
 some_is_no_end [] h = absurd (omega arith)
@@ -181,6 +183,7 @@ module _ (a b c : DiskState) (call : ShellCall a b true) (t1 : Tables) (s : Stat
                 ap (λ (bs : List ℕ). asked_later u (bs ++ more) e) (all es x.rests.silent)
                 ∙ sym (given_later u piece more e) ∙ outs.later unended more e;
             goes_on = going es x.rests.goes_on;
+            inside = x.rests.inside;
             leaves = leaves_take a b c call piece g m s u (asked_now given) es ms within x.rests here
                 lines_now_given x.leaves;
           })
@@ -218,6 +221,7 @@ module _ (a b c : DiskState) (call : ShellCall a b true) (t1 : Tables) (s : Stat
                 enough = x.breaks.enough;
                 wants = x.breaks.wants;
               });
+          inside = x.rests.inside;
           leaves = leaves_take a b c call piece g m s u (asked_now given) es ms within x.rests here
               lines_now_given x.leaves;
         })
@@ -235,6 +239,7 @@ module _ (a b c : DiskState) (call : ShellCall a b true) (t1 : Tables) (s : Stat
       trusts = trusts-kept a b call.keeps;
       holds = record {
         breaks = breaks_took (asked_later u (taken (one ∷ [])) (ended (one ∷ [])));
+        inside = refl;
         leaves = leaves_silent a b t1 s u (one ∷ []) stands call.keeps refl;
       };
     }
@@ -288,6 +293,7 @@ module _ (a b c : DiskState) (call : ShellCall a b true) (t1 : Tables) (s : Stat
                   enough = x.serves.enough;
                 });
             at_end = refl;
+            inside = x.rests.inside;
             leaves = leaves_take a b c call [] at_end m s u (asked_now (record u { ended = true })) es
                 ms within x.rests here lines_at_end x.leaves;
           })
@@ -316,6 +322,7 @@ module _ (a b c : DiskState) (call : ShellCall a b true) (t1 : Tables) (s : Stat
                 enough = x.breaks.enough;
                 wants = x.breaks.wants;
               });
+          inside = x.rests.inside;
           leaves = leaves_take a b c call [] at_end m s u (asked_now (record u { ended = true })) es ms
               within x.rests here lines_at_end x.leaves;
         })
@@ -335,6 +342,7 @@ module _ (a b : DiskState) (call : ShellCall a b false) (tables : Tables) (s : S
     trusts = trusts-kept a b call.keeps;
     holds = record {
       breaks = breaks_none Failed tt s (asked_later u [] false);
+      inside = refl;
       leaves = leaves_silent a b tables s u [] stands call.keeps refl;
     };
   }
@@ -363,6 +371,7 @@ module _ (a b : DiskState) (call : ShellCall a b false) (tables : Tables) (s : S
             refl;
         wants = tt;
       };
+      inside = refl;
       leaves = leaves_silent a b tables s u
           (entry b.moment (told_count a.beside) take_failed ∷ []) stands call.keeps refl;
     };
@@ -385,6 +394,7 @@ goes_none a tables s u stands = record {
     serves = serves_none s;
     lines = λ more e. refl;
     goes_on = refl;
+    inside = refl;
     leaves = leaves_silent a a tables s u [] stands (keeps-none a) refl;
   });
 }
@@ -451,6 +461,7 @@ module _ (a b c : DiskState) (t1 : Tables) (s : State) (u v : Unread)
               ∙ ap (λ (ls : List Asked). x.done ++ ls) (y.lines more e)
               ∙ sym (append_assoc x.done y.done (asked_later w more e));
           goes_on = ended-append es fs ∙ ap (λ (e : Bool). e || ended fs) x.goes_on ∙ y.goes_on;
+          inside = crosses-append es fs ∙ ap (λ (e : Bool). e || crosses fs) x.inside ∙ y.inside;
           leaves = goes_leaves a b c s p.to u v es fs ms ns meet x y.leaves;
         })
         p.calls q.calls;
@@ -458,9 +469,9 @@ module _ (a b c : DiskState) (t1 : Tables) (s : State) (u v : Unread)
 
   -- and then to the end
   pub goes_ends : (t2 : Tables) → Leads b c t2 (λ t. Ends p.to v t)
-      → Stretch a c (λ old new es ms. (t : State) × Ends s u t old new es ms)
+      → Stretch a c (λ old new es ms. (t : State) × Ends s u t old new es ms × LeavesNow new t)
   goes_ends t2 q = stretch_then a b c {P = Goes s u p.to v} {Q = Ends p.to v q.to} {R =
-      λ old new es ms. (t : State) × Ends s u t old new es ms}
+      λ old new es ms. (t : State) × Ends s u t old new es ms × LeavesNow new t}
       (λ es fs ms ns meet x y. (
         q.to,
         record {
@@ -470,8 +481,10 @@ module _ (a b c : DiskState) (t1 : Tables) (s : State) (u v : Unread)
               (serves_then s p.to q.to x.done (asked_later v (taken fs) true) es fs ms ns x.serves
               y.serves);
           at_end = ended-append es fs ∙ ap (λ (e : Bool). e || ended fs) x.goes_on ∙ y.at_end;
+          inside = crosses-append es fs ∙ ap (λ (e : Bool). e || crosses fs) x.inside ∙ y.inside;
           leaves = goes_leaves a b c s p.to u v es fs ms ns meet x y.leaves;
         },
+        λ trusted image is_image. stands_left c t2 q.to q.stands image is_image,
       ))
       p.calls q.calls
 
@@ -488,6 +501,7 @@ module _ (a b c : DiskState) (t1 : Tables) (s : State) (u v : Unread)
             ∙ x.lines (taken fs) (ended fs)))
             (serves_break fault s p.to x.done
             (asked_later v (taken fs) (ended fs)) es fs ms ns x.serves y.breaks);
+        inside = crosses-append es fs ∙ ap (λ (e : Bool). e || crosses fs) x.inside ∙ y.inside;
         leaves = goes_leaves a b c s p.to u v es fs ms ns meet x y.leaves;
       })
       p.calls q
@@ -500,15 +514,17 @@ fresh = record { most = longest_line; bytes = []; ended = false }
 
 -- all was answered
 pub answers_all : (a b : DiskState) (s t : State) (es : Log) (ms : List ℕ)
-    → Ends s fresh t a b es ms → Answers s a b es ms
-answers_all a b s t es ms x = record {
+    → Ends s fresh t a b es ms → LeavesNow b t → Answers s a b es ms
+answers_all a b s t es ms x last = record {
   at_end = x.at_end;
+  inside = x.inside;
   said = x.serves.said;
   count = x.serves.count;
   every = ap (answered (turns s (asks true (taken es)) ms)) x.serves.said
       ∙ answered-all (turns s (asks true (taken es)) ms);
   enough = x.serves.enough;
   leaves = x.leaves;
+  last = subst (LeavesNow b) x.serves.state last;
 }
 
 -- some was
@@ -521,6 +537,7 @@ answers_some a b fault s es ms x =
     br.lines ∙ sym (append_assoc br.done br.begun br.rest) in
     record {
       breaks = br;
+      inside = x.inside;
       said = subst (λ (ls : List Asked). IsPrefix (said_in es) (text_of (turns s ls ms)))
           (sym lines)
           (subst (λ (ns : List ℕ). IsPrefix (said_in es) (text_of (turns s (front ++ br.rest) ns)))

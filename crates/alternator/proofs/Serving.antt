@@ -6,7 +6,7 @@ use Rattle.alt_machine.specs.State.{State}
 use Rattle.alt_disk.specs.Disk.{DiskState, IsTrusted}
 use Rattle.alt_machine.specs.Wanted.{Lack}
 use Rattle.alt_shell.specs.Calls.{Adds, ShellCall, Untold}
-use Rattle.alt_shell.specs.Log.{Log, Grows, Tells, moments_of, until, entry, told_count, said, say_failed, says_failed, says_missed, taken, said_in, ended}
+use Rattle.alt_shell.specs.Log.{Log, Grows, Tells, moments_of, until, entry, told_count, said, say_failed, says_failed, says_missed, taken, said_in, ended, crosses}
 use Rattle.alt_talks.specs.Runs.{Stretch, Leads}
 use Rattle.alternator.specs.Runs.{Serves, Breaks, Rests, ServesAtHand, BreaksAtHand, LeftAtHand}
 use Rattle.alt_talks.specs.Stops.{IsLeft, IsAmong, AtEach, AreWithin}
@@ -23,6 +23,7 @@ use Rattle.alt_talks.proofs.Stopping.{Meet, IsPrefix-self, IsPrefix-behind, one-
 use Rattle.alternator.proofs.TurnLaws.{turns_say, turns-more, left-nothing, requests-append, turns-append}
 use Rattle.alt_talks.proofs.TurnLaws.{text_of-append, after-append, wanted-append}
 use Rattle.alt_talks.proofs.Stretching.{said_in-append, taken-append, ended-append}
+use Rattle.alt_talks.proofs.TalkLogs.{crosses-append}
 
 -- ---- the parts of a stretch
 
@@ -145,6 +146,7 @@ pub rests_then : (es fs : Log) → Rests es → Rests fs → Rests (es ++ fs)
 rests_then es fs p q = record {
   silent = taken-append es fs ∙ ap (λ bs. bs ++ taken fs) p.silent ∙ q.silent;
   goes_on = ended-append es fs ∙ ap (λ e. e || ended fs) p.goes_on ∙ q.goes_on;
+  inside = crosses-append es fs ∙ ap (λ e. e || crosses fs) p.inside ∙ q.inside;
 }
 
 -- ---- lines at hand
@@ -232,7 +234,7 @@ pub hand_none : (a : DiskState) (tables : Tables) (s : State) → Stands a table
     → ServesAtHand s [] s a a [] []
 hand_none a tables s stands = record {
   serves = serves_none s;
-  rests = record { silent = refl; goes_on = refl };
+  rests = record { silent = refl; goes_on = refl; inside = refl };
   leaves = leaves-here a (LeftAtHand s [] [] []) (λ trusted t image is_image.
       left-nothing s [] [] image (stands_left a tables s stands image is_image));
 }
@@ -282,7 +284,7 @@ turn_served old mid new tables s l t ms bytes b enough stands call added n e =
             count = b.count;
             enough = ap wanted b.one ∙ ap (λ w. or_next w None) enough;
           };
-          rests = record { silent = refl; goes_on = refl };
+          rests = record { silent = refl; goes_on = refl; inside = refl };
           leaves = leaves-said s (turns s (l ∷ []) ms) t b.one (turns_say s (l ∷ []) ms) old mid new
               es within
               (one-by (entry new.moment (told_count mid.beside) (said bytes)) t.text
@@ -359,7 +361,7 @@ module _ (old mid new : DiskState) (tables : Tables) (s : State) (l : Asked) (t 
 
   -- the failure wasn't told
   cut_untold : Grows mid.beside new.beside [] → Stretch old new (BreaksAtHand Failed s (l ∷ []))
-  cut_untold g = cut [] (record { silent = refl; goes_on = refl })
+  cut_untold g = cut [] (record { silent = refl; goes_on = refl; inside = refl })
       (λ u. (t.text, refl)) (t.text, refl) g tt
 
   cut_part : (n : ℕ) → Adds mid new (say_failed (take n bytes))
@@ -371,7 +373,7 @@ module _ (old mid new : DiskState) (tables : Tables) (s : State) (l : Asked) (t 
         sym e ∙ sym (take-append-drop n bytes)
             ∙ ap (λ (bs : List ℕ). bs ++ drop n bytes) (sym (append-nil (take n bytes))),
       ) in
-      cut (part ∷ []) (record { silent = refl; goes_on = refl }) (one-by part t.text some) some
+      cut (part ∷ []) (record { silent = refl; goes_on = refl; inside = refl }) (one-by part t.text some) some
       added (call.keeps.later, omega arith, tt)
 
   pub turn_cut : (((n : ℕ) × Adds mid new (say_failed (take n bytes)))
@@ -386,6 +388,6 @@ pub turn_unsaid : (old new : DiskState) (s : State) (l : Asked) (t : Turn) (ms :
     → Stretch old new (BreaksAtHand fault s (l ∷ []))
 turn_unsaid old new s l t ms fault b cause =
     turn_begun old new new s l t ms fault [] b cause
-    (record { silent = refl; goes_on = refl }) (t.text, refl) (Grows-nil new.beside) refl tt
+    (record { silent = refl; goes_on = refl; inside = refl }) (t.text, refl) (Grows-nil new.beside) refl tt
     (omega arith) (λ trusted. trusted)
     (leaves-unsaid s (turns s (l ∷ []) ms) t b.one (turns_say s (l ∷ []) ms) old new b.leaves)

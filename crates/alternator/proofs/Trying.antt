@@ -27,12 +27,12 @@ use Rattle.alt_talks.specs.Runs.{Stretch}
 use Rattle.alternator.specs.Runs.{Rests}
 use Rattle.alt_talks.specs.Stops.{Image, atoms_of, AtEach, IsAmong, AreWithin}
 use Rattle.alternator.specs.Trials.{trial_asks, trial_moment, trial_turns, beginning, as_turn, IsTried, LeftOfTrial, Tries, TriesSome, IsTally, Counted, CountedSome}
-use Rattle.alternator.specs.Turns.{Asked, request, reopen, asked_by, is_space, carried_out, turns, requests}
+use Rattle.alternator.specs.Turns.{Asked, request, control, reopen, asked_by, is_space, carried_out, turns, requests}
 use Rattle.alt_talks.specs.Turns.{Turn, after, after_turn, wanted, or_next}
 use Rattle.alt_tables.specs.declared.faults.TableFault.{TableFault}
 use Rattle.alt_tables.specs.declared.faults.TableFault.TheVariants.{Failed, NoMemory, Spent, Damaged, BadRow}
 use Rattle.alternator.specs.declared.tally.Tally.{Tally}
-use Rattle.alt_talks.proofs.Stopping.{atoms_of-append, last_state-append, after-atoms, one-by, until-before, take-within, trusts-kept, leaves-weaker, leaves-here, spans_two, keeps-spans, within-wider}
+use Rattle.alt_talks.proofs.Stopping.{atoms_of-append, last_state-append, after-atoms, one-by, until-before, take-within, trusts-kept, leaves-weaker, leaves-here, spans_two, keeps-spans, within-wider, stands_kept}
 use Rattle.alternator.proofs.TurnLaws.{requests-append, turns-append}
 use Rattle.alt_talks.proofs.TurnLaws.{after-append, wanted-append}
 
@@ -84,7 +84,7 @@ not_reopen g = elim g.first as (λ b. bytes_eq (next_line (record { first = b; n
 -- a line of the generator asks for a request
 pub asked_next : (g : Generator) → asked_by (next_line g)
     ≡ request (before_first is_space (next_line g)) (after_first is_space (next_line g))
-asked_next g = ap (λ b. cond b reopen (request (before_first is_space (next_line g))
+asked_next g = ap (λ b. cond b (control reopen) (request (before_first is_space (next_line g))
     (after_first is_space (next_line g)))) (not_reopen g)
 
 -- ---- turns, and then more of them
@@ -409,7 +409,7 @@ trial_unsaid old mid s seed count fault goes p = record {
   trusts = trusted_on old mid goes;
   holds = record {
     said = ((as_turn s seed count).text, refl);
-    rests = record { silent = refl; goes_on = refl };
+    rests = record { silent = refl; goes_on = refl; inside = refl };
     unasked = refl;
     wants = p.wants;
     leaves = leaves_untold old mid mid s (as_turn s seed count) goes p.leaves;
@@ -456,12 +456,17 @@ module _ (old mid new : DiskState) (tables : Tables) (s : State) (seed count : �
         trusts = λ trusted. trusts-kept mid new call.keeps (trusted_on old mid goes trusted);
         holds = record {
           said = text;
-          rests = record { silent = refl; goes_on = refl };
+          rests = record { silent = refl; goes_on = refl; inside = refl };
           unasked = refl;
           enough = p.enough;
           leaves = left_by (one ∷ []) within
               (one-by one (as_turn s seed count).text (subst (λ (bs : List ℕ). IsPrefix bs (as_turn s seed count).text) (sym text)
               ([], sym (append-nil (as_turn s seed count).text)))) call.keeps;
+          last = λ trusted image is_image.
+              subst (StandsFor image) (after-atoms s (trial_turns s (trial_asks seed count)))
+              (stands_left new tables (after s (trial_turns s (trial_asks seed count)))
+              (stands_kept mid new call.keeps tables (after s (trial_turns s (trial_asks seed count)))
+              p.stands) image is_image);
         };
       }
 
@@ -503,8 +508,8 @@ module _ (old mid new : DiskState) (tables : Tables) (s : State) (seed count : �
         sym e ∙ sym (take-append-drop part.0 bytes)
             ∙ ap (λ (bs : List ℕ). bs ++ drop part.0 bytes) (sym (append-nil (take part.0 bytes))),
       ) in
-      cut (one ∷ []) (record { silent = refl; goes_on = refl }) (one-by one (as_turn s seed count).text some) some
+      cut (one ∷ []) (record { silent = refl; goes_on = refl; inside = refl }) (one-by one (as_turn s seed count).text some) some
       part.1 (call.keeps.later, omega arith, tt) call m
   trial_cut bytes e call m (inr untold) =
-      cut [] (record { silent = refl; goes_on = refl }) (λ u. ((as_turn s seed count).text, refl)) ((as_turn s seed count).text, refl)
+      cut [] (record { silent = refl; goes_on = refl; inside = refl }) (λ u. ((as_turn s seed count).text, refl)) ((as_turn s seed count).text, refl)
       untold.log tt call m

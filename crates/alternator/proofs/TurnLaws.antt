@@ -1,9 +1,8 @@
 -- The turns of lines, one list of lines after another.
-use Rattle.std.proofs.Common.{◌≡◌, ◌≤◌, ◌+◌, ℕ, suc, List, [], ◌∷◌, ◌++◌, length, refl, ap, ◌∙◌, arith, length-append, ◌<◌, ◌⊎◌, ⊎_elim, ◌&&◌, sym, subst}
+use Rattle.std.proofs.Common.{◌≡◌, ◌+◌, ℕ, suc, List, [], ◌∷◌, ◌++◌, length, refl, ap, arith, length-append, ◌<◌, sym, subst}
 use Rattle.alt_machine.specs.State.{State}
 use Rattle.alt_talks.specs.Turns.{Turn, after, after_turn}
-use Rattle.alternator.specs.Turns.{Asked, request, reopen, unread, turns, opened_again, turned_away, carried_out, requests}
-use Rattle.std.specs.Prelude.{◌||◌, ⊤}
+use Rattle.alternator.specs.Turns.{Asked, Control, request, control, reopen, unread, turns, obeyed, turned_away, carried_out, requests, opened_again}
 use Rattle.alt_talks.specs.Stops.{Image, IsLeft}
 use Rattle.alt_tables.specs.Images.{StandsFor}
 use Rattle.alt_talks.proofs.Stopping.{AllSay, left-nothing-of}
@@ -15,7 +14,7 @@ same_suc e = omega arith
 pub requests-append : (ls ks : List Asked) → requests (ls ++ ks) ≡ requests ls + requests ks
 requests-append [] ks = omega arith
 requests-append (request name body ∷ ls) ks = let h = requests-append ls ks in omega (arith, h)
-requests-append (reopen ∷ ls) ks = requests-append ls ks
+requests-append (control word ∷ ls) ks = requests-append ls ks
 requests-append (unread ∷ ls) ks = requests-append ls ks
 
 -- the turns of lines and more lines are those of the first, and then those of the others from the state that the first left
@@ -27,7 +26,7 @@ turns-append s (request name body ∷ ls) ks [] ns e = absurd (omega arith)
 turns-append s (request name body ∷ ls) ks (m ∷ ms) ns e =
     ap (λ ts. carried_out s name body m ∷ ts)
     (turns-append (after_turn s (carried_out s name body m)) ls ks ms ns (same_suc e))
-turns-append s (reopen ∷ ls) ks ms ns e =
+turns-append s (control reopen ∷ ls) ks ms ns e =
     ap (λ ts. opened_again ∷ ts) (turns-append s ls ks ms ns e)
 turns-append s (unread ∷ ls) ks ms ns e = ap (λ ts. turned_away ∷ ts) (turns-append s ls ks ms ns e)
 
@@ -35,6 +34,10 @@ turns-append s (unread ∷ ls) ks ms ns e = ap (λ ts. turned_away ∷ ts) (turn
 
 line_says : (front bytes : List ℕ) → 0 < length (front ++ (32 ∷ bytes))
 line_says front bytes = let e = length-append front (32 ∷ bytes) in omega (arith, e)
+
+-- so does what a word of control comes to
+obeyed_says : (word : Control) → 0 < length (obeyed word).text
+obeyed_says reopen = omega arith
 
 -- so do those of any lines
 pub turns_say : (s : State) (ls : List Asked) (ms : List ℕ) → AllSay (turns s ls ms)
@@ -44,7 +47,7 @@ turns_say s (request name body ∷ ls) (m ∷ ms) = (
   line_says _ _,
   turns_say (after_turn s (carried_out s name body m)) ls ms,
 )
-turns_say s (reopen ∷ ls) ms = (omega arith, turns_say s ls ms)
+turns_say s (control word ∷ ls) ms = (obeyed_says word, turns_say s ls ms)
 turns_say s (unread ∷ ls) ms = (omega arith, turns_say s ls ms)
 
 -- ---- what is left
@@ -73,9 +76,9 @@ turns-more s (request name body ∷ ls) ks (m ∷ ms) ns =
     let t = carried_out s name body m in
     let more = turns-more (after_turn s t) ls ks ms ns in
     (more.0, more.1, ap (λ ts. t ∷ ts) more.2)
-turns-more s (reopen ∷ ls) ks ms ns =
+turns-more s (control word ∷ ls) ks ms ns =
     let more = turns-more s ls ks ms ns in
-    (more.0, more.1, ap (λ ts. opened_again ∷ ts) more.2)
+    (more.0, more.1, ap (λ ts. obeyed word ∷ ts) more.2)
 turns-more s (unread ∷ ls) ks ms ns =
     let more = turns-more s ls ks ms ns in
     (more.0, more.1, ap (λ ts. turned_away ∷ ts) more.2)

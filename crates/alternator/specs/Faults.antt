@@ -1,5 +1,5 @@
 -- Why a run ends early.
-use Rattle.std.specs.Prelude.{◌≡◌, ℕ, List, Option}
+use Rattle.std.specs.Prelude.{ℕ, List, Option}
 use Rattle.alt_engine.specs.Recovery.{IsBadAt}
 use Rattle.alt_machine.specs.State.{State}
 use Rattle.alt_tables.specs.Images.{StandsFor}

@@ -1,5 +1,5 @@
 -- What was said and taken up to a moment of a run, and which turns were answered by then.
-use Rattle.std.specs.Prelude.{ℕ, List, [], ◌∷◌, Bool, if◌then◌else◌}
+use Rattle.std.specs.Prelude.{ℕ, List, Bool}
 use Rattle.alt_machine.specs.State.{State}
 use Rattle.alt_shell.specs.Log.{Log, until, said_in, taken, ended}
 use Rattle.alt_talks.specs.Turns.{Turn, answered}

@@ -1,10 +1,10 @@
 -- What a part of a run over lines says, takes and leaves, and what an opening does.
-use Rattle.std.specs.Prelude.{◌≡◌, ◌≤◌, ℕ, List, [], ◌++◌, length, Bool, false, true, None, map, ◌∷◌, ⊤}
+use Rattle.std.specs.Prelude.{◌≡◌, ◌≤◌, ℕ, List, [], ◌++◌, length, Bool, false, true, None, map}
 use Rattle.alt_base.specs.Prefix.{IsPrefix}
 use Rattle.alt_disk.specs.Disk.{DiskState}
 use Rattle.alt_lines.specs.Unread.{Unread, lines_now, lines_later}
 use Rattle.alt_machine.specs.State.{State}
-use Rattle.alt_shell.specs.Log.{Log, Grows, moments_of, until, taken, said_in, ended}
+use Rattle.alt_shell.specs.Log.{Log, Grows, moments_of, until, taken, said_in, ended, crosses}
 use Rattle.alt_tables.specs.Recovery.{WasLeft}
 use Rattle.alt_tables.specs.Images.{StandsFor}
 use Rattle.alt_talks.specs.Faults.{IsCausedBy}
@@ -14,6 +14,7 @@ use Rattle.alternator.specs.Moments.{said_by, taken_by, ended_by}
 use Rattle.alt_talks.specs.Stops.{Image, IsLeft, AtEach}
 use Rattle.alternator.specs.Turns.{Asked, turns, requests, asks, asked_of, out}
 use Rattle.alt_talks.specs.Runs.{OfStretch}
+use Rattle.alt_talks.specs.TalkStops.{LeavesNow}
 
 -- ---- lines that were at hand
 
@@ -45,10 +46,11 @@ pub record Breaks (fault : TableFault) (s : State) (ls : List Asked) (entries : 
   pub enough : wanted (turns s done told) ≡ None
   pub wants : IsCausedBy (wanted (turns s (done ++ begun) told)) fault
 
--- nothing was taken
+-- nothing was taken, and no connection came or went: what was said was said on standard output
 pub record Rests (entries : Log) : Type 0 where
   pub silent : taken entries ≡ []
   pub goes_on : ended entries ≡ false
+  pub inside : crosses entries ≡ false
 
 -- ---- turns of taking
 
@@ -96,6 +98,7 @@ pub record Goes (s : State) (u : Unread) (t : State) (v : Unread) (old new : Dis
   pub lines : (more : List ℕ) (ended : Bool) → asked_later u (taken entries ++ more) ended
       ≡ done ++ asked_later v more ended
   pub goes_on : ended entries ≡ false
+  pub inside : crosses entries ≡ false
   pub leaves : AtEach old new (LeftBy s u entries told)
 
 -- The rest of the input was taken, and all its lines were served.
@@ -103,12 +106,14 @@ pub record Ends (s : State) (u : Unread) (t : State) (old new : DiskState) (entr
     (told : List ℕ) : Type 0 where
   pub serves : Serves s (asked_later u (taken entries) true) t entries told
   pub at_end : ended entries ≡ true
+  pub inside : crosses entries ≡ false
   pub leaves : AtEach old new (LeftBy s u entries told)
 
 -- That broke off among the lines that were whole.
 pub record GoesSome (fault : TableFault) (s : State) (u : Unread) (old new : DiskState)
     (entries : Log) (told : List ℕ) : Type 0 where
   pub breaks : Breaks fault s (asked_later u (taken entries) (ended entries)) entries told
+  pub inside : crosses entries ≡ false
   pub leaves : AtEach old new (LeftBy s u entries told)
 
 -- more was taken, or the end was
@@ -126,21 +131,25 @@ LeftThen s entries told t image =
     (said_by t entries) image
 
 -- The whole input was taken, and each line of it was answered, each request at a moment of its own, no more and no fewer. What was
--- said is all of its Out. A stop at any moment leaves every write that was answered by then.
+-- said is all of its Out, on standard output, since no connection came or went. A stop at any moment leaves every write that was answered by
+-- then, and one at the end the state after all of them.
 pub record Answers (s : State) (old new : DiskState) (entries : Log)
     (told : List ℕ) : Type 0 where
   pub at_end : ended entries ≡ true
+  pub inside : crosses entries ≡ false
   pub said : said_in entries ≡ out s true (taken entries) told
   pub count : length told ≡ requests (asks true (taken entries))
   pub every : answered (turns s (asks true (taken entries)) told) (said_in entries)
       ≡ turns s (asks true (taken entries)) told
   pub enough : wanted (turns s (asks true (taken entries)) told) ≡ None
   pub leaves : AtEach old new (LeftThen s entries told)
+  pub last : LeavesNow new (after s (turns s (asks true (taken entries)) told))
 
 -- It broke off among the lines that were whole in what was taken. What was said is a prefix of their Out.
 pub record AnswersSome (fault : TableFault) (s : State) (old new : DiskState) (entries : Log)
     (told : List ℕ) : Type 0 where
   pub breaks : Breaks fault s (asks (ended entries) (taken entries)) entries told
+  pub inside : crosses entries ≡ false
   pub said : IsPrefix (said_in entries) (out s (ended entries) (taken entries) told)
   pub leaves : AtEach old new (LeftThen s entries told)
 

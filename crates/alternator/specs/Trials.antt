@@ -7,7 +7,7 @@ use Rattle.sha2.specs.Sha256.{sha256}
 use Rattle.alt_base.specs.Prefix.{IsPrefix}
 use Rattle.alt_disk.specs.Disk.{DiskState}
 use Rattle.alt_lines.specs.Trial.{trial_lines}
-use Rattle.alt_machine.specs.Outcomes.{state_after}
+use Rattle.alt_machine.specs.Outcomes.{state_after, last_state}
 use Rattle.alt_machine.specs.State.{State}
 use Rattle.alt_shell.specs.Log.{Log, until, said_in}
 use Rattle.alt_tables.specs.Images.{StandsFor}
@@ -20,6 +20,7 @@ use Rattle.alternator.specs.Turns.{Asked, asked_by, turns, requests}
 use Rattle.alt_talks.specs.Turns.{Turn, text_of, after, wanted}
 use Rattle.alt_tables.specs.declared.faults.TableFault.{TableFault}
 use Rattle.alternator.specs.declared.tally.Tally.{Tally}
+use Rattle.alt_talks.specs.TalkStops.{LeavesNow}
 
 -- ---- the requests, and what they come to
 
@@ -72,7 +73,8 @@ pub record IsTried (s : State) (t : Turn) (said : List ℕ) (image : Image) : Ty
 abbrev pub LeftOfTrial : State → Turn → Log → ℕ → Image → Type 0
 LeftOfTrial s turn entries t image = IsTried s turn (said_in (until t entries)) image
 
--- All requests were carried out, and then the four lines were said, and nothing else. Nothing was taken, and no moment was asked.
+-- All requests were carried out, and then the four lines were said, and nothing else. Nothing was taken, and no moment was asked. A stop at the
+-- end leaves the state after all of them.
 pub record Tries (s : State) (seed count : ℕ) (old new : DiskState) (entries : Log)
     (told : List ℕ) : Type 0 where
   pub said : said_in entries ≡ (as_turn s seed count).text
@@ -80,6 +82,7 @@ pub record Tries (s : State) (seed count : ℕ) (old new : DiskState) (entries :
   pub unasked : told ≡ []
   pub enough : (as_turn s seed count).lacks ≡ None
   pub leaves : AtEach old new (LeftOfTrial s (as_turn s seed count) entries)
+  pub last : LeavesNow new (last_state s (as_turn s seed count).atoms)
 
 -- That broke off: what was said is the front of the four lines. Where a request lacked a number, it is the first that one lacked.
 pub record TriesSome (fault : TableFault) (s : State) (seed count : ℕ) (old new : DiskState)

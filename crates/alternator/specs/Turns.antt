@@ -14,11 +14,14 @@ use Rattle.alt_talks.specs.Turns.{Turn, after_turn, text_of}
 
 -- ---- what lines ask
 
--- what a line asks for: a request, by its operation's name and its body; that the store is opened again; or nothing, since it is
--- too long to be read
+-- a word of control: that the store is opened again
+pub data Control : Type 0 where
+  reopen : Control
+
+-- what a line asks for: a request, by its operation's name and its body; a word of control; or nothing, since it is too long to be read
 pub data Asked : Type 0 where
   request : List ℕ → List ℕ → Asked
-  reopen : Asked
+  control : Control → Asked
   unread : Asked
 
 -- whether a byte is a space
@@ -29,7 +32,7 @@ is_space b = b == 32
 -- without a space is all name
 abbrev pub asked_by : List ℕ → Asked
 asked_by text =
-    if bytes_eq text (codes "@reopen") then reopen else request (before_first is_space text)
+    if bytes_eq text (codes "@reopen") then control reopen else request (before_first is_space text)
     (after_first is_space text)
 
 -- what a line asks for
@@ -49,7 +52,7 @@ asks ended bytes = map asked_of (lines_of longest_line ended bytes)
 abbrev pub requests : List Asked → ℕ
 requests [] = 0
 requests (request name body ∷ ls) = suc (requests ls)
-requests (reopen ∷ ls) = requests ls
+requests (control word ∷ ls) = requests ls
 requests (unread ∷ ls) = requests ls
 
 -- ---- what they come to
@@ -79,13 +82,17 @@ turned_away = record {
 abbrev pub opened_again : Turn
 opened_again = record { text = codes "ok\n"; atoms = []; lacks = None }
 
+-- what a word of control comes to
+abbrev pub obeyed : Control → Turn
+obeyed reopen = opened_again
+
 -- The turns of these lines, each request at the next moment, as long as there are moments.
 abbrev pub turns : State → List Asked → List ℕ → List Turn
 turns s [] moments = []
 turns s (request name body ∷ ls) [] = []
 turns s (request name body ∷ ls) (m ∷ ms) =
     carried_out s name body m ∷ turns (after_turn s (carried_out s name body m)) ls ms
-turns s (reopen ∷ ls) moments = opened_again ∷ turns s ls moments
+turns s (control word ∷ ls) moments = obeyed word ∷ turns s ls moments
 turns s (unread ∷ ls) moments = turned_away ∷ turns s ls moments
 
 -- ---- what they come to together

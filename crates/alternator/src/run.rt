@@ -12,7 +12,7 @@ ghost use Rattle.alternator.specs.Rereading.{ReadAgain};
 ghost use Rattle.alt_talks.specs.Runs.{Stretch, Passes};
 ghost use Rattle.alternator.specs.Runs.{Answers, AnswersSome, IsOpening, Opened};
 ghost use Rattle.alt_talks.specs.TalkRules.{rules};
-ghost use Rattle.alt_talks.specs.TalkStops.{ServedOn, ServedSomeOn};
+ghost use Rattle.alt_talks.specs.TalkStops.{LeavesNow, ServedOn, ServedSomeOn};
 ghost use Rattle.alternator.specs.Words.{job_of, bytes_of, IsServable, IsOverStore};
 ghost use Rattle.alternator.specs.declared.ending.Ending.{Ending as RunEnding};
 ghost use Rattle.alternator.specs.declared.ending.Ending.TheVariants.{Whole};
@@ -104,7 +104,7 @@ fn serve<S: Shell>(
     requires quiet { talks (S.state shell.old).beside ≡ false }
     ensures served { (s : State) → Stands (S.state shell.old) tables.old s → MatchResult result
         (λ _. Stretch (S.state shell.old) (S.state shell.new)
-        (λ a b es ms. (t : State) × ServedOn rules per count s t a b es ms))
+        (λ a b es ms. (t : State) × ServedOn rules per count s t a b es ms × LeavesNow b t))
         (λ f. Stretch (S.state shell.old) (S.state shell.new)
         (ServedSomeOn rules per count f s)) }
     ensures cause { IsErrOf result TableFault.Failed

@@ -14,7 +14,7 @@ ghost use Rattle.alt_tables.specs.Stands.{AreReady, Stands};
 ghost use Rattle.alternator.specs.Rereading.{RereadsAtHand, RereadsOn};
 ghost use Rattle.alt_talks.specs.Runs.{Stretch, Passes, Leads};
 ghost use Rattle.alternator.specs.Runs.{ServesAtHand, BreaksAtHand, HandsOut, GoesOrEnds, GoesSome, asked_now};
-ghost use Rattle.alternator.specs.Turns.{request, reopen as reopened, unread as no_request, asked_of};
+ghost use Rattle.alternator.specs.Turns.{request, control, reopen as reopened, unread as no_request, asked_of};
 
 use crate::lines::{is_reopen, parts};
 use crate::open::open;
@@ -81,14 +81,14 @@ fn reopen<S: Shell>(alloc: Global, tables: &mut Tables, shell: &mut S) -> Result
     requires quiet { talks (S.state shell.old).beside ≡ false }
     ensures served { (s : State) → Stands (S.state shell.old) tables.old s → MatchResult result
         (λ _. Leads (S.state shell.old) (S.state shell.new) tables.new
-        (ServesAtHand s (reopened ∷ [])))
+        (ServesAtHand s (control reopened ∷ [])))
         (λ f. Stretch (S.state shell.old) (S.state shell.new)
-        (BreaksAtHand f s (reopened ∷ []))) }
+        (BreaksAtHand f s (control reopened ∷ []))) }
     // The tables are those of the files, whatever was in hand before.
     ensures opened { OnOk result (IsTrusted (S.state shell.old) → (r : State)
         → StandsFor (S.state shell.old).file r → Stands (S.state shell.new) tables.new r) }
     // And the files stand for a state, as they read on any disk that tells them.
-    ensures reread { OnOk result (RereadsAtHand (reopened ∷ [])
+    ensures reread { OnOk result (RereadsAtHand (control reopened ∷ [])
         (S.state shell.old) (S.state shell.new)) }
     ensures cause { IsErrOf result TableFault.Failed
         → Rose (S.state shell.old).faults (S.state shell.new).faults }

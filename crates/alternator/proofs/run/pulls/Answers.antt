@@ -11,6 +11,7 @@ use Rattle.alternator.proofs.Pulling.{fresh, goes_none, goes_then, goes_ends, go
 use Rattle.alternator.proofs.Rereading.{some_none, some_then, rest_then, read_again}
 use Rattle.alt_talks.proofs.Stretching.{stretch_as}
 use Rattle.alternator.proofs.run.pulls.Goals as goal
+use Rattle.alt_talks.specs.TalkStops.{LeavesNow}
 
 pub pulls-init : goal.pulls-init
 pulls-init g c =
@@ -54,8 +55,8 @@ returns-in-Ok-false-clause-answered g c = λ s stands.
     (λ t. GoesOrEnds more front.to (unread c.pulls.lines) t (unread c.pull.new.lines)))
     c.in-Ok-false.field-0-test (c.in-Ok-false.ensures.went front.to front.stands) in
     stretch_as (state c.args.shell.now) (state c.pull.new.shell)
-    {P = λ old new es ms. (t : State) × Ends s fresh t old new es ms} {Q = Answers s}
-    (λ es ms within x. answers_all _ _ s x.0 es ms x.1)
+    {P = λ old new es ms. (t : State) × Ends s fresh t old new es ms × LeavesNow new t}
+    {Q = Answers s} (λ es ms within x. answers_all _ _ s x.0 es ms x.1 x.2)
     (goes_ends (state c.args.shell.now) (state c.pulls.shell)
     (state c.pull.new.shell) c.pulls.tables s fresh (unread c.pulls.lines) front
     c.pull.new.tables went)

@@ -1,4 +1,4 @@
-use Rattle.std.proofs.Common.{[], false}
+use Rattle.std.proofs.Common.{[], false, refl}
 use Rattle.alternator.specs.Turns.{asks}
 use Rattle.alternator.specs.Runs.{AnswersSome, LeftThen}
 use Rattle.alt_tables.specs.declared.faults.TableFault.TheVariants.{NoMemory}
@@ -16,6 +16,7 @@ returns-in_default-clause-answered g c = λ s stands.
     stretch_none here {P = AnswersSome NoMemory s}
     (answers_some here here NoMemory s _ _ (record {
       breaks = breaks_none NoMemory tt s _;
+      inside = refl;
       leaves = leaves-here here (LeftThen s [] []) (λ trusted t image is_image.
           left-nothing s (asks false []) [] image
           (stands_left here c.args.tables.now s stands image is_image));

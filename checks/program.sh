@@ -133,6 +133,8 @@ for program in ./alternator crates/alternator/out/alternator; do
     closes 'wrong words' 1 tabled tabled '' '' 0 replay 65535 4
   done
 done
+expect 'a word that is no text' 1 'alternator: words' ./alternator "$store" 0 $'\xff'
+expect 'a folder whose name is no text' 1 'alternator: words' ./alternator $'/\xff' 0 init
 
 # ---- trials, each over a store of its own
 

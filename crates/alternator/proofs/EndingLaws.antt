@@ -1,37 +1,40 @@
 -- A note changes nothing that a run has done, and what each ending tells of completeness.
-use Rattle.std.proofs.Common.{◌≡◌, ◌⊎◌, inl, inr, ⊎_elim, ℕ, List, [], ◌++◌, Bool, false, Option, Some, None, refl, sym, ap, subst, ◌∙◌, arith}
+use Rattle.std.proofs.Common.{◌≡◌, ◌⊎◌, inl, inr, ⊎_elim, ℕ, List, [], ◌++◌, Bool, false, Option, Some, None, refl, sym, ap, subst, ◌∙◌, arith, append-nil, true, IsTrue, ◌&&◌}
 use Rattle.alt_base.specs.Counts.{Rose}
 use Rattle.alt_disk.specs.Fates.{Fates, Fits}
 use Rattle.alt_disk.specs.Disk.{DiskState, IsTrusted}
 use Rattle.alt_disk.proofs.Runs.{tells_of}
 use Rattle.alt_machine.specs.State.{State}
 use Rattle.alt_shell.specs.Calls.{Aside}
-use Rattle.alt_shell.specs.Log.{Log, Grows, moments_of}
+use Rattle.alt_shell.specs.Log.{Log, Grows, moments_of, taken}
 use Rattle.alt_shell.proofs.Telling.{Grows-then}
-use Rattle.alternator.specs.Connections.{ServedSome, turns_of}
-use Rattle.alternator.specs.Endings.{status_of, HasDone, HasMade, HasRun, HasNumbers, Makes, BreaksOff, WasDamaged, IsReadable, Done, Broken, LacksNumber}
+use Rattle.alt_talks.specs.Connections.{ServedSome, turns_of}
+use Rattle.alternator.specs.Endings.{status_of, HasDone, HasMade, HasRun, HasNumbers, Makes, BreaksOff, WasDamaged, IsReadable, Done, Broken, LacksNumber, SaysNothing, SaysSome}
 use Rattle.alternator.specs.Runs.{Answers, AnswersSome, LeftThen, IsOpening, Opened}
-use Rattle.alternator.specs.Stretches.{DoesSome}
-use Rattle.alternator.specs.TalkRules.{rules}
-use Rattle.alternator.specs.TalkStops.{LeftAmong, ServedOn, ServedSomeOn}
-use Rattle.alternator.specs.Talks.{Rules, Turn}
+use Rattle.alt_talks.specs.Stretches.{DoesSome}
+use Rattle.alt_talks.specs.TalkRules.{rules}
+use Rattle.alt_talks.specs.TalkStops.{LeftAmong, ServedOn, ServedSomeOn, LeavesNow}
+use Rattle.alt_talks.specs.Talks.{Rules, Turn}
 use Rattle.alternator.specs.Trials.{Tries, TriesSome, LeftOfTrial, as_turn}
 use Rattle.alternator.specs.Words.{IsOverStore}
 use Rattle.alt_tables.specs.Recovery.{WasLeft}
-use Rattle.alternator.specs.declared.serve.RunFault.{RunFault}
-use Rattle.alternator.specs.declared.serve.RunFault.TheVariants as why
+use Rattle.alt_tables.specs.declared.faults.TableFault.{TableFault}
+use Rattle.alt_tables.specs.declared.faults.TableFault.TheVariants as why
 use Rattle.alternator.specs.declared.ending.Ending.{Ending}
 use Rattle.alternator.specs.declared.ending.Ending.TheVariants.{Whole, Words, NotEmpty, Damaged, BadRow, Device, Memory, Spent}
 use Rattle.alternator.specs.declared.words.Job.{Job}
 use Rattle.alternator.specs.declared.words.Job.TheVariants.{Init, Replay, Serve, Trial}
-use Rattle.alternator.proofs.Serving.{stretch_quiet, stretch_as}
+use Rattle.alt_talks.proofs.Stretching.{stretch_quiet, stretch_as}
 use Rattle.alternator.proofs.Initing.{quiet_behind}
-use Rattle.alternator.proofs.Stopping.{leaves-before-aside}
+use Rattle.alt_talks.proofs.Stopping.{leaves-before-aside}
+use Rattle.alt_talks.specs.Turns.{after}
+use Rattle.alternator.specs.Turns.{turns, asks}
+use Rattle.alt_machine.specs.Outcomes.{last_state}
 
 -- ---- what was done, whatever the cause was
 
 -- a run that was broken off is one that was broken off for want of memory
-pub some_answers : (a b : DiskState) (fault : RunFault) (s : State) (es : Log) (ms : List ℕ)
+pub some_answers : (a b : DiskState) (fault : TableFault) (s : State) (es : Log) (ms : List ℕ)
     → AnswersSome fault s a b es ms → AnswersSome why.NoMemory s a b es ms
 some_answers a b fault s es ms x = record {
   breaks = record {
@@ -46,12 +49,13 @@ some_answers a b fault s es ms x = record {
     enough = x.breaks.enough;
     wants = tt;
   };
+  inside = x.inside;
   said = x.said;
   leaves = x.leaves;
 }
 
 -- so are turns that broke off
-does_some : (r : Rules) (fault : RunFault) (s : State) (m : Bool) (ts : List Turn) (es : Log)
+does_some : (r : Rules) (fault : TableFault) (s : State) (m : Bool) (ts : List Turn) (es : Log)
     (ms : List ℕ) → DoesSome r fault s m ts es ms → DoesSome r why.NoMemory s m ts es ms
 does_some r fault s m ts es ms x =
     record {
@@ -65,7 +69,7 @@ does_some r fault s m ts es ms x =
     }
 
 -- and connections
-some_served : (r : Rules) (per count : ℕ) (fault : RunFault) (s : State) (es : Log) (ms : List ℕ)
+some_served : (r : Rules) (per count : ℕ) (fault : TableFault) (s : State) (es : Log) (ms : List ℕ)
     → ServedSome r per count fault s es ms → ServedSome r per count why.NoMemory s es ms
 some_served r per count fault s es ms x = record {
   all = x.all;
@@ -82,6 +86,11 @@ some_served r per count fault s es ms x = record {
       record {
         some = does_some r fault x.halfway _ (turns_of r per one.0) _ _ one.2.some;
         idle = one.2.idle;
+        before = one.2.before;
+        at = one.2.at;
+        clocked = one.2.clocked;
+        hung = one.2.hung;
+        inside = one.2.inside;
       },
     )
   ];
@@ -89,7 +98,7 @@ some_served r per count fault s es ms x = record {
 }
 
 -- and a trial
-some_tries : (a b : DiskState) (fault : RunFault) (s : State) (seed count : ℕ) (es : Log) (ms : List ℕ)
+some_tries : (a b : DiskState) (fault : TableFault) (s : State) (seed count : ℕ) (es : Log) (ms : List ℕ)
     → TriesSome fault s seed count a b es ms → TriesSome why.NoMemory s seed count a b es ms
 some_tries a b fault s seed count es ms x = record {
   said = x.said;
@@ -99,7 +108,7 @@ some_tries a b fault s seed count es ms x = record {
   leaves = x.leaves;
 }
 
-broken_memory : (job : Job) (fault : RunFault) (s : State) (a b : DiskState)
+broken_memory : (job : Job) (fault : TableFault) (s : State) (a b : DiskState)
     → Broken fault job s a b → Broken why.NoMemory job s a b
 unfolding some_served
 broken_memory Init fault s a b x = absurd x
@@ -112,7 +121,7 @@ broken_memory (Trial seed count) fault s a b x = stretch_as a b
     {P = TriesSome fault s seed count} {Q = TriesSome why.NoMemory s seed count}
     (λ es ms within y. some_tries a b fault s seed count es ms y) x
 
-opened_memory : (a b : DiskState) (fault : RunFault) (job : Job) → Opened a b (Broken fault job)
+opened_memory : (a b : DiskState) (fault : TableFault) (job : Job) → Opened a b (Broken fault job)
     → Opened a b (Broken why.NoMemory job)
 opened_memory a b fault job h = record {
   from = h.from;
@@ -127,7 +136,7 @@ honest_of : (s : DiskState) → IsTrusted s → s.honest ≡ false → ⊥
 honest_of s trusted e = grind (arith, trusted, e)
 
 -- on such a disk damage is found in the opening alone
-damaged_early : (fault : RunFault) (a b : DiskState) → WasDamaged fault a b → IsTrusted a
+damaged_early : (fault : TableFault) (a b : DiskState) → WasDamaged fault a b → IsTrusted a
     → IsOpening a b
 damaged_early fault a b h trusted = ⊎_elim
     (λ x. x.0)
@@ -182,21 +191,33 @@ as_memory a b (Some (Trial seed count)) ending n h = run_memory a b (Trial seed 
 
 module _ (b c : DiskState) (g : Grows b.beside c.beside [])
     (m : moments_of c.beside ≡ moments_of b.beside) (aside : Aside b c) where
+  -- what a stop now leaves stands for the same state
+  last_behind : (s : State) → LeavesNow b s → LeavesNow c s
+  last_behind s now trusted image is_image =
+      now (subst (λ (v : Bool). IsTrue v) (λ i. aside.keeps.tells i && aside.keeps.honest i) trusted)
+      image
+      (λ f. subst (λ (fates : Fates). Fits fates (image f))
+      (ap (λ (t : ℕ). c.fates t f) aside.moment ∙ aside.keeps.past b.moment f (omega arith))
+      (is_image f))
+
   all_behind : (a : DiskState) (s : State) (es : Log) (ms : List ℕ) → Answers s a b es ms
       → Answers s a c es ms
   all_behind a s es ms x = record {
     at_end = x.at_end;
+    inside = x.inside;
     said = x.said;
     count = x.count;
     every = x.every;
     enough = x.enough;
     leaves = leaves-before-aside a b c (LeftThen s es ms) aside x.leaves;
+    last = last_behind (after s (turns s (asks true (taken es)) ms)) x.last;
   }
 
-  some_behind : (a : DiskState) (fault : RunFault) (s : State) (es : Log) (ms : List ℕ)
+  some_behind : (a : DiskState) (fault : TableFault) (s : State) (es : Log) (ms : List ℕ)
       → AnswersSome fault s a b es ms → AnswersSome fault s a c es ms
   some_behind a fault s es ms x = record {
     breaks = x.breaks;
+    inside = x.inside;
     said = x.said;
     leaves = leaves-before-aside a b c (LeftThen s es ms) aside x.leaves;
   }
@@ -209,9 +230,10 @@ module _ (b c : DiskState) (g : Grows b.beside c.beside [])
     unasked = x.unasked;
     enough = x.enough;
     leaves = leaves-before-aside a b c (LeftOfTrial s (as_turn s seed count) es) aside x.leaves;
+    last = last_behind (last_state s (as_turn s seed count).atoms) x.last;
   }
 
-  tries_some_behind : (a : DiskState) (fault : RunFault) (s : State) (seed count : ℕ) (es : Log)
+  tries_some_behind : (a : DiskState) (fault : TableFault) (s : State) (seed count : ℕ) (es : Log)
       (ms : List ℕ) → TriesSome fault s seed count a b es ms → TriesSome fault s seed count a c es ms
   tries_some_behind a fault s seed count es ms x = record {
     said = x.said;
@@ -225,9 +247,31 @@ module _ (b c : DiskState) (g : Grows b.beside c.beside [])
   makes_behind a es ms x = record {
     said = x.said;
     untaken = x.untaken;
+    inside = x.inside;
     unasked = x.unasked;
     none = x.none;
     stands = λ trusted image is_image. x.stands trusted image
+        (λ f. subst (λ (fates : Fates). Fits fates (image f))
+        (ap (λ (t : ℕ). c.fates t f) aside.moment ∙ aside.keeps.past b.moment f (omega arith))
+        (is_image f));
+  }
+
+  silent_behind : (a : DiskState) → SaysNothing a b → SaysNothing a c
+  silent_behind a x = record {
+    silent = Grows-then a.beside b.beside c.beside [] [] x.silent g;
+    unasked = m ∙ x.unasked;
+  }
+
+  said_behind : (a : DiskState) → SaysSome a b → SaysSome a c
+  said_behind a x = record {
+    entries = x.entries;
+    grows = subst (λ (es : Log). Grows a.beside c.beside es) (append-nil x.entries)
+        (Grows-then a.beside b.beside c.beside x.entries [] x.grows g);
+    said = x.said;
+    untaken = x.untaken;
+    inside = x.inside;
+    unasked = m ∙ x.unasked;
+    stands = λ more trusted image is_image. x.stands more trusted image
         (λ f. subst (λ (fates : Fates). Fits fates (image f))
         (ap (λ (t : ℕ). c.fates t f) aside.moment ∙ aside.keeps.past b.moment f (omega arith))
         (is_image f));
@@ -244,19 +288,20 @@ module _ (b c : DiskState) (g : Grows b.beside c.beside [])
   done_behind Init s o x = absurd x
   done_behind Replay s o x = stretch_quiet o b c {P = Answers s} (all_behind o s) x aside g m
   done_behind (Serve per count) s o x = stretch_quiet o b c
-      {P = λ old new es ms. (t : State) × ServedOn rules per count s t old new es ms}
+      {P = λ old new es ms. (t : State) × ServedOn rules per count s t old new es ms × LeavesNow new t}
       (λ es ms y. (
         y.0,
         (
           y.1.0,
           leaves-before-aside o b c (LeftAmong rules per s y.1.0.all) aside y.1.1,
         ),
+        last_behind y.0 y.2,
       ))
       x aside g m
   done_behind (Trial seed count) s o x = stretch_quiet o b c {P = Tries s seed count}
       (tries_behind o s seed count) x aside g m
 
-  broken_behind : (fault : RunFault) (job : Job) (s : State) (o : DiskState)
+  broken_behind : (fault : TableFault) (job : Job) (s : State) (o : DiskState)
       → Broken fault job s o b → Broken fault job s o c
   broken_behind fault Init s o x = absurd x
   broken_behind fault Replay s o x =
@@ -281,14 +326,14 @@ module _ (b c : DiskState) (g : Grows b.beside c.beside [])
     behind = law h.from h.opened h.behind;
   }
 
-  breaks_behind : (a : DiskState) (fault : RunFault) (job : Job) → BreaksOff fault job a b
+  breaks_behind : (a : DiskState) (fault : TableFault) (job : Job) → BreaksOff fault job a b
       → BreaksOff fault job a c
   breaks_behind a fault job h trusted = ⊎_elim
       (λ x. inl (opening_behind a x))
       (λ x. inr (opened_behind a (Broken fault job) (broken_behind fault job) x))
       (h trusted)
 
-  damaged_behind : (a : DiskState) (fault : RunFault) → WasDamaged fault a b → WasDamaged fault a c
+  damaged_behind : (a : DiskState) (fault : TableFault) → WasDamaged fault a b → WasDamaged fault a c
   damaged_behind a fault h tells = ⊎_elim
       (λ x. inl (opening_behind a x.0, x.1))
       (λ x. inr x)
@@ -333,12 +378,17 @@ module _ (b c : DiskState) (g : Grows b.beside c.beside [])
   still_done a None (Spent number) h = absurd h
   still_done a (Some Init) Whole h = stretch_quiet a b c {P = Makes} (makes_behind a) h aside g m
   still_done a (Some Init) Words h = absurd h
-  still_done a (Some Init) (NotEmpty first) h =
-      (m ∙ h.0, λ tells. ((h.1 tells).0, quiet_behind a b c aside (h.1 tells).1))
+  still_done a (Some Init) (NotEmpty first) h = (
+    silent_behind a h.0,
+    λ tells. ((h.1 tells).0, quiet_behind a b c aside (h.1 tells).1),
+  )
   still_done a (Some Init) (Damaged file at) h = absurd h
   still_done a (Some Init) (BadRow family key) h = absurd h
-  still_done a (Some Init) Device h = (m ∙ h.0, subst (Rose a.faults) (sym aside.faults) h.1)
-  still_done a (Some Init) Memory h = m ∙ h
+  still_done a (Some Init) Device h = (
+    said_behind a h.0,
+    subst (Rose a.faults) (sym aside.faults) h.1,
+  )
+  still_done a (Some Init) Memory h = silent_behind a h
   still_done a (Some Init) (Spent number) h = absurd h
   still_done a (Some Replay) ending h = run_behind a Replay ending h
   still_done a (Some (Serve per count)) ending h = run_behind a (Serve per count) ending h

@@ -9,12 +9,14 @@ use Rattle.alt_machine.specs.State.{State}
 use Rattle.alt_tables.specs.Stands.{Stands}
 use Rattle.alt_tables.specs.declared.tables.Tables.{Tables}
 use Rattle.alternator.specs.Rereading.{RereadsAtHand}
-use Rattle.alternator.specs.Runs.{Stretch, Leads, ServesAtHand, BreaksAtHand, HandsOut, asked_now, asked_later}
+use Rattle.alt_talks.specs.Runs.{Stretch, Leads}
+use Rattle.alternator.specs.Runs.{ServesAtHand, BreaksAtHand, HandsOut, asked_now, asked_later}
 use Rattle.alternator.specs.Turns.{Asked, asked_of}
-use Rattle.alternator.specs.declared.serve.RunFault.{RunFault}
-use Rattle.alternator.specs.declared.serve.RunFault.TheVariants.{NoMemory}
+use Rattle.alt_tables.specs.declared.faults.TableFault.{TableFault}
+use Rattle.alt_tables.specs.declared.faults.TableFault.TheVariants.{NoMemory}
 use Rattle.alternator.proofs.Rereading.{at_hand_none, at_hand_then}
-use Rattle.alternator.proofs.Serving.{stretch_none, stretch_then, stretch_as, hand_none, hand_then, hand_break, hand_breaks_more, hand_stops}
+use Rattle.alt_talks.proofs.Stretching.{stretch_none, stretch_then, stretch_as}
+use Rattle.alternator.proofs.Serving.{hand_none, hand_then, hand_break, hand_breaks_more, hand_stops}
 
 -- what is known of a value where there is one
 pub at_some : {X : Type 0} (o : Option X) (x : X) (P : X → Type 0) → o ≡ Some x → IfSome o P → P x
@@ -92,7 +94,7 @@ module _ (a : DiskState) (t0 : Tables) (b : DiskState) (t1 : Tables) (u v w : Un
       ∙ map-append asked_of p.done (line ∷ lines_now w)
 
   -- the next line broke off
-  pub hands_break : (c : DiskState) (fault : RunFault) (s : State) (stands : Stands a t0 s)
+  pub hands_break : (c : DiskState) (fault : TableFault) (s : State) (stands : Stands a t0 s)
       → ((r : State) → Stands b t1 r → Stretch b c (BreaksAtHand fault r (asked_of line ∷ [])))
       → Stretch a c (BreaksAtHand fault s (asked_now u))
   hands_break c fault s stands go =

@@ -1,6 +1,5 @@
 -- Numbers that stop at the end of 64 bits.
-use Rattle.std.proofs.Common.{◌≡◌, ◌≤◌, ◌+◌, ◌-◌, ◌*◌, ◌^◌, min, ℕ, List, inl, inr, [], ◌∷◌, true, false, cond, Option, Some, None, option_map, refl, sym, ap, ◌∙◌, arith}
-use Rattle.std.proofs.Common.{◌<◌, suc, length, drop, get_or, drop-cons, add-one}
+use Rattle.std.proofs.Common.{◌≡◌, ◌≤◌, ◌+◌, ◌-◌, ◌*◌, ◌^◌, min, ℕ, List, inl, inr, [], ◌∷◌, true, false, cond, Option, Some, None, option_map, refl, sym, ap, ◌∙◌, arith, ◌<◌, suc, length, drop, get_or, drop-cons, add-one}
 use Rattle.std.proofs.lemmas.List.{drop_all}
 use Rattle.std.specs.Char.{is_ascii_digit}
 use Rattle.std.specs.Prelude.{option_and_then, nat_le, ◌&&◌, Bool}

@@ -6,15 +6,16 @@ use Rattle.alt_machine.specs.State.{State}
 use Rattle.alt_machine.specs.Wanted.{Lack}
 use Rattle.alt_shell.specs.Log.{Log, Grows, moments_of}
 use Rattle.alt_shell.proofs.Telling.{Grows-nil}
-use Rattle.alternator.specs.Faults.{IsCausedBy, IsUnreadable, opening_fault}
-use Rattle.alternator.specs.declared.serve.RunFault.{RunFault}
-use Rattle.alternator.specs.declared.serve.RunFault.TheVariants.{Failed, NoMemory, Spent, Damaged, BadRow}
+use Rattle.alt_talks.specs.Faults.{IsCausedBy}
+use Rattle.alternator.specs.Faults.{IsUnreadable, opening_fault}
+use Rattle.alt_tables.specs.declared.faults.TableFault.{TableFault}
+use Rattle.alt_tables.specs.declared.faults.TableFault.TheVariants.{Failed, NoMemory, Spent, Damaged, BadRow}
 use Rattle.alternator.specs.Endings.{HasRun, Done, Broken, BreaksOff, WasDamaged, IsReadable}
 use Rattle.alternator.specs.declared.ending.Ending.TheVariants as ending
 use Rattle.alternator.specs.Runs.{IsOpening, Opened}
 use Rattle.alternator.specs.declared.words.Job.{Job}
 use Rattle.alternator.specs.declared.words.Job.TheVariants.{Init, Replay, Serve, Trial}
-use Rattle.alternator.specs.Stops.{AtEach}
+use Rattle.alt_talks.specs.Stops.{AtEach}
 use Rattle.alt_tables.specs.Stands.{Stands}
 use Rattle.alt_tables.specs.Images.{StandsFor}
 use Rattle.alt_tables.specs.Recovery.{IsExplained, HasNoState, WasLeft}
@@ -57,7 +58,7 @@ unreadable_of files opening.Failed is none = tt
 unreadable_of files opening.NoMemory is none = tt
 
 -- files that stand for a state are opened, unless the device fails or memory is refused
-pub readable_cause : (fault : RunFault) (files : ℕ → Option (List ℕ)) (s : State)
+pub readable_cause : (fault : TableFault) (files : ℕ → Option (List ℕ)) (s : State)
     → StandsFor files s → IsUnreadable files fault → IsCausedBy None fault
 readable_cause Failed files s stands h = tt
 readable_cause NoMemory files s stands h = tt
@@ -67,7 +68,7 @@ readable_cause (BadRow family key) files s stands h = h.1 s stands
 
 -- however what was done behind the opening ended
 pub opened_result : (a b c : DiskState) (s : State) (job : Job) → StandsFor a.file s → Goes a b
-    → AtEach a b (WasLeft a) → (result : Result Unit RunFault)
+    → AtEach a b (WasLeft a) → (result : Result Unit TableFault)
     → MatchResult result (λ _. Done job s b c) (λ f. Broken f job s b c)
     → MatchResult result (λ _. Opened a c (Done job))
     (λ f. (IsOpening a c × IsUnreadable a.file f) ⊎ Opened a c (Broken f job))
@@ -77,7 +78,7 @@ opened_result a b c s job stood goes leaves (Err fault) h =
     inr (opened_then a b c (Broken fault job) s stood goes leaves h)
 
 -- numbers are never spent in the opening
-pub spent_done : (a b : DiskState) (job : Job) (fault : RunFault) (number : ℕ)
+pub spent_done : (a b : DiskState) (job : Job) (fault : TableFault) (number : ℕ)
     → fault ≡ Spent number
     → (IsTrue a.tells → (IsOpening a b × IsUnreadable a.file fault) ⊎ IsReadable a.file)
     → (IsTrusted a → (IsOpening a b × IsUnreadable a.file fault) ⊎ Opened a b (Broken fault job))
@@ -89,21 +90,21 @@ spent_done a b job fault number same readable answered = (
       (readable tells),
   λ trusted. ⊎_elim
       (λ x. absurd (subst (IsUnreadable a.file) same x.1))
-      (λ x. subst (λ (f : RunFault). Opened a b (Broken f job)) same x)
+      (λ x. subst (λ (f : TableFault). Opened a b (Broken f job)) same x)
       (answered trusted),
 )
 
 -- a run that was broken off by this fault, in the opening or behind it
-pub breaks_done : (a b : DiskState) (job : Job) (fault why : RunFault) → fault ≡ why
+pub breaks_done : (a b : DiskState) (job : Job) (fault why : TableFault) → fault ≡ why
     → (IsTrusted a → (IsOpening a b × IsUnreadable a.file fault) ⊎ Opened a b (Broken fault job))
     → BreaksOff why job a b
 breaks_done a b job fault why same answered trusted = ⊎_elim
     (λ x. inl x.0)
-    (λ x. inr (subst (λ (f : RunFault). Opened a b (Broken f job)) same x))
+    (λ x. inr (subst (λ (f : TableFault). Opened a b (Broken f job)) same x))
     (answered trusted)
 
 -- what has no cause among requests breaks off no run behind an opening
-broken_well : (job : Job) (fault : RunFault) (s : State) (b c : DiskState)
+broken_well : (job : Job) (fault : TableFault) (s : State) (b c : DiskState)
     → ((lack : Option Lack) → IsCausedBy lack fault → ⊥) → Broken fault job s b c → ⊥
 broken_well Init fault s b c never h = h
 broken_well Replay fault s b c never h = never _ h.holds.breaks.wants
@@ -117,7 +118,7 @@ trusted_by : (a : DiskState) → IsTrue a.tells → a.honest ≡ true → IsTrus
 trusted_by a tells honest = grind (arith, tells, honest)
 
 -- a run that ended for damage
-pub damaged_done : (a b : DiskState) (job : Job) (fault why : RunFault) → fault ≡ why
+pub damaged_done : (a b : DiskState) (job : Job) (fault why : TableFault) → fault ≡ why
     → ((lack : Option Lack) → IsCausedBy lack why → ⊥)
     → (IsTrue a.tells → (IsOpening a b × IsUnreadable a.file fault) ⊎ IsReadable a.file)
     → (IsTrusted a → (IsOpening a b × IsUnreadable a.file fault) ⊎ Opened a b (Broken fault job))
@@ -134,5 +135,5 @@ damaged_done a b job fault why same never readable answered tells =
     by_honest stood false e = inr (stood, e)
     by_honest stood true e = ⊎_elim opening
         (λ o. absurd (broken_well job why o.from o.opened b never
-        (subst (λ (f : RunFault). Broken f job o.from o.opened b) same o.behind)))
+        (subst (λ (f : TableFault). Broken f job o.from o.opened b) same o.behind)))
         (answered (trusted_by a tells e))

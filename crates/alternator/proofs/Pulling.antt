@@ -9,21 +9,26 @@ use Rattle.alt_lines.specs.Unread.{Unread}
 use Rattle.alt_machine.specs.State.{State}
 use Rattle.alt_shell.specs.Calls.{Adds, Keeps, ShellCall, Untold}
 use Rattle.alt_shell.proofs.Keeping.{keeps-none}
-use Rattle.alt_shell.specs.Log.{Log, Grows, Tells, moments_of, until, entry, told_count, event_of, took, take_failed, takes_failed, takes_missed, is_end, taken, said_in, ended}
+use Rattle.alt_shell.specs.Log.{Log, Grows, Tells, moments_of, until, entry, told_count, event_of, took, take_failed, takes_failed, takes_missed, is_end, taken, said_in, ended, crosses}
 use Rattle.alt_tables.specs.Stands.{Stands}
 use Rattle.alt_tables.specs.declared.tables.Tables.{Tables}
-use Rattle.alternator.specs.Moments.{answered}
-use Rattle.alternator.specs.Runs.{OfStretch, Stretch, Leads, Rests, Serves, Breaks, ServesAtHand, BreaksAtHand, HandsOut, Goes, Ends, GoesOrEnds, GoesSome, LeftBy, Answers, AnswersSome, asked_now, asked_later}
-use Rattle.alternator.specs.Stops.{Image, IsLeft, AtEach, LeftAtHand, AreWithin}
+use Rattle.alt_talks.specs.Turns.{answered, Turn, text_of, after}
+use Rattle.alt_talks.specs.Runs.{OfStretch, Stretch, Leads}
+use Rattle.alternator.specs.Runs.{Rests, Serves, Breaks, ServesAtHand, BreaksAtHand, HandsOut, Goes, Ends, GoesOrEnds, GoesSome, LeftBy, Answers, AnswersSome, asked_now, asked_later, LeftAtHand}
+use Rattle.alt_talks.specs.Stops.{Image, IsLeft, AtEach, AreWithin}
 use Rattle.alt_tables.specs.Images.{StandsFor}
 use Rattle.alt_tables.proofs.Left.{stands_left}
-use Rattle.alternator.proofs.Stopping.{Meet, IsPrefix-longer, until-append, until-before, until-behind, said-by, none-shorter, taken-until, ended-until, within-wider, turns-more, left-more, left-behind, left-nothing-said, spans_two, keeps-spans, trusts-kept}
-use Rattle.alternator.specs.declared.serve.RunFault.{RunFault}
-use Rattle.alternator.specs.declared.serve.RunFault.TheVariants.{Failed, NoMemory}
-use Rattle.alternator.specs.Turns.{Asked, Turn, turns, text_of, after, asks, asked_of, longest_line}
+use Rattle.alt_talks.proofs.Stopping.{Meet, IsPrefix-longer, until-append, until-before, until-behind, said-by, none-shorter, taken-until, ended-until, within-wider, left-more, left-behind, spans_two, keeps-spans, trusts-kept}
+use Rattle.alternator.proofs.TurnLaws.{turns-more, left-nothing-said, turns-append}
+use Rattle.alt_tables.specs.declared.faults.TableFault.{TableFault}
+use Rattle.alt_tables.specs.declared.faults.TableFault.TheVariants.{Failed, NoMemory}
+use Rattle.alternator.specs.Turns.{Asked, turns, asks, asked_of, longest_line}
 use Rattle.alt_shell.proofs.Telling.{Grows-then, Tells-nil}
-use Rattle.alternator.proofs.Serving.{said_in-append, taken-append, ended-append, turns_both, stretch_none, stretch_then, serves_none, serves_then, serves_break, breaks_none}
-use Rattle.alternator.proofs.TurnLaws.{turns-append, text_of-append, answered-all}
+use Rattle.alt_talks.proofs.Stretching.{said_in-append, taken-append, ended-append, stretch_none, stretch_then}
+use Rattle.alternator.proofs.Serving.{turns_both, serves_none, serves_then, serves_break, breaks_none}
+use Rattle.alt_talks.proofs.TurnLaws.{text_of-append, answered-all}
+use Rattle.alt_talks.proofs.TalkLogs.{crosses-append}
+use Rattle.alt_talks.specs.TalkStops.{LeavesNow}
 
 some_is_no_end : (bytes : List ℕ) → 0 < length bytes → is_end (event_of (0 ∷ 0 ∷ bytes)) ≡ false
 some_is_no_end [] h = absurd (omega arith)
@@ -178,6 +183,7 @@ module _ (a b c : DiskState) (call : ShellCall a b true) (t1 : Tables) (s : Stat
                 ap (λ (bs : List ℕ). asked_later u (bs ++ more) e) (all es x.rests.silent)
                 ∙ sym (given_later u piece more e) ∙ outs.later unended more e;
             goes_on = going es x.rests.goes_on;
+            inside = x.rests.inside;
             leaves = leaves_take a b c call piece g m s u (asked_now given) es ms within x.rests here
                 lines_now_given x.leaves;
           })
@@ -194,7 +200,7 @@ module _ (a b c : DiskState) (call : ShellCall a b true) (t1 : Tables) (s : Stat
         (subst (λ (x : Unread). HandsOut x v) same outs)
 
     -- that broke off
-    pub pull_breaks : (fault : RunFault) → Stretch b c (BreaksAtHand fault s (asked_now given))
+    pub pull_breaks : (fault : TableFault) → Stretch b c (BreaksAtHand fault s (asked_now given))
         → Stretch a c (GoesSome fault s u)
     pull_breaks fault q = with_take a b c call piece g m
         {P = BreaksAtHand fault s (asked_now given)} {Q = GoesSome fault s u}
@@ -215,6 +221,7 @@ module _ (a b c : DiskState) (call : ShellCall a b true) (t1 : Tables) (s : Stat
                 enough = x.breaks.enough;
                 wants = x.breaks.wants;
               });
+          inside = x.rests.inside;
           leaves = leaves_take a b c call piece g m s u (asked_now given) es ms within x.rests here
               lines_now_given x.leaves;
         })
@@ -232,6 +239,7 @@ module _ (a b c : DiskState) (call : ShellCall a b true) (t1 : Tables) (s : Stat
       trusts = trusts-kept a b call.keeps;
       holds = record {
         breaks = breaks_took (asked_later u (taken (one ∷ [])) (ended (one ∷ [])));
+        inside = refl;
         leaves = leaves_silent a b t1 s u (one ∷ []) stands call.keeps refl;
       };
     }
@@ -285,6 +293,7 @@ module _ (a b c : DiskState) (call : ShellCall a b true) (t1 : Tables) (s : Stat
                   enough = x.serves.enough;
                 });
             at_end = refl;
+            inside = x.rests.inside;
             leaves = leaves_take a b c call [] at_end m s u (asked_now (record u { ended = true })) es
                 ms within x.rests here lines_at_end x.leaves;
           })
@@ -292,7 +301,7 @@ module _ (a b c : DiskState) (call : ShellCall a b true) (t1 : Tables) (s : Stat
     }
 
     -- that broke off
-    pub pull_end_breaks : (fault : RunFault)
+    pub pull_end_breaks : (fault : TableFault)
         → Stretch b c (BreaksAtHand fault s (asked_now (record u { ended = true })))
         → Stretch a c (GoesSome fault s u)
     pull_end_breaks fault q = with_take a b c call [] at_end m
@@ -313,6 +322,7 @@ module _ (a b c : DiskState) (call : ShellCall a b true) (t1 : Tables) (s : Stat
                 enough = x.breaks.enough;
                 wants = x.breaks.wants;
               });
+          inside = x.rests.inside;
           leaves = leaves_take a b c call [] at_end m s u (asked_now (record u { ended = true })) es ms
               within x.rests here lines_at_end x.leaves;
         })
@@ -332,6 +342,7 @@ module _ (a b : DiskState) (call : ShellCall a b false) (tables : Tables) (s : S
     trusts = trusts-kept a b call.keeps;
     holds = record {
       breaks = breaks_none Failed tt s (asked_later u [] false);
+      inside = refl;
       leaves = leaves_silent a b tables s u [] stands call.keeps refl;
     };
   }
@@ -360,6 +371,7 @@ module _ (a b : DiskState) (call : ShellCall a b false) (tables : Tables) (s : S
             refl;
         wants = tt;
       };
+      inside = refl;
       leaves = leaves_silent a b tables s u
           (entry b.moment (told_count a.beside) take_failed ∷ []) stands call.keeps refl;
     };
@@ -382,6 +394,7 @@ goes_none a tables s u stands = record {
     serves = serves_none s;
     lines = λ more e. refl;
     goes_on = refl;
+    inside = refl;
     leaves = leaves_silent a a tables s u [] stands (keeps-none a) refl;
   });
 }
@@ -448,6 +461,7 @@ module _ (a b c : DiskState) (t1 : Tables) (s : State) (u v : Unread)
               ∙ ap (λ (ls : List Asked). x.done ++ ls) (y.lines more e)
               ∙ sym (append_assoc x.done y.done (asked_later w more e));
           goes_on = ended-append es fs ∙ ap (λ (e : Bool). e || ended fs) x.goes_on ∙ y.goes_on;
+          inside = crosses-append es fs ∙ ap (λ (e : Bool). e || crosses fs) x.inside ∙ y.inside;
           leaves = goes_leaves a b c s p.to u v es fs ms ns meet x y.leaves;
         })
         p.calls q.calls;
@@ -455,9 +469,9 @@ module _ (a b c : DiskState) (t1 : Tables) (s : State) (u v : Unread)
 
   -- and then to the end
   pub goes_ends : (t2 : Tables) → Leads b c t2 (λ t. Ends p.to v t)
-      → Stretch a c (λ old new es ms. (t : State) × Ends s u t old new es ms)
+      → Stretch a c (λ old new es ms. (t : State) × Ends s u t old new es ms × LeavesNow new t)
   goes_ends t2 q = stretch_then a b c {P = Goes s u p.to v} {Q = Ends p.to v q.to} {R =
-      λ old new es ms. (t : State) × Ends s u t old new es ms}
+      λ old new es ms. (t : State) × Ends s u t old new es ms × LeavesNow new t}
       (λ es fs ms ns meet x y. (
         q.to,
         record {
@@ -467,13 +481,15 @@ module _ (a b c : DiskState) (t1 : Tables) (s : State) (u v : Unread)
               (serves_then s p.to q.to x.done (asked_later v (taken fs) true) es fs ms ns x.serves
               y.serves);
           at_end = ended-append es fs ∙ ap (λ (e : Bool). e || ended fs) x.goes_on ∙ y.at_end;
+          inside = crosses-append es fs ∙ ap (λ (e : Bool). e || crosses fs) x.inside ∙ y.inside;
           leaves = goes_leaves a b c s p.to u v es fs ms ns meet x y.leaves;
         },
+        λ trusted image is_image. stands_left c t2 q.to q.stands image is_image,
       ))
       p.calls q.calls
 
   -- and then a break
-  pub goes_breaks : (fault : RunFault) → Stretch b c (GoesSome fault p.to v)
+  pub goes_breaks : (fault : TableFault) → Stretch b c (GoesSome fault p.to v)
       → Stretch a c (GoesSome fault s u)
   goes_breaks fault q = stretch_then a b c {P = Goes s u p.to v} {Q = GoesSome fault p.to v} {R =
       GoesSome fault s u}
@@ -485,6 +501,7 @@ module _ (a b c : DiskState) (t1 : Tables) (s : State) (u v : Unread)
             ∙ x.lines (taken fs) (ended fs)))
             (serves_break fault s p.to x.done
             (asked_later v (taken fs) (ended fs)) es fs ms ns x.serves y.breaks);
+        inside = crosses-append es fs ∙ ap (λ (e : Bool). e || crosses fs) x.inside ∙ y.inside;
         leaves = goes_leaves a b c s p.to u v es fs ms ns meet x y.leaves;
       })
       p.calls q
@@ -497,19 +514,21 @@ fresh = record { most = longest_line; bytes = []; ended = false }
 
 -- all was answered
 pub answers_all : (a b : DiskState) (s t : State) (es : Log) (ms : List ℕ)
-    → Ends s fresh t a b es ms → Answers s a b es ms
-answers_all a b s t es ms x = record {
+    → Ends s fresh t a b es ms → LeavesNow b t → Answers s a b es ms
+answers_all a b s t es ms x last = record {
   at_end = x.at_end;
+  inside = x.inside;
   said = x.serves.said;
   count = x.serves.count;
   every = ap (answered (turns s (asks true (taken es)) ms)) x.serves.said
       ∙ answered-all (turns s (asks true (taken es)) ms);
   enough = x.serves.enough;
   leaves = x.leaves;
+  last = subst (LeavesNow b) x.serves.state last;
 }
 
 -- some was
-pub answers_some : (a b : DiskState) (fault : RunFault) (s : State) (es : Log) (ms : List ℕ)
+pub answers_some : (a b : DiskState) (fault : TableFault) (s : State) (es : Log) (ms : List ℕ)
     → GoesSome fault s fresh a b es ms → AnswersSome fault s a b es ms
 answers_some a b fault s es ms x =
     let br = x.breaks in
@@ -518,6 +537,7 @@ answers_some a b fault s es ms x =
     br.lines ∙ sym (append_assoc br.done br.begun br.rest) in
     record {
       breaks = br;
+      inside = x.inside;
       said = subst (λ (ls : List Asked). IsPrefix (said_in es) (text_of (turns s ls ms)))
           (sym lines)
           (subst (λ (ns : List ℕ). IsPrefix (said_in es) (text_of (turns s (front ++ br.rest) ns)))

@@ -1,5 +1,5 @@
 -- Lines and more lines, on any disk: where the last was `@reopen` the files stand for a state.
-use Rattle.std.proofs.Common.{Option, ◌≡◌, ◌<◌, ℕ, List, [], ◌∷◌, ◌++◌, length, Bool, true, false, IsTrue, refl, sym, ap, subst, ◌∙◌, append_assoc, append-nil}
+use Rattle.std.proofs.Common.{Option, ◌≡◌, ◌<◌, ℕ, List, [], ◌∷◌, ◌++◌, length, Bool, true, false, IsTrue, refl, sym, ap, subst, ◌∙◌, append_assoc, append-nil, Some, None}
 use Rattle.std.proofs.Math.Path.{fun_ext}
 use Rattle.std.specs.Prelude.{◌||◌, Result, Ok, Err, OnOk}
 use Rattle.alt_disk.specs.Disk.{DiskState, Goes}
@@ -8,28 +8,29 @@ use Rattle.alt_shell.specs.Calls.{Adds, Keeps}
 use Rattle.alt_shell.specs.Log.{Log, Grows, entry, told_count, took, said, taken, ended}
 use Rattle.alt_shell.proofs.Telling.{Grows-then, Grows-nil}
 use Rattle.alternator.specs.Endings.{IsReadable}
-use Rattle.alternator.specs.Rereading.{ReadAgain, last_reopens, AreReadable, Rereads, RereadsAtHand, RereadsSome, RereadsRest}
+use Rattle.alternator.specs.Rereading.{ReadAgain, last_of, AreReadable, Rereads, RereadsAtHand, RereadsSome, RereadsRest}
 use Rattle.alternator.specs.Runs.{HandsOut, asked_now, asked_later}
-use Rattle.alternator.specs.declared.serve.RunFault.{RunFault}
-use Rattle.alternator.specs.Turns.{Asked, request, reopen, unread}
+use Rattle.alt_tables.specs.declared.faults.TableFault.{TableFault}
+use Rattle.alternator.specs.Turns.{Asked, Control, request, control, reopen, unread}
 use Rattle.alternator.proofs.Pulling.{fresh, took_is_no_end, given_later, ended_now}
-use Rattle.alternator.proofs.Serving.{taken-append, ended-append, rests_then}
+use Rattle.alt_talks.proofs.Stretching.{taken-append, ended-append}
+use Rattle.alternator.proofs.Serving.{rests_then}
 
 -- ---- which line is the last
 
 -- the last of lines and more lines
-pub last-append : (was : Bool) (ls ks : List Asked)
-    → last_reopens was (ls ++ ks) ≡ last_reopens (last_reopens was ls) ks
+pub last-append : (was : Option Control) (ls ks : List Asked)
+    → last_of was (ls ++ ks) ≡ last_of (last_of was ls) ks
 last-append was [] ks = refl
-last-append was (request name body ∷ ls) ks = last-append false ls ks
-last-append was (reopen ∷ ls) ks = last-append true ls ks
-last-append was (unread ∷ ls) ks = last-append false ls ks
+last-append was (request name body ∷ ls) ks = last-append None ls ks
+last-append was (control word ∷ ls) ks = last-append (Some word) ls ks
+last-append was (unread ∷ ls) ks = last-append None ls ks
 
 -- one list of lines after another
 pub rereads_then : (a b c : DiskState) (ls ks : List Asked) → Rereads ls a b → Rereads ks b c
     → Rereads (ls ++ ks) a c
 rereads_then a b c ls ks p q = λ was given e.
-    q (last_reopens was ls) (p was given) (sym (last-append was ls ks) ∙ e)
+    q (last_of was ls) (p was given) (sym (last-append was ls ks) ∙ e)
 
 -- a request says nothing of the files
 pub rereads_request : (a b : DiskState) (name body : List ℕ)
@@ -56,7 +57,7 @@ readable_kept a b keeps h = λ tells. readable_files a.file b.file keeps.file
 pub rereads_opened : (a b c : DiskState) → Goes a b → Keeps b c
     → (IsTrue a.tells → IsReadable a.file)
     → (IsTrue a.tells → (f : ℕ) → b.file f ≡ a.file f)
-    → Rereads (reopen ∷ []) a c
+    → Rereads (control reopen ∷ []) a c
 rereads_opened a b c goes keeps reads files = λ was given e.
     readable_kept b c keeps (λ tells.
     let told = subst IsTrue goes.tells tells in
@@ -69,7 +70,7 @@ pub at_hand_none : (a : DiskState) → RereadsAtHand [] a a
 at_hand_none a = record {
   entries = [];
   grows = Grows-nil a.beside;
-  rests = record { silent = refl; goes_on = refl };
+  rests = record { silent = refl; goes_on = refl; inside = refl };
   rereads = λ was given e. given e;
 }
 
@@ -81,7 +82,7 @@ at_hand_said a b c bytes ls quiet adds rereads = record {
   entries = entry c.moment (told_count b.beside) (said bytes) ∷ [];
   grows = Grows-then a.beside b.beside c.beside []
       (entry c.moment (told_count b.beside) (said bytes) ∷ []) quiet adds;
-  rests = record { silent = refl; goes_on = refl };
+  rests = record { silent = refl; goes_on = refl; inside = refl };
   rereads = rereads;
 }
 
@@ -202,8 +203,8 @@ read_again a b same p = record {
   entries = p.entries;
   grows = p.grows;
   at_end = p.at_end;
-  readable = λ tells ends. p.rereads false (λ e. absurd (let f : ⊥ = cc in f))
-      (ap (last_reopens false) ends.1 ∙ last-append false ends.0 (reopen ∷ []))
+  readable = λ tells ends. p.rereads None (λ e. absurd (let f : ⊥ = cc in f))
+      (ap (last_of None) ends.1 ∙ last-append None ends.0 (control reopen ∷ []))
       (subst IsTrue (sym same) tells);
 }
 
@@ -217,7 +218,7 @@ read_again_opened a b c goes p = record {
 }
 
 -- however what was done behind it ended
-pub opened_again : (a b c : DiskState) → Goes a b → (result : Result Unit RunFault)
+pub opened_again : (a b c : DiskState) → Goes a b → (result : Result Unit TableFault)
     → OnOk result (ReadAgain b c) → OnOk result (ReadAgain a c)
 opened_again a b c goes (Ok done) p = read_again_opened a b c goes p
 opened_again a b c goes (Err fault) p = tt

@@ -1,42 +1,29 @@
 -- Serving lines, one after another: the laws of `Serves` and `Breaks`.
-use Rattle.std.proofs.Common.{◌≡◌, ◌≤◌, ◌⊎◌, ℕ, List, [], ◌∷◌, ◌++◌, length, take, drop, Bool, true, false, Option, Some, None, refl, sym, ap, subst, ◌∙◌, append_assoc, append-nil, arith, inl, inr, length-append, take-append-drop}
+use Rattle.std.proofs.Common.{◌≡◌, ◌≤◌, ◌⊎◌, ℕ, List, [], ◌∷◌, ◌++◌, length, take, drop, true, false, Option, Some, None, refl, sym, ap, subst, ◌∙◌, append_assoc, append-nil, arith, inl, inr, length-append, take-append-drop}
 use Rattle.std.specs.Prelude.{◌||◌}
-use Rattle.std.proofs.lemmas.Grind.{flat_map-append}
 use Rattle.alt_base.specs.Prefix.{IsPrefix}
 use Rattle.alt_machine.specs.State.{State}
 use Rattle.alt_disk.specs.Disk.{DiskState, IsTrusted}
 use Rattle.alt_machine.specs.Wanted.{Lack}
-use Rattle.alt_shell.specs.Calls.{Adds, Aside, ShellCall, Untold}
-use Rattle.alt_shell.specs.Log.{Log, Grows, Tells, moments_of, until, entry, told_count, event_of, said, say_failed, says_failed, says_missed, bytes_said, bytes_taken, is_end, taken, said_in, ended}
-use Rattle.alternator.specs.Runs.{OfStretch, Stretch, Serves, Breaks, Rests, Leads, ServesAtHand, BreaksAtHand}
-use Rattle.alternator.specs.Stops.{IsLeft, IsAmong, AtEach, LeftAtHand, AreWithin}
+use Rattle.alt_shell.specs.Calls.{Adds, ShellCall, Untold}
+use Rattle.alt_shell.specs.Log.{Log, Grows, Tells, moments_of, until, entry, told_count, said, say_failed, says_failed, says_missed, taken, said_in, ended, crosses}
+use Rattle.alt_talks.specs.Runs.{Stretch, Leads}
+use Rattle.alternator.specs.Runs.{Serves, Breaks, Rests, ServesAtHand, BreaksAtHand, LeftAtHand}
+use Rattle.alt_talks.specs.Stops.{IsLeft, IsAmong, AtEach, AreWithin}
 use Rattle.alt_tables.specs.Stands.{Stands}
 use Rattle.alt_tables.specs.declared.tables.Tables.{Tables}
-use Rattle.alternator.specs.Faults.{IsCausedBy}
-use Rattle.alternator.specs.declared.serve.RunFault.{RunFault}
-use Rattle.alternator.specs.declared.serve.RunFault.TheVariants.{Failed, NoMemory}
-use Rattle.alternator.specs.Turns.{Asked, Turn, turns, text_of, after, after_turn, wanted, or_next, requests}
-use Rattle.alt_shell.proofs.Telling.{Grows-then, Grows-nil, Tells-then, Tells-nil}
+use Rattle.alt_talks.specs.Faults.{IsCausedBy}
+use Rattle.alt_tables.specs.declared.faults.TableFault.{TableFault}
+use Rattle.alt_tables.specs.declared.faults.TableFault.TheVariants.{Failed, NoMemory}
+use Rattle.alternator.specs.Turns.{Asked, turns, requests}
+use Rattle.alt_talks.specs.Turns.{Turn, text_of, after, after_turn, wanted, or_next}
+use Rattle.alt_shell.proofs.Telling.{Grows-then, Grows-nil}
 use Rattle.alt_tables.proofs.Left.{stands_left}
-use Rattle.alternator.proofs.Stopping.{Meet, IsPrefix-self, IsPrefix-behind, one-by, until-append, until-before, until-behind, within-wider, within-then, turns_say, turns-more, left-more, left-behind, spans_two, trusts-kept, leaves-weaker, leaves-here, left-nothing, leaves-said, leaves-unsaid, stands_kept}
-use Rattle.alternator.proofs.TurnLaws.{requests-append, turns-append, text_of-append, after-append, wanted-append}
-
--- ---- logs one after the other
-
-pub said_in-append : (es fs : Log) → said_in (es ++ fs) ≡ said_in es ++ said_in fs
-said_in-append es fs = flat_map-append (λ (e : ℕ × List ℕ). bytes_said (event_of e.1)) es fs
-
-pub taken-append : (es fs : Log) → taken (es ++ fs) ≡ taken es ++ taken fs
-taken-append es fs = flat_map-append (λ (e : ℕ × List ℕ). bytes_taken (event_of e.1)) es fs
-
-or-assoc : (a b c : Bool) → (a || (b || c)) ≡ ((a || b) || c)
-or-assoc true b c = refl
-or-assoc false b c = refl
-
-pub ended-append : (es fs : Log) → ended (es ++ fs) ≡ (ended es || ended fs)
-ended-append [] fs = refl
-ended-append (e ∷ es) fs = ap (λ b. is_end (event_of e.1) || b) (ended-append es fs)
-    ∙ or-assoc (is_end (event_of e.1)) (ended es) (ended fs)
+use Rattle.alt_talks.proofs.Stopping.{Meet, IsPrefix-self, IsPrefix-behind, one-by, until-append, until-before, until-behind, within-wider, left-more, left-behind, spans_two, trusts-kept, leaves-weaker, leaves-here, leaves-said, leaves-unsaid, stands_kept}
+use Rattle.alternator.proofs.TurnLaws.{turns_say, turns-more, left-nothing, requests-append, turns-append}
+use Rattle.alt_talks.proofs.TurnLaws.{text_of-append, after-append, wanted-append}
+use Rattle.alt_talks.proofs.Stretching.{said_in-append, taken-append, ended-append}
+use Rattle.alt_talks.proofs.TalkLogs.{crosses-append}
 
 -- ---- the parts of a stretch
 
@@ -75,7 +62,7 @@ serves_then s t u ls ks es fs ms ns p q = record {
 }
 
 -- lines and then a break
-pub serves_break : (fault : RunFault) (s t : State) (ls ks : List Asked) (es fs : Log)
+pub serves_break : (fault : TableFault) (s t : State) (ls ks : List Asked) (es fs : Log)
     (ms ns : List ℕ)
     → Serves s ls t es ms → Breaks fault t ks fs ns
     → Breaks fault s (ls ++ ks) (es ++ fs) (ms ++ ns)
@@ -108,7 +95,7 @@ serves_break fault s t ls ks es fs ms ns p q = record {
 }
 
 -- a break among lines is one among these and more
-pub breaks_more : (fault : RunFault) (s : State) (ls ks : List Asked) (es : Log) (ms : List ℕ)
+pub breaks_more : (fault : TableFault) (s : State) (ls ks : List Asked) (es : Log) (ms : List ℕ)
     → Breaks fault s ls es ms → Breaks fault s (ls ++ ks) es ms
 breaks_more fault s ls ks es ms q = record {
   done = q.done;
@@ -125,7 +112,7 @@ breaks_more fault s ls ks es ms q = record {
 }
 
 -- nothing was begun
-pub breaks_none : (fault : RunFault) → IsCausedBy None fault → (s : State) (ls : List Asked)
+pub breaks_none : (fault : TableFault) → IsCausedBy None fault → (s : State) (ls : List Asked)
     → Breaks fault s ls [] []
 breaks_none fault cause s ls = record {
   done = [];
@@ -159,70 +146,7 @@ pub rests_then : (es fs : Log) → Rests es → Rests fs → Rests (es ++ fs)
 rests_then es fs p q = record {
   silent = taken-append es fs ∙ ap (λ bs. bs ++ taken fs) p.silent ∙ q.silent;
   goes_on = ended-append es fs ∙ ap (λ e. e || ended fs) p.goes_on ∙ q.goes_on;
-}
-
--- ---- calls
-
-pub stretch_none : (a : DiskState) {P : OfStretch} → P a a [] [] → Stretch a a P
-stretch_none a h = record {
-  entries = [];
-  told = [];
-  grows = Grows-nil a.beside;
-  tells = Tells-nil (moments_of a.beside) (moments_of a.beside) refl;
-  within = tt;
-  later = omega arith;
-  trusts = λ trusted. trusted;
-  holds = h;
-}
-
--- one stretch and then another
-pub stretch_then : (a b c : DiskState) {P Q R : OfStretch}
-    → ((es fs : Log) (ms ns : List ℕ) → Meet a b c es fs → P a b es ms → Q b c fs ns
-    → R a c (es ++ fs) (ms ++ ns))
-    → Stretch a b P → Stretch b c Q → Stretch a c R
-stretch_then a b c law p q = record {
-  entries = p.entries ++ q.entries;
-  told = p.told ++ q.told;
-  grows = Grows-then a.beside b.beside c.beside p.entries q.entries p.grows q.grows;
-  tells = Tells-then (moments_of a.beside) (moments_of b.beside) (moments_of c.beside) p.told q.told
-      p.tells q.tells;
-  within = within-then a.moment b.moment c.moment p.entries q.entries p.within q.within p.later
-      q.later;
-  later = omega (arith, p.later, q.later);
-  trusts = λ trusted. q.trusts (p.trusts trusted);
-  holds = law p.entries q.entries p.told q.told
-      (record { before = p.within; behind = q.within; trusts = p.trusts }) p.holds q.holds;
-}
-
-pub stretch_as : (a b : DiskState) {P Q : OfStretch}
-    → ((es : Log) (ms : List ℕ) → AreWithin a.moment b.moment es → P a b es ms → Q a b es ms)
-    → Stretch a b P → Stretch a b Q
-stretch_as a b law p = record {
-  entries = p.entries;
-  told = p.told;
-  grows = p.grows;
-  tells = p.tells;
-  within = p.within;
-  later = p.later;
-  trusts = p.trusts;
-  holds = law p.entries p.told p.within p.holds;
-}
-
--- calls that say nothing more, ask nothing more, and leave all files
-pub stretch_quiet : (a b c : DiskState) {P : OfStretch}
-    → ((es : Log) (ms : List ℕ) → P a b es ms → P a c es ms)
-    → Stretch a b P → Aside b c → Grows b.beside c.beside []
-    → moments_of c.beside ≡ moments_of b.beside → Stretch a c P
-stretch_quiet a b c {P} law p aside g m = record {
-  entries = p.entries;
-  told = p.told;
-  grows = subst (λ (es : Log). Grows a.beside c.beside es) (append-nil p.entries)
-      (Grows-then a.beside b.beside c.beside p.entries [] p.grows g);
-  tells = subst (λ (ms : Option (List ℕ)). Tells (moments_of a.beside) ms p.told) (sym m) p.tells;
-  within = subst (λ (n : ℕ). AreWithin a.moment n p.entries) (sym aside.moment) p.within;
-  later = let same = aside.moment in omega (arith, same, p.later);
-  trusts = λ trusted. trusts-kept b c aside.keeps (p.trusts trusted);
-  holds = law p.entries p.told p.holds;
+  inside = crosses-append es fs ∙ ap (λ e. e || crosses fs) p.inside ∙ q.inside;
 }
 
 -- ---- lines at hand
@@ -268,7 +192,7 @@ module _ (a b c : DiskState) (s t u : State) (ls ks : List Asked) (es fs : Log) 
   }
 
   -- lines and then a break
-  pub hand_break : (fault : RunFault) → BreaksAtHand fault t ks b c fs ns
+  pub hand_break : (fault : TableFault) → BreaksAtHand fault t ks b c fs ns
       → BreaksAtHand fault s (ls ++ ks) a c (es ++ fs) (ms ++ ns)
   hand_break fault q = record {
     breaks = serves_break fault s t ls ks es fs ms ns p.serves q.breaks;
@@ -287,7 +211,7 @@ leaves_more a b s ls ks es ms p trusted =
     (left-more s (turns s ls ms) more.0 (said_in (until n es)) image more.1 x)) p trusted
 
 -- a break among lines is one among these and more
-pub hand_breaks_more : (a b : DiskState) (fault : RunFault) (s : State) (ls ks : List Asked) (es : Log)
+pub hand_breaks_more : (a b : DiskState) (fault : TableFault) (s : State) (ls ks : List Asked) (es : Log)
     (ms : List ℕ)
     → BreaksAtHand fault s ls a b es ms → BreaksAtHand fault s (ls ++ ks) a b es ms
 hand_breaks_more a b fault s ls ks es ms p = record {
@@ -310,7 +234,7 @@ pub hand_none : (a : DiskState) (tables : Tables) (s : State) → Stands a table
     → ServesAtHand s [] s a a [] []
 hand_none a tables s stands = record {
   serves = serves_none s;
-  rests = record { silent = refl; goes_on = refl };
+  rests = record { silent = refl; goes_on = refl; inside = refl };
   leaves = leaves-here a (LeftAtHand s [] [] []) (λ trusted t image is_image.
       left-nothing s [] [] image (stands_left a tables s stands image is_image));
 }
@@ -360,7 +284,7 @@ turn_served old mid new tables s l t ms bytes b enough stands call added n e =
             count = b.count;
             enough = ap wanted b.one ∙ ap (λ w. or_next w None) enough;
           };
-          rests = record { silent = refl; goes_on = refl };
+          rests = record { silent = refl; goes_on = refl; inside = refl };
           leaves = leaves-said s (turns s (l ∷ []) ms) t b.one (turns_say s (l ∷ []) ms) old mid new
               es within
               (one-by (entry new.moment (told_count mid.beside) (said bytes)) t.text
@@ -375,7 +299,7 @@ turn_served old mid new tables s l t ms bytes b enough stands call added n e =
 
 -- a turn that was begun, of which these bytes were said
 turn_begun : (old mid new : DiskState) (s : State) (l : Asked) (t : Turn) (ms : List ℕ)
-    (fault : RunFault) (es : Log)
+    (fault : TableFault) (es : Log)
     → Begins old mid s l t ms → IsCausedBy t.lacks fault
     → Rests es → IsPrefix (said_in es) t.text
     → Grows mid.beside new.beside es → moments_of new.beside ≡ moments_of mid.beside
@@ -413,7 +337,7 @@ turn_begun old mid new s l t ms fault es b lacked rests some g m within later tr
       };
     }
   where
-    lacked_alone : (fault : RunFault) (lack : Option Lack) → IsCausedBy lack fault
+    lacked_alone : (fault : TableFault) (lack : Option Lack) → IsCausedBy lack fault
         → IsCausedBy (or_next lack None) fault
     lacked_alone fault None h = h
     lacked_alone fault (Some x) h = h
@@ -437,7 +361,7 @@ module _ (old mid new : DiskState) (tables : Tables) (s : State) (l : Asked) (t 
 
   -- the failure wasn't told
   cut_untold : Grows mid.beside new.beside [] → Stretch old new (BreaksAtHand Failed s (l ∷ []))
-  cut_untold g = cut [] (record { silent = refl; goes_on = refl })
+  cut_untold g = cut [] (record { silent = refl; goes_on = refl; inside = refl })
       (λ u. (t.text, refl)) (t.text, refl) g tt
 
   cut_part : (n : ℕ) → Adds mid new (say_failed (take n bytes))
@@ -449,7 +373,7 @@ module _ (old mid new : DiskState) (tables : Tables) (s : State) (l : Asked) (t 
         sym e ∙ sym (take-append-drop n bytes)
             ∙ ap (λ (bs : List ℕ). bs ++ drop n bytes) (sym (append-nil (take n bytes))),
       ) in
-      cut (part ∷ []) (record { silent = refl; goes_on = refl }) (one-by part t.text some) some
+      cut (part ∷ []) (record { silent = refl; goes_on = refl; inside = refl }) (one-by part t.text some) some
       added (call.keeps.later, omega arith, tt)
 
   pub turn_cut : (((n : ℕ) × Adds mid new (say_failed (take n bytes)))
@@ -459,11 +383,11 @@ module _ (old mid new : DiskState) (tables : Tables) (s : State) (l : Asked) (t 
 
 -- a turn of which nothing was said, since it lacks what it wants or there is no memory
 pub turn_unsaid : (old new : DiskState) (s : State) (l : Asked) (t : Turn) (ms : List ℕ)
-    (fault : RunFault)
+    (fault : TableFault)
     → Begins old new s l t ms → IsCausedBy t.lacks fault
     → Stretch old new (BreaksAtHand fault s (l ∷ []))
 turn_unsaid old new s l t ms fault b cause =
     turn_begun old new new s l t ms fault [] b cause
-    (record { silent = refl; goes_on = refl }) (t.text, refl) (Grows-nil new.beside) refl tt
+    (record { silent = refl; goes_on = refl; inside = refl }) (t.text, refl) (Grows-nil new.beside) refl tt
     (omega arith) (λ trusted. trusted)
     (leaves-unsaid s (turns s (l ∷ []) ms) t b.one (turns_say s (l ∷ []) ms) old new b.leaves)

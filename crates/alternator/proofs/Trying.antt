@@ -22,16 +22,19 @@ use Rattle.alt_tables.specs.Images.{StandsFor}
 use Rattle.alt_tables.specs.Stands.{Stands}
 use Rattle.alt_tables.specs.declared.tables.Tables.{Tables}
 use Rattle.alt_tables.proofs.Left.{stands_left}
-use Rattle.alternator.specs.Faults.{IsCausedBy}
-use Rattle.alternator.specs.Runs.{Stretch, Rests}
-use Rattle.alternator.specs.Stops.{Image, atoms_of, AtEach, IsAmong, AreWithin}
+use Rattle.alt_talks.specs.Faults.{IsCausedBy}
+use Rattle.alt_talks.specs.Runs.{Stretch}
+use Rattle.alternator.specs.Runs.{Rests}
+use Rattle.alt_talks.specs.Stops.{Image, atoms_of, AtEach, IsAmong, AreWithin}
 use Rattle.alternator.specs.Trials.{trial_asks, trial_moment, trial_turns, beginning, as_turn, IsTried, LeftOfTrial, Tries, TriesSome, IsTally, Counted, CountedSome}
-use Rattle.alternator.specs.Turns.{Asked, Turn, request, reopen, asked_by, is_space, carried_out, turns, after, after_turn, wanted, or_next, requests}
-use Rattle.alternator.specs.declared.serve.RunFault.{RunFault}
-use Rattle.alternator.specs.declared.serve.RunFault.TheVariants.{Failed, NoMemory, Spent, Damaged, BadRow}
+use Rattle.alternator.specs.Turns.{Asked, request, control, reopen, asked_by, is_space, carried_out, turns, requests}
+use Rattle.alt_talks.specs.Turns.{Turn, after, after_turn, wanted, or_next}
+use Rattle.alt_tables.specs.declared.faults.TableFault.{TableFault}
+use Rattle.alt_tables.specs.declared.faults.TableFault.TheVariants.{Failed, NoMemory, Spent, Damaged, BadRow}
 use Rattle.alternator.specs.declared.tally.Tally.{Tally}
-use Rattle.alternator.proofs.Stopping.{atoms_of-append, last_state-append, after-atoms, one-by, until-before, take-within, trusts-kept, leaves-weaker, leaves-here, spans_two, keeps-spans, within-wider}
-use Rattle.alternator.proofs.TurnLaws.{requests-append, turns-append, after-append, wanted-append}
+use Rattle.alt_talks.proofs.Stopping.{atoms_of-append, last_state-append, after-atoms, one-by, until-before, take-within, trusts-kept, leaves-weaker, leaves-here, spans_two, keeps-spans, within-wider, stands_kept}
+use Rattle.alternator.proofs.TurnLaws.{requests-append, turns-append}
+use Rattle.alt_talks.proofs.TurnLaws.{after-append, wanted-append}
 
 -- ---- what is counted
 
@@ -81,7 +84,7 @@ not_reopen g = elim g.first as (λ b. bytes_eq (next_line (record { first = b; n
 -- a line of the generator asks for a request
 pub asked_next : (g : Generator) → asked_by (next_line g)
     ≡ request (before_first is_space (next_line g)) (after_first is_space (next_line g))
-asked_next g = ap (λ b. cond b reopen (request (before_first is_space (next_line g))
+asked_next g = ap (λ b. cond b (control reopen) (request (before_first is_space (next_line g))
     (after_first is_space (next_line g)))) (not_reopen g)
 
 -- ---- turns, and then more of them
@@ -130,7 +133,7 @@ spent_more number [] us h = absurd (let f : ⊥ = cc in f)
 spent_more number (t ∷ ts) us h =
     same_lack number t.lacks (wanted ts) (wanted (ts ++ us)) (spent_more number ts us) h
 
-wants_more : (fault : RunFault) (ts us : List Turn) → IsCausedBy (wanted ts) fault
+wants_more : (fault : TableFault) (ts us : List Turn) → IsCausedBy (wanted ts) fault
     → IsCausedBy (wanted (ts ++ us)) fault
 wants_more Failed ts us h = tt
 wants_more NoMemory ts us h = tt
@@ -184,7 +187,7 @@ module _ (a b c : DiskState) (t1 : Tables) (s : State) (ls ks : List Asked) (x y
     leaves = leaves_both q.leaves;
   }
 
-  pub counted_break : (fault : RunFault) → CountedSome fault (reached_by s ls) ks b c
+  pub counted_break : (fault : TableFault) → CountedSome fault (reached_by s ls) ks b c
       → CountedSome fault s (ls ++ ks) a c
   counted_break fault q = record {
     wants = subst (λ (w : Option Lack). IsCausedBy w fault) (sym wanted_both) q.wants;
@@ -193,7 +196,7 @@ module _ (a b c : DiskState) (t1 : Tables) (s : State) (ls ks : List Asked) (x y
 
 -- ---- one request
 
-lacked_alone : (fault : RunFault) (lack : Option Lack) → IsCausedBy lack fault
+lacked_alone : (fault : TableFault) (lack : Option Lack) → IsCausedBy lack fault
     → IsCausedBy (or_next lack None) fault
 lacked_alone fault None h = h
 lacked_alone fault (Some x) h = h
@@ -221,7 +224,7 @@ module _ (a b : DiskState) (s : State) (name body : List ℕ)
   }
 
   -- it broke off
-  pub one_broke : (fault : RunFault) → IsCausedBy (carried_out s name body trial_moment).lacks fault
+  pub one_broke : (fault : TableFault) → IsCausedBy (carried_out s name body trial_moment).lacks fault
       → CountedSome fault s (request name body ∷ []) a b
   one_broke fault cause = record {
     wants = lacked_alone fault (carried_out s name body trial_moment).lacks cause;
@@ -245,7 +248,7 @@ asked_parts g line is =
     ∙ sym (asked_next g)
 
 -- a break among requests is one among these and more
-counted_some_more : (a b : DiskState) (fault : RunFault) (s : State) (ls ks : List Asked)
+counted_some_more : (a b : DiskState) (fault : TableFault) (s : State) (ls ks : List Asked)
     → CountedSome fault s ls a b → CountedSome fault s (ls ++ ks) a b
 counted_some_more a b fault s ls ks q =
     let us = trial_turns (after s (trial_turns s ls)) ks in
@@ -317,7 +320,7 @@ module _ (a : DiskState) (t0 : Tables) (b : DiskState) (t1 : Tables) (y : Tally)
   }
 
   -- it broke off
-  pub trying_break : (c : DiskState) (fault : RunFault)
+  pub trying_break : (c : DiskState) (fault : TableFault)
       → ((r : State) → Stands b t1 r → CountedSome fault r (asked_by line ∷ []) b c)
       → (s : State) → Stands a t0 s → CountedSome fault s (map asked_by all) a c
   trying_break c fault go s stands =
@@ -393,7 +396,7 @@ module _ (old mid new : DiskState) (s : State) (t : Turn) (goes : Goes old mid)
       (λ u image from p. tried_whole s t (said_in (until u es)) image (front u) p)
 
 -- The requests of a trial broke off: nothing was said.
-pub trial_unsaid : (old mid : DiskState) (s : State) (seed count : ℕ) (fault : RunFault) → Goes old mid
+pub trial_unsaid : (old mid : DiskState) (s : State) (seed count : ℕ) (fault : TableFault) → Goes old mid
     → CountedSome fault s (trial_asks seed count) old mid
     → Stretch old mid (TriesSome fault s seed count)
 trial_unsaid old mid s seed count fault goes p = record {
@@ -406,7 +409,7 @@ trial_unsaid old mid s seed count fault goes p = record {
   trusts = trusted_on old mid goes;
   holds = record {
     said = ((as_turn s seed count).text, refl);
-    rests = record { silent = refl; goes_on = refl };
+    rests = record { silent = refl; goes_on = refl; inside = refl };
     unasked = refl;
     wants = p.wants;
     leaves = leaves_untold old mid mid s (as_turn s seed count) goes p.leaves;
@@ -453,12 +456,17 @@ module _ (old mid new : DiskState) (tables : Tables) (s : State) (seed count : �
         trusts = λ trusted. trusts-kept mid new call.keeps (trusted_on old mid goes trusted);
         holds = record {
           said = text;
-          rests = record { silent = refl; goes_on = refl };
+          rests = record { silent = refl; goes_on = refl; inside = refl };
           unasked = refl;
           enough = p.enough;
           leaves = left_by (one ∷ []) within
               (one-by one (as_turn s seed count).text (subst (λ (bs : List ℕ). IsPrefix bs (as_turn s seed count).text) (sym text)
               ([], sym (append-nil (as_turn s seed count).text)))) call.keeps;
+          last = λ trusted image is_image.
+              subst (StandsFor image) (after-atoms s (trial_turns s (trial_asks seed count)))
+              (stands_left new tables (after s (trial_turns s (trial_asks seed count)))
+              (stands_kept mid new call.keeps tables (after s (trial_turns s (trial_asks seed count)))
+              p.stands) image is_image);
         };
       }
 
@@ -500,8 +508,8 @@ module _ (old mid new : DiskState) (tables : Tables) (s : State) (seed count : �
         sym e ∙ sym (take-append-drop part.0 bytes)
             ∙ ap (λ (bs : List ℕ). bs ++ drop part.0 bytes) (sym (append-nil (take part.0 bytes))),
       ) in
-      cut (one ∷ []) (record { silent = refl; goes_on = refl }) (one-by one (as_turn s seed count).text some) some
+      cut (one ∷ []) (record { silent = refl; goes_on = refl; inside = refl }) (one-by one (as_turn s seed count).text some) some
       part.1 (call.keeps.later, omega arith, tt) call m
   trial_cut bytes e call m (inr untold) =
-      cut [] (record { silent = refl; goes_on = refl }) (λ u. ((as_turn s seed count).text, refl)) ((as_turn s seed count).text, refl)
+      cut [] (record { silent = refl; goes_on = refl; inside = refl }) (λ u. ((as_turn s seed count).text, refl)) ((as_turn s seed count).text, refl)
       untold.log tt call m

@@ -1,12 +1,11 @@
 -- The turns of lines, one list of lines after another.
-use Rattle.std.proofs.Common.{◌≡◌, ◌≤◌, ◌+◌, ℕ, suc, List, [], ◌∷◌, ◌++◌, length, cond, Option, Some, None, refl, ap, ◌∙◌, arith, length-append, drop}
-use Rattle.std.proofs.lemmas.Bool.{le-leb}
-use Rattle.std.proofs.lemmas.Grind.{flat_map-append}
-use Rattle.std.proofs.Math.Seq.{drop-append_seam}
+use Rattle.std.proofs.Common.{◌≡◌, ◌+◌, ℕ, suc, List, [], ◌∷◌, ◌++◌, length, refl, ap, arith, length-append, ◌<◌, sym, subst}
 use Rattle.alt_machine.specs.State.{State}
-use Rattle.alt_machine.specs.Wanted.{Lack}
-use Rattle.alternator.specs.Moments.{answered}
-use Rattle.alternator.specs.Turns.{Asked, request, reopen, unread, Turn, turns, opened_again, turned_away, carried_out, text_of, after, after_turn, or_next, wanted, requests}
+use Rattle.alt_talks.specs.Turns.{Turn, after, after_turn}
+use Rattle.alternator.specs.Turns.{Asked, Control, request, control, reopen, unread, turns, obeyed, turned_away, carried_out, requests, opened_again}
+use Rattle.alt_talks.specs.Stops.{Image, IsLeft}
+use Rattle.alt_tables.specs.Images.{StandsFor}
+use Rattle.alt_talks.proofs.Stopping.{AllSay, left-nothing-of}
 
 same_suc : {m n : ℕ} → suc m ≡ suc n → m ≡ n
 same_suc e = omega arith
@@ -15,7 +14,7 @@ same_suc e = omega arith
 pub requests-append : (ls ks : List Asked) → requests (ls ++ ks) ≡ requests ls + requests ks
 requests-append [] ks = omega arith
 requests-append (request name body ∷ ls) ks = let h = requests-append ls ks in omega (arith, h)
-requests-append (reopen ∷ ls) ks = requests-append ls ks
+requests-append (control word ∷ ls) ks = requests-append ls ks
 requests-append (unread ∷ ls) ks = requests-append ls ks
 
 -- the turns of lines and more lines are those of the first, and then those of the others from the state that the first left
@@ -27,38 +26,59 @@ turns-append s (request name body ∷ ls) ks [] ns e = absurd (omega arith)
 turns-append s (request name body ∷ ls) ks (m ∷ ms) ns e =
     ap (λ ts. carried_out s name body m ∷ ts)
     (turns-append (after_turn s (carried_out s name body m)) ls ks ms ns (same_suc e))
-turns-append s (reopen ∷ ls) ks ms ns e =
+turns-append s (control reopen ∷ ls) ks ms ns e =
     ap (λ ts. opened_again ∷ ts) (turns-append s ls ks ms ns e)
 turns-append s (unread ∷ ls) ks ms ns e = ap (λ ts. turned_away ∷ ts) (turns-append s ls ks ms ns e)
 
--- what is said in all
-pub text_of-append : (ts us : List Turn) → text_of (ts ++ us) ≡ text_of ts ++ text_of us
-text_of-append ts us = flat_map-append (λ (t : Turn). t.text) ts us
+-- ---- turns say something
 
--- the state after all
-pub after-append : (s : State) (ts us : List Turn) → after s (ts ++ us) ≡ after (after s ts) us
-after-append s [] us = refl
-after-append s (t ∷ ts) us = after-append (after_turn s t) ts us
+line_says : (front bytes : List ℕ) → 0 < length (front ++ (32 ∷ bytes))
+line_says front bytes = let e = length-append front (32 ∷ bytes) in omega (arith, e)
 
-first_none : (v w : Option Lack) → or_next v w ≡ None → (v ≡ None) × (w ≡ None)
-first_none None w e = (refl, e)
-first_none (Some n) w e = absurd (let f : ⊥ = cc in f)
+-- so does what a word of control comes to
+obeyed_says : (word : Control) → 0 < length (obeyed word).text
+obeyed_says reopen = omega arith
 
--- what is wanted where the first turns had all that they wanted
-pub wanted-append : (ts us : List Turn) → wanted ts ≡ None → wanted (ts ++ us) ≡ wanted us
-wanted-append [] us e = refl
-wanted-append (t ∷ ts) us e =
-    let here = first_none t.lacks (wanted ts) e in
-    ap (λ w. or_next w (wanted (ts ++ us))) here.0 ∙ wanted-append ts us here.1
+-- so do those of any lines
+pub turns_say : (s : State) (ls : List Asked) (ms : List ℕ) → AllSay (turns s ls ms)
+turns_say s [] ms = tt
+turns_say s (request name body ∷ ls) [] = tt
+turns_say s (request name body ∷ ls) (m ∷ ms) = (
+  line_says _ _,
+  turns_say (after_turn s (carried_out s name body m)) ls ms,
+)
+turns_say s (control word ∷ ls) ms = (obeyed_says word, turns_say s ls ms)
+turns_say s (unread ∷ ls) ms = (omega arith, turns_say s ls ms)
 
--- where all texts were said, all turns were answered
-pub answered-all : (ts : List Turn) → answered ts (text_of ts) ≡ ts
-answered-all [] = refl
-answered-all (t ∷ ts) =
-    let rest = text_of ts in
-    let fits : length t.text ≤ length (t.text ++ rest) = let k = length-append t.text rest in
-    omega (arith, k) in
-    ap (λ b. cond b (t ∷ answered ts (drop (length t.text) (t.text ++ rest))) [])
-    (le-leb (length t.text) (length (t.text ++ rest)) fits)
-    ∙ ap (λ (bytes : List ℕ). t ∷ answered ts bytes) (drop-append_seam t.text rest)
-    ∙ ap (λ us. t ∷ us) (answered-all ts)
+-- ---- what is left
+
+pub left-nothing : (s : State) (ls : List Asked) (ms : List ℕ) (image : Image)
+    → StandsFor image s → IsLeft s (turns s ls ms) [] image
+left-nothing s ls ms image stands =
+    left-nothing-of s (turns s ls ms) image (turns_say s ls ms) stands
+
+pub left-nothing-said : (s : State) (ls : List Asked) (ms : List ℕ) (said : List ℕ) (image : Image)
+    → said ≡ [] → StandsFor image s → IsLeft s (turns s ls ms) said image
+left-nothing-said s ls ms said image none stands =
+    subst (λ (bs : List ℕ). IsLeft s (turns s ls ms) bs image) (sym none)
+    (left-nothing s ls ms image stands)
+
+-- the turns of lines begin those of more lines and more moments
+pub turns-more : (s : State) (ls ks : List Asked) (ms ns : List ℕ)
+    → (us : List Turn) × AllSay us × (turns s (ls ++ ks) (ms ++ ns) ≡ turns s ls ms ++ us)
+turns-more s [] ks ms ns = (turns s ks (ms ++ ns), turns_say s ks (ms ++ ns), refl)
+turns-more s (request name body ∷ ls) ks [] ns = (
+  turns s (request name body ∷ (ls ++ ks)) ns,
+  turns_say s (request name body ∷ (ls ++ ks)) ns,
+  refl,
+)
+turns-more s (request name body ∷ ls) ks (m ∷ ms) ns =
+    let t = carried_out s name body m in
+    let more = turns-more (after_turn s t) ls ks ms ns in
+    (more.0, more.1, ap (λ ts. t ∷ ts) more.2)
+turns-more s (control word ∷ ls) ks ms ns =
+    let more = turns-more s ls ks ms ns in
+    (more.0, more.1, ap (λ ts. obeyed word ∷ ts) more.2)
+turns-more s (unread ∷ ls) ks ms ns =
+    let more = turns-more s ls ks ms ns in
+    (more.0, more.1, ap (λ ts. turned_away ∷ ts) more.2)

@@ -1,23 +1,25 @@
 -- How a run ends: its status, what it notes, and what it has done.
-use Rattle.std.specs.Prelude.{◌≡◌, ◌≢◌, ◌<◌, ◌⊎◌, ℕ, List, [], ◌∷◌, ◌++◌, codes, decimal, Option, None, Some, false, IsTrue}
+use Rattle.std.specs.Prelude.{◌≡◌, ◌≢◌, ◌<◌, ◌⊎◌, ℕ, List, [], ◌∷◌, ◌++◌, codes, decimal, Option, None, Some, false, IsTrue, length}
 use Rattle.hex.specs.Hex.{encode_lower}
 use Rattle.alt_base.specs.Counts.{Rose}
 use Rattle.alt_disk.specs.Disk.{DiskState, IsImage, IsTrusted}
 use Rattle.alt_disk.specs.Runs.{Quiet}
 use Rattle.alt_machine.specs.State.{State, start}
-use Rattle.alt_shell.specs.Log.{Log, Grows, StillGrows, notes_of, moments_of, taken, said_in}
+use Rattle.alt_shell.specs.Log.{Log, Grows, StillGrows, notes_of, moments_of, taken, said_in, crosses}
 use Rattle.alternator.specs.Faults.{IsUnreadable}
 use Rattle.alt_tables.specs.Images.{StandsFor}
-use Rattle.alternator.specs.Runs.{Stretch, Answers, AnswersSome, IsOpening, Opened}
-use Rattle.alternator.specs.TalkRules.{rules}
-use Rattle.alternator.specs.TalkStops.{ServedOn, ServedSomeOn}
+use Rattle.alt_talks.specs.Runs.{Stretch}
+use Rattle.alternator.specs.Runs.{Answers, AnswersSome, IsOpening, Opened}
+use Rattle.alt_talks.specs.TalkRules.{rules}
+use Rattle.alt_talks.specs.TalkStops.{ServedOn, ServedSomeOn, LeavesNow}
 use Rattle.alternator.specs.Trials.{Tries, TriesSome}
-use Rattle.alternator.specs.declared.serve.RunFault.{RunFault}
-use Rattle.alternator.specs.declared.serve.RunFault.TheVariants as fault
+use Rattle.alt_tables.specs.declared.faults.TableFault.{TableFault}
+use Rattle.alt_tables.specs.declared.faults.TableFault.TheVariants as fault
 use Rattle.alternator.specs.declared.ending.Ending.{Ending}
 use Rattle.alternator.specs.declared.ending.Ending.TheVariants.{Whole, Words, NotEmpty, Damaged, BadRow, Device, Memory, Spent}
 use Rattle.alternator.specs.declared.words.Job.{Job}
 use Rattle.alternator.specs.declared.words.Job.TheVariants.{Init, Replay, Serve, Trial}
+use Rattle.alt_base.specs.Prefix.{IsPrefix}
 
 -- the status of each ending
 abbrev pub status_of : Ending → ℕ
@@ -63,35 +65,50 @@ pub record Untouched (old new : DiskState) : Type 0 where
 
 -- ---- init
 
--- A store was made where no file was, and that was said. From then on what a stop leaves stands for the empty store.
+-- A store was made where no file was, and that was said on standard output, since no connection came or went. From then on what a stop leaves
+-- stands for the empty store.
 pub record Makes (old new : DiskState) (entries : Log) (told : List ℕ) : Type 0 where
   pub said : said_in entries ≡ codes "ok\n"
   pub untaken : taken entries ≡ []
+  pub inside : crosses entries ≡ false
   pub unasked : told ≡ []
   pub none : IsTrue old.tells → (f : ℕ) → old.file f ≡ None
   pub stands : IsTrusted old → (image : ℕ → Option (List ℕ)) → IsImage new new.moment image
       → StandsFor image start
 
--- the clock wasn't asked
-abbrev pub Unasked : DiskState → DiskState → Type 0
-Unasked old new = moments_of new.beside ≡ moments_of old.beside
+-- Nothing was said or taken, no connection came or went, and the clock wasn't asked.
+pub record SaysNothing (old new : DiskState) : Type 0 where
+  pub silent : Grows old.beside new.beside []
+  pub unasked : moments_of new.beside ≡ moments_of old.beside
+
+-- Of what is said once a store was made a part from the front was said, on standard output, since no connection came or went; and where that
+-- isn't empty, what a stop leaves stands for the empty store. Nothing was taken, and the clock wasn't asked.
+pub record SaysSome (old new : DiskState) : Type 0 where
+  pub entries : Log
+  pub grows : Grows old.beside new.beside entries
+  pub said : IsPrefix (said_in entries) (codes "ok\n")
+  pub untaken : taken entries ≡ []
+  pub inside : crosses entries ≡ false
+  pub unasked : moments_of new.beside ≡ moments_of old.beside
+  pub stands : 0 < length (said_in entries) → IsTrusted old → (image : ℕ → Option (List ℕ))
+      → IsImage new new.moment image → StandsFor image start
 
 -- this file was there, and none before it
 pub record IsFirstFile (files : ℕ → Option (List ℕ)) (first : ℕ) : Type 0 where
   pub there : files first ≢ None
   pub none : (f : ℕ) → f < first → files f ≡ None
 
--- What a run of `init` has done that ended so: the clock wasn't asked, and where a file was there it left all of them, in reads and in
--- what a stop leaves at each moment.
+-- What a run of `init` has done that ended so. Where a file was there it said nothing and left all of them, in reads and in what a stop leaves
+-- at each moment.
 abbrev pub HasMade : Ending → DiskState → DiskState → Type 0
 HasMade Whole old new = Stretch old new Makes
 HasMade Words old new = ⊥
-HasMade (NotEmpty first) old new = Unasked old new
+HasMade (NotEmpty first) old new = SaysNothing old new
     × (IsTrue old.tells → IsFirstFile old.file first × Quiet old new)
 HasMade (Damaged file at) old new = ⊥
 HasMade (BadRow family key) old new = ⊥
-HasMade Device old new = Unasked old new × Rose old.faults new.faults
-HasMade Memory old new = Unasked old new
+HasMade Device old new = SaysSome old new × Rose old.faults new.faults
+HasMade Memory old new = SaysNothing old new
 HasMade (Spent number) old new = ⊥
 
 -- ---- replay, serve and trial
@@ -101,17 +118,18 @@ abbrev pub IsReadable : (ℕ → Option (List ℕ)) → Type 0
 IsReadable files = (s : State) × StandsFor files s
 
 -- What a job has done that ended whole, from the state for which the store stood and the disk as it was opened: every line of the input
--- was answered, or every connection served, or every request of a trial carried out and the four lines said.
+-- was answered, or every connection served, or every request of a trial carried out and the four lines said. A stop at the end leaves the state
+-- after all requests, answered or not.
 abbrev pub Done : Job → State → DiskState → DiskState → Type 0
 Done Init s opened new = ⊥
 Done Replay s opened new = Stretch opened new (Answers s)
 Done (Serve per connections) s opened new = Stretch opened new
-    (λ old new es ms. (t : State) × ServedOn rules per connections s t old new es ms)
+    (λ old new es ms. (t : State) × ServedOn rules per connections s t old new es ms × LeavesNow new t)
 Done (Trial seed count) s opened new = Stretch opened new (Tries s seed count)
 
 -- What a job has done that was broken off behind the opening: what it said is a prefix of what there was to say, on each connection by
 -- itself. For a number, the first that was wanted and is never given out.
-abbrev pub Broken : RunFault → Job → State → DiskState → DiskState → Type 0
+abbrev pub Broken : TableFault → Job → State → DiskState → DiskState → Type 0
 Broken why Init s opened new = ⊥
 Broken why Replay s opened new = Stretch opened new (AnswersSome why s)
 Broken why (Serve per connections) s opened new = Stretch opened new
@@ -123,11 +141,11 @@ abbrev pub LacksNumber : Job → DiskState → DiskState → Type 0
 LacksNumber job old new = (number : ℕ) × Opened old new (Broken (fault.Spent number) job)
 
 -- The run was broken off while the store was opened, or behind that.
-abbrev pub BreaksOff : RunFault → Job → DiskState → DiskState → Type 0
+abbrev pub BreaksOff : TableFault → Job → DiskState → DiskState → Type 0
 BreaksOff why job old new = IsTrusted old → IsOpening old new ⊎ Opened old new (Broken why job)
 
 -- The files stood for no state, as is told; or they stood for one, and the disk, which isn't honest, changed them since.
-abbrev pub WasDamaged : RunFault → DiskState → DiskState → Type 0
+abbrev pub WasDamaged : TableFault → DiskState → DiskState → Type 0
 WasDamaged why old new = IsTrue old.tells → (IsOpening old new × IsUnreadable old.file why)
     ⊎ (IsReadable old.file × (old.honest ≡ false))
 

@@ -1,17 +1,8 @@
-pub mod Connections
 pub mod Endings
 pub mod Faults
-pub mod HeadViews
 pub mod Moments
 pub mod Rereading
 pub mod Runs
-pub mod Stops
-pub mod Stretches
-pub mod TalkRules
-pub mod TalkStops
-pub mod TalkTexts
-pub mod TalkViews
-pub mod Talks
 pub mod Trials
 pub mod Turns
 pub mod Words

@@ -1,8 +1,9 @@
 -- What was said and taken up to a moment of a run, and which turns were answered by then.
-use Rattle.std.specs.Prelude.{ℕ, List, [], ◌∷◌, length, drop, Bool, nat_le, if◌then◌else◌}
+use Rattle.std.specs.Prelude.{ℕ, List, Bool}
 use Rattle.alt_machine.specs.State.{State}
 use Rattle.alt_shell.specs.Log.{Log, until, said_in, taken, ended}
-use Rattle.alternator.specs.Turns.{Turn, turns, asks}
+use Rattle.alt_talks.specs.Turns.{Turn, answered}
+use Rattle.alternator.specs.Turns.{turns, asks}
 
 -- the bytes said by a moment, of the entries that a run added
 abbrev pub said_by : ℕ → Log → List ℕ
@@ -15,13 +16,6 @@ taken_by t entries = taken (until t entries)
 -- whether the end of the input was taken by then: a last line without a line feed is whole only from then on
 abbrev pub ended_by : ℕ → Log → Bool
 ended_by t entries = ended (until t entries)
-
--- the turns, from the first on, whose whole texts stand in the bytes said
-abbrev pub answered : List Turn → List ℕ → List Turn
-answered [] bytes = []
-answered (t ∷ ts) bytes =
-    if nat_le (length t.text) (length bytes) then t ∷ answered ts
-    (drop (length t.text) bytes) else []
 
 -- the turns that were answered by a moment, of a run from a state
 abbrev pub answered_by : State → ℕ → Log → List ℕ → List Turn

@@ -1,17 +1,17 @@
 -- What the line `@reopen` promises on any disk that tells its files, also on one that isn't honest: they were read again.
-use Rattle.std.specs.Prelude.{◌≡◌, ℕ, List, [], ◌∷◌, ◌++◌, Bool, true, false, IsTrue}
+use Rattle.std.specs.Prelude.{◌≡◌, ℕ, List, [], ◌∷◌, ◌++◌, Bool, true, false, IsTrue, Option, Some, None}
 use Rattle.alt_disk.specs.Disk.{DiskState}
 use Rattle.alt_lines.specs.Unread.{Unread}
 use Rattle.alt_shell.specs.Log.{Log, Grows, taken, ended}
 use Rattle.alternator.specs.Endings.{IsReadable}
 use Rattle.alternator.specs.Runs.{Rests, asked_later}
-use Rattle.alternator.specs.Turns.{Asked, request, reopen, unread, asks}
+use Rattle.alternator.specs.Turns.{Asked, Control, request, control, reopen, unread, asks}
 
 -- ---- a whole replay
 
 -- the last of these lines asks that the store is opened again
 abbrev pub EndsReopening : List Asked → Type 0
-EndsReopening ls = (front : List Asked) × (ls ≡ front ++ reopen ∷ [])
+EndsReopening ls = (front : List Asked) × (ls ≡ front ++ control reopen ∷ [])
 
 -- A replay took its input to the end. Where the last line of that was `@reopen`, the files stand for a state, as the disk reads them.
 pub record ReadAgain (old new : DiskState) : Type 0 where
@@ -23,12 +23,12 @@ pub record ReadAgain (old new : DiskState) : Type 0 where
 
 -- ---- its parts
 
--- whether the last of these lines is `@reopen`; without lines, whether the last before them was
-abbrev pub last_reopens : Bool → List Asked → Bool
-last_reopens was [] = was
-last_reopens was (request name body ∷ ls) = last_reopens false ls
-last_reopens was (reopen ∷ ls) = last_reopens true ls
-last_reopens was (unread ∷ ls) = last_reopens false ls
+-- the word of control that the last of these lines is, if it is one; without lines, that which the last before them was
+abbrev pub last_of : Option Control → List Asked → Option Control
+last_of was [] = was
+last_of was (request name body ∷ ls) = last_of None ls
+last_of was (control word ∷ ls) = last_of (Some word) ls
+last_of was (unread ∷ ls) = last_of None ls
 
 -- where the disk tells its files they stand for a state
 abbrev pub AreReadable : DiskState → Type 0
@@ -36,8 +36,8 @@ AreReadable s = IsTrue s.tells → IsReadable s.file
 
 -- These lines were served. If the files stood for a state where the last line before them was `@reopen`, they do where the last of them is.
 abbrev pub Rereads : List Asked → DiskState → DiskState → Type 0
-Rereads ls old new = (was : Bool) → (was ≡ true → AreReadable old)
-    → last_reopens was ls ≡ true → AreReadable new
+Rereads ls old new = (was : Option Control) → (was ≡ Some reopen → AreReadable old)
+    → last_of was ls ≡ Some reopen → AreReadable new
 
 -- so of lines that were at hand: nothing was taken
 pub record RereadsAtHand (ls : List Asked) (old new : DiskState) : Type 0 where

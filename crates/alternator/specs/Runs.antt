@@ -1,54 +1,27 @@
--- What a part of a run says, takes and leaves.
+-- What a part of a run over lines says, takes and leaves, and what an opening does.
 use Rattle.std.specs.Prelude.{◌≡◌, ◌≤◌, ℕ, List, [], ◌++◌, length, Bool, false, true, None, map}
 use Rattle.alt_base.specs.Prefix.{IsPrefix}
-use Rattle.alt_disk.specs.Disk.{DiskState, IsTrusted}
+use Rattle.alt_disk.specs.Disk.{DiskState}
 use Rattle.alt_lines.specs.Unread.{Unread, lines_now, lines_later}
 use Rattle.alt_machine.specs.State.{State}
-use Rattle.alt_shell.specs.Log.{Log, Grows, Tells, moments_of, notes_of, talks, until, taken, said_in, ended}
+use Rattle.alt_shell.specs.Log.{Log, Grows, moments_of, until, taken, said_in, ended, crosses}
 use Rattle.alt_tables.specs.Recovery.{WasLeft}
 use Rattle.alt_tables.specs.Images.{StandsFor}
-use Rattle.alt_tables.specs.Stands.{Stands}
-use Rattle.alt_tables.specs.declared.tables.Tables.{Tables}
-use Rattle.alternator.specs.Faults.{IsCausedBy}
-use Rattle.alternator.specs.declared.serve.RunFault.{RunFault}
-use Rattle.alternator.specs.Moments.{answered, said_by, taken_by, ended_by}
-use Rattle.alternator.specs.Stops.{Image, IsLeft, AtEach, LeftAtHand, AreWithin}
-use Rattle.alternator.specs.Turns.{Asked, turns, text_of, after, wanted, requests, asks, asked_of, out}
-
--- what is said of a stretch of calls: of the disk before and after it, its entries, and the moments told in it
-abbrev pub OfStretch : Type 1
-OfStretch = DiskState → DiskState → Log → List ℕ → Type 0
-
--- The calls of a stretch, as far as they are told: they have P. Each ended at a moment of the stretch.
-pub record Stretch (old new : DiskState) (P : OfStretch) : Type 0 where
-  pub entries : Log
-  pub told : List ℕ
-  pub grows : Grows old.beside new.beside entries
-  pub tells : Tells (moments_of old.beside) (moments_of new.beside) told
-  pub within : AreWithin old.moment new.moment entries
-  pub later : old.moment ≤ new.moment
-  pub trusts : IsTrusted old → IsTrusted new
-  pub holds : P old new entries told
-
--- What every stretch of a run keeps: what the disk says of itself, what a stop left at the moments before, what was noted, and whether
--- the shell talks.
-pub record Passes (old new : DiskState) : Type 0 where
-  pub tells : new.tells ≡ old.tells
-  pub honest : new.honest ≡ old.honest
-  pub anchors : new.anchors ≡ old.anchors
-  pub later : old.moment ≤ new.moment
-  pub faults : old.faults ≤ new.faults
-  pub past : (t f : ℕ) → t ≤ old.moment → new.fates t f ≡ old.fates t f
-  pub notes : notes_of new.beside ≡ notes_of old.beside
-  pub talking : talks new.beside ≡ talks old.beside
-
--- The state for which the tables stand now, and the calls by which it was reached, which have P of it.
-pub record Leads (old new : DiskState) (tables : Tables) (P : State → OfStretch) : Type 0 where
-  pub to : State
-  pub stands : Stands new tables to
-  pub calls : Stretch old new (P to)
+use Rattle.alt_talks.specs.Faults.{IsCausedBy}
+use Rattle.alt_tables.specs.declared.faults.TableFault.{TableFault}
+use Rattle.alt_talks.specs.Turns.{answered, text_of, after, wanted}
+use Rattle.alternator.specs.Moments.{said_by, taken_by, ended_by}
+use Rattle.alt_talks.specs.Stops.{Image, IsLeft, AtEach}
+use Rattle.alternator.specs.Turns.{Asked, turns, requests, asks, asked_of, out}
+use Rattle.alt_talks.specs.Runs.{OfStretch}
+use Rattle.alt_talks.specs.TalkStops.{LeavesNow}
 
 -- ---- lines that were at hand
+
+-- what a stop at a moment leaves while these lines are served from a state
+abbrev pub LeftAtHand : State → List Asked → Log → List ℕ → ℕ → Image → Type 0
+LeftAtHand s ls entries told t image =
+    IsLeft s (turns s ls told) (said_in (until t entries)) image
 
 -- Of these lines each was answered, at a moment of its own, and had the numbers that it wanted.
 pub record Serves (s : State) (ls : List Asked) (t : State) (entries : Log)
@@ -60,7 +33,7 @@ pub record Serves (s : State) (ls : List Asked) (t : State) (entries : Log)
 
 -- Serving these lines broke off. Those that were done were answered, at most one more was begun, and just these had a moment
 -- each. The fault has its cause: where that is want of a number, it is the first that one of them wanted.
-pub record Breaks (fault : RunFault) (s : State) (ls : List Asked) (entries : Log)
+pub record Breaks (fault : TableFault) (s : State) (ls : List Asked) (entries : Log)
     (told : List ℕ) : Type 0 where
   pub done : List Asked
   pub begun : List Asked
@@ -73,10 +46,11 @@ pub record Breaks (fault : RunFault) (s : State) (ls : List Asked) (entries : Lo
   pub enough : wanted (turns s done told) ≡ None
   pub wants : IsCausedBy (wanted (turns s (done ++ begun) told)) fault
 
--- nothing was taken
+-- nothing was taken, and no connection came or went: what was said was said on standard output
 pub record Rests (entries : Log) : Type 0 where
   pub silent : taken entries ≡ []
   pub goes_on : ended entries ≡ false
+  pub inside : crosses entries ≡ false
 
 -- ---- turns of taking
 
@@ -104,7 +78,7 @@ pub record ServesAtHand (s : State) (ls : List Asked) (t : State) (old new : Dis
   pub leaves : AtEach old new (LeftAtHand s ls entries told)
 
 -- that broke off
-pub record BreaksAtHand (fault : RunFault) (s : State) (ls : List Asked) (old new : DiskState)
+pub record BreaksAtHand (fault : TableFault) (s : State) (ls : List Asked) (old new : DiskState)
     (entries : Log) (told : List ℕ) : Type 0 where
   pub breaks : Breaks fault s ls entries told
   pub rests : Rests entries
@@ -124,6 +98,7 @@ pub record Goes (s : State) (u : Unread) (t : State) (v : Unread) (old new : Dis
   pub lines : (more : List ℕ) (ended : Bool) → asked_later u (taken entries ++ more) ended
       ≡ done ++ asked_later v more ended
   pub goes_on : ended entries ≡ false
+  pub inside : crosses entries ≡ false
   pub leaves : AtEach old new (LeftBy s u entries told)
 
 -- The rest of the input was taken, and all its lines were served.
@@ -131,12 +106,14 @@ pub record Ends (s : State) (u : Unread) (t : State) (old new : DiskState) (entr
     (told : List ℕ) : Type 0 where
   pub serves : Serves s (asked_later u (taken entries) true) t entries told
   pub at_end : ended entries ≡ true
+  pub inside : crosses entries ≡ false
   pub leaves : AtEach old new (LeftBy s u entries told)
 
 -- That broke off among the lines that were whole.
-pub record GoesSome (fault : RunFault) (s : State) (u : Unread) (old new : DiskState)
+pub record GoesSome (fault : TableFault) (s : State) (u : Unread) (old new : DiskState)
     (entries : Log) (told : List ℕ) : Type 0 where
   pub breaks : Breaks fault s (asked_later u (taken entries) (ended entries)) entries told
+  pub inside : crosses entries ≡ false
   pub leaves : AtEach old new (LeftBy s u entries told)
 
 -- more was taken, or the end was
@@ -154,21 +131,25 @@ LeftThen s entries told t image =
     (said_by t entries) image
 
 -- The whole input was taken, and each line of it was answered, each request at a moment of its own, no more and no fewer. What was
--- said is all of its Out. A stop at any moment leaves every write that was answered by then.
+-- said is all of its Out, on standard output, since no connection came or went. A stop at any moment leaves every write that was answered by
+-- then, and one at the end the state after all of them.
 pub record Answers (s : State) (old new : DiskState) (entries : Log)
     (told : List ℕ) : Type 0 where
   pub at_end : ended entries ≡ true
+  pub inside : crosses entries ≡ false
   pub said : said_in entries ≡ out s true (taken entries) told
   pub count : length told ≡ requests (asks true (taken entries))
   pub every : answered (turns s (asks true (taken entries)) told) (said_in entries)
       ≡ turns s (asks true (taken entries)) told
   pub enough : wanted (turns s (asks true (taken entries)) told) ≡ None
   pub leaves : AtEach old new (LeftThen s entries told)
+  pub last : LeavesNow new (after s (turns s (asks true (taken entries)) told))
 
 -- It broke off among the lines that were whole in what was taken. What was said is a prefix of their Out.
-pub record AnswersSome (fault : RunFault) (s : State) (old new : DiskState) (entries : Log)
+pub record AnswersSome (fault : TableFault) (s : State) (old new : DiskState) (entries : Log)
     (told : List ℕ) : Type 0 where
   pub breaks : Breaks fault s (asks (ended entries) (taken entries)) entries told
+  pub inside : crosses entries ≡ false
   pub said : IsPrefix (said_in entries) (out s (ended entries) (taken entries) told)
   pub leaves : AtEach old new (LeftThen s entries told)
 

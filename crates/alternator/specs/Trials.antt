@@ -7,18 +7,20 @@ use Rattle.sha2.specs.Sha256.{sha256}
 use Rattle.alt_base.specs.Prefix.{IsPrefix}
 use Rattle.alt_disk.specs.Disk.{DiskState}
 use Rattle.alt_lines.specs.Trial.{trial_lines}
-use Rattle.alt_machine.specs.Outcomes.{state_after}
+use Rattle.alt_machine.specs.Outcomes.{state_after, last_state}
 use Rattle.alt_machine.specs.State.{State}
 use Rattle.alt_shell.specs.Log.{Log, until, said_in}
 use Rattle.alt_tables.specs.Images.{StandsFor}
 use Rattle.alt_tables.specs.Stands.{Stands}
 use Rattle.alt_tables.specs.declared.tables.Tables.{Tables}
-use Rattle.alternator.specs.Faults.{IsCausedBy}
+use Rattle.alt_talks.specs.Faults.{IsCausedBy}
 use Rattle.alternator.specs.Runs.{Rests}
-use Rattle.alternator.specs.Stops.{Image, atoms_of, AtEach, IsAmong}
-use Rattle.alternator.specs.Turns.{Asked, Turn, asked_by, turns, text_of, after, wanted, requests}
-use Rattle.alternator.specs.declared.serve.RunFault.{RunFault}
+use Rattle.alt_talks.specs.Stops.{Image, atoms_of, AtEach, IsAmong}
+use Rattle.alternator.specs.Turns.{Asked, asked_by, turns, requests}
+use Rattle.alt_talks.specs.Turns.{Turn, text_of, after, wanted}
+use Rattle.alt_tables.specs.declared.faults.TableFault.{TableFault}
 use Rattle.alternator.specs.declared.tally.Tally.{Tally}
+use Rattle.alt_talks.specs.TalkStops.{LeavesNow}
 
 -- ---- the requests, and what they come to
 
@@ -71,7 +73,8 @@ pub record IsTried (s : State) (t : Turn) (said : List ℕ) (image : Image) : Ty
 abbrev pub LeftOfTrial : State → Turn → Log → ℕ → Image → Type 0
 LeftOfTrial s turn entries t image = IsTried s turn (said_in (until t entries)) image
 
--- All requests were carried out, and then the four lines were said, and nothing else. Nothing was taken, and no moment was asked.
+-- All requests were carried out, and then the four lines were said, and nothing else. Nothing was taken, and no moment was asked. A stop at the
+-- end leaves the state after all of them.
 pub record Tries (s : State) (seed count : ℕ) (old new : DiskState) (entries : Log)
     (told : List ℕ) : Type 0 where
   pub said : said_in entries ≡ (as_turn s seed count).text
@@ -79,9 +82,10 @@ pub record Tries (s : State) (seed count : ℕ) (old new : DiskState) (entries :
   pub unasked : told ≡ []
   pub enough : (as_turn s seed count).lacks ≡ None
   pub leaves : AtEach old new (LeftOfTrial s (as_turn s seed count) entries)
+  pub last : LeavesNow new (last_state s (as_turn s seed count).atoms)
 
 -- That broke off: what was said is the front of the four lines. Where a request lacked a number, it is the first that one lacked.
-pub record TriesSome (fault : RunFault) (s : State) (seed count : ℕ) (old new : DiskState)
+pub record TriesSome (fault : TableFault) (s : State) (seed count : ℕ) (old new : DiskState)
     (entries : Log) (told : List ℕ) : Type 0 where
   pub said : IsPrefix (said_in entries) (as_turn s seed count).text
   pub rests : Rests entries
@@ -106,7 +110,7 @@ pub record Counted (s : State) (ls : List Asked) (before behind : Tally) (old ne
   pub leaves : AtEach old new (λ _ image. IsAmong image s (atoms_of (trial_turns s ls)))
 
 -- that broke off
-pub record CountedSome (fault : RunFault) (s : State) (ls : List Asked)
+pub record CountedSome (fault : TableFault) (s : State) (ls : List Asked)
     (old new : DiskState) : Type 0 where
   pub wants : IsCausedBy (wanted (trial_turns s ls)) fault
   pub leaves : AtEach old new (λ _ image. IsAmong image s (atoms_of (trial_turns s ls)))

@@ -1,23 +1,27 @@
 -- What the lines of an input come to, one after the other: one fold, from a given state.
-use Rattle.std.specs.Prelude.{ℕ, suc, List, [], ◌∷◌, ◌++◌, map, Bool, ◌==◌, if◌then◌else◌, codes, decimal, Option, Some, None}
+use Rattle.std.specs.Prelude.{ℕ, suc, List, [], ◌∷◌, ◌++◌, map, Bool, ◌==◌, if◌then◌else◌, codes, decimal, None}
 use Rattle.std.specs.Str.{bytes_eq}
-use Rattle.std.specs.List.{before_first, after_first, flat_map}
+use Rattle.std.specs.List.{before_first, after_first}
 use Rattle.serde_json.specs.Written.{compact_text}
 use Rattle.alt_lines.specs.Lines.{Line, whole, too_long, lines_of}
 use Rattle.alt_machine.specs.Operations.{operation_named}
-use Rattle.alt_machine.specs.Outcomes.{Outcome, last_state}
+use Rattle.alt_machine.specs.Outcomes.{Outcome}
 use Rattle.alt_machine.specs.State.{State}
 use Rattle.alt_machine.specs.Step.{step}
-use Rattle.alt_machine.specs.Wanted.{Lack, wanted as wanted_by}
+use Rattle.alt_machine.specs.Wanted.{wanted as wanted_by}
 use Rattle.alt_shape.specs.Refusals.{Answer}
+use Rattle.alt_talks.specs.Turns.{Turn, after_turn, text_of}
 
 -- ---- what lines ask
 
--- what a line asks for: a request, by its operation's name and its body; that the store is opened again; or nothing, since it is
--- too long to be read
+-- a word of control: that the store is opened again
+pub data Control : Type 0 where
+  reopen : Control
+
+-- what a line asks for: a request, by its operation's name and its body; a word of control; or nothing, since it is too long to be read
 pub data Asked : Type 0 where
   request : List ℕ → List ℕ → Asked
-  reopen : Asked
+  control : Control → Asked
   unread : Asked
 
 -- whether a byte is a space
@@ -28,7 +32,7 @@ is_space b = b == 32
 -- without a space is all name
 abbrev pub asked_by : List ℕ → Asked
 asked_by text =
-    if bytes_eq text (codes "@reopen") then reopen else request (before_first is_space text)
+    if bytes_eq text (codes "@reopen") then control reopen else request (before_first is_space text)
     (after_first is_space text)
 
 -- what a line asks for
@@ -48,17 +52,10 @@ asks ended bytes = map asked_of (lines_of longest_line ended bytes)
 abbrev pub requests : List Asked → ℕ
 requests [] = 0
 requests (request name body ∷ ls) = suc (requests ls)
-requests (reopen ∷ ls) = requests ls
+requests (control word ∷ ls) = requests ls
 requests (unread ∷ ls) = requests ls
 
 -- ---- what they come to
-
--- What a line comes to: the text that is said to it, the single writes that it makes, each by the state after it, and the
--- number or family that one of them wants and can't have.
-pub record Turn : Type 0 where
-  pub text : List ℕ
-  pub atoms : List State
-  pub lacks : Option Lack
 
 -- the line of an answer: its status, a space, its JSON without spaces, and a line feed
 abbrev pub line_of : Answer → List ℕ
@@ -85,9 +82,9 @@ turned_away = record {
 abbrev pub opened_again : Turn
 opened_again = record { text = codes "ok\n"; atoms = []; lacks = None }
 
--- the state after a turn
-abbrev pub after_turn : State → Turn → State
-after_turn s t = last_state s t.atoms
+-- what a word of control comes to
+abbrev pub obeyed : Control → Turn
+obeyed reopen = opened_again
 
 -- The turns of these lines, each request at the next moment, as long as there are moments.
 abbrev pub turns : State → List Asked → List ℕ → List Turn
@@ -95,29 +92,10 @@ turns s [] moments = []
 turns s (request name body ∷ ls) [] = []
 turns s (request name body ∷ ls) (m ∷ ms) =
     carried_out s name body m ∷ turns (after_turn s (carried_out s name body m)) ls ms
-turns s (reopen ∷ ls) moments = opened_again ∷ turns s ls moments
+turns s (control word ∷ ls) moments = obeyed word ∷ turns s ls moments
 turns s (unread ∷ ls) moments = turned_away ∷ turns s ls moments
 
 -- ---- what they come to together
-
--- all that is said
-abbrev pub text_of : List Turn → List ℕ
-text_of ts = flat_map (λ t. t.text) ts
-
--- the state after the last
-abbrev pub after : State → List Turn → State
-after s [] = s
-after s (t ∷ ts) = after (after_turn s t) ts
-
--- the first of two, where there is one
-abbrev pub or_next : Option Lack → Option Lack → Option Lack
-or_next None next = next
-or_next (Some lack) next = Some lack
-
--- the first number or family that is wanted and can't be had
-abbrev pub wanted : List Turn → Option Lack
-wanted [] = None
-wanted (t ∷ ts) = or_next t.lacks (wanted ts)
 
 -- Out: what is said to an input, from a state
 abbrev pub out : State → Bool → List ℕ → List ℕ → List ℕ

@@ -3,7 +3,7 @@
 ghost use Rattle.std.specs.Prelude.{◌≡◌, false};
 ghost use Rattle.alt_shell.specs.Log.{talks};
 ghost use Rattle.alternator.specs.Endings.{HasMade};
-ghost use Rattle.alternator.specs.Runs.{Passes};
+ghost use Rattle.alt_talks.specs.Runs.{Passes};
 
 use crate::ending::Ending;
 use alt_engine::{MakeFault, make_store};

@@ -1,14 +1,11 @@
 //! Alternator: the interface of Amazon DynamoDB over a store in one folder. It answers sixteen operations, asked as lines or over HTTP.
 #![tactic(auto)]
 
-mod connection;
 mod ending;
-mod front;
 mod init;
 mod lines;
 mod open;
 mod reply;
-mod response;
 mod run;
 mod serve;
 mod tally;
@@ -19,6 +16,7 @@ use alt_disk::DiskFault;
 use alt_host::HostShell;
 use std::alloc::{AllocError, Global};
 use std::env;
+use std::io::ErrorKind;
 use std::process::ExitCode;
 use words::{job_of, port_of};
 
@@ -29,6 +27,9 @@ fn main(rt: HostRuntime) -> ExitCode {
     let own: Result<_, _> = rt.clone();
     let (Ok(words), Ok(own)) = (words_of(&rt, alloc), own) else {
         return noted(&rt, "alternator: memory\n", 5);
+    };
+    let Some(words) = words else {
+        return noted(&rt, "alternator: words\n", 1);
     };
     let (Some(port), [folder, _, rest @ ..]) = (port_of(&words), words.as_slice()) else {
         return noted(&rt, "alternator: words\n", 1);
@@ -49,13 +50,16 @@ fn noted(rt: &HostRuntime, note: &str, status: u8) -> ExitCode {
     ExitCode::from(status)
 }
 
-fn words_of(rt: &HostRuntime, alloc: Global) -> Result<Vec<String>, AllocError> {
+/// The words behind the name of the program, `None` where one is no text in UTF-8.
+fn words_of(rt: &HostRuntime, alloc: Global) -> Result<Option<Vec<String>>, AllocError> {
     let mut words = Vec::new(alloc);
-    let Ok(args) = env::args(rt) else {
-        return Err(AllocError);
+    let args = match env::args(rt) {
+        Ok(args) => args,
+        Err(fault) if fault.kind() == ErrorKind::OutOfMemory => return Err(AllocError),
+        Err(_) => return Ok(None),
     };
     for word in args.skip(1) {
         words.push(word)?;
     }
-    Ok(words)
+    Ok(Some(words))
 }

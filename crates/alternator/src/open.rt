@@ -6,29 +6,28 @@ ghost use Rattle.alt_disk.specs.Disk.{IsTrusted, Goes};
 ghost use Rattle.alt_machine.specs.State.{State};
 ghost use Rattle.alt_tables.specs.Stands.{Stands};
 ghost use Rattle.alternator.specs.Faults.{opening_fault, IsUnreadable};
-ghost use Rattle.alternator.specs.Stops.{AtEach};
+ghost use Rattle.alt_talks.specs.Stops.{AtEach};
 ghost use Rattle.alt_tables.specs.Images.{StandsFor};
 ghost use Rattle.alt_tables.specs.Recovery.{WasLeft};
 
-use crate::serve::RunFault;
 use alt_disk::Disk;
-use alt_tables::{OpenFault, Tables};
+use alt_tables::{OpenFault, TableFault, Tables};
 use std::alloc::Global;
 
 /// Why an opening ends a run.
-fn fault_of(fault: OpenFault) -> RunFault
+fn fault_of(fault: OpenFault) -> TableFault
     ensures { result ≡ opening_fault fault }
 {
     match fault {
-        OpenFault::Damaged { file, at } => RunFault::Damaged { file, at },
-        OpenFault::BadRow { family, key } => RunFault::BadRow { family, key },
-        OpenFault::Failed => RunFault::Failed,
-        OpenFault::NoMemory => RunFault::NoMemory,
+        OpenFault::Damaged { file, at } => TableFault::Damaged { file, at },
+        OpenFault::BadRow { family, key } => TableFault::BadRow { family, key },
+        OpenFault::Failed => TableFault::Failed,
+        OpenFault::NoMemory => TableFault::NoMemory,
     }
 }
 
 /// The tables of the store that lies on the disk. Nothing is written.
-pub(crate) fn open<D: Disk>(alloc: Global, disk: &mut D) -> Result<Tables, RunFault>
+pub(crate) fn open<D: Disk>(alloc: Global, disk: &mut D) -> Result<Tables, TableFault>
     ensures reads { IfOk result (λ t. IsTrue (D.state disk.old).tells
         → (s : State) × StandsFor (D.state disk.old).file s) }
     ensures stands { IfOk result (λ t. IsTrusted (D.state disk.old) → (s : State)
@@ -39,7 +38,7 @@ pub(crate) fn open<D: Disk>(alloc: Global, disk: &mut D) -> Result<Tables, RunFa
     ensures unreadable { IsTrue (D.state disk.old).tells
         → IfErr result (IsUnreadable (D.state disk.old).file) }
     ensures goes { Goes (D.state disk.old) (D.state disk.new) }
-    ensures cause { IsErrOf result RunFault.Failed
+    ensures cause { IsErrOf result TableFault.Failed
         → Rose (D.state disk.old).faults (D.state disk.new).faults }
 {
     match Tables::recover(alloc, disk) {

@@ -8,12 +8,12 @@ ghost use Rattle.alt_machine.specs.State.{State};
 ghost use Rattle.alt_shape.specs.Body.{body_json};
 ghost use Rattle.alt_shape.specs.Refusals.{answer_of};
 ghost use Rattle.alt_tables.specs.Stands.{AreReady, Stands};
-ghost use Rattle.alternator.specs.Faults.{IsCausedBy, request_fault};
-ghost use Rattle.alternator.specs.declared.serve.RunFault.TheVariants.{Failed};
-ghost use Rattle.alternator.specs.Stops.{AtEach, IsAmong};
-ghost use Rattle.alternator.specs.Turns.{carried_out, after_turn, line_of};
+ghost use Rattle.alt_talks.specs.Faults.{IsCausedBy};
+ghost use Rattle.alt_tables.specs.declared.faults.TableFault.TheVariants.{Failed};
+ghost use Rattle.alt_talks.specs.Stops.{AtEach, IsAmong};
+ghost use Rattle.alternator.specs.Turns.{carried_out, line_of};
+ghost use Rattle.alt_talks.specs.Turns.{after_turn};
 
-use crate::serve::RunFault;
 use alt_base::NoMemory;
 use alt_disk::Disk;
 use alt_dispatch::{answer, operation_named};
@@ -39,7 +39,7 @@ pub(crate) fn reply_text<D: Disk>(
     name: &[u8],
     body: &[u8],
     moment: u64,
-) -> Result<String, RunFault>
+) -> Result<String, TableFault>
     requires ready { AreReady (D.state disk.old) tables.old }
     ensures text { (s : State) → Stands (D.state disk.old) tables.old s → IfOk result
         (λ text. string_bytes text ≡ (carried_out s name.now body.now moment).text) }
@@ -60,21 +60,8 @@ pub(crate) fn reply_text<D: Disk>(
     match answer(alloc, tables, disk, operation_named(name), body, moment) {
         Ok(reply) => match line_of(alloc, &reply) {
             Ok(text) => Ok(text),
-            Err(_) => Err(RunFault::NoMemory),
+            Err(_) => Err(TableFault::NoMemory),
         },
-        Err(fault) => Err(fault_of(fault)),
-    }
-}
-
-/// Why a request without an answer ends a run.
-pub(crate) fn fault_of(fault: TableFault) -> RunFault
-    ensures { result ≡ request_fault fault }
-{
-    match fault {
-        TableFault::Spent { number } => RunFault::Spent { number },
-        TableFault::Damaged { file, at } => RunFault::Damaged { file, at },
-        TableFault::BadRow { family, key } => RunFault::BadRow { family, key },
-        TableFault::Failed => RunFault::Failed,
-        TableFault::NoMemory => RunFault::NoMemory,
+        Err(fault) => Err(fault),
     }
 }

@@ -9,27 +9,28 @@ ghost use Rattle.alt_tables.specs.Stands.{AreReady, Stands};
 ghost use Rattle.alternator.specs.Endings.{Ended, HasDone, HasRun, Done, Broken, IsReadable, LacksNumber};
 ghost use Rattle.alternator.specs.Faults.{IsUnreadable};
 ghost use Rattle.alternator.specs.Rereading.{ReadAgain};
-ghost use Rattle.alternator.specs.Runs.{Stretch, Passes, Answers, AnswersSome, IsOpening, Opened};
-ghost use Rattle.alternator.specs.TalkRules.{rules};
-ghost use Rattle.alternator.specs.TalkStops.{ServedOn, ServedSomeOn};
+ghost use Rattle.alt_talks.specs.Runs.{Stretch, Passes};
+ghost use Rattle.alternator.specs.Runs.{Answers, AnswersSome, IsOpening, Opened};
+ghost use Rattle.alt_talks.specs.TalkRules.{rules};
+ghost use Rattle.alt_talks.specs.TalkStops.{LeavesNow, ServedOn, ServedSomeOn};
 ghost use Rattle.alternator.specs.Words.{job_of, bytes_of, IsServable, IsOverStore};
 ghost use Rattle.alternator.specs.declared.ending.Ending.{Ending as RunEnding};
 ghost use Rattle.alternator.specs.declared.ending.Ending.TheVariants.{Whole};
-ghost use Rattle.alternator.specs.declared.serve.RunFault.TheVariants.{Failed};
+ghost use Rattle.alt_tables.specs.declared.faults.TableFault.TheVariants.{Failed};
 ghost use Rattle.alternator.specs.declared.words.Job.{Job as RunJob};
 ghost use Rattle.alternator.specs.declared.words.Job.TheVariants.{Init, Replay};
 
-use crate::connection::connections;
 use crate::ending::{Ending, noted, status_of};
 use crate::init::init;
 use crate::open::open;
-use crate::serve::{RunFault, pull};
+use crate::serve::pull;
 use crate::trial::carry_out_trial;
 use crate::words::{self, Job};
 use alt_base::NoMemory;
 use alt_lines::{LONGEST_LINE, Lines};
 use alt_shell::Shell;
-use alt_tables::Tables;
+use alt_tables::{TableFault, Tables};
+use alt_talks::connections;
 use std::alloc::Global;
 use std::mem::forget;
 
@@ -49,7 +50,7 @@ fn pulls<S: Shell>(
     tables: &mut Tables,
     buf: &mut [u8],
     shell: &mut S,
-) -> Result<(), RunFault>
+) -> Result<(), TableFault>
     requires ready { AreReady (S.state shell.old) tables.old }
     requires room { 0 < length buf.old }
     requires quiet { talks (S.state shell.old).beside ≡ false }
@@ -57,7 +58,7 @@ fn pulls<S: Shell>(
         (λ _. Stretch (S.state shell.old) (S.state shell.new) (Answers s))
         (λ f. Stretch (S.state shell.old) (S.state shell.new) (AnswersSome f s)) }
     ensures reread { OnOk result (ReadAgain (S.state shell.old) (S.state shell.new)) }
-    ensures cause { IsErrOf result RunFault.Failed
+    ensures cause { IsErrOf result TableFault.Failed
         → Rose (S.state shell.old).faults (S.state shell.new).faults }
     ensures passes { Passes (S.state shell.old) (S.state shell.new) }
 {
@@ -73,19 +74,19 @@ fn pulls<S: Shell>(
 }
 
 /// Requests as lines of the input, over the tables of an open store.
-fn replay<S: Shell>(alloc: Global, tables: &mut Tables, shell: &mut S) -> Result<(), RunFault>
+fn replay<S: Shell>(alloc: Global, tables: &mut Tables, shell: &mut S) -> Result<(), TableFault>
     requires ready { AreReady (S.state shell.old) tables.old }
     requires quiet { talks (S.state shell.old).beside ≡ false }
     ensures answered { (s : State) → Stands (S.state shell.old) tables.old s → MatchResult result
         (λ _. Stretch (S.state shell.old) (S.state shell.new) (Answers s))
         (λ f. Stretch (S.state shell.old) (S.state shell.new) (AnswersSome f s)) }
     ensures reread { OnOk result (ReadAgain (S.state shell.old) (S.state shell.new)) }
-    ensures cause { IsErrOf result RunFault.Failed
+    ensures cause { IsErrOf result TableFault.Failed
         → Rose (S.state shell.old).faults (S.state shell.new).faults }
     ensures passes { Passes (S.state shell.old) (S.state shell.new) }
 {
     let Ok(mut buf) = buffer(alloc) else {
-        return Err(RunFault::NoMemory);
+        return Err(TableFault::NoMemory);
     };
     pulls(alloc, tables, &mut buf, shell)
 }
@@ -97,21 +98,21 @@ fn serve<S: Shell>(
     per: u32,
     count: u32,
     shell: &mut S,
-) -> Result<(), RunFault>
+) -> Result<(), TableFault>
     requires ready { AreReady (S.state shell.old) tables.old }
     requires some { 0 < per }
     requires quiet { talks (S.state shell.old).beside ≡ false }
     ensures served { (s : State) → Stands (S.state shell.old) tables.old s → MatchResult result
         (λ _. Stretch (S.state shell.old) (S.state shell.new)
-        (λ a b es ms. (t : State) × ServedOn rules per count s t a b es ms))
+        (λ a b es ms. (t : State) × ServedOn rules per count s t a b es ms × LeavesNow b t))
         (λ f. Stretch (S.state shell.old) (S.state shell.new)
         (ServedSomeOn rules per count f s)) }
-    ensures cause { IsErrOf result RunFault.Failed
+    ensures cause { IsErrOf result TableFault.Failed
         → Rose (S.state shell.old).faults (S.state shell.new).faults }
     ensures passes { Passes (S.state shell.old) (S.state shell.new) }
 {
     let Ok(mut buf) = buffer(alloc) else {
-        return Err(RunFault::NoMemory);
+        return Err(TableFault::NoMemory);
     };
     connections(alloc, tables, per, count, &mut buf, shell)
 }
@@ -122,7 +123,7 @@ fn carry_out<S: Shell>(
     tables: &mut Tables,
     job: Job,
     shell: &mut S,
-) -> Result<(), RunFault>
+) -> Result<(), TableFault>
     requires ready { AreReady (S.state shell.old) tables.old }
     requires quiet { talks (S.state shell.old).beside ≡ false }
     requires over { IsOverStore job }
@@ -132,7 +133,7 @@ fn carry_out<S: Shell>(
         (λ f. Broken f job s (S.state shell.old) (S.state shell.new)) }
     ensures reread { job ≡ Replay
         → OnOk result (ReadAgain (S.state shell.old) (S.state shell.new)) }
-    ensures cause { IsErrOf result RunFault.Failed
+    ensures cause { IsErrOf result TableFault.Failed
         → Rose (S.state shell.old).faults (S.state shell.new).faults }
     ensures passes { Passes (S.state shell.old) (S.state shell.new) }
 {
@@ -145,7 +146,7 @@ fn carry_out<S: Shell>(
 }
 
 /// A job over the store that lies on the disk.
-fn over_store<S: Shell>(alloc: Global, job: Job, shell: &mut S) -> Result<(), RunFault>
+fn over_store<S: Shell>(alloc: Global, job: Job, shell: &mut S) -> Result<(), TableFault>
     requires quiet { talks (S.state shell.old).beside ≡ false }
     requires over { IsOverStore job }
     requires some { IsServable job }
@@ -161,7 +162,7 @@ fn over_store<S: Shell>(alloc: Global, job: Job, shell: &mut S) -> Result<(), Ru
         ⊎ IsReadable (S.state shell.old).file) }
     ensures reread { job ≡ Replay
         → OnOk result (ReadAgain (S.state shell.old) (S.state shell.new)) }
-    ensures cause { IsErrOf result RunFault.Failed
+    ensures cause { IsErrOf result TableFault.Failed
         → Rose (S.state shell.old).faults (S.state shell.new).faults }
     ensures passes { Passes (S.state shell.old) (S.state shell.new) }
 {
@@ -188,11 +189,11 @@ fn finished<S: Shell>(alloc: Global, job: Job, shell: &mut S) -> Ending
 {
     match over_store(alloc, job, shell) {
         Ok(()) => Ending::Whole,
-        Err(RunFault::Failed) => Ending::Device,
-        Err(RunFault::NoMemory) => Ending::Memory,
-        Err(RunFault::Spent { number }) => Ending::Spent { number },
-        Err(RunFault::Damaged { file, at }) => Ending::Damaged { file, at },
-        Err(RunFault::BadRow { family, key }) => Ending::BadRow { family, key },
+        Err(TableFault::Failed) => Ending::Device,
+        Err(TableFault::NoMemory) => Ending::Memory,
+        Err(TableFault::Spent { number }) => Ending::Spent { number },
+        Err(TableFault::Damaged { file, at }) => Ending::Damaged { file, at },
+        Err(TableFault::BadRow { family, key }) => Ending::BadRow { family, key },
     }
 }
 

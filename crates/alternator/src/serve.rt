@@ -12,32 +12,17 @@ ghost use Rattle.alt_disk.specs.Disk.{IsTrusted};
 ghost use Rattle.alt_tables.specs.Images.{StandsFor};
 ghost use Rattle.alt_tables.specs.Stands.{AreReady, Stands};
 ghost use Rattle.alternator.specs.Rereading.{RereadsAtHand, RereadsOn};
-ghost use Rattle.alternator.specs.Runs.{Stretch, Passes, Leads, ServesAtHand, BreaksAtHand, HandsOut, GoesOrEnds, GoesSome, asked_now};
-ghost use Rattle.alternator.specs.Turns.{request, reopen as reopened, unread as no_request, asked_of};
+ghost use Rattle.alt_talks.specs.Runs.{Stretch, Passes, Leads};
+ghost use Rattle.alternator.specs.Runs.{ServesAtHand, BreaksAtHand, HandsOut, GoesOrEnds, GoesSome, asked_now};
+ghost use Rattle.alternator.specs.Turns.{request, control, reopen as reopened, unread as no_request, asked_of};
 
 use crate::lines::{is_reopen, parts};
 use crate::open::open;
 use crate::reply::reply_text;
-use alt_fields::Bytes;
 use alt_lines::{Cut, Lines};
 use alt_shell::Shell;
-use alt_tables::Tables;
+use alt_tables::{TableFault, Tables};
 use std::alloc::Global;
-
-/// Why a run ends early.
-#[derive(Debug, Drop)]
-pub(crate) enum RunFault {
-    /// The device failed.
-    Failed,
-    /// Memory was refused.
-    NoMemory,
-    /// A write would need this number, or a new table this family, and it is never given out.
-    Spent { number: u64 },
-    /// The files are no store's, for the bytes of this file at this place.
-    Damaged { file: u32, at: u64 },
-    /// The rows are those of no state, and of this family and key is the first that is wrong.
-    BadRow { family: u32, key: Bytes },
-}
 
 /// One request: it is answered at the moment that the clock tells.
 fn answer_request<S: Shell>(
@@ -46,7 +31,7 @@ fn answer_request<S: Shell>(
     name: &[u8],
     body: &[u8],
     shell: &mut S,
-) -> Result<(), RunFault>
+) -> Result<(), TableFault>
     requires ready { AreReady (S.state shell.old) tables.old }
     requires quiet { talks (S.state shell.old).beside ≡ false }
     ensures served { (s : State) → Stands (S.state shell.old) tables.old s → MatchResult result
@@ -56,7 +41,7 @@ fn answer_request<S: Shell>(
         (BreaksAtHand f s (request name.now body.now ∷ []))) }
     ensures reread { OnOk result (RereadsAtHand (request name.now body.now ∷ [])
         (S.state shell.old) (S.state shell.new)) }
-    ensures cause { IsErrOf result RunFault.Failed
+    ensures cause { IsErrOf result TableFault.Failed
         → Rose (S.state shell.old).faults (S.state shell.new).faults }
     ensures passes { Passes (S.state shell.old) (S.state shell.new) }
 {
@@ -67,12 +52,12 @@ fn answer_request<S: Shell>(
     };
     match shell.say(text.as_bytes()) {
         Ok(()) => Ok(()),
-        Err(_) => Err(RunFault::Failed),
+        Err(_) => Err(TableFault::Failed),
     }
 }
 
 /// A line that is too long to be read: it is told so, at no moment.
-fn turn_away<S: Shell>(tables: &Tables, shell: &mut S) -> Result<(), RunFault>
+fn turn_away<S: Shell>(tables: &Tables, shell: &mut S) -> Result<(), TableFault>
     requires quiet { talks (S.state shell.old).beside ≡ false }
     ensures served { (s : State) → Stands (S.state shell.old) tables.now s → MatchResult result
         (λ _. Leads (S.state shell.old) (S.state shell.new) tables.now
@@ -81,31 +66,31 @@ fn turn_away<S: Shell>(tables: &Tables, shell: &mut S) -> Result<(), RunFault>
         (BreaksAtHand f s (no_request ∷ []))) }
     ensures reread { OnOk result (RereadsAtHand (no_request ∷ [])
         (S.state shell.old) (S.state shell.new)) }
-    ensures cause { IsErrOf result RunFault.Failed
+    ensures cause { IsErrOf result TableFault.Failed
         → Rose (S.state shell.old).faults (S.state shell.new).faults }
     ensures passes { Passes (S.state shell.old) (S.state shell.new) }
 {
     match shell.say(b"413 {\"message\":\"request too long\"}\n") {
         Ok(()) => Ok(()),
-        Err(_) => Err(RunFault::Failed),
+        Err(_) => Err(TableFault::Failed),
     }
 }
 
 /// The store is opened again. What the disk holds counts from then on.
-fn reopen<S: Shell>(alloc: Global, tables: &mut Tables, shell: &mut S) -> Result<(), RunFault>
+fn reopen<S: Shell>(alloc: Global, tables: &mut Tables, shell: &mut S) -> Result<(), TableFault>
     requires quiet { talks (S.state shell.old).beside ≡ false }
     ensures served { (s : State) → Stands (S.state shell.old) tables.old s → MatchResult result
         (λ _. Leads (S.state shell.old) (S.state shell.new) tables.new
-        (ServesAtHand s (reopened ∷ [])))
+        (ServesAtHand s (control reopened ∷ [])))
         (λ f. Stretch (S.state shell.old) (S.state shell.new)
-        (BreaksAtHand f s (reopened ∷ []))) }
+        (BreaksAtHand f s (control reopened ∷ []))) }
     // The tables are those of the files, whatever was in hand before.
     ensures opened { OnOk result (IsTrusted (S.state shell.old) → (r : State)
         → StandsFor (S.state shell.old).file r → Stands (S.state shell.new) tables.new r) }
     // And the files stand for a state, as they read on any disk that tells them.
-    ensures reread { OnOk result (RereadsAtHand (reopened ∷ [])
+    ensures reread { OnOk result (RereadsAtHand (control reopened ∷ [])
         (S.state shell.old) (S.state shell.new)) }
-    ensures cause { IsErrOf result RunFault.Failed
+    ensures cause { IsErrOf result TableFault.Failed
         → Rose (S.state shell.old).faults (S.state shell.new).faults }
     ensures passes { Passes (S.state shell.old) (S.state shell.new) }
 {
@@ -115,7 +100,7 @@ fn reopen<S: Shell>(alloc: Global, tables: &mut Tables, shell: &mut S) -> Result
     }
     match shell.say(b"ok\n") {
         Ok(()) => Ok(()),
-        Err(_) => Err(RunFault::Failed),
+        Err(_) => Err(TableFault::Failed),
     }
 }
 
@@ -126,7 +111,7 @@ fn answer_line<S: Shell>(
     cut: Cut,
     line: &[u8],
     shell: &mut S,
-) -> Result<(), RunFault>
+) -> Result<(), TableFault>
     requires ready { AreReady (S.state shell.old) tables.old }
     requires quiet { talks (S.state shell.old).beside ≡ false }
     ensures served { (taken : Line) → Tells taken cut [] line.now →
@@ -137,7 +122,7 @@ fn answer_line<S: Shell>(
         (BreaksAtHand f s (asked_of taken ∷ []))) }
     ensures reread { OnOk result ((taken : Line) → Tells taken cut [] line.now
         → RereadsAtHand (asked_of taken ∷ []) (S.state shell.old) (S.state shell.new)) }
-    ensures cause { IsErrOf result RunFault.Failed
+    ensures cause { IsErrOf result TableFault.Failed
         → Rose (S.state shell.old).faults (S.state shell.new).faults }
     ensures passes { Passes (S.state shell.old) (S.state shell.new) }
 {
@@ -154,18 +139,18 @@ fn answer_line<S: Shell>(
 }
 
 /// The next line that is whole, in the emptied buffer.
-fn next_line(lines: &mut Lines, line: &mut Vec<u8>) -> Result<Option<Cut>, RunFault>
+fn next_line(lines: &mut Lines, line: &mut Vec<u8>) -> Result<Option<Cut>, TableFault>
     ensures some { IfOk result (λ found. IfSome found (λ cut. (taken : Line)
         × Tells taken cut [] line.new.items × TakesLine taken (unread lines.old)
         (unread lines.new))) }
     ensures none { IfOk result (λ found. IfNone found
         (HasNone (unread lines.old) (unread lines.new))) }
-    ensures err { IfErr result (λ fault. fault ≡ RunFault.NoMemory) }
+    ensures err { IfErr result (λ fault. fault ≡ TableFault.NoMemory) }
 {
     line.clear();
     match lines.line(line) {
         Ok(found) => Ok(found),
-        Err(_) => Err(RunFault::NoMemory),
+        Err(_) => Err(TableFault::NoMemory),
     }
 }
 
@@ -176,7 +161,7 @@ pub(crate) fn at_hand<S: Shell>(
     lines: &mut Lines,
     line: &mut Vec<u8>,
     shell: &mut S,
-) -> Result<(), RunFault>
+) -> Result<(), TableFault>
     requires ready { AreReady (S.state shell.old) tables.old }
     requires quiet { talks (S.state shell.old).beside ≡ false }
     ensures served { (s : State) → Stands (S.state shell.old) tables.old s → MatchResult result
@@ -187,7 +172,7 @@ pub(crate) fn at_hand<S: Shell>(
     ensures reread { OnOk result (RereadsAtHand (asked_now (unread lines.old))
         (S.state shell.old) (S.state shell.new)) }
     ensures lines { OnOk result (HandsOut (unread lines.old) (unread lines.new)) }
-    ensures cause { IsErrOf result RunFault.Failed
+    ensures cause { IsErrOf result TableFault.Failed
         → Rose (S.state shell.old).faults (S.state shell.new).faults }
     ensures passes { Passes (S.state shell.old) (S.state shell.new) }
 {
@@ -211,7 +196,7 @@ pub(crate) fn pull<S: Shell>(
     line: &mut Vec<u8>,
     buf: &mut [u8],
     shell: &mut S,
-) -> Result<bool, RunFault>
+) -> Result<bool, TableFault>
     requires ready { AreReady (S.state shell.old) tables.old }
     requires quiet { talks (S.state shell.old).beside ≡ false }
     requires room { 0 < length buf.old }
@@ -226,12 +211,12 @@ pub(crate) fn pull<S: Shell>(
     ensures going { IfOk result (λ more. more ≡ true → (unread lines.new).ended ≡ false) }
     ensures time { OnOk result ((S.state shell.old).moment < (S.state shell.new).moment) }
     ensures within { OnOk result ((S.state shell.old).moment < 2 ^ 64 - 1) }
-    ensures cause { IsErrOf result RunFault.Failed
+    ensures cause { IsErrOf result TableFault.Failed
         → Rose (S.state shell.old).faults (S.state shell.new).faults }
     ensures passes { Passes (S.state shell.old) (S.state shell.new) }
 {
     let Ok(count) = shell.take(buf) else {
-        return Err(RunFault::Failed);
+        return Err(TableFault::Failed);
     };
     if count == 0 {
         lines.end();
@@ -241,7 +226,7 @@ pub(crate) fn pull<S: Shell>(
         };
     }
     let Ok(()) = lines.give(&buf[..count]) else {
-        return Err(RunFault::NoMemory);
+        return Err(TableFault::NoMemory);
     };
     match at_hand(alloc, tables, lines, line, shell) {
         Ok(()) => Ok(true),

@@ -3,7 +3,7 @@
 ghost use Rattle.std.specs.Prelude.{◌≡◌, ◌≤◌, ◌<◌, ◌+◌, ◌^◌, ◌-◌, ◌++◌, ◌∷◌, [], List, length, nat_eq, IfOk, string_bytes};
 ghost use Rattle.std.specs.List.{starts_with};
 ghost use Rattle.alternator.specs.Trials.{IsTally, beginning, summary};
-ghost use Rattle.alternator.specs.Turns.{Turn};
+ghost use Rattle.alt_talks.specs.Turns.{Turn};
 
 use alt_base::NoMemory;
 use sha2::{Digest, Sha256};

@@ -2,7 +2,7 @@ use Rattle.std.proofs.Common.{Option, subst}
 use Rattle.alt_machine.specs.Step.{step}
 use Rattle.alt_machine.specs.declared.Operation.{Operation}
 use Rattle.alt_tables.specs.Images.{Leaves}
-use Rattle.alternator.proofs.Beginning.{among_leaves}
+use Rattle.alt_talks.proofs.Answering.{among_leaves}
 use Rattle.alternator.proofs.reply.reply_text.Goals as goal
 
 pub returns-in-Ok-line_of-clause-leaves : goal.returns-in-Ok-line_of-clause-leaves

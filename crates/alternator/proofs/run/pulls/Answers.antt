@@ -4,12 +4,14 @@ use Rattle.alt_lines.specs.Unread.{Unread}
 use Rattle.alt_machine.specs.State.{State}
 use Rattle.alt_disk.specs.Disk.{DiskState}
 use Rattle.alternator.specs.Rereading.{RereadsSome, RereadsOn}
-use Rattle.alternator.specs.Runs.{Leads, Goes, GoesOrEnds, GoesSome, Ends, Answers, AnswersSome}
-use Rattle.alternator.proofs.Passing.{passes_none, passes_then, passes_back}
+use Rattle.alt_talks.specs.Runs.{Leads}
+use Rattle.alternator.specs.Runs.{Goes, GoesOrEnds, GoesSome, Ends, Answers, AnswersSome}
+use Rattle.alt_talks.proofs.Passing.{passes_none, passes_then, passes_back}
 use Rattle.alternator.proofs.Pulling.{fresh, goes_none, goes_then, goes_ends, goes_breaks, answers_all, answers_some}
 use Rattle.alternator.proofs.Rereading.{some_none, some_then, rest_then, read_again}
-use Rattle.alternator.proofs.Serving.{stretch_as}
+use Rattle.alt_talks.proofs.Stretching.{stretch_as}
 use Rattle.alternator.proofs.run.pulls.Goals as goal
+use Rattle.alt_talks.specs.TalkStops.{LeavesNow}
 
 pub pulls-init : goal.pulls-init
 pulls-init g c =
@@ -53,8 +55,8 @@ returns-in-Ok-false-clause-answered g c = λ s stands.
     (λ t. GoesOrEnds more front.to (unread c.pulls.lines) t (unread c.pull.new.lines)))
     c.in-Ok-false.field-0-test (c.in-Ok-false.ensures.went front.to front.stands) in
     stretch_as (state c.args.shell.now) (state c.pull.new.shell)
-    {P = λ old new es ms. (t : State) × Ends s fresh t old new es ms} {Q = Answers s}
-    (λ es ms within x. answers_all _ _ s x.0 es ms x.1)
+    {P = λ old new es ms. (t : State) × Ends s fresh t old new es ms × LeavesNow new t}
+    {Q = Answers s} (λ es ms within x. answers_all _ _ s x.0 es ms x.1 x.2)
     (goes_ends (state c.args.shell.now) (state c.pulls.shell)
     (state c.pull.new.shell) c.pulls.tables s fresh (unread c.pulls.lines) front
     c.pull.new.tables went)

@@ -3,7 +3,8 @@ use Rattle.alt_lines.specs.Reader.{unread}
 use Rattle.alt_machine.specs.State.{State}
 use Rattle.alt_tables.specs.Stands.{Stands}
 use Rattle.alternator.specs.Rereading.{RereadsSome}
-use Rattle.alternator.specs.Runs.{Passes, Leads, Goes}
+use Rattle.alt_talks.specs.Runs.{Passes, Leads}
+use Rattle.alternator.specs.Runs.{Goes}
 use Rattle.alternator.proofs.Pulling.{fresh}
 use Rattle.alternator.proofs.run.pulls.Given as goal
 

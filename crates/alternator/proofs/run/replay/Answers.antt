@@ -1,11 +1,13 @@
-use Rattle.std.proofs.Common.{[], false}
+use Rattle.std.proofs.Common.{[], false, refl}
 use Rattle.alternator.specs.Turns.{asks}
 use Rattle.alternator.specs.Runs.{AnswersSome, LeftThen}
-use Rattle.alternator.specs.declared.serve.RunFault.TheVariants.{NoMemory}
+use Rattle.alt_tables.specs.declared.faults.TableFault.TheVariants.{NoMemory}
 use Rattle.alternator.proofs.Pulling.{answers_some}
-use Rattle.alternator.proofs.Serving.{stretch_none, breaks_none}
+use Rattle.alt_talks.proofs.Stretching.{stretch_none}
+use Rattle.alternator.proofs.Serving.{breaks_none}
 use Rattle.alt_tables.proofs.Left.{stands_left}
-use Rattle.alternator.proofs.Stopping.{leaves-here, left-nothing}
+use Rattle.alt_talks.proofs.Stopping.{leaves-here}
+use Rattle.alternator.proofs.TurnLaws.{left-nothing}
 use Rattle.alternator.proofs.run.replay.Goals as goal
 
 pub returns-in_default-clause-answered : goal.returns-in_default-clause-answered
@@ -14,6 +16,7 @@ returns-in_default-clause-answered g c = λ s stands.
     stretch_none here {P = AnswersSome NoMemory s}
     (answers_some here here NoMemory s _ _ (record {
       breaks = breaks_none NoMemory tt s _;
+      inside = refl;
       leaves = leaves-here here (LeftThen s [] []) (λ trusted t image is_image.
           left-nothing s (asks false []) [] image
           (stands_left here c.args.tables.now s stands image is_image));

@@ -1,10 +1,10 @@
-use Rattle.alternator.specs.TalkRules.{rules}
-use Rattle.alternator.specs.declared.serve.RunFault.TheVariants.{NoMemory}
+use Rattle.alt_talks.specs.TalkRules.{rules}
+use Rattle.alt_tables.specs.declared.faults.TableFault.TheVariants.{NoMemory}
 use Rattle.alt_tables.proofs.Left.{stands_left}
-use Rattle.alternator.specs.TalkStops.{ServedSomeOn}
-use Rattle.alternator.proofs.Serving.{stretch_none}
-use Rattle.alternator.proofs.TalkAmong.{served_nothing_on}
-use Rattle.alternator.proofs.TalkReach.{run_served}
+use Rattle.alt_talks.specs.TalkStops.{ServedSomeOn}
+use Rattle.alt_talks.proofs.Stretching.{stretch_none}
+use Rattle.alt_talks.proofs.TalkAmong.{served_nothing_on}
+use Rattle.alt_talks.proofs.TalkReach.{run_served}
 use Rattle.alternator.proofs.run.serve.Goals as goal
 
 pub returns-in_default-clause-served : goal.returns-in_default-clause-served

@@ -2,7 +2,7 @@ use Rattle.std.proofs.Common.{◌∷◌, [], ◌∙◌}
 use Rattle.alt_disk.specs.Disk.{DiskState}
 use Rattle.alternator.specs.Turns.{request, carried_out}
 use Rattle.alternator.proofs.Serving.{turn_served, turn_cut, turn_unsaid}
-use Rattle.alternator.proofs.Stopping.{ready_kept, stands_kept}
+use Rattle.alt_talks.proofs.Stopping.{ready_kept, stands_kept}
 use Rattle.alternator.proofs.Beginning.{begins}
 use Rattle.alternator.proofs.Rereading.{at_hand_said, silent_then, rereads_request}
 use Rattle.alternator.proofs.serve.answer_request.Goals as goal

@@ -1,10 +1,11 @@
 use Rattle.std.proofs.Common.{◌∙◌, ℕ, List, [], sym, subst}
 use Rattle.alt_lines.specs.Reader.{unread}
 use Rattle.alt_lines.specs.Unread.{Tells}
-use Rattle.alternator.specs.Runs.{Stretch, BreaksAtHand, asked_now}
+use Rattle.alt_talks.specs.Runs.{Stretch}
+use Rattle.alternator.specs.Runs.{BreaksAtHand, asked_now}
 use Rattle.alternator.proofs.Hands.{at_some, at_none, hands_none, hands_line, hands_break, hands_memory, hands_all, hands_again, hands_out}
-use Rattle.alternator.proofs.Passing.{passes_none, passes_then, passes_back}
-use Rattle.alternator.specs.declared.serve.RunFault.{RunFault}
+use Rattle.alt_talks.proofs.Passing.{passes_none, passes_then, passes_back}
+use Rattle.alt_tables.specs.declared.faults.TableFault.{TableFault}
 use Rattle.alternator.proofs.serve.at_hand.Goals as goal
 
 pub lines-init : goal.lines-init
@@ -63,7 +64,7 @@ returns-in-Ok-None-clause-lines g c =
 pub returns-in-Err-clause-served : goal.returns-in-Err-clause-served
 returns-in-Err-clause-served g c = λ s stands.
     let state = g.S.Disk.state in
-    subst (λ (fault : RunFault). Stretch (state c.args.shell.now) (state c.lines.shell)
+    subst (λ (fault : TableFault). Stretch (state c.args.shell.now) (state c.lines.shell)
     (BreaksAtHand fault s (asked_now (unread c.args.lines.now))))
     (sym c.in-Err.ensures.err)
     (hands_memory (state c.args.shell.now) c.args.tables.now (state c.lines.shell) c.lines.tables

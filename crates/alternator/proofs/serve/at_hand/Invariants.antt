@@ -1,7 +1,7 @@
 use Rattle.std.proofs.Common.{length}
 use Rattle.alt_lines.specs.Reader.{unread}
 use Rattle.alt_lines.specs.Unread.{lines_now}
-use Rattle.alternator.specs.Runs.{Passes}
+use Rattle.alt_talks.specs.Runs.{Passes}
 use Rattle.alternator.proofs.Hands.{Hands}
 use Rattle.alternator.proofs.serve.at_hand.Given as goal
 

@@ -1,10 +1,11 @@
 use Rattle.std.proofs.Common.{◌≡◌, ◌∙◌, ◌<◌, [], length, take, length-take, subst, arith}
 use Rattle.alt_lines.specs.Reader.{unread}
 use Rattle.alt_lines.specs.Unread.{Unread}
-use Rattle.alternator.specs.Runs.{Stretch, Leads, ServesAtHand, BreaksAtHand, asked_now}
+use Rattle.alt_talks.specs.Runs.{Stretch, Leads}
+use Rattle.alternator.specs.Runs.{ServesAtHand, BreaksAtHand, asked_now}
 use Rattle.alternator.proofs.Pulling.{pull_goes, pull_breaks, pull_memory, pull_ends, pull_end_breaks, pull_failed}
 use Rattle.alternator.proofs.Rereading.{some_taken, rest_taken}
-use Rattle.alternator.proofs.Stopping.{ready_kept, stands_kept}
+use Rattle.alt_talks.proofs.Stopping.{ready_kept, stands_kept}
 use Rattle.alternator.proofs.serve.pull.Goals as goal
 
 pub returns-in_default-clause-went : goal.returns-in_default-clause-went

@@ -1,10 +1,10 @@
 use Rattle.std.proofs.Common.{◌∷◌, [], refl}
-use Rattle.alternator.specs.Turns.{reopen, opened_again}
+use Rattle.alternator.specs.Turns.{control, reopen, opened_again}
 use Rattle.alternator.proofs.Beginning.{begins_again}
 use Rattle.alt_disk.proofs.Runs.{tells_of}
 use Rattle.alternator.proofs.Opening.{still_stands, readable_cause}
 use Rattle.alt_tables.proofs.Left.{stands_read, stands_trusted}
-use Rattle.alternator.proofs.Stopping.{stands_kept}
+use Rattle.alt_talks.proofs.Stopping.{stands_kept}
 use Rattle.alternator.proofs.Rereading.{at_hand_said, silent_of, rereads_opened}
 use Rattle.alternator.proofs.Serving.{turn_served, turn_cut, turn_unsaid}
 use Rattle.alternator.proofs.serve.reopen.Goals as goal
@@ -13,7 +13,7 @@ pub returns-in-Err-clause-served : goal.returns-in-Err-clause-served
 returns-in-Err-clause-served g c = λ s stands.
     let state = g.S.Disk.state in
     let old = state c.args.shell.now in
-    turn_unsaid old (state c.open.new.disk) s reopen opened_again [] c.in-Err.fault
+    turn_unsaid old (state c.open.new.disk) s (control reopen) opened_again [] c.in-Err.fault
     (begins_again old (state c.open.new.disk) c.args.tables.now s stands c.in-Err.ensures.goes
     c.in-Err.ensures.leaves)
     (readable_cause c.in-Err.fault (state c.args.shell.now).file s
@@ -24,7 +24,7 @@ pub returns-in-Ok-say-clause-served : goal.returns-in-Ok-say-clause-served
 returns-in-Ok-say-clause-served g c = λ s stands.
     let state = g.S.Disk.state in
     let old = state c.args.shell.now in
-    turn_served old (state c.open.new.disk) (state c.say.new.self) c.in-Ok.opened s reopen opened_again
+    turn_served old (state c.open.new.disk) (state c.say.new.self) c.in-Ok.opened s (control reopen) opened_again
     [] opened_again.text
     (begins_again old (state c.open.new.disk) c.args.tables.now s stands c.in-Ok.ensures.goes
     c.in-Ok.ensures.leaves)
@@ -36,7 +36,7 @@ pub returns-in-Err-say-clause-served : goal.returns-in-Err-say-clause-served
 returns-in-Err-say-clause-served g c = λ s stands.
     let state = g.S.Disk.state in
     let old = state c.args.shell.now in
-    turn_cut old (state c.open.new.disk) (state c.say.new.self) c.in-Ok.opened s reopen opened_again []
+    turn_cut old (state c.open.new.disk) (state c.say.new.self) c.in-Ok.opened s (control reopen) opened_again []
     opened_again.text
     (begins_again old (state c.open.new.disk) c.args.tables.now s stands c.in-Ok.ensures.goes
     c.in-Ok.ensures.leaves)
@@ -57,7 +57,7 @@ returns-in-Ok-say-clause-reread g c =
     let old = state c.args.shell.now in
     let mid = state c.open.new.disk in
     let new = state c.say.new.self in
-    at_hand_said old mid new opened_again.text (reopen ∷ [])
+    at_hand_said old mid new opened_again.text (control reopen ∷ [])
     (silent_of old mid c.in-Ok.ensures.goes)
     c.in-Ok-say.ensures.said
     (rereads_opened old mid new c.in-Ok.ensures.goes c.in-Ok-say.ensures.call.keeps

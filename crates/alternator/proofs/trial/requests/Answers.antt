@@ -3,7 +3,8 @@ use Rattle.alt_disk.proofs.Calls.{goes_refl, goes_on}
 use Rattle.alt_disk.proofs.Runs.{trusted_back}
 use Rattle.alt_lines.specs.Trial.{Generator, generator, generator_from, next_line, next_lines, after_line, trial_lines}
 use Rattle.alternator.specs.Trials.{trial_turns}
-use Rattle.alternator.specs.Turns.{asked_by, after}
+use Rattle.alternator.specs.Turns.{asked_by}
+use Rattle.alt_talks.specs.Turns.{after}
 use Rattle.alternator.proofs.Trying.{Trying, trying_none, next_left, trying_line, trying_break, trying_all}
 use Rattle.alternator.proofs.trial.requests.Goals as goal
 

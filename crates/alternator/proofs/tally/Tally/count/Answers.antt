@@ -1,7 +1,7 @@
 use Rattle.std.proofs.Common.{List, ℕ, ◌++◌, ◌∷◌, [], ◌∙◌, sym, ap, subst, append-nil}
 use Rattle.std.proofs.lemmas.Grind.{flat_map-append}
 use Rattle.sha2.specs.Hashers.{Holds256}
-use Rattle.alternator.specs.Turns.{Turn, text_of}
+use Rattle.alt_talks.specs.Turns.{Turn, text_of}
 use Rattle.alternator.proofs.tally.Tally.count.Goals as goal
 
 pub returns-clause-counted : goal.returns-clause-counted

@@ -1,0 +1,491 @@
+-- What a stop leaves while turns are done, one list of turns after another.
+use Rattle.std.proofs.Common.{◌≡◌, ◌≤◌, ◌<◌, ◌+◌, ◌⊎◌, ⊎_elim, ℕ, List, [], ◌∷◌, ◌++◌, cond, length, min, take, drop, Bool, true, false, ◌&&◌, IsTrue, refl, sym, ap, subst, ◌∙◌, arith, length-append, length-drop, append_assoc, append-nil}
+use Rattle.std.specs.Prelude.{nat_le, ◌||◌, ⊤}
+use Rattle.std.proofs.lemmas.Bool.{le-leb, true≢false}
+use Rattle.std.proofs.lemmas.Grind.{flat_map-append}
+use Rattle.std.proofs.lemmas.List.Elements.{filter-append}
+use Rattle.std.proofs.lemmas.List.{take-append-le, take_all}
+use Rattle.std.proofs.Math.Seq.{take-append-add, take-length, drop-append_seam}
+use Rattle.alt_disk.specs.Fates.{Fates, Fits}
+use Rattle.alt_disk.specs.Disk.{DiskState, IsTrusted, IsImage}
+use Rattle.alt_disk.specs.Runs.{Spans}
+use Rattle.alt_machine.specs.Outcomes.{last_state}
+use Rattle.alt_machine.specs.State.{State}
+use Rattle.alt_base.specs.Prefix.{IsPrefix}
+use Rattle.alt_shell.specs.Calls.{Aside, Keeps}
+use Rattle.alt_shell.proofs.Keeping.{keeps-none}
+use Rattle.alt_shell.specs.Log.{Log, until, said_in, taken, ended, event_of, bytes_said, bytes_taken, is_end}
+use Rattle.alt_talks.specs.Turns.{answered, Turn, text_of, after}
+use Rattle.alt_talks.specs.Stops.{Image, atoms_of, IsLeft, IsAmong, AtEach, AreWithin}
+use Rattle.alt_tables.specs.Images.{StandsFor}
+use Rattle.alt_tables.specs.Stands.{AreReady, Stands}
+use Rattle.alt_tables.proofs.Left.{stands_quiet}
+use Rattle.alt_tables.specs.declared.tables.Tables.{Tables}
+use Rattle.alt_talks.proofs.TurnLaws.{text_of-append}
+
+-- ---- prefixes
+
+pub IsPrefix-self : {A : Type 0} (xs : List A) → IsPrefix xs xs
+IsPrefix-self xs = ([], sym (append-nil xs))
+
+pub IsPrefix-behind : {A : Type 0} (front xs ys : List A) → IsPrefix xs ys
+    → IsPrefix (front ++ xs) (front ++ ys)
+IsPrefix-behind front xs ys p = (p.0, ap (λ zs. front ++ zs) p.1 ∙ sym (append_assoc front xs p.0))
+
+pub IsPrefix-longer : {A : Type 0} (xs ys zs : List A) → IsPrefix xs ys → IsPrefix xs (ys ++ zs)
+IsPrefix-longer xs ys zs p = (p.0 ++ zs, ap (λ ws. ws ++ zs) p.1 ∙ append_assoc xs p.0 zs)
+
+-- a front isn't longer
+pub prefix-within : {A : Type 0} (xs ys : List A) → IsPrefix xs ys → length xs ≤ length ys
+prefix-within xs ys p = let e = ap length p.1 in let l = length-append xs p.0 in omega (arith, e, l)
+
+-- ---- entries and moments
+
+-- no entry had come by a moment before them
+pub until-before : (from to t : ℕ) (es : Log) → AreWithin from to es → t < from → until t es ≡ []
+until-before from to t [] w le = refl
+until-before from to t (e ∷ es) w le = grind (arith, w, le, until-before from to t es w.2 le)
+
+-- and all had by a moment from their end on
+pub until-behind : (from to t : ℕ) (es : Log) → AreWithin from to es → to ≤ t → until t es ≡ es
+until-behind from to t [] w le = refl
+until-behind from to t (e ∷ es) w le = grind (arith, w, le, until-behind from to t es w.2 le)
+
+pub until-append : (t : ℕ) (es fs : Log) → until t (es ++ fs) ≡ until t es ++ until t fs
+until-append t es fs = filter-append (λ (e : ℕ × List ℕ). nat_le e.0 t) es fs
+
+-- no more was said by a moment than at last
+pub said-by : (t : ℕ) (es : Log) → length (said_in (until t es)) ≤ length (said_in es)
+said-by t [] = omega arith
+said-by t (e ∷ es) = by_test (said-by t es) (nat_le e.0 t)
+  where
+    by_test : (h : length (said_in (until t es)) ≤ length (said_in es)) (b : Bool) → length (said_in (cond b (e ∷ until t es) (until t es)))
+        ≤ length (bytes_said (event_of e.1) ++ said_in es)
+    by_test h true =
+        let l = length-append (bytes_said (event_of e.1)) (said_in (until t es)) in
+        let r = length-append (bytes_said (event_of e.1)) (said_in es) in
+        omega (arith, h, l, r)
+    by_test h false =
+        let r = length-append (bytes_said (event_of e.1)) (said_in es) in
+        omega (arith, h, r)
+
+-- of one call nothing was said by a moment, or all that it said
+pub one-by : (e : ℕ × List ℕ) (text : List ℕ) → IsPrefix (said_in (e ∷ [])) text → (t : ℕ)
+    → IsPrefix (said_in (until t (e ∷ []))) text
+one-by e text p t = by_test (nat_le e.0 t)
+  where
+    by_test : (b : Bool) → IsPrefix (said_in (cond b (e ∷ []) [])) text
+    by_test true = p
+    by_test false = (text, refl)
+
+-- nor was more taken
+pub taken-by : (t : ℕ) (es : Log) → length (taken (until t es)) ≤ length (taken es)
+taken-by t [] = omega arith
+taken-by t (e ∷ es) = by_test (taken-by t es) (nat_le e.0 t)
+  where
+    by_test : (h : length (taken (until t es)) ≤ length (taken es)) (b : Bool) → length (taken (cond b (e ∷ until t es) (until t es)))
+        ≤ length (bytes_taken (event_of e.1) ++ taken es)
+    by_test h true =
+        let l = length-append (bytes_taken (event_of e.1)) (taken (until t es)) in
+        let r = length-append (bytes_taken (event_of e.1)) (taken es) in
+        omega (arith, h, l, r)
+    by_test h false =
+        let r = length-append (bytes_taken (event_of e.1)) (taken es) in
+        omega (arith, h, r)
+
+-- a list of no length is empty
+pub none-shorter : (bytes : List ℕ) → length bytes ≤ 0 → bytes ≡ []
+none-shorter [] le = refl
+none-shorter (b ∷ bytes) le = absurd (omega (arith, le))
+
+-- where nothing was taken at last, nothing was by then
+pub taken-until : (t : ℕ) (es : Log) → taken es ≡ [] → taken (until t es) ≡ []
+taken-until t es silent = none-shorter (taken (until t es))
+    (let h = taken-by t es in let k = ap length silent in omega (arith, h, k))
+
+or-none : (a b : Bool) → (a || b) ≡ false → (a ≡ false) × (b ≡ false)
+or-none true b e = absurd (true≢false e)
+or-none false b e = (refl, e)
+
+-- nor was the end
+pub ended-until : (t : ℕ) (es : Log) → ended es ≡ false → ended (until t es) ≡ false
+ended-until t [] e = refl
+ended-until t (x ∷ es) e = by_test (ended-until t es parts.1) (nat_le x.0 t)
+  where
+    parts : (is_end (event_of x.1) ≡ false) × (ended es ≡ false)
+    parts = or-none (is_end (event_of x.1)) (ended es) e
+
+    by_test : ended (until t es) ≡ false → (b : Bool)
+        → ended (cond b (x ∷ until t es) (until t es)) ≡ false
+    by_test h true = ap (λ y. y || ended (until t es)) parts.0 ∙ h
+    by_test h false = h
+
+-- a stretch in wider bounds
+pub within-wider : (a b c d : ℕ) (es : Log) → AreWithin b c es → a ≤ b → c ≤ d → AreWithin a d es
+within-wider a b c d [] w low high = tt
+within-wider a b c d (e ∷ es) w low high = (
+  omega (arith, w.0, low),
+  omega (arith, w.1, high),
+  within-wider a b c d es w.2 low high,
+)
+
+-- two stretches
+pub within-then : (a b c : ℕ) (es fs : Log) → AreWithin a b es → AreWithin b c fs → a ≤ b → b ≤ c
+    → AreWithin a c (es ++ fs)
+within-then a b c [] fs w v low high = within-wider a b c c fs v low (omega arith)
+within-then a b c (e ∷ es) fs w v low high = (
+  w.0,
+  omega (arith, w.1, high),
+  within-then a b c es fs w.2 v low high,
+)
+
+-- ---- turns say something
+
+-- each of them says something
+abbrev pub AllSay : List Turn → Type 0
+AllSay [] = Unit {0}
+AllSay (t ∷ ts) = (0 < length t.text) × AllSay ts
+
+-- where nothing was said none was answered
+pub answered-none : (ts : List Turn) → AllSay ts → answered ts [] ≡ []
+answered-none [] say = refl
+answered-none (t ∷ ts) say = grind (arith, say)
+
+-- where no more was said than the first turns say, none of the others was answered
+pub answered-front : (ts us : List Turn) (said : List ℕ) → AllSay us
+    → length said ≤ length (text_of ts) → answered (ts ++ us) said ≡ answered ts said
+answered-front [] us [] say le = answered-none us say
+answered-front [] us (b ∷ bytes) say le = absurd (omega (arith, le))
+answered-front (t ∷ ts) us said say le =
+    by_test (answered-front ts us rest say fits) (nat_le (length t.text) (length said))
+  where
+    rest : List ℕ
+    rest = drop (length t.text) said
+
+    fits : length rest ≤ length (text_of ts)
+    fits = let d = length-drop (length t.text) said in let l = length-append t.text (text_of ts) in
+        omega (arith, le, d, l)
+
+    by_test : answered (ts ++ us) rest ≡ answered ts rest → (b : Bool)
+        → cond b (t ∷ answered (ts ++ us) rest) [] ≡ cond b (t ∷ answered ts rest) []
+    by_test h true = ap (λ vs. t ∷ vs) h
+    by_test h false = refl
+
+-- where all of the first turns' text was said, they were answered
+pub answered-behind : (ts us : List Turn) (said : List ℕ)
+    → answered (ts ++ us) (text_of ts ++ said) ≡ ts ++ answered us said
+answered-behind [] us said = refl
+answered-behind (t ∷ ts) us said =
+    let rest = text_of ts ++ said in
+    let fits : length t.text ≤ length (t.text ++ rest) = let k = length-append t.text rest in
+    omega (arith, k) in
+    ap (answered (t ∷ (ts ++ us))) (append_assoc t.text (text_of ts) said)
+    ∙ ap (λ b. cond b (t ∷ answered (ts ++ us) (drop (length t.text) (t.text ++ rest))) [])
+    (le-leb (length t.text) (length (t.text ++ rest)) fits)
+    ∙ ap (λ (bytes : List ℕ). t ∷ answered (ts ++ us) bytes) (drop-append_seam t.text rest)
+    ∙ ap (λ vs. t ∷ vs) (answered-behind ts us said)
+
+-- ---- the writes of turns
+
+pub atoms_of-append : (ts us : List Turn) → atoms_of (ts ++ us) ≡ atoms_of ts ++ atoms_of us
+atoms_of-append ts us = flat_map-append (λ (t : Turn). t.atoms) ts us
+
+pub last_state-append : (s : State) (xs ys : List State) → last_state s (xs ++ ys)
+    ≡ last_state (last_state s xs) ys
+last_state-append s [] ys = refl
+last_state-append s (x ∷ xs) ys = last_state-append x xs ys
+
+-- the state after turns is that after the last of their writes
+pub after-atoms : (s : State) (ts : List Turn) → after s ts ≡ last_state s (atoms_of ts)
+after-atoms s [] = refl
+after-atoms s (t ∷ ts) = after-atoms (last_state s t.atoms) ts
+    ∙ sym (last_state-append s t.atoms (atoms_of ts))
+
+-- ---- what is left
+
+-- with more turns to come
+pub left-more : (s : State) (ts us : List Turn) (said : List ℕ) (image : Image) → AllSay us
+    → IsLeft s ts said image → IsLeft s (ts ++ us) said image
+left-more s ts us said image say p =
+    let atoms = atoms_of-append ts us in
+    let long = ap length atoms in
+    let sum = length-append (atoms_of ts) (atoms_of us) in
+    record {
+      writes = p.writes;
+      answered = subst (λ vs. length (atoms_of vs) ≤ p.writes)
+          (sym (answered-front ts us said say (prefix-within said (text_of ts) p.front)))
+          p.answered;
+      most = omega (arith, p.most, long, sum);
+      stands = subst (λ xs. StandsFor image (last_state s xs))
+          (sym (ap (take p.writes) atoms
+          ∙ take-append-le p.writes (atoms_of ts) (atoms_of us) p.most)) p.stands;
+      front = subst (IsPrefix said) (sym (text_of-append ts us))
+          (IsPrefix-longer said (text_of ts) (text_of us) p.front);
+    }
+
+-- behind turns that were done
+pub left-behind : (s : State) (ts us : List Turn) (said : List ℕ) (image : Image)
+    → IsLeft (after s ts) us said image → IsLeft s (ts ++ us) (text_of ts ++ said) image
+left-behind s ts us said image p =
+    let n = length (atoms_of ts) in
+    let atoms = atoms_of-append ts us in
+    let long = ap length atoms in
+    let sum = length-append (atoms_of ts) (atoms_of us) in
+    let front : answered (ts ++ us) (text_of ts ++ said) ≡ ts ++ answered us said =
+    answered-behind ts us said in
+    let done = ap (λ vs. length (atoms_of vs)) front in
+    let parts = ap length (atoms_of-append ts (answered us said)) in
+    let both = length-append (atoms_of ts) (atoms_of (answered us said)) in
+    record {
+      writes = n + p.writes;
+      answered = omega (arith, p.answered, done, parts, both);
+      most = omega (arith, p.most, long, sum);
+      stands = subst (StandsFor image)
+          (ap (λ r. last_state r (take p.writes (atoms_of us))) (after-atoms s ts)
+          ∙ sym (last_state-append s (atoms_of ts) (take p.writes (atoms_of us)))
+          ∙ ap (last_state s) (sym (ap (take (n + p.writes)) atoms
+          ∙ take-append-add (atoms_of ts) (atoms_of us) p.writes)))
+          p.stands;
+      front = subst (IsPrefix (text_of ts ++ said)) (sym (text_of-append ts us))
+          (IsPrefix-behind (text_of ts) said (text_of us) p.front);
+    }
+
+-- where nothing was said yet nothing needs to have been written
+pub left-nothing-of : (s : State) (ts : List Turn) (image : Image) → AllSay ts
+    → StandsFor image s → IsLeft s ts [] image
+left-nothing-of s ts image say stands =
+    let unanswered = ap (λ us. length (atoms_of us)) (answered-none ts say) in
+    record {
+      writes = 0;
+      answered = omega (arith, unanswered);
+      most = omega arith;
+      stands = stands;
+      front = (text_of ts, refl);
+    }
+
+-- ---- tables and what a stop leaves
+
+-- calls that leave all files leave whether the disk can be relied on
+pub trusts-kept : (a b : DiskState) → Keeps a b → IsTrusted a → IsTrusted b
+trusts-kept a b keeps trusted = subst (λ (v : Bool). IsTrue v)
+    (sym (λ i. keeps.tells i && keeps.honest i)) trusted
+
+-- a call that leaves all files leaves for which state the tables stand
+pub stands_kept : (a b : DiskState) → Keeps a b → (tables : Tables) (s : State) → Stands a tables s
+    → Stands b tables s
+stands_kept a b keeps tables s p = stands_quiet a b tables s keeps.tells keeps.honest
+    (record { later = keeps.later; past = keeps.past; file = keeps.file; fates = keeps.fates }) p
+
+-- tables that were ready are ready behind a call that leaves all files
+pub ready_kept : (a b : DiskState) (tables : Tables) → Keeps a b → AreReady a tables
+    → AreReady b tables
+ready_kept a b tables keeps ready trusted =
+    let first = ready (subst (λ (v : Bool). IsTrue v)
+    (λ i. keeps.tells i && keeps.honest i) trusted) in
+    (first.0, stands_kept a b keeps tables first.0 first.1)
+
+-- ---- stretches
+
+-- two stretches that meet: the entries of each ended in it
+pub record Meet (a b c : DiskState) (es fs : Log) : Type 0 where
+  pub before : AreWithin a.moment b.moment es
+  pub behind : AreWithin b.moment c.moment fs
+  pub trusts : IsTrusted a → IsTrusted b
+
+-- what is left may be told with less
+pub leaves-weaker : (a b : DiskState) (P Q : ℕ → Image → Type 0)
+    → ((t : ℕ) (image : Image) → P t image → Q t image) → AtEach a b P → AtEach a b Q
+leaves-weaker a b P Q weaker leaves trusted =
+    let p = leaves trusted in
+    record {
+      later = p.later;
+      past = p.past;
+      file = λ g outside. absurd (outside tt);
+      fates = λ t g outside low high. absurd (outside tt);
+      each = λ t image low high is_image. weaker t image (p.each t image low high is_image);
+    }
+
+-- a moment is up to another, or from it on
+before_or_from : (t m : ℕ) → (t ≤ m) ⊎ (m ≤ t)
+before_or_from t m = grind arith
+
+-- a moment is before another, or from it on
+below_or_from : (t m : ℕ) → (t < m) ⊎ (m ≤ t)
+below_or_from t m = grind arith
+
+-- one stretch and then another
+pub spans_two : (a b c : DiskState) (P Q R : ℕ → Image → Type 0)
+    → Spans a b (λ _. ⊤) P → Spans b c (λ _. ⊤) Q
+    → ((t : ℕ) (image : Image) → t < b.moment → P t image → R t image)
+    → ((t : ℕ) (image : Image) → b.moment ≤ t → Q t image → R t image)
+    → Spans a c (λ _. ⊤) R
+spans_two a b c P Q R first then front behind = record {
+  later = omega (arith, first.later, then.later);
+  past = λ t g le. then.past t g (omega (arith, le, first.later)) ∙ first.past t g le;
+  file = λ g outside. absurd (outside tt);
+  fates = λ t g outside low high. absurd (outside tt);
+  each = λ t image low high is_image. ⊎_elim
+      (λ (before : t < b.moment). front t image before (first.each t image low (omega (arith, before))
+      (λ f. subst (λ (s : Fates). Fits s (image f)) (then.past t f (omega (arith, before)))
+      (is_image f))))
+      (λ (from : b.moment ≤ t). behind t image from (then.each t image from high is_image))
+      (below_or_from t b.moment);
+}
+
+-- a note or a look at the clock in front
+pub leaves-behind-aside : (a b c : DiskState) (P : ℕ → Image → Type 0) → Aside a b → AtEach b c P
+    → AtEach a c P
+leaves-behind-aside a b c P aside leaves trusted =
+    let then = leaves (trusts-kept a b aside.keeps trusted) in
+    let same = aside.moment in
+    record {
+      later = omega (arith, same, then.later);
+      past = λ t g le. then.past t g (omega (arith, le, same)) ∙ aside.keeps.past t g le;
+      file = λ g outside. absurd (outside tt);
+      fates = λ t g outside low high. absurd (outside tt);
+      each = λ t image low high is_image. then.each t image (omega (arith, low, same)) high is_image;
+    }
+
+-- or behind
+pub leaves-before-aside : (a b c : DiskState) (P : ℕ → Image → Type 0) → Aside b c → AtEach a b P
+    → AtEach a c P
+leaves-before-aside a b c P aside leaves trusted =
+    let first = leaves trusted in
+    let same = aside.moment in
+    record {
+      later = omega (arith, same, first.later);
+      past = λ t g le. aside.keeps.past t g (omega (arith, le, first.later)) ∙ first.past t g le;
+      file = λ g outside. absurd (outside tt);
+      fates = λ t g outside low high. absurd (outside tt);
+      each = λ t image low high is_image.
+          let before : t ≤ b.moment = omega (arith, high, same) in
+          first.each t image low before
+          (λ f. subst (λ (x : Fates). Fits x (image f)) (aside.keeps.past t f before) (is_image f));
+    }
+
+-- a call that leaves all files leaves what a stop left before it
+pub keeps-spans : (a b : DiskState) (P : ℕ → Image → Type 0) → Keeps a b
+    → ((t : ℕ) (image : Image) → a.moment ≤ t → IsImage a a.moment image → P t image)
+    → Spans a b (λ _. ⊤) P
+keeps-spans a b P keeps here = record {
+  later = keeps.later;
+  past = keeps.past;
+  file = λ g outside. absurd (outside tt);
+  fates = λ t g outside low high. absurd (outside tt);
+  each = λ t image low high is_image. here t image low
+      (λ f. subst (λ (x : Fates). Fits x (image f)) (keeps.fates t f low high) (is_image f));
+}
+
+-- at one moment
+pub leaves-here : (a : DiskState) (P : ℕ → Image → Type 0)
+    → (IsTrusted a → (t : ℕ) (image : Image) → IsImage a a.moment image → P t image)
+    → AtEach a a P
+leaves-here a P here trusted = keeps-spans a a P (keeps-none a)
+    (λ t image low is_image. here trusted t image is_image)
+
+-- the first of some writes are no more than there are
+pub take-within : (k : ℕ) (xs : List State) → take (min k (length xs)) xs ≡ take k xs
+take-within k xs = ⊎_elim
+    (λ (few : k ≤ length xs). ap (λ n. take n xs) (min-few k (length xs) few))
+    (λ (many : length xs ≤ k). ap (λ n. take n xs) (min-many k (length xs) many)
+    ∙ take-length xs ∙ sym (take_all k xs many))
+    (before_or_from k (length xs))
+  where
+    min-few : (k n : ℕ) → k ≤ n → min k n ≡ k
+    min-few k n le = grind arith
+
+    min-many : (k n : ℕ) → n ≤ k → min k n ≡ n
+    min-many k n le = grind arith
+
+-- ---- one turn
+
+-- no more writes are answered than there are
+pub answered-few : (ts : List Turn) (said : List ℕ)
+    → length (atoms_of (answered ts said)) ≤ length (atoms_of ts)
+answered-few [] said = omega arith
+answered-few (t ∷ ts) said =
+    by_test (answered-few ts rest) (nat_le (length t.text) (length said))
+  where
+    rest : List ℕ
+    rest = drop (length t.text) said
+
+    by_test : length (atoms_of (answered ts rest)) ≤ length (atoms_of ts) → (b : Bool)
+        → length (atoms_of (cond b (t ∷ answered ts rest) [])) ≤ length (t.atoms ++ atoms_of ts)
+    by_test h true =
+        let l = length-append t.atoms (atoms_of (answered ts rest)) in
+        let r = length-append t.atoms (atoms_of ts) in
+        omega (arith, h, l, r)
+    by_test h false = omega arith
+
+module _ (s : State) (vs : List Turn) (t : Turn) (one : vs ≡ t ∷ []) (say : AllSay vs) where
+  only : atoms_of (t ∷ []) ≡ t.atoms
+  only = append-nil t.atoms
+
+  -- nothing was said of it
+  pub left-unsaid : (said : List ℕ) (image : Image) → said ≡ [] → IsAmong image s t.atoms
+      → IsLeft s vs said image
+  left-unsaid said image none p =
+      let count = ap length (ap atoms_of one ∙ only) in
+      let unanswered = ap (λ ts. length (atoms_of ts))
+      (ap (answered vs) none ∙ answered-none vs say) in
+      record {
+        writes = min p.0 (length t.atoms);
+        answered = omega (arith, unanswered);
+        most = let few : min p.0 (length t.atoms) ≤ length t.atoms = grind arith in
+            omega (arith, few, count);
+        stands = subst (λ xs. StandsFor image (last_state s xs))
+            (sym (take-within p.0 t.atoms)
+            ∙ sym (ap (take (min p.0 (length t.atoms))) (ap atoms_of one ∙ only)))
+            p.1;
+        front = subst (λ (bs : List ℕ). IsPrefix bs (text_of vs)) (sym none)
+            (text_of vs, refl);
+      }
+
+  -- all of its writes were made
+  pub left-whole : (said : List ℕ) (image : Image) → IsPrefix said t.text
+      → StandsFor image (last_state s t.atoms) → IsLeft s vs said image
+  left-whole said image front p =
+      let count = ap length (ap atoms_of one ∙ only) in
+      record {
+        writes = length t.atoms;
+        answered = let h = answered-few vs said in omega (arith, h, count);
+        most = omega (arith, count);
+        stands = subst (λ xs. StandsFor image (last_state s xs))
+            (sym (ap (take (length t.atoms)) (ap atoms_of one ∙ only) ∙ take-length t.atoms)) p;
+        front = subst (IsPrefix said) (sym (ap text_of one ∙ append-nil t.text)) front;
+      }
+
+  -- its writes were made or broken off, and nothing was said
+  pub leaves-unsaid : (old new : DiskState) → AtEach old new (λ _ image. IsAmong image s t.atoms)
+      → AtEach old new (λ u image. IsLeft s vs [] image)
+  leaves-unsaid old new leaves trusted =
+      let first = leaves trusted in
+      record {
+        later = first.later;
+        past = first.past;
+        file = λ g outside. absurd (outside tt);
+        fates = λ t g outside low high. absurd (outside tt);
+        each = λ u image low high is_image. left-unsaid [] image refl
+            (first.each u image low high is_image);
+      }
+
+  -- its writes were made, and then some of its text was said
+  pub leaves-said : (old mid new : DiskState) (es : Log)
+      → AreWithin mid.moment new.moment es
+      → ((u : ℕ) → IsPrefix (said_in (until u es)) t.text)
+      → (IsTrusted old → IsTrusted mid)
+      → AtEach old mid (λ _ image. IsAmong image s t.atoms)
+      → (IsTrusted mid → (image : Image) → IsImage mid mid.moment image
+      → StandsFor image (last_state s t.atoms))
+      → Keeps mid new
+      → AtEach old new (λ u image. IsLeft s vs (said_in (until u es)) image)
+  leaves-said old mid new es within front trusts leaves stands keeps trusted =
+      spans_two old mid new (λ _ image. IsAmong image s t.atoms)
+      (λ _ image. StandsFor image (last_state s t.atoms))
+      (λ u image. IsLeft s vs (said_in (until u es)) image)
+      (leaves trusted)
+      (keeps-spans mid new (λ _ image. StandsFor image (last_state s t.atoms)) keeps
+      (λ u image low is_image. stands (trusts trusted) image is_image))
+      (λ u image before p. left-unsaid (said_in (until u es)) image
+      (ap said_in (until-before mid.moment new.moment u es within before)) p)
+      (λ u image from p. left-whole (said_in (until u es)) image (front u) p)

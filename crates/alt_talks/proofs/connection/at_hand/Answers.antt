@@ -1,0 +1,122 @@
+use Rattle.std.proofs.Common.{◌≡◌, ◌<◌, ◌++◌, ℕ, List, arith, ◌∙◌, refl}
+use Rattle.alt_machine.specs.State.{State}
+use Rattle.alt_shell.specs.Log.{Log}
+use Rattle.alt_talks.specs.TalkStops.{MovesOn, MovesAllOn, MovesSomeOn, StepsOn}
+use Rattle.alt_talks.specs.TalkRules.{rules}
+use Rattle.alt_talks.specs.TalkViews.{place_of}
+use Rattle.alt_talks.proofs.Passing.{passes_none, passes_then, passes_back}
+use Rattle.alt_talks.proofs.TalkReach.{reach_none, reach_as, reach_then, reach_break}
+use Rattle.alt_talks.proofs.Uttering.{rests_at_end}
+use Rattle.alt_talks.proofs.TalkLaws.{lawful}
+use Rattle.alt_talks.proofs.TalkLeaving.{moves_none_on, moves_then_on, moves_all_on, moves_break_on}
+use Rattle.alt_tables.proofs.Left.{stands_left}
+use Rattle.alt_talks.proofs.connection.at_hand.Goals as goal
+
+pub loop-talk-init : goal.loop-talk-init
+loop-talk-init g c =
+    let old = g.S.Disk.state c.args.shell.now in
+    let p = place_of c.args.talk.now in
+    let m = c.args.talk.now.mute in (
+      λ s stands. reach_none old c.args.tables.now s (λ t. MovesOn rules p s m p t m) stands
+          (moves_none_on rules old p s m
+          (λ trusted image is. stands_left old c.args.tables.now s stands image is)),
+      passes_none old,
+      c.requires.hears,
+      refl,
+    )
+
+pub loop-talk-preserved : goal.loop-talk-preserved
+loop-talk-preserved g c =
+    let state = g.S.Disk.state in
+    let a = state c.args.shell.now in
+    let b = state c.loop-talk.shell in
+    let d = state c.one.new.shell in
+    let p = place_of c.args.talk.now in
+    let q = place_of c.loop-talk.talk in
+    let v = place_of c.one.new.talk in
+    let m = c.args.talk.now.mute in
+    let n = c.loop-talk.talk.mute in
+    let o = c.one.new.talk.mute in
+    let going : 0 < c.loop-talk.talk.left = grind arith in
+    let inv = c.loop-talk.invariant in (
+      λ s stands. reach_then a b d c.loop-talk.tables c.one.new.tables
+          (λ t. MovesOn rules p s m q t n)
+          (λ t u. StepsOn rules c.in-Ok-true.field-0 q t n v u o)
+          (λ u. MovesOn rules p s m v u o)
+          (λ (t u : State) (es fs : Log) (ms ns : List ℕ) meet x y.
+          moves_then_on rules lawful a b d p q v s t u m n o es fs ms ns meet going x
+          (y.0.moves, y.1))
+          (inv.0 s stands) c.in-Ok-true.ensures.stepped,
+      passes_then a b d inv.1 c.one.ensures.passes,
+      c.one.ensures.hears,
+      c.one.ensures.takes ∙ inv.3,
+    )
+
+pub returns-in-Ok-false-clause-moved : goal.returns-in-Ok-false-clause-moved
+returns-in-Ok-false-clause-moved g c = λ s stands.
+    let state = g.S.Disk.state in
+    let a = state c.args.shell.now in
+    let b = state c.loop-talk.shell in
+    let d = state c.one.new.shell in
+    let p = place_of c.args.talk.now in
+    let q = place_of c.loop-talk.talk in
+    let v = place_of c.one.new.talk in
+    let m = c.args.talk.now.mute in
+    let n = c.loop-talk.talk.mute in
+    let o = c.one.new.talk.mute in
+    let going : 0 < c.loop-talk.talk.left = grind arith in
+    reach_then a b d c.loop-talk.tables c.one.new.tables
+    (λ t. MovesOn rules p s m q t n)
+    (λ t u. StepsOn rules c.in-Ok-false.field-0 q t n v u o)
+    (λ u. MovesAllOn rules p s m v u o)
+    (λ (t u : State) (es fs : Log) (ms ns : List ℕ) meet x y.
+    let rest = y.0.rests c.in-Ok-false.field-0-test in
+    moves_all_on rules lawful a d p v s u m o (es ++ fs) (ms ++ ns) rest.0 rest.1
+    (moves_then_on rules lawful a b d p q v s t u m n o es fs ms ns meet going x
+    (y.0.moves, y.1)))
+    (c.loop-talk.invariant.0 s stands) c.in-Ok-false.ensures.stepped
+
+pub returns-in-Err-clause-moved : goal.returns-in-Err-clause-moved
+returns-in-Err-clause-moved g c = λ s stands.
+    let state = g.S.Disk.state in
+    let a = state c.args.shell.now in
+    let b = state c.loop-talk.shell in
+    let d = state c.one.new.shell in
+    let p = place_of c.args.talk.now in
+    let q = place_of c.loop-talk.talk in
+    let m = c.args.talk.now.mute in
+    let n = c.loop-talk.talk.mute in
+    let fault = c.in-Err.fault in
+    let going : 0 < c.loop-talk.talk.left = grind arith in
+    reach_break a b d c.loop-talk.tables
+    (λ t. MovesOn rules p s m q t n) (λ t. MovesSomeOn rules fault q t n)
+    (MovesSomeOn rules fault p s m)
+    (λ (t : State) (es fs : Log) (ms ns : List ℕ) meet x y.
+    moves_break_on rules lawful a b d fault p q s t m n es fs ms ns meet going x y)
+    (c.loop-talk.invariant.0 s stands) c.in-Err.ensures.stepped
+
+pub returns-clause-moved : goal.returns-clause-moved
+returns-clause-moved g c = λ s stands.
+    let state = g.S.Disk.state in
+    let a = state c.args.shell.now in
+    let b = state c.loop-talk.shell in
+    let p = place_of c.args.talk.now in
+    let q = place_of c.loop-talk.talk in
+    let m = c.args.talk.now.mute in
+    let n = c.loop-talk.talk.mute in
+    let none : c.loop-talk.talk.left ≡ 0 = grind arith in
+    let rest = rests_at_end rules q none in
+    reach_as a b c.loop-talk.tables (λ t. MovesOn rules p s m q t n)
+    (λ t. MovesAllOn rules p s m q t n)
+    (λ (t : State) (es : Log) (ms : List ℕ) x.
+    moves_all_on rules lawful a b p q s t m n es ms rest.0 rest.1 x)
+    (c.loop-talk.invariant.0 s stands)
+
+pub one-requires-clause-ready : goal.one-requires-clause-ready
+one-requires-clause-ready g c = λ trusted.
+    let state = g.S.Disk.state in
+    let inv = c.loop-talk.invariant in
+    let first = c.requires.ready (passes_back (state c.args.shell.now) (state c.loop-talk.shell)
+    inv.1 trusted) in
+    let r = inv.0 first.0 first.1 in
+    (r.to, r.stands)

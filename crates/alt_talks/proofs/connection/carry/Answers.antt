@@ -1,0 +1,55 @@
+use Rattle.std.proofs.Common.{ℕ, List, [], ◌∷◌, false, subst}
+use Rattle.alt_machine.specs.State.{State}
+use Rattle.alt_shell.specs.Log.{Log}
+use Rattle.alt_talks.specs.Runs.{Stretch}
+use Rattle.alt_talks.specs.TalkRules.{rules}
+use Rattle.alt_talks.specs.TalkStops.{AnswersOn, AnswersSomeOn, CarriesOn}
+use Rattle.alt_talks.specs.TalkViews.{place_of, head_in, asking}
+use Rattle.alt_talks.specs.Talks.{asked, at, Request}
+use Rattle.alt_talks.proofs.Stepping.{asking_same, left_at}
+use Rattle.alt_talks.proofs.TalkReach.{reach_as}
+use Rattle.alt_talks.proofs.connection.carry.Goals as goal
+
+pub returns-clause-carried : goal.returns-clause-carried
+returns-clause-carried g c = λ s stands.
+    let state = g.S.Disk.state in
+    let a = state c.args.shell.now in
+    let d = state c.respond.new.shell in
+    let p = place_of c.args.talk.now in
+    let h = head_in c.args.head.now in
+    let m = c.args.talk.now.mute in
+    let n = c.respond.new.mute in
+    let q = at c.left_after-talk.result false c.pass.new.self in
+    let body = c.body_in.result.now in
+    let last = c.is_last-last.result in
+    let same = asking_same h p.bytes c.as_slice.result.now body p.left last
+    c.as_slice.ensures.same c.body_in.ensures c.is_last-last.ensures in
+    reach_as a d c.respond.new.tables
+    (λ t. AnswersOn rules s m (asked (asking h.target body last) ∷ []) t n)
+    (λ t. CarriesOn rules h p s m q t n)
+    (λ (t : State) (es : Log) (ms : List ℕ) x.
+    let y = subst (λ (r : Request). AnswersOn rules s m (asked r ∷ []) t n a d es ms) same x in (
+      record {
+        answers = y.0;
+        place = left_at h p c.left_after-talk.result c.pass.new.self
+            c.left_after-talk.ensures.left c.pass.ensures;
+      },
+      y.1,
+    ))
+    (c.in-Ok.ensures.answered s stands)
+
+pub returns-in-Err-clause-carried : goal.returns-in-Err-clause-carried
+returns-in-Err-clause-carried g c = λ s stands.
+    let state = g.S.Disk.state in
+    let a = state c.args.shell.now in
+    let d = state c.respond.new.shell in
+    let p = place_of c.args.talk.now in
+    let h = head_in c.args.head.now in
+    let m = c.args.talk.now.mute in
+    let body = c.body_in.result.now in
+    let last = c.is_last-last.result in
+    let fault = c.in-Err.fault in
+    let same = asking_same h p.bytes c.as_slice.result.now body p.left last
+    c.as_slice.ensures.same c.body_in.ensures c.is_last-last.ensures in
+    subst (λ (r : Request). Stretch a d (AnswersSomeOn rules fault s m (asked r ∷ [])))
+    same (c.in-Err.ensures.answered s stands)

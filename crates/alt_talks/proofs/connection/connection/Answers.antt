@@ -1,0 +1,137 @@
+use Rattle.std.proofs.Common.{◌∷◌, ◌++◌, ◌∙◌, [], inr, ℕ, List, Bool, true, false, refl, sym, subst}
+use Rattle.alt_shell.specs.Calls.{Accepted}
+use Rattle.alt_shell.specs.Log.{Log, entry, hung_up, told_count}
+use Rattle.alt_talks.specs.Runs.{Leads, Stretch}
+use Rattle.alt_talks.specs.Stops.{AreWithin}
+use Rattle.alt_talks.specs.Stretches.{AtRest}
+use Rattle.alt_talks.specs.TalkRules.{rules}
+use Rattle.alt_talks.specs.TalkStops.{ComesOn, ComesSomeOn, EndsOn, GoesSomeOn}
+use Rattle.alt_talks.specs.TalkViews.{place_of}
+use Rattle.alt_talks.specs.Talks.{at}
+use Rattle.alt_talks.proofs.Hanging.{serves_hung, some_hung, none_comes, wait_failed}
+use Rattle.alt_tables.proofs.Left.{stands_left}
+use Rattle.alt_talks.proofs.TalkLeaving.{left_hung, stretch_hung}
+use Rattle.alt_talks.proofs.Stopping.{ready_kept, stands_kept}
+use Rattle.alt_talks.proofs.TalkCuts.{at_unread}
+use Rattle.alt_talks.proofs.TalkLaws.{lawful}
+use Rattle.alt_talks.proofs.connection.connection.Goals as goal
+
+pub returns-in-Ok-clause-served : goal.returns-in-Ok-clause-served
+returns-in-Ok-clause-served g c = λ s stands.
+    let state = g.S.Disk.state in
+    let a = state c.args.shell.now in
+    let b = state c.accept.new.self in
+    let d = state c.pulls-served.new.shell in
+    let e = state c.hang_up.new.self in
+    let per = c.args.per in
+    let q = place_of c.pulls-served.new.talk in
+    let n = c.pulls-served.new.talk.mute in
+    let came = subst (λ (v : Bool). Accepted a b v) c.in-Ok-true.field-0-test
+    c.in-Ok-true.ensures.accepted in
+    let served = subst (λ (bs : List ℕ). Leads b d c.pulls-served.new.tables
+    (λ t. EndsOn rules (at per false bs) s false q t n)) c.new.ensures
+    (c.in-Ok.ensures.ended s
+    (stands_kept a b c.in-Ok-true.ensures.call.keeps c.args.tables.now s stands)) in
+    record {
+      to = served.to;
+      stands = stands_kept d e c.hang_up.ensures.call.keeps c.pulls-served.new.tables served.to
+          served.stands;
+      calls = stretch_hung a b d e (told_count a.beside) (told_count d.beside)
+          (EndsOn rules (at per false []) s false q served.to n) (ComesOn rules per true s served.to)
+          came.0 c.in-Ok-true.ensures.moments c.in-Ok-true.ensures.call.keeps
+          (c.hang_up.ensures.hung (c.pulls-served.ensures.passes.talking ∙ came.1))
+          c.hang_up.ensures.moments c.hang_up.ensures.call
+          (λ (es : Log) (ms : List ℕ) (within : AreWithin b.moment d.moment es) p. (
+            (
+              record {
+                moment = b.moment;
+                clocked = told_count a.beside;
+                entries = es ++ entry e.moment (told_count d.beside) hung_up ∷ [];
+                told = ms;
+              },
+              serves_hung rules per s es ms b.moment (told_count a.beside) e.moment
+                  (told_count d.beside) q served.to n c.requires.some p.0,
+              refl,
+              refl,
+            ),
+            left_hung rules lawful (at per false []) s a b d e (told_count a.beside) (told_count d.beside)
+                c.in-Ok-true.ensures.call.keeps c.hang_up.ensures.call
+                (λ trusted image is. stands_left a c.args.tables.now s stands image is)
+                es ms within c.pulls-served.ensures.passes.later p.1,
+          ))
+          served.calls;
+    }
+
+pub returns-in-Ok-true-clause-served : goal.returns-in-Ok-true-clause-served
+returns-in-Ok-true-clause-served g c = λ s stands.
+    let state = g.S.Disk.state in
+    let a = state c.args.shell.now in
+    let b = state c.accept.new.self in
+    let d = state c.pulls-served.new.shell in
+    let e = state c.hang_up.new.self in
+    let per = c.args.per in
+    let fault = c.in-Err-served.fault in
+    let came = subst (λ (v : Bool). Accepted a b v) c.in-Ok-true.field-0-test
+    c.in-Ok-true.ensures.accepted in
+    let broke = subst (λ (bs : List ℕ). Stretch b d
+    (GoesSomeOn rules fault (at per false bs) s false)) c.new.ensures
+    (c.in-Err-served.ensures.ended s
+    (stands_kept a b c.in-Ok-true.ensures.call.keeps c.args.tables.now s stands)) in
+    stretch_hung a b d e (told_count a.beside) (told_count d.beside)
+    (GoesSomeOn rules fault (at per false []) s false) (ComesSomeOn rules per fault s)
+    came.0 c.in-Ok-true.ensures.moments c.in-Ok-true.ensures.call.keeps
+    (c.hang_up.ensures.hung (c.pulls-served.ensures.passes.talking ∙ came.1))
+    c.hang_up.ensures.moments c.hang_up.ensures.call
+    (λ (es : Log) (ms : List ℕ) (within : AreWithin b.moment d.moment es) p. (
+      inr (
+        record {
+          moment = b.moment;
+          clocked = told_count a.beside;
+          entries = es ++ entry e.moment (told_count d.beside) hung_up ∷ [];
+          told = ms;
+        },
+        some_hung rules per s es ms b.moment (told_count a.beside) e.moment
+            (told_count d.beside) fault p.0,
+        refl,
+        refl,
+      ),
+      left_hung rules lawful (at per false []) s a b d e (told_count a.beside) (told_count d.beside)
+          c.in-Ok-true.ensures.call.keeps c.hang_up.ensures.call
+          (λ trusted image is. stands_left a c.args.tables.now s stands image is)
+          es ms within c.pulls-served.ensures.passes.later p.1,
+    ))
+    broke
+
+pub returns-in-Ok-false-clause-served : goal.returns-in-Ok-false-clause-served
+returns-in-Ok-false-clause-served g c = λ s stands.
+    let state = g.S.Disk.state in
+    let a = state c.args.shell.now in
+    let b = state c.accept.new.self in
+    let none = subst (λ (v : Bool). Accepted a b v) c.in-Ok-false.field-0-test
+    c.in-Ok-false.ensures.accepted in
+    record {
+      to = s;
+      stands = stands_kept a b c.in-Ok-false.ensures.call.keeps c.args.tables.now s stands;
+      calls = none_comes rules lawful c.args.per s a b none.0 c.in-Ok-false.ensures.moments
+          c.in-Ok-false.ensures.call.keeps
+          (λ trusted image is. stands_left a c.args.tables.now s stands image is);
+    }
+
+pub pulls-served-requires-clause-ready : goal.pulls-served-requires-clause-ready
+pulls-served-requires-clause-ready g c =
+    let state = g.S.Disk.state in
+    ready_kept (state c.args.shell.now) (state c.accept.new.self) c.args.tables.now
+    c.in-Ok-true.ensures.call.keeps c.requires.ready
+
+pub pulls-served-requires-clause-rest : goal.pulls-served-requires-clause-rest
+pulls-served-requires-clause-rest g c =
+    subst (λ (bs : List ℕ). AtRest rules (at c.args.per false bs))
+    (sym c.new.ensures) (at_unread rules c.args.per false [] lawful.nothing)
+
+pub returns-clause-served : goal.returns-clause-served
+returns-clause-served g c = λ s stands.
+    let state = g.S.Disk.state in
+    let a = state c.args.shell.now in
+    wait_failed rules lawful c.args.per s a (state c.accept.new.self) c.in-Err.ensures.accepted.0
+    c.in-Err.ensures.moments c.in-Err.ensures.call.keeps
+    (λ trusted image is. stands_left a c.args.tables.now s stands image is)

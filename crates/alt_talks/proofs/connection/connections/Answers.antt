@@ -1,0 +1,101 @@
+use Rattle.std.proofs.Common.{◌≡◌, ◌<◌, ◌+◌, ℕ, List, Bool, subst, arith}
+use Rattle.alt_machine.specs.State.{State}
+use Rattle.alt_shell.specs.Log.{Log}
+use Rattle.alt_talks.specs.TalkStops.{ComesOn, ComesSomeOn, ServedOn, ServedSomeOn}
+use Rattle.alt_talks.specs.TalkRules.{rules}
+use Rattle.alt_talks.proofs.Passing.{passes_none, passes_then, passes_back}
+use Rattle.alt_tables.proofs.Left.{stands_left}
+use Rattle.alt_talks.proofs.TalkAmong.{SofarOn, sofar_none_on, sofar_more_on, served_all_on, served_fewer_on, served_some_on}
+use Rattle.alt_talks.proofs.TalkLaws.{lawful}
+use Rattle.alt_talks.proofs.TalkReach.{reach_none, reach_as, reach_then, reach_break}
+use Rattle.alt_talks.proofs.connection.connections.Goals as goal
+
+pub loop-served-init : goal.loop-served-init
+loop-served-init g c =
+    let old = g.S.Disk.state c.args.shell.now in (
+      λ s stands. reach_none old c.args.tables.now s (λ t. SofarOn rules c.args.per 0 s t) stands
+          (sofar_none_on rules lawful c.args.per old s
+          (λ trusted image is. stands_left old c.args.tables.now s stands image is)),
+      passes_none old,
+      omega arith,
+    )
+
+pub loop-served-preserved : goal.loop-served-preserved
+loop-served-preserved g c =
+    let state = g.S.Disk.state in
+    let a = state c.args.shell.now in
+    let b = state c.loop-served.shell in
+    let d = state c.connection.new.shell in
+    let per = c.args.per in
+    let n = c.loop-served.served in
+    let inv = c.loop-served.invariant in (
+      λ s stands. reach_then a b d c.loop-served.tables c.connection.new.tables
+          (λ t. SofarOn rules per n s t)
+          (λ t u. ComesOn rules per c.in-Ok-true.field-0 t u)
+          (λ u. SofarOn rules per (n + 1) s u)
+          (λ (t u : State) (es fs : Log) (ms ns : List ℕ) meet x y.
+          sofar_more_on rules lawful per a b d s t n es fs ms ns meet x u
+          (subst (λ (v : Bool). ComesOn rules per v t u b d fs ns) c.in-Ok-true.field-0-test y))
+          (inv.0 s stands) c.in-Ok-true.ensures.served,
+      passes_then a b d inv.1 c.connection.ensures.passes,
+      grind arith,
+    )
+
+pub returns-in-Ok-false-clause-served : goal.returns-in-Ok-false-clause-served
+returns-in-Ok-false-clause-served g c = λ s stands.
+    let state = g.S.Disk.state in
+    let a = state c.args.shell.now in
+    let b = state c.loop-served.shell in
+    let d = state c.connection.new.shell in
+    let per = c.args.per in
+    let n = c.loop-served.served in
+    let few : n < c.args.count = grind arith in
+    reach_then a b d c.loop-served.tables c.connection.new.tables
+    (λ t. SofarOn rules per n s t)
+    (λ t u. ComesOn rules per c.in-Ok-false.field-0 t u)
+    (λ u. ServedOn rules per c.args.count s u)
+    (λ (t u : State) (es fs : Log) (ms ns : List ℕ) meet x y.
+    served_fewer_on rules lawful per a b d s t n es fs ms ns meet x c.args.count u few
+    (subst (λ (v : Bool). ComesOn rules per v t u b d fs ns) c.in-Ok-false.field-0-test y))
+    (c.loop-served.invariant.0 s stands) c.in-Ok-false.ensures.served
+
+pub returns-in-Err-clause-served : goal.returns-in-Err-clause-served
+returns-in-Err-clause-served g c = λ s stands.
+    let state = g.S.Disk.state in
+    let a = state c.args.shell.now in
+    let b = state c.loop-served.shell in
+    let d = state c.connection.new.shell in
+    let per = c.args.per in
+    let n = c.loop-served.served in
+    let fault = c.in-Err.fault in
+    let few : n < c.args.count = grind arith in
+    reach_break a b d c.loop-served.tables
+    (λ t. SofarOn rules per n s t) (λ t. ComesSomeOn rules per fault t)
+    (ServedSomeOn rules per c.args.count fault s)
+    (λ (t : State) (es fs : Log) (ms ns : List ℕ) meet x y.
+    served_some_on rules lawful per a b d s t n es fs ms ns meet x c.args.count fault few y)
+    (c.loop-served.invariant.0 s stands) c.in-Err.ensures.served
+
+pub returns-clause-served : goal.returns-clause-served
+returns-clause-served g c = λ s stands.
+    let state = g.S.Disk.state in
+    let a = state c.args.shell.now in
+    let b = state c.loop-served.shell in
+    let per = c.args.per in
+    let n = c.loop-served.served in
+    let all : n ≡ c.args.count = grind arith in
+    reach_as a b c.loop-served.tables (λ t. SofarOn rules per n s t)
+    (λ t. ServedOn rules per c.args.count s t)
+    (λ (t : State) (es : Log) (ms : List ℕ) x.
+    subst (λ (k : ℕ). ServedOn rules per k s t a b es ms) all
+    (served_all_on rules lawful per a b n s t es ms x))
+    (c.loop-served.invariant.0 s stands)
+
+pub connection-requires-clause-ready : goal.connection-requires-clause-ready
+connection-requires-clause-ready g c = λ trusted.
+    let state = g.S.Disk.state in
+    let inv = c.loop-served.invariant in
+    let first = c.requires.ready (passes_back (state c.args.shell.now) (state c.loop-served.shell)
+    inv.1 trusted) in
+    let r = inv.0 first.0 first.1 in
+    (r.to, r.stands)

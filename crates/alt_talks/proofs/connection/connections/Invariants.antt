@@ -1,0 +1,20 @@
+use Rattle.std.proofs.Common.{◌≤◌, ◌-◌}
+use Rattle.alt_machine.specs.State.{State}
+use Rattle.alt_tables.specs.Stands.{Stands}
+use Rattle.alt_talks.specs.Runs.{Leads, Passes}
+use Rattle.alt_talks.specs.TalkRules.{rules}
+use Rattle.alt_talks.proofs.TalkAmong.{SofarOn}
+use Rattle.alt_talks.proofs.connection.connections.Given as goal
+
+abbrev pub invariant-loop-served : goal.invariant-loop-served
+invariant-loop-served g l =
+    let state = g.S.Disk.state in
+    let old = state l.initial.shell in
+    let new = state l.shell in
+    ((s : State) → Stands old l.initial.tables s
+    → Leads old new l.tables (λ t. SofarOn rules l.per l.served s t))
+    × Passes old new
+    × (l.served ≤ l.count)
+
+abbrev pub decreases-loop-served : goal.decreases-loop-served
+decreases-loop-served g l = l.count - l.served

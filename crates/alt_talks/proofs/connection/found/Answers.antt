@@ -1,0 +1,110 @@
+use Rattle.std.proofs.Common.{◌≡◌, ◌+◌, ◌∙◌, ℕ, List, Bool, true, false, sym, ap, subst}
+use Rattle.std.specs.Prelude.{nat_le}
+use Rattle.alt_shell.specs.Log.{Log}
+use Rattle.alt_tables.proofs.Left.{stands_left}
+use Rattle.alt_talks.specs.TalkRules.{rules}
+use Rattle.alt_talks.specs.TalkStops.{AnswersOn, CarriesOn, CarriesSomeOn, MovesSomeOn, StepsOn}
+use Rattle.alt_talks.specs.TalkViews.{place_of, head_in, scanned}
+use Rattle.alt_talks.specs.Talks.{greets, good, at, is_whole}
+use Rattle.alt_talks.proofs.Stretching.{stretch_as, stretch_then}
+use Rattle.alt_talks.proofs.Stopping.{ready_kept, stands_kept}
+use Rattle.alt_talks.proofs.TalkLaws.{lawful, rules-scan}
+use Rattle.alt_talks.proofs.TalkLeaving.{steps_short_on, steps_whole_on, some_whole_on}
+use Rattle.alt_talks.proofs.connection.found.Goals as goal
+
+pub returns-then-not-is_whole-clause-stepped : goal.returns-then-not-is_whole-clause-stepped
+returns-then-not-is_whole-clause-stepped g c = λ s stands.
+    let state = g.S.Disk.state in
+    let a = state c.args.shell.now in
+    let b = state c.hello.new.shell in
+    let p = place_of c.args.talk.now in
+    let m = c.args.talk.now.mute in
+    let n = c.hello.new.mute in
+    let h = head_in c.args.head in
+    let w : is_whole h p.bytes ≡ false =
+    ap (nat_le (h.taken + h.length)) (sym c.len.ensures)
+    ∙ sym c.is_whole.ensures ∙ c.if-not-is_whole.true in
+    let e : rules.scan p.bytes ≡ good h = rules-scan p.bytes ∙ ap scanned c.requires.head in
+    record {
+      to = s;
+      stands = stands_kept a b c.hello.ensures.keeps c.args.tables.now s stands;
+      calls = stretch_as a b {P = AnswersOn rules s m (greets p.greeted h.expect) s n}
+          {Q = StepsOn rules false p s m (at p.left c.either-talk.result c.keep.new.self) s n}
+          (λ (es : Log) (ms : List ℕ) within x.
+          subst (λ (bs : List ℕ).
+          StepsOn rules false p s m (at p.left c.either-talk.result bs) s n a b es ms)
+          (sym c.keep.ensures.stays)
+          (subst (λ (v : Bool). StepsOn rules false p s m (at p.left v p.bytes) s n a b es ms)
+          (sym c.either-talk.ensures)
+          (steps_short_on rules lawful a b p h s s m n es ms c.requires.going e w x)))
+          (c.hello.ensures.greeted s
+          (λ trusted image is. stands_left a c.args.tables.now s stands image is));
+    }
+
+pub returns-in-Ok-clause-stepped : goal.returns-in-Ok-clause-stepped
+returns-in-Ok-clause-stepped g c = λ s stands.
+    let state = g.S.Disk.state in
+    let a = state c.args.shell.now in
+    let b = state c.hello.new.shell in
+    let d = state c.carry.new.shell in
+    let p = place_of c.args.talk.now in
+    let q = place_of c.carry.new.talk in
+    let m = c.args.talk.now.mute in
+    let n = c.hello.new.mute in
+    let o = c.carry.new.talk.mute in
+    let h = head_in c.args.head in
+    let w : is_whole h p.bytes ≡ true =
+    ap (nat_le (h.taken + h.length)) (sym c.len.ensures)
+    ∙ sym c.is_whole.ensures ∙ c.if-not-is_whole.false in
+    let e : rules.scan p.bytes ≡ good h = rules-scan p.bytes ∙ ap scanned c.requires.head in
+    let carried = c.in-Ok.ensures.carried s
+    (stands_kept a b c.hello.ensures.keeps c.args.tables.now s stands) in
+    record {
+      to = carried.to;
+      stands = carried.stands;
+      calls = stretch_then a b d
+          {P = AnswersOn rules s m (greets p.greeted h.expect) s n}
+          {Q = CarriesOn rules h (at p.left c.either-talk.result p.bytes) s n q carried.to o}
+          {R = StepsOn rules true p s m q carried.to o}
+          (λ (es fs : Log) (ms ns : List ℕ) meet x y.
+          steps_whole_on rules lawful a b d p h s s carried.to m n o es fs ms ns meet
+          c.requires.going e w x q
+          (subst (λ (v : Bool). CarriesOn rules h (at p.left v p.bytes) s n q carried.to o b d fs ns)
+          c.either-talk.ensures y))
+          (c.hello.ensures.greeted s
+          (λ trusted image is. stands_left a c.args.tables.now s stands image is))
+          carried.calls;
+    }
+
+pub returns-clause-stepped : goal.returns-clause-stepped
+returns-clause-stepped g c = λ s stands.
+    let state = g.S.Disk.state in
+    let a = state c.args.shell.now in
+    let b = state c.hello.new.shell in
+    let d = state c.carry.new.shell in
+    let p = place_of c.args.talk.now in
+    let m = c.args.talk.now.mute in
+    let n = c.hello.new.mute in
+    let h = head_in c.args.head in
+    let fault = c.in-Err.fault in
+    let w : is_whole h p.bytes ≡ true =
+    ap (nat_le (h.taken + h.length)) (sym c.len.ensures)
+    ∙ sym c.is_whole.ensures ∙ c.if-not-is_whole.false in
+    let e : rules.scan p.bytes ≡ good h = rules-scan p.bytes ∙ ap scanned c.requires.head in
+    stretch_then a b d
+    {P = AnswersOn rules s m (greets p.greeted h.expect) s n}
+    {Q = CarriesSomeOn rules fault h (at p.left c.either-talk.result p.bytes) s n}
+    {R = MovesSomeOn rules fault p s m}
+    (λ (es fs : Log) (ms ns : List ℕ) meet x y.
+    some_whole_on rules lawful a b d p h s s s m n n es fs ms ns meet c.requires.going
+    e w x fault y)
+    (c.hello.ensures.greeted s
+    (λ trusted image is. stands_left a c.args.tables.now s stands image is))
+    (c.in-Err.ensures.carried s
+    (stands_kept a b c.hello.ensures.keeps c.args.tables.now s stands))
+
+pub carry-requires-clause-ready : goal.carry-requires-clause-ready
+carry-requires-clause-ready g c =
+    let state = g.S.Disk.state in
+    ready_kept (state c.args.shell.now) (state c.hello.new.shell) c.args.tables.now
+    c.hello.ensures.keeps c.requires.ready

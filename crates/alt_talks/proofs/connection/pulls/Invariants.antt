@@ -1,0 +1,26 @@
+use Rattle.std.proofs.Common.{◌≡◌, ◌-◌, ◌^◌, true, false}
+use Rattle.alt_machine.specs.State.{State}
+use Rattle.alt_shell.specs.Log.{takes_missed, says_missed}
+use Rattle.alt_tables.specs.Stands.{Stands}
+use Rattle.alt_talks.specs.Runs.{Leads, Passes}
+use Rattle.alt_talks.specs.Stretches.{AtRest}
+use Rattle.alt_talks.specs.TalkStops.{GoesOn}
+use Rattle.alt_talks.specs.TalkRules.{rules}
+use Rattle.alt_talks.specs.TalkViews.{place_of}
+use Rattle.alt_talks.proofs.connection.pulls.Given as goal
+
+abbrev pub invariant-pulls : goal.invariant-pulls
+invariant-pulls g l =
+    let state = g.S.Disk.state in
+    let old = state l.initial.shell in
+    let new = state l.shell in
+    ((s : State) → Stands old l.initial.tables s → AtRest rules (place_of l.initial.talk)
+    → Leads old new l.tables
+    (λ t. GoesOn rules true (place_of l.initial.talk) s l.initial.talk.mute
+    (place_of l.talk) t l.talk.mute))
+    × Passes old new
+    × (l.talk.mute ≡ false → says_missed new.beside ≡ false)
+    × (takes_missed new.beside ≡ false)
+
+abbrev pub decreases-pulls : goal.decreases-pulls
+decreases-pulls g l = 2 ^ 64 - 1 - (g.S.Disk.state l.shell).moment

@@ -1,0 +1,62 @@
+use Rattle.std.proofs.Common.{◌∙◌, List, ℕ, [], ◌∷◌, true, Bool, refl, sym, subst}
+use Rattle.alt_shell.specs.Log.{Log}
+use Rattle.alt_talks.specs.Runs.{Stretch}
+use Rattle.alt_talks.specs.Stops.{AreWithin}
+use Rattle.alt_talks.specs.Stretches.{Utters}
+use Rattle.alt_talks.specs.TalkRules.{rules}
+use Rattle.alt_talks.specs.TalkStops.{AnswersOn, AnswersSomeOn}
+use Rattle.alt_talks.specs.Talks.{refused}
+use Rattle.alt_tables.specs.declared.faults.TableFault.TheVariants.{NoMemory}
+use Rattle.alt_talks.proofs.Stretching.{stretch_none}
+use Rattle.alt_talks.proofs.Stopping.{trusts-kept}
+use Rattle.alt_talks.proofs.TalkLaws.{lawful, rules-refusal}
+use Rattle.alt_talks.proofs.TalkLeaving.{left_nothing, left_untold, told_alone, told_then, refused_on}
+use Rattle.alt_talks.proofs.Uttering.{does_refused_mute, quiet_none, some_refused}
+use Rattle.alt_talks.proofs.connection.refuse.Goals as goal
+
+pub returns-then-mute-clause-answered : goal.returns-then-mute-clause-answered
+returns-then-mute-clause-answered g c = λ s here.
+    let a = g.S.Disk.state c.args.shell.now in
+    let k = c.args.number in
+    subst (λ (m : Bool). Stretch a a (AnswersOn rules s m (refused k ∷ []) s m))
+    (sym c.if-mute.true)
+    (stretch_none a {P = AnswersOn rules s true (refused k ∷ []) s true} (
+      record { does = does_refused_mute rules s k; quiet = quiet_none },
+      left_nothing a s [] tt here,
+    ))
+
+pub returns-in-Ok-clause-answered : goal.returns-in-Ok-clause-answered
+returns-in-Ok-clause-answered g c = λ s here.
+    let state = g.S.Disk.state in
+    let a = state c.args.shell.now in
+    let b = state c.now-moment.new.self in
+    let d = state c.utter.new.shell in
+    let m = c.args.mute.now in
+    let n = c.utter.new.mute in
+    let at = c.now-moment.result in
+    let k = c.args.number in
+    let keeps = c.now-moment.ensures.call.keeps in
+    let same = c.deref.ensures.value ∙ c.in-Ok.ensures ∙ sym (rules-refusal k at) in
+    told_then a b d {Q = λ _ _. Utters m c.deref.result.now n}
+    {R = AnswersOn rules s m (refused k ∷ []) s n} at
+    c.now-moment.ensures.log c.now-moment.ensures.told keeps.later (trusts-kept a b keeps)
+    (λ (fs : Log) (ns : List ℕ) (within : AreWithin b.moment d.moment fs) u.
+    refused_on rules lawful a b d s m n k at fs ns c.if-mute.false c.now-moment.ensures.call
+    c.utter.ensures.keeps here within
+    (subst (λ (bs : List ℕ). Utters m bs n fs ns) same u))
+    c.utter.ensures.said
+
+pub returns-in-Err-clause-answered : goal.returns-in-Err-clause-answered
+returns-in-Err-clause-answered g c = λ s here.
+    let state = g.S.Disk.state in
+    let a = state c.args.shell.now in
+    let b = state c.now-moment.new.self in
+    let m = c.args.mute.now in
+    let at = c.now-moment.result in
+    let k = c.args.number in
+    let keeps = c.now-moment.ensures.call.keeps in
+    told_alone a b {R = AnswersSomeOn rules NoMemory s m (refused k ∷ [])} at
+    c.now-moment.ensures.log c.now-moment.ensures.told keeps.later (trusts-kept a b keeps) (
+      some_refused rules s m k at [] (at ∷ []) (record { nothing = refl; one = refl }),
+      left_untold rules lawful a b s (refused k ∷ []) (at ∷ []) keeps here,
+    )

@@ -1,0 +1,107 @@
+-- What serving connections promises.
+use Rattle.std.specs.Prelude.{◌≡◌, ◌<◌, ◌≤◌, ◌+◌, ◌⊎◌, ℕ, List, [], ◌∷◌, ◌++◌, length, Bool, true, false, None}
+use Rattle.std.specs.List.{flat_map}
+use Rattle.alt_machine.specs.State.{State}
+use Rattle.alt_shell.specs.Log.{Log, accepted, none_came, hung_up, entry, taken, says_failed, crosses}
+use Rattle.alt_talks.specs.Faults.{IsCausedBy}
+use Rattle.alt_tables.specs.declared.faults.TableFault.{TableFault}
+use Rattle.alt_talks.specs.Talks.{Turn, Rules, Place, at, turns, closes}
+use Rattle.alt_talks.specs.TalkTexts.{after}
+use Rattle.alt_talks.specs.Stretches.{Does, DoesSome, TakesIdle, over}
+
+-- A connection: the moment at which it was accepted and how many moments had been told by then, the entries from then on, its hanging up
+-- among them, and the moments told on it.
+pub record Connection : Type 0 where
+  pub moment : ℕ
+  pub clocked : ℕ
+  pub entries : Log
+  pub told : List ℕ
+
+-- what connections add to the log, one after another
+abbrev pub entries_of : List Connection → Log
+entries_of ks = flat_map (λ k. entry k.moment k.clocked accepted ∷ k.entries) ks
+
+-- the moments told on them
+abbrev pub told_of : List Connection → List ℕ
+told_of ks = flat_map (λ k. k.told) ks
+
+-- the turns of a connection: those of the bytes taken on it
+abbrev pub turns_of : Rules → ℕ → Connection → List Turn
+turns_of r per k = turns r per false (taken k.entries)
+
+-- where a connection begins
+abbrev pub start : ℕ → Place
+start per = at per false []
+
+-- A connection was served and hung up: where its end was taken, a take or a say on it failed, or its turns ended. Where no say failed
+-- its whole text was said, and else a part from the front; the state is that of its requests, answered or not. Bytes were taken only
+-- where all turns of those before were done, and none once the turns had ended or a say failed.
+pub record Serves (r : Rules) (per : ℕ) (s : State) (k : Connection) (t : State) : Type 0 where
+  pub does : Does r s false (turns_of r per k) t (says_failed k.entries) k.entries k.told
+  pub cause : (over k.entries ≡ true) ⊎ (says_failed k.entries ≡ true) ⊎ (closes (turns_of r per k) ≡ true)
+  pub idle : TakesIdle r (start per) s false k.told [] k.entries
+  pub before : Log
+  pub at : ℕ
+  pub clocked : ℕ
+  pub hung : k.entries ≡ before ++ entry at clocked hung_up ∷ []
+  pub inside : crosses before ≡ false
+
+-- a connection came and was served, or none came any more
+abbrev pub Comes : Rules → ℕ → Bool → State → State → Log → List ℕ → Type 0
+Comes r per true s t entries told = (k : Connection) × Serves r per s k t × (entries ≡ entry k.moment k.clocked accepted ∷ k.entries) × (told ≡ k.told)
+Comes r per false s t entries told = (t ≡ s) × ((m n : ℕ) × (entries ≡ entry m n none_came ∷ [])) × (told ≡ [])
+
+-- none came, since the wait failed
+abbrev pub Missed : TableFault → Log → List ℕ → Type 0
+Missed fault entries told = (entries ≡ []) × (told ≡ []) × IsCausedBy None fault
+
+-- Serving a connection broke off, and it was hung up; bytes were taken as on one that was served, and no other connection came or went.
+pub record Breaks (r : Rules) (per : ℕ) (fault : TableFault) (s : State) (k : Connection) : Type 0 where
+  pub some : DoesSome r fault s false (turns_of r per k) k.entries k.told
+  pub idle : TakesIdle r (start per) s false k.told [] k.entries
+  pub before : Log
+  pub at : ℕ
+  pub clocked : ℕ
+  pub hung : k.entries ≡ before ++ entry at clocked hung_up ∷ []
+  pub inside : crosses before ≡ false
+
+-- one came, broke off and was hung up
+abbrev pub Broke : Rules → ℕ → TableFault → State → Log → List ℕ → Type 0
+Broke r per fault s entries told = (k : Connection)
+    × Breaks r per fault s k
+    × (entries ≡ entry k.moment k.clocked accepted ∷ k.entries) × (told ≡ k.told)
+
+-- either
+abbrev pub ComesSome : Rules → ℕ → TableFault → State → Log → List ℕ → Type 0
+ComesSome r per fault s entries told = Missed fault entries told ⊎ Broke r per fault s entries told
+
+-- one after another
+abbrev pub ServesAll : Rules → ℕ → State → List Connection → State → Type 0
+ServesAll r per s [] t = t ≡ s
+ServesAll r per s (k ∷ ks) t = (u : State) × Serves r per s k u × ServesAll r per u ks t
+
+-- the state after all, and so the fold over all requests in order
+abbrev pub after_all : Rules → ℕ → State → List Connection → State
+after_all r per s [] = s
+after_all r per s (k ∷ ks) = after_all r per (after r s (turns_of r per k) k.told) ks
+
+-- Status 0: so many connections were served, or none came any more.
+pub record Served (r : Rules) (per connections : ℕ) (s t : State) (entries : Log) (told : List ℕ) : Type 0 where
+  pub all : List Connection
+  pub last : Log
+  pub made : entries ≡ entries_of all ++ last
+  pub moments : told ≡ told_of all
+  pub each : ServesAll r per s all t
+  pub state : t ≡ after_all r per s all
+  pub ends : ((length all ≡ connections) × (last ≡ [])) ⊎ ((length all < connections) × ((m n : ℕ) × (last ≡ entry m n none_came ∷ [])))
+
+-- Another status: the connections before were served so, and one may have broken off, which was hung up then or never accepted.
+pub record ServedSome (r : Rules) (per connections : ℕ) (fault : TableFault) (s : State) (entries : Log) (told : List ℕ) : Type 0 where
+  pub all : List Connection
+  pub halfway : State
+  pub each : ServesAll r per s all halfway
+  pub last : List Connection
+  pub made : entries ≡ entries_of all ++ entries_of last
+  pub moments : told ≡ told_of all ++ told_of last
+  pub some : ((last ≡ []) × IsCausedBy None fault) ⊎ ((k : Connection) × (last ≡ k ∷ []) × Breaks r per fault halfway k)
+  pub most : length all + length last ≤ connections

@@ -1,0 +1,12 @@
+pub mod Connections
+pub mod Faults
+pub mod HeadViews
+pub mod Runs
+pub mod Stops
+pub mod Stretches
+pub mod TalkRules
+pub mod TalkStops
+pub mod TalkTexts
+pub mod TalkViews
+pub mod Talks
+pub mod Turns

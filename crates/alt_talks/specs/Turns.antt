@@ -1,0 +1,47 @@
+-- What turns come to, whatever asked for them: what is said to each, what it writes, and what it lacks.
+use Rattle.std.specs.Prelude.{ℕ, List, [], ◌∷◌, if◌then◌else◌, Option, Some, None, length, drop, nat_le}
+use Rattle.std.specs.List.{flat_map}
+use Rattle.alt_machine.specs.Outcomes.{last_state}
+use Rattle.alt_machine.specs.State.{State}
+use Rattle.alt_machine.specs.Wanted.{Lack}
+
+-- ---- what they come to
+
+-- What a line comes to: the text that is said to it, the single writes that it makes, each by the state after it, and the
+-- number or family that one of them wants and can't have.
+pub record Turn : Type 0 where
+  pub text : List ℕ
+  pub atoms : List State
+  pub lacks : Option Lack
+
+-- the state after a turn
+abbrev pub after_turn : State → Turn → State
+after_turn s t = last_state s t.atoms
+
+-- ---- what they come to together
+
+-- all that is said
+abbrev pub text_of : List Turn → List ℕ
+text_of ts = flat_map (λ t. t.text) ts
+
+-- the state after the last
+abbrev pub after : State → List Turn → State
+after s [] = s
+after s (t ∷ ts) = after (after_turn s t) ts
+
+-- the first of two, where there is one
+abbrev pub or_next : Option Lack → Option Lack → Option Lack
+or_next None next = next
+or_next (Some lack) next = Some lack
+
+-- the first number or family that is wanted and can't be had
+abbrev pub wanted : List Turn → Option Lack
+wanted [] = None
+wanted (t ∷ ts) = or_next t.lacks (wanted ts)
+
+-- the turns, from the first on, whose whole texts stand in the bytes said
+abbrev pub answered : List Turn → List ℕ → List Turn
+answered [] bytes = []
+answered (t ∷ ts) bytes =
+    if nat_le (length t.text) (length bytes) then t ∷ answered ts
+    (drop (length t.text) bytes) else []

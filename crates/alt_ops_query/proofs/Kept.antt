@@ -1,7 +1,9 @@
 -- The key of an item, put together from its attributes.
 use Rattle.std.proofs.Common.{◌≡◌, refl, sym, ap, ◌∙◌, cond, ℕ, Bool, true, false, ◌||◌, T, List, [], ◌∷◌, Option, Some, None}
 use Rattle.std.specs.FinMap.Entries.{find, is_sorted, where_key, find-put, find-where_key, is_sorted-put, is_sorted-where_key, same_entries}
+use Rattle.std.specs.Ordering.{eq_by_cmp}
 use Rattle.std.specs.Str.{bytes_eq}
+use Rattle.std.specs.Cmp.Lexicographic.{texts_ties, nat_list_eq_equiv}
 use Rattle.alt_cells.proofs.CellLaws.{key_total, key_exact}
 use Rattle.alt_machine.specs.Lists.{key_attributes}
 use Rattle.alt_machine.specs.Sources.{is_key_there}
@@ -12,10 +14,13 @@ use Rattle.alt_schema.specs.declared.schema.KeyAttr.{KeyAttr}
 use Rattle.alt_schema.specs.declared.schema.TableSchema.{TableSchema}
 use Rattle.std.proofs.lemmas.Slice.Eq.{bytes_eq-Decides}
 use Rattle.alt_cells.proofs.Entries.{find_below}
-use Rattle.alt_projection.proofs.Chosen.{same_name}
 use Rattle.alt_value.specs.Item.{IsItem, at_name}
 use Rattle.alt_value.specs.Members.{text_order}
 use Rattle.alt_value.specs.Tree.{Tree, Pair}
+
+-- two ways to tell that a name is another
+same_name : (m n : List ℕ) → eq_by_cmp text_order n m ≡ bytes_eq m n
+same_name m n = sym (texts_ties n m) ∙ nat_list_eq_equiv.symm n m
 
 -- no attribute has the empty name
 no_empty : (item : List Pair) → IsItem item → find text_order [] item ≡ None

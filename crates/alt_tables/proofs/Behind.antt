@@ -9,7 +9,8 @@ use Rattle.alt_machine.specs.State.{State}
 use Rattle.alt_machine.specs.Wanted.{lack_among}
 use Rattle.alt_machine.proofs.Behind.{after_behind, front_of, taken_behind, lacks_behind, lacks_front, lacks_within, take_front}
 use Rattle.alt_tables.specs.Faults.{BreakOff}
-use Rattle.alt_tables.specs.Images.{AfterSome, Leaves, StandsFor}
+use Rattle.alt_tables.specs.Images.{AfterSome, Leaves}
+use Rattle.alt_opening.specs.Images.{StandsFor}
 use Rattle.alt_tables.specs.Stands.{Stands}
 use Rattle.alt_tables.specs.declared.faults.TableFault.{TableFault}
 use Rattle.alt_tables.specs.declared.faults.TableFault.TheVariants.{Spent, Damaged, BadRow, Failed, NoMemory}

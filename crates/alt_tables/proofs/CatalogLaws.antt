@@ -33,11 +33,13 @@ use Rattle.alt_schema.specs.Held.{IsHeld}
 use Rattle.alt_schema.specs.Rules.{is_name}
 use Rattle.alt_schema.specs.declared.schema.IndexSchema.{IndexSchema}
 use Rattle.alt_schema.specs.declared.schema.TableSchema.{TableSchema}
-use Rattle.alt_tables.specs.StateRows.{HasMoment, IsHeldWhole, Shows, Turns, catalog_family, catalog_rows, item_rows, index_rows, change_rows, one_column, table_row, next_row, creation_changes, drop_changes}
-use Rattle.alt_tables.proofs.ChangeLaws.{tied, itself, one_change, two_changes, other_family}
+use Rattle.alt_opening.specs.StateRows.{HasMoment, IsHeldWhole, Shows, catalog_family, catalog_rows, item_rows, index_rows, change_rows, one_column, table_row, next_row}
+use Rattle.alt_tables.specs.RowChanges.{Turns, creation_changes, drop_changes}
+use Rattle.alt_opening.proofs.Ties.{tied, itself}
+use Rattle.alt_tables.proofs.ChangeLaws.{one_change, two_changes, other_family}
 use Rattle.alt_views.proofs.ItemRowLaws.{can_show}
 use Rattle.alt_views.specs.IndexRows.{index_columns}
-use Rattle.alt_tables.proofs.OneState.{some, nameless}
+use Rattle.alt_opening.proofs.OneState.{some, nameless}
 use Rattle.alt_tables.proofs.IndexFamilies.{index_family}
 use Rattle.alt_tables.proofs.StreamShows.{stream_family}
 use Rattle.alt_tables.proofs.WriteLaws.{family_within, index_within, stream_within}

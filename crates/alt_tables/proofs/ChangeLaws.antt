@@ -1,27 +1,12 @@
 -- Which of the changes of a write is that of a row.
-use Rattle.std.proofs.Common.{◌≡◌, ◌≢◌, ℕ, Bool, true, false, T, List, [], ◌∷◌, ◌++◌, Option, Some, None, refl, ap, ◌∙◌, arith}
+use Rattle.std.proofs.Common.{◌≡◌, ◌≢◌, ℕ, Bool, true, false, List, [], ◌∷◌, ◌++◌, Option, Some, None, refl, ap, ◌∙◌, arith}
 use Rattle.std.proofs.lemmas.Bool.{eqb-true}
 use Rattle.std.proofs.lemmas.Bool.Decides.{nat_tests}
 use Rattle.std.specs.Prelude.{◌==◌, if◌then◌else◌}
-use Rattle.std.specs.Ordering.{eq_by_cmp, is_eq}
-use Rattle.std.specs.Cmp.{tied_itself}
+use Rattle.std.specs.Ordering.{eq_by_cmp}
 use Rattle.alt_cells.specs.declared.batch.RowChange.{RowChange}
 use Rattle.alt_cells.specs.Keys.{key_cmp}
-use Rattle.alt_cells.proofs.CellLaws.{key_total, key_exact}
-use Rattle.alt_cells.proofs.Entries.{equal}
 use Rattle.alt_engine.specs.Layout.{change_of}
-
-holds : (b : Bool) → b ≡ true → T b
-holds true h = tt
-holds false h = absurd (cc h)
-
--- keys that tie are one
-pub tied : (q k : List ℕ) → eq_by_cmp key_cmp q k ≡ true → q ≡ k
-tied q k e = key_exact q k (equal _ (holds _ e))
-
--- a key ties with itself
-pub itself : (q : List ℕ) → eq_by_cmp key_cmp q q ≡ true
-itself q = ap is_eq (tied_itself key_total q)
 
 -- equal numbers are told to be equal
 test : (m n : ℕ) → m ≡ n → (m == n) ≡ true

@@ -8,20 +8,21 @@ use Rattle.std.specs.Prelude.{nat_le}
 use Rattle.std.specs.declared.ops.Bound.TheVariants.{Included, Unbounded}
 use Rattle.alt_cells.specs.Changes.{Columns}
 use Rattle.alt_changes.specs.ChangeRows.{change_columns, row_key}
-use Rattle.alt_changes.proofs.RowLaws.{change_columns-one}
 use Rattle.alt_disk.specs.Disk.{DiskState}
 use Rattle.alt_engine.specs.InHand.{Reads as EngineReads}
 use Rattle.alt_engine.specs.Layout.{Layout, rows_between}
 use Rattle.alt_machine.specs.Ops.GetRecords.{changes_from}
 use Rattle.alt_machine.specs.State.{Change, State, Table}
 use Rattle.alt_schema.specs.declared.schema.TableSchema.{TableSchema}
-use Rattle.alt_tables.specs.Pages.{AreChangesOf, IsChangeAt}
-use Rattle.alt_tables.specs.StateRows.{keyed_changes}
+use Rattle.alt_tables.specs.Pages.{AreChangesOf}
+use Rattle.alt_opening.specs.StreamScans.{IsChangeAt}
+use Rattle.alt_opening.specs.StateRows.{keyed_changes}
 use Rattle.alt_tables.specs.Stands.{Stands, catalog_of}
 use Rattle.alt_tables.specs.declared.tables.Tables.{Tables}
 use Rattle.alt_tables.proofs.Pages.{page_rows, placed_between, row_at, same_table}
-use Rattle.alt_tables.proofs.StreamKeys.{IsKept, IsSmall, Rise, entries_keyed, filter_keyed, key_one, keyed}
-use Rattle.alt_tables.proofs.StreamShows.{are_kept, are_small}
+use Rattle.alt_opening.proofs.StreamSteps.{one_change_at}
+use Rattle.alt_opening.proofs.StreamKeys.{IsKept, IsSmall, Rise, entries_keyed, filter_keyed, keyed}
+use Rattle.alt_opening.proofs.KeptChanges.{are_kept, are_small}
 use Rattle.alt_value.specs.Members.{text_order}
 
 -- of none there are no first ones
@@ -50,13 +51,6 @@ change_row_at (p ∷ ps) (c ∷ cs) zero e are within is =
     (c, subst (λ (q : List ℕ × Columns). IsChangeAt q.0 q.1 c) (sym is) are.0)
 change_row_at (p ∷ ps) (c ∷ cs) (suc k) e are within is =
     change_row_at ps cs k e are.1 (omega (arith, within)) is
-
--- one row is that of one change
-pub one_change_at : (key : List ℕ) (columns : Columns) (a b : Change) → IsChangeAt key columns a
-    → IsChangeAt key columns b → a ≡ b
-one_change_at key columns a b is_a is_b = change_columns-one a b is_a.read is_b.read
-    (key_one a.number b.number is_a.number is_b.number (sym is_a.place ∙ is_b.place))
-    (sym is_a.row ∙ is_b.row)
 
 -- so rows are those of one list
 pub one_changes : (page : List (List ℕ × Columns)) (cs ds : List Change) → AreChangesOf page cs

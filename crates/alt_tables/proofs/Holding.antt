@@ -14,11 +14,13 @@ use Rattle.alt_machine.specs.State.{State}
 use Rattle.alt_machine.specs.Valid.{IsValid}
 use Rattle.alt_tables.specs.Faults.{fault_of}
 use Rattle.alt_tables.specs.declared.faults.TableFault.TheVariants.{NoMemory}
-use Rattle.alt_tables.specs.Images.{StandsFor, AfterSome, Leaves}
-use Rattle.alt_tables.specs.StateRows.{Shows, Turns}
-use Rattle.alt_tables.specs.Stands.{Holds}
-use Rattle.alt_tables.proofs.Engine.{in_each_image, stands_past, stays_quiet, one_layout_in_hand}
-use Rattle.alt_tables.proofs.OneState.{one_state}
+use Rattle.alt_opening.specs.Images.{StandsFor}
+use Rattle.alt_tables.specs.Images.{AfterSome, Leaves}
+use Rattle.alt_opening.specs.StateRows.{Shows}
+use Rattle.alt_tables.specs.RowChanges.{Turns}
+use Rattle.alt_opening.specs.Opened.{Holds}
+use Rattle.alt_opening.proofs.Engine.{in_each_image, stands_past, stays_quiet, one_layout_in_hand}
+use Rattle.alt_opening.proofs.OneState.{one_state}
 
 -- whatever a stop now leaves stands for the state
 pub each_holds : (disk : DiskState) (engine : Engine) (s : State) → Holds disk engine s → IsValid s

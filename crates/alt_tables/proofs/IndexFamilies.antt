@@ -15,7 +15,7 @@ use Rattle.alt_machine.specs.State.{families_of}
 use Rattle.alt_schema.specs.Indexes.{indexes}
 use Rattle.alt_schema.specs.declared.schema.IndexSchema.{IndexSchema}
 use Rattle.alt_schema.specs.declared.schema.TableSchema.{TableSchema}
-use Rattle.alt_tables.specs.Families.{HasOwnFamilies}
+use Rattle.alt_opening.specs.Families.{HasOwnFamilies}
 use Rattle.alt_tables.proofs.ChangeLaws.{AreOthers, others-append}
 use Rattle.alt_tables.proofs.Moving.{others-moved_changes}
 use Rattle.alt_value.specs.Tree.{Pair}

@@ -11,7 +11,8 @@ use Rattle.alt_engine.specs.InHand.{IsWritten}
 use Rattle.alt_engine.specs.Layout.{no_rows}
 use Rattle.alt_engine.proofs.ImageLaws.{files_hold}
 use Rattle.alt_machine.specs.State.{State, start}
-use Rattle.alt_tables.specs.Images.{StandsFor, AfterSome, Leaves}
+use Rattle.alt_opening.specs.Images.{StandsFor}
+use Rattle.alt_tables.specs.Images.{AfterSome, Leaves}
 use Rattle.alt_tables.specs.Stands.{AreReady, Stands, Reads}
 use Rattle.alt_tables.specs.declared.tables.Tables.{Tables}
 use Rattle.alt_tables.proofs.Holding.{each_holds, holds_quiet, leaves_behind, leaves_quiet}

@@ -22,20 +22,18 @@ use Rattle.alt_schema.specs.Described.{IsNew}
 use Rattle.alt_schema.specs.Held.{IsHeld}
 use Rattle.alt_schema.specs.declared.schema.TableSchema.{TableSchema}
 use Rattle.alt_tables.specs.Faults.{AreMade, AreSome, BreakOff, IsFindFault, Writes}
-use Rattle.alt_tables.specs.Stands.{Holds, Stands, catalog_of, number_of}
-use Rattle.alt_tables.specs.StateRows.{Turns, item_changes, creation_changes, drop_changes}
+use Rattle.alt_opening.specs.Opened.{Holds}
+use Rattle.alt_tables.specs.Stands.{Stands, catalog_of, number_of}
+use Rattle.alt_tables.specs.RowChanges.{Turns, item_changes, creation_changes, drop_changes}
 use Rattle.alt_tables.specs.declared.faults.TableFault.{TableFault}
 use Rattle.alt_tables.specs.declared.faults.TableFault.TheVariants.{Spent, Damaged, BadRow, Failed, NoMemory}
 use Rattle.alt_tables.specs.declared.tables.Tables.{Tables}
 use Rattle.alt_tables.proofs.CatalogLaws.{creation_turns, drop_turns}
+use Rattle.alt_opening.proofs.OneState.{some}
 use Rattle.alt_tables.proofs.Standing.{descriptions-insert, descriptions-stay, descriptions-remove, known, there, absent}
 use Rattle.alt_tables.proofs.WriteLaws.{item_turns}
 use Rattle.alt_value.specs.Tree.{Pair}
 use Rattle.alt_value.specs.Values.{IsItemOfValues}
-
--- what is there is one
-pub same_Some : {A : Type 0} (x y : A) → Some x ≡ Some y → x ≡ y
-same_Some x y e = cc
 
 -- what holds of an option's value holds of it by name
 of_some : {A : Type 0} (P : A → Type 0) (o : Option A) (x : A) → IfSome o P → o ≡ Some x → P x
@@ -100,7 +98,7 @@ module _ (before : DiskState) (old : Tables) (s : State) (t : Table) (stands : S
       → IfSome to (IsStored d place) → IfSome to IsItemOfValues → moment < 2 ^ 64
       → Turns batch s after
   item_turned d number batch described numbered is room differ stored given fits =
-      let same : t.description ≡ d = same_Some _ _
+      let same : t.description ≡ d = some _ _
       (sym (known before old s name t stands at) ∙ described) in
       subst (λ cs. Turns cs s after)
       (ap (λ o. item_changes t.description s.next_number moment place o to) (sym there)

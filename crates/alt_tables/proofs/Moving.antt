@@ -10,7 +10,8 @@ use Rattle.alt_cells.specs.Keys.{key_cmp}
 use Rattle.alt_cells.proofs.ChangeLaws.{written-change_between, none_shown}
 use Rattle.alt_engine.specs.Layout.{change_of, shown_by}
 use Rattle.alt_machine.proofs.Rekeying.{moved}
-use Rattle.alt_tables.proofs.ChangeLaws.{tied, itself, one_change, two_changes, AreOthers}
+use Rattle.alt_opening.proofs.Ties.{tied, itself}
+use Rattle.alt_tables.proofs.ChangeLaws.{one_change, two_changes, AreOthers}
 use Rattle.alt_views.specs.IndexRows.{KeyedRow, if_said, moved_changes}
 use Rattle.alt_views.proofs.Batched.{AreOf, moved_changes-of}
 

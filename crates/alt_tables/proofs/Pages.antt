@@ -33,13 +33,13 @@ use Rattle.alt_tables.specs.Stands.{Stands, catalog_of}
 use Rattle.alt_tables.specs.declared.faults.TableFault.{TableFault}
 use Rattle.alt_tables.specs.declared.faults.TableFault.TheVariants.{Spent, Damaged, BadRow, Failed, NoMemory}
 use Rattle.alt_tables.specs.declared.tables.Tables.{Tables}
-use Rattle.alt_tables.proofs.ChangeLaws.{tied, itself}
-use Rattle.alt_tables.proofs.Engine.{finds_shown}
+use Rattle.alt_opening.proofs.Ties.{tied, itself}
+use Rattle.alt_opening.proofs.Engine.{finds_shown}
 use Rattle.alt_views.specs.IndexRows.{index_columns}
 use Rattle.alt_views.specs.Read.{IsKeptAt}
 use Rattle.alt_views.proofs.ItemRowLaws.{item_columns-one}
 use Rattle.alt_views.proofs.Keeping.{kept_at}
-use Rattle.alt_tables.proofs.OneState.{some, has_whole}
+use Rattle.alt_opening.proofs.OneState.{some, has_whole}
 use Rattle.alt_tables.proofs.Standing.{known}
 use Rattle.alt_value.specs.Members.{text_order}
 use Rattle.alt_value.specs.Tree.{Pair}

@@ -15,12 +15,12 @@ use Rattle.alt_schema.specs.declared.schema.TableSchema.{TableSchema}
 use Rattle.alt_views.specs.ItemRows.{IsReadItem, item_columns}
 use Rattle.alt_tables.specs.Stands.{AreReady, Stands, catalog_of}
 use Rattle.alt_tables.specs.declared.tables.Tables.{Tables}
-use Rattle.alt_tables.proofs.ChangeLaws.{tied}
+use Rattle.alt_opening.proofs.Ties.{tied}
 use Rattle.alt_tables.proofs.Holding.{one_held}
-use Rattle.alt_tables.proofs.Engine.{stays_quiet}
+use Rattle.alt_opening.proofs.Engine.{stays_quiet}
 use Rattle.alt_views.proofs.ItemRowLaws.{item_columns-one}
-use Rattle.alt_tables.proofs.OneState.{some, has_whole}
-use Rattle.alt_tables.proofs.Maps.{same_texts}
+use Rattle.alt_opening.proofs.OneState.{some, has_whole}
+use Rattle.alt_opening.proofs.Maps.{same_texts}
 use Rattle.alt_value.specs.Tree.{Pair}
 use Rattle.alt_value.specs.Values.{IsWholeItem}
 use Rattle.alt_value.specs.Members.{text_order}

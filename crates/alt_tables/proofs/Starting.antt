@@ -9,8 +9,8 @@ use Rattle.alt_engine.specs.Image.{IsLayout}
 use Rattle.alt_engine.specs.Layout.{no_rows, shown}
 use Rattle.alt_machine.specs.State.{Table, start}
 use Rattle.alt_machine.proofs.States.{start_valid}
-use Rattle.alt_tables.specs.Images.{StandsFor}
-use Rattle.alt_tables.specs.StateRows.{Shows, IsHeldWhole, catalog_rows, next_row, table_row}
+use Rattle.alt_opening.specs.Images.{StandsFor}
+use Rattle.alt_opening.specs.StateRows.{Shows, IsHeldWhole, catalog_rows, next_row, table_row}
 use Rattle.alt_value.specs.Members.{text_order}
 
 -- no row is shown

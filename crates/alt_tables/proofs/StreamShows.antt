@@ -1,5 +1,5 @@
 -- The rows of a stream after an item changes: those of its changes with the one that the write leaves.
-use Rattle.std.proofs.Common.{◌≡◌, ◌≢◌, ◌<◌, ◌≤◌, ◌+◌, refl, sym, ap, subst, ◌∙◌, ℕ, suc, Bool, true, false, cond, List, [], ◌∷◌, ◌++◌, map, length, Option, Some, None, option_map, slice_get, Contains, All, IfSome, arith}
+use Rattle.std.proofs.Common.{◌≡◌, ◌≢◌, ◌<◌, ◌+◌, refl, sym, ap, subst, ◌∙◌, ℕ, suc, Bool, true, false, cond, List, [], ◌∷◌, ◌++◌, map, length, Option, Some, None, option_map, slice_get, Contains, arith}
 use Rattle.std.proofs.lemmas.Bool.{eqb-true}
 use Rattle.std.proofs.lemmas.Option.{slice_get-map, slice_get_within, get_or_from_slice_get}
 use Rattle.std.specs.FinMap as finite
@@ -11,25 +11,25 @@ use Rattle.alt_cells.specs.Batches.{has_row}
 use Rattle.alt_cells.specs.Keys.{key_cmp}
 use Rattle.alt_cells.specs.declared.batch.RowChange.{RowChange}
 use Rattle.alt_cells.proofs.ChangeLaws.{written-change_between}
-use Rattle.alt_changes.specs.ChangeRows.{IsReadItem, change_columns, row_change, row_changes, row_key}
+use Rattle.alt_changes.specs.ChangeRows.{change_columns, row_change, row_changes, row_key}
 use Rattle.alt_changes.proofs.RowLaws.{change_can_show}
 use Rattle.alt_engine.specs.Layout.{Layout, Write, ShowsWrite, change_of, shown, shown_by, with_write}
 use Rattle.alt_machine.specs.Changes.{change_left, with_change}
 use Rattle.alt_machine.specs.Same.{is_same}
 use Rattle.alt_machine.specs.Sources.{index_at}
-use Rattle.alt_machine.specs.State.{Change, State, Table, families_of}
-use Rattle.alt_machine.specs.Valid.{AreChanges, IsChange, IsValid, WasStored}
+use Rattle.alt_machine.specs.State.{Change, families_of}
+use Rattle.alt_machine.specs.Valid.{AreChanges, IsChange}
 use Rattle.alt_machine.specs.declared.TheConstants.{NUMBERS_END}
 use Rattle.alt_schema.specs.Indexes.{indexes}
 use Rattle.alt_schema.specs.declared.schema.IndexSchema.{IndexSchema}
 use Rattle.alt_schema.specs.declared.schema.TableSchema.{TableSchema}
-use Rattle.alt_tables.specs.Families.{HasOwnFamilies}
-use Rattle.alt_tables.specs.StateRows.{IsHeldWhole, keyed_changes}
+use Rattle.alt_opening.specs.Families.{HasOwnFamilies}
+use Rattle.alt_opening.specs.StateRows.{keyed_changes}
 use Rattle.alt_tables.proofs.ChangeLaws.{AreOthers, one_change}
 use Rattle.alt_tables.proofs.IndexFamilies.{index_families, index_at_families, others-index_changes}
-use Rattle.alt_tables.proofs.StreamKeys.{IsKept, IsSmall, keyed_more}
+use Rattle.alt_opening.proofs.KeptChanges.{are_small, each_so}
+use Rattle.alt_opening.proofs.StreamKeys.{keyed_more}
 use Rattle.alt_value.specs.Tree.{Pair}
-use Rattle.alt_value.specs.Values.{IsItemOfValues}
 use Rattle.alt_views.specs.IndexRows.{index_changes}
 
 -- ---- the family of a stream
@@ -113,41 +113,6 @@ change_new d differ old new c of_table family stream key =
       λ same. stream_family_differs d differ family stream (sym of_table ∙ same),
       others-index_changes d old new family (indexes d)
           (λ n i at. stream_index_differs d differ n i at family stream),
-    )
-
--- ---- what holds of the changes of a state
-
--- what holds of each holds of each in other words
-each_so : (P Q : Change → Type 0) (cs : List Change) → ((c : Change) → P c → Q c) → All P cs
-    → All Q cs
-each_so P Q cs f all k x within = f _ (all k x within)
-
--- their numbers fit
-pub are_small : (d : TableSchema) (next : ℕ) (cs : List Change) → next ≤ NUMBERS_END + 1
-    → AreChanges d next cs → All IsSmall cs
-are_small d next cs high changes = each_so (IsChange d next) IsSmall cs
-    (λ c is. let low = is.number in omega (arith, low, high)) changes.each
-
--- an item that was stored, and is made of values, can be read back
-read_item : (d : TableSchema) (place : List ℕ) (o : Option (List Pair))
-    → IfSome o (WasStored d place) → IfSome o IsItemOfValues → IfSome o IsReadItem
-read_item d place None was held = tt
-read_item d place (Some item) was held = record { whole = (held, was.full); depth = was.depth }
-
--- and they can be read back from their rows
-pub are_kept : (s : State) → IsValid s → IsHeldWhole s → (name : List ℕ) (t : Table)
-    → finite.get s.tables name ≡ Some t → All IsKept t.changes
-are_kept s valid held name t at k x within =
-    let is = (valid.tables name t at).changes.each k x within in
-    let low = is.number in
-    let high = valid.next_number.1 in
-    let whole = held.items.changes name t at k x within in (
-      omega (arith, low, high),
-      record {
-        moment = held.moments name t at k x within;
-        old = read_item t.description is.place _ is.old whole.0;
-        new = read_item t.description is.place _ is.new whole.1;
-      },
     )
 
 -- ---- a stream after a write

@@ -30,16 +30,18 @@ use Rattle.alt_machine.proofs.States.{after_item_valid, with_item_stored}
 use Rattle.alt_schema.specs.Held.{IsHeld}
 use Rattle.alt_schema.specs.Indexes.{indexes}
 use Rattle.alt_schema.specs.declared.schema.IndexSchema.{IndexSchema}
-use Rattle.alt_schema.specs.declared.schema.TableSchema.{TableSchema}
 use Rattle.alt_views.specs.ItemRows.{item_columns}
-use Rattle.alt_tables.specs.StateRows.{HasMoment, IsHeldWhole, Shows, Turns, catalog_family, catalog_rows, item_rows, index_rows, change_rows, table_row, next_row, item_changes}
-use Rattle.alt_tables.proofs.ChangeLaws.{tied, itself, one_change, other_family, AreOthers, others-append, change_of-none, change_of-front, change_of-behind}
+use Rattle.alt_opening.specs.StateRows.{HasMoment, IsHeldWhole, Shows, catalog_family, catalog_rows, item_rows, index_rows, change_rows, table_row, next_row}
+use Rattle.alt_tables.specs.RowChanges.{Turns, item_changes}
+use Rattle.alt_opening.proofs.Ties.{tied, itself}
+use Rattle.alt_tables.proofs.ChangeLaws.{one_change, other_family, AreOthers, others-append, change_of-none, change_of-front, change_of-behind}
+use Rattle.alt_opening.proofs.Families.{own_family}
 use Rattle.alt_tables.proofs.IndexShows.{change_of-index, index_shows}
 use Rattle.alt_tables.proofs.IndexFamilies.{index_family, index_family_differs, own_families, others-index_changes}
 use Rattle.alt_tables.proofs.StreamShows.{others-row_changes, stream_family, stream_family_differs, stream_index_differs, stream_shows}
 use Rattle.alt_views.specs.IndexRows.{index_changes}
 use Rattle.alt_views.proofs.ItemRowLaws.{items_can_show}
-use Rattle.alt_tables.proofs.OneState.{some}
+use Rattle.alt_opening.proofs.OneState.{some}
 use Rattle.alt_value.specs.Tree.{Pair}
 use Rattle.alt_value.specs.Values.{IsItemOfValues}
 
@@ -49,11 +51,7 @@ get-with_item : (items : Texts (List Pair)) (place : List ℕ) (new : Option (Li
 get-with_item items place None q = map.get-remove key_total items place q
 get-with_item items place (Some item) q = map.get-insert key_total items place item q
 
--- a family of a table
-pub own_family : (d : TableSchema) → Contains (families_of d) d.family
-own_family d = (0, omega arith, refl)
-
--- it is one of those before the next
+-- the family of a table is one of those before the next
 pub family_within : (s : State) (name : List ℕ) (t : Table) → IsTable s name t
     → (1 ≤ t.description.family) × (t.description.family < s.next_family)
 family_within s name t is = of_contained (λ f. (1 ≤ f) × (f < s.next_family))

@@ -1,22 +1,11 @@
--- The state for which files stand that a stop left, and what a call of the tables leaves at each of its moments.
+-- What a call of the tables leaves at each of its moments: files that stand for a state.
 use Rattle.std.specs.Prelude.{ℕ, List, [], ◌∷◌, Option}
 use Rattle.alt_disk.specs.Disk.{DiskState}
 use Rattle.alt_disk.specs.Runs.{Quiet, Spans}
-use Rattle.alt_engine.specs.Image.{IsLayout}
 use Rattle.alt_engine.specs.InHand.{IsWritten}
-use Rattle.alt_engine.specs.Layout.{Layout}
 use Rattle.alt_machine.specs.Outcomes.{state_after}
 use Rattle.alt_machine.specs.State.{State}
-use Rattle.alt_machine.specs.Valid.{IsValid}
-use Rattle.alt_tables.specs.StateRows.{Shows, IsHeldWhole}
-
--- The files hold rows, and these show the state.
-pub record StandsFor (image : ℕ → Option (List ℕ)) (s : State) : Type 0 where
-  pub layout : Layout
-  pub is : IsLayout image layout
-  pub shows : Shows layout s
-  pub valid : IsValid s
-  pub held : IsHeldWhole s
+pub use Rattle.alt_opening.specs.Images.{StandsFor}
 
 -- files that stand for the state after the first of these writes, so many of them, whatever the moment
 abbrev pub AfterSome : State → List State → ℕ → (ℕ → Option (List ℕ)) → Type 0

@@ -5,7 +5,7 @@ use Rattle.alt_disk.specs.Runs.{Quiet}
 use Rattle.alt_engine.specs.Image.{IsLayout}
 use Rattle.alt_engine.specs.Layout.{no_rows}
 use Rattle.alt_machine.specs.State.{State, start}
-use Rattle.alt_tables.specs.Images.{StandsFor}
+use Rattle.alt_opening.specs.Images.{StandsFor}
 use Rattle.alt_tables.specs.Stands.{Stands}
 use Rattle.alt_tables.specs.declared.tables.Tables.{Tables}
 

@@ -1,16 +1,7 @@
-pub mod Codes
-pub mod Families
 pub mod Faults
 pub mod Found
 pub mod Images
-pub mod IndexScans
 pub mod Laws
-pub mod Made
-pub mod Opening
-pub mod Order
 pub mod Pages
-pub mod Recovery
-pub mod Scans
+pub mod RowChanges
 pub mod Stands
-pub mod StateRows
-pub mod StreamScans

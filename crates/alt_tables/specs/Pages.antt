@@ -1,13 +1,13 @@
 -- What is read of the rows that a walk over the family of a table, of an index or of a stream gives.
-use Rattle.std.specs.Prelude.{◌≡◌, ◌<◌, ◌^◌, ◌++◌, ℕ, List, [], ◌∷◌, map, All}
+use Rattle.std.specs.Prelude.{◌≡◌, ◌++◌, ℕ, List, [], ◌∷◌, map, All}
 use Rattle.alt_cells.specs.Changes.{Columns}
-use Rattle.alt_changes.specs.ChangeRows.{IsReadChange, change_columns, row_key}
 use Rattle.alt_machine.specs.State.{Change}
 use Rattle.alt_views.specs.ItemRows.{IsReadItem, item_columns}
 use Rattle.alt_schema.specs.declared.schema.IndexSchema.{IndexSchema}
 use Rattle.alt_schema.specs.declared.schema.TableSchema.{TableSchema}
 use Rattle.alt_value.specs.Tree.{Pair}
 use Rattle.alt_views.specs.Read.{IsKeptAt}
+use Rattle.alt_opening.specs.StreamScans.{IsChangeAt}
 
 -- These are the rows of the items, one by one, and each of the items can be read.
 pub record AreItemsOf (page : List (List ℕ × Columns)) (items : List (List Pair)) : Type 0 where
@@ -28,13 +28,6 @@ pub record ArePut (page : List (List ℕ × Columns)) (old new : List (List Pair
   pub put : new ≡ old ++ items
 
 -- ---- changes
-
--- The row at a key is that of a change which can be read, whose number is the key.
-pub record IsChangeAt (key : List ℕ) (columns : Columns) (c : Change) : Type 0 where
-  pub number : c.number < 2 ^ 64
-  pub place : key ≡ row_key c.number
-  pub read : IsReadChange c
-  pub row : columns ≡ change_columns c
 
 -- These are the rows of the changes, one by one.
 abbrev pub AreChangesOf : List (List ℕ × Columns) → List Change → Type 0

@@ -3,13 +3,10 @@ use Rattle.std.specs.Prelude.{◌≡◌, ℕ}
 use Rattle.alt_disk.specs.Disk.{DiskState, IsTrusted, Goes}
 use Rattle.alt_disk.specs.Runs.{Quiet}
 use Rattle.std.specs.Prelude.{IsTrue}
-use Rattle.alt_engine.specs.InHand.{Stands as EngineStands}
-use Rattle.alt_engine.specs.Layout.{Layout}
-use Rattle.alt_engine.specs.declared.engine.Engine.{Engine}
 use Rattle.alt_machine.specs.State.{State, Texts, descriptions}
 use Rattle.alt_machine.specs.Valid.{IsValid}
 use Rattle.alt_schema.specs.declared.schema.TableSchema.{TableSchema}
-use Rattle.alt_tables.specs.StateRows.{Shows, IsHeldWhole}
+use Rattle.alt_opening.specs.Opened.{Holds}
 use Rattle.alt_tables.specs.declared.tables.Tables.{Tables}
 
 -- ---- what is known of the tables without the disk
@@ -33,15 +30,6 @@ pub record KeepsCatalog (old new : Tables) : Type 0 where
   pub family : family_of new ≡ family_of old
 
 -- ---- the state
-
--- The disk tells its contents and keeps what was synced, and the rows for which the engine stands, as the disk reads and in whatever
--- a stop now leaves, show the state.
-pub record Holds (disk : DiskState) (engine : Engine) (s : State) : Type 0 where
-  pub trusted : IsTrusted disk
-  pub layout : Layout
-  pub is : EngineStands disk engine layout
-  pub shows : Shows layout s
-  pub held : IsHeldWhole s
 
 -- The tables and the disk beneath them stand for a valid state of the machine: it has the tables that are known, and the next number
 -- and the next family, and its rows are those on the disk.

@@ -8,17 +8,19 @@ ghost use Rattle.alt_machine.specs.Ops.GetRecords.{changes_from};
 ghost use Rattle.alt_machine.specs.State as machine;
 ghost use Rattle.alt_machine.specs.State.{State, Table};
 ghost use Rattle.alt_tables.specs.Faults.{IsFindFault, IsReadFault, IsUnspent};
-ghost use Rattle.alt_tables.specs.Pages.{AreChangesOf, IsChangeAt};
+ghost use Rattle.alt_tables.specs.Pages.{AreChangesOf};
+ghost use Rattle.alt_opening.specs.StreamScans.{IsChangeAt};
 ghost use Rattle.alt_tables.specs.Stands.{AreReady, Reads, Stands, KeepsCatalog, catalog_of};
 
 use crate::faults::{TableFault, fault_of};
 use crate::tables::Tables;
 use alt_base::NoMemory;
 use alt_cells::ShownRow;
-use alt_changes::{Change, change_of};
+use alt_changes::Change;
 use alt_disk::Disk;
-use alt_fields::{Bytes, BytesFault, put_u64, take_u64};
+use alt_fields::{Bytes, put_u64};
 use alt_keyorder::KeyRange;
+use alt_opening::change_at;
 use alt_views::Unread;
 use std::alloc::Global;
 
@@ -103,31 +105,4 @@ fn read_changes(
         }
     }
     Ok(changes)
-}
-
-/// The change whose row stands at a key of the family of a stream.
-pub(crate) fn change_at(alloc: Global, key: &Bytes, row: &ShownRow) -> Result<Change, Unread>
-    ensures change { IfOk result (λ c. IsChangeAt key.now row.now (change_in c)) }
-    ensures none { result ≡ Err Unread.Bad → (c : machine.Change)
-        → IsChangeAt key.now row.now c → ⊥ }
-{
-    let Some(number) = number_of(key.as_slice()) else {
-        return Err(Unread::Bad);
-    };
-    match change_of(alloc, number, row) {
-        Ok(change) => Ok(change),
-        Err(BytesFault::Bad { .. }) => Err(Unread::Bad),
-        Err(BytesFault::NoMemory) => Err(Unread::NoMemory),
-    }
-}
-
-/// The number whose key this is.
-fn number_of(key: &[u8]) -> Option<u64>
-    ensures number { IfSome result (λ n. (n < 2 ^ 64) × (key.now ≡ row_key n)) }
-    ensures none { (n : ℕ) → n < 2 ^ 64 → key.now ≡ row_key n → result ≡ Some n }
-{
-    match take_u64(key, 0) {
-        Ok((number, end)) if end == key.len() => Some(number),
-        _ => None,
-    }
 }

@@ -1,4 +1,4 @@
-//! Why a request had no answer at all, and why a store isn't opened.
+//! Why a request had no answer at all.
 
 ghost use Rattle.std.specs.Prelude.{◌≡◌};
 ghost use Rattle.alt_tables.specs.Faults.{fault_of};
@@ -62,17 +62,4 @@ pub(crate) fn fault_of(fault: EngineFault) -> TableFault
         EngineFault::Failed => TableFault::Failed,
         EngineFault::NoMemory => TableFault::NoMemory,
     }
-}
-
-/// Why a store isn't opened.
-#[derive(Debug, Drop)]
-pub enum OpenFault {
-    /// The files are no store's, for the bytes of this file at this place.
-    Damaged { file: u32, at: u64 },
-    /// The rows are those of no state, and of this family and key is the first that is wrong.
-    BadRow { family: u32, key: Bytes },
-    /// The disk failed, and its count of faults rose.
-    Failed,
-    /// Memory was refused.
-    NoMemory,
 }

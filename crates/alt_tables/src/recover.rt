@@ -1,28 +1,17 @@
-//! Opening a store: its tables are known again, and each row is tested.
+//! Opening the tables of a disk.
 
-ghost use Rattle.std.specs.Prelude.{◌≡◌, ℕ, IfOk, IfErr, OnOk, IsErrOf, IsTrue, ⊤};
+ghost use Rattle.std.specs.Prelude.{◌≡◌, ℕ, IfOk, IfErr, IsErrOf, IsTrue, ⊤};
 ghost use Rattle.alt_base.specs.Counts.{Rose};
 ghost use Rattle.alt_disk.specs.Disk.{IsTrusted, Goes};
 ghost use Rattle.alt_disk.specs.Runs.{Spans};
-ghost use Rattle.alt_engine.specs.InHand.{Reads};
-ghost use Rattle.alt_engine.specs.Layout.{Layout};
 ghost use Rattle.alt_machine.specs.State.{State};
-ghost use Rattle.alt_tables.specs.Images.{StandsFor};
-ghost use Rattle.alt_tables.specs.Opening.{AllChangesRead, AllIndexesRead, AllItemsRead, AreTablesRead, Assembled, IsCatalog, IsIndexesFault, IsRowFault, IsStreamsFault};
-ghost use Rattle.alt_tables.specs.Recovery.{IsExplained, HasNoState, WasLeft, unopened};
-ghost use Rattle.alt_tables.specs.Scans.{Walked};
+ghost use Rattle.alt_opening.specs.Images.{StandsFor};
+ghost use Rattle.alt_opening.specs.Recovery.{IsExplained, HasNoState, WasLeft};
 ghost use Rattle.alt_tables.specs.Stands.{Stands};
 
-use crate::catalog::Catalog;
-use crate::change_scan::read_stream;
-use crate::faults::OpenFault;
-use crate::index_scan::read_own_indexes;
-use crate::opened::{Opened, read_catalog};
-use crate::scan::{read_items, unread};
 use crate::tables::Tables;
 use alt_disk::Disk;
-use alt_engine::{Engine, RecoverFault};
-use alt_schema::held;
+use alt_opening::{OpenFault, Store, open_store};
 use std::alloc::Global;
 
 impl Tables {
@@ -51,12 +40,14 @@ impl Tables {
         ensures cause { IsErrOf result OpenFault.Failed
             → Rose (D.state disk.old).faults (D.state disk.new).faults }
     {
-        let mut engine = match Engine::recover(alloc, disk) {
-            Ok(engine) => engine,
-            Err(fault) => return Err(unopened(fault)),
-        };
-        match read_rows(alloc, disk, &mut engine) {
-            Ok(Opened { catalog, family }) => Ok(Tables {
+        match open_store(alloc, disk) {
+            Ok(
+                Store {
+                    engine,
+                    catalog,
+                    family,
+                },
+            ) => Ok(Tables {
                 alloc,
                 engine,
                 catalog,
@@ -64,158 +55,5 @@ impl Tables {
             }),
             Err(fault) => Err(fault),
         }
-    }
-}
-
-/// Reads the rows of a store, and tests them.
-fn read_rows<D: Disk>(alloc: Global, disk: &mut D, engine: &mut Engine) -> Result<Opened, OpenFault>
-    ensures read { IsTrue (D.state disk.old).tells → (l : Layout)
-        → Reads (D.state disk.old) engine.old l
-        → IfOk result (λ o. (s : State) × Assembled l o.family o.catalog s) }
-    ensures wrong { IsTrue (D.state disk.old).tells → (l : Layout)
-        → Reads (D.state disk.old) engine.old l → IfErr result (IsRowFault l) }
-    ensures walked { Walked (D.state disk.old) (D.state disk.new) engine.old engine.new }
-    ensures cause { IsErrOf result OpenFault.Failed
-        → Rose (D.state disk.old).faults (D.state disk.new).faults }
-{
-    let opened = match read_state(alloc, disk, engine) {
-        Ok(opened) => opened,
-        Err(fault) => return Err(fault),
-    };
-    match read_streams(alloc, disk, engine, &opened.catalog) {
-        Ok(()) => {}
-        Err(fault) => return Err(fault),
-    }
-    match read_indexes(alloc, disk, engine, &opened.catalog) {
-        Ok(()) => Ok(opened),
-        Err(fault) => Err(fault),
-    }
-}
-
-/// Reads the rows of the catalog and of the tables, and what stands from the next family on.
-fn read_state<D: Disk>(
-    alloc: Global,
-    disk: &mut D,
-    engine: &mut Engine,
-) -> Result<Opened, OpenFault>
-    ensures read { IsTrue (D.state disk.old).tells → (l : Layout)
-        → Reads (D.state disk.old) engine.old l
-        → IfOk result (λ o. AreTablesRead l o.family o.catalog) }
-    ensures wrong { IsTrue (D.state disk.old).tells → (l : Layout)
-        → Reads (D.state disk.old) engine.old l → IfErr result (IsRowFault l) }
-    ensures walked { Walked (D.state disk.old) (D.state disk.new) engine.old engine.new }
-    ensures cause { IsErrOf result OpenFault.Failed
-        → Rose (D.state disk.old).faults (D.state disk.new).faults }
-{
-    let opened = match read_catalog(alloc, disk, engine) {
-        Ok(opened) => opened,
-        Err(fault) => return Err(fault),
-    };
-    match read_tables(alloc, disk, engine, &opened.catalog) {
-        Ok(()) => {}
-        Err(fault) => return Err(fault),
-    }
-    match engine.first_from(disk, opened.family) {
-        Ok(None) => Ok(opened),
-        Ok(Some((family, key))) => Err(OpenFault::BadRow { family, key }),
-        Err(fault) => Err(unread(fault)),
-    }
-}
-
-/// Tests the items of all tables, in the order of their families.
-fn read_tables<D: Disk>(
-    alloc: Global,
-    disk: &mut D,
-    engine: &mut Engine,
-    catalog: &Catalog,
-) -> Result<(), OpenFault>
-    ensures read { IsTrue (D.state disk.old).tells → (l : Layout) (next : ℕ)
-        → Reads (D.state disk.old) engine.old l → IsCatalog l next catalog.now
-        → OnOk result (AllItemsRead l catalog.now) }
-    ensures wrong { IsTrue (D.state disk.old).tells → (l : Layout) (next : ℕ)
-        → Reads (D.state disk.old) engine.old l → IsCatalog l next catalog.now
-        → IfErr result (IsRowFault l) }
-    ensures walked { Walked (D.state disk.old) (D.state disk.new) engine.old engine.new }
-    ensures cause { IsErrOf result OpenFault.Failed
-        → Rose (D.state disk.old).faults (D.state disk.new).faults }
-{
-    let mut family = 0;
-    'tables: while let Some(schema) = catalog.above(family) {
-        held(schema);
-        match read_items(alloc, disk, engine, schema) {
-            Ok(()) => {}
-            Err(fault) => return Err(fault),
-        }
-        family = schema.family;
-    }
-    Ok(())
-}
-
-/// Tests the streams of all tables, in the order of the tables' families.
-fn read_streams<D: Disk>(
-    alloc: Global,
-    disk: &mut D,
-    engine: &mut Engine,
-    catalog: &Catalog,
-) -> Result<(), OpenFault>
-    ensures read { IsTrue (D.state disk.old).tells → (l : Layout) (next : ℕ)
-        → Reads (D.state disk.old) engine.old l → AreTablesRead l next catalog.now
-        → OnOk result (AllChangesRead l catalog.now) }
-    ensures wrong { IsTrue (D.state disk.old).tells → (l : Layout) (next : ℕ)
-        → Reads (D.state disk.old) engine.old l → AreTablesRead l next catalog.now
-        → IfErr result (IsStreamsFault l catalog.now) }
-    ensures walked { Walked (D.state disk.old) (D.state disk.new) engine.old engine.new }
-    ensures cause { IsErrOf result OpenFault.Failed
-        → Rose (D.state disk.old).faults (D.state disk.new).faults }
-{
-    let mut family = 0;
-    'tables: while let Some(schema) = catalog.above(family) {
-        held(schema);
-        match read_stream(alloc, disk, engine, schema) {
-            Ok(()) => {}
-            Err(fault) => return Err(fault),
-        }
-        family = schema.family;
-    }
-    Ok(())
-}
-
-/// Tests the indexes of all tables, in the order of the tables' families.
-fn read_indexes<D: Disk>(
-    alloc: Global,
-    disk: &mut D,
-    engine: &mut Engine,
-    catalog: &Catalog,
-) -> Result<(), OpenFault>
-    ensures read { IsTrue (D.state disk.old).tells → (l : Layout) (next : ℕ)
-        → Reads (D.state disk.old) engine.old l → AreTablesRead l next catalog.now
-        → OnOk result (AllIndexesRead l catalog.now) }
-    ensures wrong { IsTrue (D.state disk.old).tells → (l : Layout) (next : ℕ)
-        → Reads (D.state disk.old) engine.old l → AreTablesRead l next catalog.now
-        → IfErr result (IsIndexesFault l catalog.now) }
-    ensures walked { Walked (D.state disk.old) (D.state disk.new) engine.old engine.new }
-    ensures cause { IsErrOf result OpenFault.Failed
-        → Rose (D.state disk.old).faults (D.state disk.new).faults }
-{
-    let mut family = 0;
-    'tables: while let Some(schema) = catalog.above(family) {
-        held(schema);
-        match read_own_indexes(alloc, disk, engine, schema) {
-            Ok(()) => {}
-            Err(fault) => return Err(fault),
-        }
-        family = schema.family;
-    }
-    Ok(())
-}
-
-/// A fault of the recovery of an engine, passed on.
-fn unopened(fault: RecoverFault) -> OpenFault
-    ensures { result ≡ unopened fault }
-{
-    match fault {
-        RecoverFault::Damaged { file, at } => OpenFault::Damaged { file, at },
-        RecoverFault::Failed => OpenFault::Failed,
-        RecoverFault::NoMemory => OpenFault::NoMemory,
     }
 }

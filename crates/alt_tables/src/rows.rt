@@ -12,13 +12,13 @@ ghost use Rattle.alt_machine.specs.State.{State, Table};
 ghost use Rattle.alt_machine.specs.Valid.{IsStored};
 ghost use Rattle.alt_machine.specs.Writes.{item_writes};
 ghost use Rattle.alt_schema.specs.declared.schema.TableSchema.{TableSchema};
-ghost use Rattle.alt_tables.specs.Families.{HasOwnFamilies};
+ghost use Rattle.alt_opening.specs.Families.{HasOwnFamilies};
 ghost use Rattle.alt_tables.specs.Faults.{IsFindFault, IsUnspent, Writes};
 ghost use Rattle.alt_tables.specs.Found.{IsFoundIn, number_taken};
 ghost use Rattle.alt_tables.specs.Images.{Leaves};
 ghost use Rattle.alt_views.specs.IndexRows.{index_changes};
 ghost use Rattle.alt_views.specs.ItemRows.{IsReadItem, item_columns};
-ghost use Rattle.alt_tables.specs.StateRows.{item_changes};
+ghost use Rattle.alt_tables.specs.RowChanges.{item_changes};
 ghost use Rattle.alt_tables.specs.Stands.{AreReady, Reads, Stands, KeepsCatalog, catalog_of, number_of};
 ghost use Rattle.alt_value.specs.Tree.{Pair};
 ghost use Rattle.alt_value.specs.Values.{IsItemOfValues};
@@ -31,8 +31,9 @@ use alt_changes::change_row;
 use alt_disk::Disk;
 use alt_fields::Bytes;
 use alt_machine::NUMBERS_END;
+use alt_opening::same;
 use alt_schema::TableSchema;
-use alt_value::{Item, item_equal};
+use alt_value::Item;
 use alt_views::{Unread, index_changes, item_of_row, place_of, row_of_item};
 use std::alloc::Global;
 
@@ -358,16 +359,5 @@ fn copy_of(item: Option<&Item>) -> Result<Option<Item>, NoMemory>
     match item {
         Some(item) => Ok(Some(item.copy()?)),
         None => Ok(None),
-    }
-}
-
-/// Whether both are one item, or neither is there.
-pub(crate) fn same(old: &Option<Item>, new: &Option<Item>) -> bool
-    ensures { result ≡ is_same old.now new.now }
-{
-    match (old, new) {
-        (None, None) => true,
-        (Some(old), Some(new)) => item_equal(old, new),
-        _ => false,
     }
 }

@@ -14,12 +14,11 @@ ghost use Rattle.alt_machine.specs.Wanted.{table_lack};
 ghost use Rattle.alt_schema.specs.Described.{IsNew};
 ghost use Rattle.alt_tables.specs.Faults.{IsFindFault, Writes};
 ghost use Rattle.alt_tables.specs.Images.{Leaves};
-ghost use Rattle.alt_tables.specs.Order.{first_after};
-ghost use Rattle.alt_tables.specs.StateRows.{Turns, creation_changes, drop_changes};
-ghost use Rattle.alt_tables.specs.Stands.{AreReady, Holds, Stands, catalog_of, number_of, family_of};
+ghost use Rattle.alt_opening.specs.Order.{first_after};
+ghost use Rattle.alt_tables.specs.RowChanges.{Turns, creation_changes, drop_changes};
+ghost use Rattle.alt_tables.specs.Stands.{AreReady, Stands, catalog_of, number_of, family_of};
+ghost use Rattle.alt_opening.specs.Opened.{Holds};
 
-use crate::catalog::Catalog;
-use crate::catalog_row::{row_of_family, row_of_schema};
 use crate::faults::{TableFault, fault_of};
 use alt_base::NoMemory;
 use alt_cells::{Batch, RowChange};
@@ -27,11 +26,9 @@ use alt_disk::Disk;
 use alt_engine::Engine;
 use alt_fields::Bytes;
 use alt_machine::{FAMILIES_END, MOST_FAMILIES, MOST_TABLES, NUMBERS_END};
+use alt_opening::{CATALOG, Catalog, row_of_family, row_of_schema};
 use alt_schema::{TableSchema, held};
 use std::alloc::Global;
-
-/// The family of the catalog.
-pub(crate) const CATALOG: u32 = 0;
 
 /// All tables with their items, over an engine. With the disk beneath it they stand for a state of the machine (docs/ARCHITECTURE.md).
 /// What is known of tables without their items is in memory.

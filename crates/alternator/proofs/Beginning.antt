@@ -10,7 +10,7 @@ use Rattle.alt_shell.proofs.Telling.{Grows-nil, Tells-nil}
 use Rattle.alt_tables.specs.Stands.{Stands}
 use Rattle.alt_tables.specs.declared.tables.Tables.{Tables}
 use Rattle.alternator.specs.Turns.{request, control, reopen, unread, opened_again, turned_away, carried_out}
-use Rattle.alt_tables.specs.Recovery.{WasLeft}
+use Rattle.alt_opening.specs.Recovery.{WasLeft}
 use Rattle.alternator.proofs.Serving.{Begins}
 use Rattle.alt_tables.proofs.Left.{stands_left}
 use Rattle.alt_talks.proofs.Stopping.{trusts-kept, leaves-here, leaves-weaker, leaves-behind-aside}

@@ -17,7 +17,7 @@ use Rattle.alt_talks.specs.TalkStops.{LeftAmong, ServedOn, ServedSomeOn, LeavesN
 use Rattle.alt_talks.specs.Talks.{Rules, Turn}
 use Rattle.alternator.specs.Trials.{Tries, TriesSome, LeftOfTrial, as_turn}
 use Rattle.alternator.specs.Words.{IsOverStore}
-use Rattle.alt_tables.specs.Recovery.{WasLeft}
+use Rattle.alt_opening.specs.Recovery.{WasLeft}
 use Rattle.alt_tables.specs.declared.faults.TableFault.{TableFault}
 use Rattle.alt_tables.specs.declared.faults.TableFault.TheVariants as why
 use Rattle.alternator.specs.declared.ending.Ending.{Ending}

@@ -18,9 +18,9 @@ use Rattle.alternator.specs.declared.words.Job.TheVariants.{Init, Replay, Serve,
 use Rattle.alt_talks.specs.Stops.{AtEach}
 use Rattle.alt_tables.specs.Stands.{Stands}
 use Rattle.alt_tables.specs.Images.{StandsFor}
-use Rattle.alt_tables.specs.Recovery.{IsExplained, HasNoState, WasLeft}
-use Rattle.alt_tables.specs.declared.faults.OpenFault.{OpenFault}
-use Rattle.alt_tables.specs.declared.faults.OpenFault.TheVariants as opening
+use Rattle.alt_opening.specs.Recovery.{IsExplained, HasNoState, WasLeft}
+use Rattle.alt_opening.specs.declared.faults.OpenFault.{OpenFault}
+use Rattle.alt_opening.specs.declared.faults.OpenFault.TheVariants as opening
 use Rattle.alt_tables.proofs.Left.{stands_read, stands_trusted}
 use Rattle.alt_tables.specs.declared.tables.Tables.{Tables}
 

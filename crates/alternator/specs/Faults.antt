@@ -3,9 +3,9 @@ use Rattle.std.specs.Prelude.{ℕ, List, Option}
 use Rattle.alt_engine.specs.Recovery.{IsBadAt}
 use Rattle.alt_machine.specs.State.{State}
 use Rattle.alt_tables.specs.Images.{StandsFor}
-use Rattle.alt_tables.specs.Recovery.{HasBadRow}
-use Rattle.alt_tables.specs.declared.faults.OpenFault.{OpenFault}
-use Rattle.alt_tables.specs.declared.faults.OpenFault.TheVariants as opening
+use Rattle.alt_opening.specs.Recovery.{HasBadRow}
+use Rattle.alt_opening.specs.declared.faults.OpenFault.{OpenFault}
+use Rattle.alt_opening.specs.declared.faults.OpenFault.TheVariants as opening
 use Rattle.alt_tables.specs.declared.faults.TableFault.{TableFault}
 use Rattle.alt_tables.specs.declared.faults.TableFault.TheVariants.{Failed, NoMemory, Spent, Damaged, BadRow}
 

@@ -8,7 +8,7 @@ ghost use Rattle.alt_tables.specs.Stands.{Stands};
 ghost use Rattle.alternator.specs.Faults.{opening_fault, IsUnreadable};
 ghost use Rattle.alt_talks.specs.Stops.{AtEach};
 ghost use Rattle.alt_tables.specs.Images.{StandsFor};
-ghost use Rattle.alt_tables.specs.Recovery.{WasLeft};
+ghost use Rattle.alt_opening.specs.Recovery.{WasLeft};
 
 use alt_disk::Disk;
 use alt_tables::{OpenFault, TableFault, Tables};

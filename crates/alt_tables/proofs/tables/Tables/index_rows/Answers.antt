@@ -4,7 +4,7 @@ use Rattle.alt_machine.specs.Sources.{index_at}
 use Rattle.alt_machine.specs.Walks.{items_between}
 use Rattle.alt_schema.specs.declared.schema.IndexSchema.{IndexSchema}
 use Rattle.alt_schema.specs.declared.schema.TableSchema.{TableSchema}
-use Rattle.alt_tables.proofs.OneState.{some}
+use Rattle.alt_opening.proofs.OneState.{some}
 use Rattle.alt_tables.proofs.Pages.{find_fault, page_kept, same_table}
 use Rattle.alt_tables.proofs.Standing.{stays, there}
 use Rattle.alt_tables.proofs.tables.Tables.index_rows.Goals as goal

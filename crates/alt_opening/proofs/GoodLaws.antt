@@ -1,0 +1,134 @@
+-- What the tests of a description that is read tell.
+use Rattle.std.proofs.Common.{◌≡◌, ◌≢◌, ◌≤◌, ◌<◌, refl, sym, ap, subst, ◌∙◌, ℕ, zero, suc, Bool, true, false, not, nat_le, nat_lt, List, [], ◌∷◌, length, Some, slice_index_or, arith, All, AllPairs, Contains, IsTrue}
+use Rattle.std.specs.Bool.{Decides}
+use Rattle.std.specs.List.{list_any, HoldsAt}
+use Rattle.std.specs.Prelude.{◌==◌, ◌&&◌, ◌↔◌}
+use Rattle.std.specs.FinMap as map
+use Rattle.std.proofs.lemmas.Bool.{leb-true, le-leb, false≢true}
+use Rattle.std.proofs.lemmas.Bool.Decides.{Decides-and, Decides-not, Decides-like, Decides-by_and, Decides-by_or, Decides-ltb, Decides-eqb, not_from_Decides}
+use Rattle.std.proofs.lemmas.List.Kept.{AllPairs-cons}
+use Rattle.std.proofs.lemmas.Slice.Eq.{bytes_eq-Decides}
+use Rattle.alt_machine.specs.State.{Texts, families_of}
+use Rattle.alt_schema.specs.Described.{IsDescription}
+use Rattle.alt_schema.specs.Held.{IsHeld}
+use Rattle.alt_schema.specs.declared.schema.TableSchema.{TableSchema}
+use Rattle.alt_opening.specs.Opening.{IsApart, IsGood, are_within, are_apart, passes, shares}
+use Rattle.alt_opening.proofs.MadeLaws.{as_made, made_as}
+
+-- an element at a place doesn't turn on what stands for none
+same_at : (fs : List ℕ) (k a b : ℕ) → k < length fs → slice_index_or fs k a ≡ slice_index_or fs k b
+same_at [] k a b within = absurd (omega (arith, within))
+same_at (f ∷ fs) zero a b within = refl
+same_at (f ∷ fs) (suc k) a b within = same_at fs k a b (omega (arith, within))
+
+-- ---- families
+
+-- the test decides whether all families are within those that were given out
+pub within_is : (next : ℕ) (families : List ℕ)
+    → Decides (are_within next families) (All (λ f. (1 ≤ f) × (f < next)) families)
+within_is next families = Decides-by_and (λ f. nat_le 1 f && nat_lt f next)
+    (λ f. (1 ≤ f) × (f < next)) (are_within next)
+    (λ f. Decides-and (nat_le 1 f) (nat_lt f next) (leb-true 1 f, le-leb 1 f)
+    (Decides-ltb f next)) refl (λ f fs. refl) families
+
+-- a family is one of these
+pub found_is : (family : ℕ) (families : List ℕ)
+    → Decides (list_any (λ g. g == family) families) (Contains families family)
+found_is family families = Decides-like (list_any (λ g. g == family) families)
+    (λ o. (o.0, o.1, o.2 family))
+    (λ c. (c.0, c.1, λ d. same_at families c.0 d family c.1 ∙ c.2))
+    (Decides-by_or (λ g. g == family) (λ g. g ≡ family) (list_any (λ g. g == family))
+    (λ g. Decides-eqb g family) refl (λ g gs. refl) families)
+
+-- the test decides whether families are apart
+pub apart_is : (families : List ℕ)
+    → Decides (are_apart families) (AllPairs (λ f g. f ≢ g) families)
+apart_is [] = (λ e i j d low within. absurd (omega (arith, within)), λ h. refl)
+apart_is (f ∷ fs) = Decides-like (not (list_any (λ g. g == f) fs) && are_apart fs)
+    (λ both. AllPairs-cons (λ f g. f ≢ g) f fs
+    (λ k d within same. both.0 (k, within, same_at fs k f d within ∙ sym same)) both.1)
+    (λ pairs. (
+      λ c. pairs zero (suc c.0) f (omega arith) (let w = c.1 in omega (arith, w)) (sym c.2),
+      λ i j d low within. pairs (suc i) (suc j) d (omega (arith, low)) (omega (arith, within)),
+    ))
+    (Decides-and (not (list_any (λ g. g == f) fs)) (are_apart fs)
+    (Decides-not (list_any (λ g. g == f) fs) (found_is f fs)) (apart_is fs))
+
+-- ---- a description
+
+module _ (number next : ℕ) (name : List ℕ) (d : TableSchema) (whole : IsDescription d)
+    (held : IsHeld d) where
+  -- the tests decide whether a description is good
+  pub good_is : Decides (passes number next name d) (IsGood number next name d)
+  good_is = Decides-like (passes number next name d)
+      (λ h. record {
+        named = h.0;
+        made = as_made d h.1.0 whole;
+        held = held;
+        number = h.1.1.0;
+        families = h.1.1.1.0;
+        differ = h.1.1.1.1;
+      })
+      (λ good. (good.named, (made_as d good.made, (good.number, (good.families, good.differ)))))
+      (Decides-and _ _ (bytes_eq-Decides d.name name)
+      (Decides-and _ _ (λ e. e, λ e. e)
+      (Decides-and _ _ (Decides-and _ _ (leb-true 1 d.number, le-leb 1 d.number)
+      (Decides-ltb d.number number))
+      (Decides-and _ _ (within_is next (families_of d)) (apart_is (families_of d))))))
+
+-- ---- beside others
+
+-- a table has one of these families
+sharing : (families : List ℕ) (e : TableSchema) → Decides (shares families e)
+    ((k : ℕ) × (k < length (families_of e))
+    × HoldsAt (λ f. Contains families f) (families_of e) k)
+sharing families e = Decides-by_or (λ f. list_any (λ g. g == f) families)
+    (λ f. Contains families f) (list_any (λ f. list_any (λ g. g == f) families))
+    (λ f. found_is f families) refl (λ f fs. refl) (families_of e)
+
+shares_none : (families : List ℕ) (e : TableSchema) → shares families e ≡ false
+    → (f : ℕ) → Contains (families_of e) f → Contains families f → ⊥
+shares_none families e none f c here = not_from_Decides (shares families e) (sharing families e)
+    none (
+      c.0,
+      c.1,
+      λ d. subst (Contains families)
+          (sym (same_at (families_of e) c.0 d f c.1 ∙ c.2)) here,
+    )
+
+none_shares : (families : List ℕ) (e : TableSchema)
+    → ((f : ℕ) → Contains (families_of e) f → Contains families f → ⊥)
+    → shares families e ≡ false
+none_shares families e apart = by (shares families e) refl
+  where
+    by : (b : Bool) → shares families e ≡ b → b ≡ false
+    by false is = refl
+    by true is =
+        let (k, within, here) = (sharing families e).0 is in
+        absurd (apart (slice_index_or (families_of e) k 0)
+        (k, within, same_at (families_of e) k _ 0 within) (here 0))
+
+-- no table has a number or one of these families, exactly where each is apart from a description that has them
+pub clash_is : (catalog : Texts TableSchema) (families : List ℕ) (d : TableSchema) (clash : Bool)
+    → families ≡ families_of d
+    → (clash ≡ false) ↔ ((other : List ℕ) (e : TableSchema) → map.get catalog other ≡ Some e
+    → (e.number ≢ d.number) × (shares families e ≡ false))
+    → IsTrue (not clash) ↔ IsApart catalog d
+clash_is catalog families d clash same clashes = (
+  λ none other e at.
+      let both = clashes.0 (by clash none) other e at in
+      record {
+        numbers = both.0;
+        families = λ f in_e in_d. shares_none families e both.1 f in_e
+            (subst (λ fs. Contains fs f) (sym same) in_d);
+      },
+  λ apart. ap not (clashes.1 (λ other e at. (
+    (apart other e at).numbers,
+    none_shares families e (λ f in_e here. (apart other e at).families f in_e
+        (subst (λ fs. Contains fs f) same here)),
+  ))),
+)
+  where
+    by : (b : Bool) → not b ≡ true → b ≡ false
+    by false e = refl
+    by true e = absurd (false≢true e)

@@ -1,0 +1,160 @@
+-- Whether a row that an index shows is that of an item of its table: the item is found by what the index keeps of it.
+use Rattle.std.proofs.Common.{◌≡◌, refl, sym, ap, subst, ◌∙◌, ℕ, Bool, true, false, List, Option, Some, None, option_map, IsTrue}
+use Rattle.std.proofs.lemmas.Bool.{false≢true}
+use Rattle.std.proofs.lemmas.Slice.Eq.{bytes_eq-Decides}
+use Rattle.std.specs.Prelude.{◌||◌, ◌↔◌, if◌then◌else◌, option_and_then}
+use Rattle.std.specs.Str.{bytes_eq}
+use Rattle.alt_cells.specs.Changes.{Columns}
+use Rattle.alt_engine.specs.Layout.{Layout, shown}
+use Rattle.alt_keyorder.specs.Place.{place_in_table, place_bytes}
+use Rattle.alt_machine.specs.Keys.{key_value, place_beside, place_of}
+use Rattle.alt_machine.specs.Sources.{index_at}
+use Rattle.alt_machine.specs.Valid.{IsMade}
+use Rattle.alt_machine.proofs.Indexing.{is_entry}
+use Rattle.alt_schema.specs.Indexes.{cut, index_row, is_in_index, is_key}
+use Rattle.alt_schema.specs.declared.schema.IndexSchema.{IndexSchema}
+use Rattle.alt_schema.specs.declared.schema.KeyAttr.{KeyAttr}
+use Rattle.alt_schema.specs.declared.schema.TableSchema.{TableSchema}
+use Rattle.alt_opening.specs.IndexScans.{HasRow, TellsMissingOf}
+use Rattle.alt_opening.specs.Scans.{ItemsRead}
+use Rattle.alt_opening.proofs.IndexRead.{row_of}
+use Rattle.alt_opening.proofs.OneState.{some}
+use Rattle.alt_value.specs.Tree.{Tree, Pair}
+use Rattle.alt_views.specs.IndexRows.{row_in_index}
+use Rattle.alt_views.specs.ItemRows.{IsReadItem, item_columns}
+use Rattle.alt_views.specs.Read.{IsKeptAt, row_at}
+use Rattle.alt_views.specs.declared.indexed.IndexRow.{IndexRow}
+use Rattle.alt_views.proofs.Keeping.{kept_at, table_kept, value-cut}
+
+-- ---- the place of what is kept
+
+same_name : (n : List ℕ) → bytes_eq n n ≡ true
+same_name n = (bytes_eq-Decides n n).1 refl
+
+or_true : (a b : Bool) → b ≡ true → (a || b) ≡ true
+or_true true b h = refl
+or_true false b h = h
+
+true_or : (a b : Bool) → a ≡ true → (a || b) ≡ true
+true_or true b h = refl
+true_or false b h = absurd (false≢true h)
+
+-- an index keeps the key of its table
+place-cut : (d : TableSchema) (i : IndexSchema) (item : List Pair)
+    → place_of d (cut d i item) ≡ place_of d item
+place-cut d i item = ap (option_map place_bytes)
+    (ap (option_and_then (place_beside (cut d i item) d.range))
+    (value-cut d i item d.hash (table_kept d i d.hash.name
+    (true_or (bytes_eq d.hash.name d.hash.name) _ (same_name d.hash.name))))
+    ∙ by_hash (key_value item d.hash))
+  where
+    beside : (r : Option KeyAttr) → d.range ≡ r → (h : Tree)
+        → place_beside (cut d i item) r h ≡ place_beside item r h
+    beside None e h = refl
+    beside (Some r) e h = ap (option_map (λ r. place_in_table h (Some r)))
+        (value-cut d i item r (table_kept d i r.name
+        (ap (λ o. is_key d.hash o r.name) e
+        ∙ or_true (bytes_eq d.hash.name r.name) _ (same_name r.name))))
+
+    by_hash : (o : Option Tree) → option_and_then (place_beside (cut d i item) d.range) o
+        ≡ option_and_then (place_beside item d.range) o
+    by_hash None = refl
+    by_hash (Some h) = beside d.range refl h
+
+is_cut : (d : TableSchema) (i : IndexSchema) (item row : List Pair)
+    → index_row d item i ≡ Some row → cut d i item ≡ row
+is_cut d i item row e = by_test (is_in_index i item) e
+  where
+    by_test : (b : Bool) → (if b then Some (cut d i item) else None) ≡ Some row
+        → cut d i item ≡ row
+    by_test true e = some (cut d i item) row e
+    by_test false e = absurd (let no : None ≡ Some row = e in cc no)
+
+module _ (l : Layout) (d : TableSchema) (number : ℕ) (i : IndexSchema) (made : IsMade d)
+    (at : index_at d (Some number) ≡ Some i) (key : List ℕ) (columns : Columns) where
+  -- what the index keeps of the item that has a row
+  kept_there : (has : HasRow l d i key columns) → (kept : List Pair) × IsKeptAt d i kept key columns
+      × (place_of d kept ≡ Some has.place)
+  kept_there has =
+      let r = row_of d i has.item key columns has.row in
+      let e = is_entry d i has.item key r.kept r.entry in (
+        r.kept,
+        subst (λ c. IsKeptAt d i r.kept key c) (sym r.is)
+            (kept_at d number i has.item key r.kept made at has.there.read r.entry),
+        ap (place_of d) (sym (is_cut d i has.item r.kept e.kept)) ∙ place-cut d i has.item
+            ∙ has.there.stored.stands,
+      )
+
+  module _ (place : Option (List ℕ))
+      (told : (kept : List Pair) → IsKeptAt d i kept key columns → place ≡ place_of d kept) where
+    -- so it is found at its place
+    placed : (has : HasRow l d i key columns) → place ≡ Some has.place
+    placed has = let (kept, is, at_place) = kept_there has in told kept is ∙ at_place
+
+    -- and no item has the row where no place is told
+    pub unplaced : place ≡ None → HasRow l d i key columns → ⊥
+    unplaced none has = let no : None ≡ Some has.place = sym none ∙ placed has in cc no
+
+    -- or no item is there
+    pub unshown : (p : List ℕ) → place ≡ Some p → shown l d.family p ≡ None
+        → HasRow l d i key columns → ⊥
+    unshown p is none has =
+        let no : None ≡ Some (item_columns has.item) = sym none
+        ∙ ap (shown l d.family) (some _ _ (sym is ∙ placed has)) ∙ has.there.shows in cc no
+
+    -- and else exactly where the item there has it
+    pub own_is : ItemsRead l d → (p : List ℕ) → place ≡ Some p → (row : Columns)
+        → shown l d.family p ≡ Some row → (is : Bool)
+        → ((item : List Pair) → IsReadItem item → row ≡ item_columns item
+        → IsTrue is ↔ (row_in_index d i item ≡ Some (key, columns)))
+        → IsTrue is ↔ HasRow l d i key columns
+    own_is read p is_p row shows is tells = (
+      λ yes.
+          let (item, there) = read p row tt shows in
+          record {
+            place = p;
+            item = item;
+            there = record {
+              shows = shows ∙ ap (λ c. Some c) there.row;
+              stored = there.stored;
+              read = there.read;
+            };
+            row = (tells item there.read there.row).0 yes;
+          },
+      λ has. (tells has.item has.there.read
+          (some _ _ (sym shows ∙ ap (shown l d.family) (some _ _ (sym is_p ∙ placed has))
+          ∙ has.there.shows))).1 has.row,
+    )
+
+-- ---- the row of an item, where it has one
+
+module _ (l : Layout) (d : TableSchema) (i : IndexSchema) (row : Columns) (own : Option IndexRow)
+    (told : (item : List Pair) → IsReadItem item → row ≡ item_columns item
+    → option_map row_at own ≡ row_in_index d i item) where
+  -- none is missing where it has none
+  pub none_missing : own ≡ None → TellsMissingOf l d i row None
+  none_missing none item read of_item key columns has =
+      absurd (let no : None ≡ Some (key, columns) =
+      ap (option_map row_at) (sym none) ∙ told item read of_item ∙ has in cc no)
+
+  module _ (r : IndexRow) (is : own ≡ Some r) where
+    has_it : (item : List Pair) → IsReadItem item → row ≡ item_columns item
+        → row_in_index d i item ≡ Some (r.key, r.columns)
+    has_it item read of_item = sym (told item read of_item) ∙ ap (option_map row_at) is
+
+    -- or where it is shown
+    pub not_missing : shown l i.family r.key ≡ Some r.columns → TellsMissingOf l d i row None
+    not_missing shows item read of_item key columns has =
+        let one : (r.key, r.columns) ≡ (key, columns) =
+        some _ _ (sym (has_it item read of_item) ∙ has) in
+        ap (shown l i.family) (sym (ap (λ (e : List ℕ × Columns). e.0) one)) ∙ shows
+        ∙ ap (λ (e : List ℕ × Columns). Some e.1) one
+
+    -- and else it is
+    pub is_missing : (shown l i.family r.key ≡ Some r.columns → ⊥)
+        → TellsMissingOf l d i row (Some r.key)
+    is_missing none item read of_item = record {
+      columns = r.columns;
+      row = has_it item read of_item;
+      missing = none;
+    }

@@ -1,0 +1,213 @@
+-- Rows stand for one state at most.
+use Rattle.std.proofs.Common.{subst, arith, ◌≡◌, ◌<◌, ◌^◌, ℕ, Bool, true, false, cond, List, [], ◌∷◌, Option, Some, None, refl, sym, ap, ◌∙◌}
+use Rattle.std.specs.Prelude.{◌==◌, if◌then◌else◌, option_map, unwrap_or, codes}
+use Rattle.std.specs.Int.{w32, to_be_bytes, from_be_bytes}
+use Rattle.std.proofs.lemmas.Nat.{from_be_bytes-to_be_bytes_4}
+use Rattle.std.proofs.lemmas.Bool.{eqb-true, false≢true}
+use Rattle.std.specs.Ordering.{eq_by_cmp, is_eq}
+use Rattle.std.specs.Cmp.{tied_itself}
+use Rattle.std.specs.FinMap as map
+use Rattle.alt_cells.specs.Keys.{key_cmp}
+use Rattle.alt_cells.proofs.CellLaws.{key_total, key_exact}
+use Rattle.alt_engine.specs.Layout.{Layout, shown}
+use Rattle.alt_engine.proofs.OneWrite.{one_layout}
+use Rattle.alt_machine.specs.State.{State, Table}
+use Rattle.alt_machine.specs.Valid.{IsTable, IsValid}
+use Rattle.alt_schema.specs.Format.{description_bytes}
+use Rattle.alt_schema.specs.Rules.{is_name}
+use Rattle.alt_schema.specs.declared.schema.TableSchema.{TableSchema}
+use Rattle.alt_schema.proofs.WholeDescriptions.{one_spelling}
+use Rattle.alt_opening.specs.Images.{StandsFor}
+use Rattle.alt_opening.specs.Recovery.{Agrees, AgreesWhole}
+use Rattle.alt_views.specs.ItemRows.{item_columns}
+use Rattle.alt_opening.proofs.StreamKeys.{changes-one}
+use Rattle.alt_opening.proofs.KeptChanges.{are_kept, are_small}
+use Rattle.alt_opening.specs.StateRows.{Shows, IsHeldWhole, item_rows, table_row, next_row, one_column}
+use Rattle.alt_views.proofs.ItemRowLaws.{item_columns-one}
+use Rattle.alt_value.specs.Tree.{Pair}
+use Rattle.alt_value.specs.Values.{IsWholeItem}
+
+-- what is there is one
+pub some : {A : Type 0} (x y : A) → Some x ≡ Some y → x ≡ y
+some x y e = ap (λ o. unwrap_or o x) e
+
+-- a row of one column tells its value
+pub one_column-value : (name v w : List ℕ) → one_column name v ≡ one_column name w → v ≡ w
+one_column-value name v w same =
+    some v w (sym (here v) ∙ ap (λ m. map.get m name) same ∙ here w)
+  where
+    here : (v : List ℕ) → map.get (one_column name v) name ≡ Some v
+    here v = map.get-insert key_total map.empty name v name
+        ∙ ap (λ r. cond (is_eq r) (Some v) (map.get (map.empty {R = key_cmp}) name))
+        (tied_itself key_total name)
+
+-- the next family is the one that its row tells
+pub next_row-one : (m n : ℕ) → m < 2 ^ 32 → n < 2 ^ 32 → next_row m ≡ next_row n → m ≡ n
+next_row-one m n small_m small_n same = by_test (m == 1) (n == 1) refl refl same
+  where
+    by_test : (a b : Bool) → (m == 1) ≡ a → (n == 1) ≡ b
+        → (if a then None else Some (one_column (codes "next") (to_be_bytes w32 m)))
+        ≡ (if b then None else Some (one_column (codes "next") (to_be_bytes w32 n))) → m ≡ n
+    by_test true true e f same = eqb-true m 1 e ∙ sym (eqb-true n 1 f)
+    by_test true false e f same = cc same
+    by_test false true e f same = cc same
+    by_test false false e f same =
+        let bytes : to_be_bytes w32 m ≡ to_be_bytes w32 n =
+        one_column-value (codes "next") _ _ (some _ _ same) in
+        sym (from_be_bytes-to_be_bytes_4 m small_m) ∙ ap (from_be_bytes w32) bytes
+        ∙ from_be_bytes-to_be_bytes_4 n small_n
+
+-- each item is one that can be written and read again
+abbrev pub HasWhole : Table → Type 0
+HasWhole t = (place : List ℕ) (item : List Pair) → map.get t.items place ≡ Some item
+    → IsWholeItem item
+
+-- items are those of their rows
+items-one : (t u : Table) → HasWhole t → HasWhole u
+    → ((key : List ℕ) → item_rows t key ≡ item_rows u key) → t.items ≡ u.items
+items-one t u held_t held_u same = map.same_map key_total key_exact _ _ (λ key.
+    at_key (map.get t.items key) (map.get u.items key) (held_t key) (held_u key) (same key))
+  where
+    at_key : (o p : Option (List Pair)) → ((item : List Pair) → o ≡ Some item → IsWholeItem item)
+        → ((item : List Pair) → p ≡ Some item → IsWholeItem item)
+        → option_map item_columns o ≡ option_map item_columns p → o ≡ p
+    at_key None None h k e = refl
+    at_key None (Some b) h k e = let no : None ≡ Some (item_columns b) = e in cc no
+    at_key (Some a) None h k e = let no : Some (item_columns a) ≡ None = e in cc no
+    at_key (Some a) (Some b) h k e =
+        ap (λ x. Some x) (item_columns-one a b (h a refl) (k b refl) (some _ _ e))
+
+-- so is each item of a valid state that is held
+pub has_whole : (s : State) → IsValid s → IsHeldWhole s → (name : List ℕ) (t : Table)
+    → map.get s.tables name ≡ Some t → HasWhole t
+has_whole s valid held name t at place item here =
+    (held.items.items name place t item at here, ((valid.tables name t at).items place item here).full)
+
+module _ (l : Layout) (s r : State) (agrees_s : AgreesWhole l s) (agrees_r : AgreesWhole l r)
+    (named_s : map.get s.tables [] ≡ None) (named_r : map.get r.tables [] ≡ None)
+    (small_s : s.next_family < 2 ^ 32) (small_r : r.next_family < 2 ^ 32) where
+  -- both states have the same next family
+  next_families : s.next_family ≡ r.next_family
+  next_families = next_row-one s.next_family r.next_family small_s small_r
+      (sym (agrees_s.rows.catalog [] tt) ∙ agrees_r.rows.catalog [] tt)
+
+  -- the changes of tables of one description are those of their rows
+  same_changes : (name : List ℕ) (t u : Table) → map.get s.tables name ≡ Some t
+      → map.get r.tables name ≡ Some u → t.description ≡ u.description → (o : Option ℕ)
+      → t.description.stream_family ≡ o → t.changes ≡ u.changes
+  same_changes name t u at_t at_u descriptions None none =
+      (agrees_s.rows.valid.tables name t at_t).changes.none none
+      ∙ sym ((agrees_r.rows.valid.tables name u at_u).changes.none
+      (ap (λ (d : TableSchema). d.stream_family) (sym descriptions) ∙ none))
+  same_changes name t u at_t at_u descriptions (Some f) stream =
+      let list_t = (agrees_s.rows.valid.tables name t at_t).changes in
+      let list_u = (agrees_r.rows.valid.tables name u at_u).changes in
+      changes-one t.changes u.changes
+      (are_small t.description s.next_number t.changes
+      (let last = agrees_s.rows.valid.next_number.1 in omega (arith, last)) list_t)
+      (are_small u.description r.next_number u.changes
+      (let last = agrees_r.rows.valid.next_number.1 in omega (arith, last)) list_u)
+      list_t.rise list_u.rise
+      (are_kept s agrees_s.rows.valid agrees_s.rows.held name t at_t)
+      (are_kept r agrees_r.rows.valid agrees_r.rows.held name u at_u)
+      (λ key. sym (agrees_s.changes name t f at_t stream key)
+      ∙ agrees_r.changes name u f at_u
+      (ap (λ (d : TableSchema). d.stream_family) (sym descriptions) ∙ stream) key)
+
+  -- tables of one name are one
+  one_table : (name : List ℕ) (t u : Table) → map.get s.tables name ≡ Some t
+      → map.get r.tables name ≡ Some u
+      → description_bytes t.description ≡ description_bytes u.description → t ≡ u
+  one_table name t u at_t at_u same =
+      let is_t : IsTable s name t = agrees_s.rows.valid.tables name t at_t in
+      let is_u : IsTable r name u = agrees_r.rows.valid.tables name u at_u in
+      let descriptions : t.description ≡ u.description = one_spelling t.description u.description
+      is_t.made.whole (agrees_s.rows.held.descriptions name t at_t)
+      is_u.made.whole (agrees_r.rows.held.descriptions name u at_u) same in
+      let items : t.items ≡ u.items = items-one t u
+      (has_whole s agrees_s.rows.valid agrees_s.rows.held name t at_t)
+      (has_whole r agrees_r.rows.valid agrees_r.rows.held name u at_u)
+      (λ key. sym (agrees_s.rows.items name t at_t key tt)
+      ∙ ap (λ d. shown l d.family key) descriptions ∙ agrees_r.rows.items name u at_u key tt) in
+      let changes : t.changes ≡ u.changes =
+      same_changes name t u at_t at_u descriptions t.description.stream_family refl in
+      λ i. record { description = descriptions i; items = items i; changes = changes i }
+
+  at_name : (name : List ℕ) (o p : Option Table) → map.get s.tables name ≡ o
+      → map.get r.tables name ≡ p
+      → option_map (λ t. table_row t.description) o ≡ option_map (λ t. table_row t.description) p
+      → o ≡ p
+  at_name name None None e f same = refl
+  at_name name None (Some u) e f same =
+      let no : None ≡ Some (table_row u.description) = same in cc no
+  at_name name (Some t) None e f same =
+      let no : Some (table_row t.description) ≡ None = same in cc no
+  at_name name (Some t) (Some u) e f same = ap (λ x. Some x)
+      (one_table name t u e f (one_column-value (codes "t") _ _ (some _ _ same)))
+
+  by_name : (name : List ℕ) (b : Bool) → eq_by_cmp key_cmp name [] ≡ b
+      → map.get s.tables name ≡ map.get r.tables name
+  by_name [] b e = named_s ∙ sym named_r
+  by_name (c ∷ cs) b e = at_name (c ∷ cs) _ _ refl refl
+      (sym (agrees_s.rows.catalog (c ∷ cs) tt) ∙ agrees_r.rows.catalog (c ∷ cs) tt)
+
+  -- the rows show one state at most
+  one_shown : s ≡ r
+  one_shown =
+      let tables : s.tables ≡ r.tables =
+      map.same_map key_total key_exact _ _ (λ name. by_name name _ refl) in
+      let numbers : s.next_number ≡ r.next_number = sym agrees_s.rows.number
+      ∙ agrees_r.rows.number in
+      λ i. record { tables = tables i; next_number = numbers i; next_family = next_families i }
+
+-- no table of a valid state has the empty name
+pub nameless : (s : State) → IsValid s → map.get s.tables [] ≡ None
+nameless s valid = by_table (map.get s.tables []) refl
+  where
+    by_table : (o : Option Table) → map.get s.tables [] ≡ o → o ≡ None
+    by_table None at = refl
+    by_table (Some t) at =
+        let table : IsTable s [] t = valid.tables [] t at in
+        let spelled : is_name [] ≡ true = ap is_name (sym table.named) ∙ table.made.spelled in
+        absurd (false≢true spelled)
+
+-- Rows of the catalog, of tables and of streams are those of one valid state at most.
+pub one_agrees : (l : Layout) (s r : State) → AgreesWhole l s → AgreesWhole l r → s ≡ r
+one_agrees l s r agrees_s agrees_r =
+    one_shown l s r agrees_s agrees_r (nameless s agrees_s.rows.valid)
+    (nameless r agrees_r.rows.valid)
+    (let last = agrees_s.rows.valid.next_family.1 in omega (arith, last))
+    (let last = agrees_r.rows.valid.next_family.1 in omega (arith, last))
+
+-- where rows show a state, those of some places are its rows
+pub agrees_all : (Here : ℕ → List ℕ → Type 0) (l : Layout) (s : State) → Shows l s → IsValid s
+    → IsHeldWhole s → Agrees Here l s
+agrees_all Here l s shows valid held = record {
+  number = shows.number;
+  catalog = λ key here. shows.catalog key;
+  items = λ name t at key here. shows.items name t at key;
+  beyond = λ family key high here. shows.beyond family key high;
+  valid = valid;
+  held = held;
+}
+
+-- and so are all, with those of streams
+pub agrees_whole : (l : Layout) (s : State) → Shows l s → IsValid s → IsHeldWhole s
+    → AgreesWhole l s
+agrees_whole l s shows valid held = record {
+  rows = agrees_all (λ f k. Unit {0}) l s shows valid held;
+  changes = shows.changes;
+}
+
+-- So rows show one valid state at most.
+pub one_state : (l : Layout) (s r : State) → Shows l s → Shows l r → IsValid s → IsValid r
+    → IsHeldWhole s → IsHeldWhole r → s ≡ r
+one_state l s r shows_s shows_r valid_s valid_r held_s held_r = one_agrees l s r
+    (agrees_whole l s shows_s valid_s held_s) (agrees_whole l r shows_r valid_r held_r)
+
+-- An image stands for at most one state.
+pub one_state_of_image : (image : ℕ → Option (List ℕ)) (s r : State) → StandsFor image s
+    → StandsFor image r → s ≡ r
+one_state_of_image image s r a b = one_state a.layout s r a.shows
+    (subst (λ l. Shows l r) (one_layout image b.layout a.layout b.is a.is) b.shows)
+    a.valid b.valid a.held b.held

@@ -1,0 +1,123 @@
+-- What the tests of the rows of a stream tell.
+use Rattle.std.proofs.Common.{◌≡◌, ◌<◌, ◌≤◌, ◌⊎◌, inl, inr, refl, sym, ap, subst, ◌∙◌, ℕ, Bool, true, false, List, Option, Some, None, IsTrue, is_some, arith}
+use Rattle.std.specs.Prelude.{◌↔◌}
+use Rattle.alt_engine.specs.Layout.{Layout, shown}
+use Rattle.alt_machine.specs.Same.{is_same}
+use Rattle.alt_machine.specs.State.{Change}
+use Rattle.alt_machine.specs.Valid.{IsChange, WasStored}
+use Rattle.alt_machine.proofs.Same.{is_same-equal, same_is}
+use Rattle.alt_schema.specs.declared.schema.TableSchema.{TableSchema}
+use Rattle.alt_opening.specs.StreamScans.{IsChangeAt, AreOfOne, ChangesRead, ChangesWhere, IsChangeFault, IsChangeRow, IsFirstForeignChange, IsStreamFault}
+use Rattle.alt_opening.specs.declared.faults.OpenFault.{OpenFault}
+use Rattle.alt_opening.specs.declared.faults.OpenFault.TheVariants.{Damaged, BadRow, Failed, NoMemory}
+use Rattle.alt_cells.specs.Changes.{Columns}
+use Rattle.alt_changes.proofs.RowLaws.{change_columns-one}
+use Rattle.alt_opening.proofs.StreamKeys.{key_one}
+use Rattle.alt_opening.proofs.OneState.{some}
+use Rattle.alt_value.specs.Tree.{Pair}
+
+-- ---- the rows of a family are those of the stream
+
+module _ (l : Layout) (d : TableSchema) (family : ℕ) (stream : d.stream_family ≡ Some family)
+    (next : ℕ) (same : next ≡ l.next_number) where
+  -- read
+  pub stream_read : ChangesWhere (λ key. Unit {0}) l d next family → ChangesRead l d
+  stream_read read other is key row here shows =
+      subst (λ n. IsChangeRow d n key row) same
+      (read key row here (ap (λ f. shown l f key) (some family other (sym stream ∙ is))
+      ∙ shows))
+
+  -- or not
+  pub stream_wrong : (fault : OpenFault) → IsChangeFault l d next family fault
+      → IsStreamFault l d fault
+  stream_wrong (Damaged file at) is = is
+  stream_wrong (BadRow f key) is = record {
+    stream = stream ∙ ap Some (sym is.0);
+    first = subst (λ g. IsFirstForeignChange l d l.next_number g key) (sym is.0)
+        (subst (λ n. IsFirstForeignChange l d n family key) same is.1);
+  }
+  stream_wrong Failed is = is
+  stream_wrong NoMemory is = is
+
+-- one row is that of one change
+pub one_change_at : (key : List ℕ) (columns : Columns) (a b : Change) → IsChangeAt key columns a
+    → IsChangeAt key columns b → a ≡ b
+one_change_at key columns a b is_a is_b = change_columns-one a b is_a.read is_b.read
+    (key_one a.number b.number is_a.number is_b.number (sym is_a.place ∙ is_b.place))
+    (sym is_a.row ∙ is_b.row)
+
+-- ---- a change that a table may keep
+
+module _ (d : TableSchema) (next : ℕ) (c : Change) where
+  -- none of a later number, and none whose items are one
+  pub not_kept : (next ≤ c.number) ⊎ (is_same c.old c.new ≡ true) → IsChange d next c → ⊥
+  not_kept (inl late) is = omega (arith, late, is.number)
+  not_kept (inr same) is = is.differ (same_is c.old c.new same)
+
+  -- another is one where its items are of one place
+  pub is_kept : c.number < next → is_same c.old c.new ≡ false → AreOfOne d c.old c.new
+      → IsChange d next c
+  is_kept low differ one = record {
+    number = low;
+    differ = λ e. let f : false ≡ true = sym differ ∙ is_same-equal c.old c.new e in
+        let g : ⊥ = cc in g;
+    place = one.0;
+    old = one.1;
+    new = one.2;
+  }
+
+  -- and they are
+  pub of_one : IsChange d next c → AreOfOne d c.old c.new
+  of_one is = (is.place, is.old, is.new)
+
+-- ---- items of one place
+
+-- a place is told exactly where the item may have stood there
+abbrev pub TellsPlace : TableSchema → List Pair → Option (List ℕ) → Type 0
+TellsPlace d item o = (place : List ℕ) → (o ≡ Some place) ↔ WasStored d place item
+
+module _ (d : TableSchema) (old new : Option (List Pair)) where
+  -- two items
+  pub two_of_one : (a b : List Pair) → old ≡ Some a → new ≡ Some b → (at there : Option (List ℕ))
+      → TellsPlace d a at → TellsPlace d b there → (r : Bool)
+      → IsTrue r ↔ ((place : List ℕ) × (at ≡ Some place) × (there ≡ Some place))
+      → IsTrue r ↔ AreOfOne d old new
+  two_of_one a b is_old is_new at there tells_a tells_b r one =
+      subst (λ o. IsTrue r ↔ AreOfOne d o new) (sym is_old)
+      (subst (λ o. IsTrue r ↔ AreOfOne d (Some a) o) (sym is_new) (
+        λ so. let (place, p, q) = one.0 so in
+            (place, (tells_a place).0 p, (tells_b place).0 q),
+        λ is. one.1 (is.0, (tells_a is.0).1 is.1, (tells_b is.0).1 is.2),
+      ))
+
+  -- a place was found exactly where the item was stored at one
+  some_place : (a : List Pair) (o : Option (List ℕ)) → TellsPlace d a o → (r : Bool)
+      → r ≡ is_some o → IsTrue r ↔ ((place : List ℕ) × WasStored d place a)
+  some_place a None tells r is = (
+    λ so. absurd (let f : ⊥ = cc in f),
+    λ stood. absurd (let no : None ≡ Some stood.0 = (tells stood.0).1 stood.1 in
+        let f : ⊥ = cc in f),
+  )
+  some_place a (Some place) tells r is = (λ so. (place, (tells place).0 refl), λ stood. is)
+
+  -- the old one alone
+  pub old_of_one : (a : List Pair) → old ≡ Some a → new ≡ None → (o : Option (List ℕ))
+      → TellsPlace d a o → (r : Bool) → r ≡ is_some o → IsTrue r ↔ AreOfOne d old new
+  old_of_one a is_old is_new o tells r is =
+      let one = some_place a o tells r is in
+      subst (λ x. IsTrue r ↔ AreOfOne d x new) (sym is_old)
+      (subst (λ x. IsTrue r ↔ AreOfOne d (Some a) x) (sym is_new) (
+        λ so. let (place, stood) = one.0 so in (place, stood, tt),
+        λ of_one. one.1 (of_one.0, of_one.1),
+      ))
+
+  -- the new one alone
+  pub new_of_one : (a : List Pair) → old ≡ None → new ≡ Some a → (o : Option (List ℕ))
+      → TellsPlace d a o → (r : Bool) → r ≡ is_some o → IsTrue r ↔ AreOfOne d old new
+  new_of_one a is_old is_new o tells r is =
+      let one = some_place a o tells r is in
+      subst (λ x. IsTrue r ↔ AreOfOne d x new) (sym is_old)
+      (subst (λ x. IsTrue r ↔ AreOfOne d None x) (sym is_new) (
+        λ so. let (place, stood) = one.0 so in (place, tt, stood),
+        λ of_one. one.1 (of_one.0, of_one.2),
+      ))

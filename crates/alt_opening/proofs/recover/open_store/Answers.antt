@@ -1,0 +1,51 @@
+-- The engine reads as the files are, and its rows are those of a state, or none's.
+use Rattle.std.proofs.Common.{refl, sym, subst, IsTrue}
+use Rattle.alt_disk.proofs.Runs.{tells_of, trusted_on}
+use Rattle.alt_opening.specs.Recovery.{HasNoState}
+use Rattle.alt_opening.proofs.Recovering.{stands_then, rows_explain, rows_no_state, files_no_state}
+use Rattle.alt_opening.proofs.recover.open_store.Goals as goal
+
+pub returns-in-Err-clause-no_state : goal.returns-in-Err-clause-no_state
+returns-in-Err-clause-no_state g c tells =
+    subst (HasNoState (g.D.Disk.state c.args.disk.now).file) (sym c.unopened.ensures)
+    (files_no_state (g.D.Disk.state c.args.disk.now).file c.in-Err.fault
+    (c.in-Err.ensures.no_layout tells))
+
+pub returns-in-Ok-read_rows-clause-reads : goal.returns-in-Ok-read_rows-clause-reads
+returns-in-Ok-read_rows-clause-reads g c tells =
+    let (l, is, reads) = c.in-Ok.ensures.ok tells in
+    let (s, made) = c.in-Ok-read_rows.ensures.read
+    (subst IsTrue (sym c.in-Ok.ensures.goes.tells) tells) l reads in (
+      s,
+      record {
+        layout = l;
+        is = is;
+        shows = made.shows;
+        valid = made.valid;
+        held = made.held;
+      },
+    )
+
+pub returns-in-Ok-read_rows-clause-stands : goal.returns-in-Ok-read_rows-clause-stands
+returns-in-Ok-read_rows-clause-stands g c trusted r stands =
+    let tells = tells_of (g.D.Disk.state c.args.disk.now) trusted in
+    let (l, is, reads) = c.in-Ok.ensures.ok tells in
+    let (s, made) = c.in-Ok-read_rows.ensures.read
+    (subst IsTrue (sym c.in-Ok.ensures.goes.tells) tells) l reads in
+    stands_then (g.D.Disk.state c.args.disk.now) (g.D.Disk.state c.recover.new.disk)
+    (g.D.Disk.state c.read_rows.new.disk) c.in-Ok.engine c.read_rows.new.engine l is reads
+    c.in-Ok-read_rows.ensures.walked _ refl s made
+    (trusted_on (g.D.Disk.state c.args.disk.now) (g.D.Disk.state c.recover.new.disk)
+    c.in-Ok.ensures.goes trusted) (c.in-Ok.ensures.stands trusted l reads) r stands
+
+pub returns-in-Err-read_rows-clause-explained : goal.returns-in-Err-read_rows-clause-explained
+returns-in-Err-read_rows-clause-explained g c tells =
+    let (l, is, reads) = c.in-Ok.ensures.ok tells in
+    rows_explain (g.D.Disk.state c.args.disk.now).file l is c.in-Err-read_rows.fault
+    (c.in-Err-read_rows.ensures.wrong (subst IsTrue (sym c.in-Ok.ensures.goes.tells) tells) l reads)
+
+pub returns-in-Err-read_rows-clause-no_state : goal.returns-in-Err-read_rows-clause-no_state
+returns-in-Err-read_rows-clause-no_state g c tells =
+    let (l, is, reads) = c.in-Ok.ensures.ok tells in
+    rows_no_state (g.D.Disk.state c.args.disk.now).file l is c.in-Err-read_rows.fault
+    (c.in-Err-read_rows.ensures.wrong (subst IsTrue (sym c.in-Ok.ensures.goes.tells) tells) l reads)

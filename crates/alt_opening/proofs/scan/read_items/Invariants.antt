@@ -1,0 +1,14 @@
+-- The items of the rows so far are read, and the engine reads as it read.
+use Rattle.std.proofs.Common.{IsTrue}
+use Rattle.alt_engine.specs.InHand.{Reads}
+use Rattle.alt_engine.specs.Layout.{Layout}
+use Rattle.alt_opening.specs.Scans.{IsBelow, ItemsWhere, Walked}
+use Rattle.alt_opening.proofs.scan.read_items.Given as goal
+
+abbrev pub invariant-rows : goal.invariant-rows
+invariant-rows g l = record {
+  walked : Walked (g.D.Disk.state l.fn.disk) (g.D.Disk.state l.disk) l.fn.engine l.engine;
+  items : IsTrue (g.D.Disk.state l.fn.disk).tells → (layout : Layout)
+      → Reads (g.D.Disk.state l.fn.disk) l.fn.engine layout
+      → ItemsWhere (λ k. IsBelow k l.from) layout l.schema;
+}

@@ -1,0 +1,12 @@
+pub mod Codes
+pub mod Families
+pub mod Images
+pub mod IndexScans
+pub mod Made
+pub mod Opened
+pub mod Opening
+pub mod Order
+pub mod Recovery
+pub mod Scans
+pub mod StateRows
+pub mod StreamScans

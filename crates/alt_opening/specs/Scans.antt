@@ -1,0 +1,84 @@
+-- What is read of a family's rows while a store is opened.
+use Rattle.std.specs.Prelude.{◌≡◌, ℕ, List, Option, Some, None, IsTrue}
+use Rattle.std.specs.declared.cmp.Ordering.TheVariants.{Less}
+use Rattle.alt_cells.specs.Changes.{Columns}
+use Rattle.alt_cells.specs.Keys.{key_cmp}
+use Rattle.alt_disk.specs.Disk.{DiskState, Goes}
+use Rattle.alt_disk.specs.Runs.{Quiet}
+use Rattle.alt_engine.specs.InHand.{SameEngine}
+use Rattle.alt_engine.specs.Layout.{Layout, shown}
+use Rattle.alt_engine.specs.declared.engine.Engine.{Engine}
+use Rattle.alt_machine.specs.Valid.{IsStored}
+use Rattle.alt_schema.specs.declared.schema.TableSchema.{TableSchema}
+use Rattle.alt_views.specs.ItemRows.{item_columns, IsReadItem}
+use Rattle.alt_opening.specs.declared.faults.OpenFault.{OpenFault}
+use Rattle.alt_opening.specs.declared.faults.OpenFault.TheVariants.{Damaged, BadRow, Failed, NoMemory}
+use Rattle.alt_value.specs.Tree.{Pair}
+
+-- calls that only read: the engine and, where the disk tells them, the files stay
+pub record Walked (old new : DiskState) (before after : Engine) : Type 0 where
+  pub goes : Goes old new
+  pub quiet : IsTrue old.tells → Quiet old new
+  pub same : SameEngine before after
+
+-- a fault of the device, or want of memory
+abbrev pub IsDeviceFault : OpenFault → Type 0
+IsDeviceFault (Damaged file at) = ⊥
+IsDeviceFault (BadRow family key) = ⊥
+IsDeviceFault Failed = Unit {0}
+IsDeviceFault NoMemory = Unit {0}
+
+-- a key is below another
+abbrev pub IsBelow : List ℕ → List ℕ → Type 0
+IsBelow k key = key_cmp k key ≡ Less
+
+-- the row of a key is the first that the family shows from another key on
+pub record IsFirstFrom (l : Layout) (family : ℕ) (from key : List ℕ) (row : Columns) : Type 0 where
+  pub shows : shown l family key ≡ Some row
+  pub later : IsBelow key from → ⊥
+  pub between : (k : List ℕ) → (IsBelow k from → ⊥) → IsBelow k key → shown l family k ≡ None
+
+-- that row, or none where the family shows none from there on
+abbrev pub IsNextRow : Layout → ℕ → List ℕ → Option (List ℕ × Columns) → Type 0
+IsNextRow l family from None = (k : List ℕ) → (IsBelow k from → ⊥) → shown l family k ≡ None
+IsNextRow l family from (Some e) = IsFirstFrom l family from e.0 e.1
+
+-- something is so of each row of a family, of those whose keys pass
+abbrev pub RowsWhere : (List ℕ → Type 0) → Layout → ℕ → (List ℕ → Columns → Type 0) → Type 0
+RowsWhere Here l family P = (key : List ℕ) (row : Columns) → Here key
+    → shown l family key ≡ Some row → P key row
+
+-- ---- items
+
+-- the row is that of the item, which may stand at the key
+pub record IsItemAt (d : TableSchema) (key : List ℕ) (columns : Columns) (item : List Pair)
+    : Type 0 where
+  pub stored : IsStored d key item
+  pub read : IsReadItem item
+  pub row : columns ≡ item_columns item
+
+-- it is that of one
+abbrev pub IsItemRow : TableSchema → List ℕ → Columns → Type 0
+IsItemRow d key columns = (item : List Pair) × IsItemAt d key columns item
+
+-- each row of a table's family, of those whose keys pass, is that of an item
+abbrev pub ItemsWhere : (List ℕ → Type 0) → Layout → TableSchema → Type 0
+ItemsWhere Here l d = RowsWhere Here l d.family (IsItemRow d)
+
+-- each row is
+abbrev pub ItemsRead : Layout → TableSchema → Type 0
+ItemsRead l d = ItemsWhere (λ key. Unit {0}) l d
+
+-- the row at a key of a table's family is the first that is none of an item
+pub record IsFirstBad (l : Layout) (d : TableSchema) (key : List ℕ) : Type 0 where
+  pub before : ItemsWhere (λ k. IsBelow k key) l d
+  pub row : Columns
+  pub shows : shown l d.family key ≡ Some row
+  pub none : (item : List Pair) → IsItemAt d key row item → ⊥
+
+-- a wrong row is the first of the family
+abbrev pub IsItemFault : Layout → TableSchema → OpenFault → Type 0
+IsItemFault l d (Damaged file at) = ⊥
+IsItemFault l d (BadRow family key) = (family ≡ d.family) × IsFirstBad l d key
+IsItemFault l d Failed = Unit {0}
+IsItemFault l d NoMemory = Unit {0}

@@ -1,0 +1,91 @@
+-- The rows that stand for a state (docs/formats/table-rows.md), and the changes of rows that a write of the state makes.
+use Rattle.std.specs.Prelude.{◌≡◌, ◌≤◌, ◌<◌, ◌^◌, ◌==◌, ℕ, List, [], map as each, All, if◌then◌else◌, Option, Some, None, option_map, codes}
+use Rattle.std.specs.Int.{w32, to_be_bytes}
+use Rattle.std.specs.Ordering.{eq_by_cmp}
+use Rattle.std.specs.FinMap as map
+use Rattle.alt_cells.specs.Changes.{Columns}
+use Rattle.alt_cells.specs.Keys.{key_cmp}
+use Rattle.alt_changes.specs.ChangeRows.{change_columns, row_key}
+use Rattle.alt_engine.specs.Layout.{Layout, shown}
+use Rattle.alt_machine.specs.Indexed.{index_items}
+use Rattle.alt_machine.specs.Sources.{index_at}
+use Rattle.alt_machine.specs.State.{State, Table, Texts, Change}
+use Rattle.alt_machine.specs.Valid.{IsHeldState}
+use Rattle.alt_schema.specs.Format.{description_bytes}
+use Rattle.alt_schema.specs.Held.{IsHeld}
+use Rattle.alt_schema.specs.declared.schema.IndexSchema.{IndexSchema}
+use Rattle.alt_schema.specs.declared.schema.TableSchema.{TableSchema}
+use Rattle.alt_views.specs.IndexRows.{index_columns}
+use Rattle.alt_views.specs.ItemRows.{item_columns}
+
+-- a row of one column
+abbrev pub one_column : List ℕ → List ℕ → Columns
+one_column name value = map.insert map.empty name value
+
+-- ---- the catalog, which is family 0
+
+-- the catalog's family
+abbrev pub catalog_family : ℕ
+catalog_family = 0
+
+-- the next family, which isn't written where it is 1
+abbrev pub next_row : ℕ → Option Columns
+next_row family = if family == 1 then None else Some
+    (one_column (codes "next") (to_be_bytes w32 family))
+
+-- the description of a table
+abbrev pub table_row : TableSchema → Columns
+table_row d = one_column (codes "t") (description_bytes d)
+
+-- the next family stands at the empty key, and each description at its table's name
+abbrev pub catalog_rows : State → List ℕ → Option Columns
+catalog_rows s key =
+    if eq_by_cmp key_cmp key [] then next_row s.next_family else option_map
+    (λ t. table_row t.description) (map.get s.tables key)
+
+-- ---- the tables
+
+-- each item at its place, in the family of its table
+abbrev pub item_rows : Table → List ℕ → Option Columns
+item_rows t key = option_map item_columns (map.get t.items key)
+
+-- what an index keeps of the items, each at its place there, in the family of the index
+abbrev pub index_rows : Table → IndexSchema → List ℕ → Option Columns
+index_rows t i key = option_map (index_columns t.description i)
+    (map.get (index_items t.description i t.items) key)
+
+-- changes by the keys of their rows
+abbrev pub keyed_changes : List Change → Texts Change
+keyed_changes changes = map.from_sorted (each (λ (c : Change). (row_key c.number, c)) changes)
+
+-- each change at its number, in the family of the stream
+abbrev pub change_rows : Table → List ℕ → Option Columns
+change_rows t key = option_map change_columns (map.get (keyed_changes t.changes) key)
+
+-- What the rows show is the state: its numbers, its catalog, the items of each table in the table's family, those of each of its
+-- indexes in that of the index, its changes in that of its stream, and nothing from the next family on. Families below it that no
+-- table has count for nothing.
+pub record Shows (l : Layout) (s : State) : Type 0 where
+  pub number : l.next_number ≡ s.next_number
+  pub catalog : (key : List ℕ) → shown l catalog_family key ≡ catalog_rows s key
+  pub items : (name : List ℕ) (t : Table) → map.get s.tables name ≡ Some t
+      → (key : List ℕ) → shown l t.description.family key ≡ item_rows t key
+  pub indexes : (name : List ℕ) (t : Table) (number : ℕ) (i : IndexSchema)
+      → map.get s.tables name ≡ Some t → index_at t.description (Some number) ≡ Some i
+      → (key : List ℕ) → shown l i.family key ≡ index_rows t i key
+  pub changes : (name : List ℕ) (t : Table) (family : ℕ) → map.get s.tables name ≡ Some t
+      → t.description.stream_family ≡ Some family
+      → (key : List ℕ) → shown l family key ≡ change_rows t key
+  pub beyond : (family : ℕ) (key : List ℕ) → s.next_family ≤ family → shown l family key ≡ None
+
+-- a moment fits in 8 bytes
+abbrev pub HasMoment : Change → Type 0
+HasMoment c = c.moment < 2 ^ 64
+
+-- Each item, each change and each description of the state is one that a program can hold, so its bytes tell it from every other.
+pub record IsHeldWhole (s : State) : Type 0 where
+  pub items : IsHeldState s
+  pub moments : (name : List ℕ) (t : Table) → map.get s.tables name ≡ Some t
+      → All HasMoment t.changes
+  pub descriptions : (name : List ℕ) (t : Table) → map.get s.tables name ≡ Some t
+      → IsHeld t.description

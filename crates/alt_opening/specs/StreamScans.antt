@@ -1,0 +1,67 @@
+-- What is read of the rows of streams while a store is opened.
+use Rattle.std.specs.Prelude.{◌≡◌, ◌<◌, ◌^◌, ℕ, List, Option, Some, IfSome}
+use Rattle.alt_cells.specs.Changes.{Columns}
+use Rattle.alt_engine.specs.Layout.{Layout, shown}
+use Rattle.alt_machine.specs.State.{Change}
+use Rattle.alt_machine.specs.Valid.{IsChange, WasStored}
+use Rattle.alt_schema.specs.declared.schema.TableSchema.{TableSchema}
+use Rattle.alt_changes.specs.ChangeRows.{IsReadChange, change_columns, row_key}
+use Rattle.alt_opening.specs.Scans.{IsBelow, RowsWhere}
+use Rattle.alt_opening.specs.declared.faults.OpenFault.{OpenFault}
+use Rattle.alt_opening.specs.declared.faults.OpenFault.TheVariants.{Damaged, BadRow, Failed, NoMemory}
+use Rattle.alt_value.specs.Tree.{Pair}
+
+-- The row at a key is that of a change which can be read, whose number is the key.
+pub record IsChangeAt (key : List ℕ) (columns : Columns) (c : Change) : Type 0 where
+  pub number : c.number < 2 ^ 64
+  pub place : key ≡ row_key c.number
+  pub read : IsReadChange c
+  pub row : columns ≡ change_columns c
+
+-- two items, where they are there, are of one place of a table
+abbrev pub AreOfOne : TableSchema → Option (List Pair) → Option (List Pair) → Type 0
+AreOfOne d old new = (place : List ℕ) × IfSome old (WasStored d place)
+    × IfSome new (WasStored d place)
+
+-- The row at a key is that of a change that a table may keep: it can be read, its number, which is the key, is below the next one, and its
+-- items differ and are of one place of the table.
+abbrev pub IsChangeRow : TableSchema → ℕ → List ℕ → Columns → Type 0
+IsChangeRow d next key columns = (c : Change) × IsChangeAt key columns c × IsChange d next c
+
+-- each row of a family, of those whose keys pass, is
+abbrev pub ChangesWhere : (List ℕ → Type 0) → Layout → TableSchema → ℕ → ℕ → Type 0
+ChangesWhere Here l d next family = RowsWhere Here l family (IsChangeRow d next)
+
+-- each row of a table's stream is, where it has one
+abbrev pub ChangesRead : Layout → TableSchema → Type 0
+ChangesRead l d = (family : ℕ) → d.stream_family ≡ Some family
+    → ChangesWhere (λ key. Unit {0}) l d l.next_number family
+
+-- the row at a key of a family is the first that is none
+pub record IsFirstForeignChange (l : Layout) (d : TableSchema) (next family : ℕ) (key : List ℕ)
+    : Type 0 where
+  pub before : ChangesWhere (λ k. IsBelow k key) l d next family
+  pub row : Columns
+  pub shows : shown l family key ≡ Some row
+  pub none : IsChangeRow d next key row → ⊥
+
+-- a wrong row is the first of the family
+abbrev pub IsChangeFault : Layout → TableSchema → ℕ → ℕ → OpenFault → Type 0
+IsChangeFault l d next of_stream (Damaged file at) = ⊥
+IsChangeFault l d next of_stream (BadRow family key) = (family ≡ of_stream)
+    × IsFirstForeignChange l d next of_stream key
+IsChangeFault l d next of_stream Failed = Unit {0}
+IsChangeFault l d next of_stream NoMemory = Unit {0}
+
+-- The first wrong row of a table's stream.
+pub record IsFirstOfStream (l : Layout) (d : TableSchema) (family : ℕ) (key : List ℕ)
+    : Type 0 where
+  pub stream : d.stream_family ≡ Some family
+  pub first : IsFirstForeignChange l d l.next_number family key
+
+-- a wrong row is it
+abbrev pub IsStreamFault : Layout → TableSchema → OpenFault → Type 0
+IsStreamFault l d (Damaged file at) = ⊥
+IsStreamFault l d (BadRow family key) = IsFirstOfStream l d family key
+IsStreamFault l d Failed = Unit {0}
+IsStreamFault l d NoMemory = Unit {0}

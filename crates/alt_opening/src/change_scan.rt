@@ -1,0 +1,181 @@
+//! The rows of the stream of a table that is opened: each is that of a change which the table may keep.
+
+ghost use Rattle.std.specs.Prelude.{◌≡◌, ◌↔◌, ℕ, List, Err, Some, IfOk, IfErr, IfSome, OnOk, IsErrOf, IsTrue, option_map};
+ghost use Rattle.alt_base.specs.Counts.{Rose};
+ghost use Rattle.alt_changes.specs.ChangeRows.{IsReadChange, IsReadItem, change_in};
+ghost use Rattle.alt_engine.specs.InHand.{Reads};
+ghost use Rattle.alt_engine.specs.Layout.{Layout};
+ghost use Rattle.alt_machine.specs.Same.{is_same};
+ghost use Rattle.alt_machine.specs.Valid.{IsChange, WasStored};
+ghost use Rattle.alt_opening.specs.Scans.{Walked};
+ghost use Rattle.alt_opening.specs.StreamScans.{AreOfOne, ChangesRead, ChangesWhere, IsChangeFault, IsChangeRow, IsStreamFault};
+
+use crate::change_rows::change_at;
+use crate::faults::OpenFault;
+use crate::scan::{key_after, next_row};
+use alt_base::NoMemory;
+use alt_cells::ShownRow;
+use alt_changes::Change;
+use alt_disk::Disk;
+use alt_engine::Engine;
+use alt_fields::Bytes;
+use alt_machine::LARGEST_ITEM;
+use alt_schema::TableSchema;
+use alt_value::{Item, item_equal, item_size_within};
+use alt_views::{Unread, key_fits, place_of};
+use std::alloc::Global;
+
+/// Tests that each row of a table's stream is that of a change which the table may keep. A table without a stream has none.
+pub(crate) fn read_stream<D: Disk>(
+    alloc: Global,
+    disk: &mut D,
+    engine: &mut Engine,
+    schema: &TableSchema,
+) -> Result<(), OpenFault>
+    ensures read { IsTrue (D.state disk.old).tells → (l : Layout)
+        → Reads (D.state disk.old) engine.old l → OnOk result (ChangesRead l schema.now) }
+    ensures wrong { IsTrue (D.state disk.old).tells → (l : Layout)
+        → Reads (D.state disk.old) engine.old l → IfErr result (IsStreamFault l schema.now) }
+    ensures walked { Walked (D.state disk.old) (D.state disk.new) engine.old engine.new }
+    ensures cause { IsErrOf result OpenFault.Failed
+        → Rose (D.state disk.old).faults (D.state disk.new).faults }
+{
+    let Some(family) = schema.stream_family else {
+        return Ok(());
+    };
+    let next = engine.next_number();
+    test_changes(alloc, disk, engine, schema, next, family)
+}
+
+/// Tests the rows of the stream's family, one after the other.
+fn test_changes<D: Disk>(
+    alloc: Global,
+    disk: &mut D,
+    engine: &mut Engine,
+    schema: &TableSchema,
+    next: u64,
+    family: u32,
+) -> Result<(), OpenFault>
+    ensures read { IsTrue (D.state disk.old).tells → (l : Layout)
+        → Reads (D.state disk.old) engine.old l
+        → OnOk result (ChangesWhere (λ key. Unit {0}) l schema.now next family) }
+    ensures wrong { IsTrue (D.state disk.old).tells → (l : Layout)
+        → Reads (D.state disk.old) engine.old l
+        → IfErr result (IsChangeFault l schema.now next family) }
+    ensures walked { Walked (D.state disk.old) (D.state disk.new) engine.old engine.new }
+    ensures cause { IsErrOf result OpenFault.Failed
+        → Rose (D.state disk.old).faults (D.state disk.new).faults }
+{
+    let mut from = Bytes::from_vec(Vec::new(alloc));
+    'rows: for _ in 0..u64::MAX {
+        let (key, row) = match next_row(alloc, disk, engine, family, &from) {
+            Ok(Some(next)) => next,
+            Ok(None) => return Ok(()),
+            Err(fault) => return Err(fault),
+        };
+        match test_change(alloc, schema, next, &key, &row) {
+            Ok(()) => {}
+            Err(Unread::Bad) => return Err(OpenFault::BadRow { family, key }),
+            Err(Unread::NoMemory) => return Err(OpenFault::NoMemory),
+        }
+        match key_after(key.as_slice(), alloc) {
+            Ok(after) => from = after,
+            Err(_) => return Err(OpenFault::NoMemory),
+        }
+    }
+    Err(OpenFault::NoMemory)
+}
+
+/// Whether a row is that of a change which a table may keep before the next number.
+fn test_change(
+    alloc: Global,
+    schema: &TableSchema,
+    next: u64,
+    key: &Bytes,
+    row: &ShownRow,
+) -> Result<(), Unread>
+    ensures change { OnOk result (IsChangeRow schema.now next key.now row.now) }
+    ensures none { result ≡ Err Unread.Bad → IsChangeRow schema.now next key.now row.now → ⊥ }
+{
+    let change = change_at(alloc, key, row)?;
+    if may_keep(alloc, schema, next, &change)? {
+        Ok(())
+    } else {
+        Err(Unread::Bad)
+    }
+}
+
+/// Whether a table may keep a change: its number is below the next one, and its items differ and are of one place of the table.
+fn may_keep(
+    alloc: Global,
+    schema: &TableSchema,
+    next: u64,
+    change: &Change,
+) -> Result<bool, NoMemory>
+    requires read { IsReadChange (change_in change.now) }
+    ensures keeps { IfOk result (λ keeps.
+        IsTrue keeps ↔ IsChange schema.now next (change_in change.now)) }
+{
+    if change.number >= next || same(&change.old, &change.new) {
+        return Ok(false);
+    }
+    are_of_one(alloc, schema, &change.old, &change.new)
+}
+
+/// Whether both are one item, or neither is there.
+pub fn same(old: &Option<Item>, new: &Option<Item>) -> bool
+    ensures { result ≡ is_same old.now new.now }
+{
+    match (old, new) {
+        (None, None) => true,
+        (Some(old), Some(new)) => item_equal(old, new),
+        _ => false,
+    }
+}
+
+/// Whether two items, where they are there, are of one place of a table.
+fn are_of_one(
+    alloc: Global,
+    schema: &TableSchema,
+    old: &Option<Item>,
+    new: &Option<Item>,
+) -> Result<bool, NoMemory>
+    requires old { IfSome old.now IsReadItem }
+    requires new { IfSome new.now IsReadItem }
+    ensures one { IfOk result (λ one. IsTrue one ↔ AreOfOne schema.now old.now new.now) }
+{
+    match (old, new) {
+        (Some(old), Some(new)) => {
+            let at = place_held(alloc, schema, old)?;
+            let there = place_held(alloc, schema, new)?;
+            Ok(are_one(&at, &there))
+        }
+        (Some(item), None) => Ok(place_held(alloc, schema, item)?.is_some()),
+        (None, Some(item)) => Ok(place_held(alloc, schema, item)?.is_some()),
+        (None, None) => Ok(true),
+    }
+}
+
+/// Whether both places are there, and one.
+fn are_one(a: &Option<Bytes>, b: &Option<Bytes>) -> bool
+    ensures { IsTrue result ↔ (place : List ℕ) × (a.now ≡ Some place) × (b.now ≡ Some place) }
+{
+    match (a, b) {
+        (Some(a), Some(b)) => a == b,
+        _ => false,
+    }
+}
+
+/// The place of a table at which an item may have stood, None where it is too large or hasn't a key that fits.
+fn place_held(alloc: Global, schema: &TableSchema, item: &Item) -> Result<Option<Bytes>, NoMemory>
+    requires { IsReadItem item.now }
+    ensures place { IfOk result (λ o. (place : List ℕ)
+        → (o ≡ Some place) ↔ WasStored schema.now place item.now) }
+{
+    let place = place_of(alloc, schema, item)?;
+    if key_fits(schema, item) && item_size_within(item, LARGEST_ITEM).is_some() {
+        Ok(place)
+    } else {
+        Ok(None)
+    }
+}

@@ -1,0 +1,302 @@
+//! The catalog of a store that is opened: the next family, and the descriptions of its tables.
+
+ghost use Rattle.std.specs.Prelude.{◌≡◌, ◌↔◌, ◌==◌, ◌++◌, None, Err, IfOk, IfErr, OnOk, IsErrOf, IsTrue, map as each};
+ghost use Rattle.std.specs.FinMap as map;
+ghost use Rattle.std.specs.List.{list_any};
+ghost use Rattle.alt_base.specs.Counts.{Rose};
+ghost use Rattle.alt_engine.specs.InHand.{Reads};
+ghost use Rattle.alt_engine.specs.Layout.{Layout};
+ghost use Rattle.alt_machine.specs.State.{families_of};
+ghost use Rattle.alt_schema.specs.Described.{IsDescription};
+ghost use Rattle.alt_schema.specs.Held.{IsHeld};
+ghost use Rattle.alt_schema.specs.declared.schema.TableSchema.{TableSchema};
+ghost use Rattle.alt_opening.specs.Opening.{IsApart, IsCatalog, IsGood, IsRowFault, IsNextFamily, IsReadOn, IsReadUpTo, IsTableAt, MayStand, are_families, are_within, are_apart, is_number, passes};
+ghost use Rattle.alt_opening.specs.Scans.{Walked};
+
+use crate::catalog::Catalog;
+use crate::catalog_row::{CATALOG, family_of_row, schema_of_row};
+use crate::faults::OpenFault;
+use crate::made::is_as_made;
+use crate::scan::{key_after, next_row, unread};
+use alt_base::NoMemory;
+use alt_cells::ShownRow;
+use alt_disk::Disk;
+use alt_engine::Engine;
+use alt_fields::Bytes;
+use alt_machine::MOST_TABLES;
+use alt_schema::{IndexSchema, TableSchema};
+use alt_views::Unread;
+use std::alloc::Global;
+
+/// What the rows of a catalog tell: the descriptions of its tables, and the next family.
+#[derive(Drop)]
+pub(crate) struct Opened {
+    pub(crate) catalog: Catalog,
+    pub(crate) family: u32,
+}
+
+/// Reads the catalog of a store, and tests each of its rows.
+pub(crate) fn read_catalog<D: Disk>(
+    alloc: Global,
+    disk: &mut D,
+    engine: &mut Engine,
+) -> Result<Opened, OpenFault>
+    ensures read { IsTrue (D.state disk.old).tells → (l : Layout)
+        → Reads (D.state disk.old) engine.old l
+        → IfOk result (λ o. IsCatalog l o.family o.catalog) }
+    ensures wrong { IsTrue (D.state disk.old).tells → (l : Layout)
+        → Reads (D.state disk.old) engine.old l → IfErr result (IsRowFault l) }
+    ensures walked { Walked (D.state disk.old) (D.state disk.new) engine.old engine.new }
+    ensures cause { IsErrOf result OpenFault.Failed
+        → Rose (D.state disk.old).faults (D.state disk.new).faults }
+{
+    let family = match read_family(alloc, disk, engine) {
+        Ok(family) => family,
+        Err(fault) => return Err(fault),
+    };
+    let mut catalog = Catalog::new(alloc);
+    let Ok(mut from) = key_after(&[], alloc) else {
+        return Err(OpenFault::NoMemory);
+    };
+    'rows: for _ in 0..u64::MAX {
+        match read_table(alloc, disk, engine, family, &mut catalog, &from) {
+            Ok(Some(after)) => from = after,
+            Ok(None) => return Ok(Opened { catalog, family }),
+            Err(fault) => return Err(fault),
+        }
+    }
+    Err(OpenFault::NoMemory)
+}
+
+/// Reads the first row of the catalog from a key on, and adds its table. It tells the key behind it, and None where there is no row.
+fn read_table<D: Disk>(
+    alloc: Global,
+    disk: &mut D,
+    engine: &mut Engine,
+    family: u32,
+    catalog: &mut Catalog,
+    from: &Bytes,
+) -> Result<Option<Bytes>, OpenFault>
+    ensures read { IsTrue (D.state disk.old).tells → (l : Layout)
+        → Reads (D.state disk.old) engine.old l → IsReadUpTo l family from.now catalog.old
+        → IfOk result (IsReadOn l family catalog.new) }
+    ensures wrong { IsTrue (D.state disk.old).tells → (l : Layout)
+        → Reads (D.state disk.old) engine.old l → IsReadUpTo l family from.now catalog.old
+        → IfErr result (IsRowFault l) }
+    ensures walked { Walked (D.state disk.old) (D.state disk.new) engine.old engine.new }
+    ensures cause { IsErrOf result OpenFault.Failed
+        → Rose (D.state disk.old).faults (D.state disk.new).faults }
+{
+    let number = engine.next_number();
+    let (name, row) = match next_row(alloc, disk, engine, CATALOG, from) {
+        Ok(Some(next)) => next,
+        Ok(None) => return Ok(None),
+        Err(fault) => return Err(fault),
+    };
+    match add_table(alloc, catalog, number, family, &name, &row) {
+        Ok(()) => {}
+        Err(Unread::Bad) => {
+            return Err(OpenFault::BadRow {
+                family: CATALOG,
+                key: name,
+            });
+        }
+        Err(Unread::NoMemory) => return Err(OpenFault::NoMemory),
+    }
+    match key_after(name.as_slice(), alloc) {
+        Ok(after) => Ok(Some(after)),
+        Err(_) => Err(OpenFault::NoMemory),
+    }
+}
+
+/// The next family, which the row at the empty key tells.
+fn read_family<D: Disk>(alloc: Global, disk: &mut D, engine: &mut Engine) -> Result<u32, OpenFault>
+    ensures read { IsTrue (D.state disk.old).tells → (l : Layout)
+        → Reads (D.state disk.old) engine.old l → IfOk result (IsNextFamily l) }
+    ensures wrong { IsTrue (D.state disk.old).tells → (l : Layout)
+        → Reads (D.state disk.old) engine.old l → IfErr result (IsRowFault l) }
+    ensures walked { Walked (D.state disk.old) (D.state disk.new) engine.old engine.new }
+    ensures cause { IsErrOf result OpenFault.Failed
+        → Rose (D.state disk.old).faults (D.state disk.new).faults }
+{
+    let row = match engine.row(disk, CATALOG, &[]) {
+        Ok(row) => row,
+        Err(fault) => return Err(unread(fault)),
+    };
+    match family_of_row(row.as_ref()) {
+        Some(family) => Ok(family),
+        None => Err(OpenFault::BadRow {
+            family: CATALOG,
+            key: Bytes::from_vec(Vec::new(alloc)),
+        }),
+    }
+}
+
+/// Adds the table whose row stands at a name, where that may be so beside the tables before it.
+fn add_table(
+    alloc: Global,
+    catalog: &mut Catalog,
+    number: u64,
+    family: u32,
+    name: &Bytes,
+    row: &ShownRow,
+) -> Result<(), Unread>
+    ensures added { OnOk result ((d : TableSchema)
+        × IsTableAt number family catalog.old name.now row.now d
+        × (catalog.new ≡ map.insert catalog.old d.name d)) }
+    ensures none { result ≡ Err Unread.Bad → (d : TableSchema)
+        → IsTableAt number family catalog.old name.now row.now d → ⊥ }
+{
+    let schema = test_table(alloc, catalog, number, family, name, row)?;
+    catalog.add(schema)?;
+    Ok(())
+}
+
+/// The description whose row stands at a name, where that may be so beside the tables before it.
+fn test_table(
+    alloc: Global,
+    catalog: &Catalog,
+    number: u64,
+    family: u32,
+    name: &Bytes,
+    row: &ShownRow,
+) -> Result<TableSchema, Unread>
+    ensures table { IfOk result (IsTableAt number family catalog.now name.now row.now) }
+    ensures none { result ≡ Err Unread.Bad → (d : TableSchema)
+        → IsTableAt number family catalog.now name.now row.now d → ⊥ }
+{
+    let schema = schema_of_row(alloc, row)?;
+    if may_stand(alloc, catalog, number, family, name, &schema)? {
+        Ok(schema)
+    } else {
+        Err(Unread::Bad)
+    }
+}
+
+/// Whether a description may be that of a table of that name, beside the tables before it.
+fn may_stand(
+    alloc: Global,
+    catalog: &Catalog,
+    number: u64,
+    family: u32,
+    name: &Bytes,
+    schema: &TableSchema,
+) -> Result<bool, NoMemory>
+    requires description { IsDescription schema.now }
+    requires held { IsHeld schema.now }
+    ensures may { IfOk result (λ may. IsTrue may
+        ↔ MayStand number family catalog.now name.now schema.now) }
+{
+    let families = families_of(alloc, schema)?;
+    if catalog.len() >= MOST_TABLES {
+        return Ok(false);
+    }
+    if !is_good(number, family, name, schema, families.as_slice()) {
+        return Ok(false);
+    }
+    if !is_new(catalog, schema) {
+        return Ok(false);
+    }
+    Ok(is_apart(catalog, schema, families.as_slice()))
+}
+
+/// Whether it may be that of a table of that name, whatever other tables there are.
+fn is_good(number: u64, family: u32, name: &Bytes, schema: &TableSchema, families: &[u32]) -> bool
+    requires description { IsDescription schema.now }
+    requires held { IsHeld schema.now }
+    requires families { families.now ≡ families_of schema.now }
+    ensures good { IsTrue result ↔ IsGood number family name.now schema.now }
+{
+    passes(number, family, name, schema, families)
+}
+
+fn passes(number: u64, family: u32, name: &Bytes, schema: &TableSchema, families: &[u32]) -> bool
+    requires families { families.now ≡ families_of schema.now }
+    ensures { result ≡ passes number family name.now schema.now }
+{
+    if schema.name.as_str().as_bytes() != name.as_slice() {
+        return false;
+    }
+    if !is_as_made(schema) {
+        return false;
+    }
+    is_number(number, schema.number) && are_families(family, families)
+}
+
+/// Whether a number was taken before the next one.
+fn is_number(next: u64, number: u64) -> bool
+    ensures { result ≡ is_number next number }
+{
+    1 <= number && number < next
+}
+
+fn are_families(next: u32, families: &[u32]) -> bool
+    ensures { result ≡ are_families next families.now }
+{
+    are_within(families, next) && are_apart(families)
+}
+
+/// Whether no table has its name.
+fn is_new(catalog: &Catalog, schema: &TableSchema) -> bool
+    ensures new { IsTrue result ↔ (map.get catalog.now schema.now.name ≡ None) }
+{
+    catalog.get(schema.name.as_str()).is_none()
+}
+
+/// Whether no table has its number, or one of its families.
+fn is_apart(catalog: &Catalog, schema: &TableSchema, families: &[u32]) -> bool
+    requires families { families.now ≡ families_of schema.now }
+    ensures apart { IsTrue result ↔ IsApart catalog.now schema.now }
+{
+    !catalog.clashes(schema.number, families)
+}
+
+/// The families of a table.
+fn families_of(alloc: Global, schema: &TableSchema) -> Result<Vec<u32>, NoMemory>
+    ensures { IfOk result (λ families. families.items ≡ families_of schema.now) }
+{
+    let mut families = Vec::new(alloc);
+    families.push(schema.family)?;
+    push_families(&mut families, schema.locals.as_slice())?;
+    push_families(&mut families, schema.globals.as_slice())?;
+    if let Some(family) = schema.stream_family {
+        families.push(family)?;
+    }
+    Ok(families)
+}
+
+fn push_families(families: &mut Vec<u32>, indexes: &[IndexSchema]) -> Result<(), NoMemory>
+    ensures { OnOk result (families.new.items
+        ≡ families.old.items ++ each (λ i. i.family) indexes.now) }
+{
+    for index in indexes {
+        families.push(index.family)?;
+    }
+    Ok(())
+}
+
+/// Whether each family is from 1 on and below the next.
+fn are_within(families: &[u32], next: u32) -> bool
+    ensures { result ≡ are_within next families.now }
+{
+    families.iter().all(|family| 1 <= *family && *family < next)
+}
+
+/// Whether no family stands twice.
+fn are_apart(families: &[u32]) -> bool
+    ensures { result ≡ are_apart families.now }
+{
+    for (i, family) in families.iter().enumerate() {
+        if has_family(&families[i + 1..], *family) {
+            return false;
+        }
+    }
+    true
+}
+
+/// Whether a family is one of these.
+pub(crate) fn has_family(families: &[u32], family: u32) -> bool
+    ensures { result ≡ list_any (λ f. f == family) families.now }
+{
+    families.iter().any(|f| *f == family)
+}

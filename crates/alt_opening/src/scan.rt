@@ -1,0 +1,146 @@
+//! The rows of a family, one after the other, and the items of a table that is opened.
+
+ghost use Rattle.std.specs.Prelude.{◌≡◌, ◌↔◌, ◌++◌, ◌∷◌, [], List, Err, IfOk, IfErr, OnOk, IsErrOf, IsTrue};
+ghost use Rattle.alt_base.specs.Counts.{Rose};
+ghost use Rattle.alt_engine.specs.InHand.{Reads};
+ghost use Rattle.alt_engine.specs.Layout.{Layout};
+ghost use Rattle.alt_machine.specs.Valid.{IsStored};
+ghost use Rattle.alt_views.specs.ItemRows.{IsReadItem};
+ghost use Rattle.alt_opening.specs.Scans.{Walked, IsNextRow, ItemsRead, IsItemFault, IsDeviceFault, IsItemAt};
+ghost use Rattle.alt_value.specs.Tree.{Pair};
+
+use crate::faults::OpenFault;
+use alt_base::NoMemory;
+use alt_cells::ShownRow;
+use alt_disk::Disk;
+use alt_engine::{Engine, EngineFault};
+use alt_fields::Bytes;
+use alt_keyorder::KeyRange;
+use alt_machine::LARGEST_ITEM;
+use alt_schema::{TableSchema, index_keys_fit};
+use alt_value::{Item, item_size_within};
+use alt_views::{Unread, item_of_row, key_fits, place_of};
+use std::alloc::Global;
+
+/// The first row that a family shows from a key on, None where there is none.
+pub(crate) fn next_row<D: Disk>(
+    alloc: Global,
+    disk: &mut D,
+    engine: &mut Engine,
+    family: u32,
+    from: &Bytes,
+) -> Result<Option<(Bytes, ShownRow)>, OpenFault>
+    ensures row { IsTrue (D.state disk.old).tells → (l : Layout)
+        → Reads (D.state disk.old) engine.old l → IfOk result (IsNextRow l family from.now) }
+    ensures walked { Walked (D.state disk.old) (D.state disk.new) engine.old engine.new }
+    ensures fault { IfErr result IsDeviceFault }
+    ensures cause { IsErrOf result OpenFault.Failed
+        → Rose (D.state disk.old).faults (D.state disk.new).faults }
+{
+    let Ok(from) = from.copy() else {
+        return Err(OpenFault::NoMemory);
+    };
+    let range = KeyRange { from, to: None };
+    let mut page = Vec::new(alloc);
+    match engine.rows(disk, family, &range, true, 1, &mut page) {
+        Ok(()) => Ok(page.pop()),
+        Err(fault) => Err(unread(fault)),
+    }
+}
+
+/// A fault of a walk, as one of the opening.
+pub(crate) fn unread(fault: EngineFault) -> OpenFault
+    ensures fault { IsDeviceFault result }
+    ensures cause { result ≡ OpenFault.Failed → fault ≡ EngineFault.Failed }
+{
+    match fault {
+        EngineFault::Spent { .. } => OpenFault::NoMemory,
+        EngineFault::Failed => OpenFault::Failed,
+        EngineFault::NoMemory => OpenFault::NoMemory,
+    }
+}
+
+/// The least key above that one.
+pub(crate) fn key_after(key: &[u8], alloc: Global) -> Result<Bytes, NoMemory>
+    ensures { IfOk result (λ after. after ≡ key.now ++ 0 ∷ []) }
+{
+    let mut bytes = Vec::from_slice(alloc, key)?;
+    bytes.push(0)?;
+    Ok(Bytes::from_vec(bytes))
+}
+
+/// Tests that each row of a table's family is that of an item which may stand there.
+pub(crate) fn read_items<D: Disk>(
+    alloc: Global,
+    disk: &mut D,
+    engine: &mut Engine,
+    schema: &TableSchema,
+) -> Result<(), OpenFault>
+    ensures read { IsTrue (D.state disk.old).tells → (l : Layout)
+        → Reads (D.state disk.old) engine.old l → OnOk result (ItemsRead l schema.now) }
+    ensures wrong { IsTrue (D.state disk.old).tells → (l : Layout)
+        → Reads (D.state disk.old) engine.old l → IfErr result (IsItemFault l schema.now) }
+    ensures walked { Walked (D.state disk.old) (D.state disk.new) engine.old engine.new }
+    ensures cause { IsErrOf result OpenFault.Failed
+        → Rose (D.state disk.old).faults (D.state disk.new).faults }
+{
+    let mut from = Bytes::from_vec(Vec::new(alloc));
+    'rows: for _ in 0..u64::MAX {
+        let (key, row) = match next_row(alloc, disk, engine, schema.family, &from) {
+            Ok(Some(next)) => next,
+            Ok(None) => return Ok(()),
+            Err(fault) => return Err(fault),
+        };
+        match test_item(alloc, schema, &key, &row) {
+            Ok(()) => {}
+            Err(Unread::Bad) => {
+                return Err(OpenFault::BadRow {
+                    family: schema.family,
+                    key,
+                });
+            }
+            Err(Unread::NoMemory) => return Err(OpenFault::NoMemory),
+        }
+        match key_after(key.as_slice(), alloc) {
+            Ok(after) => from = after,
+            Err(_) => return Err(OpenFault::NoMemory),
+        }
+    }
+    Err(OpenFault::NoMemory)
+}
+
+/// Whether a row is that of an item that may stand at its key.
+fn test_item(alloc: Global, schema: &TableSchema, key: &Bytes, row: &ShownRow) -> Result<(), Unread>
+    ensures item { OnOk result ((item : List Pair) × IsItemAt schema.now key.now row.now item) }
+    ensures none { result ≡ Err Unread.Bad → (item : List Pair)
+        → IsItemAt schema.now key.now row.now item → ⊥ }
+{
+    let item = item_of_row(alloc, row)?;
+    if stands_at(alloc, schema, key, &item)? {
+        Ok(())
+    } else {
+        Err(Unread::Bad)
+    }
+}
+
+/// Whether an item may stand at a key of a table: it is the place of the item, whose keys fit and which isn't too large.
+fn stands_at(
+    alloc: Global,
+    schema: &TableSchema,
+    key: &Bytes,
+    item: &Item,
+) -> Result<bool, NoMemory>
+    requires { IsReadItem item.now }
+    ensures stands { IfOk result (λ stands. IsTrue stands ↔ IsStored schema.now key.now item.now) }
+{
+    let place = place_of(alloc, schema, item)?;
+    let Some(place) = place else {
+        return Ok(false);
+    };
+    Ok(
+        place == *key
+            && key_fits(schema, item)
+            && index_keys_fit(schema, item)
+            && item_size_within(item, LARGEST_ITEM).is_some(),
+    )
+}

@@ -1,8 +1,0 @@
--- The empty list is the empty map.
-use Rattle.std.proofs.Common.{ap, ◌∙◌}
-use Rattle.alt_tables.proofs.Listed.{tables}
-use Rattle.alt_tables.proofs.Sorted.{map-nothing}
-use Rattle.alt_tables.proofs.catalog.Catalog.new.Goals as goal
-
-pub returns : goal.returns
-returns c = record { empty = ap tables c.new.ensures.items ∙ map-nothing }

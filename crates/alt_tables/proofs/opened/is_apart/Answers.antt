@@ -1,9 +1,0 @@
--- No table clashes where all are apart.
-use Rattle.alt_tables.proofs.GoodLaws.{clash_is}
-use Rattle.alt_tables.proofs.opened.is_apart.Goals as goal
-
-pub returns : goal.returns
-returns c = record {
-  apart = clash_is c.args.catalog.now c.args.families.now c.args.schema.now c.clashes.result
-      c.requires.families c.clashes.ensures;
-}

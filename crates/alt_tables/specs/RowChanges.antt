@@ -1,0 +1,39 @@
+-- The changes of rows that a write of the state makes (docs/formats/table-rows.md).
+use Rattle.std.specs.Prelude.{ℕ, List, [], ◌∷◌, ◌++◌, Option, Some, None, option_map}
+use Rattle.alt_cells.specs.declared.batch.RowChange.{RowChange}
+use Rattle.alt_cells.specs.Changes.{change_between}
+use Rattle.alt_changes.specs.ChangeRows.{row_changes}
+use Rattle.alt_engine.specs.InHand.{batch_write}
+use Rattle.alt_engine.specs.Layout.{Layout, IsPast, with_write}
+use Rattle.alt_machine.specs.Changes.{change_left}
+use Rattle.alt_machine.specs.State.{State}
+use Rattle.alt_machine.specs.Valid.{IsValid}
+use Rattle.alt_schema.specs.declared.schema.TableSchema.{TableSchema}
+use Rattle.alt_views.specs.IndexRows.{index_changes}
+use Rattle.alt_views.specs.ItemRows.{item_columns}
+use Rattle.alt_value.specs.Tree.{Pair}
+use Rattle.alt_opening.specs.StateRows.{Shows, IsHeldWhole, catalog_family, next_row, table_row}
+
+-- of an item, by the write of a number at a moment: the change of its row, those of its rows in the indexes, and the row that the
+-- stream gets
+abbrev pub item_changes : TableSchema → ℕ → ℕ → List ℕ → Option (List Pair) → Option (List Pair)
+    → List RowChange
+item_changes d number moment place old new = change_between d.family place
+    (option_map item_columns old) (option_map item_columns new)
+    ∷ (index_changes d old new ++ row_changes d (change_left number moment old new))
+
+-- of a new table: its description, and the next family
+abbrev pub creation_changes : ℕ → ℕ → TableSchema → List RowChange
+creation_changes before after d = change_between catalog_family d.name None (Some (table_row d))
+    ∷ change_between catalog_family [] (next_row before) (next_row after) ∷ []
+
+-- of a table that is dropped: its description goes, and its rows stay where nobody looks
+abbrev pub drop_changes : TableSchema → List RowChange
+drop_changes d = change_between catalog_family d.name (Some (table_row d)) None ∷ []
+
+-- These row changes, as the next write, turn the rows of one state into those of another.
+pub record Turns (changes : List RowChange) (s r : State) : Type 0 where
+  pub shows : (l : Layout) → IsPast l → Shows l s
+      → Shows (with_write l (batch_write l changes)) r
+  pub valid : IsValid r
+  pub held : IsHeldWhole r

@@ -1,0 +1,10 @@
+pub mod Answered
+pub mod Changes
+pub mod Entries
+pub mod Faults
+pub mod Keys
+pub mod Meets
+pub mod Names
+pub mod Operators
+pub mod Trees
+pub mod Values

@@ -1,0 +1,74 @@
+-- The trees that are made of entries. Private contracts alone cite it, and `names_of` for its paths.
+use Rattle.std.specs.Prelude.{ℕ, Bool, true, false, List, [], ◌∷◌, map, Option, Some, None}
+use Rattle.alt_value.specs.declared.attr.Attr.{Attr}
+use Rattle.alt_expr.specs.declared.path.PathPart.{PathPart}
+use Rattle.alt_expr.specs.declared.path.PathPart.TheVariants as p
+use Rattle.alt_expr.specs.declared.cond.Operand.{Operand}
+use Rattle.alt_expr.specs.declared.cond.Operand.TheVariants as o
+use Rattle.alt_expr.specs.declared.cond.Cond.{Cond}
+use Rattle.alt_expr.specs.declared.cond.Cond.TheVariants as cond
+use Rattle.alt_expr.specs.declared.update.Action.{Action}
+use Rattle.alt_expr.specs.declared.update.Action.TheVariants as action
+use Rattle.alt_expr.specs.declared.update.Sum.TheVariants as sum
+use Rattle.alt_expr.specs.declared.update.Term.TheVariants as term
+use Rattle.alt_legacy.specs.Changes.{Change, put, add, remove, take, NamedChange}
+use Rattle.alt_legacy.specs.declared.entry.Entry.{Entry}
+use Rattle.alt_legacy.specs.declared.entry.Test.{Test}
+use Rattle.alt_legacy.specs.declared.entry.Test.TheVariants as t
+
+-- the path of one part that leads to the attribute of a name; a dot is a part of the name
+abbrev pub path : List ℕ → List PathPart
+path name = p.Name name ∷ []
+
+-- the attribute of a name
+abbrev pub at : List ℕ → Operand
+at name = o.At (path name)
+
+-- a given value
+abbrev pub given : Attr → Operand
+given v = o.Value v
+
+-- it contains the value
+abbrev pub has : List ℕ → Attr → Cond
+has name v = cond.Contains (at name) (given v)
+
+-- it is there, and doesn't
+abbrev pub has_not : List ℕ → Attr → Cond
+has_not name v = cond.All (cond.Exists (path name) ∷ cond.Not (has name v) ∷ [])
+
+-- the tree of a test of the attribute of a name
+abbrev pub tree_for : List ℕ → Test → Cond
+tree_for name (t.Compares by v) = cond.Compare by (at name) (given v)
+tree_for name (t.Between low high) = cond.Between (at name) (given low) (given high)
+tree_for name (t.Among vs) = cond.Among (at name) (map given vs)
+tree_for name t.There = cond.Exists (path name)
+tree_for name t.Missing = cond.NotExists (path name)
+tree_for name (t.Has v) = has name v
+tree_for name (t.HasNot v) = has_not name v
+tree_for name (t.Begins v) = cond.BeginsWith (at name) (given v)
+
+-- the tree of an entry
+abbrev pub tree_of : Entry → Cond
+tree_of e = tree_for e.name e.test
+
+-- OR or AND of conditions
+abbrev pub several : Bool → List Cond → Cond
+several true cs = cond.Any cs
+several false cs = cond.All cs
+
+-- the condition that several make together, of which there may be one alone, or none
+abbrev pub joined : Bool → List Cond → Option Cond
+joined any [] = None
+joined any (c ∷ []) = Some c
+joined any (c ∷ d ∷ cs) = Some (several any (c ∷ d ∷ cs))
+
+-- the action of a change of the attribute of a name
+abbrev pub action_for : List ℕ → Change → Action
+action_for name (put v) = action.Set (path name) (sum.One (term.Value v))
+action_for name (add v) = action.Add name v
+action_for name remove = action.Remove (path name)
+action_for name (take v) = action.Delete name v
+
+-- the action of an entry
+abbrev pub action_of : NamedChange → Action
+action_of c = action_for c.name c.change

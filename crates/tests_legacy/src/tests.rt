@@ -1,8 +1,0 @@
-mod forms;
-mod given;
-mod joined;
-mod keys;
-mod names;
-mod operators;
-mod updates;
-mod values;

@@ -15,11 +15,7 @@ use std::alloc::Global;
 const ROOM: usize = 1_000;
 
 /// The bytes of a write.
-pub(crate) fn write_of(
-    alloc: Global,
-    number: u64,
-    changes: &[RowChange],
-) -> Result<Vec<u8>, NoMemory>
+pub fn write_of(alloc: Global, number: u64, changes: &[RowChange]) -> Result<Vec<u8>, NoMemory>
     requires { number < 2 ^ 62 - 1 }
     ensures bytes { IfOk result (λ bytes. bytes.items
         ≡ write_bytes (record { number = number; changes = changes.now })) }

@@ -17,10 +17,12 @@ use std::alloc::Global;
 /// The number that no write takes: 2^62 - 1.
 const LAST_NUMBER: u64 = 4_611_686_018_427_387_903;
 
-/// Why nothing was read: the bytes are none of what was to be read, or memory was wanting.
+/// Why no write was read.
 #[derive(Clone, Copy, Debug, PartialEq, Eq, Drop)]
-pub(crate) enum Stop {
+pub enum Stop {
+    /// The bytes are none of what was to be read.
     Bad,
+    /// Memory was refused.
     NoMemory,
 }
 
@@ -36,11 +38,7 @@ impl From<NoMemory> for Stop {
 }
 
 /// The write whose bytes the bytes are: its number, which isn't below the least, and its changes.
-pub(crate) fn read_write(
-    alloc: Global,
-    least: u64,
-    bytes: &[u8],
-) -> Result<(u64, Vec<RowChange>), Stop>
+pub fn read_write(alloc: Global, least: u64, bytes: &[u8]) -> Result<(u64, Vec<RowChange>), Stop>
     ensures held { IfOk result
         (λ p. IsHeldWrite (record { number = p.0; changes = p.1.items })) }
     ensures least { IfOk result (λ p. least ≤ p.0) }

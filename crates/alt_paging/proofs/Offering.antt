@@ -1,7 +1,6 @@
 -- One item more is offered.
-use Rattle.std.proofs.Common.{◌≡◌, refl, sym, ap, ◌∙◌, cond, ℕ, ◌+◌, ◌-◌, ◌≤◌, ◌<◌, Bool, true, false, not, ◌&&◌, ◌||◌, List, [], ◌∷◌, ◌++◌, length, map, Option, Some, None, is_some, IfSome, unwrap_or, nat_le, ◌==◌, sum_by, arith, length-append}
+use Rattle.std.proofs.Common.{◌≡◌, refl, sym, ap, ◌∙◌, cond, ℕ, ◌+◌, ◌-◌, ◌<◌, Bool, true, false, not, ◌&&◌, ◌||◌, List, [], ◌∷◌, ◌++◌, length, map, Option, Some, None, is_some, IfSome, unwrap_or, nat_le, ◌==◌, sum_by, arith, length-append}
 use Rattle.std.specs.Prelude.{if◌then◌else◌}
-use Rattle.std.specs.List.{filter}
 use Rattle.std.proofs.lemmas.List.{map-append}
 use Rattle.std.proofs.lemmas.List.Elements.{filter-append}
 use Rattle.std.proofs.lemmas.List.Sums.{sum_by_push}
@@ -87,11 +86,11 @@ module _ (ask : PageAsk) (old new : Pager) (items : List (List Pair)) (item : Li
 
   kept_so : new.kept ≡ unless_counts ask.count_only
       (map (parts ask.paths) (passed (asked_of ask) (items ++ item ∷ [])))
-  kept_so = grows.kept ∙ (λ i. was.kept i ++ shown_of (was.for i) item)
+  kept_so = grows.kept was.looked ∙ (λ i. was.kept i ++ shown_of (was.for i) item)
       ∙ sym (kept_push ask items item)
 
   count_so : new.count ≡ length (passed (asked_of ask) (items ++ item ∷ []))
-  count_so = grows.count
+  count_so = grows.count was.looked
       ∙ (λ i. was.count i + (if passes (ap (λ (a : PageAsk). a.filter) was.for i) item
       then 1 else 0))
       ∙ sym (count_push ask items item)
@@ -100,6 +99,7 @@ module _ (ask : PageAsk) (old new : Pager) (items : List (List Pair)) (item : Li
   pub offered_one : WasOffered new ask (items ++ item ∷ [])
   offered_one = record {
     for = grows.ask ∙ was.for;
+    looked = grows.looked was.looked;
     kept = kept_so;
     count = count_so;
     scanned = scanned_so;

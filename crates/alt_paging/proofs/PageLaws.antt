@@ -1,9 +1,9 @@
 -- How the page of a list grows with the list: up to its end every item is examined, and from then on none.
-use Rattle.std.proofs.Common.{◌≡◌, refl, sym, ap, ◌∙◌, cond, ℕ, ◌+◌, ◌-◌, ◌*◌, ◌<◌, ◌≤◌, Bool, true, false, not, ◌||◌, List, [], ◌∷◌, ◌++◌, length, map, Option, Some, None, is_some, IfSome, unwrap_or, nat_le, sum_by, All, arith, append_assoc, append-nil, length-append}
-use Rattle.std.specs.List.{find, filter}
+use Rattle.std.proofs.Common.{◌≡◌, refl, sym, ap, ◌∙◌, cond, ℕ, ◌+◌, ◌*◌, ◌<◌, ◌≤◌, Bool, true, false, ◌||◌, List, [], ◌∷◌, ◌++◌, length, map, Option, Some, None, is_some, IfSome, unwrap_or, nat_le, sum_by, All, arith, append_assoc, append-nil, length-append}
+use Rattle.std.specs.List.{find}
 use Rattle.std.specs.Option.{option_or}
 use Rattle.std.proofs.lemmas.List.{map-append}
-use Rattle.std.proofs.lemmas.List.Elements.{filter-append, All-head, All-tail}
+use Rattle.std.proofs.lemmas.List.Elements.{All-head, All-tail}
 use Rattle.std.proofs.lemmas.List.Folds.{find-append}
 use Rattle.std.proofs.lemmas.List.Sums.{sum_by_push}
 use Rattle.alt_expr.specs.Pages.{Asked, Page, page_bytes, reaches, fills, prefixes, full_prefix, examined, ends_early, parts, passed, page_of}

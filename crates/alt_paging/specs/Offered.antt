@@ -1,7 +1,8 @@
 -- What a pager was offered, and the page of it.
-use Rattle.std.specs.Prelude.{◌≡◌, ℕ, Bool, not, ◌&&◌, ◌||◌, ◌==◌, ◌+◌, ◌-◌, List, [], ◌∷◌, ◌++◌, length, map, sum_by, if◌then◌else◌}
+use Rattle.std.specs.Prelude.{◌≡◌, Bool, not, ◌&&◌, ◌||◌, ◌==◌, ◌+◌, ◌-◌, List, [], ◌∷◌, ◌++◌, length, map, sum_by, if◌then◌else◌}
 use Rattle.alt_expr.specs.Pages.{Asked, page_bytes, examined, ends_early, passes, parts, passed, page_of}
 use Rattle.alt_paging.specs.Counted.{reached}
+use Rattle.alt_paging.specs.Looked.{IsLooked}
 use Rattle.alt_paging.specs.declared.ask.Page.{Page}
 use Rattle.alt_paging.specs.declared.ask.PageAsk.{PageAsk}
 use Rattle.alt_paging.specs.declared.pager.Pager.{Pager}
@@ -30,6 +31,7 @@ has_ended pager = pager.ended
 -- The pager was made for that ask and was offered these items, one after the other: all of them are examined.
 pub record WasOffered (pager : Pager) (ask : PageAsk) (items : List (List Pair)) : Type 0 where
   pub for : pager.ask ≡ ask
+  pub looked : IsLooked pager.look pager.ask
   pub kept : pager.kept ≡ unless_counts ask.count_only
       (map (parts ask.paths) (passed (asked_of ask) items))
   pub count : pager.count ≡ length (passed (asked_of ask) items)
@@ -48,8 +50,10 @@ shown_of ask item =
 -- an item is examined: it is kept and counted where it meets the filter, and its bytes are counted
 pub record Grows (old : Pager) (item : List Pair) (new : Pager) : Type 0 where
   pub ask : new.ask ≡ old.ask
-  pub kept : new.kept ≡ old.kept ++ shown_of old.ask item
-  pub count : new.count ≡ old.count + (if passes old.ask.filter item then 1 else 0)
+  pub looked : IsLooked old.look old.ask → IsLooked new.look new.ask
+  pub kept : IsLooked old.look old.ask → new.kept ≡ old.kept ++ shown_of old.ask item
+  pub count : IsLooked old.look old.ask
+      → new.count ≡ old.count + (if passes old.ask.filter item then 1 else 0)
   pub scanned : new.scanned ≡ old.scanned + 1
   pub left : new.left ≡ old.left - item_size item
   pub ended : new.ended ≡ (reached old.ask.limit new.scanned || (new.left == 0))

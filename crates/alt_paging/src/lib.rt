@@ -2,6 +2,7 @@
 #![tactic(auto)]
 
 mod ask;
+mod look;
 mod pager;
 
 pub use ask::{ItemList, Page, PageAsk};

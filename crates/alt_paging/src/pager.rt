@@ -1,17 +1,14 @@
 //! A pager examines the items of a list one after the other, and tells where the page ends.
 
-ghost use Rattle.std.specs.Prelude.{◌≡◌, ◌≢◌, ◌+◌, ◌-◌, ◌<◌, ◌≤◌, ◌∷◌, ◌++◌, [], ◌&&◌, not, false, if◌then◌else◌, IfOk, OnOk, OnErr};
+ghost use Rattle.std.specs.Prelude.{◌≡◌, ◌≢◌, ◌+◌, ◌-◌, ◌<◌, ◌≤◌, [], false, if◌then◌else◌};
 ghost use Rattle.std.specs.Option.{ForSome};
-ghost use Rattle.alt_expr.specs.Pages as spec;
-ghost use Rattle.alt_expr.specs.Pages.{parts};
 ghost use Rattle.alt_paging.specs.Counted.{reached};
 ghost use Rattle.alt_value.specs.Size.{item_size};
 
 use crate::ask::{ItemList, Page, PageAsk};
+use crate::look::{Look, keep};
 use alt_base::NoMemory;
-use alt_condeval::holds;
-use alt_expr::{Cond, Items, Paths};
-use alt_projection::project;
+use alt_expr::Items;
 use alt_value::{Item, item_size_within};
 use std::alloc::Global;
 
@@ -23,6 +20,8 @@ const PAGE_BYTES: u64 = 1_048_576;
 pub struct Pager {
     alloc: Global,
     ask: PageAsk,
+    /// What is asked of each item, made ready with the first one.
+    look: Option<Look>,
     kept: ItemList,
     count: u32,
     scanned: u32,
@@ -52,6 +51,7 @@ impl Pager {
         Pager {
             alloc,
             ask,
+            look: None,
             kept: Items::new(alloc),
             count: 0,
             scanned: 0,
@@ -115,33 +115,13 @@ impl Pager {
         ensures grows { OnOk result (Grows self.old item.now self.new) }
         ensures err { OnErr result (self.new ≡ self.old) }
     {
-        let met = passes(&self.ask.filter, item);
-        keep(self.alloc, &self.ask, met, item, &mut self.kept)?;
+        let met = keep(self.alloc, &self.ask, &mut self.look, item, &mut self.kept)?;
         self.scanned += 1;
         self.count += one_if(met);
         self.left = left_after(self.left, item);
         self.ended = reaches(self.ask.limit, self.scanned) || self.left == 0;
         Ok(())
     }
-}
-
-/// Keeps what is shown of an item that meets the filter, unless counts alone are wanted.
-fn keep(
-    alloc: Global,
-    ask: &PageAsk,
-    met: bool,
-    item: &Item,
-    kept: &mut ItemList,
-) -> Result<(), NoMemory>
-    ensures ok { OnOk result (kept.new ≡ kept.old
-        ++ (if met && not ask.now.count_only then parts ask.now.paths item.now ∷ [] else [])) }
-    ensures err { OnErr result (kept.new ≡ kept.old) }
-{
-    if met && !ask.count_only {
-        let shown = shown(alloc, &ask.paths, item)?;
-        return kept.push(shown);
-    }
-    Ok(())
 }
 
 fn one_if(met: bool) -> u32
@@ -169,25 +149,5 @@ fn reaches(limit: Option<u32>, scanned: u32) -> bool
     match limit {
         Some(most) => most <= scanned,
         None => false,
-    }
-}
-
-/// Whether an item meets the filter, if there is one.
-fn passes(filter: &Option<Cond>, item: &Item) -> bool
-    ensures { result ≡ spec.passes filter.now item.now }
-{
-    match filter {
-        Some(condition) => holds(condition, item),
-        None => true,
-    }
-}
-
-/// What paths choose of an item, or all of it where there are none.
-fn shown(alloc: Global, paths: &Option<Paths>, item: &Item) -> Result<Item, NoMemory>
-    ensures { IfOk result (λ i. i ≡ parts paths.now item.now) }
-{
-    match paths {
-        Some(paths) => project(alloc, paths, item),
-        None => item.copy(),
     }
 }

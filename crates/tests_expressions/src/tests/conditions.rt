@@ -1,8 +1,9 @@
 //! Conditions as texts: whether each holds of one worked item, and else its first fault.
 
 use crate::tests::given::{condition, item, names, values};
-use alt_condeval::holds;
+use alt_condeval::{holds, settled};
 use alt_expr::{Boxed, Cond, ExprFault};
+use alt_value::Item;
 use std::alloc::Global;
 
 static ITEM: &str =
@@ -16,7 +17,7 @@ static VALUES: &str =
 /// A text, and whether it holds; else its fault.
 type Row = (&'static str, Result<bool, ExprFault>);
 
-static ROWS: [Row; 132] = [
+static ROWS: [Row; 152] = [
     // NOT before AND before OR, and brackets over both.
     ("NOT a = :one AND b = :x OR a = :one", Ok(true)),
     ("a = :one OR a = :one AND b = :yz", Ok(true)),
@@ -139,6 +140,27 @@ static ROWS: [Row; 132] = [
     // The name of a function is a name where no bracket stands behind it.
     ("size = :x", Ok(false)),
     ("contains = contains", Ok(false)),
+    // Given values alone, and beside what the item has.
+    (":one = :one", Ok(true)),
+    (":one <> :one", Ok(false)),
+    (":one = :x", Ok(false)),
+    (":zero < :one", Ok(true)),
+    (":list = :turned", Ok(false)),
+    ("NOT :one = :two", Ok(true)),
+    (":two BETWEEN :one AND :three", Ok(true)),
+    (":two BETWEEN :one AND a", Ok(false)),
+    (":one BETWEEN a AND :three", Ok(true)),
+    (":three BETWEEN :nine AND a", Ok(false)),
+    (":x IN (:xy, :x)", Ok(true)),
+    (":one IN (:two, a)", Ok(true)),
+    (":two IN (:one, a, k)", Ok(false)),
+    ("begins_with(:xy, :x)", Ok(true)),
+    ("begins_with(:xy, b)", Ok(true)),
+    ("contains(:xy, :yz)", Ok(false)),
+    ("contains(:set, :two)", Ok(true)),
+    ("contains(:list, a)", Ok(true)),
+    (":one = :two OR a = :one", Ok(true)),
+    ("NOT (:one = :one AND a = :two)", Ok(true)),
     // Faults.
     ("", Err(ExprFault::Syntax)),
     ("a", Err(ExprFault::Syntax)),
@@ -174,8 +196,18 @@ fn parsed(alloc: Global, text: &str) -> Result<Boxed<Cond>, ExprFault> {
 /// Whether a condition holds of the item, if that is wanted, or doesn't.
 fn is_held(alloc: Global, condition: &Cond, want: Result<bool, ExprFault>) -> bool {
     match item(alloc, ITEM) {
-        Some(item) => want == Ok(holds(condition, &item)),
+        Some(item) => {
+            want == Ok(holds(condition, &item)) && is_settled(alloc, condition, &item, want)
+        }
         None => false,
+    }
+}
+
+/// The same of the condition in which what names no attribute is decided.
+fn is_settled(alloc: Global, condition: &Cond, item: &Item, want: Result<bool, ExprFault>) -> bool {
+    match settled(alloc, condition) {
+        Ok(condition) => want == Ok(holds(&condition, item)),
+        Err(_) => false,
     }
 }
 

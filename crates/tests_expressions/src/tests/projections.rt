@@ -2,7 +2,7 @@
 
 use crate::tests::given::{is_written, item, names};
 use alt_expr::{ExprFault, Paths};
-use alt_projection::{parse, project};
+use alt_projection::{Projection, parse, project};
 use alt_value::Item;
 use std::alloc::Global;
 
@@ -92,10 +92,24 @@ fn gives(alloc: Global, paths: &Paths, json: &str) -> bool {
     }
 }
 
+/// The same of paths that were made ready for many items.
+fn gives_ready(alloc: Global, paths: &Paths, json: &str) -> bool {
+    let Some(item) = item(alloc, ITEM) else {
+        return false;
+    };
+    let Ok(ready) = Projection::new(alloc, paths) else {
+        return false;
+    };
+    match ready.of(alloc, &item) {
+        Ok(part) => is_written(alloc, &part, json),
+        Err(_) => false,
+    }
+}
+
 fn is_row(alloc: Global, row: &Row) -> bool {
     match parsed(alloc, row.0) {
         Ok(paths) => match row.1 {
-            Ok(json) => gives(alloc, &paths, json),
+            Ok(json) => gives(alloc, &paths, json) && gives_ready(alloc, &paths, json),
             Err(_) => false,
         },
         Err(found) => match row.1 {

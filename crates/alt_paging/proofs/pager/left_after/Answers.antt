@@ -1,5 +1,5 @@
 -- An item has bytes, so less is left.
-use Rattle.std.proofs.Common.{arith, ◌≡◌, ◌<◌}
+use Rattle.std.proofs.Common.{arith}
 use Rattle.alt_paging.proofs.Sizes.{item_bytes, within_some}
 use Rattle.alt_value.specs.Size.{item_size}
 use Rattle.alt_paging.proofs.pager.left_after.Goals as goal

@@ -1,5 +1,5 @@
 -- So many more items neither reach the limit nor fill what is left of the bytes.
-use Rattle.std.proofs.Common.{arith, sym, ap, subst, ◌∙◌, ◌+◌, ◌<◌, length, Option, Some, ℕ, IfSome}
+use Rattle.std.proofs.Common.{arith, sym, ap, subst, ◌∙◌, ◌+◌, ◌<◌, length, Option, ℕ, IfSome}
 use Rattle.alt_paging.proofs.PageLaws.{ends_early-more}
 use Rattle.alt_paging.proofs.Sizes.{room_left}
 use Rattle.alt_paging.specs.declared.ask.PageAsk.{PageAsk}

@@ -10,9 +10,13 @@ use Rattle.alt_disk.specs.Fates.{Fates, Fits}
 use Rattle.alt_disk.specs.Disk.{DiskState, IsImage, IsSettled, IsNames}
 use Rattle.alt_disk.specs.Runs.{Quiet, Run, Spans}
 use Rattle.alt_disk.proofs.Runs.{quiet_spans, run_spans, spans_on}
-use Rattle.alt_gatelog.specs.Log.{IsLog, first_form, header, log_bytes, IsShortEntry}
-use Rattle.alt_engine.specs.Layout.{no_rows}
-use Rattle.alt_engine.specs.Image.{IsLayout, IsFresh, IsMade, HasVersion, first_version, versions_file, entries_file}
+use Rattle.alt_gatelog.specs.Log.{IsLog, first_form, header, log_bytes}
+use Rattle.alt_layout.specs.Layout.{no_rows}
+use Rattle.alt_layout.specs.Fresh.{IsFresh, IsMade, versions_file, entries_file}
+use Rattle.alt_layout.specs.Files.{IsLayout}
+use Rattle.alt_manifest.specs.Versions.{HasVersion, version_bytes}
+use Rattle.alt_manifest.specs.declared.version.Version.{Version}
+use Rattle.alt_layout.proofs.FreshLaws.{fresh_layout as layout_fresh}
 use Rattle.alt_engine.specs.Making.{HasSegment, LeavesNoVersions}
 use Rattle.std.specs.Prelude.{⊤}
 
@@ -20,20 +24,6 @@ use Rattle.std.specs.Prelude.{⊤}
 length-header : length (header first_form) ≡ 8
 unfolding header
 length-header = refl
-
--- the first version is short
-version_short : IsShortEntry first_version
-unfolding first_version
-version_short = lit< tt
-
--- a file of the first version has it
-has_version : (file : Option (List ℕ)) → file
-    ≡ Some (log_bytes first_form (first_version ∷ []) 0 [])
-    → HasVersion file
-has_version file is = record {
-  before = [];
-  is = record { gate = 0; closed = omega arith; rest = []; is = is; lengths = (version_short, tt) };
-}
 
 -- and one without entries is an empty log
 has_none : (file : Option (List ℕ)) → file ≡ Some (log_bytes first_form [] 0 [])
@@ -43,16 +33,9 @@ has_none file is = record { gate = 0; closed = omega arith; rest = []; is = is; 
 -- a stop leaves no row of a fresh store, and its first version
 pub fresh_layout : (s : DiskState) → IsFresh s → (image : ℕ → Option (List ℕ))
     → IsImage s s.moment image → IsLayout image no_rows
-fresh_layout s fresh image is_image = record {
-  version = has_version (image versions_file)
-      (fresh.versions_last (image versions_file) (is_image versions_file) ∙ fresh.versions);
-  writes = [];
-  entries = has_none (image entries_file)
-      (fresh.entries_last (image entries_file) (is_image entries_file) ∙ fresh.entries);
-  held = tt;
-  rising = tt;
-  is = refl;
-}
+fresh_layout s fresh image is_image = layout_fresh image
+    (fresh.versions_last (image versions_file) (is_image versions_file) ∙ fresh.versions)
+    (fresh.entries_last (image entries_file) (is_image entries_file) ∙ fresh.entries)
 
 -- a file stays settled while calls touch another one
 pub settled_on : (a b : DiskState) (f g : ℕ) (P : ℕ → Option (List ℕ) → Type 0) → Run a b f P
@@ -66,16 +49,16 @@ settled_on a b f g P run other settled left fits =
 -- ---- no version without its segment
 
 -- a file that is missing has no version
-no_version : (file : Option (List ℕ)) → file ≡ None → HasVersion file → ⊥
-no_version file missing version =
-    let both : None ≡ Some (log_bytes first_form (version.before ++ first_version ∷ [])
-    version.is.gate version.is.rest) = sym missing ∙ version.is.is in let f : ⊥ = cc in f
+no_version : (file : Option (List ℕ)) → file ≡ None → (v : Version) → HasVersion v file → ⊥
+no_version file missing v version =
+    let both : None ≡ Some (log_bytes first_form (version.before ++ version_bytes v ∷ [])
+    version.log.gate version.log.rest) = sym missing ∙ version.log.is in let f : ⊥ = cc in f
 
 -- where nothing is made no stop leaves one
 pub segment_quiet : (a b : DiskState) → LeavesNoVersions a → Quiet a b → Spans a b IsMade HasSegment
 segment_quiet a b none quiet = quiet_spans a b IsMade HasSegment quiet
-    (λ t image fits version. absurd (no_version (image versions_file)
-    (none (image versions_file) (fits versions_file)) version))
+    (λ t image fits v version. absurd (no_version (image versions_file)
+    (none (image versions_file) (fits versions_file)) v version))
 
 -- nor before the versions are made
 pub segment_first : (a b c : DiskState) → LeavesNoVersions a → Quiet a b → Run b c 2 (λ _ _. ⊤)
@@ -83,10 +66,10 @@ pub segment_first : (a b c : DiskState) → LeavesNoVersions a → Quiet a b →
 segment_first a b c none quiet run = spans_on a b c IsMade HasSegment
     (segment_quiet a b none quiet)
     (run_spans b c 2 (λ _ _. ⊤) IsMade HasSegment run (inr refl)
-    (λ t image here others version. absurd (no_version (image versions_file)
+    (λ t image here others v version. absurd (no_version (image versions_file)
     (none (image versions_file) (subst (λ (x : Fates). Fits x (image versions_file))
     (quiet.fates b.moment versions_file quiet.later (omega arith))
-    (others versions_file (omega arith)))) version)))
+    (others versions_file (omega arith)))) v version)))
 
 -- Behind the segment, which lasts, the versions may be made.
 pub segment_then : (a c d : DiskState) (f : ℕ) → f ≡ 1 → Spans a c IsMade HasSegment
@@ -94,7 +77,7 @@ pub segment_then : (a c d : DiskState) (f : ℕ) → f ≡ 1 → Spans a c IsMad
     → Spans a d IsMade HasSegment
 segment_then a c d f is_first so_far settled empty run = spans_on a c d IsMade HasSegment so_far
     (run_spans c d f (λ _ _. ⊤) IsMade HasSegment run (inl is_first)
-    (λ t image here others version. has_none (image entries_file)
+    (λ t image here others v version. has_none (image entries_file)
     (settled (image entries_file) (others entries_file (λ same. omega (arith, same, is_first)))
     ∙ empty)))
 

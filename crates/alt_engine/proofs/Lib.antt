@@ -1,12 +1,11 @@
-pub mod FamilyLaws
-pub mod FormatLaws
-pub mod ImageLaws
-pub mod LayoutLaws
+pub mod ApplyLaws
+pub mod FlushedLaws
+pub mod Fresh
+pub mod GatherLaws
+pub mod HandLaws
 pub mod MemoryLaws
-pub mod OneWrite
-pub mod ReadLaws
-pub mod RecoverLaws
-pub mod ShownLaws
+pub mod OpenLaws
+pub mod RangeLaws
+pub mod SourceLaws
+pub mod StepLaws
 pub mod SyncLaws
-mod Fresh
-mod Heads

@@ -9,7 +9,7 @@ use Rattle.alt_base.specs.Counts.{next_moment}
 use Rattle.alt_disk.specs.Fates.{Fates, Fits, synced}
 use Rattle.alt_disk.specs.Disk.{DiskState, Goes, Call, Synced, IsNames, now}
 use Rattle.alt_disk.specs.Runs.{Quiet}
-use Rattle.alt_engine.specs.Recovery.{Narrows, AreSynced, AllSynced}
+use Rattle.alt_engine.specs.Syncing.{Narrows, AreSynced, AllSynced}
 
 at_or_before : (t m n : ℕ) → t ≤ n → n ≤ next_moment m → m ≤ n → (t ≤ m) ⊎ (t ≡ n)
 at_or_before t m n le step later = grind arith

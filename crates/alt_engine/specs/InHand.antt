@@ -1,77 +1,109 @@
--- An engine in hand, and the disk on which its files lie.
-use Rattle.std.specs.Prelude.{◌≡◌, ◌≤◌, ◌⊎◌, ◌-◌, ◌^◌, ℕ, List, map, Option, option_and_then}
-use Rattle.std.specs.BTreeMap.{BTreeMap, get}
+-- An engine in hand over files, and the disk on which they lie.
+use Rattle.std.specs.Prelude.{◌≡◌, ◌⊎◌, ◌≤◌, ◌+◌, ◌-◌, ◌^◌, ℕ, List, [], ◌∷◌, length, map, min, Option, Some, None}
+use Rattle.std.specs.BTreeMap.{get}
+use Rattle.std.specs.FinMap.{empty, entries}
 use Rattle.std.specs.Ordering.{nat_cmp}
-use Rattle.alt_disk.specs.Fates.{Fits}
-use Rattle.alt_disk.specs.Disk.{DiskState, IsSettled, now}
-use Rattle.alt_cells.specs.Changes.{Columns, as_shown}
-use Rattle.alt_cells.specs.Keys.{key_cmp}
 use Rattle.alt_cells.specs.declared.batch.RowChange.{RowChange}
-use Rattle.alt_gatelog.specs.InHand.{file_of, Reads as LogReads}
-use Rattle.alt_engine.specs.Layout.{Layout, Write, no_rows, with_write, with_writes, AreRising, shown}
-use Rattle.alt_engine.specs.Image.{AllHeld, HasVersion, IsLayout, versions_file, entries_file, write_bytes}
+use Rattle.alt_disk.specs.Disk.{DiskState, IsSettled}
+use Rattle.alt_gatelog.specs.InHand.{file_of as log_file, Reads as LogReads}
+use Rattle.alt_rowfile.specs.InHand.{file_of as row_file, Reads as RowReads}
+use Rattle.alt_rowfile.specs.declared.rowfile.RowFile.{RowFile}
+use Rattle.alt_layout.specs.Layout.{Layout, RowMap}
+use Rattle.alt_writes.specs.Writes.{Write}
+use Rattle.alt_writes.specs.Bytes.{write_bytes}
+use Rattle.alt_layout.specs.Fresh.{versions_file}
+use Rattle.alt_memtable.specs.Rows.{most_bytes}
+use Rattle.alt_manifest.specs.InHand.{file_of as manifest_file, version_of, Reads as ManifestReads}
+use Rattle.alt_layout.specs.Families.{Held, flushed_of, files_of, layout_of, with_later}
+use Rattle.alt_layout.specs.Files.{EndsWith, IsLayout, IsOf, Stored, all_of}
+use Rattle.alt_layout.specs.Writes.{with_write}
 use Rattle.alt_engine.specs.declared.engine.Engine.{Engine}
 use Rattle.alt_engine.specs.declared.engine.EngineFault.{EngineFault}
-use Rattle.alt_engine.specs.declared.engine.EngineFault.TheVariants.{Spent, Failed, NoMemory}
+use Rattle.alt_engine.specs.declared.engine.EngineFault.TheVariants.{Spent, Damaged, Failed, NoMemory}
+use Rattle.alt_engine.specs.declared.engine.Family.{Family}
+use Rattle.alt_engine.specs.declared.engine.Limits.{Limits}
 
--- the rows of each family in memory, by key
-abbrev pub Families : Type 0
-Families = BTreeMap ℕ (BTreeMap (List ℕ) Columns)
+-- The rows that a family has in memory.
+abbrev pub rows_in : Option Family → RowMap
+rows_in None = empty
+rows_in (Some f) = f.table.0
 
--- the row in memory of a family and key; one without columns counts as none
-abbrev pub row_in : Families → ℕ → List ℕ → Option Columns
-row_in families family key = option_and_then as_shown
-    (option_and_then (λ rows. get key_cmp rows key) (get nat_cmp families family))
+-- The files that it has in hand.
+abbrev pub files_in : Option Family → List RowFile
+files_in None = []
+files_in (Some f) = f.files.items
 
--- the number of an engine's next write
+-- The family of this number, if the engine has one.
+abbrev pub family_of : Engine → ℕ → Option Family
+family_of e family = get nat_cmp e.families family
+
+-- The files in hand are those of these numbers, in order, and each reads as the rows that it is said to hold.
+abbrev pub AreOpen : DiskState → Held → List ℕ → List RowFile → Type 0
+AreOpen s held [] [] = Unit {0}
+AreOpen s held [] (f ∷ fs) = ⊥
+AreOpen s held (g ∷ gs) [] = ⊥
+AreOpen s held (g ∷ gs) (f ∷ fs) =
+    (row_file f ≡ g) × RowReads s f (entries (held g)) × AreOpen s held gs fs
+
+-- The number of the engine's next write.
 abbrev pub next_of : Engine → ℕ
 next_of e = e.next
 
--- The engine is that of these rows as the disk reads: the files hold them, and so does memory.
-pub record Reads (s : DiskState) (e : Engine) (l : Layout) : Type 0 where
-  pub version : HasVersion (s.file versions_file)
-  pub writes : List Write
-  pub file : file_of e.log ≡ entries_file
-  pub log : LogReads s e.log (map write_bytes writes)
-  pub held : AllHeld writes
-  pub rising : AreRising 1 writes
-  pub is : l ≡ with_writes no_rows writes
-  pub next : next_of e ≡ l.next_number
-  pub rows : (family : ℕ) (key : List ℕ) → row_in e.families family key ≡ shown l family key
+-- From how many bytes on a family is flushed, and from how many files on merged.
+abbrev pub limits_of : Engine → Limits
+limits_of e = e.limits
 
--- The engine stands for these rows: as the disk reads, and in whatever a stop now leaves.
+-- The number of the next file that it makes.
+abbrev pub next_file_of : Engine → ℕ
+next_file_of e = e.next_file
+
+-- How many bytes the entries of these writes have together.
+abbrev pub written_bytes : List Write → ℕ
+written_bytes [] = 0
+written_bytes (w ∷ ws) = length (write_bytes w) + written_bytes ws
+
+-- The engine is that of this layout as the disk reads: the files that the version in hand names hold it, each is the one in hand, and memory has what
+-- the log has and no row file. No file is there from the next one on.
+pub record Reads (s : DiskState) (e : Engine) (l : Layout) : Type 0 where
+  pub held : Held
+  pub parts : List (List Write)
+  pub writes : List Write
+  pub versions : ManifestReads s e.manifest
+  pub first : manifest_file e.manifest ≡ versions_file
+  pub stored : Stored s.file (version_of e.manifest) held parts
+  pub ends : EndsWith (version_of e.manifest) parts (log_file e.log) writes
+  pub log : LogReads s e.log (map write_bytes writes)
+  pub is : l ≡ layout_of (version_of e.manifest) held (all_of parts)
+  pub next : e.next ≡ l.next_number
+  pub length : e.length ≡ min (written_bytes (all_of parts)) most_bytes
+  pub free : (version_of e.manifest).next_file ≤ e.next_file
+  pub fresh : (f : ℕ) → e.next_file ≤ f → s.file f ≡ None
+  pub memory : (family : ℕ) → rows_in (family_of e family)
+      ≡ with_later (flushed_of (version_of e.manifest).families family) family empty (all_of parts)
+  pub opened : (family : ℕ) → AreOpen s held (files_of (version_of e.manifest).families family)
+      (files_in (family_of e family))
+
+-- The engine is that of this layout, and a stop now leaves of each of these files what reads give.
 pub record Stands (s : DiskState) (e : Engine) (l : Layout) : Type 0 where
   pub reads : Reads s e l
-  pub version : (left : Option (List ℕ)) → Fits (now s versions_file) left → HasVersion left
-  pub settled : IsSettled s entries_file
+  pub settled : (f : ℕ) → IsOf (version_of e.manifest) f → IsSettled s f
 
--- the write of a batch, with the next number
+-- The write of a batch has the next number.
 abbrev pub batch_write : Layout → List RowChange → Write
 batch_write l changes = record { number = l.next_number; changes = changes }
 
--- the rows before, or with the batch
+-- The image has the layout before, or the one with the batch.
 abbrev pub BeforeOrWith : Layout → List RowChange → ℕ → (ℕ → Option (List ℕ)) → Type 0
 BeforeOrWith l changes t image = IsLayout image l
     ⊎ IsLayout image (with_write l (batch_write l changes))
 
--- the files that a write touches
-abbrev pub IsWritten : ℕ → Type 0
-IsWritten f = f ≡ entries_file
-
--- A call left the engine as it was: it stands for what it stood for.
-pub record SameEngine (old new : Engine) : Type 0 where
-  pub next : next_of new ≡ next_of old
-  pub reads : (s : DiskState) (l : Layout) → Reads s old l → Reads s new l
-  pub stands : (s : DiskState) (l : Layout) → Stands s old l → Stands s new l
-
--- a fault that says that a number is spent names the next one, which is 2^62 - 1
+-- A fault that tells a spent number names the next one, which is 2^62 - 1; and no damage is told.
 abbrev pub IsSpentAt : ℕ → EngineFault → Type 0
 IsSpentAt next (Spent number) = (number ≡ next) × (2 ^ 62 - 1 ≤ next)
+IsSpentAt next (Damaged file at) = ⊥
 IsSpentAt next Failed = Unit {0}
 IsSpentAt next NoMemory = Unit {0}
 
--- no number is spent by a call that only reads
-abbrev pub IsUnspent : EngineFault → Type 0
-IsUnspent (Spent number) = ⊥
-IsUnspent Failed = Unit {0}
-IsUnspent NoMemory = Unit {0}
+-- A write touches any file but the one of the versions.
+abbrev pub IsWritten : ℕ → Type 0
+IsWritten f = f ≡ versions_file → ⊥

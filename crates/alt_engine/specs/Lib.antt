@@ -1,8 +1,10 @@
-pub mod Image
 pub mod InHand
 pub mod Laws
-pub mod Layout
 pub mod Making
 pub mod Memory
-pub mod Reading
+pub mod Opened
+pub mod Ranges
 pub mod Recovery
+pub mod Sources
+pub mod Syncing
+pub mod Working

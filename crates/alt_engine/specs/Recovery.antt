@@ -1,142 +1,108 @@
--- Why a store isn't recovered: where its files are no store's.
-use Rattle.std.specs.Prelude.{◌≡◌, ◌≢◌, ◌≤◌, ◌⊎◌, ◌+◌, ◌==◌, ◌++◌, ℕ, true, List, [], ◌∷◌, map, length, get_or, Option, Some}
-use Rattle.std.specs.List.{list_any}
-use Rattle.alt_disk.specs.Fates.{Fits, synced}
-use Rattle.alt_disk.specs.Disk.{DiskState, bytes_or_none, now}
-use Rattle.alt_disk.specs.declared.disk.DiskFault.{DiskFault}
-use Rattle.alt_disk.specs.declared.disk.DiskFault.TheVariants as disk
-use Rattle.alt_gatelog.specs.declared.fault.LogFault.{LogFault}
-use Rattle.alt_gatelog.specs.declared.fault.LogFault.TheVariants as log
+-- Why a store isn't recovered: its files have no layout; and what a recovery leaves on its way.
+use Rattle.std.specs.Prelude.{◌≡◌, ◌≢◌, ◌≤◌, ◌<◌, ◌+◌, ◌-◌, ◌++◌, ℕ, List, [], ◌∷◌, map, length, take, drop, Option, Some}
+use Rattle.std.specs.FinMap.{entries}
+use Rattle.sha2.specs.Sha256.{sha256}
+use Rattle.alt_disk.specs.Disk.{DiskState, IsImage, bytes_or_none}
 use Rattle.alt_gatelog.specs.Log.{IsLog, IsDamaged, first_form, gate_place}
-use Rattle.alt_engine.specs.Layout.{Layout, Write, AreRising, no_rows, with_writes, shown}
-use Rattle.alt_engine.specs.InHand.{Families, row_in}
-use Rattle.alt_engine.specs.Memory.{new_row, row_after}
-use Rattle.alt_engine.specs.Image.{AllHeld, IsHeldWrite, IsLayout, first_version, versions_file, entries_file, write_bytes}
+use Rattle.alt_rowfile.specs.Format.{IsRowFile}
+use Rattle.alt_rowfile.specs.Recovery.{HasDigest, NoRowFile}
+use Rattle.alt_writes.specs.Writes.{Write, AreRising}
+use Rattle.alt_writes.specs.Bytes.{AllHeld, write_bytes}
+use Rattle.alt_writes.specs.Reading.{IsNoWrite}
+use Rattle.alt_manifest.specs.Recovery.{IsBadLast}
+use Rattle.alt_manifest.specs.Versions.{HasVersion, IsIn}
+use Rattle.alt_manifest.specs.declared.version.FamilyVersion.{FamilyVersion}
+use Rattle.alt_manifest.specs.declared.version.Version.{Version}
+use Rattle.alt_layout.specs.Families.{IsMapBelow, next_after}
+use Rattle.alt_layout.specs.Files.{AreSegments, Image, IsLayout, all_of}
+use Rattle.alt_layout.specs.Fresh.{versions_file}
+use Rattle.alt_layout.specs.Layout.{Layout, RowMap}
 use Rattle.alt_engine.specs.declared.recover.RecoverFault.{RecoverFault}
-use Rattle.alt_engine.specs.declared.recover.RecoverFault.TheVariants.{Damaged, Failed, NoMemory}
+use Rattle.alt_engine.specs.declared.recover.RecoverFault.TheVariants.{Damaged, DigestDiffers, Failed, NoMemory}
 
--- the bytes are no write with this number or a later one
-abbrev pub IsNoWrite : ℕ → List ℕ → Type 0
-IsNoWrite number entry =
-    (w : Write) → IsHeldWrite w → number ≤ w.number → entry ≡ write_bytes w → ⊥
+-- ---- Files that have no layout.
 
--- Files are no store's at a place of one of them; a damaged entry is named by the place of its gate.
-pub data IsBadAt (files : ℕ → Option (List ℕ)) (f at : ℕ) : Type 0 where
-  -- file 1 is no log
+-- The file is a row file that the version names, of a family with this flushed number.
+pub record IsRowFileOf (v : Version) (f flushed : ℕ) : Type 0 where
+  pub before : List FamilyVersion
+  pub family : FamilyVersion
+  pub behind : List FamilyVersion
+  pub is : v.families ≡ before ++ family ∷ behind
+  pub files : IsIn family.files f
+  pub flushed_is : flushed ≡ family.flushed
+
+-- The file is a segment that the version names, behind these and before the others.
+pub record IsSegmentOf (v : Version) (before : List ℕ) (f : ℕ) : Type 0 where
+  pub behind : List ℕ
+  pub is : v.segments ≡ before ++ f ∷ behind
+
+-- Files have no layout at a place of one of them. A damaged entry is named by the place of its gate, and a row file by its beginning.
+pub data IsBadAt (files : Image) (f at : ℕ) : Type 0 where
+  -- File 1 is no log.
   no_versions : f ≡ versions_file → IsDamaged first_form at (bytes_or_none (files versions_file))
       → IsBadAt files f at
-  -- it has no entry
-  no_version : f ≡ versions_file → IsLog first_form [] (files versions_file) → at ≡ 8
+  -- It has no entry, or its last one is no version.
+  no_version : f ≡ versions_file → (es : List (List ℕ)) → IsLog first_form es (files versions_file)
+      → IsBadLast es at → IsBadAt files f at
+  -- A row file is too short, or its digest is right and it is no row file all the same.
+  no_rows : (v : Version) → HasVersion v (files versions_file) → (flushed : ℕ)
+      → IsRowFileOf v f flushed → at ≡ 0
+      → (length (bytes_or_none (files f)) < 32)
+      ⊎ (HasDigest (bytes_or_none (files f)) × NoRowFile (bytes_or_none (files f)))
       → IsBadAt files f at
-  -- its last entry is another version
-  other_version : f ≡ versions_file → (before : List (List ℕ)) (last : List ℕ)
-      → IsLog first_form (before ++ last ∷ []) (files versions_file) → last ≢ first_version
-      → at ≡ gate_place first_form (before ++ last ∷ []) (length before) → IsBadAt files f at
-  -- file 2 is no log
-  no_entries : f ≡ entries_file → IsDamaged first_form at (bytes_or_none (files entries_file))
+  -- A row file has a timestamp above the family's flushed number.
+  late_rows : (v : Version) → HasVersion v (files versions_file) → (flushed : ℕ)
+      → IsRowFileOf v f flushed → at ≡ 0 → (m : RowMap) (bytes : List ℕ) → files f ≡ Some bytes
+      → IsRowFile (entries m) bytes → (IsMapBelow (flushed + 1) m → ⊥) → IsBadAt files f at
+  -- A segment is no log.
+  no_segment : (v : Version) → HasVersion v (files versions_file) → (before : List ℕ)
+      → IsSegmentOf v before f → IsDamaged first_form at (bytes_or_none (files f))
       → IsBadAt files f at
-  -- an entry behind writes with rising numbers is no write with a later one
-  no_write : f ≡ entries_file → (writes : List Write) (entry : List ℕ) (behind : List (List ℕ))
-      → IsLog first_form (map write_bytes writes ++ entry ∷ behind) (files entries_file)
-      → AllHeld writes → AreRising 1 writes
-      → IsNoWrite (with_writes no_rows writes).next_number entry
+  -- Behind writes with rising numbers an entry is no write with a later one.
+  no_write : (v : Version) → HasVersion v (files versions_file) → (before : List ℕ)
+      → IsSegmentOf v before f → (parts : List (List Write)) → AreSegments files before parts
+      → (writes : List Write) (entry : List ℕ) (behind : List (List ℕ))
+      → IsLog first_form (map write_bytes writes ++ entry ∷ behind) (files f)
+      → AllHeld (all_of parts ++ writes) → AreRising 1 (all_of parts ++ writes)
+      → IsNoWrite (next_after 1 (all_of parts ++ writes)) entry
       → at ≡ gate_place first_form (map write_bytes writes ++ entry ∷ behind) (length writes)
       → IsBadAt files f at
 
--- damage is explained by the files
-abbrev pub ExplainsStore : (ℕ → Option (List ℕ)) → RecoverFault → Type 0
+-- A row file that the last version names doesn't end with the digest of what stands before it.
+pub record IsBadDigest (files : Image) (f : ℕ) (kept found : List ℕ) : Type 0 where
+  pub version : Version
+  pub last : HasVersion version (files versions_file)
+  pub flushed : ℕ
+  pub of_version : IsRowFileOf version f flushed
+  pub long : 32 ≤ length (bytes_or_none (files f))
+  pub kept_is : kept
+      ≡ drop (length (bytes_or_none (files f)) - 32) (bytes_or_none (files f))
+  pub found_is : found
+      ≡ sha256 (take (length (bytes_or_none (files f)) - 32) (bytes_or_none (files f)))
+  pub differ : found ≢ kept
+
+-- Damage and a digest that differs are explained by the files.
+abbrev pub ExplainsStore : Image → RecoverFault → Type 0
 ExplainsStore files (Damaged file at) = IsBadAt files file at
+ExplainsStore files (DigestDiffers file kept found) = IsBadDigest files file kept found
 ExplainsStore files Failed = Unit {0}
 ExplainsStore files NoMemory = Unit {0}
 
--- where they are damaged the files hold no rows
-abbrev pub HasNoLayout : (ℕ → Option (List ℕ)) → RecoverFault → Type 0
+-- Where either is told the files have no layout.
+abbrev pub HasNoLayout : Image → RecoverFault → Type 0
 HasNoLayout files (Damaged file at) = (l : Layout) → IsLayout files l → ⊥
+HasNoLayout files (DigestDiffers file kept found) = (l : Layout) → IsLayout files l → ⊥
 HasNoLayout files Failed = Unit {0}
 HasNoLayout files NoMemory = Unit {0}
 
--- Calls on whose way a stop leaves of each file what one left before them.
-pub record Narrows (old new : DiskState) : Type 0 where
-  pub later : old.moment ≤ new.moment
-  pub past : (t g : ℕ) → t ≤ old.moment → new.fates t g ≡ old.fates t g
-  pub each : (t g : ℕ) (left : Option (List ℕ)) → old.moment ≤ t → t ≤ new.moment
-      → Fits (new.fates t g) left → Fits (now old g) left
+-- ---- What is left.
 
--- each file that is there was synced: a stop leaves what reads give
-abbrev pub AllSynced : DiskState → Type 0
-AllSynced s = (f : ℕ) (bytes : List ℕ) → s.file f ≡ Some bytes → now s f ≡ synced bytes
+-- A stop at a moment leaves an image with the layout of one that a stop might have left before.
+pub record IsLeftLike (old : DiskState) (image : Image) : Type 0 where
+  pub before : Image
+  pub left : IsImage old old.moment before
+  pub same : (l : Layout) → IsLayout before l → IsLayout image l
 
--- so are the files of a list
-abbrev pub AreSynced : DiskState → List ℕ → Type 0
-AreSynced s list = (f : ℕ) (bytes : List ℕ) → list_any (λ g. f == g) list ≡ true
-    → s.file f ≡ Some bytes → now s f ≡ synced bytes
-
--- ---- on the way
-
--- the last entry is the version that there is
-abbrev pub EndsWithVersion : List (List ℕ) → Type 0
-EndsWithVersion entries = (before : List (List ℕ)) × (entries ≡ before ++ first_version ∷ [])
-
--- where versions are damaged there is none, or the last is another one, and its place is told
-abbrev pub ExplainsVersion : List (List ℕ) → RecoverFault → Type 0
-ExplainsVersion entries (Damaged file at) = (file ≡ versions_file)
-    × (((entries ≡ []) × (at ≡ 8)) ⊎ ((before : List (List ℕ)) × (last : List ℕ)
-    × (entries ≡ before ++ last ∷ []) × (last ≢ first_version)
-    × (at ≡ gate_place first_form entries (length before))))
-ExplainsVersion entries Failed = Unit {0}
-ExplainsVersion entries NoMemory = Unit {0}
-
--- where entries are damaged one is no write behind those before it, and its place is told
-pub record IsBadEntry (entries : List (List ℕ)) (at : ℕ) : Type 0 where
-  pub writes : List Write
-  pub entry : List ℕ
-  pub behind : List (List ℕ)
-  pub is : entries ≡ map write_bytes writes ++ entry ∷ behind
-  pub held : AllHeld writes
-  pub rising : AreRising 1 writes
-  pub none : IsNoWrite (with_writes no_rows writes).next_number entry
-  pub place : at ≡ gate_place first_form entries (length writes)
-
--- why the files aren't those of a store, where the log of the entries itself reads
-abbrev pub ExplainsEntries : List (List ℕ) → RecoverFault → Type 0
-ExplainsEntries entries (Damaged file at) = (file ≡ entries_file) × IsBadEntry entries at
-ExplainsEntries entries Failed = Unit {0}
-ExplainsEntries entries NoMemory = Unit {0}
-
--- a fault of a log, as one of the recovery
-abbrev pub log_fault : LogFault → RecoverFault
-log_fault (log.Damaged file at) = Damaged file at
-log_fault log.Failed = Failed
-log_fault log.NoMemory = NoMemory
-
--- a fault of the disk, as one of the recovery
-abbrev pub disk_fault : DiskFault → RecoverFault
-disk_fault disk.Failed = Failed
-disk_fault disk.NoMemory = NoMemory
-
--- entries are writes, and memory shows what they make
-pub record Replayed (entries : List (List ℕ)) (families : Families) (next : ℕ) : Type 0 where
-  pub writes : List Write
-  pub is : map write_bytes writes ≡ entries
-  pub held : AllHeld writes
-  pub rising : AreRising 1 writes
-  pub next_is : next ≡ (with_writes no_rows writes).next_number
-  pub rows : (family : ℕ) (key : List ℕ)
-      → row_in families family key ≡ shown (with_writes no_rows writes) family key
-
--- an entry is a write with this number or a later one, and memory shows what it makes of what was shown
-pub record ReplaysOne (entry : List ℕ) (next : ℕ) (old new : Families) (after : ℕ) : Type 0 where
-  pub write : Write
-  pub held : IsHeldWrite write
-  pub later : next ≤ write.number
-  pub is : entry ≡ write_bytes write
-  pub after_is : after ≡ write.number + 1
-  pub rows : (family : ℕ) (key : List ℕ) → row_in new family key
-      ≡ row_after (map (new_row (row_in old)) write.changes) family key (row_in old family key)
-
--- where an entry is damaged it is no write with this number or a later one, and its place is told
-abbrev pub ExplainsEntry : List (List ℕ) → ℕ → ℕ → RecoverFault → Type 0
-ExplainsEntry entries i next (Damaged file at) = (file ≡ entries_file)
-    × (at ≡ gate_place first_form entries i) × IsNoWrite next (get_or entries i [])
-ExplainsEntry entries i next Failed = Unit {0}
-ExplainsEntry entries i next NoMemory = Unit {0}
+-- At each moment.
+abbrev pub LeftLike : DiskState → ℕ → Image → Type 0
+LeftLike old t image = IsLeftLike old image

@@ -1,21 +1,24 @@
-//! The engine in hand.
+//! The engine in hand over files.
 
-ghost use Rattle.std.specs.Prelude.{◌≡◌, ◌≤◌, ◌+◌, ◌-◌, ◌^◌, ℕ, List, Err, IfOk, IfErr, OnOk, OnErr, IsErrOf, IsTrue};
+ghost use Rattle.std.specs.Prelude.{◌≡◌, ◌≤◌, ◌+◌, ◌-◌, ◌^◌, Err, IfOk, IfErr, OnOk, IsErrOf};
 ghost use Rattle.alt_base.specs.Counts.{Rose};
 ghost use Rattle.alt_disk.specs.Disk.{DiskState, IsTrusted, Goes};
-ghost use Rattle.alt_disk.specs.Runs.{Spans, Quiet};
-ghost use Rattle.alt_engine.specs.Layout.{Layout, with_write, shown};
-ghost use Rattle.alt_engine.specs.InHand.{next_of, Reads, Stands, SameEngine, IsSpentAt, IsUnspent, batch_write, BeforeOrWith, IsWritten};
+ghost use Rattle.alt_disk.specs.Runs.{Spans};
+ghost use Rattle.alt_layout.specs.Layout.{Layout};
+ghost use Rattle.alt_layout.specs.Writes.{with_write};
+ghost use Rattle.alt_engine.specs.InHand.{next_of, Reads, Stands, IsSpentAt, batch_write, BeforeOrWith, IsWritten};
 
-use crate::format::write_of;
-use crate::memory::{Families, find, prepare, settle};
-use crate::place::Place;
+use crate::memory::{put_all, with_more};
 use alt_base::NoMemory;
-use alt_cells::{Batch, ShownRow};
+use alt_cells::Batch;
 use alt_disk::{Disk, DiskFault};
-use alt_fields::Bytes;
+use alt_writes::write_of;
 use alt_gatelog::GateLog;
+use alt_manifest::Manifest;
+use alt_memtable::Memtable;
+use alt_rowfile::RowFile;
 use std::alloc::Global;
+use std::collections::BTreeMap;
 
 /// The number that no write takes: 2^62 - 1.
 const LAST_NUMBER: u64 = 4_611_686_018_427_387_903;
@@ -25,6 +28,8 @@ const LAST_NUMBER: u64 = 4_611_686_018_427_387_903;
 pub enum EngineFault {
     /// The number that a write wants and can't have.
     Spent { number: u64 },
+    /// The disk gave bytes that are none of the file at that place.
+    Damaged { file: u32, at: u64 },
     /// The disk failed, and its count of faults rose.
     Failed,
     /// Memory was refused.
@@ -32,6 +37,7 @@ pub enum EngineFault {
 }
 
 impl From<NoMemory> for EngineFault {
+    ghost use Rattle.std.specs.Prelude.{◌≡◌};
     ghost use Rattle.alt_engine.specs.declared.engine.EngineFault.TheVariants as fault;
 
     ghost from_gives = { λ _ f. f ≡ fault.NoMemory };
@@ -41,13 +47,32 @@ impl From<NoMemory> for EngineFault {
     }
 }
 
-/// The engine: its log, the number of the next write, and the rows that the writes show.
+/// From how many bytes on a family is flushed, and from how many files on merged.
+#[derive(Clone, Copy, Debug, PartialEq, Eq, Drop)]
+pub struct Limits {
+    pub flush: u64,
+    pub merge: u32,
+}
+
+/// The rows in memory of one family, and its files.
+#[derive(Drop)]
+pub struct Family {
+    pub(crate) table: Memtable,
+    pub(crate) files: Vec<RowFile>,
+}
+
+/// The engine: the versions, the last segment, the bytes of all segments' entries, the numbers of the next write and of the next
+/// file, and the families.
 #[derive(Drop)]
 pub struct Engine {
     pub(crate) alloc: Global,
+    pub(crate) limits: Limits,
+    pub(crate) manifest: Manifest,
     pub(crate) log: GateLog,
+    pub(crate) length: u64,
     pub(crate) next: u64,
-    pub(crate) families: Families,
+    pub(crate) next_file: u32,
+    pub(crate) families: BTreeMap<u32, Family>,
 }
 
 impl Engine {
@@ -60,7 +85,7 @@ impl Engine {
         self.next
     }
 
-    /// Joins a batch to the rows, as one write with the next number.
+    /// Joins a batch to the rows, as one write with the next number. After an Err the engine is spent, unless it is Spent.
     pub fn apply<D: Disk>(&mut self, disk: &mut D, batch: &Batch) -> Result<u64, EngineFault>
         requires { IsTrusted (D.state disk.old)
             → (l : Layout) × Stands (D.state disk.old) self.old l }
@@ -69,7 +94,6 @@ impl Engine {
             → Stands (D.state disk.new) self.new (with_write l (batch_write l batch.now))) }
         ensures number { IfOk result (λ n. n ≡ next_of self.old) }
         ensures next { OnOk result (next_of self.new ≡ next_of self.old + 1) }
-        ensures err { OnErr result (SameEngine self.old self.new) }
 
         // A stop at any moment of the call, also one that fails, leaves the rows from before it or with the whole batch.
         ensures any_moment { IsTrusted (D.state disk.old) → (l : Layout)
@@ -82,6 +106,8 @@ impl Engine {
         ensures cause_spent { IfErr result (IsSpentAt (next_of self.old)) }
         ensures unchanged { IsErrOf result (EngineFault.Spent (next_of self.old))
             → D.state disk.new ≡ D.state disk.old }
+        ensures same { IsErrOf result (EngineFault.Spent (next_of self.old))
+            → self.new ≡ self.old }
         ensures no_memory { IsErrOf result EngineFault.NoMemory
             → D.state disk.new ≡ D.state disk.old }
         ensures goes { Goes (D.state disk.old) (D.state disk.new) }
@@ -93,41 +119,17 @@ impl Engine {
             return Err(EngineFault::Spent { number: self.next });
         }
         let bytes = write_of(self.alloc, self.next, batch.as_slice())?;
-        let rows = prepare(self.alloc, &mut self.families, batch.as_slice())?;
+
+        // The rows go into memory first, so that nothing but the disk can fail once the entry is on its way.
+        put_all(self.alloc, &mut self.families, self.next, batch.as_slice())?;
         match self.log.append(disk, bytes.as_slice()) {
             Ok(()) => {}
             Err(DiskFault::Failed) => return Err(EngineFault::Failed),
             Err(DiskFault::NoMemory) => return Err(EngineFault::NoMemory),
         }
-        settle(self.alloc, &mut self.families, rows, batch.as_slice());
+        self.length = with_more(self.length, bytes.len());
         let number = self.next;
         self.next = number + 1;
         Ok(number)
-    }
-
-    /// What the row of a key shows, None exactly where the family shows no row there.
-    pub fn row<D: Disk>(
-        &mut self,
-        disk: &mut D,
-        family: u32,
-        key: &[u8],
-    ) -> Result<Option<ShownRow>, EngineFault>
-        ensures row { IsTrue (D.state disk.old).tells → (l : Layout)
-            → Reads (D.state disk.old) self.old l
-            → IfOk result (λ row. row ≡ shown l family key.now) }
-        ensures same { SameEngine self.old self.new }
-        ensures unspent { IfErr result IsUnspent }
-        ensures quiet { IsTrue (D.state disk.old).tells
-            → Quiet (D.state disk.old) (D.state disk.new) }
-        ensures goes { Goes (D.state disk.old) (D.state disk.new) }
-        ensures cause { IsErrOf result EngineFault.Failed
-            → Rose (D.state disk.old).faults (D.state disk.new).faults }
-        ensures well { OnOk result ((D.state disk.new).faults ≡ (D.state disk.old).faults) }
-    {
-        let key = Place::new(Bytes::new(self.alloc, key)?);
-        match find(&self.families, family, &key) {
-            Some(row) => Ok(Some(row.copy()?)),
-            None => Ok(None),
-        }
     }
 }

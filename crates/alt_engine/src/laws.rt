@@ -1,17 +1,16 @@
-//! What follows of layouts and of engines in hand from their definitions, for the callers' proofs.
+//! What follows of engines in hand from their definitions.
 
-ghost use Rattle.alt_engine.specs.Laws.{OneLayout, WritesShow, FindsShown, ImagesArePast, EnginesArePast, FilesHold, InEachImage, ReadsQuiet, StaysQuiet};
+ghost use Rattle.alt_engine.specs.Laws.{EnginesArePast, FilesHold, InEachImage, MayFlush, ReadsQuiet, StandsFlushed, StaysQuiet, WritesImages};
 
-/// An image has one layout. What a row shows after a write follows from what it showed. An engine in hand is that of what the files
-/// hold, each stop leaves that, and it stays so while calls leave every file.
-pub fn engine_laws()
-    ensures one_layout { OneLayout }
-    ensures writes { WritesShow }
-    ensures finds { FindsShown }
-    ensures images_past { ImagesArePast }
-    ensures engines_past { EnginesArePast }
+/// An engine in hand is that of what the files hold, each stop leaves that, it stays so while calls leave every file, and while a
+/// batch is added each image has it or hasn't.
+pub fn hand_laws()
+    ensures past { EnginesArePast }
     ensures files { FilesHold }
     ensures in_each_image { InEachImage }
     ensures reads_quiet { ReadsQuiet }
     ensures stays_quiet { StaysQuiet }
+    ensures writes { WritesImages }
+    ensures may_flush { MayFlush }
+    ensures flushed { StandsFlushed }
 {}

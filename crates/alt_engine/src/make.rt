@@ -4,8 +4,9 @@ ghost use Rattle.std.specs.Prelude.{◌≡◌, ◌≢◌, ℕ, List, [], Option,
 ghost use Rattle.alt_base.specs.Counts.{Rose};
 ghost use Rattle.alt_disk.specs.Disk.{IsTrusted, Goes, IsImage, IsNames};
 ghost use Rattle.alt_disk.specs.Runs.{Spans, Quiet};
-ghost use Rattle.alt_engine.specs.Layout.{no_rows};
-ghost use Rattle.alt_engine.specs.Image.{IsLayout, IsFresh, IsMade};
+ghost use Rattle.alt_layout.specs.Layout.{no_rows};
+ghost use Rattle.alt_layout.specs.Fresh.{IsFresh, IsMade};
+ghost use Rattle.alt_layout.specs.Files.{IsLayout};
 ghost use Rattle.alt_engine.specs.Making.{HasSegment, LeavesNoVersions, NamesFirst};
 
 use alt_disk::{Disk, DiskFault};

@@ -2,8 +2,9 @@
 use Rattle.std.specs.Prelude.{◌≡◌, ◌⊎◌, ◌≤◌, ℕ, List, None}
 use Rattle.std.specs.FinMap.{empty}
 use Rattle.alt_disk.specs.Disk.{DiskState}
-use Rattle.alt_engine.specs.Layout.{RowMap, Write}
-use Rattle.alt_engine.specs.Image.{versions_file}
+use Rattle.alt_layout.specs.Layout.{RowMap}
+use Rattle.alt_writes.specs.Writes.{Write}
+use Rattle.alt_layout.specs.Fresh.{versions_file}
 use Rattle.alt_manifest.specs.InHand.{file_of, version_of, Stands}
 use Rattle.alt_manifest.specs.declared.manifest.Manifest.{Manifest}
 use Rattle.alt_layout.specs.Families.{Held, flushed_of, next_after, with_later}

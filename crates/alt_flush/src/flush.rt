@@ -6,7 +6,7 @@ ghost use Rattle.alt_base.specs.Counts.{Rose};
 ghost use Rattle.alt_disk.specs.Disk.{IsTrusted, Goes};
 ghost use Rattle.alt_disk.specs.Runs.{Spans};
 ghost use Rattle.alt_rowfile.specs.InHand.{file_of as row_file_of, Stands as RowFileStands};
-ghost use Rattle.alt_engine.specs.Layout.{Write};
+ghost use Rattle.alt_writes.specs.Writes.{Write};
 ghost use Rattle.alt_manifest.specs.Versions.{IsVersion};
 ghost use Rattle.alt_manifest.specs.InHand.{file_of, version_of, Stands};
 ghost use Rattle.alt_layout.specs.Families.{Held, layout_of};

@@ -16,9 +16,9 @@ use Rattle.alt_cells.specs.Keys.{key_cmp}
 use Rattle.alt_cells.specs.Rows.{join_row}
 use Rattle.alt_cells.proofs.CellLaws.{key_exact, key_total}
 use Rattle.alt_cells.proofs.RowLaws.{get-joined_map}
-use Rattle.alt_engine.specs.Layout.{Layout, RowMap, Write, IsPast, change_of, shown, shown_by}
-use Rattle.alt_engine.specs.Layout.{changes_in as inserted_in, with_write as with_inserted}
-use Rattle.alt_engine.proofs.LayoutLaws.{shows_write}
+use Rattle.alt_layout.specs.Layout.{Layout, RowMap, IsPast, change_of, shown, shown_by}
+use Rattle.alt_writes.specs.Writes.{Write}
+use Rattle.alt_layout.proofs.FirstChange.{shows_write, changes_in as inserted_in, with_write as with_inserted}
 use Rattle.alt_layout.specs.Writes.{changes_in, one_row, with_write}
 
 -- ---- tests

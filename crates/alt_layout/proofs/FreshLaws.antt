@@ -2,8 +2,8 @@
 use Rattle.std.proofs.Common.{◌≡◌, ◌<◌, ◌^◌, ℕ, List, [], ◌∷◌, length, Some, refl, sym, ap, subst, ◌∙◌, arith}
 use Rattle.std.specs.FinMap.{empty}
 use Rattle.alt_gatelog.specs.Log.{first_form, log_bytes}
-use Rattle.alt_engine.specs.Image.{entries_file, first_version, versions_file}
-use Rattle.alt_engine.specs.Layout.{no_rows}
+use Rattle.alt_layout.specs.Fresh.{entries_file, first_version, versions_file}
+use Rattle.alt_layout.specs.Layout.{no_rows}
 use Rattle.alt_manifest.specs.Versions.{IsVersion, version_bytes}
 use Rattle.alt_manifest.specs.declared.version.Version.{Version}
 use Rattle.alt_layout.specs.Files.{Image, IsLayout}

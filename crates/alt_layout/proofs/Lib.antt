@@ -1,4 +1,5 @@
 pub mod BatchLaws
+pub mod FirstChange
 pub mod FreshLaws
 pub mod RowLaws
 pub mod FamilyLaws
@@ -8,3 +9,4 @@ pub mod MergeLaws
 pub mod OneLayout
 pub mod FileLaws
 pub mod MomentLaws
+pub mod ShownLaws

@@ -5,7 +5,8 @@ use Rattle.alt_cells.specs.declared.row.RowCells.{RowCells}
 use Rattle.alt_cells.specs.Changes.{IsBelow}
 use Rattle.alt_cells.specs.Joined.{joined_map}
 use Rattle.alt_cells.specs.Rows.{join_row}
-use Rattle.alt_engine.specs.Layout.{Layout, RowMap, Write}
+use Rattle.alt_layout.specs.Layout.{Layout, RowMap}
+use Rattle.alt_writes.specs.Writes.{Write}
 use Rattle.alt_manifest.specs.declared.version.FamilyVersion.{FamilyVersion}
 use Rattle.alt_manifest.specs.declared.version.Version.{Version}
 use Rattle.alt_layout.specs.Writes.{changes_in}

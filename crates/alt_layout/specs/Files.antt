@@ -4,8 +4,10 @@ use Rattle.std.specs.FinMap.{entries}
 use Rattle.std.specs.List.{AllByRecursion, flat_map}
 use Rattle.alt_gatelog.specs.Log.{IsLog, first_form}
 use Rattle.alt_rowfile.specs.Format.{IsRowFile}
-use Rattle.alt_engine.specs.Layout.{Layout, RowMap, Write, AreRising}
-use Rattle.alt_engine.specs.Image.{AllHeld, versions_file, write_bytes}
+use Rattle.alt_layout.specs.Layout.{Layout, RowMap}
+use Rattle.alt_writes.specs.Writes.{Write, AreRising}
+use Rattle.alt_writes.specs.Bytes.{AllHeld, write_bytes}
+use Rattle.alt_layout.specs.Fresh.{versions_file}
 use Rattle.alt_manifest.specs.Versions.{HasVersion, files_named, IsIn}
 use Rattle.alt_manifest.specs.declared.version.FamilyVersion.{FamilyVersion}
 use Rattle.alt_manifest.specs.declared.version.Version.{Version}

@@ -6,8 +6,10 @@ use Rattle.alt_cells.specs.Shown.{row_shown}
 use Rattle.alt_disk.specs.Disk.{DiskState, Call, IsImage, IsSettled, Removed}
 use Rattle.alt_disk.specs.Runs.{Run, Spans}
 use Rattle.alt_gatelog.specs.Log.{IsLog, BeforeOrAfter, first_form, log_bytes}
-use Rattle.alt_engine.specs.Layout.{Layout, RowMap, Write, IsPast, AreRising, change_of, no_rows, shown, shown_by}
-use Rattle.alt_engine.specs.Image.{IsHeldWrite, entries_file, first_version, versions_file, write_bytes}
+use Rattle.alt_layout.specs.Layout.{Layout, RowMap, IsPast, change_of, no_rows, shown, shown_by, shown_rows}
+use Rattle.alt_writes.specs.Writes.{Write, AreRising}
+use Rattle.alt_writes.specs.Bytes.{IsHeldWrite, write_bytes}
+use Rattle.alt_layout.specs.Fresh.{entries_file, first_version, versions_file}
 use Rattle.alt_manifest.specs.InHand.{OldOrNew}
 use Rattle.alt_manifest.specs.Versions.{HasVersion, IsIn, IsVersion, files_named}
 use Rattle.alt_manifest.specs.declared.version.FamilyVersion.{FamilyVersion}
@@ -78,6 +80,11 @@ abbrev pub FreshHasNone : Type 0
 FreshHasNone = (image : Image)
     → image versions_file ≡ Some (log_bytes first_form (first_version ∷ []) 0 [])
     → image entries_file ≡ Some (log_bytes first_form [] 0 []) → IsLayout image no_rows
+
+-- The rows that a family shows are found by their keys.
+abbrev pub FindsShown : Type 0
+FindsShown = (l : Layout) (family : ℕ) (key : List ℕ)
+    → get (shown_rows l family) key ≡ shown l family key
 
 -- ---- Moments.
 

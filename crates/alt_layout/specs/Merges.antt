@@ -4,7 +4,7 @@ use Rattle.std.specs.FinMap.{get}
 use Rattle.alt_cells.specs.declared.cell.Cell.{Cell}
 use Rattle.alt_cells.specs.declared.row.RowCells.{RowCells}
 use Rattle.alt_cells.specs.Shown.{value_shown}
-use Rattle.alt_engine.specs.Layout.{RowMap}
+use Rattle.alt_layout.specs.Layout.{RowMap}
 
 -- A cell is kept where it shows a value: it is no tombstone, and the row tombstone doesn't hide it.
 abbrev pub kept : Option ℕ → Cell → Option Cell

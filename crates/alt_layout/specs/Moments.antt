@@ -1,8 +1,9 @@
 -- A store on a disk, and what a stop may leave of its layout.
 use Rattle.std.specs.Prelude.{◌≡◌, ◌⊎◌, ℕ, List}
 use Rattle.alt_disk.specs.Disk.{DiskState, IsSettled}
-use Rattle.alt_engine.specs.Layout.{Layout, Write}
-use Rattle.alt_engine.specs.Image.{versions_file}
+use Rattle.alt_layout.specs.Layout.{Layout}
+use Rattle.alt_writes.specs.Writes.{Write}
+use Rattle.alt_layout.specs.Fresh.{versions_file}
 use Rattle.alt_manifest.specs.Versions.{HasVersion}
 use Rattle.alt_manifest.specs.declared.version.Version.{Version}
 use Rattle.alt_layout.specs.Families.{Held}

@@ -6,7 +6,8 @@ use Rattle.alt_cells.specs.declared.row.RowCells.{RowCells}
 use Rattle.alt_cells.specs.Changes.{row_of_change}
 use Rattle.alt_cells.specs.Joined.{joined_map}
 use Rattle.alt_cells.specs.Rows.{join_row}
-use Rattle.alt_engine.specs.Layout.{Layout, RowMap, Write}
+use Rattle.alt_layout.specs.Layout.{Layout, RowMap}
+use Rattle.alt_writes.specs.Writes.{Write}
 
 -- A map of one row.
 abbrev pub one_row : List ℕ → RowCells → RowMap

@@ -1,6 +1,6 @@
 //! What follows of layouts from their definitions, for the callers' proofs.
 
-ghost use Rattle.alt_layout.specs.Laws.{OneLayout, ImagesArePast, SameAfter, ShowsBatch, FreshHasNone, Flushes, FlushesAll, FlushesOne, Merges, InEachImage, StaysElsewhere, StaysByRemoval, TakesVersion, TakesWrite};
+ghost use Rattle.alt_layout.specs.Laws.{OneLayout, ImagesArePast, SameAfter, ShowsBatch, FindsShown, FreshHasNone, Flushes, FlushesAll, FlushesOne, Merges, InEachImage, StaysElsewhere, StaysByRemoval, TakesVersion, TakesWrite};
 
 /// An image has one layout, past all its numbers. What is shown alike stays alike after later writes. A family that is flushed has the
 /// rows that it had, and one that is merged shows what it showed.
@@ -9,6 +9,7 @@ pub fn layout_laws()
     ensures images_past { ImagesArePast }
     ensures same_after { SameAfter }
     ensures shows_batch { ShowsBatch }
+    ensures finds { FindsShown }
     ensures fresh { FreshHasNone }
     ensures flushes { Flushes }
     ensures flushes_all { FlushesAll }

@@ -10,7 +10,7 @@ use Rattle.alt_cells.specs.Changes.{Columns}
 use Rattle.alt_cells.specs.Keys.{key_cmp}
 use Rattle.alt_cells.specs.Shown.{row_shown}
 use Rattle.alt_cells.proofs.CellLaws.{key_total}
-use Rattle.alt_engine.specs.Layout.{Layout, shown}
+use Rattle.alt_layout.specs.Layout.{Layout, shown}
 use Rattle.alt_machine.specs.declared.TheConstants.{NUMBERS_END}
 use Rattle.alt_machine.specs.State.{Change, State, Table, Texts, descriptions}
 use Rattle.alt_machine.specs.Valid.{AreChanges, IsChange, IsHeldChange, IsStored, IsTable, IsValid}

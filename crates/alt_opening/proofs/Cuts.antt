@@ -5,7 +5,7 @@ use Rattle.std.specs.FinMap.{get, retain_keys, get-retain_keys}
 use Rattle.alt_cells.specs.Shown.{row_shown}
 use Rattle.alt_cells.specs.declared.row.RowCells.{RowCells}
 use Rattle.alt_cells.proofs.CellLaws.{key_exact}
-use Rattle.alt_engine.specs.Layout.{Layout, shown}
+use Rattle.alt_layout.specs.Layout.{Layout, shown}
 
 -- the layout with those rows alone whose places pass a test
 abbrev pub cut : (ℕ → List ℕ → Bool) → Layout → Layout

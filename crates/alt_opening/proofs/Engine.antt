@@ -5,10 +5,10 @@ use Rattle.alt_disk.specs.Disk.{DiskState, IsImage}
 use Rattle.alt_disk.specs.Runs.{Quiet}
 use Rattle.alt_engine.proofs.ImageLaws as laws
 use Rattle.alt_engine.proofs.OneWrite.{one_layout}
-use Rattle.alt_engine.proofs.ShownLaws.{get-shown_rows}
-use Rattle.alt_engine.specs.Image.{IsLayout}
+use Rattle.alt_layout.proofs.ShownLaws.{get-shown_rows}
+use Rattle.alt_layout.specs.Files.{IsLayout}
 use Rattle.alt_engine.specs.InHand.{Reads, Stands}
-use Rattle.alt_engine.specs.Layout.{Layout, IsPast, shown, shown_rows}
+use Rattle.alt_layout.specs.Layout.{Layout, IsPast, shown, shown_rows}
 use Rattle.alt_engine.specs.declared.engine.Engine.{Engine}
 
 -- whatever a stop leaves holds its rows

@@ -8,7 +8,7 @@ use Rattle.std.specs.FinMap as map
 use Rattle.alt_cells.specs.Changes.{Columns}
 use Rattle.alt_cells.specs.Keys.{key_cmp}
 use Rattle.alt_cells.proofs.Entries.{less}
-use Rattle.alt_engine.specs.Layout.{Layout, shown, IsFirstShown}
+use Rattle.alt_layout.specs.Layout.{Layout, shown, IsFirstShown}
 use Rattle.alt_machine.specs.declared.TheConstants.{NUMBERS_END, FAMILIES_END}
 use Rattle.alt_machine.specs.State.{State, Table, Texts, families_of}
 use Rattle.alt_machine.proofs.Families.{of_contained}

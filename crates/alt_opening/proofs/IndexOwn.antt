@@ -5,7 +5,7 @@ use Rattle.std.proofs.lemmas.Slice.Eq.{bytes_eq-Decides}
 use Rattle.std.specs.Prelude.{◌||◌, ◌↔◌, if◌then◌else◌, option_and_then}
 use Rattle.std.specs.Str.{bytes_eq}
 use Rattle.alt_cells.specs.Changes.{Columns}
-use Rattle.alt_engine.specs.Layout.{Layout, shown}
+use Rattle.alt_layout.specs.Layout.{Layout, shown}
 use Rattle.alt_keyorder.specs.Place.{place_in_table, place_bytes}
 use Rattle.alt_machine.specs.Keys.{key_value, place_beside, place_of}
 use Rattle.alt_machine.specs.Sources.{index_at}

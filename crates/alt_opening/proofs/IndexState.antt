@@ -1,6 +1,6 @@
 -- A state whose rows of the catalog, of the tables and of the streams were read, with those of its indexes.
 use Rattle.std.proofs.Common.{◌≤◌, ◌<◌, inr, sym, subst, ℕ, List}
-use Rattle.alt_engine.specs.Layout.{Layout}
+use Rattle.alt_layout.specs.Layout.{Layout}
 use Rattle.alt_machine.specs.declared.TheConstants.{NUMBERS_END}
 use Rattle.alt_machine.specs.State.{State, Texts}
 use Rattle.alt_schema.specs.declared.schema.TableSchema.{TableSchema}

@@ -16,7 +16,7 @@ use Rattle.alt_cells.specs.Changes.{Columns}
 use Rattle.alt_cells.specs.Keys.{key_cmp}
 use Rattle.alt_cells.proofs.CellLaws.{key_total}
 use Rattle.alt_cells.proofs.Entries.{first, second, below_less, find_below}
-use Rattle.alt_engine.specs.Layout.{Layout, shown_rows, rows_between}
+use Rattle.alt_layout.specs.Layout.{Layout, shown_rows, rows_between}
 use Rattle.alt_opening.specs.Scans.{IsBelow, IsNextRow}
 use Rattle.alt_opening.proofs.Ties.{tied, itself}
 use Rattle.alt_opening.proofs.Engine.{finds_shown}

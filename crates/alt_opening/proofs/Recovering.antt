@@ -5,9 +5,12 @@ use Rattle.std.specs.FinMap as map
 use Rattle.alt_disk.specs.Disk.{DiskState, IsTrusted}
 use Rattle.alt_disk.specs.Runs.{Quiet, Spans}
 use Rattle.alt_disk.proofs.Runs.{trusted_on, tells_of, quiet_start}
-use Rattle.alt_engine.specs.Image.{AllHeld, IsLayout}
+use Rattle.alt_writes.specs.Bytes.{AllHeld}
+use Rattle.alt_layout.specs.Files.{IsLayout}
 use Rattle.alt_engine.specs.InHand.{Reads, Stands as EngineStands}
-use Rattle.alt_engine.specs.Layout.{Layout, Write, no_rows, with_write, with_writes}
+use Rattle.alt_layout.specs.Layout.{Layout, no_rows}
+use Rattle.alt_writes.specs.Writes.{Write}
+use Rattle.alt_layout.specs.Writes.{with_write, with_writes}
 use Rattle.alt_engine.specs.Recovery.{ExplainsStore, HasNoLayout, Narrows}
 use Rattle.alt_engine.specs.declared.engine.Engine.{Engine}
 use Rattle.alt_engine.specs.declared.recover.RecoverFault.{RecoverFault}

@@ -7,7 +7,7 @@ use Rattle.alt_disk.specs.Disk.{DiskState}
 use Rattle.alt_disk.proofs.Calls.{goes_refl, goes_on}
 use Rattle.alt_disk.proofs.Runs.{quiet_start, quiet_then}
 use Rattle.alt_engine.specs.InHand.{Reads, SameEngine}
-use Rattle.alt_engine.specs.Layout.{Layout, shown}
+use Rattle.alt_layout.specs.Layout.{Layout, shown}
 use Rattle.alt_engine.specs.declared.engine.Engine.{Engine}
 use Rattle.alt_opening.specs.Scans.{IsBelow, IsFirstFrom, IsNextRow, RowsWhere, Walked}
 use Rattle.alt_opening.proofs.Engine.{reads_quiet}

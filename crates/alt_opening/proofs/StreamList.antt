@@ -13,7 +13,7 @@ use Rattle.alt_cells.specs.Shown.{row_shown}
 use Rattle.alt_cells.proofs.CellLaws.{key_total}
 use Rattle.alt_cells.proofs.Entries.{first, second, find_below}
 use Rattle.alt_changes.specs.ChangeRows.{IsReadItem, change_columns, row_key}
-use Rattle.alt_engine.specs.Layout.{Layout, shown}
+use Rattle.alt_layout.specs.Layout.{Layout, shown}
 use Rattle.alt_keyorder.proofs.Parts.{nat_cmp-equal, nat_cmp-greater}
 use Rattle.alt_machine.specs.State.{Change, Texts}
 use Rattle.alt_machine.specs.Valid.{IsChange, IsHeldChange}

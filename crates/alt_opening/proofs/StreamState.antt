@@ -6,7 +6,7 @@ use Rattle.std.specs.Ordering.{eq_by_cmp}
 use Rattle.std.specs.Prelude.{if◌then◌else◌}
 use Rattle.alt_cells.specs.Keys.{key_cmp}
 use Rattle.alt_changes.specs.ChangeRows.{change_columns}
-use Rattle.alt_engine.specs.Layout.{Layout}
+use Rattle.alt_layout.specs.Layout.{Layout}
 use Rattle.alt_machine.specs.declared.TheConstants.{NUMBERS_END}
 use Rattle.alt_machine.specs.State.{Change, State, Table, Texts, descriptions}
 use Rattle.alt_machine.specs.Valid.{IsChange, IsTable}

@@ -1,7 +1,7 @@
 -- What the tests of the rows of a stream tell.
 use Rattle.std.proofs.Common.{◌≡◌, ◌<◌, ◌≤◌, ◌⊎◌, inl, inr, refl, sym, ap, subst, ◌∙◌, ℕ, Bool, true, false, List, Option, Some, None, IsTrue, is_some, arith}
 use Rattle.std.specs.Prelude.{◌↔◌}
-use Rattle.alt_engine.specs.Layout.{Layout, shown}
+use Rattle.alt_layout.specs.Layout.{Layout, shown}
 use Rattle.alt_machine.specs.Same.{is_same}
 use Rattle.alt_machine.specs.State.{Change}
 use Rattle.alt_machine.specs.Valid.{IsChange, WasStored}

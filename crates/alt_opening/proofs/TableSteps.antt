@@ -1,7 +1,7 @@
 -- The tables of a catalog, read one after the other in the order of their families.
 use Rattle.std.proofs.Common.{◌≡◌, ◌⊎◌, ◌≤◌, ◌<◌, ⊎_elim, sym, subst, ℕ, List, Some, arith}
 use Rattle.std.specs.FinMap as map
-use Rattle.alt_engine.specs.Layout.{Layout}
+use Rattle.alt_layout.specs.Layout.{Layout}
 use Rattle.alt_machine.specs.declared.TheConstants.{NUMBERS_END}
 use Rattle.alt_machine.specs.State.{Texts}
 use Rattle.alt_schema.specs.declared.schema.TableSchema.{TableSchema}

@@ -8,7 +8,7 @@ use Rattle.alt_cells.specs.Changes.{Columns}
 use Rattle.alt_cells.specs.Keys.{key_cmp}
 use Rattle.alt_cells.proofs.CellLaws.{key_total}
 use Rattle.alt_cells.proofs.Entries.{first, second, find_below}
-use Rattle.alt_engine.specs.Layout.{Layout, shown}
+use Rattle.alt_layout.specs.Layout.{Layout, shown}
 use Rattle.alt_machine.specs.declared.TheConstants.{NUMBERS_END, FAMILIES_END}
 use Rattle.alt_machine.specs.State.{State, Table, Texts, families_of, start}
 use Rattle.alt_machine.specs.Valid.{IsTable, IsValid}

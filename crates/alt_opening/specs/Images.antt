@@ -1,7 +1,7 @@
 -- The state for which files stand.
 use Rattle.std.specs.Prelude.{ℕ, List, Option}
-use Rattle.alt_engine.specs.Image.{IsLayout}
-use Rattle.alt_engine.specs.Layout.{Layout}
+use Rattle.alt_layout.specs.Files.{IsLayout}
+use Rattle.alt_layout.specs.Layout.{Layout}
 use Rattle.alt_machine.specs.State.{State}
 use Rattle.alt_machine.specs.Valid.{IsValid}
 use Rattle.alt_opening.specs.StateRows.{Shows, IsHeldWhole}

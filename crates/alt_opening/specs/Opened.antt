@@ -2,7 +2,7 @@
 use Rattle.std.specs.Prelude.{◌≡◌}
 use Rattle.alt_disk.specs.Disk.{DiskState, IsTrusted}
 use Rattle.alt_engine.specs.InHand.{Stands as EngineStands, next_of}
-use Rattle.alt_engine.specs.Layout.{Layout}
+use Rattle.alt_layout.specs.Layout.{Layout}
 use Rattle.alt_engine.specs.declared.engine.Engine.{Engine}
 use Rattle.alt_machine.specs.State.{State, descriptions}
 use Rattle.alt_machine.specs.Valid.{IsValid}

@@ -4,7 +4,7 @@ use Rattle.std.specs.List.{list_all, list_any}
 use Rattle.std.specs.Str.{bytes_eq}
 use Rattle.std.specs.FinMap as map
 use Rattle.alt_cells.specs.Changes.{Columns}
-use Rattle.alt_engine.specs.Layout.{Layout, shown}
+use Rattle.alt_layout.specs.Layout.{Layout, shown}
 use Rattle.alt_machine.specs.declared.TheConstants.{FAMILIES_END, MOST_TABLES}
 use Rattle.alt_machine.specs.State.{State, Texts, descriptions, families_of}
 use Rattle.alt_machine.specs.Valid.{IsMade, IsValid}

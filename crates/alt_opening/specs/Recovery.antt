@@ -4,8 +4,8 @@ use Rattle.std.specs.FinMap as map
 use Rattle.std.specs.declared.cmp.Ordering.TheVariants.{Less}
 use Rattle.alt_cells.specs.Keys.{key_cmp}
 use Rattle.alt_disk.specs.Disk.{DiskState, IsImage}
-use Rattle.alt_engine.specs.Image.{IsLayout}
-use Rattle.alt_engine.specs.Layout.{Layout, shown}
+use Rattle.alt_layout.specs.Files.{IsLayout}
+use Rattle.alt_layout.specs.Layout.{Layout, shown}
 use Rattle.alt_engine.specs.Recovery.{IsBadAt}
 use Rattle.alt_engine.specs.declared.recover.RecoverFault.{RecoverFault}
 use Rattle.alt_engine.specs.declared.recover.RecoverFault.TheVariants as engine

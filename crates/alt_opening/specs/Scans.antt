@@ -6,7 +6,7 @@ use Rattle.alt_cells.specs.Keys.{key_cmp}
 use Rattle.alt_disk.specs.Disk.{DiskState, Goes}
 use Rattle.alt_disk.specs.Runs.{Quiet}
 use Rattle.alt_engine.specs.InHand.{SameEngine}
-use Rattle.alt_engine.specs.Layout.{Layout, shown}
+use Rattle.alt_layout.specs.Layout.{Layout, shown}
 use Rattle.alt_engine.specs.declared.engine.Engine.{Engine}
 use Rattle.alt_machine.specs.Valid.{IsStored}
 use Rattle.alt_schema.specs.declared.schema.TableSchema.{TableSchema}

@@ -6,7 +6,7 @@ use Rattle.std.specs.FinMap as map
 use Rattle.alt_cells.specs.Changes.{Columns}
 use Rattle.alt_cells.specs.Keys.{key_cmp}
 use Rattle.alt_changes.specs.ChangeRows.{change_columns, row_key}
-use Rattle.alt_engine.specs.Layout.{Layout, shown}
+use Rattle.alt_layout.specs.Layout.{Layout, shown}
 use Rattle.alt_machine.specs.Indexed.{index_items}
 use Rattle.alt_machine.specs.Sources.{index_at}
 use Rattle.alt_machine.specs.State.{State, Table, Texts, Change}

@@ -1,7 +1,7 @@
 -- What is read of the rows of streams while a store is opened.
 use Rattle.std.specs.Prelude.{◌≡◌, ◌<◌, ◌^◌, ℕ, List, Option, Some, IfSome}
 use Rattle.alt_cells.specs.Changes.{Columns}
-use Rattle.alt_engine.specs.Layout.{Layout, shown}
+use Rattle.alt_layout.specs.Layout.{Layout, shown}
 use Rattle.alt_machine.specs.State.{Change}
 use Rattle.alt_machine.specs.Valid.{IsChange, WasStored}
 use Rattle.alt_schema.specs.declared.schema.TableSchema.{TableSchema}

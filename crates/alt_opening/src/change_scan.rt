@@ -4,7 +4,7 @@ ghost use Rattle.std.specs.Prelude.{◌≡◌, ◌↔◌, ℕ, List, Err, Some, 
 ghost use Rattle.alt_base.specs.Counts.{Rose};
 ghost use Rattle.alt_changes.specs.ChangeRows.{IsReadChange, IsReadItem, change_in};
 ghost use Rattle.alt_engine.specs.InHand.{Reads};
-ghost use Rattle.alt_engine.specs.Layout.{Layout};
+ghost use Rattle.alt_layout.specs.Layout.{Layout};
 ghost use Rattle.alt_machine.specs.Same.{is_same};
 ghost use Rattle.alt_machine.specs.Valid.{IsChange, WasStored};
 ghost use Rattle.alt_opening.specs.Scans.{Walked};

@@ -3,7 +3,7 @@
 ghost use Rattle.std.specs.Prelude.{◌≡◌, ◌↔◌, ◌++◌, ◌∷◌, [], List, Err, IfOk, IfErr, OnOk, IsErrOf, IsTrue};
 ghost use Rattle.alt_base.specs.Counts.{Rose};
 ghost use Rattle.alt_engine.specs.InHand.{Reads};
-ghost use Rattle.alt_engine.specs.Layout.{Layout};
+ghost use Rattle.alt_layout.specs.Layout.{Layout};
 ghost use Rattle.alt_machine.specs.Valid.{IsStored};
 ghost use Rattle.alt_views.specs.ItemRows.{IsReadItem};
 ghost use Rattle.alt_opening.specs.Scans.{Walked, IsNextRow, ItemsRead, IsItemFault, IsDeviceFault, IsItemAt};

@@ -14,7 +14,9 @@ use Rattle.alt_cells.proofs.CellLaws.{key_total}
 use Rattle.alt_cells.proofs.ChangeLaws.{written-change_between, none_shown}
 use Rattle.alt_changes.specs.ChangeRows.{change_columns}
 use Rattle.alt_engine.specs.InHand.{batch_write}
-use Rattle.alt_engine.specs.Layout.{Layout, Write, with_write, shown, shown_by, change_of, ShowsWrite}
+use Rattle.alt_layout.specs.Layout.{Layout, shown, shown_by, change_of, ShowsWrite}
+use Rattle.alt_writes.specs.Writes.{Write}
+use Rattle.alt_layout.specs.Writes.{with_write}
 use Rattle.alt_engine.proofs.LayoutLaws.{shows_write}
 use Rattle.alt_machine.specs.declared.TheConstants.{NUMBERS_END, FAMILIES_END, MOST_FAMILIES, MOST_TABLES}
 use Rattle.alt_machine.specs.Indexed.{index_entry}

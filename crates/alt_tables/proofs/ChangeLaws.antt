@@ -6,7 +6,7 @@ use Rattle.std.specs.Prelude.{◌==◌, if◌then◌else◌}
 use Rattle.std.specs.Ordering.{eq_by_cmp}
 use Rattle.alt_cells.specs.declared.batch.RowChange.{RowChange}
 use Rattle.alt_cells.specs.Keys.{key_cmp}
-use Rattle.alt_engine.specs.Layout.{change_of}
+use Rattle.alt_layout.specs.Layout.{change_of}
 
 -- equal numbers are told to be equal
 test : (m n : ℕ) → m ≡ n → (m == n) ≡ true

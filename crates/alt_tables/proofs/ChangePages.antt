@@ -10,7 +10,7 @@ use Rattle.alt_cells.specs.Changes.{Columns}
 use Rattle.alt_changes.specs.ChangeRows.{change_columns, row_key}
 use Rattle.alt_disk.specs.Disk.{DiskState}
 use Rattle.alt_engine.specs.InHand.{Reads as EngineReads}
-use Rattle.alt_engine.specs.Layout.{Layout, rows_between}
+use Rattle.alt_layout.specs.Layout.{Layout, rows_between}
 use Rattle.alt_machine.specs.Ops.GetRecords.{changes_from}
 use Rattle.alt_machine.specs.State.{Change, State, Table}
 use Rattle.alt_schema.specs.declared.schema.TableSchema.{TableSchema}

@@ -4,9 +4,10 @@ use Rattle.alt_cells.specs.declared.batch.RowChange.{RowChange}
 use Rattle.alt_disk.specs.Disk.{DiskState, IsImage, Goes}
 use Rattle.alt_disk.specs.Runs.{Spans, Quiet}
 use Rattle.alt_disk.proofs.Runs.{spans_on, spans_weaker, quiet_spans, quiet_then, trusted_on}
-use Rattle.alt_engine.specs.Image.{IsLayout}
+use Rattle.alt_layout.specs.Files.{IsLayout}
 use Rattle.alt_engine.specs.InHand.{SameEngine, Stands as EngineStands, batch_write, BeforeOrWith, IsWritten}
-use Rattle.alt_engine.specs.Layout.{Layout, with_write}
+use Rattle.alt_layout.specs.Layout.{Layout}
+use Rattle.alt_layout.specs.Writes.{with_write}
 use Rattle.alt_engine.specs.declared.engine.Engine.{Engine}
 use Rattle.alt_engine.specs.declared.engine.EngineFault.{EngineFault}
 use Rattle.alt_engine.specs.declared.engine.EngineFault.TheVariants as engine

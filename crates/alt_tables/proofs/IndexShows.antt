@@ -8,7 +8,9 @@ use Rattle.std.specs.Ordering.{eq_by_cmp}
 use Rattle.std.specs.FinMap as finite
 use Rattle.alt_cells.specs.Changes.{Columns}
 use Rattle.alt_cells.specs.Keys.{key_cmp}
-use Rattle.alt_engine.specs.Layout.{Layout, Write, with_write, shown, shown_by, change_of, ShowsWrite}
+use Rattle.alt_layout.specs.Layout.{Layout, shown, shown_by, change_of, ShowsWrite}
+use Rattle.alt_writes.specs.Writes.{Write}
+use Rattle.alt_layout.specs.Writes.{with_write}
 use Rattle.alt_machine.specs.Indexed.{index_entry, index_items}
 use Rattle.alt_machine.specs.State.{Texts}
 use Rattle.alt_machine.specs.Writes.{with_item}

@@ -6,9 +6,9 @@ use Rattle.alt_disk.specs.Disk.{DiskState, Goes, IsImage, IsTrusted}
 use Rattle.alt_disk.specs.Runs.{Quiet, Spans}
 use Rattle.alt_disk.proofs.Calls.{goes_refl, goes_on}
 use Rattle.alt_disk.proofs.Runs.{quiet_start, quiet_then, tells_of, trusted_back}
-use Rattle.alt_engine.specs.Image.{IsLayout}
+use Rattle.alt_layout.specs.Files.{IsLayout}
 use Rattle.alt_engine.specs.InHand.{IsWritten}
-use Rattle.alt_engine.specs.Layout.{no_rows}
+use Rattle.alt_layout.specs.Layout.{no_rows}
 use Rattle.alt_engine.proofs.ImageLaws.{files_hold}
 use Rattle.alt_machine.specs.State.{State, start}
 use Rattle.alt_opening.specs.Images.{StandsFor}

@@ -8,7 +8,7 @@ use Rattle.alt_cells.specs.declared.batch.RowChange.{RowChange}
 use Rattle.alt_cells.specs.Changes.{Columns, CanShow, change_between, with_columns, as_shown, written}
 use Rattle.alt_cells.specs.Keys.{key_cmp}
 use Rattle.alt_cells.proofs.ChangeLaws.{written-change_between, none_shown}
-use Rattle.alt_engine.specs.Layout.{change_of, shown_by}
+use Rattle.alt_layout.specs.Layout.{change_of, shown_by}
 use Rattle.alt_machine.proofs.Rekeying.{moved}
 use Rattle.alt_opening.proofs.Ties.{tied, itself}
 use Rattle.alt_tables.proofs.ChangeLaws.{one_change, two_changes, AreOthers}

@@ -17,8 +17,8 @@ use Rattle.alt_cells.proofs.Entries.{first, second, find_below}
 use Rattle.alt_disk.specs.Disk.{DiskState}
 use Rattle.alt_disk.proofs.Runs.{tells_of}
 use Rattle.alt_engine.specs.InHand.{Reads as EngineReads}
-use Rattle.alt_engine.specs.Layout.{Layout, rows_between, shown, shown_of, shown_rows, end_bound as rows_end}
-use Rattle.alt_engine.proofs.ShownLaws.{find-shown, is_sorted-shown, shown-filter, shown-turned}
+use Rattle.alt_layout.specs.Layout.{Layout, rows_between, shown, shown_of, shown_rows, end_bound as rows_end}
+use Rattle.alt_layout.proofs.ShownLaws.{find-shown, is_sorted-shown, shown-filter, shown-turned}
 use Rattle.alt_machine.specs.Indexed.{index_items}
 use Rattle.alt_machine.specs.Sources.{index_at}
 use Rattle.alt_machine.specs.State.{State, Table, Texts}

@@ -5,8 +5,8 @@ use Rattle.std.specs.Ordering.{eq_by_cmp}
 use Rattle.std.specs.FinMap as map
 use Rattle.alt_cells.specs.Keys.{key_cmp}
 use Rattle.alt_cells.specs.Shown.{row_shown}
-use Rattle.alt_engine.specs.Image.{IsLayout}
-use Rattle.alt_engine.specs.Layout.{no_rows, shown}
+use Rattle.alt_layout.specs.Files.{IsLayout}
+use Rattle.alt_layout.specs.Layout.{no_rows, shown}
 use Rattle.alt_machine.specs.State.{Table, start}
 use Rattle.alt_machine.proofs.States.{start_valid}
 use Rattle.alt_opening.specs.Images.{StandsFor}

@@ -13,7 +13,9 @@ use Rattle.alt_cells.specs.declared.batch.RowChange.{RowChange}
 use Rattle.alt_cells.proofs.ChangeLaws.{written-change_between}
 use Rattle.alt_changes.specs.ChangeRows.{change_columns, row_change, row_changes, row_key}
 use Rattle.alt_changes.proofs.RowLaws.{change_can_show}
-use Rattle.alt_engine.specs.Layout.{Layout, Write, ShowsWrite, change_of, shown, shown_by, with_write}
+use Rattle.alt_layout.specs.Layout.{Layout, ShowsWrite, change_of, shown, shown_by}
+use Rattle.alt_writes.specs.Writes.{Write}
+use Rattle.alt_layout.specs.Writes.{with_write}
 use Rattle.alt_machine.specs.Changes.{change_left, with_change}
 use Rattle.alt_machine.specs.Same.{is_same}
 use Rattle.alt_machine.specs.Sources.{index_at}

@@ -2,8 +2,8 @@
 use Rattle.std.specs.Prelude.{◌≡◌, ℕ, List, Option}
 use Rattle.alt_disk.specs.Disk.{DiskState, IsImage}
 use Rattle.alt_disk.specs.Runs.{Quiet}
-use Rattle.alt_engine.specs.Image.{IsLayout}
-use Rattle.alt_engine.specs.Layout.{no_rows}
+use Rattle.alt_layout.specs.Files.{IsLayout}
+use Rattle.alt_layout.specs.Layout.{no_rows}
 use Rattle.alt_machine.specs.State.{State, start}
 use Rattle.alt_opening.specs.Images.{StandsFor}
 use Rattle.alt_tables.specs.Stands.{Stands}

@@ -4,7 +4,8 @@ use Rattle.alt_cells.specs.declared.batch.RowChange.{RowChange}
 use Rattle.alt_cells.specs.Changes.{change_between}
 use Rattle.alt_changes.specs.ChangeRows.{row_changes}
 use Rattle.alt_engine.specs.InHand.{batch_write}
-use Rattle.alt_engine.specs.Layout.{Layout, IsPast, with_write}
+use Rattle.alt_layout.specs.Layout.{Layout, IsPast}
+use Rattle.alt_layout.specs.Writes.{with_write}
 use Rattle.alt_machine.specs.Changes.{change_left}
 use Rattle.alt_machine.specs.State.{State}
 use Rattle.alt_machine.specs.Valid.{IsValid}

@@ -4,8 +4,8 @@ use Rattle.alt_disk.specs.Fates.{Fates, Fits}
 use Rattle.alt_disk.specs.Disk.{DiskState, Goes, IsImage, IsTrusted}
 use Rattle.alt_disk.specs.Runs.{Quiet}
 use Rattle.alt_disk.proofs.Runs.{trusted_on}
-use Rattle.alt_engine.specs.Image.{IsLayout}
-use Rattle.alt_engine.specs.Layout.{no_rows}
+use Rattle.alt_layout.specs.Files.{IsLayout}
+use Rattle.alt_layout.specs.Layout.{no_rows}
 use Rattle.alt_engine.specs.Making.{NamesFirst}
 use Rattle.alt_engine.specs.declared.make.MakeFault.{MakeFault}
 use Rattle.alt_engine.specs.declared.make.MakeFault.TheVariants.{NotEmpty}

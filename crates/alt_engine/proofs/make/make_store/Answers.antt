@@ -2,7 +2,7 @@ use Rattle.std.proofs.Common.{◌≡◌, ◌≢◌, ℕ, List, [], Some, sym, ap
 use Rattle.alt_disk.specs.Disk.{DiskState, IsTrusted, IsSettled}
 use Rattle.alt_disk.proofs.Runs.{trusted_on, tells_of}
 use Rattle.alt_gatelog.specs.Log.{first_form, log_after}
-use Rattle.alt_engine.specs.Image.{first_version}
+use Rattle.alt_layout.specs.Fresh.{first_version}
 use Rattle.alt_engine.proofs.Fresh.{fresh_layout, settled_on, rest_none}
 use Rattle.alt_engine.proofs.make.make_store.Goals as goal
 

@@ -1,7 +1,7 @@
 -- The files so far were synced.
 use Rattle.std.proofs.Common.{◌≡◌, ℕ, IsTrue, take}
 use Rattle.alt_disk.specs.Disk.{IsTrusted, Goes}
-use Rattle.alt_engine.specs.Recovery.{Narrows, AreSynced}
+use Rattle.alt_engine.specs.Syncing.{Narrows, AreSynced}
 use Rattle.alt_engine.proofs.sync.sync_files.Given as goal
 
 abbrev pub invariant-loop-f : goal.invariant-loop-f

@@ -6,6 +6,7 @@ use Rattle.alt_layout.proofs.FreshLaws.{fresh_layout}
 use Rattle.alt_layout.proofs.MergeLaws.{merged_shown, same_after_all}
 use Rattle.alt_layout.proofs.OneLayout.{one_layout}
 use Rattle.alt_layout.proofs.PastLaws.{image_past}
+use Rattle.alt_layout.proofs.ShownLaws.{get-shown_rows}
 use Rattle.alt_layout.proofs.laws.layout_laws.Goals as goal
 
 pub returns : goal.returns
@@ -14,6 +15,7 @@ returns c = record {
   images_past = image_past;
   same_after = same_after_all;
   shows_batch = shows_batch;
+  finds = get-shown_rows;
   fresh = fresh_layout;
   flushes = flushed_rows;
   flushes_all = flushed_files;

@@ -1,7 +1,7 @@
 -- The rows so far are those of changes that the table may keep, and the engine reads as it read.
 use Rattle.std.proofs.Common.{IsTrue}
 use Rattle.alt_engine.specs.InHand.{Reads}
-use Rattle.alt_engine.specs.Layout.{Layout}
+use Rattle.alt_layout.specs.Layout.{Layout}
 use Rattle.alt_opening.specs.Scans.{IsBelow, Walked}
 use Rattle.alt_opening.specs.StreamScans.{ChangesWhere}
 use Rattle.alt_opening.proofs.change_scan.test_changes.Given as goal

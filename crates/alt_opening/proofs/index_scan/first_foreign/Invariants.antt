@@ -1,7 +1,7 @@
 -- The rows so far are those of items, and the engine reads as it read.
 use Rattle.std.proofs.Common.{◌≡◌, IsTrue, Some}
 use Rattle.alt_engine.specs.InHand.{Reads}
-use Rattle.alt_engine.specs.Layout.{Layout}
+use Rattle.alt_layout.specs.Layout.{Layout}
 use Rattle.alt_machine.specs.Sources.{index_at}
 use Rattle.alt_machine.specs.Valid.{IsMade}
 use Rattle.alt_schema.specs.declared.schema.IndexSchema.{IndexSchema}

@@ -1,7 +1,7 @@
 -- The item of the row is the one whose place what is read of the row tells.
 use Rattle.std.proofs.Common.{sym, ap, ◌∙◌}
 use Rattle.std.proofs.lemmas.Bool.{false≢true}
-use Rattle.alt_engine.specs.Layout.{shown}
+use Rattle.alt_layout.specs.Layout.{shown}
 use Rattle.alt_opening.proofs.IndexOwn.{own_is, unplaced, unshown}
 use Rattle.alt_opening.proofs.index_scan.is_own.Goals as goal
 

@@ -1,7 +1,7 @@
 -- The least missing key of the items so far, and the engine reads as it read.
 use Rattle.std.proofs.Common.{◌≡◌, IsTrue, Some}
 use Rattle.alt_engine.specs.InHand.{Reads}
-use Rattle.alt_engine.specs.Layout.{Layout}
+use Rattle.alt_layout.specs.Layout.{Layout}
 use Rattle.alt_machine.specs.Sources.{index_at}
 use Rattle.alt_schema.specs.declared.schema.IndexSchema.{IndexSchema}
 use Rattle.alt_opening.specs.IndexScans.{IsLeastMissing}

@@ -1,7 +1,7 @@
 -- The item's row isn't shown.
 use Rattle.std.proofs.Common.{◌≡◌, sym, ◌∙◌}
 use Rattle.std.proofs.lemmas.Bool.{false≢true}
-use Rattle.alt_engine.specs.Layout.{shown}
+use Rattle.alt_layout.specs.Layout.{shown}
 use Rattle.alt_opening.proofs.IndexOwn.{is_missing}
 use Rattle.alt_opening.proofs.OneState.{some}
 use Rattle.alt_opening.proofs.index_scan.missing_key.Goals as goal

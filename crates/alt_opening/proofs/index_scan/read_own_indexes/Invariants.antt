@@ -1,7 +1,7 @@
 -- The indexes so far are read, and the engine reads as it read.
 use Rattle.std.proofs.Common.{◌<◌, IsTrue}
 use Rattle.alt_engine.specs.InHand.{Reads}
-use Rattle.alt_engine.specs.Layout.{Layout}
+use Rattle.alt_layout.specs.Layout.{Layout}
 use Rattle.alt_machine.specs.Valid.{IsMade}
 use Rattle.alt_opening.specs.IndexScans.{IndexesWhere}
 use Rattle.alt_opening.specs.Scans.{ItemsRead, Walked}

@@ -1,7 +1,7 @@
 -- The tables of the rows so far are known, and the engine reads as it read.
 use Rattle.std.proofs.Common.{IsTrue}
 use Rattle.alt_engine.specs.InHand.{Reads}
-use Rattle.alt_engine.specs.Layout.{Layout}
+use Rattle.alt_layout.specs.Layout.{Layout}
 use Rattle.alt_opening.specs.Opening.{IsReadUpTo}
 use Rattle.alt_opening.specs.Scans.{Walked}
 use Rattle.alt_opening.proofs.opened.read_catalog.Given as goal

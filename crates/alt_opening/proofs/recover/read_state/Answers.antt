@@ -1,6 +1,6 @@
 -- What was read makes a state, or a row is the first wrong one.
 use Rattle.std.proofs.Common.{sym, subst, IsTrue}
-use Rattle.alt_engine.specs.Layout.{ShowsFirst}
+use Rattle.alt_layout.specs.Layout.{ShowsFirst}
 use Rattle.alt_opening.specs.Opening.{AllItemsRead, IsCatalog}
 use Rattle.alt_opening.specs.Scans.{Walked}
 use Rattle.alt_opening.proofs.FirstWrong.{beyond_wrong}

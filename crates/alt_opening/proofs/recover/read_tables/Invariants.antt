@@ -1,7 +1,7 @@
 -- The items of the tables up to this family are read.
 use Rattle.std.proofs.Common.{◌<◌, ◌-◌, ◌^◌, ℕ, IsTrue}
 use Rattle.alt_engine.specs.InHand.{Reads}
-use Rattle.alt_engine.specs.Layout.{Layout}
+use Rattle.alt_layout.specs.Layout.{Layout}
 use Rattle.alt_opening.specs.Opening.{IsCatalog}
 use Rattle.alt_opening.specs.Scans.{Walked}
 use Rattle.alt_opening.proofs.TableSteps.{ReadUpTo}

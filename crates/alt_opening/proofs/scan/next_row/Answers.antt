@@ -1,6 +1,6 @@
 -- The first of a page of one is the next row.
 use Rattle.std.proofs.Common.{◌∙◌, ◌++◌, take, None, true, arith}
-use Rattle.alt_engine.specs.Layout.{rows_between}
+use Rattle.alt_layout.specs.Layout.{rows_between}
 use Rattle.alt_opening.proofs.NextRow.{next_row_is, popped}
 use Rattle.alt_opening.proofs.scan.next_row.Goals as goal
 

@@ -1,7 +1,7 @@
 -- The items of the rows so far are read, and the engine reads as it read.
 use Rattle.std.proofs.Common.{IsTrue}
 use Rattle.alt_engine.specs.InHand.{Reads}
-use Rattle.alt_engine.specs.Layout.{Layout}
+use Rattle.alt_layout.specs.Layout.{Layout}
 use Rattle.alt_opening.specs.Scans.{IsBelow, ItemsWhere, Walked}
 use Rattle.alt_opening.proofs.scan.read_items.Given as goal
 

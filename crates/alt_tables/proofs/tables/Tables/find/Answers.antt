@@ -1,6 +1,6 @@
 -- What the row shows is the item, and nothing else changed.
 use Rattle.std.proofs.Common.{sym, ap, ◌∙◌, refl, Err}
-use Rattle.alt_engine.specs.Layout.{shown}
+use Rattle.alt_layout.specs.Layout.{shown}
 use Rattle.std.specs.FinMap as map
 use Rattle.alt_disk.proofs.Runs.{tells_of}
 use Rattle.alt_tables.proofs.Standing.{stays, there, item_found, item_reads, row_shows}

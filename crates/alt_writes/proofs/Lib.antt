@@ -1,0 +1,4 @@
+pub mod FormatLaws
+pub mod OneWrite
+pub mod PushLaws
+pub mod ReadLaws

@@ -1,0 +1,148 @@
+-- Bytes are those of one write at most.
+use Rattle.std.proofs.Common.{◌≡◌, ◌<◌, ◌^◌, ℕ, Bool, true, false, List, [], ◌∷◌, ◌++◌, length, map, take, drop, Option, Some, None, refl, sym, ap, ◌∙◌, arith, append_assoc}
+use Rattle.std.proofs.lemmas.List.{take_at, drop_at}
+use Rattle.std.proofs.lemmas.Nat.{from_be_bytes-to_be_bytes_4, from_be_bytes-to_be_bytes_8}
+use Rattle.std.specs.Int.{w32, w64, to_be_bytes, from_be_bytes}
+use Rattle.alt_cells.specs.declared.batch.RowChange.{RowChange}
+use Rattle.alt_fields.specs.Field.{field}
+use Rattle.alt_fields.specs.Bytes.{IsShort}
+use Rattle.alt_writes.specs.Writes.{Write}
+use Rattle.alt_writes.specs.Bytes.{clear_byte, value_bytes, cells_bytes, change_bytes, changes_bytes, write_bytes, IsShortValue, AreShortCells, IsHeldChange, AreHeldChanges, IsHeldWrite, AllHeld}
+
+-- two numbers of eight bytes at the front, told apart
+pub eight_apart : (m n : ℕ) (x y : List ℕ) → m < 2 ^ 64 → n < 2 ^ 64
+    → to_be_bytes w64 m ++ x ≡ to_be_bytes w64 n ++ y → (m ≡ n) × (x ≡ y)
+eight_apart m n x y small_m small_n e = (
+  sym (from_be_bytes-to_be_bytes_8 m small_m)
+      ∙ ap (from_be_bytes w64) (sym (take_at (to_be_bytes w64 m) x 8 refl) ∙ ap (take 8) e
+      ∙ take_at (to_be_bytes w64 n) y 8 refl) ∙ from_be_bytes-to_be_bytes_8 n small_n,
+  sym (drop_at (to_be_bytes w64 m) x 8 refl) ∙ ap (drop 8) e ∙ drop_at (to_be_bytes w64 n) y 8 refl,
+)
+
+-- and of four
+pub four_apart : (m n : ℕ) (x y : List ℕ) → m < 2 ^ 32 → n < 2 ^ 32
+    → to_be_bytes w32 m ++ x ≡ to_be_bytes w32 n ++ y → (m ≡ n) × (x ≡ y)
+four_apart m n x y small_m small_n e = (
+  sym (from_be_bytes-to_be_bytes_4 m small_m)
+      ∙ ap (from_be_bytes w32) (sym (take_at (to_be_bytes w32 m) x 4 refl) ∙ ap (take 4) e
+      ∙ take_at (to_be_bytes w32 n) y 4 refl) ∙ from_be_bytes-to_be_bytes_4 n small_n,
+  sym (drop_at (to_be_bytes w32 m) x 4 refl) ∙ ap (drop 4) e ∙ drop_at (to_be_bytes w32 n) y 4 refl,
+)
+
+-- two fields
+pub field_apart : (a b x y : List ℕ) → IsShort a → IsShort b → field a ++ x ≡ field b ++ y
+    → (a ≡ b) × (x ≡ y)
+field_apart a b x y short_a short_b e =
+    let parts = eight_apart (length a) (length b) (a ++ x) (b ++ y) short_a short_b
+    (sym (append_assoc (to_be_bytes w64 (length a)) a x) ∙ e
+    ∙ append_assoc (to_be_bytes w64 (length b)) b y) in (
+      sym (take_at a x (length a) refl) ∙ ap (take (length a)) parts.1
+          ∙ take_at b y (length a) (sym parts.0),
+      sym (drop_at a x (length a) refl) ∙ ap (drop (length a)) parts.1
+          ∙ drop_at b y (length a) (sym parts.0),
+    )
+
+-- two values, or none
+pub value_apart : (a b : Option (List ℕ)) (x y : List ℕ) → IsShortValue a → IsShortValue b
+    → value_bytes a ++ x ≡ value_bytes b ++ y → (a ≡ b) × (x ≡ y)
+value_apart None None x y h k e = (refl, ap (drop 1) e)
+value_apart None (Some b) x y h k e = let no : 0 ∷ x ≡ 1 ∷ (field b ++ y) = e in cc no
+value_apart (Some a) None x y h k e = let no : 1 ∷ (field a ++ x) ≡ 0 ∷ y = e in cc no
+value_apart (Some a) (Some b) x y h k e = let parts = field_apart a b x y h k (ap (drop 1) e) in
+    (ap (λ v. Some v) parts.0, parts.1)
+
+-- two lists of columns, of one length
+pub cells_apart : (es fs : List (List ℕ × Option (List ℕ))) (x y : List ℕ) → AreShortCells es
+    → AreShortCells fs → length es ≡ length fs → cells_bytes es ++ x ≡ cells_bytes fs ++ y
+    → (es ≡ fs) × (x ≡ y)
+cells_apart [] [] x y h k n e = (refl, e)
+cells_apart [] (b ∷ fs) x y h k n e = absurd (omega arith)
+cells_apart (a ∷ es) [] x y h k n e = absurd (omega arith)
+cells_apart (a ∷ es) (b ∷ fs) x y h k n e =
+    let front = field_apart a.0 b.0 (value_bytes a.1 ++ (cells_bytes es ++ x))
+    (value_bytes b.1 ++ (cells_bytes fs ++ y)) h.0 k.0
+    (sym (pieces a es x) ∙ e ∙ pieces b fs y) in
+    let value = value_apart a.1 b.1 (cells_bytes es ++ x) (cells_bytes fs ++ y) h.1 k.1 front.1 in
+    let rest = cells_apart es fs x y h.2 k.2 (omega arith) value.1 in
+    ((λ i. (front.0 i, value.0 i) ∷ rest.0 i), rest.1)
+  where
+    pieces : (a : List ℕ × Option (List ℕ)) (es : List (List ℕ × Option (List ℕ))) (x : List ℕ)
+        → ((field a.0 ++ value_bytes a.1) ++ cells_bytes es) ++ x
+        ≡ field a.0 ++ (value_bytes a.1 ++ (cells_bytes es ++ x))
+    pieces a es x = append_assoc (field a.0 ++ value_bytes a.1) (cells_bytes es) x
+        ∙ append_assoc (field a.0) (value_bytes a.1) (cells_bytes es ++ x)
+
+-- two bytes that say whether a row is cleared
+pub clear_apart : (a b : Bool) (x y : List ℕ) → clear_byte a ∷ x ≡ clear_byte b ∷ y
+    → (a ≡ b) × (x ≡ y)
+clear_apart true true x y e = (refl, ap (drop 1) e)
+clear_apart false false x y e = (refl, ap (drop 1) e)
+clear_apart true false x y e = let no : 1 ∷ x ≡ 0 ∷ y = e in cc no
+clear_apart false true x y e = let no : 0 ∷ x ≡ 1 ∷ y = e in cc no
+
+-- the parts of a change, with what stands behind it
+pub change_pieces : (c : RowChange) (x : List ℕ) → change_bytes c ++ x
+    ≡ to_be_bytes w32 c.family ++ (field c.key
+    ++ (clear_byte c.clear ∷ (to_be_bytes w64 (length c.cells) ++ (cells_bytes c.cells ++ x))))
+unfolding change_bytes
+change_pieces c x =
+    append_assoc (to_be_bytes w32 c.family) (field c.key
+    ++ clear_byte c.clear ∷ (to_be_bytes w64 (length c.cells) ++ cells_bytes c.cells)) x
+    ∙ ap (λ s. to_be_bytes w32 c.family ++ s)
+    (append_assoc (field c.key) (clear_byte
+    c.clear ∷ (to_be_bytes w64 (length c.cells) ++ cells_bytes c.cells)) x
+    ∙ ap (λ s. field c.key ++ (clear_byte c.clear ∷ s))
+    (append_assoc (to_be_bytes w64 (length c.cells)) (cells_bytes c.cells) x))
+
+-- two changes
+pub change_apart : (c d : RowChange) (x y : List ℕ) → IsHeldChange c → IsHeldChange d
+    → change_bytes c ++ x ≡ change_bytes d ++ y → (c ≡ d) × (x ≡ y)
+change_apart c d x y h k e =
+    let family = four_apart c.family d.family _ _ h.family k.family
+    (sym (change_pieces c x) ∙ e ∙ change_pieces d y) in
+    let key = field_apart c.key d.key _ _ h.key k.key family.1 in
+    let clear = clear_apart c.clear d.clear _ _ key.1 in
+    let count = eight_apart (length c.cells) (length d.cells) _ _ h.count k.count clear.1 in
+    let cells = cells_apart c.cells d.cells x y h.cells k.cells count.0 count.1 in (
+      (λ i. record { family = family.0 i; key = key.0 i; clear = clear.0 i; cells = cells.0 i }),
+      cells.1,
+    )
+
+-- two lists of changes, of one length
+changes_apart : (cs ds : List RowChange) → AreHeldChanges cs → AreHeldChanges ds
+    → length cs ≡ length ds → changes_bytes cs ≡ changes_bytes ds → cs ≡ ds
+changes_apart [] [] h k n e = refl
+changes_apart [] (d ∷ ds) h k n e = absurd (omega arith)
+changes_apart (c ∷ cs) [] h k n e = absurd (omega arith)
+changes_apart (c ∷ cs) (d ∷ ds) h k n e =
+    let first = change_apart c d (changes_bytes cs) (changes_bytes ds) h.0 k.0 e in
+    let rest = changes_apart cs ds h.1 k.1 (omega arith) first.1 in
+    λ i. first.0 i ∷ rest i
+
+-- No two writes have the same bytes.
+pub one_write : (v w : Write) → IsHeldWrite v → IsHeldWrite w → write_bytes v ≡ write_bytes w
+    → v ≡ w
+unfolding write_bytes
+one_write v w h k e =
+    let number = eight_apart v.number w.number _ _ (fits v h) (fits w k) e in
+    let count = eight_apart (length v.changes) (length w.changes) (changes_bytes v.changes)
+    (changes_bytes w.changes) h.count k.count number.1 in
+    let changes = changes_apart v.changes w.changes h.changes k.changes count.0 count.1 in
+    λ i. record { number = number.0 i; changes = changes i }
+  where
+    fits : (u : Write) → IsHeldWrite u → u.number < 2 ^ 64
+    fits u held = let low = held.number in omega (arith, low)
+
+-- nor have two lists of writes the same entries
+pub same_writes : (vs ws : List Write) → AllHeld vs → AllHeld ws
+    → map write_bytes vs ≡ map write_bytes ws → vs ≡ ws
+same_writes [] [] h k e = refl
+same_writes [] (w ∷ ws) h k e = let none : [] ≡ write_bytes w ∷ map write_bytes ws = e in cc none
+same_writes (v ∷ vs) [] h k e = let none : write_bytes v ∷ map write_bytes vs ≡ [] = e in cc none
+same_writes (v ∷ vs) (w ∷ ws) h k e =
+    let heads : write_bytes v ≡ write_bytes w = first_of e in
+    let rest : map write_bytes vs ≡ map write_bytes ws = ap (drop 1) e in
+    λ i. one_write v w h.0 k.0 heads i ∷ same_writes vs ws h.1 k.1 rest i
+  where
+    first_of : {a b : List ℕ} {x y : List (List ℕ)} → a ∷ x ≡ b ∷ y → a ≡ b
+    first_of e = cc e

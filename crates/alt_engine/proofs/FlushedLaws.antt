@@ -30,12 +30,12 @@ use Rattle.alt_layout.proofs.FileLaws.{in_back, last_named, named_later}
 use Rattle.alt_layout.proofs.FlushLaws.{files_of-own, flushed_of-own, flush_same, of-other, unnamed, version_with_is}
 use Rattle.alt_layout.proofs.MomentLaws.{same_or_not}
 use Rattle.alt_layout.proofs.RowLaws.{next_after-least, with_later-none}
-use Rattle.alt_engine.specs.InHand.{Reads, Stands, AreOpen, family_of, rows_in, files_in}
-use Rattle.alt_engine.specs.Memory.{Families}
+use Rattle.alt_engine.specs.InHand.{Reads, Stands, AreOpen, family_of}
+use Rattle.alt_families.specs.Families.{Families, rows_in, files_in}
 use Rattle.alt_engine.specs.declared.engine.Engine.{Engine}
-use Rattle.alt_engine.specs.declared.engine.Family.{Family}
+use Rattle.alt_families.specs.declared.family.Family.{Family}
 use Rattle.alt_engine.proofs.HandLaws.{each_image, in_row_files, lies_of}
-use Rattle.alt_engine.proofs.MemoryLaws.{same_test}
+use Rattle.alt_families.proofs.MemoryLaws.{same_test}
 
 -- numbers that fit, and the one behind them
 next_fits : (next : ℕ) (ws : List Write) → next ≤ 2 ^ 62 - 1 → AllHeld ws

@@ -1,6 +1,6 @@
 -- A fresh store: that a stop leaves it, and that no file is there where the first is named.
 use Rattle.std.proofs.Common.{◌≡◌, ◌≢◌, ◌<◌, ◌==◌, ◌||◌, ◌++◌, inl, inr, ℕ, zero, suc, Bool, true, false, List, [], ◌∷◌}
-use Rattle.std.proofs.Common.{length, get_or, drop, Option, Some, None, is_some, refl, sym, ap, subst, ◌∙◌, arith, lit<, append_assoc}
+use Rattle.std.proofs.Common.{length, get_or, drop, Option, Some, None, is_some, refl, sym, ap, subst, ◌∙◌, arith, append_assoc}
 use Rattle.std.proofs.lemmas.Bool.{false≢true}
 use Rattle.std.proofs.lemmas.Bool.Decides.{nat_tests}
 use Rattle.std.proofs.lemmas.List.{drop_at}

@@ -36,8 +36,9 @@ use Rattle.alt_layout.proofs.RowLaws.{next_after-least, with_later-push, with_on
 use Rattle.alt_layout.proofs.MomentLaws.{in_each_image, lies_quiet, lies_write, spans_write}
 use Rattle.alt_layout.proofs.PastLaws.{stored_past}
 use Rattle.alt_layout.specs.Writes.{changes_in, with_write}
-use Rattle.alt_engine.specs.InHand.{Reads, Stands, AreOpen, batch_write, BeforeOrWith, IsWritten, family_of, files_in, rows_in, written_bytes}
-use Rattle.alt_engine.specs.Memory.{Families, IsWrittenTo}
+use Rattle.alt_engine.specs.InHand.{Reads, Stands, AreOpen, batch_write, BeforeOrWith, IsWritten, family_of, written_bytes}
+use Rattle.alt_families.specs.Families.{Families, files_in, rows_in}
+use Rattle.alt_families.specs.Memory.{IsWrittenTo}
 use Rattle.alt_engine.specs.declared.engine.Engine.{Engine}
 
 -- the last version, as the disk reads

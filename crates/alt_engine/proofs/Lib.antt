@@ -1,11 +1,6 @@
 pub mod ApplyLaws
 pub mod FlushedLaws
 pub mod Fresh
-pub mod GatherLaws
 pub mod HandLaws
-pub mod MemoryLaws
 pub mod OpenLaws
-pub mod RangeLaws
-pub mod SourceLaws
-pub mod StepLaws
 pub mod SyncLaws

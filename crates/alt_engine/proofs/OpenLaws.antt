@@ -1,30 +1,25 @@
--- The rows of a family are those of its files and of memory.
-use Rattle.std.proofs.Common.{◌≡◌, ◌<◌, ◌+◌, ℕ, List, [], ◌∷◌, map, drop, drop-cons, suc, length, get_or, Option, Some, None, refl, sym, ap, subst, ◌∙◌, arith}
-use Rattle.std.specs.FinMap.{empty, get, get-empty}
-use Rattle.alt_cells.specs.declared.row.RowCells.{RowCells}
-use Rattle.alt_cells.specs.Joined.{either, joined_map}
-use Rattle.alt_cells.specs.Keys.{key_cmp}
+-- The rows of an engine's family are those of its files and of memory.
+use Rattle.std.proofs.Common.{◌≡◌, ℕ, List, [], ◌∷◌, map, refl, sym, ap, subst, ◌∙◌}
+use Rattle.std.specs.FinMap.{empty}
+use Rattle.alt_cells.specs.Joined.{joined_map}
 use Rattle.alt_cells.specs.Rows.{join_row}
-use Rattle.alt_cells.proofs.CellLaws.{key_total}
-use Rattle.alt_cells.proofs.Entries.{either_none, either-assoc}
-use Rattle.alt_cells.proofs.RowLaws.{get-joined_map, IsJoin-join_row}
-use Rattle.alt_cells.specs.Walks.{IsDamaged}
 use Rattle.alt_cells.specs.declared.source.SourceFault.{SourceFault}
 use Rattle.alt_cells.specs.declared.source.SourceFault.TheVariants.{Damaged, Failed, NoMemory}
-use Rattle.alt_disk.specs.Disk.{DiskState, Goes}
+use Rattle.alt_disk.specs.Disk.{DiskState}
 use Rattle.alt_disk.specs.Runs.{Quiet}
-use Rattle.alt_layout.specs.Layout.{Layout, RowMap}
+use Rattle.alt_families.specs.Families.{files_in}
+use Rattle.alt_families.specs.Opened.{IsOpen, FamilyReads, IsUndamaged as IsUndamagedSource}
+use Rattle.alt_layout.specs.Layout.{Layout}
 use Rattle.alt_manifest.specs.InHand.{version_of}
 use Rattle.alt_merge.specs.Merges.{Each2, all_rows}
 use Rattle.alt_rowfile.specs.declared.rowfile.RowFile.{RowFile}
 use Rattle.alt_layout.specs.Families.{Held, files_of, flushed_of, joined_files, with_later}
 use Rattle.alt_layout.specs.Files.{all_of}
-use Rattle.alt_layout.proofs.RowLaws.{rows_join, none_before, with_later-from}
-use Rattle.alt_engine.specs.InHand.{Reads, AreOpen, family_of, files_in}
-use Rattle.alt_engine.specs.Opened.{IsOpen, FamilyReads, IsUndamaged, StaysOn, of_source}
+use Rattle.alt_layout.proofs.RowLaws.{rows_join, with_later-from}
+use Rattle.alt_engine.specs.InHand.{Reads, AreOpen, family_of}
+use Rattle.alt_engine.specs.Opened.{IsUndamaged, StaysOn, of_source}
 use Rattle.alt_engine.specs.declared.engine.Engine.{Engine}
 use Rattle.alt_engine.specs.declared.engine.EngineFault.{EngineFault}
-use Rattle.alt_engine.specs.declared.engine.Family.{Family}
 use Rattle.alt_engine.proofs.HandLaws.{reads_quiet, stays_quiet}
 
 -- files in hand, with the maps that they read as
@@ -56,14 +51,6 @@ family_reads s e l reads family =
           ∙ (λ i. joined_map join_row (sym (reads.memory family) i) (joined_all reads.held gs i));
     }
 
--- a family that isn't in hand has no rows
-pub none_reads : (s : DiskState) (rows : RowMap) → FamilyReads s None rows → rows ≡ empty
-none_reads s rows reads = reads.is ∙ none_before (all_rows reads.maps) ∙ no_maps reads.maps reads.each
-  where
-    no_maps : (maps : List RowMap) → Each2 (IsOpen s) [] maps → all_rows maps ≡ empty
-    no_maps [] each = refl
-    no_maps (m ∷ ms) each = absurd each
-
 -- the engine stays what it is where a call leaves every file
 pub stays_on : (a b : DiskState) (e : Engine) → Quiet a b → StaysOn a b e e
 stays_on a b e quiet = record {
@@ -72,119 +59,12 @@ stays_on a b e quiet = record {
   stands = λ l stands. stays_quiet a b e l stands quiet;
 }
 
--- ---- one row
-
--- a file in hand reads as it read
-pub open_quiet : (a b : DiskState) (f : RowFile) (m : RowMap) → Quiet a b → IsOpen a f m → IsOpen b f m
-open_quiet a b f m quiet reads = record {
-  bytes = reads.bytes;
-  there = quiet.file f.file ∙ reads.there;
-  as_file = reads.as_file;
-}
-
--- what is found of files that are still to be asked, joined to what was found, is what is looked for
-pub record RowLeft (s : DiskState) (fs : List RowFile) (key : List ℕ) (row : Option RowCells)
-    (rows : RowMap) : Type 0 where
-  pub maps : List RowMap
-  pub each : Each2 (IsOpen s) fs maps
-  pub is : get rows key ≡ either join_row row (get (all_rows maps) key)
-
--- at first what memory has
-pub row_first : (s : DiskState) (f : Family) (key : List ℕ) (rows : RowMap)
-    → FamilyReads s (Some f) rows → RowLeft s f.files.items key (get f.table.0 key) rows
-row_first s f key rows reads = record {
-  maps = reads.maps;
-  each = reads.each;
-  is = ap (λ (m : RowMap). get m key) reads.is
-      ∙ get-joined_map key_cmp key_total join_row f.table.0 (all_rows reads.maps) key;
-}
-
--- one file more
-row_next : (s : DiskState) (f : RowFile) (fs : List RowFile) (key : List ℕ)
-    (row more new : Option RowCells) (rows : RowMap) → RowLeft s (f ∷ fs) key row rows
-    → ((m : RowMap) → IsOpen s f m → more ≡ get m key) → new ≡ either join_row row more
-    → RowLeft s fs key new rows
-row_next s f fs key row more new rows left asked is = by left.maps left.each left.is
-  where
-    by : (maps : List RowMap) → Each2 (IsOpen s) (f ∷ fs) maps
-        → get rows key ≡ either join_row row (get (all_rows maps) key) → RowLeft s fs key new rows
-    by [] each same = absurd each
-    by (m ∷ ms) each same = record {
-      maps = ms;
-      each = each.1;
-      is = same
-          ∙ ap (either join_row row)
-          (get-joined_map key_cmp key_total join_row m (all_rows ms) key
-          ∙ ap (λ o. either join_row o (get (all_rows ms) key)) (sym (asked m each.0)))
-          ∙ sym (either-assoc join_row IsJoin-join_row row more (get (all_rows ms) key))
-          ∙ ap (λ o. either join_row o (get (all_rows ms) key)) (sym is);
-    }
-
-pub row_more : (s : DiskState) (fs : List RowFile) (i : ℕ) (f : RowFile) (key : List ℕ)
-    (row more new : Option RowCells) (rows : RowMap) → RowLeft s (drop i fs) key row rows
-    → i < length fs → f ≡ get_or fs i f → ((m : RowMap) → IsOpen s f m → more ≡ get m key)
-    → new ≡ either join_row row more → RowLeft s (drop (i + 1) fs) key new rows
-row_more s fs i f key row more new rows left within at asked is =
-    row_next s f (drop (i + 1) fs) key row more new rows
-    (subst (λ (l : List RowFile). RowLeft s l key row rows)
-    (drop-cons fs i f within ∙ (λ j. sym at j ∷ drop (one_more i j) fs)) left) asked is
-  where
-    one_more : (n : ℕ) → suc n ≡ n + 1
-    one_more n = omega arith
-
--- after the last one it is what is looked for
-pub row_last : (s : DiskState) (fs : List RowFile) (key : List ℕ) (row : Option RowCells)
-    (rows : RowMap) → RowLeft s fs key row rows → fs ≡ [] → row ≡ get rows key
-row_last s fs key row rows left none = by left.maps (subst (λ l. Each2 (IsOpen s) l left.maps) none left.each)
-    left.is
-  where
-    by : (maps : List RowMap) → Each2 (IsOpen s) [] maps
-        → get rows key ≡ either join_row row (get (all_rows maps) key) → row ≡ get rows key
-    by [] each same = sym (same ∙ ap (either join_row row) (get-empty key_cmp key)
-        ∙ either_none join_row row)
-    by (m ∷ ms) each same = absurd each
-
--- where there is a file it reads as some map
-pub some_open : {P : Type 0} (s : DiskState) (fs : List RowFile) (i : ℕ) (f : RowFile) (key : List ℕ)
-    (row : Option RowCells) (rows : RowMap) → RowLeft s (drop i fs) key row rows → i < length fs
-    → f ≡ get_or fs i f → ((m : RowMap) → IsOpen s f m → P) → P
-some_open {P} s fs i f key row rows left within at leads =
-    by left.maps (subst (λ (l : List RowFile). Each2 (IsOpen s) l left.maps)
-    (drop-cons fs i f within ∙ ap (λ (x : RowFile). x ∷ drop (suc i) fs) (sym at)) left.each)
-  where
-    by : (maps : List RowMap) → Each2 (IsOpen s) (f ∷ drop (suc i) fs) maps → P
-    by [] each = absurd each
-    by (m ∷ ms) each = leads m each.0
-
 -- a fault of a source that isn't damage is none of the engine
 pub undamaged_source : (given : SourceFault) (made : EngineFault) → made ≡ of_source given
-    → (IsDamaged given → ⊥) → IsUndamaged made
+    → IsUndamagedSource given → IsUndamaged made
 undamaged_source given made is not = subst IsUndamaged (sym is) (by given not)
   where
-    by : (given : SourceFault) → (IsDamaged given → ⊥) → IsUndamaged (of_source given)
+    by : (given : SourceFault) → IsUndamagedSource given → IsUndamaged (of_source given)
     by (Damaged f at) not = not tt
     by Failed not = tt
     by NoMemory not = tt
-
--- calls so far
-pub goes_start : (s : DiskState) → Goes s s
-goes_start s = record {
-  tells = refl;
-  honest = refl;
-  beside = refl;
-  anchors = refl;
-  later = omega arith;
-  faults = omega arith;
-  past = λ t f le. refl;
-}
-
-pub goes_then : (a b c : DiskState) → Goes a b → Goes b c → Goes a c
-goes_then a b c first more = record {
-  tells = more.tells ∙ first.tells;
-  honest = more.honest ∙ first.honest;
-  beside = more.beside ∙ first.beside;
-  anchors = more.anchors ∙ first.anchors;
-  later = omega (arith, first.later, more.later);
-  faults = omega (arith, first.faults, more.faults);
-  past = λ t f le. more.past t f (omega (arith, le, first.later)) ∙ first.past t f le;
-}

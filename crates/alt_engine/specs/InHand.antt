@@ -1,5 +1,5 @@
 -- An engine in hand over files, and the disk on which they lie.
-use Rattle.std.specs.Prelude.{◌≡◌, ◌⊎◌, ◌≤◌, ◌+◌, ◌-◌, ◌^◌, ℕ, List, [], ◌∷◌, length, map, min, Option, Some, None}
+use Rattle.std.specs.Prelude.{◌≡◌, ◌⊎◌, ◌≤◌, ◌+◌, ◌-◌, ◌^◌, ℕ, List, [], ◌∷◌, length, map, min, Option, None}
 use Rattle.std.specs.BTreeMap.{get}
 use Rattle.std.specs.FinMap.{empty, entries}
 use Rattle.std.specs.Ordering.{nat_cmp}
@@ -8,7 +8,7 @@ use Rattle.alt_disk.specs.Disk.{DiskState, IsSettled}
 use Rattle.alt_gatelog.specs.InHand.{file_of as log_file, Reads as LogReads}
 use Rattle.alt_rowfile.specs.InHand.{file_of as row_file, Reads as RowReads}
 use Rattle.alt_rowfile.specs.declared.rowfile.RowFile.{RowFile}
-use Rattle.alt_layout.specs.Layout.{Layout, RowMap}
+use Rattle.alt_layout.specs.Layout.{Layout}
 use Rattle.alt_writes.specs.Writes.{Write}
 use Rattle.alt_writes.specs.Bytes.{write_bytes}
 use Rattle.alt_layout.specs.Fresh.{versions_file}
@@ -20,18 +20,9 @@ use Rattle.alt_layout.specs.Writes.{with_write}
 use Rattle.alt_engine.specs.declared.engine.Engine.{Engine}
 use Rattle.alt_engine.specs.declared.engine.EngineFault.{EngineFault}
 use Rattle.alt_engine.specs.declared.engine.EngineFault.TheVariants.{Spent, Damaged, Failed, NoMemory}
-use Rattle.alt_engine.specs.declared.engine.Family.{Family}
+use Rattle.alt_families.specs.Families.{rows_in, files_in}
+use Rattle.alt_families.specs.declared.family.Family.{Family}
 use Rattle.alt_engine.specs.declared.engine.Limits.{Limits}
-
--- The rows that a family has in memory.
-abbrev pub rows_in : Option Family → RowMap
-rows_in None = empty
-rows_in (Some f) = f.table.0
-
--- The files that it has in hand.
-abbrev pub files_in : Option Family → List RowFile
-files_in None = []
-files_in (Some f) = f.files.items
 
 -- The family of this number, if the engine has one.
 abbrev pub family_of : Engine → ℕ → Option Family

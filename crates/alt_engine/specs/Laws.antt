@@ -10,7 +10,7 @@ use Rattle.alt_rowfile.specs.InHand.{file_of as row_file, Stands as RowFileStand
 use Rattle.alt_rowfile.specs.declared.rowfile.RowFile.{RowFile}
 use Rattle.alt_layout.specs.Flushes.{HasNext, version_with, with_rows}
 use Rattle.alt_layout.specs.Moments.{Lies}
-use Rattle.alt_engine.specs.Memory.{Families}
+use Rattle.alt_families.specs.Families.{Families, files_in, rows_in}
 use Rattle.alt_cells.specs.declared.batch.RowChange.{RowChange}
 use Rattle.alt_disk.specs.Disk.{DiskState, IsImage}
 use Rattle.alt_disk.specs.Runs.{Quiet, Run, Spans}
@@ -19,7 +19,7 @@ use Rattle.alt_gatelog.specs.Log.{BeforeOrAfter, first_form}
 use Rattle.alt_layout.specs.Layout.{Layout, IsPast}
 use Rattle.alt_writes.specs.Bytes.{IsHeldWrite, write_bytes}
 use Rattle.alt_layout.specs.Files.{IsLayout}
-use Rattle.alt_engine.specs.InHand.{Reads, Stands, batch_write, BeforeOrWith, IsWritten, family_of, files_in, rows_in}
+use Rattle.alt_engine.specs.InHand.{Reads, Stands, batch_write, BeforeOrWith, IsWritten, family_of}
 use Rattle.alt_engine.specs.declared.engine.Engine.{Engine}
 
 -- Each timestamp of an engine's rows is below its next number.

@@ -1,10 +1,7 @@
 pub mod InHand
 pub mod Laws
 pub mod Making
-pub mod Memory
 pub mod Opened
-pub mod Ranges
 pub mod Recovery
-pub mod Sources
 pub mod Syncing
 pub mod Working

@@ -1,8 +1,5 @@
 -- What work between requests leaves: the rows that live families show.
-use Rattle.std.specs.Prelude.{◌≡◌, ◌<◌, ◌≤◌, ◌⊎◌, ◌-◌, ◌^◌, ◌*◌, ◌+◌, ℕ, List, [], length, flat_map, map, Option, None}
-use Rattle.std.specs.List.{AllByRecursion}
-use Rattle.alt_cells.specs.Keys.{key_cmp}
-use Rattle.alt_gatelog.specs.Log.{IsLog, first_form}
+use Rattle.std.specs.Prelude.{◌≡◌, ◌⊎◌, ◌-◌, ◌^◌, ℕ, List, None}
 use Rattle.alt_manifest.specs.Versions.{HasVersion, IsIn, RiseFrom}
 use Rattle.alt_manifest.specs.declared.version.Version.{Version}
 use Rattle.alt_writes.specs.Writes.{Write}

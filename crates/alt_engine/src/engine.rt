@@ -8,15 +8,13 @@ ghost use Rattle.alt_layout.specs.Layout.{Layout};
 ghost use Rattle.alt_layout.specs.Writes.{with_write};
 ghost use Rattle.alt_engine.specs.InHand.{next_of, Reads, Stands, IsSpentAt, batch_write, BeforeOrWith, IsWritten};
 
-use crate::memory::{put_all, with_more};
 use alt_base::NoMemory;
-use alt_cells::Batch;
+use alt_cells::{Batch, SourceFault};
 use alt_disk::{Disk, DiskFault};
-use alt_writes::write_of;
+use alt_families::{Family, put_changes, with_more};
 use alt_gatelog::GateLog;
 use alt_manifest::Manifest;
-use alt_memtable::Memtable;
-use alt_rowfile::RowFile;
+use alt_writes::write_of;
 use std::alloc::Global;
 use std::collections::BTreeMap;
 
@@ -47,18 +45,25 @@ impl From<NoMemory> for EngineFault {
     }
 }
 
+impl From<SourceFault> for EngineFault {
+    ghost use Rattle.alt_engine.specs.Opened.{of_source};
+
+    ghost from_gives = { λ given f. f ≡ of_source given };
+
+    fn from(fault: SourceFault) -> Self {
+        match fault {
+            SourceFault::Damaged { file, at } => EngineFault::Damaged { file, at },
+            SourceFault::Failed => EngineFault::Failed,
+            SourceFault::NoMemory => EngineFault::NoMemory,
+        }
+    }
+}
+
 /// From how many bytes on a family is flushed, and from how many files on merged.
 #[derive(Clone, Copy, Debug, PartialEq, Eq, Drop)]
 pub struct Limits {
     pub flush: u64,
     pub merge: u32,
-}
-
-/// The rows in memory of one family, and its files.
-#[derive(Drop)]
-pub struct Family {
-    pub(crate) table: Memtable,
-    pub(crate) files: Vec<RowFile>,
 }
 
 /// The engine: the versions, the last segment, the bytes of all segments' entries, the numbers of the next write and of the next
@@ -121,7 +126,7 @@ impl Engine {
         let bytes = write_of(self.alloc, self.next, batch.as_slice())?;
 
         // The rows go into memory first, so that nothing but the disk can fail once the entry is on its way.
-        put_all(self.alloc, &mut self.families, self.next, batch.as_slice())?;
+        put_changes(self.alloc, &mut self.families, self.next, batch.as_slice())?;
         match self.log.append(disk, bytes.as_slice()) {
             Ok(()) => {}
             Err(DiskFault::Failed) => return Err(EngineFault::Failed),

@@ -10,10 +10,11 @@ ghost use Rattle.alt_flush.specs.Flushing.{IsFlushOf};
 ghost use Rattle.alt_layout.specs.Moments.{Has};
 ghost use Rattle.alt_engine.specs.InHand.{next_file_of, next_of, Stands};
 
-use crate::engine::{Engine, EngineFault, Family};
+use crate::engine::{Engine, EngineFault};
 use crate::next::version_with;
 use alt_base::NoMemory;
 use alt_disk::{Disk, DiskFault};
+use alt_families::Family;
 use alt_flush::flush_family;
 use alt_rowfile::RowFile;
 

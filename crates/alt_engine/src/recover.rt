@@ -19,9 +19,16 @@ use std::alloc::Global;
 #[derive(Clone, Copy, Debug, PartialEq, Eq, Drop)]
 pub enum RecoverFault {
     /// The files are no store's, for the bytes of this file at this place.
-    Damaged { file: u32, at: u64 },
+    Damaged {
+        file: u32,
+        at: u64,
+    },
     /// A row file ends with a digest that isn't that of the bytes before it.
-    DigestDiffers { file: u32, kept: [u8; 32], found: [u8; 32] },
+    DigestDiffers {
+        file: u32,
+        kept: [u8; 32],
+        found: [u8; 32],
+    },
     /// The disk failed, and its count of faults rose.
     Failed,
     /// Memory was refused.

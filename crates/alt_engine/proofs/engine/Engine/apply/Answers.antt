@@ -3,7 +3,7 @@ use Rattle.std.proofs.Common.{◌+◌, map, min, ap, subst, sym, ◌∙◌}
 use Rattle.alt_memtable.specs.Rows.{most_bytes}
 use Rattle.alt_disk.specs.Disk.{DiskState}
 use Rattle.alt_writes.specs.Bytes.{write_bytes}
-use Rattle.alt_engine.specs.Memory.{IsWrittenTo}
+use Rattle.alt_families.specs.Memory.{IsWrittenTo}
 use Rattle.alt_engine.proofs.ApplyLaws.{at_rest, fits_as, log_stands, spelled_as}
 use Rattle.alt_engine.proofs.HandLaws.{write_images, with_batch}
 use Rattle.alt_engine.proofs.engine.Engine.apply.Goals as goal
@@ -17,8 +17,8 @@ pub returns-in_err-bytes-clause-any_moment : goal.returns-in_err-bytes-clause-an
 returns-in_err-bytes-clause-any_moment g c trusted l stands =
     at_rest (g.D.Disk.state c.args.disk.now) c.args.self.now l c.args.batch.now stands
 
-pub returns-in_err-put_all-clause-any_moment : goal.returns-in_err-put_all-clause-any_moment
-returns-in_err-put_all-clause-any_moment g c trusted l stands =
+pub returns-in_err-put_changes-clause-any_moment : goal.returns-in_err-put_changes-clause-any_moment
+returns-in_err-put_changes-clause-any_moment g c trusted l stands =
     at_rest (g.D.Disk.state c.args.disk.now) c.args.self.now l c.args.batch.now stands
 
 pub returns-in-Err-Failed-clause-any_moment : goal.returns-in-Err-Failed-clause-any_moment
@@ -71,10 +71,10 @@ returns-clause-ok g c trusted l stands =
     (fits_as s e l c.as_slice.result.now batch stands c.as_slice.ensures.changes
     c.in_ok-bytes.ensures.held)
     (c.append.ensures.any_moment trusted (map write_bytes stands.reads.writes)
-    (log_stands s e l stands)) c.append.new.self c.with_more-self.result c.put_all.new.families
+    (log_stands s e l stands)) c.append.new.self c.with_more-self.result c.put_changes.new.families
     c.append.ensures.file
     (c.in-Ok.ensures.ok trusted (map write_bytes stands.reads.writes) stands.reads.log)
     (c.with_more-self.ensures ∙ ap (λ n. min (e.length + n) most_bytes)
     (c.len.ensures ∙ sym c.as_slice-3.ensures.len))
-    (subst (IsWrittenTo e.families c.put_all.new.families e.next) c.as_slice-2.ensures.changes
-    c.in_ok-put_all.ensures)
+    (subst (IsWrittenTo e.families c.put_changes.new.families e.next) c.as_slice-2.ensures.changes
+    c.in_ok-put_changes.ensures)

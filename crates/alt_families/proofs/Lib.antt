@@ -1,0 +1,6 @@
+pub mod GatherLaws
+pub mod MemoryLaws
+pub mod OpenLaws
+pub mod RangeLaws
+pub mod SourceLaws
+pub mod StepLaws

@@ -1,0 +1,135 @@
+-- Changes of a write, joined to the rows in memory one by one.
+use Rattle.std.proofs.Common.{◌≡◌, ◌+◌, ◌<◌, ◌==◌, ◌++◌, ℕ, Bool, true, false, cond, List, [], ◌∷◌, take, length, get_or, Some, refl, sym, ap, subst, ◌∙◌, eqb-true, eq-eqb, arith}
+use Rattle.std.proofs.lemmas.List.{take_more}
+use Rattle.std.specs.Prelude.{if◌then◌else◌}
+use Rattle.std.specs.BTreeMap.{get}
+use Rattle.std.specs.Cmp.{ranked}
+use Rattle.std.specs.declared.cmp.Ordering.{Ordering}
+use Rattle.std.specs.declared.cmp.Ordering.TheVariants.{Less, Equal, Greater}
+use Rattle.std.specs.FinMap.{empty}
+use Rattle.std.specs.Ordering.{nat_cmp, is_eq}
+use Rattle.alt_cells.specs.declared.batch.RowChange.{RowChange}
+use Rattle.alt_cells.specs.Changes.{row_of_change}
+use Rattle.alt_cells.specs.Joined.{joined_map}
+use Rattle.alt_cells.specs.Rows.{join_row}
+use Rattle.alt_layout.specs.Layout.{RowMap}
+use Rattle.alt_layout.specs.Writes.{changes_in, one_row}
+use Rattle.alt_layout.proofs.RowLaws.{rows_join, none_before, none_behind}
+use Rattle.alt_families.specs.Families.{Families, rows_in, files_in}
+use Rattle.alt_families.specs.Memory.{IsWrittenTo}
+use Rattle.alt_families.specs.declared.family.Family.{Family}
+
+-- changes behind changes
+pub changes_in-append : (number family : ℕ) (xs ys : List RowChange)
+    → changes_in number family (xs ++ ys)
+    ≡ joined_map join_row (changes_in number family xs) (changes_in number family ys)
+changes_in-append number family [] ys = sym (none_before (changes_in number family ys))
+changes_in-append number family (c ∷ cs) ys =
+    by_test (c.family == family) (changes_in-append number family cs ys)
+  where
+    by_test : (t : Bool) → changes_in number family (cs ++ ys)
+        ≡ joined_map join_row (changes_in number family cs) (changes_in number family ys)
+        → (if t then joined_map join_row (one_row c.key (row_of_change number c))
+        (changes_in number family (cs ++ ys)) else changes_in number family (cs ++ ys))
+        ≡ joined_map join_row (if t then joined_map join_row (one_row c.key (row_of_change number c))
+        (changes_in number family cs) else changes_in number family cs)
+        (changes_in number family ys)
+    by_test true rest = ap (joined_map join_row (one_row c.key (row_of_change number c))) rest
+        ∙ sym (rows_join.assoc (one_row c.key (row_of_change number c))
+        (changes_in number family cs) (changes_in number family ys))
+    by_test false rest = rest
+
+-- nothing written yet
+pub none_written : (families : Families) (number : ℕ) → IsWrittenTo families families number []
+none_written families number = record {
+  rows = λ f. sym (none_behind (rows_in (get nat_cmp families f)));
+  files = λ f. refl;
+}
+
+-- one write behind another of the same number
+pub written_then : (a b c : Families) (number : ℕ) (xs ys : List RowChange)
+    → IsWrittenTo a b number xs → IsWrittenTo b c number ys → IsWrittenTo a c number (xs ++ ys)
+written_then a b c number xs ys first later = record {
+  rows = λ f. later.rows f
+      ∙ ap (λ (m : RowMap). joined_map join_row m (changes_in number f ys)) (first.rows f)
+      ∙ rows_join.assoc (rows_in (get nat_cmp a f)) (changes_in number f xs) (changes_in number f ys)
+      ∙ ap (joined_map join_row (rows_in (get nat_cmp a f))) (sym (changes_in-append number f xs ys));
+  files = λ f. later.files f ∙ first.files f;
+}
+
+-- one change more of a list
+pub written_more : (a b c : Families) (number i : ℕ) (cs : List RowChange) (x : RowChange)
+    → i < length cs → x ≡ get_or cs i x → IsWrittenTo a b number (take i cs)
+    → IsWrittenTo b c number (x ∷ []) → IsWrittenTo a c number (take (i + 1) cs)
+written_more a b c number i cs x within at first later =
+    subst (IsWrittenTo a c number)
+    (ap (λ (y : RowChange). take i cs ++ y ∷ []) at ∙ sym (take_more cs i x within))
+    (written_then a b c number (take i cs) (x ∷ []) first later)
+
+-- a family's rows and files, with a change of another family or of it
+pub changes_one : (number f : ℕ) (c : RowChange)
+    → changes_in number f (c ∷ []) ≡ (if c.family == f
+    then one_row c.key (row_of_change number c) else empty)
+changes_one number f c = by_test (c.family == f)
+  where
+    by_test : (t : Bool) → (if t then joined_map join_row (one_row c.key (row_of_change number c)) empty
+        else empty) ≡ (if t then one_row c.key (row_of_change number c) else empty)
+    by_test true = none_behind (one_row c.key (row_of_change number c))
+    by_test false = refl
+
+-- two tests of numbers
+pub same_test : (m n : ℕ) → is_eq (nat_cmp m n) ≡ (m == n)
+same_test m n = by_test (m == n) refl
+  where
+    tied : (o : Ordering) → o ≡ nat_cmp m n → (b : Bool) → (m == n) ≡ b → is_eq o ≡ b
+    tied Less is true told = let r = ranked m n Less is in let same = eqb-true m n told in
+        absurd (omega (arith, r, same))
+    tied Less is false told = refl
+    tied Equal is true told = refl
+    tied Equal is false told = let r = ranked m n Equal is in
+        let no : true ≡ false = sym (eq-eqb m n r) ∙ told in cc no
+    tied Greater is true told = let r = ranked m n Greater is in
+        let same = eqb-true m n told in absurd (omega (arith, r, same))
+    tied Greater is false told = refl
+
+    by_test : (b : Bool) → (m == n) ≡ b → is_eq (nat_cmp m n) ≡ (m == n)
+    by_test b is = tied (nat_cmp m n) refl b is ∙ sym is
+
+-- One family put in, with the change joined to its rows and its files as they were.
+pub put_written : (old new : Families) (number : ℕ) (c : RowChange) (family : Family)
+    → ((q : ℕ) → get nat_cmp new q ≡ cond (is_eq (nat_cmp c.family q)) (Some family) (get nat_cmp old q))
+    → family.table.0 ≡ joined_map join_row (rows_in (get nat_cmp old c.family))
+    (one_row c.key (row_of_change number c))
+    → family.files.items ≡ files_in (get nat_cmp old c.family)
+    → IsWrittenTo old new number (c ∷ [])
+put_written old new number c family at rows files = record {
+  rows = λ f. rows_at f (c.family == f) refl;
+  files = λ f. files_at f (c.family == f) refl;
+}
+  where
+    found : (f : ℕ) (t : Bool) → (c.family == f) ≡ t
+        → get nat_cmp new f ≡ cond t (Some family) (get nat_cmp old f)
+    found f t is = at f ∙ ap (λ b. cond b (Some family) (get nat_cmp old f))
+        (same_test c.family f ∙ is)
+
+    rows_at : (f : ℕ) (t : Bool) → (c.family == f) ≡ t → rows_in (get nat_cmp new f)
+        ≡ joined_map join_row (rows_in (get nat_cmp old f)) (changes_in number f (c ∷ []))
+    rows_at f true is =
+        let same : c.family ≡ f = eqb-true c.family f is in
+        ap rows_in (found f true is) ∙ rows
+        ∙ (λ i. joined_map join_row (rows_in (get nat_cmp old (same i)))
+        (sym (changes_one number f c ∙ ap (λ t. if t
+        then one_row c.key (row_of_change number c) else empty) is) i))
+    rows_at f false is =
+        ap rows_in (found f false is)
+        ∙ sym (ap (joined_map join_row (rows_in (get nat_cmp old f)))
+        (changes_one number f c ∙ ap (λ t. if t
+        then one_row c.key (row_of_change number c) else empty) is)
+        ∙ none_behind (rows_in (get nat_cmp old f)))
+
+    files_at : (f : ℕ) (t : Bool) → (c.family == f) ≡ t
+        → files_in (get nat_cmp new f) ≡ files_in (get nat_cmp old f)
+    files_at f true is =
+        let same : c.family ≡ f = eqb-true c.family f is in
+        ap files_in (found f true is) ∙ files ∙ ap (λ g. files_in (get nat_cmp old g)) same
+    files_at f false is = ap files_in (found f false is)

@@ -1,0 +1,5 @@
+pub mod Families
+pub mod Memory
+pub mod Opened
+pub mod Ranges
+pub mod Sources

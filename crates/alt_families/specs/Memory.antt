@@ -1,0 +1,15 @@
+-- What the changes of a write make of the rows that families have in memory.
+use Rattle.std.specs.Prelude.{◌≡◌, ℕ, List}
+use Rattle.std.specs.BTreeMap.{get}
+use Rattle.std.specs.Ordering.{nat_cmp}
+use Rattle.alt_cells.specs.declared.batch.RowChange.{RowChange}
+use Rattle.alt_cells.specs.Joined.{joined_map}
+use Rattle.alt_cells.specs.Rows.{join_row}
+use Rattle.alt_layout.specs.Writes.{changes_in}
+use Rattle.alt_families.specs.Families.{Families, rows_in, files_in}
+
+-- Each family has the changes of a write of this number joined to its rows in memory, and its files as they were.
+pub record IsWrittenTo (old new : Families) (number : ℕ) (changes : List RowChange) : Type 0 where
+  pub rows : (f : ℕ) → rows_in (get nat_cmp new f)
+      ≡ joined_map join_row (rows_in (get nat_cmp old f)) (changes_in number f changes)
+  pub files : (f : ℕ) → files_in (get nat_cmp new f) ≡ files_in (get nat_cmp old f)

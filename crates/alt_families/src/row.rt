@@ -1,0 +1,145 @@
+//! One row, joined of memory and files.
+
+ghost use Rattle.std.specs.Prelude.{◌≡◌, Some, option_and_then, IfOk, IfErr, IsErrOf, IsTrue};
+ghost use Rattle.std.specs.BTreeMap.{get as tree_get};
+ghost use Rattle.std.specs.FinMap.{get};
+ghost use Rattle.std.specs.Ordering.{nat_cmp};
+ghost use Rattle.alt_base.specs.Counts.{Rose};
+ghost use Rattle.alt_cells.specs.Joined.{either};
+ghost use Rattle.alt_cells.specs.Rows.{join_row};
+ghost use Rattle.alt_cells.specs.Shown.{row_shown};
+ghost use Rattle.alt_disk.specs.Disk.{Goes};
+ghost use Rattle.alt_disk.specs.Runs.{Quiet};
+ghost use Rattle.alt_layout.specs.Layout.{RowMap};
+ghost use Rattle.alt_families.specs.Opened.{FamilyReads, IsUndamaged};
+
+use crate::family::Family;
+use alt_base::NoMemory;
+use alt_cells::{RowCells, ShownRow, SourceFault};
+use alt_disk::Disk;
+use alt_fields::Bytes;
+use alt_memtable::Memtable;
+use std::alloc::Global;
+use std::collections::BTreeMap;
+
+/// What the row of a family and key shows, None exactly where the family shows no row there.
+pub fn shown_row<D: Disk>(
+    alloc: Global,
+    disk: &mut D,
+    families: &BTreeMap<u32, Family>,
+    family: u32,
+    key: &[u8],
+) -> Result<Option<ShownRow>, SourceFault>
+    ensures row { IsTrue (D.state disk.old).tells → (rows : RowMap)
+        → FamilyReads (D.state disk.old) (tree_get nat_cmp families.now family) rows
+        → IfOk result (λ row. row ≡ option_and_then row_shown (get rows key.now)) }
+    ensures undamaged { IsTrue (D.state disk.old).tells → (rows : RowMap)
+        → FamilyReads (D.state disk.old) (tree_get nat_cmp families.now family) rows
+        → IfErr result IsUndamaged }
+    ensures quiet { IsTrue (D.state disk.old).tells
+        → Quiet (D.state disk.old) (D.state disk.new) }
+    ensures goes { Goes (D.state disk.old) (D.state disk.new) }
+    ensures cause { IsErrOf result SourceFault.Failed
+        → Rose (D.state disk.old).faults (D.state disk.new).faults }
+    ensures well { (IsErrOf result SourceFault.Failed → ⊥)
+        → (D.state disk.new).faults ≡ (D.state disk.old).faults }
+{
+    match cells_at(alloc, disk, families, family, key) {
+        Ok(row) => Ok(shown_of(row)?),
+        Err(fault) => Err(fault),
+    }
+}
+
+/// What a row shows, if there is one.
+fn shown_of(row: Option<RowCells>) -> Result<Option<ShownRow>, NoMemory>
+    ensures { IfOk result (λ shown. shown ≡ option_and_then row_shown row) }
+{
+    match row {
+        Some(row) => row.shown(),
+        None => Ok(None),
+    }
+}
+
+/// The row of a family and key, None exactly where there is none.
+fn cells_at<D: Disk>(
+    alloc: Global,
+    disk: &mut D,
+    families: &BTreeMap<u32, Family>,
+    family: u32,
+    key: &[u8],
+) -> Result<Option<RowCells>, SourceFault>
+    ensures row { IsTrue (D.state disk.old).tells → (rows : RowMap)
+        → FamilyReads (D.state disk.old) (tree_get nat_cmp families.now family) rows
+        → IfOk result (λ row. row ≡ get rows key.now) }
+    ensures undamaged { IsTrue (D.state disk.old).tells → (rows : RowMap)
+        → FamilyReads (D.state disk.old) (tree_get nat_cmp families.now family) rows
+        → IfErr result IsUndamaged }
+    ensures quiet { IsTrue (D.state disk.old).tells
+        → Quiet (D.state disk.old) (D.state disk.new) }
+    ensures goes { Goes (D.state disk.old) (D.state disk.new) }
+    ensures cause { IsErrOf result SourceFault.Failed
+        → Rose (D.state disk.old).faults (D.state disk.new).faults }
+    ensures well { (IsErrOf result SourceFault.Failed → ⊥)
+        → (D.state disk.new).faults ≡ (D.state disk.old).faults }
+{
+    match families.get(&family) {
+        Some(found) => row_of(alloc, disk, found, key),
+        None => Ok(None),
+    }
+}
+
+/// The row of a key, in memory and in files.
+fn row_of<D: Disk>(
+    alloc: Global,
+    disk: &mut D,
+    family: &Family,
+    key: &[u8],
+) -> Result<Option<RowCells>, SourceFault>
+    ensures row { IsTrue (D.state disk.old).tells → (rows : RowMap)
+        → FamilyReads (D.state disk.old) (Some family.now) rows
+        → IfOk result (λ row. row ≡ get rows key.now) }
+    ensures undamaged { IsTrue (D.state disk.old).tells → (rows : RowMap)
+        → FamilyReads (D.state disk.old) (Some family.now) rows → IfErr result IsUndamaged }
+    ensures quiet { IsTrue (D.state disk.old).tells
+        → Quiet (D.state disk.old) (D.state disk.new) }
+    ensures goes { Goes (D.state disk.old) (D.state disk.new) }
+    ensures cause { IsErrOf result SourceFault.Failed
+        → Rose (D.state disk.old).faults (D.state disk.new).faults }
+    ensures well { (IsErrOf result SourceFault.Failed → ⊥)
+        → (D.state disk.new).faults ≡ (D.state disk.old).faults }
+{
+    let mut row = row_in(alloc, &family.table, key)?;
+    for file in &family.files {
+        match file.row(disk, key) {
+            Ok(more) => row = joined(row, more)?,
+            Err(fault) => return Err(fault),
+        }
+    }
+    Ok(row)
+}
+
+/// The row of a key in memory.
+fn row_in(alloc: Global, table: &Memtable, key: &[u8]) -> Result<Option<RowCells>, NoMemory>
+    ensures { IfOk result (λ row. row ≡ get table.now.0 key.now) }
+{
+    let key = Bytes::new(alloc, key)?;
+    match table.get(&key) {
+        Some(row) => Ok(Some(row.copy()?)),
+        None => Ok(None),
+    }
+}
+
+/// Two rows joined, of which either may be missing.
+fn joined(row: Option<RowCells>, more: Option<RowCells>) -> Result<Option<RowCells>, NoMemory>
+    ensures { IfOk result (λ new. new ≡ either join_row row more) }
+{
+    match (row, more) {
+        (None, more) => Ok(more),
+        (row, None) => Ok(row),
+        (Some(row), Some(more)) => {
+            let mut row = row;
+            row.join(&more)?;
+            Ok(Some(row))
+        }
+    }
+}

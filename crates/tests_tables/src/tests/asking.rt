@@ -6,7 +6,7 @@ ghost use Rattle.alt_tables.specs.Stands.{AreReady};
 
 use alt_disk::MemoryDisk;
 use alt_dispatch::{answer, operation_named};
-use alt_engine::make_store;
+use alt_engine::{Limits, make_store};
 use alt_shape::Reply;
 use alt_tables::Tables;
 use std::alloc::Global;
@@ -60,6 +60,12 @@ pub(super) static WRITES: [Request; 12] = [
     ),
 ];
 
+/// At which a family is flushed, and merged.
+pub(super) const LIMITS: Limits = Limits {
+    flush: 65_536,
+    merge: 4,
+};
+
 /// What tells one state after some of these writes from another.
 static READS: [Request; 4] = [
     ("ListTables", "{}"),
@@ -75,7 +81,7 @@ static READS: [Request; 4] = [
 pub(super) fn opened(alloc: Global, disk: &mut MemoryDisk) -> Option<Tables>
     ensures { IfSome result (AreReady (state_of disk.new)) }
 {
-    match Tables::recover(alloc, disk) {
+    match Tables::recover(alloc, disk, LIMITS) {
         Ok(tables) => Some(tables),
         Err(_) => None,
     }

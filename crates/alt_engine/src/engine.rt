@@ -6,7 +6,7 @@ ghost use Rattle.alt_disk.specs.Disk.{DiskState, IsTrusted, Goes};
 ghost use Rattle.alt_disk.specs.Runs.{Spans};
 ghost use Rattle.alt_layout.specs.Layout.{Layout};
 ghost use Rattle.alt_layout.specs.Writes.{with_write};
-ghost use Rattle.alt_engine.specs.InHand.{next_of, Reads, Stands, IsSpentAt, batch_write, BeforeOrWith, IsWritten};
+ghost use Rattle.alt_engine.specs.InHand.{limits_of, next_of, Reads, Stands, IsSpentAt, batch_write, BeforeOrWith, IsWritten};
 
 use alt_base::NoMemory;
 use alt_cells::{Batch, SourceFault};
@@ -99,6 +99,7 @@ impl Engine {
             → Stands (D.state disk.new) self.new (with_write l (batch_write l batch.now))) }
         ensures number { IfOk result (λ n. n ≡ next_of self.old) }
         ensures next { OnOk result (next_of self.new ≡ next_of self.old + 1) }
+        ensures limits { limits_of self.new ≡ limits_of self.old }
 
         // A stop at any moment of the call, also one that fails, leaves the rows from before it or with the whole batch.
         ensures any_moment { IsTrusted (D.state disk.old) → (l : Layout)

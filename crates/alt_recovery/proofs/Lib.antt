@@ -1,0 +1,2 @@
+mod LateLaws
+mod OpenLaws

@@ -1,0 +1,5 @@
+pub mod Flushed
+pub mod Late
+pub mod Opening
+pub mod Entries
+pub mod Others

@@ -1,2 +1,5 @@
-mod LateLaws
-mod OpenLaws
+pub mod LateLaws
+pub mod OpenLaws
+pub mod EntryLaws
+pub mod NumberLaws
+pub mod OtherLaws

@@ -1,5 +1,5 @@
 -- An entry of a segment as a write, and why it is none.
-use Rattle.std.specs.Prelude.{◌≡◌, ℕ, List, [], get_or, Option, Some, None}
+use Rattle.std.specs.Prelude.{◌≡◌, ℕ, List, [], get_or}
 use Rattle.alt_gatelog.specs.Log.{first_form, gate_place}
 use Rattle.alt_gatelog.specs.declared.fault.LogFault.{LogFault}
 use Rattle.alt_gatelog.specs.declared.fault.LogFault.TheVariants.{Damaged, Failed, NoMemory}

@@ -1,6 +1,6 @@
 //! The files of a disk that a version doesn't name, and the number of the next file.
 
-ghost use Rattle.std.specs.Prelude.{◌≡◌, ⊤, ℕ, true, false, None, IsTrue, OnOk, OnErr};
+ghost use Rattle.std.specs.Prelude.{◌≡◌, ◌≢◌, ◌==◌, ⊤, ℕ, true, false, None, IsTrue, OnOk, OnErr};
 ghost use Rattle.std.specs.List.{list_any};
 ghost use Rattle.alt_base.specs.Counts.{Rose};
 ghost use Rattle.alt_disk.specs.Disk.{IsTrusted, Goes};

@@ -1,0 +1,62 @@
+-- Flushed numbers, put into a map from the last family back.
+use Rattle.std.proofs.Common.{◌≡◌, ◌<◌, ◌+◌, ◌-◌, ◌==◌, ◌∷◌, ℕ, suc, Bool, true, false, cond, eqb-true, eq-eqb, List, [], drop, drop-cons, length, get_or, Some, None, refl, sym, ap, ◌∙◌, arith}
+use Rattle.std.specs.Prelude.{if◌then◌else◌}
+use Rattle.std.specs.BTreeMap.{BTreeMap, get, is_at}
+use Rattle.std.specs.Cmp.{ranked}
+use Rattle.std.specs.Map.{lookup}
+use Rattle.std.specs.Ordering.{nat_cmp, is_eq}
+use Rattle.std.specs.declared.cmp.Ordering.{Ordering}
+use Rattle.std.specs.declared.cmp.Ordering.TheVariants.{Less, Equal, Greater}
+use Rattle.alt_layout.specs.Families.{flushed_of}
+use Rattle.alt_manifest.specs.declared.version.FamilyVersion.{FamilyVersion}
+use Rattle.alt_recovery.specs.Flushed.{flushed_in, or_zero}
+
+-- two tests of numbers
+pub same_test : (m n : ℕ) → is_eq (nat_cmp m n) ≡ (m == n)
+same_test m n = by_test (m == n) refl
+  where
+    tied : (o : Ordering) → o ≡ nat_cmp m n → (b : Bool) → (m == n) ≡ b → is_eq o ≡ b
+    tied Less is true told = let r = ranked m n Less is in let same = eqb-true m n told in
+        absurd (omega (arith, r, same))
+    tied Less is false told = refl
+    tied Equal is true told = refl
+    tied Equal is false told = let r = ranked m n Equal is in
+        let no : true ≡ false = sym (eq-eqb m n r) ∙ told in cc no
+    tied Greater is true told = let r = ranked m n Greater is in
+        let same = eqb-true m n told in absurd (omega (arith, r, same))
+    tied Greater is false told = refl
+
+    by_test : (b : Bool) → (m == n) ≡ b → is_eq (nat_cmp m n) ≡ (m == n)
+    by_test b is = tied (nat_cmp m n) refl b is ∙ sym is
+
+-- an empty map has nothing
+pub get_empty : {X : Type 0} (m : BTreeMap ℕ X) → m.entries ≡ [] → (q : ℕ)
+    → get nat_cmp m q ≡ None
+get_empty m none q = ap (λ es. lookup (is_at (nat_cmp q)) es) none
+
+-- behind the last elements of a list stands one more
+pub drop_back : {X : Type 0} (xs : List X) (i k : ℕ) (x : X) → i < length xs
+    → k ≡ length xs - 1 - i → x ≡ get_or xs k x
+    → drop (length xs - (i + 1)) xs ≡ x ∷ drop (length xs - i) xs
+drop_back xs i k x within at is =
+    let here : length xs - (i + 1) ≡ k = omega (arith, at, within) in
+    let next : suc k ≡ length xs - i = omega (arith, at, within) in
+    ap (λ n. drop n xs) here ∙ drop-cons xs k x (omega (arith, at, within))
+    ∙ (λ j. sym is j ∷ drop (next j) xs)
+
+-- one family more
+pub numbers_more : (old new : BTreeMap ℕ ℕ) (fs : List FamilyVersion) (f : FamilyVersion)
+    → ((family : ℕ) → flushed_in old family ≡ flushed_of fs family)
+    → ((q : ℕ) → get nat_cmp new q
+    ≡ cond (is_eq (nat_cmp f.family q)) (Some f.flushed) (get nat_cmp old q))
+    → (family : ℕ) → flushed_in new family ≡ flushed_of (f ∷ fs) family
+numbers_more old new fs f before put family =
+    ap or_zero (put family ∙ ap (λ b. cond b (Some f.flushed) (get nat_cmp old family))
+    (same_test f.family family))
+    ∙ by_test (f.family == family) (before family)
+  where
+    by_test : (t : Bool) → flushed_in old family ≡ flushed_of fs family
+        → or_zero (cond t (Some f.flushed) (get nat_cmp old family))
+        ≡ (if t then f.flushed else flushed_of fs family)
+    by_test true rest = refl
+    by_test false rest = rest

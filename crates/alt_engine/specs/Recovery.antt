@@ -1,5 +1,5 @@
 -- Why a store isn't recovered: its files have no layout; and what a recovery leaves on its way.
-use Rattle.std.specs.Prelude.{◌≡◌, ◌≢◌, ◌⊎◌, ◌≤◌, ◌<◌, ◌+◌, ◌-◌, ◌++◌, ℕ, List, [], ◌∷◌, map, length, take, drop, Option, Some}
+use Rattle.std.specs.Prelude.{◌≡◌, ◌≢◌, ◌⊎◌, ◌≤◌, ◌<◌, ◌+◌, ◌-◌, ◌++◌, ℕ, List, ◌∷◌, map, length, take, drop, Some}
 use Rattle.std.specs.FinMap.{entries}
 use Rattle.sha2.specs.Sha256.{sha256}
 use Rattle.alt_disk.specs.Disk.{DiskState, IsImage, bytes_or_none}

@@ -10,6 +10,7 @@ ghost use Rattle.alt_engine.specs.Opened.{IsUndamaged, IsUnspent, StaysOn};
 
 use crate::engine::{Engine, EngineFault};
 use alt_disk::Disk;
+use alt_families::first_shown;
 use alt_fields::Bytes;
 
 impl Engine {
@@ -35,6 +36,9 @@ impl Engine {
         ensures well { (IsErrOf result EngineFault.Failed → ⊥)
             → (D.state disk.new).faults ≡ (D.state disk.old).faults }
     {
-        Err(EngineFault::NoMemory)
+        match first_shown(self.alloc, disk, &self.families, family) {
+            Ok(first) => Ok(first),
+            Err(fault) => Err(EngineFault::from(fault)),
+        }
     }
 }

@@ -1,12 +1,13 @@
 //! Rows in hand: one row, and the rows of a range.
 
-ghost use Rattle.std.specs.Prelude.{◌≡◌, ◌++◌, take, IfOk, IfErr, OnOk, IsErrOf, IsTrue};
+ghost use Rattle.std.specs.Prelude.{◌≡◌, ◌≤◌, ◌+◌, ◌++◌, length, take, IfOk, IfErr, OnOk, IsErrOf, IsTrue};
 ghost use Rattle.alt_base.specs.Counts.{Rose};
 ghost use Rattle.alt_base.specs.Prefix.{IsPrefix};
 ghost use Rattle.alt_disk.specs.Disk.{Goes};
 ghost use Rattle.alt_disk.specs.Runs.{Quiet};
 ghost use Rattle.alt_layout.specs.Layout.{Layout, rows_between, shown};
-ghost use Rattle.alt_engine.specs.InHand.{Reads, limits_of};
+ghost use Rattle.alt_families.specs.Families.{files_in};
+ghost use Rattle.alt_engine.specs.InHand.{Reads, family_of, limits_of};
 ghost use Rattle.alt_engine.specs.Opened.{IsUndamaged, IsUnspent, StaysOn};
 
 use crate::engine::{Engine, EngineFault};
@@ -40,6 +41,10 @@ impl Engine {
             → Rose (D.state disk.old).faults (D.state disk.new).faults }
         ensures well { (IsErrOf result EngineFault.Failed → ⊥)
             → (D.state disk.new).faults ≡ (D.state disk.old).faults }
+
+        // Each row file of the family is read once at most.
+        ensures reads { (D.state disk.new).reads
+            ≤ (D.state disk.old).reads + length (files_in (family_of self.old family)) }
     {
         match shown_row(self.alloc, disk, &self.families, family, key) {
             Ok(row) => Ok(row),

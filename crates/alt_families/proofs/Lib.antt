@@ -1,3 +1,4 @@
+pub mod FirstLaws
 pub mod GatherLaws
 pub mod MemoryLaws
 pub mod OpenLaws

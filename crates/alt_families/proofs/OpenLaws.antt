@@ -14,6 +14,7 @@ use Rattle.alt_layout.specs.Layout.{RowMap}
 use Rattle.alt_layout.proofs.RowLaws.{none_before}
 use Rattle.alt_merge.specs.Merges.{Each2, all_rows}
 use Rattle.alt_rowfile.specs.declared.rowfile.RowFile.{RowFile}
+use Rattle.alt_families.specs.Families.{files_in}
 use Rattle.alt_families.specs.Opened.{IsOpen, FamilyReads}
 use Rattle.alt_families.specs.declared.family.Family.{Family}
 
@@ -131,3 +132,18 @@ goes_then a b c first more = record {
   faults = omega (arith, first.faults, more.faults);
   past = λ t f le. more.past t f (omega (arith, le, first.later)) ∙ first.past t f le;
 }
+
+-- a family reads as it read while calls leave every file
+pub reads_still : (a b : DiskState) (f : Option Family) (rows : RowMap) → Quiet a b
+    → FamilyReads a f rows → FamilyReads b f rows
+reads_still a b f rows quiet reads = record {
+  maps = reads.maps;
+  each = all (files_in f) reads.maps reads.each;
+  is = reads.is;
+}
+  where
+    all : (fs : List RowFile) (ms : List RowMap) → Each2 (IsOpen a) fs ms → Each2 (IsOpen b) fs ms
+    all [] [] each = tt
+    all [] (m ∷ ms) each = absurd each
+    all (g ∷ gs) [] each = absurd each
+    all (g ∷ gs) (m ∷ ms) each = (open_quiet a b g m quiet each.0, all gs ms each.1)

@@ -1,4 +1,5 @@
 pub mod Families
+pub mod First
 pub mod Memory
 pub mod Opened
 pub mod Ranges

@@ -2,12 +2,14 @@
 #![tactic(auto)]
 
 mod family;
+mod first;
 mod memory;
 mod row;
 mod rows;
 mod source;
 
 pub use family::Family;
+pub use first::first_shown;
 pub use memory::{put_changes, with_more};
 pub use row::shown_row;
 pub use rows::shown_rows;

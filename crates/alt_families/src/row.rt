@@ -1,6 +1,6 @@
 //! One row, joined of memory and files.
 
-ghost use Rattle.std.specs.Prelude.{◌≡◌, Some, option_and_then, IfOk, IfErr, IsErrOf, IsTrue};
+ghost use Rattle.std.specs.Prelude.{◌≡◌, ◌≤◌, ◌+◌, Some, length, option_and_then, IfOk, IfErr, IsErrOf, IsTrue};
 ghost use Rattle.std.specs.BTreeMap.{get as tree_get};
 ghost use Rattle.std.specs.FinMap.{get};
 ghost use Rattle.std.specs.Ordering.{nat_cmp};
@@ -11,6 +11,7 @@ ghost use Rattle.alt_cells.specs.Shown.{row_shown};
 ghost use Rattle.alt_disk.specs.Disk.{Goes};
 ghost use Rattle.alt_disk.specs.Runs.{Quiet};
 ghost use Rattle.alt_layout.specs.Layout.{RowMap};
+ghost use Rattle.alt_families.specs.Families.{files_in};
 ghost use Rattle.alt_families.specs.Opened.{FamilyReads, IsUndamaged};
 
 use crate::family::Family;
@@ -43,6 +44,9 @@ pub fn shown_row<D: Disk>(
         → Rose (D.state disk.old).faults (D.state disk.new).faults }
     ensures well { (IsErrOf result SourceFault.Failed → ⊥)
         → (D.state disk.new).faults ≡ (D.state disk.old).faults }
+    // Each of the family's files is read once at most.
+    ensures reads { (D.state disk.new).reads ≤ (D.state disk.old).reads
+        + length (files_in (tree_get nat_cmp families.now family)) }
 {
     match cells_at(alloc, disk, families, family, key) {
         Ok(row) => Ok(shown_of(row)?),
@@ -81,6 +85,8 @@ fn cells_at<D: Disk>(
         → Rose (D.state disk.old).faults (D.state disk.new).faults }
     ensures well { (IsErrOf result SourceFault.Failed → ⊥)
         → (D.state disk.new).faults ≡ (D.state disk.old).faults }
+    ensures reads { (D.state disk.new).reads ≤ (D.state disk.old).reads
+        + length (files_in (tree_get nat_cmp families.now family)) }
 {
     match families.get(&family) {
         Some(found) => row_of(alloc, disk, found, key),
@@ -107,6 +113,8 @@ fn row_of<D: Disk>(
         → Rose (D.state disk.old).faults (D.state disk.new).faults }
     ensures well { (IsErrOf result SourceFault.Failed → ⊥)
         → (D.state disk.new).faults ≡ (D.state disk.old).faults }
+    ensures reads { (D.state disk.new).reads
+        ≤ (D.state disk.old).reads + length family.now.files.items }
 {
     let mut row = row_in(alloc, &family.table, key)?;
     for file in &family.files {

@@ -1,5 +1,5 @@
 -- One file more is asked.
-use Rattle.std.proofs.Common.{◌<◌, ◌≤◌, List, length, get_or, rules, refl, sym, ap, subst, ◌∙◌, drop_of_length-le}
+use Rattle.std.proofs.Common.{◌<◌, ◌≤◌, List, length, get_or, arith, rules, refl, sym, ap, subst, ◌∙◌, drop_of_length-le}
 use Rattle.alt_rowfile.specs.declared.rowfile.RowFile.{RowFile}
 use Rattle.std.specs.FinMap.{entries, get-entries}
 use Rattle.alt_cells.proofs.Keeping.{tells_on}
@@ -15,6 +15,7 @@ loop-file-init g c =
           (sym c.in_ok-row.ensures) (row_first s c.args.family.now c.args.key.now rows reads);
       quiet = λ told. quiet_start s;
       goes = goes_start s;
+      reads = omega arith;
       well = refl;
     }
 
@@ -36,6 +37,7 @@ loop-file-preserved g c =
       quiet = λ told. quiet_then s a b (so_far.quiet told)
           (c.row.ensures.quiet (tells_on s a so_far.goes told));
       goes = goes_then s a b so_far.goes c.row.ensures.goes;
+      reads = let one = c.row.ensures.reads in let before = so_far.reads in omega (arith, one, before);
       well = c.in-Ok.ensures.well (search rules) ∙ so_far.well;
     }
 

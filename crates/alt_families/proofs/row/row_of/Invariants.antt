@@ -1,5 +1,5 @@
 -- What is still to be asked, joined to what was found, is what is looked for.
-use Rattle.std.proofs.Common.{◌≡◌, drop}
+use Rattle.std.proofs.Common.{◌≡◌, ◌≤◌, ◌+◌, drop}
 use Rattle.std.specs.Prelude.{Some, IsTrue}
 use Rattle.alt_disk.specs.Disk.{Goes}
 use Rattle.alt_disk.specs.Runs.{Quiet}
@@ -16,5 +16,6 @@ invariant-loop-file g l = record {
   quiet : IsTrue (g.D.Disk.state l.fn.disk).tells
       → Quiet (g.D.Disk.state l.fn.disk) (g.D.Disk.state l.disk);
   goes : Goes (g.D.Disk.state l.fn.disk) (g.D.Disk.state l.disk);
+  reads : (g.D.Disk.state l.disk).reads ≤ (g.D.Disk.state l.fn.disk).reads + l.file-index;
   well : (g.D.Disk.state l.disk).faults ≡ (g.D.Disk.state l.fn.disk).faults;
 }

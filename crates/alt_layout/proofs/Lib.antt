@@ -10,3 +10,5 @@ pub mod OneLayout
 pub mod FileLaws
 pub mod MomentLaws
 pub mod ShownLaws
+pub mod MergedLaws
+pub mod CompactionLaws

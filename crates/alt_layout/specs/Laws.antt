@@ -1,6 +1,7 @@
 -- What follows of layouts from their definitions alone, and of calls of the disk on one file of a store.
-use Rattle.std.specs.Prelude.{◌≡◌, ◌≤◌, ◌+◌, ◌-◌, ℕ, Bool, List, [], ◌∷◌, ◌++◌, map, option_and_then, Some, T}
+use Rattle.std.specs.Prelude.{◌≡◌, ◌⊎◌, ◌≤◌, ◌+◌, ◌-◌, ℕ, Bool, List, [], ◌∷◌, ◌++◌, map, option_and_then, Some, T}
 use Rattle.std.specs.FinMap.{empty, get}
+use Rattle.std.specs.List.{AllByRecursion}
 use Rattle.alt_cells.specs.Batches.{is_distinct}
 use Rattle.alt_cells.specs.Shown.{row_shown}
 use Rattle.alt_disk.specs.Disk.{DiskState, Call, IsImage, IsSettled, Removed}
@@ -17,6 +18,7 @@ use Rattle.alt_manifest.specs.declared.version.Version.{Version}
 use Rattle.alt_layout.specs.Families.{Held, family_rows, flushed_of, layout_of, next_after, with_later}
 use Rattle.alt_layout.specs.Files.{Image, EndsWith, HoldsRows, IsLayout, IsOf, Stored, all_of}
 use Rattle.alt_layout.specs.Flushes.{HasNext, IsFlushed, IsMerged, version_with, with_rows}
+use Rattle.alt_layout.specs.Merged.{IsCompaction, MayReplace, ShowsSame, version_made}
 use Rattle.alt_layout.specs.Moments.{Lies, Has, HasEither, IsIt}
 use Rattle.alt_layout.specs.Writes.{with_write, with_writes}
 
@@ -67,6 +69,29 @@ Merges = (fs gs : List FamilyVersion) (held more : Held) (ws : List Write) (numb
     → IsMerged fs gs held more number family → (key : List ℕ)
     → option_and_then row_shown (get (family_rows gs more ws family) key)
     ≡ option_and_then row_shown (get (family_rows fs held ws family) key)
+
+-- Where what was made of the oldest files of a family may take their place, the version in which it does is a version, its files hold rows and writes, and
+-- it shows what the one before shows.
+abbrev pub MergesOne : Type 0
+MergesOne = (image : Image) (v : Version) (held more : Held) (parts : List (List Write))
+    (family taken number : ℕ) (made : List ℕ) → IsVersion v
+    → MayReplace v held more family taken number made → Stored image v held parts
+    → AllByRecursion (λ g. HoldsRows (more g) (flushed_of v.families family) (image g)) made
+    → IsVersion (version_made v family taken made)
+    × Stored image (version_made v family taken made) more parts
+    × ShowsSame (layout_of v held (all_of parts))
+    (layout_of (version_made v family taken made) more (all_of parts))
+
+-- The files that this version names were made, or were named before.
+abbrev pub NamesMade : Type 0
+NamesMade = (v : Version) (held more : Held) (family taken number : ℕ) (made : List ℕ)
+    → IsVersion v → MayReplace v held more family taken number made → (g : ℕ)
+    → IsIn (files_named (version_made v family taken made)) g
+    → IsIn made g ⊎ IsIn (files_named v) g
+
+-- A compaction without tombstones leaves of a map of rows a map of its rows, purged.
+abbrev pub Compacts : Type 0
+Compacts = (m : RowMap) → (p : RowMap) × IsCompaction m p
 
 -- Where no row stands twice in a write, a row shows after it what the write's one change of it makes of what it showed.
 abbrev pub ShowsBatch : Type 0

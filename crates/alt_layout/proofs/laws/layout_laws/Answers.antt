@@ -3,6 +3,8 @@ use Rattle.alt_layout.proofs.BatchLaws.{shows_batch}
 use Rattle.alt_layout.proofs.FamilyLaws.{flushed_files, flushed_rows}
 use Rattle.alt_layout.proofs.FlushLaws.{flush_same, stored_with, version_with_is}
 use Rattle.alt_layout.proofs.FreshLaws.{fresh_layout}
+use Rattle.alt_layout.proofs.CompactionLaws.{compaction, compaction_is}
+use Rattle.alt_layout.proofs.MergedLaws.{named_made, shows_made, stored_made, version_made_is}
 use Rattle.alt_layout.proofs.MergeLaws.{merged_shown, same_after_all}
 use Rattle.alt_layout.proofs.OneLayout.{one_layout}
 use Rattle.alt_layout.proofs.PastLaws.{image_past}
@@ -25,4 +27,11 @@ returns c = record {
     flush_same v held parts family file next m is has rows top,
   );
   merges = merged_shown;
+  merges_one = λ image v held more parts family taken number made is may stored new. (
+    version_made_is v held more family taken number made is may,
+    stored_made v held more family taken number made is may image parts stored new,
+    shows_made v held more family taken number made is may parts,
+  );
+  names_made = named_made;
+  compacts = λ m. (compaction m, compaction_is m);
 }

@@ -15,11 +15,11 @@ use Rattle.alt_opening.proofs.Listed.{AreInOrder, pairs, tables, get-found}
 use Rattle.alt_value.specs.Members.{text_order}
 
 -- where a description of the map stands in the list
-record StandsAt (es : List TableSchema) (name : List ℕ) (d : TableSchema) : Type 0 where
-  at : ℕ
-  within : at < length es
-  is : get_or es at d ≡ d
-  named : name ≡ d.name
+pub record StandsAt (es : List TableSchema) (name : List ℕ) (d : TableSchema) : Type 0 where
+  pub at : ℕ
+  pub within : at < length es
+  pub is : get_or es at d ≡ d
+  pub named : name ≡ d.name
 
 found_at : (es : List TableSchema) (name : List ℕ) (d : TableSchema)
     → find text_order name (pairs es) ≡ Some d → StandsAt es name d
@@ -47,13 +47,13 @@ found_at (x ∷ xs) name d e =
 
 module _ (es : List TableSchema) (sorted : AreInOrder es) where
   -- each of the map stands in the list
-  stands_at : (name : List ℕ) (d : TableSchema) → map.get (tables es) name ≡ Some d
+  pub stands_at : (name : List ℕ) (d : TableSchema) → map.get (tables es) name ≡ Some d
       → StandsAt es name d
   stands_at name d there = found_at es name d
       (sym (get-from_sorted text_order (pairs es) name sorted) ∙ there)
 
   -- and each of the list in the map
-  at_name : (k : ℕ) (d : TableSchema) → k < length es
+  pub at_name : (k : ℕ) (d : TableSchema) → k < length es
       → map.get (tables es) (get_or es k d).name ≡ Some (get_or es k d)
   at_name k d within = get-found (get_or es k d).name es k sorted within
       (λ e. ap (λ (x : TableSchema). x.name) (get_or_default es k e d within)) d

@@ -8,7 +8,7 @@ use Rattle.alt_opening.specs.IndexScans.{IsFirstOfOwn}
 use Rattle.alt_opening.specs.Opening.{AllChangesRead, AllIndexesRead, AreTablesRead, Assembled, IsFirstIn, IsIndexesFault, IsRowFault}
 use Rattle.alt_opening.specs.Recovery.{IsFirstWrong}
 use Rattle.alt_opening.specs.declared.faults.OpenFault.{OpenFault}
-use Rattle.alt_opening.specs.declared.faults.OpenFault.TheVariants.{Damaged, BadRow, Failed, NoMemory}
+use Rattle.alt_opening.specs.declared.faults.OpenFault.TheVariants.{Damaged, DigestDiffers, BadRow, Failed, NoMemory}
 use Rattle.alt_opening.proofs.IndexRead.{agrees_right, right_agrees}
 use Rattle.alt_opening.proofs.StreamState.{AssembledTables, assembled_tables, known_at, table_of}
 
@@ -69,6 +69,7 @@ module _ (l : Layout) (next : ℕ) (known : Texts TableSchema) (read : AreTables
   -- a fault of the rows of indexes is one of the rows
   pub index_fault : (fault : OpenFault) → IsIndexesFault l known fault → IsRowFault l fault
   index_fault (Damaged file at) is = is
+  index_fault (DigestDiffers file kept found) is = is
   index_fault (BadRow family key) is =
       let (s, made) = assembled_tables l next known read number changes in
       first_in l next known s made family key is

@@ -10,7 +10,7 @@ use Rattle.alt_schema.specs.declared.schema.TableSchema.{TableSchema}
 use Rattle.alt_opening.specs.IndexScans.{AreOwn, HasRow, IndexRead, IndexesRead, IndexesWhere, IsAhead, IsFirstForeign, IsIndexFault, IsItemThere, IsLeastMissing, IsMissing, IsOwnFault, IsRightAt, ShowsAhead, TellsMissing, TellsMissingOf, lesser}
 use Rattle.alt_opening.specs.Scans.{IsBelow, IsFirstFrom, IsNextRow, ItemsRead, RowsWhere}
 use Rattle.alt_opening.specs.declared.faults.OpenFault.{OpenFault}
-use Rattle.alt_opening.specs.declared.faults.OpenFault.TheVariants.{Damaged, BadRow, Failed, NoMemory}
+use Rattle.alt_opening.specs.declared.faults.OpenFault.TheVariants.{Damaged, DigestDiffers, BadRow, Failed, NoMemory}
 use Rattle.alt_opening.proofs.IndexKeys.{ahead_first, ahead_second, not_itself, of_lesser}
 use Rattle.alt_opening.proofs.OneState.{some}
 use Rattle.alt_opening.proofs.Scanning.{rows_all, rows_more, rows_next, rows_none}
@@ -186,6 +186,8 @@ module _ (l : Layout) (d : TableSchema) where
       → ((i : IndexSchema) → index_at d (Some number) ≡ Some i → IsIndexFault l d i fault)
       → IsOwnFault l d fault
   own_wrong number within so_far (Damaged file at) wrong =
+      let (i, at) = there_is (indexes d) number within in wrong i at
+  own_wrong number within so_far (DigestDiffers file kept found) wrong =
       let (i, at) = there_is (indexes d) number within in wrong i at
   own_wrong number within so_far (BadRow family key) wrong =
       let (i, at) = there_is (indexes d) number within in

@@ -3,6 +3,7 @@ pub mod CatalogScan
 pub mod CatalogSteps
 pub mod ChosenLaws
 pub mod Cuts
+pub mod DeviceFaults
 pub mod EachTable
 pub mod Engine
 pub mod Families
@@ -15,6 +16,8 @@ pub mod IndexState
 pub mod IndexSteps
 pub mod KeptChanges
 pub mod Listed
+pub mod LiveLaws
+pub mod LiveLists
 pub mod MadeLaws
 pub mod Maps
 pub mod Named

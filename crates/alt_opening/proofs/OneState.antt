@@ -10,7 +10,7 @@ use Rattle.std.specs.FinMap as map
 use Rattle.alt_cells.specs.Keys.{key_cmp}
 use Rattle.alt_cells.proofs.CellLaws.{key_total, key_exact}
 use Rattle.alt_layout.specs.Layout.{Layout, shown}
-use Rattle.alt_engine.proofs.OneWrite.{one_layout}
+use Rattle.alt_layout.proofs.OneLayout.{one_layout}
 use Rattle.alt_machine.specs.State.{State, Table}
 use Rattle.alt_machine.specs.Valid.{IsTable, IsValid}
 use Rattle.alt_schema.specs.Format.{description_bytes}

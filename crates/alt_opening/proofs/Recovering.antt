@@ -1,22 +1,22 @@
 -- What is known of a store that is opened.
-use Rattle.std.proofs.Common.{◌≡◌, ◌≤◌, inl, inr, refl, sym, ap, subst, ◌∙◌, ℕ, List, [], ◌∷◌, Option, arith}
+use Rattle.std.proofs.Common.{◌≡◌, ◌≤◌, ◌+◌, inl, inr, refl, sym, ap, subst, ◌∙◌, ℕ, List, [], ◌∷◌, Option, max, arith}
 use Rattle.std.specs.Prelude.{⊤}
 use Rattle.std.specs.FinMap as map
 use Rattle.alt_disk.specs.Disk.{DiskState, IsTrusted}
 use Rattle.alt_disk.specs.Runs.{Quiet, Spans}
-use Rattle.alt_disk.proofs.Runs.{trusted_on, tells_of, quiet_start}
+use Rattle.alt_disk.proofs.Runs.{trusted_on, tells_of, quiet_spans, spans_on, spans_weaker}
 use Rattle.alt_writes.specs.Bytes.{AllHeld}
-use Rattle.alt_layout.specs.Files.{IsLayout}
+use Rattle.alt_layout.specs.Families.{next_after}
+use Rattle.alt_layout.specs.Files.{IsLayout, all_of}
 use Rattle.alt_engine.specs.InHand.{Reads, Stands as EngineStands}
-use Rattle.alt_layout.specs.Layout.{Layout, no_rows}
+use Rattle.alt_manifest.specs.InHand.{version_of}
+use Rattle.alt_layout.specs.Layout.{Layout}
 use Rattle.alt_writes.specs.Writes.{Write}
-use Rattle.alt_layout.specs.Writes.{with_write, with_writes}
-use Rattle.alt_engine.specs.Recovery.{ExplainsStore, HasNoLayout, Narrows}
+use Rattle.alt_engine.specs.Recovery.{ExplainsStore, HasNoLayout, LeftLike}
 use Rattle.alt_engine.specs.declared.engine.Engine.{Engine}
 use Rattle.alt_engine.specs.declared.recover.RecoverFault.{RecoverFault}
 use Rattle.alt_engine.specs.declared.recover.RecoverFault.TheVariants as engine
-use Rattle.alt_engine.proofs.OneWrite.{one_layout}
-use Rattle.alt_engine.proofs.SyncLaws.{narrows_quiet}
+use Rattle.alt_layout.proofs.OneLayout.{one_layout}
 use Rattle.alt_machine.specs.declared.TheConstants.{NUMBERS_END}
 use Rattle.alt_machine.specs.State.{State}
 use Rattle.alt_machine.specs.Valid.{IsValid}
@@ -27,47 +27,81 @@ use Rattle.alt_opening.specs.Scans.{Walked}
 use Rattle.alt_opening.specs.StateRows.{Shows, IsHeldWhole}
 use Rattle.alt_opening.specs.Opened.{OpensAs}
 use Rattle.alt_opening.specs.declared.faults.OpenFault.{OpenFault}
-use Rattle.alt_opening.specs.declared.faults.OpenFault.TheVariants.{Damaged, BadRow, Failed, NoMemory}
+use Rattle.alt_opening.specs.declared.faults.OpenFault.TheVariants.{Damaged, DigestDiffers, BadRow, Failed, NoMemory}
 use Rattle.alt_opening.specs.declared.recover.Store.{Store}
-use Rattle.alt_opening.proofs.Engine.{stays_quiet}
 use Rattle.alt_opening.proofs.OneState.{agrees_all, agrees_whole, one_agrees, one_state_of_image}
+use Rattle.alt_opening.proofs.Scanning.{stands_on}
 use Rattle.alt_opening.proofs.StreamState.{none_wrong_stream}
 
 -- ---- the number
 
 -- the number behind writes is one that a state may have
-number_after : (l : Layout) (ws : List Write) → AllHeld ws
-    → (1 ≤ l.next_number) × (l.next_number ≤ NUMBERS_END)
-    → (1 ≤ (with_writes l ws).next_number) × ((with_writes l ws).next_number ≤ NUMBERS_END)
-number_after l [] held within = within
-number_after l (w ∷ ws) held within = number_after (with_write l w) ws held.1
-    (omega arith, let high = held.0.number in omega (arith, high))
+number_after : (next : ℕ) (ws : List Write) → AllHeld ws
+    → (1 ≤ next) × (next ≤ NUMBERS_END)
+    → (1 ≤ next_after next ws) × (next_after next ws ≤ NUMBERS_END)
+number_after next [] held within = within
+number_after next (w ∷ ws) held within = number_after (max next (w.number + 1)) ws held.1
+    (omega (arith, within.0), let high = held.0.number in omega (arith, high, within.1))
 
 -- the next number of a layout that reads lies between 1 and the end of all numbers
 pub number_within : (s : DiskState) (e : Engine) (l : Layout) → Reads s e l
     → (1 ≤ l.next_number) × (l.next_number ≤ NUMBERS_END)
 number_within s e l reads =
+    let first = reads.versions.is.next_number in
     subst (λ (m : Layout). (1 ≤ m.next_number) × (m.next_number ≤ NUMBERS_END)) (sym reads.is)
-    (number_after no_rows reads.writes reads.held (omega arith, omega arith))
+    (number_after (version_of e.manifest).next_number (all_of reads.parts) reads.stored.writes
+    (omega (arith, first.0), omega (arith, first.1)))
 
 -- ---- a stop on the way
 
--- what a stop leaves on the way, one might have left before
-pub left_before : (a b c : DiskState) → Narrows a b → Quiet b c
-    → Spans a c (λ _. ⊤) (WasLeft a)
-left_before a b c narrows quiet =
-    let all : Narrows a c = narrows_quiet a b c narrows quiet in
-    record {
-      later = all.later;
-      past = all.past;
-      file = λ g outside. absurd (outside tt);
-      fates = λ t g outside low high. absurd (outside tt);
-      each = λ t image low high is f. all.each t f (image f) low high (is f);
-    }
+-- what has the layout of what a stop might have left before stands for its state
+left_like : (a : DiskState) (t : ℕ) (image : ℕ → Option (List ℕ)) → LeftLike a t image
+    → WasLeft a t image
+left_like a t image like = record {
+  before = like.before;
+  left = like.left;
+  same = λ s stands. record {
+    layout = stands.layout;
+    is = like.same stands.layout stands.is;
+    shows = stands.shows;
+    valid = stands.valid;
+    held = stands.held;
+  };
+}
 
--- where one state narrows another, what it may leave the other might have left
-pub left_at_once : (a b : DiskState) → Narrows a b → Spans a b (λ _. ⊤) (WasLeft a)
-left_at_once a b narrows = left_before a b b narrows (quiet_start b)
+-- so of all that a stop leaves
+pub left_at_once : (a b : DiskState) → Spans a b (λ _. ⊤) (LeftLike a)
+    → Spans a b (λ _. ⊤) (WasLeft a)
+left_at_once a b spans = spans_weaker a b (λ _. ⊤) (λ _. ⊤) (WasLeft a) (LeftLike a) spans
+    (λ g is. is) (left_like a)
+
+-- also behind the calls, while others leave every file
+pub left_before : (a b c : DiskState) → Spans a b (λ _. ⊤) (LeftLike a) → Quiet b c
+    → Spans a c (λ _. ⊤) (WasLeft a)
+left_before a b c spans quiet = spans_on a b c (λ _. ⊤) (WasLeft a) (left_at_once a b spans)
+    (quiet_spans b c (λ _. ⊤) (WasLeft a) quiet (λ t image is. left_like a b.moment image
+    (spans.each b.moment image spans.later (omega arith) is)))
+
+-- ---- the files as they read
+
+-- files with the layouts of others stand for their state
+pub stands_like : (files image : ℕ → Option (List ℕ))
+    → ((l : Layout) → IsLayout files l → IsLayout image l) → (s : State) → StandsFor files s
+    → StandsFor image s
+stands_like files image same s stands = record {
+  layout = stands.layout;
+  is = same stands.layout stands.is;
+  shows = stands.shows;
+  valid = stands.valid;
+  held = stands.held;
+}
+
+-- also behind calls that leave every file
+pub stands_behind : (a b c : DiskState) → ((l : Layout) → IsLayout a.file l → IsLayout b.file l)
+    → Quiet b c → (s : State) → StandsFor a.file s → StandsFor c.file s
+stands_behind a b c same quiet s stands =
+    subst (λ (image : ℕ → Option (List ℕ)). StandsFor image s) (λ i f. sym (quiet.file f) i)
+    (stands_like a.file b.file same s stands)
 
 -- ---- a state was read
 
@@ -87,8 +121,8 @@ module _ (old mid new : DiskState) (e f : Engine) (l : Layout) (is : IsLayout ol
   -- and so does the store
   stands_there : IsTrusted mid → EngineStands mid e l → OpensAs new t s
   stands_there trusted stands =
-      let here : EngineStands new f l = walked.same.stands new l
-      (stays_quiet mid new e l stands (walked.quiet (tells_of mid trusted))) in
+      let here : EngineStands new f l = stands_on mid new e f l walked (tells_of mid trusted) stands
+      in
       let there : EngineStands new t.engine l =
       subst (λ x. EngineStands new x l) (sym known) here in
       record {
@@ -131,6 +165,7 @@ module _ (files : ℕ → Option (List ℕ)) where
   pub rows_explain : (l : Layout) → IsLayout files l → (fault : OpenFault) → IsRowFault l fault
       → IsExplained files fault
   rows_explain l is (Damaged file at) wrong = absurd wrong
+  rows_explain l is (DigestDiffers file kept found) wrong = absurd wrong
   rows_explain l is (BadRow family key) wrong = record { layout = l; is = is; wrong = wrong }
   rows_explain l is Failed wrong = wrong
   rows_explain l is NoMemory wrong = wrong
@@ -139,6 +174,7 @@ module _ (files : ℕ → Option (List ℕ)) where
   pub rows_no_state : (l : Layout) → IsLayout files l → (fault : OpenFault) → IsRowFault l fault
       → HasNoState files fault
   rows_no_state l is (Damaged file at) wrong = absurd wrong
+  rows_no_state l is (DigestDiffers file kept found) wrong = absurd wrong
   rows_no_state l is (BadRow family key) wrong = λ s stands. none_wrong l family key wrong s
       (subst (λ m. Shows m s) (one_layout files stands.layout l stands.is is) stands.shows)
       stands.valid stands.held
@@ -149,6 +185,7 @@ module _ (files : ℕ → Option (List ℕ)) where
   pub files_explain : (fault : RecoverFault) → ExplainsStore files fault
       → IsExplained files (unopened fault)
   files_explain (engine.Damaged file at) bad = bad
+  files_explain (engine.DigestDiffers file kept found) bad = bad
   files_explain engine.Failed bad = bad
   files_explain engine.NoMemory bad = bad
 
@@ -156,11 +193,14 @@ module _ (files : ℕ → Option (List ℕ)) where
   pub files_no_state : (fault : RecoverFault) → HasNoLayout files fault
       → HasNoState files (unopened fault)
   files_no_state (engine.Damaged file at) none = λ s stands. none stands.layout stands.is
+  files_no_state (engine.DigestDiffers file kept found) none = λ s stands.
+      none stands.layout stands.is
   files_no_state engine.Failed none = none
   files_no_state engine.NoMemory none = none
 
 -- the disk failed where that is what is told
 pub failed_before : (fault : RecoverFault) → unopened fault ≡ Failed → fault ≡ engine.Failed
 failed_before (engine.Damaged file at) e = absurd (let g : ⊥ = cc in g)
+failed_before (engine.DigestDiffers file kept found) e = absurd (let g : ⊥ = cc in g)
 failed_before engine.Failed e = refl
 failed_before engine.NoMemory e = absurd (let g : ⊥ = cc in g)

@@ -6,25 +6,26 @@ use Rattle.alt_cells.specs.Keys.{key_cmp}
 use Rattle.alt_disk.specs.Disk.{DiskState}
 use Rattle.alt_disk.proofs.Calls.{goes_refl, goes_on}
 use Rattle.alt_disk.proofs.Runs.{quiet_start, quiet_then}
-use Rattle.alt_engine.specs.InHand.{Reads, SameEngine}
+use Rattle.alt_engine.specs.InHand.{Reads, Stands}
+use Rattle.alt_engine.specs.Opened.{StaysOn}
 use Rattle.alt_layout.specs.Layout.{Layout, shown}
 use Rattle.alt_engine.specs.declared.engine.Engine.{Engine}
 use Rattle.alt_opening.specs.Scans.{IsBelow, IsFirstFrom, IsNextRow, RowsWhere, Walked}
-use Rattle.alt_opening.proofs.Engine.{reads_quiet}
 use Rattle.alt_opening.proofs.NextRow.{below_after}
 
 -- ---- walks
 
 -- an engine that no call touched
-pub same_engine : (e : Engine) → SameEngine e e
-same_engine e = record { next = refl; reads = λ s l h. h; stands = λ s l h. h }
+pub stays_still : (s : DiskState) (e : Engine) → StaysOn s s e e
+stays_still s e = record { next = refl; reads = λ l h. h; stands = λ l h. h }
 
 -- no walk yet
 pub walk_start : (s : DiskState) (e : Engine) → Walked s s e e
 walk_start s e = record {
   goes = goes_refl s;
   quiet = λ tells. quiet_start s;
-  same = same_engine e;
+  same = λ tells. stays_still s e;
+  limits = refl;
 }
 
 -- one after the other
@@ -34,18 +35,26 @@ walk_then a b c e f h first then = record {
   goes = goes_on a b c first.goes then.goes;
   quiet = λ tells. quiet_then a b c (first.quiet tells)
       (then.quiet (subst IsTrue (sym first.goes.tells) tells));
-  same = record {
-    next = then.same.next ∙ first.same.next;
-    reads = λ s l reads. then.same.reads s l (first.same.reads s l reads);
-    stands = λ s l stands. then.same.stands s l (first.same.stands s l stands);
-  };
+  same = λ tells.
+      let before : StaysOn a b e f = first.same tells in
+      let behind : StaysOn b c f h = then.same (subst IsTrue (sym first.goes.tells) tells) in
+      record {
+        next = behind.next ∙ before.next;
+        reads = λ l reads. behind.reads l (before.reads l reads);
+        stands = λ l stands. behind.stands l (before.stands l stands);
+      };
+  limits = then.limits ∙ first.limits;
 }
 
 -- the engine reads as it read
 pub reads_on : (a b : DiskState) (e f : Engine) (l : Layout) → Walked a b e f → IsTrue a.tells
     → Reads a e l → Reads b f l
-reads_on a b e f l walked tells reads = walked.same.reads b l
-    (reads_quiet a b e l reads (walked.quiet tells))
+reads_on a b e f l walked tells reads = (walked.same tells).reads l reads
+
+-- and stands as it stood
+pub stands_on : (a b : DiskState) (e f : Engine) (l : Layout) → Walked a b e f → IsTrue a.tells
+    → Stands a e l → Stands b f l
+stands_on a b e f l walked tells stands = (walked.same tells).stands l stands
 
 -- ---- rows of a family
 

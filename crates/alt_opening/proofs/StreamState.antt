@@ -19,7 +19,7 @@ use Rattle.alt_opening.specs.Recovery.{AgreesWhole, IsFirstOfStreams, IsFirstWro
 use Rattle.alt_opening.specs.StateRows.{keyed_changes, next_row, table_row}
 use Rattle.alt_opening.specs.StreamScans.{ChangesRead, IsFirstOfStream}
 use Rattle.alt_opening.specs.declared.faults.OpenFault.{OpenFault}
-use Rattle.alt_opening.specs.declared.faults.OpenFault.TheVariants.{Damaged, BadRow, Failed, NoMemory}
+use Rattle.alt_opening.specs.declared.faults.OpenFault.TheVariants.{Damaged, DigestDiffers, BadRow, Failed, NoMemory}
 use Rattle.alt_opening.proofs.Assembled.{assembled, assembled_with}
 use Rattle.alt_opening.proofs.FirstWrong.{described_at}
 use Rattle.alt_opening.proofs.OneState.{some}
@@ -98,6 +98,7 @@ module _ (l : Layout) (next : ℕ) (known : Texts TableSchema) (read : AreTables
   -- so a fault of the rows of streams is one of the rows
   pub stream_fault : (fault : OpenFault) → IsStreamsFault l known fault → IsRowFault l fault
   stream_fault (Damaged file at) is = is
+  stream_fault (DigestDiffers file kept found) is = is
   stream_fault (BadRow family key) is = first_among family key is
   stream_fault Failed is = is
   stream_fault NoMemory is = is

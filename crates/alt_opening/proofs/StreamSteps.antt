@@ -9,7 +9,7 @@ use Rattle.alt_machine.proofs.Same.{is_same-equal, same_is}
 use Rattle.alt_schema.specs.declared.schema.TableSchema.{TableSchema}
 use Rattle.alt_opening.specs.StreamScans.{IsChangeAt, AreOfOne, ChangesRead, ChangesWhere, IsChangeFault, IsChangeRow, IsFirstForeignChange, IsStreamFault}
 use Rattle.alt_opening.specs.declared.faults.OpenFault.{OpenFault}
-use Rattle.alt_opening.specs.declared.faults.OpenFault.TheVariants.{Damaged, BadRow, Failed, NoMemory}
+use Rattle.alt_opening.specs.declared.faults.OpenFault.TheVariants.{Damaged, DigestDiffers, BadRow, Failed, NoMemory}
 use Rattle.alt_cells.specs.Changes.{Columns}
 use Rattle.alt_changes.proofs.RowLaws.{change_columns-one}
 use Rattle.alt_opening.proofs.StreamKeys.{key_one}
@@ -31,6 +31,7 @@ module _ (l : Layout) (d : TableSchema) (family : ℕ) (stream : d.stream_family
   pub stream_wrong : (fault : OpenFault) → IsChangeFault l d next family fault
       → IsStreamFault l d fault
   stream_wrong (Damaged file at) is = is
+  stream_wrong (DigestDiffers file kept found) is = is
   stream_wrong (BadRow f key) is = record {
     stream = stream ∙ ap Some (sym is.0);
     first = subst (λ g. IsFirstForeignChange l d l.next_number g key) (sym is.0)

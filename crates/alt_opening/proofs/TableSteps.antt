@@ -11,7 +11,7 @@ use Rattle.alt_opening.specs.Recovery.{IsFirstWrong}
 use Rattle.alt_opening.specs.Scans.{IsDeviceFault, IsItemFault, ItemsRead}
 use Rattle.alt_opening.specs.StreamScans.{ChangesRead, IsStreamFault}
 use Rattle.alt_opening.specs.declared.faults.OpenFault.{OpenFault}
-use Rattle.alt_opening.specs.declared.faults.OpenFault.TheVariants.{Damaged, BadRow, Failed, NoMemory}
+use Rattle.alt_opening.specs.declared.faults.OpenFault.TheVariants.{Damaged, DigestDiffers, BadRow, Failed, NoMemory}
 use Rattle.alt_opening.proofs.FirstWrong.{known_family, same_table, item_wrong}
 
 -- a number is up to another, or above it
@@ -21,6 +21,7 @@ up_to_or_above m n = grind arith
 -- a fault of the device is none of a row
 pub device_fault : (l : Layout) (fault : OpenFault) → IsDeviceFault fault → IsRowFault l fault
 device_fault l (Damaged file at) is = is
+device_fault l (DigestDiffers file kept found) is = is
 device_fault l (BadRow family key) is = absurd is
 device_fault l Failed is = is
 device_fault l NoMemory is = is
@@ -78,6 +79,7 @@ module _ (l : Layout) (next : ℕ) (catalog : Texts TableSchema) (read : IsCatal
       → IsLeastTable catalog family d → (fault : OpenFault) → IsItemFault l d fault
       → IsRowFault l fault
   wrong_next family so_far d least (Damaged file at) is = is
+  wrong_next family so_far d least (DigestDiffers file kept found) is = is
   wrong_next family so_far d least (BadRow f key) is =
       subst (λ g. IsFirstWrong l g key) (sym is.0)
       (item_wrong l next catalog read number least.name d least.there
@@ -90,6 +92,7 @@ module _ (l : Layout) (next : ℕ) (catalog : Texts TableSchema) (read : IsCatal
       → IsLeastTable catalog family d → (fault : OpenFault) → IsStreamFault l d fault
       → IsStreamsFault l catalog fault
   wrong_stream family so_far d least (Damaged file at) is = is
+  wrong_stream family so_far d least (DigestDiffers file kept found) is = is
   wrong_stream family so_far d least (BadRow f key) is = record {
     name = least.name;
     description = d;
@@ -105,6 +108,7 @@ module _ (l : Layout) (next : ℕ) (catalog : Texts TableSchema) (read : IsCatal
       → IsLeastTable catalog family d → (fault : OpenFault) → IsOwnFault l d fault
       → IsIndexesFault l catalog fault
   wrong_index family so_far d least (Damaged file at) is = is
+  wrong_index family so_far d least (DigestDiffers file kept found) is = is
   wrong_index family so_far d least (BadRow f key) is = record {
     name = least.name;
     description = d;

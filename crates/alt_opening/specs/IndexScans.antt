@@ -10,7 +10,7 @@ use Rattle.alt_schema.specs.declared.schema.IndexSchema.{IndexSchema}
 use Rattle.alt_schema.specs.declared.schema.TableSchema.{TableSchema}
 use Rattle.alt_opening.specs.Scans.{IsBelow, RowsWhere}
 use Rattle.alt_opening.specs.declared.faults.OpenFault.{OpenFault}
-use Rattle.alt_opening.specs.declared.faults.OpenFault.TheVariants.{Damaged, BadRow, Failed, NoMemory}
+use Rattle.alt_opening.specs.declared.faults.OpenFault.TheVariants.{Damaged, DigestDiffers, BadRow, Failed, NoMemory}
 use Rattle.alt_value.specs.Tree.{Pair}
 use Rattle.alt_views.specs.IndexRows.{row_in_index}
 use Rattle.alt_views.specs.ItemRows.{item_columns, IsReadItem}
@@ -51,6 +51,7 @@ pub record IsFirstOff (l : Layout) (d : TableSchema) (i : IndexSchema) (key : Li
 -- a wrong row is the first of the index
 abbrev pub IsIndexFault : Layout → TableSchema → IndexSchema → OpenFault → Type 0
 IsIndexFault l d i (Damaged file at) = ⊥
+IsIndexFault l d i (DigestDiffers file kept found) = ⊥
 IsIndexFault l d i (BadRow family key) = (family ≡ i.family) × IsFirstOff l d i key
 IsIndexFault l d i Failed = Unit {0}
 IsIndexFault l d i NoMemory = Unit {0}
@@ -79,6 +80,7 @@ pub record IsFirstOfOwn (l : Layout) (d : TableSchema) (family : ℕ) (key : Lis
 -- a wrong row is the first of them
 abbrev pub IsOwnFault : Layout → TableSchema → OpenFault → Type 0
 IsOwnFault l d (Damaged file at) = ⊥
+IsOwnFault l d (DigestDiffers file kept found) = ⊥
 IsOwnFault l d (BadRow family key) = IsFirstOfOwn l d family key
 IsOwnFault l d Failed = Unit {0}
 IsOwnFault l d NoMemory = Unit {0}

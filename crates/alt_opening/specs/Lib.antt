@@ -2,6 +2,7 @@ pub mod Codes
 pub mod Families
 pub mod Images
 pub mod IndexScans
+pub mod Live
 pub mod Made
 pub mod Opened
 pub mod Opening

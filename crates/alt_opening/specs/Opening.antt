@@ -17,7 +17,7 @@ use Rattle.alt_opening.specs.Scans.{IsBelow, ItemsRead}
 use Rattle.alt_opening.specs.StateRows.{Shows, IsHeldWhole, catalog_family, next_row, table_row}
 use Rattle.alt_opening.specs.StreamScans.{ChangesRead, IsFirstOfStream}
 use Rattle.alt_opening.specs.declared.faults.OpenFault.{OpenFault}
-use Rattle.alt_opening.specs.declared.faults.OpenFault.TheVariants.{Damaged, BadRow, Failed, NoMemory}
+use Rattle.alt_opening.specs.declared.faults.OpenFault.TheVariants.{Damaged, DigestDiffers, BadRow, Failed, NoMemory}
 
 -- the row at the empty key tells the next family
 pub record IsNextFamily (l : Layout) (family : ℕ) : Type 0 where
@@ -171,6 +171,7 @@ pub record IsFirstAmong (l : Layout) (catalog : Texts TableSchema) (family : ℕ
 -- a wrong row of a stream is the first one
 abbrev pub IsStreamsFault : Layout → Texts TableSchema → OpenFault → Type 0
 IsStreamsFault l catalog (Damaged file at) = ⊥
+IsStreamsFault l catalog (DigestDiffers file kept found) = ⊥
 IsStreamsFault l catalog (BadRow family key) = IsFirstAmong l catalog family key
 IsStreamsFault l catalog Failed = Unit {0}
 IsStreamsFault l catalog NoMemory = Unit {0}
@@ -193,6 +194,7 @@ pub record IsFirstIn (l : Layout) (catalog : Texts TableSchema) (family : ℕ)
 -- a wrong row of an index is the first one
 abbrev pub IsIndexesFault : Layout → Texts TableSchema → OpenFault → Type 0
 IsIndexesFault l catalog (Damaged file at) = ⊥
+IsIndexesFault l catalog (DigestDiffers file kept found) = ⊥
 IsIndexesFault l catalog (BadRow family key) = IsFirstIn l catalog family key
 IsIndexesFault l catalog Failed = Unit {0}
 IsIndexesFault l catalog NoMemory = Unit {0}
@@ -209,6 +211,7 @@ pub record Assembled (l : Layout) (next : ℕ) (known : Texts TableSchema)
 -- a wrong row is the first one
 abbrev pub IsRowFault : Layout → OpenFault → Type 0
 IsRowFault l (Damaged file at) = ⊥
+IsRowFault l (DigestDiffers file kept found) = ⊥
 IsRowFault l (BadRow family key) = IsFirstWrong l family key
 IsRowFault l Failed = Unit {0}
 IsRowFault l NoMemory = Unit {0}

@@ -6,7 +6,7 @@ use Rattle.alt_cells.specs.Keys.{key_cmp}
 use Rattle.alt_disk.specs.Disk.{DiskState, IsImage}
 use Rattle.alt_layout.specs.Files.{IsLayout}
 use Rattle.alt_layout.specs.Layout.{Layout, shown}
-use Rattle.alt_engine.specs.Recovery.{IsBadAt}
+use Rattle.alt_engine.specs.Recovery.{IsBadAt, IsBadDigest}
 use Rattle.alt_engine.specs.declared.recover.RecoverFault.{RecoverFault}
 use Rattle.alt_engine.specs.declared.recover.RecoverFault.TheVariants as engine
 use Rattle.alt_machine.specs.Sources.{index_at}
@@ -17,11 +17,17 @@ use Rattle.alt_opening.specs.Images.{StandsFor}
 use Rattle.alt_opening.specs.StateRows.{IsHeldWhole, catalog_family, catalog_rows, change_rows, index_rows, item_rows}
 use Rattle.alt_opening.specs.StreamScans.{ChangesRead, IsFirstOfStream}
 use Rattle.alt_opening.specs.declared.faults.OpenFault.{OpenFault}
-use Rattle.alt_opening.specs.declared.faults.OpenFault.TheVariants.{Damaged, BadRow, Failed, NoMemory}
+use Rattle.alt_opening.specs.declared.faults.OpenFault.TheVariants.{Damaged, DigestDiffers, BadRow, Failed, NoMemory}
 
--- whatever a stop leaves on the way of calls, at any moment, one might have left before them
+-- An image stands for each state for which one stands that a stop might have left before.
+pub record IsLeftLike (old : DiskState) (image : ℕ → Option (List ℕ)) : Type 0 where
+  pub before : ℕ → Option (List ℕ)
+  pub left : IsImage old old.moment before
+  pub same : (s : State) → StandsFor before s → StandsFor image s
+
+-- So does whatever a stop leaves on the way of calls, at any moment.
 abbrev pub WasLeft : DiskState → ℕ → (ℕ → Option (List ℕ)) → Type 0
-WasLeft old moment image = IsImage old old.moment image
+WasLeft old moment image = IsLeftLike old image
 
 -- of two rows the one of the lesser family comes first, and in one family that of the lesser key
 abbrev pub IsBefore : ℕ → List ℕ → ℕ → List ℕ → Type 0
@@ -110,6 +116,7 @@ pub record HasBadRow (files : ℕ → Option (List ℕ)) (family : ℕ) (key : L
 -- what damage tells is true of the files
 abbrev pub IsExplained : (ℕ → Option (List ℕ)) → OpenFault → Type 0
 IsExplained files (Damaged file at) = IsBadAt files file at
+IsExplained files (DigestDiffers file kept found) = IsBadDigest files file kept found
 IsExplained files (BadRow family key) = HasBadRow files family key
 IsExplained files Failed = Unit {0}
 IsExplained files NoMemory = Unit {0}
@@ -117,6 +124,7 @@ IsExplained files NoMemory = Unit {0}
 -- where it tells of damage the files stand for no state
 abbrev pub HasNoState : (ℕ → Option (List ℕ)) → OpenFault → Type 0
 HasNoState files (Damaged file at) = (s : State) → StandsFor files s → ⊥
+HasNoState files (DigestDiffers file kept found) = (s : State) → StandsFor files s → ⊥
 HasNoState files (BadRow family key) = (s : State) → StandsFor files s → ⊥
 HasNoState files Failed = Unit {0}
 HasNoState files NoMemory = Unit {0}
@@ -124,5 +132,6 @@ HasNoState files NoMemory = Unit {0}
 -- the fault of the recovery of an engine, passed on
 abbrev pub unopened : RecoverFault → OpenFault
 unopened (engine.Damaged file at) = Damaged file at
+unopened (engine.DigestDiffers file kept found) = DigestDiffers file kept found
 unopened engine.Failed = Failed
 unopened engine.NoMemory = NoMemory

@@ -5,25 +5,28 @@ use Rattle.alt_cells.specs.Changes.{Columns}
 use Rattle.alt_cells.specs.Keys.{key_cmp}
 use Rattle.alt_disk.specs.Disk.{DiskState, Goes}
 use Rattle.alt_disk.specs.Runs.{Quiet}
-use Rattle.alt_engine.specs.InHand.{SameEngine}
 use Rattle.alt_layout.specs.Layout.{Layout, shown}
+use Rattle.alt_engine.specs.InHand.{limits_of}
+use Rattle.alt_engine.specs.Opened.{StaysOn}
 use Rattle.alt_engine.specs.declared.engine.Engine.{Engine}
 use Rattle.alt_machine.specs.Valid.{IsStored}
 use Rattle.alt_schema.specs.declared.schema.TableSchema.{TableSchema}
 use Rattle.alt_views.specs.ItemRows.{item_columns, IsReadItem}
 use Rattle.alt_opening.specs.declared.faults.OpenFault.{OpenFault}
-use Rattle.alt_opening.specs.declared.faults.OpenFault.TheVariants.{Damaged, BadRow, Failed, NoMemory}
+use Rattle.alt_opening.specs.declared.faults.OpenFault.TheVariants.{Damaged, DigestDiffers, BadRow, Failed, NoMemory}
 use Rattle.alt_value.specs.Tree.{Pair}
 
--- calls that only read: the engine and, where the disk tells them, the files stay
+-- calls that only read: where the disk tells them the files stay, and the engine is that of what it was that of; its limits stay on every disk
 pub record Walked (old new : DiskState) (before after : Engine) : Type 0 where
   pub goes : Goes old new
   pub quiet : IsTrue old.tells → Quiet old new
-  pub same : SameEngine before after
+  pub same : IsTrue old.tells → StaysOn old new before after
+  pub limits : limits_of after ≡ limits_of before
 
 -- a fault of the device, or want of memory
 abbrev pub IsDeviceFault : OpenFault → Type 0
 IsDeviceFault (Damaged file at) = ⊥
+IsDeviceFault (DigestDiffers file kept found) = ⊥
 IsDeviceFault (BadRow family key) = ⊥
 IsDeviceFault Failed = Unit {0}
 IsDeviceFault NoMemory = Unit {0}
@@ -79,6 +82,7 @@ pub record IsFirstBad (l : Layout) (d : TableSchema) (key : List ℕ) : Type 0 w
 -- a wrong row is the first of the family
 abbrev pub IsItemFault : Layout → TableSchema → OpenFault → Type 0
 IsItemFault l d (Damaged file at) = ⊥
+IsItemFault l d (DigestDiffers file kept found) = ⊥
 IsItemFault l d (BadRow family key) = (family ≡ d.family) × IsFirstBad l d key
 IsItemFault l d Failed = Unit {0}
 IsItemFault l d NoMemory = Unit {0}

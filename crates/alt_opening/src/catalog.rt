@@ -1,6 +1,6 @@
 //! The descriptions of the tables by their names. There are 256 at most, so they stand in one sorted list.
 
-ghost use Rattle.std.specs.Prelude.{◌≡◌, ◌≢◌, ◌<◌, ◌≤◌, ◌==◌, ◌||◌, ◌↔◌, ℕ, List, T, false, None, Some, OnOk, OnErr, IfOk, IfErr, IfSome, option_map, length, map as each, slice_get, slice_index_or};
+ghost use Rattle.std.specs.Prelude.{◌≡◌, ◌≢◌, ◌<◌, ◌≤◌, ◌==◌, ◌||◌, ◌↔◌, ◌∷◌, [], ℕ, List, T, false, None, Some, OnOk, OnErr, IfOk, IfErr, IfSome, option_map, length, map as each, slice_get, slice_index_or};
 ghost use Rattle.std.specs.FinMap as map;
 ghost use Rattle.std.specs.FinMap.Entries.{is_sorted};
 ghost use Rattle.std.specs.List.{HoldsAt, list_any};
@@ -10,10 +10,13 @@ ghost use Rattle.alt_machine.specs.Ops.ListTables.{names_after};
 ghost use Rattle.std.specs.Option.{option_map_or};
 ghost use Rattle.alt_schema.specs.declared.schema.TableSchema.{TableSchema};
 ghost use Rattle.alt_opening.specs.Families.{HasOwnFamilies};
+ghost use Rattle.alt_opening.specs.Live.{AreLiveIn, with_tables};
 ghost use Rattle.alt_opening.specs.Opening.{IsLeastAbove, IsNextTable, shares};
 ghost use Rattle.alt_opening.specs.Order.{first_after};
+ghost use Rattle.alt_opening.specs.StateRows.{catalog_family};
 ghost use Rattle.alt_value.specs.Members.{text_order};
 
+use crate::live::Live;
 use crate::opened::has_family;
 use alt_base::NoMemory;
 use alt_schema::{IndexSchema, TableSchema};
@@ -115,6 +118,13 @@ impl Catalog {
 }
 
 impl Catalog {
+    /// The families of the catalog itself and of all tables.
+    pub fn live(&self, alloc: Global) -> Result<Live, NoMemory>
+        ensures live { IfOk result (λ live. AreLiveIn self.now live) }
+    {
+        live_among(alloc, self.entries.as_slice())
+    }
+
     /// Whether a table has this number, or one of these families.
     pub(crate) fn clashes(&self, number: u64, families: &[u32]) -> bool
         ensures { result ≡ false ↔ ((name : List ℕ) (d : TableSchema)
@@ -153,6 +163,17 @@ fn seek(entries: &Vec<TableSchema>, name: &str) -> Result<usize, usize>
         }
     }
     Err(low)
+}
+
+/// The families of the catalog itself and of these tables.
+fn live_among(alloc: Global, entries: &[TableSchema]) -> Result<Live, NoMemory>
+    ensures { IfOk result (λ live. live ≡ with_tables entries.now (catalog_family ∷ [])) }
+{
+    let mut live = Live::new(alloc)?;
+    for i in 0..entries.len() {
+        live = live.with_table(alloc, &entries[i])?;
+    }
+    Ok(live)
 }
 
 /// Whether one of these tables has this number, or one of these families.

@@ -116,7 +116,8 @@ fn least_missing<D: Disk>(
         → ItemsRead l schema.now
         → IfOk result (IsLeastMissing (λ place. Unit {0}) l schema.now i) }
     ensures walked { Walked (D.state disk.old) (D.state disk.new) engine.old engine.new }
-    ensures fault { IfErr result IsDeviceFault }
+    ensures fault { IsTrue (D.state disk.old).tells → (l : Layout)
+        → Reads (D.state disk.old) engine.old l → IfErr result IsDeviceFault }
     ensures cause { IsErrOf result OpenFault.Failed
         → Rose (D.state disk.old).faults (D.state disk.new).faults }
 {
@@ -154,7 +155,8 @@ fn missing_key<D: Disk>(
         → Reads (D.state disk.old) engine.old l → index_at schema.now (Some number) ≡ Some i
         → IfOk result (TellsMissingOf l schema.now i row.now) }
     ensures walked { Walked (D.state disk.old) (D.state disk.new) engine.old engine.new }
-    ensures fault { IfErr result IsDeviceFault }
+    ensures fault { IsTrue (D.state disk.old).tells → (l : Layout)
+        → Reads (D.state disk.old) engine.old l → IfErr result IsDeviceFault }
     ensures cause { IsErrOf result OpenFault.Failed
         → Rose (D.state disk.old).faults (D.state disk.new).faults }
 {
@@ -190,7 +192,8 @@ fn first_foreign<D: Disk>(
         → IsMade schema.now → ItemsRead l schema.now
         → IfOk result (IsFirstForeign l schema.now i) }
     ensures walked { Walked (D.state disk.old) (D.state disk.new) engine.old engine.new }
-    ensures fault { IfErr result IsDeviceFault }
+    ensures fault { IsTrue (D.state disk.old).tells → (l : Layout)
+        → Reads (D.state disk.old) engine.old l → IfErr result IsDeviceFault }
     ensures cause { IsErrOf result OpenFault.Failed
         → Rose (D.state disk.old).faults (D.state disk.new).faults }
 {
@@ -231,7 +234,8 @@ fn is_own<D: Disk>(
         → IsMade schema.now → ItemsRead l schema.now
         → IfOk result (λ own. IsTrue own ↔ HasRow l schema.now i key.now row.now) }
     ensures walked { Walked (D.state disk.old) (D.state disk.new) engine.old engine.new }
-    ensures fault { IfErr result IsDeviceFault }
+    ensures fault { IsTrue (D.state disk.old).tells → (l : Layout)
+        → Reads (D.state disk.old) engine.old l → IfErr result IsDeviceFault }
     ensures cause { IsErrOf result OpenFault.Failed
         → Rose (D.state disk.old).faults (D.state disk.new).faults }
 {

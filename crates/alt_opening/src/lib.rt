@@ -1,8 +1,8 @@
 //! Opening a store: its files stand for a state of the machine, which its rows tell, or one of them is wrong.
 //!
 //! `recover` opens it. `opened` reads the catalog, `scan` the items of tables, `change_scan` the changes of streams and `index_scan`
-//! the rows of indexes; `made` tests a description that is read. `catalog` keeps descriptions by name, and `catalog_row` and
-//! `change_rows` have the rows of descriptions and of changes.
+//! the rows of indexes; `made` tests a description that is read. `catalog` keeps descriptions by name, `live` the
+//! families of their tables, and `catalog_row` and `change_rows` have the rows of descriptions and of changes.
 #![tactic(auto)]
 
 mod catalog;
@@ -11,6 +11,7 @@ mod change_rows;
 mod change_scan;
 mod faults;
 mod index_scan;
+mod live;
 mod made;
 mod opened;
 mod recover;
@@ -21,4 +22,5 @@ pub use catalog_row::{CATALOG, row_of_family, row_of_schema};
 pub use change_rows::change_at;
 pub use change_scan::same;
 pub use faults::OpenFault;
+pub use live::Live;
 pub use recover::{Store, open_store};

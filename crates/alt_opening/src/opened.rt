@@ -252,7 +252,7 @@ fn is_apart(catalog: &Catalog, schema: &TableSchema, families: &[u32]) -> bool
 }
 
 /// The families of a table.
-fn families_of(alloc: Global, schema: &TableSchema) -> Result<Vec<u32>, NoMemory>
+pub(crate) fn families_of(alloc: Global, schema: &TableSchema) -> Result<Vec<u32>, NoMemory>
     ensures { IfOk result (λ families. families.items ≡ families_of schema.now) }
 {
     let mut families = Vec::new(alloc);

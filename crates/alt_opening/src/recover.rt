@@ -4,7 +4,7 @@ ghost use Rattle.std.specs.Prelude.{◌≡◌, ℕ, IfOk, IfErr, OnOk, IsErrOf, 
 ghost use Rattle.alt_base.specs.Counts.{Rose};
 ghost use Rattle.alt_disk.specs.Disk.{IsTrusted, Goes};
 ghost use Rattle.alt_disk.specs.Runs.{Spans};
-ghost use Rattle.alt_engine.specs.InHand.{Reads};
+ghost use Rattle.alt_engine.specs.InHand.{Reads, limits_of};
 ghost use Rattle.alt_layout.specs.Layout.{Layout};
 ghost use Rattle.alt_machine.specs.State.{State};
 ghost use Rattle.alt_opening.specs.Images.{StandsFor};
@@ -20,7 +20,7 @@ use crate::index_scan::read_own_indexes;
 use crate::opened::{Opened, read_catalog};
 use crate::scan::{read_items, unread};
 use alt_disk::Disk;
-use alt_engine::{Engine, RecoverFault};
+use alt_engine::{Engine, Limits, RecoverFault};
 use alt_schema::held;
 use std::alloc::Global;
 
@@ -32,23 +32,27 @@ pub struct Store {
     pub family: u32,
 }
 
-/// Opens the store of a disk (docs/formats/table-rows.md). Every file is synced, and every row is tested.
-pub fn open_store<D: Disk>(alloc: Global, disk: &mut D) -> Result<Store, OpenFault>
-    // At Ok the files stand for a state, as they read, and they were as they are.
+/// Opens the store of a disk (docs/formats/table-rows.md). Every file is synced, those that are none of the store's are removed, and
+/// every row is tested.
+pub fn open_store<D: Disk>(alloc: Global, disk: &mut D, limits: Limits) -> Result<Store, OpenFault>
+    // At Ok the files stood for a state, as they read.
     ensures reads { IfOk result (λ o. IsTrue (D.state disk.old).tells
         → (s : State) × StandsFor (D.state disk.old).file s) }
     // And the store stands for it, with whatever a stop leaves from then on.
     ensures stands { IfOk result (λ o. IsTrusted (D.state disk.old) → (s : State)
         → StandsFor (D.state disk.old).file s → OpensAs (D.state disk.new) o s) }
-    ensures files { IsTrue (D.state disk.old).tells → (f : ℕ)
-        → (D.state disk.new).file f ≡ (D.state disk.old).file f }
+    ensures limits { IfOk result (λ o. limits_of o.engine ≡ limits) }
 
-    // A stop at any moment of the call, also one that fails, leaves what one left before.
+    // The files stand, as they read, for the state for which they stood, also where the call fails.
+    ensures files { IsTrue (D.state disk.old).tells → (s : State)
+        → StandsFor (D.state disk.old).file s → StandsFor (D.state disk.new).file s }
+
+    // A stop at any moment of the call, also one that fails, leaves what stands for the state for which what one left before stood.
     ensures any_moment { IsTrusted (D.state disk.old)
         → Spans (D.state disk.old) (D.state disk.new) (λ _. ⊤) (WasLeft (D.state disk.old)) }
 
-    // Damaged and BadRow come exactly where the files stand for no state; Damaged where they are no store's, and BadRow names the
-    // first wrong row.
+    // Damaged, DigestDiffers and BadRow come exactly where the files stand for no state; the first two where they are no store's, and
+    // BadRow names the first wrong row.
     ensures explained { IsTrue (D.state disk.old).tells
         → IfErr result (IsExplained (D.state disk.old).file) }
     ensures no_state { IsTrue (D.state disk.old).tells
@@ -57,7 +61,7 @@ pub fn open_store<D: Disk>(alloc: Global, disk: &mut D) -> Result<Store, OpenFau
     ensures cause { IsErrOf result OpenFault.Failed
         → Rose (D.state disk.old).faults (D.state disk.new).faults }
 {
-    let mut engine = match Engine::recover(alloc, disk) {
+    let mut engine = match Engine::recover(alloc, disk, limits) {
         Ok(engine) => engine,
         Err(fault) => return Err(unopened(fault)),
     };
@@ -219,6 +223,9 @@ fn unopened(fault: RecoverFault) -> OpenFault
 {
     match fault {
         RecoverFault::Damaged { file, at } => OpenFault::Damaged { file, at },
+        RecoverFault::DigestDiffers { file, kept, found } => {
+            OpenFault::DigestDiffers { file, kept, found }
+        }
         RecoverFault::Failed => OpenFault::Failed,
         RecoverFault::NoMemory => OpenFault::NoMemory,
     }

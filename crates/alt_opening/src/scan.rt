@@ -3,6 +3,7 @@
 ghost use Rattle.std.specs.Prelude.{◌≡◌, ◌↔◌, ◌++◌, ◌∷◌, [], List, Err, IfOk, IfErr, OnOk, IsErrOf, IsTrue};
 ghost use Rattle.alt_base.specs.Counts.{Rose};
 ghost use Rattle.alt_engine.specs.InHand.{Reads};
+ghost use Rattle.alt_engine.specs.Opened.{IsUndamaged};
 ghost use Rattle.alt_layout.specs.Layout.{Layout};
 ghost use Rattle.alt_machine.specs.Valid.{IsStored};
 ghost use Rattle.alt_views.specs.ItemRows.{IsReadItem};
@@ -33,7 +34,8 @@ pub(crate) fn next_row<D: Disk>(
     ensures row { IsTrue (D.state disk.old).tells → (l : Layout)
         → Reads (D.state disk.old) engine.old l → IfOk result (IsNextRow l family from.now) }
     ensures walked { Walked (D.state disk.old) (D.state disk.new) engine.old engine.new }
-    ensures fault { IfErr result IsDeviceFault }
+    ensures fault { IsTrue (D.state disk.old).tells → (l : Layout)
+        → Reads (D.state disk.old) engine.old l → IfErr result IsDeviceFault }
     ensures cause { IsErrOf result OpenFault.Failed
         → Rose (D.state disk.old).faults (D.state disk.new).faults }
 {
@@ -50,11 +52,12 @@ pub(crate) fn next_row<D: Disk>(
 
 /// A fault of a walk, as one of the opening.
 pub(crate) fn unread(fault: EngineFault) -> OpenFault
-    ensures fault { IsDeviceFault result }
+    ensures fault { IsUndamaged fault → IsDeviceFault result }
     ensures cause { result ≡ OpenFault.Failed → fault ≡ EngineFault.Failed }
 {
     match fault {
         EngineFault::Spent { .. } => OpenFault::NoMemory,
+        EngineFault::Damaged { file, at } => OpenFault::Damaged { file, at },
         EngineFault::Failed => OpenFault::Failed,
         EngineFault::NoMemory => OpenFault::NoMemory,
     }

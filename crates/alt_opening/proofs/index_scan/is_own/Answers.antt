@@ -31,3 +31,7 @@ returns-in-Ok-clause-own g c tells l i reads at made read =
     (ap (shown l c.args.schema.now.family) (sym c.as_slice.ensures.same)
     ∙ sym (c.in-Ok-Some-row.ensures.row tells l reads) ∙ c.in-Ok-Some-row.field-0-is)
     c.in-Ok.own (λ item is_read of_item. c.in-Ok.ensures.own i item at is_read of_item)
+
+pub returns-in-Err-row-clause-fault : goal.returns-in-Err-row-clause-fault
+returns-in-Err-row-clause-fault g c tells l reads =
+    c.unread.ensures.fault (c.in-Err-row.ensures.undamaged tells l reads)

@@ -50,3 +50,47 @@ rows-preserved g c =
           (c.in-Ok-key_after.ensures ∙ ap (λ k. k ++ 0 ∷ []) c.as_slice.ensures.same)
           c.lesser-least.result c.lesser-least.ensures;
     }
+
+pub returns-in-Ok-None-clause-walked : goal.returns-in-Ok-None-clause-walked
+returns-in-Ok-None-clause-walked g c =
+    walk_then (g.D.Disk.state c.args.disk.now) (g.D.Disk.state c.rows.disk) (g.D.Disk.state
+    c.next_row.new.disk) c.args.engine.now c.rows.engine c.next_row.new.engine
+    c.rows.invariant.walked c.next_row.ensures.walked
+
+pub returns-in-Err-clause-walked : goal.returns-in-Err-clause-walked
+returns-in-Err-clause-walked g c =
+    walk_then (g.D.Disk.state c.args.disk.now) (g.D.Disk.state c.rows.disk) (g.D.Disk.state
+    c.next_row.new.disk) c.args.engine.now c.rows.engine c.next_row.new.engine
+    c.rows.invariant.walked c.next_row.ensures.walked
+
+pub returns-in-Err-missing_key-clause-walked : goal.returns-in-Err-missing_key-clause-walked
+returns-in-Err-missing_key-clause-walked g c =
+    walk_then (g.D.Disk.state c.args.disk.now) (g.D.Disk.state c.next_row.new.disk) (g.D.Disk.state
+    c.missing_key.new.disk) c.args.engine.now c.next_row.new.engine c.missing_key.new.engine
+    (walk_then (g.D.Disk.state c.args.disk.now) (g.D.Disk.state c.rows.disk) (g.D.Disk.state
+    c.next_row.new.disk) c.args.engine.now c.rows.engine c.next_row.new.engine
+    c.rows.invariant.walked c.next_row.ensures.walked) c.missing_key.ensures.walked
+
+pub returns-in-Err-key_after-clause-walked : goal.returns-in-Err-key_after-clause-walked
+returns-in-Err-key_after-clause-walked g c =
+    walk_then (g.D.Disk.state c.args.disk.now) (g.D.Disk.state c.next_row.new.disk) (g.D.Disk.state
+    c.missing_key.new.disk) c.args.engine.now c.next_row.new.engine c.missing_key.new.engine
+    (walk_then (g.D.Disk.state c.args.disk.now) (g.D.Disk.state c.rows.disk) (g.D.Disk.state
+    c.next_row.new.disk) c.args.engine.now c.rows.engine c.next_row.new.engine
+    c.rows.invariant.walked c.next_row.ensures.walked) c.missing_key.ensures.walked
+
+pub returns-in-Err-clause-fault : goal.returns-in-Err-clause-fault
+returns-in-Err-clause-fault g c tells l reads =
+    c.in-Err.ensures.fault (subst IsTrue (sym c.rows.invariant.walked.goes.tells) tells) l
+    (reads_on (g.D.Disk.state c.args.disk.now) (g.D.Disk.state c.rows.disk) c.args.engine.now
+    c.rows.engine l c.rows.invariant.walked tells reads)
+
+pub returns-in-Err-missing_key-clause-fault : goal.returns-in-Err-missing_key-clause-fault
+returns-in-Err-missing_key-clause-fault g c tells l reads =
+    let walked : Walked (g.D.Disk.state c.args.disk.now) (g.D.Disk.state c.next_row.new.disk)
+    c.args.engine.now c.next_row.new.engine = walk_then (g.D.Disk.state c.args.disk.now)
+    (g.D.Disk.state c.rows.disk) (g.D.Disk.state c.next_row.new.disk) c.args.engine.now
+    c.rows.engine c.next_row.new.engine c.rows.invariant.walked c.next_row.ensures.walked in
+    c.in-Err-missing_key.ensures.fault (subst IsTrue (sym walked.goes.tells) tells) l (reads_on
+    (g.D.Disk.state c.args.disk.now) (g.D.Disk.state c.next_row.new.disk) c.args.engine.now
+    c.next_row.new.engine l walked tells reads)

@@ -15,3 +15,7 @@ returns-else-shows-clause-missing g c tells l i reads at =
     (λ same. false≢true (sym c.if-shows.false ∙ c.shows.ensures.shows.1
     (c.in-Ok.ensures.row tells l reads
     ∙ (λ j. shown l (index j).family (c.as_slice.ensures.same j)) ∙ same)))
+
+pub returns-in-Err-row-clause-fault : goal.returns-in-Err-row-clause-fault
+returns-in-Err-row-clause-fault g c tells l reads =
+    c.unread.ensures.fault (c.in-Err-row.ensures.undamaged tells l reads)

@@ -46,3 +46,9 @@ returns-clause-read g c tells l reads made read =
     ) in
     indexes_all l c.args.schema.now c.indexes.number all
     (c.indexes.invariant.read tells l reads made read)
+
+pub returns-in-Err-clause-walked : goal.returns-in-Err-clause-walked
+returns-in-Err-clause-walked g c =
+    walk_then (g.D.Disk.state c.args.disk.now) (g.D.Disk.state c.indexes.disk) (g.D.Disk.state
+    c.read_index.new.disk) c.args.engine.now c.indexes.engine c.read_index.new.engine
+    c.indexes.invariant.walked c.read_index.ensures.walked

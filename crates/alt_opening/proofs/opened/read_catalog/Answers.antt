@@ -43,3 +43,15 @@ rows-preserved g c = record {
       c.rows.engine layout c.rows.invariant.walked tells reads)
       (c.rows.invariant.known tells layout reads));
 }
+
+pub returns-in-Ok-None-clause-walked : goal.returns-in-Ok-None-clause-walked
+returns-in-Ok-None-clause-walked g c =
+    walk_then (g.D.Disk.state c.args.disk.now) (g.D.Disk.state c.rows.disk) (g.D.Disk.state
+    c.read_table.new.disk) c.args.engine.now c.rows.engine c.read_table.new.engine
+    c.rows.invariant.walked c.read_table.ensures.walked
+
+pub returns-in-Err-read_table-clause-walked : goal.returns-in-Err-read_table-clause-walked
+returns-in-Err-read_table-clause-walked g c =
+    walk_then (g.D.Disk.state c.args.disk.now) (g.D.Disk.state c.rows.disk) (g.D.Disk.state
+    c.read_table.new.disk) c.args.engine.now c.rows.engine c.read_table.new.engine
+    c.rows.invariant.walked c.read_table.ensures.walked

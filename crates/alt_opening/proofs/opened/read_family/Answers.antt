@@ -3,6 +3,7 @@ use Rattle.std.proofs.Common.{◌≡◌, sym, subst, ◌∙◌, []}
 use Rattle.alt_opening.specs.Recovery.{IsFirstWrong}
 use Rattle.alt_opening.specs.StateRows.{catalog_family}
 use Rattle.alt_opening.proofs.Recovering.{number_within}
+use Rattle.alt_opening.proofs.TableSteps.{device_fault}
 use Rattle.alt_opening.proofs.WrongTable.{next_wrong}
 use Rattle.alt_opening.proofs.opened.read_family.Goals as goal
 
@@ -14,3 +15,7 @@ returns-clause-wrong g c tells l reads =
     (λ family low high row.
     c.in-None.ensures.none family low high
     (c.as_ref.ensures.value ∙ c.in-Ok.ensures.row tells l reads ∙ row)))
+
+pub returns-in-Err-clause-wrong : goal.returns-in-Err-clause-wrong
+returns-in-Err-clause-wrong g c tells l reads = device_fault l c.unread.result
+    (c.unread.ensures.fault (c.in-Err.ensures.undamaged tells l reads))

@@ -4,6 +4,7 @@ use Rattle.alt_opening.specs.Scans.{IsFirstFrom, IsNextRow}
 use Rattle.alt_opening.specs.StateRows.{catalog_family}
 use Rattle.alt_opening.proofs.CatalogSteps.{step_none, step_wrong, step_more}
 use Rattle.alt_opening.proofs.Recovering.{number_within}
+use Rattle.alt_opening.proofs.TableSteps.{device_fault}
 use Rattle.alt_opening.proofs.opened.read_table.Goals as goal
 
 pub returns-in-Ok-None-clause-read : goal.returns-in-Ok-None-clause-read
@@ -36,3 +37,7 @@ returns-in-Ok-key_after-clause-read g c tells l reads so_far =
     (c.next_number-number.ensures.layout (g.D.Disk.state c.args.disk.now) l reads)
     added.0 added.1 c.add_table.new.catalog added.2 c.in-Ok-key_after.after
     (c.in-Ok-key_after.ensures ∙ ap (λ k. k ++ 0 ∷ []) c.as_slice.ensures.same)
+
+pub returns-in-Err-clause-wrong : goal.returns-in-Err-clause-wrong
+returns-in-Err-clause-wrong g c tells l reads so_far =
+    device_fault l c.in-Err.fault (c.in-Err.ensures.fault tells l reads)

@@ -1,8 +1,8 @@
 -- The engine reads as the files are, and its rows are those of a state, or none's.
 use Rattle.std.proofs.Common.{refl, sym, subst, IsTrue}
 use Rattle.alt_disk.proofs.Runs.{tells_of, trusted_on}
-use Rattle.alt_opening.specs.Recovery.{HasNoState}
-use Rattle.alt_opening.proofs.Recovering.{stands_then, rows_explain, rows_no_state, files_no_state}
+use Rattle.alt_opening.specs.Recovery.{HasNoState, IsExplained}
+use Rattle.alt_opening.proofs.Recovering.{stands_then, rows_explain, rows_no_state, files_explain, files_no_state, left_at_once, left_before, stands_like, stands_behind}
 use Rattle.alt_opening.proofs.recover.open_store.Goals as goal
 
 pub returns-in-Err-clause-no_state : goal.returns-in-Err-clause-no_state
@@ -49,3 +49,50 @@ returns-in-Err-read_rows-clause-no_state g c tells =
     let (l, is, reads) = c.in-Ok.ensures.ok tells in
     rows_no_state (g.D.Disk.state c.args.disk.now).file l is c.in-Err-read_rows.fault
     (c.in-Err-read_rows.ensures.wrong (subst IsTrue (sym c.in-Ok.ensures.goes.tells) tells) l reads)
+
+pub returns-in-Err-clause-explained : goal.returns-in-Err-clause-explained
+returns-in-Err-clause-explained g c tells =
+    subst (IsExplained (g.D.Disk.state c.args.disk.now).file) (sym c.unopened.ensures)
+    (files_explain (g.D.Disk.state c.args.disk.now).file c.in-Err.fault
+    (c.in-Err.ensures.damaged tells))
+
+-- ---- what is left
+
+pub returns-in-Err-clause-any_moment : goal.returns-in-Err-clause-any_moment
+returns-in-Err-clause-any_moment g c trusted =
+    left_at_once (g.D.Disk.state c.args.disk.now) (g.D.Disk.state c.recover.new.disk)
+    (c.in-Err.ensures.any_moment trusted)
+
+pub returns-in-Ok-read_rows-clause-any_moment : goal.returns-in-Ok-read_rows-clause-any_moment
+returns-in-Ok-read_rows-clause-any_moment g c trusted =
+    left_before (g.D.Disk.state c.args.disk.now) (g.D.Disk.state c.recover.new.disk)
+    (g.D.Disk.state c.read_rows.new.disk) (c.in-Ok.ensures.any_moment trusted)
+    (c.in-Ok-read_rows.ensures.walked.quiet (tells_of (g.D.Disk.state c.recover.new.disk)
+    (trusted_on (g.D.Disk.state c.args.disk.now) (g.D.Disk.state c.recover.new.disk)
+    c.in-Ok.ensures.goes trusted)))
+
+pub returns-in-Err-read_rows-clause-any_moment : goal.returns-in-Err-read_rows-clause-any_moment
+returns-in-Err-read_rows-clause-any_moment g c trusted =
+    left_before (g.D.Disk.state c.args.disk.now) (g.D.Disk.state c.recover.new.disk)
+    (g.D.Disk.state c.read_rows.new.disk) (c.in-Ok.ensures.any_moment trusted)
+    (c.in-Err-read_rows.ensures.walked.quiet (tells_of (g.D.Disk.state c.recover.new.disk)
+    (trusted_on (g.D.Disk.state c.args.disk.now) (g.D.Disk.state c.recover.new.disk)
+    c.in-Ok.ensures.goes trusted)))
+
+pub returns-in-Err-clause-files : goal.returns-in-Err-clause-files
+returns-in-Err-clause-files g c tells = stands_like (g.D.Disk.state c.args.disk.now).file
+    (g.D.Disk.state c.recover.new.disk).file (c.in-Err.ensures.files tells)
+
+pub returns-in-Ok-read_rows-clause-files : goal.returns-in-Ok-read_rows-clause-files
+returns-in-Ok-read_rows-clause-files g c tells =
+    stands_behind (g.D.Disk.state c.args.disk.now) (g.D.Disk.state c.recover.new.disk)
+    (g.D.Disk.state c.read_rows.new.disk) (c.in-Ok.ensures.files tells)
+    (c.in-Ok-read_rows.ensures.walked.quiet
+    (subst IsTrue (sym c.in-Ok.ensures.goes.tells) tells))
+
+pub returns-in-Err-read_rows-clause-files : goal.returns-in-Err-read_rows-clause-files
+returns-in-Err-read_rows-clause-files g c tells =
+    stands_behind (g.D.Disk.state c.args.disk.now) (g.D.Disk.state c.recover.new.disk)
+    (g.D.Disk.state c.read_rows.new.disk) (c.in-Ok.ensures.files tells)
+    (c.in-Err-read_rows.ensures.walked.quiet
+    (subst IsTrue (sym c.in-Ok.ensures.goes.tells) tells))

@@ -56,3 +56,9 @@ pub returns-clause-read : goal.returns-clause-read
 returns-clause-read g c tells l next reads read name d at =
     c.tables.invariant.read tells l next reads read name d at
     (c.in_default.ensures.above name d at)
+
+pub returns-in-Err-clause-walked : goal.returns-in-Err-clause-walked
+returns-in-Err-clause-walked g c =
+    walk_then (g.D.Disk.state c.args.disk.now) (g.D.Disk.state c.tables.disk) (g.D.Disk.state
+    c.read_own_indexes.new.disk) c.args.engine.now c.tables.engine c.read_own_indexes.new.engine
+    c.tables.invariant.walked c.read_own_indexes.ensures.walked

@@ -56,3 +56,25 @@ returns-in-Err-read_indexes-clause-wrong g c tells l reads =
     c.in-Ok.opened.family
     (reads_on (g.D.Disk.state c.args.disk.now) (g.D.Disk.state c.read_streams.new.disk)
     c.args.engine.now c.read_streams.new.engine l both tells reads) tables)
+
+pub returns-in-Err-read_streams-clause-walked : goal.returns-in-Err-read_streams-clause-walked
+returns-in-Err-read_streams-clause-walked g c =
+    walk_then (g.D.Disk.state c.args.disk.now) (g.D.Disk.state c.read_state.new.disk)
+    (g.D.Disk.state c.read_streams.new.disk) c.args.engine.now c.read_state.new.engine
+    c.read_streams.new.engine c.read_state.ensures.walked c.read_streams.ensures.walked
+
+pub returns-in-Ok-read_indexes-clause-walked : goal.returns-in-Ok-read_indexes-clause-walked
+returns-in-Ok-read_indexes-clause-walked g c = walk_then (g.D.Disk.state c.args.disk.now)
+    (g.D.Disk.state c.read_streams.new.disk) (g.D.Disk.state c.read_indexes.new.disk)
+    c.args.engine.now c.read_streams.new.engine c.read_indexes.new.engine
+    (walk_then (g.D.Disk.state c.args.disk.now) (g.D.Disk.state c.read_state.new.disk)
+    (g.D.Disk.state c.read_streams.new.disk) c.args.engine.now c.read_state.new.engine
+    c.read_streams.new.engine c.read_state.ensures.walked c.read_streams.ensures.walked) c.read_indexes.ensures.walked
+
+pub returns-in-Err-read_indexes-clause-walked : goal.returns-in-Err-read_indexes-clause-walked
+returns-in-Err-read_indexes-clause-walked g c = walk_then (g.D.Disk.state c.args.disk.now)
+    (g.D.Disk.state c.read_streams.new.disk) (g.D.Disk.state c.read_indexes.new.disk)
+    c.args.engine.now c.read_streams.new.engine c.read_indexes.new.engine
+    (walk_then (g.D.Disk.state c.args.disk.now) (g.D.Disk.state c.read_state.new.disk)
+    (g.D.Disk.state c.read_streams.new.disk) c.args.engine.now c.read_state.new.engine
+    c.read_streams.new.engine c.read_state.ensures.walked c.read_streams.ensures.walked) c.read_indexes.ensures.walked

@@ -6,6 +6,7 @@ use Rattle.alt_opening.specs.Scans.{Walked}
 use Rattle.alt_opening.proofs.FirstWrong.{beyond_wrong}
 use Rattle.alt_opening.proofs.Recovering.{number_within}
 use Rattle.alt_opening.proofs.Scanning.{walk_then, reads_on}
+use Rattle.alt_opening.proofs.TableSteps.{device_fault}
 use Rattle.alt_opening.proofs.recover.read_state.Goals as goal
 
 pub returns-in-Err-read_tables-clause-wrong : goal.returns-in-Err-read_tables-clause-wrong
@@ -56,5 +57,65 @@ returns-in-Ok-Some-clause-wrong g c tells l reads =
     c.in-Ok-Some.family c.in-Ok-Some.key
     (subst (ShowsFirst l c.in-Ok.opened.family) c.in-Ok-Some.field-0-is
     (c.in-Ok-Some.ensures.first (subst IsTrue (sym both.goes.tells) tells) l
+    (reads_on (g.D.Disk.state c.args.disk.now) (g.D.Disk.state c.read_tables.new.disk)
+    c.args.engine.now c.read_tables.new.engine l both tells reads)))
+
+pub returns-in-Err-read_tables-clause-walked : goal.returns-in-Err-read_tables-clause-walked
+returns-in-Err-read_tables-clause-walked g c =
+    walk_then (g.D.Disk.state c.args.disk.now) (g.D.Disk.state c.read_catalog.new.disk)
+    (g.D.Disk.state c.read_tables.new.disk) c.args.engine.now c.read_catalog.new.engine
+    c.read_tables.new.engine c.read_catalog.ensures.walked c.read_tables.ensures.walked
+
+pub returns-in-Ok-None-clause-walked : goal.returns-in-Ok-None-clause-walked
+returns-in-Ok-None-clause-walked g c = walk_then (g.D.Disk.state c.args.disk.now)
+    (g.D.Disk.state c.read_tables.new.disk) (g.D.Disk.state c.first_from.new.disk)
+    c.args.engine.now c.read_tables.new.engine c.first_from.new.self
+    (walk_then (g.D.Disk.state c.args.disk.now) (g.D.Disk.state c.read_catalog.new.disk)
+    (g.D.Disk.state c.read_tables.new.disk) c.args.engine.now c.read_catalog.new.engine
+    c.read_tables.new.engine c.read_catalog.ensures.walked c.read_tables.ensures.walked)
+    (record {
+      goes = c.first_from.ensures.goes;
+      quiet = c.first_from.ensures.quiet;
+      same = c.first_from.ensures.same;
+      limits = c.first_from.ensures.limits;
+    })
+
+pub returns-in-Ok-Some-clause-walked : goal.returns-in-Ok-Some-clause-walked
+returns-in-Ok-Some-clause-walked g c = walk_then (g.D.Disk.state c.args.disk.now)
+    (g.D.Disk.state c.read_tables.new.disk) (g.D.Disk.state c.first_from.new.disk)
+    c.args.engine.now c.read_tables.new.engine c.first_from.new.self
+    (walk_then (g.D.Disk.state c.args.disk.now) (g.D.Disk.state c.read_catalog.new.disk)
+    (g.D.Disk.state c.read_tables.new.disk) c.args.engine.now c.read_catalog.new.engine
+    c.read_tables.new.engine c.read_catalog.ensures.walked c.read_tables.ensures.walked)
+    (record {
+      goes = c.first_from.ensures.goes;
+      quiet = c.first_from.ensures.quiet;
+      same = c.first_from.ensures.same;
+      limits = c.first_from.ensures.limits;
+    })
+
+pub returns-in-Err-first_from-clause-walked : goal.returns-in-Err-first_from-clause-walked
+returns-in-Err-first_from-clause-walked g c = walk_then (g.D.Disk.state c.args.disk.now)
+    (g.D.Disk.state c.read_tables.new.disk) (g.D.Disk.state c.first_from.new.disk)
+    c.args.engine.now c.read_tables.new.engine c.first_from.new.self
+    (walk_then (g.D.Disk.state c.args.disk.now) (g.D.Disk.state c.read_catalog.new.disk)
+    (g.D.Disk.state c.read_tables.new.disk) c.args.engine.now c.read_catalog.new.engine
+    c.read_tables.new.engine c.read_catalog.ensures.walked c.read_tables.ensures.walked)
+    (record {
+      goes = c.first_from.ensures.goes;
+      quiet = c.first_from.ensures.quiet;
+      same = c.first_from.ensures.same;
+      limits = c.first_from.ensures.limits;
+    })
+
+pub returns-in-Err-first_from-clause-wrong : goal.returns-in-Err-first_from-clause-wrong
+returns-in-Err-first_from-clause-wrong g c tells l reads =
+    let both : Walked (g.D.Disk.state c.args.disk.now) (g.D.Disk.state c.read_tables.new.disk)
+    c.args.engine.now c.read_tables.new.engine =
+    walk_then (g.D.Disk.state c.args.disk.now) (g.D.Disk.state c.read_catalog.new.disk)
+    (g.D.Disk.state c.read_tables.new.disk) c.args.engine.now c.read_catalog.new.engine
+    c.read_tables.new.engine c.read_catalog.ensures.walked c.read_tables.ensures.walked in
+    device_fault l c.unread.result (c.unread.ensures.fault (c.in-Err-first_from.ensures.undamaged
+    (subst IsTrue (sym both.goes.tells) tells) l
     (reads_on (g.D.Disk.state c.args.disk.now) (g.D.Disk.state c.read_tables.new.disk)
     c.args.engine.now c.read_tables.new.engine l both tells reads)))

@@ -44,3 +44,9 @@ tables-preserved g c = record {
       c.args.engine.now c.tables.engine layout c.tables.invariant.walked tells reads));
   small = c.held.ensures.held.family;
 }
+
+pub returns-in-Err-clause-walked : goal.returns-in-Err-clause-walked
+returns-in-Err-clause-walked g c =
+    walk_then (g.D.Disk.state c.args.disk.now) (g.D.Disk.state c.tables.disk) (g.D.Disk.state
+    c.read_items.new.disk) c.args.engine.now c.tables.engine c.read_items.new.engine
+    c.tables.invariant.walked c.read_items.ensures.walked

@@ -13,3 +13,7 @@ returns-in-Ok-rows-clause-row g c tells l reads =
     ∙ (λ i. c.new-page.ensures.items i
     ++ take 1 (rows_between l c.args.family (c.in-Ok.ensures.same i) None true)))
     c.pop.ensures.items c.pop.ensures.variant (omega arith))
+
+pub returns-clause-fault : goal.returns-clause-fault
+returns-clause-fault g c tells l reads =
+    c.unread.ensures.fault (c.in-Err.ensures.undamaged tells l reads)

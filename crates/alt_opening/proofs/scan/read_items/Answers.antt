@@ -2,6 +2,7 @@
 use Rattle.std.proofs.Common.{sym, ap, subst, ◌∙◌, ◌++◌, ◌∷◌, [], refl, Err, IsTrue}
 use Rattle.alt_opening.specs.Scans.{IsItemRow, IsNextRow, IsFirstFrom}
 use Rattle.alt_opening.proofs.Scanning.{walk_start, walk_then, reads_on, rows_none, rows_next, rows_all, rows_more}
+use Rattle.alt_opening.proofs.DeviceFaults.{device_item}
 use Rattle.alt_opening.proofs.scan.read_items.Goals as goal
 
 pub rows-init : goal.rows-init
@@ -63,3 +64,40 @@ rows-preserved g c = record {
       c.in-Ok-key_after.after
       (c.in-Ok-key_after.ensures ∙ ap (λ k. k ++ 0 ∷ []) c.as_slice.ensures.same);
 }
+
+pub returns-in-Ok-None-clause-walked : goal.returns-in-Ok-None-clause-walked
+returns-in-Ok-None-clause-walked g c =
+    walk_then (g.D.Disk.state c.args.disk.now) (g.D.Disk.state c.rows.disk) (g.D.Disk.state
+    c.next_row.new.disk) c.args.engine.now c.rows.engine c.next_row.new.engine
+    c.rows.invariant.walked c.next_row.ensures.walked
+
+pub returns-in-Err-clause-walked : goal.returns-in-Err-clause-walked
+returns-in-Err-clause-walked g c =
+    walk_then (g.D.Disk.state c.args.disk.now) (g.D.Disk.state c.rows.disk) (g.D.Disk.state
+    c.next_row.new.disk) c.args.engine.now c.rows.engine c.next_row.new.engine
+    c.rows.invariant.walked c.next_row.ensures.walked
+
+pub returns-in-Err-Bad-clause-walked : goal.returns-in-Err-Bad-clause-walked
+returns-in-Err-Bad-clause-walked g c =
+    walk_then (g.D.Disk.state c.args.disk.now) (g.D.Disk.state c.rows.disk) (g.D.Disk.state
+    c.next_row.new.disk) c.args.engine.now c.rows.engine c.next_row.new.engine
+    c.rows.invariant.walked c.next_row.ensures.walked
+
+pub returns-in-Err-NoMemory-clause-walked : goal.returns-in-Err-NoMemory-clause-walked
+returns-in-Err-NoMemory-clause-walked g c =
+    walk_then (g.D.Disk.state c.args.disk.now) (g.D.Disk.state c.rows.disk) (g.D.Disk.state
+    c.next_row.new.disk) c.args.engine.now c.rows.engine c.next_row.new.engine
+    c.rows.invariant.walked c.next_row.ensures.walked
+
+pub returns-in-Err-key_after-clause-walked : goal.returns-in-Err-key_after-clause-walked
+returns-in-Err-key_after-clause-walked g c =
+    walk_then (g.D.Disk.state c.args.disk.now) (g.D.Disk.state c.rows.disk) (g.D.Disk.state
+    c.next_row.new.disk) c.args.engine.now c.rows.engine c.next_row.new.engine
+    c.rows.invariant.walked c.next_row.ensures.walked
+
+pub returns-in-Err-clause-wrong : goal.returns-in-Err-clause-wrong
+returns-in-Err-clause-wrong g c tells l reads =
+    device_item l c.args.schema.now c.in-Err.fault (c.in-Err.ensures.fault (subst IsTrue (sym
+    c.rows.invariant.walked.goes.tells) tells) l (reads_on (g.D.Disk.state c.args.disk.now)
+    (g.D.Disk.state c.rows.disk) c.args.engine.now c.rows.engine l c.rows.invariant.walked tells
+    reads))

@@ -1,0 +1,10 @@
+-- Without the families of a table they are live still.
+use Rattle.std.proofs.Common.{sym, subst}
+use Rattle.alt_engine.specs.Working.{AreLive}
+use Rattle.alt_opening.proofs.LiveLists.{live_without}
+use Rattle.alt_opening.proofs.live.Live.without_table.Goals as goal
+
+pub invariant_of-result : goal.invariant_of-result
+invariant_of-result c = subst AreLive (sym c.in_ok-families.ensures)
+    (live_without c.as_slice-2.result.now c.as_slice.result.now
+    (subst AreLive (sym c.as_slice.ensures.value) c.self.invariant))

@@ -1,5 +1,5 @@
 -- Flushed numbers, put into a map from the last family back.
-use Rattle.std.proofs.Common.{◌≡◌, ◌<◌, ◌+◌, ◌-◌, ◌==◌, ◌∷◌, ℕ, suc, Bool, true, false, cond, eqb-true, eq-eqb, List, [], drop, drop-cons, length, get_or, Some, None, refl, sym, ap, ◌∙◌, arith}
+use Rattle.std.proofs.Common.{◌≡◌, ◌<◌, ◌+◌, ◌-◌, ◌==◌, ◌∷◌, ◌++◌, ℕ, suc, Bool, true, false, cond, eqb-true, eq-eqb, List, [], drop, drop-cons, take, take-append-drop, length, get_or, Some, None, refl, sym, ap, ◌∙◌, arith}
 use Rattle.std.specs.Prelude.{if◌then◌else◌}
 use Rattle.std.specs.BTreeMap.{BTreeMap, get, is_at}
 use Rattle.std.specs.Cmp.{ranked}
@@ -60,3 +60,13 @@ numbers_more old new fs f before put family =
         ≡ (if t then f.flushed else flushed_of fs family)
     by_test true rest = refl
     by_test false rest = rest
+
+-- and all of it around that element
+pub back_split : {X : Type 0} (xs : List X) (i k : ℕ) (x : X) → i < length xs
+    → k ≡ length xs - 1 - i → x ≡ get_or xs k x
+    → xs ≡ take k xs ++ x ∷ drop (length xs - i) xs
+back_split xs i k x within at is =
+    let next : suc k ≡ length xs - i = omega (arith, at, within) in
+    sym (take-append-drop k xs)
+    ∙ ap (λ l. take k xs ++ l) (drop-cons xs k x (omega (arith, at, within))
+    ∙ (λ j. sym is j ∷ drop (next j) xs))

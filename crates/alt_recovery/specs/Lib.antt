@@ -1,5 +1,7 @@
+pub mod Entries
+pub mod Families
 pub mod Flushed
 pub mod Late
 pub mod Opening
-pub mod Entries
 pub mod Others
+pub mod Replays

@@ -5,7 +5,7 @@ ghost use Rattle.alt_base.specs.Counts.{Rose};
 ghost use Rattle.alt_disk.specs.Disk.{Goes};
 ghost use Rattle.alt_disk.specs.Runs.{Quiet};
 ghost use Rattle.alt_layout.specs.Layout.{Layout, ShowsFirst};
-ghost use Rattle.alt_engine.specs.InHand.{Reads, limits_of};
+ghost use Rattle.alt_engine.specs.InHand.{Reads, limits_of, next_of};
 ghost use Rattle.alt_engine.specs.Opened.{IsUndamaged, IsUnspent, StaysOn};
 
 use crate::engine::{Engine, EngineFault};
@@ -26,6 +26,7 @@ impl Engine {
             → Reads (D.state disk.old) self.old l → IfErr result IsUndamaged }
         ensures same { IsTrue (D.state disk.old).tells
             → StaysOn (D.state disk.old) (D.state disk.new) self.old self.new }
+        ensures next { next_of self.new ≡ next_of self.old }
         ensures limits { limits_of self.new ≡ limits_of self.old }
         ensures unspent { IfErr result IsUnspent }
         ensures quiet { IsTrue (D.state disk.old).tells

@@ -7,7 +7,7 @@ ghost use Rattle.alt_disk.specs.Disk.{Goes};
 ghost use Rattle.alt_disk.specs.Runs.{Quiet};
 ghost use Rattle.alt_layout.specs.Layout.{Layout, rows_between, shown};
 ghost use Rattle.alt_families.specs.Families.{files_in};
-ghost use Rattle.alt_engine.specs.InHand.{Reads, family_of, limits_of};
+ghost use Rattle.alt_engine.specs.InHand.{Reads, family_of, limits_of, next_of};
 ghost use Rattle.alt_engine.specs.Opened.{IsUndamaged, IsUnspent, StaysOn};
 
 use crate::engine::{Engine, EngineFault};
@@ -32,6 +32,7 @@ impl Engine {
             → Reads (D.state disk.old) self.old l → IfErr result IsUndamaged }
         ensures same { IsTrue (D.state disk.old).tells
             → StaysOn (D.state disk.old) (D.state disk.new) self.old self.new }
+        ensures next { next_of self.new ≡ next_of self.old }
         ensures limits { limits_of self.new ≡ limits_of self.old }
         ensures unspent { IfErr result IsUnspent }
         ensures quiet { IsTrue (D.state disk.old).tells
@@ -72,6 +73,7 @@ impl Engine {
             → Reads (D.state disk.old) self.old l → IfErr result IsUndamaged }
         ensures same { IsTrue (D.state disk.old).tells
             → StaysOn (D.state disk.old) (D.state disk.new) self.old self.new }
+        ensures next { next_of self.new ≡ next_of self.old }
         ensures limits { limits_of self.new ≡ limits_of self.old }
         ensures unspent { IfErr result IsUnspent }
         ensures quiet { IsTrue (D.state disk.old).tells

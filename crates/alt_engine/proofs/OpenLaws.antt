@@ -23,7 +23,7 @@ use Rattle.alt_engine.specs.declared.engine.EngineFault.{EngineFault}
 use Rattle.alt_engine.proofs.HandLaws.{reads_quiet, stays_quiet}
 
 -- files in hand, with the maps that they read as
-opened_each : (s : DiskState) (held : Held) (gs : List ℕ) (fs : List RowFile) → AreOpen s held gs fs
+pub opened_each : (s : DiskState) (held : Held) (gs : List ℕ) (fs : List RowFile) → AreOpen s held gs fs
     → Each2 (IsOpen s) fs (map held gs)
 opened_each s held [] [] are = tt
 opened_each s held [] (f ∷ fs) are = absurd are
@@ -31,12 +31,12 @@ opened_each s held (g ∷ gs) [] are = absurd are
 opened_each s held (g ∷ gs) (f ∷ fs) are = (are.1, opened_each s held gs fs are.2)
 
 -- their rows, joined
-joined_all : (held : Held) (gs : List ℕ) → joined_files held gs ≡ all_rows (map held gs)
+pub joined_all : (held : Held) (gs : List ℕ) → joined_files held gs ≡ all_rows (map held gs)
 joined_all held [] = refl
 joined_all held (g ∷ gs) = ap (joined_map join_row (held g)) (joined_all held gs)
 
 -- what an engine in hand has of a family are its rows
-pub family_reads : (s : DiskState) (e : Engine) (l : Layout) → Reads s e l → (family : ℕ)
+abbrev pub family_reads : (s : DiskState) (e : Engine) (l : Layout) → Reads s e l → (family : ℕ)
     → FamilyReads s (family_of e family) (l.rows family)
 family_reads s e l reads family =
     let v = version_of e.manifest in

@@ -8,7 +8,7 @@ use Rattle.alt_disk.specs.Disk.{DiskState, IsSettled}
 use Rattle.alt_gatelog.specs.InHand.{file_of as log_file, Reads as LogReads}
 use Rattle.alt_rowfile.specs.InHand.{file_of as row_file, Reads as RowReads}
 use Rattle.alt_rowfile.specs.declared.rowfile.RowFile.{RowFile}
-use Rattle.alt_layout.specs.Layout.{Layout}
+use Rattle.alt_layout.specs.Layout.{Layout, RowMap}
 use Rattle.alt_writes.specs.Writes.{Write}
 use Rattle.alt_writes.specs.Bytes.{write_bytes}
 use Rattle.alt_layout.specs.Fresh.{versions_file}
@@ -35,6 +35,10 @@ AreOpen s held [] (f ∷ fs) = ⊥
 AreOpen s held (g ∷ gs) [] = ⊥
 AreOpen s held (g ∷ gs) (f ∷ fs) =
     (row_file f ≡ g) × RowReads s f (entries (held g)) × AreOpen s held gs fs
+
+-- What the row files hold that the engine's version names for a family.
+abbrev pub file_rows : Engine → Held → ℕ → List RowMap
+file_rows e held family = map held (files_of (version_of e.manifest).families family)
 
 -- The number of the engine's next write.
 abbrev pub next_of : Engine → ℕ

@@ -7,7 +7,8 @@ ghost use Rattle.alt_disk.specs.Disk.{Goes};
 ghost use Rattle.alt_disk.specs.Runs.{Quiet};
 ghost use Rattle.alt_layout.specs.Layout.{Layout, rows_between, shown};
 ghost use Rattle.alt_families.specs.Families.{files_in};
-ghost use Rattle.alt_engine.specs.InHand.{Reads, family_of, limits_of, next_of};
+ghost use Rattle.alt_families.specs.Reads.{most_reads};
+ghost use Rattle.alt_engine.specs.InHand.{Reads, family_of, file_rows, limits_of, next_of};
 ghost use Rattle.alt_engine.specs.Opened.{IsUndamaged, IsUnspent, StaysOn};
 
 use crate::engine::{Engine, EngineFault};
@@ -83,6 +84,14 @@ impl Engine {
             → Rose (D.state disk.old).faults (D.state disk.new).faults }
         ensures well { (IsErrOf result EngineFault.Failed → ⊥)
             → (D.state disk.new).faults ≡ (D.state disk.old).faults }
+
+        // It reads each row file of the family twice at most, and once more for each version of a row in them that it passes.
+        ensures reads { IsTrue (D.state disk.old).tells → (l : Layout)
+            → (reads : Reads (D.state disk.old) self.old l)
+            → OnOk result ((D.state disk.new).reads ≤ (D.state disk.old).reads
+            + most_reads forward range.now.from range.now.to most
+            (rows_between l family range.now.from range.now.to forward)
+            (file_rows self.old reads.held family)) }
     {
         let families = &self.families;
         match shown_rows(

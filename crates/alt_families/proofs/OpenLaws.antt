@@ -2,7 +2,7 @@
 use Rattle.std.proofs.Common.{◌≡◌, ◌<◌, ◌+◌, ℕ, List, [], ◌∷◌, drop, drop-cons, suc, length, get_or, Option, Some, None, refl, sym, ap, subst, ◌∙◌, arith}
 use Rattle.std.specs.FinMap.{empty, get, get-empty}
 use Rattle.alt_cells.specs.declared.row.RowCells.{RowCells}
-use Rattle.alt_cells.specs.Joined.{either}
+use Rattle.alt_cells.specs.Joined.{either, joined_map}
 use Rattle.alt_cells.specs.Keys.{key_cmp}
 use Rattle.alt_cells.specs.Rows.{join_row}
 use Rattle.alt_cells.proofs.CellLaws.{key_total}
@@ -14,7 +14,7 @@ use Rattle.alt_layout.specs.Layout.{RowMap}
 use Rattle.alt_layout.proofs.RowLaws.{none_before}
 use Rattle.alt_merge.specs.Merges.{Each2, all_rows}
 use Rattle.alt_rowfile.specs.declared.rowfile.RowFile.{RowFile}
-use Rattle.alt_families.specs.Families.{files_in}
+use Rattle.alt_families.specs.Families.{files_in, rows_in}
 use Rattle.alt_families.specs.Opened.{IsOpen, FamilyReads}
 use Rattle.alt_families.specs.declared.family.Family.{Family}
 
@@ -25,6 +25,15 @@ none_reads s rows reads = reads.is ∙ none_before (all_rows reads.maps) ∙ no_
     no_maps : (maps : List RowMap) → Each2 (IsOpen s) [] maps → all_rows maps ≡ empty
     no_maps [] each = refl
     no_maps (m ∷ ms) each = absurd each
+
+-- the same family reads as the same maps
+abbrev pub reads_at : (s : DiskState) (f g : Option Family) (rows : RowMap) → f ≡ g
+    → FamilyReads s f rows → FamilyReads s g rows
+reads_at s f g rows same reads = record {
+  maps = reads.maps;
+  each = subst (λ (o : Option Family). Each2 (IsOpen s) (files_in o) reads.maps) same reads.each;
+  is = reads.is ∙ ap (λ (o : Option Family). joined_map join_row (rows_in o) (all_rows reads.maps)) same;
+}
 
 -- ---- one row
 

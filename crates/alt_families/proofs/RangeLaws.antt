@@ -52,7 +52,7 @@ filter_push p (e ∷ es) fs = by (p e.0) (filter_push p es fs)
     by false rest = rest
 
 -- from the back
-filter_back : (p : List ℕ → Bool) (es : RowList)
+pub filter_back : (p : List ℕ → Bool) (es : RowList)
     → filter (λ e. p e.0) (reverse es) ≡ reverse (filter (λ e. p e.0) es)
 filter_back p [] = refl
 filter_back p (e ∷ es) = ap (filter (λ e. p e.0)) (reverse_onto es e [])
@@ -113,7 +113,7 @@ is_reached false from (Some to) k is = by (is_le (key_cmp from k)) (not (is_le (
     by false b is = absurd (false≢true is)
 
 -- and one that is reached is of the range, unless it is behind it
-is_within : (forward : Bool) (from : List ℕ) (to : Option (List ℕ)) (k : List ℕ)
+pub is_within : (forward : Bool) (from : List ℕ) (to : Option (List ℕ)) (k : List ℕ)
     → reaches forward from to k ≡ true → is_out forward from to k ≡ false → within from to k ≡ true
 is_within true from None k reached out = reached
 is_within true from (Some to) k reached out =

@@ -10,31 +10,35 @@ use Rattle.alt_layout.specs.Layout.{shown_of}
 use Rattle.alt_families.specs.Ranges.{Ahead, AreAhead, is_out, shown_in}
 use Rattle.alt_families.proofs.RangeLaws.{ahead_next, first_within, out_within}
 
+-- the row given stood first, whatever is left
+abbrev pub IsFirst : RowList → Option (List ℕ × RowCells) → Type 0
+IsFirst rest given = Gives (λ _. Unit {0}) rest given
+
 module _ (Left After : RowList → Type 0) (forward : Bool) (from : List ℕ) (to : Option (List ℕ))
     (shows : List (List ℕ × Columns)) (ahead : Ahead Left forward from to shows)
     (given : Option (List ℕ × RowCells))
-    (gives : (rest : RowList) → Left rest → Gives After rest given) where
+    (gives : (rest : RowList) → Left rest → IsFirst rest given) where
   -- what was given stood first
-  first_of : (e : List ℕ × RowCells) → given ≡ Some e → (rest : RowList) → Gives After rest given
-      → (more : RowList) × (rest ≡ e ∷ more) × After more
-  first_of e is [] left = absurd (subst (Gives After []) is left)
+  first_of : (e : List ℕ × RowCells) → given ≡ Some e → (rest : RowList) → IsFirst rest given
+      → (more : RowList) × (rest ≡ e ∷ more)
+  first_of e is [] left = absurd (subst (IsFirst []) is left)
   first_of e is (x ∷ xs) left =
-      let both : (e ≡ x) × After xs = subst (Gives After (x ∷ xs)) is left in
-      (xs, ap (λ y. y ∷ xs) (sym both.0), both.1)
+      let both : (e ≡ x) × Unit {0} = subst (IsFirst (x ∷ xs)) is left in
+      (xs, ap (λ y. y ∷ xs) (sym both.0))
 
-  none_of : given ≡ None → (rest : RowList) → Gives After rest given → rest ≡ []
+  none_of : given ≡ None → (rest : RowList) → IsFirst rest given → rest ≡ []
   none_of is [] left = refl
-  none_of is (x ∷ xs) left = absurd (subst (Gives After (x ∷ xs)) is left)
+  none_of is (x ∷ xs) left = absurd (subst (IsFirst (x ∷ xs)) is left)
 
   -- what is ahead, by the first
   parted : (e : List ℕ × RowCells) → given ≡ Some e
-      → (more : RowList) × AreAhead forward from to (e ∷ more) × After more
+      → (more : RowList) × AreAhead forward from to (e ∷ more) × Left (e ∷ more)
       × (shows ≡ shown_in from to (e ∷ more))
   parted e is =
       let p = first_of e is ahead.rest (gives ahead.rest ahead.left) in (
         p.0,
         subst (AreAhead forward from to) p.1 ahead.are,
-        p.2,
+        subst Left p.1 ahead.left,
         ahead.shown ∙ ap (shown_in from to) p.1,
       )
 
@@ -51,16 +55,18 @@ module _ (Left After : RowList → Type 0) (forward : Bool) (from : List ℕ) (t
 
   -- the rows behind the first
   pub step_next : (e : List ℕ × RowCells) → given ≡ Some e → is_out forward from to e.0 ≡ false
+      → ((more : RowList) → AreAhead forward from to (e ∷ more)
+      → shows ≡ shown_in from to (e ∷ more) → Left (e ∷ more) → After more)
       → (o : Option Columns) → row_shown e.1 ≡ o → (more : List (List ℕ × Columns))
       × (shows ≡ cons_option (option_map (λ c. (e.0, c)) o) more) × Ahead After forward from to more
-  step_next e is in_range o shown = let p = parted e is in (
+  step_next e is in_range leaves o shown = let p = parted e is in (
     shown_in from to p.0,
     p.3 ∙ ap (shown_of row_shown) (first_within forward from to e p.0 p.1 in_range)
         ∙ ap (λ (x : Option Columns). cons_option (option_map (λ c. (e.0, c)) x)
         (shown_in from to p.0)) shown,
     record {
       rest = p.0;
-      left = p.2;
+      left = leaves p.0 p.1 p.3 p.2;
       are = ahead_next forward from to e p.0 p.1;
       shown = refl;
     },

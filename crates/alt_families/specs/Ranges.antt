@@ -62,8 +62,8 @@ GivesStep After shows old new Passed = (new ≡ old) × After shows
 GivesStep After shows old new Ended = (new ≡ old) × (shows ≡ [])
 
 -- Of what is ahead so many rows are wanted: what was given, with what is wanted then of what is ahead then, are those; or all of them were given.
-abbrev pub GivesSome : (List (List ℕ × Columns) → Type 0) → List (List ℕ × Columns)
+abbrev pub GivesSome : (ℕ → List (List ℕ × Columns) → Type 0) → List (List ℕ × Columns)
     → List (List ℕ × Columns) → List (List ℕ × Columns) → ℕ → Option ℕ → Type 0
 GivesSome After shows old new left None = new ≡ old ++ take left shows
 GivesSome After shows old new left (Some after) = (more : List (List ℕ × Columns))
-    × (new ++ take after more ≡ old ++ take left shows) × After more
+    × (new ++ take after more ≡ old ++ take left shows) × After after more

@@ -1,6 +1,6 @@
 //! The rows that a family shows in a range.
 
-ghost use Rattle.std.specs.Prelude.{◌≡◌, ◌++◌, ◌∷◌, [], ℕ, List, Some, take, IfOk, IfErr, OnOk, OnErr, IsErrOf, IsTrue};
+ghost use Rattle.std.specs.Prelude.{◌≡◌, ◌≤◌, ◌<◌, ◌+◌, ◌++◌, ◌∷◌, [], ℕ, suc, Bool, List, Some, take, IfOk, IfErr, OnOk, OnErr, IsErrOf, IsTrue};
 ghost use Rattle.std.specs.BTreeMap.{get as tree_get};
 ghost use Rattle.std.specs.Option.{option_copied};
 ghost use Rattle.std.specs.Ordering.{nat_cmp};
@@ -10,10 +10,12 @@ ghost use Rattle.alt_cells.specs.Changes.{Columns};
 ghost use Rattle.alt_cells.specs.Walks.{RowMap};
 ghost use Rattle.alt_disk.specs.Disk.{Goes};
 ghost use Rattle.alt_disk.specs.Runs.{Quiet};
-ghost use Rattle.alt_merge.specs.Whole.{merge_holds, merge_left};
+ghost use Rattle.alt_merge.specs.Whole.{merge_holds};
 ghost use Rattle.alt_families.specs.Opened.{FamilyReads, IsUndamaged};
 ghost use Rattle.alt_families.specs.Ranges.{Ahead, GivesSome, GivesStep, is_out, shown_between, start_of};
-ghost use Rattle.alt_families.specs.Sources.{source_holds, source_left};
+ghost use Rattle.alt_families.specs.Paying.{IsPaid};
+ghost use Rattle.alt_families.specs.Reads.{is_passed, most_reads};
+ghost use Rattle.alt_families.specs.Sources.{source_holds};
 
 use crate::family::Family;
 use crate::source::{Source, sources_of};
@@ -53,6 +55,13 @@ pub fn shown_rows<D: Disk>(
         → Rose (D.state disk.old).faults (D.state disk.new).faults }
     ensures well { (IsErrOf result SourceFault.Failed → ⊥)
         → (D.state disk.new).faults ≡ (D.state disk.old).faults }
+
+    // It reads each file twice at most, and once more for each version of a row that it passes.
+    ensures reads { IsTrue (D.state disk.old).tells → (rows : RowMap)
+        → (family : FamilyReads (D.state disk.old) (tree_get nat_cmp families.now family) rows)
+        → OnOk result ((D.state disk.new).reads ≤ (D.state disk.old).reads
+        + most_reads forward range.now.from range.now.to most
+        (shown_between rows range.now.from range.now.to forward) family.maps) }
 {
     match families.get(&family) {
         Some(found) => walk_family(alloc, disk, found, range, forward, most, out),
@@ -99,11 +108,17 @@ fn go_on<'a, D: Disk>(
     forward: bool,
     out: &mut Vec<(Bytes, ShownRow)>,
 ) -> Result<Step, SourceFault>
-    ensures gives { IsTrue (D.state disk.old).tells → (shows : List (List ℕ × Columns))
-        → Ahead (merge_left source_left (D.state disk.old) walk.old) forward range.now.from
+    ensures gives { IsTrue (D.state disk.old).tells → (p : List ℕ → Bool) (bound n : ℕ)
+        → (shows : List (List ℕ × Columns))
+        → ((key : List ℕ) → is_passed forward range.now.from range.now.to (suc n) shows key ≡ p key)
+        → Ahead (IsPaid p bound (D.state disk.old) walk.old forward) forward range.now.from
         range.now.to shows → IfOk result (GivesStep
-        (Ahead (merge_left source_left (D.state disk.new) walk.new) forward range.now.from
+        (Ahead (IsPaid p bound (D.state disk.new) walk.new forward) forward range.now.from
         range.now.to) shows out.old.items out.new.items) }
+    ensures reads { IsTrue (D.state disk.old).tells → (p : List ℕ → Bool) (bound : ℕ)
+        → (shows : List (List ℕ × Columns))
+        → Ahead (IsPaid p bound (D.state disk.old) walk.old forward) forward range.now.from
+        range.now.to shows → (D.state disk.new).reads ≤ bound }
     ensures begun { IsPrefix out.old.items out.new.items }
     ensures holds { IsTrue (D.state disk.old).tells → (rows : RowMap)
         → merge_holds source_holds (D.state disk.old) walk.old rows
@@ -145,11 +160,19 @@ fn take_one<'a, D: Disk>(
     left: u32,
     out: &mut Vec<(Bytes, ShownRow)>,
 ) -> Result<Option<u32>, SourceFault>
-    ensures gives { IsTrue (D.state disk.old).tells → (shows : List (List ℕ × Columns))
-        → Ahead (merge_left source_left (D.state disk.old) walk.old) forward range.now.from
+    ensures gives { IsTrue (D.state disk.old).tells → (p : List ℕ → Bool) (bound : ℕ)
+        → (shows : List (List ℕ × Columns)) → (0 < left → (key : List ℕ)
+        → is_passed forward range.now.from range.now.to left shows key ≡ p key)
+        → Ahead (IsPaid p bound (D.state disk.old) walk.old forward) forward range.now.from
         range.now.to shows → IfOk result (GivesSome
-        (Ahead (merge_left source_left (D.state disk.new) walk.new) forward range.now.from
-        range.now.to) shows out.old.items out.new.items left) }
+        (λ after more. Ahead (IsPaid p bound (D.state disk.new) walk.new forward) forward
+        range.now.from range.now.to more × (0 < after → (key : List ℕ)
+        → is_passed forward range.now.from range.now.to after more key ≡ p key))
+        shows out.old.items out.new.items left) }
+    ensures reads { IsTrue (D.state disk.old).tells → (p : List ℕ → Bool) (bound : ℕ)
+        → (shows : List (List ℕ × Columns))
+        → Ahead (IsPaid p bound (D.state disk.old) walk.old forward) forward range.now.from
+        range.now.to shows → (D.state disk.new).reads ≤ bound }
     ensures begun { IsPrefix out.old.items out.new.items }
     ensures holds { IsTrue (D.state disk.old).tells → (rows : RowMap)
         → merge_holds source_holds (D.state disk.old) walk.old rows
@@ -184,9 +207,12 @@ fn gather<'a, D: Disk>(
     most: u32,
     out: &mut Vec<(Bytes, ShownRow)>,
 ) -> Result<(), SourceFault>
-    ensures rows { IsTrue (D.state disk.old).tells → (shows : List (List ℕ × Columns))
-        → Ahead (merge_left source_left (D.state disk.old) walk.old) forward range.now.from
-        range.now.to shows → OnOk result (out.new.items ≡ out.old.items ++ take most shows) }
+    ensures rows { IsTrue (D.state disk.old).tells → (p : List ℕ → Bool) (bound : ℕ)
+        → (shows : List (List ℕ × Columns)) → (0 < most → (key : List ℕ)
+        → is_passed forward range.now.from range.now.to most shows key ≡ p key)
+        → Ahead (IsPaid p bound (D.state disk.old) walk.old forward) forward range.now.from
+        range.now.to shows → OnOk result ((out.new.items ≡ out.old.items ++ take most shows)
+        × ((D.state disk.new).reads ≤ bound)) }
     ensures begun { IsPrefix out.old.items out.new.items }
     ensures undamaged { IsTrue (D.state disk.old).tells → (rows : RowMap)
         → merge_holds source_holds (D.state disk.old) walk.old rows → IfErr result IsUndamaged }
@@ -237,6 +263,11 @@ fn walk_family<D: Disk>(
         → FamilyReads (D.state disk.old) (Some family.now) rows
         → OnOk result (out.new.items ≡ out.old.items
         ++ take most (shown_between rows range.now.from range.now.to forward)) }
+    ensures reads { IsTrue (D.state disk.old).tells → (rows : RowMap)
+        → (reads : FamilyReads (D.state disk.old) (Some family.now) rows)
+        → OnOk result ((D.state disk.new).reads ≤ (D.state disk.old).reads
+        + most_reads forward range.now.from range.now.to most
+        (shown_between rows range.now.from range.now.to forward) reads.maps) }
     ensures begun { IsPrefix out.old.items out.new.items }
     ensures undamaged { IsTrue (D.state disk.old).tells → (rows : RowMap)
         → FamilyReads (D.state disk.old) (Some family.now) rows → IfErr result IsUndamaged }

@@ -1,11 +1,11 @@
 //! The sources of a family's rows: its table in memory, and its files.
 
-ghost use Rattle.std.specs.Prelude.{◌∷◌, List, IfOk};
+ghost use Rattle.std.specs.Prelude.{◌≡◌, ◌∷◌, List, IfOk, map};
 ghost use Rattle.alt_disk.specs.Disk.{DiskState};
 ghost use Rattle.alt_cells.specs.Walks.{RowMap};
 ghost use Rattle.alt_merge.specs.Merges.{Each2};
 ghost use Rattle.alt_families.specs.Opened.{IsOpen};
-ghost use Rattle.alt_families.specs.Sources.{source_holds};
+ghost use Rattle.alt_families.specs.Sources.{source_holds, source_width};
 
 use crate::family::Family;
 use alt_base::NoMemory;
@@ -60,7 +60,9 @@ impl<'a, D: Disk> RowSource<D> for Source<'a> {
 
 /// The sources of a family: its table, and each of its files.
 pub(crate) fn sources_of<'a>(alloc: Global, family: &'a Family) -> Result<Vec<Source<'a>>, NoMemory>
-    ensures { IfOk result (λ sources. (s : DiskState) (maps : List RowMap)
+    ensures widths { IfOk result (λ sources. map source_width sources.items
+        ≡ 0 ∷ map (λ _. 1) family.now.files.items) }
+    ensures holds { IfOk result (λ sources. (s : DiskState) (maps : List RowMap)
         → Each2 (IsOpen s) family.now.files.items maps
         → Each2 (source_holds s) sources.items (family.now.table.0 ∷ maps)) }
 {

@@ -80,7 +80,7 @@ sorted_from (m ∷ maps) from forward = (
 )
 
 -- the rows of all sources from a place on are those of each, joined
-rows_from_all : (maps : List RowMap) (from : Option (List ℕ)) (forward : Bool)
+pub rows_from_all : (maps : List RowMap) (from : Option (List ℕ)) (forward : Bool)
     → rows_from (all_rows maps) from forward ≡ all_joined (walk_cmp forward) join_row
     (map (λ m. rows_from m from forward) maps)
 rows_from_all [] from forward = rows_from-empty from forward

@@ -40,7 +40,7 @@ impl<D: Disk, S: RowSource<D>> RowSource<D> for Merge<S> {
     ghost use Rattle.std.specs.Option.{option_copied};
     ghost use Rattle.alt_merge.specs.Merges.{AllDue, HoldsEach};
     ghost use Rattle.alt_cells.specs.Walks.{RowMap, RowList, rows_from, Gives, Keeps, Fails, answered_by};
-    ghost use Rattle.alt_merge.specs.Costs.{HasLists, CallSpends};
+    ghost use Rattle.alt_merge.specs.Costs.{HasLists, CallSpends, all_due};
     ghost use Rattle.alt_merge.specs.MergeLaws.{merge_holds_on, merge_left_on};
 
     ghost reads = { merge_reads S.reads };
@@ -98,7 +98,10 @@ impl<D: Disk, S: RowSource<D>> RowSource<D> for Merge<S> {
             → (D.state disk.new).faults ≡ (D.state disk.old).faults }
         ensures fails { IfErr result (Fails (merge_holds S.holds) (merge_reads S.reads)
             (D.state disk.old) (D.state disk.new) self.old) }
-        // Beyond the trait: each row that is passed pays for one read of its source.
+        // Beyond the trait: it asks the sources alone of which nothing is in hand.
+        ensures asks { (D.state disk.new).reads ≤ (D.state disk.old).reads
+            + all_due S.width (heads_of self.old) (sources_of self.old) }
+        // And each row that is passed pays for one read of its source.
         ensures spends { IsTrue (D.state disk.old).tells → (lists : List RowList)
             → HasLists (S.left (D.state disk.old)) (sources_of self.old) (heads_of self.old)
             (is_forward self.old) lists
@@ -106,6 +109,8 @@ impl<D: Disk, S: RowSource<D>> RowSource<D> for Merge<S> {
             (D.state disk.new).reads (sources_of self.old) (sources_of self.new)
             (heads_of self.old) (heads_of self.new) (is_forward self.old) lists) }
         ensures way { is_forward self.new ≡ is_forward self.old }
+        ensures widths { map S.width (sources_of self.new)
+            ≡ map S.width (sources_of self.old) }
     {
         // It wasn't sought.
         if self.heads.len() != self.sources.len() {

@@ -1,3 +1,4 @@
+mod flushed;
 mod fresh;
 mod opened;
 mod written;

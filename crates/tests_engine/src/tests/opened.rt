@@ -1,5 +1,6 @@
 //! Files that a store is opened from, and why it isn't.
 
+use crate::tests::written::LIMITS;
 use alt_disk::{Disk, MemoryDisk};
 use alt_engine::{Engine, RecoverFault};
 use std::alloc::Global;
@@ -13,7 +14,7 @@ static BAD: [(&[u8], &[u8], u32, u64); 13] = [
     // No files, or no entries.
     (b"", b"", 1, 0),
     (VERSIONS, b"", 2, 0),
-    // Versions without a header, without an entry, and with another one.
+    // Versions without a header, without an entry, and with one that is none.
     (b"ALTLOG02\0", b"ALTLOG01\0", 1, 0),
     (b"ALTLOG01\0", b"ALTLOG01\0", 1, 8),
     (b"ALTLOG01\x01\0\0\0\0\0\0\0\x01\0\0", b"ALTLOG01\0", 1, 8),
@@ -80,7 +81,7 @@ fn opened(alloc: Global, versions: &[u8], entries: &[u8]) -> Result<u64, Recover
     if !put(&mut disk, 2, entries) {
         return Err(RecoverFault::Failed);
     }
-    match Engine::recover(alloc, &mut disk) {
+    match Engine::recover(alloc, &mut disk, LIMITS) {
         Ok(engine) => Ok(engine.next_number()),
         Err(fault) => Err(fault),
     }
@@ -106,4 +107,42 @@ fn numbers_may_be_left_out(rt: HostRuntime) {
             "{next}"
         );
     }
+}
+
+// A version that names family 7, with its rows up to write 1 in file 3.
+const WITH_FILE: &[u8] =
+    b"ALTLOG01\x01\0\0\0\0\0\0\0\x38\0\0\0\x04\0\0\0\0\0\0\0\x02\0\0\0\0\0\0\0\x01\0\0\0\x02\0\0\0\0\0\0\0\x01\0\0\0\x07\0\0\0\0\0\0\0\x01\0\0\0\0\0\0\0\x01\0\0\0\x03\0";
+
+// The digest of no bytes.
+const NOTHING: [u8; 32] = [
+    0xe3, 0xb0, 0xc4, 0x42, 0x98, 0xfc, 0x1c, 0x14, 0x9a, 0xfb, 0xf4, 0xc8, 0x99, 0x6f, 0xb9, 0x24,
+    0x27, 0xae, 0x41, 0xe4, 0x64, 0x9b, 0x93, 0x4c, 0xa4, 0x95, 0x99, 0x1b, 0x78, 0x52, 0xb8, 0x55,
+];
+
+// Why a store isn't opened whose file 3 has these bytes.
+fn refused(alloc: Global, rows: &[u8]) -> Option<RecoverFault> {
+    let mut disk = MemoryDisk::new(alloc);
+    if put(&mut disk, 1, WITH_FILE) && put(&mut disk, 2, b"ALTLOG01\0") && put(&mut disk, 3, rows) {
+        return Engine::recover(alloc, &mut disk, LIMITS).err();
+    }
+    None
+}
+
+#[test]
+fn a_row_file_that_is_none_is_named(rt: HostRuntime) {
+    let none = Some(RecoverFault::Damaged { file: 3, at: 0 });
+    // It isn't there, is too short, or is nothing behind a digest that is right.
+    assert!(rt; refused(rt.alloc(), b"") == none);
+    assert!(rt; refused(rt.alloc(), &[0; 31]) == none);
+    assert!(rt; refused(rt.alloc(), &NOTHING) == none);
+}
+
+#[test]
+fn a_digest_that_differs_is_told_with_both(rt: HostRuntime) {
+    let differs = RecoverFault::DigestDiffers {
+        file: 3,
+        kept: [0; 32],
+        found: NOTHING,
+    };
+    assert!(rt; refused(rt.alloc(), &[0; 32]) == Some(differs));
 }

@@ -6,16 +6,22 @@ ghost use Rattle.tests_engine.specs.Ready.{IsReady};
 
 use alt_cells::{Batch, CellList, RowChange, ShownRow};
 use alt_disk::{Disk, MemoryDisk};
-use alt_engine::{Engine, make_store};
+use alt_engine::{Engine, Limits, make_store};
 use alt_fields::Bytes;
 use alt_keyorder::KeyRange;
 use std::alloc::Global;
+
+/// No family is flushed by itself.
+pub(super) const LIMITS: Limits = Limits {
+    flush: 1 << 40,
+    merge: 8,
+};
 
 // Rows of family 7, by what the writes below leave: a key, and the value of column `v`.
 static LEFT: [(&[u8], &[u8]); 3] = [(b"a", b"two"), (b"c", b"three"), (b"cc", b"four")];
 
 // A key, and its value, or none where the row goes.
-type Write = (&'static [u8], &'static [u8]);
+pub(super) type Write = (&'static [u8], &'static [u8]);
 
 // The writes.
 static WRITES: [Write; 6] = [
@@ -49,17 +55,22 @@ fn batch_of(alloc: Global, key: &[u8], value: &[u8]) -> Option<Batch> {
 }
 
 // The engine of the store on a disk.
-fn opened(alloc: Global, disk: &mut MemoryDisk) -> Option<Engine>
+pub(super) fn opened(alloc: Global, disk: &mut MemoryDisk) -> Option<Engine>
     ensures { IfSome result (IsReady (state_of disk.new)) }
 {
-    match Engine::recover(alloc, disk) {
+    match Engine::recover(alloc, disk, LIMITS) {
         Ok(engine) => Some(engine),
         Err(_) => None,
     }
 }
 
 // Makes one write.
-fn put(alloc: Global, engine: &mut Engine, disk: &mut MemoryDisk, write: &Write) -> Option<u64>
+pub(super) fn put(
+    alloc: Global,
+    engine: &mut Engine,
+    disk: &mut MemoryDisk,
+    write: &Write,
+) -> Option<u64>
     requires { IsReady (state_of disk.old) engine.old }
     ensures { IfSome result (λ _. IsReady (state_of disk.new) engine.new) }
 {
@@ -80,7 +91,7 @@ fn fresh(alloc: Global) -> Option<MemoryDisk> {
 }
 
 // A disk with a store of all writes.
-fn written(alloc: Global) -> Option<MemoryDisk> {
+pub(super) fn written(alloc: Global) -> Option<MemoryDisk> {
     let mut disk = fresh(alloc)?;
     let mut engine = opened(alloc, &mut disk)?;
     for write in &WRITES {
@@ -98,7 +109,12 @@ fn is_left(row: &(Bytes, ShownRow), left: &(&[u8], &[u8])) -> bool {
 }
 
 // Whether the rows of all keys are those that are left, in a direction.
-fn shows(alloc: Global, engine: &mut Engine, disk: &mut MemoryDisk, forward: bool) -> Option<bool> {
+pub(super) fn shows(
+    alloc: Global,
+    engine: &mut Engine,
+    disk: &mut MemoryDisk,
+    forward: bool,
+) -> Option<bool> {
     let range = KeyRange {
         from: Bytes::new(alloc, b"").ok()?,
         to: None,

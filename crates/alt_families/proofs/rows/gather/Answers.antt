@@ -13,11 +13,11 @@ rows-preserved g c =
     let a : DiskState = g.D.Disk.state c.rows.disk in
     let b : DiskState = g.D.Disk.state c.take_one.new.disk in
     let so_far = c.rows.invariant in record {
-      rows = λ told shows ahead.
-          let still = so_far.rows told shows ahead in
-          let p = rw c.in-Ok-Some.field-0-is at c.in-Ok-Some.ensures.gives (tells_on s a so_far.goes told)
-          still.more still.ahead in
-          record { more = p.0; ahead = p.2; is = p.1 ∙ still.is };
+      rows = λ told p bound shows passes ahead.
+          let still = so_far.rows told p bound shows passes ahead in
+          let q = rw c.in-Ok-Some.field-0-is at c.in-Ok-Some.ensures.gives (tells_on s a so_far.goes told)
+          p bound still.more still.ahead.1 still.ahead.0 in
+          record { more = q.0; ahead = q.2; is = q.1 ∙ still.is };
       begun = prefix_trans c.args.out.now.items c.rows.out.items c.take_one.new.out.items so_far.begun
           c.take_one.ensures.begun;
       holds = λ told rows held. c.take_one.ensures.holds (tells_on s a so_far.goes told) rows
@@ -29,10 +29,14 @@ rows-preserved g c =
     }
 
 pub returns-in-Ok-None-clause-rows : goal.returns-in-Ok-None-clause-rows
-returns-in-Ok-None-clause-rows g c told shows ahead =
-    let still = c.rows.invariant.rows told shows ahead in
-    (rw c.in-Ok-None.field-0-is at c.in-Ok-None.ensures.gives (tells_on (g.D.Disk.state c.args.disk.now)
-    (g.D.Disk.state c.rows.disk) c.rows.invariant.goes told) still.more still.ahead) ∙ still.is
+returns-in-Ok-None-clause-rows g c told p bound shows passes ahead =
+    let still = c.rows.invariant.rows told p bound shows passes ahead in
+    let tells = tells_on (g.D.Disk.state c.args.disk.now) (g.D.Disk.state c.rows.disk)
+    c.rows.invariant.goes told in (
+      (rw c.in-Ok-None.field-0-is at c.in-Ok-None.ensures.gives tells p bound still.more
+          still.ahead.1 still.ahead.0) ∙ still.is,
+      c.in-Ok-None.ensures.reads tells p bound still.more still.ahead.0,
+    )
 
 pub returns-in-Ok-None-clause-begun : goal.returns-in-Ok-None-clause-begun
 returns-in-Ok-None-clause-begun g c =

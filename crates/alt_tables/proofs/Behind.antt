@@ -3,19 +3,20 @@ use Rattle.std.proofs.Common.{◌≡◌, refl, sym, subst, ℕ, ◌+◌, ◌≤�
 use Rattle.std.proofs.lemmas.List.{length-append}
 use Rattle.alt_disk.specs.Disk.{DiskState, Goes}
 use Rattle.alt_disk.proofs.Runs.{spans_on, spans_weaker}
-use Rattle.alt_engine.specs.InHand.{IsWritten}
 use Rattle.alt_machine.specs.Outcomes.{Wants, last_state}
 use Rattle.alt_machine.specs.State.{State}
 use Rattle.alt_machine.specs.Wanted.{lack_among}
 use Rattle.alt_machine.proofs.Behind.{after_behind, front_of, taken_behind, lacks_behind, lacks_front, lacks_within, take_front}
-use Rattle.alt_tables.specs.Faults.{BreakOff}
-use Rattle.alt_tables.specs.Images.{AfterSome, Leaves}
+use Rattle.std.specs.Prelude.{⊤}
+use Rattle.alt_tables.specs.Faults.{BreakOff, WantsMemory}
+use Rattle.alt_tables.specs.Images.{AfterSome, Lasts, Leaves}
 use Rattle.alt_opening.specs.Images.{StandsFor}
 use Rattle.alt_tables.specs.Stands.{Stands}
 use Rattle.alt_tables.specs.declared.faults.TableFault.{TableFault}
 use Rattle.alt_tables.specs.declared.faults.TableFault.TheVariants.{Spent, Damaged, BadRow, Failed, NoMemory}
 use Rattle.alt_tables.specs.declared.tables.Tables.{Tables}
 use Rattle.alt_tables.proofs.Left.{leaves_after, leaves_images, leaves_reads}
+use Rattle.alt_tables.proofs.Making.{none_made}
 
 -- ---- how they break off
 
@@ -31,13 +32,7 @@ broke_front now wants s a b (Spent n) h = (
 broke_front now wants s a b (Damaged file at) h = absurd h
 broke_front now wants s a b (BadRow family key) h = absurd h
 broke_front now wants s a b Failed h = tt
-broke_front now wants s a b NoMemory h =
-    let same = take_front h.0 a b (omega (arith, h.1)) in (
-      h.0,
-      omega (arith, h.1, length-append a b),
-      subst (λ l. lack_among wants s l ≡ None) (sym same) h.2,
-      subst (λ l. now (last_state s l)) (sym same) h.3,
-    )
+broke_front now wants s a b NoMemory h = tt
 
 -- writes broke off behind others that were made
 pub broke_behind : (now : State → Type 0) (wants : Wants) (s : State) (a b : List State)
@@ -51,12 +46,44 @@ broke_behind now wants s a b (Spent n) none some h = (
 broke_behind now wants s a b (Damaged file at) none some h = absurd h
 broke_behind now wants s a b (BadRow family key) none some h = absurd h
 broke_behind now wants s a b Failed none some h = tt
-broke_behind now wants s a b NoMemory none some h = (
-  length a + h.0,
-  omega (arith, h.1, some, length-append a b),
-  taken_behind wants a (length a + h.0) h.0 s b refl none h.2,
-  subst now (sym (after_behind a (length a + h.0) h.0 s b refl)) h.3,
-)
+broke_behind now wants s a b NoMemory none some h = tt
+
+-- ---- where memory was wanting
+
+-- before any of the writes the disk stands for the state
+pub wants_none : (disk : DiskState) (wants : Wants) (s : State) (atoms : List State) → Lasts disk s
+    → WantsMemory disk wants s atoms
+wants_none disk wants s atoms lasts = record {
+  made = 0;
+  some = none_made atoms;
+  enough = refl;
+  lasts = lasts;
+}
+
+-- it was wanting for the first of some writes
+pub wants_front : (disk : DiskState) (wants : Wants) (s : State) (a b : List State)
+    → WantsMemory disk wants s a → WantsMemory disk wants s (a ++ b)
+wants_front disk wants s a b h =
+    let some = h.some in
+    let same = take_front h.made a b (omega (arith, some)) in record {
+      made = h.made;
+      some = omega (arith, some, length-append a b);
+      enough = subst (λ l. lack_among wants s l ≡ None) (sym same) h.enough;
+      lasts = subst (λ l. Lasts disk (last_state s l)) (sym same) h.lasts;
+    }
+
+-- or for those behind others that were made
+pub wants_behind : (disk : DiskState) (wants : Wants) (s : State) (a b : List State)
+    → lack_among wants s a ≡ None → 1 ≤ length b → WantsMemory disk wants (last_state s a) b
+    → WantsMemory disk wants s (a ++ b)
+wants_behind disk wants s a b none more h =
+    let some = h.some in record {
+      made = length a + h.made;
+      some = omega (arith, some, more, length-append a b);
+      enough = taken_behind wants a (length a + h.made) h.made s b refl none h.enough;
+      lasts = subst (Lasts disk)
+          (sym (after_behind a (length a + h.made) h.made s b refl)) h.lasts;
+    }
 
 -- ---- what a stop leaves of them
 
@@ -78,7 +105,7 @@ pub leaves_front : (old new : DiskState) (t : Tables) (s : State) (a b : List St
 leaves_front old new t s [] b goes stands h = leaves_reads old new t s b
     (record { goes = goes; quiet = λ tells. h }) stands
 leaves_front old new t s (r ∷ rs) b goes stands h =
-    spans_weaker old new IsWritten IsWritten (AfterSome s ((r ∷ rs) ++ b)) (AfterSome s (r ∷ rs)) h
+    spans_weaker old new (λ _. ⊤) (λ _. ⊤) (AfterSome s ((r ∷ rs) ++ b)) (AfterSome s (r ∷ rs)) h
     (λ g is. is) (λ moment image here. front_some s (r ∷ rs) b moment image here)
 
 -- one call behind another
@@ -88,9 +115,9 @@ pub leaves_both : (old mid new : DiskState) (t u : Tables) (s : State) (a b : Li
 leaves_both old mid new t u s [] b goes stands later first second =
     leaves_after old mid new t s b (record { goes = goes; quiet = λ tells. first }) stands second
 leaves_both old mid new t u s (r ∷ rs) b goes stands later first second =
-    spans_on old mid new IsWritten (AfterSome s ((r ∷ rs) ++ b))
+    spans_on old mid new (λ _. ⊤) (AfterSome s ((r ∷ rs) ++ b))
     (leaves_front old mid t s (r ∷ rs) b goes stands first)
-    (spans_weaker mid new IsWritten IsWritten (AfterSome s ((r ∷ rs) ++ b))
+    (spans_weaker mid new (λ _. ⊤) (λ _. ⊤) (AfterSome s ((r ∷ rs) ++ b))
     (AfterSome (last_state s (r ∷ rs)) b)
     (leaves_images mid new u (last_state s (r ∷ rs)) b later second) (λ g is. is)
     (λ moment image here. behind_some s (r ∷ rs) b moment image here))

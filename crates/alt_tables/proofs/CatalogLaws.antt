@@ -14,10 +14,10 @@ use Rattle.alt_cells.proofs.CellLaws.{key_total}
 use Rattle.alt_cells.proofs.ChangeLaws.{written-change_between, none_shown}
 use Rattle.alt_changes.specs.ChangeRows.{change_columns}
 use Rattle.alt_engine.specs.InHand.{batch_write}
-use Rattle.alt_layout.specs.Layout.{Layout, shown, shown_by, change_of, ShowsWrite}
+use Rattle.alt_layout.specs.Layout.{Layout, shown, shown_by, change_of}
 use Rattle.alt_writes.specs.Writes.{Write}
 use Rattle.alt_layout.specs.Writes.{with_write}
-use Rattle.alt_engine.proofs.LayoutLaws.{shows_write}
+use Rattle.alt_layout.proofs.BatchLaws.{shows_batch}
 use Rattle.alt_machine.specs.declared.TheConstants.{NUMBERS_END, FAMILIES_END, MOST_FAMILIES, MOST_TABLES}
 use Rattle.alt_machine.specs.Indexed.{index_entry}
 use Rattle.alt_machine.specs.Rekeyed.{rekeyed}
@@ -38,7 +38,7 @@ use Rattle.alt_schema.specs.declared.schema.TableSchema.{TableSchema}
 use Rattle.alt_opening.specs.StateRows.{HasMoment, IsHeldWhole, Shows, catalog_family, catalog_rows, item_rows, index_rows, change_rows, one_column, table_row, next_row}
 use Rattle.alt_tables.specs.RowChanges.{Turns, creation_changes, drop_changes}
 use Rattle.alt_opening.proofs.Ties.{tied, itself}
-use Rattle.alt_tables.proofs.ChangeLaws.{one_change, two_changes, other_family}
+use Rattle.alt_tables.proofs.ChangeLaws.{ShowsWrite, one_change, two_changes, other_family}
 use Rattle.alt_views.proofs.ItemRowLaws.{can_show}
 use Rattle.alt_views.specs.IndexRows.{index_columns}
 use Rattle.alt_opening.proofs.OneState.{some, nameless}
@@ -299,10 +299,10 @@ pub creation_turns : (s : State) (d : TableSchema) (after : ℕ)
     → Turns (creation_changes s.next_family after d) s (with_table s d)
 creation_turns s d after counted valid held absent made new is_held number family few enough =
     record {
-      shows = λ l past shows. shows_creation l s shows valid d after counted absent
+      shows = λ distinct l past shows. shows_creation l s shows valid d after counted absent
           (new_named d d.name refl made) family new
           (batch_write l (creation_changes s.next_family after d)) refl refl
-          (shows_write l (batch_write l (creation_changes s.next_family after d)) past
+          (shows_batch l (batch_write l (creation_changes s.next_family after d)) distinct past
           (omega arith));
       valid = with_table_valid s d valid made new number family few enough;
       held = record {
@@ -335,9 +335,9 @@ pub drop_turns : (s : State) (name : List ℕ) (t : Table) → IsValid s → IsH
     → s.next_number < NUMBERS_END → map.get s.tables name ≡ Some t
     → Turns (drop_changes t.description) s (without_table s name)
 drop_turns s name t valid held room at = record {
-  shows = λ l past shows. shows_drop l s shows valid name t at (table_named s name t valid at)
+  shows = λ distinct l past shows. shows_drop l s shows valid name t at (table_named s name t valid at)
       (valid.tables name t at).named (batch_write l (drop_changes t.description)) refl refl
-      (shows_write l (batch_write l (drop_changes t.description)) past (omega arith));
+      (shows_batch l (batch_write l (drop_changes t.description)) distinct past (omega arith));
   valid = without_table_valid s name valid room;
   held = record {
     items = record {

@@ -1,11 +1,13 @@
 -- What the rows beneath the tables show, in reads and in whatever a stop leaves, and what a write makes of it.
-use Rattle.std.proofs.Common.{◌≡◌, ◌&&◌, Bool, IsTrue, ⊎_elim, refl, sym, subst, ℕ, List, [], ◌∷◌, Option, Result, Err, ◌∙◌}
+use Rattle.std.proofs.Common.{◌≡◌, ◌&&◌, Bool, IsTrue, T, ⊎_elim, refl, sym, subst, ℕ, List, [], ◌∷◌, Option, Result, Err, ◌∙◌}
+use Rattle.std.specs.Prelude.{⊤}
+use Rattle.alt_cells.specs.Batches.{is_distinct}
 use Rattle.alt_cells.specs.declared.batch.RowChange.{RowChange}
 use Rattle.alt_disk.specs.Disk.{DiskState, IsImage, Goes}
 use Rattle.alt_disk.specs.Runs.{Spans, Quiet}
 use Rattle.alt_disk.proofs.Runs.{spans_on, spans_weaker, quiet_spans, quiet_then, trusted_on}
 use Rattle.alt_layout.specs.Files.{IsLayout}
-use Rattle.alt_engine.specs.InHand.{SameEngine, Stands as EngineStands, batch_write, BeforeOrWith, IsWritten}
+use Rattle.alt_engine.specs.InHand.{Stands as EngineStands, batch_write, BeforeOrWith, IsWritten}
 use Rattle.alt_layout.specs.Layout.{Layout}
 use Rattle.alt_layout.specs.Writes.{with_write}
 use Rattle.alt_engine.specs.declared.engine.Engine.{Engine}
@@ -37,8 +39,8 @@ each_holds disk engine s holds valid image is = record {
 -- so does whatever a stop leaves at each moment of a call that makes some of these writes of it
 pub leaves_images : (old new : DiskState) (engine : Engine) (s : State) (atoms : List State)
     → Holds old engine s → IsValid s → Leaves old new s atoms
-    → Spans old new IsWritten (AfterSome s atoms)
-leaves_images old new engine s [] holds valid quiet = quiet_spans old new IsWritten
+    → Spans old new (λ _. ⊤) (AfterSome s atoms)
+leaves_images old new engine s [] holds valid quiet = quiet_spans old new (λ _. ⊤)
     (AfterSome s []) quiet (λ t image fits. (0, each_holds old engine s holds valid image fits))
 leaves_images old new engine s (r ∷ rs) holds valid spans = spans
 
@@ -64,48 +66,50 @@ one_held disk engine s r holds_s holds_r valid_s valid_r = one_state holds_s.lay
 -- ---- a write
 
 module _ (old new : DiskState) (engine : Engine) (s r : State) (changes : List RowChange)
-    (holds : Holds old engine s) (turns : Turns changes s r) where
-  abbrev after : Layout
-  after = with_write holds.layout (batch_write holds.layout changes)
+    (holds : Holds old engine s) (turns : Turns changes s r) (distinct : T (is_distinct changes))
+  where
+    abbrev after : Layout
+    after = with_write holds.layout (batch_write holds.layout changes)
 
-  -- what a stop leaves is the state before it or the one after
-  pub write_images : IsValid s → Spans old new IsWritten (BeforeOrWith holds.layout changes)
-      → Leaves old new s (r ∷ [])
-  write_images valid spans = spans_weaker old new IsWritten IsWritten (AfterSome s (r ∷ []))
-      (BeforeOrWith holds.layout changes) spans (λ g is. is) (λ t image here. ⊎_elim
-      (λ (is : IsLayout image holds.layout). (
-        0,
-        record {
-          layout = holds.layout;
-          is = is;
-          shows = holds.shows;
-          valid = valid;
-          held = holds.held;
-        },
-      ))
-      (λ (is : IsLayout image after). (
-        1,
-        record {
-          layout = after;
-          is = is;
-          shows = turns.shows holds.layout
-              (stands_past old engine holds.layout holds.is) holds.shows;
-          valid = turns.valid;
-          held = turns.held;
-        },
-      ))
-      here)
+    -- what a stop leaves is the state before it or the one after
+    pub write_images : IsValid s → Spans old new IsWritten (BeforeOrWith holds.layout changes)
+        → Leaves old new s (r ∷ [])
+    write_images valid spans = spans_weaker old new IsWritten (λ _. ⊤) (AfterSome s (r ∷ []))
+        (BeforeOrWith holds.layout changes) spans (λ g is. tt) (λ t image here. ⊎_elim
+        (λ (is : IsLayout image holds.layout). (
+          0,
+          record {
+            layout = holds.layout;
+            is = is;
+            shows = holds.shows;
+            valid = valid;
+            held = holds.held;
+          },
+        ))
+        (λ (is : IsLayout image after). (
+          1,
+          record {
+            layout = after;
+            is = is;
+            shows = turns.shows distinct holds.layout
+                (stands_past old engine holds.layout holds.is) holds.shows;
+            valid = turns.valid;
+            held = turns.held;
+          },
+        ))
+        here)
 
-  -- after it the rows show the one after
-  pub write_holds : (later : Engine) → Goes old new → EngineStands new later after
-      → Holds new later r
-  write_holds later goes stands = record {
-    trusted = trusted_on old new goes holds.trusted;
-    layout = after;
-    is = stands;
-    shows = turns.shows holds.layout (stands_past old engine holds.layout holds.is) holds.shows;
-    held = turns.held;
-  }
+    -- after it the rows show the one after
+    pub write_holds : (later : Engine) → Goes old new → EngineStands new later after
+        → Holds new later r
+    write_holds later goes stands = record {
+      trusted = trusted_on old new goes holds.trusted;
+      layout = after;
+      is = stands;
+      shows = turns.shows distinct holds.layout (stands_past old engine holds.layout holds.is)
+          holds.shows;
+      held = turns.held;
+    }
 
 -- ---- calls one after the other
 
@@ -113,7 +117,7 @@ module _ (old new : DiskState) (engine : Engine) (s r : State) (changes : List R
 pub leaves_quiet : (old new : DiskState) (engine : Engine) (s : State) (atoms : List State)
     → Holds old engine s → IsValid s → Quiet old new → Leaves old new s atoms
 leaves_quiet old new engine s [] holds valid quiet = quiet
-leaves_quiet old new engine s (r ∷ rs) holds valid quiet = quiet_spans old new IsWritten
+leaves_quiet old new engine s (r ∷ rs) holds valid quiet = quiet_spans old new (λ _. ⊤)
     (AfterSome s (r ∷ rs)) quiet
     (λ t image fits. (0, each_holds old engine s holds valid image fits))
 
@@ -123,23 +127,13 @@ pub leaves_behind : (old mid new : DiskState) (engine : Engine) (s : State) (ato
     → Leaves old new s atoms
 leaves_behind old mid new engine s [] holds valid quiet then = quiet_then old mid new quiet then
 leaves_behind old mid new engine s (r ∷ rs) holds valid quiet then =
-    spans_on old mid new IsWritten (AfterSome s (r ∷ rs))
+    spans_on old mid new (λ _. ⊤) (AfterSome s (r ∷ rs))
     (leaves_quiet old mid engine s (r ∷ rs) holds valid quiet) then
-
--- a call that did nothing
-pub holds_same : (old new : DiskState) (e f : Engine) (s : State) → new ≡ old → SameEngine e f
-    → Holds old e s → Holds new f s
-holds_same old new e f s same engine holds = subst (λ d. Holds d f s) (sym same) (record {
-  trusted = holds.trusted;
-  layout = holds.layout;
-  is = engine.stands old holds.layout holds.is;
-  shows = holds.shows;
-  held = holds.held;
-})
 
 -- the engine wanted memory where that is what is told
 pub memory_wanted : (f : EngineFault) → fault_of f ≡ NoMemory → f ≡ engine.NoMemory
 memory_wanted (engine.Spent n) e = absurd (let g : ⊥ = cc in g)
+memory_wanted (engine.Damaged file at) e = absurd (let g : ⊥ = cc in g)
 memory_wanted engine.Failed e = absurd (let g : ⊥ = cc in g)
 memory_wanted engine.NoMemory e = refl
 

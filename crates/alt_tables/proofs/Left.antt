@@ -1,18 +1,17 @@
 -- What callers of the tables say of the disk: what a call that reads leaves, for which state the tables stand behind it, and for which
 -- state the files stand that a stop leaves.
 use Rattle.std.proofs.Common.{◌≡◌, sym, subst, ℕ, List, Option, IsTrue}
-use Rattle.std.specs.Prelude.{◌↔◌}
+use Rattle.std.specs.Prelude.{◌↔◌, ⊤}
 use Rattle.alt_disk.specs.Disk.{DiskState, Goes, IsImage, IsTrusted}
 use Rattle.alt_disk.specs.Runs.{Quiet, Spans}
 use Rattle.alt_disk.proofs.Calls.{goes_refl, goes_on}
 use Rattle.alt_disk.proofs.Runs.{quiet_start, quiet_then, tells_of, trusted_back}
 use Rattle.alt_layout.specs.Files.{IsLayout}
-use Rattle.alt_engine.specs.InHand.{IsWritten}
 use Rattle.alt_layout.specs.Layout.{no_rows}
-use Rattle.alt_engine.proofs.ImageLaws.{files_hold}
+use Rattle.alt_opening.proofs.Engine.{files_hold}
 use Rattle.alt_machine.specs.State.{State, start}
 use Rattle.alt_opening.specs.Images.{StandsFor}
-use Rattle.alt_tables.specs.Images.{AfterSome, Leaves}
+use Rattle.alt_tables.specs.Images.{AfterSome, Lasts, Leaves}
 use Rattle.alt_tables.specs.Stands.{AreReady, Stands, Reads}
 use Rattle.alt_tables.specs.declared.tables.Tables.{Tables}
 use Rattle.alt_tables.proofs.Holding.{each_holds, holds_quiet, leaves_behind, leaves_quiet}
@@ -46,6 +45,7 @@ stands_quiet a b t s tells honest quiet stands = record {
   catalog = stands.catalog;
   number = stands.number;
   family = stands.family;
+  live = stands.live;
   rows = holds_quiet a b t.engine s tells honest quiet stands.rows;
   valid = stands.valid;
 }
@@ -82,7 +82,7 @@ leaves_after a b c t s atoms reads stands then = leaves_behind a b c t.engine s 
 
 -- whatever a stop leaves at each moment of a call stands for the state after some of its writes
 pub leaves_images : (a b : DiskState) (t : Tables) (s : State) (atoms : List State) → Stands a t s
-    → Leaves a b s atoms → Spans a b IsWritten (AfterSome s atoms)
+    → Leaves a b s atoms → Spans a b (λ _. ⊤) (AfterSome s atoms)
 leaves_images a b t s atoms stands leaves =
     holding.leaves_images a b t.engine s atoms stands.rows stands.valid leaves
 
@@ -100,6 +100,17 @@ stands_read a t s stands = record {
   valid = stands.valid;
   held = stands.rows.held;
 }
+
+-- so what the disk holds stands for it
+pub stands_lasts : (a : DiskState) (t : Tables) (s : State) → Stands a t s → Lasts a s
+stands_lasts a t s stands = record {
+  reads = stands_read a t s stands;
+  left = stands_left a t s stands;
+}
+
+-- also behind calls that read, whatever becomes of the tables
+pub reads_lasts : (a b : DiskState) (t : Tables) (s : State) → Reads a b → Stands a t s → Lasts b s
+reads_lasts a b t s reads stands = stands_lasts b t s (stays_read a b t s reads stands)
 
 -- files that hold no rows stand for the empty store
 pub stands_made : (image : ℕ → Option (List ℕ)) → IsLayout image no_rows → StandsFor image start

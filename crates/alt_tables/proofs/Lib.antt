@@ -12,4 +12,5 @@ pub mod Pages
 pub mod Standing
 pub mod Starting
 pub mod StreamShows
+pub mod Working
 pub mod WriteLaws

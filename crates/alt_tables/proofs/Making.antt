@@ -1,5 +1,5 @@
 -- The writes of the tables: what they leave is what the machine's writes leave.
-use Rattle.std.proofs.Common.{◌≡◌, refl, sym, ap, subst, ◌∙◌, ℕ, ◌+◌, ◌<◌, ◌≤◌, ◌^◌, false, length, List, [], ◌∷◌, Option, Some, None, Err, Result, IfSome, arith}
+use Rattle.std.proofs.Common.{◌≡◌, refl, sym, ap, subst, ◌∙◌, ℕ, ◌+◌, ◌<◌, ◌≤◌, ◌^◌, false, length, List, [], ◌∷◌, Option, Some, None, Err, Result, IfSome, Contains, arith}
 use Rattle.std.specs.Prelude.{if◌then◌else◌, ◌-◌, IsSome}
 use Rattle.std.specs.Result.{IsErrAnd}
 use Rattle.std.proofs.lemmas.Bool.{false≢true}
@@ -22,7 +22,9 @@ use Rattle.alt_schema.specs.Described.{IsNew}
 use Rattle.alt_schema.specs.Held.{IsHeld}
 use Rattle.alt_schema.specs.declared.schema.TableSchema.{TableSchema}
 use Rattle.alt_tables.specs.Faults.{AreMade, AreSome, BreakOff, IsFindFault, Writes}
+use Rattle.alt_opening.specs.Live.{with_all, without_all}
 use Rattle.alt_opening.specs.Opened.{Holds}
+use Rattle.alt_opening.proofs.LiveLaws.{live_insert, live_remove}
 use Rattle.alt_tables.specs.Stands.{Stands, catalog_of, number_of}
 use Rattle.alt_tables.specs.RowChanges.{Turns, item_changes, creation_changes, drop_changes}
 use Rattle.alt_tables.specs.declared.faults.TableFault.{TableFault}
@@ -30,7 +32,7 @@ use Rattle.alt_tables.specs.declared.faults.TableFault.TheVariants.{Spent, Damag
 use Rattle.alt_tables.specs.declared.tables.Tables.{Tables}
 use Rattle.alt_tables.proofs.CatalogLaws.{creation_turns, drop_turns}
 use Rattle.alt_opening.proofs.OneState.{some}
-use Rattle.alt_tables.proofs.Standing.{descriptions-insert, descriptions-stay, descriptions-remove, known, there, absent}
+use Rattle.alt_tables.proofs.Standing.{descriptions-insert, descriptions-stay, descriptions-remove, known, there, absent, still_live}
 use Rattle.alt_tables.proofs.WriteLaws.{item_turns}
 use Rattle.alt_value.specs.Tree.{Pair}
 use Rattle.alt_value.specs.Values.{IsItemOfValues}
@@ -49,19 +51,13 @@ none_made atoms = least (length atoms - 1)
     least : (n : ℕ) → 0 ≤ n
     least n = omega arith
 
--- want of memory, where the tables stand for what they stood for
-pub want : (now : State → Type 0) (wants : Wants) (s : State) (atoms : List State) → now s
-    → BreakOff now wants s atoms NoMemory
-want now wants s atoms stays = (0, none_made atoms, refl, stays)
-
--- where a result tells it
+-- want of memory, where a result tells it
 pub want_told : {X : Type 0} (now : State → Type 0) (wants : Wants) (s : State)
-    (atoms : List State) (r : Result X TableFault) → IsErrAnd r (λ f. f ≡ NoMemory) → now s
+    (atoms : List State) (r : Result X TableFault) → IsErrAnd r (λ f. f ≡ NoMemory)
     → Writes now wants s atoms r
-want_told now wants s atoms r told stays =
+want_told now wants s atoms r told =
     let (f, is, none) = err_from_is_err_and r told in
-    subst (λ q. Writes now wants s atoms q) (sym (is ∙ ap (λ e. Err e) none))
-    (want now wants s atoms stays)
+    subst (λ q. Writes now wants s atoms q) (sym (is ∙ ap (λ e. Err e) none)) tt
 
 -- a number or a family that the one write can't have
 pub spent : (now : State → Type 0) (wants : Wants) (s r : State) (n : ℕ) → lack_of wants s ≡ Some n
@@ -70,12 +66,12 @@ spent now wants s r n lacks stays = (0, one_lacks wants s r n lacks, stays)
 
 -- one write that failed, or wanted memory
 pub broke : (now : State → Type 0) (wants : Wants) (s r : State) (f : TableFault) → IsFindFault f
-    → (f ≡ NoMemory → now s) → BreakOff now wants s (r ∷ []) f
-broke now wants s r (Spent n) known stays = absurd known
-broke now wants s r (Damaged file at) known stays = absurd known
-broke now wants s r (BadRow family key) known stays = absurd known
-broke now wants s r Failed known stays = tt
-broke now wants s r NoMemory known stays = (0, none_made (r ∷ []), refl, stays refl)
+    → BreakOff now wants s (r ∷ []) f
+broke now wants s r (Spent n) known = absurd known
+broke now wants s r (Damaged file at) known = absurd known
+broke now wants s r (BadRow family key) known = absurd known
+broke now wants s r Failed known = tt
+broke now wants s r NoMemory known = tt
 
 -- ---- an item
 
@@ -111,13 +107,14 @@ module _ (before : DiskState) (old : Tables) (s : State) (t : Table) (stands : S
 
   -- the tables stand for that
   pub item_stands : (now : DiskState) (new : Tables) → Holds now new.engine after → IsValid after
-      → new.catalog ≡ old.catalog → new.family ≡ old.family
+      → new.catalog ≡ old.catalog → new.live ≡ old.live → new.family ≡ old.family
       → number_of new ≡ number_of old + 1 → Stands now new after
-  item_stands now new holds valid catalog family number = record {
+  item_stands now new holds valid catalog live family number = record {
     catalog = catalog ∙ stands.catalog ∙ sym (descriptions-stay s.tables name t
         (with_write s.next_number moment t place to) at refl);
     number = number ∙ ap (λ n. n + 1) stands.number;
     family = family ∙ stands.family;
+    live = still_live old.catalog new.catalog old.live new.live catalog live stands.live;
     rows = holds;
     valid = valid;
   }
@@ -135,15 +132,26 @@ module _ (before : DiskState) (old : Tables) (s : State) (stands : Stands before
       (drop_turns s name t stands.valid stands.rows.held (omega (arith, room, stands.number)) at)
 
   -- the tables stand for the state without it
-  pub drop_stands : (name : List ℕ) (now : DiskState) (new : Tables)
+  pub drop_stands : (name : List ℕ) (d : TableSchema) (now : DiskState) (new : Tables)
+      → map.get (catalog_of old) name ≡ Some d
       → Holds now new.engine (without_table s name) → IsValid (without_table s name)
-      → new.catalog ≡ map.remove old.catalog name → new.family ≡ old.family
+      → new.catalog ≡ map.remove old.catalog name
+      → new.live ≡ without_all (families_of d) old.live → new.family ≡ old.family
       → number_of new ≡ number_of old + 1 → Stands now new (without_table s name)
-  drop_stands name now new holds valid catalog family number = record {
+  drop_stands name d now new described holds valid catalog live family number = record {
     catalog = catalog ∙ ap (λ (m : Texts TableSchema). map.remove m name) stands.catalog
         ∙ sym (descriptions-remove s.tables name);
     number = number ∙ ap (λ n. n + 1) stands.number;
     family = family ∙ stands.family;
+    live = still_live (map.remove old.catalog name) new.catalog
+        (without_all (families_of d) old.live) new.live catalog live
+        (live_remove old.catalog old.live stands.live d name described
+        (λ other e f at apart of_other own.
+        let (t, there_t, same_t) = there before old s name d stands described in
+        let (u, there_u, same_u) = there before old s other e stands at in
+        apart (stands.valid.families other name u t f there_u there_t
+        (subst (λ (x : TableSchema). Contains (families_of x) f) (sym same_u) of_other)
+        (subst (λ (x : TableSchema). Contains (families_of x) f) (sym same_t) own))));
     rows = holds;
     valid = valid;
   }
@@ -172,13 +180,17 @@ module _ (before : DiskState) (old : Tables) (s : State) (stands : Stands before
     -- the tables stand for the state with it
     pub table_stands : (now : DiskState) (new : Tables) → Holds now new.engine (with_table s d)
         → IsValid (with_table s d) → new.catalog ≡ map.insert old.catalog d.name d
+        → new.live ≡ with_all (families_of d) old.live
         → new.family ≡ old.family + length (families_of d)
         → number_of new ≡ number_of old + 1 → Stands now new (with_table s d)
-    table_stands now new holds valid catalog families numbers = record {
+    table_stands now new holds valid catalog live families numbers = record {
       catalog = catalog ∙ ap (λ (m : Texts TableSchema). map.insert m d.name d) stands.catalog
           ∙ sym (descriptions-insert s.tables d.name (new_table d));
       number = numbers ∙ ap (λ n. n + 1) stands.number;
       family = families ∙ ap (λ n. n + length (families_of d)) stands.family;
+      live = still_live (map.insert old.catalog d.name d) new.catalog
+          (with_all (families_of d) old.live) new.live catalog live
+          (live_insert old.catalog old.live stands.live d free);
       rows = holds;
       valid = valid;
     }

@@ -26,7 +26,7 @@ use Rattle.alt_machine.specs.Walks.{end_bound, items_between, turned}
 use Rattle.alt_machine.proofs.Indexing.{all_index}
 use Rattle.alt_schema.specs.declared.schema.IndexSchema.{IndexSchema}
 use Rattle.alt_schema.specs.declared.schema.TableSchema.{TableSchema}
-use Rattle.alt_tables.specs.Faults.{IsFindFault, IsReadFault}
+use Rattle.alt_tables.specs.Faults.{IsFindFault, IsReadFault, fault_of}
 use Rattle.alt_views.specs.ItemRows.{IsReadItem, item_columns}
 use Rattle.alt_tables.specs.Pages.{AreItemsOf, AreKept, ArePut}
 use Rattle.alt_tables.specs.Stands.{Stands, catalog_of}
@@ -42,6 +42,9 @@ use Rattle.alt_views.proofs.Keeping.{kept_at}
 use Rattle.alt_opening.proofs.OneState.{some, has_whole}
 use Rattle.alt_tables.proofs.Standing.{known}
 use Rattle.alt_value.specs.Members.{text_order}
+use Rattle.alt_engine.specs.Opened.{IsUndamaged, IsUnspent}
+use Rattle.alt_engine.specs.declared.engine.EngineFault.{EngineFault}
+use Rattle.alt_engine.specs.declared.engine.EngineFault.TheVariants as engine
 use Rattle.alt_value.specs.Tree.{Pair}
 
 -- ---- items as they are put one by one
@@ -414,3 +417,10 @@ find_fault (Err (Damaged file at)) h = h
 find_fault (Err (BadRow family key)) h = h
 find_fault (Err Failed) h = absurd h
 find_fault (Err NoMemory) h = h
+
+-- so is a fault of an engine that reads, passed on
+pub engine_fault : (f : EngineFault) → IsUnspent f → IsUndamaged f → IsFindFault (fault_of f)
+engine_fault (engine.Spent number) unspent whole = absurd unspent
+engine_fault (engine.Damaged file at) unspent whole = absurd whole
+engine_fault engine.Failed unspent whole = tt
+engine_fault engine.NoMemory unspent whole = tt

@@ -5,9 +5,9 @@ use Rattle.std.specs.Ordering.{eq_by_cmp}
 use Rattle.std.specs.FinMap as map
 use Rattle.alt_cells.specs.Changes.{Columns}
 use Rattle.alt_disk.specs.Disk.{DiskState, Goes}
-use Rattle.alt_disk.specs.Runs.{Quiet}
 use Rattle.alt_disk.proofs.Runs.{trusted_on, trusted_back, tells_of}
-use Rattle.alt_engine.specs.InHand.{SameEngine, Reads as EngineReads}
+use Rattle.alt_engine.specs.InHand.{Reads as EngineReads}
+use Rattle.alt_engine.specs.Opened.{StaysOn}
 use Rattle.alt_layout.specs.Layout.{Layout, shown}
 use Rattle.alt_machine.specs.State.{State, Table, Texts, descriptions}
 use Rattle.alt_machine.proofs.Descriptions.{get-descriptions, no_description, table_of_description}
@@ -15,9 +15,9 @@ use Rattle.alt_schema.specs.declared.schema.TableSchema.{TableSchema}
 use Rattle.alt_views.specs.ItemRows.{IsReadItem, item_columns}
 use Rattle.alt_tables.specs.Stands.{AreReady, Stands, catalog_of}
 use Rattle.alt_tables.specs.declared.tables.Tables.{Tables}
+use Rattle.alt_opening.specs.Live.{AreLiveIn}
 use Rattle.alt_opening.proofs.Ties.{tied}
 use Rattle.alt_tables.proofs.Holding.{one_held}
-use Rattle.alt_opening.proofs.Engine.{stays_quiet}
 use Rattle.alt_views.proofs.ItemRowLaws.{item_columns-one}
 use Rattle.alt_opening.proofs.OneState.{some, has_whole}
 use Rattle.alt_opening.proofs.Maps.{same_texts}
@@ -122,27 +122,34 @@ one_stands disk t s r a b = one_held disk t.engine s r a.rows b.rows a.valid b.v
 pub one_place : (o : Option (List ℕ)) (p q : List ℕ) → o ≡ Some p → o ≡ Some q → p ≡ q
 one_place o p q e f = let both : Some p ≡ Some q = sym e ∙ f in cc
 
+-- families that are live in a catalog are live in the same one
+pub still_live : (m n : Texts TableSchema) (fs gs : List ℕ) → n ≡ m → gs ≡ fs → AreLiveIn m fs
+    → AreLiveIn n gs
+still_live m n fs gs catalog live are = subst (λ (o : Texts TableSchema). AreLiveIn o gs)
+    (sym catalog) (subst (AreLiveIn m) (sym live) are)
+
 -- ---- a call that reads alone
 
 module _ (old new : DiskState) (t u : Tables) (catalog : u.catalog ≡ t.catalog)
-    (family : u.family ≡ t.family) (goes : Goes old new)
-    (quiet : IsTrue old.tells → Quiet old new) (same : SameEngine t.engine u.engine) where
+    (live : u.live ≡ t.live) (family : u.family ≡ t.family) (goes : Goes old new)
+    (same : IsTrue old.tells → StaysOn old new t.engine u.engine) where
   -- the tables stand for what they stood for
   stays_on : (s : State) → Stands old t s → Stands new u s
-  stays_on s stands = record {
-    catalog = catalog ∙ stands.catalog;
-    number = same.next ∙ stands.number;
-    family = family ∙ stands.family;
-    rows = record {
-      trusted = trusted_on old new goes stands.rows.trusted;
-      layout = stands.rows.layout;
-      is = same.stands new stands.rows.layout (stays_quiet old new t.engine stands.rows.layout
-          stands.rows.is (quiet (tells_of old stands.rows.trusted)));
-      shows = stands.rows.shows;
-      held = stands.rows.held;
-    };
-    valid = stands.valid;
-  }
+  stays_on s stands =
+      let on = same (tells_of old stands.rows.trusted) in record {
+        catalog = catalog ∙ stands.catalog;
+        number = on.next ∙ stands.number;
+        family = family ∙ stands.family;
+        live = still_live t.catalog u.catalog t.live u.live catalog live stands.live;
+        rows = record {
+          trusted = trusted_on old new goes stands.rows.trusted;
+          layout = stands.rows.layout;
+          is = on.stands stands.rows.layout stands.rows.is;
+          shows = stands.rows.shows;
+          held = stands.rows.held;
+        };
+        valid = stands.valid;
+      }
 
   -- and for nothing else
   pub stays : AreReady old t → (s : State) → Stands old t s ↔ Stands new u s

@@ -13,7 +13,7 @@ use Rattle.alt_cells.specs.declared.batch.RowChange.{RowChange}
 use Rattle.alt_cells.proofs.ChangeLaws.{written-change_between}
 use Rattle.alt_changes.specs.ChangeRows.{change_columns, row_change, row_changes, row_key}
 use Rattle.alt_changes.proofs.RowLaws.{change_can_show}
-use Rattle.alt_layout.specs.Layout.{Layout, ShowsWrite, change_of, shown, shown_by}
+use Rattle.alt_layout.specs.Layout.{Layout, shown, shown_by, change_of}
 use Rattle.alt_writes.specs.Writes.{Write}
 use Rattle.alt_layout.specs.Writes.{with_write}
 use Rattle.alt_machine.specs.Changes.{change_left, with_change}
@@ -27,7 +27,7 @@ use Rattle.alt_schema.specs.declared.schema.IndexSchema.{IndexSchema}
 use Rattle.alt_schema.specs.declared.schema.TableSchema.{TableSchema}
 use Rattle.alt_opening.specs.Families.{HasOwnFamilies}
 use Rattle.alt_opening.specs.StateRows.{keyed_changes}
-use Rattle.alt_tables.proofs.ChangeLaws.{AreOthers, one_change}
+use Rattle.alt_tables.proofs.ChangeLaws.{ShowsWrite, AreOthers, one_change}
 use Rattle.alt_tables.proofs.IndexFamilies.{index_families, index_at_families, others-index_changes}
 use Rattle.alt_opening.proofs.KeptChanges.{are_small, each_so}
 use Rattle.alt_opening.proofs.StreamKeys.{keyed_more}

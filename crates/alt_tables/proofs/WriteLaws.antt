@@ -14,10 +14,10 @@ use Rattle.alt_cells.proofs.CellLaws.{key_total}
 use Rattle.alt_cells.proofs.ChangeLaws.{written-change_between}
 use Rattle.alt_changes.specs.ChangeRows.{row_changes}
 use Rattle.alt_engine.specs.InHand.{batch_write}
-use Rattle.alt_layout.specs.Layout.{Layout, shown, shown_by, change_of, ShowsWrite}
+use Rattle.alt_layout.specs.Layout.{Layout, shown, shown_by, change_of}
 use Rattle.alt_writes.specs.Writes.{Write}
 use Rattle.alt_layout.specs.Writes.{with_write}
-use Rattle.alt_engine.proofs.LayoutLaws.{shows_write}
+use Rattle.alt_layout.proofs.BatchLaws.{shows_batch}
 use Rattle.alt_machine.specs.declared.TheConstants.{NUMBERS_END}
 use Rattle.alt_machine.specs.Changes.{change_left}
 use Rattle.alt_machine.specs.Same.{is_same}
@@ -36,7 +36,7 @@ use Rattle.alt_views.specs.ItemRows.{item_columns}
 use Rattle.alt_opening.specs.StateRows.{HasMoment, IsHeldWhole, Shows, catalog_family, catalog_rows, item_rows, index_rows, change_rows, table_row, next_row}
 use Rattle.alt_tables.specs.RowChanges.{Turns, item_changes}
 use Rattle.alt_opening.proofs.Ties.{tied, itself}
-use Rattle.alt_tables.proofs.ChangeLaws.{one_change, other_family, AreOthers, others-append, change_of-none, change_of-front, change_of-behind}
+use Rattle.alt_tables.proofs.ChangeLaws.{ShowsWrite, one_change, other_family, AreOthers, others-append, change_of-none, change_of-front, change_of-behind}
 use Rattle.alt_opening.proofs.Families.{own_family}
 use Rattle.alt_tables.proofs.IndexShows.{change_of-index, index_shows}
 use Rattle.alt_tables.proofs.IndexFamilies.{index_family, index_family_differs, own_families, others-index_changes}
@@ -395,14 +395,14 @@ pub item_turns : (s : State) (moment : ℕ) (name : List ℕ) (t : Table) (place
     → Turns (item_changes t.description s.next_number moment place (map.get t.items place) new) s
     (after_item s moment name t place new)
 item_turns s moment name t place new valid held room at differ stored given fits = record {
-  shows = λ l past shows. shows_item l s shows valid held.items moment name t at place new room
+  shows = λ distinct l past shows. shows_item l s shows valid held.items moment name t at place new room
       differ stored given
       (batch_write l
       (item_changes t.description s.next_number moment place (map.get t.items place) new)) refl refl
-      (shows_write l
+      (shows_batch l
       (batch_write l
-      (item_changes t.description s.next_number moment place (map.get t.items place) new)) past
-      (omega arith));
+      (item_changes t.description s.next_number moment place (map.get t.items place) new)) distinct
+      past (omega arith));
   valid = after_item_valid s moment name t place new valid room at differ stored;
   held = held_after s moment name t place new held at given fits;
 }

@@ -1,10 +1,12 @@
 -- What a call that gives no answer tells, and what it leaves.
-use Rattle.std.specs.Prelude.{take, length, ◌≡◌, ◌≤◌, ◌-◌, ℕ, List, Some, None, Result, Ok, Err}
+use Rattle.std.specs.Prelude.{take, length, ◌≡◌, ◌≤◌, ◌-◌, ◌^◌, ℕ, List, Some, None, Result, Ok, Err}
+use Rattle.alt_disk.specs.Disk.{DiskState}
 use Rattle.alt_engine.specs.declared.engine.EngineFault.{EngineFault}
 use Rattle.alt_engine.specs.declared.engine.EngineFault.TheVariants as engine
 use Rattle.alt_machine.specs.Outcomes.{Wants, last_state, state_after}
 use Rattle.alt_machine.specs.State.{State}
 use Rattle.alt_machine.specs.Wanted.{lack_among}
+use Rattle.alt_tables.specs.Images.{Lasts}
 use Rattle.alt_tables.specs.declared.faults.TableFault.{TableFault}
 use Rattle.alt_tables.specs.declared.faults.TableFault.TheVariants.{Spent, Damaged, BadRow, Failed, NoMemory}
 
@@ -20,10 +22,9 @@ pub record AreMade (now : State → Type 0) (wants : Wants) (s : State)
 abbrev pub AreSome : ℕ → List State → Type 0
 AreSome k atoms = k ≤ length atoms - 1
 
--- The writes broke off: where a number or a family can't be had, just before the one that lacks it, the first that does; and for
--- want of memory, which may come at any time before the last of them is made, after some, none of which lacked one. Where the
--- device failed, the tables stand for no state from then on, and what a stop leaves is told of the disk. Rows that stand for a
--- state are never damaged or bad.
+-- The writes broke off: where a number or a family can't be had, just before the one that lacks it, the first that does, and then the
+-- tables stand for the state after those before it. Where the device failed or memory was wanting they stand for no state from then
+-- on, and what is left is told of the disk. Rows that stand for a state are never damaged or bad.
 abbrev pub BreakOff : (State → Type 0) → Wants → State → List State → TableFault → Type 0
 BreakOff now wants s atoms (Spent number) =
     (before : ℕ) × (lack_among wants s atoms ≡ Some (record { number = number; before = before }))
@@ -31,8 +32,16 @@ BreakOff now wants s atoms (Spent number) =
 BreakOff now wants s atoms (Damaged file at) = ⊥
 BreakOff now wants s atoms (BadRow family key) = ⊥
 BreakOff now wants s atoms Failed = Unit {0}
-BreakOff now wants s atoms NoMemory = (k : ℕ) × AreSome k atoms
-    × (lack_among wants s (take k atoms) ≡ None) × now (state_after k s atoms)
+BreakOff now wants s atoms NoMemory = Unit {0}
+
+-- Memory was wanting, at any time before the last of these writes was made: some of them are made, none of which lacked a number or a
+-- family, and what the disk holds stands for the state after those.
+pub record WantsMemory (disk : DiskState) (wants : Wants) (s : State) (atoms : List State)
+    : Type 0 where
+  pub made : ℕ
+  pub some : AreSome made atoms
+  pub enough : lack_among wants s (take made atoms) ≡ None
+  pub lasts : Lasts disk (state_after made s atoms)
 
 -- A call that makes these writes makes them all, or breaks off with the fault.
 abbrev pub Writes : {A : Type 0} → (State → Type 0) → Wants → State → List State
@@ -64,8 +73,18 @@ IsUnspent (BadRow family key) = Unit {0}
 IsUnspent Failed = Unit {0}
 IsUnspent NoMemory = Unit {0}
 
+-- a fault of work between requests on tables that stand for a state: the last number of a file is wanted, the device failed, or memory
+-- was wanting
+abbrev pub IsWorkFault : TableFault → Type 0
+IsWorkFault (Spent number) = number ≡ 2 ^ 32 - 1
+IsWorkFault (Damaged file at) = ⊥
+IsWorkFault (BadRow family key) = ⊥
+IsWorkFault Failed = Unit {0}
+IsWorkFault NoMemory = Unit {0}
+
 -- the fault of the engine, passed on
 abbrev pub fault_of : EngineFault → TableFault
 fault_of (engine.Spent number) = Spent number
+fault_of (engine.Damaged file at) = Damaged file at
 fault_of engine.Failed = Failed
 fault_of engine.NoMemory = NoMemory

@@ -1,11 +1,19 @@
 -- What a call of the tables leaves at each of its moments: files that stand for a state.
-use Rattle.std.specs.Prelude.{ℕ, List, [], ◌∷◌, Option}
-use Rattle.alt_disk.specs.Disk.{DiskState}
+use Rattle.std.specs.Prelude.{ℕ, List, [], ◌∷◌, Option, ⊤}
+use Rattle.alt_disk.specs.Disk.{DiskState, IsImage}
 use Rattle.alt_disk.specs.Runs.{Quiet, Spans}
-use Rattle.alt_engine.specs.InHand.{IsWritten}
 use Rattle.alt_machine.specs.Outcomes.{state_after}
 use Rattle.alt_machine.specs.State.{State}
 pub use Rattle.alt_opening.specs.Images.{StandsFor}
+
+-- What a disk holds stands for the state: its files as they read, and whatever a stop now leaves.
+pub record Lasts (disk : DiskState) (s : State) : Type 0 where
+  pub reads : StandsFor disk.file s
+  pub left : (image : ℕ → Option (List ℕ)) → IsImage disk disk.moment image → StandsFor image s
+
+-- files that stand for the state, whatever the moment
+abbrev pub StandAt : State → ℕ → (ℕ → Option (List ℕ)) → Type 0
+StandAt s moment image = StandsFor image s
 
 -- files that stand for the state after the first of these writes, so many of them, whatever the moment
 abbrev pub AfterSome : State → List State → ℕ → (ℕ → Option (List ℕ)) → Type 0
@@ -16,4 +24,4 @@ AfterSome s atoms moment image = (k : ℕ) × StandsFor image (state_after k s a
 -- after some of the writes.
 abbrev pub Leaves : DiskState → DiskState → State → List State → Type 0
 Leaves old new s [] = Quiet old new
-Leaves old new s (t ∷ ts) = Spans old new IsWritten (AfterSome s (t ∷ ts))
+Leaves old new s (t ∷ ts) = Spans old new (λ _. ⊤) (AfterSome s (t ∷ ts))

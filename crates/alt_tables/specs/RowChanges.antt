@@ -1,5 +1,6 @@
 -- The changes of rows that a write of the state makes (docs/formats/table-rows.md).
-use Rattle.std.specs.Prelude.{ℕ, List, [], ◌∷◌, ◌++◌, Option, Some, None, option_map}
+use Rattle.std.specs.Prelude.{ℕ, List, [], ◌∷◌, ◌++◌, Option, Some, None, option_map, T}
+use Rattle.alt_cells.specs.Batches.{is_distinct}
 use Rattle.alt_cells.specs.declared.batch.RowChange.{RowChange}
 use Rattle.alt_cells.specs.Changes.{change_between}
 use Rattle.alt_changes.specs.ChangeRows.{row_changes}
@@ -32,9 +33,9 @@ creation_changes before after d = change_between catalog_family d.name None (Som
 abbrev pub drop_changes : TableSchema → List RowChange
 drop_changes d = change_between catalog_family d.name (Some (table_row d)) None ∷ []
 
--- These row changes, as the next write, turn the rows of one state into those of another.
+-- Where no row stands twice in them, these row changes turn, as the next write, the rows of one state into those of another.
 pub record Turns (changes : List RowChange) (s r : State) : Type 0 where
-  pub shows : (l : Layout) → IsPast l → Shows l s
+  pub shows : T (is_distinct changes) → (l : Layout) → IsPast l → Shows l s
       → Shows (with_write l (batch_write l changes)) r
   pub valid : IsValid r
   pub held : IsHeldWhole r

@@ -1,11 +1,14 @@
 -- What the tables in hand stand for, with the disk beneath them.
-use Rattle.std.specs.Prelude.{◌≡◌, ℕ}
+use Rattle.std.specs.Prelude.{◌≡◌, ℕ, List}
 use Rattle.alt_disk.specs.Disk.{DiskState, IsTrusted, Goes}
 use Rattle.alt_disk.specs.Runs.{Quiet}
 use Rattle.std.specs.Prelude.{IsTrue}
+use Rattle.alt_engine.specs.InHand.{next_of, limits_of as engine_limits}
+use Rattle.alt_engine.specs.declared.engine.Limits.{Limits}
 use Rattle.alt_machine.specs.State.{State, Texts, descriptions}
 use Rattle.alt_machine.specs.Valid.{IsValid}
 use Rattle.alt_schema.specs.declared.schema.TableSchema.{TableSchema}
+use Rattle.alt_opening.specs.Live.{AreLiveIn}
 use Rattle.alt_opening.specs.Opened.{Holds}
 use Rattle.alt_tables.specs.declared.tables.Tables.{Tables}
 
@@ -17,26 +20,36 @@ catalog_of t = t.catalog
 
 -- the number of the next write
 abbrev pub number_of : Tables → ℕ
-number_of t = t.engine.next
+number_of t = next_of t.engine
 
 -- the family that the next table gets
 abbrev pub family_of : Tables → ℕ
 family_of t = t.family
+
+-- the families that are live, in the order of their numbers
+abbrev pub live_of : Tables → List ℕ
+live_of t = t.live
+
+-- from how many bytes on a family is flushed, and from how many files on merged
+abbrev pub limits_of : Tables → Limits
+limits_of t = engine_limits t.engine
 
 -- What is known without the disk stayed.
 pub record KeepsCatalog (old new : Tables) : Type 0 where
   pub catalog : catalog_of new ≡ catalog_of old
   pub number : number_of new ≡ number_of old
   pub family : family_of new ≡ family_of old
+  pub limits : limits_of new ≡ limits_of old
 
 -- ---- the state
 
 -- The tables and the disk beneath them stand for a valid state of the machine: it has the tables that are known, and the next number
--- and the next family, and its rows are those on the disk.
+-- and the next family, and its rows are those on the disk. Live are the families of its tables.
 pub record Stands (disk : DiskState) (t : Tables) (s : State) : Type 0 where
   pub catalog : catalog_of t ≡ descriptions s.tables
   pub number : number_of t ≡ s.next_number
   pub family : family_of t ≡ s.next_family
+  pub live : AreLiveIn (catalog_of t) (live_of t)
   pub rows : Holds disk t.engine s
   pub valid : IsValid s
 

@@ -59,6 +59,7 @@ pub(crate) fn fault_of(fault: EngineFault) -> TableFault
 {
     match fault {
         EngineFault::Spent { number } => TableFault::Spent { number },
+        EngineFault::Damaged { file, at } => TableFault::Damaged { file, at },
         EngineFault::Failed => TableFault::Failed,
         EngineFault::NoMemory => TableFault::NoMemory,
     }

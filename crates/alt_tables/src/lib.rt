@@ -8,7 +8,9 @@ mod recover;
 mod rows;
 mod tables;
 mod walk;
+mod work;
 
+pub use alt_engine::{Limits, Task, Worked};
 pub use alt_opening::OpenFault;
 pub use faults::TableFault;
 pub use laws::tables_laws;

@@ -7,31 +7,41 @@ ghost use Rattle.alt_disk.specs.Runs.{Spans};
 ghost use Rattle.alt_machine.specs.State.{State};
 ghost use Rattle.alt_opening.specs.Images.{StandsFor};
 ghost use Rattle.alt_opening.specs.Recovery.{IsExplained, HasNoState, WasLeft};
-ghost use Rattle.alt_tables.specs.Stands.{Stands};
+ghost use Rattle.alt_tables.specs.Stands.{Stands, limits_of};
 
 use crate::tables::Tables;
 use alt_disk::Disk;
+use alt_engine::Limits;
 use alt_opening::{OpenFault, Store, open_store};
 use std::alloc::Global;
 
 impl Tables {
-    /// Opens the store of a disk (docs/formats/table-rows.md). Every file is synced, and every row is tested.
-    pub fn recover<D: Disk>(alloc: Global, disk: &mut D) -> Result<Tables, OpenFault>
-        // At Ok the files stand for a state, as they read, and they were as they are.
+    /// Opens the store of a disk (docs/formats/table-rows.md). Every file is synced, those that are none of the store's are removed, and
+    /// every row is tested.
+    pub fn recover<D: Disk>(
+        alloc: Global,
+        disk: &mut D,
+        limits: Limits,
+    ) -> Result<Tables, OpenFault>
+        // At Ok the files stood for a state, as they read.
         ensures reads { IfOk result (λ t. IsTrue (D.state disk.old).tells
             → (s : State) × StandsFor (D.state disk.old).file s) }
         // And the tables stand for it, with whatever a stop leaves from then on.
         ensures stands { IfOk result (λ t. IsTrusted (D.state disk.old) → (s : State)
             → StandsFor (D.state disk.old).file s → Stands (D.state disk.new) t s) }
-        ensures files { IsTrue (D.state disk.old).tells → (f : ℕ)
-            → (D.state disk.new).file f ≡ (D.state disk.old).file f }
+        ensures limits { IfOk result (λ t. limits_of t ≡ limits) }
 
-        // A stop at any moment of the call, also one that fails, leaves what one left before.
+        // The files stand, as they read, for the state for which they stood, also where the call fails.
+        ensures files { IsTrue (D.state disk.old).tells → (s : State)
+            → StandsFor (D.state disk.old).file s → StandsFor (D.state disk.new).file s }
+
+        // A stop at any moment of the call, also one that fails, leaves what stands for the state for which what one left before
+        // stood.
         ensures any_moment { IsTrusted (D.state disk.old)
             → Spans (D.state disk.old) (D.state disk.new) (λ _. ⊤) (WasLeft (D.state disk.old)) }
 
-        // Damaged and BadRow come exactly where the files stand for no state; Damaged where they are no store's, and BadRow names the
-        // first wrong row.
+        // Damaged, DigestDiffers and BadRow come exactly where the files stand for no state; the first two where they are no store's,
+        // and BadRow names the first wrong row.
         ensures explained { IsTrue (D.state disk.old).tells
             → IfErr result (IsExplained (D.state disk.old).file) }
         ensures no_state { IsTrue (D.state disk.old).tells
@@ -40,20 +50,24 @@ impl Tables {
         ensures cause { IsErrOf result OpenFault.Failed
             → Rose (D.state disk.old).faults (D.state disk.new).faults }
     {
-        match open_store(alloc, disk) {
-            Ok(
-                Store {
-                    engine,
-                    catalog,
-                    family,
-                },
-            ) => Ok(Tables {
+        let store = match open_store(alloc, disk, limits) {
+            Ok(store) => store,
+            Err(fault) => return Err(fault),
+        };
+        let Store {
+            engine,
+            catalog,
+            family,
+        } = store;
+        match catalog.live(alloc) {
+            Ok(live) => Ok(Tables {
                 alloc,
                 engine,
                 catalog,
+                live,
                 family,
             }),
-            Err(fault) => Err(fault),
+            Err(_) => Err(OpenFault::NoMemory),
         }
     }
 }

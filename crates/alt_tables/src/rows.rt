@@ -19,7 +19,7 @@ ghost use Rattle.alt_tables.specs.Images.{Leaves};
 ghost use Rattle.alt_views.specs.IndexRows.{index_changes};
 ghost use Rattle.alt_views.specs.ItemRows.{IsReadItem, item_columns};
 ghost use Rattle.alt_tables.specs.RowChanges.{item_changes};
-ghost use Rattle.alt_tables.specs.Stands.{AreReady, Reads, Stands, KeepsCatalog, catalog_of, number_of};
+ghost use Rattle.alt_tables.specs.Stands.{AreReady, Reads, Stands, KeepsCatalog, catalog_of, limits_of, number_of};
 ghost use Rattle.alt_value.specs.Tree.{Pair};
 ghost use Rattle.alt_value.specs.Values.{IsItemOfValues};
 
@@ -110,12 +110,16 @@ impl Tables {
         ensures disk { (s : State) (t : Table) → Stands (D.state disk.old) self.old s
             → map.get s.tables table.now ≡ Some t → Leaves (D.state disk.old) (D.state disk.new) s
             (item_writes s moment table.now t found.place new) }
+        // On every disk: where memory is wanting no call of the disk is made.
+        ensures no_memory { IsErrOf result TableFault.NoMemory
+            → D.state disk.new ≡ D.state disk.old }
         ensures goes { Goes (D.state disk.old) (D.state disk.new) }
         // On every disk: a call that answers that there was nothing to write makes no call of the disk.
         ensures unchanged { result ≡ Ok None → D.state disk.new ≡ D.state disk.old }
         // Where there is nothing to write it never fails.
         ensures idle { is_same found.item new ≡ true → result ≡ Ok None }
         ensures catalog { catalog_of self.new ≡ catalog_of self.old }
+        ensures limits { limits_of self.new ≡ limits_of self.old }
         ensures cause { IsErrOf result TableFault.Failed
             → Rose (D.state disk.old).faults (D.state disk.new).faults }
     {
@@ -219,8 +223,11 @@ impl Tables {
             → place_of t.description key.now ≡ Some place
             → Leaves (D.state disk.old) (D.state disk.new) s
             (item_writes s moment table.now t place (option_map (λ i. i.now) new.entry)) }
+        ensures no_memory { IsErrOf result TableFault.NoMemory
+            → D.state disk.new ≡ D.state disk.old }
         ensures goes { Goes (D.state disk.old) (D.state disk.new) }
         ensures unchanged { result ≡ Ok None → D.state disk.new ≡ D.state disk.old }
+        ensures limits { limits_of self.new ≡ limits_of self.old }
         ensures cause { IsErrOf result TableFault.Failed
             → Rose (D.state disk.old).faults (D.state disk.new).faults }
     {

@@ -1,6 +1,6 @@
 //! All tables: what is known of them by their names, the numbers and families that are left, and the writes of the catalog.
 
-ghost use Rattle.std.specs.Prelude.{◌≡◌, ◌∷◌, [], ◌+◌, ◌<◌, ◌≤◌, length, true, None, Some, IsSome, IfOk, IfErr, OnOk, OnErr, IsErrOf, option_map, slice_get};
+ghost use Rattle.std.specs.Prelude.{◌≡◌, ◌∷◌, [], ◌+◌, ◌<◌, ◌≤◌, length, true, None, Some, IsSome, IfOk, IfErr, OnOk, IsErrOf, option_map, slice_get};
 ghost use Rattle.std.specs.FinMap as map;
 ghost use Rattle.alt_base.specs.Counts.{Rose};
 ghost use Rattle.alt_disk.specs.Disk.{IsTrusted, Goes};
@@ -16,7 +16,7 @@ ghost use Rattle.alt_tables.specs.Faults.{IsFindFault, Writes};
 ghost use Rattle.alt_tables.specs.Images.{Leaves};
 ghost use Rattle.alt_opening.specs.Order.{first_after};
 ghost use Rattle.alt_tables.specs.RowChanges.{Turns, creation_changes, drop_changes};
-ghost use Rattle.alt_tables.specs.Stands.{AreReady, Stands, catalog_of, number_of, family_of};
+ghost use Rattle.alt_tables.specs.Stands.{AreReady, Stands, catalog_of, number_of, family_of, limits_of};
 ghost use Rattle.alt_opening.specs.Opened.{Holds};
 
 use crate::faults::{TableFault, fault_of};
@@ -26,7 +26,7 @@ use alt_disk::Disk;
 use alt_engine::Engine;
 use alt_fields::Bytes;
 use alt_machine::{FAMILIES_END, MOST_FAMILIES, MOST_TABLES, NUMBERS_END};
-use alt_opening::{CATALOG, Catalog, row_of_family, row_of_schema};
+use alt_opening::{CATALOG, Catalog, Live, row_of_family, row_of_schema};
 use alt_schema::{TableSchema, held};
 use std::alloc::Global;
 
@@ -37,6 +37,7 @@ pub struct Tables {
     pub(crate) alloc: Global,
     pub(crate) engine: Engine,
     pub(crate) catalog: Catalog,
+    pub(crate) live: Live,
     pub(crate) family: u32,
 }
 
@@ -96,9 +97,12 @@ impl Tables {
             (with_table s schema ∷ []) result }
         ensures disk { (s : State) → Stands (D.state disk.old) self.old s
             → Leaves (D.state disk.old) (D.state disk.new) s (with_table s schema ∷ []) }
-        // On every disk: where a number or families lack, no call of the disk is made.
+        // On every disk: where memory, a number or families lack, no call of the disk is made.
+        ensures no_memory { IsErrOf result TableFault.NoMemory
+            → D.state disk.new ≡ D.state disk.old }
         ensures lacking { IsSome (table_lack (number_of self.old) (family_of self.old))
             → D.state disk.new ≡ D.state disk.old }
+        ensures limits { limits_of self.new ≡ limits_of self.old }
         ensures goes { Goes (D.state disk.old) (D.state disk.new) }
         ensures cause { IsErrOf result TableFault.Failed
             → Rose (D.state disk.old).faults (D.state disk.new).faults }
@@ -115,17 +119,15 @@ impl Tables {
         held(&schema);
         let after = self.family + family_count(&schema) as u32;
         let batch = creation(self.alloc, self.family, after, &schema)?;
-        let name = schema.name.copy()?;
+        let live = self.live.with_table(self.alloc, &schema)?;
         self.catalog.add(schema)?;
         match self.make(disk, &batch) {
             Ok(_) => {
+                self.live = live;
                 self.family = after;
                 Ok(())
             }
-            Err(fault) => {
-                self.catalog.remove(name.as_str());
-                Err(fault)
-            }
+            Err(fault) => Err(fault),
         }
     }
 
@@ -138,6 +140,9 @@ impl Tables {
             (without_table s name.now ∷ []) result }
         ensures disk { (s : State) → Stands (D.state disk.old) self.old s
             → Leaves (D.state disk.old) (D.state disk.new) s (without_table s name.now ∷ []) }
+        ensures no_memory { IsErrOf result TableFault.NoMemory
+            → D.state disk.new ≡ D.state disk.old }
+        ensures limits { limits_of self.new ≡ limits_of self.old }
         ensures goes { Goes (D.state disk.old) (D.state disk.new) }
         ensures cause { IsErrOf result TableFault.Failed
             → Rose (D.state disk.old).faults (D.state disk.new).faults }
@@ -150,8 +155,10 @@ impl Tables {
             unreachable!();
         };
         let batch = removal(self.alloc, schema)?;
+        let live = self.live.without_table(self.alloc, schema)?;
         match self.make(disk, &batch) {
             Ok(_) => {
+                self.live = live;
                 self.catalog.remove(name);
                 Ok(())
             }
@@ -159,7 +166,7 @@ impl Tables {
         }
     }
 
-    /// Makes one write of these row changes. What is known without the disk stays, but for the number.
+    /// Makes one write of these row changes. What is known without the disk stays, but for the number. After an Err the engine is spent.
     pub(crate) fn make<D: Disk>(&mut self, disk: &mut D, batch: &Batch) -> Result<u64, TableFault>
         requires ready { IsTrusted (D.state disk.old)
             → (s : State) × Holds (D.state disk.old) self.old.engine s }
@@ -168,12 +175,12 @@ impl Tables {
             → Turns batch.now s r → Holds (D.state disk.new) self.new.engine r) }
         ensures number { IfOk result (λ n. n ≡ number_of self.old) }
         ensures next { OnOk result (number_of self.new ≡ number_of self.old + 1) }
-        ensures kept { (self.new.catalog ≡ self.old.catalog) × (self.new.family ≡ self.old.family) }
+        ensures kept { (self.new.catalog ≡ self.old.catalog) × (self.new.live ≡ self.old.live)
+            × (self.new.family ≡ self.old.family) }
+        ensures limits { limits_of self.new ≡ limits_of self.old }
         ensures fault { IfErr result IsFindFault }
-        ensures no_memory { IsErrOf result TableFault.NoMemory → (s : State)
-            → Holds (D.state disk.old) self.old.engine s
-            → Holds (D.state disk.new) self.new.engine s }
-        ensures same { OnErr result (number_of self.new ≡ number_of self.old) }
+        ensures no_memory { IsErrOf result TableFault.NoMemory
+            → D.state disk.new ≡ D.state disk.old }
         ensures disk { (s r : State) → Holds (D.state disk.old) self.old.engine s → IsValid s
             → Turns batch.now s r
             → Leaves (D.state disk.old) (D.state disk.new) s (r ∷ []) }
@@ -181,6 +188,7 @@ impl Tables {
         ensures cause { IsErrOf result TableFault.Failed
             → Rose (D.state disk.old).faults (D.state disk.new).faults }
     {
+        let _changes = batch.as_slice();
         match self.engine.apply(disk, batch) {
             Ok(number) => Ok(number),
             Err(fault) => Err(fault_of(fault)),

@@ -1,12 +1,14 @@
 -- The rows of the walk are those of the changes, and nothing else changed.
-use Rattle.std.proofs.Common.{refl, sym, ap, ◌∙◌, List, take, map, rules}
+use Rattle.std.proofs.Common.{refl, sym, ap, ◌∙◌, List, take, map, rules, subst}
 use Rattle.std.proofs.lemmas.Result.{IfOk-weaker}
 use Rattle.alt_changes.specs.ChangeRows.{change_in}
 use Rattle.alt_machine.specs.Ops.GetRecords.{changes_from}
 use Rattle.alt_machine.specs.State.{Change}
 use Rattle.alt_tables.proofs.ChangePages.{no_changes, one_changes, page_changes, take_none}
-use Rattle.alt_tables.proofs.Pages.{find_fault}
+use Rattle.alt_tables.proofs.Pages.{find_fault, engine_fault}
 use Rattle.alt_tables.proofs.Standing.{stays, there}
+use Rattle.alt_disk.proofs.Runs.{tells_of}
+use Rattle.alt_tables.specs.Faults.{IsFindFault}
 use Rattle.alt_tables.proofs.tables.Tables.changes.Goals as goal
 
 pub returns-in-Ok-rows-clause-changes : goal.returns-in-Ok-rows-clause-changes
@@ -37,13 +39,13 @@ returns-in-Ok-rows-clause-fault g c s stands =
 
 pub returns-in-Ok-rows-clause-stays : goal.returns-in-Ok-rows-clause-stays
 returns-in-Ok-rows-clause-stays g c s = stays (g.D.Disk.state c.args.disk.now)
-    (g.D.Disk.state c.rows.new.disk) c.args.self.now _ refl refl c.rows.ensures.goes
-    c.rows.ensures.quiet c.rows.ensures.same c.requires.ready s
+    (g.D.Disk.state c.rows.new.disk) c.args.self.now _ refl refl refl c.rows.ensures.goes
+    c.rows.ensures.same c.requires.ready s
 
 pub returns-clause-stays : goal.returns-clause-stays
 returns-clause-stays g c s = stays (g.D.Disk.state c.args.disk.now)
-    (g.D.Disk.state c.rows.new.disk) c.args.self.now _ refl refl c.rows.ensures.goes
-    c.rows.ensures.quiet c.rows.ensures.same c.requires.ready s
+    (g.D.Disk.state c.rows.new.disk) c.args.self.now _ refl refl refl c.rows.ensures.goes
+    c.rows.ensures.same c.requires.ready s
 
 -- a table without a stream has no changes
 pub returns-in_default-stream_family-clause-changes :
@@ -54,3 +56,9 @@ returns-in_default-stream_family-clause-changes g c s t stands at =
     (no_changes (g.D.Disk.state c.args.disk.now) c.args.self.now s c.args.table.now t
     c.in-Some.schema.now stands at (sym c.in-Some.ensures.table) c.in_default-stream_family.is)
     ∙ take_none c.args.most)
+
+pub returns-clause-fault : goal.returns-clause-fault
+returns-clause-fault g c s stands = subst IsFindFault (sym c.fault_of.ensures)
+    (engine_fault c.in-Err.fault c.in-Err.ensures.unspent (c.in-Err.ensures.undamaged
+    (tells_of (g.D.Disk.state c.args.disk.now) stands.rows.trusted) stands.rows.layout
+    stands.rows.is.reads))

@@ -1,6 +1,5 @@
--- A number or a family is lacked, or one write adds the table, whose description is known before it and forgotten where it failed.
-use Rattle.std.proofs.Common.{◌+◌, [], ◌∷◌, sym, ap, ◌∙◌, Err, subst, arith, ℕ}
-use Rattle.std.specs.FinMap as map
+-- A number or a family is lacked, or one write adds the table, whose description is known before it.
+use Rattle.std.proofs.Common.{◌+◌, [], ◌∷◌, sym, ap, ◌∙◌, subst, arith, ℕ}
 use Rattle.alt_disk.proofs.Runs.{quiet_start}
 use Rattle.alt_machine.specs.Ops.CreateTable.{with_table}
 use Rattle.alt_machine.specs.Outcomes.{a_table}
@@ -12,7 +11,6 @@ use Rattle.alt_tables.specs.Stands.{Stands}
 use Rattle.alt_tables.specs.declared.faults.TableFault.TheVariants.{Spent}
 use Rattle.alt_tables.proofs.Holding.{leaves_quiet}
 use Rattle.alt_tables.proofs.Making.{broke, not_lacking, one_made, spent, table_lacked, table_stands, table_turned, want_told}
-use Rattle.alt_tables.proofs.Standing.{remove-insert}
 use Rattle.alt_tables.proofs.tables.Tables.create.Goals as goal
 
 pub returns-then-number-ge-NUMBERS_END-clause-disk :
@@ -49,7 +47,7 @@ pub returns-in_err-batch-clause-writes : goal.returns-in_err-batch-clause-writes
 returns-in_err-batch-clause-writes g c s stands =
     want_told (Stands (g.D.Disk.state c.args.disk.now) c.args.self.now) a_table s
     (with_table s c.args.schema ∷ [])
-    c.from_residual.result c.from_residual.ensures.1 stands
+    c.from_residual.result c.from_residual.ensures.1
 
 pub returns-in_err-batch-clause-disk : goal.returns-in_err-batch-clause-disk
 returns-in_err-batch-clause-disk g c s stands =
@@ -58,14 +56,14 @@ returns-in_err-batch-clause-disk g c s stands =
     (with_table s c.args.schema ∷ []) stands.rows stands.valid
     (quiet_start (g.D.Disk.state c.args.disk.now))
 
-pub returns-in_err-name-clause-writes : goal.returns-in_err-name-clause-writes
-returns-in_err-name-clause-writes g c s stands =
+pub returns-in_err-live-clause-writes : goal.returns-in_err-live-clause-writes
+returns-in_err-live-clause-writes g c s stands =
     want_told (Stands (g.D.Disk.state c.args.disk.now) c.args.self.now) a_table s
     (with_table s c.args.schema ∷ [])
-    c.from_residual-in_err-name.result c.from_residual-in_err-name.ensures.1 stands
+    c.from_residual-in_err-live.result c.from_residual-in_err-live.ensures.1
 
-pub returns-in_err-name-clause-disk : goal.returns-in_err-name-clause-disk
-returns-in_err-name-clause-disk g c s stands =
+pub returns-in_err-live-clause-disk : goal.returns-in_err-live-clause-disk
+returns-in_err-live-clause-disk g c s stands =
     leaves_quiet (g.D.Disk.state c.args.disk.now)
     (g.D.Disk.state c.args.disk.now) c.args.self.now.engine s
     (with_table s c.args.schema ∷ []) stands.rows stands.valid
@@ -78,13 +76,7 @@ pub returns-in_err-add-clause-writes : goal.returns-in_err-add-clause-writes
 returns-in_err-add-clause-writes g c s stands =
     want_told (Stands (g.D.Disk.state c.args.disk.now) _) a_table s
     (with_table s c.args.schema ∷ [])
-    c.from_residual-in_err-add.result c.from_residual-in_err-add.ensures.1 (record {
-      catalog = c.in_err-add.ensures.err ∙ stands.catalog;
-      number = stands.number;
-      family = stands.family;
-      rows = stands.rows;
-      valid = stands.valid;
-    })
+    c.from_residual-in_err-add.result c.from_residual-in_err-add.ensures.1
 
 pub returns-in_err-add-clause-disk : goal.returns-in_err-add-clause-disk
 returns-in_err-add-clause-disk g c s stands =
@@ -113,7 +105,7 @@ returns-in-Ok-clause-writes g c s stands =
     c.requires.number c.requires.family c.requires.absent
     (g.D.Disk.state c.make.new.disk) _
     (c.in-Ok.ensures.ok s (with_table s c.args.schema) stands.rows turned)
-    turned.valid (c.make.ensures.kept.0 ∙ c.in_ok-add.ensures.ok)
+    turned.valid (c.make.ensures.kept.0 ∙ c.in_ok-add.ensures.ok) c.in_ok-live.ensures
     (ap (λ n. c.args.self.now.family + n) c.family_count.ensures.count) c.in-Ok.ensures.next)
     (sym (λ i. table_lack (stands.number i) (stands.family i))
     ∙ has_table c.args.self.now.engine.next
@@ -137,17 +129,6 @@ pub returns-clause-writes : goal.returns-clause-writes
 returns-clause-writes g c s stands =
     broke (Stands (g.D.Disk.state c.make.new.disk) _) a_table s (with_table s c.args.schema)
     c.in-Err.fault c.in-Err.ensures.fault
-    (λ is. record {
-      catalog = c.remove.ensures.rest
-          ∙ (λ i. map.remove ((c.make.ensures.kept.0 ∙ c.in_ok-add.ensures.ok) i)
-          ((c.as_str.ensures.same ∙ c.in_ok-name.ensures.same) i))
-          ∙ remove-insert c.args.self.now.catalog c.args.schema.name c.args.schema c.requires.absent
-          ∙ stands.catalog;
-      number = c.in-Err.ensures.same ∙ stands.number;
-      family = c.make.ensures.kept.1 ∙ stands.family;
-      rows = c.in-Err.ensures.no_memory (ap (λ f. Err f) is) s stands.rows;
-      valid = stands.valid;
-    })
 
 pub returns-clause-disk : goal.returns-clause-disk
 returns-clause-disk g c s stands =

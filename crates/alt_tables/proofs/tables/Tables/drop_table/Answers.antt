@@ -1,5 +1,5 @@
 -- The table is taken out by one write.
-use Rattle.std.proofs.Common.{[], ◌∷◌, sym, ap, ◌∙◌, Err, arith}
+use Rattle.std.proofs.Common.{[], ◌∷◌, sym, ap, ◌∙◌, arith}
 use Rattle.alt_disk.proofs.Runs.{quiet_start}
 use Rattle.alt_machine.proofs.Lacks.{has_number}
 use Rattle.alt_machine.specs.Ops.DeleteTable.{without_table}
@@ -38,11 +38,12 @@ returns-in-Ok-clause-writes g c s stands =
     one_made (Stands (g.D.Disk.state c.make.new.disk) _) a_number s
     (without_table s c.args.name.now)
     (drop_stands (g.D.Disk.state c.args.disk.now) c.args.self.now s stands
-    c.args.name.now (g.D.Disk.state c.make.new.disk) _
+    c.args.name.now c.in-Some.schema.now (g.D.Disk.state c.make.new.disk) _
+    (sym c.in-Some.ensures.table)
     (c.in-Ok.ensures.ok s (without_table s c.args.name.now) stands.rows turned) turned.valid
     (c.remove.ensures.rest
     ∙ ap (λ (m : Texts TableSchema). map.remove m c.args.name.now) c.make.ensures.kept.0)
-    c.make.ensures.kept.1
+    c.in_ok-live.ensures c.make.ensures.kept.2
     c.in-Ok.ensures.next)
     (has_number s.next_number (omega (arith, stands.number, c.next_number-number.ensures.next, c.if-number-ge-NUMBERS_END.false)))
 
@@ -54,17 +55,16 @@ returns-in-Ok-clause-disk g c s stands =
     c.in_ok-batch.ensures.changes
     (omega (arith, c.next_number-number.ensures.next, c.if-number-ge-NUMBERS_END.false)))
 
+pub returns-in_err-live-clause-disk : goal.returns-in_err-live-clause-disk
+returns-in_err-live-clause-disk g c s stands =
+    leaves_quiet (g.D.Disk.state c.args.disk.now) (g.D.Disk.state c.args.disk.now)
+    c.args.self.now.engine s (without_table s c.args.name.now ∷ []) stands.rows stands.valid
+    (quiet_start (g.D.Disk.state c.args.disk.now))
+
 pub returns-clause-writes : goal.returns-clause-writes
 returns-clause-writes g c s stands =
     broke (Stands (g.D.Disk.state c.make.new.disk) c.make.new.self) a_number s
     (without_table s c.args.name.now) c.in-Err.fault c.in-Err.ensures.fault
-    (λ is. record {
-      catalog = c.make.ensures.kept.0 ∙ stands.catalog;
-      number = c.in-Err.ensures.same ∙ stands.number;
-      family = c.make.ensures.kept.1 ∙ stands.family;
-      rows = c.in-Err.ensures.no_memory (ap (λ f. Err f) is) s stands.rows;
-      valid = stands.valid;
-    })
 
 pub returns-clause-disk : goal.returns-clause-disk
 returns-clause-disk g c s stands =

@@ -1,30 +1,32 @@
 -- What the row shows is the item, and nothing else changed.
-use Rattle.std.proofs.Common.{sym, ap, ◌∙◌, refl, Err}
+use Rattle.std.proofs.Common.{sym, ap, ◌∙◌, refl, Err, subst}
 use Rattle.alt_layout.specs.Layout.{shown}
 use Rattle.std.specs.FinMap as map
 use Rattle.alt_disk.proofs.Runs.{tells_of}
 use Rattle.alt_tables.proofs.Standing.{stays, there, item_found, item_reads, row_shows}
+use Rattle.alt_tables.proofs.Pages.{engine_fault}
+use Rattle.alt_tables.specs.Faults.{IsFindFault}
 use Rattle.alt_tables.proofs.tables.Tables.find.Goals as goal
 
 pub returns-in-Err-clause-stays : goal.returns-in-Err-clause-stays
 returns-in-Err-clause-stays g c s = stays (g.D.Disk.state c.args.disk.now)
-    (g.D.Disk.state c.row.new.disk) c.args.self.now _ refl refl c.row.ensures.goes
-    c.row.ensures.quiet c.row.ensures.same c.requires.ready s
+    (g.D.Disk.state c.row.new.disk) c.args.self.now _ refl refl refl c.row.ensures.goes
+    c.row.ensures.same c.requires.ready s
 
 pub returns-in-Ok-item_of-clause-stays : goal.returns-in-Ok-item_of-clause-stays
 returns-in-Ok-item_of-clause-stays g c s = stays (g.D.Disk.state c.args.disk.now)
-    (g.D.Disk.state c.row.new.disk) c.args.self.now _ refl refl c.row.ensures.goes
-    c.row.ensures.quiet c.row.ensures.same c.requires.ready s
+    (g.D.Disk.state c.row.new.disk) c.args.self.now _ refl refl refl c.row.ensures.goes
+    c.row.ensures.same c.requires.ready s
 
 pub returns-in-Err-Bad-clause-stays : goal.returns-in-Err-Bad-clause-stays
 returns-in-Err-Bad-clause-stays g c s = stays (g.D.Disk.state c.args.disk.now)
-    (g.D.Disk.state c.row.new.disk) c.args.self.now _ refl refl c.row.ensures.goes
-    c.row.ensures.quiet c.row.ensures.same c.requires.ready s
+    (g.D.Disk.state c.row.new.disk) c.args.self.now _ refl refl refl c.row.ensures.goes
+    c.row.ensures.same c.requires.ready s
 
 pub returns-in-Err-NoMemory-clause-stays : goal.returns-in-Err-NoMemory-clause-stays
 returns-in-Err-NoMemory-clause-stays g c s = stays (g.D.Disk.state c.args.disk.now)
-    (g.D.Disk.state c.row.new.disk) c.args.self.now _ refl refl c.row.ensures.goes
-    c.row.ensures.quiet c.row.ensures.same c.requires.ready s
+    (g.D.Disk.state c.row.new.disk) c.args.self.now _ refl refl refl c.row.ensures.goes
+    c.row.ensures.same c.requires.ready s
 
 pub returns-in-Ok-item_of-clause-item : goal.returns-in-Ok-item_of-clause-item
 returns-in-Ok-item_of-clause-item g c s stands t at =
@@ -51,3 +53,9 @@ returns-in-Err-Bad-clause-fault g c s stands =
     (λ l reads. c.in-Ok.ensures.row
     (tells_of (g.D.Disk.state c.args.disk.now) stands.rows.trusted) l reads
     ∙ ap (shown l c.in-Some.schema.now.family) c.as_slice.ensures.same))
+
+pub returns-in-Err-clause-fault : goal.returns-in-Err-clause-fault
+returns-in-Err-clause-fault g c s stands = subst IsFindFault (sym c.fault_of.ensures)
+    (engine_fault c.in-Err.fault c.in-Err.ensures.unspent (c.in-Err.ensures.undamaged
+    (tells_of (g.D.Disk.state c.args.disk.now) stands.rows.trusted) stands.rows.layout
+    stands.rows.is.reads))

@@ -1,6 +1,6 @@
 -- A write of the state is one write of the engine.
 use Rattle.std.proofs.Common.{refl, sym, ap, Err, ◌∙◌}
-use Rattle.alt_tables.proofs.Holding.{write_holds, write_images, holds_same, memory_wanted, same_Err}
+use Rattle.alt_tables.proofs.Holding.{write_holds, write_images, memory_wanted, same_Err}
 use Rattle.alt_tables.proofs.tables.Tables.make.Goals as goal
 
 pub apply-requires : goal.apply-requires
@@ -10,25 +10,23 @@ apply-requires g c trusted =
 pub returns-in-Ok-clause-ok : goal.returns-in-Ok-clause-ok
 returns-in-Ok-clause-ok g c s r holds turns =
     write_holds (g.D.Disk.state c.args.disk.now) (g.D.Disk.state c.apply.new.disk)
-    c.args.self.now.engine s r c.args.batch.now holds turns c.apply.new.self c.in-Ok.ensures.goes
+    c.args.self.now.engine s r c.args.batch.now holds turns c.as_slice-changes.ensures.distinct
+    c.apply.new.self c.in-Ok.ensures.goes
     (c.in-Ok.ensures.ok holds.trusted holds.layout holds.is)
 
 pub returns-in-Ok-clause-disk : goal.returns-in-Ok-clause-disk
 returns-in-Ok-clause-disk g c s r holds valid turns =
     write_images (g.D.Disk.state c.args.disk.now) (g.D.Disk.state c.apply.new.disk)
-    c.args.self.now.engine s r c.args.batch.now holds turns valid
-    (c.in-Ok.ensures.any_moment holds.trusted holds.layout holds.is)
+    c.args.self.now.engine s r c.args.batch.now holds turns c.as_slice-changes.ensures.distinct
+    valid (c.in-Ok.ensures.any_moment holds.trusted holds.layout holds.is)
 
 pub returns-in-Err-clause-no_memory : goal.returns-in-Err-clause-no_memory
-returns-in-Err-clause-no_memory g c none s holds =
-    holds_same (g.D.Disk.state c.args.disk.now) (g.D.Disk.state c.apply.new.disk)
-    c.args.self.now.engine c.apply.new.self s
-    (c.in-Err.ensures.no_memory (ap (λ f. Err f) (memory_wanted c.in-Err.fault
-    (sym c.fault_of.ensures ∙ same_Err _ _ _ refl none))))
-    c.in-Err.ensures.err holds
+returns-in-Err-clause-no_memory g c none =
+    c.in-Err.ensures.no_memory (ap (λ f. Err f) (memory_wanted c.in-Err.fault
+    (sym c.fault_of.ensures ∙ same_Err _ _ _ refl none)))
 
 pub returns-in-Err-clause-disk : goal.returns-in-Err-clause-disk
 returns-in-Err-clause-disk g c s r holds valid turns =
     write_images (g.D.Disk.state c.args.disk.now) (g.D.Disk.state c.apply.new.disk)
-    c.args.self.now.engine s r c.args.batch.now holds turns valid
-    (c.in-Err.ensures.any_moment holds.trusted holds.layout holds.is)
+    c.args.self.now.engine s r c.args.batch.now holds turns c.as_slice-changes.ensures.distinct
+    valid (c.in-Err.ensures.any_moment holds.trusted holds.layout holds.is)

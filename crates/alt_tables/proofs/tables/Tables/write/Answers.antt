@@ -1,15 +1,17 @@
 -- What is there differs from what is to be there, so one write is made.
-use Rattle.std.proofs.Common.{sym, ap, ◌∙◌, List, Err, subst, arith, rules}
+use Rattle.std.proofs.Common.{sym, ap, ◌∙◌, List, subst, arith, rules}
 use Rattle.alt_disk.proofs.Runs.{quiet_start}
 use Rattle.alt_machine.specs.Outcomes.{a_number}
 use Rattle.alt_machine.specs.State.{State}
 use Rattle.alt_machine.specs.Writes.{after_item, item_writes}
-use Rattle.alt_machine.proofs.Lacks.{has_number}
+use Rattle.alt_machine.proofs.Lacks.{has_number, lacks_number}
 use Rattle.alt_tables.specs.Faults.{AreMade, BreakOff}
 use Rattle.alt_tables.specs.Images.{Leaves}
 use Rattle.alt_tables.specs.Stands.{Stands}
+use Rattle.alt_tables.specs.declared.faults.TableFault.TheVariants.{Spent}
+use Rattle.alt_machine.specs.Wanted.{number_lack}
 use Rattle.alt_tables.proofs.Holding.{leaves_quiet}
-use Rattle.alt_tables.proofs.Making.{broke, item_differs, item_turned, item_stands, one_made, want_told}
+use Rattle.alt_tables.proofs.Making.{broke, item_differs, item_turned, item_stands, one_made, want_told, spent}
 use Rattle.alt_tables.proofs.tables.Tables.write.Goals as goal
 
 pub returns-then-number-ge-NUMBERS_END-clause-disk :
@@ -24,7 +26,7 @@ pub returns-in_err-batch-clause-writes : goal.returns-in_err-batch-clause-writes
 returns-in_err-batch-clause-writes g c s t stands at =
     want_told (Stands (g.D.Disk.state c.args.disk.now) c.args.self.now) a_number s
     (item_writes s c.args.moment c.args.table.now t c.args.found.place c.args.new)
-    c.from_residual.result c.from_residual.ensures.1 stands
+    c.from_residual.result c.from_residual.ensures.1
 
 pub returns-in_err-batch-clause-disk : goal.returns-in_err-batch-clause-disk
 returns-in_err-batch-clause-disk g c s t stands at =
@@ -62,7 +64,8 @@ returns-in-Ok-clause-writes g c s t stands at =
     (g.D.Disk.state c.make.new.disk) c.make.new.self (c.in-Ok.ensures.ok s
     (after_item s c.args.moment c.args.table.now t c.args.found.place c.args.new)
     stands.rows turned)
-    turned.valid c.make.ensures.kept.0 c.make.ensures.kept.1 c.in-Ok.ensures.next)
+    turned.valid c.make.ensures.kept.0 c.make.ensures.kept.1 c.make.ensures.kept.2
+    c.in-Ok.ensures.next)
     (has_number s.next_number (omega (arith, stands.number, c.next_number-number.ensures.next, c.if-number-ge-NUMBERS_END.false))))
 
 pub returns-in-Ok-clause-disk : goal.returns-in-Ok-clause-disk
@@ -97,14 +100,7 @@ returns-clause-writes g c s t stands at =
     (sym c.if-same.ensures)))
     (broke (Stands (g.D.Disk.state c.make.new.disk) c.make.new.self) a_number s
     (after_item s c.args.moment c.args.table.now t c.args.found.place c.args.new) c.in-Err.fault
-    c.in-Err.ensures.fault
-    (λ is. record {
-      catalog = c.make.ensures.kept.0 ∙ stands.catalog;
-      number = c.in-Err.ensures.same ∙ stands.number;
-      family = c.make.ensures.kept.1 ∙ stands.family;
-      rows = c.in-Err.ensures.no_memory (ap (λ f. Err f) is) s stands.rows;
-      valid = stands.valid;
-    }))
+    c.in-Err.ensures.fault)
 
 pub returns-clause-disk : goal.returns-clause-disk
 returns-clause-disk g c s t stands at =
@@ -126,3 +122,18 @@ returns-clause-disk g c s t stands at =
     (c.make.ensures.disk s
     (after_item s c.args.moment c.args.table.now t c.args.found.place c.args.new)
     stands.rows stands.valid turned)
+
+pub returns-then-number-ge-NUMBERS_END-clause-writes :
+    goal.returns-then-number-ge-NUMBERS_END-clause-writes
+returns-then-number-ge-NUMBERS_END-clause-writes g c s t stands at =
+    subst (λ (ts : List State). BreakOff (Stands (g.D.Disk.state c.args.disk.now) c.args.self.now)
+    a_number s ts (Spent c.next_number-number.result))
+    (sym (item_differs (g.D.Disk.state c.args.disk.now) c.args.self.now s t stands
+    c.args.moment c.args.table.now c.args.found.place c.args.found.item c.args.new at
+    (c.requires.found s stands t at) (sym c.if-same.ensures)))
+    (spent (Stands (g.D.Disk.state c.args.disk.now) c.args.self.now) a_number s
+    (after_item s c.args.moment c.args.table.now t c.args.found.place c.args.new)
+    c.next_number-number.result
+    (ap number_lack (sym (c.next_number-number.ensures.next ∙ stands.number))
+    ∙ lacks_number c.next_number-number.result
+    (omega (arith, c.if-number-ge-NUMBERS_END.true))) stands)

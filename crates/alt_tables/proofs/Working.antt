@@ -1,0 +1,110 @@
+-- Work between requests leaves the state: each live family shows what it showed, and nothing else is looked at.
+use Rattle.std.proofs.Common.{◌≡◌, ⊎_elim, sym, ap, ◌∙◌, ℕ, List, Some, None, Contains, option_map}
+use Rattle.std.specs.Prelude.{⊤}
+use Rattle.std.specs.FinMap as map
+use Rattle.alt_disk.specs.Disk.{DiskState, Goes}
+use Rattle.alt_disk.specs.Runs.{Spans}
+use Rattle.alt_disk.proofs.Runs.{spans_weaker, trusted_on}
+use Rattle.alt_engine.specs.InHand.{Stands as EngineStands}
+use Rattle.alt_engine.specs.Working.{AreLive, IsFileSpent, IsNoDamage, Works, WorksIn}
+use Rattle.alt_engine.specs.declared.engine.EngineFault.{EngineFault}
+use Rattle.alt_engine.specs.declared.engine.EngineFault.TheVariants.{Spent, Damaged, Failed, NoMemory}
+use Rattle.alt_layout.specs.Layout.{Layout, shown}
+use Rattle.alt_machine.specs.State.{State, Table, descriptions, families_of}
+use Rattle.alt_machine.proofs.Descriptions.{get-descriptions}
+use Rattle.alt_manifest.specs.Versions.{IsIn}
+use Rattle.alt_opening.specs.Live.{AreLiveIn}
+use Rattle.alt_opening.specs.StateRows.{Shows, catalog_family}
+use Rattle.alt_opening.proofs.Families.{own_family}
+use Rattle.alt_tables.specs.Faults.{IsWorkFault, fault_of}
+use Rattle.alt_tables.specs.Images.{StandAt}
+use Rattle.alt_tables.specs.Stands.{Stands, live_of, number_of}
+use Rattle.alt_tables.specs.declared.tables.Tables.{Tables}
+use Rattle.alt_tables.proofs.IndexFamilies.{index_family}
+use Rattle.alt_tables.proofs.Standing.{still_live}
+use Rattle.alt_tables.proofs.StreamShows.{stream_family}
+
+-- the families of a table of the state are live
+family_live : (s : State) (live : List ℕ) → AreLiveIn (descriptions s.tables) live
+    → (name : List ℕ) (t : Table) → map.get s.tables name ≡ Some t → (family : ℕ)
+    → Contains (families_of t.description) family → IsIn live family
+family_live s live are name t at family has = are.each family (record {
+  name = name;
+  description = t.description;
+  there = get-descriptions s.tables name ∙ ap (option_map (λ (u : Table). u.description)) at;
+  has = has;
+})
+
+-- so work on rows that show the state leaves rows that show it
+pub shows_worked : (live : List ℕ) (l m : Layout) (s : State) → AreLiveIn (descriptions s.tables) live
+    → IsIn live catalog_family → Works live l m → Shows l s → Shows m s
+shows_worked live l m s are own works shows = record {
+  number = works.number ∙ shows.number;
+  catalog = λ key. works.lives catalog_family own key ∙ shows.catalog key;
+  items = λ name t at key. works.lives t.description.family
+      (family_live s live are name t at t.description.family (own_family t.description)) key
+      ∙ shows.items name t at key;
+  indexes = λ name t number i at at_index key. works.lives i.family
+      (family_live s live are name t at i.family (index_family t.description number i at_index)) key
+      ∙ shows.indexes name t number i at at_index key;
+  changes = λ name t family at stream key. works.lives family
+      (family_live s live are name t at family (stream_family t.description family stream)) key
+      ∙ shows.changes name t family at stream key;
+  beyond = λ family key high. ⊎_elim
+      (λ (same : (k : List ℕ) → shown m family k ≡ shown l family k).
+      same key ∙ shows.beyond family key high)
+      (λ (none : (k : List ℕ) → shown m family k ≡ None). none key)
+      (works.others family);
+}
+
+-- ---- the tables
+
+module _ (old new : DiskState) (t : Tables) (s : State) (stands : Stands old t s) (live : List ℕ)
+    (same : live ≡ live_of t) (are : AreLive live) where
+  -- the families that are said to be live are those of the state's tables
+  live_state : AreLiveIn (descriptions s.tables) live
+  live_state = still_live t.catalog (descriptions s.tables) t.live live (sym stands.catalog) same
+      stands.live
+
+  -- whatever a stop leaves on the way stands for the state
+  pub worked_left : Spans old new (λ _. ⊤) (WorksIn live stands.rows.layout)
+      → Spans old new (λ _. ⊤) (StandAt s)
+  worked_left spans = spans_weaker old new (λ _. ⊤) (λ _. ⊤) (StandAt s)
+      (WorksIn live stands.rows.layout) spans (λ g is. is) (λ moment image worked. record {
+        layout = worked.layout;
+        is = worked.is;
+        shows = shows_worked live stands.rows.layout worked.layout s live_state are.catalog
+            worked.works stands.rows.shows;
+        valid = stands.valid;
+        held = stands.rows.held;
+      })
+
+  -- and the tables stand for it after work that is done
+  pub worked_stands : (u : Tables) → Goes old new → u.catalog ≡ t.catalog → u.live ≡ t.live
+      → u.family ≡ t.family → number_of u ≡ number_of t
+      → (m : Layout) × EngineStands new u.engine m × Works live stands.rows.layout m
+      → Stands new u s
+  worked_stands u goes catalog lives family number after = record {
+    catalog = catalog ∙ stands.catalog;
+    number = number ∙ stands.number;
+    family = family ∙ stands.family;
+    live = still_live t.catalog u.catalog t.live u.live catalog lives stands.live;
+    rows = record {
+      trusted = trusted_on old new goes stands.rows.trusted;
+      layout = after.0;
+      is = after.1;
+      shows = shows_worked live stands.rows.layout after.0 s live_state are.catalog after.2
+          stands.rows.shows;
+      held = stands.rows.held;
+    };
+    valid = stands.valid;
+  }
+
+-- ---- its faults
+
+-- a fault of the engine's work is one of work
+pub work_fault : (f : EngineFault) → IsFileSpent f → IsNoDamage f → IsWorkFault (fault_of f)
+work_fault (Spent number) spent whole = spent
+work_fault (Damaged file at) spent whole = whole
+work_fault Failed spent whole = tt
+work_fault NoMemory spent whole = tt

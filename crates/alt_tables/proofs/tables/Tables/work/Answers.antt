@@ -1,0 +1,32 @@
+-- The families of all tables are live, so the rows of the state stay.
+use Rattle.std.proofs.Common.{sym, subst, refl}
+use Rattle.alt_tables.specs.Faults.{IsWorkFault}
+use Rattle.alt_tables.proofs.Working.{work_fault, worked_left, worked_stands}
+use Rattle.alt_tables.proofs.tables.Tables.work.Goals as goal
+
+pub work-requires-clause-ready : goal.work-requires-clause-ready
+work-requires-clause-ready g c trusted =
+    let (s, stands) = c.requires.ready trusted in (stands.rows.layout, stands.rows.is)
+
+pub returns-in-Ok-clause-ok : goal.returns-in-Ok-clause-ok
+returns-in-Ok-clause-ok g c s stands =
+    worked_stands (g.D.Disk.state c.args.disk.now) (g.D.Disk.state c.work.new.disk)
+    c.args.self.now s stands c.as_slice.result.now c.as_slice.ensures.same c.as_slice.ensures.live
+    _ c.in-Ok.ensures.goes refl refl refl c.in-Ok.ensures.next
+    (c.in-Ok.ensures.ok stands.rows.trusted stands.rows.layout stands.rows.is)
+
+pub returns-in-Ok-clause-disk : goal.returns-in-Ok-clause-disk
+returns-in-Ok-clause-disk g c s stands =
+    worked_left (g.D.Disk.state c.args.disk.now) (g.D.Disk.state c.work.new.disk)
+    c.args.self.now s stands c.as_slice.result.now c.as_slice.ensures.same c.as_slice.ensures.live
+    (c.in-Ok.ensures.any_moment stands.rows.trusted stands.rows.layout stands.rows.is)
+
+pub returns-in-Err-clause-disk : goal.returns-in-Err-clause-disk
+returns-in-Err-clause-disk g c s stands =
+    worked_left (g.D.Disk.state c.args.disk.now) (g.D.Disk.state c.work.new.disk)
+    c.args.self.now s stands c.as_slice.result.now c.as_slice.ensures.same c.as_slice.ensures.live
+    (c.in-Err.ensures.any_moment stands.rows.trusted stands.rows.layout stands.rows.is)
+
+pub returns-in-Err-clause-fault : goal.returns-in-Err-clause-fault
+returns-in-Err-clause-fault g c trusted = subst IsWorkFault (sym c.fault_of.ensures)
+    (work_fault c.in-Err.fault c.in-Err.ensures.spent (c.in-Err.ensures.undamaged trusted))

@@ -1,0 +1,46 @@
+//! Work between requests: none of it changes the state.
+
+ghost use Rattle.std.specs.Prelude.{◌≡◌, ◌<◌, ◌*◌, ⊤, ℕ, IfErr, OnOk, IsErrOf};
+ghost use Rattle.alt_base.specs.Counts.{Rose};
+ghost use Rattle.alt_disk.specs.Disk.{IsTrusted, Goes};
+ghost use Rattle.alt_disk.specs.Runs.{Spans};
+ghost use Rattle.alt_engine.specs.Working.{HasEntries};
+ghost use Rattle.alt_machine.specs.State.{State};
+ghost use Rattle.alt_tables.specs.Faults.{IsWorkFault};
+ghost use Rattle.alt_tables.specs.Images.{StandAt};
+ghost use Rattle.alt_tables.specs.Stands.{AreReady, KeepsCatalog, Stands, limits_of};
+
+use crate::faults::{TableFault, fault_of};
+use crate::tables::Tables;
+use alt_disk::Disk;
+use alt_engine::{Task, Worked};
+
+impl Tables {
+    /// Does a task of the engine, in which the families of tables are live. After an Err the tables are spent.
+    pub fn work<D: Disk>(&mut self, disk: &mut D, task: Task) -> Result<Worked, TableFault>
+        requires ready { AreReady (D.state disk.old) self.old }
+        ensures ok { OnOk result ((s : State) → Stands (D.state disk.old) self.old s
+            → Stands (D.state disk.new) self.new s) }
+        ensures kept { KeepsCatalog self.old self.new }
+
+        // A stop at any moment of the call, also one that fails, leaves files that stand for the state.
+        ensures disk { (s : State) → Stands (D.state disk.old) self.old s
+            → Spans (D.state disk.old) (D.state disk.new) (λ _. ⊤) (StandAt s) }
+
+        // After a step the entries of the log are fewer than 16 times the bytes at which a family is flushed; after a flush of all there
+        // are none.
+        ensures step { task ≡ Task.Step → OnOk result (IsTrusted (D.state disk.old) → (n : ℕ)
+            → HasEntries (D.state disk.new).file n → n < 16 * (limits_of self.old).flush) }
+        ensures flush_all { task ≡ Task.FlushAll → OnOk result (IsTrusted (D.state disk.old)
+            → (n : ℕ) → HasEntries (D.state disk.new).file n → n ≡ 0) }
+        ensures fault { IsTrusted (D.state disk.old) → IfErr result IsWorkFault }
+        ensures goes { Goes (D.state disk.old) (D.state disk.new) }
+        ensures cause { IsErrOf result TableFault.Failed
+            → Rose (D.state disk.old).faults (D.state disk.new).faults }
+    {
+        match self.engine.work(disk, task, self.live.as_slice()) {
+            Ok(worked) => Ok(worked),
+            Err(fault) => Err(fault_of(fault)),
+        }
+    }
+}

@@ -1,6 +1,9 @@
 pub mod ApplyLaws
 pub mod FlushedLaws
+pub mod FoundLaws
 pub mod Fresh
 pub mod HandLaws
+pub mod KeepLaws
 pub mod OpenLaws
+pub mod RecoverLaws
 pub mod SyncLaws

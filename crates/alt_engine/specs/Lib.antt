@@ -1,3 +1,4 @@
+pub mod Found
 pub mod InHand
 pub mod Laws
 pub mod Making

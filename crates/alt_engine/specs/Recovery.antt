@@ -1,8 +1,8 @@
 -- Why a store isn't recovered: its files have no layout; and what a recovery leaves on its way.
-use Rattle.std.specs.Prelude.{◌≡◌, ◌≢◌, ◌⊎◌, ◌≤◌, ◌<◌, ◌+◌, ◌-◌, ◌++◌, ℕ, List, ◌∷◌, map, length, take, drop, Some}
+use Rattle.std.specs.Prelude.{◌≡◌, ◌≢◌, ◌⊎◌, ◌≤◌, ◌<◌, ◌+◌, ◌-◌, ◌++◌, ℕ, List, ◌∷◌, map, length, take, drop, Some, None}
 use Rattle.std.specs.FinMap.{entries}
 use Rattle.sha2.specs.Sha256.{sha256}
-use Rattle.alt_disk.specs.Disk.{DiskState, IsImage, bytes_or_none}
+use Rattle.alt_disk.specs.Disk.{DiskState, IsImage, IsNames, bytes_or_none}
 use Rattle.alt_gatelog.specs.Log.{IsLog, IsDamaged, first_form, gate_place}
 use Rattle.alt_rowfile.specs.Format.{IsRowFile}
 use Rattle.alt_rowfile.specs.Recovery.{HasDigest, NoRowFile}
@@ -14,9 +14,10 @@ use Rattle.alt_manifest.specs.Versions.{HasVersion, IsIn}
 use Rattle.alt_manifest.specs.declared.version.FamilyVersion.{FamilyVersion}
 use Rattle.alt_manifest.specs.declared.version.Version.{Version}
 use Rattle.alt_layout.specs.Families.{IsMapBelow, next_after}
-use Rattle.alt_layout.specs.Files.{AreSegments, Image, IsLayout, all_of}
+use Rattle.alt_layout.specs.Files.{AreSegments, Image, IsLayout, IsOf, all_of}
 use Rattle.alt_layout.specs.Fresh.{versions_file}
 use Rattle.alt_layout.specs.Layout.{Layout, RowMap}
+use Rattle.alt_recovery.specs.Others.{next_past}
 use Rattle.alt_engine.specs.declared.recover.RecoverFault.{RecoverFault}
 use Rattle.alt_engine.specs.declared.recover.RecoverFault.TheVariants.{Damaged, DigestDiffers, Failed, NoMemory}
 
@@ -106,3 +107,21 @@ pub record IsLeftLike (old : DiskState) (image : Image) : Type 0 where
 -- At each moment.
 abbrev pub LeftLike : DiskState → ℕ → Image → Type 0
 LeftLike old t image = IsLeftLike old image
+
+-- The files of the version are as they were, and no other is there.
+pub record LeavesStore (v : Version) (before after : Image) : Type 0 where
+  pub kept : (f : ℕ) → IsOf v f → after f ≡ before f
+  pub removed : (f : ℕ) → (IsOf v f → ⊥) → after f ≡ None
+
+-- Where damage or a digest that differs is told every file is as it was.
+abbrev pub LeavesFiles : Image → Image → RecoverFault → Type 0
+LeavesFiles before after (Damaged file at) = (f : ℕ) → after f ≡ before f
+LeavesFiles before after (DigestDiffers file kept found) = (f : ℕ) → after f ≡ before f
+LeavesFiles before after Failed = Unit {0}
+LeavesFiles before after NoMemory = Unit {0}
+
+-- The greater of the version's next file and one past the greatest that is there, but at most 2^32 - 1.
+pub record IsNextFile (v : Version) (files : Image) (next : ℕ) : Type 0 where
+  pub names : List ℕ
+  pub named : IsNames names files
+  pub is : next ≡ next_past v.next_file names

@@ -1,18 +1,26 @@
 //! Opening a store: what its files hold, and why they have no layout.
 
-ghost use Rattle.std.specs.Prelude.{◌≡◌, ⊤, ℕ, IfOk, IfErr, OnOk, IsErrOf, IsTrue};
+ghost use Rattle.std.specs.Prelude.{◌≡◌, ⊤, ℕ, List, None, IfOk, IfErr, OnOk, IsErrOf, IsTrue};
 ghost use Rattle.alt_base.specs.Counts.{Rose};
-ghost use Rattle.alt_disk.specs.Disk.{DiskState, IsTrusted, Goes};
+ghost use Rattle.alt_disk.specs.Disk.{DiskState, IsNames, IsTrusted, Goes};
 ghost use Rattle.alt_disk.specs.Runs.{Spans};
-ghost use Rattle.alt_layout.specs.Files.{IsLayout};
+ghost use Rattle.alt_layout.specs.Files.{IsLayout, IsOf};
+ghost use Rattle.alt_layout.specs.Fresh.{versions_file};
 ghost use Rattle.alt_layout.specs.Layout.{Layout};
-ghost use Rattle.alt_engine.specs.InHand.{Reads, Stands, limits_of};
-ghost use Rattle.alt_engine.specs.Recovery.{ExplainsStore, HasNoLayout, LeftLike};
+ghost use Rattle.alt_manifest.specs.Versions.{HasVersion};
+ghost use Rattle.alt_manifest.specs.declared.version.Version.{Version};
+ghost use Rattle.alt_recovery.specs.Others.{IsOther, next_past};
+ghost use Rattle.alt_engine.specs.Found.{Found, IsSound, disk_fault, version_in};
+ghost use Rattle.alt_engine.specs.InHand.{Reads, Stands, limits_of, next_file_of};
+ghost use Rattle.alt_engine.specs.Recovery.{ExplainsStore, HasNoLayout, IsNextFile, LeavesFiles, LeavesStore, LeftLike};
 ghost use Rattle.alt_engine.specs.Syncing.{AllSynced};
 
 use crate::engine::{Engine, Limits};
+use crate::found::read_store;
+use crate::sync::sync_all;
 use alt_base::NoMemory;
-use alt_disk::Disk;
+use alt_disk::{Disk, DiskFault};
+use alt_recovery::{next_file, remove_others};
 use std::alloc::Global;
 
 /// Why a store wasn't recovered.
@@ -64,6 +72,17 @@ impl Engine {
         ensures synced { OnOk result (IsTrusted (D.state disk.old)
             → AllSynced (D.state disk.new)) }
 
+        // Its next file is past all that were there, those too that are removed then: each that the last version doesn't name, but none
+        // where damage or a digest that differs is told.
+        ensures next_file { IfOk result (λ e. IsTrue (D.state disk.old).tells → (v : Version)
+            → HasVersion v ((D.state disk.old).file versions_file)
+            → IsNextFile v (D.state disk.old).file (next_file_of e)) }
+        ensures removed { OnOk result (IsTrue (D.state disk.old).tells → (v : Version)
+            → HasVersion v ((D.state disk.old).file versions_file)
+            → LeavesStore v (D.state disk.old).file (D.state disk.new).file) }
+        ensures none_before { IsTrue (D.state disk.old).tells
+            → IfErr result (LeavesFiles (D.state disk.old).file (D.state disk.new).file) }
+
         // The files have, as they read, the layout that they had, also where the call fails.
         ensures files { IsTrue (D.state disk.old).tells → (l : Layout)
             → IsLayout (D.state disk.old).file l → IsLayout (D.state disk.new).file l }
@@ -83,6 +102,56 @@ impl Engine {
         ensures well { (IsErrOf result RecoverFault.Failed → ⊥)
             → (D.state disk.new).faults ≡ (D.state disk.old).faults }
     {
-        Err(RecoverFault::NoMemory)
+        match sync_all(alloc, disk) {
+            Ok(()) => {}
+            Err(fault) => return Err(disk_fault(fault)),
+        }
+        match read_store(alloc, disk, limits) {
+            Ok(engine) => keep_named(alloc, disk, engine),
+            Err(fault) => Err(fault),
+        }
+    }
+}
+
+/// The engine with its next file, once the files are removed that its version doesn't name.
+fn keep_named<D: Disk>(alloc: Global, disk: &mut D, engine: Engine) -> Result<Engine, RecoverFault>
+    ensures ok { IfOk result (λ e. IsTrue (D.state disk.old).tells → (l : Layout)
+        → Found (D.state disk.old) engine l → Reads (D.state disk.new) e l) }
+    ensures limits { IfOk result (λ e. limits_of e ≡ limits_of engine) }
+    ensures next_file { IfOk result (λ e. IsTrue (D.state disk.old).tells → (names : List ℕ)
+        × IsNames names (D.state disk.old).file
+        × (next_file_of e ≡ next_past (next_file_of engine) names)) }
+    ensures gone { OnOk result (IsTrue (D.state disk.old).tells → (f : ℕ)
+        → IsOther (version_in engine) f → (D.state disk.new).file f ≡ None) }
+    ensures kept { IsTrue (D.state disk.old).tells → (f : ℕ) → IsOf (version_in engine) f
+        → (D.state disk.new).file f ≡ (D.state disk.old).file f }
+    ensures any_moment { IsTrusted (D.state disk.old)
+        → Spans (D.state disk.old) (D.state disk.new) (IsOther (version_in engine)) (λ _ _. ⊤) }
+    ensures sound { IfErr result IsSound }
+    ensures goes { Goes (D.state disk.old) (D.state disk.new) }
+    ensures cause { IsErrOf result RecoverFault.Failed
+        → Rose (D.state disk.old).faults (D.state disk.new).faults }
+    ensures well { (IsErrOf result RecoverFault.Failed → ⊥)
+        → (D.state disk.new).faults ≡ (D.state disk.old).faults }
+{
+    let mut engine = engine;
+    let mut names = Vec::new(alloc);
+    match disk.names(&mut names) {
+        Ok(()) => {}
+        Err(fault) => return Err(disk_fault(fault)),
+    }
+    engine.next_file = next_file(engine.next_file, names.as_slice());
+    match remove_others(disk, names.as_slice(), engine.manifest.current()) {
+        Ok(()) => Ok(engine),
+        Err(_) => Err(RecoverFault::Failed),
+    }
+}
+
+fn disk_fault(fault: DiskFault) -> RecoverFault
+    ensures { result ≡ disk_fault fault }
+{
+    match fault {
+        DiskFault::Failed => RecoverFault::Failed,
+        DiskFault::NoMemory => RecoverFault::NoMemory,
     }
 }

@@ -29,19 +29,19 @@ use Rattle.alt_recovery.specs.declared.replay.Replay.{Replay}
 
 -- ---- lists of writes
 
-held-append : (xs ys : List Write) → AllHeld xs → AllHeld ys → AllHeld (xs ++ ys)
+pub held-append : (xs ys : List Write) → AllHeld xs → AllHeld ys → AllHeld (xs ++ ys)
 held-append [] ys a b = b
 held-append (x ∷ xs) ys a b = (a.0, held-append xs ys a.1 b)
 
 -- numbers that rise, and behind them others that go on
-rising-append : (first next : ℕ) (xs ys : List Write) → first ≤ next → AreRising first xs
+pub rising-append : (first next : ℕ) (xs ys : List Write) → first ≤ next → AreRising first xs
     → AreRising (next_after next xs) ys → AreRising first (xs ++ ys)
 rising-append first next [] [] le a b = tt
 rising-append first next [] (y ∷ ys) le a b = (let low = b.0 in omega (arith, low, le), b.1)
 rising-append first next (x ∷ xs) ys le a b =
     (a.0, rising-append (x.number + 1) (max next (x.number + 1)) xs ys (omega arith) a.1 b)
 
-next_after-append : (next : ℕ) (xs ys : List Write)
+pub next_after-append : (next : ℕ) (xs ys : List Write)
     → next_after next (xs ++ ys) ≡ next_after (next_after next xs) ys
 next_after-append next [] ys = refl
 next_after-append next (x ∷ xs) ys = next_after-append (max next (x.number + 1)) xs ys

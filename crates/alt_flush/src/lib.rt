@@ -1,7 +1,11 @@
-//! A flush: the rows that a family has in memory become a row file, and a version names it.
+//! A flush: the rows that a family has in memory become a row file, and a draft of the next version names it.
 #![tactic(auto)]
 
-mod flush;
+mod draft;
+mod lists;
+mod remove;
 mod write;
 
-pub use flush::flush_family;
+pub use draft::{over_new_log, renumbered, with_flush, without};
+pub use remove::{has, remove_left_over};
+pub use write::write_rows;

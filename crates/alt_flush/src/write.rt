@@ -17,7 +17,7 @@ use std::alloc::Global;
 use std::collections::btree_map::Range;
 
 /// Writes the rows of a table into a missing file, which then stands in every image.
-pub(crate) fn write_rows<D: Disk>(
+pub fn write_rows<D: Disk>(
     alloc: Global,
     disk: &mut D,
     f: u32,

@@ -22,7 +22,7 @@ use Rattle.alt_layout.specs.Families.{Held, IsMapBelow, flushed_of, layout_of, n
 use Rattle.alt_layout.specs.Files.{HoldsRows, IsOf, Stored, all_of}
 use Rattle.alt_layout.specs.Flushes.{HasNext, with_rows}
 use Rattle.alt_layout.specs.Fresh.{versions_file}
-use Rattle.alt_layout.specs.Layout.{Layout, RowMap}
+use Rattle.alt_layout.specs.Layout.{RowMap}
 use Rattle.alt_layout.specs.Moments.{Has, HasEither, IsIt, Lies}
 use Rattle.alt_layout.proofs.FamilyLaws.{same_layouts}
 use Rattle.alt_layout.proofs.FileLaws.{in_back, stored_on}

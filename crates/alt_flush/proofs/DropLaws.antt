@@ -1,8 +1,7 @@
 -- A draft in which one family has no files: it is a version, its files hold what they held, and of its layout the rows of that family alone are gone.
-use Rattle.std.proofs.Common.{◌≡◌, ◌≢◌, ◌<◌, ◌≤◌, ◌+◌, ◌-◌, ◌^◌, ⊎_elim, inl, inr, ℕ, Bool, true, false, List, [], ◌∷◌, ◌++◌, length, refl, sym, ap, subst, ◌∙◌, arith, append_assoc, eqb-true, eq-eqb}
-use Rattle.std.proofs.lemmas.Bool.{false≢true}
+use Rattle.std.proofs.Common.{◌≡◌, ◌≢◌, ◌<◌, ◌≤◌, ◌+◌, ◌-◌, ◌^◌, ⊎_elim, inl, inr, ℕ, Bool, true, false, List, [], ◌∷◌, ◌++◌, refl, sym, ap, subst, ◌∙◌, arith, append_assoc, eqb-true, eq-eqb}
 use Rattle.std.proofs.lemmas.Bool.Decides.{nat_tests}
-use Rattle.std.specs.Prelude.{◌⊎◌, ◌==◌, if◌then◌else◌, nat_lt}
+use Rattle.std.specs.Prelude.{◌==◌, if◌then◌else◌, nat_lt}
 use Rattle.std.specs.FinMap.{empty}
 use Rattle.std.specs.List.{AllByRecursion}
 use Rattle.alt_fields.proofs.Apart.{all_append, all_front, all_back}
@@ -10,9 +9,8 @@ use Rattle.alt_writes.specs.Writes.{Write}
 use Rattle.alt_manifest.specs.Versions.{AreDistinct, IsIn, IsFamily, IsVersion, RiseFrom, files_named, numbers_of, row_files}
 use Rattle.alt_manifest.specs.declared.version.FamilyVersion.{FamilyVersion}
 use Rattle.alt_manifest.specs.declared.version.Version.{Version}
-use Rattle.alt_layout.specs.Families.{Held, flushed_of, files_of, with_later, next_after, family_rows, joined_files, layout_of}
-use Rattle.alt_layout.specs.Files.{Image, AreRowFiles, Stored, all_of}
-use Rattle.alt_layout.specs.Layout.{Layout, RowMap}
+use Rattle.alt_layout.specs.Families.{Held, flushed_of, files_of, with_later, next_after, family_rows, joined_files}
+use Rattle.alt_layout.specs.Files.{Image, AreRowFiles, Stored}
 use Rattle.alt_layout.proofs.RowLaws.{with_later-none}
 use Rattle.alt_layout.proofs.FlushLaws.{count_numbers, differs, numbers_fit, rise_count}
 use Rattle.alt_flush.specs.Drafts.{with_none, without}

@@ -1,5 +1,5 @@
 -- A draft over a new segment, once no family has rows in memory: it is a version, and its layout is the one before.
-use Rattle.std.proofs.Common.{◌≡◌, ◌<◌, ◌≤◌, ◌+◌, ◌^◌, ℕ, Bool, true, false, List, [], ◌∷◌, ◌++◌, length, refl, sym, ap, subst, ◌∙◌, arith, eqb-true}
+use Rattle.std.proofs.Common.{◌≡◌, ◌<◌, ◌≤◌, ◌+◌, ◌^◌, ℕ, Bool, true, false, List, [], ◌∷◌, ◌++◌, refl, sym, ap, subst, ◌∙◌, arith, eqb-true}
 use Rattle.std.specs.Prelude.{◌==◌, if◌then◌else◌}
 use Rattle.std.specs.FinMap.{empty}
 use Rattle.std.specs.List.{AllByRecursion}
@@ -11,7 +11,7 @@ use Rattle.alt_writes.specs.Writes.{Write}
 use Rattle.alt_manifest.specs.Versions.{AreDistinct, IsFamily, IsIn, IsVersion, RiseFrom, files_named, numbers_of, row_files}
 use Rattle.alt_manifest.specs.declared.version.FamilyVersion.{FamilyVersion}
 use Rattle.alt_manifest.specs.declared.version.Version.{Version}
-use Rattle.alt_layout.specs.Families.{Held, flushed_of, files_of, with_later, next_after, family_rows, joined_files, layout_of}
+use Rattle.alt_layout.specs.Families.{Held, flushed_of, files_of, with_later, next_after, joined_files, layout_of}
 use Rattle.alt_layout.specs.Files.{Image, AreRowFiles, Stored, all_of}
 use Rattle.alt_layout.proofs.FamilyLaws.{same_layouts}
 use Rattle.alt_layout.proofs.FlushLaws.{above_all, all_later, count_numbers, differs, numbers_fit, rise_count}

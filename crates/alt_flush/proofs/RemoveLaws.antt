@@ -1,15 +1,14 @@
 -- Files that are looked for among those that a version names, and removed one by one.
-use Rattle.std.proofs.Common.{◌≡◌, ◌≢◌, ◌<◌, ◌+◌, ⊎_elim, inl, inr, ℕ, Bool, true, false, List, [], ◌∷◌, ◌++◌, length, take, drop, get_or, Option, suc, zero, refl, sym, ap, subst, ◌∙◌}
+use Rattle.std.proofs.Common.{◌≡◌, ◌≢◌, ◌<◌, ◌+◌, ⊎_elim, inl, inr, ℕ, Bool, List, [], ◌∷◌, ◌++◌, length, take, drop, get_or, Option, suc, zero, refl, sym, ap, subst, ◌∙◌}
 use Rattle.std.proofs.lemmas.List.{drop_more, take_more}
 use Rattle.std.specs.Prelude.{◌⊎◌}
 use Rattle.alt_disk.specs.Disk.{DiskState, Call, Removed}
 use Rattle.alt_disk.specs.Runs.{Spans}
 use Rattle.alt_disk.proofs.Runs.{quiet_spans, quiet_start, run_spans, spans_on, spans_weaker}
 use Rattle.alt_layout.specs.Files.{IsOf}
-use Rattle.alt_layout.specs.Fresh.{versions_file}
-use Rattle.alt_layout.proofs.FileLaws.{in_back, in_either, in_front}
+use Rattle.alt_layout.proofs.FileLaws.{in_either}
 use Rattle.alt_layout.proofs.MomentLaws.{removal, same_or_not}
-use Rattle.alt_manifest.specs.Versions.{IsIn, files_named, row_files}
+use Rattle.alt_manifest.specs.Versions.{IsIn, row_files}
 use Rattle.alt_manifest.specs.declared.version.FamilyVersion.{FamilyVersion}
 use Rattle.alt_manifest.specs.declared.version.Version.{Version}
 use Rattle.alt_flush.specs.Drafts.{IsLeftOver}
@@ -24,13 +23,13 @@ row_files_at fs i f within at = ap row_files (drop_more fs i f within)
 
 -- an item of a list is in it
 pub in_at : (xs : List ℕ) (i : ℕ) → i < length xs → IsIn xs (get_or xs i 0)
-in_at xs i within = in_drop xs i (subst (λ ys. IsIn ys (get_or xs i 0))
+in_at xs i within = in_drop (get_or xs i 0) xs i (subst (λ ys. IsIn ys (get_or xs i 0))
     (sym (drop_more xs i 0 within)) (inl refl))
   where
-    in_drop : {n : ℕ} (xs : List ℕ) (i : ℕ) → IsIn (drop i xs) n → IsIn xs n
-    in_drop xs zero there = there
-    in_drop [] (suc i) there = there
-    in_drop (y ∷ xs) (suc i) there = inr (in_drop xs i there)
+    in_drop : (n : ℕ) (xs : List ℕ) (i : ℕ) → IsIn (drop i xs) n → IsIn xs n
+    in_drop n xs zero there = there
+    in_drop n [] (suc i) there = there
+    in_drop n (y ∷ xs) (suc i) there = inr (in_drop n xs i there)
 
 -- the numbers so far, with one more
 pub in_more : (xs : List ℕ) (i n : ℕ) → i < length xs → IsIn (take (i + 1) xs) n

@@ -1,5 +1,5 @@
 -- A family more.
-use Rattle.std.proofs.Common.{◌+◌, ℕ, drop, subst, sym}
+use Rattle.std.proofs.Common.{◌+◌, drop, subst, sym}
 use Rattle.alt_layout.proofs.FileLaws.{in_back, in_either, in_front}
 use Rattle.alt_manifest.proofs.RuleLaws.{tells_no, tells_yes}
 use Rattle.alt_manifest.specs.Versions.{IsIn, row_files}

@@ -1,5 +1,5 @@
 -- Test by test.
-use Rattle.std.proofs.Common.{◌≡◌, ⊎_elim, inl, inr, ℕ, subst, rules}
+use Rattle.std.proofs.Common.{◌≡◌, ⊎_elim, inr, subst, rules}
 use Rattle.alt_layout.specs.Files.{IsOf}
 use Rattle.alt_layout.specs.Fresh.{versions_file}
 use Rattle.alt_layout.proofs.FileLaws.{in_back, in_either, in_front}

@@ -27,7 +27,6 @@ use Rattle.alt_shape.specs.Refusals.{Answer, answer_of, refused, IsKnown}
 use Rattle.alt_shape.specs.declared.refusal.Refusal.{Refusal}
 use Rattle.alt_shape.specs.declared.refusal.Reply.{Reply}
 use Rattle.alt_tables.specs.Faults.{AreMade, BreakOff, IsReadFault, IsFindFault}
-use Rattle.alt_tables.proofs.Making.{none_made}
 use Rattle.alt_tables.specs.Stands.{Stands, catalog_of}
 use Rattle.alt_tables.specs.declared.tables.Tables.{Tables}
 use Rattle.alt_schema.specs.declared.schema.TableSchema.{TableSchema}
@@ -44,7 +43,7 @@ does_say now answer s (Err (Refused q)) h stands = record {
   unwritten = refl;
 }
 does_say now answer s (Err (Fault f)) h stands =
-    subst (λ g. Does now s (says answer) (Err (Fault g))) (sym h) (0, none_made [], refl, stands)
+    subst (λ g. Does now s (says answer) (Err (Fault g))) (sym h) tt
 
 -- a fault before anything was written
 pub unread : (now : State → Type 0) (s : State) (outcome : Outcome) (f : TableFault)
@@ -53,7 +52,7 @@ unread now s outcome (Spent n) known stands = absurd known
 unread now s outcome (Damaged file at) known stands = absurd known
 unread now s outcome (BadRow family key) known stands = absurd known
 unread now s outcome Failed known stands = tt
-unread now s outcome NoMemory known stands = (0, none_made outcome.atoms, refl, stands)
+unread now s outcome NoMemory known stands = tt
 
 -- a reply with an answer, or want of memory for it, says that answer
 pub says_so : (a : Answer) (r : Result Reply Stop) → IfOk r (λ reply. answer_of reply ≡ a)
@@ -87,7 +86,7 @@ module _ (outcome : State → Outcome) (old now : State → Type 0) where
   faulted (BadRow family key) known stays = absurd known
   faulted Failed known stays = absurd known
   faulted NoMemory known stays = record {
-    does = λ s stands. (0, none_made (outcome s).atoms, refl, stays s stands);
+    does = λ s stands. tt;
     plain = tt;
   }
 
@@ -105,7 +104,7 @@ module _ (outcome : State → Outcome) (old now : State → Type 0) where
   }
   unfound Failed known stays = record { does = λ s stands. tt; plain = tt }
   unfound NoMemory known stays = record {
-    does = λ s stands. (0, none_made (outcome s).atoms, refl, stays s stands);
+    does = λ s stands. tt;
     plain = tt;
   }
 

@@ -11,10 +11,10 @@ use Rattle.alt_machine.specs.declared.Expressions.{Expressions}
 use Rattle.alt_machine.specs.declared.Sought.{Sought}
 use Rattle.alt_machine.specs.Expressions as machine
 use Rattle.alt_machine.specs.Members.{table_name}
-use Rattle.alt_machine.specs.Outcomes.{Outcome}
+use Rattle.alt_machine.specs.Outcomes.{Outcome, Wants}
 use Rattle.alt_machine.specs.State.{State, Table, Texts, new_table}
 use Rattle.alt_machine.specs.Targets.{on_item}
-use Rattle.alt_request.specs.Carried.{IfRefused, IfFailed, WhereFailed, Moves}
+use Rattle.alt_request.specs.Carried.{IfRefused, IfFailed, IfWanting, WhereFailed, WhereWanting, Moves}
 use Rattle.alt_request.specs.Steps.{IsMemory, Tested}
 use Rattle.alt_request.specs.Targets.{OnTable, OnItem, IsAt}
 use Rattle.alt_request.proofs.Carrying.{item_reached}
@@ -25,14 +25,15 @@ use Rattle.alt_request.specs.declared.targets.Target.{Target}
 use Rattle.alt_schema.specs.declared.schema.TableSchema.{TableSchema}
 use Rattle.alt_shape.specs.Refusals.{Answer}
 use Rattle.alt_shape.specs.declared.refusal.Reply.{Reply}
-use Rattle.alt_tables.specs.Faults.{IsReadFault}
+use Rattle.alt_tables.specs.Faults.{IsReadFault, WantsMemory}
 use Rattle.alt_tables.specs.declared.faults.TableFault.{TableFault}
 use Rattle.alt_tables.specs.declared.faults.TableFault.TheVariants.{Spent, Damaged, BadRow, Failed, NoMemory}
 use Rattle.alt_tables.specs.Images.{Leaves}
 use Rattle.alt_tables.specs.Stands.{Stands, Reads, catalog_of}
 use Rattle.alt_tables.specs.declared.tables.Tables.{Tables}
 use Rattle.alt_value.specs.Tree.{Pair}
-use Rattle.alt_tables.proofs.Left.{reads_nothing, leaves_reads, leaves_after}
+use Rattle.alt_tables.proofs.Behind.{wants_none}
+use Rattle.alt_tables.proofs.Left.{reads_nothing, leaves_reads, leaves_after, reads_lasts}
 
 -- ---- what didn't fail
 
@@ -108,6 +109,38 @@ refused_by (Ok reply) P p = tt
 refused_by (Err (Refused r)) P p = p
 refused_by (Err (Fault f)) P p = tt
 
+-- ---- what is left where memory was wanting
+
+wanting_in : (f : TableFault) (P : Type 0) → P → WhereWanting f P
+wanting_in (Spent n) P p = tt
+wanting_in (Damaged file at) P p = tt
+wanting_in (BadRow family key) P p = tt
+wanting_in Failed P p = tt
+wanting_in NoMemory P p = p
+
+-- every result allows what is true
+pub wanting_by : (r : Result Reply Stop) (P : Type 0) → P → IfWanting r P
+wanting_by (Ok reply) P p = tt
+wanting_by (Err (Refused r)) P p = tt
+wanting_by (Err (Fault f)) P p = wanting_in f P p
+
+-- and a fault what is true where memory was wanting
+pub wanting_fault : {A : Type 0} (f : TableFault) (P : Type 0)
+    → (IsErrOf {T = A} (Err f) NoMemory → P) → WhereWanting f P
+wanting_fault (Spent n) P h = tt
+wanting_fault (Damaged file at) P h = tt
+wanting_fault (BadRow family key) P h = tt
+wanting_fault Failed P h = tt
+wanting_fault NoMemory P h = h refl
+
+-- a write that wanted memory made no call of the disk, and so the disk stands for what it stood for before it
+pub unwritten_wants : (before read after : DiskState) (tables : Tables) (s : State) (wants : Wants)
+    (atoms : List State) → Reads before read → Stands before tables s → after ≡ read
+    → WantsMemory after wants s atoms
+unwritten_wants before read after tables s wants atoms reads stands same =
+    subst (λ (d : DiskState). WantsMemory d wants s atoms) (sym same)
+    (wants_none read wants s atoms (reads_lasts before read tables s reads stands))
+
 module _ (outcome : State → Outcome) (old : State → Type 0) (tables : Tables) (before : DiskState)
     (stood : (s : State) → old s → Stands before tables s) where
   -- calls that read alone
@@ -118,19 +151,25 @@ module _ (outcome : State → Outcome) (old : State → Type 0) (tables : Tables
     leaves = λ s h. leaves_reads before after tables s (outcome s).atoms reads (stood s h);
     refused = refused_by r _ reads.quiet;
     failed = failed;
+    wanting = λ s h. wanting_by r _ (wants_none after (outcome s).wants s (outcome s).atoms
+        (reads_lasts before after tables s reads (stood s h)));
   }
 
   -- writes behind calls that read
   pub writes_move : (read after : DiskState) (r : Result Reply Stop) → Reads before read
       → Goes read after → ((s : State) → old s → Leaves read after s (outcome s).atoms)
       → IfRefused r (IsTrue before.tells → Quiet before after)
-      → IfFailed r (Rose read.faults after.faults) → Moves outcome old before after r
-  writes_move read after r reads goes leaves refused failed = record {
+      → IfFailed r (Rose read.faults after.faults)
+      → ((s : State) → old s
+      → IfWanting r (WantsMemory after (outcome s).wants s (outcome s).atoms))
+      → Moves outcome old before after r
+  writes_move read after r reads goes leaves refused failed wanting = record {
     goes = goes_on before read after reads.goes goes;
     leaves = λ s h. leaves_after before read after tables s (outcome s).atoms reads (stood s h)
         (leaves s h);
     refused = refused;
     failed = failed_on r _ _ (rose_on before read after reads.goes) failed;
+    wanting = wanting;
   }
 
 module _ (outcome : State → Outcome) (tables : Tables) (before : DiskState) where
@@ -184,4 +223,9 @@ module _ (before after : DiskState) (tables : Tables) (tests : List (Option Answ
             (sym (at.3 ∙ so s at.0 at.2)) ((moves at.0).leaves s (stands, at.1));
         refused = any.refused;
         failed = any.failed;
+        wanting = λ s stands.
+            let at = item_reached before tables tests ms outcome sought texts go is target h s
+            stands in
+            subst (λ (o : Outcome). IfWanting r (WantsMemory after o.wants s o.atoms))
+            (sym (at.3 ∙ so s at.0 at.2)) ((moves at.0).wanting s (stands, at.1));
       }

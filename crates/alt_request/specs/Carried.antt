@@ -14,7 +14,7 @@ use Rattle.alt_shape.specs.Body.{body_json}
 use Rattle.alt_shape.specs.Refusals.{Answer, answer_of, refused, IsKnown}
 use Rattle.alt_shape.specs.declared.refusal.Refusal.{Refusal}
 use Rattle.alt_shape.specs.declared.refusal.Reply.{Reply}
-use Rattle.alt_tables.specs.Faults.{BreakOff}
+use Rattle.alt_tables.specs.Faults.{BreakOff, WantsMemory}
 use Rattle.alt_tables.specs.declared.faults.TableFault.{TableFault}
 use Rattle.alt_tables.specs.declared.faults.TableFault.TheVariants.{Spent, Damaged, BadRow, Failed, NoMemory}
 
@@ -79,12 +79,28 @@ IfFailed (Ok reply) P = Unit {0}
 IfFailed (Err (Refused r)) P = Unit {0}
 IfFailed (Err (Fault fault)) P = WhereFailed fault P
 
+-- of want of memory this holds
+abbrev pub WhereWanting : TableFault → Type 0 → Type 0
+WhereWanting (Spent number) P = Unit {0}
+WhereWanting (Damaged file at) P = Unit {0}
+WhereWanting (BadRow family key) P = Unit {0}
+WhereWanting Failed P = Unit {0}
+WhereWanting NoMemory P = P
+
+-- so of what stopped an operation
+abbrev pub IfWanting : Result Reply Stop → Type 0 → Type 0
+IfWanting (Ok reply) P = Unit {0}
+IfWanting (Err (Refused r)) P = Unit {0}
+IfWanting (Err (Fault fault)) P = WhereWanting fault P
+
 -- What a call does to the disk that carries a request out, which has this outcome in each state for which the tables stood: it leaves
--- what the writes of the request leave, or the first of them; a refusal leaves every file, where the disk tells them; and the device
--- failed only where the count of its faults rose.
+-- what the writes of the request leave, or the first of them; a refusal leaves every file, where the disk tells them; the device
+-- failed only where the count of its faults rose; and where memory was wanting the disk stands for the state after some of the writes.
 pub record Moves (outcome : State → Outcome) (old : State → Type 0) (before after : DiskState)
     (result : Result Reply Stop) : Type 0 where
   pub goes : Goes before after
   pub leaves : (s : State) → old s → Leaves before after s (outcome s).atoms
   pub refused : IfRefused result (IsTrue before.tells → Quiet before after)
   pub failed : IfFailed result (Rose before.faults after.faults)
+  pub wanting : (s : State) → old s
+      → IfWanting result (WantsMemory after (outcome s).wants s (outcome s).atoms)

@@ -145,7 +145,7 @@ returns-in-Err-write g c = record {
       (λ s h. c.in-Err-write.ensures.disk s t ((c.in-Ok.ensures.stays s).0 h.0) (there s h))
       c.in-Err-write.fault
       (λ s h. c.in-Err-write.ensures.writes s t ((c.in-Ok.ensures.stays s).0 h.0) (there s h))
-      c.in-Err-write.ensures.cause;
+      c.in-Err-write.ensures.cause c.in-Err-write.ensures.no_memory;
 }
 
 pub write-requires-clause-ready : goal.write-requires-clause-ready

@@ -1,9 +1,14 @@
 pub mod ApplyLaws
-pub mod FlushedLaws
+pub mod DeadLaws
+pub mod FlushesLaws
 pub mod FoundLaws
 pub mod Fresh
 pub mod HandLaws
 pub mod KeepLaws
+pub mod MakesLaws
+pub mod NeedLaws
 pub mod OpenLaws
+pub mod PublishLaws
 pub mod RecoverLaws
 pub mod SyncLaws
+pub mod WorkLaws

@@ -1,3 +1,5 @@
+pub mod Drafting
+pub mod Faults
 pub mod Found
 pub mod InHand
 pub mod Laws

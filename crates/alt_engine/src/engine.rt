@@ -59,6 +59,20 @@ impl From<SourceFault> for EngineFault {
     }
 }
 
+impl From<DiskFault> for EngineFault {
+    ghost use Rattle.std.specs.Prelude.{◌≡◌};
+    ghost use Rattle.alt_engine.specs.Faults.{of_disk};
+
+    ghost from_gives = { λ fault f. f ≡ of_disk fault };
+
+    fn from(fault: DiskFault) -> Self {
+        match fault {
+            DiskFault::Failed => EngineFault::Failed,
+            DiskFault::NoMemory => EngineFault::NoMemory,
+        }
+    }
+}
+
 /// From how many bytes on a family is flushed, and from how many files on merged.
 #[derive(Clone, Copy, Debug, PartialEq, Eq, Drop)]
 pub struct Limits {

@@ -1,6 +1,6 @@
 //! What follows of engines in hand from their definitions.
 
-ghost use Rattle.alt_engine.specs.Laws.{EnginesArePast, FilesHold, InEachImage, MayFlush, ReadsQuiet, StandsFlushed, StaysQuiet, WritesImages};
+ghost use Rattle.alt_engine.specs.Laws.{EnginesArePast, FilesHold, InEachImage, ReadsQuiet, StaysQuiet, WritesImages};
 
 /// An engine in hand is that of what the files hold, each stop leaves that, it stays so while calls leave every file, and while a
 /// batch is added each image has it or hasn't.
@@ -11,6 +11,4 @@ pub fn hand_laws()
     ensures reads_quiet { ReadsQuiet }
     ensures stays_quiet { StaysQuiet }
     ensures writes { WritesImages }
-    ensures may_flush { MayFlush }
-    ensures flushed { StandsFlushed }
 {}

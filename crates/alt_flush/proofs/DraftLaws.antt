@@ -29,7 +29,7 @@ use Rattle.alt_layout.proofs.FileLaws.{in_back, stored_on}
 use Rattle.alt_layout.proofs.FlushLaws.{above_all, all_later, flush_same, named_with, next_after-stays, stored_with, version_with_is}
 use Rattle.alt_layout.proofs.MomentLaws.{layout_where, lies_on, lies_version, spans_version}
 use Rattle.alt_layout.proofs.PastLaws.{none_below, with_later-past}
-use Rattle.alt_flush.specs.Drafts.{Drafted, over_new_log, renumbered, with_flush, without}
+use Rattle.alt_flush.specs.Drafts.{Drafted, From, over_new_log, renumbered, with_flush, without}
 use Rattle.alt_flush.proofs.DropLaws.{named_without, without_is, without_stored}
 use Rattle.alt_flush.proofs.NewLogLaws.{named_new_log, new_log_is, new_log_stored}
 
@@ -118,7 +118,7 @@ without_drafted s u family held parts drafted fits = record {
 -- ---- a file more
 
 -- a file that stays keeps what it reads as, and so it lasts
-settled_on : (a b : DiskState) (f g : ℕ) (P : ℕ → Option (List ℕ) → Type 0) → Run a b f P → g ≢ f
+pub settled_on : (a b : DiskState) (f g : ℕ) (P : ℕ → Option (List ℕ) → Type 0) → Run a b f P → g ≢ f
     → IsSettled a g → IsSettled b g
 settled_on a b f g P run other settled left fits =
     settled left (subst (λ (x : Fates). Fits x left)
@@ -128,7 +128,7 @@ module _ (a b : DiskState) (u : Version) (held : Held) (parts : List (List Write
     (P : ℕ → Option (List ℕ) → Type 0) (drafted : Drafted a u held parts)
     (run : Run a b u.next_file P) where
   -- a file that it names isn't the new one
-  old_file : (g : ℕ) → IsIn (files_named u) g → g ≢ u.next_file
+  pub old_file : (g : ℕ) → IsIn (files_named u) g → g ≢ u.next_file
   old_file g there same = above_all (files_named u) u.next_file drafted.is.below
       (subst (IsIn (files_named u)) same there)
 
@@ -224,29 +224,26 @@ new_log_drafted a b u held parts P log drafted room run log_is stands = record {
   next = refl;
 }
 
--- ---- the last version, while drafts are made
+-- ---- the last version, while other files are touched
 
--- Calls that touch files from the next one on alone.
-abbrev pub From : ℕ → ℕ → Type 0
-From file g = file ≤ g
+-- calls from a file on that isn't below the next one touch none of the store's
+pub from_untouched : (v : Version) (file : ℕ) → IsVersion v → v.next_file ≤ file → (g : ℕ)
+    → IsOf v g → From file g → ⊥
+from_untouched v file is free g of low = let two = next_above v is in ⊎_elim
+    (λ (first : g ≡ versions_file). omega (arith, two, first, low, free))
+    (λ (there : IsIn (files_named v) g). above_all (files_named v) g
+    (all_later (files_named v) v.next_file g (omega (arith, low, free)) is.below) there) of
 
-module _ (a b : DiskState) (v : Version) (held : Held) (parts : List (List Write)) (file : ℕ)
-    (P : ℕ → (ℕ → Option (List ℕ)) → Type 0) (lies : Lies a v held parts)
-    (free : v.next_file ≤ file) (spans : Spans a b (From file) P) where
-  -- none of the store's files is touched
-  untouched : (g : ℕ) → IsOf v g → From file g → ⊥
-  untouched g of low = let two = next_above v lies.last.is in ⊎_elim
-      (λ (first : g ≡ versions_file). omega (arith, two, first, low, free))
-      (λ (there : IsIn (files_named v) g). above_all (files_named v) g
-      (all_later (files_named v) v.next_file g (omega (arith, low, free)) lies.last.is.below) there) of
-
+module _ (a b : DiskState) (v : Version) (held : Held) (parts : List (List Write))
+    (touched : ℕ → Type 0) (P : ℕ → (ℕ → Option (List ℕ)) → Type 0) (lies : Lies a v held parts)
+    (untouched : (g : ℕ) → IsOf v g → touched g → ⊥) (spans : Spans a b touched P) where
   -- the store lies as it lay
   pub lies_still : Lies b v held parts
   lies_still = lies_on a b v held parts lies (λ g of. spans.file g (untouched g of))
       (λ g of. spans.fates b.moment g (untouched g of) spans.later (omega arith))
 
   -- and each image on the way has its layout
-  pub layout_still : Spans a b (From file) (Has (layout_of v held (all_of parts)))
+  pub layout_still : Spans a b touched (Has (layout_of v held (all_of parts)))
   layout_still = record {
     later = spans.later;
     past = spans.past;
@@ -257,23 +254,26 @@ module _ (a b : DiskState) (v : Version) (held : Held) (parts : List (List Write
         (spans.fates t g (untouched g of) low high) (is_image g)));
   }
 
-  -- the log of the versions stands as it stood
-  pub manifest_still : (m : Manifest) → file_of m ≡ versions_file → Stands a m → Stands b m
-  manifest_still m first stands = record {
-    reads = record {
-      before = stands.reads.before;
-      log = reads_stays a b m.log _ same stands.reads.log;
-      is = stands.reads.is;
-    };
-    settled = λ left fits. stands.settled left (subst (λ (x : Fates). Fits x left)
-        (spans.fates b.moment (file_of m) not_it spans.later (omega arith)) fits) ∙ sym same;
-  }
-    where
-      not_it : From file (file_of m) → ⊥
-      not_it low = untouched (file_of m) (inl first) low
+-- a file that isn't touched stays settled
+pub settled_beside : (a b : DiskState) (touched : ℕ → Type 0)
+    (P : ℕ → (ℕ → Option (List ℕ)) → Type 0) → Spans a b touched P → (g : ℕ) → (touched g → ⊥)
+    → IsSettled a g → IsSettled b g
+settled_beside a b touched P spans g not_it settled left fits =
+    settled left (subst (λ (x : Fates). Fits x left)
+    (spans.fates b.moment g not_it spans.later (omega arith)) fits) ∙ sym (spans.file g not_it)
 
-      same : b.file (file_of m) ≡ a.file (file_of m)
-      same = spans.file (file_of m) not_it
+-- the log of the versions stands as it stood
+pub manifest_still : (a b : DiskState) (touched : ℕ → Type 0)
+    (P : ℕ → (ℕ → Option (List ℕ)) → Type 0) → Spans a b touched P → (m : Manifest)
+    → (touched (file_of m) → ⊥) → Stands a m → Stands b m
+manifest_still a b touched P spans m not_it stands = record {
+  reads = record {
+    before = stands.reads.before;
+    log = reads_stays a b m.log _ (spans.file (file_of m) not_it) stands.reads.log;
+    is = stands.reads.is;
+  };
+  settled = settled_beside a b touched P spans (file_of m) not_it stands.settled;
+}
 
 -- ---- the version
 

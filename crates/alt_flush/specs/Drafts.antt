@@ -72,7 +72,11 @@ over_new_log u = record {
   families = with_files u.families;
 }
 
--- ---- What is left over.
+-- ---- What is touched, and what is left over.
+
+-- The file is this one or a later one.
+abbrev pub From : ℕ → ℕ → Type 0
+From file g = file ≤ g
 
 -- One of these files that doesn't belong to the store of this version.
 abbrev pub IsLeftOver : List ℕ → Version → ℕ → Type 0

@@ -130,12 +130,7 @@ fn put_new(
 }
 
 /// Puts a family without files at the end.
-fn put_none(
-    alloc: Global,
-    out: &mut FamilyList,
-    family: u32,
-    flushed: u64,
-) -> Result<(), NoMemory>
+fn put_none(alloc: Global, out: &mut FamilyList, family: u32, flushed: u64) -> Result<(), NoMemory>
     ensures { OnOk result (out.new ≡ out.old
         ++ (record { family = family; flushed = flushed; files = [] }) ∷ []) }
 {

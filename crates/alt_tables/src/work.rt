@@ -29,7 +29,8 @@ impl Tables {
 
         // After a step the entries of the log are fewer than 16 times the bytes at which a family is flushed; after a flush of all there
         // are none.
-        ensures step { task ≡ Task.Step → OnOk result (IsTrusted (D.state disk.old) → (n : ℕ)
+        ensures step { task ≡ Task.Step → 0 < (limits_of self.old).flush
+            → OnOk result (IsTrusted (D.state disk.old) → (n : ℕ)
             → HasEntries (D.state disk.new).file n → n < 16 * (limits_of self.old).flush) }
         ensures flush_all { task ≡ Task.FlushAll → OnOk result (IsTrusted (D.state disk.old)
             → (n : ℕ) → HasEntries (D.state disk.new).file n → n ≡ 0) }

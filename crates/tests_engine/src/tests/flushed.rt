@@ -6,16 +6,16 @@ ghost use Rattle.tests_engine.specs.Ready.{IsReady};
 
 use crate::tests::written::{Write, opened, put, shows, written};
 use alt_disk::{Disk, MemoryDisk};
-use alt_engine::Engine;
+use alt_engine::{Engine, Task};
 use std::alloc::Global;
 
-// Puts the rows of family 7 into a file.
+// Puts the rows of family 7 into a file, under a new and empty log.
 fn flush(engine: &mut Engine, disk: &mut MemoryDisk) -> Option<()>
     requires { IsReady (state_of disk.old) engine.old }
     ensures { IfSome result (λ _. IsReady (state_of disk.new) engine.new) }
 {
-    match engine.flush_one(disk, 7) {
-        Ok(()) => Some(()),
+    match engine.work(disk, Task::FlushAll, &[0, 7]) {
+        Ok(_) => Some(()),
         Err(_) => None,
     }
 }

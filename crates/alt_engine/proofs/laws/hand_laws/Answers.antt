@@ -1,6 +1,5 @@
 -- The laws of engines in hand.
 use Rattle.alt_engine.proofs.HandLaws.{each_image, files_hold, reads_past, reads_quiet, stays_quiet, write_images}
-use Rattle.alt_engine.proofs.FlushedLaws.{flushing, with_flush}
 use Rattle.alt_engine.proofs.laws.hand_laws.Goals as goal
 
 pub returns : goal.returns
@@ -11,6 +10,4 @@ returns c = record {
   reads_quiet = reads_quiet;
   stays_quiet = stays_quiet;
   writes = write_images;
-  may_flush = flushing;
-  flushed = with_flush;
 }

@@ -1,108 +1,159 @@
--- A file more, and the version that names it.
-use Rattle.std.proofs.Common.{rules, refl, ap, subst, ◌∙◌}
-use Rattle.std.specs.Option.{IsSome}
+-- A draft with the family's file, and then the version.
+use Rattle.std.proofs.Common.{◌≡◌, sym, ap, subst, ◌∙◌, arith, rules}
+use Rattle.std.proofs.lemmas.Result.{on_ok_weaker}
 use Rattle.alt_disk.specs.Disk.{DiskState}
-use Rattle.alt_flush.specs.Flushing.{IsFlushOf}
-use Rattle.alt_layout.specs.Flushes.{version_with}
+use Rattle.alt_disk.specs.Runs.{Spans}
+use Rattle.alt_disk.proofs.Runs.{trusted_back, trusted_on}
+use Rattle.alt_flush.specs.Drafts.{From, renumbered}
+use Rattle.alt_flush.proofs.RemoveLaws.{none_removed}
+use Rattle.alt_manifest.specs.InHand.{version_of}
 use Rattle.alt_manifest.specs.declared.version.Version.{Version}
-use Rattle.alt_engine.proofs.FlushedLaws.{flush_has, flushed_of_hand, flushing_of, has_next, rest_has, version_is}
+use Rattle.alt_engine.specs.Drafting.{IsFlushed, files_for}
+use Rattle.std.specs.BTreeMap.{get}
+use Rattle.std.specs.FinMap.{entries}
+use Rattle.std.specs.Ordering.{nat_cmp}
+use Rattle.alt_families.specs.Families.{Families, rows_in}
+use Rattle.alt_engine.proofs.FlushesLaws.{begun, one_empty, lying, made, making, ready_same}
 use Rattle.alt_engine.proofs.engine.Engine.flush_one.Goals as goal
 
-pub returns-then-self-clause-any_moment : goal.returns-then-self-clause-any_moment
-returns-then-self-clause-any_moment g c trusted l stands =
-    rest_has (g.D.Disk.state c.args.disk.now) c.args.self.now l (IsFlushOf c.args.self.now.next_file)
-    stands
-
-pub returns-in_err-version-clause-any_moment : goal.returns-in_err-version-clause-any_moment
-returns-in_err-version-clause-any_moment g c trusted l stands =
-    rest_has (g.D.Disk.state c.args.disk.now) c.args.self.now l (IsFlushOf c.args.self.now.next_file)
-    stands
-
-pub returns-in-None-clause-any_moment : goal.returns-in-None-clause-any_moment
-returns-in-None-clause-any_moment g c trusted l stands =
-    rest_has (g.D.Disk.state c.args.disk.now) c.args.self.now l (IsFlushOf c.args.self.now.next_file)
-    stands
-
-pub flush_family-requires-clause-flushing : goal.flush_family-requires-clause-flushing
-flush_family-requires-clause-flushing g c trusted =
-    let s : DiskState = g.D.Disk.state c.args.disk.now in
+pub returns-in_err-first-clause-any_moment : goal.returns-in_err-first-clause-any_moment
+returns-in_err-first-clause-any_moment g c trusted l stands =
+    let a : DiskState = g.D.Disk.state c.args.disk.now in
     let e = c.args.self.now in
-    let p = c.requires trusted in
-    let l = p.0 in
-    let stands = p.1 in (
-      stands.reads.held,
-      stands.reads.parts,
-      flushing_of s e l c.args.family stands
-          (has_next s e l c.args.family stands (search rules) (search rules)) c.in-Some.found.now c.in-Some.ensures.value,
-    )
+    let live = c.args.live.now in
+    making a a e l live stands (none_removed a (From e.next_file))
 
-pub flush_family-requires-clause-is : goal.flush_family-requires-clause-is
-flush_family-requires-clause-is g c trusted =
-    let s : DiskState = g.D.Disk.state c.args.disk.now in
+pub returns-in_err-alive-clause-any_moment : goal.returns-in_err-alive-clause-any_moment
+returns-in_err-alive-clause-any_moment g c trusted l stands =
+    let a : DiskState = g.D.Disk.state c.args.disk.now in
     let e = c.args.self.now in
-    let p = c.requires trusted in
-    let l = p.0 in
-    let stands = p.1 in
-    version_is s e l c.args.family stands (has_next s e l c.args.family stands (search rules) (search rules)) c.in-Some.found.now c.in-Some.ensures.value
-    c.in_ok-version.version (c.in_ok-version.ensures
-    ∙ ap (λ (v : Version). version_with v c.args.family e.next_file e.next) c.current.ensures)
+    let live = c.args.live.now in
+    making a a e l live stands (none_removed a (From e.next_file))
 
-pub returns-in_err-put_file-in-Ok-clause-any_moment : goal.returns-in_err-put_file-in-Ok-clause-any_moment
-returns-in_err-put_file-in-Ok-clause-any_moment g c trusted l stands =
-    let s : DiskState = g.D.Disk.state c.args.disk.now in
-    let e = c.args.self.now in
-    let has = has_next s e l c.args.family stands (search rules) (search rules) in
-    flush_has s e l c.args.family stands has c.in-Some.found.now c.in-Some.ensures.value
-    (g.D.Disk.state c.flush_family.new.disk) (c.flush_family.ensures.any_moment trusted
-    stands.reads.held stands.reads.parts (flushing_of s e l c.args.family stands has
-    c.in-Some.found.now c.in-Some.ensures.value))
+pub flush_rows-requires : goal.flush_rows-requires
+flush_rows-requires g c = record {
+  makes = λ trusted.
+      let a : DiskState = g.D.Disk.state c.args.disk.now in
+      let e = c.args.self.now in
+      let live = c.args.live.now in
+      let is : c.in_ok-first.first ≡ renumbered (version_of e.manifest) e.next_file e.next =
+      c.in_ok-first.ensures ∙ ap (λ (v : Version). renumbered v e.next_file e.next) c.current.ensures in
+      let given = c.requires.ready trusted in
+      let begins = begun a e given.0 live given.1 c.in_ok-first.first c.in_ok-alive.alive
+      c.leave_dead.new.families (search rules) is c.in_ok-alive.ensures.makes in
+      (given.1.reads.parts, begins.0, begins.1);
+}
 
-pub returns-in_ok-put_file-in-Ok-clause-any_moment : goal.returns-in_ok-put_file-in-Ok-clause-any_moment
-returns-in_ok-put_file-in-Ok-clause-any_moment g c trusted l stands =
-    let s : DiskState = g.D.Disk.state c.args.disk.now in
+pub returns-in_err-draft-clause-any_moment : goal.returns-in_err-draft-clause-any_moment
+returns-in_err-draft-clause-any_moment g c trusted l stands =
+    let a : DiskState = g.D.Disk.state c.args.disk.now in
     let e = c.args.self.now in
-    let has = has_next s e l c.args.family stands (search rules) (search rules) in
-    flush_has s e l c.args.family stands has c.in-Some.found.now c.in-Some.ensures.value
-    (g.D.Disk.state c.flush_family.new.disk) (c.flush_family.ensures.any_moment trusted
-    stands.reads.held stands.reads.parts (flushing_of s e l c.args.family stands has
-    c.in-Some.found.now c.in-Some.ensures.value))
+    let live = c.args.live.now in
+    let is : c.in_ok-first.first ≡ renumbered (version_of e.manifest) e.next_file e.next =
+    c.in_ok-first.ensures ∙ ap (λ (v : Version). renumbered v e.next_file e.next) c.current.ensures in
+    let start : c.in_ok-alive.alive.next_file ≡ e.next_file =
+    c.in_ok-alive.ensures.file ∙ ap (λ (v : Version). v.next_file) is in
+    making a (g.D.Disk.state c.flush_rows.new.disk) e l live stands
+    (subst (λ n. Spans a (g.D.Disk.state c.flush_rows.new.disk) (From n) (λ t image. Unit {0}))
+    start (c.in_err-draft.ensures.spans trusted))
 
-pub returns-in-Err-Failed-clause-any_moment : goal.returns-in-Err-Failed-clause-any_moment
-returns-in-Err-Failed-clause-any_moment g c trusted l stands =
-    let s : DiskState = g.D.Disk.state c.args.disk.now in
-    let e = c.args.self.now in
-    let has = has_next s e l c.args.family stands (search rules) (search rules) in
-    flush_has s e l c.args.family stands has c.in-Some.found.now c.in-Some.ensures.value
-    (g.D.Disk.state c.flush_family.new.disk) (c.flush_family.ensures.any_moment trusted
-    stands.reads.held stands.reads.parts (flushing_of s e l c.args.family stands has
-    c.in-Some.found.now c.in-Some.ensures.value))
+pub publish-requires : goal.publish-requires
+publish-requires g c = record {
+  ready = λ told.
+      let a : DiskState = g.D.Disk.state c.args.disk.now in
+      let e = c.args.self.now in
+      let live = c.args.live.now in
+      let b : DiskState = g.D.Disk.state c.flush_rows.new.disk in
+      let trusted = trusted_back a b c.in_ok-draft.ensures.goes told in
+      let is : c.in_ok-first.first ≡ renumbered (version_of e.manifest) e.next_file e.next =
+      c.in_ok-first.ensures ∙ ap (λ (v : Version). renumbered v e.next_file e.next) c.current.ensures in
+      let start : c.in_ok-alive.alive.next_file ≡ e.next_file =
+      c.in_ok-alive.ensures.file ∙ ap (λ (v : Version). v.next_file) is in
+      let given = c.requires.ready trusted in
+      let begins = begun a e given.0 live given.1 c.in_ok-first.first c.in_ok-alive.alive
+      c.leave_dead.new.families (search rules) is c.in_ok-alive.ensures.makes in (
+        begins.0,
+        ready_same a b e given.0 live given.1
+            (subst (λ n. Spans a b (From n) (λ t image. Unit {0})) start
+            (c.in_ok-draft.ensures.spans trusted)) c.in_ok-draft.draft c.flush_rows.new.families begins.0
+            (c.in_ok-draft.ensures.makes trusted given.1.reads.parts begins.0 begins.1) begins.2
+            (c.in_ok-draft.ensures.segments ∙ c.in_ok-alive.ensures.segments
+            ∙ ap (λ (v : Version). v.segments) is),
+      );
+}
 
-pub returns-in-Err-NoMemory-clause-any_moment : goal.returns-in-Err-NoMemory-clause-any_moment
-returns-in-Err-NoMemory-clause-any_moment g c trusted l stands =
-    let s : DiskState = g.D.Disk.state c.args.disk.now in
+pub returns-clause-ok : goal.returns-clause-ok
+returns-clause-ok g c = on_ok_weaker c.publish.result (λ all trusted l stands.
+    let a : DiskState = g.D.Disk.state c.args.disk.now in
     let e = c.args.self.now in
-    let has = has_next s e l c.args.family stands (search rules) (search rules) in
-    flush_has s e l c.args.family stands has c.in-Some.found.now c.in-Some.ensures.value
-    (g.D.Disk.state c.flush_family.new.disk) (c.flush_family.ensures.any_moment trusted
-    stands.reads.held stands.reads.parts (flushing_of s e l c.args.family stands has
-    c.in-Some.found.now c.in-Some.ensures.value))
+    let live = c.args.live.now in
+    let b : DiskState = g.D.Disk.state c.flush_rows.new.disk in
+    let is : c.in_ok-first.first ≡ renumbered (version_of e.manifest) e.next_file e.next =
+    c.in_ok-first.ensures ∙ ap (λ (v : Version). renumbered v e.next_file e.next) c.current.ensures in
+    let start : c.in_ok-alive.alive.next_file ≡ e.next_file =
+    c.in_ok-alive.ensures.file ∙ ap (λ (v : Version). v.next_file) is in
+    let begins = begun a e l live stands c.in_ok-first.first c.in_ok-alive.alive
+    c.leave_dead.new.families (search rules) is c.in_ok-alive.ensures.makes in (
+      begins.0,
+      all (trusted_on a b c.in_ok-draft.ensures.goes trusted) begins.0
+          (ready_same a b e l live stands (subst (λ n. Spans a b (From n) (λ t image. Unit {0})) start
+          (c.in_ok-draft.ensures.spans trusted)) c.in_ok-draft.draft c.flush_rows.new.families begins.0
+          (c.in_ok-draft.ensures.makes trusted stands.reads.parts begins.0 begins.1) begins.2
+          (c.in_ok-draft.ensures.segments ∙ c.in_ok-alive.ensures.segments
+          ∙ ap (λ (v : Version). v.segments) is)),
+      begins.2,
+    )) c.publish.ensures.ok
 
-pub returns-in_ok-put_file-in-Ok-clause-ok : goal.returns-in_ok-put_file-in-Ok-clause-ok
-returns-in_ok-put_file-in-Ok-clause-ok g c trusted l stands =
-    let s : DiskState = g.D.Disk.state c.args.disk.now in
+pub returns-clause-any_moment : goal.returns-clause-any_moment
+returns-clause-any_moment g c trusted l stands =
+    let a : DiskState = g.D.Disk.state c.args.disk.now in
     let e = c.args.self.now in
-    let has = has_next s e l c.args.family stands (search rules) (search rules) in
-    let found = c.in-Some.found.now in
-    let value = c.in-Some.ensures.value in
-    let begins = flushing_of s e l c.args.family stands has found value in
-    flushed_of_hand s e l c.args.family stands has found value (g.D.Disk.state c.flush_family.new.disk)
-    c.flush_family.new.manifest c.in-Ok.made (c.get_mut.follows.lender c.put_file.new.family)
-    c.in_ok-version.version c.put_file.new.family
-    (c.in_ok-version.ensures
-    ∙ ap (λ (v : Version). version_with v c.args.family e.next_file e.next) c.current.ensures)
-    c.in-Ok.ensures.version c.flush_family.ensures.manifest
-    (c.in-Ok.ensures.lies trusted stands.reads.held stands.reads.parts begins)
-    c.in-Ok.ensures.file (c.in-Ok.ensures.rows trusted)
-    (c.flush_family.ensures.any_moment trusted stands.reads.held stands.reads.parts begins)
-    ((c.get_mut.follows.holds c.put_file.new.family).3 (subst IsSome value refl)).0
-    c.in_ok-put_file-in-Ok.ensures.rows c.in_ok-put_file-in-Ok.ensures.files
+    let live = c.args.live.now in
+    let b : DiskState = g.D.Disk.state c.flush_rows.new.disk in
+    let is : c.in_ok-first.first ≡ renumbered (version_of e.manifest) e.next_file e.next =
+    c.in_ok-first.ensures ∙ ap (λ (v : Version). renumbered v e.next_file e.next) c.current.ensures in
+    let start : c.in_ok-alive.alive.next_file ≡ e.next_file =
+    c.in_ok-alive.ensures.file ∙ ap (λ (v : Version). v.next_file) is in
+    let begins = begun a e l live stands c.in_ok-first.first c.in_ok-alive.alive
+    c.leave_dead.new.families (search rules) is c.in_ok-alive.ensures.makes in
+    let spans : Spans a b (From e.next_file) (λ t image. Unit {0}) =
+    subst (λ n. Spans a b (From n) (λ t image. Unit {0})) start
+    (c.in_ok-draft.ensures.spans trusted) in
+    made a b (g.D.Disk.state c.publish.new.disk) l begins.0 live begins.2
+    (making a b e l live stands spans)
+    (c.publish.ensures.any_moment (trusted_on a b c.in_ok-draft.ensures.goes trusted) l begins.0
+    (lying a b e l live stands spans) (ready_same a b e l live stands spans c.in_ok-draft.draft
+    c.flush_rows.new.families begins.0
+    (c.in_ok-draft.ensures.makes trusted stands.reads.parts begins.0 begins.1) begins.2
+    (c.in_ok-draft.ensures.segments ∙ c.in_ok-alive.ensures.segments
+    ∙ ap (λ (v : Version). v.segments) is)))
+
+pub returns-clause-flushed : goal.returns-clause-flushed
+returns-clause-flushed g c =
+    let e = c.args.self.now in
+    let live = c.args.live.now in
+    let family = c.args.family in
+    let alive = c.leave_dead.new.families in
+    let after = c.flush_rows.new.families in
+    let last = c.publish.new.self.families in
+    let still : last ≡ after = c.publish.ensures.families in
+    let is : c.in_ok-first.first ≡ renumbered (version_of e.manifest) e.next_file e.next =
+    c.in_ok-first.ensures ∙ ap (λ (v : Version). renumbered v e.next_file e.next) c.current.ensures in
+    let start : c.in_ok-alive.alive.next_file ≡ e.next_file =
+    c.in_ok-alive.ensures.file ∙ ap (λ (v : Version). v.next_file) is in
+    let file = c.in_ok-draft.ensures.file in
+    let made = c.publish.ensures.file in
+    let own = c.in_ok-alive.ensures.lives family c.requires.live in
+    let same : files_for (entries (rows_in (get nat_cmp alive family)))
+    ≡ files_for (entries (rows_in (get nat_cmp e.families family))) =
+    ap (λ o. files_for (entries (rows_in o))) own in
+    on_ok_weaker c.publish.result (λ well. record {
+      it = subst (λ (fs : Families). IsFlushed (get nat_cmp e.families family)
+          (get nat_cmp fs family)) (sym still)
+          (subst (λ o. IsFlushed o (get nat_cmp after family)) own c.in_ok-draft.ensures.flushed);
+      lives = λ other there apart. ap (λ (fs : Families). get nat_cmp fs other) still
+          ∙ c.in_ok-draft.ensures.others other apart ∙ c.in_ok-alive.ensures.lives other there;
+      others = λ other. one_empty last after alive live family other still c.requires.live
+          c.in_ok-draft.ensures.others (c.in_ok-alive.ensures.rest other);
+      file = omega (arith, made, file, start, same);
+    }) c.publish.ensures.well

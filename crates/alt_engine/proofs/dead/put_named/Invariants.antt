@@ -1,0 +1,13 @@
+-- The families so far.
+use Rattle.std.proofs.Common.{ℕ, take}
+use Rattle.std.specs.Prelude.{◌⊎◌}
+use Rattle.alt_manifest.specs.Versions.{IsIn, numbers_of}
+use Rattle.alt_engine.specs.Drafting.{AreDead}
+use Rattle.alt_engine.proofs.dead.put_named.Given as goal
+
+abbrev pub invariant-loop-family : goal.invariant-loop-family
+invariant-loop-family l = record {
+  dead : AreDead l.live l.dead.items;
+  named : (family : ℕ) → IsIn (numbers_of (take l.family-index l.families)) family
+      → IsIn l.live family ⊎ IsIn l.dead.items family;
+}

@@ -1,6 +1,0 @@
--- The families so far.
-use Rattle.std.proofs.Common.{◌≡◌, ◌++◌, drop}
-use Rattle.alt_engine.proofs.next.put_all.Given as goal
-
-abbrev pub invariant-loop-family : goal.invariant-loop-family
-invariant-loop-family l = l.out ++ drop l.family-index l.rest ≡ l.initial.out ++ l.rest

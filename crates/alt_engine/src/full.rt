@@ -1,0 +1,39 @@
+//! The first family with many bytes in memory.
+
+ghost use Rattle.std.specs.Prelude.{◌≡◌, ◌<◌, ◌≤◌, ℕ, IfSome, None};
+ghost use Rattle.std.specs.BTreeMap.{get};
+ghost use Rattle.std.specs.Ordering.{nat_cmp};
+ghost use Rattle.alt_manifest.specs.Versions.{IsIn, RiseFrom};
+ghost use Rattle.alt_engine.specs.Working.{bytes_in};
+
+use alt_families::Family;
+use std::collections::BTreeMap;
+
+/// The first of these families with that many bytes in memory, None exactly where there is none.
+pub(crate) fn first_full(families: &BTreeMap<u32, Family>, live: &[u32], flush: u64) -> Option<u32>
+    requires { RiseFrom 0 live.now }
+    ensures lives { IfSome result (IsIn live.now) }
+    ensures full { IfSome result (λ family.
+        flush ≤ bytes_in (get nat_cmp families.now family)) }
+    ensures first { IfSome result (λ family. (other : ℕ) → IsIn live.now other → other < family
+        → flush ≤ bytes_in (get nat_cmp families.now other) → ⊥) }
+    ensures none { result ≡ None → (other : ℕ) → IsIn live.now other
+        → flush ≤ bytes_in (get nat_cmp families.now other) → ⊥ }
+{
+    for family in live {
+        if bytes_of(families, *family) >= flush {
+            return Some(*family);
+        }
+    }
+    None
+}
+
+/// How many bytes were put into the rows that a family has in memory.
+fn bytes_of(families: &BTreeMap<u32, Family>, family: u32) -> u64
+    ensures { result ≡ bytes_in (get nat_cmp families.now family) }
+{
+    match families.get(&family) {
+        Some(found) => found.table.bytes(),
+        None => 0,
+    }
+}

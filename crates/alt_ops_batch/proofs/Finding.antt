@@ -47,6 +47,7 @@ found_one before mid after old now new members rest m changes c so reads stays k
         catalog = keeps.catalog ∙ so.catalog.catalog;
         number = keeps.number ∙ so.catalog.number;
         family = keeps.family ∙ so.catalog.family;
+        limits = keeps.limits ∙ so.catalog.limits;
       };
       written = ap (λ l. l ++ map written_by rest) (map-append written_at changes (c ∷ []))
           ∙ append_assoc (map written_at changes) (written_at c ∷ []) (map written_by rest)

@@ -1,5 +1,5 @@
 -- Keys that are read, one after another, and tables one after another.
-use Rattle.std.proofs.Common.{◌≡◌, refl, sym, ap, ◌∙◌, ℕ, ◌+◌, Bool, true, false, cond, List, [], ◌∷◌, ◌++◌, map, length, drop, append_assoc, arith}
+use Rattle.std.proofs.Common.{◌≡◌, refl, sym, ap, ◌∙◌, ℕ, ◌+◌, Bool, true, false, cond, List, [], ◌∷◌, ◌++◌, map, length, drop, append_assoc, append-nil, arith}
 use Rattle.std.specs.Prelude.{◌↔◌, fold, sum_by, All, nat_le}
 use Rattle.std.specs.List.{filter_map}
 use Rattle.std.proofs.lemmas.List.{map-append}
@@ -53,6 +53,7 @@ kept_then before mid after old now new first then = record {
     catalog = then.catalog.catalog ∙ first.catalog.catalog;
     number = then.catalog.number ∙ first.catalog.number;
     family = then.catalog.family ∙ first.catalog.family;
+    limits = then.catalog.limits ∙ first.catalog.limits;
   };
 }
 
@@ -157,6 +158,18 @@ module _ (s : State) (paths : Shown) (before : ℕ) (keys : List PlacedMember) w
           sum_by-append (size_at s) one others,
         );
       }
+
+-- where none is left all are taken
+pub all_taken : (s : State) (paths : Shown) (before : ℕ) (keys : List PlacedMember) (taken : Taken)
+    (now : ℕ) → SoFar s paths before keys taken now [] → IsTaken s paths before keys taken now
+all_taken s paths before keys taken now so = record {
+  items = sym (append-nil (map view taken.items.items)) ∙ so.items;
+  left = sym (append-nil (map view taken.left.items)) ∙ so.left;
+  size = sym (nothing now) ∙ so.size;
+}
+  where
+    nothing : (n : ℕ) → n + 0 ≡ n
+    nothing n = omega arith
 
 -- So it is for each state for which the tables stand, and the keys that are left may be read.
 pub record AreTaken (before : DiskState) (old : Tables) (after : DiskState) (now : Tables)

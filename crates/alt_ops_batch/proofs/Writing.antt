@@ -4,8 +4,8 @@ use Rattle.std.specs.Prelude.{if◌then◌else◌, ◌≤◌}
 use Rattle.std.specs.FinMap as finite
 use Rattle.std.specs.Option.{option_map_or}
 use Rattle.alt_disk.specs.Disk.{DiskState, Goes}
-use Rattle.alt_disk.proofs.Calls.{goes_on}
-use Rattle.alt_disk.proofs.Runs.{trusted_back}
+use Rattle.alt_disk.proofs.Calls.{goes_on, goes_refl}
+use Rattle.alt_disk.proofs.Runs.{quiet_start, trusted_back}
 use Rattle.alt_machine.specs.Ops.BatchWriteItem.{Written, writes_of, writes_of_all}
 use Rattle.alt_machine.specs.Outcomes.{a_number, last_state}
 use Rattle.alt_machine.specs.Same.{is_same}
@@ -17,7 +17,7 @@ use Rattle.alt_machine.proofs.Looks.{at_insert, insert_elsewhere, remove_elsewhe
 use Rattle.alt_ops_batch.specs.Changed.{Every, written_at, MayWrite, AreApart, AreAllApart, IsFound}
 use Rattle.alt_ops_batch.specs.declared.write.Change.{Change}
 use Rattle.alt_schema.specs.declared.schema.TableSchema.{TableSchema}
-use Rattle.alt_tables.specs.Faults.{AreMade, BreakOff}
+use Rattle.alt_tables.specs.Faults.{AreMade, BreakOff, WantsMemory}
 use Rattle.alt_tables.specs.Found.{IsFoundIn}
 use Rattle.alt_tables.specs.Images.{Leaves}
 use Rattle.alt_tables.specs.Stands.{AreReady, Stands, catalog_of}
@@ -25,7 +25,8 @@ use Rattle.alt_tables.specs.declared.faults.TableFault.{TableFault}
 use Rattle.alt_tables.specs.declared.rows.Found.{Found}
 use Rattle.alt_tables.specs.declared.tables.Tables.{Tables}
 use Rattle.alt_tables.proofs.Standing.{there, one_stands}
-use Rattle.alt_tables.proofs.Behind.{broke_front, broke_behind, leaves_front, leaves_both}
+use Rattle.alt_tables.proofs.Behind.{broke_front, broke_behind, leaves_front, leaves_both, wants_behind, wants_front, wants_none}
+use Rattle.alt_tables.proofs.Left.{stands_lasts}
 use Rattle.alt_value.specs.Tree.{Pair}
 
 -- ---- what was found elsewhere stays
@@ -99,6 +100,29 @@ pub record IsUnderWay (before : DiskState) (old : Tables) (after : DiskState) (n
   pub may : Every (MayWrite (catalog_of old)) (map written_at rest)
   pub apart : AreAllApart (map written_at rest)
   pub so : (s : State) → Stands before old s → AreDone before old after now s moment all rest
+
+-- before the first none is made
+pub none_done : (before : DiskState) (old : Tables) (moment : ℕ) (all rest : List Change) → rest ≡ all
+    → AreReady before old → Every (MayWrite (catalog_of old)) (map written_at all)
+    → AreAllApart (map written_at all)
+    → ((s : State) → Stands before old s → Every (IsFound s) all)
+    → IsUnderWay before old before old moment all rest
+none_done before old moment all rest same ready may apart found =
+    subst (IsUnderWay before old before old moment all) (sym same) (record {
+      goes = goes_refl before;
+      catalog = refl;
+      ready = ready;
+      may = may;
+      apart = apart;
+      so = λ s stands. record {
+        done = [];
+        stands = stands;
+        enough = refl;
+        leaves = quiet_start before;
+        whole = refl;
+        found = found s stands;
+      };
+    })
 
 -- what was found for the next of them stands there, in whatever state the tables stand for
 pub found_now : (before mid : DiskState) (old now : Tables) (moment : ℕ) (all rest : List Change)
@@ -184,6 +208,22 @@ module _ (before mid after : DiskState) (old now new : Tables) (moment : ℕ) (a
         (goes_on before mid after so_far.goes goes) stood
         (leaves_both before mid after old now s so.done ws so_far.goes stood so.stands so.leaves
         one.2))
+
+    -- and where memory was wanting for it, the disk stands for the state after the others
+    pub wants_there : after ≡ mid → (s : State) → Stands before old s
+        → WantsMemory after a_number s (writes_of_all s moment (map written_at all))
+    wants_there same s stood =
+        let so = so_far.so s stood in
+        let r : State = last_state s so.done in
+        let one = broke r so.stands so.found.0 in
+        let ws : List State = writes_of r moment (written_at c) in
+        let others : List State = writes_of_all (last_state r ws) moment (map written_at rest) in
+        subst (λ (d : DiskState). WantsMemory d a_number s
+        (writes_of_all s moment (map written_at all))) (sym same)
+        (subst (λ l. WantsMemory mid a_number s l) (append_assoc so.done ws others ∙ sym so.whole)
+        (wants_front mid a_number s (so.done ++ ws) others
+        (wants_behind mid a_number s so.done ws so.enough one.1
+        (wants_none mid a_number r ws (stands_lasts mid now r so.stands)))))
 
 -- ---- one write, by the name of its table
 

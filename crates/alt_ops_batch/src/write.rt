@@ -14,7 +14,7 @@ ghost use Rattle.alt_request.specs.Carried.{Carries, Moves};
 ghost use Rattle.alt_request.specs.Steps.{IsMemory};
 ghost use Rattle.alt_shape.specs.Body.{body_json};
 ghost use Rattle.alt_shape.specs.Refusals.{answer_of};
-ghost use Rattle.alt_tables.specs.Faults.{IsFindFault, Writes};
+ghost use Rattle.alt_tables.specs.Faults.{IsFindFault, WantsMemory, Writes};
 ghost use Rattle.alt_tables.specs.Images.{Leaves};
 ghost use Rattle.alt_tables.specs.Stands.{AreReady, KeepsCatalog, Reads, Stands, catalog_of};
 
@@ -156,6 +156,10 @@ fn write_all<D: Disk>(
         (writes_of_all s moment (each written_at changes.items)) result }
     ensures leaves { (s : State) → Stands (D.state disk.old) tables.old s
         → Leaves (D.state disk.old) (D.state disk.new) s
+        (writes_of_all s moment (each written_at changes.items)) }
+    ensures wanting { IsErrOf result TableFault.NoMemory → (s : State)
+        → Stands (D.state disk.old) tables.old s
+        → WantsMemory (D.state disk.new) a_number s
         (writes_of_all s moment (each written_at changes.items)) }
     ensures goes { Goes (D.state disk.old) (D.state disk.new) }
     ensures cause { IsErrOf result TableFault.Failed

@@ -1,9 +1,10 @@
 -- One more key is taken.
-use Rattle.std.proofs.Common.{List, ◌∷◌, subst}
+use Rattle.std.proofs.Common.{List, ◌∷◌, subst, arith}
 use Rattle.std.specs.Vec.Iter.{into_iter_items}
+use Rattle.std.proofs.lemmas.List.{nil_from_length}
 use Rattle.alt_disk.specs.Disk.{DiskState}
 use Rattle.alt_machine.specs.declared.PlacedMember.{PlacedMember}
-use Rattle.alt_ops_batch.proofs.Taking.{AreTaken, taken_more}
+use Rattle.alt_ops_batch.proofs.Taking.{AreTaken, taken_more, all_taken}
 use Rattle.alt_tables.proofs.Left.{ready_on}
 use Rattle.alt_ops_batch.proofs.reading.take.Goals as goal
 
@@ -33,3 +34,14 @@ loop-key-preserved g c =
       catalog = c.in_ok-take_key.ensures.catalog;
     })
     c.in_ok-take_key.ensures.bounded c.in_ok-take_key.ensures.plain c.in_ok-take_key.ensures.takes
+
+pub returns-clause-taken : goal.returns-clause-taken
+returns-clause-taken g c s stands =
+    all_taken s c.args.projection.now c.args.size.now c.args.keys.items c.loop-key.taken
+    c.loop-key.size
+    ((subst (AreTaken (g.D.Disk.state c.args.disk.now) c.args.tables.now
+    (g.D.Disk.state c.loop-key.disk) c.loop-key.tables c.args.projection.now c.args.size.now
+    c.args.keys.items c.loop-key.taken c.loop-key.size)
+    (nil_from_length (into_iter_items c.loop-key.key-iterator)
+    (omega (arith, c.loop-key.key-iterator.rest.ok, c.in-None.ensures.steps.0)))
+    c.loop-key.invariant).so s stands)

@@ -12,13 +12,13 @@ use Rattle.alt_ops_batch.proofs.Asked.{asked_may_write, all_apart}
 use Rattle.alt_machine.proofs.Batches.{asked_once}
 use Rattle.alt_ops_batch.proofs.Stopping.{asked_is, asked_passed, asked_unfailed}
 use Rattle.alt_ops_batch.proofs.Writes.{write_is, go}
-use Rattle.alt_request.specs.Carried.{Carries, Moves}
+use Rattle.alt_request.specs.Carried.{Carries, Moves, IfWanting}
 use Rattle.alt_request.specs.declared.stop.Stop.TheVariants.{Fault}
 use Rattle.alt_request.proofs.Carrying.{broke_off, faulted_as, unfound, wrote}
-use Rattle.alt_request.proofs.Moving.{failed_fault, memory_unfailed, moves_reads, moves_stopped, writes_move}
+use Rattle.alt_request.proofs.Moving.{failed_fault, memory_unfailed, moves_reads, moves_stopped, writes_move, wanting_fault}
 use Rattle.alt_request.proofs.Reaching.{err_is}
 use Rattle.alt_schema.specs.declared.schema.TableSchema.{TableSchema}
-use Rattle.alt_tables.specs.Faults.{AreMade, BreakOff}
+use Rattle.alt_tables.specs.Faults.{AreMade, BreakOff, WantsMemory}
 use Rattle.alt_tables.specs.Images.{Leaves}
 use Rattle.alt_tables.specs.Stands.{Stands, catalog_of}
 use Rattle.alt_tables.proofs.Left.{ready_on}
@@ -178,7 +178,16 @@ returns-in_err-write_all-clause-moves g c =
     (subst (λ ws. Leaves read after s (writes_of_all s c.args.moment ws))
     c.in_ok-changes.ensures.written
     (c.in_err-write_all.ensures.leaves s ((c.in_ok-changes.ensures.stays s).0 stands))))
-    tt (failed_fault c.in_err-write_all.field-0.0 _ c.in_err-write_all.ensures.cause))
+    tt (failed_fault c.in_err-write_all.field-0.0 _ c.in_err-write_all.ensures.cause)
+    (λ s stands. subst (λ (o : Outcome). IfWanting (Err (Fault c.in_err-write_all.field-0.0))
+    (WantsMemory after o.wants s o.atoms))
+    (sym (asked_is before c.args.tables.now listed (λ catalog. writes_asked catalog ms)
+    (λ s. batch_write_item s c.args.moment ms) (go c.args.moment) (write_is c.args.moment ms)
+    c.in_ok-members.members c.in_ok-members.ensures.asked s stands))
+    (wanting_fault c.in_err-write_all.field-0.0 _ (λ none.
+    subst (λ ws. WantsMemory after a_number s (writes_of_all s c.args.moment ws))
+    c.in_ok-changes.ensures.written
+    (c.in_err-write_all.ensures.wanting none s ((c.in_ok-changes.ensures.stays s).0 stands))))))
 
 pub returns-clause-moves : goal.returns-clause-moves
 returns-clause-moves g c =
@@ -195,4 +204,4 @@ returns-clause-moves g c =
     (subst (λ ws. Leaves read after s (writes_of_all s c.args.moment ws))
     c.in_ok-changes.ensures.written
     (c.in_ok-write_all.ensures.leaves s ((c.in_ok-changes.ensures.stays s).0 stands))))
-    tt tt
+    tt tt (λ s stands. tt)

@@ -256,20 +256,6 @@ module _ (s t u : State) (now : State → Type 0)
       before_of None = 0
       before_of (Some lack) = lack.before
 
-  later_alike : (k : ℕ) → lack_among a_table s (take k (t ∷ [])) ≡ None
-      → now (state_after k s (t ∷ [])) → now (state_after k s (u ∷ []))
-  later_alike zero e h = h
-  later_alike (suc zero) e h = subst now (same
-      (nothing_lacked (table_lack s.next_number s.next_family) e)) h
-  later_alike (suc (suc k)) e h = subst now (same
-      (nothing_lacked (table_lack s.next_number s.next_family) e)) h
-
-  later_lack : (k : ℕ) → lack_among a_table s (take k (t ∷ []))
-      ≡ lack_among a_table s (take k (u ∷ []))
-  later_lack zero = refl
-  later_lack (suc zero) = refl
-  later_lack (suc (suc k)) = refl
-
   -- where tables are alike, making one breaks off as making the other does
   pub broken_alike : (f : TableFault) → BreakOff now a_table s (t ∷ []) f
       → BreakOff now a_table s (u ∷ []) f
@@ -283,8 +269,7 @@ module _ (s t u : State) (now : State → Type 0)
   broken_alike (Damaged file at) h = absurd h
   broken_alike (BadRow family key) h = absurd h
   broken_alike Failed h = tt
-  broken_alike NoMemory (k, some, enough, h) =
-      (k, some, sym (later_lack k) ∙ enough, later_alike k enough h)
+  broken_alike NoMemory h = tt
 
 -- What is left is the same where both states are one unless something is lacked, and then no call of the disk was made.
 pub left_alike : (before later : DiskState) (tables : Tables) (s : State) → Stands before tables s

@@ -9,11 +9,12 @@ use Rattle.alt_ops_table.proofs.Asking.{asked_stops, to_be_made, is_made, has_nu
 use Rattle.alt_request.specs.Carried.{Carries, Moves}
 use Rattle.alt_request.specs.declared.stop.Stop.TheVariants.{Fault}
 use Rattle.alt_request.proofs.Carrying.{broke_off, wrote, faulted_as}
-use Rattle.alt_request.proofs.Moving.{moves_stopped, memory_unfailed, failed_fault}
+use Rattle.alt_request.proofs.Moving.{moves_stopped, memory_unfailed, failed_fault, unwritten_wants, wanting_fault}
 use Rattle.alt_request.proofs.Reaching.{err_is}
 use Rattle.alt_schema.specs.Described.{description_of}
 use Rattle.alt_schema.specs.declared.schema.TableSchema.{TableSchema}
 use Rattle.alt_tables.specs.Images.{Leaves}
+use Rattle.alt_tables.proofs.Left.{reads_nothing}
 use Rattle.alt_tables.specs.Stands.{Stands}
 use Rattle.alt_ops_table.proofs.create.create_table.Goals as goal
 
@@ -133,6 +134,9 @@ returns-in_err-create-clause-moves g c =
           c.in_err-create.ensures.lacking (c.in_err-create.ensures.disk s stands));
       refused = tt;
       failed = failed_fault c.in_err-create.field-0.0 _ c.in_err-create.ensures.cause;
+      wanting = λ s stands. wanting_fault c.in_err-create.field-0.0 _ (λ none.
+          unwritten_wants before before later c.args.tables.now s _ _ (reads_nothing before) stands
+          (c.in_err-create.ensures.no_memory none));
     })
 
 pub returns-clause-moves : goal.returns-clause-moves
@@ -152,4 +156,5 @@ returns-clause-moves g c =
           c.in_ok-create.ensures.lacking (c.in_ok-create.ensures.disk s stands));
       refused = tt;
       failed = tt;
+      wanting = λ s stands. tt;
     }

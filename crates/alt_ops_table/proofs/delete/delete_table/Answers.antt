@@ -11,13 +11,14 @@ use Rattle.alt_machine.specs.Targets.{on_table}
 use Rattle.alt_request.specs.Carried.{Carries, Moves}
 use Rattle.alt_request.specs.declared.stop.Stop.TheVariants.{Fault}
 use Rattle.alt_request.proofs.Carrying.{table_passed, table_reached, faulted_as, broke_off, wrote}
-use Rattle.alt_request.proofs.Moving.{moves_stopped, table_unfailed, memory_unfailed, failed_fault}
+use Rattle.alt_request.proofs.Moving.{moves_stopped, table_unfailed, memory_unfailed, failed_fault, unwritten_wants, wanting_fault}
 use Rattle.alt_request.proofs.Reaching.{err_is}
 use Rattle.alt_schema.specs.declared.schema.TableSchema.{TableSchema}
 use Rattle.alt_shape.specs.Bodies as bodies
 use Rattle.alt_shape.specs.declared.rule.Broken.{Broken}
 use Rattle.alt_tables.specs.Images.{Leaves}
 use Rattle.alt_tables.specs.Faults.{AreMade, BreakOff}
+use Rattle.alt_tables.proofs.Left.{reads_nothing}
 use Rattle.alt_tables.specs.Stands.{Stands, catalog_of}
 use Rattle.alt_ops_table.proofs.delete.delete_table.Goals as goal
 
@@ -130,6 +131,9 @@ returns-in_err-drop_table-clause-moves g c =
           c.table_name.ensures.name (c.in_err-drop_table.ensures.disk s stands));
       refused = tt;
       failed = failed_fault c.in_err-drop_table.field-0.0 _ c.in_err-drop_table.ensures.cause;
+      wanting = λ s stands. wanting_fault c.in_err-drop_table.field-0.0 _ (λ none.
+          unwritten_wants before before later c.args.tables.now s _ _ (reads_nothing before) stands
+          (c.in_err-drop_table.ensures.no_memory none));
     })
 
 pub returns-clause-moves : goal.returns-clause-moves
@@ -150,4 +154,5 @@ returns-clause-moves g c =
           c.table_name.ensures.name (c.in_ok-drop_table.ensures.disk s stands));
       refused = tt;
       failed = tt;
+      wanting = λ s stands. tt;
     }

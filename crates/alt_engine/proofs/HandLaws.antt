@@ -36,7 +36,7 @@ use Rattle.alt_layout.proofs.RowLaws.{next_after-least, with_later-push, with_on
 use Rattle.alt_layout.proofs.MomentLaws.{in_each_image, lies_quiet, lies_write, spans_write}
 use Rattle.alt_layout.proofs.PastLaws.{stored_past}
 use Rattle.alt_layout.specs.Writes.{changes_in, with_write}
-use Rattle.alt_engine.specs.InHand.{Reads, Stands, AreOpen, batch_write, BeforeOrWith, IsWritten, family_of, written_bytes}
+use Rattle.alt_engine.specs.InHand.{Reads, Stands, AreBelow, AreOpen, batch_write, BeforeOrWith, IsWritten, family_of, written_bytes}
 use Rattle.alt_families.specs.Families.{Families, files_in, rows_in}
 use Rattle.alt_families.specs.Memory.{IsWrittenTo}
 use Rattle.alt_engine.specs.declared.engine.Engine.{Engine}
@@ -122,6 +122,7 @@ reads_quiet a b e l reads quiet = record {
   memory = reads.memory;
   opened = λ family. open_on a b reads.held (files_of (version_of e.manifest).families family)
       (files_in (family_of e family)) quiet.file (reads.opened family);
+  calm = reads.calm;
 }
 
 -- and stands as it stood
@@ -237,7 +238,8 @@ module _ (a b : DiskState) (e : Engine) (l : Layout) (changes : List RowChange) 
   module _ (log : GateLog) (size : ℕ) (families : Families) (same_file : log_file log ≡ f)
       (added : LogStands b log (map write_bytes reads.writes ++ bytes ∷ []))
       (size_is : size ≡ min (e.length + length bytes) most_bytes)
-      (written : IsWrittenTo e.families families e.next changes) where
+      (written : IsWrittenTo e.families families e.next changes) (full : Bool)
+      (calm : full ≡ false → AreBelow e.limits.flush families) where
     lies_after : Lies b v reads.held parts
     lies_after = lies_write a b v reads.held reads.parts f reads.writes w bytes lies reads.ends spelled
         fits later (BeforeOrAfter first_form (map write_bytes reads.writes) bytes) run
@@ -273,6 +275,7 @@ module _ (a b : DiskState) (e : Engine) (l : Layout) (changes : List RowChange) 
       length = size;
       next = e.next + 1;
       families = families;
+      full = full;
     }) (with_write l w)
     with_batch = record {
       reads = record {
@@ -309,6 +312,7 @@ module _ (a b : DiskState) (e : Engine) (l : Layout) (changes : List RowChange) 
             named)) ∙ reads.fresh g le;
         memory = memory;
         opened = opened;
+        calm = calm;
       };
       settled = lies_after.settled;
     }

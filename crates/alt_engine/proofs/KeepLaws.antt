@@ -1,5 +1,5 @@
 -- The engine once the files are removed that its version doesn't name.
-use Rattle.std.proofs.Common.{◌≡◌, ◌≢◌, ◌<◌, ◌≤◌, ◌+◌, ◌-◌, ◌^◌, ◌==◌, ◌++◌, ◌∷◌, ⊎_elim, inl, inr, ℕ, true, List, [], length, map, max, min, Option, Some, None, refl, sym, ap, subst, ◌∙◌, arith}
+use Rattle.std.proofs.Common.{◌≡◌, ◌≢◌, ◌<◌, ◌≤◌, ◌+◌, ◌-◌, ◌^◌, ◌==◌, ◌++◌, ◌∷◌, ⊎_elim, inl, inr, ℕ, true, List, [], length, map, max, min, Option, Some, None, refl, sym, ap, subst, ◌∙◌, arith, Bool, false}
 use Rattle.std.specs.Prelude.{◌⊎◌, ⊤, is_some}
 use Rattle.std.specs.List.{AllByRecursion, list_any}
 use Rattle.alt_disk.specs.Disk.{DiskState, IsNames}
@@ -23,7 +23,7 @@ use Rattle.alt_recovery.specs.Others.{IsOther, next_past}
 use Rattle.alt_writes.specs.Bytes.{write_bytes}
 use Rattle.alt_writes.specs.Writes.{Write}
 use Rattle.alt_engine.specs.Found.{Found, version_in}
-use Rattle.alt_engine.specs.InHand.{Reads, Stands, family_of}
+use Rattle.alt_engine.specs.InHand.{AreBelow, Reads, Stands, family_of}
 use Rattle.alt_engine.specs.Syncing.{AllSynced}
 use Rattle.alt_engine.specs.declared.engine.Engine.{Engine}
 use Rattle.alt_engine.proofs.FoundLaws.{version_there}
@@ -141,9 +141,10 @@ found_layout s e l found = record {
 -- with its next file above all that are there, it reads as it
 pub found_reads : (a b : DiskState) (e : Engine) (l : Layout) (n : ℕ) → Found a e l
     → ((f : ℕ) → IsOf (version_in e) f → b.file f ≡ a.file f) → e.next_file ≤ n
-    → ((f : ℕ) → IsOther (version_in e) f → b.file f ≡ None)
-    → Reads b (record e { next_file = n }) l
-found_reads a b e l n found kept le gone =
+    → ((f : ℕ) → IsOther (version_in e) f → b.file f ≡ None) → (full : Bool)
+    → (full ≡ false → AreBelow e.limits.flush e.families)
+    → Reads b (record e { next_file = n; full = full }) l
+found_reads a b e l n found kept le gone full calm =
     let v = version_in e in
     let past : v.next_file ≤ n = (let file = found.file in omega (arith, le, file)) in
     record {
@@ -173,6 +174,7 @@ found_reads a b e l n found kept le gone =
           (files_in (family_of e family))
           (λ g there. kept g (inr (in_back v.segments (row_files v.families) g
           (in_row_files v.families family g there)))) (found.opened family);
+      calm = calm;
     }
 
 -- ---- what lasts

@@ -3,6 +3,7 @@ pub mod DeadLaws
 pub mod FlushesLaws
 pub mod FoundLaws
 pub mod Fresh
+pub mod FullLaws
 pub mod HandLaws
 pub mod KeepLaws
 pub mod MakesLaws

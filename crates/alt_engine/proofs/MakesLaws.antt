@@ -1,5 +1,5 @@
 -- A draft and the families in hand, step by step.
-use Rattle.std.proofs.Common.{◌≡◌, ◌≢◌, ◌≤◌, ◌<◌, ◌+◌, ◌-◌, ◌^◌, max, min, ℕ, Option, List, [], ◌∷◌, ◌++◌, map, refl, sym, ap, subst, ◌∙◌, arith, inl, inr, ⊎_elim}
+use Rattle.std.proofs.Common.{◌≡◌, ◌≢◌, ◌≤◌, ◌<◌, ◌+◌, ◌-◌, ◌^◌, max, min, ℕ, Option, List, [], ◌∷◌, ◌++◌, map, refl, sym, ap, subst, ◌∙◌, arith, inl, inr, ⊎_elim, Bool, false}
 use Rattle.std.specs.BTreeMap.{get}
 use Rattle.std.specs.FinMap.{empty, entries}
 use Rattle.std.specs.Ordering.{nat_cmp}
@@ -33,7 +33,7 @@ use Rattle.alt_writes.specs.Bytes.{AllHeld, write_bytes}
 use Rattle.alt_writes.specs.Writes.{Write}
 use Rattle.alt_families.specs.Families.{Families, files_in, rows_in}
 use Rattle.alt_engine.specs.Drafting.{Empties, Makes}
-use Rattle.alt_engine.specs.InHand.{AreOpen, Stands, written_bytes}
+use Rattle.alt_engine.specs.InHand.{AreBelow, AreOpen, Stands, written_bytes}
 use Rattle.alt_engine.specs.declared.engine.Engine.{Engine}
 use Rattle.alt_engine.proofs.HandLaws.{in_row_files, lies_of}
 
@@ -300,15 +300,17 @@ pub stands_by : (b c : DiskState) (e : Engine) (u : Version) (families : Familie
     → version_of n ≡ u → ManifestStands c n → EndsWith u parts (log_file log) writes
     → LogReads b log (map write_bytes writes)
     → size ≡ min (written_bytes (all_of parts)) most_bytes → e.next ≡ l.next_number
+    → (full : Bool) → (full ≡ false → AreBelow e.limits.flush families)
     → Stands c (record e {
       manifest = n;
       log = log;
       length = size;
       next_file = u.next_file;
       families = families;
+      full = full;
     }) l
 stands_by b c e u families parts l P n log writes size makes run first version manifest ends reads
-    size_is next = record {
+    size_is next full calm = record {
       reads = record {
         held = makes.held;
         parts = parts;
@@ -335,6 +337,7 @@ stands_by b c e u families parts l P n log writes size makes run first version m
             (open_still b c makes.held makes.held (files_of u.families family)
             (files_in (get nat_cmp families family))
             (λ g there. on g (named_of u family g there)) (λ g there. refl) (makes.opened family));
+        calm = calm;
       };
       settled = subst (λ (w : Version). (f : ℕ) → IsOf w f → IsSettled c f) (sym version) settled;
     }

@@ -1,5 +1,5 @@
 -- An engine by its new version, and what calls on the way leave.
-use Rattle.std.proofs.Common.{◌≡◌, ◌≤◌, ⊎_elim, inl, inr, ℕ, List, [], ◌∷◌, map, Option, refl, sym, subst, ◌∙◌, arith}
+use Rattle.std.proofs.Common.{◌≡◌, ◌≤◌, ⊎_elim, inl, inr, ℕ, List, [], ◌∷◌, map, Option, refl, sym, subst, ◌∙◌, arith, Bool, false}
 use Rattle.std.specs.Prelude.{◌⊎◌}
 use Rattle.alt_disk.specs.Disk.{DiskState}
 use Rattle.alt_disk.specs.Runs.{Run, Spans}
@@ -23,7 +23,7 @@ use Rattle.alt_manifest.specs.declared.version.Version.{Version}
 use Rattle.alt_writes.specs.Bytes.{write_bytes}
 use Rattle.alt_families.specs.Families.{files_in}
 use Rattle.alt_engine.specs.Drafting.{IsLying, IsReady}
-use Rattle.alt_engine.specs.InHand.{Stands, family_of}
+use Rattle.alt_engine.specs.InHand.{AreBelow, Stands, family_of}
 use Rattle.alt_engine.specs.declared.engine.Engine.{Engine}
 use Rattle.alt_engine.proofs.HandLaws.{in_row_files, lies_of}
 use Rattle.alt_engine.proofs.MakesLaws.{open_still, stands_by}
@@ -90,6 +90,7 @@ module _ (a b : DiskState) (e : Engine) (l : Layout) (files : List ℕ) (stands 
           (files_of v.families family) (files_in (family_of e family))
           (λ g there. on g (inr (in_back v.segments (row_files v.families) g
           (in_row_files v.families family g there)))) (λ g there. refl) (stands.reads.opened family);
+      calm = stands.reads.calm;
     };
     settled = λ f of. settled_beside a b (IsLeftOver files v) (λ t image. Unit {0}) spans f
         (untouched f of) (stands.settled f of);
@@ -124,12 +125,13 @@ module _ (a b : DiskState) (e : Engine) (u : Version) (l m : Layout) (lying : Is
 pub published : (a b : DiskState) (e : Engine) (u : Version) (m : Layout) (n : Manifest)
     (P : ℕ → Option (List ℕ) → Type 0) → IsReady a e u m
     → Run a b (manifest_file e.manifest) P → manifest_file n ≡ manifest_file e.manifest
-    → version_of n ≡ u → ManifestStands b n
-    → Stands b (record e { manifest = n; next_file = u.next_file }) m
-published a b e u m n P ready run same version stands =
+    → version_of n ≡ u → ManifestStands b n → (full : Bool)
+    → (full ≡ false → AreBelow e.limits.flush e.families)
+    → Stands b (record e { manifest = n; next_file = u.next_file; full = full }) m
+published a b e u m n P ready run same version stands full calm =
     stands_by a b e u e.families ready.parts m P n e.log ready.writes e.length ready.makes
     (subst (λ g. Run a b g P) ready.first run) (same ∙ ready.first) version stands ready.ends ready.log
-    ready.length ready.next
+    ready.length ready.next full calm
 
 -- Calls that leave one layout, behind calls that leave either.
 pub then_second : (a b c : DiskState) (l m : Layout) → Spans a b (λ g. Unit {0}) (HasEither l m)

@@ -1,5 +1,5 @@
 -- An engine in hand over files, and the disk on which they lie.
-use Rattle.std.specs.Prelude.{◌≡◌, ◌⊎◌, ◌≤◌, ◌+◌, ◌-◌, ◌^◌, ℕ, List, [], ◌∷◌, length, map, min, Option, None}
+use Rattle.std.specs.Prelude.{◌≡◌, ◌⊎◌, ◌≤◌, ◌+◌, ◌-◌, ◌^◌, ℕ, List, [], ◌∷◌, length, map, min, Option, None, ◌<◌, false, Some}
 use Rattle.std.specs.BTreeMap.{get}
 use Rattle.std.specs.FinMap.{empty, entries}
 use Rattle.std.specs.Ordering.{nat_cmp}
@@ -20,7 +20,7 @@ use Rattle.alt_layout.specs.Writes.{with_write}
 use Rattle.alt_engine.specs.declared.engine.Engine.{Engine}
 use Rattle.alt_engine.specs.declared.engine.EngineFault.{EngineFault}
 use Rattle.alt_engine.specs.declared.engine.EngineFault.TheVariants.{Spent, Damaged, Failed, NoMemory}
-use Rattle.alt_families.specs.Families.{rows_in, files_in}
+use Rattle.alt_families.specs.Families.{Families, rows_in, files_in}
 use Rattle.alt_families.specs.declared.family.Family.{Family}
 use Rattle.alt_engine.specs.declared.engine.Limits.{Limits}
 
@@ -57,8 +57,17 @@ abbrev pub written_bytes : List Write → ℕ
 written_bytes [] = 0
 written_bytes (w ∷ ws) = length (write_bytes w) + written_bytes ws
 
+-- How many bytes were put into the rows that a family has in memory, counted up to 2^62.
+abbrev pub bytes_in : Option Family → ℕ
+bytes_in None = 0
+bytes_in (Some f) = f.table.1
+
+-- Each family has fewer bytes than this in memory.
+abbrev pub AreBelow : ℕ → Families → Type 0
+AreBelow flush families = (family : ℕ) → bytes_in (get nat_cmp families family) < flush
+
 -- The engine is that of this layout as the disk reads: the files that the version in hand names hold it, each is the one in hand, and memory has what
--- the log has and no row file. No file is there from the next one on.
+-- the log has and no row file. No file is there from the next one on. Where it says that no family is full, none is.
 pub record Reads (s : DiskState) (e : Engine) (l : Layout) : Type 0 where
   pub held : Held
   pub parts : List (List Write)
@@ -77,6 +86,7 @@ pub record Reads (s : DiskState) (e : Engine) (l : Layout) : Type 0 where
       ≡ with_later (flushed_of (version_of e.manifest).families family) family empty (all_of parts)
   pub opened : (family : ℕ) → AreOpen s held (files_of (version_of e.manifest).families family)
       (files_in (family_of e family))
+  pub calm : e.full ≡ false → AreBelow e.limits.flush e.families
 
 -- The engine is that of this layout, and a stop now leaves of each of these files what reads give.
 pub record Stands (s : DiskState) (e : Engine) (l : Layout) : Type 0 where

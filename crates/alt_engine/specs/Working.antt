@@ -1,5 +1,5 @@
 -- What work between requests leaves: the rows that live families show.
-use Rattle.std.specs.Prelude.{◌≡◌, ◌≢◌, ◌⊎◌, ◌<◌, ◌≤◌, ◌+◌, ◌-◌, ◌*◌, ◌^◌, ℕ, List, min, Option, Some, None}
+use Rattle.std.specs.Prelude.{◌≡◌, ◌≢◌, ◌⊎◌, ◌<◌, ◌≤◌, ◌+◌, ◌-◌, ◌*◌, ◌^◌, ℕ, List, min, None}
 use Rattle.std.specs.FinMap.{empty, entries}
 use Rattle.alt_manifest.specs.Versions.{HasVersion, IsIn, RiseFrom}
 use Rattle.alt_manifest.specs.declared.version.Version.{Version}
@@ -8,9 +8,8 @@ use Rattle.alt_layout.specs.Files.{AreSegments, Image, IsLayout, all_of}
 use Rattle.alt_layout.specs.Fresh.{versions_file}
 use Rattle.alt_layout.specs.Layout.{Layout, shown}
 use Rattle.alt_families.specs.Families.{rows_in}
-use Rattle.alt_families.specs.declared.family.Family.{Family}
 use Rattle.alt_engine.specs.Drafting.{IsFlushed, IsSpentFor, files_for, files_needed}
-use Rattle.alt_engine.specs.InHand.{family_of, limits_of, next_file_of, written_bytes}
+use Rattle.alt_engine.specs.InHand.{bytes_in, family_of, limits_of, next_file_of, written_bytes}
 use Rattle.alt_engine.specs.declared.engine.Engine.{Engine}
 use Rattle.alt_engine.specs.declared.work.Task.{Task}
 use Rattle.alt_engine.specs.declared.work.Task.TheVariants.{Step, FlushAll}
@@ -49,11 +48,6 @@ pub record HasEntries (files : Image) (bytes : ℕ) : Type 0 where
   pub is : bytes ≡ written_bytes (all_of parts)
 
 -- ---- What applies.
-
--- How many bytes were put into the rows that a family has in memory, counted up to 2^62.
-abbrev pub bytes_in : Option Family → ℕ
-bytes_in None = 0
-bytes_in (Some f) = f.table.1
 
 -- The family has rows of so many bytes in memory that it is flushed.
 abbrev pub IsFull : Engine → ℕ → Type 0

@@ -8,6 +8,7 @@ ghost use Rattle.alt_layout.specs.Layout.{Layout};
 ghost use Rattle.alt_layout.specs.Writes.{with_write};
 ghost use Rattle.alt_engine.specs.InHand.{limits_of, next_of, Reads, Stands, IsSpentAt, batch_write, BeforeOrWith, IsWritten};
 
+use crate::full::full_after;
 use alt_base::NoMemory;
 use alt_cells::{Batch, SourceFault};
 use alt_disk::{Disk, DiskFault};
@@ -81,7 +82,7 @@ pub struct Limits {
 }
 
 /// The engine: the versions, the last segment, the bytes of all segments' entries, the numbers of the next write and of the next
-/// file, and the families.
+/// file, the families, and whether one of them may have so many bytes in memory that it is flushed.
 #[derive(Drop)]
 pub struct Engine {
     pub(crate) alloc: Global,
@@ -92,6 +93,7 @@ pub struct Engine {
     pub(crate) next: u64,
     pub(crate) next_file: u32,
     pub(crate) families: BTreeMap<u32, Family>,
+    pub(crate) full: bool,
 }
 
 impl Engine {
@@ -142,6 +144,12 @@ impl Engine {
 
         // The rows go into memory first, so that nothing but the disk can fail once the entry is on its way.
         put_changes(self.alloc, &mut self.families, self.next, batch.as_slice())?;
+        self.full = full_after(
+            self.full,
+            &self.families,
+            batch.as_slice(),
+            self.limits.flush,
+        );
         match self.log.append(disk, bytes.as_slice()) {
             Ok(()) => {}
             Err(DiskFault::Failed) => return Err(EngineFault::Failed),

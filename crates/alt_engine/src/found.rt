@@ -123,6 +123,7 @@ fn engine_of(
         next,
         next_file,
         families,
+        full: true,
     }
 }
 

@@ -1,11 +1,13 @@
-//! The first family with many bytes in memory.
+//! Families with so many bytes in memory that they are flushed.
 
-ghost use Rattle.std.specs.Prelude.{◌≡◌, ◌<◌, ◌≤◌, ℕ, IfSome, None};
+ghost use Rattle.std.specs.Prelude.{◌≡◌, ◌<◌, ◌≤◌, ℕ, IfSome, None, false};
 ghost use Rattle.std.specs.BTreeMap.{get};
 ghost use Rattle.std.specs.Ordering.{nat_cmp};
 ghost use Rattle.alt_manifest.specs.Versions.{IsIn, RiseFrom};
-ghost use Rattle.alt_engine.specs.Working.{bytes_in};
+ghost use Rattle.alt_families.specs.Memory.{IsChanged};
+ghost use Rattle.alt_engine.specs.InHand.{AreBelow, bytes_in};
 
+use alt_cells::RowChange;
 use alt_families::Family;
 use std::collections::BTreeMap;
 
@@ -36,4 +38,41 @@ fn bytes_of(families: &BTreeMap<u32, Family>, family: u32) -> u64
         Some(found) => found.table.bytes(),
         None => 0,
     }
+}
+
+/// Whether a family has that many bytes in memory.
+pub(crate) fn has_full(families: &BTreeMap<u32, Family>, flush: u64) -> bool
+    ensures { result ≡ false → AreBelow flush families.now }
+{
+    if flush == 0 {
+        return true;
+    }
+    for family in families.values() {
+        if family.table.bytes() >= flush {
+            return true;
+        }
+    }
+    false
+}
+
+/// Whether a family may have that many bytes in memory after these changes, where one may have had them before or none had.
+pub(crate) fn full_after(
+    before: bool,
+    families: &BTreeMap<u32, Family>,
+    changes: &[RowChange],
+    flush: u64,
+) -> bool
+    ensures before { result ≡ false → before ≡ false }
+    ensures changed { result ≡ false → (family : ℕ) → IsChanged changes.now family
+        → bytes_in (get nat_cmp families.now family) < flush }
+{
+    if before {
+        return true;
+    }
+    for change in changes {
+        if bytes_of(families, change.family) >= flush {
+            return true;
+        }
+    }
+    false
 }

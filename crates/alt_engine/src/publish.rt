@@ -10,6 +10,7 @@ ghost use Rattle.alt_engine.specs.Drafting.{IsLying, IsReady, IsUnspent};
 ghost use Rattle.alt_engine.specs.InHand.{Stands, limits_of, next_of};
 
 use crate::engine::{Engine, EngineFault};
+use crate::full::has_full;
 use alt_disk::{Disk, Failed};
 use alt_flush::remove_left_over;
 use alt_manifest::Version;
@@ -45,6 +46,7 @@ impl Engine {
         ensures well { OnOk result ((D.state disk.new).faults ≡ (D.state disk.old).faults) }
     {
         self.next_file = draft.next_file;
+        self.full = has_full(&self.families, self.limits.flush);
         self.manifest.append(disk, draft)?;
         match remove_left_over(disk, left, self.manifest.current()) {
             Ok(()) => Ok(()),

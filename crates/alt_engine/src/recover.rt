@@ -17,6 +17,7 @@ ghost use Rattle.alt_engine.specs.Syncing.{AllSynced};
 
 use crate::engine::{Engine, Limits};
 use crate::found::read_store;
+use crate::full::has_full;
 use crate::sync::sync_all;
 use alt_base::NoMemory;
 use alt_disk::{Disk, DiskFault};
@@ -141,6 +142,7 @@ fn keep_named<D: Disk>(alloc: Global, disk: &mut D, engine: Engine) -> Result<En
         Err(fault) => return Err(disk_fault(fault)),
     }
     engine.next_file = next_file(engine.next_file, names.as_slice());
+    engine.full = has_full(&engine.families, engine.limits.flush);
     match remove_others(disk, names.as_slice(), engine.manifest.current()) {
         Ok(()) => Ok(engine),
         Err(_) => Err(RecoverFault::Failed),

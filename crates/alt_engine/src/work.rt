@@ -108,8 +108,9 @@ impl Engine {
             → (m : Layout) × Stands (D.state disk.new) self.new m × Empties live.now l m) }
         ensures next { next_of self.new ≡ next_of self.old }
         ensures limits { limits_of self.new ≡ limits_of self.old }
-        ensures idle { IfOk result (λ w. w ≡ Worked.Idle
-            → IsShort self.old × IsCalm live.now self.old) }
+        ensures idle { IfOk result (λ w. w ≡ Worked.Idle → IsShort self.old
+            × (IsTrusted (D.state disk.old) → (l : Layout) → Stands (D.state disk.old) self.old l
+            → IsCalm live.now self.old)) }
         ensures idle_disk { IfOk result (λ w. w ≡ Worked.Idle → D.state disk.new ≡ D.state disk.old) }
         ensures idle_engine { IfOk result (λ w. w ≡ Worked.Idle → self.new ≡ self.old) }
         ensures done { IfOk result (λ w. w ≡ Worked.Done
@@ -131,6 +132,9 @@ impl Engine {
         if self.length >= most_entries(self.limits.flush) {
             self.flush_all(disk, live)?;
             return Ok(Worked::Done);
+        }
+        if !self.full {
+            return Ok(Worked::Idle);
         }
         match first_full(&self.families, live, self.limits.flush) {
             Some(family) => {

@@ -1,5 +1,5 @@
 -- Changes of a write, joined to the rows in memory one by one.
-use Rattle.std.proofs.Common.{◌≡◌, ◌+◌, ◌<◌, ◌==◌, ◌++◌, ℕ, Bool, true, false, cond, List, [], ◌∷◌, take, length, get_or, Some, refl, sym, ap, subst, ◌∙◌, eqb-true, eq-eqb, arith}
+use Rattle.std.proofs.Common.{◌≡◌, ◌+◌, ◌<◌, ◌==◌, ◌++◌, ℕ, Bool, true, false, cond, List, [], ◌∷◌, take, length, get_or, Some, refl, sym, ap, subst, ◌∙◌, eqb-true, eq-eqb, inl, inr, ⊎_elim, arith}
 use Rattle.std.proofs.lemmas.List.{take_more}
 use Rattle.std.specs.Prelude.{if◌then◌else◌}
 use Rattle.std.specs.BTreeMap.{get}
@@ -16,7 +16,7 @@ use Rattle.alt_layout.specs.Layout.{RowMap}
 use Rattle.alt_layout.specs.Writes.{changes_in, one_row}
 use Rattle.alt_layout.proofs.RowLaws.{rows_join, none_before, none_behind}
 use Rattle.alt_families.specs.Families.{Families, rows_in, files_in}
-use Rattle.alt_families.specs.Memory.{IsWrittenTo}
+use Rattle.alt_families.specs.Memory.{IsChanged, IsWrittenTo}
 use Rattle.alt_families.specs.declared.family.Family.{Family}
 
 -- changes behind changes
@@ -65,6 +65,27 @@ written_more a b c number i cs x within at first later =
     subst (IsWrittenTo a c number)
     (ap (λ (y : RowChange). take i cs ++ y ∷ []) at ∙ sym (take_more cs i x within))
     (written_then a b c number (take i cs) (x ∷ []) first later)
+
+-- a family that no change so far has, nor one more, is as it was
+pub others_written : (a b c : Families) (i : ℕ) (cs : List RowChange) (x : RowChange)
+    → i < length cs → x ≡ get_or cs i x
+    → ((f : ℕ) → (IsChanged (take i cs) f → ⊥) → get nat_cmp b f ≡ get nat_cmp a f)
+    → ((f : ℕ) → (f ≡ x.family → ⊥) → get nat_cmp c f ≡ get nat_cmp b f) → (f : ℕ)
+    → (IsChanged (take (i + 1) cs) f → ⊥) → get nat_cmp c f ≡ get nat_cmp a f
+others_written a b c i cs x within at first later f out =
+    let parts : (IsChanged (take i cs ++ x ∷ []) f → ⊥) =
+    subst (λ (ys : List RowChange). IsChanged ys f → ⊥) (take_more cs i x within
+    ∙ ap (λ (y : RowChange). take i cs ++ y ∷ []) (sym at)) out in
+    later f (λ same. parts (last (take i cs) same)) ∙ first f (λ there. parts (front (take i cs) there))
+  where
+    front : (ys : List RowChange) → IsChanged ys f → IsChanged (ys ++ x ∷ []) f
+    front [] there = absurd there
+    front (y ∷ ys) there = ⊎_elim (λ (e : f ≡ y.family). inl e)
+        (λ (rest : IsChanged ys f). inr (front ys rest)) there
+
+    last : (ys : List RowChange) → f ≡ x.family → IsChanged (ys ++ x ∷ []) f
+    last [] same = inl same
+    last (y ∷ ys) same = inr (last ys same)
 
 -- a family's rows and files, with a change of another family or of it
 pub changes_one : (number f : ℕ) (c : RowChange)

@@ -1,5 +1,5 @@
 -- What the changes of a write make of the rows that families have in memory.
-use Rattle.std.specs.Prelude.{◌≡◌, ℕ, List}
+use Rattle.std.specs.Prelude.{◌≡◌, ◌⊎◌, ℕ, List, [], ◌∷◌}
 use Rattle.std.specs.BTreeMap.{get}
 use Rattle.std.specs.Ordering.{nat_cmp}
 use Rattle.alt_cells.specs.declared.batch.RowChange.{RowChange}
@@ -13,3 +13,8 @@ pub record IsWrittenTo (old new : Families) (number : ℕ) (changes : List RowCh
   pub rows : (f : ℕ) → rows_in (get nat_cmp new f)
       ≡ joined_map join_row (rows_in (get nat_cmp old f)) (changes_in number f changes)
   pub files : (f : ℕ) → files_in (get nat_cmp new f) ≡ files_in (get nat_cmp old f)
+
+-- A write changes rows of the family.
+abbrev pub IsChanged : List RowChange → ℕ → Type 0
+IsChanged [] family = ⊥
+IsChanged (c ∷ cs) family = (family ≡ c.family) ⊎ IsChanged cs family

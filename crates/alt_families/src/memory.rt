@@ -1,8 +1,10 @@
 //! The rows in memory, and the changes of a write joined to them.
 
-ghost use Rattle.std.specs.Prelude.{◌≡◌, ◌∷◌, ◌+◌, [], OnOk, min};
+ghost use Rattle.std.specs.Prelude.{◌≡◌, ◌∷◌, ◌+◌, [], ℕ, OnOk, min};
+ghost use Rattle.std.specs.BTreeMap.{get};
+ghost use Rattle.std.specs.Ordering.{nat_cmp};
 ghost use Rattle.alt_memtable.specs.Rows.{most_bytes};
-ghost use Rattle.alt_families.specs.Memory.{IsWrittenTo};
+ghost use Rattle.alt_families.specs.Memory.{IsChanged, IsWrittenTo};
 
 use crate::family::Family;
 use alt_base::NoMemory;
@@ -21,7 +23,10 @@ pub fn put_changes(
     number: u64,
     changes: &[RowChange],
 ) -> Result<(), NoMemory>
-    ensures { OnOk result (IsWrittenTo families.old families.new number changes.now) }
+    ensures written { OnOk result
+        (IsWrittenTo families.old families.new number changes.now) }
+    ensures others { OnOk result ((family : ℕ) → (IsChanged changes.now family → ⊥)
+        → get nat_cmp families.new family ≡ get nat_cmp families.old family) }
 {
     for change in changes {
         put_one(alloc, families, number, change)?;
@@ -35,7 +40,10 @@ fn put_one(
     number: u64,
     change: &RowChange,
 ) -> Result<(), NoMemory>
-    ensures { OnOk result (IsWrittenTo families.old families.new number (change.now ∷ [])) }
+    ensures written { OnOk result
+        (IsWrittenTo families.old families.new number (change.now ∷ [])) }
+    ensures others { OnOk result ((family : ℕ) → (family ≡ change.now.family → ⊥)
+        → get nat_cmp families.new family ≡ get nat_cmp families.old family) }
 {
     let row = RowCells::of_change(alloc, number, change)?;
     match families.get_mut(&change.family) {

@@ -4,7 +4,7 @@ use Rattle.std.specs.BTreeMap.{get}
 use Rattle.std.specs.Ordering.{nat_cmp}
 use Rattle.alt_flush.proofs.RemoveLaws.{in_at, in_more}
 use Rattle.alt_manifest.specs.Versions.{IsIn}
-use Rattle.alt_engine.specs.Working.{bytes_in}
+use Rattle.alt_engine.specs.InHand.{bytes_in}
 use Rattle.alt_engine.proofs.NeedLaws.{in_before}
 use Rattle.alt_engine.proofs.full.first_full.Goals as goal
 

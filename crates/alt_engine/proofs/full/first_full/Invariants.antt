@@ -3,7 +3,7 @@ use Rattle.std.proofs.Common.{◌≤◌, ℕ, take}
 use Rattle.std.specs.BTreeMap.{get}
 use Rattle.std.specs.Ordering.{nat_cmp}
 use Rattle.alt_manifest.specs.Versions.{IsIn}
-use Rattle.alt_engine.specs.Working.{bytes_in}
+use Rattle.alt_engine.specs.InHand.{bytes_in}
 use Rattle.alt_engine.proofs.full.first_full.Given as goal
 
 abbrev pub invariant-loop-family : goal.invariant-loop-family

@@ -38,7 +38,7 @@ returns-in-Ok-remove_others-clause-ok g c told l found =
     (subst (λ (v : Version). IsOf v f) (sym c.current.ensures) of) ∙ (c.names.ensures.same told).file f)
     (subst (λ (n : ℕ). e.next_file ≤ n) (sym c.next_file.ensures)
     (next_past-least e.next_file c.as_slice.result.now))
-    (returns-in-Ok-remove_others-clause-gone g c told)
+    (returns-in-Ok-remove_others-clause-gone g c told) c.has_full.result c.has_full.ensures
 
 pub returns-in-Ok-remove_others-clause-any_moment : goal.returns-in-Ok-remove_others-clause-any_moment
 returns-in-Ok-remove_others-clause-any_moment g c trusted =

@@ -21,4 +21,4 @@ returns c =
     (let high = c.if-number-flushed_of.false in let is = c.flushed_of.ensures in
     omega (arith, high, is))
     (subst (λ (l : List RowChange). IsWrittenTo c.args.families.now c.put_changes.new.families
-    c.args.number l) c.from_ref.ensures.value written)) c.put_changes.ensures
+    c.args.number l) c.from_ref.ensures.value written)) c.put_changes.ensures.written

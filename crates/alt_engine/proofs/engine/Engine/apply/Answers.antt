@@ -1,11 +1,16 @@
 -- A batch is an entry of the last segment, and its rows are in memory before.
-use Rattle.std.proofs.Common.{◌+◌, map, min, ap, subst, sym, ◌∙◌}
+use Rattle.std.proofs.Common.{◌≡◌, ◌<◌, ℕ, List, false, ◌+◌, map, min, ap, subst, sym, ◌∙◌}
 use Rattle.alt_memtable.specs.Rows.{most_bytes}
 use Rattle.alt_disk.specs.Disk.{DiskState}
 use Rattle.alt_writes.specs.Bytes.{write_bytes}
-use Rattle.alt_families.specs.Memory.{IsWrittenTo}
+use Rattle.std.specs.BTreeMap.{get}
+use Rattle.std.specs.Ordering.{nat_cmp}
+use Rattle.alt_cells.specs.declared.batch.RowChange.{RowChange}
+use Rattle.alt_families.specs.Memory.{IsChanged, IsWrittenTo}
+use Rattle.alt_engine.specs.InHand.{bytes_in}
 use Rattle.alt_engine.proofs.ApplyLaws.{at_rest, fits_as, log_stands, spelled_as}
 use Rattle.alt_engine.proofs.HandLaws.{write_images, with_batch}
+use Rattle.alt_engine.proofs.FullLaws.{still_below}
 use Rattle.alt_engine.proofs.engine.Engine.apply.Goals as goal
 
 pub returns-then-self-ge-LAST_NUMBER-clause-any_moment :
@@ -26,9 +31,9 @@ returns-in-Err-Failed-clause-any_moment g c trusted l stands =
     let s : DiskState = g.D.Disk.state c.args.disk.now in
     let e = c.args.self.now in
     let batch = c.args.batch.now in
-    write_images s (g.D.Disk.state c.append.new.disk) e l batch c.as_slice-3.result.now stands
-    (spelled_as s e l c.as_slice.result.now batch c.as_slice-3.result.now _ stands
-    c.as_slice.ensures.changes c.as_slice-3.ensures.value c.in_ok-bytes.ensures.bytes)
+    write_images s (g.D.Disk.state c.append.new.disk) e l batch c.as_slice-4.result.now stands
+    (spelled_as s e l c.as_slice.result.now batch c.as_slice-4.result.now _ stands
+    c.as_slice.ensures.changes c.as_slice-4.ensures.value c.in_ok-bytes.ensures.bytes)
     (fits_as s e l c.as_slice.result.now batch stands c.as_slice.ensures.changes
     c.in_ok-bytes.ensures.held)
     (c.append.ensures.any_moment trusted (map write_bytes stands.reads.writes)
@@ -39,9 +44,9 @@ returns-in-Err-NoMemory-clause-any_moment g c trusted l stands =
     let s : DiskState = g.D.Disk.state c.args.disk.now in
     let e = c.args.self.now in
     let batch = c.args.batch.now in
-    write_images s (g.D.Disk.state c.append.new.disk) e l batch c.as_slice-3.result.now stands
-    (spelled_as s e l c.as_slice.result.now batch c.as_slice-3.result.now _ stands
-    c.as_slice.ensures.changes c.as_slice-3.ensures.value c.in_ok-bytes.ensures.bytes)
+    write_images s (g.D.Disk.state c.append.new.disk) e l batch c.as_slice-4.result.now stands
+    (spelled_as s e l c.as_slice.result.now batch c.as_slice-4.result.now _ stands
+    c.as_slice.ensures.changes c.as_slice-4.ensures.value c.in_ok-bytes.ensures.bytes)
     (fits_as s e l c.as_slice.result.now batch stands c.as_slice.ensures.changes
     c.in_ok-bytes.ensures.held)
     (c.append.ensures.any_moment trusted (map write_bytes stands.reads.writes)
@@ -52,9 +57,9 @@ returns-clause-any_moment g c trusted l stands =
     let s : DiskState = g.D.Disk.state c.args.disk.now in
     let e = c.args.self.now in
     let batch = c.args.batch.now in
-    write_images s (g.D.Disk.state c.append.new.disk) e l batch c.as_slice-3.result.now stands
-    (spelled_as s e l c.as_slice.result.now batch c.as_slice-3.result.now _ stands
-    c.as_slice.ensures.changes c.as_slice-3.ensures.value c.in_ok-bytes.ensures.bytes)
+    write_images s (g.D.Disk.state c.append.new.disk) e l batch c.as_slice-4.result.now stands
+    (spelled_as s e l c.as_slice.result.now batch c.as_slice-4.result.now _ stands
+    c.as_slice.ensures.changes c.as_slice-4.ensures.value c.in_ok-bytes.ensures.bytes)
     (fits_as s e l c.as_slice.result.now batch stands c.as_slice.ensures.changes
     c.in_ok-bytes.ensures.held)
     (c.append.ensures.any_moment trusted (map write_bytes stands.reads.writes)
@@ -65,9 +70,9 @@ returns-clause-ok g c trusted l stands =
     let s : DiskState = g.D.Disk.state c.args.disk.now in
     let e = c.args.self.now in
     let batch = c.args.batch.now in
-    with_batch s (g.D.Disk.state c.append.new.disk) e l batch c.as_slice-3.result.now stands
-    (spelled_as s e l c.as_slice.result.now batch c.as_slice-3.result.now _ stands
-    c.as_slice.ensures.changes c.as_slice-3.ensures.value c.in_ok-bytes.ensures.bytes)
+    with_batch s (g.D.Disk.state c.append.new.disk) e l batch c.as_slice-4.result.now stands
+    (spelled_as s e l c.as_slice.result.now batch c.as_slice-4.result.now _ stands
+    c.as_slice.ensures.changes c.as_slice-4.ensures.value c.in_ok-bytes.ensures.bytes)
     (fits_as s e l c.as_slice.result.now batch stands c.as_slice.ensures.changes
     c.in_ok-bytes.ensures.held)
     (c.append.ensures.any_moment trusted (map write_bytes stands.reads.writes)
@@ -75,6 +80,14 @@ returns-clause-ok g c trusted l stands =
     c.append.ensures.file
     (c.in-Ok.ensures.ok trusted (map write_bytes stands.reads.writes) stands.reads.log)
     (c.with_more-self.ensures ∙ ap (λ n. min (e.length + n) most_bytes)
-    (c.len.ensures ∙ sym c.as_slice-3.ensures.len))
+    (c.len.ensures ∙ sym c.as_slice-4.ensures.len))
     (subst (IsWrittenTo e.families c.put_changes.new.families e.next) c.as_slice-2.ensures.changes
-    c.in_ok-put_changes.ensures)
+    c.in_ok-put_changes.ensures.written) c.full_after-self.result
+    (still_below e.families c.put_changes.new.families e.limits.flush e.full batch
+    c.full_after-self.result stands.reads.calm
+    (subst (λ (cs : List RowChange). (f : ℕ) → (IsChanged cs f → ⊥)
+    → get nat_cmp c.put_changes.new.families f ≡ get nat_cmp e.families f)
+    c.as_slice-2.ensures.changes c.in_ok-put_changes.ensures.others) c.full_after-self.ensures.before
+    (subst (λ (cs : List RowChange). c.full_after-self.result ≡ false → (f : ℕ) → IsChanged cs f
+    → bytes_in (get nat_cmp c.put_changes.new.families f) < e.limits.flush)
+    c.as_slice-3.ensures.changes c.full_after-self.ensures.changed))

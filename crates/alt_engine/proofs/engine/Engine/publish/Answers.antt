@@ -24,11 +24,13 @@ returns-in-Ok-clause-ok g c trusted m ready =
     let e : Engine = record c.args.self.now {
       manifest = c.append.new.self;
       next_file = c.args.draft.next_file;
+      full = c.has_full-self.result;
     } in
     let stands : Stands b e m = published a b c.args.self.now c.args.draft m c.append.new.self
     (OldOrNew (version_of c.args.self.now.manifest) c.args.draft) ready
     (c.append.ensures.any_moment trusted ready.manifest) c.append.ensures.file
-    c.in_ok-append.ensures.version (c.in_ok-append.ensures.ok trusted) in
+    c.in_ok-append.ensures.version (c.in_ok-append.ensures.ok trusted)
+    c.has_full-self.result c.has_full-self.ensures in
     removed b (g.D.Disk.state c.remove_left_over.new.disk) e m c.args.left.now stands
     (subst (λ (v : Version). Spans b (g.D.Disk.state c.remove_left_over.new.disk)
     (IsLeftOver c.args.left.now v) (λ t image. Unit {0})) c.current.ensures
@@ -46,11 +48,13 @@ returns-in-Ok-clause-any_moment g c trusted l m lying ready =
     let e : Engine = record c.args.self.now {
       manifest = c.append.new.self;
       next_file = c.args.draft.next_file;
+      full = c.has_full-self.result;
     } in
     let run = c.append.ensures.any_moment trusted ready.manifest in
     let stands : Stands b e m = published a b c.args.self.now c.args.draft m c.append.new.self
     (OldOrNew (version_of c.args.self.now.manifest) c.args.draft) ready run c.append.ensures.file
-    c.in_ok-append.ensures.version (c.in_ok-append.ensures.ok trusted) in
+    c.in_ok-append.ensures.version (c.in_ok-append.ensures.ok trusted)
+    c.has_full-self.result c.has_full-self.ensures in
     then_second a b d l m (publishing a b c.args.self.now c.args.draft l m lying ready run)
     (removing b d e m c.args.left.now stands
     (subst (λ (v : Version). Spans b d (IsLeftOver c.args.left.now v) (λ t image. Unit {0}))
@@ -65,11 +69,13 @@ returns-in-Err-clause-any_moment g c trusted l m lying ready =
     let e : Engine = record c.args.self.now {
       manifest = c.append.new.self;
       next_file = c.args.draft.next_file;
+      full = c.has_full-self.result;
     } in
     let run = c.append.ensures.any_moment trusted ready.manifest in
     let stands : Stands b e m = published a b c.args.self.now c.args.draft m c.append.new.self
     (OldOrNew (version_of c.args.self.now.manifest) c.args.draft) ready run c.append.ensures.file
-    c.in_ok-append.ensures.version (c.in_ok-append.ensures.ok trusted) in
+    c.in_ok-append.ensures.version (c.in_ok-append.ensures.ok trusted)
+    c.has_full-self.result c.has_full-self.ensures in
     then_second a b d l m (publishing a b c.args.self.now c.args.draft l m lying ready run)
     (removing b d e m c.args.left.now stands
     (subst (λ (v : Version). Spans b d (IsLeftOver c.args.left.now v) (λ t image. Unit {0}))

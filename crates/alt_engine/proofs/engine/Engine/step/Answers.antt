@@ -14,3 +14,12 @@ returns-in-None-clause-any_moment g c trusted l stands =
     let a : DiskState = g.D.Disk.state c.args.disk.now in
     let e = c.args.self.now in
     making a a e l c.args.live.now stands (none_removed a (From e.next_file))
+
+pub returns-then-not-self-clause-ok : goal.returns-then-not-self-clause-ok
+returns-then-not-self-clause-ok g c trusted l stands = (l, stands, empties_same c.args.live.now l)
+
+pub returns-then-not-self-clause-any_moment : goal.returns-then-not-self-clause-any_moment
+returns-then-not-self-clause-any_moment g c trusted l stands =
+    let a : DiskState = g.D.Disk.state c.args.disk.now in
+    let e = c.args.self.now in
+    making a a e l c.args.live.now stands (none_removed a (From e.next_file))

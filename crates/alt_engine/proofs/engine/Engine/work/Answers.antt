@@ -55,11 +55,12 @@ returns-in-Step-clause-idle g c =
     let e = c.args.self.now in
     let live = c.args.live.now in
     IfOk-weaker c.step.result
-    (λ (w : Worked). w ≡ Idle → IsShort e × IsCalm live e)
+    (λ (w : Worked). w ≡ Idle → IsShort e
+    × (IsTrusted a → (l : Layout) → Stands a e l → IsCalm live e))
     (λ (w : Worked). w ≡ Idle → IsTrusted a → (l : Layout) → Stands a e l
     → IsIdle c.args.task a.file live e)
     (λ w idle it trusted l stands. subst (λ (t : Task). IsIdle t a.file live e) (sym c.in-Step.is)
-    (short_entries a e l stands (idle it).0, (idle it).1)) c.step.ensures.idle
+    (short_entries a e l stands (idle it).0, (idle it).1 trusted l stands)) c.step.ensures.idle
 
 pub returns-in-Step-clause-busy : goal.returns-in-Step-clause-busy
 returns-in-Step-clause-busy g c =

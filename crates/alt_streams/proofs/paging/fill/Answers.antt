@@ -51,7 +51,20 @@ pieces-preserved g c = record {
     catalog = c.step.ensures.catalog.catalog ∙ c.pieces.invariant.catalog.catalog;
     number = c.step.ensures.catalog.number ∙ c.pieces.invariant.catalog.number;
     family = c.step.ensures.catalog.family ∙ c.pieces.invariant.catalog.family;
+    limits = c.step.ensures.catalog.limits ∙ c.pieces.invariant.catalog.limits;
   };
   disk = reads_then (g.D.Disk.state c.args.disk.now) (g.D.Disk.state c.pieces.disk)
       (g.D.Disk.state c.step.new.disk) c.pieces.invariant.disk c.step.ensures.disk;
 }
+
+pub returns-in_err-more-clause-stays : goal.returns-in_err-more-clause-stays
+returns-in_err-more-clause-stays g c s = (
+  λ stands. (c.in_err-more.ensures.stays s).0 ((c.pieces.invariant.stays s).0 stands),
+  λ stands. (c.pieces.invariant.stays s).1 ((c.in_err-more.ensures.stays s).1 stands),
+)
+
+pub returns-then-not-more-clause-stays : goal.returns-then-not-more-clause-stays
+returns-then-not-more-clause-stays g c s = (
+  λ stands. (c.in_ok-more.ensures.stays s).0 ((c.pieces.invariant.stays s).0 stands),
+  λ stands. (c.pieces.invariant.stays s).1 ((c.in_ok-more.ensures.stays s).1 stands),
+)

@@ -9,13 +9,25 @@ use alt_tables::TableFault;
 #[derive(Debug, Drop)]
 pub enum RunFault {
     /// A write would need a number, a new table a family, or work a file, that is never given out: this one.
-    Spent { number: u64 },
+    Spent {
+        number: u64,
+    },
     /// The bytes of this file at this place are none that a store has there.
-    Damaged { file: u32, at: u64 },
+    Damaged {
+        file: u32,
+        at: u64,
+    },
     /// A file ends with a digest that isn't that of the bytes before it.
-    DigestDiffers { file: u32, kept: [u8; 32], found: [u8; 32] },
+    DigestDiffers {
+        file: u32,
+        kept: [u8; 32],
+        found: [u8; 32],
+    },
     /// A row is none of its family, with this key.
-    BadRow { family: u32, key: Bytes },
+    BadRow {
+        family: u32,
+        key: Bytes,
+    },
     /// The device failed, and its count of faults rose.
     Failed,
     /// Memory was refused.

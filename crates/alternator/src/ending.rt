@@ -19,19 +19,33 @@ pub(crate) enum Ending {
     /// The words are none of those that it knows.
     Words,
     /// A file is there already, where a store was to be made, this one first.
-    NotEmpty { first: u32 },
+    NotEmpty {
+        first: u32,
+    },
     /// The files are no store's, for the bytes of this file at this place.
-    Damaged { file: u32, at: u64 },
+    Damaged {
+        file: u32,
+        at: u64,
+    },
     /// The files are no store's, for this one ends with a digest that isn't that of the bytes before it.
-    DigestDiffers { file: u32, kept: [u8; 32], found: [u8; 32] },
+    DigestDiffers {
+        file: u32,
+        kept: [u8; 32],
+        found: [u8; 32],
+    },
     /// The rows are those of no state, and of this family and key is the first that is wrong.
-    BadRow { family: u32, key: Bytes },
+    BadRow {
+        family: u32,
+        key: Bytes,
+    },
     /// The device failed.
     Device,
     /// Memory was refused.
     Memory,
     /// A write would need this number, a new table this family, or work this file, and it is never given out.
-    Spent { number: u64 },
+    Spent {
+        number: u64,
+    },
 }
 
 /// The status of an ending.

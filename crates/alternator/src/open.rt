@@ -31,11 +31,7 @@ fn fault_of(fault: OpenFault) -> RunFault
 }
 
 /// The tables of the store that lies on the disk, whose engine gets these limits.
-pub(crate) fn open<D: Disk>(
-    alloc: Global,
-    disk: &mut D,
-    limits: Limits,
-) -> Result<Tables, RunFault>
+pub(crate) fn open<D: Disk>(alloc: Global, disk: &mut D, limits: Limits) -> Result<Tables, RunFault>
     ensures reads { IfOk result (λ t. IsTrue (D.state disk.old).tells
         → (s : State) × StandsFor (D.state disk.old).file s) }
     ensures stands { IfOk result (λ t. IsTrusted (D.state disk.old) → (s : State)

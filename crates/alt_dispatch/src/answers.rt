@@ -16,7 +16,7 @@ ghost use Rattle.alt_machine.specs.Valid.{IsValid};
 ghost use Rattle.alt_dispatch.specs.Settled.{Settles, Tells};
 ghost use Rattle.alt_request.specs.Carried.{Carries, IsPlain, Moves};
 ghost use Rattle.alt_tables.specs.Images.{Leaves};
-ghost use Rattle.alt_tables.specs.Stands.{AreReady, Stands};
+ghost use Rattle.alt_tables.specs.Stands.{AreReady, Stands, limits_of};
 ghost use Rattle.alt_shape.specs.Body.{body_json};
 
 use crate::bodies;
@@ -98,6 +98,7 @@ pub fn answer<D: Disk>(
     // A stop at any moment of the call leaves the state after some of the writes; a request without writes leaves every file.
     ensures leaves { (s : State) → Stands (D.state disk.old) tables.old s
         → Leaves (D.state disk.old) (D.state disk.new) s (step s operation body.now moment).atoms }
+    ensures limits { limits_of tables.new ≡ limits_of tables.old }
     ensures goes { Goes (D.state disk.old) (D.state disk.new) }
     ensures cause { IsErrOf result TableFault.Failed
         → Rose (D.state disk.old).faults (D.state disk.new).faults }
@@ -133,6 +134,7 @@ fn respond<D: Disk>(
     requires ready { AreReady (D.state disk.old) tables.old }
     ensures carried { Carries (λ s. step s operation body.now moment)
         (Stands (D.state disk.old) tables.old) (Stands (D.state disk.new) tables.new) result }
+    ensures limits { limits_of tables.new ≡ limits_of tables.old }
     ensures moves { Moves (λ s. step s operation body.now moment)
         (Stands (D.state disk.old) tables.old) (D.state disk.old) (D.state disk.new) result }
 {
@@ -156,6 +158,7 @@ fn respond_to_put<D: Disk>(
     requires ready { AreReady (D.state disk.old) tables.old }
     ensures carried { Carries (λ s. with_body s Operation.PutItem moment (body_of body.now))
         (Stands (D.state disk.old) tables.old) (Stands (D.state disk.new) tables.new) result }
+    ensures limits { limits_of tables.new ≡ limits_of tables.old }
     ensures moves { Moves (λ s. with_body s Operation.PutItem moment (body_of body.now))
         (Stands (D.state disk.old) tables.old) (D.state disk.old) (D.state disk.new) result }
 {
@@ -180,6 +183,7 @@ fn respond_to<D: Disk>(
     requires ready { AreReady (D.state disk.old) tables.old }
     ensures carried { Carries (λ s. with_body s operation moment (body_of body.now))
         (Stands (D.state disk.old) tables.old) (Stands (D.state disk.new) tables.new) result }
+    ensures limits { limits_of tables.new ≡ limits_of tables.old }
     ensures moves { Moves (λ s. with_body s operation moment (body_of body.now))
         (Stands (D.state disk.old) tables.old) (D.state disk.old) (D.state disk.new) result }
 {
@@ -201,6 +205,7 @@ fn carry_out<D: Disk>(
     requires ready { AreReady (D.state disk.old) tables.old }
     ensures carried { Carries (λ s. operates s operation moment (members_view body.now.entries))
         (Stands (D.state disk.old) tables.old) (Stands (D.state disk.new) tables.new) result }
+    ensures limits { limits_of tables.new ≡ limits_of tables.old }
     ensures moves { Moves (λ s. operates s operation moment (members_view body.now.entries))
         (Stands (D.state disk.old) tables.old) (D.state disk.old) (D.state disk.new) result }
 {

@@ -1,11 +1,12 @@
 //! PutItem.
 
+ghost use Rattle.std.specs.Prelude.{◌≡◌};
 ghost use Rattle.serde_json.specs.Data.{Members};
 ghost use Rattle.serde_json.specs.View.{members_view};
 ghost use Rattle.alt_machine.specs.Ops.PutItem.{put_item};
 ghost use Rattle.alt_readahead.specs.Direct.{IsReadAhead};
 ghost use Rattle.alt_request.specs.Carried.{Carries, Moves};
-ghost use Rattle.alt_tables.specs.Stands.{AreReady, Stands};
+ghost use Rattle.alt_tables.specs.Stands.{AreReady, Stands, limits_of};
 
 use crate::items::old_reply;
 use alt_disk::Disk;
@@ -88,6 +89,7 @@ pub fn put_item<D: Disk>(
     requires ready { AreReady (D.state disk.old) tables.old }
     ensures carried { Carries (λ s. put_item s moment (members_view body.now.entries))
         (Stands (D.state disk.old) tables.old) (Stands (D.state disk.new) tables.new) result }
+    ensures limits { limits_of tables.new ≡ limits_of tables.old }
     ensures moves { Moves (λ s. put_item s moment (members_view body.now.entries))
         (Stands (D.state disk.old) tables.old) (D.state disk.old) (D.state disk.new) result }
 {
@@ -108,6 +110,7 @@ pub fn put_item_ahead<D: Disk>(
     ensures carried { (ms : Members) → IsReadAhead ms (members_view body.now.entries) item
         → Carries (λ s. put_item s moment ms)
         (Stands (D.state disk.old) tables.old) (Stands (D.state disk.new) tables.new) result }
+    ensures limits { limits_of tables.new ≡ limits_of tables.old }
     ensures moves { (ms : Members) → IsReadAhead ms (members_view body.now.entries) item
         → Moves (λ s. put_item s moment ms)
         (Stands (D.state disk.old) tables.old) (D.state disk.old) (D.state disk.new) result }

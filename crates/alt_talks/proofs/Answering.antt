@@ -10,8 +10,7 @@ use Rattle.alt_tables.specs.Images.{Leaves}
 use Rattle.alt_tables.specs.Stands.{Stands}
 use Rattle.alt_tables.specs.declared.faults.TableFault.{TableFault}
 use Rattle.alt_tables.specs.declared.faults.TableFault.TheVariants as table
-use Rattle.alt_talks.specs.Faults.{IsCausedBy}
-use Rattle.alt_tables.specs.declared.faults.TableFault.TheVariants.{Failed}
+use Rattle.alt_talks.specs.Faults.{IsCausedBy, run_fault}
 use Rattle.alt_tables.specs.declared.tables.Tables.{Tables}
 use Rattle.alt_tables.proofs.Left.{leaves_images}
 
@@ -31,7 +30,7 @@ among_leaves a b tables s atoms stands leaves trusted =
 -- what broke off a request is why it has no answer
 pub caused : (now : State → Type 0) (s : State) (outcome : Outcome) (fault : TableFault)
     → BreakOff now outcome.wants s outcome.atoms fault
-    → IsCausedBy (wanted s outcome) fault
+    → IsCausedBy (wanted s outcome) (run_fault fault)
 caused now s outcome (table.Spent number) h = ap (option_map (λ (l : Lack). l.number)) h.1
 caused now s outcome (table.Damaged file at) h = absurd h
 caused now s outcome (table.BadRow family key) h = absurd h

@@ -1,6 +1,6 @@
 -- A whole connection, from its accept to its hanging up.
-use Rattle.alt_tables.specs.declared.faults.TableFault.{TableFault}
-use Rattle.alt_tables.specs.declared.faults.TableFault.TheVariants.{Failed}
+use Rattle.alt_talks.specs.declared.fault.RunFault.{RunFault}
+use Rattle.alt_talks.specs.declared.fault.RunFault.TheVariants.{Failed}
 use Rattle.std.proofs.Common.{◌≡◌, ◌<◌, inl, inr, ℕ, List, [], ◌∷◌, ◌++◌, Bool, true, false, not, refl, sym, ap, subst, ◌∙◌, append-nil, arith}
 use Rattle.std.specs.Prelude.{◌||◌}
 use Rattle.alt_disk.specs.Disk.{DiskState}
@@ -13,6 +13,7 @@ use Rattle.alt_talks.specs.TalkStops.{ComesOn, ComesSomeOn, LeavesNow}
 use Rattle.alt_talks.specs.TalkTexts.{text}
 use Rattle.alt_talks.specs.Stretches.{SaidOf, over, Hushes, TakesIdle, Does, DoesSome, GoesSome, Ends}
 use Rattle.alt_talks.specs.Connections.{Serves, Breaks, start}
+use Rattle.alt_talks.proofs.Breaking.{breaks_same}
 use Rattle.alt_talks.proofs.Stretching.{taken-append, said_in-append}
 use Rattle.alt_talks.proofs.TalkLeaving.{left_silent}
 use Rattle.alt_talks.proofs.TalkIdle.{idle_other, idle-append, counted_behind}
@@ -82,14 +83,14 @@ module _ (r : Rules) (per : ℕ) (s : State) (es : Log) (ms : List ℕ) (from si
         inside = e.goes.inside;
       }
 
-  pub some_hung : (fault : TableFault) → GoesSome r fault (at per false []) s false es ms
+  pub some_hung : (fault : RunFault) → GoesSome r fault (at per false []) s false es ms
       → Breaks r per fault s (record { moment = from; clocked = since; entries = es ++ entry upto clocked hung_up ∷ []; told = ms })
   some_hung fault e =
       let moved = subst (λ (bs : List ℕ). DoesSome r fault s false (turns r per false bs) es ms) (sym same_taken) e.some in record {
         some = record {
           said = (moved.said.0, moved.said.1 ∙ ap (λ bs. bs ++ moved.said.0) (sym same_said));
           most = moved.most;
-          wants = moved.wants;
+          wants = breaks_same r fault s false (turns r per false (taken (es ++ entry upto clocked hung_up ∷ []))) es (es ++ entry upto clocked hung_up ∷ []) ms same_said same_broken moved.wants;
           silent = λ z. absurd (let f : ⊥ = cc in f);
           hush = hushed moved.hush;
           still = λ z. absurd (let f : ⊥ = cc in f);

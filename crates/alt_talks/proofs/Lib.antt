@@ -1,7 +1,9 @@
+pub mod Breaking
 pub mod Answering
 pub mod Fronts
 pub mod Hanging
 pub mod Passing
+pub mod Responding
 pub mod Stepping
 pub mod Stopping
 pub mod Stretching

@@ -1,6 +1,6 @@
 -- One turn at the front.
-use Rattle.alt_tables.specs.declared.faults.TableFault.{TableFault}
-use Rattle.std.proofs.Common.{◌≡◌, ◌≤◌, ◌<◌, ◌+◌, ◌-◌, ◌==◌, take, ℕ, zero, suc, List, [], ◌∷◌, ◌++◌, length, drop, Bool, true, false, cond, None, refl, sym, ap, subst, ◌∙◌, append_assoc, arith}
+use Rattle.alt_talks.specs.declared.fault.RunFault.{RunFault}
+use Rattle.std.proofs.Common.{◌≡◌, ◌≤◌, inl, inr, ◌<◌, ◌+◌, ◌-◌, ◌==◌, take, ℕ, zero, suc, List, [], ◌∷◌, ◌++◌, length, drop, Bool, true, false, cond, None, refl, sym, ap, subst, ◌∙◌, append_assoc, arith}
 use Rattle.std.specs.Prelude.{◌||◌}
 use Rattle.alt_machine.specs.State.{State}
 use Rattle.alt_shell.specs.Log.{Log, said_in}
@@ -9,7 +9,7 @@ use Rattle.alt_talks.specs.Turns.{or_next}
 use Rattle.alt_talks.specs.TalkViews.{asking}
 use Rattle.alt_talks.specs.Talks.{Turn, onward, asked, refused, Rules, Head, unread, bad, good, Place, at, turns, final, greets, is_whole, size_of, request_of, has_refused}
 use Rattle.alt_talks.specs.TalkTexts.{asks, wanted}
-use Rattle.alt_talks.specs.Stretches.{Utters, Answers, AnswersSome, Begins, Moves, MovesSome, Steps}
+use Rattle.alt_talks.specs.Stretches.{Utters, Answers, AnswersSome, Begins, BreaksFor, Moves, MovesSome, Steps}
 use Rattle.alt_talks.proofs.TalkCuts.{at_unread, at_bad, at_hello, at_whole, at_short}
 use Rattle.alt_talks.proofs.TalkFolds.{text-more, asks-append}
 use Rattle.alt_talks.proofs.Uttering.{does_none, does_onward, quiet_none, moves_none}
@@ -46,6 +46,25 @@ wanted-more r s (asked q ∷ ts) us (m ∷ ms) h = ap (or_next (r.wants s q m)) 
 wanted-more r s (refused k ∷ ts) us [] h = wanted-more r s ts us [] (omega arith)
 wanted-more r s (refused k ∷ ts) us (m ∷ ms) h = wanted-more r s ts us ms (omega arith)
 
+breaks_more : (r : Rules) (fault : RunFault) (s : State) (m : Bool) (ts us : List Turn) (es : Log) (ms : List ℕ)
+    → length ms ≤ asks ts → BreaksFor r fault s m ts es ms → BreaksFor r fault s m (ts ++ us) es ms
+breaks_more r fault s m ts us es ms few (inl cause) =
+    inl (subst (λ w. IsCausedBy w fault) (sym (wanted-more r s ts us ms few)) cause)
+breaks_more r fault s m ts us es ms few (inr work) = inr (
+  work.0,
+  record {
+    before = work.1.before;
+    request = work.1.request;
+    rest = work.1.rest ++ us;
+    parts = ap (λ l. l ++ us) work.1.parts
+        ∙ append_assoc work.1.before (asked work.1.request ∷ work.1.rest) us;
+    count = work.1.count;
+    enough = wanted-more r s ts us ms few ∙ work.1.enough;
+    heard = work.1.heard;
+    said = work.1.said;
+  },
+)
+
 begins_more : (r : Rules) (s : State) (ts us : List Turn) (ms : List ℕ) → Begins r s ts ms
     → Begins r s (ts ++ us) ms
 begins_more r s ts us ms b = record {
@@ -60,14 +79,14 @@ begins_more r s ts us ms b = record {
 }
 
 -- a break is one of more turns
-pub some_more : (r : Rules) (fault : TableFault) (s : State) (m : Bool) (ts us vs : List Turn) (es : Log) (ms : List ℕ) → vs ≡ ts ++ us
+pub some_more : (r : Rules) (fault : RunFault) (s : State) (m : Bool) (ts us vs : List Turn) (es : Log) (ms : List ℕ) → vs ≡ ts ++ us
     → AnswersSome r fault s m ts es ms → AnswersSome r fault s m vs es ms
 some_more r fault s m ts us vs es ms e a =
     subst (λ (ws : List Turn). AnswersSome r fault s m ws es ms) (sym e) (record {
       some = record {
         said = let t = text-more r s ts us ms a.some.most in (a.some.said.0 ++ t.0, t.1 ∙ ap (λ bs. bs ++ t.0) a.some.said.1 ∙ append_assoc (said_in es) a.some.said.0 t.0);
         most = let x = asks-append ts us in let y = a.some.most in omega (arith, x, y);
-        wants = subst (λ w. IsCausedBy w fault) (sym (wanted-more r s ts us ms a.some.most)) a.some.wants;
+        wants = breaks_more r fault s m ts us es ms a.some.most a.some.wants;
         silent = a.some.silent;
         hush = a.some.hush;
         still = a.some.still;
@@ -76,7 +95,7 @@ some_more r fault s m ts us vs es ms e a =
       quiet = a.quiet;
     })
 
-pub moves_some : (r : Rules) (fault : TableFault) (p : Place) (s : State) (m : Bool) (es : Log) (ms : List ℕ) (ts us : List Turn)
+pub moves_some : (r : Rules) (fault : RunFault) (p : Place) (s : State) (m : Bool) (es : Log) (ms : List ℕ) (ts us : List Turn)
     → turns r p.left p.greeted p.bytes ≡ ts ++ us → AnswersSome r fault s m ts es ms → MovesSome r fault p s m es ms
 moves_some r fault p s m es ms ts us e a = let b = some_more r fault s m ts us _ es ms e a in record { some = b.some; quiet = b.quiet }
 

@@ -489,3 +489,18 @@ module _ (s : State) (vs : List Turn) (t : Turn) (one : vs ≡ t ∷ []) (say : 
       (λ u image before p. left-unsaid (said_in (until u es)) image
       (ap said_in (until-before mid.moment new.moment u es within before)) p)
       (λ u image from p. left-whole (said_in (until u es)) image (front u) p)
+
+  -- and then work went on, which left the state
+  pub leaves-worked : (old done new : DiskState) (es : Log)
+      → ((u : ℕ) → IsPrefix (said_in (until u es)) t.text)
+      → (IsTrusted old → IsTrusted done)
+      → AtEach old done (λ u image. IsLeft s vs (said_in (until u es)) image)
+      → AtEach done new (λ _ image. StandsFor image (last_state s t.atoms))
+      → AtEach old new (λ u image. IsLeft s vs (said_in (until u es)) image)
+  leaves-worked old done new es front trusts leaves works trusted =
+      spans_two old done new (λ u image. IsLeft s vs (said_in (until u es)) image)
+      (λ _ image. StandsFor image (last_state s t.atoms))
+      (λ u image. IsLeft s vs (said_in (until u es)) image)
+      (leaves trusted) (works (trusts trusted))
+      (λ u image before p. p)
+      (λ u image from p. left-whole (said_in (until u es)) image (front u) p)

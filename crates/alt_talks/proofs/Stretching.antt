@@ -2,13 +2,14 @@
 use Rattle.std.proofs.Common.{◌≡◌, ℕ, List, [], ◌∷◌, ◌++◌, Bool, true, false, Option, refl, sym, ap, subst, ◌∙◌, append-nil, arith}
 use Rattle.std.specs.Prelude.{◌||◌}
 use Rattle.std.proofs.lemmas.Grind.{flat_map-append}
-use Rattle.alt_disk.specs.Disk.{DiskState}
+use Rattle.alt_disk.specs.Disk.{DiskState, Goes}
+use Rattle.alt_disk.proofs.Runs.{trusted_on}
 use Rattle.alt_shell.specs.Calls.{Aside}
 use Rattle.alt_shell.specs.Log.{Log, Grows, Tells, moments_of, event_of, bytes_said, bytes_taken, is_end, taken, said_in, ended}
 use Rattle.alt_talks.specs.Runs.{OfStretch, Stretch}
 use Rattle.alt_talks.specs.Stops.{AreWithin}
 use Rattle.alt_shell.proofs.Telling.{Grows-then, Grows-nil, Tells-then, Tells-nil}
-use Rattle.alt_talks.proofs.Stopping.{Meet, within-then, trusts-kept}
+use Rattle.alt_talks.proofs.Stopping.{Meet, within-then, within-wider, trusts-kept}
 
 -- ---- logs one after the other
 
@@ -89,4 +90,21 @@ stretch_quiet a b c {P} law p aside g m = record {
   later = let same = aside.moment in omega (arith, same, p.later);
   trusts = λ trusted. trusts-kept b c aside.keeps (p.trusts trusted);
   holds = law p.entries p.told p.holds;
+}
+
+-- calls of the disk alone say nothing more and ask nothing more
+pub stretch_goes : (a b c : DiskState) {P Q : OfStretch}
+    → ((es : Log) (ms : List ℕ) → AreWithin a.moment b.moment es → P a b es ms → Q a c es ms)
+    → Stretch a b P → Goes b c → Stretch a c Q
+stretch_goes a b c law p goes = record {
+  entries = p.entries;
+  told = p.told;
+  grows = subst (λ (log : Log). Grows a.beside log p.entries) (sym goes.beside) p.grows;
+  tells = subst (λ (log : Log). Tells (moments_of a.beside) (moments_of log) p.told)
+      (sym goes.beside) p.tells;
+  within = within-wider a.moment a.moment b.moment c.moment p.entries p.within (omega arith)
+      goes.later;
+  later = omega (arith, p.later, goes.later);
+  trusts = λ trusted. trusted_on b c goes (p.trusts trusted);
+  holds = law p.entries p.told p.within p.holds;
 }

@@ -1,6 +1,6 @@
 -- Connections, one after another.
-use Rattle.alt_tables.specs.declared.faults.TableFault.{TableFault}
-use Rattle.alt_tables.specs.declared.faults.TableFault.TheVariants.{NoMemory}
+use Rattle.alt_talks.specs.declared.fault.RunFault.{RunFault}
+use Rattle.alt_talks.specs.declared.fault.RunFault.TheVariants.{NoMemory}
 use Rattle.std.proofs.Common.{◌≡◌, ◌<◌, ◌+◌, inl, inr, ℕ, List, [], ◌∷◌, ◌++◌, length, true, false, refl, sym, ap, subst, ◌∙◌, append-nil, length-append, arith}
 use Rattle.std.proofs.lemmas.Grind.{flat_map-append}
 use Rattle.alt_machine.specs.State.{State}
@@ -88,7 +88,7 @@ served_fewer r per n count s t u es fs ms ns few a b =
     }
 
 -- a connection broke off, or the wait for one failed
-unfoldable pub served_some : (r : Rules) (per n count : ℕ) (fault : TableFault) (s t : State) (es fs : Log)
+unfoldable pub served_some : (r : Rules) (per n count : ℕ) (fault : RunFault) (s t : State) (es fs : Log)
     (ms ns : List ℕ) → n < count → Sofar r per n s t es ms → ComesSome r per fault t fs ns
     → ServedSome r per count fault s (es ++ fs) (ms ++ ns)
 served_some r per n count fault s t es fs ms ns few a (inl none) = record {

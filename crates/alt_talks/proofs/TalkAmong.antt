@@ -11,8 +11,8 @@ use Rattle.alt_talks.specs.Stops.{Image, IsLeft, AtEach, AreWithin}
 use Rattle.alt_talks.specs.Talks.{Turn, Rules, Lawful, turns_at}
 use Rattle.alt_talks.specs.TalkStops.{LeavesNow, LeftOn, LeftTaken, ComesOn, ComesSomeOn, LeftAmong, ServedOn, ServedSomeOn}
 use Rattle.alt_talks.specs.TalkTexts.{after}
-use Rattle.alt_tables.specs.declared.faults.TableFault.{TableFault}
-use Rattle.alt_tables.specs.declared.faults.TableFault.TheVariants.{NoMemory}
+use Rattle.alt_talks.specs.declared.fault.RunFault.{RunFault}
+use Rattle.alt_talks.specs.declared.fault.RunFault.TheVariants.{NoMemory}
 use Rattle.alt_talks.proofs.Stopping.{Meet, leaves-here, spans_two, taken-until, until-append, until-before, until-behind}
 use Rattle.alt_talks.proofs.TalkAll.{Sofar, sofar_none, sofar_more, served_all, served_fewer, served_some, served_nothing, all_state, entries-append}
 use Rattle.alt_talks.proofs.TalkCuts.{at_unread}
@@ -156,7 +156,7 @@ module _ (r : Rules) (w : Lawful r) (per : ℕ) (a : DiskState) where
       left_still r w per a b c s t x.0.all same es fs x.0.made meet x.1 ns (ap taken y.0.1.2) y.1,
     )
 
-    pub served_some_on : (count : ℕ) (fault : TableFault) → n < count
+    pub served_some_on : (count : ℕ) (fault : RunFault) → n < count
         → ComesSomeOn r per fault t b c fs ns
         → ServedSomeOn r per count fault s a c (es ++ fs) (ms ++ ns)
     unfolding served_some

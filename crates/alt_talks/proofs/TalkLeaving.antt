@@ -12,7 +12,8 @@ use Rattle.alt_shell.specs.Calls.{Adds, Aside, Keeps, Untold, IsUntoldBy}
 use Rattle.alt_shell.specs.Log.{Log, Grows, Tells, moments_of, until, entry, told_count, took, take_failed, takes_failed, takes_missed, talks, accepted, hung_up, said_in, taken, bytes_said, bytes_taken, event_of}
 use Rattle.alt_shell.proofs.Telling.{Grows-then, Tells-then}
 use Rattle.alt_tables.specs.Images.{StandsFor}
-use Rattle.alt_talks.specs.Faults.{IsCausedBy}
+use Rattle.alt_talks.specs.Faults.{IsCausedBy, IsWorkFault}
+use Rattle.alt_talks.specs.Works.{Works}
 use Rattle.alt_talks.specs.Runs.{OfStretch, Stretch}
 use Rattle.alt_talks.specs.Stops.{Image, IsLeft, IsAmong, AtEach, AreWithin}
 use Rattle.alt_talks.specs.Stretches.{Utters, AtRest, Idle, Goes}
@@ -20,10 +21,11 @@ use Rattle.alt_talks.specs.Talks.{Turn, onward, asked, refused, Rules, Lawful, R
 use Rattle.alt_talks.specs.TalkStops.{deeds, carrying, saying, LeavesNow, LeftOn, LeftTaken, AnswersOn, AnswersSomeOn, CarriesOn, CarriesSomeOn, MovesOn, StepsOn, MovesAllOn, MovesSomeOn, GoesOn, GoesSomeOn}
 use Rattle.alt_talks.specs.TalkTexts.{asks}
 use Rattle.alt_talks.specs.Turns.{Turn as Deed}
-use Rattle.alt_tables.specs.declared.faults.TableFault.{TableFault}
+use Rattle.alt_talks.specs.declared.fault.RunFault.{RunFault}
+use Rattle.alt_talks.proofs.Breaking.{broke_behind}
 use Rattle.alt_talks.proofs.Stretching.{said_in-append, stretch_as, taken-append}
 use Rattle.alt_talks.proofs.Stepping.{answers_greeted, steps_short, steps_bad, steps_unread, moves_hello, moves_some, whole_at, fewer_left}
-use Rattle.alt_talks.proofs.Stopping.{AllSay, Meet, left-more, left-nothing-of, leaves-here, leaves-said, leaves-unsaid, leaves-weaker, spans_two, keeps-spans, trusts-kept, until-append, until-before, until-behind, taken-until, within-then, within-wider, leaves-before-aside, leaves-behind-aside, none-shorter, said-by}
+use Rattle.alt_talks.proofs.Stopping.{AllSay, Meet, left-more, left-nothing-of, leaves-here, leaves-said, leaves-worked, leaves-unsaid, leaves-weaker, spans_two, keeps-spans, trusts-kept, until-append, until-before, until-behind, taken-until, within-then, within-wider, leaves-before-aside, leaves-behind-aside, none-shorter, said-by}
 use Rattle.alt_talks.proofs.TalkDeeds.{deeds_say, deeds-more, deeds-longer, both, behind, left_then}
 use Rattle.alt_talks.proofs.TalkLogs.{stretch_one, then_one, took_then}
 use Rattle.alt_talks.proofs.TalkPulls.{goes_failed, goes_start, goes_taken, goes_some_taken, goes_then, goes_break, joined}
@@ -148,7 +150,7 @@ asked_on r w a b c s m n q moment fs ns front enough here keeps within u =
 
 -- or it broke off
 pub asked_some_on : (r : Rules) (w : Lawful r) (a b : DiskState) (s : State) (m : Bool) (q : Request)
-    (moment : ℕ) (fault : TableFault) → Asked r a b s q moment
+    (moment : ℕ) (fault : RunFault) → Asked r a b s q moment
     → IsCausedBy (r.wants s q moment) fault → Stretch a b (AnswersSomeOn r fault s m (asked q ∷ []))
 asked_some_on r w a b s m q moment fault front cause =
     told_alone a b {R = AnswersSomeOn r fault s m (asked q ∷ [])} moment front.silent front.told
@@ -157,6 +159,36 @@ asked_some_on r w a b s m q moment fault front cause =
       leaves-unsaid s (deeds r s (asked q ∷ []) (moment ∷ [])) (carrying r s q moment) refl
           (deeds_say r w s (asked q ∷ []) (moment ∷ [])) a b front.leaves,
     )
+
+-- and then a step of work was made behind a request that was answered
+pub worked_on : (r : Rules) (w : Lawful r) (a c d : DiskState) (s : State) (m n : Bool) (q : Request)
+    (moment : ℕ) (fs : Log) (ns : List ℕ)
+    → AnswersOn r s m (asked q ∷ []) (r.next s q moment) n a c fs (moment ∷ ns)
+    → ((u : ℕ) → IsPrefix (said_in (until u fs)) (r.reply s q moment)) → (IsTrusted a → IsTrusted c)
+    → Works c d (r.next s q moment)
+    → AnswersOn r s m (asked q ∷ []) (r.next s q moment) n a d fs (moment ∷ ns)
+worked_on r w a c d s m n q moment fs ns x by trusts works = (
+  x.0,
+  leaves-worked s (deeds r s (asked q ∷ []) (moment ∷ ns)) (carrying r s q moment) refl
+      (deeds_say r w s (asked q ∷ []) (moment ∷ ns)) a c d fs by trusts x.1
+      (subst (λ (u : State). AtEach c d (λ _ image. StandsFor image u)) (w.steps s q moment)
+      works.leaves),
+)
+
+-- or that broke off
+pub worked_some_on : (r : Rules) (w : Lawful r) (a c d : DiskState) (s : State) (m n : Bool)
+    (q : Request) (moment : ℕ) (fs : Log) (ns : List ℕ) (fault : RunFault)
+    → AnswersOn r s m (asked q ∷ []) (r.next s q moment) n a c fs (moment ∷ ns)
+    → ((u : ℕ) → IsPrefix (said_in (until u fs)) (r.reply s q moment)) → (IsTrusted a → IsTrusted c)
+    → Works c d (r.next s q moment) → IsWorkFault fault → n ≡ false
+    → AnswersSomeOn r fault s m (asked q ∷ []) a d fs (moment ∷ ns)
+worked_some_on r w a c d s m n q moment fs ns fault x by trusts works why heard = (
+  record {
+    some = broke_behind r fault s (r.next s q moment) m n q fs (moment ∷ ns) why heard x.0.does;
+    quiet = x.0.quiet;
+  },
+  (worked_on r w a c d s m n q moment fs ns x by trusts works).1,
+)
 
 -- a head was refused, behind a look at the clock
 pub refused_on : (r : Rules) (w : Lawful r) (a b c : DiskState) (s : State) (m n : Bool) (k moment : ℕ)
@@ -211,7 +243,7 @@ module _ (r : Rules) (w : Lawful r) (a b : DiskState) where
       (sym more.2 ∙ ap (λ (ks : List Turn). deeds r s ks ms) (sym e))
       (left-more s (deeds r s ts ms) more.0 (said_in (until u es)) image more.1 x)) left
 
-  pub moves_some_on : (fault : TableFault) (p : Place) (s : State) (m : Bool) (es : Log) (ms : List ℕ)
+  pub moves_some_on : (fault : RunFault) (p : Place) (s : State) (m : Bool) (es : Log) (ms : List ℕ)
       (ts us : List Turn) → turns r p.left p.greeted p.bytes ≡ ts ++ us
       → AnswersSomeOn r fault s m ts a b es ms → MovesSomeOn r fault p s m a b es ms
   moves_some_on fault p s m es ms ts us e x = (
@@ -257,7 +289,7 @@ module _ (r : Rules) (w : Lawful r) (a b c : DiskState) where
   )
 
   -- moves and then a break
-  pub moves_break_on : (fault : TableFault) (p q : Place) (s t : State) (m n : Bool) (es fs : Log)
+  pub moves_break_on : (fault : RunFault) (p q : Place) (s t : State) (m n : Bool) (es fs : Log)
       (ms ns : List ℕ) → Meet a b c es fs → 0 < q.left → MovesOn r p s m q t n a b es ms
       → MovesSomeOn r fault q t n b c fs ns → MovesSomeOn r fault p s m a c (es ++ fs) (ms ++ ns)
   moves_break_on fault p q s t m n es fs ms ns meet going x y = (
@@ -311,7 +343,7 @@ module _ (r : Rules) (w : Lawful r) (a b c : DiskState) where
         )
 
     -- or that broke off
-    pub some_whole_on : (fault : TableFault) → CarriesSomeOn r fault h mid t n b c fs ns
+    pub some_whole_on : (fault : RunFault) → CarriesSomeOn r fault h mid t n b c fs ns
         → MovesSomeOn r fault p s m a c (es ++ fs) (ms ++ ns)
     some_whole_on fault y =
         let f = whole_at r p.left p.greeted p.bytes h l e v in
@@ -454,7 +486,7 @@ module _ (r : Rules) (p : Place) (s : State) (a b c : DiskState) (bytes : List �
   )
 
   -- that broke off
-  pub goes_some_taken_on : (w : Lawful r) (m : Bool) (ready : Idle r p s m [] []) (fault : TableFault) (es : Log) (ms : List ℕ)
+  pub goes_some_taken_on : (w : Lawful r) (m : Bool) (ready : Idle r p s m [] []) (fault : RunFault) (es : Log) (ms : List ℕ)
       → AreWithin b.moment c.moment es → MovesSomeOn r fault into s m b c es ms
       → GoesSomeOn r fault p s m a c (one ∷ es) ms
   goes_some_taken_on w m ready fault es ms within x = (
@@ -517,7 +549,7 @@ module _ (r : Rules) (w : Lawful r) (a b c : DiskState) where
     left_goes p q s t m n es fs ms ns meet going x.0 (λ e. (y.0.does.silent e).0) x.1 y.1,
   )
 
-  pub goes_break_on : (fault : TableFault) (p q : Place) (s t : State) (m n : Bool) (es fs : Log)
+  pub goes_break_on : (fault : RunFault) (p q : Place) (s t : State) (m n : Bool) (es fs : Log)
       (ms ns : List ℕ) → Meet a b c es fs → 0 < q.left → GoesOn r true p s m q t n a b es ms
       → GoesSomeOn r fault q t n b c fs ns → GoesSomeOn r fault p s m a c (es ++ fs) (ms ++ ns)
   goes_break_on fault p q s t m n es fs ms ns meet going x y = (

@@ -1,13 +1,14 @@
 -- Taking, and then the turns at hand.
-use Rattle.alt_tables.specs.declared.faults.TableFault.{TableFault}
-use Rattle.alt_tables.specs.declared.faults.TableFault.TheVariants.{NoMemory}
-use Rattle.std.proofs.Common.{◌≡◌, ◌<◌, ℕ, List, [], ◌∷◌, ◌++◌, length, Bool, true, false, Some, refl, sym, ap, subst, ◌∙◌, append-nil, arith, append_assoc, length-append}
+use Rattle.alt_talks.specs.declared.fault.RunFault.{RunFault}
+use Rattle.alt_talks.specs.declared.fault.RunFault.TheVariants.{NoMemory}
+use Rattle.std.proofs.Common.{◌≡◌, ◌<◌, inl, ℕ, List, [], ◌∷◌, ◌++◌, length, Bool, true, false, Some, refl, sym, ap, subst, ◌∙◌, append-nil, arith, append_assoc, length-append}
 use Rattle.std.specs.Prelude.{◌||◌}
 use Rattle.alt_machine.specs.State.{State}
 use Rattle.alt_shell.specs.Log.{Log, entry, took, take_failed, taken, crosses}
 use Rattle.alt_talks.specs.Talks.{Turn, Rules, Lawful, Place, at, turns, final, turns_at, final_at, has_refused}
 use Rattle.alt_talks.specs.TalkTexts.{text}
 use Rattle.alt_talks.specs.Stretches.{is_over, over, Does, DoesSome, MovesAll, MovesSome, Goes, GoesSome, AtRest, Idle, TakesIdle}
+use Rattle.alt_talks.proofs.Breaking.{breaks_same}
 use Rattle.alt_talks.proofs.Stretching.{taken-append}
 use Rattle.alt_talks.proofs.TalkLogs.{over-append, crosses-append}
 use Rattle.alt_talks.proofs.TalkCuts.{turns_cut, final_cut, at_unread}
@@ -57,7 +58,7 @@ module _ (r : Rules) (p : Place) (s : State) (m : Bool) (bytes : List ℕ) (mome
         idle = idle_taken es ms a.quiet.still a.quiet.goes_on;
       }
 
-  pub goes_some_taken : (fault : TableFault) (es : Log) (ms : List ℕ) → MovesSome r fault (at p.left p.greeted (p.bytes ++ bytes)) s m es ms → GoesSome r fault p s m (entry moment clocked (took bytes) ∷ es) ms
+  pub goes_some_taken : (fault : RunFault) (es : Log) (ms : List ℕ) → MovesSome r fault (at p.left p.greeted (p.bytes ++ bytes)) s m es ms → GoesSome r fault p s m (entry moment clocked (took bytes) ∷ es) ms
   goes_some_taken fault es ms a =
       let all = all_taken es a.quiet.still in
       record {
@@ -65,7 +66,7 @@ module _ (r : Rules) (p : Place) (s : State) (m : Bool) (bytes : List ℕ) (mome
             (record {
               said = a.some.said;
               most = a.some.most;
-              wants = a.some.wants;
+              wants = breaks_same r fault s m (turns_at r p bytes) es (entry moment clocked (took bytes) ∷ es) ms refl refl a.some.wants;
               silent = a.some.silent;
               hush = (λ f. absurd (let g : ⊥ = cc in g), a.some.hush);
               still = a.some.still;
@@ -76,7 +77,7 @@ module _ (r : Rules) (p : Place) (s : State) (m : Bool) (bytes : List ℕ) (mome
       }
 
   pub goes_some_none : GoesSome r NoMemory p s m (entry moment clocked (took bytes) ∷ []) []
-  goes_some_none = record { some = record { said = (text r s (turns_at r p (taken (entry moment clocked (took bytes) ∷ []))) [], refl); most = omega arith; wants = tt; silent = λ _. refl; hush = (λ f. absurd (let g : ⊥ = cc in g), tt); still = λ _. refl; begins = begins_none r s (turns_at r p (taken (entry moment clocked (took bytes) ∷ []))) }; inside = refl; idle = idle_taken [] [] refl refl }
+  goes_some_none = record { some = record { said = (text r s (turns_at r p (taken (entry moment clocked (took bytes) ∷ []))) [], refl); most = omega arith; wants = inl tt; silent = λ _. refl; hush = (λ f. absurd (let g : ⊥ = cc in g), tt); still = λ _. refl; begins = begins_none r s (turns_at r p (taken (entry moment clocked (took bytes) ∷ []))) }; inside = refl; idle = idle_taken [] [] refl refl }
 
 -- the end came
 module _ (r : Rules) (p : Place) (s : State) (m : Bool) (rest : AtRest r p) where
@@ -186,7 +187,7 @@ goes_none r w per s =
     }
 
 -- turns then a break
-pub goes_break : (r : Rules) (w : Lawful r) (fault : TableFault) (p q : Place) (s t : State) (m n : Bool) (es fs : Log) (ms ns : List ℕ) → 0 < q.left
+pub goes_break : (r : Rules) (w : Lawful r) (fault : RunFault) (p q : Place) (s t : State) (m n : Bool) (es fs : Log) (ms ns : List ℕ) → 0 < q.left
     → Goes r true p s m q t n es ms → GoesSome r fault q t n fs ns → GoesSome r fault p s m (es ++ fs) (ms ++ ns)
 goes_break r w fault p q s t m n es fs ms ns going a b = record {
   some = subst (λ (ts : List Turn). DoesSome r fault s m ts (es ++ fs) (ms ++ ns)) (sym (joined r w p q s t m n es fs ms going a))

@@ -9,7 +9,7 @@ use Rattle.alt_tables.specs.declared.tables.Tables.{Tables}
 use Rattle.alt_talks.specs.TalkRules.{rules}
 use Rattle.alt_talks.specs.TalkStops.{ServedOn, ServedSomeOn, LeavesNow}
 use Rattle.alt_talks.specs.Runs.{Leads, OfStretch, Stretch}
-use Rattle.alt_tables.specs.declared.faults.TableFault.{TableFault}
+use Rattle.alt_talks.specs.declared.fault.RunFault.{RunFault}
 use Rattle.alt_talks.proofs.Stretching.{stretch_none, stretch_as, stretch_then}
 use Rattle.alt_talks.proofs.Stopping.{Meet}
 use Rattle.alt_tables.proofs.Left.{stands_left}
@@ -58,7 +58,7 @@ reach_break a b c t1 P Q R law p go =
     (λ es fs ms ns meet x y. law p.to es fs ms ns meet x y) p.calls (go p.to p.stands)
 
 -- connections that were served, whichever state that left: a stop now leaves it
-pub run_served : {T : Type 0} (result : Result T TableFault) (a d : DiskState) (tables : Tables)
+pub run_served : {T : Type 0} (result : Result T RunFault) (a d : DiskState) (tables : Tables)
     (per count : ℕ) (s : State)
     → MatchResult result (λ _. Leads a d tables (λ t. ServedOn rules per count s t))
     (λ f. Stretch a d (ServedSomeOn rules per count f s))

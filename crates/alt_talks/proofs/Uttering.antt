@@ -10,12 +10,13 @@ use Rattle.alt_disk.specs.Disk.{DiskState}
 use Rattle.alt_shell.specs.Calls.{Adds, Keeps, Untold, IsUntoldBy}
 use Rattle.alt_talks.specs.Runs.{Stretch}
 use Rattle.alt_talks.specs.Faults.{IsCausedBy}
-use Rattle.alt_tables.specs.declared.faults.TableFault.{TableFault}
-use Rattle.alt_tables.specs.declared.faults.TableFault.TheVariants.{NoMemory}
+use Rattle.alt_talks.specs.declared.fault.RunFault.{RunFault}
+use Rattle.alt_talks.specs.declared.fault.RunFault.TheVariants.{NoMemory}
 use Rattle.alt_talks.specs.Turns.{or_next}
 use Rattle.alt_talks.specs.Talks.{Turn, onward, asked, refused, Rules, Request, Place, at, turns, final, has_refused}
 use Rattle.alt_talks.specs.TalkTexts.{text, after, requests, asks, wanted}
 use Rattle.alt_talks.specs.Stretches.{SaidOf, Quiet, Utters, Does, DoesSome, AnswersSome, Moves, MovesAll, MovesSome, AtRest, over, says, Counted, Begins}
+use Rattle.alt_talks.proofs.Breaking.{breaks_behind}
 use Rattle.alt_talks.proofs.Stretching.{said_in-append, taken-append}
 use Rattle.alt_talks.proofs.Stopping.{IsPrefix-self, one-by}
 use Rattle.alt_talks.proofs.TalkLogs.{Clocked, stretch_one, over-append, broken-append, crosses-append, says-append, hushes-append, or-assoc, or_right}
@@ -228,9 +229,9 @@ begins_one r s t at e =
 
 -- a turn that broke off before its text was said
 pub answers_some_none : (r : Rules) (s : State) (m : Bool) (ts : List Turn) → AnswersSome r NoMemory s m ts [] []
-answers_some_none r s m ts = record { some = record { said = (text r s ts [], refl); most = omega arith; wants = tt; silent = λ _. refl; hush = tt; still = λ _. refl; begins = begins_none r s ts }; quiet = quiet_none }
+answers_some_none r s m ts = record { some = record { said = (text r s ts [], refl); most = omega arith; wants = inl tt; silent = λ _. refl; hush = tt; still = λ _. refl; begins = begins_none r s ts }; quiet = quiet_none }
 
-pub some_asked : (r : Rules) (fault : TableFault) (s : State) (m : Bool) (q : Request) (at : ℕ) (es : Log) (ms : List ℕ)
+pub some_asked : (r : Rules) (fault : RunFault) (s : State) (m : Bool) (q : Request) (at : ℕ) (es : Log) (ms : List ℕ)
     → Clocked at es ms → IsCausedBy (r.wants s q at) fault → AnswersSome r fault s m (asked q ∷ []) es ms
 some_asked r fault s m q at es ms t w =
     let none = t.nothing in let one = t.one in
@@ -239,7 +240,7 @@ some_asked r fault s m q at es ms t w =
       some = record {
         said = (text r s (asked q ∷ []) (at ∷ []), refl);
         most = omega arith;
-        wants = subst (λ v. IsCausedBy v fault) (alone (r.wants s q at)) w;
+        wants = inl (subst (λ v. IsCausedBy v fault) (alone (r.wants s q at)) w);
         silent = λ _. refl;
         hush = tt;
         still = λ _. refl;
@@ -253,12 +254,12 @@ some_refused r s m k at es ms t =
     let none = t.nothing in let one = t.one in
     subst (λ (fs : Log). AnswersSome r NoMemory s m (refused k ∷ []) fs ms) (sym none)
     (subst (λ (ns : List ℕ). AnswersSome r NoMemory s m (refused k ∷ []) [] ns) (sym one) (record {
-      some = record { said = (text r s (refused k ∷ []) (at ∷ []), refl); most = omega arith; wants = tt; silent = λ _. refl; hush = tt; still = λ _. refl; begins = begins_one r s (refused k) at refl };
+      some = record { said = (text r s (refused k ∷ []) (at ∷ []), refl); most = omega arith; wants = inl tt; silent = λ _. refl; hush = tt; still = λ _. refl; begins = begins_one r s (refused k) at refl };
       quiet = quiet_none;
     }))
 
 -- turns and then a break
-module _ (r : Rules) (fault : TableFault) (s t : State) (m n : Bool) (ts us : List Turn) (es fs : Log) (ms ns : List ℕ) (clear : has_refused ts ≡ false)
+module _ (r : Rules) (fault : RunFault) (s t : State) (m n : Bool) (ts us : List Turn) (es fs : Log) (ms ns : List ℕ) (clear : has_refused ts ≡ false)
     (a : Does r s m ts t n es ms) (b : DoesSome r fault t n us fs ns) where
   told_of : length ms ≡ asks ts
   told_of = exact_count r s t m n ts es ms clear a
@@ -292,7 +293,7 @@ module _ (r : Rules) (fault : TableFault) (s t : State) (m n : Bool) (ts us : Li
         (subst (λ (v : State). IsPrefix (said_in fs) (text r v us ns)) a.state b.said)
         b.silent (λ _. refl)));
     most = let x = length-append ms ns in let y = asks-append ts us in let k = told_of in let z = b.most in omega (arith, x, y, k, z);
-    wants = subst (λ v. IsCausedBy v fault) (ap (λ v. wanted r v us ns) a.state ∙ sym (wanted-append r s ts us ms ns told_of a.enough)) b.wants;
+    wants = breaks_behind r fault s t m n ts us es fs ms ns clear a b.wants;
     silent = λ e. said_in-append es fs ∙ ap (λ bs. bs ++ said_in fs) (a.silent e).0 ∙ b.silent (or_true m (says_failed es) n a.broke e);
     hush = hushes-append es fs a.hush b.hush (λ e. b.still (a.broke ∙ ap (λ v. m || v) e ∙ or_right m));
     still = λ e. says-append es fs ∙ ap (λ v. v || says fs) (a.still e) ∙ b.still (or_true m (says_failed es) n a.broke e);
@@ -300,7 +301,7 @@ module _ (r : Rules) (fault : TableFault) (s t : State) (m n : Bool) (ts us : Li
   }
 
 -- moves and then a break
-pub moves_break : (r : Rules) (fault : TableFault) (p q : Place) (s t : State) (m n : Bool) (es fs : Log) (ms ns : List ℕ) → 0 < q.left
+pub moves_break : (r : Rules) (fault : RunFault) (p q : Place) (s t : State) (m n : Bool) (es fs : Log) (ms ns : List ℕ) → 0 < q.left
     → Moves r p s m q t n es ms → MovesSome r fault q t n fs ns → MovesSome r fault p s m (es ++ fs) (ms ++ ns)
 moves_break r fault p q s t m n es fs ms ns going a b = record {
   some = subst (λ (ts : List Turn). DoesSome r fault s m ts (es ++ fs) (ms ++ ns)) (sym a.splits)

@@ -4,7 +4,7 @@ use Rattle.std.specs.List.{flat_map}
 use Rattle.alt_machine.specs.State.{State}
 use Rattle.alt_shell.specs.Log.{Log, accepted, none_came, hung_up, entry, taken, says_failed, crosses}
 use Rattle.alt_talks.specs.Faults.{IsCausedBy}
-use Rattle.alt_tables.specs.declared.faults.TableFault.{TableFault}
+use Rattle.alt_talks.specs.declared.fault.RunFault.{RunFault}
 use Rattle.alt_talks.specs.Talks.{Turn, Rules, Place, at, turns, closes}
 use Rattle.alt_talks.specs.TalkTexts.{after}
 use Rattle.alt_talks.specs.Stretches.{Does, DoesSome, TakesIdle, over}
@@ -52,11 +52,11 @@ Comes r per true s t entries told = (k : Connection) × Serves r per s k t × (e
 Comes r per false s t entries told = (t ≡ s) × ((m n : ℕ) × (entries ≡ entry m n none_came ∷ [])) × (told ≡ [])
 
 -- none came, since the wait failed
-abbrev pub Missed : TableFault → Log → List ℕ → Type 0
+abbrev pub Missed : RunFault → Log → List ℕ → Type 0
 Missed fault entries told = (entries ≡ []) × (told ≡ []) × IsCausedBy None fault
 
 -- Serving a connection broke off, and it was hung up; bytes were taken as on one that was served, and no other connection came or went.
-pub record Breaks (r : Rules) (per : ℕ) (fault : TableFault) (s : State) (k : Connection) : Type 0 where
+pub record Breaks (r : Rules) (per : ℕ) (fault : RunFault) (s : State) (k : Connection) : Type 0 where
   pub some : DoesSome r fault s false (turns_of r per k) k.entries k.told
   pub idle : TakesIdle r (start per) s false k.told [] k.entries
   pub before : Log
@@ -66,13 +66,13 @@ pub record Breaks (r : Rules) (per : ℕ) (fault : TableFault) (s : State) (k : 
   pub inside : crosses before ≡ false
 
 -- one came, broke off and was hung up
-abbrev pub Broke : Rules → ℕ → TableFault → State → Log → List ℕ → Type 0
+abbrev pub Broke : Rules → ℕ → RunFault → State → Log → List ℕ → Type 0
 Broke r per fault s entries told = (k : Connection)
     × Breaks r per fault s k
     × (entries ≡ entry k.moment k.clocked accepted ∷ k.entries) × (told ≡ k.told)
 
 -- either
-abbrev pub ComesSome : Rules → ℕ → TableFault → State → Log → List ℕ → Type 0
+abbrev pub ComesSome : Rules → ℕ → RunFault → State → Log → List ℕ → Type 0
 ComesSome r per fault s entries told = Missed fault entries told ⊎ Broke r per fault s entries told
 
 -- one after another
@@ -96,7 +96,7 @@ pub record Served (r : Rules) (per connections : ℕ) (s t : State) (entries : L
   pub ends : ((length all ≡ connections) × (last ≡ [])) ⊎ ((length all < connections) × ((m n : ℕ) × (last ≡ entry m n none_came ∷ [])))
 
 -- Another status: the connections before were served so, and one may have broken off, which was hung up then or never accepted.
-pub record ServedSome (r : Rules) (per connections : ℕ) (fault : TableFault) (s : State) (entries : Log) (told : List ℕ) : Type 0 where
+pub record ServedSome (r : Rules) (per connections : ℕ) (fault : RunFault) (s : State) (entries : Log) (told : List ℕ) : Type 0 where
   pub all : List Connection
   pub halfway : State
   pub each : ServesAll r per s all halfway

@@ -10,3 +10,4 @@ pub mod TalkTexts
 pub mod TalkViews
 pub mod Talks
 pub mod Turns
+pub mod Works

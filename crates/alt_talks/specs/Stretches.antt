@@ -5,9 +5,9 @@ use Rattle.alt_base.specs.Prefix.{IsPrefix}
 use Rattle.alt_machine.specs.State.{State}
 use Rattle.alt_shell.specs.Log as event
 use Rattle.alt_shell.specs.Log.{Log, Event, event_of, is_end, is_take_failed, is_say_failed, until, taken, said_in, says_failed, crosses}
-use Rattle.alt_talks.specs.Faults.{IsCausedBy}
-use Rattle.alt_tables.specs.declared.faults.TableFault.{TableFault}
-use Rattle.alt_talks.specs.Talks.{Turn, asked, refused, Rules, Head, Place, at, size_of, request_of, turns, final, turns_at, final_at, has_refused}
+use Rattle.alt_talks.specs.Faults.{IsCausedBy, IsWorkFault}
+use Rattle.alt_talks.specs.declared.fault.RunFault.{RunFault}
+use Rattle.alt_talks.specs.Talks.{Turn, asked, refused, Rules, Request, Head, Place, at, size_of, request_of, turns, final, turns_at, final_at, has_refused}
 use Rattle.alt_talks.specs.TalkTexts.{text, after, requests, asks, wanted}
 
 -- the end was taken, or a take failed
@@ -119,18 +119,35 @@ pub record Begins (r : Rules) (s : State) (ts : List Turn) (told : List ℕ) : T
   pub count : (length told ≡ asks (done ++ begun)) ⊎ (length told ≡ requests (done ++ begun))
   pub enough : wanted r s done told ≡ None
 
+-- Work was under way behind a request, the last one that was begun: its reply had been said, no say had failed, and no request lacked a
+-- number or a family.
+pub record IsWorking (r : Rules) (s : State) (mute : Bool) (ts : List Turn) (entries : Log) (told : List ℕ) : Type 0 where
+  pub before : List Turn
+  pub request : Request
+  pub rest : List Turn
+  pub parts : ts ≡ before ++ asked request ∷ rest
+  pub count : length told ≡ asks (before ++ asked request ∷ [])
+  pub enough : wanted r s ts told ≡ None
+  pub heard : (mute || says_failed entries) ≡ false
+  pub said : said_in entries ≡ text r s (before ++ asked request ∷ []) told
+
+-- Why turns broke off: a request has no answer, or work behind one broke off.
+abbrev pub BreaksFor : Rules → RunFault → State → Bool → List Turn → Log → List ℕ → Type 0
+BreaksFor r fault s mute ts entries told =
+    IsCausedBy (wanted r s ts told) fault ⊎ (IsWorkFault fault × IsWorking r s mute ts entries told)
+
 -- Doing these turns broke off.
-pub record DoesSome (r : Rules) (fault : TableFault) (s : State) (mute : Bool) (ts : List Turn) (entries : Log) (told : List ℕ) : Type 0 where
+pub record DoesSome (r : Rules) (fault : RunFault) (s : State) (mute : Bool) (ts : List Turn) (entries : Log) (told : List ℕ) : Type 0 where
   pub said : IsPrefix (said_in entries) (text r s ts told)
   pub most : length told ≤ asks ts
-  pub wants : IsCausedBy (wanted r s ts told) fault
+  pub wants : BreaksFor r fault s mute ts entries told
   pub silent : mute ≡ true → said_in entries ≡ []
   pub hush : Hushes entries
   pub still : mute ≡ true → says entries ≡ false
   pub begins : Begins r s ts told
 
 -- and nothing was taken
-pub record AnswersSome (r : Rules) (fault : TableFault) (s : State) (mute : Bool) (ts : List Turn) (entries : Log) (told : List ℕ) : Type 0 where
+pub record AnswersSome (r : Rules) (fault : RunFault) (s : State) (mute : Bool) (ts : List Turn) (entries : Log) (told : List ℕ) : Type 0 where
   pub some : DoesSome r fault s mute ts entries told
   pub quiet : Quiet entries
 
@@ -159,7 +176,7 @@ pub record Carries (r : Rules) (h : Head) (p : Place) (s : State) (mute : Bool) 
   pub place : q ≡ at (if h.close then 0 else p.left - 1) false (drop (size_of h) p.bytes)
 
 -- carrying it out broke off
-abbrev pub CarriesSome : Rules → TableFault → Head → Place → State → Bool → Log → List ℕ → Type 0
+abbrev pub CarriesSome : Rules → RunFault → Head → Place → State → Bool → Log → List ℕ → Type 0
 CarriesSome r fault h p s mute entries told = AnswersSome r fault s mute (asked (request_of h p.bytes (p.left - 1)) ∷ []) entries told
 
 -- Turns were done until none was left at hand.
@@ -198,7 +215,7 @@ pub record Goes (r : Rules) (more : Bool) (p : Place) (s : State) (mute : Bool) 
   pub idle : TakesIdle r p s mute told [] entries
 
 -- the turns at hand broke off, and nothing was taken
-pub record MovesSome (r : Rules) (fault : TableFault) (p : Place) (s : State) (mute : Bool) (entries : Log) (told : List ℕ) : Type 0 where
+pub record MovesSome (r : Rules) (fault : RunFault) (p : Place) (s : State) (mute : Bool) (entries : Log) (told : List ℕ) : Type 0 where
   pub some : DoesSome r fault s mute (turns r p.left p.greeted p.bytes) entries told
   pub quiet : Quiet entries
 
@@ -209,7 +226,7 @@ pub record Ends (r : Rules) (p : Place) (s : State) (mute : Bool) (q : Place) (t
   pub cause : (more ≡ false) ⊎ (after_it ≡ true) ⊎ (q.left ≡ 0)
 
 -- taking, and the turns at hand then, broke off
-pub record GoesSome (r : Rules) (fault : TableFault) (p : Place) (s : State) (mute : Bool) (entries : Log) (told : List ℕ) : Type 0 where
+pub record GoesSome (r : Rules) (fault : RunFault) (p : Place) (s : State) (mute : Bool) (entries : Log) (told : List ℕ) : Type 0 where
   pub some : DoesSome r fault s mute (turns_at r p (taken entries)) entries told
   pub inside : crosses entries ≡ false
   pub idle : TakesIdle r p s mute told [] entries

@@ -11,7 +11,7 @@ use Rattle.alt_talks.specs.Stretches.{Answers, AnswersSome, Moves, MovesAll, Mov
 use Rattle.alt_talks.specs.Talks.{Turn, onward, asked, refused, Rules, Request, Head, Place, request_of, turns, turns_at}
 use Rattle.alt_talks.specs.TalkTexts.{after}
 use Rattle.alt_talks.specs.Turns.{Turn as Deed}
-use Rattle.alt_tables.specs.declared.faults.TableFault.{TableFault}
+use Rattle.alt_talks.specs.declared.fault.RunFault.{RunFault}
 
 -- a text that is said, and nothing written
 abbrev pub saying : List ℕ → Deed
@@ -64,7 +64,7 @@ abbrev pub AnswersOn : Rules → State → Bool → List Turn → State → Bool
 AnswersOn r s mute ts t after_it = Leaving r s (Answers r s mute ts t after_it) (λ _ _ _. ts)
 
 -- they broke off
-abbrev pub AnswersSomeOn : Rules → TableFault → State → Bool → List Turn → OfStretch
+abbrev pub AnswersSomeOn : Rules → RunFault → State → Bool → List Turn → OfStretch
 AnswersSomeOn r fault s mute ts = Leaving r s (AnswersSome r fault s mute ts) (λ _ _ _. ts)
 
 -- the whole request behind this head was carried out, and dropped from the front
@@ -73,7 +73,7 @@ CarriesOn r h p s mute q t after_it = Leaving r s (Carries r h p s mute q t afte
     (λ _ _ _. asked (request_of h p.bytes (p.left - 1)) ∷ [])
 
 -- carrying it out broke off
-abbrev pub CarriesSomeOn : Rules → TableFault → Head → Place → State → Bool → OfStretch
+abbrev pub CarriesSomeOn : Rules → RunFault → Head → Place → State → Bool → OfStretch
 CarriesSomeOn r fault h p s mute =
     AnswersSomeOn r fault s mute (asked (request_of h p.bytes (p.left - 1)) ∷ [])
 
@@ -92,7 +92,7 @@ MovesAllOn r p s mute q t after_it = Leaving r s (MovesAll r p s mute q t after_
     (λ _ _ _. turns r p.left p.greeted p.bytes)
 
 -- they broke off
-abbrev pub MovesSomeOn : Rules → TableFault → Place → State → Bool → OfStretch
+abbrev pub MovesSomeOn : Rules → RunFault → Place → State → Bool → OfStretch
 MovesSomeOn r fault p s mute = Leaving r s (MovesSome r fault p s mute)
     (λ _ _ _. turns r p.left p.greeted p.bytes)
 
@@ -101,7 +101,7 @@ abbrev pub GoesOn : Rules → Bool → Place → State → Bool → Place → St
 GoesOn r more p s mute q t after_it = Taking r p s (Goes r more p s mute q t after_it)
 
 -- that broke off
-abbrev pub GoesSomeOn : Rules → TableFault → Place → State → Bool → OfStretch
+abbrev pub GoesSomeOn : Rules → RunFault → Place → State → Bool → OfStretch
 GoesSomeOn r fault p s mute = Taking r p s (GoesSome r fault p s mute)
 
 -- that went on until no more came, a say failed, or the turns ended
@@ -115,7 +115,7 @@ abbrev pub ComesOn : Rules → ℕ → Bool → State → State → OfStretch
 ComesOn r per came s t = Taking r (start per) s (Comes r per came s t)
 
 -- none came since the wait failed; or one came, broke off and was hung up
-abbrev pub ComesSomeOn : Rules → ℕ → TableFault → State → OfStretch
+abbrev pub ComesSomeOn : Rules → ℕ → RunFault → State → OfStretch
 ComesSomeOn r per fault s = Taking r (start per) s (ComesSome r per fault s)
 
 -- A stop at a moment leaves this while connections are served from a state, one after another. It is left while the first is served, and
@@ -135,7 +135,7 @@ ServedOn r per connections s t old new entries told =
     × AtEach old new (LeftAmong r per s x.all)
 
 -- another status: one may have broken off
-abbrev pub ServedSomeOn : Rules → ℕ → ℕ → TableFault → State → OfStretch
+abbrev pub ServedSomeOn : Rules → ℕ → ℕ → RunFault → State → OfStretch
 ServedSomeOn r per connections fault s old new entries told =
     (x : ServedSome r per connections fault s entries told)
     × AtEach old new (LeftAmong r per s (x.all ++ x.last))

@@ -1,13 +1,15 @@
 //! Serving connections: from the bytes taken to the replies said. Each function says of the calls that it made which turns of
 //! the connection they did, or where among them it broke off, so that a run is put together from them.
 
-ghost use Rattle.std.specs.Prelude.{◌≡◌, ◌<◌, ◌≤◌, ◌+◌, ◌-◌, ◌^◌, ◌==◌, ◌||◌, nat_le, if◌then◌else◌, ℕ, [], ◌∷◌, take, drop, length, true, false, IfOk, OnOk, IfErr, IsErrOf, MatchResult};
+ghost use Rattle.std.specs.Prelude.{◌≡◌, ◌<◌, ◌≤◌, ◌+◌, ◌-◌, ◌^◌, ◌==◌, ◌||◌, nat_le, if◌then◌else◌, ℕ, [], ◌∷◌, take, drop, length, true, false, IfOk, OnOk, OnErr, IfErr, IsErrOf, MatchResult};
 ghost use Rattle.alt_base.specs.Counts.{Rose};
+ghost use Rattle.alt_disk.specs.Disk.{Goes};
 ghost use Rattle.alt_machine.specs.State.{State};
 ghost use Rattle.alt_shell.specs.Calls.{Keeps};
 ghost use Rattle.alt_shell.specs.Log.{talks, takes_missed, says_missed};
 ghost use Rattle.alt_tables.specs.Stands.{AreReady, Stands};
 ghost use Rattle.alt_http.specs.Reading.{scan_of};
+ghost use Rattle.alt_talks.specs.Faults.{IsWorkFault};
 ghost use Rattle.alt_talks.specs.HeadViews.{scan_in};
 ghost use Rattle.alt_talks.specs.Runs.{Leads, Passes, Stretch};
 ghost use Rattle.alt_talks.specs.Stretches.{Utters, AtRest};
@@ -15,14 +17,17 @@ ghost use Rattle.alt_talks.specs.TalkRules.{rules};
 ghost use Rattle.alt_talks.specs.TalkStops.{AnswersOn, AnswersSomeOn, CarriesOn, CarriesSomeOn, ComesOn, ComesSomeOn, EndsOn, GoesOn, GoesSomeOn, LeavesNow, MovesAllOn, MovesSomeOn, ServedOn, ServedSomeOn, StepsOn};
 ghost use Rattle.alt_talks.specs.TalkViews.{place_of, head_in, asking};
 ghost use Rattle.alt_talks.specs.Talks.{onward, asked, refused, greets};
+ghost use Rattle.alt_talks.specs.Works.{Works};
 
+use crate::fault::RunFault;
 use crate::front::{Front, Head};
 use crate::response::{refusal_text, response};
+use crate::working::work;
 use alt_base::NoMemory;
 use alt_fields::Bytes;
 use alt_http::{CONTINUE, Scan};
 use alt_shell::Shell;
-use alt_tables::{TableFault, Tables};
+use alt_tables::{Tables, Task};
 use std::alloc::Global;
 
 /// A connection as it is served: the bytes taken that no turn has used, how many requests may come, whether the client of the head
@@ -64,7 +69,7 @@ fn refuse<S: Shell>(
     number: u8,
     mute: &mut bool,
     shell: &mut S,
-) -> Result<(), TableFault>
+) -> Result<(), RunFault>
     requires low { 1 ≤ number }
     requires high { number ≤ 9 }
     requires talking { talks (S.state shell.old).beside ≡ true }
@@ -77,7 +82,7 @@ fn refuse<S: Shell>(
     ensures hears { mute.new ≡ false → says_missed (S.state shell.new).beside ≡ false }
     ensures takes { takes_missed (S.state shell.new).beside
         ≡ takes_missed (S.state shell.old).beside }
-    ensures cause { IsErrOf result TableFault.Failed
+    ensures cause { IsErrOf result RunFault.Failed
         → Rose (S.state shell.old).faults (S.state shell.new).faults }
     ensures keeps { Keeps (S.state shell.old) (S.state shell.new) }
     ensures passes { Passes (S.state shell.old) (S.state shell.new) }
@@ -91,11 +96,12 @@ fn refuse<S: Shell>(
             utter(mute, &text, shell);
             Ok(())
         }
-        Err(_) => Err(TableFault::NoMemory),
+        Err(_) => Err(RunFault::NoMemory),
     }
 }
 
-/// A request: it is carried out at the moment that the clock tells, and answered unless a say failed before.
+/// A request: it is carried out at the moment that the clock tells, and answered unless a say failed before. Behind a reply that was said
+/// one step of work is made.
 fn respond<S: Shell>(
     alloc: Global,
     tables: &mut Tables,
@@ -104,7 +110,7 @@ fn respond<S: Shell>(
     close: bool,
     mute: &mut bool,
     shell: &mut S,
-) -> Result<(), TableFault>
+) -> Result<(), RunFault>
     requires ready { AreReady (S.state shell.old) tables.old }
     requires talking { talks (S.state shell.old).beside ≡ true }
     requires hears { mute.old ≡ false → says_missed (S.state shell.old).beside ≡ false }
@@ -116,18 +122,40 @@ fn respond<S: Shell>(
     ensures hears { mute.new ≡ false → says_missed (S.state shell.new).beside ≡ false }
     ensures takes { takes_missed (S.state shell.new).beside
         ≡ takes_missed (S.state shell.old).beside }
-    ensures cause { IsErrOf result TableFault.Failed
+    ensures cause { IsErrOf result RunFault.Failed
         → Rose (S.state shell.old).faults (S.state shell.new).faults }
     ensures passes { Passes (S.state shell.old) (S.state shell.new) }
 {
     let moment = shell.now();
-    match response(alloc, tables, shell, target, body, close, moment) {
-        Ok(text) => {
-            utter(mute, &text, shell);
-            Ok(())
-        }
+    let text = match response(alloc, tables, shell, target, body, close, moment) {
+        Ok(text) => text,
+        Err(fault) => return Err(fault),
+    };
+    utter(mute, &text, shell);
+    match step(*mute, tables, shell) {
+        Ok(()) => Ok(()),
         Err(fault) => Err(fault),
     }
+}
+
+/// One step of work in the background, unless a say failed.
+fn step<S: Shell>(mute: bool, tables: &mut Tables, shell: &mut S) -> Result<(), RunFault>
+    requires ready { AreReady (S.state shell.old) tables.old }
+    ensures stands { (s : State) → Stands (S.state shell.old) tables.old s
+        → OnOk result (Stands (S.state shell.new) tables.new s) }
+    ensures works { (s : State) → Stands (S.state shell.old) tables.old s
+        → Works (S.state shell.old) (S.state shell.new) s }
+    ensures fault { (s : State) → Stands (S.state shell.old) tables.old s
+        → IfErr result IsWorkFault }
+    ensures heard { OnErr result (mute ≡ false) }
+    ensures goes { Goes (S.state shell.old) (S.state shell.new) }
+    ensures cause { IsErrOf result RunFault.Failed
+        → Rose (S.state shell.old).faults (S.state shell.new).faults }
+{
+    if mute {
+        return Ok(());
+    }
+    work(tables, shell, Task::Step)
 }
 
 /// Lets the client go on where it waits for that and wasn't let before.
@@ -199,7 +227,7 @@ fn carry<S: Shell>(
     head: &Head,
     talk: &mut Talk,
     shell: &mut S,
-) -> Result<(), TableFault>
+) -> Result<(), RunFault>
     requires ready { AreReady (S.state shell.old) tables.old }
     requires going { 0 < talk.old.left }
     requires whole { nat_le (head.now.taken + head.now.length)
@@ -217,7 +245,7 @@ fn carry<S: Shell>(
     ensures hears { talk.new.mute ≡ false → says_missed (S.state shell.new).beside ≡ false }
     ensures takes { takes_missed (S.state shell.new).beside
         ≡ takes_missed (S.state shell.old).beside }
-    ensures cause { IsErrOf result TableFault.Failed
+    ensures cause { IsErrOf result RunFault.Failed
         → Rose (S.state shell.old).faults (S.state shell.new).faults }
     ensures passes { Passes (S.state shell.old) (S.state shell.new) }
 {
@@ -250,7 +278,7 @@ fn found<S: Shell>(
     head: Head,
     talk: &mut Talk,
     shell: &mut S,
-) -> Result<bool, TableFault>
+) -> Result<bool, RunFault>
     requires ready { AreReady (S.state shell.old) tables.old }
     requires going { 0 < talk.old.left }
     requires head { scan_of talk.old.front ≡ scan_in head }
@@ -267,7 +295,7 @@ fn found<S: Shell>(
     ensures hears { talk.new.mute ≡ false → says_missed (S.state shell.new).beside ≡ false }
     ensures takes { takes_missed (S.state shell.new).beside
         ≡ takes_missed (S.state shell.old).beside }
-    ensures cause { IsErrOf result TableFault.Failed
+    ensures cause { IsErrOf result RunFault.Failed
         → Rose (S.state shell.old).faults (S.state shell.new).faults }
     ensures passes { Passes (S.state shell.old) (S.state shell.new) }
 {
@@ -289,7 +317,7 @@ fn one<S: Shell>(
     tables: &mut Tables,
     talk: &mut Talk,
     shell: &mut S,
-) -> Result<bool, TableFault>
+) -> Result<bool, RunFault>
     requires ready { AreReady (S.state shell.old) tables.old }
     requires going { 0 < talk.old.left }
     requires talking { talks (S.state shell.old).beside ≡ true }
@@ -304,13 +332,13 @@ fn one<S: Shell>(
     ensures hears { talk.new.mute ≡ false → says_missed (S.state shell.new).beside ≡ false }
     ensures takes { takes_missed (S.state shell.new).beside
         ≡ takes_missed (S.state shell.old).beside }
-    ensures cause { IsErrOf result TableFault.Failed
+    ensures cause { IsErrOf result RunFault.Failed
         → Rose (S.state shell.old).faults (S.state shell.new).faults }
     ensures passes { Passes (S.state shell.old) (S.state shell.new) }
 {
     let scan = match talk.front.scan(alloc) {
         Ok(scan) => scan,
-        Err(_) => return Err(TableFault::NoMemory),
+        Err(_) => return Err(RunFault::NoMemory),
     };
     match scan {
         Scan::More => Ok(false),
@@ -347,7 +375,7 @@ fn at_hand<S: Shell>(
     tables: &mut Tables,
     talk: &mut Talk,
     shell: &mut S,
-) -> Result<(), TableFault>
+) -> Result<(), RunFault>
     requires ready { AreReady (S.state shell.old) tables.old }
     requires talking { talks (S.state shell.old).beside ≡ true }
     requires hears { talk.old.mute ≡ false → says_missed (S.state shell.old).beside ≡ false }
@@ -360,7 +388,7 @@ fn at_hand<S: Shell>(
     ensures hears { talk.new.mute ≡ false → says_missed (S.state shell.new).beside ≡ false }
     ensures takes { takes_missed (S.state shell.new).beside
         ≡ takes_missed (S.state shell.old).beside }
-    ensures cause { IsErrOf result TableFault.Failed
+    ensures cause { IsErrOf result RunFault.Failed
         → Rose (S.state shell.old).faults (S.state shell.new).faults }
     ensures passes { Passes (S.state shell.old) (S.state shell.new) }
 {
@@ -381,7 +409,7 @@ fn pull<S: Shell>(
     buf: &mut [u8],
     talk: &mut Talk,
     shell: &mut S,
-) -> Result<bool, TableFault>
+) -> Result<bool, RunFault>
     requires ready { AreReady (S.state shell.old) tables.old }
     requires buffer { 0 < length buf.old }
     requires going { 0 < talk.old.left }
@@ -402,7 +430,7 @@ fn pull<S: Shell>(
     ensures time { IfOk result (λ more. more ≡ true
         → ((S.state shell.old).moment < 2 ^ 64 - 1)
         × ((S.state shell.old).moment < (S.state shell.new).moment)) }
-    ensures cause { IsErrOf result TableFault.Failed
+    ensures cause { IsErrOf result RunFault.Failed
         → Rose (S.state shell.old).faults (S.state shell.new).faults }
     ensures passes { Passes (S.state shell.old) (S.state shell.new) }
 {
@@ -413,7 +441,7 @@ fn pull<S: Shell>(
             }
             match talk.front.extend(&buf[..count]) {
                 Ok(()) => {}
-                Err(_) => return Err(TableFault::NoMemory),
+                Err(_) => return Err(RunFault::NoMemory),
             }
             match at_hand(alloc, tables, talk, shell) {
                 Ok(()) => Ok(true),
@@ -431,7 +459,7 @@ fn pulls<S: Shell>(
     buf: &mut [u8],
     talk: &mut Talk,
     shell: &mut S,
-) -> Result<(), TableFault>
+) -> Result<(), RunFault>
     requires ready { AreReady (S.state shell.old) tables.old }
     requires buffer { 0 < length buf.old }
     requires heard { talk.old.mute ≡ false }
@@ -445,7 +473,7 @@ fn pulls<S: Shell>(
         (place_of talk.new) t talk.new.mute))
         (λ f. Stretch (S.state shell.old) (S.state shell.new)
         (GoesSomeOn rules f (place_of talk.old) s talk.old.mute)) }
-    ensures cause { IsErrOf result TableFault.Failed
+    ensures cause { IsErrOf result RunFault.Failed
         → Rose (S.state shell.old).faults (S.state shell.new).faults }
     ensures passes { Passes (S.state shell.old) (S.state shell.new) }
 {
@@ -471,7 +499,7 @@ fn connection<S: Shell>(
     per: u32,
     buf: &mut [u8],
     shell: &mut S,
-) -> Result<bool, TableFault>
+) -> Result<bool, RunFault>
     requires ready { AreReady (S.state shell.old) tables.old }
     requires buffer { 0 < length buf.old }
     requires some { 0 < per }
@@ -481,7 +509,7 @@ fn connection<S: Shell>(
         (λ t. ComesOn rules per came s t))
         (λ f. Stretch (S.state shell.old) (S.state shell.new)
         (ComesSomeOn rules per f s)) }
-    ensures cause { IsErrOf result TableFault.Failed
+    ensures cause { IsErrOf result RunFault.Failed
         → Rose (S.state shell.old).faults (S.state shell.new).faults }
     ensures passes { Passes (S.state shell.old) (S.state shell.new) }
 {
@@ -501,7 +529,7 @@ fn connection<S: Shell>(
             }
         }
         Ok(false) => Ok(false),
-        Err(_) => Err(TableFault::Failed),
+        Err(_) => Err(RunFault::Failed),
     }
 }
 
@@ -515,7 +543,7 @@ pub fn connections<S: Shell>(
     count: u32,
     buf: &mut [u8],
     shell: &mut S,
-) -> Result<(), TableFault>
+) -> Result<(), RunFault>
     requires ready { AreReady (S.state shell.old) tables.old }
     requires buffer { 0 < length buf.old }
     requires some { 0 < per }
@@ -525,7 +553,7 @@ pub fn connections<S: Shell>(
         (λ t. ServedOn rules per count s t))
         (λ f. Stretch (S.state shell.old) (S.state shell.new)
         (ServedSomeOn rules per count f s)) }
-    ensures cause { IsErrOf result TableFault.Failed
+    ensures cause { IsErrOf result RunFault.Failed
         → Rose (S.state shell.old).faults (S.state shell.new).faults }
     ensures passes { Passes (S.state shell.old) (S.state shell.new) }
 {

@@ -2,7 +2,11 @@
 #![tactic(auto)]
 
 mod connection;
+mod fault;
 mod front;
 mod response;
+mod working;
 
 pub use connection::connections;
+pub use fault::RunFault;
+pub use working::work;

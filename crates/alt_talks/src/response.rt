@@ -16,8 +16,9 @@ ghost use Rattle.alt_talks.specs.Faults.{IsCausedBy};
 ghost use Rattle.alt_talks.specs.Stops.{AtEach, IsAmong};
 ghost use Rattle.alt_talks.specs.TalkRules.{outcome_of, http_text, status_said};
 ghost use Rattle.alt_talks.specs.TalkViews.{asking};
-ghost use Rattle.alt_tables.specs.declared.faults.TableFault.TheVariants.{Failed};
+ghost use Rattle.alt_talks.specs.declared.fault.RunFault.TheVariants.{Failed};
 
+use crate::fault::RunFault;
 use alt_base::NoMemory;
 use alt_disk::Disk;
 use alt_dispatch::{answer, operation_of};
@@ -25,7 +26,7 @@ use alt_fields::Bytes;
 use alt_http::{refusal_body, refusal_status, reply};
 use alt_machine::Operation;
 use alt_shape::Reply;
-use alt_tables::{TableFault, Tables};
+use alt_tables::Tables;
 use std::alloc::Global;
 
 /// The reply to a head that is refused.
@@ -91,7 +92,7 @@ pub(crate) fn response<D: Disk>(
     body: &[u8],
     close: bool,
     moment: u64,
-) -> Result<Vec<u8>, TableFault>
+) -> Result<Vec<u8>, RunFault>
     requires ready { AreReady (D.state disk.old) tables.old }
     requires dated { moment < 253402300800 }
     ensures text { (s : State) → Stands (D.state disk.old) tables.old s → IfOk result
@@ -114,8 +115,8 @@ pub(crate) fn response<D: Disk>(
     match answer(alloc, tables, disk, operation_in(target), body, moment) {
         Ok(reply) => match text_of(alloc, &reply, moment, close) {
             Ok(text) => Ok(text),
-            Err(_) => Err(TableFault::NoMemory),
+            Err(_) => Err(RunFault::NoMemory),
         },
-        Err(fault) => Err(fault),
+        Err(fault) => Err(RunFault::from(fault)),
     }
 }

@@ -9,8 +9,10 @@ use Rattle.alt_talks.specs.Stops.{IsAmong, AtEach}
 use Rattle.alt_shell.proofs.Telling.{Grows-nil, Tells-nil}
 use Rattle.alt_tables.specs.Stands.{Stands}
 use Rattle.alt_tables.specs.declared.tables.Tables.{Tables}
-use Rattle.alternator.specs.Turns.{request, control, reopen, unread, opened_again, turned_away, carried_out}
-use Rattle.alt_opening.specs.Recovery.{WasLeft}
+use Rattle.alternator.specs.Turns.{request, control, unread, obeyed, turned_away, carried_out}
+use Rattle.alt_tables.specs.Images.{StandsFor}
+use Rattle.alt_talks.specs.Works.{Works}
+use Rattle.alternator.specs.declared.lines.Control.{Control}
 use Rattle.alternator.proofs.Serving.{Begins}
 use Rattle.alt_tables.proofs.Left.{stands_left}
 use Rattle.alt_talks.proofs.Stopping.{trusts-kept, leaves-here, leaves-weaker, leaves-behind-aside}
@@ -48,16 +50,18 @@ begins_away old tables s stands = record {
       (0, stands_left old tables s stands image is_image));
 }
 
--- the store was opened again, and nothing was written
-pub begins_again : (old mid : DiskState) (tables : Tables) (s : State) → Stands old tables s
-    → Goes old mid → AtEach old mid (WasLeft old) → Begins old mid s (control reopen) opened_again []
-begins_again old mid tables s stands goes leaves = record {
+-- what a word of control asks for was done, and the state stayed
+pub begins_control : (old mid : DiskState) (word : Control) (s : State) → Works old mid s
+    → Begins old mid s (control word) obeyed []
+begins_control old mid word s works = record {
   one = refl;
   count = refl;
-  silent = subst (λ (log : Log). Grows old.beside log []) (sym goes.beside) (Grows-nil old.beside);
-  told = Tells-nil (moments_of old.beside) (moments_of mid.beside) (ap moments_of goes.beside);
-  later = goes.later;
-  trusts = trusted_on old mid goes;
-  leaves = leaves-weaker old mid (WasLeft old) (λ _ image. IsAmong image s [])
-      (λ t image was. (0, stands_left old tables s stands image was)) leaves;
+  silent = subst (λ (log : Log). Grows old.beside log []) (sym works.goes.beside)
+      (Grows-nil old.beside);
+  told = Tells-nil (moments_of old.beside) (moments_of mid.beside)
+      (ap moments_of works.goes.beside);
+  later = works.goes.later;
+  trusts = trusted_on old mid works.goes;
+  leaves = leaves-weaker old mid (λ _ image. StandsFor image s) (λ _ image. IsAmong image s [])
+      (λ t image stands. (0, stands)) works.leaves;
 }

@@ -16,14 +16,15 @@ use Rattle.alt_talks.specs.TalkRules.{rules}
 use Rattle.alt_talks.specs.TalkStops.{LeftAmong, ServedOn, ServedSomeOn, LeavesNow}
 use Rattle.alt_talks.specs.Talks.{Rules, Turn}
 use Rattle.alternator.specs.Trials.{Tries, TriesSome, LeftOfTrial, as_turn}
-use Rattle.alternator.specs.Words.{IsOverStore}
 use Rattle.alt_opening.specs.Recovery.{WasLeft}
-use Rattle.alt_tables.specs.declared.faults.TableFault.{TableFault}
-use Rattle.alt_tables.specs.declared.faults.TableFault.TheVariants as why
+use Rattle.alt_talks.specs.declared.fault.RunFault.{RunFault}
+use Rattle.alt_talks.specs.declared.fault.RunFault.TheVariants as why
 use Rattle.alternator.specs.declared.ending.Ending.{Ending}
-use Rattle.alternator.specs.declared.ending.Ending.TheVariants.{Whole, Words, NotEmpty, Damaged, BadRow, Device, Memory, Spent}
+use Rattle.alternator.specs.declared.ending.Ending.TheVariants.{Whole, Words, NotEmpty, Damaged, DigestDiffers, BadRow, Device, Memory, Spent}
+use Rattle.alternator.specs.declared.words.Command.{Command}
+use Rattle.alternator.specs.declared.words.Command.TheVariants.{Init, Over}
 use Rattle.alternator.specs.declared.words.Job.{Job}
-use Rattle.alternator.specs.declared.words.Job.TheVariants.{Init, Replay, Serve, Trial}
+use Rattle.alternator.specs.declared.words.Job.TheVariants.{Replay, Serve, Trial}
 use Rattle.alt_talks.proofs.Stretching.{stretch_quiet, stretch_as}
 use Rattle.alternator.proofs.Initing.{quiet_behind}
 use Rattle.alt_talks.proofs.Stopping.{leaves-before-aside}
@@ -34,7 +35,7 @@ use Rattle.alt_machine.specs.Outcomes.{last_state}
 -- ---- what was done, whatever the cause was
 
 -- a run that was broken off is one that was broken off for want of memory
-pub some_answers : (a b : DiskState) (fault : TableFault) (s : State) (es : Log) (ms : List ℕ)
+pub some_answers : (a b : DiskState) (fault : RunFault) (s : State) (es : Log) (ms : List ℕ)
     → AnswersSome fault s a b es ms → AnswersSome why.NoMemory s a b es ms
 some_answers a b fault s es ms x = record {
   breaks = record {
@@ -47,7 +48,7 @@ some_answers a b fault s es ms x = record {
     said = x.breaks.said;
     count = x.breaks.count;
     enough = x.breaks.enough;
-    wants = tt;
+    wants = inl tt;
   };
   inside = x.inside;
   said = x.said;
@@ -55,13 +56,13 @@ some_answers a b fault s es ms x = record {
 }
 
 -- so are turns that broke off
-does_some : (r : Rules) (fault : TableFault) (s : State) (m : Bool) (ts : List Turn) (es : Log)
+does_some : (r : Rules) (fault : RunFault) (s : State) (m : Bool) (ts : List Turn) (es : Log)
     (ms : List ℕ) → DoesSome r fault s m ts es ms → DoesSome r why.NoMemory s m ts es ms
 does_some r fault s m ts es ms x =
     record {
       said = x.said;
       most = x.most;
-      wants = tt;
+      wants = inl tt;
       silent = x.silent;
       hush = x.hush;
       still = x.still;
@@ -69,7 +70,7 @@ does_some r fault s m ts es ms x =
     }
 
 -- and connections
-some_served : (r : Rules) (per count : ℕ) (fault : TableFault) (s : State) (es : Log) (ms : List ℕ)
+some_served : (r : Rules) (per count : ℕ) (fault : RunFault) (s : State) (es : Log) (ms : List ℕ)
     → ServedSome r per count fault s es ms → ServedSome r per count why.NoMemory s es ms
 some_served r per count fault s es ms x = record {
   all = x.all;
@@ -98,20 +99,22 @@ some_served r per count fault s es ms x = record {
 }
 
 -- and a trial
-some_tries : (a b : DiskState) (fault : TableFault) (s : State) (seed count : ℕ) (es : Log) (ms : List ℕ)
+some_tries : (a b : DiskState) (fault : RunFault) (s : State) (seed count : ℕ) (es : Log) (ms : List ℕ)
     → TriesSome fault s seed count a b es ms → TriesSome why.NoMemory s seed count a b es ms
 some_tries a b fault s seed count es ms x = record {
   said = x.said;
   rests = x.rests;
   unasked = x.unasked;
-  wants = tt;
+  begun = x.begun;
+  rest = x.rest;
+  lines = x.lines;
+  wants = inl tt;
   leaves = x.leaves;
 }
 
-broken_memory : (job : Job) (fault : TableFault) (s : State) (a b : DiskState)
+broken_memory : (job : Job) (fault : RunFault) (s : State) (a b : DiskState)
     → Broken fault job s a b → Broken why.NoMemory job s a b
 unfolding some_served
-broken_memory Init fault s a b x = absurd x
 broken_memory Replay fault s a b x = stretch_as a b {P = AnswersSome fault s}
     {Q = AnswersSome why.NoMemory s} (λ es ms within y. some_answers a b fault s es ms y) x
 broken_memory (Serve per count) fault s a b x = stretch_as a b
@@ -121,7 +124,7 @@ broken_memory (Trial seed count) fault s a b x = stretch_as a b
     {P = TriesSome fault s seed count} {Q = TriesSome why.NoMemory s seed count}
     (λ es ms within y. some_tries a b fault s seed count es ms y) x
 
-opened_memory : (a b : DiskState) (fault : TableFault) (job : Job) → Opened a b (Broken fault job)
+opened_memory : (a b : DiskState) (fault : RunFault) (job : Job) → Opened a b (Broken fault job)
     → Opened a b (Broken why.NoMemory job)
 opened_memory a b fault job h = record {
   from = h.from;
@@ -136,7 +139,7 @@ honest_of : (s : DiskState) → IsTrusted s → s.honest ≡ false → ⊥
 honest_of s trusted e = grind (arith, trusted, e)
 
 -- on such a disk damage is found in the opening alone
-damaged_early : (fault : TableFault) (a b : DiskState) → WasDamaged fault a b → IsTrusted a
+damaged_early : (fault : RunFault) (a b : DiskState) → WasDamaged fault a b → IsTrusted a
     → IsOpening a b
 damaged_early fault a b h trusted = ⊎_elim
     (λ x. x.0)
@@ -150,6 +153,7 @@ made_memory a b Whole n h = absurd n
 made_memory a b Words n h = absurd n
 made_memory a b (NotEmpty first) n h = h.0
 made_memory a b (Damaged file at) n h = absurd h
+made_memory a b (DigestDiffers file kept found) n h = absurd h
 made_memory a b (BadRow family key) n h = absurd h
 made_memory a b Device n h = absurd n
 made_memory a b Memory n h = absurd n
@@ -162,6 +166,8 @@ run_memory a b job Words n h = absurd n
 run_memory a b job (NotEmpty first) n h = absurd h
 run_memory a b job (Damaged file at) n h = λ trusted.
     inl (damaged_early (why.Damaged file at) a b h trusted)
+run_memory a b job (DigestDiffers file kept found) n h = λ trusted.
+    inl (damaged_early (why.DigestDiffers file kept found) a b h trusted)
 run_memory a b job (BadRow family key) n h = λ trusted.
     inl (damaged_early (why.BadRow family key) a b h trusted)
 run_memory a b job Device n h = absurd n
@@ -174,18 +180,17 @@ none_memory a b Whole n h = h
 none_memory a b Words n h = n
 none_memory a b (NotEmpty first) n h = h
 none_memory a b (Damaged file at) n h = h
+none_memory a b (DigestDiffers file kept found) n h = h
 none_memory a b (BadRow family key) n h = h
 none_memory a b Device n h = h
 none_memory a b Memory n h = h
 none_memory a b (Spent number) n h = h
 
-as_memory : (a b : DiskState) (job : Option Job) (ending : Ending) → HasNumbers ending
-    → HasDone job ending a b → HasDone job Memory a b
+as_memory : (a b : DiskState) (command : Option Command) (ending : Ending) → HasNumbers ending
+    → HasDone command ending a b → HasDone command Memory a b
 as_memory a b None ending n h = absurd (none_memory a b ending n h)
 as_memory a b (Some Init) ending n h = made_memory a b ending n h
-as_memory a b (Some Replay) ending n h = run_memory a b Replay ending n h
-as_memory a b (Some (Serve per count)) ending n h = run_memory a b (Serve per count) ending n h
-as_memory a b (Some (Trial seed count)) ending n h = run_memory a b (Trial seed count) ending n h
+as_memory a b (Some (Over job limits)) ending n h = run_memory a b job ending n h
 
 -- ---- behind a note
 
@@ -213,7 +218,7 @@ module _ (b c : DiskState) (g : Grows b.beside c.beside [])
     last = last_behind (after s (turns s (asks true (taken es)) ms)) x.last;
   }
 
-  some_behind : (a : DiskState) (fault : TableFault) (s : State) (es : Log) (ms : List ℕ)
+  some_behind : (a : DiskState) (fault : RunFault) (s : State) (es : Log) (ms : List ℕ)
       → AnswersSome fault s a b es ms → AnswersSome fault s a c es ms
   some_behind a fault s es ms x = record {
     breaks = x.breaks;
@@ -233,12 +238,15 @@ module _ (b c : DiskState) (g : Grows b.beside c.beside [])
     last = last_behind (last_state s (as_turn s seed count).atoms) x.last;
   }
 
-  tries_some_behind : (a : DiskState) (fault : TableFault) (s : State) (seed count : ℕ) (es : Log)
+  tries_some_behind : (a : DiskState) (fault : RunFault) (s : State) (seed count : ℕ) (es : Log)
       (ms : List ℕ) → TriesSome fault s seed count a b es ms → TriesSome fault s seed count a c es ms
   tries_some_behind a fault s seed count es ms x = record {
     said = x.said;
     rests = x.rests;
     unasked = x.unasked;
+    begun = x.begun;
+    rest = x.rest;
+    lines = x.lines;
     wants = x.wants;
     leaves = leaves-before-aside a b c (LeftOfTrial s (as_turn s seed count) es) aside x.leaves;
   }
@@ -285,7 +293,6 @@ module _ (b c : DiskState) (g : Grows b.beside c.beside [])
   }
 
   done_behind : (job : Job) (s : State) (o : DiskState) → Done job s o b → Done job s o c
-  done_behind Init s o x = absurd x
   done_behind Replay s o x = stretch_quiet o b c {P = Answers s} (all_behind o s) x aside g m
   done_behind (Serve per count) s o x = stretch_quiet o b c
       {P = λ old new es ms. (t : State) × ServedOn rules per count s t old new es ms × LeavesNow new t}
@@ -301,9 +308,8 @@ module _ (b c : DiskState) (g : Grows b.beside c.beside [])
   done_behind (Trial seed count) s o x = stretch_quiet o b c {P = Tries s seed count}
       (tries_behind o s seed count) x aside g m
 
-  broken_behind : (fault : TableFault) (job : Job) (s : State) (o : DiskState)
+  broken_behind : (fault : RunFault) (job : Job) (s : State) (o : DiskState)
       → Broken fault job s o b → Broken fault job s o c
-  broken_behind fault Init s o x = absurd x
   broken_behind fault Replay s o x =
       stretch_quiet o b c {P = AnswersSome fault s} (some_behind o fault s) x aside g m
   broken_behind fault (Serve per count) s o x = stretch_quiet o b c
@@ -326,14 +332,14 @@ module _ (b c : DiskState) (g : Grows b.beside c.beside [])
     behind = law h.from h.opened h.behind;
   }
 
-  breaks_behind : (a : DiskState) (fault : TableFault) (job : Job) → BreaksOff fault job a b
+  breaks_behind : (a : DiskState) (fault : RunFault) (job : Job) → BreaksOff fault job a b
       → BreaksOff fault job a c
   breaks_behind a fault job h trusted = ⊎_elim
       (λ x. inl (opening_behind a x))
       (λ x. inr (opened_behind a (Broken fault job) (broken_behind fault job) x))
       (h trusted)
 
-  damaged_behind : (a : DiskState) (fault : TableFault) → WasDamaged fault a b → WasDamaged fault a c
+  damaged_behind : (a : DiskState) (fault : RunFault) → WasDamaged fault a b → WasDamaged fault a c
   damaged_behind a fault h tells = ⊎_elim
       (λ x. inl (opening_behind a x.0, x.1))
       (λ x. inr x)
@@ -348,6 +354,7 @@ module _ (b c : DiskState) (g : Grows b.beside c.beside [])
   run_behind a job Words h = absurd h
   run_behind a job (NotEmpty first) h = absurd h
   run_behind a job (Damaged file at) h = damaged_behind a (why.Damaged file at) h
+  run_behind a job (DigestDiffers file kept found) h = damaged_behind a (why.DigestDiffers file kept found) h
   run_behind a job (BadRow family key) h = damaged_behind a (why.BadRow family key) h
   run_behind a job Device h = (
     subst (Rose a.faults) (sym aside.faults) h.0,
@@ -361,8 +368,8 @@ module _ (b c : DiskState) (g : Grows b.beside c.beside [])
   )
 
   -- what was done is still done behind the note
-  still_done : (a : DiskState) (job : Option Job) (ending : Ending) → HasDone job ending a b
-      → HasDone job ending a c
+  still_done : (a : DiskState) (command : Option Command) (ending : Ending)
+      → HasDone command ending a b → HasDone command ending a c
   still_done a None Whole h = absurd h
   still_done a None Words h = record {
     moment = aside.moment ∙ h.moment;
@@ -372,6 +379,7 @@ module _ (b c : DiskState) (g : Grows b.beside c.beside [])
   }
   still_done a None (NotEmpty first) h = absurd h
   still_done a None (Damaged file at) h = absurd h
+  still_done a None (DigestDiffers file kept found) h = absurd h
   still_done a None (BadRow family key) h = absurd h
   still_done a None Device h = absurd h
   still_done a None Memory h = absurd h
@@ -383,6 +391,7 @@ module _ (b c : DiskState) (g : Grows b.beside c.beside [])
     λ tells. ((h.1 tells).0, quiet_behind a b c aside (h.1 tells).1),
   )
   still_done a (Some Init) (Damaged file at) h = absurd h
+  still_done a (Some Init) (DigestDiffers file kept found) h = absurd h
   still_done a (Some Init) (BadRow family key) h = absurd h
   still_done a (Some Init) Device h = (
     said_behind a h.0,
@@ -390,15 +399,13 @@ module _ (b c : DiskState) (g : Grows b.beside c.beside [])
   )
   still_done a (Some Init) Memory h = silent_behind a h
   still_done a (Some Init) (Spent number) h = absurd h
-  still_done a (Some Replay) ending h = run_behind a Replay ending h
-  still_done a (Some (Serve per count)) ending h = run_behind a (Serve per count) ending h
-  still_done a (Some (Trial seed count)) ending h = run_behind a (Trial seed count) ending h
+  still_done a (Some (Over job limits)) ending h = run_behind a job ending h
 
 abbrev IsNoted : Ending → Ending → Type 0
 IsNoted ending noted = (noted ≡ ending) ⊎ ((noted ≡ Memory) × HasNumbers ending)
 
 -- with the ending that was noted
-pub noted_done : (a b c : DiskState) (job : Option Job) (ending noted : Ending) → IsNoted ending noted
+pub noted_done : (a b c : DiskState) (job : Option Command) (ending noted : Ending) → IsNoted ending noted
     → Grows b.beside c.beside [] → moments_of c.beside ≡ moments_of b.beside → Aside b c
     → HasDone job ending a b → HasDone job noted a c
 noted_done a b c job ending noted (inl same) g m aside h =
@@ -417,6 +424,7 @@ noted_whole ending noted (inl same) e = sym same ∙ whole_only noted e
     whole_only Words e = absurd (omega (arith, e))
     whole_only (NotEmpty first) e = absurd (omega (arith, e))
     whole_only (Damaged file at) e = absurd (omega (arith, e))
+    whole_only (DigestDiffers file kept found) e = absurd (omega (arith, e))
     whole_only (BadRow family key) e = absurd (omega (arith, e))
     whole_only Device e = absurd (omega (arith, e))
     whole_only Memory e = absurd (omega (arith, e))
@@ -427,12 +435,13 @@ noted_whole ending noted (inr memory) e =
 -- ---- what the status tells
 
 -- wrong words end so, and no other words do
-pub words_end : (a b : DiskState) (job : Option Job) (ending : Ending) → HasDone job ending a b
+pub words_end : (a b : DiskState) (job : Option Command) (ending : Ending) → HasDone job ending a b
     → (status_of ending ≡ 1 → job ≡ None) × (job ≡ None → status_of ending ≡ 1)
 words_end a b None Words h = (λ e. refl, λ e. refl)
 words_end a b None Whole h = absurd h
 words_end a b None (NotEmpty first) h = absurd h
 words_end a b None (Damaged file at) h = absurd h
+words_end a b None (DigestDiffers file kept found) h = absurd h
 words_end a b None (BadRow family key) h = absurd h
 words_end a b None Device h = absurd h
 words_end a b None Memory h = absurd h
@@ -448,55 +457,41 @@ words_end a b (Some job) ending h = (
     words_only Words e = refl
     words_only (NotEmpty first) e = absurd (omega (arith, e))
     words_only (Damaged file at) e = absurd (omega (arith, e))
+    words_only (DigestDiffers file kept found) e = absurd (omega (arith, e))
     words_only (BadRow family key) e = absurd (omega (arith, e))
     words_only Device e = absurd (omega (arith, e))
     words_only Memory e = absurd (omega (arith, e))
     words_only (Spent number) e = absurd (omega (arith, e))
 
     -- and a job has none
-    never_words : (a b : DiskState) (job : Job) (ending : Ending) → HasDone (Some job) ending a b
+    never_words : (a b : DiskState) (job : Command) (ending : Ending) → HasDone (Some job) ending a b
         → ending ≡ Words → ⊥
     never_words a b Init ending h e = subst (λ (x : Ending). HasMade x a b) e h
-    never_words a b Replay ending h e = subst (λ (x : Ending). HasRun Replay x a b) e h
-    never_words a b (Serve per count) ending h e =
-        subst (λ (x : Ending). HasRun (Serve per count) x a b) e h
-    never_words a b (Trial seed count) ending h e =
-        subst (λ (x : Ending). HasRun (Trial seed count) x a b) e h
+    never_words a b (Over job limits) ending h e = subst (λ (x : Ending). HasRun job x a b) e h
 
 -- a run over a store ends whole, or a device failed, or memory was refused, or numbers are spent
-run_completes : (a b : DiskState) (job : Job) (ending : Ending) (status : ℕ)
+pub completes : (a b : DiskState) (job : Job) (ending : Ending) (status : ℕ)
     → status ≡ status_of ending
     → HasRun job ending a b → IsTrusted a → IsReadable a.file
     → (Rose a.faults b.faults → ⊥)
     → ((status ≡ 0) × Opened a b (Done job)) ⊎ (status ≡ 5)
     ⊎ ((status ≡ 6) × LacksNumber job a b)
-run_completes a b job Whole status e h trusted readable well = inl (e, h.1 trusted)
-run_completes a b job Words status e h trusted readable well = absurd h
-run_completes a b job (NotEmpty first) status e h trusted readable well = absurd h
-run_completes a b job (Damaged file at) status e h trusted readable well =
+completes a b job Whole status e h trusted readable well = inl (e, h.1 trusted)
+completes a b job Words status e h trusted readable well = absurd h
+completes a b job (NotEmpty first) status e h trusted readable well = absurd h
+completes a b job (Damaged file at) status e h trusted readable well =
     absurd (⊎_elim (λ x. x.1.1 readable.0 readable.1) (λ x. honest_of a trusted x.1)
     (h (tells_of a trusted)))
-run_completes a b job (BadRow family key) status e h trusted readable well =
+completes a b job (DigestDiffers file kept found) status e h trusted readable well =
     absurd (⊎_elim (λ x. x.1.1 readable.0 readable.1) (λ x. honest_of a trusted x.1)
     (h (tells_of a trusted)))
-run_completes a b job Device status e h trusted readable well = absurd (well h.0)
-run_completes a b job Memory status e h trusted readable well = inr (inl e)
-run_completes a b job (Spent n) status e h trusted readable well =
+completes a b job (BadRow family key) status e h trusted readable well =
+    absurd (⊎_elim (λ x. x.1.1 readable.0 readable.1) (λ x. honest_of a trusted x.1)
+    (h (tells_of a trusted)))
+completes a b job Device status e h trusted readable well = absurd (well h.0)
+completes a b job Memory status e h trusted readable well = inr (inl e)
+completes a b job (Spent n) status e h trusted readable well =
     inr (inr (e, (n, h.1 trusted)))
-
-pub completes : (a b : DiskState) (job : Job) (ending : Ending) (status : ℕ)
-    → status ≡ status_of ending → IsOverStore job
-    → HasDone (Some job) ending a b → IsTrusted a → IsReadable a.file
-    → (Rose a.faults b.faults → ⊥)
-    → ((status ≡ 0) × Opened a b (Done job)) ⊎ (status ≡ 5)
-    ⊎ ((status ≡ 6) × LacksNumber job a b)
-completes a b Init ending status e over h trusted readable well = absurd over
-completes a b Replay ending status e over h trusted readable well =
-    run_completes a b Replay ending status e h trusted readable well
-completes a b (Serve per count) ending status e over h trusted readable well =
-    run_completes a b (Serve per count) ending status e h trusted readable well
-completes a b (Trial seed count) ending status e over h trusted readable well =
-    run_completes a b (Trial seed count) ending status e h trusted readable well
 
 -- a run of `init` over no files makes a store, or a device failed, or memory was refused
 pub makes_all : (a b : DiskState) (ending : Ending) (status : ℕ) → status ≡ status_of ending
@@ -508,6 +503,7 @@ makes_all a b Words status e h trusted none well = absurd h
 makes_all a b (NotEmpty first) status e h trusted none well =
     absurd ((h.1 (tells_of a trusted)).0.there (none first))
 makes_all a b (Damaged file at) status e h trusted none well = absurd h
+makes_all a b (DigestDiffers file kept found) status e h trusted none well = absurd h
 makes_all a b (BadRow family key) status e h trusted none well = absurd h
 makes_all a b Device status e h trusted none well = absurd (well h.1)
 makes_all a b Memory status e h trusted none well = inr e

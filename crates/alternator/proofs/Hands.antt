@@ -8,13 +8,13 @@ use Rattle.alt_lines.specs.Unread.{Unread, lines_now, lines_later, HasNone, Take
 use Rattle.alt_machine.specs.State.{State}
 use Rattle.alt_tables.specs.Stands.{Stands}
 use Rattle.alt_tables.specs.declared.tables.Tables.{Tables}
-use Rattle.alternator.specs.Rereading.{RereadsAtHand}
+use Rattle.alternator.specs.Behind.{BringsAtHand}
 use Rattle.alt_talks.specs.Runs.{Stretch, Leads}
 use Rattle.alternator.specs.Runs.{ServesAtHand, BreaksAtHand, HandsOut, asked_now, asked_later}
 use Rattle.alternator.specs.Turns.{Asked, asked_of}
-use Rattle.alt_tables.specs.declared.faults.TableFault.{TableFault}
-use Rattle.alt_tables.specs.declared.faults.TableFault.TheVariants.{NoMemory}
-use Rattle.alternator.proofs.Rereading.{at_hand_none, at_hand_then}
+use Rattle.alt_talks.specs.declared.fault.RunFault.{RunFault}
+use Rattle.alt_talks.specs.declared.fault.RunFault.TheVariants.{NoMemory}
+use Rattle.alternator.proofs.Bringing.{at_hand_none, at_hand_then}
 use Rattle.alt_talks.proofs.Stretching.{stretch_none, stretch_then, stretch_as}
 use Rattle.alternator.proofs.Serving.{hand_none, hand_then, hand_break, hand_breaks_more, hand_stops}
 
@@ -27,11 +27,11 @@ pub at_none : {X : Type 0} (o : Option X) (P : Type 0) → o ≡ None → IfNone
 at_none {X} o P e h = subst (λ (q : Option X). IfNone q P) e h
 
 -- These calls served the lines in front of those that the reader has now, from each state for which the tables stood.
-pub record Hands (a : DiskState) (t0 : Tables) (b : DiskState) (t1 : Tables)
+pub record Hands (flush : ℕ) (a : DiskState) (t0 : Tables) (b : DiskState) (t1 : Tables)
     (u v : Unread) : Type 0 where
   pub done : List Line
   pub serves : (s : State) → Stands a t0 s → Leads a b t1 (ServesAtHand s (map asked_of done))
-  pub rereads : RereadsAtHand (map asked_of done) a b
+  pub brings : BringsAtHand flush (map asked_of done) a b
   pub now : lines_now u ≡ done ++ lines_now v
   pub most : v.most ≡ u.most
   pub ended : v.ended ≡ u.ended
@@ -39,27 +39,27 @@ pub record Hands (a : DiskState) (t0 : Tables) (b : DiskState) (t1 : Tables)
       → lines_later u more ended ≡ done ++ lines_later v more ended
 
 -- at first none
-pub hands_none : (a : DiskState) (t0 : Tables) (u : Unread) → Hands a t0 a t0 u u
-hands_none a t0 u = record {
+pub hands_none : (flush : ℕ) (a : DiskState) (t0 : Tables) (u : Unread) → Hands flush a t0 a t0 u u
+hands_none flush a t0 u = record {
   done = [];
   serves = λ s stands. record {
     to = s;
     stands = stands;
     calls = stretch_none a {P = ServesAtHand s [] s} (hand_none a t0 s stands);
   };
-  rereads = at_hand_none a;
+  brings = at_hand_none flush a;
   now = refl;
   most = refl;
   ended = refl;
   later = λ unended more ended. refl;
 }
 
-module _ (a : DiskState) (t0 : Tables) (b : DiskState) (t1 : Tables) (u v w : Unread) (line : Line)
-    (p : Hands a t0 b t1 u v) (takes : TakesLine line v w) where
+module _ (flush : ℕ) (a : DiskState) (t0 : Tables) (b : DiskState) (t1 : Tables) (u v w : Unread)
+    (line : Line) (p : Hands flush a t0 b t1 u v) (takes : TakesLine line v w) where
   -- one line more
   pub hands_line : (c : DiskState) (t2 : Tables)
       → ((s : State) → Stands b t1 s → Leads b c t2 (ServesAtHand s (asked_of line ∷ [])))
-      → RereadsAtHand (asked_of line ∷ []) b c → Hands a t0 c t2 u w
+      → BringsAtHand flush (asked_of line ∷ []) b c → Hands flush a t0 c t2 u w
   hands_line c t2 go again = record {
     done = p.done ++ line ∷ [];
     serves = λ s stands.
@@ -77,9 +77,9 @@ module _ (a : DiskState) (t0 : Tables) (b : DiskState) (t1 : Tables) (u v w : Un
               (asked_of line ∷ []) es fs ms ns meet x y)
               front.calls q.calls);
         };
-    rereads = subst (λ (ls : List Asked). RereadsAtHand ls a c)
+    brings = subst (λ (ls : List Asked). BringsAtHand flush ls a c)
         (sym (map-append asked_of p.done (line ∷ [])))
-        (at_hand_then a b c (map asked_of p.done) (asked_of line ∷ []) p.rereads again);
+        (at_hand_then flush a b c (map asked_of p.done) (asked_of line ∷ []) p.brings again);
     now = p.now ∙ ap (λ (ls : List Line). p.done ++ ls) takes.now
         ∙ sym (append_assoc p.done (line ∷ []) (lines_now w));
     most = takes.most ∙ p.most;
@@ -94,7 +94,7 @@ module _ (a : DiskState) (t0 : Tables) (b : DiskState) (t1 : Tables) (u v w : Un
       ∙ map-append asked_of p.done (line ∷ lines_now w)
 
   -- the next line broke off
-  pub hands_break : (c : DiskState) (fault : TableFault) (s : State) (stands : Stands a t0 s)
+  pub hands_break : (c : DiskState) (fault : RunFault) (s : State) (stands : Stands a t0 s)
       → ((r : State) → Stands b t1 r → Stretch b c (BreaksAtHand fault r (asked_of line ∷ [])))
       → Stretch a c (BreaksAtHand fault s (asked_now u))
   hands_break c fault s stands go =
@@ -112,8 +112,8 @@ module _ (a : DiskState) (t0 : Tables) (b : DiskState) (t1 : Tables) (u v w : Un
   pub fewer : length (lines_now w) < length (lines_now v)
   fewer = let e = ap length takes.now in omega (arith, e)
 
-module _ (a : DiskState) (t0 : Tables) (b : DiskState) (t1 : Tables) (u v : Unread)
-    (p : Hands a t0 b t1 u v) where
+module _ (flush : ℕ) (a : DiskState) (t0 : Tables) (b : DiskState) (t1 : Tables) (u v : Unread)
+    (p : Hands flush a t0 b t1 u v) where
   -- memory was refused for the next line
   pub hands_memory : (s : State) → Stands a t0 s
       → Stretch a b (BreaksAtHand NoMemory s (asked_now u))
@@ -136,9 +136,9 @@ module _ (a : DiskState) (t0 : Tables) (b : DiskState) (t1 : Tables) (u v : Unre
     hands_all s stands = subst (λ (ls : List Asked). Leads a b t1 (ServesAtHand s ls))
         served_lines (p.serves s stands)
 
-    -- which is so on any disk
-    pub hands_again : RereadsAtHand (asked_now u) a b
-    hands_again = subst (λ (ls : List Asked). RereadsAtHand ls a b) served_lines p.rereads
+    -- and the disk is as the last promises
+    pub hands_brings : BringsAtHand flush (asked_now u) a b
+    hands_brings = subst (λ (ls : List Asked). BringsAtHand flush ls a b) served_lines p.brings
 
     nothing_more : lines_now w ≡ []
     nothing_more =

@@ -1,11 +1,12 @@
 pub mod Beginning
+pub mod Bringing
 pub mod EndingLaws
 pub mod Hands
 pub mod Initing
 pub mod Numbers
 pub mod Opening
 pub mod Pulling
-pub mod Rereading
 pub mod Serving
 pub mod Trying
 pub mod TurnLaws
+pub mod Working

@@ -4,7 +4,7 @@ use Rattle.std.proofs.lemmas.List.{drop_all}
 use Rattle.std.specs.Char.{is_ascii_digit}
 use Rattle.std.specs.Prelude.{option_and_then, nat_le, ◌&&◌, Bool}
 use Rattle.std.proofs.lemmas.Bool.{cases_lt, lt-leb, le-leb}
-use Rattle.alternator.specs.Words.{digits_from, small_port, small_some, small_count, small_seed, serve_of, trial_of}
+use Rattle.alternator.specs.Words.{digits_from, small_port, within, small_seed, serve_of, trial_of}
 
 abbrev pub capped : Option ℕ → Option ℕ
 capped o = option_map (λ n. min n (2 ^ 64 - 1)) o
@@ -64,23 +64,6 @@ and_no : (b : Bool) → (b && false) ≡ false
 and_no true = refl
 and_no false = refl
 
-none_large : (n : ℕ) → 4294967295 < n → small_some n ≡ None
-none_large n large =
-    ap (λ (b : Bool). cond (nat_le 1 n && b) (Some n) None) (lt-leb n 4294967295 large)
-    ∙ ap (λ (b : Bool). cond b (Some n) None) (and_no (nat_le 1 n))
-
-small_some_capped : (n : ℕ) → small_some (min n (2 ^ 64 - 1)) ≡ small_some n
-small_some_capped n = elim (cases_lt 4294967295 n) [
-  | inr small ↦ ap small_some (let e : min n (2 ^ 64 - 1) ≡ n = omega arith in e)
-  | inl large ↦ none_large (min n (2 ^ 64 - 1)) (omega arith) ∙ sym (none_large n large)
-]
-
--- so is it one of these numbers
-pub some_capped : (o p : Option ℕ) → p ≡ capped o
-    → option_and_then small_some p ≡ option_and_then small_some o
-some_capped None p e = ap (option_and_then small_some) e
-some_capped (Some n) p e = ap (option_and_then small_some) e ∙ small_some_capped n
-
 -- words that are fewer than five ask for no serving
 pub serve_few : (ws : List (List ℕ)) → length ws < 5 → None ≡ serve_of ws
 serve_few [] few = refl
@@ -118,22 +101,26 @@ trial_many (a ∷ b ∷ c ∷ d ∷ []) many = absurd (omega arith)
 trial_many (a ∷ b ∷ c ∷ d ∷ e ∷ []) many = absurd (omega arith)
 trial_many (a ∷ b ∷ c ∷ d ∷ e ∷ f ∷ ws) many = refl
 
-none_many : (n : ℕ) → 1000000 < n → small_count n ≡ None
-none_many n large =
-    ap (λ (b : Bool). cond (nat_le 1 n && b) (Some n) None) (lt-leb n 1000000 large)
-    ∙ ap (λ (b : Bool). cond b (Some n) None) (and_no (nat_le 1 n))
+-- a number past the most is none of those up to it
+none_within : (least most n : ℕ) → most < n → within least most n ≡ None
+none_within least most n large =
+    ap (λ (b : Bool). cond (nat_le least n && b) (Some n) None) (lt-leb n most large)
+    ∙ ap (λ (b : Bool). cond b (Some n) None) (and_no (nat_le least n))
 
-small_count_capped : (n : ℕ) → small_count (min n (2 ^ 64 - 1)) ≡ small_count n
-small_count_capped n = elim (cases_lt 1000000 n) [
-  | inr small ↦ ap small_count (let e : min n (2 ^ 64 - 1) ≡ n = omega arith in e)
-  | inl large ↦ none_many (min n (2 ^ 64 - 1)) (omega arith) ∙ sym (none_many n large)
+within_stopped : (least most n : ℕ) → most < 2 ^ 64 - 1
+    → within least most (min n (2 ^ 64 - 1)) ≡ within least most n
+within_stopped least most n fits = elim (cases_lt most n) [
+  | inr small ↦ ap (within least most) (let e : min n (2 ^ 64 - 1) ≡ n = omega (arith, fits, small) in e)
+  | inl large ↦ none_within least most (min n (2 ^ 64 - 1)) (omega (arith, fits, large))
+      ∙ sym (none_within least most n large)
 ]
 
--- a number that stops at the end of 64 bits counts requests exactly where the number does
-pub count_capped : (o p : Option ℕ) → p ≡ capped o
-    → option_and_then small_count p ≡ option_and_then small_count o
-count_capped None p e = ap (option_and_then small_count) e
-count_capped (Some n) p e = ap (option_and_then small_count) e ∙ small_count_capped n
+-- a number that stops at the end of 64 bits is in a range below that exactly where the number is
+pub within_capped : (least most : ℕ) (o p : Option ℕ) → most < 2 ^ 64 - 1 → p ≡ capped o
+    → option_and_then (within least most) p ≡ option_and_then (within least most) o
+within_capped least most None p fits e = ap (option_and_then (within least most)) e
+within_capped least most (Some n) p fits e =
+    ap (option_and_then (within least most)) e ∙ within_stopped least most n fits
 
 -- ---- numbers below 2^64
 

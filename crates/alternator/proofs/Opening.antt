@@ -6,22 +6,24 @@ use Rattle.alt_machine.specs.State.{State}
 use Rattle.alt_machine.specs.Wanted.{Lack}
 use Rattle.alt_shell.specs.Log.{Log, Grows, moments_of}
 use Rattle.alt_shell.proofs.Telling.{Grows-nil}
-use Rattle.alt_talks.specs.Faults.{IsCausedBy}
+use Rattle.alt_talks.specs.Faults.{IsCausedBy, IsWorkFault}
 use Rattle.alternator.specs.Faults.{IsUnreadable, opening_fault}
-use Rattle.alt_tables.specs.declared.faults.TableFault.{TableFault}
-use Rattle.alt_tables.specs.declared.faults.TableFault.TheVariants.{Failed, NoMemory, Spent, Damaged, BadRow}
+use Rattle.alt_talks.specs.declared.fault.RunFault.{RunFault}
+use Rattle.alt_talks.specs.declared.fault.RunFault.TheVariants.{Failed, NoMemory, Spent, Damaged, DigestDiffers, BadRow}
 use Rattle.alternator.specs.Endings.{HasRun, Done, Broken, BreaksOff, WasDamaged, IsReadable}
 use Rattle.alternator.specs.declared.ending.Ending.TheVariants as ending
 use Rattle.alternator.specs.Runs.{IsOpening, Opened}
 use Rattle.alternator.specs.declared.words.Job.{Job}
-use Rattle.alternator.specs.declared.words.Job.TheVariants.{Init, Replay, Serve, Trial}
+use Rattle.alternator.specs.declared.words.Job.TheVariants.{Replay, Serve, Trial}
 use Rattle.alt_talks.specs.Stops.{AtEach}
 use Rattle.alt_tables.specs.Stands.{Stands}
 use Rattle.alt_tables.specs.Images.{StandsFor}
 use Rattle.alt_opening.specs.Recovery.{IsExplained, HasNoState, WasLeft}
 use Rattle.alt_opening.specs.declared.faults.OpenFault.{OpenFault}
 use Rattle.alt_opening.specs.declared.faults.OpenFault.TheVariants as opening
-use Rattle.alt_tables.proofs.Left.{stands_read, stands_trusted}
+use Rattle.alt_tables.proofs.Left.{stands_left, stands_read, stands_trusted}
+use Rattle.alt_talks.proofs.Stopping.{leaves-weaker}
+use Rattle.alt_talks.specs.Works.{Works}
 use Rattle.alt_tables.specs.declared.tables.Tables.{Tables}
 
 -- calls of the disk alone, which leave what a stop left before, are an opening
@@ -49,26 +51,37 @@ pub still_stands : (a b : DiskState) (tables opened : Tables) (s : State) → St
 still_stands a b tables opened s stands again =
     again (stands_trusted _ _ _ stands) s (stands_read a tables s stands)
 
+-- so whatever a stop leaves on the way stands for it
+pub opening_works : (a b : DiskState) (tables : Tables) (s : State) → Stands a tables s → Goes a b
+    → AtEach a b (WasLeft a) → Works a b s
+opening_works a b tables s stands goes leaves = record {
+  goes = goes;
+  leaves = leaves-weaker a b (WasLeft a) (λ _ image. StandsFor image s)
+      (λ t image was. was.same s (stands_left a tables s stands was.before was.left)) leaves;
+}
+
 -- what an opening tells of damage
 pub unreadable_of : (files : ℕ → Option (List ℕ)) (fault : OpenFault) → IsExplained files fault
     → HasNoState files fault → IsUnreadable files (opening_fault fault)
 unreadable_of files (opening.Damaged file at) is none = (is, none)
+unreadable_of files (opening.DigestDiffers file kept found) is none = (is, none)
 unreadable_of files (opening.BadRow family key) is none = (is, none)
 unreadable_of files opening.Failed is none = tt
 unreadable_of files opening.NoMemory is none = tt
 
 -- files that stand for a state are opened, unless the device fails or memory is refused
-pub readable_cause : (fault : TableFault) (files : ℕ → Option (List ℕ)) (s : State)
+pub readable_cause : (fault : RunFault) (files : ℕ → Option (List ℕ)) (s : State)
     → StandsFor files s → IsUnreadable files fault → IsCausedBy None fault
 readable_cause Failed files s stands h = tt
 readable_cause NoMemory files s stands h = tt
 readable_cause (Spent number) files s stands h = absurd h
 readable_cause (Damaged file at) files s stands h = h.1 s stands
+readable_cause (DigestDiffers file kept found) files s stands h = h.1 s stands
 readable_cause (BadRow family key) files s stands h = h.1 s stands
 
 -- however what was done behind the opening ended
 pub opened_result : (a b c : DiskState) (s : State) (job : Job) → StandsFor a.file s → Goes a b
-    → AtEach a b (WasLeft a) → (result : Result Unit TableFault)
+    → AtEach a b (WasLeft a) → (result : Result Unit RunFault)
     → MatchResult result (λ _. Done job s b c) (λ f. Broken f job s b c)
     → MatchResult result (λ _. Opened a c (Done job))
     (λ f. (IsOpening a c × IsUnreadable a.file f) ⊎ Opened a c (Broken f job))
@@ -78,7 +91,7 @@ opened_result a b c s job stood goes leaves (Err fault) h =
     inr (opened_then a b c (Broken fault job) s stood goes leaves h)
 
 -- numbers are never spent in the opening
-pub spent_done : (a b : DiskState) (job : Job) (fault : TableFault) (number : ℕ)
+pub spent_done : (a b : DiskState) (job : Job) (fault : RunFault) (number : ℕ)
     → fault ≡ Spent number
     → (IsTrue a.tells → (IsOpening a b × IsUnreadable a.file fault) ⊎ IsReadable a.file)
     → (IsTrusted a → (IsOpening a b × IsUnreadable a.file fault) ⊎ Opened a b (Broken fault job))
@@ -90,40 +103,42 @@ spent_done a b job fault number same readable answered = (
       (readable tells),
   λ trusted. ⊎_elim
       (λ x. absurd (subst (IsUnreadable a.file) same x.1))
-      (λ x. subst (λ (f : TableFault). Opened a b (Broken f job)) same x)
+      (λ x. subst (λ (f : RunFault). Opened a b (Broken f job)) same x)
       (answered trusted),
 )
 
 -- a run that was broken off by this fault, in the opening or behind it
-pub breaks_done : (a b : DiskState) (job : Job) (fault why : TableFault) → fault ≡ why
+pub breaks_done : (a b : DiskState) (job : Job) (fault why : RunFault) → fault ≡ why
     → (IsTrusted a → (IsOpening a b × IsUnreadable a.file fault) ⊎ Opened a b (Broken fault job))
     → BreaksOff why job a b
 breaks_done a b job fault why same answered trusted = ⊎_elim
     (λ x. inl x.0)
-    (λ x. inr (subst (λ (f : TableFault). Opened a b (Broken f job)) same x))
+    (λ x. inr (subst (λ (f : RunFault). Opened a b (Broken f job)) same x))
     (answered trusted)
 
 -- what has no cause among requests breaks off no run behind an opening
-broken_well : (job : Job) (fault : TableFault) (s : State) (b c : DiskState)
-    → ((lack : Option Lack) → IsCausedBy lack fault → ⊥) → Broken fault job s b c → ⊥
-broken_well Init fault s b c never h = h
-broken_well Replay fault s b c never h = never _ h.holds.breaks.wants
-broken_well (Serve per count) fault s b c never h = ⊎_elim
+broken_well : (job : Job) (fault : RunFault) (s : State) (b c : DiskState)
+    → ((lack : Option Lack) → IsCausedBy lack fault → ⊥) → (IsWorkFault fault → ⊥)
+    → Broken fault job s b c → ⊥
+broken_well Replay fault s b c never idle h = ⊎_elim (λ x. never _ x) (λ x. idle x.0)
+    h.holds.breaks.wants
+broken_well (Serve per count) fault s b c never idle h = ⊎_elim
     (λ x. never None x.1)
-    (λ x. never _ x.2.some.wants)
+    (λ x. ⊎_elim (λ y. never _ y) (λ y. idle y.0) x.2.some.wants)
     h.holds.0.some
-broken_well (Trial seed count) fault s b c never h = never _ h.holds.wants
+broken_well (Trial seed count) fault s b c never idle h = ⊎_elim (λ x. never _ x) (λ x. idle x.0)
+    h.holds.wants
 
 trusted_by : (a : DiskState) → IsTrue a.tells → a.honest ≡ true → IsTrusted a
 trusted_by a tells honest = grind (arith, tells, honest)
 
 -- a run that ended for damage
-pub damaged_done : (a b : DiskState) (job : Job) (fault why : TableFault) → fault ≡ why
-    → ((lack : Option Lack) → IsCausedBy lack why → ⊥)
+pub damaged_done : (a b : DiskState) (job : Job) (fault why : RunFault) → fault ≡ why
+    → ((lack : Option Lack) → IsCausedBy lack why → ⊥) → (IsWorkFault why → ⊥)
     → (IsTrue a.tells → (IsOpening a b × IsUnreadable a.file fault) ⊎ IsReadable a.file)
     → (IsTrusted a → (IsOpening a b × IsUnreadable a.file fault) ⊎ Opened a b (Broken fault job))
     → WasDamaged why a b
-damaged_done a b job fault why same never readable answered tells =
+damaged_done a b job fault why same never idle readable answered tells =
     ⊎_elim opening (λ x. by_honest x a.honest refl) (readable tells)
   where
     opening : IsOpening a b × IsUnreadable a.file fault
@@ -134,6 +149,6 @@ damaged_done a b job fault why same never readable answered tells =
         → (IsOpening a b × IsUnreadable a.file why) ⊎ (IsReadable a.file × (a.honest ≡ false))
     by_honest stood false e = inr (stood, e)
     by_honest stood true e = ⊎_elim opening
-        (λ o. absurd (broken_well job why o.from o.opened b never
-        (subst (λ (f : TableFault). Broken f job o.from o.opened b) same o.behind)))
+        (λ o. absurd (broken_well job why o.from o.opened b never idle
+        (subst (λ (f : RunFault). Broken f job o.from o.opened b) same o.behind)))
         (answered (trusted_by a tells e))

@@ -20,12 +20,12 @@ use Rattle.alt_tables.specs.Images.{StandsFor}
 use Rattle.alt_tables.proofs.Left.{stands_left}
 use Rattle.alt_talks.proofs.Stopping.{Meet, IsPrefix-longer, until-append, until-before, until-behind, said-by, none-shorter, taken-until, ended-until, within-wider, left-more, left-behind, spans_two, keeps-spans, trusts-kept}
 use Rattle.alternator.proofs.TurnLaws.{turns-more, left-nothing-said, turns-append}
-use Rattle.alt_tables.specs.declared.faults.TableFault.{TableFault}
-use Rattle.alt_tables.specs.declared.faults.TableFault.TheVariants.{Failed, NoMemory}
+use Rattle.alt_talks.specs.declared.fault.RunFault.{RunFault}
+use Rattle.alt_talks.specs.declared.fault.RunFault.TheVariants.{Failed, NoMemory}
 use Rattle.alternator.specs.Turns.{Asked, turns, asks, asked_of, longest_line}
 use Rattle.alt_shell.proofs.Telling.{Grows-then, Tells-nil}
 use Rattle.alt_talks.proofs.Stretching.{said_in-append, taken-append, ended-append, stretch_none, stretch_then}
-use Rattle.alternator.proofs.Serving.{turns_both, serves_none, serves_then, serves_break, breaks_none}
+use Rattle.alternator.proofs.Serving.{breaks_same, turns_both, serves_none, serves_then, serves_break, breaks_none}
 use Rattle.alt_talks.proofs.TurnLaws.{text_of-append, answered-all}
 use Rattle.alt_talks.proofs.TalkLogs.{crosses-append}
 use Rattle.alt_talks.specs.TalkStops.{LeavesNow}
@@ -200,7 +200,7 @@ module _ (a b c : DiskState) (call : ShellCall a b true) (t1 : Tables) (s : Stat
         (subst (λ (x : Unread). HandsOut x v) same outs)
 
     -- that broke off
-    pub pull_breaks : (fault : TableFault) → Stretch b c (BreaksAtHand fault s (asked_now given))
+    pub pull_breaks : (fault : RunFault) → Stretch b c (BreaksAtHand fault s (asked_now given))
         → Stretch a c (GoesSome fault s u)
     pull_breaks fault q = with_take a b c call piece g m
         {P = BreaksAtHand fault s (asked_now given)} {Q = GoesSome fault s u}
@@ -219,7 +219,7 @@ module _ (a b c : DiskState) (call : ShellCall a b true) (t1 : Tables) (s : Stat
                 said = x.breaks.said;
                 count = x.breaks.count;
                 enough = x.breaks.enough;
-                wants = x.breaks.wants;
+                wants = breaks_same fault s x.breaks.done x.breaks.begun es (one ∷ es) ms refl x.breaks.wants;
               });
           inside = x.rests.inside;
           leaves = leaves_take a b c call piece g m s u (asked_now given) es ms within x.rests here
@@ -256,8 +256,7 @@ module _ (a b c : DiskState) (call : ShellCall a b true) (t1 : Tables) (s : Stat
           said = ([], refl);
           count = refl;
           enough = refl;
-          wants =
-              tt;
+          wants = inl tt;
         }
 
   -- the end was taken
@@ -301,7 +300,7 @@ module _ (a b c : DiskState) (call : ShellCall a b true) (t1 : Tables) (s : Stat
     }
 
     -- that broke off
-    pub pull_end_breaks : (fault : TableFault)
+    pub pull_end_breaks : (fault : RunFault)
         → Stretch b c (BreaksAtHand fault s (asked_now (record u { ended = true })))
         → Stretch a c (GoesSome fault s u)
     pull_end_breaks fault q = with_take a b c call [] at_end m
@@ -320,7 +319,7 @@ module _ (a b c : DiskState) (call : ShellCall a b true) (t1 : Tables) (s : Stat
                 said = x.breaks.said;
                 count = x.breaks.count;
                 enough = x.breaks.enough;
-                wants = x.breaks.wants;
+                wants = breaks_same fault s x.breaks.done x.breaks.begun es (last ∷ es) ms refl x.breaks.wants;
               });
           inside = x.rests.inside;
           leaves = leaves_take a b c call [] at_end m s u (asked_now (record u { ended = true })) es ms
@@ -369,7 +368,7 @@ module _ (a b : DiskState) (call : ShellCall a b false) (tables : Tables) (s : S
         count = refl;
         enough =
             refl;
-        wants = tt;
+        wants = inl tt;
       };
       inside = refl;
       leaves = leaves_silent a b tables s u
@@ -489,7 +488,7 @@ module _ (a b c : DiskState) (t1 : Tables) (s : State) (u v : Unread)
       p.calls q.calls
 
   -- and then a break
-  pub goes_breaks : (fault : TableFault) → Stretch b c (GoesSome fault p.to v)
+  pub goes_breaks : (fault : RunFault) → Stretch b c (GoesSome fault p.to v)
       → Stretch a c (GoesSome fault s u)
   goes_breaks fault q = stretch_then a b c {P = Goes s u p.to v} {Q = GoesSome fault p.to v} {R =
       GoesSome fault s u}
@@ -528,7 +527,7 @@ answers_all a b s t es ms x last = record {
 }
 
 -- some was
-pub answers_some : (a b : DiskState) (fault : TableFault) (s : State) (es : Log) (ms : List ℕ)
+pub answers_some : (a b : DiskState) (fault : RunFault) (s : State) (es : Log) (ms : List ℕ)
     → GoesSome fault s fresh a b es ms → AnswersSome fault s a b es ms
 answers_some a b fault s es ms x =
     let br = x.breaks in

@@ -1,5 +1,5 @@
 -- Serving lines, one after another: the laws of `Serves` and `Breaks`.
-use Rattle.std.proofs.Common.{◌≡◌, ◌≤◌, ◌⊎◌, ℕ, List, [], ◌∷◌, ◌++◌, length, take, drop, true, false, Option, Some, None, refl, sym, ap, subst, ◌∙◌, append_assoc, append-nil, arith, inl, inr, length-append, take-append-drop}
+use Rattle.std.proofs.Common.{◌≡◌, ◌≤◌, ◌⊎◌, ⊎_elim, ℕ, List, [], ◌∷◌, ◌++◌, length, take, drop, true, false, Option, Some, None, refl, sym, ap, subst, ◌∙◌, append_assoc, append-nil, arith, inl, inr, length-append, take-append-drop}
 use Rattle.std.specs.Prelude.{◌||◌}
 use Rattle.alt_base.specs.Prefix.{IsPrefix}
 use Rattle.alt_machine.specs.State.{State}
@@ -8,14 +8,17 @@ use Rattle.alt_machine.specs.Wanted.{Lack}
 use Rattle.alt_shell.specs.Calls.{Adds, ShellCall, Untold}
 use Rattle.alt_shell.specs.Log.{Log, Grows, Tells, moments_of, until, entry, told_count, said, say_failed, says_failed, says_missed, taken, said_in, ended, crosses}
 use Rattle.alt_talks.specs.Runs.{Stretch, Leads}
-use Rattle.alternator.specs.Runs.{Serves, Breaks, Rests, ServesAtHand, BreaksAtHand, LeftAtHand}
+use Rattle.alternator.specs.Runs.{Serves, Breaks, BreaksFor, IsAtWork, Rests, ServesAtHand, BreaksAtHand, LeftAtHand}
 use Rattle.alt_talks.specs.Stops.{IsLeft, IsAmong, AtEach, AreWithin}
 use Rattle.alt_tables.specs.Stands.{Stands}
 use Rattle.alt_tables.specs.declared.tables.Tables.{Tables}
 use Rattle.alt_talks.specs.Faults.{IsCausedBy}
-use Rattle.alt_tables.specs.declared.faults.TableFault.{TableFault}
-use Rattle.alt_tables.specs.declared.faults.TableFault.TheVariants.{Failed, NoMemory}
-use Rattle.alternator.specs.Turns.{Asked, turns, requests}
+use Rattle.alt_talks.specs.declared.fault.RunFault.{RunFault}
+use Rattle.alt_talks.specs.declared.fault.RunFault.TheVariants.{Failed, NoMemory}
+use Rattle.alternator.specs.Faults.{IsControlFault}
+use Rattle.alternator.specs.Turns.{Asked, request, control, unread, turns, requests, obeyed}
+use Rattle.alternator.specs.declared.lines.Control.{Control}
+use Rattle.alternator.specs.declared.lines.Control.TheVariants.{Flush, Step, Reopen}
 use Rattle.alt_talks.specs.Turns.{Turn, text_of, after, after_turn, wanted, or_next}
 use Rattle.alt_shell.proofs.Telling.{Grows-then, Grows-nil}
 use Rattle.alt_tables.proofs.Left.{stands_left}
@@ -61,8 +64,58 @@ serves_then s t u ls ks es fs ms ns p q = record {
   enough = wanted_both s t u ls ks es fs ms ns p ∙ q.enough;
 }
 
+-- the same is at work, whatever is said
+at_work : (l : Asked) (A B : Type 0) → (A → B) → IsAtWork l A → IsAtWork l B
+at_work (request name body) A B law h = law h
+at_work (control Flush) A B law h = tt
+at_work (control Step) A B law h = tt
+at_work (control Reopen) A B law h = absurd h
+at_work unread A B law h = absurd h
+
+-- what breaks off lines breaks them off behind others
+breaks_for : (fault : RunFault) (s t : State) (ls done begun : List Asked) (es fs : Log)
+    (ms ns : List ℕ) → Serves s ls t es ms → BreaksFor fault t done begun fs ns
+    → BreaksFor fault s (ls ++ done) begun (es ++ fs) (ms ++ ns)
+breaks_for fault s t ls done begun es fs ms ns p why =
+    let same : wanted (turns s ((ls ++ done) ++ begun) (ms ++ ns)) ≡ wanted (turns t (done ++ begun) ns) =
+    ap (λ xs. wanted (turns s xs (ms ++ ns))) (append_assoc ls done begun)
+    ∙ wanted_both s t t ls (done ++ begun) es fs ms ns p in
+    ⊎_elim (λ cause. inl (subst (λ w. IsCausedBy w fault) (sym same) cause))
+    (λ work. inr (
+      work.0,
+      record {
+        line = work.1.line;
+        last = work.1.last;
+        enough = same ∙ work.1.enough;
+        at = at_work work.1.line (said_in fs ≡ text_of (turns t (done ++ begun) ns))
+            (said_in (es ++ fs) ≡ text_of (turns s ((ls ++ done) ++ begun) (ms ++ ns)))
+            (λ e. said_in-append es fs ∙ ap (λ bs. said_in es ++ bs) e
+            ∙ sym (text_both s t t ls (done ++ begun) es fs ms ns p)
+            ∙ ap (λ xs. text_of (turns s xs (ms ++ ns))) (sym (append_assoc ls done begun)))
+            work.1.at;
+      },
+    ))
+    why
+
+-- so does it with entries that say the same
+pub breaks_same : (fault : RunFault) (s : State) (done begun : List Asked) (es fs : Log)
+    (ms : List ℕ) → said_in fs ≡ said_in es → BreaksFor fault s done begun es ms
+    → BreaksFor fault s done begun fs ms
+breaks_same fault s done begun es fs ms same why = ⊎_elim (λ cause. inl cause)
+    (λ work. inr (
+      work.0,
+      record {
+        line = work.1.line;
+        last = work.1.last;
+        enough = work.1.enough;
+        at = at_work work.1.line (said_in es ≡ text_of (turns s (done ++ begun) ms))
+            (said_in fs ≡ text_of (turns s (done ++ begun) ms)) (λ e. same ∙ e) work.1.at;
+      },
+    ))
+    why
+
 -- lines and then a break
-pub serves_break : (fault : TableFault) (s t : State) (ls ks : List Asked) (es fs : Log)
+pub serves_break : (fault : RunFault) (s t : State) (ls ks : List Asked) (es fs : Log)
     (ms ns : List ℕ)
     → Serves s ls t es ms → Breaks fault t ks fs ns
     → Breaks fault s (ls ++ ks) (es ++ fs) (ms ++ ns)
@@ -88,14 +141,11 @@ serves_break fault s t ls ks es fs ms ns p q = record {
   count = count_both s t t ls (q.done ++ q.begun) es fs ms ns p q.count
       ∙ ap requests (sym (append_assoc ls q.done q.begun));
   enough = wanted_both s t t ls q.done es fs ms ns p ∙ q.enough;
-  wants = subst (λ xs. IsCausedBy (wanted (turns s xs (ms ++ ns))) fault)
-      (sym (append_assoc ls q.done q.begun))
-      (subst (λ w. IsCausedBy w fault) (sym (wanted_both s t t ls (q.done ++ q.begun) es fs ms ns p))
-      q.wants);
+  wants = breaks_for fault s t ls q.done q.begun es fs ms ns p q.wants;
 }
 
 -- a break among lines is one among these and more
-pub breaks_more : (fault : TableFault) (s : State) (ls ks : List Asked) (es : Log) (ms : List ℕ)
+pub breaks_more : (fault : RunFault) (s : State) (ls ks : List Asked) (es : Log) (ms : List ℕ)
     → Breaks fault s ls es ms → Breaks fault s (ls ++ ks) es ms
 breaks_more fault s ls ks es ms q = record {
   done = q.done;
@@ -112,7 +162,7 @@ breaks_more fault s ls ks es ms q = record {
 }
 
 -- nothing was begun
-pub breaks_none : (fault : TableFault) → IsCausedBy None fault → (s : State) (ls : List Asked)
+pub breaks_none : (fault : RunFault) → IsCausedBy None fault → (s : State) (ls : List Asked)
     → Breaks fault s ls [] []
 breaks_none fault cause s ls = record {
   done = [];
@@ -125,7 +175,7 @@ breaks_none fault cause s ls = record {
   said = ([], refl);
   count = refl;
   enough = refl;
-  wants = cause;
+  wants = inl cause;
 }
 
 -- nothing to serve
@@ -192,7 +242,7 @@ module _ (a b c : DiskState) (s t u : State) (ls ks : List Asked) (es fs : Log) 
   }
 
   -- lines and then a break
-  pub hand_break : (fault : TableFault) → BreaksAtHand fault t ks b c fs ns
+  pub hand_break : (fault : RunFault) → BreaksAtHand fault t ks b c fs ns
       → BreaksAtHand fault s (ls ++ ks) a c (es ++ fs) (ms ++ ns)
   hand_break fault q = record {
     breaks = serves_break fault s t ls ks es fs ms ns p.serves q.breaks;
@@ -211,7 +261,7 @@ leaves_more a b s ls ks es ms p trusted =
     (left-more s (turns s ls ms) more.0 (said_in (until n es)) image more.1 x)) p trusted
 
 -- a break among lines is one among these and more
-pub hand_breaks_more : (a b : DiskState) (fault : TableFault) (s : State) (ls ks : List Asked) (es : Log)
+pub hand_breaks_more : (a b : DiskState) (fault : RunFault) (s : State) (ls ks : List Asked) (es : Log)
     (ms : List ℕ)
     → BreaksAtHand fault s ls a b es ms → BreaksAtHand fault s (ls ++ ks) a b es ms
 hand_breaks_more a b fault s ls ks es ms p = record {
@@ -297,17 +347,29 @@ turn_served old mid new tables s l t ms bytes b enough stands call added n e =
       };
     }
 
+-- what a turn lacks is what its line lacks
+lacked : (s : State) (l : Asked) (t : Turn) (ms : List ℕ) (fault : RunFault) (es : Log)
+    → turns s (l ∷ []) ms ≡ t ∷ [] → IsCausedBy t.lacks fault → BreaksFor fault s [] (l ∷ []) es ms
+lacked s l t ms fault es one cause =
+    inl (subst (λ (ts : List Turn). IsCausedBy (wanted ts) fault) (sym one)
+    (lacked_alone fault t.lacks cause))
+  where
+    lacked_alone : (fault : RunFault) (lack : Option Lack) → IsCausedBy lack fault
+        → IsCausedBy (or_next lack None) fault
+    lacked_alone fault None h = h
+    lacked_alone fault (Some x) h = h
+
 -- a turn that was begun, of which these bytes were said
 turn_begun : (old mid new : DiskState) (s : State) (l : Asked) (t : Turn) (ms : List ℕ)
-    (fault : TableFault) (es : Log)
-    → Begins old mid s l t ms → IsCausedBy t.lacks fault
+    (fault : RunFault) (es : Log)
+    → Begins old mid s l t ms → BreaksFor fault s [] (l ∷ []) es ms
     → Rests es → IsPrefix (said_in es) t.text
     → Grows mid.beside new.beside es → moments_of new.beside ≡ moments_of mid.beside
     → AreWithin mid.moment new.moment es → mid.moment ≤ new.moment
     → (IsTrusted mid → IsTrusted new)
     → AtEach old new (LeftAtHand s (l ∷ []) es ms)
     → Stretch old new (BreaksAtHand fault s (l ∷ []))
-turn_begun old mid new s l t ms fault es b lacked rests some g m within later trusts leaves =
+turn_begun old mid new s l t ms fault es b why rests some g m within later trusts leaves =
     record {
       entries = es;
       told = ms;
@@ -329,18 +391,12 @@ turn_begun old mid new s l t ms fault es b lacked rests some g m within later tr
               (subst (IsPrefix (said_in es)) (sym (append-nil t.text)) some);
           count = b.count;
           enough = refl;
-          wants = subst (λ (ts : List Turn). IsCausedBy (wanted ts) fault) (sym b.one)
-              (lacked_alone fault t.lacks lacked);
+          wants = why;
         };
         rests = rests;
         leaves = leaves;
       };
     }
-  where
-    lacked_alone : (fault : TableFault) (lack : Option Lack) → IsCausedBy lack fault
-        → IsCausedBy (or_next lack None) fault
-    lacked_alone fault None h = h
-    lacked_alone fault (Some x) h = h
 
 -- a turn whose text was said in part
 module _ (old mid new : DiskState) (tables : Tables) (s : State) (l : Asked) (t : Turn) (ms : List ℕ)
@@ -351,7 +407,7 @@ module _ (old mid new : DiskState) (tables : Tables) (s : State) (l : Asked) (t 
       → IsPrefix (said_in es) t.text → Grows mid.beside new.beside es
       → AreWithin mid.moment new.moment es → Stretch old new (BreaksAtHand Failed s (l ∷ []))
   cut es rests by some g within =
-      turn_begun old mid new s l t ms Failed es b tt rests some g m within call.keeps.later
+      turn_begun old mid new s l t ms Failed es b (inl tt) rests some g m within call.keeps.later
       (trusts-kept mid new call.keeps)
       (leaves-said s (turns s (l ∷ []) ms) t b.one (turns_say s (l ∷ []) ms) old mid new es within
       by b.trusts b.leaves
@@ -381,13 +437,33 @@ module _ (old mid new : DiskState) (tables : Tables) (s : State) (l : Asked) (t 
   turn_cut (inl part) = cut_part part.0 part.1
   turn_cut (inr untold) = cut_untold untold.log
 
--- a turn of which nothing was said, since it lacks what it wants or there is no memory
-pub turn_unsaid : (old new : DiskState) (s : State) (l : Asked) (t : Turn) (ms : List ℕ)
-    (fault : TableFault)
-    → Begins old new s l t ms → IsCausedBy t.lacks fault
+-- a turn of which nothing was said
+unsaid : (old new : DiskState) (s : State) (l : Asked) (t : Turn) (ms : List ℕ) (fault : RunFault)
+    → Begins old new s l t ms → BreaksFor fault s [] (l ∷ []) [] ms
     → Stretch old new (BreaksAtHand fault s (l ∷ []))
-turn_unsaid old new s l t ms fault b cause =
-    turn_begun old new new s l t ms fault [] b cause
+unsaid old new s l t ms fault b why =
+    turn_begun old new new s l t ms fault [] b why
     (record { silent = refl; goes_on = refl; inside = refl }) (t.text, refl) (Grows-nil new.beside) refl tt
     (omega arith) (λ trusted. trusted)
     (leaves-unsaid s (turns s (l ∷ []) ms) t b.one (turns_say s (l ∷ []) ms) old new b.leaves)
+
+-- since it lacks what it wants or there is no memory
+pub turn_unsaid : (old new : DiskState) (s : State) (l : Asked) (t : Turn) (ms : List ℕ)
+    (fault : RunFault)
+    → Begins old new s l t ms → IsCausedBy t.lacks fault
+    → Stretch old new (BreaksAtHand fault s (l ∷ []))
+turn_unsaid old new s l t ms fault b cause =
+    unsaid old new s l t ms fault b (lacked s l t ms fault [] b.one cause)
+
+-- or since what a word of control asks for isn't done
+pub control_unsaid : (old new : DiskState) (s : State) (word : Control) (fault : RunFault)
+    → Begins old new s (control word) obeyed [] → IsControlFault word fault
+    → Stretch old new (BreaksAtHand fault s (control word ∷ []))
+control_unsaid old new s word fault b cause =
+    unsaid old new s (control word) obeyed [] fault b (because word fault cause)
+  where
+    because : (word : Control) (fault : RunFault) → IsControlFault word fault
+        → BreaksFor fault s [] (control word ∷ []) [] []
+    because Flush fault h = inr (h, record { line = control Flush; last = refl; enough = refl; at = tt })
+    because Step fault h = inr (h, record { line = control Step; last = refl; enough = refl; at = tt })
+    because Reopen fault h = inl h

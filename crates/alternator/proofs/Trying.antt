@@ -1,5 +1,5 @@
 -- A trial: its requests, one after the other, and then its four lines.
-use Rattle.std.proofs.Common.{◌≡◌, ◌≤◌, ◌<◌, ◌+◌, ◌-◌, ◌⊎◌, ℕ, suc, inl, inr, List, [], ◌∷◌, ◌++◌, map, length, min, take, drop, replicate, cond, Bool, true, false, Option, Some, None, option_map, refl, sym, ap, subst, ◌∙◌, append_assoc, append-nil, arith, length-append, take-append-drop}
+use Rattle.std.proofs.Common.{◌≡◌, ◌≤◌, ◌<◌, ◌+◌, ◌-◌, ◌⊎◌, ⊎_elim, ℕ, suc, inl, inr, List, [], ◌∷◌, ◌++◌, map, length, min, take, drop, replicate, cond, Bool, true, false, Option, Some, None, option_map, refl, sym, ap, subst, ◌∙◌, append_assoc, append-nil, arith, length-append, take-append-drop}
 use Rattle.std.specs.Prelude.{nat_le, nat_eq, ◌==◌, codes, filter}
 use Rattle.std.specs.Str.{bytes_eq}
 use Rattle.std.specs.List.{starts_with, before_first, after_first}
@@ -22,15 +22,16 @@ use Rattle.alt_tables.specs.Images.{StandsFor}
 use Rattle.alt_tables.specs.Stands.{Stands}
 use Rattle.alt_tables.specs.declared.tables.Tables.{Tables}
 use Rattle.alt_tables.proofs.Left.{stands_left}
-use Rattle.alt_talks.specs.Faults.{IsCausedBy}
+use Rattle.alt_talks.specs.Faults.{IsCausedBy, IsWorkFault}
+use Rattle.alt_talks.specs.Works.{Works}
 use Rattle.alt_talks.specs.Runs.{Stretch}
 use Rattle.alternator.specs.Runs.{Rests}
 use Rattle.alt_talks.specs.Stops.{Image, atoms_of, AtEach, IsAmong, AreWithin}
-use Rattle.alternator.specs.Trials.{trial_asks, trial_moment, trial_turns, beginning, as_turn, IsTried, LeftOfTrial, Tries, TriesSome, IsTally, Counted, CountedSome}
-use Rattle.alternator.specs.Turns.{Asked, request, control, reopen, asked_by, is_space, carried_out, turns, requests}
+use Rattle.alternator.specs.Trials.{trial_asks, trial_moment, trial_turns, beginning, as_turn, IsTried, LeftOfTrial, Tries, TriesFor, TriesSome, IsTally, Counted, CountedSome}
+use Rattle.alternator.specs.Turns.{Asked, request, control_of, asked_as, asked_by, is_space, carried_out, turns, requests}
 use Rattle.alt_talks.specs.Turns.{Turn, after, after_turn, wanted, or_next}
-use Rattle.alt_tables.specs.declared.faults.TableFault.{TableFault}
-use Rattle.alt_tables.specs.declared.faults.TableFault.TheVariants.{Failed, NoMemory, Spent, Damaged, BadRow}
+use Rattle.alt_talks.specs.declared.fault.RunFault.{RunFault}
+use Rattle.alt_talks.specs.declared.fault.RunFault.TheVariants.{Failed, NoMemory}
 use Rattle.alternator.specs.declared.tally.Tally.{Tally}
 use Rattle.alt_talks.proofs.Stopping.{atoms_of-append, last_state-append, after-atoms, one-by, until-before, take-within, trusts-kept, leaves-weaker, leaves-here, spans_two, keeps-spans, within-wider, stands_kept}
 use Rattle.alternator.proofs.TurnLaws.{requests-append, turns-append}
@@ -58,15 +59,15 @@ beginning_more front ts t =
 
 -- ---- the lines of the generator are requests
 
-not_kind : (kind : ℕ) (d : Draws) → bytes_eq (line_of_kind kind d) (codes "@reopen") ≡ false
+no_kind : (kind : ℕ) (d : Draws) → control_of (line_of_kind kind d) ≡ None
 unfolding line_of_kind
-not_kind kind d = by_tests (nat_le kind 3) (kind == 4) (nat_le kind 6) (kind == 7) (kind == 8)
+no_kind kind d = by_tests (nat_le kind 3) (kind == 4) (nat_le kind 6) (kind == 7) (kind == 8)
   where
-    by_tests : (a b c e f : Bool) → bytes_eq (cond a (put_item_line d)
+    by_tests : (a b c e f : Bool) → control_of (cond a (put_item_line d)
         (cond b (keyed_line (codes "DeleteItem") d)
         (cond c (update_item_line d)
         (cond e (keyed_line (codes "GetItem") d)
-        (cond f (query_line d) (query_index_line d)))))) (codes "@reopen") ≡ false
+        (cond f (query_line d) (query_index_line d)))))) ≡ None
     by_tests true b c e f = refl
     by_tests false true c e f = refl
     by_tests false false true e f = refl
@@ -74,18 +75,17 @@ not_kind kind d = by_tests (nat_le kind 3) (kind == 4) (nat_le kind 6) (kind == 
     by_tests false false false false true = refl
     by_tests false false false false false = refl
 
-not_reopen : (g : Generator) → bytes_eq (next_line g) (codes "@reopen") ≡ false
-not_reopen g = elim g.first as (λ b. bytes_eq (next_line (record { first = b; number = g.number }))
-    (codes "@reopen") ≡ false) [
+no_word : (g : Generator) → control_of (next_line g) ≡ None
+no_word g = elim g.first as (λ b. control_of (next_line (record { first = b; number = g.number }))
+    ≡ None) [
       | true ↦ refl
-      | false ↦ not_kind (draws g.number).kind (draws g.number)
+      | false ↦ no_kind (draws g.number).kind (draws g.number)
     ]
 
 -- a line of the generator asks for a request
 pub asked_next : (g : Generator) → asked_by (next_line g)
     ≡ request (before_first is_space (next_line g)) (after_first is_space (next_line g))
-asked_next g = ap (λ b. cond b (control reopen) (request (before_first is_space (next_line g))
-    (after_first is_space (next_line g)))) (not_reopen g)
+asked_next g = ap (asked_as (next_line g)) (no_word g)
 
 -- ---- turns, and then more of them
 
@@ -116,30 +116,6 @@ among_behind image s xs ys p = (
       (sym (ap (last_state s) (take-append-add xs ys p.0) ∙ last_state-append s xs (take p.0 ys)))
       p.1,
 )
-
--- a number that is wanted first is so with more turns to come
-same_lack : (number : ℕ) (o : Option Lack) (v w : Option Lack)
-    → (option_map (λ (l : Lack). l.number) v ≡ Some number
-    → option_map (λ (l : Lack). l.number) w ≡ Some number)
-    → option_map (λ (l : Lack). l.number) (or_next o v) ≡ Some number
-    → option_map (λ (l : Lack). l.number) (or_next o w) ≡ Some number
-same_lack number None v w again h = again h
-same_lack number (Some l) v w again h = h
-
-spent_more : (number : ℕ) (ts us : List Turn)
-    → option_map (λ (l : Lack). l.number) (wanted ts) ≡ Some number
-    → option_map (λ (l : Lack). l.number) (wanted (ts ++ us)) ≡ Some number
-spent_more number [] us h = absurd (let f : ⊥ = cc in f)
-spent_more number (t ∷ ts) us h =
-    same_lack number t.lacks (wanted ts) (wanted (ts ++ us)) (spent_more number ts us) h
-
-wants_more : (fault : TableFault) (ts us : List Turn) → IsCausedBy (wanted ts) fault
-    → IsCausedBy (wanted (ts ++ us)) fault
-wants_more Failed ts us h = tt
-wants_more NoMemory ts us h = tt
-wants_more (Damaged file at) ts us h = absurd h
-wants_more (BadRow family key) ts us h = absurd h
-wants_more (Spent number) ts us h = spent_more number ts us h
 
 -- ---- requests, and then more of them
 
@@ -187,16 +163,35 @@ module _ (a b c : DiskState) (t1 : Tables) (s : State) (ls ks : List Asked) (x y
     leaves = leaves_both q.leaves;
   }
 
-  pub counted_break : (fault : TableFault) → CountedSome fault (reached_by s ls) ks b c
+  wanted_begun : (begun : List Asked)
+      → wanted (trial_turns s (ls ++ begun)) ≡ wanted (trial_turns (reached_by s ls) begun)
+  wanted_begun begun = ap wanted (turns_then s ls begun)
+      ∙ wanted-append (trial_turns s ls) (trial_turns (reached_by s ls) begun) p.enough
+
+  tries_for : (fault : RunFault) (begun : List Asked) → TriesFor fault (reached_by s ls) begun
+      → TriesFor fault s (ls ++ begun)
+  tries_for fault begun why = ⊎_elim
+      (λ cause. inl (subst (λ (w : Option Lack). IsCausedBy w fault) (sym (wanted_begun begun)) cause))
+      (λ work. inr (
+        work.0,
+        wanted_begun begun ∙ work.1,
+        let l = length-append ls begun in let some = work.2 in omega (arith, l, some),
+      ))
+      why
+
+  pub counted_break : (fault : RunFault) → CountedSome fault (reached_by s ls) ks b c
       → CountedSome fault s (ls ++ ks) a c
   counted_break fault q = record {
-    wants = subst (λ (w : Option Lack). IsCausedBy w fault) (sym wanted_both) q.wants;
+    begun = ls ++ q.begun;
+    rest = q.rest;
+    lines = ap (λ xs. ls ++ xs) q.lines ∙ sym (append_assoc ls q.begun q.rest);
+    wants = tries_for fault q.begun q.wants;
     leaves = leaves_both q.leaves;
   }
 
 -- ---- one request
 
-lacked_alone : (fault : TableFault) (lack : Option Lack) → IsCausedBy lack fault
+lacked_alone : (fault : RunFault) (lack : Option Lack) → IsCausedBy lack fault
     → IsCausedBy (or_next lack None) fault
 lacked_alone fault None h = h
 lacked_alone fault (Some x) h = h
@@ -224,18 +219,63 @@ module _ (a b : DiskState) (s : State) (name body : List ℕ)
   }
 
   -- it broke off
-  pub one_broke : (fault : TableFault) → IsCausedBy (carried_out s name body trial_moment).lacks fault
+  pub one_broke : (fault : RunFault) → IsCausedBy (carried_out s name body trial_moment).lacks fault
       → CountedSome fault s (request name body ∷ []) a b
   one_broke fault cause = record {
-    wants = lacked_alone fault (carried_out s name body trial_moment).lacks cause;
+    begun = request name body ∷ [];
+    rest = [];
+    lines = refl;
+    wants = inl (lacked_alone fault (carried_out s name body trial_moment).lacks cause);
     leaves = leaves_one;
+  }
+
+-- and then a step of work was made
+module _ (a b c : DiskState) (t1 : Tables) (s : State) (name body : List ℕ) (x y : Tally)
+    (trusts : IsTrusted a → IsTrusted b) (p : Counted s (request name body ∷ []) x y a b t1)
+    (works : Works b c (reached_by s (request name body ∷ []))) where
+  leaves_worked : AtEach a c (λ _ image. IsAmong image s
+      (atoms_of (trial_turns s (request name body ∷ []))))
+  leaves_worked trusted =
+      let atoms : List State = atoms_of (trial_turns s (request name body ∷ [])) in
+      spans_two a b c (λ _ image. IsAmong image s atoms)
+      (λ _ image. StandsFor image (reached_by s (request name body ∷ [])))
+      (λ _ image. IsAmong image s atoms)
+      (p.leaves trusted) (works.leaves (trusts trusted))
+      (λ u image before h. h)
+      (λ u image from h. (
+        length atoms,
+        subst (λ (xs : List State). StandsFor image (last_state s xs)) (sym (take-length atoms))
+            (subst (StandsFor image) (after-atoms s (trial_turns s (request name body ∷ []))) h),
+      ))
+
+  pub one_worked : (t2 : Tables) → Stands c t2 (reached_by s (request name body ∷ []))
+      → Counted s (request name body ∷ []) x y a c t2
+  one_worked t2 stands = record {
+    stands = stands;
+    enough = p.enough;
+    counts = p.counts;
+    leaves = leaves_worked;
+  }
+
+  -- or that broke off
+  pub one_worked_some : (fault : RunFault) → IsWorkFault fault
+      → CountedSome fault s (request name body ∷ []) a c
+  one_worked_some fault why = record {
+    begun = request name body ∷ [];
+    rest = [];
+    lines = refl;
+    wants = inr (why, p.enough, omega arith);
+    leaves = leaves_worked;
   }
 
 -- none was begun for want of memory
 pub none_begun : (a : DiskState) (tables : Tables) (s : State) (ls : List Asked) → Stands a tables s
     → CountedSome NoMemory s ls a a
 none_begun a tables s ls stands = record {
-  wants = tt;
+  begun = [];
+  rest = ls;
+  lines = refl;
+  wants = inl tt;
   leaves = leaves-here a (λ _ image. IsAmong image s (atoms_of (trial_turns s ls)))
       (λ trusted t image is_image. (0, stands_left a tables s stands image is_image));
 }
@@ -248,13 +288,15 @@ asked_parts g line is =
     ∙ sym (asked_next g)
 
 -- a break among requests is one among these and more
-counted_some_more : (a b : DiskState) (fault : TableFault) (s : State) (ls ks : List Asked)
+counted_some_more : (a b : DiskState) (fault : RunFault) (s : State) (ls ks : List Asked)
     → CountedSome fault s ls a b → CountedSome fault s (ls ++ ks) a b
 counted_some_more a b fault s ls ks q =
     let us = trial_turns (after s (trial_turns s ls)) ks in
     record {
-      wants = subst (λ (ts : List Turn). IsCausedBy (wanted ts) fault) (sym (turns_then s ls ks))
-          (wants_more fault (trial_turns s ls) us q.wants);
+      begun = q.begun;
+      rest = q.rest ++ ks;
+      lines = ap (λ xs. xs ++ ks) q.lines ∙ append_assoc q.begun q.rest ks;
+      wants = q.wants;
       leaves = leaves-weaker a b (λ _ image. IsAmong image s (atoms_of (trial_turns s ls)))
           (λ _ image. IsAmong image s (atoms_of (trial_turns s (ls ++ ks))))
           (λ t image h. subst (λ (xs : List State). IsAmong image s xs)
@@ -320,7 +362,7 @@ module _ (a : DiskState) (t0 : Tables) (b : DiskState) (t1 : Tables) (y : Tally)
   }
 
   -- it broke off
-  pub trying_break : (c : DiskState) (fault : TableFault)
+  pub trying_break : (c : DiskState) (fault : RunFault)
       → ((r : State) → Stands b t1 r → CountedSome fault r (asked_by line ∷ []) b c)
       → (s : State) → Stands a t0 s → CountedSome fault s (map asked_by all) a c
   trying_break c fault go s stands =
@@ -396,7 +438,7 @@ module _ (old mid new : DiskState) (s : State) (t : Turn) (goes : Goes old mid)
       (λ u image from p. tried_whole s t (said_in (until u es)) image (front u) p)
 
 -- The requests of a trial broke off: nothing was said.
-pub trial_unsaid : (old mid : DiskState) (s : State) (seed count : ℕ) (fault : TableFault) → Goes old mid
+pub trial_unsaid : (old mid : DiskState) (s : State) (seed count : ℕ) (fault : RunFault) → Goes old mid
     → CountedSome fault s (trial_asks seed count) old mid
     → Stretch old mid (TriesSome fault s seed count)
 trial_unsaid old mid s seed count fault goes p = record {
@@ -411,6 +453,9 @@ trial_unsaid old mid s seed count fault goes p = record {
     said = ((as_turn s seed count).text, refl);
     rests = record { silent = refl; goes_on = refl; inside = refl };
     unasked = refl;
+    begun = p.begun;
+    rest = p.rest;
+    lines = p.lines;
     wants = p.wants;
     leaves = leaves_untold old mid mid s (as_turn s seed count) goes p.leaves;
   };
@@ -421,7 +466,13 @@ module _ (old mid new : DiskState) (tables : Tables) (s : State) (seed count : �
   -- memory was refused for the lines
   pub trial_memory : Stretch old mid (TriesSome NoMemory s seed count)
   trial_memory = trial_unsaid old mid s seed count NoMemory goes
-      (record { wants = tt; leaves = p.leaves })
+      (record {
+        begun = [];
+        rest = trial_asks seed count;
+        lines = refl;
+        wants = inl tt;
+        leaves = p.leaves;
+      })
 
   left_by : (es : Log) → AreWithin mid.moment new.moment es
       → ((u : ℕ) → IsPrefix (said_in (until u es)) (as_turn s seed count).text) → Keeps mid new
@@ -490,7 +541,10 @@ module _ (old mid new : DiskState) (tables : Tables) (s : State) (seed count : �
       said = some;
       rests = rests;
       unasked = refl;
-      wants = tt;
+      begun = [];
+      rest = trial_asks seed count;
+      lines = refl;
+      wants = inl tt;
       leaves = left_by es within by call.keeps;
     };
   }

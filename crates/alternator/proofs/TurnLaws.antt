@@ -2,7 +2,7 @@
 use Rattle.std.proofs.Common.{◌≡◌, ◌+◌, ℕ, suc, List, [], ◌∷◌, ◌++◌, length, refl, ap, arith, length-append, ◌<◌, sym, subst}
 use Rattle.alt_machine.specs.State.{State}
 use Rattle.alt_talks.specs.Turns.{Turn, after, after_turn}
-use Rattle.alternator.specs.Turns.{Asked, Control, request, control, reopen, unread, turns, obeyed, turned_away, carried_out, requests, opened_again}
+use Rattle.alternator.specs.Turns.{Asked, request, control, unread, turns, obeyed, turned_away, carried_out, requests}
 use Rattle.alt_talks.specs.Stops.{Image, IsLeft}
 use Rattle.alt_tables.specs.Images.{StandsFor}
 use Rattle.alt_talks.proofs.Stopping.{AllSay, left-nothing-of}
@@ -26,18 +26,14 @@ turns-append s (request name body ∷ ls) ks [] ns e = absurd (omega arith)
 turns-append s (request name body ∷ ls) ks (m ∷ ms) ns e =
     ap (λ ts. carried_out s name body m ∷ ts)
     (turns-append (after_turn s (carried_out s name body m)) ls ks ms ns (same_suc e))
-turns-append s (control reopen ∷ ls) ks ms ns e =
-    ap (λ ts. opened_again ∷ ts) (turns-append s ls ks ms ns e)
+turns-append s (control word ∷ ls) ks ms ns e =
+    ap (λ ts. obeyed ∷ ts) (turns-append s ls ks ms ns e)
 turns-append s (unread ∷ ls) ks ms ns e = ap (λ ts. turned_away ∷ ts) (turns-append s ls ks ms ns e)
 
 -- ---- turns say something
 
 line_says : (front bytes : List ℕ) → 0 < length (front ++ (32 ∷ bytes))
 line_says front bytes = let e = length-append front (32 ∷ bytes) in omega (arith, e)
-
--- so does what a word of control comes to
-obeyed_says : (word : Control) → 0 < length (obeyed word).text
-obeyed_says reopen = omega arith
 
 -- so do those of any lines
 pub turns_say : (s : State) (ls : List Asked) (ms : List ℕ) → AllSay (turns s ls ms)
@@ -47,7 +43,7 @@ turns_say s (request name body ∷ ls) (m ∷ ms) = (
   line_says _ _,
   turns_say (after_turn s (carried_out s name body m)) ls ms,
 )
-turns_say s (control word ∷ ls) ms = (obeyed_says word, turns_say s ls ms)
+turns_say s (control word ∷ ls) ms = (omega arith, turns_say s ls ms)
 turns_say s (unread ∷ ls) ms = (omega arith, turns_say s ls ms)
 
 -- ---- what is left
@@ -78,7 +74,7 @@ turns-more s (request name body ∷ ls) ks (m ∷ ms) ns =
     (more.0, more.1, ap (λ ts. t ∷ ts) more.2)
 turns-more s (control word ∷ ls) ks ms ns =
     let more = turns-more s ls ks ms ns in
-    (more.0, more.1, ap (λ ts. obeyed word ∷ ts) more.2)
+    (more.0, more.1, ap (λ ts. obeyed ∷ ts) more.2)
 turns-more s (unread ∷ ls) ks ms ns =
     let more = turns-more s ls ks ms ns in
     (more.0, more.1, ap (λ ts. turned_away ∷ ts) more.2)

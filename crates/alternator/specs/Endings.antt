@@ -13,12 +13,14 @@ use Rattle.alternator.specs.Runs.{Answers, AnswersSome, IsOpening, Opened}
 use Rattle.alt_talks.specs.TalkRules.{rules}
 use Rattle.alt_talks.specs.TalkStops.{ServedOn, ServedSomeOn, LeavesNow}
 use Rattle.alternator.specs.Trials.{Tries, TriesSome}
-use Rattle.alt_tables.specs.declared.faults.TableFault.{TableFault}
-use Rattle.alt_tables.specs.declared.faults.TableFault.TheVariants as fault
+use Rattle.alt_talks.specs.declared.fault.RunFault.{RunFault}
+use Rattle.alt_talks.specs.declared.fault.RunFault.TheVariants as fault
 use Rattle.alternator.specs.declared.ending.Ending.{Ending}
-use Rattle.alternator.specs.declared.ending.Ending.TheVariants.{Whole, Words, NotEmpty, Damaged, BadRow, Device, Memory, Spent}
+use Rattle.alternator.specs.declared.ending.Ending.TheVariants.{Whole, Words, NotEmpty, Damaged, DigestDiffers, BadRow, Device, Memory, Spent}
+use Rattle.alternator.specs.declared.words.Command.{Command}
+use Rattle.alternator.specs.declared.words.Command.TheVariants.{Init, Over}
 use Rattle.alternator.specs.declared.words.Job.{Job}
-use Rattle.alternator.specs.declared.words.Job.TheVariants.{Init, Replay, Serve, Trial}
+use Rattle.alternator.specs.declared.words.Job.TheVariants.{Replay, Serve, Trial}
 use Rattle.alt_base.specs.Prefix.{IsPrefix}
 
 -- the status of each ending
@@ -27,6 +29,7 @@ status_of Whole = 0
 status_of Words = 1
 status_of (NotEmpty first) = 2
 status_of (Damaged file at) = 3
+status_of (DigestDiffers file kept found) = 3
 status_of (BadRow family key) = 3
 status_of Device = 4
 status_of Memory = 5
@@ -39,6 +42,9 @@ note_of Words = codes "alternator: words\n"
 note_of (NotEmpty first) = codes "alternator: store not empty: file " ++ (decimal first ++ 10 ∷ [])
 note_of (Damaged file at) = codes "alternator: damaged: file "
     ++ (decimal file ++ (codes " at " ++ (decimal at ++ 10 ∷ [])))
+note_of (DigestDiffers file kept found) = codes "alternator: digest: file "
+    ++ (decimal file ++ (codes " kept " ++ (encode_lower kept
+    ++ (codes " found " ++ (encode_lower found ++ 10 ∷ [])))))
 note_of (BadRow family key) = codes "alternator: row: family "
     ++ (decimal family ++ (codes " key " ++ (encode_lower key ++ 10 ∷ [])))
 note_of Device = codes "alternator: device\n"
@@ -51,6 +57,7 @@ HasNumbers Whole = ⊥
 HasNumbers Words = ⊥
 HasNumbers (NotEmpty first) = Unit {0}
 HasNumbers (Damaged file at) = Unit {0}
+HasNumbers (DigestDiffers file kept found) = Unit {0}
 HasNumbers (BadRow family key) = Unit {0}
 HasNumbers Device = ⊥
 HasNumbers Memory = ⊥
@@ -106,6 +113,7 @@ HasMade Words old new = ⊥
 HasMade (NotEmpty first) old new = SaysNothing old new
     × (IsTrue old.tells → IsFirstFile old.file first × Quiet old new)
 HasMade (Damaged file at) old new = ⊥
+HasMade (DigestDiffers file kept found) old new = ⊥
 HasMade (BadRow family key) old new = ⊥
 HasMade Device old new = SaysSome old new × Rose old.faults new.faults
 HasMade Memory old new = SaysNothing old new
@@ -121,31 +129,29 @@ IsReadable files = (s : State) × StandsFor files s
 -- was answered, or every connection served, or every request of a trial carried out and the four lines said. A stop at the end leaves the state
 -- after all requests, answered or not.
 abbrev pub Done : Job → State → DiskState → DiskState → Type 0
-Done Init s opened new = ⊥
 Done Replay s opened new = Stretch opened new (Answers s)
 Done (Serve per connections) s opened new = Stretch opened new
     (λ old new es ms. (t : State) × ServedOn rules per connections s t old new es ms × LeavesNow new t)
 Done (Trial seed count) s opened new = Stretch opened new (Tries s seed count)
 
 -- What a job has done that was broken off behind the opening: what it said is a prefix of what there was to say, on each connection by
--- itself. For a number, the first that was wanted and is never given out.
-abbrev pub Broken : TableFault → Job → State → DiskState → DiskState → Type 0
-Broken why Init s opened new = ⊥
+-- itself. For a number: the first that a request wanted and is never given out, or that of a file that work wanted.
+abbrev pub Broken : RunFault → Job → State → DiskState → DiskState → Type 0
 Broken why Replay s opened new = Stretch opened new (AnswersSome why s)
 Broken why (Serve per connections) s opened new = Stretch opened new
     (ServedSomeOn rules per connections why s)
 Broken why (Trial seed count) s opened new = Stretch opened new (TriesSome why s seed count)
 
--- The store was opened, and the run broke off behind that for want of a number, which is the first that was wanted and is never given out.
+-- The store was opened, and the run broke off behind that for want of a number that is never given out.
 abbrev pub LacksNumber : Job → DiskState → DiskState → Type 0
 LacksNumber job old new = (number : ℕ) × Opened old new (Broken (fault.Spent number) job)
 
 -- The run was broken off while the store was opened, or behind that.
-abbrev pub BreaksOff : TableFault → Job → DiskState → DiskState → Type 0
+abbrev pub BreaksOff : RunFault → Job → DiskState → DiskState → Type 0
 BreaksOff why job old new = IsTrusted old → IsOpening old new ⊎ Opened old new (Broken why job)
 
 -- The files stood for no state, as is told; or they stood for one, and the disk, which isn't honest, changed them since.
-abbrev pub WasDamaged : TableFault → DiskState → DiskState → Type 0
+abbrev pub WasDamaged : RunFault → DiskState → DiskState → Type 0
 WasDamaged why old new = IsTrue old.tells → (IsOpening old new × IsUnreadable old.file why)
     ⊎ (IsReadable old.file × (old.honest ≡ false))
 
@@ -156,6 +162,8 @@ HasRun job Whole old new = (IsTrue old.tells → IsReadable old.file)
 HasRun job Words old new = ⊥
 HasRun job (NotEmpty first) old new = ⊥
 HasRun job (Damaged file at) old new = WasDamaged (fault.Damaged file at) old new
+HasRun job (DigestDiffers file kept found) old new =
+    WasDamaged (fault.DigestDiffers file kept found) old new
 HasRun job (BadRow family key) old new = WasDamaged (fault.BadRow family key) old new
 HasRun job Device old new = Rose old.faults new.faults × BreaksOff fault.Failed job old new
 HasRun job Memory old new = BreaksOff fault.NoMemory job old new
@@ -170,22 +178,21 @@ HasRefused Whole old new = ⊥
 HasRefused Words old new = Untouched old new
 HasRefused (NotEmpty first) old new = ⊥
 HasRefused (Damaged file at) old new = ⊥
+HasRefused (DigestDiffers file kept found) old new = ⊥
 HasRefused (BadRow family key) old new = ⊥
 HasRefused Device old new = ⊥
 HasRefused Memory old new = ⊥
 HasRefused (Spent number) old new = ⊥
 
 -- what a run has done that ended so, by what its words asked for
-abbrev pub HasDone : Option Job → Ending → DiskState → DiskState → Type 0
+-- The limits of the engine change nothing of it.
+abbrev pub HasDone : Option Command → Ending → DiskState → DiskState → Type 0
 HasDone None ending old new = HasRefused ending old new
 HasDone (Some Init) ending old new = HasMade ending old new
-HasDone (Some Replay) ending old new = HasRun Replay ending old new
-HasDone (Some (Serve per connections)) ending old new =
-    HasRun (Serve per connections) ending old new
-HasDone (Some (Trial seed count)) ending old new = HasRun (Trial seed count) ending old new
+HasDone (Some (Over job limits)) ending old new = HasRun job ending old new
 
 -- a run that ended so, with its note
-pub record Ended (job : Option Job) (ending : Ending) (status : ℕ) (old new : DiskState) : Type 0 where
+pub record Ended (command : Option Command) (ending : Ending) (status : ℕ) (old new : DiskState) : Type 0 where
   pub by_ending : status ≡ status_of ending
-  pub done : HasDone job ending old new
+  pub done : HasDone command ending old new
   pub noted : StillGrows (notes_of old.beside) (notes_of new.beside) (note_of ending)

@@ -1,7 +1,7 @@
+pub mod Behind
 pub mod Endings
 pub mod Faults
 pub mod Moments
-pub mod Rereading
 pub mod Runs
 pub mod Trials
 pub mod Turns

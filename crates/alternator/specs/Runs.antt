@@ -1,5 +1,5 @@
 -- What a part of a run over lines says, takes and leaves, and what an opening does.
-use Rattle.std.specs.Prelude.{◌≡◌, ◌≤◌, ℕ, List, [], ◌++◌, length, Bool, false, true, None, map}
+use Rattle.std.specs.Prelude.{◌≡◌, ◌≤◌, ◌⊎◌, ℕ, List, [], ◌∷◌, ◌++◌, length, Bool, false, true, None, map}
 use Rattle.alt_base.specs.Prefix.{IsPrefix}
 use Rattle.alt_disk.specs.Disk.{DiskState}
 use Rattle.alt_lines.specs.Unread.{Unread, lines_now, lines_later}
@@ -7,12 +7,13 @@ use Rattle.alt_machine.specs.State.{State}
 use Rattle.alt_shell.specs.Log.{Log, Grows, moments_of, until, taken, said_in, ended, crosses}
 use Rattle.alt_opening.specs.Recovery.{WasLeft}
 use Rattle.alt_tables.specs.Images.{StandsFor}
-use Rattle.alt_talks.specs.Faults.{IsCausedBy}
-use Rattle.alt_tables.specs.declared.faults.TableFault.{TableFault}
+use Rattle.alt_talks.specs.Faults.{IsCausedBy, IsWorkFault}
+use Rattle.alt_talks.specs.declared.fault.RunFault.{RunFault}
 use Rattle.alt_talks.specs.Turns.{answered, text_of, after, wanted}
 use Rattle.alternator.specs.Moments.{said_by, taken_by, ended_by}
 use Rattle.alt_talks.specs.Stops.{Image, IsLeft, AtEach}
-use Rattle.alternator.specs.Turns.{Asked, turns, requests, asks, asked_of, out}
+use Rattle.alternator.specs.Turns.{Asked, request, control, unread, turns, requests, asks, asked_of, out}
+use Rattle.alternator.specs.declared.lines.Control.TheVariants.{Flush, Step, Reopen}
 use Rattle.alt_talks.specs.Runs.{OfStretch}
 use Rattle.alt_talks.specs.TalkStops.{LeavesNow}
 
@@ -31,9 +32,31 @@ pub record Serves (s : State) (ls : List Asked) (t : State) (entries : Log)
   pub count : length told ≡ requests ls
   pub enough : wanted (turns s ls told) ≡ None
 
+-- Work was under way for a line: for one of the words of control that ask for it, or behind a request, once this was said.
+abbrev pub IsAtWork : Asked → Type 0 → Type 0
+IsAtWork (request name body) said = said
+IsAtWork (control Flush) said = Unit {0}
+IsAtWork (control Step) said = Unit {0}
+IsAtWork (control Reopen) said = ⊥
+IsAtWork unread said = ⊥
+
+-- So it was for the line that was begun behind these: a request's reply had been said. None of the requests lacked anything.
+pub record IsWorking (s : State) (done begun : List Asked) (entries : Log)
+    (told : List ℕ) : Type 0 where
+  pub line : Asked
+  pub last : begun ≡ line ∷ []
+  pub enough : wanted (turns s (done ++ begun) told) ≡ None
+  pub at : IsAtWork line (said_in entries ≡ text_of (turns s (done ++ begun) told))
+
+-- Why serving broke off: a request has no answer, for want of a number that is the first that one wanted, or work broke off.
+abbrev pub BreaksFor : RunFault → State → List Asked → List Asked → Log → List ℕ → Type 0
+BreaksFor fault s done begun entries told =
+    IsCausedBy (wanted (turns s (done ++ begun) told)) fault
+    ⊎ (IsWorkFault fault × IsWorking s done begun entries told)
+
 -- Serving these lines broke off. Those that were done were answered, at most one more was begun, and just these had a moment
--- each. The fault has its cause: where that is want of a number, it is the first that one of them wanted.
-pub record Breaks (fault : TableFault) (s : State) (ls : List Asked) (entries : Log)
+-- each. The fault has its cause.
+pub record Breaks (fault : RunFault) (s : State) (ls : List Asked) (entries : Log)
     (told : List ℕ) : Type 0 where
   pub done : List Asked
   pub begun : List Asked
@@ -44,7 +67,7 @@ pub record Breaks (fault : TableFault) (s : State) (ls : List Asked) (entries : 
   pub said : IsPrefix (said_in entries) (text_of (turns s (done ++ begun) told))
   pub count : length told ≡ requests (done ++ begun)
   pub enough : wanted (turns s done told) ≡ None
-  pub wants : IsCausedBy (wanted (turns s (done ++ begun) told)) fault
+  pub wants : BreaksFor fault s done begun entries told
 
 -- nothing was taken, and no connection came or went: what was said was said on standard output
 pub record Rests (entries : Log) : Type 0 where
@@ -78,7 +101,7 @@ pub record ServesAtHand (s : State) (ls : List Asked) (t : State) (old new : Dis
   pub leaves : AtEach old new (LeftAtHand s ls entries told)
 
 -- that broke off
-pub record BreaksAtHand (fault : TableFault) (s : State) (ls : List Asked) (old new : DiskState)
+pub record BreaksAtHand (fault : RunFault) (s : State) (ls : List Asked) (old new : DiskState)
     (entries : Log) (told : List ℕ) : Type 0 where
   pub breaks : Breaks fault s ls entries told
   pub rests : Rests entries
@@ -110,7 +133,7 @@ pub record Ends (s : State) (u : Unread) (t : State) (old new : DiskState) (entr
   pub leaves : AtEach old new (LeftBy s u entries told)
 
 -- That broke off among the lines that were whole.
-pub record GoesSome (fault : TableFault) (s : State) (u : Unread) (old new : DiskState)
+pub record GoesSome (fault : RunFault) (s : State) (u : Unread) (old new : DiskState)
     (entries : Log) (told : List ℕ) : Type 0 where
   pub breaks : Breaks fault s (asked_later u (taken entries) (ended entries)) entries told
   pub inside : crosses entries ≡ false
@@ -146,7 +169,7 @@ pub record Answers (s : State) (old new : DiskState) (entries : Log)
   pub last : LeavesNow new (after s (turns s (asks true (taken entries)) told))
 
 -- It broke off among the lines that were whole in what was taken. What was said is a prefix of their Out.
-pub record AnswersSome (fault : TableFault) (s : State) (old new : DiskState) (entries : Log)
+pub record AnswersSome (fault : RunFault) (s : State) (old new : DiskState) (entries : Log)
     (told : List ℕ) : Type 0 where
   pub breaks : Breaks fault s (asks (ended entries) (taken entries)) entries told
   pub inside : crosses entries ≡ false
@@ -155,7 +178,8 @@ pub record AnswersSome (fault : TableFault) (s : State) (old new : DiskState) (e
 
 -- ---- the opening
 
--- Nothing was taken, said or asked, and what a stop at a moment leaves is something that one left before it.
+-- Nothing was taken, said or asked, and what a stop at a moment leaves stands for each state for which something stood that one left
+-- before it.
 pub record IsOpening (old new : DiskState) : Type 0 where
   pub silent : Grows old.beside new.beside []
   pub unasked : moments_of new.beside ≡ moments_of old.beside

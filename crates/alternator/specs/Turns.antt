@@ -1,5 +1,5 @@
 -- What the lines of an input come to, one after the other: one fold, from a given state.
-use Rattle.std.specs.Prelude.{ℕ, suc, List, [], ◌∷◌, ◌++◌, map, Bool, ◌==◌, if◌then◌else◌, codes, decimal, None}
+use Rattle.std.specs.Prelude.{ℕ, suc, List, [], ◌∷◌, ◌++◌, map, Bool, ◌==◌, if◌then◌else◌, codes, decimal, Option, Some, None}
 use Rattle.std.specs.Str.{bytes_eq}
 use Rattle.std.specs.List.{before_first, after_first}
 use Rattle.serde_json.specs.Written.{compact_text}
@@ -11,12 +11,10 @@ use Rattle.alt_machine.specs.Step.{step}
 use Rattle.alt_machine.specs.Wanted.{wanted as wanted_by}
 use Rattle.alt_shape.specs.Refusals.{Answer}
 use Rattle.alt_talks.specs.Turns.{Turn, after_turn, text_of}
+use Rattle.alternator.specs.declared.lines.Control.{Control}
+use Rattle.alternator.specs.declared.lines.Control.TheVariants.{Flush, Step, Reopen}
 
 -- ---- what lines ask
-
--- a word of control: that the store is opened again
-pub data Control : Type 0 where
-  reopen : Control
 
 -- what a line asks for: a request, by its operation's name and its body; a word of control; or nothing, since it is too long to be read
 pub data Asked : Type 0 where
@@ -28,12 +26,22 @@ pub data Asked : Type 0 where
 abbrev pub is_space : ℕ → Bool
 is_space b = b == 32
 
--- a line that is read: the word `@reopen`, or a request, whose name stands before the first space and its body behind it; a line
--- without a space is all name
+-- the word of control that a line is, if it is one: that all families are flushed, that one step of work is made, or that the store is
+-- opened again
+abbrev pub control_of : List ℕ → Option Control
+control_of text =
+    if bytes_eq text (codes "@flush") then Some Flush
+    else (if bytes_eq text (codes "@step") then Some Step
+    else (if bytes_eq text (codes "@reopen") then Some Reopen else None))
+
+-- that word; or a request, whose name stands before the first space and its body behind it, and a line without a space is all name
+abbrev pub asked_as : List ℕ → Option Control → Asked
+asked_as text None = request (before_first is_space text) (after_first is_space text)
+asked_as text (Some word) = control word
+
+-- what a line asks for that is read
 abbrev pub asked_by : List ℕ → Asked
-asked_by text =
-    if bytes_eq text (codes "@reopen") then control reopen else request (before_first is_space text)
-    (after_first is_space text)
+asked_by text = asked_as text (control_of text)
 
 -- what a line asks for
 abbrev pub asked_of : Line → Asked
@@ -78,13 +86,9 @@ turned_away = record {
       None;
 }
 
--- the store was opened again: nothing is written
-abbrev pub opened_again : Turn
-opened_again = record { text = codes "ok\n"; atoms = []; lacks = None }
-
--- what a word of control comes to
-abbrev pub obeyed : Control → Turn
-obeyed reopen = opened_again
+-- what a word of control comes to: the state stays
+abbrev pub obeyed : Turn
+obeyed = record { text = codes "ok\n"; atoms = []; lacks = None }
 
 -- The turns of these lines, each request at the next moment, as long as there are moments.
 abbrev pub turns : State → List Asked → List ℕ → List Turn
@@ -92,7 +96,7 @@ turns s [] moments = []
 turns s (request name body ∷ ls) [] = []
 turns s (request name body ∷ ls) (m ∷ ms) =
     carried_out s name body m ∷ turns (after_turn s (carried_out s name body m)) ls ms
-turns s (control word ∷ ls) moments = obeyed word ∷ turns s ls moments
+turns s (control word ∷ ls) moments = obeyed ∷ turns s ls moments
 turns s (unread ∷ ls) moments = turned_away ∷ turns s ls moments
 
 -- ---- what they come to together

@@ -19,17 +19,33 @@ pub(crate) enum Ending {
     /// The words are none of those that it knows.
     Words,
     /// A file is there already, where a store was to be made, this one first.
-    NotEmpty { first: u32 },
+    NotEmpty {
+        first: u32,
+    },
     /// The files are no store's, for the bytes of this file at this place.
-    Damaged { file: u32, at: u64 },
+    Damaged {
+        file: u32,
+        at: u64,
+    },
+    /// The files are no store's, for this one ends with a digest that isn't that of the bytes before it.
+    DigestDiffers {
+        file: u32,
+        kept: [u8; 32],
+        found: [u8; 32],
+    },
     /// The rows are those of no state, and of this family and key is the first that is wrong.
-    BadRow { family: u32, key: Bytes },
+    BadRow {
+        family: u32,
+        key: Bytes,
+    },
     /// The device failed.
     Device,
     /// Memory was refused.
     Memory,
-    /// A write would need this number, or a new table this family, and it is never given out.
-    Spent { number: u64 },
+    /// A write would need this number, a new table this family, or work this file, and it is never given out.
+    Spent {
+        number: u64,
+    },
 }
 
 /// The status of an ending.
@@ -41,6 +57,11 @@ pub(crate) fn status_of(ending: &Ending) -> u8
         Ending::Words => 1,
         Ending::NotEmpty { first: _ } => 2,
         Ending::Damaged { file: _, at: _ } => 3,
+        Ending::DigestDiffers {
+            file: _,
+            kept: _,
+            found: _,
+        } => 3,
         Ending::BadRow { family: _, key: _ } => 3,
         Ending::Device => 4,
         Ending::Memory => 5,
@@ -72,6 +93,11 @@ fn note_of(alloc: Global, ending: &Ending) -> Result<String, NoMemory>
         }
         Ending::Damaged { file, at } => {
             format!(in alloc; "alternator: damaged: file {file} at {at}\n")?
+        }
+        Ending::DigestDiffers { file, kept, found } => {
+            let had = hex::encode(alloc, kept.as_slice())?;
+            let has = hex::encode(alloc, found.as_slice())?;
+            format!(in alloc; "alternator: digest: file {file} kept {had} found {has}\n")?
         }
         Ending::BadRow { family, key } => {
             let text = hex::encode(alloc, key.as_slice())?;

@@ -1,22 +1,42 @@
-//! The parts of a line.
+//! The parts of a line, and the words of control.
 
 ghost use Rattle.std.specs.Prelude.{◌≡◌, codes};
 ghost use Rattle.std.specs.Str.{bytes_eq};
 ghost use Rattle.std.specs.List.{position, before_first, after_first};
-ghost use Rattle.alternator.specs.Turns.{is_space};
+ghost use Rattle.alternator.specs.Turns.{control_of, is_space};
+
+/// A word of control.
+#[derive(Clone, Copy, Debug, PartialEq, Eq)]
+pub(crate) enum Control {
+    /// That all families are flushed.
+    Flush,
+    /// That one step of work is made.
+    Step,
+    /// That the store is opened again.
+    Reopen,
+}
+
+/// The word of control that a line is, if it is one.
+pub(crate) fn control_of(line: &[u8]) -> Option<Control>
+    ensures { result ≡ control_of line.now }
+{
+    if line == b"@flush".as_slice() {
+        return Some(Control::Flush);
+    }
+    if line == b"@step".as_slice() {
+        return Some(Control::Step);
+    }
+    if line == b"@reopen".as_slice() {
+        return Some(Control::Reopen);
+    }
+    None
+}
 
 /// Where the first space stands.
 fn space_in(line: &[u8]) -> Option<usize>
     ensures { result ≡ position is_space line.now }
 {
     line.iter().position(|b| *b == b' ')
-}
-
-/// Whether a line asks that the store is opened again.
-pub(crate) fn is_reopen(line: &[u8]) -> bool
-    ensures { result ≡ bytes_eq line.now (codes "@reopen") }
-{
-    line == b"@reopen".as_slice()
 }
 
 /// The name before the first space and the body behind it. A line without a space is all name.

@@ -18,7 +18,7 @@ use std::alloc::{AllocError, Global};
 use std::env;
 use std::io::ErrorKind;
 use std::process::ExitCode;
-use words::{job_of, port_of};
+use words::{command_of, port_of};
 
 /// Takes the folder and the port off the front of the words, and ends with the status of the run of the others. Where the words are
 /// wrong, the folder isn't touched.
@@ -34,7 +34,7 @@ fn main(rt: HostRuntime) -> ExitCode {
     let (Some(port), [folder, _, rest @ ..]) = (port_of(&words), words.as_slice()) else {
         return noted(&rt, "alternator: words\n", 1);
     };
-    if job_of(rest).is_none() {
+    if command_of(rest).is_none() {
         return noted(&rt, "alternator: words\n", 1);
     }
     match HostShell::new(own, alloc, folder.as_str(), port) {

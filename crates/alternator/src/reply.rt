@@ -7,9 +7,9 @@ ghost use Rattle.alt_disk.specs.Disk.{Goes};
 ghost use Rattle.alt_machine.specs.State.{State};
 ghost use Rattle.alt_shape.specs.Body.{body_json};
 ghost use Rattle.alt_shape.specs.Refusals.{answer_of};
-ghost use Rattle.alt_tables.specs.Stands.{AreReady, Stands};
+ghost use Rattle.alt_tables.specs.Stands.{AreReady, Stands, limits_of};
 ghost use Rattle.alt_talks.specs.Faults.{IsCausedBy};
-ghost use Rattle.alt_tables.specs.declared.faults.TableFault.TheVariants.{Failed};
+ghost use Rattle.alt_talks.specs.declared.fault.RunFault.TheVariants.{Failed};
 ghost use Rattle.alt_talks.specs.Stops.{AtEach, IsAmong};
 ghost use Rattle.alternator.specs.Turns.{carried_out, line_of};
 ghost use Rattle.alt_talks.specs.Turns.{after_turn};
@@ -18,7 +18,8 @@ use alt_base::NoMemory;
 use alt_disk::Disk;
 use alt_dispatch::{answer, operation_named};
 use alt_shape::Reply;
-use alt_tables::{TableFault, Tables};
+use alt_tables::Tables;
+use alt_talks::RunFault;
 use std::alloc::Global;
 
 /// The line of a reply.
@@ -39,7 +40,7 @@ pub(crate) fn reply_text<D: Disk>(
     name: &[u8],
     body: &[u8],
     moment: u64,
-) -> Result<String, TableFault>
+) -> Result<String, RunFault>
     requires ready { AreReady (D.state disk.old) tables.old }
     ensures text { (s : State) → Stands (D.state disk.old) tables.old s → IfOk result
         (λ text. string_bytes text ≡ (carried_out s name.now body.now moment).text) }
@@ -52,6 +53,7 @@ pub(crate) fn reply_text<D: Disk>(
         (IsCausedBy (carried_out s name.now body.now moment).lacks) }
     ensures device { IsErrOf result Failed
         → Rose (D.state disk.old).faults (D.state disk.new).faults }
+    ensures limits { limits_of tables.new ≡ limits_of tables.old }
     ensures goes { Goes (D.state disk.old) (D.state disk.new) }
     ensures leaves { (s : State) → Stands (D.state disk.old) tables.old s
         → AtEach (D.state disk.old) (D.state disk.new)
@@ -60,8 +62,8 @@ pub(crate) fn reply_text<D: Disk>(
     match answer(alloc, tables, disk, operation_named(name), body, moment) {
         Ok(reply) => match line_of(alloc, &reply) {
             Ok(text) => Ok(text),
-            Err(_) => Err(TableFault::NoMemory),
+            Err(_) => Err(RunFault::NoMemory),
         },
-        Err(fault) => Err(fault),
+        Err(fault) => Err(RunFault::from(fault)),
     }
 }

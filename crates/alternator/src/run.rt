@@ -5,32 +5,33 @@ ghost use Rattle.alt_base.specs.Counts.{Rose};
 ghost use Rattle.alt_disk.specs.Disk.{IsTrusted};
 ghost use Rattle.alt_machine.specs.State.{State};
 ghost use Rattle.alt_shell.specs.Log.{talks};
-ghost use Rattle.alt_tables.specs.Stands.{AreReady, Stands};
+ghost use Rattle.alt_tables.specs.Stands.{AreReady, Stands, limits_of};
 ghost use Rattle.alternator.specs.Endings.{Ended, HasDone, HasRun, Done, Broken, IsReadable, LacksNumber};
 ghost use Rattle.alternator.specs.Faults.{IsUnreadable};
-ghost use Rattle.alternator.specs.Rereading.{ReadAgain};
+ghost use Rattle.alternator.specs.Behind.{AfterJob, LastLine};
 ghost use Rattle.alt_talks.specs.Runs.{Stretch, Passes};
 ghost use Rattle.alternator.specs.Runs.{Answers, AnswersSome, IsOpening, Opened};
 ghost use Rattle.alt_talks.specs.TalkRules.{rules};
 ghost use Rattle.alt_talks.specs.TalkStops.{LeavesNow, ServedOn, ServedSomeOn};
-ghost use Rattle.alternator.specs.Words.{job_of, bytes_of, IsServable, IsOverStore};
+ghost use Rattle.alternator.specs.Words.{command_of, bytes_of, IsServable};
 ghost use Rattle.alternator.specs.declared.ending.Ending.{Ending as RunEnding};
 ghost use Rattle.alternator.specs.declared.ending.Ending.TheVariants.{Whole};
-ghost use Rattle.alt_tables.specs.declared.faults.TableFault.TheVariants.{Failed};
+ghost use Rattle.alt_talks.specs.declared.fault.RunFault.TheVariants.{Failed};
 ghost use Rattle.alternator.specs.declared.words.Job.{Job as RunJob};
-ghost use Rattle.alternator.specs.declared.words.Job.TheVariants.{Init, Replay};
+ghost use Rattle.alternator.specs.declared.words.Command.TheVariants.{Init, Over};
+ghost use Rattle.alt_engine.specs.declared.engine.Limits.{Limits as EngineLimits};
 
 use crate::ending::{Ending, noted, status_of};
 use crate::init::init;
 use crate::open::open;
 use crate::serve::pull;
 use crate::trial::carry_out_trial;
-use crate::words::{self, Job};
+use crate::words::{Command, Job, command_of};
 use alt_base::NoMemory;
 use alt_lines::{LONGEST_LINE, Lines};
 use alt_shell::Shell;
-use alt_tables::{TableFault, Tables};
-use alt_talks::connections;
+use alt_tables::{Limits, Tables};
+use alt_talks::{RunFault, connections};
 use std::alloc::Global;
 use std::mem::forget;
 
@@ -48,24 +49,26 @@ fn buffer(alloc: Global) -> Result<Vec<u8>, NoMemory>
 fn pulls<S: Shell>(
     alloc: Global,
     tables: &mut Tables,
+    limits: Limits,
     buf: &mut [u8],
     shell: &mut S,
-) -> Result<(), TableFault>
+) -> Result<(), RunFault>
     requires ready { AreReady (S.state shell.old) tables.old }
+    requires known { limits_of tables.old ≡ limits }
     requires room { 0 < length buf.old }
     requires quiet { talks (S.state shell.old).beside ≡ false }
     ensures answered { (s : State) → Stands (S.state shell.old) tables.old s → MatchResult result
         (λ _. Stretch (S.state shell.old) (S.state shell.new) (Answers s))
         (λ f. Stretch (S.state shell.old) (S.state shell.new) (AnswersSome f s)) }
-    ensures reread { OnOk result (ReadAgain (S.state shell.old) (S.state shell.new)) }
-    ensures cause { IsErrOf result TableFault.Failed
+    ensures last { OnOk result (LastLine limits.flush (S.state shell.old) (S.state shell.new)) }
+    ensures cause { IsErrOf result RunFault.Failed
         → Rose (S.state shell.old).faults (S.state shell.new).faults }
     ensures passes { Passes (S.state shell.old) (S.state shell.new) }
 {
     let mut lines = Lines::new(alloc, LONGEST_LINE);
     let mut line = Vec::new(alloc);
     'pulls: loop {
-        match pull(alloc, tables, &mut lines, &mut line, buf, shell) {
+        match pull(alloc, tables, limits, &mut lines, &mut line, buf, shell) {
             Ok(true) => {}
             Ok(false) => return Ok(()),
             Err(fault) => return Err(fault),
@@ -74,21 +77,27 @@ fn pulls<S: Shell>(
 }
 
 /// Requests as lines of the input, over the tables of an open store.
-fn replay<S: Shell>(alloc: Global, tables: &mut Tables, shell: &mut S) -> Result<(), TableFault>
+fn replay<S: Shell>(
+    alloc: Global,
+    tables: &mut Tables,
+    limits: Limits,
+    shell: &mut S,
+) -> Result<(), RunFault>
     requires ready { AreReady (S.state shell.old) tables.old }
+    requires known { limits_of tables.old ≡ limits }
     requires quiet { talks (S.state shell.old).beside ≡ false }
     ensures answered { (s : State) → Stands (S.state shell.old) tables.old s → MatchResult result
         (λ _. Stretch (S.state shell.old) (S.state shell.new) (Answers s))
         (λ f. Stretch (S.state shell.old) (S.state shell.new) (AnswersSome f s)) }
-    ensures reread { OnOk result (ReadAgain (S.state shell.old) (S.state shell.new)) }
-    ensures cause { IsErrOf result TableFault.Failed
+    ensures last { OnOk result (LastLine limits.flush (S.state shell.old) (S.state shell.new)) }
+    ensures cause { IsErrOf result RunFault.Failed
         → Rose (S.state shell.old).faults (S.state shell.new).faults }
     ensures passes { Passes (S.state shell.old) (S.state shell.new) }
 {
     let Ok(mut buf) = buffer(alloc) else {
-        return Err(TableFault::NoMemory);
+        return Err(RunFault::NoMemory);
     };
-    pulls(alloc, tables, &mut buf, shell)
+    pulls(alloc, tables, limits, &mut buf, shell)
 }
 
 /// Requests on connections, over the tables of an open store.
@@ -98,7 +107,7 @@ fn serve<S: Shell>(
     per: u32,
     count: u32,
     shell: &mut S,
-) -> Result<(), TableFault>
+) -> Result<(), RunFault>
     requires ready { AreReady (S.state shell.old) tables.old }
     requires some { 0 < per }
     requires quiet { talks (S.state shell.old).beside ≡ false }
@@ -107,12 +116,12 @@ fn serve<S: Shell>(
         (λ a b es ms. (t : State) × ServedOn rules per count s t a b es ms × LeavesNow b t))
         (λ f. Stretch (S.state shell.old) (S.state shell.new)
         (ServedSomeOn rules per count f s)) }
-    ensures cause { IsErrOf result TableFault.Failed
+    ensures cause { IsErrOf result RunFault.Failed
         → Rose (S.state shell.old).faults (S.state shell.new).faults }
     ensures passes { Passes (S.state shell.old) (S.state shell.new) }
 {
     let Ok(mut buf) = buffer(alloc) else {
-        return Err(TableFault::NoMemory);
+        return Err(RunFault::NoMemory);
     };
     connections(alloc, tables, per, count, &mut buf, shell)
 }
@@ -122,33 +131,37 @@ fn carry_out<S: Shell>(
     alloc: Global,
     tables: &mut Tables,
     job: Job,
+    limits: Limits,
     shell: &mut S,
-) -> Result<(), TableFault>
+) -> Result<(), RunFault>
     requires ready { AreReady (S.state shell.old) tables.old }
+    requires known { limits_of tables.old ≡ limits }
     requires quiet { talks (S.state shell.old).beside ≡ false }
-    requires over { IsOverStore job }
     requires some { IsServable job }
     ensures done { (s : State) → Stands (S.state shell.old) tables.old s → MatchResult result
         (λ _. Done job s (S.state shell.old) (S.state shell.new))
         (λ f. Broken f job s (S.state shell.old) (S.state shell.new)) }
-    ensures reread { job ≡ Replay
-        → OnOk result (ReadAgain (S.state shell.old) (S.state shell.new)) }
-    ensures cause { IsErrOf result TableFault.Failed
+    ensures after { OnOk result (AfterJob job limits.flush (S.state shell.old)
+        (S.state shell.new)) }
+    ensures cause { IsErrOf result RunFault.Failed
         → Rose (S.state shell.old).faults (S.state shell.new).faults }
     ensures passes { Passes (S.state shell.old) (S.state shell.new) }
 {
     match job {
-        Job::Init => unreachable!(),
-        Job::Replay => replay(alloc, tables, shell),
+        Job::Replay => replay(alloc, tables, limits, shell),
         Job::Serve { per, connections } => serve(alloc, tables, per, connections, shell),
         Job::Trial { seed, count } => carry_out_trial(alloc, tables, seed, count, shell),
     }
 }
 
 /// A job over the store that lies on the disk.
-fn over_store<S: Shell>(alloc: Global, job: Job, shell: &mut S) -> Result<(), TableFault>
+fn over_store<S: Shell>(
+    alloc: Global,
+    job: Job,
+    limits: Limits,
+    shell: &mut S,
+) -> Result<(), RunFault>
     requires quiet { talks (S.state shell.old).beside ≡ false }
-    requires over { IsOverStore job }
     requires some { IsServable job }
     ensures done { IsTrusted (S.state shell.old) → MatchResult result
         (λ _. Opened (S.state shell.old) (S.state shell.new) (Done job))
@@ -160,15 +173,15 @@ fn over_store<S: Shell>(alloc: Global, job: Job, shell: &mut S) -> Result<(), Ta
         (λ f. (IsOpening (S.state shell.old) (S.state shell.new)
         × IsUnreadable (S.state shell.old).file f)
         ⊎ IsReadable (S.state shell.old).file) }
-    ensures reread { job ≡ Replay
-        → OnOk result (ReadAgain (S.state shell.old) (S.state shell.new)) }
-    ensures cause { IsErrOf result TableFault.Failed
+    ensures after { OnOk result (AfterJob job limits.flush (S.state shell.old)
+        (S.state shell.new)) }
+    ensures cause { IsErrOf result RunFault.Failed
         → Rose (S.state shell.old).faults (S.state shell.new).faults }
     ensures passes { Passes (S.state shell.old) (S.state shell.new) }
 {
-    match open(alloc, shell) {
+    match open(alloc, shell, limits) {
         Ok(mut tables) => {
-            let done = carry_out(alloc, &mut tables, job, shell);
+            let done = carry_out(alloc, &mut tables, job, limits, shell);
             // The process ends here, and the system takes all of its memory back at once.
             forget(tables);
             done
@@ -178,80 +191,83 @@ fn over_store<S: Shell>(alloc: Global, job: Job, shell: &mut S) -> Result<(), Ta
 }
 
 /// How a run over a store ends.
-fn finished<S: Shell>(alloc: Global, job: Job, shell: &mut S) -> Ending
+fn finished<S: Shell>(alloc: Global, job: Job, limits: Limits, shell: &mut S) -> Ending
     requires quiet { talks (S.state shell.old).beside ≡ false }
-    requires over { IsOverStore job }
     requires some { IsServable job }
     ensures done { HasRun job result (S.state shell.old) (S.state shell.new) }
-    ensures reread { job ≡ Replay → result ≡ Whole
-        → ReadAgain (S.state shell.old) (S.state shell.new) }
+    ensures after { result ≡ Whole
+        → AfterJob job limits.flush (S.state shell.old) (S.state shell.new) }
     ensures passes { Passes (S.state shell.old) (S.state shell.new) }
 {
-    match over_store(alloc, job, shell) {
+    match over_store(alloc, job, limits, shell) {
         Ok(()) => Ending::Whole,
-        Err(TableFault::Failed) => Ending::Device,
-        Err(TableFault::NoMemory) => Ending::Memory,
-        Err(TableFault::Spent { number }) => Ending::Spent { number },
-        Err(TableFault::Damaged { file, at }) => Ending::Damaged { file, at },
-        Err(TableFault::BadRow { family, key }) => Ending::BadRow { family, key },
+        Err(RunFault::Failed) => Ending::Device,
+        Err(RunFault::NoMemory) => Ending::Memory,
+        Err(RunFault::Spent { number }) => Ending::Spent { number },
+        Err(RunFault::Damaged { file, at }) => Ending::Damaged { file, at },
+        Err(RunFault::DigestDiffers { file, kept, found }) => {
+            Ending::DigestDiffers { file, kept, found }
+        }
+        Err(RunFault::BadRow { family, key }) => Ending::BadRow { family, key },
     }
 }
 
 /// A run up to its note.
 fn ended<S: Shell>(alloc: Global, words: &[String], shell: &mut S) -> Ending
     requires quiet { talks (S.state shell.old).beside ≡ false }
-    ensures done { HasDone (job_of (bytes_of words.now)) result (S.state shell.old)
+    ensures done { HasDone (command_of (bytes_of words.now)) result (S.state shell.old)
         (S.state shell.new) }
-    ensures reread { job_of (bytes_of words.now) ≡ Some Replay → result ≡ Whole
-        → ReadAgain (S.state shell.old) (S.state shell.new) }
+    ensures after { (job : RunJob) (limits : EngineLimits)
+        → command_of (bytes_of words.now) ≡ Some (Over job limits) → result ≡ Whole
+        → AfterJob job limits.flush (S.state shell.old) (S.state shell.new) }
     ensures passes { Passes (S.state shell.old) (S.state shell.new) }
 {
-    match words::job_of(words) {
+    match command_of(words) {
         None => Ending::Words,
-        Some(Job::Init) => init(alloc, shell),
-        Some(Job::Replay) => finished(alloc, Job::Replay, shell),
-        Some(Job::Serve { per, connections }) => {
-            finished(alloc, Job::Serve { per, connections }, shell)
-        }
-        Some(Job::Trial { seed, count }) => finished(alloc, Job::Trial { seed, count }, shell),
+        Some(Command::Init) => init(alloc, shell),
+        Some(Command::Over { job, limits }) => finished(alloc, job, limits, shell),
     }
 }
 
 /// A run of the words behind folder and port, which answers its status: 0 done, 1 the words are wrong, 2 a file is there already,
-/// 3 the files are those of no store, 4 the device failed, 5 memory was refused, 6 the numbers of writes or the families of tables are
-/// spent. The words are `init`, `replay FLUSH MERGE`, `serve PER CONNECTIONS FLUSH MERGE` and `trial SEED COUNT FLUSH MERGE`; FLUSH and
-/// MERGE have no effect yet.
+/// 3 the files are those of no store, 4 the device failed, 5 memory was refused, 6 the numbers of writes, the families of tables or the
+/// numbers of files are spent. The words are `init`, `replay FLUSH MERGE`, `serve PER CONNECTIONS FLUSH MERGE` and
+/// `trial SEED COUNT FLUSH MERGE`; MERGE has no effect yet.
 pub fn run<S: Shell>(alloc: Global, words: &[String], shell: &mut S) -> u8
     requires quiet { talks (S.state shell.old).beside ≡ false }
-    // It ends in one of eight ways, each with its status, its note, and what it has done by then. With 0 a replay read its input to
+    // It ends in one of nine ways, each with its status, its note, and what it has done by then. With 0 a replay read its input to
     // its end and said all of its Out, each request at a moment of its own, and whatever a stop at any moment left holds every write that
     // was answered by then; and a serve has served as many connections as it was to, or none came any more; and a trial has carried out
-    // all its requests, of which a stop leaves some until it says something, and then all, and has said its four lines.
-    ensures ended { (ending : RunEnding) × Ended (job_of (bytes_of words.now)) ending result
+    // all its requests, of which a stop leaves some until it says something, and then all, and has said its four lines. FLUSH and MERGE
+    // change nothing of that.
+    ensures ended { (ending : RunEnding) × Ended (command_of (bytes_of words.now)) ending result
         (S.state shell.old) (S.state shell.new) }
 
     // 1 comes exactly where the words are wrong.
-    ensures words { (result ≡ 1) ↔ (job_of (bytes_of words.now) ≡ None) }
+    ensures words { (result ≡ 1) ↔ (command_of (bytes_of words.now) ≡ None) }
 
     // Where the files are those of a store and no device fails, all is done, or memory was refused, or a number was wanted that is never
     // given out. What fails on a connection is no failure of a device.
-    ensures complete { (job : RunJob) → job_of (bytes_of words.now) ≡ Some job → IsOverStore job
-        → IsTrusted (S.state shell.old) → IsReadable (S.state shell.old).file
+    ensures complete { (job : RunJob) (limits : EngineLimits)
+        → command_of (bytes_of words.now) ≡ Some (Over job limits) → IsTrusted (S.state shell.old) → IsReadable (S.state shell.old).file
         → ¬ (Rose (S.state shell.old).faults (S.state shell.new).faults)
         → ((result ≡ 0) × Opened (S.state shell.old) (S.state shell.new) (Done job))
         ⊎ (result ≡ 5)
         ⊎ ((result ≡ 6) × LacksNumber job (S.state shell.old) (S.state shell.new)) }
 
     // And where there was no file, a store is made, or memory was refused.
-    ensures made { job_of (bytes_of words.now) ≡ Some Init → IsTrusted (S.state shell.old)
+    ensures made { command_of (bytes_of words.now) ≡ Some Init → IsTrusted (S.state shell.old)
         → ((f : ℕ) → (S.state shell.old).file f ≡ None)
         → ¬ (Rose (S.state shell.old).faults (S.state shell.new).faults)
         → (result ≡ 0) ⊎ (result ≡ 5) }
 
-    // Where the last line of a replay was `@reopen` and it ended with 0, the files stand for a state, as they read on any disk that
-    // tells them, also on one that changed them by itself: they were read again.
-    ensures reread { job_of (bytes_of words.now) ≡ Some Replay → result ≡ 0
-        → ReadAgain (S.state shell.old) (S.state shell.new) }
+    // Where a replay ended with 0 the disk is as its last line promises. Behind `@flush` the segments that the last version names have
+    // no entries, and behind a request or `@step` these are shorter than 16 times FLUSH, as they are behind a trial. Behind `@reopen`
+    // the files stand for a state, as they read on any disk that tells them, also on one that changed them by itself: they were read
+    // again.
+    ensures after { (job : RunJob) (limits : EngineLimits)
+        → command_of (bytes_of words.now) ≡ Some (Over job limits) → result ≡ 0
+        → AfterJob job limits.flush (S.state shell.old) (S.state shell.new) }
 
     // Each connection was hung up.
     ensures quiet { talks (S.state shell.new).beside ≡ false }

@@ -1,37 +1,42 @@
 //! Serving lines: from the bytes taken to the replies said. Each function says of the calls that it made which lines they
 //! served, or where among them it broke off, so that a run is put together from them.
 
-ghost use Rattle.std.specs.Prelude.{◌≡◌, ◌<◌, ◌^◌, ◌-◌, ◌∷◌, [], true, false, Some, None, length, IfOk, IfErr, IfSome, IfNone, OnOk, IsErrOf, MatchResult};
+ghost use Rattle.std.specs.Prelude.{◌≡◌, ◌<◌, ◌^◌, ◌-◌, ◌∷◌, [], ℕ, true, false, Some, None, length, IfOk, IfErr, IfSome, IfNone, OnOk, IsErrOf, MatchResult};
 ghost use Rattle.alt_base.specs.Counts.{Rose};
+ghost use Rattle.alt_disk.specs.Disk.{Goes, IsTrusted};
 ghost use Rattle.alt_lines.specs.Lines.{Line};
 ghost use Rattle.alt_lines.specs.Reader.{unread};
 ghost use Rattle.alt_lines.specs.Unread.{HasNone, TakesLine, Tells};
 ghost use Rattle.alt_machine.specs.State.{State};
 ghost use Rattle.alt_shell.specs.Log.{talks};
-ghost use Rattle.alt_disk.specs.Disk.{IsTrusted};
 ghost use Rattle.alt_tables.specs.Images.{StandsFor};
-ghost use Rattle.alt_tables.specs.Stands.{AreReady, Stands};
-ghost use Rattle.alternator.specs.Rereading.{RereadsAtHand, RereadsOn};
+ghost use Rattle.alt_tables.specs.Stands.{AreReady, Stands, limits_of};
+ghost use Rattle.alt_talks.specs.Faults.{IsCausedBy};
 ghost use Rattle.alt_talks.specs.Runs.{Stretch, Passes, Leads};
+ghost use Rattle.alt_talks.specs.Works.{Works};
+ghost use Rattle.alternator.specs.Behind.{AreReadable, Behind, BringsAtHand, BringsOn};
+ghost use Rattle.alternator.specs.Faults.{IsControlFault};
 ghost use Rattle.alternator.specs.Runs.{ServesAtHand, BreaksAtHand, HandsOut, GoesOrEnds, GoesSome, asked_now};
-ghost use Rattle.alternator.specs.Turns.{request, control, reopen as reopened, unread as no_request, asked_of};
+ghost use Rattle.alternator.specs.Turns.{request, control, unread as no_request, asked_by, asked_of};
 
-use crate::lines::{is_reopen, parts};
+use crate::lines::{Control, control_of, parts};
 use crate::open::open;
 use crate::reply::reply_text;
+use alt_disk::Disk;
 use alt_lines::{Cut, Lines};
 use alt_shell::Shell;
-use alt_tables::{TableFault, Tables};
+use alt_tables::{Limits, Tables, Task};
+use alt_talks::{RunFault, work};
 use std::alloc::Global;
 
-/// One request: it is answered at the moment that the clock tells.
+/// One request: it is answered at the moment that the clock tells. Behind its reply one step of work is made.
 fn answer_request<S: Shell>(
     alloc: Global,
     tables: &mut Tables,
     name: &[u8],
     body: &[u8],
     shell: &mut S,
-) -> Result<(), TableFault>
+) -> Result<(), RunFault>
     requires ready { AreReady (S.state shell.old) tables.old }
     requires quiet { talks (S.state shell.old).beside ≡ false }
     ensures served { (s : State) → Stands (S.state shell.old) tables.old s → MatchResult result
@@ -39,9 +44,10 @@ fn answer_request<S: Shell>(
         (ServesAtHand s (request name.now body.now ∷ [])))
         (λ f. Stretch (S.state shell.old) (S.state shell.new)
         (BreaksAtHand f s (request name.now body.now ∷ []))) }
-    ensures reread { OnOk result (RereadsAtHand (request name.now body.now ∷ [])
-        (S.state shell.old) (S.state shell.new)) }
-    ensures cause { IsErrOf result TableFault.Failed
+    ensures brings { OnOk result (BringsAtHand (limits_of tables.old).flush
+        (request name.now body.now ∷ []) (S.state shell.old) (S.state shell.new)) }
+    ensures limits { limits_of tables.new ≡ limits_of tables.old }
+    ensures cause { IsErrOf result RunFault.Failed
         → Rose (S.state shell.old).faults (S.state shell.new).faults }
     ensures passes { Passes (S.state shell.old) (S.state shell.new) }
 {
@@ -51,56 +57,158 @@ fn answer_request<S: Shell>(
         Err(fault) => return Err(fault),
     };
     match shell.say(text.as_bytes()) {
+        Ok(()) => {}
+        Err(_) => return Err(RunFault::Failed),
+    }
+    match work(tables, shell, Task::Step) {
         Ok(()) => Ok(()),
-        Err(_) => Err(TableFault::Failed),
+        Err(fault) => Err(fault),
     }
 }
 
 /// A line that is too long to be read: it is told so, at no moment.
-fn turn_away<S: Shell>(tables: &Tables, shell: &mut S) -> Result<(), TableFault>
+fn turn_away<S: Shell>(tables: &Tables, shell: &mut S) -> Result<(), RunFault>
     requires quiet { talks (S.state shell.old).beside ≡ false }
     ensures served { (s : State) → Stands (S.state shell.old) tables.now s → MatchResult result
         (λ _. Leads (S.state shell.old) (S.state shell.new) tables.now
         (ServesAtHand s (no_request ∷ [])))
         (λ f. Stretch (S.state shell.old) (S.state shell.new)
         (BreaksAtHand f s (no_request ∷ []))) }
-    ensures reread { OnOk result (RereadsAtHand (no_request ∷ [])
+    ensures brings { OnOk result ((flush : ℕ) → BringsAtHand flush (no_request ∷ [])
         (S.state shell.old) (S.state shell.new)) }
-    ensures cause { IsErrOf result TableFault.Failed
+    ensures cause { IsErrOf result RunFault.Failed
         → Rose (S.state shell.old).faults (S.state shell.new).faults }
     ensures passes { Passes (S.state shell.old) (S.state shell.new) }
 {
     match shell.say(b"413 {\"message\":\"request too long\"}\n") {
         Ok(()) => Ok(()),
-        Err(_) => Err(TableFault::Failed),
+        Err(_) => Err(RunFault::Failed),
     }
 }
 
 /// The store is opened again. What the disk holds counts from then on.
-fn reopen<S: Shell>(alloc: Global, tables: &mut Tables, shell: &mut S) -> Result<(), TableFault>
+fn reopen<D: Disk>(
+    alloc: Global,
+    tables: &mut Tables,
+    limits: Limits,
+    disk: &mut D,
+) -> Result<(), RunFault>
+    ensures stands { (s : State) → Stands (D.state disk.old) tables.old s
+        → OnOk result (Stands (D.state disk.new) tables.new s) }
+    // The tables are those of the files, whatever was in hand before.
+    ensures opened { OnOk result (IsTrusted (D.state disk.old) → (r : State)
+        → StandsFor (D.state disk.old).file r → Stands (D.state disk.new) tables.new r) }
+    // And the files stand for a state, as they read on any disk that tells them.
+    ensures readable { OnOk result (AreReadable (D.state disk.new)) }
+    ensures works { (s : State) → Stands (D.state disk.old) tables.old s
+        → Works (D.state disk.old) (D.state disk.new) s }
+    ensures fault { (s : State) → Stands (D.state disk.old) tables.old s
+        → IfErr result (IsCausedBy None) }
+    ensures known { OnOk result (limits_of tables.new ≡ limits) }
+    ensures goes { Goes (D.state disk.old) (D.state disk.new) }
+    ensures cause { IsErrOf result RunFault.Failed
+        → Rose (D.state disk.old).faults (D.state disk.new).faults }
+{
+    match open(alloc, disk, limits) {
+        Ok(opened) => {
+            *tables = opened;
+            Ok(())
+        }
+        Err(fault) => Err(fault),
+    }
+}
+
+/// What a word of control asks for. The state stays.
+fn obey<D: Disk>(
+    alloc: Global,
+    tables: &mut Tables,
+    limits: Limits,
+    word: Control,
+    disk: &mut D,
+) -> Result<(), RunFault>
+    requires ready { AreReady (D.state disk.old) tables.old }
+    requires known { limits_of tables.old ≡ limits }
+    ensures stands { (s : State) → Stands (D.state disk.old) tables.old s
+        → OnOk result (Stands (D.state disk.new) tables.new s) }
+    ensures works { (s : State) → Stands (D.state disk.old) tables.old s
+        → Works (D.state disk.old) (D.state disk.new) s }
+    ensures fault { (s : State) → Stands (D.state disk.old) tables.old s
+        → IfErr result (IsControlFault word) }
+    ensures behind { OnOk result (Behind limits.flush (Some (control word)) (D.state disk.new)) }
+    ensures known { OnOk result (limits_of tables.new ≡ limits) }
+    ensures goes { Goes (D.state disk.old) (D.state disk.new) }
+    ensures cause { IsErrOf result RunFault.Failed
+        → Rose (D.state disk.old).faults (D.state disk.new).faults }
+{
+    match word {
+        Control::Flush => work(tables, disk, Task::FlushAll),
+        Control::Step => work(tables, disk, Task::Step),
+        Control::Reopen => reopen(alloc, tables, limits, disk),
+    }
+}
+
+/// A line that is a word of control: once that is done, it is told so, at no moment.
+fn answer_control<S: Shell>(
+    alloc: Global,
+    tables: &mut Tables,
+    limits: Limits,
+    word: Control,
+    shell: &mut S,
+) -> Result<(), RunFault>
+    requires ready { AreReady (S.state shell.old) tables.old }
+    requires known { limits_of tables.old ≡ limits }
     requires quiet { talks (S.state shell.old).beside ≡ false }
     ensures served { (s : State) → Stands (S.state shell.old) tables.old s → MatchResult result
         (λ _. Leads (S.state shell.old) (S.state shell.new) tables.new
-        (ServesAtHand s (control reopened ∷ [])))
+        (ServesAtHand s (control word ∷ [])))
         (λ f. Stretch (S.state shell.old) (S.state shell.new)
-        (BreaksAtHand f s (control reopened ∷ []))) }
-    // The tables are those of the files, whatever was in hand before.
-    ensures opened { OnOk result (IsTrusted (S.state shell.old) → (r : State)
-        → StandsFor (S.state shell.old).file r → Stands (S.state shell.new) tables.new r) }
-    // And the files stand for a state, as they read on any disk that tells them.
-    ensures reread { OnOk result (RereadsAtHand (control reopened ∷ [])
+        (BreaksAtHand f s (control word ∷ []))) }
+    ensures brings { OnOk result (BringsAtHand limits.flush (control word ∷ [])
         (S.state shell.old) (S.state shell.new)) }
-    ensures cause { IsErrOf result TableFault.Failed
+    ensures known { OnOk result (limits_of tables.new ≡ limits) }
+    ensures cause { IsErrOf result RunFault.Failed
         → Rose (S.state shell.old).faults (S.state shell.new).faults }
     ensures passes { Passes (S.state shell.old) (S.state shell.new) }
 {
-    match open(alloc, shell) {
-        Ok(opened) => *tables = opened,
+    match obey(alloc, tables, limits, word, shell) {
+        Ok(()) => {}
         Err(fault) => return Err(fault),
     }
     match shell.say(b"ok\n") {
         Ok(()) => Ok(()),
-        Err(_) => Err(TableFault::Failed),
+        Err(_) => Err(RunFault::Failed),
+    }
+}
+
+/// A line that is read: a word of control, or a request.
+fn answer_whole<S: Shell>(
+    alloc: Global,
+    tables: &mut Tables,
+    limits: Limits,
+    line: &[u8],
+    shell: &mut S,
+) -> Result<(), RunFault>
+    requires ready { AreReady (S.state shell.old) tables.old }
+    requires known { limits_of tables.old ≡ limits }
+    requires quiet { talks (S.state shell.old).beside ≡ false }
+    ensures served { (s : State) → Stands (S.state shell.old) tables.old s → MatchResult result
+        (λ _. Leads (S.state shell.old) (S.state shell.new) tables.new
+        (ServesAtHand s (asked_by line.now ∷ [])))
+        (λ f. Stretch (S.state shell.old) (S.state shell.new)
+        (BreaksAtHand f s (asked_by line.now ∷ []))) }
+    ensures brings { OnOk result (BringsAtHand limits.flush (asked_by line.now ∷ [])
+        (S.state shell.old) (S.state shell.new)) }
+    ensures known { OnOk result (limits_of tables.new ≡ limits) }
+    ensures cause { IsErrOf result RunFault.Failed
+        → Rose (S.state shell.old).faults (S.state shell.new).faults }
+    ensures passes { Passes (S.state shell.old) (S.state shell.new) }
+{
+    match control_of(line) {
+        Some(word) => answer_control(alloc, tables, limits, word, shell),
+        None => {
+            let (name, body) = parts(line);
+            answer_request(alloc, tables, name, body, shell)
+        }
     }
 }
 
@@ -108,11 +216,13 @@ fn reopen<S: Shell>(alloc: Global, tables: &mut Tables, shell: &mut S) -> Result
 fn answer_line<S: Shell>(
     alloc: Global,
     tables: &mut Tables,
+    limits: Limits,
     cut: Cut,
     line: &[u8],
     shell: &mut S,
-) -> Result<(), TableFault>
+) -> Result<(), RunFault>
     requires ready { AreReady (S.state shell.old) tables.old }
+    requires known { limits_of tables.old ≡ limits }
     requires quiet { talks (S.state shell.old).beside ≡ false }
     ensures served { (taken : Line) → Tells taken cut [] line.now →
         (s : State) → Stands (S.state shell.old) tables.old s → MatchResult result
@@ -120,37 +230,33 @@ fn answer_line<S: Shell>(
         (ServesAtHand s (asked_of taken ∷ [])))
         (λ f. Stretch (S.state shell.old) (S.state shell.new)
         (BreaksAtHand f s (asked_of taken ∷ []))) }
-    ensures reread { OnOk result ((taken : Line) → Tells taken cut [] line.now
-        → RereadsAtHand (asked_of taken ∷ []) (S.state shell.old) (S.state shell.new)) }
-    ensures cause { IsErrOf result TableFault.Failed
+    ensures brings { OnOk result ((taken : Line) → Tells taken cut [] line.now
+        → BringsAtHand limits.flush (asked_of taken ∷ []) (S.state shell.old)
+        (S.state shell.new)) }
+    ensures known { OnOk result (limits_of tables.new ≡ limits) }
+    ensures cause { IsErrOf result RunFault.Failed
         → Rose (S.state shell.old).faults (S.state shell.new).faults }
     ensures passes { Passes (S.state shell.old) (S.state shell.new) }
 {
     match cut {
-        Cut::Whole => {
-            if is_reopen(line) {
-                return reopen(alloc, tables, shell);
-            }
-            let (name, body) = parts(line);
-            answer_request(alloc, tables, name, body, shell)
-        }
+        Cut::Whole => answer_whole(alloc, tables, limits, line, shell),
         Cut::TooLong => turn_away(tables, shell),
     }
 }
 
 /// The next line that is whole, in the emptied buffer.
-fn next_line(lines: &mut Lines, line: &mut Vec<u8>) -> Result<Option<Cut>, TableFault>
+fn next_line(lines: &mut Lines, line: &mut Vec<u8>) -> Result<Option<Cut>, RunFault>
     ensures some { IfOk result (λ found. IfSome found (λ cut. (taken : Line)
         × Tells taken cut [] line.new.items × TakesLine taken (unread lines.old)
         (unread lines.new))) }
     ensures none { IfOk result (λ found. IfNone found
         (HasNone (unread lines.old) (unread lines.new))) }
-    ensures err { IfErr result (λ fault. fault ≡ TableFault.NoMemory) }
+    ensures err { IfErr result (λ fault. fault ≡ RunFault.NoMemory) }
 {
     line.clear();
     match lines.line(line) {
         Ok(found) => Ok(found),
-        Err(_) => Err(TableFault::NoMemory),
+        Err(_) => Err(RunFault::NoMemory),
     }
 }
 
@@ -158,27 +264,30 @@ fn next_line(lines: &mut Lines, line: &mut Vec<u8>) -> Result<Option<Cut>, Table
 pub(crate) fn at_hand<S: Shell>(
     alloc: Global,
     tables: &mut Tables,
+    limits: Limits,
     lines: &mut Lines,
     line: &mut Vec<u8>,
     shell: &mut S,
-) -> Result<(), TableFault>
+) -> Result<(), RunFault>
     requires ready { AreReady (S.state shell.old) tables.old }
+    requires known { limits_of tables.old ≡ limits }
     requires quiet { talks (S.state shell.old).beside ≡ false }
     ensures served { (s : State) → Stands (S.state shell.old) tables.old s → MatchResult result
         (λ _. Leads (S.state shell.old) (S.state shell.new) tables.new
         (ServesAtHand s (asked_now (unread lines.old))))
         (λ f. Stretch (S.state shell.old) (S.state shell.new)
         (BreaksAtHand f s (asked_now (unread lines.old)))) }
-    ensures reread { OnOk result (RereadsAtHand (asked_now (unread lines.old))
+    ensures brings { OnOk result (BringsAtHand limits.flush (asked_now (unread lines.old))
         (S.state shell.old) (S.state shell.new)) }
+    ensures known { OnOk result (limits_of tables.new ≡ limits) }
     ensures lines { OnOk result (HandsOut (unread lines.old) (unread lines.new)) }
-    ensures cause { IsErrOf result TableFault.Failed
+    ensures cause { IsErrOf result RunFault.Failed
         → Rose (S.state shell.old).faults (S.state shell.new).faults }
     ensures passes { Passes (S.state shell.old) (S.state shell.new) }
 {
     'lines: loop {
         match next_line(lines, line) {
-            Ok(Some(cut)) => match answer_line(alloc, tables, cut, line, shell) {
+            Ok(Some(cut)) => match answer_line(alloc, tables, limits, cut, line, shell) {
                 Ok(()) => {}
                 Err(fault) => return Err(fault),
             },
@@ -192,12 +301,14 @@ pub(crate) fn at_hand<S: Shell>(
 pub(crate) fn pull<S: Shell>(
     alloc: Global,
     tables: &mut Tables,
+    limits: Limits,
     lines: &mut Lines,
     line: &mut Vec<u8>,
     buf: &mut [u8],
     shell: &mut S,
-) -> Result<bool, TableFault>
+) -> Result<bool, RunFault>
     requires ready { AreReady (S.state shell.old) tables.old }
+    requires known { limits_of tables.old ≡ limits }
     requires quiet { talks (S.state shell.old).beside ≡ false }
     requires room { 0 < length buf.old }
     requires going { (unread lines.old).ended ≡ false }
@@ -206,29 +317,30 @@ pub(crate) fn pull<S: Shell>(
         (λ t. GoesOrEnds more s (unread lines.old) t (unread lines.new)))
         (λ f. Stretch (S.state shell.old) (S.state shell.new)
         (GoesSome f s (unread lines.old))) }
-    ensures reread { IfOk result (λ more. RereadsOn more (unread lines.old) (unread lines.new)
-        (S.state shell.old) (S.state shell.new)) }
+    ensures brings { IfOk result (λ more. BringsOn limits.flush more (unread lines.old)
+        (unread lines.new) (S.state shell.old) (S.state shell.new)) }
+    ensures known { OnOk result (limits_of tables.new ≡ limits) }
     ensures going { IfOk result (λ more. more ≡ true → (unread lines.new).ended ≡ false) }
     ensures time { OnOk result ((S.state shell.old).moment < (S.state shell.new).moment) }
     ensures within { OnOk result ((S.state shell.old).moment < 2 ^ 64 - 1) }
-    ensures cause { IsErrOf result TableFault.Failed
+    ensures cause { IsErrOf result RunFault.Failed
         → Rose (S.state shell.old).faults (S.state shell.new).faults }
     ensures passes { Passes (S.state shell.old) (S.state shell.new) }
 {
     let Ok(count) = shell.take(buf) else {
-        return Err(TableFault::Failed);
+        return Err(RunFault::Failed);
     };
     if count == 0 {
         lines.end();
-        return match at_hand(alloc, tables, lines, line, shell) {
+        return match at_hand(alloc, tables, limits, lines, line, shell) {
             Ok(()) => Ok(false),
             Err(fault) => Err(fault),
         };
     }
     let Ok(()) = lines.give(&buf[..count]) else {
-        return Err(TableFault::NoMemory);
+        return Err(RunFault::NoMemory);
     };
-    match at_hand(alloc, tables, lines, line, shell) {
+    match at_hand(alloc, tables, limits, lines, line, shell) {
         Ok(()) => Ok(true),
         Err(fault) => Err(fault),
     }

@@ -8,8 +8,9 @@ ghost use Rattle.alt_disk.specs.Disk.{DiskState, Goes};
 ghost use Rattle.alt_lines.specs.Trial.{generator, after_line, next_line};
 ghost use Rattle.alt_machine.specs.State.{State};
 ghost use Rattle.alt_shell.specs.Log.{talks};
-ghost use Rattle.alt_tables.specs.Stands.{AreReady, Stands};
+ghost use Rattle.alt_tables.specs.Stands.{AreReady, Stands, limits_of};
 ghost use Rattle.alt_talks.specs.Runs.{Stretch, Passes};
+ghost use Rattle.alt_talks.specs.Works.{HasFewEntries};
 ghost use Rattle.alternator.specs.Trials.{trial_asks, IsTally, Counted, CountedSome, Tries, TriesSome};
 ghost use Rattle.alternator.specs.Turns.{request, asked_by, is_space};
 
@@ -19,26 +20,27 @@ use crate::tally::Tally;
 use alt_disk::Disk;
 use alt_lines::Trial;
 use alt_shell::Shell;
-use alt_tables::{TableFault, Tables};
+use alt_tables::{Tables, Task};
+use alt_talks::{RunFault, work};
 use std::alloc::Global;
 
 /// The moment of each request, in seconds since 1970 began in UTC.
 const MOMENT: u64 = 1_700_000_000;
 
 /// The next line of the generator, in the emptied buffer.
-fn next(trial: &mut Trial, line: &mut Vec<u8>) -> Result<(), TableFault>
+fn next(trial: &mut Trial, line: &mut Vec<u8>) -> Result<(), RunFault>
     ensures line { OnOk result (line.new.items ≡ next_line (generator trial.old)) }
     ensures next { OnOk result (generator trial.new ≡ after_line (generator trial.old)) }
-    ensures err { IfErr result (λ fault. fault ≡ TableFault.NoMemory) }
+    ensures err { IfErr result (λ fault. fault ≡ RunFault.NoMemory) }
 {
     line.clear();
     match trial.request(line) {
         Ok(()) => Ok(()),
-        Err(_) => Err(TableFault::NoMemory),
+        Err(_) => Err(RunFault::NoMemory),
     }
 }
 
-/// One request is carried out, and its reply counted.
+/// One request is carried out, and its reply counted. Then one step of work is made.
 fn ask<D: Disk>(
     alloc: Global,
     tables: &mut Tables,
@@ -46,7 +48,7 @@ fn ask<D: Disk>(
     body: &[u8],
     tally: &mut Tally,
     disk: &mut D,
-) -> Result<(), TableFault>
+) -> Result<(), RunFault>
     requires ready { AreReady (D.state disk.old) tables.old }
     requires good { tally.old.good < 2 ^ 32 - 1 }
     requires bad { tally.old.bad < 2 ^ 32 - 1 }
@@ -57,15 +59,18 @@ fn ask<D: Disk>(
         (D.state disk.old) (D.state disk.new)) }
     ensures good { OnOk result (tally.new.good ≤ tally.old.good + 1) }
     ensures bad { OnOk result (tally.new.bad ≤ tally.old.bad + 1) }
-    ensures cause { IsErrOf result TableFault.Failed
+    ensures limits { limits_of tables.new ≡ limits_of tables.old }
+    ensures few { OnOk result (HasFewEntries (limits_of tables.old).flush (D.state disk.new)) }
+    ensures cause { IsErrOf result RunFault.Failed
         → Rose (D.state disk.old).faults (D.state disk.new).faults }
     ensures goes { Goes (D.state disk.old) (D.state disk.new) }
 {
     match reply_text(alloc, tables, disk, name, body, MOMENT) {
-        Ok(text) => {
-            tally.count(text.as_bytes());
-            Ok(())
-        }
+        Ok(text) => tally.count(text.as_bytes()),
+        Err(fault) => return Err(fault),
+    }
+    match work(tables, disk, Task::Step) {
+        Ok(()) => Ok(()),
         Err(fault) => Err(fault),
     }
 }
@@ -77,7 +82,7 @@ fn ask_line<D: Disk>(
     line: &[u8],
     tally: &mut Tally,
     disk: &mut D,
-) -> Result<(), TableFault>
+) -> Result<(), RunFault>
     requires ready { AreReady (D.state disk.old) tables.old }
     requires good { tally.old.good < 2 ^ 32 - 1 }
     requires bad { tally.old.bad < 2 ^ 32 - 1 }
@@ -90,7 +95,9 @@ fn ask_line<D: Disk>(
         (D.state disk.old) (D.state disk.new)) }
     ensures good { OnOk result (tally.new.good ≤ tally.old.good + 1) }
     ensures bad { OnOk result (tally.new.bad ≤ tally.old.bad + 1) }
-    ensures cause { IsErrOf result TableFault.Failed
+    ensures limits { limits_of tables.new ≡ limits_of tables.old }
+    ensures few { OnOk result (HasFewEntries (limits_of tables.old).flush (D.state disk.new)) }
+    ensures cause { IsErrOf result RunFault.Failed
         → Rose (D.state disk.old).faults (D.state disk.new).faults }
     ensures goes { Goes (D.state disk.old) (D.state disk.new) }
 {
@@ -106,7 +113,7 @@ fn step<D: Disk>(
     line: &mut Vec<u8>,
     tally: &mut Tally,
     disk: &mut D,
-) -> Result<(), TableFault>
+) -> Result<(), RunFault>
     requires ready { AreReady (D.state disk.old) tables.old }
     requires good { tally.old.good < 2 ^ 32 - 1 }
     requires bad { tally.old.bad < 2 ^ 32 - 1 }
@@ -118,7 +125,9 @@ fn step<D: Disk>(
     ensures next { OnOk result (generator trial.new ≡ after_line (generator trial.old)) }
     ensures good { OnOk result (tally.new.good ≤ tally.old.good + 1) }
     ensures bad { OnOk result (tally.new.bad ≤ tally.old.bad + 1) }
-    ensures cause { IsErrOf result TableFault.Failed
+    ensures limits { limits_of tables.new ≡ limits_of tables.old }
+    ensures few { OnOk result (HasFewEntries (limits_of tables.old).flush (D.state disk.new)) }
+    ensures cause { IsErrOf result RunFault.Failed
         → Rose (D.state disk.old).faults (D.state disk.new).faults }
     ensures goes { Goes (D.state disk.old) (D.state disk.new) }
 {
@@ -135,13 +144,15 @@ fn requests<D: Disk>(
     seed: u64,
     count: u32,
     disk: &mut D,
-) -> Result<Tally, TableFault>
+) -> Result<Tally, RunFault>
     requires ready { AreReady (D.state disk.old) tables.old }
     ensures counted { (s : State) → Stands (D.state disk.old) tables.old s → MatchResult result
         (λ tally. (none : Tally) × IsTally none [] × Counted s (trial_asks seed count) none tally
         (D.state disk.old) (D.state disk.new) tables.new)
         (λ f. CountedSome f s (trial_asks seed count) (D.state disk.old) (D.state disk.new)) }
-    ensures cause { IsErrOf result TableFault.Failed
+    ensures few { 0 < count
+        → OnOk result (HasFewEntries (limits_of tables.old).flush (D.state disk.new)) }
+    ensures cause { IsErrOf result RunFault.Failed
         → Rose (D.state disk.old).faults (D.state disk.new).faults }
     ensures goes { Goes (D.state disk.old) (D.state disk.new) }
 {
@@ -158,7 +169,7 @@ fn requests<D: Disk>(
 }
 
 /// The four lines that sum up so many requests are said.
-fn tell<S: Shell>(alloc: Global, tally: Tally, count: u32, shell: &mut S) -> Result<(), TableFault>
+fn tell<S: Shell>(alloc: Global, tally: Tally, count: u32, shell: &mut S) -> Result<(), RunFault>
     requires quiet { talks (S.state shell.old).beside ≡ false }
     ensures told { (old : DiskState) (s : State) (seed : ℕ) (tables : Tables) (none : Tally)
         → IsTally none [] → Goes old (S.state shell.old)
@@ -166,16 +177,18 @@ fn tell<S: Shell>(alloc: Global, tally: Tally, count: u32, shell: &mut S) -> Res
         → MatchResult result
         (λ _. Stretch old (S.state shell.new) (Tries s seed count))
         (λ f. Stretch old (S.state shell.new) (TriesSome f s seed count)) }
-    ensures cause { IsErrOf result TableFault.Failed
+    ensures few { (flush : ℕ) → HasFewEntries flush (S.state shell.old)
+        → OnOk result (HasFewEntries flush (S.state shell.new)) }
+    ensures cause { IsErrOf result RunFault.Failed
         → Rose (S.state shell.old).faults (S.state shell.new).faults }
     ensures passes { Passes (S.state shell.old) (S.state shell.new) }
 {
     let Ok(text) = tally.summary(alloc, count) else {
-        return Err(TableFault::NoMemory);
+        return Err(RunFault::NoMemory);
     };
     match shell.say(text.as_bytes()) {
         Ok(()) => Ok(()),
-        Err(_) => Err(TableFault::Failed),
+        Err(_) => Err(RunFault::Failed),
     }
 }
 
@@ -186,13 +199,15 @@ pub(crate) fn carry_out_trial<S: Shell>(
     seed: u64,
     count: u32,
     shell: &mut S,
-) -> Result<(), TableFault>
+) -> Result<(), RunFault>
     requires ready { AreReady (S.state shell.old) tables.old }
     requires quiet { talks (S.state shell.old).beside ≡ false }
     ensures tried { (s : State) → Stands (S.state shell.old) tables.old s → MatchResult result
         (λ _. Stretch (S.state shell.old) (S.state shell.new) (Tries s seed count))
         (λ f. Stretch (S.state shell.old) (S.state shell.new) (TriesSome f s seed count)) }
-    ensures cause { IsErrOf result TableFault.Failed
+    ensures few { 0 < count
+        → OnOk result (HasFewEntries (limits_of tables.old).flush (S.state shell.new)) }
+    ensures cause { IsErrOf result RunFault.Failed
         → Rose (S.state shell.old).faults (S.state shell.new).faults }
     ensures passes { Passes (S.state shell.old) (S.state shell.new) }
 {

@@ -1,8 +1,9 @@
 //! The words of the command line, read by hand.
 
-ghost use Rattle.std.specs.Prelude.{◌≡◌, ◌<◌, ◌^◌, ◌-◌, ◌&&◌, true, false, Some, None, min, option_map, option_and_then, codes, IfSome};
-ghost use Rattle.std.specs.Str.{bytes_eq};
-ghost use Rattle.alternator.specs.Words.{digits_from, number_of, is_within, is_flush, is_merge, small_some, some_of, small_count, count_of, small_seed, seed_of, serve_with, trial_with, init_of, replay_of, serve_of, trial_of, served_of, run_of, job_of, IsServable, port_of, small_port, bytes_of};
+ghost use Rattle.std.specs.Prelude.{◌≡◌, ◌<◌, ◌≤◌, ◌^◌, ◌-◌, Some, None, min, option_map, option_and_then, IfSome};
+ghost use Rattle.alternator.specs.Words.{digits_from, number_of, within, number_within, flush_of, merge_of, some_of, count_of, small_seed, seed_of, limits_with, serve_with, trial_with, over, init_of, replay_of, serve_of, trial_of, served_of, run_of, command_of, IsServable, IsFit, port_of, small_port, bytes_of};
+
+use alt_engine::Limits;
 
 // The number of the digits, 2^64 - 1 where it is greater.
 fn digits(word: &[u8]) -> Option<u64>
@@ -61,21 +62,44 @@ fn seed(word: &[u8]) -> Option<u64>
     }
 }
 
-fn is_within(least: u64, most: u64, word: &[u8]) -> bool
+/// A number from the least to the most.
+#[tactic(auto, using(crate::proofs::Numbers::within_capped))]
+fn number_within(least: u64, most: u64, word: &[u8]) -> Option<u64>
     requires { most < 2 ^ 64 - 1 }
-    ensures { result ≡ is_within least most (number_of word.now) }
+    ensures number { result ≡ number_within least most word.now }
+    ensures least { IfSome result (λ n. least ≤ n) }
+    ensures most { IfSome result (λ n. n ≤ most) }
 {
     match number(word) {
-        Some(number) => least <= number && number <= most,
-        None => false,
+        Some(number) => within(least, most, number),
+        None => None,
     }
 }
 
-/// What a run is to do.
+fn within(least: u64, most: u64, number: u64) -> Option<u64>
+    ensures number { result ≡ within least most number }
+    ensures least { IfSome result (λ n. least ≤ n) }
+    ensures most { IfSome result (λ n. n ≤ most) }
+{
+    if least <= number && number <= most {
+        Some(number)
+    } else {
+        None
+    }
+}
+
+/// What words ask for.
 #[derive(Clone, Copy, Debug, PartialEq, Eq)]
-pub enum Job {
+pub enum Command {
     /// To make an empty store.
     Init,
+    /// A job over the store that is there, whose engine has these limits.
+    Over { job: Job, limits: Limits },
+}
+
+/// What a run over a store is to do.
+#[derive(Clone, Copy, Debug, PartialEq, Eq)]
+pub enum Job {
     /// Requests as lines of standard input.
     Replay,
     /// So many connections, one after another, with so many requests at most on each.
@@ -84,59 +108,52 @@ pub enum Job {
     Trial { seed: u64, count: u32 },
 }
 
-fn is_flush(word: &[u8]) -> bool
-    ensures { result ≡ is_flush word.now }
+/// From how many bytes on a family is flushed: 65,536 to 1,073,741,824.
+fn flush(word: &[u8]) -> Option<u64>
+    ensures { result ≡ flush_of word.now }
 {
-    is_within(65_536, 1_073_741_824, word)
+    number_within(65_536, 1_073_741_824, word)
 }
 
-fn is_merge(word: &[u8]) -> bool
-    ensures { result ≡ is_merge word.now }
+/// From how many files on a family is merged: 2 to 64.
+fn merge(word: &[u8]) -> Option<u32>
+    ensures { result ≡ merge_of word.now }
 {
-    is_within(2, 64, word)
-}
-
-fn small_some(number: u64) -> Option<u32>
-    ensures number { result ≡ small_some number }
-    ensures some { IfSome result (λ n. 0 < n) }
-{
-    if 1 <= number && number <= 4_294_967_295 {
-        Some(number as u32)
-    } else {
-        None
+    match number_within(2, 64, word) {
+        Some(number) => Some(number as u32),
+        None => None,
     }
 }
 
 /// A number from 1 to 4,294,967,295.
-#[tactic(auto, using(crate::proofs::Numbers::some_capped))]
 fn some(word: &[u8]) -> Option<u32>
     ensures number { result ≡ some_of word.now }
     ensures some { IfSome result (λ n. 0 < n) }
 {
-    match number(word) {
-        Some(number) => small_some(number),
+    match number_within(1, 4_294_967_295, word) {
+        Some(number) => Some(number as u32),
         None => None,
-    }
-}
-
-fn small_count(number: u64) -> Option<u32>
-    ensures { result ≡ small_count number }
-{
-    if 1 <= number && number <= 1_000_000 {
-        Some(number as u32)
-    } else {
-        None
     }
 }
 
 /// A number from 1 to 1,000,000.
-#[tactic(auto, using(crate::proofs::Numbers::count_capped))]
 fn count(word: &[u8]) -> Option<u32>
-    ensures { result ≡ count_of word.now }
+    ensures number { result ≡ count_of word.now }
+    ensures some { IfSome result (λ n. 0 < n) }
 {
-    match number(word) {
-        Some(number) => small_count(number),
+    match number_within(1, 1_000_000, word) {
+        Some(number) => Some(number as u32),
         None => None,
+    }
+}
+
+/// The limits of an engine.
+fn limits(flush: Option<u64>, merge: Option<u32>) -> Option<Limits>
+    ensures { result ≡ limits_with flush merge }
+{
+    match (flush, merge) {
+        (Some(flush), Some(merge)) => Some(Limits { flush, merge }),
+        _ => None,
     }
 }
 
@@ -152,6 +169,7 @@ fn serve_with(per: Option<u32>, connections: Option<u32>) -> Option<Job>
 }
 
 fn trial_with(seed: Option<u64>, count: Option<u32>) -> Option<Job>
+    requires some { IfSome count (λ n. 0 < n) }
     ensures job { result ≡ trial_with seed count }
     ensures servable { IfSome result IsServable }
 {
@@ -161,32 +179,26 @@ fn trial_with(seed: Option<u64>, count: Option<u32>) -> Option<Job>
     }
 }
 
-fn is_replay(word: &str, flush: &[u8], merge: &[u8]) -> bool
-    ensures { result ≡ (bytes_eq word.now (codes "replay") && is_flush flush.now && is_merge merge.now) }
+/// A job over a store whose engine has these limits, where both are there.
+fn over(job: Option<Job>, limits: Option<Limits>) -> Option<Command>
+    requires servable { IfSome job IsServable }
+    ensures command { result ≡ over job limits }
+    ensures servable { IfSome result IsFit }
 {
-    word == "replay" && is_flush(flush) && is_merge(merge)
+    match (job, limits) {
+        (Some(job), Some(limits)) => Some(Command::Over { job, limits }),
+        _ => None,
+    }
 }
 
-fn is_serve(word: &str, flush: &[u8], merge: &[u8]) -> bool
-    ensures { result ≡ (bytes_eq word.now (codes "serve") && is_flush flush.now && is_merge merge.now) }
-{
-    word == "serve" && is_flush(flush) && is_merge(merge)
-}
-
-fn is_trial(word: &str, flush: &[u8], merge: &[u8]) -> bool
-    ensures { result ≡ (bytes_eq word.now (codes "trial") && is_flush flush.now && is_merge merge.now) }
-{
-    word == "trial" && is_flush(flush) && is_merge(merge)
-}
-
-fn init_of(words: &[String]) -> Option<Job>
-    ensures job { result ≡ init_of (bytes_of words.now) }
-    ensures servable { IfSome result IsServable }
+fn init_of(words: &[String]) -> Option<Command>
+    ensures command { result ≡ init_of (bytes_of words.now) }
+    ensures servable { IfSome result IsFit }
 {
     match words {
         [word] => {
             if word.as_str() == "init" {
-                Some(Job::Init)
+                Some(Command::Init)
             } else {
                 None
             }
@@ -195,14 +207,15 @@ fn init_of(words: &[String]) -> Option<Job>
     }
 }
 
-fn replay_of(words: &[String]) -> Option<Job>
-    ensures job { result ≡ replay_of (bytes_of words.now) }
-    ensures servable { IfSome result IsServable }
+fn replay_of(words: &[String]) -> Option<Command>
+    ensures command { result ≡ replay_of (bytes_of words.now) }
+    ensures servable { IfSome result IsFit }
 {
     match words {
-        [word, flush, merge] => {
-            if is_replay(word.as_str(), flush.as_bytes(), merge.as_bytes()) {
-                Some(Job::Replay)
+        [word, flushing, merging] => {
+            if word.as_str() == "replay" {
+                let limits = limits(flush(flushing.as_bytes()), merge(merging.as_bytes()));
+                over(Some(Job::Replay), limits)
             } else {
                 None
             }
@@ -211,14 +224,16 @@ fn replay_of(words: &[String]) -> Option<Job>
     }
 }
 
-fn serve_of(words: &[String]) -> Option<Job>
-    ensures job { result ≡ serve_of (bytes_of words.now) }
-    ensures servable { IfSome result IsServable }
+fn serve_of(words: &[String]) -> Option<Command>
+    ensures command { result ≡ serve_of (bytes_of words.now) }
+    ensures servable { IfSome result IsFit }
 {
     match words {
-        [word, per, connections, flush, merge] => {
-            if is_serve(word.as_str(), flush.as_bytes(), merge.as_bytes()) {
-                serve_with(some(per.as_bytes()), some(connections.as_bytes()))
+        [word, per, connections, flushing, merging] => {
+            if word.as_str() == "serve" {
+                let job = serve_with(some(per.as_bytes()), some(connections.as_bytes()));
+                let limits = limits(flush(flushing.as_bytes()), merge(merging.as_bytes()));
+                over(job, limits)
             } else {
                 None
             }
@@ -227,14 +242,16 @@ fn serve_of(words: &[String]) -> Option<Job>
     }
 }
 
-fn trial_of(words: &[String]) -> Option<Job>
-    ensures job { result ≡ trial_of (bytes_of words.now) }
-    ensures servable { IfSome result IsServable }
+fn trial_of(words: &[String]) -> Option<Command>
+    ensures command { result ≡ trial_of (bytes_of words.now) }
+    ensures servable { IfSome result IsFit }
 {
     match words {
-        [word, seeding, counting, flush, merge] => {
-            if is_trial(word.as_str(), flush.as_bytes(), merge.as_bytes()) {
-                trial_with(seed(seeding.as_bytes()), count(counting.as_bytes()))
+        [word, seeding, counting, flushing, merging] => {
+            if word.as_str() == "trial" {
+                let job = trial_with(seed(seeding.as_bytes()), count(counting.as_bytes()));
+                let limits = limits(flush(flushing.as_bytes()), merge(merging.as_bytes()));
+                over(job, limits)
             } else {
                 None
             }
@@ -243,36 +260,36 @@ fn trial_of(words: &[String]) -> Option<Job>
     }
 }
 
-fn served_of(words: &[String]) -> Option<Job>
-    ensures job { result ≡ served_of (bytes_of words.now) }
-    ensures servable { IfSome result IsServable }
+fn served_of(words: &[String]) -> Option<Command>
+    ensures command { result ≡ served_of (bytes_of words.now) }
+    ensures servable { IfSome result IsFit }
 {
     match serve_of(words) {
-        Some(job) => Some(job),
+        Some(command) => Some(command),
         None => trial_of(words),
     }
 }
 
 /// The job over a store that words ask for.
-fn run_of(words: &[String]) -> Option<Job>
-    ensures job { result ≡ run_of (bytes_of words.now) }
-    ensures servable { IfSome result IsServable }
+fn run_of(words: &[String]) -> Option<Command>
+    ensures command { result ≡ run_of (bytes_of words.now) }
+    ensures servable { IfSome result IsFit }
 {
     match replay_of(words) {
-        Some(job) => Some(job),
+        Some(command) => Some(command),
         None => served_of(words),
     }
 }
 
-/// The job that the words behind folder and port ask for: `init`, `replay FLUSH MERGE`, `serve PER CONNECTIONS FLUSH MERGE`, or
+/// What the words behind folder and port ask for: `init`, `replay FLUSH MERGE`, `serve PER CONNECTIONS FLUSH MERGE`, or
 /// `trial SEED COUNT FLUSH MERGE`. FLUSH is from 65,536 to 1,073,741,824 bytes, MERGE from 2 to 64 files, PER and CONNECTIONS from 1 to
 /// 4,294,967,295, SEED from 0 to 18,446,744,073,709,551,615 and COUNT from 1 to 1,000,000.
-pub(crate) fn job_of(words: &[String]) -> Option<Job>
-    ensures job { result ≡ job_of (bytes_of words.now) }
-    ensures servable { IfSome result IsServable }
+pub(crate) fn command_of(words: &[String]) -> Option<Command>
+    ensures command { result ≡ command_of (bytes_of words.now) }
+    ensures servable { IfSome result IsFit }
 {
     match init_of(words) {
-        Some(job) => Some(job),
+        Some(command) => Some(command),
         None => run_of(words),
     }
 }

@@ -65,6 +65,7 @@ loop-change-preserved g c =
     c.as_str.result.now
     c.as_str.ensures.same (ap (λ k. finite.contains_key k change.table) so.catalog ∙ so.may.0.there)
     c.in_ok-write.ensures.writes c.in_ok-write.ensures.disk)
+    c.in_ok-write.ensures.limits
 
 pub returns-in_err-write-clause-writes : goal.returns-in_err-write-clause-writes
 returns-in_err-write-clause-writes g c s stands =

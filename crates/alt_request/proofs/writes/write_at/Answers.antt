@@ -36,6 +36,7 @@ returns-in-Err g c = record {
       c.args.tables.now before read (λ s h. h.0) c.in-Err.ensures.disk c.in-Err.fault
       (λ s h. c.in-Err.ensures.fault s h.0) (λ s h. (c.in-Err.ensures.stays s).0 h.0)
       c.in-Err.ensures.cause;
+  limits = c.in-Err.ensures.catalog.limits;
 }
 
 pub returns-in-Ok-Told : goal.returns-in-Ok-Told
@@ -61,6 +62,7 @@ returns-in-Ok-Told g c = record {
       (c.in-Ok.ensures.item s h.0 t (there s h)))
       (λ s h. (c.in-Ok.ensures.stays s).0 h.0) c.in-Ok-Told.reply
       (rw c.in-Ok-Told.field-0-is at c.in-Ok-Told.ensures.decides);
+  limits = c.in-Ok.ensures.catalog.limits;
 }
 
 pub returns-in-Err-decide : goal.returns-in-Err-decide
@@ -86,6 +88,7 @@ returns-in-Err-decide g c = record {
       (c.in-Ok.ensures.item s h.0 t (there s h)))
       (λ s h. (c.in-Ok.ensures.stays s).0 h.0) c.in-Err-decide.stop
       c.in-Err-decide.ensures.decides;
+  limits = c.in-Ok.ensures.catalog.limits;
 }
 
 pub returns-in-Ok-write : goal.returns-in-Ok-write
@@ -115,6 +118,7 @@ returns-in-Ok-write g c = record {
       c.in-Ok-write.ensures.goes
       (λ s h. c.in-Ok-write.ensures.disk s t ((c.in-Ok.ensures.stays s).0 h.0) (there s h))
       (λ s h. c.in-Ok-write.ensures.writes s t ((c.in-Ok.ensures.stays s).0 h.0) (there s h));
+  limits = c.in-Ok-write.ensures.limits ∙ c.in-Ok.ensures.catalog.limits;
 }
 
 pub returns-in-Err-write : goal.returns-in-Err-write
@@ -146,6 +150,7 @@ returns-in-Err-write g c = record {
       c.in-Err-write.fault
       (λ s h. c.in-Err-write.ensures.writes s t ((c.in-Ok.ensures.stays s).0 h.0) (there s h))
       c.in-Err-write.ensures.cause c.in-Err-write.ensures.no_memory;
+  limits = c.in-Err-write.ensures.limits ∙ c.in-Ok.ensures.catalog.limits;
 }
 
 pub write-requires-clause-ready : goal.write-requires-clause-ready

@@ -1,7 +1,7 @@
 use Rattle.std.proofs.Common.{◌≡◌, ◌≤◌, ◌∙◌, length, [], ◌∷◌, ℕ, List, true, false, sym, ap, subst, append-nil}
 use Rattle.std.specs.Prelude.{MatchResult}
 use Rattle.alt_shell.specs.Log.{Log}
-use Rattle.alt_tables.specs.declared.faults.TableFault.TheVariants.{NoMemory}
+use Rattle.alt_talks.specs.declared.fault.RunFault.TheVariants.{NoMemory}
 use Rattle.alt_http.specs.Judged.{IsScan}
 use Rattle.alt_http.specs.Reading.{scan_of}
 use Rattle.alt_http.proofs.Answering.{scan_of-is, scan_of-within}

@@ -7,7 +7,7 @@ use Rattle.alt_talks.specs.TalkRules.{rules}
 use Rattle.alt_talks.specs.TalkStops.{MovesAllOn, MovesSomeOn, GoesOn, GoesSomeOn}
 use Rattle.alt_talks.specs.TalkViews.{place_of}
 use Rattle.alt_talks.specs.Talks.{at}
-use Rattle.alt_tables.specs.declared.faults.TableFault.TheVariants.{NoMemory}
+use Rattle.alt_talks.specs.declared.fault.RunFault.TheVariants.{NoMemory}
 use Rattle.alt_talks.proofs.Stopping.{ready_kept, stands_kept}
 use Rattle.alt_talks.proofs.TalkIdle.{idle_start}
 use Rattle.alt_talks.proofs.TalkLaws.{lawful}

@@ -6,7 +6,7 @@ use Rattle.alt_talks.specs.Stretches.{Utters}
 use Rattle.alt_talks.specs.TalkRules.{rules}
 use Rattle.alt_talks.specs.TalkStops.{AnswersOn, AnswersSomeOn}
 use Rattle.alt_talks.specs.Talks.{refused}
-use Rattle.alt_tables.specs.declared.faults.TableFault.TheVariants.{NoMemory}
+use Rattle.alt_talks.specs.declared.fault.RunFault.TheVariants.{NoMemory}
 use Rattle.alt_talks.proofs.Stretching.{stretch_none}
 use Rattle.alt_talks.proofs.Stopping.{trusts-kept}
 use Rattle.alt_talks.proofs.TalkLaws.{lawful, rules-refusal}

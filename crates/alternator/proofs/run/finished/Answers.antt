@@ -30,5 +30,12 @@ pub returns-in-Err-Damaged-clause-done : goal.returns-in-Err-Damaged-clause-done
 returns-in-Err-Damaged-clause-done g c =
     let state = g.S.Disk.state in
     damaged_done (state c.args.shell.now) (state c.over_store.new.shell) c.args.job _ _
-    c.in-Err-Damaged.field-0-is (λ lack h. h) c.in-Err-Damaged.ensures.readable
+    c.in-Err-Damaged.field-0-is (λ lack h. h) (λ h. h) c.in-Err-Damaged.ensures.readable
     c.in-Err-Damaged.ensures.done
+
+pub returns-in-Err-DigestDiffers-clause-done : goal.returns-in-Err-DigestDiffers-clause-done
+returns-in-Err-DigestDiffers-clause-done g c =
+    let state = g.S.Disk.state in
+    damaged_done (state c.args.shell.now) (state c.over_store.new.shell) c.args.job _ _
+    c.in-Err-DigestDiffers.field-0-is (λ lack h. h) (λ h. h) c.in-Err-DigestDiffers.ensures.readable
+    c.in-Err-DigestDiffers.ensures.done

@@ -2,7 +2,7 @@ use Rattle.std.proofs.Common.{◌∙◌, ap, inl}
 use Rattle.alt_disk.proofs.Runs.{tells_of, trusted_back}
 use Rattle.alt_shell.specs.Log.{talks}
 use Rattle.alternator.proofs.Opening.{opening_of, opened_result}
-use Rattle.alternator.proofs.Rereading.{opened_again}
+use Rattle.alternator.proofs.Bringing.{opened_after}
 use Rattle.alternator.proofs.run.over_store.Goals as goal
 
 pub returns-in-Err-clause-done : goal.returns-in-Err-clause-done
@@ -43,8 +43,9 @@ returns-in-Ok-clause-done g c = λ trusted.
     stood.1 c.in-Ok.ensures.goes c.in-Ok.ensures.leaves c.carry_out-done.result
     (c.carry_out-done.ensures.done stood.0 (c.in-Ok.ensures.stands trusted stood.0 stood.1))
 
-pub returns-in-Ok-clause-reread : goal.returns-in-Ok-clause-reread
-returns-in-Ok-clause-reread g c = λ is.
+pub returns-in-Ok-clause-after : goal.returns-in-Ok-clause-after
+returns-in-Ok-clause-after g c =
     let state = g.S.Disk.state in
-    opened_again (state c.args.shell.now) (state c.open.new.disk) (state c.carry_out-done.new.shell)
-    c.in-Ok.ensures.goes c.carry_out-done.result (c.carry_out-done.ensures.reread is)
+    opened_after c.args.limits.flush c.args.job (state c.args.shell.now) (state c.open.new.disk)
+    (state c.carry_out-done.new.shell) c.in-Ok.ensures.goes c.carry_out-done.result
+    c.carry_out-done.ensures.after

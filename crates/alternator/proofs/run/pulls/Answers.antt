@@ -3,12 +3,12 @@ use Rattle.alt_lines.specs.Reader.{unread}
 use Rattle.alt_lines.specs.Unread.{Unread}
 use Rattle.alt_machine.specs.State.{State}
 use Rattle.alt_disk.specs.Disk.{DiskState}
-use Rattle.alternator.specs.Rereading.{RereadsSome, RereadsOn}
+use Rattle.alternator.specs.Behind.{BringsSome, BringsOn}
 use Rattle.alt_talks.specs.Runs.{Leads}
 use Rattle.alternator.specs.Runs.{Goes, GoesOrEnds, GoesSome, Ends, Answers, AnswersSome}
 use Rattle.alt_talks.proofs.Passing.{passes_none, passes_then, passes_back}
 use Rattle.alternator.proofs.Pulling.{fresh, goes_none, goes_then, goes_ends, goes_breaks, answers_all, answers_some}
-use Rattle.alternator.proofs.Rereading.{some_none, some_then, rest_then, read_again}
+use Rattle.alternator.proofs.Bringing.{some_none, some_then, rest_then, last_line}
 use Rattle.alt_talks.proofs.Stretching.{stretch_as}
 use Rattle.alternator.proofs.run.pulls.Goals as goal
 use Rattle.alt_talks.specs.TalkStops.{LeavesNow}
@@ -21,8 +21,9 @@ pulls-init g c =
           (goes_none old c.args.tables.now s fresh stands),
       passes_none _,
       ap (λ (u : Unread). u.ended) c.new-lines.ensures,
-      subst (λ (u : Unread). RereadsSome fresh u old old) (sym c.new-lines.ensures)
-          (some_none old fresh),
+      subst (λ (u : Unread). BringsSome c.args.limits.flush fresh u old old) (sym c.new-lines.ensures)
+          (some_none c.args.limits.flush old fresh),
+      c.requires.known,
     )
 
 pub pulls-preserved : goal.pulls-preserved
@@ -39,11 +40,12 @@ pulls-preserved g c =
           c.pull.new.tables (unread c.pull.new.lines) went,
       passes_then _ _ _ c.pulls.invariant.1 c.pull.ensures.passes,
       c.in-Ok-true.ensures.going c.in-Ok-true.field-0-test,
-      some_then (state c.args.shell.now) (state c.pulls.shell) (state c.pull.new.shell) fresh
+      some_then c.args.limits.flush (state c.args.shell.now) (state c.pulls.shell) (state c.pull.new.shell) fresh
           (unread c.pulls.lines) c.pulls.invariant.3 (unread c.pull.new.lines)
-          (subst (λ (more : Bool). RereadsOn more (unread c.pulls.lines)
+          (subst (λ (more : Bool). BringsOn c.args.limits.flush more (unread c.pulls.lines)
           (unread c.pull.new.lines) (state c.pulls.shell) (state c.pull.new.shell))
-          c.in-Ok-true.field-0-test c.in-Ok-true.ensures.reread),
+          c.in-Ok-true.field-0-test c.in-Ok-true.ensures.brings),
+      c.in-Ok-true.ensures.known,
     )
 
 pub returns-in-Ok-false-clause-answered : goal.returns-in-Ok-false-clause-answered
@@ -61,17 +63,17 @@ returns-in-Ok-false-clause-answered g c = λ s stands.
     (state c.pull.new.shell) c.pulls.tables s fresh (unread c.pulls.lines) front
     c.pull.new.tables went)
 
-pub returns-in-Ok-false-clause-reread : goal.returns-in-Ok-false-clause-reread
-returns-in-Ok-false-clause-reread g c =
+pub returns-in-Ok-false-clause-last : goal.returns-in-Ok-false-clause-last
+returns-in-Ok-false-clause-last g c =
     let state = g.S.Disk.state in
     let old : DiskState = state c.args.shell.now in
     let mid : DiskState = state c.pulls.shell in
     let new : DiskState = state c.pull.new.shell in
-    read_again old new (passes_then old mid new c.pulls.invariant.1 c.pull.ensures.passes).tells
-    (rest_then old mid new fresh (unread c.pulls.lines) c.pulls.invariant.3
-    (subst (λ (more : Bool). RereadsOn more (unread c.pulls.lines)
+    last_line c.args.limits.flush old new
+    (rest_then c.args.limits.flush old mid new fresh (unread c.pulls.lines) c.pulls.invariant.3
+    (subst (λ (more : Bool). BringsOn c.args.limits.flush more (unread c.pulls.lines)
     (unread c.pull.new.lines) mid new)
-    c.in-Ok-false.field-0-test c.in-Ok-false.ensures.reread))
+    c.in-Ok-false.field-0-test c.in-Ok-false.ensures.brings))
 
 pub returns-in-Err-clause-answered : goal.returns-in-Err-clause-answered
 returns-in-Err-clause-answered g c = λ s stands.

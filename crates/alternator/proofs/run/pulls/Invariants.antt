@@ -1,8 +1,8 @@
 use Rattle.std.proofs.Common.{◌≡◌, ◌-◌, ◌^◌, false}
 use Rattle.alt_lines.specs.Reader.{unread}
 use Rattle.alt_machine.specs.State.{State}
-use Rattle.alt_tables.specs.Stands.{Stands}
-use Rattle.alternator.specs.Rereading.{RereadsSome}
+use Rattle.alt_tables.specs.Stands.{Stands, limits_of}
+use Rattle.alternator.specs.Behind.{BringsSome}
 use Rattle.alt_talks.specs.Runs.{Passes, Leads}
 use Rattle.alternator.specs.Runs.{Goes}
 use Rattle.alternator.proofs.Pulling.{fresh}
@@ -15,7 +15,8 @@ invariant-pulls g l =
     → Leads (state l.initial.shell) (state l.shell) l.tables (λ t. Goes s fresh t (unread l.lines)))
     × Passes (state l.initial.shell) (state l.shell)
     × ((unread l.lines).ended ≡ false)
-    × RereadsSome fresh (unread l.lines) (state l.initial.shell) (state l.shell)
+    × BringsSome l.limits.flush fresh (unread l.lines) (state l.initial.shell) (state l.shell)
+    × (limits_of l.tables ≡ l.limits)
 
 abbrev pub decreases-pulls : goal.decreases-pulls
 decreases-pulls g l = 2 ^ 64 - 1 - (g.S.Disk.state l.shell).moment

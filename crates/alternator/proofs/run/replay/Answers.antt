@@ -1,7 +1,7 @@
 use Rattle.std.proofs.Common.{[], false, refl}
 use Rattle.alternator.specs.Turns.{asks}
 use Rattle.alternator.specs.Runs.{AnswersSome, LeftThen}
-use Rattle.alt_tables.specs.declared.faults.TableFault.TheVariants.{NoMemory}
+use Rattle.alt_talks.specs.declared.fault.RunFault.TheVariants.{NoMemory}
 use Rattle.alternator.proofs.Pulling.{answers_some}
 use Rattle.alt_talks.proofs.Stretching.{stretch_none}
 use Rattle.alternator.proofs.Serving.{breaks_none}

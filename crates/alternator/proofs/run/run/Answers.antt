@@ -1,10 +1,10 @@
 use Rattle.std.proofs.Common.{List, ℕ, Option, subst, sym, ◌∙◌}
 use Rattle.alt_shell.specs.Log.{StillGrows, notes_of}
 use Rattle.alternator.specs.Endings.{HasDone, note_of}
-use Rattle.alternator.specs.Words.{job_of, bytes_of}
-use Rattle.alternator.specs.declared.words.Job.{Job}
+use Rattle.alternator.specs.Words.{command_of, bytes_of}
+use Rattle.alternator.specs.declared.words.Command.{Command}
 use Rattle.alternator.proofs.EndingLaws.{noted_done, noted_whole, words_end, completes, makes_all}
-use Rattle.alternator.proofs.Rereading.{read_again_noted}
+use Rattle.alternator.proofs.Bringing.{after_noted}
 use Rattle.alternator.proofs.run.run.Goals as goal
 
 pub returns-clause-ended : goal.returns-clause-ended
@@ -14,7 +14,7 @@ returns-clause-ended g c =
       record {
         by_ending = c.status_of.ensures;
         done = noted_done (state c.args.shell.now) (state c.ended.new.shell)
-            (state c.noted-ending.new.shell) (job_of (bytes_of c.args.words.now)) c.ended.result
+            (state c.noted-ending.new.shell) (command_of (bytes_of c.args.words.now)) c.ended.result
             c.noted-ending.result
             c.noted-ending.ensures.ending c.noted-ending.ensures.silent c.noted-ending.ensures.unasked
             c.noted-ending.ensures.aside c.ended.ensures.done;
@@ -25,13 +25,13 @@ returns-clause-ended g c =
     )
 
 pub returns-clause-complete : goal.returns-clause-complete
-returns-clause-complete g c = λ job is over trusted readable well.
+returns-clause-complete g c = λ job limits is trusted readable well.
     let state = g.S.Disk.state in
     let old = state c.args.shell.now in
     let new = state c.noted-ending.new.shell in
-    completes old new job c.noted-ending.result c.status_of.result c.status_of.ensures over
-    (subst (λ (j : Option Job). HasDone j c.noted-ending.result old new) is
-    (noted_done old (state c.ended.new.shell) new (job_of (bytes_of c.args.words.now)) c.ended.result
+    completes old new job c.noted-ending.result c.status_of.result c.status_of.ensures
+    (subst (λ (j : Option Command). HasDone j c.noted-ending.result old new) is
+    (noted_done old (state c.ended.new.shell) new (command_of (bytes_of c.args.words.now)) c.ended.result
     c.noted-ending.result c.noted-ending.ensures.ending c.noted-ending.ensures.silent
     c.noted-ending.ensures.unasked c.noted-ending.ensures.aside c.ended.ensures.done))
     trusted readable well
@@ -42,19 +42,19 @@ returns-clause-made g c = λ job trusted none well.
     let old = state c.args.shell.now in
     let new = state c.noted-ending.new.shell in
     makes_all old new c.noted-ending.result c.status_of.result c.status_of.ensures
-    (subst (λ (j : Option Job). HasDone j c.noted-ending.result old new) job
-    (noted_done old (state c.ended.new.shell) new (job_of (bytes_of c.args.words.now)) c.ended.result
+    (subst (λ (j : Option Command). HasDone j c.noted-ending.result old new) job
+    (noted_done old (state c.ended.new.shell) new (command_of (bytes_of c.args.words.now)) c.ended.result
     c.noted-ending.result c.noted-ending.ensures.ending c.noted-ending.ensures.silent
     c.noted-ending.ensures.unasked c.noted-ending.ensures.aside c.ended.ensures.done))
     trusted none well
 
-pub returns-clause-reread : goal.returns-clause-reread
-returns-clause-reread g c = λ job e.
+pub returns-clause-after : goal.returns-clause-after
+returns-clause-after g c = λ job limits is e.
     let state = g.S.Disk.state in
-    read_again_noted (state c.args.shell.now) (state c.ended.new.shell)
+    after_noted limits.flush job (state c.args.shell.now) (state c.ended.new.shell)
     (state c.noted-ending.new.shell) c.noted-ending.ensures.silent
     c.noted-ending.ensures.aside.keeps
-    (c.ended.ensures.reread job (noted_whole c.ended.result c.noted-ending.result
+    (c.ended.ensures.after job limits is (noted_whole c.ended.result c.noted-ending.result
     c.noted-ending.ensures.ending (sym c.status_of.ensures ∙ e)))
 
 pub returns-clause-words : goal.returns-clause-words
@@ -62,8 +62,8 @@ returns-clause-words g c =
     let state = g.S.Disk.state in
     let old = state c.args.shell.now in
     let new = state c.noted-ending.new.shell in
-    let both = words_end old new (job_of (bytes_of c.args.words.now)) c.noted-ending.result
-    (noted_done old (state c.ended.new.shell) new (job_of (bytes_of c.args.words.now)) c.ended.result
+    let both = words_end old new (command_of (bytes_of c.args.words.now)) c.noted-ending.result
+    (noted_done old (state c.ended.new.shell) new (command_of (bytes_of c.args.words.now)) c.ended.result
     c.noted-ending.result c.noted-ending.ensures.ending c.noted-ending.ensures.silent
     c.noted-ending.ensures.unasked c.noted-ending.ensures.aside c.ended.ensures.done) in (
       λ e. both.0 (sym c.status_of.ensures ∙ e),

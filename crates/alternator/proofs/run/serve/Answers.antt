@@ -1,5 +1,5 @@
 use Rattle.alt_talks.specs.TalkRules.{rules}
-use Rattle.alt_tables.specs.declared.faults.TableFault.TheVariants.{NoMemory}
+use Rattle.alt_talks.specs.declared.fault.RunFault.TheVariants.{NoMemory}
 use Rattle.alt_tables.proofs.Left.{stands_left}
 use Rattle.alt_talks.specs.TalkStops.{ServedSomeOn}
 use Rattle.alt_talks.proofs.Stretching.{stretch_none}

@@ -4,7 +4,7 @@ use Rattle.alt_lines.specs.Unread.{Unread}
 use Rattle.alt_talks.specs.Runs.{Stretch, Leads}
 use Rattle.alternator.specs.Runs.{ServesAtHand, BreaksAtHand, asked_now}
 use Rattle.alternator.proofs.Pulling.{pull_goes, pull_breaks, pull_memory, pull_ends, pull_end_breaks, pull_failed}
-use Rattle.alternator.proofs.Rereading.{some_taken, rest_taken}
+use Rattle.alternator.proofs.Bringing.{some_taken, rest_taken}
 use Rattle.alt_talks.proofs.Stopping.{ready_kept, stands_kept}
 use Rattle.alternator.proofs.serve.pull.Goals as goal
 
@@ -29,14 +29,14 @@ returns-in-Ok-at_hand-clause-went g c = λ s stands.
     c.end.ensures
     (c.in-Ok-at_hand.ensures.served s (stands_kept _ _ c.in-Ok.ensures.call.keeps _ s stands)))
 
-pub returns-in-Ok-at_hand-clause-reread : goal.returns-in-Ok-at_hand-clause-reread
-returns-in-Ok-at_hand-clause-reread g c =
+pub returns-in-Ok-at_hand-clause-brings : goal.returns-in-Ok-at_hand-clause-brings
+returns-in-Ok-at_hand-clause-brings g c =
     let state = g.S.Disk.state in
     let none : take c.in-Ok.count c.take.new.buf ≡ [] = grind arith in
-    rest_taken (state c.args.shell.now) (state c.take.new.self) (state c.at_hand.new.shell)
+    rest_taken c.args.limits.flush (state c.args.shell.now) (state c.take.new.self) (state c.at_hand.new.shell)
     c.in-Ok.ensures.call.keeps (unread c.args.lines.now)
     (take c.in-Ok.count c.take.new.buf) none c.in-Ok.ensures.taken _ c.end.ensures
-    c.in-Ok-at_hand.ensures.reread
+    c.in-Ok-at_hand.ensures.brings
 
 pub returns-in-Err-clause-went : goal.returns-in-Err-clause-went
 returns-in-Err-clause-went g c = λ s stands.
@@ -84,8 +84,8 @@ returns-in-Ok-at_hand-2-clause-went g c = λ s stands.
     (c.in-Ok-at_hand-2.ensures.served s (stands_kept _ _ c.in-Ok.ensures.call.keeps _ s stands))
     c.in-Ok-at_hand-2.ensures.lines
 
-pub returns-in-Ok-at_hand-2-clause-reread : goal.returns-in-Ok-at_hand-2-clause-reread
-returns-in-Ok-at_hand-2-clause-reread g c =
+pub returns-in-Ok-at_hand-2-clause-brings : goal.returns-in-Ok-at_hand-2-clause-brings
+returns-in-Ok-at_hand-2-clause-brings g c =
     let state = g.S.Disk.state in
     let some : 0 < length (take c.in-Ok.count c.take.new.buf) =
     omega (
@@ -94,10 +94,10 @@ returns-in-Ok-at_hand-2-clause-reread g c =
       c.in-Ok.ensures.count,
       c.if-count-eq0.false,
     ) in
-    some_taken (state c.args.shell.now) (state c.take.new.self) (state c.at_hand-2.new.shell)
+    some_taken c.args.limits.flush (state c.args.shell.now) (state c.take.new.self) (state c.at_hand-2.new.shell)
     c.in-Ok.ensures.call.keeps (unread c.args.lines.now) c.requires.going
     (take c.in-Ok.count c.take.new.buf) some c.in-Ok.ensures.taken _ _
-    c.in-Ok-give.ensures.ok c.in-Ok-at_hand-2.ensures.reread c.in-Ok-at_hand-2.ensures.lines
+    c.in-Ok-give.ensures.ok c.in-Ok-at_hand-2.ensures.brings c.in-Ok-at_hand-2.ensures.lines
 
 pub returns-in-Err-at_hand-clause-went : goal.returns-in-Err-at_hand-clause-went
 returns-in-Err-at_hand-clause-went g c = λ s stands.
@@ -126,6 +126,7 @@ at_hand-requires g c =
     record {
       ready = ready_kept (state c.args.shell.now) (state c.take.new.self) c.args.tables.now
           c.in-Ok.ensures.call.keeps c.requires.ready;
+      known = c.requires.known;
       quiet = c.in-Ok.ensures.talk.talking ∙ c.requires.quiet;
     }
 
@@ -135,5 +136,6 @@ at_hand-requires-2 g c =
     record {
       ready = ready_kept (state c.args.shell.now) (state c.take.new.self) c.args.tables.now
           c.in-Ok.ensures.call.keeps c.requires.ready;
+      known = c.requires.known;
       quiet = c.in-Ok.ensures.talk.talking ∙ c.requires.quiet;
     }

@@ -3,7 +3,7 @@ use Rattle.alternator.specs.Turns.{unread, turned_away}
 use Rattle.alternator.proofs.Serving.{turn_served, turn_cut}
 use Rattle.alternator.proofs.Beginning.{begins_away}
 use Rattle.alt_shell.proofs.Telling.{Grows-nil}
-use Rattle.alternator.proofs.Rereading.{at_hand_said, rereads_unread}
+use Rattle.alternator.proofs.Bringing.{at_hand_said, brings_line}
 use Rattle.alternator.proofs.serve.turn_away.Goals as goal
 
 pub returns-in-Ok-clause-served : goal.returns-in-Ok-clause-served
@@ -14,13 +14,13 @@ returns-in-Ok-clause-served g c = λ s stands.
     turned_away.text (begins_away old c.args.tables.now s stands) refl stands
     c.in-Ok.ensures.call c.in-Ok.ensures.said c.in-Ok.ensures.moments refl
 
-pub returns-in-Ok-clause-reread : goal.returns-in-Ok-clause-reread
-returns-in-Ok-clause-reread g c =
+pub returns-in-Ok-clause-brings : goal.returns-in-Ok-clause-brings
+returns-in-Ok-clause-brings g c = λ flush.
     let state = g.S.Disk.state in
     let old = state c.args.shell.now in
     let new = state c.say.new.self in
-    at_hand_said old old new turned_away.text (unread ∷ []) (Grows-nil old.beside)
-    c.in-Ok.ensures.said (rereads_unread old new)
+    at_hand_said flush old old new turned_away.text (unread ∷ []) (Grows-nil old.beside)
+    c.in-Ok.ensures.said (brings_line flush unread old new tt)
 
 pub returns-in-Err-clause-served : goal.returns-in-Err-clause-served
 returns-in-Err-clause-served g c = λ s stands.

@@ -18,3 +18,6 @@ returns-in-Err-clause-tried g c = λ s stands.
 pub tell-requires : goal.tell-requires
 tell-requires g c =
     record { quiet = ap talks c.requests.ensures.goes.beside ∙ c.requires.quiet }
+
+pub returns-in-Ok-clause-few : goal.returns-in-Ok-clause-few
+returns-in-Ok-clause-few g c = λ some. c.tell.ensures.few _ (c.in-Ok.ensures.few some)

@@ -1,7 +1,9 @@
-use Rattle.std.proofs.Common.{◌≡◌, ◌+◌, ◌-◌, ◌∙◌, ℕ, List, map, sym, ap, subst, arith}
+use Rattle.std.proofs.Common.{◌≡◌, ◌≤◌, ◌+◌, ◌-◌, ◌∙◌, ℕ, List, map, refl, sym, ap, subst, arith}
 use Rattle.alt_disk.proofs.Calls.{goes_refl, goes_on}
 use Rattle.alt_disk.proofs.Runs.{trusted_back}
 use Rattle.alt_lines.specs.Trial.{Generator, generator, generator_from, next_line, next_lines, after_line, trial_lines}
+use Rattle.alt_engine.specs.declared.engine.Limits.{Limits}
+use Rattle.alt_talks.specs.Works.{HasFewEntries}
 use Rattle.alternator.specs.Trials.{trial_turns}
 use Rattle.alternator.specs.Turns.{asked_by}
 use Rattle.alt_talks.specs.Turns.{after}
@@ -22,6 +24,8 @@ requests-init g c =
       omega (arith, c.new-tally.ensures.good),
       omega (arith, c.new-tally.ensures.bad),
       goes_refl a,
+      refl,
+      λ some. absurd (omega (arith, some)),
     )
 
 pub requests-preserved : goal.requests-preserved
@@ -44,6 +48,9 @@ requests-preserved g c =
       omega (arith, c.in-Ok.ensures.good, c.requests.invariant.1),
       omega (arith, c.in-Ok.ensures.bad, c.requests.invariant.2),
       goes_on a b d c.requests.invariant.3 c.step.ensures.goes,
+      c.in-Ok.ensures.limits ∙ c.requests.invariant.4,
+      λ some. subst (λ (limits : Limits). HasFewEntries limits.flush d) c.requests.invariant.4
+          c.in-Ok.ensures.few,
     )
 
 pub returns-clause-counted : goal.returns-clause-counted
@@ -76,3 +83,8 @@ step-requires-clause-ready g c = λ trusted.
     let first = c.requires.ready (trusted_back (state c.args.disk.now) (state c.requests.disk)
     c.requests.invariant.3 trusted) in
     (after first.0 (trial_turns first.0 (map asked_by p.done)), (p.counted first.0 first.1).stands)
+
+pub returns-clause-few : goal.returns-clause-few
+returns-clause-few g c = λ some.
+    let all : c.args.count ≤ c.requests.counter = omega arith in
+    c.requests.invariant.5 (omega (arith, some, all))

@@ -3,7 +3,7 @@ use Rattle.std.specs.Prelude.{MatchResult}
 use Rattle.alt_lines.specs.Trial.{generator, next_line}
 use Rattle.alternator.specs.Trials.{Counted, CountedSome}
 use Rattle.alternator.specs.Turns.{Asked, asked_by}
-use Rattle.alt_tables.specs.declared.faults.TableFault.{TableFault}
+use Rattle.alt_talks.specs.declared.fault.RunFault.{RunFault}
 use Rattle.alternator.proofs.Trying.{asked_parts, none_begun}
 use Rattle.alternator.proofs.trial.step.Goals as goal
 
@@ -22,7 +22,7 @@ returns-in-Ok-clause-counted g c = λ s stands.
 pub returns-in-Err-clause-counted : goal.returns-in-Err-clause-counted
 returns-in-Err-clause-counted g c = λ s stands.
     let a = g.D.Disk.state c.args.disk.now in
-    subst (λ (f : TableFault). CountedSome f s
+    subst (λ (f : RunFault). CountedSome f s
     (asked_by (next_line (generator c.args.trial.now)) ∷ []) a a)
     (sym c.in-Err.ensures.err)
     (none_begun a c.args.tables.now s (asked_by (next_line (generator c.args.trial.now)) ∷ []) stands)

@@ -1,5 +1,6 @@
 use Rattle.std.proofs.Common.{◌∙◌, []}
 use Rattle.alternator.specs.Trials.{trial_asks, trial_turns}
+use Rattle.alternator.proofs.Bringing.{few_kept}
 use Rattle.alternator.proofs.Trying.{trial_memory, trial_said, trial_cut}
 use Rattle.alternator.proofs.trial.tell.Goals as goal
 
@@ -25,3 +26,8 @@ returns-clause-told g c = λ old s seed tables none empty goes counted.
     (c.as_bytes.ensures.value ∙ c.in-Ok.ensures (trial_turns s (trial_asks seed c.args.count))
     (counted.counts [] empty))
     c.in-Err.ensures.call c.in-Err.ensures.moments c.in-Err.ensures.said
+
+pub returns-in-Ok-say-clause-few : goal.returns-in-Ok-say-clause-few
+returns-in-Ok-say-clause-few g c = λ flush few.
+    let state = g.S.Disk.state in
+    few_kept flush (state c.args.shell.now) (state c.say.new.self) c.in-Ok-say.ensures.call.keeps few

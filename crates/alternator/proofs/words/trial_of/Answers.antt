@@ -5,14 +5,14 @@ use Rattle.alternator.specs.Words.{bytes_of}
 use Rattle.alternator.proofs.Numbers.{trial_few, trial_many}
 use Rattle.alternator.proofs.words.trial_of.Goals as goal
 
-pub returns-in_default-clause-job : goal.returns-in_default-clause-job
-returns-in_default-clause-job c =
+pub returns-in_default-clause-command : goal.returns-in_default-clause-command
+returns-in_default-clause-command c =
     let l = length-map c.args.words.now string_bytes in
     let k = c.in_default.len_below in
     trial_few (bytes_of c.args.words.now) (omega (arith, l, k))
 
-pub returns-in_default-2-clause-job : goal.returns-in_default-2-clause-job
-returns-in_default-2-clause-job c =
+pub returns-in_default-2-clause-command : goal.returns-in_default-2-clause-command
+returns-in_default-2-clause-command c =
     let l = length-map c.args.words.now string_bytes in
     let k = c.in_default.len_at_least in
     trial_many (bytes_of c.args.words.now) (omega (arith, l, k))

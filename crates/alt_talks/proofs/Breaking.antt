@@ -1,0 +1,124 @@
+-- Why turns broke off, with more entries and behind more turns.
+use Rattle.std.proofs.Common.{◌≡◌, ◌⊎◌, inl, inr, ℕ, List, [], ◌∷◌, ◌++◌, length, Bool, true, false, Option, None, refl, sym, ap, subst, ◌∙◌, append_assoc, append-nil, arith, length-append}
+use Rattle.std.specs.Prelude.{◌||◌}
+use Rattle.std.proofs.lemmas.Bool.{true≢false}
+use Rattle.alt_machine.specs.State.{State}
+use Rattle.alt_machine.specs.Wanted.{Lack}
+use Rattle.alt_shell.specs.Log.{Log, said_in, says_failed}
+use Rattle.alt_talks.specs.Faults.{IsCausedBy, IsWorkFault}
+use Rattle.alt_talks.specs.Stretches.{SaidOf, Does, DoesSome, IsWorking, BreaksFor}
+use Rattle.alt_talks.specs.Talks.{Turn, asked, Request, Rules, has_refused}
+use Rattle.alt_talks.specs.TalkTexts.{text, after, asks, wanted}
+use Rattle.alt_talks.specs.declared.fault.RunFault.{RunFault}
+use Rattle.alt_talks.proofs.Stretching.{said_in-append}
+use Rattle.alt_talks.proofs.TalkFolds.{asks-append, text-append, wanted-append}
+use Rattle.alt_talks.proofs.TalkIdle.{exact_count}
+use Rattle.alt_talks.proofs.TalkLogs.{broken-append, or-assoc}
+
+-- with entries that say the same
+pub breaks_same : (r : Rules) (fault : RunFault) (s : State) (m : Bool) (ts : List Turn) (es fs : Log)
+    (ms : List ℕ) → said_in fs ≡ said_in es → says_failed fs ≡ says_failed es
+    → BreaksFor r fault s m ts es ms → BreaksFor r fault s m ts fs ms
+breaks_same r fault s m ts es fs ms said failed (inl cause) = inl cause
+breaks_same r fault s m ts es fs ms said failed (inr work) = inr (
+  work.0,
+  record {
+    before = work.1.before;
+    request = work.1.request;
+    rest = work.1.rest;
+    parts = work.1.parts;
+    count = work.1.count;
+    enough = work.1.enough;
+    heard = ap (λ (b : Bool). m || b) failed ∙ work.1.heard;
+    said = said ∙ work.1.said;
+  },
+)
+
+-- neither is so
+first_false : (a b : Bool) → (a || b) ≡ false → a ≡ false
+first_false true b e = absurd (true≢false e)
+first_false false b e = refl
+
+-- what was said where no say failed is all
+all_said : (n : Bool) (some whole : List ℕ) → n ≡ false → SaidOf n some whole → some ≡ whole
+all_said true some whole e said = absurd (true≢false e)
+all_said false some whole e said = said
+
+-- behind turns that were done, without a refusal
+module _ (r : Rules) (fault : RunFault) (s t : State) (m n : Bool) (ts us : List Turn) (es fs : Log)
+    (ms ns : List ℕ) (clear : has_refused ts ≡ false) (a : Does r s m ts t n es ms) where
+  told : length ms ≡ asks ts
+  told = exact_count r s t m n ts es ms clear a
+
+  same_wanted : wanted r t us ns ≡ wanted r s (ts ++ us) (ms ++ ns)
+  same_wanted = ap (λ v. wanted r v us ns) a.state ∙ sym (wanted-append r s ts us ms ns told a.enough)
+
+  working : IsWorking r t n us fs ns → IsWorking r s m (ts ++ us) (es ++ fs) (ms ++ ns)
+  working w =
+      let last : List Turn = asked w.request ∷ [] in
+      let none : n ≡ false = first_false n (says_failed fs) w.heard in record {
+        before = ts ++ w.before;
+        request = w.request;
+        rest = w.rest;
+        parts = ap (λ l. ts ++ l) w.parts ∙ sym (append_assoc ts w.before (asked w.request ∷ w.rest));
+        count = let same = ap asks (append_assoc ts w.before last) in
+            let x = length-append ms ns in let y = asks-append ts (w.before ++ last) in
+            let z = told in let k = w.count in omega (arith, same, x, y, z, k);
+        enough = sym same_wanted ∙ w.enough;
+        heard = ap (λ (b : Bool). m || b) (broken-append es fs)
+            ∙ or-assoc m (says_failed es) (says_failed fs)
+            ∙ sym (ap (λ (b : Bool). b || says_failed fs) a.broke) ∙ w.heard;
+        said = said_in-append es fs
+            ∙ ap (λ (bs : List ℕ). bs ++ said_in fs)
+            (all_said n (said_in es) (text r s ts ms) none a.said)
+            ∙ ap (λ (bs : List ℕ). text r s ts ms ++ bs)
+            (w.said ∙ ap (λ (v : State). text r v (w.before ++ last) ns) a.state)
+            ∙ sym (text-append r s ts (w.before ++ last) ms ns told)
+            ∙ ap (λ (ks : List Turn). text r s ks (ms ++ ns)) (sym (append_assoc ts w.before last));
+      }
+
+  pub breaks_behind : BreaksFor r fault t n us fs ns
+      → BreaksFor r fault s m (ts ++ us) (es ++ fs) (ms ++ ns)
+  breaks_behind (inl cause) =
+      inl (subst (λ (l : Option Lack). IsCausedBy l fault) same_wanted cause)
+  breaks_behind (inr work) = inr (work.0, working work.1)
+
+-- a request was carried out and its reply said, and then work broke off
+pub broke_behind : (r : Rules) (fault : RunFault) (s t : State) (m n : Bool) (q : Request) (es : Log)
+    (ms : List ℕ) → IsWorkFault fault → n ≡ false → Does r s m (asked q ∷ []) t n es ms
+    → DoesSome r fault s m (asked q ∷ []) es ms
+broke_behind r fault s t m n q es ms why none a =
+    let one : length ms ≡ asks (asked q ∷ []) = exact_count r s t m n (asked q ∷ []) es ms refl a in
+    let said : said_in es ≡ text r s (asked q ∷ []) ms =
+    all_said n (said_in es) (text r s (asked q ∷ []) ms) none a.said in record {
+      said = ([], sym said ∙ sym (append-nil (said_in es)));
+      most = omega (arith, one);
+      wants = inr (
+        why,
+        record {
+          before = [];
+          request = q;
+          rest = [];
+          parts = refl;
+          count = one;
+          enough = a.enough;
+          heard = sym a.broke ∙ none;
+          said = said;
+        },
+      );
+      silent = λ e. (a.silent e).0;
+      hush = a.hush;
+      still = a.still;
+      begins = record {
+        done = [];
+        begun = asked q ∷ [];
+        rest = [];
+        parts = refl;
+        few = omega arith;
+        count = inl one;
+        enough = wanted-nothing r s ms;
+      };
+    }
+  where
+    wanted-nothing : (r : Rules) (s : State) (ms : List ℕ) → wanted r s [] ms ≡ None
+    wanted-nothing r s ms = refl

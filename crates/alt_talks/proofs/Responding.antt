@@ -1,0 +1,58 @@
+-- A request that was carried out and answered, and the step of work behind it.
+use Rattle.std.proofs.Common.{◌≡◌, ℕ, List, [], ◌∷◌, Bool, false, None, subst}
+use Rattle.alt_disk.specs.Disk.{DiskState, IsTrusted}
+use Rattle.alt_machine.specs.State.{State}
+use Rattle.alt_shell.specs.Calls.{Keeps}
+use Rattle.alt_shell.specs.Log.{Log}
+use Rattle.alt_talks.specs.Faults.{IsWorkFault}
+use Rattle.alt_talks.specs.Runs.{OfStretch, Stretch}
+use Rattle.alt_talks.specs.Stops.{AreWithin}
+use Rattle.alt_talks.specs.Stretches.{Utters}
+use Rattle.alt_talks.specs.Talks.{asked, Rules, Lawful, Request}
+use Rattle.alt_talks.specs.TalkStops.{AnswersOn, AnswersSomeOn, LeavesNow}
+use Rattle.alt_talks.specs.Works.{Works}
+use Rattle.alt_talks.specs.declared.fault.RunFault.{RunFault}
+use Rattle.alt_talks.proofs.Stopping.{trusts-kept}
+use Rattle.alt_talks.proofs.Stretching.{stretch_goes}
+use Rattle.alt_talks.proofs.TalkLeaving.{Asked, asked_on, told_then, worked_on, worked_some_on}
+
+module _ (r : Rules) (w : Lawful r) (old done new last : DiskState) (s : State) (m n : Bool)
+    (q : Request) (at : ℕ) (bytes : List ℕ) (front : Asked r old done s q at)
+    (enough : r.wants s q at ≡ None) (here : LeavesNow done (r.next s q at)) (keeps : Keeps done new)
+    (same : bytes ≡ r.reply s q at) (said : Stretch done new (λ _ _. Utters m bytes n))
+    (works : Works new last (r.next s q at)) where
+  abbrev Spoken : OfStretch
+  Spoken = λ _ _ es ms. AreWithin done.moment new.moment es × Utters m (r.reply s q at) n es ms
+
+  -- what was said stays said behind the work
+  spoken : Stretch done last Spoken
+  spoken = stretch_goes done new last {P = λ _ _. Utters m bytes n} {Q = Spoken}
+      (λ es ms within u. (within, subst (λ (bs : List ℕ). Utters m bs n es ms) same u))
+      said works.goes
+
+  trusts : IsTrusted old → IsTrusted new
+  trusts trusted = trusts-kept done new keeps (front.trusts trusted)
+
+  one : (fs : Log) (ns : List ℕ) → AreWithin done.moment new.moment fs
+      → Utters m (r.reply s q at) n fs ns
+      → AnswersOn r s m (asked q ∷ []) (r.next s q at) n old new fs (at ∷ ns)
+  one fs ns within u = asked_on r w old done new s m n q at fs ns front enough here keeps within u
+
+  -- the step was made
+  pub step_made : Stretch old last (AnswersOn r s m (asked q ∷ []) (r.next s q at) n)
+  step_made = told_then old done last {Q = Spoken}
+      {R = AnswersOn r s m (asked q ∷ []) (r.next s q at) n} at front.silent front.told front.later
+      front.trusts
+      (λ fs ns within x. worked_on r w old new last s m n q at fs ns (one fs ns x.0 x.1) x.1.by
+      trusts works)
+      spoken
+
+  -- or it broke off
+  pub step_broke : (fault : RunFault) → IsWorkFault fault → n ≡ false
+      → Stretch old last (AnswersSomeOn r fault s m (asked q ∷ []))
+  step_broke fault why heard = told_then old done last {Q = Spoken}
+      {R = AnswersSomeOn r fault s m (asked q ∷ [])} at front.silent front.told front.later
+      front.trusts
+      (λ fs ns within x. worked_some_on r w old new last s m n q at fs ns fault
+      (one fs ns x.0 x.1) x.1.by trusts works why heard)
+      spoken

@@ -1,0 +1,28 @@
+-- Work on the store between two turns: it says and takes nothing, and changes no state.
+use Rattle.std.specs.Prelude.{◌≡◌, ◌<◌, ◌*◌, ℕ}
+use Rattle.alt_disk.specs.Disk.{DiskState, Goes, IsTrusted}
+use Rattle.alt_engine.specs.Working.{HasEntries}
+use Rattle.alt_engine.specs.declared.work.Task.{Task}
+use Rattle.alt_engine.specs.declared.work.Task.TheVariants.{Step, FlushAll}
+use Rattle.alt_machine.specs.State.{State}
+use Rattle.alt_tables.specs.Images.{StandsFor}
+use Rattle.alt_talks.specs.Stops.{AtEach}
+
+-- Work on a store that stands for a state: calls of the disk alone, and whatever a stop leaves at a moment of them stands for that state.
+pub record Works (old new : DiskState) (s : State) : Type 0 where
+  pub goes : Goes old new
+  pub leaves : AtEach old new (λ _ image. StandsFor image s)
+
+-- On a disk that can be relied on, the lengths of the entries of the segments that the last version names add up to fewer than 16 times
+-- so many bytes.
+abbrev pub HasFewEntries : ℕ → DiskState → Type 0
+HasFewEntries flush disk = IsTrusted disk → (n : ℕ) → HasEntries disk.file n → n < 16 * flush
+
+-- These segments have no entries.
+abbrev pub HasNoEntries : DiskState → Type 0
+HasNoEntries disk = IsTrusted disk → (n : ℕ) → HasEntries disk.file n → n ≡ 0
+
+-- What a task leaves of them, where a family is flushed from so many bytes on.
+abbrev pub AfterWork : Task → ℕ → DiskState → Type 0
+AfterWork Step flush disk = HasFewEntries flush disk
+AfterWork FlushAll flush disk = HasNoEntries disk

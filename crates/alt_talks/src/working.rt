@@ -1,0 +1,35 @@
+//! Work on the store between two turns, for nobody's request.
+
+ghost use Rattle.std.specs.Prelude.{◌≡◌, IfErr, OnOk, IsErrOf};
+ghost use Rattle.alt_base.specs.Counts.{Rose};
+ghost use Rattle.alt_disk.specs.Disk.{Goes};
+ghost use Rattle.alt_machine.specs.State.{State};
+ghost use Rattle.alt_tables.specs.Stands.{AreReady, Stands, limits_of};
+ghost use Rattle.alt_talks.specs.Faults.{IsWorkFault};
+ghost use Rattle.alt_talks.specs.Works.{AfterWork, Works};
+
+use crate::fault::RunFault;
+use alt_disk::Disk;
+use alt_tables::{Tables, Task};
+
+/// Does a task on the store. The tables stand for the state for which they stood.
+pub fn work<D: Disk>(tables: &mut Tables, disk: &mut D, task: Task) -> Result<(), RunFault>
+    requires ready { AreReady (D.state disk.old) tables.old }
+    ensures stands { (s : State) → Stands (D.state disk.old) tables.old s
+        → OnOk result (Stands (D.state disk.new) tables.new s) }
+    ensures works { (s : State) → Stands (D.state disk.old) tables.old s
+        → Works (D.state disk.old) (D.state disk.new) s }
+    ensures fault { (s : State) → Stands (D.state disk.old) tables.old s
+        → IfErr result IsWorkFault }
+    ensures limits { limits_of tables.new ≡ limits_of tables.old }
+    ensures entries { OnOk result (AfterWork task (limits_of tables.old).flush
+        (D.state disk.new)) }
+    ensures goes { Goes (D.state disk.old) (D.state disk.new) }
+    ensures cause { IsErrOf result RunFault.Failed
+        → Rose (D.state disk.old).faults (D.state disk.new).faults }
+{
+    match tables.work(disk, task) {
+        Ok(_) => Ok(()),
+        Err(fault) => Err(RunFault::from(fault)),
+    }
+}

@@ -35,7 +35,6 @@ use Rattle.alt_shape.specs.Body.{body_json, items_json}
 use Rattle.alt_shape.specs.Refusals.{Answer, answered, answer_of}
 use Rattle.alt_shape.specs.declared.refusal.Reply.{Reply}
 use Rattle.alt_tables.specs.declared.faults.TableFault.TheVariants.{Spent, Damaged, BadRow, Failed, NoMemory}
-use Rattle.alt_tables.proofs.Making.{none_made}
 use Rattle.alt_value.specs.Tree.{Pair}
 
 -- the page whose items were examined
@@ -132,7 +131,7 @@ fault_does now s outcome (Fault (Spent n)) h stands = absurd h
 fault_does now s outcome (Fault (Damaged file at)) h stands = absurd h
 fault_does now s outcome (Fault (BadRow family key)) h stands = absurd h
 fault_does now s outcome (Fault Failed) h stands = tt
-fault_does now s outcome (Fault NoMemory) h stands = (0, none_made outcome.atoms, refl, stands)
+fault_does now s outcome (Fault NoMemory) h stands = tt
 
 -- and that is what is handed on
 pub does_fault : (now : State → Type 0) (s : State) (outcome : Outcome) (r : Result Reply Stop)

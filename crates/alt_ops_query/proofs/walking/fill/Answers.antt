@@ -53,6 +53,7 @@ steps-preserved g c = record {
     catalog = c.step.ensures.catalog.catalog ∙ c.steps.invariant.catalog.catalog;
     number = c.step.ensures.catalog.number ∙ c.steps.invariant.catalog.number;
     family = c.step.ensures.catalog.family ∙ c.steps.invariant.catalog.family;
+    limits = c.step.ensures.catalog.limits ∙ c.steps.invariant.catalog.limits;
   };
   disk = reads_then (g.D.Disk.state c.args.disk.now) (g.D.Disk.state c.steps.disk)
       (g.D.Disk.state c.step.new.disk) c.steps.invariant.disk c.step.ensures.disk;
@@ -64,3 +65,15 @@ pub returns-in-Err-clause-fault : goal.returns-in-Err-clause-fault
 returns-in-Err-clause-fault g c s t ask stands at h =
     let so = c.steps.invariant.walked s t ask stands at h in
     c.in-Err.ensures.fault s t ask so.seen ((c.steps.invariant.stays s).0 stands) at so.examined
+
+pub returns-in-Ok-None-clause-stays : goal.returns-in-Ok-None-clause-stays
+returns-in-Ok-None-clause-stays g c s = (
+  λ stands. (c.in-Ok-None.ensures.stays s).0 ((c.steps.invariant.stays s).0 stands),
+  λ stands. (c.steps.invariant.stays s).1 ((c.in-Ok-None.ensures.stays s).1 stands),
+)
+
+pub returns-in-Err-clause-stays : goal.returns-in-Err-clause-stays
+returns-in-Err-clause-stays g c s = (
+  λ stands. (c.in-Err.ensures.stays s).0 ((c.steps.invariant.stays s).0 stands),
+  λ stands. (c.steps.invariant.stays s).1 ((c.in-Err.ensures.stays s).1 stands),
+)

@@ -10,7 +10,7 @@ ghost use Rattle.alt_schema.specs.Indexes.{indexes};
 ghost use Rattle.alt_ops_query.specs.Asked.{Segments};
 ghost use Rattle.alt_ops_query.specs.Tokens.{segment_in, first_token, token_bytes, end_token};
 ghost use Rattle.alt_request.specs.Carried.{Carries, Moves};
-ghost use Rattle.alt_tables.specs.Stands.{AreReady, Stands};
+ghost use Rattle.alt_tables.specs.Stands.{AreReady, Stands, limits_of};
 
 use crate::pages::page_of_range;
 use crate::places::{beyond, walk_start};
@@ -56,6 +56,7 @@ pub fn scan<D: Disk>(
     requires ready { AreReady (D.state disk.old) tables.old }
     ensures carried { Carries (λ s. scan s (members_view body.now.entries))
         (Stands (D.state disk.old) tables.old) (Stands (D.state disk.new) tables.new) result }
+    ensures limits { limits_of tables.new ≡ limits_of tables.old }
     ensures moves { Moves (λ s. scan s (members_view body.now.entries))
         (Stands (D.state disk.old) tables.old) (D.state disk.old) (D.state disk.new) result }
 {

@@ -143,9 +143,9 @@ fn keep_named<D: Disk>(alloc: Global, disk: &mut D, engine: Engine) -> Result<En
     }
     engine.next_file = next_file(engine.next_file, names.as_slice());
     engine.full = has_full(&engine.families, engine.limits.flush);
-    match remove_others(disk, names.as_slice(), engine.manifest.current()) {
+    match remove_others(alloc, disk, names.as_slice(), engine.manifest.current()) {
         Ok(()) => Ok(engine),
-        Err(_) => Err(RecoverFault::Failed),
+        Err(fault) => Err(disk_fault(fault)),
     }
 }
 

@@ -1,28 +1,28 @@
 -- What was carried out settles the request, once its refusal is told.
 use Rattle.std.proofs.Common.{◌≡◌, refl, sym, subst, ◌∙◌, Result, Ok, Err, OnOk}
 use Rattle.std.specs.Prelude.{IsErrOf}
+use Rattle.alt_disk.specs.Disk.{DiskState}
 use Rattle.alt_machine.specs.Outcomes.{Outcome, last_state}
 use Rattle.alt_machine.specs.State.{State}
 use Rattle.alt_machine.specs.Valid.{IsValid}
 use Rattle.alt_dispatch.specs.Settled.{Settles, Tells}
-use Rattle.alt_request.specs.Carried.{IsAnswered, IsRefused, Does, IfFailed, WhereFailed}
+use Rattle.alt_request.specs.Carried.{IsAnswered, IsRefused, Does, IfFailed, Moves, WhereFailed, WhereWanting}
 use Rattle.alt_request.specs.declared.stop.Stop.{Stop}
 use Rattle.alt_request.specs.declared.stop.Stop.TheVariants.{Refused, Fault}
 use Rattle.alt_shape.specs.declared.refusal.Refusal.{Refusal}
 use Rattle.alt_shape.specs.declared.refusal.Reply.{Reply}
-use Rattle.alt_tables.proofs.Making.{none_made}
+use Rattle.alt_tables.proofs.Behind.{wants_none}
+use Rattle.alt_tables.proofs.Left.{reads_lasts}
+use Rattle.alt_tables.specs.Faults.{WantsMemory}
+use Rattle.alt_tables.specs.Stands.{Stands}
+use Rattle.alt_tables.specs.declared.tables.Tables.{Tables}
 use Rattle.alt_tables.specs.declared.faults.TableFault.{TableFault}
 use Rattle.alt_tables.specs.declared.faults.TableFault.TheVariants.{Failed, NoMemory}
 
 module _ (now : State → Type 0) (s : State) (outcome : Outcome) where
   -- where the refusal isn't told for want of memory, nothing was written
   untold : (r : Refusal) → IsRefused now s outcome r → Settles now s outcome (Err NoMemory)
-  untold r h = (
-    0,
-    none_made outcome.atoms,
-    refl,
-    subst (λ atoms. now (last_state s atoms)) h.unwritten h.answered.state,
-  )
+  untold r h = tt
 
   -- what was carried out settles the request: its answer as it is, its refusal as it is told
   pub settled : (carried : Result Reply Stop) (told : Result Reply TableFault)
@@ -50,3 +50,22 @@ told_failed P (Err (Refused r)) (Err fault) h is e = absurd (let g : ⊥ = cc in
 told_failed P (Err (Fault f)) told h is e =
     let so : Err f ≡ Err Failed = sym is ∙ e in
     subst (λ (g : TableFault). WhereFailed g P) (let same : f ≡ Failed = cc in same) h
+
+-- where it tells that memory was wanting, the disk stands for the state after some of the writes: so it was for the operation, or the refusal wasn't
+-- told for want of it
+pub told_wants : (before after : DiskState) (tables : Tables) (s : State) (outcome : State → Outcome)
+    → Stands before tables s → (carried : Result Reply Stop) (told : Result Reply TableFault)
+    → Moves outcome (Stands before tables) before after carried → Tells carried told
+    → IsErrOf told NoMemory → WantsMemory after (outcome s).wants s (outcome s).atoms
+told_wants before after tables s outcome stands (Ok reply) told moves is e =
+    absurd (let none : Ok reply ≡ Err NoMemory = sym is ∙ e in let g : ⊥ = cc in g)
+told_wants before after tables s outcome stands (Err (Refused r)) (Ok reply) moves is e =
+    absurd (let g : ⊥ = cc in g)
+told_wants before after tables s outcome stands (Err (Refused r)) (Err fault) moves is e =
+    wants_none after (outcome s).wants s (outcome s).atoms (reads_lasts before after tables s
+    (record { goes = moves.goes; quiet = moves.refused }) stands)
+told_wants before after tables s outcome stands (Err (Fault f)) told moves is e =
+    let so : Err f ≡ Err NoMemory = sym is ∙ e in
+    subst (λ (g : TableFault). WhereWanting g
+    (WantsMemory after (outcome s).wants s (outcome s).atoms))
+    (let same : f ≡ NoMemory = cc in same) (moves.wanting s stands)

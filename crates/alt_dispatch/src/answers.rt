@@ -15,6 +15,7 @@ ghost use Rattle.alt_machine.specs.Step.{step, operates, with_body};
 ghost use Rattle.alt_machine.specs.Valid.{IsValid};
 ghost use Rattle.alt_dispatch.specs.Settled.{Settles, Tells};
 ghost use Rattle.alt_request.specs.Carried.{Carries, IsPlain, Moves};
+ghost use Rattle.alt_tables.specs.Faults.{WantsMemory};
 ghost use Rattle.alt_tables.specs.Images.{Leaves};
 ghost use Rattle.alt_tables.specs.Stands.{AreReady, Stands, limits_of};
 ghost use Rattle.alt_shape.specs.Body.{body_json};
@@ -87,10 +88,15 @@ pub fn answer<D: Disk>(
 ) -> Result<Reply, TableFault>
     requires ready { AreReady (D.state disk.old) tables.old }
     // Ok has the answer and leaves the state after the last write, and none of the writes lacked a number or a family; an error has its
-    // cause, and leaves the state after some of the writes.
+    // cause.
     ensures settles { (s : State) → Stands (D.state disk.old) tables.old s
         → Settles (Stands (D.state disk.new) tables.new) s
         (step s operation body.now moment) result }
+    // Where memory was wanting the disk stands for the state after some of the writes.
+    ensures wanting { IsErrOf result TableFault.NoMemory → (s : State)
+        → Stands (D.state disk.old) tables.old s
+        → WantsMemory (D.state disk.new) (step s operation body.now moment).wants s
+        (step s operation body.now moment).atoms }
     // What holds of every state from the empty store on goes on to hold.
     ensures valid { (s : State) → Stands (D.state disk.old) tables.old s
         → OnOk result (IsValid (last_state s (step s operation body.now moment).atoms)) }

@@ -1,6 +1,6 @@
 -- What was carried out, once its refusal is told.
 use Rattle.alt_machine.specs.Step.{step}
-use Rattle.alt_dispatch.proofs.Settling.{settled, settled_valid, told_failed}
+use Rattle.alt_dispatch.proofs.Settling.{settled, settled_valid, told_failed, told_wants}
 use Rattle.alt_tables.specs.Stands.{Stands}
 use Rattle.alt_dispatch.proofs.answers.answer.Goals as goal
 
@@ -26,3 +26,9 @@ returns-clause-goes g c = c.respond-carried.ensures.moves.goes
 pub returns-clause-cause : goal.returns-clause-cause
 returns-clause-cause g c = told_failed _ c.respond-carried.result c.told.result
     c.respond-carried.ensures.moves.failed c.told.ensures.told
+
+pub returns-clause-wanting : goal.returns-clause-wanting
+returns-clause-wanting g c none s stands =
+    told_wants (g.D.Disk.state c.args.disk.now) (g.D.Disk.state c.respond-carried.new.disk)
+    c.args.tables.now s (λ r. step r c.args.operation c.args.body.now c.args.moment) stands
+    c.respond-carried.result c.told.result c.respond-carried.ensures.moves c.told.ensures.told none

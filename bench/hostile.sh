@@ -81,6 +81,28 @@ nested() {
   }'
 }
 deep() { printf '%s\nPutItem {"TableName":"Tab","Item":{"k":{"S":"a"},%s}}\n' "$create" "$(nested "$1")"; }
+# unread COUNT: a member that nobody reads, with so many times 120 maps of one entry in one another
+unread() {
+  awk -v count="$1" 'BEGIN {
+    for (i = 0; i < 120; i++) { open = open "{\"a\":"; close_ = close_ "}" }
+    printf "ListTables {\"Other\":["
+    for (i = 0; i < count; i++) printf "%s%snull%s", (i > 0 ? "," : ""), open, close_
+    print "]}"
+  }'
+}
+# batch COUNT: a batch of so many deletions; given COUNT: an update beside so many values; named COUNT: one beside so many names
+batch() { printf '%s\nBatchWriteItem {"RequestItems":{"Tab":[%s]}}\n' "$create" "$(pieces "$1" '{"DeleteRequest":{"Key":{"k":{"S":"%06d"}}}}' ',')"; }
+given() { printf '%s\nUpdateItem {"TableName":"Tab","Key":{"k":{"S":"a"}},"UpdateExpression":"SET a=:v000001","ExpressionAttributeValues":{%s}}\n' "$create" "$(pieces "$1" '":v%06d":{"S":"x"}' ',')"; }
+named() { printf '%s\nUpdateItem {"TableName":"Tab","Key":{"k":{"S":"a"}},"UpdateExpression":"REMOVE #n000001","ExpressionAttributeNames":{%s}}\n' "$create" "$(pieces "$1" '"#n%06d":"x"' ',')"; }
+# changed PUT TEXT: an update by a text, beside a value of BYTES bytes, of the item that PUT has more of
+changed() {
+  printf '%s\nPutItem {"TableName":"Tab","Item":{"k":{"S":"a"},%s}}\n' "$create" "$1"
+  printf 'UpdateItem {"TableName":"Tab","Key":{"k":{"S":"a"}},"UpdateExpression":"%s","ExpressionAttributeValues":{":v":%s}}\n' "$2" "$3"
+}
+# the long text as it is, in a list, in a set
+plain() { printf '{"S":"%s"}' "$(long)"; }
+listed() { printf '{"L":[{"S":"%s"}]}' "$(long)"; }
+in_set() { printf '{"SS":["%s"]}' "$(long)"; }
 
 # ---- the cases
 
@@ -95,6 +117,14 @@ measured "a condition that names a value once" text UpdateItem ConditionExpressi
 measured "a condition that names it 500 times" text UpdateItem ConditionExpression "$(pieces 500 'k=:v' ' OR ')" "$values"
 measured "an update that names it 500 times and is refused" text UpdateItem UpdateExpression "ADD $(pieces 500 'a%03d :v' ',')" "$values"
 measured "an update that puts it 500 times" text UpdateItem UpdateExpression "SET $(pieces 500 'a%03d=:v' ',')" "$values"
+measured "an update that puts it 450 times into a list" changed '"l":{"L":[]}' "SET $(pieces 450 'l[%d]=:v' ',')" "$(plain)"
+measured "an update that puts it 400 times into a map" changed '"m":{"M":{}}' "SET $(pieces 400 'm.b%d=:v' ',')" "$(plain)"
+measured "an update that appends it 150 times to itself" changed '"m":{"M":{}}' "SET $(pieces 150 'a%d=list_append(:v,:v)' ',')" "$(listed)"
+measured "an update that adds it to 400 sets" changed "$(pieces 400 '"a%03d":{"SS":["x"]}' ',')" "ADD $(pieces 400 'a%03d :v' ',')" "$(in_set)"
+measured "a member that nobody reads, 4 MB" unread 5500
+measured "a batch of 100,000 members" batch 100000
+measured "an update beside 200,000 values" given 200000
+measured "an update beside 200,000 names" named 200000
 measured "a condition that names an attribute once" text UpdateItem ConditionExpression "#n = k" "$names"
 measured "a condition that names it 500 times, an attribute" text UpdateItem ConditionExpression "$(pieces 500 '#n=k' ' OR ')" "$names"
 measured "an update that names it 500 times and is refused, an attribute" text UpdateItem UpdateExpression "REMOVE $(pieces 500 '#n[%d]' ',')" "$names"

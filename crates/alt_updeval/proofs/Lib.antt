@@ -1,11 +1,14 @@
 pub mod All
 pub mod Groups
 pub mod Here
+pub mod Large
 pub mod Lists
 pub mod Maps
 pub mod Pieces
 pub mod Rebuilt
+pub mod Sketches
 pub mod Smaller
+pub mod StandIns
 pub mod Steps
 pub mod Taking
 pub mod TermLaws

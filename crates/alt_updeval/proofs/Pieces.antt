@@ -2,17 +2,19 @@
 use Rattle.std.proofs.Common.{◌≡◌, refl, sym, ap, ◌∙◌, List, [], ◌∷◌, ◌++◌, append_assoc, append-nil}
 use Rattle.std.specs.Prelude.{Ok}
 use denote.Ref.{Bor}
+use Rattle.alt_value.specs.Stands.{tree_of}
+use Rattle.alt_value.specs.declared.attr.Attr.{Attr}
 use Rattle.alt_value.specs.Tree.{Tree, L_tree, trees_of, elements}
 use Rattle.alt_value.proofs.Trees.{elements-trees_of}
 use Rattle.alt_expr.specs.Updated.{joined}
-use Rattle.alt_updeval.specs.Shown.{joined_pieces, list_in}
+use Rattle.alt_updeval.specs.Shown.{elements_of, joined_pieces, list_in}
 
 -- pieces one behind another are joined one behind another
-pub pieces-append : (xs ys : List (Bor (List Tree)))
+pub pieces-append : (xs ys : List (Bor Attr))
     → joined_pieces (xs ++ ys) ≡ joined_pieces xs ++ joined_pieces ys
 pieces-append [] ys = refl
-pieces-append (x ∷ xs) ys = ap (λ l. x.now ++ l) (pieces-append xs ys)
-    ∙ sym (append_assoc x.now (joined_pieces xs) (joined_pieces ys))
+pieces-append (x ∷ xs) ys = ap (λ l. elements_of (tree_of x.now) ++ l) (pieces-append xs ys)
+    ∙ sym (append_assoc (elements_of (tree_of x.now)) (joined_pieces xs) (joined_pieces ys))
 
 -- two lists are joined
 pub joined_are : (s t : Tree) (xs ys : List Tree) → list_in s ≡ Ok xs → list_in t ≡ Ok ys
@@ -30,10 +32,12 @@ pub one_piece : (ts : List Tree) → list_in (L_tree (trees_of ts)) ≡ Ok (ts +
 one_piece ts = ap Ok (elements-trees_of ts ∙ sym (append-nil ts))
 
 -- a list that was pushed alone
-pub one_pushed : (ts : List Tree) (before now : List (Bor (List Tree))) (p : Bor (List Tree))
-    → now ≡ before ++ p ∷ [] → before ≡ [] → p.now ≡ ts
-    → list_in (L_tree (trees_of ts)) ≡ Ok (joined_pieces now)
-one_pushed ts before now p pushed none is =
-    one_piece ts ∙ ap (λ (l : List Tree). Ok (l ++ [])) (sym is)
-    ∙ ap (λ (l : List (Bor (List Tree))). Ok (joined_pieces l))
-    (sym (pushed ∙ ap (λ (l : List (Bor (List Tree))). l ++ p ∷ []) none))
+pub one_pushed : (t : Tree) (ts : List Tree) (before now : List (Bor Attr)) (p : Bor Attr)
+    → t ≡ L_tree (trees_of ts) → now ≡ before ++ p ∷ [] → before ≡ [] → tree_of p.now ≡ t
+    → list_in t ≡ Ok (joined_pieces now)
+one_pushed t ts before now p list pushed none is =
+    ap list_in list ∙ one_piece ts
+    ∙ ap (λ (l : List Tree). Ok (l ++ []))
+    (sym (ap elements_of (is ∙ list) ∙ elements-trees_of ts))
+    ∙ ap (λ (l : List (Bor Attr)). Ok (joined_pieces l))
+    (sym (pushed ∙ ap (λ (l : List (Bor Attr)). l ++ p ∷ []) none))

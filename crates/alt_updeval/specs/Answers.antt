@@ -15,3 +15,7 @@ fault_of NoMemory = no_path
 abbrev pub Answers : {A B : Type 0} → (A → B) → Result A UpdateFault → Result B Fault → Type 0
 Answers shows (Ok a) told = told ≡ Ok (shows a)
 Answers shows (Err f) told = f ≢ NoMemory → told ≡ Err (fault_of f)
+
+-- a fault is that of the definition; want of memory says nothing
+abbrev pub IsFault : {B : Type 0} → Result B Fault → UpdateFault → Type 0
+IsFault told f = f ≢ NoMemory → told ≡ Err (fault_of f)

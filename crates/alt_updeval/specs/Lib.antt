@@ -1,3 +1,5 @@
 pub mod Answers
 pub mod Changes
 pub mod Shown
+pub mod Sketched
+pub mod StandsIn

@@ -1,32 +1,59 @@
 -- What the program's values stand for. Private contracts alone cite it.
-use Rattle.std.specs.Prelude.{ℕ, Bool, true, false, List, [], ◌∷◌, ◌++◌, map, Option, Some, None, option_map, is_none, nat_le, if◌then◌else◌, Result, Ok, Err, ℤ, Vec}
+use Rattle.std.specs.Prelude.{◌≡◌, ◌<◌, ℕ, Bool, true, false, List, [], ◌∷◌, ◌++◌, map, Option, Some, None, option_map, is_none, nat_le, if◌then◌else◌, Result, Ok, Err, ℤ, Vec}
 use Rattle.std.specs.List.{filter}
 use Rattle.std.specs.declared.alloc.Global.{Global}
 use denote.Ref.{Bor}
 use Rattle.alt_value.specs.Item.{at_name, with_pair}
+use Rattle.alt_value.specs.Size.{size}
 use Rattle.alt_value.specs.Stands.{tree_of}
-use Rattle.alt_value.specs.Tree.{Tree, N_tree, SS_tree, NS_tree, BS_tree, L_tree, Pair, trees_of, elements}
+use Rattle.alt_value.specs.declared.attr.Attr.{Attr}
+use Rattle.alt_value.specs.Tree.{Tree, N_tree, L_tree, Pair, trees_of, elements}
 use Rattle.alt_expr.specs.Updated.{Edit, Fault, wrong_kind, put_here, under}
 use Rattle.alt_expr.specs.declared.path.PathPart.{PathPart}
 use Rattle.alt_expr.specs.declared.path.PathPart.TheVariants.{Name, Index}
+use Rattle.alt_updeval.specs.StandsIn.{longest_key, as_key, EachOfTwo, StandsInEdit}
 use Rattle.alt_updeval.specs.declared.made.Made.{Made}
-use Rattle.alt_updeval.specs.declared.made.Made.TheVariants.{Borrowed, Joined, Number, Texts, Numbers, Binaries}
+use Rattle.alt_updeval.specs.declared.term.Operand.{Operand}
+use Rattle.alt_updeval.specs.declared.term.Operand.TheVariants as operand
+use Rattle.alt_updeval.specs.declared.made.Made.TheVariants.{Borrowed, Joined, Own}
 
 -- ---- values
 
--- the elements of lists, one list behind another
-abbrev pub joined_pieces : List (Bor (List Tree)) → List Tree
-joined_pieces [] = []
-joined_pieces (p ∷ ps) = p.now ++ joined_pieces ps
+-- the elements of a value that is a list
+abbrev pub elements_of : Tree → List Tree
+elements_of (L_tree ts) = elements ts
+elements_of t = []
 
--- the value that a term stands for
+-- the elements of lists, one list behind another
+abbrev pub joined_pieces : List (Bor Attr) → List Tree
+joined_pieces [] = []
+joined_pieces (p ∷ ps) = elements_of (tree_of p.now) ++ joined_pieces ps
+
+-- the value that an operand stands for
+abbrev pub operand_tree : Operand → Tree
+operand_tree (operand.One a) = tree_of a.now
+operand_tree (operand.Lists pieces) = L_tree (trees_of (joined_pieces pieces.items))
+
+-- A value that is larger than the longest key, and is no key.
+pub record IsLarge (t : Tree) : Type 0 where
+  pub large : longest_key < size t
+  pub no_key : as_key t ≡ None
+
+-- a list that is so large
+abbrev pub IsLargeList : Tree → Type 0
+IsLargeList (L_tree ts) = longest_key < size (L_tree ts)
+IsLargeList t = ⊥
+
+-- whether a value is a number
+abbrev pub is_number : Tree → Bool
+is_number (N_tree z) = true
+is_number t = false
+
+-- the value that is put
 abbrev pub made_tree : Made → Tree
 made_tree (Borrowed a) = tree_of a.now
 made_tree (Joined pieces) = L_tree (trees_of (joined_pieces pieces.items))
-made_tree (Number z) = N_tree z
-made_tree (Texts ss) = SS_tree ss
-made_tree (Numbers zs) = NS_tree zs
-made_tree (Binaries bs) = BS_tree bs
+made_tree (Own a) = tree_of a
 
 -- the elements of a list
 abbrev pub list_in : Tree → Result (List Tree) Fault
@@ -120,3 +147,12 @@ put_if name (Some t) ps = with_pair name t ps
 abbrev pub put_new_if : List ℕ → Option Tree → List Pair → List Pair
 put_new_if [] o ps = ps
 put_new_if (c ∷ cs) o ps = put_if (c ∷ cs) o ps
+
+-- ---- sketches
+
+-- edits that stand in for those of the definition, and are the same where nothing was left out
+pub record AreSketched (told : Result (List Edit) Fault) (es : List Edit) (whole : Bool) : Type 0 where
+  pub all : List Edit
+  pub are : told ≡ Ok all
+  pub stand_in : EachOfTwo StandsInEdit es all
+  pub same : whole ≡ true → es ≡ all

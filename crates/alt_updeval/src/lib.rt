@@ -5,10 +5,13 @@ mod action;
 mod fault;
 mod made;
 mod sets;
+mod sketch;
+mod standing;
 mod stepping;
 mod term;
 mod update;
 mod within;
 
 pub use fault::UpdateFault;
+pub use sketch::{Sketch, sketched};
 pub use update::{AttrChange, changed};

@@ -4,11 +4,10 @@
 ghost use Rattle.std.specs.Prelude.{◌≡◌, ◌++◌, ◌<◌, [], Some, length, slice_get, IfOk, OnOk};
 ghost use Rattle.alt_value.specs.Stands.{tree_of};
 ghost use Rattle.alt_value.specs.Tree.{L_tree, trees_of};
-ghost use Rattle.alt_updeval.specs.Shown.{made_tree, joined_pieces};
+ghost use Rattle.alt_updeval.specs.Shown.{made_tree, joined_pieces, elements_of};
 
 use alt_base::NoMemory;
-use alt_decimal::Decimal;
-use alt_value::{Attr, AttrList, BytesSet, NumberSet, TextSet, copy};
+use alt_value::{Attr, AttrList, copy};
 use std::alloc::Global;
 
 /// A value that isn't copied yet.
@@ -16,11 +15,9 @@ use std::alloc::Global;
 pub(crate) enum Made<'a> {
     Borrowed(&'a Attr),
     /// The elements of all lists, one list behind another.
-    Joined(Vec<&'a AttrList>),
-    Number(Decimal),
-    Texts(TextSet),
-    Numbers(NumberSet),
-    Binaries(BytesSet),
+    Joined(Vec<&'a Attr>),
+    /// A sum, a set, or what stands in for a value.
+    Own(Attr),
 }
 
 /// The value of its own.
@@ -30,10 +27,7 @@ pub(crate) fn kept(alloc: Global, made: Made<'_>) -> Result<Attr, NoMemory>
     match made {
         Made::Borrowed(value) => copy(value),
         Made::Joined(pieces) => joined(alloc, pieces.as_slice()),
-        Made::Number(number) => Ok(Attr::N(number)),
-        Made::Texts(set) => Ok(Attr::Ss(set)),
-        Made::Numbers(set) => Ok(Attr::Ns(set)),
-        Made::Binaries(set) => Ok(Attr::Bs(set)),
+        Made::Own(value) => Ok(value),
     }
 }
 
@@ -44,22 +38,29 @@ pub(crate) fn copied(alloc: Global, made: &Made<'_>) -> Result<Attr, NoMemory>
     match made {
         Made::Borrowed(value) => copy(value),
         Made::Joined(pieces) => joined(alloc, pieces.as_slice()),
-        Made::Number(number) => Ok(Attr::N(*number)),
-        Made::Texts(set) => Ok(Attr::Ss(set.copy()?)),
-        Made::Numbers(set) => Ok(Attr::Ns(set.copy()?)),
-        Made::Binaries(set) => Ok(Attr::Bs(set.copy()?)),
+        Made::Own(value) => copy(value),
     }
 }
 
 /// The list of the elements of all lists.
-fn joined(alloc: Global, pieces: &[&AttrList]) -> Result<Attr, NoMemory>
+fn joined(alloc: Global, pieces: &[&Attr]) -> Result<Attr, NoMemory>
     ensures { IfOk result (λ a. tree_of a ≡ L_tree (trees_of (joined_pieces pieces.now))) }
 {
     let mut list = AttrList::new(alloc);
     for piece in pieces {
-        push_copies(&mut list, piece)?;
+        push_elements(&mut list, piece)?;
     }
     Ok(Attr::L(list))
+}
+
+/// Appends the elements of a value that is a list.
+fn push_elements(list: &mut AttrList, piece: &Attr) -> Result<(), NoMemory>
+    ensures { OnOk result (list.new ≡ list.old ++ elements_of (tree_of piece.now)) }
+{
+    match piece {
+        Attr::L(more) => push_copies(list, more),
+        _ => Ok(()),
+    }
 }
 
 fn push_copies(list: &mut AttrList, more: &AttrList) -> Result<(), NoMemory>

@@ -28,9 +28,9 @@ pub(crate) fn added<'a>(old: &Attr, value: &Attr) -> Result<Made<'a>, UpdateFaul
 {
     match (old, value) {
         (Attr::N(number), Attr::N(more)) => as_number(number.add(more)),
-        (Attr::Ss(set), Attr::Ss(more)) => Ok(Made::Texts(set.union(more)?)),
-        (Attr::Ns(set), Attr::Ns(more)) => Ok(Made::Numbers(set.union(more)?)),
-        (Attr::Bs(set), Attr::Bs(more)) => Ok(Made::Binaries(set.union(more)?)),
+        (Attr::Ss(set), Attr::Ss(more)) => Ok(Made::Own(Attr::Ss(set.union(more)?))),
+        (Attr::Ns(set), Attr::Ns(more)) => Ok(Made::Own(Attr::Ns(set.union(more)?))),
+        (Attr::Bs(set), Attr::Bs(more)) => Ok(Made::Own(Attr::Bs(set.union(more)?))),
         _ => Err(UpdateFault::BadKind),
     }
 }
@@ -64,7 +64,7 @@ fn texts_left<'a>(set: TextSet) -> Option<Made<'a>>
     if set.len() == 0 {
         None
     } else {
-        Some(Made::Texts(set))
+        Some(Made::Own(Attr::Ss(set)))
     }
 }
 
@@ -74,7 +74,7 @@ fn numbers_left<'a>(set: NumberSet) -> Option<Made<'a>>
     if set.len() == 0 {
         None
     } else {
-        Some(Made::Numbers(set))
+        Some(Made::Own(Attr::Ns(set)))
     }
 }
 
@@ -84,6 +84,6 @@ fn binaries_left<'a>(set: BytesSet) -> Option<Made<'a>>
     if set.len() == 0 {
         None
     } else {
-        Some(Made::Binaries(set))
+        Some(Made::Own(Attr::Bs(set)))
     }
 }

@@ -5,14 +5,22 @@ ghost use Rattle.alt_value.specs.Stands.{tree_of};
 ghost use Rattle.alt_value.specs.Tree.{L_tree, trees_of};
 ghost use Rattle.alt_expr.specs.Updated as spec;
 ghost use Rattle.alt_updeval.specs.Answers.{Answers};
-ghost use Rattle.alt_updeval.specs.Shown.{made_tree, joined_pieces, list_in, number_in};
+ghost use Rattle.alt_updeval.specs.Shown.{made_tree, operand_tree, joined_pieces, list_in, number_in};
 
 use crate::UpdateFault;
 use crate::made::Made;
 use alt_decimal::{Decimal, NumberFault};
 use alt_expr::{AttrView, Sum, Term, located};
-use alt_value::{Attr, AttrList};
+use alt_value::Attr;
 use std::alloc::Global;
+
+/// What an operand stands for.
+#[derive(Drop)]
+pub(crate) enum Operand<'a> {
+    One(&'a Attr),
+    /// The elements of all lists, one list behind another.
+    Lists(Vec<&'a Attr>),
+}
 
 /// What is put at a path: the operands from left to right, then the sum.
 pub(crate) fn sum_of<'a, V: AttrView>(
@@ -23,7 +31,7 @@ pub(crate) fn sum_of<'a, V: AttrView>(
     ensures { Answers made_tree result (spec.sum_of (V.attribute view.now) sum.now) }
 {
     match sum {
-        Sum::One(x) => term(alloc, x, view),
+        Sum::One(x) => Ok(made_of(term(alloc, x, view)?)),
         Sum::Plus(x, y) => {
             let a = term(alloc, x, view)?;
             let b = term(alloc, y, view)?;
@@ -37,6 +45,16 @@ pub(crate) fn sum_of<'a, V: AttrView>(
     }
 }
 
+/// An operand as what is put.
+fn made_of<'a>(operand: Operand<'a>) -> Made<'a>
+    ensures { made_tree result ≡ operand_tree operand.entry }
+{
+    match operand {
+        Operand::One(value) => Made::Borrowed(value),
+        Operand::Lists(pieces) => Made::Joined(pieces),
+    }
+}
+
 /// What a term stands for.
 #[cycle(term)]
 #[tactic(auto, using(crate::proofs::TermLaws::laws))]
@@ -44,17 +62,17 @@ fn term<'a, V: AttrView>(
     alloc: Global,
     term_of: &'a Term,
     view: &'a V,
-) -> Result<Made<'a>, UpdateFault>
-    ensures { Answers made_tree result (spec.term (V.attribute view.now) term_of.now) }
+) -> Result<Operand<'a>, UpdateFault>
+    ensures { Answers operand_tree result (spec.term (V.attribute view.now) term_of.now) }
 {
     match term_of {
         Term::At(path) => match located(path.as_slice(), view) {
-            Some(value) => Ok(Made::Borrowed(value)),
+            Some(value) => Ok(Operand::One(value)),
             None => Err(UpdateFault::BadPath),
         },
-        Term::Value(value) => Ok(Made::Borrowed(value.get())),
+        Term::Value(value) => Ok(Operand::One(value.get())),
         Term::IfNotExists(path, other) => match located(path.as_slice(), view) {
-            Some(value) => Ok(Made::Borrowed(value)),
+            Some(value) => Ok(Operand::One(value)),
             None => term(alloc, other.get(), view),
         },
         Term::ListAppend(front, back) => {
@@ -66,43 +84,46 @@ fn term<'a, V: AttrView>(
 }
 
 /// The elements of the second list behind those of the first.
-fn append<'a>(alloc: Global, front: Made<'a>, back: Made<'a>) -> Result<Made<'a>, UpdateFault>
-    ensures { Answers made_tree result
-        (spec.joined (made_tree front.entry) (made_tree back.entry)) }
+fn append<'a>(
+    alloc: Global,
+    front: Operand<'a>,
+    back: Operand<'a>,
+) -> Result<Operand<'a>, UpdateFault>
+    ensures { Answers operand_tree result
+        (spec.joined (operand_tree front.entry) (operand_tree back.entry)) }
 {
     let mut pieces = pieces_of(alloc, front)?;
     let more = pieces_of(alloc, back)?;
     pieces.extend_from_slice(more.as_slice())?;
-    Ok(Made::Joined(pieces))
+    Ok(Operand::Lists(pieces))
 }
 
 /// The lists whose elements a list has, one behind another.
-fn pieces_of<'a>(alloc: Global, made: Made<'a>) -> Result<Vec<&'a AttrList>, UpdateFault>
-    ensures { Answers (λ v. joined_pieces v.items) result (list_in (made_tree made.entry)) }
+fn pieces_of<'a>(alloc: Global, made: Operand<'a>) -> Result<Vec<&'a Attr>, UpdateFault>
+    ensures { Answers (λ v. joined_pieces v.items) result (list_in (operand_tree made.entry)) }
 {
     match made {
-        Made::Joined(pieces) => Ok(pieces),
-        Made::Borrowed(value) => one_piece(alloc, value),
-        _ => Err(UpdateFault::BadKind),
+        Operand::Lists(pieces) => Ok(pieces),
+        Operand::One(value) => one_piece(alloc, value),
     }
 }
 
 /// A list alone.
-fn one_piece(alloc: Global, value: &Attr) -> Result<Vec<&AttrList>, UpdateFault>
+fn one_piece(alloc: Global, value: &Attr) -> Result<Vec<&Attr>, UpdateFault>
     ensures { Answers (λ v. joined_pieces v.items) result (list_in (tree_of value.now)) }
 {
     match value {
-        Attr::L(list) => {
+        Attr::L(_) => {
             let mut pieces = Vec::new(alloc);
-            pieces.push(list)?;
+            pieces.push(value)?;
             Ok(pieces)
         }
         _ => Err(UpdateFault::BadKind),
     }
 }
 
-fn plus<'a>(a: &Made<'_>, b: &Made<'_>) -> Result<Made<'a>, UpdateFault>
-    ensures { Answers made_tree result (spec.plus (made_tree a.now) (made_tree b.now)) }
+fn plus<'a>(a: &Operand<'_>, b: &Operand<'_>) -> Result<Made<'a>, UpdateFault>
+    ensures { Answers made_tree result (spec.plus (operand_tree a.now) (operand_tree b.now)) }
 {
     match (number(a), number(b)) {
         (Some(x), Some(y)) => as_number(x.add(&y)),
@@ -110,8 +131,8 @@ fn plus<'a>(a: &Made<'_>, b: &Made<'_>) -> Result<Made<'a>, UpdateFault>
     }
 }
 
-fn minus<'a>(a: &Made<'_>, b: &Made<'_>) -> Result<Made<'a>, UpdateFault>
-    ensures { Answers made_tree result (spec.minus (made_tree a.now) (made_tree b.now)) }
+fn minus<'a>(a: &Operand<'_>, b: &Operand<'_>) -> Result<Made<'a>, UpdateFault>
+    ensures { Answers made_tree result (spec.minus (operand_tree a.now) (operand_tree b.now)) }
 {
     match (number(a), number(b)) {
         (Some(x), Some(y)) => as_number(x.subtract(&y)),
@@ -120,12 +141,11 @@ fn minus<'a>(a: &Made<'_>, b: &Made<'_>) -> Result<Made<'a>, UpdateFault>
 }
 
 /// The number that a value is.
-fn number(made: &Made<'_>) -> Option<Decimal>
-    ensures { result ≡ number_in (made_tree made.now) }
+fn number(made: &Operand<'_>) -> Option<Decimal>
+    ensures { result ≡ number_in (operand_tree made.now) }
 {
     match made {
-        Made::Borrowed(Attr::N(number)) => Some(*number),
-        Made::Number(number) => Some(*number),
+        Operand::One(Attr::N(number)) => Some(*number),
         _ => None,
     }
 }
@@ -135,7 +155,7 @@ pub(crate) fn as_number<'a>(sum: Result<Decimal, NumberFault>) -> Result<Made<'a
     ensures { Answers made_tree result (spec.as_number sum) }
 {
     match sum {
-        Ok(number) => Ok(Made::Number(number)),
+        Ok(number) => Ok(Made::Own(Attr::N(number))),
         Err(fault) => Err(UpdateFault::BadNumber(fault)),
     }
 }

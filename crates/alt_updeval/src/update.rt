@@ -64,7 +64,7 @@ fn edits<'a, V: AttrView>(
 }
 
 /// What becomes of each attribute that is named.
-fn changes<V: AttrView>(
+pub(crate) fn changes<V: AttrView>(
     alloc: Global,
     all: Vec<Edit<'_>>,
     view: &V,

@@ -112,6 +112,7 @@ none_done before old moment all rest same ready may apart found =
     subst (IsUnderWay before old before old moment all) (sym same) (record {
       goes = goes_refl before;
       catalog = refl;
+      limits = refl;
       ready = ready;
       may = may;
       apart = apart;

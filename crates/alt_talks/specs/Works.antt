@@ -14,9 +14,10 @@ pub record Works (old new : DiskState) (s : State) : Type 0 where
   pub leaves : AtEach old new (λ _ image. StandsFor image s)
 
 -- On a disk that can be relied on, the lengths of the entries of the segments that the last version names add up to fewer than 16 times
--- so many bytes.
+-- so many bytes, one or more.
 abbrev pub HasFewEntries : ℕ → DiskState → Type 0
-HasFewEntries flush disk = IsTrusted disk → (n : ℕ) → HasEntries disk.file n → n < 16 * flush
+HasFewEntries flush disk =
+    0 < flush → IsTrusted disk → (n : ℕ) → HasEntries disk.file n → n < 16 * flush
 
 -- These segments have no entries.
 abbrev pub HasNoEntries : DiskState → Type 0

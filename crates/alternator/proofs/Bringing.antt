@@ -55,7 +55,7 @@ same_files a b keeps = fun_ext keeps.file
 -- so they leave how many entries the log has
 pub few_kept : (flush : ℕ) (a b : DiskState) → Keeps a b → HasFewEntries flush a
     → HasFewEntries flush b
-few_kept flush a b keeps few trusted n entries = few (trusts_back a b keeps trusted) n
+few_kept flush a b keeps few some trusted n entries = few some (trusts_back a b keeps trusted) n
     (subst (λ (files : ℕ → Option (List ℕ)). HasEntries files n) (same_files a b keeps) entries)
 
 none_kept : (a b : DiskState) → Keeps a b → HasNoEntries a → HasNoEntries b

@@ -1,5 +1,8 @@
 pub mod ApplyLaws
+pub mod BesideLaws
+pub mod CarryLaws
 pub mod DeadLaws
+pub mod EndLaws
 pub mod FlushesLaws
 pub mod FoundLaws
 pub mod Fresh
@@ -7,6 +10,7 @@ pub mod FullLaws
 pub mod HandLaws
 pub mod KeepLaws
 pub mod MakesLaws
+pub mod MergingLaws
 pub mod NeedLaws
 pub mod OpenLaws
 pub mod PublishLaws

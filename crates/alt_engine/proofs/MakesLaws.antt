@@ -67,7 +67,7 @@ open_push b held file made (g ∷ gs) (f ∷ fs) made_is reads are =
     (are.0, are.1, open_push b held file made gs fs made_is reads are.2)
 
 -- a file of a family is one that the draft names
-named_of : (u : Version) (family g : ℕ) → IsIn (files_of u.families family) g
+pub named_of : (u : Version) (family g : ℕ) → IsIn (files_of u.families family) g
     → IsIn (files_named u) g
 named_of u family g there = in_back u.segments (row_files u.families) g
     (in_row_files u.families family g there)

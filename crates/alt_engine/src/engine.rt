@@ -1,11 +1,12 @@
 //! The engine in hand over files.
 
-ghost use Rattle.std.specs.Prelude.{◌≡◌, ◌≤◌, ◌+◌, ◌-◌, ◌^◌, Err, IfOk, IfErr, OnOk, IsErrOf};
+ghost use Rattle.std.specs.Prelude.{ℕ, ◌≡◌, ◌≤◌, ◌+◌, ◌-◌, ◌^◌, Err, IfOk, IfErr, OnOk, IsErrOf};
 ghost use Rattle.alt_base.specs.Counts.{Rose};
 ghost use Rattle.alt_disk.specs.Disk.{DiskState, IsTrusted, Goes};
 ghost use Rattle.alt_disk.specs.Runs.{Spans};
 ghost use Rattle.alt_layout.specs.Layout.{Layout};
 ghost use Rattle.alt_layout.specs.Writes.{with_write};
+ghost use Rattle.alt_engine.specs.Carrying.{Carries};
 ghost use Rattle.alt_engine.specs.InHand.{limits_of, next_of, Reads, Stands, IsSpentAt, batch_write, BeforeOrWith, IsWritten};
 
 use crate::full::full_after;
@@ -116,6 +117,11 @@ impl Engine {
         ensures number { IfOk result (λ n. n ≡ next_of self.old) }
         ensures next { OnOk result (next_of self.new ≡ next_of self.old + 1) }
         ensures limits { limits_of self.new ≡ limits_of self.old }
+
+        // A merge of files under way stays one.
+        ensures carries { OnOk result (IsTrusted (D.state disk.old) → (l : Layout)
+            → Stands (D.state disk.old) self.old l → (family : ℕ)
+            → Carries (D.state disk.old) (D.state disk.new) self.old self.new family) }
 
         // A stop at any moment of the call, also one that fails, leaves the rows from before it or with the whole batch.
         ensures any_moment { IsTrusted (D.state disk.old) → (l : Layout)

@@ -11,7 +11,7 @@ ghost use Rattle.alt_layout.specs.Layout.{Layout};
 ghost use Rattle.alt_manifest.specs.Versions.{IsIn, RiseFrom, numbers_of};
 ghost use Rattle.alt_writes.specs.Writes.{Write};
 ghost use Rattle.alt_families.specs.Families.{rows_in};
-ghost use Rattle.alt_engine.specs.Drafting.{Empties, EmptiedIn, IsSpentFor, Makes, files_for, files_needed};
+ghost use Rattle.alt_engine.specs.Drafting.{AreDead, Empties, EmptiedIn, IsSpentFor, Makes, files_for, files_needed, without_all};
 ghost use Rattle.alt_engine.specs.InHand.{Stands, family_of, limits_of, next_of};
 ghost use Rattle.alt_engine.specs.Working.{AreAllFlushed, IsOneFlushed};
 
@@ -117,7 +117,7 @@ impl Engine {
 }
 
 /// Leaves the families out of a draft that aren't live. Their files are put at the end of the list.
-fn leave_dead(
+pub(crate) fn leave_dead(
     alloc: Global,
     families: &mut BTreeMap<u32, Family>,
     draft: Version,
@@ -127,6 +127,8 @@ fn leave_dead(
     ensures makes { IfOk result (λ u. (s : DiskState) (parts : List (List Write)) (l : Layout)
         → Makes s draft families.old parts l
         → (m : Layout) × Makes s u families.new parts m × Empties live.now l m) }
+    ensures version { IfOk result (λ u. (dead : List ℕ) × AreDead live.now dead
+        × (u ≡ without_all draft dead)) }
     ensures file { IfOk result (λ u. u.next_file ≡ draft.next_file) }
     ensures segments { IfOk result (λ u. u.segments ≡ draft.segments) }
     ensures lives { OnOk result ((family : ℕ) → IsIn live.now family

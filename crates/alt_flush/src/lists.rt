@@ -164,7 +164,11 @@ fn put_more(
     })
 }
 
-fn put_copy(alloc: Global, out: &mut FamilyList, old: &FamilyVersion) -> Result<(), NoMemory>
+pub(crate) fn put_copy(
+    alloc: Global,
+    out: &mut FamilyList,
+    old: &FamilyVersion,
+) -> Result<(), NoMemory>
     ensures { OnOk result (out.new ≡ out.old ++ old.now ∷ []) }
 {
     let files = copy_files(alloc, old.files.as_slice())?;

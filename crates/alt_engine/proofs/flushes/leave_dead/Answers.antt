@@ -38,3 +38,14 @@ returns-clause-segments c = IfOk-weaker c.drop_all.result
     (λ (u : Version). u.segments ≡ c.args.draft.segments)
     (λ u is. ap (λ (v : Version). v.segments) is
     ∙ without_all-segments c.args.draft c.as_slice.result.now) c.drop_all.ensures.version
+
+pub returns-clause-version : goal.returns-clause-version
+returns-clause-version c = IfOk-weaker c.drop_all.result
+    (λ (u : Version). u ≡ without_all c.args.draft c.as_slice.result.now)
+    (λ (u : Version). (dead : List ℕ) × AreDead c.args.live.now dead
+    × (u ≡ without_all c.args.draft dead))
+    (λ u is. (
+      c.as_slice.result.now,
+      subst (AreDead c.args.live.now) (sym c.as_slice.ensures.value) c.in_ok-dead.ensures.dead,
+      is,
+    )) c.drop_all.ensures.version

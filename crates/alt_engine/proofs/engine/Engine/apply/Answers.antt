@@ -9,8 +9,10 @@ use Rattle.alt_cells.specs.declared.batch.RowChange.{RowChange}
 use Rattle.alt_families.specs.Memory.{IsChanged, IsWrittenTo}
 use Rattle.alt_engine.specs.InHand.{bytes_in}
 use Rattle.alt_engine.proofs.ApplyLaws.{at_rest, fits_as, log_stands, spelled_as}
+use Rattle.alt_engine.proofs.CarryLaws.{carries_write}
 use Rattle.alt_engine.proofs.HandLaws.{write_images, with_batch}
 use Rattle.alt_engine.proofs.FullLaws.{still_below}
+use Rattle.alt_gatelog.specs.Log.{BeforeOrAfter, first_form}
 use Rattle.alt_engine.proofs.engine.Engine.apply.Goals as goal
 
 pub returns-then-self-ge-LAST_NUMBER-clause-any_moment :
@@ -91,3 +93,13 @@ returns-clause-ok g c trusted l stands =
     (subst (λ (cs : List RowChange). c.full_after-self.result ≡ false → (f : ℕ) → IsChanged cs f
     → bytes_in (get nat_cmp c.put_changes.new.families f) < e.limits.flush)
     c.as_slice-3.ensures.changes c.full_after-self.ensures.changed))
+
+pub returns-clause-carries : goal.returns-clause-carries
+returns-clause-carries g c trusted l stands family =
+    let e = c.args.self.now in
+    carries_write (g.D.Disk.state c.args.disk.now) (g.D.Disk.state c.append.new.disk) e l stands
+    (BeforeOrAfter first_form (map write_bytes stands.reads.writes) c.as_slice-4.result.now)
+    (c.append.ensures.any_moment trusted (map write_bytes stands.reads.writes)
+    (log_stands (g.D.Disk.state c.args.disk.now) e l stands)) c.append.new.self
+    c.with_more-self.result (e.next + 1) c.put_changes.new.families c.full_after-self.result
+    c.as_slice-2.result.now e.next family c.in_ok-put_changes.ensures.written

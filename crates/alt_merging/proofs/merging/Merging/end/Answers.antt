@@ -1,0 +1,99 @@
+-- The file is finished, and takes the place of the others.
+use Rattle.std.proofs.Common.{◌≡◌, ℕ, List, [], take, drop, sym, ap, subst, ◌∙◌, refl}
+use Rattle.std.proofs.lemmas.Result.{on_ok_weaker}
+use Rattle.alt_cells.specs.Compacted.{compacted}
+use Rattle.alt_disk.specs.Disk.{DiskState, IsTrusted}
+use Rattle.alt_disk.specs.Runs.{Run, Spans}
+use Rattle.alt_disk.proofs.Runs.{trusted_back, trusted_on}
+use Rattle.alt_filemerge.specs.FileMerges.{output_of}
+use Rattle.alt_layout.specs.Moments.{IsIt}
+use Rattle.alt_cells.specs.Walks.{Anything as AnyImage}
+use Rattle.alt_rowfile.specs.Sinks.{Anything}
+use Rattle.alt_engine.specs.Merging.{IsMerging, files_at}
+use Rattle.alt_merging.proofs.StepLaws.{engine_stays, has_works, images_stay, made_of, merging_on, run_it, then_works}
+use Rattle.alt_merging.proofs.merging.Merging.end.Goals as goal
+
+pub finish-requires : goal.finish-requires
+finish-requires g c trusted =
+    let merging = c.requires.job trusted in
+    (take c.args.self.taken (files_at c.args.engine.now c.args.self.family), merging.done, merging.stands)
+
+pub end_merge-requires : goal.end_merge-requires
+end_merge-requires g c =
+    let a : DiskState = g.D.Disk.state c.args.disk.now in
+    let b : DiskState = g.D.Disk.state c.finish.new.disk in
+    let e = c.args.engine.now in
+    let old = c.args.self in
+    let back = λ (told : IsTrusted b).
+    trusted_back a b c.in_ok-made.ensures.goes told in
+    record {
+      ready = λ told.
+          let ready = c.requires.ready (back told) in
+          let job = c.requires.job (back told) in (
+            ready.0,
+            engine_stays a b e ready.0 ready.1 old.family old.taken job.number old.file job.merging
+                (run_it a b old.file Anything (subst (λ k. Run a b k Anything) job.output
+                (c.in_ok-made.ensures.any_moment (back told)))),
+          );
+      merging = λ told.
+          let ready = c.requires.ready (back told) in
+          let job = c.requires.job (back told) in (
+            job.number,
+            merging_on a b e ready.0 ready.1 old.family old.taken job.number old.file job.merging
+                (run_it a b old.file Anything (subst (λ k. Run a b k Anything) job.output
+                (c.in_ok-made.ensures.any_moment (back told)))),
+          );
+      made = λ told.
+          let ready = c.requires.ready (back told) in
+          let job = c.requires.job (back told) in
+          made_of a b e ready.0 ready.1 old job (run_it a b old.file Anything
+          (subst (λ k. Run a b k Anything) job.output (c.in_ok-made.ensures.any_moment (back told))))
+          c.in_ok-made.made (c.in_ok-made.ensures.finished (back told)
+          (take old.taken (files_at e old.family)) job.done job.stands);
+      file = λ told. c.in_ok-made.ensures.output ∙ (c.requires.job (back told)).output;
+      live = c.requires.live;
+    }
+
+pub returns-in_err-made-clause-any_moment : goal.returns-in_err-made-clause-any_moment
+returns-in_err-made-clause-any_moment g c trusted l stands =
+    let a : DiskState = g.D.Disk.state c.args.disk.now in
+    let b : DiskState = g.D.Disk.state c.finish.new.disk in
+    let old = c.args.self in
+    let job = c.requires.job trusted in
+    has_works a b c.args.live.now l
+    (images_stay a b c.args.engine.now l stands old.family old.taken job.number old.file job.merging
+    (run_it a b old.file Anything (subst (λ k. Run a b k Anything) job.output
+    (c.in_err-made.ensures.any_moment trusted))))
+
+pub returns-clause-any_moment : goal.returns-clause-any_moment
+returns-clause-any_moment g c trusted l stands =
+    let a : DiskState = g.D.Disk.state c.args.disk.now in
+    let b : DiskState = g.D.Disk.state c.finish.new.disk in
+    let e = c.args.engine.now in
+    let old = c.args.self in
+    let job = c.requires.job trusted in
+    let spans : Spans a b (IsIt old.file) AnyImage =
+    run_it a b old.file Anything (subst (λ k. Run a b k Anything) job.output
+    (c.in_ok-made.ensures.any_moment trusted)) in
+    then_works a b (g.D.Disk.state c.end_merge.new.disk) c.args.live.now l
+    (images_stay a b e l stands old.family old.taken job.number old.file job.merging spans)
+    (c.end_merge.ensures.any_moment (trusted_on a b c.in_ok-made.ensures.goes trusted) l
+    (engine_stays a b e l stands old.family old.taken job.number old.file job.merging spans))
+
+pub returns-clause-ok : goal.returns-clause-ok
+returns-clause-ok g c = on_ok_weaker c.end_merge.result (λ all trusted l stands.
+    let a : DiskState = g.D.Disk.state c.args.disk.now in
+    let b : DiskState = g.D.Disk.state c.finish.new.disk in
+    let old = c.args.self in
+    let job = c.requires.job trusted in
+    all (trusted_on a b c.in_ok-made.ensures.goes trusted) l
+    (engine_stays a b c.args.engine.now l stands old.family old.taken job.number old.file job.merging
+    (run_it a b old.file Anything (subst (λ k. Run a b k Anything) job.output
+    (c.in_ok-made.ensures.any_moment trusted))))) c.end_merge.ensures.ok
+
+pub returns-clause-files : goal.returns-clause-files
+returns-clause-files g c = on_ok_weaker c.end_merge.result (λ all trusted. (
+  c.in_ok-made.made,
+  all (trusted_on (g.D.Disk.state c.args.disk.now) (g.D.Disk.state c.finish.new.disk)
+      c.in_ok-made.ensures.goes trusted),
+)) c.end_merge.ensures.files

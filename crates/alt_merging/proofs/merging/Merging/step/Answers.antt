@@ -1,0 +1,81 @@
+-- A step of the merge beside the engine.
+use Rattle.std.proofs.Common.{◌≡◌, ◌++◌, ℕ, Err, List, take, drop, sym, ap, subst, ◌∙◌, refl}
+use Rattle.alt_cells.specs.Walks.{Anything, RowList}
+use Rattle.alt_disk.specs.Disk.{DiskState}
+use Rattle.alt_disk.specs.Runs.{Spans}
+use Rattle.alt_filemerge.specs.FileMerges.{MergeStands, any_file}
+use Rattle.alt_layout.specs.Moments.{IsIt}
+use Rattle.alt_rowfile.specs.declared.rowfile.RowFile.{RowFile}
+use Rattle.alt_engine.specs.Merging.{files_at}
+use Rattle.alt_merging.specs.declared.merging.Merging.{Merging}
+use Rattle.alt_merging.proofs.StepLaws.{cause_of, engine_stays, images_stay, moves_it, steps}
+use Rattle.alt_merging.proofs.merging.Merging.step.Goals as goal
+
+pub step-requires-clause-stands : goal.step-requires-clause-stands
+step-requires-clause-stands g c trusted =
+    let given = c.requires trusted in
+    let old = c.args.self.now in
+    let files : c.first-files.result.now ≡ take old.taken (files_at c.args.engine.now old.family) =
+    c.first-files.ensures ∙ ap (take old.taken) c.files.ensures in (
+      given.3.done,
+      given.1,
+      subst (λ fs. MergeStands (g.D.Disk.state c.args.disk.now) fs old.merge given.3.done given.1)
+          (sym files) given.3.stands,
+    )
+
+pub returns-in-Ok-clause-ok : goal.returns-in-Ok-clause-ok
+returns-in-Ok-clause-ok g c trusted l stands left merging =
+    let a : DiskState = g.D.Disk.state c.args.disk.now in
+    let b : DiskState = g.D.Disk.state c.step.new.disk in
+    let old = c.args.self.now in
+    engine_stays a b c.args.engine.now l stands old.family old.taken merging.number old.file
+    merging.merging (moves_it a b old.merge old.file trusted merging.output c.step.ensures.moves)
+
+pub returns-in-Err-clause-ok : goal.returns-in-Err-clause-ok
+returns-in-Err-clause-ok g c trusted l stands left merging =
+    let a : DiskState = g.D.Disk.state c.args.disk.now in
+    let b : DiskState = g.D.Disk.state c.step.new.disk in
+    let old = c.args.self.now in
+    engine_stays a b c.args.engine.now l stands old.family old.taken merging.number old.file
+    merging.merging (moves_it a b old.merge old.file trusted merging.output c.step.ensures.moves)
+
+pub returns-in-Ok-clause-any_moment : goal.returns-in-Ok-clause-any_moment
+returns-in-Ok-clause-any_moment g c trusted l stands left merging =
+    let a : DiskState = g.D.Disk.state c.args.disk.now in
+    let b : DiskState = g.D.Disk.state c.step.new.disk in
+    let old = c.args.self.now in
+    images_stay a b c.args.engine.now l stands old.family old.taken merging.number old.file
+    merging.merging (moves_it a b old.merge old.file trusted merging.output c.step.ensures.moves)
+
+pub returns-in-Err-clause-any_moment : goal.returns-in-Err-clause-any_moment
+returns-in-Err-clause-any_moment g c trusted l stands left merging =
+    let a : DiskState = g.D.Disk.state c.args.disk.now in
+    let b : DiskState = g.D.Disk.state c.step.new.disk in
+    let old = c.args.self.now in
+    images_stay a b c.args.engine.now l stands old.family old.taken merging.number old.file
+    merging.merging (moves_it a b old.merge old.file trusted merging.output c.step.ensures.moves)
+
+pub returns-in-Ok-clause-taken : goal.returns-in-Ok-clause-taken
+returns-in-Ok-clause-taken g c trusted l stands left merging =
+    let a : DiskState = g.D.Disk.state c.args.disk.now in
+    let b : DiskState = g.D.Disk.state c.step.new.disk in
+    let e = c.args.engine.now in
+    let old = c.args.self.now in
+    let new : Merging = record old { merge = c.step.new.self } in
+    let files : c.first-files.result.now ≡ take old.taken (files_at e old.family) =
+    c.first-files.ensures ∙ ap (take old.taken) c.files.ensures in
+    let at = c.in-Ok.ensures.taken trusted merging.done left
+    (subst (λ fs. MergeStands a fs old.merge merging.done left) (sym files) merging.stands) in (
+      steps a b e l stands old new left (drop 256 left) (take 256 left) merging
+          (moves_it a b old.merge old.file trusted merging.output c.step.ensures.moves) refl refl refl
+          c.step.ensures.output c.step.ensures.purge
+          (subst (λ fs. MergeStands b fs c.step.new.self (merging.done ++ take 256 left) (drop 256 left))
+          files at.0),
+      at.1,
+    )
+
+pub returns-in-Err-clause-cause : goal.returns-in-Err-clause-cause
+returns-in-Err-clause-cause g c e =
+    cause_of (any_file c.first-files.result.now) (g.D.Disk.state c.args.disk.now)
+    (g.D.Disk.state c.step.new.disk) c.in-Err.fault c.from.result c.from.ensures c.in-Err.ensures.cause
+    (Err c.from.result) refl e

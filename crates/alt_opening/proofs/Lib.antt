@@ -1,3 +1,4 @@
+pub mod Ahead
 pub mod Assembled
 pub mod CatalogScan
 pub mod CatalogSteps

@@ -1,8 +1,7 @@
 -- The first row that a family shows from a key on, and the keys behind it.
-use Rattle.std.proofs.Common.{◌≡◌, ◌⊎◌, inl, inr, refl, sym, ap, subst, ◌∙◌, ℕ, zero, suc, Bool, true, false, cond, T, List, [], ◌∷◌, ◌++◌, Option, Some, None, take, Less, Equal, Greater, slice_get, length, ◌<◌, ⊎_elim, arith, length-append}
+use Rattle.std.proofs.Common.{◌≡◌, ◌⊎◌, inl, inr, refl, sym, ap, subst, ◌∙◌, ℕ, zero, suc, Bool, true, false, cond, T, List, [], ◌∷◌, ◌++◌, Option, Some, None, Less, Equal, Greater, slice_get, ⊎_elim, arith}
 use Rattle.std.proofs.lemmas.Bool.{false≢true}
-use Rattle.std.specs.Prelude.{◌&&◌, ◌↔◌, IsSome}
-use Rattle.std.specs.Option.{option_to_list}
+use Rattle.std.specs.Prelude.{◌&&◌}
 use Rattle.std.specs.BTreeMap.Range.{range_contains}
 use Rattle.std.specs.List.{filter}
 use Rattle.std.specs.declared.cmp.Ordering.{Ordering}
@@ -24,7 +23,7 @@ use Rattle.alt_opening.proofs.OneState.{some}
 
 -- the first entry whose key passes a test
 module _ {X : Type 0} (p : List ℕ → Bool) where
-  abbrev passing : List (List ℕ × X) → List (List ℕ × X)
+  abbrev pub passing : List (List ℕ × X) → List (List ℕ × X)
   passing es = filter (λ e. p e.0) es
 
   -- none passes
@@ -88,11 +87,11 @@ module _ {X : Type 0} (p : List ℕ → Bool) where
 
 -- ---- from a key on
 
-abbrev from_on : List ℕ → List ℕ → Bool
+abbrev pub from_on : List ℕ → List ℕ → Bool
 from_on from k = range_contains key_cmp (Included from) Unbounded k
 
 -- a key that isn't below another is from it on
-passes_from : (from k : List ℕ) → (IsBelow k from → ⊥) → from_on from k ≡ true
+pub passes_from : (from k : List ℕ) → (IsBelow k from → ⊥) → from_on from k ≡ true
 passes_from from k above = by (key_cmp k from) refl
   where
     by : (o : Ordering) → key_cmp k from ≡ o → (is_le (key_cmp from k) && true) ≡ true
@@ -102,7 +101,7 @@ passes_from from k above = by (key_cmp k from) refl
     by Greater e = ap (λ r. is_le r && true)
         (key_total.antisymm from k ∙ ap ordering_reverse e)
 
-from_passes : (from k : List ℕ) → from_on from k ≡ true → IsBelow k from → ⊥
+pub from_passes : (from k : List ℕ) → from_on from k ≡ true → IsBelow k from → ⊥
 from_passes from k passes low = false≢true (sym (ap (λ r. is_le r && true)
     (key_total.antisymm from k ∙ ap ordering_reverse low)) ∙ passes)
 
@@ -165,7 +164,7 @@ below_after (x ∷ xs) (c ∷ cs) low = by (λ below. below_after xs cs below) (
     by rest Greater e f = absurd (let g : ⊥ = cc in g)
 
 -- a key below another is below that with a 0 behind it
-below_append : (k key : List ℕ) → IsBelow k key → IsBelow k (key ++ 0 ∷ [])
+pub below_append : (k key : List ℕ) → IsBelow k key → IsBelow k (key ++ 0 ∷ [])
 below_append [] [] low = absurd (let g : ⊥ = cc in g)
 below_append [] (c ∷ cs) low = refl
 below_append (x ∷ xs) [] low = absurd (let g : ⊥ = cc in g)
@@ -178,7 +177,7 @@ below_append (x ∷ xs) (c ∷ cs) low = by (λ below. below_append xs cs below)
     by rest Equal e f = heads x c Equal e xs (cs ++ 0 ∷ []) ∙ rest f
     by rest Greater e f = absurd (let g : ⊥ = cc in g)
 
-self_append : (key : List ℕ) → IsBelow key (key ++ 0 ∷ [])
+pub self_append : (key : List ℕ) → IsBelow key (key ++ 0 ∷ [])
 self_append [] = refl
 self_append (c ∷ cs) = heads c c Equal (tied_itself nat_cmp_total c) cs (cs ++ 0 ∷ [])
     ∙ self_append cs
@@ -187,26 +186,3 @@ self_append (c ∷ cs) = heads c c Equal (tied_itself nat_cmp_total c) cs (cs ++
 pub after_below : (k key : List ℕ) → IsBelow k key ⊎ (k ≡ key) → IsBelow k (key ++ 0 ∷ [])
 after_below k key (inl low) = below_append k key low
 after_below k key (inr same) = subst (λ q. IsBelow q (key ++ 0 ∷ [])) (sym same) (self_append key)
-
--- ---- the first of a page of one
-
--- what was popped of one row at most is the first row, if there is one
-pub popped : {X : Type 0} (xs old ys : List X) (o : Option X) (n : ℕ) → old ≡ take 1 xs
-    → old ≡ ys ++ option_to_list o → IsSome o ↔ (0 < n) → n ≡ length old → o ≡ slice_get xs 0
-popped [] old ys None n page items some long = refl
-popped [] old ys (Some y) n page items some long = absurd (omega (
-  arith,
-  ap length page,
-  ap length items,
-  length-append ys (y ∷ []),
-))
-popped (x ∷ xs) old ys None n page items some long =
-    absurd (false≢true (some.1 (omega (arith, ap length page, long))))
-popped (x ∷ xs) old [] (Some y) n page items some long =
-    ap (λ zs. slice_get zs 0) (sym items ∙ page)
-popped (x ∷ xs) old (z ∷ zs) (Some y) n page items some long = absurd (omega (
-  arith,
-  ap length page,
-  ap length items,
-  length-append zs (y ∷ []),
-))

@@ -1,11 +1,11 @@
 -- What is read of a family's rows while a store is opened.
-use Rattle.std.specs.Prelude.{◌≡◌, ℕ, List, Option, Some, None, IsTrue}
+use Rattle.std.specs.Prelude.{◌≡◌, ◌++◌, ℕ, List, Option, Some, None, IsTrue, reverse, true}
 use Rattle.std.specs.declared.cmp.Ordering.TheVariants.{Less}
 use Rattle.alt_cells.specs.Changes.{Columns}
 use Rattle.alt_cells.specs.Keys.{key_cmp}
 use Rattle.alt_disk.specs.Disk.{DiskState, Goes}
 use Rattle.alt_disk.specs.Runs.{Quiet}
-use Rattle.alt_layout.specs.Layout.{Layout, shown}
+use Rattle.alt_layout.specs.Layout.{Layout, shown, rows_between}
 use Rattle.alt_engine.specs.InHand.{limits_of}
 use Rattle.alt_engine.specs.Opened.{StaysOn}
 use Rattle.alt_engine.specs.declared.engine.Engine.{Engine}
@@ -45,6 +45,12 @@ pub record IsFirstFrom (l : Layout) (family : ℕ) (from key : List ℕ) (row : 
 abbrev pub IsNextRow : Layout → ℕ → List ℕ → Option (List ℕ × Columns) → Type 0
 IsNextRow l family from None = (k : List ℕ) → (IsBelow k from → ⊥) → shown l family k ≡ None
 IsNextRow l family from (Some e) = IsFirstFrom l family from e.0 e.1
+
+-- Rows in hand are the first that a family shows from a key on, the first one last.
+pub record IsAhead (l : Layout) (family : ℕ) (from : List ℕ) (rows : List (List ℕ × Columns))
+    : Type 0 where
+  pub rest : List (List ℕ × Columns)
+  pub first : rows_between l family from None true ≡ reverse rows ++ rest
 
 -- something is so of each row of a family, of those whose keys pass
 abbrev pub RowsWhere : (List ℕ → Type 0) → Layout → ℕ → (List ℕ → Columns → Type 0) → Type 0

@@ -67,8 +67,9 @@ fn test_changes<D: Disk>(
         → Rose (D.state disk.old).faults (D.state disk.new).faults }
 {
     let mut from = Bytes::from_vec(Vec::new(alloc));
+    let mut ahead = Vec::new(alloc);
     'rows: for _ in 0..u64::MAX {
-        let (key, row) = match next_row(alloc, disk, engine, family, &from) {
+        let (key, row) = match next_row(disk, engine, family, &from, &mut ahead) {
             Ok(Some(next)) => next,
             Ok(None) => return Ok(()),
             Err(fault) => return Err(fault),

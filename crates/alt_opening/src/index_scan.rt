@@ -123,8 +123,9 @@ fn least_missing<D: Disk>(
 {
     let mut least = None;
     let mut from = Bytes::from_vec(Vec::new(alloc));
+    let mut ahead = Vec::new(alloc);
     'rows: for _ in 0..u64::MAX {
-        let (place, row) = match next_row(alloc, disk, engine, schema.family, &from) {
+        let (place, row) = match next_row(disk, engine, schema.family, &from, &mut ahead) {
             Ok(Some(next)) => next,
             Ok(None) => return Ok(least),
             Err(fault) => return Err(fault),
@@ -199,8 +200,9 @@ fn first_foreign<D: Disk>(
 {
     let family = index_at(schema, number).family;
     let mut from = Bytes::from_vec(Vec::new(alloc));
+    let mut ahead = Vec::new(alloc);
     'rows: for _ in 0..u64::MAX {
-        let (key, row) = match next_row(alloc, disk, engine, family, &from) {
+        let (key, row) = match next_row(disk, engine, family, &from, &mut ahead) {
             Ok(Some(next)) => next,
             Ok(None) => return Ok(None),
             Err(fault) => return Err(fault),

@@ -1,6 +1,6 @@
 //! The catalog of a store that is opened: the next family, and the descriptions of its tables.
 
-ghost use Rattle.std.specs.Prelude.{◌≡◌, ◌↔◌, ◌==◌, ◌++◌, None, Err, IfOk, IfErr, OnOk, IsErrOf, IsTrue, map as each};
+ghost use Rattle.std.specs.Prelude.{◌≡◌, ◌↔◌, ◌==◌, ◌++◌, None, Err, IfOk, IfErr, IfSome, OnOk, IsErrOf, IsTrue, map as each};
 ghost use Rattle.std.specs.FinMap as map;
 ghost use Rattle.std.specs.List.{list_any};
 ghost use Rattle.alt_base.specs.Counts.{Rose};
@@ -11,7 +11,8 @@ ghost use Rattle.alt_schema.specs.Described.{IsDescription};
 ghost use Rattle.alt_schema.specs.Held.{IsHeld};
 ghost use Rattle.alt_schema.specs.declared.schema.TableSchema.{TableSchema};
 ghost use Rattle.alt_opening.specs.Opening.{IsApart, IsCatalog, IsGood, IsRowFault, IsNextFamily, IsReadOn, IsReadUpTo, IsTableAt, MayStand, are_families, are_within, are_apart, is_number, passes};
-ghost use Rattle.alt_opening.specs.Scans.{Walked};
+ghost use Rattle.alt_opening.specs.Scans.{IsAhead, Walked};
+ghost use Rattle.alt_opening.specs.StateRows.{catalog_family};
 
 use crate::catalog::Catalog;
 use crate::catalog_row::{CATALOG, family_of_row, schema_of_row};
@@ -58,8 +59,9 @@ pub(crate) fn read_catalog<D: Disk>(
     let Ok(mut from) = key_after(&[], alloc) else {
         return Err(OpenFault::NoMemory);
     };
+    let mut ahead = Vec::new(alloc);
     'rows: for _ in 0..u64::MAX {
-        match read_table(alloc, disk, engine, family, &mut catalog, &from) {
+        match read_table(alloc, disk, engine, family, &mut catalog, &from, &mut ahead) {
             Ok(Some(after)) => from = after,
             Ok(None) => return Ok(Opened { catalog, family }),
             Err(fault) => return Err(fault),
@@ -68,7 +70,7 @@ pub(crate) fn read_catalog<D: Disk>(
     Err(OpenFault::NoMemory)
 }
 
-/// Reads the first row of the catalog from a key on, and adds its table. It tells the key behind it, and None where there is no row.
+/// Reads the first row of the catalog from a key on, which is the next one in hand where rows are in hand, and adds its table. It tells the key behind it, and None where there is no row.
 fn read_table<D: Disk>(
     alloc: Global,
     disk: &mut D,
@@ -76,19 +78,26 @@ fn read_table<D: Disk>(
     family: u32,
     catalog: &mut Catalog,
     from: &Bytes,
+    ahead: &mut Vec<(Bytes, ShownRow)>,
 ) -> Result<Option<Bytes>, OpenFault>
     ensures read { IsTrue (D.state disk.old).tells → (l : Layout)
-        → Reads (D.state disk.old) engine.old l → IsReadUpTo l family from.now catalog.old
-        → IfOk result (IsReadOn l family catalog.new) }
+        → Reads (D.state disk.old) engine.old l
+        → IsAhead l catalog_family from.now ahead.old.items
+        → IsReadUpTo l family from.now catalog.old → IfOk result (IsReadOn l family catalog.new) }
+    ensures ahead { IsTrue (D.state disk.old).tells → (l : Layout)
+        → Reads (D.state disk.old) engine.old l
+        → IsAhead l catalog_family from.now ahead.old.items
+        → IfOk result (λ o. IfSome o (λ after. IsAhead l catalog_family after ahead.new.items)) }
     ensures wrong { IsTrue (D.state disk.old).tells → (l : Layout)
-        → Reads (D.state disk.old) engine.old l → IsReadUpTo l family from.now catalog.old
-        → IfErr result (IsRowFault l) }
+        → Reads (D.state disk.old) engine.old l
+        → IsAhead l catalog_family from.now ahead.old.items
+        → IsReadUpTo l family from.now catalog.old → IfErr result (IsRowFault l) }
     ensures walked { Walked (D.state disk.old) (D.state disk.new) engine.old engine.new }
     ensures cause { IsErrOf result OpenFault.Failed
         → Rose (D.state disk.old).faults (D.state disk.new).faults }
 {
     let number = engine.next_number();
-    let (name, row) = match next_row(alloc, disk, engine, CATALOG, from) {
+    let (name, row) = match next_row(disk, engine, CATALOG, from, ahead) {
         Ok(Some(next)) => next,
         Ok(None) => return Ok(None),
         Err(fault) => return Err(fault),

@@ -1,13 +1,13 @@
 //! The rows of a family, one after the other, and the items of a table that is opened.
 
-ghost use Rattle.std.specs.Prelude.{◌≡◌, ◌↔◌, ◌++◌, ◌∷◌, [], List, Err, IfOk, IfErr, OnOk, IsErrOf, IsTrue};
+ghost use Rattle.std.specs.Prelude.{◌≡◌, ◌↔◌, ◌++◌, ◌∷◌, [], List, Err, IfOk, IfErr, OnOk, IfSome, IsErrOf, IsTrue, None, true};
 ghost use Rattle.alt_base.specs.Counts.{Rose};
 ghost use Rattle.alt_engine.specs.InHand.{Reads};
 ghost use Rattle.alt_engine.specs.Opened.{IsUndamaged};
-ghost use Rattle.alt_layout.specs.Layout.{Layout};
+ghost use Rattle.alt_layout.specs.Layout.{Layout, rows_between};
 ghost use Rattle.alt_machine.specs.Valid.{IsStored};
 ghost use Rattle.alt_views.specs.ItemRows.{IsReadItem};
-ghost use Rattle.alt_opening.specs.Scans.{Walked, IsNextRow, ItemsRead, IsItemFault, IsDeviceFault, IsItemAt};
+ghost use Rattle.alt_opening.specs.Scans.{Walked, IsAhead, IsNextRow, ItemsRead, IsItemFault, IsDeviceFault, IsItemAt};
 ghost use Rattle.alt_value.specs.Tree.{Pair};
 
 use crate::faults::OpenFault;
@@ -23,29 +23,68 @@ use alt_value::{Item, item_size_within};
 use alt_views::{Unread, item_of_row, key_fits, place_of};
 use std::alloc::Global;
 
-/// The first row that a family shows from a key on, None where there is none.
+/// How many rows are asked for at once, since each call of the engine seeks in every row file. An item has 400 KB at most, so those in hand hold 25 MB of names and values at most, and changes, of two items each, 50 MB.
+const ROWS_AHEAD: u32 = 64;
+
+/// The first row that a family shows from a key on, None where there is none. Where rows are in hand, the first from there on, it is the last of them, and the others are those behind it.
 pub(crate) fn next_row<D: Disk>(
-    alloc: Global,
     disk: &mut D,
     engine: &mut Engine,
     family: u32,
     from: &Bytes,
+    ahead: &mut Vec<(Bytes, ShownRow)>,
 ) -> Result<Option<(Bytes, ShownRow)>, OpenFault>
     ensures row { IsTrue (D.state disk.old).tells → (l : Layout)
-        → Reads (D.state disk.old) engine.old l → IfOk result (IsNextRow l family from.now) }
+        → Reads (D.state disk.old) engine.old l → IsAhead l family from.now ahead.old.items
+        → IfOk result (IsNextRow l family from.now) }
+    ensures ahead { IsTrue (D.state disk.old).tells → (l : Layout)
+        → Reads (D.state disk.old) engine.old l → IsAhead l family from.now ahead.old.items
+        → IfOk result (λ row. IfSome row (λ e.
+        IsAhead l family (e.0 ++ 0 ∷ []) ahead.new.items)) }
     ensures walked { Walked (D.state disk.old) (D.state disk.new) engine.old engine.new }
     ensures fault { IsTrue (D.state disk.old).tells → (l : Layout)
         → Reads (D.state disk.old) engine.old l → IfErr result IsDeviceFault }
     ensures cause { IsErrOf result OpenFault.Failed
         → Rose (D.state disk.old).faults (D.state disk.new).faults }
 {
+    match read_ahead(disk, engine, family, from, ahead) {
+        Ok(()) => Ok(ahead.pop()),
+        Err(fault) => Err(fault),
+    }
+}
+
+/// Reads the first rows that a family shows from a key on, the first one last, where none are in hand.
+fn read_ahead<D: Disk>(
+    disk: &mut D,
+    engine: &mut Engine,
+    family: u32,
+    from: &Bytes,
+    ahead: &mut Vec<(Bytes, ShownRow)>,
+) -> Result<(), OpenFault>
+    ensures ahead { IsTrue (D.state disk.old).tells → (l : Layout)
+        → Reads (D.state disk.old) engine.old l → IsAhead l family from.now ahead.old.items
+        → OnOk result (IsAhead l family from.now ahead.new.items) }
+    ensures none { IsTrue (D.state disk.old).tells → (l : Layout)
+        → Reads (D.state disk.old) engine.old l → OnOk result (ahead.new.items ≡ []
+        → rows_between l family from.now None true ≡ []) }
+    ensures walked { Walked (D.state disk.old) (D.state disk.new) engine.old engine.new }
+    ensures fault { IsTrue (D.state disk.old).tells → (l : Layout)
+        → Reads (D.state disk.old) engine.old l → IfErr result IsDeviceFault }
+    ensures cause { IsErrOf result OpenFault.Failed
+        → Rose (D.state disk.old).faults (D.state disk.new).faults }
+{
+    if !ahead.is_empty() {
+        return Ok(());
+    }
     let Ok(from) = from.copy() else {
         return Err(OpenFault::NoMemory);
     };
     let range = KeyRange { from, to: None };
-    let mut page = Vec::new(alloc);
-    match engine.rows(disk, family, &range, true, 1, &mut page) {
-        Ok(()) => Ok(page.pop()),
+    match engine.rows(disk, family, &range, true, ROWS_AHEAD, ahead) {
+        Ok(()) => {
+            ahead.reverse();
+            Ok(())
+        }
         Err(fault) => Err(unread(fault)),
     }
 }
@@ -88,8 +127,9 @@ pub(crate) fn read_items<D: Disk>(
         → Rose (D.state disk.old).faults (D.state disk.new).faults }
 {
     let mut from = Bytes::from_vec(Vec::new(alloc));
+    let mut ahead = Vec::new(alloc);
     'rows: for _ in 0..u64::MAX {
-        let (key, row) = match next_row(alloc, disk, engine, schema.family, &from) {
+        let (key, row) = match next_row(disk, engine, schema.family, &from, &mut ahead) {
             Ok(Some(next)) => next,
             Ok(None) => return Ok(()),
             Err(fault) => return Err(fault),

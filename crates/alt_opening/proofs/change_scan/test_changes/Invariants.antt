@@ -2,7 +2,7 @@
 use Rattle.std.proofs.Common.{IsTrue}
 use Rattle.alt_engine.specs.InHand.{Reads}
 use Rattle.alt_layout.specs.Layout.{Layout}
-use Rattle.alt_opening.specs.Scans.{IsBelow, Walked}
+use Rattle.alt_opening.specs.Scans.{IsAhead, IsBelow, Walked}
 use Rattle.alt_opening.specs.StreamScans.{ChangesWhere}
 use Rattle.alt_opening.proofs.change_scan.test_changes.Given as goal
 
@@ -12,4 +12,7 @@ invariant-rows g l = record {
   changes : IsTrue (g.D.Disk.state l.fn.disk).tells → (layout : Layout)
       → Reads (g.D.Disk.state l.fn.disk) l.fn.engine layout
       → ChangesWhere (λ k. IsBelow k l.from) layout l.schema l.next l.family;
+  ahead : IsTrue (g.D.Disk.state l.fn.disk).tells → (layout : Layout)
+      → Reads (g.D.Disk.state l.fn.disk) l.fn.engine layout
+      → IsAhead layout l.family l.from l.ahead.items;
 }

@@ -6,6 +6,7 @@ use Rattle.alt_opening.specs.IndexScans.{HasRow}
 use Rattle.alt_opening.specs.Scans.{IsFirstFrom, IsNextRow, Walked}
 use Rattle.alt_opening.proofs.IndexSteps.{foreign_first, foreign_none}
 use Rattle.alt_opening.proofs.OneState.{some}
+use Rattle.alt_opening.proofs.Ahead.{ahead_then, none_ahead}
 use Rattle.alt_opening.proofs.Scanning.{walk_start, walk_then, reads_on, rows_none, rows_next, rows_all, rows_more}
 use Rattle.alt_opening.proofs.index_scan.first_foreign.Goals as goal
 
@@ -15,6 +16,8 @@ rows-init g c = record {
   own = λ tells layout i reads at made read. rows_none layout i.family
       (HasRow layout c.args.schema.now i) c.from_vec-from.result
       (c.from_vec-from.ensures.same ∙ c.new.ensures.items);
+  ahead = λ tells layout reads. none_ahead layout c.index_at.result.now.family c.from_vec-from.result
+      c.new-ahead.result.items c.new-ahead.ensures.items;
 }
 
 pub returns-in-Ok-None-clause-first : goal.returns-in-Ok-None-clause-first
@@ -28,7 +31,8 @@ returns-in-Ok-None-clause-first g c tells l i reads at made read =
     (c.in-Ok-None.ensures.row
     (subst IsTrue (sym c.rows.invariant.walked.goes.tells) tells) l
     (reads_on (g.D.Disk.state c.args.disk.now) (g.D.Disk.state c.rows.disk) c.args.engine.now
-    c.rows.engine l c.rows.invariant.walked tells reads)))))
+    c.rows.engine l c.rows.invariant.walked tells reads)
+    (c.rows.invariant.ahead tells l reads)))))
 
 pub returns-in-Ok-false-clause-first : goal.returns-in-Ok-false-clause-first
 returns-in-Ok-false-clause-first g c tells l i reads at made read =
@@ -40,7 +44,8 @@ returns-in-Ok-false-clause-first g c tells l i reads at made read =
     (c.in-Ok-Some.ensures.row
     (subst IsTrue (sym c.rows.invariant.walked.goes.tells) tells) l
     (reads_on (g.D.Disk.state c.args.disk.now) (g.D.Disk.state c.rows.disk) c.args.engine.now
-    c.rows.engine l c.rows.invariant.walked tells reads))) in
+    c.rows.engine l c.rows.invariant.walked tells reads)
+    (c.rows.invariant.ahead tells l reads))) in
     let walked : Walked (g.D.Disk.state c.args.disk.now) (g.D.Disk.state c.next_row.new.disk)
     c.args.engine.now c.next_row.new.engine = walk_then (g.D.Disk.state c.args.disk.now)
     (g.D.Disk.state c.rows.disk) (g.D.Disk.state c.next_row.new.disk) c.args.engine.now
@@ -73,7 +78,8 @@ rows-preserved g c =
           (c.in-Ok-Some.ensures.row
           (subst IsTrue (sym c.rows.invariant.walked.goes.tells) tells) l
           (reads_on (g.D.Disk.state c.args.disk.now) (g.D.Disk.state c.rows.disk)
-          c.args.engine.now c.rows.engine l c.rows.invariant.walked tells reads))) in
+          c.args.engine.now c.rows.engine l c.rows.invariant.walked tells reads)
+          (c.rows.invariant.ahead tells l reads))) in
           let own = c.in-Ok-true.ensures.own (subst IsTrue (sym walked.goes.tells) tells) l i
           (reads_on (g.D.Disk.state c.args.disk.now) (g.D.Disk.state c.next_row.new.disk)
           c.args.engine.now c.next_row.new.engine l walked tells reads) at made read in
@@ -82,6 +88,14 @@ rows-preserved g c =
           (rows_next l i.family (HasRow l c.args.schema.now i) c.rows.from
           (c.rows.invariant.own tells l i reads at made read) c.in-Ok-Some.next.0
           c.in-Ok-Some.next.1 first) first.shows (own.0 c.in-Ok-true.field-0-test) c.in-Ok.after
+          (c.in-Ok.ensures ∙ ap (λ k. k ++ 0 ∷ []) c.as_slice.ensures.same);
+      ahead = λ tells l reads. ahead_then l c.index_at.result.now.family c.in-Ok-Some.field-0 c.in-Ok-Some.next
+          c.next_row.new.ahead.items c.in-Ok-Some.field-0-is
+          (c.in-Ok-Some.ensures.ahead (subst IsTrue (sym c.rows.invariant.walked.goes.tells) tells) l
+          (reads_on (g.D.Disk.state c.args.disk.now) (g.D.Disk.state c.rows.disk) c.args.engine.now
+          c.rows.engine l c.rows.invariant.walked tells reads)
+          (c.rows.invariant.ahead tells l reads))
+          c.in-Ok.after
           (c.in-Ok.ensures ∙ ap (λ k. k ++ 0 ∷ []) c.as_slice.ensures.same);
     }
 

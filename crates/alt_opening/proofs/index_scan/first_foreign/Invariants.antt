@@ -6,7 +6,7 @@ use Rattle.alt_machine.specs.Sources.{index_at}
 use Rattle.alt_machine.specs.Valid.{IsMade}
 use Rattle.alt_schema.specs.declared.schema.IndexSchema.{IndexSchema}
 use Rattle.alt_opening.specs.IndexScans.{AreOwn}
-use Rattle.alt_opening.specs.Scans.{IsBelow, ItemsRead, Walked}
+use Rattle.alt_opening.specs.Scans.{IsAhead, IsBelow, ItemsRead, Walked}
 use Rattle.alt_opening.proofs.index_scan.first_foreign.Given as goal
 
 abbrev pub invariant-rows : goal.invariant-rows
@@ -16,4 +16,7 @@ invariant-rows g l = record {
       → Reads (g.D.Disk.state l.fn.disk) l.fn.engine layout
       → index_at l.schema (Some l.number) ≡ Some i → IsMade l.schema → ItemsRead layout l.schema
       → AreOwn (λ key. IsBelow key l.from) layout l.schema i;
+  ahead : IsTrue (g.D.Disk.state l.fn.disk).tells → (layout : Layout)
+      → Reads (g.D.Disk.state l.fn.disk) l.fn.engine layout
+      → IsAhead layout l.family l.from l.ahead.items;
 }

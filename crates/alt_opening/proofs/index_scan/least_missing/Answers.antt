@@ -2,6 +2,7 @@
 use Rattle.std.proofs.Common.{refl, sym, ap, subst, ◌∙◌, ◌++◌, ◌∷◌, [], None, IsTrue}
 use Rattle.alt_opening.specs.Scans.{IsFirstFrom, IsNextRow, Walked}
 use Rattle.alt_opening.proofs.IndexSteps.{missing_all, missing_more, missing_none}
+use Rattle.alt_opening.proofs.Ahead.{ahead_then, none_ahead}
 use Rattle.alt_opening.proofs.Scanning.{walk_start, walk_then, reads_on}
 use Rattle.alt_opening.proofs.index_scan.least_missing.Goals as goal
 
@@ -10,6 +11,8 @@ rows-init g c = record {
   walked = walk_start (g.D.Disk.state c.args.disk.now) c.args.engine.now;
   least = λ tells layout i reads at read. missing_none layout c.args.schema.now i
       c.from_vec-from.result (c.from_vec-from.ensures.same ∙ c.new.ensures.items) None refl;
+  ahead = λ tells layout reads. none_ahead layout c.args.schema.now.family c.from_vec-from.result
+      c.new-ahead.result.items c.new-ahead.ensures.items;
 }
 
 pub returns-in-Ok-None-clause-least : goal.returns-in-Ok-None-clause-least
@@ -20,7 +23,8 @@ returns-in-Ok-None-clause-least g c tells l i reads at read =
     (c.in-Ok-None.ensures.row
     (subst IsTrue (sym c.rows.invariant.walked.goes.tells) tells) l
     (reads_on (g.D.Disk.state c.args.disk.now) (g.D.Disk.state c.rows.disk) c.args.engine.now
-    c.rows.engine l c.rows.invariant.walked tells reads)))
+    c.rows.engine l c.rows.invariant.walked tells reads)
+    (c.rows.invariant.ahead tells l reads)))
 
 pub rows-preserved : goal.rows-preserved
 rows-preserved g c =
@@ -39,7 +43,8 @@ rows-preserved g c =
           (c.in-Ok-Some.ensures.row
           (subst IsTrue (sym c.rows.invariant.walked.goes.tells) tells) l
           (reads_on (g.D.Disk.state c.args.disk.now) (g.D.Disk.state c.rows.disk)
-          c.args.engine.now c.rows.engine l c.rows.invariant.walked tells reads)) in
+          c.args.engine.now c.rows.engine l c.rows.invariant.walked tells reads)
+          (c.rows.invariant.ahead tells l reads)) in
           missing_more l c.args.schema.now i c.rows.from c.rows.least
           (c.rows.invariant.least tells l i reads at read) read c.in-Ok-Some.next.0
           c.in-Ok-Some.next.1 first c.in-Ok.missing
@@ -49,6 +54,14 @@ rows-preserved g c =
           c.in-Ok-key_after.after
           (c.in-Ok-key_after.ensures ∙ ap (λ k. k ++ 0 ∷ []) c.as_slice.ensures.same)
           c.lesser-least.result c.lesser-least.ensures;
+      ahead = λ tells l reads. ahead_then l c.args.schema.now.family c.in-Ok-Some.field-0 c.in-Ok-Some.next
+          c.next_row.new.ahead.items c.in-Ok-Some.field-0-is
+          (c.in-Ok-Some.ensures.ahead (subst IsTrue (sym c.rows.invariant.walked.goes.tells) tells) l
+          (reads_on (g.D.Disk.state c.args.disk.now) (g.D.Disk.state c.rows.disk) c.args.engine.now
+          c.rows.engine l c.rows.invariant.walked tells reads)
+          (c.rows.invariant.ahead tells l reads))
+          c.in-Ok-key_after.after
+          (c.in-Ok-key_after.ensures ∙ ap (λ k. k ++ 0 ∷ []) c.as_slice.ensures.same);
     }
 
 pub returns-in-Ok-None-clause-walked : goal.returns-in-Ok-None-clause-walked

@@ -5,7 +5,7 @@ use Rattle.alt_layout.specs.Layout.{Layout}
 use Rattle.alt_machine.specs.Sources.{index_at}
 use Rattle.alt_schema.specs.declared.schema.IndexSchema.{IndexSchema}
 use Rattle.alt_opening.specs.IndexScans.{IsLeastMissing}
-use Rattle.alt_opening.specs.Scans.{IsBelow, ItemsRead, Walked}
+use Rattle.alt_opening.specs.Scans.{IsAhead, IsBelow, ItemsRead, Walked}
 use Rattle.alt_opening.proofs.index_scan.least_missing.Given as goal
 
 abbrev pub invariant-rows : goal.invariant-rows
@@ -15,4 +15,7 @@ invariant-rows g l = record {
       → Reads (g.D.Disk.state l.fn.disk) l.fn.engine layout
       → index_at l.schema (Some l.number) ≡ Some i → ItemsRead layout l.schema
       → IsLeastMissing (λ place. IsBelow place l.from) layout l.schema i l.least;
+  ahead : IsTrue (g.D.Disk.state l.fn.disk).tells → (layout : Layout)
+      → Reads (g.D.Disk.state l.fn.disk) l.fn.engine layout
+      → IsAhead layout l.schema.family l.from l.ahead.items;
 }

@@ -3,7 +3,8 @@ use Rattle.std.proofs.Common.{IsTrue}
 use Rattle.alt_engine.specs.InHand.{Reads}
 use Rattle.alt_layout.specs.Layout.{Layout}
 use Rattle.alt_opening.specs.Opening.{IsReadUpTo}
-use Rattle.alt_opening.specs.Scans.{Walked}
+use Rattle.alt_opening.specs.Scans.{IsAhead, Walked}
+use Rattle.alt_opening.specs.StateRows.{catalog_family}
 use Rattle.alt_opening.proofs.opened.read_catalog.Given as goal
 
 abbrev pub invariant-rows : goal.invariant-rows
@@ -12,4 +13,7 @@ invariant-rows g l = record {
   known : IsTrue (g.D.Disk.state l.fn.disk).tells → (layout : Layout)
       → Reads (g.D.Disk.state l.fn.disk) l.fn.engine layout
       → IsReadUpTo layout l.family l.from l.catalog;
+  ahead : IsTrue (g.D.Disk.state l.fn.disk).tells → (layout : Layout)
+      → Reads (g.D.Disk.state l.fn.disk) l.fn.engine layout
+      → IsAhead layout catalog_family l.from l.ahead.items;
 }

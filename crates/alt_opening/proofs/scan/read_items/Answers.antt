@@ -1,6 +1,7 @@
 -- One row more.
 use Rattle.std.proofs.Common.{sym, ap, subst, ◌∙◌, ◌++◌, ◌∷◌, [], refl, Err, IsTrue}
 use Rattle.alt_opening.specs.Scans.{IsItemRow, IsNextRow, IsFirstFrom}
+use Rattle.alt_opening.proofs.Ahead.{ahead_then, none_ahead}
 use Rattle.alt_opening.proofs.Scanning.{walk_start, walk_then, reads_on, rows_none, rows_next, rows_all, rows_more}
 use Rattle.alt_opening.proofs.DeviceFaults.{device_item}
 use Rattle.alt_opening.proofs.scan.read_items.Goals as goal
@@ -11,6 +12,8 @@ rows-init g c = record {
   items = λ tells layout reads. rows_none layout c.args.schema.now.family
       (IsItemRow c.args.schema.now) c.from_vec-from.result
       (c.from_vec-from.ensures.same ∙ c.new.ensures.items);
+  ahead = λ tells layout reads. none_ahead layout c.args.schema.now.family c.from_vec-from.result
+      c.new-ahead.result.items c.new-ahead.ensures.items;
 }
 
 pub returns-in-Ok-None-clause-read : goal.returns-in-Ok-None-clause-read
@@ -21,7 +24,8 @@ returns-in-Ok-None-clause-read g c tells l reads =
     (c.in-Ok-None.ensures.row
     (subst IsTrue (sym c.rows.invariant.walked.goes.tells) tells) l
     (reads_on (g.D.Disk.state c.args.disk.now) (g.D.Disk.state c.rows.disk) c.args.engine.now
-    c.rows.engine l c.rows.invariant.walked tells reads)))
+    c.rows.engine l c.rows.invariant.walked tells reads)
+    (c.rows.invariant.ahead tells l reads)))
 
 pub returns-in-Err-Bad-clause-wrong : goal.returns-in-Err-Bad-clause-wrong
 returns-in-Err-Bad-clause-wrong g c tells l reads =
@@ -31,7 +35,8 @@ returns-in-Err-Bad-clause-wrong g c tells l reads =
     (c.in-Ok-Some.ensures.row
     (subst IsTrue (sym c.rows.invariant.walked.goes.tells) tells) l
     (reads_on (g.D.Disk.state c.args.disk.now) (g.D.Disk.state c.rows.disk) c.args.engine.now
-    c.rows.engine l c.rows.invariant.walked tells reads)) in (
+    c.rows.engine l c.rows.invariant.walked tells reads)
+    (c.rows.invariant.ahead tells l reads)) in (
       refl,
       record {
         before = rows_next l c.args.schema.now.family (IsItemRow c.args.schema.now) c.rows.from
@@ -55,12 +60,21 @@ rows-preserved g c = record {
       (c.in-Ok-Some.ensures.row
       (subst IsTrue (sym c.rows.invariant.walked.goes.tells) tells) l
       (reads_on (g.D.Disk.state c.args.disk.now) (g.D.Disk.state c.rows.disk) c.args.engine.now
-      c.rows.engine l c.rows.invariant.walked tells reads)) in
+      c.rows.engine l c.rows.invariant.walked tells reads)
+      (c.rows.invariant.ahead tells l reads)) in
       rows_more l c.args.schema.now.family (IsItemRow c.args.schema.now) c.in-Ok-Some.next.0
       c.in-Ok-Some.next.1
       (rows_next l c.args.schema.now.family (IsItemRow c.args.schema.now) c.rows.from
       (c.rows.invariant.items tells l reads)
       c.in-Ok-Some.next.0 c.in-Ok-Some.next.1 first) first.shows c.in-Ok.ensures.item
+      c.in-Ok-key_after.after
+      (c.in-Ok-key_after.ensures ∙ ap (λ k. k ++ 0 ∷ []) c.as_slice.ensures.same);
+  ahead = λ tells l reads. ahead_then l c.args.schema.now.family c.in-Ok-Some.field-0 c.in-Ok-Some.next
+      c.next_row.new.ahead.items c.in-Ok-Some.field-0-is
+      (c.in-Ok-Some.ensures.ahead (subst IsTrue (sym c.rows.invariant.walked.goes.tells) tells) l
+      (reads_on (g.D.Disk.state c.args.disk.now) (g.D.Disk.state c.rows.disk) c.args.engine.now
+      c.rows.engine l c.rows.invariant.walked tells reads)
+      (c.rows.invariant.ahead tells l reads))
       c.in-Ok-key_after.after
       (c.in-Ok-key_after.ensures ∙ ap (λ k. k ++ 0 ∷ []) c.as_slice.ensures.same);
 }

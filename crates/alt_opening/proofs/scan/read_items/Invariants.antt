@@ -2,7 +2,7 @@
 use Rattle.std.proofs.Common.{IsTrue}
 use Rattle.alt_engine.specs.InHand.{Reads}
 use Rattle.alt_layout.specs.Layout.{Layout}
-use Rattle.alt_opening.specs.Scans.{IsBelow, ItemsWhere, Walked}
+use Rattle.alt_opening.specs.Scans.{IsAhead, IsBelow, ItemsWhere, Walked}
 use Rattle.alt_opening.proofs.scan.read_items.Given as goal
 
 abbrev pub invariant-rows : goal.invariant-rows
@@ -11,4 +11,7 @@ invariant-rows g l = record {
   items : IsTrue (g.D.Disk.state l.fn.disk).tells → (layout : Layout)
       → Reads (g.D.Disk.state l.fn.disk) l.fn.engine layout
       → ItemsWhere (λ k. IsBelow k l.from) layout l.schema;
+  ahead : IsTrue (g.D.Disk.state l.fn.disk).tells → (layout : Layout)
+      → Reads (g.D.Disk.state l.fn.disk) l.fn.engine layout
+      → IsAhead layout l.schema.family l.from l.ahead.items;
 }

@@ -1,6 +1,6 @@
 #!/usr/bin/env bash
 # What flushes leave of the files of a store: a log without entries, no bytes of a table that is gone. And what a run notes of a row file with a
-# changed byte, and where no file has a number left.
+# changed byte, and where no file has a number left. The gate does not run it yet: it was not tried over a built program.
 set -u
 cd "$(dirname "$0")/.."
 passed=0

@@ -1,4 +1,7 @@
-use Rattle.std.proofs.Common.{sym, subst}
+use Rattle.std.proofs.Common.{OnOk, sym, subst}
+use Rattle.alt_engine.specs.declared.engine.Limits.{Limits}
+use Rattle.alt_talks.specs.Works.{HasFewEntries}
+use Rattle.alternator.specs.Behind.{AfterJob}
 use Rattle.std.specs.Prelude.{MatchResult}
 use Rattle.alternator.specs.Endings.{Done, Broken}
 use Rattle.alternator.specs.Words.{IsServable}
@@ -32,3 +35,14 @@ returns-in-Trial-clause-done g c = λ s stands.
 
 pub serve-requires-clause-some : goal.serve-requires-clause-some
 serve-requires-clause-some g c = subst IsServable c.in-Serve.is c.requires.some
+
+pub returns-in-Trial-clause-after : goal.returns-in-Trial-clause-after
+returns-in-Trial-clause-after g c =
+    let state = g.S.Disk.state in
+    let a = state c.args.shell.now in
+    let d = state c.carry_out_trial.new.shell in
+    subst (λ (j : Job). OnOk c.carry_out_trial.result (AfterJob j c.args.limits.flush a d))
+    (sym c.in-Trial.is)
+    (subst (λ (limits : Limits). OnOk c.carry_out_trial.result (HasFewEntries limits.flush d))
+    c.requires.known
+    (c.carry_out_trial.ensures.few (subst IsServable c.in-Trial.is c.requires.some)))

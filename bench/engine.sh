@@ -1,6 +1,7 @@
 #!/usr/bin/env bash
 # The engine over files, over the built program: puts that are flushed beside puts that aren't, the longest a put takes meanwhile, memory, bytes
-# written for a byte put, opening, and gets and queries from memory and from files; and where sqlite's and LevelDB's tools are there, theirs.
+# written for a byte put, opening, and gets and queries from memory and from files; and where sqlite's tool and LevelDB's library are there, theirs.
+# Where valgrind is there, also the instructions of puts, of an opening, of gets and of queries over 20,000 items, which no other run changes.
 # Not part of the gate. Usage: bench/engine.sh [FOLDER [ITEMS]]: the store is laid there, /dev/shm by default; 1000000 items by default.
 set -eu
 cd "$(dirname "$0")/.."
@@ -31,7 +32,7 @@ processor() { # COMMAND..: seconds of the processor
 seconds() {
   local start end
   start=$(date +%s.%N)
-  "$@"
+  "$@" >/dev/null
   end=$(date +%s.%N)
   awk -v a="$start" -v b="$end" 'BEGIN { printf "%.3f", b - a }'
 }
@@ -69,9 +70,36 @@ for name in small files; do
     awk -v a="$base" -v b="$spent" -v n="$count" -v w="$lines" -v k="$name" 'BEGIN { printf "%s of %s: %.2f microseconds of the processor each\n", w, k == "small" ? "items in memory" : "items in one file", (b - a) * 1000000 / n }'
   done
 done
+if command -v valgrind >/dev/null 2>&1; then
+  counted() { # STORE FLUSH LINES: the instructions of a run
+    valgrind --tool=callgrind --callgrind-out-file=/dev/null "$program" "$work/$1" 0 replay "$2" 4 <"$3" 2>&1 >/dev/null | awk '/Collected/ { print $4 }'
+  }
+  head -n 20000 "$work/puts" >"$work/lines"
+  gets 1000 20000 >"$work/gets"
+  queries 100 20000 >"$work/queries"
+  for kind in "memory $never" "files 1048576"; do
+    read -r name limit <<<"$kind"
+    made "$name"
+    none=$(counted "$name" "$limit" "$work/none")
+    spent=$(counted "$name" "$limit" "$work/lines")
+    echo "20,000 puts, rows to $name: $(((spent - none) / 20000)) instructions each; $(find "$work/$name" -name '*.alt' | wc -l) files behind them"
+    [ "$name" = memory ] || replayed "$name" "$limit" "$work/flush"
+    none=$(counted "$name" "$never" "$work/none")
+    echo "opening it: $((none / 20000)) instructions an item"
+    for what in "gets 1000" "queries 100"; do
+      read -r lines count <<<"$what"
+      spent=$(counted "$name" "$never" "$work/$lines")
+      echo "$lines over it: $(((spent - none) / count)) instructions each"
+    done
+  done
+fi
 if command -v sqlite3 >/dev/null 2>&1; then
   awk 'BEGIN { print "PRAGMA journal_mode=WAL; PRAGMA synchronous=NORMAL; CREATE TABLE t (pk TEXT, sk INT, v TEXT, PRIMARY KEY (pk, sk)) WITHOUT ROWID;" }
     { gsub(/\047/, ""); printf "INSERT INTO t VALUES (\047c%d\047, %d, \047%s\047);\n", NR / 100, NR % 100, substr($0, 9) }' "$work/few" >"$work/sql"
   time=$(seconds sqlite3 "$work/sqlite" ".read $work/sql")
   awk -v n="$few" -v t="$time" 'BEGIN { printf "sqlite, %d inserts of the same texts, each its own transaction: %.2f s, %d a second\n", n, t, n / t }'
+fi
+if [ -e /usr/include/leveldb/db.h ] && command -v g++ >/dev/null 2>&1; then
+  g++ -O2 -o "$work/leveldb" bench/engine-leveldb.cc -lleveldb
+  "$work/leveldb" "$work/level" "$items" "$few"
 fi

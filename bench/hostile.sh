@@ -19,7 +19,7 @@ measured() {
   case $name in *"$only"*) ;; *) return 0 ;; esac
   rm -rf "$out/store" && "$program" "$out/store" 0 init >/dev/null
   "$@" >"$out/hostile.lines"
-  /usr/bin/time -f '%U %S %M' -o "$out/hostile.cost" "$program" "$out/store" 0 replay 65536 4 <"$out/hostile.lines" >"$out/hostile.replies"
+  /usr/bin/time -f '%U %S %M' -o "$out/hostile.cost" "$program" "$out/store" 0 replay 67108864 4 <"$out/hostile.lines" >"$out/hostile.replies"
   awk -v name="$name" -v given="$(wc -c <"$out/hostile.lines")" -v reply="$(tail -n 1 "$out/hostile.replies" | cut -c 1-80)" '
     { printf "%s: %d bytes, %.2f s, %.2f s a MB, %d KB at most, %.1f times the bytes; %s\n", name, given, $1 + $2, ($1 + $2) * 1e6 / given, $3, $3 * 1024 / given, reply }' "$out/hostile.cost"
 }
@@ -44,10 +44,13 @@ attributes() {
     }
   }'
 }
-# small COUNT: so many small items, each with a map; scanned COUNT MEMBERS: these and a scan of them
+# small COUNT: so many small items, each with a map, in batches of 20; scanned COUNT MEMBERS: these and a scan of them
 small() {
   printf '%s\n' "$create"
-  seq "$1" | awk '{ printf "PutItem {\"TableName\":\"Tab\",\"Item\":{\"k\":{\"S\":\"%06d\"},\"aa\":{\"N\":\"1\"},\"m\":{\"M\":{\"aa\":{\"N\":\"1\"}}}}}\n", $1 }'
+  seq "$1" | awk '{
+    put = sprintf("{\"PutRequest\":{\"Item\":{\"k\":{\"S\":\"%06d\"},\"aa\":{\"N\":\"1\"},\"m\":{\"M\":{\"aa\":{\"N\":\"1\"}}}}}}", $1)
+    printf "%s%s%s", (NR % 20 == 1 ? "BatchWriteItem {\"RequestItems\":{\"Tab\":[" : ","), put, (NR % 20 == 0 ? "]}}\n" : "")
+  }'
 }
 scanned() { small "$1" && printf 'Scan {"TableName":"Tab",%s}\n' "$2"; }
 # paths COUNT BEFORE: so many names of one or two bytes, with commas between and that before each
@@ -81,15 +84,18 @@ nested() {
   }'
 }
 deep() { printf '%s\nPutItem {"TableName":"Tab","Item":{"k":{"S":"a"},%s}}\n' "$create" "$(nested "$1")"; }
-# unread COUNT: a member that nobody reads, with so many times 120 maps of one entry in one another
-unread() {
+# maps COUNT: so many times 120 maps of one entry in one another; unread COUNT: a member of them that nobody reads; beside: the same beside an
+# item, and a number
+maps() {
   awk -v count="$1" 'BEGIN {
     for (i = 0; i < 120; i++) { open = open "{\"a\":"; close_ = close_ "}" }
-    printf "ListTables {\"Other\":["
     for (i = 0; i < count; i++) printf "%s%snull%s", (i > 0 ? "," : ""), open, close_
-    print "]}"
   }'
 }
+unread() { printf 'ListTables {"Other":[%s]}\n' "$(maps "$1")"; }
+unread_beside() { printf '%s\nPutItem {"TableName":"Tab","Item":{"k":{"S":"a"}},"Other":[1.5,%s]}\n' "$create" "$(maps "$1")"; }
+# keyed COUNT: a get by a key of so many attributes, each with maps of one entry in one another, so of a member that is read to a JSON tree
+keyed() { printf '%s\nGetItem {"TableName":"Tab","Key":{"k":{"S":"a"},%s}}\n' "$create" "$(nested "$1")"; }
 # batch COUNT: a batch of so many deletions; given COUNT: an update beside so many values; named COUNT: one beside so many names
 batch() { printf '%s\nBatchWriteItem {"RequestItems":{"Tab":[%s]}}\n' "$create" "$(pieces "$1" '{"DeleteRequest":{"Key":{"k":{"S":"%06d"}}}}' ',')"; }
 given() { printf '%s\nUpdateItem {"TableName":"Tab","Key":{"k":{"S":"a"}},"UpdateExpression":"SET a=:v000001","ExpressionAttributeValues":{%s}}\n' "$create" "$(pieces "$1" '":v%06d":{"S":"x"}' ',')"; }
@@ -122,6 +128,8 @@ measured "an update that puts it 400 times into a map" changed '"m":{"M":{}}' "S
 measured "an update that appends it 150 times to itself" changed '"m":{"M":{}}' "SET $(pieces 150 'a%d=list_append(:v,:v)' ',')" "$(listed)"
 measured "an update that adds it to 400 sets" changed "$(pieces 400 '"a%03d":{"SS":["x"]}' ',')" "ADD $(pieces 400 'a%03d :v' ',')" "$(in_set)"
 measured "a member that nobody reads, 4 MB" unread 5500
+measured "a member that nobody reads beside an item, 4 MB" unread_beside 5500
+measured "a key of maps of one entry in one another, 4 MB" keyed 10000
 measured "a batch of 100,000 members" batch 100000
 measured "an update beside 200,000 values" given 200000
 measured "an update beside 200,000 names" named 200000

@@ -4,13 +4,9 @@
 # one of the table; and of opening a store with one index beside one without. Not part of the gate.
 # Usage: bench/indexes.sh [ITEMS], 4000 by default: how many items the stores have that are opened.
 set -eu
-cd "$(dirname "$0")/.."
+# shellcheck source=bench/lines.sh
+. "$(dirname "$0")/lines.sh"
 items=${1:-4000}
-out=bench/out
-mkdir -p "$out"
-program=${PROGRAM:-crates/alternator/out/alternator}
-[ -n "${PROGRAM:-}" ] || ./alternator . 0 >/dev/null 2>&1 || true
-flush=1073741824
 lines=100
 keys='"KeySchema":[{"AttributeName":"pk","KeyType":"HASH"},{"AttributeName":"sk","KeyType":"RANGE"}]'
 kinds='{"AttributeName":"pk","AttributeType":"S"},{"AttributeName":"sk","AttributeType":"S"}'
@@ -31,31 +27,19 @@ grouped() { # COUNT VALUE: the keys of so many indexes
 put() { # MEMBERS: the line of a put, with %07d for the number
   printf 'PutItem {"TableName":"Tab","Item":{%s%s}}\\n' "$item" "$1"
 }
-each() { # FIRST COUNT LINE: the line with each number
-  seq "$1" "$(($1 + $2 - 1))" | awk -v line="$3" '{ printf line, $1 }'
-}
-filled() { # CREATE: a store with that table and the items of standard input
-  rm -rf "$out/filled"
-  "$program" "$out/filled" 0 init >/dev/null
-  { printf '%s\n' "$1"; cat; } | "$program" "$out/filled" 0 replay "$flush" 4 >"$out/said"
-  if grep -qv '^200' "$out/said"; then grep -v '^200' "$out/said" | head -n 1; exit 1; fi
-}
-counted() { # FILE: the instructions of opening the store and answering the lines
-  rm -rf "$out/store"
-  cp -r "$out/filled" "$out/store"
-  valgrind --tool=callgrind --callgrind-out-file="$out/counted.callgrind" "$program" "$out/store" 0 replay "$flush" 4 <"$1" 2>&1 >"$out/said" | awk '/Collected/ { print $4 }'
-  if grep -qv '^200' "$out/said"; then grep -v '^200' "$out/said" | head -n 1 >&2; exit 1; fi
+filled_with() { # CREATE: a store with that table and the items of standard input
+  { printf '%s
+' "$1"; cat; } | filled
 }
 # One item is put over and over, with two values in turn, so that each put is a write.
 changed() { # CREATE MEMBERS MEMBERS: the instructions of such a put
-  each 7 1 "$(put "$2")" | filled "$1"
+  each 7 1 "$(put "$2")" | filled_with "$1"
   seq "$lines" | awk -v a="$(put "$3")" -v b="$(put "$2")" '{ printf (NR % 2 ? a : b), 7 }' >"$out/puts.lines"
   echo "$((($(counted "$out/puts.lines") - $(counted "$out/none.lines")) / lines))"
 }
 told() { # WHAT COUNT BESIDE COUNT
   awk -v what="$1" -v a="$2" -v beside="$3" -v b="$4" 'BEGIN { printf "%s: %d instructions; %s: %d, %.2f\n", what, a, beside, b, a / b }'
 }
-command -v valgrind >/dev/null 2>&1 || { echo 'bench/indexes.sh: valgrind is not installed'; exit 1; }
 : >"$out/none.lines"
 one=',"total":{"N":"129.95"}'
 two=',"total":{"N":"7"}'
@@ -70,7 +54,7 @@ single=$(changed "$plain" "$group$one" "$group$two")
 told 'a put that changes the row of one index' "$(changed "$(table 1 ALL)" "$group$one" "$group$two")" 'two puts without indexes' "$((2 * single))"
 told 'a put that moves the row of one index' "$(changed "$(table 1 ALL)" "$group$one" "$other$one")" 'two puts without indexes' "$((2 * $(changed "$plain" "$group$one" "$other$one")))"
 # a Query of 100 items, in the table and in an index that keeps all
-each 0 100 "$(put "$group$one")" | filled "$(table 1 ALL)"
+each 0 100 "$(put "$group$one")" | filled_with "$(table 1 ALL)"
 opened=$(counted "$out/none.lines")
 asked() { # INDEX KEY VALUE
   printf 'Query {"TableName":"Tab",%s"KeyConditionExpression":"%s = :v","ExpressionAttributeValues":{":v":{"S":"%s"}}}\n' "$1" "$2" "$3"
@@ -79,8 +63,8 @@ asked '' pk 'customer#0000042' >"$out/table.lines"
 asked '"IndexName":"By-0",' g0 group >"$out/index.lines"
 told 'a Query of 100 items in an index' "$(($(counted "$out/index.lines") - opened))" 'in the table' "$(($(counted "$out/table.lines") - opened))"
 # opening
-each 0 "$items" "$(put "$group$one")" | filled "$plain"
+each 0 "$items" "$(put "$group$one")" | filled_with "$plain"
 opened=$(counted "$out/none.lines")
-each 0 "$items" "$(put "$group$one")" | filled "$(table 1 ALL)"
+each 0 "$items" "$(put "$group$one")" | filled_with "$(table 1 ALL)"
 told "to open a store of $items items with an index that keeps all" "$(counted "$out/none.lines")" 'without indexes' "$opened"
 rm -rf "$out/store" "$out/filled"

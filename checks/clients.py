@@ -135,6 +135,63 @@ wants(
     "ValidationException",
 )
 
+# The older interface: members that stand in the place of expressions.
+old = {"Artist": "Older", "Year": 1}
+table.put_item(Item={**old, "Awards": 2}, Expected={"Artist": {"Exists": False}})
+wants(
+    "entries that don't hold",
+    error_of(table.put_item, Item={**old, "Awards": 9}, Expected={"Awards": {"Value": 3}, "Label": {"Exists": False}}),
+    "ConditionalCheckFailedException",
+)
+updated = table.update_item(
+    Key=old,
+    AttributeUpdates={
+        "Awards": {"Action": "ADD", "Value": 1},
+        "Songs": {"Action": "ADD", "Value": {"One", "Two"}},
+        "Label": {"Action": "DELETE"},
+    },
+    Expected={
+        "Awards": {"ComparisonOperator": "BETWEEN", "AttributeValueList": [2, 5]},
+        "Label": {"ComparisonOperator": "NOT_NULL"},
+    },
+    ConditionalOperator="OR",
+    ReturnValues="UPDATED_NEW",
+)
+wants("attribute_updates", updated["Attributes"], {"Awards": 3, "Songs": {"One", "Two"}})
+wants("attributes_to_get", table.get_item(Key=old, AttributesToGet=["Awards"])["Item"], {"Awards": 3})
+wants(
+    "key_conditions",
+    [
+        int(item["Year"])
+        for item in table.query(
+            KeyConditions={
+                "Artist": {"ComparisonOperator": "EQ", "AttributeValueList": ["a3"]},
+                "Year": {"ComparisonOperator": "GE", "AttributeValueList": [150]},
+            },
+            QueryFilter={"Year": {"ComparisonOperator": "NE", "AttributeValueList": [years[-1]]}},
+            AttributesToGet=["Year"],
+        )["Items"]
+    ],
+    [year for year in years[:-1] if year >= 150],
+)
+wants(
+    "scan_filter",
+    table.scan(ScanFilter={"Songs": {"ComparisonOperator": "CONTAINS", "AttributeValueList": ["Two"]}})["Count"],
+    1,
+)
+wants(
+    "an entry beside an expression",
+    error_of(
+        table.put_item,
+        Item=old,
+        Expected={"Awards": {"Value": 3}},
+        ConditionExpression=Attr("Awards").eq(3),
+    ),
+    "ValidationException",
+)
+table.delete_item(Key=old, Expected={"Awards": {"Value": 3}})
+wants("delete_item by its entries", "Item" in table.get_item(Key=old), False)
+
 with table.batch_writer(overwrite_by_pkeys=["Artist", "Year"]) as batch:
     for n in range(60):
         batch.put_item(Item={"Artist": "batch", "Year": n})

@@ -1,5 +1,6 @@
 #!/usr/bin/env bash
-# A server on the loopback address, and clients of DynamoDB against it: curl, and boto3 and the AWS SDK for Go where they are installed.
+# A server on the loopback address, and clients of DynamoDB against it: curl, and boto3 and the AWS SDKs for Ruby and for Go where they are
+# installed.
 # It ends by itself: the server serves so many connections at most and is stopped at the end, and every wait has a limit.
 #
 #   checks/clients.sh [PORT]      the first of 21 ports to try, default 47120
@@ -68,6 +69,16 @@ if python3 -c 'import boto3' 2>/dev/null; then
   fi
 else
   echo 'clients: boto3 is not installed, and its part was skipped'
+fi
+# Version 1 of the SDK for Ruby, as Debian's package ruby-aws-sdk has it, which is spoken to by members of the older interface.
+if ruby -e 'require "aws-sdk"; exit AWS::VERSION.start_with?("1.") ? 0 : 1' 2>/dev/null; then
+  if timeout 120 ruby -W0 checks/clients.rb "$port"; then
+    passed=$((passed + 1))
+  else
+    failed=$((failed + 1))
+  fi
+else
+  echo 'clients: version 1 of the SDK for Ruby is not installed, and its part was skipped'
 fi
 # The SDK for Go as Debian's packages have it: without modules, and nothing is fetched.
 export GO111MODULE=off GOPROXY=off GOFLAGS= GOPATH=/usr/share/gocode

@@ -380,7 +380,8 @@ row "$(bad 'item too large')" PutItem "$(value '{"S":"'"$(many x 409598)"'"}')"
 row "$missing" PutItem '{"TableName":"Tob","Item":{"k":{"S":""}}}'
 row "$missing" PutItem '{"TableName":"Tob","Item":{},"ReturnValues":"NONE"}'
 row "$missing" GetItem '{"TableName":"Tob","Key":{},"ProjectionExpression":"k"}'
-row "$(bad 'members do not go together')" GetItem '{"TableName":"Tob","Key":{},"AttributesToGet":["k"]}'
+row "$missing" GetItem '{"TableName":"Tob","Key":{},"AttributesToGet":["k"]}'
+row "$(bad 'members do not go together')" GetItem '{"TableName":"Tob","Key":{},"AttributesToGet":["k"],"ProjectionExpression":"k"}'
 
 # a table that is deleted, and made again
 row "$(described TableDescription Tab DELETING)" DeleteTable '{"TableName":"Tab"}'

@@ -1,147 +1,131 @@
-"""A store under a program that is killed: python3 checks/stops.py PROGRAM TIMES.
+"""A store under a program that is killed: python3 checks/stops.py PROGRAM ROUNDS.
 
-Each time `replay` is fed puts over one store and killed at a random moment; then the store is opened again, and has to have each put
-that was answered, at most one more (the one that was begun), and none half. Puts go to new keys and over old ones in turn. The table has
-a stream, which at the end has one record of each put, in their order. Then a counter is raised by 1,000 updates in the same way: no kill
-sets it back.
+In each round `replay` is fed puts, deletes, updates that raise a counter, flushes and reopenings over one store, and is killed a random
+while behind a random number of replies; in every fourth the reopening behind it is killed too. Then the store is opened again, and has to show each write that was
+answered, at most those of one line more (the one that was begun), and none half: in the table, in its index and in its stream alike. Items
+are large enough that flushes run all the time. Every 50 rounds another store is begun, and the whole stream of the last one read.
 """
 
-import json
+import itertools
 import random
 import subprocess
 import sys
 import tempfile
 import threading
 
-PROGRAM, TIMES = sys.argv[1], int(sys.argv[2])
-TABLE = (
-    '{"TableName":"Tab","KeySchema":[{"AttributeName":"k","KeyType":"HASH"}],'
-    '"AttributeDefinitions":[{"AttributeName":"k","AttributeType":"S"}],'
-    '"StreamSpecification":{"StreamEnabled":true,"StreamViewType":"NEW_IMAGE"}}'
-)
+from stores import LIMITS, MADE, Script, answered, delete, ends, init, put, replay, seen, short, word
+
+PROGRAM, ROUNDS = sys.argv[1], int(sys.argv[2])
 KEYS = 40
+COUNTER = 100
+FILL = "f" * 1500
+# How many rounds one store has.
+OVER_ONE = 50
+# How many replies are waited for before a kill at most, and more lines than are carried out before it.
+MOST_REPLIES = 100
+MANY = 3000
 
 
-RAISE = (
-    'UpdateItem {"TableName":"Tab","Key":{"k":{"S":"counter"}},"UpdateExpression":"ADD n :one",'
-    '"ExpressionAttributeValues":{":one":{"N":"1"}}}\n'
-)
-RAISES = 1000
-
-
-def put(count):
-    return 'PutItem {"TableName":"Tab","Item":{"k":{"S":"%d"},"n":{"N":"%d"},"twice":{"N":"%d"}}}\n' % (
-        count % KEYS,
-        count,
-        2 * count,
+def raised(times):
+    """The counter is raised, and stands at so many then."""
+    line = (
+        'UpdateItem {"TableName":"Rng","Key":{"k":{"S":"a"},"r":{"N":"%d"}},"UpdateExpression":"SET g = :g ADD n :one",'
+        '"ExpressionAttributeValues":{":g":{"S":"counted"},":one":{"N":"1"}}}' % COUNTER
     )
+    it = {"k": {"S": "a"}, "r": {"N": str(COUNTER)}, "g": {"S": "counted"}, "n": {"N": str(times)}}
+    return line, [(COUNTER, it)]
 
 
-def get(key):
-    return 'GetItem {"TableName":"Tab","Key":{"k":{"S":"%d"}}}\n' % key
+def nth(count):
+    """The line behind `count` others: of five one raises the counter, of ten one deletes what the line before it has put."""
+    if count % 97 == 0:
+        return word("@flush") if count % 2 else word("@reopen")
+    if count % 5 == 3:
+        return raised(sum(1 for n in range(count + 1) if n % 5 == 3 and n % 97))
+    if count % 10 == 7 and (count - 1) % 97:
+        return delete((count - 1) % KEYS)
+    return put(count % KEYS, "g%d" % (count % 7), "%d %s" % (count, FILL))
 
 
-def shown(count):
-    return '200 {"Item":{"k":{"S":"%d"},"n":{"N":"%d"},"twice":{"N":"%d"}}}' % (count % KEYS, count, 2 * count)
-
-
-def replay(store, lines):
-    run = subprocess.run(
-        [PROGRAM, store, "0", "replay", "65536", "4"], input=lines, capture_output=True, text=True, check=True
-    )
-    return run.stdout.splitlines()
-
-
-def killed(store, lines):
-    """Feeds lines until the program is killed or they end; how many were answered."""
-    run = subprocess.Popen(
-        [PROGRAM, store, "0", "replay", "65536", "4"], stdin=subprocess.PIPE, stdout=subprocess.PIPE, text=True
-    )
-    threading.Timer(random.uniform(0.005, 0.25), run.kill).start()
+def killed(store, lines, replies, delay):
+    """Feeds lines, and kills the program a while behind so many replies; what was said."""
+    run = subprocess.Popen([PROGRAM, store, "0", "replay", *LIMITS], stdin=subprocess.PIPE, stdout=subprocess.PIPE, text=True)
 
     def feed():
         try:
             for line in lines:
-                run.stdin.write(line)
+                run.stdin.write(line + "\n")
             run.stdin.close()
         except (BrokenPipeError, OSError):
             pass
 
     feeder = threading.Thread(target=feed, daemon=True)
     feeder.start()
-    answered = sum(1 for line in run.stdout if line == "200 {}\n")
+    said = "".join(itertools.islice(run.stdout, replies))
+    timer = threading.Timer(delay, run.kill)
+    timer.start()
+    said += run.stdout.read()
     run.wait()
+    timer.cancel()
     feeder.join(5)
-    return answered
+    return said
+
+
+class Store:
+    """A store under kills, with the lines that were carried out on it."""
+
+    def __init__(self, folder):
+        self.folder = folder
+        init(PROGRAM, folder)
+        replay(PROGRAM, folder, MADE[0] + "\n", check=True)
+        self.script = Script([MADE])
+        self.count = 0
+        self.writes = 1
+
+    def round(self, number):
+        """Why the store isn't as it has to be behind one kill, None where it is."""
+        coming = [nth(count) for count in range(self.count, self.count + MANY)]
+        script = Script(coming, self.script.writes[: self.writes])
+        said = killed(self.folder, script.lines, random.randrange(MOST_REPLIES), random.uniform(0, 0.02))
+        done = answered(said, script.lines)
+        if number % 4 == 3:
+            killed(self.folder, ["@step"], 0, random.uniform(0, 0.03))
+        most = script.behind[min(done + 1, MANY)]
+        first = self.writes + 1
+        got = seen(PROGRAM, self.folder, most, first=first)
+        for after in range(script.behind[done], most + 1):
+            if got == since(script.view(after), first):
+                # A line that was begun counts as carried out where its writes are there.
+                self.count += done + (after > script.behind[done])
+                self.script, self.writes = script, after
+                return None
+        return "kill %d: of %d writes, %d of them answered, the store shows %s" % (number, most, script.behind[done], short(got))
+
+    def followed(self):
+        """Why the whole stream isn't that of all writes, None where it is."""
+        got = seen(PROGRAM, self.folder, self.writes)
+        return None if got == self.script.view(self.writes) else "of %d writes the store shows %s" % (self.writes, short(got))
+
+
+def since(view, first):
+    """A view with the records from a number on alone."""
+    items, keys, records = view
+    return items, keys, [record for record in records if record[1] >= first]
 
 
 def main():
     random.seed(20)
-    with tempfile.TemporaryDirectory() as store:
-        subprocess.run([PROGRAM, store, "0", "init"], check=True, capture_output=True)
-        replay(store, "CreateTable " + TABLE + "\n")
-        done = 0
-        for time in range(TIMES):
-            answered = killed(store, (put(count) for count in range(done, done + 5000)))
-            got = replay(store, "".join(get(key) for key in range(KEYS)))
-            # the state after so many puts, each whole
-            after = [
-                count
-                for count in (done + answered, done + answered + 1)
-                if got == [shown(last) if last >= 0 else "200 {}" for last in latest(count)]
-            ]
-            if not after:
-                print("stops: kill %d: after %d puts, %d answered, the store has\n%s" % (time, done, answered, "\n".join(got)))
-                return 1
-            done = after[0]
-        print("stops: %d kills, %d puts: each answered one is there" % (TIMES, done))
-        return 1 if not done or followed(store, done) else raised(store)
+    faults, writes = [], 0
+    for begun in range(0, ROUNDS, OVER_ONE):
+        with tempfile.TemporaryDirectory() as folder:
+            store = Store(folder)
+            rounds = (store.round(number) for number in range(begun, min(begun + OVER_ONE, ROUNDS)))
+            why = next(itertools.chain((fault for fault in rounds if fault), [None])) or store.followed()
+            writes += store.writes
+            if why:
+                faults.append(why)
+    print("stops: %d kills, %d writes" % (ROUNDS, writes))
+    ends("kills", ROUNDS - len(faults), faults)
 
 
-def followed(store, puts):
-    """Reads the stream of so many puts, a page of 1,000 records after another: the table was made by write 1."""
-    arn = "arn:aws:dynamodb:local:000000000000:table/Tab/stream/%021d" % 1
-    first = 0
-    for page in replay(
-        store, "".join('GetRecords {"ShardIterator":"%s|%021d"}\n' % (arn, n) for n in range(2, puts + 2, 1000))
-    ):
-        for record in json.loads(page[4:])["Records"]:
-            event, number = "INSERT" if first < KEYS else "MODIFY", "%021d" % (first + 2)
-            item = json.loads(shown(first)[4:])["Item"]
-            if (record["eventName"], record["eventID"], record["dynamodb"]["NewImage"]) != (event, number, item):
-                print("stops: record %d of %d puts is %s" % (first, puts, record))
-                return 1
-            first += 1
-    if first != puts:
-        print("stops: %d records of %d puts" % (first, puts))
-        return 1
-    print("stops: the stream has one record of each put")
-    return 0
-
-
-def raised(store):
-    """Raises a counter until it is at RAISES, over as many kills as that takes."""
-    kills = raises = 0
-    while raises < RAISES:
-        answered = killed(store, (RAISE for _ in range(RAISES - raises)))
-        kills += 1
-        (got,) = replay(store, 'GetItem {"TableName":"Tab","Key":{"k":{"S":"counter"}}}\n')
-        after = [
-            count
-            for count in (raises + answered, raises + answered + 1)
-            if got == ('200 {"Item":{"k":{"S":"counter"},"n":{"N":"%d"}}}' % count if count else "200 {}")
-        ]
-        if not after:
-            print("stops: kill %d: of a counter at %d, raised %d times more, there is\n%s" % (kills, raises, answered, got))
-            return 1
-        raises = after[0]
-    print("stops: %d kills, a counter raised %d times: it was never set back" % (kills, raises))
-    return 0
-
-
-def latest(count):
-    """Of each key the last put among the first `count`, -1 for none."""
-    return [(count - 1 - key) // KEYS * KEYS + key if key < count else -1 for key in range(KEYS)]
-
-
-sys.exit(main())
+main()

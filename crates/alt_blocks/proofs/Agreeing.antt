@@ -6,6 +6,7 @@ use Rattle.std.proofs.lemmas.List.{take-take, take-append-drop, take_at, length-
 use Rattle.lru.specs.LruCache.{LruCache, promoted, put_entries}
 use Rattle.lru.proofs.CallerLemmas.{Contains-put_entries, Contains-promoted, Contains-lookup}
 use Rattle.alt_disk.specs.Disk.{DiskState, Read, bytes_or_none}
+use Rattle.alt_shell.specs.Calls.{Keeps as KeepsFiles}
 use Rattle.alt_blocks.specs.Places.{Keeps, Agrees, Within, Adds, Place, given, same_place}
 use Rattle.alt_blocks.specs.declared.cache.BlockCache.{BlockCache}
 
@@ -22,6 +23,11 @@ pub agrees_on : (a b : DiskState) (cache : BlockCache) → (IsTrue a.tells → A
 agrees_on a b cache h tells same told =
     let t : IsTrue a.tells = subst (λ (v : Bool). IsTrue v) tells told in
     agrees_same a b cache (same t) (h t)
+
+-- the same behind a call of a shell, which leaves all files
+pub agrees_kept : (a b : DiskState) (cache : BlockCache) → (IsTrue a.tells → Agrees a cache)
+    → KeepsFiles a b → IsTrue b.tells → Agrees b cache
+agrees_kept a b cache h keeps = agrees_on a b cache h keeps.tells (λ told. keeps.file)
 
 -- places that test the same are the same
 and_true : (a b : Bool) → (a && b) ≡ true → (a ≡ true) × (b ≡ true)

@@ -1,6 +1,7 @@
 //! What reads gave, by file, place and length of the buffer; the places used last stay.
 
 ghost use Rattle.std.specs.Prelude.{◌≡◌, ◌<◌, ◌≤◌, true, [], length, take, min, is_some, IfOk, IfSome, IfNone};
+ghost use Rattle.alt_blocks.specs.Short.{AreShort};
 
 use alt_base::NoMemory;
 use alt_fields::Bytes;
@@ -8,11 +9,15 @@ use lru::LruCache;
 use std::alloc::Global;
 use std::num::NonZeroUsize;
 
-/// A cache of so many reads at most.
+/// How long a read may be that is kept, in bytes.
+pub const LONGEST_KEPT: usize = 32_768;
+
+/// A cache of so many reads at most, none of which is longer than `LONGEST_KEPT`.
 #[derive(Drop)]
 pub struct BlockCache {
     alloc: Global,
     places: LruCache<(u32, u64, usize), Bytes>,
+    ghost short: { AreShort places.entries },
 }
 
 impl BlockCache {
@@ -60,11 +65,14 @@ impl BlockCache {
         }
     }
 
-    /// Keeps the first `count` bytes of the buffer for such a read, unless memory is wanting.
+    /// Keeps the first `count` bytes of the buffer for such a read, unless it is too long or memory is wanting.
     pub(crate) fn keep(&mut self, f: u32, at: u64, buf: &[u8], count: usize)
         requires { count ≤ length buf.now }
         ensures adds { Adds self.old self.new (f, at, length buf.now) (take count buf.now) }
     {
+        if buf.len() > LONGEST_KEPT {
+            return;
+        }
         match Bytes::new(self.alloc, &buf[..count]) {
             Ok(bytes) => match self.places.put((f, at, buf.len()), bytes) {
                 Ok(_) => {}

@@ -9,8 +9,8 @@ use alt_disk::{Disk, DiskFault, Failed};
 /// A disk whose reads give what its disk gives.
 #[derive(Drop)]
 pub struct Cached<'a, D: Disk> {
-    disk: &'a mut D,
-    cache: &'a mut BlockCache,
+    pub(crate) disk: &'a mut D,
+    pub(crate) cache: &'a mut BlockCache,
     ghost agrees: { IsTrue (D.state disk.now).tells → Agrees (D.state disk.now) cache.now },
 }
 

@@ -3,6 +3,7 @@
 
 mod cache;
 mod cached;
+mod shell;
 
-pub use cache::BlockCache;
+pub use cache::{BlockCache, LONGEST_KEPT};
 pub use cached::Cached;

@@ -1,12 +1,12 @@
 -- What was carried out settles the request, once its refusal is told.
 use Rattle.std.proofs.Common.{◌≡◌, refl, sym, subst, ◌∙◌, Result, Ok, Err, OnOk}
-use Rattle.std.specs.Prelude.{IsErrOf}
+use Rattle.std.specs.Prelude.{IfOk, IsErrOf}
 use Rattle.alt_disk.specs.Disk.{DiskState}
 use Rattle.alt_machine.specs.Outcomes.{Outcome, last_state}
 use Rattle.alt_machine.specs.State.{State}
 use Rattle.alt_machine.specs.Valid.{IsValid}
 use Rattle.alt_dispatch.specs.Settled.{Settles, Tells}
-use Rattle.alt_request.specs.Carried.{IsAnswered, IsRefused, Does, IfFailed, Moves, WhereFailed, WhereWanting}
+use Rattle.alt_request.specs.Carried.{IsAnswered, IsRefused, Does, IfFailed, IfRefused, Moves, WhereFailed, WhereWanting}
 use Rattle.alt_request.specs.declared.stop.Stop.{Stop}
 use Rattle.alt_request.specs.declared.stop.Stop.TheVariants.{Refused, Fault}
 use Rattle.alt_shape.specs.declared.refusal.Refusal.{Refusal}
@@ -39,6 +39,16 @@ pub settled_valid : (now : State → Type 0) (s : State) (outcome : Outcome)
     → Settles now s outcome told → OnOk told (IsValid (last_state s outcome.atoms))
 settled_valid now s outcome (Ok reply) valid h = valid (last_state s outcome.atoms) h.state
 settled_valid now s outcome (Err fault) valid h = tt
+
+-- what holds of a refusal holds where it is told by a reply with the status 400
+pub told_refused : (P : Type 0) (carried : Result Reply Stop) (told : Result Reply TableFault)
+    → IfRefused carried P → Tells carried told → IfOk told (λ reply. reply.status ≡ 400 → P)
+told_refused P (Ok reply) told h is =
+    subst (λ r. IfOk r (λ reply. reply.status ≡ 400 → P)) (sym is) h
+told_refused P (Err (Refused r)) (Ok reply) h is = λ status. h
+told_refused P (Err (Refused r)) (Err fault) h is = tt
+told_refused P (Err (Fault f)) told h is =
+    subst (λ r. IfOk r (λ reply. reply.status ≡ 400 → P)) (sym is) tt
 
 -- an answer tells that the device failed only where it did for the operation
 pub told_failed : (P : Type 0) (carried : Result Reply Stop) (told : Result Reply TableFault)

@@ -1,28 +1,31 @@
 //! The way of a request: its operation, its body as JSON, and then the operation itself.
 
-ghost use Rattle.std.specs.Prelude.{◌≡◌, false, IfOk, IsErrOf, OnOk, map, option_map};
+ghost use Rattle.std.specs.Prelude.{◌≡◌, false, IfOk, IsErrOf, IsTrue, OnOk, map, option_map};
 ghost use Rattle.std.specs.List.{find};
 ghost use Rattle.std.specs.Str.{bytes_eq};
 ghost use Rattle.serde_json.specs.View.{members_view};
 ghost use Rattle.serde_json.specs.Written.{has_float};
 ghost use Rattle.alt_base.specs.Counts.{Rose};
 ghost use Rattle.alt_disk.specs.Disk.{Goes};
+ghost use Rattle.alt_disk.specs.Runs.{Quiet};
 ghost use Rattle.alt_machine.specs.Members.{body_of};
 ghost use Rattle.alt_machine.specs.Operations.{named_in, operation_named};
 ghost use Rattle.alt_machine.specs.Outcomes.{last_state};
 ghost use Rattle.alt_machine.specs.State.{State};
 ghost use Rattle.alt_machine.specs.Step.{step, operates, with_body};
 ghost use Rattle.alt_machine.specs.Valid.{IsValid};
+ghost use Rattle.alt_dispatch.specs.Reading.{OnlyReads, is_read};
 ghost use Rattle.alt_dispatch.specs.Settled.{Settles, Tells};
 ghost use Rattle.alt_request.specs.Carried.{Carries, IsPlain, Moves};
 ghost use Rattle.alt_tables.specs.Faults.{WantsMemory};
 ghost use Rattle.alt_tables.specs.Images.{Leaves};
-ghost use Rattle.alt_tables.specs.Stands.{AreReady, Stands, limits_of};
+ghost use Rattle.alt_tables.specs.Stands.{AreReady, Reads, Stands, limits_of};
 ghost use Rattle.alt_shape.specs.Body.{body_json};
 
 use crate::bodies;
 use alt_disk::Disk;
 use alt_machine::Operation;
+use alt_members::heeded;
 use alt_ops_batch::{batch_get_item, batch_write_item};
 use alt_ops_item::{delete_item, get_item, put_item, put_item_ahead, update_item};
 use alt_ops_query::{query, scan};
@@ -104,6 +107,10 @@ pub fn answer<D: Disk>(
     // A stop at any moment of the call leaves the state after some of the writes; a request without writes leaves every file.
     ensures leaves { (s : State) → Stands (D.state disk.old) tables.old s
         → Leaves (D.state disk.old) (D.state disk.new) s (step s operation body.now moment).atoms }
+    // A reply with the status 400 leaves every file, on any disk that tells them, and so does whatever comes of an operation that only reads.
+    ensures refused { IfOk result (λ reply. reply.status ≡ 400 → IsTrue (D.state disk.old).tells
+        → Quiet (D.state disk.old) (D.state disk.new)) }
+    ensures reads { OnlyReads operation → Reads (D.state disk.old) (D.state disk.new) }
     ensures limits { limits_of tables.new ≡ limits_of tables.old }
     ensures goes { Goes (D.state disk.old) (D.state disk.new) }
     ensures cause { IsErrOf result TableFault.Failed
@@ -143,6 +150,7 @@ fn respond<D: Disk>(
     ensures limits { limits_of tables.new ≡ limits_of tables.old }
     ensures moves { Moves (λ s. step s operation body.now moment)
         (Stands (D.state disk.old) tables.old) (D.state disk.old) (D.state disk.new) result }
+    ensures reads { OnlyReads operation → Reads (D.state disk.old) (D.state disk.new) }
 {
     let Some(operation) = operation else {
         return Err(Stop::Refused(Refusal::UNKNOWN_OPERATION));
@@ -168,7 +176,7 @@ fn respond_to_put<D: Disk>(
     ensures moves { Moves (λ s. with_body s Operation.PutItem moment (body_of body.now))
         (Stands (D.state disk.old) tables.old) (D.state disk.old) (D.state disk.new) result }
 {
-    match read_ahead(alloc, body) {
+    match read_ahead(alloc, heeded(Operation::PutItem), body) {
         Ok(Some(ReadAhead { members, item })) => {
             put_item_ahead(alloc, tables, disk, &members, item, moment)
         }
@@ -192,6 +200,7 @@ fn respond_to<D: Disk>(
     ensures limits { limits_of tables.new ≡ limits_of tables.old }
     ensures moves { Moves (λ s. with_body s operation moment (body_of body.now))
         (Stands (D.state disk.old) tables.old) (D.state disk.old) (D.state disk.new) result }
+    ensures reads { IsTrue (is_read operation) → Reads (D.state disk.old) (D.state disk.new) }
 {
     match bodies::body_of(alloc, body) {
         Ok(Some(members)) => carry_out(alloc, tables, disk, operation, &members, moment),
@@ -214,6 +223,7 @@ fn carry_out<D: Disk>(
     ensures limits { limits_of tables.new ≡ limits_of tables.old }
     ensures moves { Moves (λ s. operates s operation moment (members_view body.now.entries))
         (Stands (D.state disk.old) tables.old) (D.state disk.old) (D.state disk.new) result }
+    ensures reads { IsTrue (is_read operation) → Reads (D.state disk.old) (D.state disk.new) }
 {
     match operation {
         Operation::CreateTable => create_table(alloc, tables, disk, body, moment),

@@ -1,13 +1,3 @@
-pub mod Beside
-pub mod Carrying
-pub mod Drafting
-pub mod Faults
-pub mod Found
 pub mod InHand
-pub mod Laws
-pub mod Making
-pub mod Merging
 pub mod Opened
-pub mod Recovery
-pub mod Syncing
 pub mod Working

@@ -1,139 +1,154 @@
--- What work between requests leaves: the rows that live families show.
-use Rattle.std.specs.Prelude.{◌≡◌, ◌≢◌, ◌⊎◌, ◌<◌, ◌≤◌, ◌+◌, ◌-◌, ◌*◌, ◌^◌, ℕ, List, min, None}
+-- What work between requests does: flushes, and merges.
+use Rattle.std.specs.Prelude.{◌≡◌, ◌⊎◌, ◌<◌, ◌≤◌, ◌+◌, ℕ, List, [], ◌∷◌, drop, length, Some, None, false}
 use Rattle.std.specs.FinMap.{empty, entries}
-use Rattle.alt_manifest.specs.Versions.{HasVersion, IsIn, RiseFrom}
-use Rattle.alt_manifest.specs.declared.version.Version.{Version}
-use Rattle.alt_writes.specs.Writes.{Write}
-use Rattle.alt_layout.specs.Files.{AreSegments, Image, IsLayout, all_of}
+use Rattle.alt_cells.specs.Walks.{RowList, RowMap}
+use Rattle.alt_disk.specs.Disk.{DiskState}
+use Rattle.alt_layout.specs.Families.{files_of}
+use Rattle.alt_layout.specs.Files.{Image}
 use Rattle.alt_layout.specs.Fresh.{versions_file}
-use Rattle.alt_layout.specs.Layout.{Layout, shown}
+use Rattle.alt_manifest.specs.Versions.{HasVersion, IsIn}
+use Rattle.alt_manifest.specs.declared.version.Version.{Version}
 use Rattle.alt_families.specs.Families.{rows_in}
-use Rattle.alt_engine.specs.Drafting.{IsFlushed, IsSpentFor, files_for, files_needed}
-use Rattle.alt_engine.specs.InHand.{bytes_in, family_of, limits_of, next_file_of, written_bytes}
+use Rattle.alt_rowfile.specs.Format.{IsRowFile}
+use Rattle.alt_hand.specs.Drafting.{IsSpentFor}
+use Rattle.alt_hand.specs.InHand.{family_of}
+use Rattle.alt_hand.specs.Merging.{HasMany, IsFirstMany, files_at}
+use Rattle.alt_hand.specs.Working.{AreAllFlushed, HasEntries, IsAllFor, IsCalm, IsDueFor, IsFirstFull, IsOneFlushed, most_entries}
+use Rattle.alt_hand.specs.declared.hand.EngineFault.{EngineFault}
+use Rattle.alt_hand.specs.declared.hand.Hand.{Hand}
+use Rattle.alt_merging.specs.Merged.{AreMerged}
+use Rattle.alt_merging.specs.Mergings.{GivesWay, MergingStands, family_of as merged_family, taken_of}
+use Rattle.alt_merging.specs.Tombstones.{has_tombstone}
+use Rattle.alt_merging.specs.declared.merging.Merging.{Merging}
+use Rattle.alt_engine.specs.InHand.{hand_of, limits_of, merge_of, next_file_of}
 use Rattle.alt_engine.specs.declared.engine.Engine.{Engine}
 use Rattle.alt_engine.specs.declared.work.Task.{Task}
-use Rattle.alt_engine.specs.declared.work.Task.TheVariants.{Step, FlushAll}
-use Rattle.alt_engine.specs.declared.engine.EngineFault.{EngineFault}
-use Rattle.alt_engine.specs.declared.engine.EngineFault.TheVariants.{Spent, Damaged, Failed, NoMemory}
+use Rattle.alt_engine.specs.declared.work.Task.TheVariants.{Step, FlushAll, MergeAll}
 
--- The families that are live, in the order of their numbers; that of the catalog is the first.
-pub record AreLive (live : List ℕ) : Type 0 where
-  pub rising : RiseFrom 0 live
-  pub catalog : IsIn live 0
+-- ---- A merge under way.
 
--- After work each live family shows what it showed, any other what it showed or nothing, and the next write has the number that it had.
-pub record Works (live : List ℕ) (l m : Layout) : Type 0 where
-  pub number : m.next_number ≡ l.next_number
-  pub lives : (family : ℕ) → IsIn live family → (key : List ℕ)
-      → shown m family key ≡ shown l family key
-  pub others : (family : ℕ) → ((key : List ℕ) → shown m family key ≡ shown l family key)
-      ⊎ ((key : List ℕ) → shown m family key ≡ None)
+-- This one is under way, of a live family. One of any other is given up.
+abbrev pub IsUnderWay : List ℕ → Engine → Merging → Type 0
+IsUnderWay live e j = (merge_of e ≡ Some j) × IsIn live (merged_family j)
 
--- A stop at a moment leaves a layout that is that of the rows, but for work on it.
-pub record IsWorked (live : List ℕ) (l : Layout) (image : Image) : Type 0 where
-  pub layout : Layout
-  pub is : IsLayout image layout
-  pub works : Works live l layout
+-- No such merge is under way.
+abbrev pub IsFree : List ℕ → Engine → Type 0
+IsFree live e = (j : Merging) → IsUnderWay live e j → ⊥
 
--- At each moment.
-abbrev pub WorksIn : List ℕ → Layout → ℕ → Image → Type 0
-WorksIn live l t image = IsWorked live l image
+-- Nor is one of a family that isn't live, so that none is given up.
+abbrev pub KeepsMerge : List ℕ → Engine → Type 0
+KeepsMerge live e = (j : Merging) → merge_of e ≡ Some j → IsIn live (merged_family j)
 
--- The segments that the last version names have entries of this many bytes together.
-pub record HasEntries (files : Image) (bytes : ℕ) : Type 0 where
-  pub version : Version
-  pub last : HasVersion version (files versions_file)
-  pub parts : List (List Write)
-  pub segments : AreSegments files version.segments parts
-  pub is : bytes ≡ written_bytes (all_of parts)
+-- What becomes of the merge under way before a task: it stays and nothing is done, or it is given up. Private contracts alone cite these words.
+pub record WasKept (a b : DiskState) (live : List ℕ) (old new : Engine) : Type 0 where
+  pub keeps : KeepsMerge live old
+  pub disk : b ≡ a
+  pub engine : new ≡ old
+
+pub record WasGivenUp (live : List ℕ) (old new : Engine) : Type 0 where
+  pub job : Merging
+  pub was : merge_of old ≡ Some job
+  pub dead : IsIn live (merged_family job) → ⊥
+  pub none : merge_of new ≡ None
+  pub few : old.many ≡ new.many
 
 -- ---- What applies.
 
--- The family has rows of so many bytes in memory that it is flushed.
-abbrev pub IsFull : Engine → ℕ → Type 0
-IsFull e family = (limits_of e).flush ≤ bytes_in (family_of e family)
+-- The files of each live family are merged: there is one at most, without tombstones.
+abbrev pub AllMerged : DiskState → List ℕ → Hand → Type 0
+AllMerged s live e = (family : ℕ) → IsIn live family → AreMerged s (files_at e family)
 
--- It is the lowest live one.
-pub record IsFirstFull (live : List ℕ) (e : Engine) (family : ℕ) : Type 0 where
-  pub lives : IsIn live family
-  pub full : IsFull e family
-  pub first : (other : ℕ) → IsIn live other → other < family → IsFull e other → ⊥
+-- No live family has so many files that a step merges them.
+abbrev pub NoneMany : List ℕ → Engine → Type 0
+NoneMany live e = (family : ℕ) → IsIn live family → HasMany (hand_of e) family → ⊥
 
--- From so many bytes of entries on a step flushes all families: 16 times those at which one is flushed, and 2^62 at most.
-abbrev pub most_entries : ℕ → ℕ
-most_entries flush = min (16 * flush) (2 ^ 62)
+-- No flush applies to a step: the log is short, and no live family is full.
+abbrev pub IsFlushed : Image → List ℕ → Engine → Type 0
+IsFlushed files live e =
+    ((n : ℕ) → HasEntries files n → n < most_entries (limits_of e).flush) × IsCalm live (hand_of e)
 
--- No live family is full.
-abbrev pub IsCalm : List ℕ → Engine → Type 0
-IsCalm live e = (family : ℕ) → IsIn live family → IsFull e family → ⊥
+-- Nothing applies. For a step, moreover, no merge is under way and no live family has many files; for a flush of all no family has rows in memory, and
+-- the log no entry; for merges of all no merge is under way, and the files of each live family are merged.
+abbrev pub IsIdle : Task → DiskState → List ℕ → Engine → Type 0
+IsIdle Step s live e = IsFlushed s.file live e × (IsFree live e × NoneMany live e)
+IsIdle FlushAll s live e = ((n : ℕ) → HasEntries s.file n → n ≡ 0)
+    × ((family : ℕ) → rows_in (family_of (hand_of e) family) ≡ empty)
+IsIdle MergeAll s live e = IsFree live e × AllMerged s live (hand_of e)
 
--- Nothing applies: for a step the log is short and no live family is full; for a flush of all no family has rows in memory, and the log no entry.
-abbrev pub IsIdle : Task → Image → List ℕ → Engine → Type 0
-IsIdle Step files live e =
-    ((n : ℕ) → HasEntries files n → n < most_entries (limits_of e).flush) × IsCalm live e
-IsIdle FlushAll files live e = ((n : ℕ) → HasEntries files n → n ≡ 0)
-    × ((family : ℕ) → rows_in (family_of e family) ≡ empty)
+-- ---- What goes on.
 
--- The log in hand is so long that a step flushes all, or it is shorter. Private contracts alone cite these two words.
-abbrev pub IsLong : Engine → Type 0
-IsLong e = most_entries (limits_of e).flush ≤ e.length
+-- A merge of all files of the lowest live family with many files has begun.
+pub record Begins (live : List ℕ) (old new : Engine) : Type 0 where
+  pub free : IsFree live old
+  pub family : ℕ
+  pub first : IsFirstMany live (hand_of old) family
+  pub job : Merging
+  pub is : merge_of new ≡ Some job
+  pub of : merged_family job ≡ family
+  pub all : taken_of job ≡ length (files_at (hand_of old) family)
 
-abbrev pub IsShort : Engine → Type 0
-IsShort e = e.length < most_entries (limits_of e).flush
+-- A merge has taken 256 rows more, and more are left.
+pub record Furthered (a b : DiskState) (old new : Engine) (job : Merging) : Type 0 where
+  pub after : Merging
+  pub is : merge_of new ≡ Some after
+  pub further : (left : RowList) → MergingStands a (hand_of old) job left
+      → MergingStands b (hand_of new) after (drop 256 left) × (drop 256 left ≡ [] → ⊥)
+
+-- So has the one under way.
+abbrev pub GoesOn : DiskState → DiskState → List ℕ → Engine → Engine → Type 0
+GoesOn a b live old new = (job : Merging) × IsUnderWay live old job × Furthered a b old new job
+
+-- A step began a merge, or brought one further.
+abbrev pub Went : DiskState → DiskState → List ℕ → Engine → Engine → Type 0
+Went a b live old new =
+    IsFlushed a.file live old × (Begins live old new ⊎ GoesOn a b live old new)
 
 -- ---- What is done.
 
--- All live families were flushed, and no other has rows in memory. Each file that was made took the next number: one for each family that had rows, and
--- one for the log.
-pub record AreAllFlushed (live : List ℕ) (old new : Engine) : Type 0 where
-  pub lives : (family : ℕ) → IsIn live family
-      → IsFlushed (family_of old family) (family_of new family)
-  pub others : (family : ℕ) → IsIn live family ⊎ (rows_in (family_of new family) ≡ empty)
-  pub file : next_file_of new ≡ next_file_of old + files_needed old.families live + 1
+-- A merge had no rows left after 256 more: what was made of its files stands in their place.
+pub record Ended (a b : DiskState) (old new : Engine) (job : Merging) : Type 0 where
+  pub none : merge_of new ≡ None
+  pub last : (left : RowList) → MergingStands a (hand_of old) job left → drop 256 left ≡ []
+  pub gives : GivesWay b (hand_of old) (hand_of new) (merged_family job) (taken_of job)
 
--- One live family was flushed, each other is as it was, and no family that isn't live has rows in memory. The file that was made took the next number.
-pub record IsOneFlushed (live : List ℕ) (old new : Engine) (family : ℕ) : Type 0 where
-  pub it : IsFlushed (family_of old family) (family_of new family)
-  pub lives : (other : ℕ) → IsIn live other → other ≢ family
-      → family_of new other ≡ family_of old other
-  pub others : (other : ℕ) → IsIn live other ⊎ (rows_in (family_of new other) ≡ empty)
-  pub file : next_file_of new
-      ≡ next_file_of old + files_for (entries (rows_in (family_of old family)))
+-- So had the one under way.
+abbrev pub Ends : DiskState → DiskState → List ℕ → Engine → Engine → Type 0
+Ends a b live old new = (job : Merging) × IsUnderWay live old job × Ended a b old new job
 
--- What a task did: a flush of all, or of the lowest live family that was full, where the log was short.
-abbrev pub DidStep : Image → List ℕ → Engine → Engine → Type 0
-DidStep files live old new =
-    (((n : ℕ) → HasEntries files n → most_entries (limits_of old).flush ≤ n)
-    × AreAllFlushed live old new)
-    ⊎ (((n : ℕ) → HasEntries files n → n < most_entries (limits_of old).flush)
-    × ((family : ℕ) × IsFirstFull live old family × IsOneFlushed live old new family))
+-- A step flushed all, where the log was long; else the lowest live family that was full; else it ended the merge under way.
+abbrev pub DidStep : DiskState → DiskState → List ℕ → Engine → Engine → Type 0
+DidStep a b live old new =
+    (((n : ℕ) → HasEntries a.file n → most_entries (limits_of old).flush ≤ n)
+    × AreAllFlushed live (hand_of old) (hand_of new))
+    ⊎ ((((n : ℕ) → HasEntries a.file n → n < most_entries (limits_of old).flush)
+    × ((family : ℕ) × IsFirstFull live (hand_of old) family
+    × IsOneFlushed live (hand_of old) (hand_of new) family))
+    ⊎ (IsFlushed a.file live old × Ends a b live old new))
 
-abbrev pub Did : Task → Image → List ℕ → Engine → Engine → Type 0
-Did Step files live old new = DidStep files live old new
-Did FlushAll files live old new = AreAllFlushed live old new
+-- What a task did. After merges of all nothing is left to merge.
+abbrev pub Did : Task → DiskState → DiskState → List ℕ → Engine → Engine → Type 0
+Did Step a b live old new = DidStep a b live old new
+Did FlushAll a b live old new = AreAllFlushed live (hand_of old) (hand_of new)
+Did MergeAll a b live old new = IsIdle MergeAll b live new
+
+-- Each live family that the last version names has one row file at most, and that has no tombstone, and so no hidden cell.
+abbrev pub IsMergedFile : Image → List ℕ → Type 0
+IsMergedFile files [] = Unit {0}
+IsMergedFile files (f ∷ []) = (m : RowMap) (bytes : List ℕ) → files f ≡ Some bytes
+    → IsRowFile (entries m) bytes → has_tombstone (entries m) ≡ false
+IsMergedFile files (f ∷ g ∷ fs) = ⊥
+
+abbrev pub IsMerged : List ℕ → Image → Type 0
+IsMerged live files = (v : Version) → HasVersion v (files versions_file) → (family : ℕ)
+    → IsIn live family → IsMergedFile files (files_of v.families family)
 
 -- ---- Faults.
 
--- A fault that tells a spent number names file 2^32 - 1.
-abbrev pub IsFileSpent : EngineFault → Type 0
-IsFileSpent (Spent number) = number ≡ 2 ^ 32 - 1
-IsFileSpent (Damaged file at) = Unit {0}
-IsFileSpent Failed = Unit {0}
-IsFileSpent NoMemory = Unit {0}
-
--- A spent number is told only where the files that the task needs go beyond that one: one for each live family with rows in memory, and one for the log;
--- or one for the lowest live family that is full.
+-- A spent number is told only where the files that the task needs go beyond file 2^32 - 1: those of its flush; one for a merge that a step begins; and for
+-- merges of all one for each live family at most.
 abbrev pub IsNeeded : Task → List ℕ → Engine → EngineFault → Type 0
-IsNeeded FlushAll live e fault =
-    IsSpentFor (next_file_of e + files_needed e.families live + 1) fault
-IsNeeded Step live e fault =
-    IsSpentFor (next_file_of e + files_needed e.families live + 1) fault
-    ⊎ ((family : ℕ) × IsFirstFull live e family
-    × IsSpentFor (next_file_of e + files_for (entries (rows_in (family_of e family)))) fault)
-
--- It tells of no damage.
-abbrev pub IsNoDamage : EngineFault → Type 0
-IsNoDamage (Spent number) = Unit {0}
-IsNoDamage (Damaged file at) = ⊥
-IsNoDamage Failed = Unit {0}
-IsNoDamage NoMemory = Unit {0}
+IsNeeded Step live e fault = IsDueFor live (hand_of e) fault
+    ⊎ (IsFree live e × ((family : ℕ) × IsFirstMany live (hand_of e) family)
+    × IsSpentFor (next_file_of e + 1) fault)
+IsNeeded FlushAll live e fault = IsAllFor live (hand_of e) fault
+IsNeeded MergeAll live e fault = IsSpentFor (next_file_of e + length live) fault

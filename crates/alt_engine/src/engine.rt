@@ -1,113 +1,110 @@
-//! The engine in hand over files.
+//! The engine in hand, from its opening on, and its writes.
 
-ghost use Rattle.std.specs.Prelude.{ℕ, ◌≡◌, ◌≤◌, ◌+◌, ◌-◌, ◌^◌, Err, IfOk, IfErr, OnOk, IsErrOf};
+ghost use Rattle.std.specs.Prelude.{◌≡◌, ◌≤◌, ◌+◌, ◌-◌, ◌^◌, ⊤, Err, IfOk, IfErr, OnOk, IsErrOf, IsTrue};
 ghost use Rattle.alt_base.specs.Counts.{Rose};
 ghost use Rattle.alt_disk.specs.Disk.{DiskState, IsTrusted, Goes};
 ghost use Rattle.alt_disk.specs.Runs.{Spans};
+ghost use Rattle.alt_layout.specs.Files.{IsLayout};
+ghost use Rattle.alt_layout.specs.Fresh.{versions_file};
 ghost use Rattle.alt_layout.specs.Layout.{Layout};
 ghost use Rattle.alt_layout.specs.Writes.{with_write};
-ghost use Rattle.alt_engine.specs.Carrying.{Carries};
-ghost use Rattle.alt_engine.specs.InHand.{limits_of, next_of, Reads, Stands, IsSpentAt, batch_write, BeforeOrWith, IsWritten};
+ghost use Rattle.alt_manifest.specs.Versions.{HasVersion};
+ghost use Rattle.alt_manifest.specs.declared.version.Version.{Version};
+ghost use Rattle.alt_hand.specs.InHand.{IsSpentAt, batch_write, BeforeOrWith, IsWritten};
+ghost use Rattle.alt_hand.specs.Recovery.{ExplainsStore, HasNoLayout, IsNextFile, LeavesFiles, LeavesStore, LeftLike};
+ghost use Rattle.alt_hand.specs.Syncing.{AllSynced};
+ghost use Rattle.alt_engine.specs.InHand.{limits_of, next_file_of, next_of, Reads, Stands};
 
-use crate::full::full_after;
-use alt_base::NoMemory;
-use alt_cells::{Batch, SourceFault};
-use alt_disk::{Disk, DiskFault};
-use alt_families::{Family, put_changes, with_more};
-use alt_gatelog::GateLog;
-use alt_manifest::Manifest;
-use alt_writes::write_of;
+use alt_cells::Batch;
+use alt_disk::Disk;
+use alt_hand::{EngineFault, Hand, Limits, RecoverFault};
+use alt_merging::Merging;
 use std::alloc::Global;
-use std::collections::BTreeMap;
 
-/// The number that no write takes: 2^62 - 1.
-const LAST_NUMBER: u64 = 4_611_686_018_427_387_903;
-
-/// Why a call of the engine wasn't done.
-#[derive(Clone, Copy, Debug, PartialEq, Eq, Drop)]
-pub enum EngineFault {
-    /// The number that a write wants and can't have.
-    Spent { number: u64 },
-    /// The disk gave bytes that are none of the file at that place.
-    Damaged { file: u32, at: u64 },
-    /// The disk failed, and its count of faults rose.
-    Failed,
-    /// Memory was refused.
-    NoMemory,
-}
-
-impl From<NoMemory> for EngineFault {
-    ghost use Rattle.std.specs.Prelude.{◌≡◌};
-    ghost use Rattle.alt_engine.specs.declared.engine.EngineFault.TheVariants as fault;
-
-    ghost from_gives = { λ _ f. f ≡ fault.NoMemory };
-
-    fn from(_: NoMemory) -> Self {
-        EngineFault::NoMemory
-    }
-}
-
-impl From<SourceFault> for EngineFault {
-    ghost use Rattle.alt_engine.specs.Opened.{of_source};
-
-    ghost from_gives = { λ given f. f ≡ of_source given };
-
-    fn from(fault: SourceFault) -> Self {
-        match fault {
-            SourceFault::Damaged { file, at } => EngineFault::Damaged { file, at },
-            SourceFault::Failed => EngineFault::Failed,
-            SourceFault::NoMemory => EngineFault::NoMemory,
-        }
-    }
-}
-
-impl From<DiskFault> for EngineFault {
-    ghost use Rattle.std.specs.Prelude.{◌≡◌};
-    ghost use Rattle.alt_engine.specs.Faults.{of_disk};
-
-    ghost from_gives = { λ fault f. f ≡ of_disk fault };
-
-    fn from(fault: DiskFault) -> Self {
-        match fault {
-            DiskFault::Failed => EngineFault::Failed,
-            DiskFault::NoMemory => EngineFault::NoMemory,
-        }
-    }
-}
-
-/// From how many bytes on a family is flushed, and from how many files on merged.
-#[derive(Clone, Copy, Debug, PartialEq, Eq, Drop)]
-pub struct Limits {
-    pub flush: u64,
-    pub merge: u32,
-}
-
-/// The engine: the versions, the last segment, the bytes of all segments' entries, the numbers of the next write and of the next
-/// file, the families, and whether one of them may have so many bytes in memory that it is flushed.
+/// The engine: the rows over files, a merge of some of these files that is under way, and whether a family may have so many files
+/// that they are merged.
 #[derive(Drop)]
 pub struct Engine {
     pub(crate) alloc: Global,
-    pub(crate) limits: Limits,
-    pub(crate) manifest: Manifest,
-    pub(crate) log: GateLog,
-    pub(crate) length: u64,
-    pub(crate) next: u64,
-    pub(crate) next_file: u32,
-    pub(crate) families: BTreeMap<u32, Family>,
-    pub(crate) full: bool,
+    pub(crate) hand: Hand,
+    pub(crate) merging: Option<Merging>,
+    pub(crate) many: bool,
 }
 
 impl Engine {
+    /// Opens the store of a disk: it syncs every file, reads the last version with the row files and the segments that it names, and
+    /// then removes every other file but that of the versions, so also one that a merge left unfinished.
+    pub fn recover<D: Disk>(
+        alloc: Global,
+        disk: &mut D,
+        limits: Limits,
+    ) -> Result<Engine, RecoverFault>
+        // At Ok the engine is that of the rows that the files held and hold.
+        ensures ok { IfOk result (λ e. IsTrue (D.state disk.old).tells → (l : Layout)
+            × IsLayout (D.state disk.old).file l × Reads (D.state disk.new) e l) }
+        // Whatever a stop leaves from then on holds these rows.
+        ensures stands { IfOk result (λ e. IsTrusted (D.state disk.old) → (l : Layout)
+            → Reads (D.state disk.new) e l → Stands (D.state disk.new) e l) }
+        ensures limits { IfOk result (λ e. limits_of e ≡ limits) }
+        // And every file that is there lasts.
+        ensures synced { OnOk result (IsTrusted (D.state disk.old)
+            → AllSynced (D.state disk.new)) }
+
+        // Its next file is past all that were there, those too that are removed then: each that the last version doesn't name, but none
+        // where damage or a digest that differs is told.
+        ensures next_file { IfOk result (λ e. IsTrue (D.state disk.old).tells → (v : Version)
+            → HasVersion v ((D.state disk.old).file versions_file)
+            → IsNextFile v (D.state disk.old).file (next_file_of e)) }
+        ensures removed { OnOk result (IsTrue (D.state disk.old).tells → (v : Version)
+            → HasVersion v ((D.state disk.old).file versions_file)
+            → LeavesStore v (D.state disk.old).file (D.state disk.new).file) }
+        ensures none_before { IsTrue (D.state disk.old).tells
+            → IfErr result (LeavesFiles (D.state disk.old).file (D.state disk.new).file) }
+
+        // The files have, as they read, the layout that they had, also where the call fails.
+        ensures files { IsTrue (D.state disk.old).tells → (l : Layout)
+            → IsLayout (D.state disk.old).file l → IsLayout (D.state disk.new).file l }
+
+        // A stop at any moment of the call, also one that fails, leaves the layout of what one left before.
+        ensures any_moment { IsTrusted (D.state disk.old)
+            → Spans (D.state disk.old) (D.state disk.new) (λ _. ⊤) (LeftLike (D.state disk.old)) }
+
+        // Damaged and DigestDiffers come exactly where the files have no layout, and name a place where they have none.
+        ensures damaged { IsTrue (D.state disk.old).tells
+            → IfErr result (ExplainsStore (D.state disk.old).file) }
+        ensures no_layout { IsTrue (D.state disk.old).tells
+            → IfErr result (HasNoLayout (D.state disk.old).file) }
+        ensures goes { Goes (D.state disk.old) (D.state disk.new) }
+        ensures cause { IsErrOf result RecoverFault.Failed
+            → Rose (D.state disk.old).faults (D.state disk.new).faults }
+        ensures well { (IsErrOf result RecoverFault.Failed → ⊥)
+            → (D.state disk.new).faults ≡ (D.state disk.old).faults }
+    {
+        match Hand::recover(alloc, disk, limits) {
+            Ok(hand) => {
+                let many = hand.any_many();
+                Ok(Engine {
+                    alloc,
+                    hand,
+                    merging: None,
+                    many,
+                })
+            }
+            Err(fault) => Err(fault),
+        }
+    }
+
     /// The number of the next write.
     pub fn next_number(&self) -> u64
         ensures next { result ≡ next_of self.now }
         ensures layout { (s : DiskState) (l : Layout) → Reads s self.now l
             → result ≡ l.next_number }
     {
-        self.next
+        self.hand.next_number()
     }
 
-    /// Joins a batch to the rows, as one write with the next number. After an Err the engine is spent, unless it is Spent.
+    /// Joins a batch to the rows, as one write with the next number. A merge under way stays one. After an Err the engine is spent,
+    /// unless it is Spent.
     pub fn apply<D: Disk>(&mut self, disk: &mut D, batch: &Batch) -> Result<u64, EngineFault>
         requires { IsTrusted (D.state disk.old)
             → (l : Layout) × Stands (D.state disk.old) self.old l }
@@ -117,11 +114,6 @@ impl Engine {
         ensures number { IfOk result (λ n. n ≡ next_of self.old) }
         ensures next { OnOk result (next_of self.new ≡ next_of self.old + 1) }
         ensures limits { limits_of self.new ≡ limits_of self.old }
-
-        // A merge of files under way stays one.
-        ensures carries { OnOk result (IsTrusted (D.state disk.old) → (l : Layout)
-            → Stands (D.state disk.old) self.old l → (family : ℕ)
-            → Carries (D.state disk.old) (D.state disk.new) self.old self.new family) }
 
         // A stop at any moment of the call, also one that fails, leaves the rows from before it or with the whole batch.
         ensures any_moment { IsTrusted (D.state disk.old) → (l : Layout)
@@ -143,27 +135,6 @@ impl Engine {
             → Rose (D.state disk.old).faults (D.state disk.new).faults }
         ensures well { OnOk result ((D.state disk.new).faults ≡ (D.state disk.old).faults) }
     {
-        if self.next >= LAST_NUMBER {
-            return Err(EngineFault::Spent { number: self.next });
-        }
-        let bytes = write_of(self.alloc, self.next, batch.as_slice())?;
-
-        // The rows go into memory first, so that nothing but the disk can fail once the entry is on its way.
-        put_changes(self.alloc, &mut self.families, self.next, batch.as_slice())?;
-        self.full = full_after(
-            self.full,
-            &self.families,
-            batch.as_slice(),
-            self.limits.flush,
-        );
-        match self.log.append(disk, bytes.as_slice()) {
-            Ok(()) => {}
-            Err(DiskFault::Failed) => return Err(EngineFault::Failed),
-            Err(DiskFault::NoMemory) => return Err(EngineFault::NoMemory),
-        }
-        self.length = with_more(self.length, bytes.len());
-        let number = self.next;
-        self.next = number + 1;
-        Ok(number)
+        self.hand.apply(disk, batch)
     }
 }

@@ -1,21 +1,23 @@
-//! Rows in hand: one row, and the rows of a range.
+//! Rows in hand: one row, the rows of a range, and the first family that shows one.
 
 ghost use Rattle.std.specs.Prelude.{◌≡◌, ◌≤◌, ◌+◌, ◌++◌, length, take, IfOk, IfErr, OnOk, IsErrOf, IsTrue};
 ghost use Rattle.alt_base.specs.Counts.{Rose};
 ghost use Rattle.alt_base.specs.Prefix.{IsPrefix};
 ghost use Rattle.alt_disk.specs.Disk.{Goes};
 ghost use Rattle.alt_disk.specs.Runs.{Quiet};
-ghost use Rattle.alt_layout.specs.Layout.{Layout, rows_between, shown};
-ghost use Rattle.alt_families.specs.Families.{files_in};
+ghost use Rattle.alt_layout.specs.Layout.{Layout, ShowsFirst, rows_between, shown};
 ghost use Rattle.alt_families.specs.Reads.{most_reads};
-ghost use Rattle.alt_engine.specs.InHand.{Reads, family_of, file_rows, limits_of, next_of};
-ghost use Rattle.alt_engine.specs.Opened.{IsUndamaged, IsUnspent, StaysOn};
+ghost use Rattle.alt_hand.specs.InHand.{file_rows};
+ghost use Rattle.alt_hand.specs.Merging.{files_at};
+ghost use Rattle.alt_hand.specs.Opened.{IsUndamaged, IsUnspent};
+ghost use Rattle.alt_engine.specs.InHand.{Reads, hand_of, limits_of, next_of};
+ghost use Rattle.alt_engine.specs.Opened.{StaysOn};
 
-use crate::engine::{Engine, EngineFault};
+use crate::engine::Engine;
 use alt_cells::ShownRow;
 use alt_disk::Disk;
-use alt_families::{shown_row, shown_rows};
 use alt_fields::Bytes;
+use alt_hand::EngineFault;
 use alt_keyorder::KeyRange;
 
 impl Engine {
@@ -46,12 +48,9 @@ impl Engine {
 
         // Each row file of the family is read once at most.
         ensures reads { (D.state disk.new).reads
-            ≤ (D.state disk.old).reads + length (files_in (family_of self.old family)) }
+            ≤ (D.state disk.old).reads + length (files_at (hand_of self.old) family) }
     {
-        match shown_row(self.alloc, disk, &self.families, family, key) {
-            Ok(row) => Ok(row),
-            Err(fault) => Err(EngineFault::from(fault)),
-        }
+        self.hand.row(disk, family, key)
     }
 
     /// Puts the first rows at the end of the list that the family shows in the range: `most` of them, or all where there are fewer.
@@ -91,14 +90,34 @@ impl Engine {
             → OnOk result ((D.state disk.new).reads ≤ (D.state disk.old).reads
             + most_reads forward range.now.from range.now.to most
             (rows_between l family range.now.from range.now.to forward)
-            (file_rows self.old reads.held family)) }
+            (file_rows (hand_of self.old) reads.held family)) }
     {
-        let families = &self.families;
-        match shown_rows(
-            self.alloc, disk, families, family, range, forward, most, out,
-        ) {
-            Ok(()) => Ok(()),
-            Err(fault) => Err(EngineFault::from(fault)),
-        }
+        self.hand.rows(disk, family, range, forward, most, out)
+    }
+
+    /// The least family from that one on that shows a row, with the first key that it shows. None exactly where there is none.
+    pub fn first_from<D: Disk>(
+        &mut self,
+        disk: &mut D,
+        family: u32,
+    ) -> Result<Option<(u32, Bytes)>, EngineFault>
+        ensures first { IsTrue (D.state disk.old).tells → (l : Layout)
+            → Reads (D.state disk.old) self.old l → IfOk result (ShowsFirst l family) }
+        ensures undamaged { IsTrue (D.state disk.old).tells → (l : Layout)
+            → Reads (D.state disk.old) self.old l → IfErr result IsUndamaged }
+        ensures same { IsTrue (D.state disk.old).tells
+            → StaysOn (D.state disk.old) (D.state disk.new) self.old self.new }
+        ensures next { next_of self.new ≡ next_of self.old }
+        ensures limits { limits_of self.new ≡ limits_of self.old }
+        ensures unspent { IfErr result IsUnspent }
+        ensures quiet { IsTrue (D.state disk.old).tells
+            → Quiet (D.state disk.old) (D.state disk.new) }
+        ensures goes { Goes (D.state disk.old) (D.state disk.new) }
+        ensures cause { IsErrOf result EngineFault.Failed
+            → Rose (D.state disk.old).faults (D.state disk.new).faults }
+        ensures well { (IsErrOf result EngineFault.Failed → ⊥)
+            → (D.state disk.new).faults ≡ (D.state disk.old).faults }
+    {
+        self.hand.first_from(disk, family)
     }
 }

@@ -1,18 +1,24 @@
-//! Work between requests: flushes of families, one by one or of all.
+//! Work between requests: flushes of families, one by one or of all, and merges of their files.
 
-ghost use Rattle.std.specs.Prelude.{◌≡◌, ◌≢◌, ◌⊎◌, ◌<◌, ◌*◌, ⊤, ℕ, IfErr, IfOk, OnOk, IsErrOf};
+ghost use Rattle.std.specs.Prelude.{◌≡◌, ◌≢◌, ◌⊎◌, ◌<◌, ◌*◌, ⊤, ℕ, Some, None, IfErr, IfOk, OnOk, OnErr, IsErrOf, IsTrue};
 ghost use Rattle.alt_base.specs.Counts.{Rose};
 ghost use Rattle.alt_disk.specs.Disk.{IsTrusted, Goes};
-ghost use Rattle.alt_disk.specs.Runs.{Spans};
+ghost use Rattle.alt_disk.specs.Runs.{Quiet, Spans};
 ghost use Rattle.alt_layout.specs.Layout.{Layout};
-ghost use Rattle.alt_engine.specs.InHand.{Stands, limits_of, next_of};
-ghost use Rattle.alt_manifest.specs.Versions.{RiseFrom};
-ghost use Rattle.alt_engine.specs.Drafting.{Empties, EmptiedIn};
-ghost use Rattle.alt_engine.specs.Working.{AreAllFlushed, AreLive, Did, HasEntries, IsCalm, IsFileSpent, IsFirstFull, IsIdle, IsLong, IsNeeded, IsNoDamage, IsOneFlushed, IsShort, Works, WorksIn, most_entries};
+ghost use Rattle.alt_layout.specs.Moments.{Has};
+ghost use Rattle.alt_manifest.specs.Versions.{IsIn};
+ghost use Rattle.alt_hand.specs.Carrying.{AreStill};
+ghost use Rattle.alt_hand.specs.Merging.{files_at};
+ghost use Rattle.alt_merging.specs.Mergings.{family_of as merged_family, file_of};
+ghost use Rattle.alt_merging.specs.declared.merging.Merging.{Merging};
+ghost use Rattle.alt_hand.specs.Working.{AreLive, HasEntries, IsFileSpent, IsNoDamage, Works, WorksIn};
+ghost use Rattle.alt_engine.specs.InHand.{Stands, hand_of, limits_of, merge_of, next_of};
+ghost use Rattle.alt_engine.specs.Working.{Did, IsIdle, IsMerged, IsNeeded, KeepsMerge, WasGivenUp, WasKept, Went};
 
-use crate::engine::{Engine, EngineFault};
-use crate::full::first_full;
+use crate::engine::Engine;
 use alt_disk::Disk;
+use alt_flush::has;
+use alt_hand::EngineFault;
 
 /// What is to be done.
 #[derive(Clone, Copy, Debug, PartialEq, Eq, Drop)]
@@ -21,6 +27,8 @@ pub enum Task {
     Step,
     /// All families with rows in memory are flushed.
     FlushAll,
+    /// The merge under way is ended, and the files of all families are merged. No rows in memory are flushed.
+    MergeAll,
 }
 
 /// What was done.
@@ -28,14 +36,15 @@ pub enum Task {
 pub enum Worked {
     /// Nothing applied.
     Idle,
-    /// A merge went on, and isn't done.
+    /// A merge was begun or went on, and isn't done.
     Went,
     /// It is done.
     Done,
 }
 
 impl Engine {
-    /// Does a task on the families that are live. After an Err the engine is spent.
+    /// Does a task on the families that are live. A merge of any other is given up before, whatever the task. After an Err the engine is
+    /// spent.
     pub fn work<D: Disk>(
         &mut self,
         disk: &mut D,
@@ -51,107 +60,91 @@ impl Engine {
         ensures next { next_of self.new ≡ next_of self.old }
         ensures limits { limits_of self.new ≡ limits_of self.old }
 
-        // It is idle exactly where nothing applies, and then leaves all as it was.
+        // It is idle exactly where nothing applies, and then leaves all as it was, but for a merge that was given up.
         ensures idle { IfOk result (λ w. w ≡ Worked.Idle → IsTrusted (D.state disk.old) → (l : Layout)
             → Stands (D.state disk.old) self.old l
-            → IsIdle task (D.state disk.old).file live.now self.old) }
-        ensures idle_disk { IfOk result (λ w. w ≡ Worked.Idle → D.state disk.new ≡ D.state disk.old) }
-        ensures idle_engine { IfOk result (λ w. w ≡ Worked.Idle → self.new ≡ self.old) }
-        ensures busy { IfOk result (λ w. w ≡ Worked.Done → IsTrusted (D.state disk.old) → (l : Layout)
-            → Stands (D.state disk.old) self.old l
-            → IsIdle task (D.state disk.old).file live.now self.old → ⊥) }
+            → IsIdle task (D.state disk.old) live.now self.old) }
+        ensures idle_disk { IfOk result (λ w. w ≡ Worked.Idle → KeepsMerge live.now self.old
+            → task ≢ Task.MergeAll → D.state disk.new ≡ D.state disk.old) }
+        ensures idle_quiet { IfOk result (λ w. w ≡ Worked.Idle → KeepsMerge live.now self.old
+            → IsTrue (D.state disk.old).tells → Quiet (D.state disk.old) (D.state disk.new)) }
+        ensures idle_engine { IfOk result (λ w. w ≡ Worked.Idle → KeepsMerge live.now self.old
+            → self.new ≡ self.old) }
+        ensures busy { IfOk result (λ w. (w ≡ Worked.Idle → ⊥) → IsTrusted (D.state disk.old)
+            → (l : Layout) → Stands (D.state disk.old) self.old l
+            → IsIdle task (D.state disk.old) live.now self.old → ⊥) }
+        ensures went { IfOk result (λ w. w ≡ Worked.Went → IsTrusted (D.state disk.old) → (l : Layout)
+            → Stands (D.state disk.old) self.old l → (task ≡ Task.Step)
+            × Went (D.state disk.old) (D.state disk.new) live.now self.old self.new) }
         ensures done { IfOk result (λ w. w ≡ Worked.Done → IsTrusted (D.state disk.old) → (l : Layout)
             → Stands (D.state disk.old) self.old l
-            → Did task (D.state disk.old).file live.now self.old self.new) }
-        ensures never { IfOk result (λ w. w ≢ Worked.Went) }
+            → Did task (D.state disk.old) (D.state disk.new) live.now self.old self.new) }
 
         // A stop at any moment of the call, also one that fails, leaves the rows of live families.
         ensures any_moment { IsTrusted (D.state disk.old) → (l : Layout)
             → Stands (D.state disk.old) self.old l
             → Spans (D.state disk.old) (D.state disk.new) (λ _. ⊤) (WorksIn live.now l) }
 
-        // After a step the entries of the log are fewer than 16 times the bytes at which a family is flushed; after a flush of all there are none.
+        // After a step the entries of the log are fewer than 16 times the bytes at which a family is flushed; after a flush of all there are none; after
+        // merges of all each live family has one file at most, without tombstones.
         ensures step { task ≡ Task.Step → 0 < (limits_of self.old).flush
             → OnOk result (IsTrusted (D.state disk.old) → (n : ℕ)
             → HasEntries (D.state disk.new).file n → n < 16 * (limits_of self.old).flush) }
         ensures flush_all { task ≡ Task.FlushAll → OnOk result (IsTrusted (D.state disk.old)
             → (n : ℕ) → HasEntries (D.state disk.new).file n → n ≡ 0) }
+        ensures merge_all { task ≡ Task.MergeAll → OnOk result (IsTrusted (D.state disk.old)
+            → IsMerged live.now (D.state disk.new).file) }
 
         // A number is spent where file 2^32 - 1 is wanted.
         ensures spent { IfErr result IsFileSpent }
-        ensures needed { IfErr result (IsNeeded task live.now self.old) }
+        ensures needed { IsTrusted (D.state disk.old)
+            → IfErr result (IsNeeded task live.now self.old) }
         ensures undamaged { IsTrusted (D.state disk.old) → IfErr result IsNoDamage }
         ensures goes { Goes (D.state disk.old) (D.state disk.new) }
         ensures cause { IsErrOf result EngineFault.Failed
             → Rose (D.state disk.old).faults (D.state disk.new).faults }
         ensures well { OnOk result ((D.state disk.new).faults ≡ (D.state disk.old).faults) }
     {
+        self.give_up(disk, live)?;
         match task {
             Task::Step => self.step(disk, live),
-            Task::FlushAll => {
-                if self.length == 0 {
-                    return Ok(Worked::Idle);
-                }
-                self.flush_all(disk, live)?;
-                Ok(Worked::Done)
-            }
+            Task::FlushAll => self.flush_all(disk, live),
+            Task::MergeAll => self.merge_all(disk, live),
         }
     }
 
-    /// Does the first action of a step that applies.
-    fn step<D: Disk>(&mut self, disk: &mut D, live: &[u32]) -> Result<Worked, EngineFault>
-        requires ready { IsTrusted (D.state disk.old)
+    /// Gives the merge under way up where its family isn't live.
+    fn give_up<D: Disk>(&mut self, disk: &mut D, live: &[u32]) -> Result<(), EngineFault>
+        requires { IsTrusted (D.state disk.old)
             → (l : Layout) × Stands (D.state disk.old) self.old l }
-        requires live { RiseFrom 0 live.now }
         ensures ok { OnOk result (IsTrusted (D.state disk.old) → (l : Layout)
-            → Stands (D.state disk.old) self.old l
-            → (m : Layout) × Stands (D.state disk.new) self.new m × Empties live.now l m) }
-        ensures next { next_of self.new ≡ next_of self.old }
-        ensures limits { limits_of self.new ≡ limits_of self.old }
-        ensures idle { IfOk result (λ w. w ≡ Worked.Idle → IsShort self.old
-            × (IsTrusted (D.state disk.old) → (l : Layout) → Stands (D.state disk.old) self.old l
-            → IsCalm live.now self.old)) }
-        ensures idle_disk { IfOk result (λ w. w ≡ Worked.Idle → D.state disk.new ≡ D.state disk.old) }
-        ensures idle_engine { IfOk result (λ w. w ≡ Worked.Idle → self.new ≡ self.old) }
-        ensures done { IfOk result (λ w. w ≡ Worked.Done
-            → (IsLong self.old × AreAllFlushed live.now self.old self.new)
-            ⊎ (IsShort self.old × ((family : ℕ) × IsFirstFull live.now self.old family
-            × IsOneFlushed live.now self.old self.new family))) }
-        ensures never { IfOk result (λ w. w ≢ Worked.Went) }
-        ensures length { OnOk result ((self.new.length ≡ 0)
-            ⊎ (IsShort self.old × (self.new.length ≡ self.old.length))) }
+            → Stands (D.state disk.old) self.old l → Stands (D.state disk.new) self.new l) }
+        ensures turned { OnOk result (WasKept (D.state disk.old) (D.state disk.new) live.now self.old
+            self.new ⊎ WasGivenUp live.now self.old self.new) }
+        ensures hand { hand_of self.new ≡ hand_of self.old }
+        ensures gone { OnOk result (IsTrusted (D.state disk.old) → (j : Merging)
+            → merge_of self.old ≡ Some j → (IsIn live.now (merged_family j) → ⊥)
+            → (D.state disk.new).file (file_of j) ≡ None) }
+        ensures still { IsTrusted (D.state disk.old) → (l : Layout)
+            → Stands (D.state disk.old) self.old l → (family : ℕ)
+            → AreStill (D.state disk.old) (D.state disk.new) (files_at (hand_of self.old) family) }
         ensures any_moment { IsTrusted (D.state disk.old) → (l : Layout)
             → Stands (D.state disk.old) self.old l
-            → Spans (D.state disk.old) (D.state disk.new) (λ _. ⊤) (EmptiedIn live.now l) }
-        ensures spent { IfErr result (IsNeeded Task.Step live.now self.old) }
+            → Spans (D.state disk.old) (D.state disk.new) (λ _. ⊤) (Has l) }
+        ensures failed { IfErr result (λ fault. fault ≡ EngineFault.Failed) }
         ensures goes { Goes (D.state disk.old) (D.state disk.new) }
-        ensures cause { IsErrOf result EngineFault.Failed
-            → Rose (D.state disk.old).faults (D.state disk.new).faults }
+        ensures cause { OnErr result (Rose (D.state disk.old).faults (D.state disk.new).faults) }
         ensures well { OnOk result ((D.state disk.new).faults ≡ (D.state disk.old).faults) }
     {
-        if self.length >= most_entries(self.limits.flush) {
-            self.flush_all(disk, live)?;
-            return Ok(Worked::Done);
-        }
-        if !self.full {
-            return Ok(Worked::Idle);
-        }
-        match first_full(&self.families, live, self.limits.flush) {
-            Some(family) => {
-                self.flush_one(disk, live, family)?;
-                Ok(Worked::Done)
+        match self.merging.take() {
+            Some(merging) => {
+                if has(live, merging.family()) {
+                    self.merging = Some(merging);
+                    return Ok(());
+                }
+                merging.give_up(disk, &self.hand)
             }
-            None => Ok(Worked::Idle),
+            None => Ok(()),
         }
     }
-}
-
-/// From so many bytes of entries on a step flushes all families.
-fn most_entries(flush: u64) -> u64
-    ensures { result ≡ most_entries flush }
-{
-    if flush >= 1 << 58 {
-        return 1 << 62;
-    }
-    16 * flush
 }

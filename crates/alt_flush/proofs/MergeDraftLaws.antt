@@ -1,6 +1,5 @@
 -- What the step of a merge makes of a draft, and of its layout.
 use Rattle.std.proofs.Common.{◌≡◌, ⊎_elim, ℕ, List, [], ◌∷◌, subst, sym}
-use Rattle.std.specs.Prelude.{◌⊎◌}
 use Rattle.std.specs.List.{AllByRecursion}
 use Rattle.alt_disk.specs.Disk.{DiskState, IsSettled}
 use Rattle.alt_layout.specs.Families.{Held, flushed_of}

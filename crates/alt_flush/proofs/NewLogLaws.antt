@@ -21,7 +21,7 @@ use Rattle.alt_flush.specs.Drafts.{kept_before, over_new_log, with_files}
 -- ---- the families with files
 
 -- they name the same files
-row_files-with_files : (fs : List FamilyVersion) → row_files (with_files fs) ≡ row_files fs
+pub row_files-with_files : (fs : List FamilyVersion) → row_files (with_files fs) ≡ row_files fs
 row_files-with_files [] = refl
 row_files-with_files (f ∷ fs) = here f.files refl (row_files-with_files fs)
   where

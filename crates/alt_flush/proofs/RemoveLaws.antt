@@ -1,7 +1,8 @@
 -- Files that are looked for among those that a version names, and removed one by one.
-use Rattle.std.proofs.Common.{◌≡◌, ◌≢◌, ◌<◌, ◌+◌, ⊎_elim, inl, inr, ℕ, Bool, List, [], ◌∷◌, ◌++◌, length, take, drop, get_or, Option, suc, zero, refl, sym, ap, subst, ◌∙◌}
+use Rattle.std.proofs.Common.{◌≡◌, ◌≢◌, ◌<◌, ◌+◌, ◌==◌, ⊎_elim, inl, inr, ℕ, Bool, true, false, List, [], ◌∷◌, ◌++◌, length, take, drop, get_or, Option, suc, zero, refl, sym, ap, subst, ◌∙◌, eqb-true}
 use Rattle.std.proofs.lemmas.List.{drop_more, take_more}
-use Rattle.std.specs.Prelude.{◌⊎◌}
+use Rattle.std.specs.Prelude.{◌||◌, ◌⊎◌}
+use Rattle.std.specs.List.{list_any}
 use Rattle.alt_disk.specs.Disk.{DiskState, Call, Removed}
 use Rattle.alt_disk.specs.Runs.{Spans}
 use Rattle.alt_disk.proofs.Runs.{quiet_spans, quiet_start, run_spans, spans_on, spans_weaker}
@@ -37,6 +38,16 @@ pub in_more : (xs : List ℕ) (i n : ℕ) → i < length xs → IsIn (take (i + 
 in_more xs i n within there = in_either (take i xs) (get_or xs i 0 ∷ []) n (λ old. inl old)
     (λ new. ⊎_elim (λ (e : n ≡ get_or xs i 0). inr e) (λ (no : ⊥). absurd no) new)
     (subst (λ ys. IsIn ys n) (take_more xs i 0 within) there)
+
+-- a number that equals one of a list is in it
+pub listed_in : (xs : List ℕ) (n : ℕ) → list_any (λ m. n == m) xs ≡ true → IsIn xs n
+listed_in [] n listed = let no : false ≡ true = listed in cc no
+listed_in (x ∷ xs) n listed = by (n == x) refl (listed_in xs n) listed
+  where
+    by : (b : Bool) → (n == x) ≡ b → (list_any (λ m. n == m) xs ≡ true → IsIn xs n)
+        → (b || list_any (λ m. n == m) xs) ≡ true → IsIn (x ∷ xs) n
+    by true same rest listed = inl (eqb-true n x same)
+    by false other rest listed = inr (rest listed)
 
 -- ---- removals
 

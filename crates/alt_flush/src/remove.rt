@@ -15,7 +15,7 @@ use alt_manifest::{FamilyVersion, Version};
 /// The file of the versions.
 const VERSIONS: u32 = 1;
 
-/// Removes those of the files that don't belong to the store of this version.
+/// Removes those of the files that don't belong to the store of this version. Each file is looked for among all that it names.
 pub fn remove_left_over<D: Disk>(
     disk: &mut D,
     files: &[u32],
@@ -23,8 +23,12 @@ pub fn remove_left_over<D: Disk>(
 ) -> Result<(), Failed>
     ensures spans { IsTrusted (D.state disk.old) → Spans (D.state disk.old) (D.state disk.new)
         (IsLeftOver files.now version.now) (λ _ _. ⊤) }
-    ensures gone { OnOk result (IsTrusted (D.state disk.old) → (f : ℕ)
+    ensures gone { OnOk result (IsTrue (D.state disk.old).tells → (f : ℕ)
         → IsLeftOver files.now version.now f → (D.state disk.new).file f ≡ None) }
+    ensures kept { IsTrue (D.state disk.old).tells → (f : ℕ) → IsOf version.now f
+        → (D.state disk.new).file f ≡ (D.state disk.old).file f }
+    ensures none { IsTrue (D.state disk.old).tells → (f : ℕ)
+        → (D.state disk.old).file f ≡ None → (D.state disk.new).file f ≡ None }
     ensures goes { Goes (D.state disk.old) (D.state disk.new) }
     ensures cause { OnErr result (Rose (D.state disk.old).faults (D.state disk.new).faults) }
     ensures well { OnOk result ((D.state disk.new).faults ≡ (D.state disk.old).faults) }
@@ -39,10 +43,12 @@ pub fn remove_left_over<D: Disk>(
 fn remove_one<D: Disk>(disk: &mut D, file: u32, version: &Version) -> Result<(), Failed>
     ensures spans { IsTrusted (D.state disk.old) → Spans (D.state disk.old) (D.state disk.new)
         (λ g. (g ≡ file) × (IsOf version.now g → ⊥)) (λ _ _. ⊤) }
-    ensures gone { OnOk result (IsTrusted (D.state disk.old) → (IsOf version.now file → ⊥)
+    ensures gone { OnOk result (IsTrue (D.state disk.old).tells → (IsOf version.now file → ⊥)
         → (D.state disk.new).file file ≡ None) }
-    ensures others { OnOk result (IsTrusted (D.state disk.old) → (g : ℕ)
-        → (D.state disk.old).file g ≡ None → (D.state disk.new).file g ≡ None) }
+    ensures kept { IsTrue (D.state disk.old).tells → (g : ℕ) → IsOf version.now g
+        → (D.state disk.new).file g ≡ (D.state disk.old).file g }
+    ensures none { IsTrue (D.state disk.old).tells → (g : ℕ)
+        → (D.state disk.old).file g ≡ None → (D.state disk.new).file g ≡ None }
     ensures goes { Goes (D.state disk.old) (D.state disk.new) }
     ensures cause { OnErr result (Rose (D.state disk.old).faults (D.state disk.new).faults) }
     ensures well { OnOk result ((D.state disk.new).faults ≡ (D.state disk.old).faults) }

@@ -35,6 +35,9 @@ const TRIES: u32 = 10_000;
 /// How an interim reply begins, which lets a client go on and isn't the answer to its request (RFC 9110, section 15.2).
 const INTERIM: &[u8] = b"HTTP/1.1 1";
 
+/// How many bytes a connection takes at once where none were said on it: the smallest queue of Linux has twice as many.
+const SHORT: usize = 2_048;
+
 /// How a reply begins that answers a request by its result.
 const RESULT: &[u8] = b"HTTP/1.1 200";
 
@@ -44,13 +47,16 @@ const REFUSED: &[u8] = b"\r\n\r\n{\"message\":";
 /// How many bytes such a reply has at most.
 const LONGEST_REFUSAL: usize = 256;
 
-/// A connection, when its accept or its last reply was, whether its reads wait for less than a silence may last, and whether the last
-/// reply refused a head, so that its peer may still send what was to follow.
+/// A connection, when its accept or its last reply was, whether its reads wait for less than a silence may last, whether anything was said
+/// on it, whether its writes wait for a beat at most, and whether the last reply refused a head, so that its peer may still send what was
+/// to follow.
 #[derive(Drop)]
 pub(crate) struct Peer<S: Drop> {
     stream: S,
     since: Instant,
     hurried: bool,
+    said: bool,
+    beats: bool,
     refused: bool,
 }
 
@@ -94,13 +100,13 @@ fn is_passing(kind: ErrorKind) -> bool {
 
 fn greet<C: Clock, S: OpenStream + Drop>(clock: &C, stream: S) -> io::Result<Peer<S>> {
     let since = Instant::now(clock)?;
-    stream.set_nodelay(true)?;
     stream.set_read_timeout(Some(Duration::from_millis(SILENCE)))?;
-    stream.set_write_timeout(Some(Duration::from_millis(BEAT)))?;
     Ok(Peer {
         stream,
         since,
         hurried: false,
+        said: false,
+        beats: false,
         refused: false,
     })
 }
@@ -178,6 +184,19 @@ impl<S: OpenStream + Read + Write + Drop> Peer<S> {
         self.rest(clock)
     }
 
+    /// Has writes wait for a beat at most, and go at once: but for a short reply that is the first, which needs neither.
+    fn ready(&mut self, count: usize) -> io::Result<()> {
+        let first = !self.said;
+        self.said = true;
+        if self.beats || first && count <= SHORT {
+            return Ok(());
+        }
+        self.beats = true;
+        self.stream.set_nodelay(true)?;
+        self.stream
+            .set_write_timeout(Some(Duration::from_millis(BEAT)))
+    }
+
     /// Sends all of the bytes within a time that began then.
     fn send<C: Clock>(
         &mut self,
@@ -186,21 +205,24 @@ impl<S: OpenStream + Read + Write + Drop> Peer<S> {
         most: u64,
         bytes: &[u8],
     ) -> Result<(), Failed> {
+        if bytes.is_empty() {
+            return Ok(());
+        }
+        if self.ready(bytes.len()).is_err() {
+            return Err(Failed);
+        }
         let Ok(mut moved) = Instant::now(clock) else {
             return Err(Failed);
         };
         let mut done = 0;
         'calls: for _ in 0..CALLS {
-            if done == bytes.len() {
-                return Ok(());
-            }
-            if left(clock, begun, most).is_none() || left(clock, moved, SILENCE).is_none() {
-                return Err(Failed);
-            }
             match self.stream.write(&bytes[done..]) {
                 Ok(0) => return Err(Failed),
                 Ok(count) => {
                     done += count;
+                    if done == bytes.len() {
+                        return Ok(());
+                    }
                     let Ok(now) = Instant::now(clock) else {
                         return Err(Failed);
                     };
@@ -208,6 +230,9 @@ impl<S: OpenStream + Read + Write + Drop> Peer<S> {
                 }
                 Err(e) if is_beat(e.kind()) => {}
                 Err(_) => return Err(Failed),
+            }
+            if left(clock, begun, most).is_none() || left(clock, moved, SILENCE).is_none() {
+                return Err(Failed);
             }
         }
         Err(Failed)

@@ -1,6 +1,6 @@
 -- The tree of entries asks of the keys what the entries do.
 use Rattle.std.proofs.Common.{◌≡◌, refl, sym, ap, ◌∙◌, ℕ, ◌<◌, ◌≤◌, length, get_or, arith, Bool, true, false, ◌&&◌, List, [], ◌∷◌, map, Option, Some, None, rules}
-use Rattle.std.specs.Prelude.{is_some, if◌then◌else◌}
+use Rattle.std.specs.Prelude.{is_some, option_and_then, if◌then◌else◌}
 use Rattle.std.specs.Str.{bytes_eq}
 use Rattle.alt_value.specs.declared.attr.Attr.{Attr}
 use Rattle.alt_value.specs.declared.kind.KeyKind.{KeyKind}
@@ -264,6 +264,16 @@ module _ (hash : Key) (range : Option Key) where
   joined_asks (b ∷ d ∷ e ∷ es) x is made = absurd (cc)
 
   -- so it is their key condition
+  -- the tree of entries asks what they do, also where that is nothing
+  pub keys_asked : (es : List Entry)
+      → option_and_then (ask_of hash range) (joined false (map tree_of es)) ≡ asked_by hash range es
+  unfolding ask_of
+  keys_asked [] = refl
+  keys_asked (e ∷ []) = alone e.name e.test
+  keys_asked (d ∷ e ∷ []) = two d e
+  keys_asked (d ∷ e ∷ f ∷ es) =
+      ap (k.ask_at hash range) (top_all (tree_of d ∷ tree_of e ∷ tree_of f ∷ map tree_of es))
+
   pub is_key_condition : (meaning : Option (List Entry)) (es : List Entry) (x : Cond)
       → meaning ≡ Some es → is_some (asked_by hash range es) ≡ true
       → Some x ≡ joined false (map tree_of es) → IsKeyCondition meaning hash range x

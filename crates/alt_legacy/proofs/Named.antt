@@ -17,7 +17,7 @@ use Rattle.alt_expr.specs.declared.update.Action.{Action}
 use Rattle.alt_expr.specs.UpdateLanguage.{target, begins_with_name, begin_with_names}
 use Rattle.alt_legacy.specs.declared.fault.LegacyFault.{LegacyFault}
 use Rattle.alt_legacy.specs.Changes.{Change, put, add, remove, take, NamedChange, change_of, named_change, change_then, each_change, changes_in, Makes, IsUpdate, names_in, Differ}
-use Rattle.alt_legacy.specs.Trees.{action_for, action_of}
+use Rattle.alt_legacy.specs.Trees.{action_for, action_of, update_in}
 use Rattle.alt_legacy.proofs.Updating.{makes}
 
 -- a name that is below another differs from it
@@ -90,6 +90,16 @@ object_update d ms (Ok u) is differ h =
     subst (λ (o : Option Members). IsUpdate (option_and_then each_change o) u) is
     (is_update ms u differ h)
 object_update d ms (Err f) is differ h = tt
+
+-- its actions are those of the entries
+pub object_tree : (d : Data) (ms : Members) (r : Result (List Action) LegacyFault)
+    → Some ms ≡ as_object d
+    → IfOk r (λ u. option_map (map action_of) (each_change ms) ≡ Some u)
+    → IfOk r (λ u. update_in d ≡ Some u)
+object_tree d ms (Ok u) is h =
+    ap (λ (o : Option Members). option_map (map action_of) (option_and_then each_change o)) (sym is)
+    ∙ h
+object_tree d ms (Err f) is h = tt
 
 -- its paths begin with names
 name_first : (name : List ℕ) (c : Change)

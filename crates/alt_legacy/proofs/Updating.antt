@@ -80,7 +80,7 @@ after-one (Some t) (Some u) = put_there t u
 -- ---- one action
 
 -- a given value stands for itself
-given_term : (item : View) (v : Attr) → term item (term_of.Value v) ≡ Ok (tree_of v)
+pub given_term : (item : View) (v : Attr) → term item (term_of.Value v) ≡ Ok (tree_of v)
 unfolding term
 given_term item v = search (rules, the_lemmas)
 
@@ -181,7 +181,7 @@ target_of name (add v) = refl
 target_of name remove = refl
 target_of name (take v) = refl
 
-targets : (cs : List NamedChange) → map target (map action_of cs) ≡ map (λ c. path c.name) cs
+pub targets : (cs : List NamedChange) → map target (map action_of cs) ≡ map (λ c. path c.name) cs
 targets [] = refl
 targets (c ∷ cs) = λ i. target_of c.name c.change i ∷ targets cs i
 

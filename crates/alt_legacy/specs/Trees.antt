@@ -1,5 +1,7 @@
--- The trees that are made of entries. Private contracts alone cite it, and `names_of` for its paths.
-use Rattle.std.specs.Prelude.{ℕ, Bool, true, false, List, [], ◌∷◌, map, Option, Some, None}
+-- The trees that are made of entries, the same that a text would be parsed to. What they mean is said by the other files: a condition
+-- holds of the items that meet its entries (`Meets`), an update makes of an item what its entries do (`Changes`).
+use Rattle.std.specs.Prelude.{ℕ, Bool, true, false, List, [], ◌∷◌, map, Option, Some, None, option_map}
+use Rattle.serde_json.specs.Data.{Data}
 use Rattle.alt_value.specs.declared.attr.Attr.{Attr}
 use Rattle.alt_expr.specs.declared.path.PathPart.{PathPart}
 use Rattle.alt_expr.specs.declared.path.PathPart.TheVariants as p
@@ -11,10 +13,13 @@ use Rattle.alt_expr.specs.declared.update.Action.{Action}
 use Rattle.alt_expr.specs.declared.update.Action.TheVariants as action
 use Rattle.alt_expr.specs.declared.update.Sum.TheVariants as sum
 use Rattle.alt_expr.specs.declared.update.Term.TheVariants as term
-use Rattle.alt_legacy.specs.Changes.{Change, put, add, remove, take, NamedChange}
+use Rattle.alt_legacy.specs.Changes.{Change, put, add, remove, take, NamedChange, changes_in}
+use Rattle.alt_legacy.specs.Entries.{entries_in}
+use Rattle.alt_legacy.specs.Names.{names_in}
 use Rattle.alt_legacy.specs.declared.entry.Entry.{Entry}
 use Rattle.alt_legacy.specs.declared.entry.Test.{Test}
 use Rattle.alt_legacy.specs.declared.entry.Test.TheVariants as t
+use Rattle.alt_legacy.specs.declared.reading.Form.{Form}
 
 -- the path of one part that leads to the attribute of a name; a dot is a part of the name
 abbrev pub path : List ℕ → List PathPart
@@ -72,3 +77,21 @@ action_for name (take v) = action.Delete name v
 -- the action of an entry
 abbrev pub action_of : NamedChange → Action
 action_of c = action_for c.name c.change
+
+-- ---- of a member
+
+-- the condition of entries
+abbrev pub condition_of : Bool → List Entry → Option Cond
+condition_of any es = joined any (map tree_of es)
+
+-- that of a member; none where it isn't of the form
+abbrev pub condition_in : Form → Bool → Data → Option (Option Cond)
+condition_in f any d = option_map (condition_of any) (entries_in f d)
+
+-- the update of a member
+abbrev pub update_in : Data → Option (List Action)
+update_in d = option_map (map action_of) (changes_in d)
+
+-- the paths of a member
+abbrev pub paths_in : Data → Option (List (List PathPart))
+paths_in d = option_map (map path) (names_in d)

@@ -1,9 +1,10 @@
 //! The conditions of Expected, QueryFilter and ScanFilter.
 
-ghost use Rattle.std.specs.Prelude.{◌≡◌, IfOk, IfErr};
+ghost use Rattle.std.specs.Prelude.{◌≡◌, Some, IfOk, IfErr};
 ghost use Rattle.serde_json.specs.View.{view};
 ghost use Rattle.alt_legacy.specs.Answered.{IsBad, IsCondition};
 ghost use Rattle.alt_legacy.specs.Entries.{entries_in};
+ghost use Rattle.alt_legacy.specs.Trees.{condition_in};
 ghost use Rattle.alt_legacy.specs.declared.reading.Form.TheVariants as form;
 
 use crate::fault::LegacyFault;
@@ -17,6 +18,8 @@ use std::alloc::Global;
 pub fn expected_of(alloc: Global, entries: &Value, any: bool) -> Result<Option<Cond>, LegacyFault>
     // It holds of the items that meet the entries, and of no others.
     ensures meets { IfOk result (IsCondition (entries_in form.Expected (view entries.now)) any) }
+    ensures tree { IfOk result
+        (λ c. condition_in form.Expected any (view entries.now) ≡ Some c) }
     ensures cause { IfErr result (IsBad (entries_in form.Expected (view entries.now))) }
 {
     condition(alloc, Form::Expected, entries, any)
@@ -27,6 +30,8 @@ pub fn expected_of(alloc: Global, entries: &Value, any: bool) -> Result<Option<C
 pub fn filter_of(alloc: Global, entries: &Value, any: bool) -> Result<Option<Cond>, LegacyFault>
     // It holds of the items that meet the entries, and of no others.
     ensures meets { IfOk result (IsCondition (entries_in form.Filter (view entries.now)) any) }
+    ensures tree { IfOk result
+        (λ c. condition_in form.Filter any (view entries.now) ≡ Some c) }
     ensures cause { IfErr result (IsBad (entries_in form.Filter (view entries.now))) }
 {
     condition(alloc, Form::Filter, entries, any)
@@ -39,6 +44,7 @@ fn condition(
     any: bool,
 ) -> Result<Option<Cond>, LegacyFault>
     ensures meets { IfOk result (IsCondition (entries_in form (view entries.now)) any) }
+    ensures tree { IfOk result (λ c. condition_in form any (view entries.now) ≡ Some c) }
     ensures cause { IfErr result (IsBad (entries_in form (view entries.now))) }
 {
     let entries = entries_of(alloc, form, entries)?;

@@ -19,4 +19,5 @@ pub use fault::LegacyFault;
 pub use fits::values_fit;
 pub use key::key_of;
 pub use names::names_of;
+pub use reading::Form;
 pub use update::update_of;

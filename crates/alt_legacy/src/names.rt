@@ -16,8 +16,7 @@ use std::alloc::Global;
 
 /// The names of a member AttributesToGet as paths, in order. A dot is a part of a name.
 pub fn names_of(alloc: Global, names: &Value) -> Result<Paths, LegacyFault>
-    ensures paths { IfOk result (λ ps. option_map (map trees.path) (spec.names_in (view names.now))
-        ≡ Some ps) }
+    ensures paths { IfOk result (λ ps. trees.paths_in (view names.now) ≡ Some ps) }
     ensures cause { IfErr result (IsBad (spec.names_in (view names.now))) }
 {
     let Some(items) = names.as_array() else {

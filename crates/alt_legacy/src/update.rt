@@ -6,7 +6,7 @@ ghost use Rattle.alt_expr.specs.UpdateLanguage.{begin_with_names};
 ghost use Rattle.alt_legacy.specs.Answered.{IsBad};
 ghost use Rattle.alt_legacy.specs.Changes as spec;
 ghost use Rattle.alt_legacy.specs.Changes.{IsUpdate, changes_in, each_change, AreApart};
-ghost use Rattle.alt_legacy.specs.Trees.{action_of, action_for};
+ghost use Rattle.alt_legacy.specs.Trees.{action_of, action_for, update_in};
 
 use crate::fault::LegacyFault;
 use crate::tree::path;
@@ -21,6 +21,7 @@ use std::alloc::Global;
 pub fn update_of(alloc: Global, entries: &Value) -> Result<Update, LegacyFault>
     // It makes of each item what the entries do, or is refused for the same fault.
     ensures updates { IfOk result (IsUpdate (changes_in (view entries.now))) }
+    ensures tree { IfOk result (λ u. update_in (view entries.now) ≡ Some u) }
     ensures begins { IfOk result (λ u. begin_with_names u ≡ true) }
     ensures cause { IfErr result (IsBad (changes_in (view entries.now))) }
 {

@@ -128,7 +128,7 @@ module _ {K : Type 0} (R : K → K → Ordering) where
 -- ---- given values
 
 -- the value that a tree is of
-full-attr_of : (t : Tree) → T (sets_full t) → T (sets_full (tree_of (attr_of t)))
+pub full-attr_of : (t : Tree) → T (sets_full t) → T (sets_full (tree_of (attr_of t)))
 full-attr_of (L_tree ts) h = full-elements ts h
 full-attr_of (M_tree fs) h = full-pairs fs h
 full-attr_of t h = h

@@ -29,7 +29,7 @@ EditsFull es = AllByRecursion EditFull es
 -- ---- sets
 
 -- what is put by ADD
-full-added : (o : Option Tree) (t : Tree) → MayFull o → T (sets_full t) → FullOk (added o t)
+pub full-added : (o : Option Tree) (t : Tree) → MayFull o → T (sets_full t) → FullOk (added o t)
 full-added None (SS_tree ss) h f = f
 full-added None (NS_tree zs) h f = f
 full-added None (BS_tree bs) h f = f
@@ -52,7 +52,7 @@ full-left kind h [] = tt
 full-left kind h (x ∷ xs) = h x xs
 
 -- what DELETE puts, if anything
-full-taken : (o : Option Tree) (t : Tree) → IfOk (taken o t) MayFull
+pub full-taken : (o : Option Tree) (t : Tree) → IfOk (taken o t) MayFull
 full-taken None (SS_tree ss) = tt
 full-taken None (NS_tree zs) = tt
 full-taken None (BS_tree bs) = tt

@@ -1,22 +1,22 @@
 -- The items of a table have keys of their own in an index, and those of an index lie by these.
-use Rattle.std.proofs.Common.{◌≡◌, refl, sym, ap, subst, ◌∙◌, ℕ, zero, suc, Bool, true, false, cond, ◌&&◌, List, [], ◌∷◌, Option, Some, None, option_map, is_some}
+use Rattle.std.proofs.Common.{◌≡◌, refl, sym, ap, subst, ◌∙◌, ℕ, zero, suc, Bool, true, false, ◌&&◌, List, [], ◌∷◌, Option, Some, None, option_map, is_some}
 use Rattle.std.proofs.lemmas.Bool.{false≢true}
 use Rattle.std.specs.Prelude.{if◌then◌else◌, option_and_then, unwrap_or, slice_get}
 use Rattle.std.specs.List.{list_all}
 use Rattle.std.specs.FinMap as map
 use Rattle.alt_keyorder.specs.Kinds.{IsKeyFor}
 use Rattle.alt_keyorder.specs.Laws.{Lie}
-use Rattle.alt_keyorder.specs.Place.{Place, place_in_table, place_in_index, place_bytes}
+use Rattle.alt_keyorder.specs.Place.{Place, place_in_table, place_bytes}
 use Rattle.alt_keyorder.proofs.PlaceLaws.{index_tell, index_lie}
-use Rattle.alt_machine.specs.Indexed.{KeyValues, values_beside, values_of, place_of_both, place_read, index_place, index_entry, index_items}
-use Rattle.alt_machine.specs.Keys.{can_be_key, if_key, key_value, key_place, place_beside, place_of}
-use Rattle.alt_machine.specs.Laws.{IndexPlacesLie, Indexes, AllIndex}
+use Rattle.alt_machine.specs.Indexed.{KeyValues, values_beside, values_of, place_of_both, index_place, index_entry}
+use Rattle.alt_machine.specs.Keys.{can_be_key, if_key, key_value, place_beside, place_of}
+use Rattle.alt_machine.specs.Laws.{IndexPlacesLie, AllIndex}
 use Rattle.alt_machine.specs.Sources.{index_at}
-use Rattle.alt_machine.specs.State.{State, Table, Texts}
-use Rattle.alt_machine.specs.Valid.{IsStored, IsValid, IsHeldState}
+use Rattle.alt_machine.specs.State.{Texts}
+use Rattle.alt_machine.specs.Valid.{IsStored}
 use Rattle.alt_machine.proofs.Placed.{part_kind}
 use Rattle.alt_machine.proofs.Rekeying.{AreApart, given_by, gives}
-use Rattle.alt_schema.specs.Indexes.{index_row, is_in_index, cut, has_part, of_range, is_key_value, is_key_length, is_key_or_none, part_fits, index_fits, indexes, keys_fit, longest_hash, longest_range}
+use Rattle.alt_schema.specs.Indexes.{index_row, is_in_index, cut, has_part, of_range, is_key_value, is_key_or_none, part_fits, index_fits, indexes, longest_hash, longest_range}
 use Rattle.alt_schema.specs.declared.schema.IndexSchema.{IndexSchema}
 use Rattle.alt_schema.specs.declared.schema.KeyAttr.{KeyAttr}
 use Rattle.alt_schema.specs.declared.schema.TableSchema.{TableSchema}

@@ -15,6 +15,8 @@ pub mod Lists
 pub mod Looks
 pub mod Made
 pub mod Names
+pub mod Older
+pub mod OlderMeaning
 pub mod Placed
 pub mod Puts
 pub mod Rekeying

@@ -5,7 +5,7 @@ use Rattle.serde_json.specs.Data.{Members}
 use Rattle.alt_expr.specs.Given.{Given}
 use Rattle.alt_machine.specs.declared.Expressions.{Expressions}
 use Rattle.alt_machine.specs.Expressions.{Texts, given_at, expressions}
-use Rattle.alt_machine.specs.Lists.{start_at, on_list, IsListed}
+use Rattle.alt_machine.specs.Lists.{start_given, on_list, IsListed}
 use Rattle.alt_machine.specs.Members.{table_name, table_at}
 use Rattle.alt_machine.specs.Outcomes.{Outcome, says, with_found}
 use Rattle.alt_machine.specs.Refusals.{first_answer, or_refused}
@@ -35,7 +35,7 @@ module _ (tests : List (Option Answer)) (texts : Texts) (s : State) (ms : Member
   of_start g start = with_found (table_at s ms) (in_table g start)
 
   abbrev of_words : Given → Outcome
-  of_words g = with_found (start_at ms) (of_start g)
+  of_words g = with_found (start_given texts ms) (of_start g)
 
   -- an operation on a list is refused as its first test says
   pub list-refused : (a : Answer) → first_answer tests ≡ Some a
@@ -51,13 +51,13 @@ module _ (tests : List (Option Answer)) (texts : Texts) (s : State) (ms : Member
       at_words : on_list tests texts s ms go ≡ of_words g
       at_words = passed tests _ free ∙ found (given_at texts ms) of_words g words
 
-      pub list-no_start : (a : Answer) → start_at ms ≡ Err a
+      pub list-no_start : (a : Answer) → start_given texts ms ≡ Err a
           → on_list tests texts s ms go ≡ says a
-      list-no_start a e = at_words ∙ missed (start_at ms) (of_start g) a e
+      list-no_start a e = at_words ∙ missed (start_given texts ms) (of_start g) a e
 
-      module _ (start : Option (List Pair)) (read : start_at ms ≡ Ok start) where
+      module _ (start : Option (List Pair)) (read : start_given texts ms ≡ Ok start) where
         at_start : on_list tests texts s ms go ≡ of_start g start
-        at_start = at_words ∙ found (start_at ms) (of_start g) start read
+        at_start = at_words ∙ found (start_given texts ms) (of_start g) start read
 
         pub list-no_table : (a : Answer) → table_at s ms ≡ Err a
             → on_list tests texts s ms go ≡ says a
@@ -108,7 +108,7 @@ pub steps-on_list : (s : State) (tests : List (Option Answer)) (texts : Texts) (
 steps-on_list s tests texts ms go h =
     steps-unless s tests _ (λ body.
     steps-found s (given_at texts ms) (of_words tests texts s ms go) (λ g words.
-    steps-found s (start_at ms) (of_start tests texts s ms go g) (λ start read.
+    steps-found s (start_given texts ms) (of_start tests texts s ms go g) (λ start read.
     steps-found s (table_at s ms) (in_table tests texts s ms go g start) (λ t there.
     steps-found s (index_asked t.description ms) (of_index tests texts s ms go g start t)
     (λ index asks.

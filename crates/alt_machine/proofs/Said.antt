@@ -17,8 +17,9 @@ use Rattle.alt_expr.specs.declared.path.PathPart.{PathPart}
 use Rattle.alt_expr.specs.declared.update.Action.{Action}
 use Rattle.alt_expr.proofs.UpdateTexts.{update_of}
 use Rattle.alt_machine.specs.declared.Expressions.{Expressions}
-use Rattle.alt_machine.specs.Expressions.{Texts, values_in, values_at, names_at, given_at, stated, read_or_refused, words_at, changes_key, is_unused, of_texts, expressions}
+use Rattle.alt_machine.specs.Expressions.{Texts, values_in, values_at, names_at, given_at, stated, read_or_refused, words_at, changes_key, is_unused, of_texts, entries_read, words_given, texts_say}
 use Rattle.alt_machine.specs.Members.{unless_fault}
+use Rattle.alt_machine.specs.Older.{of_entries}
 use Rattle.alt_machine.specs.Refusals.{first_answer, refuse_if, unless_answer, ◌>>=◌}
 use Rattle.alt_machine.proofs.Full.{PairsFull, ViewFull}
 use Rattle.alt_machine.proofs.FullActions.{ActionsFull, full-update}
@@ -31,7 +32,7 @@ use Rattle.alt_value.specs.Tree.{Pair, fields_of}
 use Rattle.alt_value.specs.Values.{fields_full}
 
 -- answers that are equal and Ok have equal values
-same_Ok : {A : Type 0} {E : Type 0} (x y : A) → ◌≡◌ {A = Result A E} (Ok x) (Ok y) → x ≡ y
+pub same_Ok : {A : Type 0} {E : Type 0} (x y : A) → ◌≡◌ {A = Result A E} (Ok x) (Ok y) → x ≡ y
 same_Ok x y e = cc
 
 -- what was found, where what comes next found something
@@ -39,6 +40,11 @@ pub found_first : {A B : Type 0} (r : Result A Answer) (next : A → Result B An
     → (r >>= next) ≡ Ok y → (x : A) × (r ≡ Ok x) × (next x ≡ Ok y)
 found_first (Ok x) next y e = (x, refl, e)
 found_first (Err a) next y e = absurd (let f : ⊥ = cc in f)
+
+-- what comes behind tests is what was there before them
+pub passed_on : {A : Type 0} (o : Option Answer) (x y : A) → unless_answer o x ≡ Ok y → x ≡ y
+passed_on None x y e = same_Ok x y e
+passed_on (Some a) x y e = absurd (let f : ⊥ = cc in f)
 
 -- ---- what is given
 
@@ -80,6 +86,15 @@ given_full texts ms g e =
     of_values (Ok qs) ps f h = subst PairsFull (same_Ok qs ps f) h
     of_values (Err a) ps f h = absurd (let k : ⊥ = cc in k)
 
+-- behind the entries of members of the older interface it is what was given
+pub words_full : (texts : Texts) (ms : Members) (g : Given) → words_given texts ms ≡ Ok g
+    → PairsFull g.values
+words_full texts ms g e =
+    let first = found_first (given_at texts ms) (entries_read texts ms) g e in
+    subst (λ (w : Given). PairsFull w.values)
+    (passed_on (first_answer (of_entries texts.older ms)) first.0 g first.2)
+    (given_full texts ms first.0 first.1)
+
 -- ---- what is said
 
 module _ (texts : Texts) (d : TableSchema) (ms : Members) (g : Given) where
@@ -109,8 +124,8 @@ module _ (texts : Texts) (d : TableSchema) (ms : Members) (g : Given) where
       )
       by (Some a) free f = absurd (let k : ⊥ = cc in k)
 
-  -- the update is what its text states, and changes no part of a key
-  pub says_update : (said : Expressions) → expressions texts d ms g ≡ Ok said
+  -- the update of the texts is what its text states, and changes no part of a key
+  pub says_update : (said : Expressions) → texts_say texts d ms g ≡ Ok said
       → (update_said texts d ms g ≡ Ok said.update) × (changes_key d said.update ≡ false)
   says_update said e =
       let keys = found_first (keys_said texts d ms g) (with_keys texts d ms g) said

@@ -23,7 +23,7 @@ use Rattle.alt_expr.proofs.PathsTexts.{paths_of}
 use Rattle.alt_expr.proofs.TextTokens.{tokens_of}
 use Rattle.alt_expr.proofs.UpdateTexts.{update_of}
 use Rattle.alt_machine.specs.declared.Expressions.{Expressions}
-use Rattle.alt_machine.specs.Expressions.{Texts, stated, read_or_refused, text_at, words_of, words_at, changes_key, is_unused, of_texts, expressions, of_names}
+use Rattle.alt_machine.specs.Expressions.{Texts, stated, read_or_refused, text_at, words_of, words_at, changes_key, is_unused, of_texts, texts_say, of_names}
 use Rattle.alt_machine.specs.Refusals.{first_answer, refuse_if, unless_answer, ◌>>=◌}
 use Rattle.alt_schema.specs.declared.schema.TableSchema.{TableSchema}
 use Rattle.alt_shape.specs.Refusals.{Answer, refused, key_update, unused_name}
@@ -108,40 +108,40 @@ module _ (texts : Texts) (d : TableSchema) (ms : Members) (g : Given) where
   with_keys keys = condition_said >>= with_condition keys
 
   -- the texts are read one after another
-  pub all_said : expressions texts d ms g ≡ keys_said >>= with_keys
-  unfolding expressions
+  pub all_said : texts_say texts d ms g ≡ keys_said >>= with_keys
+  unfolding texts_say
   all_said = refl
 
   -- a key condition that is refused refuses them all
-  pub expressions-no_keys : (answer : Answer) → keys_said ≡ Err answer
-      → expressions texts d ms g ≡ Err answer
-  expressions-no_keys answer e = all_said ∙ ap (λ r. r >>= with_keys) e
+  pub texts_say-no_keys : (answer : Answer) → keys_said ≡ Err answer
+      → texts_say texts d ms g ≡ Err answer
+  texts_say-no_keys answer e = all_said ∙ ap (λ r. r >>= with_keys) e
 
   module _ (keys : Option Cond) (asks : keys_said ≡ Ok keys) where
-    behind_keys : expressions texts d ms g ≡ with_keys keys
+    behind_keys : texts_say texts d ms g ≡ with_keys keys
     behind_keys = all_said ∙ ap (λ r. r >>= with_keys) asks
 
-    pub expressions-no_condition : (answer : Answer) → condition_said ≡ Err answer
-        → expressions texts d ms g ≡ Err answer
-    expressions-no_condition answer e =
+    pub texts_say-no_condition : (answer : Answer) → condition_said ≡ Err answer
+        → texts_say texts d ms g ≡ Err answer
+    texts_say-no_condition answer e =
         behind_keys ∙ ap (λ r. r >>= with_condition keys) e
 
     module _ (condition : Option Cond) (said : condition_said ≡ Ok condition) where
-      behind_condition : expressions texts d ms g ≡ with_condition keys condition
+      behind_condition : texts_say texts d ms g ≡ with_condition keys condition
       behind_condition = behind_keys ∙ ap (λ r. r >>= with_condition keys) said
 
-      pub expressions-no_update : (answer : Answer) → update_said ≡ Err answer
-          → expressions texts d ms g ≡ Err answer
-      expressions-no_update answer e =
+      pub texts_say-no_update : (answer : Answer) → update_said ≡ Err answer
+          → texts_say texts d ms g ≡ Err answer
+      texts_say-no_update answer e =
           behind_condition ∙ ap (λ r. r >>= with_update keys condition) e
 
       module _ (update : Option (List Action)) (updates : update_said ≡ Ok update) where
-        behind_update : expressions texts d ms g ≡ with_update keys condition update
+        behind_update : texts_say texts d ms g ≡ with_update keys condition update
         behind_update = behind_condition ∙ ap (λ r. r >>= with_update keys condition) updates
 
-        pub expressions-no_paths : (answer : Answer) → paths_said ≡ Err answer
-            → expressions texts d ms g ≡ Err answer
-        expressions-no_paths answer e =
+        pub texts_say-no_paths : (answer : Answer) → paths_said ≡ Err answer
+            → texts_say texts d ms g ≡ Err answer
+        texts_say-no_paths answer e =
             behind_update ∙ ap (λ r. r >>= with_paths keys condition update) e
 
         module _ (paths : Option (List (List PathPart))) (shows : paths_said ≡ Ok paths) where
@@ -157,7 +157,7 @@ module _ (texts : Texts) (d : TableSchema) (ms : Members) (g : Given) where
           -- by what the tests of all texts tell
           by_tests : (k u : Bool) → changes_key d update ≡ k
               → is_unused ms g (words_at texts ms) ≡ u
-              → expressions texts d ms g
+              → texts_say texts d ms g
               ≡ unless_answer (first_answer (refuse_if k key_update
               ∷ refuse_if u unused_name ∷ [])) all_of_them
           by_tests k u tells_key tells_unused =
@@ -168,19 +168,19 @@ module _ (texts : Texts) (d : TableSchema) (ms : Members) (g : Given) where
               ∙ ap (λ b. unless_answer (first_answer (refuse_if k key_update
               ∷ refuse_if b unused_name ∷ [])) all_of_them) tells_unused
 
-          pub expressions-key_update : changes_key d update ≡ true
-              → expressions texts d ms g ≡ Err (refused key_update)
-          expressions-key_update e =
+          pub texts_say-key_update : changes_key d update ≡ true
+              → texts_say texts d ms g ≡ Err (refused key_update)
+          texts_say-key_update e =
               by_tests true (is_unused ms g (words_at texts ms)) e refl
 
           module _ (keeps : changes_key d update ≡ false) where
-            pub expressions-unused : is_unused ms g (words_at texts ms) ≡ true
-                → expressions texts d ms g ≡ Err (refused unused_name)
-            expressions-unused e = by_tests false true keeps e
+            pub texts_say-unused : is_unused ms g (words_at texts ms) ≡ true
+                → texts_say texts d ms g ≡ Err (refused unused_name)
+            texts_say-unused e = by_tests false true keeps e
 
-            pub expressions-said : is_unused ms g (words_at texts ms) ≡ false
-                → expressions texts d ms g ≡ Ok all_of_them
-            expressions-said e = by_tests false false keeps e
+            pub texts_say-said : is_unused ms g (words_at texts ms) ≡ false
+                → texts_say texts d ms g ≡ Ok all_of_them
+            texts_say-said e = by_tests false false keeps e
 
 -- ---- names
 

@@ -27,7 +27,6 @@ pub start_valid : IsValid start
 start_valid = record {
   few = omega (arith, len-empty text_order Table);
   tables = λ name t e. absurd (not_there name t e);
-  numbers = λ name other t u e f h. absurd (not_there name t e);
   families = λ name other t u family e f h i. absurd (not_there name t e);
   next_number = (omega arith, omega arith);
   next_family = (omega arith, omega arith);
@@ -135,11 +134,6 @@ module _ (s : State) (d : TableSchema) (v : IsValid s) (made : IsMade d) (new : 
       (families_within d new) i in
       omega (arith, old.1, is.0, family)
 
-  -- and no such table has its number
-  after_old : (name : List ℕ) (t : Table) → map.get s.tables name ≡ Some t
-      → t.description.number ≡ d.number → ⊥
-  after_old name t e h = omega (arith, (v.tables name t e).number.1, h, number)
-
   -- a valid state stays valid with a new table, where there is room for one more and for its numbers
   pub with_table_valid : IsValid (with_table s d)
   with_table_valid = record {
@@ -154,18 +148,6 @@ module _ (s : State) (d : TableSchema) (v : IsValid s) (made : IsMade d) (new : 
           (subst (λ n. IsTable (with_table s d) n (new_table d)) (sym new.0) new_is)
       | inr old ↦ table_later s (with_table s d) name t (omega arith) (omega arith)
           (v.tables name t old)
-    ];
-    numbers = λ name other t u e g h. elim (at_insert s.tables d.name name t (new_table d) e) [
-      | inl new ↦ elim (at_insert s.tables d.name other u (new_table d) g) [
-        | inl also ↦ new.0 ∙ sym also.0
-        | inr old ↦ absurd (after_old other u old
-            (sym h ∙ ap (λ (w : Table). w.description.number) (sym new.1)))
-      ]
-      | inr old ↦ elim (at_insert s.tables d.name other u (new_table d) g) [
-        | inl new ↦ absurd (after_old name t old
-            (h ∙ ap (λ (w : Table). w.description.number) (sym new.1)))
-        | inr also ↦ v.numbers name other t u old also h
-      ]
     ];
     families = λ name other t u f e g h i. elim (at_insert s.tables d.name name t (new_table d) e) [
       | inl new ↦ elim (at_insert s.tables d.name other u (new_table d) g) [
@@ -197,8 +179,6 @@ without_table_valid s gone v room = record {
   );
   tables = λ name t e. table_later s (without_table s gone) name t (omega arith) (omega arith)
       (v.tables name t (at_remove s.tables gone name t e));
-  numbers = λ name other t u e g h. v.numbers name other t u (at_remove s.tables gone name t e)
-      (at_remove s.tables gone other u g) h;
   families = λ name other t u f e g h i. v.families name other t u f
       (at_remove s.tables gone name t e) (at_remove s.tables gone other u g) h i;
   next_number = (omega arith, omega (arith, room));
@@ -303,11 +283,6 @@ module _ (s : State) (moment : ℕ) (name : List ℕ) (t : Table) (place : List 
           (subst (λ n. IsTable r n changed) (sym new.0) changed_is)
       | inr old ↦ table_later s r q u (omega arith) (omega arith) (v.tables q u old)
     ];
-    numbers = λ q other u w e g h.
-        let a = was q u e in
-        let b = was other w g in
-        v.numbers q other a.0 b.0 a.1 b.1 (ap (λ (d : TableSchema). d.number) a.2 ∙ h
-        ∙ ap (λ (d : TableSchema). d.number) (sym b.2));
     families = λ q other u w f e g h i.
         let a = was q u e in
         let b = was other w g in

@@ -5,7 +5,7 @@ use Rattle.serde_json.specs.Data.{Members}
 use Rattle.alt_expr.specs.Given.{Given}
 use Rattle.alt_machine.specs.declared.Expressions.{Expressions}
 use Rattle.alt_machine.specs.declared.Sought.{Sought}
-use Rattle.alt_machine.specs.Expressions.{Texts, given_at, expressions}
+use Rattle.alt_machine.specs.Expressions.{Texts, words_given, expressions}
 use Rattle.alt_machine.specs.Keys.{key_fits}
 use Rattle.alt_machine.specs.Members.{table_name, table_at, item_at}
 use Rattle.alt_machine.specs.Outcomes.{Outcome, says, refuses, unless_refused, with_found}
@@ -57,7 +57,7 @@ module _ (tests : List (Option Answer)) (sought : Sought) (texts : Texts) (s : S
   of_words item g = with_found (table_at s ms) (in_table item g)
 
   abbrev of_item : List Pair → Outcome
-  of_item item = with_found (given_at texts ms) (of_words item)
+  of_item item = with_found (words_given texts ms) (of_words item)
 
   -- an operation on an item is refused as its first test says
   pub item-refused : (a : Answer) → first_answer tests ≡ Some a
@@ -73,13 +73,13 @@ module _ (tests : List (Option Answer)) (sought : Sought) (texts : Texts) (s : S
       at_item : on_item tests sought texts s ms go ≡ of_item item
       at_item = passed tests _ free ∙ found (item_at (member_of sought) ms) of_item item read
 
-      pub item-no_words : (a : Answer) → given_at texts ms ≡ Err a
+      pub item-no_words : (a : Answer) → words_given texts ms ≡ Err a
           → on_item tests sought texts s ms go ≡ says a
-      item-no_words a e = at_item ∙ missed (given_at texts ms) (of_words item) a e
+      item-no_words a e = at_item ∙ missed (words_given texts ms) (of_words item) a e
 
-      module _ (g : Given) (words : given_at texts ms ≡ Ok g) where
+      module _ (g : Given) (words : words_given texts ms ≡ Ok g) where
         at_words : on_item tests sought texts s ms go ≡ of_words item g
-        at_words = at_item ∙ found (given_at texts ms) (of_words item) g words
+        at_words = at_item ∙ found (words_given texts ms) (of_words item) g words
 
         pub item-no_table : (a : Answer) → table_at s ms ≡ Err a
             → on_item tests sought texts s ms go ≡ says a
@@ -153,7 +153,7 @@ steps-on_item s tests sought texts ms go h =
     steps-unless s tests _ (λ body.
     steps-found s (item_at (member_of sought) ms) (of_item tests sought texts s ms go)
     (λ item read.
-    steps-found s (given_at texts ms) (of_words tests sought texts s ms go item) (λ g words.
+    steps-found s (words_given texts ms) (of_words tests sought texts s ms go item) (λ g words.
     steps-found s (table_at s ms) (in_table tests sought texts s ms go item g) (λ t there.
     steps-found s (expressions texts t.description ms g)
     (expressed tests sought texts s ms go item t)

@@ -13,7 +13,7 @@ use Rattle.alt_expr.specs.declared.update.Action.{Action}
 use Rattle.alt_machine.specs.declared.Expressions.{Expressions}
 use Rattle.alt_machine.specs.declared.Sought.TheVariants.{Key}
 use Rattle.alt_machine.specs.Conditional.{seen}
-use Rattle.alt_machine.specs.Expressions.{updating, text_at, begins_with_key, changes_key}
+use Rattle.alt_machine.specs.Expressions.{updating, begins_with_key, changes_key}
 use Rattle.alt_machine.specs.Keys.{key_fits, place_of, key_count, place_of_key}
 use Rattle.alt_machine.specs.Members.{table_name}
 use Rattle.alt_machine.specs.Ops.PutItem.{of_item}
@@ -32,8 +32,9 @@ use Rattle.alt_machine.proofs.FullActions.{ActionsFull}
 use Rattle.alt_machine.proofs.FullChanges.{full-updated, full-pairs_of, full-with_key}
 use Rattle.alt_machine.proofs.KeyStays.{KeepsKey, still_stands, still_fits}
 use Rattle.alt_machine.proofs.Names.{at_name-has_bytes, IsItem-pairs_of, IsItem-with_key, at_name-pairs_of, was_among, at_name-with_key}
+use Rattle.alt_machine.proofs.Older.{said_apart, said_full}
 use Rattle.alt_machine.proofs.Puts.{IsSound, is_read, may_stand, steps-met, writes_steps}
-use Rattle.alt_machine.proofs.Said.{given_full, says_update, stated_full}
+use Rattle.alt_machine.proofs.Said.{words_full}
 use Rattle.alt_machine.proofs.Targets.{steps-on_item}
 use Rattle.alt_machine.proofs.Tests.{unless_holds}
 use Rattle.alt_machine.proofs.Untouched.{key_stays}
@@ -174,14 +175,13 @@ module _ (s : State) (ms : Members) (said : Expressions) (key : List Pair) (t : 
 
   -- what the update puts has no empty set, where what is there has none
   acts_full : (view : View) → ViewFull view → ActionsFull view actions
-  acts_full view full = stated_full view target.words full
-      (given_full updating ms target.words target.given) (text_at updating.update ms) said.update
-      (says_update updating t.description ms target.words said target.says).0
+  acts_full view full = said_full updating t.description ms target.words said target.says view
+      full (words_full updating ms target.words target.given)
 
   -- it changes no part of a key
   keeps : KeepsKeys t.description actions
   keeps = keeps_keys t.description said.update
-      (says_update updating t.description ms target.words said target.says).1
+      (said_apart updating t.description ms target.words said target.says)
 
   -- what is left of what is there may be stored
   pub may_be_left : (old : Option (List Pair))

@@ -73,13 +73,13 @@ each_found step (x ∷ xs) = step x >>= (λ y. each_found step xs >>= (λ ys. Ok
 abbrev pub is_sized : ℕ → ℕ → Bool
 is_sized most count = nat_le 1 count && nat_le count most
 
--- What a body alone is refused for: its shape, a member of an older interface, its members (how many they are, and what else says that
--- they are bad), and a name that no table can have.
+-- What a body alone is refused for: its shape, members that don't go together, the batch's own members (how many they are, and what else
+-- says that they are bad), and a name that no table can have.
 abbrev pub batch_refusals : Option Broken → Bool → Bool → List (List ℕ × Data)
     → List (Option Answer)
-batch_refusals broken legacy good tables =
+batch_refusals broken mixed good tables =
     of_shape broken ∷
-    refuse_if legacy not_together ∷
+    refuse_if mixed not_together ∷
     refuse_unless good bad_batch ∷
     refuse_unless (list_all (λ t. is_name t.0) tables) bad_name ∷ []
 

@@ -14,7 +14,6 @@ use Rattle.alt_machine.specs.Replies.{asks, item_answer}
 use Rattle.alt_machine.specs.State.{State, Table}
 use Rattle.alt_machine.specs.Writes.{item_writes}
 use Rattle.alt_shape.specs.Refusals.{Answer, refused, refused_with, condition_failed}
-use Rattle.alt_shape.specs.declared.refusal.Refusal.{Refusal}
 use Rattle.alt_value.specs.Item.{at_name}
 use Rattle.alt_value.specs.Tree.{Pair}
 

@@ -1,5 +1,5 @@
 -- The expressions of a request: the names and values that it gives, what its texts say, and that each given word stands in one of them
--- (DynamoDB Developer Guide, "Using expressions in DynamoDB").
+-- (DynamoDB Developer Guide, "Using expressions in DynamoDB"). Members of the older interface may say the same in their place.
 use Rattle.std.specs.Prelude.{ℕ, Bool, false, List, [], ◌∷◌, ◌++◌, Option, Some, None, option_and_then, Result, Ok, Err, codes, ◌||◌}
 use Rattle.std.specs.List.{list_any}
 use Rattle.std.specs.Option.{option_map_or}
@@ -24,6 +24,7 @@ use Rattle.alt_expr.proofs.TextTokens.{tokens_of}
 use Rattle.alt_expr.proofs.UpdateTexts.{update_of}
 use Rattle.alt_machine.specs.declared.Expressions.{Expressions}
 use Rattle.alt_machine.specs.Members.{unless_fault}
+use Rattle.alt_machine.specs.Older.{Older, older_names, older_expected, older_updates, older_scan, older_query, of_entries, older_said}
 use Rattle.alt_machine.specs.Refusals.{first_answer, refuse_if, refuse_by, unless_answer, ◌>>=◌}
 use Rattle.alt_schema.specs.Indexes.{is_key}
 use Rattle.alt_schema.specs.declared.schema.TableSchema.{TableSchema}
@@ -33,12 +34,13 @@ use Rattle.alt_shape.specs.Shape.{given}
 use Rattle.alt_shape.specs.declared.refusal.Refusal.{Refusal}
 use Rattle.alt_value.specs.Tree.{Pair}
 
--- the members of an operation that are expressions, each where it takes one
+-- the members of an operation that are expressions, each where it takes one, and those that stand in their place
 pub record Texts : Type 0 where
   pub key_condition : Option (List ℕ)
   pub condition : Option (List ℕ)
   pub update : Option (List ℕ)
   pub projection : Option (List ℕ)
+  pub older : Older
 
 -- a write that may be conditional
 abbrev pub conditional : Texts
@@ -47,11 +49,15 @@ conditional = record {
   condition = Some (codes "ConditionExpression");
   update = None;
   projection = None;
+  older = older_expected;
 }
 
 -- an update, which may be conditional
 abbrev pub updating : Texts
-updating = record conditional { update = Some (codes "UpdateExpression") }
+updating = record conditional {
+  update = Some (codes "UpdateExpression");
+  older = older_updates;
+}
 
 -- a read that may show parts
 abbrev pub projecting : Texts
@@ -60,15 +66,22 @@ projecting = record {
   condition = None;
   update = None;
   projection = Some (codes "ProjectionExpression");
+  older = older_names;
 }
 
 -- a Scan, whose condition is a filter
 abbrev pub scanning : Texts
-scanning = record projecting { condition = Some (codes "FilterExpression") }
+scanning = record projecting {
+  condition = Some (codes "FilterExpression");
+  older = older_scan;
+}
 
 -- a Query, which has a condition on keys too
 abbrev pub querying : Texts
-querying = record scanning { key_condition = Some (codes "KeyConditionExpression") }
+querying = record scanning {
+  key_condition = Some (codes "KeyConditionExpression");
+  older = older_query;
+}
 
 -- ---- names and values
 
@@ -109,6 +122,14 @@ given_at texts ms = do
   names ← names_at ms
   values ← values_at texts ms
   Ok (record { names = names; values = values })
+
+-- what was read before, where the entries of members of the older interface can be read too
+abbrev pub entries_read : {A : Type 0} → Texts → Members → A → Result A Answer
+entries_read texts ms = unless_answer (first_answer (of_entries texts.older ms))
+
+-- the names and the values, and behind them those entries
+abbrev pub words_given : Texts → Members → Result Given Answer
+words_given texts ms = given_at texts ms >>= entries_read texts ms
 
 -- ---- texts
 
@@ -175,10 +196,10 @@ of_texts texts d ms g update =
     refuse_if (changes_key d update) key_update ∷
     refuse_if (is_unused ms g (words_at texts ms)) unused_name ∷ []
 
--- What the expressions say to a table: each text is refused for its first fault, in this order, and then all of them. A projection
--- has no word for a value.
-unfoldable pub expressions : Texts → TableSchema → Members → Given → Result Expressions Answer
-expressions texts d ms g = do
+-- What the texts say to a table: each is refused for its first fault, in this order, and then all of them. A projection has no word
+-- for a value.
+unfoldable pub texts_say : Texts → TableSchema → Members → Given → Result Expressions Answer
+texts_say texts d ms g = do
   keys ← stated condition_of g (text_at texts.key_condition ms)
   condition ← stated condition_of g (text_at texts.condition ms)
   update ← stated update_of g (text_at texts.update ms)
@@ -190,3 +211,32 @@ expressions texts d ms g = do
         update = update;
         projection = projection;
       })
+
+-- ---- texts, or members in their place
+
+-- the first that is there
+abbrev pub earlier : {A : Type 0} → Option A → Option A → Option A
+earlier (Some x) y = Some x
+earlier None y = y
+
+-- what members of the older interface say, and else what texts say
+abbrev pub in_place : Expressions → Expressions → Expressions
+in_place older said = record {
+  key_condition = earlier older.key_condition said.key_condition;
+  condition = earlier older.condition said.condition;
+  update = earlier older.update said.update;
+  projection = earlier older.projection said.projection;
+}
+
+-- an update of the older interface changes a key attribute
+abbrev pub of_older : TableSchema → Expressions → List (Option Answer)
+of_older d older = refuse_if (changes_key d older.update) key_update ∷ []
+
+-- What is said to a table. No text stands in a request beside a member of the older interface, so each of these members is in the place of
+-- its text, and the words that are given are tested behind all of them.
+unfoldable pub expressions : Texts → TableSchema → Members → Given → Result Expressions Answer
+expressions texts d ms g = do
+  older ← older_said texts.older ms
+  apart ← unless_answer (first_answer (of_older d older)) older
+  said ← texts_say texts d ms g
+  Ok (in_place apart said)

@@ -1,11 +1,24 @@
 -- What is proved of the machine itself.
-use Rattle.std.specs.Prelude.{◌≡◌, ℕ, List, take, Option, Some, None}
+use Rattle.std.specs.Prelude.{◌≡◌, ℕ, Bool, false, not, List, map as each, take, Option, Some, None, option_and_then}
 use Rattle.std.specs.FinMap as map
+use Rattle.alt_expr.specs.KeyForm.{Key, ask_of}
+use Rattle.alt_expr.specs.Pages.{passes}
+use Rattle.alt_expr.specs.UpdateLanguage.{target}
+use Rattle.alt_expr.specs.Updated.{updated}
 use Rattle.alt_keyorder.specs.Laws.{Lie}
 use Rattle.alt_keyorder.specs.Place.{Place}
+use Rattle.alt_legacy.specs.Changes.{NamedChange, legacy_updated, makes_item, Differ}
+use Rattle.alt_legacy.specs.Keys.{asked_by}
+use Rattle.alt_legacy.specs.Meets as older
+use Rattle.alt_legacy.specs.Trees.{path, action_of, condition_of}
+use Rattle.alt_legacy.specs.declared.entry.Entry.{Entry}
+use Rattle.alt_machine.specs.Conditional as conditional
+use Rattle.alt_machine.specs.Conditional.{seen}
 use Rattle.alt_machine.specs.declared.Operation.{Operation}
 use Rattle.alt_machine.specs.Indexed.{index_place, index_entry, index_items}
 use Rattle.alt_machine.specs.Keys.{key_place}
+use Rattle.alt_machine.specs.Older.{some_actions}
+use Rattle.alt_machine.specs.Ops.UpdateItem.{makes_none}
 use Rattle.alt_machine.specs.Outcomes.{state_after}
 use Rattle.alt_machine.specs.Sources.{index_at}
 use Rattle.alt_machine.specs.State.{State, Table}
@@ -15,6 +28,7 @@ use Rattle.alt_machine.specs.Wanted.{lack_among}
 use Rattle.alt_schema.specs.Indexes.{index_row}
 use Rattle.alt_schema.specs.declared.schema.IndexSchema.{IndexSchema}
 use Rattle.alt_schema.specs.declared.schema.TableSchema.{TableSchema}
+use Rattle.alt_value.specs.Item.{at_name}
 use Rattle.alt_value.specs.Tree.{Pair}
 use Rattle.alt_value.specs.Values.{IsItemOfValues}
 
@@ -53,3 +67,30 @@ abbrev pub AllIndex : Type 0
 AllIndex = (s : State) (name : List ℕ) (t : Table) (number : ℕ) (i : IndexSchema) → IsValid s
     → IsHeldState s → map.get s.tables name ≡ Some t
     → index_at t.description (Some number) ≡ Some i → Indexes t i
+
+-- ---- members of the older interface
+
+-- The condition of entries holds of what is there, and as a filter of an item, exactly where that meets the entries.
+pub record OlderConditions : Type 0 where
+  pub meets : (any : Bool) (entries : List Entry) (old : Option (List Pair))
+      → conditional.meets (condition_of any entries) old ≡ older.meets any entries (seen old)
+  pub passes : (any : Bool) (entries : List Entry) (item : List Pair)
+      → passes (condition_of any entries) item
+      ≡ older.meets any entries (λ name. at_name name item)
+
+-- As a condition on keys it asks what the entries do, and nothing where they aren't one.
+abbrev pub OlderKeys : Type 0
+OlderKeys = (hash : Key) (range : Option Key) (entries : List Entry)
+    → option_and_then (ask_of hash range) (condition_of false entries)
+    ≡ asked_by hash range entries
+
+-- The update of changes of different names makes of what is there what they do, or is refused for the same fault; it makes no item exactly
+-- where they don't, and its parts are the attributes of their names.
+pub record OlderUpdates : Type 0 where
+  pub after : (changes : List NamedChange) (old : Option (List Pair))
+      → Differ (each (λ c. c.name) changes)
+      → updated (seen old) (each action_of changes) ≡ legacy_updated (seen old) changes
+  pub makes : (changes : List NamedChange)
+      → makes_none (some_actions (each action_of changes)) ≡ not (makes_item changes)
+  pub parts : (changes : List NamedChange)
+      → each target (each action_of changes) ≡ each (λ c. path c.name) changes

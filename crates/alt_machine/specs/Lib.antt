@@ -8,6 +8,7 @@ pub mod Keys
 pub mod Laws
 pub mod Lists
 pub mod Members
+pub mod Older
 pub mod Operations
 pub mod Ops
 pub mod Outcomes

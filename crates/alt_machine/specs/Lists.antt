@@ -4,7 +4,7 @@ use Rattle.std.specs.Prelude.{◌≡◌, ℕ, Bool, true, false, not, ◌&&◌, 
 use Rattle.std.specs.List.{filter, last_or, list_all}
 use Rattle.std.specs.FinMap.Entries.{where_key}
 use Rattle.std.specs.Option.{option_map_or}
-use Rattle.serde_json.specs.Data.{Data, number, unsigned, array, Items, no_items, item, Members, no_members, member}
+use Rattle.serde_json.specs.Data.{Data, number, unsigned, array, Members, no_members, member}
 use Rattle.alt_codec.specs.Reading.{item_in}
 use Rattle.alt_codec.specs.Writing.{json_of_pairs}
 use Rattle.alt_expr.specs.Given.{Given}
@@ -26,7 +26,7 @@ use Rattle.alt_value.specs.declared.attr.Attr.{Attr}
 use Rattle.alt_value.specs.declared.kind.KeyKind.{KeyKind}
 use Rattle.alt_value.specs.declared.kind.KeyKind.TheVariants.{S, N, B}
 use Rattle.alt_machine.specs.declared.Expressions.{Expressions}
-use Rattle.alt_machine.specs.Expressions.{Texts, given_at, expressions}
+use Rattle.alt_machine.specs.Expressions.{Texts, given_at, entries_read, expressions}
 use Rattle.alt_machine.specs.Indexed.{place_read}
 use Rattle.alt_machine.specs.Members.{table_at, unless_fault}
 use Rattle.alt_machine.specs.Outcomes.{Outcome, says, unless_refused, with_found}
@@ -41,15 +41,20 @@ use Rattle.alt_machine.specs.Walks.{placed_items, turned, is_beyond}
 abbrev pub is_given : List ℕ → Members → Bool
 is_given name ms = is_some (given name ms)
 
--- there is a projection, and Select says something else
+-- there is a projection, as an expression or as a list of names
+abbrev pub gives_parts : Members → Bool
+gives_parts ms =
+    is_given (codes "ProjectionExpression") ms || is_given (codes "AttributesToGet") ms
+
+-- there is one, and Select says something else
 abbrev pub is_projection_odd : Members → Bool
-is_projection_odd ms = is_given (codes "ProjectionExpression") ms
+is_projection_odd ms = gives_parts ms
     && (is_given (codes "Select") ms && not (selects (codes "SPECIFIC_ATTRIBUTES") ms))
 
 -- Select asks for what isn't there: a projection, or an index
 abbrev pub is_select_odd : Members → Bool
 is_select_odd ms =
-    (selects (codes "SPECIFIC_ATTRIBUTES") ms && not (is_given (codes "ProjectionExpression") ms))
+    (selects (codes "SPECIFIC_ATTRIBUTES") ms && not (gives_parts ms))
     || (selects (codes "ALL_PROJECTED_ATTRIBUTES") ms && not (is_given (codes "IndexName") ms))
 
 -- Select doesn't go with the projection or the index
@@ -66,6 +71,10 @@ start_of (Some d) = unless_fault (item_in 32 d) >>= (λ key. Ok (Some key))
 -- the key to start after, if one is given
 abbrev pub start_at : Members → Result (Option (List Pair)) Answer
 start_at ms = start_of (given (codes "ExclusiveStartKey") ms)
+
+-- that key, and behind it the entries of members of the older interface
+abbrev pub start_given : Texts → Members → Result (Option (List Pair)) Answer
+start_given texts ms = start_at ms >>= entries_read texts ms
 
 -- a value of that kind, which may be empty
 abbrev pub is_of_kind : KeyKind → Tree → Bool
@@ -161,14 +170,14 @@ pages d i ms said items =
 
 -- ---- the operations
 
--- Behind the tests of its body, an operation on a list of items reads the names, the values and the start key, and then the table that
--- is named, which of its indexes is named, if one is, and its expressions. It goes on with them.
+-- Behind the tests of its body, an operation on a list of items reads the names, the values, the start key and the values of members of the
+-- older interface, and then the table that is named, which of its indexes is named, if one is, and its expressions. It goes on with them.
 abbrev pub on_list : List (Option Answer) → Texts → State → Members
     → (Expressions → Option (List Pair) → Table → Option ℕ → Outcome) → Outcome
 on_list tests texts s ms go =
     unless_refused tests (
     with_found (given_at texts ms) (λ g.
-    with_found (start_at ms) (λ start.
+    with_found (start_given texts ms) (λ start.
     with_found (table_at s ms) (λ t.
     with_found (index_asked t.description ms) (λ index.
     with_found (expressions texts t.description ms g) (λ said. go said start t index))))))
@@ -181,6 +190,6 @@ pub record IsListed (tests : List (Option Answer)) (texts : Texts) (ms : Members
   pub body : first_answer tests ≡ None
   pub words : Given
   pub given : given_at texts ms ≡ Ok words
-  pub read : start_at ms ≡ Ok start
+  pub read : start_given texts ms ≡ Ok start
   pub asks : index_asked d ms ≡ Ok index
   pub says : expressions texts d ms words ≡ Ok said

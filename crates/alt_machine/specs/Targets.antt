@@ -8,7 +8,7 @@ use Rattle.alt_expr.specs.Given.{Given}
 use Rattle.alt_machine.specs.declared.Expressions.{Expressions}
 use Rattle.alt_machine.specs.declared.Sought.{Sought}
 use Rattle.alt_machine.specs.declared.Sought.TheVariants.{Item, Key}
-use Rattle.alt_machine.specs.Expressions.{Texts, given_at, expressions}
+use Rattle.alt_machine.specs.Expressions.{Texts, words_given, expressions}
 use Rattle.alt_machine.specs.Keys.{key_fits, place_of, place_of_key}
 use Rattle.alt_machine.specs.Members.{table_at, item_at}
 use Rattle.alt_machine.specs.Outcomes.{Outcome, unless_refused, with_found}
@@ -33,14 +33,14 @@ abbrev pub place_in : Sought → TableSchema → List Pair → Option (List ℕ)
 place_in Item = place_of
 place_in Key = place_of_key
 
--- Behind the tests of its body, an operation on an item reads the item or the key, the names and the values, and then the table that is
--- named, its expressions, and the place there. It goes on with them where there is a place and the key isn't too long.
+-- Behind the tests of its body, an operation on an item reads the item or the key, the names and the values, those of members of the older
+-- interface, and then the table that is named, its expressions, and the place there. It goes on with them where there is a place and the key isn't too long.
 abbrev pub on_item : List (Option Answer) → Sought → Texts → State → Members
     → (Expressions → List Pair → Table → List ℕ → Outcome) → Outcome
 on_item tests sought texts s ms go =
     unless_refused tests (
     with_found (item_at (member_of sought) ms) (λ item.
-    with_found (given_at texts ms) (λ g.
+    with_found (words_given texts ms) (λ g.
     with_found (table_at s ms) (λ t.
     with_found (expressions texts t.description ms g) (λ said.
     with_found (or_refused bad_key (place_in sought t.description item)) (λ place.
@@ -55,7 +55,7 @@ pub record IsPlaced (tests : List (Option Answer)) (sought : Sought) (texts : Te
   pub body : first_answer tests ≡ None
   pub read : item_at (member_of sought) ms ≡ Ok item
   pub words : Given
-  pub given : given_at texts ms ≡ Ok words
+  pub given : words_given texts ms ≡ Ok words
   pub says : expressions texts d ms words ≡ Ok said
   pub at : place_in sought d item ≡ Some place
   pub fits : key_fits d item ≡ true

@@ -118,14 +118,11 @@ pub record IsTable (s : State) (name : List ℕ) (t : Table) : Type 0 where
       → IsStored t.description place item
   pub changes : AreChanges t.description s.next_number t.changes
 
--- There are at most 256 tables, each of them as it is to be; a number is of one table alone, and so is a family; and the next
--- number and the next family are in their ranges.
+-- There are at most 256 tables, each of them as it is to be; a family is of one table alone; and the next number and the next family are in
+-- their ranges.
 pub record IsValid (s : State) : Type 0 where
   pub few : map.len s.tables ≤ MOST_TABLES
   pub tables : (name : List ℕ) (t : Table) → map.get s.tables name ≡ Some t → IsTable s name t
-  pub numbers : (name other : List ℕ) (t u : Table) → map.get s.tables name ≡ Some t
-      → map.get s.tables other ≡ Some u
-      → t.description.number ≡ u.description.number → name ≡ other
   pub families : (name other : List ℕ) (t u : Table) (family : ℕ) → map.get s.tables name ≡ Some t
       → map.get s.tables other ≡ Some u
       → Contains (families_of t.description) family → Contains (families_of u.description) family

@@ -1,12 +1,12 @@
 -- A merge under way, call by call.
-use Rattle.std.proofs.Common.{◌≡◌, ◌≢◌, ◌≤◌, ◌<◌, ◌+◌, ⊎_elim, ℕ, Bool, true, false, List, [], ◌∷◌, ◌++◌, length, take, drop, zero, suc, Option, refl, sym, ap, subst, ◌∙◌, arith, eqb-true}
+use Rattle.std.proofs.Common.{◌≡◌, ◌+◌, ⊎_elim, ℕ, Bool, true, false, List, [], ◌∷◌, ◌++◌, take, drop, zero, suc, Option, refl, sym, ap, subst, ◌∙◌, arith, eqb-true}
 use Rattle.std.proofs.lemmas.List.{append-nil, take-append-drop, take-append-le}
-use Rattle.std.specs.Prelude.{◌⊎◌, ◌==◌, ◌||◌, IsTrue, Result, Err}
+use Rattle.std.specs.Prelude.{◌==◌, ◌||◌, IsTrue, Result, Err}
 use Rattle.std.specs.FinMap.{entries}
 use Rattle.std.specs.List.{AllByRecursion}
 use Rattle.alt_cells.specs.Compacted.{compacted}
 use Rattle.alt_base.specs.Counts.{Rose}
-use Rattle.alt_cells.specs.Walks.{Anything, HasCause, RowList, RowMap}
+use Rattle.alt_cells.specs.Walks.{Anything, HasCause, IsDamaged, RowList, RowMap}
 use Rattle.alt_cells.specs.declared.source.SourceFault.{SourceFault}
 use Rattle.alt_cells.specs.declared.source.SourceFault.TheVariants.{Damaged, Failed, NoMemory}
 use Rattle.alt_compact.specs.declared.job.Stepped.{Stepped}
@@ -18,7 +18,7 @@ use Rattle.alt_fields.proofs.Apart.{all_front}
 use Rattle.alt_filemerge.specs.FileMerges.{MergeStands, ReadEach, any_file, drops, is_output, output_of}
 use Rattle.alt_filemerge.proofs.Merged.{stands_on}
 use Rattle.alt_filemerge.specs.declared.filemerge.FileMerge.{FileMerge}
-use Rattle.alt_layout.specs.Files.{IsLayout, IsOf}
+use Rattle.alt_layout.specs.Files.{IsOf}
 use Rattle.alt_layout.specs.Fresh.{versions_file}
 use Rattle.alt_layout.specs.Layout.{Layout}
 use Rattle.alt_layout.specs.Moments.{Has, IsIt}
@@ -27,24 +27,24 @@ use Rattle.alt_merge.specs.Merges.{Each2, all_rows}
 use Rattle.alt_rowfile.specs.InHand.{file_of as row_file, Reads as RowReads, Stands as RowFileStands}
 use Rattle.alt_rowfile.specs.Writing.{itself}
 use Rattle.alt_rowfile.specs.declared.rowfile.RowFile.{RowFile}
-use Rattle.alt_engine.specs.Carrying.{Carries}
-use Rattle.alt_engine.specs.InHand.{Stands, next_file_of}
-use Rattle.alt_engine.specs.Merging.{IsMadeOf, IsMerging, IsOlder, files_at, version_in}
-use Rattle.alt_engine.specs.Working.{WorksIn}
-use Rattle.alt_engine.specs.Opened.{of_source}
-use Rattle.alt_engine.specs.declared.engine.Engine.{Engine}
-use Rattle.alt_engine.specs.declared.engine.EngineFault.{EngineFault}
-use Rattle.alt_engine.specs.declared.engine.EngineFault.TheVariants as fault
-use Rattle.alt_engine.proofs.BesideLaws.{files_by_side, files_read, merging_stays, stands_by_side}
-use Rattle.alt_engine.proofs.EndLaws.{works_same}
-use Rattle.alt_engine.proofs.HandLaws.{each_image}
+use Rattle.alt_hand.specs.Carrying.{Carries}
+use Rattle.alt_hand.specs.InHand.{Stands}
+use Rattle.alt_hand.specs.Merging.{IsMadeOf, IsMerging, IsOlder, files_at, version_in}
+use Rattle.alt_hand.specs.Working.{IsNoDamage, WorksIn}
+use Rattle.alt_hand.specs.Opened.{IsUnspent, of_source}
+use Rattle.alt_hand.specs.declared.hand.Hand.{Hand}
+use Rattle.alt_hand.specs.declared.hand.EngineFault.{EngineFault}
+use Rattle.alt_hand.specs.declared.hand.EngineFault.TheVariants as fault
+use Rattle.alt_hand.proofs.BesideLaws.{files_by_side, files_read, merging_stays, stands_by_side}
+use Rattle.alt_hand.proofs.EndLaws.{works_same}
+use Rattle.alt_hand.proofs.HandLaws.{each_image}
 use Rattle.alt_merging.specs.Mergings.{MergingStands}
 use Rattle.alt_merging.specs.declared.merging.Merging.{Merging}
 
 -- ---- calls on its file
 
 -- the file of a merge isn't one of the store's
-pub not_of : (s : DiskState) (e : Engine) (family taken number file : ℕ)
+pub not_of : (s : DiskState) (e : Hand) (family taken number file : ℕ)
     → IsMerging s e family taken number file → IsOf (version_in e) file → ⊥
 not_of s e family taken number file merging of = ⊎_elim
     (λ (first : file ≡ versions_file). let two = merging.two in omega (arith, first, two))
@@ -55,7 +55,7 @@ pub run_it : (a b : DiskState) (file : ℕ) (P : ℕ → Option (List ℕ) → T
     → Run a b file P → Spans a b (IsIt file) Anything
 run_it a b file P run = run_spans a b file P (IsIt file) Anything run refl (λ t image here others. tt)
 
-module _ (a b : DiskState) (e : Engine) (l : Layout) (stands : Stands a e l)
+module _ (a b : DiskState) (e : Hand) (l : Layout) (stands : Stands a e l)
     (family taken number file : ℕ) (merging : IsMerging a e family taken number file)
     (spans : Spans a b (IsIt file) Anything) where
   both : Stands b e l × Spans a b (IsIt file) (Has l)
@@ -63,8 +63,8 @@ module _ (a b : DiskState) (e : Engine) (l : Layout) (stands : Stands a e l)
       (not_of a e family taken number file merging) spans
 
   -- leave the engine as it stands
-  pub engine_stays : Stands b e l
-  engine_stays = both.0
+  pub hand_stays : Stands b e l
+  hand_stays = both.0
 
   -- and each image with the layout
   pub images_stay : Spans a b (λ g. Unit {0}) (Has l)
@@ -120,7 +120,7 @@ not_older s number file (f ∷ fs) older =
     here false same rest = rest
 
 -- It stands once its file is made.
-pub begins : (a b : DiskState) (e : Engine) (l : Layout) → Stands a e l
+pub begins : (a b : DiskState) (e : Hand) (l : Layout) → Stands a e l
     → (family taken number file : ℕ) → IsMerging a e family taken number file
     → Spans a b (IsIt file) Anything → (merge : FileMerge) → output_of merge ≡ file
     → drops merge ≡ true
@@ -131,7 +131,7 @@ pub begins : (a b : DiskState) (e : Engine) (l : Layout) → Stands a e l
 begins a b e l stands family taken number file merging spans merge output purges begun =
     let later = merging_on a b e l stands family taken number file merging spans in
     let read = files_read b e l family
-    (engine_stays a b e l stands family taken number file merging spans).reads in (
+    (hand_stays a b e l stands family taken number file merging spans).reads in (
       entries (all_rows (take taken read.0)),
       record {
         number = number;
@@ -161,7 +161,7 @@ same_output old new same = eqb-true (output_of new) (output_of old)
     (sym (ap (λ (p : ℕ → Bool). p (output_of new)) same) ∙ itself (output_of new))
 
 -- It stands after a step.
-pub steps : (a b : DiskState) (e : Engine) (l : Layout) → Stands a e l → (old new : Merging)
+pub steps : (a b : DiskState) (e : Hand) (l : Layout) → Stands a e l → (old new : Merging)
     (left rest more : RowList) → (stands : MergingStands a e old left)
     → Spans a b (IsIt old.file) Anything → new.family ≡ old.family → new.taken ≡ old.taken
     → new.file ≡ old.file → is_output new.merge ≡ is_output old.merge
@@ -202,7 +202,7 @@ each2_on a b (f ∷ fs) (m ∷ maps) same each = (
 )
 
 -- Where no row is left, the file that was finished stands for what is left of all.
-pub made_of : (a b : DiskState) (e : Engine) (l : Layout) → Stands a e l → (old : Merging)
+pub made_of : (a b : DiskState) (e : Hand) (l : Layout) → Stands a e l → (old : Merging)
     → (stands : MergingStands a e old []) → Spans a b (IsIt old.file) Anything → (made : RowFile)
     → RowFileStands b made (compacted (drops old.merge) stands.done)
     → IsMadeOf b (take old.taken (files_at e old.family)) made
@@ -228,7 +228,7 @@ made_of a b e l engine old stands spans made lasts =
 -- ---- no call
 
 -- where no call is made each image has the layout
-pub has_still : (s : DiskState) (e : Engine) (l : Layout) → Stands s e l
+pub has_still : (s : DiskState) (e : Hand) (l : Layout) → Stands s e l
     → Spans s s (λ g. Unit {0}) (Has l)
 has_still s e l stands = quiet_spans s s (λ g. Unit {0}) (Has l) (quiet_start s)
     (λ t image fits. each_image s e l stands image fits)
@@ -242,6 +242,20 @@ pub cause_of : (reads : ℕ → Bool) (a b : DiskState) (given : SourceFault) (m
 cause_of reads a b (Damaged f at) made is has r same e = absurd (let no : ⊥ = cc in no)
 cause_of reads a b Failed made is has r same e = has
 cause_of reads a b NoMemory made is has r same e = absurd (let no : ⊥ = cc in no)
+
+-- it tells of no spent number
+pub unspent_source : (given : SourceFault) (made : EngineFault) → made ≡ of_source given
+    → IsUnspent made
+unspent_source (Damaged f at) made is = subst IsUnspent (sym is) tt
+unspent_source Failed made is = subst IsUnspent (sym is) tt
+unspent_source NoMemory made is = subst IsUnspent (sym is) tt
+
+-- and where the source's tells of no damage, of none
+pub sound_source : (given : SourceFault) (made : EngineFault) → made ≡ of_source given
+    → (IsDamaged given → ⊥) → IsNoDamage made
+sound_source (Damaged f at) made is sound = absurd (sound tt)
+sound_source Failed made is sound = subst IsNoDamage (sym is) tt
+sound_source NoMemory made is sound = subst IsNoDamage (sym is) tt
 
 -- ---- carried on by the engine
 
@@ -259,7 +273,7 @@ any_on a b (f ∷ fs) g same there = either_test (g == row_file f) (any_file fs 
     (λ later. any_on a b fs g same.1 later)
 
 -- A call of the engine that carries merges of its family on leaves it as it stands.
-pub carried : (a b : DiskState) (e f : Engine) (j : Merging) (left : RowList)
+pub carried : (a b : DiskState) (e f : Hand) (j : Merging) (left : RowList)
     → Carries a b e f j.family → MergingStands a e j left → MergingStands b f j left
 carried a b e f j left carries stands =
     let fs = files_at e j.family in

@@ -1,4 +1,10 @@
-//! An engine with a merge under way: merges of families' files, a few rows at a time between other calls.
+//! Merges of families' files under way, a few rows at a time between other calls of the engine.
 #![tactic(auto)]
 
+mod complete;
+mod each;
 mod merging;
+mod tombstones;
+
+pub use each::merge_each;
+pub use merging::Merging;

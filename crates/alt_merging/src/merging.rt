@@ -1,6 +1,6 @@
-//! A merge of an engine's files under way: its beginning, its steps, its end, or that it is given up.
+//! A merge of a family's files under way: its beginning, its steps, its end, or that it is given up.
 
-ghost use Rattle.std.specs.Prelude.{◌≡◌, ◌≢◌, ◌<◌, ◌+◌, ◌-◌, ◌^◌, ◌∷◌, ⊤, ℕ, List, Err, IfOk, IfErr, OnOk, OnErr, IsErrOf, None, [], drop, length, take};
+ghost use Rattle.std.specs.Prelude.{◌≡◌, ◌≢◌, ◌<◌, ◌+◌, ◌-◌, ◌^◌, ⊤, ℕ, List, Err, IfOk, IfErr, OnOk, OnErr, IsErrOf, None, [], drop, length, take};
 ghost use Rattle.alt_base.specs.Counts.{Rose};
 ghost use Rattle.alt_cells.specs.Walks.{RowList};
 ghost use Rattle.alt_compact.specs.Jobs.{Says};
@@ -9,16 +9,18 @@ ghost use Rattle.alt_disk.specs.Runs.{Spans};
 ghost use Rattle.alt_layout.specs.Layout.{Layout};
 ghost use Rattle.alt_layout.specs.Moments.{Has};
 ghost use Rattle.alt_manifest.specs.Versions.{IsIn};
-ghost use Rattle.alt_rowfile.specs.declared.rowfile.RowFile.{RowFile};
-ghost use Rattle.alt_engine.specs.InHand.{Stands, limits_of, next_file_of, next_of};
-ghost use Rattle.alt_engine.specs.Merging.{files_at, version_in};
-ghost use Rattle.alt_engine.specs.Working.{Works, WorksIn};
-ghost use Rattle.alt_merging.specs.Mergings.{MergingStands};
+ghost use Rattle.alt_hand.specs.Carrying.{AreStill};
+ghost use Rattle.alt_hand.specs.InHand.{Stands, length_of, limits_of, next_file_of, next_of};
+ghost use Rattle.alt_hand.specs.Merging.{files_at, version_in};
+ghost use Rattle.alt_hand.specs.Drafting.{IsSpentFor, IsUnspent as IsUnspentWhole};
+ghost use Rattle.alt_hand.specs.Opened.{IsUnspent};
+ghost use Rattle.alt_hand.specs.Working.{IsNoDamage, Works, WorksIn};
+ghost use Rattle.alt_merging.specs.Mergings.{GivesWay, MergingStands, family_of, file_of, taken_of};
 
 use alt_compact::Stepped;
 use alt_disk::{Disk, Failed};
-use alt_engine::{Engine, EngineFault};
 use alt_filemerge::FileMerge;
+use alt_hand::{EngineFault, Hand};
 use alt_rowfile::RowFile;
 use std::alloc::Global;
 
@@ -36,41 +38,47 @@ pub struct Merging {
 
 impl Merging {
     /// Begins a merge of all files of a family. It takes no row yet.
-    pub(crate) fn start<D: Disk>(
+    pub fn start<D: Disk>(
         alloc: Global,
         disk: &mut D,
-        engine: &mut Engine,
+        hand: &mut Hand,
         family: u32,
     ) -> Result<Merging, EngineFault>
         requires ready { IsTrusted (D.state disk.old)
-            → (l : Layout) × Stands (D.state disk.old) engine.old l }
-        requires some { 0 < length (files_at engine.old family) }
+            → (l : Layout) × Stands (D.state disk.old) hand.old l }
+        requires some { 0 < length (files_at hand.old family) }
         ensures ok { OnOk result (IsTrusted (D.state disk.old) → (l : Layout)
-            → Stands (D.state disk.old) engine.old l → Stands (D.state disk.new) engine.new l) }
+            → Stands (D.state disk.old) hand.old l → Stands (D.state disk.new) hand.new l) }
         ensures job { IfOk result (λ job. IsTrusted (D.state disk.old) → (l : Layout)
-            → Stands (D.state disk.old) engine.old l
-            → (left : RowList) × MergingStands (D.state disk.new) engine.new job left) }
-        ensures family { IfOk result (λ job. job.family ≡ family) }
-        ensures taken { IfOk result (λ job. job.taken ≡ length (files_at engine.old family)) }
-        ensures files { (other : ℕ) → files_at engine.new other ≡ files_at engine.old other }
-        ensures next { next_of engine.new ≡ next_of engine.old }
-        ensures limits { limits_of engine.new ≡ limits_of engine.old }
+            → Stands (D.state disk.old) hand.old l
+            → (left : RowList) × MergingStands (D.state disk.new) hand.new job left) }
+        ensures family { IfOk result (λ job. family_of job ≡ family) }
+        ensures taken { IfOk result (λ job. taken_of job ≡ length (files_at hand.old family)) }
+        ensures files { (other : ℕ) → files_at hand.new other ≡ files_at hand.old other }
+        ensures still { IsTrusted (D.state disk.old) → (l : Layout)
+            → Stands (D.state disk.old) hand.old l → (other : ℕ)
+            → AreStill (D.state disk.old) (D.state disk.new) (files_at hand.old other) }
+        ensures next_file { OnOk result (next_file_of hand.new ≡ next_file_of hand.old + 1) }
+        ensures length { length_of hand.new ≡ length_of hand.old }
+        ensures next { next_of hand.new ≡ next_of hand.old }
+        ensures limits { limits_of hand.new ≡ limits_of hand.old }
 
         // A stop at any moment of the call, also one that fails, leaves the rows.
         ensures any_moment { IsTrusted (D.state disk.old) → (l : Layout)
-            → Stands (D.state disk.old) engine.old l
+            → Stands (D.state disk.old) hand.old l
             → Spans (D.state disk.old) (D.state disk.new) (λ _. ⊤) (Has l) }
 
         // A number is spent exactly where the next file is 2^32 - 1.
-        ensures spent { next_file_of engine.old ≡ 2 ^ 32 - 1
+        ensures spent { next_file_of hand.old ≡ 2 ^ 32 - 1
             → result ≡ Err (EngineFault.Spent (2 ^ 32 - 1)) }
+        ensures spent_for { IfErr result (IsSpentFor (next_file_of hand.old + 1)) }
         ensures goes { Goes (D.state disk.old) (D.state disk.new) }
         ensures cause { IsErrOf result EngineFault.Failed
             → Rose (D.state disk.old).faults (D.state disk.new).faults }
         ensures well { OnOk result ((D.state disk.new).faults ≡ (D.state disk.old).faults) }
     {
-        let taken = engine.files(family).len();
-        let file = engine.take_file()?;
+        let taken = hand.files(family).len();
+        let file = hand.take_file()?;
         let merge = FileMerge::start(alloc, disk, file, true)?;
         Ok(Merging {
             family,
@@ -81,69 +89,87 @@ impl Merging {
     }
 
     /// Brings it 256 rows further, or to its end where fewer are left. After an Err it is spent.
-    pub(crate) fn step<D: Disk>(
-        &mut self,
-        disk: &mut D,
-        engine: &Engine,
-    ) -> Result<Stepped, EngineFault>
+    pub fn step<D: Disk>(&mut self, disk: &mut D, hand: &Hand) -> Result<Stepped, EngineFault>
         requires { IsTrusted (D.state disk.old) → (l : Layout) × (left : RowList)
-            × Stands (D.state disk.old) engine.now l
-            × MergingStands (D.state disk.old) engine.now self.old left }
+            × Stands (D.state disk.old) hand.now l
+            × MergingStands (D.state disk.old) hand.now self.old left }
         ensures ok { IsTrusted (D.state disk.old) → (l : Layout)
-            → Stands (D.state disk.old) engine.now l → (left : RowList)
-            → MergingStands (D.state disk.old) engine.now self.old left
-            → Stands (D.state disk.new) engine.now l }
+            → Stands (D.state disk.old) hand.now l → (left : RowList)
+            → MergingStands (D.state disk.old) hand.now self.old left
+            → Stands (D.state disk.new) hand.now l }
         ensures taken { IsTrusted (D.state disk.old) → (l : Layout)
-            → Stands (D.state disk.old) engine.now l → (left : RowList)
-            → MergingStands (D.state disk.old) engine.now self.old left
-            → IfOk result (λ stepped. MergingStands (D.state disk.new) engine.now self.new (drop 256 left)
+            → Stands (D.state disk.old) hand.now l → (left : RowList)
+            → MergingStands (D.state disk.old) hand.now self.old left
+            → IfOk result (λ stepped. MergingStands (D.state disk.new) hand.now self.new (drop 256 left)
             × Says stepped (drop 256 left)) }
-        ensures family { self.new.family ≡ self.old.family }
-        ensures files { self.new.taken ≡ self.old.taken }
-        ensures file { self.new.file ≡ self.old.file }
+        ensures family { family_of self.new ≡ family_of self.old }
+        ensures files { taken_of self.new ≡ taken_of self.old }
+        ensures file { file_of self.new ≡ file_of self.old }
+        ensures still { IsTrusted (D.state disk.old) → (l : Layout)
+            → Stands (D.state disk.old) hand.now l → (left : RowList)
+            → MergingStands (D.state disk.old) hand.now self.old left → (other : ℕ)
+            → AreStill (D.state disk.old) (D.state disk.new) (files_at hand.now other) }
         ensures any_moment { IsTrusted (D.state disk.old) → (l : Layout)
-            → Stands (D.state disk.old) engine.now l → (left : RowList)
-            → MergingStands (D.state disk.old) engine.now self.old left
+            → Stands (D.state disk.old) hand.now l → (left : RowList)
+            → MergingStands (D.state disk.old) hand.now self.old left
             → Spans (D.state disk.old) (D.state disk.new) (λ _. ⊤) (Has l) }
+        ensures unspent { IfErr result IsUnspent }
+        ensures sound { IsTrusted (D.state disk.old) → (left : RowList)
+            → MergingStands (D.state disk.old) hand.now self.old left
+            → IfErr result IsNoDamage }
         ensures goes { Goes (D.state disk.old) (D.state disk.new) }
         ensures cause { IsErrOf result EngineFault.Failed
             → Rose (D.state disk.old).faults (D.state disk.new).faults }
         ensures well { OnOk result ((D.state disk.new).faults ≡ (D.state disk.old).faults) }
     {
-        let files = first(engine.files(self.family), self.taken);
+        let files = first(hand.files(self.family), self.taken);
         match self.merge.step(disk, files, ROWS) {
             Ok(stepped) => Ok(stepped),
             Err(fault) => Err(EngineFault::from(fault)),
         }
     }
 
+    /// The family whose files are merged.
+    pub fn family(&self) -> u32
+        ensures { result ≡ family_of self.now }
+    {
+        self.family
+    }
+
     /// Ends it, where no row is left: what was made stands in the place of the files, and they are removed. After an Err the engine is
     /// spent.
-    pub(crate) fn end<D: Disk>(
+    pub fn end<D: Disk>(
         self,
         disk: &mut D,
-        engine: &mut Engine,
+        hand: &mut Hand,
         live: &[u32],
     ) -> Result<(), EngineFault>
         requires ready { IsTrusted (D.state disk.old)
-            → (l : Layout) × Stands (D.state disk.old) engine.old l }
-        requires job { IsTrusted (D.state disk.old) → MergingStands (D.state disk.old) engine.old self [] }
-        requires live { IsIn live.now self.family }
+            → (l : Layout) × Stands (D.state disk.old) hand.old l }
+        requires job { IsTrusted (D.state disk.old) → MergingStands (D.state disk.old) hand.old self [] }
+        requires live { IsIn live.now (family_of self) }
         ensures ok { OnOk result (IsTrusted (D.state disk.old) → (l : Layout)
-            → Stands (D.state disk.old) engine.old l
-            → (m : Layout) × Stands (D.state disk.new) engine.new m × Works live.now l m) }
-        ensures files { OnOk result (IsTrusted (D.state disk.old) → (made : RowFile)
-            × (files_at engine.new self.family
-            ≡ made ∷ drop self.taken (files_at engine.old self.family))) }
-        ensures others { OnOk result ((other : ℕ) → IsIn live.now other → other ≢ self.family
-            → files_at engine.new other ≡ files_at engine.old other) }
-        ensures next { next_of engine.new ≡ next_of engine.old }
-        ensures limits { limits_of engine.new ≡ limits_of engine.old }
+            → Stands (D.state disk.old) hand.old l
+            → (m : Layout) × Stands (D.state disk.new) hand.new m × Works live.now l m) }
+        ensures files { OnOk result (IsTrusted (D.state disk.old) → (l : Layout)
+            → Stands (D.state disk.old) hand.old l
+            → GivesWay (D.state disk.new) hand.old hand.new (family_of self) (taken_of self)) }
+        ensures others { OnOk result ((other : ℕ) → IsIn live.now other → other ≢ family_of self
+            → files_at hand.new other ≡ files_at hand.old other) }
+        ensures still { OnOk result (IsTrusted (D.state disk.old) → (l : Layout)
+            → Stands (D.state disk.old) hand.old l → (other : ℕ) → IsIn live.now other
+            → other ≢ family_of self
+            → AreStill (D.state disk.old) (D.state disk.new) (files_at hand.old other)) }
+        ensures next_file { OnOk result (next_file_of hand.new ≡ next_file_of hand.old) }
+        ensures length { length_of hand.new ≡ length_of hand.old }
+        ensures next { next_of hand.new ≡ next_of hand.old }
+        ensures limits { limits_of hand.new ≡ limits_of hand.old }
 
         // A stop at any moment of the call, also one that fails, leaves the rows of live families.
         ensures any_moment { IsTrusted (D.state disk.old) → (l : Layout)
-            → Stands (D.state disk.old) engine.old l
+            → Stands (D.state disk.old) hand.old l
             → Spans (D.state disk.old) (D.state disk.new) (λ _. ⊤) (WorksIn live.now l) }
+        ensures unspent { IfErr result IsUnspentWhole }
         ensures goes { Goes (D.state disk.old) (D.state disk.new) }
         ensures cause { IsErrOf result EngineFault.Failed
             → Rose (D.state disk.old).faults (D.state disk.new).faults }
@@ -156,25 +182,30 @@ impl Merging {
             merge,
         } = self;
         let made = merge.finish(disk)?;
-        engine.end_merge(disk, live, family, taken, file, made)
+        hand.end_merge(disk, live, family, taken, file, made)
     }
 
     /// Gives it up: its unfinished file is removed.
-    pub(crate) fn give_up<D: Disk>(self, disk: &mut D, engine: &Engine) -> Result<(), EngineFault>
+    pub fn give_up<D: Disk>(self, disk: &mut D, hand: &Hand) -> Result<(), EngineFault>
         requires { IsTrusted (D.state disk.old) → (l : Layout) × (left : RowList)
-            × Stands (D.state disk.old) engine.now l
-            × MergingStands (D.state disk.old) engine.now self left }
+            × Stands (D.state disk.old) hand.now l
+            × MergingStands (D.state disk.old) hand.now self left }
         ensures ok { IsTrusted (D.state disk.old) → (l : Layout) → (left : RowList)
-            → Stands (D.state disk.old) engine.now l
-            → MergingStands (D.state disk.old) engine.now self left
-            → Stands (D.state disk.new) engine.now l }
+            → Stands (D.state disk.old) hand.now l
+            → MergingStands (D.state disk.old) hand.now self left
+            → Stands (D.state disk.new) hand.now l }
         ensures gone { OnOk result (IsTrusted (D.state disk.old)
-            → (D.state disk.new).file self.file ≡ None) }
+            → (D.state disk.new).file (file_of self) ≡ None) }
+        ensures still { IsTrusted (D.state disk.old) → (l : Layout) → (left : RowList)
+            → Stands (D.state disk.old) hand.now l
+            → MergingStands (D.state disk.old) hand.now self left → (other : ℕ)
+            → AreStill (D.state disk.old) (D.state disk.new) (files_at hand.now other) }
         ensures any_moment { IsTrusted (D.state disk.old) → (l : Layout) → (left : RowList)
-            → Stands (D.state disk.old) engine.now l
-            → MergingStands (D.state disk.old) engine.now self left
+            → Stands (D.state disk.old) hand.now l
+            → MergingStands (D.state disk.old) hand.now self left
             → Spans (D.state disk.old) (D.state disk.new) (λ _. ⊤) (Has l) }
         ensures goes { Goes (D.state disk.old) (D.state disk.new) }
+        ensures failed { IfErr result (λ fault. fault ≡ EngineFault.Failed) }
         ensures cause { OnErr result (Rose (D.state disk.old).faults (D.state disk.new).faults) }
         ensures well { OnOk result ((D.state disk.new).faults ≡ (D.state disk.old).faults) }
     {

@@ -18,7 +18,7 @@ use Rattle.alt_machine.proofs.Descriptions.{get-descriptions, len-descriptions}
 use Rattle.alt_schema.specs.Rules.{is_name}
 use Rattle.alt_schema.specs.declared.schema.TableSchema.{TableSchema}
 use Rattle.alt_views.specs.ItemRows.{item_columns, IsReadItem}
-use Rattle.alt_opening.specs.Opening.{IsCatalog, IsGood, AreApart}
+use Rattle.alt_opening.specs.private.Opening.{IsCatalog, IsGood, AreApart}
 use Rattle.alt_opening.specs.Recovery.{Agrees}
 use Rattle.alt_opening.specs.Scans.{IsItemAt, ItemsRead}
 use Rattle.alt_opening.specs.StateRows.{HasMoment, catalog_family, table_row, next_row}
@@ -285,8 +285,6 @@ module _ (l : Layout) (family : ℕ) (catalog : Texts TableSchema)
   assembled_valid = record {
     few = omega (arith, read.few, len-descriptions chosen.0, ap map.len same_catalog);
     tables = assembled_table;
-    numbers = λ name other t u at_t at_u same. apart_or_one name other t u at_t at_u
-        (λ apart. apart.numbers same);
     families = λ name other t u f at_t at_u in_t in_u. apart_or_one name other t u at_t at_u
         (λ apart. apart.families f in_t in_u);
     next_number = number;

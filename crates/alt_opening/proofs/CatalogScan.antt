@@ -11,7 +11,7 @@ use Rattle.alt_layout.specs.Layout.{Layout, shown}
 use Rattle.alt_machine.specs.State.{Texts}
 use Rattle.alt_machine.proofs.Looks.{at_insert, not_there}
 use Rattle.alt_schema.specs.declared.schema.TableSchema.{TableSchema}
-use Rattle.alt_opening.specs.Opening.{CatalogWhere, IsCatalog, IsNextFamily, IsGood, IsTableAt, AreApart}
+use Rattle.alt_opening.specs.private.Opening.{CatalogWhere, IsCatalog, IsNextFamily, IsGood, IsTableAt, AreApart}
 use Rattle.alt_opening.specs.Scans.{IsBelow, IsFirstFrom, IsNextRow}
 use Rattle.alt_opening.specs.StateRows.{catalog_family, table_row}
 use Rattle.alt_opening.proofs.Ties.{itself}
@@ -67,7 +67,6 @@ module _ (l : Layout) (next : ℕ) (catalog : Texts TableSchema) (from : List �
 -- two tables that are apart, the other way round
 apart_turned : (d e : TableSchema) → AreApart d e → AreApart e d
 apart_turned d e apart = record {
-  numbers = λ same. apart.numbers (sym same);
   families = λ f in_e in_d. apart.families f in_d in_e;
 }
 

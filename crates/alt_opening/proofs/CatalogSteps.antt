@@ -8,7 +8,7 @@ use Rattle.alt_layout.specs.Layout.{Layout}
 use Rattle.alt_machine.specs.declared.TheConstants.{NUMBERS_END}
 use Rattle.alt_machine.specs.State.{Texts}
 use Rattle.alt_schema.specs.declared.schema.TableSchema.{TableSchema}
-use Rattle.alt_opening.specs.Opening.{IsCatalog, IsNextFamily, IsReadUpTo, IsTableAt}
+use Rattle.alt_opening.specs.private.Opening.{IsCatalog, IsNextFamily, IsReadUpTo, IsTableAt}
 use Rattle.alt_opening.specs.Recovery.{IsFirstWrong}
 use Rattle.alt_opening.specs.Scans.{IsBelow, IsFirstFrom, IsNextRow}
 use Rattle.alt_opening.specs.StateRows.{catalog_family}

@@ -9,7 +9,7 @@ use Rattle.std.specs.Ordering.{eq_by_cmp}
 use Rattle.std.proofs.lemmas.Bool.{eqb-true, eq-eqb, false≢true}
 use Rattle.std.proofs.lemmas.List.{get_or_default}
 use Rattle.alt_schema.specs.declared.schema.TableSchema.{TableSchema}
-use Rattle.alt_opening.specs.Opening.{IsLeastAbove, IsNextTable, shares}
+use Rattle.alt_opening.specs.private.Opening.{IsLeastAbove, IsNextTable, shares}
 use Rattle.alt_opening.proofs.Ties.{tied}
 use Rattle.alt_opening.proofs.Listed.{AreInOrder, pairs, tables, get-found}
 use Rattle.alt_value.specs.Members.{text_order}
@@ -80,34 +80,19 @@ module _ (es : List TableSchema) (sorted : AreInOrder es) where
     none_of (x ∷ xs) h = ap (λ b. b || list_any p xs) (h 0 x (omega arith))
         ∙ none_of xs (λ k d within. h (suc k) d (omega arith))
 
-  -- no table has the number, or one of the families
-  pub no_clash : (number : ℕ) (families : List ℕ) (b : Bool)
-      → b ≡ list_any (λ (d : TableSchema). d.number == number || shares families d) es
+  -- no table has one of the families
+  pub no_clash : (families : List ℕ) (b : Bool)
+      → b ≡ list_any (λ (d : TableSchema). shares families d) es
       → b ≡ false ↔ ((name : List ℕ) (d : TableSchema) → map.get (tables es) name ≡ Some d
-      → (d.number ≢ number) × (shares families d ≡ false))
-  no_clash number families b is = (
+      → shares families d ≡ false)
+  no_clash families b is = (
     λ none name d there.
         let s = stands_at name d there in
-        neither (d.number == number) (shares families d)
-        (ap test (sym s.is) ∙ none_at test es (sym is ∙ none) s.at d s.within)
-        (λ same. eq-eqb d.number number same),
-    λ each. is ∙ none_of test es (λ k d within.
-        let apart = each (get_or es k d).name (get_or es k d) (at_name k d within) in
-        both ((get_or es k d).number == number) (shares families (get_or es k d))
-        (λ same. apart.0 (eqb-true (get_or es k d).number number same)) apart.1),
+        ap (λ (e : TableSchema). shares families e) (sym s.is)
+        ∙ none_at (λ (e : TableSchema). shares families e) es (sym is ∙ none) s.at d s.within,
+    λ each. is ∙ none_of (λ (e : TableSchema). shares families e) es
+        (λ k d within. each (get_or es k d).name (get_or es k d) (at_name k d within)),
   )
-    where
-      test : TableSchema → Bool
-      test d = d.number == number || shares families d
-
-      neither : {P : Type 0} (a c : Bool) → (a || c) ≡ false → (P → a ≡ true)
-          → (P → ⊥) × (c ≡ false)
-      neither true c e here = absurd (false≢true (sym e))
-      neither false c e here = (λ p. false≢true (here p), e)
-
-      both : (a c : Bool) → (a ≡ true → ⊥) → c ≡ false → (a || c) ≡ false
-      both true c apart e = absurd (apart refl)
-      both false c apart e = e
 
   -- the table that a look-up in the list gave has the least family above one
   pub next_table : (o : Option (Bor TableSchema)) (fs : List TableSchema) (i family : ℕ)

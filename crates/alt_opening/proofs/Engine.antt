@@ -3,37 +3,38 @@ use Rattle.std.proofs.Common.{◌≡◌, ℕ, List, Option}
 use Rattle.std.specs.FinMap.{get}
 use Rattle.alt_disk.specs.Disk.{DiskState, IsImage}
 use Rattle.alt_disk.specs.Runs.{Quiet}
-use Rattle.alt_engine.proofs.HandLaws as laws
+use Rattle.alt_hand.proofs.HandLaws as laws
 use Rattle.alt_layout.proofs.OneLayout.{one_layout}
 use Rattle.alt_layout.proofs.ShownLaws.{get-shown_rows}
 use Rattle.alt_layout.specs.Files.{IsLayout}
-use Rattle.alt_engine.specs.InHand.{Reads, Stands}
+use Rattle.alt_engine.specs.InHand.{Reads, Stands, hand_of}
+use Rattle.alt_engine.proofs.EngineLaws as engine
 use Rattle.alt_layout.specs.Layout.{Layout, IsPast, shown, shown_rows}
 use Rattle.alt_engine.specs.declared.engine.Engine.{Engine}
 
 -- whatever a stop leaves holds its rows
 pub in_each_image : (s : DiskState) (e : Engine) (l : Layout) → Stands s e l
     → (image : ℕ → Option (List ℕ)) → IsImage s s.moment image → IsLayout image l
-in_each_image s e l stands image is = laws.each_image s e l stands image is
+in_each_image s e l stands image is = laws.each_image s (hand_of e) l stands.hand image is
 
 -- and so do the files as they read
 pub files_hold : (s : DiskState) (e : Engine) (l : Layout) → Reads s e l → IsLayout s.file l
-files_hold s e l reads = laws.files_hold s e l reads
+files_hold s e l reads = laws.files_hold s (hand_of e) l reads
 
 -- none of its rows has a cell of a later write
 pub stands_past : (s : DiskState) (e : Engine) (l : Layout) → Stands s e l → IsPast l
-stands_past s e l stands = laws.reads_past s e l stands.reads
+stands_past s e l stands = laws.reads_past s (hand_of e) l stands.hand.reads
 
 -- calls that leave every file leave what it stands for
 pub stays_quiet : (old new : DiskState) (e : Engine) (l : Layout) → Stands old e l → Quiet old new
     → Stands new e l
-stays_quiet old new e l stands quiet = laws.stays_quiet old new e l stands quiet
+stays_quiet old new e l stands quiet = engine.stays_quiet old new e l stands quiet
 
 -- it has one layout
 pub one_layout_in_hand : (s : DiskState) (e : Engine) (l m : Layout) → Stands s e l → Stands s e m
     → l ≡ m
-one_layout_in_hand s e l m a b = one_layout s.file l m (files_hold s e l a.reads)
-    (files_hold s e m b.reads)
+one_layout_in_hand s e l m a b = one_layout s.file l m (files_hold s e l a.hand.reads)
+    (files_hold s e m b.hand.reads)
 
 -- the rows shown are found by their keys
 pub finds_shown : (l : Layout) (family : ℕ) (key : List ℕ)

@@ -17,7 +17,7 @@ use Rattle.alt_schema.specs.Held.{IsHeld}
 use Rattle.alt_schema.specs.declared.schema.TableSchema.{TableSchema}
 use Rattle.alt_schema.proofs.WholeDescriptions.{one_spelling}
 use Rattle.alt_views.specs.ItemRows.{item_columns}
-use Rattle.alt_opening.specs.Opening.{IsCatalog, IsGood, AreApart}
+use Rattle.alt_opening.specs.private.Opening.{IsCatalog, IsGood, AreApart}
 use Rattle.alt_opening.specs.Recovery.{Agrees, IsBefore, IsUpTo, IsFirstWrong}
 use Rattle.alt_opening.specs.Scans.{IsItemAt, IsFirstBad, ItemsRead}
 use Rattle.alt_opening.specs.StateRows.{catalog_family, table_row, next_row}

@@ -12,7 +12,7 @@ use Rattle.alt_machine.specs.State.{Texts, families_of}
 use Rattle.alt_schema.specs.Described.{IsDescription}
 use Rattle.alt_schema.specs.Held.{IsHeld}
 use Rattle.alt_schema.specs.declared.schema.TableSchema.{TableSchema}
-use Rattle.alt_opening.specs.Opening.{IsApart, IsGood, are_within, are_apart, passes, shares}
+use Rattle.alt_opening.specs.private.Opening.{IsApart, IsGood, are_within, are_apart, passes, shares}
 use Rattle.alt_opening.proofs.MadeLaws.{as_made, made_as}
 
 -- an element at a place doesn't turn on what stands for none
@@ -108,25 +108,21 @@ none_shares families e apart = by (shares families e) refl
         absurd (apart (slice_index_or (families_of e) k 0)
         (k, within, same_at (families_of e) k _ 0 within) (here 0))
 
--- no table has a number or one of these families, exactly where each is apart from a description that has them
+-- no table has one of these families, exactly where each is apart from a description that has them
 pub clash_is : (catalog : Texts TableSchema) (families : List ℕ) (d : TableSchema) (clash : Bool)
     → families ≡ families_of d
     → (clash ≡ false) ↔ ((other : List ℕ) (e : TableSchema) → map.get catalog other ≡ Some e
-    → (e.number ≢ d.number) × (shares families e ≡ false))
+    → shares families e ≡ false)
     → IsTrue (not clash) ↔ IsApart catalog d
 clash_is catalog families d clash same clashes = (
   λ none other e at.
-      let both = clashes.0 (by clash none) other e at in
+      let none_here = clashes.0 (by clash none) other e at in
       record {
-        numbers = both.0;
-        families = λ f in_e in_d. shares_none families e both.1 f in_e
+        families = λ f in_e in_d. shares_none families e none_here f in_e
             (subst (λ fs. Contains fs f) (sym same) in_d);
       },
-  λ apart. ap not (clashes.1 (λ other e at. (
-    (apart other e at).numbers,
-    none_shares families e (λ f in_e here. (apart other e at).families f in_e
-        (subst (λ fs. Contains fs f) same here)),
-  ))),
+  λ apart. ap not (clashes.1 (λ other e at. none_shares families e
+      (λ f in_e here. (apart other e at).families f in_e (subst (λ fs. Contains fs f) same here)))),
 )
   where
     by : (b : Bool) → not b ≡ true → b ≡ false

@@ -13,7 +13,7 @@ use Rattle.std.specs.declared.cmp.Ordering.{Ordering}
 use Rattle.alt_cells.specs.Changes.{Columns}
 use Rattle.alt_cells.specs.Keys.{key_cmp}
 use Rattle.alt_cells.proofs.CellLaws.{key_total, key_exact}
-use Rattle.alt_opening.specs.IndexScans.{IsAhead, lesser}
+use Rattle.alt_opening.specs.private.IndexScans.{IsAhead, lesser}
 use Rattle.alt_opening.specs.Scans.{IsBelow}
 
 -- ---- keys

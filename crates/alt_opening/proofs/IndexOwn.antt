@@ -15,7 +15,7 @@ use Rattle.alt_schema.specs.Indexes.{cut, index_row, is_in_index, is_key}
 use Rattle.alt_schema.specs.declared.schema.IndexSchema.{IndexSchema}
 use Rattle.alt_schema.specs.declared.schema.KeyAttr.{KeyAttr}
 use Rattle.alt_schema.specs.declared.schema.TableSchema.{TableSchema}
-use Rattle.alt_opening.specs.IndexScans.{HasRow, TellsMissingOf}
+use Rattle.alt_opening.specs.private.IndexScans.{HasRow, TellsMissingOf}
 use Rattle.alt_opening.specs.Scans.{ItemsRead}
 use Rattle.alt_opening.proofs.IndexRead.{row_of}
 use Rattle.alt_opening.proofs.OneState.{some}
@@ -141,14 +141,6 @@ module _ (l : Layout) (d : TableSchema) (i : IndexSchema) (row : Columns) (own :
     has_it : (item : List Pair) → IsReadItem item → row ≡ item_columns item
         → row_in_index d i item ≡ Some (r.key, r.columns)
     has_it item read of_item = sym (told item read of_item) ∙ ap (option_map row_at) is
-
-    -- or where it is shown
-    pub not_missing : shown l i.family r.key ≡ Some r.columns → TellsMissingOf l d i row None
-    not_missing shows item read of_item key columns has =
-        let one : (r.key, r.columns) ≡ (key, columns) =
-        some _ _ (sym (has_it item read of_item) ∙ has) in
-        ap (shown l i.family) (sym (ap (λ (e : List ℕ × Columns). e.0) one)) ∙ shows
-        ∙ ap (λ (e : List ℕ × Columns). Some e.1) one
 
     -- and else it is
     pub is_missing : (shown l i.family r.key ≡ Some r.columns → ⊥)

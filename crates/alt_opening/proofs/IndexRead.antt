@@ -9,7 +9,7 @@ use Rattle.alt_machine.proofs.Indexing.{index_apart}
 use Rattle.alt_machine.proofs.Rekeying.{AreApart, given_by, gives}
 use Rattle.alt_schema.specs.declared.schema.IndexSchema.{IndexSchema}
 use Rattle.alt_schema.specs.declared.schema.TableSchema.{TableSchema}
-use Rattle.alt_opening.specs.IndexScans.{HasRow, IsItemThere, IsRightAt}
+use Rattle.alt_opening.specs.private.IndexScans.{HasRow, IsItemThere, IsRightAt}
 use Rattle.alt_opening.specs.Recovery.{AgreesWhole}
 use Rattle.alt_opening.specs.StateRows.{index_rows}
 use Rattle.alt_opening.proofs.OneState.{has_whole, some}

@@ -4,8 +4,8 @@ use Rattle.alt_layout.specs.Layout.{Layout}
 use Rattle.alt_machine.specs.declared.TheConstants.{NUMBERS_END}
 use Rattle.alt_machine.specs.State.{State, Texts}
 use Rattle.alt_schema.specs.declared.schema.TableSchema.{TableSchema}
-use Rattle.alt_opening.specs.IndexScans.{IsFirstOfOwn}
-use Rattle.alt_opening.specs.Opening.{AllChangesRead, AllIndexesRead, AreTablesRead, Assembled, IsFirstIn, IsIndexesFault, IsRowFault}
+use Rattle.alt_opening.specs.private.IndexScans.{IsFirstOfOwn}
+use Rattle.alt_opening.specs.private.Opening.{AllChangesRead, AllIndexesRead, AreTablesRead, Assembled, IsFirstIn, IsIndexesFault, IsRowFault}
 use Rattle.alt_opening.specs.Recovery.{IsFirstWrong}
 use Rattle.alt_opening.specs.declared.faults.OpenFault.{OpenFault}
 use Rattle.alt_opening.specs.declared.faults.OpenFault.TheVariants.{Damaged, DigestDiffers, BadRow, Failed, NoMemory}

@@ -7,7 +7,7 @@ use Rattle.alt_machine.specs.Sources.{index_at}
 use Rattle.alt_schema.specs.Indexes.{indexes}
 use Rattle.alt_schema.specs.declared.schema.IndexSchema.{IndexSchema}
 use Rattle.alt_schema.specs.declared.schema.TableSchema.{TableSchema}
-use Rattle.alt_opening.specs.IndexScans.{AreOwn, HasRow, IndexRead, IndexesRead, IndexesWhere, IsAhead, IsFirstForeign, IsIndexFault, IsItemThere, IsLeastMissing, IsMissing, IsOwnFault, IsRightAt, ShowsAhead, TellsMissing, TellsMissingOf, lesser}
+use Rattle.alt_opening.specs.private.IndexScans.{AreOwn, HasRow, IndexRead, IndexesRead, IndexesWhere, IsAhead, IsFirstForeign, IsIndexFault, IsItemThere, IsLeastMissing, IsMissing, IsOwnFault, IsRightAt, ShowsAhead, TellsMissing, TellsMissingOf, lesser}
 use Rattle.alt_opening.specs.Scans.{IsBelow, IsFirstFrom, IsNextRow, ItemsRead, RowsWhere}
 use Rattle.alt_opening.specs.declared.faults.OpenFault.{OpenFault}
 use Rattle.alt_opening.specs.declared.faults.OpenFault.TheVariants.{Damaged, DigestDiffers, BadRow, Failed, NoMemory}

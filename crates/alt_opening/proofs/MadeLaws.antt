@@ -10,7 +10,7 @@ use Rattle.alt_schema.specs.Indexes.{indexes}
 use Rattle.alt_schema.specs.Rules.{all_differ, is_name, most_locals, most_globals}
 use Rattle.alt_schema.specs.declared.schema.IndexSchema.{IndexSchema}
 use Rattle.alt_schema.specs.declared.schema.TableSchema.{TableSchema}
-use Rattle.alt_opening.specs.Made.{all_indexes, are_few_indexes, are_keyed, are_named, are_shaped, is_as_made}
+use Rattle.alt_opening.specs.private.Made.{all_indexes, are_few_indexes, are_keyed, are_named, are_shaped, is_as_made}
 
 left : (a b : Bool) → (a && b) ≡ true → a ≡ true
 left true b e = refl

@@ -12,22 +12,24 @@ use Rattle.alt_engine.specs.InHand.{Reads, Stands as EngineStands}
 use Rattle.alt_manifest.specs.InHand.{version_of}
 use Rattle.alt_layout.specs.Layout.{Layout}
 use Rattle.alt_writes.specs.Writes.{Write}
-use Rattle.alt_engine.specs.Recovery.{ExplainsStore, HasNoLayout, LeftLike}
+use Rattle.alt_hand.specs.Faults.{told_by_recovery}
+use Rattle.alt_hand.specs.Recovery.{ExplainsStore, HasNoLayout, IsBadAt, IsBadDigest, LeftLike}
 use Rattle.alt_engine.specs.declared.engine.Engine.{Engine}
-use Rattle.alt_engine.specs.declared.recover.RecoverFault.{RecoverFault}
-use Rattle.alt_engine.specs.declared.recover.RecoverFault.TheVariants as engine
+use Rattle.alt_hand.specs.declared.recover.RecoverFault.{RecoverFault}
 use Rattle.alt_layout.proofs.OneLayout.{one_layout}
 use Rattle.alt_machine.specs.declared.TheConstants.{NUMBERS_END}
 use Rattle.alt_machine.specs.State.{State}
 use Rattle.alt_machine.specs.Valid.{IsValid}
 use Rattle.alt_opening.specs.Images.{StandsFor}
-use Rattle.alt_opening.specs.Opening.{Assembled, IsRowFault}
-use Rattle.alt_opening.specs.Recovery.{IsFirstWrong, IsUpTo, IsExplained, HasNoState, WasLeft, unopened}
+use Rattle.alt_opening.specs.private.Opening.{Assembled, IsRowFault}
+use Rattle.alt_faults.specs.Faults.{Damage, bad_bytes, bad_digest, bad_row, FileWhere, OnlyDamaged, RowWhere}
+use Rattle.alt_faults.proofs.Telling.{tells-more}
+use Rattle.alt_opening.specs.Faults.{told_by_opening}
+use Rattle.alt_opening.specs.Recovery.{IsFirstWrong, IsUpTo, IsExplained, IsOfFiles, HasNoState, WasLeft}
 use Rattle.alt_opening.specs.Scans.{Walked}
 use Rattle.alt_opening.specs.StateRows.{Shows, IsHeldWhole}
 use Rattle.alt_opening.specs.Opened.{OpensAs}
 use Rattle.alt_opening.specs.declared.faults.OpenFault.{OpenFault}
-use Rattle.alt_opening.specs.declared.faults.OpenFault.TheVariants.{Damaged, DigestDiffers, BadRow, Failed, NoMemory}
 use Rattle.alt_opening.specs.declared.recover.Store.{Store}
 use Rattle.alt_opening.proofs.OneState.{agrees_all, agrees_whole, one_agrees, one_state_of_image}
 use Rattle.alt_opening.proofs.Scanning.{stands_on}
@@ -49,7 +51,7 @@ pub number_within : (s : DiskState) (e : Engine) (l : Layout) → Reads s e l
 number_within s e l reads =
     let first = reads.versions.is.next_number in
     subst (λ (m : Layout). (1 ≤ m.next_number) × (m.next_number ≤ NUMBERS_END)) (sym reads.is)
-    (number_after (version_of e.manifest).next_number (all_of reads.parts) reads.stored.writes
+    (number_after (version_of e.hand.manifest).next_number (all_of reads.parts) reads.stored.writes
     (omega (arith, first.0), omega (arith, first.1)))
 
 -- ---- a stop on the way
@@ -127,7 +129,7 @@ module _ (old mid new : DiskState) (e f : Engine) (l : Layout) (is : IsLayout ol
       subst (λ x. EngineStands new x l) (sym known) here in
       record {
         catalog = sym made.catalog;
-        number = there.reads.next ∙ made.shows.number;
+        number = there.hand.reads.next ∙ made.shows.number;
         family = sym made.family;
         rows = record {
           trusted = trusted_on mid new walked.goes trusted;
@@ -164,43 +166,50 @@ module _ (files : ℕ → Option (List ℕ)) where
   -- a fault of the rows of the files
   pub rows_explain : (l : Layout) → IsLayout files l → (fault : OpenFault) → IsRowFault l fault
       → IsExplained files fault
-  rows_explain l is (Damaged file at) wrong = absurd wrong
-  rows_explain l is (DigestDiffers file kept found) wrong = absurd wrong
-  rows_explain l is (BadRow family key) wrong = record { layout = l; is = is; wrong = wrong }
-  rows_explain l is Failed wrong = wrong
-  rows_explain l is NoMemory wrong = wrong
+  rows_explain l is fault = tells-more (λ n. ⊥) (λ n. ⊥) (RowWhere (IsFirstWrong l))
+      (IsOfFiles files) (λ n no. no) by (told_by_opening fault)
+    where
+      by : (damage : Damage) → RowWhere (IsFirstWrong l) damage → IsOfFiles files damage
+      by (bad_bytes file place) wrong = absurd wrong
+      by (bad_digest file kept found) wrong = absurd wrong
+      by (bad_row family key) wrong = record { layout = l; is = is; wrong = wrong }
 
   -- where a row is wrong the files stand for no state
   pub rows_no_state : (l : Layout) → IsLayout files l → (fault : OpenFault) → IsRowFault l fault
       → HasNoState files fault
-  rows_no_state l is (Damaged file at) wrong = absurd wrong
-  rows_no_state l is (DigestDiffers file kept found) wrong = absurd wrong
-  rows_no_state l is (BadRow family key) wrong = λ s stands. none_wrong l family key wrong s
-      (subst (λ m. Shows m s) (one_layout files stands.layout l stands.is is) stands.shows)
-      stands.valid stands.held
-  rows_no_state l is Failed wrong = wrong
-  rows_no_state l is NoMemory wrong = wrong
+  rows_no_state l is fault = tells-more (λ n. ⊥) (λ n. ⊥) (RowWhere (IsFirstWrong l))
+      (λ damage. (s : State) → StandsFor files s → ⊥) (λ n no. no) by (told_by_opening fault)
+    where
+      by : (damage : Damage) → RowWhere (IsFirstWrong l) damage → (s : State)
+          → StandsFor files s → ⊥
+      by (bad_bytes file place) wrong = absurd wrong
+      by (bad_digest file kept found) wrong = absurd wrong
+      by (bad_row family key) wrong = λ s stands. none_wrong l family key wrong s
+          (subst (λ m. Shows m s) (one_layout files stands.layout l stands.is is) stands.shows)
+          stands.valid stands.held
 
-  -- and one of the files themselves
-  pub files_explain : (fault : RecoverFault) → ExplainsStore files fault
-      → IsExplained files (unopened fault)
-  files_explain (engine.Damaged file at) bad = bad
-  files_explain (engine.DigestDiffers file kept found) bad = bad
-  files_explain engine.Failed bad = bad
-  files_explain engine.NoMemory bad = bad
+  -- damage of the files themselves
+  of_files : (damage : Damage) → FileWhere (IsBadAt files) (IsBadDigest files) damage
+      → IsOfFiles files damage
+  of_files (bad_bytes file place) bad = bad
+  of_files (bad_digest file kept found) bad = bad
+  of_files (bad_row family key) bad = absurd bad
+
+  -- and a fault that tells it
+  pub files_explain : (given : RecoverFault) (fault : OpenFault)
+      → told_by_opening fault ≡ told_by_recovery given → ExplainsStore files given
+      → IsExplained files fault
+  files_explain given fault same bad = subst (OnlyDamaged (IsOfFiles files)) (sym same)
+      (tells-more (λ n. ⊥) (λ n. ⊥) (FileWhere (IsBadAt files) (IsBadDigest files))
+      (IsOfFiles files) (λ n no. no) of_files (told_by_recovery given) bad)
 
   -- where the files are no store's they stand for no state
-  pub files_no_state : (fault : RecoverFault) → HasNoLayout files fault
-      → HasNoState files (unopened fault)
-  files_no_state (engine.Damaged file at) none = λ s stands. none stands.layout stands.is
-  files_no_state (engine.DigestDiffers file kept found) none = λ s stands.
-      none stands.layout stands.is
-  files_no_state engine.Failed none = none
-  files_no_state engine.NoMemory none = none
-
--- the disk failed where that is what is told
-pub failed_before : (fault : RecoverFault) → unopened fault ≡ Failed → fault ≡ engine.Failed
-failed_before (engine.Damaged file at) e = absurd (let g : ⊥ = cc in g)
-failed_before (engine.DigestDiffers file kept found) e = absurd (let g : ⊥ = cc in g)
-failed_before engine.Failed e = refl
-failed_before engine.NoMemory e = absurd (let g : ⊥ = cc in g)
+  pub files_no_state : (given : RecoverFault) (fault : OpenFault)
+      → told_by_opening fault ≡ told_by_recovery given → HasNoLayout files given
+      → HasNoState files fault
+  files_no_state given fault same none =
+      subst (OnlyDamaged (λ damage. (s : State) → StandsFor files s → ⊥)) (sym same)
+      (tells-more (λ n. ⊥) (λ n. ⊥) (λ damage. (l : Layout) → IsLayout files l → ⊥)
+      (λ damage. (s : State) → StandsFor files s → ⊥) (λ n no. no)
+      (λ damage no_layout s stands. no_layout stands.layout stands.is)
+      (told_by_recovery given) none)

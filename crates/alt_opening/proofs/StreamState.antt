@@ -13,7 +13,7 @@ use Rattle.alt_machine.specs.Valid.{IsChange, IsTable}
 use Rattle.alt_machine.proofs.Descriptions.{get-descriptions}
 use Rattle.alt_schema.specs.Rules.{is_name}
 use Rattle.alt_schema.specs.declared.schema.TableSchema.{TableSchema}
-use Rattle.alt_opening.specs.Opening.{AllChangesRead, AreTablesRead, IsFirstAmong, IsRowFault, IsStreamsFault}
+use Rattle.alt_opening.specs.private.Opening.{AllChangesRead, AreTablesRead, IsFirstAmong, IsRowFault, IsStreamsFault}
 use Rattle.alt_opening.specs.StreamScans.{IsChangeAt}
 use Rattle.alt_opening.specs.Recovery.{AgreesWhole, IsFirstOfStreams, IsFirstWrong}
 use Rattle.alt_opening.specs.StateRows.{keyed_changes, next_row, table_row}

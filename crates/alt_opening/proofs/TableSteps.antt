@@ -5,13 +5,15 @@ use Rattle.alt_layout.specs.Layout.{Layout}
 use Rattle.alt_machine.specs.declared.TheConstants.{NUMBERS_END}
 use Rattle.alt_machine.specs.State.{Texts}
 use Rattle.alt_schema.specs.declared.schema.TableSchema.{TableSchema}
-use Rattle.alt_opening.specs.IndexScans.{IndexesRead, IsOwnFault}
-use Rattle.alt_opening.specs.Opening.{IsCatalog, IsIndexesFault, IsLeastTable, IsRowFault, IsStreamsFault}
+use Rattle.alt_opening.specs.private.IndexScans.{IndexesRead, IsFirstOfOwn, IsOwnFault}
+use Rattle.alt_opening.specs.private.Opening.{IsCatalog, IsFirstAmong, IsFirstIn, IsIndexesFault, IsLeastTable, IsRowFault, IsStreamsFault}
 use Rattle.alt_opening.specs.Recovery.{IsFirstWrong}
-use Rattle.alt_opening.specs.Scans.{IsDeviceFault, IsItemFault, ItemsRead}
-use Rattle.alt_opening.specs.StreamScans.{ChangesRead, IsStreamFault}
+use Rattle.alt_opening.specs.Scans.{IsDeviceFault, IsFirstBad, IsItemFault, ItemsRead}
+use Rattle.alt_opening.specs.StreamScans.{ChangesRead, IsFirstOfStream, IsStreamFault}
 use Rattle.alt_opening.specs.declared.faults.OpenFault.{OpenFault}
-use Rattle.alt_opening.specs.declared.faults.OpenFault.TheVariants.{Damaged, DigestDiffers, BadRow, Failed, NoMemory}
+use Rattle.alt_faults.specs.Faults.{RowWhere}
+use Rattle.alt_faults.proofs.Telling.{outside-tells, row-more}
+use Rattle.alt_opening.specs.Faults.{told_by_opening}
 use Rattle.alt_opening.proofs.FirstWrong.{known_family, same_table, item_wrong}
 
 -- a number is up to another, or above it
@@ -20,11 +22,7 @@ up_to_or_above m n = grind arith
 
 -- a fault of the device is none of a row
 pub device_fault : (l : Layout) (fault : OpenFault) → IsDeviceFault fault → IsRowFault l fault
-device_fault l (Damaged file at) is = is
-device_fault l (DigestDiffers file kept found) is = is
-device_fault l (BadRow family key) is = absurd is
-device_fault l Failed is = is
-device_fault l NoMemory is = is
+device_fault l fault = outside-tells (λ n. ⊥) (RowWhere (IsFirstWrong l)) (told_by_opening fault)
 
 -- something is so of the tables up to a family
 abbrev pub AreUpTo : (TableSchema → Type 0) → Texts TableSchema → ℕ → Type 0
@@ -78,43 +76,34 @@ module _ (l : Layout) (next : ℕ) (catalog : Texts TableSchema) (read : IsCatal
   pub wrong_next : (family : ℕ) → ReadUpTo l catalog family → (d : TableSchema)
       → IsLeastTable catalog family d → (fault : OpenFault) → IsItemFault l d fault
       → IsRowFault l fault
-  wrong_next family so_far d least (Damaged file at) is = is
-  wrong_next family so_far d least (DigestDiffers file kept found) is = is
-  wrong_next family so_far d least (BadRow f key) is =
-      subst (λ g. IsFirstWrong l g key) (sym is.0)
+  wrong_next family so_far d least fault = row-more
+      (λ f key. (f ≡ d.family) × IsFirstBad l d key) (IsFirstWrong l)
+      (λ f key is. subst (λ g. IsFirstWrong l g key) (sym is.0)
       (item_wrong l next catalog read number least.name d least.there
-      (of_lesser (ItemsRead l) family so_far d least) key is.1)
-  wrong_next family so_far d least Failed is = is
-  wrong_next family so_far d least NoMemory is = is
+      (of_lesser (ItemsRead l) family so_far d least) key is.1)) (told_by_opening fault)
 
   -- one of its stream is the first of the streams
   pub wrong_stream : (family : ℕ) → ChangesUpTo l catalog family → (d : TableSchema)
       → IsLeastTable catalog family d → (fault : OpenFault) → IsStreamFault l d fault
       → IsStreamsFault l catalog fault
-  wrong_stream family so_far d least (Damaged file at) is = is
-  wrong_stream family so_far d least (DigestDiffers file kept found) is = is
-  wrong_stream family so_far d least (BadRow f key) is = record {
-    name = least.name;
-    description = d;
-    there = least.there;
-    first = is;
-    lesser = of_lesser (ChangesRead l) family so_far d least;
-  }
-  wrong_stream family so_far d least Failed is = is
-  wrong_stream family so_far d least NoMemory is = is
+  wrong_stream family so_far d least fault = row-more (IsFirstOfStream l d)
+      (IsFirstAmong l catalog) (λ f key is. record {
+        name = least.name;
+        description = d;
+        there = least.there;
+        first = is;
+        lesser = of_lesser (ChangesRead l) family so_far d least;
+      }) (told_by_opening fault)
 
   -- and one of its indexes is the first of the indexes
   pub wrong_index : (family : ℕ) → IndexesUpTo l catalog family → (d : TableSchema)
       → IsLeastTable catalog family d → (fault : OpenFault) → IsOwnFault l d fault
       → IsIndexesFault l catalog fault
-  wrong_index family so_far d least (Damaged file at) is = is
-  wrong_index family so_far d least (DigestDiffers file kept found) is = is
-  wrong_index family so_far d least (BadRow f key) is = record {
-    name = least.name;
-    description = d;
-    there = least.there;
-    first = is;
-    lesser = of_lesser (IndexesRead l) family so_far d least;
-  }
-  wrong_index family so_far d least Failed is = is
-  wrong_index family so_far d least NoMemory is = is
+  wrong_index family so_far d least fault = row-more (IsFirstOfOwn l d) (IsFirstIn l catalog)
+      (λ f key is. record {
+        name = least.name;
+        description = d;
+        there = least.there;
+        first = is;
+        lesser = of_lesser (IndexesRead l) family so_far d least;
+      }) (told_by_opening fault)

@@ -16,7 +16,7 @@ use Rattle.alt_machine.proofs.Families.{of_contained}
 use Rattle.alt_machine.proofs.Looks.{not_there}
 use Rattle.alt_machine.proofs.States.{start_valid}
 use Rattle.alt_schema.specs.declared.schema.TableSchema.{TableSchema}
-use Rattle.alt_opening.specs.Opening.{CatalogWhere, IsCatalog, IsTableAt}
+use Rattle.alt_opening.specs.private.Opening.{CatalogWhere, IsCatalog, IsTableAt}
 use Rattle.alt_opening.specs.Recovery.{Agrees, IsBefore, IsUpTo, IsFirstWrong}
 use Rattle.alt_opening.specs.Scans.{IsBelow}
 use Rattle.alt_opening.specs.StateRows.{catalog_family, next_row, table_row}
@@ -99,7 +99,6 @@ empty_valid : (n : ℕ) → (1 ≤ n) × (n ≤ NUMBERS_END) → IsValid (empty_
 empty_valid n within = record {
   few = start_valid.few;
   tables = λ name t e. absurd (not_there name t e);
-  numbers = λ name other t u e f h. absurd (not_there name t e);
   families = λ name other t u family e f h i. absurd (not_there name t e);
   next_number = within;
   next_family = start_valid.next_family;
@@ -237,8 +236,6 @@ module _ (l : Layout) (next : ℕ) (catalog : Texts TableSchema) (name : List �
         apart = λ other e at.
             let (u, at_u, same) = known other e at in
             record {
-              numbers = λ one. other_name other e at (agrees.valid.numbers other name u t at_u there
-                  (ap (λ d. d.number) same ∙ one));
               families = λ f in_e in_t. other_name other e at
                   (agrees.valid.families other name u t f at_u there
                   (subst (λ d. Contains (families_of d) f) (sym same) in_e) in_t);

@@ -1,13 +1,12 @@
 pub mod Codes
 pub mod Families
+pub mod Faults
 pub mod Images
-pub mod IndexScans
 pub mod Live
-pub mod Made
 pub mod Opened
-pub mod Opening
 pub mod Order
 pub mod Recovery
 pub mod Scans
 pub mod StateRows
 pub mod StreamScans
+pub mod private

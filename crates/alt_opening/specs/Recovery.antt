@@ -6,9 +6,7 @@ use Rattle.alt_cells.specs.Keys.{key_cmp}
 use Rattle.alt_disk.specs.Disk.{DiskState, IsImage}
 use Rattle.alt_layout.specs.Files.{IsLayout}
 use Rattle.alt_layout.specs.Layout.{Layout, shown}
-use Rattle.alt_engine.specs.Recovery.{IsBadAt, IsBadDigest}
-use Rattle.alt_engine.specs.declared.recover.RecoverFault.{RecoverFault}
-use Rattle.alt_engine.specs.declared.recover.RecoverFault.TheVariants as engine
+use Rattle.alt_hand.specs.Recovery.{IsBadAt, IsBadDigest}
 use Rattle.alt_machine.specs.Sources.{index_at}
 use Rattle.alt_machine.specs.State.{State, Table}
 use Rattle.alt_machine.specs.Valid.{IsValid}
@@ -16,8 +14,9 @@ use Rattle.alt_schema.specs.declared.schema.IndexSchema.{IndexSchema}
 use Rattle.alt_opening.specs.Images.{StandsFor}
 use Rattle.alt_opening.specs.StateRows.{IsHeldWhole, catalog_family, catalog_rows, change_rows, index_rows, item_rows}
 use Rattle.alt_opening.specs.StreamScans.{ChangesRead, IsFirstOfStream}
+use Rattle.alt_faults.specs.Faults.{Damage, bad_bytes, bad_digest, bad_row, OnlyDamaged}
+use Rattle.alt_opening.specs.Faults.{told_by_opening}
 use Rattle.alt_opening.specs.declared.faults.OpenFault.{OpenFault}
-use Rattle.alt_opening.specs.declared.faults.OpenFault.TheVariants.{Damaged, DigestDiffers, BadRow, Failed, NoMemory}
 
 -- An image stands for each state for which one stands that a stop might have left before.
 pub record IsLeftLike (old : DiskState) (image : ℕ → Option (List ℕ)) : Type 0 where
@@ -113,25 +112,17 @@ pub record HasBadRow (files : ℕ → Option (List ℕ)) (family : ℕ) (key : L
   pub is : IsLayout files layout
   pub wrong : IsFirstWrong layout family key
 
+-- damage is that of the files
+abbrev pub IsOfFiles : (ℕ → Option (List ℕ)) → Damage → Type 0
+IsOfFiles files (bad_bytes file place) = IsBadAt files file place
+IsOfFiles files (bad_digest file kept found) = IsBadDigest files file kept found
+IsOfFiles files (bad_row family key) = HasBadRow files family key
+
 -- what damage tells is true of the files
 abbrev pub IsExplained : (ℕ → Option (List ℕ)) → OpenFault → Type 0
-IsExplained files (Damaged file at) = IsBadAt files file at
-IsExplained files (DigestDiffers file kept found) = IsBadDigest files file kept found
-IsExplained files (BadRow family key) = HasBadRow files family key
-IsExplained files Failed = Unit {0}
-IsExplained files NoMemory = Unit {0}
+IsExplained files f = OnlyDamaged (IsOfFiles files) (told_by_opening f)
 
 -- where it tells of damage the files stand for no state
 abbrev pub HasNoState : (ℕ → Option (List ℕ)) → OpenFault → Type 0
-HasNoState files (Damaged file at) = (s : State) → StandsFor files s → ⊥
-HasNoState files (DigestDiffers file kept found) = (s : State) → StandsFor files s → ⊥
-HasNoState files (BadRow family key) = (s : State) → StandsFor files s → ⊥
-HasNoState files Failed = Unit {0}
-HasNoState files NoMemory = Unit {0}
-
--- the fault of the recovery of an engine, passed on
-abbrev pub unopened : RecoverFault → OpenFault
-unopened (engine.Damaged file at) = Damaged file at
-unopened (engine.DigestDiffers file kept found) = DigestDiffers file kept found
-unopened engine.Failed = Failed
-unopened engine.NoMemory = NoMemory
+HasNoState files f = OnlyDamaged (λ damage. (s : State) → StandsFor files s → ⊥)
+    (told_by_opening f)

@@ -12,8 +12,9 @@ use Rattle.alt_engine.specs.declared.engine.Engine.{Engine}
 use Rattle.alt_machine.specs.Valid.{IsStored}
 use Rattle.alt_schema.specs.declared.schema.TableSchema.{TableSchema}
 use Rattle.alt_views.specs.ItemRows.{item_columns, IsReadItem}
+use Rattle.alt_faults.specs.Faults.{IsOutside, OnlyRow}
+use Rattle.alt_opening.specs.Faults.{told_by_opening}
 use Rattle.alt_opening.specs.declared.faults.OpenFault.{OpenFault}
-use Rattle.alt_opening.specs.declared.faults.OpenFault.TheVariants.{Damaged, DigestDiffers, BadRow, Failed, NoMemory}
 use Rattle.alt_value.specs.Tree.{Pair}
 
 -- calls that only read: where the disk tells them the files stay, and the engine is that of what it was that of; its limits stay on every disk
@@ -25,11 +26,7 @@ pub record Walked (old new : DiskState) (before after : Engine) : Type 0 where
 
 -- a fault of the device, or want of memory
 abbrev pub IsDeviceFault : OpenFault → Type 0
-IsDeviceFault (Damaged file at) = ⊥
-IsDeviceFault (DigestDiffers file kept found) = ⊥
-IsDeviceFault (BadRow family key) = ⊥
-IsDeviceFault Failed = Unit {0}
-IsDeviceFault NoMemory = Unit {0}
+IsDeviceFault f = IsOutside (told_by_opening f)
 
 -- a key is below another
 abbrev pub IsBelow : List ℕ → List ℕ → Type 0
@@ -87,8 +84,5 @@ pub record IsFirstBad (l : Layout) (d : TableSchema) (key : List ℕ) : Type 0 w
 
 -- a wrong row is the first of the family
 abbrev pub IsItemFault : Layout → TableSchema → OpenFault → Type 0
-IsItemFault l d (Damaged file at) = ⊥
-IsItemFault l d (DigestDiffers file kept found) = ⊥
-IsItemFault l d (BadRow family key) = (family ≡ d.family) × IsFirstBad l d key
-IsItemFault l d Failed = Unit {0}
-IsItemFault l d NoMemory = Unit {0}
+IsItemFault l d f = OnlyRow (λ family key. (family ≡ d.family) × IsFirstBad l d key)
+    (told_by_opening f)

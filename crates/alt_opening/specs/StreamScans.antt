@@ -7,8 +7,9 @@ use Rattle.alt_machine.specs.Valid.{IsChange, WasStored}
 use Rattle.alt_schema.specs.declared.schema.TableSchema.{TableSchema}
 use Rattle.alt_changes.specs.ChangeRows.{IsReadChange, change_columns, row_key}
 use Rattle.alt_opening.specs.Scans.{IsBelow, RowsWhere}
+use Rattle.alt_faults.specs.Faults.{OnlyRow}
+use Rattle.alt_opening.specs.Faults.{told_by_opening}
 use Rattle.alt_opening.specs.declared.faults.OpenFault.{OpenFault}
-use Rattle.alt_opening.specs.declared.faults.OpenFault.TheVariants.{Damaged, DigestDiffers, BadRow, Failed, NoMemory}
 use Rattle.alt_value.specs.Tree.{Pair}
 
 -- The row at a key is that of a change which can be read, whose number is the key.
@@ -47,12 +48,8 @@ pub record IsFirstForeignChange (l : Layout) (d : TableSchema) (next family : �
 
 -- a wrong row is the first of the family
 abbrev pub IsChangeFault : Layout → TableSchema → ℕ → ℕ → OpenFault → Type 0
-IsChangeFault l d next of_stream (Damaged file at) = ⊥
-IsChangeFault l d next of_stream (DigestDiffers file kept found) = ⊥
-IsChangeFault l d next of_stream (BadRow family key) = (family ≡ of_stream)
-    × IsFirstForeignChange l d next of_stream key
-IsChangeFault l d next of_stream Failed = Unit {0}
-IsChangeFault l d next of_stream NoMemory = Unit {0}
+IsChangeFault l d next of_stream f = OnlyRow (λ family key. (family ≡ of_stream)
+    × IsFirstForeignChange l d next of_stream key) (told_by_opening f)
 
 -- The first wrong row of a table's stream.
 pub record IsFirstOfStream (l : Layout) (d : TableSchema) (family : ℕ) (key : List ℕ)
@@ -62,8 +59,4 @@ pub record IsFirstOfStream (l : Layout) (d : TableSchema) (family : ℕ) (key : 
 
 -- a wrong row is it
 abbrev pub IsStreamFault : Layout → TableSchema → OpenFault → Type 0
-IsStreamFault l d (Damaged file at) = ⊥
-IsStreamFault l d (DigestDiffers file kept found) = ⊥
-IsStreamFault l d (BadRow family key) = IsFirstOfStream l d family key
-IsStreamFault l d Failed = Unit {0}
-IsStreamFault l d NoMemory = Unit {0}
+IsStreamFault l d f = OnlyRow (IsFirstOfStream l d) (told_by_opening f)

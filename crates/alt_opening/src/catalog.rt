@@ -11,7 +11,7 @@ ghost use Rattle.std.specs.Option.{option_map_or};
 ghost use Rattle.alt_schema.specs.declared.schema.TableSchema.{TableSchema};
 ghost use Rattle.alt_opening.specs.Families.{HasOwnFamilies};
 ghost use Rattle.alt_opening.specs.Live.{AreLiveIn, with_tables};
-ghost use Rattle.alt_opening.specs.Opening.{IsLeastAbove, IsNextTable, shares};
+ghost use Rattle.alt_opening.specs.private.Opening.{IsLeastAbove, IsNextTable, shares};
 ghost use Rattle.alt_opening.specs.Order.{first_after};
 ghost use Rattle.alt_opening.specs.StateRows.{catalog_family};
 ghost use Rattle.alt_value.specs.Members.{text_order};
@@ -125,13 +125,12 @@ impl Catalog {
         live_among(alloc, self.entries.as_slice())
     }
 
-    /// Whether a table has this number, or one of these families.
-    pub(crate) fn clashes(&self, number: u64, families: &[u32]) -> bool
+    /// Whether a table has one of these families.
+    pub(crate) fn clashes(&self, families: &[u32]) -> bool
         ensures { result ≡ false ↔ ((name : List ℕ) (d : TableSchema)
-            → map.get self.now name ≡ Some d
-            → (d.number ≢ number) × (shares families.now d ≡ false)) }
+            → map.get self.now name ≡ Some d → shares families.now d ≡ false) }
     {
-        any_clashes(self.entries.as_slice(), number, families)
+        any_clashes(self.entries.as_slice(), families)
     }
 
     /// The description of the least family above one, None where there is none.
@@ -176,11 +175,11 @@ fn live_among(alloc: Global, entries: &[TableSchema]) -> Result<Live, NoMemory>
     Ok(live)
 }
 
-/// Whether one of these tables has this number, or one of these families.
-fn any_clashes(entries: &[TableSchema], number: u64, families: &[u32]) -> bool
-    ensures { result ≡ list_any (λ d. d.number == number || shares families.now d) entries.now }
+/// Whether one of these tables has one of these families.
+fn any_clashes(entries: &[TableSchema], families: &[u32]) -> bool
+    ensures { result ≡ list_any (λ d. shares families.now d) entries.now }
 {
-    entries.iter().any(|schema| schema.number == number || shares(families, schema))
+    entries.iter().any(|schema| shares(families, schema))
 }
 
 /// Whether a table has one of these families.

@@ -9,7 +9,7 @@ ghost use Rattle.alt_machine.specs.Sources.{index_at};
 ghost use Rattle.alt_machine.specs.Valid.{IsMade};
 ghost use Rattle.alt_schema.specs.Indexes.{indexes};
 ghost use Rattle.alt_schema.specs.declared.schema.IndexSchema.{IndexSchema};
-ghost use Rattle.alt_opening.specs.IndexScans.{HasRow, IndexRead, IndexesRead, IsFirstForeign, IsIndexFault, IsLeastMissing, IsOwnFault, TellsMissingOf, lesser};
+ghost use Rattle.alt_opening.specs.private.IndexScans.{HasRow, IndexRead, IndexesRead, IsFirstForeign, IsIndexFault, IsLeastMissing, IsOwnFault, TellsMissingOf, lesser};
 ghost use Rattle.alt_opening.specs.Scans.{IsDeviceFault, ItemsRead, Walked};
 ghost use Rattle.alt_value.specs.Tree.{Pair};
 ghost use Rattle.alt_views.specs.IndexRows.{row_in_index};
@@ -17,14 +17,14 @@ ghost use Rattle.alt_views.specs.ItemRows.{IsReadItem, item_columns};
 ghost use Rattle.alt_views.specs.Read.{IsKeptAt, row_at};
 
 use crate::faults::OpenFault;
-use crate::scan::{key_after, next_row, unread};
+use crate::scan::{key_after, next_row};
 use alt_base::NoMemory;
 use alt_cells::ShownRow;
 use alt_disk::Disk;
 use alt_engine::Engine;
 use alt_fields::Bytes;
-use alt_schema::{TableSchema, index_at};
-use alt_views::{IndexRow, Unread, index_row, item_of_index_row, item_of_row, place_of};
+use alt_schema::TableSchema;
+use alt_views::{IndexRow, Unread, index_at, index_row, item_of_index_row, item_of_row, place_of};
 use std::alloc::Global;
 
 /// Tests the indexes of a table whose items are read, in the order of their numbers.
@@ -170,7 +170,7 @@ fn missing_key<D: Disk>(
     let family = index_at(schema, number).family;
     let shown = match engine.row(disk, family, key.as_slice()) {
         Ok(shown) => shown,
-        Err(fault) => return Err(unread(fault)),
+        Err(fault) => return Err(OpenFault::from(fault)),
     };
     if shows(&shown, &columns) {
         Ok(None)
@@ -249,7 +249,7 @@ fn is_own<D: Disk>(
     let shown = match engine.row(disk, schema.family, place.as_slice()) {
         Ok(Some(shown)) => shown,
         Ok(None) => return Ok(false),
-        Err(fault) => return Err(unread(fault)),
+        Err(fault) => return Err(OpenFault::from(fault)),
     };
     match is_row_of(alloc, schema, number, &shown, key, row) {
         Ok(own) => Ok(own),

@@ -6,7 +6,7 @@ ghost use Rattle.std.specs.Str.{bytes_eq};
 ghost use Rattle.alt_machine.specs.Valid.{is_pair, are_two, is_local, names_few, is_used};
 ghost use Rattle.alt_schema.specs.Indexes.{indexes, is_key};
 ghost use Rattle.alt_schema.specs.Rules.{is_name, all_differ, most_included};
-ghost use Rattle.alt_opening.specs.Made.{all_indexes, are_few_indexes, are_keyed, are_named, are_shaped, is_as_made};
+ghost use Rattle.alt_opening.specs.private.Made.{all_indexes, are_few_indexes, are_keyed, are_named, are_shaped, is_as_made};
 
 use alt_schema::{IndexSchema, KeyAttr, Projection, TableSchema, is_name};
 use alt_value::Text;

@@ -10,7 +10,7 @@ ghost use Rattle.alt_machine.specs.State.{families_of};
 ghost use Rattle.alt_schema.specs.Described.{IsDescription};
 ghost use Rattle.alt_schema.specs.Held.{IsHeld};
 ghost use Rattle.alt_schema.specs.declared.schema.TableSchema.{TableSchema};
-ghost use Rattle.alt_opening.specs.Opening.{IsApart, IsCatalog, IsGood, IsRowFault, IsNextFamily, IsReadOn, IsReadUpTo, IsTableAt, MayStand, are_families, are_within, are_apart, is_number, passes};
+ghost use Rattle.alt_opening.specs.private.Opening.{IsApart, IsCatalog, IsGood, IsRowFault, IsNextFamily, IsReadOn, IsReadUpTo, IsTableAt, MayStand, are_families, are_within, are_apart, is_number, passes};
 ghost use Rattle.alt_opening.specs.Scans.{IsAhead, Walked};
 ghost use Rattle.alt_opening.specs.StateRows.{catalog_family};
 
@@ -18,7 +18,7 @@ use crate::catalog::Catalog;
 use crate::catalog_row::{CATALOG, family_of_row, schema_of_row};
 use crate::faults::OpenFault;
 use crate::made::is_as_made;
-use crate::scan::{key_after, next_row, unread};
+use crate::scan::{key_after, next_row};
 use alt_base::NoMemory;
 use alt_cells::ShownRow;
 use alt_disk::Disk;
@@ -130,7 +130,7 @@ fn read_family<D: Disk>(alloc: Global, disk: &mut D, engine: &mut Engine) -> Res
 {
     let row = match engine.row(disk, CATALOG, &[]) {
         Ok(row) => row,
-        Err(fault) => return Err(unread(fault)),
+        Err(fault) => return Err(OpenFault::from(fault)),
     };
     match family_of_row(row.as_ref()) {
         Some(family) => Ok(family),
@@ -252,12 +252,12 @@ fn is_new(catalog: &Catalog, schema: &TableSchema) -> bool
     catalog.get(schema.name.as_str()).is_none()
 }
 
-/// Whether no table has its number, or one of its families.
+/// Whether no table has one of its families.
 fn is_apart(catalog: &Catalog, schema: &TableSchema, families: &[u32]) -> bool
     requires families { families.now ≡ families_of schema.now }
     ensures apart { IsTrue result ↔ IsApart catalog.now schema.now }
 {
-    !catalog.clashes(schema.number, families)
+    !catalog.clashes(families)
 }
 
 /// The families of a table.

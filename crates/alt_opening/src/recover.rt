@@ -8,8 +8,8 @@ ghost use Rattle.alt_engine.specs.InHand.{Reads, limits_of};
 ghost use Rattle.alt_layout.specs.Layout.{Layout};
 ghost use Rattle.alt_machine.specs.State.{State};
 ghost use Rattle.alt_opening.specs.Images.{StandsFor};
-ghost use Rattle.alt_opening.specs.Opening.{AllChangesRead, AllIndexesRead, AllItemsRead, AreTablesRead, Assembled, IsCatalog, IsIndexesFault, IsRowFault, IsStreamsFault};
-ghost use Rattle.alt_opening.specs.Recovery.{IsExplained, HasNoState, WasLeft, unopened};
+ghost use Rattle.alt_opening.specs.private.Opening.{AllChangesRead, AllIndexesRead, AllItemsRead, AreTablesRead, Assembled, IsCatalog, IsIndexesFault, IsRowFault, IsStreamsFault};
+ghost use Rattle.alt_opening.specs.Recovery.{IsExplained, HasNoState, WasLeft};
 ghost use Rattle.alt_opening.specs.Scans.{Walked};
 ghost use Rattle.alt_opening.specs.Opened.{OpensAs};
 
@@ -18,9 +18,9 @@ use crate::change_scan::read_stream;
 use crate::faults::OpenFault;
 use crate::index_scan::read_own_indexes;
 use crate::opened::{Opened, read_catalog};
-use crate::scan::{read_items, unread};
+use crate::scan::read_items;
 use alt_disk::Disk;
-use alt_engine::{Engine, Limits, RecoverFault};
+use alt_engine::{Engine, Limits};
 use alt_schema::held;
 use std::alloc::Global;
 
@@ -63,7 +63,7 @@ pub fn open_store<D: Disk>(alloc: Global, disk: &mut D, limits: Limits) -> Resul
 {
     let mut engine = match Engine::recover(alloc, disk, limits) {
         Ok(engine) => engine,
-        Err(fault) => return Err(unopened(fault)),
+        Err(fault) => return Err(OpenFault::from(fault)),
     };
     match read_rows(alloc, disk, &mut engine) {
         Ok(Opened { catalog, family }) => Ok(Store {
@@ -126,7 +126,7 @@ fn read_state<D: Disk>(
     match engine.first_from(disk, opened.family) {
         Ok(None) => Ok(opened),
         Ok(Some((family, key))) => Err(OpenFault::BadRow { family, key }),
-        Err(fault) => Err(unread(fault)),
+        Err(fault) => Err(OpenFault::from(fault)),
     }
 }
 
@@ -215,18 +215,4 @@ fn read_indexes<D: Disk>(
         family = schema.family;
     }
     Ok(())
-}
-
-/// A fault of the recovery of an engine, passed on.
-fn unopened(fault: RecoverFault) -> OpenFault
-    ensures { result ≡ unopened fault }
-{
-    match fault {
-        RecoverFault::Damaged { file, at } => OpenFault::Damaged { file, at },
-        RecoverFault::DigestDiffers { file, kept, found } => {
-            OpenFault::DigestDiffers { file, kept, found }
-        }
-        RecoverFault::Failed => OpenFault::Failed,
-        RecoverFault::NoMemory => OpenFault::NoMemory,
-    }
 }

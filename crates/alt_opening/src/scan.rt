@@ -3,7 +3,7 @@
 ghost use Rattle.std.specs.Prelude.{◌≡◌, ◌↔◌, ◌++◌, ◌∷◌, [], List, Err, IfOk, IfErr, OnOk, IfSome, IsErrOf, IsTrue, None, true};
 ghost use Rattle.alt_base.specs.Counts.{Rose};
 ghost use Rattle.alt_engine.specs.InHand.{Reads};
-ghost use Rattle.alt_engine.specs.Opened.{IsUndamaged};
+ghost use Rattle.alt_hand.specs.Opened.{IsUndamaged};
 ghost use Rattle.alt_layout.specs.Layout.{Layout, rows_between};
 ghost use Rattle.alt_machine.specs.Valid.{IsStored};
 ghost use Rattle.alt_views.specs.ItemRows.{IsReadItem};
@@ -14,13 +14,13 @@ use crate::faults::OpenFault;
 use alt_base::NoMemory;
 use alt_cells::ShownRow;
 use alt_disk::Disk;
-use alt_engine::{Engine, EngineFault};
+use alt_engine::Engine;
 use alt_fields::Bytes;
 use alt_keyorder::KeyRange;
 use alt_machine::LARGEST_ITEM;
-use alt_schema::{TableSchema, index_keys_fit};
+use alt_schema::TableSchema;
 use alt_value::{Item, item_size_within};
-use alt_views::{Unread, item_of_row, key_fits, place_of};
+use alt_views::{Unread, index_keys_fit, item_of_row, key_fits, place_of};
 use std::alloc::Global;
 
 /// How many rows are asked for at once, since each call of the engine seeks in every row file. An item has 400 KB at most, so those in hand hold 25 MB of names and values at most, and changes, of two items each, 50 MB.
@@ -85,20 +85,7 @@ fn read_ahead<D: Disk>(
             ahead.reverse();
             Ok(())
         }
-        Err(fault) => Err(unread(fault)),
-    }
-}
-
-/// A fault of a walk, as one of the opening.
-pub(crate) fn unread(fault: EngineFault) -> OpenFault
-    ensures fault { IsUndamaged fault → IsDeviceFault result }
-    ensures cause { result ≡ OpenFault.Failed → fault ≡ EngineFault.Failed }
-{
-    match fault {
-        EngineFault::Spent { .. } => OpenFault::NoMemory,
-        EngineFault::Damaged { file, at } => OpenFault::Damaged { file, at },
-        EngineFault::Failed => OpenFault::Failed,
-        EngineFault::NoMemory => OpenFault::NoMemory,
+        Err(fault) => Err(OpenFault::from(fault)),
     }
 }
 

@@ -13,7 +13,7 @@ use Rattle.alt_machine.specs.Ops.BatchGetItem.{Reads, Shown, of_body, read_table
 use Rattle.alt_machine.specs.Refusals.{first_answer, or_refused, refuse_if, unless_answer, ◌>>=◌}
 use Rattle.alt_machine.specs.State.{Texts}
 use Rattle.alt_machine.proofs.Batches.{unless_found}
-use Rattle.alt_ops_batch.specs.Batches.{keys_said, reads_of, shown_in}
+use Rattle.alt_ops_batch.specs.private.Batches.{keys_said, reads_of, shown_in}
 use Rattle.alt_request.specs.Steps.{Comes}
 use Rattle.alt_ops_batch.specs.declared.keys.KeysSaid.{KeysSaid}
 use Rattle.alt_ops_batch.specs.declared.asked_reads.TableReads.{TableReads}

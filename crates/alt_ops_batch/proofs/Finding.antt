@@ -6,7 +6,7 @@ use Rattle.alt_disk.specs.Disk.{DiskState}
 use Rattle.alt_machine.specs.declared.PlacedMember.{PlacedMember}
 use Rattle.alt_machine.specs.Ops.BatchWriteItem.{Written, written_by}
 use Rattle.alt_machine.specs.State.{State, Texts}
-use Rattle.alt_ops_batch.specs.Changed.{Every, written_at, MayWrite, IsFound}
+use Rattle.alt_ops_batch.specs.private.Changed.{Every, written_at, MayWrite, IsFound}
 use Rattle.alt_ops_batch.specs.declared.write.Change.{Change}
 use Rattle.alt_schema.specs.declared.schema.TableSchema.{TableSchema}
 use Rattle.alt_tables.specs.Stands.{AreReady, KeepsCatalog, Reads, Stands, catalog_of}

@@ -13,7 +13,7 @@ use Rattle.alt_machine.specs.Ops.BatchWriteItem.{is_one, of_member, of_members}
 use Rattle.alt_machine.specs.Refusals.{first_answer, or_refused, unless_answer, ◌>>=◌}
 use Rattle.alt_machine.specs.State.{Texts}
 use Rattle.alt_machine.specs.Targets.{of_length, place_in}
-use Rattle.alt_ops_batch.specs.Batches.{request_of}
+use Rattle.alt_ops_batch.specs.private.Batches.{request_of}
 use Rattle.alt_request.specs.Steps.{Comes}
 use Rattle.alt_request.specs.Targets.{place_that_fits}
 use Rattle.alt_ops_batch.specs.declared.asked_writes.Request.{Request}

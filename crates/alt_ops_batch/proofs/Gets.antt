@@ -8,8 +8,8 @@ use Rattle.alt_machine.specs.Ops.BatchGetItem.{Reads, Shown, batch_get_item, not
 use Rattle.alt_machine.specs.Outcomes.{Outcome, says, with_found}
 use Rattle.alt_machine.specs.State.{State, Texts, descriptions}
 use Rattle.alt_machine.proofs.Batches as machine
-use Rattle.alt_ops_batch.specs.Readings.{AreKnown, AreAllKnown, IsFault, IfErrFailed}
-use Rattle.alt_ops_batch.specs.Batches.{reads_of}
+use Rattle.alt_ops_batch.specs.private.Readings.{AreKnown, AreAllKnown, IsFault, IfErrFailed}
+use Rattle.alt_ops_batch.specs.private.Batches.{reads_of}
 use Rattle.alt_request.specs.Carried.{Carries, IfFailed}
 use Rattle.alt_ops_batch.specs.declared.asked_reads.TableReads.{TableReads}
 use Rattle.alt_request.specs.declared.stop.Stop.{Stop}

@@ -1,3 +1,4 @@
+mod KeysAsked
 pub mod Asked
 pub mod AskedReads
 pub mod Finding

@@ -15,10 +15,10 @@ use Rattle.alt_shape.specs.Body.{items_json}
 use Rattle.alt_machine.specs.Ops.BatchGetItem.{Reads as Asked, Shown, found_at, keys_object, size_at, read_of, with_left, with_reads, nothing_read}
 use Rattle.alt_machine.specs.Ops.GetItem.{parts}
 use Rattle.alt_machine.specs.State.{State}
-use Rattle.alt_ops_batch.specs.Readings.{AreAllKnown, AreKnown, IsBounded, IsPlainRead, IsPlainTaken, IsTaken, Takes, item_json, key_json, name_left, read_so}
+use Rattle.alt_ops_batch.specs.private.Readings.{AreAllKnown, AreKnown, IsBounded, IsPlainRead, IsPlainTaken, IsTaken, Takes, item_json, key_json, name_left, read_so}
 use Rattle.alt_ops_batch.specs.declared.reading.Read.{Read}
 use Rattle.alt_ops_batch.specs.declared.reading.Taken.{Taken}
-use Rattle.alt_ops_batch.specs.Batches.{HasPlainNames, reads_of}
+use Rattle.alt_ops_batch.specs.private.Batches.{HasPlainNames, reads_of}
 use Rattle.alt_ops_batch.specs.declared.asked_reads.TableReads.{TableReads}
 use Rattle.alt_tables.specs.Stands.{KeepsCatalog, Reads, Stands, catalog_of}
 use Rattle.alt_tables.specs.declared.tables.Tables.{Tables}

@@ -14,7 +14,7 @@ use Rattle.alt_machine.specs.Wanted.{lack_among}
 use Rattle.alt_machine.specs.Writes.{with_item, with_write, after_item, item_writes}
 use Rattle.alt_machine.proofs.Behind.{last_behind, lack_behind}
 use Rattle.alt_machine.proofs.Looks.{at_insert, insert_elsewhere, remove_elsewhere}
-use Rattle.alt_ops_batch.specs.Changed.{Every, written_at, MayWrite, AreApart, AreAllApart, IsFound}
+use Rattle.alt_ops_batch.specs.private.Changed.{Every, written_at, MayWrite, AreApart, AreAllApart, IsFound}
 use Rattle.alt_ops_batch.specs.declared.write.Change.{Change}
 use Rattle.alt_schema.specs.declared.schema.TableSchema.{TableSchema}
 use Rattle.alt_tables.specs.Faults.{AreMade, BreakOff, WantsMemory}

@@ -1,4 +1,1 @@
-pub mod Batches
-pub mod Changed
-pub mod Names
-pub mod Readings
+pub mod private

@@ -7,7 +7,7 @@ ghost use Rattle.alt_machine.specs.Batches as machine;
 ghost use Rattle.alt_machine.specs.Lists.{is_given};
 ghost use Rattle.alt_machine.specs.Ops.BatchGetItem as get;
 ghost use Rattle.alt_machine.specs.Refusals.{first_answer, unless_answer};
-ghost use Rattle.alt_ops_batch.specs.Batches.{keys_read, keys_said, reads_of, shown_in, HasPlainNames};
+ghost use Rattle.alt_ops_batch.specs.private.Batches.{keys_read, keys_said, reads_of, shown_in, HasPlainNames};
 ghost use Rattle.alt_request.specs.Steps.{Comes};
 ghost use Rattle.alt_request.specs.Words.{given_of, IsFresh};
 ghost use Rattle.alt_tables.specs.Stands.{catalog_of};
@@ -69,7 +69,7 @@ fn tables_taken(body: &Map<String, Value>) -> Result<&Map<String, Value>, Stop>
     let Some(tables) = tables_asked(body) else {
         return Err(Stop::Refused(Refusal::BAD_BATCH));
     };
-    if any_is_legacy(tables) {
+    if some_give(tables, "AttributesToGet") && some_give(tables, "ProjectionExpression") {
         return Err(Stop::Refused(Refusal::NOT_TOGETHER));
     }
     if !is_sized(Inside::Keys, MOST_KEYS, tables) {
@@ -81,24 +81,24 @@ fn tables_taken(body: &Map<String, Value>) -> Result<&Map<String, Value>, Stop>
     Ok(tables)
 }
 
-/// Whether a member of an older interface stands in a table.
-fn any_is_legacy(tables: &Map<String, Value>) -> bool
-    ensures { result ≡ list_any (λ t. is_given (codes "AttributesToGet") (machine.members_in t.1))
+/// Whether one of the tables gives a member.
+fn some_give(tables: &Map<String, Value>, name: &str) -> bool
+    ensures { result ≡ get.some_give name.now
         (machine.pairs_in (members_view tables.now.entries)) }
 {
     for (_, value) in tables {
-        if is_legacy(value) {
+        if gives(value, name) {
             return true;
         }
     }
     false
 }
 
-fn is_legacy(value: &Value) -> bool
-    ensures { result ≡ is_given (codes "AttributesToGet") (machine.members_in (view value.now)) }
+fn gives(value: &Value, name: &str) -> bool
+    ensures { result ≡ is_given name.now (machine.members_in (view value.now)) }
 {
     match value.as_object() {
-        Some(asked) => given(asked, "AttributesToGet").is_some(),
+        Some(asked) => given(asked, name).is_some(),
         None => false,
     }
 }
@@ -185,7 +185,7 @@ fn said_all<'b>(
     Ok(said)
 }
 
-#[tactic(auto, using(crate::proofs::AskedReads::unshown, crate::proofs::AskedReads::shown_so))]
+#[tactic(auto, using(crate::proofs::AskedReads::unshown, crate::proofs::AskedReads::shown_so, crate::proofs::Plain::parts_plain))]
 fn said_in<'b>(alloc: Global, tables: &Tables, keys: KeysRead<'b>) -> Result<KeysSaid<'b>, Stop>
     ensures said { Comes keys_said
         (get.said_in (catalog_of tables.now) (keys_read keys.entry)) result }

@@ -6,7 +6,7 @@ ghost use Rattle.serde_json.specs.View.{view, items_view, members_view};
 ghost use Rattle.alt_machine.specs.Batches as machine;
 ghost use Rattle.alt_machine.specs.Ops.BatchWriteItem as write;
 ghost use Rattle.alt_machine.specs.Refusals.{first_answer, refuse_if, unless_answer};
-ghost use Rattle.alt_ops_batch.specs.Batches.{request_of};
+ghost use Rattle.alt_ops_batch.specs.private.Batches.{request_of};
 ghost use Rattle.alt_request.specs.Steps.{Comes, IsMemory, Tested};
 ghost use Rattle.alt_shape.specs.Refusals.{bad_batch};
 ghost use Rattle.alt_tables.specs.Stands.{catalog_of};

@@ -4,7 +4,7 @@ ghost use Rattle.std.specs.Prelude.{◌≡◌};
 ghost use Rattle.serde_json.specs.View.{members_view};
 ghost use Rattle.alt_machine.specs.Ops.BatchGetItem.{batch_get_item};
 ghost use Rattle.alt_request.specs.Carried.{Carries, Moves};
-ghost use Rattle.alt_tables.specs.Stands.{AreReady, Stands, limits_of};
+ghost use Rattle.alt_tables.specs.Stands.{AreReady, Reads, Stands, limits_of};
 
 use crate::asked_reads::reads_asked;
 use crate::reading::read_all;
@@ -31,6 +31,7 @@ pub fn batch_get_item<D: Disk>(
     ensures limits { limits_of tables.new ≡ limits_of tables.old }
     ensures moves { Moves (λ s. batch_get_item s (members_view body.now.entries))
         (Stands (D.state disk.old) tables.old) (D.state disk.old) (D.state disk.new) result }
+    ensures disk { Reads (D.state disk.old) (D.state disk.new) }
 {
     let _ = moment;
     let asked = reads_asked(alloc, tables, body)?;

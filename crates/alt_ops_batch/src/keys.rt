@@ -1,7 +1,7 @@
 //! What is read of a table of a BatchGetItem before its keys have places.
 
 ghost use Rattle.serde_json.specs.View.{members_view};
-ghost use Rattle.alt_ops_batch.specs.Names.{ArePlainNames};
+ghost use Rattle.alt_ops_batch.specs.private.Names.{ArePlain, ArePlainNames};
 ghost use Rattle.alt_request.specs.Words.{IsFresh};
 
 use alt_expr::Paths;
@@ -28,5 +28,5 @@ pub(crate) struct KeysSaid<'b> {
     pub(crate) body: &'b Map<String, Value>,
     pub(crate) projection: Option<Paths>,
     pub(crate) keys: Vec<BatchMember>,
-    ghost plain: { ArePlainNames (members_view body.now.entries) },
+    ghost plain: { ArePlain (members_view body.now.entries) },
 }

@@ -7,7 +7,7 @@ ghost use Rattle.serde_json.specs.Find.{as_object};
 ghost use Rattle.serde_json.specs.View.{view, items_view, members_view};
 ghost use Rattle.alt_machine.specs.Batches as machine;
 ghost use Rattle.alt_machine.specs.Refusals.{or_refused};
-ghost use Rattle.alt_ops_batch.specs.Batches.{inside_of};
+ghost use Rattle.alt_ops_batch.specs.private.Batches.{inside_of};
 ghost use Rattle.alt_request.specs.Steps.{Comes, Tested};
 ghost use Rattle.alt_schema.specs.Rules.{is_name};
 ghost use Rattle.alt_shape.specs.Refusals.{not_found};

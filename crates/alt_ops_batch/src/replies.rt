@@ -1,7 +1,6 @@
 //! What a BatchGetItem answers: the items, and the keys that it didn't read, as they may be asked for again.
 
 ghost use Rattle.std.specs.Prelude.{◌≡◌, false, IfOk, IfErr, OnOk, codes, map, option_and_then, option_map};
-ghost use Rattle.std.specs.Option.{option_map_or};
 ghost use Rattle.serde_json.specs.Data.{array, boolean, object, put, string};
 ghost use Rattle.serde_json.specs.Find.{as_bool, as_str};
 ghost use Rattle.serde_json.specs.View.{view, items_view, members_view};
@@ -9,8 +8,10 @@ ghost use Rattle.serde_json.specs.Written.{has_float, items_have_float, members_
 ghost use Rattle.alt_codec.specs.Writing.{json_of_pairs};
 ghost use Rattle.alt_machine.specs.Expressions.{names_member};
 ghost use Rattle.alt_machine.specs.Ops.BatchGetItem as machine;
+ghost use Rattle.alt_machine.specs.Ops.BatchGetItem.{attributes_member};
 ghost use Rattle.alt_machine.specs.Ops.GetItem.{parts};
-ghost use Rattle.alt_ops_batch.specs.Readings.{IsPlainRead, name_left, read_so};
+ghost use Rattle.alt_ops_batch.specs.private.Names.{ArePlain};
+ghost use Rattle.alt_ops_batch.specs.private.Readings.{IsPlainRead, name_left, read_so};
 ghost use Rattle.alt_request.specs.Steps.{IsMemory};
 ghost use Rattle.alt_schema.specs.Json.{put_if};
 ghost use Rattle.alt_shape.specs.Body.{body_json};
@@ -91,8 +92,7 @@ pub(crate) fn put_left(
     body: &Map<String, Value>,
     left: Vec<Value>,
 ) -> Result<(), NoMemory>
-    requires names { option_map_or members_have_float (names_member (members_view body.now.entries))
-        false ≡ false }
+    requires names { ArePlain (members_view body.now.entries) }
     requires left { items_have_float (items_view left.items) ≡ false }
     requires before { members_have_float (members_view unprocessed.old.entries) ≡ false }
     ensures put { OnOk result (members_view unprocessed.new.entries ≡ name_left name.now
@@ -111,19 +111,36 @@ pub(crate) fn put_left(
 
 /// What is asked of keys, with those members of their table that were given.
 fn keys_asked(alloc: Global, body: &Map<String, Value>, keys: Vec<Value>) -> Result<Value, NoMemory>
-    requires names { option_map_or members_have_float (names_member (members_view body.now.entries))
-        false ≡ false }
+    requires names { ArePlain (members_view body.now.entries) }
     requires keys { items_have_float (items_view keys.items) ≡ false }
     ensures asked { IfOk result (λ v. view v ≡ machine.keys_object (members_view body.now.entries)
         (array (items_view keys.items))) }
     ensures plain { IfOk result (λ v. has_float (view v) ≡ false) }
 {
     let mut members = Map::new(alloc);
+    put_attributes(alloc, &mut members, body)?;
     put_truth(alloc, &mut members, body)?;
     put_names(alloc, &mut members, body)?;
     serde_json::put(&mut members, alloc, "Keys", Value::Array(keys))?;
     put_projection(alloc, &mut members, body)?;
     Ok(Value::Object(members))
+}
+
+fn put_attributes(
+    alloc: Global,
+    members: &mut Map<String, Value>,
+    body: &Map<String, Value>,
+) -> Result<(), NoMemory>
+    ensures put { OnOk result (members_view members.new.entries
+        ≡ put_if (codes "AttributesToGet")
+        (option_map (λ names. array names) (attributes_member (members_view body.now.entries)))
+        (members_view members.old.entries)) }
+{
+    if let Some(names) = attributes_at(body) {
+        let names = names.clone()?;
+        serde_json::put(members, alloc, "AttributesToGet", names)?;
+    }
+    Ok(())
 }
 
 fn put_truth(
@@ -184,6 +201,17 @@ fn names_at(body: &Map<String, Value>) -> Option<&Value>
 {
     match given(body, "ExpressionAttributeNames") {
         Some(names) if names.is_object() => Some(names),
+        _ => None,
+    }
+}
+
+/// The names of attributes that are given, which are an array.
+fn attributes_at(body: &Map<String, Value>) -> Option<&Value>
+    ensures { option_map (λ v. view v.now) result ≡ option_map (λ names. array names)
+        (attributes_member (members_view body.now.entries)) }
+{
+    match given(body, "AttributesToGet") {
+        Some(names) if names.is_array() => Some(names),
         _ => None,
     }
 }

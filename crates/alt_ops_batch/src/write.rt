@@ -9,7 +9,7 @@ ghost use Rattle.alt_machine.specs.Ops.BatchWriteItem as machine;
 ghost use Rattle.alt_machine.specs.Ops.BatchWriteItem.{writes_of, writes_of_all, written_by};
 ghost use Rattle.alt_machine.specs.Outcomes.{a_number};
 ghost use Rattle.alt_machine.specs.State.{State};
-ghost use Rattle.alt_ops_batch.specs.Changed.{AreAllApart, Every, IsFound, MayWrite, written_at};
+ghost use Rattle.alt_ops_batch.specs.private.Changed.{AreAllApart, Every, IsFound, MayWrite, written_at};
 ghost use Rattle.alt_request.specs.Carried.{Carries, Moves};
 ghost use Rattle.alt_request.specs.Steps.{IsMemory};
 ghost use Rattle.alt_shape.specs.Body.{body_json};

@@ -1,14 +1,18 @@
 -- A body from which the item was read ahead says what it said before, beside the item.
-use Rattle.std.proofs.Common.{◌≡◌, refl, ap, ◌∙◌, ℕ, ◌<◌, List, length, Ok, arith}
+use Rattle.std.proofs.Common.{◌≡◌, refl, ap, ◌∙◌, ℕ, ◌<◌, true, List, length, Ok, arith}
 use Rattle.std.specs.Prelude.{codes, Option, Some}
 use Rattle.serde_json.specs.Data.{Members}
 use Rattle.alt_expr.specs.Given.{Given}
 use Rattle.alt_machine.specs.declared.Expressions.{Expressions}
 use Rattle.alt_machine.specs.Body.{body_refusals}
-use Rattle.alt_machine.specs.Expressions.{conditional, given_at, expressions}
+use Rattle.alt_machine.specs.Expressions.{conditional, given_at, words_given, texts_say, expressions}
 use Rattle.alt_machine.specs.Members.{table_name, unless_fault, item_of, item_at}
+use Rattle.alt_machine.specs.Older.{older_said}
 use Rattle.alt_machine.specs.Ops.PutItem.{rules, of_body}
 use Rattle.alt_machine.specs.State.{State, Table}
+use Rattle.alt_machine.specs.declared.Operation.TheVariants.{PutItem}
+use Rattle.alt_members.specs.Heeded.{heeded}
+use Rattle.alt_named.specs.Named.{is_among}
 use Rattle.alt_schema.specs.declared.schema.TableSchema.{TableSchema}
 use Rattle.alt_shape.specs.Bodies.{put_item}
 use Rattle.alt_shape.specs.Shape.{given}
@@ -17,24 +21,27 @@ use Rattle.alt_value.specs.Tree.{Pair}
 use Rattle.alt_readahead.specs.Direct.{IsReadAhead}
 use Rattle.alt_request.specs.ItemWrites.{IsAsked, changes}
 use Rattle.alt_request.specs.Targets.{SaySame}
-use Rattle.alt_ops_item.specs.Writes.{putting}
+use Rattle.alt_ops_item.specs.private.Writes.{putting}
 
-module _ (ms bs : Members) (item : List Pair) (h : IsReadAhead ms bs item) where
-  -- a member whose name is longer than that of the item
-  same : (name : List ℕ) → 4 < length name → given name ms ≡ given name bs
-  same name long = h.others name (λ e. omega (arith, long, ap length e))
+module _ (ms bs : Members) (item : List Pair) (h : IsReadAhead (heeded PutItem) ms bs item) where
+  -- a member that a put heeds, whose name is longer than that of the item
+  same : (name : List ℕ) → is_among (heeded PutItem) name ≡ true → 4 < length name
+      → given name ms ≡ given name bs
+  same name named long = h.others name named (λ e. omega (arith, long, ap length e))
 
   -- the shape of the body has the same fault, since an object stands at the item in both
   shape_same : put_item ms ≡ put_item bs
   unfolding put_item
   shape_same =
       rw (
-        same (codes "TableName") (omega arith),
-        same (codes "ConditionExpression") (omega arith),
-        same (codes "ExpressionAttributeNames") (omega arith),
-        same (codes "ExpressionAttributeValues") (omega arith),
-        same (codes "ReturnValues") (omega arith),
-        same (codes "ReturnValuesOnConditionCheckFailure") (omega arith),
+        same (codes "TableName") refl (omega arith),
+        same (codes "ConditionExpression") refl (omega arith),
+        same (codes "ExpressionAttributeNames") refl (omega arith),
+        same (codes "ExpressionAttributeValues") refl (omega arith),
+        same (codes "ReturnValues") refl (omega arith),
+        same (codes "ReturnValuesOnConditionCheckFailure") refl (omega arith),
+        same (codes "Expected") refl (omega arith),
+        same (codes "ConditionalOperator") refl (omega arith),
         h.read.1,
         h.stub,
       ) refl
@@ -44,9 +51,10 @@ module _ (ms bs : Members) (item : List Pair) (h : IsReadAhead ms bs item) where
       ≡ body_refusals broken rules bs
   body_same broken =
       rw (
-        same (codes "Expected") (omega arith),
-        same (codes "ConditionalOperator") (omega arith),
-        same (codes "TableName") (omega arith),
+        same (codes "Expected") refl (omega arith),
+        same (codes "ConditionExpression") refl (omega arith),
+        same (codes "ConditionalOperator") refl (omega arith),
+        same (codes "TableName") refl (omega arith),
       ) refl
 
   -- those of the body's shape too
@@ -54,26 +62,29 @@ module _ (ms bs : Members) (item : List Pair) (h : IsReadAhead ms bs item) where
   tests_same = ap (λ broken. body_refusals broken rules ms) shape_same ∙ body_same (put_item bs)
 
   -- the names and the values are the same
-  given_same : given_at conditional ms ≡ given_at conditional bs
+  given_same : words_given conditional ms ≡ words_given conditional bs
   unfolding given_at
   given_same =
       rw (
-        same (codes "ExpressionAttributeNames") (omega arith),
-        same (codes "ExpressionAttributeValues") (omega arith),
+        same (codes "ExpressionAttributeNames") refl (omega arith),
+        same (codes "ExpressionAttributeValues") refl (omega arith),
+        same (codes "Expected") refl (omega arith),
       ) refl
 
   -- and the name of the table
   name_same : table_name ms ≡ table_name bs
-  name_same = rw (same (codes "TableName") (omega arith)) refl
+  name_same = rw (same (codes "TableName") refl (omega arith)) refl
 
   -- and what the expressions say
   said_same : (d : TableSchema) (g : Given)
       → expressions conditional d ms g ≡ expressions conditional d bs g
-  unfolding expressions
+  unfolding expressions older_said texts_say
   said_same d g =
       rw (
-        same (codes "ConditionExpression") (omega arith),
-        same (codes "ExpressionAttributeNames") (omega arith),
+        same (codes "ConditionExpression") refl (omega arith),
+        same (codes "ExpressionAttributeNames") refl (omega arith),
+        same (codes "Expected") refl (omega arith),
+        same (codes "ConditionalOperator") refl (omega arith),
       ) refl
 
   -- so they say the same beside the item
@@ -86,9 +97,9 @@ module _ (ms bs : Members) (item : List Pair) (h : IsReadAhead ms bs item) where
       → changes putting s moment ms said i t place ≡ changes putting s moment bs said i t place
   changes_same s moment said i t place =
       rw (
-        same (codes "TableName") (omega arith),
-        same (codes "ReturnValues") (omega arith),
-        same (codes "ReturnValuesOnConditionCheckFailure") (omega arith),
+        same (codes "TableName") refl (omega arith),
+        same (codes "ReturnValues") refl (omega arith),
+        same (codes "ReturnValuesOnConditionCheckFailure") refl (omega arith),
       ) refl
 
   -- the item is that which was read ahead

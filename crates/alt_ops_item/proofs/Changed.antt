@@ -17,7 +17,7 @@ use Rattle.alt_expr.specs.declared.update.Action.TheVariants.{Set, Remove, Add, 
 use Rattle.alt_machine.specs.Conditional.{seen}
 use Rattle.alt_machine.specs.Ops.UpdateItem.{name_of, names_of, pairs_of}
 use Rattle.alt_machine.proofs.Names.{IsItem-pairs_of, at_name-pairs_of, at_name-has_bytes}
-use Rattle.alt_ops_item.specs.Updates.{with_change, with_changes}
+use Rattle.alt_ops_item.specs.private.Updates.{with_change, with_changes}
 use Rattle.alt_updeval.specs.Changes.{changed_by}
 use Rattle.alt_updeval.specs.declared.update.AttrChange.{AttrChange}
 use Rattle.alt_value.specs.Item.{IsItem, at_name, without}
@@ -186,7 +186,7 @@ not_some t e = let f : ⊥ = cc in f
 module _ (old : Option (List Pair)) (update : List Action) (view : View)
     (is : updated (seen old) update ≡ Ok view) where
   -- a name that isn't among the names has no value
-  valueless : (q : List ℕ)
+  pub valueless : (q : List ℕ)
       → list_any (eq_by_cmp text_order q) (names_of update old) ≡ false → view q ≡ None
   valueless q none =
       let before : List Pair = unwrap_or old [] in
@@ -203,12 +203,18 @@ module _ (old : Option (List Pair)) (update : List Action) (view : View)
       ∙ (λ i. after (under_none (seen old) update one.0 one.1 q apart.1 i)
       ((ap (λ (v : View). v q) (seen_is old) ∙ absent) i))
 
+-- no name but those among the names has a value
+abbrev HasOnly : List (List ℕ) → View → Type 0
+HasOnly names view = (q : List ℕ) → list_any (eq_by_cmp text_order q) names ≡ false → view q ≡ None
+
+module _ (old : Option (List Pair)) (update : List Action) (view : View)
+    (only : HasOnly (names_of update old) view) where
   among : (q : List ℕ) (t : Tree) → view q ≡ Some t
       → list_any (eq_by_cmp text_order q) (names_of update old) ≡ true
   among q t there = (elim (list_any (eq_by_cmp text_order q) (names_of update old)) as
       (λ b. list_any (eq_by_cmp text_order q) (names_of update old) ≡ b → b ≡ true) [
         | true ↦ λ e. refl
-        | false ↦ λ e. absurd (not_some t (sym (valueless q e) ∙ there))
+        | false ↦ λ e. absurd (not_some t (sym (only q e) ∙ there))
       ]) refl
 
 -- ---- the item
@@ -225,7 +231,7 @@ no_empty ps item = by (at_name [] ps) refl
 
 module _ (old : Option (List Pair)) (update : List Action) (cs : List AttrChange)
     (item : IsItem (unwrap_or old []))
-    (is : updated (seen old) update ≡ Ok (changed_by cs (seen old))) where
+    (only : HasOnly (names_of update old) (changed_by cs (seen old))) where
   abbrev now : View
   now = changed_by cs (seen old)
 
@@ -246,13 +252,21 @@ module _ (old : Option (List Pair)) (update : List Action) (cs : List AttrChange
       → at_name (c ∷ rest) (pairs_of now (names_of update old)) ≡ o) [
         | None ↦ λ e. no_pair now (c ∷ rest) e some (names_of update old)
         | Some t ↦ λ e. at_name-pairs_of now (c ∷ rest) t some e (names_of update old)
-            (among old update now is (c ∷ rest) t e)
+            (among old update now only (c ∷ rest) t e)
       ]) refl
       ∙ sym (at_made (c ∷ rest) some)
 
   -- an item's pairs at the names that an update may touch are those that were made
-  pub pairs_are : pairs_of now (names_of update old) ≡ made
-  pairs_are = same_entries text_order text_total text_apart
+  pub pairs_made : pairs_of now (names_of update old) ≡ made
+  pairs_made = same_entries text_order text_total text_apart
       (pairs_of now (names_of update old)) made
       (IsItem-pairs_of now (names_of update old)).0
       (IsItem-changes cs (unwrap_or old []) item).0 at_each
+
+-- so for what an update makes
+pub pairs_are : (old : Option (List Pair)) (update : List Action) (cs : List AttrChange)
+    → IsItem (unwrap_or old []) → updated (seen old) update ≡ Ok (changed_by cs (seen old))
+    → pairs_of (changed_by cs (seen old)) (names_of update old)
+    ≡ with_changes cs (unwrap_or old [])
+pairs_are old update cs item is = pairs_made old update cs item
+    (valueless old update (changed_by cs (seen old)) is)

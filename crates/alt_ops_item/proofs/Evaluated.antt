@@ -9,7 +9,7 @@ use Rattle.alt_expr.specs.declared.update.Action.{Action}
 use Rattle.alt_machine.specs.Conditional.{seen}
 use Rattle.alt_machine.specs.Ops.UpdateItem.{item_after, or_update_refusal, names_of, pairs_of}
 use Rattle.alt_machine.specs.Refusals.{number_refusal, ◌>>=◌}
-use Rattle.alt_ops_item.specs.Updates.{with_changes, stop_of}
+use Rattle.alt_ops_item.specs.private.Updates.{with_changes, stop_of}
 use Rattle.alt_ops_item.proofs.Changed.{seen_is, pairs_are}
 use Rattle.alt_request.specs.Steps.{Comes, IsMemory}
 use Rattle.alt_request.specs.declared.stop.Stop.{Stop}
@@ -23,7 +23,7 @@ use Rattle.alt_value.specs.Item.{IsItem, at_name}
 use Rattle.alt_value.specs.Tree.{Pair}
 
 -- the item of what an update makes of the attributes
-abbrev behind_view : List Action → Option (List Pair) → Result View Fault
+abbrev pub behind_view : List Action → Option (List Pair) → Result View Fault
     → Result (List Pair) Answer
 behind_view update old r = or_update_refusal r
     >>= (λ view. Ok (pairs_of view (names_of update old)))
@@ -38,7 +38,7 @@ number_known TooSmall = omega arith
 module _ (old : Option (List Pair)) (update : List Action) (before : List Pair)
     (same : before ≡ unwrap_or old []) where
   -- the attributes that were there
-  view_same : seen old ≡ (λ name. at_name name before)
+  pub view_same : seen old ≡ (λ name. at_name name before)
   view_same = seen_is old ∙ ap (λ (i : List Pair). λ name. at_name name i) (sym same)
 
   -- the changes that were told, made of the item that was there

@@ -21,9 +21,10 @@ use Rattle.alt_machine.specs.Refusals.{first_answer, unless_answer, ◌>>=◌}
 use Rattle.alt_machine.specs.State.{State, Table}
 use Rattle.alt_machine.specs.Targets.{IsPlaced}
 use Rattle.alt_machine.specs.Valid.{IsStored, IsValid, deepest}
+use Rattle.alt_machine.proofs.Older.{parts_of, said_has, older_begins}
 use Rattle.alt_machine.proofs.Said.{found_first, says_update}
 use Rattle.alt_machine.proofs.Updates.{may_be_left}
-use Rattle.alt_ops_item.specs.Updates.{left_after, WithPart, is_flat}
+use Rattle.alt_ops_item.specs.private.Updates.{left_after, WithPart, is_flat}
 use Rattle.alt_request.specs.Steps.{Comes, IsMemory, Tested}
 use Rattle.alt_request.specs.declared.stop.Stop.{Stop}
 use Rattle.alt_request.specs.declared.stop.Stop.TheVariants.{Refused, Fault}
@@ -223,5 +224,9 @@ stated_begins g (Some text) update e =
 pub said_begins : (texts : machine.Texts) (d : TableSchema) (ms : Members) (g : Given)
     (said : Expressions) → machine.expressions texts d ms g ≡ Ok said
     → begin_with_names (unwrap_or said.update []) ≡ true
-said_begins texts d ms g said e = stated_begins g (machine.text_at texts.update ms) said.update
-    (says_update texts d ms g said e).0
+said_begins texts d ms g said e =
+    let is = parts_of texts d ms g said e in
+    said_has texts d ms g (λ update. begin_with_names (unwrap_or update []) ≡ true) said is
+    (older_begins texts.older ms is.older is.by_older)
+    (stated_begins g (machine.text_at texts.update ms) is.by_texts.update
+    (says_update texts d ms g is.by_texts is.spoken).0)

@@ -3,7 +3,7 @@ use Rattle.std.proofs.Common.{◌≡◌, subst, Option, Some, None, List, Result
 use Rattle.std.specs.Prelude.{codes}
 use Rattle.alt_machine.specs.Valid.{IsStored}
 use Rattle.alt_machine.proofs.Puts.{is_read, may_stand}
-use Rattle.alt_ops_item.specs.Writes.{putting, deleting}
+use Rattle.alt_ops_item.specs.private.Writes.{putting, deleting}
 use Rattle.alt_request.specs.ItemWrites.{LeavesStored}
 use Rattle.alt_shape.specs.Refusals.{Answer}
 use Rattle.alt_value.specs.Tree.{Pair}

@@ -16,7 +16,7 @@ use Rattle.alt_machine.specs.State.{State, Table}
 use Rattle.alt_machine.specs.Targets.{on_item}
 use Rattle.alt_machine.specs.Writes.{item_writes}
 use Rattle.alt_ops_item.proofs.Left.{left_stored}
-use Rattle.alt_ops_item.specs.Writes.{updating}
+use Rattle.alt_ops_item.specs.private.Writes.{updating}
 use Rattle.alt_request.specs.ItemWrites.{LeavesStored, changes, writes_item}
 use Rattle.alt_shape.specs.Refusals.{Answer}
 use Rattle.alt_value.specs.Tree.{Pair}

@@ -1,20 +1,23 @@
 //! What an update makes of an item.
 
-ghost use Rattle.std.specs.Prelude.{◌≡◌, true, [], IfOk, IfErr, OnOk, unwrap_or};
+ghost use Rattle.std.specs.Prelude.{◌≡◌, true, [], List, Err, IfOk, IfErr, OnOk, unwrap_or};
 ghost use Rattle.alt_expr.specs.UpdateLanguage.{begin_with_names};
 ghost use Rattle.alt_expr.specs.Updated.{put_name};
 ghost use Rattle.alt_machine.specs.Ops.UpdateItem as machine;
-ghost use Rattle.alt_ops_item.specs.Updates.{with_change, with_changes, stop_of};
+ghost use Rattle.alt_ops_item.specs.private.Outlines.{IsOutline};
+ghost use Rattle.alt_ops_item.specs.private.Updates.{with_change, with_changes, stop_of};
 ghost use Rattle.alt_request.specs.Steps.{Comes, IsMemory};
 ghost use Rattle.alt_value.specs.Item.{IsItem};
 ghost use Rattle.alt_value.specs.Stands.{tree_of};
+ghost use Rattle.alt_value.specs.Tree.{Pair};
 
 use alt_base::NoMemory;
 use alt_expr::{Items, Update};
+use alt_machine::LARGEST_ITEM;
 use alt_request::{Stop, number_refusal};
 use alt_shape::Refusal;
 use alt_tables::TableFault;
-use alt_updeval::{AttrChange, UpdateFault, changed};
+use alt_updeval::{AttrChange, Sketch, UpdateFault, changed, sketched};
 use alt_value::{Attr, Item};
 use std::alloc::Global;
 
@@ -42,6 +45,46 @@ fn changed_item(alloc: Global, update: &Update, old: &Option<Item>) -> Result<It
     };
     match changed(alloc, update, &item) {
         Ok(changes) => with_changes(item, changes),
+        Err(fault) => {
+            drop(item);
+            Err(stop_of(fault))
+        }
+    }
+}
+
+/// What item there would be, and whether it is that itself: no more is copied of the values that are put than an item may have, and
+/// behind that a few bytes stand in for each large one. So what is too large is found out before it is made.
+pub(crate) fn outline_after(
+    alloc: Global,
+    update: &Option<Update>,
+    old: &Option<Item>,
+) -> Result<(Item, bool), Stop>
+    requires begins { begin_with_names (unwrap_or update.now []) ≡ true }
+    ensures outline { IfOk result
+        (λ r. IsOutline (machine.item_after (unwrap_or update.now []) old.now) r.0 r.1) }
+    ensures refused { IfErr result (λ stop. Comes {X = List Pair} (λ i. i)
+        (machine.item_after (unwrap_or update.now []) old.now) (Err stop)) }
+{
+    match update {
+        Some(update) => outlined_item(alloc, update, old),
+        None => outlined_item(alloc, &Items::new(alloc), old),
+    }
+}
+
+fn outlined_item(alloc: Global, update: &Update, old: &Option<Item>) -> Result<(Item, bool), Stop>
+    requires begins { begin_with_names update.now ≡ true }
+    ensures outline { IfOk result (λ r. IsOutline (machine.item_after update.now old.now) r.0 r.1) }
+    ensures refused { IfErr result (λ stop. Comes {X = List Pair} (λ i. i)
+        (machine.item_after update.now old.now) (Err stop)) }
+{
+    let Ok(item) = copy_or_empty(alloc, old) else {
+        return Err(Stop::Fault(TableFault::NoMemory));
+    };
+    match sketched(alloc, update, &item, LARGEST_ITEM) {
+        Ok(Sketch { changes, whole }) => match with_changes(item, changes) {
+            Ok(outline) => Ok((outline, whole)),
+            Err(stop) => Err(stop),
+        },
         Err(fault) => {
             drop(item);
             Err(stop_of(fault))

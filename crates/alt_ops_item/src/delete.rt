@@ -18,8 +18,9 @@ use serde_json::{Map, Value};
 use std::alloc::Global;
 
 static RULES: Rules = Rules {
-    legacy: &["Expected", "ConditionalOperator"],
-    unbuilt: &[],
+    legacy: &["Expected"],
+    texts: &["ConditionExpression"],
+    joined: &["Expected"],
     named: &["TableName"],
 };
 
@@ -27,7 +28,7 @@ static RULES: Rules = Rules {
 struct Delete;
 
 impl ItemWrite for Delete {
-    ghost use Rattle.alt_ops_item.specs.Writes.{deleting};
+    ghost use Rattle.alt_ops_item.specs.private.Writes.{deleting};
 
     ghost says = { deleting };
 

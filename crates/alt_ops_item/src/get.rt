@@ -4,7 +4,7 @@ ghost use Rattle.std.specs.Prelude.{◌≡◌};
 ghost use Rattle.serde_json.specs.View.{members_view};
 ghost use Rattle.alt_machine.specs.Ops.GetItem.{get_item};
 ghost use Rattle.alt_request.specs.Carried.{Carries, Moves};
-ghost use Rattle.alt_tables.specs.Stands.{AreReady, Stands, limits_of};
+ghost use Rattle.alt_tables.specs.Stands.{AreReady, Reads, Stands, limits_of};
 
 use crate::items::parts_reply;
 use alt_disk::Disk;
@@ -18,7 +18,8 @@ use std::alloc::Global;
 
 static RULES: Rules = Rules {
     legacy: &["AttributesToGet"],
-    unbuilt: &[],
+    texts: &["ProjectionExpression"],
+    joined: &[],
     named: &["TableName"],
 };
 
@@ -28,7 +29,7 @@ struct Shown;
 impl ItemRead for Shown {
     ghost use Rattle.alt_machine.specs.Expressions.{projecting};
     ghost use Rattle.alt_machine.specs.Ops.GetItem.{rules};
-    ghost use Rattle.alt_ops_item.specs.Gets.{shown};
+    ghost use Rattle.alt_ops_item.specs.private.Gets.{shown};
     ghost use Rattle.alt_shape.specs.Bodies as bodies;
 
     ghost shape = { bodies.get_item };
@@ -71,6 +72,7 @@ pub fn get_item<D: Disk>(
     ensures limits { limits_of tables.new ≡ limits_of tables.old }
     ensures moves { Moves (λ s. get_item s (members_view body.now.entries))
         (Stands (D.state disk.old) tables.old) (D.state disk.old) (D.state disk.new) result }
+    ensures disk { Reads (D.state disk.old) (D.state disk.new) }
 {
     let _ = moment;
     read_item(alloc, &Shown, tables, disk, body)

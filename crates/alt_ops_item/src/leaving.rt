@@ -5,12 +5,12 @@ ghost use Rattle.std.specs.List.{list_all};
 ghost use Rattle.alt_expr.specs.UpdateLanguage.{begin_with_names};
 ghost use Rattle.alt_machine.specs.Ops.UpdateItem as machine;
 ghost use Rattle.alt_machine.specs.Valid.{deepest};
-ghost use Rattle.alt_ops_item.specs.Updates.{left_after, WithPart, is_flat};
+ghost use Rattle.alt_ops_item.specs.private.Updates.{left_after, WithPart, is_flat};
 ghost use Rattle.alt_request.specs.Steps.{Comes, IsMemory, Tested};
 ghost use Rattle.alt_value.specs.Size.{fields_depth};
 ghost use Rattle.alt_value.specs.Tree.{fields_of};
 
-use crate::changing::item_after;
+use crate::changing::{item_after, outline_after};
 use alt_expr::{Action, Update};
 use alt_machine::Expressions;
 use alt_request::{Stop, item_refusal};
@@ -34,10 +34,16 @@ pub(crate) fn left_in(
     requires begins { begin_with_names (unwrap_or said.now.update []) ≡ true }
     ensures left { Comes (λ o. o) (left_after schema.now said.now key old.now) result }
 {
-    let item = item_after(alloc, &said.update, old)?;
-    let new = left(said, key, old, item)?;
+    let (outline, whole) = outline_after(alloc, &said.update, old)?;
+    let new = left(said, &key, old, outline)?;
     match left_refusal(schema, &new) {
-        Ok(()) => Ok(new),
+        Ok(()) => {
+            if whole {
+                return Ok(new);
+            }
+            drop(new);
+            left_at_length(alloc, schema, said, &key, old)
+        }
         Err(stop) => {
             drop(new);
             Err(stop)
@@ -45,8 +51,35 @@ pub(crate) fn left_in(
     }
 }
 
-fn left(said: &Expressions, key: Item, old: &Option<Item>, item: Item) -> Result<Option<Item>, Stop>
-    ensures left { IfOk result (λ o. o ≡ machine.left said.now key old.now item) }
+/// The same without an outline first.
+fn left_at_length(
+    alloc: Global,
+    schema: &TableSchema,
+    said: &Expressions,
+    key: &Item,
+    old: &Option<Item>,
+) -> Result<Option<Item>, Stop>
+    requires begins { begin_with_names (unwrap_or said.now.update []) ≡ true }
+    ensures left { Comes (λ o. o) (left_after schema.now said.now key.now old.now) result }
+{
+    let item = item_after(alloc, &said.update, old)?;
+    let made = left(said, key, old, item)?;
+    match left_refusal(schema, &made) {
+        Ok(()) => Ok(made),
+        Err(stop) => {
+            drop(made);
+            Err(stop)
+        }
+    }
+}
+
+fn left(
+    said: &Expressions,
+    key: &Item,
+    old: &Option<Item>,
+    item: Item,
+) -> Result<Option<Item>, Stop>
+    ensures left { IfOk result (λ o. o ≡ machine.left said.now key.now old.now item) }
     ensures cause { IfErr result IsMemory }
 {
     match old {
@@ -55,14 +88,14 @@ fn left(said: &Expressions, key: Item, old: &Option<Item>, item: Item) -> Result
     }
 }
 
-fn left_new(said: &Expressions, key: Item, item: Item) -> Result<Option<Item>, Stop>
-    ensures left { IfOk result (λ o. o ≡ machine.left said.now key None item) }
+fn left_new(said: &Expressions, key: &Item, item: Item) -> Result<Option<Item>, Stop>
+    ensures left { IfOk result (λ o. o ≡ machine.left said.now key.now None item) }
     ensures cause { IfErr result IsMemory }
 {
     if makes_none(&said.update) {
         return Ok(None);
     }
-    match with_key(&key, item) {
+    match with_key(key, item) {
         Ok(item) => Ok(Some(item)),
         Err(stop) => Err(stop),
     }

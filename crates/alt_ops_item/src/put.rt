@@ -4,6 +4,8 @@ ghost use Rattle.std.specs.Prelude.{◌≡◌};
 ghost use Rattle.serde_json.specs.Data.{Members};
 ghost use Rattle.serde_json.specs.View.{members_view};
 ghost use Rattle.alt_machine.specs.Ops.PutItem.{put_item};
+ghost use Rattle.alt_machine.specs.declared.Operation.TheVariants.{PutItem};
+ghost use Rattle.alt_members.specs.Heeded.{heeded};
 ghost use Rattle.alt_readahead.specs.Direct.{IsReadAhead};
 ghost use Rattle.alt_request.specs.Carried.{Carries, Moves};
 ghost use Rattle.alt_tables.specs.Stands.{AreReady, Stands, limits_of};
@@ -20,8 +22,9 @@ use serde_json::{Map, Value};
 use std::alloc::Global;
 
 static RULES: Rules = Rules {
-    legacy: &["Expected", "ConditionalOperator"],
-    unbuilt: &[],
+    legacy: &["Expected"],
+    texts: &["ConditionExpression"],
+    joined: &["Expected"],
     named: &["TableName"],
 };
 
@@ -29,7 +32,7 @@ static RULES: Rules = Rules {
 struct Put;
 
 impl ItemWrite for Put {
-    ghost use Rattle.alt_ops_item.specs.Writes.{putting};
+    ghost use Rattle.alt_ops_item.specs.private.Writes.{putting};
 
     ghost says = { putting };
 
@@ -96,7 +99,7 @@ pub fn put_item<D: Disk>(
     write_item(alloc, &Put, tables, disk, body, None, moment)
 }
 
-/// The same, of a request whose item was read ahead: the body has an empty object in its place.
+/// The same, of a request whose item was read ahead: the body has an empty object in its place, and no member that a put doesn't heed.
 pub fn put_item_ahead<D: Disk>(
     alloc: Global,
     tables: &mut Tables,
@@ -106,12 +109,12 @@ pub fn put_item_ahead<D: Disk>(
     moment: u64,
 ) -> Result<Reply, Stop>
     requires ready { AreReady (D.state disk.old) tables.old }
-    requires read { (ms : Members) × IsReadAhead ms (members_view body.now.entries) item }
-    ensures carried { (ms : Members) → IsReadAhead ms (members_view body.now.entries) item
+    requires read { (ms : Members) × IsReadAhead (heeded PutItem) ms (members_view body.now.entries) item }
+    ensures carried { (ms : Members) → IsReadAhead (heeded PutItem) ms (members_view body.now.entries) item
         → Carries (λ s. put_item s moment ms)
         (Stands (D.state disk.old) tables.old) (Stands (D.state disk.new) tables.new) result }
     ensures limits { limits_of tables.new ≡ limits_of tables.old }
-    ensures moves { (ms : Members) → IsReadAhead ms (members_view body.now.entries) item
+    ensures moves { (ms : Members) → IsReadAhead (heeded PutItem) ms (members_view body.now.entries) item
         → Moves (λ s. put_item s moment ms)
         (Stands (D.state disk.old) tables.old) (D.state disk.old) (D.state disk.new) result }
 {

@@ -19,8 +19,9 @@ use serde_json::{Map, Value};
 use std::alloc::Global;
 
 static RULES: Rules = Rules {
-    legacy: &["AttributeUpdates", "Expected", "ConditionalOperator"],
-    unbuilt: &[],
+    legacy: &["Expected", "AttributeUpdates"],
+    texts: &["UpdateExpression", "ConditionExpression"],
+    joined: &["Expected"],
     named: &["TableName"],
 };
 
@@ -28,7 +29,7 @@ static RULES: Rules = Rules {
 struct Change;
 
 impl ItemWrite for Change {
-    ghost use Rattle.alt_ops_item.specs.Writes.{updating};
+    ghost use Rattle.alt_ops_item.specs.private.Writes.{updating};
 
     ghost says = { updating };
 

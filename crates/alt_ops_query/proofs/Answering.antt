@@ -13,10 +13,10 @@ use Rattle.alt_machine.specs.Outcomes.{Outcome, says}
 use Rattle.alt_machine.specs.Sources.{index_at, selects}
 use Rattle.alt_machine.specs.State.{State, Texts}
 use Rattle.alt_machine.specs.declared.Expressions.{Expressions}
-use Rattle.alt_ops_query.specs.Filled.{HasFilled}
-use Rattle.alt_ops_query.specs.Paged.{AnswersPage, HasLimit, answer_with, asked_page}
-use Rattle.alt_ops_query.specs.Replied.{page_of}
-use Rattle.alt_ops_query.specs.Stops.{IsFault, IfErrFailed}
+use Rattle.alt_ops_query.specs.private.Filled.{HasFilled}
+use Rattle.alt_ops_query.specs.private.Paged.{AnswersPage, HasLimit, answer_with, asked_page}
+use Rattle.alt_ops_query.specs.private.Replied.{page_of}
+use Rattle.alt_ops_query.specs.private.Stops.{IsFault, IfErrFailed}
 use Rattle.alt_ops_query.specs.declared.walking.Filling.{Filling}
 use Rattle.alt_paging.specs.Offered.{IsPage, asked_of, unless_counts}
 use Rattle.alt_paging.specs.declared.ask.Page.{Page}
@@ -140,18 +140,6 @@ pub does_fault : (now : State → Type 0) (s : State) (outcome : Outcome) (r : R
 does_fault now s outcome r stop same fault stands =
     subst (Does now s outcome) (sym (err_is r stop same))
     (fault_does now s outcome stop fault stands)
-
--- what stopped a step that refuses nothing is a fault, which has no words to check
-pub stop_plain : (A : Type 0) (P : Type 0) (stop : Stop) → IfErrFailed {A = A} (Err stop) P
-    → IsPlain (Err stop)
-stop_plain A P (Refused r) h = absurd h
-stop_plain A P (Fault f) h = tt
-
--- and it is a failure of the device only where that failed
-pub stop_failed : (A : Type 0) (P : Type 0) (stop : Stop) → IfErrFailed {A = A} (Err stop) P
-    → IfFailed (Err stop) P
-stop_failed A P (Refused r) h = absurd h
-stop_failed A P (Fault f) h = h
 
 -- what is asked of the page is what the request asks
 pub page_asks : (d : TableSchema) (x : Option IndexSchema) (ms : Members) (said : Expressions)

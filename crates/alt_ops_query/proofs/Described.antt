@@ -6,7 +6,7 @@ use Rattle.alt_machine.specs.Sources.{index_at, items_of}
 use Rattle.alt_machine.specs.State.{State, Table}
 use Rattle.alt_machine.proofs.Descriptions.{get-descriptions}
 use Rattle.alt_machine.proofs.Indexing.{all_index}
-use Rattle.alt_ops_query.specs.Ranges.{MayStand, place_in}
+use Rattle.alt_ops_query.specs.private.Ranges.{MayStand, place_in}
 use Rattle.alt_ops_query.proofs.Lists.{none_past}
 use Rattle.alt_request.proofs.Named.{table_found}
 use Rattle.alt_schema.specs.Indexes.{indexes}

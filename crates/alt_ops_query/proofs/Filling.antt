@@ -3,7 +3,7 @@ use Rattle.std.proofs.Common.{◌≡◌, refl, sym, ap, subst, ◌∙◌, true, 
 use Rattle.std.specs.List.{last_or}
 use Rattle.alt_expr.specs.Pages as pages
 use Rattle.alt_expr.specs.Pages.{ends_early}
-use Rattle.alt_ops_query.specs.Filled.{HasExamined, HasFilled}
+use Rattle.alt_ops_query.specs.private.Filled.{HasExamined, HasFilled}
 use Rattle.alt_ops_query.specs.declared.walking.Filling.{Filling}
 use Rattle.alt_paging.specs.declared.ask.PageAsk.{PageAsk}
 use Rattle.alt_paging.proofs.PageLaws.{full_prefix-ended, examined-ended}
@@ -14,14 +14,6 @@ pub last_push : {A : Type 0} (o : Option A) (xs : List A) (x : A)
     → last_or o (xs ++ x ∷ []) ≡ Some x
 last_push o [] x = refl
 last_push o (y ∷ ys) x = last_push (Some y) ys x
-
--- one more after others
-pub examined_on : (filling : Filling) (ask : PageAsk) (seen some : List (List Pair))
-    (item : List Pair)
-    → HasExamined filling ask ((seen ++ some) ++ item ∷ [])
-    → HasExamined filling ask (seen ++ (some ++ item ∷ []))
-examined_on filling ask seen some item h =
-    subst (HasExamined filling ask) (append_assoc seen some (item ∷ [])) h
 
 module _ (filling : Filling) (ask : PageAsk) (list : List (List Pair)) where
   -- all was examined, and the page goes on

@@ -7,7 +7,7 @@ use Rattle.std.specs.Cmp.Lexicographic.{texts_ties, nat_list_eq_equiv}
 use Rattle.alt_cells.proofs.CellLaws.{key_total, key_exact}
 use Rattle.alt_machine.specs.Lists.{key_attributes}
 use Rattle.alt_machine.specs.Sources.{is_key_there}
-use Rattle.alt_ops_query.specs.Replied.{with_attribute, with_key}
+use Rattle.alt_ops_query.specs.private.Replied.{with_attribute, with_key}
 use Rattle.alt_schema.specs.Indexes.{is_key}
 use Rattle.alt_schema.specs.declared.schema.IndexSchema.{IndexSchema}
 use Rattle.alt_schema.specs.declared.schema.KeyAttr.{KeyAttr}

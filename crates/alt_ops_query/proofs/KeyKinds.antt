@@ -22,7 +22,7 @@ use Rattle.alt_keycond.specs.declared.ask.KeyAsk.{KeyAsk}
 use Rattle.alt_keycond.specs.declared.ask.RangeAsk.{RangeAsk}
 use Rattle.alt_keycond.specs.declared.ask.RangeAsk.TheVariants as r
 use Rattle.alt_keyorder.specs.Kinds.{IsOfKind}
-use Rattle.alt_ops_query.specs.Asked.{AreHeld}
+use Rattle.alt_ops_query.specs.private.Asked.{AreHeld}
 
 -- ---- kinds
 

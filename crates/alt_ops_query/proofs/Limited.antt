@@ -4,10 +4,10 @@ use Rattle.std.specs.Prelude.{if◌then◌else◌, codes, slice_get}
 use Rattle.serde_json.specs.Data.{Data, Members, null, boolean, number, unsigned, negative, float, string, array, object}
 use Rattle.alt_machine.specs.Body.{Rules, paired_refusals}
 use Rattle.alt_machine.specs.Refusals.{first_answer}
-use Rattle.alt_ops_query.specs.Paged.{HasLimit, limit_in}
+use Rattle.alt_ops_query.specs.private.Paged.{HasLimit, limit_in}
 use Rattle.alt_shape.specs.Bodies as bodies
-use Rattle.alt_shape.specs.Bodies.{required, optional, selections}
-use Rattle.alt_shape.specs.Shape.{Demand, a_text, a_whole, a_truth, an_object, a_word, fault_of, given, natural_of, first_unmet, or_next, unmet_by}
+use Rattle.alt_shape.specs.Bodies.{required, optional, selections, first_of, condition_entry, in_entries, in_names, operator_demand, key_condition_demand, own_of_query}
+use Rattle.alt_shape.specs.Shape.{Demand, a_text, a_whole, a_truth, an_object, an_array, a_word, fault_of, given, natural_of, first_unmet, or_next, unmet_by}
 use Rattle.alt_shape.specs.declared.rule.Broken.{Broken}
 use Rattle.alt_shape.specs.declared.rule.Broken.TheVariants.{OutOfRange}
 
@@ -57,17 +57,19 @@ limited_at (Some (string s)) e = refl
 limited_at (Some (array ds)) e = refl
 limited_at (Some (object ms)) e = refl
 
--- what a Query and a Scan demand of their bodies
-abbrev query_demands : List Demand
-query_demands =
+-- what a Query and a Scan demand of their own members
+abbrev query_demands : Members → List Demand
+query_demands ms =
     required (codes "TableName") a_text ∷ optional (codes "IndexName") a_text ∷
-    required (codes "KeyConditionExpression") a_text ∷ optional (codes "FilterExpression") a_text ∷
+    key_condition_demand ms ∷ optional (codes "FilterExpression") a_text ∷
     optional (codes "ProjectionExpression") a_text ∷
     optional (codes "ExpressionAttributeNames") an_object ∷
     optional (codes "ExpressionAttributeValues") an_object ∷
     optional (codes "Limit") (a_whole 1 2147483647) ∷
     optional (codes "ScanIndexForward") a_truth ∷ optional (codes "ExclusiveStartKey") an_object ∷
-    optional (codes "ConsistentRead") a_truth ∷ optional (codes "Select") (a_word selections) ∷ []
+    optional (codes "ConsistentRead") a_truth ∷ optional (codes "Select") (a_word selections) ∷
+    optional (codes "KeyConditions") an_object ∷ optional (codes "QueryFilter") an_object ∷
+    operator_demand ∷ optional (codes "AttributesToGet") an_array ∷ []
 
 -- a Scan has no key condition and no direction, but it may have a segment
 abbrev scan_demands : List Demand
@@ -79,19 +81,33 @@ scan_demands =
     optional (codes "Limit") (a_whole 1 2147483647) ∷
     optional (codes "ExclusiveStartKey") an_object ∷ optional (codes "ConsistentRead") a_truth ∷
     optional (codes "Select") (a_word selections) ∷ optional (codes "Segment") (a_whole 0 999999) ∷
-    optional (codes "TotalSegments") (a_whole 1 1000000) ∷ []
+    optional (codes "TotalSegments") (a_whole 1 1000000) ∷
+    optional (codes "ScanFilter") an_object ∷ operator_demand ∷
+    optional (codes "AttributesToGet") an_array ∷ []
+
+-- what they demand of the objects inside them
+abbrev query_inside : Members → Option Broken
+query_inside ms = first_of (
+    in_entries (codes "KeyConditions") condition_entry ms ∷
+    in_entries (codes "QueryFilter") condition_entry ms ∷ in_names ms ∷ [])
+
+abbrev scan_inside : Members → Option Broken
+scan_inside ms =
+    first_of (in_entries (codes "ScanFilter") condition_entry ms ∷ in_names ms ∷ [])
 
 -- a Query whose body breaks no demand has a limit that a page takes, or none
 pub query_limit : (ms : Members) → bodies.query ms ≡ None → HasLimit ms
 unfolding bodies.query
 query_limit ms e = limited_at (given (codes "Limit") ms)
-    (met_at 7 query_demands ms e (optional (codes "Limit") (a_whole 1 2147483647)) refl)
+    (met_at 7 (query_demands ms) ms (first_none (own_of_query ms) (query_inside ms) e)
+    (optional (codes "Limit") (a_whole 1 2147483647)) refl)
 
 -- and so has a Scan
 pub scan_limit : (ms : Members) → bodies.scan ms ≡ None → HasLimit ms
 unfolding bodies.scan
 scan_limit ms e = limited_at (given (codes "Limit") ms)
-    (met_at 6 scan_demands ms e (optional (codes "Limit") (a_whole 1 2147483647)) refl)
+    (met_at 6 scan_demands ms (first_none (first_unmet scan_demands ms) (scan_inside ms) e)
+    (optional (codes "Limit") (a_whole 1 2147483647)) refl)
 
 -- ---- behind the tests of a body
 

@@ -18,7 +18,7 @@ use Rattle.alt_keyorder.specs.Range.{IsInRange}
 use Rattle.alt_machine.specs.Sources.{items_of}
 use Rattle.alt_machine.specs.State.{Table}
 use Rattle.alt_machine.specs.Walks.{end_bound, is_beyond, items_between, placed_items, turned}
-use Rattle.alt_ops_query.specs.Ranges.{IsBeyond}
+use Rattle.alt_ops_query.specs.private.Ranges.{IsBeyond}
 use Rattle.alt_ops_query.proofs.Lists.{filter_same, filter_both, filter-turned}
 use Rattle.alt_value.specs.Members.{text_order}
 use Rattle.alt_schema.specs.declared.schema.IndexSchema.{IndexSchema}

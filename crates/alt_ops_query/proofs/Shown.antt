@@ -8,7 +8,7 @@ use Rattle.alt_codec.proofs.Plain.{pairs_plain}
 use Rattle.alt_expr.specs.Pages.{Page}
 use Rattle.alt_machine.specs.Lists.{shown_items, key_attributes, page_answer}
 use Rattle.alt_machine.specs.Sources.{selects}
-use Rattle.alt_ops_query.specs.Replied.{behind}
+use Rattle.alt_ops_query.specs.private.Replied.{behind}
 use Rattle.alt_schema.specs.Json.{member_if}
 use Rattle.alt_schema.specs.declared.schema.IndexSchema.{IndexSchema}
 use Rattle.alt_schema.specs.declared.schema.TableSchema.{TableSchema}

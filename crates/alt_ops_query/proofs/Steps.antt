@@ -11,9 +11,9 @@ use Rattle.alt_machine.specs.Sources.{items_of}
 use Rattle.alt_machine.specs.State.{Table}
 use Rattle.alt_machine.specs.Walks.{end_bound, items_between, placed_items, turned}
 use Rattle.alt_keyorder.specs.declared.range.KeyRange.{KeyRange}
-use Rattle.alt_ops_query.specs.Filled.{HasExamined, HasFilled, Examines, Steps}
-use Rattle.alt_ops_query.specs.Ranges.{IsBeyond, place_in}
-use Rattle.alt_ops_query.specs.Stops.{IsFault}
+use Rattle.alt_ops_query.specs.private.Filled.{HasExamined, HasFilled, Examines, Steps}
+use Rattle.alt_ops_query.specs.private.Ranges.{IsBeyond, place_in}
+use Rattle.alt_ops_query.specs.private.Stops.{IsFault}
 use Rattle.alt_ops_query.specs.declared.walking.Filling.{Filling}
 use Rattle.alt_ops_query.proofs.Filling.{last_push, filled_all, filled_front}
 use Rattle.alt_ops_query.proofs.Lists.{each_entry}

@@ -4,7 +4,7 @@ use Rattle.std.proofs.lemmas.List.Elements.{All-head, All-tail}
 use Rattle.alt_keyorder.specs.declared.range.KeyRange.{KeyRange}
 use Rattle.alt_machine.specs.State.{Table}
 use Rattle.alt_machine.specs.Walks.{items_between}
-use Rattle.alt_ops_query.specs.Filled.{HasExamined, HasFilled, Steps}
+use Rattle.alt_ops_query.specs.private.Filled.{HasExamined, HasFilled, Steps}
 use Rattle.alt_ops_query.specs.declared.walking.Filling.{Filling}
 use Rattle.alt_paging.specs.declared.ask.PageAsk.{PageAsk}
 use Rattle.alt_schema.specs.declared.schema.IndexSchema.{IndexSchema}
@@ -63,13 +63,6 @@ pub record IsWalked (now : Filling) (ask : PageAsk) (t : Table) (i : Option Inde
   pub seen : List (List Pair)
   pub examined : HasExamined now ask seen
   pub whole : list ≡ seen ++ items_between t i rest.from rest.to forward
-
--- before the first step nothing was examined, and all of the range is ahead
-pub walk_begun : (filling : Filling) (ask : PageAsk) (t : Table) (i : Option IndexSchema)
-    (forward : Bool) (range : KeyRange)
-    → HasExamined filling ask []
-    → IsWalked filling ask t i forward (items_between t i range.from range.to forward) range
-walk_begun filling ask t i forward range h = record { seen = []; examined = h; whole = refl }
 
 module _ (now then : Filling) (ask : PageAsk) (t : Table) (i : Option IndexSchema) (forward : Bool)
     (list : List (List Pair)) (range : KeyRange)

@@ -19,8 +19,8 @@ use Rattle.alt_machine.specs.Outcomes.{Outcome, with_found}
 use Rattle.alt_machine.specs.Sources.{hash_of, index_at}
 use Rattle.alt_machine.specs.State.{State, Table}
 use Rattle.alt_machine.specs.Walks.{items_between}
-use Rattle.alt_ops_query.specs.Asked.{Asks, IsAsked, Segments, IsOfSegment}
-use Rattle.alt_ops_query.specs.Ranges.{HoldsListed}
+use Rattle.alt_ops_query.specs.private.Asked.{Asks, IsAsked, Segments, IsOfSegment}
+use Rattle.alt_ops_query.specs.private.Ranges.{HoldsListed}
 use Rattle.alt_ops_query.proofs.Answering.{within_of}
 use Rattle.alt_ops_query.proofs.Described.{may_stand}
 use Rattle.alt_ops_query.proofs.Lists.{items_between-listed}

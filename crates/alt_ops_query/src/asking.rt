@@ -2,7 +2,7 @@
 
 ghost use Rattle.std.specs.Prelude.{◌≡◌, ◌<◌, IfSome, codes};
 ghost use Rattle.serde_json.specs.View.{members_view};
-ghost use Rattle.alt_ops_query.specs.Paged.{asked_page, limit_in};
+ghost use Rattle.alt_ops_query.specs.private.Paged.{asked_page, limit_in};
 ghost use Rattle.alt_machine.specs.Ops.Scan.{whole_at};
 
 use crate::selecting::selects;

@@ -11,7 +11,7 @@ ghost use Rattle.alt_machine.specs.Outcomes.{says};
 ghost use Rattle.alt_machine.specs.Sources.{index_at, selects};
 ghost use Rattle.alt_machine.specs.State.{State, Table};
 ghost use Rattle.alt_machine.specs.Walks.{items_between};
-ghost use Rattle.alt_ops_query.specs.Paged.{AnswersPage, HasLimit, answer_with};
+ghost use Rattle.alt_ops_query.specs.private.Paged.{AnswersPage, HasLimit, answer_with};
 ghost use Rattle.alt_request.specs.Carried.{Does, IsPlain, IfFailed};
 ghost use Rattle.alt_request.specs.Steps.{IsMemory};
 ghost use Rattle.alt_schema.specs.Indexes.{indexes};

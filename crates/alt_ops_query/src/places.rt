@@ -8,7 +8,7 @@ ghost use Rattle.alt_keyorder.specs.Place.{place_bytes};
 ghost use Rattle.alt_keyorder.specs.Token.{token_of};
 ghost use Rattle.alt_machine.specs.Indexed.{values_of};
 ghost use Rattle.alt_machine.specs.Lists as machine;
-ghost use Rattle.alt_ops_query.specs.Ranges.{IsBeyond, IsLesser};
+ghost use Rattle.alt_ops_query.specs.private.Ranges.{IsBeyond, IsLesser};
 ghost use Rattle.alt_request.specs.Steps.{Comes};
 ghost use Rattle.alt_expr.specs.Holds.{equal as same};
 ghost use Rattle.alt_value.specs.Item.{at_name};

@@ -10,10 +10,10 @@ ghost use Rattle.alt_keyorder.specs.KeyBytes.{IsKey};
 ghost use Rattle.alt_machine.specs.Ops.Query.{query, goes_forward, key_asked, key_of as machine_key};
 ghost use Rattle.alt_machine.specs.Sources.{index_at, hash_of, range_of};
 ghost use Rattle.alt_schema.specs.Indexes.{indexes};
-ghost use Rattle.alt_ops_query.specs.Asked.{AreHeld, Asks, Places};
+ghost use Rattle.alt_ops_query.specs.private.Asked.{AreHeld, Asks, Places};
 ghost use Rattle.alt_request.specs.Carried.{Carries, Moves};
 ghost use Rattle.alt_request.specs.Steps.{Comes};
-ghost use Rattle.alt_tables.specs.Stands.{AreReady, Stands, limits_of};
+ghost use Rattle.alt_tables.specs.Stands.{AreReady, Reads, Stands, limits_of};
 ghost use Rattle.alt_value.specs.Item.{at_name};
 ghost use Rattle.alt_value.specs.Stands.{tree_of};
 ghost use Rattle.alt_value.specs.Tree.{Pair};
@@ -36,13 +36,13 @@ use serde_json::{Map, Value};
 use std::alloc::Global;
 
 static RULES: Rules = Rules {
-    legacy: &[
-        "KeyConditions",
-        "QueryFilter",
-        "ConditionalOperator",
-        "AttributesToGet",
+    legacy: &["KeyConditions", "QueryFilter", "AttributesToGet"],
+    texts: &[
+        "KeyConditionExpression",
+        "FilterExpression",
+        "ProjectionExpression",
     ],
-    unbuilt: &[],
+    joined: &["QueryFilter"],
     named: &["TableName", "IndexName"],
 };
 
@@ -61,6 +61,7 @@ pub fn query<D: Disk>(
     ensures limits { limits_of tables.new ≡ limits_of tables.old }
     ensures moves { Moves (λ s. query s (members_view body.now.entries))
         (Stands (D.state disk.old) tables.old) (D.state disk.old) (D.state disk.new) result }
+    ensures disk { Reads (D.state disk.old) (D.state disk.new) }
 {
     let _ = moment;
     let broken = bodies::query(body);

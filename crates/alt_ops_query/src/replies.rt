@@ -5,7 +5,7 @@ ghost use Rattle.serde_json.specs.Data.{member, no_members};
 ghost use Rattle.serde_json.specs.View.{members_view};
 ghost use Rattle.alt_codec.specs.Writing.{json_of_pairs};
 ghost use Rattle.alt_machine.specs.Lists as machine;
-ghost use Rattle.alt_ops_query.specs.Replied.{behind, page_of, with_attribute, with_key};
+ghost use Rattle.alt_ops_query.specs.private.Replied.{behind, page_of, with_attribute, with_key};
 ghost use Rattle.alt_schema.specs.Json.{member_if};
 ghost use Rattle.alt_shape.specs.Body.{members_json, part_json};
 ghost use Rattle.alt_shape.specs.Refusals.{answer_of};

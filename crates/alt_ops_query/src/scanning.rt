@@ -7,10 +7,10 @@ ghost use Rattle.alt_machine.specs.Ops.Scan as machine;
 ghost use Rattle.alt_machine.specs.Ops.Scan.{scan, is_segment_odd};
 ghost use Rattle.alt_machine.specs.Sources.{index_at};
 ghost use Rattle.alt_schema.specs.Indexes.{indexes};
-ghost use Rattle.alt_ops_query.specs.Asked.{Segments};
-ghost use Rattle.alt_ops_query.specs.Tokens.{segment_in, first_token, token_bytes, end_token};
+ghost use Rattle.alt_ops_query.specs.private.Asked.{Segments};
+ghost use Rattle.alt_ops_query.specs.private.Tokens.{segment_in, first_token, token_bytes, end_token};
 ghost use Rattle.alt_request.specs.Carried.{Carries, Moves};
-ghost use Rattle.alt_tables.specs.Stands.{AreReady, Stands, limits_of};
+ghost use Rattle.alt_tables.specs.Stands.{AreReady, Reads, Stands, limits_of};
 
 use crate::pages::page_of_range;
 use crate::places::{beyond, walk_start};
@@ -29,8 +29,9 @@ use serde_json::{Map, Value};
 use std::alloc::Global;
 
 static RULES: Rules = Rules {
-    legacy: &["ScanFilter", "ConditionalOperator", "AttributesToGet"],
-    unbuilt: &[],
+    legacy: &["ScanFilter", "AttributesToGet"],
+    texts: &["FilterExpression", "ProjectionExpression"],
+    joined: &["ScanFilter"],
     named: &["TableName", "IndexName"],
 };
 
@@ -59,6 +60,7 @@ pub fn scan<D: Disk>(
     ensures limits { limits_of tables.new ≡ limits_of tables.old }
     ensures moves { Moves (λ s. scan s (members_view body.now.entries))
         (Stands (D.state disk.old) tables.old) (D.state disk.old) (D.state disk.new) result }
+    ensures disk { Reads (D.state disk.old) (D.state disk.new) }
 {
     let _ = moment;
     let broken = bodies::scan(body);

@@ -16,20 +16,25 @@ pub(crate) fn is_mismatched(body: &Map<String, Value>) -> bool
     is_projection_odd(body) || is_select_odd(body)
 }
 
-/// There is a projection, and Select says something else.
+/// There is a projection, as an expression or as a list of names.
+fn gives_parts(body: &Map<String, Value>) -> bool
+    ensures { result ≡ machine.gives_parts (members_view body.now.entries) }
+{
+    is_given(body, "ProjectionExpression") || is_given(body, "AttributesToGet")
+}
+
+/// There is one, and Select says something else.
 fn is_projection_odd(body: &Map<String, Value>) -> bool
     ensures { result ≡ machine.is_projection_odd (members_view body.now.entries) }
 {
-    is_given(body, "ProjectionExpression")
-        && is_given(body, "Select")
-        && !selects(body, "SPECIFIC_ATTRIBUTES")
+    gives_parts(body) && is_given(body, "Select") && !selects(body, "SPECIFIC_ATTRIBUTES")
 }
 
 /// Select asks for what isn't there: a projection, or an index.
 fn is_select_odd(body: &Map<String, Value>) -> bool
     ensures { result ≡ machine.is_select_odd (members_view body.now.entries) }
 {
-    (selects(body, "SPECIFIC_ATTRIBUTES") && !is_given(body, "ProjectionExpression"))
+    (selects(body, "SPECIFIC_ATTRIBUTES") && !gives_parts(body))
         || (selects(body, "ALL_PROJECTED_ATTRIBUTES") && !is_given(body, "IndexName"))
 }
 

@@ -4,7 +4,8 @@ ghost use Rattle.std.specs.Prelude.{◌≡◌, ◌<◌, IfSome, length, option_m
 ghost use Rattle.alt_machine.specs.Sources as machine;
 ghost use Rattle.alt_schema.specs.Indexes.{indexes};
 
-use alt_schema::{IndexSchema, KeyAttr, TableSchema, index_at, is_key};
+use alt_schema::{IndexSchema, KeyAttr, TableSchema};
+use alt_views::{index_at, is_key};
 
 /// The index of that number; where no number is told, the table itself is read.
 pub(crate) fn index_of(schema: &TableSchema, number: Option<usize>) -> Option<&IndexSchema>

@@ -7,9 +7,9 @@ ghost use Rattle.alt_expr.specs.Pages.{ends_early};
 ghost use Rattle.alt_machine.specs.Sources.{index_at};
 ghost use Rattle.alt_machine.specs.State.{State, Table};
 ghost use Rattle.alt_machine.specs.Walks.{items_between};
-ghost use Rattle.alt_ops_query.specs.Filled.{HasExamined, HasFilled, Examines, Steps};
-ghost use Rattle.alt_ops_query.specs.Ranges.{IsBeyond, place_in};
-ghost use Rattle.alt_ops_query.specs.Stops.{IsFault, IsUnfailed, IfErrFailed};
+ghost use Rattle.alt_ops_query.specs.private.Filled.{HasExamined, HasFilled, Examines, Steps};
+ghost use Rattle.alt_ops_query.specs.private.Ranges.{IsBeyond, place_in};
+ghost use Rattle.alt_ops_query.specs.private.Stops.{IsFault, IsUnfailed, IfErrFailed};
 ghost use Rattle.alt_paging.specs.Offered.{has_ended};
 ghost use Rattle.alt_paging.specs.declared.ask.PageAsk.{PageAsk};
 ghost use Rattle.alt_request.specs.Steps.{IsMemory};
@@ -29,9 +29,12 @@ use alt_paging::Pager;
 use alt_request::Stop;
 use alt_schema::{IndexSchema, TableSchema};
 use alt_tables::{TableFault, Tables};
-use alt_value::Item;
+use alt_value::{Item, item_size_within};
 use alt_views::{index_place, place_of};
 use std::alloc::Global;
+
+/// How many items are asked for at once where they are small.
+const AHEAD: u32 = 64;
 
 /// A page that is being filled, and the last item that was examined for it.
 #[derive(Drop)]
@@ -41,7 +44,7 @@ pub(crate) struct Filling {
 }
 
 /// Examines the items of a table, or of its index of that number, in a range, from its front on or from its end down, until the page ends
-/// or the range does. It asks for no more items than are certain to be examined, so it never goes past the last of them.
+/// or the range does.
 pub(crate) fn fill<D: Disk>(
     alloc: Global,
     tables: &mut Tables,
@@ -114,7 +117,7 @@ fn step<D: Disk>(
     ensures disk { Reads (D.state disk.old) (D.state disk.new) }
     ensures failed { IfErrFailed result (Rose (D.state disk.old).faults (D.state disk.new).faults) }
 {
-    let most = filling.pager.certain(LARGEST_ITEM);
+    let most = next_count(filling);
     let mut items = Vec::new(alloc);
     tables.rows(disk, table, index, &range, forward, most, &mut items)?;
     let got = items.len();
@@ -135,6 +138,29 @@ fn step<D: Disk>(
     ) {
         Ok(rest) => Ok(Some(rest)),
         Err(stop) => Err(stop),
+    }
+}
+
+/// How many items to ask for next: as many as are certain to be examined, or as would be if all were as small as the last one, but
+/// then 64 at most, which may have 25 MB. What the page doesn't reach is let go.
+fn next_count(filling: &Filling) -> u32
+    requires going { has_ended filling.now.pager ≡ false }
+    ensures some { 0 < result }
+{
+    let certain = filling.pager.certain(LARGEST_ITEM);
+    match &filling.last {
+        Some(last) => certain.max(filling.pager.certain(size_of(last)).min(AHEAD)),
+        None => certain,
+    }
+}
+
+/// The bytes of an item, and 1 of an empty one.
+fn size_of(item: &Item) -> u64
+    ensures some { 0 < result }
+{
+    match item_size_within(item, LARGEST_ITEM) {
+        Some(size) => size.max(1),
+        None => LARGEST_ITEM,
     }
 }
 

@@ -24,7 +24,7 @@ use Rattle.alt_tables.specs.Images.{Leaves}
 use Rattle.alt_request.specs.Steps.{Tested}
 use Rattle.alt_request.specs.declared.stop.Stop.{Stop}
 use Rattle.alt_request.specs.declared.stop.Stop.TheVariants.{Refused, Fault}
-use Rattle.alt_ops_table.specs.Asked.{IsToBeMade, IsAsked}
+use Rattle.alt_ops_table.specs.private.Asked.{IsToBeMade, IsAsked}
 use Rattle.alt_tables.specs.Faults.{AreMade, BreakOff}
 use Rattle.alt_tables.specs.Stands.{Stands, catalog_of, number_of, family_of}
 use Rattle.alt_tables.specs.declared.tables.Tables.{Tables}

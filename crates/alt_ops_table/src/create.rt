@@ -3,7 +3,7 @@
 ghost use Rattle.std.specs.Prelude.{◌≡◌, ◌+◌, ◌<◌, ◌≤◌, IfOk};
 ghost use Rattle.serde_json.specs.View.{members_view};
 ghost use Rattle.alt_machine.specs.Ops.CreateTable.{shows, mismatched, of_stream, of_body, create_table};
-ghost use Rattle.alt_ops_table.specs.Asked.{IsAsked};
+ghost use Rattle.alt_ops_table.specs.private.Asked.{IsAsked};
 ghost use Rattle.alt_request.specs.Carried.{Carries, Moves};
 ghost use Rattle.alt_request.specs.Steps.{Tested};
 ghost use Rattle.alt_shape.specs.Shape.{given};

@@ -16,7 +16,8 @@ use std::alloc::Global;
 
 static RULES: Rules = Rules {
     legacy: &[],
-    unbuilt: &[],
+    texts: &[],
+    joined: &[],
     named: &["TableName"],
 };
 

@@ -17,7 +17,8 @@ use std::alloc::Global;
 
 static RULES: Rules = Rules {
     legacy: &[],
-    unbuilt: &[],
+    texts: &[],
+    joined: &[],
     named: &["TableName"],
 };
 

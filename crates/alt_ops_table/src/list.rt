@@ -24,7 +24,8 @@ use std::alloc::Global;
 
 static RULES: Rules = Rules {
     legacy: &[],
-    unbuilt: &[],
+    texts: &[],
+    joined: &[],
     named: &["ExclusiveStartTableName"],
 };
 

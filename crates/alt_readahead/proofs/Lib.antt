@@ -1,4 +1,3 @@
-pub mod Converted
 pub mod Loops
 pub mod Payloads
 pub mod Putting

@@ -5,7 +5,7 @@ use Rattle.json.specs.Token.{Token}
 use Rattle.json.proofs.Grammar.{read_key-shorter}
 use Rattle.serde_json.specs.Data.{Data, Items, no_items, item, Members, no_members, put}
 use Rattle.serde_json.specs.Read.{of_json, of_items, of_members, converted}
-use Rattle.alt_readahead.proofs.Converted.{item_read, items_over, none_before, member_read, members_over}
+use Rattle.alt_named.proofs.Converted.{item_read, items_over, none_before, member_read, members_over}
 use Rattle.alt_value.specs.Item.{with_pair}
 use Rattle.alt_value.specs.Tree.{Tree, Pair}
 use Rattle.alt_codec.specs.declared.fault.ValueFault.{ValueFault}

@@ -10,7 +10,7 @@ use Rattle.json.specs.Token.{Token}
 use Rattle.json.proofs.Grammar.{value_is, value-begin_array, value-begin_object, skip_value-shorter, left}
 use Rattle.serde_json.specs.Data.{Data, null, boolean, number, string, array, object, Items, no_items, item, Members, no_members, member}
 use Rattle.serde_json.specs.Read.{of_json, of_items, of_members, converted}
-use Rattle.alt_readahead.proofs.Converted.{converted_some, converted-array, converted-object, member_read, members_over}
+use Rattle.alt_named.proofs.Converted.{converted_some, converted-array, converted-object, member_read, members_over}
 use Rattle.alt_decimal.specs.NumberText.{ReadsAs}
 use Rattle.alt_value.specs.declared.attr.Attr.{Attr}
 use Rattle.alt_value.specs.Members.{set_of}

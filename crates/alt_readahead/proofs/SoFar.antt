@@ -8,6 +8,7 @@ use Rattle.alt_codec.specs.Reading.{item_in}
 use Rattle.alt_value.specs.Tree.{Pair}
 use Rattle.alt_readahead.specs.Ahead.{SameOthers, IsReadSoFar}
 use Rattle.alt_readahead.specs.Direct.{IsReadAhead}
+use Rattle.alt_named.specs.Named.{is_among}
 use Rattle.alt_shape.specs.Shape.{unless_null, given}
 
 -- ---- what is given, with a member more
@@ -34,49 +35,71 @@ given-put_both q k d ms bs same =
 
 -- ---- what was read so far, with a member more
 
--- the same member was put to both
-others-put : (k : List ℕ) (d : Data) (ms bs : Members) → SameOthers ms bs
-    → SameOthers (put k d ms) (put k d bs)
-others-put k d ms bs same = λ q other. given-put_both q k d ms bs (same q other)
+module _ (names : List (List ℕ)) where
+  -- the same member was put to both
+  others-put : (k : List ℕ) (d : Data) (ms bs : Members) → SameOthers names ms bs
+      → SameOthers names (put k d ms) (put k d bs)
+  others-put k d ms bs same = λ q named other. given-put_both q k d ms bs (same q named other)
 
--- whatever was put at the item's name
-others-put_item : (k : List ℕ) (d e : Data) (ms bs : Members) → k ≡ codes "Item"
-    → SameOthers ms bs → SameOthers (put k d ms) (put k e bs)
-others-put_item k d e ms bs is same = λ q other.
-    let apart : q ≢ k = λ h. other (h ∙ is) in
-    given-put_other q k d ms apart ∙ same q other ∙ sym (given-put_other q k e bs apart)
+  -- a member was passed
+  others-pass : (k : List ℕ) (d : Data) (ms bs : Members) → is_among names k ≡ false
+      → SameOthers names ms bs → SameOthers names (put k d ms) bs
+  others-pass k d ms bs apart same = λ q named other.
+      let differs : q ≢ k = λ is. true≢false (sym named ∙ ap (is_among names) is ∙ apart) in
+      given-put_other q k d ms differs ∙ same q named other
 
--- the other members are the same, with the item or without it
-others_so_far : (ms bs : Members) (item : Option (List Pair)) → IsReadSoFar ms bs item
-    → SameOthers ms bs
-others_so_far ms bs None h = h
-others_so_far ms bs (Some i) h = h.others
+  -- whatever was put at the item's name
+  others-put_item : (k : List ℕ) (d e : Data) (ms bs : Members) → k ≡ codes "Item"
+      → SameOthers names ms bs → SameOthers names (put k d ms) (put k e bs)
+  others-put_item k d e ms bs is same = λ q named other.
+      let apart : q ≢ k = λ h. other (h ∙ is) in
+      given-put_other q k d ms apart ∙ same q named other ∙ sym (given-put_other q k e bs apart)
 
--- a member that isn't the item
-pub so_far-put : (k : List ℕ) (d : Data) (bs : Members) (item : Option (List Pair))
-    → k ≢ codes "Item" → (ms : Members) → IsReadSoFar ms bs item
-    → IsReadSoFar (put k d ms) (put k d bs) item
-so_far-put k d bs None other ms h = others-put k d ms bs h
-so_far-put k d bs (Some i) other ms h =
-    let apart : codes "Item" ≢ k = λ is. other (sym is) in
-    record {
-      others = others-put k d ms bs h.others;
-      read = (h.read.0, given-put_other _ k d ms apart ∙ h.read.1, h.read.2);
-      stub = given-put_other _ k d bs apart ∙ h.stub;
-    }
+  -- the other members are the same, with the item or without it
+  others_so_far : (ms bs : Members) (item : Option (List Pair)) → IsReadSoFar names ms bs item
+      → SameOthers names ms bs
+  others_so_far ms bs None h = h
+  others_so_far ms bs (Some i) h = h.others
 
--- the item
-pub so_far-item : (k : List ℕ) (os : Members) (i : List Pair) (bs : Members)
-    (item : Option (List Pair)) → k ≡ codes "Item" → item_in 32 (object os) ≡ Ok i → (ms : Members)
-    → IsReadSoFar ms bs item
-    → IsReadAhead (put k (object os) ms) (put k (object no_members) bs) i
-so_far-item k os i bs item is reads ms h = record {
-  others = others-put_item k (object os) (object no_members) ms bs is (others_so_far ms bs item h);
-  read = (
-    os,
-    ap (λ n. given n (put k (object os) ms)) (sym is) ∙ given-put k (object os) ms,
-    reads,
-  );
-  stub = ap (λ n. given n (put k (object no_members) bs)) (sym is)
-      ∙ given-put k (object no_members) bs;
-}
+  -- a member that isn't the item
+  pub so_far-put : (k : List ℕ) (d : Data) (bs : Members) (item : Option (List Pair))
+      → k ≢ codes "Item" → (ms : Members) → IsReadSoFar names ms bs item
+      → IsReadSoFar names (put k d ms) (put k d bs) item
+  so_far-put k d bs None other ms h = others-put k d ms bs h
+  so_far-put k d bs (Some i) other ms h =
+      let apart : codes "Item" ≢ k = λ is. other (sym is) in
+      record {
+        others = others-put k d ms bs h.others;
+        read = (h.read.0, given-put_other _ k d ms apart ∙ h.read.1, h.read.2);
+        stub = given-put_other _ k d bs apart ∙ h.stub;
+      }
+
+  -- one that is passed
+  pub so_far-pass : (k : List ℕ) (d : Data) (bs : Members) (item : Option (List Pair))
+      → k ≢ codes "Item" → is_among names k ≡ false → (ms : Members)
+      → IsReadSoFar names ms bs item → IsReadSoFar names (put k d ms) bs item
+  so_far-pass k d bs None other passed ms h = others-pass k d ms bs passed h
+  so_far-pass k d bs (Some i) other passed ms h =
+      let apart : codes "Item" ≢ k = λ is. other (sym is) in
+      record {
+        others = others-pass k d ms bs passed h.others;
+        read = (h.read.0, given-put_other _ k d ms apart ∙ h.read.1, h.read.2);
+        stub = h.stub;
+      }
+
+  -- the item
+  pub so_far-item : (k : List ℕ) (os : Members) (i : List Pair) (bs : Members)
+      (item : Option (List Pair)) → k ≡ codes "Item" → item_in 32 (object os) ≡ Ok i
+      → (ms : Members) → IsReadSoFar names ms bs item
+      → IsReadAhead names (put k (object os) ms) (put k (object no_members) bs) i
+  so_far-item k os i bs item is reads ms h = record {
+    others = others-put_item k (object os) (object no_members) ms bs is
+        (others_so_far ms bs item h);
+    read = (
+      os,
+      ap (λ n. given n (put k (object os) ms)) (sym is) ∙ given-put k (object os) ms,
+      reads,
+    );
+    stub = ap (λ n. given n (put k (object no_members) bs)) (sym is)
+        ∙ given-put k (object no_members) bs;
+  }

@@ -1,6 +1,6 @@
-//! A body with its item read ahead: the item straight from the text, and the other members as JSON trees.
+//! A body with its item read ahead: the item straight from the text, and other members, of some names, as JSON trees.
 
-ghost use Rattle.std.specs.Prelude.{◌≡◌, ◌<◌, length, Some, IfOk, IfSome, OnOk};
+ghost use Rattle.std.specs.Prelude.{◌≡◌, ◌<◌, length, map, Some, IfOk, IfSome, OnOk};
 ghost use Rattle.json.specs.Json.{value, members};
 ghost use Rattle.serde_json.specs.Data.{Data, Members, no_members, put};
 ghost use Rattle.serde_json.specs.Read.{of_json, of_members, converted};
@@ -10,8 +10,8 @@ ghost use Rattle.alt_readahead.specs.Direct.{IsReadAhead, SaysObject};
 
 use crate::direct::item_ahead;
 use crate::tokens::{Unread, open_object};
-use crate::trees::tree_ahead;
 use alt_base::NoMemory;
+use alt_named::{is_among, pass, tree};
 use alt_value::Item;
 use json::{Reader, Scratch};
 use serde_json::{Map, Value};
@@ -21,22 +21,26 @@ use std::alloc::Global;
 /// How many arrays and objects may stand within one another in a member, as `serde_json` has it: 127 in the body.
 const LEVELS: usize = 126;
 
-/// The members of a body, with an empty object in the place of the item, and the item.
+/// Members of a body, with an empty object in the place of the item, and the item.
 #[derive(Drop)]
 pub struct ReadAhead {
     pub members: Map<String, Value>,
     pub item: Item,
 }
 
-/// A body whose item is read straight from the text. `None` where it has to be read the long way.
-pub fn read_ahead(alloc: Global, bytes: &[u8]) -> Result<Option<ReadAhead>, NoMemory>
+/// A body whose item is read straight from the text, with its members of these names. `None` where it has to be read the long way.
+pub fn read_ahead(
+    alloc: Global,
+    names: &[&str],
+    bytes: &[u8],
+) -> Result<Option<ReadAhead>, NoMemory>
     ensures body { IfOk result (λ o. IfSome o (λ b. (ms : Members) × SaysObject bytes.now ms
-        × IsReadAhead ms (members_view b.members.entries) b.item)) }
+        × IsReadAhead (map (λ w. w.now) names.now) ms (members_view b.members.entries) b.item)) }
 {
     let Ok(text) = from_utf8(bytes) else {
         return Ok(None);
     };
-    match text_ahead(alloc, text) {
+    match text_ahead(alloc, names, text) {
         Ok(body) => Ok(Some(body)),
         Err(Unread::Otherwise) => Ok(None),
         Err(Unread::NoMemory) => Err(NoMemory),
@@ -44,14 +48,14 @@ pub fn read_ahead(alloc: Global, bytes: &[u8]) -> Result<Option<ReadAhead>, NoMe
 }
 
 /// The same of a text.
-fn text_ahead(alloc: Global, text: &str) -> Result<ReadAhead, Unread>
+fn text_ahead(alloc: Global, names: &[&str], text: &str) -> Result<ReadAhead, Unread>
     ensures body { IfOk result (λ b. (ms : Members) × SaysObject text.now ms
-        × IsReadAhead ms (members_view b.members.entries) b.item) }
+        × IsReadAhead (map (λ w. w.now) names.now) ms (members_view b.members.entries) b.item) }
 {
     let mut scratch = Scratch::new(alloc);
     let mut reader = Reader::new(text, &mut scratch)?;
     open_object(&mut reader)?;
-    let body = body_ahead(alloc, &mut reader)?;
+    let body = body_ahead(alloc, names, &mut reader)?;
     if reader.next().is_some() {
         return Err(Unread::Otherwise);
     }
@@ -59,16 +63,16 @@ fn text_ahead(alloc: Global, text: &str) -> Result<ReadAhead, Unread>
 }
 
 /// The same of the tokens behind the first brace.
-fn body_ahead(alloc: Global, reader: &mut Reader<'_>) -> Result<ReadAhead, Unread>
+fn body_ahead(alloc: Global, names: &[&str], reader: &mut Reader<'_>) -> Result<ReadAhead, Unread>
     ensures body { IfOk result (λ b. (ms : Members)
         × (converted (λ os. of_members os no_members)
         (members (value 126) (length reader.old) reader.old) ≡ Some (ms, reader.new))
-        × IsReadAhead ms (members_view b.members.entries) b.item) }
+        × IsReadAhead (map (λ w. w.now) names.now) ms (members_view b.members.entries) b.item) }
 {
     let mut members = Map::new(alloc);
     let mut item = None;
     'members: while let Some(name) = reader.next_key()? {
-        member_ahead(alloc, reader, name, &mut members, &mut item)?;
+        member_ahead(alloc, names, reader, name, &mut members, &mut item)?;
     }
     match item {
         Some(item) => Ok(ReadAhead { members, item }),
@@ -76,9 +80,10 @@ fn body_ahead(alloc: Global, reader: &mut Reader<'_>) -> Result<ReadAhead, Unrea
     }
 }
 
-/// Reads the member of a name, and puts it to those found.
+/// Reads the member of a name, and puts it to those found, or reads past it.
 fn member_ahead(
     alloc: Global,
+    names: &[&str],
     reader: &mut Reader<'_>,
     name: &str,
     found: &mut Map<String, Value>,
@@ -86,7 +91,7 @@ fn member_ahead(
 ) -> Result<(), Unread>
     ensures member { OnOk result ((d : Data)
         × (converted of_json (value 126 reader.old) ≡ Some (d, reader.new))
-        × Adds name.now d (members_view found.old.entries) item.old
+        × Adds (map (λ w. w.now) names.now) name.now d (members_view found.old.entries) item.old
         (members_view found.new.entries) item.new) }
     ensures shorter { OnOk result (length reader.new < length reader.old) }
 {
@@ -96,7 +101,11 @@ fn member_ahead(
         put(alloc, found, name, Value::Object(Map::new(alloc)))?;
         return Ok(());
     }
-    let value = tree_ahead(alloc, reader, LEVELS)?;
+    if !is_among(names, name) {
+        pass(reader, LEVELS)?;
+        return Ok(());
+    }
+    let value = tree(alloc, reader, LEVELS)?;
     put(alloc, found, name, value)?;
     Ok(())
 }

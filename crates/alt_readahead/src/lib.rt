@@ -1,4 +1,4 @@
-//! An item straight from the text of a body, without a JSON tree of it; the body's other members are read to trees.
+//! An item straight from the text of a body, without a JSON tree of it; of the body's other members those of some names are read to trees.
 #![tactic(auto)]
 
 mod ahead;
@@ -6,6 +6,5 @@ mod direct;
 mod flat_ahead;
 mod sets_ahead;
 mod tokens;
-mod trees;
 
 pub use ahead::{ReadAhead, read_ahead};

@@ -32,6 +32,15 @@ impl<T: Drop> From<AllocFailed<T>> for Unread {
     }
 }
 
+impl From<alt_named::Unread> for Unread {
+    fn from(unread: alt_named::Unread) -> Self {
+        match unread {
+            alt_named::Unread::Refused => Unread::Otherwise,
+            alt_named::Unread::NoMemory => Unread::NoMemory,
+        }
+    }
+}
+
 impl From<Invalid> for Unread {
     fn from(_: Invalid) -> Self {
         Unread::Otherwise

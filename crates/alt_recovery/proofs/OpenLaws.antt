@@ -1,24 +1,22 @@
 -- Row files that were opened, and why one wasn't.
 use Rattle.std.specs.FinMap.Entries.{is_sorted}
-use Rattle.std.proofs.Common.{T, ◌≡◌, ◌<◌, ◌+◌, ◌∷◌, ◌++◌, inl, inr, ℕ, zero, suc, true, false, List, [], length, take, get_or, Option, Some, refl, sym, ap, subst, ◌∙◌, arith}
+use Rattle.std.proofs.Common.{T, ◌≡◌, ◌<◌, ◌≤◌, ◌+◌, ◌∷◌, ◌++◌, inl, inr, ℕ, zero, suc, List, [], length, take, get_or, Option, Some, refl, sym, ap, subst, ◌∙◌, arith}
 use Rattle.std.proofs.lemmas.List.{take_more}
 use Rattle.std.specs.FinMap.{entries, from_sorted, entries-from_sorted}
 use Rattle.alt_cells.specs.Keys.{key_cmp}
-use Rattle.alt_cells.specs.Walks.{IsDamaged, RowMap}
-use Rattle.alt_cells.specs.declared.source.SourceFault.{SourceFault}
-use Rattle.alt_cells.specs.declared.source.SourceFault.TheVariants as source
+use Rattle.alt_cells.specs.Walks.{RowMap}
 use Rattle.alt_disk.specs.Disk.{DiskState}
 use Rattle.alt_disk.specs.Runs.{Quiet}
 use Rattle.alt_layout.specs.Files.{Image}
 use Rattle.alt_manifest.specs.Versions.{IsIn}
 use Rattle.alt_rowfile.specs.Format.{Entry}
 use Rattle.alt_rowfile.specs.InHand.{Reads, file_of}
+use Rattle.alt_rowfile.specs.Summaries.{latest_of}
 use Rattle.alt_rowfile.specs.declared.fault.RowFileFault.{RowFileFault}
 use Rattle.alt_rowfile.specs.declared.fault.RowFileFault.TheVariants.{Damaged}
 use Rattle.alt_rowfile.specs.declared.rowfile.RowFile.{RowFile}
-use Rattle.alt_recovery.specs.Late.{has_late}
-use Rattle.alt_recovery.specs.Opening.{AreOpened, IsOpened, ExplainsOpening, ExplainsRows, rows_fault}
-use Rattle.alt_recovery.proofs.LateLaws.{rows_early, rows_late}
+use Rattle.alt_rowfile.proofs.LatestLaws.{latest_early, latest_late}
+use Rattle.alt_recovery.specs.Opening.{AreOpened, IsOpened, ExplainsOpening, ExplainsRows}
 
 -- A row file in hand reads as rows by their keys.
 pub record ReadsMap (s : DiskState) (file : RowFile) : Type 0 where
@@ -45,22 +43,22 @@ reads_while a b file rows same reads = record {
   as_file = reads.as_file;
 }
 
--- it has no late row
-pub opened_early : (a b : DiskState) (f flushed : ℕ) (file : RowFile) (map : ReadsMap a file)
-    → file_of file ≡ f → Quiet a b → false ≡ has_late flushed (entries map.rows)
-    → (m : RowMap) × IsOpened b flushed f file m
-opened_early a b f flushed file map named quiet none = (
+-- its greatest timestamp isn't above the flushed number
+pub opened_early : (s : DiskState) (f flushed : ℕ) (file : RowFile) (map : ReadsMap s file)
+    → file_of file ≡ f → latest_of (entries map.rows) ≤ flushed
+    → (m : RowMap) × IsOpened s flushed f file m
+opened_early s f flushed file map named early = (
   map.rows,
   record {
     named = named;
-    reads = reads_while a b file (entries map.rows) (quiet.file (file_of file)) map.reads;
-    past = rows_early flushed map.rows (sym none);
+    reads = map.reads;
+    past = latest_early (flushed + 1) map.rows (omega (arith, early));
   },
 )
 
--- it has one
+-- it is
 pub opened_late : (a b : DiskState) (f flushed : ℕ) (file : RowFile) (map : ReadsMap b file)
-    → file_of file ≡ f → Quiet a b → true ≡ has_late flushed (entries map.rows)
+    → file_of file ≡ f → Quiet a b → flushed < latest_of (entries map.rows)
     → ExplainsRows f flushed (a.file f) (Damaged f 0)
 opened_late a b f flushed file map named quiet late = inr (
   refl,
@@ -74,16 +72,9 @@ opened_late a b f flushed file map named quiet late = inr (
       file = map.reads.as_file.file;
       are = map.reads.as_file.are;
     };
-    late = rows_late flushed map.rows (sym late);
+    late = latest_late (flushed + 1) map.rows (omega arith) (omega (arith, late));
   },
 )
-
--- a walk over it fails without damage
-pub walk_explains : (f flushed : ℕ) (file : Option (List ℕ)) (fault : SourceFault)
-    → (IsDamaged fault → ⊥) → ExplainsRows f flushed file (rows_fault fault)
-walk_explains f flushed file (source.Damaged g at) sound = absurd (sound tt)
-walk_explains f flushed file source.Failed sound = inr tt
-walk_explains f flushed file source.NoMemory sound = inr tt
 
 -- ---- several of them
 

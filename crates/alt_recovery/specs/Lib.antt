@@ -1,7 +1,6 @@
 pub mod Entries
 pub mod Families
 pub mod Flushed
-pub mod Late
 pub mod Opening
 pub mod Others
 pub mod Replays

@@ -2,8 +2,6 @@
 use Rattle.std.specs.Prelude.{◌≡◌, ◌⊎◌, ◌+◌, ℕ, List, [], ◌∷◌, Option, Some}
 use Rattle.std.specs.FinMap.{entries}
 use Rattle.alt_cells.specs.Walks.{RowMap}
-use Rattle.alt_cells.specs.declared.source.SourceFault.{SourceFault}
-use Rattle.alt_cells.specs.declared.source.SourceFault.TheVariants as source
 use Rattle.alt_disk.specs.Disk.{DiskState, bytes_or_none}
 use Rattle.alt_layout.specs.Families.{IsMapBelow}
 use Rattle.alt_layout.specs.Files.{Image}
@@ -55,9 +53,3 @@ ExplainsRows f flushed file fault = ExplainsFile f (bytes_or_none file) fault
 abbrev pub ExplainsOpening : Image → List ℕ → ℕ → RowFileFault → Type 0
 ExplainsOpening image files flushed fault =
     (f : ℕ) × IsIn files f × ExplainsRows f flushed (image f) fault
-
--- A fault of a walk over rows, as one of the opening.
-abbrev pub rows_fault : SourceFault → RowFileFault
-rows_fault (source.Damaged file at) = Damaged file at
-rows_fault source.Failed = Failed
-rows_fault source.NoMemory = NoMemory

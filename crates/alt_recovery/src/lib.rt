@@ -4,14 +4,13 @@
 mod entries;
 mod families;
 mod flushed;
-mod late;
+mod next;
 mod open;
-mod others;
 mod replay;
 
 pub use entries::{LoggedWrite, read_entry};
 pub use families::open_families;
 pub use flushed::flushed_numbers;
+pub use next::next_file;
 pub use open::open_files;
-pub use others::{next_file, remove_others};
 pub use replay::{Replay, replay_segments};

@@ -5,11 +5,8 @@ ghost use Rattle.alt_base.specs.Counts.{Rose};
 ghost use Rattle.alt_cells.specs.Walks.{RowMap};
 ghost use Rattle.alt_disk.specs.Disk.{Goes};
 ghost use Rattle.alt_disk.specs.Runs.{Quiet};
-ghost use Rattle.alt_recovery.specs.Opening.{AreOpened, IsOpened, ExplainsOpening, ExplainsRows, rows_fault};
+ghost use Rattle.alt_recovery.specs.Opening.{AreOpened, IsOpened, ExplainsOpening, ExplainsRows};
 
-use crate::late::has_late;
-use alt_base::NoMemory;
-use alt_cells::SourceFault;
 use alt_disk::Disk;
 use alt_rowfile::{RowFile, RowFileFault};
 use std::alloc::Global;
@@ -69,19 +66,8 @@ fn open_file<D: Disk>(
         Ok(file) => file,
         Err(fault) => return Err(fault),
     };
-    match has_late(disk, &file, flushed) {
-        Ok(false) => Ok(file),
-        Ok(true) => Err(RowFileFault::Damaged { file: f, at: 0 }),
-        Err(fault) => Err(rows_fault(fault)),
+    if file.latest() > flushed {
+        return Err(RowFileFault::Damaged { file: f, at: 0 });
     }
-}
-
-fn rows_fault(fault: SourceFault) -> RowFileFault
-    ensures { result ≡ rows_fault fault }
-{
-    match fault {
-        SourceFault::Damaged { file, at } => RowFileFault::Damaged { file, at },
-        SourceFault::Failed => RowFileFault::Failed,
-        SourceFault::NoMemory => RowFileFault::NoMemory,
-    }
+    Ok(file)
 }

@@ -16,7 +16,7 @@ use Rattle.alt_machine.specs.Targets.{on_item, IsPlaced}
 use Rattle.alt_machine.specs.Valid.{IsStored}
 use Rattle.alt_machine.proofs.Tests.{passed, stopped}
 use Rattle.alt_request.specs.Carried.{Does, Moves}
-use Rattle.alt_request.specs.Decided.{Works}
+use Rattle.alt_request.specs.private.Decided.{Works}
 use Rattle.alt_request.specs.ItemWrites.{Writer, IsAsked, LeavesStored, of_body, changes, writes_item}
 use Rattle.alt_request.specs.Steps.{Tested}
 use Rattle.alt_request.specs.Targets.{IsAtHand, OnItem, IsAt}

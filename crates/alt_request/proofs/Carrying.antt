@@ -1,5 +1,5 @@
 -- How an operation ends: refused, with a fault before it writes, with an answer, or as its write did.
-use Rattle.std.proofs.Common.{◌≡◌, refl, sym, ap, subst, ◌∙◌, ℕ, false, List, [], Option, Some, Result, Ok, Err, IfOk, IfErr, Bor}
+use Rattle.std.proofs.Common.{◌≡◌, refl, sym, ap, subst, ◌∙◌, ℕ, false, List, Option, Some, Result, Ok, Err, IfOk, IfErr, Bor}
 use Rattle.std.specs.Result.{IsErr, IsErrAnd}
 use Rattle.std.specs.FinMap as map
 use Rattle.serde_json.specs.Data.{Members}

@@ -1,5 +1,5 @@
 -- What a write comes to is what was decided, once it is known what is at its place.
-use Rattle.std.proofs.Common.{◌≡◌, refl, sym, ap, subst, ◌∙◌, ℕ, Bool, true, false, List, Option, Some, Result, Ok, Err}
+use Rattle.std.proofs.Common.{◌≡◌, refl, sym, ap, subst, ◌∙◌, ℕ, Bool, true, false, List, Option, Some, None, Result, Ok, Err}
 use Rattle.std.specs.Prelude.{codes, if◌then◌else◌}
 use Rattle.std.specs.FinMap as map
 use Rattle.serde_json.specs.Data.{Members}
@@ -11,7 +11,7 @@ use Rattle.alt_machine.specs.Outcomes.{Outcome, says, writes, with_found}
 use Rattle.alt_machine.specs.Replies.{item_answer}
 use Rattle.alt_machine.specs.State.{State, Table}
 use Rattle.alt_machine.specs.Writes.{item_writes}
-use Rattle.alt_request.specs.Decided.{Decision, tells, leaves, left_or_told, decision, comes_to, Decides}
+use Rattle.alt_request.specs.private.Decided.{Decision, tells, leaves, left_or_told, decision, comes_to, Decides}
 use Rattle.alt_request.specs.ItemWrites.{Writer, changes}
 use Rattle.alt_request.specs.Steps.{Comes, IsMemory}
 use Rattle.alt_request.specs.declared.stop.Stop.{Stop}
@@ -73,6 +73,28 @@ decided_left w ms d said item old new a e = by_met (meets said.condition old) e
         ≡ leaves new a → w.leaves d said item old ≡ Ok new
     by_met true f = by_left (w.leaves d said item old) _ f
     by_met false f = absurd (let g : ⊥ = cc in g)
+
+-- and it is answered with the status 200
+pub left_answered : (w : Writer) (ms : Members) (d : TableSchema) (said : Expressions)
+    (item : List Pair) (old new : Option (List Pair)) (a : Answer)
+    → decision w ms d said item old ≡ leaves new a → a.status ≡ 200
+left_answered w ms d said item old new a e =
+    by_met (meets said.condition old) (w.leaves d said item old) e
+  where
+    shown_well : (o : Option (List Pair)) → (item_answer (codes "Attributes") o).status ≡ 200
+    shown_well None = refl
+    shown_well (Some i) = refl
+
+    by_met : (b : Bool) (r : Result (Option (List Pair)) Answer)
+        → (if b then left_or_told r
+        (λ x. item_answer (codes "Attributes") (w.shows ms said old x))
+        else tells (failed (asked (codes "ReturnValuesOnConditionCheckFailure") ms old)))
+        ≡ leaves new a → a.status ≡ 200
+    by_met true (Ok x) f =
+        let same : item_answer (codes "Attributes") (w.shows ms said old x) ≡ a = cc in
+        sym (ap (λ (b : Answer). b.status) same) ∙ shown_well (w.shows ms said old x)
+    by_met true (Err b) f = absurd (let g : ⊥ = cc in g)
+    by_met false r f = absurd (let g : ⊥ = cc in g)
 
 -- ---- the steps of the decision
 

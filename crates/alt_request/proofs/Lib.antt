@@ -2,6 +2,7 @@ pub mod Asking
 pub mod Carrying
 pub mod Listing
 pub mod Named
+pub mod OlderSaid
 pub mod Reaching
 pub mod Said
 pub mod Walks

@@ -7,7 +7,7 @@ use Rattle.alt_disk.specs.Disk.{DiskState}
 use Rattle.alt_expr.specs.Given as expr
 use Rattle.alt_machine.specs.declared.Expressions.{Expressions}
 use Rattle.alt_machine.specs.Expressions as machine
-use Rattle.alt_machine.specs.Lists.{start_at, on_list, IsListed}
+use Rattle.alt_machine.specs.Lists.{start_given, on_list, IsListed}
 use Rattle.alt_machine.specs.Members.{table_name}
 use Rattle.alt_machine.specs.Outcomes.{Outcome}
 use Rattle.alt_machine.specs.Refusals.{first_answer, or_refused}
@@ -58,7 +58,7 @@ module _ (tests : List (Option Answer)) (texts : machine.Texts) (catalog : Texts
 
   module _ (g : expr.Given) (words : machine.given_at texts ms ≡ Ok g) where
     pub list_no_start : (e : Stop)
-        → Comes {X = Option (List Pair)} (λ key. key) (start_at ms) (Err e)
+        → Comes {X = Option (List Pair)} (λ key. key) (start_given texts ms) (Err e)
         → OnList tests texts catalog ms (Err e)
     list_no_start (Refused q) h = (
       h.1,
@@ -66,7 +66,7 @@ module _ (tests : List (Option Answer)) (texts : machine.Texts) (catalog : Texts
     )
     list_no_start (Fault f) h = h
 
-    module _ (start : Option (List Pair)) (read : start_at ms ≡ Ok start) where
+    module _ (start : Option (List Pair)) (read : start_given texts ms ≡ Ok start) where
       pub list_no_table : (e : Stop) → Comes {X = Bor TableSchema} (λ d. d.now)
           (or_refused not_found (map.get catalog (table_name ms))) (Err e)
           → OnList tests texts catalog ms (Err e)

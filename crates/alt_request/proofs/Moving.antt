@@ -25,7 +25,8 @@ use Rattle.alt_request.specs.declared.targets.Target.{Target}
 use Rattle.alt_schema.specs.declared.schema.TableSchema.{TableSchema}
 use Rattle.alt_shape.specs.Refusals.{Answer}
 use Rattle.alt_shape.specs.declared.refusal.Reply.{Reply}
-use Rattle.alt_tables.specs.Faults.{IsReadFault, WantsMemory}
+use Rattle.alt_faults.proofs.Telling.{memory-else, outside-by, outside-more}
+use Rattle.alt_tables.specs.Faults.{IsReadFault, WantsMemory, told_by_tables}
 use Rattle.alt_tables.specs.declared.faults.TableFault.{TableFault}
 use Rattle.alt_tables.specs.declared.faults.TableFault.TheVariants.{Spent, Damaged, BadRow, Failed, NoMemory}
 use Rattle.alt_tables.specs.Images.{Leaves}
@@ -39,11 +40,7 @@ use Rattle.alt_tables.proofs.Left.{reads_nothing, leaves_reads, leaves_after, re
 
 -- a fault that is want of memory is no failure of the device
 pub unfailed_fault : (f : TableFault) (P : Type 0) → IsReadFault f → WhereFailed f P
-unfailed_fault (Spent n) P h = absurd h
-unfailed_fault (Damaged file at) P h = absurd h
-unfailed_fault (BadRow family key) P h = absurd h
-unfailed_fault Failed P h = absurd h
-unfailed_fault NoMemory P h = tt
+unfailed_fault f P h = memory-else P (Unit {0}) (told_by_tables f) h tt
 
 -- a call whose failure has its cause
 pub failed_fault : {A : Type 0} (f : TableFault) (P : Type 0)
@@ -85,11 +82,8 @@ module _ (P : Type 0) where
 
 -- what holds of a failure may be weakened
 failed_in : (f : TableFault) (P Q : Type 0) → (P → Q) → WhereFailed f P → WhereFailed f Q
-failed_in (Spent n) P Q leads h = tt
-failed_in (Damaged file at) P Q leads h = tt
-failed_in (BadRow family key) P Q leads h = tt
-failed_in Failed P Q leads h = leads h
-failed_in NoMemory P Q leads h = tt
+failed_in f P Q leads h =
+    outside-more P Q (Unit {0}) (Unit {0}) leads (λ u. u) (told_by_tables f) h
 
 -- and so may what holds where a result is a failure
 pub failed_on : (r : Result Reply Stop) (P Q : Type 0) → (P → Q) → IfFailed r P → IfFailed r Q
@@ -105,18 +99,18 @@ rose_on a b c goes rose = grind (arith, goes.faults, rose)
 
 -- every result allows what is true
 pub refused_by : (r : Result Reply Stop) (P : Type 0) → P → IfRefused r P
-refused_by (Ok reply) P p = tt
+refused_by (Ok reply) P p = λ told. p
 refused_by (Err (Refused r)) P p = p
 refused_by (Err (Fault f)) P p = tt
+
+-- and a reply that tells no refusal allows all
+pub unrefused : (reply : Reply) (P : Type 0) → reply.status ≡ 200 → IfRefused (Ok reply) P
+unrefused reply P well = λ told. absurd (omega (arith, well, told))
 
 -- ---- what is left where memory was wanting
 
 wanting_in : (f : TableFault) (P : Type 0) → P → WhereWanting f P
-wanting_in (Spent n) P p = tt
-wanting_in (Damaged file at) P p = tt
-wanting_in (BadRow family key) P p = tt
-wanting_in Failed P p = tt
-wanting_in NoMemory P p = p
+wanting_in f P p = outside-by (Unit {0}) P (told_by_tables f) tt p
 
 -- every result allows what is true
 pub wanting_by : (r : Result Reply Stop) (P : Type 0) → P → IfWanting r P

@@ -56,7 +56,7 @@ module _ (tests : List (Option Answer)) (sought : Sought) (texts : machine.Texts
 
   item-unplaced : (free : first_answer tests ≡ None) (item : List Pair)
       (read : item_at (member_of sought) ms ≡ Ok item) (g : expr.Given)
-      (words : machine.given_at texts ms ≡ Ok g) (t : Table)
+      (words : machine.words_given texts ms ≡ Ok g) (t : Table)
       (there : map.get s.tables (table_name ms) ≡ Some t) (said : Expressions)
       (says_so : machine.expressions texts t.description ms g ≡ Ok said) (a : Answer)
       → place_that_fits sought t.description item ≡ Err a
@@ -105,7 +105,7 @@ module _ (tests : List (Option Answer)) (sought : Sought) (texts : machine.Texts
     (catalog : Texts TableSchema) (ms : Members) (free : first_answer tests ≡ None)
     (item : List Pair) (read : item_at (member_of sought) ms ≡ Ok item) where
   -- where no words are given, the item isn't reached
-  pub no_words : (e : Stop) → Comes {X = Given} given_of (machine.given_at texts ms) (Err e)
+  pub no_words : (e : Stop) → Comes {X = Given} given_of (machine.words_given texts ms) (Err e)
       → OnItem tests sought texts catalog ms (Err e)
   no_words (Refused q) h = (
     h.1,
@@ -113,7 +113,7 @@ module _ (tests : List (Option Answer)) (sought : Sought) (texts : machine.Texts
   )
   no_words (Fault f) h = h
 
-  module _ (g : expr.Given) (words : machine.given_at texts ms ≡ Ok g) where
+  module _ (g : expr.Given) (words : machine.words_given texts ms ≡ Ok g) where
     pub no_table : (e : Stop) → Comes {X = Bor TableSchema} (λ d. d.now)
         (or_refused not_found (map.get catalog (table_name ms))) (Err e)
         → OnItem tests sought texts catalog ms (Err e)

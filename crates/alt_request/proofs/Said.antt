@@ -15,7 +15,7 @@ use Rattle.alt_expr.specs.declared.values.Values.{Values}
 use Rattle.alt_machine.specs.declared.Expressions.{Expressions}
 use Rattle.alt_machine.specs.Expressions as machine
 use Rattle.alt_machine.specs.Refusals.{first_answer, refuse_by, unless_answer}
-use Rattle.alt_machine.proofs.Spoken.{keys_said, condition_said, update_said, paths_said, expressions-no_keys, expressions-no_condition, expressions-no_update, expressions-no_paths, expressions-key_update, expressions-unused, expressions-said, are_given}
+use Rattle.alt_machine.proofs.Spoken.{keys_said, condition_said, update_said, paths_said, texts_say-no_keys, texts_say-no_condition, texts_say-no_update, texts_say-no_paths, texts_say-key_update, texts_say-unused, texts_say-said, are_given}
 use Rattle.alt_request.specs.Steps.{Comes}
 use Rattle.alt_request.specs.Words.{IsFresh, given_of, names_refusal, names_in, earlier, has_more, all_stated}
 use Rattle.alt_request.specs.declared.words.Given.{Given}
@@ -93,7 +93,7 @@ pub record EachSaid (texts : machine.Texts) (d : TableSchema) (ms : Members) (g 
 module _ (texts : machine.Texts) (d : TableSchema) (ms : Members) (g : expr.Given) where
   -- a text that is refused refuses them all
   first_unsaid : (a : Answer) → all_stated texts ms g ≡ Err a
-      → machine.expressions texts d ms g ≡ Err a
+      → machine.texts_say texts d ms g ≡ Err a
   first_unsaid a = by (keys_said texts d ms g) refl (condition_said texts d ms g) refl
       (update_said texts d ms g) refl (paths_said texts d ms g) refl
     where
@@ -101,23 +101,23 @@ module _ (texts : machine.Texts) (d : TableSchema) (ms : Members) (g : expr.Give
           → (c : Result (Option Cond) Answer) → condition_said texts d ms g ≡ c
           → (u : Result (Option (List Action)) Answer) → update_said texts d ms g ≡ u
           → (p : Result (Option (List (List PathPart))) Answer) → paths_said texts d ms g ≡ p
-          → behind k c u p ≡ Err a → machine.expressions texts d ms g ≡ Err a
-      by (Err b) is c is_c u is_u p is_p e = expressions-no_keys texts d ms g a
+          → behind k c u p ≡ Err a → machine.texts_say texts d ms g ≡ Err a
+      by (Err b) is c is_c u is_u p is_p e = texts_say-no_keys texts d ms g a
           (is ∙ ap (λ x. Err x) (let f : b ≡ a = cc in f))
-      by (Ok k) is (Err b) is_c u is_u p is_p e = expressions-no_condition texts d ms g k is a
+      by (Ok k) is (Err b) is_c u is_u p is_p e = texts_say-no_condition texts d ms g k is a
           (is_c ∙ ap (λ x. Err x) (let f : b ≡ a = cc in f))
       by (Ok k) is (Ok c) is_c (Err b) is_u p is_p e =
-          expressions-no_update texts d ms g k is c is_c a
+          texts_say-no_update texts d ms g k is c is_c a
           (is_u ∙ ap (λ x. Err x) (let f : b ≡ a = cc in f))
       by (Ok k) is (Ok c) is_c (Ok u) is_u (Err b) is_p e =
-          expressions-no_paths texts d ms g k is c is_c u is_u a
+          texts_say-no_paths texts d ms g k is c is_c u is_u a
           (is_p ∙ ap (λ x. Err x) (let f : b ≡ a = cc in f))
       by (Ok k) is (Ok c) is_c (Ok u) is_u (Ok p) is_p e = absurd (let f : ⊥ = cc in f)
 
-  -- what stops the texts stops the expressions
+  -- what stops the texts stops all of them
   pub unsaid : (stop : Stop)
       → Comes {X = Expressions} (λ e. e) (all_stated texts ms g) (Err stop)
-      → Comes {X = Expressions} (λ e. e) (machine.expressions texts d ms g) (Err stop)
+      → Comes {X = Expressions} (λ e. e) (machine.texts_say texts d ms g) (Err stop)
   unsaid (Refused r) h = (first_unsaid (refused r) h.0, h.1)
   unsaid (Fault f) h = h
 
@@ -147,10 +147,10 @@ module _ (texts : machine.Texts) (d : TableSchema) (ms : Members) (old : Given) 
     (stated : all_stated texts ms (given_of old) ≡ Ok e) where
   -- an update of a key attribute
   pub said_key_update : machine.changes_key d e.update ≡ true
-      → machine.expressions texts d ms (given_of old) ≡ Err (refused key_update)
+      → machine.texts_say texts d ms (given_of old) ≡ Err (refused key_update)
   said_key_update key =
       let each = each_said texts d ms (given_of old) e stated in
-      expressions-key_update texts d ms (given_of old) e.key_condition each.keys e.condition
+      texts_say-key_update texts d ms (given_of old) e.key_condition each.keys e.condition
       each.condition e.update each.update e.projection each.paths key
 
   module _ (fresh : IsFresh ms old) (names : Names) (values : Values)
@@ -172,16 +172,16 @@ module _ (texts : machine.Texts) (d : TableSchema) (ms : Members) (old : Given) 
 
     -- a word that stands in no text
     pub said_unused : has_more names values ≡ true
-        → machine.expressions texts d ms (given_of old) ≡ Err (refused unused_name)
+        → machine.texts_say texts d ms (given_of old) ≡ Err (refused unused_name)
     said_unused more =
         let each = each_said texts d ms (given_of old) e stated in
-        expressions-unused texts d ms (given_of old) e.key_condition each.keys e.condition
+        texts_say-unused texts d ms (given_of old) e.key_condition each.keys e.condition
         each.condition e.update each.update e.projection each.paths apart (sym unused_is ∙ more)
 
     -- neither
     pub said_all : has_more names values ≡ false
-        → machine.expressions texts d ms (given_of old) ≡ Ok e
+        → machine.texts_say texts d ms (given_of old) ≡ Ok e
     said_all more =
         let each = each_said texts d ms (given_of old) e stated in
-        expressions-said texts d ms (given_of old) e.key_condition each.keys e.condition
+        texts_say-said texts d ms (given_of old) e.key_condition each.keys e.condition
         each.condition e.update each.update e.projection each.paths apart (sym unused_is ∙ more)

@@ -1,12 +1,11 @@
 -- What the texts of a body state, each by what its parser answers.
 use Rattle.std.proofs.Common.{◌≡◌, refl, sym, ap, ◌∙◌, ◌++◌, ℕ, true, List, [], ◌∷◌, Option, Some, None, Result, Ok, Err, arith}
 use Rattle.serde_json.specs.Data.{Members}
-use Rattle.alt_expr.specs.Faults.{Language, Parsed, KeepsNames}
+use Rattle.alt_expr.specs.Faults.{Language, Parsed}
 use Rattle.alt_expr.specs.Given as expr
 use Rattle.alt_expr.specs.Given.{with_hashes, with_colons}
 use Rattle.alt_expr.specs.Languages.{projections}
-use Rattle.alt_expr.specs.Lookups.{given_by, names_alone}
-use Rattle.alt_expr.specs.NamesGiven.{given_values}
+use Rattle.alt_expr.specs.Lookups.{names_alone}
 use Rattle.alt_expr.specs.PathGrammar.{plain, hashed, StepPhrase, dotted, indexed, PathPhrase, path, step_toks, steps_toks, path_toks, between_toks}
 use Rattle.alt_expr.specs.PathsGrammar.{PathsPhrase, paths}
 use Rattle.alt_expr.specs.Told.{Told}
@@ -14,11 +13,9 @@ use Rattle.alt_expr.specs.Tokens.{Tok, hash, colon, mark}
 use Rattle.alt_expr.specs.declared.cond.Cond.{Cond}
 use Rattle.alt_expr.specs.declared.fault.ExprFault.{ExprFault}
 use Rattle.alt_expr.specs.declared.fault.ExprFault.TheVariants as fault
-use Rattle.alt_expr.specs.declared.names.Names.{Names}
 use Rattle.alt_expr.specs.declared.path.PathPart.{PathPart}
 use Rattle.alt_expr.specs.declared.token.Mark.TheVariants as m
 use Rattle.alt_expr.specs.declared.update.Action.{Action}
-use Rattle.alt_expr.specs.declared.values.Values.{Values}
 use Rattle.alt_expr.proofs.CondTexts.{condition_of}
 use Rattle.alt_expr.proofs.Once.{tokens_once}
 use Rattle.alt_expr.proofs.PathsTexts.{paths_of}
@@ -76,15 +73,6 @@ module _ {D A : Type 0} (L : Language D A)
     omega arith,
   )
   read_err fault.NoMemory h = tt
-
--- a text is the same over names and values that are kept
-pub given_kept : (old new : Names) (before after : Values) → KeepsNames old new
-    → given_values after ≡ given_values before → given_by new after ≡ given_by old before
-given_kept old new before after keeps kept = λ i. record { names = keeps.names i; values = kept i }
-
--- what is kept twice is kept
-pub keeps_on : (a b c : Names) → KeepsNames a b → KeepsNames b c → KeepsNames a c
-keeps_on a b c h k = record { names = k.names ∙ h.names; empty = k.empty ∙ h.empty }
 
 module _ {D A : Type 0} (L : Language D A)
     (told : (g : expr.Given) (text : List ℕ) → Told L g text) (g h : expr.Given) (same : g ≡ h)
@@ -146,34 +134,6 @@ module _ (texts : machine.Texts) (ms : Members) (g : expr.Given) where
       → Comes {X = Expressions} (λ e. e) (all_stated texts ms g) (Err stop)
   no_keys (Refused r) h = (ap (λ k. behind k condition_at update_at paths_at) h.0, h.1)
   no_keys (Fault f) h = h
-
-  module _ (keys : Option Cond) (asks : keys_at ≡ Ok keys) where
-    -- the condition is refused
-    pub no_condition : (stop : Stop) → Comes {X = Option Cond} (λ c. c) condition_at (Err stop)
-        → Comes {X = Expressions} (λ e. e) (all_stated texts ms g) (Err stop)
-    no_condition (Refused r) h = (λ i. behind (asks i) (h.0 i) update_at paths_at, h.1)
-    no_condition (Fault f) h = h
-
-    module _ (condition : Option Cond) (said : condition_at ≡ Ok condition) where
-      -- the update is refused
-      pub no_update : (stop : Stop)
-          → Comes {X = Option (List Action)} (λ u. u) update_at (Err stop)
-          → Comes {X = Expressions} (λ e. e) (all_stated texts ms g) (Err stop)
-      no_update (Refused r) h = (λ i. behind (asks i) (said i) (h.0 i) paths_at, h.1)
-      no_update (Fault f) h = h
-
-      module _ (update : Option (List Action)) (updates : update_at ≡ Ok update) where
-        -- the projection is refused
-        pub no_paths : (stop : Stop)
-            → Comes {X = Option (List (List PathPart))} (λ p. p) paths_at (Err stop)
-            → Comes {X = Expressions} (λ e. e) (all_stated texts ms g) (Err stop)
-        no_paths (Refused r) h = (λ i. behind (asks i) (said i) (updates i) (h.0 i), h.1)
-        no_paths (Fault f) h = h
-
-        -- none is
-        pub all_four : (projection : Option (List (List PathPart))) → paths_at ≡ Ok projection
-            → all_stated texts ms g ≡ Ok (with_all keys condition update projection)
-        all_four projection shows = λ i. behind (asks i) (said i) (updates i) (shows i)
 
 -- ---- their words
 

@@ -6,12 +6,12 @@ use Rattle.alt_disk.specs.Disk.{DiskState, Goes}
 use Rattle.alt_machine.specs.Outcomes.{Outcome, a_number}
 use Rattle.alt_machine.specs.State.{State, Table}
 use Rattle.alt_machine.specs.Writes.{item_writes}
-use Rattle.alt_request.specs.Decided.{Decision, leaves, comes_to, Decides, Works}
+use Rattle.alt_request.specs.private.Decided.{Decision, leaves, comes_to, Decides, Works}
 use Rattle.alt_request.specs.declared.deciding.Decided.TheVariants.{Told, Left}
 use Rattle.alt_request.specs.declared.stop.Stop.{Stop}
 use Rattle.alt_request.specs.declared.stop.Stop.TheVariants.{Refused, Fault}
 use Rattle.alt_request.proofs.Carrying.{refused_so, faulted, unfound, said, broke_off, wrote}
-use Rattle.alt_request.proofs.Moving.{reads_move, writes_move, failed_fault, unfailed_fault, unwritten_wants, wanting_fault}
+use Rattle.alt_request.proofs.Moving.{reads_move, writes_move, failed_fault, unfailed_fault, unrefused, unwritten_wants, wanting_fault}
 use Rattle.alt_shape.specs.Refusals.{answer_of}
 use Rattle.alt_shape.specs.declared.refusal.Reply.{Reply}
 use Rattle.alt_tables.specs.Faults.{AreMade, BreakOff, IsFindFault}
@@ -79,12 +79,12 @@ module _ (outcome : State → Outcome) (old now : State → Type 0) (tables : Ta
         -- it was written
         pub works_wrote : ((s : State) → old s
             → AreMade now a_number s (item_writes s moment name t place new))
-            → Works outcome old now before after (Ok reply)
-        works_wrote made = record {
+            → reply.status ≡ 200 → Works outcome old now before after (Ok reply)
+        works_wrote made well = record {
           carries = wrote outcome old now reply h.1 a_number
               (λ s o. (item_writes s moment name t place new, comes s o, made s o));
           moves = writes_move outcome old tables before stood read after (Ok reply) reads goes
-              leaves_so tt tt (λ s o. tt);
+              leaves_so (unrefused reply _ well) tt (λ s o. tt);
         }
 
         -- the write broke off

@@ -14,9 +14,10 @@ use Rattle.alt_shape.specs.Body.{body_json}
 use Rattle.alt_shape.specs.Refusals.{Answer, answer_of, refused, IsKnown}
 use Rattle.alt_shape.specs.declared.refusal.Refusal.{Refusal}
 use Rattle.alt_shape.specs.declared.refusal.Reply.{Reply}
-use Rattle.alt_tables.specs.Faults.{BreakOff, WantsMemory}
+use Rattle.alt_faults.specs.Faults.{Outside}
+use Rattle.alt_tables.specs.Faults.{BreakOff, WantsMemory, told_by_tables}
 use Rattle.alt_tables.specs.declared.faults.TableFault.{TableFault}
-use Rattle.alt_tables.specs.declared.faults.TableFault.TheVariants.{Spent, Damaged, BadRow, Failed, NoMemory}
+use Rattle.alt_tables.specs.declared.faults.TableFault.TheVariants.{NoMemory}
 
 -- Below, `old` and `now` say for which states the tables stand before and after a call.
 
@@ -59,19 +60,15 @@ pub record Carries (outcome : State → Outcome) (old now : State → Type 0)
 
 -- ---- the disk
 
--- of a refusal this holds
+-- of a refusal this holds, and so of a reply whose status tells one
 abbrev pub IfRefused : Result Reply Stop → Type 0 → Type 0
-IfRefused (Ok reply) P = Unit {0}
+IfRefused (Ok reply) P = reply.status ≡ 400 → P
 IfRefused (Err (Refused r)) P = P
 IfRefused (Err (Fault fault)) P = Unit {0}
 
 -- of a failure of the device this holds
 abbrev pub WhereFailed : TableFault → Type 0 → Type 0
-WhereFailed (Spent number) P = Unit {0}
-WhereFailed (Damaged file at) P = Unit {0}
-WhereFailed (BadRow family key) P = Unit {0}
-WhereFailed Failed P = P
-WhereFailed NoMemory P = Unit {0}
+WhereFailed fault P = Outside P (Unit {0}) (told_by_tables fault)
 
 -- so of what stopped an operation
 abbrev pub IfFailed : Result Reply Stop → Type 0 → Type 0
@@ -81,11 +78,7 @@ IfFailed (Err (Fault fault)) P = WhereFailed fault P
 
 -- of want of memory this holds
 abbrev pub WhereWanting : TableFault → Type 0 → Type 0
-WhereWanting (Spent number) P = Unit {0}
-WhereWanting (Damaged file at) P = Unit {0}
-WhereWanting (BadRow family key) P = Unit {0}
-WhereWanting Failed P = Unit {0}
-WhereWanting NoMemory P = P
+WhereWanting fault P = Outside (Unit {0}) P (told_by_tables fault)
 
 -- so of what stopped an operation
 abbrev pub IfWanting : Result Reply Stop → Type 0 → Type 0

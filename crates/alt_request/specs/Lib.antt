@@ -1,7 +1,8 @@
 pub mod Carried
-pub mod Decided
 pub mod ItemWrites
+pub mod Older
 pub mod Reads
 pub mod Steps
 pub mod Targets
 pub mod Words
+pub mod private

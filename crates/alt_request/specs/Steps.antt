@@ -13,7 +13,8 @@ use Rattle.alt_tables.specs.declared.faults.TableFault.TheVariants.{NoMemory}
 abbrev pub rules_of : Rules → machine.Rules
 rules_of rules = record {
   legacy = map (λ w. w.now) rules.legacy.now;
-  unbuilt = map (λ w. w.now) rules.unbuilt.now;
+  texts = map (λ w. w.now) rules.texts.now;
+  joined = map (λ w. w.now) rules.joined.now;
   named = map (λ w. w.now) rules.named.now;
 }
 

@@ -40,7 +40,7 @@ place_that_fits sought d item = or_refused bad_key (place_in sought d item)
 
 -- two bodies say the same beside an item: their names and values, their table and their expressions
 pub record SaySame (texts : machine.Texts) (ms bs : Members) : Type 0 where
-  pub words : machine.given_at texts ms ≡ machine.given_at texts bs
+  pub words : machine.words_given texts ms ≡ machine.words_given texts bs
   pub table : table_name ms ≡ table_name bs
   pub says : (d : TableSchema) (g : Given)
       → machine.expressions texts d ms g ≡ machine.expressions texts d bs g

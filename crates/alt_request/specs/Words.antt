@@ -17,6 +17,7 @@ use Rattle.alt_expr.proofs.UpdateTexts.{update_of}
 use Rattle.alt_machine.specs.declared.Expressions.{Expressions}
 use Rattle.alt_machine.specs.Expressions as machine
 use Rattle.alt_machine.specs.Refusals.{first_answer, unless_answer, ◌>>=◌}
+use Rattle.alt_request.specs.Older.{older_of}
 use Rattle.alt_request.specs.declared.words.Given.{Given}
 use Rattle.alt_request.specs.declared.words.Texts.{Texts}
 use Rattle.alt_request.specs.declared.stop.Stop.{Stop}
@@ -33,6 +34,7 @@ texts_of texts = record {
   condition = option_map (λ w. w.now) texts.condition;
   update = option_map (λ w. w.now) texts.update;
   projection = option_map (λ w. w.now) texts.projection;
+  older = older_of texts.older;
 }
 
 -- the first that is there

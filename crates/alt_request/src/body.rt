@@ -4,7 +4,7 @@ ghost use Rattle.std.specs.Prelude.{◌≡◌, is_some, map as each, IfOk};
 ghost use Rattle.std.specs.List.{list_any, list_all};
 ghost use Rattle.std.specs.FinMap as map;
 ghost use Rattle.serde_json.specs.View.{members_view};
-ghost use Rattle.alt_machine.specs.Body.{body_refusals, paired_refusals};
+ghost use Rattle.alt_machine.specs.Body.{body_refusals, is_mixed, joins_nothing, paired_refusals};
 ghost use Rattle.alt_machine.specs.Members.{gives_any, may_name, table_name};
 ghost use Rattle.alt_machine.specs.Refusals.{or_refused};
 ghost use Rattle.alt_request.specs.Steps.{Comes, Tested, rules_of};
@@ -18,12 +18,13 @@ use alt_shape::{Broken, Refusal, given, text_at};
 use alt_tables::Tables;
 use serde_json::{Map, Value};
 
-/// What an operation says of its members: those of an older interface, those that aren't built yet, and those that name a table or
-/// an index.
+/// What an operation says of its members: those of the older interface, those that are expressions, those whose entries
+/// ConditionalOperator joins, and those that name a table or an index.
 #[derive(Clone, Copy)]
 pub struct Rules {
     pub legacy: &'static [&'static str],
-    pub unbuilt: &'static [&'static str],
+    pub texts: &'static [&'static str],
+    pub joined: &'static [&'static str],
     pub named: &'static [&'static str],
 }
 
@@ -39,11 +40,8 @@ pub fn body_refusal(
     if let Some(broken) = broken {
         return Err(Stop::Refused(Refusal::from(broken)));
     }
-    if gives_any(rules.legacy, body) {
+    if is_mixed(rules, body) {
         return Err(Stop::Refused(Refusal::NOT_TOGETHER));
-    }
-    if gives_any(rules.unbuilt, body) {
-        return Err(Stop::Refused(Refusal::NOT_BUILT));
     }
     if !all_name(rules.named, body) {
         return Err(Stop::Refused(Refusal::BAD_NAME));
@@ -89,6 +87,24 @@ pub(crate) fn table_of<'t>(
     match tables.table(table_name(body)) {
         Some(schema) => Ok(schema),
         None => Err(Stop::Refused(Refusal::NOT_FOUND)),
+    }
+}
+
+/// Whether a member of the older interface stands beside an expression, or ConditionalOperator beside nothing that it joins.
+fn is_mixed(rules: &Rules, body: &Map<String, Value>) -> bool
+    ensures { result ≡ is_mixed (rules_of rules.now) (members_view body.now.entries) }
+{
+    (gives_any(rules.legacy, body) && gives_any(rules.texts, body))
+        || joins_nothing(rules.joined, body)
+}
+
+fn joins_nothing(joined: &[&str], body: &Map<String, Value>) -> bool
+    ensures { result
+        ≡ joins_nothing (each (λ w. w.now) joined.now) (members_view body.now.entries) }
+{
+    match joined {
+        [] => false,
+        _ => is_given(body, "ConditionalOperator") && !gives_any(joined, body),
     }
 }
 

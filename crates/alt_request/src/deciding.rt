@@ -4,7 +4,7 @@
 ghost use Rattle.std.specs.Prelude.{◌≡◌, option_map};
 ghost use Rattle.serde_json.specs.View.{members_view};
 ghost use Rattle.alt_machine.specs.Conditional as machine;
-ghost use Rattle.alt_request.specs.Decided.{Decides, decision, tells};
+ghost use Rattle.alt_request.specs.private.Decided.{Decides, decision, tells};
 ghost use Rattle.alt_request.specs.ItemWrites.{AreSaid};
 
 use crate::replies::asks;

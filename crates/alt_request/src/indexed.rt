@@ -8,8 +8,9 @@ ghost use Rattle.alt_schema.specs.Indexes.{indexes};
 
 use crate::replies::asks;
 use crate::stop::Stop;
-use alt_schema::{Projection, TableSchema, index_at, index_named};
+use alt_schema::{Projection, TableSchema};
 use alt_shape::{Refusal, text_at, truth_at};
+use alt_views::{index_at, index_named};
 use serde_json::{Map, Value};
 
 /// The number of the index at IndexName, none where there is no such member. It is one of the table's, and may be read as the body asks:

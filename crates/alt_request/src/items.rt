@@ -17,11 +17,11 @@ use alt_codec::{ValueFault, item_of_json};
 use alt_decimal::NumberFault;
 use alt_fields::Bytes;
 use alt_machine::{LARGEST_ITEM, Sought};
-use alt_schema::{KeyAttr, TableSchema, index_keys_fit};
+use alt_schema::{KeyAttr, TableSchema};
 use alt_shape::{Refusal, given};
 use alt_tables::TableFault;
 use alt_value::{Attr, Item, item_size_within};
-use alt_views::place_of;
+use alt_views::{index_keys_fit, place_of};
 use serde_json::{Map, Value};
 use std::alloc::Global;
 
@@ -149,7 +149,7 @@ fn byte_count(value: &Attr) -> usize
 }
 
 /// The refusal of a value for its fault.
-fn value_refusal(fault: ValueFault) -> Refusal
+pub(crate) fn value_refusal(fault: ValueFault) -> Refusal
     ensures refusal { result ≡ value_refusal fault }
     ensures known { IsKnown result }
 {

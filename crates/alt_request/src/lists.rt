@@ -4,6 +4,7 @@
 ghost use Rattle.std.specs.Prelude.{◌≡◌, ◌<◌, IfOk, IfSome, length};
 ghost use Rattle.serde_json.specs.View.{members_view};
 ghost use Rattle.alt_machine.specs.Body.{paired_refusals};
+ghost use Rattle.alt_machine.specs.Lists as machine;
 ghost use Rattle.alt_machine.specs.Lists.{start_at};
 ghost use Rattle.alt_request.specs.Steps.{Comes, rules_of};
 ghost use Rattle.alt_request.specs.Targets.{OnList};
@@ -14,6 +15,7 @@ ghost use Rattle.alt_tables.specs.Stands.{catalog_of};
 use crate::body::{Rules, paired_refusal, table_of};
 use crate::indexed::index_asked;
 use crate::items::item_of;
+use crate::older::entries_read;
 use crate::stop::Stop;
 use crate::words::{Texts, expressions, given_at};
 use alt_machine::Expressions;
@@ -53,7 +55,7 @@ pub fn list_target<'t>(
 {
     paired_refusal(broken, mismatched, rules, body)?;
     let given = given_at(alloc, texts, body)?;
-    let start = start_at(alloc, body)?;
+    let start = start_given(alloc, texts, body)?;
     let schema = table_of(tables, body)?;
     let index = index_asked(schema, body)?;
     let said = expressions(alloc, texts, schema, body, given)?;
@@ -63,6 +65,26 @@ pub fn list_target<'t>(
         start,
         said,
     })
+}
+
+/// The key to start after, if one is given, where the values of the body's entries can be read too.
+#[tactic(auto, using(crate::proofs::OlderSaid::unread_first, crate::proofs::OlderSaid::unread_entries, crate::proofs::OlderSaid::read_entries))]
+fn start_given(
+    alloc: Global,
+    texts: &Texts,
+    body: &Map<String, Value>,
+) -> Result<Option<Item>, Stop>
+    ensures read { Comes (λ key. key)
+        (machine.start_given (texts_of texts.now) (members_view body.now.entries)) result }
+{
+    let start = start_at(alloc, body)?;
+    match entries_read(alloc, &texts.older, body) {
+        Ok(()) => Ok(start),
+        Err(stop) => {
+            drop(start);
+            Err(stop)
+        }
+    }
 }
 
 /// The key to start after, if one is given.

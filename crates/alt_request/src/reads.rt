@@ -22,7 +22,7 @@ ghost use Rattle.alt_schema.specs.declared.schema.TableSchema.{TableSchema};
 ghost use Rattle.alt_shape.specs.Body.{body_json};
 ghost use Rattle.alt_shape.specs.Refusals.{Answer, answer_of};
 ghost use Rattle.alt_shape.specs.declared.rule.Broken.{Broken};
-ghost use Rattle.alt_tables.specs.Stands.{AreReady, Stands, catalog_of, limits_of};
+ghost use Rattle.alt_tables.specs.Stands.{AreReady, Reads, Stands, catalog_of, limits_of};
 ghost use Rattle.alt_value.specs.Tree.{Pair};
 
 use crate::body::{Rules, table_name};
@@ -145,6 +145,7 @@ pub fn read_item<R: ItemRead, D: Disk>(
         (members_view body.now.entries)) Key R.texts s
         (members_view body.now.entries) (λ said key t place. finds R.answer said t place))
         (Stands (D.state disk.old) tables.old) (D.state disk.old) (D.state disk.new) result }
+    ensures disk { Reads (D.state disk.old) (D.state disk.new) }
 {
     let broken = read.broken(body);
     let rules = read.rules();
@@ -183,6 +184,7 @@ fn found_reply<R: ItemRead, D: Disk>(
         (λ s. Stands (D.state disk.old) tables.old s
         × (map.get s.tables (table_name (members_view body.now.entries)) ≡ Some t))
         (D.state disk.old) (D.state disk.new) result }
+    ensures disk { Reads (D.state disk.old) (D.state disk.new) }
 {
     let found = tables.find(disk, table_name(body), place)?;
     read.reply(alloc, said, found.item)

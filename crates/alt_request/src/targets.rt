@@ -11,7 +11,7 @@ ghost use Rattle.alt_tables.specs.Stands.{catalog_of};
 use crate::body::{Rules, body_refusal, table_of};
 use crate::items::{item_at, key_fits, place_in};
 use crate::stop::Stop;
-use crate::words::{Texts, expressions, given_at};
+use crate::words::{Texts, expressions, words_given};
 use alt_fields::Bytes;
 use alt_machine::{Expressions, Sought};
 use alt_schema::TableSchema;
@@ -115,7 +115,7 @@ fn target_of_item<'t>(
     ensures target { OnItemRead sought (texts_of texts.now) (catalog_of tables.now)
         (members_view body.now.entries) item result }
 {
-    let given = given_at(alloc, texts, body)?;
+    let given = words_given(alloc, texts, body)?;
     let schema = table_of(tables, body)?;
     let said = expressions(alloc, texts, schema, body, given)?;
     match fitting_place(alloc, sought, schema, &item) {

@@ -10,6 +10,7 @@ ghost use Rattle.alt_request.specs.Words.{IsFresh, AreFreshNames, given_of, text
 
 use crate::items::item_of;
 use crate::key_update::changes_key;
+use crate::older::{Older, entries_read, older_said};
 use crate::stop::Stop;
 use crate::texts::all_stated;
 use alt_expr::{Names, Values};
@@ -20,13 +21,15 @@ use alt_value::Item;
 use serde_json::{Map, Value};
 use std::alloc::Global;
 
-/// The members of an operation that are expressions, each where it takes one. An operation that takes a condition takes values.
+/// The members of an operation that are expressions, each where it takes one, and those that stand in their place. An operation that takes
+/// a condition takes values.
 #[derive(Clone, Copy)]
 pub struct Texts {
     pub key_condition: Option<&'static str>,
     pub condition: Option<&'static str>,
     pub update: Option<&'static str>,
     pub projection: Option<&'static str>,
+    pub older: Older,
 }
 
 impl Texts {
@@ -36,6 +39,7 @@ impl Texts {
         condition: Some("ConditionExpression"),
         update: None,
         projection: None,
+        older: Older::EXPECTED,
     };
 
     /// An update, which may be conditional.
@@ -44,6 +48,7 @@ impl Texts {
         condition: Some("ConditionExpression"),
         update: Some("UpdateExpression"),
         projection: None,
+        older: Older::UPDATES,
     };
 
     /// A read that may show parts.
@@ -52,6 +57,7 @@ impl Texts {
         condition: None,
         update: None,
         projection: Some("ProjectionExpression"),
+        older: Older::NAMES,
     };
 
     /// A Scan, whose condition is a filter.
@@ -60,6 +66,7 @@ impl Texts {
         condition: Some("FilterExpression"),
         update: None,
         projection: Some("ProjectionExpression"),
+        older: Older::SCAN,
     };
 
     /// A Query, which has a condition on keys too.
@@ -68,6 +75,7 @@ impl Texts {
         condition: Some("FilterExpression"),
         update: None,
         projection: Some("ProjectionExpression"),
+        older: Older::QUERY,
     };
 }
 
@@ -88,6 +96,27 @@ pub fn given_at(alloc: Global, texts: &Texts, body: &Map<String, Value>) -> Resu
     let names = names_at(alloc, body)?;
     let values = values_at(alloc, texts, body)?;
     Ok(Given { names, values })
+}
+
+/// The names and values of a body, where the values of its entries can be read too.
+#[tactic(auto, using(crate::proofs::OlderSaid::unread_first, crate::proofs::OlderSaid::unread_entries, crate::proofs::OlderSaid::read_entries))]
+pub(crate) fn words_given(
+    alloc: Global,
+    texts: &Texts,
+    body: &Map<String, Value>,
+) -> Result<Given, Stop>
+    ensures given { Comes given_of (machine.words_given (texts_of texts.now)
+        (members_view body.now.entries)) result }
+    ensures fresh { IfOk result (IsFresh (members_view body.now.entries)) }
+{
+    let given = given_at(alloc, texts, body)?;
+    match entries_read(alloc, &texts.older, body) {
+        Ok(()) => Ok(given),
+        Err(stop) => {
+            drop(given);
+            Err(stop)
+        }
+    }
 }
 
 fn names_at(alloc: Global, body: &Map<String, Value>) -> Result<Names, Stop>
@@ -152,8 +181,8 @@ fn values_at(alloc: Global, texts: &Texts, body: &Map<String, Value>) -> Result<
     Ok(Values::of_item(alloc, item)?)
 }
 
-/// What the expressions of a body say to a table: each text is refused for its first fault, and then all of them, where the update
-/// changes a key attribute, or a name or a value stands in none.
+/// What the expressions of a body say to a table, or members of the older interface in their place.
+#[tactic(auto, using(crate::proofs::OlderSaid::older_unsaid, crate::proofs::OlderSaid::both_said))]
 pub fn expressions(
     alloc: Global,
     texts: &Texts,
@@ -163,6 +192,45 @@ pub fn expressions(
 ) -> Result<Expressions, Stop>
     requires fresh { IsFresh (members_view body.now.entries) given }
     ensures said { Comes (λ e. e) (machine.expressions (texts_of texts.now) schema.now
+        (members_view body.now.entries) (given_of given)) result }
+{
+    let older = older_said(alloc, &texts.older, body)?;
+    if changes_key(schema, &older.update) {
+        drop(older);
+        return Err(Stop::Refused(Refusal::KEY_UPDATE));
+    }
+    match texts_say(alloc, texts, schema, body, given) {
+        Ok(said) => Ok(in_place(older, said)),
+        Err(stop) => {
+            drop(older);
+            Err(stop)
+        }
+    }
+}
+
+/// What members of the older interface say, and else what texts say.
+fn in_place(older: Expressions, said: Expressions) -> Expressions
+    ensures { result ≡ machine.in_place older said }
+{
+    Expressions {
+        key_condition: older.key_condition.or(said.key_condition),
+        condition: older.condition.or(said.condition),
+        update: older.update.or(said.update),
+        projection: older.projection.or(said.projection),
+    }
+}
+
+/// What the texts of a body say to a table: each is refused for its first fault, and then all of them, where the update
+/// changes a key attribute, or a name or a value stands in none.
+fn texts_say(
+    alloc: Global,
+    texts: &Texts,
+    schema: &TableSchema,
+    body: &Map<String, Value>,
+    given: Given,
+) -> Result<Expressions, Stop>
+    requires fresh { IsFresh (members_view body.now.entries) given }
+    ensures said { Comes (λ e. e) (machine.texts_say (texts_of texts.now) schema.now
         (members_view body.now.entries) (given_of given)) result }
 {
     let Given {

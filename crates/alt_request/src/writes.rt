@@ -11,7 +11,7 @@ ghost use Rattle.alt_machine.specs.Replies.{item_answer};
 ghost use Rattle.alt_machine.specs.State.{State, Table};
 ghost use Rattle.alt_machine.specs.Valid.{IsStored};
 ghost use Rattle.alt_request.specs.Carried.{Carries, Moves};
-ghost use Rattle.alt_request.specs.Decided.{Works};
+ghost use Rattle.alt_request.specs.private.Decided.{Works};
 ghost use Rattle.alt_request.specs.ItemWrites.{Writer, AreSaid, IsAsked, LeavesStored, changes, writes_item};
 ghost use Rattle.alt_request.specs.Steps.{Comes, IsMemory, Tested, rules_of};
 ghost use Rattle.alt_request.specs.Words.{texts_of};

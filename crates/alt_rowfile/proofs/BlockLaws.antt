@@ -18,6 +18,9 @@ use Rattle.alt_fields.proofs.Apart.{field-apart, all_append, all_back, flat_map_
 use Rattle.alt_rowfile.specs.Format.{Entry, Mark, entry_bytes, rows_bytes, block_bytes, front, rows_of, first_key, marks_from, IsBlock, IsFull, AreBlocks, IsHeldEntry, IsHeldBlock}
 use Rattle.alt_rowfile.specs.Decoding.{AreRows, StandBefore}
 use Rattle.alt_rowfile.specs.Blocks.{last_key, IsAbove, IsNext, IsNextBlock, IsReadBlock, AreBlocksOf, IsFoundAs}
+use Rattle.alt_rowfile.specs.Summaries.{joined, summary_of}
+use Rattle.alt_rowfile.specs.declared.summary.Summary.{Summary}
+use Rattle.alt_rowfile.proofs.SummaryLaws.{summary-append}
 use Rattle.alt_rowfile.proofs.OneFile.{one_block, block-apart, block_some, length-block, length-entry}
 use Rattle.alt_rowfile.proofs.WriterLaws.{rows_of-push, front-push, length-front, marks-push, is_some}
 use Rattle.alt_rowfile.proofs.DecodeLaws.{rest_of, some_left}
@@ -96,16 +99,18 @@ split_last x (y ∷ rows) = let s = split_last y rows in
 
 -- rows that were read of a block's bytes, all of them, are the next block
 pub block_read : (rows : List Entry) (bytes : List ℕ) (before : ℕ) (f l : Entry)
-    (after : Option (List ℕ)) (is_last : Bool) (one two : List ℕ) (count : ℕ) → AreRows rows
+    (after : Option (List ℕ)) (is_last : Bool) (one two : List ℕ) (count : ℕ) (summary : Summary)
+    → AreRows rows
     → bytes ≡ rows_bytes rows → StandBefore before rows
     → before < 4096 → (is_last ≡ false → 4096 ≤ length bytes) → length bytes < 2 ^ 64
     → Some f ≡ slice_get rows 0 → Some l ≡ slice_get rows (length rows - 1) → IsAbove after f.0
-    → one ≡ f.0 → two ≡ l.0 → count ≡ length rows → (b : List Entry)
-    × IsNextBlock after is_last bytes b × IsReadBlock one two count b
-block_read [] bytes before f l after is_last one two count are is place short full small fst lst
-    above p q n = absurd (let g : ⊥ = cc in g)
+    → one ≡ f.0 → two ≡ l.0 → count ≡ length rows → summary ≡ summary_of rows → (b : List Entry)
+    × IsNextBlock after is_last bytes b × IsReadBlock one two count summary b
+block_read [] bytes before f l after is_last one two count summary are is place short full small fst
+    lst above p q n told = absurd (let g : ⊥ = cc in g)
 block_read (x ∷ rows)
-    bytes before f l after is_last one two count are is place short full small fst lst above p q n =
+    bytes before f l after is_last one two count summary are is place short full small fst lst above
+    p q n told =
     let s = split_last x rows in
     let key : f.0 ≡ x.0 = first_at (x ∷ rows) f fst in (
       x ∷ rows,
@@ -128,6 +133,7 @@ block_read (x ∷ rows)
         last_is = ap (λ (k : List ℕ). Some k) q
             ∙ last_at (x ∷ rows) l lst;
         rows_is = n;
+        summary_is = told;
       },
     )
 
@@ -154,7 +160,7 @@ rows_of-append xs ys = flat_map-append (λ (b : List Entry). b) xs ys
 
 -- The blocks so far, of bytes of which some are left.
 pub record BlocksSoFar (bytes rest : List ℕ) (at : ℕ) (after : Option (List ℕ)) (marks : List Mark)
-    (rows : ℕ) : Type 0 where
+    (rows : ℕ) (summary : Summary) : Type 0 where
   pub blocks : List (List Entry)
   pub is : bytes ≡ flat_map block_bytes blocks ++ rest
   pub each : AllByRecursion IsBlock blocks
@@ -164,7 +170,7 @@ pub record BlocksSoFar (bytes rest : List ℕ) (at : ℕ) (after : Option (List 
   pub rising : T (is_sorted key_cmp (rows_of blocks))
   pub at_is : at ≡ length (front blocks)
   pub after_is : after ≡ last_key (rows_of blocks)
-  pub found : IsFoundAs marks rows blocks
+  pub found : IsFoundAs marks rows summary blocks
 
 -- a block has a first row
 pub block_key : (b : List Entry) → IsBlock b → (e : Entry) × (es : List Entry) × (b ≡ e ∷ es)
@@ -259,10 +265,10 @@ blocks_few (b ∷ blocks) =
     )
 
 -- before the first block none was read
-pub no_blocks_yet : (bytes : List ℕ) (marks : List Mark) → marks ≡ []
-    → BlocksSoFar bytes bytes 8 None marks 0
+pub no_blocks_yet : (bytes : List ℕ) (marks : List Mark) (summary : Summary) → marks ≡ []
+    → summary ≡ summary_of [] → BlocksSoFar bytes bytes 8 None marks 0 summary
 unfolding Rattle.alt_rowfile.specs.Format.header
-no_blocks_yet bytes marks none = record {
+no_blocks_yet bytes marks summary none told = record {
   blocks = [];
   is = refl;
   each = tt;
@@ -272,20 +278,21 @@ no_blocks_yet bytes marks none = record {
   rising = tt;
   at_is = refl;
   after_is = refl;
-  found = record { marks_are = none; rows_is = refl };
+  found = record { marks_are = none; rows_is = refl; summary_is = told };
 }
 
 -- one block more
 pub one_block_more : (bytes rest behind : List ℕ) (at next : ℕ) (after : Option (List ℕ))
-    (marks new : List Mark) (rows count : ℕ) (first last : List ℕ) (b : List Entry)
-    → BlocksSoFar bytes rest at after marks rows
-    → 0 < length rest → IsNext after rest behind b → IsReadBlock first last count b
+    (marks new : List Mark) (rows count : ℕ) (summary more joint : Summary) (first last : List ℕ)
+    (b : List Entry) → BlocksSoFar bytes rest at after marks rows summary
+    → 0 < length rest → IsNext after rest behind b → IsReadBlock first last count more b
     → next ≡ at + (length rest - length behind) → new ≡ marks ++ (at, first) ∷ []
-    → BlocksSoFar bytes behind next (Some last) new (rows + count)
-one_block_more bytes rest behind at next after marks new rows count first last b so_far some n
-    r place added =
+    → joint ≡ joined summary more
+    → BlocksSoFar bytes behind next (Some last) new (rows + count) joint
+one_block_more bytes rest behind at next after marks new rows count summary more joint first last b
+    so_far some n r place added told =
     let key = block_key b n.block in
-    let joined : rows_of (so_far.blocks ++ b ∷ []) ≡ rows_of so_far.blocks ++ b =
+    let joined_rows : rows_of (so_far.blocks ++ b ∷ []) ≡ rows_of so_far.blocks ++ b =
     rows_of-push so_far.blocks b in
     let full = so_far.full some in
     let size : length rest ≡ length (block_bytes b) + length behind = ap length n.is
@@ -298,7 +305,7 @@ one_block_more bytes rest behind at next after marks new rows count first last b
       full = λ more. all_append IsFull so_far.blocks (b ∷ []) full (n.full more, tt);
       cut = cut_push so_far.blocks b so_far.each full n.block;
       held = all_append IsHeldBlock so_far.blocks (b ∷ []) so_far.held (n.held, tt);
-      rising = subst (λ (l : List Entry). T (is_sorted key_cmp l)) (sym joined)
+      rising = subst (λ (l : List Entry). T (is_sorted key_cmp l)) (sym joined_rows)
           (rises so_far.rising n.rising
           (subst (λ (k : Option (List ℕ)). IsAbove k (first_key b)) so_far.after_is n.above)
           key.0 key.1 key.2);
@@ -310,7 +317,7 @@ one_block_more bytes rest behind at next after marks new rows count first last b
         ap length (front-push so_far.blocks b),
         length-append (front so_far.blocks) (block_bytes b),
       );
-      after_is = r.last_is ∙ lasts key.0 key.1 key.2 ∙ ap last_key (sym joined);
+      after_is = r.last_is ∙ lasts key.0 key.1 key.2 ∙ ap last_key (sym joined_rows);
       found = record {
         marks_are = added ∙ (λ i. so_far.found.marks_are i ++ (so_far.at_is i, r.first_is i) ∷ [])
             ∙ ap (λ (k : ℕ). marks_from 8 so_far.blocks ++ (k, first_key b) ∷ [])
@@ -319,9 +326,11 @@ one_block_more bytes rest behind at next after marks new rows count first last b
           arith,
           so_far.found.rows_is,
           r.rows_is,
-          ap length joined,
+          ap length joined_rows,
           length-append (rows_of so_far.blocks) b,
         );
+        summary_is = told ∙ (λ i. joined (so_far.found.summary_is i) (r.summary_is i))
+            ∙ sym (summary-append (rows_of so_far.blocks) b) ∙ ap summary_of (sym joined_rows);
       };
     }
   where
@@ -341,8 +350,8 @@ one_block_more bytes rest behind at next after marks new rows count first last b
         ∙ ap (λ (l : List Entry). last_key (rows_of so_far.blocks ++ l)) (sym same)
 
 -- no block that could be the next, no blocks
-pub no_more_blocks : (bytes rest : List ℕ) (at : ℕ) (after : Option (List ℕ)) (marks : List Mark)
-    (rows : ℕ) → BlocksSoFar bytes rest at after marks rows → 0 < length rest
+pub no_more_blocks : {summary : Summary} (bytes rest : List ℕ) (at : ℕ) (after : Option (List ℕ)) (marks : List Mark)
+    (rows : ℕ) → BlocksSoFar bytes rest at after marks rows summary → 0 < length rest
     → ((b : List Entry) (behind : List ℕ) → IsNext after rest behind b → ⊥)
     → (blocks : List (List Entry)) → AreBlocksOf blocks bytes → ⊥
 no_more_blocks bytes rest at after marks rows so_far some none blocks are =
@@ -386,9 +395,9 @@ no_more_blocks bytes rest at after marks rows so_far some none blocks are =
         })
 
 -- all were read
-pub blocks_read : (bytes rest : List ℕ) (at : ℕ) (after : Option (List ℕ)) (marks : List Mark)
-    (rows : ℕ) → BlocksSoFar bytes rest at after marks rows → length rest ≡ 0
-    → (blocks : List (List Entry)) × AreBlocksOf blocks bytes × IsFoundAs marks rows blocks
+pub blocks_read : {summary : Summary} (bytes rest : List ℕ) (at : ℕ) (after : Option (List ℕ)) (marks : List Mark)
+    (rows : ℕ) → BlocksSoFar bytes rest at after marks rows summary → length rest ≡ 0
+    → (blocks : List (List Entry)) × AreBlocksOf blocks bytes × IsFoundAs marks rows summary blocks
 blocks_read bytes rest at after marks rows so_far none = (
   so_far.blocks,
   record {
@@ -407,10 +416,10 @@ blocks_read bytes rest at after marks rows so_far none = (
     nil (x ∷ l) e = absurd (omega (arith, e))
 
 -- the counts stay within the bytes
-pub counts_fit : (bytes rest behind : List ℕ) (at : ℕ) (after : Option (List ℕ)) (marks : List Mark)
+pub counts_fit : {summary more : Summary} (bytes rest behind : List ℕ) (at : ℕ) (after : Option (List ℕ)) (marks : List Mark)
     (rows count : ℕ) (first last : List ℕ) (b : List Entry)
-    → BlocksSoFar bytes rest at after marks rows
-    → IsNext after rest behind b → IsReadBlock first last count b → (rows + count ≤ length bytes)
+    → BlocksSoFar bytes rest at after marks rows summary
+    → IsNext after rest behind b → IsReadBlock first last count more b → (rows + count ≤ length bytes)
     × (at + (length rest - length behind) ≤ 8 + length bytes) × (length behind < length rest)
 counts_fit bytes rest behind at after marks rows count first last b so_far n r =
     let size : length rest ≡ length (block_bytes b) + length behind = ap length n.is

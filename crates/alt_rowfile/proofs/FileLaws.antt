@@ -9,6 +9,8 @@ use Rattle.alt_rowfile.specs.Blocks.{IsBody}
 use Rattle.alt_rowfile.specs.InHand.{FileAs, ReadsAs}
 use Rattle.alt_disk.specs.Disk.{DiskState, contents, bytes_or_none}
 use Rattle.alt_rowfile.specs.Recovery.{HasDigest, NoRowFile}
+use Rattle.alt_rowfile.specs.Summaries.{summary_of}
+use Rattle.alt_rowfile.specs.declared.summary.Summary.{Summary}
 
 -- a file without its digest is the body of its blocks
 pub body_of_file : (bytes : List ℕ) (blocks : List (List Entry)) → IsFileOf blocks bytes
@@ -31,11 +33,11 @@ body_of_file bytes blocks is =
     }
 
 -- a body with its digest behind it is a file of its blocks' rows
-pub file_of_body : (bytes : List ℕ) (marks : List Mark) (end : ℕ) (blocks : List (List Entry))
-    → HasDigest bytes → IsBody blocks (take (length bytes - 32) bytes) → marks ≡ marks_from 8 blocks
-    → end ≡ length (front blocks)
-    → (rows : List Entry) × FileAs bytes marks end rows
-file_of_body bytes marks end blocks digest is are place = (
+pub file_of_body : (bytes : List ℕ) (marks : List Mark) (end : ℕ) (summary : Summary)
+    (blocks : List (List Entry)) → HasDigest bytes → IsBody blocks (take (length bytes - 32) bytes) → marks ≡ marks_from 8 blocks
+    → end ≡ length (front blocks) → summary ≡ summary_of (rows_of blocks)
+    → (rows : List Entry) × FileAs bytes marks end summary rows
+file_of_body bytes marks end summary blocks digest is are place told = (
   rows_of blocks,
   record {
     blocks = blocks;
@@ -50,6 +52,7 @@ file_of_body bytes marks end blocks digest is are place = (
     are = refl;
     marks_are = are;
     end_is = place;
+    summary_is = told;
   },
 )
 
@@ -66,8 +69,9 @@ there_is None some = absurd (omega (arith, some))
 there_is (Some bytes) some = refl
 
 -- what a file is stays while it reads the same
-pub reads_after : (s t : DiskState) (f : ℕ) (marks : List Mark) (end : ℕ) (rows : List Entry)
-    → t.file f ≡ s.file f → FileAs (contents s f) marks end rows → ReadsAs t f marks end rows
+pub reads_after : {summary : Summary} (s t : DiskState) (f : ℕ) (marks : List Mark) (end : ℕ) (rows : List Entry)
+    → t.file f ≡ s.file f → FileAs (contents s f) marks end summary rows
+    → ReadsAs t f marks end summary rows
 reads_after s t f marks end rows same is =
     let size : 0 < length (contents s f) =
     omega (

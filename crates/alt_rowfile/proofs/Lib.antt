@@ -1,5 +1,7 @@
 pub mod OneFile
 pub mod SinkLaws
+pub mod SummaryLaws
+pub mod LatestLaws
 pub mod WriterLaws
 pub mod Loops
 pub mod TailLaws

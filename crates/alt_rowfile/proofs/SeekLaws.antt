@@ -16,7 +16,7 @@ use Rattle.alt_disk.specs.Disk.{DiskState}
 use Rattle.alt_cells.specs.Keys.{key_cmp}
 use Rattle.alt_cells.proofs.CellLaws.{key_total}
 use Rattle.alt_rowfile.specs.Format.{Entry, rows_of, first_key, AreBlocks}
-use Rattle.alt_rowfile.specs.InHand.{ReadsAs}
+use Rattle.alt_rowfile.specs.InHand.{Reads}
 use Rattle.alt_rowfile.specs.Cut.{IsBelow, IsFrom, CutsAt, IsCutFrom}
 use Rattle.alt_rowfile.specs.Searching.{EndsAt}
 use Rattle.alt_rowfile.specs.Walking.{list_from, LeftAs}
@@ -194,7 +194,7 @@ drop_behind xs b ys n is =
     ∙ drop_at (xs ++ b ∷ []) ys n (omega (arith, is, length-append xs (b ∷ [])))
 
 module _ (s t : DiskState) (file : RowFile) (key : List ℕ) (rows : List Entry)
-    (r : ReadsAs s file.file file.marks.items file.end rows)
+    (r : Reads s file rows)
     (same : t.file file.file ≡ s.file file.file)
     (n i : ℕ) (ends : EndsAt file.marks.items key n) (place : n ≡ i + 1) where
   at : AtBlock r.as_file.blocks i key
@@ -242,7 +242,7 @@ module _ (s t : DiskState) (file : RowFile) (key : List ℕ) (rows : List Entry)
         before = ap (take i) at.is ∙ take_at at.before (at.here ∷ at.behind) i at.size
 
 module _ (s t : DiskState) (file : RowFile) (key : List ℕ) (rows : List Entry)
-    (r : ReadsAs s file.file file.marks.items file.end rows)
+    (r : Reads s file rows)
     (same : t.file file.file ≡ s.file file.file)
     (n i : ℕ) (ends : EndsAt file.marks.items key n) (place : n ≡ i + 1) (block held : List Entry)
     (loaded : block ≡ get_or r.as_file.blocks i []) where
@@ -264,7 +264,7 @@ module _ (s t : DiskState) (file : RowFile) (key : List ℕ) (rows : List Entry)
 
 -- below the first block there is nothing, and all is from there on
 module _ (s t : DiskState) (file : RowFile) (key : List ℕ) (rows : List Entry)
-    (r : ReadsAs s file.file file.marks.items file.end rows)
+    (r : Reads s file rows)
     (same : t.file file.file ≡ s.file file.file)
     (n : ℕ) (ends : EndsAt file.marks.items key n) (none : n ≡ 0) where
   all_from : AllByRecursion (IsFrom key) (rows_of r.as_file.blocks)
@@ -301,7 +301,7 @@ module _ (s t : DiskState) (file : RowFile) (key : List ℕ) (rows : List Entry)
 
 -- with no key all is left
 module _ (s : DiskState) (file : RowFile) (rows : List Entry)
-    (r : ReadsAs s file.file file.marks.items file.end rows) where
+    (r : Reads s file rows) where
   -- upwards from the first block
   pub left_forward : LeftAs s file true 0 [] (list_from rows None true)
   left_forward =

@@ -8,6 +8,7 @@ use Rattle.alt_rowfile.specs.declared.rowfile.RowFile.{RowFile}
 use Rattle.alt_rowfile.proofs.LoadLaws.{length-marks, split_at}
 use Rattle.alt_rowfile.proofs.BlockLaws.{no_block, block_within}
 use Rattle.alt_rowfile.specs.Walking.{rows_ahead, LeftAs}
+use Rattle.alt_rowfile.specs.declared.summary.Summary.{Summary}
 use Rattle.alt_cells.specs.Walks.{Gives}
 use Rattle.alt_rowfile.proofs.WriterLaws.{rows_of-push}
 use Rattle.std.specs.Prelude.{Bool, true, false, Option, Some, None}
@@ -43,8 +44,9 @@ one_less held rest x ahead rows is all = all ∙ ap (λ (l : List Entry). revers
     ∙ ap (λ (l : List Entry). l ++ ahead) (reverse-append rest (x ∷ []))
 
 -- a file that reads the same is the same file
-abbrev pub reads_at : (s t : DiskState) (f : ℕ) (marks : List Mark) (end : ℕ) (rows : List Entry)
-    → t.file f ≡ s.file f → ReadsAs s f marks end rows → ReadsAs t f marks end rows
+abbrev pub reads_at : {summary : Summary} (s t : DiskState) (f : ℕ) (marks : List Mark) (end : ℕ) (rows : List Entry)
+    → t.file f ≡ s.file f → ReadsAs s f marks end summary rows
+    → ReadsAs t f marks end summary rows
 reads_at s t f marks end rows same r =
     record { bytes = r.bytes; there = same ∙ r.there; as_file = r.as_file }
 
@@ -54,13 +56,13 @@ nil_of [] e = refl
 nil_of (x ∷ l) e = absurd (omega (arith, e))
 
 -- there are as many marks as blocks
-pub count_blocks : (s : DiskState) (f : ℕ) (marks : List Mark) (end : ℕ) (rows : List Entry)
-    (r : ReadsAs s f marks end rows) → length marks ≡ length r.as_file.blocks
+pub count_blocks : {summary : Summary} (s : DiskState) (f : ℕ) (marks : List Mark) (end : ℕ) (rows : List Entry)
+    (r : ReadsAs s f marks end summary rows) → length marks ≡ length r.as_file.blocks
 count_blocks s f marks end rows r = ap length r.as_file.marks_are ∙ length-marks 8 r.as_file.blocks
 
 -- no block is empty
-some_block : (s : DiskState) (f : ℕ) (marks : List Mark) (end : ℕ) (rows : List Entry)
-    (r : ReadsAs s f marks end rows) (i : ℕ) → i < length marks → get_or r.as_file.blocks i [] ≡ []
+some_block : {summary : Summary} (s : DiskState) (f : ℕ) (marks : List Mark) (end : ℕ) (rows : List Entry)
+    (r : ReadsAs s f marks end summary rows) (i : ℕ) → i < length marks → get_or r.as_file.blocks i [] ≡ []
     → ⊥
 some_block s f marks end rows r i less none =
     let p = split_at r.as_file.blocks i (omega (arith, less, count_blocks s f marks end rows r)) in

@@ -16,8 +16,11 @@ use Rattle.alt_rowfile.specs.InHand.{StandsAs}
 use Rattle.sha2.specs.Sha256.{sha256}
 use Rattle.alt_disk.proofs.Settled.{synced_settled}
 use Rattle.alt_rowfile.specs.Writing.{piece, IsOpen, WritesAs}
+use Rattle.alt_rowfile.specs.Summaries.{joined, summary_of}
 use Rattle.alt_rowfile.specs.declared.sink.Sink.{Sink}
+use Rattle.alt_rowfile.specs.declared.summary.Summary.{Summary}
 use Rattle.alt_rowfile.proofs.OneFile.{length-entry}
+use Rattle.alt_rowfile.proofs.SummaryLaws.{summary-append}
 
 -- the bytes of rows with one more are theirs, and its own behind them
 pub rows_bytes-push : (rows : List Entry) (e : Entry)
@@ -111,16 +114,17 @@ marks_more closed (x ∷ waiting) e at block marks new place is are set kept =
 
 -- one row more in the open block
 pub row_more : (s : DiskState) (sink : Sink) (block new_block : List ℕ)
-    (marks new_marks : List Mark) (count new_count : ℕ) (closed : List (List Entry))
-    (waiting : List Entry) (e : Entry)
-    → WritesAs s sink block marks count closed waiting → length (rows_bytes waiting) < 4096
+    (marks new_marks : List Mark) (count new_count : ℕ) (summary new_summary : Summary)
+    (closed : List (List Entry)) (waiting : List Entry) (e : Entry)
+    → WritesAs s sink block marks count summary closed waiting → length (rows_bytes waiting) < 4096
     → T (is_sorted key_cmp (rows_of closed ++ (waiting ++ e ∷ []))) → IsHeldEntry e
     → new_block ≡ block ++ entry_bytes e
     → (length block ≡ 0 → new_marks ≡ marks ++ (sink.at, e.0) ∷ [])
     → (0 < length block → new_marks ≡ marks) → new_count ≡ count + 1
-    → WritesAs s sink new_block new_marks new_count closed (waiting ++ e ∷ [])
-row_more s sink block new_block marks new_marks count new_count closed waiting e w short rising held
-    bytes set kept counted = record {
+    → new_summary ≡ joined summary (summary_of (e ∷ []))
+    → WritesAs s sink new_block new_marks new_count new_summary closed (waiting ++ e ∷ [])
+row_more s sink block new_block marks new_marks count new_count summary new_summary closed waiting e
+    w short rising held bytes set kept counted told = record {
       put = w.put;
       blocks = w.blocks;
       held = w.held;
@@ -139,6 +143,9 @@ row_more s sink block new_block marks new_marks count new_count closed waiting e
         length-append waiting (e ∷ []),
         length-append (rows_of closed) waiting,
       );
+      summary_is = told ∙ ap (λ (x : Summary). joined x (summary_of (e ∷ []))) w.summary_is
+          ∙ sym (summary-append (rows_of closed ++ waiting) (e ∷ []))
+          ∙ ap summary_of (append_assoc (rows_of closed) waiting (e ∷ []));
     }
 
 -- a block that has a row is a piece
@@ -147,12 +154,13 @@ piece_some [] b = absurd (omega (arith, ap length b.is, length-append b.rows (b.
 piece_some (x ∷ waiting) b = refl
 
 -- the open block, written
-pub block_more : (s t : DiskState) (sink new_sink : Sink) (block written cleared : List ℕ)
+pub block_more : {summary : Summary} (s t : DiskState) (sink new_sink : Sink) (block written cleared : List ℕ)
     (marks : List Mark) (count : ℕ) (closed : List (List Entry)) (waiting : List Entry)
-    → WritesAs s sink block marks count closed waiting → IsBlock waiting → length block < 2 ^ 64
+    → WritesAs s sink block marks count summary closed waiting → IsBlock waiting
+    → length block < 2 ^ 64
     → written ≡ field block
     → ((done : List ℕ) → IsPut s sink done → IsPut t new_sink (done ++ written)) → cleared ≡ []
-    → WritesAs t new_sink cleared marks count (closed ++ waiting ∷ []) []
+    → WritesAs t new_sink cleared marks count summary (closed ++ waiting ∷ []) []
 unfolding block_bytes
 block_more s t sink new_sink block written cleared marks count closed waiting w is small
     bytes puts none =
@@ -173,6 +181,7 @@ block_more s t sink new_sink block written cleared marks count closed waiting w 
           ∙ ap (λ (p : List (List Entry)). marks_from 8 (closed ++ p)) (piece_some waiting is)
           ∙ ap (marks_from 8) (sym (append-nil (closed ++ waiting ∷ [])));
       count_is = w.count_is ∙ ap length (sym rows);
+      summary_is = w.summary_is ∙ ap summary_of (sym rows);
     }
 
 -- the open block may be the last, with less
@@ -192,33 +201,33 @@ rows_of-piece closed [] = ap rows_of (append-nil closed) ∙ sym (append-nil (ro
 rows_of-piece closed (x ∷ waiting) = rows_of-push closed (x ∷ waiting)
 
 -- what was empty was empty
-pub nothing_waits : (s t : DiskState) (sink : Sink) (block : List ℕ) (marks : List Mark) (count : ℕ)
+pub nothing_waits : {summary : Summary} (s t : DiskState) (sink : Sink) (block : List ℕ) (marks : List Mark) (count : ℕ)
     (closed : List (List Entry)) (waiting : List Entry)
-    → WritesAs s sink block marks count closed waiting → length block ≡ 0
-    → WritesAs s sink block marks count (closed ++ piece waiting) []
-nothing_waits s t sink block marks count closed waiting w none =
+    → WritesAs s sink block marks count summary closed waiting → length block ≡ 0
+    → WritesAs s sink block marks count summary (closed ++ piece waiting) []
+nothing_waits {summary} s t sink block marks count closed waiting w none =
     let empty : waiting ≡ [] = rows_none waiting (omega (arith, none, ap length w.bytes)) in
     let same : closed ++ piece waiting ≡ closed = ap (λ (r : List Entry). closed ++ piece r) empty
     ∙ append-nil closed in
-    subst (λ (c : List (List Entry)). WritesAs s sink block marks count c []) (sym same)
-    (subst (WritesAs s sink block marks count closed) empty w)
+    subst (λ (c : List (List Entry)). WritesAs s sink block marks count summary c []) (sym same)
+    (subst (WritesAs s sink block marks count summary closed) empty w)
 
 -- where the open block has bytes it has a row
-pub something_waits : (s : DiskState) (sink : Sink) (block : List ℕ) (marks : List Mark) (count : ℕ)
+pub something_waits : {summary : Summary} (s : DiskState) (sink : Sink) (block : List ℕ) (marks : List Mark) (count : ℕ)
     (closed : List (List Entry)) (waiting : List Entry)
-    → WritesAs s sink block marks count closed waiting → 0 < length block → IsBlock waiting
+    → WritesAs s sink block marks count summary closed waiting → 0 < length block → IsBlock waiting
     × (piece waiting ≡ waiting ∷ [])
 something_waits s sink block marks count closed [] w some =
     absurd (omega (arith, some, ap length w.bytes))
 something_waits s sink block marks count closed (x ∷ waiting) w some = (w.opens, refl)
 
 -- a file of blocks that lasts stands for its rows
-pub stands_after : (s t : DiskState) (sink : Sink) (block tail : List ℕ) (marks : List Mark)
-    (count : ℕ) (closed : List (List Entry)) → WritesAs s sink block marks count closed []
+pub stands_after : {summary : Summary} (s t : DiskState) (sink : Sink) (block tail : List ℕ) (marks : List Mark)
+    (count : ℕ) (closed : List (List Entry)) → WritesAs s sink block marks count summary closed []
     → AreBlocks closed
     → sink.at ≤ 2 ^ 62 → tail ≡ tail_bytes marks count sink.at
     → Lasts t sink.file ((front closed ++ tail) ++ sha256 (front closed ++ tail))
-    → StandsAs t sink.file marks sink.at (rows_of closed)
+    → StandsAs t sink.file marks sink.at summary (rows_of closed)
 stands_after s t sink block tail marks count closed w cut small is lasts =
     let here : marks ≡ marks_from 8 closed = w.marks_are ∙ ap (marks_from 8) (append-nil closed) in
     let rows : count ≡ length (rows_of closed) = w.count_is
@@ -247,6 +256,7 @@ stands_after s t sink block tail marks count closed w cut small is lasts =
           are = refl;
           marks_are = here;
           end_is = w.put.at;
+          summary_is = w.summary_is ∙ ap summary_of (append-nil (rows_of closed));
         };
       };
       settled = synced_settled t sink.file

@@ -8,7 +8,9 @@ use Rattle.alt_cells.specs.Walks.{SameFiles}
 use Rattle.alt_cells.specs.Keys.{key_cmp}
 use Rattle.alt_rowfile.specs.Format.{Entry, Mark, rows_bytes, front, rows_of, marks_from, IsBlock, IsFull, IsHeldEntry, IsHeldBlock}
 use Rattle.alt_rowfile.specs.Sinks.{IsPut}
+use Rattle.alt_rowfile.specs.Summaries.{summary_of}
 use Rattle.alt_rowfile.specs.declared.sink.Sink.{Sink}
+use Rattle.alt_rowfile.specs.declared.summary.Summary.{Summary}
 use Rattle.alt_rowfile.specs.declared.writer.RowFileWriter.{RowFileWriter}
 
 -- the number of its file
@@ -27,7 +29,7 @@ IsOpen (e ∷ es) = IsBlock (e ∷ es)
 
 -- These blocks were written, and these rows wait in the open one.
 pub record WritesAs (s : DiskState) (sink : Sink) (block : List ℕ) (marks : List Mark) (count : ℕ)
-    (closed : List (List Entry)) (waiting : List Entry) : Type 0 where
+    (summary : Summary) (closed : List (List Entry)) (waiting : List Entry) : Type 0 where
   pub put : IsPut s sink (front closed)
   pub blocks : AllByRecursion IsBlock closed
   pub held : AllByRecursion IsHeldBlock closed
@@ -37,10 +39,12 @@ pub record WritesAs (s : DiskState) (sink : Sink) (block : List ℕ) (marks : Li
   pub bytes : block ≡ rows_bytes waiting
   pub marks_are : marks ≡ marks_from 8 (closed ++ piece waiting)
   pub count_is : count ≡ length (rows_of closed ++ waiting)
+  pub summary_is : summary ≡ summary_of (rows_of closed ++ waiting)
 
 -- the same of a writer, by its parts
 abbrev pub WritesTo : DiskState → RowFileWriter → List (List Entry) → List Entry → Type 0
-WritesTo s w closed waiting = WritesAs s w.sink w.block.items w.marks.items w.count closed waiting
+WritesTo s w closed waiting =
+    WritesAs s w.sink w.block.items w.marks.items w.count w.summary closed waiting
 
 -- The writer has added these rows: full blocks, and an open one that isn't full.
 pub record Writes (s : DiskState) (w : RowFileWriter) (rows : List Entry) : Type 0 where
@@ -80,6 +84,7 @@ writes_on old new w rows same writes = record {
     bytes = writes.to.bytes;
     marks_are = writes.to.marks_are;
     count_is = writes.to.count_is;
+    summary_is = writes.to.summary_is;
   };
   full = writes.full;
   short = writes.short;

@@ -11,24 +11,27 @@ ghost use Rattle.alt_rowfile.specs.Blocks.{IsNext, IsNextBlock, IsReadBlock, Are
 
 use crate::decode::decode;
 use crate::pieces::{bytes_at, fill, number_of};
+use crate::summary::Summary;
 use alt_base::NoMemory;
 use alt_disk::{Disk, DiskFault, Failed};
 use alt_fields::Bytes;
 use std::alloc::Global;
 
-/// What stands of a block in the index, its last key, and how many rows it has.
+/// What stands of a block in the index, its last key, how many rows it has, and their summary.
 #[derive(Drop)]
 pub(crate) struct BlockRead {
     pub(crate) first: Bytes,
     pub(crate) last: Bytes,
     pub(crate) rows: u64,
+    pub(crate) summary: Summary,
 }
 
-/// The places and first keys of blocks, and how many rows they have.
+/// The places and first keys of blocks, how many rows they have, and their summary.
 #[derive(Drop)]
 pub(crate) struct Found {
     pub(crate) marks: Vec<(u64, Bytes)>,
     pub(crate) rows: u64,
+    pub(crate) summary: Summary,
 }
 
 /// The blocks of a file behind its header, up to a place; none where no writer makes them. It holds one of them at a time.
@@ -42,7 +45,7 @@ pub(crate) fn read_blocks<D: Disk>(
     ensures some { IsTrue (D.state disk.old).tells → end ≤ length (contents (D.state disk.old) f)
         → IfOk result (λ o. IfSome o (λ found. (blocks : List (List Entry))
         × AreBlocksOf blocks (drop 8 (take end (contents (D.state disk.old) f)))
-        × IsFoundAs found.marks.items found.rows blocks)) }
+        × IsFoundAs found.marks.items found.rows found.summary blocks)) }
     ensures none { IsTrue (D.state disk.old).tells → end ≤ length (contents (D.state disk.old) f)
         → IfOk result (λ o. IfNone o ((blocks : List (List Entry))
         → AreBlocksOf blocks (drop 8 (take end (contents (D.state disk.old) f))) → ⊥)) }
@@ -56,6 +59,7 @@ pub(crate) fn read_blocks<D: Disk>(
 {
     let mut marks = Vec::new(alloc);
     let mut rows: u64 = 0;
+    let mut summary = Summary::new();
     let mut at: u64 = 8;
     let mut after: Option<Bytes> = None;
     'each: while at < end {
@@ -65,16 +69,22 @@ pub(crate) fn read_blocks<D: Disk>(
                     first,
                     last,
                     rows: count,
+                    summary: more,
                 } = read;
                 marks.push((at, first))?;
                 rows += count;
+                summary.join(more);
                 after = Some(last);
                 at = next;
             }
             None => return Ok(None),
         }
     }
-    Ok(Some(Found { marks, rows }))
+    Ok(Some(Found {
+        marks,
+        rows,
+        summary,
+    }))
 }
 
 // The block at a place, and the place behind it.
@@ -91,7 +101,7 @@ fn next_block<D: Disk>(
         → IfOk result (λ o. IfSome o (λ p. (b : List Entry)
         × IsNext after.now (drop at (take end (contents (D.state disk.old) f)))
         (drop p.1 (take end (contents (D.state disk.old) f))) b
-        × IsReadBlock p.0.first p.0.last p.0.rows b)) }
+        × IsReadBlock p.0.first p.0.last p.0.rows p.0.summary b)) }
     ensures none { IsTrue (D.state disk.old).tells → end ≤ length (contents (D.state disk.old) f)
         → IfOk result (λ o. IfNone o ((b : List Entry) (behind : List ℕ)
         → IsNext after.now (drop at (take end (contents (D.state disk.old) f))) behind b → ⊥)) }
@@ -160,7 +170,7 @@ pub(crate) fn read_block(
 ) -> Result<Option<BlockRead>, NoMemory>
     ensures some { IfOk result
         (λ o. IfSome o (λ r. (b : List Entry) × IsNextBlock after.now is_last bytes.now b
-        × IsReadBlock r.first r.last r.rows b)) }
+        × IsReadBlock r.first r.last r.rows r.summary b)) }
     ensures none { IfOk result
         (λ o. IfNone o ((b : List Entry) → IsNextBlock after.now is_last bytes.now b → ⊥)) }
 {
@@ -173,6 +183,7 @@ pub(crate) fn read_block(
                 return Ok(None);
             }
             let rows = decoded.rows.len() as u64;
+            let summary = Summary::of_rows(&decoded.rows);
             match decoded.rows.first() {
                 Some(first) => match decoded.rows.last() {
                     Some(last) => {
@@ -181,7 +192,12 @@ pub(crate) fn read_block(
                         }
                         let first = first.0.copy()?;
                         let last = last.0.copy()?;
-                        Ok(Some(BlockRead { first, last, rows }))
+                        Ok(Some(BlockRead {
+                            first,
+                            last,
+                            rows,
+                            summary,
+                        }))
                     }
                     None => Ok(None),
                 },

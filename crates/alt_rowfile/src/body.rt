@@ -6,28 +6,29 @@ ghost use Rattle.std.specs.Int.{w64, to_be_bytes};
 ghost use Rattle.alt_base.specs.Counts.{Rose};
 ghost use Rattle.alt_disk.specs.Disk.{Goes, contents};
 ghost use Rattle.alt_disk.specs.Runs.{Quiet};
-ghost use Rattle.alt_rowfile.specs.Format.{Entry, front, header, marks_from, tail_bytes};
+ghost use Rattle.alt_rowfile.specs.Format.{Entry, front, header, marks_from, rows_of, tail_bytes};
 ghost use Rattle.alt_rowfile.specs.Blocks.{IsBody};
+ghost use Rattle.alt_rowfile.specs.Summaries.{summary_of};
 
 use crate::blocks::{Found, read_blocks};
 use crate::pieces::{bytes_at, fill, number_of};
 use crate::tail::tail_of;
 use alt_disk::{Disk, DiskFault, Failed};
-use alt_fields::Bytes;
 use std::alloc::Global;
 
-/// The places and first keys of the blocks, and the place of the index, where the first `size` bytes of the file are a body; none
+/// What was found of the blocks, and the place of the index, where the first `size` bytes of the file are a body; none
 /// where no writer makes them.
 pub(crate) fn body_of<D: Disk>(
     alloc: Global,
     disk: &mut D,
     f: u32,
     size: u64,
-) -> Result<Option<(Vec<(u64, Bytes)>, u64)>, DiskFault>
+) -> Result<Option<(Found, u64)>, DiskFault>
     ensures some { IsTrue (D.state disk.old).tells → size ≤ length (contents (D.state disk.old) f)
         → IfOk result (λ o. IfSome o (λ p. (blocks : List (List Entry))
         × IsBody blocks (take size (contents (D.state disk.old) f))
-        × (p.0.items ≡ marks_from 8 blocks) × (p.1 ≡ length (front blocks)))) }
+        × (p.0.marks.items ≡ marks_from 8 blocks) × (p.1 ≡ length (front blocks))
+        × (p.0.summary ≡ summary_of (rows_of blocks)))) }
     ensures none { IsTrue (D.state disk.old).tells → size ≤ length (contents (D.state disk.old) f)
         → IfOk result (λ o. IfNone o ((blocks : List (List Entry))
         → IsBody blocks (take size (contents (D.state disk.old) f)) → ⊥)) }
@@ -43,7 +44,7 @@ pub(crate) fn body_of<D: Disk>(
         Some(end) => match read_blocks(alloc, disk, f, end)? {
             Some(found) => {
                 if is_tail(alloc, disk, f, end, size, &found)? {
-                    Ok(Some((found.marks, end)))
+                    Ok(Some((found, end)))
                 } else {
                     Ok(None)
                 }

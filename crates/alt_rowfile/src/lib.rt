@@ -14,6 +14,7 @@ mod rowfile;
 mod search;
 mod seek;
 mod sink;
+mod summary;
 mod tail;
 mod walk;
 mod writer;

@@ -24,7 +24,7 @@ pub(crate) fn recover_file<D: Disk>(
 ) -> Result<RowFile, RowFileFault>
     ensures file { IfOk result (λ file. file_of file ≡ f) }
     ensures reads { IfOk result (λ file. IsTrue (D.state disk.old).tells → (rows : List Entry)
-        × FileAs (contents (D.state disk.old) f) file.marks.items file.end rows) }
+        × FileAs (contents (D.state disk.old) f) file.marks.items file.end file.summary rows) }
     ensures explained { IsTrue (D.state disk.old).tells
         → IfErr result (ExplainsFile f (contents (D.state disk.old) f)) }
     ensures quiet { IsTrue (D.state disk.old).tells
@@ -44,11 +44,12 @@ pub(crate) fn recover_file<D: Disk>(
         Err(fault) => return Err(fault),
     }
     match body_of(alloc, disk, f, size - 32) {
-        Ok(Some((marks, end))) => Ok(RowFile {
+        Ok(Some((found, end))) => Ok(RowFile {
             alloc,
             file: f,
-            marks,
+            marks: found.marks,
             end,
+            summary: found.summary,
         }),
         Ok(None) => Err(RowFileFault::Damaged { file: f, at: 0 }),
         Err(DiskFault::Failed) => Err(RowFileFault::Failed),

@@ -4,19 +4,21 @@ use crate::fault::RowFileFault;
 use crate::load::load;
 use crate::recover::recover_file;
 use crate::search::{blocks_up_to, row_in};
+use crate::summary::Summary;
 use crate::walk::RowFileWalk;
 use alt_cells::{RowCells, SourceFault};
 use alt_disk::Disk;
 use alt_fields::Bytes;
 use std::alloc::Global;
 
-/// A row file: the places and first keys of its blocks, and the place of its index. The rows lie on the disk.
+/// A row file: the places and first keys of its blocks, the place of its index, and a summary of its rows. The rows lie on the disk.
 #[derive(Drop)]
 pub struct RowFile {
     pub(crate) alloc: Global,
     pub(crate) file: u32,
     pub(crate) marks: Vec<(u64, Bytes)>,
     pub(crate) end: u64,
+    pub(crate) summary: Summary,
 }
 
 impl RowFile {
@@ -28,6 +30,7 @@ impl RowFile {
     ghost use Rattle.alt_rowfile.specs.Damage.{IsDamageIn};
     ghost use Rattle.alt_rowfile.specs.InHand.{Reads, file_of};
     ghost use Rattle.alt_rowfile.specs.Reading.{ReadsAtMostABlock};
+    ghost use Rattle.alt_rowfile.specs.Summaries.{any_tombstone, latest_of};
     ghost use Rattle.alt_rowfile.specs.Walking.{walk_holds, walk_reads};
     ghost use Rattle.std.specs.FinMap.{entries};
     ghost use Rattle.alt_rowfile.specs.Recovery.{ExplainsFile};
@@ -82,6 +85,22 @@ impl RowFile {
             },
             Err(fault) => Err(fault),
         }
+    }
+
+    /// The greatest timestamp of its rows, 0 where they have none.
+    pub fn latest(&self) -> u64
+        ensures { (s : DiskState) (rows : List Entry) → Reads s self.now rows
+            → result ≡ latest_of rows }
+    {
+        self.summary.latest
+    }
+
+    /// Whether a row of it has a tombstone, its own or one of a cell.
+    pub fn has_tombstone(&self) -> bool
+        ensures { (s : DiskState) (rows : List Entry) → Reads s self.now rows
+            → result ≡ any_tombstone rows }
+    {
+        self.summary.tombstone
     }
 
     /// A walk over its rows, which is to be sought first.

@@ -4,6 +4,7 @@ ghost use Rattle.std.specs.Prelude.{◌≡◌, ◌≤◌, ◌+◌, ◌++◌, ◌
 
 use crate::rowfile::RowFile;
 use crate::sink::Sink;
+use crate::summary::Summary;
 use crate::tail::tail_of;
 use alt_base::NoMemory;
 use alt_cells::{RowCells, RowWriter, row_bytes};
@@ -11,7 +12,8 @@ use alt_disk::{Disk, DiskFault};
 use alt_fields::{Bytes, put_bytes};
 use std::alloc::Global;
 
-/// A row file that is being written: the file so far, the rows of the block that is open, and the marks of all blocks.
+/// A row file that is being written: the file so far, the rows of the block that is open, and the marks of all blocks, with the count
+/// and the summary of their rows.
 #[derive(Drop)]
 pub struct RowFileWriter {
     pub(crate) alloc: Global,
@@ -19,6 +21,7 @@ pub struct RowFileWriter {
     pub(crate) block: Vec<u8>,
     pub(crate) marks: Vec<(u64, Bytes)>,
     pub(crate) count: u64,
+    pub(crate) summary: Summary,
     ghost few: { count ≤ sink.at + length block.items },
 }
 
@@ -56,6 +59,7 @@ impl RowFileWriter {
             block: Vec::new(alloc),
             marks: Vec::new(alloc),
             count: 0,
+            summary: Summary::new(),
         })
     }
 
@@ -76,6 +80,7 @@ impl RowFileWriter {
         put_bytes(&mut self.block, key)?;
         put_bytes(&mut self.block, &bytes)?;
         self.count += 1;
+        self.summary.add(row);
         Ok(())
     }
 
@@ -178,6 +183,7 @@ impl RowFileWriter {
                     file,
                     marks: self.marks,
                     end,
+                    summary: self.summary,
                 })
             }
             Err(_) => Err(DiskFault::NoMemory),

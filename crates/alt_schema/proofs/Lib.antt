@@ -1,7 +1,5 @@
 pub mod Bools
 pub mod Pieces
-pub mod Numbers
-pub mod Cuts
 pub mod Differ
 pub mod Labels
 pub mod Walks

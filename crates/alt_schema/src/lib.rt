@@ -1,8 +1,8 @@
-//! Table descriptions: what a table's keys, indexes and stream are, the bytes in which the store keeps
-//! that, and what an item's row in an index is.
+//! Table descriptions: what a table's keys, indexes and stream are, and the bytes in which the store keeps
+//! that.
 //!
 //! `stated`, `reading`, `rules`, `named`, `described` and `json` make descriptions of requests and show
-//! them; `bytes` writes and reads them; `rows` has the rows of items in indexes.
+//! them; `bytes` writes and reads them.
 #![tactic(auto)]
 
 mod bytes;
@@ -11,7 +11,6 @@ mod json;
 mod lists;
 mod named;
 mod reading;
-mod rows;
 mod rules;
 mod schema;
 mod stated;
@@ -22,7 +21,5 @@ pub use bytes::parsing::schema_of_bytes;
 pub use described::{SchemaFault, schema_of_json};
 pub use json::{json_of_schema, label, stream_arn, view_word};
 pub use lists::{IndexList, KeyAttrList, TextList};
-pub use rows::index::{index_keys_fit, index_named};
-pub use rows::projection::{index_at, index_item, is_key};
 pub use rules::is_name;
 pub use schema::{IndexSchema, KeyAttr, Projection, TableSchema, View};

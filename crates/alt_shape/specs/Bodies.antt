@@ -1,6 +1,6 @@
 -- How the body of each operation first breaks its shape, the objects inside it included: DynamoDB API
 -- Reference, the "Request Parameters" of each action (docs/API.md).
-use Rattle.std.specs.Prelude.{ℕ, List, [], ◌∷◌, true, false, Option, Some, None, codes, if◌then◌else◌, is_some, option_and_then}
+use Rattle.std.specs.Prelude.{ℕ, List, [], ◌∷◌, ◌++◌, true, false, not, Option, Some, None, codes, if◌then◌else◌, is_some, option_and_then}
 use Rattle.std.specs.Option.{option_map_or}
 use Rattle.serde_json.specs.Data.{Data, Items, no_items, item, Members, no_members, member}
 use Rattle.serde_json.specs.Find.{as_str, as_array, as_object}
@@ -140,50 +140,104 @@ list_tables = first_unmet (
     optional (codes "ExclusiveStartTableName") a_text ∷
     optional (codes "Limit") (a_whole 1 100) ∷ [])
 
+-- ---- members of the older interface
+
+-- the words of ComparisonOperator
+abbrev pub operators : List (List ℕ)
+operators =
+    codes "EQ" ∷ codes "NE" ∷ codes "LT" ∷ codes "LE" ∷ codes "GT" ∷ codes "GE" ∷
+    codes "BETWEEN" ∷ codes "IN" ∷ codes "NOT_NULL" ∷ codes "NULL" ∷ codes "CONTAINS" ∷
+    codes "NOT_CONTAINS" ∷ codes "BEGINS_WITH" ∷ []
+
+-- an entry of a condition: an operator and its values
+abbrev pub condition_entry : Members → Option Broken
+condition_entry = first_unmet (
+    required (codes "ComparisonOperator") (a_word operators) ∷
+    optional (codes "AttributeValueList") an_array ∷ [])
+
+-- an entry of Expected: a value, or an operator and its values
+abbrev pub expected_entry : Members → Option Broken
+expected_entry = first_unmet (
+    optional (codes "Value") an_object ∷
+    optional (codes "Exists") a_truth ∷
+    optional (codes "ComparisonOperator") (a_word operators) ∷
+    optional (codes "AttributeValueList") an_array ∷ [])
+
+-- an entry of AttributeUpdates: what is done, and with which value
+abbrev pub update_entry : Members → Option Broken
+update_entry = first_unmet (
+    optional (codes "Action") (a_word (codes "PUT" ∷ codes "ADD" ∷ codes "DELETE" ∷ [])) ∷
+    optional (codes "Value") an_object ∷ [])
+
+-- the entries at a member, by the names of their attributes
+abbrev pub in_entries : List ℕ → (Members → Option Broken) → Members → Option Broken
+in_entries name entry = in_object name (in_members (object_fault entry))
+
+-- the names to show are texts
+abbrev pub in_names : Members → Option Broken
+in_names = in_array (codes "AttributesToGet") (in_items text_fault)
+
+-- how entries are joined
+abbrev pub operator_demand : Demand
+operator_demand =
+    optional (codes "ConditionalOperator") (a_word (codes "AND" ∷ codes "OR" ∷ []))
+
 -- ---- operations on an item
 
 -- the members of every write of one item, after those that are its own
-abbrev pub write_demands : List (List ℕ) → List Demand
-write_demands return_values =
+abbrev pub write_demands : List (List ℕ) → List Demand → List Demand
+write_demands return_values updates =
     optional (codes "ConditionExpression") a_text ∷
     optional (codes "ExpressionAttributeNames") an_object ∷
     optional (codes "ExpressionAttributeValues") an_object ∷
     optional (codes "ReturnValues") (a_word return_values) ∷
     optional (codes "ReturnValuesOnConditionCheckFailure")
-    (a_word (codes "NONE" ∷ codes "ALL_OLD" ∷ [])) ∷ []
+    (a_word (codes "NONE" ∷ codes "ALL_OLD" ∷ [])) ∷
+    optional (codes "Expected") an_object ∷
+    updates ++ operator_demand ∷ []
 
 -- PutItem gives an item
 unfoldable pub put_item : Members → Option Broken
-put_item = first_unmet (
+put_item ms = first_of (
+    first_unmet (
     required (codes "TableName") a_text ∷
     required (codes "Item") an_object ∷
-    write_demands (codes "NONE" ∷ codes "ALL_OLD" ∷ []))
+    write_demands (codes "NONE" ∷ codes "ALL_OLD" ∷ []) []) ms ∷
+    in_entries (codes "Expected") expected_entry ms ∷ [])
 
 -- DeleteItem gives a key
 unfoldable pub delete_item : Members → Option Broken
-delete_item = first_unmet (
+delete_item ms = first_of (
+    first_unmet (
     required (codes "TableName") a_text ∷
     required (codes "Key") an_object ∷
-    write_demands (codes "NONE" ∷ codes "ALL_OLD" ∷ []))
+    write_demands (codes "NONE" ∷ codes "ALL_OLD" ∷ []) []) ms ∷
+    in_entries (codes "Expected") expected_entry ms ∷ [])
 
 -- UpdateItem gives a key and what to do with its item
 unfoldable pub update_item : Members → Option Broken
-update_item = first_unmet (
+update_item ms = first_of (
+    first_unmet (
     required (codes "TableName") a_text ∷
     required (codes "Key") an_object ∷
     optional (codes "UpdateExpression") a_text ∷
     write_demands (
     codes "NONE" ∷ codes "ALL_OLD" ∷ codes "UPDATED_OLD" ∷ codes "ALL_NEW" ∷
-    codes "UPDATED_NEW" ∷ []))
+    codes "UPDATED_NEW" ∷ []) (optional (codes "AttributeUpdates") an_object ∷ [])) ms ∷
+    in_entries (codes "Expected") expected_entry ms ∷
+    in_entries (codes "AttributeUpdates") update_entry ms ∷ [])
 
 -- GetItem gives a key and what to show of its item
 unfoldable pub get_item : Members → Option Broken
-get_item = first_unmet (
+get_item ms = first_of (
+    first_unmet (
     required (codes "TableName") a_text ∷
     required (codes "Key") an_object ∷
     optional (codes "ProjectionExpression") a_text ∷
     optional (codes "ExpressionAttributeNames") an_object ∷
-    optional (codes "ConsistentRead") a_truth ∷ [])
+    optional (codes "ConsistentRead") a_truth ∷
+    optional (codes "AttributesToGet") an_array ∷ []) ms ∷
+    in_names ms ∷ [])
 
 -- ---- Query and Scan
 
@@ -193,12 +247,20 @@ selections =
     codes "ALL_ATTRIBUTES" ∷ codes "ALL_PROJECTED_ATTRIBUTES" ∷ codes "SPECIFIC_ATTRIBUTES" ∷
     codes "COUNT" ∷ []
 
--- Query gives a condition on keys, and what to show of the items found
-unfoldable pub query : Members → Option Broken
-query = first_unmet (
+-- the condition on keys is a text that has to be there, unless there are KeyConditions
+abbrev pub key_condition_demand : Members → Demand
+key_condition_demand ms = record {
+  name = codes "KeyConditionExpression";
+  form = a_text;
+  must = not (is_some (given (codes "KeyConditions") ms));
+}
+
+-- the members of a Query's body alone
+abbrev pub own_of_query : Members → Option Broken
+own_of_query ms = first_unmet (
     required (codes "TableName") a_text ∷
     optional (codes "IndexName") a_text ∷
-    required (codes "KeyConditionExpression") a_text ∷
+    key_condition_demand ms ∷
     optional (codes "FilterExpression") a_text ∷
     optional (codes "ProjectionExpression") a_text ∷
     optional (codes "ExpressionAttributeNames") an_object ∷
@@ -207,11 +269,23 @@ query = first_unmet (
     optional (codes "ScanIndexForward") a_truth ∷
     optional (codes "ExclusiveStartKey") an_object ∷
     optional (codes "ConsistentRead") a_truth ∷
-    optional (codes "Select") (a_word selections) ∷ [])
+    optional (codes "Select") (a_word selections) ∷
+    optional (codes "KeyConditions") an_object ∷
+    optional (codes "QueryFilter") an_object ∷
+    operator_demand ∷
+    optional (codes "AttributesToGet") an_array ∷ []) ms
+
+-- Query gives a condition on keys, and what to show of the items found
+unfoldable pub query : Members → Option Broken
+query ms = first_of (own_of_query ms ∷
+    in_entries (codes "KeyConditions") condition_entry ms ∷
+    in_entries (codes "QueryFilter") condition_entry ms ∷
+    in_names ms ∷ [])
 
 -- Scan says which part of a table to walk through, and what to show of it
 unfoldable pub scan : Members → Option Broken
-scan = first_unmet (
+scan ms = first_of (
+    first_unmet (
     required (codes "TableName") a_text ∷
     optional (codes "IndexName") a_text ∷
     optional (codes "FilterExpression") a_text ∷
@@ -223,7 +297,12 @@ scan = first_unmet (
     optional (codes "ConsistentRead") a_truth ∷
     optional (codes "Select") (a_word selections) ∷
     optional (codes "Segment") (a_whole 0 999999) ∷
-    optional (codes "TotalSegments") (a_whole 1 1000000) ∷ [])
+    optional (codes "TotalSegments") (a_whole 1 1000000) ∷
+    optional (codes "ScanFilter") an_object ∷
+    operator_demand ∷
+    optional (codes "AttributesToGet") an_array ∷ []) ms ∷
+    in_entries (codes "ScanFilter") condition_entry ms ∷
+    in_names ms ∷ [])
 
 -- ---- batches
 
@@ -251,15 +330,17 @@ batch_write_item ms = first_of (
     in_object (codes "RequestItems")
     (in_members (array_fault (in_items (object_fault write_request)))) ms ∷ [])
 
--- the reads of one table in a batch: its own members, then the keys
+-- the reads of one table in a batch: its own members, then the keys, then the names to show
 abbrev pub keys_and_attributes : Members → Option Broken
 keys_and_attributes ms = first_of (
     first_unmet (
     required (codes "Keys") an_array ∷
     optional (codes "ProjectionExpression") a_text ∷
     optional (codes "ExpressionAttributeNames") an_object ∷
-    optional (codes "ConsistentRead") a_truth ∷ []) ms ∷
-    in_array (codes "Keys") (in_items key_fault) ms ∷ [])
+    optional (codes "ConsistentRead") a_truth ∷
+    optional (codes "AttributesToGet") an_array ∷ []) ms ∷
+    in_array (codes "Keys") (in_items key_fault) ms ∷
+    in_names ms ∷ [])
 
 -- BatchGetItem gives reads by table
 unfoldable pub batch_get_item : Members → Option Broken

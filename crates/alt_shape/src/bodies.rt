@@ -7,9 +7,9 @@ ghost use Rattle.std.specs.Prelude.{◌≡◌};
 ghost use Rattle.serde_json.specs.View.{members_view};
 ghost use Rattle.alt_shape.specs.Bodies as bodies;
 
-use crate::checking::first_broken;
+use crate::checking::{first_broken, given};
 use crate::rule::Broken;
-use crate::{inside, tables};
+use crate::{inside, older, tables};
 use serde_json::{Map, Value};
 
 /// CreateTable.
@@ -54,7 +54,7 @@ pub fn list_tables(body: &Map<String, Value>) -> Option<Broken>
 pub fn put_item(body: &Map<String, Value>) -> Option<Broken>
     ensures { result ≡ bodies.put_item (members_view body.now.entries) }
 {
-    first_broken(&tables::PUT_ITEM, body)
+    first_broken(&tables::PUT_ITEM, body).or_else(|| older::expected(body))
 }
 
 /// DeleteItem.
@@ -62,7 +62,7 @@ pub fn put_item(body: &Map<String, Value>) -> Option<Broken>
 pub fn delete_item(body: &Map<String, Value>) -> Option<Broken>
     ensures { result ≡ bodies.delete_item (members_view body.now.entries) }
 {
-    first_broken(&tables::DELETE_ITEM, body)
+    first_broken(&tables::DELETE_ITEM, body).or_else(|| older::expected(body))
 }
 
 /// UpdateItem.
@@ -71,6 +71,8 @@ pub fn update_item(body: &Map<String, Value>) -> Option<Broken>
     ensures { result ≡ bodies.update_item (members_view body.now.entries) }
 {
     first_broken(&tables::UPDATE_ITEM, body)
+        .or_else(|| older::expected(body))
+        .or_else(|| older::updates(body))
 }
 
 /// GetItem.
@@ -78,7 +80,7 @@ pub fn update_item(body: &Map<String, Value>) -> Option<Broken>
 pub fn get_item(body: &Map<String, Value>) -> Option<Broken>
     ensures { result ≡ bodies.get_item (members_view body.now.entries) }
 {
-    first_broken(&tables::GET_ITEM, body)
+    first_broken(&tables::GET_ITEM, body).or_else(|| older::names(body))
 }
 
 /// Query.
@@ -86,7 +88,20 @@ pub fn get_item(body: &Map<String, Value>) -> Option<Broken>
 pub fn query(body: &Map<String, Value>) -> Option<Broken>
     ensures { result ≡ bodies.query (members_view body.now.entries) }
 {
-    first_broken(&tables::QUERY, body)
+    own_of_query(body)
+        .or_else(|| older::conditions(body, "KeyConditions"))
+        .or_else(|| older::conditions(body, "QueryFilter"))
+        .or_else(|| older::names(body))
+}
+
+/// The members of a Query's body alone.
+fn own_of_query(body: &Map<String, Value>) -> Option<Broken>
+    ensures { result ≡ bodies.own_of_query (members_view body.now.entries) }
+{
+    match given(body, "KeyConditions") {
+        Some(_) => first_broken(&tables::QUERY_BY_ENTRIES, body),
+        None => first_broken(&tables::QUERY, body),
+    }
 }
 
 /// Scan.
@@ -95,6 +110,8 @@ pub fn scan(body: &Map<String, Value>) -> Option<Broken>
     ensures { result ≡ bodies.scan (members_view body.now.entries) }
 {
     first_broken(&tables::SCAN, body)
+        .or_else(|| older::conditions(body, "ScanFilter"))
+        .or_else(|| older::names(body))
 }
 
 /// ListStreams.

@@ -8,7 +8,7 @@ ghost use Rattle.alt_shape.specs.Bodies.{in_array, in_object, in_items, in_membe
 use crate::checking::first_broken;
 use crate::fields::array_at;
 use crate::rule::Broken;
-use crate::{field, tables};
+use crate::{field, older, tables};
 use serde_json::{Map, Value};
 
 /// The elements of KeySchema, of a table or of an index.
@@ -145,7 +145,7 @@ fn non_key_attributes(owner: &Map<String, Value>) -> Option<Broken>
 }
 
 #[tactic(auto, using(crate::proofs::Walks::in_items_from))]
-fn each_text(elements: &[Value]) -> Option<Broken>
+pub(crate) fn each_text(elements: &[Value]) -> Option<Broken>
     ensures { result ≡ in_items (text_fault) (items_view elements.now) }
 {
     for element in elements {
@@ -297,7 +297,9 @@ fn table_of_keys(asked: &Value) -> Option<Broken>
 fn table_of_keys_members(asked: &Map<String, Value>) -> Option<Broken>
     ensures { result ≡ bodies.keys_and_attributes (members_view asked.now.entries) }
 {
-    first_broken(&tables::KEYS_AND_ATTRIBUTES, asked).or_else(|| keys(asked))
+    first_broken(&tables::KEYS_AND_ATTRIBUTES, asked)
+        .or_else(|| keys(asked))
+        .or_else(|| older::names(asked))
 }
 
 /// The elements of Keys, which are objects.

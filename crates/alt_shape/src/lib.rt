@@ -7,6 +7,7 @@ mod body;
 mod checking;
 mod fields;
 mod inside;
+mod older;
 mod refusal;
 mod rule;
 pub mod tables;

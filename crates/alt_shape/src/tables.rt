@@ -85,7 +85,7 @@ pub const LIST_TABLES: [Rule; 2] = [
 ];
 
 /// PutItem.
-pub const PUT_ITEM: [Rule; 7] = [
+pub const PUT_ITEM: [Rule; 9] = [
     required!("TableName", Kind::Text),
     required!("Item", Kind::Object),
     optional!("ConditionExpression", Kind::Text),
@@ -96,10 +96,12 @@ pub const PUT_ITEM: [Rule; 7] = [
         "ReturnValuesOnConditionCheckFailure",
         Kind::Word(&["NONE", "ALL_OLD"])
     ),
+    optional!("Expected", Kind::Object),
+    optional!("ConditionalOperator", Kind::Word(&["AND", "OR"])),
 ];
 
 /// DeleteItem.
-pub const DELETE_ITEM: [Rule; 7] = [
+pub const DELETE_ITEM: [Rule; 9] = [
     required!("TableName", Kind::Text),
     required!("Key", Kind::Object),
     optional!("ConditionExpression", Kind::Text),
@@ -110,10 +112,12 @@ pub const DELETE_ITEM: [Rule; 7] = [
         "ReturnValuesOnConditionCheckFailure",
         Kind::Word(&["NONE", "ALL_OLD"])
     ),
+    optional!("Expected", Kind::Object),
+    optional!("ConditionalOperator", Kind::Word(&["AND", "OR"])),
 ];
 
 /// UpdateItem.
-pub const UPDATE_ITEM: [Rule; 8] = [
+pub const UPDATE_ITEM: [Rule; 11] = [
     required!("TableName", Kind::Text),
     required!("Key", Kind::Object),
     optional!("UpdateExpression", Kind::Text),
@@ -128,49 +132,66 @@ pub const UPDATE_ITEM: [Rule; 8] = [
         "ReturnValuesOnConditionCheckFailure",
         Kind::Word(&["NONE", "ALL_OLD"])
     ),
+    optional!("Expected", Kind::Object),
+    optional!("AttributeUpdates", Kind::Object),
+    optional!("ConditionalOperator", Kind::Word(&["AND", "OR"])),
 ];
 
 /// GetItem.
-pub const GET_ITEM: [Rule; 5] = [
+pub const GET_ITEM: [Rule; 6] = [
     required!("TableName", Kind::Text),
     required!("Key", Kind::Object),
     optional!("ProjectionExpression", Kind::Text),
     optional!("ExpressionAttributeNames", Kind::Object),
     optional!("ConsistentRead", Kind::Truth),
+    optional!("AttributesToGet", Kind::Array),
 ];
+
+macro_rules! query {
+    ($key_condition:expr) => {
+        [
+            required!("TableName", Kind::Text),
+            optional!("IndexName", Kind::Text),
+            $key_condition,
+            optional!("FilterExpression", Kind::Text),
+            optional!("ProjectionExpression", Kind::Text),
+            optional!("ExpressionAttributeNames", Kind::Object),
+            optional!("ExpressionAttributeValues", Kind::Object),
+            optional!(
+                "Limit",
+                Kind::Whole {
+                    least: 1,
+                    most: 2_147_483_647
+                }
+            ),
+            optional!("ScanIndexForward", Kind::Truth),
+            optional!("ExclusiveStartKey", Kind::Object),
+            optional!("ConsistentRead", Kind::Truth),
+            optional!(
+                "Select",
+                Kind::Word(&[
+                    "ALL_ATTRIBUTES",
+                    "ALL_PROJECTED_ATTRIBUTES",
+                    "SPECIFIC_ATTRIBUTES",
+                    "COUNT",
+                ])
+            ),
+            optional!("KeyConditions", Kind::Object),
+            optional!("QueryFilter", Kind::Object),
+            optional!("ConditionalOperator", Kind::Word(&["AND", "OR"])),
+            optional!("AttributesToGet", Kind::Array),
+        ]
+    };
+}
 
 /// Query.
-pub const QUERY: [Rule; 12] = [
-    required!("TableName", Kind::Text),
-    optional!("IndexName", Kind::Text),
-    required!("KeyConditionExpression", Kind::Text),
-    optional!("FilterExpression", Kind::Text),
-    optional!("ProjectionExpression", Kind::Text),
-    optional!("ExpressionAttributeNames", Kind::Object),
-    optional!("ExpressionAttributeValues", Kind::Object),
-    optional!(
-        "Limit",
-        Kind::Whole {
-            least: 1,
-            most: 2_147_483_647
-        }
-    ),
-    optional!("ScanIndexForward", Kind::Truth),
-    optional!("ExclusiveStartKey", Kind::Object),
-    optional!("ConsistentRead", Kind::Truth),
-    optional!(
-        "Select",
-        Kind::Word(&[
-            "ALL_ATTRIBUTES",
-            "ALL_PROJECTED_ATTRIBUTES",
-            "SPECIFIC_ATTRIBUTES",
-            "COUNT",
-        ])
-    ),
-];
+pub const QUERY: [Rule; 16] = query!(required!("KeyConditionExpression", Kind::Text));
+
+/// Query, where KeyConditions are there.
+pub const QUERY_BY_ENTRIES: [Rule; 16] = query!(optional!("KeyConditionExpression", Kind::Text));
 
 /// Scan.
-pub const SCAN: [Rule; 12] = [
+pub const SCAN: [Rule; 15] = [
     required!("TableName", Kind::Text),
     optional!("IndexName", Kind::Text),
     optional!("FilterExpression", Kind::Text),
@@ -209,6 +230,46 @@ pub const SCAN: [Rule; 12] = [
             most: 1_000_000
         }
     ),
+    optional!("ScanFilter", Kind::Object),
+    optional!("ConditionalOperator", Kind::Word(&["AND", "OR"])),
+    optional!("AttributesToGet", Kind::Array),
+];
+
+/// An entry of KeyConditions, QueryFilter and ScanFilter. AttributeValueList is an array of attribute values.
+pub const CONDITION: [Rule; 2] = [
+    required!("ComparisonOperator", Kind::Word(&OPERATORS)),
+    optional!("AttributeValueList", Kind::Array),
+];
+
+/// An entry of Expected.
+pub const EXPECTED: [Rule; 4] = [
+    optional!("Value", Kind::Object),
+    optional!("Exists", Kind::Truth),
+    optional!("ComparisonOperator", Kind::Word(&OPERATORS)),
+    optional!("AttributeValueList", Kind::Array),
+];
+
+/// An entry of AttributeUpdates.
+pub const ATTRIBUTE_UPDATE: [Rule; 2] = [
+    optional!("Action", Kind::Word(&["PUT", "ADD", "DELETE"])),
+    optional!("Value", Kind::Object),
+];
+
+/// The words of ComparisonOperator.
+const OPERATORS: [&str; 13] = [
+    "EQ",
+    "NE",
+    "LT",
+    "LE",
+    "GT",
+    "GE",
+    "BETWEEN",
+    "IN",
+    "NOT_NULL",
+    "NULL",
+    "CONTAINS",
+    "NOT_CONTAINS",
+    "BEGINS_WITH",
 ];
 
 /// BatchWriteItem. Each member of RequestItems is an array of write requests.
@@ -230,11 +291,12 @@ pub const DELETE_REQUEST: [Rule; 1] = [required!("Key", Kind::Object)];
 pub const BATCH_GET_ITEM: [Rule; 1] = [required!("RequestItems", Kind::Object)];
 
 /// The keys and attributes of one table in a BatchGetItem. Each element of Keys is an object.
-pub const KEYS_AND_ATTRIBUTES: [Rule; 4] = [
+pub const KEYS_AND_ATTRIBUTES: [Rule; 5] = [
     required!("Keys", Kind::Array),
     optional!("ProjectionExpression", Kind::Text),
     optional!("ExpressionAttributeNames", Kind::Object),
     optional!("ConsistentRead", Kind::Truth),
+    optional!("AttributesToGet", Kind::Array),
 ];
 
 /// ListStreams.

@@ -32,7 +32,7 @@ use Rattle.alt_shape.specs.Body.{body_json}
 use Rattle.alt_shape.specs.Refusals.{Answer, answer_of, refused}
 use Rattle.alt_shape.specs.declared.refusal.Refusal.{Refusal}
 use Rattle.alt_shape.specs.declared.refusal.Reply.{Reply}
-use Rattle.alt_streams.specs.Listed.{AreNamed, IsAsked, StartsAfter, all_in, is_listed, is_named, last_of, name_given, page_answer, start_name, streams_after}
+use Rattle.alt_streams.specs.private.Listed.{AreNamed, IsAsked, StartsAfter, all_in, is_listed, is_named, last_of, name_given, page_answer, start_name, streams_after}
 use Rattle.alt_streams.proofs.Entries.{chosen_alike}
 use Rattle.alt_tables.specs.Stands.{Stands, catalog_of}
 use Rattle.alt_tables.specs.declared.tables.Tables.{Tables}

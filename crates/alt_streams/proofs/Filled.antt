@@ -14,7 +14,7 @@ use Rattle.alt_schema.specs.Json.{items_by}
 use Rattle.alt_schema.specs.declared.schema.TableSchema.{TableSchema}
 use Rattle.alt_schema.specs.declared.schema.View.{View}
 use Rattle.alt_shape.specs.Refusals.{answered}
-use Rattle.alt_streams.specs.Paged.{HasRead, is_full, iterator_at, page_answer}
+use Rattle.alt_streams.specs.private.Paged.{HasRead, is_full, iterator_at, page_answer}
 use Rattle.alt_streams.specs.declared.page.Page.{Page}
 use Rattle.alt_streams.proofs.Prefixes.{first_push, page_full, page_whole}
 use Rattle.alt_streams.proofs.Numbers.{past-append}

@@ -10,7 +10,7 @@ use Rattle.std.proofs.lemmas.Slice.Eq.{bytes_eq-Decides}
 use Rattle.alt_machine.specs.Ops.ListTables.{names_after}
 use Rattle.alt_machine.specs.State.{Texts}
 use Rattle.alt_schema.specs.declared.schema.TableSchema.{TableSchema}
-use Rattle.alt_streams.specs.Listed.{AreNamed, all_in, is_listed, is_named, streams_after}
+use Rattle.alt_streams.specs.private.Listed.{AreNamed, all_in, is_listed, is_named, streams_after}
 use Rattle.alt_streams.proofs.Entries.{found_only, found_none, here, behind, some}
 use Rattle.alt_streams.proofs.Rising.{Rises, keyed, chosen_next, find-filter, find-keyed, sorted-each, walk_found, walk_on, walk_none}
 use Rattle.alt_opening.specs.Order.{first_after}

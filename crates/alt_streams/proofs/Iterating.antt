@@ -13,8 +13,8 @@ use Rattle.alt_schema.specs.declared.schema.TableSchema.{TableSchema}
 use Rattle.alt_schema.specs.Json.{stream_arn}
 use Rattle.alt_shape.specs.Refusals.{refused, not_found}
 use Rattle.alt_shape.specs.declared.refusal.Refusal.{Refusal}
-use Rattle.alt_streams.specs.Named.{IsStreamOf}
-use Rattle.alt_streams.specs.Paged.{iterator_at}
+use Rattle.alt_streams.specs.private.Named.{IsStreamOf}
+use Rattle.alt_streams.specs.private.Paged.{iterator_at}
 use Rattle.alt_streams.proofs.Reached.{stream_named}
 use Rattle.alt_streams.proofs.Reaching.{something}
 use Rattle.alt_tables.specs.Stands.{Stands, catalog_of, number_of}

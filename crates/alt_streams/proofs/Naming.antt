@@ -15,7 +15,7 @@ use Rattle.alt_machine.specs.Valid.{IsValid}
 use Rattle.alt_request.proofs.Named.{table_found, table_missed}
 use Rattle.alt_schema.specs.Json.{label, stream_arn}
 use Rattle.alt_schema.specs.declared.schema.TableSchema.{TableSchema}
-use Rattle.alt_streams.specs.Named.{IsStreamOf}
+use Rattle.alt_streams.specs.private.Named.{IsStreamOf}
 use Rattle.alt_streams.proofs.Entries.{found_only, found_none, some}
 
 -- ---- the name in that of the stream

@@ -14,7 +14,7 @@ use Rattle.alt_machine.specs.Valid.{IsChange, IsValid, WasStored}
 use Rattle.alt_machine.proofs.Descriptions.{get-descriptions}
 use Rattle.alt_schema.specs.declared.schema.TableSchema.{TableSchema}
 use Rattle.alt_schema.specs.declared.schema.View.{View}
-use Rattle.alt_streams.specs.Paged.{HasRead, IsFit, Puts, Steps, is_full}
+use Rattle.alt_streams.specs.private.Paged.{HasRead, IsFit, Puts, Steps, is_full}
 use Rattle.alt_streams.specs.declared.page.Page.{Page}
 use Rattle.alt_streams.proofs.Filled.{page_all, page_ended}
 use Rattle.alt_streams.proofs.Numbers.{Rise, behind_front, past-append}

@@ -23,7 +23,7 @@ use Rattle.alt_shape.specs.declared.refusal.Refusal.{Refusal}
 use Rattle.alt_shape.specs.declared.refusal.Reply.{Reply}
 use Rattle.alt_shape.specs.declared.rule.Broken.{Broken}
 use Rattle.alt_shape.specs.declared.rule.Broken.TheVariants.{WrongKind, Missing, OutOfRange}
-use Rattle.alt_streams.specs.Placed.{OnPlace, OnStreaming}
+use Rattle.alt_streams.specs.private.Placed.{OnPlace, OnStreaming}
 use Rattle.alt_streams.specs.declared.records.Place.{Place}
 use Rattle.alt_streams.proofs.Reached.{records_broken, records_unread, records_missed}
 use Rattle.alt_tables.specs.Stands.{Stands, catalog_of}

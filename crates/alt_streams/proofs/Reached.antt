@@ -26,9 +26,9 @@ use Rattle.alt_schema.specs.declared.schema.TableSchema.{TableSchema}
 use Rattle.alt_schema.specs.declared.schema.View.{View}
 use Rattle.alt_shape.specs.Bodies as bodies
 use Rattle.alt_shape.specs.Refusals.{Answer, answered, bad_stream_argument, not_found}
-use Rattle.alt_streams.specs.Named.{IsStreamOf, OnStream}
-use Rattle.alt_streams.specs.Paged.{iterator_at}
-use Rattle.alt_streams.specs.Placed.{IsPlace, OnStreaming, has_stream}
+use Rattle.alt_streams.specs.private.Named.{IsStreamOf, OnStream}
+use Rattle.alt_streams.specs.private.Paged.{iterator_at}
+use Rattle.alt_streams.specs.private.Placed.{IsPlace, OnStreaming, has_stream}
 use Rattle.alt_streams.specs.declared.records.Place.{Place}
 use Rattle.alt_streams.proofs.Entries.{behind, here}
 use Rattle.alt_tables.specs.Stands.{Stands, catalog_of}

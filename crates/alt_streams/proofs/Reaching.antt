@@ -15,7 +15,7 @@ use Rattle.alt_request.proofs.Reaching.{err_is}
 use Rattle.alt_schema.specs.declared.schema.TableSchema.{TableSchema}
 use Rattle.alt_shape.specs.Refusals.{IsKnown, not_found}
 use Rattle.alt_shape.specs.declared.refusal.Reply.{Reply}
-use Rattle.alt_streams.specs.Named.{OnStream}
+use Rattle.alt_streams.specs.private.Named.{OnStream}
 use Rattle.alt_streams.proofs.Entries.{some}
 use Rattle.alt_tables.specs.Stands.{Stands, catalog_of}
 use Rattle.alt_tables.specs.declared.tables.Tables.{Tables}

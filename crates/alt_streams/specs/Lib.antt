@@ -1,4 +1,1 @@
-pub mod Listed
-pub mod Named
-pub mod Paged
-pub mod Placed
+pub mod private

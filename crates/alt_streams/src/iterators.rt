@@ -12,7 +12,7 @@ ghost use Rattle.alt_request.specs.Carried.{Carries, Moves};
 ghost use Rattle.alt_request.specs.Steps.{IsMemory, Tested};
 ghost use Rattle.alt_shape.specs.Body.{body_json};
 ghost use Rattle.alt_shape.specs.Refusals.{answer_of};
-ghost use Rattle.alt_streams.specs.Paged.{iterator_at};
+ghost use Rattle.alt_streams.specs.private.Paged.{iterator_at};
 ghost use Rattle.alt_tables.specs.Stands.{Stands, limits_of};
 
 use crate::streams::{arn_in, may_be_shard, stream_target};

@@ -11,7 +11,7 @@ ghost use Rattle.alt_request.specs.Carried.{Carries, Moves};
 ghost use Rattle.alt_schema.specs.Json.{items_by};
 ghost use Rattle.alt_shape.specs.Body.{body_json};
 ghost use Rattle.alt_shape.specs.Refusals.{answer_of};
-ghost use Rattle.alt_streams.specs.Listed.{AreNamed, IsAsked, IsStart, all_in, is_listed, last_of, name_given, page_answer, start_name, streams_after};
+ghost use Rattle.alt_streams.specs.private.Listed.{AreNamed, IsAsked, IsStart, all_in, is_listed, last_of, name_given, page_answer, start_name, streams_after};
 ghost use Rattle.alt_tables.specs.Stands.{Stands, catalog_of, limits_of};
 
 use crate::shown::stream_json;

@@ -36,7 +36,7 @@ impl Page {
     ghost use Rattle.alt_machine.specs.State as machine;
     ghost use Rattle.alt_schema.specs.declared.schema.TableSchema.{TableSchema};
     ghost use Rattle.alt_schema.specs.declared.schema.View.{View};
-    ghost use Rattle.alt_streams.specs.Paged.{HasRead, IsFit, is_full};
+    ghost use Rattle.alt_streams.specs.private.Paged.{HasRead, IsFit, is_full};
     ghost use Rattle.alt_tables.specs.Faults.{IsReadFault};
 
     /// A page without records, of the changes from a number on.

@@ -10,7 +10,7 @@ ghost use Rattle.alt_machine.specs.State as machine;
 ghost use Rattle.alt_machine.specs.State.{State, Table};
 ghost use Rattle.alt_schema.specs.declared.schema.TableSchema.{TableSchema};
 ghost use Rattle.alt_schema.specs.declared.schema.View.{View};
-ghost use Rattle.alt_streams.specs.Paged.{HasRead, IsFit, Puts, Steps, is_full};
+ghost use Rattle.alt_streams.specs.private.Paged.{HasRead, IsFit, Puts, Steps, is_full};
 ghost use Rattle.alt_tables.specs.Faults.{IsFindFault, IsReadFault};
 ghost use Rattle.alt_tables.specs.Stands.{AreReady, KeepsCatalog, Reads, Stands, catalog_of};
 

@@ -14,8 +14,8 @@ ghost use Rattle.alt_schema.specs.declared.schema.TableSchema.{TableSchema};
 ghost use Rattle.alt_schema.specs.declared.schema.View.{View};
 ghost use Rattle.alt_shape.specs.Body.{body_json};
 ghost use Rattle.alt_shape.specs.Refusals.{answer_of};
-ghost use Rattle.alt_streams.specs.Paged.{iterator_at, page_answer};
-ghost use Rattle.alt_streams.specs.Placed.{OnPlace, OnStreaming, has_stream};
+ghost use Rattle.alt_streams.specs.private.Paged.{iterator_at, page_answer};
+ghost use Rattle.alt_streams.specs.private.Placed.{OnPlace, OnStreaming, has_stream};
 ghost use Rattle.alt_tables.specs.Faults.{IsFindFault};
 ghost use Rattle.alt_tables.specs.Stands.{AreReady, Reads, Stands, catalog_of, limits_of};
 
@@ -56,6 +56,7 @@ pub fn get_records<D: Disk>(
     ensures limits { limits_of tables.new ≡ limits_of tables.old }
     ensures moves { Moves (λ s. get_records s (members_view body.now.entries))
         (Stands (D.state disk.old) tables.old) (D.state disk.old) (D.state disk.new) result }
+    ensures disk { Reads (D.state disk.old) (D.state disk.new) }
 {
     let _ = moment;
     let most = page_length(body);

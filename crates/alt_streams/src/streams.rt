@@ -5,7 +5,7 @@ ghost use Rattle.std.specs.Str.{bytes_eq};
 ghost use Rattle.serde_json.specs.View.{members_view};
 ghost use Rattle.alt_machine.specs.Streams.{arn_in, is_stream, may_be_shard};
 ghost use Rattle.alt_schema.specs.Json.{stream_arn};
-ghost use Rattle.alt_streams.specs.Named.{IsStreamOf, OnStream};
+ghost use Rattle.alt_streams.specs.private.Named.{IsStreamOf, OnStream};
 ghost use Rattle.alt_tables.specs.Stands.{catalog_of};
 
 use alt_base::NoMemory;

@@ -14,7 +14,7 @@ use Rattle.alt_layout.specs.Layout.{Layout, rows_between}
 use Rattle.alt_machine.specs.Ops.GetRecords.{changes_from}
 use Rattle.alt_machine.specs.State.{Change, State, Table}
 use Rattle.alt_schema.specs.declared.schema.TableSchema.{TableSchema}
-use Rattle.alt_tables.specs.Pages.{AreChangesOf}
+use Rattle.alt_tables.specs.private.Pages.{AreChangesOf}
 use Rattle.alt_opening.specs.StreamScans.{IsChangeAt}
 use Rattle.alt_opening.specs.StateRows.{keyed_changes}
 use Rattle.alt_tables.specs.Stands.{Stands, catalog_of}

@@ -1,5 +1,5 @@
 -- What the rows beneath the tables show, in reads and in whatever a stop leaves, and what a write makes of it.
-use Rattle.std.proofs.Common.{◌≡◌, ◌&&◌, Bool, IsTrue, T, ⊎_elim, refl, sym, subst, ℕ, List, [], ◌∷◌, Option, Result, Err, ◌∙◌}
+use Rattle.std.proofs.Common.{◌≡◌, ◌&&◌, Bool, IsTrue, T, ⊎_elim, refl, sym, ap, subst, ℕ, List, [], ◌∷◌, Option, Result, Err, ◌∙◌}
 use Rattle.std.specs.Prelude.{⊤}
 use Rattle.alt_cells.specs.Batches.{is_distinct}
 use Rattle.alt_cells.specs.declared.batch.RowChange.{RowChange}
@@ -7,15 +7,19 @@ use Rattle.alt_disk.specs.Disk.{DiskState, IsImage, Goes}
 use Rattle.alt_disk.specs.Runs.{Spans, Quiet}
 use Rattle.alt_disk.proofs.Runs.{spans_on, spans_weaker, quiet_spans, quiet_then, trusted_on}
 use Rattle.alt_layout.specs.Files.{IsLayout}
-use Rattle.alt_engine.specs.InHand.{Stands as EngineStands, batch_write, BeforeOrWith, IsWritten}
+use Rattle.alt_engine.specs.InHand.{Stands as EngineStands}
+use Rattle.alt_hand.specs.InHand.{batch_write, BeforeOrWith, IsWritten}
 use Rattle.alt_layout.specs.Layout.{Layout}
 use Rattle.alt_layout.specs.Writes.{with_write}
 use Rattle.alt_engine.specs.declared.engine.Engine.{Engine}
-use Rattle.alt_engine.specs.declared.engine.EngineFault.{EngineFault}
-use Rattle.alt_engine.specs.declared.engine.EngineFault.TheVariants as engine
+use Rattle.alt_hand.specs.declared.hand.EngineFault.{EngineFault}
+use Rattle.alt_hand.specs.declared.hand.EngineFault.TheVariants as engine
 use Rattle.alt_machine.specs.State.{State}
 use Rattle.alt_machine.specs.Valid.{IsValid}
-use Rattle.alt_tables.specs.Faults.{fault_of}
+use Rattle.alt_hand.specs.Faults.{told_by_engine}
+use Rattle.alt_faults.specs.Faults.{no_memory}
+use Rattle.alt_tables.specs.Faults.{told_by_tables}
+use Rattle.alt_tables.specs.declared.faults.TableFault.{TableFault}
 use Rattle.alt_tables.specs.declared.faults.TableFault.TheVariants.{NoMemory}
 use Rattle.alt_opening.specs.Images.{StandsFor}
 use Rattle.alt_tables.specs.Images.{AfterSome, Leaves}
@@ -131,11 +135,15 @@ leaves_behind old mid new engine s (r ∷ rs) holds valid quiet then =
     (leaves_quiet old mid engine s (r ∷ rs) holds valid quiet) then
 
 -- the engine wanted memory where that is what is told
-pub memory_wanted : (f : EngineFault) → fault_of f ≡ NoMemory → f ≡ engine.NoMemory
-memory_wanted (engine.Spent n) e = absurd (let g : ⊥ = cc in g)
-memory_wanted (engine.Damaged file at) e = absurd (let g : ⊥ = cc in g)
-memory_wanted engine.Failed e = absurd (let g : ⊥ = cc in g)
-memory_wanted engine.NoMemory e = refl
+pub memory_wanted : (given : EngineFault) (fault : TableFault)
+    → told_by_tables fault ≡ told_by_engine given → fault ≡ NoMemory → given ≡ engine.NoMemory
+memory_wanted given fault same none = by given (sym (ap told_by_tables none) ∙ same)
+  where
+    by : (given : EngineFault) → no_memory ≡ told_by_engine given → given ≡ engine.NoMemory
+    by (engine.Spent n) e = absurd (let g : ⊥ = cc in g)
+    by (engine.Damaged file at) e = absurd (let g : ⊥ = cc in g)
+    by engine.Failed e = absurd (let g : ⊥ = cc in g)
+    by engine.NoMemory e = refl
 
 -- a result has one fault
 pub same_Err : {A B : Type 0} (r : Result A B) (x y : B) → r ≡ Err x → r ≡ Err y → x ≡ y

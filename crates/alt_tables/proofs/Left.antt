@@ -1,6 +1,6 @@
 -- What callers of the tables say of the disk: what a call that reads leaves, for which state the tables stand behind it, and for which
 -- state the files stand that a stop leaves.
-use Rattle.std.proofs.Common.{◌≡◌, sym, subst, ℕ, List, Option, IsTrue}
+use Rattle.std.proofs.Common.{◌≡◌, ◌≤◌, ◌&&◌, Bool, true, false, sym, subst, ℕ, List, Option, IsTrue}
 use Rattle.std.specs.Prelude.{◌↔◌, ⊤}
 use Rattle.alt_disk.specs.Disk.{DiskState, Goes, IsImage, IsTrusted}
 use Rattle.alt_disk.specs.Runs.{Quiet, Spans}
@@ -11,7 +11,8 @@ use Rattle.alt_layout.specs.Layout.{no_rows}
 use Rattle.alt_opening.proofs.Engine.{files_hold}
 use Rattle.alt_machine.specs.State.{State, start}
 use Rattle.alt_opening.specs.Images.{StandsFor}
-use Rattle.alt_tables.specs.Images.{AfterSome, Lasts, Leaves}
+use Rattle.alt_opening.specs.Recovery.{WasLeft}
+use Rattle.alt_tables.specs.Images.{AfterSome, IsWhole, Lasts, Leaves}
 use Rattle.alt_tables.specs.Stands.{AreReady, Stands, Reads}
 use Rattle.alt_tables.specs.declared.tables.Tables.{Tables}
 use Rattle.alt_tables.proofs.Holding.{each_holds, holds_quiet, leaves_behind, leaves_quiet}
@@ -56,10 +57,6 @@ pub stays_read : (a b : DiskState) (t : Tables) (s : State) → Reads a b → St
 stays_read a b t s reads stands = stands_quiet a b t s reads.goes.tells reads.goes.honest
     (reads.quiet (tells_of a stands.rows.trusted)) stands
 
--- tables that stand for a state are ready
-pub stands_ready : (a : DiskState) (t : Tables) (s : State) → Stands a t s → AreReady a t
-stands_ready a t s stands trusted = (s, stands)
-
 -- and stay so where a call says that they stand for what they stood for
 pub ready_on : (a b : DiskState) (t u : Tables) → Goes a b
     → ((s : State) → Stands a t s ↔ Stands b u s) → AreReady a t → AreReady b u
@@ -95,7 +92,7 @@ stands_left a t s stands = each_holds a t.engine s stands.rows stands.valid
 pub stands_read : (a : DiskState) (t : Tables) (s : State) → Stands a t s → StandsFor a.file s
 stands_read a t s stands = record {
   layout = stands.rows.layout;
-  is = files_hold a t.engine stands.rows.layout stands.rows.is.reads;
+  is = files_hold a t.engine stands.rows.layout stands.rows.is.hand.reads;
   shows = stands.rows.shows;
   valid = stands.valid;
   held = stands.rows.held;
@@ -115,3 +112,24 @@ reads_lasts a b t s reads stands = stands_lasts b t s (stays_read a b t s reads 
 -- files that hold no rows stand for the empty store
 pub stands_made : (image : ℕ → Option (List ℕ)) → IsLayout image no_rows → StandsFor image start
 stands_made = image_made
+
+-- ---- a disk that is whole
+
+-- a disk that keeps what was synced and tells its contents can be relied on
+both_so : (b c : Bool) → IsTrue b → IsTrue c → IsTrue (b && c)
+both_so true true p q = q
+both_so true false p q = q
+both_so false c p q = p
+
+-- it is whole at each moment of an opening
+pub whole_on : (a b : DiskState) → Goes a b
+    → (IsTrusted a → Spans a b (λ _. ⊤) (WasLeft a)) → IsTrue a.tells → IsWhole a a.moment
+    → (t : ℕ) → a.moment ≤ t → t ≤ b.moment → IsWhole b t
+whole_on a b goes any_moment tells whole t low high = record {
+  honest = subst IsTrue (sym goes.honest) whole.honest;
+  each = λ image is.
+      let like : WasLeft a t image =
+      (any_moment (both_so a.tells a.honest tells whole.honest)).each t image low high is in
+      let (s, stands) = whole.each like.before like.left in
+      (s, like.same s stands);
+}

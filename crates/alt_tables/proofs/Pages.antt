@@ -26,12 +26,14 @@ use Rattle.alt_machine.specs.Walks.{end_bound, items_between, turned}
 use Rattle.alt_machine.proofs.Indexing.{all_index}
 use Rattle.alt_schema.specs.declared.schema.IndexSchema.{IndexSchema}
 use Rattle.alt_schema.specs.declared.schema.TableSchema.{TableSchema}
-use Rattle.alt_tables.specs.Faults.{IsFindFault, IsReadFault, fault_of}
+use Rattle.alt_hand.specs.Faults.{told_by_engine}
+use Rattle.alt_faults.specs.Faults.{IsOutside}
+use Rattle.alt_faults.proofs.Telling.{memory-outside, outside-neither}
+use Rattle.alt_tables.specs.Faults.{IsFindFault, IsReadFault, told_by_tables}
 use Rattle.alt_views.specs.ItemRows.{IsReadItem, item_columns}
-use Rattle.alt_tables.specs.Pages.{AreItemsOf, AreKept, ArePut}
+use Rattle.alt_tables.specs.private.Pages.{AreItemsOf, AreKept, ArePut}
 use Rattle.alt_tables.specs.Stands.{Stands, catalog_of}
 use Rattle.alt_tables.specs.declared.faults.TableFault.{TableFault}
-use Rattle.alt_tables.specs.declared.faults.TableFault.TheVariants.{Spent, Damaged, BadRow, Failed, NoMemory}
 use Rattle.alt_tables.specs.declared.tables.Tables.{Tables}
 use Rattle.alt_opening.proofs.Ties.{tied, itself}
 use Rattle.alt_opening.proofs.Engine.{finds_shown}
@@ -42,9 +44,8 @@ use Rattle.alt_views.proofs.Keeping.{kept_at}
 use Rattle.alt_opening.proofs.OneState.{some, has_whole}
 use Rattle.alt_tables.proofs.Standing.{known}
 use Rattle.alt_value.specs.Members.{text_order}
-use Rattle.alt_engine.specs.Opened.{IsUndamaged, IsUnspent}
-use Rattle.alt_engine.specs.declared.engine.EngineFault.{EngineFault}
-use Rattle.alt_engine.specs.declared.engine.EngineFault.TheVariants as engine
+use Rattle.alt_hand.specs.Opened.{IsUndamaged, IsUnspent}
+use Rattle.alt_hand.specs.declared.hand.EngineFault.{EngineFault}
 use Rattle.alt_value.specs.Tree.{Pair}
 
 -- ---- items as they are put one by one
@@ -308,7 +309,7 @@ module _ (disk : DiskState) (tables : Tables) (s : State) (name : List ℕ) (t :
       → page ≡ take most (map (row_at columns) (placed_between items from to forward))
   page_rows family walked columns items shows =
       let l = stands.rows.layout in
-      walked (tells_of disk stands.rows.trusted) l stands.rows.is.reads
+      walked (tells_of disk stands.rows.trusted) l stands.rows.is.hand.reads
       ∙ ap (λ (rows : List (List ℕ × Columns)). rows
       ++ take most (rows_between l family from to forward)) empty
       ∙ ap (take most) (rows_between-items columns l family items shows from to forward)
@@ -412,15 +413,11 @@ ok_then (Err e) f h = tt
 pub find_fault : {A : Type 0} (r : Result A TableFault) → IfErr r IsReadFault
     → IfErr r IsFindFault
 find_fault (Ok x) h = h
-find_fault (Err (Spent number)) h = h
-find_fault (Err (Damaged file at)) h = h
-find_fault (Err (BadRow family key)) h = h
-find_fault (Err Failed) h = absurd h
-find_fault (Err NoMemory) h = h
+find_fault (Err fault) h = memory-outside (told_by_tables fault) h
 
 -- so is a fault of an engine that reads, passed on
-pub engine_fault : (f : EngineFault) → IsUnspent f → IsUndamaged f → IsFindFault (fault_of f)
-engine_fault (engine.Spent number) unspent whole = absurd unspent
-engine_fault (engine.Damaged file at) unspent whole = absurd whole
-engine_fault engine.Failed unspent whole = tt
-engine_fault engine.NoMemory unspent whole = tt
+pub engine_fault : (given : EngineFault) (fault : TableFault)
+    → told_by_tables fault ≡ told_by_engine given → IsUnspent given → IsUndamaged given
+    → IsFindFault fault
+engine_fault given fault same unspent whole =
+    subst IsOutside (sym same) (outside-neither (told_by_engine given) unspent whole)

@@ -78,19 +78,6 @@ module _ (tables : Texts Table) (name : List ℕ) where
       by q true = refl
       by q false = sym (get-descriptions tables q)
 
--- a description that came and went
-pub remove-insert : {X : Type 0} (m : Texts X) (k : List ℕ) (x : X) → map.get m k ≡ None
-    → map.remove (map.insert m k x) k ≡ m
-remove-insert m k x absent = same_texts _ _ (λ q.
-    map.get-remove text_total (map.insert m k x) k q
-    ∙ ap (cond (eq_by_cmp text_order q k) None) (map.get-insert text_total m k x q)
-    ∙ by q (eq_by_cmp text_order q k) refl)
-  where
-    by : (q : List ℕ) (b : Bool) → eq_by_cmp text_order q k ≡ b
-        → cond b None (cond b (Some x) (map.get m q)) ≡ map.get m q
-    by q true e = sym (ap (map.get m) (tied q k e) ∙ absent)
-    by q false e = refl
-
 -- ---- tables in hand
 
 -- a table of the state is described in the catalog
@@ -180,7 +167,7 @@ module _ (disk : DiskState) (t : Tables) (s : State) (name : List ℕ) (u : Tabl
     (shows : (l : Layout) → EngineReads disk t.engine l → row ≡ shown l d.family place) where
   -- what the row shows is the item at its key
   pub row_shows : row ≡ option_map item_columns (map.get u.items place)
-  row_shows = shows stands.rows.layout stands.rows.is.reads
+  row_shows = shows stands.rows.layout stands.rows.is.hand.reads
       ∙ ap (λ (x : TableSchema). shown stands.rows.layout x.family place)
       (some _ _ (sym known_as ∙ known disk t s name u stands at))
       ∙ stands.rows.shows.items name u at place

@@ -1,23 +1,28 @@
 -- Work between requests leaves the state: each live family shows what it showed, and nothing else is looked at.
-use Rattle.std.proofs.Common.{◌≡◌, ⊎_elim, sym, ap, ◌∙◌, ℕ, List, Some, None, Contains, option_map}
+use Rattle.std.proofs.Common.{◌≡◌, ◌-◌, ◌^◌, ⊎_elim, sym, ap, subst, ◌∙◌, ℕ, List, Option, Some, None, Contains, option_map}
 use Rattle.std.specs.Prelude.{⊤}
 use Rattle.std.specs.FinMap as map
 use Rattle.alt_disk.specs.Disk.{DiskState, Goes}
 use Rattle.alt_disk.specs.Runs.{Spans}
 use Rattle.alt_disk.proofs.Runs.{spans_weaker, trusted_on}
 use Rattle.alt_engine.specs.InHand.{Stands as EngineStands}
-use Rattle.alt_engine.specs.Working.{AreLive, IsFileSpent, IsNoDamage, Works, WorksIn}
-use Rattle.alt_engine.specs.declared.engine.EngineFault.{EngineFault}
-use Rattle.alt_engine.specs.declared.engine.EngineFault.TheVariants.{Spent, Damaged, Failed, NoMemory}
+use Rattle.alt_hand.specs.Working.{AreLive, IsFileSpent, IsNoDamage, Works, WorksIn}
+use Rattle.alt_hand.specs.declared.hand.EngineFault.{EngineFault}
 use Rattle.alt_layout.specs.Layout.{Layout, shown}
 use Rattle.alt_machine.specs.State.{State, Table, descriptions, families_of}
 use Rattle.alt_machine.proofs.Descriptions.{get-descriptions}
 use Rattle.alt_manifest.specs.Versions.{IsIn}
-use Rattle.alt_opening.specs.Live.{AreLiveIn}
+use Rattle.alt_engine.specs.Working.{IsMerged}
+use Rattle.alt_opening.specs.Live.{AreLiveIn, IsOfTable}
 use Rattle.alt_opening.specs.StateRows.{Shows, catalog_family}
 use Rattle.alt_opening.proofs.Families.{own_family}
-use Rattle.alt_tables.specs.Faults.{IsWorkFault, fault_of}
+use Rattle.alt_hand.specs.Faults.{told_by_engine}
+use Rattle.alt_faults.specs.Faults.{OnlySpent}
+use Rattle.alt_faults.proofs.Telling.{only-spent}
+use Rattle.alt_tables.specs.Faults.{IsWorkFault, told_by_tables}
+use Rattle.alt_tables.specs.declared.faults.TableFault.{TableFault}
 use Rattle.alt_tables.specs.Images.{StandAt}
+use Rattle.alt_tables.specs.Merged.{IsMergedFor}
 use Rattle.alt_tables.specs.Stands.{Stands, live_of, number_of}
 use Rattle.alt_tables.specs.declared.tables.Tables.{Tables}
 use Rattle.alt_tables.proofs.IndexFamilies.{index_family}
@@ -100,11 +105,24 @@ module _ (old new : DiskState) (t : Tables) (s : State) (stands : Stands old t s
     valid = stands.valid;
   }
 
+-- ---- merges
+
+-- What is merged of the families that are said to be live is merged of those of the state.
+pub merged_for : (old : DiskState) (t : Tables) (s : State) → Stands old t s → (live : List ℕ)
+    → live ≡ live_of t → AreLive live → (files : ℕ → Option (List ℕ))
+    → IsMerged live files → IsMergedFor s files
+merged_for old t s stands live same are files merged gs of v has family there =
+    merged v has family (⊎_elim
+    (λ (own : family ≡ catalog_family). subst (IsIn live) (sym own) are.catalog)
+    (λ (table : IsOfTable (descriptions s.tables) family).
+    (still_live t.catalog (descriptions s.tables) t.live live (sym stands.catalog) same
+    stands.live).each family table) (of.only family there))
+
 -- ---- its faults
 
 -- a fault of the engine's work is one of work
-pub work_fault : (f : EngineFault) → IsFileSpent f → IsNoDamage f → IsWorkFault (fault_of f)
-work_fault (Spent number) spent whole = spent
-work_fault (Damaged file at) spent whole = whole
-work_fault Failed spent whole = tt
-work_fault NoMemory spent whole = tt
+pub work_fault : (given : EngineFault) (fault : TableFault)
+    → told_by_tables fault ≡ told_by_engine given → IsFileSpent given → IsNoDamage given
+    → IsWorkFault fault
+work_fault given fault same spent whole = subst (OnlySpent (λ n. n ≡ 2 ^ 32 - 1)) (sym same)
+    (only-spent (λ n. n ≡ 2 ^ 32 - 1) (told_by_engine given) spent whole)

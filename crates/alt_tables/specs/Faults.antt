@@ -1,14 +1,22 @@
 -- What a call that gives no answer tells, and what it leaves.
 use Rattle.std.specs.Prelude.{take, length, ◌≡◌, ◌≤◌, ◌-◌, ◌^◌, ℕ, List, Some, None, Result, Ok, Err}
 use Rattle.alt_disk.specs.Disk.{DiskState}
-use Rattle.alt_engine.specs.declared.engine.EngineFault.{EngineFault}
-use Rattle.alt_engine.specs.declared.engine.EngineFault.TheVariants as engine
+use Rattle.alt_faults.specs.Faults as view
+use Rattle.alt_faults.specs.Faults.{Fault, failed, no_memory, spent, damaged, bad_bytes, bad_row, IsMemory, IsOutside, OnlySpent}
 use Rattle.alt_machine.specs.Outcomes.{Wants, last_state, state_after}
 use Rattle.alt_machine.specs.State.{State}
 use Rattle.alt_machine.specs.Wanted.{lack_among}
 use Rattle.alt_tables.specs.Images.{Lasts}
 use Rattle.alt_tables.specs.declared.faults.TableFault.{TableFault}
 use Rattle.alt_tables.specs.declared.faults.TableFault.TheVariants.{Spent, Damaged, BadRow, Failed, NoMemory}
+
+-- What each variant tells.
+abbrev pub told_by_tables : TableFault → Fault
+told_by_tables (Spent number) = spent number
+told_by_tables (Damaged file at) = damaged (bad_bytes file at)
+told_by_tables (BadRow family key) = damaged (bad_row family key)
+told_by_tables Failed = failed
+told_by_tables NoMemory = no_memory
 
 -- Below, `now` says for which states the tables stand after a call, and `s` is a state for which they stood before it.
 
@@ -26,13 +34,9 @@ AreSome k atoms = k ≤ length atoms - 1
 -- tables stand for the state after those before it. Where the device failed or memory was wanting they stand for no state from then
 -- on, and what is left is told of the disk. Rows that stand for a state are never damaged or bad.
 abbrev pub BreakOff : (State → Type 0) → Wants → State → List State → TableFault → Type 0
-BreakOff now wants s atoms (Spent number) =
-    (before : ℕ) × (lack_among wants s atoms ≡ Some (record { number = number; before = before }))
-    × now (state_after before s atoms)
-BreakOff now wants s atoms (Damaged file at) = ⊥
-BreakOff now wants s atoms (BadRow family key) = ⊥
-BreakOff now wants s atoms Failed = Unit {0}
-BreakOff now wants s atoms NoMemory = Unit {0}
+BreakOff now wants s atoms fault = OnlySpent (λ number. (before : ℕ)
+    × (lack_among wants s atoms ≡ Some (record { number = number; before = before }))
+    × now (state_after before s atoms)) (told_by_tables fault)
 
 -- Memory was wanting, at any time before the last of these writes was made: some of them are made, none of which lacked a number or a
 -- family, and what the disk holds stands for the state after those.
@@ -51,40 +55,17 @@ Writes now wants s atoms (Err fault) = BreakOff now wants s atoms fault
 
 -- a fault of a step that asks nothing of the disk and writes nothing: memory was wanting
 abbrev pub IsReadFault : TableFault → Type 0
-IsReadFault (Spent number) = ⊥
-IsReadFault (Damaged file at) = ⊥
-IsReadFault (BadRow family key) = ⊥
-IsReadFault Failed = ⊥
-IsReadFault NoMemory = Unit {0}
+IsReadFault fault = IsMemory (told_by_tables fault)
 
 -- a fault of a call that reads rows which stand for a state: the device failed, or memory was wanting
 abbrev pub IsFindFault : TableFault → Type 0
-IsFindFault (Spent number) = ⊥
-IsFindFault (Damaged file at) = ⊥
-IsFindFault (BadRow family key) = ⊥
-IsFindFault Failed = Unit {0}
-IsFindFault NoMemory = Unit {0}
+IsFindFault fault = IsOutside (told_by_tables fault)
 
 -- a fault for which no number or family was wanting
 abbrev pub IsUnspent : TableFault → Type 0
-IsUnspent (Spent number) = ⊥
-IsUnspent (Damaged file at) = Unit {0}
-IsUnspent (BadRow family key) = Unit {0}
-IsUnspent Failed = Unit {0}
-IsUnspent NoMemory = Unit {0}
+IsUnspent fault = view.IsUnspent (told_by_tables fault)
 
 -- a fault of work between requests on tables that stand for a state: the last number of a file is wanted, the device failed, or memory
 -- was wanting
 abbrev pub IsWorkFault : TableFault → Type 0
-IsWorkFault (Spent number) = number ≡ 2 ^ 32 - 1
-IsWorkFault (Damaged file at) = ⊥
-IsWorkFault (BadRow family key) = ⊥
-IsWorkFault Failed = Unit {0}
-IsWorkFault NoMemory = Unit {0}
-
--- the fault of the engine, passed on
-abbrev pub fault_of : EngineFault → TableFault
-fault_of (engine.Spent number) = Spent number
-fault_of (engine.Damaged file at) = Damaged file at
-fault_of engine.Failed = Failed
-fault_of engine.NoMemory = NoMemory
+IsWorkFault fault = OnlySpent (λ number. number ≡ 2 ^ 32 - 1) (told_by_tables fault)

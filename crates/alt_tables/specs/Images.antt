@@ -1,5 +1,5 @@
 -- What a call of the tables leaves at each of its moments: files that stand for a state.
-use Rattle.std.specs.Prelude.{ℕ, List, [], ◌∷◌, Option, ⊤}
+use Rattle.std.specs.Prelude.{ℕ, List, [], ◌∷◌, Option, IsTrue, ⊤}
 use Rattle.alt_disk.specs.Disk.{DiskState, IsImage}
 use Rattle.alt_disk.specs.Runs.{Quiet, Spans}
 use Rattle.alt_machine.specs.Outcomes.{state_after}
@@ -10,6 +10,13 @@ pub use Rattle.alt_opening.specs.Images.{StandsFor}
 pub record Lasts (disk : DiskState) (s : State) : Type 0 where
   pub reads : StandsFor disk.file s
   pub left : (image : ℕ → Option (List ℕ)) → IsImage disk disk.moment image → StandsFor image s
+
+-- The disk keeps what was synced, and whatever a stop at the moment leaves stands for a state; the states may differ. So is what a finished
+-- `init` leaves, and any run of another command, whole or stopped.
+pub record IsWhole (disk : DiskState) (moment : ℕ) : Type 0 where
+  pub honest : IsTrue disk.honest
+  pub each : (image : ℕ → Option (List ℕ)) → IsImage disk moment image
+      → (s : State) × StandsFor image s
 
 -- files that stand for the state, whatever the moment
 abbrev pub StandAt : State → ℕ → (ℕ → Option (List ℕ)) → Type 0

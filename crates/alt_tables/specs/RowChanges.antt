@@ -4,7 +4,7 @@ use Rattle.alt_cells.specs.Batches.{is_distinct}
 use Rattle.alt_cells.specs.declared.batch.RowChange.{RowChange}
 use Rattle.alt_cells.specs.Changes.{change_between}
 use Rattle.alt_changes.specs.ChangeRows.{row_changes}
-use Rattle.alt_engine.specs.InHand.{batch_write}
+use Rattle.alt_hand.specs.InHand.{batch_write}
 use Rattle.alt_layout.specs.Layout.{Layout, IsPast}
 use Rattle.alt_layout.specs.Writes.{with_write}
 use Rattle.alt_machine.specs.Changes.{change_left}
@@ -33,9 +33,13 @@ creation_changes before after d = change_between catalog_family d.name None (Som
 abbrev pub drop_changes : TableSchema → List RowChange
 drop_changes d = change_between catalog_family d.name (Some (table_row d)) None ∷ []
 
+-- the rows behind these changes, which are one write with the next number
+abbrev pub changed_rows : Layout → List RowChange → Layout
+changed_rows l changes = with_write l (batch_write l changes)
+
 -- Where no row stands twice in them, these row changes turn, as the next write, the rows of one state into those of another.
 pub record Turns (changes : List RowChange) (s r : State) : Type 0 where
   pub shows : T (is_distinct changes) → (l : Layout) → IsPast l → Shows l s
-      → Shows (with_write l (batch_write l changes)) r
+      → Shows (changed_rows l changes) r
   pub valid : IsValid r
   pub held : IsHeldWhole r

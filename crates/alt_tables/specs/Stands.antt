@@ -3,8 +3,9 @@ use Rattle.std.specs.Prelude.{◌≡◌, ℕ, List}
 use Rattle.alt_disk.specs.Disk.{DiskState, IsTrusted, Goes}
 use Rattle.alt_disk.specs.Runs.{Quiet}
 use Rattle.std.specs.Prelude.{IsTrue}
-use Rattle.alt_engine.specs.InHand.{next_of, limits_of as engine_limits}
-use Rattle.alt_engine.specs.declared.engine.Limits.{Limits}
+use Rattle.alt_engine.specs.InHand.{Stands as EngineStands, next_of, limits_of as engine_limits}
+use Rattle.alt_layout.specs.Layout.{Layout}
+use Rattle.alt_hand.specs.declared.hand.Limits.{Limits}
 use Rattle.alt_machine.specs.State.{State, Texts, descriptions}
 use Rattle.alt_machine.specs.Valid.{IsValid}
 use Rattle.alt_schema.specs.declared.schema.TableSchema.{TableSchema}
@@ -52,6 +53,10 @@ pub record Stands (disk : DiskState) (t : Tables) (s : State) : Type 0 where
   pub live : AreLiveIn (catalog_of t) (live_of t)
   pub rows : Holds disk t.engine s
   pub valid : IsValid s
+
+-- The rows beneath the tables are those of the layout, as the disk reads and in whatever a stop now leaves.
+abbrev pub HasRows : DiskState → Tables → Layout → Type 0
+HasRows disk t l = EngineStands disk t.engine l
 
 -- On a disk that tells its contents and keeps what was synced the tables stand for a state: after a call that failed they don't, and
 -- then only a recovery goes on.

@@ -8,11 +8,11 @@ ghost use Rattle.alt_machine.specs.Ops.GetRecords.{changes_from};
 ghost use Rattle.alt_machine.specs.State as machine;
 ghost use Rattle.alt_machine.specs.State.{State, Table};
 ghost use Rattle.alt_tables.specs.Faults.{IsFindFault, IsReadFault, IsUnspent};
-ghost use Rattle.alt_tables.specs.Pages.{AreChangesOf};
+ghost use Rattle.alt_tables.specs.private.Pages.{AreChangesOf};
 ghost use Rattle.alt_opening.specs.StreamScans.{IsChangeAt};
 ghost use Rattle.alt_tables.specs.Stands.{AreReady, Reads, Stands, KeepsCatalog, catalog_of};
 
-use crate::faults::{TableFault, fault_of};
+use crate::faults::TableFault;
 use crate::tables::Tables;
 use alt_base::NoMemory;
 use alt_cells::ShownRow;
@@ -65,7 +65,7 @@ impl Tables {
             .rows(disk, family, &range, true, most, &mut page)
         {
             Ok(()) => read_changes(self.alloc, family, page),
-            Err(fault) => Err(fault_of(fault)),
+            Err(fault) => Err(TableFault::from(fault)),
         }
     }
 }

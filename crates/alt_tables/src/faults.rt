@@ -1,7 +1,6 @@
 //! Why a request had no answer at all.
 
 ghost use Rattle.std.specs.Prelude.{◌≡◌};
-ghost use Rattle.alt_tables.specs.Faults.{fault_of};
 
 use alt_base::NoMemory;
 use alt_engine::EngineFault;
@@ -53,14 +52,18 @@ impl<T: Drop> From<AllocFailed<T>> for TableFault {
     }
 }
 
-/// A fault of the engine, passed on.
-pub(crate) fn fault_of(fault: EngineFault) -> TableFault
-    ensures { result ≡ fault_of fault }
-{
-    match fault {
-        EngineFault::Spent { number } => TableFault::Spent { number },
-        EngineFault::Damaged { file, at } => TableFault::Damaged { file, at },
-        EngineFault::Failed => TableFault::Failed,
-        EngineFault::NoMemory => TableFault::NoMemory,
+impl From<EngineFault> for TableFault {
+    ghost use Rattle.alt_hand.specs.Faults.{told_by_engine};
+    ghost use Rattle.alt_tables.specs.Faults.{told_by_tables};
+
+    ghost from_gives = { λ given f. told_by_tables f ≡ told_by_engine given };
+
+    fn from(fault: EngineFault) -> Self {
+        match fault {
+            EngineFault::Spent { number } => TableFault::Spent { number },
+            EngineFault::Damaged { file, at } => TableFault::Damaged { file, at },
+            EngineFault::Failed => TableFault::Failed,
+            EngineFault::NoMemory => TableFault::NoMemory,
+        }
     }
 }

@@ -1,12 +1,13 @@
 //! Opening the tables of a disk.
 
-ghost use Rattle.std.specs.Prelude.{◌≡◌, ℕ, IfOk, IfErr, IsErrOf, IsTrue, ⊤};
+ghost use Rattle.std.specs.Prelude.{◌≡◌, ◌≤◌, ℕ, IfOk, IfErr, IsErrOf, IsTrue, ⊤};
 ghost use Rattle.alt_base.specs.Counts.{Rose};
 ghost use Rattle.alt_disk.specs.Disk.{IsTrusted, Goes};
 ghost use Rattle.alt_disk.specs.Runs.{Spans};
 ghost use Rattle.alt_machine.specs.State.{State};
 ghost use Rattle.alt_opening.specs.Images.{StandsFor};
 ghost use Rattle.alt_opening.specs.Recovery.{IsExplained, HasNoState, WasLeft};
+ghost use Rattle.alt_tables.specs.Images.{IsWhole};
 ghost use Rattle.alt_tables.specs.Stands.{Stands, limits_of};
 
 use crate::tables::Tables;
@@ -39,6 +40,12 @@ impl Tables {
         // stood.
         ensures any_moment { IsTrusted (D.state disk.old)
             → Spans (D.state disk.old) (D.state disk.new) (λ _. ⊤) (WasLeft (D.state disk.old)) }
+
+        // A disk that is whole stays so at each moment of the call.
+        ensures whole { IsTrue (D.state disk.old).tells
+            → IsWhole (D.state disk.old) (D.state disk.old).moment → (t : ℕ)
+            → (D.state disk.old).moment ≤ t → t ≤ (D.state disk.new).moment
+            → IsWhole (D.state disk.new) t }
 
         // Damaged, DigestDiffers and BadRow come exactly where the files stand for no state; the first two where they are no store's,
         // and BadRow names the first wrong row.

@@ -4,7 +4,8 @@ ghost use Rattle.std.specs.Prelude.{◌≡◌, ◌↔◌, ◌∷◌, [], ℕ, tr
 ghost use Rattle.std.specs.FinMap as map;
 ghost use Rattle.alt_base.specs.Counts.{Rose};
 ghost use Rattle.alt_cells.specs.Changes.{change_between};
-ghost use Rattle.alt_disk.specs.Disk.{Goes};
+ghost use Rattle.alt_disk.specs.Disk.{IsTrusted, Goes};
+ghost use Rattle.alt_layout.specs.Layout.{Layout};
 ghost use Rattle.alt_machine.specs.Keys.{place_of};
 ghost use Rattle.alt_machine.specs.Outcomes.{a_number};
 ghost use Rattle.alt_machine.specs.Same.{is_same};
@@ -18,12 +19,12 @@ ghost use Rattle.alt_tables.specs.Found.{IsFoundIn, number_taken};
 ghost use Rattle.alt_tables.specs.Images.{Leaves};
 ghost use Rattle.alt_views.specs.IndexRows.{index_changes};
 ghost use Rattle.alt_views.specs.ItemRows.{IsReadItem, item_columns};
-ghost use Rattle.alt_tables.specs.RowChanges.{item_changes};
-ghost use Rattle.alt_tables.specs.Stands.{AreReady, Reads, Stands, KeepsCatalog, catalog_of, limits_of, number_of};
+ghost use Rattle.alt_tables.specs.RowChanges.{changed_rows, item_changes};
+ghost use Rattle.alt_tables.specs.Stands.{AreReady, HasRows, Reads, Stands, KeepsCatalog, catalog_of, limits_of, number_of};
 ghost use Rattle.alt_value.specs.Tree.{Pair};
 ghost use Rattle.alt_value.specs.Values.{IsItemOfValues};
 
-use crate::faults::{TableFault, fault_of};
+use crate::faults::TableFault;
 use crate::tables::Tables;
 use alt_base::NoMemory;
 use alt_cells::{Batch, RowChange, ShownRow};
@@ -73,7 +74,7 @@ impl Tables {
         let family = schema.family;
         let row = match self.engine.row(disk, family, place.as_slice()) {
             Ok(row) => row,
-            Err(fault) => return Err(fault_of(fault)),
+            Err(fault) => return Err(TableFault::from(fault)),
         };
         match item_of(self.alloc, &row) {
             Ok(item) => Ok(Found { place, item }),
@@ -110,6 +111,13 @@ impl Tables {
         ensures disk { (s : State) (t : Table) → Stands (D.state disk.old) self.old s
             → map.get s.tables table.now ≡ Some t → Leaves (D.state disk.old) (D.state disk.new) s
             (item_writes s moment table.now t found.place new) }
+        // The one entry of the write has these row changes: of an item that is made or goes its row is cleared, and what it has comes; of one that
+        // changes what differs comes, and what is gone goes.
+        ensures rows { IfOk result (λ n. IsSome n → IsTrusted (D.state disk.old)
+            → (d : TableSchema) (l : Layout) → map.get (catalog_of self.old) table.now ≡ Some d
+            → HasRows (D.state disk.old) self.old l → HasRows (D.state disk.new) self.new
+            (changed_rows l (item_changes d (number_of self.old) moment found.place found.item
+            new))) }
         // On every disk: where memory is wanting no call of the disk is made.
         ensures no_memory { IsErrOf result TableFault.NoMemory
             → D.state disk.new ≡ D.state disk.old }
@@ -223,6 +231,12 @@ impl Tables {
             → place_of t.description key.now ≡ Some place
             → Leaves (D.state disk.old) (D.state disk.new) s
             (item_writes s moment table.now t place (option_map (λ i. i.now) new.entry)) }
+        ensures rows { IfOk result (λ n. IsSome n → IsTrusted (D.state disk.old)
+            → (d : TableSchema) (place : List ℕ) (l : Layout)
+            → map.get (catalog_of self.old) table.now ≡ Some d → place_of d key.now ≡ Some place
+            → HasRows (D.state disk.old) self.old l → HasRows (D.state disk.new) self.new
+            (changed_rows l (item_changes d (number_of self.old) moment place
+            (option_map (λ i. i.now) old.entry) (option_map (λ i. i.now) new.entry)))) }
         ensures no_memory { IsErrOf result TableFault.NoMemory
             → D.state disk.new ≡ D.state disk.old }
         ensures goes { Goes (D.state disk.old) (D.state disk.new) }

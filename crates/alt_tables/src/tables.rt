@@ -4,6 +4,7 @@ ghost use Rattle.std.specs.Prelude.{◌≡◌, ◌∷◌, [], ◌+◌, ◌<◌, 
 ghost use Rattle.std.specs.FinMap as map;
 ghost use Rattle.alt_base.specs.Counts.{Rose};
 ghost use Rattle.alt_disk.specs.Disk.{IsTrusted, Goes};
+ghost use Rattle.alt_layout.specs.Layout.{Layout};
 ghost use Rattle.alt_machine.specs.Ops.CreateTable.{with_table};
 ghost use Rattle.alt_machine.specs.Ops.DeleteTable.{without_table};
 ghost use Rattle.alt_machine.specs.Ops.ListTables.{names_after};
@@ -15,11 +16,11 @@ ghost use Rattle.alt_schema.specs.Described.{IsNew};
 ghost use Rattle.alt_tables.specs.Faults.{IsFindFault, Writes};
 ghost use Rattle.alt_tables.specs.Images.{Leaves};
 ghost use Rattle.alt_opening.specs.Order.{first_after};
-ghost use Rattle.alt_tables.specs.RowChanges.{Turns, creation_changes, drop_changes};
-ghost use Rattle.alt_tables.specs.Stands.{AreReady, Stands, catalog_of, number_of, family_of, limits_of};
+ghost use Rattle.alt_tables.specs.RowChanges.{Turns, changed_rows, creation_changes, drop_changes};
+ghost use Rattle.alt_tables.specs.Stands.{AreReady, HasRows, Stands, catalog_of, number_of, family_of, limits_of};
 ghost use Rattle.alt_opening.specs.Opened.{Holds};
 
-use crate::faults::{TableFault, fault_of};
+use crate::faults::TableFault;
 use alt_base::NoMemory;
 use alt_cells::{Batch, RowChange};
 use alt_disk::Disk;
@@ -173,6 +174,9 @@ impl Tables {
         requires room { number_of self.old < NUMBERS_END }
         ensures ok { OnOk result ((s r : State) → Holds (D.state disk.old) self.old.engine s
             → Turns batch.now s r → Holds (D.state disk.new) self.new.engine r) }
+        ensures rows { OnOk result (IsTrusted (D.state disk.old) → (l : Layout)
+            → HasRows (D.state disk.old) self.old l
+            → HasRows (D.state disk.new) self.new (changed_rows l batch.now)) }
         ensures number { IfOk result (λ n. n ≡ number_of self.old) }
         ensures next { OnOk result (number_of self.new ≡ number_of self.old + 1) }
         ensures kept { (self.new.catalog ≡ self.old.catalog) × (self.new.live ≡ self.old.live)
@@ -191,7 +195,7 @@ impl Tables {
         let _changes = batch.as_slice();
         match self.engine.apply(disk, batch) {
             Ok(number) => Ok(number),
-            Err(fault) => Err(fault_of(fault)),
+            Err(fault) => Err(TableFault::from(fault)),
         }
     }
 }

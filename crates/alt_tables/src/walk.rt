@@ -11,19 +11,19 @@ ghost use Rattle.alt_schema.specs.Indexes.{indexes};
 ghost use Rattle.alt_schema.specs.declared.schema.IndexSchema.{IndexSchema};
 ghost use Rattle.alt_schema.specs.declared.schema.TableSchema.{TableSchema};
 ghost use Rattle.alt_tables.specs.Faults.{IsFindFault, IsReadFault, IsUnspent};
-ghost use Rattle.alt_tables.specs.Pages.{AreItemsOf, AreKept, ArePut};
+ghost use Rattle.alt_tables.specs.private.Pages.{AreItemsOf, AreKept, ArePut};
 ghost use Rattle.alt_tables.specs.Stands.{AreReady, Reads, Stands, KeepsCatalog, catalog_of};
 ghost use Rattle.alt_value.specs.Tree.{Pair};
 
-use crate::faults::{TableFault, fault_of};
+use crate::faults::TableFault;
 use crate::tables::Tables;
 use alt_cells::ShownRow;
 use alt_disk::Disk;
 use alt_fields::Bytes;
 use alt_keyorder::KeyRange;
-use alt_schema::{IndexSchema, TableSchema, index_at};
+use alt_schema::{IndexSchema, TableSchema};
 use alt_value::Item;
-use alt_views::{Unread, item_of_index_row, item_of_row};
+use alt_views::{Unread, index_at, item_of_index_row, item_of_row};
 use std::alloc::Global;
 
 impl Tables {
@@ -102,7 +102,7 @@ impl Tables {
             .rows(disk, family, range, forward, most, &mut page)
         {
             Ok(()) => read_page(self.alloc, family, page, out),
-            Err(fault) => Err(fault_of(fault)),
+            Err(fault) => Err(TableFault::from(fault)),
         }
     }
 
@@ -147,7 +147,7 @@ impl Tables {
             .rows(disk, index.family, range, forward, most, &mut page)
         {
             Ok(()) => read_index_page(self.alloc, schema, index, page, out),
-            Err(fault) => Err(fault_of(fault)),
+            Err(fault) => Err(TableFault::from(fault)),
         }
     }
 }

@@ -4,13 +4,14 @@ ghost use Rattle.std.specs.Prelude.{◌≡◌, ◌<◌, ◌*◌, ⊤, ℕ, IfErr
 ghost use Rattle.alt_base.specs.Counts.{Rose};
 ghost use Rattle.alt_disk.specs.Disk.{IsTrusted, Goes};
 ghost use Rattle.alt_disk.specs.Runs.{Spans};
-ghost use Rattle.alt_engine.specs.Working.{HasEntries};
+ghost use Rattle.alt_hand.specs.Working.{HasEntries};
 ghost use Rattle.alt_machine.specs.State.{State};
 ghost use Rattle.alt_tables.specs.Faults.{IsWorkFault};
 ghost use Rattle.alt_tables.specs.Images.{StandAt};
+ghost use Rattle.alt_tables.specs.Merged.{IsMergedFor};
 ghost use Rattle.alt_tables.specs.Stands.{AreReady, KeepsCatalog, Stands, limits_of};
 
-use crate::faults::{TableFault, fault_of};
+use crate::faults::TableFault;
 use crate::tables::Tables;
 use alt_disk::Disk;
 use alt_engine::{Task, Worked};
@@ -28,12 +29,15 @@ impl Tables {
             → Spans (D.state disk.old) (D.state disk.new) (λ _. ⊤) (StandAt s) }
 
         // After a step the entries of the log are fewer than 16 times the bytes at which a family is flushed; after a flush of all there
-        // are none.
+        // are none; after merges of all the families of tables have one file each at most, without tombstones.
         ensures step { task ≡ Task.Step → 0 < (limits_of self.old).flush
             → OnOk result (IsTrusted (D.state disk.old) → (n : ℕ)
             → HasEntries (D.state disk.new).file n → n < 16 * (limits_of self.old).flush) }
         ensures flush_all { task ≡ Task.FlushAll → OnOk result (IsTrusted (D.state disk.old)
             → (n : ℕ) → HasEntries (D.state disk.new).file n → n ≡ 0) }
+        ensures merge_all { task ≡ Task.MergeAll → OnOk result (IsTrusted (D.state disk.old)
+            → (s : State) → Stands (D.state disk.old) self.old s
+            → IsMergedFor s (D.state disk.new).file) }
         ensures fault { IsTrusted (D.state disk.old) → IfErr result IsWorkFault }
         ensures goes { Goes (D.state disk.old) (D.state disk.new) }
         ensures cause { IsErrOf result TableFault.Failed
@@ -41,7 +45,7 @@ impl Tables {
     {
         match self.engine.work(disk, task, self.live.as_slice()) {
             Ok(worked) => Ok(worked),
-            Err(fault) => Err(fault_of(fault)),
+            Err(fault) => Err(TableFault::from(fault)),
         }
     }
 }

@@ -3,7 +3,7 @@ use Rattle.std.proofs.Common.{◌≡◌, ap, ◌∙◌, ◌≤◌, ◌++◌, ℕ
 use Rattle.std.proofs.lemmas.List.{take-append-le}
 use Rattle.alt_http.specs.Reading.{scan_of}
 use Rattle.alt_http.proofs.Answering.{scan_of-nothing, scan_of-head}
-use Rattle.alt_talks.specs.HeadViews.{AreRead, scan_in}
+use Rattle.alt_talks.specs.private.HeadViews.{AreRead, scan_in}
 use Rattle.alt_talks.specs.declared.front.Head.{Head}
 
 -- none of them were read

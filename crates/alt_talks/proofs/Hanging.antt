@@ -121,19 +121,3 @@ pub wait_failed : (r : Rules) (w : Lawful r) (per : ℕ) (s : State) (a b : Disk
     → LeavesNow a s → Stretch a b (ComesSomeOn r per Failed s)
 wait_failed r w per s a b g m keeps here = stretch_one a b (ComesSomeOn r per Failed s) [] g m tt keeps
     (inl (refl, refl, tt), left_silent r w (at per false []) s a b [] [] keeps refl here)
-
--- what is kept from the accept to the hanging up
-pub hung_passes : (a b c d : DiskState) → talks a.beside ≡ false → Keeps a b
-    → notes_of b.beside ≡ notes_of a.beside → Passes b c → Keeps c d
-    → notes_of d.beside ≡ notes_of c.beside → talks d.beside ≡ false → Passes a d
-hung_passes a b c d quiet first notes p last more off = record {
-  tells = last.tells ∙ p.tells ∙ first.tells;
-  honest = last.honest ∙ p.honest ∙ first.honest;
-  anchors = last.anchors ∙ p.anchors ∙ first.anchors;
-  later = omega (arith, first.later, p.later, last.later);
-  faults = omega (arith, first.faults, p.faults, last.faults);
-  past = λ t f le. last.past t f (omega (arith, le, first.later, p.later))
-      ∙ p.past t f (omega (arith, le, first.later)) ∙ first.past t f le;
-  notes = more ∙ p.notes ∙ notes;
-  talking = off ∙ sym quiet;
-}

@@ -1,6 +1,5 @@
 pub mod Connections
 pub mod Faults
-pub mod HeadViews
 pub mod Runs
 pub mod Stops
 pub mod Stretches
@@ -11,3 +10,4 @@ pub mod TalkViews
 pub mod Talks
 pub mod Turns
 pub mod Works
+pub mod private

@@ -175,10 +175,6 @@ pub record Carries (r : Rules) (h : Head) (p : Place) (s : State) (mute : Bool) 
   pub answers : Answers r s mute (asked (request_of h p.bytes (p.left - 1)) ∷ []) t after_it entries told
   pub place : q ≡ at (if h.close then 0 else p.left - 1) false (drop (size_of h) p.bytes)
 
--- carrying it out broke off
-abbrev pub CarriesSome : Rules → RunFault → Head → Place → State → Bool → Log → List ℕ → Type 0
-CarriesSome r fault h p s mute entries told = AnswersSome r fault s mute (asked (request_of h p.bytes (p.left - 1)) ∷ []) entries told
-
 -- Turns were done until none was left at hand.
 pub record MovesAll (r : Rules) (p : Place) (s : State) (mute : Bool) (q : Place) (t : State) (after_it : Bool) (entries : Log) (told : List ℕ) : Type 0 where
   pub does : Does r s mute (turns r p.left p.greeted p.bytes) t after_it entries told

@@ -1,11 +1,12 @@
 -- Work on the store between two turns: it says and takes nothing, and changes no state.
 use Rattle.std.specs.Prelude.{◌≡◌, ◌<◌, ◌*◌, ℕ}
 use Rattle.alt_disk.specs.Disk.{DiskState, Goes, IsTrusted}
-use Rattle.alt_engine.specs.Working.{HasEntries}
+use Rattle.alt_hand.specs.Working.{HasEntries}
 use Rattle.alt_engine.specs.declared.work.Task.{Task}
-use Rattle.alt_engine.specs.declared.work.Task.TheVariants.{Step, FlushAll}
+use Rattle.alt_engine.specs.declared.work.Task.TheVariants.{Step, FlushAll, MergeAll}
 use Rattle.alt_machine.specs.State.{State}
 use Rattle.alt_tables.specs.Images.{StandsFor}
+use Rattle.alt_tables.specs.Merged.{IsMergedFor}
 use Rattle.alt_talks.specs.Stops.{AtEach}
 
 -- Work on a store that stands for a state: calls of the disk alone, and whatever a stop leaves at a moment of them stands for that state.
@@ -23,7 +24,13 @@ HasFewEntries flush disk =
 abbrev pub HasNoEntries : DiskState → Type 0
 HasNoEntries disk = IsTrusted disk → (n : ℕ) → HasEntries disk.file n → n ≡ 0
 
+-- Of the state for which the files stand each live family has one row file at most, without tombstones, and so without hidden cells.
+abbrev pub HasMergedFiles : DiskState → Type 0
+HasMergedFiles disk =
+    IsTrusted disk → (s : State) → StandsFor disk.file s → IsMergedFor s disk.file
+
 -- What a task leaves of them, where a family is flushed from so many bytes on.
 abbrev pub AfterWork : Task → ℕ → DiskState → Type 0
 AfterWork Step flush disk = HasFewEntries flush disk
 AfterWork FlushAll flush disk = HasNoEntries disk
+AfterWork MergeAll flush disk = HasMergedFiles disk

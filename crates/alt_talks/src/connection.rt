@@ -10,7 +10,7 @@ ghost use Rattle.alt_shell.specs.Log.{talks, takes_missed, says_missed};
 ghost use Rattle.alt_tables.specs.Stands.{AreReady, Stands};
 ghost use Rattle.alt_http.specs.Reading.{scan_of};
 ghost use Rattle.alt_talks.specs.Faults.{IsWorkFault};
-ghost use Rattle.alt_talks.specs.HeadViews.{scan_in};
+ghost use Rattle.alt_talks.specs.private.HeadViews.{scan_in};
 ghost use Rattle.alt_talks.specs.Runs.{Leads, Passes, Stretch};
 ghost use Rattle.alt_talks.specs.Stretches.{Utters, AtRest};
 ghost use Rattle.alt_talks.specs.TalkRules.{rules};

@@ -3,7 +3,7 @@
 ghost use Rattle.std.specs.Prelude.{◌≡◌};
 
 use alt_fields::Bytes;
-use alt_tables::TableFault;
+use alt_tables::{OpenFault, TableFault};
 
 /// Why a run over a store ends before all was done.
 #[derive(Debug, Drop)]
@@ -35,10 +35,10 @@ pub enum RunFault {
 }
 
 impl From<TableFault> for RunFault {
-    ghost use Rattle.std.specs.Prelude.{◌≡◌};
-    ghost use Rattle.alt_talks.specs.Faults.{run_fault};
+    ghost use Rattle.alt_tables.specs.Faults.{told_by_tables};
+    ghost use Rattle.alt_talks.specs.Faults.{told_by_run};
 
-    ghost from_gives = { λ fault f. f ≡ run_fault fault };
+    ghost from_gives = { λ given f. told_by_run f ≡ told_by_tables given };
 
     fn from(fault: TableFault) -> Self {
         match fault {
@@ -47,6 +47,25 @@ impl From<TableFault> for RunFault {
             TableFault::BadRow { family, key } => RunFault::BadRow { family, key },
             TableFault::Failed => RunFault::Failed,
             TableFault::NoMemory => RunFault::NoMemory,
+        }
+    }
+}
+
+impl From<OpenFault> for RunFault {
+    ghost use Rattle.alt_opening.specs.Faults.{told_by_opening};
+    ghost use Rattle.alt_talks.specs.Faults.{told_by_run};
+
+    ghost from_gives = { λ given f. told_by_run f ≡ told_by_opening given };
+
+    fn from(fault: OpenFault) -> Self {
+        match fault {
+            OpenFault::Damaged { file, at } => RunFault::Damaged { file, at },
+            OpenFault::DigestDiffers { file, kept, found } => {
+                RunFault::DigestDiffers { file, kept, found }
+            }
+            OpenFault::BadRow { family, key } => RunFault::BadRow { family, key },
+            OpenFault::Failed => RunFault::Failed,
+            OpenFault::NoMemory => RunFault::NoMemory,
         }
     }
 }

@@ -3,7 +3,7 @@
 
 ghost use Rattle.std.specs.Prelude.{◌≡◌, ◌≤◌, ◌++◌, [], drop, length, IfOk, OnOk};
 ghost use Rattle.alt_http.specs.Reading.{scan_of};
-ghost use Rattle.alt_talks.specs.HeadViews.{scan_in, is_more};
+ghost use Rattle.alt_talks.specs.private.HeadViews.{scan_in, is_more};
 
 use alt_base::NoMemory;
 use alt_fields::Bytes;
@@ -31,7 +31,7 @@ pub(crate) struct Front {
 
 impl Model for Front {
     ghost use Rattle.std.specs.Prelude.{ℕ, List};
-    ghost use Rattle.alt_talks.specs.HeadViews.{AreRead};
+    ghost use Rattle.alt_talks.specs.private.HeadViews.{AreRead};
 
     ghost Value = { List ℕ };
 

@@ -23,7 +23,7 @@ use Rattle.alt_value.specs.Item.{at_name}
 use Rattle.alt_value.specs.Members.{text_order}
 use Rattle.alt_value.specs.Tree.{Pair}
 use Rattle.alt_value.proofs.Texts.{text_total, text_apart}
-use Rattle.alt_views.specs.Changed.{AreAlikeBeside, DifferAt, may_change}
+use Rattle.alt_views.specs.private.Changed.{AreAlikeBeside, DifferAt, may_change}
 use Rattle.alt_views.specs.IndexRows.{KeyedRow, changes_in, if_said, index_columns, moved_changes, row_in_index}
 use Rattle.alt_views.proofs.Keeping.{hash_is_key, range_is_key, own_kept, place-cut, same_name}
 use Rattle.alt_views.proofs.Parts.{at_name-where}

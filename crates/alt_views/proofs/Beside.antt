@@ -12,7 +12,7 @@ use Rattle.alt_schema.specs.Indexes.{stands_in}
 use Rattle.alt_value.specs.Item.{IsItem, at_name}
 use Rattle.alt_value.specs.Members.{text_order}
 use Rattle.alt_value.specs.Tree.{Tree, Pair}
-use Rattle.alt_views.specs.Changed.{AreAlikeBeside}
+use Rattle.alt_views.specs.private.Changed.{AreAlikeBeside}
 use Rattle.alt_views.proofs.Keeping.{same_name}
 use Rattle.alt_views.proofs.Parts.{ties}
 

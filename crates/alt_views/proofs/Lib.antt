@@ -3,9 +3,11 @@ pub mod Back
 pub mod Batched
 pub mod Beside
 pub mod Columns
+pub mod Cuts
 pub mod ItemRowLaws
 pub mod Keeping
 pub mod Moved
+pub mod Numbers
 pub mod Parts
 pub mod Placing
 pub mod Reading

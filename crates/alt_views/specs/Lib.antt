@@ -1,6 +1,6 @@
 pub mod Batches
-pub mod Changed
 pub mod IndexRows
 pub mod ItemRows
 pub mod Read
 pub mod Values
+pub mod private

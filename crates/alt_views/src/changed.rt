@@ -2,14 +2,15 @@
 
 ghost use Rattle.std.specs.Prelude.{◌≡◌, ◌↔◌, IfOk, IsTrue, Some, is_some, map, option_map};
 ghost use Rattle.std.specs.List.{list_any};
-ghost use Rattle.alt_schema.specs.Indexes.{is_included, is_projected, stands_in};
+ghost use Rattle.alt_schema.specs.Indexes.{is_projected};
 ghost use Rattle.alt_value.specs.Item.{at_name};
 ghost use Rattle.alt_value.specs.Stands.{tree_of};
-ghost use Rattle.alt_views.specs.Changed.{AreAlikeBeside, DifferAt, may_change};
+ghost use Rattle.alt_views.specs.private.Changed.{AreAlikeBeside, DifferAt, may_change};
 
+use crate::rows::projection::is_projected;
 use alt_base::NoMemory;
-use alt_schema::{IndexSchema, Projection, TableSchema, is_key};
-use alt_value::{Attr, Item, Text, equal};
+use alt_schema::{IndexSchema, TableSchema};
+use alt_value::{Attr, Item, equal};
 use std::alloc::Global;
 
 /// The names at which two items differ, where both are there; none are looked for where there are no indexes.
@@ -93,29 +94,4 @@ fn keeps_one(schema: &TableSchema, index: &IndexSchema, names: &[&str]) -> bool
         }
     }
     false
-}
-
-/// Whether an index keeps an attribute of that name.
-fn is_projected(schema: &TableSchema, index: &IndexSchema, name: &str) -> bool
-    ensures { result ≡ is_projected schema.now index.now name.now }
-{
-    is_included(&index.projection, name)
-        || is_key(&schema.hash, &schema.range, name)
-        || is_key(&index.hash, &index.range, name)
-}
-
-fn is_included(projection: &Projection, name: &str) -> bool
-    ensures { result ≡ is_included projection.now name.now }
-{
-    match projection {
-        Projection::All => true,
-        Projection::KeysOnly => false,
-        Projection::Include(names) => stands_in(names.as_slice(), name),
-    }
-}
-
-fn stands_in(names: &[Text], name: &str) -> bool
-    ensures { result ≡ stands_in names.now name.now }
-{
-    names.iter().any(|other| other.as_str() == name)
 }

@@ -6,15 +6,16 @@ ghost use Rattle.alt_cells.specs.Changes.{change_between};
 ghost use Rattle.alt_schema.specs.Indexes.{indexes};
 ghost use Rattle.alt_schema.specs.declared.schema.IndexSchema.{IndexSchema};
 ghost use Rattle.alt_views.specs.Batches.{AreNew, AreOfOwnFamilies};
-ghost use Rattle.alt_views.specs.Changed.{DifferAt};
+ghost use Rattle.alt_views.specs.private.Changed.{DifferAt};
 ghost use Rattle.alt_views.specs.IndexRows.{changes_in, if_said, index_changes, moved_changes, row_in_index};
 ghost use Rattle.alt_views.specs.Read.{row_at};
 
 use crate::changed::{changed_names, may_change};
 use crate::indexed::{IndexRow, index_row};
+use crate::rows::projection::index_at;
 use alt_base::NoMemory;
 use alt_cells::{Batch, RowChange};
-use alt_schema::{TableSchema, index_at};
+use alt_schema::TableSchema;
 use alt_value::Item;
 use std::alloc::Global;
 

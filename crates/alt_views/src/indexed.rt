@@ -14,11 +14,12 @@ ghost use Rattle.alt_views.specs.Read.{AreValuesOf, IsKeptAt, IsValueOf, Reads, 
 
 use crate::item_row::{Unread, item_of_row, row_of_item};
 use crate::place::index_place;
+use crate::rows::projection::{index_at, index_item};
 use alt_base::NoMemory;
 use alt_cells::ShownRow;
 use alt_fields::Bytes;
 use alt_keyorder::take_part;
-use alt_schema::{IndexSchema, KeyAttr, TableSchema, index_at, index_item};
+use alt_schema::{IndexSchema, KeyAttr, TableSchema};
 use alt_value::Item;
 use std::alloc::Global;
 

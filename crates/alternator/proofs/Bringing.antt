@@ -3,19 +3,21 @@ use Rattle.std.proofs.Common.{Option, ◌≡◌, ◌<◌, ℕ, List, [], ◌∷�
 use Rattle.std.proofs.Math.Path.{fun_ext}
 use Rattle.std.specs.Prelude.{◌||◌, Result, Ok, Err, OnOk}
 use Rattle.alt_disk.specs.Disk.{DiskState, Goes, IsTrusted}
-use Rattle.alt_engine.specs.Working.{HasEntries}
+use Rattle.alt_hand.specs.Working.{HasEntries}
 use Rattle.alt_lines.specs.Unread.{Unread}
 use Rattle.alt_shell.specs.Calls.{Adds, Keeps}
 use Rattle.alt_shell.specs.Log.{Log, Grows, entry, told_count, took, said, taken, ended}
 use Rattle.alt_shell.proofs.Telling.{Grows-then, Grows-nil}
-use Rattle.alt_talks.specs.Works.{HasFewEntries, HasNoEntries}
+use Rattle.alt_tables.specs.Images.{StandsFor}
+use Rattle.alt_tables.specs.Merged.{IsMergedFor}
+use Rattle.alt_talks.specs.Works.{HasFewEntries, HasMergedFiles, HasNoEntries}
 use Rattle.alternator.specs.declared.words.Job.{Job}
 use Rattle.alternator.specs.declared.words.Job.TheVariants.{Replay, Serve, Trial}
-use Rattle.alternator.specs.Behind.{AfterJob, LastLine, last_of, AreReadable, Behind, Brings, BringsAtHand, BringsSome, BringsRest}
+use Rattle.alternator.specs.Behind.{AfterJob, SaysSummary, LastLine, last_of, AreReadable, Behind, Brings, BringsAtHand, BringsSome, BringsRest}
 use Rattle.alternator.specs.Endings.{IsReadable}
 use Rattle.alternator.specs.Runs.{HandsOut, asked_now, asked_later}
 use Rattle.alternator.specs.Turns.{Asked, request, control, unread, asks}
-use Rattle.alternator.specs.declared.lines.Control.TheVariants.{Flush, Step, Reopen}
+use Rattle.alternator.specs.declared.lines.Control.TheVariants.{Flush, Merge, Step, Reopen}
 use Rattle.alt_talks.specs.declared.fault.RunFault.{RunFault}
 use Rattle.alternator.proofs.Pulling.{fresh, took_is_no_end, given_later, ended_now}
 use Rattle.alt_talks.proofs.Stretching.{taken-append, ended-append}
@@ -62,6 +64,12 @@ none_kept : (a b : DiskState) → Keeps a b → HasNoEntries a → HasNoEntries 
 none_kept a b keeps none trusted n entries = none (trusts_back a b keeps trusted) n
     (subst (λ (files : ℕ → Option (List ℕ)). HasEntries files n) (same_files a b keeps) entries)
 
+merged_kept : (a b : DiskState) → Keeps a b → HasMergedFiles a → HasMergedFiles b
+merged_kept a b keeps merged trusted s stands =
+    subst (IsMergedFor s) (sym (same_files a b keeps))
+    (merged (trusts_back a b keeps trusted) s
+    (subst (λ (files : ℕ → Option (List ℕ)). StandsFor files s) (same_files a b keeps) stands))
+
 readable_kept : (a b : DiskState) → Keeps a b → AreReadable a → AreReadable b
 readable_kept a b keeps h = λ tells. subst IsReadable (sym (same_files a b keeps))
     (h (subst IsTrue keeps.tells tells))
@@ -72,6 +80,7 @@ pub behind_kept : (flush : ℕ) (a b : DiskState) → Keeps a b → (l : Option 
 behind_kept flush a b keeps None h = h
 behind_kept flush a b keeps (Some (request name body)) h = few_kept flush a b keeps h
 behind_kept flush a b keeps (Some (control Flush)) h = none_kept a b keeps h
+behind_kept flush a b keeps (Some (control Merge)) h = merged_kept a b keeps h
 behind_kept flush a b keeps (Some (control Step)) h = few_kept flush a b keeps h
 behind_kept flush a b keeps (Some (control Reopen)) h = readable_kept a b keeps h
 behind_kept flush a b keeps (Some unread) h = h
@@ -254,6 +263,45 @@ last_noted flush a b c quiet keeps p = record {
   behind = behind_kept flush b c keeps (last_of None (asks true (taken p.entries))) p.behind;
 }
 
+-- ---- a trial
+
+-- its four lines were said behind calls of the disk alone
+pub summary_opened : (count : ℕ) (a b c : DiskState) → Goes a b → SaysSummary count b c
+    → SaysSummary count a c
+summary_opened count a b c goes p = record {
+  text = p.text;
+  is = p.is;
+  entries = p.entries;
+  grows = Grows-then a.beside b.beside c.beside [] p.entries (silent_of a b goes) p.grows;
+  said = p.said;
+  rests = p.rests;
+}
+
+-- and before a note
+summary_noted : (count : ℕ) (a b c : DiskState) → Grows b.beside c.beside []
+    → SaysSummary count a b → SaysSummary count a c
+summary_noted count a b c quiet p = record {
+  text = p.text;
+  is = p.is;
+  entries = p.entries;
+  grows = subst (λ (es : Log). Grows a.beside c.beside es) (append-nil p.entries)
+      (Grows-then a.beside b.beside c.beside p.entries [] p.grows quiet);
+  said = p.said;
+  rests = p.rests;
+}
+
+-- however the saying ended
+pub summary_behind : (count : ℕ) (a b c : DiskState) → Goes a b
+    → (result : Result Unit RunFault) → OnOk result (SaysSummary count b c)
+    → OnOk result (SaysSummary count a c)
+summary_behind count a b c goes (Ok done) h = summary_opened count a b c goes h
+summary_behind count a b c goes (Err fault) h = tt
+
+-- two things at Ok
+pub both_ok : {A E : Type 0} (P Q : Type 0) (r : Result A E) → OnOk r P → OnOk r Q → OnOk r (P × Q)
+both_ok P Q (Ok x) p q = (p, q)
+both_ok P Q (Err e) p q = tt
+
 -- ---- any job
 
 -- behind an opening
@@ -261,7 +309,7 @@ pub after_opened : (flush : ℕ) (job : Job) (a b c : DiskState) → Goes a b �
     → AfterJob job flush a c
 after_opened flush Replay a b c goes h = last_opened flush a b c goes h
 after_opened flush (Serve per connections) a b c goes h = h
-after_opened flush (Trial seed count) a b c goes h = h
+after_opened flush (Trial seed count) a b c goes h = (h.0, summary_opened count a b c goes h.1)
 
 -- however it ended
 pub opened_after : (flush : ℕ) (job : Job) (a b c : DiskState) → Goes a b
@@ -275,4 +323,5 @@ pub after_noted : (flush : ℕ) (job : Job) (a b c : DiskState) → Grows b.besi
     → Keeps b c → AfterJob job flush a b → AfterJob job flush a c
 after_noted flush Replay a b c quiet keeps h = last_noted flush a b c quiet keeps h
 after_noted flush (Serve per connections) a b c quiet keeps h = h
-after_noted flush (Trial seed count) a b c quiet keeps h = few_kept flush b c keeps h
+after_noted flush (Trial seed count) a b c quiet keeps h =
+    (few_kept flush b c keeps h.0, summary_noted count a b c quiet h.1)

@@ -135,7 +135,7 @@ opened_memory a b fault job h = record {
 }
 
 -- a disk that can be relied on is honest
-honest_of : (s : DiskState) → IsTrusted s → s.honest ≡ false → ⊥
+pub honest_of : (s : DiskState) → IsTrusted s → s.honest ≡ false → ⊥
 honest_of s trusted e = grind (arith, trusted, e)
 
 -- on such a disk damage is found in the opening alone
@@ -289,6 +289,8 @@ module _ (b c : DiskState) (g : Grows b.beside c.beside [])
   opening_behind a x = record {
     silent = Grows-then a.beside b.beside c.beside [] [] x.silent g;
     unasked = m ∙ x.unasked;
+    trusts = λ trusted. subst (λ (v : Bool). IsTrue v)
+        (sym (λ i. aside.keeps.tells i && aside.keeps.honest i)) (x.trusts trusted);
     leaves = leaves-before-aside a b c (WasLeft a) aside x.leaves;
   }
 

@@ -1,5 +1,6 @@
 pub mod Beginning
 pub mod Bringing
+pub mod Chaining
 pub mod EndingLaws
 pub mod Hands
 pub mod Initing
@@ -7,6 +8,7 @@ pub mod Numbers
 pub mod Opening
 pub mod Pulling
 pub mod Serving
+pub mod Staying
 pub mod Trying
 pub mod TurnLaws
 pub mod Working

@@ -1,13 +1,17 @@
 -- The opening of a store, and what comes behind it.
 use Rattle.std.specs.Prelude.{Result, Ok, Err, MatchResult}
-use Rattle.std.proofs.Common.{◌≡◌, ◌⊎◌, inl, inr, ⊎_elim, IsTrue, Bool, true, false, ℕ, List, [], Option, None, refl, sym, ap, subst, arith}
+use Rattle.std.proofs.Common.{◌≡◌, ◌⊎◌, inl, inr, ⊎_elim, IsTrue, Bool, true, false, ℕ, List, [], Option, None, Some, option_map, refl, sym, ap, subst, arith}
 use Rattle.alt_disk.specs.Disk.{DiskState, Goes, IsTrusted}
+use Rattle.alt_disk.proofs.Runs.{trusted_on}
 use Rattle.alt_machine.specs.State.{State}
 use Rattle.alt_machine.specs.Wanted.{Lack}
 use Rattle.alt_shell.specs.Log.{Log, Grows, moments_of}
 use Rattle.alt_shell.proofs.Telling.{Grows-nil}
-use Rattle.alt_talks.specs.Faults.{IsCausedBy, IsWorkFault}
-use Rattle.alternator.specs.Faults.{IsUnreadable, opening_fault}
+use Rattle.alt_faults.specs.Faults.{OnlyDamaged}
+use Rattle.alt_faults.proofs.Telling.{both-damaged, tells-more}
+use Rattle.alt_opening.specs.Faults.{told_by_opening}
+use Rattle.alt_talks.specs.Faults.{IsCausedBy, IsWorkFault, told_by_run}
+use Rattle.alternator.specs.Faults.{IsUnreadable}
 use Rattle.alt_talks.specs.declared.fault.RunFault.{RunFault}
 use Rattle.alt_talks.specs.declared.fault.RunFault.TheVariants.{Failed, NoMemory, Spent, Damaged, DigestDiffers, BadRow}
 use Rattle.alternator.specs.Endings.{HasRun, Done, Broken, BreaksOff, WasDamaged, IsReadable}
@@ -18,9 +22,8 @@ use Rattle.alternator.specs.declared.words.Job.TheVariants.{Replay, Serve, Trial
 use Rattle.alt_talks.specs.Stops.{AtEach}
 use Rattle.alt_tables.specs.Stands.{Stands}
 use Rattle.alt_tables.specs.Images.{StandsFor}
-use Rattle.alt_opening.specs.Recovery.{IsExplained, HasNoState, WasLeft}
+use Rattle.alt_opening.specs.Recovery.{IsExplained, IsOfFiles, HasNoState, WasLeft}
 use Rattle.alt_opening.specs.declared.faults.OpenFault.{OpenFault}
-use Rattle.alt_opening.specs.declared.faults.OpenFault.TheVariants as opening
 use Rattle.alt_tables.proofs.Left.{stands_left, stands_read, stands_trusted}
 use Rattle.alt_talks.proofs.Stopping.{leaves-weaker}
 use Rattle.alt_talks.specs.Works.{Works}
@@ -31,6 +34,7 @@ pub opening_of : (a b : DiskState) → Goes a b → AtEach a b (WasLeft a) → I
 opening_of a b goes leaves = record {
   silent = subst (λ (log : Log). Grows a.beside log []) (sym goes.beside) (Grows-nil a.beside);
   unasked = ap moments_of goes.beside;
+  trusts = trusted_on a b goes;
   leaves = leaves;
 }
 
@@ -61,23 +65,21 @@ opening_works a b tables s stands goes leaves = record {
 }
 
 -- what an opening tells of damage
-pub unreadable_of : (files : ℕ → Option (List ℕ)) (fault : OpenFault) → IsExplained files fault
-    → HasNoState files fault → IsUnreadable files (opening_fault fault)
-unreadable_of files (opening.Damaged file at) is none = (is, none)
-unreadable_of files (opening.DigestDiffers file kept found) is none = (is, none)
-unreadable_of files (opening.BadRow family key) is none = (is, none)
-unreadable_of files opening.Failed is none = tt
-unreadable_of files opening.NoMemory is none = tt
+pub unreadable_of : (files : ℕ → Option (List ℕ)) (given : OpenFault) (fault : RunFault)
+    → told_by_run fault ≡ told_by_opening given → IsExplained files given
+    → HasNoState files given → IsUnreadable files fault
+unreadable_of files given fault same is none =
+    subst (OnlyDamaged (λ d. IsOfFiles files d × ((s : State) → StandsFor files s → ⊥)))
+    (sym same) (both-damaged (IsOfFiles files) (λ d. (s : State) → StandsFor files s → ⊥)
+    (told_by_opening given) is none)
 
 -- files that stand for a state are opened, unless the device fails or memory is refused
 pub readable_cause : (fault : RunFault) (files : ℕ → Option (List ℕ)) (s : State)
     → StandsFor files s → IsUnreadable files fault → IsCausedBy None fault
-readable_cause Failed files s stands h = tt
-readable_cause NoMemory files s stands h = tt
-readable_cause (Spent number) files s stands h = absurd h
-readable_cause (Damaged file at) files s stands h = h.1 s stands
-readable_cause (DigestDiffers file kept found) files s stands h = h.1 s stands
-readable_cause (BadRow family key) files s stands h = h.1 s stands
+readable_cause fault files s stands h =
+    tells-more (λ n. ⊥) (λ n. option_map (λ (l : Lack). l.number) None ≡ Some n)
+    (λ d. IsOfFiles files d × ((t : State) → StandsFor files t → ⊥)) (λ d. ⊥) (λ n no. absurd no)
+    (λ d both. both.1 s stands) (told_by_run fault) h
 
 -- however what was done behind the opening ended
 pub opened_result : (a b c : DiskState) (s : State) (job : Job) → StandsFor a.file s → Goes a b

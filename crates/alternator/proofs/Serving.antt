@@ -18,7 +18,7 @@ use Rattle.alt_talks.specs.declared.fault.RunFault.TheVariants.{Failed, NoMemory
 use Rattle.alternator.specs.Faults.{IsControlFault}
 use Rattle.alternator.specs.Turns.{Asked, request, control, unread, turns, requests, obeyed}
 use Rattle.alternator.specs.declared.lines.Control.{Control}
-use Rattle.alternator.specs.declared.lines.Control.TheVariants.{Flush, Step, Reopen}
+use Rattle.alternator.specs.declared.lines.Control.TheVariants.{Flush, Merge, Step, Reopen}
 use Rattle.alt_talks.specs.Turns.{Turn, text_of, after, after_turn, wanted, or_next}
 use Rattle.alt_shell.proofs.Telling.{Grows-then, Grows-nil}
 use Rattle.alt_tables.proofs.Left.{stands_left}
@@ -68,6 +68,7 @@ serves_then s t u ls ks es fs ms ns p q = record {
 at_work : (l : Asked) (A B : Type 0) → (A → B) → IsAtWork l A → IsAtWork l B
 at_work (request name body) A B law h = law h
 at_work (control Flush) A B law h = tt
+at_work (control Merge) A B law h = tt
 at_work (control Step) A B law h = tt
 at_work (control Reopen) A B law h = absurd h
 at_work unread A B law h = absurd h
@@ -465,5 +466,6 @@ control_unsaid old new s word fault b cause =
     because : (word : Control) (fault : RunFault) → IsControlFault word fault
         → BreaksFor fault s [] (control word ∷ []) [] []
     because Flush fault h = inr (h, record { line = control Flush; last = refl; enough = refl; at = tt })
+    because Merge fault h = inr (h, record { line = control Merge; last = refl; enough = refl; at = tt })
     because Step fault h = inr (h, record { line = control Step; last = refl; enough = refl; at = tt })
     because Reopen fault h = inl h

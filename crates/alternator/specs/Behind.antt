@@ -2,12 +2,13 @@
 use Rattle.std.specs.Prelude.{◌≡◌, ℕ, List, [], ◌∷◌, ◌++◌, Bool, true, false, IsTrue, Option, Some, None, ⊤}
 use Rattle.alt_disk.specs.Disk.{DiskState}
 use Rattle.alt_lines.specs.Unread.{Unread}
-use Rattle.alt_shell.specs.Log.{Log, Grows, taken, ended}
-use Rattle.alt_talks.specs.Works.{HasFewEntries, HasNoEntries}
+use Rattle.alt_shell.specs.Log.{Log, Grows, taken, said_in, ended}
+use Rattle.alt_talks.specs.Works.{HasFewEntries, HasMergedFiles, HasNoEntries}
 use Rattle.alternator.specs.Endings.{IsReadable}
 use Rattle.alternator.specs.Runs.{Rests, asked_later}
+use Rattle.alternator.specs.Trials.{IsSummary}
 use Rattle.alternator.specs.Turns.{Asked, request, control, unread, asks}
-use Rattle.alternator.specs.declared.lines.Control.TheVariants.{Flush, Step, Reopen}
+use Rattle.alternator.specs.declared.lines.Control.TheVariants.{Flush, Merge, Step, Reopen}
 use Rattle.alternator.specs.declared.words.Job.{Job}
 use Rattle.alternator.specs.declared.words.Job.TheVariants.{Replay, Serve, Trial}
 
@@ -18,12 +19,13 @@ abbrev pub AreReadable : DiskState → Type 0
 AreReadable disk = IsTrue disk.tells → IsReadable disk.file
 
 -- What is so of the disk behind a line that was answered, where a family is flushed from so many bytes on. Behind a request and behind
--- `@step` the entries of the log are few, behind `@flush` there are none, and behind `@reopen` the files stand for a state, as they read
--- on any disk that tells them: they were read again.
+-- `@step` the entries of the log are few, behind `@flush` there are none, behind `@merge` each live family has one file at most, without
+-- tombstones, and behind `@reopen` the files stand for a state, as they read on any disk that tells them: they were read again.
 abbrev pub Behind : ℕ → Option Asked → DiskState → Type 0
 Behind flush None disk = ⊤
 Behind flush (Some (request name body)) disk = HasFewEntries flush disk
 Behind flush (Some (control Flush)) disk = HasNoEntries disk
+Behind flush (Some (control Merge)) disk = HasMergedFiles disk
 Behind flush (Some (control Step)) disk = HasFewEntries flush disk
 Behind flush (Some (control Reopen)) disk = AreReadable disk
 Behind flush (Some unread) disk = ⊤
@@ -42,11 +44,20 @@ pub record LastLine (flush : ℕ) (old new : DiskState) : Type 0 where
   pub at_end : ended entries ≡ true
   pub behind : Behind flush (last_of None (asks true (taken entries))) new
 
--- what is so of the disk behind a job that ended whole
+-- A trial said its four lines whole, and nothing else; nothing was taken, and no connection came or went.
+pub record SaysSummary (count : ℕ) (old new : DiskState) : Type 0 where
+  pub text : List ℕ
+  pub is : IsSummary count text
+  pub entries : Log
+  pub grows : Grows old.beside new.beside entries
+  pub said : said_in entries ≡ text
+  pub rests : Rests entries
+
+-- what is so of the disk behind a job that ended whole, and what was said, whatever disk it is
 abbrev pub AfterJob : Job → ℕ → DiskState → DiskState → Type 0
 AfterJob Replay flush old new = LastLine flush old new
 AfterJob (Serve per connections) flush old new = ⊤
-AfterJob (Trial seed count) flush old new = HasFewEntries flush new
+AfterJob (Trial seed count) flush old new = HasFewEntries flush new × SaysSummary count old new
 
 -- ---- the parts of a replay
 

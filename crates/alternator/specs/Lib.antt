@@ -1,8 +1,10 @@
 pub mod Behind
+pub mod Chains
 pub mod Endings
 pub mod Faults
 pub mod Moments
 pub mod Runs
 pub mod Trials
 pub mod Turns
+pub mod Wholes
 pub mod Words

@@ -16,8 +16,3 @@ taken_by t entries = taken (until t entries)
 -- whether the end of the input was taken by then: a last line without a line feed is whole only from then on
 abbrev pub ended_by : ℕ → Log → Bool
 ended_by t entries = ended (until t entries)
-
--- the turns that were answered by a moment, of a run from a state
-abbrev pub answered_by : State → ℕ → Log → List ℕ → List Turn
-answered_by s t entries told = answered (turns s
-    (asks (ended_by t entries) (taken_by t entries)) told) (said_by t entries)

@@ -1,7 +1,7 @@
 -- What a part of a run over lines says, takes and leaves, and what an opening does.
 use Rattle.std.specs.Prelude.{◌≡◌, ◌≤◌, ◌⊎◌, ℕ, List, [], ◌∷◌, ◌++◌, length, Bool, false, true, None, map}
 use Rattle.alt_base.specs.Prefix.{IsPrefix}
-use Rattle.alt_disk.specs.Disk.{DiskState}
+use Rattle.alt_disk.specs.Disk.{DiskState, IsTrusted}
 use Rattle.alt_lines.specs.Unread.{Unread, lines_now, lines_later}
 use Rattle.alt_machine.specs.State.{State}
 use Rattle.alt_shell.specs.Log.{Log, Grows, moments_of, until, taken, said_in, ended, crosses}
@@ -13,7 +13,7 @@ use Rattle.alt_talks.specs.Turns.{answered, text_of, after, wanted}
 use Rattle.alternator.specs.Moments.{said_by, taken_by, ended_by}
 use Rattle.alt_talks.specs.Stops.{Image, IsLeft, AtEach}
 use Rattle.alternator.specs.Turns.{Asked, request, control, unread, turns, requests, asks, asked_of, out}
-use Rattle.alternator.specs.declared.lines.Control.TheVariants.{Flush, Step, Reopen}
+use Rattle.alternator.specs.declared.lines.Control.TheVariants.{Flush, Merge, Step, Reopen}
 use Rattle.alt_talks.specs.Runs.{OfStretch}
 use Rattle.alt_talks.specs.TalkStops.{LeavesNow}
 
@@ -36,6 +36,7 @@ pub record Serves (s : State) (ls : List Asked) (t : State) (entries : Log)
 abbrev pub IsAtWork : Asked → Type 0 → Type 0
 IsAtWork (request name body) said = said
 IsAtWork (control Flush) said = Unit {0}
+IsAtWork (control Merge) said = Unit {0}
 IsAtWork (control Step) said = Unit {0}
 IsAtWork (control Reopen) said = ⊥
 IsAtWork unread said = ⊥
@@ -179,10 +180,11 @@ pub record AnswersSome (fault : RunFault) (s : State) (old new : DiskState) (ent
 -- ---- the opening
 
 -- Nothing was taken, said or asked, and what a stop at a moment leaves stands for each state for which something stood that one left
--- before it.
+-- before it. A disk that could be relied on still can.
 pub record IsOpening (old new : DiskState) : Type 0 where
   pub silent : Grows old.beside new.beside []
   pub unasked : moments_of new.beside ≡ moments_of old.beside
+  pub trusts : IsTrusted old → IsTrusted new
   pub leaves : AtEach old new (WasLeft old)
 
 -- The store was opened, for the state for which its files stood, and what was done from then on has P of that state.

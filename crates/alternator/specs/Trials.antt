@@ -42,12 +42,24 @@ trial_turns s ls = turns s ls (replicate (requests ls) trial_moment)
 abbrev pub beginning : List ℕ → List Turn → List Turn
 beginning front ts = filter (λ t. starts_with nat_eq t.text front) ts
 
--- How many requests there were, how many replies had the status 200 and how many 400, and the SHA-256 of the lines of all replies.
+-- how many requests there were, how many replies had the status 200 and how many 400, and a digest
+abbrev pub four_lines : ℕ → ℕ → ℕ → List ℕ → List ℕ
+four_lines count good bad digest = codes "requests " ++ (decimal count
+    ++ (codes "\n200 " ++ (decimal good
+    ++ (codes "\n400 " ++ (decimal bad
+    ++ (codes "\nreplies " ++ (encode_lower digest ++ 10 ∷ [])))))))
+
+-- those of these turns, with the SHA-256 of the lines of all replies
 abbrev pub summary : ℕ → List Turn → List ℕ
-summary count ts = codes "requests " ++ (decimal count
-    ++ (codes "\n200 " ++ (decimal (length (beginning (codes "200 ") ts))
-    ++ (codes "\n400 " ++ (decimal (length (beginning (codes "400 ") ts))
-    ++ (codes "\nreplies " ++ (encode_lower (sha256 (text_of ts)) ++ 10 ∷ [])))))))
+summary count ts = four_lines count (length (beginning (codes "200 ") ts))
+    (length (beginning (codes "400 ") ts)) (sha256 (text_of ts))
+
+-- the four lines of so many requests, whatever was replied
+pub record IsSummary (count : ℕ) (text : List ℕ) : Type 0 where
+  pub good : ℕ
+  pub bad : ℕ
+  pub digest : List ℕ
+  pub is : text ≡ four_lines count good bad digest
 
 -- Why a trial broke off among these requests, which were begun: one has no answer, for want of the first number that one wanted, or
 -- work behind one broke off, and none lacked anything.

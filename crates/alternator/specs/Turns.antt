@@ -12,7 +12,7 @@ use Rattle.alt_machine.specs.Wanted.{wanted as wanted_by}
 use Rattle.alt_shape.specs.Refusals.{Answer}
 use Rattle.alt_talks.specs.Turns.{Turn, after_turn, text_of}
 use Rattle.alternator.specs.declared.lines.Control.{Control}
-use Rattle.alternator.specs.declared.lines.Control.TheVariants.{Flush, Step, Reopen}
+use Rattle.alternator.specs.declared.lines.Control.TheVariants.{Flush, Merge, Step, Reopen}
 
 -- ---- what lines ask
 
@@ -26,13 +26,14 @@ pub data Asked : Type 0 where
 abbrev pub is_space : ℕ → Bool
 is_space b = b == 32
 
--- the word of control that a line is, if it is one: that all families are flushed, that one step of work is made, or that the store is
--- opened again
+-- the word of control that a line is, if it is one: that all families are flushed, that the files of all are merged, that one step of work is
+-- made, or that the store is opened again
 abbrev pub control_of : List ℕ → Option Control
 control_of text =
     if bytes_eq text (codes "@flush") then Some Flush
+    else (if bytes_eq text (codes "@merge") then Some Merge
     else (if bytes_eq text (codes "@step") then Some Step
-    else (if bytes_eq text (codes "@reopen") then Some Reopen else None))
+    else (if bytes_eq text (codes "@reopen") then Some Reopen else None)))
 
 -- that word; or a request, whose name stands before the first space and its body behind it, and a line without a space is all name
 abbrev pub asked_as : List ℕ → Option Control → Asked

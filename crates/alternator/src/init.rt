@@ -1,6 +1,7 @@
 //! Making a store.
 
-ghost use Rattle.std.specs.Prelude.{◌≡◌, false};
+ghost use Rattle.std.specs.Prelude.{◌≡◌, ◌≢◌, ℕ, None, false, IsTrue};
+ghost use Rattle.alt_disk.specs.Runs.{Quiet};
 ghost use Rattle.alt_shell.specs.Log.{talks};
 ghost use Rattle.alternator.specs.Endings.{HasMade};
 ghost use Rattle.alt_talks.specs.Runs.{Passes};
@@ -14,6 +15,8 @@ use std::alloc::Global;
 pub(crate) fn init<S: Shell>(alloc: Global, shell: &mut S) -> Ending
     requires quiet { talks (S.state shell.old).beside ≡ false }
     ensures done { HasMade result (S.state shell.old) (S.state shell.new) }
+    ensures untouched { IsTrue (S.state shell.old).tells → (f : ℕ)
+        → (S.state shell.old).file f ≢ None → Quiet (S.state shell.old) (S.state shell.new) }
     ensures passes { Passes (S.state shell.old) (S.state shell.new) }
 {
     match make_store(alloc, shell) {

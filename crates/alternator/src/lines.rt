@@ -10,6 +10,8 @@ ghost use Rattle.alternator.specs.Turns.{control_of, is_space};
 pub(crate) enum Control {
     /// That all families are flushed.
     Flush,
+    /// That the files of all families are merged.
+    Merge,
     /// That one step of work is made.
     Step,
     /// That the store is opened again.
@@ -22,6 +24,9 @@ pub(crate) fn control_of(line: &[u8]) -> Option<Control>
 {
     if line == b"@flush".as_slice() {
         return Some(Control::Flush);
+    }
+    if line == b"@merge".as_slice() {
+        return Some(Control::Merge);
     }
     if line == b"@step".as_slice() {
         return Some(Control::Step);

@@ -1,6 +1,7 @@
 //! Alternator: the interface of Amazon DynamoDB over a store in one folder. It answers sixteen operations, asked as lines or over HTTP.
 #![tactic(auto)]
 
+mod chains;
 mod ending;
 mod init;
 mod lines;

@@ -5,30 +5,15 @@ ghost use Rattle.alt_base.specs.Counts.{Rose};
 ghost use Rattle.alt_disk.specs.Disk.{IsTrusted, Goes};
 ghost use Rattle.alt_machine.specs.State.{State};
 ghost use Rattle.alt_tables.specs.Stands.{Stands, limits_of};
-ghost use Rattle.alternator.specs.Faults.{opening_fault, IsUnreadable};
+ghost use Rattle.alternator.specs.Faults.{IsUnreadable};
 ghost use Rattle.alt_talks.specs.Stops.{AtEach};
 ghost use Rattle.alt_tables.specs.Images.{StandsFor};
 ghost use Rattle.alt_opening.specs.Recovery.{WasLeft};
 
 use alt_disk::Disk;
-use alt_tables::{Limits, OpenFault, Tables};
+use alt_tables::{Limits, Tables};
 use alt_talks::RunFault;
 use std::alloc::Global;
-
-/// Why an opening ends a run.
-fn fault_of(fault: OpenFault) -> RunFault
-    ensures { result ≡ opening_fault fault }
-{
-    match fault {
-        OpenFault::Damaged { file, at } => RunFault::Damaged { file, at },
-        OpenFault::DigestDiffers { file, kept, found } => {
-            RunFault::DigestDiffers { file, kept, found }
-        }
-        OpenFault::BadRow { family, key } => RunFault::BadRow { family, key },
-        OpenFault::Failed => RunFault::Failed,
-        OpenFault::NoMemory => RunFault::NoMemory,
-    }
-}
 
 /// The tables of the store that lies on the disk, whose engine gets these limits.
 pub(crate) fn open<D: Disk>(alloc: Global, disk: &mut D, limits: Limits) -> Result<Tables, RunFault>
@@ -48,6 +33,6 @@ pub(crate) fn open<D: Disk>(alloc: Global, disk: &mut D, limits: Limits) -> Resu
 {
     match Tables::recover(alloc, disk, limits) {
         Ok(tables) => Ok(tables),
-        Err(fault) => Err(fault_of(fault)),
+        Err(fault) => Err(RunFault::from(fault)),
     }
 }

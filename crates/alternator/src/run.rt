@@ -1,8 +1,9 @@
 //! A run of the program, but for what `main` takes off the front.
 
-ghost use Rattle.std.specs.Prelude.{◌≡◌, ◌⊎◌, ◌↔◌, ◌<◌, ℕ, true, false, Some, None, length, IsTrue, IfOk, IfErr, OnOk, IsErrOf, MatchResult};
+ghost use Rattle.std.specs.Prelude.{◌≡◌, ◌≢◌, ◌⊎◌, ◌↔◌, ◌<◌, ℕ, true, false, Some, None, length, IsTrue, IfOk, IfErr, OnOk, IsErrOf, MatchResult};
 ghost use Rattle.alt_base.specs.Counts.{Rose};
 ghost use Rattle.alt_disk.specs.Disk.{IsTrusted};
+ghost use Rattle.alt_disk.specs.Runs.{Quiet};
 ghost use Rattle.alt_machine.specs.State.{State};
 ghost use Rattle.alt_shell.specs.Log.{talks};
 ghost use Rattle.alt_tables.specs.Stands.{AreReady, Stands, limits_of};
@@ -13,13 +14,14 @@ ghost use Rattle.alt_talks.specs.Runs.{Stretch, Passes};
 ghost use Rattle.alternator.specs.Runs.{Answers, AnswersSome, IsOpening, Opened};
 ghost use Rattle.alt_talks.specs.TalkRules.{rules};
 ghost use Rattle.alt_talks.specs.TalkStops.{LeavesNow, ServedOn, ServedSomeOn};
+ghost use Rattle.alternator.specs.Wholes.{StaysWhole};
 ghost use Rattle.alternator.specs.Words.{command_of, bytes_of, IsServable};
 ghost use Rattle.alternator.specs.declared.ending.Ending.{Ending as RunEnding};
 ghost use Rattle.alternator.specs.declared.ending.Ending.TheVariants.{Whole};
 ghost use Rattle.alt_talks.specs.declared.fault.RunFault.TheVariants.{Failed};
 ghost use Rattle.alternator.specs.declared.words.Job.{Job as RunJob};
 ghost use Rattle.alternator.specs.declared.words.Command.TheVariants.{Init, Over};
-ghost use Rattle.alt_engine.specs.declared.engine.Limits.{Limits as EngineLimits};
+ghost use Rattle.alt_hand.specs.declared.hand.Limits.{Limits as EngineLimits};
 
 use crate::ending::{Ending, noted, status_of};
 use crate::init::init;
@@ -217,6 +219,9 @@ fn ended<S: Shell>(alloc: Global, words: &[String], shell: &mut S) -> Ending
     requires quiet { talks (S.state shell.old).beside ≡ false }
     ensures done { HasDone (command_of (bytes_of words.now)) result (S.state shell.old)
         (S.state shell.new) }
+    ensures untouched { command_of (bytes_of words.now) ≡ Some Init
+        → IsTrue (S.state shell.old).tells → (f : ℕ) → (S.state shell.old).file f ≢ None
+        → Quiet (S.state shell.old) (S.state shell.new) }
     ensures after { (job : RunJob) (limits : EngineLimits)
         → command_of (bytes_of words.now) ≡ Some (Over job limits) → result ≡ Whole
         → AfterJob job limits.flush (S.state shell.old) (S.state shell.new) }
@@ -232,7 +237,7 @@ fn ended<S: Shell>(alloc: Global, words: &[String], shell: &mut S) -> Ending
 /// A run of the words behind folder and port, which answers its status: 0 done, 1 the words are wrong, 2 a file is there already,
 /// 3 the files are those of no store, 4 the device failed, 5 memory was refused, 6 the numbers of writes, the families of tables or the
 /// numbers of files are spent. The words are `init`, `replay FLUSH MERGE`, `serve PER CONNECTIONS FLUSH MERGE` and
-/// `trial SEED COUNT FLUSH MERGE`; MERGE has no effect yet.
+/// `trial SEED COUNT FLUSH MERGE`.
 pub fn run<S: Shell>(alloc: Global, words: &[String], shell: &mut S) -> u8
     requires quiet { talks (S.state shell.old).beside ≡ false }
     // It ends in one of nine ways, each with its status, its note, and what it has done by then. With 0 a replay read its input to
@@ -262,12 +267,23 @@ pub fn run<S: Shell>(alloc: Global, words: &[String], shell: &mut S) -> u8
         → (result ≡ 0) ⊎ (result ≡ 5) }
 
     // Where a replay ended with 0 the disk is as its last line promises. Behind `@flush` the segments that the last version names have
-    // no entries, and behind a request or `@step` these are shorter than 16 times FLUSH, as they are behind a trial. Behind `@reopen`
-    // the files stand for a state, as they read on any disk that tells them, also on one that changed them by itself: they were read
-    // again.
+    // no entries, and behind a request or `@step` these are shorter than 16 times FLUSH, as they are behind a trial. Behind `@merge`
+    // each live family has one row file at most, without tombstones and hidden cells. Behind `@reopen` the files stand for a state, as
+    // they read on any disk that tells them, also on one that changed them by itself: they were read again. And a trial that ended with 0
+    // said its four lines whole, whatever disk it is.
     ensures after { (job : RunJob) (limits : EngineLimits)
         → command_of (bytes_of words.now) ≡ Some (Over job limits) → result ≡ 0
         → AfterJob job limits.flush (S.state shell.old) (S.state shell.new) }
+
+    // Where a file is there, `init` leaves all files, in reads and in what a stop leaves at each moment, whatever its status.
+    ensures untouched { command_of (bytes_of words.now) ≡ Some Init
+        → IsTrue (S.state shell.old).tells → (f : ℕ) → (S.state shell.old).file f ≢ None
+        → Quiet (S.state shell.old) (S.state shell.new) }
+
+    // Where a disk can be relied on, and whatever a stop leaves of it as the run begins stands for a state, that is so at each moment of
+    // the run, whatever its status and its words; and so it is of the disk that the next program finds behind a stop at that moment. So
+    // all of this holds of a chain of runs and stops, and each keeps what was answered in those before it (`chains`).
+    ensures whole { StaysWhole (S.state shell.old) (S.state shell.new) }
 
     // Each connection was hung up.
     ensures quiet { talks (S.state shell.new).beside ≡ false }

@@ -142,6 +142,7 @@ fn obey<D: Disk>(
 {
     match word {
         Control::Flush => work(tables, disk, Task::FlushAll),
+        Control::Merge => work(tables, disk, Task::MergeAll),
         Control::Step => work(tables, disk, Task::Step),
         Control::Reopen => reopen(alloc, tables, limits, disk),
     }

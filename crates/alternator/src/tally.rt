@@ -2,7 +2,7 @@
 
 ghost use Rattle.std.specs.Prelude.{◌≡◌, ◌≤◌, ◌<◌, ◌+◌, ◌^◌, ◌-◌, ◌++◌, ◌∷◌, [], List, length, nat_eq, IfOk, string_bytes};
 ghost use Rattle.std.specs.List.{starts_with};
-ghost use Rattle.alternator.specs.Trials.{IsTally, beginning, summary};
+ghost use Rattle.alternator.specs.Trials.{IsSummary, IsTally, beginning, summary};
 ghost use Rattle.alt_talks.specs.Turns.{Turn};
 
 use alt_base::NoMemory;
@@ -68,8 +68,9 @@ impl Tally {
 
     /// The four lines that sum up so many requests.
     pub(crate) fn summary(self, alloc: Global, count: u32) -> Result<String, NoMemory>
-        ensures { (ts : List Turn) → IsTally self ts
+        ensures counted { (ts : List Turn) → IsTally self ts
             → IfOk result (λ text. string_bytes text ≡ summary count ts) }
+        ensures form { IfOk result (λ text. IsSummary count (string_bytes text)) }
     {
         let Tally { good, bad, hasher } = self;
         let digest = hasher.finalize();

@@ -11,6 +11,7 @@ ghost use Rattle.alt_shell.specs.Log.{talks};
 ghost use Rattle.alt_tables.specs.Stands.{AreReady, Stands, limits_of};
 ghost use Rattle.alt_talks.specs.Runs.{Stretch, Passes};
 ghost use Rattle.alt_talks.specs.Works.{HasFewEntries};
+ghost use Rattle.alternator.specs.Behind.{SaysSummary};
 ghost use Rattle.alternator.specs.Trials.{trial_asks, IsTally, Counted, CountedSome, Tries, TriesSome};
 ghost use Rattle.alternator.specs.Turns.{request, asked_by, is_space};
 
@@ -177,6 +178,7 @@ fn tell<S: Shell>(alloc: Global, tally: Tally, count: u32, shell: &mut S) -> Res
         → MatchResult result
         (λ _. Stretch old (S.state shell.new) (Tries s seed count))
         (λ f. Stretch old (S.state shell.new) (TriesSome f s seed count)) }
+    ensures said { OnOk result (SaysSummary count (S.state shell.old) (S.state shell.new)) }
     ensures few { (flush : ℕ) → HasFewEntries flush (S.state shell.old)
         → OnOk result (HasFewEntries flush (S.state shell.new)) }
     ensures cause { IsErrOf result RunFault.Failed
@@ -205,6 +207,7 @@ pub(crate) fn carry_out_trial<S: Shell>(
     ensures tried { (s : State) → Stands (S.state shell.old) tables.old s → MatchResult result
         (λ _. Stretch (S.state shell.old) (S.state shell.new) (Tries s seed count))
         (λ f. Stretch (S.state shell.old) (S.state shell.new) (TriesSome f s seed count)) }
+    ensures said { OnOk result (SaysSummary count (S.state shell.old) (S.state shell.new)) }
     ensures few { 0 < count
         → OnOk result (HasFewEntries (limits_of tables.old).flush (S.state shell.new)) }
     ensures cause { IsErrOf result RunFault.Failed

@@ -1,4 +1,5 @@
 mod flushed;
 mod fresh;
+mod merged;
 mod opened;
 mod written;

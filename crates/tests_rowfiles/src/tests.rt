@@ -5,6 +5,7 @@ mod files;
 mod given;
 mod merged;
 mod shapes;
+mod shelled;
 mod source;
 mod stated;
 mod walked;

@@ -1,5 +1,7 @@
 -- Each operation's writes keep what is valid.
 use Rattle.alt_machine.proofs.Indexing.{index_places_lie, all_index}
+use Rattle.alt_legacy.proofs.Keyed.{keys_asked}
+use Rattle.alt_machine.proofs.OlderMeaning.{older_conditions, older_updates}
 use Rattle.alt_machine.proofs.Placed.{places_lie}
 use Rattle.alt_machine.proofs.States.{start_valid}
 use Rattle.alt_machine.proofs.Steps.{step_valid}
@@ -19,3 +21,12 @@ returns-clause-index_places c = index_places_lie
 
 pub returns-clause-indexes : goal.returns-clause-indexes
 returns-clause-indexes c = all_index
+
+pub returns-clause-older_conditions : goal.returns-clause-older_conditions
+returns-clause-older_conditions c = older_conditions
+
+pub returns-clause-older_keys : goal.returns-clause-older_keys
+returns-clause-older_keys c = λ hash range entries. keys_asked hash range entries
+
+pub returns-clause-older_updates : goal.returns-clause-older_updates
+returns-clause-older_updates c = older_updates

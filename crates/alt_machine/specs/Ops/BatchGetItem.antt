@@ -1,10 +1,10 @@
 -- BatchGetItem: answers the items of 1 to 100 keys, or parts of them, and names the keys that it didn't read (DynamoDB API Reference,
 -- "BatchGetItem").
-use Rattle.std.specs.Prelude.{ℕ, ◌+◌, nat_le, if◌then◌else◌, List, [], ◌∷◌, length, map, drop, sum_by, Option, option_map, option_and_then, Result, Ok, codes, fold}
+use Rattle.std.specs.Prelude.{ℕ, Bool, ◌&&◌, ◌+◌, nat_le, if◌then◌else◌, List, [], ◌∷◌, length, map, drop, sum_by, Option, option_map, option_and_then, Result, Ok, codes, fold}
 use Rattle.std.specs.FinMap as finite
 use Rattle.std.specs.List.{list_any, filter_map}
 use Rattle.std.specs.Option.{option_map_or}
-use Rattle.serde_json.specs.Data.{Data, boolean, string, array, object, Members, no_members, member, put as with_member}
+use Rattle.serde_json.specs.Data.{Data, Items, boolean, string, array, object, Members, no_members, member, put as with_member}
 use Rattle.serde_json.specs.Find.{as_array, as_bool, as_str, as_object}
 use Rattle.alt_codec.specs.Reading.{item_in}
 use Rattle.alt_expr.specs.Given.{Given}
@@ -36,10 +36,15 @@ use Rattle.alt_value.specs.Tree.{Pair}
 abbrev pub keys_in : Data → List Data
 keys_in d = elements_of (option_and_then as_array (given (codes "Keys") (members_in d)))
 
--- what the body alone is refused for; a member of an older interface may stand in any table
+-- one of the tables gives a member
+abbrev pub some_give : List ℕ → List (List ℕ × Data) → Bool
+some_give name tables = list_any (λ t. is_given name (members_in t.1)) tables
+
+-- what the body alone is refused for; a list of names may stand in no table where a projection stands in one
 abbrev pub of_body : Members → List (Option Answer)
 of_body ms = batch_refusals (bodies.batch_get_item ms)
-    (list_any (λ t. is_given (codes "AttributesToGet") (members_in t.1)) (tables_asked ms))
+    (some_give (codes "AttributesToGet") (tables_asked ms)
+    && some_give (codes "ProjectionExpression") (tables_asked ms))
     (is_sized MOST_KEYS (length (of_each keys_in (tables_asked ms)))) (tables_asked ms)
 
 -- ---- what is asked of a table
@@ -119,16 +124,22 @@ pub record Read : Type 0 where
 
 -- ---- what is answered
 
+-- the names of attributes that are given
+abbrev pub attributes_member : Members → Option Items
+attributes_member ms = option_and_then as_array (given (codes "AttributesToGet") ms)
+
 -- keys with those members of their table that were given
 abbrev pub keys_object : Members → Data → Data
 keys_object body keys = object
+    (member_if (codes "AttributesToGet") (option_map (λ names. array names)
+    (attributes_member body))
     (member_if (codes "ConsistentRead") (option_map (λ b. boolean b)
     (option_and_then as_bool (given (codes "ConsistentRead") body)))
     (member_if (codes "ExpressionAttributeNames")
     (option_map (λ names. object names) (names_member body))
     (member (codes "Keys") keys
     (member_if (codes "ProjectionExpression") (option_map (λ text. string text)
-    (option_and_then as_str (given (codes "ProjectionExpression") body))) no_members))))
+    (option_and_then as_str (given (codes "ProjectionExpression") body))) no_members)))))
 
 -- what may be asked for again of these keys
 abbrev pub keys_asked : Members → List PlacedMember → Data

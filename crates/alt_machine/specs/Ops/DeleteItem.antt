@@ -13,11 +13,12 @@ use Rattle.alt_machine.specs.Outcomes.{Outcome}
 use Rattle.alt_machine.specs.State.{State, Table}
 use Rattle.alt_machine.specs.Targets.{on_item}
 
--- two members are of an older interface
+-- the rules of its members
 abbrev pub rules : Rules
 rules = record {
-  legacy = codes "Expected" ∷ codes "ConditionalOperator" ∷ [];
-  unbuilt = [];
+  legacy = codes "Expected" ∷ [];
+  texts = codes "ConditionExpression" ∷ [];
+  joined = codes "Expected" ∷ [];
   named = codes "TableName" ∷ [];
 }
 

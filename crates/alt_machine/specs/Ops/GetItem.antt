@@ -18,11 +18,12 @@ use Rattle.alt_machine.specs.Replies.{item_answer}
 use Rattle.alt_machine.specs.State.{State, Table}
 use Rattle.alt_machine.specs.Targets.{on_item}
 
--- AttributesToGet is of an older interface
+-- the rules of its members
 abbrev pub rules : Rules
 rules = record {
   legacy = codes "AttributesToGet" ∷ [];
-  unbuilt = [];
+  texts = codes "ProjectionExpression" ∷ [];
+  joined = [];
   named = codes "TableName" ∷ [];
 }
 

@@ -22,12 +22,13 @@ use Rattle.alt_machine.specs.Refusals.{or_refused}
 use Rattle.alt_machine.specs.Sources.{index_at, hash_of, range_of}
 use Rattle.alt_machine.specs.State.{State, Table}
 
--- four members are of an older interface
+-- the rules of its members
 abbrev pub rules : Rules
 rules = record {
-  legacy = codes "KeyConditions" ∷ codes "QueryFilter" ∷ codes "ConditionalOperator"
-      ∷ codes "AttributesToGet" ∷ [];
-  unbuilt = [];
+  legacy = codes "KeyConditions" ∷ codes "QueryFilter" ∷ codes "AttributesToGet" ∷ [];
+  texts = codes "KeyConditionExpression" ∷ codes "FilterExpression"
+      ∷ codes "ProjectionExpression" ∷ [];
+  joined = codes "QueryFilter" ∷ [];
   named = codes "TableName" ∷ codes "IndexName" ∷ [];
 }
 

@@ -18,11 +18,12 @@ use Rattle.alt_machine.specs.Outcomes.{Outcome, with_found}
 use Rattle.alt_machine.specs.Sources.{index_at, hash_of}
 use Rattle.alt_machine.specs.State.{State, Table}
 
--- three members are of an older interface
+-- the rules of its members
 abbrev pub rules : Rules
 rules = record {
-  legacy = codes "ScanFilter" ∷ codes "ConditionalOperator" ∷ codes "AttributesToGet" ∷ [];
-  unbuilt = [];
+  legacy = codes "ScanFilter" ∷ codes "AttributesToGet" ∷ [];
+  texts = codes "FilterExpression" ∷ codes "ProjectionExpression" ∷ [];
+  joined = codes "ScanFilter" ∷ [];
   named = codes "TableName" ∷ codes "IndexName" ∷ [];
 }
 

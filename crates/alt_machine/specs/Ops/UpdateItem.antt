@@ -35,11 +35,12 @@ use Rattle.alt_machine.specs.Targets.{on_item}
 use Rattle.alt_machine.specs.Valid.{deepest}
 use Rattle.alt_machine.specs.Writes.{item_writes}
 
--- three members are of an older interface
+-- the rules of its members
 abbrev pub rules : Rules
 rules = record {
-  legacy = codes "AttributeUpdates" ∷ codes "Expected" ∷ codes "ConditionalOperator" ∷ [];
-  unbuilt = [];
+  legacy = codes "Expected" ∷ codes "AttributeUpdates" ∷ [];
+  texts = codes "UpdateExpression" ∷ codes "ConditionExpression" ∷ [];
+  joined = codes "Expected" ∷ [];
   named = codes "TableName" ∷ [];
 }
 

@@ -146,3 +146,44 @@ fn a_digest_that_differs_is_told_with_both(rt: HostRuntime) {
     };
     assert!(rt; refused(rt.alloc(), &[0; 32]) == Some(differs));
 }
+
+// A store with a file that no version names.
+fn with_another(alloc: Global) -> Option<MemoryDisk> {
+    let mut disk = MemoryDisk::new(alloc);
+    if put(&mut disk, 1, VERSIONS) && put(&mut disk, 2, b"ALTLOG01\0") && put(&mut disk, 9, b"x") {
+        return Some(disk);
+    }
+    None
+}
+
+// How many calls its opening makes.
+fn calls_of(alloc: Global) -> Option<u64> {
+    let mut disk = with_another(alloc)?;
+    let (from, _) = disk.counts();
+    let _ = Engine::recover(alloc, &mut disk, LIMITS).ok()?;
+    let (to, _) = disk.counts();
+    to.checked_sub(from)
+}
+
+// Whether the opening fails where its call of this number does, and the next one goes on and leaves the other file out.
+fn fails_at(alloc: Global, call: u64) -> Option<bool> {
+    let mut disk = with_another(alloc)?;
+    let (now, _) = disk.counts();
+    disk.fail(now.checked_add(call)?).ok()?;
+    let failed = Engine::recover(alloc, &mut disk, LIMITS).err() == Some(RecoverFault::Failed);
+    let opened = Engine::recover(alloc, &mut disk, LIMITS).is_ok();
+    Some(failed && opened && disk.size(9) == Ok(0))
+}
+
+#[test]
+fn an_opening_fails_at_each_of_its_calls(rt: HostRuntime) {
+    let Some(calls) = calls_of(rt.alloc()) else {
+        assert!(rt; false);
+        return;
+    };
+    // One of them removes the file that no version names: an opening that went on without it would be done.
+    for call in 0..calls {
+        assert!(rt; fails_at(rt.alloc(), call) == Some(true), "call {call}");
+    }
+    assert!(rt; fails_at(rt.alloc(), calls) == Some(false));
+}

@@ -34,7 +34,7 @@ static WRITES: [Write; 6] = [
 ];
 
 // A batch that makes or removes one row.
-fn batch_of(alloc: Global, key: &[u8], value: &[u8]) -> Option<Batch> {
+pub(super) fn batch_of(alloc: Global, key: &[u8], value: &[u8]) -> Option<Batch> {
     let mut cells = CellList::new(alloc);
     if !value.is_empty() {
         let name = Bytes::new(alloc, b"v").ok()?;
@@ -82,7 +82,7 @@ pub(super) fn put(
 }
 
 // A disk with a fresh store.
-fn fresh(alloc: Global) -> Option<MemoryDisk> {
+pub(super) fn fresh(alloc: Global) -> Option<MemoryDisk> {
     let mut disk = MemoryDisk::new(alloc);
     match make_store(alloc, &mut disk) {
         Ok(()) => Some(disk),

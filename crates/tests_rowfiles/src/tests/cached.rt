@@ -1,7 +1,7 @@
 //! Reads through a cache: what it answers, when the disk is asked again, and that a write or a removal empties it.
 
 use crate::tests::doubted::Doubted;
-use alt_blocks::{BlockCache, Cached};
+use alt_blocks::{BlockCache, Cached, LONGEST_KEPT};
 use alt_disk::Disk;
 use std::alloc::Global;
 
@@ -74,4 +74,25 @@ fn first_wrong(alloc: Global) -> Option<usize> {
 fn a_cache_answers_what_the_disk_gives_and_a_write_empties_it(rt: HostRuntime) {
     let wrong = first_wrong(rt.alloc());
     assert!(rt; wrong.is_none(), "{wrong:?}");
+}
+
+// How many reads the disk has counted after two of so many bytes of a file through a cache.
+fn reads_of(alloc: Global, n: usize) -> Option<u64> {
+    let mut disk = Doubted::new(alloc);
+    let mut buf = Vec::new(alloc);
+    buf.resize(n, 0).ok()?;
+    disk.write_at(1, 0, &buf).ok()?;
+    let mut cache = BlockCache::new(alloc, 3).ok()?;
+    let mut cached = Cached::new(&mut disk, &mut cache);
+    for _ in 0..2u8 {
+        cached.read(1, 0, &mut buf).ok()?;
+    }
+    let (_, counted) = disk.disk.counts();
+    Some(counted)
+}
+
+#[test]
+fn a_long_read_is_not_kept(rt: HostRuntime) {
+    assert!(rt; reads_of(rt.alloc(), LONGEST_KEPT) == Some(1));
+    assert!(rt; reads_of(rt.alloc(), LONGEST_KEPT + 1) == Some(2));
 }

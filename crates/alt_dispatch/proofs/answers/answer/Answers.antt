@@ -1,6 +1,6 @@
 -- What was carried out, once its refusal is told.
 use Rattle.alt_machine.specs.Step.{step}
-use Rattle.alt_dispatch.proofs.Settling.{settled, settled_valid, told_failed, told_wants}
+use Rattle.alt_dispatch.proofs.Settling.{settled, settled_valid, told_failed, told_refused, told_wants}
 use Rattle.alt_tables.specs.Stands.{Stands}
 use Rattle.alt_dispatch.proofs.answers.answer.Goals as goal
 
@@ -32,3 +32,10 @@ returns-clause-wanting g c none s stands =
     told_wants (g.D.Disk.state c.args.disk.now) (g.D.Disk.state c.respond-carried.new.disk)
     c.args.tables.now s (λ r. step r c.args.operation c.args.body.now c.args.moment) stands
     c.respond-carried.result c.told.result c.respond-carried.ensures.moves c.told.ensures.told none
+
+pub returns-clause-refused : goal.returns-clause-refused
+returns-clause-refused g c = told_refused _ c.respond-carried.result c.told.result
+    c.respond-carried.ensures.moves.refused c.told.ensures.told
+
+pub returns-clause-reads : goal.returns-clause-reads
+returns-clause-reads g c reads = c.respond-carried.ensures.reads reads

@@ -1,5 +1,6 @@
 -- Each operation carries out what the machine's step makes of it.
-use Rattle.std.proofs.Common.{◌≡◌, sym, subst, ℕ, Result}
+use Rattle.std.proofs.Common.{◌≡◌, refl, sym, ap, subst, ◌∙◌, ℕ, Result, IsTrue, false}
+use Rattle.std.proofs.lemmas.Bool.{false≢true}
 use Rattle.serde_json.specs.Data.{Members}
 use Rattle.serde_json.specs.View.{members_view}
 use Rattle.alt_machine.specs.State.{State}
@@ -8,7 +9,10 @@ use Rattle.alt_machine.specs.declared.Operation.{Operation}
 use Rattle.alt_request.specs.Carried.{Carries}
 use Rattle.alt_request.specs.declared.stop.Stop.{Stop}
 use Rattle.alt_shape.specs.declared.refusal.Reply.{Reply}
-use Rattle.alt_tables.specs.Stands.{Stands}
+use Rattle.alt_disk.specs.Disk.{DiskState}
+use Rattle.alt_dispatch.specs.Reading.{is_read}
+use Rattle.alt_tables.proofs.Left.{reads_nothing}
+use Rattle.alt_tables.specs.Stands.{Reads, Stands}
 use Rattle.alt_dispatch.proofs.answers.carry_out.Goals as goal
 
 -- what is carried out of the operation at hand
@@ -143,3 +147,67 @@ returns-in-GetRecords-clause-carried g c =
     (Stands (g.D.Disk.state c.args.disk.now) c.args.tables.now)
     (Stands (g.D.Disk.state c.get_records.new.disk) c.get_records.new.tables) c.get_records.result
     c.get_records.ensures.carried
+
+-- ---- what only reads
+
+-- a call that wasn't made of the disk reads
+unread : (a b : DiskState) → b ≡ a → Reads a b
+unread a b same = subst (Reads a) (sym same) (reads_nothing a)
+
+-- no operation that writes only reads
+writes_not : (o built : Operation) → o ≡ built → is_read built ≡ false → IsTrue (is_read o) → ⊥
+writes_not o built is writes reads =
+    false≢true (sym writes ∙ ap is_read (sym is) ∙ reads)
+
+pub returns-in-CreateTable-clause-reads : goal.returns-in-CreateTable-clause-reads
+returns-in-CreateTable-clause-reads g c reads = absurd (writes_not c.args.operation _ c.in-CreateTable.is refl reads)
+
+pub returns-in-DescribeTable-clause-reads : goal.returns-in-DescribeTable-clause-reads
+returns-in-DescribeTable-clause-reads g c reads = unread (g.D.Disk.state c.args.disk.now)
+    (g.D.Disk.state c.describe_table.new.disk) c.describe_table.ensures.disk
+
+pub returns-in-ListTables-clause-reads : goal.returns-in-ListTables-clause-reads
+returns-in-ListTables-clause-reads g c reads = unread (g.D.Disk.state c.args.disk.now)
+    (g.D.Disk.state c.list_tables.new.disk) c.list_tables.ensures.disk
+
+pub returns-in-DeleteTable-clause-reads : goal.returns-in-DeleteTable-clause-reads
+returns-in-DeleteTable-clause-reads g c reads = absurd (writes_not c.args.operation _ c.in-DeleteTable.is refl reads)
+
+pub returns-in-PutItem-clause-reads : goal.returns-in-PutItem-clause-reads
+returns-in-PutItem-clause-reads g c reads = absurd (writes_not c.args.operation _ c.in-PutItem.is refl reads)
+
+pub returns-in-GetItem-clause-reads : goal.returns-in-GetItem-clause-reads
+returns-in-GetItem-clause-reads g c reads = c.get_item.ensures.disk
+
+pub returns-in-DeleteItem-clause-reads : goal.returns-in-DeleteItem-clause-reads
+returns-in-DeleteItem-clause-reads g c reads = absurd (writes_not c.args.operation _ c.in-DeleteItem.is refl reads)
+
+pub returns-in-UpdateItem-clause-reads : goal.returns-in-UpdateItem-clause-reads
+returns-in-UpdateItem-clause-reads g c reads = absurd (writes_not c.args.operation _ c.in-UpdateItem.is refl reads)
+
+pub returns-in-Query-clause-reads : goal.returns-in-Query-clause-reads
+returns-in-Query-clause-reads g c reads = c.query.ensures.disk
+
+pub returns-in-Scan-clause-reads : goal.returns-in-Scan-clause-reads
+returns-in-Scan-clause-reads g c reads = c.scan.ensures.disk
+
+pub returns-in-BatchWriteItem-clause-reads : goal.returns-in-BatchWriteItem-clause-reads
+returns-in-BatchWriteItem-clause-reads g c reads = absurd (writes_not c.args.operation _ c.in-BatchWriteItem.is refl reads)
+
+pub returns-in-BatchGetItem-clause-reads : goal.returns-in-BatchGetItem-clause-reads
+returns-in-BatchGetItem-clause-reads g c reads = c.batch_get_item.ensures.disk
+
+pub returns-in-ListStreams-clause-reads : goal.returns-in-ListStreams-clause-reads
+returns-in-ListStreams-clause-reads g c reads = unread (g.D.Disk.state c.args.disk.now)
+    (g.D.Disk.state c.list_streams.new.disk) c.list_streams.ensures.disk
+
+pub returns-in-DescribeStream-clause-reads : goal.returns-in-DescribeStream-clause-reads
+returns-in-DescribeStream-clause-reads g c reads = unread (g.D.Disk.state c.args.disk.now)
+    (g.D.Disk.state c.describe_stream.new.disk) c.describe_stream.ensures.disk
+
+pub returns-in-GetShardIterator-clause-reads : goal.returns-in-GetShardIterator-clause-reads
+returns-in-GetShardIterator-clause-reads g c reads = unread (g.D.Disk.state c.args.disk.now)
+    (g.D.Disk.state c.get_shard_iterator.new.disk) c.get_shard_iterator.ensures.disk
+
+pub returns-in-GetRecords-clause-reads : goal.returns-in-GetRecords-clause-reads
+returns-in-GetRecords-clause-reads g c reads = c.get_records.ensures.disk

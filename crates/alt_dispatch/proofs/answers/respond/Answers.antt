@@ -1,9 +1,12 @@
 -- An operation that is built is carried out, a put by its own way.
-use Rattle.std.proofs.Common.{Option, Some, sym, subst, ap, ◌∙◌}
+use Rattle.std.proofs.Common.{Option, Some, IsTrue, sym, subst, ap, ◌∙◌}
+use Rattle.std.proofs.lemmas.Bool.{false≢true}
 use Rattle.alt_machine.specs.declared.Operation.{Operation}
 use Rattle.alt_machine.specs.Step.{step}
 use Rattle.alt_request.specs.Carried.{Carries, Moves}
 use Rattle.alt_tables.specs.Stands.{Stands}
+use Rattle.alt_dispatch.specs.Reading.{OnlyReads, is_read}
+use Rattle.alt_tables.proofs.Left.{reads_nothing}
 use Rattle.alt_dispatch.proofs.answers.respond.Goals as goal
 
 pub returns-in-PutItem-clause-carried : goal.returns-in-PutItem-clause-carried
@@ -35,3 +38,14 @@ returns-in_default-operation-clause-moves g c =
     (Stands (g.D.Disk.state c.args.disk.now) c.args.tables.now)
     (g.D.Disk.state c.args.disk.now) (g.D.Disk.state c.respond_to.new.disk)
     c.respond_to.result) (sym c.in-Some.is) c.respond_to.ensures.moves
+
+pub returns-in_default-clause-reads : goal.returns-in_default-clause-reads
+returns-in_default-clause-reads g c reads = reads_nothing (g.D.Disk.state c.args.disk.now)
+
+pub returns-in-PutItem-clause-reads : goal.returns-in-PutItem-clause-reads
+returns-in-PutItem-clause-reads g c reads = absurd (false≢true
+    (subst OnlyReads (c.in-Some.is ∙ ap Some c.in-PutItem.is) reads))
+
+pub returns-in_default-operation-clause-reads : goal.returns-in_default-operation-clause-reads
+returns-in_default-operation-clause-reads g c reads =
+    c.respond_to.ensures.reads (subst OnlyReads c.in-Some.is reads)

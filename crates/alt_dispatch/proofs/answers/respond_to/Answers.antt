@@ -7,6 +7,7 @@ use Rattle.alt_machine.specs.Step.{with_body}
 use Rattle.alt_request.specs.Carried.{Carries}
 use Rattle.alt_tables.specs.Stands.{Stands}
 use Rattle.alt_request.proofs.Moving.{moves_nothing}
+use Rattle.alt_tables.proofs.Left.{reads_nothing}
 use Rattle.alt_dispatch.proofs.answers.respond_to.Goals as goal
 
 pub returns-in-Err-clause-moves : goal.returns-in-Err-clause-moves
@@ -23,3 +24,9 @@ returns-in-Ok-Some-clause-carried g c =
     ∙ c.in-Ok-Some.ensures in
     subst (λ (b : Option Members). Carries (λ s. with_body s c.args.operation c.args.moment b)
     old new c.carry_out.result) e c.carry_out.ensures.carried
+
+pub returns-in-Ok-None-clause-reads : goal.returns-in-Ok-None-clause-reads
+returns-in-Ok-None-clause-reads g c reads = reads_nothing (g.D.Disk.state c.args.disk.now)
+
+pub returns-in-Err-clause-reads : goal.returns-in-Err-clause-reads
+returns-in-Err-clause-reads g c reads = reads_nothing (g.D.Disk.state c.args.disk.now)

@@ -12,7 +12,8 @@ use Rattle.alt_dispatch.proofs.answers.respond_to_put.Goals as goal
 
 pub returns-in-Ok-Some-clause-carried : goal.returns-in-Ok-Some-clause-carried
 returns-in-Ok-Some-clause-carried g c =
-    let (ms, says, ahead) = rw c.in-Ok-Some.field-0-is at c.in-Ok-Some.ensures.body in
+    let (ms, says, ahead) =
+    rw (c.heeded.ensures.names, c.in-Ok-Some.field-0-is) at c.in-Ok-Some.ensures.body in
     let is : body_of c.args.body.now ≡ Some ms =
     body_of_read c.args.body.now (object ms) says.0 says.1 in
     subst (λ (b : Option Members). Carries (λ s. with_body s PutItem c.args.moment b)
@@ -22,7 +23,8 @@ returns-in-Ok-Some-clause-carried g c =
 
 pub returns-in-Ok-Some-clause-moves : goal.returns-in-Ok-Some-clause-moves
 returns-in-Ok-Some-clause-moves g c =
-    let (ms, says, ahead) = rw c.in-Ok-Some.field-0-is at c.in-Ok-Some.ensures.body in
+    let (ms, says, ahead) =
+    rw (c.heeded.ensures.names, c.in-Ok-Some.field-0-is) at c.in-Ok-Some.ensures.body in
     let is : body_of c.args.body.now ≡ Some ms =
     body_of_read c.args.body.now (object ms) says.0 says.1 in
     subst (λ (b : Option Members). Moves (λ s. with_body s PutItem c.args.moment b)

@@ -2,7 +2,7 @@
 use Rattle.std.proofs.Common.{◌≡◌, sym, ap, subst, ◌∙◌, ◌++◌, ◌∷◌, [], None, IsTrue}
 use Rattle.std.proofs.lemmas.Bool.{false≢true}
 use Rattle.alt_schema.specs.declared.schema.IndexSchema.{IndexSchema}
-use Rattle.alt_opening.specs.IndexScans.{HasRow}
+use Rattle.alt_opening.specs.private.IndexScans.{HasRow}
 use Rattle.alt_opening.specs.Scans.{IsFirstFrom, IsNextRow, Walked}
 use Rattle.alt_opening.proofs.IndexSteps.{foreign_first, foreign_none}
 use Rattle.alt_opening.proofs.OneState.{some}

@@ -5,7 +5,7 @@ use Rattle.alt_layout.specs.Layout.{Layout}
 use Rattle.alt_machine.specs.Sources.{index_at}
 use Rattle.alt_machine.specs.Valid.{IsMade}
 use Rattle.alt_schema.specs.declared.schema.IndexSchema.{IndexSchema}
-use Rattle.alt_opening.specs.IndexScans.{AreOwn}
+use Rattle.alt_opening.specs.private.IndexScans.{AreOwn}
 use Rattle.alt_opening.specs.Scans.{IsAhead, IsBelow, ItemsRead, Walked}
 use Rattle.alt_opening.proofs.index_scan.first_foreign.Given as goal
 

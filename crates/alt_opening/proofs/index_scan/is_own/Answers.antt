@@ -3,6 +3,7 @@ use Rattle.std.proofs.Common.{sym, ap, ◌∙◌}
 use Rattle.std.proofs.lemmas.Bool.{false≢true}
 use Rattle.alt_layout.specs.Layout.{shown}
 use Rattle.alt_opening.proofs.IndexOwn.{own_is, unplaced, unshown}
+use Rattle.alt_opening.proofs.DeviceFaults.{device_walk}
 use Rattle.alt_opening.proofs.index_scan.is_own.Goals as goal
 
 pub returns-in-Ok-None-clause-own : goal.returns-in-Ok-None-clause-own
@@ -34,4 +35,5 @@ returns-in-Ok-clause-own g c tells l i reads at made read =
 
 pub returns-in-Err-row-clause-fault : goal.returns-in-Err-row-clause-fault
 returns-in-Err-row-clause-fault g c tells l reads =
-    c.unread.ensures.fault (c.in-Err-row.ensures.undamaged tells l reads)
+    device_walk c.in-Err-row.fault c.from.result c.from.ensures
+    (c.in-Err-row.ensures.undamaged tells l reads)

@@ -4,7 +4,7 @@ use Rattle.alt_engine.specs.InHand.{Reads}
 use Rattle.alt_layout.specs.Layout.{Layout}
 use Rattle.alt_machine.specs.Sources.{index_at}
 use Rattle.alt_schema.specs.declared.schema.IndexSchema.{IndexSchema}
-use Rattle.alt_opening.specs.IndexScans.{IsLeastMissing}
+use Rattle.alt_opening.specs.private.IndexScans.{IsLeastMissing}
 use Rattle.alt_opening.specs.Scans.{IsAhead, IsBelow, ItemsRead, Walked}
 use Rattle.alt_opening.proofs.index_scan.least_missing.Given as goal
 

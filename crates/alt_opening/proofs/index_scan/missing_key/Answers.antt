@@ -4,6 +4,7 @@ use Rattle.std.proofs.lemmas.Bool.{false≢true}
 use Rattle.alt_layout.specs.Layout.{shown}
 use Rattle.alt_opening.proofs.IndexOwn.{is_missing}
 use Rattle.alt_opening.proofs.OneState.{some}
+use Rattle.alt_opening.proofs.DeviceFaults.{device_walk}
 use Rattle.alt_opening.proofs.index_scan.missing_key.Goals as goal
 
 pub returns-else-shows-clause-missing : goal.returns-else-shows-clause-missing
@@ -18,4 +19,5 @@ returns-else-shows-clause-missing g c tells l i reads at =
 
 pub returns-in-Err-row-clause-fault : goal.returns-in-Err-row-clause-fault
 returns-in-Err-row-clause-fault g c tells l reads =
-    c.unread.ensures.fault (c.in-Err-row.ensures.undamaged tells l reads)
+    device_walk c.in-Err-row.fault c.from.result c.from.ensures
+    (c.in-Err-row.ensures.undamaged tells l reads)

@@ -3,7 +3,7 @@ use Rattle.std.proofs.Common.{◌<◌, IsTrue}
 use Rattle.alt_engine.specs.InHand.{Reads}
 use Rattle.alt_layout.specs.Layout.{Layout}
 use Rattle.alt_machine.specs.Valid.{IsMade}
-use Rattle.alt_opening.specs.IndexScans.{IndexesWhere}
+use Rattle.alt_opening.specs.private.IndexScans.{IndexesWhere}
 use Rattle.alt_opening.specs.Scans.{ItemsRead, Walked}
 use Rattle.alt_opening.proofs.index_scan.read_own_indexes.Given as goal
 

@@ -1,7 +1,7 @@
 -- One row more.
 use Rattle.std.proofs.Common.{sym, subst, IsTrue}
 use Rattle.std.specs.Prelude.{IfSome}
-use Rattle.alt_opening.specs.Opening.{IsReadOn}
+use Rattle.alt_opening.specs.private.Opening.{IsReadOn}
 use Rattle.alt_opening.specs.Scans.{IsAhead}
 use Rattle.alt_opening.specs.StateRows.{catalog_family}
 use Rattle.alt_opening.proofs.Ahead.{none_ahead}

@@ -2,7 +2,7 @@
 use Rattle.std.proofs.Common.{IsTrue}
 use Rattle.alt_engine.specs.InHand.{Reads}
 use Rattle.alt_layout.specs.Layout.{Layout}
-use Rattle.alt_opening.specs.Opening.{IsReadUpTo}
+use Rattle.alt_opening.specs.private.Opening.{IsReadUpTo}
 use Rattle.alt_opening.specs.Scans.{IsAhead, Walked}
 use Rattle.alt_opening.specs.StateRows.{catalog_family}
 use Rattle.alt_opening.proofs.opened.read_catalog.Given as goal

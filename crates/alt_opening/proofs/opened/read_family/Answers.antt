@@ -5,6 +5,7 @@ use Rattle.alt_opening.specs.StateRows.{catalog_family}
 use Rattle.alt_opening.proofs.Recovering.{number_within}
 use Rattle.alt_opening.proofs.TableSteps.{device_fault}
 use Rattle.alt_opening.proofs.WrongTable.{next_wrong}
+use Rattle.alt_opening.proofs.DeviceFaults.{device_walk}
 use Rattle.alt_opening.proofs.opened.read_family.Goals as goal
 
 pub returns-clause-wrong : goal.returns-clause-wrong
@@ -17,5 +18,6 @@ returns-clause-wrong g c tells l reads =
     (c.as_ref.ensures.value ∙ c.in-Ok.ensures.row tells l reads ∙ row)))
 
 pub returns-in-Err-clause-wrong : goal.returns-in-Err-clause-wrong
-returns-in-Err-clause-wrong g c tells l reads = device_fault l c.unread.result
-    (c.unread.ensures.fault (c.in-Err.ensures.undamaged tells l reads))
+returns-in-Err-clause-wrong g c tells l reads = device_fault l c.from.result
+    (device_walk c.in-Err.fault c.from.result c.from.ensures
+    (c.in-Err.ensures.undamaged tells l reads))

@@ -3,7 +3,7 @@ use Rattle.std.proofs.Common.{◌≡◌, sym, subst, ◌∙◌, IsTrue}
 use Rattle.std.proofs.lemmas.Bool.{false≢true}
 use Rattle.std.specs.Prelude.{codes}
 use Rattle.alt_schema.proofs.WholeDescriptions.{one_spelling}
-use Rattle.alt_opening.specs.Opening.{MayStand}
+use Rattle.alt_opening.specs.private.Opening.{MayStand}
 use Rattle.alt_opening.proofs.OneState.{one_column-value}
 use Rattle.alt_opening.proofs.opened.test_table.Goals as goal
 

@@ -1,15 +1,13 @@
 -- The engine reads as the files are, and its rows are those of a state, or none's.
 use Rattle.std.proofs.Common.{refl, sym, subst, IsTrue}
 use Rattle.alt_disk.proofs.Runs.{tells_of, trusted_on}
-use Rattle.alt_opening.specs.Recovery.{HasNoState, IsExplained}
 use Rattle.alt_opening.proofs.Recovering.{stands_then, rows_explain, rows_no_state, files_explain, files_no_state, left_at_once, left_before, stands_like, stands_behind}
 use Rattle.alt_opening.proofs.recover.open_store.Goals as goal
 
 pub returns-in-Err-clause-no_state : goal.returns-in-Err-clause-no_state
 returns-in-Err-clause-no_state g c tells =
-    subst (HasNoState (g.D.Disk.state c.args.disk.now).file) (sym c.unopened.ensures)
-    (files_no_state (g.D.Disk.state c.args.disk.now).file c.in-Err.fault
-    (c.in-Err.ensures.no_layout tells))
+    files_no_state (g.D.Disk.state c.args.disk.now).file c.in-Err.fault c.from.result
+    c.from.ensures (c.in-Err.ensures.no_layout tells)
 
 pub returns-in-Ok-read_rows-clause-reads : goal.returns-in-Ok-read_rows-clause-reads
 returns-in-Ok-read_rows-clause-reads g c tells =
@@ -52,9 +50,8 @@ returns-in-Err-read_rows-clause-no_state g c tells =
 
 pub returns-in-Err-clause-explained : goal.returns-in-Err-clause-explained
 returns-in-Err-clause-explained g c tells =
-    subst (IsExplained (g.D.Disk.state c.args.disk.now).file) (sym c.unopened.ensures)
-    (files_explain (g.D.Disk.state c.args.disk.now).file c.in-Err.fault
-    (c.in-Err.ensures.damaged tells))
+    files_explain (g.D.Disk.state c.args.disk.now).file c.in-Err.fault c.from.result
+    c.from.ensures (c.in-Err.ensures.damaged tells)
 
 -- ---- what is left
 

@@ -1,6 +1,6 @@
 -- The indexes of one table more.
 use Rattle.std.proofs.Common.{sym, subst, IsTrue, arith}
-use Rattle.alt_opening.specs.IndexScans.{IndexesRead}
+use Rattle.alt_opening.specs.private.IndexScans.{IndexesRead}
 use Rattle.alt_opening.proofs.Recovering.{number_within}
 use Rattle.alt_opening.proofs.Scanning.{walk_start, walk_then, reads_on}
 use Rattle.alt_opening.proofs.TableSteps.{none_yet, one_more, wrong_index}

@@ -2,7 +2,7 @@
 use Rattle.std.proofs.Common.{◌<◌, ◌-◌, ◌^◌, ℕ, IsTrue}
 use Rattle.alt_engine.specs.InHand.{Reads}
 use Rattle.alt_layout.specs.Layout.{Layout}
-use Rattle.alt_opening.specs.Opening.{AreTablesRead}
+use Rattle.alt_opening.specs.private.Opening.{AreTablesRead}
 use Rattle.alt_opening.specs.Scans.{Walked}
 use Rattle.alt_opening.proofs.TableSteps.{IndexesUpTo}
 use Rattle.alt_opening.proofs.recover.read_indexes.Given as goal

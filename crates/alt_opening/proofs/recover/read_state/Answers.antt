@@ -1,12 +1,13 @@
 -- What was read makes a state, or a row is the first wrong one.
 use Rattle.std.proofs.Common.{sym, subst, IsTrue}
 use Rattle.alt_layout.specs.Layout.{ShowsFirst}
-use Rattle.alt_opening.specs.Opening.{AllItemsRead, IsCatalog}
+use Rattle.alt_opening.specs.private.Opening.{AllItemsRead, IsCatalog}
 use Rattle.alt_opening.specs.Scans.{Walked}
 use Rattle.alt_opening.proofs.FirstWrong.{beyond_wrong}
 use Rattle.alt_opening.proofs.Recovering.{number_within}
 use Rattle.alt_opening.proofs.Scanning.{walk_then, reads_on}
 use Rattle.alt_opening.proofs.TableSteps.{device_fault}
+use Rattle.alt_opening.proofs.DeviceFaults.{device_walk}
 use Rattle.alt_opening.proofs.recover.read_state.Goals as goal
 
 pub returns-in-Err-read_tables-clause-wrong : goal.returns-in-Err-read_tables-clause-wrong
@@ -115,7 +116,8 @@ returns-in-Err-first_from-clause-wrong g c tells l reads =
     walk_then (g.D.Disk.state c.args.disk.now) (g.D.Disk.state c.read_catalog.new.disk)
     (g.D.Disk.state c.read_tables.new.disk) c.args.engine.now c.read_catalog.new.engine
     c.read_tables.new.engine c.read_catalog.ensures.walked c.read_tables.ensures.walked in
-    device_fault l c.unread.result (c.unread.ensures.fault (c.in-Err-first_from.ensures.undamaged
+    device_fault l c.from.result (device_walk c.in-Err-first_from.fault c.from.result
+    c.from.ensures (c.in-Err-first_from.ensures.undamaged
     (subst IsTrue (sym both.goes.tells) tells) l
     (reads_on (g.D.Disk.state c.args.disk.now) (g.D.Disk.state c.read_tables.new.disk)
     c.args.engine.now c.read_tables.new.engine l both tells reads)))

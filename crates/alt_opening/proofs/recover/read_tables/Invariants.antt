@@ -2,7 +2,7 @@
 use Rattle.std.proofs.Common.{◌<◌, ◌-◌, ◌^◌, ℕ, IsTrue}
 use Rattle.alt_engine.specs.InHand.{Reads}
 use Rattle.alt_layout.specs.Layout.{Layout}
-use Rattle.alt_opening.specs.Opening.{IsCatalog}
+use Rattle.alt_opening.specs.private.Opening.{IsCatalog}
 use Rattle.alt_opening.specs.Scans.{Walked}
 use Rattle.alt_opening.proofs.TableSteps.{ReadUpTo}
 use Rattle.alt_opening.proofs.recover.read_tables.Given as goal

@@ -3,6 +3,7 @@ use Rattle.std.proofs.Common.{◌≡◌, length, None, true, arith}
 use Rattle.std.proofs.lemmas.Bool.Decides.{nat_tests}
 use Rattle.alt_layout.specs.Layout.{rows_between}
 use Rattle.alt_opening.proofs.Ahead.{some_ahead, none_came, page_is}
+use Rattle.alt_opening.proofs.DeviceFaults.{device_walk}
 use Rattle.alt_opening.proofs.scan.read_ahead.Goals as goal
 
 pub returns-in-Ok-rows-clause-ahead : goal.returns-in-Ok-rows-clause-ahead
@@ -36,4 +37,5 @@ returns-in-Ok-rows-clause-none g c tells l reads =
 
 pub returns-clause-fault : goal.returns-clause-fault
 returns-clause-fault g c tells l reads =
-    c.unread.ensures.fault (c.in-Err.ensures.undamaged tells l reads)
+    device_walk c.in-Err.fault c.from.result c.from.ensures
+    (c.in-Err.ensures.undamaged tells l reads)

@@ -4,7 +4,7 @@ use Rattle.std.specs.Vec.Iter.{into_iter_items}
 use Rattle.std.proofs.lemmas.List.Elements.{All-push}
 use Rattle.alt_machine.specs.Batches.{each_found}
 use Rattle.alt_machine.specs.Ops.BatchGetItem.{placed_all}
-use Rattle.alt_ops_batch.specs.Batches.{keys_said, reads_of, HasPlainNames}
+use Rattle.alt_ops_batch.specs.private.Batches.{keys_said, reads_of, HasPlainNames}
 use Rattle.alt_ops_batch.specs.declared.asked_reads.TableReads.{TableReads}
 use Rattle.alt_ops_batch.proofs.Founds.{one_more_seen}
 use Rattle.alt_tables.specs.Stands.{catalog_of}

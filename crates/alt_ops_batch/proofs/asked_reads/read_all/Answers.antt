@@ -3,7 +3,7 @@ use Rattle.std.proofs.Common.{ap, sym, ◌∙◌, ◌∷◌}
 use Rattle.serde_json.specs.View.{view, members_view}
 use Rattle.alt_machine.specs.Batches.{each_found, pairs_in}
 use Rattle.alt_machine.specs.Ops.BatchGetItem.{read_table}
-use Rattle.alt_ops_batch.specs.Batches.{keys_read}
+use Rattle.alt_ops_batch.specs.private.Batches.{keys_read}
 use Rattle.alt_ops_batch.proofs.Founds.{one_more_seen}
 use Rattle.alt_ops_batch.proofs.asked_reads.read_all.Goals as goal
 

@@ -2,7 +2,7 @@
 use Rattle.std.proofs.Common.{◌≡◌, ◌++◌, map, drop}
 use Rattle.serde_json.specs.View.{items_view}
 use Rattle.alt_machine.specs.Batches.{elements}
-use Rattle.alt_ops_batch.specs.Batches.{request_of}
+use Rattle.alt_ops_batch.specs.private.Batches.{request_of}
 use Rattle.alt_ops_batch.proofs.asked_writes.push_requests.Given as goal
 
 abbrev pub invariant-loop-value : goal.invariant-loop-value

@@ -3,7 +3,7 @@ use Rattle.std.proofs.Common.{◌≡◌, map}
 use Rattle.std.specs.Vec.Iter.{into_iter_items}
 use Rattle.alt_machine.specs.Batches.{each_found}
 use Rattle.alt_machine.specs.Ops.BatchWriteItem.{read_write}
-use Rattle.alt_ops_batch.specs.Batches.{request_of}
+use Rattle.alt_ops_batch.specs.private.Batches.{request_of}
 use Rattle.alt_ops_batch.proofs.Founds.{behind}
 use Rattle.alt_ops_batch.proofs.asked_writes.read_all.Given as goal
 

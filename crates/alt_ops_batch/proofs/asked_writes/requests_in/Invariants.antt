@@ -2,7 +2,7 @@
 use Rattle.std.proofs.Common.{◌≡◌, ◌++◌, map}
 use Rattle.serde_json.specs.View.{members_view}
 use Rattle.alt_machine.specs.Batches.{elements_in, of_each, pairs_in}
-use Rattle.alt_ops_batch.specs.Batches.{request_of}
+use Rattle.alt_ops_batch.specs.private.Batches.{request_of}
 use Rattle.alt_ops_batch.proofs.asked_writes.requests_in.Given as goal
 
 abbrev pub invariant-loop-name : goal.invariant-loop-name

@@ -6,13 +6,14 @@ use Rattle.alt_disk.specs.Disk.{DiskState}
 use Rattle.alt_machine.specs.Ops.BatchGetItem.{batch_get_item, read_answer, reads_asked}
 use Rattle.alt_machine.specs.Outcomes.{says}
 use Rattle.alt_machine.specs.State.{State}
-use Rattle.alt_ops_batch.specs.Readings.{read_so}
+use Rattle.alt_ops_batch.specs.private.Readings.{read_so}
 use Rattle.alt_ops_batch.proofs.Gets.{asked_known, asked_of, get_is, go, read_failed, read_stopped}
 use Rattle.alt_ops_batch.proofs.Stopping.{asked_is, asked_passed, asked_unfailed}
 use Rattle.alt_request.specs.Carried.{Carries, Moves}
 use Rattle.alt_request.proofs.Carrying.{said_or_not}
 use Rattle.alt_request.proofs.Moving.{moves_reads, moves_stopped, reply_unfailed}
 use Rattle.alt_request.proofs.Reaching.{err_is}
+use Rattle.alt_tables.proofs.Left.{reads_nothing}
 use Rattle.alt_tables.specs.Stands.{Stands, catalog_of}
 use Rattle.alt_ops_batch.proofs.get.batch_get_item.Goals as goal
 
@@ -78,3 +79,6 @@ returns-clause-moves g c =
     moves_reads _ c.args.tables.now (g.D.Disk.state c.args.disk.now)
     (g.D.Disk.state c.read_all.new.disk) c.read_reply.result c.in_ok-read.ensures.disk
     (reply_unfailed _ c.read_reply.result c.read_reply.ensures.cause)
+
+pub returns-in_err-asked-clause-disk : goal.returns-in_err-asked-clause-disk
+returns-in_err-asked-clause-disk g c = reads_nothing (g.D.Disk.state c.args.disk.now)

@@ -2,7 +2,7 @@
 use Rattle.std.proofs.Common.{◌≡◌, ◌+◌, length}
 use Rattle.serde_json.specs.View.{members_view}
 use Rattle.alt_machine.specs.Batches.{of_each, pairs_in}
-use Rattle.alt_ops_batch.specs.Batches.{inside_of}
+use Rattle.alt_ops_batch.specs.private.Batches.{inside_of}
 use Rattle.alt_ops_batch.proofs.members.is_sized.Given as goal
 
 abbrev pub invariant-loop-value : goal.invariant-loop-value

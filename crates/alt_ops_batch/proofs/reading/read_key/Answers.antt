@@ -2,7 +2,7 @@
 use Rattle.std.proofs.Common.{◌≡◌, sym, subst, ◌∙◌, ◌+◌, Some, OnOk}
 use Rattle.std.specs.Option.{option_map_or}
 use Rattle.alt_machine.specs.Ops.BatchGetItem.{found_at}
-use Rattle.alt_ops_batch.specs.Readings.{ShowsMore}
+use Rattle.alt_ops_batch.specs.private.Readings.{ShowsMore}
 use Rattle.alt_ops_batch.proofs.Showing.{found_is, found_fits}
 use Rattle.alt_value.specs.Size.{item_size}
 use Rattle.alt_ops_batch.proofs.reading.read_key.Goals as goal

@@ -2,7 +2,7 @@
 use Rattle.std.proofs.Common.{ap, ◌∙◌, map}
 use Rattle.serde_json.specs.Data.{array, put}
 use Rattle.serde_json.specs.View.{view, items_view, members_view}
-use Rattle.alt_ops_batch.specs.Readings.{name_left}
+use Rattle.alt_ops_batch.specs.private.Readings.{name_left}
 use Rattle.alt_ops_batch.specs.declared.reading.Read.{Read}
 use Rattle.alt_ops_batch.proofs.Taking.{table_read}
 use Rattle.alt_ops_batch.proofs.reading.read_table.Goals as goal

@@ -7,7 +7,7 @@ use Rattle.alt_machine.specs.declared.PlacedMember.{PlacedMember}
 use Rattle.alt_machine.specs.Ops.BatchWriteItem.{all_processed, batch_write_item, written_by, writes_asked, writes_of_all}
 use Rattle.alt_machine.specs.Outcomes.{Outcome, a_number, writes}
 use Rattle.alt_machine.specs.State.{State, Texts}
-use Rattle.alt_ops_batch.specs.Changed.{AreAllApart, Every, MayWrite, written_at}
+use Rattle.alt_ops_batch.specs.private.Changed.{AreAllApart, Every, MayWrite, written_at}
 use Rattle.alt_ops_batch.proofs.Asked.{asked_may_write, all_apart}
 use Rattle.alt_machine.proofs.Batches.{asked_once}
 use Rattle.alt_ops_batch.proofs.Stopping.{asked_is, asked_passed, asked_unfailed}
@@ -15,9 +15,10 @@ use Rattle.alt_ops_batch.proofs.Writes.{write_is, go}
 use Rattle.alt_request.specs.Carried.{Carries, Moves, IfWanting}
 use Rattle.alt_request.specs.declared.stop.Stop.TheVariants.{Fault}
 use Rattle.alt_request.proofs.Carrying.{broke_off, faulted_as, unfound, wrote}
-use Rattle.alt_request.proofs.Moving.{failed_fault, memory_unfailed, moves_reads, moves_stopped, writes_move, wanting_fault}
+use Rattle.alt_request.proofs.Moving.{failed_fault, memory_unfailed, moves_reads, moves_stopped, writes_move, wanting_fault, unrefused}
 use Rattle.alt_request.proofs.Reaching.{err_is}
 use Rattle.alt_schema.specs.declared.schema.TableSchema.{TableSchema}
+use Rattle.alt_shape.specs.Refusals.{Answer}
 use Rattle.alt_tables.specs.Faults.{AreMade, BreakOff, WantsMemory}
 use Rattle.alt_tables.specs.Images.{Leaves}
 use Rattle.alt_tables.specs.Stands.{Stands, catalog_of}
@@ -204,4 +205,5 @@ returns-clause-moves g c =
     (subst (λ ws. Leaves read after s (writes_of_all s c.args.moment ws))
     c.in_ok-changes.ensures.written
     (c.in_ok-write_all.ensures.leaves s ((c.in_ok-changes.ensures.stays s).0 stands))))
-    tt tt (λ s stands. tt)
+    (unrefused c.in_ok-reply.reply _ (ap (λ (a : Answer). a.status) c.in_ok-reply.ensures.reply)) tt
+    (λ s stands. tt)

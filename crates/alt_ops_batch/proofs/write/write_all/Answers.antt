@@ -6,7 +6,7 @@ use Rattle.std.proofs.lemmas.List.{nil_from_length}
 use Rattle.alt_disk.specs.Disk.{DiskState}
 use Rattle.alt_machine.specs.Ops.BatchWriteItem.{writes_of_all}
 use Rattle.alt_machine.specs.Outcomes.{a_number}
-use Rattle.alt_ops_batch.specs.Changed.{written_at}
+use Rattle.alt_ops_batch.specs.private.Changed.{written_at}
 use Rattle.alt_ops_batch.specs.declared.write.Change.{Change}
 use Rattle.alt_ops_batch.proofs.Writing.{IsUnderWay, one_more, broke_off, broken_leaves, found_now, made_one, broke_one, all_made, all_left, wants_there, none_done}
 use Rattle.alt_request.proofs.Reaching.{err_is}

@@ -1,7 +1,7 @@
 -- The changes are made of the item, or the update is refused by its fault.
 use Rattle.std.proofs.Common.{List, Err, sym, subst}
 use Rattle.alt_machine.specs.Ops.UpdateItem.{item_after}
-use Rattle.alt_ops_item.specs.Updates.{with_changes}
+use Rattle.alt_ops_item.specs.private.Updates.{with_changes}
 use Rattle.alt_ops_item.proofs.Evaluated.{after-changes, after-fault, comes_made}
 use Rattle.alt_request.specs.Steps.{Comes}
 use Rattle.alt_request.specs.declared.stop.Stop.{Stop}

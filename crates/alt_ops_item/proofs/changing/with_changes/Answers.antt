@@ -3,7 +3,7 @@ use Rattle.std.proofs.Common.{◌≡◌, refl, sym, ap, ◌∙◌, List, [], ◌
 use Rattle.std.specs.Vec.Iter.{into_iter_len}
 use Rattle.std.proofs.lemmas.Iterator.Adapters.{YieldsList-from_vec}
 use Rattle.std.proofs.lemmas.Iterator.Consumers.{YieldsList-end}
-use Rattle.alt_ops_item.specs.Updates.{with_change, with_changes}
+use Rattle.alt_ops_item.specs.private.Updates.{with_change, with_changes}
 use Rattle.alt_updeval.specs.declared.update.AttrChange.{AttrChange}
 use Rattle.alt_value.specs.Tree.{Pair}
 use Rattle.alt_ops_item.proofs.changing.with_changes.Goals as goal

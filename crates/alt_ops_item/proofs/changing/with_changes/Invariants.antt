@@ -1,6 +1,6 @@
 -- The changes so far are made.
 use Rattle.std.proofs.Common.{◌≡◌}
-use Rattle.alt_ops_item.specs.Updates.{with_changes}
+use Rattle.alt_ops_item.specs.private.Updates.{with_changes}
 use Rattle.alt_ops_item.proofs.changing.with_changes.Given as goal
 
 abbrev pub invariant-loop-change : goal.invariant-loop-change

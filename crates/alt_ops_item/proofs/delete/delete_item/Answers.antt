@@ -1,7 +1,7 @@
 -- All of the body is at hand.
 use Rattle.serde_json.specs.View.{members_view}
 use Rattle.alt_machine.specs.Ops.DeleteItem.{delete_item}
-use Rattle.alt_ops_item.specs.Writes.{deleting}
+use Rattle.alt_ops_item.specs.private.Writes.{deleting}
 use Rattle.alt_ops_item.proofs.Putting.{delete_stored}
 use Rattle.alt_request.proofs.Asking.{all_asked}
 use Rattle.alt_ops_item.proofs.delete.delete_item.Goals as goal

@@ -1,7 +1,7 @@
 -- All of the body is at hand.
 use Rattle.serde_json.specs.View.{members_view}
 use Rattle.alt_machine.specs.Ops.PutItem.{put_item}
-use Rattle.alt_ops_item.specs.Writes.{putting}
+use Rattle.alt_ops_item.specs.private.Writes.{putting}
 use Rattle.alt_ops_item.proofs.Putting.{put_stored}
 use Rattle.alt_request.proofs.Asking.{all_asked}
 use Rattle.alt_ops_item.proofs.put.put_item.Goals as goal

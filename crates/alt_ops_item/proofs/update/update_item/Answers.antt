@@ -5,7 +5,7 @@ use Rattle.serde_json.specs.View.{members_view}
 use Rattle.alt_machine.specs.Outcomes.{Outcome}
 use Rattle.alt_machine.specs.Ops.UpdateItem.{update_item}
 use Rattle.alt_machine.specs.State.{State}
-use Rattle.alt_ops_item.specs.Writes.{updating}
+use Rattle.alt_ops_item.specs.private.Writes.{updating}
 use Rattle.alt_ops_item.proofs.Updating.{update_is, update_stored}
 use Rattle.alt_request.specs.Carried.{Carries, Moves}
 use Rattle.alt_request.specs.ItemWrites.{writes_item}

@@ -6,7 +6,7 @@ use Rattle.alt_machine.specs.Lists.{page_answer}
 use Rattle.alt_machine.specs.Sources.{index_at}
 use Rattle.alt_ops_query.proofs.Answering.{answered_by}
 use Rattle.alt_ops_query.proofs.Shown.{answer_plain}
-use Rattle.alt_ops_query.specs.Replied.{page_of}
+use Rattle.alt_ops_query.specs.private.Replied.{page_of}
 use Rattle.alt_shape.specs.Refusals.{Answer, answer_of}
 use Rattle.serde_json.specs.Written.{has_float}
 use Rattle.alt_ops_query.proofs.pages.filled_reply.Goals as goal

@@ -1,6 +1,6 @@
 -- The range holds what is asked.
 use Rattle.std.proofs.Common.{subst, option_map}
-use Rattle.alt_ops_query.specs.Asked.{Asks}
+use Rattle.alt_ops_query.specs.private.Asked.{Asks}
 use Rattle.alt_ops_query.proofs.KeyRanges.{asked_by}
 use Rattle.alt_ops_query.proofs.querying.asked_range.Goals as goal
 

@@ -9,13 +9,14 @@ use Rattle.alt_machine.specs.Members.{table_name}
 use Rattle.alt_machine.specs.Ops.Query.{rules, query, queries}
 use Rattle.alt_machine.specs.Sources.{index_at}
 use Rattle.alt_machine.specs.Walks.{items_between}
-use Rattle.alt_ops_query.specs.Asked.{Asks}
+use Rattle.alt_ops_query.specs.private.Asked.{Asks}
 use Rattle.alt_ops_query.proofs.Answering.{within_of}
 use Rattle.alt_ops_query.proofs.Limited.{none_broken, query_limit}
 use Rattle.alt_ops_query.proofs.Whole.{query_is, query_done, query_stopped, asks_unfailed}
 use Rattle.alt_request.proofs.Listing.{list_passed, list_unfailed}
 use Rattle.alt_request.proofs.Moving.{moves_stopped, moves_nothing, moves_reads}
 use Rattle.alt_request.specs.Carried.{Does}
+use Rattle.alt_tables.proofs.Left.{reads_nothing}
 use Rattle.alt_tables.specs.Stands.{Stands, catalog_of}
 use Rattle.alt_ops_query.proofs.querying.query.Goals as goal
 
@@ -103,3 +104,9 @@ returns-clause-moves g c =
     (index_at c.in_ok-target.target.schema.now c.in_ok-target.target.index)
     c.in_ok-target.target.said.key_condition c.in_ok-target.target.start
     c.goes_forward-forward.result c.in-Err.stop c.in-Err.ensures.asks)
+
+pub returns-in_err-target-clause-disk : goal.returns-in_err-target-clause-disk
+returns-in_err-target-clause-disk g c = reads_nothing (g.D.Disk.state c.args.disk.now)
+
+pub returns-clause-disk : goal.returns-clause-disk
+returns-clause-disk g c = reads_nothing (g.D.Disk.state c.args.disk.now)

@@ -1,7 +1,7 @@
 -- The attributes put are those of the key.
 use Rattle.std.proofs.Common.{ap, sym, ◌∙◌, option_map}
 use Rattle.alt_machine.specs.Lists.{key_attributes}
-use Rattle.alt_ops_query.specs.Replied.{with_key}
+use Rattle.alt_ops_query.specs.private.Replied.{with_key}
 use Rattle.alt_ops_query.proofs.Kept.{key-index, key-table}
 use Rattle.alt_ops_query.proofs.replies.key_attributes.Goals as goal
 use Rattle.alt_ops_query.proofs.replies.key_attributes.Goals.{in-Some+in_ok-put_key-2, in_default}

@@ -3,7 +3,7 @@ use Rattle.std.proofs.Common.{ap, ◌∙◌, option_map}
 use Rattle.std.specs.Prelude.{codes}
 use Rattle.serde_json.specs.Data.{member, no_members, number, unsigned}
 use Rattle.serde_json.specs.View.{members_view}
-use Rattle.alt_ops_query.specs.Replied.{behind, page_of}
+use Rattle.alt_ops_query.specs.private.Replied.{behind, page_of}
 use Rattle.alt_ops_query.proofs.Shown.{page_members}
 use Rattle.alt_shape.specs.Body.{members_json}
 use Rattle.alt_ops_query.proofs.replies.page_reply.Goals as goal

@@ -8,13 +8,14 @@ use Rattle.alt_machine.specs.Lists.{is_mismatched}
 use Rattle.alt_machine.specs.Members.{table_name}
 use Rattle.alt_machine.specs.Ops.Scan.{rules, scan, scans, is_segment_odd}
 use Rattle.alt_machine.specs.Sources.{index_at}
-use Rattle.alt_ops_query.specs.Asked.{Segments}
-use Rattle.alt_ops_query.specs.Tokens.{segment_in}
+use Rattle.alt_ops_query.specs.private.Asked.{Segments}
+use Rattle.alt_ops_query.specs.private.Tokens.{segment_in}
 use Rattle.alt_ops_query.proofs.Answering.{within_of}
 use Rattle.alt_ops_query.proofs.Limited.{none_broken, none_mismatched, second_false, scan_limit}
 use Rattle.alt_ops_query.proofs.Whole.{scan_is, scan_done, scan_stopped, segments_unfailed}
 use Rattle.alt_request.proofs.Listing.{list_passed, list_unfailed}
 use Rattle.alt_request.proofs.Moving.{moves_stopped, moves_nothing, moves_reads}
+use Rattle.alt_tables.proofs.Left.{reads_nothing}
 use Rattle.alt_tables.specs.Stands.{Stands, catalog_of}
 use Rattle.alt_ops_query.proofs.scanning.scan.Goals as goal
 
@@ -104,3 +105,9 @@ returns-clause-moves g c =
     (index_at c.in_ok-target.target.schema.now c.in_ok-target.target.index)
     (option_map segment_in c.segment_of-segment.result)
     c.in_ok-target.target.start c.in-Err.stop c.in-Err.ensures.segments)
+
+pub returns-in_err-target-clause-disk : goal.returns-in_err-target-clause-disk
+returns-in_err-target-clause-disk g c = reads_nothing (g.D.Disk.state c.args.disk.now)
+
+pub returns-clause-disk : goal.returns-clause-disk
+returns-clause-disk g c = reads_nothing (g.D.Disk.state c.args.disk.now)

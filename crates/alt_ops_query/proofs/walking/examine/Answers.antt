@@ -3,7 +3,7 @@ use Rattle.std.proofs.Common.{rules, sym, ap, subst, ◌∙◌, ◌++◌, ◌∷
 use Rattle.std.specs.Vec.Iter.{into_iter_items}
 use Rattle.std.proofs.Common.{append_assoc}
 use Rattle.alt_expr.specs.Pages.{ends_early}
-use Rattle.alt_ops_query.specs.Filled.{HasExamined}
+use Rattle.alt_ops_query.specs.private.Filled.{HasExamined}
 use Rattle.alt_ops_query.proofs.WalkLaws.{SoFar, one_more, next_some, ended_by}
 use Rattle.alt_ops_query.proofs.walking.examine.Goals as goal
 

@@ -1,7 +1,7 @@
 -- A front of the items was examined, and the page goes on.
 use Rattle.std.proofs.Common.{◌≡◌, ◌≢◌, false, List, [], All}
 use Rattle.std.specs.Vec.Iter.{into_iter_items}
-use Rattle.alt_ops_query.specs.Filled.{HasExamined}
+use Rattle.alt_ops_query.specs.private.Filled.{HasExamined}
 use Rattle.alt_ops_query.proofs.WalkLaws.{SoFar}
 use Rattle.alt_paging.specs.Offered.{has_ended}
 use Rattle.alt_paging.specs.declared.ask.PageAsk.{PageAsk}

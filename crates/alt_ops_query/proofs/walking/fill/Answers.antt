@@ -2,7 +2,7 @@
 use Rattle.std.proofs.Common.{◌≡◌, false, IfSome, subst, ◌∙◌, List}
 use Rattle.alt_machine.specs.Sources.{index_at}
 use Rattle.alt_machine.specs.Walks.{items_between}
-use Rattle.alt_ops_query.specs.Filled.{Steps}
+use Rattle.alt_ops_query.specs.private.Filled.{Steps}
 use Rattle.alt_ops_query.proofs.WalkLaws.{walk_ended, walk_on}
 use Rattle.alt_paging.specs.Offered.{has_ended}
 use Rattle.alt_tables.proofs.Left.{reads_then, ready_on}

@@ -5,7 +5,7 @@ use Rattle.std.specs.FinMap as map
 use Rattle.alt_machine.specs.State.{State, Table}
 use Rattle.alt_machine.specs.Sources.{index_at}
 use Rattle.alt_machine.specs.Walks.{items_between}
-use Rattle.alt_ops_query.specs.Filled.{HasExamined}
+use Rattle.alt_ops_query.specs.private.Filled.{HasExamined}
 use Rattle.alt_ops_query.proofs.WalkLaws.{IsWalked}
 use Rattle.alt_paging.specs.Offered.{has_ended}
 use Rattle.alt_paging.specs.declared.ask.PageAsk.{PageAsk}

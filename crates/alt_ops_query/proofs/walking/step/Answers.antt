@@ -2,8 +2,8 @@
 use Rattle.std.proofs.Common.{◌≡◌, ◌≢◌, sym, ap, subst, ◌∙◌, ◌++◌, ◌≤◌, ℕ, [], List, Option, Some, All, take, length, arith}
 use Rattle.alt_machine.specs.Sources.{index_at}
 use Rattle.alt_machine.specs.Walks.{items_between}
-use Rattle.alt_ops_query.specs.Filled.{Examines}
-use Rattle.alt_ops_query.specs.Ranges.{place_in}
+use Rattle.alt_ops_query.specs.private.Filled.{Examines}
+use Rattle.alt_ops_query.specs.private.Ranges.{place_in}
 use Rattle.alt_schema.specs.declared.schema.IndexSchema.{IndexSchema}
 use Rattle.alt_schema.specs.declared.schema.TableSchema.{TableSchema}
 use Rattle.alt_ops_query.proofs.Steps.{ended_so, last_so, memory_fault, step_on, step_placed, steps_some}
@@ -25,7 +25,7 @@ returns-then-not-more-clause-steps g c s t ask seen stands at h =
     let i = index_at t.description c.args.index in
     let from = c.args.range.from in
     let to = c.args.range.to in
-    let most = c.certain-most.result in
+    let most = c.next_count-most.result in
     let items = c.rows.new.out.items in
     let filling = c.examine.new.filling in
     let list : List (List Pair) = items_between t i from to c.args.forward in
@@ -49,7 +49,7 @@ returns-in-Ok-clause-steps g c s t ask seen stands at h =
     let i = index_at t.description c.args.index in
     let from = c.args.range.from in
     let to = c.args.range.to in
-    let most = c.certain-most.result in
+    let most = c.next_count-most.result in
     let items = c.rows.new.out.items in
     let filling = c.examine.new.filling in
     let list : List (List Pair) = items_between t i from to c.args.forward in
@@ -67,7 +67,7 @@ returns-in-Ok-clause-steps g c s t ask seen stands at h =
     c.in-Some.ensures.table in
     step_on t i stored c.args.forward from to filling ask seen items most given
     (subst (λ b. Examines filling ask seen items b) c.if-not-more.false examined).0
-    many c.certain-most.ensures.some c.in-Ok.rest
+    many c.next_count-most.ensures.some c.in-Ok.rest
     (λ item place last there. c.in-Ok.ensures.rest item place last
     (indexed_place _ _ same c.args.index item place _ c.index_of.ensures.index there))
 
@@ -76,7 +76,7 @@ returns-in-Err-clause-fault g c s t ask seen stands at h =
     let i = index_at t.description c.args.index in
     let from = c.args.range.from in
     let to = c.args.range.to in
-    let most = c.certain-most.result in
+    let most = c.next_count-most.result in
     let items = c.rows.new.out.items in
     let filling = c.examine.new.filling in
     let list : List (List Pair) = items_between t i from to c.args.forward in
@@ -94,6 +94,6 @@ returns-in-Err-clause-fault g c s t ask seen stands at h =
     c.in-Some.ensures.table in
     let (item, place, last, there) = step_placed t i stored c.args.forward from to filling ask seen
     items most given (subst (λ b. Examines filling ask seen items b) c.if-not-more.false examined).0
-    many c.certain-most.ensures.some in
+    many c.next_count-most.ensures.some in
     memory_fault c.in-Err.stop (c.in-Err.ensures.fault item place last
     (indexed_place _ _ same c.args.index item place _ c.index_of.ensures.index there))

@@ -3,7 +3,7 @@ use Rattle.std.proofs.Common.{sym, ap, subst, ◌∙◌, is_some, arith, ℕ}
 use Rattle.std.specs.FinMap as map
 use Rattle.serde_json.specs.Data.{Members}
 use Rattle.serde_json.specs.View.{members_view}
-use Rattle.alt_ops_table.specs.Asked.{IsAsked}
+use Rattle.alt_ops_table.specs.private.Asked.{IsAsked}
 use Rattle.alt_ops_table.proofs.Asking.{known, unfit_asked, name-described, create-refused, create-exists, create-many, some_there, none_there, free_family}
 use Rattle.alt_request.proofs.Reaching.{err_is}
 use Rattle.alt_schema.specs.Described.{HasCause, description_of}

@@ -9,10 +9,11 @@ use Rattle.alt_ops_table.proofs.Asking.{asked_stops, to_be_made, is_made, has_nu
 use Rattle.alt_request.specs.Carried.{Carries, Moves}
 use Rattle.alt_request.specs.declared.stop.Stop.TheVariants.{Fault}
 use Rattle.alt_request.proofs.Carrying.{broke_off, wrote, faulted_as}
-use Rattle.alt_request.proofs.Moving.{moves_stopped, memory_unfailed, failed_fault, unwritten_wants, wanting_fault}
+use Rattle.alt_request.proofs.Moving.{moves_stopped, memory_unfailed, failed_fault, unwritten_wants, wanting_fault, unrefused}
 use Rattle.alt_request.proofs.Reaching.{err_is}
 use Rattle.alt_schema.specs.Described.{description_of}
 use Rattle.alt_schema.specs.declared.schema.TableSchema.{TableSchema}
+use Rattle.alt_shape.specs.Refusals.{Answer}
 use Rattle.alt_tables.specs.Images.{Leaves}
 use Rattle.alt_tables.proofs.Left.{reads_nothing}
 use Rattle.alt_tables.specs.Stands.{Stands}
@@ -154,7 +155,8 @@ returns-clause-moves g c =
           (left_alike before later c.args.tables.now s stands (with_table s c.in_ok-schema.schema)
           (with_table s d) (λ free. ap (λ (x : TableSchema). with_table s x) (made.1 free))
           c.in_ok-create.ensures.lacking (c.in_ok-create.ensures.disk s stands));
-      refused = tt;
+      refused = unrefused c.in_ok-reply.reply _
+          (ap (λ (a : Answer). a.status) c.in_ok-reply.ensures.reply);
       failed = tt;
       wanting = λ s stands. tt;
     }

@@ -11,11 +11,12 @@ use Rattle.alt_machine.specs.Targets.{on_table}
 use Rattle.alt_request.specs.Carried.{Carries, Moves}
 use Rattle.alt_request.specs.declared.stop.Stop.TheVariants.{Fault}
 use Rattle.alt_request.proofs.Carrying.{table_passed, table_reached, faulted_as, broke_off, wrote}
-use Rattle.alt_request.proofs.Moving.{moves_stopped, table_unfailed, memory_unfailed, failed_fault, unwritten_wants, wanting_fault}
+use Rattle.alt_request.proofs.Moving.{moves_stopped, table_unfailed, memory_unfailed, failed_fault, unwritten_wants, wanting_fault, unrefused}
 use Rattle.alt_request.proofs.Reaching.{err_is}
 use Rattle.alt_schema.specs.declared.schema.TableSchema.{TableSchema}
 use Rattle.alt_shape.specs.Bodies as bodies
 use Rattle.alt_shape.specs.declared.rule.Broken.{Broken}
+use Rattle.alt_shape.specs.Refusals.{Answer}
 use Rattle.alt_tables.specs.Images.{Leaves}
 use Rattle.alt_tables.specs.Faults.{AreMade, BreakOff}
 use Rattle.alt_tables.proofs.Left.{reads_nothing}
@@ -152,7 +153,8 @@ returns-clause-moves g c =
           subst (λ o. Leaves before later s o.atoms) (sym at.3)
           (subst (λ (name : List ℕ). Leaves before later s (without_table s name ∷ []))
           c.table_name.ensures.name (c.in_ok-drop_table.ensures.disk s stands));
-      refused = tt;
+      refused = unrefused c.in_ok-reply.reply _
+          (ap (λ (a : Answer). a.status) c.in_ok-reply.ensures.reply);
       failed = tt;
       wanting = λ s stands. tt;
     }

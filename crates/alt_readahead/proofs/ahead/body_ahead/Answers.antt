@@ -5,7 +5,7 @@ use Rattle.json.proofs.Grammar.{read_key-shorter}
 use Rattle.serde_json.specs.Data.{no_members, put}
 use Rattle.serde_json.specs.View.{members_view}
 use Rattle.alt_shape.specs.Shape.{given}
-use Rattle.alt_readahead.proofs.Converted.{member_read, members_over}
+use Rattle.alt_named.proofs.Converted.{member_read, members_over}
 use Rattle.alt_readahead.proofs.ahead.body_ahead.Goals as goal
 
 pub members-init : goal.members-init
@@ -14,7 +14,7 @@ members-init c = (
   omega arith,
   no_members,
   refl,
-  λ name other. ap (λ es. given name (members_view es)) (sym c.new-members.ensures.empty),
+  λ name named other. ap (λ es. given name (members_view es)) (sym c.new-members.ensures.empty),
 )
 
 pub returns-in-Some-item : goal.returns-in-Some-item

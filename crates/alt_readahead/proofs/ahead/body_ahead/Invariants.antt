@@ -1,5 +1,5 @@
 -- The body is what was read so far, with the members that are still to come.
-use Rattle.std.proofs.Common.{◌≡◌, ℕ, ◌≤◌, length}
+use Rattle.std.proofs.Common.{◌≡◌, ℕ, ◌≤◌, length, map}
 use Rattle.json.specs.Json.{members, value}
 use Rattle.serde_json.specs.Data.{Members, no_members}
 use Rattle.serde_json.specs.Read.{of_members, converted}
@@ -15,7 +15,7 @@ invariant-members l =
     × (converted (λ os. of_members os no_members)
     (members (value 126) (length l.initial.reader) l.initial.reader)
     ≡ converted (λ os. of_members os ms) (members (value 126) n l.reader))
-    × IsReadSoFar ms (members_view l.members.entries) l.item
+    × IsReadSoFar (map (λ w. w.now) l.names) ms (members_view l.members.entries) l.item
 
 abbrev pub decreases-members : goal.decreases-members
 decreases-members l = length l.reader

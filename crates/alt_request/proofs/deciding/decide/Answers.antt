@@ -3,7 +3,7 @@ use Rattle.std.proofs.Common.{◌∙◌, sym, ap, subst}
 use Rattle.serde_json.specs.Data.{Members}
 use Rattle.serde_json.specs.View.{members_view}
 use Rattle.alt_machine.specs.Conditional.{failed}
-use Rattle.alt_request.specs.Decided.{tells, decision, Decides}
+use Rattle.alt_request.specs.private.Decided.{tells, decision, Decides}
 use Rattle.alt_request.proofs.Decisions.{met_so, unmet_so, decides_stop, decides_memory, decides_left}
 use Rattle.alt_shape.specs.Refusals.{answer_of}
 use Rattle.alt_request.proofs.deciding.decide.Goals as goal

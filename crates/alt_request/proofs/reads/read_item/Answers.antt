@@ -16,6 +16,7 @@ use Rattle.alt_request.specs.Steps.{rules_of}
 use Rattle.alt_request.specs.Words.{texts_of}
 use Rattle.alt_shape.specs.Refusals.{Answer}
 use Rattle.alt_shape.specs.declared.rule.Broken.{Broken}
+use Rattle.alt_tables.proofs.Left.{reads_nothing}
 use Rattle.alt_tables.specs.Stands.{Stands, catalog_of}
 use Rattle.alt_value.specs.Tree.{Pair}
 use Rattle.std.proofs.Common.{List}
@@ -93,3 +94,6 @@ returns-clause-moves g c =
     (texts_of c.texts-texts.result) read.texts c.texts-texts.ensures read.answer ms)
     c.in_ok-target.target c.in_ok-target.ensures.target _ (λ s t same. refl)
     c.found_reply-found.result c.found_reply-found.ensures.moves
+
+pub returns-in_err-target-clause-disk : goal.returns-in_err-target-clause-disk
+returns-in_err-target-clause-disk g c = reads_nothing (g.D.Disk.state c.args.disk.now)

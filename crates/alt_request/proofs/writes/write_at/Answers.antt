@@ -8,10 +8,10 @@ use Rattle.alt_disk.specs.Disk.{DiskState}
 use Rattle.alt_machine.specs.Members.{table_name}
 use Rattle.alt_machine.specs.State.{State}
 use Rattle.alt_machine.specs.Valid.{IsStored}
-use Rattle.alt_request.specs.Decided.{decision, Decides}
+use Rattle.alt_request.specs.private.Decided.{decision, Decides}
 use Rattle.alt_request.specs.ItemWrites.{Writer, changes}
 use Rattle.alt_request.specs.declared.deciding.Decided.TheVariants.{Left}
-use Rattle.alt_request.proofs.Decisions.{comes_decided, decided_left}
+use Rattle.alt_request.proofs.Decisions.{comes_decided, decided_left, left_answered}
 use Rattle.alt_request.proofs.Named.{table_found}
 use Rattle.alt_request.proofs.Working.{works_unfound, works_told, works_stopped, works_wrote, works_broke}
 use Rattle.alt_schema.specs.declared.schema.TableSchema.{TableSchema}
@@ -117,7 +117,12 @@ returns-in-Ok-write g c = record {
       (rw c.in-Ok-Left.field-0-is at c.in-Ok-Left.ensures.decides) after
       c.in-Ok-write.ensures.goes
       (λ s h. c.in-Ok-write.ensures.disk s t ((c.in-Ok.ensures.stays s).0 h.0) (there s h))
-      (λ s h. c.in-Ok-write.ensures.writes s t ((c.in-Ok.ensures.stays s).0 h.0) (there s h));
+      (λ s h. c.in-Ok-write.ensures.writes s t ((c.in-Ok.ensures.stays s).0 h.0) (there s h))
+      (let decided : Decides (decision w ms c.in-Some.schema.now c.args.said.now c.args.item
+      c.in-Ok.found.item) (Ok (Left c.in-Ok-Left.new c.in-Ok-Left.reply)) =
+      rw c.in-Ok-Left.field-0-is at c.in-Ok-Left.ensures.decides in
+      left_answered w ms c.in-Some.schema.now c.args.said.now c.args.item c.in-Ok.found.item
+      c.in-Ok-Left.new (answer_of c.in-Ok-Left.reply) decided.0);
   limits = c.in-Ok-write.ensures.limits ∙ c.in-Ok.ensures.catalog.limits;
 }
 

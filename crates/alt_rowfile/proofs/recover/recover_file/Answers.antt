@@ -29,8 +29,8 @@ returns-in-Ok-Some-clause-reads g c = λ told.
     (λ j. take (sym long j - 32) (second j)) in
     let room : size - 32 ≤ length (contents u f) = omega (arith, ap length second, long) in
     let b = rw c.in-Ok-Some.field-0-is at (c.in-Ok-Some.ensures.some told_u room) in
-    file_of_body (contents s f) c.in-Ok-Some.marks.items c.in-Ok-Some.end b.0 digest
-    (subst (IsBody b.0) body b.1) b.2 b.3
+    file_of_body (contents s f) c.in-Ok-Some.found.marks.items c.in-Ok-Some.end
+    c.in-Ok-Some.found.summary b.0 digest (subst (IsBody b.0) body b.1) b.2 b.3 b.4
 
 pub returns-in-Ok-None-clause-explained : goal.returns-in-Ok-None-clause-explained
 returns-in-Ok-None-clause-explained g c = λ told.

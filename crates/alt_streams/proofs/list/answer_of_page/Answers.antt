@@ -1,7 +1,7 @@
 -- The streams of the page.
 use Rattle.std.proofs.Common.{◌∙◌}
 use Rattle.alt_machine.specs.Ops.ListStreams.{streams_answer}
-use Rattle.alt_streams.specs.Listed.{streams_after}
+use Rattle.alt_streams.specs.private.Listed.{streams_after}
 use Rattle.alt_streams.proofs.Answering.{page-answered, page_said}
 use Rattle.alt_streams.proofs.list.answer_of_page.Goals as goal
 use Rattle.alt_tables.specs.Stands.{catalog_of}

@@ -1,7 +1,7 @@
 -- The last of all, where none follows it.
 use Rattle.std.proofs.Common.{◌-◌, sym, ap, ◌∙◌, length, map, option_map, slice_get, Bor}
 use Rattle.alt_schema.specs.declared.schema.TableSchema.{TableSchema}
-use Rattle.alt_streams.specs.Listed.{last_of}
+use Rattle.alt_streams.specs.private.Listed.{last_of}
 use Rattle.alt_streams.proofs.Ending.{last_mapped}
 use Rattle.alt_streams.proofs.list.last_stream.Goals as goal
 

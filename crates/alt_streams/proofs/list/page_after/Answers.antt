@@ -2,7 +2,7 @@
 use Rattle.std.proofs.Common.{◌≡◌, ap, ◌∙◌, ◌++◌, ◌∷◌, [], ◌+◌, List, ℕ, Option, length, map, option_map, arith, Bor}
 use Rattle.std.proofs.lemmas.List.{length-append, length-map, map-append}
 use Rattle.alt_schema.specs.declared.schema.TableSchema.{TableSchema}
-use Rattle.alt_streams.specs.Listed.{streams_after}
+use Rattle.alt_streams.specs.private.Listed.{streams_after}
 use Rattle.alt_streams.proofs.Ending.{Ends, is_full, is_last, page_taken, page_more, taken_more}
 use Rattle.alt_streams.proofs.Following.{streams_next, streams_none, streams_first}
 use Rattle.alt_streams.proofs.list.page_after.Goals as goal

@@ -2,7 +2,7 @@
 use Rattle.std.proofs.Common.{◌≡◌, ◌++◌, map, length, option_map}
 use denote.Text.{Utf8}
 use denote.Shadow.{shadow}
-use Rattle.alt_streams.specs.Listed.{AreNamed, streams_after}
+use Rattle.alt_streams.specs.private.Listed.{AreNamed, streams_after}
 use Rattle.alt_streams.proofs.list.page_after.Given as goal
 use Rattle.alt_tables.specs.Stands.{catalog_of}
 

@@ -1,7 +1,7 @@
 -- The first whose name comes after has a stream, or what follows it is what is left.
 use Rattle.std.proofs.Common.{sym, ap, ◌∙◌, ℕ, List, None, Some}
 use Rattle.std.specs.List.{find}
-use Rattle.alt_streams.specs.Listed.{all_in, is_listed}
+use Rattle.alt_streams.specs.private.Listed.{all_in, is_listed}
 use Rattle.alt_streams.proofs.Following.{names_less, walk_here, walk_next, walk_end}
 use Rattle.alt_streams.proofs.list.stream_after.Goals as goal
 use Rattle.alt_tables.specs.Stands.{catalog_of}

@@ -4,7 +4,7 @@ use Rattle.std.specs.List.{find}
 use denote.Text.{Utf8}
 use denote.Shadow.{shadow}
 use Rattle.alt_machine.specs.Ops.ListTables.{names_after}
-use Rattle.alt_streams.specs.Listed.{AreNamed, all_in, is_listed}
+use Rattle.alt_streams.specs.private.Listed.{AreNamed, all_in, is_listed}
 use Rattle.alt_streams.proofs.list.stream_after.Given as goal
 use Rattle.alt_tables.specs.Stands.{catalog_of}
 

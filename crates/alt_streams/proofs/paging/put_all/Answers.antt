@@ -3,7 +3,7 @@ use Rattle.std.proofs.Common.{◌∙◌, map, ◌++◌, ◌∷◌, All, subst, s
 use Rattle.std.proofs.lemmas.List.Elements.{All-head, All-tail}
 use Rattle.std.specs.Vec.Iter.{into_iter_items}
 use Rattle.alt_changes.specs.ChangeRows.{change_in}
-use Rattle.alt_streams.specs.Paged.{IsFit}
+use Rattle.alt_streams.specs.private.Paged.{IsFit}
 use Rattle.alt_streams.proofs.Pieces.{SoFar, all_put, next_fit, none_ahead, one_more, one_last, read_passed}
 use Rattle.alt_streams.proofs.paging.put_all.Goals as goal
 

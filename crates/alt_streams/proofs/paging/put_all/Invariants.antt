@@ -4,7 +4,7 @@ use Rattle.std.specs.Vec.Iter.{into_iter_items}
 use Rattle.alt_changes.specs.ChangeRows.{change_in}
 use Rattle.alt_machine.specs.State.{Change}
 use Rattle.alt_schema.specs.declared.schema.View.{View}
-use Rattle.alt_streams.specs.Paged.{HasRead, IsFit, is_full}
+use Rattle.alt_streams.specs.private.Paged.{HasRead, IsFit, is_full}
 use Rattle.alt_streams.proofs.Pieces.{SoFar}
 use Rattle.alt_streams.proofs.paging.put_all.Given as goal
 

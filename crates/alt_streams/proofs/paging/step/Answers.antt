@@ -4,7 +4,7 @@ use Rattle.std.proofs.lemmas.List.{length-map}
 use Rattle.alt_changes.specs.ChangeRows.{change_in}
 use Rattle.alt_machine.specs.Ops.GetRecords.{changes_from}
 use Rattle.alt_machine.specs.State.{Change}
-use Rattle.alt_streams.specs.Paged.{IsFit, Puts}
+use Rattle.alt_streams.specs.private.Paged.{IsFit, Puts}
 use Rattle.alt_streams.proofs.Pieces.{described, piece_fit, puts_at, read_found, rising, step_full, step_last, step_on, there}
 use Rattle.alt_streams.proofs.paging.step.Goals as goal
 use Rattle.alt_streams.proofs.paging.step.Goals.{then-not-more-via-then-not-more, then-not-more-via-else-not-more+then-got-most}

@@ -11,6 +11,7 @@ use Rattle.alt_shape.specs.declared.refusal.Reply.{Reply}
 use Rattle.alt_streams.proofs.Placing.{place_passed, place_unfailed}
 use Rattle.alt_streams.proofs.Reached.{records_told, stream_shows, stream_there}
 use Rattle.alt_streams.proofs.records.get_records.Goals as goal
+use Rattle.alt_tables.proofs.Left.{reads_nothing}
 use Rattle.alt_tables.specs.Stands.{Stands, catalog_of}
 
 pub returns-in_err-place-clause-carried : goal.returns-in_err-place-clause-carried
@@ -65,3 +66,6 @@ returns-clause-moves g c =
     moves_reads (λ s. get_records s (members_view c.args.body.now.entries)) c.args.tables.now
     (g.D.Disk.state c.args.disk.now) (g.D.Disk.state c.page_at.new.disk) _
     c.page_at.ensures.disk (failed_fault {A = Reply} c.in-Err.fault _ c.in-Err.ensures.cause)
+
+pub returns-in_err-place-clause-disk : goal.returns-in_err-place-clause-disk
+returns-in_err-place-clause-disk g c = reads_nothing (g.D.Disk.state c.args.disk.now)

@@ -4,7 +4,7 @@ use Rattle.alt_machine.specs.Changes.{record_size}
 use Rattle.alt_machine.specs.Ops.GetRecords.{changes_from, page_of}
 use Rattle.alt_schema.specs.declared.schema.TableSchema.{TableSchema}
 use Rattle.alt_shape.specs.Refusals.{answer_of}
-use Rattle.alt_streams.specs.Paged.{HasRead, page_answer}
+use Rattle.alt_streams.specs.private.Paged.{HasRead, page_answer}
 use Rattle.alt_streams.proofs.Filled.{page_records}
 use Rattle.alt_streams.proofs.Pieces.{described}
 use Rattle.alt_streams.proofs.records.page_at.Goals as goal

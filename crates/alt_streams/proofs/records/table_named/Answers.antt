@@ -2,8 +2,8 @@
 use Rattle.std.proofs.Common.{refl, sym, ap, subst, ◌∙◌}
 use Rattle.std.specs.FinMap as map
 use Rattle.alt_request.proofs.Reaching.{err_is}
-use Rattle.alt_streams.specs.Named.{IsStreamOf}
-use Rattle.alt_streams.specs.Placed.{OnStreaming, has_stream}
+use Rattle.alt_streams.specs.private.Named.{IsStreamOf}
+use Rattle.alt_streams.specs.private.Placed.{OnStreaming, has_stream}
 use Rattle.alt_streams.proofs.Reached.{stop_named, streams_none, streams_so}
 use Rattle.alt_streams.proofs.records.table_named.Goals as goal
 use Rattle.alt_tables.specs.Stands.{catalog_of}

@@ -4,7 +4,7 @@ use Rattle.std.proofs.lemmas.Iterator.Adapters.{YieldsList-from_vec}
 use Rattle.std.proofs.lemmas.Iterator.Consumers.{YieldsList-turn}
 use Rattle.std.proofs.lemmas.List.{map-append}
 use Rattle.alt_changes.specs.ChangeRows.{change_in}
-use Rattle.alt_tables.specs.Pages.{AreChangesOf}
+use Rattle.alt_tables.specs.private.Pages.{AreChangesOf}
 use Rattle.alt_tables.proofs.ChangePages.{change_row_at, changes_more}
 use Rattle.alt_tables.proofs.changes.read_changes.Goals as goal
 

@@ -1,7 +1,7 @@
 -- What an index keeps at the rows so far is put.
 use Rattle.std.proofs.Common.{◌≡◌, ◌++◌, List}
 use Rattle.alt_base.specs.Prefix.{IsPrefix}
-use Rattle.alt_tables.specs.Pages.{AreKept}
+use Rattle.alt_tables.specs.private.Pages.{AreKept}
 use Rattle.alt_tables.proofs.walk.read_index_page.Given as goal
 use Rattle.alt_value.specs.Tree.{Pair}
 

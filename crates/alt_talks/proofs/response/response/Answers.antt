@@ -1,11 +1,10 @@
-use Rattle.std.proofs.Common.{Option, subst, sym}
+use Rattle.std.proofs.Common.{Option, subst}
 use Rattle.alt_machine.specs.Step.{step}
 use Rattle.alt_machine.specs.declared.Operation.{Operation}
 use Rattle.alt_tables.specs.Images.{Leaves}
 use Rattle.alt_machine.specs.Wanted.{wanted}
 use Rattle.alt_tables.specs.Stands.{Stands}
 use Rattle.alt_talks.specs.Faults.{IsCausedBy}
-use Rattle.alt_talks.specs.declared.fault.RunFault.{RunFault}
 use Rattle.alt_talks.proofs.Answering.{among_leaves, caused}
 use Rattle.alt_talks.proofs.response.response.Goals as goal
 
@@ -38,7 +37,6 @@ returns-clause-cause g c = λ s stands.
     let fault = c.from.result in
     subst (λ (o : Option Operation). IsCausedBy (wanted s (step s o c.args.body.now c.args.moment)) fault)
     c.operation_in.ensures
-    (subst (λ (f : RunFault). IsCausedBy
-    (wanted s (step s c.operation_in.result c.args.body.now c.args.moment)) f) (sym c.from.ensures)
-    (caused (Stands (g.D.Disk.state c.answer.new.disk) c.answer.new.tables) s (step s c.operation_in.result c.args.body.now c.args.moment) c.in-Err.fault
-    (c.in-Err.ensures.settles s stands)))
+    (caused (Stands (g.D.Disk.state c.answer.new.disk) c.answer.new.tables) s
+    (step s c.operation_in.result c.args.body.now c.args.moment) c.in-Err.fault fault
+    c.from.ensures (c.in-Err.ensures.settles s stands))

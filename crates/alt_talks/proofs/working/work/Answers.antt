@@ -1,10 +1,14 @@
 -- What a task leaves of the log.
-use Rattle.std.proofs.Common.{◌≡◌, refl}
+use Rattle.std.proofs.Common.{◌≡◌, refl, subst}
 use Rattle.alt_disk.specs.Disk.{IsTrusted}
 use Rattle.alt_disk.proofs.Runs.{trusted_back}
 use Rattle.alt_engine.specs.declared.work.Task.{Task}
-use Rattle.alt_engine.specs.declared.work.Task.TheVariants.{Step, FlushAll}
+use Rattle.alt_engine.specs.declared.work.Task.TheVariants.{Step, FlushAll, MergeAll}
+use Rattle.alt_machine.specs.State.{State}
+use Rattle.alt_opening.proofs.OneState.{one_state_of_image}
+use Rattle.alt_tables.specs.Merged.{IsMergedFor}
 use Rattle.alt_tables.specs.Stands.{limits_of}
+use Rattle.alt_tables.proofs.Left.{stands_read}
 use Rattle.alt_talks.specs.Works.{AfterWork}
 use Rattle.alt_talks.proofs.working.work.Goals as goal
 
@@ -18,4 +22,10 @@ returns-in-Ok-clause-entries g c = by c.args.task refl
     by : (t : Task) → c.args.task ≡ t
         → AfterWork t (limits_of c.args.tables.now).flush (g.D.Disk.state c.work.new.disk)
     by Step is = λ some trusted n entries. c.in-Ok.ensures.step is some (before trusted) n entries
+    by MergeAll is = λ trusted r files. let given = c.requires.ready (before trusted) in
+        let same = one_state_of_image (g.D.Disk.state c.work.new.disk).file given.0 r
+        (stands_read (g.D.Disk.state c.work.new.disk) c.work.new.self given.0
+        (c.in-Ok.ensures.ok given.0 given.1)) files in
+        subst (λ (s : State). IsMergedFor s (g.D.Disk.state c.work.new.disk).file) same
+        (c.in-Ok.ensures.merge_all is (before trusted) given.0 given.1)
     by FlushAll is = λ trusted n entries. c.in-Ok.ensures.flush_all is (before trusted) n entries

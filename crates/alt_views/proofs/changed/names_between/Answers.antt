@@ -1,7 +1,7 @@
 -- A name more is told, or what is at it is the same.
 use Rattle.std.proofs.Common.{◌≡◌, ◌+◌, ℕ, refl, List, [], ◌∷◌, ◌++◌, map, length, take, Vec, Global, Bor, sym, ap, subst, ◌∙◌, arith}
 use Rattle.std.proofs.lemmas.List.{map-append}
-use Rattle.alt_schema.proofs.Cuts.{pair_within}
+use Rattle.alt_views.proofs.Cuts.{pair_within}
 use Rattle.alt_value.specs.Stands.{tree_of}
 use Rattle.alt_value.specs.Tree.{Pair}
 use Rattle.alt_views.proofs.Beside.{HoldsBeside, IsNamed, IsOld, alike_beside, beside-more, holds-more, told, told-more}

@@ -38,3 +38,9 @@ returns-in-Err-clause-done g c =
       rose_say (state c.args.shell.now) (state c.make_store.new.disk) (state c.say.new.self)
           c.requires.quiet c.make_store.ensures.goes c.in-Err.ensures.call,
     )
+
+pub returns-in-Ok-say-clause-untouched : goal.returns-in-Ok-say-clause-untouched
+returns-in-Ok-say-clause-untouched g c = λ tells f there. absurd (there (c.in-Ok.ensures.empty tells f))
+
+pub returns-in-Err-clause-untouched : goal.returns-in-Err-clause-untouched
+returns-in-Err-clause-untouched g c = λ tells f there. absurd (there (c.in-Ok.ensures.empty tells f))

@@ -1,11 +1,10 @@
-use Rattle.std.proofs.Common.{Option, subst, sym}
+use Rattle.std.proofs.Common.{Option, subst}
 use Rattle.alt_machine.specs.Step.{step}
 use Rattle.alt_machine.specs.declared.Operation.{Operation}
 use Rattle.alt_tables.specs.Images.{Leaves}
 use Rattle.alt_machine.specs.Wanted.{wanted}
 use Rattle.alt_tables.specs.Stands.{Stands}
 use Rattle.alt_talks.specs.Faults.{IsCausedBy}
-use Rattle.alt_talks.specs.declared.fault.RunFault.{RunFault}
 use Rattle.alt_talks.proofs.Answering.{among_leaves, caused}
 use Rattle.alternator.proofs.reply.reply_text.Goals as goal
 
@@ -40,8 +39,6 @@ returns-clause-cause g c = λ s stands.
     let moment = c.args.moment in
     subst (λ (o : Option Operation). IsCausedBy (wanted s (step s o body moment)) fault)
     c.operation_named.ensures.named
-    (subst (λ (f : RunFault). IsCausedBy (wanted s (step s c.operation_named.result body moment)) f)
-    (sym c.from.ensures)
     (caused (Stands (g.D.Disk.state c.answer.new.disk) c.answer.new.tables) s
-    (step s c.operation_named.result body moment) c.in-Err.fault
-    (c.in-Err.ensures.settles s stands)))
+    (step s c.operation_named.result body moment) c.in-Err.fault fault c.from.ensures
+    (c.in-Err.ensures.settles s stands))

@@ -1,11 +1,12 @@
 use Rattle.std.proofs.Common.{OnOk, sym, subst}
-use Rattle.alt_engine.specs.declared.engine.Limits.{Limits}
+use Rattle.alt_hand.specs.declared.hand.Limits.{Limits}
 use Rattle.alt_talks.specs.Works.{HasFewEntries}
-use Rattle.alternator.specs.Behind.{AfterJob}
+use Rattle.alternator.specs.Behind.{AfterJob, SaysSummary}
 use Rattle.std.specs.Prelude.{MatchResult}
 use Rattle.alternator.specs.Endings.{Done, Broken}
 use Rattle.alternator.specs.Words.{IsServable}
 use Rattle.alternator.specs.declared.words.Job.{Job}
+use Rattle.alternator.proofs.Bringing.{both_ok}
 use Rattle.alternator.proofs.run.carry_out.Goals as goal
 
 pub returns-in-Replay-clause-done : goal.returns-in-Replay-clause-done
@@ -43,6 +44,8 @@ returns-in-Trial-clause-after g c =
     let d = state c.carry_out_trial.new.shell in
     subst (λ (j : Job). OnOk c.carry_out_trial.result (AfterJob j c.args.limits.flush a d))
     (sym c.in-Trial.is)
+    (both_ok (HasFewEntries c.args.limits.flush d) (SaysSummary c.in-Trial.count a d) c.carry_out_trial.result
     (subst (λ (limits : Limits). OnOk c.carry_out_trial.result (HasFewEntries limits.flush d))
     c.requires.known
     (c.carry_out_trial.ensures.few (subst IsServable c.in-Trial.is c.requires.some)))
+    c.carry_out_trial.ensures.said)

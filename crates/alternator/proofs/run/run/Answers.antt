@@ -5,6 +5,8 @@ use Rattle.alternator.specs.Words.{command_of, bytes_of}
 use Rattle.alternator.specs.declared.words.Command.{Command}
 use Rattle.alternator.proofs.EndingLaws.{noted_done, noted_whole, words_end, completes, makes_all}
 use Rattle.alternator.proofs.Bringing.{after_noted}
+use Rattle.alternator.proofs.Initing.{quiet_behind}
+use Rattle.alternator.proofs.Staying.{kept_past, kept_trust, stays_whole}
 use Rattle.alternator.proofs.run.run.Goals as goal
 
 pub returns-clause-ended : goal.returns-clause-ended
@@ -69,3 +71,25 @@ returns-clause-words g c =
       λ e. both.0 (sym c.status_of.ensures ∙ e),
       λ e. c.status_of.ensures ∙ both.1 e,
     )
+
+pub returns-clause-untouched : goal.returns-clause-untouched
+returns-clause-untouched g c = λ is tells f there.
+    let state = g.S.Disk.state in
+    quiet_behind (state c.args.shell.now) (state c.ended.new.shell) (state c.noted-ending.new.shell)
+    c.noted-ending.ensures.aside (c.ended.ensures.untouched is tells f there)
+
+pub returns-clause-whole : goal.returns-clause-whole
+returns-clause-whole g c =
+    let state = g.S.Disk.state in
+    let old = state c.args.shell.now in
+    let mid = state c.ended.new.shell in
+    let new = state c.noted-ending.new.shell in
+    stays_whole old new (command_of (bytes_of c.args.words.now)) c.noted-ending.result
+    (kept_trust old mid new c.ended.ensures.passes c.noted-ending.ensures.aside)
+    (kept_past old mid new c.ended.ensures.passes c.noted-ending.ensures.aside)
+    (g.met.S.Disk.reads_as_image c.args.shell.now)
+    (noted_done old mid new (command_of (bytes_of c.args.words.now)) c.ended.result
+    c.noted-ending.result c.noted-ending.ensures.ending c.noted-ending.ensures.silent
+    c.noted-ending.ensures.unasked c.noted-ending.ensures.aside c.ended.ensures.done)
+    (λ is tells f there. quiet_behind old mid new c.noted-ending.ensures.aside
+    (c.ended.ensures.untouched is tells f there))

@@ -2,7 +2,7 @@ use Rattle.std.proofs.Common.{◌∷◌, [], ◌∙◌, subst}
 use Rattle.alt_disk.proofs.Runs.{trusted_back}
 use Rattle.alt_disk.specs.Disk.{DiskState}
 use Rattle.alt_machine.specs.State.{State}
-use Rattle.alt_engine.specs.declared.engine.Limits.{Limits}
+use Rattle.alt_hand.specs.declared.hand.Limits.{Limits}
 use Rattle.alt_talks.specs.Works.{HasFewEntries}
 use Rattle.alt_talks.specs.Turns.{after_turn}
 use Rattle.alternator.specs.Turns.{request, carried_out}

@@ -1,6 +1,6 @@
 use Rattle.std.proofs.Common.{◌∙◌, subst}
 use Rattle.alt_disk.proofs.Runs.{trusted_back, trusted_on}
-use Rattle.alt_engine.specs.declared.engine.Limits.{Limits}
+use Rattle.alt_hand.specs.declared.hand.Limits.{Limits}
 use Rattle.alt_talks.specs.Works.{HasFewEntries}
 use Rattle.alt_talks.specs.Turns.{after_turn}
 use Rattle.alternator.specs.Trials.{trial_moment}

@@ -1,6 +1,7 @@
 use Rattle.std.proofs.Common.{◌∙◌, ap}
 use Rattle.alt_shell.specs.Log.{talks}
 use Rattle.alternator.proofs.Trying.{trial_unsaid}
+use Rattle.alternator.proofs.Bringing.{summary_behind}
 use Rattle.alternator.proofs.trial.carry_out_trial.Goals as goal
 
 pub returns-in-Ok-clause-tried : goal.returns-in-Ok-clause-tried
@@ -21,3 +22,9 @@ tell-requires g c =
 
 pub returns-in-Ok-clause-few : goal.returns-in-Ok-clause-few
 returns-in-Ok-clause-few g c = λ some. c.tell.ensures.few _ (c.in-Ok.ensures.few some)
+
+pub returns-in-Ok-clause-said : goal.returns-in-Ok-clause-said
+returns-in-Ok-clause-said g c =
+    let state = g.S.Disk.state in
+    summary_behind c.args.count (state c.args.shell.now) (state c.requests.new.disk)
+    (state c.tell.new.shell) c.requests.ensures.goes c.tell.result c.tell.ensures.said

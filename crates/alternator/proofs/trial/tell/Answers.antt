@@ -1,5 +1,7 @@
-use Rattle.std.proofs.Common.{◌∙◌, []}
-use Rattle.alternator.specs.Trials.{trial_asks, trial_turns}
+use Rattle.std.proofs.Common.{◌∙◌, ◌∷◌, [], ℕ, List, refl, sym, subst, append-nil}
+use Rattle.alt_disk.specs.Disk.{DiskState}
+use Rattle.alt_shell.specs.Log.{entry, said, told_count}
+use Rattle.alternator.specs.Trials.{IsSummary, trial_asks, trial_turns}
 use Rattle.alternator.proofs.Bringing.{few_kept}
 use Rattle.alternator.proofs.Trying.{trial_memory, trial_said, trial_cut}
 use Rattle.alternator.proofs.trial.tell.Goals as goal
@@ -14,7 +16,7 @@ returns-in-Ok-say-clause-told g c = λ old s seed tables none empty goes counted
     let state = g.S.Disk.state in
     trial_said old (state c.args.shell.now) (state c.say.new.self) tables s seed c.args.count none
     c.args.tally goes counted c.as_bytes.result.now
-    (c.as_bytes.ensures.value ∙ c.in-Ok.ensures (trial_turns s (trial_asks seed c.args.count))
+    (c.as_bytes.ensures.value ∙ c.in-Ok.ensures.counted (trial_turns s (trial_asks seed c.args.count))
     (counted.counts [] empty))
     c.in-Ok-say.ensures.call c.in-Ok-say.ensures.said c.in-Ok-say.ensures.moments
 
@@ -23,7 +25,7 @@ returns-clause-told g c = λ old s seed tables none empty goes counted.
     let state = g.S.Disk.state in
     trial_cut old (state c.args.shell.now) (state c.say.new.self) tables s seed c.args.count none
     c.args.tally goes counted c.as_bytes.result.now
-    (c.as_bytes.ensures.value ∙ c.in-Ok.ensures (trial_turns s (trial_asks seed c.args.count))
+    (c.as_bytes.ensures.value ∙ c.in-Ok.ensures.counted (trial_turns s (trial_asks seed c.args.count))
     (counted.counts [] empty))
     c.in-Err.ensures.call c.in-Err.ensures.moments c.in-Err.ensures.said
 
@@ -31,3 +33,18 @@ pub returns-in-Ok-say-clause-few : goal.returns-in-Ok-say-clause-few
 returns-in-Ok-say-clause-few g c = λ flush few.
     let state = g.S.Disk.state in
     few_kept flush (state c.args.shell.now) (state c.say.new.self) c.in-Ok-say.ensures.call.keeps few
+
+pub returns-in-Ok-say-clause-said : goal.returns-in-Ok-say-clause-said
+returns-in-Ok-say-clause-said g c =
+    let state = g.S.Disk.state in
+    let mid : DiskState = state c.args.shell.now in
+    let new : DiskState = state c.say.new.self in
+    let bytes : List ℕ = c.as_bytes.result.now in
+    record {
+      text = bytes;
+      is = subst (IsSummary c.args.count) (sym c.as_bytes.ensures.value) c.in-Ok.ensures.form;
+      entries = entry new.moment (told_count mid.beside) (said bytes) ∷ [];
+      grows = c.in-Ok-say.ensures.said;
+      said = append-nil bytes;
+      rests = record { silent = refl; goes_on = refl; inside = refl };
+    }

@@ -1,8 +1,25 @@
 -- A place more, or none.
-use Rattle.std.proofs.Common.{◌≡◌, ap, subst, ℕ, List, length, inl, ◌⊎◌, Contains}
+use Rattle.std.proofs.Common.{◌≡◌, ◌≤◌, ap, subst, arith, ℕ, List, length, take, inl, ◌⊎◌, Contains}
+use Rattle.std.proofs.lemmas.List.{length-take}
+use Rattle.alt_blocks.specs.declared.cache.TheConstants.{LONGEST_KEPT}
 use Rattle.alt_blocks.specs.Places.{Place}
 use Rattle.alt_blocks.proofs.Agreeing.{adds_put}
+use Rattle.alt_blocks.proofs.Bounded.{short_put}
 use Rattle.alt_blocks.proofs.cache.BlockCache.keep.Goals as goal
+
+pub invariant_of-self : goal.invariant_of-self
+invariant_of-self c =
+    let place : Place = (c.args.f, c.args.at, length c.args.buf.now) in
+    let is : c.in-Ok.bytes ≡ take c.args.count c.args.buf.now = c.in-Ok.ensures.copied in
+    let one : length c.in-Ok.bytes ≤ LONGEST_KEPT =
+    omega
+    (arith, ap length is, length-take c.args.count c.args.buf.now, c.if-buf-gt-LONGEST_KEPT.false)
+    in
+    record {
+      short =
+          short_put c.put.result c.args.self.now.places c.put.new.self place c.in-Ok.bytes
+          c.put.ensures.entries c.put.ensures.err one c.args.self.now.short;
+    }
 
 pub returns-in-Ok-put : goal.returns-in-Ok-put
 returns-in-Ok-put c =

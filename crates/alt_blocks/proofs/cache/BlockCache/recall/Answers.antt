@@ -3,7 +3,16 @@ use Rattle.std.proofs.Common.{ap, sym, ◌∙◌, length, take, min, List, ℕ}
 use Rattle.alt_disk.specs.Disk.{contents}
 use Rattle.alt_blocks.specs.Places.{Place, same_place}
 use Rattle.alt_blocks.proofs.Agreeing.{found, within_promoted, read_given}
+use Rattle.alt_blocks.proofs.Bounded.{short_promoted}
 use Rattle.alt_blocks.proofs.cache.BlockCache.recall.Goals as goal
+
+pub invariant_of-self : goal.invariant_of-self
+invariant_of-self c = record {
+  short =
+      short_promoted c.args.self.now.places.entries c.promote.new.self.entries
+      (same_place (c.args.f, c.args.at, length c.args.buf.now))
+      (ap (λ l. l.entries) c.promote.ensures.entries) c.args.self.now.short;
+}
 
 pub returns-in-Some-clause-within : goal.returns-in-Some-clause-within
 returns-in-Some-clause-within c =

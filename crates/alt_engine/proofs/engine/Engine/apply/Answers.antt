@@ -1,105 +1,34 @@
--- A batch is an entry of the last segment, and its rows are in memory before.
-use Rattle.std.proofs.Common.{◌≡◌, ◌<◌, ℕ, List, false, ◌+◌, map, min, ap, subst, sym, ◌∙◌}
-use Rattle.alt_memtable.specs.Rows.{most_bytes}
-use Rattle.alt_disk.specs.Disk.{DiskState}
-use Rattle.alt_writes.specs.Bytes.{write_bytes}
-use Rattle.std.specs.BTreeMap.{get}
-use Rattle.std.specs.Ordering.{nat_cmp}
-use Rattle.alt_cells.specs.declared.batch.RowChange.{RowChange}
-use Rattle.alt_families.specs.Memory.{IsChanged, IsWrittenTo}
-use Rattle.alt_engine.specs.InHand.{bytes_in}
-use Rattle.alt_engine.proofs.ApplyLaws.{at_rest, fits_as, log_stands, spelled_as}
-use Rattle.alt_engine.proofs.CarryLaws.{carries_write}
-use Rattle.alt_engine.proofs.HandLaws.{write_images, with_batch}
-use Rattle.alt_engine.proofs.FullLaws.{still_below}
-use Rattle.alt_gatelog.specs.Log.{BeforeOrAfter, first_form}
+-- A merge under way is carried on.
+use Rattle.std.proofs.Common.{◌≡◌, ℕ}
+use Rattle.alt_disk.specs.Disk.{DiskState, IsTrusted}
+use Rattle.alt_hand.specs.Carrying.{Carries}
+use Rattle.alt_hand.specs.InHand.{Stands as HandStands}
+use Rattle.alt_hand.specs.Merging.{files_at}
+use Rattle.alt_layout.specs.Layout.{Layout}
+use Rattle.alt_hand.proofs.CarryLaws.{on_ok_both}
+use Rattle.alt_merging.specs.Mergings.{family_of}
+use Rattle.alt_engine.proofs.EngineLaws.{few_on, going_carried}
 use Rattle.alt_engine.proofs.engine.Engine.apply.Goals as goal
 
-pub returns-then-self-ge-LAST_NUMBER-clause-any_moment :
-    goal.returns-then-self-ge-LAST_NUMBER-clause-any_moment
-returns-then-self-ge-LAST_NUMBER-clause-any_moment g c trusted l stands =
-    at_rest (g.D.Disk.state c.args.disk.now) c.args.self.now l c.args.batch.now stands
-
-pub returns-in_err-bytes-clause-any_moment : goal.returns-in_err-bytes-clause-any_moment
-returns-in_err-bytes-clause-any_moment g c trusted l stands =
-    at_rest (g.D.Disk.state c.args.disk.now) c.args.self.now l c.args.batch.now stands
-
-pub returns-in_err-put_changes-clause-any_moment : goal.returns-in_err-put_changes-clause-any_moment
-returns-in_err-put_changes-clause-any_moment g c trusted l stands =
-    at_rest (g.D.Disk.state c.args.disk.now) c.args.self.now l c.args.batch.now stands
-
-pub returns-in-Err-Failed-clause-any_moment : goal.returns-in-Err-Failed-clause-any_moment
-returns-in-Err-Failed-clause-any_moment g c trusted l stands =
-    let s : DiskState = g.D.Disk.state c.args.disk.now in
-    let e = c.args.self.now in
-    let batch = c.args.batch.now in
-    write_images s (g.D.Disk.state c.append.new.disk) e l batch c.as_slice-4.result.now stands
-    (spelled_as s e l c.as_slice.result.now batch c.as_slice-4.result.now _ stands
-    c.as_slice.ensures.changes c.as_slice-4.ensures.value c.in_ok-bytes.ensures.bytes)
-    (fits_as s e l c.as_slice.result.now batch stands c.as_slice.ensures.changes
-    c.in_ok-bytes.ensures.held)
-    (c.append.ensures.any_moment trusted (map write_bytes stands.reads.writes)
-    (log_stands s e l stands))
-
-pub returns-in-Err-NoMemory-clause-any_moment : goal.returns-in-Err-NoMemory-clause-any_moment
-returns-in-Err-NoMemory-clause-any_moment g c trusted l stands =
-    let s : DiskState = g.D.Disk.state c.args.disk.now in
-    let e = c.args.self.now in
-    let batch = c.args.batch.now in
-    write_images s (g.D.Disk.state c.append.new.disk) e l batch c.as_slice-4.result.now stands
-    (spelled_as s e l c.as_slice.result.now batch c.as_slice-4.result.now _ stands
-    c.as_slice.ensures.changes c.as_slice-4.ensures.value c.in_ok-bytes.ensures.bytes)
-    (fits_as s e l c.as_slice.result.now batch stands c.as_slice.ensures.changes
-    c.in_ok-bytes.ensures.held)
-    (c.append.ensures.any_moment trusted (map write_bytes stands.reads.writes)
-    (log_stands s e l stands))
-
-pub returns-clause-any_moment : goal.returns-clause-any_moment
-returns-clause-any_moment g c trusted l stands =
-    let s : DiskState = g.D.Disk.state c.args.disk.now in
-    let e = c.args.self.now in
-    let batch = c.args.batch.now in
-    write_images s (g.D.Disk.state c.append.new.disk) e l batch c.as_slice-4.result.now stands
-    (spelled_as s e l c.as_slice.result.now batch c.as_slice-4.result.now _ stands
-    c.as_slice.ensures.changes c.as_slice-4.ensures.value c.in_ok-bytes.ensures.bytes)
-    (fits_as s e l c.as_slice.result.now batch stands c.as_slice.ensures.changes
-    c.in_ok-bytes.ensures.held)
-    (c.append.ensures.any_moment trusted (map write_bytes stands.reads.writes)
-    (log_stands s e l stands))
+pub apply-requires : goal.apply-requires
+apply-requires g c trusted = let ready = c.requires trusted in (ready.0, ready.1.hand)
 
 pub returns-clause-ok : goal.returns-clause-ok
-returns-clause-ok g c trusted l stands =
-    let s : DiskState = g.D.Disk.state c.args.disk.now in
+returns-clause-ok g c =
+    let a : DiskState = g.D.Disk.state c.args.disk.now in
+    let b : DiskState = g.D.Disk.state c.apply.new.disk in
     let e = c.args.self.now in
-    let batch = c.args.batch.now in
-    with_batch s (g.D.Disk.state c.append.new.disk) e l batch c.as_slice-4.result.now stands
-    (spelled_as s e l c.as_slice.result.now batch c.as_slice-4.result.now _ stands
-    c.as_slice.ensures.changes c.as_slice-4.ensures.value c.in_ok-bytes.ensures.bytes)
-    (fits_as s e l c.as_slice.result.now batch stands c.as_slice.ensures.changes
-    c.in_ok-bytes.ensures.held)
-    (c.append.ensures.any_moment trusted (map write_bytes stands.reads.writes)
-    (log_stands s e l stands)) c.append.new.self c.with_more-self.result c.put_changes.new.families
-    c.append.ensures.file
-    (c.in-Ok.ensures.ok trusted (map write_bytes stands.reads.writes) stands.reads.log)
-    (c.with_more-self.ensures ∙ ap (λ n. min (e.length + n) most_bytes)
-    (c.len.ensures ∙ sym c.as_slice-4.ensures.len))
-    (subst (IsWrittenTo e.families c.put_changes.new.families e.next) c.as_slice-2.ensures.changes
-    c.in_ok-put_changes.ensures.written) c.full_after-self.result
-    (still_below e.families c.put_changes.new.families e.limits.flush e.full batch
-    c.full_after-self.result stands.reads.calm
-    (subst (λ (cs : List RowChange). (f : ℕ) → (IsChanged cs f → ⊥)
-    → get nat_cmp c.put_changes.new.families f ≡ get nat_cmp e.families f)
-    c.as_slice-2.ensures.changes c.in_ok-put_changes.ensures.others) c.full_after-self.ensures.before
-    (subst (λ (cs : List RowChange). c.full_after-self.result ≡ false → (f : ℕ) → IsChanged cs f
-    → bytes_in (get nat_cmp c.put_changes.new.families f) < e.limits.flush)
-    c.as_slice-3.ensures.changes c.full_after-self.ensures.changed))
+    let f = c.apply.new.self in
+    on_ok_both c.apply.result (λ ok (rest : (IsTrusted a → (l : Layout) → HandStands a e.hand l
+    → (family : ℕ) → Carries a b e.hand f family) × ((family : ℕ)
+    → files_at f family ≡ files_at e.hand family)) trusted l stands. record {
+      hand = ok trusted l stands.hand;
+      merging = going_carried a b e.hand f e.merging
+          (λ j is. rest.0 trusted l stands.hand (family_of j)) stands.merging;
+      few = λ none. few_on e.hand f c.apply.ensures.limits rest.1 (stands.few none);
+    }) c.apply.ensures.ok
+    (on_ok_both c.apply.result (λ carries files. (carries, files)) c.apply.ensures.carries
+    c.apply.ensures.files)
 
-pub returns-clause-carries : goal.returns-clause-carries
-returns-clause-carries g c trusted l stands family =
-    let e = c.args.self.now in
-    carries_write (g.D.Disk.state c.args.disk.now) (g.D.Disk.state c.append.new.disk) e l stands
-    (BeforeOrAfter first_form (map write_bytes stands.reads.writes) c.as_slice-4.result.now)
-    (c.append.ensures.any_moment trusted (map write_bytes stands.reads.writes)
-    (log_stands (g.D.Disk.state c.args.disk.now) e l stands)) c.append.new.self
-    c.with_more-self.result (e.next + 1) c.put_changes.new.families c.full_after-self.result
-    c.as_slice-2.result.now e.next family c.in_ok-put_changes.ensures.written
+pub returns-clause-any_moment : goal.returns-clause-any_moment
+returns-clause-any_moment g c trusted l stands = c.apply.ensures.any_moment trusted l stands.hand

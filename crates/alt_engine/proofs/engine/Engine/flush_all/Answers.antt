@@ -1,328 +1,47 @@
--- Drafts with a file for each family and over a new segment, and then the version.
-use Rattle.std.proofs.Common.{◌≡◌, ◌≤◌, ◌+◌, inr, ℕ, sym, ap, subst, ◌∙◌, arith, rules}
-use Rattle.std.proofs.lemmas.Result.{IfErr-weaker, on_ok_weaker}
-use Rattle.std.specs.Prelude.{IfErr}
+-- A merge under way is carried on.
 use Rattle.alt_disk.specs.Disk.{DiskState}
-use Rattle.alt_disk.specs.Runs.{Spans}
-use Rattle.alt_disk.proofs.Runs.{trusted_back, trusted_on}
-use Rattle.alt_flush.specs.Drafts.{From, renumbered}
-use Rattle.alt_flush.proofs.RemoveLaws.{none_removed}
-use Rattle.alt_manifest.specs.InHand.{version_of}
-use Rattle.alt_manifest.specs.declared.version.Version.{Version}
-use Rattle.alt_engine.specs.Drafting.{IsFlushed, IsReady, IsSpentFor, files_needed}
-use Rattle.std.specs.BTreeMap.{get}
-use Rattle.std.specs.FinMap.{empty}
-use Rattle.std.specs.Ordering.{nat_cmp}
-use Rattle.alt_families.specs.Families.{Families, rows_in}
-use Rattle.alt_engine.proofs.FlushesLaws.{all_empty, begun, lying, made, making, ready_new, run_later}
-use Rattle.alt_engine.proofs.NeedLaws.{needed_same, spent_more}
+use Rattle.alt_hand.proofs.EndLaws.{works_same, works_still}
+use Rattle.alt_hand.proofs.WorkLaws.{worked_in, works_of}
+use Rattle.alt_merging.specs.Mergings.{family_of}
+use Rattle.alt_engine.proofs.EngineLaws.{going_carried}
 use Rattle.alt_engine.proofs.engine.Engine.flush_all.Goals as goal
 
-pub returns-in_err-first-clause-any_moment : goal.returns-in_err-first-clause-any_moment
-returns-in_err-first-clause-any_moment g c trusted l stands =
-    let a : DiskState = g.D.Disk.state c.args.disk.now in
-    let e = c.args.self.now in
-    let live = c.args.live.now in
-    making a a e l live stands (none_removed a (From e.next_file))
+pub returns-then-not-has_entries-clause-ok : goal.returns-then-not-has_entries-clause-ok
+returns-then-not-has_entries-clause-ok g c trusted l stands =
+    (l, stands, works_same c.args.live.now l)
 
-pub returns-in_err-put_segments-clause-any_moment : goal.returns-in_err-put_segments-clause-any_moment
-returns-in_err-put_segments-clause-any_moment g c trusted l stands =
-    let a : DiskState = g.D.Disk.state c.args.disk.now in
-    let e = c.args.self.now in
-    let live = c.args.live.now in
-    making a a e l live stands (none_removed a (From e.next_file))
+pub returns-then-not-has_entries-clause-any_moment :
+    goal.returns-then-not-has_entries-clause-any_moment
+returns-then-not-has_entries-clause-any_moment g c trusted l stands = works_still
+    (g.D.Disk.state c.args.disk.now) c.args.self.now.hand l c.args.live.now stands.hand
 
-pub returns-in_err-alive-clause-any_moment : goal.returns-in_err-alive-clause-any_moment
-returns-in_err-alive-clause-any_moment g c trusted l stands =
-    let a : DiskState = g.D.Disk.state c.args.disk.now in
-    let e = c.args.self.now in
-    let live = c.args.live.now in
-    making a a e l live stands (none_removed a (From e.next_file))
+pub flush_all-requires-clause-ready : goal.flush_all-requires-clause-ready
+flush_all-requires-clause-ready g c trusted =
+    let given = c.requires.ready trusted in (given.0, given.1.hand)
 
-pub flush_each-requires-clause-makes : goal.flush_each-requires-clause-makes
-flush_each-requires-clause-makes g c trusted =
-    let a : DiskState = g.D.Disk.state c.args.disk.now in
-    let e = c.args.self.now in
-    let live = c.args.live.now in
-    let is : c.in_ok-first.first ≡ renumbered (version_of e.manifest) e.next_file e.next =
-    c.in_ok-first.ensures ∙ ap (λ (v : Version). renumbered v e.next_file e.next) c.current.ensures in
-    let given = c.requires.ready trusted in
-    let begins = begun a e given.0 live given.1 c.in_ok-first.first c.in_ok-alive.alive
-    c.leave_dead.new.families (search rules) is c.in_ok-alive.ensures.makes in
-    (given.1.reads.parts, begins.0, begins.1)
-
-pub returns-in_err-flushed-clause-any_moment : goal.returns-in_err-flushed-clause-any_moment
-returns-in_err-flushed-clause-any_moment g c trusted l stands =
-    let a : DiskState = g.D.Disk.state c.args.disk.now in
-    let e = c.args.self.now in
-    let live = c.args.live.now in
-    let is : c.in_ok-first.first ≡ renumbered (version_of e.manifest) e.next_file e.next =
-    c.in_ok-first.ensures ∙ ap (λ (v : Version). renumbered v e.next_file e.next) c.current.ensures in
-    let start : c.in_ok-alive.alive.next_file ≡ e.next_file =
-    c.in_ok-alive.ensures.file ∙ ap (λ (v : Version). v.next_file) is in
-    making a (g.D.Disk.state c.flush_each.new.disk) e l live stands
-    (subst (λ n. Spans a (g.D.Disk.state c.flush_each.new.disk) (From n) (λ t image. Unit {0}))
-    start (c.in_err-flushed.ensures.spans trusted))
-
-pub returns-in_err-flushed-clause-spent : goal.returns-in_err-flushed-clause-spent
-returns-in_err-flushed-clause-spent g c =
-    let e = c.args.self.now in
-    let live = c.args.live.now in
-    let is : c.in_ok-first.first ≡ renumbered (version_of e.manifest) e.next_file e.next =
-    c.in_ok-first.ensures ∙ ap (λ (v : Version). renumbered v e.next_file e.next) c.current.ensures in
-    let start : c.in_ok-alive.alive.next_file ≡ e.next_file =
-    c.in_ok-alive.ensures.file ∙ ap (λ (v : Version). v.next_file) is in
-    let same = needed_same e.families c.leave_dead.new.families live c.in_ok-alive.ensures.lives in
-    let first = c.in_ok-alive.alive.next_file + files_needed c.leave_dead.new.families live in
-    let base : IfErr c.from_residual-in_err-flushed.result (IsSpentFor first) = search rules in
-    IfErr-weaker c.from_residual-in_err-flushed.result (IsSpentFor first)
-    (IsSpentFor (e.next_file + files_needed e.families live + 1))
-    (λ fault. spent_more fault first (e.next_file + files_needed e.families live + 1)
-    (omega (arith, start, same))) base
-
-pub returns-then-flushed-clause-any_moment : goal.returns-then-flushed-clause-any_moment
-returns-then-flushed-clause-any_moment g c trusted l stands =
-    let a : DiskState = g.D.Disk.state c.args.disk.now in
-    let e = c.args.self.now in
-    let live = c.args.live.now in
-    let is : c.in_ok-first.first ≡ renumbered (version_of e.manifest) e.next_file e.next =
-    c.in_ok-first.ensures ∙ ap (λ (v : Version). renumbered v e.next_file e.next) c.current.ensures in
-    let start : c.in_ok-alive.alive.next_file ≡ e.next_file =
-    c.in_ok-alive.ensures.file ∙ ap (λ (v : Version). v.next_file) is in
-    let b : DiskState = g.D.Disk.state c.flush_each.new.disk in
-    let first_spans : Spans a b (From e.next_file) (λ t image. Unit {0}) =
-    subst (λ n. Spans a b (From n) (λ t image. Unit {0})) start
-    (c.in_ok-flushed.ensures.spans trusted) in
-    making a b e l live stands first_spans
-
-pub returns-then-flushed-clause-spent : goal.returns-then-flushed-clause-spent
-returns-then-flushed-clause-spent g c =
-    let e = c.args.self.now in
-    let live = c.args.live.now in
-    let is : c.in_ok-first.first ≡ renumbered (version_of e.manifest) e.next_file e.next =
-    c.in_ok-first.ensures ∙ ap (λ (v : Version). renumbered v e.next_file e.next) c.current.ensures in
-    let start : c.in_ok-alive.alive.next_file ≡ e.next_file =
-    c.in_ok-alive.ensures.file ∙ ap (λ (v : Version). v.next_file) is in
-    let same = needed_same e.families c.leave_dead.new.families live c.in_ok-alive.ensures.lives in
-    let file = c.in_ok-flushed.ensures.file in
-    let at = c.if-flushed.true in
-    (at, omega (arith, at, file, start, same))
-
-pub make-requires : goal.make-requires
-make-requires g c told =
-    let a : DiskState = g.D.Disk.state c.args.disk.now in
-    let e = c.args.self.now in
-    let live = c.args.live.now in
-    let b : DiskState = g.D.Disk.state c.flush_each.new.disk in
-    let trusted = trusted_back a b c.in_ok-flushed.ensures.goes told in
-    let is : c.in_ok-first.first ≡ renumbered (version_of e.manifest) e.next_file e.next =
-    c.in_ok-first.ensures ∙ ap (λ (v : Version). renumbered v e.next_file e.next) c.current.ensures in
-    let given = c.requires.ready trusted in
-    let begins = begun a e given.0 live given.1 c.in_ok-first.first c.in_ok-alive.alive
-    c.leave_dead.new.families (search rules) is c.in_ok-alive.ensures.makes in
-    (c.in_ok-flushed.ensures.makes trusted given.1.reads.parts begins.0 begins.1).drafted.fresh
-    c.in_ok-flushed.flushed.next_file (omega arith)
-
-pub returns-in_err-log-clause-any_moment : goal.returns-in_err-log-clause-any_moment
-returns-in_err-log-clause-any_moment g c trusted l stands =
-    let a : DiskState = g.D.Disk.state c.args.disk.now in
-    let e = c.args.self.now in
-    let live = c.args.live.now in
-    let is : c.in_ok-first.first ≡ renumbered (version_of e.manifest) e.next_file e.next =
-    c.in_ok-first.ensures ∙ ap (λ (v : Version). renumbered v e.next_file e.next) c.current.ensures in
-    let start : c.in_ok-alive.alive.next_file ≡ e.next_file =
-    c.in_ok-alive.ensures.file ∙ ap (λ (v : Version). v.next_file) is in
-    let b : DiskState = g.D.Disk.state c.flush_each.new.disk in
-    let first_spans : Spans a b (From e.next_file) (λ t image. Unit {0}) =
-    subst (λ n. Spans a b (From n) (λ t image. Unit {0})) start
-    (c.in_ok-flushed.ensures.spans trusted) in
-    let d : DiskState = g.D.Disk.state c.make.new.disk in
-    let told = trusted_on a b c.in_ok-flushed.ensures.goes trusted in
-    let low : e.next_file ≤ c.in_ok-flushed.flushed.next_file =
-    (let file = c.in_ok-flushed.ensures.file in omega (arith, file, start)) in
-    let run = c.in_err-log.ensures.any_moment told in
-    let spans : Spans a d (From e.next_file) (λ t image. Unit {0}) =
-    run_later a b d e.next_file c.in_ok-flushed.flushed.next_file (λ t left. Unit {0}) low
-    first_spans run in
-    making a d e l live stands spans
-
-pub returns-in_err-draft-clause-any_moment : goal.returns-in_err-draft-clause-any_moment
-returns-in_err-draft-clause-any_moment g c trusted l stands =
-    let a : DiskState = g.D.Disk.state c.args.disk.now in
-    let e = c.args.self.now in
-    let live = c.args.live.now in
-    let is : c.in_ok-first.first ≡ renumbered (version_of e.manifest) e.next_file e.next =
-    c.in_ok-first.ensures ∙ ap (λ (v : Version). renumbered v e.next_file e.next) c.current.ensures in
-    let start : c.in_ok-alive.alive.next_file ≡ e.next_file =
-    c.in_ok-alive.ensures.file ∙ ap (λ (v : Version). v.next_file) is in
-    let b : DiskState = g.D.Disk.state c.flush_each.new.disk in
-    let first_spans : Spans a b (From e.next_file) (λ t image. Unit {0}) =
-    subst (λ n. Spans a b (From n) (λ t image. Unit {0})) start
-    (c.in_ok-flushed.ensures.spans trusted) in
-    let d : DiskState = g.D.Disk.state c.make.new.disk in
-    let told = trusted_on a b c.in_ok-flushed.ensures.goes trusted in
-    let low : e.next_file ≤ c.in_ok-flushed.flushed.next_file =
-    (let file = c.in_ok-flushed.ensures.file in omega (arith, file, start)) in
-    let run = c.in_ok-log.ensures.any_moment told in
-    let spans : Spans a d (From e.next_file) (λ t image. Unit {0}) =
-    run_later a b d e.next_file c.in_ok-flushed.flushed.next_file (λ t left. Unit {0}) low
-    first_spans run in
-    making a d e l live stands spans
-
-pub publish-requires : goal.publish-requires
-publish-requires g c = record {
-  ready = λ at_end.
-      let a : DiskState = g.D.Disk.state c.args.disk.now in
-      let b : DiskState = g.D.Disk.state c.flush_each.new.disk in
-      let d : DiskState = g.D.Disk.state c.make.new.disk in
-      let trusted = trusted_back a b c.in_ok-flushed.ensures.goes
-      (trusted_back b d c.in_ok-log.ensures.goes at_end) in
-      let e = c.args.self.now in
-      let live = c.args.live.now in
-      let given = c.requires.ready trusted in
-      let l = given.0 in
-      let stands = given.1 in
-      let is : c.in_ok-first.first ≡ renumbered (version_of e.manifest) e.next_file e.next =
-      c.in_ok-first.ensures ∙ ap (λ (v : Version). renumbered v e.next_file e.next) c.current.ensures in
-      let start : c.in_ok-alive.alive.next_file ≡ e.next_file =
-      c.in_ok-alive.ensures.file ∙ ap (λ (v : Version). v.next_file) is in
-      let begins = begun a e l live stands c.in_ok-first.first c.in_ok-alive.alive
-      c.leave_dead.new.families (search rules) is c.in_ok-alive.ensures.makes in
-      let first_spans : Spans a b (From e.next_file) (λ t image. Unit {0}) =
-      subst (λ n. Spans a b (From n) (λ t image. Unit {0})) start
-      (c.in_ok-flushed.ensures.spans trusted) in
-      let told = trusted_on a b c.in_ok-flushed.ensures.goes trusted in
-      let low : e.next_file ≤ c.in_ok-flushed.flushed.next_file =
-      (let file = c.in_ok-flushed.ensures.file in omega (arith, file, start)) in
-      let run = c.in_ok-log.ensures.any_moment told in
-      let spans : Spans a d (From e.next_file) (λ t image. Unit {0}) =
-      run_later a b d e.next_file c.in_ok-flushed.flushed.next_file (λ t left. Unit {0}) low
-      first_spans run in
-      let none : (family : ℕ) → rows_in (get nat_cmp c.flush_each.new.families family) ≡ empty =
-      λ family. all_empty c.leave_dead.new.families c.flush_each.new.families live family
-      (λ f there. (c.in_ok-flushed.ensures.flushed f there).rows) c.in_ok-flushed.ensures.others
-      (c.in_ok-alive.ensures.rest family) in (
-        begins.0,
-        subst (λ (u : Version). IsReady d (record e {
-          log = c.in_ok-log.log;
-          length = 0;
-          families = c.flush_each.new.families;
-        }) u begins.0) (sym c.in_ok-draft.ensures)
-            (ready_new a d e l live stands spans b c.in_ok-flushed.flushed c.flush_each.new.families
-            stands.reads.parts begins.0 (λ t left. Unit {0}) c.in_ok-log.log
-            (c.in_ok-flushed.ensures.makes trusted stands.reads.parts begins.0 begins.1) begins.2
-            (search rules) none run c.in_ok-log.ensures.file (c.in_ok-log.ensures.made told)),
-      );
-}
+pub returns-in_err-flush_all-clause-any_moment : goal.returns-in_err-flush_all-clause-any_moment
+returns-in_err-flush_all-clause-any_moment g c trusted l stands =
+    worked_in (g.D.Disk.state c.args.disk.now) (g.D.Disk.state c.flush_all.new.disk) c.args.live.now l
+    (c.flush_all.ensures.any_moment trusted l stands.hand)
 
 pub returns-clause-ok : goal.returns-clause-ok
-returns-clause-ok g c = on_ok_weaker c.publish.result (λ all trusted l stands.
+returns-clause-ok g c trusted l stands =
     let a : DiskState = g.D.Disk.state c.args.disk.now in
+    let b : DiskState = g.D.Disk.state c.flush_all.new.disk in
     let e = c.args.self.now in
-    let live = c.args.live.now in
-    let is : c.in_ok-first.first ≡ renumbered (version_of e.manifest) e.next_file e.next =
-    c.in_ok-first.ensures ∙ ap (λ (v : Version). renumbered v e.next_file e.next) c.current.ensures in
-    let start : c.in_ok-alive.alive.next_file ≡ e.next_file =
-    c.in_ok-alive.ensures.file ∙ ap (λ (v : Version). v.next_file) is in
-    let begins = begun a e l live stands c.in_ok-first.first c.in_ok-alive.alive
-    c.leave_dead.new.families (search rules) is c.in_ok-alive.ensures.makes in
-    let b : DiskState = g.D.Disk.state c.flush_each.new.disk in
-    let first_spans : Spans a b (From e.next_file) (λ t image. Unit {0}) =
-    subst (λ n. Spans a b (From n) (λ t image. Unit {0})) start
-    (c.in_ok-flushed.ensures.spans trusted) in
-    let d : DiskState = g.D.Disk.state c.make.new.disk in
-    let told = trusted_on a b c.in_ok-flushed.ensures.goes trusted in
-    let low : e.next_file ≤ c.in_ok-flushed.flushed.next_file =
-    (let file = c.in_ok-flushed.ensures.file in omega (arith, file, start)) in
-    let run = c.in_ok-log.ensures.any_moment told in
-    let spans : Spans a d (From e.next_file) (λ t image. Unit {0}) =
-    run_later a b d e.next_file c.in_ok-flushed.flushed.next_file (λ t left. Unit {0}) low
-    first_spans run in
-    let none : (family : ℕ) → rows_in (get nat_cmp c.flush_each.new.families family) ≡ empty =
-    λ family. all_empty c.leave_dead.new.families c.flush_each.new.families live family
-    (λ f there. (c.in_ok-flushed.ensures.flushed f there).rows) c.in_ok-flushed.ensures.others
-    (c.in_ok-alive.ensures.rest family) in (
-      begins.0,
-      all (trusted_on b d c.in_ok-log.ensures.goes told) begins.0
-          (subst (λ (u : Version). IsReady d (record e {
-            log = c.in_ok-log.log;
-            length = 0;
-            families = c.flush_each.new.families;
-          }) u begins.0) (sym c.in_ok-draft.ensures)
-          (ready_new a d e l live stands spans b c.in_ok-flushed.flushed c.flush_each.new.families
-          stands.reads.parts begins.0 (λ t left. Unit {0}) c.in_ok-log.log
-          (c.in_ok-flushed.ensures.makes trusted stands.reads.parts begins.0 begins.1) begins.2
-          (search rules) none run c.in_ok-log.ensures.file (c.in_ok-log.ensures.made told))),
-      begins.2,
-    )) c.publish.ensures.ok
-
-pub returns-clause-flushed : goal.returns-clause-flushed
-returns-clause-flushed g c =
-    let e = c.args.self.now in
-    let live = c.args.live.now in
-    let alive = c.leave_dead.new.families in
-    let after = c.flush_each.new.families in
-    let last = c.publish.new.self.families in
-    let still : last ≡ after = c.publish.ensures.families in
-    let is : c.in_ok-first.first ≡ renumbered (version_of e.manifest) e.next_file e.next =
-    c.in_ok-first.ensures ∙ ap (λ (v : Version). renumbered v e.next_file e.next) c.current.ensures in
-    let start : c.in_ok-alive.alive.next_file ≡ e.next_file =
-    c.in_ok-alive.ensures.file ∙ ap (λ (v : Version). v.next_file) is in
-    let same = needed_same e.families c.leave_dead.new.families live c.in_ok-alive.ensures.lives in
-    let none : (family : ℕ) → rows_in (get nat_cmp c.flush_each.new.families family) ≡ empty =
-    λ family. all_empty c.leave_dead.new.families c.flush_each.new.families live family
-    (λ f there. (c.in_ok-flushed.ensures.flushed f there).rows) c.in_ok-flushed.ensures.others
-    (c.in_ok-alive.ensures.rest family) in
-    let file = c.in_ok-flushed.ensures.file in
-    let draft = ap (λ (v : Version). v.next_file) c.in_ok-draft.ensures in
-    let made = c.publish.ensures.file in
-    on_ok_weaker c.publish.result (λ well. record {
-      lives = λ family there. subst (λ (fs : Families). IsFlushed (get nat_cmp e.families family)
-          (get nat_cmp fs family)) (sym still)
-          (subst (λ o. IsFlushed o (get nat_cmp after family))
-          (c.in_ok-alive.ensures.lives family there) (c.in_ok-flushed.ensures.flushed family there));
-      others = λ family. inr (ap (λ (fs : Families). rows_in (get nat_cmp fs family)) still
-          ∙ none family);
-      file = omega (arith, made, draft, file, start, same);
-    }) c.publish.ensures.well
+    let f = c.flush_all.new.self in
+    let m = c.in_ok-flush_all.ensures.ok trusted l stands.hand in (
+      m.0,
+      record {
+        hand = m.1;
+        merging = going_carried a b e.hand f e.merging (λ j is. c.in_ok-flush_all.ensures.carries
+            trusted l stands.hand (family_of j) (c.requires.keeps j is)) stands.merging;
+        few = c.any_many-self.ensures;
+      },
+      works_of c.args.live.now l m.0 m.2,
+    )
 
 pub returns-clause-any_moment : goal.returns-clause-any_moment
 returns-clause-any_moment g c trusted l stands =
-    let a : DiskState = g.D.Disk.state c.args.disk.now in
-    let e = c.args.self.now in
-    let live = c.args.live.now in
-    let is : c.in_ok-first.first ≡ renumbered (version_of e.manifest) e.next_file e.next =
-    c.in_ok-first.ensures ∙ ap (λ (v : Version). renumbered v e.next_file e.next) c.current.ensures in
-    let start : c.in_ok-alive.alive.next_file ≡ e.next_file =
-    c.in_ok-alive.ensures.file ∙ ap (λ (v : Version). v.next_file) is in
-    let begins = begun a e l live stands c.in_ok-first.first c.in_ok-alive.alive
-    c.leave_dead.new.families (search rules) is c.in_ok-alive.ensures.makes in
-    let b : DiskState = g.D.Disk.state c.flush_each.new.disk in
-    let first_spans : Spans a b (From e.next_file) (λ t image. Unit {0}) =
-    subst (λ n. Spans a b (From n) (λ t image. Unit {0})) start
-    (c.in_ok-flushed.ensures.spans trusted) in
-    let d : DiskState = g.D.Disk.state c.make.new.disk in
-    let told = trusted_on a b c.in_ok-flushed.ensures.goes trusted in
-    let low : e.next_file ≤ c.in_ok-flushed.flushed.next_file =
-    (let file = c.in_ok-flushed.ensures.file in omega (arith, file, start)) in
-    let run = c.in_ok-log.ensures.any_moment told in
-    let spans : Spans a d (From e.next_file) (λ t image. Unit {0}) =
-    run_later a b d e.next_file c.in_ok-flushed.flushed.next_file (λ t left. Unit {0}) low
-    first_spans run in
-    let none : (family : ℕ) → rows_in (get nat_cmp c.flush_each.new.families family) ≡ empty =
-    λ family. all_empty c.leave_dead.new.families c.flush_each.new.families live family
-    (λ f there. (c.in_ok-flushed.ensures.flushed f there).rows) c.in_ok-flushed.ensures.others
-    (c.in_ok-alive.ensures.rest family) in
-    made a d (g.D.Disk.state c.publish.new.disk) l begins.0 live begins.2
-    (making a d e l live stands spans)
-    (c.publish.ensures.any_moment (trusted_on b d c.in_ok-log.ensures.goes told) l begins.0
-    (lying a d e l live stands spans)
-    (subst (λ (u : Version). IsReady d (record e {
-      log = c.in_ok-log.log;
-      length = 0;
-      families = c.flush_each.new.families;
-    }) u begins.0) (sym c.in_ok-draft.ensures)
-    (ready_new a d e l live stands spans b c.in_ok-flushed.flushed c.flush_each.new.families
-    stands.reads.parts begins.0 (λ t left. Unit {0}) c.in_ok-log.log
-    (c.in_ok-flushed.ensures.makes trusted stands.reads.parts begins.0 begins.1) begins.2
-    (search rules) none run c.in_ok-log.ensures.file (c.in_ok-log.ensures.made told))))
+    worked_in (g.D.Disk.state c.args.disk.now) (g.D.Disk.state c.flush_all.new.disk) c.args.live.now l
+    (c.flush_all.ensures.any_moment trusted l stands.hand)

@@ -1,24 +1,12 @@
--- What the row of the family shows.
-use Rattle.alt_engine.proofs.OpenLaws.{family_reads, stays_on, undamaged_source}
+-- The engine stays.
+use Rattle.std.proofs.Common.{refl}
+use Rattle.alt_engine.proofs.EngineLaws.{stays_quiet}
 use Rattle.alt_engine.proofs.engine.Engine.row.Goals as goal
 
-pub returns-in-Ok-clause-row : goal.returns-in-Ok-clause-row
-returns-in-Ok-clause-row g c told l reads =
-    c.in-Ok.ensures.row told (l.rows c.args.family)
-    (family_reads (g.D.Disk.state c.args.disk.now) c.args.self.now l reads c.args.family)
-
-pub returns-in-Ok-clause-same : goal.returns-in-Ok-clause-same
-returns-in-Ok-clause-same g c told =
-    stays_on (g.D.Disk.state c.args.disk.now) (g.D.Disk.state c.shown_row.new.disk) c.args.self.now
-    (c.shown_row.ensures.quiet told)
-
-pub returns-in-Err-clause-undamaged : goal.returns-in-Err-clause-undamaged
-returns-in-Err-clause-undamaged g c told l reads =
-    undamaged_source c.in-Err.fault c.from.result c.from.ensures
-    (c.in-Err.ensures.undamaged told (l.rows c.args.family)
-    (family_reads (g.D.Disk.state c.args.disk.now) c.args.self.now l reads c.args.family))
-
-pub returns-in-Err-clause-same : goal.returns-in-Err-clause-same
-returns-in-Err-clause-same g c told =
-    stays_on (g.D.Disk.state c.args.disk.now) (g.D.Disk.state c.shown_row.new.disk) c.args.self.now
-    (c.shown_row.ensures.quiet told)
+pub returns-clause-same : goal.returns-clause-same
+returns-clause-same g c told = record {
+  next = refl;
+  reads = λ l reads. (c.row.ensures.same told).reads l reads;
+  stands = λ l stands. stays_quiet (g.D.Disk.state c.args.disk.now) (g.D.Disk.state c.row.new.disk)
+      c.args.self.now l stands (c.row.ensures.quiet told);
+}

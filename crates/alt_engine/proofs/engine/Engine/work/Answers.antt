@@ -1,136 +1,356 @@
--- A step, or a flush of all where the log has entries.
-use Rattle.std.proofs.Common.{◌≡◌, ℕ, sym, subst, arith}
+-- What becomes of the merge under way, and then the task.
+use Rattle.std.proofs.Common.{◌≡◌, ⊎_elim, inl, inr, sym, subst}
 use Rattle.std.proofs.lemmas.Result.{IfOk-weaker, on_ok_weaker}
 use Rattle.std.specs.Prelude.{◌⊎◌}
 use Rattle.alt_disk.specs.Disk.{DiskState, IsTrusted}
-use Rattle.alt_flush.specs.Drafts.{From}
-use Rattle.alt_flush.proofs.RemoveLaws.{none_removed}
-use Rattle.alt_layout.specs.Layout.{Layout}
-use Rattle.alt_engine.specs.InHand.{Stands}
-use Rattle.alt_engine.specs.Working.{AreAllFlushed, Did, IsCalm, IsFirstFull, IsIdle, IsLong, IsOneFlushed, IsShort}
-use Rattle.alt_engine.specs.declared.work.Worked.{Worked}
-use Rattle.alt_engine.specs.declared.work.Worked.TheVariants.{Done, Idle}
+use Rattle.alt_disk.proofs.Runs.{trusted_back, trusted_on}
+use Rattle.alt_hand.specs.InHand.{length_of}
+use Rattle.alt_hand.specs.Merging.{HasMany}
+use Rattle.alt_hand.specs.Working.{IsCalm, IsFlushDone, IsShort}
+use Rattle.alt_hand.specs.declared.hand.Hand.{Hand}
+use Rattle.alt_hand.proofs.CarryLaws.{on_ok_both}
+use Rattle.alt_hand.proofs.WorkLaws.{no_entries, step_short}
+use Rattle.alt_merging.proofs.StepLaws.{has_works, then_works}
+use Rattle.alt_engine.specs.InHand.{Stands, hand_of}
+use Rattle.alt_engine.specs.Working.{AllMerged, Begins, Did, Ends, GoesOn, IsIdle}
+use Rattle.alt_engine.specs.declared.engine.Engine.{Engine}
 use Rattle.alt_engine.specs.declared.work.Task.{Task}
-use Rattle.alt_engine.proofs.FlushesLaws.{making}
-use Rattle.alt_engine.proofs.MakesLaws.{empties_same}
-use Rattle.alt_engine.proofs.WorkLaws.{did_step, entries_length, has_entries, no_entries, none_in_memory, short_entries, step_busy, step_shortens, works_of, worked_in}
+use Rattle.alt_engine.proofs.Turning.{all_merged, begins_back, busy_all, busy_by, did_flush, ends_back, first_lives, flush_busy, flushed, free_back, free_none, free_on, goes_back, idle_all, keeps_after, merged_back, merged_forth, none_free}
 use Rattle.alt_engine.proofs.engine.Engine.work.Goals as goal
 
-pub returns-then-self-eq0-clause-ok : goal.returns-then-self-eq0-clause-ok
-returns-then-self-eq0-clause-ok g c trusted l stands =
-    (l, stands, works_of c.args.live.now l l (empties_same c.args.live.now l))
+pub returns-in_err-give_up-clause-any_moment : goal.returns-in_err-give_up-clause-any_moment
+returns-in_err-give_up-clause-any_moment g c trusted l stands =
+    has_works (g.D.Disk.state c.args.disk.now) (g.D.Disk.state c.give_up.new.disk) c.args.live.now l
+    (c.give_up.ensures.any_moment trusted l stands)
 
-pub returns-then-self-eq0-clause-idle : goal.returns-then-self-eq0-clause-idle
-returns-then-self-eq0-clause-idle g c it trusted l stands =
-    let a : DiskState = g.D.Disk.state c.args.disk.now in
-    let e = c.args.self.now in
-    subst (λ (t : Task). IsIdle t a.file c.args.live.now e) (sym c.in-FlushAll.is)
-    (no_entries a e l stands c.if-self-eq0.true, none_in_memory a e l stands c.if-self-eq0.true)
-
-pub returns-then-self-eq0-clause-any_moment : goal.returns-then-self-eq0-clause-any_moment
-returns-then-self-eq0-clause-any_moment g c trusted l stands =
-    let a : DiskState = g.D.Disk.state c.args.disk.now in
-    let e = c.args.self.now in
-    worked_in a a c.args.live.now l
-    (making a a e l c.args.live.now stands (none_removed a (From e.next_file)))
-
-pub returns-then-self-eq0-clause-flush_all : goal.returns-then-self-eq0-clause-flush_all
-returns-then-self-eq0-clause-flush_all g c it trusted =
+pub step-requires-clause-ready : goal.step-requires-clause-ready
+step-requires-clause-ready g c told =
+    let trusted = trusted_back (g.D.Disk.state c.args.disk.now) (g.D.Disk.state c.give_up.new.disk)
+    c.give_up.ensures.goes told in
     let given = c.requires.ready trusted in
-    no_entries (g.D.Disk.state c.args.disk.now) c.args.self.now given.0 given.1 c.if-self-eq0.true
+    (given.0, c.in_ok-give_up.ensures.ok trusted given.0 given.1)
 
-pub returns-in_err-flush_all-in-FlushAll-clause-any_moment :
-    goal.returns-in_err-flush_all-in-FlushAll-clause-any_moment
-returns-in_err-flush_all-in-FlushAll-clause-any_moment g c trusted l stands =
-    worked_in (g.D.Disk.state c.args.disk.now) (g.D.Disk.state c.flush_all.new.disk) c.args.live.now l
-    (c.in_err-flush_all-in-FlushAll.ensures.any_moment trusted l stands)
+pub flush_all-requires-clause-ready : goal.flush_all-requires-clause-ready
+flush_all-requires-clause-ready g c told =
+    let trusted = trusted_back (g.D.Disk.state c.args.disk.now) (g.D.Disk.state c.give_up.new.disk)
+    c.give_up.ensures.goes told in
+    let given = c.requires.ready trusted in
+    (given.0, c.in_ok-give_up.ensures.ok trusted given.0 given.1)
+
+pub merge_all-requires-clause-ready : goal.merge_all-requires-clause-ready
+merge_all-requires-clause-ready g c told =
+    let trusted = trusted_back (g.D.Disk.state c.args.disk.now) (g.D.Disk.state c.give_up.new.disk)
+    c.give_up.ensures.goes told in
+    let given = c.requires.ready trusted in
+    (given.0, c.in_ok-give_up.ensures.ok trusted given.0 given.1)
 
 pub returns-in-Step-clause-ok : goal.returns-in-Step-clause-ok
-returns-in-Step-clause-ok g c = on_ok_weaker c.step.result (λ all trusted l stands.
-    let m = all trusted l stands in (m.0, m.1, works_of c.args.live.now l m.0 m.2)) c.step.ensures.ok
-
-pub returns-in-Step-clause-idle : goal.returns-in-Step-clause-idle
-returns-in-Step-clause-idle g c =
+returns-in-Step-clause-ok g c = on_ok_weaker c.step.result (λ ok trusted l stands.
     let a : DiskState = g.D.Disk.state c.args.disk.now in
-    let e = c.args.self.now in
+    let b : DiskState = g.D.Disk.state c.give_up.new.disk in
+    let e : Engine = c.args.self.now in
+    let f : Engine = c.give_up.new.self in
     let live = c.args.live.now in
-    IfOk-weaker c.step.result
-    (λ (w : Worked). w ≡ Idle → IsShort e
-    × (IsTrusted a → (l : Layout) → Stands a e l → IsCalm live e))
-    (λ (w : Worked). w ≡ Idle → IsTrusted a → (l : Layout) → Stands a e l
-    → IsIdle c.args.task a.file live e)
-    (λ w idle it trusted l stands. subst (λ (t : Task). IsIdle t a.file live e) (sym c.in-Step.is)
-    (short_entries a e l stands (idle it).0, (idle it).1 trusted l stands)) c.step.ensures.idle
-
-pub returns-in-Step-clause-busy : goal.returns-in-Step-clause-busy
-returns-in-Step-clause-busy g c =
-    let a : DiskState = g.D.Disk.state c.args.disk.now in
-    let e = c.args.self.now in
-    let f = c.step.new.self in
-    let live = c.args.live.now in
-    IfOk-weaker c.step.result
-    (λ (w : Worked). w ≡ Done → (IsLong e × AreAllFlushed live e f) ⊎ (IsShort e
-    × ((family : ℕ) × IsFirstFull live e family × IsOneFlushed live e f family)))
-    (λ (w : Worked). w ≡ Done → IsTrusted a → (l : Layout) → Stands a e l
-    → IsIdle c.args.task a.file live e → ⊥)
-    (λ w done it trusted l stands idle. step_busy a e f l live stands (done it)
-    (subst (λ (t : Task). IsIdle t a.file live e) c.in-Step.is idle)) c.step.ensures.done
-
-pub returns-in-Step-clause-done : goal.returns-in-Step-clause-done
-returns-in-Step-clause-done g c =
-    let a : DiskState = g.D.Disk.state c.args.disk.now in
-    let e = c.args.self.now in
-    let f = c.step.new.self in
-    let live = c.args.live.now in
-    IfOk-weaker c.step.result
-    (λ (w : Worked). w ≡ Done → (IsLong e × AreAllFlushed live e f) ⊎ (IsShort e
-    × ((family : ℕ) × IsFirstFull live e family × IsOneFlushed live e f family)))
-    (λ (w : Worked). w ≡ Done → IsTrusted a → (l : Layout) → Stands a e l
-    → Did c.args.task a.file live e f)
-    (λ w done it trusted l stands. subst (λ (t : Task). Did t a.file live e f) (sym c.in-Step.is)
-    (did_step a e f l live stands (done it))) c.step.ensures.done
+    let turned = c.in_ok-give_up.ensures.turned in
+    let same : hand_of f ≡ hand_of e = c.give_up.ensures.hand in
+    let told = trusted_on a b c.give_up.ensures.goes trusted in
+    let at : Stands b f l = c.in_ok-give_up.ensures.ok trusted l stands in
+    ok told l at) c.step.ensures.ok
 
 pub returns-in-Step-clause-any_moment : goal.returns-in-Step-clause-any_moment
 returns-in-Step-clause-any_moment g c trusted l stands =
-    worked_in (g.D.Disk.state c.args.disk.now) (g.D.Disk.state c.step.new.disk) c.args.live.now l
-    (c.step.ensures.any_moment trusted l stands)
+    let a : DiskState = g.D.Disk.state c.args.disk.now in
+    let b : DiskState = g.D.Disk.state c.give_up.new.disk in
+    let e : Engine = c.args.self.now in
+    let f : Engine = c.give_up.new.self in
+    let live = c.args.live.now in
+    let turned = c.in_ok-give_up.ensures.turned in
+    let same : hand_of f ≡ hand_of e = c.give_up.ensures.hand in
+    let told = trusted_on a b c.give_up.ensures.goes trusted in
+    let at : Stands b f l = c.in_ok-give_up.ensures.ok trusted l stands in
+    then_works a b (g.D.Disk.state c.step.new.disk) live l (c.give_up.ensures.any_moment trusted l stands)
+    (c.step.ensures.any_moment told l at)
+
+pub returns-in-FlushAll-clause-ok : goal.returns-in-FlushAll-clause-ok
+returns-in-FlushAll-clause-ok g c = on_ok_weaker c.flush_all.result (λ ok trusted l stands.
+    let a : DiskState = g.D.Disk.state c.args.disk.now in
+    let b : DiskState = g.D.Disk.state c.give_up.new.disk in
+    let e : Engine = c.args.self.now in
+    let f : Engine = c.give_up.new.self in
+    let live = c.args.live.now in
+    let turned = c.in_ok-give_up.ensures.turned in
+    let same : hand_of f ≡ hand_of e = c.give_up.ensures.hand in
+    let told = trusted_on a b c.give_up.ensures.goes trusted in
+    let at : Stands b f l = c.in_ok-give_up.ensures.ok trusted l stands in
+    ok told l at) c.flush_all.ensures.ok
+
+pub returns-in-FlushAll-clause-any_moment : goal.returns-in-FlushAll-clause-any_moment
+returns-in-FlushAll-clause-any_moment g c trusted l stands =
+    let a : DiskState = g.D.Disk.state c.args.disk.now in
+    let b : DiskState = g.D.Disk.state c.give_up.new.disk in
+    let e : Engine = c.args.self.now in
+    let f : Engine = c.give_up.new.self in
+    let live = c.args.live.now in
+    let turned = c.in_ok-give_up.ensures.turned in
+    let same : hand_of f ≡ hand_of e = c.give_up.ensures.hand in
+    let told = trusted_on a b c.give_up.ensures.goes trusted in
+    let at : Stands b f l = c.in_ok-give_up.ensures.ok trusted l stands in
+    then_works a b (g.D.Disk.state c.flush_all.new.disk) live l (c.give_up.ensures.any_moment trusted l stands)
+    (c.flush_all.ensures.any_moment told l at)
+
+pub returns-in-MergeAll-clause-ok : goal.returns-in-MergeAll-clause-ok
+returns-in-MergeAll-clause-ok g c = on_ok_weaker c.merge_all.result (λ ok trusted l stands.
+    let a : DiskState = g.D.Disk.state c.args.disk.now in
+    let b : DiskState = g.D.Disk.state c.give_up.new.disk in
+    let e : Engine = c.args.self.now in
+    let f : Engine = c.give_up.new.self in
+    let live = c.args.live.now in
+    let turned = c.in_ok-give_up.ensures.turned in
+    let same : hand_of f ≡ hand_of e = c.give_up.ensures.hand in
+    let told = trusted_on a b c.give_up.ensures.goes trusted in
+    let at : Stands b f l = c.in_ok-give_up.ensures.ok trusted l stands in
+    ok told l at) c.merge_all.ensures.ok
+
+pub returns-in-MergeAll-clause-any_moment : goal.returns-in-MergeAll-clause-any_moment
+returns-in-MergeAll-clause-any_moment g c trusted l stands =
+    let a : DiskState = g.D.Disk.state c.args.disk.now in
+    let b : DiskState = g.D.Disk.state c.give_up.new.disk in
+    let e : Engine = c.args.self.now in
+    let f : Engine = c.give_up.new.self in
+    let live = c.args.live.now in
+    let turned = c.in_ok-give_up.ensures.turned in
+    let same : hand_of f ≡ hand_of e = c.give_up.ensures.hand in
+    let told = trusted_on a b c.give_up.ensures.goes trusted in
+    let at : Stands b f l = c.in_ok-give_up.ensures.ok trusted l stands in
+    then_works a b (g.D.Disk.state c.merge_all.new.disk) live l (c.give_up.ensures.any_moment trusted l stands)
+    (c.merge_all.ensures.any_moment told l at)
+
+pub returns-in-Step-clause-idle : goal.returns-in-Step-clause-idle
+returns-in-Step-clause-idle g c = IfOk-weaker c.step.result _ _ (λ w h it trusted l stands.
+    let a : DiskState = g.D.Disk.state c.args.disk.now in
+    let b : DiskState = g.D.Disk.state c.give_up.new.disk in
+    let e : Engine = c.args.self.now in
+    let f : Engine = c.give_up.new.self in
+    let live = c.args.live.now in
+    let turned = c.in_ok-give_up.ensures.turned in
+    let same : hand_of f ≡ hand_of e = c.give_up.ensures.hand in
+    let told = trusted_on a b c.give_up.ensures.goes trusted in
+    let at : Stands b f l = c.in_ok-give_up.ensures.ok trusted l stands in
+    let got = h it told l at in
+    let calm = subst (λ (h : Hand). IsShort h × IsCalm live h) same got.0 in
+    subst (λ (t : Task). IsIdle t a live e) (sym c.in-Step.is) (
+      flushed a live e l stands calm,
+      (
+        free_back a b live e f turned same (free_none live f got.1.0),
+        λ family there many. got.1.1 family there (subst (λ (k : Hand). HasMany k family) (sym same) many),
+      ),
+    ))
+    c.step.ensures.idle
+
+pub returns-in-Step-clause-busy : goal.returns-in-Step-clause-busy
+returns-in-Step-clause-busy g c = busy_by c.step.result
+    (λ went trusted l stands idle.
+    let a : DiskState = g.D.Disk.state c.args.disk.now in
+    let b : DiskState = g.D.Disk.state c.give_up.new.disk in
+    let e : Engine = c.args.self.now in
+    let f : Engine = c.give_up.new.self in
+    let live = c.args.live.now in
+    let turned = c.in_ok-give_up.ensures.turned in
+    let same : hand_of f ≡ hand_of e = c.give_up.ensures.hand in
+    let told = trusted_on a b c.give_up.ensures.goes trusted in
+    let at : Stands b f l = c.in_ok-give_up.ensures.ok trusted l stands in
+    let none = subst (λ (t : Task). IsIdle t a live e) c.in-Step.is idle in
+    ⊎_elim
+    (λ (begins : Begins live f c.step.new.self). none.1.1 begins.family
+    (first_lives live (hand_of f) begins.family begins.first)
+    (subst (λ (k : Hand). HasMany k begins.family) same begins.first.many))
+    (λ (goes : GoesOn b (g.D.Disk.state c.step.new.disk) live f c.step.new.self).
+    free_on a b live e f turned same none.1.0 goes.0 goes.1) (went told l at).1)
+    (λ done trusted l stands idle.
+    let a : DiskState = g.D.Disk.state c.args.disk.now in
+    let b : DiskState = g.D.Disk.state c.give_up.new.disk in
+    let e : Engine = c.args.self.now in
+    let f : Engine = c.give_up.new.self in
+    let live = c.args.live.now in
+    let turned = c.in_ok-give_up.ensures.turned in
+    let same : hand_of f ≡ hand_of e = c.give_up.ensures.hand in
+    let told = trusted_on a b c.give_up.ensures.goes trusted in
+    let at : Stands b f l = c.in_ok-give_up.ensures.ok trusted l stands in
+    let none = subst (λ (t : Task). IsIdle t a live e) c.in-Step.is idle in
+    ⊎_elim
+    (λ (flush : IsFlushDone live (hand_of f) (hand_of c.step.new.self)).
+    flush_busy a live e l stands (hand_of c.step.new.self)
+    (subst (λ (k : Hand). IsFlushDone live k (hand_of c.step.new.self)) same flush) none.0)
+    (λ (ends : (IsShort (hand_of f) × IsCalm live (hand_of f))
+    × Ends b (g.D.Disk.state c.step.new.disk) live f c.step.new.self).
+    free_on a b live e f turned same none.1.0 ends.1.0 ends.1.1) (done told l at))
+    c.step.ensures.went c.step.ensures.done
+
+pub returns-in-Step-clause-went : goal.returns-in-Step-clause-went
+returns-in-Step-clause-went g c = IfOk-weaker c.step.result _ _ (λ w h it trusted l stands.
+    let a : DiskState = g.D.Disk.state c.args.disk.now in
+    let b : DiskState = g.D.Disk.state c.give_up.new.disk in
+    let e : Engine = c.args.self.now in
+    let f : Engine = c.give_up.new.self in
+    let live = c.args.live.now in
+    let turned = c.in_ok-give_up.ensures.turned in
+    let same : hand_of f ≡ hand_of e = c.give_up.ensures.hand in
+    let told = trusted_on a b c.give_up.ensures.goes trusted in
+    let at : Stands b f l = c.in_ok-give_up.ensures.ok trusted l stands in
+    let got = h it told l at in
+    let calm = subst (λ (h : Hand). IsShort h × IsCalm live h) same got.0 in
+    let d : DiskState = g.D.Disk.state c.step.new.disk in (
+      c.in-Step.is,
+      (
+        flushed a live e l stands calm,
+        ⊎_elim
+            (λ (begins : Begins live f c.step.new.self).
+            inl (begins_back a b live e f turned same c.step.new.self begins))
+            (λ (goes : GoesOn b d live f c.step.new.self).
+            inr (goes_back a b live e f turned same d c.step.new.self goes)) got.1,
+      ),
+    )) c.step.ensures.went
+
+pub returns-in-Step-clause-done : goal.returns-in-Step-clause-done
+returns-in-Step-clause-done g c = IfOk-weaker c.step.result _ _ (λ w h it trusted l stands.
+    let a : DiskState = g.D.Disk.state c.args.disk.now in
+    let b : DiskState = g.D.Disk.state c.give_up.new.disk in
+    let e : Engine = c.args.self.now in
+    let f : Engine = c.give_up.new.self in
+    let live = c.args.live.now in
+    let turned = c.in_ok-give_up.ensures.turned in
+    let same : hand_of f ≡ hand_of e = c.give_up.ensures.hand in
+    let told = trusted_on a b c.give_up.ensures.goes trusted in
+    let at : Stands b f l = c.in_ok-give_up.ensures.ok trusted l stands in
+    let d : DiskState = g.D.Disk.state c.step.new.disk in
+    let new : Engine = c.step.new.self in
+    subst (λ (t : Task). Did t a d live e new) (sym c.in-Step.is) (⊎_elim
+    (λ (flush : IsFlushDone live (hand_of f) (hand_of new)). did_flush a live e l stands d new
+    (subst (λ (k : Hand). IsFlushDone live k (hand_of new)) same flush))
+    (λ (ends : (IsShort (hand_of f) × IsCalm live (hand_of f)) × Ends b d live f new).
+    inr (inr (
+      flushed a live e l stands (subst (λ (h : Hand). IsShort h × IsCalm live h) same ends.0),
+      ends_back a b live e f turned same d new ends.1,
+    ))) (h it told l at))) c.step.ensures.done
 
 pub returns-in-Step-clause-step : goal.returns-in-Step-clause-step
-returns-in-Step-clause-step g c it some =
+returns-in-Step-clause-step g c it some = on_ok_both c.step.result
+    (λ ok (bytes : (length_of (hand_of c.step.new.self) ≡ 0)
+    ⊎ (IsShort (hand_of c.give_up.new.self)
+    × (length_of (hand_of c.step.new.self) ≡ length_of (hand_of c.give_up.new.self)))) trusted.
+    let given = c.requires.ready trusted in let l = given.0 in let stands = given.1 in
     let a : DiskState = g.D.Disk.state c.args.disk.now in
-    let b : DiskState = g.D.Disk.state c.step.new.disk in
-    let e = c.args.self.now in
-    step_shortens c.step.result a b e c.step.new.self c.args.live.now c.requires.ready some
+    let b : DiskState = g.D.Disk.state c.give_up.new.disk in
+    let e : Engine = c.args.self.now in
+    let f : Engine = c.give_up.new.self in
+    let live = c.args.live.now in
+    let turned = c.in_ok-give_up.ensures.turned in
+    let same : hand_of f ≡ hand_of e = c.give_up.ensures.hand in
+    let told = trusted_on a b c.give_up.ensures.goes trusted in
+    let at : Stands b f l = c.in_ok-give_up.ensures.ok trusted l stands in
+    let m = ok told l at in
+    step_short (g.D.Disk.state c.step.new.disk) (hand_of e) (hand_of c.step.new.self) m.0 some m.1.hand
+    (subst (λ (h : Hand). (length_of (hand_of c.step.new.self) ≡ 0)
+    ⊎ (IsShort h × (length_of (hand_of c.step.new.self) ≡ length_of h))) same bytes))
     c.step.ensures.ok c.step.ensures.length
 
-pub returns-in_ok-flush_all-in-FlushAll-clause-ok :
-    goal.returns-in_ok-flush_all-in-FlushAll-clause-ok
-returns-in_ok-flush_all-in-FlushAll-clause-ok g c trusted l stands =
-    let m = c.in_ok-flush_all-in-FlushAll.ensures.ok trusted l stands in
-    (m.0, m.1, works_of c.args.live.now l m.0 m.2)
-
-pub returns-in_ok-flush_all-in-FlushAll-clause-busy :
-    goal.returns-in_ok-flush_all-in-FlushAll-clause-busy
-returns-in_ok-flush_all-in-FlushAll-clause-busy g c it trusted l stands idle =
+pub returns-in-FlushAll-clause-idle : goal.returns-in-FlushAll-clause-idle
+returns-in-FlushAll-clause-idle g c = IfOk-weaker c.flush_all.result _ _ (λ w h it trusted l stands.
     let a : DiskState = g.D.Disk.state c.args.disk.now in
-    let e = c.args.self.now in
-    let has = has_entries a e l stands in
-    let none : has.0 ≡ 0 = (subst (λ (t : Task). IsIdle t a.file c.args.live.now e) c.in-FlushAll.is
-    idle).0 has.0 has.1 in
-    let at = entries_length a e l has.0 stands has.1 in
-    let some = c.if-self-eq0.false in
-    absurd (some (omega (arith, at, none)))
+    let b : DiskState = g.D.Disk.state c.give_up.new.disk in
+    let e : Engine = c.args.self.now in
+    let f : Engine = c.give_up.new.self in
+    let live = c.args.live.now in
+    let turned = c.in_ok-give_up.ensures.turned in
+    let same : hand_of f ≡ hand_of e = c.give_up.ensures.hand in
+    let told = trusted_on a b c.give_up.ensures.goes trusted in
+    let at : Stands b f l = c.in_ok-give_up.ensures.ok trusted l stands in
+    subst (λ (t : Task). IsIdle t a live e) (sym c.in-FlushAll.is)
+    (idle_all a live e l stands (subst (λ (k : Hand). length_of k ≡ 0) same (h it))))
+    c.flush_all.ensures.idle
 
-pub returns-in_ok-flush_all-in-FlushAll-clause-any_moment :
-    goal.returns-in_ok-flush_all-in-FlushAll-clause-any_moment
-returns-in_ok-flush_all-in-FlushAll-clause-any_moment g c trusted l stands =
-    worked_in (g.D.Disk.state c.args.disk.now) (g.D.Disk.state c.flush_all.new.disk) c.args.live.now l
-    (c.in_ok-flush_all-in-FlushAll.ensures.any_moment trusted l stands)
+pub returns-in-FlushAll-clause-busy : goal.returns-in-FlushAll-clause-busy
+returns-in-FlushAll-clause-busy g c = IfOk-weaker c.flush_all.result _ _ (λ w h no trusted l stands idle.
+    let a : DiskState = g.D.Disk.state c.args.disk.now in
+    let b : DiskState = g.D.Disk.state c.give_up.new.disk in
+    let e : Engine = c.args.self.now in
+    let f : Engine = c.give_up.new.self in
+    let live = c.args.live.now in
+    let turned = c.in_ok-give_up.ensures.turned in
+    let same : hand_of f ≡ hand_of e = c.give_up.ensures.hand in
+    let told = trusted_on a b c.give_up.ensures.goes trusted in
+    let at : Stands b f l = c.in_ok-give_up.ensures.ok trusted l stands in
+    busy_all a live e l stands
+    (λ none. h no (subst (λ (k : Hand). length_of k ≡ 0) (sym same) none))
+    (subst (λ (t : Task). IsIdle t a live e) c.in-FlushAll.is idle)) c.flush_all.ensures.busy
 
-pub returns-in_ok-flush_all-in-FlushAll-clause-flush_all :
-    goal.returns-in_ok-flush_all-in-FlushAll-clause-flush_all
-returns-in_ok-flush_all-in-FlushAll-clause-flush_all g c it trusted =
-    let given = c.requires.ready trusted in
-    let m = c.in_ok-flush_all-in-FlushAll.ensures.ok trusted given.0 given.1 in
-    no_entries (g.D.Disk.state c.flush_all.new.disk) c.flush_all.new.self m.0 m.1
-    c.in_ok-flush_all-in-FlushAll.ensures.length
+pub returns-in-FlushAll-clause-flush_all : goal.returns-in-FlushAll-clause-flush_all
+returns-in-FlushAll-clause-flush_all g c it = on_ok_both c.flush_all.result
+    (λ ok (none : length_of (hand_of c.flush_all.new.self) ≡ 0) trusted.
+    let given = c.requires.ready trusted in let l = given.0 in let stands = given.1 in
+    let a : DiskState = g.D.Disk.state c.args.disk.now in
+    let b : DiskState = g.D.Disk.state c.give_up.new.disk in
+    let e : Engine = c.args.self.now in
+    let f : Engine = c.give_up.new.self in
+    let live = c.args.live.now in
+    let turned = c.in_ok-give_up.ensures.turned in
+    let same : hand_of f ≡ hand_of e = c.give_up.ensures.hand in
+    let told = trusted_on a b c.give_up.ensures.goes trusted in
+    let at : Stands b f l = c.in_ok-give_up.ensures.ok trusted l stands in
+    let m = ok told l at in
+    no_entries (g.D.Disk.state c.flush_all.new.disk) (hand_of c.flush_all.new.self) m.0 m.1.hand none)
+    c.flush_all.ensures.ok c.flush_all.ensures.length
+
+pub returns-in-MergeAll-clause-idle : goal.returns-in-MergeAll-clause-idle
+returns-in-MergeAll-clause-idle g c = IfOk-weaker c.merge_all.result _ _ (λ w h it trusted l stands.
+    let a : DiskState = g.D.Disk.state c.args.disk.now in
+    let b : DiskState = g.D.Disk.state c.give_up.new.disk in
+    let e : Engine = c.args.self.now in
+    let f : Engine = c.give_up.new.self in
+    let live = c.args.live.now in
+    let turned = c.in_ok-give_up.ensures.turned in
+    let same : hand_of f ≡ hand_of e = c.give_up.ensures.hand in
+    let told = trusted_on a b c.give_up.ensures.goes trusted in
+    let at : Stands b f l = c.in_ok-give_up.ensures.ok trusted l stands in
+    let got = h it told in
+    subst (λ (t : Task). IsIdle t a live e) (sym c.in-MergeAll.is) (
+      free_back a b live e f turned same (free_none live f got.0),
+      merged_back a b live (hand_of e) (hand_of f) same (c.give_up.ensures.still trusted l stands) got.1,
+    ))
+    c.merge_all.ensures.idle
+
+pub returns-in-MergeAll-clause-busy : goal.returns-in-MergeAll-clause-busy
+returns-in-MergeAll-clause-busy g c = IfOk-weaker c.merge_all.result _ _ (λ w h no trusted l stands idle.
+    let a : DiskState = g.D.Disk.state c.args.disk.now in
+    let b : DiskState = g.D.Disk.state c.give_up.new.disk in
+    let e : Engine = c.args.self.now in
+    let f : Engine = c.give_up.new.self in
+    let live = c.args.live.now in
+    let turned = c.in_ok-give_up.ensures.turned in
+    let same : hand_of f ≡ hand_of e = c.give_up.ensures.hand in
+    let told = trusted_on a b c.give_up.ensures.goes trusted in
+    let at : Stands b f l = c.in_ok-give_up.ensures.ok trusted l stands in
+    let none = subst (λ (t : Task). IsIdle t a live e) c.in-MergeAll.is idle in
+    h no told (none_free live f (keeps_after a b live e f turned same)
+    (free_on a b live e f turned same none.0))
+    (merged_forth a b live (hand_of e) (hand_of f) same (c.give_up.ensures.still trusted l stands)
+    none.1)) c.merge_all.ensures.busy
+
+pub returns-in-MergeAll-clause-merge_all : goal.returns-in-MergeAll-clause-merge_all
+returns-in-MergeAll-clause-merge_all g c it = on_ok_both c.merge_all.result
+    (λ ok (merged : IsTrusted (g.D.Disk.state c.give_up.new.disk)
+    → AllMerged (g.D.Disk.state c.merge_all.new.disk) c.args.live.now (hand_of c.merge_all.new.self))
+    trusted.
+    let given = c.requires.ready trusted in let l = given.0 in let stands = given.1 in
+    let a : DiskState = g.D.Disk.state c.args.disk.now in
+    let b : DiskState = g.D.Disk.state c.give_up.new.disk in
+    let e : Engine = c.args.self.now in
+    let f : Engine = c.give_up.new.self in
+    let live = c.args.live.now in
+    let turned = c.in_ok-give_up.ensures.turned in
+    let same : hand_of f ≡ hand_of e = c.give_up.ensures.hand in
+    let told = trusted_on a b c.give_up.ensures.goes trusted in
+    let at : Stands b f l = c.in_ok-give_up.ensures.ok trusted l stands in
+    let m = ok told l at in
+    all_merged (g.D.Disk.state c.merge_all.new.disk) live (hand_of c.merge_all.new.self) m.0 m.1.hand
+    (merged told)) c.merge_all.ensures.ok c.merge_all.ensures.merged

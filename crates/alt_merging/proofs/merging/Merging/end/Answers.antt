@@ -1,28 +1,34 @@
 -- The file is finished, and takes the place of the others.
-use Rattle.std.proofs.Common.{◌≡◌, ℕ, List, [], take, drop, sym, ap, subst, ◌∙◌, refl}
+use Rattle.std.proofs.Common.{◌≡◌, take, subst, ◌∙◌}
 use Rattle.std.proofs.lemmas.Result.{on_ok_weaker}
-use Rattle.alt_cells.specs.Compacted.{compacted}
+use Rattle.std.specs.FinMap.{entries}
 use Rattle.alt_disk.specs.Disk.{DiskState, IsTrusted}
 use Rattle.alt_disk.specs.Runs.{Run, Spans}
 use Rattle.alt_disk.proofs.Runs.{trusted_back, trusted_on}
-use Rattle.alt_filemerge.specs.FileMerges.{output_of}
 use Rattle.alt_layout.specs.Moments.{IsIt}
 use Rattle.alt_cells.specs.Walks.{Anything as AnyImage}
 use Rattle.alt_rowfile.specs.Sinks.{Anything}
-use Rattle.alt_engine.specs.Merging.{IsMerging, files_at}
-use Rattle.alt_merging.proofs.StepLaws.{engine_stays, has_works, images_stay, made_of, merging_on, run_it, then_works}
+use Rattle.alt_layout.specs.Layout.{Layout}
+use Rattle.alt_merge.specs.Merges.{all_rows}
+use Rattle.alt_rowfile.specs.InHand.{file_of as row_file}
+use Rattle.alt_hand.specs.InHand.{Stands}
+use Rattle.alt_hand.specs.Merging.{files_at}
+use Rattle.alt_hand.proofs.CarryDrafts.{still_then}
+use Rattle.alt_hand.proofs.CarryLaws.{on_ok_both}
+use Rattle.alt_merging.proofs.TombstoneLaws.{purged_made}
+use Rattle.alt_merging.proofs.StepLaws.{files_stay, hand_stays, has_works, images_stay, made_of, merging_on, run_it, then_works}
 use Rattle.alt_merging.proofs.merging.Merging.end.Goals as goal
 
 pub finish-requires : goal.finish-requires
 finish-requires g c trusted =
     let merging = c.requires.job trusted in
-    (take c.args.self.taken (files_at c.args.engine.now c.args.self.family), merging.done, merging.stands)
+    (take c.args.self.taken (files_at c.args.hand.now c.args.self.family), merging.done, merging.stands)
 
 pub end_merge-requires : goal.end_merge-requires
 end_merge-requires g c =
     let a : DiskState = g.D.Disk.state c.args.disk.now in
     let b : DiskState = g.D.Disk.state c.finish.new.disk in
-    let e = c.args.engine.now in
+    let e = c.args.hand.now in
     let old = c.args.self in
     let back = λ (told : IsTrusted b).
     trusted_back a b c.in_ok-made.ensures.goes told in
@@ -31,7 +37,7 @@ end_merge-requires g c =
           let ready = c.requires.ready (back told) in
           let job = c.requires.job (back told) in (
             ready.0,
-            engine_stays a b e ready.0 ready.1 old.family old.taken job.number old.file job.merging
+            hand_stays a b e ready.0 ready.1 old.family old.taken job.number old.file job.merging
                 (run_it a b old.file Anything (subst (λ k. Run a b k Anything) job.output
                 (c.in_ok-made.ensures.any_moment (back told)))),
           );
@@ -61,7 +67,7 @@ returns-in_err-made-clause-any_moment g c trusted l stands =
     let old = c.args.self in
     let job = c.requires.job trusted in
     has_works a b c.args.live.now l
-    (images_stay a b c.args.engine.now l stands old.family old.taken job.number old.file job.merging
+    (images_stay a b c.args.hand.now l stands old.family old.taken job.number old.file job.merging
     (run_it a b old.file Anything (subst (λ k. Run a b k Anything) job.output
     (c.in_err-made.ensures.any_moment trusted))))
 
@@ -69,7 +75,7 @@ pub returns-clause-any_moment : goal.returns-clause-any_moment
 returns-clause-any_moment g c trusted l stands =
     let a : DiskState = g.D.Disk.state c.args.disk.now in
     let b : DiskState = g.D.Disk.state c.finish.new.disk in
-    let e = c.args.engine.now in
+    let e = c.args.hand.now in
     let old = c.args.self in
     let job = c.requires.job trusted in
     let spans : Spans a b (IsIt old.file) AnyImage =
@@ -78,7 +84,7 @@ returns-clause-any_moment g c trusted l stands =
     then_works a b (g.D.Disk.state c.end_merge.new.disk) c.args.live.now l
     (images_stay a b e l stands old.family old.taken job.number old.file job.merging spans)
     (c.end_merge.ensures.any_moment (trusted_on a b c.in_ok-made.ensures.goes trusted) l
-    (engine_stays a b e l stands old.family old.taken job.number old.file job.merging spans))
+    (hand_stays a b e l stands old.family old.taken job.number old.file job.merging spans))
 
 pub returns-clause-ok : goal.returns-clause-ok
 returns-clause-ok g c = on_ok_weaker c.end_merge.result (λ all trusted l stands.
@@ -87,13 +93,49 @@ returns-clause-ok g c = on_ok_weaker c.end_merge.result (λ all trusted l stands
     let old = c.args.self in
     let job = c.requires.job trusted in
     all (trusted_on a b c.in_ok-made.ensures.goes trusted) l
-    (engine_stays a b c.args.engine.now l stands old.family old.taken job.number old.file job.merging
+    (hand_stays a b c.args.hand.now l stands old.family old.taken job.number old.file job.merging
     (run_it a b old.file Anything (subst (λ k. Run a b k Anything) job.output
     (c.in_ok-made.ensures.any_moment trusted))))) c.end_merge.ensures.ok
 
 pub returns-clause-files : goal.returns-clause-files
-returns-clause-files g c = on_ok_weaker c.end_merge.result (λ all trusted. (
-  c.in_ok-made.made,
-  all (trusted_on (g.D.Disk.state c.args.disk.now) (g.D.Disk.state c.finish.new.disk)
-      c.in_ok-made.ensures.goes trusted),
-)) c.end_merge.ensures.files
+returns-clause-files g c = on_ok_both c.end_merge.result
+    (λ all (made : IsTrusted (g.D.Disk.state c.finish.new.disk) → (l : Layout)
+    → Stands (g.D.Disk.state c.finish.new.disk) c.args.hand.now l
+    → (g.D.Disk.state c.end_merge.new.disk).file (row_file c.in_ok-made.made)
+    ≡ (g.D.Disk.state c.finish.new.disk).file (row_file c.in_ok-made.made)) trusted l stands.
+    let a : DiskState = g.D.Disk.state c.args.disk.now in
+    let b : DiskState = g.D.Disk.state c.finish.new.disk in
+    let z : DiskState = g.D.Disk.state c.end_merge.new.disk in
+    let e = c.args.hand.now in
+    let old = c.args.self in
+    let job = c.requires.job trusted in
+    let told = trusted_on a b c.in_ok-made.ensures.goes trusted in
+    let spans : Spans a b (IsIt old.file) AnyImage =
+    run_it a b old.file Anything (subst (λ k. Run a b k Anything) job.output
+    (c.in_ok-made.ensures.any_moment trusted)) in
+    let of = made_of a b e l stands old job spans c.in_ok-made.made
+    (c.in_ok-made.ensures.finished trusted (take old.taken (files_at e old.family)) job.done job.stands)
+    in record {
+      made = c.in_ok-made.made;
+      files = all told;
+      purged = purged_made b z c.in_ok-made.made (entries (all_rows of.lists)) of.stands.reads
+          (made told l (hand_stays a b e l stands old.family old.taken job.number old.file job.merging
+          spans));
+    }) c.end_merge.ensures.files c.end_merge.ensures.made
+
+pub returns-clause-still : goal.returns-clause-still
+returns-clause-still g c = on_ok_weaker c.end_merge.result (λ all trusted l stands other there apart.
+    let a : DiskState = g.D.Disk.state c.args.disk.now in
+    let b : DiskState = g.D.Disk.state c.finish.new.disk in
+    let z : DiskState = g.D.Disk.state c.end_merge.new.disk in
+    let e = c.args.hand.now in
+    let old = c.args.self in
+    let job = c.requires.job trusted in
+    let spans : Spans a b (IsIt old.file) AnyImage =
+    run_it a b old.file Anything (subst (λ k. Run a b k Anything) job.output
+    (c.in_ok-made.ensures.any_moment trusted)) in
+    still_then a b z (files_at e other)
+    (files_stay a b e l stands old.family old.taken job.number old.file job.merging spans other)
+    (all (trusted_on a b c.in_ok-made.ensures.goes trusted) l
+    (hand_stays a b e l stands old.family old.taken job.number old.file job.merging spans) other there
+    apart)) c.end_merge.ensures.still

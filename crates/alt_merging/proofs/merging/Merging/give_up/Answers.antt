@@ -1,12 +1,8 @@
--- A removal beside the engine.
-use Rattle.std.proofs.Common.{◌≡◌, ℕ, List, Option}
+-- A removal beside the hand.
 use Rattle.std.specs.Prelude.{is_ok}
 use Rattle.alt_disk.specs.Disk.{DiskState}
-use Rattle.alt_disk.specs.Runs.{Spans}
-use Rattle.alt_cells.specs.Walks.{Anything}
-use Rattle.alt_layout.specs.Moments.{IsIt}
 use Rattle.alt_layout.proofs.MomentLaws.{removal}
-use Rattle.alt_merging.proofs.StepLaws.{engine_stays, images_stay, run_it}
+use Rattle.alt_merging.proofs.StepLaws.{files_stay, hand_stays, images_stay, run_it}
 use Rattle.alt_merging.proofs.merging.Merging.give_up.Goals as goal
 
 pub returns-in-Ok-clause-ok : goal.returns-in-Ok-clause-ok
@@ -14,7 +10,7 @@ returns-in-Ok-clause-ok g c trusted l left stands merging =
     let a : DiskState = g.D.Disk.state c.args.disk.now in
     let b : DiskState = g.D.Disk.state c.remove.new.self in
     let old = c.args.self in
-    engine_stays a b c.args.engine.now l stands old.family old.taken merging.number old.file
+    hand_stays a b c.args.hand.now l stands old.family old.taken merging.number old.file
     merging.merging (run_it a b old.file (λ t left. Unit {0})
     (removal a b old.file (is_ok c.remove.result) c.remove.ensures.call.call
     (c.remove.ensures.removed trusted)))
@@ -24,7 +20,7 @@ returns-clause-ok g c trusted l left stands merging =
     let a : DiskState = g.D.Disk.state c.args.disk.now in
     let b : DiskState = g.D.Disk.state c.remove.new.self in
     let old = c.args.self in
-    engine_stays a b c.args.engine.now l stands old.family old.taken merging.number old.file
+    hand_stays a b c.args.hand.now l stands old.family old.taken merging.number old.file
     merging.merging (run_it a b old.file (λ t left. Unit {0})
     (removal a b old.file (is_ok c.remove.result) c.remove.ensures.call.call
     (c.remove.ensures.removed trusted)))
@@ -34,7 +30,7 @@ returns-in-Ok-clause-any_moment g c trusted l left stands merging =
     let a : DiskState = g.D.Disk.state c.args.disk.now in
     let b : DiskState = g.D.Disk.state c.remove.new.self in
     let old = c.args.self in
-    images_stay a b c.args.engine.now l stands old.family old.taken merging.number old.file
+    images_stay a b c.args.hand.now l stands old.family old.taken merging.number old.file
     merging.merging (run_it a b old.file (λ t left. Unit {0})
     (removal a b old.file (is_ok c.remove.result) c.remove.ensures.call.call
     (c.remove.ensures.removed trusted)))
@@ -44,7 +40,27 @@ returns-clause-any_moment g c trusted l left stands merging =
     let a : DiskState = g.D.Disk.state c.args.disk.now in
     let b : DiskState = g.D.Disk.state c.remove.new.self in
     let old = c.args.self in
-    images_stay a b c.args.engine.now l stands old.family old.taken merging.number old.file
+    images_stay a b c.args.hand.now l stands old.family old.taken merging.number old.file
     merging.merging (run_it a b old.file (λ t left. Unit {0})
     (removal a b old.file (is_ok c.remove.result) c.remove.ensures.call.call
     (c.remove.ensures.removed trusted)))
+
+pub returns-in-Ok-clause-still : goal.returns-in-Ok-clause-still
+returns-in-Ok-clause-still g c trusted l left stands merging other =
+    let a : DiskState = g.D.Disk.state c.args.disk.now in
+    let b : DiskState = g.D.Disk.state c.remove.new.self in
+    let old = c.args.self in
+    files_stay a b c.args.hand.now l stands old.family old.taken merging.number old.file
+    merging.merging (run_it a b old.file (λ t left. Unit {0})
+    (removal a b old.file (is_ok c.remove.result) c.remove.ensures.call.call
+    (c.remove.ensures.removed trusted))) other
+
+pub returns-clause-still : goal.returns-clause-still
+returns-clause-still g c trusted l left stands merging other =
+    let a : DiskState = g.D.Disk.state c.args.disk.now in
+    let b : DiskState = g.D.Disk.state c.remove.new.self in
+    let old = c.args.self in
+    files_stay a b c.args.hand.now l stands old.family old.taken merging.number old.file
+    merging.merging (run_it a b old.file (λ t left. Unit {0})
+    (removal a b old.file (is_ok c.remove.result) c.remove.ensures.call.call
+    (c.remove.ensures.removed trusted))) other

@@ -1,17 +1,17 @@
 -- Its file is taken and made.
-use Rattle.std.proofs.Common.{◌≡◌, ◌<◌, ℕ, List, length, sym, ap, subst, ◌∙◌}
-use Rattle.alt_cells.specs.Walks.{RowList}
+use Rattle.std.proofs.Common.{◌≡◌, length, sym, ap, subst}
 use Rattle.alt_disk.specs.Disk.{DiskState}
 use Rattle.alt_rowfile.specs.Sinks.{Anything}
 use Rattle.alt_layout.specs.Families.{flushed_of}
-use Rattle.alt_engine.specs.Merging.{IsMerging, files_at, version_in}
-use Rattle.alt_merging.specs.Mergings.{MergingStands}
-use Rattle.alt_merging.proofs.StepLaws.{begins, engine_stays, has_still, images_stay, run_it}
+use Rattle.alt_hand.specs.Merging.{IsMerging, files_at, version_in}
+use Rattle.alt_merging.proofs.StepLaws.{begins, files_stay, hand_stays, has_still, images_stay, run_it}
+use Rattle.alt_hand.specs.Carrying.{AreStill}
+use Rattle.alt_hand.proofs.CarryDrafts.{all_still}
 use Rattle.alt_merging.proofs.merging.Merging.start.Goals as goal
 
 pub returns-in_err-file-clause-any_moment : goal.returns-in_err-file-clause-any_moment
 returns-in_err-file-clause-any_moment g c trusted l stands =
-    has_still (g.D.Disk.state c.args.disk.now) c.args.engine.now l stands
+    has_still (g.D.Disk.state c.args.disk.now) c.args.hand.now l stands
 
 pub start-requires : goal.start-requires
 start-requires g c trusted =
@@ -22,8 +22,8 @@ pub returns-in_err-merge-clause-any_moment : goal.returns-in_err-merge-clause-an
 returns-in_err-merge-clause-any_moment g c trusted l stands =
     let a : DiskState = g.D.Disk.state c.args.disk.now in
     let b : DiskState = g.D.Disk.state c.start.new.disk in
-    let n = length (files_at c.args.engine.now c.args.family) in
-    let number = flushed_of (version_in c.args.engine.now).families c.args.family in
+    let n = length (files_at c.args.hand.now c.args.family) in
+    let number = flushed_of (version_in c.args.hand.now).families c.args.family in
     let merging : IsMerging a c.take_file.new.self c.args.family n number c.in_ok-file.file =
     subst (IsMerging a c.take_file.new.self c.args.family n number) (sym c.in_ok-file.ensures.file)
     (c.in_ok-file.ensures.merging a l c.args.family stands c.requires.some) in
@@ -35,12 +35,12 @@ pub returns-clause-ok : goal.returns-clause-ok
 returns-clause-ok g c trusted l stands =
     let a : DiskState = g.D.Disk.state c.args.disk.now in
     let b : DiskState = g.D.Disk.state c.start.new.disk in
-    let n = length (files_at c.args.engine.now c.args.family) in
-    let number = flushed_of (version_in c.args.engine.now).families c.args.family in
+    let n = length (files_at c.args.hand.now c.args.family) in
+    let number = flushed_of (version_in c.args.hand.now).families c.args.family in
     let merging : IsMerging a c.take_file.new.self c.args.family n number c.in_ok-file.file =
     subst (IsMerging a c.take_file.new.self c.args.family n number) (sym c.in_ok-file.ensures.file)
     (c.in_ok-file.ensures.merging a l c.args.family stands c.requires.some) in
-    engine_stays a b c.take_file.new.self l (c.in_ok-file.ensures.stands a l stands) c.args.family n
+    hand_stays a b c.take_file.new.self l (c.in_ok-file.ensures.stands a l stands) c.args.family n
     number c.in_ok-file.file merging
     (run_it a b c.in_ok-file.file Anything (c.start.ensures.any_moment trusted))
 
@@ -48,8 +48,8 @@ pub returns-clause-any_moment : goal.returns-clause-any_moment
 returns-clause-any_moment g c trusted l stands =
     let a : DiskState = g.D.Disk.state c.args.disk.now in
     let b : DiskState = g.D.Disk.state c.start.new.disk in
-    let n = length (files_at c.args.engine.now c.args.family) in
-    let number = flushed_of (version_in c.args.engine.now).families c.args.family in
+    let n = length (files_at c.args.hand.now c.args.family) in
+    let number = flushed_of (version_in c.args.hand.now).families c.args.family in
     let merging : IsMerging a c.take_file.new.self c.args.family n number c.in_ok-file.file =
     subst (IsMerging a c.take_file.new.self c.args.family n number) (sym c.in_ok-file.ensures.file)
     (c.in_ok-file.ensures.merging a l c.args.family stands c.requires.some) in
@@ -62,8 +62,8 @@ returns-clause-job g c trusted l stands =
     let a : DiskState = g.D.Disk.state c.args.disk.now in
     let b : DiskState = g.D.Disk.state c.start.new.disk in
     let e = c.take_file.new.self in
-    let n = length (files_at c.args.engine.now c.args.family) in
-    let number = flushed_of (version_in c.args.engine.now).families c.args.family in
+    let n = length (files_at c.args.hand.now c.args.family) in
+    let number = flushed_of (version_in c.args.hand.now).families c.args.family in
     let count : length c.files-taken.result.now ≡ n = ap (λ fs. length fs) c.files-taken.ensures in
     let merging : IsMerging a e c.args.family n number c.in_ok-file.file =
     subst (IsMerging a e c.args.family n number) (sym c.in_ok-file.ensures.file)
@@ -74,3 +74,35 @@ returns-clause-job g c trusted l stands =
     c.in_ok-file.file at (run_it a b c.in_ok-file.file Anything (c.start.ensures.any_moment trusted))
     c.in_ok-merge.merge c.in_ok-merge.ensures.output c.in_ok-merge.ensures.purge
     (c.in_ok-merge.ensures.begun trusted)
+
+pub returns-in_err-file-clause-still : goal.returns-in_err-file-clause-still
+returns-in_err-file-clause-still g c trusted l stands other =
+    all_still (g.D.Disk.state c.args.disk.now) (files_at c.args.hand.now other)
+
+pub returns-in_err-merge-clause-still : goal.returns-in_err-merge-clause-still
+returns-in_err-merge-clause-still g c trusted l stands other =
+    let a : DiskState = g.D.Disk.state c.args.disk.now in
+    let b : DiskState = g.D.Disk.state c.start.new.disk in
+    let n = length (files_at c.args.hand.now c.args.family) in
+    let number = flushed_of (version_in c.args.hand.now).families c.args.family in
+    let merging : IsMerging a c.take_file.new.self c.args.family n number c.in_ok-file.file =
+    subst (IsMerging a c.take_file.new.self c.args.family n number) (sym c.in_ok-file.ensures.file)
+    (c.in_ok-file.ensures.merging a l c.args.family stands c.requires.some) in
+    subst (AreStill a b) (c.take_file.ensures.files other)
+    (files_stay a b c.take_file.new.self l (c.in_ok-file.ensures.stands a l stands) c.args.family n
+    number c.in_ok-file.file merging
+    (run_it a b c.in_ok-file.file Anything (c.start.ensures.any_moment trusted)) other)
+
+pub returns-clause-still : goal.returns-clause-still
+returns-clause-still g c trusted l stands other =
+    let a : DiskState = g.D.Disk.state c.args.disk.now in
+    let b : DiskState = g.D.Disk.state c.start.new.disk in
+    let n = length (files_at c.args.hand.now c.args.family) in
+    let number = flushed_of (version_in c.args.hand.now).families c.args.family in
+    let merging : IsMerging a c.take_file.new.self c.args.family n number c.in_ok-file.file =
+    subst (IsMerging a c.take_file.new.self c.args.family n number) (sym c.in_ok-file.ensures.file)
+    (c.in_ok-file.ensures.merging a l c.args.family stands c.requires.some) in
+    subst (AreStill a b) (c.take_file.ensures.files other)
+    (files_stay a b c.take_file.new.self l (c.in_ok-file.ensures.stands a l stands) c.args.family n
+    number c.in_ok-file.file merging
+    (run_it a b c.in_ok-file.file Anything (c.start.ensures.any_moment trusted)) other)

@@ -1,21 +1,17 @@
--- A step of the merge beside the engine.
-use Rattle.std.proofs.Common.{◌≡◌, ◌++◌, ℕ, Err, List, take, drop, sym, ap, subst, ◌∙◌, refl}
-use Rattle.alt_cells.specs.Walks.{Anything, RowList}
+-- A step of the merge beside the hand.
+use Rattle.std.proofs.Common.{◌≡◌, ◌++◌, Err, take, drop, sym, ap, subst, ◌∙◌, refl}
 use Rattle.alt_disk.specs.Disk.{DiskState}
-use Rattle.alt_disk.specs.Runs.{Spans}
 use Rattle.alt_filemerge.specs.FileMerges.{MergeStands, any_file}
-use Rattle.alt_layout.specs.Moments.{IsIt}
-use Rattle.alt_rowfile.specs.declared.rowfile.RowFile.{RowFile}
-use Rattle.alt_engine.specs.Merging.{files_at}
+use Rattle.alt_hand.specs.Merging.{files_at}
 use Rattle.alt_merging.specs.declared.merging.Merging.{Merging}
-use Rattle.alt_merging.proofs.StepLaws.{cause_of, engine_stays, images_stay, moves_it, steps}
+use Rattle.alt_merging.proofs.StepLaws.{cause_of, files_stay, hand_stays, images_stay, moves_it, sound_source, steps, unspent_source}
 use Rattle.alt_merging.proofs.merging.Merging.step.Goals as goal
 
 pub step-requires-clause-stands : goal.step-requires-clause-stands
 step-requires-clause-stands g c trusted =
     let given = c.requires trusted in
     let old = c.args.self.now in
-    let files : c.first-files.result.now ≡ take old.taken (files_at c.args.engine.now old.family) =
+    let files : c.first-files.result.now ≡ take old.taken (files_at c.args.hand.now old.family) =
     c.first-files.ensures ∙ ap (take old.taken) c.files.ensures in (
       given.3.done,
       given.1,
@@ -28,7 +24,7 @@ returns-in-Ok-clause-ok g c trusted l stands left merging =
     let a : DiskState = g.D.Disk.state c.args.disk.now in
     let b : DiskState = g.D.Disk.state c.step.new.disk in
     let old = c.args.self.now in
-    engine_stays a b c.args.engine.now l stands old.family old.taken merging.number old.file
+    hand_stays a b c.args.hand.now l stands old.family old.taken merging.number old.file
     merging.merging (moves_it a b old.merge old.file trusted merging.output c.step.ensures.moves)
 
 pub returns-in-Err-clause-ok : goal.returns-in-Err-clause-ok
@@ -36,7 +32,7 @@ returns-in-Err-clause-ok g c trusted l stands left merging =
     let a : DiskState = g.D.Disk.state c.args.disk.now in
     let b : DiskState = g.D.Disk.state c.step.new.disk in
     let old = c.args.self.now in
-    engine_stays a b c.args.engine.now l stands old.family old.taken merging.number old.file
+    hand_stays a b c.args.hand.now l stands old.family old.taken merging.number old.file
     merging.merging (moves_it a b old.merge old.file trusted merging.output c.step.ensures.moves)
 
 pub returns-in-Ok-clause-any_moment : goal.returns-in-Ok-clause-any_moment
@@ -44,7 +40,7 @@ returns-in-Ok-clause-any_moment g c trusted l stands left merging =
     let a : DiskState = g.D.Disk.state c.args.disk.now in
     let b : DiskState = g.D.Disk.state c.step.new.disk in
     let old = c.args.self.now in
-    images_stay a b c.args.engine.now l stands old.family old.taken merging.number old.file
+    images_stay a b c.args.hand.now l stands old.family old.taken merging.number old.file
     merging.merging (moves_it a b old.merge old.file trusted merging.output c.step.ensures.moves)
 
 pub returns-in-Err-clause-any_moment : goal.returns-in-Err-clause-any_moment
@@ -52,14 +48,14 @@ returns-in-Err-clause-any_moment g c trusted l stands left merging =
     let a : DiskState = g.D.Disk.state c.args.disk.now in
     let b : DiskState = g.D.Disk.state c.step.new.disk in
     let old = c.args.self.now in
-    images_stay a b c.args.engine.now l stands old.family old.taken merging.number old.file
+    images_stay a b c.args.hand.now l stands old.family old.taken merging.number old.file
     merging.merging (moves_it a b old.merge old.file trusted merging.output c.step.ensures.moves)
 
 pub returns-in-Ok-clause-taken : goal.returns-in-Ok-clause-taken
 returns-in-Ok-clause-taken g c trusted l stands left merging =
     let a : DiskState = g.D.Disk.state c.args.disk.now in
     let b : DiskState = g.D.Disk.state c.step.new.disk in
-    let e = c.args.engine.now in
+    let e = c.args.hand.now in
     let old = c.args.self.now in
     let new : Merging = record old { merge = c.step.new.self } in
     let files : c.first-files.result.now ≡ take old.taken (files_at e old.family) =
@@ -79,3 +75,33 @@ returns-in-Err-clause-cause g c e =
     cause_of (any_file c.first-files.result.now) (g.D.Disk.state c.args.disk.now)
     (g.D.Disk.state c.step.new.disk) c.in-Err.fault c.from.result c.from.ensures c.in-Err.ensures.cause
     (Err c.from.result) refl e
+
+pub returns-in-Ok-clause-still : goal.returns-in-Ok-clause-still
+returns-in-Ok-clause-still g c trusted l stands left merging other =
+    let a : DiskState = g.D.Disk.state c.args.disk.now in
+    let b : DiskState = g.D.Disk.state c.step.new.disk in
+    let old = c.args.self.now in
+    files_stay a b c.args.hand.now l stands old.family old.taken merging.number old.file
+    merging.merging (moves_it a b old.merge old.file trusted merging.output c.step.ensures.moves) other
+
+pub returns-in-Err-clause-still : goal.returns-in-Err-clause-still
+returns-in-Err-clause-still g c trusted l stands left merging other =
+    let a : DiskState = g.D.Disk.state c.args.disk.now in
+    let b : DiskState = g.D.Disk.state c.step.new.disk in
+    let old = c.args.self.now in
+    files_stay a b c.args.hand.now l stands old.family old.taken merging.number old.file
+    merging.merging (moves_it a b old.merge old.file trusted merging.output c.step.ensures.moves) other
+
+pub returns-in-Err-clause-unspent : goal.returns-in-Err-clause-unspent
+returns-in-Err-clause-unspent g c =
+    unspent_source c.in-Err.fault c.from.result c.from.ensures
+
+pub returns-in-Err-clause-sound : goal.returns-in-Err-clause-sound
+returns-in-Err-clause-sound g c trusted left merging =
+    let a : DiskState = g.D.Disk.state c.args.disk.now in
+    let old = c.args.self.now in
+    let files : c.first-files.result.now ≡ take old.taken (files_at c.args.hand.now old.family) =
+    c.first-files.ensures ∙ ap (take old.taken) c.files.ensures in
+    sound_source c.in-Err.fault c.from.result c.from.ensures
+    (c.in-Err.ensures.sound trusted merging.done left
+    (subst (λ fs. MergeStands a fs old.merge merging.done left) (sym files) merging.stands))

@@ -3,7 +3,7 @@ use Rattle.std.proofs.Common.{◌≡◌, ◌<◌, ◌≤◌, ℕ, List, length, 
 use Rattle.std.specs.List.{HoldsAt}
 use Rattle.alt_machine.specs.State.{Texts}
 use Rattle.alt_schema.specs.declared.schema.TableSchema.{TableSchema}
-use Rattle.alt_opening.specs.Opening.{IsLeastAbove, IsNextTable}
+use Rattle.alt_opening.specs.private.Opening.{IsLeastAbove, IsNextTable}
 use Rattle.alt_opening.proofs.EachTable.{next_table}
 use Rattle.alt_opening.proofs.catalog.Catalog.above.Goals as goal
 

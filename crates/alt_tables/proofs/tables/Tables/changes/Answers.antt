@@ -8,7 +8,6 @@ use Rattle.alt_tables.proofs.ChangePages.{no_changes, one_changes, page_changes,
 use Rattle.alt_tables.proofs.Pages.{find_fault, engine_fault}
 use Rattle.alt_tables.proofs.Standing.{stays, there}
 use Rattle.alt_disk.proofs.Runs.{tells_of}
-use Rattle.alt_tables.specs.Faults.{IsFindFault}
 use Rattle.alt_tables.proofs.tables.Tables.changes.Goals as goal
 
 pub returns-in-Ok-rows-clause-changes : goal.returns-in-Ok-rows-clause-changes
@@ -58,7 +57,7 @@ returns-in_default-stream_family-clause-changes g c s t stands at =
     ∙ take_none c.args.most)
 
 pub returns-clause-fault : goal.returns-clause-fault
-returns-clause-fault g c s stands = subst IsFindFault (sym c.fault_of.ensures)
-    (engine_fault c.in-Err.fault c.in-Err.ensures.unspent (c.in-Err.ensures.undamaged
+returns-clause-fault g c s stands = engine_fault c.in-Err.fault c.from.result c.from.ensures
+    c.in-Err.ensures.unspent (c.in-Err.ensures.undamaged
     (tells_of (g.D.Disk.state c.args.disk.now) stands.rows.trusted) stands.rows.layout
-    stands.rows.is.reads))
+    stands.rows.is.hand.reads)

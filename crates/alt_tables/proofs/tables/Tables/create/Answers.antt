@@ -31,7 +31,7 @@ returns-then-self-clause-writes g c s stands =
     (table_lacked (g.D.Disk.state c.args.disk.now) c.args.self.now s stands c.args.schema
     c.requires.few c.requires.made c.requires.new
     c.requires.number c.requires.family c.requires.absent c.args.self.now.family
-    (lacks_table_family c.args.self.now.engine.next c.args.self.now.family
+    (lacks_table_family c.args.self.now.engine.hand.next c.args.self.now.family
     (omega (arith, c.next_number-number.ensures.next, c.if-number-ge-NUMBERS_END.false))
     (omega arith)))
     stands)
@@ -108,7 +108,7 @@ returns-in-Ok-clause-writes g c s stands =
     turned.valid (c.make.ensures.kept.0 ∙ c.in_ok-add.ensures.ok) c.in_ok-live.ensures
     (ap (λ n. c.args.self.now.family + n) c.family_count.ensures.count) c.in-Ok.ensures.next)
     (sym (λ i. table_lack (stands.number i) (stands.family i))
-    ∙ has_table c.args.self.now.engine.next
+    ∙ has_table c.args.self.now.engine.hand.next
     c.args.self.now.family
     (omega (arith, c.next_number-number.ensures.next, c.if-number-ge-NUMBERS_END.false))
     (omega arith))
@@ -143,13 +143,13 @@ returns-clause-disk g c s stands =
     (omega (arith, c.if-self.false)))
 
 pub returns-in-Ok-clause-lacking : goal.returns-in-Ok-clause-lacking
-returns-in-Ok-clause-lacking g c lacks = absurd (not_lacking c.args.self.now.engine.next
+returns-in-Ok-clause-lacking g c lacks = absurd (not_lacking c.args.self.now.engine.hand.next
     c.args.self.now.family
     (omega (arith, c.next_number-number.ensures.next, c.if-number-ge-NUMBERS_END.false))
     (omega (arith, c.if-self.false)) lacks)
 
 pub returns-clause-lacking : goal.returns-clause-lacking
-returns-clause-lacking g c lacks = absurd (not_lacking c.args.self.now.engine.next
+returns-clause-lacking g c lacks = absurd (not_lacking c.args.self.now.engine.hand.next
     c.args.self.now.family
     (omega (arith, c.next_number-number.ensures.next, c.if-number-ge-NUMBERS_END.false))
     (omega (arith, c.if-self.false)) lacks)

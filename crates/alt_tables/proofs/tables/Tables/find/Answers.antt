@@ -5,7 +5,6 @@ use Rattle.std.specs.FinMap as map
 use Rattle.alt_disk.proofs.Runs.{tells_of}
 use Rattle.alt_tables.proofs.Standing.{stays, there, item_found, item_reads, row_shows}
 use Rattle.alt_tables.proofs.Pages.{engine_fault}
-use Rattle.alt_tables.specs.Faults.{IsFindFault}
 use Rattle.alt_tables.proofs.tables.Tables.find.Goals as goal
 
 pub returns-in-Err-clause-stays : goal.returns-in-Err-clause-stays
@@ -55,7 +54,7 @@ returns-in-Err-Bad-clause-fault g c s stands =
     ∙ ap (shown l c.in-Some.schema.now.family) c.as_slice.ensures.same))
 
 pub returns-in-Err-clause-fault : goal.returns-in-Err-clause-fault
-returns-in-Err-clause-fault g c s stands = subst IsFindFault (sym c.fault_of.ensures)
-    (engine_fault c.in-Err.fault c.in-Err.ensures.unspent (c.in-Err.ensures.undamaged
+returns-in-Err-clause-fault g c s stands = engine_fault c.in-Err.fault c.from.result c.from.ensures
+    c.in-Err.ensures.unspent (c.in-Err.ensures.undamaged
     (tells_of (g.D.Disk.state c.args.disk.now) stands.rows.trusted) stands.rows.layout
-    stands.rows.is.reads))
+    stands.rows.is.hand.reads)

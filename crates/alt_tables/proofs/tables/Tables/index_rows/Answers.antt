@@ -8,7 +8,6 @@ use Rattle.alt_opening.proofs.OneState.{some}
 use Rattle.alt_tables.proofs.Pages.{find_fault, page_kept, same_table, engine_fault}
 use Rattle.alt_tables.proofs.Standing.{stays, there}
 use Rattle.alt_disk.proofs.Runs.{tells_of}
-use Rattle.alt_tables.specs.Faults.{IsFindFault}
 use Rattle.alt_tables.proofs.tables.Tables.index_rows.Goals as goal
 
 pub index_at-index-requires : goal.index_at-index-requires
@@ -55,7 +54,7 @@ returns-in-Err-clause-stays g c s = stays (g.D.Disk.state c.args.disk.now)
     c.rows.ensures.same c.requires.ready s
 
 pub returns-in-Err-clause-fault : goal.returns-in-Err-clause-fault
-returns-in-Err-clause-fault g c s stands = subst IsFindFault (sym c.fault_of.ensures)
-    (engine_fault c.in-Err.fault c.in-Err.ensures.unspent (c.in-Err.ensures.undamaged
+returns-in-Err-clause-fault g c s stands = engine_fault c.in-Err.fault c.from.result c.from.ensures
+    c.in-Err.ensures.unspent (c.in-Err.ensures.undamaged
     (tells_of (g.D.Disk.state c.args.disk.now) stands.rows.trusted) stands.rows.layout
-    stands.rows.is.reads))
+    stands.rows.is.hand.reads)

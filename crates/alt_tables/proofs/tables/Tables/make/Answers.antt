@@ -22,8 +22,8 @@ returns-in-Ok-clause-disk g c s r holds valid turns =
 
 pub returns-in-Err-clause-no_memory : goal.returns-in-Err-clause-no_memory
 returns-in-Err-clause-no_memory g c none =
-    c.in-Err.ensures.no_memory (ap (λ f. Err f) (memory_wanted c.in-Err.fault
-    (sym c.fault_of.ensures ∙ same_Err _ _ _ refl none)))
+    c.in-Err.ensures.no_memory (ap (λ f. Err f) (memory_wanted c.in-Err.fault c.from.result
+    c.from.ensures (same_Err _ _ _ refl none)))
 
 pub returns-in-Err-clause-disk : goal.returns-in-Err-clause-disk
 returns-in-Err-clause-disk g c s r holds valid turns =

@@ -1,4 +1,5 @@
 -- The store that was opened stands for the state, and so do the tables that are made of it.
+use Rattle.alt_tables.proofs.Left.{whole_on}
 use Rattle.alt_tables.proofs.tables.Tables.recover.Goals as goal
 
 pub returns-in-Ok-live-clause-stands : goal.returns-in-Ok-live-clause-stands
@@ -11,3 +12,15 @@ returns-in-Ok-live-clause-stands g c trusted s stood =
       rows = opens.rows;
       valid = opens.valid;
     }
+
+pub returns-in-Err-clause-whole : goal.returns-in-Err-clause-whole
+returns-in-Err-clause-whole g c tells whole = whole_on (g.D.Disk.state c.args.disk.now)
+    (g.D.Disk.state c.open_store.new.disk) c.in-Err.ensures.goes c.in-Err.ensures.any_moment tells whole
+
+pub returns-in-Ok-live-clause-whole : goal.returns-in-Ok-live-clause-whole
+returns-in-Ok-live-clause-whole g c tells whole = whole_on (g.D.Disk.state c.args.disk.now)
+    (g.D.Disk.state c.open_store.new.disk) c.in-Ok.ensures.goes c.in-Ok.ensures.any_moment tells whole
+
+pub returns-in-Err-live-clause-whole : goal.returns-in-Err-live-clause-whole
+returns-in-Err-live-clause-whole g c tells whole = whole_on (g.D.Disk.state c.args.disk.now)
+    (g.D.Disk.state c.open_store.new.disk) c.in-Ok.ensures.goes c.in-Ok.ensures.any_moment tells whole

@@ -1,7 +1,6 @@
 -- The families of all tables are live, so the rows of the state stay.
 use Rattle.std.proofs.Common.{sym, subst, refl}
-use Rattle.alt_tables.specs.Faults.{IsWorkFault}
-use Rattle.alt_tables.proofs.Working.{work_fault, worked_left, worked_stands}
+use Rattle.alt_tables.proofs.Working.{merged_for, work_fault, worked_left, worked_stands}
 use Rattle.alt_tables.proofs.tables.Tables.work.Goals as goal
 
 pub work-requires-clause-ready : goal.work-requires-clause-ready
@@ -28,5 +27,11 @@ returns-in-Err-clause-disk g c s stands =
     (c.in-Err.ensures.any_moment stands.rows.trusted stands.rows.layout stands.rows.is)
 
 pub returns-in-Err-clause-fault : goal.returns-in-Err-clause-fault
-returns-in-Err-clause-fault g c trusted = subst IsWorkFault (sym c.fault_of.ensures)
-    (work_fault c.in-Err.fault c.in-Err.ensures.spent (c.in-Err.ensures.undamaged trusted))
+returns-in-Err-clause-fault g c trusted = work_fault c.in-Err.fault c.from.result c.from.ensures
+    c.in-Err.ensures.spent (c.in-Err.ensures.undamaged trusted)
+
+pub returns-in-Ok-clause-merge_all : goal.returns-in-Ok-clause-merge_all
+returns-in-Ok-clause-merge_all g c is trusted s stands =
+    merged_for (g.D.Disk.state c.args.disk.now) c.args.self.now s stands c.as_slice.result.now
+    c.as_slice.ensures.same c.as_slice.ensures.live (g.D.Disk.state c.work.new.disk).file
+    (c.in-Ok.ensures.merge_all is trusted)

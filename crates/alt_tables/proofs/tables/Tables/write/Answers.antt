@@ -1,5 +1,7 @@
 -- What is there differs from what is to be there, so one write is made.
-use Rattle.std.proofs.Common.{sym, ap, ◌∙◌, List, subst, arith, rules}
+use Rattle.std.proofs.Common.{◌≡◌, sym, ap, ◌∙◌, List, Some, subst, arith, rules}
+use Rattle.alt_cells.specs.declared.batch.RowChange.{RowChange}
+use Rattle.alt_tables.specs.RowChanges.{changed_rows, item_changes}
 use Rattle.alt_disk.proofs.Runs.{quiet_start}
 use Rattle.alt_machine.specs.Outcomes.{a_number}
 use Rattle.alt_machine.specs.State.{State}
@@ -7,12 +9,15 @@ use Rattle.alt_machine.specs.Writes.{after_item, item_writes}
 use Rattle.alt_machine.proofs.Lacks.{has_number, lacks_number}
 use Rattle.alt_tables.specs.Faults.{AreMade, BreakOff}
 use Rattle.alt_tables.specs.Images.{Leaves}
-use Rattle.alt_tables.specs.Stands.{Stands}
+use Rattle.alt_tables.specs.Stands.{HasRows, Stands}
 use Rattle.alt_tables.specs.declared.faults.TableFault.TheVariants.{Spent}
 use Rattle.alt_machine.specs.Wanted.{number_lack}
 use Rattle.alt_tables.proofs.Holding.{leaves_quiet}
 use Rattle.alt_tables.proofs.Making.{broke, item_differs, item_turned, item_stands, one_made, want_told, spent}
 use Rattle.alt_tables.proofs.tables.Tables.write.Goals as goal
+
+same_Some : {A : Type 0} (x y : A) → Some x ≡ Some y → x ≡ y
+same_Some x y e = cc
 
 pub returns-then-number-ge-NUMBERS_END-clause-disk :
     goal.returns-then-number-ge-NUMBERS_END-clause-disk
@@ -137,3 +142,14 @@ returns-then-number-ge-NUMBERS_END-clause-writes g c s t stands at =
     (ap number_lack (sym (c.next_number-number.ensures.next ∙ stands.number))
     ∙ lacks_number c.next_number-number.result
     (omega (arith, c.if-number-ge-NUMBERS_END.true))) stands)
+
+pub returns-in-Ok-clause-rows : goal.returns-in-Ok-clause-rows
+returns-in-Ok-clause-rows g c some trusted d l there rows =
+    let same : c.in-Some.schema.now ≡ d =
+    same_Some c.in-Some.schema.now d (c.in-Some.ensures.table ∙ there) in
+    subst (λ (cs : List RowChange). HasRows (g.D.Disk.state c.make.new.disk) c.make.new.self
+    (changed_rows l cs))
+    (c.in_ok-batch.ensures.changes
+    ∙ (λ i. item_changes (same i) (c.next_number-number.ensures.next i) c.args.moment
+    c.args.found.place c.args.found.item c.args.new))
+    (c.in-Ok.ensures.rows trusted l rows)

@@ -1,5 +1,13 @@
 -- The write at the place of the key.
-use Rattle.std.proofs.Common.{◌≡◌, ◌∙◌, subst, List, IfOk}
+use Rattle.std.proofs.Common.{◌≡◌, ◌∙◌, subst, ℕ, List, Option, Some, Result, Ok, Err, IfOk, IsSome, option_map}
+use Rattle.std.specs.FinMap as map
+use Rattle.alt_cells.specs.declared.batch.RowChange.{RowChange}
+use Rattle.alt_disk.specs.Disk.{DiskState, IsTrusted}
+use Rattle.alt_layout.specs.Layout.{Layout}
+use Rattle.alt_schema.specs.declared.schema.TableSchema.{TableSchema}
+use Rattle.alt_tables.specs.RowChanges.{changed_rows, item_changes}
+use Rattle.alt_tables.specs.declared.tables.Tables.{Tables}
+use Rattle.alt_value.specs.Tree.{Pair}
 use Rattle.alt_disk.proofs.Runs.{quiet_start}
 use Rattle.alt_machine.specs.Keys.{place_of}
 use Rattle.alt_machine.specs.Outcomes.{a_number}
@@ -8,7 +16,7 @@ use Rattle.alt_machine.specs.Writes.{item_writes}
 use Rattle.alt_tables.specs.Faults.{Writes}
 use Rattle.alt_tables.specs.Found.{number_taken}
 use Rattle.alt_tables.specs.Images.{Leaves}
-use Rattle.alt_tables.specs.Stands.{Stands, number_of}
+use Rattle.alt_tables.specs.Stands.{HasRows, Stands, catalog_of, number_of}
 use Rattle.alt_tables.proofs.Holding.{leaves_quiet}
 use Rattle.alt_tables.proofs.Standing.{known, one_place}
 use Rattle.alt_tables.proofs.tables.Tables.write_item.Goals as goal
@@ -70,3 +78,34 @@ returns-in_default-copy_of-clause-disk g c s t place stands at here =
     leaves_quiet (g.D.Disk.state c.args.disk.now) (g.D.Disk.state c.args.disk.now)
     c.args.self.now.engine s _ stands.rows stands.valid
     (quiet_start (g.D.Disk.state c.args.disk.now))
+
+-- what holds at Ok may be weakened
+at_ok : {A E : Type 0} (P Q : A → Type 0) → ((x : A) → P x → Q x) → (r : Result A E) → IfOk r P
+    → IfOk r Q
+at_ok P Q leads (Ok x) h = leads x h
+at_ok P Q leads (Err e) h = tt
+
+pub returns-clause-rows : goal.returns-clause-rows
+returns-clause-rows g c =
+    let a : DiskState = g.D.Disk.state c.args.disk.now in
+    let b : DiskState = g.D.Disk.state c.write.new.disk in
+    let old : Tables = c.args.self.now in
+    let new : Tables = c.write.new.self in
+    let changes : TableSchema → List ℕ → Option (List Pair) → Option (List Pair)
+    → List RowChange = λ d. item_changes d (number_of old) c.args.moment in
+    at_ok (λ n. IsSome n → IsTrusted a → (d : TableSchema) (l : Layout)
+    → map.get (catalog_of old) c.args.table.now ≡ Some d → HasRows a old l
+    → HasRows b new (changed_rows l (changes d c.in-Ok.place c.in-Ok-copy_of.item
+    c.in-Ok-copy_of-2.new)))
+    (λ n. IsSome n → IsTrusted a → (d : TableSchema) (place : List ℕ) (l : Layout)
+    → map.get (catalog_of old) c.args.table.now ≡ Some d
+    → place_of d c.args.key.now ≡ Some place → HasRows a old l
+    → HasRows b new (changed_rows l (changes d place (option_map (λ i. i.now) c.args.old)
+    (option_map (λ i. i.now) c.args.new))))
+    (λ n h some trusted d place l there here rows.
+    let same = one_place (place_of d c.args.key.now) c.in-Ok.place place
+    (c.in-Ok.ensures.place d there) here in
+    subst (λ cs. HasRows b new (changed_rows l cs))
+    (λ i. changes d (same i) (c.in-Ok-copy_of.ensures i) (c.in-Ok-copy_of-2.ensures i))
+    (h some trusted d l there rows))
+    c.write.result c.write.ensures.rows

@@ -1,6 +1,6 @@
 -- What was read of the bytes was read of more of them; where memory was wanting they are as they were.
 use Rattle.std.proofs.Common.{List, ℕ, sym, subst}
-use Rattle.alt_talks.specs.HeadViews.{AreRead}
+use Rattle.alt_talks.specs.private.HeadViews.{AreRead}
 use Rattle.alt_talks.proofs.Fronts.{more_read}
 use Rattle.alt_talks.proofs.front.Front.extend.Goals as goal
 use Rattle.alt_talks.proofs.front.Front.extend.Goals.{in-Ok, in-Err}

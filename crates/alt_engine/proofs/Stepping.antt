@@ -1,0 +1,79 @@
+-- A step behind a flush that had nothing to do.
+use Rattle.std.proofs.Common.{◌≡◌, ◌∙◌, ⊎_elim, ℕ, List, [], ◌∷◌, Some, None, length, sym, ap, subst}
+use Rattle.std.specs.List.{AllByRecursion}
+use Rattle.alt_disk.specs.Disk.{DiskState}
+use Rattle.alt_manifest.specs.Versions.{IsIn}
+use Rattle.alt_hand.specs.Merging.{HasMany, IsFirstMany, files_at}
+use Rattle.alt_hand.specs.Working.{IsDueFor, IsFileSpent, IsNoDamage}
+use Rattle.alt_hand.specs.declared.hand.EngineFault.{EngineFault}
+use Rattle.alt_hand.specs.declared.hand.Hand.{Hand}
+use Rattle.alt_merging.specs.Mergings.{GivesWay, MergingStands, family_of, taken_of}
+use Rattle.alt_merging.specs.declared.merging.Merging.{Merging}
+use Rattle.alt_merging.proofs.EachLaws.{file_for, whole_for}
+use Rattle.alt_engine.specs.InHand.{IsGoing, hand_of, merge_of}
+use Rattle.alt_engine.specs.Working.{Begins, Ended, Furthered}
+use Rattle.alt_engine.specs.declared.engine.Engine.{Engine}
+use Rattle.alt_engine.proofs.Turning.{free_none}
+
+-- ---- the same disk and the same rows
+
+pub at_both : (P : DiskState → Hand → Type 0) (a b : DiskState) (e f : Hand) → b ≡ a → f ≡ e → P a e
+    → P b f
+at_both P a b e f p q h = subst (P b) (sym q) (subst (λ s. P s e) (sym p) h)
+
+pub back_both : (P : DiskState → Hand → Type 0) (a b : DiskState) (e f : Hand) → b ≡ a → f ≡ e → P b f
+    → P a e
+back_both P a b e f p q h = subst (λ s. P s e) p (subst (P b) q h)
+
+pub furthered_back : (a b d : DiskState) (e x new : Engine) (job : Merging) → b ≡ a
+    → hand_of x ≡ hand_of e → Furthered b d x new job → Furthered a d e new job
+furthered_back a b d e x new job p q h = record {
+  after = h.after;
+  is = h.is;
+  further = λ left stands. h.further left (at_both (λ s k. MergingStands s k job left) a b (hand_of e)
+      (hand_of x) p q stands);
+}
+
+pub ended_back : (a b d : DiskState) (e x new : Engine) (job : Merging) → b ≡ a
+    → hand_of x ≡ hand_of e → Ended b d x new job → Ended a d e new job
+ended_back a b d e x new job p q h = record {
+  none = h.none;
+  last = λ left stands. h.last left (at_both (λ s k. MergingStands s k job left) a b (hand_of e)
+      (hand_of x) p q stands);
+  gives = subst (λ (k : Hand). GivesWay d k (hand_of new) (family_of job) (taken_of job)) q h.gives;
+}
+
+pub begins_at : (live : List ℕ) (e x new : Engine) → hand_of x ≡ hand_of e → merge_of e ≡ None
+    → Begins live x new → Begins live e new
+begins_at live e x new q none h = record {
+  free = free_none live e none;
+  family = h.family;
+  first = subst (λ (k : Hand). IsFirstMany live k h.family) q h.first;
+  job = h.job;
+  is = h.is;
+  of = h.of;
+  all = h.all ∙ ap (λ (k : Hand). length (files_at k h.family)) q;
+}
+
+-- the merge that was taken out stands
+pub taken_stands : (s : DiskState) (e : Engine) (j : Merging) → merge_of e ≡ Some j
+    → IsGoing s (hand_of e) (merge_of e) → IsGoing s (hand_of e) (Some j)
+taken_stands s e j is going = subst (IsGoing s (hand_of e)) is going
+
+-- ---- faults of flushes
+
+pub due_file : (live : List ℕ) (e : Hand) (f : EngineFault) → IsDueFor live e f → IsFileSpent f
+due_file live e f due = ⊎_elim (λ all. file_for _ f all) (λ one. file_for _ f one.2) due
+
+pub due_whole : (live : List ℕ) (e : Hand) (f : EngineFault) → IsDueFor live e f → IsNoDamage f
+due_whole live e f due = ⊎_elim (λ all. whole_for _ f all) (λ one. whole_for _ f one.2) due
+
+-- ---- many files
+
+-- None of the families has many.
+pub none_of : (live : List ℕ) (e : Hand) → AllByRecursion (λ family. HasMany e family → ⊥) live
+    → (family : ℕ) → IsIn live family → HasMany e family → ⊥
+none_of [] e all family there = absurd there
+none_of (f ∷ fs) e all family there = ⊎_elim
+    (λ (same : family ≡ f). subst (λ k. HasMany e k → ⊥) (sym same) all.0)
+    (λ (later : IsIn fs family). none_of fs e all.1 family later) there

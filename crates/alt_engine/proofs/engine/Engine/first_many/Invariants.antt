@@ -1,9 +1,0 @@
--- None so far has many files.
-use Rattle.std.proofs.Common.{take}
-use Rattle.std.specs.List.{AllByRecursion}
-use Rattle.alt_engine.specs.Merging.{HasMany}
-use Rattle.alt_engine.proofs.engine.Engine.first_many.Given as goal
-
-abbrev pub invariant-loop-family : goal.invariant-loop-family
-invariant-loop-family l =
-    AllByRecursion (λ family. HasMany l.self family → ⊥) (take l.family-index l.live)

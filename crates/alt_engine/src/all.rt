@@ -1,0 +1,143 @@
+//! Flushes and merges of all live families.
+
+ghost use Rattle.std.specs.Prelude.{◌≡◌, ⊤, IfErr, IfOk, OnOk, IsErrOf, IsTrue, None, true, false};
+ghost use Rattle.alt_base.specs.Counts.{Rose};
+ghost use Rattle.alt_disk.specs.Disk.{IsTrusted, Goes};
+ghost use Rattle.alt_disk.specs.Runs.{Quiet, Spans};
+ghost use Rattle.alt_layout.specs.Layout.{Layout};
+ghost use Rattle.alt_hand.specs.InHand.{Stands as HandStands, length_of};
+ghost use Rattle.alt_hand.specs.Opened.{IsUnspent};
+ghost use Rattle.alt_hand.specs.Working.{AreAllFlushed, AreLive, IsAllFor, IsFileSpent, IsNoDamage, Works, WorksIn};
+ghost use Rattle.alt_engine.specs.InHand.{Stands, hand_of, limits_of, merge_of, next_file_of, next_of};
+ghost use Rattle.alt_engine.specs.Working.{AllMerged, IsNeeded, KeepsMerge};
+
+use crate::engine::Engine;
+use crate::work::{Task, Worked};
+use alt_disk::Disk;
+use alt_hand::EngineFault;
+use alt_merging::merge_each;
+
+impl Engine {
+    /// Flushes all live families, where the log has entries and a merge under way is of a live family.
+    pub(crate) fn flush_all<D: Disk>(
+        &mut self,
+        disk: &mut D,
+        live: &[u32],
+    ) -> Result<Worked, EngineFault>
+        requires ready { IsTrusted (D.state disk.old)
+            → (l : Layout) × Stands (D.state disk.old) self.old l }
+        requires live { AreLive live.now }
+        requires keeps { KeepsMerge live.now self.old }
+        ensures ok { OnOk result (IsTrusted (D.state disk.old) → (l : Layout)
+            → Stands (D.state disk.old) self.old l
+            → (m : Layout) × Stands (D.state disk.new) self.new m × Works live.now l m) }
+        ensures next { next_of self.new ≡ next_of self.old }
+        ensures limits { limits_of self.new ≡ limits_of self.old }
+        ensures idle { IfOk result (λ w. w ≡ Worked.Idle → length_of (hand_of self.old) ≡ 0) }
+        ensures idle_disk { IfOk result (λ w. w ≡ Worked.Idle → D.state disk.new ≡ D.state disk.old) }
+        ensures idle_engine { IfOk result (λ w. w ≡ Worked.Idle → self.new ≡ self.old) }
+        ensures busy { IfOk result (λ w. (w ≡ Worked.Idle → ⊥) → length_of (hand_of self.old) ≡ 0 → ⊥) }
+        ensures unwent { IfOk result (λ w. w ≡ Worked.Went → ⊥) }
+        ensures done { IfOk result (λ w. w ≡ Worked.Done
+            → AreAllFlushed live.now (hand_of self.old) (hand_of self.new)) }
+        ensures length { OnOk result (length_of (hand_of self.new) ≡ 0) }
+        ensures any_moment { IsTrusted (D.state disk.old) → (l : Layout)
+            → Stands (D.state disk.old) self.old l
+            → Spans (D.state disk.old) (D.state disk.new) (λ _. ⊤) (WorksIn live.now l) }
+        ensures needed { IfErr result (IsAllFor live.now (hand_of self.old)) }
+        ensures goes { Goes (D.state disk.old) (D.state disk.new) }
+        ensures cause { IsErrOf result EngineFault.Failed
+            → Rose (D.state disk.old).faults (D.state disk.new).faults }
+        ensures well { OnOk result ((D.state disk.new).faults ≡ (D.state disk.old).faults) }
+    {
+        if !self.hand.has_entries() {
+            return Ok(Worked::Idle);
+        }
+        self.hand.flush_all(disk, live)?;
+        self.many = self.hand.any_many();
+        Ok(Worked::Done)
+    }
+
+    /// Ends the merge under way, which is of a live family, and merges the files of each live family.
+    pub(crate) fn merge_all<D: Disk>(
+        &mut self,
+        disk: &mut D,
+        live: &[u32],
+    ) -> Result<Worked, EngineFault>
+        requires ready { IsTrusted (D.state disk.old)
+            → (l : Layout) × Stands (D.state disk.old) self.old l }
+        requires live { AreLive live.now }
+        requires keeps { KeepsMerge live.now self.old }
+        ensures ok { OnOk result (IsTrusted (D.state disk.old) → (l : Layout)
+            → Stands (D.state disk.old) self.old l
+            → (m : Layout) × Stands (D.state disk.new) self.new m × Works live.now l m) }
+        ensures next { next_of self.new ≡ next_of self.old }
+        ensures limits { limits_of self.new ≡ limits_of self.old }
+        ensures idle { IfOk result (λ w. w ≡ Worked.Idle → IsTrusted (D.state disk.old)
+            → (merge_of self.old ≡ None)
+            × AllMerged (D.state disk.old) live.now (hand_of self.old)) }
+        ensures idle_disk { IfOk result (λ w. w ≡ Worked.Idle → IsTrue (D.state disk.old).tells
+            → Quiet (D.state disk.old) (D.state disk.new)) }
+        ensures idle_engine { IfOk result (λ w. w ≡ Worked.Idle → self.new ≡ self.old) }
+        ensures busy { IfOk result (λ w. (w ≡ Worked.Idle → ⊥) → IsTrusted (D.state disk.old)
+            → merge_of self.old ≡ None
+            → AllMerged (D.state disk.old) live.now (hand_of self.old) → ⊥) }
+        ensures unwent { IfOk result (λ w. w ≡ Worked.Went → ⊥) }
+        ensures none { OnOk result (merge_of self.new ≡ None) }
+        ensures merged { OnOk result (IsTrusted (D.state disk.old)
+            → AllMerged (D.state disk.new) live.now (hand_of self.new)) }
+        ensures any_moment { IsTrusted (D.state disk.old) → (l : Layout)
+            → Stands (D.state disk.old) self.old l
+            → Spans (D.state disk.old) (D.state disk.new) (λ _. ⊤) (WorksIn live.now l) }
+        ensures spent { IfErr result IsFileSpent }
+        ensures needed { IsTrusted (D.state disk.old)
+            → IfErr result (IsNeeded Task.MergeAll live.now self.old) }
+        ensures sound { IsTrusted (D.state disk.old) → IfErr result IsNoDamage }
+        ensures goes { Goes (D.state disk.old) (D.state disk.new) }
+        ensures cause { IsErrOf result EngineFault.Failed
+            → Rose (D.state disk.old).faults (D.state disk.new).faults }
+        ensures well { OnOk result ((D.state disk.new).faults ≡ (D.state disk.old).faults) }
+    {
+        let ended = self.end(disk, live)?;
+        let merged = merge_each(self.alloc, disk, &mut self.hand, live)?;
+        if !ended && !merged {
+            return Ok(Worked::Idle);
+        }
+        self.many = self.hand.any_many();
+        Ok(Worked::Done)
+    }
+
+    /// Ends the merge under way, false where there is none.
+    fn end<D: Disk>(&mut self, disk: &mut D, live: &[u32]) -> Result<bool, EngineFault>
+        requires ready { IsTrusted (D.state disk.old)
+            → (l : Layout) × Stands (D.state disk.old) self.old l }
+        requires keeps { KeepsMerge live.now self.old }
+        ensures ok { OnOk result (IsTrusted (D.state disk.old) → (l : Layout)
+            → Stands (D.state disk.old) self.old l
+            → (m : Layout) × HandStands (D.state disk.new) (hand_of self.new) m × Works live.now l m) }
+        ensures none { OnOk result (merge_of self.new ≡ None) }
+        ensures same { IfOk result (λ ended. ended ≡ false → (merge_of self.old ≡ None)
+            × ((D.state disk.new ≡ D.state disk.old) × (self.new ≡ self.old))) }
+        ensures some { IfOk result (λ ended. ended ≡ true → merge_of self.old ≡ None → ⊥) }
+        ensures next { next_of self.new ≡ next_of self.old }
+        ensures limits { limits_of self.new ≡ limits_of self.old }
+        ensures next_file { OnOk result (next_file_of self.new ≡ next_file_of self.old) }
+        ensures any_moment { IsTrusted (D.state disk.old) → (l : Layout)
+            → Stands (D.state disk.old) self.old l
+            → Spans (D.state disk.old) (D.state disk.new) (λ _. ⊤) (WorksIn live.now l) }
+        ensures unspent { IfErr result IsUnspent }
+        ensures sound { IsTrusted (D.state disk.old) → IfErr result IsNoDamage }
+        ensures goes { Goes (D.state disk.old) (D.state disk.new) }
+        ensures cause { IsErrOf result EngineFault.Failed
+            → Rose (D.state disk.old).faults (D.state disk.new).faults }
+        ensures well { OnOk result ((D.state disk.new).faults ≡ (D.state disk.old).faults) }
+    {
+        match self.merging.take() {
+            Some(merging) => {
+                merging.complete(disk, &mut self.hand, live)?;
+                Ok(true)
+            }
+            None => Ok(false),
+        }
+    }
+}

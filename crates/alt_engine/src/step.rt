@@ -1,0 +1,174 @@
+//! A step: the first flush that applies, and else the merge that is under way or the beginning of one.
+
+ghost use Rattle.std.specs.Prelude.{◌≡◌, ◌⊎◌, ◌+◌, ⊤, ℕ, None, IfErr, IfOk, OnOk, IsErrOf};
+ghost use Rattle.alt_base.specs.Counts.{Rose};
+ghost use Rattle.alt_cells.specs.Walks.{RowList};
+ghost use Rattle.alt_disk.specs.Disk.{IsTrusted, Goes};
+ghost use Rattle.alt_disk.specs.Runs.{Spans};
+ghost use Rattle.alt_layout.specs.Layout.{Layout};
+ghost use Rattle.alt_layout.specs.Moments.{Has};
+ghost use Rattle.alt_manifest.specs.Versions.{IsIn};
+ghost use Rattle.alt_hand.specs.Drafting.{IsSpentFor};
+ghost use Rattle.alt_hand.specs.InHand.{Stands as HandStands, length_of};
+ghost use Rattle.alt_hand.specs.Merging.{IsFirstMany};
+ghost use Rattle.alt_hand.specs.Opened.{IsUnspent};
+ghost use Rattle.alt_hand.specs.Working.{AreLive, IsCalm, IsFileSpent, IsFlushDone, IsNoDamage, IsShort, Works, WorksIn};
+ghost use Rattle.alt_merging.specs.Mergings.{MergingStands, family_of as merged_family};
+ghost use Rattle.alt_engine.specs.InHand.{IsFew, Stands, hand_of, limits_of, merge_of, next_file_of, next_of};
+ghost use Rattle.alt_engine.specs.Working.{Begins, Ended, Ends, Furthered, GoesOn, IsNeeded, KeepsMerge, NoneMany};
+
+use crate::engine::Engine;
+use crate::work::{Task, Worked};
+use alt_compact::Stepped;
+use alt_disk::Disk;
+use alt_hand::EngineFault;
+use alt_merging::Merging;
+
+impl Engine {
+    /// Does the first action of a step that applies, where a merge under way is of a live family.
+    pub(crate) fn step<D: Disk>(
+        &mut self,
+        disk: &mut D,
+        live: &[u32],
+    ) -> Result<Worked, EngineFault>
+        requires ready { IsTrusted (D.state disk.old)
+            → (l : Layout) × Stands (D.state disk.old) self.old l }
+        requires live { AreLive live.now }
+        requires keeps { KeepsMerge live.now self.old }
+        ensures ok { OnOk result (IsTrusted (D.state disk.old) → (l : Layout)
+            → Stands (D.state disk.old) self.old l
+            → (m : Layout) × Stands (D.state disk.new) self.new m × Works live.now l m) }
+        ensures next { next_of self.new ≡ next_of self.old }
+        ensures limits { limits_of self.new ≡ limits_of self.old }
+        ensures idle { IfOk result (λ w. w ≡ Worked.Idle → IsTrusted (D.state disk.old) → (l : Layout)
+            → Stands (D.state disk.old) self.old l
+            → (IsShort (hand_of self.old) × IsCalm live.now (hand_of self.old))
+            × ((merge_of self.old ≡ None) × NoneMany live.now self.old)) }
+        ensures idle_disk { IfOk result (λ w. w ≡ Worked.Idle → D.state disk.new ≡ D.state disk.old) }
+        ensures idle_engine { IfOk result (λ w. w ≡ Worked.Idle → self.new ≡ self.old) }
+        ensures went { IfOk result (λ w. w ≡ Worked.Went → IsTrusted (D.state disk.old) → (l : Layout)
+            → Stands (D.state disk.old) self.old l
+            → (IsShort (hand_of self.old) × IsCalm live.now (hand_of self.old))
+            × (Begins live.now self.old self.new
+            ⊎ GoesOn (D.state disk.old) (D.state disk.new) live.now self.old self.new)) }
+        ensures done { IfOk result (λ w. w ≡ Worked.Done → IsTrusted (D.state disk.old) → (l : Layout)
+            → Stands (D.state disk.old) self.old l
+            → IsFlushDone live.now (hand_of self.old) (hand_of self.new)
+            ⊎ ((IsShort (hand_of self.old) × IsCalm live.now (hand_of self.old))
+            × Ends (D.state disk.old) (D.state disk.new) live.now self.old self.new)) }
+        ensures length { OnOk result ((length_of (hand_of self.new) ≡ 0)
+            ⊎ (IsShort (hand_of self.old)
+            × (length_of (hand_of self.new) ≡ length_of (hand_of self.old)))) }
+        ensures any_moment { IsTrusted (D.state disk.old) → (l : Layout)
+            → Stands (D.state disk.old) self.old l
+            → Spans (D.state disk.old) (D.state disk.new) (λ _. ⊤) (WorksIn live.now l) }
+        ensures spent { IfErr result IsFileSpent }
+        ensures needed { IsTrusted (D.state disk.old)
+            → IfErr result (IsNeeded Task.Step live.now self.old) }
+        ensures sound { IsTrusted (D.state disk.old) → IfErr result IsNoDamage }
+        ensures goes { Goes (D.state disk.old) (D.state disk.new) }
+        ensures cause { IsErrOf result EngineFault.Failed
+            → Rose (D.state disk.old).faults (D.state disk.new).faults }
+        ensures well { OnOk result ((D.state disk.new).faults ≡ (D.state disk.old).faults) }
+    {
+        let flushed = self.hand.flush_due(disk, live)?;
+        if flushed {
+            self.many = self.hand.any_many();
+            return Ok(Worked::Done);
+        }
+        match self.merging.take() {
+            Some(merging) => self.go_on(disk, live, merging),
+            None => self.begin(disk, live),
+        }
+    }
+
+    /// Brings a merge 256 rows further, and ends it where no more are left.
+    fn go_on<D: Disk>(
+        &mut self,
+        disk: &mut D,
+        live: &[u32],
+        merging: Merging,
+    ) -> Result<Worked, EngineFault>
+        requires ready { IsTrusted (D.state disk.old) → (l : Layout) × (left : RowList)
+            × HandStands (D.state disk.old) (hand_of self.old) l
+            × MergingStands (D.state disk.old) (hand_of self.old) merging left }
+        requires live { IsIn live.now (merged_family merging) }
+        requires none { merge_of self.old ≡ None }
+        requires few { IsTrusted (D.state disk.old) → IsFew self.old }
+        ensures ok { OnOk result (IsTrusted (D.state disk.old) → (l : Layout)
+            → HandStands (D.state disk.old) (hand_of self.old) l
+            → (m : Layout) × Stands (D.state disk.new) self.new m × Works live.now l m) }
+        ensures next { next_of self.new ≡ next_of self.old }
+        ensures limits { limits_of self.new ≡ limits_of self.old }
+        ensures length { length_of (hand_of self.new) ≡ length_of (hand_of self.old) }
+        ensures busy { IfOk result (λ w. w ≡ Worked.Idle → ⊥) }
+        ensures went { IfOk result (λ w. w ≡ Worked.Went → IsTrusted (D.state disk.old) → (l : Layout)
+            → HandStands (D.state disk.old) (hand_of self.old) l
+            → Furthered (D.state disk.old) (D.state disk.new) self.old self.new merging) }
+        ensures done { IfOk result (λ w. w ≡ Worked.Done → IsTrusted (D.state disk.old) → (l : Layout)
+            → HandStands (D.state disk.old) (hand_of self.old) l
+            → Ended (D.state disk.old) (D.state disk.new) self.old self.new merging) }
+        ensures any_moment { IsTrusted (D.state disk.old) → (l : Layout)
+            → HandStands (D.state disk.old) (hand_of self.old) l
+            → Spans (D.state disk.old) (D.state disk.new) (λ _. ⊤) (WorksIn live.now l) }
+        ensures unspent { IfErr result IsUnspent }
+        ensures sound { IsTrusted (D.state disk.old) → IfErr result IsNoDamage }
+        ensures goes { Goes (D.state disk.old) (D.state disk.new) }
+        ensures cause { IsErrOf result EngineFault.Failed
+            → Rose (D.state disk.old).faults (D.state disk.new).faults }
+        ensures well { OnOk result ((D.state disk.new).faults ≡ (D.state disk.old).faults) }
+    {
+        let mut merging = merging;
+        match merging.step(disk, &self.hand)? {
+            Stepped::More => {
+                self.merging = Some(merging);
+                Ok(Worked::Went)
+            }
+            Stepped::Done => {
+                merging.end(disk, &mut self.hand, live)?;
+                self.many = self.hand.any_many();
+                Ok(Worked::Done)
+            }
+        }
+    }
+
+    /// Begins a merge of the files of the first live family that has many.
+    fn begin<D: Disk>(&mut self, disk: &mut D, live: &[u32]) -> Result<Worked, EngineFault>
+        requires ready { IsTrusted (D.state disk.old)
+            → (l : Layout) × Stands (D.state disk.old) self.old l }
+        requires none { merge_of self.old ≡ None }
+        ensures ok { OnOk result (IsTrusted (D.state disk.old) → (l : Layout)
+            → Stands (D.state disk.old) self.old l → Stands (D.state disk.new) self.new l) }
+        ensures next { next_of self.new ≡ next_of self.old }
+        ensures limits { limits_of self.new ≡ limits_of self.old }
+        ensures length { length_of (hand_of self.new) ≡ length_of (hand_of self.old) }
+        ensures idle { IfOk result (λ w. w ≡ Worked.Idle → IsTrusted (D.state disk.old) → (l : Layout)
+            → Stands (D.state disk.old) self.old l → NoneMany live.now self.old) }
+        ensures idle_disk { IfOk result (λ w. w ≡ Worked.Idle → D.state disk.new ≡ D.state disk.old) }
+        ensures idle_engine { IfOk result (λ w. w ≡ Worked.Idle → self.new ≡ self.old) }
+        ensures went { IfOk result (λ w. w ≡ Worked.Went → Begins live.now self.old self.new) }
+        ensures undone { IfOk result (λ w. w ≡ Worked.Done → ⊥) }
+        ensures any_moment { IsTrusted (D.state disk.old) → (l : Layout)
+            → Stands (D.state disk.old) self.old l
+            → Spans (D.state disk.old) (D.state disk.new) (λ _. ⊤) (Has l) }
+        ensures spent { IfErr result IsFileSpent }
+        ensures needed { IfErr result (λ fault. ((family : ℕ) × IsFirstMany live.now (hand_of self.old) family)
+            × IsSpentFor (next_file_of self.old + 1) fault) }
+        ensures goes { Goes (D.state disk.old) (D.state disk.new) }
+        ensures cause { IsErrOf result EngineFault.Failed
+            → Rose (D.state disk.old).faults (D.state disk.new).faults }
+        ensures well { OnOk result ((D.state disk.new).faults ≡ (D.state disk.old).faults) }
+    {
+        if !self.many {
+            return Ok(Worked::Idle);
+        }
+        match self.hand.first_many(live) {
+            Some(family) => {
+                let merging = Merging::start(self.alloc, disk, &mut self.hand, family)?;
+                self.merging = Some(merging);
+                Ok(Worked::Went)
+            }
+            None => Ok(Worked::Idle),
+        }
+    }
+}

@@ -1,0 +1,318 @@
+-- An engine in hand, by the store that lies on the disk.
+use Rattle.std.proofs.Common.{◌≡◌, ◌≢◌, ◌≤◌, ◌+◌, ◌==◌, ℕ, Bool, true, false, List, [], ◌∷◌, ◌++◌, map, length, min, Option, refl, sym, ap, subst, ◌∙◌, arith, inl, inr}
+use Rattle.std.specs.Prelude.{◌⊎◌, if◌then◌else◌}
+use Rattle.std.specs.BTreeMap.{get}
+use Rattle.std.specs.FinMap.{empty}
+use Rattle.std.specs.Ordering.{nat_cmp}
+use Rattle.alt_cells.specs.Joined.{joined_map}
+use Rattle.alt_cells.specs.Rows.{join_row}
+use Rattle.alt_cells.specs.declared.batch.RowChange.{RowChange}
+use Rattle.alt_disk.specs.Disk.{DiskState, IsImage, IsSettled}
+use Rattle.alt_disk.specs.Runs.{Quiet, Run, Spans}
+use Rattle.alt_disk.proofs.Runs.{spans_weaker}
+use Rattle.alt_gatelog.specs.InHand.{file_of as log_file, Reads as LogReads, Stands as LogStands}
+use Rattle.alt_gatelog.specs.declared.gatelog.GateLog.{GateLog}
+use Rattle.alt_gatelog.specs.Log.{BeforeOrAfter, IsLog, first_form}
+use Rattle.alt_gatelog.proofs.Elsewhere.{reads_log, reads_stays}
+use Rattle.alt_rowfile.specs.declared.rowfile.RowFile.{RowFile}
+use Rattle.alt_layout.specs.Layout.{Layout, IsPast}
+use Rattle.alt_writes.specs.Writes.{Write}
+use Rattle.alt_writes.proofs.PushLaws.{bytes-push}
+use Rattle.alt_memtable.specs.Rows.{most_bytes}
+use Rattle.alt_writes.specs.Bytes.{IsHeldWrite, write_bytes}
+use Rattle.alt_layout.specs.Fresh.{versions_file}
+use Rattle.alt_manifest.specs.InHand.{version_of}
+use Rattle.alt_manifest.specs.Versions.{HasVersion, IsIn, files_named, row_files, version_bytes}
+use Rattle.alt_manifest.specs.declared.version.FamilyVersion.{FamilyVersion}
+use Rattle.alt_manifest.specs.declared.version.Version.{Version}
+use Rattle.alt_manifest.proofs.AppendLaws.{has_version}
+use Rattle.alt_layout.specs.Families.{Held, files_of, flushed_of, layout_of, next_after, with_later}
+use Rattle.alt_layout.specs.Files.{IsLayout, all_of}
+use Rattle.alt_layout.specs.Moments.{Lies, HasEither, IsIt}
+use Rattle.alt_layout.proofs.FileLaws.{all_of-push, apart, in_back, in_front, last_named, layout_push, named_later, stored_on}
+use Rattle.alt_layout.proofs.FamilyLaws.{flushed_below}
+use Rattle.alt_layout.proofs.FlushLaws.{unnamed}
+use Rattle.alt_layout.proofs.RowLaws.{next_after-least, with_later-push, with_one-above}
+use Rattle.alt_layout.proofs.MomentLaws.{in_each_image, lies_quiet, lies_write, spans_write}
+use Rattle.alt_layout.proofs.PastLaws.{stored_past}
+use Rattle.alt_layout.specs.Writes.{changes_in, with_write}
+use Rattle.alt_hand.specs.InHand.{Reads, Stands, AreBelow, AreOpen, batch_write, BeforeOrWith, IsWritten, family_of, written_bytes}
+use Rattle.alt_families.specs.Families.{Families, files_in, rows_in}
+use Rattle.alt_families.specs.Memory.{IsWrittenTo}
+use Rattle.alt_hand.specs.declared.hand.Hand.{Hand}
+
+-- the last version, as the disk reads
+last_of : (s : DiskState) (e : Hand) (l : Layout) → Reads s e l
+    → HasVersion (version_of e.manifest) (s.file versions_file)
+last_of s e l reads = subst (λ f. HasVersion (version_of e.manifest) (s.file f)) reads.first
+    (has_version s e.manifest reads.versions)
+
+-- no row is of the next number or a later one
+pub reads_past : (s : DiskState) (e : Hand) (l : Layout) → Reads s e l → IsPast l
+reads_past s e l reads = subst IsPast (sym reads.is)
+    (stored_past s.file (version_of e.manifest) reads.held reads.parts reads.versions.is reads.stored)
+
+-- the files hold its rows
+pub files_hold : (s : DiskState) (e : Hand) (l : Layout) → Reads s e l → IsLayout s.file l
+files_hold s e l reads = record {
+  version = version_of e.manifest;
+  last = last_of s e l reads;
+  held = reads.held;
+  parts = reads.parts;
+  stored = reads.stored;
+  is = reads.is;
+}
+
+-- a store lies on the disk where an engine stands
+pub lies_of : (s : DiskState) (e : Hand) (l : Layout) (stands : Stands s e l)
+    → Lies s (version_of e.manifest) stands.reads.held stands.reads.parts
+lies_of s e l stands = record {
+  last = last_of s e l stands.reads;
+  stored = stands.reads.stored;
+  settled = stands.settled;
+}
+
+-- each stop leaves its rows
+pub each_image : (s : DiskState) (e : Hand) (l : Layout) → Stands s e l
+    → (image : ℕ → Option (List ℕ)) → IsImage s s.moment image → IsLayout image l
+each_image s e l stands image is_image = subst (IsLayout image) (sym stands.reads.is)
+    (in_each_image s (version_of e.manifest) stands.reads.held stands.reads.parts
+    (lies_of s e l stands) image is_image)
+
+-- files in hand read as they read where all files do
+open_on : (a b : DiskState) (held : Held) (gs : List ℕ) (fs : List RowFile)
+    → ((f : ℕ) → b.file f ≡ a.file f) → AreOpen a held gs fs → AreOpen b held gs fs
+open_on a b held [] [] same are = tt
+open_on a b held [] (f ∷ fs) same are = absurd are
+open_on a b held (g ∷ gs) [] same are = absurd are
+open_on a b held (g ∷ gs) (f ∷ fs) same are = (
+  are.0,
+  record {
+    bytes = are.1.bytes;
+    there = same f.file ∙ are.1.there;
+    as_file = are.1.as_file;
+  },
+  open_on a b held gs fs same are.2,
+)
+
+-- it reads as it read while calls leave every file
+pub reads_quiet : (a b : DiskState) (e : Hand) (l : Layout) → Reads a e l → Quiet a b
+    → Reads b e l
+reads_quiet a b e l reads quiet = record {
+  held = reads.held;
+  parts = reads.parts;
+  writes = reads.writes;
+  versions = record {
+    before = reads.versions.before;
+    log = reads_stays a b e.manifest.log (reads.versions.before
+        ++ version_bytes (version_of e.manifest) ∷ []) (quiet.file e.manifest.log.file)
+        reads.versions.log;
+    is = reads.versions.is;
+  };
+  first = reads.first;
+  stored = stored_on a.file b.file (version_of e.manifest) reads.held reads.held reads.parts
+      (λ g there. quiet.file g) (λ g there. refl) reads.stored;
+  ends = reads.ends;
+  log = reads_stays a b e.log (map write_bytes reads.writes) (quiet.file e.log.file) reads.log;
+  is = reads.is;
+  next = reads.next;
+  length = reads.length;
+  free = reads.free;
+  fresh = λ f le. quiet.file f ∙ reads.fresh f le;
+  memory = reads.memory;
+  opened = λ family. open_on a b reads.held (files_of (version_of e.manifest).families family)
+      (files_in (family_of e family)) quiet.file (reads.opened family);
+  calm = reads.calm;
+}
+
+-- and stands as it stood
+pub stays_quiet : (a b : DiskState) (e : Hand) (l : Layout) → Stands a e l → Quiet a b
+    → Stands b e l
+stays_quiet a b e l stands quiet = record {
+  reads = reads_quiet a b e l stands.reads quiet;
+  settled = (lies_quiet a b (version_of e.manifest) stands.reads.held stands.reads.parts
+      (lies_of a e l stands) quiet).settled;
+}
+
+-- While a batch is added to the last segment each image has the rows before, or with it.
+pub write_images : (a b : DiskState) (e : Hand) (l : Layout) (changes : List RowChange)
+    (bytes : List ℕ) (stands : Stands a e l) → bytes ≡ write_bytes (batch_write l changes)
+    → IsHeldWrite (batch_write l changes)
+    → Run a b (log_file e.log) (BeforeOrAfter first_form
+    (map write_bytes stands.reads.writes) bytes)
+    → Spans a b IsWritten (BeforeOrWith l changes)
+write_images a b e l changes bytes stands spelled fits run =
+    let reads = stands.reads in
+    let v = version_of e.manifest in
+    let before : Layout = layout_of v reads.held (all_of reads.parts) in
+    spans_weaker a b (IsIt (log_file e.log)) IsWritten (BeforeOrWith l changes)
+    (HasEither before (with_write before (batch_write l changes)))
+    (spans_write a b v reads.held reads.parts (log_file e.log) reads.writes (batch_write l changes)
+    bytes (lies_of a e l stands) reads.ends spelled fits
+    (let same : l.next_number ≡ before.next_number = ap (λ (m : Layout). m.next_number) reads.is in
+    omega (arith, same)) run)
+    (λ g it first. named_later v (log_file e.log) reads.versions.is
+    (last_named v reads.parts (log_file e.log) reads.writes reads.ends) (sym it ∙ first))
+    (λ t image has. subst (λ (m : Layout). IsLayout image m
+    ⊎ IsLayout image (with_write m (batch_write l changes))) (sym reads.is) has)
+
+-- ---- a batch more
+
+-- files in hand read as they read where their files do
+pub open_elsewhere : (a b : DiskState) (held : Held) (gs : List ℕ) (fs : List RowFile)
+    → ((g : ℕ) → IsIn gs g → b.file g ≡ a.file g) → AreOpen a held gs fs → AreOpen b held gs fs
+open_elsewhere a b held [] [] same are = tt
+open_elsewhere a b held [] (f ∷ fs) same are = absurd are
+open_elsewhere a b held (g ∷ gs) [] same are = absurd are
+open_elsewhere a b held (g ∷ gs) (f ∷ fs) same are = (
+  are.0,
+  record {
+    bytes = are.1.bytes;
+    there = subst (λ n. b.file n ≡ a.file n) (sym are.0) (same g (inl refl)) ∙ are.1.there;
+    as_file = are.1.as_file;
+  },
+  open_elsewhere a b held gs fs (λ h there. same h (inr there)) are.2,
+)
+
+-- a file of one family is one of the row files
+pub in_row_files : (fs : List FamilyVersion) (family g : ℕ) → IsIn (files_of fs family) g
+    → IsIn (row_files fs) g
+in_row_files [] family g there = absurd there
+in_row_files (f ∷ fs) family g there = by_test (f.family == family) (in_row_files fs family g) there
+  where
+    by_test : (t : Bool) → (IsIn (files_of fs family) g → IsIn (row_files fs) g)
+        → IsIn (if t then f.files else files_of fs family) g → IsIn (f.files ++ row_files fs) g
+    by_test true rest there = in_front f.files (row_files fs) g there
+    by_test false rest there = in_back f.files (row_files fs) g (rest there)
+
+-- the entries of writes and one more
+written_push : (ws : List Write) (w : Write)
+    → written_bytes (ws ++ w ∷ []) ≡ written_bytes ws + length (write_bytes w)
+written_push [] w = omega arith
+written_push (v ∷ vs) w = let rest = written_push vs w in omega (arith, rest)
+
+module _ (a b : DiskState) (e : Hand) (l : Layout) (changes : List RowChange) (bytes : List ℕ)
+    (stands : Stands a e l) (spelled : bytes ≡ write_bytes (batch_write l changes))
+    (fits : IsHeldWrite (batch_write l changes))
+    (run : Run a b (log_file e.log) (BeforeOrAfter first_form
+    (map write_bytes stands.reads.writes) bytes)) where
+  abbrev reads : Reads a e l
+  reads = stands.reads
+
+  abbrev v : Version
+  v = version_of e.manifest
+
+  abbrev f : ℕ
+  f = log_file e.log
+
+  abbrev w : Write
+  w = batch_write l changes
+
+  abbrev before : Layout
+  before = layout_of v reads.held (all_of reads.parts)
+
+  abbrev parts : List (List Write)
+  parts = reads.ends.fronts ++ (reads.writes ++ w ∷ []) ∷ []
+
+  lies : Lies a v reads.held reads.parts
+  lies = lies_of a e l stands
+
+  named : IsIn (files_named v) f
+  named = last_named v reads.parts f reads.writes reads.ends
+
+  later : next_after v.next_number (all_of reads.parts) ≤ w.number
+  later = let same : l.next_number ≡ before.next_number = ap (λ (m : Layout). m.next_number) reads.is in
+      omega (arith, same)
+
+  -- its writes, in a list
+  all : all_of parts ≡ all_of reads.parts ++ w ∷ []
+  all = all_of-push reads.ends.fronts reads.writes w
+      ∙ ap (λ x. all_of x ++ w ∷ []) (sym reads.ends.parts_are)
+
+  -- the file of a row file is another than the segment
+  other : (g : ℕ) → IsIn (row_files v.families) g → g ≢ f
+  other g there same = apart v.segments (row_files v.families) f g reads.versions.is.differ
+      (subst (λ xs. IsIn xs f) (sym reads.ends.segments)
+      (in_back reads.ends.firsts (f ∷ []) f (inl refl))) there (sym same)
+
+  module _ (log : GateLog) (size : ℕ) (families : Families) (same_file : log_file log ≡ f)
+      (added : LogStands b log (map write_bytes reads.writes ++ bytes ∷ []))
+      (size_is : size ≡ min (e.length + length bytes) most_bytes)
+      (written : IsWrittenTo e.families families e.next changes) (full : Bool)
+      (calm : full ≡ false → AreBelow e.limits.flush families) where
+    lies_after : Lies b v reads.held parts
+    lies_after = lies_write a b v reads.held reads.parts f reads.writes w bytes lies reads.ends spelled
+        fits later (BeforeOrAfter first_form (map write_bytes reads.writes) bytes) run
+        (subst (λ g. IsLog first_form (map write_bytes reads.writes ++ bytes ∷ []) (b.file g)) same_file
+        (reads_log b log (map write_bytes reads.writes ++ bytes ∷ []) added.reads))
+        (subst (IsSettled b) same_file added.settled)
+
+    memory : (family : ℕ) → rows_in (get nat_cmp families family)
+        ≡ with_later (flushed_of v.families family) family empty (all_of parts)
+    memory family =
+        let flushed = flushed_of v.families family in
+        written.rows family
+        ∙ (λ i. joined_map join_row (reads.memory family i) (changes_in (reads.next i) family changes))
+        ∙ sym (ap (with_later flushed family empty) all
+        ∙ with_later-push flushed family empty (all_of reads.parts) w
+        ∙ with_one-above flushed family (with_later flushed family empty (all_of reads.parts)) w
+        (let low = flushed_below v.next_number v.families family reads.versions.is.next_number.0
+        reads.versions.is.families in
+        let least = next_after-least v.next_number (all_of reads.parts) in
+        let late = later in omega (arith, low, least, late)))
+
+    opened : (family : ℕ) → AreOpen b reads.held (files_of v.families family)
+        (files_in (get nat_cmp families family))
+    opened family = subst (AreOpen b reads.held (files_of v.families family))
+        (sym (written.files family))
+        (open_elsewhere a b reads.held (files_of v.families family) (files_in (family_of e family))
+        (λ g there. run.file g (other g (in_row_files v.families family g there)))
+        (reads.opened family))
+
+    -- then the engine stands with the batch
+    pub with_batch : Stands b (record e {
+      log = log;
+      length = size;
+      next = e.next + 1;
+      families = families;
+      full = full;
+    }) (with_write l w)
+    with_batch = record {
+      reads = record {
+        held = reads.held;
+        parts = parts;
+        writes = reads.writes ++ w ∷ [];
+        versions = record {
+          before = reads.versions.before;
+          log = reads_stays a b e.manifest.log (reads.versions.before ++ version_bytes v ∷ [])
+              (run.file e.manifest.log.file (λ same. named_later v f reads.versions.is named
+              (sym same ∙ reads.first))) reads.versions.log;
+          is = reads.versions.is;
+        };
+        first = reads.first;
+        stored = lies_after.stored;
+        ends = record {
+          firsts = reads.ends.firsts;
+          fronts = reads.ends.fronts;
+          segments = reads.ends.segments ∙ ap (λ g. reads.ends.firsts ++ g ∷ []) (sym same_file);
+          parts_are = refl;
+        };
+        log = subst (LogReads b log) (ap (λ x. map write_bytes reads.writes ++ x ∷ []) spelled
+            ∙ sym (bytes-push reads.writes w)) added.reads;
+        is = ap (λ (m : Layout). with_write m w) reads.is
+            ∙ sym (layout_push v reads.held reads.parts f reads.writes w reads.versions.is reads.ends
+            later);
+        next = ap (λ n. n + 1) reads.next;
+        length = size_is ∙ (let old = reads.length in let more = written_push (all_of reads.parts) w in
+            let same = ap written_bytes all in let by = ap length spelled in
+            omega (arith, old, more, same, by));
+        free = reads.free;
+        fresh = λ g le. run.file g (λ same. unnamed v g reads.versions.is
+            (let low = reads.free in omega (arith, low, le)) (subst (IsIn (files_named v)) (sym same)
+            named)) ∙ reads.fresh g le;
+        memory = memory;
+        opened = opened;
+        calm = calm;
+      };
+      settled = lies_after.settled;
+    }

@@ -1,0 +1,116 @@
+-- An engine in hand over files, and the disk on which they lie.
+use Rattle.std.specs.Prelude.{◌≡◌, ◌⊎◌, ◌≤◌, ◌+◌, ◌-◌, ◌^◌, ℕ, List, [], ◌∷◌, length, map, min, Option, None, ◌<◌, false, Some}
+use Rattle.std.specs.BTreeMap.{get}
+use Rattle.std.specs.FinMap.{empty, entries}
+use Rattle.std.specs.Ordering.{nat_cmp}
+use Rattle.alt_cells.specs.declared.batch.RowChange.{RowChange}
+use Rattle.alt_disk.specs.Disk.{DiskState, IsSettled}
+use Rattle.alt_gatelog.specs.InHand.{file_of as log_file, Reads as LogReads}
+use Rattle.alt_rowfile.specs.InHand.{file_of as row_file, Reads as RowReads}
+use Rattle.alt_rowfile.specs.declared.rowfile.RowFile.{RowFile}
+use Rattle.alt_layout.specs.Layout.{Layout, RowMap}
+use Rattle.alt_writes.specs.Writes.{Write}
+use Rattle.alt_writes.specs.Bytes.{write_bytes}
+use Rattle.alt_layout.specs.Fresh.{versions_file}
+use Rattle.alt_memtable.specs.Rows.{most_bytes}
+use Rattle.alt_manifest.specs.InHand.{file_of as manifest_file, version_of, Reads as ManifestReads}
+use Rattle.alt_layout.specs.Families.{Held, flushed_of, files_of, layout_of, with_later}
+use Rattle.alt_layout.specs.Files.{EndsWith, IsLayout, IsOf, Stored, all_of}
+use Rattle.alt_layout.specs.Writes.{with_write}
+use Rattle.alt_hand.specs.declared.hand.Hand.{Hand}
+use Rattle.alt_hand.specs.declared.hand.EngineFault.{EngineFault}
+use Rattle.alt_hand.specs.Faults.{told_by_engine}
+use Rattle.alt_faults.specs.Faults.{OnlySpent}
+use Rattle.alt_families.specs.Families.{Families, rows_in, files_in}
+use Rattle.alt_families.specs.declared.family.Family.{Family}
+use Rattle.alt_hand.specs.declared.hand.Limits.{Limits}
+
+-- The family of this number, if the engine has one.
+abbrev pub family_of : Hand → ℕ → Option Family
+family_of e family = get nat_cmp e.families family
+
+-- The files in hand are those of these numbers, in order, and each reads as the rows that it is said to hold.
+abbrev pub AreOpen : DiskState → Held → List ℕ → List RowFile → Type 0
+AreOpen s held [] [] = Unit {0}
+AreOpen s held [] (f ∷ fs) = ⊥
+AreOpen s held (g ∷ gs) [] = ⊥
+AreOpen s held (g ∷ gs) (f ∷ fs) =
+    (row_file f ≡ g) × RowReads s f (entries (held g)) × AreOpen s held gs fs
+
+-- What the row files hold that the engine's version names for a family.
+abbrev pub file_rows : Hand → Held → ℕ → List RowMap
+file_rows e held family = map held (files_of (version_of e.manifest).families family)
+
+-- The number of the engine's next write.
+abbrev pub next_of : Hand → ℕ
+next_of e = e.next
+
+-- From how many bytes on a family is flushed, and from how many files on merged.
+abbrev pub limits_of : Hand → Limits
+limits_of e = e.limits
+
+-- The number of the next file that it makes.
+abbrev pub next_file_of : Hand → ℕ
+next_file_of e = e.next_file
+
+-- The bytes of the entries of all segments, counted up to 2^62.
+abbrev pub length_of : Hand → ℕ
+length_of e = e.length
+
+-- How many bytes the entries of these writes have together.
+abbrev pub written_bytes : List Write → ℕ
+written_bytes [] = 0
+written_bytes (w ∷ ws) = length (write_bytes w) + written_bytes ws
+
+-- How many bytes were put into the rows that a family has in memory, counted up to 2^62.
+abbrev pub bytes_in : Option Family → ℕ
+bytes_in None = 0
+bytes_in (Some f) = f.table.1
+
+-- Each family has fewer bytes than this in memory.
+abbrev pub AreBelow : ℕ → Families → Type 0
+AreBelow flush families = (family : ℕ) → bytes_in (get nat_cmp families family) < flush
+
+-- The engine is that of this layout as the disk reads: the files that the version in hand names hold it, each is the one in hand, and memory has what
+-- the log has and no row file. No file is there from the next one on. Where it says that no family is full, none is.
+pub record Reads (s : DiskState) (e : Hand) (l : Layout) : Type 0 where
+  pub held : Held
+  pub parts : List (List Write)
+  pub writes : List Write
+  pub versions : ManifestReads s e.manifest
+  pub first : manifest_file e.manifest ≡ versions_file
+  pub stored : Stored s.file (version_of e.manifest) held parts
+  pub ends : EndsWith (version_of e.manifest) parts (log_file e.log) writes
+  pub log : LogReads s e.log (map write_bytes writes)
+  pub is : l ≡ layout_of (version_of e.manifest) held (all_of parts)
+  pub next : e.next ≡ l.next_number
+  pub length : e.length ≡ min (written_bytes (all_of parts)) most_bytes
+  pub free : (version_of e.manifest).next_file ≤ e.next_file
+  pub fresh : (f : ℕ) → e.next_file ≤ f → s.file f ≡ None
+  pub memory : (family : ℕ) → rows_in (family_of e family)
+      ≡ with_later (flushed_of (version_of e.manifest).families family) family empty (all_of parts)
+  pub opened : (family : ℕ) → AreOpen s held (files_of (version_of e.manifest).families family)
+      (files_in (family_of e family))
+  pub calm : e.full ≡ false → AreBelow e.limits.flush e.families
+
+-- The engine is that of this layout, and a stop now leaves of each of these files what reads give.
+pub record Stands (s : DiskState) (e : Hand) (l : Layout) : Type 0 where
+  pub reads : Reads s e l
+  pub settled : (f : ℕ) → IsOf (version_of e.manifest) f → IsSettled s f
+
+-- The write of a batch has the next number.
+abbrev pub batch_write : Layout → List RowChange → Write
+batch_write l changes = record { number = l.next_number; changes = changes }
+
+-- The image has the layout before, or the one with the batch.
+abbrev pub BeforeOrWith : Layout → List RowChange → ℕ → (ℕ → Option (List ℕ)) → Type 0
+BeforeOrWith l changes t image = IsLayout image l
+    ⊎ IsLayout image (with_write l (batch_write l changes))
+
+-- A fault that tells a spent number names the next one, which is 2^62 - 1; and no damage is told.
+abbrev pub IsSpentAt : ℕ → EngineFault → Type 0
+IsSpentAt next f = OnlySpent (λ number. (number ≡ next) × (2 ^ 62 - 1 ≤ next)) (told_by_engine f)
+
+-- A write touches any file but the one of the versions.
+abbrev pub IsWritten : ℕ → Type 0
+IsWritten f = f ≡ versions_file → ⊥

@@ -1,0 +1,42 @@
+-- What follows of engines in hand from their definitions, for those who use them.
+use Rattle.std.specs.Prelude.{◌≡◌, ℕ, List, map, Option}
+use Rattle.alt_cells.specs.declared.batch.RowChange.{RowChange}
+use Rattle.alt_disk.specs.Disk.{DiskState, IsImage}
+use Rattle.alt_disk.specs.Runs.{Quiet, Run, Spans}
+use Rattle.alt_gatelog.specs.InHand.{file_of as log_file}
+use Rattle.alt_gatelog.specs.Log.{BeforeOrAfter, first_form}
+use Rattle.alt_layout.specs.Layout.{Layout, IsPast}
+use Rattle.alt_writes.specs.Bytes.{IsHeldWrite, write_bytes}
+use Rattle.alt_layout.specs.Files.{IsLayout}
+use Rattle.alt_hand.specs.InHand.{Reads, Stands, batch_write, BeforeOrWith, IsWritten}
+use Rattle.alt_hand.specs.declared.hand.Hand.{Hand}
+
+-- Each timestamp of an engine's rows is below its next number.
+abbrev pub EnginesArePast : Type 0
+EnginesArePast = (s : DiskState) (e : Hand) (l : Layout) → Reads s e l → IsPast l
+
+-- The files, as they read, have the layout of the engine.
+abbrev pub FilesHold : Type 0
+FilesHold = (s : DiskState) (e : Hand) (l : Layout) → Reads s e l → IsLayout s.file l
+
+-- And so has whatever a stop now leaves.
+abbrev pub InEachImage : Type 0
+InEachImage = (s : DiskState) (e : Hand) (l : Layout) → Stands s e l
+    → (image : ℕ → Option (List ℕ)) → IsImage s s.moment image → IsLayout image l
+
+-- It reads as it read while calls leave every file.
+abbrev pub ReadsQuiet : Type 0
+ReadsQuiet = (a b : DiskState) (e : Hand) (l : Layout) → Reads a e l → Quiet a b → Reads b e l
+
+-- And stands as it stood.
+abbrev pub StaysQuiet : Type 0
+StaysQuiet = (a b : DiskState) (e : Hand) (l : Layout) → Stands a e l → Quiet a b → Stands b e l
+
+-- While a batch is added to the last segment each image has the layout before, or the one with the batch.
+abbrev pub WritesImages : Type 0
+WritesImages = (a b : DiskState) (e : Hand) (l : Layout) (changes : List RowChange)
+    (bytes : List ℕ) → (stands : Stands a e l) → bytes ≡ write_bytes (batch_write l changes)
+    → IsHeldWrite (batch_write l changes)
+    → Run a b (log_file e.log) (BeforeOrAfter first_form
+    (map write_bytes stands.reads.writes) bytes)
+    → Spans a b IsWritten (BeforeOrWith l changes)

@@ -1,0 +1,32 @@
+-- Faults of families as those of the engine, and what a call that only reads leaves.
+use Rattle.std.specs.Prelude.{◌≡◌}
+use Rattle.alt_cells.specs.declared.source.SourceFault.{SourceFault}
+use Rattle.alt_cells.specs.declared.source.SourceFault.TheVariants.{Damaged, Failed, NoMemory}
+use Rattle.alt_disk.specs.Disk.{DiskState}
+use Rattle.alt_faults.specs.Faults as view
+use Rattle.alt_layout.specs.Layout.{Layout}
+use Rattle.alt_hand.specs.Faults.{told_by_engine}
+use Rattle.alt_hand.specs.InHand.{Reads, Stands, next_of}
+use Rattle.alt_hand.specs.declared.hand.Hand.{Hand}
+use Rattle.alt_hand.specs.declared.hand.EngineFault.{EngineFault}
+use Rattle.alt_hand.specs.declared.hand.EngineFault.TheVariants as fault
+
+-- The fault of a source of rows, as one of the engine.
+abbrev pub of_source : SourceFault → EngineFault
+of_source (Damaged file at) = fault.Damaged file at
+of_source Failed = fault.Failed
+of_source NoMemory = fault.NoMemory
+
+-- The fault tells of no damage.
+abbrev pub IsUndamaged : EngineFault → Type 0
+IsUndamaged f = view.IsUndamaged (told_by_engine f)
+
+-- The fault tells of no spent number.
+abbrev pub IsUnspent : EngineFault → Type 0
+IsUnspent f = view.IsUnspent (told_by_engine f)
+
+-- After a call that only reads the engine is that of the layouts that it was that of, as the disk is then, and so it stands for what it stood for.
+pub record StaysOn (a b : DiskState) (old new : Hand) : Type 0 where
+  pub next : next_of new ≡ next_of old
+  pub reads : (l : Layout) → Reads a old l → Reads b new l
+  pub stands : (l : Layout) → Stands a old l → Stands b new l

@@ -1,0 +1,229 @@
+//! The beginning and the end of a merge of a family's files.
+
+ghost use Rattle.std.specs.Prelude.{◌≡◌, ◌≢◌, ◌<◌, ◌≤◌, ◌+◌, ◌-◌, ◌^◌, ◌∷◌, ⊤, ℕ, List, Err, IfOk, IfErr, OnOk, IsErrOf, drop, length, take, None};
+ghost use Rattle.std.specs.BTreeMap.{get};
+ghost use Rattle.std.specs.Option.{IsSome};
+ghost use Rattle.std.specs.Ordering.{nat_cmp};
+ghost use Rattle.alt_base.specs.Counts.{Rose};
+ghost use Rattle.alt_disk.specs.Disk.{DiskState, IsTrusted, Goes};
+ghost use Rattle.alt_disk.specs.Runs.{Spans};
+ghost use Rattle.alt_layout.specs.Families.{flushed_of};
+ghost use Rattle.alt_layout.specs.Layout.{Layout};
+ghost use Rattle.alt_layout.specs.Merged.{ShowsSame};
+ghost use Rattle.alt_manifest.specs.Versions.{IsIn};
+ghost use Rattle.alt_rowfile.specs.InHand.{file_of as row_file};
+ghost use Rattle.alt_writes.specs.Writes.{Write};
+ghost use Rattle.alt_families.specs.Families.{files_in, rows_in};
+ghost use Rattle.alt_hand.specs.Carrying.{AreStill};
+ghost use Rattle.alt_hand.specs.Drafting.{IsUnspent, Makes};
+ghost use Rattle.alt_hand.specs.InHand.{Stands, length_of, limits_of, next_file_of, next_of};
+ghost use Rattle.alt_hand.specs.Merging.{IsMadeOf, IsMerging, MayEnd, files_at, version_in};
+ghost use Rattle.alt_hand.specs.Working.{Works, WorksIn};
+
+use crate::flushes::leave_dead;
+use crate::hand::{EngineFault, Hand};
+use alt_base::NoMemory;
+use alt_disk::Disk;
+use alt_families::Family;
+use alt_flush::{renumbered, with_merge};
+use alt_manifest::{FamilyVersion, Version};
+use alt_rowfile::RowFile;
+use std::alloc::Global;
+use std::collections::BTreeMap;
+
+impl Hand {
+    /// The row files of a family, the oldest first.
+    pub fn files(&self, family: u32) -> &[RowFile]
+        ensures { result.now ≡ files_at self.now family }
+    {
+        match self.families.get(&family) {
+            Some(found) => found.files.as_slice(),
+            None => &[],
+        }
+    }
+
+    /// Takes the number of a new file. A merge of all files of a family may begin into it.
+    pub fn take_file(&mut self) -> Result<u32, EngineFault>
+        ensures file { IfOk result (λ f. f ≡ next_file_of self.old) }
+        ensures next_file { OnOk result (next_file_of self.new ≡ next_file_of self.old + 1) }
+        ensures stands { OnOk result ((s : DiskState) (l : Layout) → Stands s self.old l
+            → Stands s self.new l) }
+        ensures missing { IfOk result (λ f. (s : DiskState) (l : Layout) → Stands s self.old l
+            → s.file f ≡ None) }
+        ensures merging { OnOk result ((s : DiskState) (l : Layout) (family : ℕ)
+            → Stands s self.old l → 0 < length (files_at self.old family)
+            → IsMerging s self.new family (length (files_at self.old family))
+            (flushed_of (version_in self.old).families family) (next_file_of self.old)) }
+        ensures files { (family : ℕ) → files_at self.new family ≡ files_at self.old family }
+        ensures version { version_in self.new ≡ version_in self.old }
+        ensures length { length_of self.new ≡ length_of self.old }
+        ensures next { next_of self.new ≡ next_of self.old }
+        ensures limits { limits_of self.new ≡ limits_of self.old }
+
+        // The last number is taken for no file.
+        ensures spent { next_file_of self.old ≡ 2 ^ 32 - 1
+            → result ≡ Err (EngineFault.Spent (2 ^ 32 - 1)) }
+        ensures cause { IfErr result (λ fault. (fault ≡ EngineFault.Spent (2 ^ 32 - 1))
+            × (next_file_of self.old ≡ 2 ^ 32 - 1)) }
+    {
+        if self.next_file == u32::MAX {
+            return Err(EngineFault::Spent {
+                number: self.next_file as u64,
+            });
+        }
+        let file = self.next_file;
+        self.next_file = file + 1;
+        Ok(file)
+    }
+
+    /// Ends a merge of the first `taken` files of a live family: a version in which what was made of them, in a file of this number,
+    /// stands in their place; then they are removed. After an Err the engine is spent.
+    pub fn end_merge<D: Disk>(
+        &mut self,
+        disk: &mut D,
+        live: &[u32],
+        family: u32,
+        taken: usize,
+        file: u32,
+        made: RowFile,
+    ) -> Result<(), EngineFault>
+        requires ready { IsTrusted (D.state disk.old)
+            → (l : Layout) × Stands (D.state disk.old) self.old l }
+        requires merging { IsTrusted (D.state disk.old) → (number : ℕ)
+            × IsMerging (D.state disk.old) self.old family taken number file }
+        requires made { IsTrusted (D.state disk.old)
+            → IsMadeOf (D.state disk.old) (take taken (files_at self.old family)) made }
+        requires file { IsTrusted (D.state disk.old) → row_file made ≡ file }
+        requires live { IsIn live.now family }
+        ensures ok { OnOk result (IsTrusted (D.state disk.old) → (l : Layout)
+            → Stands (D.state disk.old) self.old l
+            → (m : Layout) × Stands (D.state disk.new) self.new m × Works live.now l m) }
+        ensures files { OnOk result (IsTrusted (D.state disk.old) → files_at self.new family
+            ≡ made ∷ drop taken (files_at self.old family)) }
+        ensures others { OnOk result ((other : ℕ) → IsIn live.now other → other ≢ family
+            → files_at self.new other ≡ files_at self.old other) }
+
+        // The files of other live families read as they read, and so does the one that was made.
+        ensures still { OnOk result (IsTrusted (D.state disk.old) → (l : Layout)
+            → Stands (D.state disk.old) self.old l → (other : ℕ) → IsIn live.now other
+            → other ≢ family
+            → AreStill (D.state disk.old) (D.state disk.new) (files_at self.old other)) }
+        ensures made { OnOk result (IsTrusted (D.state disk.old) → (l : Layout)
+            → Stands (D.state disk.old) self.old l
+            → (D.state disk.new).file (row_file made) ≡ (D.state disk.old).file (row_file made)) }
+        ensures next_file { OnOk result (next_file_of self.new ≡ next_file_of self.old) }
+        ensures length { length_of self.new ≡ length_of self.old }
+        ensures next { next_of self.new ≡ next_of self.old }
+        ensures limits { limits_of self.new ≡ limits_of self.old }
+
+        // A stop at any moment of the call, also one that fails, leaves the rows of live families.
+        ensures any_moment { IsTrusted (D.state disk.old) → (l : Layout)
+            → Stands (D.state disk.old) self.old l
+            → Spans (D.state disk.old) (D.state disk.new) (λ _. ⊤) (WorksIn live.now l) }
+        ensures unspent { IfErr result IsUnspent }
+        ensures goes { Goes (D.state disk.old) (D.state disk.new) }
+        ensures cause { IsErrOf result EngineFault.Failed
+            → Rose (D.state disk.old).faults (D.state disk.new).faults }
+        ensures well { OnOk result ((D.state disk.new).faults ≡ (D.state disk.old).faults) }
+    {
+        let mut left = Vec::new(self.alloc);
+        let first = renumbered(
+            self.alloc,
+            self.manifest.current(),
+            self.next_file,
+            self.next,
+        )?;
+        put_files_of(first.families.as_slice(), family, &mut left)?;
+        let alive = leave_dead(self.alloc, &mut self.families, first, live, &mut left)?;
+        let draft = merged(
+            self.alloc,
+            &mut self.families,
+            alive,
+            family,
+            taken,
+            file,
+            made,
+        )?;
+        self.publish(disk, draft, left.as_slice())
+    }
+}
+
+/// The draft in which what was made stands in the place of the first `taken` files of a family, and the families in hand likewise.
+fn merged(
+    alloc: Global,
+    families: &mut BTreeMap<u32, Family>,
+    alive: Version,
+    family: u32,
+    taken: usize,
+    file: u32,
+    made: RowFile,
+) -> Result<Version, NoMemory>
+    ensures makes { IfOk result (λ u. (s : DiskState) (parts : List (List Write)) (l : Layout)
+        (number : ℕ) → Makes s alive families.old parts l
+        → MayEnd s alive (files_in (get nat_cmp families.old family)) family taken number file
+        → row_file made ≡ file
+        → IsMadeOf s (take taken (files_in (get nat_cmp families.old family))) made
+        → (m : Layout) × Makes s u families.new parts m × ShowsSame l m) }
+    ensures file { IfOk result (λ u. u.next_file ≡ alive.next_file) }
+    ensures segments { IfOk result (λ u. u.segments ≡ alive.segments) }
+    ensures files { OnOk result (IsSome (get nat_cmp families.old family)
+        → files_in (get nat_cmp families.new family)
+        ≡ made ∷ drop taken (files_in (get nat_cmp families.old family))) }
+    ensures others { OnOk result ((other : ℕ) → other ≢ family
+        → get nat_cmp families.new other ≡ get nat_cmp families.old other) }
+{
+    let draft = with_merge(alloc, &alive, family, taken, file)?;
+    put_made(families, family, taken, made)?;
+    Ok(draft)
+}
+
+/// Puts a file in the place of the first `taken` ones of a family in hand.
+fn put_made(
+    families: &mut BTreeMap<u32, Family>,
+    family: u32,
+    taken: usize,
+    made: RowFile,
+) -> Result<(), NoMemory>
+    ensures rows { OnOk result (rows_in (get nat_cmp families.new family)
+        ≡ rows_in (get nat_cmp families.old family)) }
+    ensures files { OnOk result (IsSome (get nat_cmp families.old family)
+        → files_in (get nat_cmp families.new family)
+        ≡ made ∷ drop taken (files_in (get nat_cmp families.old family))) }
+    ensures others { OnOk result ((other : ℕ) → other ≢ family
+        → get nat_cmp families.new other ≡ get nat_cmp families.old other) }
+{
+    match families.get_mut(&family) {
+        Some(found) => replace_first(&mut found.files, taken, made),
+        None => Ok(()),
+    }
+}
+
+/// Puts a file in the place of the first `taken` ones.
+fn replace_first(files: &mut Vec<RowFile>, taken: usize, made: RowFile) -> Result<(), NoMemory>
+    ensures { OnOk result (files.new.items ≡ made ∷ drop taken files.old.items) }
+{
+    let at = if taken <= files.len() {
+        taken
+    } else {
+        files.len()
+    };
+    let mut since = files.split_off(at)?;
+    files.clear();
+    files.push(made)?;
+    files.append(&mut since)?;
+    Ok(())
+}
+
+/// Puts the files of a family at the end of the list.
+fn put_files_of(
+    families: &[FamilyVersion],
+    family: u32,
+    files: &mut Vec<u32>,
+) -> Result<(), NoMemory> {
+    for found in families {
+        if found.family == family {
+            files.extend_from_slice(found.files.as_slice())?;
+        }
+    }
+    Ok(())
+}

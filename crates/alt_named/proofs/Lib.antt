@@ -1,0 +1,4 @@
+pub mod Bodies
+pub mod Converted
+pub mod Passed
+pub mod Words

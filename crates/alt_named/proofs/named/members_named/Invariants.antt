@@ -1,0 +1,20 @@
+-- The body is what was read so far, with the members that are still to come.
+use Rattle.std.proofs.Common.{◌≡◌, ℕ, ◌≤◌, length, map}
+use Rattle.json.specs.Json.{members, value}
+use Rattle.serde_json.specs.Data.{Members, no_members}
+use Rattle.serde_json.specs.Read.{converted, of_members}
+use Rattle.serde_json.specs.View.{members_view}
+use Rattle.alt_named.specs.Named.{AreSame}
+use Rattle.alt_named.proofs.named.members_named.Given as goal
+
+-- the members read so far, with those to come
+abbrev pub invariant-members : goal.invariant-members
+invariant-members l =
+    (n : ℕ) × (ms : Members) × (length l.reader ≤ n)
+    × (converted (λ os. of_members os no_members)
+    (members (value 126) (length l.initial.reader) l.initial.reader)
+    ≡ converted (λ os. of_members os ms) (members (value 126) n l.reader))
+    × AreSame (map (λ w. w.now) l.names) ms (members_view l.found.entries)
+
+abbrev pub decreases-members : goal.decreases-members
+decreases-members l = length l.reader

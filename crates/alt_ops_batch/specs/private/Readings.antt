@@ -1,0 +1,110 @@
+-- What a BatchGetItem has read, as the machine has it.
+use Rattle.std.specs.Prelude.{◌≡◌, ℕ, ◌+◌, ◌≤◌, true, false, List, [], ◌∷◌, ◌++◌, length, map, drop, sum_by, Option, Result, Ok, Err}
+use Rattle.std.specs.FinMap as finite
+use Rattle.std.specs.List.{cons_option, filter_map}
+use Rattle.serde_json.specs.Data.{Data, array, Members, put}
+use Rattle.serde_json.specs.View.{view, items_of, items_view, members_view}
+use Rattle.serde_json.specs.Written.{items_have_float, members_have_float}
+use Rattle.serde_json.specs.declared.value.Value.{Value}
+use Rattle.alt_codec.specs.Writing.{json_of_pairs}
+use Rattle.alt_machine.specs.declared.PlacedMember.{PlacedMember}
+use Rattle.alt_machine.specs.declared.TheConstants.{BATCH_BYTES, LARGEST_ITEM}
+use Rattle.alt_machine.specs.Ops.BatchGetItem as machine
+use Rattle.alt_machine.specs.Ops.BatchGetItem.{Shown, found_at, keys_object, size_at, read_of}
+use Rattle.alt_machine.specs.Ops.GetItem.{parts}
+use Rattle.alt_machine.specs.State.{State, Texts}
+use Rattle.alt_ops_batch.specs.private.Changed.{Every}
+use Rattle.alt_ops_batch.specs.declared.reading.Read.{Read}
+use Rattle.alt_ops_batch.specs.declared.reading.Taken.{Taken}
+use Rattle.alt_request.specs.Carried.{WhereFailed}
+use Rattle.alt_request.specs.declared.stop.Stop.{Stop}
+use Rattle.alt_request.specs.declared.stop.Stop.TheVariants.{Refused, Fault}
+use Rattle.alt_ops_batch.specs.declared.asked_reads.TableReads.{TableReads}
+use Rattle.alt_schema.specs.declared.schema.TableSchema.{TableSchema}
+use Rattle.alt_tables.specs.Faults.{IsFindFault}
+use Rattle.alt_value.specs.Tree.{Pair}
+
+-- ---- what is read so far
+
+-- the sizes, the items of each table and the keys that are left, as JSON
+abbrev pub read_so : Read → machine.Read
+read_so read = record {
+  size = read.size;
+  responses = members_view read.responses.entries;
+  unprocessed = members_view read.unprocessed.entries;
+}
+
+-- No float stands in it.
+pub record IsPlainRead (read : Read) : Type 0 where
+  pub responses : members_have_float (members_view read.responses.entries) ≡ false
+  pub unprocessed : members_have_float (members_view read.unprocessed.entries) ≡ false
+
+-- the sizes so far are less than what ends a batch and one item more
+abbrev pub IsBounded : ℕ → Type 0
+IsBounded size = size ≤ BATCH_BYTES + LARGEST_ITEM
+
+-- the tables of all keys are there
+abbrev pub AreKnown : Texts TableSchema → List PlacedMember → Type 0
+AreKnown catalog keys =
+    Every (λ (k : PlacedMember). finite.contains_key catalog k.table ≡ true) keys
+
+-- those of the keys of each read are
+abbrev pub AreAllKnown : Texts TableSchema → List TableReads → Type 0
+AreAllKnown catalog asked = Every (λ (r : TableReads). AreKnown catalog r.keys.items) asked
+
+-- ---- the keys of a table
+
+-- an item as it is shown
+abbrev pub item_json : Shown → List Pair → Data
+item_json paths item = json_of_pairs (parts paths item)
+
+-- a key as it is left
+abbrev pub key_json : PlacedMember → Data
+key_json key = json_of_pairs key.item
+
+-- The items of these keys are shown behind those before, up to the one at which the sizes reach 16 MB, and the keys behind it are left.
+pub record Takes (s : State) (paths : Shown) (before : ℕ) (keys : List PlacedMember)
+    (old new : Taken)
+    (after : ℕ) : Type 0 where
+  pub items : map view new.items.items ≡ map view old.items.items
+      ++ map (item_json paths) (filter_map (found_at s) (read_of s before keys))
+  pub left : map view new.left.items ≡ map view old.left.items
+      ++ map key_json (drop (length (read_of s before keys)) keys)
+  pub size : after ≡ before + sum_by (size_at s) (read_of s before keys)
+
+-- So they are, with nothing before.
+pub record IsTaken (s : State) (paths : Shown) (before : ℕ) (keys : List PlacedMember)
+    (taken : Taken)
+    (after : ℕ) : Type 0 where
+  pub items : map view taken.items.items
+      ≡ map (item_json paths) (filter_map (found_at s) (read_of s before keys))
+  pub left : map view taken.left.items ≡ map key_json (drop (length (read_of s before keys)) keys)
+  pub size : after ≡ before + sum_by (size_at s) (read_of s before keys)
+
+-- an item is shown behind those before it, where there is one
+abbrev pub ShowsMore : Shown → Option (List Pair) → List Value → List Value → Type 0
+ShowsMore paths found old new =
+    map view new ≡ map view old ++ map (item_json paths) (cons_option found [])
+
+-- No float stands among them.
+pub record IsPlainTaken (taken : Taken) : Type 0 where
+  pub items : items_have_float (items_view taken.items.items) ≡ false
+  pub left : items_have_float (items_view taken.left.items) ≡ false
+
+-- a table is named with its keys that are left, where there are any
+abbrev pub name_left : List ℕ → Members → List Data → Members → Members
+name_left name body [] ms = ms
+name_left name body (d ∷ ds) ms = put name (keys_object body (array (items_of (d ∷ ds)))) ms
+
+-- ---- how it stops
+
+-- by a fault of a call that reads
+abbrev pub IsFault : Stop → Type 0
+IsFault (Refused r) = ⊥
+IsFault (Fault f) = IsFindFault f
+
+-- by a fault, and where the device failed this holds
+abbrev pub IfErrFailed : {A : Type 0} → Result A Stop → Type 0 → Type 0
+IfErrFailed (Ok x) P = Unit {0}
+IfErrFailed (Err (Refused r)) P = ⊥
+IfErrFailed (Err (Fault f)) P = WhereFailed f P

@@ -1,0 +1,11 @@
+-- A write leaves an engine that stands for the rows with it.
+use Rattle.alt_disk.specs.MemoryState.{state_of}
+use Rattle.alt_disk.proofs.Runs.{trusted_back}
+use Rattle.tests_engine.proofs.tests.merged.write.Goals as goal
+
+pub returns-in-Ok : goal.returns-in-Ok
+returns-in-Ok c = λ trusted.
+    let before = trusted_back (state_of c.args.disk.now) (state_of c.apply.new.disk)
+    c.in-Ok.ensures.goes trusted in
+    let found = c.requires before in
+    (_, c.in-Ok.ensures.ok before found.0 found.1)

@@ -30,8 +30,8 @@ impl<'a, D: Disk> Cached<'a, D> {
 }
 
 impl<'a, D: Disk> Disk for Cached<'a, D> {
-    ghost use Rattle.std.specs.Prelude.{◌≡◌, ◌≢◌, ◌≤◌, ◌+◌, ◌^◌, ℕ, None, length, take, IfOk, OnOk, is_ok, true};
-    ghost use Rattle.alt_disk.specs.Disk.{IsTrusted, contents, Tick, ReadCall, Same, Written, Removed, Read};
+    ghost use Rattle.std.specs.Prelude.{◌≡◌, ◌≢◌, ◌≤◌, ◌+◌, ◌^◌, ℕ, None, [], length, take, IfOk, OnOk, OnErr, is_ok, true};
+    ghost use Rattle.alt_disk.specs.Disk.{IsTrusted, IsNames, contents, answered, Tick, ReadCall, Same, Written, Removed, Read};
     ghost use Rattle.alt_blocks.specs.Behind.{state_of, cache_of, Uncounted};
     ghost use Rattle.alt_blocks.specs.Places.{IsEmpty, Adds, has};
 
@@ -39,7 +39,17 @@ impl<'a, D: Disk> Disk for Cached<'a, D> {
 
     ghost reads_as_image = { λ c trusted f. D.reads_as_image c.disk.now trusted f };
 
-    fn names(&mut self, list: &mut Vec<u32>) -> Result<(), DiskFault> {
+    // An opening begins with this call, so it reads what stands there now, also where something else changed it.
+    fn names(&mut self, list: &mut Vec<u32>) -> Result<(), DiskFault>
+        ensures cleared { IsEmpty (cache_of self.new) }
+        ensures names { IsTrue (state_of self.old).tells
+            → OnOk result (IsNames list.new.items (state_of self.old).file) }
+        ensures emptied { OnErr result (list.new.items ≡ []) }
+        ensures call { Tick (state_of self.old) (state_of self.new) (answered result) }
+        ensures same { IsTrue (state_of self.old).tells
+            → Same (state_of self.old) (state_of self.new) }
+    {
+        self.cache.clear();
         self.disk.names(list)
     }
 

@@ -1,13 +1,13 @@
-//! Reads through a cache: what it answers, when the disk is asked again, and that a write or a removal empties it.
+//! Reads through a cache: what it answers, when the disk is asked again, and that a write, a removal or the question for the files empties it.
 
 use crate::tests::doubted::Doubted;
 use alt_blocks::{BlockCache, Cached, LONGEST_KEPT};
 use alt_disk::Disk;
 use std::alloc::Global;
 
-// `r` reads so many bytes of a file from a place, `w` writes `!` there, `d` removes the file. Then what was read, and how many reads
-// the disk has counted.
-static STEPS: [(u8, u32, u64, usize, &[u8], u64); 16] = [
+// `r` reads so many bytes of a file from a place, `w` writes `!` there, `d` removes the file, `n` asks which files there are, and `o` is
+// another's write of `!`, past the cache. Then what was read, and how many reads the disk has counted.
+static STEPS: [(u8, u32, u64, usize, &[u8], u64); 20] = [
     (b'r', 1, 0, 4, b"one ", 1),
     (b'r', 1, 0, 4, b"one ", 1),
     // Another length, another place, another file.
@@ -28,6 +28,11 @@ static STEPS: [(u8, u32, u64, usize, &[u8], u64); 16] = [
     // A read that gives less than its buffer is kept as well.
     (b'r', 1, 0, 4, b"", 8),
     (b'r', 2, 3, 4, b"er", 9),
+    // What another wrote is found behind that question, with which an opening begins, and not before.
+    (b'o', 2, 3, 1, b"", 9),
+    (b'r', 2, 3, 4, b"er", 9),
+    (b'n', 0, 0, 0, b"", 9),
+    (b'r', 2, 3, 4, b"!r", 10),
 ];
 
 fn step(disk: &mut Cached<'_, Doubted>, kind: u8, f: u32, at: u64, n: usize, want: &[u8]) -> bool {
@@ -60,8 +65,17 @@ fn first_wrong(alloc: Global) -> Option<usize> {
         return Some(0);
     };
     for (i, (kind, f, at, n, want, reads)) in STEPS.iter().enumerate() {
-        let mut cached = Cached::new(&mut disk, &mut cache);
-        let right = step(&mut cached, *kind, *f, *at, *n, want);
+        let right = match *kind {
+            b'o' => disk.write_at(*f, *at, b"!").is_ok(),
+            b'n' => {
+                let mut list = Vec::new(alloc);
+                Cached::new(&mut disk, &mut cache).names(&mut list).is_ok()
+            }
+            kind => {
+                let mut cached = Cached::new(&mut disk, &mut cache);
+                step(&mut cached, kind, *f, *at, *n, want)
+            }
+        };
         let (_, counted) = disk.disk.counts();
         if !right || counted != *reads {
             return Some(i);

@@ -13,6 +13,7 @@ mod tally;
 mod trial;
 mod words;
 
+use alt_blocks::{BlockCache, Cached};
 use alt_disk::DiskFault;
 use alt_host::HostShell;
 use std::alloc::{AllocError, Global};
@@ -20,6 +21,9 @@ use std::env;
 use std::io::ErrorKind;
 use std::process::ExitCode;
 use words::{command_of, port_of};
+
+/// How many reads of files are kept in memory at most: where row files are read, each is a block.
+const PLACES: usize = 256;
 
 /// Takes the folder and the port off the front of the words, and ends with the status of the run of the others. Where the words are
 /// wrong, the folder isn't touched.
@@ -38,8 +42,14 @@ fn main(rt: HostRuntime) -> ExitCode {
     if command_of(rest).is_none() {
         return noted(&rt, "alternator: words\n", 1);
     }
+    let Ok(mut cache) = BlockCache::new(alloc, PLACES) else {
+        return noted(&rt, "alternator: memory\n", 5);
+    };
     match HostShell::new(own, alloc, folder.as_str(), port) {
-        Ok(mut shell) => ExitCode::from(run::run(alloc, rest, &mut shell)),
+        Ok(mut shell) => {
+            let mut cached = Cached::new(&mut shell, &mut cache);
+            ExitCode::from(run::run(alloc, rest, &mut cached))
+        }
         Err(DiskFault::Failed) => noted(&rt, "alternator: device\n", 4),
         Err(DiskFault::NoMemory) => noted(&rt, "alternator: memory\n", 5),
     }

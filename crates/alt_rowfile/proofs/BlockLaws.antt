@@ -37,7 +37,8 @@ less_tested b Greater e =
 -- ---- rows behind rows
 
 -- the last key of rows behind others is that of those behind
-pub last_key-append : (xs : List Entry) (y : Entry) (ys : List Entry)
+pub last_key-append : {X : Type 0} (xs : List (List ℕ × X)) (y : List ℕ × X)
+    (ys : List (List ℕ × X))
     → last_key (xs ++ y ∷ ys) ≡ last_key (y ∷ ys)
 last_key-append [] y ys = refl
 last_key-append (x ∷ []) y ys = refl
@@ -60,7 +61,8 @@ first_at [] f e = absurd (let g : ⊥ = cc in g)
 first_at (x ∷ rows) f e = let g : f ≡ x = cc in ap (λ (y : Entry). y.0) g
 
 -- rows whose first key is above the last one go on rising
-pub sorted_join : (xs : List Entry) (y : Entry) (ys : List Entry) → T (is_sorted key_cmp xs)
+pub sorted_join : {X : Type 0} (xs : List (List ℕ × X)) (y : List ℕ × X)
+    (ys : List (List ℕ × X)) → T (is_sorted key_cmp xs)
     → T (is_sorted key_cmp (y ∷ ys)) → IsAbove (last_key xs) y.0
     → T (is_sorted key_cmp (xs ++ y ∷ ys))
 sorted_join [] y ys h k above = k
@@ -77,7 +79,8 @@ sorted_join (x ∷ z ∷ xs) y ys h k above =
     (below_less key_cmp key_total x.0 z.0 (xs ++ y ∷ ys) next (first _ _ rest))) rest
 
 -- and what goes on rising is above the last one
-pub above_join : (xs : List Entry) (y : Entry) (ys : List Entry)
+pub above_join : {X : Type 0} (xs : List (List ℕ × X)) (y : List ℕ × X)
+    (ys : List (List ℕ × X))
     → T (is_sorted key_cmp (xs ++ y ∷ ys)) → IsAbove (last_key xs) y.0
 above_join [] y ys h = tt
 above_join (x ∷ []) y ys h = less _ (first _ _ (first _ _ h))

@@ -16,3 +16,4 @@ pub mod CutLaws
 pub mod SeekLaws
 pub mod StreamLaws
 pub mod WalkCalls
+pub mod PickLaws

@@ -1,12 +1,12 @@
 -- A key is in the last block that begins at or below it, or nowhere.
-use Rattle.std.proofs.Common.{◌≡◌, refl, sym, ap, subst, ◌∙◌, ℕ, ◌+◌, ◌<◌, ◌≤◌, List, [], ◌∷◌, ◌++◌, length, drop, get_or, Some, None, T, true, false, Bool, arith, append_assoc, length-append}
+use Rattle.std.proofs.Common.{◌≡◌, refl, sym, ap, subst, ◌∙◌, ℕ, ◌+◌, ◌<◌, ◌≤◌, List, [], ◌∷◌, ◌++◌, length, get_or, Some, None, T, true, false, arith, append_assoc, length-append}
 use Rattle.std.specs.Prelude.{cond}
 use Rattle.std.specs.List.{AllByRecursion, flat_map}
 use Rattle.std.specs.declared.cmp.Ordering.{Ordering}
 use Rattle.std.specs.declared.cmp.Ordering.TheVariants.{Less, Equal, Greater}
 use Rattle.std.specs.Ordering.{is_gt, is_eq, eq_by_cmp}
 use Rattle.std.specs.FinMap.Entries.{find, is_sorted, below_all}
-use Rattle.std.proofs.lemmas.List.{drop_more, get_or_at}
+use Rattle.std.proofs.lemmas.List.{get_or_at}
 use Rattle.alt_cells.specs.Keys.{key_cmp}
 use Rattle.alt_cells.proofs.CellLaws.{key_total, key_exact}
 use Rattle.alt_cells.proofs.Entries.{both, first, second, less, is_less, turned_less, turned_greater, find_below, below_less}
@@ -53,7 +53,8 @@ halves_end marks key low high h done =
 -- ---- what a walk to a key passes
 
 -- a lower key in front doesn't count
-pub find_past : (x : Entry) (es : List Entry) (q : List ℕ) → key_cmp x.0 q ≡ Less
+pub find_past : {X : Type 0} (x : List ℕ × X) (es : List (List ℕ × X)) (q : List ℕ)
+    → key_cmp x.0 q ≡ Less
     → find key_cmp q (x ∷ es) ≡ find key_cmp q es
 find_past x es q lower =
     let greater : key_cmp q x.0 ≡ Greater = turned_greater key_cmp key_total x.0 q lower in
@@ -70,7 +71,8 @@ at_or_above x y q lower up = by_cases (key_cmp y q) refl up
     by_cases Greater is up = absurd (let f : true ≡ false = up in cc f)
 
 -- the first of rising rows is below each one behind it
-pub first_below : (x : Entry) (xs : List Entry) (y : Entry) (ys : List Entry)
+pub first_below : {X : Type 0} (x : List ℕ × X) (xs : List (List ℕ × X)) (y : List ℕ × X)
+    (ys : List (List ℕ × X))
     → T (is_sorted key_cmp (x ∷ (xs ++ y ∷ ys))) → key_cmp x.0 y.0 ≡ Less
 first_below x [] y ys h = less _ (first _ _ (first _ _ h))
 first_below x (z ∷ xs) y ys h =
@@ -78,7 +80,8 @@ first_below x (z ∷ xs) y ys h =
     (first_below z xs y ys (second _ _ h))
 
 -- rows before one at or below the key don't count
-pub find_front : (xs : List Entry) (y : Entry) (ys : List Entry) (q : List ℕ)
+pub find_front : {X : Type 0} (xs : List (List ℕ × X)) (y : List ℕ × X) (ys : List (List ℕ × X))
+    (q : List ℕ)
     → T (is_sorted key_cmp (xs ++ y ∷ ys)) → is_gt (key_cmp y.0 q) ≡ false
     → find key_cmp q (xs ++ y ∷ ys) ≡ find key_cmp q (y ∷ ys)
 find_front [] y ys q h up = refl
@@ -87,7 +90,7 @@ find_front (x ∷ xs) y ys q h up =
     ∙ find_front xs y ys q (second _ _ h) up
 
 -- nor do rows above it
-pub find_back : (xs ys : List Entry) (q : List ℕ) → find key_cmp q ys ≡ None
+pub find_back : {X : Type 0} (xs ys : List (List ℕ × X)) (q : List ℕ) → find key_cmp q ys ≡ None
     → find key_cmp q (xs ++ ys) ≡ find key_cmp q xs
 find_back [] ys q none = none
 find_back (x ∷ xs) ys q none =
@@ -107,18 +110,6 @@ find_above y ys q h up =
     greater Less e = absurd (let f : false ≡ true = e in cc f)
     greater Equal e = absurd (let f : false ≡ true = e in cc f)
     greater Greater e = refl
-
--- ---- loops
-
--- one row more is compared with the key
-pub find_more : (rows : List Entry) (i : ℕ) (x : Entry) (key : List ℕ) (b : Bool) → i < length rows
-    → x ≡ get_or rows i x → b ≡ is_eq (key_cmp key x.0)
-    → find key_cmp key (drop i rows) ≡ cond b (Some x.1) (find key_cmp key (drop (i + 1) rows))
-find_more rows i x key b less is test =
-    ap (find key_cmp key) (drop_more rows i x less)
-    ∙ ap (λ (y : Entry). cond (is_eq (key_cmp key y.0)) (Some y.1)
-    (find key_cmp key (drop (i + 1) rows))) (sym is)
-    ∙ ap (λ (t : Bool). cond t (Some x.1) (find key_cmp key (drop (i + 1) rows))) (sym test)
 
 -- ---- the block
 

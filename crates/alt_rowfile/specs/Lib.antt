@@ -12,3 +12,4 @@ pub mod Searching
 pub mod Cut
 pub mod Walking
 pub mod Damage
+pub mod Picking

@@ -8,6 +8,7 @@ mod digest;
 mod fault;
 mod law;
 mod load;
+mod pick;
 mod pieces;
 mod recover;
 mod rowfile;

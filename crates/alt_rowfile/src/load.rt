@@ -1,19 +1,21 @@
-//! One block of a row file, read from the disk.
+//! One block of a row file, read from the disk: all its rows, or the one of a key.
 
 ghost use Rattle.std.specs.Prelude.{◌≡◌, ◌≤◌, ◌<◌, ◌+◌, ◌==◌, if◌then◌else◌, ℕ, List, [], length, get_or, IfOk, IfErr, IfSome, IfNone, IsErrOf, IsTrue, T};
-ghost use Rattle.std.specs.FinMap.Entries.{is_sorted};
+ghost use Rattle.std.specs.FinMap.Entries.{find, is_sorted};
 ghost use Rattle.alt_base.specs.Counts.{Rose};
-ghost use Rattle.alt_disk.specs.Disk.{Goes};
+ghost use Rattle.alt_cells.specs.declared.source.SourceFault.TheVariants.{Damaged};
+ghost use Rattle.alt_disk.specs.Disk.{Goes, contents};
 ghost use Rattle.alt_disk.specs.Runs.{Quiet};
 ghost use Rattle.alt_cells.specs.Keys.{key_cmp};
 ghost use Rattle.alt_cells.specs.Walks.{IsDamaged};
 ghost use Rattle.alt_rowfile.specs.Format.{Entry, block_bytes, IsHeldBlock};
 ghost use Rattle.alt_rowfile.specs.Damage.{IsDamageIn};
-ghost use Rattle.alt_rowfile.specs.InHand.{Reads, count_of};
-ghost use Rattle.alt_rowfile.specs.Loading.{next_place};
-ghost use Rattle.alt_rowfile.specs.Reading.{ReadsAtMostABlock};
+ghost use Rattle.alt_rowfile.specs.InHand.{Reads, count_of, file_of};
+ghost use Rattle.alt_rowfile.specs.Loading.{next_place, LoadedAt};
+ghost use Rattle.alt_rowfile.specs.Reading.{ReadsAtMostABlock, place_of};
 
 use crate::decode::{decode, take_field};
+use crate::pick::pick;
 use crate::pieces::bytes_at;
 use crate::rowfile::RowFile;
 use alt_base::NoMemory;
@@ -46,22 +48,90 @@ pub(crate) fn load<D: Disk>(
     ensures one_block { ReadsAtMostABlock (D.state disk.old) (D.state disk.new) file.now }
     ensures reads { (D.state disk.new).reads ≤ (D.state disk.old).reads + 1 }
 {
+    match block_at(file, disk, i) {
+        Ok(bytes) => match rows_of(file.alloc, &bytes) {
+            Ok(Some(rows)) => Ok(rows),
+            Ok(None) => Err(damaged(file, i)),
+            Err(_) => Err(SourceFault::NoMemory),
+        },
+        Err(fault) => Err(fault),
+    }
+}
+
+/// What a block has at a key, by one read of its bytes.
+pub(crate) fn load_row<D: Disk>(
+    file: &RowFile,
+    disk: &mut D,
+    i: usize,
+    key: &[u8],
+) -> Result<Option<RowCells>, SourceFault>
+    requires { i < count_of file.now }
+    ensures row { IsTrue (D.state disk.old).tells
+        → (rows : List Entry) (reads : Reads (D.state disk.old) file.now rows)
+        → IfOk result (λ row. row ≡ find key_cmp key.now (get_or reads.as_file.blocks i [])) }
+    ensures undamaged { IsTrue (D.state disk.old).tells
+        → (rows : List Entry) → Reads (D.state disk.old) file.now rows
+        → IfErr result (λ fault. IsDamaged fault → ⊥) }
+    ensures damage { IfErr result (IsDamageIn (D.state disk.old) file.now) }
+    ensures quiet { IsTrue (D.state disk.old).tells
+        → Quiet (D.state disk.old) (D.state disk.new) }
+    ensures goes { Goes (D.state disk.old) (D.state disk.new) }
+    ensures cause { IsErrOf result SourceFault.Failed
+        → Rose (D.state disk.old).faults (D.state disk.new).faults }
+    ensures well { (IsErrOf result SourceFault.Failed → ⊥)
+        → (D.state disk.new).faults ≡ (D.state disk.old).faults }
+    ensures one_block { ReadsAtMostABlock (D.state disk.old) (D.state disk.new) file.now }
+    ensures reads { (D.state disk.new).reads ≤ (D.state disk.old).reads + 1 }
+{
+    match block_at(file, disk, i) {
+        Ok(bytes) => match row_at(file.alloc, &bytes, key) {
+            Ok(Some(row)) => Ok(row),
+            Ok(None) => Err(damaged(file, i)),
+            Err(_) => Err(SourceFault::NoMemory),
+        },
+        Err(fault) => Err(fault),
+    }
+}
+
+// The bytes of a block.
+fn block_at<D: Disk>(file: &RowFile, disk: &mut D, i: usize) -> Result<Vec<u8>, SourceFault>
+    requires { i < count_of file.now }
+    ensures bytes { IsTrue (D.state disk.old).tells → (b : List Entry)
+        → LoadedAt (contents (D.state disk.old) (file_of file.now)) file.now.marks.items
+        file.now.end i b → IfOk result (λ v. v.items ≡ block_bytes b) }
+    ensures undamaged { IsTrue (D.state disk.old).tells
+        → (rows : List Entry) → Reads (D.state disk.old) file.now rows
+        → IfErr result (λ fault. IsDamaged fault → ⊥) }
+    ensures damage { IfErr result (IsDamageIn (D.state disk.old) file.now) }
+    ensures quiet { IsTrue (D.state disk.old).tells
+        → Quiet (D.state disk.old) (D.state disk.new) }
+    ensures goes { Goes (D.state disk.old) (D.state disk.new) }
+    ensures cause { IsErrOf result SourceFault.Failed
+        → Rose (D.state disk.old).faults (D.state disk.new).faults }
+    ensures well { (IsErrOf result SourceFault.Failed → ⊥)
+        → (D.state disk.new).faults ≡ (D.state disk.old).faults }
+    ensures one_block { ReadsAtMostABlock (D.state disk.old) (D.state disk.new) file.now }
+    ensures reads { (D.state disk.new).reads ≤ (D.state disk.old).reads + 1 }
+{
     let at = file.marks[i].0;
     let next = next_place(file, i);
     let count = next.saturating_sub(at) as usize;
-    let damaged = SourceFault::Damaged {
-        file: file.file,
-        at,
-    };
     match bytes_at(file.alloc, disk, file.file, at, count) {
-        Ok(Some(bytes)) => match rows_of(file.alloc, &bytes) {
-            Ok(Some(rows)) => Ok(rows),
-            Ok(None) => Err(damaged),
-            Err(_) => Err(SourceFault::NoMemory),
-        },
-        Ok(None) => Err(damaged),
+        Ok(Some(bytes)) => Ok(bytes),
+        Ok(None) => Err(damaged(file, i)),
         Err(DiskFault::Failed) => Err(SourceFault::Failed),
         Err(DiskFault::NoMemory) => Err(SourceFault::NoMemory),
+    }
+}
+
+// Damage, of this block.
+fn damaged(file: &RowFile, i: usize) -> SourceFault
+    requires { i < count_of file.now }
+    ensures { result ≡ Damaged (file_of file.now) (place_of file.now i) }
+{
+    SourceFault::Damaged {
+        file: file.file,
+        at: file.marks[i].0,
     }
 }
 
@@ -77,6 +147,20 @@ fn rows_of(alloc: Global, bytes: &[u8]) -> Result<Option<Vec<(Bytes, RowCells)>>
             Some(decoded) => Ok(Some(decoded.rows)),
             None => Ok(None),
         },
+        None => Ok(None),
+    }
+}
+
+// What the block whose bytes these are has at a key; none where they are no block's.
+fn row_at(alloc: Global, bytes: &[u8], key: &[u8]) -> Result<Option<Option<RowCells>>, NoMemory>
+    ensures some { (b : List Entry) → IsHeldBlock b → T (is_sorted key_cmp b)
+        → bytes.now ≡ block_bytes b
+        → IfOk result (λ o. IfSome o (λ row. row ≡ find key_cmp key.now b)) }
+    ensures none { (b : List Entry) → IsHeldBlock b → T (is_sorted key_cmp b)
+        → bytes.now ≡ block_bytes b → IfOk result (λ o. IfNone o ⊥) }
+{
+    match take_field(bytes) {
+        Some((block, _)) => pick(alloc, block, key),
         None => Ok(None),
     }
 }

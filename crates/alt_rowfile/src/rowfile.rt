@@ -1,9 +1,9 @@
 //! A finished row file in hand.
 
 use crate::fault::RowFileFault;
-use crate::load::load;
+use crate::load::load_row;
 use crate::recover::recover_file;
-use crate::search::{blocks_up_to, row_in};
+use crate::search::blocks_up_to;
 use crate::summary::Summary;
 use crate::walk::RowFileWalk;
 use alt_cells::{RowCells, SourceFault};
@@ -78,13 +78,7 @@ impl RowFile {
         if count == 0 {
             return Ok(None);
         }
-        match load(self, disk, count - 1) {
-            Ok(rows) => match row_in(&rows, key) {
-                Ok(row) => Ok(row),
-                Err(_) => Err(SourceFault::NoMemory),
-            },
-            Err(fault) => Err(fault),
-        }
+        load_row(self, disk, count - 1, key)
     }
 
     /// The greatest timestamp of its rows, 0 where they have none.

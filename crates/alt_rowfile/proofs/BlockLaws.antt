@@ -17,8 +17,8 @@ use Rattle.alt_cells.proofs.Rising.{sorted_front}
 use Rattle.alt_fields.proofs.Apart.{field-apart, all_append, all_back, flat_map_snoc}
 use Rattle.alt_rowfile.specs.Format.{Entry, Mark, entry_bytes, rows_bytes, block_bytes, front, rows_of, first_key, marks_from, IsBlock, IsFull, AreBlocks, IsHeldEntry, IsHeldBlock}
 use Rattle.alt_rowfile.specs.Decoding.{AreRows, StandBefore}
-use Rattle.alt_rowfile.specs.Blocks.{last_key, IsAbove, IsNext, IsNextBlock, IsReadBlock, AreBlocksOf, IsFoundAs}
-use Rattle.alt_rowfile.specs.Summaries.{joined, summary_of}
+use Rattle.alt_rowfile.specs.Blocks.{IsAbove, IsNext, IsNextBlock, IsReadBlock, AreBlocksOf, IsFoundAs}
+use Rattle.alt_rowfile.specs.Summaries.{joined, last_key, summary_of}
 use Rattle.alt_rowfile.specs.declared.summary.Summary.{Summary}
 use Rattle.alt_rowfile.proofs.SummaryLaws.{summary-append}
 use Rattle.alt_rowfile.proofs.OneFile.{one_block, block-apart, block_some, length-block, length-entry}

@@ -14,7 +14,8 @@ use Rattle.alt_cells.specs.Format.{bytes_of_row, IsHeldRow}
 use Rattle.alt_cells.specs.Places.{NoRow}
 use Rattle.alt_cells.specs.Keys.{key_cmp}
 use Rattle.alt_cells.proofs.CellLaws.{key_total}
-use Rattle.alt_rowfile.specs.Blocks.{last_key, IsAbove}
+use Rattle.alt_rowfile.specs.Blocks.{IsAbove}
+use Rattle.alt_rowfile.specs.Summaries.{last_key}
 use Rattle.alt_rowfile.specs.Decoding.{AreRows, NoRows}
 use Rattle.alt_rowfile.specs.Format.{Entry, entry_bytes, rows_bytes, IsHeldEntry}
 use Rattle.alt_rowfile.specs.Picking.{Piece, piece_bytes, IsShortPiece, ArePieces, NoPieces, Picks}

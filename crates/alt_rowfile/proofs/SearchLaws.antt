@@ -1,5 +1,5 @@
 -- A key is in the last block that begins at or below it, or nowhere.
-use Rattle.std.proofs.Common.{◌≡◌, refl, sym, ap, subst, ◌∙◌, ℕ, ◌+◌, ◌<◌, ◌≤◌, List, [], ◌∷◌, ◌++◌, length, get_or, Some, None, T, true, false, arith, append_assoc, length-append}
+use Rattle.std.proofs.Common.{◌≡◌, refl, sym, ap, subst, ◌∙◌, ℕ, ◌+◌, ◌<◌, ◌≤◌, List, [], ◌∷◌, ◌++◌, length, get_or, Option, Some, None, T, true, false, arith, append_assoc, length-append}
 use Rattle.std.specs.Prelude.{cond}
 use Rattle.std.specs.List.{AllByRecursion, flat_map}
 use Rattle.std.specs.declared.cmp.Ordering.{Ordering}
@@ -12,7 +12,8 @@ use Rattle.alt_cells.proofs.CellLaws.{key_total, key_exact}
 use Rattle.alt_cells.proofs.Entries.{both, first, second, less, is_less, turned_less, turned_greater, find_below, below_less}
 use Rattle.alt_rowfile.specs.Format.{Entry, Mark, block_bytes, rows_of, first_key, marks_from, IsBlock, AreBlocks}
 use Rattle.alt_rowfile.specs.InHand.{FileAs}
-use Rattle.alt_rowfile.specs.Searching.{key_at, EndsAt}
+use Rattle.alt_rowfile.specs.Searching.{key_at, EndsAt, EndsBelow}
+use Rattle.alt_rowfile.specs.Summaries.{last_key}
 use Rattle.alt_rowfile.specs.declared.summary.Summary.{Summary}
 use Rattle.alt_rowfile.proofs.BlockLaws.{rows_of-append, no_block, block_within}
 use Rattle.alt_rowfile.proofs.LoadLaws.{split_at, length-marks, marks-append}
@@ -271,3 +272,31 @@ found_nowhere bytes marks end n rows is q ends none =
     ap (find key_cmp q) is.are
     ∙ none_behind is.blocks q is.file.cut is.file.rising
     (above_first bytes marks end n rows is q ends none)
+
+-- ---- behind the last key
+
+-- where the last of rising rows is below a key, all of them are
+all_below : (rows : List Entry) (last key : List ℕ) → T (is_sorted key_cmp rows)
+    → last_key rows ≡ Some last → key_cmp last key ≡ Less
+    → AllByRecursion (λ (e : Entry). key_cmp e.0 key ≡ Less) rows
+all_below [] last key h is low = tt
+all_below (x ∷ []) last key h is low =
+    let same : x.0 ≡ last = cc is in
+    (ap (λ (k : List ℕ). key_cmp k key) same ∙ low, tt)
+all_below (x ∷ y ∷ rows) last key h is low =
+    let rest = all_below (y ∷ rows) last key (second _ _ h) is low in
+    (key_total.trans x.0 y.0 key (less _ (first _ _ (first _ _ h))) rest.0, rest)
+
+-- and none of them is at it
+none_below : (rows : List Entry) (key : List ℕ)
+    → AllByRecursion (λ (e : Entry). key_cmp e.0 key ≡ Less) rows → find key_cmp key rows ≡ None
+none_below [] key all = refl
+none_below (x ∷ rows) key all = find_past x rows key all.0 ∙ none_below rows key all.1
+
+-- so there is nothing at a key behind the last one
+pub found_behind : (rows : List Entry) (last : Option (List ℕ)) (key : List ℕ)
+    → T (is_sorted key_cmp rows) → last ≡ last_key rows → EndsBelow last key
+    → None ≡ find key_cmp key rows
+found_behind rows None key h is ends = absurd ends
+found_behind rows (Some last) key h is ends =
+    sym (none_below rows key (all_below rows last key h (sym is) ends))

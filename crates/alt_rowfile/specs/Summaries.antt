@@ -1,5 +1,5 @@
--- What a row file in hand keeps of its rows: their greatest timestamp, and whether they have a tombstone.
-use Rattle.std.specs.Prelude.{ℕ, ◌||◌, Bool, List, Option, Some, None, is_none, is_some, max}
+-- What a row file in hand keeps of its rows: their greatest timestamp, whether they have a tombstone, and the last key.
+use Rattle.std.specs.Prelude.{ℕ, ◌||◌, Bool, List, [], ◌∷◌, Option, Some, None, is_none, is_some, max}
 use Rattle.std.specs.FinMap.{entries}
 use Rattle.std.specs.List.{fold, list_any}
 use Rattle.alt_cells.specs.declared.row.RowCells.{RowCells}
@@ -27,10 +27,27 @@ has_tombstone row = is_some row.gone || list_any (λ e. is_none e.1.value) (entr
 abbrev pub any_tombstone : List Entry → Bool
 any_tombstone rows = list_any (λ e. has_tombstone e.1) rows
 
--- both
-abbrev pub summary_of : List Entry → Summary
-summary_of rows = record { latest = latest_of rows; tombstone = any_tombstone rows }
+-- the key of the last row
+abbrev pub last_key : {X : Type 0} → List (List ℕ × X) → Option (List ℕ)
+last_key [] = None
+last_key (e ∷ []) = Some e.0
+last_key (e ∷ f ∷ es) = last_key (f ∷ es)
 
--- both, of rows in two parts
+-- these, and the last key
+abbrev pub summary_of : List Entry → Summary
+summary_of rows =
+    record { latest = latest_of rows; tombstone = any_tombstone rows; last = last_key rows }
+
+-- the last key of rows in two parts: that of the second part, if it has one
+abbrev pub later : Option (List ℕ) → Option (List ℕ) → Option (List ℕ)
+later before None = before
+later before (Some last) = Some last
+
+-- the summary of rows in two parts
 abbrev pub joined : Summary → Summary → Summary
-joined a b = record { latest = max a.latest b.latest; tombstone = a.tombstone || b.tombstone }
+joined a b =
+    record {
+      latest = max a.latest b.latest;
+      tombstone = a.tombstone || b.tombstone;
+      last = later a.last b.last;
+    }

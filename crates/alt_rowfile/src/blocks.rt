@@ -183,7 +183,7 @@ pub(crate) fn read_block(
                 return Ok(None);
             }
             let rows = decoded.rows.len() as u64;
-            let summary = Summary::of_rows(&decoded.rows);
+            let summary = Summary::of_rows(&decoded.rows)?;
             match decoded.rows.first() {
                 Some(first) => match decoded.rows.last() {
                     Some(last) => {

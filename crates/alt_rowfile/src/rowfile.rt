@@ -3,7 +3,7 @@
 use crate::fault::RowFileFault;
 use crate::load::load_row;
 use crate::recover::recover_file;
-use crate::search::blocks_up_to;
+use crate::search::{blocks_up_to, ends_below};
 use crate::summary::Summary;
 use crate::walk::RowFileWalk;
 use alt_cells::{RowCells, SourceFault};
@@ -56,7 +56,7 @@ impl RowFile {
         recover_file(alloc, disk, f)
     }
 
-    /// The row of a key, None exactly where there is none. It reads one block at most.
+    /// The row of a key, None exactly where there is none. It reads one block at most, and none for a key below the first or above the last.
     pub fn row<D: Disk>(&self, disk: &mut D, key: &[u8]) -> Result<Option<RowCells>, SourceFault>
         ensures row { IsTrue (D.state disk.old).tells → (rows : List Entry)
             → Reads (D.state disk.old) self.now rows
@@ -74,6 +74,9 @@ impl RowFile {
         ensures one_block { ReadsAtMostABlock (D.state disk.old) (D.state disk.new) self.now }
         ensures reads { (D.state disk.new).reads ≤ (D.state disk.old).reads + 1 }
     {
+        if ends_below(&self.summary.last, key) {
+            return Ok(None);
+        }
         let count = blocks_up_to(&self.marks, key);
         if count == 0 {
             return Ok(None);

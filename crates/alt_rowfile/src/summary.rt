@@ -1,17 +1,19 @@
 //! What a row file in hand keeps of its rows, so that nobody walks over them to learn it.
 
-ghost use Rattle.std.specs.Prelude.{◌≡◌, ◌∷◌, [], ℕ, List, is_none};
+ghost use Rattle.std.specs.Prelude.{◌≡◌, ◌∷◌, [], ℕ, List, Option, is_none, IfOk};
 ghost use Rattle.std.specs.List.{list_any};
-ghost use Rattle.alt_rowfile.specs.Summaries.{any_tombstone, has_tombstone, joined, latest_of, row_latest, summary_of};
+ghost use Rattle.alt_rowfile.specs.Summaries.{any_tombstone, has_tombstone, joined, last_key, later, latest_of, row_latest, summary_of};
 
+use alt_base::NoMemory;
 use alt_cells::{Cell, RowCells};
 use alt_fields::Bytes;
 
-/// The greatest timestamp of rows, 0 where they have none, and whether they have a tombstone.
-#[derive(Clone, Copy)]
+/// The greatest timestamp of rows, 0 where they have none, whether they have a tombstone, and the key of the last one.
+#[derive(Drop)]
 pub(crate) struct Summary {
     pub(crate) latest: u64,
     pub(crate) tombstone: bool,
+    pub(crate) last: Option<Bytes>,
 }
 
 impl Summary {
@@ -22,35 +24,61 @@ impl Summary {
         Summary {
             latest: 0,
             tombstone: false,
+            last: None,
         }
     }
 
     /// Of rows.
-    pub(crate) fn of_rows(rows: &[(Bytes, RowCells)]) -> Summary
-        ensures { result ≡ summary_of rows.now }
+    pub(crate) fn of_rows(rows: &[(Bytes, RowCells)]) -> Result<Summary, NoMemory>
+        ensures { IfOk result (λ s. s ≡ summary_of rows.now) }
     {
-        Summary {
+        Ok(Summary {
             latest: latest_of(rows),
             tombstone: any_tombstone(rows),
-        }
+            last: last_of(rows)?,
+        })
     }
 
     /// Takes that of further rows in.
     pub(crate) fn join(&mut self, more: Summary)
         ensures { self.new ≡ joined self.old more }
     {
-        self.latest = self.latest.max(more.latest);
-        self.tombstone = self.tombstone || more.tombstone;
+        let Summary {
+            latest,
+            tombstone,
+            last,
+        } = more;
+        self.latest = self.latest.max(latest);
+        self.tombstone = self.tombstone || tombstone;
+        put_last(&mut self.last, last);
     }
 
     /// Takes a further row in.
-    pub(crate) fn add(&mut self, row: &RowCells)
-        ensures { (key : List ℕ) → self.new ≡ joined self.old (summary_of ((key, row.now) ∷ [])) }
+    pub(crate) fn add(&mut self, key: Bytes, row: &RowCells)
+        ensures { self.new ≡ joined self.old (summary_of ((key, row.now) ∷ [])) }
     {
         self.join(Summary {
             latest: row_latest(row),
             tombstone: has_tombstone(row),
+            last: Some(key),
         });
+    }
+}
+
+fn put_last(last: &mut Option<Bytes>, more: Option<Bytes>)
+    ensures { last.new ≡ later last.old more }
+{
+    if more.is_some() {
+        *last = more;
+    }
+}
+
+fn last_of(rows: &[(Bytes, RowCells)]) -> Result<Option<Bytes>, NoMemory>
+    ensures { IfOk result (λ last. last ≡ last_key rows.now) }
+{
+    match rows.last() {
+        Some(last) => Ok(Some(last.0.copy()?)),
+        None => Ok(None),
     }
 }
 

@@ -80,7 +80,8 @@ impl RowFileWriter {
         put_bytes(&mut self.block, key)?;
         put_bytes(&mut self.block, &bytes)?;
         self.count += 1;
-        self.summary.add(row);
+        let last = Bytes::new(self.alloc, key)?;
+        self.summary.add(last, row);
         Ok(())
     }
 

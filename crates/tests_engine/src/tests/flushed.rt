@@ -99,8 +99,9 @@ fn reads_of(alloc: Global, key: &[u8]) -> Option<u64> {
 #[test]
 fn a_row_in_a_file_is_read_once(rt: HostRuntime) {
     assert!(rt; reads_of(rt.alloc(), b"c") == Some(1));
-    // Before the file's first key nothing is read.
+    // Before the file's first key nothing is read, nor behind its last.
     assert!(rt; reads_of(rt.alloc(), b"") == Some(0));
+    assert!(rt; reads_of(rt.alloc(), b"d") == Some(0));
 }
 
 // Bytes by which a stop may pick what it leaves.

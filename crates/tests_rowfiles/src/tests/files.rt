@@ -60,7 +60,7 @@ fn finds(
     Some(bytes.as_slice() == want.as_slice() && none.is_none())
 }
 
-// Whether each row is found, by one read, and none below the first key.
+// Whether each row is found, by one read, and with none that there is none below the first key or behind the last.
 fn finds_each(alloc: Global, shape: &Shape) -> Option<bool> {
     let (bytes, _) = spelled(alloc, shape)?;
     let mut disk = disk_of(alloc, &bytes)?;
@@ -76,7 +76,7 @@ fn finds_each(alloc: Global, shape: &Shape) -> Option<bool> {
     let (_, after) = disk.counts();
     let none = file.row(&mut disk, b"").ok()?.is_none();
     let (_, last) = disk.counts();
-    let each = 2 * shape.0 as u64;
+    let each = (2 * shape.0 as u64).saturating_sub(1);
     Some(none && last == after && after == before.checked_add(each)?)
 }
 

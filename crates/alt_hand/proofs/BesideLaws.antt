@@ -1,7 +1,7 @@
 -- An engine and a merge under way beside calls on a file that isn't the store's; and where a merge begins.
-use Rattle.std.proofs.Common.{◌≡◌, ◌≢◌, ◌≤◌, ◌<◌, ◌+◌, ◌^◌, ⊎_elim, inl, inr, ℕ, Bool, true, false, List, [], ◌∷◌, ◌++◌, length, map, take, drop, zero, suc, Option, refl, sym, ap, subst, ◌∙◌, arith}
+use Rattle.std.proofs.Common.{◌≡◌, ◌≤◌, ◌<◌, ◌+◌, inl, inr, ℕ, Bool, true, false, List, [], ◌∷◌, ◌++◌, length, map, take, drop, suc, Option, refl, sym, ap, subst, ◌∙◌, arith}
 use Rattle.std.proofs.lemmas.List.{take-append-drop}
-use Rattle.std.specs.Prelude.{◌⊎◌, ◌==◌, if◌then◌else◌}
+use Rattle.std.specs.Prelude.{◌==◌, if◌then◌else◌}
 use Rattle.std.specs.FinMap.{entries}
 use Rattle.std.specs.List.{AllByRecursion}
 use Rattle.alt_cells.specs.Walks.{Anything}
@@ -14,7 +14,6 @@ use Rattle.alt_gatelog.specs.InHand.{file_of as log_file}
 use Rattle.alt_gatelog.proofs.Elsewhere.{reads_stays}
 use Rattle.alt_layout.specs.Families.{Held, IsMapBelow, files_of, flushed_of, layout_of}
 use Rattle.alt_layout.specs.Files.{AreRowFiles, HoldsRows, IsLayout, IsOf, all_of}
-use Rattle.alt_layout.specs.Fresh.{versions_file}
 use Rattle.alt_layout.specs.Layout.{Layout, RowMap}
 use Rattle.alt_layout.specs.Moments.{Has, IsIt}
 use Rattle.alt_layout.proofs.FileLaws.{in_back, last_named, stored_on}
@@ -29,12 +28,12 @@ use Rattle.alt_rowfile.specs.declared.rowfile.RowFile.{RowFile}
 use Rattle.alt_writes.specs.Bytes.{write_bytes}
 use Rattle.alt_families.specs.Families.{files_in}
 use Rattle.alt_hand.specs.Beside.{FilesBeside, FilesRead, MergingStays, StandsBeside}
-use Rattle.alt_hand.specs.InHand.{AreOpen, Reads, Stands, family_of}
-use Rattle.alt_hand.specs.Merging.{IsLater, IsMerging, IsOlder, MayEnd, files_at, version_in}
+use Rattle.alt_hand.specs.InHand.{AreOpen, Stands, family_of}
+use Rattle.alt_hand.specs.Merging.{IsLater, IsMerging, IsOlder, MayEnd, files_at}
 use Rattle.alt_hand.specs.declared.hand.Hand.{Hand}
 use Rattle.alt_hand.proofs.HandLaws.{in_row_files, lies_of}
 use Rattle.alt_hand.proofs.MakesLaws.{open_still}
-use Rattle.alt_hand.proofs.MergingLaws.{one_map, open_count}
+use Rattle.alt_hand.proofs.MergingLaws.{one_map}
 
 -- files in hand read as they read where those files do
 pub each_on : (a b : DiskState) (held : Held) (gs : List ℕ) (fs : List RowFile)

@@ -1,5 +1,5 @@
 -- A merge under way, carried over the steps of a draft of the next version.
-use Rattle.std.proofs.Common.{◌≡◌, ◌≢◌, ◌≤◌, ◌<◌, ◌+◌, ◌-◌, ◌^◌, ⊎_elim, inl, inr, ℕ, List, [], ◌∷◌, ◌++◌, length, take, drop, Option, refl, sym, ap, subst, ◌∙◌, arith, append_assoc, length-append, Bool, true, false}
+use Rattle.std.proofs.Common.{◌≡◌, ◌≢◌, ◌≤◌, ◌<◌, ◌+◌, ◌-◌, ⊎_elim, inl, inr, ℕ, List, [], ◌∷◌, ◌++◌, length, drop, Option, refl, sym, ap, subst, ◌∙◌, arith, append_assoc, length-append, Bool, true, false}
 use Rattle.std.proofs.lemmas.List.{append-nil, drop-append-le, take-append-le}
 use Rattle.std.specs.Prelude.{◌⊎◌, ◌==◌, if◌then◌else◌, Result, Ok, Err, IfOk, OnOk}
 use Rattle.std.specs.BTreeMap.{get}
@@ -12,26 +12,25 @@ use Rattle.alt_fields.proofs.Apart.{all_append, all_front}
 use Rattle.alt_flush.specs.Drafts.{kept_before, over_new_log, with_files, with_flush, without}
 use Rattle.alt_flush.proofs.DraftLaws.{old_file}
 use Rattle.alt_flush.proofs.DropLaws.{named_without, none-other}
-use Rattle.alt_flush.proofs.NewLogLaws.{files_of-with_files, named_new_log}
-use Rattle.alt_layout.specs.Families.{files_of, flushed_of, with_later}
+use Rattle.alt_flush.proofs.NewLogLaws.{named_new_log}
+use Rattle.alt_layout.specs.Families.{files_of, flushed_of}
 use Rattle.alt_layout.specs.Files.{all_of}
-use Rattle.alt_layout.specs.Layout.{Layout, RowMap}
+use Rattle.alt_layout.specs.Layout.{Layout}
 use Rattle.alt_layout.specs.Merges.{IsMapFrom}
 use Rattle.alt_layout.proofs.FileLaws.{in_back, in_either, in_front}
 use Rattle.alt_layout.proofs.FlushLaws.{IsPut, flushed_of-own, of-other, put_file}
 use Rattle.alt_layout.proofs.MergeLaws.{none_from, with_later-behind}
 use Rattle.alt_layout.proofs.MomentLaws.{same_or_not}
-use Rattle.alt_manifest.specs.Versions.{IsFamily, IsIn, files_named, numbers_of, row_files}
+use Rattle.alt_manifest.specs.Versions.{IsFamily, IsIn, files_named, row_files}
 use Rattle.alt_manifest.specs.declared.version.FamilyVersion.{FamilyVersion}
 use Rattle.alt_manifest.specs.declared.version.Version.{Version}
-use Rattle.alt_rowfile.specs.InHand.{file_of as row_file, Reads as RowReads, Stands as RowFileStands}
+use Rattle.alt_rowfile.specs.InHand.{file_of as row_file, Stands as RowFileStands}
 use Rattle.alt_rowfile.specs.declared.rowfile.RowFile.{RowFile}
 use Rattle.alt_writes.specs.Writes.{Write}
 use Rattle.alt_families.specs.Families.{Families, files_in, rows_in}
 use Rattle.alt_families.specs.declared.family.Family.{Family}
 use Rattle.alt_hand.specs.Carrying.{AreStill, CarriesDraft}
 use Rattle.alt_hand.specs.Drafting.{AreDead, Makes, without_all}
-use Rattle.alt_hand.specs.InHand.{AreOpen}
 use Rattle.alt_hand.specs.Merging.{IsLater, IsOlder, MayEnd}
 use Rattle.alt_hand.proofs.BesideLaws.{each_on, may_end_on}
 use Rattle.alt_hand.proofs.MakesLaws.{named_of}

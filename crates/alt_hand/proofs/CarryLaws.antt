@@ -1,20 +1,18 @@
 -- A merge under way, carried over calls of its engine.
-use Rattle.std.proofs.Common.{◌≡◌, ◌≢◌, ◌≤◌, ◌<◌, ◌+◌, ◌-◌, ◌^◌, ⊎_elim, inl, inr, ℕ, Bool, true, false, List, [], ◌∷◌, ◌++◌, length, map, take, drop, zero, suc, Option, refl, sym, ap, subst, ◌∙◌, arith, append_assoc, length-append}
-use Rattle.std.proofs.lemmas.List.{append-nil, drop-append-le, take-append-le}
+use Rattle.std.proofs.Common.{◌≡◌, ◌≢◌, ◌≤◌, ◌<◌, ⊎_elim, inl, inr, ℕ, Bool, List, [], ◌∷◌, ◌++◌, Option, refl, sym, ap, subst, ◌∙◌, arith}
+use Rattle.std.proofs.lemmas.List.{append-nil}
 use Rattle.std.specs.Prelude.{◌⊎◌, Result, Ok, Err, OnOk}
 use Rattle.std.specs.BTreeMap.{get}
-use Rattle.std.specs.FinMap.{empty, entries}
 use Rattle.std.specs.List.{AllByRecursion}
 use Rattle.std.specs.Ordering.{nat_cmp}
 use Rattle.alt_cells.specs.declared.batch.RowChange.{RowChange}
 use Rattle.alt_disk.specs.Disk.{DiskState}
 use Rattle.alt_disk.specs.Runs.{Run, Spans}
-use Rattle.alt_fields.proofs.Apart.{all_append, all_front}
+use Rattle.alt_fields.proofs.Apart.{all_front}
 use Rattle.alt_flush.specs.Drafts.{From, IsLeftOver, renumbered}
 use Rattle.alt_gatelog.specs.InHand.{file_of as log_file}
 use Rattle.alt_gatelog.specs.declared.gatelog.GateLog.{GateLog}
 use Rattle.alt_layout.specs.Families.{files_of, flushed_of}
-use Rattle.alt_layout.specs.Files.{EndsWith, IsOf}
 use Rattle.alt_layout.specs.Layout.{Layout}
 use Rattle.alt_layout.specs.Fresh.{versions_file}
 use Rattle.alt_layout.proofs.FileLaws.{apart, in_back, in_front, last_named, named_later}
@@ -29,7 +27,7 @@ use Rattle.alt_writes.specs.Writes.{Write}
 use Rattle.alt_hand.specs.Carrying.{AreStill, Carries, CarriesDraft}
 use Rattle.alt_hand.specs.Drafting.{Makes}
 use Rattle.alt_hand.specs.InHand.{Stands, family_of}
-use Rattle.alt_hand.specs.Merging.{IsMerging, MayEnd, files_at, version_in}
+use Rattle.alt_hand.specs.Merging.{MayEnd, files_at, version_in}
 use Rattle.alt_hand.specs.declared.hand.Hand.{Hand}
 use Rattle.alt_hand.proofs.BesideLaws.{each_on, may_end_on}
 use Rattle.alt_hand.proofs.CarryDrafts.{all_still, still_then}

@@ -1,25 +1,22 @@
 -- A merge's end, from an engine to the draft that is to be its next version.
-use Rattle.std.proofs.Common.{take, ◌≡◌, ◌≢◌, ◌≤◌, ◌<◌, ◌+◌, ◌-◌, ◌^◌, ⊎_elim, inl, inr, ℕ, List, [], ◌∷◌, Option, Some, None, refl, sym, ap, subst, ◌∙◌}
-use Rattle.std.specs.Prelude.{◌⊎◌, option_and_then}
+use Rattle.std.proofs.Common.{take, ◌≡◌, ◌≤◌, ◌<◌, ◌^◌, ⊎_elim, inl, inr, ℕ, List, [], ◌∷◌, Option, None, refl, sym, ap, subst, ◌∙◌}
+use Rattle.std.specs.Prelude.{option_and_then}
 use Rattle.std.specs.BTreeMap.{get}
 use Rattle.std.specs.FinMap.{empty, get as get_row, get-empty}
 use Rattle.std.specs.Ordering.{nat_cmp}
 use Rattle.alt_cells.specs.Keys.{key_cmp}
 use Rattle.alt_cells.specs.Shown.{row_shown}
 use Rattle.alt_disk.specs.Disk.{DiskState}
-use Rattle.alt_disk.specs.Fates.{Fits}
 use Rattle.alt_disk.specs.Runs.{Spans}
 use Rattle.alt_disk.proofs.Runs.{quiet_spans, quiet_start, spans_weaker}
 use Rattle.alt_flush.specs.Drafts.{renumbered, without}
-use Rattle.alt_flush.proofs.DropLaws.{named_without, none-other}
-use Rattle.alt_layout.specs.Families.{flushed_of}
+use Rattle.alt_flush.proofs.DropLaws.{named_without}
 use Rattle.alt_layout.specs.Files.{IsLayout}
-use Rattle.alt_layout.specs.Layout.{Layout, shown}
+use Rattle.alt_layout.specs.Layout.{Layout}
 use Rattle.alt_layout.specs.Merged.{ShowsSame}
 use Rattle.alt_layout.specs.Moments.{HasEither}
 use Rattle.alt_manifest.specs.InHand.{file_of as manifest_file, version_of}
 use Rattle.alt_manifest.specs.Versions.{IsIn, files_named}
-use Rattle.alt_manifest.specs.declared.version.FamilyVersion.{FamilyVersion}
 use Rattle.alt_manifest.specs.declared.version.Version.{Version}
 use Rattle.alt_rowfile.specs.InHand.{file_of as row_file}
 use Rattle.alt_rowfile.specs.declared.rowfile.RowFile.{RowFile}
@@ -29,22 +26,14 @@ use Rattle.alt_families.specs.Families.{Families, files_in}
 use Rattle.alt_hand.specs.Drafting.{AreDead, Empties, IsLying, IsReady, Makes, without_all}
 use Rattle.alt_hand.specs.InHand.{Stands}
 use Rattle.alt_hand.specs.Merging.{IsMadeOf, MayEnd}
-use Rattle.alt_hand.specs.Working.{IsWorked, Works, WorksIn}
+use Rattle.alt_hand.specs.Working.{Works, WorksIn}
 use Rattle.alt_hand.specs.declared.hand.Hand.{Hand}
 use Rattle.alt_hand.proofs.DeadLaws.{without_all-file}
 use Rattle.alt_hand.proofs.FlushesLaws.{begun}
 use Rattle.alt_hand.proofs.HandLaws.{each_image, lies_of}
+use Rattle.alt_hand.proofs.LeftOutLaws.{flushed_others}
 
 -- ---- families that aren't live
-
--- what is flushed of another family stays
-flushed_others : (u : Version) (dead : List ℕ) (family : ℕ) → (IsIn dead family → ⊥)
-    → flushed_of (without_all u dead).families family ≡ flushed_of u.families family
-flushed_others u [] family out = refl
-flushed_others u (d ∷ dead) family out =
-    flushed_others (without u d) dead family (λ there. out (inr there))
-    ∙ none-other (λ (f : FamilyVersion). f.flushed) d (u.next_number - 1) family 0
-    (λ fs. flushed_of fs family) refl (λ f fs. refl) (λ same. out (inl same)) u.families
 
 -- no file is named anew
 named_others : (u : Version) (dead : List ℕ) (f : ℕ) → IsIn (files_named (without_all u dead)) f

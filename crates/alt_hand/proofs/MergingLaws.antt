@@ -1,6 +1,6 @@
 -- The end of a merge, from the draft before it to the one with what was made.
-use Rattle.std.proofs.Common.{◌≡◌, ◌≢◌, ◌≤◌, ◌<◌, ◌+◌, ℕ, true, List, [], ◌∷◌, ◌++◌, length, take, drop, zero, suc, Option, Some, None, rules, refl, sym, ap, subst, ◌∙◌, arith, inl, inr, ⊎_elim}
-use Rattle.std.specs.Prelude.{◌⊎◌, ◌==◌, Bool, if◌then◌else◌, false}
+use Rattle.std.proofs.Common.{◌≡◌, ◌≢◌, ◌≤◌, ◌<◌, ◌+◌, ℕ, true, List, [], ◌∷◌, length, take, drop, zero, suc, Option, Some, None, rules, refl, sym, ap, subst, ◌∙◌, arith, inr, ⊎_elim}
+use Rattle.std.specs.Prelude.{◌==◌, Bool, if◌then◌else◌, false}
 use Rattle.std.specs.BTreeMap.{get}
 use Rattle.std.specs.FinMap.{empty, entries, same_entries_map}
 use Rattle.std.specs.List.{AllByRecursion}
@@ -10,7 +10,6 @@ use Rattle.alt_cells.specs.Compacted.{compacted}
 use Rattle.alt_cells.specs.Joined.{joined_map}
 use Rattle.alt_cells.specs.Rows.{join_row}
 use Rattle.alt_disk.specs.Disk.{DiskState, IsSettled}
-use Rattle.alt_flush.specs.Drafts.{Drafted}
 use Rattle.alt_flush.proofs.MergeDraftLaws.{merged_drafted}
 use Rattle.alt_layout.specs.Families.{Held, IsMapBelow, files_of, flushed_of, joined_files, layout_of, with_later}
 use Rattle.alt_layout.specs.Files.{HoldsRows, all_of}

@@ -14,7 +14,7 @@ use Rattle.alt_manifest.specs.declared.version.Version.{Version}
 use Rattle.alt_merge.specs.Merges.{Each2, all_rows}
 use Rattle.alt_rowfile.specs.InHand.{file_of as row_file, Reads as RowReads, Stands as RowFileStands}
 use Rattle.alt_rowfile.specs.declared.rowfile.RowFile.{RowFile}
-use Rattle.alt_families.specs.Families.{files_in}
+use Rattle.alt_families.specs.Families.{files_in, rows_in}
 use Rattle.alt_hand.specs.InHand.{family_of, limits_of}
 use Rattle.alt_hand.specs.declared.hand.Hand.{Hand}
 
@@ -25,6 +25,10 @@ version_in e = version_of e.manifest
 -- The files of a family in hand.
 abbrev pub files_at : Hand → ℕ → List RowFile
 files_at e family = files_in (family_of e family)
+
+-- The rows that it has in memory.
+abbrev pub memory_at : Hand → ℕ → RowMap
+memory_at e family = rows_in (family_of e family)
 
 -- The row file lies in an earlier file, and each timestamp in it is below the number.
 pub record IsOlder (s : DiskState) (number file : ℕ) (f : RowFile) : Type 0 where

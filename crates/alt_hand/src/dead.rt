@@ -6,6 +6,7 @@ ghost use Rattle.std.specs.FinMap.{empty, entries};
 ghost use Rattle.std.specs.Ordering.{eq_by_cmp, nat_cmp};
 ghost use Rattle.std.specs.Set.{is_member};
 ghost use Rattle.alt_disk.specs.Disk.{DiskState};
+ghost use Rattle.alt_layout.specs.Families.{files_of};
 ghost use Rattle.alt_layout.specs.Layout.{Layout};
 ghost use Rattle.alt_manifest.specs.Versions.{IsIn, numbers_of, row_files};
 ghost use Rattle.alt_writes.specs.Writes.{Write};
@@ -37,6 +38,9 @@ pub(crate) fn dead_of(
         ⊎ (IsIn dead.items family ⊎ (rows_in (get nat_cmp families.now family) ≡ empty))) }
     ensures left { OnOk result ((f : ℕ) → IsIn files.new.items f
         → IsIn files.old.items f ⊎ IsIn (row_files version.now.families) f) }
+    ensures files { OnOk result ((family : ℕ) → (IsIn live.now family → ⊥) → (f : ℕ)
+        → IsIn (files_of version.now.families family) f → IsIn files.new.items f) }
+    ensures kept { OnOk result ((f : ℕ) → IsIn files.old.items f → IsIn files.new.items f) }
 {
     let mut dead = Vec::new(alloc);
     put_named(version.families.as_slice(), live, &mut dead, files)?;
@@ -59,6 +63,9 @@ fn put_named(
         → IsIn live.now family ⊎ IsIn dead.new.items family) }
     ensures left { OnOk result ((f : ℕ) → IsIn files.new.items f
         → IsIn files.old.items f ⊎ IsIn (row_files families.now) f) }
+    ensures files { OnOk result ((family : ℕ) → (IsIn live.now family → ⊥) → (f : ℕ)
+        → IsIn (files_of families.now family) f → IsIn files.new.items f) }
+    ensures kept { OnOk result ((f : ℕ) → IsIn files.old.items f → IsIn files.new.items f) }
 {
     for family in families {
         put_if_dead(family, live, dead, files)?;
@@ -81,6 +88,9 @@ fn put_if_dead(
         ⊎ IsIn dead.new.items family.now.family) }
     ensures left { OnOk result ((f : ℕ) → IsIn files.new.items f
         → IsIn files.old.items f ⊎ IsIn family.now.files f) }
+    ensures files { OnOk result ((IsIn live.now family.now.family → ⊥) → (f : ℕ)
+        → IsIn family.now.files f → IsIn files.new.items f) }
+    ensures kept { OnOk result ((f : ℕ) → IsIn files.old.items f → IsIn files.new.items f) }
 {
     if has(live, family.family) {
         return Ok(());

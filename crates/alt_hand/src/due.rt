@@ -6,10 +6,13 @@ ghost use Rattle.alt_disk.specs.Disk.{IsTrusted, Goes};
 ghost use Rattle.alt_disk.specs.Runs.{Spans};
 ghost use Rattle.alt_layout.specs.Layout.{Layout};
 ghost use Rattle.alt_manifest.specs.Versions.{IsIn, RiseFrom};
+ghost use Rattle.alt_manifest.specs.declared.version.Version.{Version};
+ghost use Rattle.alt_hand.specs.Adding.{Adds, HasOneOf, IsOverNewLog, LeavesOut, MakesNone};
 ghost use Rattle.alt_hand.specs.Carrying.{Carries};
 ghost use Rattle.alt_hand.specs.Drafting.{Empties, EmptiedIn};
-ghost use Rattle.alt_hand.specs.InHand.{Stands, length_of, limits_of, next_of};
-ghost use Rattle.alt_hand.specs.Working.{IsCalm, IsDueFor, IsFlushDone, IsShort, most_entries};
+ghost use Rattle.alt_hand.specs.InHand.{Stands, length_of, limits_of, next_file_of, next_of};
+ghost use Rattle.alt_hand.specs.Merging.{version_in};
+ghost use Rattle.alt_hand.specs.Working.{AreAllFlushed, IsCalm, IsDueFor, IsFlushDone, IsLong, IsShort, most_entries};
 
 use crate::full::first_full;
 use crate::hand::{EngineFault, Hand};
@@ -42,6 +45,21 @@ impl Hand {
         ensures idle_hand { IfOk result (λ done. done ≡ false → self.new ≡ self.old) }
         ensures done { IfOk result (λ done. done ≡ true
             → IsFlushDone live.now self.old self.new) }
+
+        // Then there is one version more: over a new log where all were flushed, and else without families that aren't live.
+        ensures version { IfOk result (λ done. done ≡ true → IsTrusted (D.state disk.old)
+            → (l : Layout) → Stands (D.state disk.old) self.old l
+            → (IsLong self.old × AreAllFlushed live.now self.old self.new
+            × IsOverNewLog live.now self.old self.new)
+            ⊎ (IsShort self.old × LeavesOut live.now self.old self.new)) }
+        ensures adds { IfOk result (λ done. done ≡ true → IsTrusted (D.state disk.old)
+            → Adds (D.state disk.new) self.old self.new) }
+        ensures missing { OnOk result (IsTrusted (D.state disk.old) → (l : Layout)
+            → Stands (D.state disk.old) self.old l
+            → MakesNone (D.state disk.old) (D.state disk.new) (next_file_of self.old)) }
+        ensures one_version { IsTrusted (D.state disk.old) → (l : Layout)
+            → Stands (D.state disk.old) self.old l → (w : Version)
+            × Spans (D.state disk.old) (D.state disk.new) (λ _. ⊤) (HasOneOf (version_in self.old) w) }
         ensures length { OnOk result ((length_of self.new ≡ 0)
             ⊎ (IsShort self.old × (length_of self.new ≡ length_of self.old))) }
 

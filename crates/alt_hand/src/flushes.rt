@@ -1,19 +1,23 @@
 //! Flushes: of all families, over a new segment, or of one.
 
-ghost use Rattle.std.specs.Prelude.{◌≡◌, ◌⊎◌, ◌+◌, ◌++◌, ℕ, List, OnOk, IfErr, IfOk, IsErrOf, ⊤};
+ghost use Rattle.std.specs.Prelude.{◌≡◌, ◌⊎◌, ◌+◌, ◌++◌, ◌-◌, [], ℕ, List, OnOk, IfErr, IfOk, IsErrOf, ⊤};
 ghost use Rattle.std.specs.BTreeMap.{get};
 ghost use Rattle.std.specs.FinMap.{empty, entries};
 ghost use Rattle.std.specs.Ordering.{nat_cmp};
 ghost use Rattle.alt_base.specs.Counts.{Rose};
 ghost use Rattle.alt_disk.specs.Disk.{DiskState, IsTrusted, Goes};
 ghost use Rattle.alt_disk.specs.Runs.{Spans};
+ghost use Rattle.alt_flush.specs.Laws.{DropsOnly};
+ghost use Rattle.alt_layout.specs.Families.{files_of};
 ghost use Rattle.alt_layout.specs.Layout.{Layout};
 ghost use Rattle.alt_manifest.specs.Versions.{IsIn, RiseFrom, row_files};
 ghost use Rattle.alt_writes.specs.Writes.{Write};
 ghost use Rattle.alt_families.specs.Families.{rows_in};
+ghost use Rattle.alt_hand.specs.Adding.{Adds, HasOneOf, IsLeftOut, IsOverNewLog, IsThere, LeavesOut, MakesNone};
 ghost use Rattle.alt_hand.specs.Carrying.{Carries, CarriesDraft};
 ghost use Rattle.alt_hand.specs.Drafting.{AreDead, Empties, EmptiedIn, IsSpentFor, Makes, files_for, without_all};
-ghost use Rattle.alt_hand.specs.InHand.{Stands, family_of, length_of, limits_of, next_of};
+ghost use Rattle.alt_hand.specs.InHand.{Stands, family_of, length_of, limits_of, next_file_of, next_of};
+ghost use Rattle.alt_hand.specs.Merging.{version_in};
 ghost use Rattle.alt_hand.specs.Working.{AreAllFlushed, IsAllFor, IsOneFlushed};
 
 use crate::dead::{dead_of, drop_all};
@@ -41,6 +45,18 @@ impl Hand {
         ensures limits { limits_of self.new ≡ limits_of self.old }
         ensures length { OnOk result (length_of self.new ≡ 0) }
         ensures flushed { OnOk result (AreAllFlushed live.now self.old self.new) }
+
+        // There is one version more, over the new log, which names no family that isn't live.
+        ensures new_log { OnOk result (IsTrusted (D.state disk.old) → (l : Layout)
+            → Stands (D.state disk.old) self.old l → IsOverNewLog live.now self.old self.new) }
+        ensures adds { OnOk result (IsTrusted (D.state disk.old)
+            → Adds (D.state disk.new) self.old self.new) }
+        ensures missing { OnOk result (IsTrusted (D.state disk.old) → (l : Layout)
+            → Stands (D.state disk.old) self.old l
+            → MakesNone (D.state disk.old) (D.state disk.new) (next_file_of self.old)) }
+        ensures one_version { IsTrusted (D.state disk.old) → (l : Layout)
+            → Stands (D.state disk.old) self.old l → (w : Version)
+            × Spans (D.state disk.old) (D.state disk.new) (λ _. ⊤) (HasOneOf (version_in self.old) w) }
 
         // A merge of files of a live family under way stays one.
         ensures carries { OnOk result (IsTrusted (D.state disk.old) → (l : Layout)
@@ -94,6 +110,15 @@ impl Hand {
         ensures limits { limits_of self.new ≡ limits_of self.old }
         ensures length { OnOk result (length_of self.new ≡ length_of self.old) }
         ensures flushed { OnOk result (IsOneFlushed live.now self.old self.new family) }
+        ensures leaves_out { OnOk result (LeavesOut live.now self.old self.new) }
+        ensures adds { OnOk result (IsTrusted (D.state disk.old)
+            → Adds (D.state disk.new) self.old self.new) }
+        ensures missing { OnOk result (IsTrusted (D.state disk.old) → (l : Layout)
+            → Stands (D.state disk.old) self.old l
+            → MakesNone (D.state disk.old) (D.state disk.new) (next_file_of self.old)) }
+        ensures one_version { IsTrusted (D.state disk.old) → (l : Layout)
+            → Stands (D.state disk.old) self.old l → (w : Version)
+            × Spans (D.state disk.old) (D.state disk.new) (λ _. ⊤) (HasOneOf (version_in self.old) w) }
         ensures carries { OnOk result (IsTrusted (D.state disk.old) → (l : Layout)
             → Stands (D.state disk.old) self.old l → (other : ℕ) → IsIn live.now other
             → Carries (D.state disk.old) (D.state disk.new) self.old self.new other) }
@@ -144,6 +169,15 @@ pub(crate) fn leave_dead(
         (get nat_cmp families.new family) family) }
     ensures left { OnOk result ((f : ℕ) → IsIn left.new.items f
         → IsIn left.old.items f ⊎ IsIn (row_files draft.families) f) }
+    ensures kept { OnOk result ((f : ℕ) → IsIn left.old.items f → IsIn left.new.items f) }
+    ensures drops { IfOk result (λ u. DropsOnly draft u left.new.items) }
+    ensures bare { IfOk result (λ u. (family : ℕ) → (IsIn live.now family → ⊥)
+        → files_of u.families family ≡ []) }
+    ensures past { IfOk result (λ u. (family : ℕ) → (IsIn live.now family → ⊥)
+        → IsThere draft (get nat_cmp families.old family) family
+        → IsLeftOut u family (draft.next_number - 1)) }
+    ensures same { IfOk result (λ u. (family : ℕ) → IsIn live.now family
+        → files_of u.families family ≡ files_of draft.families family) }
 {
     let dead = dead_of(alloc, &draft, families, live, left)?;
     drop_all(alloc, families, draft, dead.as_slice())

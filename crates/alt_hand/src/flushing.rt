@@ -9,10 +9,13 @@ ghost use Rattle.alt_base.specs.Counts.{Rose};
 ghost use Rattle.alt_disk.specs.Disk.{IsTrusted, Goes};
 ghost use Rattle.alt_disk.specs.Runs.{Spans};
 ghost use Rattle.alt_flush.specs.Drafts.{From};
+ghost use Rattle.alt_flush.specs.Laws.{DropsOnly};
+ghost use Rattle.alt_layout.specs.Families.{files_of};
 ghost use Rattle.alt_layout.specs.Layout.{Layout};
 ghost use Rattle.alt_manifest.specs.Versions.{IsIn, RiseFrom};
 ghost use Rattle.alt_writes.specs.Writes.{Write};
 ghost use Rattle.alt_families.specs.Families.{rows_in, files_in};
+ghost use Rattle.alt_hand.specs.Adding.{IsLeftOut};
 ghost use Rattle.alt_hand.specs.Carrying.{CarriesDraft};
 ghost use Rattle.alt_hand.specs.Drafting.{IsFlushed, IsSpentFor, Makes, files_for, files_needed};
 
@@ -48,6 +51,9 @@ pub(crate) fn flush_each<D: Disk>(
         → IsFlushed (get nat_cmp families.old family) (get nat_cmp families.new family)) }
     ensures others { OnOk result ((family : ℕ) → (IsIn live.now family → ⊥)
         → get nat_cmp families.new family ≡ get nat_cmp families.old family) }
+    ensures drops { IfOk result (λ u. DropsOnly draft u []) }
+    ensures apart { IfOk result (λ u. (family : ℕ) → (IsIn live.now family → ⊥)
+        → files_of u.families family ≡ files_of draft.families family) }
     ensures carries { IfOk result (λ u. IsTrusted (D.state disk.old) → (parts : List (List Write))
         (l : Layout) → Makes (D.state disk.old) draft families.old parts l → (family : ℕ)
         → CarriesDraft (D.state disk.old) (D.state disk.new) draft u
@@ -88,6 +94,11 @@ pub(crate) fn flush_rows<D: Disk>(
         (IsFlushed (get nat_cmp families.old family) (get nat_cmp families.new family)) }
     ensures others { OnOk result ((other : ℕ) → other ≢ family
         → get nat_cmp families.new other ≡ get nat_cmp families.old other) }
+    ensures drops { IfOk result (λ u. DropsOnly draft u []) }
+    ensures apart { IfOk result (λ u. (other : ℕ) → other ≢ family
+        → files_of u.families other ≡ files_of draft.families other) }
+    ensures past { IfOk result (λ u. (other flushed : ℕ) → other ≢ family
+        → IsLeftOut draft other flushed → IsLeftOut u other flushed) }
     ensures carries { IfOk result (λ u. IsTrusted (D.state disk.old) → (parts : List (List Write))
         (l : Layout) → Makes (D.state disk.old) draft families.old parts l → (other : ℕ)
         → CarriesDraft (D.state disk.old) (D.state disk.new) draft u

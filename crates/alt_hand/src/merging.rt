@@ -7,17 +7,19 @@ ghost use Rattle.std.specs.Ordering.{nat_cmp};
 ghost use Rattle.alt_base.specs.Counts.{Rose};
 ghost use Rattle.alt_disk.specs.Disk.{DiskState, IsTrusted, Goes};
 ghost use Rattle.alt_disk.specs.Runs.{Spans};
-ghost use Rattle.alt_layout.specs.Families.{flushed_of};
+ghost use Rattle.alt_flush.specs.Laws.{DropsOnly};
+ghost use Rattle.alt_layout.specs.Families.{files_of, flushed_of};
 ghost use Rattle.alt_layout.specs.Layout.{Layout};
 ghost use Rattle.alt_layout.specs.Merged.{ShowsSame};
 ghost use Rattle.alt_manifest.specs.Versions.{IsIn};
 ghost use Rattle.alt_rowfile.specs.InHand.{file_of as row_file};
 ghost use Rattle.alt_writes.specs.Writes.{Write};
 ghost use Rattle.alt_families.specs.Families.{files_in, rows_in};
+ghost use Rattle.alt_hand.specs.Adding.{Adds, HasOneOf, IsLeftOut, LeavesOut, MakesNone};
 ghost use Rattle.alt_hand.specs.Carrying.{AreStill};
 ghost use Rattle.alt_hand.specs.Drafting.{IsUnspent, Makes};
 ghost use Rattle.alt_hand.specs.InHand.{Stands, length_of, limits_of, next_file_of, next_of};
-ghost use Rattle.alt_hand.specs.Merging.{IsMadeOf, IsMerging, MayEnd, files_at, version_in};
+ghost use Rattle.alt_hand.specs.Merging.{IsMadeOf, IsMerging, MayEnd, files_at, memory_at, version_in};
 ghost use Rattle.alt_hand.specs.Working.{Works, WorksIn};
 
 use crate::flushes::leave_dead;
@@ -55,6 +57,7 @@ impl Hand {
             → IsMerging s self.new family (length (files_at self.old family))
             (flushed_of (version_in self.old).families family) (next_file_of self.old)) }
         ensures files { (family : ℕ) → files_at self.new family ≡ files_at self.old family }
+        ensures memory { (family : ℕ) → memory_at self.new family ≡ memory_at self.old family }
         ensures version { version_in self.new ≡ version_in self.old }
         ensures length { length_of self.new ≡ length_of self.old }
         ensures next { next_of self.new ≡ next_of self.old }
@@ -102,6 +105,19 @@ impl Hand {
             ≡ made ∷ drop taken (files_at self.old family)) }
         ensures others { OnOk result ((other : ℕ) → IsIn live.now other → other ≢ family
             → files_at self.new other ≡ files_at self.old other) }
+
+        // No live family's rows in memory are touched, and there is one version more, without families that aren't live.
+        ensures memory { OnOk result ((other : ℕ) → IsIn live.now other
+            → memory_at self.new other ≡ memory_at self.old other) }
+        ensures leaves_out { OnOk result (LeavesOut live.now self.old self.new) }
+        ensures adds { OnOk result (IsTrusted (D.state disk.old)
+            → Adds (D.state disk.new) self.old self.new) }
+        ensures missing { OnOk result (IsTrusted (D.state disk.old) → (l : Layout)
+            → Stands (D.state disk.old) self.old l
+            → MakesNone (D.state disk.old) (D.state disk.new) (next_file_of self.old)) }
+        ensures one_version { IsTrusted (D.state disk.old) → (l : Layout)
+            → Stands (D.state disk.old) self.old l → (w : Version)
+            × Spans (D.state disk.old) (D.state disk.new) (λ _. ⊤) (HasOneOf (version_in self.old) w) }
 
         // The files of other live families read as they read, and so does the one that was made.
         ensures still { OnOk result (IsTrusted (D.state disk.old) → (l : Layout)
@@ -171,6 +187,11 @@ fn merged(
         ≡ made ∷ drop taken (files_in (get nat_cmp families.old family))) }
     ensures others { OnOk result ((other : ℕ) → other ≢ family
         → get nat_cmp families.new other ≡ get nat_cmp families.old other) }
+    ensures rows { OnOk result (rows_in (get nat_cmp families.new family)
+        ≡ rows_in (get nat_cmp families.old family)) }
+    ensures drops { IfOk result (λ u. DropsOnly alive u (files_of alive.families family)) }
+    ensures past { IfOk result (λ u. (other flushed : ℕ) → other ≢ family
+        → IsLeftOut alive other flushed → IsLeftOut u other flushed) }
 {
     let draft = with_merge(alloc, &alive, family, taken, file)?;
     put_made(families, family, taken, made)?;
@@ -219,11 +240,25 @@ fn put_files_of(
     families: &[FamilyVersion],
     family: u32,
     files: &mut Vec<u32>,
-) -> Result<(), NoMemory> {
+) -> Result<(), NoMemory>
+    ensures own { OnOk result ((f : ℕ) → IsIn (files_of families.now family) f
+        → IsIn files.new.items f) }
+    ensures kept { OnOk result ((f : ℕ) → IsIn files.old.items f → IsIn files.new.items f) }
+{
     for found in families {
-        if found.family == family {
-            files.extend_from_slice(found.files.as_slice())?;
-        }
+        put_if_own(found, family, files)?;
+    }
+    Ok(())
+}
+
+/// Puts the files of a family at the end of the list where it has this number.
+fn put_if_own(found: &FamilyVersion, family: u32, files: &mut Vec<u32>) -> Result<(), NoMemory>
+    ensures own { OnOk result (found.now.family ≡ family → (f : ℕ) → IsIn found.now.files f
+        → IsIn files.new.items f) }
+    ensures kept { OnOk result ((f : ℕ) → IsIn files.old.items f → IsIn files.new.items f) }
+{
+    if found.family == family {
+        files.extend_from_slice(found.files.as_slice())?;
     }
     Ok(())
 }

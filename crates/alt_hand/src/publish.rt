@@ -8,6 +8,7 @@ ghost use Rattle.alt_flush.specs.Drafts.{IsLeftOver};
 ghost use Rattle.alt_layout.specs.Fresh.{versions_file};
 ghost use Rattle.alt_layout.specs.Layout.{Layout};
 ghost use Rattle.alt_layout.specs.Moments.{HasEither};
+ghost use Rattle.alt_hand.specs.Adding.{HasOneOf};
 ghost use Rattle.alt_hand.specs.Drafting.{IsLying, IsReady, IsUnspent};
 ghost use Rattle.alt_hand.specs.InHand.{Stands, limits_of, next_of};
 ghost use Rattle.alt_hand.specs.Merging.{version_in};
@@ -45,6 +46,15 @@ impl Hand {
             → IsReady (D.state disk.old) self.old draft m → (f : ℕ) → f ≢ versions_file
             → (IsLeftOver left.now draft f → ⊥)
             → (D.state disk.new).file f ≡ (D.state disk.old).file f) }
+        ensures missing { OnOk result (IsTrusted (D.state disk.old) → (m : Layout)
+            → IsReady (D.state disk.old) self.old draft m → (f : ℕ) → f ≢ versions_file
+            → (D.state disk.old).file f ≡ None → (D.state disk.new).file f ≡ None) }
+
+        // At each moment the last version is that in hand, or the draft.
+        ensures one_version { IsTrusted (D.state disk.old) → (m : Layout)
+            → IsReady (D.state disk.old) self.old draft m
+            → Spans (D.state disk.old) (D.state disk.new) (λ _. ⊤)
+            (HasOneOf (version_in self.old) draft) }
 
         // A stop at any moment of the call, also one that fails, leaves the layout of the last version or that of the draft.
         ensures any_moment { IsTrusted (D.state disk.old) → (l m : Layout)

@@ -1,7 +1,7 @@
 -- A number more.
 use Rattle.std.proofs.Common.{inl, inr, ◌∷◌, ◌++◌, ◌∙◌, [], List, ℕ, ap, subst, sym}
-use Rattle.alt_layout.proofs.FileLaws.{in_either, in_front}
-use Rattle.alt_manifest.proofs.RuleLaws.{tells_no}
+use Rattle.alt_layout.proofs.FileLaws.{in_back, in_either, in_front}
+use Rattle.alt_manifest.proofs.RuleLaws.{tells_no, tells_yes}
 use Rattle.alt_manifest.specs.Versions.{IsIn}
 use Rattle.alt_hand.specs.Drafting.{AreDead}
 use Rattle.alt_hand.proofs.DeadLaws.{dead_push, in_push}
@@ -28,3 +28,20 @@ returns-clause-left c f there = in_either c.args.files.now.items c.args.family.n
     (λ front. inl front) (λ back. inr back)
     (subst (λ (xs : List ℕ). IsIn xs f) (c.in_ok-extend_from_slice.ensures.items
     ∙ ap (λ ys. c.args.files.now.items ++ ys) c.as_slice.ensures) there)
+
+pub returns-then-has-clause-files : goal.returns-then-has-clause-files
+returns-then-has-clause-files c out f there =
+    absurd (out (tells_yes c.has.result (IsIn c.args.live.now c.args.family.now.family) c.has.ensures
+    c.if-has.true))
+
+pub returns-clause-files : goal.returns-clause-files
+returns-clause-files c out f there = subst (λ (xs : List ℕ). IsIn xs f)
+    (sym (c.in_ok-extend_from_slice.ensures.items
+    ∙ ap (λ ys. c.args.files.now.items ++ ys) c.as_slice.ensures))
+    (in_back c.args.files.now.items c.args.family.now.files f there)
+
+pub returns-clause-kept : goal.returns-clause-kept
+returns-clause-kept c f there = subst (λ (xs : List ℕ). IsIn xs f)
+    (sym (c.in_ok-extend_from_slice.ensures.items
+    ∙ ap (λ ys. c.args.files.now.items ++ ys) c.as_slice.ensures))
+    (in_front c.args.files.now.items c.args.family.now.files f there)

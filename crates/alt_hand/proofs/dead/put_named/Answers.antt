@@ -2,7 +2,9 @@
 use Rattle.std.proofs.Common.{◌≡◌, inl, inr, ⊎_elim, take, subst, sym}
 use Rattle.std.specs.Prelude.{◌⊎◌}
 use Rattle.alt_manifest.specs.Versions.{IsIn, numbers_of}
+use Rattle.alt_layout.specs.Families.{files_of}
 use Rattle.alt_hand.proofs.DeadLaws.{in_row_files_at, numbers_more}
+use Rattle.alt_hand.proofs.LeftOutLaws.{files_more}
 use Rattle.alt_hand.proofs.dead.put_named.Goals as goal
 
 pub loop-family-preserved : goal.loop-family-preserved
@@ -25,4 +27,11 @@ loop-family-preserved c =
           (λ (before : IsIn c.loop-family.files.items g). c.loop-family.invariant.left g before)
           (λ (own : IsIn f.files g). inr (in_row_files_at fs i f g c.loop-family-test.true
           c.family-item.is own)) (one.left g there);
+      files = λ family out g there. ⊎_elim
+          (λ (before : IsIn (files_of (take i fs) family) g).
+          one.kept g (c.loop-family.invariant.files family out g before))
+          (λ (own : (f.family ≡ family) × IsIn f.files g). one.files
+          (λ lives. out (subst (IsIn c.args.live.now) own.0 lives)) g own.1)
+          (files_more fs i f family g c.loop-family-test.true c.family-item.is there);
+      kept = λ g there. one.kept g (c.loop-family.invariant.kept g there);
     }

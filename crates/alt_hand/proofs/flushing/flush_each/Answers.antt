@@ -1,5 +1,5 @@
 -- A family more.
-use Rattle.std.proofs.Common.{◌≡◌, ◌≤◌, ⊎_elim, ℕ, take, get_or, refl, sym, subst, ◌∙◌, arith}
+use Rattle.std.proofs.Common.{◌≡◌, ◌≤◌, ⊎_elim, inl, ℕ, [], take, get_or, refl, sym, subst, ◌∙◌, arith}
 use Rattle.std.specs.BTreeMap.{get}
 use Rattle.std.specs.Ordering.{nat_cmp}
 use Rattle.alt_disk.specs.Disk.{DiskState}
@@ -13,6 +13,8 @@ use Rattle.alt_manifest.specs.Versions.{IsIn}
 use Rattle.alt_hand.specs.Drafting.{IsFlushed}
 use Rattle.alt_hand.proofs.DeadLaws.{others_more}
 use Rattle.alt_hand.proofs.NeedLaws.{before_apart, needed_more}
+use Rattle.alt_hand.proofs.AddingLaws.{drops_then}
+use Rattle.alt_hand.proofs.LeftOutLaws.{in_less}
 use Rattle.alt_hand.proofs.CarryDrafts.{carries_same, carries_then}
 use Rattle.alt_hand.proofs.flushing.flush_each.Goals as goal
 
@@ -36,6 +38,8 @@ loop-family-init g c =
       segments = refl;
       flushed = λ family no. absurd no;
       others = λ family out. refl;
+      drops = λ f there. inl there;
+      apart = λ family out. refl;
       spans = λ trusted. none_removed a (From c.args.draft.next_file);
       goes = goes_refl a;
       well = refl;
@@ -92,6 +96,10 @@ loop-family-preserved g c =
           refl)) one.flushed)) (in_more live i other within there);
       others = λ other not_in. others_more old new c.args.families.now live i other within one.others
           before.others not_in;
+      drops = drops_then c.args.draft c.loop-family.draft c.in_ok-draft.draft [] [] before.drops one.drops
+          (λ f no. no);
+      apart = λ other not_in. let at = in_less live i other within not_in in
+          one.apart other at.1 ∙ before.apart other at.0;
       spans = λ trusted. spans_later a b d c.loop-family.draft.next_file c.args.draft.next_file
           before.low (before.spans trusted) (one.spans (trusted_on a b before.goes trusted));
       goes = goes_then a b d before.goes one.goes;

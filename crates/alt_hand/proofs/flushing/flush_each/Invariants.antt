@@ -1,10 +1,12 @@
 -- The families so far are flushed.
-use Rattle.std.proofs.Common.{◌≡◌, ◌≤◌, ◌+◌, ℕ, List, take, drop}
+use Rattle.std.proofs.Common.{◌≡◌, ◌≤◌, ◌+◌, ℕ, List, [], take, drop}
 use Rattle.std.specs.BTreeMap.{get}
 use Rattle.std.specs.Ordering.{nat_cmp}
 use Rattle.alt_disk.specs.Disk.{IsTrusted, Goes}
 use Rattle.alt_disk.specs.Runs.{Spans}
 use Rattle.alt_flush.specs.Drafts.{From}
+use Rattle.alt_flush.specs.Laws.{DropsOnly}
+use Rattle.alt_layout.specs.Families.{files_of}
 use Rattle.alt_layout.specs.Layout.{Layout}
 use Rattle.alt_manifest.specs.Versions.{IsIn}
 use Rattle.alt_writes.specs.Writes.{Write}
@@ -29,6 +31,9 @@ invariant-loop-family g l = record {
       → IsFlushed (get nat_cmp l.fn.families family) (get nat_cmp l.families family);
   others : (family : ℕ) → (IsIn (take l.family-index l.live) family → ⊥)
       → get nat_cmp l.families family ≡ get nat_cmp l.fn.families family;
+  drops : DropsOnly l.fn.draft l.draft [];
+  apart : (family : ℕ) → (IsIn (take l.family-index l.live) family → ⊥)
+      → files_of l.draft.families family ≡ files_of l.fn.draft.families family;
   spans : IsTrusted (g.D.Disk.state l.fn.disk)
       → Spans (g.D.Disk.state l.fn.disk) (g.D.Disk.state l.disk) (From l.fn.draft.next_file)
       (λ t image. Unit {0});

@@ -1,5 +1,5 @@
 -- A file of the family's rows, or nothing where it has none.
-use Rattle.std.proofs.Common.{◌≡◌, sym, ap, subst, ◌∙◌, arith, rules}
+use Rattle.std.proofs.Common.{◌≡◌, ◌-◌, inl, [], refl, sym, ap, subst, ◌∙◌, arith, rules}
 use Rattle.std.specs.BTreeMap.{get}
 use Rattle.std.specs.FinMap.{entries}
 use Rattle.std.specs.Ordering.{nat_cmp}
@@ -15,6 +15,13 @@ use Rattle.alt_hand.proofs.MakesLaws.{makes_flush}
 use Rattle.alt_hand.proofs.NeedLaws.{files_for-empty, none_flushed, one_flushed}
 use Rattle.alt_hand.specs.Carrying.{CarriesDraft}
 use Rattle.alt_hand.proofs.CarryDrafts.{carries_flush, carries_same}
+use Rattle.alt_flush.specs.Laws.{DropsOnly}
+use Rattle.alt_flush.proofs.NamedLaws.{flush_drops}
+use Rattle.alt_layout.specs.Families.{files_of, flushed_of}
+use Rattle.alt_layout.proofs.FlushLaws.{of-other}
+use Rattle.alt_manifest.specs.declared.version.FamilyVersion.{FamilyVersion}
+use Rattle.alt_hand.specs.Adding.{IsLeftOut}
+use Rattle.alt_hand.proofs.LeftOutLaws.{named_file}
 use Rattle.alt_hand.proofs.flushing.flush_rows.Goals as goal
 
 pub returns-then-not-has_rows-clause-flushed : goal.returns-then-not-has_rows-clause-flushed
@@ -73,3 +80,37 @@ returns-clause-carries g c trusted parts l makes other =
     (subst (λ (m : RowMap). RowFileStands b made.made (entries m))
     (ap rows_in c.in-Some.ensures.value) (made.ensures.rows trusted))
     c.put_file.new.families c.in_ok-put_file.ensures.files c.in_ok-put_file.ensures.others other)
+
+pub returns-then-not-has_rows-clause-drops : goal.returns-then-not-has_rows-clause-drops
+returns-then-not-has_rows-clause-drops g c f there = inl there
+
+pub returns-in-None-clause-drops : goal.returns-in-None-clause-drops
+returns-in-None-clause-drops g c f there = inl there
+
+pub returns-clause-drops : goal.returns-clause-drops
+returns-clause-drops g c = subst (λ (v : Version). DropsOnly c.args.draft v [])
+    (sym c.in_ok-next.ensures) (flush_drops c.args.draft c.args.family)
+
+pub returns-clause-apart : goal.returns-clause-apart
+returns-clause-apart g c other apart = ap (λ (v : Version). files_of v.families other) c.in_ok-next.ensures
+    ∙ of-other (λ (f : FamilyVersion). f.files) c.args.family (c.args.draft.next_number - 1)
+    c.args.draft.next_file other [] (λ fs. files_of fs other) refl (λ f fs. refl) apart
+    c.args.draft.families
+
+pub returns-clause-past : goal.returns-clause-past
+returns-clause-past g c other flushed apart left =
+    let family = c.args.family in
+    let u = c.args.draft in
+    subst (λ (v : Version). IsLeftOut v other flushed) (sym c.in_ok-next.ensures) (record {
+      named = named_file family (u.next_number - 1) u.next_file other u.families left.named;
+      files = of-other (λ (f : FamilyVersion). f.files) family (u.next_number - 1) u.next_file other []
+          (λ fs. files_of fs other) refl (λ f fs. refl) apart u.families ∙ left.files;
+      flushed = of-other (λ (f : FamilyVersion). f.flushed) family (u.next_number - 1) u.next_file other 0
+          (λ fs. flushed_of fs other) refl (λ f fs. refl) apart u.families ∙ left.flushed;
+    })
+
+pub returns-then-not-has_rows-clause-past : goal.returns-then-not-has_rows-clause-past
+returns-then-not-has_rows-clause-past g c other flushed apart left = left
+
+pub returns-in-None-clause-past : goal.returns-in-None-clause-past
+returns-in-None-clause-past g c other flushed apart left = left

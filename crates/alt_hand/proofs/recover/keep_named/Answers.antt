@@ -4,7 +4,6 @@ use Rattle.std.specs.Prelude.{⊤}
 use Rattle.std.specs.List.{list_any}
 use Rattle.alt_cells.proofs.Keeping.{tells_on}
 use Rattle.alt_disk.specs.Disk.{DiskState}
-use Rattle.alt_disk.specs.Runs.{Spans}
 use Rattle.alt_disk.proofs.Runs.{quiet_on, quiet_spans, quiet_start, spans_on, spans_weaker, tells_of, trusted_on}
 use Rattle.alt_manifest.specs.declared.version.Version.{Version}
 use Rattle.alt_layout.specs.Files.{IsOf}

@@ -1,8 +1,6 @@
 -- The first that has.
-use Rattle.std.proofs.Common.{◌≡◌, ◌++◌, ◌∷◌, [], ◌+◌, ℕ, List, take, drop, get_or, sym, ap, subst, ◌∙◌}
-use Rattle.std.proofs.lemmas.Bool.{false≢true}
+use Rattle.std.proofs.Common.{◌++◌, ◌∷◌, [], ◌+◌, take, drop, get_or, sym, ap, subst, ◌∙◌}
 use Rattle.std.proofs.lemmas.List.{drop_more, take-append-drop, take_more}
-use Rattle.std.specs.Prelude.{Bool, true, false}
 use Rattle.std.specs.List.{AllByRecursion}
 use Rattle.alt_fields.proofs.Apart.{all_append}
 use Rattle.alt_manifest.specs.Rules.{Tells}

@@ -1,5 +1,5 @@
 -- Drafts with a file for each family and over a new segment, and then the version.
-use Rattle.std.proofs.Common.{◌≡◌, ◌≤◌, ◌+◌, ◌++◌, inr, ℕ, List, sym, ap, subst, ◌∙◌, arith, rules}
+use Rattle.std.proofs.Common.{◌≡◌, ◌≤◌, ◌+◌, ◌++◌, ⊎_elim, inr, ℕ, List, refl, sym, ap, subst, ◌∙◌, arith, rules}
 use Rattle.std.proofs.lemmas.Result.{IfErr-weaker, on_ok_weaker}
 use Rattle.std.specs.Prelude.{IfErr}
 use Rattle.alt_disk.specs.Disk.{DiskState}
@@ -21,6 +21,15 @@ use Rattle.alt_hand.proofs.CarryDrafts.{carries_new_log, carries_then}
 use Rattle.alt_hand.proofs.CarryLaws.{carries_published, left_named, on_ok_both}
 use Rattle.alt_hand.proofs.FlushesLaws.{all_empty, begun, lying, made, making, ready_new, run_later}
 use Rattle.alt_hand.proofs.NeedLaws.{needed_same, spent_more}
+use Rattle.alt_flush.specs.Laws.{DropsOnly}
+use Rattle.alt_flush.proofs.NamedLaws.{log_drops, log_names}
+use Rattle.alt_flush.proofs.NewLogLaws.{named_new_log}
+use Rattle.alt_layout.specs.Fresh.{versions_file}
+use Rattle.alt_layout.proofs.FileLaws.{apart, in_back, in_front, named_later}
+use Rattle.alt_layout.proofs.FlushLaws.{above_all}
+use Rattle.alt_manifest.specs.Versions.{files_named, numbers_of, row_files}
+use Rattle.alt_hand.proofs.AddingLaws.{adds_draft, drops_first, drops_then, makes_none, no_version, one_version}
+use Rattle.alt_hand.proofs.PublishLaws.{in_or_not}
 use Rattle.alt_hand.proofs.hand.Hand.flush_all.Goals as goal
 
 pub returns-in_err-first-clause-any_moment : goal.returns-in_err-first-clause-any_moment
@@ -398,3 +407,242 @@ returns-clause-carries g c = on_ok_both c.publish.result
     (others (trusted_on b d c.in_ok-log.ensures.goes told) begins.0 ready)
     c.publish.ensures.families version c.publish.ensures.file)
     c.publish.ensures.version c.publish.ensures.others
+
+pub returns-clause-new_log : goal.returns-clause-new_log
+returns-clause-new_log g c = on_ok_weaker c.publish.result
+    (λ (version : version_in c.publish.new.self ≡ c.in_ok-draft.draft) trusted l stands.
+    let a : DiskState = g.D.Disk.state c.args.disk.now in
+    let e = c.args.self.now in
+    let live = c.args.live.now in
+    let is : c.in_ok-first.first ≡ renumbered (version_of e.manifest) e.next_file e.next =
+    c.in_ok-first.ensures ∙ ap (λ (v : Version). renumbered v e.next_file e.next) c.current.ensures in
+    let begins = begun a e l live stands c.in_ok-first.first c.in_ok-alive.alive
+    c.leave_dead.new.families (search rules) is c.in_ok-alive.ensures.makes in
+    let makes = c.in_ok-flushed.ensures.makes trusted stands.reads.parts begins.0 begins.1 in
+    let flushed = c.in_ok-flushed.flushed in
+    let draft : version_in c.publish.new.self ≡ over_new_log flushed =
+    version ∙ c.in_ok-draft.ensures in
+    record {
+      segment = flushed.next_file;
+      segments = ap (λ (v : Version). v.segments) draft;
+      last = c.publish.ensures.file ∙ ap (λ (v : Version). v.next_file) c.in_ok-draft.ensures;
+      left = λ f there of.
+          let old : IsIn flushed.segments f = subst (λ (xs : List ℕ). IsIn xs f)
+          (sym (c.in_ok-flushed.ensures.segments ∙ c.in_ok-alive.ensures.segments
+          ∙ ap (λ (v : Version). v.segments) is)) there in
+          let named : IsIn (files_named flushed) f =
+          in_front flushed.segments (row_files flushed.families) f old in ⊎_elim
+          (λ (first : f ≡ versions_file). named_later flushed f makes.drafted.is named first)
+          (λ (name : IsIn (files_named (version_in c.publish.new.self)) f). ⊎_elim
+          (λ (e : f ≡ flushed.next_file). above_all (files_named flushed) flushed.next_file
+          makes.drafted.is.below (subst (IsIn (files_named flushed)) e named))
+          (λ (row : IsIn (row_files flushed.families) f). apart flushed.segments
+          (row_files flushed.families) f f makes.drafted.is.differ old row refl)
+          (named_new_log flushed f
+          (subst (λ (v : Version). IsIn (files_named v) f) draft name))) of;
+      only = λ family there. ⊎_elim (λ (lives : IsIn live family). lives)
+          (λ (out : IsIn live family → ⊥).
+          absurd ((log_names flushed makes.drafted.is.rising family).1
+          (c.in_ok-flushed.ensures.apart family out ∙ c.in_ok-alive.ensures.bare family out)
+          (subst (λ (v : Version). IsIn (numbers_of v.families) family) draft there)))
+          (in_or_not live family);
+    }) c.publish.ensures.version
+
+pub returns-clause-adds : goal.returns-clause-adds
+returns-clause-adds g c = on_ok_both c.publish.result
+    (λ (version : version_in c.publish.new.self ≡ c.in_ok-draft.draft) gone trusted.
+    let a : DiskState = g.D.Disk.state c.args.disk.now in
+    let e = c.args.self.now in
+    let is : c.in_ok-first.first ≡ renumbered (version_of e.manifest) e.next_file e.next =
+    c.in_ok-first.ensures ∙ ap (λ (v : Version). renumbered v e.next_file e.next) c.current.ensures in
+    let b : DiskState = g.D.Disk.state c.flush_each.new.disk in
+    let d : DiskState = g.D.Disk.state c.make.new.disk in
+    let told = trusted_on a b c.in_ok-flushed.ensures.goes trusted in
+    let made_told = trusted_on b d c.in_ok-log.ensures.goes told in
+    let left = c.leave_dead.new.left.items in
+    let segments : c.in_ok-flushed.flushed.segments ≡ c.in_ok-first.first.segments =
+    c.in_ok-flushed.ensures.segments ∙ c.in_ok-alive.ensures.segments in
+    let drops : DropsOnly c.in_ok-alive.alive c.in_ok-draft.draft c.in_ok-flushed.flushed.segments =
+    subst (λ (v : Version). DropsOnly c.in_ok-alive.alive v c.in_ok-flushed.flushed.segments)
+    (sym c.in_ok-draft.ensures) (λ f there. ⊎_elim
+    (λ (on : IsIn (files_named c.in_ok-flushed.flushed) f).
+    log_drops c.in_ok-flushed.flushed f on) (λ (no : ⊥). absurd no)
+    (c.in_ok-flushed.ensures.drops f there)) in
+    adds_draft (g.D.Disk.state c.publish.new.disk) e c.publish.new.self c.in_ok-draft.draft
+    c.as_slice.result.now
+    (drops_first e c.in_ok-first.first c.in_ok-draft.draft left c.as_slice.result.now is
+    (drops_then c.in_ok-first.first c.in_ok-alive.alive c.in_ok-draft.draft left
+    c.in_ok-flushed.flushed.segments c.in_ok-alive.ensures.drops drops
+    (λ f there. c.in_ok-alive.ensures.kept f
+    (subst (λ (xs : List ℕ). IsIn xs f) (sym c.in_ok-put_segments.ensures)
+    (in_back c.new-left.result.items c.in_ok-first.first.segments f
+    (subst (λ (xs : List ℕ). IsIn xs f) segments there))))) c.as_slice.ensures.value)
+    (gone made_told) version c.publish.ensures.file)
+    c.publish.ensures.version c.publish.ensures.gone
+
+pub returns-clause-missing : goal.returns-clause-missing
+returns-clause-missing g c = on_ok_weaker c.publish.result (λ missing trusted l stands.
+    let a : DiskState = g.D.Disk.state c.args.disk.now in
+    let e = c.args.self.now in
+    let live = c.args.live.now in
+    let is : c.in_ok-first.first ≡ renumbered (version_of e.manifest) e.next_file e.next =
+    c.in_ok-first.ensures ∙ ap (λ (v : Version). renumbered v e.next_file e.next) c.current.ensures in
+    let start : c.in_ok-alive.alive.next_file ≡ e.next_file =
+    c.in_ok-alive.ensures.file ∙ ap (λ (v : Version). v.next_file) is in
+    let begins = begun a e l live stands c.in_ok-first.first c.in_ok-alive.alive
+    c.leave_dead.new.families (search rules) is c.in_ok-alive.ensures.makes in
+    let b : DiskState = g.D.Disk.state c.flush_each.new.disk in
+    let first_spans : Spans a b (From e.next_file) (λ t image. Unit {0}) =
+    subst (λ n. Spans a b (From n) (λ t image. Unit {0})) start
+    (c.in_ok-flushed.ensures.spans trusted) in
+    let d : DiskState = g.D.Disk.state c.make.new.disk in
+    let told = trusted_on a b c.in_ok-flushed.ensures.goes trusted in
+    let low : e.next_file ≤ c.in_ok-flushed.flushed.next_file =
+    (let file = c.in_ok-flushed.ensures.file in omega (arith, file, start)) in
+    let run = c.in_ok-log.ensures.any_moment told in
+    let spans : Spans a d (From e.next_file) (λ t image. Unit {0}) =
+    run_later a b d e.next_file c.in_ok-flushed.flushed.next_file (λ t left. Unit {0}) low
+    first_spans run in
+    let none : (family : ℕ) → rows_in (get nat_cmp c.flush_each.new.families family) ≡ empty =
+    λ family. all_empty c.leave_dead.new.families c.flush_each.new.families live family
+    (λ f there. (c.in_ok-flushed.ensures.flushed f there).rows) c.in_ok-flushed.ensures.others
+    (c.in_ok-alive.ensures.rest family) in
+    let made_told = trusted_on b d c.in_ok-log.ensures.goes told in
+    let makes = c.in_ok-flushed.ensures.makes trusted stands.reads.parts begins.0 begins.1 in
+    let ready : IsReady d (record e {
+      log = c.in_ok-log.log;
+      length = 0;
+      families = c.flush_each.new.families;
+    }) c.in_ok-draft.draft begins.0 = subst (λ (u : Version). IsReady d (record e {
+      log = c.in_ok-log.log;
+      length = 0;
+      families = c.flush_each.new.families;
+    }) u begins.0) (sym c.in_ok-draft.ensures)
+    (ready_new a d e l live stands spans b c.in_ok-flushed.flushed c.flush_each.new.families
+    stands.reads.parts begins.0 (λ t left. Unit {0}) c.in_ok-log.log makes begins.2
+    (search rules) none run c.in_ok-log.ensures.file (c.in_ok-log.ensures.made told)) in
+    makes_none a d (g.D.Disk.state c.publish.new.disk) e l stands
+    (λ f below. spans.file f (λ le. omega (arith, below, le))) (missing made_told begins.0 ready)) c.publish.ensures.missing
+
+pub returns-in_err-first-clause-one_version : goal.returns-in_err-first-clause-one_version
+returns-in_err-first-clause-one_version g c trusted l stands =
+    let a : DiskState = g.D.Disk.state c.args.disk.now in
+    let e = c.args.self.now in no_version a a e l stands (none_removed a (From e.next_file))
+
+pub returns-in_err-put_segments-clause-one_version : goal.returns-in_err-put_segments-clause-one_version
+returns-in_err-put_segments-clause-one_version g c trusted l stands =
+    let a : DiskState = g.D.Disk.state c.args.disk.now in
+    let e = c.args.self.now in no_version a a e l stands (none_removed a (From e.next_file))
+
+pub returns-in_err-alive-clause-one_version : goal.returns-in_err-alive-clause-one_version
+returns-in_err-alive-clause-one_version g c trusted l stands =
+    let a : DiskState = g.D.Disk.state c.args.disk.now in
+    let e = c.args.self.now in no_version a a e l stands (none_removed a (From e.next_file))
+
+pub returns-in_err-flushed-clause-one_version : goal.returns-in_err-flushed-clause-one_version
+returns-in_err-flushed-clause-one_version g c trusted l stands =
+    let a : DiskState = g.D.Disk.state c.args.disk.now in
+    let e = c.args.self.now in
+    let is : c.in_ok-first.first ≡ renumbered (version_of e.manifest) e.next_file e.next =
+    c.in_ok-first.ensures ∙ ap (λ (v : Version). renumbered v e.next_file e.next) c.current.ensures in
+    let start : c.in_ok-alive.alive.next_file ≡ e.next_file =
+    c.in_ok-alive.ensures.file ∙ ap (λ (v : Version). v.next_file) is in
+    let b : DiskState = g.D.Disk.state c.flush_each.new.disk in
+    no_version a b e l stands (subst (λ n. Spans a b (From n) (λ t image. Unit {0})) start
+    (c.in_err-flushed.ensures.spans trusted))
+
+pub returns-then-flushed-clause-one_version : goal.returns-then-flushed-clause-one_version
+returns-then-flushed-clause-one_version g c trusted l stands =
+    let a : DiskState = g.D.Disk.state c.args.disk.now in
+    let e = c.args.self.now in
+    let is : c.in_ok-first.first ≡ renumbered (version_of e.manifest) e.next_file e.next =
+    c.in_ok-first.ensures ∙ ap (λ (v : Version). renumbered v e.next_file e.next) c.current.ensures in
+    let start : c.in_ok-alive.alive.next_file ≡ e.next_file =
+    c.in_ok-alive.ensures.file ∙ ap (λ (v : Version). v.next_file) is in
+    let b : DiskState = g.D.Disk.state c.flush_each.new.disk in
+    no_version a b e l stands (subst (λ n. Spans a b (From n) (λ t image. Unit {0})) start
+    (c.in_ok-flushed.ensures.spans trusted))
+
+pub returns-in_err-log-clause-one_version : goal.returns-in_err-log-clause-one_version
+returns-in_err-log-clause-one_version g c trusted l stands =
+    let a : DiskState = g.D.Disk.state c.args.disk.now in
+    let e = c.args.self.now in
+    let is : c.in_ok-first.first ≡ renumbered (version_of e.manifest) e.next_file e.next =
+    c.in_ok-first.ensures ∙ ap (λ (v : Version). renumbered v e.next_file e.next) c.current.ensures in
+    let start : c.in_ok-alive.alive.next_file ≡ e.next_file =
+    c.in_ok-alive.ensures.file ∙ ap (λ (v : Version). v.next_file) is in
+    let b : DiskState = g.D.Disk.state c.flush_each.new.disk in
+    let first_spans : Spans a b (From e.next_file) (λ t image. Unit {0}) =
+    subst (λ n. Spans a b (From n) (λ t image. Unit {0})) start
+    (c.in_ok-flushed.ensures.spans trusted) in
+    let d : DiskState = g.D.Disk.state c.make.new.disk in
+    let told = trusted_on a b c.in_ok-flushed.ensures.goes trusted in
+    let low : e.next_file ≤ c.in_ok-flushed.flushed.next_file =
+    (let file = c.in_ok-flushed.ensures.file in omega (arith, file, start)) in
+    let run = c.in_err-log.ensures.any_moment told in
+    no_version a d e l stands (run_later a b d e.next_file c.in_ok-flushed.flushed.next_file
+    (λ t left. Unit {0}) low first_spans run)
+
+pub returns-in_err-draft-clause-one_version : goal.returns-in_err-draft-clause-one_version
+returns-in_err-draft-clause-one_version g c trusted l stands =
+    let a : DiskState = g.D.Disk.state c.args.disk.now in
+    let e = c.args.self.now in
+    let is : c.in_ok-first.first ≡ renumbered (version_of e.manifest) e.next_file e.next =
+    c.in_ok-first.ensures ∙ ap (λ (v : Version). renumbered v e.next_file e.next) c.current.ensures in
+    let start : c.in_ok-alive.alive.next_file ≡ e.next_file =
+    c.in_ok-alive.ensures.file ∙ ap (λ (v : Version). v.next_file) is in
+    let b : DiskState = g.D.Disk.state c.flush_each.new.disk in
+    let first_spans : Spans a b (From e.next_file) (λ t image. Unit {0}) =
+    subst (λ n. Spans a b (From n) (λ t image. Unit {0})) start
+    (c.in_ok-flushed.ensures.spans trusted) in
+    let d : DiskState = g.D.Disk.state c.make.new.disk in
+    let told = trusted_on a b c.in_ok-flushed.ensures.goes trusted in
+    let low : e.next_file ≤ c.in_ok-flushed.flushed.next_file =
+    (let file = c.in_ok-flushed.ensures.file in omega (arith, file, start)) in
+    let run = c.in_ok-log.ensures.any_moment told in
+    no_version a d e l stands (run_later a b d e.next_file c.in_ok-flushed.flushed.next_file
+    (λ t left. Unit {0}) low first_spans run)
+
+pub returns-clause-one_version : goal.returns-clause-one_version
+returns-clause-one_version g c trusted l stands =
+    let a : DiskState = g.D.Disk.state c.args.disk.now in
+    let e = c.args.self.now in
+    let live = c.args.live.now in
+    let is : c.in_ok-first.first ≡ renumbered (version_of e.manifest) e.next_file e.next =
+    c.in_ok-first.ensures ∙ ap (λ (v : Version). renumbered v e.next_file e.next) c.current.ensures in
+    let start : c.in_ok-alive.alive.next_file ≡ e.next_file =
+    c.in_ok-alive.ensures.file ∙ ap (λ (v : Version). v.next_file) is in
+    let begins = begun a e l live stands c.in_ok-first.first c.in_ok-alive.alive
+    c.leave_dead.new.families (search rules) is c.in_ok-alive.ensures.makes in
+    let b : DiskState = g.D.Disk.state c.flush_each.new.disk in
+    let first_spans : Spans a b (From e.next_file) (λ t image. Unit {0}) =
+    subst (λ n. Spans a b (From n) (λ t image. Unit {0})) start
+    (c.in_ok-flushed.ensures.spans trusted) in
+    let d : DiskState = g.D.Disk.state c.make.new.disk in
+    let told = trusted_on a b c.in_ok-flushed.ensures.goes trusted in
+    let low : e.next_file ≤ c.in_ok-flushed.flushed.next_file =
+    (let file = c.in_ok-flushed.ensures.file in omega (arith, file, start)) in
+    let run = c.in_ok-log.ensures.any_moment told in
+    let spans : Spans a d (From e.next_file) (λ t image. Unit {0}) =
+    run_later a b d e.next_file c.in_ok-flushed.flushed.next_file (λ t left. Unit {0}) low
+    first_spans run in
+    let none : (family : ℕ) → rows_in (get nat_cmp c.flush_each.new.families family) ≡ empty =
+    λ family. all_empty c.leave_dead.new.families c.flush_each.new.families live family
+    (λ f there. (c.in_ok-flushed.ensures.flushed f there).rows) c.in_ok-flushed.ensures.others
+    (c.in_ok-alive.ensures.rest family) in
+    let made_told = trusted_on b d c.in_ok-log.ensures.goes told in
+    let makes = c.in_ok-flushed.ensures.makes trusted stands.reads.parts begins.0 begins.1 in
+    let ready : IsReady d (record e {
+      log = c.in_ok-log.log;
+      length = 0;
+      families = c.flush_each.new.families;
+    }) c.in_ok-draft.draft begins.0 = subst (λ (u : Version). IsReady d (record e {
+      log = c.in_ok-log.log;
+      length = 0;
+      families = c.flush_each.new.families;
+    }) u begins.0) (sym c.in_ok-draft.ensures)
+    (ready_new a d e l live stands spans b c.in_ok-flushed.flushed c.flush_each.new.families
+    stands.reads.parts begins.0 (λ t left. Unit {0}) c.in_ok-log.log makes begins.2
+    (search rules) none run c.in_ok-log.ensures.file (c.in_ok-log.ensures.made told)) in
+    one_version a d e l stands spans (g.D.Disk.state c.publish.new.disk) c.in_ok-draft.draft
+    (c.publish.ensures.one_version made_told begins.0 ready)

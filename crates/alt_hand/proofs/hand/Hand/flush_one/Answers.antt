@@ -1,5 +1,5 @@
 -- A draft with the family's file, and then the version.
-use Rattle.std.proofs.Common.{◌≡◌, ℕ, List, [], sym, ap, subst, ◌∙◌, arith, rules}
+use Rattle.std.proofs.Common.{◌≡◌, ◌-◌, ⊎_elim, ℕ, List, [], sym, ap, subst, ◌∙◌, arith, rules}
 use Rattle.std.proofs.lemmas.Result.{on_ok_weaker}
 use Rattle.alt_disk.specs.Disk.{DiskState}
 use Rattle.alt_disk.specs.Runs.{Spans}
@@ -19,6 +19,9 @@ use Rattle.alt_hand.proofs.FlushesLaws.{begun, one_empty, lying, made, making, r
 use Rattle.alt_hand.specs.Carrying.{CarriesDraft}
 use Rattle.alt_hand.proofs.CarryDrafts.{carries_then}
 use Rattle.alt_hand.proofs.CarryLaws.{carries_published, left_named, on_ok_both}
+use Rattle.std.specs.FinMap.{empty}
+use Rattle.alt_hand.specs.Adding.{IsLeftOut, IsThere}
+use Rattle.alt_hand.proofs.AddingLaws.{adds_draft, drops_first, drops_then, makes_none, no_version, one_version}
 use Rattle.alt_hand.proofs.hand.Hand.flush_one.Goals as goal
 
 pub returns-in_err-first-clause-any_moment : goal.returns-in_err-first-clause-any_moment
@@ -200,3 +203,115 @@ returns-clause-carries g c = on_ok_both c.publish.result
     (others (trusted_on a b c.in_ok-draft.ensures.goes trusted) begins.0 ready)
     c.publish.ensures.families version c.publish.ensures.file)
     c.publish.ensures.version c.publish.ensures.others
+
+pub returns-clause-leaves_out : goal.returns-clause-leaves_out
+returns-clause-leaves_out g c =
+    let e = c.args.self.now in
+    let live = c.args.live.now in
+    let family = c.args.family in
+    let alive = c.leave_dead.new.families in
+    let after = c.flush_rows.new.families in
+    let last = c.publish.new.self.families in
+    let still : last ≡ after = c.publish.ensures.families in
+    let is : c.in_ok-first.first ≡ renumbered (version_of e.manifest) e.next_file e.next =
+    c.in_ok-first.ensures ∙ ap (λ (v : Version). renumbered v e.next_file e.next) c.current.ensures in
+    on_ok_weaker c.publish.result (λ (version : version_in c.publish.new.self ≡ c.in_ok-draft.draft). record {
+      named = λ other out there. subst (λ (v : Version). IsLeftOut v other (e.next - 1)) (sym version)
+          (c.in_ok-draft.ensures.past other (e.next - 1)
+          (λ (same : other ≡ family). out (subst (IsIn live) (sym same) c.requires.live))
+          (subst (λ n. IsLeftOut c.in_ok-alive.alive other (n - 1)) (ap (λ (v : Version). v.next_number) is)
+          (c.in_ok-alive.ensures.past other out
+          (subst (λ (v : Version). IsThere v (get nat_cmp e.families other) other) (sym is) there))));
+      emptied = λ other out. ⊎_elim (λ (lives : IsIn live other). absurd (out lives))
+          (λ (none : rows_in (get nat_cmp last other) ≡ empty). none)
+          (one_empty last after alive live family other still c.requires.live
+          c.in_ok-draft.ensures.others (c.in_ok-alive.ensures.rest other));
+    }) c.publish.ensures.version
+
+pub returns-clause-adds : goal.returns-clause-adds
+returns-clause-adds g c = on_ok_both c.publish.result
+    (λ (version : version_in c.publish.new.self ≡ c.in_ok-draft.draft) gone trusted.
+    let a : DiskState = g.D.Disk.state c.args.disk.now in
+    let e = c.args.self.now in
+    let b : DiskState = g.D.Disk.state c.flush_rows.new.disk in
+    let is : c.in_ok-first.first ≡ renumbered (version_of e.manifest) e.next_file e.next =
+    c.in_ok-first.ensures ∙ ap (λ (v : Version). renumbered v e.next_file e.next) c.current.ensures in
+    let told = trusted_on a b c.in_ok-draft.ensures.goes trusted in
+    adds_draft (g.D.Disk.state c.publish.new.disk) e c.publish.new.self c.in_ok-draft.draft
+    c.as_slice.result.now
+    (drops_first e c.in_ok-first.first c.in_ok-draft.draft c.leave_dead.new.left.items
+    c.as_slice.result.now is (drops_then c.in_ok-first.first c.in_ok-alive.alive c.in_ok-draft.draft
+    c.leave_dead.new.left.items [] c.in_ok-alive.ensures.drops c.in_ok-draft.ensures.drops
+    (λ f no. absurd no)) c.as_slice.ensures.value) (gone told)
+    version c.publish.ensures.file)
+    c.publish.ensures.version c.publish.ensures.gone
+
+pub returns-clause-missing : goal.returns-clause-missing
+returns-clause-missing g c = on_ok_weaker c.publish.result (λ missing trusted l stands.
+    let a : DiskState = g.D.Disk.state c.args.disk.now in
+    let e = c.args.self.now in
+    let live = c.args.live.now in
+    let b : DiskState = g.D.Disk.state c.flush_rows.new.disk in
+    let is : c.in_ok-first.first ≡ renumbered (version_of e.manifest) e.next_file e.next =
+    c.in_ok-first.ensures ∙ ap (λ (v : Version). renumbered v e.next_file e.next) c.current.ensures in
+    let start : c.in_ok-alive.alive.next_file ≡ e.next_file =
+    c.in_ok-alive.ensures.file ∙ ap (λ (v : Version). v.next_file) is in
+    let begins = begun a e l live stands c.in_ok-first.first c.in_ok-alive.alive
+    c.leave_dead.new.families (search rules) is c.in_ok-alive.ensures.makes in
+    let spans : Spans a b (From e.next_file) (λ t image. Unit {0}) =
+    subst (λ n. Spans a b (From n) (λ t image. Unit {0})) start
+    (c.in_ok-draft.ensures.spans trusted) in
+    let told = trusted_on a b c.in_ok-draft.ensures.goes trusted in
+    let ready = ready_same a b e l live stands spans c.in_ok-draft.draft
+    c.flush_rows.new.families begins.0
+    (c.in_ok-draft.ensures.makes trusted stands.reads.parts begins.0 begins.1) begins.2
+    (c.in_ok-draft.ensures.segments ∙ c.in_ok-alive.ensures.segments
+    ∙ ap (λ (v : Version). v.segments) is) in
+    makes_none a b (g.D.Disk.state c.publish.new.disk) e l stands
+    (λ f below. spans.file f (λ le. omega (arith, below, le))) (missing told begins.0 ready)) c.publish.ensures.missing
+
+pub returns-in_err-first-clause-one_version : goal.returns-in_err-first-clause-one_version
+returns-in_err-first-clause-one_version g c trusted l stands =
+    let a : DiskState = g.D.Disk.state c.args.disk.now in
+    let e = c.args.self.now in no_version a a e l stands (none_removed a (From e.next_file))
+
+pub returns-in_err-alive-clause-one_version : goal.returns-in_err-alive-clause-one_version
+returns-in_err-alive-clause-one_version g c trusted l stands =
+    let a : DiskState = g.D.Disk.state c.args.disk.now in
+    let e = c.args.self.now in no_version a a e l stands (none_removed a (From e.next_file))
+
+pub returns-in_err-draft-clause-one_version : goal.returns-in_err-draft-clause-one_version
+returns-in_err-draft-clause-one_version g c trusted l stands =
+    let a : DiskState = g.D.Disk.state c.args.disk.now in
+    let e = c.args.self.now in
+    let is : c.in_ok-first.first ≡ renumbered (version_of e.manifest) e.next_file e.next =
+    c.in_ok-first.ensures ∙ ap (λ (v : Version). renumbered v e.next_file e.next) c.current.ensures in
+    let start : c.in_ok-alive.alive.next_file ≡ e.next_file =
+    c.in_ok-alive.ensures.file ∙ ap (λ (v : Version). v.next_file) is in
+    no_version a (g.D.Disk.state c.flush_rows.new.disk) e l stands
+    (subst (λ n. Spans a (g.D.Disk.state c.flush_rows.new.disk) (From n) (λ t image. Unit {0}))
+    start (c.in_err-draft.ensures.spans trusted))
+
+pub returns-clause-one_version : goal.returns-clause-one_version
+returns-clause-one_version g c trusted l stands =
+    let a : DiskState = g.D.Disk.state c.args.disk.now in
+    let e = c.args.self.now in
+    let live = c.args.live.now in
+    let b : DiskState = g.D.Disk.state c.flush_rows.new.disk in
+    let is : c.in_ok-first.first ≡ renumbered (version_of e.manifest) e.next_file e.next =
+    c.in_ok-first.ensures ∙ ap (λ (v : Version). renumbered v e.next_file e.next) c.current.ensures in
+    let start : c.in_ok-alive.alive.next_file ≡ e.next_file =
+    c.in_ok-alive.ensures.file ∙ ap (λ (v : Version). v.next_file) is in
+    let begins = begun a e l live stands c.in_ok-first.first c.in_ok-alive.alive
+    c.leave_dead.new.families (search rules) is c.in_ok-alive.ensures.makes in
+    let spans : Spans a b (From e.next_file) (λ t image. Unit {0}) =
+    subst (λ n. Spans a b (From n) (λ t image. Unit {0})) start
+    (c.in_ok-draft.ensures.spans trusted) in
+    let told = trusted_on a b c.in_ok-draft.ensures.goes trusted in
+    let ready = ready_same a b e l live stands spans c.in_ok-draft.draft
+    c.flush_rows.new.families begins.0
+    (c.in_ok-draft.ensures.makes trusted stands.reads.parts begins.0 begins.1) begins.2
+    (c.in_ok-draft.ensures.segments ∙ c.in_ok-alive.ensures.segments
+    ∙ ap (λ (v : Version). v.segments) is) in
+    one_version a b e l stands spans (g.D.Disk.state c.publish.new.disk) c.in_ok-draft.draft
+    (c.publish.ensures.one_version told begins.0 ready)

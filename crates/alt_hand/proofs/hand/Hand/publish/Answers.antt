@@ -8,6 +8,7 @@ use Rattle.alt_manifest.specs.InHand.{OldOrNew, version_of}
 use Rattle.alt_manifest.specs.declared.version.Version.{Version}
 use Rattle.alt_hand.specs.declared.hand.Hand.{Hand}
 use Rattle.alt_hand.specs.InHand.{Stands}
+use Rattle.alt_hand.proofs.AddingLaws.{added_last, adding_last}
 use Rattle.alt_hand.proofs.PublishLaws.{published, publishing, removed, removing, then_second}
 use Rattle.alt_hand.proofs.hand.Hand.publish.Goals as goal
 
@@ -100,3 +101,40 @@ returns-in-Ok-clause-others g c trusted m ready f first not_left =
     (c.current.ensures ∙ c.in_ok-append.ensures.version) (c.remove_left_over.ensures.spans told) in
     spans.file f not_left
     ∙ (c.append.ensures.any_moment trusted ready.manifest).file f (λ e. first (e ∙ ready.first))
+
+pub returns-in-Ok-clause-missing : goal.returns-in-Ok-clause-missing
+returns-in-Ok-clause-missing g c trusted m ready f first none =
+    let a : DiskState = g.D.Disk.state c.args.disk.now in
+    let b : DiskState = g.D.Disk.state c.append.new.disk in
+    let told = trusted_on a b c.append.ensures.goes trusted in
+    c.remove_left_over.ensures.none (tells_of b told) f
+    ((c.append.ensures.any_moment trusted ready.manifest).file f (λ e. first (e ∙ ready.first)) ∙ none)
+
+pub returns-in_err-append-clause-one_version : goal.returns-in_err-append-clause-one_version
+returns-in_err-append-clause-one_version g c trusted m ready =
+    adding_last (g.D.Disk.state c.args.disk.now) (g.D.Disk.state c.append.new.disk) c.args.self.now
+    c.args.draft m ready (c.append.ensures.any_moment trusted ready.manifest)
+
+pub returns-in-Ok-clause-one_version : goal.returns-in-Ok-clause-one_version
+returns-in-Ok-clause-one_version g c trusted m ready =
+    let a : DiskState = g.D.Disk.state c.args.disk.now in
+    let b : DiskState = g.D.Disk.state c.append.new.disk in
+    let d : DiskState = g.D.Disk.state c.remove_left_over.new.disk in
+    let told = trusted_on a b c.append.ensures.goes trusted in
+    added_last a b d c.args.self.now c.append.new.self c.args.draft m c.args.left.now ready
+    (c.append.ensures.any_moment trusted ready.manifest) c.append.ensures.file
+    c.in_ok-append.ensures.version (c.in_ok-append.ensures.ok trusted)
+    (subst (λ (v : Version). Spans b d (IsLeftOver c.args.left.now v) (λ t image. Unit {0}))
+    (c.current.ensures ∙ c.in_ok-append.ensures.version) (c.remove_left_over.ensures.spans told))
+
+pub returns-in-Err-clause-one_version : goal.returns-in-Err-clause-one_version
+returns-in-Err-clause-one_version g c trusted m ready =
+    let a : DiskState = g.D.Disk.state c.args.disk.now in
+    let b : DiskState = g.D.Disk.state c.append.new.disk in
+    let d : DiskState = g.D.Disk.state c.remove_left_over.new.disk in
+    let told = trusted_on a b c.append.ensures.goes trusted in
+    added_last a b d c.args.self.now c.append.new.self c.args.draft m c.args.left.now ready
+    (c.append.ensures.any_moment trusted ready.manifest) c.append.ensures.file
+    c.in_ok-append.ensures.version (c.in_ok-append.ensures.ok trusted)
+    (subst (λ (v : Version). Spans b d (IsLeftOver c.args.left.now v) (λ t image. Unit {0}))
+    (c.current.ensures ∙ c.in_ok-append.ensures.version) (c.remove_left_over.ensures.spans told))

@@ -1,5 +1,5 @@
 -- The next file is there to be made.
-use Rattle.std.proofs.Common.{◌≤◌, arith}
+use Rattle.std.proofs.Common.{arith}
 use Rattle.alt_hand.proofs.BesideLaws.{merge_begins, stands_taken}
 use Rattle.alt_hand.proofs.hand.Hand.take_file.Goals as goal
 

@@ -1,0 +1,68 @@
+-- What an engine's new version says, and what becomes of the files of the one before.
+use Rattle.std.specs.Prelude.{◌≡◌, ◌≢◌, ◌⊎◌, ◌<◌, ◌+◌, ◌-◌, ℕ, List, [], ◌∷◌, Option, None}
+use Rattle.std.specs.FinMap.{empty}
+use Rattle.alt_disk.specs.Disk.{DiskState}
+use Rattle.alt_families.specs.Families.{rows_in}
+use Rattle.alt_families.specs.declared.family.Family.{Family}
+use Rattle.alt_layout.specs.Families.{files_of, flushed_of}
+use Rattle.alt_layout.specs.Files.{Image, IsOf}
+use Rattle.alt_layout.specs.Fresh.{versions_file}
+use Rattle.alt_manifest.specs.Versions.{HasVersion, IsIn, numbers_of}
+use Rattle.alt_manifest.specs.declared.version.Version.{Version}
+use Rattle.alt_hand.specs.InHand.{family_of, next_file_of, next_of}
+use Rattle.alt_hand.specs.Merging.{memory_at, version_in}
+use Rattle.alt_hand.specs.declared.hand.Hand.{Hand}
+
+-- ---- Files.
+
+-- A version was added: its next file is the engine's, and files that the last one named and that it doesn't name are gone.
+pub record Adds (s : DiskState) (old new : Hand) : Type 0 where
+  pub next_file : (version_in new).next_file ≡ next_file_of new
+  pub removed : (f : ℕ) → IsOf (version_in old) f → (IsOf (version_in new) f → ⊥)
+      → s.file f ≡ None
+
+-- Below this number no file is there that wasn't.
+abbrev pub MakesNone : DiskState → DiskState → ℕ → Type 0
+MakesNone a b next = (f : ℕ) → f < next → a.file f ≡ None → b.file f ≡ None
+
+-- ---- Moments.
+
+-- The last version is this one.
+abbrev pub HasLast : Version → ℕ → Image → Type 0
+HasLast v t image = HasVersion v (image versions_file)
+
+-- It is one of two.
+abbrev pub HasOneOf : Version → Version → ℕ → Image → Type 0
+HasOneOf v w t image =
+    HasVersion v (image versions_file) ⊎ HasVersion w (image versions_file)
+
+-- ---- Families that aren't live.
+
+-- The version names the family, or it has rows in memory.
+abbrev pub IsThere : Version → Option Family → ℕ → Type 0
+IsThere v o family = IsIn (numbers_of v.families) family ⊎ (rows_in o ≢ empty)
+
+-- It names the family without files, flushed up to this number.
+pub record IsLeftOut (v : Version) (family last : ℕ) : Type 0 where
+  pub named : IsIn (numbers_of v.families) family
+  pub files : files_of v.families family ≡ []
+  pub flushed : flushed_of v.families family ≡ last
+
+-- The new version names those that were there without files, flushed up to the last write, and no family that isn't live has rows in memory.
+pub record LeavesOut (live : List ℕ) (old new : Hand) : Type 0 where
+  pub named : (family : ℕ) → (IsIn live family → ⊥)
+      → IsThere (version_in old) (family_of old family) family
+      → IsLeftOut (version_in new) family (next_of old - 1)
+  pub emptied : (family : ℕ) → (IsIn live family → ⊥)
+      → memory_at new family ≡ empty
+
+-- ---- A flush of all.
+
+-- The new version names a new segment alone, so none of the old ones, and no family that isn't live.
+pub record IsOverNewLog (live : List ℕ) (old new : Hand) : Type 0 where
+  pub segment : ℕ
+  pub segments : (version_in new).segments ≡ segment ∷ []
+  pub last : next_file_of new ≡ segment + 1
+  pub left : (f : ℕ) → IsIn (version_in old).segments f → IsOf (version_in new) f → ⊥
+  pub only : (family : ℕ) → IsIn (numbers_of (version_in new).families) family
+      → IsIn live family

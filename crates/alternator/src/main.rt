@@ -1,25 +1,13 @@
 //! Alternator: the interface of Amazon DynamoDB over a store in one folder. It answers sixteen operations, asked as lines or over HTTP.
 #![tactic(auto)]
 
-mod chains;
-mod ending;
-mod init;
-mod lines;
-mod open;
-mod reply;
-mod run;
-mod serve;
-mod tally;
-mod trial;
-mod words;
-
 use alt_disk::DiskFault;
 use alt_host::HostShell;
+use alt_run::{command_of, port_of, run};
 use std::alloc::{AllocError, Global};
 use std::env;
 use std::io::ErrorKind;
 use std::process::ExitCode;
-use words::{command_of, port_of};
 
 /// Takes the folder and the port off the front of the words, and ends with the status of the run of the others. Where the words are
 /// wrong, the folder isn't touched.
@@ -39,7 +27,7 @@ fn main(rt: HostRuntime) -> ExitCode {
         return noted(&rt, "alternator: words\n", 1);
     }
     match HostShell::new(own, alloc, folder.as_str(), port) {
-        Ok(mut shell) => ExitCode::from(run::run(alloc, rest, &mut shell)),
+        Ok(mut shell) => ExitCode::from(run(alloc, rest, &mut shell)),
         Err(DiskFault::Failed) => noted(&rt, "alternator: device\n", 4),
         Err(DiskFault::NoMemory) => noted(&rt, "alternator: memory\n", 5),
     }

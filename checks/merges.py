@@ -1,8 +1,8 @@
-"""What merges leave of the files of a store: python3 bench/merges.py PROGRAM.
+"""What merges leave of the files of a store: python3 checks/merges.py PROGRAM ROUNDS.
 
 A trial of 20,000 requests with the least FLUSH and MERGE 4 leaves at most eight files of each family, by the last version. Behind `@flush` and
-`@merge` there is one, no other file is in the folder, and asked for again nothing changes. Replies are the same whatever MERGE is. A program that
-is killed while it merges leaves a store that has each put that was answered.
+`@merge` there is one, no other file is in the folder, and asked for again nothing changes. Replies are the same whatever MERGE is. Of a table whose
+one item was deleted no row is left. A program that is killed ROUNDS times while it merges leaves a store that has each put that was answered.
 """
 
 import os
@@ -13,7 +13,10 @@ import sys
 import tempfile
 import threading
 
-PROGRAM = sys.argv[1]
+PROGRAM, ROUNDS = sys.argv[1], int(sys.argv[2])
+# A folder in memory, where there is one: most requests are writes, each of which is synced.
+SHARED = "/dev/shm" if os.access("/dev/shm", os.W_OK) else None
+EMPTY = 64  # bytes of a file without rows
 TABLE = (
     'CreateTable {"TableName":"Tab","KeySchema":[{"AttributeName":"k","KeyType":"HASH"}],'
     '"AttributeDefinitions":[{"AttributeName":"k","AttributeType":"S"}]}\n'
@@ -83,15 +86,27 @@ def after_a_trial(store):
     same("the folder then", folder(store), before)
 
 
+def after_a_delete(store):
+    """A table of one item, put and deleted in files of their own: merged, it has no file, and nothing is left to be done."""
+    run(store, "init")
+    key = '{"TableName":"Tab","Key":{"k":{"S":"a"}}}\n'
+    lines = TABLE + put("a", 0) + "@flush\nDeleteItem " + key + "@flush\n@merge\n@reopen\nGetItem " + key + "@step\n"
+    said, status, noted = run(store, "replay", "65536", "2", lines=lines)
+    same("a deleted item", (said.splitlines()[1:], status, noted), ("200 {}|ok|200 {}|ok|ok|ok|200 {}|ok".split("|"), 0, ""))
+    files = version(store)[1].get(1, [])
+    same("its files", [size for size in (os.path.getsize(os.path.join(store, "%08x.alt" % f)) for f in files) if size != EMPTY], [])
+    same("its folder", folder(store), named(store))
+
+
 def run_anew(*words):
-    with tempfile.TemporaryDirectory() as store:
+    with tempfile.TemporaryDirectory(dir=SHARED) as store:
         run(store, "init")
         return run(store, *words)[0]
 
 
 def put(key, count):
     value = f"{count:08d}" + "x" * 4000
-    return 'PutItem {"TableName":"Tab","Item":{"k":{"S":"%d"},"v":{"S":"%s"}}}\n' % (key, value)
+    return 'PutItem {"TableName":"Tab","Item":{"k":{"S":"%s"},"v":{"S":"%s"}}}\n' % (key, value)
 
 
 def killed(store, times):
@@ -127,9 +142,10 @@ def killed(store, times):
         count += 400
 
 
+for check in after_a_trial, after_a_delete:
+    with tempfile.TemporaryDirectory(dir=SHARED) as store:
+        check(store)
 with tempfile.TemporaryDirectory() as store:
-    after_a_trial(store)
-with tempfile.TemporaryDirectory() as store:
-    killed(store, 12)
+    killed(store, ROUNDS)
 print(f"merges: {passed} passed, {failed} failed")
 sys.exit(failed > 0)

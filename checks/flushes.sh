@@ -1,14 +1,16 @@
 #!/usr/bin/env bash
 # What flushes leave of the files of a store: a log without entries, no bytes of a table that is gone. And what a run notes of a row file with a
 # changed byte, and where no file has a number left.
+#
+#   checks/flushes.sh      PROGRAM=path names another program than the built one
 set -u
 cd "$(dirname "$0")/.."
 passed=0
 failed=0
 work=$(mktemp -d)
 trap 'rm -rf "$work"' EXIT
-# Where it isn't built yet, it is built here, and says so.
-./alternator . 0 >/dev/null 2>&1
+program=${PROGRAM-./alternator}
+[ -n "${PROGRAM-}" ] || ./alternator . 0 >/dev/null 2>&1 # builds it where it isn't built
 
 pass() { passed=$((passed + 1)); }
 fail() { failed=$((failed + 1)); echo "$*"; }
@@ -18,13 +20,13 @@ same() { if [ "$2" = "$3" ]; then pass; else fail "$1: '$2', not '$3'"; fi; }
 lines() {
   local store=$1 flush=$2
   shift 2
-  printf '%s\n' "$@" | ./alternator "$work/$store" 0 replay "$flush" 4 2>"$work/noted"
+  printf '%s\n' "$@" | "$program" "$work/$store" 0 replay "$flush" 4 2>"$work/noted"
   echo "status $? $(cat "$work/noted")"
 }
 made() {
   rm -rf "$work/$1"
   mkdir "$work/$1"
-  ./alternator "$work/$1" 0 init >/dev/null
+  "$program" "$work/$1" 0 init >/dev/null
 }
 hex() { od -An -v -tx1 "$1" | tr -d ' \n'; }
 # bytes of the entries of all segments: those are the logs but that of the versions, and an empty one has nine bytes
@@ -52,7 +54,7 @@ made long
 {
   echo "$table"
   for key in a b c d e f g h i j k l m n o p q r s t; do put $key "$(filler $key)"; echo; done
-} | ./alternator "$work/long" 0 replay $most 4 >"$work/said"
+} | "$program" "$work/long" 0 replay $most 4 >"$work/said"
 same 'twenty long items' "$(cut -c1-4 "$work/said" | sort | uniq -c | tr -s ' ')" ' 21 200 '
 [ "$(entries long)" -gt $((16 * least)) ] && pass || fail "the entries: $(entries long) bytes"
 for last in @step @flush "$(get q)" "$(put q "$(filler z)")"; do
@@ -79,7 +81,7 @@ status 0 "
 same 'and its entries' "$(entries short)" "$(entries long)"
 # a trial with the least FLUSH has a short log at its end
 made tried
-said=$(./alternator "$work/tried" 0 trial 7 5000 $least 4 2>&1; echo "status $?")
+said=$("$program" "$work/tried" 0 trial 7 5000 $least 4 2>&1; echo "status $?")
 same 'a trial' "$(echo "$said" | sed -n '1p;$p' | tr '\n' ' ')" 'requests 5000 status 0 '
 [ "$(entries tried)" -lt $((16 * least)) ] && pass || fail "behind a trial the entries have $(entries tried) bytes"
 
@@ -131,7 +133,7 @@ same 'a row file that is missing' "$(lines spoilt $least "$(get a)")" "status 3 
 rm -rf "$work/spoilt"
 cp -r "$work/changed" "$work/spoilt"
 mkfifo "$work/wait"
-./alternator "$work/spoilt" 0 replay $least 4 <"$work/wait" >"$work/said" 2>"$work/noted" &
+"$program" "$work/spoilt" 0 replay $least 4 <"$work/wait" >"$work/said" 2>"$work/noted" &
 exec 9>"$work/wait"
 get a >&9
 echo >&9

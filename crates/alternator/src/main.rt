@@ -1,26 +1,14 @@
 //! Alternator: the interface of Amazon DynamoDB over a store in one folder. It answers sixteen operations, asked as lines or over HTTP.
 #![tactic(auto)]
 
-mod chains;
-mod ending;
-mod init;
-mod lines;
-mod open;
-mod reply;
-mod run;
-mod serve;
-mod tally;
-mod trial;
-mod words;
-
 use alt_blocks::{BlockCache, Cached};
 use alt_disk::DiskFault;
 use alt_host::HostShell;
+use alt_run::{command_of, port_of, run};
 use std::alloc::{AllocError, Global};
 use std::env;
 use std::io::ErrorKind;
 use std::process::ExitCode;
-use words::{command_of, port_of};
 
 /// How many reads of files are kept in memory at most: where row files are read, each is a block.
 const PLACES: usize = 256;
@@ -48,7 +36,7 @@ fn main(rt: HostRuntime) -> ExitCode {
     match HostShell::new(own, alloc, folder.as_str(), port) {
         Ok(mut shell) => {
             let mut cached = Cached::new(&mut shell, &mut cache);
-            ExitCode::from(run::run(alloc, rest, &mut cached))
+            ExitCode::from(run(alloc, rest, &mut cached))
         }
         Err(DiskFault::Failed) => noted(&rt, "alternator: device\n", 4),
         Err(DiskFault::NoMemory) => noted(&rt, "alternator: memory\n", 5),

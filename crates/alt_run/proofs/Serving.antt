@@ -1,0 +1,471 @@
+-- Serving lines, one after another: the laws of `Serves` and `Breaks`.
+use Rattle.std.proofs.Common.{◌≡◌, ◌≤◌, ◌⊎◌, ⊎_elim, ℕ, List, [], ◌∷◌, ◌++◌, length, take, drop, true, false, Option, Some, None, refl, sym, ap, subst, ◌∙◌, append_assoc, append-nil, arith, inl, inr, length-append, take-append-drop}
+use Rattle.std.specs.Prelude.{◌||◌}
+use Rattle.alt_base.specs.Prefix.{IsPrefix}
+use Rattle.alt_machine.specs.State.{State}
+use Rattle.alt_disk.specs.Disk.{DiskState, IsTrusted}
+use Rattle.alt_machine.specs.Wanted.{Lack}
+use Rattle.alt_shell.specs.Calls.{Adds, ShellCall, Untold}
+use Rattle.alt_shell.specs.Log.{Log, Grows, Tells, moments_of, until, entry, told_count, said, say_failed, says_failed, says_missed, taken, said_in, ended, crosses}
+use Rattle.alt_talks.specs.Runs.{Stretch, Leads}
+use Rattle.alt_run.specs.Runs.{Serves, Breaks, BreaksFor, IsAtWork, Rests, ServesAtHand, BreaksAtHand, LeftAtHand}
+use Rattle.alt_talks.specs.Stops.{IsLeft, IsAmong, AtEach, AreWithin}
+use Rattle.alt_tables.specs.Stands.{Stands}
+use Rattle.alt_tables.specs.declared.tables.Tables.{Tables}
+use Rattle.alt_talks.specs.Faults.{IsCausedBy}
+use Rattle.alt_talks.specs.declared.fault.RunFault.{RunFault}
+use Rattle.alt_talks.specs.declared.fault.RunFault.TheVariants.{Failed, NoMemory}
+use Rattle.alt_run.specs.Faults.{IsControlFault}
+use Rattle.alt_run.specs.Turns.{Asked, request, control, unread, turns, requests, obeyed}
+use Rattle.alt_run.specs.declared.lines.Control.{Control}
+use Rattle.alt_run.specs.declared.lines.Control.TheVariants.{Flush, Merge, Step, Reopen}
+use Rattle.alt_talks.specs.Turns.{Turn, text_of, after, after_turn, wanted, or_next}
+use Rattle.alt_shell.proofs.Telling.{Grows-then, Grows-nil}
+use Rattle.alt_tables.proofs.Left.{stands_left}
+use Rattle.alt_talks.proofs.Stopping.{Meet, IsPrefix-self, IsPrefix-behind, one-by, until-append, until-before, until-behind, within-wider, left-more, left-behind, spans_two, trusts-kept, leaves-weaker, leaves-here, leaves-said, leaves-unsaid, stands_kept}
+use Rattle.alt_run.proofs.TurnLaws.{turns_say, turns-more, left-nothing, requests-append, turns-append}
+use Rattle.alt_talks.proofs.TurnLaws.{text_of-append, after-append, wanted-append}
+use Rattle.alt_talks.proofs.Stretching.{said_in-append, taken-append, ended-append}
+use Rattle.alt_talks.proofs.TalkLogs.{crosses-append}
+
+-- ---- the parts of a stretch
+
+module _ (s t u : State) (ls ks : List Asked) (es fs : Log) (ms ns : List ℕ)
+    (p : Serves s ls t es ms) where
+  -- the turns of both parts
+  pub turns_both : turns s (ls ++ ks) (ms ++ ns) ≡ turns s ls ms ++ turns t ks ns
+  turns_both = turns-append s ls ks ms ns p.count
+      ∙ ap (λ v. turns s ls ms ++ turns v ks ns) (sym p.state)
+
+  -- their text
+  pub text_both : text_of (turns s (ls ++ ks) (ms ++ ns)) ≡ said_in es ++ text_of (turns t ks ns)
+  text_both = ap text_of turns_both ∙ text_of-append (turns s ls ms) (turns t ks ns)
+      ∙ ap (λ bs. bs ++ text_of (turns t ks ns)) (sym p.said)
+
+  -- what they want
+  pub wanted_both : wanted (turns s (ls ++ ks) (ms ++ ns)) ≡ wanted (turns t ks ns)
+  wanted_both = ap wanted turns_both ∙ wanted-append (turns s ls ms) (turns t ks ns) p.enough
+
+  -- their moments
+  pub count_both : length ns ≡ requests ks → length (ms ++ ns) ≡ requests (ls ++ ks)
+  count_both e = let a = length-append ms ns in let b = requests-append ls ks in let c = p.count in
+      omega arith
+
+-- lines and then more lines
+pub serves_then : (s t u : State) (ls ks : List Asked) (es fs : Log) (ms ns : List ℕ)
+    → Serves s ls t es ms → Serves t ks u fs ns → Serves s (ls ++ ks) u (es ++ fs) (ms ++ ns)
+serves_then s t u ls ks es fs ms ns p q = record {
+  said = said_in-append es fs ∙ ap (λ bs. said_in es ++ bs) q.said
+      ∙ sym (text_both s t u ls ks es fs ms ns p);
+  state = q.state ∙ ap (λ v. after v (turns t ks ns)) p.state
+      ∙ sym (after-append s (turns s ls ms) (turns t ks ns))
+      ∙ ap (after s) (sym (turns_both s t u ls ks es fs ms ns p));
+  count = count_both s t u ls ks es fs ms ns p q.count;
+  enough = wanted_both s t u ls ks es fs ms ns p ∙ q.enough;
+}
+
+-- the same is at work, whatever is said
+at_work : (l : Asked) (A B : Type 0) → (A → B) → IsAtWork l A → IsAtWork l B
+at_work (request name body) A B law h = law h
+at_work (control Flush) A B law h = tt
+at_work (control Merge) A B law h = tt
+at_work (control Step) A B law h = tt
+at_work (control Reopen) A B law h = absurd h
+at_work unread A B law h = absurd h
+
+-- what breaks off lines breaks them off behind others
+breaks_for : (fault : RunFault) (s t : State) (ls done begun : List Asked) (es fs : Log)
+    (ms ns : List ℕ) → Serves s ls t es ms → BreaksFor fault t done begun fs ns
+    → BreaksFor fault s (ls ++ done) begun (es ++ fs) (ms ++ ns)
+breaks_for fault s t ls done begun es fs ms ns p why =
+    let same : wanted (turns s ((ls ++ done) ++ begun) (ms ++ ns)) ≡ wanted (turns t (done ++ begun) ns) =
+    ap (λ xs. wanted (turns s xs (ms ++ ns))) (append_assoc ls done begun)
+    ∙ wanted_both s t t ls (done ++ begun) es fs ms ns p in
+    ⊎_elim (λ cause. inl (subst (λ w. IsCausedBy w fault) (sym same) cause))
+    (λ work. inr (
+      work.0,
+      record {
+        line = work.1.line;
+        last = work.1.last;
+        enough = same ∙ work.1.enough;
+        at = at_work work.1.line (said_in fs ≡ text_of (turns t (done ++ begun) ns))
+            (said_in (es ++ fs) ≡ text_of (turns s ((ls ++ done) ++ begun) (ms ++ ns)))
+            (λ e. said_in-append es fs ∙ ap (λ bs. said_in es ++ bs) e
+            ∙ sym (text_both s t t ls (done ++ begun) es fs ms ns p)
+            ∙ ap (λ xs. text_of (turns s xs (ms ++ ns))) (sym (append_assoc ls done begun)))
+            work.1.at;
+      },
+    ))
+    why
+
+-- so does it with entries that say the same
+pub breaks_same : (fault : RunFault) (s : State) (done begun : List Asked) (es fs : Log)
+    (ms : List ℕ) → said_in fs ≡ said_in es → BreaksFor fault s done begun es ms
+    → BreaksFor fault s done begun fs ms
+breaks_same fault s done begun es fs ms same why = ⊎_elim (λ cause. inl cause)
+    (λ work. inr (
+      work.0,
+      record {
+        line = work.1.line;
+        last = work.1.last;
+        enough = work.1.enough;
+        at = at_work work.1.line (said_in es ≡ text_of (turns s (done ++ begun) ms))
+            (said_in fs ≡ text_of (turns s (done ++ begun) ms)) (λ e. same ∙ e) work.1.at;
+      },
+    ))
+    why
+
+-- lines and then a break
+pub serves_break : (fault : RunFault) (s t : State) (ls ks : List Asked) (es fs : Log)
+    (ms ns : List ℕ)
+    → Serves s ls t es ms → Breaks fault t ks fs ns
+    → Breaks fault s (ls ++ ks) (es ++ fs) (ms ++ ns)
+serves_break fault s t ls ks es fs ms ns p q = record {
+  done = ls ++ q.done;
+  begun = q.begun;
+  rest = q.rest;
+  lines = ap (λ xs. ls ++ xs) q.lines ∙ sym (append_assoc ls q.done (q.begun ++ q.rest));
+  few = q.few;
+  all = subst (λ bs. IsPrefix bs (said_in (es ++ fs)))
+      (sym (text_both s t t ls q.done es fs ms ns p))
+      (subst (λ bs. IsPrefix (said_in es ++ text_of (turns t q.done ns)) bs)
+      (sym (said_in-append es fs))
+      (IsPrefix-behind (said_in es) (text_of (turns t q.done ns)) (said_in fs) q.all));
+  said = subst (λ xs. IsPrefix (said_in (es ++ fs)) (text_of (turns s xs (ms ++ ns))))
+      (sym (append_assoc ls q.done q.begun))
+      (subst (λ bs. IsPrefix (said_in (es ++ fs)) bs)
+      (sym (text_both s t t ls (q.done ++ q.begun) es fs ms ns p))
+      (subst (λ bs. IsPrefix bs (said_in es ++ text_of (turns t (q.done ++ q.begun) ns)))
+      (sym (said_in-append es fs))
+      (IsPrefix-behind (said_in es) (said_in fs)
+      (text_of (turns t (q.done ++ q.begun) ns)) q.said)));
+  count = count_both s t t ls (q.done ++ q.begun) es fs ms ns p q.count
+      ∙ ap requests (sym (append_assoc ls q.done q.begun));
+  enough = wanted_both s t t ls q.done es fs ms ns p ∙ q.enough;
+  wants = breaks_for fault s t ls q.done q.begun es fs ms ns p q.wants;
+}
+
+-- a break among lines is one among these and more
+pub breaks_more : (fault : RunFault) (s : State) (ls ks : List Asked) (es : Log) (ms : List ℕ)
+    → Breaks fault s ls es ms → Breaks fault s (ls ++ ks) es ms
+breaks_more fault s ls ks es ms q = record {
+  done = q.done;
+  begun = q.begun;
+  rest = q.rest ++ ks;
+  lines = ap (λ xs. xs ++ ks) q.lines ∙ append_assoc q.done (q.begun ++ q.rest) ks
+      ∙ ap (λ xs. q.done ++ xs) (append_assoc q.begun q.rest ks);
+  few = q.few;
+  all = q.all;
+  said = q.said;
+  count = q.count;
+  enough = q.enough;
+  wants = q.wants;
+}
+
+-- nothing was begun
+pub breaks_none : (fault : RunFault) → IsCausedBy None fault → (s : State) (ls : List Asked)
+    → Breaks fault s ls [] []
+breaks_none fault cause s ls = record {
+  done = [];
+  begun = [];
+  rest = ls;
+  lines = refl;
+  few = omega arith;
+  all =
+      ([], refl);
+  said = ([], refl);
+  count = refl;
+  enough = refl;
+  wants = inl cause;
+}
+
+-- nothing to serve
+pub serves_none : (s : State) → Serves s [] s [] []
+serves_none s = record { said = refl; state = refl; count = refl; enough = refl }
+
+-- lines that were served whole, and then no more was begun for want of memory
+pub serves_breaks : (s t : State) (ls ks : List Asked) (es : Log) (ms : List ℕ)
+    → Serves s ls t es ms → Breaks NoMemory s (ls ++ ks) es ms
+serves_breaks s t ls ks es ms p =
+    subst (λ (ns : List ℕ). Breaks NoMemory s (ls ++ ks) es ns) (append-nil ms)
+    (subst (λ (fs : Log). Breaks NoMemory s (ls ++ ks) fs (ms ++ [])) (append-nil es)
+    (serves_break NoMemory s t ls ks es [] ms [] p (breaks_none NoMemory tt t ks)))
+
+-- ---- nothing taken
+
+pub rests_then : (es fs : Log) → Rests es → Rests fs → Rests (es ++ fs)
+rests_then es fs p q = record {
+  silent = taken-append es fs ∙ ap (λ bs. bs ++ taken fs) p.silent ∙ q.silent;
+  goes_on = ended-append es fs ∙ ap (λ e. e || ended fs) p.goes_on ∙ q.goes_on;
+  inside = crosses-append es fs ∙ ap (λ e. e || crosses fs) p.inside ∙ q.inside;
+}
+
+-- ---- lines at hand
+
+module _ (a b c : DiskState) (s t u : State) (ls ks : List Asked) (es fs : Log) (ms ns : List ℕ)
+    (meet : Meet a b c es fs) (p : ServesAtHand s ls t a b es ms) where
+  -- what a stop leaves while more lines are served behind these
+  pub leaves_then : AtEach b c (LeftAtHand t ks fs ns)
+      → AtEach a c (LeftAtHand s (ls ++ ks) (es ++ fs) (ms ++ ns))
+  leaves_then q trusted =
+      let first : List Turn = turns s ls ms in
+      let both : turns s (ls ++ ks) (ms ++ ns) ≡ first ++ turns t ks ns =
+      turns_both s t t ls ks es fs ms ns p.serves in
+      spans_two a b c (LeftAtHand s ls es ms) (LeftAtHand t ks fs ns)
+      (LeftAtHand s (ls ++ ks) (es ++ fs) (ms ++ ns))
+      (p.leaves trusted) (q (meet.trusts trusted))
+      (λ n image before x. subst (λ (vs : List Turn). IsLeft s vs (said_in (until n (es ++ fs))) image)
+      (sym both)
+      (subst (λ (bs : List ℕ). IsLeft s (first ++ turns t ks ns) bs image)
+      (ap said_in (sym (append-nil (until n es))
+      ∙ ap (λ (gs : Log). until n es ++ gs)
+      (sym (until-before b.moment c.moment n fs meet.behind before))
+      ∙ sym (until-append n es fs)))
+      (left-more s first (turns t ks ns) (said_in (until n es)) image (turns_say t ks ns) x)))
+      (λ n image from x. subst (λ (vs : List Turn). IsLeft s vs (said_in (until n (es ++ fs))) image)
+      (sym both)
+      (subst (λ (bs : List ℕ). IsLeft s (first ++ turns t ks ns) bs image)
+      (ap (λ (bs : List ℕ). bs ++ said_in (until n fs)) (sym p.serves.said)
+      ∙ sym (said_in-append es (until n fs))
+      ∙ ap said_in (ap (λ (gs : Log). gs ++ until n fs)
+      (sym (until-behind a.moment b.moment n es meet.before from))
+      ∙ sym (until-append n es fs)))
+      (left-behind s first (turns t ks ns) (said_in (until n fs)) image
+      (subst (λ (r : State). IsLeft r (turns t ks ns) (said_in (until n fs)) image)
+      p.serves.state x))))
+
+  -- lines and then more lines
+  pub hand_then : ServesAtHand t ks u b c fs ns → ServesAtHand s (ls ++ ks) u a c (es ++ fs) (ms ++ ns)
+  hand_then q = record {
+    serves = serves_then s t u ls ks es fs ms ns p.serves q.serves;
+    rests = rests_then es fs p.rests q.rests;
+    leaves = leaves_then q.leaves;
+  }
+
+  -- lines and then a break
+  pub hand_break : (fault : RunFault) → BreaksAtHand fault t ks b c fs ns
+      → BreaksAtHand fault s (ls ++ ks) a c (es ++ fs) (ms ++ ns)
+  hand_break fault q = record {
+    breaks = serves_break fault s t ls ks es fs ms ns p.serves q.breaks;
+    rests = rests_then es fs p.rests q.rests;
+    leaves = leaves_then q.leaves;
+  }
+
+-- what a stop leaves while some of the lines at hand are served
+pub leaves_more : (a b : DiskState) (s : State) (ls ks : List Asked) (es : Log) (ms : List ℕ)
+    → AtEach a b (LeftAtHand s ls es ms) → AtEach a b (LeftAtHand s (ls ++ ks) es ms)
+leaves_more a b s ls ks es ms p trusted =
+    let more = turns-more s ls ks ms [] in
+    leaves-weaker a b (LeftAtHand s ls es ms) (LeftAtHand s (ls ++ ks) es ms)
+    (λ n image x. subst (λ (vs : List Turn). IsLeft s vs (said_in (until n es)) image)
+    (sym more.2 ∙ ap (turns s (ls ++ ks)) (append-nil ms))
+    (left-more s (turns s ls ms) more.0 (said_in (until n es)) image more.1 x)) p trusted
+
+-- a break among lines is one among these and more
+pub hand_breaks_more : (a b : DiskState) (fault : RunFault) (s : State) (ls ks : List Asked) (es : Log)
+    (ms : List ℕ)
+    → BreaksAtHand fault s ls a b es ms → BreaksAtHand fault s (ls ++ ks) a b es ms
+hand_breaks_more a b fault s ls ks es ms p = record {
+  breaks = breaks_more fault s ls ks es ms p.breaks;
+  rests = p.rests;
+  leaves = leaves_more a b s ls ks es ms p.leaves;
+}
+
+-- lines that were served whole, and then no more was begun for want of memory
+pub hand_stops : (a b : DiskState) (s t : State) (ls ks : List Asked) (es : Log) (ms : List ℕ)
+    → ServesAtHand s ls t a b es ms → BreaksAtHand NoMemory s (ls ++ ks) a b es ms
+hand_stops a b s t ls ks es ms p = record {
+  breaks = serves_breaks s t ls ks es ms p.serves;
+  rests = p.rests;
+  leaves = leaves_more a b s ls ks es ms p.leaves;
+}
+
+-- no lines
+pub hand_none : (a : DiskState) (tables : Tables) (s : State) → Stands a tables s
+    → ServesAtHand s [] s a a [] []
+hand_none a tables s stands = record {
+  serves = serves_none s;
+  rests = record { silent = refl; goes_on = refl; inside = refl };
+  leaves = leaves-here a (LeftAtHand s [] [] []) (λ trusted t image is_image.
+      left-nothing s [] [] image (stands_left a tables s stands image is_image));
+}
+
+-- ---- single calls
+
+-- the front of a turn: its moment was asked for, and its writes were made or broken off
+pub record Begins (old mid : DiskState) (s : State) (l : Asked) (t : Turn)
+    (ms : List ℕ) : Type 0 where
+  pub one : turns s (l ∷ []) ms ≡ t ∷ []
+  pub count : length ms ≡ requests (l ∷ [])
+  pub silent : Grows old.beside mid.beside []
+  pub told : Tells (moments_of old.beside) (moments_of mid.beside) ms
+  pub later : old.moment ≤ mid.moment
+  pub trusts : IsTrusted old → IsTrusted mid
+  pub leaves : AtEach old mid (λ _ image. IsAmong image s t.atoms)
+
+-- a turn whose whole text was said
+pub turn_served : (old mid new : DiskState) (tables : Tables) (s : State) (l : Asked) (t : Turn)
+    (ms : List ℕ) (bytes : List ℕ)
+    → Begins old mid s l t ms → t.lacks ≡ None → Stands mid tables (after_turn s t)
+    → ShellCall mid new true
+    → Adds mid new (said bytes) → moments_of new.beside ≡ moments_of mid.beside
+    → bytes ≡ t.text
+    → Leads old new tables (ServesAtHand s (l ∷ []))
+turn_served old mid new tables s l t ms bytes b enough stands call added n e =
+    let es : Log = entry new.moment (told_count mid.beside) (said bytes) ∷ [] in
+    let within : AreWithin mid.moment new.moment es =
+    (call.keeps.later, omega arith, tt) in
+    let text : said_in es ≡ t.text = append-nil bytes ∙ e in
+    record {
+      to = after_turn s t;
+      stands = stands_kept mid new call.keeps tables (after_turn s t) stands;
+      calls = record {
+        entries = es;
+        told = ms;
+        grows = Grows-then old.beside mid.beside new.beside [] es b.silent added;
+        tells = subst (λ (k : Option (List ℕ)). Tells (moments_of old.beside) k ms) (sym n) b.told;
+        within = within-wider old.moment mid.moment new.moment new.moment es within b.later
+            (omega arith);
+        later = let k = call.keeps.later in omega (arith, b.later, k);
+        trusts = λ trusted. trusts-kept mid new call.keeps (b.trusts trusted);
+        holds = record {
+          serves = record {
+            said = text ∙ sym (append-nil t.text) ∙ ap text_of (sym b.one);
+            state = ap (after s) (sym b.one);
+            count = b.count;
+            enough = ap wanted b.one ∙ ap (λ w. or_next w None) enough;
+          };
+          rests = record { silent = refl; goes_on = refl; inside = refl };
+          leaves = leaves-said s (turns s (l ∷ []) ms) t b.one (turns_say s (l ∷ []) ms) old mid new
+              es within
+              (one-by (entry new.moment (told_count mid.beside) (said bytes)) t.text
+              (subst (λ (bs : List ℕ). IsPrefix bs t.text) (sym text) (IsPrefix-self t.text)))
+              b.trusts b.leaves
+              (λ trusted image is_image. stands_left mid tables (after_turn s t) stands
+              image is_image)
+              call.keeps;
+        };
+      };
+    }
+
+-- what a turn lacks is what its line lacks
+lacked : (s : State) (l : Asked) (t : Turn) (ms : List ℕ) (fault : RunFault) (es : Log)
+    → turns s (l ∷ []) ms ≡ t ∷ [] → IsCausedBy t.lacks fault → BreaksFor fault s [] (l ∷ []) es ms
+lacked s l t ms fault es one cause =
+    inl (subst (λ (ts : List Turn). IsCausedBy (wanted ts) fault) (sym one)
+    (lacked_alone fault t.lacks cause))
+  where
+    lacked_alone : (fault : RunFault) (lack : Option Lack) → IsCausedBy lack fault
+        → IsCausedBy (or_next lack None) fault
+    lacked_alone fault None h = h
+    lacked_alone fault (Some x) h = h
+
+-- a turn that was begun, of which these bytes were said
+turn_begun : (old mid new : DiskState) (s : State) (l : Asked) (t : Turn) (ms : List ℕ)
+    (fault : RunFault) (es : Log)
+    → Begins old mid s l t ms → BreaksFor fault s [] (l ∷ []) es ms
+    → Rests es → IsPrefix (said_in es) t.text
+    → Grows mid.beside new.beside es → moments_of new.beside ≡ moments_of mid.beside
+    → AreWithin mid.moment new.moment es → mid.moment ≤ new.moment
+    → (IsTrusted mid → IsTrusted new)
+    → AtEach old new (LeftAtHand s (l ∷ []) es ms)
+    → Stretch old new (BreaksAtHand fault s (l ∷ []))
+turn_begun old mid new s l t ms fault es b why rests some g m within later trusts leaves =
+    record {
+      entries = es;
+      told = ms;
+      grows = Grows-then old.beside mid.beside new.beside [] es b.silent g;
+      tells = subst (λ (k : Option (List ℕ)). Tells (moments_of old.beside) k ms) (sym m) b.told;
+      within = within-wider old.moment mid.moment new.moment new.moment es within b.later
+          (omega arith);
+      later = omega (arith, b.later, later);
+      trusts = λ trusted. trusts (b.trusts trusted);
+      holds = record {
+        breaks = record {
+          done = [];
+          begun = l ∷ [];
+          rest = [];
+          lines = refl;
+          few = omega arith;
+          all = (said_in es, refl);
+          said = subst (λ (ts : List Turn). IsPrefix (said_in es) (text_of ts)) (sym b.one)
+              (subst (IsPrefix (said_in es)) (sym (append-nil t.text)) some);
+          count = b.count;
+          enough = refl;
+          wants = why;
+        };
+        rests = rests;
+        leaves = leaves;
+      };
+    }
+
+-- a turn whose text was said in part
+module _ (old mid new : DiskState) (tables : Tables) (s : State) (l : Asked) (t : Turn) (ms : List ℕ)
+    (bytes : List ℕ) (b : Begins old mid s l t ms) (stands : Stands mid tables (after_turn s t))
+    (call : ShellCall mid new false) (m : moments_of new.beside ≡ moments_of mid.beside)
+    (e : bytes ≡ t.text) where
+  cut : (es : Log) → Rests es → ((u : ℕ) → IsPrefix (said_in (until u es)) t.text)
+      → IsPrefix (said_in es) t.text → Grows mid.beside new.beside es
+      → AreWithin mid.moment new.moment es → Stretch old new (BreaksAtHand Failed s (l ∷ []))
+  cut es rests by some g within =
+      turn_begun old mid new s l t ms Failed es b (inl tt) rests some g m within call.keeps.later
+      (trusts-kept mid new call.keeps)
+      (leaves-said s (turns s (l ∷ []) ms) t b.one (turns_say s (l ∷ []) ms) old mid new es within
+      by b.trusts b.leaves
+      (λ trusted image is_image. stands_left mid tables (after_turn s t) stands
+      image is_image)
+      call.keeps)
+
+  -- the failure wasn't told
+  cut_untold : Grows mid.beside new.beside [] → Stretch old new (BreaksAtHand Failed s (l ∷ []))
+  cut_untold g = cut [] (record { silent = refl; goes_on = refl; inside = refl })
+      (λ u. (t.text, refl)) (t.text, refl) g tt
+
+  cut_part : (n : ℕ) → Adds mid new (say_failed (take n bytes))
+      → Stretch old new (BreaksAtHand Failed s (l ∷ []))
+  cut_part n added =
+      let part : ℕ × List ℕ = entry new.moment (told_count mid.beside) (say_failed (take n bytes)) in
+      let some : IsPrefix (said_in (part ∷ [])) t.text = (
+        drop n bytes,
+        sym e ∙ sym (take-append-drop n bytes)
+            ∙ ap (λ (bs : List ℕ). bs ++ drop n bytes) (sym (append-nil (take n bytes))),
+      ) in
+      cut (part ∷ []) (record { silent = refl; goes_on = refl; inside = refl }) (one-by part t.text some) some
+      added (call.keeps.later, omega arith, tt)
+
+  pub turn_cut : (((n : ℕ) × Adds mid new (say_failed (take n bytes)))
+      ⊎ Untold mid new says_failed says_missed) → Stretch old new (BreaksAtHand Failed s (l ∷ []))
+  turn_cut (inl part) = cut_part part.0 part.1
+  turn_cut (inr untold) = cut_untold untold.log
+
+-- a turn of which nothing was said
+unsaid : (old new : DiskState) (s : State) (l : Asked) (t : Turn) (ms : List ℕ) (fault : RunFault)
+    → Begins old new s l t ms → BreaksFor fault s [] (l ∷ []) [] ms
+    → Stretch old new (BreaksAtHand fault s (l ∷ []))
+unsaid old new s l t ms fault b why =
+    turn_begun old new new s l t ms fault [] b why
+    (record { silent = refl; goes_on = refl; inside = refl }) (t.text, refl) (Grows-nil new.beside) refl tt
+    (omega arith) (λ trusted. trusted)
+    (leaves-unsaid s (turns s (l ∷ []) ms) t b.one (turns_say s (l ∷ []) ms) old new b.leaves)
+
+-- since it lacks what it wants or there is no memory
+pub turn_unsaid : (old new : DiskState) (s : State) (l : Asked) (t : Turn) (ms : List ℕ)
+    (fault : RunFault)
+    → Begins old new s l t ms → IsCausedBy t.lacks fault
+    → Stretch old new (BreaksAtHand fault s (l ∷ []))
+turn_unsaid old new s l t ms fault b cause =
+    unsaid old new s l t ms fault b (lacked s l t ms fault [] b.one cause)
+
+-- or since what a word of control asks for isn't done
+pub control_unsaid : (old new : DiskState) (s : State) (word : Control) (fault : RunFault)
+    → Begins old new s (control word) obeyed [] → IsControlFault word fault
+    → Stretch old new (BreaksAtHand fault s (control word ∷ []))
+control_unsaid old new s word fault b cause =
+    unsaid old new s (control word) obeyed [] fault b (because word fault cause)
+  where
+    because : (word : Control) (fault : RunFault) → IsControlFault word fault
+        → BreaksFor fault s [] (control word ∷ []) [] []
+    because Flush fault h = inr (h, record { line = control Flush; last = refl; enough = refl; at = tt })
+    because Merge fault h = inr (h, record { line = control Merge; last = refl; enough = refl; at = tt })
+    because Step fault h = inr (h, record { line = control Step; last = refl; enough = refl; at = tt })
+    because Reopen fault h = inl h

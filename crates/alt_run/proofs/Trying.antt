@@ -1,0 +1,569 @@
+-- A trial: its requests, one after the other, and then its four lines.
+use Rattle.std.proofs.Common.{◌≡◌, ◌≤◌, ◌<◌, ◌+◌, ◌-◌, ◌⊎◌, ⊎_elim, ℕ, suc, inl, inr, List, [], ◌∷◌, ◌++◌, map, length, min, take, drop, replicate, cond, Bool, true, false, Option, Some, None, option_map, refl, sym, ap, subst, ◌∙◌, append_assoc, append-nil, arith, length-append, take-append-drop}
+use Rattle.std.specs.Prelude.{nat_le, nat_eq, ◌==◌, codes, filter}
+use Rattle.std.specs.Str.{bytes_eq}
+use Rattle.std.specs.List.{starts_with, before_first, after_first}
+use Rattle.std.proofs.lemmas.List.{map-append, take-append-le, length-replicate, replicate-append-replicate}
+use Rattle.std.proofs.lemmas.List.Elements.{filter-append}
+use Rattle.std.proofs.Math.Seq.{take-append-add, take-length}
+use Rattle.alt_base.specs.Prefix.{IsPrefix}
+use Rattle.alt_disk.specs.Disk.{DiskState, Goes, IsImage, IsTrusted}
+use Rattle.alt_disk.proofs.Calls.{goes_refl, goes_on}
+use Rattle.alt_disk.proofs.Runs.{trusted_on}
+use Rattle.alt_lines.specs.Trial.{Generator, next_line, next_lines, after_line, draws}
+use Rattle.alt_lines.specs.TrialTexts.{Draws, line_of_kind, put_item_line, keyed_line, update_item_line, query_line, query_index_line}
+use Rattle.alt_machine.specs.Outcomes.{last_state}
+use Rattle.alt_machine.specs.State.{State}
+use Rattle.alt_machine.specs.Wanted.{Lack}
+use Rattle.alt_shell.specs.Calls.{Adds, Keeps, ShellCall, Untold}
+use Rattle.alt_shell.specs.Log.{Log, Grows, moments_of, until, entry, told_count, said, say_failed, says_failed, says_missed, said_in}
+use Rattle.alt_shell.proofs.Telling.{Grows-then, Grows-nil, Tells-nil}
+use Rattle.alt_tables.specs.Images.{StandsFor}
+use Rattle.alt_tables.specs.Stands.{Stands}
+use Rattle.alt_tables.specs.declared.tables.Tables.{Tables}
+use Rattle.alt_tables.proofs.Left.{stands_left}
+use Rattle.alt_talks.specs.Faults.{IsCausedBy, IsWorkFault}
+use Rattle.alt_talks.specs.Works.{Works}
+use Rattle.alt_talks.specs.Runs.{Stretch}
+use Rattle.alt_run.specs.Runs.{Rests}
+use Rattle.alt_talks.specs.Stops.{Image, atoms_of, AtEach, IsAmong, AreWithin}
+use Rattle.alt_run.specs.Trials.{trial_asks, trial_moment, trial_turns, beginning, as_turn, IsTried, LeftOfTrial, Tries, TriesFor, TriesSome, IsTally, Counted, CountedSome}
+use Rattle.alt_run.specs.Turns.{Asked, request, control_of, asked_as, asked_by, is_space, carried_out, turns, requests}
+use Rattle.alt_talks.specs.Turns.{Turn, after, after_turn, wanted, or_next}
+use Rattle.alt_talks.specs.declared.fault.RunFault.{RunFault}
+use Rattle.alt_talks.specs.declared.fault.RunFault.TheVariants.{Failed, NoMemory}
+use Rattle.alt_run.specs.declared.tally.Tally.{Tally}
+use Rattle.alt_talks.proofs.Stopping.{atoms_of-append, last_state-append, after-atoms, one-by, until-before, take-within, trusts-kept, leaves-weaker, leaves-here, spans_two, keeps-spans, within-wider, stands_kept}
+use Rattle.alt_run.proofs.TurnLaws.{requests-append, turns-append}
+use Rattle.alt_talks.proofs.TurnLaws.{after-append, wanted-append}
+
+-- ---- what is counted
+
+-- one where it is so
+abbrev pub one_where : Bool → ℕ
+one_where b = cond b 1 0
+
+one_counted : (b : Bool) (t : Turn) → length (cond b (t ∷ []) []) ≡ one_where b
+one_counted true t = refl
+one_counted false t = refl
+
+-- one turn more
+pub beginning_more : (front : List ℕ) (ts : List Turn) (t : Turn)
+    → length (beginning front (ts ++ t ∷ []))
+    ≡ length (beginning front ts) + one_where (starts_with nat_eq t.text front)
+beginning_more front ts t =
+    let p : Turn → Bool = λ u. starts_with nat_eq u.text front in
+    ap length (filter-append p ts (t ∷ []))
+    ∙ length-append (filter p ts) (filter p (t ∷ []))
+    ∙ ap (λ n. length (filter p ts) + n) (one_counted (p t) t)
+
+-- ---- the lines of the generator are requests
+
+no_kind : (kind : ℕ) (d : Draws) → control_of (line_of_kind kind d) ≡ None
+unfolding line_of_kind
+no_kind kind d = by_tests (nat_le kind 3) (kind == 4) (nat_le kind 6) (kind == 7) (kind == 8)
+  where
+    by_tests : (a b c e f : Bool) → control_of (cond a (put_item_line d)
+        (cond b (keyed_line (codes "DeleteItem") d)
+        (cond c (update_item_line d)
+        (cond e (keyed_line (codes "GetItem") d)
+        (cond f (query_line d) (query_index_line d)))))) ≡ None
+    by_tests true b c e f = refl
+    by_tests false true c e f = refl
+    by_tests false false true e f = refl
+    by_tests false false false true f = refl
+    by_tests false false false false true = refl
+    by_tests false false false false false = refl
+
+no_word : (g : Generator) → control_of (next_line g) ≡ None
+no_word g = elim g.first as (λ b. control_of (next_line (record { first = b; number = g.number }))
+    ≡ None) [
+      | true ↦ refl
+      | false ↦ no_kind (draws g.number).kind (draws g.number)
+    ]
+
+-- a line of the generator asks for a request
+pub asked_next : (g : Generator) → asked_by (next_line g)
+    ≡ request (before_first is_space (next_line g)) (after_first is_space (next_line g))
+asked_next g = ap (asked_as (next_line g)) (no_word g)
+
+-- ---- turns, and then more of them
+
+pub turns_then : (s : State) (ls ks : List Asked)
+    → trial_turns s (ls ++ ks) ≡ trial_turns s ls ++ trial_turns (after s (trial_turns s ls)) ks
+turns_then s ls ks =
+    ap (turns s (ls ++ ks)) (ap (λ n. replicate n trial_moment) (requests-append ls ks)
+    ∙ sym (replicate-append-replicate (requests ls) (requests ks) trial_moment))
+    ∙ turns-append s ls ks (replicate (requests ls) trial_moment) (replicate (requests ks) trial_moment)
+    (length-replicate (requests ls) trial_moment)
+
+-- some of these writes are some of these and more
+among_more : (image : Image) (s : State) (xs ys : List State) → IsAmong image s xs
+    → IsAmong image s (xs ++ ys)
+among_more image s xs ys p =
+    let few : min p.0 (length xs) ≤ length xs = grind arith in (
+      min p.0 (length xs),
+      subst (λ zs. StandsFor image (last_state s zs))
+          (sym (take-append-le (min p.0 (length xs)) xs ys few ∙ take-within p.0 xs)) p.1,
+    )
+
+-- and behind these
+among_behind : (image : Image) (s : State) (xs ys : List State) → IsAmong image (last_state s xs) ys
+    → IsAmong image s (xs ++ ys)
+among_behind image s xs ys p = (
+  length xs + p.0,
+  subst (StandsFor image)
+      (sym (ap (last_state s) (take-append-add xs ys p.0) ∙ last_state-append s xs (take p.0 ys)))
+      p.1,
+)
+
+-- ---- requests, and then more of them
+
+-- the state behind requests
+abbrev pub reached_by : State → List Asked → State
+reached_by s ls = after s (trial_turns s ls)
+
+module _ (a b c : DiskState) (t1 : Tables) (s : State) (ls ks : List Asked) (x y : Tally)
+    (goes : Goes a b) (p : Counted s ls x y a b t1) where
+  atoms_both : atoms_of (trial_turns s (ls ++ ks))
+      ≡ atoms_of (trial_turns s ls) ++ atoms_of (trial_turns (reached_by s ls) ks)
+  atoms_both = ap atoms_of (turns_then s ls ks)
+      ∙ atoms_of-append (trial_turns s ls) (trial_turns (reached_by s ls) ks)
+
+  wanted_both : wanted (trial_turns s (ls ++ ks)) ≡ wanted (trial_turns (reached_by s ls) ks)
+  wanted_both = ap wanted (turns_then s ls ks)
+      ∙ wanted-append (trial_turns s ls) (trial_turns (reached_by s ls) ks) p.enough
+
+  leaves_both : AtEach b c (λ _ image. IsAmong image (reached_by s ls) (atoms_of (trial_turns (reached_by s ls) ks)))
+      → AtEach a c (λ _ image. IsAmong image s (atoms_of (trial_turns s (ls ++ ks))))
+  leaves_both q trusted = spans_two a b c
+      (λ _ image. IsAmong image s (atoms_of (trial_turns s ls)))
+      (λ _ image. IsAmong image (reached_by s ls) (atoms_of (trial_turns (reached_by s ls) ks)))
+      (λ _ image. IsAmong image s (atoms_of (trial_turns s (ls ++ ks))))
+      (p.leaves trusted) (q (trusted_on a b goes trusted))
+      (λ n image before h. subst (λ (xs : List State). IsAmong image s xs) (sym atoms_both)
+      (among_more image s (atoms_of (trial_turns s ls)) (atoms_of (trial_turns (reached_by s ls) ks)) h))
+      (λ n image from h. subst (λ (xs : List State). IsAmong image s xs) (sym atoms_both)
+      (among_behind image s (atoms_of (trial_turns s ls)) (atoms_of (trial_turns (reached_by s ls) ks))
+      (subst (λ (r : State). IsAmong image r (atoms_of (trial_turns (reached_by s ls) ks)))
+      (after-atoms s (trial_turns s ls)) h)))
+
+  pub counted_then : (t2 : Tables) (z : Tally) → Counted (reached_by s ls) ks y z b c t2
+      → Counted s (ls ++ ks) x z a c t2
+  counted_then t2 z q = record {
+    stands = subst (λ (r : State). Stands c t2 r)
+        (sym (ap (after s) (turns_then s ls ks)
+        ∙ after-append s (trial_turns s ls) (trial_turns (reached_by s ls) ks)))
+        q.stands;
+    enough = wanted_both ∙ q.enough;
+    counts = λ ts h. subst (λ (us : List Turn). IsTally z us)
+        (append_assoc ts (trial_turns s ls) (trial_turns (reached_by s ls) ks)
+        ∙ ap (λ us. ts ++ us) (sym (turns_then s ls ks)))
+        (q.counts (ts ++ trial_turns s ls) (p.counts ts h));
+    leaves = leaves_both q.leaves;
+  }
+
+  wanted_begun : (begun : List Asked)
+      → wanted (trial_turns s (ls ++ begun)) ≡ wanted (trial_turns (reached_by s ls) begun)
+  wanted_begun begun = ap wanted (turns_then s ls begun)
+      ∙ wanted-append (trial_turns s ls) (trial_turns (reached_by s ls) begun) p.enough
+
+  tries_for : (fault : RunFault) (begun : List Asked) → TriesFor fault (reached_by s ls) begun
+      → TriesFor fault s (ls ++ begun)
+  tries_for fault begun why = ⊎_elim
+      (λ cause. inl (subst (λ (w : Option Lack). IsCausedBy w fault) (sym (wanted_begun begun)) cause))
+      (λ work. inr (
+        work.0,
+        wanted_begun begun ∙ work.1,
+        let l = length-append ls begun in let some = work.2 in omega (arith, l, some),
+      ))
+      why
+
+  pub counted_break : (fault : RunFault) → CountedSome fault (reached_by s ls) ks b c
+      → CountedSome fault s (ls ++ ks) a c
+  counted_break fault q = record {
+    begun = ls ++ q.begun;
+    rest = q.rest;
+    lines = ap (λ xs. ls ++ xs) q.lines ∙ sym (append_assoc ls q.begun q.rest);
+    wants = tries_for fault q.begun q.wants;
+    leaves = leaves_both q.leaves;
+  }
+
+-- ---- one request
+
+lacked_alone : (fault : RunFault) (lack : Option Lack) → IsCausedBy lack fault
+    → IsCausedBy (or_next lack None) fault
+lacked_alone fault None h = h
+lacked_alone fault (Some x) h = h
+
+module _ (a b : DiskState) (s : State) (name body : List ℕ)
+    (leaves : AtEach a b (λ _ image. IsAmong image s (carried_out s name body trial_moment).atoms)) where
+  leaves_one : AtEach a b (λ _ image. IsAmong image s
+      (atoms_of (trial_turns s (request name body ∷ []))))
+  leaves_one = leaves-weaker a b
+      (λ _ image. IsAmong image s (carried_out s name body trial_moment).atoms)
+      (λ _ image. IsAmong image s (atoms_of (trial_turns s (request name body ∷ []))))
+      (λ t image h. subst (λ (xs : List State). IsAmong image s xs)
+      (sym (append-nil (carried_out s name body trial_moment).atoms)) h) leaves
+
+  -- it was carried out, and its reply counted
+  pub one_done : (tables : Tables) (x y : Tally) → (carried_out s name body trial_moment).lacks ≡ None
+      → Stands b tables (after_turn s (carried_out s name body trial_moment))
+      → ((ts : List Turn) → IsTally x ts → IsTally y (ts ++ carried_out s name body trial_moment ∷ []))
+      → Counted s (request name body ∷ []) x y a b tables
+  one_done tables x y enough stands counts = record {
+    stands = stands;
+    enough = ap (λ w. or_next w None) enough;
+    counts = counts;
+    leaves = leaves_one;
+  }
+
+  -- it broke off
+  pub one_broke : (fault : RunFault) → IsCausedBy (carried_out s name body trial_moment).lacks fault
+      → CountedSome fault s (request name body ∷ []) a b
+  one_broke fault cause = record {
+    begun = request name body ∷ [];
+    rest = [];
+    lines = refl;
+    wants = inl (lacked_alone fault (carried_out s name body trial_moment).lacks cause);
+    leaves = leaves_one;
+  }
+
+-- and then a step of work was made
+module _ (a b c : DiskState) (t1 : Tables) (s : State) (name body : List ℕ) (x y : Tally)
+    (trusts : IsTrusted a → IsTrusted b) (p : Counted s (request name body ∷ []) x y a b t1)
+    (works : Works b c (reached_by s (request name body ∷ []))) where
+  leaves_worked : AtEach a c (λ _ image. IsAmong image s
+      (atoms_of (trial_turns s (request name body ∷ []))))
+  leaves_worked trusted =
+      let atoms : List State = atoms_of (trial_turns s (request name body ∷ [])) in
+      spans_two a b c (λ _ image. IsAmong image s atoms)
+      (λ _ image. StandsFor image (reached_by s (request name body ∷ [])))
+      (λ _ image. IsAmong image s atoms)
+      (p.leaves trusted) (works.leaves (trusts trusted))
+      (λ u image before h. h)
+      (λ u image from h. (
+        length atoms,
+        subst (λ (xs : List State). StandsFor image (last_state s xs)) (sym (take-length atoms))
+            (subst (StandsFor image) (after-atoms s (trial_turns s (request name body ∷ []))) h),
+      ))
+
+  pub one_worked : (t2 : Tables) → Stands c t2 (reached_by s (request name body ∷ []))
+      → Counted s (request name body ∷ []) x y a c t2
+  one_worked t2 stands = record {
+    stands = stands;
+    enough = p.enough;
+    counts = p.counts;
+    leaves = leaves_worked;
+  }
+
+  -- or that broke off
+  pub one_worked_some : (fault : RunFault) → IsWorkFault fault
+      → CountedSome fault s (request name body ∷ []) a c
+  one_worked_some fault why = record {
+    begun = request name body ∷ [];
+    rest = [];
+    lines = refl;
+    wants = inr (why, p.enough, omega arith);
+    leaves = leaves_worked;
+  }
+
+-- none was begun for want of memory
+pub none_begun : (a : DiskState) (tables : Tables) (s : State) (ls : List Asked) → Stands a tables s
+    → CountedSome NoMemory s ls a a
+none_begun a tables s ls stands = record {
+  begun = [];
+  rest = ls;
+  lines = refl;
+  wants = inl tt;
+  leaves = leaves-here a (λ _ image. IsAmong image s (atoms_of (trial_turns s ls)))
+      (λ trusted t image is_image. (0, stands_left a tables s stands image is_image));
+}
+
+-- what a line of the generator asks for, by its parts
+pub asked_parts : (g : Generator) (line : List ℕ) → line ≡ next_line g
+    → request (before_first is_space line) (after_first is_space line) ≡ asked_by (next_line g)
+asked_parts g line is =
+    ap (λ (bs : List ℕ). request (before_first is_space bs) (after_first is_space bs)) is
+    ∙ sym (asked_next g)
+
+-- a break among requests is one among these and more
+counted_some_more : (a b : DiskState) (fault : RunFault) (s : State) (ls ks : List Asked)
+    → CountedSome fault s ls a b → CountedSome fault s (ls ++ ks) a b
+counted_some_more a b fault s ls ks q =
+    let us = trial_turns (after s (trial_turns s ls)) ks in
+    record {
+      begun = q.begun;
+      rest = q.rest ++ ks;
+      lines = ap (λ xs. xs ++ ks) q.lines ∙ append_assoc q.begun q.rest ks;
+      wants = q.wants;
+      leaves = leaves-weaker a b (λ _ image. IsAmong image s (atoms_of (trial_turns s ls)))
+          (λ _ image. IsAmong image s (atoms_of (trial_turns s (ls ++ ks))))
+          (λ t image h. subst (λ (xs : List State). IsAmong image s xs)
+          (sym (ap atoms_of (turns_then s ls ks) ∙ atoms_of-append (trial_turns s ls) us))
+          (among_more image s (atoms_of (trial_turns s ls)) (atoms_of us) h)) q.leaves;
+    }
+
+-- ---- the loop
+
+-- The first of these lines were carried out and counted, from each state for which the tables stood.
+pub record Trying (a : DiskState) (t0 : Tables) (b : DiskState) (t1 : Tables) (behind : Tally)
+    (all rest : List (List ℕ)) : Type 0 where
+  pub none : Tally
+  pub empty : IsTally none []
+  pub done : List (List ℕ)
+  pub lines : all ≡ done ++ rest
+  pub goes : Goes a b
+  pub counted : (s : State) → Stands a t0 s → Counted s (map asked_by done) none behind a b t1
+
+-- at first none
+pub trying_none : (a : DiskState) (t0 : Tables) (tally : Tally) (all : List (List ℕ))
+    → IsTally tally [] → Trying a t0 a t0 tally all all
+trying_none a t0 tally all empty = record {
+  none = tally;
+  empty = empty;
+  done = [];
+  lines = refl;
+  goes = goes_refl a;
+  counted = λ s stands. record {
+    stands = stands;
+    enough = refl;
+    counts = λ ts h. subst (λ (us : List Turn). IsTally tally us) (sym (append-nil ts)) h;
+    leaves = leaves-here a (λ _ image. IsAmong image s [])
+        (λ trusted t image is_image. (0, stands_left a t0 s stands image is_image));
+  };
+}
+
+-- the lines that are left, where there is one
+pub next_left : (count i : ℕ) (g : Generator) → i < count
+    → next_lines (count - i) g ≡ next_line g ∷ next_lines (count - (i + 1)) (after_line g)
+next_left count i g below =
+    ap (λ n. next_lines n g) (let e : count - i ≡ suc (count - (i + 1)) = omega (arith, below) in e)
+
+module _ (a : DiskState) (t0 : Tables) (b : DiskState) (t1 : Tables) (y : Tally)
+    (all rest behind : List (List ℕ)) (line : List ℕ) (p : Trying a t0 b t1 y all rest)
+    (first : rest ≡ line ∷ behind) where
+  -- one line more
+  pub trying_line : (c : DiskState) (t2 : Tables) (z : Tally) → Goes b c
+      → ((r : State) → Stands b t1 r → Counted r (asked_by line ∷ []) y z b c t2)
+      → Trying a t0 c t2 z all behind
+  trying_line c t2 z goes go = record {
+    none = p.none;
+    empty = p.empty;
+    done = p.done ++ line ∷ [];
+    lines = p.lines ∙ ap (λ ls. p.done ++ ls) first ∙ sym (append_assoc p.done (line ∷ []) behind);
+    goes = goes_on a b c p.goes goes;
+    counted = λ s stands.
+        let front = p.counted s stands in
+        subst (λ (ls : List Asked). Counted s ls p.none z a c t2)
+        (sym (map-append asked_by p.done (line ∷ [])))
+        (counted_then a b c t1 s (map asked_by p.done) (asked_by line ∷ []) p.none y p.goes front t2 z
+        (go (after s (trial_turns s (map asked_by p.done))) front.stands));
+  }
+
+  -- it broke off
+  pub trying_break : (c : DiskState) (fault : RunFault)
+      → ((r : State) → Stands b t1 r → CountedSome fault r (asked_by line ∷ []) b c)
+      → (s : State) → Stands a t0 s → CountedSome fault s (map asked_by all) a c
+  trying_break c fault go s stands =
+      let front = p.counted s stands in
+      let r : State = after s (trial_turns s (map asked_by p.done)) in
+      subst (λ (ls : List Asked). CountedSome fault s ls a c)
+      (sym (ap (map asked_by) (p.lines ∙ ap (λ ls. p.done ++ ls) first)
+      ∙ map-append asked_by p.done (line ∷ behind)))
+      (counted_break a b c t1 s (map asked_by p.done) (asked_by line ∷ map asked_by behind) p.none y
+      p.goes front fault
+      (counted_some_more b c fault r (asked_by line ∷ []) (map asked_by behind)
+      (go r front.stands)))
+
+-- no line is left
+pub trying_all : (a : DiskState) (t0 : Tables) (b : DiskState) (t1 : Tables) (y : Tally)
+    (all rest : List (List ℕ)) (p : Trying a t0 b t1 y all rest) → rest ≡ []
+    → (s : State) → Stands a t0 s
+    → (none : Tally) × IsTally none [] × Counted s (map asked_by all) none y a b t1
+trying_all a t0 b t1 y all rest p end s stands = (
+  p.none,
+  p.empty,
+  subst (λ (ls : List Asked). Counted s ls p.none y a b t1)
+      (ap (map asked_by) (sym (p.lines ∙ ap (λ ls. p.done ++ ls) end ∙ append-nil p.done)))
+      (p.counted s stands),
+)
+
+-- ---- the four lines
+
+-- nothing was said yet
+tried_unsaid : (s : State) (t : Turn) (bytes : List ℕ) (image : Image) → bytes ≡ []
+    → IsAmong image s t.atoms → IsTried s t bytes image
+tried_unsaid s t bytes image none p = record {
+  writes = min p.0 (length t.atoms);
+  most = let few : min p.0 (length t.atoms) ≤ length t.atoms = grind arith in few;
+  all = λ some. absurd (let e = ap length none in omega (arith, e, some));
+  stands = subst (λ xs. StandsFor image (last_state s xs)) (sym (take-within p.0 t.atoms)) p.1;
+  front = subst (λ (bs : List ℕ). IsPrefix bs t.text) (sym none) (t.text, refl);
+}
+
+-- all writes were made
+tried_whole : (s : State) (t : Turn) (bytes : List ℕ) (image : Image) → IsPrefix bytes t.text
+    → StandsFor image (last_state s t.atoms) → IsTried s t bytes image
+tried_whole s t bytes image front p = record {
+  writes = length t.atoms;
+  most = omega arith;
+  all = λ some. refl;
+  stands = subst (λ xs. StandsFor image (last_state s xs)) (sym (take-length t.atoms)) p;
+  front = front;
+}
+
+module _ (old mid new : DiskState) (s : State) (t : Turn) (goes : Goes old mid)
+    (leaves : AtEach old mid (λ _ image. IsAmong image s t.atoms)) where
+  -- the requests alone
+  leaves_untold : AtEach old mid (LeftOfTrial s t [])
+  leaves_untold = leaves-weaker old mid (λ _ image. IsAmong image s t.atoms) (LeftOfTrial s t [])
+      (λ u image h. tried_unsaid s t [] image refl h) leaves
+
+  -- and then some of the text was said
+  leaves_told : (es : Log) → AreWithin mid.moment new.moment es
+      → ((u : ℕ) → IsPrefix (said_in (until u es)) t.text)
+      → (IsTrusted mid → (image : Image) → IsImage mid mid.moment image
+      → StandsFor image (last_state s t.atoms))
+      → Keeps mid new → AtEach old new (LeftOfTrial s t es)
+  leaves_told es within front stands keeps trusted =
+      spans_two old mid new (λ _ image. IsAmong image s t.atoms)
+      (λ _ image. StandsFor image (last_state s t.atoms))
+      (LeftOfTrial s t es)
+      (leaves trusted)
+      (keeps-spans mid new (λ _ image. StandsFor image (last_state s t.atoms)) keeps
+      (λ u image low is_image. stands (trusted_on old mid goes trusted) image is_image))
+      (λ u image before p. tried_unsaid s t (said_in (until u es)) image
+      (ap said_in (until-before mid.moment new.moment u es within before)) p)
+      (λ u image from p. tried_whole s t (said_in (until u es)) image (front u) p)
+
+-- The requests of a trial broke off: nothing was said.
+pub trial_unsaid : (old mid : DiskState) (s : State) (seed count : ℕ) (fault : RunFault) → Goes old mid
+    → CountedSome fault s (trial_asks seed count) old mid
+    → Stretch old mid (TriesSome fault s seed count)
+trial_unsaid old mid s seed count fault goes p = record {
+  entries = [];
+  told = [];
+  grows = subst (λ (log : Log). Grows old.beside log []) (sym goes.beside) (Grows-nil old.beside);
+  tells = Tells-nil (moments_of old.beside) (moments_of mid.beside) (ap moments_of goes.beside);
+  within = tt;
+  later = goes.later;
+  trusts = trusted_on old mid goes;
+  holds = record {
+    said = ((as_turn s seed count).text, refl);
+    rests = record { silent = refl; goes_on = refl; inside = refl };
+    unasked = refl;
+    begun = p.begun;
+    rest = p.rest;
+    lines = p.lines;
+    wants = p.wants;
+    leaves = leaves_untold old mid mid s (as_turn s seed count) goes p.leaves;
+  };
+}
+
+module _ (old mid new : DiskState) (tables : Tables) (s : State) (seed count : ℕ) (none tally : Tally)
+    (goes : Goes old mid) (p : Counted s (trial_asks seed count) none tally old mid tables) where
+  -- memory was refused for the lines
+  pub trial_memory : Stretch old mid (TriesSome NoMemory s seed count)
+  trial_memory = trial_unsaid old mid s seed count NoMemory goes
+      (record {
+        begun = [];
+        rest = trial_asks seed count;
+        lines = refl;
+        wants = inl tt;
+        leaves = p.leaves;
+      })
+
+  left_by : (es : Log) → AreWithin mid.moment new.moment es
+      → ((u : ℕ) → IsPrefix (said_in (until u es)) (as_turn s seed count).text) → Keeps mid new
+      → AtEach old new (LeftOfTrial s (as_turn s seed count) es)
+  left_by es within front keeps =
+      leaves_told old mid new s (as_turn s seed count) goes p.leaves es within front
+      (λ trusted image is_image.
+      subst (StandsFor image) (after-atoms s (trial_turns s (trial_asks seed count)))
+      (stands_left mid tables (after s (trial_turns s (trial_asks seed count))) p.stands image is_image))
+      keeps
+
+  -- they were said
+  pub trial_said : (bytes : List ℕ) → bytes ≡ (as_turn s seed count).text → ShellCall mid new true
+      → Adds mid new (said bytes) → moments_of new.beside ≡ moments_of mid.beside
+      → Stretch old new (Tries s seed count)
+  trial_said bytes e call added m =
+      let one : ℕ × List ℕ = entry new.moment (told_count mid.beside) (said bytes) in
+      let text : said_in (one ∷ []) ≡ (as_turn s seed count).text = append-nil bytes ∙ e in
+      let within : AreWithin mid.moment new.moment (one ∷ []) =
+      (call.keeps.later, omega arith, tt) in
+      record {
+        entries = one ∷ [];
+        told = [];
+        grows = Grows-then old.beside mid.beside new.beside [] (one ∷ [])
+            (subst (λ (log : Log). Grows old.beside log []) (sym goes.beside) (Grows-nil old.beside))
+            added;
+        tells = Tells-nil (moments_of old.beside) (moments_of new.beside)
+            (m ∙ ap moments_of goes.beside);
+        within = within-wider old.moment mid.moment new.moment new.moment (one ∷ []) within goes.later
+            (omega arith);
+        later = let k = call.keeps.later in omega (arith, goes.later, k);
+        trusts = λ trusted. trusts-kept mid new call.keeps (trusted_on old mid goes trusted);
+        holds = record {
+          said = text;
+          rests = record { silent = refl; goes_on = refl; inside = refl };
+          unasked = refl;
+          enough = p.enough;
+          leaves = left_by (one ∷ []) within
+              (one-by one (as_turn s seed count).text (subst (λ (bs : List ℕ). IsPrefix bs (as_turn s seed count).text) (sym text)
+              ([], sym (append-nil (as_turn s seed count).text)))) call.keeps;
+          last = λ trusted image is_image.
+              subst (StandsFor image) (after-atoms s (trial_turns s (trial_asks seed count)))
+              (stands_left new tables (after s (trial_turns s (trial_asks seed count)))
+              (stands_kept mid new call.keeps tables (after s (trial_turns s (trial_asks seed count)))
+              p.stands) image is_image);
+        };
+      }
+
+  -- some of them were said
+  cut : (es : Log) → Rests es → ((u : ℕ) → IsPrefix (said_in (until u es)) (as_turn s seed count).text)
+      → IsPrefix (said_in es) (as_turn s seed count).text → Grows mid.beside new.beside es
+      → AreWithin mid.moment new.moment es → ShellCall mid new false
+      → moments_of new.beside ≡ moments_of mid.beside
+      → Stretch old new (TriesSome Failed s seed count)
+  cut es rests by some g within call m = record {
+    entries = es;
+    told = [];
+    grows = Grows-then old.beside mid.beside new.beside [] es
+        (subst (λ (log : Log). Grows old.beside log []) (sym goes.beside) (Grows-nil old.beside)) g;
+    tells = Tells-nil (moments_of old.beside) (moments_of new.beside) (m ∙ ap moments_of goes.beside);
+    within = within-wider old.moment mid.moment new.moment new.moment es within goes.later
+        (omega arith);
+    later = let k = call.keeps.later in omega (arith, goes.later, k);
+    trusts = λ trusted. trusts-kept mid new call.keeps (trusted_on old mid goes trusted);
+    holds = record {
+      said = some;
+      rests = rests;
+      unasked = refl;
+      begun = [];
+      rest = trial_asks seed count;
+      lines = refl;
+      wants = inl tt;
+      leaves = left_by es within by call.keeps;
+    };
+  }
+
+  pub trial_cut : (bytes : List ℕ) → bytes ≡ (as_turn s seed count).text → ShellCall mid new false
+      → moments_of new.beside ≡ moments_of mid.beside
+      → (((n : ℕ) × Adds mid new (say_failed (take n bytes)))
+      ⊎ Untold mid new says_failed says_missed)
+      → Stretch old new (TriesSome Failed s seed count)
+  trial_cut bytes e call m (inl part) =
+      let one : ℕ × List ℕ =
+      entry new.moment (told_count mid.beside) (say_failed (take part.0 bytes)) in
+      let some : IsPrefix (said_in (one ∷ [])) (as_turn s seed count).text = (
+        drop part.0 bytes,
+        sym e ∙ sym (take-append-drop part.0 bytes)
+            ∙ ap (λ (bs : List ℕ). bs ++ drop part.0 bytes) (sym (append-nil (take part.0 bytes))),
+      ) in
+      cut (one ∷ []) (record { silent = refl; goes_on = refl; inside = refl }) (one-by one (as_turn s seed count).text some) some
+      part.1 (call.keeps.later, omega arith, tt) call m
+  trial_cut bytes e call m (inr untold) =
+      cut [] (record { silent = refl; goes_on = refl; inside = refl }) (λ u. ((as_turn s seed count).text, refl)) ((as_turn s seed count).text, refl)
+      untold.log tt call m

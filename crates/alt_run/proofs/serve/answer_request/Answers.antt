@@ -1,0 +1,133 @@
+use Rattle.std.proofs.Common.{◌∷◌, [], ◌∙◌, subst}
+use Rattle.alt_disk.proofs.Runs.{trusted_back}
+use Rattle.alt_disk.specs.Disk.{DiskState}
+use Rattle.alt_machine.specs.State.{State}
+use Rattle.alt_hand.specs.declared.hand.Limits.{Limits}
+use Rattle.alt_talks.specs.Works.{HasFewEntries}
+use Rattle.alt_talks.specs.Turns.{after_turn}
+use Rattle.alt_run.specs.Turns.{request, carried_out}
+use Rattle.alt_run.proofs.Serving.{turn_served, turn_cut, turn_unsaid}
+use Rattle.alt_run.proofs.Working.{leads_worked, leads_broke}
+use Rattle.alt_talks.proofs.Stopping.{ready_kept, stands_kept}
+use Rattle.alt_run.proofs.Beginning.{begins}
+use Rattle.alt_run.proofs.Bringing.{at_hand_worked, silent_then}
+use Rattle.alt_run.proofs.serve.answer_request.Goals as goal
+
+pub reply_text-requires : goal.reply_text-requires
+reply_text-requires g c =
+    let state = g.S.Disk.state in
+    record {
+      ready = ready_kept (state c.args.shell.now) (state c.now-moment.new.self) c.args.tables.now
+          c.now-moment.ensures.call.keeps c.requires.ready;
+    }
+
+pub returns-in-Err-clause-served : goal.returns-in-Err-clause-served
+returns-in-Err-clause-served g c = λ s stands.
+    let state = g.S.Disk.state in
+    let old : DiskState = state c.args.shell.now in
+    let mid : DiskState = state c.now-moment.new.self in
+    let new : DiskState = state c.reply_text.new.disk in
+    let m = c.now-moment.result in
+    let here = stands_kept old mid c.now-moment.ensures.call.keeps c.args.tables.now s stands in
+    turn_unsaid old new s (request c.args.name.now c.args.body.now)
+    (carried_out s c.args.name.now c.args.body.now m) (m ∷ []) c.in-Err.fault
+    (begins old mid new s c.args.name.now c.args.body.now m c.now-moment.ensures.call
+    c.now-moment.ensures.log c.now-moment.ensures.told c.in-Err.ensures.goes
+    (c.in-Err.ensures.leaves s here))
+    (c.in-Err.ensures.cause s here)
+
+pub returns-in-Err-say-clause-served : goal.returns-in-Err-say-clause-served
+returns-in-Err-say-clause-served g c = λ s stands.
+    let state = g.S.Disk.state in
+    let old : DiskState = state c.args.shell.now in
+    let mid : DiskState = state c.now-moment.new.self in
+    let new : DiskState = state c.reply_text.new.disk in
+    let m = c.now-moment.result in
+    let here = stands_kept old mid c.now-moment.ensures.call.keeps c.args.tables.now s stands in
+    turn_cut old new (state c.say.new.self) c.reply_text.new.tables s
+    (request c.args.name.now c.args.body.now)
+    (carried_out s c.args.name.now c.args.body.now m) (m ∷ []) c.as_bytes.result.now
+    (begins old mid new s c.args.name.now c.args.body.now m c.now-moment.ensures.call
+    c.now-moment.ensures.log c.now-moment.ensures.told c.in-Ok.ensures.goes
+    (c.in-Ok.ensures.leaves s here))
+    (c.in-Ok.ensures.state s here)
+    c.in-Err-say.ensures.call
+    c.in-Err-say.ensures.moments
+    (c.as_bytes.ensures.value ∙ c.in-Ok.ensures.text s here)
+    c.in-Err-say.ensures.said
+
+pub work-requires : goal.work-requires
+work-requires g c =
+    let state = g.S.Disk.state in
+    let old : DiskState = state c.args.shell.now in
+    let mid : DiskState = state c.now-moment.new.self in
+    let asked : DiskState = state c.reply_text.new.disk in
+    let m = c.now-moment.result in
+    record {
+      ready = ready_kept asked (state c.say.new.self) c.reply_text.new.tables
+          c.in-Ok-say.ensures.call.keeps
+          (λ trusted.
+          let first = ready_kept old mid c.args.tables.now c.now-moment.ensures.call.keeps
+          c.requires.ready (trusted_back mid asked c.in-Ok.ensures.goes trusted) in (
+            after_turn first.0 (carried_out first.0 c.args.name.now c.args.body.now m),
+            c.in-Ok.ensures.state first.0 first.1,
+          ));
+    }
+
+pub returns-in-Ok-work-clause-served : goal.returns-in-Ok-work-clause-served
+returns-in-Ok-work-clause-served g c = λ s stands.
+    let state = g.S.Disk.state in
+    let old : DiskState = state c.args.shell.now in
+    let mid : DiskState = state c.now-moment.new.self in
+    let asked : DiskState = state c.reply_text.new.disk in
+    let done : DiskState = state c.say.new.self in
+    let m = c.now-moment.result in
+    let l = request c.args.name.now c.args.body.now in
+    let here = stands_kept old mid c.now-moment.ensures.call.keeps c.args.tables.now s stands in
+    leads_worked old done (state c.work.new.disk) c.reply_text.new.tables s (l ∷ [])
+    (turn_served old asked done c.reply_text.new.tables s l
+    (carried_out s c.args.name.now c.args.body.now m) (m ∷ []) c.as_bytes.result.now
+    (begins old mid asked s c.args.name.now c.args.body.now m c.now-moment.ensures.call
+    c.now-moment.ensures.log c.now-moment.ensures.told c.in-Ok.ensures.goes
+    (c.in-Ok.ensures.leaves s here))
+    (c.in-Ok.ensures.enough s here) (c.in-Ok.ensures.state s here)
+    c.in-Ok-say.ensures.call c.in-Ok-say.ensures.said c.in-Ok-say.ensures.moments
+    (c.as_bytes.ensures.value ∙ c.in-Ok.ensures.text s here))
+    c.work.new.tables (λ (t : State) there. c.in-Ok-work.ensures.works t there)
+    (λ (t : State) there. c.in-Ok-work.ensures.stands t there)
+
+pub returns-in-Ok-work-clause-brings : goal.returns-in-Ok-work-clause-brings
+returns-in-Ok-work-clause-brings g c =
+    let state = g.S.Disk.state in
+    let old : DiskState = state c.args.shell.now in
+    let mid : DiskState = state c.now-moment.new.self in
+    let asked : DiskState = state c.reply_text.new.disk in
+    at_hand_worked _ old asked (state c.say.new.self) (state c.work.new.disk) c.as_bytes.result.now
+    (request c.args.name.now c.args.body.now)
+    (silent_then old mid asked c.now-moment.ensures.log c.in-Ok.ensures.goes)
+    c.in-Ok-say.ensures.said c.in-Ok-work.ensures.goes
+    (subst (λ (limits : Limits). HasFewEntries limits.flush (state c.work.new.disk))
+    c.in-Ok.ensures.limits c.in-Ok-work.ensures.entries)
+
+pub returns-clause-served : goal.returns-clause-served
+returns-clause-served g c = λ s stands.
+    let state = g.S.Disk.state in
+    let old : DiskState = state c.args.shell.now in
+    let mid : DiskState = state c.now-moment.new.self in
+    let asked : DiskState = state c.reply_text.new.disk in
+    let done : DiskState = state c.say.new.self in
+    let m = c.now-moment.result in
+    let name = c.args.name.now in
+    let body = c.args.body.now in
+    let here = stands_kept old mid c.now-moment.ensures.call.keeps c.args.tables.now s stands in
+    leads_broke old done (state c.work.new.disk) c.reply_text.new.tables s name body
+    (turn_served old asked done c.reply_text.new.tables s (request name body)
+    (carried_out s name body m) (m ∷ []) c.as_bytes.result.now
+    (begins old mid asked s name body m c.now-moment.ensures.call
+    c.now-moment.ensures.log c.now-moment.ensures.told c.in-Ok.ensures.goes
+    (c.in-Ok.ensures.leaves s here))
+    (c.in-Ok.ensures.enough s here) (c.in-Ok.ensures.state s here)
+    c.in-Ok-say.ensures.call c.in-Ok-say.ensures.said c.in-Ok-say.ensures.moments
+    (c.as_bytes.ensures.value ∙ c.in-Ok.ensures.text s here))
+    (λ (t : State) there. c.in-Err-work.ensures.works t there) c.in-Err-work.fault
+    (λ (t : State) there. c.in-Err-work.ensures.fault t there)

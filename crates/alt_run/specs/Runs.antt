@@ -1,0 +1,196 @@
+-- What a part of a run over lines says, takes and leaves, and what an opening does.
+use Rattle.std.specs.Prelude.{◌≡◌, ◌≤◌, ◌⊎◌, ℕ, List, [], ◌∷◌, ◌++◌, length, Bool, false, true, None, map}
+use Rattle.alt_base.specs.Prefix.{IsPrefix}
+use Rattle.alt_disk.specs.Disk.{DiskState, IsTrusted}
+use Rattle.alt_lines.specs.Unread.{Unread, lines_now, lines_later}
+use Rattle.alt_machine.specs.State.{State}
+use Rattle.alt_shell.specs.Log.{Log, Grows, moments_of, until, taken, said_in, ended, crosses}
+use Rattle.alt_opening.specs.Recovery.{WasLeft}
+use Rattle.alt_tables.specs.Images.{StandsFor}
+use Rattle.alt_talks.specs.Faults.{IsCausedBy, IsWorkFault}
+use Rattle.alt_talks.specs.declared.fault.RunFault.{RunFault}
+use Rattle.alt_talks.specs.Turns.{answered, text_of, after, wanted}
+use Rattle.alt_run.specs.Moments.{said_by, taken_by, ended_by}
+use Rattle.alt_talks.specs.Stops.{Image, IsLeft, AtEach}
+use Rattle.alt_run.specs.Turns.{Asked, request, control, unread, turns, requests, asks, asked_of, out}
+use Rattle.alt_run.specs.declared.lines.Control.TheVariants.{Flush, Merge, Step, Reopen}
+use Rattle.alt_talks.specs.Runs.{OfStretch}
+use Rattle.alt_talks.specs.TalkStops.{LeavesNow}
+
+-- ---- lines that were at hand
+
+-- what a stop at a moment leaves while these lines are served from a state
+abbrev pub LeftAtHand : State → List Asked → Log → List ℕ → ℕ → Image → Type 0
+LeftAtHand s ls entries told t image =
+    IsLeft s (turns s ls told) (said_in (until t entries)) image
+
+-- Of these lines each was answered, at a moment of its own, and had the numbers that it wanted.
+pub record Serves (s : State) (ls : List Asked) (t : State) (entries : Log)
+    (told : List ℕ) : Type 0 where
+  pub said : said_in entries ≡ text_of (turns s ls told)
+  pub state : t ≡ after s (turns s ls told)
+  pub count : length told ≡ requests ls
+  pub enough : wanted (turns s ls told) ≡ None
+
+-- Work was under way for a line: for one of the words of control that ask for it, or behind a request, once this was said.
+abbrev pub IsAtWork : Asked → Type 0 → Type 0
+IsAtWork (request name body) said = said
+IsAtWork (control Flush) said = Unit {0}
+IsAtWork (control Merge) said = Unit {0}
+IsAtWork (control Step) said = Unit {0}
+IsAtWork (control Reopen) said = ⊥
+IsAtWork unread said = ⊥
+
+-- So it was for the line that was begun behind these: a request's reply had been said. None of the requests lacked anything.
+pub record IsWorking (s : State) (done begun : List Asked) (entries : Log)
+    (told : List ℕ) : Type 0 where
+  pub line : Asked
+  pub last : begun ≡ line ∷ []
+  pub enough : wanted (turns s (done ++ begun) told) ≡ None
+  pub at : IsAtWork line (said_in entries ≡ text_of (turns s (done ++ begun) told))
+
+-- Why serving broke off: a request has no answer, for want of a number that is the first that one wanted, or work broke off.
+abbrev pub BreaksFor : RunFault → State → List Asked → List Asked → Log → List ℕ → Type 0
+BreaksFor fault s done begun entries told =
+    IsCausedBy (wanted (turns s (done ++ begun) told)) fault
+    ⊎ (IsWorkFault fault × IsWorking s done begun entries told)
+
+-- Serving these lines broke off. Those that were done were answered, at most one more was begun, and just these had a moment
+-- each. The fault has its cause.
+pub record Breaks (fault : RunFault) (s : State) (ls : List Asked) (entries : Log)
+    (told : List ℕ) : Type 0 where
+  pub done : List Asked
+  pub begun : List Asked
+  pub rest : List Asked
+  pub lines : ls ≡ done ++ (begun ++ rest)
+  pub few : length begun ≤ 1
+  pub all : IsPrefix (text_of (turns s done told)) (said_in entries)
+  pub said : IsPrefix (said_in entries) (text_of (turns s (done ++ begun) told))
+  pub count : length told ≡ requests (done ++ begun)
+  pub enough : wanted (turns s done told) ≡ None
+  pub wants : BreaksFor fault s done begun entries told
+
+-- nothing was taken, and no connection came or went: what was said was said on standard output
+pub record Rests (entries : Log) : Type 0 where
+  pub silent : taken entries ≡ []
+  pub goes_on : ended entries ≡ false
+  pub inside : crosses entries ≡ false
+
+-- ---- turns of taking
+
+-- what a reader will ask once these bytes were given to it, and maybe the end
+abbrev pub asked_later : Unread → List ℕ → Bool → List Asked
+asked_later u more ended = map asked_of (lines_later u more ended)
+
+-- what it asks as it is
+abbrev pub asked_now : Unread → List Asked
+asked_now u = map asked_of (lines_now u)
+
+-- a reader gave out all lines that it had, and whatever follows they come first
+pub record HandsOut (old new : Unread) : Type 0 where
+  pub none : lines_now new ≡ []
+  pub most : new.most ≡ old.most
+  pub ended : new.ended ≡ old.ended
+  pub later : old.ended ≡ false → (more : List ℕ) (ended : Bool)
+      → asked_later old more ended ≡ asked_now old ++ asked_later new more ended
+
+-- lines at hand were served, and nothing was taken
+pub record ServesAtHand (s : State) (ls : List Asked) (t : State) (old new : DiskState)
+    (entries : Log) (told : List ℕ) : Type 0 where
+  pub serves : Serves s ls t entries told
+  pub rests : Rests entries
+  pub leaves : AtEach old new (LeftAtHand s ls entries told)
+
+-- that broke off
+pub record BreaksAtHand (fault : RunFault) (s : State) (ls : List Asked) (old new : DiskState)
+    (entries : Log) (told : List ℕ) : Type 0 where
+  pub breaks : Breaks fault s ls entries told
+  pub rests : Rests entries
+  pub leaves : AtEach old new (LeftAtHand s ls entries told)
+
+-- What a stop at a moment leaves while input is taken and served from a state: the lines are those that were whole by then.
+abbrev pub LeftBy : State → Unread → Log → List ℕ → ℕ → Image → Type 0
+LeftBy s u entries told t image =
+    IsLeft s (turns s (asked_later u (taken (until t entries)) (ended (until t entries))) told)
+    (said_in (until t entries)) image
+
+-- Some of the input was taken, which has not ended, and all lines that were whole then were served.
+pub record Goes (s : State) (u : Unread) (t : State) (v : Unread) (old new : DiskState)
+    (entries : Log) (told : List ℕ) : Type 0 where
+  pub done : List Asked
+  pub serves : Serves s done t entries told
+  pub lines : (more : List ℕ) (ended : Bool) → asked_later u (taken entries ++ more) ended
+      ≡ done ++ asked_later v more ended
+  pub goes_on : ended entries ≡ false
+  pub inside : crosses entries ≡ false
+  pub leaves : AtEach old new (LeftBy s u entries told)
+
+-- The rest of the input was taken, and all its lines were served.
+pub record Ends (s : State) (u : Unread) (t : State) (old new : DiskState) (entries : Log)
+    (told : List ℕ) : Type 0 where
+  pub serves : Serves s (asked_later u (taken entries) true) t entries told
+  pub at_end : ended entries ≡ true
+  pub inside : crosses entries ≡ false
+  pub leaves : AtEach old new (LeftBy s u entries told)
+
+-- That broke off among the lines that were whole.
+pub record GoesSome (fault : RunFault) (s : State) (u : Unread) (old new : DiskState)
+    (entries : Log) (told : List ℕ) : Type 0 where
+  pub breaks : Breaks fault s (asked_later u (taken entries) (ended entries)) entries told
+  pub inside : crosses entries ≡ false
+  pub leaves : AtEach old new (LeftBy s u entries told)
+
+-- more was taken, or the end was
+abbrev pub GoesOrEnds : Bool → State → Unread → State → Unread → OfStretch
+GoesOrEnds true s u t v = Goes s u t v
+GoesOrEnds false s u t v = Ends s u t
+
+-- ---- a run over all of its input
+
+-- What a stop at a moment of a run leaves: the state after some of the writes of the requests that were whole in the input taken by
+-- then, among them all those of the requests that were answered by then.
+abbrev pub LeftThen : State → Log → List ℕ → ℕ → Image → Type 0
+LeftThen s entries told t image =
+    IsLeft s (turns s (asks (ended_by t entries) (taken_by t entries)) told)
+    (said_by t entries) image
+
+-- The whole input was taken, and each line of it was answered, each request at a moment of its own, no more and no fewer. What was
+-- said is all of its Out, on standard output, since no connection came or went. A stop at any moment leaves every write that was answered by
+-- then, and one at the end the state after all of them.
+pub record Answers (s : State) (old new : DiskState) (entries : Log)
+    (told : List ℕ) : Type 0 where
+  pub at_end : ended entries ≡ true
+  pub inside : crosses entries ≡ false
+  pub said : said_in entries ≡ out s true (taken entries) told
+  pub count : length told ≡ requests (asks true (taken entries))
+  pub every : answered (turns s (asks true (taken entries)) told) (said_in entries)
+      ≡ turns s (asks true (taken entries)) told
+  pub enough : wanted (turns s (asks true (taken entries)) told) ≡ None
+  pub leaves : AtEach old new (LeftThen s entries told)
+  pub last : LeavesNow new (after s (turns s (asks true (taken entries)) told))
+
+-- It broke off among the lines that were whole in what was taken. What was said is a prefix of their Out.
+pub record AnswersSome (fault : RunFault) (s : State) (old new : DiskState) (entries : Log)
+    (told : List ℕ) : Type 0 where
+  pub breaks : Breaks fault s (asks (ended entries) (taken entries)) entries told
+  pub inside : crosses entries ≡ false
+  pub said : IsPrefix (said_in entries) (out s (ended entries) (taken entries) told)
+  pub leaves : AtEach old new (LeftThen s entries told)
+
+-- ---- the opening
+
+-- Nothing was taken, said or asked, and what a stop at a moment leaves stands for each state for which something stood that one left
+-- before it. A disk that could be relied on still can.
+pub record IsOpening (old new : DiskState) : Type 0 where
+  pub silent : Grows old.beside new.beside []
+  pub unasked : moments_of new.beside ≡ moments_of old.beside
+  pub trusts : IsTrusted old → IsTrusted new
+  pub leaves : AtEach old new (WasLeft old)
+
+-- The store was opened, for the state for which its files stood, and what was done from then on has P of that state.
+pub record Opened (old new : DiskState) (P : State → DiskState → DiskState → Type 0) : Type 0 where
+  pub from : State
+  pub stood : StandsFor old.file from
+  pub opened : DiskState
+  pub opening : IsOpening old opened
+  pub behind : P from opened new

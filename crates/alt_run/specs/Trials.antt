@@ -1,0 +1,140 @@
+-- What a trial says and leaves: the requests that a seed makes, carried out one after another as lines of an input are, each at one moment.
+use Rattle.std.specs.Prelude.{◌≡◌, ◌≤◌, ◌<◌, ◌⊎◌, ℕ, List, [], ◌∷◌, ◌++◌, map, length, filter, replicate, nat_eq, codes, decimal, None}
+use Rattle.std.specs.List.{starts_with}
+use Rattle.hex.specs.Hex.{encode_lower}
+use Rattle.sha2.specs.Hashers.{Holds256}
+use Rattle.sha2.specs.Sha256.{sha256}
+use Rattle.alt_base.specs.Prefix.{IsPrefix}
+use Rattle.alt_disk.specs.Disk.{DiskState}
+use Rattle.alt_lines.specs.Trial.{trial_lines}
+use Rattle.alt_machine.specs.Outcomes.{state_after, last_state}
+use Rattle.alt_machine.specs.State.{State}
+use Rattle.alt_shell.specs.Log.{Log, until, said_in}
+use Rattle.alt_tables.specs.Images.{StandsFor}
+use Rattle.alt_tables.specs.Stands.{Stands}
+use Rattle.alt_tables.specs.declared.tables.Tables.{Tables}
+use Rattle.alt_talks.specs.Faults.{IsCausedBy, IsWorkFault}
+use Rattle.alt_run.specs.Runs.{Rests}
+use Rattle.alt_talks.specs.Stops.{Image, atoms_of, AtEach, IsAmong}
+use Rattle.alt_run.specs.Turns.{Asked, asked_by, turns, requests}
+use Rattle.alt_talks.specs.Turns.{Turn, text_of, after, wanted}
+use Rattle.alt_talks.specs.declared.fault.RunFault.{RunFault}
+use Rattle.alt_run.specs.declared.tally.Tally.{Tally}
+use Rattle.alt_talks.specs.TalkStops.{LeavesNow}
+
+-- ---- the requests, and what they come to
+
+-- what so many lines of a seed ask (docs/formats/trial.md)
+abbrev pub trial_asks : ℕ → ℕ → List Asked
+trial_asks seed count = map asked_by (trial_lines seed count)
+
+-- the moment of each request
+abbrev pub trial_moment : ℕ
+trial_moment = 1700000000
+
+-- their turns from a state
+abbrev pub trial_turns : State → List Asked → List Turn
+trial_turns s ls = turns s ls (replicate (requests ls) trial_moment)
+
+-- ---- the four lines
+
+-- of these turns those whose lines begin so, as that of a reply does with its status and a space
+abbrev pub beginning : List ℕ → List Turn → List Turn
+beginning front ts = filter (λ t. starts_with nat_eq t.text front) ts
+
+-- how many requests there were, how many replies had the status 200 and how many 400, and a digest
+abbrev pub four_lines : ℕ → ℕ → ℕ → List ℕ → List ℕ
+four_lines count good bad digest = codes "requests " ++ (decimal count
+    ++ (codes "\n200 " ++ (decimal good
+    ++ (codes "\n400 " ++ (decimal bad
+    ++ (codes "\nreplies " ++ (encode_lower digest ++ 10 ∷ [])))))))
+
+-- those of these turns, with the SHA-256 of the lines of all replies
+abbrev pub summary : ℕ → List Turn → List ℕ
+summary count ts = four_lines count (length (beginning (codes "200 ") ts))
+    (length (beginning (codes "400 ") ts)) (sha256 (text_of ts))
+
+-- the four lines of so many requests, whatever was replied
+pub record IsSummary (count : ℕ) (text : List ℕ) : Type 0 where
+  pub good : ℕ
+  pub bad : ℕ
+  pub digest : List ℕ
+  pub is : text ≡ four_lines count good bad digest
+
+-- Why a trial broke off among these requests, which were begun: one has no answer, for want of the first number that one wanted, or
+-- work behind one broke off, and none lacked anything.
+abbrev pub TriesFor : RunFault → State → List Asked → Type 0
+TriesFor fault s begun = IsCausedBy (wanted (trial_turns s begun)) fault
+    ⊎ (IsWorkFault fault × (wanted (trial_turns s begun) ≡ None) × (0 < length begun))
+
+-- A trial as one turn from a state: it is told its four lines, its writes are those of its requests, one after the other, and it lacks
+-- what the first of them lacks that lacks something.
+abbrev pub as_turn : State → ℕ → ℕ → Turn
+as_turn s seed count = record {
+  text = summary count (trial_turns s (trial_asks seed count));
+  atoms = atoms_of (trial_turns s (trial_asks seed count));
+  lacks = wanted (trial_turns s (trial_asks seed count));
+}
+
+-- ---- a trial
+
+-- What a stop leaves of a trial of which so much was said: the state after some of its writes, after all of them once something was said,
+-- and what was said is the front of its four lines.
+pub record IsTried (s : State) (t : Turn) (said : List ℕ) (image : Image) : Type 0 where
+  pub writes : ℕ
+  pub most : writes ≤ length t.atoms
+  pub all : 0 < length said → writes ≡ length t.atoms
+  pub stands : StandsFor image (state_after writes s t.atoms)
+  pub front : IsPrefix said t.text
+
+-- what a stop at a moment of a trial leaves
+abbrev pub LeftOfTrial : State → Turn → Log → ℕ → Image → Type 0
+LeftOfTrial s turn entries t image = IsTried s turn (said_in (until t entries)) image
+
+-- All requests were carried out, and then the four lines were said, and nothing else. Nothing was taken, and no moment was asked. A stop at the
+-- end leaves the state after all of them.
+pub record Tries (s : State) (seed count : ℕ) (old new : DiskState) (entries : Log)
+    (told : List ℕ) : Type 0 where
+  pub said : said_in entries ≡ (as_turn s seed count).text
+  pub rests : Rests entries
+  pub unasked : told ≡ []
+  pub enough : (as_turn s seed count).lacks ≡ None
+  pub leaves : AtEach old new (LeftOfTrial s (as_turn s seed count) entries)
+  pub last : LeavesNow new (last_state s (as_turn s seed count).atoms)
+
+-- That broke off: what was said is the front of the four lines, and so many requests were begun.
+pub record TriesSome (fault : RunFault) (s : State) (seed count : ℕ) (old new : DiskState)
+    (entries : Log) (told : List ℕ) : Type 0 where
+  pub begun : List Asked
+  pub rest : List Asked
+  pub lines : trial_asks seed count ≡ begun ++ rest
+  pub said : IsPrefix (said_in entries) (as_turn s seed count).text
+  pub rests : Rests entries
+  pub unasked : told ≡ []
+  pub wants : TriesFor fault s begun
+  pub leaves : AtEach old new (LeftOfTrial s (as_turn s seed count) entries)
+
+-- ---- its requests alone
+
+-- these turns were counted
+pub record IsTally (tally : Tally) (ts : List Turn) : Type 0 where
+  pub good : tally.good ≡ length (beginning (codes "200 ") ts)
+  pub bad : tally.bad ≡ length (beginning (codes "400 ") ts)
+  pub holds : Holds256 tally.hasher (text_of ts)
+
+-- lines were carried out from a state, and counted behind those before them
+pub record Counted (s : State) (ls : List Asked) (before behind : Tally) (old new : DiskState)
+    (tables : Tables) : Type 0 where
+  pub stands : Stands new tables (after s (trial_turns s ls))
+  pub enough : wanted (trial_turns s ls) ≡ None
+  pub counts : (ts : List Turn) → IsTally before ts → IsTally behind (ts ++ trial_turns s ls)
+  pub leaves : AtEach old new (λ _ image. IsAmong image s (atoms_of (trial_turns s ls)))
+
+-- that broke off
+pub record CountedSome (fault : RunFault) (s : State) (ls : List Asked)
+    (old new : DiskState) : Type 0 where
+  pub begun : List Asked
+  pub rest : List Asked
+  pub lines : ls ≡ begun ++ rest
+  pub wants : TriesFor fault s begun
+  pub leaves : AtEach old new (λ _ image. IsAmong image s (atoms_of (trial_turns s ls)))

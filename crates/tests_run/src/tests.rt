@@ -1,0 +1,9 @@
+mod chains;
+mod damage;
+mod files;
+mod merging;
+mod over;
+mod reads;
+mod script;
+mod stops;
+mod talks;

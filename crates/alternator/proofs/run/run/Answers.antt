@@ -4,7 +4,7 @@ use Rattle.alternator.specs.Endings.{HasDone, note_of}
 use Rattle.alternator.specs.Words.{command_of, bytes_of}
 use Rattle.alternator.specs.declared.words.Command.{Command}
 use Rattle.alternator.proofs.EndingLaws.{noted_done, noted_whole, words_end, completes, makes_all}
-use Rattle.alternator.proofs.Bringing.{after_noted}
+use Rattle.alternator.proofs.Bringing.{after_noted, within_noted}
 use Rattle.alternator.proofs.Initing.{quiet_behind}
 use Rattle.alternator.proofs.Staying.{kept_past, kept_trust, stays_whole}
 use Rattle.alternator.proofs.run.run.Goals as goal
@@ -93,3 +93,9 @@ returns-clause-whole g c =
     c.noted-ending.ensures.unasked c.noted-ending.ensures.aside c.ended.ensures.done)
     (λ is tells f there. quiet_behind old mid new c.noted-ending.ensures.aside
     (c.ended.ensures.untouched is tells f there))
+
+pub returns-clause-most : goal.returns-clause-most
+returns-clause-most g c = λ job limits is.
+    let state = g.S.Disk.state in
+    within_noted job (state c.args.shell.now) (state c.ended.new.shell)
+    (state c.noted-ending.new.shell) c.noted-ending.ensures.silent (c.ended.ensures.most job limits is)

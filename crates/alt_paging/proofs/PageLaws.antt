@@ -1,11 +1,11 @@
 -- How the page of a list grows with the list: up to its end every item is examined, and from then on none.
-use Rattle.std.proofs.Common.{◌≡◌, refl, sym, ap, ◌∙◌, cond, ℕ, ◌+◌, ◌*◌, ◌<◌, ◌≤◌, Bool, true, false, ◌||◌, List, [], ◌∷◌, ◌++◌, length, map, Option, Some, None, is_some, IfSome, unwrap_or, nat_le, sum_by, All, arith, append_assoc, append-nil, length-append}
+use Rattle.std.proofs.Common.{◌≡◌, ◌⊎◌, inl, inr, refl, sym, ap, ◌∙◌, cond, ℕ, ◌+◌, ◌*◌, ◌<◌, ◌≤◌, Bool, true, false, ◌||◌, List, [], ◌∷◌, ◌++◌, length, map, Option, Some, None, is_some, IfSome, unwrap_or, nat_le, sum_by, All, arith, append_assoc, append-nil, length-append}
 use Rattle.std.specs.List.{find}
 use Rattle.std.specs.Option.{option_or}
 use Rattle.std.proofs.lemmas.List.{map-append}
 use Rattle.std.proofs.lemmas.List.Elements.{All-head, All-tail}
 use Rattle.std.proofs.lemmas.List.Folds.{find-append}
-use Rattle.std.proofs.lemmas.List.Sums.{sum_by_push}
+use Rattle.std.proofs.lemmas.List.Sums.{sum_by-cons, sum_by_push}
 use Rattle.alt_expr.specs.Pages.{Asked, Page, page_bytes, reaches, fills, prefixes, full_prefix, examined, ends_early, parts, passed, page_of}
 use Rattle.alt_value.specs.Size.{item_size}
 use Rattle.alt_value.specs.Tree.{Pair}
@@ -176,3 +176,57 @@ module _ (limit : Option ℕ) (largest : ℕ) where
       (fewer (length (xs ++ y ∷ []) + length more) (length xs + length (y ∷ more))
       (omega (arith, count)) few)
       (omega (arith, total, size, grown, room))
+
+-- ---- how many end a page
+
+module _ (limit : Option ℕ) where
+  -- A page that goes on ends with a list that fills it, wherever in that it ends.
+  fills-ends : (more : List (List Pair)) (xs : List (List Pair)) (y : List Pair) (b : Bool)
+      → ends_early limit xs ≡ false → fills limit (xs ++ y ∷ []) ≡ b
+      → fills limit (xs ++ y ∷ more) ≡ true → ends_early limit (xs ++ y ∷ more) ≡ true
+  fills-ends more xs y true on e full =
+      ap (ends_early limit) (sym (append_assoc xs (y ∷ []) more))
+      ∙ ap is_some (full_prefix-ended limit (xs ++ y ∷ []) more
+      (ends_early_push limit xs y on ∙ e))
+      ∙ ends_early_push limit xs y on ∙ e
+  fills-ends [] xs y false on e full = absurd (let f : ⊥ = cc in f)
+  fills-ends (z ∷ more) xs y false on e full =
+      ap (ends_early limit) (sym (append_assoc xs (y ∷ []) (z ∷ more)))
+      ∙ fills-ends more (xs ++ y ∷ []) z (fills limit ((xs ++ y ∷ []) ++ z ∷ []))
+      (ends_early_push limit xs y on ∙ e) refl
+      (ap (fills limit) (append_assoc xs (y ∷ []) (z ∷ more)) ∙ full)
+
+  -- a list that has as many items as the limit, or as many bytes as a page, fills it
+  fills_by : (xs : List (List Pair)) → (reaches limit xs ≡ true) ⊎ (page_bytes ≤ sum_by item_size xs)
+      → fills limit xs ≡ true
+  fills_by xs (inl e) = ap (λ b. b || nat_le page_bytes (sum_by item_size xs)) e
+  fills_by xs (inr le) = by (reaches limit xs) (nat_le page_bytes (sum_by item_size xs)) (grind arith)
+    where
+      by : (a b : Bool) → b ≡ true → (a || b) ≡ true
+      by true b e = refl
+      by false b e = e
+
+  -- One item or more that with those before them reach the limit or fill a page's bytes end one that goes on.
+  pub ends_early-full : (xs more : List (List Pair)) → ends_early limit xs ≡ false
+      → 0 < length more
+      → (reaches limit (xs ++ more) ≡ true) ⊎ (page_bytes ≤ sum_by item_size (xs ++ more))
+      → ends_early limit (xs ++ more) ≡ true
+  ends_early-full xs [] on some full = absurd (omega (arith, some))
+  ends_early-full xs (y ∷ more) on some full =
+      fills-ends more xs y (fills limit (xs ++ y ∷ [])) on refl (fills_by (xs ++ y ∷ more) full)
+
+-- so many items, none smaller than that, have so many times its bytes or more
+pub sum_by-large : (largest : ℕ) (more : List (List Pair)) → All (λ i. largest ≤ item_size i) more
+    → largest * length more ≤ sum_by item_size more
+sum_by-large largest [] large = omega arith
+sum_by-large largest (y ∷ more) large =
+    let size = All-head (λ i. largest ≤ item_size i) y more large in
+    let rest = sum_by-large largest more (All-tail (λ i. largest ≤ item_size i) y more large) in
+    let grown : largest * length (y ∷ more) ≡ largest + largest * length more = omega arith in
+    let total = sum_by-cons item_size y more in
+    omega (arith, size, rest, grown, total)
+
+-- a list of that length reaches the limit
+pub reaches-length : (most : ℕ) (xs : List (List Pair)) → most ≡ length xs
+    → reaches (Some most) xs ≡ true
+reaches-length most xs e = grind arith

@@ -1,7 +1,8 @@
 -- The sizes of items.
-use Rattle.std.proofs.Common.{◌≡◌, ◌≢◌, refl, ℕ, ◌+◌, ◌-◌, ◌*◌, ◌/◌, ◌<◌, ◌≤◌, Bool, true, false, List, [], ◌∷◌, Some, None, nat_le, arith, le_trans, mul-le-mul_right, mul_comm}
+use Rattle.std.proofs.Common.{◌≡◌, ◌≢◌, ◌⊎◌, inl, inr, refl, ap, min, ℕ, ◌+◌, ◌-◌, ◌*◌, ◌/◌, ◌<◌, ◌≤◌, Bool, true, false, List, [], ◌∷◌, Some, None, nat_le, arith, le_trans, mul-le-mul_right, mul_comm}
 use Rattle.std.specs.Prelude.{if◌then◌else◌}
-use Rattle.std.proofs.Math.Nat.{div-mul-le_self}
+use Rattle.std.proofs.Math.Nat.{div-mul-le_self, lt-mul-div-succ}
+use Rattle.std.proofs.lemmas.Bool.{cases_lt}
 use Rattle.alt_expr.specs.Pages.{page_bytes}
 use Rattle.alt_value.specs.Item.{IsItem}
 use Rattle.alt_value.specs.Size.{item_size, within}
@@ -30,3 +31,19 @@ room_left left largest n total some going is few =
     (div-mul-le_self (left - 1) largest) in
     let turned = mul_comm n largest in
     omega (arith, fits, turned, is, going)
+
+-- and one more of them has as many bytes as are left, or more
+pub no_room : (left largest n total : ℕ) → 0 < largest → 0 < left → left ≡ page_bytes - total
+    → n ≡ (left - 1) / largest + 1 → page_bytes ≤ total + largest * n
+no_room left largest n total some going is all =
+    let over : left - 1 < largest * ((left - 1) / largest + 1) = lt-mul-div-succ (left - 1) some in
+    let same : largest * n ≡ largest * ((left - 1) / largest + 1) = ap (λ k. largest * k) all in
+    omega (arith, over, same, is, going)
+
+-- the lesser of two numbers is one of them
+pub by_least : {P : Type 0} (a b n : ℕ) → n ≡ min a b → (n ≡ a → P) → (n ≡ b → P) → P
+by_least {P} a b n is first second = by (cases_lt b a)
+  where
+    by : (b < a) ⊎ (a ≤ b) → P
+    by (inl less) = second (omega (arith, is, less))
+    by (inr le) = first (omega (arith, is, le))

@@ -35,7 +35,7 @@ pub struct Pager {
 }
 
 impl Pager {
-    ghost use Rattle.std.specs.Prelude.{◌≡◌, ◌≢◌, ◌<◌, ◌≤◌, ◌∷◌, ◌++◌, [], not, false, length, List, All, IfOk, OnOk, OnErr, IfSome};
+    ghost use Rattle.std.specs.Prelude.{◌≡◌, ◌≢◌, ◌<◌, ◌≤◌, ◌∷◌, ◌++◌, [], not, true, false, length, List, All, IfOk, OnOk, OnErr, IfSome};
     ghost use Rattle.alt_expr.specs.Pages.{ends_early};
     ghost use Rattle.alt_paging.specs.Offered.{WasOffered, IsPage, Grows, has_ended};
     ghost use Rattle.alt_paging.specs.declared.ask.PageAsk.{PageAsk};
@@ -79,7 +79,8 @@ impl Pager {
         }
     }
 
-    /// So many more items, of at most `largest` bytes each, are certain to be examined: no fewer of them end the page.
+    /// So many more items, of at most `largest` bytes each, are certain to be examined: no fewer of them end the page. It is the
+    /// greatest such number: so many that have as many bytes or more end it.
     pub fn certain(&self, largest: u64) -> u32
         requires largest { 0 < largest }
         requires open { has_ended self.now ≡ false }
@@ -87,6 +88,9 @@ impl Pager {
         ensures certain { (ask : PageAsk) (items more : List (List Pair))
             → WasOffered self.now ask items → All (λ i. item_size i ≤ largest) more
             → length more < result → ends_early ask.limit (items ++ more) ≡ false }
+        ensures greatest { (ask : PageAsk) (items more : List (List Pair))
+            → WasOffered self.now ask items → All (λ i. largest ≤ item_size i) more
+            → length more ≡ result → ends_early ask.limit (items ++ more) ≡ true }
     {
         let by_bytes = ((self.left - 1) / largest + 1) as u32;
         match self.ask.limit {

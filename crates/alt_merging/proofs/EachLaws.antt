@@ -1,26 +1,35 @@
 -- Files that need no merge, and work behind work.
-use Rattle.std.proofs.Common.{◌≡◌, ◌<◌, ◌+◌, ⊎_elim, inl, inr, ℕ, List, [], ◌∷◌, ◌++◌, length, take, get_or, sym, subst, ◌∙◌, zero, suc}
-use Rattle.std.proofs.lemmas.List.{take_more}
-use Rattle.std.specs.Prelude.{None}
+use Rattle.std.proofs.Common.{◌≡◌, ◌≢◌, ◌<◌, ◌≤◌, ◌-◌, ⊎_elim, inl, inr, ℕ, Bool, true, false, List, [], ◌∷◌, length, get_or, refl, sym, subst, ◌∙◌, arith}
+use Rattle.std.specs.Prelude.{◌⊎◌, None, not}
+use Rattle.std.specs.FinMap.{empty, entries}
+use Rattle.std.specs.List.{AllByRecursion}
 use Rattle.alt_disk.specs.Disk.{DiskState}
-use Rattle.alt_disk.specs.Runs.{Quiet, Spans}
-use Rattle.alt_disk.proofs.Runs.{quiet_spans, spans_on, spans_weaker}
-use Rattle.alt_layout.specs.Layout.{Layout, shown}
-use Rattle.alt_layout.proofs.FileLaws.{in_back, in_front}
-use Rattle.alt_manifest.specs.Versions.{IsIn}
-use Rattle.alt_layout.specs.Moments.{Has}
-use Rattle.alt_rowfile.specs.InHand.{file_of as row_file}
+use Rattle.alt_disk.specs.Runs.{Spans}
+use Rattle.alt_disk.proofs.Runs.{spans_on, spans_weaker}
+use Rattle.alt_filemerge.specs.FileMerges.{ReadEach}
+use Rattle.alt_layout.specs.Layout.{Layout, RowMap, shown}
+use Rattle.alt_flush.proofs.DraftLaws.{next_above}
+use Rattle.alt_layout.specs.Files.{IsOf}
+use Rattle.alt_layout.specs.Fresh.{versions_file}
+use Rattle.alt_layout.proofs.MomentLaws.{same_or_not}
+use Rattle.alt_manifest.specs.InHand.{version_of}
+use Rattle.alt_manifest.specs.Versions.{IsIn, files_named, numbers_of}
+use Rattle.alt_manifest.specs.declared.version.Version.{Version}
+use Rattle.alt_manifest.specs.Rules.{Tells}
+use Rattle.alt_rowfile.specs.InHand.{Reads as RowReads}
+use Rattle.alt_rowfile.specs.Summaries.{any_tombstone}
 use Rattle.alt_rowfile.specs.declared.rowfile.RowFile.{RowFile}
 use Rattle.alt_hand.specs.Carrying.{AreStill}
 use Rattle.alt_hand.specs.Drafting.{IsSpentFor}
-use Rattle.alt_hand.specs.InHand.{Stands}
-use Rattle.alt_hand.specs.Opened.{IsUnspent}
+use Rattle.alt_hand.specs.Adding.{Adds, IsLeftOut, LeavesOut, MakesNone}
+use Rattle.alt_hand.specs.InHand.{Stands, next_file_of, next_of}
+use Rattle.alt_hand.specs.Merging.{memory_at, version_in}
 use Rattle.alt_hand.specs.Working.{IsFileSpent, IsNoDamage, Works, WorksIn}
 use Rattle.alt_hand.specs.declared.hand.EngineFault.{EngineFault}
 use Rattle.alt_hand.specs.declared.hand.EngineFault.TheVariants.{Spent, Damaged, Failed, NoMemory}
 use Rattle.alt_hand.specs.declared.hand.Hand.{Hand}
 use Rattle.alt_hand.proofs.BesideLaws.{still_reads}
-use Rattle.alt_hand.proofs.HandLaws.{each_image}
+use Rattle.alt_hand.proofs.PublishLaws.{in_or_not}
 use Rattle.alt_merging.specs.Merged.{AreMerged}
 
 -- ---- files
@@ -29,11 +38,6 @@ pub still_back : (a b : DiskState) (fs : List RowFile) → AreStill a b fs → A
 still_back a b [] still = tt
 still_back a b (f ∷ fs) still = (sym still.0, still_back a b fs still.1)
 
--- where every file stays
-pub quiet_still : (a b : DiskState) (fs : List RowFile) → Quiet a b → AreStill a b fs
-quiet_still a b [] quiet = tt
-quiet_still a b (f ∷ fs) quiet = (quiet.file (row_file f), quiet_still a b fs quiet)
-
 -- Files that are merged stay so while they read as they read.
 pub merged_on : (a b : DiskState) (fs : List RowFile) → AreStill a b fs → AreMerged a fs
     → AreMerged b fs
@@ -41,23 +45,22 @@ merged_on a b [] still merged = tt
 merged_on a b (f ∷ []) still merged = λ m reads. merged m (still_reads a b f m still.0 reads)
 merged_on a b (f ∷ g ∷ fs) still merged = absurd merged
 
--- what is in the front of a list is in it
-pub in_take : (n : ℕ) (xs : List ℕ) (x : ℕ) → IsIn (take n xs) x → IsIn xs x
-in_take zero xs x there = absurd there
-in_take (suc n) [] x there = absurd there
-in_take (suc n) (y ∷ xs) x there = ⊎_elim (λ (e : x ≡ y). inl e)
-    (λ (later : IsIn (take n xs) x). inr (in_take n xs x later)) there
-
--- what isn't in a longer front isn't in a shorter one, and isn't the item behind that
-pub in_take_less : (xs : List ℕ) (i n : ℕ) → i < length xs → (IsIn (take (i + 1) xs) n → ⊥)
-    → (IsIn (take i xs) n → ⊥) × (n ≡ get_or xs i 0 → ⊥)
-in_take_less xs i n within out = (
-  λ there. out (more (in_front (take i xs) (get_or xs i 0 ∷ []) n there)),
-  λ e. out (more (in_back (take i xs) (get_or xs i 0 ∷ []) n (inl e))),
-)
+-- One file is merged where it has no tombstone.
+pub one_merged : (s : DiskState) (fs : List RowFile) (maps : List RowMap) (x : RowFile)
+    (has : Bool) → 0 < length fs → length fs ≤ 1 → x ≡ get_or fs 0 x
+    → ((m : RowMap) → RowReads s x (entries m) → has ≡ any_tombstone (entries m))
+    → ReadEach s fs maps → Tells (not has) (AreMerged s fs)
+one_merged s [] maps x has some few is tells each = absurd (omega (arith, some))
+one_merged s (f ∷ g ∷ fs) maps x has some few is tells each = absurd (omega (arith, few))
+one_merged s (f ∷ []) [] x has some few is tells each = absurd each
+one_merged s (f ∷ []) (m ∷ maps) x has some few is tells each = here has refl
   where
-    more : IsIn (take i xs ++ get_or xs i 0 ∷ []) n → IsIn (take (i + 1) xs) n
-    more there = subst (λ ys. IsIn ys n) (sym (take_more xs i 0 within)) there
+    at : (n : RowMap) → RowReads s f (entries n) → has ≡ any_tombstone (entries n)
+    at n reads = tells n (subst (λ (k : RowFile). RowReads s k (entries n)) (sym is) reads)
+
+    here : (t : Bool) → has ≡ t → Tells (not t) (AreMerged s (f ∷ []))
+    here true e = λ purged. let no : true ≡ false = sym e ∙ at m each.0 ∙ purged m each.0 in cc no
+    here false e = λ n reads. sym (at n reads) ∙ e
 
 -- ---- work
 
@@ -88,27 +91,73 @@ works_on a b c live l m works first later =
       works = works_then live l m worked.layout works worked.works;
     }))
 
--- where every file stays each image has the layout
-pub has_quiet : (a b : DiskState) (e : Hand) (l : Layout) → Stands a e l → Quiet a b
-    → Spans a b (λ g. Unit {0}) (Has l)
-has_quiet a b e l stands quiet = quiet_spans a b (λ g. Unit {0}) (Has l) quiet
-    (λ t image fits. each_image a e l stands image fits)
+-- ---- versions
+
+-- a file of the store is below the next one
+of_below : (a : DiskState) (e : Hand) (l : Layout) → Stands a e l → (f : ℕ) → IsOf (version_in e) f
+    → f < next_file_of e
+of_below a e l stands f of =
+    let free = stands.reads.free in
+    let two = next_above (version_of e.manifest) stands.reads.versions.is in ⊎_elim
+    (λ (first : f ≡ versions_file). omega (arith, free, two, first))
+    (λ (there : IsIn (files_named (version_of e.manifest)) f).
+    let low = each_in (files_named (version_of e.manifest)) f stands.reads.versions.is.below there in
+    omega (arith, free, low)) of
+  where
+    each_in : (xs : List ℕ) (n : ℕ)
+        → AllByRecursion (λ k. k < (version_of e.manifest).next_file) xs → IsIn xs n
+        → n < (version_of e.manifest).next_file
+    each_in [] n all there = absurd there
+    each_in (x ∷ xs) n all there = ⊎_elim
+        (λ (e : n ≡ x). let low = all.0 in omega (arith, low, e))
+        (λ (later : IsIn xs n). each_in xs n all.1 later) there
+
+-- a file is one of the store's, or not
+of_or_not : (v : Version) (f : ℕ) → IsOf v f ⊎ (IsOf v f → ⊥)
+of_or_not v f = ⊎_elim (λ (first : f ≡ versions_file). inl (inl first))
+    (λ (other : f ≢ versions_file). ⊎_elim (λ (there : IsIn (files_named v) f). inl (inr there))
+    (λ (out : IsIn (files_named v) f → ⊥). inr (λ of. ⊎_elim other out of))
+    (in_or_not (files_named v) f)) (same_or_not f versions_file)
+
+-- a version behind another one
+pub adds_then : (a b c : DiskState) (e f g : Hand) (l : Layout) → Stands a e l → Adds b e f
+    → Adds c f g → next_file_of e ≤ next_file_of f → MakesNone b c (next_file_of f) → Adds c e g
+adds_then a b c e f g l stands first later low missing = record {
+  next_file = later.next_file;
+  removed = λ k of out. ⊎_elim (λ (between : IsOf (version_in f) k). later.removed k between out)
+      (λ (gone : IsOf (version_in f) k → ⊥). missing k
+      (let below = of_below a e l stands k of in omega (arith, below, low)) (first.removed k of gone))
+      (of_or_not (version_in f) k);
+}
+
+pub leaves_then : (live : List ℕ) (e f g : Hand) → LeavesOut live e f → LeavesOut live f g
+    → next_of f ≡ next_of e → LeavesOut live e g
+leaves_then live e f g first later next = record {
+  named = λ family out there. subst (λ n. IsLeftOut (version_in g) family (n - 1)) next
+      (later.named family out (inl (first.named family out there).named));
+  emptied = later.emptied;
+}
+
+-- A version that was added to an engine with the same version and memory was added to this one.
+pub adds_from : (s : DiskState) (e f g : Hand) → version_in f ≡ version_in e → Adds s f g → Adds s e g
+adds_from s e f g same adds = record {
+  next_file = adds.next_file;
+  removed = λ k of out. adds.removed k (subst (λ (v : Version). IsOf v k) (sym same) of) out;
+}
+
+pub leaves_from : (live : List ℕ) (e f g : Hand) → version_in f ≡ version_in e
+    → ((family : ℕ) → memory_at f family ≡ memory_at e family) → next_of f ≡ next_of e
+    → LeavesOut live f g → LeavesOut live e g
+leaves_from live e f g same memory next leaves = record {
+  named = λ family out there. subst (λ n. IsLeftOut (version_in g) family (n - 1)) next
+      (leaves.named family out (⊎_elim
+      (λ (name : IsIn (numbers_of (version_in e).families) family).
+      inl (subst (λ (v : Version). IsIn (numbers_of v.families) family) (sym same) name))
+      (λ (some : memory_at e family ≢ empty). inr (λ none. some (sym (memory family) ∙ none))) there));
+  emptied = leaves.emptied;
+}
 
 -- ---- faults
-
--- A fault that tells neither of a spent number nor of damage is one for any next file.
-pub spent_none : (n : ℕ) (f : EngineFault) → IsUnspent f → IsNoDamage f → IsSpentFor n f
-spent_none n (Spent number) unspent whole = absurd unspent
-spent_none n (Damaged file at) unspent whole = absurd whole
-spent_none n Failed unspent whole = tt
-spent_none n NoMemory unspent whole = tt
-
--- and one that names no file
-pub file_none : (f : EngineFault) → IsUnspent f → IsFileSpent f
-file_none (Spent number) unspent = absurd unspent
-file_none (Damaged file at) unspent = tt
-file_none Failed unspent = tt
-file_none NoMemory unspent = tt
 
 -- A fault for a next file tells of no damage, and names file 2^32 - 1 where it tells a number.
 pub whole_for : (n : ℕ) (f : EngineFault) → IsSpentFor n f → IsNoDamage f

@@ -1,5 +1,5 @@
 -- A merge under way, call by call.
-use Rattle.std.proofs.Common.{◌≡◌, ◌+◌, ⊎_elim, ℕ, Bool, true, false, List, [], ◌∷◌, ◌++◌, take, drop, zero, suc, Option, refl, sym, ap, subst, ◌∙◌, arith, eqb-true}
+use Rattle.std.proofs.Common.{◌≡◌, ◌+◌, ⊎_elim, inl, ℕ, Bool, true, false, List, [], ◌∷◌, ◌++◌, take, drop, zero, suc, Option, refl, sym, ap, subst, ◌∙◌, arith, eqb-true}
 use Rattle.std.proofs.lemmas.List.{append-nil, take-append-drop, take-append-le}
 use Rattle.std.specs.Prelude.{◌==◌, ◌||◌, IsTrue, Result, Err}
 use Rattle.std.specs.FinMap.{entries}
@@ -37,7 +37,10 @@ use Rattle.alt_hand.specs.declared.hand.EngineFault.{EngineFault}
 use Rattle.alt_hand.specs.declared.hand.EngineFault.TheVariants as fault
 use Rattle.alt_hand.proofs.BesideLaws.{files_by_side, files_read, merging_stays, stands_by_side}
 use Rattle.alt_hand.proofs.EndLaws.{works_same}
-use Rattle.alt_hand.proofs.HandLaws.{each_image}
+use Rattle.alt_hand.specs.Adding.{HasLast}
+use Rattle.alt_hand.proofs.AddingLaws.{keeps_last}
+use Rattle.alt_manifest.specs.InHand.{version_of}
+use Rattle.alt_hand.proofs.HandLaws.{each_image, lies_of}
 use Rattle.alt_merging.specs.Mergings.{MergingStands}
 use Rattle.alt_merging.specs.declared.merging.Merging.{Merging}
 
@@ -70,6 +73,12 @@ module _ (a b : DiskState) (e : Hand) (l : Layout) (stands : Stands a e l)
   pub images_stay : Spans a b (λ g. Unit {0}) (Has l)
   images_stay = spans_weaker a b (IsIt file) (λ g. Unit {0}) (Has l) (Has l) both.1 (λ g it. tt)
       (λ t image has. has)
+
+  -- and the last version
+  pub last_stays : Spans a b (λ g. Unit {0}) (HasLast (version_in e))
+  last_stays = keeps_last a b (IsIt file) Anything (version_of e.manifest) (lies_of a e l stands).last
+      (stands.settled versions_file (inl refl))
+      (λ (it : versions_file ≡ file). let two = merging.two in omega (arith, two, it)) spans
 
   -- its files read as they read
   pub files_stay : (other : ℕ)
@@ -232,6 +241,13 @@ pub has_still : (s : DiskState) (e : Hand) (l : Layout) → Stands s e l
     → Spans s s (λ g. Unit {0}) (Has l)
 has_still s e l stands = quiet_spans s s (λ g. Unit {0}) (Has l) (quiet_start s)
     (λ t image fits. each_image s e l stands image fits)
+
+-- and the last version
+pub last_still : (s : DiskState) (e : Hand) (l : Layout) → Stands s e l
+    → Spans s s (λ g. Unit {0}) (HasLast (version_in e))
+last_still s e l stands = keeps_last s s (λ g. ⊥) Anything (version_of e.manifest)
+    (lies_of s e l stands).last (stands.settled versions_file (inl refl)) (λ no. no)
+    (quiet_spans s s (λ g. ⊥) Anything (quiet_start s) (λ t image fits. tt))
 
 -- ---- faults
 

@@ -5,10 +5,10 @@ use Rattle.alt_cells.specs.Walks.{RowList, RowMap}
 use Rattle.alt_disk.specs.Disk.{DiskState}
 use Rattle.alt_filemerge.specs.FileMerges.{MergeStands, drops, output_of}
 use Rattle.alt_rowfile.specs.InHand.{Reads as RowReads}
+use Rattle.alt_rowfile.specs.Summaries.{any_tombstone}
 use Rattle.alt_rowfile.specs.declared.rowfile.RowFile.{RowFile}
 use Rattle.alt_hand.specs.Merging.{IsMerging, files_at}
 use Rattle.alt_hand.specs.declared.hand.Hand.{Hand}
-use Rattle.alt_merging.specs.Tombstones.{has_tombstone}
 use Rattle.alt_merging.specs.declared.merging.Merging.{Merging}
 
 -- The family, how many of its files are merged, from the first one on, and the number of the file that is made.
@@ -33,7 +33,7 @@ pub record MergingStands (s : DiskState) (e : Hand) (j : Merging) (left : RowLis
 
 -- The file has no tombstone, and so no cell that one hides.
 abbrev pub IsPurged : DiskState → RowFile → Type 0
-IsPurged s file = (m : RowMap) → RowReads s file (entries m) → has_tombstone (entries m) ≡ false
+IsPurged s file = (m : RowMap) → RowReads s file (entries m) → any_tombstone (entries m) ≡ false
 
 -- One file without tombstones stands in the place of the first of a family's files, and the others behind it.
 pub record GivesWay (s : DiskState) (old new : Hand) (family taken : ℕ) : Type 0 where

@@ -1,6 +1,6 @@
 //! A merge in one call.
 
-ghost use Rattle.std.specs.Prelude.{◌≡◌, ◌≢◌, ⊤, ℕ, [], IfErr, OnOk, IsErrOf};
+ghost use Rattle.std.specs.Prelude.{◌≡◌, ◌≢◌, ◌<◌, ⊤, ℕ, [], None, IfErr, OnOk, IsErrOf};
 ghost use Rattle.alt_base.specs.Counts.{Rose};
 ghost use Rattle.alt_cells.specs.Walks.{RowList};
 ghost use Rattle.alt_disk.specs.Disk.{IsTrusted, Goes};
@@ -8,10 +8,11 @@ ghost use Rattle.alt_disk.specs.Runs.{Spans};
 ghost use Rattle.alt_layout.specs.Layout.{Layout};
 ghost use Rattle.alt_layout.specs.Moments.{Has};
 ghost use Rattle.alt_manifest.specs.Versions.{IsIn};
+ghost use Rattle.alt_hand.specs.Adding.{Adds, LeavesOut};
 ghost use Rattle.alt_hand.specs.Drafting.{IsUnspent as IsUnspentWhole};
 ghost use Rattle.alt_hand.specs.Carrying.{AreStill};
 ghost use Rattle.alt_hand.specs.InHand.{Stands, length_of, limits_of, next_file_of, next_of};
-ghost use Rattle.alt_hand.specs.Merging.{files_at};
+ghost use Rattle.alt_hand.specs.Merging.{files_at, memory_at};
 ghost use Rattle.alt_hand.specs.Opened.{IsUnspent};
 ghost use Rattle.alt_hand.specs.Working.{IsNoDamage, Works, WorksIn};
 ghost use Rattle.alt_merging.specs.Mergings.{GivesWay, MergingStands, family_of, file_of, taken_of};
@@ -45,6 +46,17 @@ impl Merging {
             → Stands (D.state disk.old) hand.old l → (other : ℕ) → IsIn live.now other
             → other ≢ family_of self
             → AreStill (D.state disk.old) (D.state disk.new) (files_at hand.old other)) }
+        ensures memory { OnOk result ((other : ℕ) → IsIn live.now other
+            → memory_at hand.new other ≡ memory_at hand.old other) }
+
+        // There is one version more, without families that aren't live, and no file that wasn't there but its own.
+        ensures leaves_out { OnOk result (LeavesOut live.now hand.old hand.new) }
+        ensures adds { OnOk result (IsTrusted (D.state disk.old)
+            → Adds (D.state disk.new) hand.old hand.new) }
+        ensures missing { OnOk result (IsTrusted (D.state disk.old) → (l : Layout)
+            → Stands (D.state disk.old) hand.old l → (f : ℕ) → f ≢ file_of self
+            → f < next_file_of hand.old → (D.state disk.old).file f ≡ None
+            → (D.state disk.new).file f ≡ None) }
         ensures next_file { OnOk result (next_file_of hand.new ≡ next_file_of hand.old) }
         ensures length { length_of hand.new ≡ length_of hand.old }
         ensures next { next_of hand.new ≡ next_of hand.old }
@@ -79,6 +91,9 @@ impl Merging {
         ensures taken { taken_of self.new ≡ taken_of self.old }
         ensures still { IsTrusted (D.state disk.old) → (other : ℕ)
             → AreStill (D.state disk.old) (D.state disk.new) (files_at hand.now other) }
+        ensures file { file_of self.new ≡ file_of self.old }
+        ensures only { IsTrusted (D.state disk.old) → (f : ℕ) → f ≢ file_of self.old
+            → (D.state disk.new).file f ≡ (D.state disk.old).file f }
         ensures any_moment { IsTrusted (D.state disk.old) → (l : Layout)
             → Stands (D.state disk.old) hand.now l
             → Spans (D.state disk.old) (D.state disk.new) (λ _. ⊤) (Has l) }

@@ -1,23 +1,22 @@
 //! Merges of several families, each in one call.
 
-ghost use Rattle.std.specs.Prelude.{◌≡◌, ◌≢◌, ◌||◌, ◌<◌, ◌≤◌, ◌+◌, ⊤, ℕ, List, true, false, length, IfErr, IfOk, OnOk, IsErrOf, IsTrue};
+ghost use Rattle.std.specs.Prelude.{◌≡◌, ◌≢◌, ◌||◌, ◌<◌, ◌≤◌, ◌+◌, ⊤, ℕ, List, true, false, length, IfErr, IfOk, OnOk, IsErrOf};
 ghost use Rattle.alt_base.specs.Counts.{Rose};
-ghost use Rattle.alt_disk.specs.Disk.{IsTrusted, Goes};
-ghost use Rattle.alt_disk.specs.Runs.{Quiet, Spans};
+ghost use Rattle.alt_disk.specs.Disk.{DiskState, IsTrusted, Goes};
+ghost use Rattle.alt_disk.specs.Runs.{Spans};
 ghost use Rattle.alt_filemerge.specs.FileMerges.{ReadEach};
 ghost use Rattle.alt_layout.specs.Layout.{Layout, RowMap};
 ghost use Rattle.alt_manifest.specs.Rules.{Tells};
 ghost use Rattle.alt_manifest.specs.Versions.{IsIn, RiseFrom};
+ghost use Rattle.alt_hand.specs.Adding.{Adds, LeavesOut, MakesNone};
 ghost use Rattle.alt_hand.specs.Drafting.{IsSpentFor};
 ghost use Rattle.alt_hand.specs.Carrying.{AreStill};
 ghost use Rattle.alt_hand.specs.InHand.{Stands, length_of, limits_of, next_file_of, next_of};
-ghost use Rattle.alt_hand.specs.Merging.{files_at};
-ghost use Rattle.alt_hand.specs.Opened.{IsUnspent};
+ghost use Rattle.alt_hand.specs.Merging.{files_at, memory_at};
 ghost use Rattle.alt_hand.specs.Working.{IsFileSpent, IsNoDamage, Works, WorksIn};
 ghost use Rattle.alt_merging.specs.Merged.{AreMerged};
 
 use crate::merging::Merging;
-use crate::tombstones::has_tombstone;
 use alt_disk::Disk;
 use alt_hand::{EngineFault, Hand};
 use alt_rowfile::RowFile;
@@ -42,12 +41,27 @@ pub fn merge_each<D: Disk>(
     ensures idle { IfOk result (λ done. done ≡ false → IsTrusted (D.state disk.old)
         → (family : ℕ) → IsIn live.now family
         → AreMerged (D.state disk.old) (files_at hand.old family)) }
-    ensures idle_disk { IfOk result (λ done. done ≡ false → IsTrue (D.state disk.old).tells
-        → Quiet (D.state disk.old) (D.state disk.new)) }
+    ensures idle_disk { IfOk result (λ done. done ≡ false → D.state disk.new ≡ D.state disk.old) }
     ensures idle_hand { IfOk result (λ done. done ≡ false → hand.new ≡ hand.old) }
     ensures busy { IfOk result (λ done. done ≡ true → IsTrusted (D.state disk.old)
         → ((family : ℕ) → IsIn live.now family
         → AreMerged (D.state disk.old) (files_at hand.old family)) → ⊥) }
+
+    // It touches no live family's rows in memory, and no files that are merged.
+    ensures memory { OnOk result ((family : ℕ) → IsIn live.now family
+        → memory_at hand.new family ≡ memory_at hand.old family) }
+    ensures kept { OnOk result (IsTrusted (D.state disk.old) → (family : ℕ)
+        → IsIn live.now family → AreMerged (D.state disk.old) (files_at hand.old family)
+        → files_at hand.new family ≡ files_at hand.old family) }
+
+    // The last version that it adds names families that aren't live without files. Files that a version doesn't name any more are gone, and no
+    // file below the next one is there that wasn't.
+    ensures leaves_out { IfOk result (λ done. done ≡ true → LeavesOut live.now hand.old hand.new) }
+    ensures adds { IfOk result (λ done. done ≡ true → IsTrusted (D.state disk.old) → (l : Layout)
+        → Stands (D.state disk.old) hand.old l → Adds (D.state disk.new) hand.old hand.new) }
+    ensures missing { OnOk result (IsTrusted (D.state disk.old) → (l : Layout)
+        → Stands (D.state disk.old) hand.old l
+        → MakesNone (D.state disk.old) (D.state disk.new) (next_file_of hand.old)) }
     ensures length { length_of hand.new ≡ length_of hand.old }
     ensures next { next_of hand.new ≡ next_of hand.old }
     ensures limits { limits_of hand.new ≡ limits_of hand.old }
@@ -103,11 +117,19 @@ fn merge_family<D: Disk>(
         → AreStill (D.state disk.old) (D.state disk.new) (files_at hand.old other)) }
     ensures idle { IfOk result (λ done. done ≡ false → IsTrusted (D.state disk.old)
         → AreMerged (D.state disk.old) (files_at hand.old family)) }
-    ensures idle_disk { IfOk result (λ done. done ≡ false → IsTrue (D.state disk.old).tells
-        → Quiet (D.state disk.old) (D.state disk.new)) }
+    ensures idle_disk { IfOk result (λ done. done ≡ false → D.state disk.new ≡ D.state disk.old) }
     ensures idle_hand { IfOk result (λ done. done ≡ false → hand.new ≡ hand.old) }
     ensures busy { IfOk result (λ done. done ≡ true → IsTrusted (D.state disk.old)
         → AreMerged (D.state disk.old) (files_at hand.old family) → ⊥) }
+    ensures memory { OnOk result ((other : ℕ) → IsIn live.now other
+        → memory_at hand.new other ≡ memory_at hand.old other) }
+    ensures leaves_out { IfOk result (λ done. done ≡ true → LeavesOut live.now hand.old hand.new) }
+    ensures adds { IfOk result (λ done. done ≡ true → IsTrusted (D.state disk.old)
+        → Adds (D.state disk.new) hand.old hand.new) }
+    ensures missing { OnOk result (IsTrusted (D.state disk.old) → (l : Layout)
+        → Stands (D.state disk.old) hand.old l
+        → MakesNone (D.state disk.old) (D.state disk.new) (next_file_of hand.old)) }
+    ensures low { OnOk result (next_file_of hand.old ≤ next_file_of hand.new) }
     ensures next_file { OnOk result (next_file_of hand.new ≤ next_file_of hand.old + 1) }
     ensures length { length_of hand.new ≡ length_of hand.old }
     ensures next { next_of hand.new ≡ next_of hand.old }
@@ -123,7 +145,7 @@ fn merge_family<D: Disk>(
         → Rose (D.state disk.old).faults (D.state disk.new).faults }
     ensures well { OnOk result ((D.state disk.new).faults ≡ (D.state disk.old).faults) }
 {
-    let merged = are_merged(disk, hand.files(family))?;
+    let merged = are_merged(hand.files(family));
     if merged {
         return Ok(false);
     }
@@ -133,30 +155,16 @@ fn merge_family<D: Disk>(
 }
 
 /// Whether there is one file at most, and that has no tombstone.
-fn are_merged<D: Disk>(disk: &mut D, files: &[RowFile]) -> Result<bool, EngineFault>
-    ensures merged { IsTrue (D.state disk.old).tells → (maps : List RowMap)
-        → ReadEach (D.state disk.old) files.now maps
-        → IfOk result (λ merged. Tells merged (AreMerged (D.state disk.old) files.now)) }
-    ensures some { IfOk result (λ merged. merged ≡ false → 0 < length files.now) }
-    ensures unspent { IfErr result IsUnspent }
-    ensures undamaged { IsTrue (D.state disk.old).tells → (maps : List RowMap)
-        → ReadEach (D.state disk.old) files.now maps
-        → IfErr result IsNoDamage }
-    ensures quiet { IsTrue (D.state disk.old).tells
-        → Quiet (D.state disk.old) (D.state disk.new) }
-    ensures goes { Goes (D.state disk.old) (D.state disk.new) }
-    ensures cause { IsErrOf result EngineFault.Failed
-        → Rose (D.state disk.old).faults (D.state disk.new).faults }
-    ensures well { OnOk result ((D.state disk.new).faults ≡ (D.state disk.old).faults) }
+fn are_merged(files: &[RowFile]) -> bool
+    ensures merged { (s : DiskState) (maps : List RowMap) → ReadEach s files.now maps
+        → Tells result (AreMerged s files.now) }
+    ensures some { result ≡ false → 0 < length files.now }
 {
     if files.is_empty() {
-        return Ok(true);
+        return true;
     }
     if files.len() > 1 {
-        return Ok(false);
+        return false;
     }
-    match has_tombstone(disk, &files[0]) {
-        Ok(has) => Ok(!has),
-        Err(fault) => Err(EngineFault::from(fault)),
-    }
+    !files[0].has_tombstone()
 }

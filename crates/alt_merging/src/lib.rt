@@ -4,7 +4,6 @@
 mod complete;
 mod each;
 mod merging;
-mod tombstones;
 
 pub use each::merge_each;
 pub use merging::Merging;

@@ -9,9 +9,11 @@ ghost use Rattle.alt_disk.specs.Runs.{Spans};
 ghost use Rattle.alt_layout.specs.Layout.{Layout};
 ghost use Rattle.alt_layout.specs.Moments.{Has};
 ghost use Rattle.alt_manifest.specs.Versions.{IsIn};
+ghost use Rattle.alt_manifest.specs.declared.version.Version.{Version};
+ghost use Rattle.alt_hand.specs.Adding.{Adds, HasLast, HasOneOf, LeavesOut, MakesNone};
 ghost use Rattle.alt_hand.specs.Carrying.{AreStill};
 ghost use Rattle.alt_hand.specs.InHand.{Stands, length_of, limits_of, next_file_of, next_of};
-ghost use Rattle.alt_hand.specs.Merging.{files_at, version_in};
+ghost use Rattle.alt_hand.specs.Merging.{files_at, memory_at, version_in};
 ghost use Rattle.alt_hand.specs.Drafting.{IsSpentFor, IsUnspent as IsUnspentWhole};
 ghost use Rattle.alt_hand.specs.Opened.{IsUnspent};
 ghost use Rattle.alt_hand.specs.Working.{IsNoDamage, Works, WorksIn};
@@ -54,7 +56,15 @@ impl Merging {
             → (left : RowList) × MergingStands (D.state disk.new) hand.new job left) }
         ensures family { IfOk result (λ job. family_of job ≡ family) }
         ensures taken { IfOk result (λ job. taken_of job ≡ length (files_at hand.old family)) }
+        ensures file { IfOk result (λ job. file_of job ≡ next_file_of hand.old) }
         ensures files { (other : ℕ) → files_at hand.new other ≡ files_at hand.old other }
+        ensures memory { (other : ℕ) → memory_at hand.new other ≡ memory_at hand.old other }
+        ensures version { version_in hand.new ≡ version_in hand.old }
+        ensures last { IsTrusted (D.state disk.old) → (l : Layout)
+            → Stands (D.state disk.old) hand.old l
+            → Spans (D.state disk.old) (D.state disk.new) (λ _. ⊤) (HasLast (version_in hand.old)) }
+        ensures missing { IsTrusted (D.state disk.old)
+            → MakesNone (D.state disk.old) (D.state disk.new) (next_file_of hand.old) }
         ensures still { IsTrusted (D.state disk.old) → (l : Layout)
             → Stands (D.state disk.old) hand.old l → (other : ℕ)
             → AreStill (D.state disk.old) (D.state disk.new) (files_at hand.old other) }
@@ -109,6 +119,13 @@ impl Merging {
             → Stands (D.state disk.old) hand.now l → (left : RowList)
             → MergingStands (D.state disk.old) hand.now self.old left → (other : ℕ)
             → AreStill (D.state disk.old) (D.state disk.new) (files_at hand.now other) }
+        ensures only { IsTrusted (D.state disk.old) → (left : RowList)
+            → MergingStands (D.state disk.old) hand.now self.old left → (f : ℕ)
+            → f ≢ file_of self.old → (D.state disk.new).file f ≡ (D.state disk.old).file f }
+        ensures last { IsTrusted (D.state disk.old) → (l : Layout)
+            → Stands (D.state disk.old) hand.now l → (left : RowList)
+            → MergingStands (D.state disk.old) hand.now self.old left
+            → Spans (D.state disk.old) (D.state disk.new) (λ _. ⊤) (HasLast (version_in hand.now)) }
         ensures any_moment { IsTrusted (D.state disk.old) → (l : Layout)
             → Stands (D.state disk.old) hand.now l → (left : RowList)
             → MergingStands (D.state disk.old) hand.now self.old left
@@ -160,6 +177,20 @@ impl Merging {
             → Stands (D.state disk.old) hand.old l → (other : ℕ) → IsIn live.now other
             → other ≢ family_of self
             → AreStill (D.state disk.old) (D.state disk.new) (files_at hand.old other)) }
+        ensures memory { OnOk result ((other : ℕ) → IsIn live.now other
+            → memory_at hand.new other ≡ memory_at hand.old other) }
+
+        // There is one version more, without families that aren't live, and no file that wasn't there but its own.
+        ensures leaves_out { OnOk result (LeavesOut live.now hand.old hand.new) }
+        ensures adds { OnOk result (IsTrusted (D.state disk.old)
+            → Adds (D.state disk.new) hand.old hand.new) }
+        ensures missing { OnOk result (IsTrusted (D.state disk.old) → (l : Layout)
+            → Stands (D.state disk.old) hand.old l → (f : ℕ) → f ≢ file_of self
+            → f < next_file_of hand.old → (D.state disk.old).file f ≡ None
+            → (D.state disk.new).file f ≡ None) }
+        ensures one_version { IsTrusted (D.state disk.old) → (l : Layout)
+            → Stands (D.state disk.old) hand.old l → (w : Version)
+            × Spans (D.state disk.old) (D.state disk.new) (λ _. ⊤) (HasOneOf (version_in hand.old) w) }
         ensures next_file { OnOk result (next_file_of hand.new ≡ next_file_of hand.old) }
         ensures length { length_of hand.new ≡ length_of hand.old }
         ensures next { next_of hand.new ≡ next_of hand.old }
@@ -200,6 +231,10 @@ impl Merging {
             → Stands (D.state disk.old) hand.now l
             → MergingStands (D.state disk.old) hand.now self left → (other : ℕ)
             → AreStill (D.state disk.old) (D.state disk.new) (files_at hand.now other) }
+        ensures last { IsTrusted (D.state disk.old) → (l : Layout) → (left : RowList)
+            → Stands (D.state disk.old) hand.now l
+            → MergingStands (D.state disk.old) hand.now self left
+            → Spans (D.state disk.old) (D.state disk.new) (λ _. ⊤) (HasLast (version_in hand.now)) }
         ensures any_moment { IsTrusted (D.state disk.old) → (l : Layout) → (left : RowList)
             → Stands (D.state disk.old) hand.now l
             → MergingStands (D.state disk.old) hand.now self left

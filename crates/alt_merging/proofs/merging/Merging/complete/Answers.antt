@@ -52,3 +52,15 @@ returns-clause-any_moment g c trusted l stands =
     (c.exhaust.ensures.any_moment trusted l stands)
     (c.end.ensures.any_moment (trusted_on a b c.exhaust.ensures.goes trusted) l
     (c.exhaust.ensures.ok trusted l stands))
+
+pub returns-clause-adds : goal.returns-clause-adds
+returns-clause-adds g c = on_ok_weaker c.end.result (λ all trusted.
+    all (trusted_on (g.D.Disk.state c.args.disk.now) (g.D.Disk.state c.exhaust.new.disk)
+    c.exhaust.ensures.goes trusted)) c.end.ensures.adds
+
+pub returns-clause-missing : goal.returns-clause-missing
+returns-clause-missing g c = on_ok_weaker c.end.result (λ all trusted l stands f apart low none.
+    all (trusted_on (g.D.Disk.state c.args.disk.now) (g.D.Disk.state c.exhaust.new.disk)
+    c.exhaust.ensures.goes trusted) l (c.exhaust.ensures.ok trusted l stands) f
+    (λ e. apart (e ∙ c.exhaust.ensures.file)) low (c.exhaust.ensures.only trusted f apart ∙ none))
+    c.end.ensures.missing

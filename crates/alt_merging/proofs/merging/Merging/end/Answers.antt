@@ -15,8 +15,12 @@ use Rattle.alt_hand.specs.InHand.{Stands}
 use Rattle.alt_hand.specs.Merging.{files_at}
 use Rattle.alt_hand.proofs.CarryDrafts.{still_then}
 use Rattle.alt_hand.proofs.CarryLaws.{on_ok_both}
+use Rattle.alt_disk.proofs.Runs.{spans_on}
+use Rattle.alt_hand.specs.Adding.{HasOneOf}
+use Rattle.alt_hand.specs.Merging.{version_in}
+use Rattle.alt_hand.proofs.AddingLaws.{last_or}
 use Rattle.alt_merging.proofs.TombstoneLaws.{purged_made}
-use Rattle.alt_merging.proofs.StepLaws.{files_stay, hand_stays, has_works, images_stay, made_of, merging_on, run_it, then_works}
+use Rattle.alt_merging.proofs.StepLaws.{files_stay, hand_stays, has_works, images_stay, last_stays, made_of, merging_on, run_it, then_works}
 use Rattle.alt_merging.proofs.merging.Merging.end.Goals as goal
 
 pub finish-requires : goal.finish-requires
@@ -139,3 +143,54 @@ returns-clause-still g c = on_ok_weaker c.end_merge.result (λ all trusted l sta
     (all (trusted_on a b c.in_ok-made.ensures.goes trusted) l
     (hand_stays a b e l stands old.family old.taken job.number old.file job.merging spans) other there
     apart)) c.end_merge.ensures.still
+
+pub returns-clause-adds : goal.returns-clause-adds
+returns-clause-adds g c = on_ok_weaker c.end_merge.result (λ all trusted.
+    all (trusted_on (g.D.Disk.state c.args.disk.now) (g.D.Disk.state c.finish.new.disk)
+    c.in_ok-made.ensures.goes trusted)) c.end_merge.ensures.adds
+
+pub returns-clause-missing : goal.returns-clause-missing
+returns-clause-missing g c = on_ok_weaker c.end_merge.result (λ all trusted l stands f apart low none.
+    let a : DiskState = g.D.Disk.state c.args.disk.now in
+    let b : DiskState = g.D.Disk.state c.finish.new.disk in
+    let old = c.args.self in
+    let job = c.requires.job trusted in
+    let spans : Spans a b (IsIt old.file) AnyImage =
+    run_it a b old.file Anything (subst (λ k. Run a b k Anything) job.output
+    (c.in_ok-made.ensures.any_moment trusted)) in
+    all (trusted_on a b c.in_ok-made.ensures.goes trusted) l
+    (hand_stays a b c.args.hand.now l stands old.family old.taken job.number old.file job.merging spans)
+    f low (spans.file f apart ∙ none)) c.end_merge.ensures.missing
+
+pub returns-in_err-made-clause-one_version : goal.returns-in_err-made-clause-one_version
+returns-in_err-made-clause-one_version g c trusted l stands =
+    let a : DiskState = g.D.Disk.state c.args.disk.now in
+    let b : DiskState = g.D.Disk.state c.finish.new.disk in
+    let e = c.args.hand.now in
+    let old = c.args.self in
+    let job = c.requires.job trusted in (
+      version_in e,
+      last_or a b (version_in e) (version_in e)
+          (last_stays a b e l stands old.family old.taken job.number old.file job.merging
+          (run_it a b old.file Anything (subst (λ k. Run a b k Anything) job.output
+          (c.in_err-made.ensures.any_moment trusted)))),
+    )
+
+pub returns-clause-one_version : goal.returns-clause-one_version
+returns-clause-one_version g c trusted l stands =
+    let a : DiskState = g.D.Disk.state c.args.disk.now in
+    let b : DiskState = g.D.Disk.state c.finish.new.disk in
+    let z : DiskState = g.D.Disk.state c.end_merge.new.disk in
+    let e = c.args.hand.now in
+    let old = c.args.self in
+    let job = c.requires.job trusted in
+    let spans : Spans a b (IsIt old.file) AnyImage =
+    run_it a b old.file Anything (subst (λ k. Run a b k Anything) job.output
+    (c.in_ok-made.ensures.any_moment trusted)) in
+    let later = c.end_merge.ensures.one_version (trusted_on a b c.in_ok-made.ensures.goes trusted) l
+    (hand_stays a b e l stands old.family old.taken job.number old.file job.merging spans) in (
+      later.0,
+      spans_on a b z (λ f. Unit {0}) (HasOneOf (version_in e) later.0)
+          (last_or a b (version_in e) later.0
+          (last_stays a b e l stands old.family old.taken job.number old.file job.merging spans)) later.1,
+    )

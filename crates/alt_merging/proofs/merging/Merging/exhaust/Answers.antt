@@ -20,6 +20,8 @@ steps-init g c =
       merging = λ trusted. let given = c.requires trusted in (given.1, given.3);
       family = refl;
       taken = refl;
+      file = refl;
+      only = λ trusted f apart. refl;
       still = λ trusted other. all_still a (files_at c.args.hand.now other);
       spans = λ trusted m stands. has_still a c.args.hand.now m stands;
       goes = goes_refl a;
@@ -127,6 +129,10 @@ steps-preserved g c =
           now.0 now.1 in (drop 256 now.0, at.0);
       family = c.step.ensures.family ∙ before.family;
       taken = c.step.ensures.files ∙ before.taken;
+      file = c.step.ensures.file ∙ before.file;
+      only = λ trusted f apart. let now = before.merging trusted in
+          c.step.ensures.only (told trusted) now.0 now.1 f (λ e. apart (e ∙ before.file))
+          ∙ before.only trusted f apart;
       still = λ trusted other. let now = before.merging trusted in let given = c.requires trusted in
           still_then a b d (files_at c.args.hand.now other) (before.still trusted other)
           (c.step.ensures.still (told trusted) given.0 (before.ok trusted given.0 given.2) now.0 now.1
@@ -137,3 +143,19 @@ steps-preserved g c =
       goes = goes_on a b d before.goes c.step.ensures.goes;
       well = c.in-Ok-More.ensures.well ∙ before.well;
     }
+
+pub returns-in-Ok-Done-clause-only : goal.returns-in-Ok-Done-clause-only
+returns-in-Ok-Done-clause-only g c trusted f apart =
+    let told = trusted_on (g.D.Disk.state c.args.disk.now) (g.D.Disk.state c.steps.disk)
+    c.steps.invariant.goes trusted in
+    let now = c.steps.invariant.merging trusted in
+    c.step.ensures.only told now.0 now.1 f (λ e. apart (e ∙ c.steps.invariant.file))
+    ∙ c.steps.invariant.only trusted f apart
+
+pub returns-in-Err-clause-only : goal.returns-in-Err-clause-only
+returns-in-Err-clause-only g c trusted f apart =
+    let told = trusted_on (g.D.Disk.state c.args.disk.now) (g.D.Disk.state c.steps.disk)
+    c.steps.invariant.goes trusted in
+    let now = c.steps.invariant.merging trusted in
+    c.step.ensures.only told now.0 now.1 f (λ e. apart (e ∙ c.steps.invariant.file))
+    ∙ c.steps.invariant.only trusted f apart

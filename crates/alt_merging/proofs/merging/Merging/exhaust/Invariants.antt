@@ -1,5 +1,5 @@
 -- The merge stands, some rows are left, and all else is as it was.
-use Rattle.std.proofs.Common.{◌≡◌, ℕ}
+use Rattle.std.proofs.Common.{◌≡◌, ◌≢◌, ℕ}
 use Rattle.alt_cells.specs.Walks.{RowList}
 use Rattle.alt_disk.specs.Disk.{IsTrusted, Goes}
 use Rattle.alt_disk.specs.Runs.{Spans}
@@ -8,7 +8,7 @@ use Rattle.alt_layout.specs.Moments.{Has}
 use Rattle.alt_hand.specs.Carrying.{AreStill}
 use Rattle.alt_hand.specs.InHand.{Stands}
 use Rattle.alt_hand.specs.Merging.{files_at}
-use Rattle.alt_merging.specs.Mergings.{MergingStands, family_of, taken_of}
+use Rattle.alt_merging.specs.Mergings.{MergingStands, family_of, file_of, taken_of}
 use Rattle.alt_merging.proofs.merging.Merging.exhaust.Given as goal
 
 abbrev pub invariant-steps : goal.invariant-steps
@@ -19,6 +19,9 @@ invariant-steps g l = let state = g.D.Disk.state in record {
       × MergingStands (state l.disk) l.hand l.self left;
   family : family_of l.self ≡ family_of l.fn.self;
   taken : taken_of l.self ≡ taken_of l.fn.self;
+  file : file_of l.self ≡ file_of l.fn.self;
+  only : IsTrusted (state l.fn.disk) → (f : ℕ) → f ≢ file_of l.fn.self
+      → (state l.disk).file f ≡ (state l.fn.disk).file f;
   still : IsTrusted (state l.fn.disk) → (other : ℕ)
       → AreStill (state l.fn.disk) (state l.disk) (files_at l.hand other);
   spans : IsTrusted (state l.fn.disk) → (m : Layout) → Stands (state l.fn.disk) l.hand m

@@ -2,7 +2,7 @@
 use Rattle.std.specs.Prelude.{is_ok}
 use Rattle.alt_disk.specs.Disk.{DiskState}
 use Rattle.alt_layout.proofs.MomentLaws.{removal}
-use Rattle.alt_merging.proofs.StepLaws.{files_stay, hand_stays, images_stay, run_it}
+use Rattle.alt_merging.proofs.StepLaws.{files_stay, hand_stays, images_stay, last_stays, run_it}
 use Rattle.alt_merging.proofs.merging.Merging.give_up.Goals as goal
 
 pub returns-in-Ok-clause-ok : goal.returns-in-Ok-clause-ok
@@ -64,3 +64,23 @@ returns-clause-still g c trusted l left stands merging other =
     merging.merging (run_it a b old.file (λ t left. Unit {0})
     (removal a b old.file (is_ok c.remove.result) c.remove.ensures.call.call
     (c.remove.ensures.removed trusted))) other
+
+pub returns-in-Ok-clause-last : goal.returns-in-Ok-clause-last
+returns-in-Ok-clause-last g c trusted l left stands merging =
+    let a : DiskState = g.D.Disk.state c.args.disk.now in
+    let b : DiskState = g.D.Disk.state c.remove.new.self in
+    let old = c.args.self in
+    last_stays a b c.args.hand.now l stands old.family old.taken merging.number old.file
+    merging.merging (run_it a b old.file (λ t left. Unit {0})
+    (removal a b old.file (is_ok c.remove.result) c.remove.ensures.call.call
+    (c.remove.ensures.removed trusted)))
+
+pub returns-clause-last : goal.returns-clause-last
+returns-clause-last g c trusted l left stands merging =
+    let a : DiskState = g.D.Disk.state c.args.disk.now in
+    let b : DiskState = g.D.Disk.state c.remove.new.self in
+    let old = c.args.self in
+    last_stays a b c.args.hand.now l stands old.family old.taken merging.number old.file
+    merging.merging (run_it a b old.file (λ t left. Unit {0})
+    (removal a b old.file (is_ok c.remove.result) c.remove.ensures.call.call
+    (c.remove.ensures.removed trusted)))

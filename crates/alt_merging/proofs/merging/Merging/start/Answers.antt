@@ -1,10 +1,13 @@
 -- Its file is taken and made.
-use Rattle.std.proofs.Common.{◌≡◌, length, sym, ap, subst}
+use Rattle.std.proofs.Common.{◌≡◌, length, sym, ap, subst, ◌∙◌, arith}
 use Rattle.alt_disk.specs.Disk.{DiskState}
 use Rattle.alt_rowfile.specs.Sinks.{Anything}
 use Rattle.alt_layout.specs.Families.{flushed_of}
 use Rattle.alt_hand.specs.Merging.{IsMerging, files_at, version_in}
-use Rattle.alt_merging.proofs.StepLaws.{begins, files_stay, hand_stays, has_still, images_stay, run_it}
+use Rattle.alt_merging.proofs.StepLaws.{begins, files_stay, hand_stays, has_still, images_stay, last_stays, last_still, run_it}
+use Rattle.alt_disk.specs.Runs.{Spans}
+use Rattle.alt_manifest.specs.declared.version.Version.{Version}
+use Rattle.alt_hand.specs.Adding.{HasLast}
 use Rattle.alt_hand.specs.Carrying.{AreStill}
 use Rattle.alt_hand.proofs.CarryDrafts.{all_still}
 use Rattle.alt_merging.proofs.merging.Merging.start.Goals as goal
@@ -106,3 +109,45 @@ returns-clause-still g c trusted l stands other =
     (files_stay a b c.take_file.new.self l (c.in_ok-file.ensures.stands a l stands) c.args.family n
     number c.in_ok-file.file merging
     (run_it a b c.in_ok-file.file Anything (c.start.ensures.any_moment trusted)) other)
+
+pub returns-in_err-file-clause-last : goal.returns-in_err-file-clause-last
+returns-in_err-file-clause-last g c trusted l stands =
+    last_still (g.D.Disk.state c.args.disk.now) c.args.hand.now l stands
+
+pub returns-in_err-merge-clause-last : goal.returns-in_err-merge-clause-last
+returns-in_err-merge-clause-last g c trusted l stands =
+    let a : DiskState = g.D.Disk.state c.args.disk.now in
+    let b : DiskState = g.D.Disk.state c.start.new.disk in
+    let n = length (files_at c.args.hand.now c.args.family) in
+    let number = flushed_of (version_in c.args.hand.now).families c.args.family in
+    let merging : IsMerging a c.take_file.new.self c.args.family n number c.in_ok-file.file =
+    subst (IsMerging a c.take_file.new.self c.args.family n number) (sym c.in_ok-file.ensures.file)
+    (c.in_ok-file.ensures.merging a l c.args.family stands c.requires.some) in
+    subst (λ (v : Version). Spans a b (λ f. Unit {0}) (HasLast v)) c.take_file.ensures.version
+    (last_stays a b c.take_file.new.self l (c.in_ok-file.ensures.stands a l stands) c.args.family n
+    number c.in_ok-file.file merging
+    (run_it a b c.in_ok-file.file Anything (c.start.ensures.any_moment trusted)))
+
+pub returns-clause-last : goal.returns-clause-last
+returns-clause-last g c trusted l stands =
+    let a : DiskState = g.D.Disk.state c.args.disk.now in
+    let b : DiskState = g.D.Disk.state c.start.new.disk in
+    let n = length (files_at c.args.hand.now c.args.family) in
+    let number = flushed_of (version_in c.args.hand.now).families c.args.family in
+    let merging : IsMerging a c.take_file.new.self c.args.family n number c.in_ok-file.file =
+    subst (IsMerging a c.take_file.new.self c.args.family n number) (sym c.in_ok-file.ensures.file)
+    (c.in_ok-file.ensures.merging a l c.args.family stands c.requires.some) in
+    subst (λ (v : Version). Spans a b (λ f. Unit {0}) (HasLast v)) c.take_file.ensures.version
+    (last_stays a b c.take_file.new.self l (c.in_ok-file.ensures.stands a l stands) c.args.family n
+    number c.in_ok-file.file merging
+    (run_it a b c.in_ok-file.file Anything (c.start.ensures.any_moment trusted)))
+
+pub returns-in_err-merge-clause-missing : goal.returns-in_err-merge-clause-missing
+returns-in_err-merge-clause-missing g c trusted f low none =
+    (c.start.ensures.any_moment trusted).file f (λ (same : f ≡ c.in_ok-file.file).
+    let at = c.in_ok-file.ensures.file in omega (arith, low, same, at)) ∙ none
+
+pub returns-clause-missing : goal.returns-clause-missing
+returns-clause-missing g c trusted f low none =
+    (c.start.ensures.any_moment trusted).file f (λ (same : f ≡ c.in_ok-file.file).
+    let at = c.in_ok-file.ensures.file in omega (arith, low, same, at)) ∙ none

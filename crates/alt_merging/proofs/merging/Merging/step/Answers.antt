@@ -4,7 +4,7 @@ use Rattle.alt_disk.specs.Disk.{DiskState}
 use Rattle.alt_filemerge.specs.FileMerges.{MergeStands, any_file}
 use Rattle.alt_hand.specs.Merging.{files_at}
 use Rattle.alt_merging.specs.declared.merging.Merging.{Merging}
-use Rattle.alt_merging.proofs.StepLaws.{cause_of, files_stay, hand_stays, images_stay, moves_it, sound_source, steps, unspent_source}
+use Rattle.alt_merging.proofs.StepLaws.{cause_of, files_stay, hand_stays, images_stay, last_stays, moves_it, sound_source, steps, unspent_source}
 use Rattle.alt_merging.proofs.merging.Merging.step.Goals as goal
 
 pub step-requires-clause-stands : goal.step-requires-clause-stands
@@ -105,3 +105,33 @@ returns-in-Err-clause-sound g c trusted left merging =
     sound_source c.in-Err.fault c.from.result c.from.ensures
     (c.in-Err.ensures.sound trusted merging.done left
     (subst (λ fs. MergeStands a fs old.merge merging.done left) (sym files) merging.stands))
+
+pub returns-in-Ok-clause-last : goal.returns-in-Ok-clause-last
+returns-in-Ok-clause-last g c trusted l stands left merging =
+    let a : DiskState = g.D.Disk.state c.args.disk.now in
+    let b : DiskState = g.D.Disk.state c.step.new.disk in
+    let old = c.args.self.now in
+    last_stays a b c.args.hand.now l stands old.family old.taken merging.number old.file
+    merging.merging (moves_it a b old.merge old.file trusted merging.output c.step.ensures.moves)
+
+pub returns-in-Ok-clause-only : goal.returns-in-Ok-clause-only
+returns-in-Ok-clause-only g c trusted left merging f apart =
+    let a : DiskState = g.D.Disk.state c.args.disk.now in
+    let b : DiskState = g.D.Disk.state c.step.new.disk in
+    let old = c.args.self.now in
+    (moves_it a b old.merge old.file trusted merging.output c.step.ensures.moves).file f apart
+
+pub returns-in-Err-clause-last : goal.returns-in-Err-clause-last
+returns-in-Err-clause-last g c trusted l stands left merging =
+    let a : DiskState = g.D.Disk.state c.args.disk.now in
+    let b : DiskState = g.D.Disk.state c.step.new.disk in
+    let old = c.args.self.now in
+    last_stays a b c.args.hand.now l stands old.family old.taken merging.number old.file
+    merging.merging (moves_it a b old.merge old.file trusted merging.output c.step.ensures.moves)
+
+pub returns-in-Err-clause-only : goal.returns-in-Err-clause-only
+returns-in-Err-clause-only g c trusted left merging f apart =
+    let a : DiskState = g.D.Disk.state c.args.disk.now in
+    let b : DiskState = g.D.Disk.state c.step.new.disk in
+    let old = c.args.self.now in
+    (moves_it a b old.merge old.file trusted merging.output c.step.ensures.moves).file f apart

@@ -51,10 +51,10 @@ use Rattle.alt_machine.specs.Ops.GetRecords.{get_records}
 use Rattle.alt_machine.specs.State.{State, Table}
 use Rattle.alt_machine.specs.declared.Operation.{Operation}
 use Rattle.alt_machine.specs.declared.Operation.TheVariants.{CreateTable, DescribeTable, ListTables, DeleteTable, PutItem, GetItem, DeleteItem, UpdateItem, Query, Scan, BatchWriteItem, BatchGetItem, ListStreams, DescribeStream, GetShardIterator, GetRecords}
-use Rattle.alt_named.specs.Named.{AreSame, is_among}
+use Rattle.alt_named.specs.Named.{AreSame, SaysNamed, is_among}
 use Rattle.alt_shape.specs.Bodies as bodies
 use Rattle.alt_shape.specs.Shape.{given, natural_of, unless_null}
-use Rattle.alt_members.specs.Heeded.{heeded, Heeds}
+use Rattle.alt_members.specs.Heeded.{heeded, Heeds, Suffices}
 
 -- what is given at a name that is heeded
 same : (names : List (List ℕ)) (ms bs : Members) → AreSame names ms bs → (name : List ℕ)
@@ -543,3 +543,11 @@ heeds ListStreams s moment ms bs h = list_streams_heeds s moment ms bs h
 heeds DescribeStream s moment ms bs h = describe_stream_heeds s moment ms bs h
 heeds GetShardIterator s moment ms bs h = get_shard_iterator_heeds s moment ms bs h
 heeds GetRecords s moment ms bs h = get_records_heeds s moment ms bs h
+
+-- so a body of which these are read is enough
+pub suffices : (op : Operation) (body found : Option Members) → SaysNamed (heeded op) body found
+    → Suffices op body found
+suffices op None None h = record { comes = λ s moment. refl }
+suffices op None (Some bs) h = absurd h
+suffices op (Some ms) None h = absurd h
+suffices op (Some ms) (Some bs) h = record { comes = λ s moment. heeds op s moment ms bs h }

@@ -1,8 +1,8 @@
 -- The members that an operation heeds: those that its rules of shape name (docs/API.md).
-use Rattle.std.specs.Prelude.{◌≡◌, ℕ, List, [], ◌∷◌, codes}
+use Rattle.std.specs.Prelude.{◌≡◌, ℕ, List, [], ◌∷◌, Option, codes}
 use Rattle.serde_json.specs.Data.{Members}
 use Rattle.alt_machine.specs.State.{State}
-use Rattle.alt_machine.specs.Step.{operates}
+use Rattle.alt_machine.specs.Step.{operates, with_body}
 use Rattle.alt_machine.specs.declared.Operation.{Operation}
 use Rattle.alt_machine.specs.declared.Operation.TheVariants.{CreateTable, DescribeTable, ListTables, DeleteTable, PutItem, GetItem, DeleteItem, UpdateItem, Query, Scan, BatchWriteItem, BatchGetItem, ListStreams, DescribeStream, GetShardIterator, GetRecords}
 use Rattle.alt_named.specs.Named.{AreSame}
@@ -52,3 +52,7 @@ heeded GetRecords = codes "ShardIterator" ∷ codes "Limit" ∷ []
 abbrev pub Heeds : Operation → Type 0
 Heeds op = (s : State) (moment : ℕ) (ms bs : Members) → AreSame (heeded op) ms bs
     → operates s op moment ms ≡ operates s op moment bs
+
+-- What was found of a body is enough: in every state it comes to what the body does.
+pub record Suffices (op : Operation) (body found : Option Members) : Type 0 where
+  pub comes : (s : State) (moment : ℕ) → with_body s op moment body ≡ with_body s op moment found

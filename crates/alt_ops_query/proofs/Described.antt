@@ -97,8 +97,12 @@ module _ (disk : DiskState) (tables : Tables) (s : State) (stands : Stands disk 
       by : (i : Option IndexSchema) → MayStand t.description i place item
           → item_size item ≤ LARGEST_ITEM
       by None may = may.0.size
-      by (Some i) may = omega (arith, may.2.size, cut_size t.description i may.1 item
-          (is_entry t.description i may.1 place item may.4).kept)
+      by (Some i) may = omega (
+        arith,
+        may.2.size,
+        cut_size t.description i may.1 item
+            (is_entry t.description i may.1 place item may.4).kept,
+      )
 
   -- the description at hand is that of the table that is walked
   pub described : (now : Tables) (d : TableSchema) → KeepsCatalog tables now

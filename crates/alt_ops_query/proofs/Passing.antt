@@ -78,85 +78,74 @@ beyond_trans true (Some first) last key h k = ap is_lt (nat_list_cmp_total.trans
 beyond_trans false (Some first) last key h k = ap is_lt (nat_list_cmp_total.trans key last first
     (less_so (text_order key last) k) (less_so (text_order last first) h))
 
--- the second of two tests that pass together
+-- where two tests pass together the second does
 second_of : (a b : Bool) → (a && b) ≡ true → b ≡ true
 second_of true b e = e
 second_of false b e = absurd (let f : ⊥ = cc in f)
-
--- the first of them
-first_of_two : (a b : Bool) → (a && b) ≡ true → a ≡ true
-first_of_two true b e = refl
-first_of_two false b e = absurd (let f : ⊥ = cc in f)
 
 -- ---- a walk over a range, that goes on beyond a place
 
 module _ (forward : Bool) (place : Option (List ℕ)) (from : List ℕ) (to : Option (List ℕ))
     (first : List ℕ) (last : Option (List ℕ)) (beyond : IsBeyond forward place from to first last)
-    where
-  -- what lies in the rest lies beyond the place
-  pub within_beyond : (key : List ℕ) → is_within first last key ≡ true
-      → is_beyond forward place key ≡ true
-  within_beyond key h = second_of (is_within from to key) (is_beyond forward place key)
-      (sym (contains_beyond forward place from to first last beyond key) ∙ h)
-
-  -- and in the range
-  pub within_range : (key : List ℕ) → is_within first last key ≡ true
-      → is_within from to key ≡ true
-  within_range key h = first_of_two (is_within from to key) (is_beyond forward place key)
-      (sym (contains_beyond forward place from to first last beyond key) ∙ h)
-
-  module _ (end : List ℕ) (within : is_within first last end ≡ true) where
-    -- what lies beyond a place of the rest lies beyond the first
-    further : (key : List ℕ) → is_beyond forward (Some end) key ≡ true
+  where
+    -- what lies in the rest lies beyond the place
+    pub within_beyond : (key : List ℕ) → is_within first last key ≡ true
         → is_beyond forward place key ≡ true
-    further key = beyond_trans forward place end key (within_beyond end within)
+    within_beyond key h = second_of (is_within from to key) (is_beyond forward place key)
+        (sym (contains_beyond forward place from to first last beyond key) ∙ h)
 
-    -- the places up to it are those up to the first and those of the rest up to it
-    pub fits_behind : (key : List ℕ) → fits (is_behind forward from to place key)
-        (is_behind forward first last (Some end) key) (is_behind forward from to (Some end) key)
-        ≡ true
-    fits_behind key = subst (λ b. fits (is_within from to key && not (is_beyond forward place key))
-        (b && not (is_beyond forward (Some end) key))
-        (is_within from to key && not (is_beyond forward (Some end) key)) ≡ true)
+    module _ (end : List ℕ) (within : is_within first last end ≡ true) where
+      -- what lies beyond a place of the rest lies beyond the first
+      further : (key : List ℕ) → is_beyond forward (Some end) key ≡ true
+          → is_beyond forward place key ≡ true
+      further key = beyond_trans forward place end key (within_beyond end within)
+
+      -- the places up to it are those up to the first and those of the rest up to it
+      pub fits_behind : (key : List ℕ) → fits (is_behind forward from to place key)
+          (is_behind forward first last (Some end) key) (is_behind forward from to (Some end) key)
+          ≡ true
+      fits_behind key = subst (λ b. fits (is_within from to key && not (is_beyond forward place key))
+          (b && not (is_beyond forward (Some end) key))
+          (is_within from to key && not (is_beyond forward (Some end) key)) ≡ true)
+          (sym (contains_beyond forward place from to first last beyond key))
+          (by (is_within from to key) (is_beyond forward place key)
+          (is_beyond forward (Some end) key) (further key))
+        where
+          by : (w p q : Bool) → (q ≡ true → p ≡ true)
+              → fits (w && not p) ((w && p) && not q) (w && not q) ≡ true
+          by false p q h = refl
+          by true true true h = refl
+          by true true false h = refl
+          by true false true h = absurd (let no : false ≡ true = h refl in cc no)
+          by true false false h = refl
+
+      -- what is left beyond it is what of the range lies beyond it
+      pub beyond_on : (next : List ℕ) (stop : Option (List ℕ))
+          → IsBeyond forward (Some end) first last next stop
+          → IsBeyond forward (Some end) from to next stop
+      beyond_on next stop more key = (
+        λ h.
+            let both = (more key).0 h in
+            (((beyond key).0 both.0).0, both.1),
+        λ h. (more key).1 ((beyond key).1 (h.0, further key h.1), h.1),
+      )
+
+    -- and so it is to the end of the page
+    pub fits_passed : (end : Option (List ℕ))
+        → IfSome end (λ place. is_within first last place ≡ true) → (key : List ℕ)
+        → fits (is_behind forward from to place key) (is_passed forward first last end key)
+        (is_passed forward from to end key) ≡ true
+    fits_passed None within key = subst
+        (λ b. fits (is_within from to key && not (is_beyond forward place key)) (b && true)
+        (is_within from to key && true) ≡ true)
         (sym (contains_beyond forward place from to first last beyond key))
-        (by (is_within from to key) (is_beyond forward place key)
-        (is_beyond forward (Some end) key) (further key))
+        (by (is_within from to key) (is_beyond forward place key))
       where
-        by : (w p q : Bool) → (q ≡ true → p ≡ true)
-            → fits (w && not p) ((w && p) && not q) (w && not q) ≡ true
-        by false p q h = refl
-        by true true true h = refl
-        by true true false h = refl
-        by true false true h = absurd (let no : false ≡ true = h refl in cc no)
-        by true false false h = refl
-
-    -- what is left beyond it is what of the range lies beyond it
-    pub beyond_on : (next : List ℕ) (stop : Option (List ℕ))
-        → IsBeyond forward (Some end) first last next stop
-        → IsBeyond forward (Some end) from to next stop
-    beyond_on next stop more key = (
-      λ h.
-          let both = (more key).0 h in
-          (((beyond key).0 both.0).0, both.1),
-      λ h. (more key).1 ((beyond key).1 (h.0, further key h.1), h.1),
-    )
-
-  -- and so it is to the end of the page
-  pub fits_passed : (end : Option (List ℕ))
-      → IfSome end (λ place. is_within first last place ≡ true) → (key : List ℕ)
-      → fits (is_behind forward from to place key) (is_passed forward first last end key)
-      (is_passed forward from to end key) ≡ true
-  fits_passed None within key = subst
-      (λ b. fits (is_within from to key && not (is_beyond forward place key)) (b && true)
-      (is_within from to key && true) ≡ true)
-      (sym (contains_beyond forward place from to first last beyond key))
-      (by (is_within from to key) (is_beyond forward place key))
-    where
-      by : (w p : Bool) → fits (w && not p) ((w && p) && true) (w && true) ≡ true
-      by false p = refl
-      by true true = refl
-      by true false = refl
-  fits_passed (Some end) within key = fits_behind end within key
+        by : (w p : Bool) → fits (w && not p) ((w && p) && true) (w && true) ≡ true
+        by false p = refl
+        by true true = refl
+        by true false = refl
+    fits_passed (Some end) within key = fits_behind end within key
 
 -- ---- how far one step goes
 

@@ -168,8 +168,13 @@ module _ (t : Table) (i : Option IndexSchema) (stored : (place : List ℕ) (item
       ∙ map-append (λ (e : List ℕ × List Pair). e.0) end.front (end.last ∷ []))
       ∙ last_push None (map (λ e. e.0) end.front) end.last.0 in
       let enough : most ≤ length places =
-      omega (arith, many, ap length given, same_length t i forward from to,
-      length-take most (items_between t i from to forward)) in
+      omega (
+        arith,
+        many,
+        ap length given,
+        same_length t i forward from to,
+        length-take most (items_between t i from to forward),
+      ) in
       record {
         front = map (λ e. e.1) end.front;
         item = end.last.1;
@@ -297,10 +302,10 @@ module _ (a b : DiskState) (t : Table) (i : Option IndexSchema) (stored : (place
       → EndsPage a b t i forward ask seen list filling range
   step_ended (front, rest, is, h, ends) sized sure =
       let long : most < length front + 1 = lt_of_not-le (λ short.
-      let open : ends_early ask.limit (seen ++ front) ≡ false = sure front
+      let unended : ends_early ask.limit (seen ++ front) ≡ false = sure front
       (All-front (λ x. item_size x ≤ LARGEST_ITEM) front rest
       (subst (All (λ x. item_size x ≤ LARGEST_ITEM)) is sized)) (omega (arith, short)) in
-      let no : true ≡ false = sym ends ∙ open in cc no) in
+      let no : true ≡ false = sym ends ∙ unended in cc no) in
       let taken : length items ≤ most =
       omega (arith, ap length given, length-take most list) in
       let same : front ≡ items = front_all items front rest is (omega (arith, long, taken)) in
@@ -319,10 +324,10 @@ module _ (a b : DiskState) (t : Table) (i : Option IndexSchema) (stored : (place
       let same : items ≡ list = given ∙ take_all most list short in
       let all : HasExamined filling ask (seen ++ list) =
       subst (λ l. HasExamined filling ask (seen ++ l)) same h in
-      let open : ends_early ask.limit (seen ++ list) ≡ false = sym all.offered.ended ∙ going in
+      let unended : ends_early ask.limit (seen ++ list) ≡ false = sym all.offered.ended ∙ going in
       let none : page_end t i (asked_of ask) (seen ++ list) ≡ None =
       ap (option_and_then (place_in t.description i))
-      (λ j. if open j then last_or None (pages.examined ask.limit (seen ++ list)) else None) in
+      (λ j. if unended j then last_or None (pages.examined ask.limit (seen ++ list)) else None) in
       let fewer : length (places_between t i range.from range.to forward) < most =
       omega (arith, few, ap length same, same_length t i forward range.from range.to) in
       record {

@@ -25,6 +25,7 @@ ghost use Rattle.alt_value.specs.Tree.{Pair};
 ghost use Rattle.alt_value.specs.Values.{IsItemOfValues};
 
 use crate::faults::TableFault;
+use crate::finding::Found;
 use crate::tables::Tables;
 use alt_base::NoMemory;
 use alt_cells::{Batch, RowChange, ShownRow};
@@ -37,15 +38,6 @@ use alt_schema::TableSchema;
 use alt_value::Item;
 use alt_views::{Unread, index_changes, item_of_row, place_of, row_of_item};
 use std::alloc::Global;
-
-/// What was found at a place of a table, with the row that shows it. A write takes it back.
-#[derive(Drop)]
-pub struct Found {
-    pub place: Bytes,
-    pub item: Option<Item>,
-    row: Option<ShownRow>,
-    ghost shown: { row ≡ option_map item_columns item },
-}
 
 impl Tables {
     /// What stands at a place of a table that is there.

@@ -1,5 +1,5 @@
 -- What a walk reads, from the words of the engine's rows to those of the items.
-use Rattle.std.proofs.Common.{◌≡◌, ◌≤◌, ◌+◌, ◌*◌, refl, sym, ap, subst, ◌∙◌, ℕ, zero, suc, Bool, true, false, not, ◌&&◌, List, [], ◌∷◌, ◌++◌, map, take, length, Option, Some, None, Result, Ok, Err, OnOk, IfOk, IsTrue, option_map}
+use Rattle.std.proofs.Common.{◌≡◌, ◌≤◌, ◌+◌, ◌*◌, refl, sym, ap, subst, ◌∙◌, ℕ, zero, suc, Bool, true, false, not, ◌&&◌, List, [], ◌∷◌, ◌++◌, map, take, length, Option, Some, None, Result, Ok, Err, OnOk, option_map}
 use Rattle.std.proofs.lemmas.List.{take-map}
 use Rattle.std.specs.BTreeMap.Range.{entries_between, range_contains}
 use Rattle.std.specs.Cmp.Lexicographic.{nat_list_cmp_total}
@@ -21,17 +21,16 @@ use Rattle.alt_hand.specs.InHand.{file_rows}
 use Rattle.alt_layout.specs.Families.{Held, files_of}
 use Rattle.alt_layout.specs.Files.{AreRowFiles}
 use Rattle.alt_layout.specs.Fresh.{versions_file}
-use Rattle.alt_layout.specs.Layout.{Layout, rows_between, shown, end_bound as rows_end}
+use Rattle.alt_layout.specs.Layout.{Layout, rows_between, shown}
 use Rattle.alt_layout.proofs.OneLayout.{same_files}
 use Rattle.alt_machine.specs.State.{Texts}
 use Rattle.alt_machine.specs.Walks.{end_bound, is_beyond, turned}
 use Rattle.alt_manifest.specs.InHand.{version_of}
 use Rattle.alt_manifest.specs.Versions.{HasVersion}
-use Rattle.alt_manifest.specs.declared.version.FamilyVersion.{FamilyVersion}
 use Rattle.alt_manifest.specs.declared.version.Version.{Version}
 use Rattle.alt_manifest.proofs.AppendLaws.{has_version}
 use Rattle.alt_manifest.proofs.OneVersion.{same_version}
-use Rattle.alt_tables.specs.Reading.{HasRowFiles, is_reached, is_within, walk_reads}
+use Rattle.alt_tables.specs.Reading.{HasRowFiles, is_reached, walk_reads}
 use Rattle.alt_tables.proofs.Pages.{row_at, rows_between-items, same_end}
 use Rattle.alt_value.specs.Members.{text_order}
 

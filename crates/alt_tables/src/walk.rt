@@ -96,6 +96,16 @@ impl Tables {
             → map.get s.tables table.now ≡ Some t
             → OnOk result (out.new.items ≡ out.old.items
             ++ take most (items_between t None range.now.from range.now.to forward)) }
+        ensures last { (s : State) (t : Table) → Stands (D.state disk.old) self.old s
+            → map.get s.tables table.now ≡ Some t
+            → IfOk result (λ last. last ≡ last_or None
+            (take most (places_between t None range.now.from range.now.to forward))) }
+        ensures reads { (s : State) (t : Table) (maps : List RowMap)
+            → Stands (D.state disk.old) self.old s → map.get s.tables table.now ≡ Some t
+            → HasRowFiles (D.state disk.old).file (family_read t.description None) maps
+            → OnOk result ((D.state disk.new).reads ≤ (D.state disk.old).reads
+            + walk_reads forward range.now.from range.now.to most
+            (places_between t None range.now.from range.now.to forward) maps) }
         ensures begun { OnErr result (IsPrefix out.old.items out.new.items) }
         ensures stays { (s : State) → Stands (D.state disk.old) self.old s ↔ Stands
             (D.state disk.new) self.new s }
@@ -141,6 +151,18 @@ impl Tables {
             → index_at t.description (Some number) ≡ Some i
             → OnOk result (out.new.items ≡ out.old.items
             ++ take most (items_between t (Some i) range.now.from range.now.to forward)) }
+        ensures last { (s : State) (t : Table) (i : IndexSchema)
+            → Stands (D.state disk.old) self.old s → map.get s.tables table.now ≡ Some t
+            → index_at t.description (Some number) ≡ Some i
+            → IfOk result (λ last. last ≡ last_or None
+            (take most (places_between t (Some i) range.now.from range.now.to forward))) }
+        ensures reads { (s : State) (t : Table) (i : IndexSchema) (maps : List RowMap)
+            → Stands (D.state disk.old) self.old s → map.get s.tables table.now ≡ Some t
+            → index_at t.description (Some number) ≡ Some i
+            → HasRowFiles (D.state disk.old).file (family_read t.description (Some i)) maps
+            → OnOk result ((D.state disk.new).reads ≤ (D.state disk.old).reads
+            + walk_reads forward range.now.from range.now.to most
+            (places_between t (Some i) range.now.from range.now.to forward) maps) }
         ensures begun { OnErr result (IsPrefix out.old.items out.new.items) }
         ensures stays { (s : State) → Stands (D.state disk.old) self.old s ↔ Stands
             (D.state disk.new) self.new s }

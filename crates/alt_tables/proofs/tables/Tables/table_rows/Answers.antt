@@ -1,5 +1,5 @@
 -- The rows of the walk are those of the items, and nothing else changed.
-use Rattle.std.proofs.Common.{◌≡◌, ◌∙◌, refl, sym, ap, subst, None, IfOk}
+use Rattle.std.proofs.Common.{◌≡◌, ◌∙◌, refl, sym, ap, subst, IfOk}
 use Rattle.std.specs.Prelude.{◌≤◌, ◌+◌}
 use Rattle.alt_engine.specs.InHand.{hand_of}
 use Rattle.alt_families.specs.Reads.{most_reads}

@@ -35,7 +35,7 @@ came_goes a b goes = came_silent a b (subst (λ (log : Log). Grows a.beside log 
 pub came_event : (a b : DiskState) (x : ℕ × List ℕ) → came_by (event_of x.1) ≡ 0
     → Grows a.beside b.beside (x ∷ []) → Came 0 a b
 came_event a b x none g =
-    record { entries = x ∷ []; grows = g; many = ap (λ (n : ℕ). n + 0) none }
+    record { entries = x ∷ []; grows = g; many = omega (arith, none) }
 
 -- a say that failed
 pub came_say_failed : (a b : DiskState) (bytes : List ℕ)
@@ -106,7 +106,15 @@ none_will-before a b c n p g = record {
   many = p.many;
 }
 
--- calls that tell nothing behind others
+-- calls that tell nothing before others
+came_behind : (a b c : DiskState) (n : ℕ) → Grows a.beside b.beside [] → Came n b c → Came n a c
+came_behind a b c n g p = record {
+  entries = p.entries;
+  grows = Grows-then a.beside b.beside c.beside [] p.entries g p.grows;
+  many = p.many;
+}
+
+-- and behind them
 came_before : (a b c : DiskState) (n : ℕ) → Came n a b → Grows b.beside c.beside [] → Came n a c
 came_before a b c n p g = record {
   entries = p.entries;
@@ -118,9 +126,15 @@ came_before a b c n p g = record {
 -- all that were to come did, behind calls that tell nothing
 pub all_behind : (count : ℕ) (a b c : DiskState) → Grows a.beside b.beside [] → CameAll count b c
     → CameAll count a c
-all_behind count a b c g (inl p) = inl (came_then a b c 0 count (came_silent a b g) p)
-all_behind count a b c g (inr p) =
-    inr (p.0, p.1, none_will-behind a b c 0 p.0 (came_silent a b g) p.2)
+all_behind count a b c g (inl p) = inl (came_behind a b c count g p)
+all_behind count a b c g (inr p) = inr (p.0, p.1, record {
+  before = p.2.before;
+  at = p.2.at;
+  clocked = p.2.clocked;
+  grows = Grows-then a.beside b.beside c.beside []
+      (p.2.before ++ entry p.2.at p.2.clocked none_came ∷ []) g p.2.grows;
+  many = p.2.many;
+})
 
 -- and before them
 pub all_before : (count : ℕ) (a b c : DiskState) → CameAll count a b → Grows b.beside c.beside []
@@ -135,7 +149,7 @@ most_silent most a b g = (0, omega arith, came_silent a b g)
 -- nor do they behind others, or before them
 pub most_behind : (most : ℕ) (a b c : DiskState) → Grows a.beside b.beside [] → CameAtMost most b c
     → CameAtMost most a c
-most_behind most a b c g p = (p.0, p.1, came_then a b c 0 p.0 (came_silent a b g) p.2)
+most_behind most a b c g p = (p.0, p.1, came_behind a b c p.0 g p.2)
 
 pub most_before : (most : ℕ) (a b c : DiskState) → CameAtMost most a b → Grows b.beside c.beside []
     → CameAtMost most a c

@@ -1,3 +1,5 @@
 pub mod EngineLaws
+pub mod HistoryLaws
 pub mod Stepping
 pub mod Turning
+pub mod Versioning

@@ -1,6 +1,6 @@
 -- A task behind what became of the merge under way, as one of the engine before it.
 use Rattle.std.proofs.Common.{◌≡◌, ⊎_elim, inl, inr, ℕ, List, [], ◌∷◌, Option, Some, None, refl, sym, ap, subst, ◌∙◌, arith, length}
-use Rattle.std.specs.Prelude.{◌⊎◌, Result, Ok, Err, IfOk}
+use Rattle.std.specs.Prelude.{◌⊎◌, ◌<◌, Result, Ok, Err, IfOk}
 use Rattle.std.specs.FinMap.{entries}
 use Rattle.alt_disk.specs.Disk.{DiskState}
 use Rattle.alt_layout.specs.Families.{Held, files_of}
@@ -11,10 +11,11 @@ use Rattle.alt_manifest.specs.Versions.{IsIn}
 use Rattle.alt_manifest.specs.declared.version.Version.{Version}
 use Rattle.alt_manifest.proofs.OneVersion.{same_version}
 use Rattle.alt_rowfile.specs.Format.{IsRowFile}
+use Rattle.alt_rowfile.specs.Summaries.{any_tombstone}
 use Rattle.alt_rowfile.specs.declared.rowfile.RowFile.{RowFile}
 use Rattle.alt_rowfile.proofs.OneFile.{one_list}
 use Rattle.alt_hand.specs.Carrying.{AreStill}
-use Rattle.alt_hand.specs.InHand.{AreOpen, Stands as HandStands, length_of}
+use Rattle.alt_hand.specs.InHand.{AreOpen, Stands as HandStands, length_of, next_file_of}
 use Rattle.alt_hand.specs.Merging.{IsFirstMany, files_at, version_in}
 use Rattle.alt_hand.specs.Working.{AreAllFlushed, IsCalm, IsFirstFull, IsFlushDone, IsLong, IsOneFlushed, IsShort}
 use Rattle.alt_hand.specs.declared.hand.EngineFault.{EngineFault}
@@ -22,11 +23,10 @@ use Rattle.alt_hand.specs.declared.hand.Hand.{Hand}
 use Rattle.alt_hand.proofs.HandLaws.{lies_of}
 use Rattle.alt_hand.proofs.WorkLaws.{entries_length, has_entries, long_entries, no_entries, none_in_memory, short_entries}
 use Rattle.alt_merging.specs.Merged.{AreMerged}
-use Rattle.alt_merging.specs.Mergings.{family_of as merged_family}
-use Rattle.alt_merging.specs.Tombstones.{has_tombstone}
+use Rattle.alt_merging.specs.Mergings.{family_of as merged_family, file_of}
 use Rattle.alt_merging.specs.declared.merging.Merging.{Merging}
 use Rattle.alt_merging.proofs.EachLaws.{merged_on, still_back}
-use Rattle.alt_engine.specs.InHand.{Stands, hand_of, merge_of}
+use Rattle.alt_engine.specs.InHand.{IsGoing, Stands, hand_of, merge_of}
 use Rattle.alt_engine.specs.Working.{AllMerged, Begins, DidStep, Ended, Ends, Furthered, GoesOn, IsFlushed, IsFree, IsIdle, IsMerged, IsMergedFile, IsUnderWay, KeepsMerge, WasGivenUp, WasKept}
 use Rattle.alt_engine.specs.declared.engine.Engine.{Engine}
 use Rattle.alt_engine.specs.declared.work.Task.TheVariants.{FlushAll}
@@ -42,7 +42,7 @@ one_job o i j a b = inside i j (sym a ∙ b)
     inside : (x y : Merging) → Some x ≡ Some y → x ≡ y
     inside x y e = cc e
 
-no_job : (o : Option Merging) (j : Merging) → o ≡ None → o ≡ Some j → ⊥
+pub no_job : (o : Option Merging) (j : Merging) → o ≡ None → o ≡ Some j → ⊥
 no_job o j none some = let no : None ≡ Some j = sym none ∙ some in cc no
 
 -- where there is none, none is of a live family
@@ -85,6 +85,12 @@ module _ (a b : DiskState) (live : List ℕ) (e f : Engine)
       (λ (kept : WasKept a b live e f). subst (KeepsMerge live) (sym kept.engine) kept.keeps)
       (λ (gone : WasGivenUp live e f) j is. absurd (no_job (merge_of f) j gone.none is)) turned
 
+  -- One that is under way behind was under way before.
+  pub job_back : (j : Merging) → merge_of f ≡ Some j → merge_of e ≡ Some j
+  job_back j is = ⊎_elim
+      (λ (kept : WasKept a b live e f). subst (λ (x : Engine). merge_of x ≡ Some j) kept.engine is)
+      (λ (gone : WasGivenUp live e f). absurd (no_job (merge_of f) j gone.none is)) turned
+
   -- ---- what a step did
 
   pub begins_back : (new : Engine) → Begins live f new → Begins live e new
@@ -115,6 +121,20 @@ module _ (a b : DiskState) (live : List ℕ) (e f : Engine)
         subst (λ (s : DiskState). Ended s d e new ends.0) way.1.0
             (subst (λ (x : Engine). Ended b d x new ends.0) way.1.1 ends.2),
       )
+
+-- Where one of a family that isn't live was under way, none is behind.
+pub none_after : (a b : DiskState) (live : List ℕ) (e f : Engine)
+    → WasKept a b live e f ⊎ WasGivenUp live e f → (j : Merging) → merge_of e ≡ Some j
+    → (IsIn live (merged_family j) → ⊥) → merge_of f ≡ None
+none_after a b live e f turned j is dead = ⊎_elim
+    (λ (kept : WasKept a b live e f). absurd (dead (kept.keeps j is)))
+    (λ (gone : WasGivenUp live e f). gone.none) turned
+
+-- The file of one is below the next.
+pub job_below : (s : DiskState) (e : Engine) (j : Merging) (l : Layout) → Stands s e l
+    → merge_of e ≡ Some j → file_of j < next_file_of (hand_of e)
+job_below s e j l stands is =
+    let going = subst (IsGoing s (hand_of e)) is stands.merging in going.1.merging.below
 
 -- ---- answers
 
@@ -192,7 +212,7 @@ merged_file s held (g ∷ []) (f ∷ []) are merged = λ m bytes there rows.
     } in
     let same : are.1.bytes ≡ bytes = inside are.1.bytes bytes
     (sym are.1.there ∙ ap s.file are.0 ∙ there) in
-    ap has_tombstone (one_list (entries m) (entries (held g)) bytes rows
+    ap any_tombstone (one_list (entries m) (entries (held g)) bytes rows
     (subst (IsRowFile (entries (held g))) same first)) ∙ merged (held g) are.1
   where
     inside : (x y : List ℕ) → Some x ≡ Some y → x ≡ y

@@ -10,6 +10,7 @@ use Rattle.alt_manifest.specs.Versions.{HasVersion, IsIn}
 use Rattle.alt_manifest.specs.declared.version.Version.{Version}
 use Rattle.alt_families.specs.Families.{rows_in}
 use Rattle.alt_rowfile.specs.Format.{IsRowFile}
+use Rattle.alt_rowfile.specs.Summaries.{any_tombstone}
 use Rattle.alt_hand.specs.Drafting.{IsSpentFor}
 use Rattle.alt_hand.specs.InHand.{family_of}
 use Rattle.alt_hand.specs.Merging.{HasMany, IsFirstMany, files_at}
@@ -18,7 +19,6 @@ use Rattle.alt_hand.specs.declared.hand.EngineFault.{EngineFault}
 use Rattle.alt_hand.specs.declared.hand.Hand.{Hand}
 use Rattle.alt_merging.specs.Merged.{AreMerged}
 use Rattle.alt_merging.specs.Mergings.{GivesWay, MergingStands, family_of as merged_family, taken_of}
-use Rattle.alt_merging.specs.Tombstones.{has_tombstone}
 use Rattle.alt_merging.specs.declared.merging.Merging.{Merging}
 use Rattle.alt_engine.specs.InHand.{hand_of, limits_of, merge_of, next_file_of}
 use Rattle.alt_engine.specs.declared.engine.Engine.{Engine}
@@ -135,7 +135,7 @@ Did MergeAll a b live old new = IsIdle MergeAll b live new
 abbrev pub IsMergedFile : Image → List ℕ → Type 0
 IsMergedFile files [] = Unit {0}
 IsMergedFile files (f ∷ []) = (m : RowMap) (bytes : List ℕ) → files f ≡ Some bytes
-    → IsRowFile (entries m) bytes → has_tombstone (entries m) ≡ false
+    → IsRowFile (entries m) bytes → any_tombstone (entries m) ≡ false
 IsMergedFile files (f ∷ g ∷ fs) = ⊥
 
 abbrev pub IsMerged : List ℕ → Image → Type 0

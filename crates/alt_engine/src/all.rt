@@ -1,10 +1,17 @@
 //! Flushes and merges of all live families.
 
-ghost use Rattle.std.specs.Prelude.{◌≡◌, ⊤, IfErr, IfOk, OnOk, IsErrOf, IsTrue, None, true, false};
+ghost use Rattle.std.specs.Prelude.{◌≡◌, ◌≢◌, ⊤, ℕ, IfErr, IfOk, OnOk, IsErrOf, None, Some, true, false};
 ghost use Rattle.alt_base.specs.Counts.{Rose};
 ghost use Rattle.alt_disk.specs.Disk.{IsTrusted, Goes};
-ghost use Rattle.alt_disk.specs.Runs.{Quiet, Spans};
+ghost use Rattle.alt_disk.specs.Runs.{Spans};
 ghost use Rattle.alt_layout.specs.Layout.{Layout};
+ghost use Rattle.alt_manifest.specs.Versions.{IsIn};
+ghost use Rattle.alt_hand.specs.Adding.{Adds, IsOverNewLog, LeavesOut, MakesNone};
+ghost use Rattle.alt_hand.specs.Carrying.{AreStill};
+ghost use Rattle.alt_hand.specs.Merging.{files_at, memory_at};
+ghost use Rattle.alt_merging.specs.Merged.{AreMerged};
+ghost use Rattle.alt_merging.specs.Mergings.{family_of as merged_family};
+ghost use Rattle.alt_merging.specs.declared.merging.Merging.{Merging};
 ghost use Rattle.alt_hand.specs.InHand.{Stands as HandStands, length_of};
 ghost use Rattle.alt_hand.specs.Opened.{IsUnspent};
 ghost use Rattle.alt_hand.specs.Working.{AreAllFlushed, AreLive, IsAllFor, IsFileSpent, IsNoDamage, Works, WorksIn};
@@ -40,6 +47,15 @@ impl Engine {
         ensures unwent { IfOk result (λ w. w ≡ Worked.Went → ⊥) }
         ensures done { IfOk result (λ w. w ≡ Worked.Done
             → AreAllFlushed live.now (hand_of self.old) (hand_of self.new)) }
+        ensures new_log { IfOk result (λ w. w ≡ Worked.Done → IsTrusted (D.state disk.old)
+            → (l : Layout) → Stands (D.state disk.old) self.old l
+            → AreAllFlushed live.now (hand_of self.old) (hand_of self.new)
+            × IsOverNewLog live.now (hand_of self.old) (hand_of self.new)) }
+        ensures adds { IfOk result (λ w. w ≡ Worked.Done → IsTrusted (D.state disk.old)
+            → Adds (D.state disk.new) (hand_of self.old) (hand_of self.new)) }
+        ensures missing { OnOk result (IsTrusted (D.state disk.old) → (l : Layout)
+            → Stands (D.state disk.old) self.old l
+            → MakesNone (D.state disk.old) (D.state disk.new) (next_file_of self.old)) }
         ensures length { OnOk result (length_of (hand_of self.new) ≡ 0) }
         ensures any_moment { IsTrusted (D.state disk.old) → (l : Layout)
             → Stands (D.state disk.old) self.old l
@@ -76,14 +92,28 @@ impl Engine {
         ensures idle { IfOk result (λ w. w ≡ Worked.Idle → IsTrusted (D.state disk.old)
             → (merge_of self.old ≡ None)
             × AllMerged (D.state disk.old) live.now (hand_of self.old)) }
-        ensures idle_disk { IfOk result (λ w. w ≡ Worked.Idle → IsTrue (D.state disk.old).tells
-            → Quiet (D.state disk.old) (D.state disk.new)) }
+        ensures idle_disk { IfOk result (λ w. w ≡ Worked.Idle → D.state disk.new ≡ D.state disk.old) }
         ensures idle_engine { IfOk result (λ w. w ≡ Worked.Idle → self.new ≡ self.old) }
         ensures busy { IfOk result (λ w. (w ≡ Worked.Idle → ⊥) → IsTrusted (D.state disk.old)
             → merge_of self.old ≡ None
             → AllMerged (D.state disk.old) live.now (hand_of self.old) → ⊥) }
         ensures unwent { IfOk result (λ w. w ≡ Worked.Went → ⊥) }
         ensures none { OnOk result (merge_of self.new ≡ None) }
+        ensures leaves_out { IfOk result (λ w. w ≡ Worked.Done
+            → LeavesOut live.now (hand_of self.old) (hand_of self.new)) }
+        ensures adds { IfOk result (λ w. w ≡ Worked.Done → IsTrusted (D.state disk.old)
+            → (l : Layout) → Stands (D.state disk.old) self.old l
+            → Adds (D.state disk.new) (hand_of self.old) (hand_of self.new)) }
+        ensures missing { OnOk result (IsTrusted (D.state disk.old) → (l : Layout)
+            → Stands (D.state disk.old) self.old l → merge_of self.old ≡ None
+            → MakesNone (D.state disk.old) (D.state disk.new) (next_file_of self.old)) }
+        ensures memory { OnOk result ((family : ℕ) → IsIn live.now family
+            → memory_at (hand_of self.new) family ≡ memory_at (hand_of self.old) family) }
+        ensures kept { OnOk result (IsTrusted (D.state disk.old) → (l : Layout)
+            → Stands (D.state disk.old) self.old l → (family : ℕ) → IsIn live.now family
+            → AreMerged (D.state disk.old) (files_at (hand_of self.old) family)
+            → ((j : Merging) → merge_of self.old ≡ Some j → merged_family j ≢ family)
+            → files_at (hand_of self.new) family ≡ files_at (hand_of self.old) family) }
         ensures merged { OnOk result (IsTrusted (D.state disk.old)
             → AllMerged (D.state disk.new) live.now (hand_of self.new)) }
         ensures any_moment { IsTrusted (D.state disk.old) → (l : Layout)
@@ -119,6 +149,19 @@ impl Engine {
         ensures same { IfOk result (λ ended. ended ≡ false → (merge_of self.old ≡ None)
             × ((D.state disk.new ≡ D.state disk.old) × (self.new ≡ self.old))) }
         ensures some { IfOk result (λ ended. ended ≡ true → merge_of self.old ≡ None → ⊥) }
+        ensures leaves_out { IfOk result (λ ended. ended ≡ true
+            → LeavesOut live.now (hand_of self.old) (hand_of self.new)) }
+        ensures adds { IfOk result (λ ended. ended ≡ true → IsTrusted (D.state disk.old)
+            → Adds (D.state disk.new) (hand_of self.old) (hand_of self.new)) }
+        ensures memory { OnOk result ((family : ℕ) → IsIn live.now family
+            → memory_at (hand_of self.new) family ≡ memory_at (hand_of self.old) family) }
+        ensures others { OnOk result ((family : ℕ) → IsIn live.now family
+            → ((j : Merging) → merge_of self.old ≡ Some j → merged_family j ≢ family)
+            → files_at (hand_of self.new) family ≡ files_at (hand_of self.old) family) }
+        ensures still { OnOk result (IsTrusted (D.state disk.old) → (l : Layout)
+            → Stands (D.state disk.old) self.old l → (family : ℕ) → IsIn live.now family
+            → ((j : Merging) → merge_of self.old ≡ Some j → merged_family j ≢ family)
+            → AreStill (D.state disk.old) (D.state disk.new) (files_at (hand_of self.old) family)) }
         ensures next { next_of self.new ≡ next_of self.old }
         ensures limits { limits_of self.new ≡ limits_of self.old }
         ensures next_file { OnOk result (next_file_of self.new ≡ next_file_of self.old) }

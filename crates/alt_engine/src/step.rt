@@ -8,11 +8,13 @@ ghost use Rattle.alt_disk.specs.Runs.{Spans};
 ghost use Rattle.alt_layout.specs.Layout.{Layout};
 ghost use Rattle.alt_layout.specs.Moments.{Has};
 ghost use Rattle.alt_manifest.specs.Versions.{IsIn};
+ghost use Rattle.alt_manifest.specs.declared.version.Version.{Version};
+ghost use Rattle.alt_hand.specs.Adding.{Adds, HasLast, HasOneOf, IsOverNewLog, LeavesOut, MakesNone};
 ghost use Rattle.alt_hand.specs.Drafting.{IsSpentFor};
 ghost use Rattle.alt_hand.specs.InHand.{Stands as HandStands, length_of};
-ghost use Rattle.alt_hand.specs.Merging.{IsFirstMany};
+ghost use Rattle.alt_hand.specs.Merging.{IsFirstMany, version_in};
 ghost use Rattle.alt_hand.specs.Opened.{IsUnspent};
-ghost use Rattle.alt_hand.specs.Working.{AreLive, IsCalm, IsFileSpent, IsFlushDone, IsNoDamage, IsShort, Works, WorksIn};
+ghost use Rattle.alt_hand.specs.Working.{AreAllFlushed, AreLive, IsCalm, IsFileSpent, IsFlushDone, IsLong, IsNoDamage, IsShort, Works, WorksIn};
 ghost use Rattle.alt_merging.specs.Mergings.{MergingStands, family_of as merged_family};
 ghost use Rattle.alt_engine.specs.InHand.{IsFew, Stands, hand_of, limits_of, merge_of, next_file_of, next_of};
 ghost use Rattle.alt_engine.specs.Working.{Begins, Ended, Ends, Furthered, GoesOn, IsNeeded, KeepsMerge, NoneMany};
@@ -56,6 +58,22 @@ impl Engine {
             → IsFlushDone live.now (hand_of self.old) (hand_of self.new)
             ⊎ ((IsShort (hand_of self.old) × IsCalm live.now (hand_of self.old))
             × Ends (D.state disk.old) (D.state disk.new) live.now self.old self.new)) }
+        ensures version { IfOk result (λ w. w ≡ Worked.Done → IsTrusted (D.state disk.old)
+            → (l : Layout) → Stands (D.state disk.old) self.old l
+            → (IsLong (hand_of self.old)
+            × AreAllFlushed live.now (hand_of self.old) (hand_of self.new)
+            × IsOverNewLog live.now (hand_of self.old) (hand_of self.new))
+            ⊎ (IsShort (hand_of self.old)
+            × LeavesOut live.now (hand_of self.old) (hand_of self.new))) }
+        ensures adds { IfOk result (λ w. w ≡ Worked.Done → IsTrusted (D.state disk.old)
+            → Adds (D.state disk.new) (hand_of self.old) (hand_of self.new)) }
+        ensures missing { OnOk result (IsTrusted (D.state disk.old) → (l : Layout)
+            → Stands (D.state disk.old) self.old l → merge_of self.old ≡ None
+            → MakesNone (D.state disk.old) (D.state disk.new) (next_file_of self.old)) }
+        ensures one_version { IsTrusted (D.state disk.old) → (l : Layout)
+            → Stands (D.state disk.old) self.old l → (w : Version)
+            × Spans (D.state disk.old) (D.state disk.new) (λ _. ⊤)
+            (HasOneOf (version_in (hand_of self.old)) w) }
         ensures length { OnOk result ((length_of (hand_of self.new) ≡ 0)
             ⊎ (IsShort (hand_of self.old)
             × (length_of (hand_of self.new) ≡ length_of (hand_of self.old)))) }
@@ -108,6 +126,14 @@ impl Engine {
         ensures done { IfOk result (λ w. w ≡ Worked.Done → IsTrusted (D.state disk.old) → (l : Layout)
             → HandStands (D.state disk.old) (hand_of self.old) l
             → Ended (D.state disk.old) (D.state disk.new) self.old self.new merging) }
+        ensures leaves_out { IfOk result (λ w. w ≡ Worked.Done
+            → LeavesOut live.now (hand_of self.old) (hand_of self.new)) }
+        ensures adds { IfOk result (λ w. w ≡ Worked.Done → IsTrusted (D.state disk.old)
+            → Adds (D.state disk.new) (hand_of self.old) (hand_of self.new)) }
+        ensures one_version { IsTrusted (D.state disk.old) → (l : Layout)
+            → HandStands (D.state disk.old) (hand_of self.old) l → (w : Version)
+            × Spans (D.state disk.old) (D.state disk.new) (λ _. ⊤)
+            (HasOneOf (version_in (hand_of self.old)) w) }
         ensures any_moment { IsTrusted (D.state disk.old) → (l : Layout)
             → HandStands (D.state disk.old) (hand_of self.old) l
             → Spans (D.state disk.old) (D.state disk.new) (λ _. ⊤) (WorksIn live.now l) }
@@ -148,6 +174,11 @@ impl Engine {
         ensures idle_engine { IfOk result (λ w. w ≡ Worked.Idle → self.new ≡ self.old) }
         ensures went { IfOk result (λ w. w ≡ Worked.Went → Begins live.now self.old self.new) }
         ensures undone { IfOk result (λ w. w ≡ Worked.Done → ⊥) }
+        ensures missing { IsTrusted (D.state disk.old)
+            → MakesNone (D.state disk.old) (D.state disk.new) (next_file_of self.old) }
+        ensures last { IsTrusted (D.state disk.old) → (l : Layout)
+            → Stands (D.state disk.old) self.old l → Spans (D.state disk.old) (D.state disk.new)
+            (λ _. ⊤) (HasLast (version_in (hand_of self.old))) }
         ensures any_moment { IsTrusted (D.state disk.old) → (l : Layout)
             → Stands (D.state disk.old) self.old l
             → Spans (D.state disk.old) (D.state disk.new) (λ _. ⊤) (Has l) }

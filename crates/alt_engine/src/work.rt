@@ -1,18 +1,24 @@
 //! Work between requests: flushes of families, one by one or of all, and merges of their files.
 
-ghost use Rattle.std.specs.Prelude.{◌≡◌, ◌≢◌, ◌⊎◌, ◌<◌, ◌*◌, ⊤, ℕ, Some, None, IfErr, IfOk, OnOk, OnErr, IsErrOf, IsTrue};
+ghost use Rattle.std.specs.Prelude.{◌≡◌, ◌≢◌, ◌⊎◌, ◌<◌, ◌*◌, ⊤, ℕ, Some, None, IfErr, IfOk, OnOk, OnErr, IsErrOf};
 ghost use Rattle.alt_base.specs.Counts.{Rose};
 ghost use Rattle.alt_disk.specs.Disk.{IsTrusted, Goes};
-ghost use Rattle.alt_disk.specs.Runs.{Quiet, Spans};
+ghost use Rattle.alt_disk.specs.Runs.{Spans};
+ghost use Rattle.alt_layout.specs.Files.{IsOf};
+ghost use Rattle.alt_layout.specs.Fresh.{versions_file};
 ghost use Rattle.alt_layout.specs.Layout.{Layout};
 ghost use Rattle.alt_layout.specs.Moments.{Has};
-ghost use Rattle.alt_manifest.specs.Versions.{IsIn};
+ghost use Rattle.alt_manifest.specs.Versions.{HasVersion, IsIn};
+ghost use Rattle.alt_manifest.specs.declared.version.Version.{Version};
+ghost use Rattle.alt_hand.specs.Adding.{HasLast, HasOneOf};
 ghost use Rattle.alt_hand.specs.Carrying.{AreStill};
-ghost use Rattle.alt_hand.specs.Merging.{files_at};
+ghost use Rattle.alt_hand.specs.Merging.{files_at, memory_at, version_in};
+ghost use Rattle.alt_merging.specs.Merged.{AreMerged};
 ghost use Rattle.alt_merging.specs.Mergings.{family_of as merged_family, file_of};
 ghost use Rattle.alt_merging.specs.declared.merging.Merging.{Merging};
 ghost use Rattle.alt_hand.specs.Working.{AreLive, HasEntries, IsFileSpent, IsNoDamage, Works, WorksIn};
-ghost use Rattle.alt_engine.specs.InHand.{Stands, hand_of, limits_of, merge_of, next_of};
+ghost use Rattle.alt_engine.specs.InHand.{Stands, hand_of, limits_of, merge_of, next_file_of, next_of};
+ghost use Rattle.alt_engine.specs.Versions.{IsAfter};
 ghost use Rattle.alt_engine.specs.Working.{Did, IsIdle, IsMerged, IsNeeded, KeepsMerge, WasGivenUp, WasKept, Went};
 
 use crate::engine::Engine;
@@ -65,9 +71,7 @@ impl Engine {
             → Stands (D.state disk.old) self.old l
             → IsIdle task (D.state disk.old) live.now self.old) }
         ensures idle_disk { IfOk result (λ w. w ≡ Worked.Idle → KeepsMerge live.now self.old
-            → task ≢ Task.MergeAll → D.state disk.new ≡ D.state disk.old) }
-        ensures idle_quiet { IfOk result (λ w. w ≡ Worked.Idle → KeepsMerge live.now self.old
-            → IsTrue (D.state disk.old).tells → Quiet (D.state disk.old) (D.state disk.new)) }
+            → D.state disk.new ≡ D.state disk.old) }
         ensures idle_engine { IfOk result (λ w. w ≡ Worked.Idle → KeepsMerge live.now self.old
             → self.new ≡ self.old) }
         ensures busy { IfOk result (λ w. (w ≡ Worked.Idle → ⊥) → IsTrusted (D.state disk.old)
@@ -79,6 +83,38 @@ impl Engine {
         ensures done { IfOk result (λ w. w ≡ Worked.Done → IsTrusted (D.state disk.old) → (l : Layout)
             → Stands (D.state disk.old) self.old l
             → Did task (D.state disk.old) (D.state disk.new) live.now self.old self.new) }
+
+        // A merge of a family that isn't live is given up, whatever follows: its unfinished file is gone.
+        ensures given_up { OnOk result (IsTrusted (D.state disk.old) → (l : Layout)
+            → Stands (D.state disk.old) self.old l → (j : Merging) → merge_of self.old ≡ Some j
+            → (IsIn live.now (merged_family j) → ⊥) → (D.state disk.new).file (file_of j) ≡ None) }
+
+        // What is done adds a version, as the disk reads then: over a new log, or without families that aren't live. Its next file is the
+        // engine's, and files that the one before names and it doesn't are gone.
+        ensures version { IfOk result (λ w. w ≡ Worked.Done → IsTrusted (D.state disk.old)
+            → (l : Layout) → Stands (D.state disk.old) self.old l
+            → IsAfter task (D.state disk.old) (D.state disk.new) live.now self.old) }
+        ensures next_file { IfOk result (λ k. k ≡ Worked.Done → IsTrusted (D.state disk.old)
+            → (w : Version) → HasVersion w ((D.state disk.new).file versions_file)
+            → w.next_file ≡ next_file_of self.new) }
+        ensures removed { IfOk result (λ k. k ≡ Worked.Done → IsTrusted (D.state disk.old)
+            → (v w : Version) → HasVersion v ((D.state disk.old).file versions_file)
+            → HasVersion w ((D.state disk.new).file versions_file) → (f : ℕ) → IsOf v f
+            → (IsOf w f → ⊥) → (D.state disk.new).file f ≡ None) }
+
+        // A step adds one version at most: at each moment the last one is that from before, or one other.
+        ensures one_version { task ≡ Task.Step → IsTrusted (D.state disk.old) → (v : Version)
+            → HasVersion v ((D.state disk.old).file versions_file) → (w : Version)
+            × Spans (D.state disk.old) (D.state disk.new) (λ _. ⊤) (HasOneOf v w) }
+
+        // Merges of all leave rows in memory as they are, and the files of each live family that are merged, unless a merge of them was under way.
+        ensures memory { task ≡ Task.MergeAll → OnOk result ((family : ℕ) → IsIn live.now family
+            → memory_at (hand_of self.new) family ≡ memory_at (hand_of self.old) family) }
+        ensures kept { task ≡ Task.MergeAll → OnOk result (IsTrusted (D.state disk.old)
+            → (family : ℕ) → IsIn live.now family
+            → AreMerged (D.state disk.old) (files_at (hand_of self.old) family)
+            → ((j : Merging) → merge_of self.old ≡ Some j → merged_family j ≢ family)
+            → files_at (hand_of self.new) family ≡ files_at (hand_of self.old) family) }
 
         // A stop at any moment of the call, also one that fails, leaves the rows of live families.
         ensures any_moment { IsTrusted (D.state disk.old) → (l : Layout)
@@ -128,6 +164,9 @@ impl Engine {
         ensures still { IsTrusted (D.state disk.old) → (l : Layout)
             → Stands (D.state disk.old) self.old l → (family : ℕ)
             → AreStill (D.state disk.old) (D.state disk.new) (files_at (hand_of self.old) family) }
+        ensures last { IsTrusted (D.state disk.old) → (l : Layout)
+            → Stands (D.state disk.old) self.old l → Spans (D.state disk.old) (D.state disk.new)
+            (λ _. ⊤) (HasLast (version_in (hand_of self.old))) }
         ensures any_moment { IsTrusted (D.state disk.old) → (l : Layout)
             → Stands (D.state disk.old) self.old l
             → Spans (D.state disk.old) (D.state disk.new) (λ _. ⊤) (Has l) }

@@ -1,7 +1,7 @@
 -- A merge of the first family that has many files.
 use Rattle.std.proofs.Common.{refl, subst}
 use Rattle.alt_hand.specs.Merging.{FindsMany}
-use Rattle.alt_merging.proofs.StepLaws.{has_still}
+use Rattle.alt_merging.proofs.StepLaws.{has_still, last_still}
 use Rattle.alt_engine.proofs.EngineLaws.{few_on}
 use Rattle.alt_engine.proofs.Stepping.{none_of}
 use Rattle.alt_engine.proofs.Turning.{free_none}
@@ -52,3 +52,19 @@ returns-in-None-clause-idle g c it trusted l stands =
 pub returns-in-None-clause-any_moment : goal.returns-in-None-clause-any_moment
 returns-in-None-clause-any_moment g c trusted l stands =
     has_still (g.D.Disk.state c.args.disk.now) c.args.self.now.hand l stands.hand
+
+pub returns-then-not-self-clause-last : goal.returns-then-not-self-clause-last
+returns-then-not-self-clause-last g c trusted l stands =
+    last_still (g.D.Disk.state c.args.disk.now) c.args.self.now.hand l stands.hand
+
+pub returns-in_err-merging-in-Some-clause-last : goal.returns-in_err-merging-in-Some-clause-last
+returns-in_err-merging-in-Some-clause-last g c trusted l stands =
+    c.start.ensures.last trusted l stands.hand
+
+pub returns-in_ok-merging-in-Some-clause-last : goal.returns-in_ok-merging-in-Some-clause-last
+returns-in_ok-merging-in-Some-clause-last g c trusted l stands =
+    c.start.ensures.last trusted l stands.hand
+
+pub returns-in-None-clause-last : goal.returns-in-None-clause-last
+returns-in-None-clause-last g c trusted l stands =
+    last_still (g.D.Disk.state c.args.disk.now) c.args.self.now.hand l stands.hand

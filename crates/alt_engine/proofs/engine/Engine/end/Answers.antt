@@ -1,6 +1,8 @@
 -- The merge that was taken out stands.
-use Rattle.std.proofs.Common.{◌≡◌, Some, rules}
+use Rattle.std.proofs.Common.{◌≡◌, Some, rules, sym}
 use Rattle.alt_hand.proofs.EndLaws.{works_same, works_still}
+use Rattle.alt_hand.specs.Merging.{files_at}
+use Rattle.alt_hand.proofs.CarryDrafts.{all_still}
 use Rattle.alt_engine.specs.InHand.{merge_of}
 use Rattle.alt_engine.proofs.Stepping.{taken_stands}
 use Rattle.alt_engine.proofs.engine.Engine.end.Goals as goal
@@ -34,3 +36,20 @@ returns-in-None-clause-ok g c trusted l stands =
 pub returns-in-None-clause-any_moment : goal.returns-in-None-clause-any_moment
 returns-in-None-clause-any_moment g c trusted l stands = works_still
     (g.D.Disk.state c.args.disk.now) c.args.self.now.hand l c.args.live.now stands.hand
+
+pub returns-in_ok-complete-in-Some-clause-others :
+    goal.returns-in_ok-complete-in-Some-clause-others
+returns-in_ok-complete-in-Some-clause-others g c family lives apart =
+    let is : merge_of c.args.self.now ≡ Some c.in-Some.merging = search rules in
+    c.in_ok-complete-in-Some.ensures.others family lives (λ same. apart c.in-Some.merging is (sym same))
+
+pub returns-in_ok-complete-in-Some-clause-still :
+    goal.returns-in_ok-complete-in-Some-clause-still
+returns-in_ok-complete-in-Some-clause-still g c trusted l stands family lives apart =
+    let is : merge_of c.args.self.now ≡ Some c.in-Some.merging = search rules in
+    c.in_ok-complete-in-Some.ensures.still trusted l stands.hand family lives
+    (λ same. apart c.in-Some.merging is (sym same))
+
+pub returns-in-None-clause-still : goal.returns-in-None-clause-still
+returns-in-None-clause-still g c trusted l stands family lives apart =
+    all_still (g.D.Disk.state c.args.disk.now) (files_at c.args.self.now.hand family)

@@ -45,3 +45,11 @@ pub returns-clause-any_moment : goal.returns-clause-any_moment
 returns-clause-any_moment g c trusted l stands =
     worked_in (g.D.Disk.state c.args.disk.now) (g.D.Disk.state c.flush_all.new.disk) c.args.live.now l
     (c.flush_all.ensures.any_moment trusted l stands.hand)
+
+pub returns-clause-new_log : goal.returns-clause-new_log
+returns-clause-new_log g c done trusted l stands =
+    (c.in_ok-flush_all.ensures.flushed, c.in_ok-flush_all.ensures.new_log trusted l stands.hand)
+
+pub returns-clause-missing : goal.returns-clause-missing
+returns-clause-missing g c trusted l stands =
+    c.in_ok-flush_all.ensures.missing trusted l stands.hand

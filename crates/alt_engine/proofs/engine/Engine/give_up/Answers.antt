@@ -6,7 +6,7 @@ use Rattle.alt_manifest.proofs.RuleLaws.{tells_no}
 use Rattle.alt_manifest.specs.Versions.{IsIn}
 use Rattle.alt_hand.specs.Merging.{files_at}
 use Rattle.alt_hand.proofs.CarryDrafts.{all_still}
-use Rattle.alt_merging.proofs.StepLaws.{has_still}
+use Rattle.alt_merging.proofs.StepLaws.{has_still, last_still}
 use Rattle.alt_engine.specs.InHand.{IsGoing, merge_of}
 use Rattle.alt_engine.proofs.Stepping.{taken_stands}
 use Rattle.alt_engine.proofs.engine.Engine.give_up.Goals as goal
@@ -68,3 +68,18 @@ returns-in-None-clause-still g c trusted l stands family =
 pub returns-in-None-clause-any_moment : goal.returns-in-None-clause-any_moment
 returns-in-None-clause-any_moment g c trusted l stands =
     has_still (g.D.Disk.state c.args.disk.now) c.args.self.now.hand l stands.hand
+
+pub returns-then-has-clause-last : goal.returns-then-has-clause-last
+returns-then-has-clause-last g c trusted l stands =
+    last_still (g.D.Disk.state c.args.disk.now) c.args.self.now.hand l stands.hand
+
+pub returns-else-has-clause-last : goal.returns-else-has-clause-last
+returns-else-has-clause-last g c trusted l stands =
+    let is : merge_of c.args.self.now ≡ Some c.in-Some.merging = search rules in
+    let going = taken_stands (g.D.Disk.state c.args.disk.now) c.args.self.now c.in-Some.merging is
+    stands.merging in
+    c.give_up.ensures.last trusted l going.0 stands.hand going.1
+
+pub returns-in-None-clause-last : goal.returns-in-None-clause-last
+returns-in-None-clause-last g c trusted l stands =
+    last_still (g.D.Disk.state c.args.disk.now) c.args.self.now.hand l stands.hand

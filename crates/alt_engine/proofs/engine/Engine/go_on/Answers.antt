@@ -7,7 +7,10 @@ use Rattle.alt_compact.specs.declared.job.Stepped.{Stepped}
 use Rattle.alt_hand.proofs.EndLaws.{works_same}
 use Rattle.alt_merging.specs.Mergings.{GivesWay, MergingStands, family_of, taken_of}
 use Rattle.alt_merging.proofs.StepLaws.{has_works, then_works}
+use Rattle.alt_hand.specs.Merging.{version_in}
+use Rattle.alt_hand.proofs.AddingLaws.{last_or}
 use Rattle.alt_engine.specs.InHand.{IsGoing}
+use Rattle.alt_engine.proofs.Versioning.{one_behind}
 use Rattle.alt_engine.proofs.engine.Engine.go_on.Goals as goal
 
 pub returns-in_err-step-clause-any_moment : goal.returns-in_err-step-clause-any_moment
@@ -133,3 +136,59 @@ returns-in_ok-end-in-Done-clause-any_moment g c trusted l stands =
     (c.step.ensures.any_moment trusted l stands given.1 given.3)
     (c.end.ensures.any_moment (trusted_on a b c.step.ensures.goes trusted) l
     (c.step.ensures.ok trusted l stands given.1 given.3))
+
+pub returns-in_err-step-clause-one_version : goal.returns-in_err-step-clause-one_version
+returns-in_err-step-clause-one_version g c trusted l stands =
+    let given = c.requires.ready trusted in
+    let a : DiskState = g.D.Disk.state c.args.disk.now in
+    let b : DiskState = g.D.Disk.state c.step.new.disk in
+    let e = c.args.self.now.hand in (
+      version_in e,
+      last_or a b (version_in e) (version_in e)
+          (c.step.ensures.last trusted l stands given.1 given.3),
+    )
+
+pub returns-in-More-clause-one_version : goal.returns-in-More-clause-one_version
+returns-in-More-clause-one_version g c trusted l stands =
+    let given = c.requires.ready trusted in
+    let a : DiskState = g.D.Disk.state c.args.disk.now in
+    let b : DiskState = g.D.Disk.state c.step.new.disk in
+    let e = c.args.self.now.hand in (
+      version_in e,
+      last_or a b (version_in e) (version_in e)
+          (c.step.ensures.last trusted l stands given.1 given.3),
+    )
+
+pub returns-in_err-end-in-Done-clause-one_version : goal.returns-in_err-end-in-Done-clause-one_version
+returns-in_err-end-in-Done-clause-one_version g c trusted l stands =
+    let given = c.requires.ready trusted in
+    let a : DiskState = g.D.Disk.state c.args.disk.now in
+    let b : DiskState = g.D.Disk.state c.step.new.disk in
+    let e = c.args.self.now.hand in
+    let later = c.end.ensures.one_version (trusted_on a b c.step.ensures.goes trusted) l
+    (c.step.ensures.ok trusted l stands given.1 given.3) in (
+      later.0,
+      one_behind a b (g.D.Disk.state c.end.new.disk) e later.0
+          (c.step.ensures.last trusted l stands given.1 given.3) later.1,
+    )
+
+pub returns-in_ok-end-in-Done-clause-one_version : goal.returns-in_ok-end-in-Done-clause-one_version
+returns-in_ok-end-in-Done-clause-one_version g c trusted l stands =
+    let given = c.requires.ready trusted in
+    let a : DiskState = g.D.Disk.state c.args.disk.now in
+    let b : DiskState = g.D.Disk.state c.step.new.disk in
+    let e = c.args.self.now.hand in
+    let later = c.end.ensures.one_version (trusted_on a b c.step.ensures.goes trusted) l
+    (c.step.ensures.ok trusted l stands given.1 given.3) in (
+      later.0,
+      one_behind a b (g.D.Disk.state c.end.new.disk) e later.0
+          (c.step.ensures.last trusted l stands given.1 given.3) later.1,
+    )
+
+pub returns-in_ok-end-in-Done-clause-leaves_out : goal.returns-in_ok-end-in-Done-clause-leaves_out
+returns-in_ok-end-in-Done-clause-leaves_out g c done = c.in_ok-end-in-Done.ensures.leaves_out
+
+pub returns-in_ok-end-in-Done-clause-adds : goal.returns-in_ok-end-in-Done-clause-adds
+returns-in_ok-end-in-Done-clause-adds g c done trusted = c.in_ok-end-in-Done.ensures.adds
+    (trusted_on (g.D.Disk.state c.args.disk.now) (g.D.Disk.state c.step.new.disk) c.step.ensures.goes
+    trusted)

@@ -1,10 +1,15 @@
 -- The merge under way, and then the others.
-use Rattle.std.proofs.Common.{◌≡◌, ◌∙◌, sym, ap, subst}
+use Rattle.std.proofs.Common.{rules, ◌≡◌, ◌∙◌, sym, ap, subst, arith}
 use Rattle.alt_disk.specs.Disk.{DiskState}
 use Rattle.alt_disk.proofs.Runs.{trusted_back, trusted_on}
-use Rattle.alt_hand.specs.Merging.{HasMany}
+use Rattle.alt_hand.specs.Adding.{Adds, LeavesOut, MakesNone}
+use Rattle.alt_hand.specs.InHand.{next_file_of}
+use Rattle.alt_hand.specs.Merging.{HasMany, files_at}
+use Rattle.alt_merging.specs.Merged.{AreMerged}
 use Rattle.alt_hand.specs.declared.hand.Hand.{Hand}
-use Rattle.alt_merging.proofs.EachLaws.{works_on, works_then}
+use Rattle.alt_merging.proofs.EachLaws.{adds_then, leaves_then, merged_on, works_on, works_then}
+use Rattle.alt_engine.proofs.Stepping.{back_both}
+use Rattle.alt_engine.proofs.Versioning.{by_flag}
 use Rattle.alt_engine.specs.InHand.{IsGoing}
 use Rattle.alt_engine.specs.declared.engine.Engine.{Engine}
 use Rattle.alt_engine.proofs.engine.Engine.merge_all.Goals as goal
@@ -89,3 +94,119 @@ returns-clause-any_moment g c trusted l stands =
     let first = c.in_ok-ended.ensures.ok trusted l stands in
     works_on a b d live l first.0 first.2 (c.end.ensures.any_moment trusted l stands)
     (c.merge_each.ensures.any_moment told first.0 first.1)
+
+pub returns-then-not-merged-clause-memory : goal.returns-then-not-merged-clause-memory
+returns-then-not-merged-clause-memory g c family lives =
+    c.in_ok-merged.ensures.memory family lives ∙ c.in_ok-ended.ensures.memory family lives
+
+pub returns-then-not-merged-clause-kept : goal.returns-then-not-merged-clause-kept
+returns-then-not-merged-clause-kept g c trusted l stands family lives merged apart =
+    let a : DiskState = g.D.Disk.state c.args.disk.now in
+    let b : DiskState = g.D.Disk.state c.end.new.disk in
+    let d : DiskState = g.D.Disk.state c.merge_each.new.disk in
+    let live = c.args.live.now in
+    let e = c.args.self.now.hand in
+    let k = c.end.new.self.hand in
+    let f = c.merge_each.new.hand in
+    let told = trusted_on a b c.end.ensures.goes trusted in
+    let first = c.in_ok-ended.ensures.ok trusted l stands in
+    let same = c.in_ok-ended.ensures.others family lives apart in
+    c.in_ok-merged.ensures.kept told family lives (subst (AreMerged b) (sym same)
+    (merged_on a b (files_at e family) (c.in_ok-ended.ensures.still trusted l stands family lives apart)
+    merged)) ∙ same
+
+pub returns-then-not-merged-clause-missing : goal.returns-then-not-merged-clause-missing
+returns-then-not-merged-clause-missing g c trusted l stands none =
+    let a : DiskState = g.D.Disk.state c.args.disk.now in
+    let b : DiskState = g.D.Disk.state c.end.new.disk in
+    let d : DiskState = g.D.Disk.state c.merge_each.new.disk in
+    let live = c.args.live.now in
+    let e = c.args.self.now.hand in
+    let k = c.end.new.self.hand in
+    let f = c.merge_each.new.hand in
+    let told = trusted_on a b c.end.ensures.goes trusted in
+    let first = c.in_ok-ended.ensures.ok trusted l stands in
+    by_flag c.in_ok-ended.ended (λ on. absurd (c.in_ok-ended.ensures.some on none))
+    (λ off. let same = c.in_ok-ended.ensures.same off in
+    back_both (λ s h. MakesNone s d (next_file_of h)) a b e k same.1.0
+    (ap (λ (x : Engine). x.hand) same.1.1) (c.in_ok-merged.ensures.missing told first.0 first.1))
+
+pub returns-clause-memory : goal.returns-clause-memory
+returns-clause-memory g c family lives =
+    c.in_ok-merged.ensures.memory family lives ∙ c.in_ok-ended.ensures.memory family lives
+
+pub returns-clause-kept : goal.returns-clause-kept
+returns-clause-kept g c trusted l stands family lives merged apart =
+    let a : DiskState = g.D.Disk.state c.args.disk.now in
+    let b : DiskState = g.D.Disk.state c.end.new.disk in
+    let d : DiskState = g.D.Disk.state c.merge_each.new.disk in
+    let live = c.args.live.now in
+    let e = c.args.self.now.hand in
+    let k = c.end.new.self.hand in
+    let f = c.merge_each.new.hand in
+    let told = trusted_on a b c.end.ensures.goes trusted in
+    let first = c.in_ok-ended.ensures.ok trusted l stands in
+    let same = c.in_ok-ended.ensures.others family lives apart in
+    c.in_ok-merged.ensures.kept told family lives (subst (AreMerged b) (sym same)
+    (merged_on a b (files_at e family) (c.in_ok-ended.ensures.still trusted l stands family lives apart)
+    merged)) ∙ same
+
+pub returns-clause-missing : goal.returns-clause-missing
+returns-clause-missing g c trusted l stands none =
+    let a : DiskState = g.D.Disk.state c.args.disk.now in
+    let b : DiskState = g.D.Disk.state c.end.new.disk in
+    let d : DiskState = g.D.Disk.state c.merge_each.new.disk in
+    let live = c.args.live.now in
+    let e = c.args.self.now.hand in
+    let k = c.end.new.self.hand in
+    let f = c.merge_each.new.hand in
+    let told = trusted_on a b c.end.ensures.goes trusted in
+    let first = c.in_ok-ended.ensures.ok trusted l stands in
+    by_flag c.in_ok-ended.ended (λ on. absurd (c.in_ok-ended.ensures.some on none))
+    (λ off. let same = c.in_ok-ended.ensures.same off in
+    back_both (λ s h. MakesNone s d (next_file_of h)) a b e k same.1.0
+    (ap (λ (x : Engine). x.hand) same.1.1) (c.in_ok-merged.ensures.missing told first.0 first.1))
+
+pub returns-clause-leaves_out : goal.returns-clause-leaves_out
+returns-clause-leaves_out g c done =
+    let live = c.args.live.now in
+    let e = c.args.self.now.hand in
+    let k = c.end.new.self.hand in
+    let f = c.merge_each.new.hand in
+    by_flag c.in_ok-ended.ended
+    (λ on. by_flag c.in_ok-merged.merged
+    (λ more. leaves_then live e k f (c.in_ok-ended.ensures.leaves_out on)
+    (c.in_ok-merged.ensures.leaves_out more) c.end.ensures.next)
+    (λ none. subst (λ (h : Hand). LeavesOut live e h) (sym (c.in_ok-merged.ensures.idle_hand none))
+    (c.in_ok-ended.ensures.leaves_out on)))
+    (λ off. by_flag c.in_ok-merged.merged
+    (λ more. subst (λ (h : Hand). LeavesOut live h f)
+    (ap (λ (x : Engine). x.hand) (c.in_ok-ended.ensures.same off).1.1)
+    (c.in_ok-merged.ensures.leaves_out more))
+    (λ none. (let no : ⊥ = search rules in absurd no)))
+
+pub returns-clause-adds : goal.returns-clause-adds
+returns-clause-adds g c done trusted l stands =
+    let a : DiskState = g.D.Disk.state c.args.disk.now in
+    let b : DiskState = g.D.Disk.state c.end.new.disk in
+    let d : DiskState = g.D.Disk.state c.merge_each.new.disk in
+    let live = c.args.live.now in
+    let e = c.args.self.now.hand in
+    let k = c.end.new.self.hand in
+    let f = c.merge_each.new.hand in
+    let told = trusted_on a b c.end.ensures.goes trusted in
+    let first = c.in_ok-ended.ensures.ok trusted l stands in
+    by_flag c.in_ok-ended.ended
+    (λ on. by_flag c.in_ok-merged.merged
+    (λ more. adds_then a b d e k f l stands.hand (c.in_ok-ended.ensures.adds on trusted)
+    (c.in_ok-merged.ensures.adds more told first.0 first.1)
+    (let next = c.in_ok-ended.ensures.next_file in omega (arith, next))
+    (c.in_ok-merged.ensures.missing told first.0 first.1))
+    (λ none. subst (λ (h : Hand). Adds d e h) (sym (c.in_ok-merged.ensures.idle_hand none))
+    (subst (λ (s : DiskState). Adds s e k) (sym (c.in_ok-merged.ensures.idle_disk none))
+    (c.in_ok-ended.ensures.adds on trusted))))
+    (λ off. by_flag c.in_ok-merged.merged
+    (λ more. subst (λ (h : Hand). Adds d h f)
+    (ap (λ (x : Engine). x.hand) (c.in_ok-ended.ensures.same off).1.1)
+    (c.in_ok-merged.ensures.adds more told first.0 first.1))
+    (λ none. (let no : ⊥ = search rules in absurd no)))

@@ -5,9 +5,13 @@ use Rattle.alt_disk.specs.Disk.{DiskState}
 use Rattle.alt_disk.specs.Runs.{Spans}
 use Rattle.alt_disk.proofs.Runs.{trusted_back, trusted_on}
 use Rattle.alt_hand.specs.InHand.{Stands as HandStands}
-use Rattle.alt_hand.specs.Merging.{HasMany}
+use Rattle.alt_hand.specs.Merging.{HasMany, version_in}
 use Rattle.alt_hand.specs.Working.{IsCalm, IsShort, WorksIn}
 use Rattle.alt_hand.specs.declared.hand.Hand.{Hand}
+use Rattle.alt_hand.specs.Adding.{Adds, HasLast, HasOneOf, LeavesOut, MakesNone}
+use Rattle.alt_hand.specs.InHand.{next_file_of}
+use Rattle.alt_hand.proofs.AddingLaws.{last_or}
+use Rattle.alt_manifest.specs.declared.version.Version.{Version}
 use Rattle.alt_hand.proofs.EndLaws.{works_same}
 use Rattle.alt_hand.proofs.WorkLaws.{worked_in, works_of}
 use Rattle.alt_merging.specs.Mergings.{MergingStands, family_of}
@@ -15,7 +19,8 @@ use Rattle.alt_merging.proofs.StepLaws.{has_works}
 use Rattle.alt_engine.specs.InHand.{IsGoing, Stands, merge_of}
 use Rattle.alt_engine.specs.declared.engine.Engine.{Engine}
 use Rattle.alt_engine.proofs.EngineLaws.{going_carried}
-use Rattle.alt_engine.proofs.Stepping.{at_both, begins_at, ended_back, furthered_back, taken_stands}
+use Rattle.alt_engine.proofs.Stepping.{at_both, back_both, begins_at, ended_back, furthered_back, taken_stands}
+use Rattle.alt_engine.proofs.Turning.{no_job}
 use Rattle.alt_engine.proofs.engine.Engine.step.Goals as goal
 
 pub flush_due-requires-clause-ready : goal.flush_due-requires-clause-ready
@@ -264,3 +269,112 @@ returns-in-None-clause-any_moment g c trusted l stands =
     let d : DiskState = g.D.Disk.state c.begin.new.disk in
     subst (λ (s : DiskState). Spans s d (λ x. Unit {0}) (WorksIn live l)) p
     (has_works b d live l (c.begin.ensures.any_moment told l at))
+
+pub returns-in_err-flushed-clause-one_version : goal.returns-in_err-flushed-clause-one_version
+returns-in_err-flushed-clause-one_version g c trusted l stands =
+    c.flush_due.ensures.one_version trusted l stands.hand
+
+pub returns-then-flushed-clause-one_version : goal.returns-then-flushed-clause-one_version
+returns-then-flushed-clause-one_version g c trusted l stands =
+    c.flush_due.ensures.one_version trusted l stands.hand
+
+pub returns-then-flushed-clause-version : goal.returns-then-flushed-clause-version
+returns-then-flushed-clause-version g c done trusted l stands =
+    c.in_ok-flushed.ensures.version c.if-flushed.true trusted l stands.hand
+
+pub returns-then-flushed-clause-adds : goal.returns-then-flushed-clause-adds
+returns-then-flushed-clause-adds g c done trusted =
+    c.in_ok-flushed.ensures.adds c.if-flushed.true trusted
+
+pub returns-then-flushed-clause-missing : goal.returns-then-flushed-clause-missing
+returns-then-flushed-clause-missing g c trusted l stands none =
+    c.in_ok-flushed.ensures.missing trusted l stands.hand
+
+pub returns-in-Some-clause-version : goal.returns-in-Some-clause-version
+returns-in-Some-clause-version g c = IfOk-weaker c.go_on.result _ _ (λ w h it trusted l stands.
+    let a : DiskState = g.D.Disk.state c.args.disk.now in
+    let b : DiskState = g.D.Disk.state c.flush_due.new.disk in
+    let e : Engine = c.args.self.now in
+    let f : Hand = c.flush_due.new.self in
+    let live = c.args.live.now in
+    let p : b ≡ a = c.in_ok-flushed.ensures.idle_disk c.if-flushed.false in
+    let q : f ≡ e.hand = c.in_ok-flushed.ensures.idle_hand c.if-flushed.false in
+    let idle = c.in_ok-flushed.ensures.idle c.if-flushed.false in
+    inr (idle.0, subst (λ (k : Hand). LeavesOut live k c.go_on.new.self.hand) q (h it)))
+    c.go_on.ensures.leaves_out
+
+pub returns-in-Some-clause-adds : goal.returns-in-Some-clause-adds
+returns-in-Some-clause-adds g c = IfOk-weaker c.go_on.result _ _ (λ w h it trusted.
+    let a : DiskState = g.D.Disk.state c.args.disk.now in
+    let b : DiskState = g.D.Disk.state c.flush_due.new.disk in
+    let e : Engine = c.args.self.now in
+    let f : Hand = c.flush_due.new.self in
+    let live = c.args.live.now in
+    let p : b ≡ a = c.in_ok-flushed.ensures.idle_disk c.if-flushed.false in
+    let q : f ≡ e.hand = c.in_ok-flushed.ensures.idle_hand c.if-flushed.false in
+    let told = trusted_on a b c.flush_due.ensures.goes trusted in
+    subst (λ (k : Hand). Adds (g.D.Disk.state c.go_on.new.disk) k c.go_on.new.self.hand) q (h it told))
+    c.go_on.ensures.adds
+
+pub returns-in-Some-clause-missing : goal.returns-in-Some-clause-missing
+returns-in-Some-clause-missing g c = on_ok_weaker c.go_on.result (λ well trusted l stands none.
+    let is : merge_of c.args.self.now ≡ Some c.in-Some.merging = search rules in
+    absurd (no_job (merge_of c.args.self.now) c.in-Some.merging none is)) c.go_on.ensures.well
+
+pub returns-in-Some-clause-one_version : goal.returns-in-Some-clause-one_version
+returns-in-Some-clause-one_version g c trusted l stands =
+    let a : DiskState = g.D.Disk.state c.args.disk.now in
+    let b : DiskState = g.D.Disk.state c.flush_due.new.disk in
+    let e : Engine = c.args.self.now in
+    let f : Hand = c.flush_due.new.self in
+    let live = c.args.live.now in
+    let p : b ≡ a = c.in_ok-flushed.ensures.idle_disk c.if-flushed.false in
+    let q : f ≡ e.hand = c.in_ok-flushed.ensures.idle_hand c.if-flushed.false in
+    let told = trusted_on a b c.flush_due.ensures.goes trusted in
+    let at = at_both (λ s h. HandStands s h l) a b e.hand f p q stands.hand in
+    back_both (λ s h. (w : Version) × Spans s (g.D.Disk.state c.go_on.new.disk) (λ x. Unit {0})
+    (HasOneOf (version_in h) w)) a b e.hand f p q (c.go_on.ensures.one_version told l at)
+
+pub returns-in-None-clause-version : goal.returns-in-None-clause-version
+returns-in-None-clause-version g c = IfOk-weaker c.begin.result _ _ (λ w h it. absurd (h it))
+    c.begin.ensures.undone
+
+pub returns-in-None-clause-adds : goal.returns-in-None-clause-adds
+returns-in-None-clause-adds g c = IfOk-weaker c.begin.result _ _ (λ w h it. absurd (h it))
+    c.begin.ensures.undone
+
+pub returns-in-None-clause-missing : goal.returns-in-None-clause-missing
+returns-in-None-clause-missing g c = on_ok_weaker c.begin.result (λ well trusted l stands none.
+    let a : DiskState = g.D.Disk.state c.args.disk.now in
+    let b : DiskState = g.D.Disk.state c.flush_due.new.disk in
+    let e : Engine = c.args.self.now in
+    let f : Hand = c.flush_due.new.self in
+    let live = c.args.live.now in
+    let p : b ≡ a = c.in_ok-flushed.ensures.idle_disk c.if-flushed.false in
+    let q : f ≡ e.hand = c.in_ok-flushed.ensures.idle_hand c.if-flushed.false in
+    let told = trusted_on a b c.flush_due.ensures.goes trusted in
+    back_both (λ s h. MakesNone s (g.D.Disk.state c.begin.new.disk) (next_file_of h)) a b e.hand f p q
+    (c.begin.ensures.missing told)) c.begin.ensures.well
+
+pub returns-in-None-clause-one_version : goal.returns-in-None-clause-one_version
+returns-in-None-clause-one_version g c trusted l stands =
+    let a : DiskState = g.D.Disk.state c.args.disk.now in
+    let b : DiskState = g.D.Disk.state c.flush_due.new.disk in
+    let e : Engine = c.args.self.now in
+    let f : Hand = c.flush_due.new.self in
+    let live = c.args.live.now in
+    let p : b ≡ a = c.in_ok-flushed.ensures.idle_disk c.if-flushed.false in
+    let q : f ≡ e.hand = c.in_ok-flushed.ensures.idle_hand c.if-flushed.false in
+    let told = trusted_on a b c.flush_due.ensures.goes trusted in
+    let x : Engine = record e { hand = f; merging = c.take.new.self } in
+    let at : Stands b x l = record {
+      hand = at_both (λ s h. HandStands s h l) a b e.hand f p q stands.hand;
+      merging = subst (IsGoing b f) (sym c.take.ensures.after) tt;
+      few = λ none family many. stands.few none family (subst (λ (h : Hand). HasMany h family) q many);
+    } in
+    let d : DiskState = g.D.Disk.state c.begin.new.disk in (
+      version_in e.hand,
+      last_or a d (version_in e.hand) (version_in e.hand)
+          (back_both (λ s h. Spans s d (λ y. Unit {0}) (HasLast (version_in h))) a b e.hand f p q
+          (c.begin.ensures.last told l at)),
+    )

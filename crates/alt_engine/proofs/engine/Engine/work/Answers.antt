@@ -1,21 +1,30 @@
 -- What becomes of the merge under way, and then the task.
-use Rattle.std.proofs.Common.{◌≡◌, ⊎_elim, inl, inr, sym, subst}
+use Rattle.std.proofs.Common.{◌≡◌, ◌<◌, ⊎_elim, inl, inr, sym, ap, subst, ◌∙◌}
 use Rattle.std.proofs.lemmas.Result.{IfOk-weaker, on_ok_weaker}
 use Rattle.std.specs.Prelude.{◌⊎◌}
 use Rattle.alt_disk.specs.Disk.{DiskState, IsTrusted}
 use Rattle.alt_disk.proofs.Runs.{trusted_back, trusted_on}
-use Rattle.alt_hand.specs.InHand.{length_of}
-use Rattle.alt_hand.specs.Merging.{HasMany}
-use Rattle.alt_hand.specs.Working.{IsCalm, IsFlushDone, IsShort}
+use Rattle.alt_disk.specs.Runs.{Spans}
+use Rattle.alt_manifest.specs.declared.version.Version.{Version}
+use Rattle.alt_hand.specs.Adding.{Adds, HasLast, HasOneOf, IsOverNewLog, LeavesOut}
+use Rattle.alt_hand.specs.InHand.{length_of, next_file_of}
+use Rattle.alt_hand.specs.Merging.{HasMany, files_at, memory_at, version_in}
+use Rattle.alt_hand.specs.Working.{AreAllFlushed, IsCalm, IsFlushDone, IsLong, IsShort}
 use Rattle.alt_hand.specs.declared.hand.Hand.{Hand}
+use Rattle.alt_hand.proofs.AddingLaws.{last_or}
 use Rattle.alt_hand.proofs.CarryLaws.{on_ok_both}
 use Rattle.alt_hand.proofs.WorkLaws.{no_entries, step_short}
+use Rattle.alt_merging.specs.Merged.{AreMerged}
+use Rattle.alt_merging.specs.Mergings.{file_of}
+use Rattle.alt_merging.proofs.EachLaws.{merged_on}
 use Rattle.alt_merging.proofs.StepLaws.{has_works, then_works}
 use Rattle.alt_engine.specs.InHand.{Stands, hand_of}
+use Rattle.alt_engine.specs.Versions.{IsAfter}
 use Rattle.alt_engine.specs.Working.{AllMerged, Begins, Did, Ends, GoesOn, IsIdle}
 use Rattle.alt_engine.specs.declared.engine.Engine.{Engine}
 use Rattle.alt_engine.specs.declared.work.Task.{Task}
-use Rattle.alt_engine.proofs.Turning.{all_merged, begins_back, busy_all, busy_by, did_flush, ends_back, first_lives, flush_busy, flushed, free_back, free_none, free_on, goes_back, idle_all, keeps_after, merged_back, merged_forth, none_free}
+use Rattle.alt_engine.proofs.Turning.{all_merged, begins_back, busy_all, busy_by, did_flush, ends_back, first_lives, flush_busy, flushed, free_back, free_none, free_on, goes_back, idle_all, job_back, job_below, keeps_after, merged_back, merged_forth, none_after, none_free}
+use Rattle.alt_engine.proofs.Versioning.{after_step, new_log_read, next_read, once_done, once_done_with, one_behind, removed_read, version_read, without_read}
 use Rattle.alt_engine.proofs.engine.Engine.work.Goals as goal
 
 pub returns-in_err-give_up-clause-any_moment : goal.returns-in_err-give_up-clause-any_moment
@@ -354,3 +363,279 @@ returns-in-MergeAll-clause-merge_all g c it = on_ok_both c.merge_all.result
     let m = ok told l at in
     all_merged (g.D.Disk.state c.merge_all.new.disk) live (hand_of c.merge_all.new.self) m.0 m.1.hand
     (merged told)) c.merge_all.ensures.ok c.merge_all.ensures.merged
+
+pub returns-in-Step-clause-given_up : goal.returns-in-Step-clause-given_up
+returns-in-Step-clause-given_up g c = on_ok_weaker c.step.result (λ missing trusted l stands j is dead.
+    let a : DiskState = g.D.Disk.state c.args.disk.now in
+    let b : DiskState = g.D.Disk.state c.give_up.new.disk in
+    let e : Engine = c.args.self.now in
+    let f : Engine = c.give_up.new.self in
+    let live = c.args.live.now in
+    let turned = c.in_ok-give_up.ensures.turned in
+    let same : hand_of f ≡ hand_of e = c.give_up.ensures.hand in
+    let told = trusted_on a b c.give_up.ensures.goes trusted in
+    let at : Stands b f l = c.in_ok-give_up.ensures.ok trusted l stands in
+    let none = none_after a b live e f turned j is dead in
+    missing told l at none (file_of j)
+    (subst (λ (h : Hand). file_of j < next_file_of h) (sym same) (job_below a e j l stands is))
+    (c.in_ok-give_up.ensures.gone trusted j is dead)) c.step.ensures.missing
+
+pub returns-in-Step-clause-next_file : goal.returns-in-Step-clause-next_file
+returns-in-Step-clause-next_file g c = once_done c.step.result
+    (λ ok adds also trusted w has.
+    let given = c.requires.ready trusted in let l = given.0 in let stands = given.1 in
+    let a : DiskState = g.D.Disk.state c.args.disk.now in
+    let b : DiskState = g.D.Disk.state c.give_up.new.disk in
+    let e : Engine = c.args.self.now in
+    let f : Engine = c.give_up.new.self in
+    let live = c.args.live.now in
+    let turned = c.in_ok-give_up.ensures.turned in
+    let same : hand_of f ≡ hand_of e = c.give_up.ensures.hand in
+    let told = trusted_on a b c.give_up.ensures.goes trusted in
+    let at : Stands b f l = c.in_ok-give_up.ensures.ok trusted l stands in
+    let m = ok told l at in
+    next_read (g.D.Disk.state c.step.new.disk) (hand_of f) (hand_of c.step.new.self) m.0 m.1.hand (adds told) w has)
+    c.step.ensures.ok c.step.ensures.adds c.step.ensures.adds
+
+pub returns-in-Step-clause-removed : goal.returns-in-Step-clause-removed
+returns-in-Step-clause-removed g c = once_done c.step.result
+    (λ ok adds also trusted v w has_v has_w.
+    let given = c.requires.ready trusted in let l = given.0 in let stands = given.1 in
+    let a : DiskState = g.D.Disk.state c.args.disk.now in
+    let b : DiskState = g.D.Disk.state c.give_up.new.disk in
+    let e : Engine = c.args.self.now in
+    let f : Engine = c.give_up.new.self in
+    let live = c.args.live.now in
+    let turned = c.in_ok-give_up.ensures.turned in
+    let same : hand_of f ≡ hand_of e = c.give_up.ensures.hand in
+    let told = trusted_on a b c.give_up.ensures.goes trusted in
+    let at : Stands b f l = c.in_ok-give_up.ensures.ok trusted l stands in
+    let m = ok told l at in
+    removed_read a (g.D.Disk.state c.step.new.disk) (hand_of e) (hand_of c.step.new.self) l m.0 stands.hand m.1.hand v w has_v has_w
+    (subst (λ (h : Hand). Adds (g.D.Disk.state c.step.new.disk) h (hand_of c.step.new.self)) same (adds told)))
+    c.step.ensures.ok c.step.ensures.adds c.step.ensures.adds
+
+pub returns-in-FlushAll-clause-given_up : goal.returns-in-FlushAll-clause-given_up
+returns-in-FlushAll-clause-given_up g c = on_ok_weaker c.flush_all.result (λ missing trusted l stands j is dead.
+    let a : DiskState = g.D.Disk.state c.args.disk.now in
+    let b : DiskState = g.D.Disk.state c.give_up.new.disk in
+    let e : Engine = c.args.self.now in
+    let f : Engine = c.give_up.new.self in
+    let live = c.args.live.now in
+    let turned = c.in_ok-give_up.ensures.turned in
+    let same : hand_of f ≡ hand_of e = c.give_up.ensures.hand in
+    let told = trusted_on a b c.give_up.ensures.goes trusted in
+    let at : Stands b f l = c.in_ok-give_up.ensures.ok trusted l stands in
+    let none = none_after a b live e f turned j is dead in
+    missing told l at (file_of j)
+    (subst (λ (h : Hand). file_of j < next_file_of h) (sym same) (job_below a e j l stands is))
+    (c.in_ok-give_up.ensures.gone trusted j is dead)) c.flush_all.ensures.missing
+
+pub returns-in-FlushAll-clause-next_file : goal.returns-in-FlushAll-clause-next_file
+returns-in-FlushAll-clause-next_file g c = once_done c.flush_all.result
+    (λ ok adds also trusted w has.
+    let given = c.requires.ready trusted in let l = given.0 in let stands = given.1 in
+    let a : DiskState = g.D.Disk.state c.args.disk.now in
+    let b : DiskState = g.D.Disk.state c.give_up.new.disk in
+    let e : Engine = c.args.self.now in
+    let f : Engine = c.give_up.new.self in
+    let live = c.args.live.now in
+    let turned = c.in_ok-give_up.ensures.turned in
+    let same : hand_of f ≡ hand_of e = c.give_up.ensures.hand in
+    let told = trusted_on a b c.give_up.ensures.goes trusted in
+    let at : Stands b f l = c.in_ok-give_up.ensures.ok trusted l stands in
+    let m = ok told l at in
+    next_read (g.D.Disk.state c.flush_all.new.disk) (hand_of f) (hand_of c.flush_all.new.self) m.0 m.1.hand (adds told) w has)
+    c.flush_all.ensures.ok c.flush_all.ensures.adds c.flush_all.ensures.adds
+
+pub returns-in-FlushAll-clause-removed : goal.returns-in-FlushAll-clause-removed
+returns-in-FlushAll-clause-removed g c = once_done c.flush_all.result
+    (λ ok adds also trusted v w has_v has_w.
+    let given = c.requires.ready trusted in let l = given.0 in let stands = given.1 in
+    let a : DiskState = g.D.Disk.state c.args.disk.now in
+    let b : DiskState = g.D.Disk.state c.give_up.new.disk in
+    let e : Engine = c.args.self.now in
+    let f : Engine = c.give_up.new.self in
+    let live = c.args.live.now in
+    let turned = c.in_ok-give_up.ensures.turned in
+    let same : hand_of f ≡ hand_of e = c.give_up.ensures.hand in
+    let told = trusted_on a b c.give_up.ensures.goes trusted in
+    let at : Stands b f l = c.in_ok-give_up.ensures.ok trusted l stands in
+    let m = ok told l at in
+    removed_read a (g.D.Disk.state c.flush_all.new.disk) (hand_of e) (hand_of c.flush_all.new.self) l m.0 stands.hand m.1.hand v w has_v has_w
+    (subst (λ (h : Hand). Adds (g.D.Disk.state c.flush_all.new.disk) h (hand_of c.flush_all.new.self)) same (adds told)))
+    c.flush_all.ensures.ok c.flush_all.ensures.adds c.flush_all.ensures.adds
+
+pub returns-in-MergeAll-clause-given_up : goal.returns-in-MergeAll-clause-given_up
+returns-in-MergeAll-clause-given_up g c = on_ok_weaker c.merge_all.result (λ missing trusted l stands j is dead.
+    let a : DiskState = g.D.Disk.state c.args.disk.now in
+    let b : DiskState = g.D.Disk.state c.give_up.new.disk in
+    let e : Engine = c.args.self.now in
+    let f : Engine = c.give_up.new.self in
+    let live = c.args.live.now in
+    let turned = c.in_ok-give_up.ensures.turned in
+    let same : hand_of f ≡ hand_of e = c.give_up.ensures.hand in
+    let told = trusted_on a b c.give_up.ensures.goes trusted in
+    let at : Stands b f l = c.in_ok-give_up.ensures.ok trusted l stands in
+    let none = none_after a b live e f turned j is dead in
+    missing told l at none (file_of j)
+    (subst (λ (h : Hand). file_of j < next_file_of h) (sym same) (job_below a e j l stands is))
+    (c.in_ok-give_up.ensures.gone trusted j is dead)) c.merge_all.ensures.missing
+
+pub returns-in-MergeAll-clause-next_file : goal.returns-in-MergeAll-clause-next_file
+returns-in-MergeAll-clause-next_file g c = once_done c.merge_all.result
+    (λ ok adds also trusted w has.
+    let given = c.requires.ready trusted in let l = given.0 in let stands = given.1 in
+    let a : DiskState = g.D.Disk.state c.args.disk.now in
+    let b : DiskState = g.D.Disk.state c.give_up.new.disk in
+    let e : Engine = c.args.self.now in
+    let f : Engine = c.give_up.new.self in
+    let live = c.args.live.now in
+    let turned = c.in_ok-give_up.ensures.turned in
+    let same : hand_of f ≡ hand_of e = c.give_up.ensures.hand in
+    let told = trusted_on a b c.give_up.ensures.goes trusted in
+    let at : Stands b f l = c.in_ok-give_up.ensures.ok trusted l stands in
+    let m = ok told l at in
+    next_read (g.D.Disk.state c.merge_all.new.disk) (hand_of f) (hand_of c.merge_all.new.self) m.0 m.1.hand (adds told l at) w has)
+    c.merge_all.ensures.ok c.merge_all.ensures.adds c.merge_all.ensures.adds
+
+pub returns-in-MergeAll-clause-removed : goal.returns-in-MergeAll-clause-removed
+returns-in-MergeAll-clause-removed g c = once_done c.merge_all.result
+    (λ ok adds also trusted v w has_v has_w.
+    let given = c.requires.ready trusted in let l = given.0 in let stands = given.1 in
+    let a : DiskState = g.D.Disk.state c.args.disk.now in
+    let b : DiskState = g.D.Disk.state c.give_up.new.disk in
+    let e : Engine = c.args.self.now in
+    let f : Engine = c.give_up.new.self in
+    let live = c.args.live.now in
+    let turned = c.in_ok-give_up.ensures.turned in
+    let same : hand_of f ≡ hand_of e = c.give_up.ensures.hand in
+    let told = trusted_on a b c.give_up.ensures.goes trusted in
+    let at : Stands b f l = c.in_ok-give_up.ensures.ok trusted l stands in
+    let m = ok told l at in
+    removed_read a (g.D.Disk.state c.merge_all.new.disk) (hand_of e) (hand_of c.merge_all.new.self) l m.0 stands.hand m.1.hand v w has_v has_w
+    (subst (λ (h : Hand). Adds (g.D.Disk.state c.merge_all.new.disk) h (hand_of c.merge_all.new.self)) same (adds told l at)))
+    c.merge_all.ensures.ok c.merge_all.ensures.adds c.merge_all.ensures.adds
+
+pub returns-in-Step-clause-version : goal.returns-in-Step-clause-version
+returns-in-Step-clause-version g c = once_done_with c.step.result
+    (λ ok bytes version adds trusted l stands.
+    let a : DiskState = g.D.Disk.state c.args.disk.now in
+    let b : DiskState = g.D.Disk.state c.give_up.new.disk in
+    let e : Engine = c.args.self.now in
+    let f : Engine = c.give_up.new.self in
+    let live = c.args.live.now in
+    let turned = c.in_ok-give_up.ensures.turned in
+    let same : hand_of f ≡ hand_of e = c.give_up.ensures.hand in
+    let told = trusted_on a b c.give_up.ensures.goes trusted in
+    let at : Stands b f l = c.in_ok-give_up.ensures.ok trusted l stands in
+    let m = ok told l at in
+    let d : DiskState = g.D.Disk.state c.step.new.disk in
+    let n : Hand = hand_of c.step.new.self in
+    subst (λ (t : Task). IsAfter t a d live e) (sym c.in-Step.is)
+    (after_step a d live e n l m.0 stands.hand m.1.hand
+    (subst (λ (h : Hand). (length_of n ≡ 0) ⊎ (IsShort h × (length_of n ≡ length_of h))) same bytes)
+    (subst (λ (h : Hand). (IsLong h × AreAllFlushed live h n × IsOverNewLog live h n)
+    ⊎ (IsShort h × LeavesOut live h n)) same (version told l at))
+    (subst (λ (h : Hand). Adds d h n) same (adds told))))
+    c.step.ensures.ok c.step.ensures.length c.step.ensures.version
+    c.step.ensures.adds
+
+pub returns-in-FlushAll-clause-version : goal.returns-in-FlushAll-clause-version
+returns-in-FlushAll-clause-version g c = once_done_with c.flush_all.result
+    (λ ok bytes version adds trusted l stands.
+    let a : DiskState = g.D.Disk.state c.args.disk.now in
+    let b : DiskState = g.D.Disk.state c.give_up.new.disk in
+    let e : Engine = c.args.self.now in
+    let f : Engine = c.give_up.new.self in
+    let live = c.args.live.now in
+    let turned = c.in_ok-give_up.ensures.turned in
+    let same : hand_of f ≡ hand_of e = c.give_up.ensures.hand in
+    let told = trusted_on a b c.give_up.ensures.goes trusted in
+    let at : Stands b f l = c.in_ok-give_up.ensures.ok trusted l stands in
+    let m = ok told l at in
+    let d : DiskState = g.D.Disk.state c.flush_all.new.disk in
+    let n : Hand = hand_of c.flush_all.new.self in
+    let all = subst (λ (h : Hand). AreAllFlushed live h n × IsOverNewLog live h n) same
+    (version told l at) in
+    subst (λ (t : Task). IsAfter t a d live e) (sym c.in-FlushAll.is) (λ v w has_v has_w.
+    new_log_read a d (hand_of e) n l m.0 stands.hand m.1.hand v w has_v has_w live all.0 all.1
+    (subst (λ (h : Hand). Adds d h n) same (adds told)) bytes))
+    c.flush_all.ensures.ok c.flush_all.ensures.length
+    c.flush_all.ensures.new_log c.flush_all.ensures.adds
+
+pub returns-in-MergeAll-clause-version : goal.returns-in-MergeAll-clause-version
+returns-in-MergeAll-clause-version g c = once_done c.merge_all.result
+    (λ ok leaves also trusted l stands.
+    let a : DiskState = g.D.Disk.state c.args.disk.now in
+    let b : DiskState = g.D.Disk.state c.give_up.new.disk in
+    let e : Engine = c.args.self.now in
+    let f : Engine = c.give_up.new.self in
+    let live = c.args.live.now in
+    let turned = c.in_ok-give_up.ensures.turned in
+    let same : hand_of f ≡ hand_of e = c.give_up.ensures.hand in
+    let told = trusted_on a b c.give_up.ensures.goes trusted in
+    let at : Stands b f l = c.in_ok-give_up.ensures.ok trusted l stands in
+    let m = ok told l at in
+    let d : DiskState = g.D.Disk.state c.merge_all.new.disk in
+    let n : Hand = hand_of c.merge_all.new.self in
+    subst (λ (t : Task). IsAfter t a d live e) (sym c.in-MergeAll.is) (λ v w has_v has_w.
+    without_read a d (hand_of e) n l m.0 stands.hand m.1.hand v w has_v has_w live
+    (subst (λ (h : Hand). LeavesOut live h n) same leaves)))
+    c.merge_all.ensures.ok c.merge_all.ensures.leaves_out c.merge_all.ensures.leaves_out
+
+pub returns-in_err-give_up-clause-one_version : goal.returns-in_err-give_up-clause-one_version
+returns-in_err-give_up-clause-one_version g c it trusted v has =
+    let given = c.requires.ready trusted in
+    let a : DiskState = g.D.Disk.state c.args.disk.now in
+    let b : DiskState = g.D.Disk.state c.give_up.new.disk in
+    let e : Engine = c.args.self.now in (
+      v,
+      last_or a b v v (subst (λ (u : Version). Spans a b (λ k. Unit {0}) (HasLast u))
+          (version_read a (hand_of e) given.0 given.1.hand v has)
+          (c.give_up.ensures.last trusted given.0 given.1)),
+    )
+
+pub returns-in-Step-clause-one_version : goal.returns-in-Step-clause-one_version
+returns-in-Step-clause-one_version g c it trusted v has =
+    let given = c.requires.ready trusted in let l = given.0 in let stands = given.1 in
+    let a : DiskState = g.D.Disk.state c.args.disk.now in
+    let b : DiskState = g.D.Disk.state c.give_up.new.disk in
+    let e : Engine = c.args.self.now in
+    let f : Engine = c.give_up.new.self in
+    let live = c.args.live.now in
+    let turned = c.in_ok-give_up.ensures.turned in
+    let same : hand_of f ≡ hand_of e = c.give_up.ensures.hand in
+    let told = trusted_on a b c.give_up.ensures.goes trusted in
+    let at : Stands b f l = c.in_ok-give_up.ensures.ok trusted l stands in
+    let d : DiskState = g.D.Disk.state c.step.new.disk in
+    let later = subst (λ (h : Hand). (w : Version) × Spans b d (λ k. Unit {0}) (HasOneOf (version_in h) w))
+    same (c.step.ensures.one_version told l at) in
+    subst (λ (u : Version). (w : Version) × Spans a d (λ k. Unit {0}) (HasOneOf u w))
+    (version_read a (hand_of e) l stands.hand v has) (
+      later.0,
+      one_behind a b d (hand_of e) later.0 (c.give_up.ensures.last trusted l stands) later.1,
+    )
+
+pub returns-in-MergeAll-clause-memory : goal.returns-in-MergeAll-clause-memory
+returns-in-MergeAll-clause-memory g c it = on_ok_weaker c.merge_all.result (λ memory family lives.
+    memory family lives ∙ ap (λ (h : Hand). memory_at h family) c.give_up.ensures.hand)
+    c.merge_all.ensures.memory
+
+pub returns-in-MergeAll-clause-kept : goal.returns-in-MergeAll-clause-kept
+returns-in-MergeAll-clause-kept g c it = on_ok_weaker c.merge_all.result
+    (λ kept trusted family lives merged apart.
+    let given = c.requires.ready trusted in let l = given.0 in let stands = given.1 in
+    let a : DiskState = g.D.Disk.state c.args.disk.now in
+    let b : DiskState = g.D.Disk.state c.give_up.new.disk in
+    let e : Engine = c.args.self.now in
+    let f : Engine = c.give_up.new.self in
+    let live = c.args.live.now in
+    let turned = c.in_ok-give_up.ensures.turned in
+    let same : hand_of f ≡ hand_of e = c.give_up.ensures.hand in
+    let told = trusted_on a b c.give_up.ensures.goes trusted in
+    let at : Stands b f l = c.in_ok-give_up.ensures.ok trusted l stands in
+    let hand = ap (λ (h : Hand). files_at h family) same in
+    kept told l at family lives (subst (AreMerged b) (sym hand)
+    (merged_on a b (files_at (hand_of e) family) (c.give_up.ensures.still trusted l stands family) merged))
+    (λ j is. apart j (job_back a b live e f turned same j is)) ∙ hand) c.merge_all.ensures.kept

@@ -1,0 +1,99 @@
+-- What a family shows after calls of an engine, beside what the batches alone give.
+use Rattle.std.proofs.Common.{◌≡◌, ◌+◌, ⊎_elim, ℕ, List, [], ◌∷◌, sym, ap, ◌∙◌, arith}
+use Rattle.std.specs.Prelude.{None, option_and_then}
+use Rattle.std.specs.FinMap.{empty, get as row_of, get-empty}
+use Rattle.alt_cells.specs.Joined.{joined_map}
+use Rattle.alt_cells.specs.Keys.{key_cmp}
+use Rattle.alt_cells.specs.Rows.{join_row}
+use Rattle.alt_cells.specs.Shown.{row_shown}
+use Rattle.alt_cells.specs.declared.batch.RowChange.{RowChange}
+use Rattle.alt_layout.specs.Layout.{Layout, IsPast, RowMap, shown}
+use Rattle.alt_layout.specs.Writes.{with_write}
+use Rattle.alt_layout.proofs.MergeLaws.{same_after}
+use Rattle.alt_layout.proofs.PastLaws.{is_past_after}
+use Rattle.alt_layout.proofs.RowLaws.{none_behind}
+use Rattle.alt_writes.specs.Writes.{Write}
+use Rattle.alt_hand.specs.InHand.{batch_write}
+use Rattle.alt_engine.specs.Histories.{Call, HasNone, IsNamed, IsNamedSince, Lead, applied, opened, with_batches, worked}
+
+-- a family without rows shows none
+none_shown : (l : Layout) (family : ℕ) → l.rows family ≡ empty → (key : List ℕ)
+    → shown l family key ≡ None
+none_shown l family none key =
+    ap (λ (rows : RowMap). option_and_then row_shown (row_of rows key)) none
+    ∙ ap (option_and_then row_shown) (get-empty key_cmp key)
+
+-- the same batch is the same write of both
+module _ (l n k : Layout) (family : ℕ) (changes : List RowChange) (past_l : IsPast l)
+    (past_n : IsPast n) (next : n.next_number ≡ l.next_number)
+    (is : k ≡ with_write l (batch_write l changes)) where
+  abbrev more : Layout
+  more = with_write n (batch_write n changes)
+
+  same_write : batch_write n changes ≡ batch_write l changes
+  same_write = ap (λ number. record { number = number; changes = changes }) next
+
+  past_more : IsPast more
+  past_more = is_past_after n (batch_write n changes) past_n (omega arith)
+
+  next_more : more.next_number ≡ k.next_number
+  next_more = ap (λ number. number + 1) next ∙ sym (ap (λ (m : Layout). m.next_number) is)
+
+  shows_more : ((key : List ℕ) → shown l family key ≡ shown n family key) → (key : List ℕ)
+      → shown k family key ≡ shown more family key
+  shows_more same key = ap (λ (m : Layout). shown m family key) is
+      ∙ same_after l n (batch_write l changes) past_l past_n (omega arith) (omega (arith, next)) family
+      key (same key)
+      ∙ ap (λ (w : Write). shown (with_write n w) family key) (sym same_write)
+
+-- Where each call of work names the family it goes on as the batches alone do.
+shows_named : (cs : List Call) (l n m : Layout) (family : ℕ) → IsPast l → IsPast n
+    → n.next_number ≡ l.next_number
+    → ((key : List ℕ) → shown l family key ≡ shown n family key) → Lead cs l m
+    → IsNamed family cs → (key : List ℕ) → shown m family key ≡ shown (with_batches cs n) family key
+shows_named [] l n m family past_l past_n next same lead named key =
+    ap (λ (k : Layout). shown k family key) lead ∙ same key
+shows_named (applied changes ∷ cs) l n m family past_l past_n next same lead named key =
+    shows_named cs lead.0 (with_write n (batch_write n changes)) m family lead.2
+    (past_more l n lead.0 family changes past_l past_n next lead.1)
+    (next_more l n lead.0 family changes past_l past_n next lead.1)
+    (shows_more l n lead.0 family changes past_l past_n next lead.1 same) lead.3 named key
+shows_named (worked live ∷ cs) l n m family past_l past_n next same lead named key =
+    shows_named cs lead.0 n m family lead.2 past_n (next ∙ sym lead.1.number)
+    (λ k. lead.1.lives family named.0 k ∙ same k) lead.3 named.1 key
+shows_named (opened ∷ cs) l n m family past_l past_n next same lead named key =
+    shows_named cs lead.0 n m family lead.2 past_n
+    (next ∙ sym (ap (λ (k : Layout). k.next_number) lead.1))
+    (λ k. ap (λ (o : Layout). shown o family k) lead.1 ∙ same k) lead.3 named key
+
+-- And so it does where they name it since its first row: before that it shows none.
+pub shows_since : (cs : List Call) (l n m : Layout) (family : ℕ) → IsPast l → IsPast n
+    → n.next_number ≡ l.next_number
+    → ((key : List ℕ) → shown l family key ≡ shown n family key) → n.rows family ≡ empty
+    → Lead cs l m → IsNamedSince family cs → (key : List ℕ)
+    → shown m family key ≡ shown (with_batches cs n) family key
+shows_since [] l n m family past_l past_n next same none lead named key =
+    ap (λ (k : Layout). shown k family key) lead ∙ same key
+shows_since (applied changes ∷ cs) l n m family past_l past_n next same none lead named key = ⊎_elim
+    (λ (before : HasNone family changes × IsNamedSince family cs).
+    shows_since cs lead.0 (with_write n (batch_write n changes)) m family lead.2
+    (past_more l n lead.0 family changes past_l past_n next lead.1)
+    (next_more l n lead.0 family changes past_l past_n next lead.1)
+    (shows_more l n lead.0 family changes past_l past_n next lead.1 same)
+    (ap (joined_map join_row (n.rows family)) (before.0 n.next_number) ∙ none_behind (n.rows family)
+    ∙ none) lead.3 before.1 key)
+    (λ (since : IsNamed family cs).
+    shows_named cs lead.0 (with_write n (batch_write n changes)) m family lead.2
+    (past_more l n lead.0 family changes past_l past_n next lead.1)
+    (next_more l n lead.0 family changes past_l past_n next lead.1)
+    (shows_more l n lead.0 family changes past_l past_n next lead.1 same) lead.3 since key) named
+shows_since (worked live ∷ cs) l n m family past_l past_n next same none lead named key =
+    shows_since cs lead.0 n m family lead.2 past_n (next ∙ sym lead.1.number)
+    (λ k. ⊎_elim
+    (λ (stays : (k : List ℕ) → shown lead.0 family k ≡ shown l family k). stays k ∙ same k)
+    (λ (gone : (k : List ℕ) → shown lead.0 family k ≡ None). gone k ∙ sym (none_shown n family none k))
+    (lead.1.others family)) none lead.3 named key
+shows_since (opened ∷ cs) l n m family past_l past_n next same none lead named key =
+    shows_since cs lead.0 n m family lead.2 past_n
+    (next ∙ sym (ap (λ (k : Layout). k.next_number) lead.1))
+    (λ k. ap (λ (o : Layout). shown o family k) lead.1 ∙ same k) none lead.3 named key

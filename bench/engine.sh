@@ -71,25 +71,27 @@ for name in small files; do
   done
 done
 if command -v valgrind >/dev/null 2>&1; then
-  counted() { # STORE FLUSH LINES: the instructions of a run
-    valgrind --tool=callgrind --callgrind-out-file=/dev/null "$program" "$work/$1" 0 replay "$2" 4 <"$3" 2>&1 >/dev/null | awk '/Collected/ { print $4 }'
+  counted() { # STORE FLUSH MERGE LINES: the instructions of a run
+    valgrind --tool=callgrind --callgrind-out-file=/dev/null "$program" "$work/$1" 0 replay "$2" "$3" <"$4" 2>&1 >/dev/null | awk '/Collected/ { print $4 }'
   }
   head -n 20000 "$work/puts" >"$work/lines"
   gets 1000 20000 >"$work/gets"
   queries 100 20000 >"$work/queries"
-  for kind in "memory $never" "files 1048576"; do
-    read -r name limit <<<"$kind"
+  # All in memory; all of it in one file; in a file for each MiB that was written; and in as few as merges leave.
+  for kind in "memory $never 4" "one $never 4" "twelve 1048576 64" "merged 1048576 4"; do
+    read -r name limit merge <<<"$kind"
     made "$name"
-    none=$(counted "$name" "$limit" "$work/none")
-    spent=$(counted "$name" "$limit" "$work/lines")
-    echo "20,000 puts, rows to $name: $(((spent - none) / 20000)) instructions each; $(find "$work/$name" -name '*.alt' | wc -l) files behind them"
-    [ "$name" = memory ] || replayed "$name" "$limit" "$work/flush"
-    none=$(counted "$name" "$never" "$work/none")
-    echo "opening it: $((none / 20000)) instructions an item"
+    none=$(counted "$name" "$limit" "$merge" "$work/none")
+    spent=$(counted "$name" "$limit" "$merge" "$work/lines")
+    [ "$name" = memory ] || "$program" "$work/$name" 0 replay "$limit" 64 <"$work/flush" >/dev/null
+    [ "$name" = one ] || echo "20,000 puts, $name: $(((spent - none) / 20000)) instructions each"
+    echo "$name: $(find "$work/$name" -name '*.alt' | wc -l) files"
+    none=$(counted "$name" "$never" 64 "$work/none")
+    echo "opening, $name: $((none / 20000)) instructions an item"
     for what in "gets 1000" "queries 100"; do
       read -r lines count <<<"$what"
-      spent=$(counted "$name" "$never" "$work/$lines")
-      echo "$lines over it: $(((spent - none) / count)) instructions each"
+      spent=$(counted "$name" "$never" 64 "$work/$lines")
+      echo "$lines, $name: $(((spent - none) / count)) instructions each"
     done
   done
 fi

@@ -1,8 +1,8 @@
 -- Reading a `Value` reads its data.
-use Rattle.std.proofs.Common.{◌≡◌, ℕ, List, Some, None, refl, ap, ◌∙◌, true, false, cond}
+use Rattle.std.proofs.Common.{◌≡◌, ℕ, List, Some, None, ap, ◌∙◌, cond}
 use Rattle.std.specs.Prelude.{option_and_then}
 use Rattle.std.specs.Str.{is_utf8, IsUtf8}
-use Rattle.std.proofs.lemmas.Str.{IsUtf8-from_is_utf8, is_utf8-from_IsUtf8}
+use Rattle.std.proofs.lemmas.Str.{is_utf8-from_IsUtf8}
 use Rattle.serde_json.specs.Data.{Data}
 use Rattle.serde_json.specs.Find.{as_object}
 use Rattle.serde_json.specs.Read.{read}
@@ -14,12 +14,3 @@ pub body_of_read : (bytes : List ℕ) (d : Data) → IsUtf8 bytes → read bytes
 body_of_read bytes d valid reads =
     ap (λ b. cond b (option_and_then as_object (read bytes)) None) (is_utf8-from_IsUtf8 bytes valid)
     ∙ ap (option_and_then as_object) reads
-
--- bytes that are no text, or no JSON
-pub body_of_none : (bytes : List ℕ) → (IsUtf8 bytes → read bytes ≡ None) → body_of bytes ≡ None
-body_of_none bytes fails =
-    elim (is_utf8 bytes) as (λ b. is_utf8 bytes ≡ b
-    → cond b (option_and_then as_object (read bytes)) None ≡ None) [
-      | true ↦ λ e. ap (option_and_then as_object) (fails (IsUtf8-from_is_utf8 bytes e))
-      | false ↦ λ e. refl
-    ] refl

@@ -22,10 +22,9 @@ ghost use Rattle.alt_tables.specs.Images.{Leaves};
 ghost use Rattle.alt_tables.specs.Stands.{AreReady, Reads, Stands, limits_of};
 ghost use Rattle.alt_shape.specs.Body.{body_json};
 
-use crate::bodies;
 use alt_disk::Disk;
 use alt_machine::Operation;
-use alt_members::heeded;
+use alt_members::{heeded, read_heeded};
 use alt_ops_batch::{batch_get_item, batch_write_item};
 use alt_ops_item::{delete_item, get_item, put_item, put_item_ahead, update_item};
 use alt_ops_query::{query, scan};
@@ -185,7 +184,7 @@ fn respond_to_put<D: Disk>(
     }
 }
 
-/// An operation whose body is read to a JSON tree.
+/// An operation of whose body the members that it heeds are read to JSON trees.
 fn respond_to<D: Disk>(
     alloc: Global,
     tables: &mut Tables,
@@ -202,7 +201,7 @@ fn respond_to<D: Disk>(
         (Stands (D.state disk.old) tables.old) (D.state disk.old) (D.state disk.new) result }
     ensures reads { IsTrue (is_read operation) → Reads (D.state disk.old) (D.state disk.new) }
 {
-    match bodies::body_of(alloc, body) {
+    match read_heeded(alloc, operation, body) {
         Ok(Some(members)) => carry_out(alloc, tables, disk, operation, &members, moment),
         Ok(None) => Err(Stop::Refused(Refusal::UNREADABLE)),
         Err(_) => Err(Stop::Fault(TableFault::NoMemory)),

@@ -2,7 +2,6 @@
 #![tactic(auto)]
 
 mod answers;
-mod bodies;
 mod targets;
 
 pub use answers::{answer, operation_named};

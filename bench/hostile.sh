@@ -3,6 +3,7 @@
 # bytes of the request. The cases are the table at the end: a line each, of its name and what prints its lines. Over the built program,
 # on a new store each. Not part of the gate.
 # Usage: bench/hostile.sh [WORD], only the cases whose names have the word. BYTES=N: of the long values and names, 4000000 by default.
+# PROGRAM=path: of another program than the built one.
 set -eu
 cd "$(dirname "$0")/.."
 bytes=${BYTES:-4000000}
@@ -12,22 +13,23 @@ mkdir -p "$out"
 program=${PROGRAM:-crates/alternator/out/alternator}
 [ -n "${PROGRAM:-}" ] || ./alternator . 0 >/dev/null 2>&1 || true
 create='CreateTable {"TableName":"Tab","KeySchema":[{"AttributeName":"k","KeyType":"HASH"}],"AttributeDefinitions":[{"AttributeName":"k","AttributeType":"S"}]}'
-# measured NAME LINES..: runs the lines that the command LINES prints, and tells of the last
+# measured NAME LINES..: runs the lines that the command LINES prints, with FLUSH where the variable flush says so, and tells of the last
 measured() {
   local name=$1
   shift
   case $name in *"$only"*) ;; *) return 0 ;; esac
   rm -rf "$out/store" && "$program" "$out/store" 0 init >/dev/null
   "$@" >"$out/hostile.lines"
-  /usr/bin/time -f '%U %S %M' -o "$out/hostile.cost" "$program" "$out/store" 0 replay 67108864 4 <"$out/hostile.lines" >"$out/hostile.replies"
+  /usr/bin/time -f '%U %S %M' -o "$out/hostile.cost" "$program" "$out/store" 0 replay "${flush:-67108864}" 4 <"$out/hostile.lines" >"$out/hostile.replies"
   awk -v name="$name" -v given="$(wc -c <"$out/hostile.lines")" -v reply="$(tail -n 1 "$out/hostile.replies" | cut -c 1-80)" '
     { printf "%s: %d bytes, %.2f s, %.2f s a MB, %d KB at most, %.1f times the bytes; %s\n", name, given, $1 + $2, ($1 + $2) * 1e6 / given, $3, $3 * 1024 / given, reply }' "$out/hostile.cost"
 }
 
 # ---- lines
 
-# a text of BYTES bytes
-long() { head -c "$bytes" /dev/zero | tr '\0' x; }
+# repeated PATTERN [BYTES]: a text of so many bytes that repeats that; long: of x alone
+repeated() { yes "$1" 2>/dev/null | tr -d '\n' | head -c "${2:-$bytes}"; }
+long() { repeated x; }
 # pieces COUNT FORMAT BETWEEN: so many pieces of a text, each with its number in the place of %03d or %d
 pieces() { seq 0 $(($1 - 1)) | awk -v format="$2" -v between="$3" '{ printf "%s" format, (NR > 1 ? between : ""), $1 }'; }
 # what is given, by its one word
@@ -70,6 +72,25 @@ paths() {
 filtered() {
   small "$1"
   printf 'Scan {"TableName":"Tab","FilterExpression":"%s","ExpressionAttributeValues":{":v":{"S":"%s"},":w":{"S":"%s"}}}\n' "$2" "$(long)" "$(long)"
+}
+# sought NEEDLE VALUE: a scan of 20 items with that attribute, by a filter that seeks it 200 times in a value that the command VALUE prints
+sought() {
+  printf '%s\n' "$create"
+  seq 20 | awk -v needle="$1" '{ printf "PutItem {\"TableName\":\"Tab\",\"Item\":{\"k\":{\"S\":\"%02d\"},\"a\":%s}}\n", $1, needle }'
+  printf 'Scan {"TableName":"Tab","FilterExpression":"%s","ExpressionAttributeValues":{":v":%s}}\n' "$(pieces 200 'contains(:v,a)' ' OR ')" "$("$2")"
+}
+letters() { printf '{"S":"%s"}' "$(repeated ab)"; }
+numbers() { printf '{"L":[%s{"N":"2"}]}' "$(repeated '{"N":"1"},' $((bytes / 10 * 10)))"; }
+# dropped COUNT: so many tables of 8 MB, each of which is dropped, and the store opened anew
+dropped() {
+  local text
+  text=$(repeated x 390000)
+  for _ in $(seq "$1"); do
+    printf '%s\n' "$create"
+    for item in $(seq 20); do printf 'PutItem {"TableName":"Tab","Item":{"k":{"S":"%d"},"a":{"S":"%s"}}}\n' "$item" "$text"; done
+    echo 'DeleteTable {"TableName":"Tab"}'
+  done
+  printf '@reopen\nListTables {}\n'
 }
 # put ORDER COUNT: an item with so many attributes; within ORDER COUNT: one with a map of so many
 put() { printf '%s\nPutItem {"TableName":"Tab","Item":{"k":{"S":"a"},%s}}\n' "$create" "$(attributes "$1" "$2")"; }
@@ -143,5 +164,9 @@ measured "a scan of 30,000 small items, 800 paths in a map" scanned 30000 "\"Pro
 measured "a filter of one comparison of two values, 20 items" filtered 20 ":v=:w"
 measured "a filter of 370 comparisons of two values, 20 items" filtered 20 "$(pieces 370 ':v=:w' ' AND ')"
 measured "a filter of 370 comparisons of two values, 2,000 items" filtered 2000 "$(pieces 370 ':v=:w' ' AND ')"
-measured "a filter that seeks each key 200 times in a value, 20 items" filtered 20 "$(pieces 200 'contains(:v,k)' ' OR ')"
+measured "a filter that seeks six letters 200 times in a value, 20 items" sought '{"S":"000001"}' plain
+measured "a filter that seeks 401 letters 200 times in a value that all but has them, 20 items" sought "{\"S\":\"$(repeated ab 400)b\"}" letters
+measured "a filter that seeks a number 200 times in a list, 20 items" sought '{"N":"3"}' numbers
+flush=1048576 measured "10 tables of 8 MB that are dropped, FLUSH 1 MiB" dropped 10
+flush=1073741824 measured "10 tables of 8 MB that are dropped, none flushed" dropped 10
 rm -rf "$out/store"

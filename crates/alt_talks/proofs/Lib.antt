@@ -1,6 +1,5 @@
 pub mod Breaking
 pub mod Answering
-pub mod Arriving
 pub mod Fronts
 pub mod Hanging
 pub mod Passing

@@ -1,4 +1,3 @@
-pub mod Arrivals
 pub mod Connections
 pub mod Faults
 pub mod Runs

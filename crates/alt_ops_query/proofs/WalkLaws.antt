@@ -89,7 +89,7 @@ walk_starts a now ask t i forward range h = record {
   place = None;
   beyond = λ key. (λ within. (within, refl), λ both. both.0);
   paid = λ maps has. le-add_right a.reads
-      (paid_for (is_behind forward range.from range.to None) maps (length []));
+      (paid_for (is_behind forward range.from range.to None) maps 0);
 }
 
 -- what two steps pay is what both pay together

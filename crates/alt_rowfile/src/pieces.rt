@@ -8,10 +8,7 @@ ghost use Rattle.alt_disk.specs.Runs.{Quiet};
 ghost use Rattle.alt_rowfile.specs.Reading.{ReadIs, ReadsOnce};
 
 use alt_disk::{Disk, DiskFault, Failed};
-use std::alloc::{AllocError, Global};
-
-// About a block's length.
-static ZEROS: [u8; 8192] = [0; 8192];
+use std::alloc::Global;
 
 /// Fills a buffer with the bytes from a place on. False where the file ends earlier.
 pub(crate) fn fill<D: Disk>(disk: &mut D, f: u32, at: u64, buf: &mut [u8]) -> Result<bool, Failed>
@@ -56,24 +53,13 @@ pub(crate) fn bytes_at<D: Disk>(
     ensures one { ReadsOnce (D.state disk.old) (D.state disk.new) f at count }
     ensures reads { (D.state disk.new).reads ≤ (D.state disk.old).reads + 1 }
 {
-    let mut bytes = room(alloc, count)?;
+    let mut bytes = Vec::new(alloc);
+    bytes.resize(count, 0)?;
     if fill(disk, f, at, bytes.as_mut_slice())? {
         Ok(Some(bytes))
     } else {
         Ok(None)
     }
-}
-
-// So many bytes to be read over. They are copied, which takes a processor less time than setting one by one.
-fn room(alloc: Global, count: usize) -> Result<Vec<u8>, AllocError>
-    ensures { IfOk result (λ bytes. length bytes.items ≡ count) }
-{
-    let mut bytes = Vec::with_capacity(alloc, count)?;
-    'copies: while bytes.len() < count {
-        let more = ZEROS.len().min(count - bytes.len());
-        bytes.extend_from_slice(&ZEROS[..more])?;
-    }
-    Ok(bytes)
 }
 
 /// The number that eight bytes spell.

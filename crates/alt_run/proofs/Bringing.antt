@@ -13,13 +13,14 @@ use Rattle.alt_tables.specs.Merged.{IsMergedFor}
 use Rattle.alt_talks.specs.Works.{HasFewEntries, HasMergedFiles, HasNoEntries}
 use Rattle.alt_run.specs.declared.words.Job.{Job}
 use Rattle.alt_run.specs.declared.words.Job.TheVariants.{Replay, Serve, Trial}
-use Rattle.alt_run.specs.Behind.{AfterJob, SaysSummary, LastLine, last_of, AreReadable, Behind, Brings, BringsAtHand, BringsSome, BringsRest}
+use Rattle.alt_run.specs.Behind.{AfterJob, ComesWithin, SaysSummary, LastLine, last_of, AreReadable, Behind, Brings, BringsAtHand, BringsSome, BringsRest}
 use Rattle.alt_run.specs.Endings.{IsReadable}
 use Rattle.alt_run.specs.Runs.{HandsOut, asked_now, asked_later}
 use Rattle.alt_run.specs.Turns.{Asked, request, control, unread, asks}
 use Rattle.alt_run.specs.declared.lines.Control.TheVariants.{Flush, Merge, Step, Reopen}
 use Rattle.alt_talks.specs.declared.fault.RunFault.{RunFault}
 use Rattle.alt_run.proofs.Pulling.{fresh, took_is_no_end, given_later, ended_now}
+use Rattle.alt_talks.proofs.Arriving.{all_behind, all_before, most_behind, most_before, most_silent}
 use Rattle.alt_talks.proofs.Stretching.{taken-append, ended-append}
 use Rattle.alt_run.proofs.Serving.{rests_then}
 
@@ -308,7 +309,8 @@ both_ok P Q (Err e) p q = tt
 pub after_opened : (flush : ℕ) (job : Job) (a b c : DiskState) → Goes a b → AfterJob job flush b c
     → AfterJob job flush a c
 after_opened flush Replay a b c goes h = last_opened flush a b c goes h
-after_opened flush (Serve per connections) a b c goes h = h
+after_opened flush (Serve per connections) a b c goes h =
+    all_behind connections a b c (silent_of a b goes) h
 after_opened flush (Trial seed count) a b c goes h = (h.0, summary_opened count a b c goes h.1)
 
 -- however it ended
@@ -322,6 +324,30 @@ opened_after flush job a b c goes (Err fault) h = tt
 pub after_noted : (flush : ℕ) (job : Job) (a b c : DiskState) → Grows b.beside c.beside []
     → Keeps b c → AfterJob job flush a b → AfterJob job flush a c
 after_noted flush Replay a b c quiet keeps h = last_noted flush a b c quiet keeps h
-after_noted flush (Serve per connections) a b c quiet keeps h = h
+after_noted flush (Serve per connections) a b c quiet keeps h =
+    all_before connections a b c h quiet
 after_noted flush (Trial seed count) a b c quiet keeps h =
     (few_kept flush b c keeps h.0, summary_noted count a b c quiet h.1)
+
+-- ---- how many connections came
+
+-- none by calls of the disk alone
+pub within_opening : (job : Job) (a b : DiskState) → Goes a b → ComesWithin job a b
+within_opening Replay a b goes = tt
+within_opening (Serve per connections) a b goes = most_silent connections a b (silent_of a b goes)
+within_opening (Trial seed count) a b goes = tt
+
+-- behind an opening
+pub within_opened : (job : Job) (a b c : DiskState) → Goes a b → ComesWithin job b c
+    → ComesWithin job a c
+within_opened Replay a b c goes h = tt
+within_opened (Serve per connections) a b c goes h =
+    most_behind connections a b c (silent_of a b goes) h
+within_opened (Trial seed count) a b c goes h = tt
+
+-- and before a note
+pub within_noted : (job : Job) (a b c : DiskState) → Grows b.beside c.beside []
+    → ComesWithin job a b → ComesWithin job a c
+within_noted Replay a b c quiet h = tt
+within_noted (Serve per connections) a b c quiet h = most_before connections a b c h quiet
+within_noted (Trial seed count) a b c quiet h = tt

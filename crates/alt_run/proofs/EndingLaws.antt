@@ -212,7 +212,6 @@ module _ (b c : DiskState) (g : Grows b.beside c.beside [])
     inside = x.inside;
     said = x.said;
     count = x.count;
-    every = x.every;
     enough = x.enough;
     leaves = leaves-before-aside a b c (LeftThen s es ms) aside x.leaves;
     last = last_behind (after s (turns s (asks true (taken es)) ms)) x.last;

@@ -12,7 +12,7 @@ use Rattle.alt_shell.proofs.Keeping.{keeps-none}
 use Rattle.alt_shell.specs.Log.{Log, Grows, Tells, moments_of, until, entry, told_count, event_of, took, take_failed, takes_failed, takes_missed, is_end, taken, said_in, ended, crosses}
 use Rattle.alt_tables.specs.Stands.{Stands}
 use Rattle.alt_tables.specs.declared.tables.Tables.{Tables}
-use Rattle.alt_talks.specs.Turns.{answered, Turn, text_of, after}
+use Rattle.alt_talks.specs.Turns.{Turn, text_of, after}
 use Rattle.alt_talks.specs.Runs.{OfStretch, Stretch, Leads}
 use Rattle.alt_run.specs.Runs.{Rests, Serves, Breaks, ServesAtHand, BreaksAtHand, HandsOut, Goes, Ends, GoesOrEnds, GoesSome, LeftBy, Answers, AnswersSome, asked_now, asked_later, LeftAtHand}
 use Rattle.alt_talks.specs.Stops.{Image, IsLeft, AtEach, AreWithin}
@@ -26,7 +26,7 @@ use Rattle.alt_run.specs.Turns.{Asked, turns, asks, asked_of, longest_line}
 use Rattle.alt_shell.proofs.Telling.{Grows-then, Tells-nil}
 use Rattle.alt_talks.proofs.Stretching.{said_in-append, taken-append, ended-append, stretch_none, stretch_then}
 use Rattle.alt_run.proofs.Serving.{breaks_same, turns_both, serves_none, serves_then, serves_break, breaks_none}
-use Rattle.alt_talks.proofs.TurnLaws.{text_of-append, answered-all}
+use Rattle.alt_talks.proofs.TurnLaws.{text_of-append}
 use Rattle.alt_talks.proofs.TalkLogs.{crosses-append}
 use Rattle.alt_talks.specs.TalkStops.{LeavesNow}
 
@@ -519,8 +519,6 @@ answers_all a b s t es ms x last = record {
   inside = x.inside;
   said = x.serves.said;
   count = x.serves.count;
-  every = ap (answered (turns s (asks true (taken es)) ms)) x.serves.said
-      ∙ answered-all (turns s (asks true (taken es)) ms);
   enough = x.serves.enough;
   leaves = x.leaves;
   last = subst (LeavesNow b) x.serves.state last;

@@ -1,8 +1,9 @@
--- What the last line of an input promises of the disk from then on, and what a trial does.
+-- What the last line of an input promises of the disk from then on, what a trial does, and how many connections come.
 use Rattle.std.specs.Prelude.{◌≡◌, ℕ, List, [], ◌∷◌, ◌++◌, Bool, true, false, IsTrue, Option, Some, None, ⊤}
 use Rattle.alt_disk.specs.Disk.{DiskState}
 use Rattle.alt_lines.specs.Unread.{Unread}
 use Rattle.alt_shell.specs.Log.{Log, Grows, taken, said_in, ended}
+use Rattle.alt_talks.specs.Arrivals.{CameAll, CameAtMost}
 use Rattle.alt_talks.specs.Works.{HasFewEntries, HasMergedFiles, HasNoEntries}
 use Rattle.alt_run.specs.Endings.{IsReadable}
 use Rattle.alt_run.specs.Runs.{Rests, asked_later}
@@ -53,11 +54,17 @@ pub record SaysSummary (count : ℕ) (old new : DiskState) : Type 0 where
   pub said : said_in entries ≡ text
   pub rests : Rests entries
 
--- what is so of the disk behind a job that ended whole, and what was said, whatever disk it is
+-- what is so of the disk behind a job that ended whole; what was said, and how many connections came, whatever disk it is
 abbrev pub AfterJob : Job → ℕ → DiskState → DiskState → Type 0
 AfterJob Replay flush old new = LastLine flush old new
-AfterJob (Serve per connections) flush old new = ⊤
+AfterJob (Serve per connections) flush old new = CameAll connections old new
 AfterJob (Trial seed count) flush old new = HasFewEntries flush new × SaysSummary count old new
+
+-- A serve was told of no more connections than it was to serve, however it ended and whatever disk it is.
+abbrev pub ComesWithin : Job → DiskState → DiskState → Type 0
+ComesWithin Replay old new = ⊤
+ComesWithin (Serve per connections) old new = CameAtMost connections old new
+ComesWithin (Trial seed count) old new = ⊤
 
 -- ---- the parts of a replay
 

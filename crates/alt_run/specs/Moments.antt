@@ -1,9 +1,6 @@
--- What was said and taken up to a moment of a run, and which turns were answered by then.
+-- What was said and taken up to a moment of a run.
 use Rattle.std.specs.Prelude.{ℕ, List, Bool}
-use Rattle.alt_machine.specs.State.{State}
 use Rattle.alt_shell.specs.Log.{Log, until, said_in, taken, ended}
-use Rattle.alt_talks.specs.Turns.{Turn, answered}
-use Rattle.alt_run.specs.Turns.{turns, asks}
 
 -- the bytes said by a moment, of the entries that a run added
 abbrev pub said_by : ℕ → Log → List ℕ

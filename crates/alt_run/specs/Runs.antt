@@ -9,7 +9,7 @@ use Rattle.alt_opening.specs.Recovery.{WasLeft}
 use Rattle.alt_tables.specs.Images.{StandsFor}
 use Rattle.alt_talks.specs.Faults.{IsCausedBy, IsWorkFault}
 use Rattle.alt_talks.specs.declared.fault.RunFault.{RunFault}
-use Rattle.alt_talks.specs.Turns.{answered, text_of, after, wanted}
+use Rattle.alt_talks.specs.Turns.{text_of, after, wanted}
 use Rattle.alt_run.specs.Moments.{said_by, taken_by, ended_by}
 use Rattle.alt_talks.specs.Stops.{Image, IsLeft, AtEach}
 use Rattle.alt_run.specs.Turns.{Asked, request, control, unread, turns, requests, asks, asked_of, out}
@@ -163,8 +163,6 @@ pub record Answers (s : State) (old new : DiskState) (entries : Log)
   pub inside : crosses entries ≡ false
   pub said : said_in entries ≡ out s true (taken entries) told
   pub count : length told ≡ requests (asks true (taken entries))
-  pub every : answered (turns s (asks true (taken entries)) told) (said_in entries)
-      ≡ turns s (asks true (taken entries)) told
   pub enough : wanted (turns s (asks true (taken entries)) told) ≡ None
   pub leaves : AtEach old new (LeftThen s entries told)
   pub last : LeavesNow new (after s (turns s (asks true (taken entries)) told))

@@ -9,7 +9,8 @@ ghost use Rattle.alt_shell.specs.Log.{talks};
 ghost use Rattle.alt_tables.specs.Stands.{AreReady, Stands, limits_of};
 ghost use Rattle.alt_run.specs.Endings.{Ended, HasDone, HasRun, Done, Broken, IsReadable, LacksNumber};
 ghost use Rattle.alt_run.specs.Faults.{IsUnreadable};
-ghost use Rattle.alt_run.specs.Behind.{AfterJob, LastLine};
+ghost use Rattle.alt_run.specs.Behind.{AfterJob, ComesWithin, LastLine};
+ghost use Rattle.alt_talks.specs.Arrivals.{CameAll, CameAtMost};
 ghost use Rattle.alt_talks.specs.Runs.{Stretch, Passes};
 ghost use Rattle.alt_run.specs.Runs.{Answers, AnswersSome, IsOpening, Opened};
 ghost use Rattle.alt_talks.specs.TalkRules.{rules};
@@ -118,6 +119,8 @@ fn serve<S: Shell>(
         (λ a b es ms. (t : State) × ServedOn rules per count s t a b es ms × LeavesNow b t))
         (λ f. Stretch (S.state shell.old) (S.state shell.new)
         (ServedSomeOn rules per count f s)) }
+    ensures came { OnOk result (CameAll count (S.state shell.old) (S.state shell.new)) }
+    ensures most { CameAtMost count (S.state shell.old) (S.state shell.new) }
     ensures cause { IsErrOf result RunFault.Failed
         → Rose (S.state shell.old).faults (S.state shell.new).faults }
     ensures passes { Passes (S.state shell.old) (S.state shell.new) }
@@ -145,6 +148,7 @@ fn carry_out<S: Shell>(
         (λ f. Broken f job s (S.state shell.old) (S.state shell.new)) }
     ensures after { OnOk result (AfterJob job limits.flush (S.state shell.old)
         (S.state shell.new)) }
+    ensures most { ComesWithin job (S.state shell.old) (S.state shell.new) }
     ensures cause { IsErrOf result RunFault.Failed
         → Rose (S.state shell.old).faults (S.state shell.new).faults }
     ensures passes { Passes (S.state shell.old) (S.state shell.new) }
@@ -177,6 +181,7 @@ fn over_store<S: Shell>(
         ⊎ IsReadable (S.state shell.old).file) }
     ensures after { OnOk result (AfterJob job limits.flush (S.state shell.old)
         (S.state shell.new)) }
+    ensures most { ComesWithin job (S.state shell.old) (S.state shell.new) }
     ensures cause { IsErrOf result RunFault.Failed
         → Rose (S.state shell.old).faults (S.state shell.new).faults }
     ensures passes { Passes (S.state shell.old) (S.state shell.new) }
@@ -199,6 +204,7 @@ fn finished<S: Shell>(alloc: Global, job: Job, limits: Limits, shell: &mut S) ->
     ensures done { HasRun job result (S.state shell.old) (S.state shell.new) }
     ensures after { result ≡ Whole
         → AfterJob job limits.flush (S.state shell.old) (S.state shell.new) }
+    ensures most { ComesWithin job (S.state shell.old) (S.state shell.new) }
     ensures passes { Passes (S.state shell.old) (S.state shell.new) }
 {
     match over_store(alloc, job, limits, shell) {
@@ -225,6 +231,9 @@ fn ended<S: Shell>(alloc: Global, words: &[String], shell: &mut S) -> Ending
     ensures after { (job : RunJob) (limits : EngineLimits)
         → command_of (bytes_of words.now) ≡ Some (Over job limits) → result ≡ Whole
         → AfterJob job limits.flush (S.state shell.old) (S.state shell.new) }
+    ensures most { (job : RunJob) (limits : EngineLimits)
+        → command_of (bytes_of words.now) ≡ Some (Over job limits)
+        → ComesWithin job (S.state shell.old) (S.state shell.new) }
     ensures passes { Passes (S.state shell.old) (S.state shell.new) }
 {
     match command_of(words) {
@@ -269,11 +278,17 @@ pub fn run<S: Shell>(alloc: Global, words: &[String], shell: &mut S) -> u8
     // Where a replay ended with 0 the disk is as its last line promises. Behind `@flush` the segments that the last version names have
     // no entries, and behind a request or `@step` these are shorter than 16 times FLUSH, as they are behind a trial. Behind `@merge`
     // each live family has one row file at most, without tombstones and hidden cells. Behind `@reopen` the files stand for a state, as
-    // they read on any disk that tells them, also on one that changed them by itself: they were read again. And a trial that ended with 0
-    // said its four lines whole, whatever disk it is.
+    // they read on any disk that tells them, also on one that changed them by itself: they were read again. A trial that ended with 0
+    // said its four lines whole, and a serve was told of as many connections as it was to serve, or that none will come, whatever disk
+    // it is.
     ensures after { (job : RunJob) (limits : EngineLimits)
         → command_of (bytes_of words.now) ≡ Some (Over job limits) → result ≡ 0
         → AfterJob job limits.flush (S.state shell.old) (S.state shell.new) }
+
+    // However a serve ended, and whatever disk it is, it was told of no more connections than it was to serve.
+    ensures most { (job : RunJob) (limits : EngineLimits)
+        → command_of (bytes_of words.now) ≡ Some (Over job limits)
+        → ComesWithin job (S.state shell.old) (S.state shell.new) }
 
     // Where a file is there, `init` leaves all files, in reads and in what a stop leaves at each moment, whatever its status.
     ensures untouched { command_of (bytes_of words.now) ≡ Some Init

@@ -1,5 +1,6 @@
 pub mod Breaking
 pub mod Answering
+pub mod Arriving
 pub mod Fronts
 pub mod Hanging
 pub mod Passing

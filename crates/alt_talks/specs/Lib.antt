@@ -1,3 +1,4 @@
+pub mod Arrivals
 pub mod Connections
 pub mod Faults
 pub mod Runs

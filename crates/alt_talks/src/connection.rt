@@ -9,6 +9,7 @@ ghost use Rattle.alt_shell.specs.Calls.{Keeps};
 ghost use Rattle.alt_shell.specs.Log.{talks, takes_missed, says_missed};
 ghost use Rattle.alt_tables.specs.Stands.{AreReady, Stands};
 ghost use Rattle.alt_http.specs.Reading.{scan_of};
+ghost use Rattle.alt_talks.specs.Arrivals.{Came, CameAll, CameAtMost, CameOne};
 ghost use Rattle.alt_talks.specs.Faults.{IsWorkFault};
 ghost use Rattle.alt_talks.specs.private.HeadViews.{scan_in};
 ghost use Rattle.alt_talks.specs.Runs.{Leads, Passes, Stretch};
@@ -50,6 +51,7 @@ fn utter<S: Shell>(mute: &mut bool, text: &[u8], shell: &mut S)
     ensures takes { takes_missed (S.state shell.new).beside
         ≡ takes_missed (S.state shell.old).beside }
     ensures keeps { Keeps (S.state shell.old) (S.state shell.new) }
+    ensures none { Came 0 (S.state shell.old) (S.state shell.new) }
     ensures passes { Passes (S.state shell.old) (S.state shell.new) }
 {
     if *mute {
@@ -85,6 +87,7 @@ fn refuse<S: Shell>(
     ensures cause { IsErrOf result RunFault.Failed
         → Rose (S.state shell.old).faults (S.state shell.new).faults }
     ensures keeps { Keeps (S.state shell.old) (S.state shell.new) }
+    ensures none { Came 0 (S.state shell.old) (S.state shell.new) }
     ensures passes { Passes (S.state shell.old) (S.state shell.new) }
 {
     if *mute {
@@ -124,6 +127,7 @@ fn respond<S: Shell>(
         ≡ takes_missed (S.state shell.old).beside }
     ensures cause { IsErrOf result RunFault.Failed
         → Rose (S.state shell.old).faults (S.state shell.new).faults }
+    ensures none { Came 0 (S.state shell.old) (S.state shell.new) }
     ensures passes { Passes (S.state shell.old) (S.state shell.new) }
 {
     let moment = shell.now();
@@ -169,6 +173,7 @@ fn hello<S: Shell>(expect: bool, greeted: bool, mute: &mut bool, shell: &mut S)
     ensures takes { takes_missed (S.state shell.new).beside
         ≡ takes_missed (S.state shell.old).beside }
     ensures keeps { Keeps (S.state shell.old) (S.state shell.new) }
+    ensures none { Came 0 (S.state shell.old) (S.state shell.new) }
     ensures passes { Passes (S.state shell.old) (S.state shell.new) }
 {
     if !expect {
@@ -247,6 +252,7 @@ fn carry<S: Shell>(
         ≡ takes_missed (S.state shell.old).beside }
     ensures cause { IsErrOf result RunFault.Failed
         → Rose (S.state shell.old).faults (S.state shell.new).faults }
+    ensures none { Came 0 (S.state shell.old) (S.state shell.new) }
     ensures passes { Passes (S.state shell.old) (S.state shell.new) }
 {
     let _held = talk.front.len();
@@ -297,6 +303,7 @@ fn found<S: Shell>(
         ≡ takes_missed (S.state shell.old).beside }
     ensures cause { IsErrOf result RunFault.Failed
         → Rose (S.state shell.old).faults (S.state shell.new).faults }
+    ensures none { Came 0 (S.state shell.old) (S.state shell.new) }
     ensures passes { Passes (S.state shell.old) (S.state shell.new) }
 {
     hello(head.expect, talk.greeted, &mut talk.mute, shell);
@@ -334,6 +341,7 @@ fn one<S: Shell>(
         ≡ takes_missed (S.state shell.old).beside }
     ensures cause { IsErrOf result RunFault.Failed
         → Rose (S.state shell.old).faults (S.state shell.new).faults }
+    ensures none { Came 0 (S.state shell.old) (S.state shell.new) }
     ensures passes { Passes (S.state shell.old) (S.state shell.new) }
 {
     let scan = match talk.front.scan(alloc) {
@@ -390,6 +398,7 @@ fn at_hand<S: Shell>(
         ≡ takes_missed (S.state shell.old).beside }
     ensures cause { IsErrOf result RunFault.Failed
         → Rose (S.state shell.old).faults (S.state shell.new).faults }
+    ensures none { Came 0 (S.state shell.old) (S.state shell.new) }
     ensures passes { Passes (S.state shell.old) (S.state shell.new) }
 {
     while talk.left > 0 {
@@ -432,6 +441,7 @@ fn pull<S: Shell>(
         × ((S.state shell.old).moment < (S.state shell.new).moment)) }
     ensures cause { IsErrOf result RunFault.Failed
         → Rose (S.state shell.old).faults (S.state shell.new).faults }
+    ensures none { Came 0 (S.state shell.old) (S.state shell.new) }
     ensures passes { Passes (S.state shell.old) (S.state shell.new) }
 {
     match shell.take(buf) {
@@ -475,6 +485,7 @@ fn pulls<S: Shell>(
         (GoesSomeOn rules f (place_of talk.old) s talk.old.mute)) }
     ensures cause { IsErrOf result RunFault.Failed
         → Rose (S.state shell.old).faults (S.state shell.new).faults }
+    ensures none { Came 0 (S.state shell.old) (S.state shell.new) }
     ensures passes { Passes (S.state shell.old) (S.state shell.new) }
 {
     'pulls: loop {
@@ -511,6 +522,9 @@ fn connection<S: Shell>(
         (ComesSomeOn rules per f s)) }
     ensures cause { IsErrOf result RunFault.Failed
         → Rose (S.state shell.old).faults (S.state shell.new).faults }
+    ensures came { MatchResult result
+        (λ came. CameOne came (S.state shell.old) (S.state shell.new))
+        (λ _. CameAtMost 1 (S.state shell.old) (S.state shell.new)) }
     ensures passes { Passes (S.state shell.old) (S.state shell.new) }
 {
     match shell.accept() {
@@ -555,6 +569,9 @@ pub fn connections<S: Shell>(
         (ServedSomeOn rules per count f s)) }
     ensures cause { IsErrOf result RunFault.Failed
         → Rose (S.state shell.old).faults (S.state shell.new).faults }
+    // On any disk: so many came, or fewer and then none will come; and never more.
+    ensures came { OnOk result (CameAll count (S.state shell.old) (S.state shell.new)) }
+    ensures most { CameAtMost count (S.state shell.old) (S.state shell.new) }
     ensures passes { Passes (S.state shell.old) (S.state shell.new) }
 {
     let mut served: u32 = 0;

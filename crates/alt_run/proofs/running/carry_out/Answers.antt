@@ -1,7 +1,7 @@
 use Rattle.std.proofs.Common.{OnOk, sym, subst}
 use Rattle.alt_hand.specs.declared.hand.Limits.{Limits}
 use Rattle.alt_talks.specs.Works.{HasFewEntries}
-use Rattle.alt_run.specs.Behind.{AfterJob, SaysSummary}
+use Rattle.alt_run.specs.Behind.{AfterJob, ComesWithin, SaysSummary}
 use Rattle.std.specs.Prelude.{MatchResult}
 use Rattle.alt_run.specs.Endings.{Done, Broken}
 use Rattle.alt_run.specs.Words.{IsServable}
@@ -49,3 +49,29 @@ returns-in-Trial-clause-after g c =
     c.requires.known
     (c.carry_out_trial.ensures.few (subst IsServable c.in-Trial.is c.requires.some)))
     c.carry_out_trial.ensures.said)
+
+pub returns-in-Serve-clause-after : goal.returns-in-Serve-clause-after
+returns-in-Serve-clause-after g c =
+    let state = g.S.Disk.state in
+    let a = state c.args.shell.now in
+    let d = state c.serve.new.shell in
+    subst (λ (j : Job). OnOk c.serve.result (AfterJob j c.args.limits.flush a d))
+    (sym c.in-Serve.is) c.serve.ensures.came
+
+pub returns-in-Replay-clause-most : goal.returns-in-Replay-clause-most
+returns-in-Replay-clause-most g c =
+    let state = g.S.Disk.state in
+    subst (λ (j : Job). ComesWithin j (state c.args.shell.now) (state c.replay.new.shell))
+    (sym c.in-Replay.is) tt
+
+pub returns-in-Serve-clause-most : goal.returns-in-Serve-clause-most
+returns-in-Serve-clause-most g c =
+    let state = g.S.Disk.state in
+    subst (λ (j : Job). ComesWithin j (state c.args.shell.now) (state c.serve.new.shell))
+    (sym c.in-Serve.is) c.serve.ensures.most
+
+pub returns-in-Trial-clause-most : goal.returns-in-Trial-clause-most
+returns-in-Trial-clause-most g c =
+    let state = g.S.Disk.state in
+    subst (λ (j : Job). ComesWithin j (state c.args.shell.now) (state c.carry_out_trial.new.shell))
+    (sym c.in-Trial.is) tt

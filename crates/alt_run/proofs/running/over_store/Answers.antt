@@ -2,7 +2,7 @@ use Rattle.std.proofs.Common.{◌∙◌, ap, inl}
 use Rattle.alt_disk.proofs.Runs.{tells_of, trusted_back}
 use Rattle.alt_shell.specs.Log.{talks}
 use Rattle.alt_run.proofs.Opening.{opening_of, opened_result}
-use Rattle.alt_run.proofs.Bringing.{opened_after}
+use Rattle.alt_run.proofs.Bringing.{opened_after, within_opened, within_opening}
 use Rattle.alt_run.proofs.running.over_store.Goals as goal
 
 pub returns-in-Err-clause-done : goal.returns-in-Err-clause-done
@@ -49,3 +49,14 @@ returns-in-Ok-clause-after g c =
     opened_after c.args.limits.flush c.args.job (state c.args.shell.now) (state c.open.new.disk)
     (state c.carry_out-done.new.shell) c.in-Ok.ensures.goes c.carry_out-done.result
     c.carry_out-done.ensures.after
+
+pub returns-in-Err-clause-most : goal.returns-in-Err-clause-most
+returns-in-Err-clause-most g c =
+    let state = g.S.Disk.state in
+    within_opening c.args.job (state c.args.shell.now) (state c.open.new.disk) c.in-Err.ensures.goes
+
+pub returns-in-Ok-clause-most : goal.returns-in-Ok-clause-most
+returns-in-Ok-clause-most g c =
+    let state = g.S.Disk.state in
+    within_opened c.args.job (state c.args.shell.now) (state c.open.new.disk)
+    (state c.carry_out-done.new.shell) c.in-Ok.ensures.goes c.carry_out-done.ensures.most

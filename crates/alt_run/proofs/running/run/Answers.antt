@@ -4,7 +4,7 @@ use Rattle.alt_run.specs.Endings.{HasDone, note_of}
 use Rattle.alt_run.specs.Words.{command_of, bytes_of}
 use Rattle.alt_run.specs.declared.words.Command.{Command}
 use Rattle.alt_run.proofs.EndingLaws.{noted_done, noted_whole, words_end, completes, makes_all}
-use Rattle.alt_run.proofs.Bringing.{after_noted}
+use Rattle.alt_run.proofs.Bringing.{after_noted, within_noted}
 use Rattle.alt_run.proofs.Initing.{quiet_behind}
 use Rattle.alt_run.proofs.Staying.{kept_past, kept_trust, stays_whole}
 use Rattle.alt_run.proofs.running.run.Goals as goal
@@ -93,3 +93,9 @@ returns-clause-whole g c =
     c.noted-ending.ensures.unasked c.noted-ending.ensures.aside c.ended.ensures.done)
     (λ is tells f there. quiet_behind old mid new c.noted-ending.ensures.aside
     (c.ended.ensures.untouched is tells f there))
+
+pub returns-clause-most : goal.returns-clause-most
+returns-clause-most g c = λ job limits is.
+    let state = g.S.Disk.state in
+    within_noted job (state c.args.shell.now) (state c.ended.new.shell)
+    (state c.noted-ending.new.shell) c.noted-ending.ensures.silent (c.ended.ensures.most job limits is)

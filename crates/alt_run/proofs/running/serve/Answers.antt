@@ -1,3 +1,4 @@
+use Rattle.std.proofs.Common.{arith}
 use Rattle.alt_talks.specs.TalkRules.{rules}
 use Rattle.alt_talks.specs.declared.fault.RunFault.TheVariants.{NoMemory}
 use Rattle.alt_tables.proofs.Left.{stands_left}
@@ -5,6 +6,7 @@ use Rattle.alt_talks.specs.TalkStops.{ServedSomeOn}
 use Rattle.alt_talks.proofs.Stretching.{stretch_none}
 use Rattle.alt_talks.proofs.TalkAmong.{served_nothing_on}
 use Rattle.alt_talks.proofs.TalkReach.{run_served}
+use Rattle.alt_talks.proofs.Arriving.{came_none}
 use Rattle.alt_run.proofs.running.serve.Goals as goal
 
 pub returns-in_default-clause-served : goal.returns-in_default-clause-served
@@ -19,3 +21,9 @@ returns-clause-served g c = λ s stands.
     let state = g.S.Disk.state in
     run_served c.connections.result (state c.args.shell.now) (state c.connections.new.shell)
     c.connections.new.tables c.args.per c.args.count s (c.connections.ensures.served s stands)
+
+pub returns-in_default-clause-most : goal.returns-in_default-clause-most
+returns-in_default-clause-most g c = (0, omega arith, came_none (g.S.Disk.state c.args.shell.now))
+
+pub returns-clause-most : goal.returns-clause-most
+returns-clause-most g c = c.connections.ensures.most

@@ -10,6 +10,7 @@ use Rattle.alt_talks.proofs.Uttering.{rests_at_end}
 use Rattle.alt_talks.proofs.TalkLaws.{lawful}
 use Rattle.alt_talks.proofs.TalkLeaving.{moves_none_on, moves_then_on, moves_all_on, moves_break_on}
 use Rattle.alt_tables.proofs.Left.{stands_left}
+use Rattle.alt_talks.proofs.Arriving.{came_none, came_then}
 use Rattle.alt_talks.proofs.connection.at_hand.Goals as goal
 
 pub loop-talk-init : goal.loop-talk-init
@@ -23,6 +24,7 @@ loop-talk-init g c =
       passes_none old,
       c.requires.hears,
       refl,
+      came_none old,
     )
 
 pub loop-talk-preserved : goal.loop-talk-preserved
@@ -50,6 +52,7 @@ loop-talk-preserved g c =
       passes_then a b d inv.1 c.one.ensures.passes,
       c.one.ensures.hears,
       c.one.ensures.takes ∙ inv.3,
+      came_then a b d 0 0 inv.4 c.one.ensures.none,
     )
 
 pub returns-in-Ok-false-clause-moved : goal.returns-in-Ok-false-clause-moved
@@ -120,3 +123,19 @@ one-requires-clause-ready g c = λ trusted.
     inv.1 trusted) in
     let r = inv.0 first.0 first.1 in
     (r.to, r.stands)
+
+pub returns-in-Ok-false-clause-none : goal.returns-in-Ok-false-clause-none
+returns-in-Ok-false-clause-none g c =
+    let state = g.S.Disk.state in
+    came_then (state c.args.shell.now) (state c.loop-talk.shell) (state c.one.new.shell) 0 0
+    c.loop-talk.invariant.4 c.in-Ok-false.ensures.none
+
+pub returns-in-Err-clause-none : goal.returns-in-Err-clause-none
+returns-in-Err-clause-none g c =
+    let state = g.S.Disk.state in
+    came_then (state c.args.shell.now) (state c.loop-talk.shell) (state c.one.new.shell) 0 0
+    c.loop-talk.invariant.4 c.in-Err.ensures.none
+
+pub returns-clause-none : goal.returns-clause-none
+returns-clause-none g c =
+    c.loop-talk.invariant.4

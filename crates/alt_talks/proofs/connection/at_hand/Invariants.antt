@@ -2,6 +2,7 @@ use Rattle.std.proofs.Common.{◌≡◌, false}
 use Rattle.alt_machine.specs.State.{State}
 use Rattle.alt_shell.specs.Log.{takes_missed, says_missed}
 use Rattle.alt_tables.specs.Stands.{Stands}
+use Rattle.alt_talks.specs.Arrivals.{Came}
 use Rattle.alt_talks.specs.Runs.{Leads, Passes}
 use Rattle.alt_talks.specs.TalkStops.{MovesOn}
 use Rattle.alt_talks.specs.TalkRules.{rules}
@@ -19,6 +20,7 @@ invariant-loop-talk g l =
     × Passes old new
     × (l.talk.mute ≡ false → says_missed new.beside ≡ false)
     × (takes_missed new.beside ≡ takes_missed old.beside)
+    × Came 0 old new
 
 abbrev pub decreases-loop-talk : goal.decreases-loop-talk
 decreases-loop-talk g l = l.talk.left

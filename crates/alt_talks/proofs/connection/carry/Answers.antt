@@ -53,3 +53,11 @@ returns-in-Err-clause-carried g c = λ s stands.
     c.as_slice.ensures.same c.body_in.ensures c.is_last-last.ensures in
     subst (λ (r : Request). Stretch a d (AnswersSomeOn rules fault s m (asked r ∷ [])))
     same (c.in-Err.ensures.answered s stands)
+
+pub returns-clause-none : goal.returns-clause-none
+returns-clause-none g c =
+    c.in-Ok.ensures.none
+
+pub returns-in-Err-clause-none : goal.returns-in-Err-clause-none
+returns-in-Err-clause-none g c =
+    c.in-Err.ensures.none

@@ -1,4 +1,4 @@
-use Rattle.std.proofs.Common.{◌∷◌, ◌++◌, ◌∙◌, [], inr, ℕ, List, Bool, true, false, refl, sym, subst}
+use Rattle.std.proofs.Common.{◌∷◌, ◌++◌, ◌∙◌, [], inr, ℕ, List, Bool, true, false, refl, sym, subst, arith}
 use Rattle.alt_shell.specs.Calls.{Accepted}
 use Rattle.alt_shell.specs.Log.{Log, entry, hung_up, told_count}
 use Rattle.alt_talks.specs.Runs.{Leads, Stretch}
@@ -14,6 +14,7 @@ use Rattle.alt_talks.proofs.TalkLeaving.{left_hung, stretch_hung}
 use Rattle.alt_talks.proofs.Stopping.{ready_kept, stands_kept}
 use Rattle.alt_talks.proofs.TalkCuts.{at_unread}
 use Rattle.alt_talks.proofs.TalkLaws.{lawful}
+use Rattle.alt_talks.proofs.Arriving.{came_served, came_silent, none_will}
 use Rattle.alt_talks.proofs.connection.connection.Goals as goal
 
 pub returns-in-Ok-clause-served : goal.returns-in-Ok-clause-served
@@ -135,3 +136,42 @@ returns-clause-served g c = λ s stands.
     wait_failed rules lawful c.args.per s a (state c.accept.new.self) c.in-Err.ensures.accepted.0
     c.in-Err.ensures.moments c.in-Err.ensures.call.keeps
     (λ trusted image is. stands_left a c.args.tables.now s stands image is)
+
+pub returns-in-Ok-clause-came : goal.returns-in-Ok-clause-came
+returns-in-Ok-clause-came g c =
+    let state = g.S.Disk.state in
+    let a = state c.args.shell.now in
+    let b = state c.accept.new.self in
+    let d = state c.pulls-served.new.shell in
+    let e = state c.hang_up.new.self in
+    let came = subst (λ (v : Bool). Accepted a b v) c.in-Ok-true.field-0-test
+    c.in-Ok-true.ensures.accepted in
+    came_served a b d e came.0 c.pulls-served.ensures.none
+    (c.hang_up.ensures.hung (c.pulls-served.ensures.passes.talking ∙ came.1))
+
+pub returns-in-Ok-true-clause-came : goal.returns-in-Ok-true-clause-came
+returns-in-Ok-true-clause-came g c =
+    let state = g.S.Disk.state in
+    let a = state c.args.shell.now in
+    let b = state c.accept.new.self in
+    let d = state c.pulls-served.new.shell in
+    let e = state c.hang_up.new.self in
+    let came = subst (λ (v : Bool). Accepted a b v) c.in-Ok-true.field-0-test
+    c.in-Ok-true.ensures.accepted in
+    (1, omega arith, came_served a b d e came.0 c.pulls-served.ensures.none
+    (c.hang_up.ensures.hung (c.pulls-served.ensures.passes.talking ∙ came.1)))
+
+pub returns-in-Ok-false-clause-came : goal.returns-in-Ok-false-clause-came
+returns-in-Ok-false-clause-came g c =
+    let state = g.S.Disk.state in
+    let a = state c.args.shell.now in
+    let b = state c.accept.new.self in
+    let none = subst (λ (v : Bool). Accepted a b v) c.in-Ok-false.field-0-test
+    c.in-Ok-false.ensures.accepted in
+    none_will a b none.0
+
+pub returns-clause-came : goal.returns-clause-came
+returns-clause-came g c =
+    let state = g.S.Disk.state in
+    (0, omega arith, came_silent (state c.args.shell.now) (state c.accept.new.self)
+    c.in-Err.ensures.accepted.0)

@@ -1,6 +1,7 @@
-use Rattle.std.proofs.Common.{◌≡◌, ◌<◌, ◌+◌, ℕ, List, Bool, subst, arith}
+use Rattle.std.proofs.Common.{◌≡◌, ◌<◌, ◌+◌, inl, inr, ℕ, List, Bool, subst, arith}
 use Rattle.alt_machine.specs.State.{State}
 use Rattle.alt_shell.specs.Log.{Log}
+use Rattle.alt_talks.specs.Arrivals.{Came, CameOne, NoneWill}
 use Rattle.alt_talks.specs.TalkStops.{ComesOn, ComesSomeOn, ServedOn, ServedSomeOn}
 use Rattle.alt_talks.specs.TalkRules.{rules}
 use Rattle.alt_talks.proofs.Passing.{passes_none, passes_then, passes_back}
@@ -8,6 +9,7 @@ use Rattle.alt_tables.proofs.Left.{stands_left}
 use Rattle.alt_talks.proofs.TalkAmong.{SofarOn, sofar_none_on, sofar_more_on, served_all_on, served_fewer_on, served_some_on}
 use Rattle.alt_talks.proofs.TalkLaws.{lawful}
 use Rattle.alt_talks.proofs.TalkReach.{reach_none, reach_as, reach_then, reach_break}
+use Rattle.alt_talks.proofs.Arriving.{came_none, came_then, none_will-behind, none_will-came}
 use Rattle.alt_talks.proofs.connection.connections.Goals as goal
 
 pub loop-served-init : goal.loop-served-init
@@ -18,6 +20,7 @@ loop-served-init g c =
           (λ trusted image is. stands_left old c.args.tables.now s stands image is)),
       passes_none old,
       omega arith,
+      came_none old,
     )
 
 pub loop-served-preserved : goal.loop-served-preserved
@@ -39,6 +42,8 @@ loop-served-preserved g c =
           (inv.0 s stands) c.in-Ok-true.ensures.served,
       passes_then a b d inv.1 c.connection.ensures.passes,
       grind arith,
+      came_then a b d n 1 inv.3
+          (subst (λ (v : Bool). CameOne v b d) c.in-Ok-true.field-0-test c.in-Ok-true.ensures.came),
     )
 
 pub returns-in-Ok-false-clause-served : goal.returns-in-Ok-false-clause-served
@@ -99,3 +104,54 @@ connection-requires-clause-ready g c = λ trusted.
     inv.1 trusted) in
     let r = inv.0 first.0 first.1 in
     (r.to, r.stands)
+
+pub returns-in-Ok-false-clause-came : goal.returns-in-Ok-false-clause-came
+returns-in-Ok-false-clause-came g c =
+    let state = g.S.Disk.state in
+    let a = state c.args.shell.now in
+    let b = state c.loop-served.shell in
+    let d = state c.connection.new.shell in
+    let n = c.loop-served.served in
+    let few : n < c.args.count = grind arith in
+    let same : n + 0 ≡ n = omega arith in
+    inr (n, few, subst (λ (k : ℕ). NoneWill k a d) same
+    (none_will-behind a b d n 0 c.loop-served.invariant.3
+    (subst (λ (v : Bool). CameOne v b d) c.in-Ok-false.field-0-test c.in-Ok-false.ensures.came)))
+
+pub returns-in-Err-clause-most : goal.returns-in-Err-clause-most
+returns-in-Err-clause-most g c =
+    let state = g.S.Disk.state in
+    let a = state c.args.shell.now in
+    let b = state c.loop-served.shell in
+    let d = state c.connection.new.shell in
+    let n = c.loop-served.served in
+    let few : n < c.args.count = grind arith in
+    let one = c.in-Err.ensures.came in
+    let most = one.1 in
+    (n + one.0, omega (arith, few, most),
+    came_then a b d n one.0 c.loop-served.invariant.3 one.2)
+
+pub returns-clause-came : goal.returns-clause-came
+returns-clause-came g c =
+    let state = g.S.Disk.state in
+    let a = state c.args.shell.now in
+    let b = state c.loop-served.shell in
+    let all : c.loop-served.served ≡ c.args.count = grind arith in
+    inl (subst (λ (k : ℕ). Came k a b) all c.loop-served.invariant.3)
+
+pub returns-in-Ok-false-clause-most : goal.returns-in-Ok-false-clause-most
+returns-in-Ok-false-clause-most g c =
+    let state = g.S.Disk.state in
+    let a = state c.args.shell.now in
+    let b = state c.loop-served.shell in
+    let d = state c.connection.new.shell in
+    let n = c.loop-served.served in
+    let few : n < c.args.count = grind arith in
+    (n + 0, omega (arith, few), came_then a b d n 0 c.loop-served.invariant.3
+    (none_will-came b d 0
+    (subst (λ (v : Bool). CameOne v b d) c.in-Ok-false.field-0-test c.in-Ok-false.ensures.came)))
+
+pub returns-clause-most : goal.returns-clause-most
+returns-clause-most g c =
+    let all : c.loop-served.served ≡ c.args.count = grind arith in
+    (c.loop-served.served, omega (arith, all), c.loop-served.invariant.3)

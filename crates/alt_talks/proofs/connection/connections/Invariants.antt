@@ -1,6 +1,7 @@
 use Rattle.std.proofs.Common.{◌≤◌, ◌-◌}
 use Rattle.alt_machine.specs.State.{State}
 use Rattle.alt_tables.specs.Stands.{Stands}
+use Rattle.alt_talks.specs.Arrivals.{Came}
 use Rattle.alt_talks.specs.Runs.{Leads, Passes}
 use Rattle.alt_talks.specs.TalkRules.{rules}
 use Rattle.alt_talks.proofs.TalkAmong.{SofarOn}
@@ -15,6 +16,7 @@ invariant-loop-served g l =
     → Leads old new l.tables (λ t. SofarOn rules l.per l.served s t))
     × Passes old new
     × (l.served ≤ l.count)
+    × Came l.served old new
 
 abbrev pub decreases-loop-served : goal.decreases-loop-served
 decreases-loop-served g l = l.count - l.served

@@ -10,6 +10,7 @@ use Rattle.alt_talks.proofs.Stretching.{stretch_as, stretch_then}
 use Rattle.alt_talks.proofs.Stopping.{ready_kept, stands_kept}
 use Rattle.alt_talks.proofs.TalkLaws.{lawful, rules-scan}
 use Rattle.alt_talks.proofs.TalkLeaving.{steps_short_on, steps_whole_on, some_whole_on}
+use Rattle.alt_talks.proofs.Arriving.{came_then}
 use Rattle.alt_talks.proofs.connection.found.Goals as goal
 
 pub returns-then-not-is_whole-clause-stepped : goal.returns-then-not-is_whole-clause-stepped
@@ -108,3 +109,19 @@ carry-requires-clause-ready g c =
     let state = g.S.Disk.state in
     ready_kept (state c.args.shell.now) (state c.hello.new.shell) c.args.tables.now
     c.hello.ensures.keeps c.requires.ready
+
+pub returns-then-not-is_whole-clause-none : goal.returns-then-not-is_whole-clause-none
+returns-then-not-is_whole-clause-none g c =
+    c.hello.ensures.none
+
+pub returns-in-Ok-clause-none : goal.returns-in-Ok-clause-none
+returns-in-Ok-clause-none g c =
+    let state = g.S.Disk.state in
+    came_then (state c.args.shell.now) (state c.hello.new.shell) (state c.carry.new.shell) 0 0
+    c.hello.ensures.none c.in-Ok.ensures.none
+
+pub returns-clause-none : goal.returns-clause-none
+returns-clause-none g c =
+    let state = g.S.Disk.state in
+    came_then (state c.args.shell.now) (state c.hello.new.shell) (state c.carry.new.shell) 0 0
+    c.hello.ensures.none c.in-Err.ensures.none

@@ -10,6 +10,7 @@ use Rattle.alt_talks.proofs.Stretching.{stretch_none, stretch_as}
 use Rattle.alt_talks.proofs.Stepping.{answers_nothing, greets_off, greets_done}
 use Rattle.alt_talks.proofs.TalkLaws.{lawful, rules-greeting}
 use Rattle.alt_talks.proofs.TalkLeaving.{greets_on, none_on}
+use Rattle.alt_talks.proofs.Arriving.{came_none}
 use Rattle.alt_talks.proofs.connection.hello.Goals as goal
 
 pub returns-then-not-expect-clause-greeted : goal.returns-then-not-expect-clause-greeted
@@ -48,3 +49,15 @@ returns-clause-greeted g c = λ s here.
     c.if-greeted.false es ms within here c.utter.ensures.keeps u)
     (subst (λ (bs : List ℕ). Stretch a b (λ _ _. Utters m bs n)) (sym rules-greeting)
     c.utter.ensures.said)
+
+pub returns-then-not-expect-clause-none : goal.returns-then-not-expect-clause-none
+returns-then-not-expect-clause-none g c =
+    came_none (g.S.Disk.state c.args.shell.now)
+
+pub returns-then-greeted-clause-none : goal.returns-then-greeted-clause-none
+returns-then-greeted-clause-none g c =
+    came_none (g.S.Disk.state c.args.shell.now)
+
+pub returns-clause-none : goal.returns-clause-none
+returns-clause-none g c =
+    c.utter.ensures.none

@@ -22,6 +22,7 @@ use Rattle.alt_talks.proofs.TalkCuts.{at_bad}
 use Rattle.alt_talks.proofs.TalkLaws.{lawful, rules-scan, known_refusal}
 use Rattle.alt_talks.proofs.TalkReach.{reach_none}
 use Rattle.alt_talks.proofs.Uttering.{answers_some_none}
+use Rattle.alt_talks.proofs.Arriving.{came_none}
 use Rattle.alt_talks.proofs.connection.one.Goals as goal
 
 pub returns-in-Err-clause-stepped : goal.returns-in-Err-clause-stepped
@@ -127,3 +128,23 @@ returns-in-Head-clause-stepped g c =
     (λ t. StepsOn rules more (at p.left p.greeted bs) s m q t n))
     (λ f. Stretch a b (MovesSomeOn rules f (at p.left p.greeted bs) s m)))
     c.in-Ok.ensures.stays c.found.ensures.stepped
+
+pub returns-in-Err-clause-none : goal.returns-in-Err-clause-none
+returns-in-Err-clause-none g c =
+    came_none (g.S.Disk.state c.args.shell.now)
+
+pub returns-in-More-clause-none : goal.returns-in-More-clause-none
+returns-in-More-clause-none g c =
+    came_none (g.S.Disk.state c.args.shell.now)
+
+pub returns-in-Err-refuse-clause-none : goal.returns-in-Err-refuse-clause-none
+returns-in-Err-refuse-clause-none g c =
+    c.in-Err-refuse.ensures.none
+
+pub returns-in-Ok-refuse-clause-none : goal.returns-in-Ok-refuse-clause-none
+returns-in-Ok-refuse-clause-none g c =
+    c.in-Ok-refuse.ensures.none
+
+pub returns-in-Head-clause-none : goal.returns-in-Head-clause-none
+returns-in-Head-clause-none g c =
+    c.found.ensures.none

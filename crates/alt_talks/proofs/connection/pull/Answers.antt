@@ -14,6 +14,7 @@ use Rattle.alt_talks.proofs.TalkLaws.{lawful}
 use Rattle.alt_talks.proofs.TalkLeaving.{goes_taken_on, goes_some_taken_on, goes_missed_on, left_silent}
 use Rattle.alt_talks.proofs.TalkLogs.{stretch_one, took_then}
 use Rattle.alt_talks.proofs.TalkPulls.{goes_some_none, goes_end}
+use Rattle.alt_talks.proofs.Arriving.{came_event, came_take_failed, came_then}
 use Rattle.alt_talks.proofs.connection.pull.Goals as goal
 
 pub returns-in-Ok-at_hand-clause-turned : goal.returns-in-Ok-at_hand-clause-turned
@@ -142,3 +143,46 @@ at_hand-requires-clause-ready g c =
     let state = g.S.Disk.state in
     ready_kept (state c.args.shell.now) (state c.take.new.self) c.args.tables.now
     c.in-Ok.ensures.call.keeps c.requires.ready
+
+pub returns-in-Ok-at_hand-clause-none : goal.returns-in-Ok-at_hand-clause-none
+returns-in-Ok-at_hand-clause-none g c =
+    let state = g.S.Disk.state in
+    let a = state c.args.shell.now in
+    let b = state c.take.new.self in
+    came_then a b (state c.at_hand.new.shell) 0 0 (came_event a b
+    (entry b.moment (told_count a.beside) (took (take c.in-Ok.count c.take.new.buf))) refl
+    c.in-Ok.ensures.taken)
+    c.in-Ok-at_hand.ensures.none
+
+pub returns-in-Err-at_hand-clause-none : goal.returns-in-Err-at_hand-clause-none
+returns-in-Err-at_hand-clause-none g c =
+    let state = g.S.Disk.state in
+    let a = state c.args.shell.now in
+    let b = state c.take.new.self in
+    came_then a b (state c.at_hand.new.shell) 0 0 (came_event a b
+    (entry b.moment (told_count a.beside) (took (take c.in-Ok.count c.take.new.buf))) refl
+    c.in-Ok.ensures.taken)
+    c.in-Err-at_hand.ensures.none
+
+pub returns-in-Err-clause-none : goal.returns-in-Err-clause-none
+returns-in-Err-clause-none g c =
+    let state = g.S.Disk.state in
+    came_take_failed (state c.args.shell.now) (state c.take.new.self) c.in-Err.ensures.taken
+
+pub returns-then-count-eq0-clause-none : goal.returns-then-count-eq0-clause-none
+returns-then-count-eq0-clause-none g c =
+    let state = g.S.Disk.state in
+    let a = state c.args.shell.now in
+    let b = state c.take.new.self in
+    (came_event a b
+    (entry b.moment (told_count a.beside) (took (take c.in-Ok.count c.take.new.buf))) refl
+    c.in-Ok.ensures.taken)
+
+pub returns-in-Err-extend-clause-none : goal.returns-in-Err-extend-clause-none
+returns-in-Err-extend-clause-none g c =
+    let state = g.S.Disk.state in
+    let a = state c.args.shell.now in
+    let b = state c.take.new.self in
+    (came_event a b
+    (entry b.moment (told_count a.beside) (took (take c.in-Ok.count c.take.new.buf))) refl
+    c.in-Ok.ensures.taken)

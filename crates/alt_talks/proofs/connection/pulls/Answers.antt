@@ -10,6 +10,7 @@ use Rattle.alt_tables.proofs.Left.{stands_left}
 use Rattle.alt_talks.proofs.TalkLeaving.{goes_start_on, goes_then_on, goes_break_on}
 use Rattle.alt_talks.proofs.TalkPulls.{goes_rests}
 use Rattle.alt_talks.proofs.TalkReach.{reach_none, reach_as, reach_then, reach_break}
+use Rattle.alt_talks.proofs.Arriving.{came_none, came_then}
 use Rattle.alt_talks.proofs.connection.pulls.Goals as goal
 
 pub pulls-init : goal.pulls-init
@@ -23,6 +24,7 @@ pulls-init g c =
       passes_none old,
       λ _. c.requires.hears,
       c.requires.taking,
+      came_none old,
     )
 
 pub pulls-preserved : goal.pulls-preserved
@@ -56,6 +58,7 @@ pulls-preserved g c =
       passes_then a b d inv.1 c.pull.ensures.passes,
       c.pull.ensures.hears,
       c.in-Ok-true.ensures.taking c.in-Ok-true.field-0-test,
+      came_then a b d 0 0 inv.4 c.pull.ensures.none,
     )
 
 pub returns-in-Ok-false-clause-ended : goal.returns-in-Ok-false-clause-ended
@@ -147,3 +150,23 @@ pull-requires-clause-ready g c = λ trusted.
     inv.1 trusted) in
     let r = inv.0 first.0 first.1 c.requires.rest in
     (r.to, r.stands)
+
+pub returns-in-Ok-false-clause-none : goal.returns-in-Ok-false-clause-none
+returns-in-Ok-false-clause-none g c =
+    let state = g.S.Disk.state in
+    came_then (state c.args.shell.now) (state c.pulls.shell) (state c.pull.new.shell) 0 0
+    c.pulls.invariant.4 c.in-Ok-false.ensures.none
+
+pub returns-in-Err-clause-none : goal.returns-in-Err-clause-none
+returns-in-Err-clause-none g c =
+    let state = g.S.Disk.state in
+    came_then (state c.args.shell.now) (state c.pulls.shell) (state c.pull.new.shell) 0 0
+    c.pulls.invariant.4 c.in-Err.ensures.none
+
+pub returns-then-talk-eq0-clause-none : goal.returns-then-talk-eq0-clause-none
+returns-then-talk-eq0-clause-none g c =
+    c.pulls.invariant.4
+
+pub returns-then-talk-clause-none : goal.returns-then-talk-clause-none
+returns-then-talk-clause-none g c =
+    c.pulls.invariant.4

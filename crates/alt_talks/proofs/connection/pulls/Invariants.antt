@@ -2,6 +2,7 @@ use Rattle.std.proofs.Common.{◌≡◌, ◌-◌, ◌^◌, true, false}
 use Rattle.alt_machine.specs.State.{State}
 use Rattle.alt_shell.specs.Log.{takes_missed, says_missed}
 use Rattle.alt_tables.specs.Stands.{Stands}
+use Rattle.alt_talks.specs.Arrivals.{Came}
 use Rattle.alt_talks.specs.Runs.{Leads, Passes}
 use Rattle.alt_talks.specs.Stretches.{AtRest}
 use Rattle.alt_talks.specs.TalkStops.{GoesOn}
@@ -21,6 +22,7 @@ invariant-pulls g l =
     × Passes old new
     × (l.talk.mute ≡ false → says_missed new.beside ≡ false)
     × (takes_missed new.beside ≡ false)
+    × Came 0 old new
 
 abbrev pub decreases-pulls : goal.decreases-pulls
 decreases-pulls g l = 2 ^ 64 - 1 - (g.S.Disk.state l.shell).moment

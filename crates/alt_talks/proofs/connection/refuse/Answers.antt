@@ -12,6 +12,7 @@ use Rattle.alt_talks.proofs.Stopping.{trusts-kept}
 use Rattle.alt_talks.proofs.TalkLaws.{lawful, rules-refusal}
 use Rattle.alt_talks.proofs.TalkLeaving.{left_nothing, left_untold, told_alone, told_then, refused_on}
 use Rattle.alt_talks.proofs.Uttering.{does_refused_mute, quiet_none, some_refused}
+use Rattle.alt_talks.proofs.Arriving.{came_none, came_silent, came_then}
 use Rattle.alt_talks.proofs.connection.refuse.Goals as goal
 
 pub returns-then-mute-clause-answered : goal.returns-then-mute-clause-answered
@@ -60,3 +61,20 @@ returns-in-Err-clause-answered g c = λ s here.
       some_refused rules s m k at [] (at ∷ []) (record { nothing = refl; one = refl }),
       left_untold rules lawful a b s (refused k ∷ []) (at ∷ []) keeps here,
     )
+
+pub returns-then-mute-clause-none : goal.returns-then-mute-clause-none
+returns-then-mute-clause-none g c =
+    came_none (g.S.Disk.state c.args.shell.now)
+
+pub returns-in-Ok-clause-none : goal.returns-in-Ok-clause-none
+returns-in-Ok-clause-none g c =
+    let state = g.S.Disk.state in
+    let a = state c.args.shell.now in
+    let b = state c.now-moment.new.self in
+    came_then a b (state c.utter.new.shell) 0 0 (came_silent a b c.now-moment.ensures.log)
+    c.utter.ensures.none
+
+pub returns-in-Err-clause-none : goal.returns-in-Err-clause-none
+returns-in-Err-clause-none g c =
+    let state = g.S.Disk.state in
+    came_silent (state c.args.shell.now) (state c.now-moment.new.self) c.now-moment.ensures.log

@@ -13,6 +13,7 @@ use Rattle.alt_talks.proofs.Responding.{step_made, step_broke}
 use Rattle.alt_talks.proofs.Stopping.{ready_kept, stands_kept}
 use Rattle.alt_talks.proofs.TalkLaws.{lawful, rules-atoms, rules-reply, rules-next, rules-wants}
 use Rattle.alt_talks.proofs.TalkLeaving.{Asked, asked_of, asked_some_on}
+use Rattle.alt_talks.proofs.Arriving.{came_goes, came_silent, came_then}
 use Rattle.alt_talks.proofs.connection.respond.Goals as goal
 
 pub response-requires-clause-ready : goal.response-requires-clause-ready
@@ -115,3 +116,40 @@ returns-in-Err-clause-answered g c = λ s stands.
     asked_some_on rules lawful old done s m q at c.in-Err.fault front
     (subst (λ (l : Option Lack). IsCausedBy l c.in-Err.fault) (sym (rules-wants s q at))
     (c.in-Err.ensures.cause s here))
+
+pub returns-in-Ok-step-clause-none : goal.returns-in-Ok-step-clause-none
+returns-in-Ok-step-clause-none g c =
+    let state = g.S.Disk.state in
+    let old = state c.args.shell.now in
+    let mid = state c.now-moment.new.self in
+    let done = state c.response.new.disk in
+    let new = state c.utter.new.shell in
+    let last = state c.step.new.shell in
+    came_then old new last 0 0
+    (came_then old done new 0 0
+    (came_then old mid done 0 0 (came_silent old mid c.now-moment.ensures.log)
+    (came_goes mid done c.in-Ok.ensures.goes)) c.utter.ensures.none)
+    (came_goes new last c.in-Ok-step.ensures.goes)
+
+pub returns-clause-none : goal.returns-clause-none
+returns-clause-none g c =
+    let state = g.S.Disk.state in
+    let old = state c.args.shell.now in
+    let mid = state c.now-moment.new.self in
+    let done = state c.response.new.disk in
+    let new = state c.utter.new.shell in
+    let last = state c.step.new.shell in
+    came_then old new last 0 0
+    (came_then old done new 0 0
+    (came_then old mid done 0 0 (came_silent old mid c.now-moment.ensures.log)
+    (came_goes mid done c.in-Ok.ensures.goes)) c.utter.ensures.none)
+    (came_goes new last c.in-Err-step.ensures.goes)
+
+pub returns-in-Err-clause-none : goal.returns-in-Err-clause-none
+returns-in-Err-clause-none g c =
+    let state = g.S.Disk.state in
+    let old = state c.args.shell.now in
+    let mid = state c.now-moment.new.self in
+    let done = state c.response.new.disk in
+    came_then old mid done 0 0 (came_silent old mid c.now-moment.ensures.log)
+    (came_goes mid done c.in-Err.ensures.goes)

@@ -1,9 +1,11 @@
-use Rattle.std.proofs.Common.{true, false, sym, subst, arith, Bool}
+use Rattle.std.proofs.Common.{true, false, refl, sym, subst, arith, Bool}
 use Rattle.alt_talks.specs.Runs.{Stretch}
 use Rattle.alt_talks.specs.Stretches.{Utters}
 use Rattle.alt_talks.proofs.Stretching.{stretch_none}
 use Rattle.alt_talks.proofs.TalkLogs.{stretch_one}
 use Rattle.alt_talks.proofs.Uttering.{utters_said, utters_failed, utters_none}
+use Rattle.alt_talks.proofs.Arriving.{came_none, came_event, came_say_failed}
+use Rattle.alt_shell.specs.Log.{entry, said, told_count}
 use Rattle.alt_talks.proofs.connection.utter.Goals as goal
 
 pub returns-then-mute-clause-said : goal.returns-then-mute-clause-said
@@ -35,3 +37,21 @@ returns-in-Err-clause-said g c =
     (utters_failed old new c.args.text.now c.requires.talking
     (c.requires.hears c.if-mute.false) c.in-Err.ensures.said c.in-Err.ensures.moments
     c.in-Err.ensures.call.keeps)
+
+pub returns-then-mute-clause-none : goal.returns-then-mute-clause-none
+returns-then-mute-clause-none g c =
+    came_none (g.S.Disk.state c.args.shell.now)
+
+pub returns-in-Ok-clause-none : goal.returns-in-Ok-clause-none
+returns-in-Ok-clause-none g c =
+    let state = g.S.Disk.state in
+    let a = state c.args.shell.now in
+    let b = state c.say.new.self in
+    came_event a b (entry b.moment (told_count a.beside) (said c.args.text.now)) refl
+    c.in-Ok.ensures.said
+
+pub returns-in-Err-clause-none : goal.returns-in-Err-clause-none
+returns-in-Err-clause-none g c =
+    let state = g.S.Disk.state in
+    came_say_failed (state c.args.shell.now) (state c.say.new.self) c.args.text.now
+    c.in-Err.ensures.said

@@ -14,7 +14,7 @@ use Rattle.alt_machine.proofs.Descriptions.{there-descriptions}
 use Rattle.alt_shape.proofs.Plain.{no_float_either}
 use Rattle.alt_tables.specs.Found.{IsFoundIn}
 use Rattle.alt_tables.specs.Stands.{Stands, catalog_of}
-use Rattle.alt_tables.specs.declared.rows.Found.{Found}
+use Rattle.alt_tables.specs.declared.finding.Found.{Found}
 use Rattle.alt_tables.specs.declared.tables.Tables.{Tables}
 use Rattle.alt_value.specs.Size.{item_size}
 use Rattle.alt_value.specs.Tree.{Pair}

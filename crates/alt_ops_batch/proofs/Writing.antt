@@ -22,7 +22,7 @@ use Rattle.alt_tables.specs.Found.{IsFoundIn}
 use Rattle.alt_tables.specs.Images.{Leaves}
 use Rattle.alt_tables.specs.Stands.{AreReady, Stands, catalog_of, limits_of}
 use Rattle.alt_tables.specs.declared.faults.TableFault.{TableFault}
-use Rattle.alt_tables.specs.declared.rows.Found.{Found}
+use Rattle.alt_tables.specs.declared.finding.Found.{Found}
 use Rattle.alt_tables.specs.declared.tables.Tables.{Tables}
 use Rattle.alt_tables.proofs.Standing.{there, one_stands}
 use Rattle.alt_tables.proofs.Behind.{broke_front, broke_behind, leaves_front, leaves_both, wants_behind, wants_front, wants_none}

@@ -2,7 +2,7 @@
 use Rattle.std.specs.Prelude.{◌≡◌, ℕ, List, [], ◌∷◌, Option, Some, None}
 use Rattle.std.specs.FinMap as map
 use Rattle.alt_machine.specs.State.{State, Table}
-use Rattle.alt_tables.specs.declared.rows.Found.{Found}
+use Rattle.alt_tables.specs.declared.finding.Found.{Found}
 
 -- It is the item that stands at the place in the table of that name.
 abbrev pub IsFoundIn : State → List ℕ → Found → Type 0

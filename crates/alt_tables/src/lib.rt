@@ -3,6 +3,7 @@
 
 mod changes;
 mod faults;
+mod finding;
 mod laws;
 mod recover;
 mod rows;
@@ -13,6 +14,6 @@ mod work;
 pub use alt_engine::{Limits, Task, Worked};
 pub use alt_opening::OpenFault;
 pub use faults::TableFault;
+pub use finding::Found;
 pub use laws::tables_laws;
-pub use rows::Found;
 pub use tables::Tables;

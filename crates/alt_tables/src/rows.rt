@@ -25,6 +25,7 @@ ghost use Rattle.alt_value.specs.Tree.{Pair};
 ghost use Rattle.alt_value.specs.Values.{IsItemOfValues};
 
 use crate::faults::TableFault;
+use crate::finding::Found;
 use crate::tables::Tables;
 use alt_base::NoMemory;
 use alt_cells::{Batch, RowChange, ShownRow};
@@ -37,13 +38,6 @@ use alt_schema::TableSchema;
 use alt_value::Item;
 use alt_views::{Unread, index_changes, item_of_row, place_of, row_of_item};
 use std::alloc::Global;
-
-/// What was found at a place of a table. A write takes it back.
-#[derive(Drop)]
-pub struct Found {
-    pub place: Bytes,
-    pub item: Option<Item>,
-}
 
 impl Tables {
     /// What stands at a place of a table that is there.
@@ -77,7 +71,7 @@ impl Tables {
             Err(fault) => return Err(TableFault::from(fault)),
         };
         match item_of(self.alloc, &row) {
-            Ok(item) => Ok(Found { place, item }),
+            Ok(item) => Ok(Found { place, item, row }),
             Err(Unread::Bad) => Err(TableFault::BadRow { family, key: place }),
             Err(Unread::NoMemory) => Err(TableFault::NoMemory),
         }
@@ -147,6 +141,7 @@ impl Tables {
             number,
             moment,
             found.place,
+            found.row,
             &found.item,
             &new,
         )?;
@@ -255,7 +250,10 @@ impl Tables {
         let Ok(new) = copy_of(new) else {
             return Err(TableFault::NoMemory);
         };
-        self.write(disk, table, Found { place, item }, new, moment)
+        let Ok(row) = row_of(self.alloc, &item) else {
+            return Err(TableFault::NoMemory);
+        };
+        self.write(disk, table, Found { place, item, row }, new, moment)
     }
 
     /// The place of a key in a table that is there.
@@ -292,22 +290,25 @@ fn item_of(alloc: Global, row: &Option<ShownRow>) -> Result<Option<Item>, Unread
     }
 }
 
-/// The row changes of an item by the write of a number at a moment: in its table, in the indexes and in the stream.
+/// The row changes of an item by the write of a number at a moment: in its table, in the indexes and in the stream. `row` is that of the
+/// old item.
 fn item_batch(
     alloc: Global,
     schema: &TableSchema,
     number: u64,
     moment: u64,
     place: Bytes,
+    row: Option<ShownRow>,
     old: &Option<Item>,
     new: &Option<Item>,
 ) -> Result<Batch, NoMemory>
     requires families { HasOwnFamilies schema.now }
+    requires row { row ≡ option_map item_columns old.now }
     ensures changes { IfOk result (λ batch.
         batch ≡ item_changes schema.now number moment place old.now new.now) }
     ensures held { OnOk result (IfSome new.now IsItemOfValues) }
 {
-    let mut batch = view_batch(alloc, schema, place, old, new)?;
+    let mut batch = view_batch(alloc, schema, place, row, old, new)?;
     change_row(
         alloc,
         schema,
@@ -325,18 +326,19 @@ fn view_batch(
     alloc: Global,
     schema: &TableSchema,
     place: Bytes,
+    row: Option<ShownRow>,
     old: &Option<Item>,
     new: &Option<Item>,
 ) -> Result<Batch, NoMemory>
     requires families { HasOwnFamilies schema.now }
+    requires row { row ≡ option_map item_columns old.now }
     ensures changes { IfOk result (λ batch. batch ≡ change_between schema.now.family place
         (option_map item_columns old.now) (option_map item_columns new.now)
         ∷ index_changes schema.now old.now new.now) }
     ensures held { OnOk result (IfSome new.now IsItemOfValues) }
 {
-    let before = row_of(alloc, old)?;
     let after = row_of(alloc, new)?;
-    let change = change_of(alloc, schema.family, place, before, after)?;
+    let change = change_of(alloc, schema.family, place, row, after)?;
     let mut batch = Batch::new(alloc);
     batch.add(change)?;
     index_changes(alloc, schema, old.as_ref(), new.as_ref(), &mut batch)?;

@@ -1,5 +1,5 @@
 -- The rows of the walk are those of the changes, and nothing else changed.
-use Rattle.std.proofs.Common.{refl, sym, ap, ◌∙◌, List, take, map, rules, subst}
+use Rattle.std.proofs.Common.{refl, sym, ap, ◌∙◌, List, take, map, rules}
 use Rattle.std.proofs.lemmas.Result.{IfOk-weaker}
 use Rattle.alt_changes.specs.ChangeRows.{change_in}
 use Rattle.alt_machine.specs.Ops.GetRecords.{changes_from}

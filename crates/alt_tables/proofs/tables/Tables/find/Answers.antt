@@ -1,5 +1,5 @@
 -- What the row shows is the item, and nothing else changed.
-use Rattle.std.proofs.Common.{sym, ap, ◌∙◌, refl, Err, subst}
+use Rattle.std.proofs.Common.{sym, ap, ◌∙◌, refl, Err}
 use Rattle.alt_layout.specs.Layout.{shown}
 use Rattle.std.specs.FinMap as map
 use Rattle.alt_disk.proofs.Runs.{tells_of}

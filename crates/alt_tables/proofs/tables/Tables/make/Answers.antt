@@ -1,5 +1,5 @@
 -- A write of the state is one write of the engine.
-use Rattle.std.proofs.Common.{refl, sym, ap, Err, ◌∙◌}
+use Rattle.std.proofs.Common.{refl, ap, Err}
 use Rattle.alt_tables.proofs.Holding.{write_holds, write_images, memory_wanted, same_Err}
 use Rattle.alt_tables.proofs.tables.Tables.make.Goals as goal
 

@@ -1,5 +1,5 @@
 -- The families of all tables are live, so the rows of the state stay.
-use Rattle.std.proofs.Common.{sym, subst, refl}
+use Rattle.std.proofs.Common.{refl}
 use Rattle.alt_tables.proofs.Working.{merged_for, work_fault, worked_left, worked_stands}
 use Rattle.alt_tables.proofs.tables.Tables.work.Goals as goal
 

@@ -79,6 +79,12 @@ returns-in_default-copy_of-clause-disk g c s t place stands at here =
     c.args.self.now.engine s _ stands.rows stands.valid
     (quiet_start (g.D.Disk.state c.args.disk.now))
 
+pub returns-in_default-row_of-clause-disk : goal.returns-in_default-row_of-clause-disk
+returns-in_default-row_of-clause-disk g c s t place stands at here =
+    leaves_quiet (g.D.Disk.state c.args.disk.now) (g.D.Disk.state c.args.disk.now)
+    c.args.self.now.engine s _ stands.rows stands.valid
+    (quiet_start (g.D.Disk.state c.args.disk.now))
+
 -- what holds at Ok may be weakened
 at_ok : {A E : Type 0} (P Q : A → Type 0) → ((x : A) → P x → Q x) → (r : Result A E) → IfOk r P
     → IfOk r Q

@@ -1,5 +1,5 @@
 -- The page that was filled is answered as that of the list.
-use Rattle.std.proofs.Common.{◌≡◌, refl, sym, ap, subst, ◌∙◌, ◌<◌, ℕ, Bool, true, false, List, [], length, map, Option, Some, None, Result, Ok, Err, IfOk, IfErr, IfSome, option_map}
+use Rattle.std.proofs.Common.{◌≡◌, refl, sym, ap, subst, ◌∙◌, ◌<◌, ℕ, Bool, true, false, List, [], length, map, Option, Some, None, Result, Ok, Err, IfOk, IfErr, IfSome, OnOk, option_map}
 use Rattle.std.specs.Prelude.{if◌then◌else◌, codes}
 use Rattle.std.specs.FinMap as finite
 use Rattle.std.specs.Result.{IsErr, IsErrAnd}
@@ -16,12 +16,12 @@ use Rattle.alt_machine.specs.declared.Expressions.{Expressions}
 use Rattle.alt_ops_query.specs.private.Filled.{HasFilled}
 use Rattle.alt_ops_query.specs.private.Paged.{AnswersPage, HasLimit, answer_with, asked_page}
 use Rattle.alt_ops_query.specs.private.Replied.{page_of}
-use Rattle.alt_ops_query.specs.private.Stops.{IsFault, IfErrFailed}
+use Rattle.alt_ops_query.specs.private.Stops.{IsFault}
 use Rattle.alt_ops_query.specs.declared.walking.Filling.{Filling}
 use Rattle.alt_paging.specs.Offered.{IsPage, asked_of, unless_counts}
 use Rattle.alt_paging.specs.declared.ask.Page.{Page}
 use Rattle.alt_paging.specs.declared.ask.PageAsk.{PageAsk}
-use Rattle.alt_request.specs.Carried.{Does, IsPlain, IfFailed}
+use Rattle.alt_request.specs.Carried.{Does}
 use Rattle.alt_request.specs.Steps.{IsMemory}
 use Rattle.alt_request.specs.declared.stop.Stop.{Stop}
 use Rattle.alt_request.specs.declared.stop.Stop.TheVariants.{Refused, Fault}
@@ -142,20 +142,28 @@ does_fault now s outcome r stop same fault stands =
     (fault_does now s outcome stop fault stands)
 
 -- what is asked of the page is what the request asks
+pub asked_is : (ms : Members) (said : Expressions) (ask : PageAsk)
+    → ask ≡ asked_page ms said.condition said.projection → HasLimit ms
+    → asked_of ask ≡ page_asked ms said
+asked_is ms said ask is limit = ap asked_of is ∙ ap asked limit
+  where
+    asked : Option ℕ → Asked
+    asked most = record { limit = most; condition = said.condition; paths = said.projection }
+
+-- so its page is answered
 pub page_asks : (d : TableSchema) (x : Option IndexSchema) (ms : Members) (said : Expressions)
     (list : List (List Pair))
     (ask : PageAsk) → ask ≡ asked_page ms said.condition said.projection → HasLimit ms
     → answer_with d x ms ask list ≡ page_answer d x ms (pages.page_of (page_asked ms said) list)
     (last_examined (page_asked ms said) list)
 page_asks d x ms said list ask is limit =
-    ap (λ (a : PageAsk). answer_with d x ms a list) is ∙ ap with_limit limit
-  where
-    asked : Option ℕ → Asked
-    asked most = record { limit = most; condition = said.condition; paths = said.projection }
+    ap (λ (a : Asked). page_answer d x ms (pages.page_of a list) (last_examined a list))
+    (asked_is ms said ask is limit)
 
-    with_limit : Option ℕ → Answer
-    with_limit most = page_answer d x ms (pages.page_of (asked most) list)
-        (last_examined (asked most) list)
+-- what holds at each Ok holds where it is that
+pub on_ok : {A E P : Type 0} (r : Result A E) → P → OnOk r P
+on_ok (Ok x) h = h
+on_ok (Err e) h = tt
 
 -- options that are equal have equal descriptions
 some_same : (d x : TableSchema) → Some d ≡ Some x → d ≡ x

@@ -1,25 +1,40 @@
--- The table that is walked: its items stand at their places, and its description is the one at hand.
-use Rattle.std.proofs.Common.{◌≡◌, ◌<◌, refl, sym, ap, ◌∙◌, ℕ, List, length, slice_get, Option, Some, None, option_map, IfSome}
+-- The table that is walked: its items stand at their places and aren't too large, and its description is the one at hand.
+use Rattle.std.proofs.Common.{◌≡◌, ◌<◌, ◌≤◌, refl, sym, ap, subst, ◌∙◌, ℕ, Bool, true, false, List, length, slice_get, Option, Some, None, option_map, IfSome, arith}
+use Rattle.std.specs.Prelude.{if◌then◌else◌}
 use Rattle.std.specs.FinMap as finite
 use Rattle.alt_disk.specs.Disk.{DiskState}
+use Rattle.alt_machine.specs.declared.TheConstants.{LARGEST_ITEM}
 use Rattle.alt_machine.specs.Sources.{index_at, items_of}
 use Rattle.alt_machine.specs.State.{State, Table}
 use Rattle.alt_machine.proofs.Descriptions.{get-descriptions}
-use Rattle.alt_machine.proofs.Indexing.{all_index}
-use Rattle.alt_ops_query.specs.private.Ranges.{MayStand, place_in}
+use Rattle.alt_machine.proofs.Indexing.{all_index, is_entry}
+use Rattle.alt_ops_query.specs.Places.{MayStand, place_in}
 use Rattle.alt_ops_query.proofs.Lists.{none_past}
 use Rattle.alt_request.proofs.Named.{table_found}
-use Rattle.alt_schema.specs.Indexes.{indexes}
+use Rattle.alt_schema.specs.Indexes.{cut, index_row, indexes, is_in_index, is_projected}
 use Rattle.alt_schema.specs.declared.schema.IndexSchema.{IndexSchema}
 use Rattle.alt_schema.specs.declared.schema.TableSchema.{TableSchema}
 use Rattle.alt_tables.specs.Stands.{KeepsCatalog, Stands, catalog_of}
 use Rattle.alt_tables.specs.declared.tables.Tables.{Tables}
+use Rattle.alt_value.specs.Size.{item_size}
 use Rattle.alt_value.specs.Tree.{Pair}
 use Rattle.alt_views.proofs.Keeping.{entry_place}
+use Rattle.alt_views.proofs.Parts.{size-where}
 
 -- options that are equal have equal values
 same_some : {A : Type 0} (x y : A) → Some x ≡ Some y → x ≡ y
 same_some x y e = cc
+
+-- what an index keeps of an item is no larger than the item
+cut_size : (d : TableSchema) (i : IndexSchema) (item row : List Pair)
+    → index_row d item i ≡ Some row → item_size row ≤ item_size item
+cut_size d i item row e = by (is_in_index i item) e
+  where
+    by : (b : Bool) → (if b then Some (cut d i item) else None) ≡ Some row
+        → item_size row ≤ item_size item
+    by true e = subst (λ r. item_size r ≤ item_size item) (same_some (cut d i item) row e)
+        (size-where (is_projected d i) item)
+    by false e = absurd (let no : None ≡ Some row = e in cc no)
 
 module _ (disk : DiskState) (tables : Tables) (s : State) (stands : Stands disk tables s)
     (name : List ℕ) (t : Table) (at : finite.get s.tables name ≡ Some t) where
@@ -68,6 +83,26 @@ module _ (disk : DiskState) (tables : Tables) (s : State) (stands : Stands disk 
           → place_in t.description i item ≡ Some place
       by None may = may.0.stands
       by (Some i) may = entry_place t.description i may.1 place item may.4
+
+  -- and isn't too large
+  pub sized_at : (index : Option ℕ)
+      → ((d : TableSchema) → finite.get (catalog_of tables) name ≡ Some d
+      → IfSome index (λ n. n < length (indexes d)))
+      → (place : List ℕ) (item : List Pair)
+      → finite.get (items_of t (index_at t.description index)) place ≡ Some item
+      → item_size item ≤ LARGEST_ITEM
+  sized_at index within place item found =
+      by (index_at t.description index) (may_stand index within place item found)
+    where
+      by : (i : Option IndexSchema) → MayStand t.description i place item
+          → item_size item ≤ LARGEST_ITEM
+      by None may = may.0.size
+      by (Some i) may = omega (
+        arith,
+        may.2.size,
+        cut_size t.description i may.1 item
+            (is_entry t.description i may.1 place item may.4).kept,
+      )
 
   -- the description at hand is that of the table that is walked
   pub described : (now : Tables) (d : TableSchema) → KeepsCatalog tables now

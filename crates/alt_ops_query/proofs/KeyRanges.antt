@@ -22,7 +22,8 @@ use Rattle.alt_machine.specs.Refusals.{or_refused}
 use Rattle.alt_machine.specs.Walks.{is_beyond}
 use Rattle.alt_machine.specs.Sources.{hash_of, range_of}
 use Rattle.alt_ops_query.specs.private.Asked.{AreHeld, Asks, IsAsked, IsPlaced, Places}
-use Rattle.alt_ops_query.specs.private.Ranges.{IsBeyond, HoldsListed}
+use Rattle.alt_ops_query.specs.Places.{HoldsListed}
+use Rattle.alt_ops_query.specs.private.Ranges.{IsBeyond}
 use Rattle.alt_ops_query.proofs.KeyKinds.{asks_kinds}
 use Rattle.alt_ops_query.proofs.PlaceBytes.{bytes_there}
 use Rattle.alt_ops_query.proofs.Rests.{contains_so, so_contains, contains_beyond}

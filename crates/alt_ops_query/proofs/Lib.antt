@@ -7,6 +7,8 @@ pub mod KeyKinds
 pub mod KeyRanges
 pub mod Limited
 pub mod Lists
+pub mod PageReading
+pub mod Passing
 pub mod PlaceBytes
 pub mod Rests
 pub mod Segments

@@ -15,7 +15,7 @@ use Rattle.alt_machine.specs.Lists.{listed}
 use Rattle.alt_machine.specs.Sources.{items_of}
 use Rattle.alt_machine.specs.State.{Table}
 use Rattle.alt_machine.specs.Walks.{end_bound, is_beyond, items_between, placed_items, turned}
-use Rattle.alt_ops_query.specs.private.Ranges.{HoldsListed, MayStand}
+use Rattle.alt_ops_query.specs.Places.{HoldsListed, MayStand}
 use Rattle.alt_schema.specs.declared.schema.IndexSchema.{IndexSchema}
 use Rattle.alt_opening.proofs.Ties.{tied, itself}
 use Rattle.alt_value.specs.Members.{text_order}

@@ -13,7 +13,7 @@ use Rattle.alt_keyorder.specs.KeyBytes.{escaped, closed, key_bytes}
 use Rattle.alt_keyorder.specs.Place.{key_values, place_bytes, place_in_table}
 use Rattle.alt_keyorder.specs.Range.{AreBytes}
 use Rattle.alt_keyorder.specs.Token.{token_of}
-use Rattle.alt_ops_query.specs.private.Ranges.{MayStand}
+use Rattle.alt_ops_query.specs.Places.{MayStand}
 use Rattle.alt_ops_query.proofs.Stored.{IsBeside, field_value, has_both, keyed, same_Some}
 use Rattle.alt_schema.specs.declared.schema.IndexSchema.{IndexSchema}
 use Rattle.alt_schema.specs.declared.schema.KeyAttr.{KeyAttr}

@@ -18,7 +18,8 @@ use Rattle.alt_keyorder.proofs.Places.{keys-lie}
 use Rattle.alt_keyorder.proofs.Tokens.{token_fits}
 use Rattle.alt_machine.specs.Ops.Scan as machine
 use Rattle.alt_machine.specs.Walks.{end_bound, is_beyond}
-use Rattle.alt_ops_query.specs.private.Ranges.{IsBeyond, HoldsListed}
+use Rattle.alt_ops_query.specs.Places.{HoldsListed}
+use Rattle.alt_ops_query.specs.private.Ranges.{IsBeyond}
 use Rattle.alt_ops_query.specs.private.Tokens.{first_token, token_bytes, end_token}
 use Rattle.alt_ops_query.proofs.Rests.{contains_beyond}
 use Rattle.alt_ops_query.proofs.Stored.{keyed_there}

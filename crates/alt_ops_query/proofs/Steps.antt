@@ -1,28 +1,43 @@
--- One step of a walk: what its last item leaves of the range.
-use Rattle.std.proofs.Common.{◌≡◌, ◌≢◌, ◌≤◌, refl, sym, ap, subst, ◌∙◌, ℕ, ◌<◌, Bool, true, false, List, [], ◌∷◌, ◌++◌, map, reverse, take, drop, length, Option, Some, None, All, append_assoc, take-append-drop, length-take, arith}
+-- One step of a walk: what its last item leaves of the range, where it ends the page, and what it pays.
+use Rattle.std.proofs.Common.{◌≡◌, ◌≢◌, ◌≤◌, ◌+◌, ◌*◌, refl, sym, ap, subst, ◌∙◌, ℕ, ◌<◌, Bool, true, false, not, ◌&&◌, List, [], ◌∷◌, ◌++◌, map, reverse, take, drop, length, Option, Some, None, IfSome, All, append_assoc, append-nil, take-append-drop, length-append, length-take, is_some, arith}
+use Rattle.std.proofs.Math.Nat.{lt_of_not-le}
+use Rattle.std.specs.Prelude.{if◌then◌else◌, option_and_then}
 use Rattle.std.specs.BTreeMap.Range.{range_contains}
 use Rattle.std.specs.FinMap as finite
 use Rattle.std.specs.List.{last_or}
 use Rattle.std.specs.declared.ops.Bound.TheVariants.{Included}
 use Rattle.std.proofs.lemmas.List.{map-append, take-map, take_all, length-map}
-use Rattle.std.proofs.lemmas.List.Elements.{All-nil, All-cons, All-filter, All-take, All-head, All-tail}
+use Rattle.std.proofs.lemmas.List.Elements.{All-filter, All-map, All-take, All-head, All-tail, filter_passes}
 use Rattle.std.proofs.lemmas.List.Sorted.{All-permutation, IsPermutation-reverse}
+use Rattle.alt_cells.specs.Walks.{RowMap}
+use Rattle.alt_disk.specs.Disk.{DiskState}
+use Rattle.alt_expr.specs.Pages as pages
+use Rattle.alt_expr.specs.Pages.{ends_early}
+use Rattle.alt_families.specs.Reads.{versions_of}
+use Rattle.alt_machine.specs.declared.TheConstants.{LARGEST_ITEM}
 use Rattle.alt_machine.specs.Sources.{items_of}
 use Rattle.alt_machine.specs.State.{Table}
-use Rattle.alt_machine.specs.Walks.{end_bound, items_between, placed_items, turned}
+use Rattle.alt_machine.specs.Walks.{end_bound, is_beyond, items_between, placed_items, turned}
 use Rattle.alt_keyorder.specs.declared.range.KeyRange.{KeyRange}
-use Rattle.alt_ops_query.specs.private.Filled.{HasExamined, HasFilled, Examines, Steps}
-use Rattle.alt_ops_query.specs.private.Ranges.{IsBeyond, place_in}
+use Rattle.alt_ops_query.specs.PageReads.{is_passed, page_end}
+use Rattle.alt_ops_query.specs.Places.{place_in}
+use Rattle.alt_ops_query.specs.private.Filled.{EndsPage, Examines, GoesOn, HasExamined, is_behind, paid_for}
+use Rattle.alt_ops_query.specs.private.Ranges.{IsBeyond}
 use Rattle.alt_ops_query.specs.private.Stops.{IsFault}
 use Rattle.alt_ops_query.specs.declared.walking.Filling.{Filling}
 use Rattle.alt_ops_query.proofs.Filling.{last_push, filled_all, filled_front}
 use Rattle.alt_ops_query.proofs.Lists.{each_entry}
+use Rattle.alt_ops_query.proofs.Passing.{reached_all, reached_last}
 use Rattle.alt_ops_query.proofs.Rests.{HasLast, has_last, walked, items_walked, rest_is}
+use Rattle.alt_paging.specs.Offered.{asked_of}
 use Rattle.alt_paging.specs.declared.ask.PageAsk.{PageAsk}
+use Rattle.alt_paging.proofs.PageLaws.{examined-ended, full_prefix-ended}
 use Rattle.alt_request.specs.Steps.{IsMemory}
 use Rattle.alt_request.specs.declared.stop.Stop.{Stop}
 use Rattle.alt_schema.specs.declared.schema.IndexSchema.{IndexSchema}
+use Rattle.alt_tables.specs.Reading.{HasRowFiles, family_read, is_reached, is_within, places_between, walk_reads}
 use Rattle.alt_value.specs.Members.{text_order}
+use Rattle.alt_value.specs.Size.{item_size}
 use Rattle.alt_value.specs.Tree.{Pair}
 
 -- what holds of all holds of them either way
@@ -36,158 +51,296 @@ All-last : {A : Type 0} (P : A → Type 0) (front : List A) (x : A) → All P (f
 All-last P [] x all = All-head P x [] all
 All-last P (y ∷ ys) x all = All-last P ys x (All-tail P y (ys ++ x ∷ []) all)
 
--- options that are equal have equal values
-same_some : {A : Type 0} (x y : A) → Some x ≡ Some y → x ≡ y
-same_some x y e = cc
+-- what holds of all holds of a front
+All-front : {A : Type 0} (P : A → Type 0) (front rest : List A) → All P (front ++ rest)
+    → All P front
+All-front P front rest all = subst (All P) (front_taken front rest)
+    (All-take P (length front) (front ++ rest) all)
+  where
+    front_taken : {A : Type 0} (xs ys : List A) → take (length xs) (xs ++ ys) ≡ xs
+    front_taken [] ys = refl
+    front_taken (x ∷ xs) ys = ap (λ l. x ∷ l) (front_taken xs ys)
 
-module _ (t : Table) (i : Option IndexSchema) (stored : (place : List ℕ) (item : List Pair)
-    → finite.get (items_of t i) place ≡ Some item → place_in t.description i item ≡ Some place)
-    (forward : Bool) (from : List ℕ) (to : Option (List ℕ)) (first : List ℕ)
-    (last : Option (List ℕ)) where
-  -- each entry of the range stands at its place
-  at_places : All (λ e. place_in t.description i e.1 ≡ Some e.0) (walked t i from to forward)
+-- a front that isn't shorter is the whole
+front_all : {A : Type 0} (xs front rest : List A) → xs ≡ front ++ rest → length xs ≤ length front
+    → front ≡ xs
+front_all xs front [] is long = sym (is ∙ append-nil front)
+front_all xs front (r ∷ rs) is long =
+    absurd (omega (arith, long, ap length is, length-append front (r ∷ rs)))
+
+-- ---- the entries of a range
+
+module _ (t : Table) (i : Option IndexSchema) (forward : Bool) (from : List ℕ)
+    (to : Option (List ℕ)) where
+  -- what holds of each item that is there holds of each entry of the range
+  each_walked : (P : List ℕ × List Pair → Type 0) → ((place : List ℕ) (item : List Pair)
+      → finite.get (items_of t i) place ≡ Some item → P (place, item))
+      → All P (walked t i from to forward)
   unfolding walked
-  at_places = All-turned (λ e. place_in t.description i e.1 ≡ Some e.0) forward _ (All-filter
-      (λ e. range_contains text_order (Included from) (end_bound to) e.0)
-      (λ e. place_in t.description i e.1 ≡ Some e.0) (placed_items t i)
-      (each_entry (λ e. place_in t.description i e.1 ≡ Some e.0) (placed_items t i)
-      (finite.entries_sorted (items_of t i))
-      (λ place item at. stored place item (finite.get-entries (items_of t i) place ∙ at))))
+  each_walked P each = All-turned P forward _ (All-filter
+      (λ e. range_contains text_order (Included from) (end_bound to) e.0) P (placed_items t i)
+      (each_entry P (placed_items t i) (finite.entries_sorted (items_of t i))
+      (λ place item at. each place item (finite.get-entries (items_of t i) place ∙ at))))
 
-  -- Beyond the last item of a step the range has the items that the step didn't give.
-  pub step_rest : (n : ℕ) (seen : List (List Pair)) (item : List Pair)
-      → 0 < length (take n (items_between t i from to forward))
-      → last_or None (seen ++ take n (items_between t i from to forward)) ≡ Some item
-      → ((place : List ℕ) → place_in t.description i item ≡ Some place
-      → IsBeyond forward (Some place) from to first last)
-      → items_between t i first last forward ≡ drop n (items_between t i from to forward)
-  step_rest n seen item some is beyond =
+  -- each of them lies in it
+  within_walked : All (λ e. is_within from to e.0 ≡ true) (walked t i from to forward)
+  unfolding walked
+  within_walked = All-turned (λ e. is_within from to e.0 ≡ true) forward _
+      (filter_passes (λ e. range_contains text_order (Included from) (end_bound to) e.0)
+      (placed_items t i))
+
+  -- their places are those of the range
+  places_walked : places_between t i from to forward ≡ map (λ e. e.0) (walked t i from to forward)
+  unfolding walked
+  places_walked = refl
+
+  -- What holds of each item that is there holds of each that a step gives.
+  pub items_all : (P : List Pair → Type 0) → ((place : List ℕ) (item : List Pair)
+      → finite.get (items_of t i) place ≡ Some item → P item) → (n : ℕ)
+      → All P (take n (items_between t i from to forward))
+  items_all P each n =
       let all : List (List ℕ × List Pair) = walked t i from to forward in
-      let given : take n (items_between t i from to forward) ≡ map (λ e. e.1) (take n all) =
-      ap (take n) (items_walked t i from to forward) ∙ take-map (λ e. e.1) n all in
-      let long : length (take n (items_between t i from to forward)) ≡ length (take n all) =
-      ap length given ∙ length-map (take n all) (λ (e : List ℕ × List Pair). e.1) in
-      let end : HasLast (take n all) = has_last (take n all) (omega (arith, some, long)) in
-      let same : end.last.1 ≡ item = same_some _ _ (
-      sym (last_push None (seen ++ map (λ (e : List ℕ × List Pair). e.1) end.front) end.last.1)
-      ∙ ap (last_or None) (append_assoc seen (map (λ e. e.1) end.front) (end.last.1 ∷ [])
-      ∙ ap (λ l. seen ++ l) (sym (map-append (λ (e : List ℕ × List Pair). e.1) end.front
-      (end.last ∷ [])) ∙ ap (map (λ e. e.1)) (sym end.is) ∙ sym given)) ∙ is) in
-      let at = All-last (λ e. place_in t.description i e.1 ≡ Some e.0) end.front end.last
-      (subst (All (λ e. place_in t.description i e.1 ≡ Some e.0)) end.is
-      (All-take (λ e. place_in t.description i e.1 ≡ Some e.0) n all at_places)) in
-      rest_is t i forward from to first last n end.last end.front end.is
-      (beyond end.last.0 (ap (place_in t.description i) (sym same) ∙ at))
+      subst (All P) (sym (ap (take n) (items_walked t i from to forward)
+      ∙ take-map (λ e. e.1) n all))
+      (All-map P (λ e. e.1) (take n all) (All-take (λ e. P e.1) n all
+      (each_walked (λ e. P e.1) each)))
 
-  -- an item that has a place isn't empty
-  placed_some : (item : List Pair) (place : List ℕ) → place_in t.description i item ≡ Some place
-      → item ≢ []
-  placed_some item place at empty = let no : None ≡ Some place = sym (none_placed i)
-      ∙ ap (place_in t.description i) (sym empty) ∙ at in absurd (cc no)
-    where
-      none_placed : (i : Option IndexSchema) → place_in t.description i [] ≡ None
-      none_placed None = refl
-      none_placed (Some i) = refl
+  -- there are as many places as items
+  same_length : length (places_between t i from to forward)
+      ≡ length (items_between t i from to forward)
+  same_length =
+      let all : List (List ℕ × List Pair) = walked t i from to forward in
+      ap length places_walked ∙ length-map all (λ (e : List ℕ × List Pair). e.0)
+      ∙ sym (ap length (items_walked t i from to forward)
+      ∙ length-map all (λ (e : List ℕ × List Pair). e.1))
 
-  some_items : (es : List (List ℕ × List Pair))
-      → All (λ e. place_in t.description i e.1 ≡ Some e.0) es
-      → All (λ i. i ≢ []) (map (λ e. e.1) es)
-  some_items [] all = All-nil (λ (i : List Pair). i ≢ [])
-  some_items (e ∷ es) all = All-cons (λ (i : List Pair). i ≢ []) e.1 (map (λ x. x.1) es)
-      (placed_some e.1 e.0 (All-head (λ x. place_in t.description i x.1 ≡ Some x.0) e es all))
-      (some_items es (All-tail (λ x. place_in t.description i x.1 ≡ Some x.0) e es all))
+-- an item that has a place isn't empty
+pub placed_some : (t : Table) (i : Option IndexSchema) (item : List Pair) (place : List ℕ)
+    → place_in t.description i item ≡ Some place → item ≢ []
+placed_some t i item place at empty = let no : None ≡ Some place = sym (none_placed i)
+    ∙ ap (place_in t.description i) (sym empty) ∙ at in absurd (cc no)
+  where
+    none_placed : (i : Option IndexSchema) → place_in t.description i [] ≡ None
+    none_placed None = refl
+    none_placed (Some i) = refl
 
-  -- no item of a step is empty
-  pub steps_some : (n : ℕ) → All (λ i. i ≢ []) (take n (items_between t i from to forward))
-  steps_some n = subst (All (λ i. i ≢ []))
-      (sym (ap (take n) (items_walked t i from to forward)
-      ∙ take-map (λ e. e.1) n (walked t i from to forward)))
-      (some_items (take n (walked t i from to forward))
-      (All-take (λ e. place_in t.description i e.1 ≡ Some e.0) n
-      (walked t i from to forward) at_places))
+-- ---- the last of a step
 
--- ---- what a step comes to
-
-module _ (filling : Filling) (ask : PageAsk) (seen list items : List (List Pair)) (most : ℕ)
-    (given : items ≡ take most list) where
-  whole_list : seen ++ list ≡ (seen ++ items) ++ drop most list
-  whole_list = ap (λ l. seen ++ l) (sym (take-append-drop most list)
-      ∙ ap (λ l. l ++ drop most list) (sym given)) ∙ sym (append_assoc seen items (drop most list))
-
-  -- an item of the step ended the page
-  pub ended_so : Examines filling ask seen items false → HasFilled filling ask (seen ++ list)
-  ended_so (front, rest, is, h, ends) = filled_front filling ask (seen ++ list) (seen ++ front)
-      (rest ++ drop most list)
-      (whole_list ∙ ap (λ l. (seen ++ l) ++ drop most list) is
-      ∙ ap (λ l. l ++ drop most list) (sym (append_assoc seen front rest))
-      ∙ append_assoc (seen ++ front) rest (drop most list)) h ends
-
-  -- the step was the last of the list
-  pub last_so : Examines filling ask seen items true → length items < most
-      → HasFilled filling ask (seen ++ list)
-  last_so (h, going) few =
-      let short : length list ≤ most =
-      omega (arith, few, ap length given, length-take most list) in
-      filled_all filling ask (seen ++ list)
-      (subst (λ l. HasExamined filling ask (seen ++ l)) (given ∙ take_all most list short) h)
-
--- ---- a step behind which the walk goes on
+-- The last item of a step that gave as many as it asked for stands at the place that is told, up to which the step went; and beyond it the
+-- range has the items that the step didn't give.
+pub record IsLast (t : Table) (i : Option IndexSchema) (forward : Bool) (from : List ℕ)
+    (to : Option (List ℕ)) (most : ℕ) (items : List (List Pair)) (last : Option (List ℕ))
+    : Type 0 where
+  pub front : List (List Pair)
+  pub item : List Pair
+  pub are : items ≡ front ++ item ∷ []
+  pub place : List ℕ
+  pub told : last ≡ Some place
+  pub stands : place_in t.description i item ≡ Some place
+  pub within : is_within from to place ≡ true
+  pub reached : (key : List ℕ) → is_reached forward most (places_between t i from to forward) key
+      ≡ not (is_beyond forward (Some place) key)
+  pub rest : (first : List ℕ) (stop : Option (List ℕ))
+      → IsBeyond forward (Some place) from to first stop
+      → items_between t i first stop forward ≡ drop most (items_between t i from to forward)
 
 module _ (t : Table) (i : Option IndexSchema) (stored : (place : List ℕ) (item : List Pair)
     → finite.get (items_of t i) place ≡ Some item → place_in t.description i item ≡ Some place)
-    (forward : Bool) (from : List ℕ) (to : Option (List ℕ)) (filling : Filling) (ask : PageAsk)
-    (seen items : List (List Pair)) (most : ℕ)
+    (forward : Bool) (from : List ℕ) (to : Option (List ℕ)) (most : ℕ)
+    (items : List (List Pair)) (last : Option (List ℕ))
     (given : items ≡ take most (items_between t i from to forward))
-    (h : HasExamined filling ask (seen ++ items)) (many : most ≤ length items)
-    (some : 0 < most) where
-  -- the range beyond its last item has the others
-  pub step_on : (rest : KeyRange) → ((item : List Pair) (place : List ℕ) → filling.last ≡ Some item
-      → place_in t.description i item ≡ Some place
-      → IsBeyond forward (Some place) from to rest.from rest.to)
-      → Steps t i forward ask seen filling (items_between t i from to forward) (Some rest)
-  step_on rest beyond =
-      let list : List (List Pair) = items_between t i from to forward in
-      let long : 0 < length items = omega (arith, some, many) in
-      let end : HasLast items = has_last items long in
-      let is : last_or None (seen ++ items) ≡ Some end.last =
-      ap (λ l. last_or None (seen ++ l)) end.is
-      ∙ ap (last_or None) (sym (append_assoc seen end.front (end.last ∷ [])))
-      ∙ last_push None (seen ++ end.front) end.last in
-      let rests = step_rest t i stored forward from to rest.from rest.to most seen end.last
-      (subst (λ (l : List (List Pair)). 0 < length l) given long)
-      (subst (λ l. last_or None (seen ++ l) ≡ Some end.last) given is)
-      (λ place at. beyond end.last place (h.last ∙ is) at) in (
-        items,
-        h,
-        sym (take-append-drop most list) ∙ ap (λ l. l ++ drop most list) (sym given)
-            ∙ ap (λ l. items ++ l) (sym rests),
-      )
-
-  -- its last item is at hand, and has a place
-  pub step_placed : (item : List Pair) × (place : List ℕ) × (filling.last ≡ Some item)
-      × (place_in t.description i item ≡ Some place)
-  step_placed =
+    (told : last ≡ last_or None (take most (places_between t i from to forward)))
+    (some : 0 < most) (many : most ≤ length items) where
+  pub last_of_step : IsLast t i forward from to most items last
+  last_of_step =
       let all : List (List ℕ × List Pair) = walked t i from to forward in
+      let places : List (List ℕ) = places_between t i from to forward in
       let is : items ≡ map (λ e. e.1) (take most all) =
       given ∙ ap (take most) (items_walked t i from to forward) ∙ take-map (λ e. e.1) most all in
       let long : length items ≡ length (take most all) =
       ap length is ∙ length-map (take most all) (λ (e : List ℕ × List Pair). e.1) in
       let end : HasLast (take most all) =
       has_last (take most all) (omega (arith, some, many, long)) in
-      let split : items ≡ map (λ e. e.1) end.front ++ end.last.1 ∷ [] =
-      is ∙ ap (map (λ e. e.1)) end.is
-      ∙ map-append (λ (e : List ℕ × List Pair). e.1) end.front (end.last ∷ []) in (
-        end.last.1,
-        end.last.0,
-        h.last ∙ ap (λ l. last_or None (seen ++ l)) split
-            ∙ ap (last_or None)
-            (sym (append_assoc seen (map (λ e. e.1) end.front) (end.last.1 ∷ [])))
-            ∙ last_push None (seen ++ map (λ e. e.1) end.front) end.last.1,
-        All-last (λ e. place_in t.description i e.1 ≡ Some e.0) end.front end.last
+      let at : last_or None (take most places) ≡ Some end.last.0 =
+      ap (last_or None) (ap (take most) (places_walked t i forward from to)
+      ∙ take-map (λ (e : List ℕ × List Pair). e.0) most all ∙ ap (map (λ e. e.0)) end.is
+      ∙ map-append (λ (e : List ℕ × List Pair). e.0) end.front (end.last ∷ []))
+      ∙ last_push None (map (λ e. e.0) end.front) end.last.0 in
+      let enough : most ≤ length places =
+      omega (
+        arith,
+        many,
+        ap length given,
+        same_length t i forward from to,
+        length-take most (items_between t i from to forward),
+      ) in
+      record {
+        front = map (λ e. e.1) end.front;
+        item = end.last.1;
+        are = is ∙ ap (map (λ e. e.1)) end.is
+            ∙ map-append (λ (e : List ℕ × List Pair). e.1) end.front (end.last ∷ []);
+        place = end.last.0;
+        told = told ∙ at;
+        stands = All-last (λ e. place_in t.description i e.1 ≡ Some e.0) end.front end.last
             (subst (All (λ e. place_in t.description i e.1 ≡ Some e.0)) end.is
             (All-take (λ e. place_in t.description i e.1 ≡ Some e.0) most all
-            (at_places t i stored forward from to from to))),
-      )
+            (each_walked t i forward from to (λ e. place_in t.description i e.1 ≡ Some e.0)
+            stored)));
+        within = All-last (λ e. is_within from to e.0 ≡ true) end.front end.last
+            (subst (All (λ e. is_within from to e.0 ≡ true)) end.is
+            (All-take (λ e. is_within from to e.0 ≡ true) most all
+            (within_walked t i forward from to)));
+        reached = λ key. reached_last forward most places None end.last.0 key some enough at;
+        rest = λ first stop beyond. rest_is t i forward from to first stop most end.last end.front
+            end.is beyond;
+      }
+
+-- ---- what a step comes to
+
+-- what was paid once
+paid_once : (p : List ℕ → Bool) (maps : List RowMap)
+    → versions_of p maps + 2 * length maps ≤ paid_for p maps 1
+paid_once p maps = omega arith
+
+-- what is paid for other words of the same places
+paid_as : (x y : ℕ) (p q : List ℕ → Bool) (maps : List RowMap) → ((key : List ℕ) → p key ≡ q key)
+    → y ≤ x + (versions_of p maps + 2 * length maps) → y ≤ x + paid_for q maps 1
+paid_as x y p q maps same paid =
+    let once = paid_once q maps in
+    let so : y ≤ x + (versions_of q maps + 2 * length maps) =
+    subst (λ (r : List ℕ → Bool). y ≤ x + (versions_of r maps + 2 * length maps))
+    (λ j key. same key j) paid in
+    omega (arith, once, so)
+
+module _ (a b : DiskState) (t : Table) (i : Option IndexSchema) (stored : (place : List ℕ)
+    (item : List Pair) → finite.get (items_of t i) place ≡ Some item
+    → place_in t.description i item ≡ Some place) (forward : Bool) (range : KeyRange)
+    (filling : Filling) (ask : PageAsk) (seen items : List (List Pair)) (most : ℕ)
+    (last : Option (List ℕ))
+    (given : items ≡ take most (items_between t i range.from range.to forward))
+    (told : last ≡ last_or None (take most (places_between t i range.from range.to forward)))
+    (some : 0 < most)
+    (paid : (maps : List RowMap) → HasRowFiles a.file (family_read t.description i) maps
+    → b.reads ≤ a.reads + walk_reads forward range.from range.to most
+    (places_between t i range.from range.to forward) maps) where
+  -- the items of the range
+  abbrev list : List (List Pair)
+  list = items_between t i range.from range.to forward
+
+  whole_list : seen ++ list ≡ (seen ++ items) ++ drop most list
+  whole_list = ap (λ l. seen ++ l) (sym (take-append-drop most list)
+      ∙ ap (λ l. l ++ drop most list) (sym given)) ∙ sym (append_assoc seen items (drop most list))
+
+  -- the walk goes on: the range beyond its last item has the others
+  pub step_on : HasExamined filling ask (seen ++ items) → most ≤ length items → (rest : KeyRange)
+      → IsBeyond forward last range.from range.to rest.from rest.to
+      → GoesOn a b t i forward ask seen filling range rest
+  step_on h many rest beyond =
+      let end = last_of_step t i stored forward range.from range.to most items last given told some
+      many in
+      let further = subst (λ o. IsBeyond forward o range.from range.to rest.from rest.to) end.told
+      beyond in
+      record {
+        front = items;
+        some = omega (arith, some, many);
+        examined = h;
+        whole = sym (take-append-drop most list) ∙ ap (λ l. l ++ drop most list) (sym given)
+            ∙ ap (λ l. items ++ l) (sym (end.rest rest.from rest.to further));
+        last = end.place;
+        within = end.within;
+        beyond = further;
+        paid = λ maps has. paid_as a.reads b.reads _
+            (is_behind forward range.from range.to (Some end.place)) maps
+            (λ key. ap (λ x. is_within range.from range.to key && x) (end.reached key))
+            (paid maps has);
+      }
+
+  -- ---- an item of the step ended the page
+
+  module _ (h : HasExamined filling ask (seen ++ items))
+      (ends : ends_early ask.limit (seen ++ items) ≡ true)
+      (end : IsLast t i forward range.from range.to most items last) where
+    -- then the page of the whole list has ended there
+    ends_list : ends_early ask.limit (seen ++ list) ≡ true
+    ends_list = ap (ends_early ask.limit) whole_list
+        ∙ ap is_some (full_prefix-ended ask.limit (seen ++ items) (drop most list) ends) ∙ ends
+
+    examined_list : pages.examined ask.limit (seen ++ list) ≡ seen ++ items
+    examined_list = ap (pages.examined ask.limit) whole_list
+        ∙ examined-ended ask.limit (seen ++ items) (drop most list) ends ∙ h.offered.whole
+
+    last_item : last_or None (seen ++ items) ≡ Some end.item
+    last_item = ap (last_or None) (ap (λ l. seen ++ l) end.are
+        ∙ sym (append_assoc seen end.front (end.item ∷ [])))
+        ∙ last_push None (seen ++ end.front) end.item
+
+    ends_at : page_end t i (asked_of ask) (seen ++ list) ≡ Some end.place
+    ends_at = ap (option_and_then (place_in t.description i))
+        ((λ j. if ends_list j then last_or None (examined_list j) else None) ∙ last_item)
+        ∙ end.stands
+
+    page_ended : EndsPage a b t i forward ask seen list filling range
+    page_ended = record {
+      filled = filled_front filling ask (seen ++ list) (seen ++ items) (drop most list) whole_list h
+          ends;
+      more = omega (arith, ap length examined_list, length-append seen items);
+      within = subst (λ o. IfSome o (λ place. is_within range.from range.to place ≡ true))
+          (sym ends_at) end.within;
+      paid = λ maps has. subst
+          (λ o. b.reads ≤ a.reads + paid_for (is_passed forward range.from range.to o) maps 1)
+          (sym ends_at) (paid_as a.reads b.reads _
+          (is_passed forward range.from range.to (Some end.place)) maps
+          (λ key. ap (λ x. is_within range.from range.to key && x) (end.reached key))
+          (paid maps has));
+    }
+
+  -- Fewer items than the step asked for never end the page, so where one does it is the last of them.
+  pub step_ended : Examines filling ask seen items false → All (λ x. item_size x ≤ LARGEST_ITEM) items
+      → ((more : List (List Pair)) → All (λ x. item_size x ≤ LARGEST_ITEM) more
+      → length more < most → ends_early ask.limit (seen ++ more) ≡ false)
+      → EndsPage a b t i forward ask seen list filling range
+  step_ended (front, rest, is, h, ends) sized sure =
+      let long : most < length front + 1 = lt_of_not-le (λ short.
+      let unended : ends_early ask.limit (seen ++ front) ≡ false = sure front
+      (All-front (λ x. item_size x ≤ LARGEST_ITEM) front rest
+      (subst (All (λ x. item_size x ≤ LARGEST_ITEM)) is sized)) (omega (arith, short)) in
+      let no : true ≡ false = sym ends ∙ unended in cc no) in
+      let taken : length items ≤ most =
+      omega (arith, ap length given, length-take most list) in
+      let same : front ≡ items = front_all items front rest is (omega (arith, long, taken)) in
+      page_ended (subst (λ l. HasExamined filling ask (seen ++ l)) same h)
+      (subst (λ l. ends_early ask.limit (seen ++ l) ≡ true) same ends)
+      (last_of_step t i stored forward range.from range.to most items last given told some
+      (omega (arith, long, ap length same)))
+
+  -- ---- the step was the last of the list
+
+  pub step_last : Examines filling ask seen items true → length items < most
+      → EndsPage a b t i forward ask seen list filling range
+  step_last (h, going) few =
+      let short : length list ≤ most =
+      omega (arith, few, ap length given, length-take most list) in
+      let same : items ≡ list = given ∙ take_all most list short in
+      let all : HasExamined filling ask (seen ++ list) =
+      subst (λ l. HasExamined filling ask (seen ++ l)) same h in
+      let unended : ends_early ask.limit (seen ++ list) ≡ false = sym all.offered.ended ∙ going in
+      let none : page_end t i (asked_of ask) (seen ++ list) ≡ None =
+      ap (option_and_then (place_in t.description i))
+      (λ j. if unended j then last_or None (pages.examined ask.limit (seen ++ list)) else None) in
+      let fewer : length (places_between t i range.from range.to forward) < most =
+      omega (arith, few, ap length same, same_length t i forward range.from range.to) in
+      record {
+        filled = filled_all filling ask (seen ++ list) all;
+        more = omega (arith, ap length all.offered.whole, length-append seen list);
+        within = subst (λ o. IfSome o (λ place. is_within range.from range.to place ≡ true))
+            (sym none) tt;
+        paid = λ maps has. subst
+            (λ o. b.reads ≤ a.reads + paid_for (is_passed forward range.from range.to o) maps 1)
+            (sym none) (paid_as a.reads b.reads _ (is_passed forward range.from range.to None) maps
+            (λ key. ap (λ x. is_within range.from range.to key && x)
+            (reached_all forward most (places_between t i range.from range.to forward) key fewer))
+            (paid maps has));
+      }
 
 -- ---- faults
 

@@ -12,7 +12,7 @@ use Rattle.alt_keyorder.specs.Token.{token_of}
 use Rattle.alt_machine.specs.Indexed.{KeyValues, values_beside, values_of, place_of_both, index_place, index_entry}
 use Rattle.alt_machine.specs.Sources.{hash_of, range_of}
 use Rattle.alt_machine.proofs.Indexing.{has_keys}
-use Rattle.alt_ops_query.specs.private.Ranges.{MayStand}
+use Rattle.alt_ops_query.specs.Places.{MayStand}
 use Rattle.alt_schema.specs.declared.schema.IndexSchema.{IndexSchema}
 use Rattle.alt_schema.specs.declared.schema.KeyAttr.{KeyAttr}
 use Rattle.alt_schema.specs.declared.schema.TableSchema.{TableSchema}

@@ -1,13 +1,22 @@
 -- A walk: what was examined so far, and what is ahead.
-use Rattle.std.proofs.Common.{◌≡◌, ◌≢◌, refl, sym, ap, subst, ◌∙◌, Bool, true, false, not, List, [], ◌∷◌, ◌++◌, Option, Some, None, All, append_assoc, append-nil}
+use Rattle.std.proofs.Common.{◌≡◌, ◌≢◌, ◌≤◌, ◌+◌, refl, sym, ap, subst, ◌∙◌, ℕ, Bool, true, false, not, List, [], ◌∷◌, ◌++◌, length, Option, Some, None, All, append_assoc, append-nil, length-append, arith}
+use Rattle.std.proofs.Math.Nat.{le-add_right}
 use Rattle.std.proofs.lemmas.List.Elements.{All-head, All-tail}
+use Rattle.alt_cells.specs.Walks.{RowMap}
+use Rattle.alt_disk.specs.Disk.{DiskState}
+use Rattle.alt_expr.specs.Pages as pages
 use Rattle.alt_keyorder.specs.declared.range.KeyRange.{KeyRange}
 use Rattle.alt_machine.specs.State.{Table}
 use Rattle.alt_machine.specs.Walks.{items_between}
-use Rattle.alt_ops_query.specs.private.Filled.{HasExamined, HasFilled, Steps}
+use Rattle.alt_ops_query.specs.PageReads.{is_passed, most_reads, page_end}
+use Rattle.alt_ops_query.specs.private.Filled.{EndsPage, GoesOn, HasExamined, HasFilled, is_behind, paid_for}
+use Rattle.alt_ops_query.specs.private.Ranges.{IsBeyond}
 use Rattle.alt_ops_query.specs.declared.walking.Filling.{Filling}
+use Rattle.alt_ops_query.proofs.Passing.{beyond_on, fits_behind, fits_passed, paid_more}
+use Rattle.alt_paging.specs.Offered.{asked_of}
 use Rattle.alt_paging.specs.declared.ask.PageAsk.{PageAsk}
 use Rattle.alt_schema.specs.declared.schema.IndexSchema.{IndexSchema}
+use Rattle.alt_tables.specs.Reading.{HasRowFiles, family_read}
 use Rattle.alt_value.specs.Tree.{Pair}
 
 -- ---- the items of a step
@@ -56,34 +65,97 @@ one_more before now then items ahead item ask seen so h = record {
 
 -- ---- the steps of a walk
 
--- those were examined, and the range that is left has the others
-pub record IsWalked (now : Filling) (ask : PageAsk) (t : Table) (i : Option IndexSchema)
-    (forward : Bool)
-    (list : List (List Pair)) (rest : KeyRange) : Type 0 where
+-- Those were examined, and the range that is left has the others and lies beyond a place, up to which the walk paid.
+pub record IsWalked (a b : DiskState) (now : Filling) (ask : PageAsk) (t : Table)
+    (i : Option IndexSchema) (forward : Bool) (range rest : KeyRange) : Type 0 where
   pub seen : List (List Pair)
   pub examined : HasExamined now ask seen
-  pub whole : list ≡ seen ++ items_between t i rest.from rest.to forward
+  pub whole : items_between t i range.from range.to forward
+      ≡ seen ++ items_between t i rest.from rest.to forward
+  pub place : Option (List ℕ)
+  pub beyond : IsBeyond forward place range.from range.to rest.from rest.to
+  pub paid : (maps : List RowMap) → HasRowFiles a.file (family_read t.description i) maps
+      → b.reads ≤ a.reads
+      + paid_for (is_behind forward range.from range.to place) maps (length seen)
 
-module _ (now then : Filling) (ask : PageAsk) (t : Table) (i : Option IndexSchema) (forward : Bool)
-    (list : List (List Pair)) (range : KeyRange)
-    (so : IsWalked now ask t i forward list range) where
+-- before the first step nothing is paid
+pub walk_starts : (a : DiskState) (now : Filling) (ask : PageAsk) (t : Table)
+    (i : Option IndexSchema) (forward : Bool) (range : KeyRange) → HasExamined now ask []
+    → IsWalked a a now ask t i forward range range
+walk_starts a now ask t i forward range h = record {
+  seen = [];
+  examined = h;
+  whole = refl;
+  place = None;
+  beyond = λ key. (λ within. (within, refl), λ both. both.0);
+  paid = λ maps has. le-add_right a.reads
+      (paid_for (is_behind forward range.from range.to None) maps 0);
+}
+
+-- what two steps pay is what both pay together
+total_of : (x y z p q r : ℕ) → y ≤ x + p → z ≤ y + q → p + q ≤ r → z ≤ x + r
+total_of x y z p q r h k l = omega (arith, h, k, l)
+
+-- the files of a family stay while the files do
+pub same_row_files : (a b : DiskState) (family : ℕ) (maps : List RowMap)
+    → ((f : ℕ) → b.file f ≡ a.file f) → HasRowFiles a.file family maps
+    → HasRowFiles b.file family maps
+same_row_files a b family maps same has =
+    subst (λ files. HasRowFiles files family maps) (λ i f. sym (same f) i) has
+
+module _ (a b c : DiskState) (now then : Filling) (ask : PageAsk) (t : Table)
+    (i : Option IndexSchema) (forward : Bool) (range rest : KeyRange)
+    (so : IsWalked a b now ask t i forward range rest)
+    (same : (f : ℕ) → b.file f ≡ a.file f) where
   -- a step more
-  pub walk_on : (rest : KeyRange)
-      → Steps t i forward ask so.seen
-      then (items_between t i range.from range.to forward) (Some rest)
-      → IsWalked then ask t i forward list rest
-  walk_on rest (front, h, is) = record {
-    seen = so.seen ++ front;
-    examined = h;
-    whole = so.whole ∙ ap (λ l. so.seen ++ l) is
-        ∙ sym (append_assoc so.seen front (items_between t i rest.from rest.to forward));
+  pub walk_on : (left : KeyRange) → GoesOn b c t i forward ask so.seen then rest left
+      → IsWalked a c then ask t i forward range left
+  walk_on left step = record {
+    seen = so.seen ++ step.front;
+    examined = step.examined;
+    whole = so.whole ∙ ap (λ l. so.seen ++ l) step.whole
+        ∙ sym (append_assoc so.seen step.front (items_between t i left.from left.to forward));
+    place = Some step.last;
+    beyond = beyond_on forward so.place range.from range.to rest.from rest.to so.beyond step.last
+        step.within left.from left.to step.beyond;
+    paid = λ maps has.
+        let more : length so.seen + 1 ≤ length (so.seen ++ step.front) =
+        omega (arith, step.some, length-append so.seen step.front) in
+        let before = so.paid maps has in
+        let after = step.paid maps (same_row_files a b (family_read t.description i) maps same has)
+        in
+        let both = paid_more (is_behind forward range.from range.to so.place)
+        (is_behind forward rest.from rest.to (Some step.last))
+        (is_behind forward range.from range.to (Some step.last))
+        (fits_behind forward so.place range.from range.to rest.from rest.to so.beyond step.last
+        step.within) maps (length so.seen) (length (so.seen ++ step.front)) more in
+        total_of a.reads b.reads c.reads _ _ _ before after both;
   }
 
-  -- the last one
-  pub walk_ended : Steps t i forward ask so.seen
-      then (items_between t i range.from range.to forward) None
-      → HasFilled then ask list
-  walk_ended h = subst (HasFilled then ask) (sym so.whole) h
+  module _ (step : EndsPage b c t i forward ask so.seen
+      (items_between t i rest.from rest.to forward) then rest) where
+    -- the last one fills the page
+    pub walk_ended : HasFilled then ask (items_between t i range.from range.to forward)
+    walk_ended = subst (HasFilled then ask) (sym so.whole) step.filled
+
+    -- and then all is paid
+    pub walk_paid : (maps : List RowMap) → HasRowFiles a.file (family_read t.description i) maps
+        → c.reads ≤ a.reads + most_reads t i forward range.from range.to (asked_of ask)
+        (items_between t i range.from range.to forward) maps
+    walk_paid maps has =
+        let list : List (List Pair) = so.seen ++ items_between t i rest.from rest.to forward in
+        let end : Option (List ℕ) = page_end t i (asked_of ask) list in
+        let before = so.paid maps has in
+        let after = step.paid maps (same_row_files a b (family_read t.description i) maps same has)
+        in
+        let more : length so.seen + 1 ≤ 1 + length (pages.examined ask.limit list) =
+        omega (arith, step.more) in
+        let both = paid_more (is_behind forward range.from range.to so.place)
+        (is_passed forward rest.from rest.to end) (is_passed forward range.from range.to end)
+        (fits_passed forward so.place range.from range.to rest.from rest.to so.beyond end
+        step.within) maps (length so.seen) (1 + length (pages.examined ask.limit list)) more in
+        subst (λ l. c.reads ≤ a.reads + most_reads t i forward range.from range.to (asked_of ask) l
+        maps) (sym so.whole) (total_of a.reads b.reads c.reads _ _ _ before after both)
 
 -- a page that doesn't go on has ended
 pub ended_by : (more ends : Bool) → more ≡ not ends → more ≡ false → ends ≡ true

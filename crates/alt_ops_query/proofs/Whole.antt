@@ -20,7 +20,7 @@ use Rattle.alt_machine.specs.Sources.{hash_of, index_at}
 use Rattle.alt_machine.specs.State.{State, Table}
 use Rattle.alt_machine.specs.Walks.{items_between}
 use Rattle.alt_ops_query.specs.private.Asked.{Asks, IsAsked, Segments, IsOfSegment}
-use Rattle.alt_ops_query.specs.private.Ranges.{HoldsListed}
+use Rattle.alt_ops_query.specs.Places.{HoldsListed}
 use Rattle.alt_ops_query.proofs.Answering.{within_of}
 use Rattle.alt_ops_query.proofs.Described.{may_stand}
 use Rattle.alt_ops_query.proofs.Lists.{items_between-listed}
@@ -72,7 +72,7 @@ module _ (disk : DiskState) (tables : Tables) (s : State) (stands : Stands disk 
     (within : (x : TableSchema) → map.get (catalog_of tables) name ≡ Some x
     → IfSome index (λ n. n < length (indexes x))) where
   -- the items of a range that holds a list are the list
-  list_is : (forward : Bool) (place : Option (List ℕ)) (test : List Pair → Bool) (range : KeyRange)
+  pub list_is : (forward : Bool) (place : Option (List ℕ)) (test : List Pair → Bool) (range : KeyRange)
       → HoldsListed forward place test d (index_at d index) range.from range.to
       → items_between t (index_at t.description index) range.from range.to forward
       ≡ listed forward place test t (index_at t.description index)

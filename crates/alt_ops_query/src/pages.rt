@@ -1,23 +1,27 @@
 //! The page of a range of a table, or of one of its indexes.
 
-ghost use Rattle.std.specs.Prelude.{◌≡◌, ◌<◌, true, false, Some, None, if◌then◌else◌, IfOk, IfErr, IfSome, codes, length};
+ghost use Rattle.std.specs.Prelude.{◌≡◌, ◌<◌, ◌≤◌, ◌+◌, true, false, List, Some, None, if◌then◌else◌, IfOk, IfErr, IfSome, OnOk, codes, length};
 ghost use Rattle.std.specs.FinMap as map;
 ghost use Rattle.serde_json.specs.View.{members_view};
 ghost use Rattle.serde_json.specs.Written.{has_float};
 ghost use Rattle.alt_base.specs.Counts.{Rose};
-ghost use Rattle.alt_machine.specs.Lists.{pages};
+ghost use Rattle.alt_cells.specs.Walks.{RowMap};
+ghost use Rattle.alt_machine.specs.Lists.{page_asked, pages};
 ghost use Rattle.alt_machine.specs.Members.{table_name};
 ghost use Rattle.alt_machine.specs.Outcomes.{says};
 ghost use Rattle.alt_machine.specs.Sources.{index_at, selects};
 ghost use Rattle.alt_machine.specs.State.{State, Table};
 ghost use Rattle.alt_machine.specs.Walks.{items_between};
+ghost use Rattle.alt_ops_query.specs.PageReads.{most_reads};
 ghost use Rattle.alt_ops_query.specs.private.Paged.{AnswersPage, HasLimit, answer_with};
+ghost use Rattle.alt_paging.specs.Offered.{asked_of};
 ghost use Rattle.alt_request.specs.Carried.{Does, IsPlain, IfFailed};
 ghost use Rattle.alt_request.specs.Steps.{IsMemory};
 ghost use Rattle.alt_schema.specs.Indexes.{indexes};
 ghost use Rattle.alt_schema.specs.declared.schema.TableSchema.{TableSchema};
 ghost use Rattle.alt_shape.specs.Body.{body_json};
 ghost use Rattle.alt_shape.specs.Refusals.{answer_of};
+ghost use Rattle.alt_tables.specs.Reading.{HasRowFiles, family_read};
 ghost use Rattle.alt_tables.specs.Stands.{AreReady, Reads, Stands, catalog_of, limits_of};
 
 use crate::asking::page_ask;
@@ -59,6 +63,15 @@ pub(crate) fn page_of_range<D: Disk>(
         → Does (Stands (D.state disk.new) tables.new) s (pages t.description
         (index_at t.description index) (members_view body.now.entries) said
         (items_between t (index_at t.description index) range.from range.to forward)) result }
+    ensures reads { (s : State) (t : Table) (maps : List RowMap)
+        → Stands (D.state disk.old) tables.old s
+        → map.get s.tables (table_name (members_view body.now.entries)) ≡ Some t
+        → HasRowFiles (D.state disk.old).file
+        (family_read t.description (index_at t.description index)) maps
+        → OnOk result ((D.state disk.new).reads ≤ (D.state disk.old).reads
+        + most_reads t (index_at t.description index) forward range.from range.to
+        (page_asked (members_view body.now.entries) said)
+        (items_between t (index_at t.description index) range.from range.to forward) maps) }
     ensures plain { IsPlain result }
     ensures disk { Reads (D.state disk.old) (D.state disk.new) }
     ensures failed { IfFailed result (Rose (D.state disk.old).faults (D.state disk.new).faults) }
@@ -97,6 +110,14 @@ fn page_of_ask<D: Disk>(
         → Does (Stands (D.state disk.new) tables.new) s (says (answer_with t.description
         (index_at t.description index) (members_view body.now.entries) ask
         (items_between t (index_at t.description index) range.from range.to forward))) result }
+    ensures reads { (s : State) (t : Table) (maps : List RowMap)
+        → Stands (D.state disk.old) tables.old s
+        → map.get s.tables (table_name (members_view body.now.entries)) ≡ Some t
+        → HasRowFiles (D.state disk.old).file
+        (family_read t.description (index_at t.description index)) maps
+        → OnOk result ((D.state disk.new).reads ≤ (D.state disk.old).reads
+        + most_reads t (index_at t.description index) forward range.from range.to (asked_of ask)
+        (items_between t (index_at t.description index) range.from range.to forward) maps) }
     ensures plain { IsPlain result }
     ensures disk { Reads (D.state disk.old) (D.state disk.new) }
     ensures failed { IfFailed result (Rose (D.state disk.old).faults (D.state disk.new).faults) }

@@ -1,6 +1,6 @@
 //! Query.
 
-ghost use Rattle.std.specs.Prelude.{◌≡◌, ◌<◌, List, IfOk, IfSome, length, option_map};
+ghost use Rattle.std.specs.Prelude.{◌≡◌, ◌<◌, List, IfOk, IfSome, OnOk, length, option_map};
 ghost use Rattle.serde_json.specs.View.{members_view};
 ghost use Rattle.alt_expr.specs.KeyForm.{meets};
 ghost use Rattle.alt_expr.specs.Pages.{passes};
@@ -9,7 +9,9 @@ ghost use Rattle.alt_keycond.specs.KeysAsked.{AsksKeys};
 ghost use Rattle.alt_keyorder.specs.KeyBytes.{IsKey};
 ghost use Rattle.alt_machine.specs.Ops.Query.{query, goes_forward, key_asked, key_of as machine_key};
 ghost use Rattle.alt_machine.specs.Sources.{index_at, hash_of, range_of};
+ghost use Rattle.alt_machine.specs.State.{State};
 ghost use Rattle.alt_schema.specs.Indexes.{indexes};
+ghost use Rattle.alt_ops_query.specs.PageReads.{ReadsQuery};
 ghost use Rattle.alt_ops_query.specs.private.Asked.{AreHeld, Asks, Places};
 ghost use Rattle.alt_request.specs.Carried.{Carries, Moves};
 ghost use Rattle.alt_request.specs.Steps.{Comes};
@@ -62,6 +64,10 @@ pub fn query<D: Disk>(
     ensures moves { Moves (λ s. query s (members_view body.now.entries))
         (Stands (D.state disk.old) tables.old) (D.state disk.old) (D.state disk.new) result }
     ensures disk { Reads (D.state disk.old) (D.state disk.new) }
+    // The device is read no more often than the row files and the versions in them that the page passes ask for.
+    ensures reads { (s : State) → Stands (D.state disk.old) tables.old s
+        → OnOk result (ReadsQuery s (members_view body.now.entries) (D.state disk.old)
+        (D.state disk.new)) }
 {
     let _ = moment;
     let broken = bodies::query(body);

@@ -1,12 +1,14 @@
 //! Scan.
 
-ghost use Rattle.std.specs.Prelude.{◌≡◌, ◌||◌, ◌+◌, ◌^◌, ◌<◌, ◌≤◌, [], false, None, IfOk, IfSome, option_map, length};
+ghost use Rattle.std.specs.Prelude.{◌≡◌, ◌||◌, ◌+◌, ◌^◌, ◌<◌, ◌≤◌, [], false, None, IfOk, IfSome, OnOk, option_map, length};
 ghost use Rattle.serde_json.specs.View.{members_view};
 ghost use Rattle.alt_machine.specs.Lists.{is_mismatched};
 ghost use Rattle.alt_machine.specs.Ops.Scan as machine;
 ghost use Rattle.alt_machine.specs.Ops.Scan.{scan, is_segment_odd};
 ghost use Rattle.alt_machine.specs.Sources.{index_at};
+ghost use Rattle.alt_machine.specs.State.{State};
 ghost use Rattle.alt_schema.specs.Indexes.{indexes};
+ghost use Rattle.alt_ops_query.specs.PageReads.{ReadsScan};
 ghost use Rattle.alt_ops_query.specs.private.Asked.{Segments};
 ghost use Rattle.alt_ops_query.specs.private.Tokens.{segment_in, first_token, token_bytes, end_token};
 ghost use Rattle.alt_request.specs.Carried.{Carries, Moves};
@@ -61,6 +63,10 @@ pub fn scan<D: Disk>(
     ensures moves { Moves (λ s. scan s (members_view body.now.entries))
         (Stands (D.state disk.old) tables.old) (D.state disk.old) (D.state disk.new) result }
     ensures disk { Reads (D.state disk.old) (D.state disk.new) }
+    // The device is read no more often than the row files and the versions in them that the page passes ask for.
+    ensures reads { (s : State) → Stands (D.state disk.old) tables.old s
+        → OnOk result (ReadsScan s (members_view body.now.entries) (D.state disk.old)
+        (D.state disk.new)) }
 {
     let _ = moment;
     let broken = bodies::scan(body);

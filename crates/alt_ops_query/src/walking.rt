@@ -1,40 +1,35 @@
-//! A walk over the items of a table, or of one of its indexes, that ends with a page.
+//! A walk over the items of a table, or of one of its indexes, that ends with a page. It asks for no more items than are certain to be
+//! examined, so it reads no row beyond the last of them.
 
-ghost use Rattle.std.specs.Prelude.{◌≡◌, ◌≢◌, ◌↔◌, ◌++◌, ◌∷◌, [], ℕ, not, true, false, List, Some, None, All, IfOk, IfErr, IfSome, OnOk, length, option_and_then, option_map, ◌<◌};
+ghost use Rattle.std.specs.Prelude.{◌≡◌, ◌≢◌, ◌↔◌, ◌++◌, ◌+◌, ◌≤◌, ◌∷◌, [], not, true, false, List, Some, None, All, IfOk, IfErr, IfSome, OnOk, length, ◌<◌};
 ghost use Rattle.std.specs.FinMap as map;
 ghost use Rattle.alt_base.specs.Counts.{Rose};
+ghost use Rattle.alt_cells.specs.Walks.{RowMap};
 ghost use Rattle.alt_expr.specs.Pages.{ends_early};
 ghost use Rattle.alt_machine.specs.Sources.{index_at};
 ghost use Rattle.alt_machine.specs.State.{State, Table};
 ghost use Rattle.alt_machine.specs.Walks.{items_between};
+ghost use Rattle.alt_ops_query.specs.PageReads.{most_reads};
 ghost use Rattle.alt_ops_query.specs.private.Filled.{HasExamined, HasFilled, Examines, Steps};
-ghost use Rattle.alt_ops_query.specs.private.Ranges.{IsBeyond, place_in};
-ghost use Rattle.alt_ops_query.specs.private.Stops.{IsFault, IsUnfailed, IfErrFailed};
-ghost use Rattle.alt_paging.specs.Offered.{has_ended};
+ghost use Rattle.alt_ops_query.specs.private.Stops.{IsFault, IfErrFailed};
+ghost use Rattle.alt_paging.specs.Offered.{asked_of, has_ended};
 ghost use Rattle.alt_paging.specs.declared.ask.PageAsk.{PageAsk};
 ghost use Rattle.alt_request.specs.Steps.{IsMemory};
 ghost use Rattle.alt_schema.specs.Indexes.{indexes};
 ghost use Rattle.alt_schema.specs.declared.schema.TableSchema.{TableSchema};
+ghost use Rattle.alt_tables.specs.Reading.{HasRowFiles, family_read};
 ghost use Rattle.alt_tables.specs.Stands.{AreReady, Reads, Stands, KeepsCatalog, catalog_of};
 ghost use Rattle.alt_value.specs.Tree.{Pair};
 
 use crate::places::beyond;
-use crate::sources::index_of;
-use alt_base::NoMemory;
 use alt_disk::Disk;
-use alt_fields::Bytes;
 use alt_keyorder::KeyRange;
 use alt_machine::LARGEST_ITEM;
 use alt_paging::Pager;
 use alt_request::Stop;
-use alt_schema::{IndexSchema, TableSchema};
 use alt_tables::{TableFault, Tables};
-use alt_value::{Item, item_size_within};
-use alt_views::{index_place, place_of};
+use alt_value::Item;
 use std::alloc::Global;
-
-/// How many items are asked for at once where they are small.
-const AHEAD: u32 = 64;
 
 /// A page that is being filled, and the last item that was examined for it.
 #[derive(Drop)]
@@ -65,6 +60,14 @@ pub(crate) fn fill<D: Disk>(
         → map.get s.tables table.now ≡ Some t → HasExamined filling.old ask []
         → OnOk result (HasFilled filling.new ask
         (items_between t (index_at t.description index) range.from range.to forward)) }
+    ensures reads { (s : State) (t : Table) (ask : PageAsk) (maps : List RowMap)
+        → Stands (D.state disk.old) tables.old s
+        → map.get s.tables table.now ≡ Some t → HasExamined filling.old ask []
+        → HasRowFiles (D.state disk.old).file
+        (family_read t.description (index_at t.description index)) maps
+        → OnOk result ((D.state disk.new).reads ≤ (D.state disk.old).reads
+        + most_reads t (index_at t.description index) forward range.from range.to (asked_of ask)
+        (items_between t (index_at t.description index) range.from range.to forward) maps) }
     ensures stays { (s : State) → Stands (D.state disk.old) tables.old s ↔ Stands
         (D.state disk.new) tables.new s }
     ensures catalog { KeepsCatalog tables.old tables.new }
@@ -85,7 +88,8 @@ pub(crate) fn fill<D: Disk>(
     Err(Stop::Fault(TableFault::NoMemory))
 }
 
-/// One step of a walk: the rest of the range, `None` where the page or the range has ended.
+/// One step of a walk, which asks for as many items as are certain to be examined: the rest of the range, `None` where the page or the
+/// range has ended.
 fn step<D: Disk>(
     alloc: Global,
     tables: &mut Tables,
@@ -104,8 +108,8 @@ fn step<D: Disk>(
     ensures steps { (s : State) (t : Table) (ask : PageAsk) (seen : List (List Pair))
         → Stands (D.state disk.old) tables.old s → map.get s.tables table.now ≡ Some t
         → HasExamined filling.old ask seen → IfOk result
-        (Steps t (index_at t.description index) forward ask seen filling.new
-        (items_between t (index_at t.description index) range.from range.to forward)) }
+        (Steps (D.state disk.old) (D.state disk.new) t (index_at t.description index) forward ask
+        seen filling.new range) }
     ensures going { IfOk result (λ rest. IfSome rest
         (λ r. has_ended filling.new.pager ≡ false)) }
     ensures stays { (s : State) → Stands (D.state disk.old) tables.old s ↔ Stands
@@ -117,51 +121,15 @@ fn step<D: Disk>(
     ensures disk { Reads (D.state disk.old) (D.state disk.new) }
     ensures failed { IfErrFailed result (Rose (D.state disk.old).faults (D.state disk.new).faults) }
 {
-    let most = next_count(filling);
+    let most = filling.pager.certain(LARGEST_ITEM);
     let mut items = Vec::new(alloc);
-    tables.rows(disk, table, index, &range, forward, most, &mut items)?;
+    let last = tables.rows(disk, table, index, &range, forward, most, &mut items)?;
     let got = items.len();
     let more = examine(filling, items)?;
     if !more || got < most as usize {
         return Ok(None);
     }
-    let Some(schema) = tables.table(table) else {
-        unreachable!();
-    };
-    match rest_of(
-        alloc,
-        schema,
-        index_of(schema, index),
-        range,
-        forward,
-        &filling.last,
-    ) {
-        Ok(rest) => Ok(Some(rest)),
-        Err(stop) => Err(stop),
-    }
-}
-
-/// How many items to ask for next: as many as are certain to be examined, or as would be if all were as small as the last one, but
-/// then 64 at most, which may have 25 MB. What the page doesn't reach is let go.
-fn next_count(filling: &Filling) -> u32
-    requires going { has_ended filling.now.pager ≡ false }
-    ensures some { 0 < result }
-{
-    let certain = filling.pager.certain(LARGEST_ITEM);
-    match &filling.last {
-        Some(last) => certain.max(filling.pager.certain(size_of(last)).min(AHEAD)),
-        None => certain,
-    }
-}
-
-/// The bytes of an item, and 1 of an empty one.
-fn size_of(item: &Item) -> u64
-    ensures some { 0 < result }
-{
-    match item_size_within(item, LARGEST_ITEM) {
-        Some(size) => size.max(1),
-        None => LARGEST_ITEM,
-    }
+    Ok(Some(beyond(alloc, range, last, forward)?))
 }
 
 /// Examines these items in their order, until one of them ends the page: whether it goes on.
@@ -201,51 +169,5 @@ fn offered(filling: &mut Filling, item: Item) -> Result<bool, Stop>
             Ok(more)
         }
         Err(_) => Err(Stop::Fault(TableFault::NoMemory)),
-    }
-}
-
-/// The part of a range beyond the last item that was examined. One that has no place is of a disk that doesn't keep what was written.
-fn rest_of(
-    alloc: Global,
-    schema: &TableSchema,
-    index: Option<&IndexSchema>,
-    range: KeyRange,
-    forward: bool,
-    last: &Option<Item>,
-) -> Result<KeyRange, Stop>
-    ensures rest { IfOk result (λ r. (item : List Pair) (place : List ℕ) → last.now ≡ Some item
-        → place_in schema.now (option_map (λ i. i.now) index.entry) item ≡ Some place
-        → IsBeyond forward (Some place) range.from range.to r.from r.to) }
-    ensures fault { (item : List Pair) (place : List ℕ) → last.now ≡ Some item
-        → place_in schema.now (option_map (λ i. i.now) index.entry) item ≡ Some place
-        → IfErr result IsMemory }
-    ensures unfailed { IfErr result IsUnfailed }
-{
-    let family = schema.family;
-    match last_place(alloc, schema, index, last)? {
-        Some(place) => Ok(beyond(alloc, range, Some(place), forward)?),
-        None => Err(Stop::Fault(TableFault::BadRow {
-            family,
-            key: range.from,
-        })),
-    }
-}
-
-/// The place of the last item, where there is one that has a place.
-fn last_place(
-    alloc: Global,
-    schema: &TableSchema,
-    index: Option<&IndexSchema>,
-    last: &Option<Item>,
-) -> Result<Option<Bytes>, NoMemory>
-    ensures place { IfOk result (λ place. place ≡ option_and_then
-        (place_in schema.now (option_map (λ i. i.now) index.entry)) last.now) }
-{
-    let Some(item) = last else {
-        return Ok(None);
-    };
-    match index {
-        Some(index) => index_place(alloc, schema, index, item),
-        None => place_of(alloc, schema, item),
     }
 }

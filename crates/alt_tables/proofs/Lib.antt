@@ -9,6 +9,7 @@ pub mod Left
 pub mod Making
 pub mod Moving
 pub mod Pages
+pub mod Paying
 pub mod Standing
 pub mod Starting
 pub mod StreamShows

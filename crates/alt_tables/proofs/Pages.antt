@@ -193,7 +193,7 @@ same_turned true xs = refl
 same_turned false xs = refl
 
 -- and ends where that does
-same_end : (to : Option (List ℕ)) → rows_end to ≡ end_bound to
+pub same_end : (to : Option (List ℕ)) → rows_end to ≡ end_bound to
 same_end None = refl
 same_end (Some to) = refl
 

@@ -3,6 +3,7 @@ pub mod Found
 pub mod Images
 pub mod Laws
 pub mod Merged
+pub mod Reading
 pub mod RowChanges
 pub mod Stands
 pub mod private

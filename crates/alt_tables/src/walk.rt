@@ -1,9 +1,11 @@
 //! Walks over the items of a table, or of one of its indexes, in the order of their places or the other way.
 
-ghost use Rattle.std.specs.Prelude.{◌≡◌, ◌↔◌, ◌++◌, ◌<◌, take, length, true, List, Some, None, IfErr, IfSome, OnOk, OnErr, IsErrOf};
+ghost use Rattle.std.specs.Prelude.{◌≡◌, ◌↔◌, ◌++◌, ◌+◌, ◌<◌, ◌≤◌, take, length, map as each, true, List, Some, None, IfOk, IfErr, IfSome, OnOk, OnErr, IsErrOf};
 ghost use Rattle.std.specs.FinMap as map;
+ghost use Rattle.std.specs.List.{last_or};
 ghost use Rattle.alt_base.specs.Counts.{Rose};
 ghost use Rattle.alt_base.specs.Prefix.{IsPrefix};
+ghost use Rattle.alt_cells.specs.Walks.{RowMap};
 ghost use Rattle.alt_machine.specs.Sources.{index_at};
 ghost use Rattle.alt_machine.specs.State.{State, Table};
 ghost use Rattle.alt_machine.specs.Walks.{items_between};
@@ -12,6 +14,7 @@ ghost use Rattle.alt_schema.specs.declared.schema.IndexSchema.{IndexSchema};
 ghost use Rattle.alt_schema.specs.declared.schema.TableSchema.{TableSchema};
 ghost use Rattle.alt_tables.specs.Faults.{IsFindFault, IsReadFault, IsUnspent};
 ghost use Rattle.alt_tables.specs.private.Pages.{AreItemsOf, AreKept, ArePut};
+ghost use Rattle.alt_tables.specs.Reading.{HasRowFiles, family_read, places_between, walk_reads};
 ghost use Rattle.alt_tables.specs.Stands.{AreReady, Reads, Stands, KeepsCatalog, catalog_of};
 ghost use Rattle.alt_value.specs.Tree.{Pair};
 
@@ -29,7 +32,7 @@ use std::alloc::Global;
 impl Tables {
     /// Puts those items of a table that is there, or of its index of that number, whose places there are in the range at the end of the
     /// list: the first `most` of them, or all where there are fewer. They rise where it goes forward, and else they fall from the range's
-    /// end. An index has the items that have its keys, with what it keeps of them.
+    /// end. An index has the items that have its keys, with what it keeps of them. The answer is the place of the last of them.
     pub fn rows<D: Disk>(
         &mut self,
         disk: &mut D,
@@ -39,7 +42,7 @@ impl Tables {
         forward: bool,
         most: u32,
         out: &mut Vec<Item>,
-    ) -> Result<(), TableFault>
+    ) -> Result<Option<Bytes>, TableFault>
         requires ready { AreReady (D.state disk.old) self.old }
         requires there { map.contains_key (catalog_of self.old) table.now ≡ true }
         requires index { (d : TableSchema) → map.get (catalog_of self.old) table.now ≡ Some d
@@ -48,6 +51,18 @@ impl Tables {
             → map.get s.tables table.now ≡ Some t
             → OnOk result (out.new.items ≡ out.old.items ++ take most
             (items_between t (index_at t.description index) range.now.from range.now.to forward)) }
+        ensures last { (s : State) (t : Table) → Stands (D.state disk.old) self.old s
+            → map.get s.tables table.now ≡ Some t
+            → IfOk result (λ last. last ≡ last_or None (take most (places_between t
+            (index_at t.description index) range.now.from range.now.to forward))) }
+        // It reads each row file of the family twice at most, and once more for each version of a row in them that it passes.
+        ensures reads { (s : State) (t : Table) (maps : List RowMap)
+            → Stands (D.state disk.old) self.old s → map.get s.tables table.now ≡ Some t
+            → HasRowFiles (D.state disk.old).file
+            (family_read t.description (index_at t.description index)) maps
+            → OnOk result ((D.state disk.new).reads ≤ (D.state disk.old).reads
+            + walk_reads forward range.now.from range.now.to most (places_between t
+            (index_at t.description index) range.now.from range.now.to forward) maps) }
         ensures begun { OnErr result (IsPrefix out.old.items out.new.items) }
         ensures stays { (s : State) → Stands (D.state disk.old) self.old s ↔ Stands
             (D.state disk.new) self.new s }
@@ -74,13 +89,23 @@ impl Tables {
         forward: bool,
         most: u32,
         out: &mut Vec<Item>,
-    ) -> Result<(), TableFault>
+    ) -> Result<Option<Bytes>, TableFault>
         requires ready { AreReady (D.state disk.old) self.old }
         requires there { map.contains_key (catalog_of self.old) table.now ≡ true }
         ensures rows { (s : State) (t : Table) → Stands (D.state disk.old) self.old s
             → map.get s.tables table.now ≡ Some t
             → OnOk result (out.new.items ≡ out.old.items
             ++ take most (items_between t None range.now.from range.now.to forward)) }
+        ensures last { (s : State) (t : Table) → Stands (D.state disk.old) self.old s
+            → map.get s.tables table.now ≡ Some t
+            → IfOk result (λ last. last ≡ last_or None
+            (take most (places_between t None range.now.from range.now.to forward))) }
+        ensures reads { (s : State) (t : Table) (maps : List RowMap)
+            → Stands (D.state disk.old) self.old s → map.get s.tables table.now ≡ Some t
+            → HasRowFiles (D.state disk.old).file (family_read t.description None) maps
+            → OnOk result ((D.state disk.new).reads ≤ (D.state disk.old).reads
+            + walk_reads forward range.now.from range.now.to most
+            (places_between t None range.now.from range.now.to forward) maps) }
         ensures begun { OnErr result (IsPrefix out.old.items out.new.items) }
         ensures stays { (s : State) → Stands (D.state disk.old) self.old s ↔ Stands
             (D.state disk.new) self.new s }
@@ -116,7 +141,7 @@ impl Tables {
         forward: bool,
         most: u32,
         out: &mut Vec<Item>,
-    ) -> Result<(), TableFault>
+    ) -> Result<Option<Bytes>, TableFault>
         requires ready { AreReady (D.state disk.old) self.old }
         requires there { map.contains_key (catalog_of self.old) table.now ≡ true }
         requires index { (d : TableSchema) → map.get (catalog_of self.old) table.now ≡ Some d
@@ -126,6 +151,18 @@ impl Tables {
             → index_at t.description (Some number) ≡ Some i
             → OnOk result (out.new.items ≡ out.old.items
             ++ take most (items_between t (Some i) range.now.from range.now.to forward)) }
+        ensures last { (s : State) (t : Table) (i : IndexSchema)
+            → Stands (D.state disk.old) self.old s → map.get s.tables table.now ≡ Some t
+            → index_at t.description (Some number) ≡ Some i
+            → IfOk result (λ last. last ≡ last_or None
+            (take most (places_between t (Some i) range.now.from range.now.to forward))) }
+        ensures reads { (s : State) (t : Table) (i : IndexSchema) (maps : List RowMap)
+            → Stands (D.state disk.old) self.old s → map.get s.tables table.now ≡ Some t
+            → index_at t.description (Some number) ≡ Some i
+            → HasRowFiles (D.state disk.old).file (family_read t.description (Some i)) maps
+            → OnOk result ((D.state disk.new).reads ≤ (D.state disk.old).reads
+            + walk_reads forward range.now.from range.now.to most
+            (places_between t (Some i) range.now.from range.now.to forward) maps) }
         ensures begun { OnErr result (IsPrefix out.old.items out.new.items) }
         ensures stays { (s : State) → Stands (D.state disk.old) self.old s ↔ Stands
             (D.state disk.new) self.new s }
@@ -152,40 +189,45 @@ impl Tables {
     }
 }
 
-/// Puts the items of rows at the end of the list. A row is let go as soon as it is read.
+/// Puts the items of rows at the end of the list: the place of the last of them. A row is let go as soon as it is read.
 fn read_page(
     alloc: Global,
     family: u32,
     page: Vec<(Bytes, ShownRow)>,
     out: &mut Vec<Item>,
-) -> Result<(), TableFault>
+) -> Result<Option<Bytes>, TableFault>
     ensures items { OnOk result (ArePut page.items out.old.items out.new.items) }
+    ensures last { IfOk result (λ last. last ≡ last_or None (each (λ e. e.0) page.items)) }
     ensures begun { OnErr result (IsPrefix out.old.items out.new.items) }
     ensures unspent { IfErr result IsUnspent }
     ensures fault { (items : List (List Pair)) → AreItemsOf page.items items
         → IfErr result IsReadFault }
     ensures unfailed { IsErrOf result TableFault.Failed → ⊥ }
 {
+    let mut last = None;
     for (place, row) in page {
         match item_of_row(alloc, &row) {
             Ok(item) => out.push(item)?,
             Err(Unread::Bad) => return Err(TableFault::BadRow { family, key: place }),
             Err(Unread::NoMemory) => return Err(TableFault::NoMemory),
         }
+        last = Some(place);
     }
-    Ok(())
+    Ok(last)
 }
 
-/// Puts what an index keeps of items at the end of the list, from its rows. A row is let go as soon as it is read.
+/// Puts what an index keeps of items at the end of the list, from its rows: the place of the last of them. A row is let go as soon as it
+/// is read.
 fn read_index_page(
     alloc: Global,
     schema: &TableSchema,
     index: &IndexSchema,
     page: Vec<(Bytes, ShownRow)>,
     out: &mut Vec<Item>,
-) -> Result<(), TableFault>
+) -> Result<Option<Bytes>, TableFault>
     ensures items { (items : List (List Pair)) → AreKept schema.now index.now page.items items
         → OnOk result (out.new.items ≡ out.old.items ++ items) }
+    ensures last { IfOk result (λ last. last ≡ last_or None (each (λ e. e.0) page.items)) }
     ensures begun { OnErr result (IsPrefix out.old.items out.new.items) }
     ensures unspent { IfErr result IsUnspent }
     ensures fault { (items : List (List Pair)) → AreKept schema.now index.now page.items items
@@ -193,12 +235,14 @@ fn read_index_page(
     ensures unfailed { IsErrOf result TableFault.Failed → ⊥ }
 {
     let family = index.family;
+    let mut last = None;
     for (key, row) in page {
         match item_of_index_row(alloc, schema, index, key.as_slice(), &row) {
             Ok(item) => out.push(item)?,
             Err(Unread::Bad) => return Err(TableFault::BadRow { family, key }),
             Err(Unread::NoMemory) => return Err(TableFault::NoMemory),
         }
+        last = Some(key);
     }
-    Ok(())
+    Ok(last)
 }

@@ -13,7 +13,8 @@ use Rattle.alt_machine.specs.Ops.Query.{key_asked}
 use Rattle.alt_machine.specs.Ops.Scan.{Segment, is_in}
 use Rattle.alt_machine.specs.Sources.{hash_of}
 use Rattle.alt_machine.specs.Outcomes.{Outcome, refuses, with_found}
-use Rattle.alt_ops_query.specs.private.Ranges.{HoldsListed, IsBeyond}
+use Rattle.alt_ops_query.specs.Places.{HoldsListed}
+use Rattle.alt_ops_query.specs.private.Ranges.{IsBeyond}
 use Rattle.alt_request.specs.declared.stop.Stop.{Stop}
 use Rattle.alt_request.specs.declared.stop.Stop.TheVariants.{Refused, Fault}
 use Rattle.alt_schema.specs.declared.schema.IndexSchema.{IndexSchema}

@@ -1,15 +1,21 @@
 -- What a walk has examined for a page.
-use Rattle.std.specs.Prelude.{◌≡◌, Bool, true, false, List, ◌++◌, Option, Some, None}
+use Rattle.std.specs.Prelude.{◌≡◌, ◌<◌, ◌≤◌, ◌+◌, ◌*◌, ◌&&◌, ℕ, Bool, true, false, not, List, ◌++◌, length, Option, Some, None, IfSome}
 use Rattle.std.specs.List.{last_or}
+use Rattle.alt_cells.specs.Walks.{RowMap}
+use Rattle.alt_disk.specs.Disk.{DiskState}
 use Rattle.alt_expr.specs.Pages as pages
 use Rattle.alt_expr.specs.Pages.{ends_early}
+use Rattle.alt_families.specs.Reads.{versions_of}
 use Rattle.alt_keyorder.specs.declared.range.KeyRange.{KeyRange}
 use Rattle.alt_machine.specs.State.{Table}
-use Rattle.alt_machine.specs.Walks.{items_between}
+use Rattle.alt_machine.specs.Walks.{is_beyond, items_between}
+use Rattle.alt_ops_query.specs.PageReads.{is_passed, page_end}
+use Rattle.alt_ops_query.specs.private.Ranges.{IsBeyond}
 use Rattle.alt_ops_query.specs.declared.walking.Filling.{Filling}
-use Rattle.alt_paging.specs.Offered.{WasOffered, has_ended}
+use Rattle.alt_paging.specs.Offered.{WasOffered, asked_of, has_ended}
 use Rattle.alt_paging.specs.declared.ask.PageAsk.{PageAsk}
 use Rattle.alt_schema.specs.declared.schema.IndexSchema.{IndexSchema}
+use Rattle.alt_tables.specs.Reading.{HasRowFiles, family_read, is_within}
 use Rattle.alt_value.specs.Tree.{Pair}
 
 -- these items were examined, and the last of them is at hand
@@ -30,11 +36,48 @@ pub record HasFilled (filling : Filling) (ask : PageAsk) (list : List (List Pair
   pub whole : HasExamined filling ask (pages.examined ask.limit list)
   pub ends : ends_early ask.limit (pages.examined ask.limit list) ≡ ends_early ask.limit list
 
--- A step of a walk over a list examined a front of it, and the rest of the range has the others; or all that the page examines.
-abbrev pub Steps : Table → Option IndexSchema → Bool → PageAsk → List (List Pair) → Filling
-    → List (List Pair)
-    → Option KeyRange → Type 0
-Steps t i forward ask seen filling list None = HasFilled filling ask (seen ++ list)
-Steps t i forward ask seen filling list (Some rest) = (front : List (List Pair))
-    × HasExamined filling ask (seen ++ front)
-    × (list ≡ front ++ items_between t i rest.from rest.to forward)
+-- ---- the steps of a walk
+
+-- A page passed the places of a range that aren't beyond this one; where there is none yet it passed nothing.
+abbrev pub is_behind : Bool → List ℕ → Option (List ℕ) → Option (List ℕ) → List ℕ → Bool
+is_behind forward from to place key = is_within from to key && not (is_beyond forward place key)
+
+-- so many versions were passed there, and each row file was read twice besides, so many times
+abbrev pub paid_for : (List ℕ → Bool) → List RowMap → ℕ → ℕ
+paid_for p maps times = versions_of p maps + 2 * length maps * times
+
+-- A step examined a front of the list of its range, which has one item or more; the rest of the range lies beyond the last of these and
+-- has the others; and the places up to there were paid for.
+pub record GoesOn (a b : DiskState) (t : Table) (i : Option IndexSchema) (forward : Bool)
+    (ask : PageAsk) (seen : List (List Pair)) (filling : Filling) (range rest : KeyRange)
+    : Type 0 where
+  pub front : List (List Pair)
+  pub some : 0 < length front
+  pub examined : HasExamined filling ask (seen ++ front)
+  pub whole : items_between t i range.from range.to forward
+      ≡ front ++ items_between t i rest.from rest.to forward
+  pub last : List ℕ
+  pub within : is_within range.from range.to last ≡ true
+  pub beyond : IsBeyond forward (Some last) range.from range.to rest.from rest.to
+  pub paid : (maps : List RowMap) → HasRowFiles a.file (family_read t.description i) maps
+      → b.reads ≤ a.reads + paid_for (is_behind forward range.from range.to (Some last)) maps 1
+
+-- A step examined all that the page examines, and no less than what was seen; and the places up to the page's end were paid for.
+pub record EndsPage (a b : DiskState) (t : Table) (i : Option IndexSchema) (forward : Bool)
+    (ask : PageAsk) (seen list : List (List Pair)) (filling : Filling) (range : KeyRange)
+    : Type 0 where
+  pub filled : HasFilled filling ask (seen ++ list)
+  pub more : length seen ≤ length (pages.examined ask.limit (seen ++ list))
+  pub within : IfSome (page_end t i (asked_of ask) (seen ++ list))
+      (λ place. is_within range.from range.to place ≡ true)
+  pub paid : (maps : List RowMap) → HasRowFiles a.file (family_read t.description i) maps
+      → b.reads ≤ a.reads + paid_for (is_passed forward range.from range.to
+      (page_end t i (asked_of ask) (seen ++ list))) maps 1
+
+-- A step of a walk goes on with the rest of the range, or is the last one.
+abbrev pub Steps : DiskState → DiskState → Table → Option IndexSchema → Bool → PageAsk
+    → List (List Pair) → Filling → KeyRange → Option KeyRange → Type 0
+Steps a b t i forward ask seen filling range None = EndsPage a b t i forward ask seen
+    (items_between t i range.from range.to forward) filling range
+Steps a b t i forward ask seen filling range (Some rest) =
+    GoesOn a b t i forward ask seen filling range rest

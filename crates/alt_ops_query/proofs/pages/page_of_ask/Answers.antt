@@ -9,7 +9,7 @@ use Rattle.alt_machine.specs.Outcomes.{says}
 use Rattle.alt_machine.specs.Sources.{index_at}
 use Rattle.alt_machine.specs.Walks.{items_between}
 use Rattle.alt_machine.proofs.Descriptions.{get-descriptions}
-use Rattle.alt_ops_query.proofs.Answering.{page_does, does_fault, told_at}
+use Rattle.alt_ops_query.proofs.Answering.{page_does, does_fault, on_ok, told_at}
 use Rattle.alt_ops_query.specs.private.Paged.{answer_with}
 use Rattle.alt_tables.specs.Stands.{Stands, catalog_of}
 use Rattle.alt_value.specs.Tree.{Pair}
@@ -45,3 +45,9 @@ returns-in_err-fill-clause-does g c s t stands at =
     (c.in_err-fill.ensures.fault s t c.args.ask stands
     (ap (map.get s.tables) c.table_name-name.ensures.name ∙ at)
     (record { offered = c.new.ensures.offered; last = refl })) ((c.fill.ensures.stays s).0 stands)
+
+pub returns-clause-reads : goal.returns-clause-reads
+returns-clause-reads g c s t maps stands at has =
+    on_ok c.answered.result (c.in_ok-fill.ensures.reads s t c.args.ask maps stands
+    (ap (map.get s.tables) c.table_name-name.ensures.name ∙ at)
+    (record { offered = c.new.ensures.offered; last = refl }) has)

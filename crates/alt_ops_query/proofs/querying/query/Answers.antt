@@ -1,22 +1,25 @@
 -- The list isn't reached, or its page is answered.
-use Rattle.std.proofs.Common.{sym, subst, ◌∙◌, Ok, Err}
+use Rattle.std.proofs.Common.{sym, subst, ◌∙◌, ◌≤◌, ◌+◌, Ok, Err, OnOk}
 use Rattle.serde_json.specs.Data.{Members}
 use Rattle.serde_json.specs.View.{members_view}
 use Rattle.alt_machine.specs.Body.{paired_refusals}
 use Rattle.alt_machine.specs.Expressions.{querying}
-use Rattle.alt_machine.specs.Lists.{pages}
+use Rattle.alt_machine.specs.Lists.{page_asked, pages}
 use Rattle.alt_machine.specs.Members.{table_name}
 use Rattle.alt_machine.specs.Ops.Query.{rules, query, queries}
 use Rattle.alt_machine.specs.Sources.{index_at}
 use Rattle.alt_machine.specs.Walks.{items_between}
+use Rattle.alt_ops_query.specs.PageReads.{most_reads}
 use Rattle.alt_ops_query.specs.private.Asked.{Asks}
 use Rattle.alt_ops_query.proofs.Answering.{within_of}
 use Rattle.alt_ops_query.proofs.Limited.{none_broken, query_limit}
+use Rattle.alt_ops_query.proofs.PageReading.{query_reads}
 use Rattle.alt_ops_query.proofs.Whole.{query_is, query_done, query_stopped, asks_unfailed}
 use Rattle.alt_request.proofs.Listing.{list_passed, list_unfailed}
 use Rattle.alt_request.proofs.Moving.{moves_stopped, moves_nothing, moves_reads}
 use Rattle.alt_request.specs.Carried.{Does}
 use Rattle.alt_tables.proofs.Left.{reads_nothing}
+use Rattle.alt_tables.specs.Reading.{HasRowFiles, family_read}
 use Rattle.alt_tables.specs.Stands.{Stands, catalog_of}
 use Rattle.alt_ops_query.proofs.querying.query.Goals as goal
 
@@ -110,3 +113,25 @@ returns-in_err-target-clause-disk g c = reads_nothing (g.D.Disk.state c.args.dis
 
 pub returns-clause-disk : goal.returns-clause-disk
 returns-clause-disk g c = reads_nothing (g.D.Disk.state c.args.disk.now)
+
+pub returns-in-Ok-clause-reads : goal.returns-in-Ok-clause-reads
+returns-in-Ok-clause-reads g c s stands =
+    let a = g.D.Disk.state c.args.disk.now in
+    let b = g.D.Disk.state c.page_of_range.new.disk in
+    let ms : Members = members_view c.args.body.now.entries in
+    let target = c.in_ok-target.target in
+    query_reads a b c.args.tables.now ms target c.in-Ok.range c.page_of_range.result s stands
+    c.in_ok-target.ensures.index
+    c.query-broken.result c.is_mismatched-mismatched.result c.query-broken.ensures
+    c.is_mismatched-mismatched.ensures c.in_ok-target.ensures.target
+    (subst (λ b. Asks target.schema.now (index_at target.schema.now target.index)
+    target.said.key_condition target.start b (Ok c.in-Ok.range)) c.goes_forward-forward.ensures
+    c.in-Ok.ensures.asks)
+    (λ t maps at. subst (λ forward.
+    HasRowFiles a.file (family_read t.description (index_at t.description target.index)) maps
+    → OnOk c.page_of_range.result (b.reads ≤ a.reads
+    + most_reads t (index_at t.description target.index) forward c.in-Ok.range.from
+    c.in-Ok.range.to (page_asked ms target.said)
+    (items_between t (index_at t.description target.index) c.in-Ok.range.from c.in-Ok.range.to
+    forward) maps)) c.goes_forward-forward.ensures
+    (c.page_of_range.ensures.reads s t maps stands at))

@@ -12,6 +12,7 @@ use Rattle.alt_ops_query.specs.private.Asked.{Segments}
 use Rattle.alt_ops_query.specs.private.Tokens.{segment_in}
 use Rattle.alt_ops_query.proofs.Answering.{within_of}
 use Rattle.alt_ops_query.proofs.Limited.{none_broken, none_mismatched, second_false, scan_limit}
+use Rattle.alt_ops_query.proofs.PageReading.{scan_reads}
 use Rattle.alt_ops_query.proofs.Whole.{scan_is, scan_done, scan_stopped, segments_unfailed}
 use Rattle.alt_request.proofs.Listing.{list_passed, list_unfailed}
 use Rattle.alt_request.proofs.Moving.{moves_stopped, moves_nothing, moves_reads}
@@ -111,3 +112,21 @@ returns-in_err-target-clause-disk g c = reads_nothing (g.D.Disk.state c.args.dis
 
 pub returns-clause-disk : goal.returns-clause-disk
 returns-clause-disk g c = reads_nothing (g.D.Disk.state c.args.disk.now)
+
+pub returns-in-Ok-clause-reads : goal.returns-in-Ok-clause-reads
+returns-in-Ok-clause-reads g c s stands =
+    let ms : Members = members_view c.args.body.now.entries in
+    let target = c.in_ok-target.target in
+    let odd : is_segment_odd ms ≡ false =
+    second_false (is_mismatched ms) (is_segment_odd ms) (sym c.are_odd-mismatched.ensures.odd
+    ∙ none_mismatched c.scan-broken.result c.are_odd-mismatched.result rules ms
+    c.in_ok-target.ensures.target.listed.body) in
+    scan_reads (g.D.Disk.state c.args.disk.now) (g.D.Disk.state c.page_of_range.new.disk)
+    c.args.tables.now ms target c.in-Ok.range c.page_of_range.result s stands
+    c.in_ok-target.ensures.index
+    c.scan-broken.result c.are_odd-mismatched.result c.scan-broken.ensures
+    c.are_odd-mismatched.ensures.odd c.in_ok-target.ensures.target
+    (subst (λ o. Segments target.schema.now (index_at target.schema.now target.index) o
+    target.start (Ok c.in-Ok.range)) (c.segment_of-segment.ensures.segment odd)
+    c.in-Ok.ensures.segments)
+    (λ t maps at. c.page_of_range.ensures.reads s t maps stands at)

@@ -4,7 +4,8 @@ use Rattle.alt_keyorder.specs.declared.range.KeyRange.{KeyRange}
 use Rattle.alt_machine.specs.Lists.{walk_start}
 use Rattle.alt_machine.specs.Ops.Scan.{is_in}
 use Rattle.alt_machine.specs.Sources.{hash_of, index_at}
-use Rattle.alt_ops_query.specs.private.Ranges.{HoldsListed, IsBeyond}
+use Rattle.alt_ops_query.specs.Places.{HoldsListed}
+use Rattle.alt_ops_query.specs.private.Ranges.{IsBeyond}
 use Rattle.alt_ops_query.specs.private.Tokens.{end_token, first_token, segment_in}
 use Rattle.alt_ops_query.proofs.Segments.{segment_holds, whole_holds}
 use Rattle.alt_ops_query.proofs.scanning.segment_range.Goals as goal

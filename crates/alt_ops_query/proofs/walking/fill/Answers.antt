@@ -1,12 +1,13 @@
 -- A step more was walked, or the last one.
-use Rattle.std.proofs.Common.{◌≡◌, false, IfSome, subst, ◌∙◌, List}
+use Rattle.std.proofs.Common.{◌≡◌, refl, false, IfSome, subst, ◌∙◌, ℕ}
+use Rattle.alt_disk.specs.Disk.{DiskState, IsTrusted}
+use Rattle.alt_disk.proofs.Runs.{tells_of}
 use Rattle.alt_machine.specs.Sources.{index_at}
-use Rattle.alt_machine.specs.Walks.{items_between}
 use Rattle.alt_ops_query.specs.private.Filled.{Steps}
-use Rattle.alt_ops_query.proofs.WalkLaws.{walk_ended, walk_on}
+use Rattle.alt_ops_query.proofs.WalkLaws.{walk_ended, walk_on, walk_paid, walk_starts}
 use Rattle.alt_paging.specs.Offered.{has_ended}
-use Rattle.alt_tables.proofs.Left.{reads_then, ready_on}
-use Rattle.alt_value.specs.Tree.{Pair}
+use Rattle.alt_tables.proofs.Left.{reads_nothing, reads_then, ready_on}
+use Rattle.alt_tables.specs.Stands.{Reads}
 use Rattle.alt_ops_query.proofs.walking.fill.Goals as goal
 
 pub step-requires-clause-ready : goal.step-requires-clause-ready
@@ -14,34 +15,62 @@ step-requires-clause-ready g c = ready_on (g.D.Disk.state c.args.disk.now)
     (g.D.Disk.state c.steps.disk) c.args.tables.now c.steps.tables c.steps.invariant.disk.goes
     c.steps.invariant.stays c.requires.ready
 
+-- files that a call which only reads left are the same
+same_files : (a b : DiskState) → Reads a b → IsTrusted a → (f : ℕ) → b.file f ≡ a.file f
+same_files a b reads trusted = (reads.quiet (tells_of a trusted)).file
+
+pub steps-init : goal.steps-init
+steps-init g c = record {
+  walked = λ s t ask stands at h. walk_starts (g.D.Disk.state c.args.disk.now) c.args.filling.now
+      ask t (index_at t.description c.args.index) c.args.forward c.args.range h;
+  stays = λ s. (λ stands. stands, λ stands. stands);
+  catalog = record { catalog = refl; number = refl; family = refl; limits = refl };
+  disk = reads_nothing (g.D.Disk.state c.args.disk.now);
+  going = c.requires.going;
+}
+
 pub returns-in-Ok-None-clause-filled : goal.returns-in-Ok-None-clause-filled
 returns-in-Ok-None-clause-filled g c s t ask stands at h =
-    let list : List (List Pair) = items_between t
-    (index_at t.description c.args.index) c.args.range.from c.args.range.to c.args.forward in
+    let a = g.D.Disk.state c.args.disk.now in
+    let b = g.D.Disk.state c.steps.disk in
+    let last = g.D.Disk.state c.step.new.disk in
+    let i = index_at t.description c.args.index in
     let so = c.steps.invariant.walked s t ask stands at h in
-    walk_ended c.steps.filling c.step.new.filling ask t
-    (index_at t.description c.args.index) c.args.forward list c.steps.range so
-    (subst (λ o. Steps t (index_at t.description c.args.index) c.args.forward ask so.seen
-    c.step.new.filling
-    (items_between t (index_at t.description c.args.index) c.steps.range.from c.steps.range.to
-    c.args.forward) o) c.in-Ok-None.field-0-is
+    walk_ended a b last c.steps.filling c.step.new.filling ask t i c.args.forward c.args.range
+    c.steps.range so
+    (same_files a b c.steps.invariant.disk stands.rows.trusted)
+    (subst (λ o. Steps b last t i c.args.forward ask so.seen c.step.new.filling c.steps.range o)
+    c.in-Ok-None.field-0-is
     (c.in-Ok-None.ensures.steps s t ask so.seen ((c.steps.invariant.stays s).0 stands) at
     so.examined))
+
+pub returns-in-Ok-None-clause-reads : goal.returns-in-Ok-None-clause-reads
+returns-in-Ok-None-clause-reads g c s t ask maps stands at h =
+    let a = g.D.Disk.state c.args.disk.now in
+    let b = g.D.Disk.state c.steps.disk in
+    let last = g.D.Disk.state c.step.new.disk in
+    let i = index_at t.description c.args.index in
+    let so = c.steps.invariant.walked s t ask stands at h in
+    walk_paid a b last c.steps.filling c.step.new.filling ask t i c.args.forward c.args.range
+    c.steps.range so
+    (same_files a b c.steps.invariant.disk stands.rows.trusted)
+    (subst (λ o. Steps b last t i c.args.forward ask so.seen c.step.new.filling c.steps.range o)
+    c.in-Ok-None.field-0-is
+    (c.in-Ok-None.ensures.steps s t ask so.seen ((c.steps.invariant.stays s).0 stands) at
+    so.examined)) maps
 
 pub steps-preserved : goal.steps-preserved
 steps-preserved g c = record {
   walked = λ s t ask stands at h.
-      let list : List (List Pair) =
-      items_between t (index_at t.description c.args.index) c.args.range.from c.args.range.to
-      c.args.forward in
+      let a = g.D.Disk.state c.args.disk.now in
+      let b = g.D.Disk.state c.steps.disk in
+      let last = g.D.Disk.state c.step.new.disk in
+      let i = index_at t.description c.args.index in
       let so = c.steps.invariant.walked s t ask stands at h in
-      walk_on c.steps.filling c.step.new.filling ask t
-      (index_at t.description c.args.index) c.args.forward list c.steps.range so
+      walk_on a b last c.steps.filling c.step.new.filling ask t i c.args.forward c.args.range
+      c.steps.range so (same_files a b c.steps.invariant.disk stands.rows.trusted)
       c.in-Ok-Some.rest
-      (subst (λ o. Steps t (index_at t.description c.args.index) c.args.forward ask so.seen
-      c.step.new.filling
-      (items_between t (index_at t.description c.args.index) c.steps.range.from c.steps.range.to
-      c.args.forward) o)
+      (subst (λ o. Steps b last t i c.args.forward ask so.seen c.step.new.filling c.steps.range o)
       c.in-Ok-Some.field-0-is
       (c.in-Ok-Some.ensures.steps s t ask so.seen ((c.steps.invariant.stays s).0 stands) at
       so.examined));

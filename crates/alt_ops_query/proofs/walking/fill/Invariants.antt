@@ -1,10 +1,9 @@
--- What was examined and what the range that is left has are the items of the range, and the page goes on.
+-- What was examined and what the range that is left has are the items of the range, what was passed is paid for, and the page goes on.
 use Rattle.std.proofs.Common.{◌≡◌, false, Some, []}
 use Rattle.std.specs.Prelude.{◌↔◌}
 use Rattle.std.specs.FinMap as map
 use Rattle.alt_machine.specs.State.{State, Table}
 use Rattle.alt_machine.specs.Sources.{index_at}
-use Rattle.alt_machine.specs.Walks.{items_between}
 use Rattle.alt_ops_query.specs.private.Filled.{HasExamined}
 use Rattle.alt_ops_query.proofs.WalkLaws.{IsWalked}
 use Rattle.alt_paging.specs.Offered.{has_ended}
@@ -16,9 +15,8 @@ abbrev pub invariant-steps : goal.invariant-steps
 invariant-steps g l = record {
   walked : (s : State) (t : Table) (ask : PageAsk) → Stands (g.D.Disk.state l.fn.disk) l.fn.tables s
       → map.get s.tables l.table ≡ Some t → HasExamined l.fn.filling ask []
-      → IsWalked l.filling ask t (index_at t.description l.index) l.forward
-      (items_between t (index_at t.description l.index) l.fn.range.from l.fn.range.to l.forward)
-      l.range;
+      → IsWalked (g.D.Disk.state l.fn.disk) (g.D.Disk.state l.disk) l.filling ask t
+      (index_at t.description l.index) l.forward l.fn.range l.range;
   stays : (s : State) → Stands (g.D.Disk.state l.fn.disk) l.fn.tables s
       ↔ Stands (g.D.Disk.state l.disk) l.tables s;
   catalog : KeepsCatalog l.fn.tables l.tables;

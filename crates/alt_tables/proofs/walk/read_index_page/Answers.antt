@@ -4,6 +4,7 @@ use Rattle.std.proofs.lemmas.Iterator.Adapters.{YieldsList-from_vec}
 use Rattle.std.proofs.lemmas.Iterator.Consumers.{YieldsList-turn}
 use Rattle.alt_base.proofs.Prefixes.{prefix_trans}
 use Rattle.alt_tables.proofs.Pages.{kept_row, put_kept}
+use Rattle.alt_tables.proofs.Paying.{last_row}
 use Rattle.alt_tables.proofs.walk.read_index_page.Goals as goal
 use Rattle.alt_views.specs.Read.{IsKeptAt, Reads}
 
@@ -18,6 +19,7 @@ loop-key-preserved c = record {
       (subst (λ key. IsKeptAt c.args.schema.now c.args.index.now kept key c.in-Some.row)
       (sym c.as_slice.ensures.same) is))
       c.in_ok-push-in-Ok.ensures.items;
+  last = last_row c.loop-key.yielded (c.in-Some.key, c.in-Some.row);
 }
 
 pub returns-in-Err-Bad-clause-fault : goal.returns-in-Err-Bad-clause-fault

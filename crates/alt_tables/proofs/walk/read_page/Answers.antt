@@ -3,13 +3,17 @@ use Rattle.std.proofs.Common.{ap, Err, length, rules}
 use Rattle.std.proofs.lemmas.Iterator.Adapters.{YieldsList-from_vec}
 use Rattle.std.proofs.lemmas.Iterator.Consumers.{YieldsList-turn}
 use Rattle.alt_tables.proofs.Pages.{item_at, put_more}
+use Rattle.alt_tables.proofs.Paying.{last_row}
 use Rattle.alt_tables.proofs.walk.read_page.Goals as goal
 
 pub loop-place-preserved : goal.loop-place-preserved
-loop-place-preserved c = put_more c.loop-place.yielded (c.in-Some.place, c.in-Some.row)
-    c.in-Ok.item c.args.out.now.items c.loop-place.out.items c.push.new.self.items
-    c.loop-place.invariant c.in-Ok.ensures.item.0 c.in-Ok.ensures.item.1
-    c.in_ok-push-in-Ok.ensures.items
+loop-place-preserved c = record {
+  put = put_more c.loop-place.yielded (c.in-Some.place, c.in-Some.row) c.in-Ok.item
+      c.args.out.now.items c.loop-place.out.items c.push.new.self.items
+      c.loop-place.invariant.put c.in-Ok.ensures.item.0 c.in-Ok.ensures.item.1
+      c.in_ok-push-in-Ok.ensures.items;
+  last = last_row c.loop-place.yielded (c.in-Some.place, c.in-Some.row);
+}
 
 pub returns-in-Err-Bad-clause-fault : goal.returns-in-Err-Bad-clause-fault
 returns-in-Err-Bad-clause-fault c items are =

@@ -1,6 +1,14 @@
 -- The rows of the walk are those of the items, and nothing else changed.
-use Rattle.std.proofs.Common.{refl, sym, subst}
-use Rattle.alt_tables.proofs.Pages.{find_fault, ok_then, page_items, page_reads, engine_fault}
+use Rattle.std.proofs.Common.{◌≡◌, ◌∙◌, refl, sym, ap, subst, IfOk}
+use Rattle.std.specs.Prelude.{◌≤◌, ◌+◌}
+use Rattle.alt_engine.specs.InHand.{hand_of}
+use Rattle.alt_families.specs.Reads.{most_reads}
+use Rattle.alt_hand.specs.InHand.{file_rows}
+use Rattle.alt_layout.specs.Layout.{rows_between, shown}
+use Rattle.alt_schema.specs.declared.schema.TableSchema.{TableSchema}
+use Rattle.alt_views.specs.ItemRows.{item_columns}
+use Rattle.alt_tables.proofs.Pages.{find_fault, ok_then, page_items, page_reads, page_rows, same_table, engine_fault}
+use Rattle.alt_tables.proofs.Paying.{last_given, on_ok, walk_paid}
 use Rattle.alt_tables.proofs.Standing.{stays, there}
 use Rattle.alt_disk.proofs.Runs.{tells_of}
 use Rattle.alt_tables.proofs.tables.Tables.table_rows.Goals as goal
@@ -12,6 +20,41 @@ returns-in-Ok-clause-rows g c s t stands at = ok_then c.read_page.result
     c.args.range.now.to c.args.forward c.args.most c.new-page.result.items c.rows.new.out.items
     c.new-page.ensures.items c.in-Ok.ensures.rows c.args.out.now.items
     c.read_page.new.out.items) c.read_page.ensures.items
+
+pub returns-in-Ok-clause-last : goal.returns-in-Ok-clause-last
+returns-in-Ok-clause-last g c s t stands at =
+    let known_as = sym c.in-Some.ensures.table in
+    let l = stands.rows.layout in
+    let shows = stands.rows.shows.items c.args.table.now t at in
+    subst (λ o. IfOk c.read_page.result (λ last. last ≡ o))
+    (last_given item_columns l t.description.family t.items shows c.args.range.now.from
+    c.args.range.now.to c.args.forward c.args.most c.rows.new.out.items
+    (page_rows (g.D.Disk.state c.args.disk.now) c.args.self.now s c.args.table.now t
+    c.in-Some.schema.now stands at known_as c.args.range.now.from c.args.range.now.to
+    c.args.forward c.args.most c.new-page.result.items c.rows.new.out.items
+    c.new-page.ensures.items c.in-Some.schema.now.family c.in-Ok.ensures.rows item_columns t.items
+    (λ key. ap (λ (d : TableSchema). shown l d.family key)
+    (same_table (g.D.Disk.state c.args.disk.now) c.args.self.now s c.args.table.now t
+    c.in-Some.schema.now stands at known_as) ∙ shows key))) c.read_page.ensures.last
+
+pub returns-in-Ok-clause-reads : goal.returns-in-Ok-clause-reads
+returns-in-Ok-clause-reads g c s t maps stands at has =
+    let known_as = sym c.in-Some.ensures.table in
+    let l = stands.rows.layout in
+    let reads = stands.rows.is.hand.reads in
+    let same = same_table (g.D.Disk.state c.args.disk.now) c.args.self.now s c.args.table.now t
+    c.in-Some.schema.now stands at known_as in
+    let paid = c.in-Ok.ensures.reads
+    (tells_of (g.D.Disk.state c.args.disk.now) stands.rows.trusted) l reads in
+    on_ok c.read_page.result (walk_paid item_columns l t.description.family t.items
+    (stands.rows.shows.items c.args.table.now t at) c.args.range.now.from c.args.range.now.to
+    c.args.forward (g.D.Disk.state c.args.disk.now) c.args.self.now.engine reads c.args.most
+    (g.D.Disk.state c.args.disk.now).reads (g.D.Disk.state c.rows.new.disk).reads
+    (subst (λ (d : TableSchema). (g.D.Disk.state c.rows.new.disk).reads
+    ≤ (g.D.Disk.state c.args.disk.now).reads
+    + most_reads c.args.forward c.args.range.now.from c.args.range.now.to c.args.most
+    (rows_between l d.family c.args.range.now.from c.args.range.now.to c.args.forward)
+    (file_rows (hand_of c.args.self.now.engine) reads.held d.family)) same paid) maps has)
 
 pub returns-in-Ok-clause-fault : goal.returns-in-Ok-clause-fault
 returns-in-Ok-clause-fault g c s stands =

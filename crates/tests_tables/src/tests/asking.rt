@@ -111,13 +111,27 @@ pub(super) fn asked(
     requires { AreReady (state_of disk.old) tables.old }
     ensures { IfSome result (λ _. AreReady (state_of disk.new) tables.new) }
 {
-    let operation = operation_named(request.0.as_bytes());
+    told(alloc, tables, disk, request.0, request.1)
+}
+
+/// The same, to an operation and its body.
+pub(super) fn told(
+    alloc: Global,
+    tables: &mut Tables,
+    disk: &mut MemoryDisk,
+    operation: &str,
+    body: &str,
+) -> Option<String>
+    requires { AreReady (state_of disk.old) tables.old }
+    ensures { IfSome result (λ _. AreReady (state_of disk.new) tables.new) }
+{
+    let operation = operation_named(operation.as_bytes());
     match answer(
         alloc,
         tables,
         disk,
         operation,
-        request.1.as_bytes(),
+        body.as_bytes(),
         1_700_000_000,
     ) {
         Ok(reply) => text_of(alloc, &reply),

@@ -16,12 +16,12 @@ use Rattle.alt_machine.specs.declared.Expressions.{Expressions}
 use Rattle.alt_ops_query.specs.private.Filled.{HasFilled}
 use Rattle.alt_ops_query.specs.private.Paged.{AnswersPage, HasLimit, answer_with, asked_page}
 use Rattle.alt_ops_query.specs.private.Replied.{page_of}
-use Rattle.alt_ops_query.specs.private.Stops.{IsFault, IfErrFailed}
+use Rattle.alt_ops_query.specs.private.Stops.{IsFault}
 use Rattle.alt_ops_query.specs.declared.walking.Filling.{Filling}
 use Rattle.alt_paging.specs.Offered.{IsPage, asked_of, unless_counts}
 use Rattle.alt_paging.specs.declared.ask.Page.{Page}
 use Rattle.alt_paging.specs.declared.ask.PageAsk.{PageAsk}
-use Rattle.alt_request.specs.Carried.{Does, IsPlain, IfFailed}
+use Rattle.alt_request.specs.Carried.{Does}
 use Rattle.alt_request.specs.Steps.{IsMemory}
 use Rattle.alt_request.specs.declared.stop.Stop.{Stop}
 use Rattle.alt_request.specs.declared.stop.Stop.TheVariants.{Refused, Fault}

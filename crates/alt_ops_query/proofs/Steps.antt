@@ -15,14 +15,13 @@ use Rattle.alt_expr.specs.Pages as pages
 use Rattle.alt_expr.specs.Pages.{ends_early}
 use Rattle.alt_families.specs.Reads.{versions_of}
 use Rattle.alt_machine.specs.declared.TheConstants.{LARGEST_ITEM}
-use Rattle.alt_machine.specs.Lists.{last_examined}
 use Rattle.alt_machine.specs.Sources.{items_of}
 use Rattle.alt_machine.specs.State.{Table}
 use Rattle.alt_machine.specs.Walks.{end_bound, is_beyond, items_between, placed_items, turned}
 use Rattle.alt_keyorder.specs.declared.range.KeyRange.{KeyRange}
 use Rattle.alt_ops_query.specs.PageReads.{is_passed, page_end}
 use Rattle.alt_ops_query.specs.Places.{place_in}
-use Rattle.alt_ops_query.specs.private.Filled.{EndsPage, Examines, GoesOn, HasExamined, HasFilled, is_behind, paid_for}
+use Rattle.alt_ops_query.specs.private.Filled.{EndsPage, Examines, GoesOn, HasExamined, is_behind, paid_for}
 use Rattle.alt_ops_query.specs.private.Ranges.{IsBeyond}
 use Rattle.alt_ops_query.specs.private.Stops.{IsFault}
 use Rattle.alt_ops_query.specs.declared.walking.Filling.{Filling}
@@ -30,7 +29,7 @@ use Rattle.alt_ops_query.proofs.Filling.{last_push, filled_all, filled_front}
 use Rattle.alt_ops_query.proofs.Lists.{each_entry}
 use Rattle.alt_ops_query.proofs.Passing.{reached_all, reached_last}
 use Rattle.alt_ops_query.proofs.Rests.{HasLast, has_last, walked, items_walked, rest_is}
-use Rattle.alt_paging.specs.Offered.{asked_of, has_ended}
+use Rattle.alt_paging.specs.Offered.{asked_of}
 use Rattle.alt_paging.specs.declared.ask.PageAsk.{PageAsk}
 use Rattle.alt_paging.proofs.PageLaws.{examined-ended, full_prefix-ended}
 use Rattle.alt_request.specs.Steps.{IsMemory}

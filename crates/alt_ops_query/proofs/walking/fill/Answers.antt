@@ -1,5 +1,5 @@
 -- A step more was walked, or the last one.
-use Rattle.std.proofs.Common.{◌≡◌, refl, false, IfSome, subst, ◌∙◌, ℕ, List}
+use Rattle.std.proofs.Common.{◌≡◌, refl, false, IfSome, subst, ◌∙◌, ℕ}
 use Rattle.alt_disk.specs.Disk.{DiskState, IsTrusted}
 use Rattle.alt_disk.proofs.Runs.{tells_of}
 use Rattle.alt_machine.specs.Sources.{index_at}

@@ -1,10 +1,10 @@
 -- The step was the last, or the range beyond its last item has the others; and it paid for what it passed.
-use Rattle.std.proofs.Common.{◌≡◌, ◌≢◌, ◌≤◌, ◌<◌, sym, ap, subst, ◌∙◌, ◌++◌, ℕ, false, true, [], List, Option, Some, None, All, take, length, arith}
+use Rattle.std.proofs.Common.{◌≡◌, ◌≢◌, ◌≤◌, sym, ap, subst, ◌∙◌, ◌++◌, [], List, All, take, length, arith}
 use Rattle.alt_machine.specs.declared.TheConstants.{LARGEST_ITEM}
 use Rattle.alt_machine.specs.Sources.{index_at}
 use Rattle.alt_machine.specs.Walks.{items_between}
 use Rattle.alt_ops_query.specs.private.Filled.{Examines}
-use Rattle.alt_ops_query.proofs.Steps.{items_all, memory_fault, placed_some, step_ended, step_last, step_on}
+use Rattle.alt_ops_query.proofs.Steps.{items_all, placed_some, step_ended, step_last, step_on}
 use Rattle.alt_ops_query.proofs.Described.{sized_at, stored_at}
 use Rattle.alt_value.specs.Size.{item_size}
 use Rattle.alt_value.specs.Tree.{Pair}

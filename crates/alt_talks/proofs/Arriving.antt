@@ -1,5 +1,5 @@
 -- How many connections came, one stretch of calls after another.
-use Rattle.std.proofs.Common.{◌≡◌, ◌<◌, ◌+◌, ◌⊎◌, ◌∙◌, inl, inr, ℕ, List, [], ◌∷◌, ◌++◌, refl, sym, ap, subst, append_assoc, append-nil, arith, take}
+use Rattle.std.proofs.Common.{◌≡◌, ◌+◌, ◌⊎◌, ◌∙◌, inl, inr, ℕ, List, [], ◌∷◌, ◌++◌, refl, sym, subst, append_assoc, append-nil, arith, take}
 use Rattle.std.proofs.lemmas.List.Sums.{sum_by-append}
 use Rattle.alt_disk.specs.Disk.{DiskState, Goes}
 use Rattle.alt_shell.specs.Calls.{Adds, Untold}

@@ -1,5 +1,5 @@
 -- How many connections came while connections were served, whatever disk it is.
-use Rattle.std.specs.Prelude.{◌≡◌, ◌≤◌, ◌<◌, ◌⊎◌, ℕ, List, [], ◌∷◌, ◌++◌, sum_by, Bool, true, false, Option, Some, None}
+use Rattle.std.specs.Prelude.{◌≡◌, ◌≤◌, ◌<◌, ◌⊎◌, ℕ, [], ◌∷◌, ◌++◌, sum_by, Bool, true, false, Option, Some, None}
 use Rattle.alt_disk.specs.Disk.{DiskState}
 use Rattle.alt_shell.specs.Log as event
 use Rattle.alt_shell.specs.Log.{Log, Event, Grows, entry, event_of, none_came}

@@ -127,14 +127,18 @@ came_before a b c n p g = record {
 pub all_behind : (count : ℕ) (a b c : DiskState) → Grows a.beside b.beside [] → CameAll count b c
     → CameAll count a c
 all_behind count a b c g (inl p) = inl (came_behind a b c count g p)
-all_behind count a b c g (inr p) = inr (p.0, p.1, record {
-  before = p.2.before;
-  at = p.2.at;
-  clocked = p.2.clocked;
-  grows = Grows-then a.beside b.beside c.beside []
-      (p.2.before ++ entry p.2.at p.2.clocked none_came ∷ []) g p.2.grows;
-  many = p.2.many;
-})
+all_behind count a b c g (inr p) = inr (
+  p.0,
+  p.1,
+  record {
+    before = p.2.before;
+    at = p.2.at;
+    clocked = p.2.clocked;
+    grows = Grows-then a.beside b.beside c.beside []
+        (p.2.before ++ entry p.2.at p.2.clocked none_came ∷ []) g p.2.grows;
+    many = p.2.many;
+  },
+)
 
 -- and before them
 pub all_before : (count : ℕ) (a b c : DiskState) → CameAll count a b → Grows b.beside c.beside []

@@ -157,9 +157,12 @@ returns-in-Ok-true-clause-came g c =
     let d = state c.pulls-served.new.shell in
     let e = state c.hang_up.new.self in
     let came = subst (λ (v : Bool). Accepted a b v) c.in-Ok-true.field-0-test
-    c.in-Ok-true.ensures.accepted in
-    (1, omega arith, came_served a b d e came.0 c.pulls-served.ensures.none
-    (c.hang_up.ensures.hung (c.pulls-served.ensures.passes.talking ∙ came.1)))
+    c.in-Ok-true.ensures.accepted in (
+      1,
+      omega arith,
+      came_served a b d e came.0 c.pulls-served.ensures.none
+          (c.hang_up.ensures.hung (c.pulls-served.ensures.passes.talking ∙ came.1)),
+    )
 
 pub returns-in-Ok-false-clause-came : goal.returns-in-Ok-false-clause-came
 returns-in-Ok-false-clause-came g c =
@@ -172,6 +175,9 @@ returns-in-Ok-false-clause-came g c =
 
 pub returns-clause-came : goal.returns-clause-came
 returns-clause-came g c =
-    let state = g.S.Disk.state in
-    (0, omega arith, came_silent (state c.args.shell.now) (state c.accept.new.self)
-    c.in-Err.ensures.accepted.0)
+    let state = g.S.Disk.state in (
+      0,
+      omega arith,
+      came_silent (state c.args.shell.now) (state c.accept.new.self)
+          c.in-Err.ensures.accepted.0,
+    )

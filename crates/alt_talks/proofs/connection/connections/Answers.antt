@@ -114,9 +114,13 @@ returns-in-Ok-false-clause-came g c =
     let n = c.loop-served.served in
     let few : n < c.args.count = grind arith in
     let same : n + 0 ≡ n = omega arith in
-    inr (n, few, subst (λ (k : ℕ). NoneWill k a d) same
-    (none_will-behind a b d n 0 c.loop-served.invariant.3
-    (subst (λ (v : Bool). CameOne v b d) c.in-Ok-false.field-0-test c.in-Ok-false.ensures.came)))
+    inr (
+      n,
+      few,
+      subst (λ (k : ℕ). NoneWill k a d) same
+          (none_will-behind a b d n 0 c.loop-served.invariant.3
+          (subst (λ (v : Bool). CameOne v b d) c.in-Ok-false.field-0-test c.in-Ok-false.ensures.came)),
+    )
 
 pub returns-in-Err-clause-most : goal.returns-in-Err-clause-most
 returns-in-Err-clause-most g c =
@@ -127,9 +131,11 @@ returns-in-Err-clause-most g c =
     let n = c.loop-served.served in
     let few : n < c.args.count = grind arith in
     let one = c.in-Err.ensures.came in
-    let most = one.1 in
-    (n + one.0, omega (arith, few, most),
-    came_then a b d n one.0 c.loop-served.invariant.3 one.2)
+    let most = one.1 in (
+      n + one.0,
+      omega (arith, few, most),
+      came_then a b d n one.0 c.loop-served.invariant.3 one.2,
+    )
 
 pub returns-clause-came : goal.returns-clause-came
 returns-clause-came g c =
@@ -146,10 +152,13 @@ returns-in-Ok-false-clause-most g c =
     let b = state c.loop-served.shell in
     let d = state c.connection.new.shell in
     let n = c.loop-served.served in
-    let few : n < c.args.count = grind arith in
-    (n + 0, omega (arith, few), came_then a b d n 0 c.loop-served.invariant.3
-    (none_will-came b d 0
-    (subst (λ (v : Bool). CameOne v b d) c.in-Ok-false.field-0-test c.in-Ok-false.ensures.came)))
+    let few : n < c.args.count = grind arith in (
+      n + 0,
+      omega (arith, few),
+      came_then a b d n 0 c.loop-served.invariant.3
+          (none_will-came b d 0
+          (subst (λ (v : Bool). CameOne v b d) c.in-Ok-false.field-0-test c.in-Ok-false.ensures.came)),
+    )
 
 pub returns-clause-most : goal.returns-clause-most
 returns-clause-most g c =

@@ -35,34 +35,38 @@ fn reading(alloc: Global, ending: Ending, number: u32) -> Option<String> {
     match ending {
         Ending::Nothing => Some(String::new(alloc)),
         Ending::Gets => format!(in alloc;
-            "GetItem {{\"TableName\":\"Big\",\"Key\":{{\"k\":{{\"S\":\"{number:03}\"}}}}}}"
+            "GetItem {{\"TableName\":\"Big\",\"Key\":{{\"k\":{{\"S\":\"{number:03}\"}}}}}}\n"
         ).ok(),
         Ending::Queries => format!(in alloc;
-            "Query {{\"TableName\":\"Big\",\"IndexName\":\"Gax\",\"KeyConditionExpression\":\"g = :g\",\"ExpressionAttributeValues\":{{\":g\":{{\"S\":\"{number:03}\"}}}}}}"
+            "Query {{\"TableName\":\"Big\",\"IndexName\":\"Gax\",\"KeyConditionExpression\":\"g = :g\",\"ExpressionAttributeValues\":{{\":g\":{{\"S\":\"{number:03}\"}}}}}}\n"
         ).ok(),
     }
 }
 
-// A shell over a fresh store whose input puts 300 items of 8,000 bytes, has them flushed, merged and read again, and ends so.
-fn asked(alloc: Global, ending: Ending) -> Option<MemoryShell>
-    ensures { IfSome result (λ s. talks (shell_state s).beside ≡ false) }
-{
-    let mut shell = shell_over(alloc, fresh(alloc)?, &[TABLE])?;
+// Lines that put 300 items of 8,000 bytes, have them flushed, merged and read again, and end so.
+fn lines_of(alloc: Global, ending: Ending) -> Option<String> {
+    let mut text = String::new(alloc);
     let long = letters(alloc, 8_000)?;
     for number in 0..300u32 {
         let line = format!(in alloc;
             "PutItem {{\"TableName\":\"Big\",\"Item\":{{\"k\":{{\"S\":\"{number:03}\"}},\"g\":{{\"S\":\"{number:03}\"}},\"a\":{{\"S\":\"{long}\"}}}}}}\n"
         ).ok()?;
-        shell.input(line.as_bytes()).ok()?;
+        text.push_str(line.as_str()).ok()?;
     }
-    shell.input(b"@flush\n@merge\n@reopen\n").ok()?;
-    if ending != Ending::Nothing {
-        for number in 0..300u32 {
-            let line = reading(alloc, ending, number)?;
-            shell.input(line.as_bytes()).ok()?;
-            shell.input(b"\n").ok()?;
-        }
+    text.push_str("@flush\n@merge\n@reopen\n").ok()?;
+    for number in 0..300u32 {
+        text.push_str(reading(alloc, ending, number)?.as_str())
+            .ok()?;
     }
+    Some(text)
+}
+
+// A shell over a fresh store to which these lines come.
+fn asked(alloc: Global, ending: Ending) -> Option<MemoryShell>
+    ensures { IfSome result (λ s. talks (shell_state s).beside ≡ false) }
+{
+    let mut shell = shell_over(alloc, fresh(alloc)?, &[TABLE])?;
+    shell.input(lines_of(alloc, ending)?.as_bytes()).ok()?;
     Some(shell)
 }
 

@@ -31,7 +31,8 @@ two=http://127.0.0.1:$port
 tries between "$one" "$two"
 if python3 -c 'import moto.server, flask' 2>/dev/null; then
   python3 -c 'import sys, time; from moto.server import ThreadedMotoServer as M; M(ip_address="127.0.0.1", port=47270).start(); time.sleep(400)' >/dev/null 2>&1 &
-  sleep 5
+  # It takes seconds to load, and longer on a busy machine.
+  for _ in $(seq 120); do (exec 3<>/dev/tcp/127.0.0.1/47270) 2>/dev/null && break; sleep 0.5; done
   tries out "$one" http://127.0.0.1:47270
   tries in http://127.0.0.1:47270 "$two"
 else

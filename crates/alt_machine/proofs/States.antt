@@ -33,9 +33,9 @@ start_valid = record {
 }
 
 -- the changes of a table, where the next number is later
-changes_later : (d : TableSchema) (n m : ℕ) (changes : List Change) → n ≤ m → AreChanges d n changes
-    → AreChanges d m changes
-changes_later d n m changes le h = record {
+changes_later : (d : TableSchema) (n m z : ℕ) (changes : List Change) → n ≤ m
+    → AreChanges d n z changes → AreChanges d m z changes
+changes_later d n m z changes le h = record {
   each = All-weaker (IsChange d n) (IsChange d m) (λ (c : Change) is. record {
     number = omega (arith, is.number, le);
     differ = is.differ;
@@ -44,33 +44,40 @@ changes_later d n m changes le h = record {
     new = is.new;
   }) changes h.each;
   rise = h.rise;
+  above = h.above;
+  trimmed_before = omega (arith, h.trimmed_before, le);
   none = h.none;
 }
 
 -- a new table has none
-no_changes : (d : TableSchema) (n : ℕ) → AreChanges d n []
-no_changes d n = record {
+no_changes : (d : TableSchema) (n : ℕ) → 0 < n → AreChanges d n 0 []
+no_changes d n some = record {
   each = All-nil (IsChange d n);
   rise = λ i j x lt within. absurd (omega (arith, within));
-  none = λ e. refl;
+  above = All-nil (λ (c : Change). 0 < c.number);
+  trimmed_before = some;
+  none = λ e. (refl, refl);
 }
 
 -- one more, of the next number
-changes_more : (d : TableSchema) (n : ℕ) (c : Change) (changes : List Change) → c.number ≡ n
-    → IsChange d (n + 1) c → AreChanges d n changes
-    → AreChanges d (n + 1) (with_change d (Some c) changes)
-changes_more d n c changes e is h = by d.stream_family refl
+changes_more : (d : TableSchema) (n z : ℕ) (c : Change) (changes : List Change) → c.number ≡ n
+    → IsChange d (n + 1) c → AreChanges d n z changes
+    → AreChanges d (n + 1) z (with_change d (Some c) changes)
+changes_more d n z c changes e is h = by d.stream_family refl
   where
-    later : AreChanges d (n + 1) changes
-    later = changes_later d n (n + 1) changes (omega arith) h
+    later : AreChanges d (n + 1) z changes
+    later = changes_later d n (n + 1) z changes (omega arith) h
 
     by : (o : Option ℕ) → d.stream_family ≡ o
-        → AreChanges d (n + 1) (cond (is_some o) (changes ++ c ∷ []) changes)
+        → AreChanges d (n + 1) z (cond (is_some o) (changes ++ c ∷ []) changes)
     by None f = later
     by (Some family) f = record {
       each = All-push (IsChange d (n + 1)) changes c later.each is;
       rise = all_pairs_push (λ (a b : Change). a.number < b.number) changes c h.rise
           (λ k x within. omega (arith, (h.each k x within).number, e));
+      above = All-push (λ (x : Change). z < x.number) changes c h.above
+          (omega (arith, h.trimmed_before, e));
+      trimmed_before = later.trimmed_before;
       none = λ g. absurd (let k : ⊥ = cc (f, g) in k);
     }
 
@@ -84,7 +91,8 @@ table_later s r name t n f h = record {
   families = λ k x within. let was = h.families k x within in (was.0, omega (arith, was.1, f));
   differ = h.differ;
   items = h.items;
-  changes = changes_later t.description s.next_number r.next_number t.changes n h.changes;
+  changes = changes_later t.description s.next_number r.next_number t.trimmed t.changes n
+      h.changes;
 }
 
 -- a count that grows by one or stays has grown by one at most
@@ -119,7 +127,7 @@ module _ (s : State) (d : TableSchema) (v : IsValid s) (made : IsMade d) (new : 
         (omega (arith, is.0, family, v.next_family.0), omega (arith, is.1, family));
     differ = families_differ d new;
     items = λ place item e. absurd (not_there place item e);
-    changes = no_changes d (s.next_number + 1);
+    changes = no_changes d (s.next_number + 1) (omega arith);
   }
 
   -- no family of a table that was there is one of the new table's
@@ -256,9 +264,10 @@ module _ (s : State) (moment : ℕ) (name : List ℕ) (t : Table) (place : List 
         families = old.families;
         differ = old.differ;
         items = with_item_stored s name t place new v there put;
-        changes = subst (AreChanges t.description (s.next_number + 1)) (sym (ap
+        changes = subst (AreChanges t.description (s.next_number + 1) t.trimmed) (sym (ap
             (λ b. with_change t.description (if b then None else Some change) t.changes) differ))
-            (changes_more t.description s.next_number change t.changes refl change_is old.changes);
+            (changes_more t.description s.next_number t.trimmed change t.changes refl change_is
+            old.changes);
       }
 
   -- a table of the same description was there

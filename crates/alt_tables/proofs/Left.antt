@@ -47,6 +47,7 @@ stands_quiet a b t s tells honest quiet stands = record {
   number = stands.number;
   family = stands.family;
   live = stands.live;
+  trimmed = stands.trimmed;
   rows = holds_quiet a b t.engine s tells honest quiet stands.rows;
   valid = stands.valid;
 }

@@ -25,14 +25,16 @@ use Rattle.alt_tables.specs.Faults.{AreMade, AreSome, BreakOff, IsFindFault, Wri
 use Rattle.alt_opening.specs.Live.{with_all, without_all}
 use Rattle.alt_opening.specs.Opened.{Holds}
 use Rattle.alt_opening.proofs.LiveLaws.{live_insert, live_remove}
-use Rattle.alt_tables.specs.Stands.{Stands, catalog_of, number_of}
+use Rattle.alt_opening.specs.Trimmed.{AreTrimmedOf, without}
+use Rattle.alt_opening.proofs.TrimmedLaws.{trimmed-new, trimmed-remove, trimmed-stay}
+use Rattle.alt_tables.specs.Stands.{Stands, catalog_of, number_of, trimmed_of}
 use Rattle.alt_tables.specs.RowChanges.{Turns, item_changes, creation_changes, drop_changes}
 use Rattle.alt_tables.specs.declared.faults.TableFault.{TableFault}
 use Rattle.alt_tables.specs.declared.faults.TableFault.TheVariants.{Spent, Damaged, BadRow, Failed, NoMemory}
 use Rattle.alt_tables.specs.declared.tables.Tables.{Tables}
 use Rattle.alt_tables.proofs.CatalogLaws.{creation_turns, drop_turns}
 use Rattle.alt_opening.proofs.OneState.{some}
-use Rattle.alt_tables.proofs.Standing.{descriptions-insert, descriptions-stay, descriptions-remove, known, there, absent, still_live}
+use Rattle.alt_tables.proofs.Standing.{descriptions-insert, descriptions-stay, descriptions-remove, known, there, absent, still_live, still_trimmed}
 use Rattle.alt_tables.proofs.WriteLaws.{item_turns}
 use Rattle.alt_value.specs.Tree.{Pair}
 use Rattle.alt_value.specs.Values.{IsItemOfValues}
@@ -108,13 +110,16 @@ module _ (before : DiskState) (old : Tables) (s : State) (t : Table) (stands : S
   -- the tables stand for that
   pub item_stands : (now : DiskState) (new : Tables) → Holds now new.engine after → IsValid after
       → new.catalog ≡ old.catalog → new.live ≡ old.live → new.family ≡ old.family
-      → number_of new ≡ number_of old + 1 → Stands now new after
-  item_stands now new holds valid catalog live family number = record {
+      → new.trimmed ≡ old.trimmed → number_of new ≡ number_of old + 1 → Stands now new after
+  item_stands now new holds valid catalog live family trimmed number = record {
     catalog = catalog ∙ stands.catalog ∙ sym (descriptions-stay s.tables name t
         (with_write s.next_number moment t place to) at refl);
     number = number ∙ ap (λ n. n + 1) stands.number;
     family = family ∙ stands.family;
     live = still_live old.catalog new.catalog old.live new.live catalog live stands.live;
+    trimmed = still_trimmed after.tables old new trimmed
+        (trimmed-stay s.tables name (trimmed_of old) stands.trimmed t
+        (with_write s.next_number moment t place to) at refl);
     rows = holds;
     valid = valid;
   }
@@ -137,8 +142,9 @@ module _ (before : DiskState) (old : Tables) (s : State) (stands : Stands before
       → Holds now new.engine (without_table s name) → IsValid (without_table s name)
       → new.catalog ≡ map.remove old.catalog name
       → new.live ≡ without_all (families_of d) old.live → new.family ≡ old.family
+      → trimmed_of new ≡ without name (trimmed_of old)
       → number_of new ≡ number_of old + 1 → Stands now new (without_table s name)
-  drop_stands name d now new described holds valid catalog live family number = record {
+  drop_stands name d now new described holds valid catalog live family trimmed number = record {
     catalog = catalog ∙ ap (λ (m : Texts TableSchema). map.remove m name) stands.catalog
         ∙ sym (descriptions-remove s.tables name);
     number = number ∙ ap (λ n. n + 1) stands.number;
@@ -152,6 +158,8 @@ module _ (before : DiskState) (old : Tables) (s : State) (stands : Stands before
         apart (stands.valid.families other name u t f there_u there_t
         (subst (λ (x : TableSchema). Contains (families_of x) f) (sym same_u) of_other)
         (subst (λ (x : TableSchema). Contains (families_of x) f) (sym same_t) own))));
+    trimmed = subst (AreTrimmedOf (map.remove s.tables name)) (sym trimmed)
+        (trimmed-remove s.tables name (trimmed_of old) stands.trimmed);
     rows = holds;
     valid = valid;
   }
@@ -181,9 +189,9 @@ module _ (before : DiskState) (old : Tables) (s : State) (stands : Stands before
     pub table_stands : (now : DiskState) (new : Tables) → Holds now new.engine (with_table s d)
         → IsValid (with_table s d) → new.catalog ≡ map.insert old.catalog d.name d
         → new.live ≡ with_all (families_of d) old.live
-        → new.family ≡ old.family + length (families_of d)
+        → new.family ≡ old.family + length (families_of d) → new.trimmed ≡ old.trimmed
         → number_of new ≡ number_of old + 1 → Stands now new (with_table s d)
-    table_stands now new holds valid catalog live families numbers = record {
+    table_stands now new holds valid catalog live families trimmed numbers = record {
       catalog = catalog ∙ ap (λ (m : Texts TableSchema). map.insert m d.name d) stands.catalog
           ∙ sym (descriptions-insert s.tables d.name (new_table d));
       number = numbers ∙ ap (λ n. n + 1) stands.number;
@@ -191,6 +199,9 @@ module _ (before : DiskState) (old : Tables) (s : State) (stands : Stands before
       live = still_live (map.insert old.catalog d.name d) new.catalog
           (with_all (families_of d) old.live) new.live catalog live
           (live_insert old.catalog old.live stands.live d free);
+      trimmed = still_trimmed (map.insert s.tables d.name (new_table d)) old new trimmed
+          (trimmed-new s.tables d.name (trimmed_of old) stands.trimmed (new_table d)
+          (absent before old s d.name stands free) refl);
       rows = holds;
       valid = valid;
     }

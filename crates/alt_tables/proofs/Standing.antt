@@ -13,9 +13,10 @@ use Rattle.alt_machine.specs.State.{State, Table, Texts, descriptions}
 use Rattle.alt_machine.proofs.Descriptions.{get-descriptions, no_description, table_of_description}
 use Rattle.alt_schema.specs.declared.schema.TableSchema.{TableSchema}
 use Rattle.alt_views.specs.ItemRows.{IsReadItem, item_columns}
-use Rattle.alt_tables.specs.Stands.{AreReady, Stands, catalog_of}
+use Rattle.alt_tables.specs.Stands.{AreReady, Stands, catalog_of, trimmed_of}
 use Rattle.alt_tables.specs.declared.tables.Tables.{Tables}
 use Rattle.alt_opening.specs.Live.{AreLiveIn}
+use Rattle.alt_opening.specs.Trimmed.{AreTrimmedOf, number_at}
 use Rattle.alt_opening.proofs.Ties.{tied}
 use Rattle.alt_tables.proofs.Holding.{one_held}
 use Rattle.alt_views.proofs.ItemRowLaws.{item_columns-one}
@@ -115,10 +116,17 @@ pub still_live : (m n : Texts TableSchema) (fs gs : List ℕ) → n ≡ m → gs
 still_live m n fs gs catalog live are = subst (λ (o : Texts TableSchema). AreLiveIn o gs)
     (sym catalog) (subst (AreLiveIn m) (sym live) are)
 
+-- what was trimmed of tables stays so
+pub still_trimmed : (tables : Texts Table) (t u : Tables) → u.trimmed ≡ t.trimmed
+    → AreTrimmedOf tables (trimmed_of t) → AreTrimmedOf tables (trimmed_of u)
+still_trimmed tables t u trimmed are name =
+    ap (λ known. number_at name known.items) trimmed ∙ are name
+
 -- ---- a call that reads alone
 
 module _ (old new : DiskState) (t u : Tables) (catalog : u.catalog ≡ t.catalog)
-    (live : u.live ≡ t.live) (family : u.family ≡ t.family) (goes : Goes old new)
+    (live : u.live ≡ t.live) (family : u.family ≡ t.family) (trimmed : u.trimmed ≡ t.trimmed)
+    (goes : Goes old new)
     (same : IsTrue old.tells → StaysOn old new t.engine u.engine) where
   -- the tables stand for what they stood for
   stays_on : (s : State) → Stands old t s → Stands new u s
@@ -128,6 +136,7 @@ module _ (old new : DiskState) (t u : Tables) (catalog : u.catalog ≡ t.catalog
         number = on.next ∙ stands.number;
         family = family ∙ stands.family;
         live = still_live t.catalog u.catalog t.live u.live catalog live stands.live;
+        trimmed = still_trimmed s.tables t u trimmed stands.trimmed;
         rows = record {
           trusted = trusted_on old new goes stands.rows.trusted;
           layout = stands.rows.layout;

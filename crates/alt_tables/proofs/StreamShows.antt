@@ -12,6 +12,7 @@ use Rattle.alt_cells.specs.Keys.{key_cmp}
 use Rattle.alt_cells.specs.declared.batch.RowChange.{RowChange}
 use Rattle.alt_cells.proofs.ChangeLaws.{written-change_between}
 use Rattle.alt_changes.specs.ChangeRows.{change_columns, row_change, row_changes, row_key}
+use Rattle.alt_changes.specs.TrimRows.{trimmed_row}
 use Rattle.alt_changes.proofs.RowLaws.{change_can_show}
 use Rattle.alt_layout.specs.Layout.{Layout, shown, shown_by, change_of}
 use Rattle.alt_writes.specs.Writes.{Write}
@@ -26,11 +27,12 @@ use Rattle.alt_schema.specs.Indexes.{indexes}
 use Rattle.alt_schema.specs.declared.schema.IndexSchema.{IndexSchema}
 use Rattle.alt_schema.specs.declared.schema.TableSchema.{TableSchema}
 use Rattle.alt_opening.specs.Families.{HasOwnFamilies}
-use Rattle.alt_opening.specs.StateRows.{keyed_changes}
+use Rattle.alt_opening.specs.StateRows.{IsLeftover, keyed_changes, stream_row}
 use Rattle.alt_tables.proofs.ChangeLaws.{ShowsWrite, AreOthers, one_change}
 use Rattle.alt_tables.proofs.IndexFamilies.{index_families, index_at_families, others-index_changes}
 use Rattle.alt_opening.proofs.KeptChanges.{are_small, each_so}
-use Rattle.alt_opening.proofs.StreamKeys.{keyed_more}
+use Rattle.alt_opening.proofs.StreamKeys.{keyed_more, keys_differ}
+use Rattle.alt_opening.proofs.Ties.{tied}
 use Rattle.alt_value.specs.Tree.{Pair}
 use Rattle.alt_views.specs.IndexRows.{index_changes}
 
@@ -137,36 +139,28 @@ module _ (d : TableSchema) (family : ℕ) (stream : d.stream_family ≡ Some fam
       → with_change d (change_left n moment old new) cs ≡ cs ++ change ∷ []
   list_left cs i = if is_some (stream i) then cs ++ option_to_list (is_left i) else cs
 
-  -- What the family shows after the write are the changes with that one.
-  pub stream_shows : (l : Layout) (w : Write) → ShowsWrite l w → (cs : List Change)
-      → AreChanges d n cs → AreChanges d (n + 1) (with_change d (change_left n moment old new) cs)
+  -- What the family shows after the write are the changes with that one, and what was trimmed before.
+  pub stream_shows : (l : Layout) (w : Write) → ShowsWrite l w → (trimmed : ℕ) (cs : List Change)
+      → AreChanges d n trimmed cs
+      → AreChanges d (n + 1) trimmed (with_change d (change_left n moment old new) cs)
       → n < NUMBERS_END
       → ((key : List ℕ) → change_of family key w.changes
       ≡ change_of family key (row_changes d (change_left n moment old new)))
-      → ((key : List ℕ) → shown l family key
-      ≡ option_map change_columns (finite.get (keyed_changes cs) key))
-      → (key : List ℕ) → shown (with_write l w) family key
-      ≡ option_map change_columns (finite.get
-      (keyed_changes (with_change d (change_left n moment old new) cs)) key)
-  stream_shows l w law cs before after room changes shows key =
+      → ((key : List ℕ) → (IsLeftover trimmed key → ⊥) → shown l family key
+      ≡ stream_row trimmed cs key)
+      → (key : List ℕ) → (IsLeftover trimmed key → ⊥) → shown (with_write l w) family key
+      ≡ stream_row trimmed (with_change d (change_left n moment old new) cs) key
+  stream_shows l w law trimmed cs before after room changes shows key counts =
       law family key
       ∙ ap (λ c. shown_by c (shown l family key))
       (changes key ∙ ap (change_of family key) row_left
       ∙ one_change (row_change family change) key)
       ∙ ap (shown_by (if eq_by_cmp key_cmp key (row_key n) then Some (row_change family change)
-      else None)) (shows key)
-      ∙ by (eq_by_cmp key_cmp key (row_key n)) (finite.get (keyed_changes cs) key)
-      ∙ ap (option_map change_columns) (sym (keyed_more cs change
-      (are_small d n cs (omega (arith, room)) before) before.rise
-      (are_small d (n + 1) (cs ++ change ∷ []) (omega (arith, room)) with_it) with_it.rise
-      (omega (arith, room))
-      (each_so (IsChange d n) (λ (x : Change). x.number < n) cs (λ c is. is.number) before.each)
-      key))
-      ∙ ap (λ list. option_map change_columns (finite.get (keyed_changes list) key))
-      (sym (list_left cs))
+      else None)) (shows key counts)
+      ∙ at_key (eq_by_cmp key_cmp key (row_key 0)) refl
     where
-      with_it : AreChanges d (n + 1) (cs ++ change ∷ [])
-      with_it = subst (AreChanges d (n + 1)) (list_left cs) after
+      with_it : AreChanges d (n + 1) trimmed (cs ++ change ∷ [])
+      with_it = subst (AreChanges d (n + 1) trimmed) (list_left cs) after
 
       by : (b : Bool) (o : Option Change)
           → shown_by (if b then Some (row_change family change) else None)
@@ -175,3 +169,29 @@ module _ (d : TableSchema) (family : ℕ) (stream : d.stream_family ≡ Some fam
       by true o = written-change_between family (row_key n) None (Some (change_columns change))
           (change_can_show change)
       by false o = refl
+
+      -- the change isn't the row of number 0
+      apart : eq_by_cmp key_cmp key (row_key 0) ≡ true
+          → eq_by_cmp key_cmp key (row_key n) ≡ false
+      apart zero = ap (λ k. eq_by_cmp key_cmp k (row_key n)) (tied key (row_key 0) zero)
+          ∙ keys_differ 0 n (omega arith) (omega (arith, room)) (λ none.
+          let more = before.trimmed_before in omega (arith, none, more))
+
+      at_key : (a : Bool) → eq_by_cmp key_cmp key (row_key 0) ≡ a
+          → shown_by (if eq_by_cmp key_cmp key (row_key n) then Some (row_change family change)
+          else None) (if a then trimmed_row trimmed
+          else option_map change_columns (finite.get (keyed_changes cs) key))
+          ≡ (if a then trimmed_row trimmed else option_map change_columns (finite.get
+          (keyed_changes (with_change d (change_left n moment old new) cs)) key))
+      at_key true zero = ap (λ (b : Bool). shown_by
+          (if b then Some (row_change family change) else None) (trimmed_row trimmed)) (apart zero)
+      at_key false other =
+          by (eq_by_cmp key_cmp key (row_key n)) (finite.get (keyed_changes cs) key)
+          ∙ ap (option_map change_columns) (sym (keyed_more cs change
+          (are_small d n trimmed cs (omega (arith, room)) before) before.rise
+          (are_small d (n + 1) trimmed (cs ++ change ∷ []) (omega (arith, room)) with_it)
+          with_it.rise (omega (arith, room))
+          (each_so (IsChange d n) (λ (x : Change). x.number < n) cs (λ c is. is.number)
+          before.each) key))
+          ∙ ap (λ list. option_map change_columns (finite.get (keyed_changes list) key))
+          (sym (list_left cs))

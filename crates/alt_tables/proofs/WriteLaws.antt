@@ -33,7 +33,7 @@ use Rattle.alt_schema.specs.Held.{IsHeld}
 use Rattle.alt_schema.specs.Indexes.{indexes}
 use Rattle.alt_schema.specs.declared.schema.IndexSchema.{IndexSchema}
 use Rattle.alt_views.specs.ItemRows.{item_columns}
-use Rattle.alt_opening.specs.StateRows.{HasMoment, IsHeldWhole, Shows, catalog_family, catalog_rows, item_rows, index_rows, change_rows, table_row, next_row}
+use Rattle.alt_opening.specs.StateRows.{HasMoment, IsHeldWhole, IsLeftover, Shows, catalog_family, catalog_rows, item_rows, index_rows, change_rows, table_row, next_row}
 use Rattle.alt_tables.specs.RowChanges.{Turns, item_changes}
 use Rattle.alt_opening.proofs.Ties.{tied, itself}
 use Rattle.alt_tables.proofs.ChangeLaws.{ShowsWrite, one_change, other_family, AreOthers, others-append, change_of-none, change_of-front, change_of-behind}
@@ -223,16 +223,17 @@ module _ (l : Layout) (s : State) (shows : Shows l s) (valid : IsValid s) (held 
             by_key to false given e = held.items name q t item at e
 
     -- the changes are as they have to be
-    after_changes : AreChanges t.description (s.next_number + 1) changed.changes
+    after_changes : AreChanges t.description (s.next_number + 1) t.trimmed changed.changes
     after_changes = ((after_item_valid s moment name t place new valid room at differ stored).tables
         name changed (map.get-insert key_total s.tables name changed name
         ∙ ap (λ b. cond b (Some changed) (map.get s.tables name)) (itself name))).changes
 
     -- that of the stream shows the change then
     behind : (f : ℕ) → t.description.stream_family ≡ Some f
-        → (key : List ℕ) → shown (with_write l w) f key ≡ change_rows changed key
+        → (key : List ℕ) → (IsLeftover t.trimmed key → ⊥)
+        → shown (with_write l w) f key ≡ change_rows changed key
     behind f stream = stream_shows t.description f stream s.next_number moment
-        (map.get t.items place) new differ l w law t.changes is_table.changes
+        (map.get t.items place) new differ l w law t.trimmed t.changes is_table.changes
         after_changes room
         (λ key. ap (change_of f key) changes
         ∙ other_family change (index_part ++ stream_part) f key
@@ -276,14 +277,15 @@ module _ (l : Layout) (s : State) (shows : Shows l s) (valid : IsValid s) (held 
     changes_after : (other : List ℕ) (u : Table) (b : Bool) → eq_by_cmp key_cmp other name ≡ b
         → cond b (Some changed) (map.get s.tables other) ≡ Some u → (f : ℕ)
         → u.description.stream_family ≡ Some f
-        → (key : List ℕ) → shown (with_write l w) f key ≡ change_rows u key
-    changes_after other u true e at_other f stream key =
-        subst (λ u. u.description.stream_family ≡ Some f
+        → (key : List ℕ) → (IsLeftover u.trimmed key → ⊥)
+        → shown (with_write l w) f key ≡ change_rows u key
+    changes_after other u true e at_other f stream key counts =
+        subst (λ u. u.description.stream_family ≡ Some f → (IsLeftover u.trimmed key → ⊥)
         → shown (with_write l w) f key ≡ change_rows u key)
-        (some _ _ at_other) (λ stream. behind f stream key) stream
-    changes_after other u false e at_other f stream key =
+        (some _ _ at_other) (λ stream. behind f stream key) stream counts
+    changes_after other u false e at_other f stream key counts =
         elsewhere f key (apart_from other u f at_other e (stream_family u.description f stream))
-        ∙ shows.changes other u f at_other stream key
+        ∙ shows.changes other u f at_other stream key counts
 
     -- the rows are then those of the state with the item
     pub shows_item : Shows (with_write l w) after
@@ -297,9 +299,10 @@ module _ (l : Layout) (s : State) (shows : Shows l s) (valid : IsValid s) (held 
       indexes = λ other u n i at_other at_index key. indexes_after other u
           (eq_by_cmp key_cmp other name) refl
           (sym (map.get-insert key_total s.tables name changed other) ∙ at_other) n i at_index key;
-      changes = λ other u f at_other stream key. changes_after other u
+      changes = λ other u f at_other stream key counts. changes_after other u
           (eq_by_cmp key_cmp other name) refl
-          (sym (map.get-insert key_total s.tables name changed other) ∙ at_other) f stream key;
+          (sym (map.get-insert key_total s.tables name changed other) ∙ at_other) f stream key
+          counts;
       beyond = λ family key high. elsewhere family key (λ of_table.
           let low = within_all family of_table in omega (arith, low.1, high))
           ∙ shows.beyond family key high;

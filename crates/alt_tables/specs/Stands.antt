@@ -11,6 +11,8 @@ use Rattle.alt_machine.specs.Valid.{IsValid}
 use Rattle.alt_schema.specs.declared.schema.TableSchema.{TableSchema}
 use Rattle.alt_opening.specs.Live.{AreLiveIn}
 use Rattle.alt_opening.specs.Opened.{Holds}
+use Rattle.alt_opening.specs.Trimmed.{AreTrimmedOf}
+use Rattle.alt_opening.specs.declared.trimmed.Trimmed.{Trimmed}
 use Rattle.alt_tables.specs.declared.tables.Tables.{Tables}
 
 -- ---- what is known of the tables without the disk
@@ -26,6 +28,10 @@ number_of t = next_of t.engine
 -- the family that the next table gets
 abbrev pub family_of : Tables → ℕ
 family_of t = t.family
+
+-- what was trimmed of the changes of tables
+abbrev pub trimmed_of : Tables → List Trimmed
+trimmed_of t = t.trimmed.items
 
 -- the families that are live, in the order of their numbers
 abbrev pub live_of : Tables → List ℕ
@@ -44,13 +50,14 @@ pub record KeepsCatalog (old new : Tables) : Type 0 where
 
 -- ---- the state
 
--- The tables and the disk beneath them stand for a valid state of the machine: it has the tables that are known, and the next number
--- and the next family, and its rows are those on the disk. Live are the families of its tables.
+-- The tables and the disk beneath them stand for a valid state of the machine: it has the tables that are known, what was trimmed of their
+-- changes, and the next number and the next family, and its rows are those on the disk. Live are the families of its tables.
 pub record Stands (disk : DiskState) (t : Tables) (s : State) : Type 0 where
   pub catalog : catalog_of t ≡ descriptions s.tables
   pub number : number_of t ≡ s.next_number
   pub family : family_of t ≡ s.next_family
   pub live : AreLiveIn (catalog_of t) (live_of t)
+  pub trimmed : AreTrimmedOf s.tables (trimmed_of t)
   pub rows : Holds disk t.engine s
   pub valid : IsValid s
 

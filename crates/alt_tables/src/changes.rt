@@ -1,6 +1,6 @@
 //! The changes of a table with a stream, in the order of their numbers.
 
-ghost use Rattle.std.specs.Prelude.{◌≡◌, ◌↔◌, ◌++◌, ◌<◌, ◌^◌, take, map as each, true, ℕ, List, Err, Some, None, IfOk, IfErr, IfSome, IsErrOf};
+ghost use Rattle.std.specs.Prelude.{◌≡◌, ◌↔◌, ◌++◌, ◌<◌, ◌+◌, ◌^◌, max, take, map as each, true, ℕ, List, Err, Some, None, IfOk, IfErr, IfSome, IsErrOf};
 ghost use Rattle.std.specs.FinMap as map;
 ghost use Rattle.alt_base.specs.Counts.{Rose};
 ghost use Rattle.alt_changes.specs.ChangeRows.{change_in, row_key};
@@ -56,6 +56,7 @@ impl Tables {
         let Some(family) = schema.stream_family else {
             return Ok(Vec::new(self.alloc));
         };
+        let from = from_kept(self.trimmed(table), from);
         let Ok(range) = range_from(self.alloc, from) else {
             return Err(TableFault::NoMemory);
         };
@@ -68,6 +69,13 @@ impl Tables {
             Err(fault) => Err(TableFault::from(fault)),
         }
     }
+}
+
+/// The first number from one on that isn't left over.
+fn from_kept(trimmed: u64, from: u64) -> u64
+    ensures { trimmed < 2 ^ 63 → result ≡ max from (trimmed + 1) }
+{
+    from.max(trimmed.saturating_add(1))
 }
 
 /// The keys of the rows of the changes from a number on.

@@ -7,6 +7,7 @@ use Rattle.alt_machine.specs.Outcomes.{a_number}
 use Rattle.alt_machine.specs.State.{Texts}
 use Rattle.alt_schema.specs.declared.schema.TableSchema.{TableSchema}
 use Rattle.std.specs.FinMap as map
+use Rattle.alt_opening.specs.Trimmed.{without}
 use Rattle.alt_tables.specs.Stands.{Stands}
 use Rattle.alt_tables.proofs.Holding.{leaves_quiet}
 use Rattle.alt_tables.proofs.Making.{broke, drop_stands, drop_turned, one_made}
@@ -44,6 +45,7 @@ returns-in-Ok-clause-writes g c s stands =
     (c.remove.ensures.rest
     ∙ ap (λ (m : Texts TableSchema). map.remove m c.args.name.now) c.make.ensures.kept.0)
     c.in_ok-live.ensures c.make.ensures.kept.2
+    (c.forget.ensures ∙ ap (λ known. without c.args.name.now known.items) c.make.ensures.kept.3)
     c.in-Ok.ensures.next)
     (has_number s.next_number (omega (arith, stands.number, c.next_number-number.ensures.next, c.if-number-ge-NUMBERS_END.false)))
 

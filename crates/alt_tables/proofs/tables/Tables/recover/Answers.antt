@@ -9,6 +9,7 @@ returns-in-Ok-live-clause-stands g c trusted s stood =
       number = opens.number;
       family = opens.family;
       live = c.in-Ok-live.ensures.live;
+      trimmed = opens.trimmed;
       rows = opens.rows;
       valid = opens.valid;
     }

@@ -70,7 +70,7 @@ returns-in-Ok-clause-writes g c s t stands at =
     (after_item s c.args.moment c.args.table.now t c.args.found.place c.args.new)
     stands.rows turned)
     turned.valid c.make.ensures.kept.0 c.make.ensures.kept.1 c.make.ensures.kept.2
-    c.in-Ok.ensures.next)
+    c.make.ensures.kept.3 c.in-Ok.ensures.next)
     (has_number s.next_number (omega (arith, stands.number, c.next_number-number.ensures.next, c.if-number-ge-NUMBERS_END.false))))
 
 pub returns-in-Ok-clause-disk : goal.returns-in-Ok-clause-disk

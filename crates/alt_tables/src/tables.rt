@@ -28,7 +28,9 @@ use alt_disk::Disk;
 use alt_engine::Engine;
 use alt_fields::Bytes;
 use alt_machine::{FAMILIES_END, MOST_FAMILIES, MOST_TABLES, NUMBERS_END};
-use alt_opening::{CATALOG, Catalog, Live, Trimmed, forget, row_of_family, row_of_schema, trimmed_number};
+use alt_opening::{
+    CATALOG, Catalog, Live, Trimmed, forget, row_of_family, row_of_schema, trimmed_number,
+};
 use alt_schema::{TableSchema, held};
 use std::alloc::Global;
 

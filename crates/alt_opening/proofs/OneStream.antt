@@ -41,30 +41,20 @@ above_counts trimmed n above small left =
     let same : n ≡ left.0 = key_one n left.0 small (omega (arith, most, above, small)) left.3 in
     omega (arith, same, most, above)
 
--- a key is left over or it isn't
-pub leftover_or_not : (trimmed : ℕ) → trimmed < 2 ^ 64 → (key : List ℕ)
+-- a key is left over or it isn't, as the number of its bytes says
+leftover_by : (trimmed : ℕ) → trimmed < 2 ^ 64 → (key : List ℕ) (n : ℕ)
+    → ((m : ℕ) → m < 2 ^ 64 → key ≡ row_key m → n ≡ m)
     → IsLeftover trimmed key ⊎ (IsLeftover trimmed key → ⊥)
-leftover_or_not trimmed small key = by (eq_by_cmp key_cmp key (row_key n)) (nat_le 1 n)
+leftover_by trimmed small key n only = by (eq_by_cmp key_cmp key (row_key n)) (nat_le 1 n)
     (nat_le n trimmed) refl refl refl
   where
-    n : ℕ
-    n = from_be_bytes w64 key
-
-    -- its number is that of its bytes
     told : (left : IsLeftover trimmed key) → n ≡ left.0
-    told left = let most = left.2 in
-        ap (from_be_bytes w64) left.3
-        ∙ from_be_bytes-to_be_bytes_8 left.0 (omega (arith, most, small))
+    told left = let most = left.2 in only left.0 (omega (arith, most, small)) left.3
 
     by : (a b c : Bool) → eq_by_cmp key_cmp key (row_key n) ≡ a → nat_le 1 n ≡ b
         → nat_le n trimmed ≡ c → IsLeftover trimmed key ⊎ (IsLeftover trimmed key → ⊥)
-    by true true true ea eb ec = inl (n, low, high, tied key (row_key n) ea)
-      where
-        low : 1 ≤ n
-        low = low_of 1 n eb
-
-        high : n ≤ trimmed
-        high = low_of n trimmed ec
+    by true true true ea eb ec =
+        inl (n, low_of 1 n eb, low_of n trimmed ec, tied key (row_key n) ea)
     by false b c ea eb ec = inr (λ left. false≢true (sym ea
         ∙ ap (λ m. eq_by_cmp key_cmp key (row_key m)) (told left)
         ∙ ap (eq_by_cmp key_cmp key) (sym left.3) ∙ itself key))
@@ -72,6 +62,12 @@ leftover_or_not trimmed small key = by (eq_by_cmp key_cmp key (row_key n)) (nat_
         ∙ up_to 1 left.0 left.1))
     by true true false ea eb ec = inr (λ left. false≢true (sym ec
         ∙ ap (λ m. nat_le m trimmed) (told left) ∙ up_to left.0 trimmed left.2))
+
+-- so it can be told
+pub leftover_or_not : (trimmed : ℕ) → trimmed < 2 ^ 64 → (key : List ℕ)
+    → IsLeftover trimmed key ⊎ (IsLeftover trimmed key → ⊥)
+leftover_or_not trimmed small key = leftover_by trimmed small key (from_be_bytes w64 key)
+    (λ m fits at. ap (from_be_bytes w64) at ∙ from_be_bytes-to_be_bytes_8 m fits)
 
 -- ---- what the row of number 0 tells
 

@@ -214,12 +214,12 @@ module _ (l : Layout) (d : TableSchema)
 
   -- the rows behind
   abbrev rows_past : finite.FinMap key_cmp RowCells
-  rows_past = finite.from_sorted (where_key past (finite.entries (l.rows family)))
+  rows_past = finite.from_sorted (where_key key_cmp past (finite.entries (l.rows family)))
 
   get_past : (key : List ℕ) → finite.get rows_past key
       ≡ cond (past key) (finite.get (l.rows family) key) None
   get_past key =
-      finite.get-from_sorted key_cmp (where_key past (finite.entries (l.rows family))) key
+      finite.get-from_sorted key_cmp (where_key key_cmp past (finite.entries (l.rows family))) key
       (is_sorted-where_key key_cmp past (finite.entries (l.rows family))
       (finite.entries_sorted (l.rows family)))
       ∙ find-where_key key_cmp past key (λ x same. ap past (sym (key_exact key x same)))
@@ -251,7 +251,7 @@ module _ (l : Layout) (d : TableSchema)
       ∙ ap past (sym is.0) ∙ e))
   kept_past key row e (inr (inl left)) = absurd (false≢true (sym (past_not left.1.0 left.1.2)
       ∙ ap past (sym left.1.3) ∙ e))
-  kept_past key row e (inr (inr is)) = is
+  kept_past key row e (inr (inr is)) = (is.0, (is.1, is.2, is.3))
 
   -- and no row before, but one that is left over or tells what was trimmed
   none_before : (key : List ℕ) (row : Columns) → past key ≡ false → (key ≡ row_key 0 → ⊥)

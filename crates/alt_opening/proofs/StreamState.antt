@@ -179,14 +179,14 @@ module _ (l : Layout) (s : State) (agrees : AgreesWhole l s) where
     -- one at the key of number 0 tells what was trimmed
     zero_right : key ≡ row_key 0 → trimmed_row t.trimmed ≡ Some row
         → IsTrimmedRow s.next_number key row
-    zero_right zero is = by (t.trimmed == 0) refl is
+    zero_right at_zero is = by (t.trimmed == 0) refl is
       where
         by : (b : Bool) → (t.trimmed == 0) ≡ b
             → (if b then None else Some (trimmed_columns t.trimmed)) ≡ Some row
             → IsTrimmedRow s.next_number key row
         by true e is = absurd (let no : None ≡ Some row = is in cc no)
         by false e is = (
-          zero,
+          at_zero,
           (
             t.trimmed,
             positive t.trimmed e,

@@ -55,7 +55,7 @@ pub number-without : (name : List ℕ) (known : List Trimmed) (q : List ℕ)
     → number_at q (without name known) ≡ (if bytes_eq name q then 0 else number_at q known)
 number-without name [] q = by (bytes_eq name q)
   where
-    by : (b : Bool) → 0 ≡ (if b then 0 else 0)
+    by : (b : Bool) → number_at q [] ≡ (if b then 0 else number_at q [])
     by true = refl
     by false = refl
 number-without name (e ∷ es) q =

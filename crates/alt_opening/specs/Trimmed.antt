@@ -10,7 +10,7 @@ use Rattle.alt_opening.specs.declared.trimmed.Trimmed.{Trimmed}
 -- what is known of a table: the first number of its name, 0 where there is none
 abbrev pub number_at : List ℕ → List Trimmed → ℕ
 number_at name known =
-    option_map_or (λ (e : Trimmed). e.number) (find (λ e. bytes_eq e.table name) known) 0
+    option_map_or (λ (e : Trimmed). e.number) (find (λ (e : Trimmed). bytes_eq e.table name) known) 0
 
 -- with the number of a table in front, unless it is 0
 abbrev pub with_number : List ℕ → ℕ → List Trimmed → List Trimmed
@@ -19,7 +19,7 @@ with_number name number known =
 
 -- without those of a name
 abbrev pub without : List ℕ → List Trimmed → List Trimmed
-without name known = filter (λ e. not (bytes_eq e.table name)) known
+without name known = filter (λ (e : Trimmed). not (bytes_eq e.table name)) known
 
 -- They are the trimmed numbers of these tables, and nothing is known of a name that none of them has.
 abbrev pub AreTrimmedOf : Texts Table → List Trimmed → Type 0

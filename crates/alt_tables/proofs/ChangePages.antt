@@ -107,14 +107,12 @@ module _ {X : Type 0} (columns : X → Columns) (l : Layout) (family : ℕ) (ite
       → rows_between l family from None true
       ≡ map (row_at columns) (placed_between items from None true)
   rows_from shows = same_entries key_cmp key_total key_exact _ _
-      (is_sorted-where_key key_cmp within (finite.entries rows) (finite.entries_sorted rows))
-      (is_sorted-shown (as_row columns) (where_key within (finite.entries items)) sorted) found
-      ∙ shown_of-rows columns (where_key within (finite.entries items))
+      (is_sorted-where_key key_cmp within (finite.entries (shown_rows l family))
+      (finite.entries_sorted (shown_rows l family)))
+      (is_sorted-shown (as_row columns) (where_key key_cmp within (finite.entries items)) sorted) found
+      ∙ shown_of-rows columns (where_key key_cmp within (finite.entries items))
     where
-      rows : finite.FinMap key_cmp Columns
-      rows = shown_rows l family
-
-      sorted : T (is_sorted key_cmp (where_key within (finite.entries items)))
+      sorted : T (is_sorted key_cmp (where_key key_cmp within (finite.entries items)))
       sorted = is_sorted-where_key key_cmp within (finite.entries items)
           (finite.entries_sorted items)
 
@@ -122,21 +120,21 @@ module _ {X : Type 0} (columns : X → Columns) (l : Layout) (family : ℕ) (ite
       alike q x same = ap within (sym (key_exact q x same))
 
       at_key : (q : List ℕ) (b : Bool) → within q ≡ b
-          → cond b (find key_cmp q (finite.entries rows)) None
+          → cond b (find key_cmp q (finite.entries (shown_rows l family))) None
           ≡ option_and_then (as_row columns)
           (cond b (find key_cmp q (finite.entries items)) None)
-      at_key q true e = sym (finite.get-entries rows q) ∙ finds_shown l family q ∙ shows q e
+      at_key q true e = sym (finite.get-entries (shown_rows l family) q) ∙ finds_shown l family q ∙ shows q e
           ∙ row_of columns (finite.get items q)
           ∙ ap (option_and_then (as_row columns)) (finite.get-entries items q)
       at_key q false e = refl
 
-      found : (q : List ℕ) → find key_cmp q (where_key within (finite.entries rows))
-          ≡ find key_cmp q (shown_of (as_row columns) (where_key within (finite.entries items)))
-      found q = find-where_key key_cmp within q (alike q) (finite.entries rows)
+      found : (q : List ℕ) → find key_cmp q (where_key key_cmp within (finite.entries (shown_rows l family)))
+          ≡ find key_cmp q (shown_of (as_row columns) (where_key key_cmp within (finite.entries items)))
+      found q = find-where_key key_cmp within q (alike q) (finite.entries (shown_rows l family))
           ∙ at_key q (within q) refl
           ∙ ap (option_and_then (as_row columns))
           (sym (find-where_key key_cmp within q (alike q) (finite.entries items)))
-          ∙ sym (find-shown (as_row columns) q (where_key within (finite.entries items)) sorted)
+          ∙ sym (find-shown (as_row columns) q (where_key key_cmp within (finite.entries items)) sorted)
 
 -- behind what was trimmed no row is left over, nor that of number 0
 stream_from : (trimmed number : ℕ) (cs : List Change) → trimmed < number → number < 2 ^ 64

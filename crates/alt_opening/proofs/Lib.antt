@@ -38,5 +38,6 @@ pub mod StreamSteps
 pub mod TableSteps
 pub mod Ties
 pub mod TrimmedLaws
+pub mod TrimmedRow
 pub mod TrimmedSteps
 pub mod WrongTable

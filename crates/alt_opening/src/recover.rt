@@ -69,10 +69,10 @@ pub fn open_store<D: Disk>(alloc: Global, disk: &mut D, limits: Limits) -> Resul
         Err(fault) => return Err(OpenFault::from(fault)),
     };
     match read_rows(alloc, disk, &mut engine) {
-        Ok((Opened { catalog, family }, trimmed)) => Ok(Store {
+        Ok((opened, trimmed)) => Ok(Store {
             engine,
-            catalog,
-            family,
+            catalog: opened.catalog,
+            family: opened.family,
             trimmed,
         }),
         Err(fault) => Err(fault),

@@ -1,6 +1,6 @@
 //! The row of number 0 of a stream, which tells the number of the last change that was trimmed (docs/formats/table-rows.md).
 
-ghost use Rattle.std.specs.Prelude.{◌≡◌, ◌≤◌, ◌<◌, ◌×◌, ◌↔◌, ℕ, IsTrue, option_map};
+ghost use Rattle.std.specs.Prelude.{◌≡◌, ◌≤◌, ◌<◌, ◌↔◌, ℕ, IsTrue, option_map};
 ghost use Rattle.alt_changes.specs.TrimRows.{number_told, trimmed_columns, trimmed_told};
 
 use crate::catalog_row::value_of;

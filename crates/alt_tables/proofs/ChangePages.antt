@@ -160,13 +160,13 @@ stream_from trimmed number cs high fits rows shows key inside =
 -- The changes from a number on are those from one past what was trimmed on, where that is greater.
 pub changes-from_kept : (trimmed from : ℕ) (cs : List Change) → Above trimmed cs
     → changes_from (max from (trimmed + 1)) cs ≡ changes_from from cs
-changes-from_kept trimmed from [] above = refl
-changes-from_kept trimmed from (c ∷ cs) above =
+changes-from_kept trimmed from [] kept = refl
+changes-from_kept trimmed from (c ∷ cs) kept =
     ap (λ b. cond b (c ∷ changes_from (max from (trimmed + 1)) cs)
     (changes_from (max from (trimmed + 1)) cs))
-    (same (All-head (λ (x : Change). trimmed < x.number) c cs above))
+    (same (All-head (λ (x : Change). trimmed < x.number) c cs kept))
     ∙ ap (λ rest. cond (nat_le from c.number) (c ∷ rest) rest)
-    (changes-from_kept trimmed from cs (All-tail (λ (x : Change). trimmed < x.number) c cs above))
+    (changes-from_kept trimmed from cs (All-tail (λ (x : Change). trimmed < x.number) c cs kept))
   where
     same : trimmed < c.number → nat_le (max from (trimmed + 1)) c.number ≡ nat_le from c.number
     same high = by (nat_le from c.number) refl

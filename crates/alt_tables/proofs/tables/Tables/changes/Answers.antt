@@ -20,7 +20,7 @@ returns-in-Ok-rows-clause-changes g c s t stands at =
     c.in-Some-stream_family.is c.args.from c.from_kept-from.result (search rules)
     (first_kept (g.D.Disk.state c.args.disk.now) c.args.self.now s c.args.table.now t
     c.in-Some.schema.now stands at (sym c.in-Some.ensures.table) c.args.from c.trimmed.result
-    c.from_kept-from.result c.trimmed.ensures c.from_kept-from.ensures) c.in-Ok.range.from
+    c.from_kept-from.result c.trimmed.ensures.trimmed c.from_kept-from.ensures) c.in-Ok.range.from
     c.in-Ok.range.to c.args.most
     c.in-Ok.ensures.from c.in-Ok.ensures.to c.new-page.result.items c.rows.new.out.items
     c.new-page.ensures.items c.in-Ok-rows.ensures.rows))
@@ -37,7 +37,7 @@ returns-in-Ok-rows-clause-fault g c s stands =
     c.in-Some-stream_family.is c.args.from c.from_kept-from.result (search rules)
     (first_kept (g.D.Disk.state c.args.disk.now) c.args.self.now s c.args.table.now t
     c.in-Some.schema.now stands at (sym c.in-Some.ensures.table) c.args.from c.trimmed.result
-    c.from_kept-from.result c.trimmed.ensures c.from_kept-from.ensures) c.in-Ok.range.from
+    c.from_kept-from.result c.trimmed.ensures.trimmed c.from_kept-from.ensures) c.in-Ok.range.from
     c.in-Ok.range.to c.args.most
     c.in-Ok.ensures.from c.in-Ok.ensures.to c.new-page.result.items c.rows.new.out.items
     c.new-page.ensures.items c.in-Ok-rows.ensures.rows))

@@ -1,10 +1,11 @@
 -- The refusal, or that the stream isn't there, or its iterator.
-use Rattle.std.proofs.Common.{sym, subst, ◌∙◌}
+use Rattle.std.proofs.Common.{sym, subst, ◌∙◌, Err}
 use Rattle.serde_json.specs.Data.{Members}
 use Rattle.serde_json.specs.View.{members_view}
 use Rattle.alt_machine.specs.Ops.GetShardIterator.{get_shard_iterator, of_body}
 use Rattle.alt_machine.specs.State.{State}
 use Rattle.alt_request.specs.Carried.{Carries}
+use Rattle.alt_request.specs.declared.stop.Stop.TheVariants.{Refused}
 use Rattle.alt_request.proofs.Carrying.{refused_so, said_or_not, untested}
 use Rattle.alt_request.proofs.Moving.{moves_stopped, moves_nothing, reply_unfailed, tested_unfailed}
 use Rattle.alt_request.proofs.Reaching.{err_is}
@@ -84,3 +85,8 @@ returns-clause-moves g c =
     c.args.tables.now
     (g.D.Disk.state c.args.disk.now) c.iterator_reply.result
     (reply_unfailed _ c.iterator_reply.result c.iterator_reply.ensures.cause)
+
+pub returns-then-is_trimmed-clause-moves : goal.returns-then-is_trimmed-clause-moves
+returns-then-is_trimmed-clause-moves g c =
+    moves_nothing (λ s. get_shard_iterator s (members_view c.args.body.now.entries))
+    c.args.tables.now (g.D.Disk.state c.args.disk.now) (Err (Refused trimmed)) tt

@@ -1,8 +1,8 @@
 -- A log in hand, and the disk on which its file lies.
-use Rattle.std.specs.Prelude.{◌≡◌, ◌≢◌, ◌⊎◌, ℕ, List, length, get_or, Option, Some}
+use Rattle.std.specs.Prelude.{◌≡◌, ◌≢◌, ◌⊎◌, ◌+◌, ◌-◌, ◌==◌, if◌then◌else◌, ◌++◌, ℕ, List, length, take, drop, get_or, Option, Some}
 use Rattle.std.specs.List.{AllByRecursion}
 use Rattle.alt_disk.specs.Fates.{Fits, synced, wrote}
-use Rattle.alt_disk.specs.Disk.{DiskState, IsSettled, now}
+use Rattle.alt_disk.specs.Disk.{DiskState, IsSettled, contents, now}
 use Rattle.alt_gatelog.specs.Log.{Form, first_form, log_front, log_bytes, gates_from, IsShortEntry}
 use Rattle.alt_gatelog.specs.declared.gatelog.GateLog.{GateLog}
 
@@ -21,6 +21,21 @@ count_of log = length log.places.items
 -- the place of an entry's gate
 abbrev pub place_of : GateLog → ℕ → ℕ
 place_of log i = get_or log.places.items i 0
+
+-- the place behind an entry, where the next gate stands
+abbrev pub behind_of : GateLog → ℕ → ℕ
+behind_of log i = if i + 1 == count_of log then log.gate else place_of log (i + 1)
+
+-- How many bytes the log in hand has for an entry: between its gate with its length and the next gate.
+abbrev pub length_of : GateLog → ℕ → ℕ
+length_of log i = behind_of log i - (place_of log i + 9)
+
+-- Whatever the file is by now: what was added are as many bytes as the entry has, and they stand there.
+pub record AddsRead (s : DiskState) (log : GateLog) (i : ℕ) (old new : List ℕ) : Type 0 where
+  pub bytes : List ℕ
+  pub added : new ≡ old ++ bytes
+  pub there : bytes ≡ take (length bytes) (drop (place_of log i + 9) (contents s (file_of log)))
+  pub whole : length bytes ≡ length_of log i
 
 -- bytes that are a gated log of these entries, with the closed gate and the entries' gates at these places
 pub record LogAs (form : Form) (bytes : List ℕ) (at : ℕ) (places : List ℕ)

@@ -28,7 +28,7 @@ impl GateLog {
     ghost use Rattle.alt_disk.specs.Disk.{DiskState, IsTrusted, Goes, contents};
     ghost use Rattle.alt_disk.specs.Runs.{Run, Quiet};
     ghost use Rattle.alt_gatelog.specs.Log.{first_form, log_bytes, log_after, gate_place, BeforeOrAfter, ExplainsLog};
-    ghost use Rattle.alt_gatelog.specs.InHand.{file_of, form_of, count_of, place_of, Reads, SameLog, Stands};
+    ghost use Rattle.alt_gatelog.specs.InHand.{AddsRead, file_of, form_of, count_of, behind_of, place_of, Reads, SameLog, Stands};
     ghost use Rattle.alt_gatelog.specs.Parse.{HasNoLog, IsNoDamage, IsDamageAt};
 
     /// Makes an empty log in a missing file, which then has nine bytes.
@@ -152,6 +152,9 @@ impl GateLog {
             → Reads (D.state disk.old) self.old entries
             → out.new.items ≡ out.old.items ++ get_or entries i []) }
         ensures err { OnErr result (out.new.items ≡ out.old.items) }
+        // Whatever the file is by now: what was read is whole, and stands there.
+        ensures given { OnOk result (IsTrue (D.state disk.old).tells
+            → AddsRead (D.state disk.old) self.old i out.old.items out.new.items) }
         ensures undamaged { IsTrue (D.state disk.old).tells → (entries : List (List ℕ))
             → Reads (D.state disk.old) self.old entries → IfErr result IsNoDamage }
         ensures damaged { (s : DiskState) (entries : List (List ℕ)) → Reads s self.old entries
@@ -192,8 +195,7 @@ impl GateLog {
     // The place of the gate behind an entry.
     fn next_gate(&self, i: usize) -> u64
         requires { i < count_of self.now }
-        ensures next { result ≡ (if i + 1 == count_of self.now then self.now.gate
-            else place_of self.now (i + 1)) }
+        ensures next { result ≡ behind_of self.now i }
         ensures bound { result < 2 ^ 62 }
     {
         if i + 1 == self.places.len() {

@@ -1,6 +1,6 @@
 //! Reads a log, gate by gate: the header, and nine bytes at the place of each gate.
 
-ghost use Rattle.std.specs.Prelude.{◌≡◌, ◌≤◌, ◌+◌, ◌-◌, ◌^◌, ◌<◌, ℕ, List, IfOk, IfErr, IsErrOf, IsTrue, length, take};
+ghost use Rattle.std.specs.Prelude.{◌≡◌, ◌≤◌, ◌+◌, ◌-◌, ◌^◌, ◌<◌, ◌↔◌, ℕ, List, IfOk, IfErr, OnOk, IsErrOf, IsTrue, length, take};
 ghost use Rattle.alt_base.specs.Counts.{Rose};
 ghost use Rattle.alt_disk.specs.Disk.{Goes, contents};
 ghost use Rattle.alt_disk.specs.Runs.{Quiet};
@@ -35,12 +35,27 @@ pub(crate) fn size_of_log<D: Disk>(disk: &mut D, f: u32) -> Result<u64, LogFault
     if size < 8 {
         return Err(LogFault::Damaged { file: f, at: 0 });
     }
-    let mut head = [0u8; 8];
-    let count = disk.read(f, 0, &mut head)?;
-    if !is_header(&head[..count]) {
+    if !has_header(disk, f)? {
         return Err(LogFault::Damaged { file: f, at: 0 });
     }
     Ok(size)
+}
+
+/// Whether a file, of any size, begins with the header.
+fn has_header<D: Disk>(disk: &mut D, f: u32) -> Result<bool, LogFault>
+    ensures has { IsTrue (D.state disk.old).tells → IfOk result (λ has. IsTrue has
+        ↔ (take 8 (contents (D.state disk.old) f) ≡ header first_form)) }
+    ensures failed { IfErr result (λ fault. fault ≡ LogFault.Failed) }
+    ensures quiet { IsTrue (D.state disk.old).tells
+        → Quiet (D.state disk.old) (D.state disk.new) }
+    ensures goes { Goes (D.state disk.old) (D.state disk.new) }
+    ensures cause { IsErrOf result LogFault.Failed
+        → Rose (D.state disk.old).faults (D.state disk.new).faults }
+    ensures well { OnOk result ((D.state disk.new).faults ≡ (D.state disk.old).faults) }
+{
+    let mut head = [0u8; 8];
+    let count = disk.read(f, 0, &mut head)?;
+    Ok(is_header(&head[..count]))
 }
 
 /// What stands at a gate's place in a file of this size.

@@ -114,3 +114,51 @@ returns-else-count-length-clause-damaged g c s entries reads =
       sym place ∙ place_is first_form s log.file log.gate log.places.items entries reads i
           less,
     )
+
+pub returns-then-count-length-clause-given : goal.returns-then-count-length-clause-given
+returns-then-count-length-clause-given g c told =
+    let s : DiskState = g.D.Disk.state c.args.disk.now in
+    let log = c.args.self.now in
+    let i = c.args.i in
+    let at = c.index-at.result.now in
+    let whole = c.deref_mut.result.now in
+    let items = c.resize.new.self.items in
+    let buf = c.read.new.buf in
+    let start = c.len-start.result in
+    let n = c.saturating_sub-length.result in
+    let less : i < length log.places.items = omega (arith, c.requires) in
+    let place : get_or log.places.items i 0 ≡ at =
+    sym (c.index-at.ensures ∙ get_or_default_zero log.places.items i at less) in
+    let long : length whole ≡ start + n = omega
+    (arith, c.deref_mut.ensures.len, c.in_ok-resize.ensures.len) in
+    let size : length (take (length whole - start) (drop start whole)) ≡ n = omega (
+      arith,
+      length-take (length whole - start) (drop start whole),
+      length-drop start whole,
+      long,
+    ) in
+    let all : length buf ≡ n = omega (arith, c.read.auto.buf, size) in
+    let count : c.in-Ok.count ≡ n = c.if-count-length.true in
+    let made = c.in_ok-resize.ensures.items ∙ ap
+    (λ (k : ℕ). take (start + n) c.args.out.now.items ++ replicate (start + n - k) 0)
+    (sym c.len-start.ensures) in
+    let same : length whole ≡ length items = ap length c.deref_mut.ensures.value in
+    record {
+      bytes = buf;
+      added = read_behind c.resize.new.self.len start whole items c.args.out.now.items buf
+          c.deref_mut.ensures.value (omega (arith, c.in_ok-resize.ensures.len, long, same))
+          (omega (arith, c.len-start.ensures))
+          (front_of start n c.args.out.now.items items (omega (arith, c.len-start.ensures)) made)
+          (omega (
+            arith,
+            c.read.auto.buf,
+            length-take (length whole - start) (drop start whole),
+            length-drop start whole,
+            same,
+          )) (omega (arith, same, long));
+      there = sym (take_all c.in-Ok.count buf (omega (arith, all, count)))
+          ∙ (c.in-Ok.ensures.bytes told).front
+          ∙ (λ j. take ((count ∙ sym all) j) (drop (sym place j + 9) (contents s log.file)));
+      whole = all ∙ c.saturating_sub-length.ensures
+          ∙ (λ j. c.next_gate-next.ensures.next j - (sym place j + 9));
+    }

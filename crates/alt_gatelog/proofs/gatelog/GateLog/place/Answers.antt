@@ -1,5 +1,5 @@
 -- The list of places has the entry's.
-use Rattle.std.proofs.Common.{◌<◌, length, sym, ◌∙◌, arith}
+use Rattle.std.proofs.Common.{◌<◌, length, ◌∙◌, arith}
 use Rattle.std.proofs.lemmas.Grind.{get_or_default_zero}
 use Rattle.alt_gatelog.specs.Log.{first_form}
 use Rattle.alt_gatelog.proofs.Places.{place_is}

@@ -3,7 +3,6 @@ mod batches;
 mod conditions;
 mod failures;
 mod indexes;
-mod reads;
 mod stops;
 mod updates;
 mod walks;

@@ -1,7 +1,8 @@
 #!/usr/bin/env bash
 # The engine over files, over the built program: puts that are flushed beside puts that aren't, the longest a put takes meanwhile, memory, bytes
 # written for a byte put, opening, and gets and queries from memory and from files; and where sqlite's tool and LevelDB's library are there, theirs.
-# Where valgrind is there, also the instructions of puts, of an opening, of gets and of queries over 20,000 items, which no other run changes.
+# Where valgrind is there, also the instructions of puts, of an opening, of gets and of queries over 20,000 items, and of a scan
+# of 12,000 small ones, which no other run changes.
 # Not part of the gate. Usage: bench/engine.sh [FOLDER [ITEMS]]: the store is laid there, /dev/shm by default; 1000000 items by default.
 set -eu
 cd "$(dirname "$0")/.."
@@ -93,6 +94,20 @@ if command -v valgrind >/dev/null 2>&1; then
       spent=$(counted "$name" "$never" 64 "$work/$lines")
       echo "$lines, $name: $(((spent - none) / count)) instructions each"
     done
+  done
+  # A page asks for few rows at a time, so with small items what a question costs shows most.
+  {
+    printf '%s\n' 'CreateTable {"TableName":"Few","KeySchema":[{"AttributeName":"pk","KeyType":"HASH"}],"AttributeDefinitions":[{"AttributeName":"pk","AttributeType":"S"}]}'
+    seq 12000 | awk '{ printf "PutItem {\"TableName\":\"Few\",\"Item\":{\"pk\":{\"S\":\"%015d\"}}}\n", $1 }'
+  } >"$work/lines"
+  echo 'Scan {"TableName":"Few"}' >"$work/scan"
+  made tiny
+  replayed tiny "$never" "$work/lines"
+  for from in memory 'one file'; do
+    [ "$from" = memory ] || replayed tiny "$never" "$work/flush"
+    none=$(counted tiny "$never" 64 "$work/none")
+    spent=$(counted tiny "$never" 64 "$work/scan")
+    echo "a scan of 12,000 items of 30 bytes, $from: $(((spent - none) / 12000)) instructions an item"
   done
 fi
 if command -v sqlite3 >/dev/null 2>&1; then

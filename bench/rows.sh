@@ -1,6 +1,6 @@
 #!/usr/bin/env bash
 # Row files on a real folder: writing 100,000 rows beside hashing and writing the same bytes, a row beside a read of 4 KB and the decoding of a
-# block, walks of 100 rows, and the merge of four files beside walking them one after another; and the same over LevelDB's table files, where
+# block, walks of 100 rows and of two, and the merge of four files beside walking them one after another; and the same over LevelDB's table files, where
 # its library is here. Times are of the processor, but for those of writing, which are given both ways. Not part of the gate.
 # Usage: bench/rows.sh [FOLDER], where the files are laid; a folder of its own by default.
 set -eu
@@ -136,13 +136,20 @@ fn taken<D: Disk, S: RowSource<D>>(disk: &mut D, walk: &mut S, most: u32) -> Opt
     Some(sum)
 }
 
-fn walks<D: Disk>(alloc: Global, disk: &mut D, file: &RowFile) -> Option<u64> {
+// Rows of a walk from a place that lies anywhere, so many of them.
+fn few<D: Disk>(
+    alloc: Global,
+    disk: &mut D,
+    file: &RowFile,
+    forward: bool,
+    most: u32,
+) -> Option<u64> {
     let mut sum: u64 = 0;
     for i in 0..10_000 {
         let key = key_of(alloc, 1, spread(i) / 2)?;
         let mut walk = file.walk();
-        walk.seek(disk, Some(&key), true).ok()?;
-        sum = sum.wrapping_add(taken(disk, &mut walk, 100)?);
+        walk.seek(disk, Some(&key), forward).ok()?;
+        sum = sum.wrapping_add(taken(disk, &mut walk, most)?);
     }
     Some(sum)
 }
@@ -207,7 +214,15 @@ fn done<R: Runtime<File = File> + Net>(
         }
         "walks" => {
             let file = opened(alloc, disk, 1)?;
-            walks(alloc, disk, &file)
+            few(alloc, disk, &file, true, 100)
+        }
+        "ups" => {
+            let file = opened(alloc, disk, 1)?;
+            few(alloc, disk, &file, true, 2)
+        }
+        "downs" => {
+            let file = opened(alloc, disk, 1)?;
+            few(alloc, disk, &file, false, 2)
         }
         "four" => Some(four(alloc, disk)?.len() as u64),
         "each" => each(alloc, disk),
@@ -260,6 +275,8 @@ awk -v o="$open" -v r="$(task rows)" -v p="$(task reads)" -v b="$(task blocks)" 
   r = (r - o) * 10; p = (p - o) * 10; b = (b - o) * 10
   printf "opening it: %.2f s; a row by its key: %.1f microseconds; a read of 4 KB: %.1f; a block decoded: %.1f; %.2f times both\n", o, r, p, b, r / (p + b) }'
 awk -v o="$open" -v w="$(task walks)" 'BEGIN { printf "a walk of 100 rows: %.1f microseconds\n", (w - o) * 100 }'
+awk -v o="$open" -v u="$(task ups)" -v d="$(task downs)" 'BEGIN {
+  printf "a walk of two rows: %.1f microseconds; downwards: %.1f\n", (u - o) * 100, (d - o) * 100 }'
 awk -v f="$(task four)" -v e="$(task each)" -v m="$(task merged)" 'BEGIN {
   printf "four files walked one after another: %.2f s; merged: %.2f s; %.2f times\n", e - f, m - f, (m - f) / (e - f) }'
 if [ -e /usr/include/leveldb/table.h ]; then

@@ -32,8 +32,9 @@ change_can_show c =
 
 -- ---- one change
 
-moment_one : (m n : ℕ) → m < 2 ^ 64 → n < 2 ^ 64 → to_be_bytes w64 m ≡ to_be_bytes w64 n → m ≡ n
-moment_one m n p q e = sym (from_be_bytes-to_be_bytes_8 m p) ∙ ap (from_be_bytes w64) e
+-- numbers are told by their bytes
+pub number_one : (m n : ℕ) → m < 2 ^ 64 → n < 2 ^ 64 → to_be_bytes w64 m ≡ to_be_bytes w64 n → m ≡ n
+number_one m n p q e = sym (from_be_bytes-to_be_bytes_8 m p) ∙ ap (from_be_bytes w64) e
     ∙ from_be_bytes-to_be_bytes_8 n q
 
 fields_in : Tree → Fields
@@ -63,7 +64,7 @@ pub change_columns-one : (a b : Change) → IsReadChange a → IsReadChange b �
 change_columns-one a b p q number same =
     let one : Shows (change_columns a) a = shows_so (change_columns a) a refl in
     let other : Shows (change_columns a) b = shows_so (change_columns a) b same in
-    let moment : a.moment ≡ b.moment = moment_one a.moment b.moment p.moment q.moment
+    let moment : a.moment ≡ b.moment = number_one a.moment b.moment p.moment q.moment
     (same_Some (to_be_bytes w64 a.moment) (to_be_bytes w64 b.moment)
     (sym one.moment ∙ other.moment)) in
     let old : a.old ≡ b.old = items_one a.old b.old p.old q.old (sym one.old ∙ other.old) in

@@ -1,3 +1,4 @@
 pub mod ChangeRows
 pub mod KeyOf
 pub mod NoChange
+pub mod TrimRows

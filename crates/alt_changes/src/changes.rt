@@ -84,7 +84,7 @@ fn same(old: Option<&Item>, new: Option<&Item>) -> bool
 }
 
 /// A number in 8 bytes.
-fn number_bytes(alloc: Global, number: u64) -> Result<Bytes, NoMemory>
+pub(crate) fn number_bytes(alloc: Global, number: u64) -> Result<Bytes, NoMemory>
     ensures { IfOk result (λ bytes. bytes ≡ row_key number) }
 {
     let mut out = Vec::new(alloc);

@@ -6,8 +6,10 @@ mod changes;
 mod iterators;
 mod reading;
 mod records;
+mod trimming;
 
 pub use changes::{Change, change_row};
 pub use iterators::{iterator_of, iterator_text, sequence_number};
 pub use reading::change_of;
 pub use records::{record_json, record_size};
+pub use trimming::trim_rows;

@@ -18,9 +18,10 @@ use std::alloc::Global;
 /// The most lists and maps around a value of an item, and the item itself.
 const DEEPEST: usize = 33;
 
-/// The change of a number whose row this is. Else `Bad`: at the place within its first bad cell by name, or 0 where no cell is bad
+/// The change of a number, from 1 on, whose row this is. Else `Bad`: at the place within its first bad cell by name, or 0 where no cell is bad
 /// and one is missing or too many.
 pub fn change_of(alloc: Global, number: u64, row: &ShownRow) -> Result<Change, BytesFault>
+    requires number { 0 < number }
     ensures change { IfOk result (λ c. (c.number ≡ number) × IsReadChange (change_in c)
         × (row.now ≡ change_columns (change_in c))) }
     ensures none { (at : ℕ) → result ≡ Err (BytesFault.Bad at)

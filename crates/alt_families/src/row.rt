@@ -49,17 +49,17 @@ pub fn shown_row<D: Disk>(
         + length (files_in (tree_get nat_cmp families.now family)) }
 {
     match cells_at(alloc, disk, families, family, key) {
-        Ok(row) => Ok(shown_of(row)?),
+        Ok(row) => Ok(shown_of(alloc, row)?),
         Err(fault) => Err(fault),
     }
 }
 
-/// What a row shows, if there is one.
-fn shown_of(row: Option<RowCells>) -> Result<Option<ShownRow>, NoMemory>
+/// What a row shows, if there is one. Its bytes are moved and not copied.
+fn shown_of(alloc: Global, row: Option<RowCells>) -> Result<Option<ShownRow>, NoMemory>
     ensures { IfOk result (λ shown. shown ≡ option_and_then row_shown row) }
 {
     match row {
-        Some(row) => row.shown(),
+        Some(row) => row.into_shown(alloc),
         None => Ok(None),
     }
 }

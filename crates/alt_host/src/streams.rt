@@ -160,7 +160,7 @@ impl<R: Runtime<File = File> + Net> Shell for HostShell<R> {
             self.moment += 1;
             return Ok(false);
         };
-        let Ok(peer) = talk::accept(&self.rt, listener) else {
+        let Ok(peer) = talk::accept::<R>(listener) else {
             return Err(self.fails());
         };
         self.peer = Some(peer);

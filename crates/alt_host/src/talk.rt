@@ -1,8 +1,8 @@
 //! Connections: a listener on the loopback address, and the one connection that the shell talks on.
 //!
 //! No client stops the others for long. A talk on which no byte moves for 15 seconds fails, and so does one whose request isn't
-//! whole 30 seconds after the accept or the last reply, whatever was said to let it go on, or whose reply isn't taken after 60. So one
-//! request and its reply take 90 seconds of the peer's at most, the farewell among them.
+//! whole 30 seconds after it was first waited for, behind the accept or the last reply, whatever was said to let it go on, or whose reply
+//! isn't taken after 60. So one request and its reply take 90 seconds of the peer's at most, the farewell among them.
 
 ghost use Rattle.std.specs.Prelude.{◌≤◌, ◌<◌, length, IfOk};
 
@@ -14,7 +14,7 @@ use std::time::{Clock, Duration, Instant};
 /// How long a talk may be silent, in milliseconds.
 const SILENCE: u64 = 15_000;
 
-/// How long a request may take to come, from the accept or the last reply on.
+/// How long a request may take to come, from when it is first waited for, behind the accept or the last reply.
 const REQUEST: u64 = 30_000;
 
 /// How long after its begin a reply is still written to. With the last write's beat and the farewell these are 60 seconds.
@@ -47,13 +47,13 @@ const REFUSED: &[u8] = b"\r\n\r\n{\"message\":";
 /// How many bytes such a reply has at most.
 const LONGEST_REFUSAL: usize = 256;
 
-/// A connection, when its accept or its last reply was, whether its reads wait for less than a silence may last, whether anything was said
-/// on it, whether its writes wait for a beat at most, and whether the last reply refused a head, so that its peer may still send what was
-/// to follow.
+/// A connection, since when the request at hand is waited for, where it is, whether its reads wait for less than a silence may last, whether
+/// anything was said on it, whether its writes wait for a beat at most, and whether the last reply refused a head, so that its peer may
+/// still send what was to follow.
 #[derive(Drop)]
 pub(crate) struct Peer<S: Drop> {
     stream: S,
-    since: Instant,
+    since: Option<Instant>,
     hurried: bool,
     said: bool,
     beats: bool,
@@ -66,14 +66,11 @@ pub(crate) fn listen<R: Net>(net: &R, port: u16) -> io::Result<R::Listener> {
 }
 
 /// Waits for a connection. One that dies before it is accepted is passed over.
-pub(crate) fn accept<R: Net + Clock>(
-    rt: &R,
-    listener: &R::Listener,
-) -> Result<Peer<R::Stream>, Failed> {
+pub(crate) fn accept<R: Net>(listener: &R::Listener) -> Result<Peer<R::Stream>, Failed> {
     for _ in 0..TRIES {
         match listener.accept() {
             Ok((stream, _)) => {
-                if let Ok(peer) = greet(rt, stream) {
+                if let Ok(peer) = greet(stream) {
                     return Ok(peer);
                 }
             }
@@ -98,12 +95,11 @@ fn is_passing(kind: ErrorKind) -> bool {
     )
 }
 
-fn greet<C: Clock, S: OpenStream + Drop>(clock: &C, stream: S) -> io::Result<Peer<S>> {
-    let since = Instant::now(clock)?;
+fn greet<S: OpenStream + Drop>(stream: S) -> io::Result<Peer<S>> {
     stream.set_read_timeout(Some(Duration::from_millis(SILENCE)))?;
     Ok(Peer {
         stream,
-        since,
+        since: None,
         hurried: false,
         said: false,
         beats: false,
@@ -155,7 +151,10 @@ impl<S: OpenStream + Read + Write + Drop> Peer<S> {
 
     /// Lets the next read wait for no longer than the request has left, which is none where its time is over.
     fn hurry<C: Clock>(&mut self, clock: &C) -> Result<(), Failed> {
-        let Some(time) = left(clock, self.since, REQUEST) else {
+        let Some(since) = self.since else {
+            return self.begin(clock);
+        };
+        let Some(time) = left(clock, since, REQUEST) else {
             return Err(Failed);
         };
         if time >= Duration::from_millis(SILENCE) {
@@ -170,18 +169,19 @@ impl<S: OpenStream + Read + Write + Drop> Peer<S> {
 
     /// Says a reply. An interim one is a part of the time that its request has.
     pub(crate) fn say<C: Clock>(&mut self, clock: &C, bytes: &[u8]) -> Result<(), Failed> {
-        if bytes.starts_with(INTERIM) {
-            return self.send(clock, self.since, REQUEST, bytes);
-        }
-        let Ok(begun) = Instant::now(clock) else {
+        let Ok(now) = Instant::now(clock) else {
             return Err(Failed);
         };
-        match self.send(clock, begun, REPLY, bytes) {
+        if bytes.starts_with(INTERIM) {
+            return self.send(clock, self.since.unwrap_or(now), now, REQUEST, bytes);
+        }
+        match self.send(clock, now, now, REPLY, bytes) {
             Ok(()) => {}
             Err(fault) => return Err(fault),
         }
         self.refused = is_refusal(bytes);
-        self.rest(clock)
+        self.since = None;
+        Ok(())
     }
 
     /// Has writes wait for a beat at most, and go at once: but for a short reply that is the first, which needs neither.
@@ -197,11 +197,12 @@ impl<S: OpenStream + Read + Write + Drop> Peer<S> {
             .set_write_timeout(Some(Duration::from_millis(BEAT)))
     }
 
-    /// Sends all of the bytes within a time that began then.
+    /// Sends all of the bytes within a time that began then. That none of them moved is counted from now on.
     fn send<C: Clock>(
         &mut self,
         clock: &C,
         begun: Instant,
+        now: Instant,
         most: u64,
         bytes: &[u8],
     ) -> Result<(), Failed> {
@@ -211,9 +212,7 @@ impl<S: OpenStream + Read + Write + Drop> Peer<S> {
         if self.ready(bytes.len()).is_err() {
             return Err(Failed);
         }
-        let Ok(mut moved) = Instant::now(clock) else {
-            return Err(Failed);
-        };
+        let mut moved = now;
         let mut done = 0;
         'calls: for _ in 0..CALLS {
             match self.stream.write(&bytes[done..]) {
@@ -239,11 +238,11 @@ impl<S: OpenStream + Read + Write + Drop> Peer<S> {
     }
 
     /// The next request may take its time from now on.
-    fn rest<C: Clock>(&mut self, clock: &C) -> Result<(), Failed> {
+    fn begin<C: Clock>(&mut self, clock: &C) -> Result<(), Failed> {
         let Ok(now) = Instant::now(clock) else {
             return Err(Failed);
         };
-        self.since = now;
+        self.since = Some(now);
         if !self.hurried {
             return Ok(());
         }
@@ -260,9 +259,14 @@ impl<S: OpenStream + Read + Write + Drop> Peer<S> {
     /// Ends the connection. Where the peer still sends, or may since its head was refused, it is let finish for a moment: a connection that
     /// is closed over bytes that came, or to which some come later, is reset, and the last reply would be lost.
     pub(crate) fn end<C: Clock>(mut self, clock: &C) {
-        if !self.refused && !self.sends() {
-            return;
+        if self.refused || self.sends() {
+            self.farewell(clock);
         }
+    }
+
+    /// Lets the peer finish. It is a function of its own since its buffer is cleared where it is called, and mostly it isn't.
+    #[inline(never)]
+    fn farewell<C: Clock>(&mut self, clock: &C) {
         let _ = self.stream.shutdown(std::net::Shutdown::Write);
         if self.stream.set_nonblocking(false).is_err() {
             return;

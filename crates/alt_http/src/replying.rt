@@ -12,6 +12,9 @@ use itoa::Buffer;
 /// What is said to a client that waits to be told to go on.
 pub const CONTINUE: &[u8] = b"HTTP/1.1 100 Continue\r\n\r\n";
 
+/// Room for the longest head: so that a reply is put together without its bytes being moved.
+const HEAD_ROOM: usize = 256;
+
 /// A part of a head.
 #[derive(Clone, Copy)]
 pub(crate) enum Piece {
@@ -35,6 +38,9 @@ pub fn reply(
     ensures err { OnErr result (out.new.items ≡ out.old.items) }
 {
     let before = out.len();
+    if out.reserve(body.len().saturating_add(HEAD_ROOM)).is_err() {
+        return Err(NoMemory);
+    }
     let date = date(moment);
     if put_head(out, status, date, close, body.len()).is_err() {
         return Err(NoMemory);

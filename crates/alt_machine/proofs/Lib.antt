@@ -27,5 +27,6 @@ pub mod States
 pub mod Steps
 pub mod Targets
 pub mod Tests
+pub mod Trimming
 pub mod Untouched
 pub mod Updates

@@ -13,14 +13,16 @@ use Rattle.alt_value.proofs.Texts.{text_total}
 use Rattle.alt_machine.specs.declared.TheConstants.{NUMBERS_END, FAMILIES_END, MOST_FAMILIES, MOST_TABLES}
 use Rattle.alt_machine.specs.Ops.CreateTable.{with_table}
 use Rattle.alt_machine.specs.Ops.DeleteTable.{without_table}
-use Rattle.alt_machine.specs.Changes.{with_change}
+use Rattle.alt_machine.specs.Changes.{with_change, trimmed_with}
 use Rattle.alt_machine.specs.Same.{is_same}
 use Rattle.alt_machine.specs.State.{State, Table, Change, start, new_table, families_of}
+use Rattle.alt_machine.specs.Trimming.{kept, trimmed_at}
 use Rattle.alt_machine.specs.Valid.{IsStored, WasStored, IsChange, AreChanges, IsMade, IsTable, IsValid}
 use Rattle.alt_machine.specs.Writes.{with_item, with_write, after_item}
 use Rattle.alt_machine.proofs.Families.{families_few, families_within, families_differ, of_contained}
 use Rattle.alt_machine.proofs.Same.{is_same-equal}
 use Rattle.alt_machine.proofs.Looks.{at_insert, at_remove, not_there}
+use Rattle.alt_machine.proofs.Trimming.{changes_trimmed}
 
 -- the empty store
 pub start_valid : IsValid start
@@ -33,9 +35,9 @@ start_valid = record {
 }
 
 -- the changes of a table, where the next number is later
-changes_later : (d : TableSchema) (n m : ℕ) (changes : List Change) → n ≤ m → AreChanges d n changes
-    → AreChanges d m changes
-changes_later d n m changes le h = record {
+changes_later : (d : TableSchema) (n m z : ℕ) (changes : List Change) → n ≤ m
+    → AreChanges d n z changes → AreChanges d m z changes
+changes_later d n m z changes le h = record {
   each = All-weaker (IsChange d n) (IsChange d m) (λ (c : Change) is. record {
     number = omega (arith, is.number, le);
     differ = is.differ;
@@ -44,35 +46,53 @@ changes_later d n m changes le h = record {
     new = is.new;
   }) changes h.each;
   rise = h.rise;
+  above = h.above;
+  trimmed_before = omega (arith, h.trimmed_before, le);
   none = h.none;
 }
 
 -- a new table has none
-no_changes : (d : TableSchema) (n : ℕ) → AreChanges d n []
-no_changes d n = record {
+no_changes : (d : TableSchema) (n : ℕ) → 0 < n → AreChanges d n 0 []
+no_changes d n some = record {
   each = All-nil (IsChange d n);
   rise = λ i j x lt within. absurd (omega (arith, within));
-  none = λ e. refl;
+  above = All-nil (λ (c : Change). 0 < c.number);
+  trimmed_before = some;
+  none = λ e. (refl, refl);
 }
 
--- one more, of the next number
-changes_more : (d : TableSchema) (n : ℕ) (c : Change) (changes : List Change) → c.number ≡ n
-    → IsChange d (n + 1) c → AreChanges d n changes
-    → AreChanges d (n + 1) (with_change d (Some c) changes)
-changes_more d n c changes e is h = by d.stream_family refl
-  where
-    later : AreChanges d (n + 1) changes
-    later = changes_later d n (n + 1) changes (omega arith) h
-
-    by : (o : Option ℕ) → d.stream_family ≡ o
-        → AreChanges d (n + 1) (cond (is_some o) (changes ++ c ∷ []) changes)
-    by None f = later
-    by (Some family) f = record {
+-- one more, of the next number, before any is trimmed
+pub changes_with : (d : TableSchema) (n z family : ℕ) (c : Change) (changes : List Change)
+    → d.stream_family ≡ Some family → c.number ≡ n → IsChange d (n + 1) c
+    → AreChanges d n z changes → AreChanges d (n + 1) z (changes ++ c ∷ [])
+changes_with d n z family c changes f e is h =
+    let later : AreChanges d (n + 1) z changes =
+    changes_later d n (n + 1) z changes (omega arith) h in
+    record {
       each = All-push (IsChange d (n + 1)) changes c later.each is;
       rise = all_pairs_push (λ (a b : Change). a.number < b.number) changes c h.rise
           (λ k x within. omega (arith, (h.each k x within).number, e));
+      above = All-push (λ (x : Change). z < x.number) changes c h.above
+          (omega (arith, h.trimmed_before, e));
+      trimmed_before = later.trimmed_before;
       none = λ g. absurd (let k : ⊥ = cc (f, g) in k);
     }
+
+-- and after
+changes_more : (d : TableSchema) (n m z : ℕ) (c : Change) (changes : List Change) → c.number ≡ n
+    → IsChange d (n + 1) c → AreChanges d n z changes
+    → AreChanges d (n + 1) (trimmed_with d m (Some c) changes z) (with_change d m (Some c) changes)
+changes_more d n m z c changes e is h = by d.stream_family refl
+  where
+    later : AreChanges d (n + 1) z changes
+    later = changes_later d n (n + 1) z changes (omega arith) h
+
+    by : (o : Option ℕ) → d.stream_family ≡ o
+        → AreChanges d (n + 1) (cond (is_some o) (trimmed_at m z (changes ++ c ∷ [])) z)
+        (cond (is_some o) (kept m (changes ++ c ∷ [])) changes)
+    by None f = later
+    by (Some family) f = changes_trimmed d (n + 1) z m family (changes ++ c ∷ []) f
+        (changes_with d n z family c changes f e is h)
 
 -- a table in a state with later numbers
 table_later : (s r : State) (name : List ℕ) (t : Table) → s.next_number ≤ r.next_number
@@ -84,7 +104,8 @@ table_later s r name t n f h = record {
   families = λ k x within. let was = h.families k x within in (was.0, omega (arith, was.1, f));
   differ = h.differ;
   items = h.items;
-  changes = changes_later t.description s.next_number r.next_number t.changes n h.changes;
+  changes = changes_later t.description s.next_number r.next_number t.trimmed t.changes n
+      h.changes;
 }
 
 -- a count that grows by one or stays has grown by one at most
@@ -119,7 +140,7 @@ module _ (s : State) (d : TableSchema) (v : IsValid s) (made : IsMade d) (new : 
         (omega (arith, is.0, family, v.next_family.0), omega (arith, is.1, family));
     differ = families_differ d new;
     items = λ place item e. absurd (not_there place item e);
-    changes = no_changes d (s.next_number + 1);
+    changes = no_changes d (s.next_number + 1) (omega arith);
   }
 
   -- no family of a table that was there is one of the new table's
@@ -235,7 +256,7 @@ module _ (s : State) (moment : ℕ) (name : List ℕ) (t : Table) (place : List 
   abbrev change : Change
   change = record { number = s.next_number; moment = moment; old = map.get t.items place; new = new }
 
-  change_is : IsChange t.description (s.next_number + 1) change
+  pub change_is : IsChange t.description (s.next_number + 1) change
   change_is = record {
     number = omega arith;
     differ = λ e. true≢false (sym (is_same-equal (map.get t.items place) new e) ∙ differ);
@@ -256,9 +277,12 @@ module _ (s : State) (moment : ℕ) (name : List ℕ) (t : Table) (place : List 
         families = old.families;
         differ = old.differ;
         items = with_item_stored s name t place new v there put;
-        changes = subst (AreChanges t.description (s.next_number + 1)) (sym (ap
-            (λ b. with_change t.description (if b then None else Some change) t.changes) differ))
-            (changes_more t.description s.next_number change t.changes refl change_is old.changes);
+        changes = subst (λ b. AreChanges t.description (s.next_number + 1)
+            (trimmed_with t.description moment (if b then None else Some change) t.changes t.trimmed)
+            (with_change t.description moment (if b then None else Some change) t.changes))
+            (sym differ)
+            (changes_more t.description s.next_number moment t.trimmed change t.changes refl
+            change_is old.changes);
       }
 
   -- a table of the same description was there

@@ -21,6 +21,7 @@ pub mod State
 pub mod Step
 pub mod Streams
 pub mod Targets
+pub mod Trimming
 pub mod Valid
 pub mod Walks
 pub mod Wanted

@@ -99,11 +99,14 @@ pub record IsChange (d : TableSchema) (next : ℕ) (c : Change) : Type 0 where
   pub old : IfSome c.old (WasStored d place)
   pub new : IfSome c.new (WasStored d place)
 
--- The changes of a table rise by their numbers, and one without a stream has none.
-pub record AreChanges (d : TableSchema) (next : ℕ) (changes : List Change) : Type 0 where
+-- The changes of a table rise by their numbers, from above the number of the last that was trimmed, which is below the next; and one
+-- without a stream has none and trimmed none.
+pub record AreChanges (d : TableSchema) (next trimmed : ℕ) (changes : List Change) : Type 0 where
   pub each : All (IsChange d next) changes
   pub rise : AllPairs (λ (a b : Change). a.number < b.number) changes
-  pub none : d.stream_family ≡ None → changes ≡ []
+  pub above : All (λ (c : Change). trimmed < c.number) changes
+  pub trimmed_before : trimmed < next
+  pub none : d.stream_family ≡ None → (changes ≡ []) × (trimmed ≡ 0)
 
 -- ---- tables
 
@@ -116,7 +119,7 @@ pub record IsTable (s : State) (name : List ℕ) (t : Table) : Type 0 where
   pub differ : AllPairs (λ f g. f ≢ g) (families_of t.description)
   pub items : (place : List ℕ) (item : List Pair) → map.get t.items place ≡ Some item
       → IsStored t.description place item
-  pub changes : AreChanges t.description s.next_number t.changes
+  pub changes : AreChanges t.description s.next_number t.trimmed t.changes
 
 -- There are at most 256 tables, each of them as it is to be; a family is of one table alone; and the next number and the next family are in
 -- their ranges.

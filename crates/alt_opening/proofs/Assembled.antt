@@ -1,6 +1,6 @@
 -- Where every row of the catalog and of the tables can be read, there is a state whose rows they are, with whatever changes its
 -- tables may have.
-use Rattle.std.proofs.Common.{◌≡◌, ◌≤◌, ℕ, Bool, true, false, cond, List, [], ◌∷◌, Option, Some, None, All, refl, sym, ap, subst, ◌∙◌, arith}
+use Rattle.std.proofs.Common.{◌≡◌, ◌<◌, ◌≤◌, ℕ, Bool, true, false, cond, List, [], ◌∷◌, Option, Some, None, All, refl, sym, ap, subst, ◌∙◌, arith}
 use Rattle.std.proofs.lemmas.Bool.{false≢true}
 use Rattle.std.proofs.lemmas.List.Elements.{All-nil}
 use Rattle.std.specs.Prelude.{if◌then◌else◌, option_and_then, option_map}
@@ -43,19 +43,22 @@ not_empty number family [] d good =
     absurd (false≢true f)
 not_empty number family (c ∷ cs) d good = refl
 
--- changes that a table may have
-pub record MayHave (next : ℕ) (d : TableSchema) (changes : List Change) : Type 0 where
-  pub are : AreChanges d next changes
+-- changes that a table may have, where those up to a number were trimmed
+pub record MayHave (next : ℕ) (d : TableSchema) (trimmed : ℕ) (changes : List Change)
+    : Type 0 where
+  pub are : AreChanges d next trimmed changes
   pub held : All IsHeldChange changes
   pub moments : All HasMoment changes
 
 -- each may have none
-pub none_had : (next : ℕ) (d : TableSchema) → MayHave next d []
-none_had next d = record {
+pub none_had : (next : ℕ) (d : TableSchema) → 0 < next → MayHave next d 0 []
+none_had next d some = record {
   are = record {
     each = All-nil (IsChange d next);
     rise = λ i j x less within. absurd (omega (arith, within));
-    none = λ e. refl;
+    above = All-nil (λ (c : Change). 0 < c.number);
+    trimmed_before = some;
+    none = λ e. (refl, refl);
   };
   held = All-nil IsHeldChange;
   moments = All-nil HasMoment;
@@ -66,9 +69,10 @@ module _ (l : Layout) (family : ℕ) (catalog : Texts TableSchema)
     (items : (name : List ℕ) (d : TableSchema) → map.get catalog name ≡ Some d → ItemsRead l d)
     (beyond : (f : ℕ) (key : List ℕ) → family ≤ f → shown l f key ≡ None)
     (number : (1 ≤ l.next_number) × (l.next_number ≤ NUMBERS_END))
-    (Has : TableSchema → List Change → Type 0)
+    (Has : TableSchema → ℕ → List Change → Type 0)
     (list : (name : List ℕ) (d : TableSchema) → map.get catalog name ≡ Some d
-    → (cs : List Change) × MayHave l.next_number d cs × Has d cs) where
+    → (trimmed : ℕ) × (cs : List Change) × MayHave l.next_number d trimmed cs
+    × Has d trimmed cs) where
   -- ---- the items of a table
 
   abbrev IsRow : TableSchema → List ℕ → Columns → List Pair → Type 0
@@ -113,8 +117,8 @@ module _ (l : Layout) (family : ℕ) (catalog : Texts TableSchema)
     row : columns ≡ table_row t.description
     known : map.get catalog name ≡ Some t.description
     has : HasItems t.description t.items
-    may : MayHave l.next_number t.description t.changes
-    listed : Has t.description t.changes
+    may : MayHave l.next_number t.description t.trimmed t.changes
+    listed : Has t.description t.trimmed t.changes
 
   tables_read : AllRead row_shown IsTableOf (map.get (map.remove (l.rows catalog_family) []))
   tables_read name row at = by (eq_by_cmp key_cmp name []) refl
@@ -131,13 +135,13 @@ module _ (l : Layout) (family : ℕ) (catalog : Texts TableSchema)
           (sym e ∙ ap (λ k. eq_by_cmp key_cmp k []) none ∙ itself [])) at in
           let m = items_of d (items name d is) in
           let c = list name d is in (
-            record { description = d; items = m.0; changes = c.0 },
+            record { description = d; items = m.0; changes = c.1; trimmed = c.0 },
             record {
               row = some _ _ (sym at ∙ (read.stands name d is).1);
               known = is;
               has = m.1;
-              may = c.1;
-              listed = c.2;
+              may = c.2;
+              listed = c.3;
             },
           )
 
@@ -192,7 +196,7 @@ module _ (l : Layout) (family : ℕ) (catalog : Texts TableSchema)
 
   -- its changes may stand there
   may_have : (name : List ℕ) (t : Table) → map.get chosen.0 name ≡ Some t
-      → MayHave l.next_number t.description t.changes
+      → MayHave l.next_number t.description t.trimmed t.changes
   may_have name t at = let (row, (e, is)) = table_here name t at in is.may
 
   -- a table that is known stands there
@@ -294,7 +298,7 @@ module _ (l : Layout) (family : ℕ) (catalog : Texts TableSchema)
   -- The state of these rows, with these changes.
   pub assembled_with : (s : State) × AssembledRows l family catalog s
       × ((name : List ℕ) (t : Table) → map.get s.tables name ≡ Some t
-      → Has t.description t.changes)
+      → Has t.description t.trimmed t.changes)
   assembled_with = (
     assembled_state,
     record {
@@ -327,5 +331,6 @@ pub assembled : (l : Layout) (family : ℕ) (catalog : Texts TableSchema) → Is
     → (s : State) × AssembledRows l family catalog s
 assembled l family catalog read items beyond number =
     let (s, made, none) = assembled_with l family catalog read items beyond number
-    (λ d cs. Unit {0}) (λ name d at. ([], none_had l.next_number d, tt)) in
+    (λ d trimmed cs. Unit {0})
+    (λ name d at. (0, [], none_had l.next_number d (omega (arith, number.0)), tt)) in
     (s, made)

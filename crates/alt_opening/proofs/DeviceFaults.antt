@@ -11,7 +11,7 @@ use Rattle.alt_schema.specs.declared.schema.TableSchema.{TableSchema}
 use Rattle.alt_opening.specs.Faults.{told_by_opening}
 use Rattle.alt_opening.specs.private.IndexScans.{IsIndexFault, IsFirstOff}
 use Rattle.alt_opening.specs.Scans.{IsDeviceFault, IsFirstBad, IsItemFault}
-use Rattle.alt_opening.specs.StreamScans.{IsChangeFault, IsFirstForeignChange}
+use Rattle.alt_opening.specs.StreamScans.{IsChangeFault, IsFirstForeignChange, IsFirstOfStream, IsStreamFault}
 use Rattle.alt_opening.specs.declared.faults.OpenFault.{OpenFault}
 
 -- of items
@@ -21,10 +21,16 @@ device_item l d fault = outside-tells (λ n. ⊥)
     (RowWhere (λ family key. (family ≡ d.family) × IsFirstBad l d key)) (told_by_opening fault)
 
 -- of changes
-pub device_change : (l : Layout) (d : TableSchema) (next family : ℕ) (fault : OpenFault)
-    → IsDeviceFault fault → IsChangeFault l d next family fault
-device_change l d next family fault = outside-tells (λ n. ⊥)
-    (RowWhere (λ f key. (f ≡ family) × IsFirstForeignChange l d next family key))
+pub device_change : (l : Layout) (d : TableSchema) (next trimmed family : ℕ) (fault : OpenFault)
+    → IsDeviceFault fault → IsChangeFault l d next trimmed family fault
+device_change l d next trimmed family fault = outside-tells (λ n. ⊥)
+    (RowWhere (λ f key. (f ≡ family) × IsFirstForeignChange l d next trimmed family key))
+    (told_by_opening fault)
+
+-- of a stream
+pub device_stream : (l : Layout) (d : TableSchema) (fault : OpenFault) → IsDeviceFault fault
+    → IsStreamFault l d fault
+device_stream l d fault = outside-tells (λ n. ⊥) (RowWhere (IsFirstOfStream l d))
     (told_by_opening fault)
 
 -- of an index

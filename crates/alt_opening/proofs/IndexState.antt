@@ -5,18 +5,21 @@ use Rattle.alt_machine.specs.declared.TheConstants.{NUMBERS_END}
 use Rattle.alt_machine.specs.State.{State, Texts}
 use Rattle.alt_schema.specs.declared.schema.TableSchema.{TableSchema}
 use Rattle.alt_opening.specs.private.IndexScans.{IsFirstOfOwn}
-use Rattle.alt_opening.specs.private.Opening.{AllChangesRead, AllIndexesRead, AreTablesRead, Assembled, IsFirstIn, IsIndexesFault, IsRowFault}
+use Rattle.alt_opening.specs.private.Opening.{AllChangesRead, AllIndexesRead, AreTablesRead, AreTrimmedIn, Assembled, IsFirstIn, IsIndexesFault, IsRowFault}
 use Rattle.alt_opening.specs.Recovery.{IsFirstWrong}
 use Rattle.alt_opening.specs.declared.faults.OpenFault.{OpenFault}
 use Rattle.alt_opening.specs.declared.faults.OpenFault.TheVariants.{Damaged, DigestDiffers, BadRow, Failed, NoMemory}
 use Rattle.alt_opening.proofs.IndexRead.{agrees_right, right_agrees}
 use Rattle.alt_opening.proofs.StreamState.{AssembledTables, assembled_tables, known_at, table_of}
+use Rattle.alt_opening.proofs.TrimmedSteps.{trimmed_state}
+use Rattle.alt_opening.specs.declared.trimmed.Trimmed.{Trimmed}
 
 module _ (l : Layout) (next : ℕ) (known : Texts TableSchema) (s : State)
     (made : AssembledTables l next known s) where
   -- where its indexes are read the rows show it
-  pub whole_state : AllIndexesRead l known → Assembled l next known s
-  whole_state read = record {
+  pub whole_state : (trimmed : List Trimmed) → AreTrimmedIn l known trimmed
+      → AllIndexesRead l known → Assembled l next known trimmed s
+  whole_state trimmed told read = record {
     shows = record {
       number = made.agrees.rows.number;
       catalog = λ key. made.agrees.rows.catalog key tt;
@@ -32,6 +35,7 @@ module _ (l : Layout) (next : ℕ) (known : Texts TableSchema) (s : State)
     held = made.agrees.rows.held;
     catalog = made.catalog;
     family = made.family;
+    trimmed_known = trimmed_state l known s made.catalog made.trimmed trimmed told;
   }
 
   -- and else the first wrong row of them is the first of all
@@ -77,7 +81,8 @@ module _ (l : Layout) (next : ℕ) (known : Texts TableSchema) (read : AreTables
   index_fault NoMemory is = is
 
   -- where there is none they show a state
-  pub shown_state : AllIndexesRead l known → (s : State) × Assembled l next known s
-  shown_state indexes =
+  pub shown_state : (trimmed : List Trimmed) → AreTrimmedIn l known trimmed
+      → AllIndexesRead l known → (s : State) × Assembled l next known trimmed s
+  shown_state trimmed told indexes =
       let (s, made) = assembled_tables l next known read number changes in
-      (s, whole_state l next known s made indexes)
+      (s, whole_state l next known s made trimmed told indexes)

@@ -1,5 +1,5 @@
 -- What holds of the changes of a state: they can be read back from their rows.
-use Rattle.std.proofs.Common.{◌≡◌, ◌≤◌, ◌+◌, ℕ, List, Option, Some, None, All, IfSome, arith}
+use Rattle.std.proofs.Common.{◌≡◌, ◌<◌, ◌≤◌, ◌+◌, ◌^◌, ℕ, List, Option, Some, None, All, IfSome, arith}
 use Rattle.std.specs.FinMap as finite
 use Rattle.alt_changes.specs.ChangeRows.{IsReadItem}
 use Rattle.alt_machine.specs.State.{Change, State, Table}
@@ -17,9 +17,9 @@ pub each_so : (P Q : Change → Type 0) (cs : List Change) → ((c : Change) →
 each_so P Q cs f all k x within = f _ (all k x within)
 
 -- their numbers fit
-pub are_small : (d : TableSchema) (next : ℕ) (cs : List Change) → next ≤ NUMBERS_END + 1
-    → AreChanges d next cs → All IsSmall cs
-are_small d next cs high changes = each_so (IsChange d next) IsSmall cs
+pub are_small : (d : TableSchema) (next trimmed : ℕ) (cs : List Change) → next ≤ NUMBERS_END + 1
+    → AreChanges d next trimmed cs → All IsSmall cs
+are_small d next trimmed cs high changes = each_so (IsChange d next) IsSmall cs
     (λ c is. let low = is.number in omega (arith, low, high)) changes.each
 
 -- an item that was stored, and is made of values, can be read back
@@ -35,11 +35,21 @@ are_kept s valid held name t at k x within =
     let is = (valid.tables name t at).changes.each k x within in
     let low = is.number in
     let high = valid.next_number.1 in
-    let whole = held.items.changes name t at k x within in (
+    let whole = held.items.changes name t at k x within in
+    let above = (valid.tables name t at).changes.above k x within in (
       omega (arith, low, high),
       record {
         moment = held.moments name t at k x within;
         old = read_item t.description is.place _ is.old whole.0;
         new = read_item t.description is.place _ is.new whole.1;
       },
+      omega (arith, above),
     )
+
+-- so can what was trimmed of them
+pub trimmed_small : (s : State) → IsValid s → (name : List ℕ) (t : Table)
+    → finite.get s.tables name ≡ Some t → t.trimmed < 2 ^ 64
+trimmed_small s valid name t at =
+    let low = (valid.tables name t at).changes.trimmed_before in
+    let high = valid.next_number.1 in
+    omega (arith, low, high)

@@ -26,6 +26,7 @@ pub mod NextFamily
 pub mod NextRow
 pub mod OneColumn
 pub mod OneState
+pub mod OneStream
 pub mod Recovering
 pub mod Scanning
 pub mod Sharing
@@ -36,4 +37,7 @@ pub mod StreamState
 pub mod StreamSteps
 pub mod TableSteps
 pub mod Ties
+pub mod TrimmedLaws
+pub mod TrimmedRow
+pub mod TrimmedSteps
 pub mod WrongTable

@@ -20,8 +20,9 @@ use Rattle.alt_schema.proofs.WholeDescriptions.{one_spelling}
 use Rattle.alt_opening.specs.Images.{StandsFor}
 use Rattle.alt_opening.specs.Recovery.{Agrees, AgreesWhole}
 use Rattle.alt_views.specs.ItemRows.{item_columns}
-use Rattle.alt_opening.proofs.StreamKeys.{changes-one}
-use Rattle.alt_opening.proofs.KeptChanges.{are_kept, are_small}
+use Rattle.alt_opening.proofs.OneStream.{ShowsStream, one_stream, one_trimmed}
+use Rattle.alt_opening.proofs.StreamKeys.{Above}
+use Rattle.alt_opening.proofs.KeptChanges.{are_kept, are_small, trimmed_small}
 use Rattle.alt_opening.specs.StateRows.{Shows, IsHeldWhole, item_rows, table_row, next_row, one_column}
 use Rattle.alt_views.proofs.ItemRowLaws.{item_columns-one}
 use Rattle.alt_value.specs.Tree.{Pair}
@@ -91,28 +92,38 @@ module _ (l : Layout) (s r : State) (agrees_s : AgreesWhole l s) (agrees_r : Agr
   next_families = next_row-one s.next_family r.next_family small_s small_r
       (sym (agrees_s.rows.catalog [] tt) ∙ agrees_r.rows.catalog [] tt)
 
-  -- the changes of tables of one description are those of their rows
+  -- the changes of tables of one description, and what was trimmed of them, are those of their rows
   same_changes : (name : List ℕ) (t u : Table) → map.get s.tables name ≡ Some t
       → map.get r.tables name ≡ Some u → t.description ≡ u.description → (o : Option ℕ)
-      → t.description.stream_family ≡ o → t.changes ≡ u.changes
+      → t.description.stream_family ≡ o → (t.trimmed ≡ u.trimmed) × (t.changes ≡ u.changes)
   same_changes name t u at_t at_u descriptions None none =
-      (agrees_s.rows.valid.tables name t at_t).changes.none none
-      ∙ sym ((agrees_r.rows.valid.tables name u at_u).changes.none
-      (ap (λ (d : TableSchema). d.stream_family) (sym descriptions) ∙ none))
+      let none_t = (agrees_s.rows.valid.tables name t at_t).changes.none none in
+      let none_u = (agrees_r.rows.valid.tables name u at_u).changes.none
+      (ap (λ (d : TableSchema). d.stream_family) (sym descriptions) ∙ none) in
+      (none_t.1 ∙ sym none_u.1, none_t.0 ∙ sym none_u.0)
   same_changes name t u at_t at_u descriptions (Some f) stream =
       let list_t = (agrees_s.rows.valid.tables name t at_t).changes in
       let list_u = (agrees_r.rows.valid.tables name u at_u).changes in
-      changes-one t.changes u.changes
-      (are_small t.description s.next_number t.changes
-      (let last = agrees_s.rows.valid.next_number.1 in omega (arith, last)) list_t)
-      (are_small u.description r.next_number u.changes
-      (let last = agrees_r.rows.valid.next_number.1 in omega (arith, last)) list_u)
-      list_t.rise list_u.rise
-      (are_kept s agrees_s.rows.valid agrees_s.rows.held name t at_t)
-      (are_kept r agrees_r.rows.valid agrees_r.rows.held name u at_u)
-      (λ key. sym (agrees_s.changes name t f at_t stream key)
-      ∙ agrees_r.changes name u f at_u
-      (ap (λ (d : TableSchema). d.stream_family) (sym descriptions) ∙ stream) key)
+      let shows_t : ShowsStream (shown l f) t.trimmed t.changes =
+      agrees_s.changes name t f at_t stream in
+      let shows_u : ShowsStream (shown l f) u.trimmed u.changes = agrees_r.changes name u f at_u
+      (ap (λ (d : TableSchema). d.stream_family) (sym descriptions) ∙ stream) in
+      let trimmed : t.trimmed ≡ u.trimmed =
+      one_trimmed (shown l f) t.trimmed u.trimmed t.changes u.changes
+      (trimmed_small s agrees_s.rows.valid name t at_t)
+      (trimmed_small r agrees_r.rows.valid name u at_u) shows_t shows_u in (
+        trimmed,
+        one_stream (shown l f) t.trimmed t.changes u.changes
+            (are_kept s agrees_s.rows.valid agrees_s.rows.held name t at_t)
+            (are_kept r agrees_r.rows.valid agrees_r.rows.held name u at_u)
+            (are_small t.description s.next_number t.trimmed t.changes
+            (let last = agrees_s.rows.valid.next_number.1 in omega (arith, last)) list_t)
+            (are_small u.description r.next_number u.trimmed u.changes
+            (let last = agrees_r.rows.valid.next_number.1 in omega (arith, last)) list_u)
+            list_t.rise list_u.rise list_t.above
+            (subst (λ n. Above n u.changes) (sym trimmed) list_u.above) shows_t
+            (subst (λ n. ShowsStream (shown l f) n u.changes) (sym trimmed) shows_u),
+      )
 
   -- tables of one name are one
   one_table : (name : List ℕ) (t u : Table) → map.get s.tables name ≡ Some t
@@ -129,9 +140,13 @@ module _ (l : Layout) (s r : State) (agrees_s : AgreesWhole l s) (agrees_r : Agr
       (has_whole r agrees_r.rows.valid agrees_r.rows.held name u at_u)
       (λ key. sym (agrees_s.rows.items name t at_t key tt)
       ∙ ap (λ d. shown l d.family key) descriptions ∙ agrees_r.rows.items name u at_u key tt) in
-      let changes : t.changes ≡ u.changes =
-      same_changes name t u at_t at_u descriptions t.description.stream_family refl in
-      λ i. record { description = descriptions i; items = items i; changes = changes i }
+      let streams = same_changes name t u at_t at_u descriptions t.description.stream_family refl in
+      λ i. record {
+        description = descriptions i;
+        items = items i;
+        changes = streams.1 i;
+        trimmed = streams.0 i;
+      }
 
   at_name : (name : List ℕ) (o p : Option Table) → map.get s.tables name ≡ o
       → map.get r.tables name ≡ p

@@ -1,5 +1,5 @@
 -- The changes of a stream by the keys of their rows, which lie as the numbers do.
-use Rattle.std.proofs.Common.{◌≡◌, ◌<◌, ◌≤◌, ◌^◌, refl, sym, ap, subst, ◌∙◌, ℕ, suc, Bool, true, false, cond, T, List, [], ◌∷◌, ◌++◌, map, Option, Some, None, All, inl, inr, append-nil, arith}
+use Rattle.std.proofs.Common.{◌≡◌, ◌≢◌, ◌<◌, ◌≤◌, ◌^◌, refl, sym, ap, subst, ◌∙◌, ℕ, suc, Bool, true, false, cond, T, List, [], ◌∷◌, ◌++◌, map, Option, Some, None, All, inl, inr, append-nil, arith}
 use Rattle.std.proofs.lemmas.Bool.{cases_order}
 use Rattle.std.proofs.lemmas.Bool.Decides.{nat_tests}
 use Rattle.std.proofs.lemmas.List.{map-append}
@@ -53,6 +53,15 @@ pub key_one : (m n : ℕ) → m < 2 ^ 64 → n < 2 ^ 64 → row_key m ≡ row_ke
 key_one m n p q e = sym (from_be_bytes-to_be_bytes_8 m p) ∙ ap (from_be_bytes w64) e
     ∙ from_be_bytes-to_be_bytes_8 n q
 
+-- those of two numbers don't tie
+pub keys_differ : (m n : ℕ) → m < 2 ^ 64 → n < 2 ^ 64 → m ≢ n
+    → eq_by_cmp key_cmp (row_key m) (row_key n) ≡ false
+keys_differ m n small_m small_n differ = by (eq_by_cmp key_cmp (row_key m) (row_key n)) refl
+  where
+    by : (b : Bool) → eq_by_cmp key_cmp (row_key m) (row_key n) ≡ b → b ≡ false
+    by true same = absurd (differ (key_one m n small_m small_n (tied (row_key m) (row_key n) same)))
+    by false same = refl
+
 -- ---- changes at their keys
 
 -- a change at its key
@@ -62,6 +71,10 @@ keyed c = (row_key c.number, c)
 -- its number fits in 8 bytes
 abbrev pub IsSmall : Change → Type 0
 IsSmall c = c.number < 2 ^ 64
+
+-- the numbers are above another one
+abbrev pub Above : ℕ → List Change → Type 0
+Above n changes = All (λ (c : Change). n < c.number) changes
 
 -- the numbers rise
 abbrev pub Rise : List Change → Type 0
@@ -162,9 +175,9 @@ found_keyed P (d ∷ ds) key c all found =
         )
     by false differs behind found = behind found
 
--- a change that is read back from its row
+-- a change of a number from 1 on that is read back from its row
 abbrev pub IsKept : Change → Type 0
-IsKept c = IsSmall c × IsReadChange c
+IsKept c = IsSmall c × IsReadChange c × (0 < c.number)
 
 -- the values of changes by their keys are the changes
 values_keyed : (cs : List Change) → map (λ (e : List ℕ × Change). e.1) (map keyed cs) ≡ cs
@@ -205,14 +218,21 @@ changes-one es fs small_a small_b rise_a rise_b kept_a kept_b same =
 
 -- ---- the changes from a number on
 
-up_to : (m n : ℕ) → m ≤ n → nat_le m n ≡ true
+pub up_to : (m n : ℕ) → m ≤ n → nat_le m n ≡ true
 up_to m n h = grind (arith, nat_tests)
 
-above : (m n : ℕ) → n < m → nat_le m n ≡ false
+pub above : (m n : ℕ) → n < m → nat_le m n ≡ false
 above m n h = grind (arith, nat_tests)
 
+-- and what the tests tell
+pub low_of : (m n : ℕ) → nat_le m n ≡ true → m ≤ n
+low_of m n h = grind (arith, nat_tests, h)
+
+pub late_of : (m n : ℕ) → nat_le m n ≡ false → n < m
+late_of m n h = grind (arith, nat_tests, h)
+
 -- the order of numbers says which are up to another
-is_le-nat : (m n : ℕ) → is_le (nat_cmp m n) ≡ nat_le m n
+pub is_le-nat : (m n : ℕ) → is_le (nat_cmp m n) ≡ nat_le m n
 is_le-nat m n = elim (cases_order m n) [
   | inl same ↦ ap is_le (nat_cmp-equal m n same) ∙ sym (up_to m n (omega (arith, same)))
   | inr other ↦ elim other [

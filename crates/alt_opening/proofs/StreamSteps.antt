@@ -1,5 +1,6 @@
 -- What the tests of the rows of a stream tell.
-use Rattle.std.proofs.Common.{◌≡◌, ◌<◌, ◌≤◌, ◌⊎◌, inl, inr, refl, sym, ap, subst, ◌∙◌, ℕ, Bool, true, false, List, Option, Some, None, IsTrue, is_some, arith}
+use Rattle.std.proofs.Common.{◌≡◌, ◌<◌, ◌≤◌, ◌^◌, ◌⊎◌, inl, inr, refl, sym, ap, subst, ◌∙◌, ℕ, Bool, true, false, List, Option, Some, None, IsTrue, is_some, arith}
+use Rattle.std.specs.Option.{option_map_or}
 use Rattle.std.specs.Prelude.{◌↔◌}
 use Rattle.alt_layout.specs.Layout.{Layout, shown}
 use Rattle.alt_machine.specs.Same.{is_same}
@@ -7,10 +8,12 @@ use Rattle.alt_machine.specs.State.{Change}
 use Rattle.alt_machine.specs.Valid.{IsChange, WasStored}
 use Rattle.alt_machine.proofs.Same.{is_same-equal, same_is}
 use Rattle.alt_schema.specs.declared.schema.TableSchema.{TableSchema}
-use Rattle.alt_opening.specs.StreamScans.{IsChangeAt, AreOfOne, ChangesRead, ChangesWhere, IsChangeFault, IsChangeRow, IsFirstForeignChange, IsStreamFault}
+use Rattle.alt_opening.specs.StreamScans.{IsChangeAt, AreOfOne, ChangesRead, ChangesWhere, IsChangeFault, IsChangeRow, IsFirstForeignChange, IsStreamFault, IsStreamRow, stream_trimmed, trimmed_in}
 use Rattle.alt_opening.specs.declared.faults.OpenFault.{OpenFault}
 use Rattle.alt_opening.specs.declared.faults.OpenFault.TheVariants.{Damaged, DigestDiffers, BadRow, Failed, NoMemory}
 use Rattle.alt_cells.specs.Changes.{Columns}
+use Rattle.alt_changes.specs.ChangeRows.{row_key}
+use Rattle.alt_changes.specs.TrimRows.{trimmed_columns}
 use Rattle.alt_changes.proofs.RowLaws.{change_columns-one}
 use Rattle.alt_opening.proofs.StreamKeys.{key_one}
 use Rattle.alt_opening.proofs.OneState.{some}
@@ -19,26 +22,103 @@ use Rattle.alt_value.specs.Tree.{Pair}
 -- ---- the rows of a family are those of the stream
 
 module _ (l : Layout) (d : TableSchema) (family : ℕ) (stream : d.stream_family ≡ Some family)
-    (next : ℕ) (same : next ≡ l.next_number) where
+    (next trimmed : ℕ) (same : next ≡ l.next_number) (told : trimmed ≡ trimmed_in l family) where
   -- read
-  pub stream_read : ChangesWhere (λ key. Unit {0}) l d next family → ChangesRead l d
-  stream_read read other is key row here shows =
-      subst (λ n. IsChangeRow d n key row) same
-      (read key row here (ap (λ f. shown l f key) (some family other (sym stream ∙ is))
-      ∙ shows))
+  pub stream_read : ChangesWhere (λ key. Unit {0}) l d next trimmed family → ChangesRead l d
+  stream_read read other is =
+      subst (λ f. ChangesWhere (λ key. Unit {0}) l d l.next_number (trimmed_in l f) f)
+      (some family other (sym stream ∙ is))
+      (λ key row here shows. subst (λ z. IsStreamRow d l.next_number z key row) told
+      (subst (λ n. IsStreamRow d n trimmed key row) same (read key row here shows)))
+
+  -- what they tell was trimmed
+  pub stream_told : trimmed ≡ stream_trimmed l d
+  stream_told = told ∙ sym (ap (λ o. option_map_or (trimmed_in l) o 0) stream)
 
   -- or not
-  pub stream_wrong : (fault : OpenFault) → IsChangeFault l d next family fault
+  pub stream_wrong : (fault : OpenFault) → IsChangeFault l d next trimmed family fault
       → IsStreamFault l d fault
   stream_wrong (Damaged file at) is = is
   stream_wrong (DigestDiffers file kept found) is = is
   stream_wrong (BadRow f key) is = record {
     stream = stream ∙ ap Some (sym is.0);
-    first = subst (λ g. IsFirstForeignChange l d l.next_number g key) (sym is.0)
-        (subst (λ n. IsFirstForeignChange l d n family key) same is.1);
+    first = subst (λ g. IsFirstForeignChange l d l.next_number (trimmed_in l g) g key) (sym is.0)
+        (subst (λ z. IsFirstForeignChange l d l.next_number z family key) told
+        (subst (λ n. IsFirstForeignChange l d n trimmed family key) same is.1));
   }
   stream_wrong Failed is = is
   stream_wrong NoMemory is = is
+
+-- a table without a stream trimmed nothing
+pub none_told : (l : Layout) (d : TableSchema) → d.stream_family ≡ None → 0 ≡ stream_trimmed l d
+none_told l d none = sym (ap (λ o. option_map_or (trimmed_in l) o 0) none)
+
+-- ---- the row of a number
+
+-- the key of a number is that of no other
+pub other_key : (key : List ℕ) (m n : ℕ) → m < 2 ^ 64 → n < 2 ^ 64 → key ≡ row_key m
+    → key ≡ row_key n → m ≡ n
+other_key key m n small_m small_n at_m at_n = key_one m n small_m small_n (sym at_m ∙ at_n)
+
+module _ (d : TableSchema) (next trimmed : ℕ) (key : List ℕ) (row : Columns)
+    (fits : trimmed < 2 ^ 64) where
+  -- a row of no number is none of a stream
+  pub no_number : ((n : ℕ) → n < 2 ^ 64 → key ≡ row_key n → ⊥)
+      → IsStreamRow d next trimmed key row → ⊥
+  no_number none (inl is) = none 0 (omega arith) is.0
+  no_number none (inr (inl left)) = let most = left.1.2 in
+      none left.1.0 (omega (arith, most, fits)) left.1.3
+  no_number none (inr (inr is)) = let (c, at, may, above) = is in none c.number at.number at.place
+
+  module _ (number : ℕ) (small : number < 2 ^ 64) (at : key ≡ row_key number) where
+    -- at 0 it has to tell what was trimmed
+    pub none_at_zero : number ≡ 0
+        → (((n : ℕ) × (1 ≤ n) × (n < next) × (row ≡ trimmed_columns n)) → ⊥)
+        → IsStreamRow d next trimmed key row → ⊥
+    none_at_zero zero none (inl is) = none is.1
+    none_at_zero zero none (inr (inl left)) =
+        let low = left.1.1 in
+        let most = left.1.2 in
+        let same : number ≡ left.1.0 = other_key key number left.1.0 small
+        (omega (arith, most, fits)) at left.1.3 in
+        omega (arith, same, zero, low)
+    none_at_zero zero none (inr (inr is)) =
+        let (c, of, may, above) = is in
+        let same : number ≡ c.number = other_key key number c.number small of.number at of.place in
+        omega (arith, same, zero, above)
+
+    -- up to what was trimmed no change is kept
+    pub none_trimmed : 0 < number → number ≤ trimmed → next ≤ trimmed
+        → IsStreamRow d next trimmed key row → ⊥
+    none_trimmed some low late (inl is) =
+        let same : number ≡ 0 = other_key key number 0 small (omega arith) at is.0 in
+        omega (arith, same, some)
+    none_trimmed some low late (inr (inl left)) = omega (arith, left.0, late)
+    none_trimmed some low late (inr (inr is)) =
+        let (c, of, may, above) = is in
+        let same : number ≡ c.number = other_key key number c.number small of.number at of.place in
+        omega (arith, same, low, above)
+
+    -- behind that each row is of a change
+    pub none_behind : trimmed < number → (IsChangeRow d next key row → ⊥)
+        → IsStreamRow d next trimmed key row → ⊥
+    none_behind high none (inl is) =
+        let same : number ≡ 0 = other_key key number 0 small (omega arith) at is.0 in
+        omega (arith, same, high)
+    none_behind high none (inr (inl left)) =
+        let most = left.1.2 in
+        let same : number ≡ left.1.0 = other_key key number left.1.0 small
+        (omega (arith, most, fits)) at left.1.3 in
+        omega (arith, same, most, high)
+    none_behind high none (inr (inr is)) = let (c, of, may, above) = is in none (c, of, may)
+
+    -- which is kept
+    pub kept_behind : trimmed < number → IsChangeRow d next key row
+        → IsStreamRow d next trimmed key row
+    kept_behind high is =
+        let (c, of, may) = is in
+        let same : number ≡ c.number = other_key key number c.number small of.number at of.place in
+        inr (inr (c, of, may, omega (arith, same, high)))
 
 -- one row is that of one change
 pub one_change_at : (key : List ℕ) (columns : Columns) (a b : Change) → IsChangeAt key columns a

@@ -17,7 +17,7 @@ use Rattle.alt_opening.specs.Faults.{told_by_opening}
 use Rattle.alt_opening.proofs.FirstWrong.{known_family, same_table, item_wrong}
 
 -- a number is up to another, or above it
-up_to_or_above : (m n : ℕ) → (m ≤ n) ⊎ (n < m)
+pub up_to_or_above : (m n : ℕ) → (m ≤ n) ⊎ (n < m)
 up_to_or_above m n = grind arith
 
 -- a fault of the device is none of a row

@@ -9,4 +9,5 @@ pub mod Recovery
 pub mod Scans
 pub mod StateRows
 pub mod StreamScans
+pub mod Trimmed
 pub mod private

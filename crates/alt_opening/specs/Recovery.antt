@@ -12,7 +12,7 @@ use Rattle.alt_machine.specs.State.{State, Table}
 use Rattle.alt_machine.specs.Valid.{IsValid}
 use Rattle.alt_schema.specs.declared.schema.IndexSchema.{IndexSchema}
 use Rattle.alt_opening.specs.Images.{StandsFor}
-use Rattle.alt_opening.specs.StateRows.{IsHeldWhole, catalog_family, catalog_rows, change_rows, index_rows, item_rows}
+use Rattle.alt_opening.specs.StateRows.{IsHeldWhole, IsLeftover, catalog_family, catalog_rows, change_rows, index_rows, item_rows}
 use Rattle.alt_opening.specs.StreamScans.{ChangesRead, IsFirstOfStream}
 use Rattle.alt_faults.specs.Faults.{Damage, bad_bytes, bad_digest, bad_row, OnlyDamaged}
 use Rattle.alt_opening.specs.Faults.{told_by_opening}
@@ -49,13 +49,13 @@ pub record Agrees (Here : ℕ → List ℕ → Type 0) (l : Layout) (s : State) 
   pub valid : IsValid s
   pub held : IsHeldWhole s
 
--- All of these rows are, and each stream shows the changes of its table. So the rows tell the state, and those of indexes are a function
--- of it.
+-- All of these rows are, and each stream shows the changes of its table and what was trimmed, whatever is left over. So the rows tell the
+-- state, and those of indexes are a function of it.
 pub record AgreesWhole (l : Layout) (s : State) : Type 0 where
   pub rows : Agrees (λ f k. Unit {0}) l s
   pub changes : (name : List ℕ) (t : Table) (family : ℕ) → map.get s.tables name ≡ Some t
       → t.description.stream_family ≡ Some family
-      → (key : List ℕ) → shown l family key ≡ change_rows t key
+      → (key : List ℕ) → (IsLeftover t.trimmed key → ⊥) → shown l family key ≡ change_rows t key
 
 -- The first wrong one of these rows: those before it are rows of a state, and with it they are those of none. Families come in the
 -- order of their numbers, the catalog before all, and in each its keys.
@@ -63,8 +63,8 @@ pub record IsFirstOfTables (l : Layout) (family : ℕ) (key : List ℕ) : Type 0
   pub before : (s : State) × Agrees (λ f k. IsBefore f k family key) l s
   pub none : (s : State) → Agrees (λ f k. IsUpTo f k family key) l s → ⊥
 
--- Where all these rows are those of a state, the first wrong one of a stream: it isn't that of a change that the table may keep. Tables
--- come in the order of their families, and in each stream its keys.
+-- Where all these rows are those of a state, the first wrong one of a stream: it isn't that of a change that the table may keep, nor left over,
+-- nor does it tell what was trimmed. Tables come in the order of their families, and in each stream its keys.
 pub record IsFirstOfStreams (l : Layout) (family : ℕ) (key : List ℕ) : Type 0 where
   pub state : State
   pub agrees : Agrees (λ f k. Unit {0}) l state

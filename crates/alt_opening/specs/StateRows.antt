@@ -6,6 +6,7 @@ use Rattle.std.specs.FinMap as map
 use Rattle.alt_cells.specs.Changes.{Columns}
 use Rattle.alt_cells.specs.Keys.{key_cmp}
 use Rattle.alt_changes.specs.ChangeRows.{change_columns, row_key}
+use Rattle.alt_changes.specs.TrimRows.{trimmed_row}
 use Rattle.alt_layout.specs.Layout.{Layout, shown}
 use Rattle.alt_machine.specs.Indexed.{index_items}
 use Rattle.alt_machine.specs.Sources.{index_at}
@@ -58,13 +59,22 @@ index_rows t i key = option_map (index_columns t.description i)
 abbrev pub keyed_changes : List Change → Texts Change
 keyed_changes changes = map.from_sorted (each (λ (c : Change). (row_key c.number, c)) changes)
 
--- each change at its number, in the family of the stream
+-- what a stream has: at 0 the number of the last change that was trimmed, and each change that is kept at its number
+abbrev pub stream_row : ℕ → List Change → List ℕ → Option Columns
+stream_row trimmed changes key = if eq_by_cmp key_cmp key (row_key 0) then trimmed_row trimmed
+    else option_map change_columns (map.get (keyed_changes changes) key)
+
+-- the rows in the family of a table's stream
 abbrev pub change_rows : Table → List ℕ → Option Columns
-change_rows t key = option_map change_columns (map.get (keyed_changes t.changes) key)
+change_rows t key = stream_row t.trimmed t.changes key
+
+-- A row may be left over of a change that was trimmed. It counts for nothing, whatever it shows.
+abbrev pub IsLeftover : ℕ → List ℕ → Type 0
+IsLeftover trimmed key = (n : ℕ) × (1 ≤ n) × (n ≤ trimmed) × (key ≡ row_key n)
 
 -- What the rows show is the state: its numbers, its catalog, the items of each table in the table's family, those of each of its
--- indexes in that of the index, its changes in that of its stream, and nothing from the next family on. Families below it that no
--- table has count for nothing.
+-- indexes in that of the index, its changes in that of its stream, where rows may be left over, and nothing from the next family on.
+-- Families below it that no table has count for nothing.
 pub record Shows (l : Layout) (s : State) : Type 0 where
   pub number : l.next_number ≡ s.next_number
   pub catalog : (key : List ℕ) → shown l catalog_family key ≡ catalog_rows s key
@@ -75,7 +85,7 @@ pub record Shows (l : Layout) (s : State) : Type 0 where
       → (key : List ℕ) → shown l i.family key ≡ index_rows t i key
   pub changes : (name : List ℕ) (t : Table) (family : ℕ) → map.get s.tables name ≡ Some t
       → t.description.stream_family ≡ Some family
-      → (key : List ℕ) → shown l family key ≡ change_rows t key
+      → (key : List ℕ) → (IsLeftover t.trimmed key → ⊥) → shown l family key ≡ change_rows t key
   pub beyond : (family : ℕ) (key : List ℕ) → s.next_family ≤ family → shown l family key ≡ None
 
 -- a moment fits in 8 bytes

@@ -107,7 +107,7 @@ fn family_of_bytes(bytes: &[u8]) -> Option<u32>
 }
 
 /// The value of a row's one column, where it has that name and is the only one.
-fn value_of<'r>(row: &'r ShownRow, name: &[u8]) -> Option<&'r [u8]>
+pub(crate) fn value_of<'r>(row: &'r ShownRow, name: &[u8]) -> Option<&'r [u8]>
     ensures value { IfSome result (λ value. row.now ≡ one_column name.now value.now) }
     ensures none { IfNone result ((value : List ℕ) → row.now ≡ one_column name.now value → ⊥) }
 {

@@ -20,6 +20,9 @@ pub fn change_at(alloc: Global, key: &Bytes, row: &ShownRow) -> Result<Change, U
     let Some(number) = number_of(key.as_slice()) else {
         return Err(Unread::Bad);
     };
+    if number == 0 {
+        return Err(Unread::Bad);
+    }
     match change_of(alloc, number, row) {
         Ok(change) => Ok(change),
         Err(BytesFault::Bad { .. }) => Err(Unread::Bad),
@@ -28,7 +31,7 @@ pub fn change_at(alloc: Global, key: &Bytes, row: &ShownRow) -> Result<Change, U
 }
 
 /// The number whose key this is.
-fn number_of(key: &[u8]) -> Option<u64>
+pub fn number_of(key: &[u8]) -> Option<u64>
     ensures number { IfSome result (λ n. (n < 2 ^ 64) × (key.now ≡ row_key n)) }
     ensures none { (n : ℕ) → n < 2 ^ 64 → key.now ≡ row_key n → result ≡ Some n }
 {

@@ -1,4 +1,5 @@
-//! The rows of the stream of a table that is opened: each is that of a change which the table may keep.
+//! The rows of the stream of a table that is opened: each tells what was trimmed, is left over, or is that of a change which the table
+//! may keep.
 
 ghost use Rattle.std.specs.Prelude.{◌≡◌, ◌↔◌, ℕ, List, Err, Some, IfOk, IfErr, IfSome, OnOk, IsErrOf, IsTrue, option_map};
 ghost use Rattle.alt_base.specs.Counts.{Rose};
@@ -7,12 +8,13 @@ ghost use Rattle.alt_engine.specs.InHand.{Reads};
 ghost use Rattle.alt_layout.specs.Layout.{Layout};
 ghost use Rattle.alt_machine.specs.Same.{is_same};
 ghost use Rattle.alt_machine.specs.Valid.{IsChange, WasStored};
-ghost use Rattle.alt_opening.specs.Scans.{Walked};
-ghost use Rattle.alt_opening.specs.StreamScans.{AreOfOne, ChangesRead, ChangesWhere, IsChangeFault, IsChangeRow, IsStreamFault};
+ghost use Rattle.alt_opening.specs.Scans.{IsDeviceFault, Walked};
+ghost use Rattle.alt_opening.specs.StreamScans.{AreOfOne, ChangesRead, ChangesWhere, IsChangeFault, IsChangeRow, IsStreamFault, IsStreamRow, stream_trimmed, trimmed_in};
 
-use crate::change_rows::change_at;
+use crate::change_rows::{change_at, number_of};
 use crate::faults::OpenFault;
 use crate::scan::{key_after, next_row};
+use crate::trimmed_row::{ROW_OF_TRIMMED, tells_trimmed, trimmed_told};
 use alt_base::NoMemory;
 use alt_cells::ShownRow;
 use alt_changes::Change;
@@ -25,15 +27,19 @@ use alt_value::{Item, item_equal, item_size_within};
 use alt_views::{Unread, key_fits, place_of};
 use std::alloc::Global;
 
-/// Tests that each row of a table's stream is that of a change which the table may keep. A table without a stream has none.
+/// Tests that each row of a table's stream is one that it may have, and tells the number of the last change that was trimmed. A table
+/// without a stream has no rows, and trimmed none.
 pub(crate) fn read_stream<D: Disk>(
     alloc: Global,
     disk: &mut D,
     engine: &mut Engine,
     schema: &TableSchema,
-) -> Result<(), OpenFault>
+) -> Result<u64, OpenFault>
     ensures read { IsTrue (D.state disk.old).tells → (l : Layout)
         → Reads (D.state disk.old) engine.old l → OnOk result (ChangesRead l schema.now) }
+    ensures trimmed { IsTrue (D.state disk.old).tells → (l : Layout)
+        → Reads (D.state disk.old) engine.old l
+        → IfOk result (λ n. n ≡ stream_trimmed l schema.now) }
     ensures wrong { IsTrue (D.state disk.old).tells → (l : Layout)
         → Reads (D.state disk.old) engine.old l → IfErr result (IsStreamFault l schema.now) }
     ensures walked { Walked (D.state disk.old) (D.state disk.new) engine.old engine.new }
@@ -41,10 +47,33 @@ pub(crate) fn read_stream<D: Disk>(
         → Rose (D.state disk.old).faults (D.state disk.new).faults }
 {
     let Some(family) = schema.stream_family else {
-        return Ok(());
+        return Ok(0);
     };
     let next = engine.next_number();
-    test_changes(alloc, disk, engine, schema, next, family)
+    let trimmed = match read_trimmed(disk, engine, family) {
+        Ok(trimmed) => trimmed,
+        Err(fault) => return Err(fault),
+    };
+    match test_changes(alloc, disk, engine, schema, next, trimmed, family) {
+        Ok(()) => Ok(trimmed),
+        Err(fault) => Err(fault),
+    }
+}
+
+/// The number that the row of number 0 tells in the family of a stream.
+fn read_trimmed<D: Disk>(disk: &mut D, engine: &mut Engine, family: u32) -> Result<u64, OpenFault>
+    ensures trimmed { IsTrue (D.state disk.old).tells → (l : Layout)
+        → Reads (D.state disk.old) engine.old l → IfOk result (λ n. n ≡ trimmed_in l family) }
+    ensures fault { IsTrue (D.state disk.old).tells → (l : Layout)
+        → Reads (D.state disk.old) engine.old l → IfErr result IsDeviceFault }
+    ensures walked { Walked (D.state disk.old) (D.state disk.new) engine.old engine.new }
+    ensures cause { IsErrOf result OpenFault.Failed
+        → Rose (D.state disk.old).faults (D.state disk.new).faults }
+{
+    match engine.row(disk, family, &ROW_OF_TRIMMED) {
+        Ok(row) => Ok(trimmed_told(row.as_ref())),
+        Err(fault) => Err(OpenFault::from(fault)),
+    }
 }
 
 /// Tests the rows of the stream's family, one after the other.
@@ -54,14 +83,15 @@ fn test_changes<D: Disk>(
     engine: &mut Engine,
     schema: &TableSchema,
     next: u64,
+    trimmed: u64,
     family: u32,
 ) -> Result<(), OpenFault>
     ensures read { IsTrue (D.state disk.old).tells → (l : Layout)
         → Reads (D.state disk.old) engine.old l
-        → OnOk result (ChangesWhere (λ key. Unit {0}) l schema.now next family) }
+        → OnOk result (ChangesWhere (λ key. Unit {0}) l schema.now next trimmed family) }
     ensures wrong { IsTrue (D.state disk.old).tells → (l : Layout)
         → Reads (D.state disk.old) engine.old l
-        → IfErr result (IsChangeFault l schema.now next family) }
+        → IfErr result (IsChangeFault l schema.now next trimmed family) }
     ensures walked { Walked (D.state disk.old) (D.state disk.new) engine.old engine.new }
     ensures cause { IsErrOf result OpenFault.Failed
         → Rose (D.state disk.old).faults (D.state disk.new).faults }
@@ -74,7 +104,7 @@ fn test_changes<D: Disk>(
             Ok(None) => return Ok(()),
             Err(fault) => return Err(fault),
         };
-        match test_change(alloc, schema, next, &key, &row) {
+        match test_row(alloc, schema, next, trimmed, &key, &row) {
             Ok(()) => {}
             Err(Unread::Bad) => return Err(OpenFault::BadRow { family, key }),
             Err(Unread::NoMemory) => return Err(OpenFault::NoMemory),
@@ -85,6 +115,40 @@ fn test_changes<D: Disk>(
         }
     }
     Err(OpenFault::NoMemory)
+}
+
+/// Whether a row is one that a stream may have: at 0 it tells what was trimmed, up to that number it is left over and may be any, and
+/// behind it is that of a change which the table may keep before the next number.
+fn test_row(
+    alloc: Global,
+    schema: &TableSchema,
+    next: u64,
+    trimmed: u64,
+    key: &Bytes,
+    row: &ShownRow,
+) -> Result<(), Unread>
+    ensures row { OnOk result (IsStreamRow schema.now next trimmed key.now row.now) }
+    ensures none { result ≡ Err Unread.Bad
+        → IsStreamRow schema.now next trimmed key.now row.now → ⊥ }
+{
+    let Some(number) = number_of(key.as_slice()) else {
+        return Err(Unread::Bad);
+    };
+    if number == 0 {
+        return if tells_trimmed(row, next) {
+            Ok(())
+        } else {
+            Err(Unread::Bad)
+        };
+    }
+    if number <= trimmed {
+        return if trimmed < next {
+            Ok(())
+        } else {
+            Err(Unread::Bad)
+        };
+    }
+    test_change(alloc, schema, next, key, row)
 }
 
 /// Whether a row is that of a change which a table may keep before the next number.

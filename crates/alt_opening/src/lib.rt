@@ -2,7 +2,8 @@
 //!
 //! `recover` opens it. `opened` reads the catalog, `scan` the items of tables, `change_scan` the changes of streams and `index_scan`
 //! the rows of indexes; `made` tests a description that is read. `catalog` keeps descriptions by name, `live` the
-//! families of their tables, and `catalog_row` and `change_rows` have the rows of descriptions and of changes.
+//! families of their tables and `trimmed` what was trimmed of their changes, and `catalog_row`, `change_rows` and `trimmed_row` have
+//! the rows of descriptions, of changes and of what was trimmed.
 #![tactic(auto)]
 
 mod catalog;
@@ -16,11 +17,14 @@ mod made;
 mod opened;
 mod recover;
 mod scan;
+mod trimmed;
+mod trimmed_row;
 
 pub use catalog::Catalog;
 pub use catalog_row::{CATALOG, row_of_family, row_of_schema};
-pub use change_rows::change_at;
+pub use change_rows::{change_at, number_of};
 pub use change_scan::same;
 pub use faults::OpenFault;
 pub use live::Live;
 pub use recover::{Store, open_store};
+pub use trimmed::{Trimmed, forget, renumber, trimmed_number};

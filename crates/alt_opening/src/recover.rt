@@ -8,7 +8,7 @@ ghost use Rattle.alt_engine.specs.InHand.{Reads, limits_of};
 ghost use Rattle.alt_layout.specs.Layout.{Layout};
 ghost use Rattle.alt_machine.specs.State.{State};
 ghost use Rattle.alt_opening.specs.Images.{StandsFor};
-ghost use Rattle.alt_opening.specs.private.Opening.{AllChangesRead, AllIndexesRead, AllItemsRead, AreTablesRead, Assembled, IsCatalog, IsIndexesFault, IsRowFault, IsStreamsFault};
+ghost use Rattle.alt_opening.specs.private.Opening.{AllChangesRead, AllIndexesRead, AllItemsRead, AreTablesRead, AreTrimmedIn, Assembled, IsCatalog, IsIndexesFault, IsRowFault, IsStreamsFault};
 ghost use Rattle.alt_opening.specs.Recovery.{IsExplained, HasNoState, WasLeft};
 ghost use Rattle.alt_opening.specs.Scans.{Walked};
 ghost use Rattle.alt_opening.specs.Opened.{OpensAs};
@@ -19,17 +19,20 @@ use crate::faults::OpenFault;
 use crate::index_scan::read_own_indexes;
 use crate::opened::{Opened, read_catalog};
 use crate::scan::read_items;
+use crate::trimmed::{Trimmed, know};
 use alt_disk::Disk;
 use alt_engine::{Engine, Limits};
 use alt_schema::held;
 use std::alloc::Global;
 
-/// A store that was opened: the engine over its files, the descriptions of its tables, and the family that the next table gets.
+/// A store that was opened: the engine over its files, the descriptions of its tables, the family that the next table gets, and what was
+/// trimmed of the tables' changes.
 #[derive(Drop)]
 pub struct Store {
     pub engine: Engine,
     pub catalog: Catalog,
     pub family: u32,
+    pub trimmed: Vec<Trimmed>,
 }
 
 /// Opens the store of a disk (docs/formats/table-rows.md). Every file is synced, those that are none of the store's are removed, and
@@ -66,20 +69,25 @@ pub fn open_store<D: Disk>(alloc: Global, disk: &mut D, limits: Limits) -> Resul
         Err(fault) => return Err(OpenFault::from(fault)),
     };
     match read_rows(alloc, disk, &mut engine) {
-        Ok(Opened { catalog, family }) => Ok(Store {
+        Ok((opened, trimmed)) => Ok(Store {
             engine,
-            catalog,
-            family,
+            catalog: opened.catalog,
+            family: opened.family,
+            trimmed,
         }),
         Err(fault) => Err(fault),
     }
 }
 
 /// Reads the rows of a store, and tests them.
-fn read_rows<D: Disk>(alloc: Global, disk: &mut D, engine: &mut Engine) -> Result<Opened, OpenFault>
+fn read_rows<D: Disk>(
+    alloc: Global,
+    disk: &mut D,
+    engine: &mut Engine,
+) -> Result<(Opened, Vec<Trimmed>), OpenFault>
     ensures read { IsTrue (D.state disk.old).tells → (l : Layout)
         → Reads (D.state disk.old) engine.old l
-        → IfOk result (λ o. (s : State) × Assembled l o.family o.catalog s) }
+        → IfOk result (λ o. (s : State) × Assembled l o.0.family o.0.catalog o.1.items s) }
     ensures wrong { IsTrue (D.state disk.old).tells → (l : Layout)
         → Reads (D.state disk.old) engine.old l → IfErr result (IsRowFault l) }
     ensures walked { Walked (D.state disk.old) (D.state disk.new) engine.old engine.new }
@@ -90,12 +98,12 @@ fn read_rows<D: Disk>(alloc: Global, disk: &mut D, engine: &mut Engine) -> Resul
         Ok(opened) => opened,
         Err(fault) => return Err(fault),
     };
-    match read_streams(alloc, disk, engine, &opened.catalog) {
-        Ok(()) => {}
+    let trimmed = match read_streams(alloc, disk, engine, &opened.catalog) {
+        Ok(trimmed) => trimmed,
         Err(fault) => return Err(fault),
-    }
+    };
     match read_indexes(alloc, disk, engine, &opened.catalog) {
-        Ok(()) => Ok(opened),
+        Ok(()) => Ok((opened, trimmed)),
         Err(fault) => Err(fault),
     }
 }
@@ -159,16 +167,19 @@ fn read_tables<D: Disk>(
     Ok(())
 }
 
-/// Tests the streams of all tables, in the order of the tables' families.
+/// Tests the streams of all tables, in the order of the tables' families, and tells what was trimmed of their changes.
 fn read_streams<D: Disk>(
     alloc: Global,
     disk: &mut D,
     engine: &mut Engine,
     catalog: &Catalog,
-) -> Result<(), OpenFault>
+) -> Result<Vec<Trimmed>, OpenFault>
     ensures read { IsTrue (D.state disk.old).tells → (l : Layout) (next : ℕ)
         → Reads (D.state disk.old) engine.old l → AreTablesRead l next catalog.now
         → OnOk result (AllChangesRead l catalog.now) }
+    ensures trimmed { IsTrue (D.state disk.old).tells → (l : Layout) (next : ℕ)
+        → Reads (D.state disk.old) engine.old l → AreTablesRead l next catalog.now
+        → IfOk result (λ known. AreTrimmedIn l catalog.now known.items) }
     ensures wrong { IsTrue (D.state disk.old).tells → (l : Layout) (next : ℕ)
         → Reads (D.state disk.old) engine.old l → AreTablesRead l next catalog.now
         → IfErr result (IsStreamsFault l catalog.now) }
@@ -177,15 +188,20 @@ fn read_streams<D: Disk>(
         → Rose (D.state disk.old).faults (D.state disk.new).faults }
 {
     let mut family = 0;
+    let mut known = Vec::new(alloc);
     'tables: while let Some(schema) = catalog.above(family) {
         held(schema);
-        match read_stream(alloc, disk, engine, schema) {
-            Ok(()) => {}
+        let number = match read_stream(alloc, disk, engine, schema) {
+            Ok(number) => number,
             Err(fault) => return Err(fault),
+        };
+        match know(alloc, &mut known, schema.name.as_str(), number) {
+            Ok(()) => {}
+            Err(_) => return Err(OpenFault::NoMemory),
         }
         family = schema.family;
     }
-    Ok(())
+    Ok(known)
 }
 
 /// Tests the indexes of all tables, in the order of the tables' families.

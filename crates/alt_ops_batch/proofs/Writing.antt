@@ -20,13 +20,13 @@ use Rattle.alt_schema.specs.declared.schema.TableSchema.{TableSchema}
 use Rattle.alt_tables.specs.Faults.{AreMade, BreakOff, WantsMemory}
 use Rattle.alt_tables.specs.Found.{IsFoundIn}
 use Rattle.alt_tables.specs.Images.{Leaves}
-use Rattle.alt_tables.specs.Stands.{AreReady, Stands, catalog_of, limits_of}
+use Rattle.alt_tables.specs.Stands.{AreReady, Reads, Stands, catalog_of, limits_of}
 use Rattle.alt_tables.specs.declared.faults.TableFault.{TableFault}
 use Rattle.alt_tables.specs.declared.finding.Found.{Found}
 use Rattle.alt_tables.specs.declared.tables.Tables.{Tables}
 use Rattle.alt_tables.proofs.Standing.{there, one_stands}
 use Rattle.alt_tables.proofs.Behind.{broke_front, broke_behind, leaves_front, leaves_both, wants_behind, wants_front, wants_none}
-use Rattle.alt_tables.proofs.Left.{stands_lasts}
+use Rattle.alt_tables.proofs.Left.{reads_lasts}
 use Rattle.alt_value.specs.Tree.{Pair}
 
 -- ---- what was found elsewhere stays
@@ -213,7 +213,7 @@ module _ (before mid after : DiskState) (old now new : Tables) (moment : ℕ) (a
         one.2))
 
     -- and where memory was wanting for it, the disk stands for the state after the others
-    pub wants_there : after ≡ mid → (s : State) → Stands before old s
+    pub wants_there : Reads mid after → (s : State) → Stands before old s
         → WantsMemory after a_number s (writes_of_all s moment (map written_at all))
     wants_there same s stood =
         let so = so_far.so s stood in
@@ -221,12 +221,10 @@ module _ (before mid after : DiskState) (old now new : Tables) (moment : ℕ) (a
         let one = broke r so.stands so.found.0 in
         let ws : List State = writes_of r moment (written_at c) in
         let others : List State = writes_of_all (last_state r ws) moment (map written_at rest) in
-        subst (λ (d : DiskState). WantsMemory d a_number s
-        (writes_of_all s moment (map written_at all))) (sym same)
-        (subst (λ l. WantsMemory mid a_number s l) (append_assoc so.done ws others ∙ sym so.whole)
-        (wants_front mid a_number s (so.done ++ ws) others
-        (wants_behind mid a_number s so.done ws so.enough one.1
-        (wants_none mid a_number r ws (stands_lasts mid now r so.stands)))))
+        subst (λ l. WantsMemory after a_number s l) (append_assoc so.done ws others ∙ sym so.whole)
+        (wants_front after a_number s (so.done ++ ws) others
+        (wants_behind after a_number s so.done ws so.enough one.1
+        (wants_none after a_number r ws (reads_lasts mid after now r same so.stands))))
 
 -- ---- one write, by the name of its table
 

@@ -135,6 +135,13 @@ unwritten_wants before read after tables s wants atoms reads stands same =
     subst (λ (d : DiskState). WantsMemory d wants s atoms) (sym same)
     (wants_none read wants s atoms (reads_lasts before read tables s reads stands))
 
+-- and so it does where only calls that read were made
+pub read_wants : (before after : DiskState) (tables : Tables) (s : State) (wants : Wants)
+    (atoms : List State) → Reads before after → Stands before tables s
+    → WantsMemory after wants s atoms
+read_wants before after tables s wants atoms reads stands =
+    wants_none after wants s atoms (reads_lasts before after tables s reads stands)
+
 module _ (outcome : State → Outcome) (old : State → Type 0) (tables : Tables) (before : DiskState)
     (stood : (s : State) → old s → Stands before tables s) where
   -- calls that read alone

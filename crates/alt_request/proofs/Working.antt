@@ -11,12 +11,13 @@ use Rattle.alt_request.specs.declared.deciding.Decided.TheVariants.{Told, Left}
 use Rattle.alt_request.specs.declared.stop.Stop.{Stop}
 use Rattle.alt_request.specs.declared.stop.Stop.TheVariants.{Refused, Fault}
 use Rattle.alt_request.proofs.Carrying.{refused_so, faulted, unfound, said, broke_off, wrote}
-use Rattle.alt_request.proofs.Moving.{reads_move, writes_move, failed_fault, unfailed_fault, unrefused, unwritten_wants, wanting_fault}
+use Rattle.alt_request.proofs.Moving.{read_wants, reads_move, writes_move, failed_fault, unfailed_fault, unrefused, wanting_fault}
 use Rattle.alt_shape.specs.Refusals.{answer_of}
 use Rattle.alt_shape.specs.declared.refusal.Reply.{Reply}
 use Rattle.alt_tables.specs.Faults.{AreMade, BreakOff, IsFindFault}
 use Rattle.alt_tables.specs.Images.{Leaves}
 use Rattle.alt_tables.specs.Stands.{Stands, Reads}
+use Rattle.alt_tables.proofs.Left.{reads_then}
 use Rattle.alt_tables.specs.declared.faults.TableFault.{TableFault}
 use Rattle.alt_tables.specs.declared.faults.TableFault.TheVariants.{Failed, NoMemory}
 use Rattle.alt_tables.specs.declared.tables.Tables.{Tables}
@@ -91,7 +92,7 @@ module _ (outcome : State → Outcome) (old now : State → Type 0) (tables : Ta
         pub works_broke : {A : Type 0} (f : TableFault) → ((s : State) → old s
             → BreakOff now a_number s (item_writes s moment name t place new) f)
             → (IsErrOf {T = A} (Err f) Failed → Rose read.faults after.faults)
-            → (IsErrOf {T = A} (Err f) NoMemory → after ≡ read)
+            → (IsErrOf {T = A} (Err f) NoMemory → Reads read after)
             → Works outcome old now before after (Err (Fault f))
         works_broke f broke cause unwritten = record {
           carries = broke_off outcome old now f a_number (λ s o. (
@@ -102,6 +103,6 @@ module _ (outcome : State → Outcome) (old now : State → Type 0) (tables : Ta
           ));
           moves = writes_move outcome old tables before stood read after (Err (Fault f)) reads goes
               leaves_so tt (failed_fault f _ cause) (λ s o. wanting_fault f _ (λ none.
-              unwritten_wants before read after tables s (outcome s).wants (outcome s).atoms reads
-              (stood s o) (unwritten none)));
+              read_wants before after tables s (outcome s).wants (outcome s).atoms
+              (reads_then before read after reads (unwritten none)) (stood s o)));
         }

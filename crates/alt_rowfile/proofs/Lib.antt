@@ -11,6 +11,7 @@ pub mod BodyLaws
 pub mod FileLaws
 pub mod LoadLaws
 pub mod SearchLaws
+pub mod HandLaws
 pub mod WalkLaws
 pub mod CutLaws
 pub mod SeekLaws

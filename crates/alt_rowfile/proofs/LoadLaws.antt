@@ -1,6 +1,6 @@
 -- Where a block stands.
 use Rattle.std.proofs.Common.{◌≡◌, ◌≢◌, ⊎_elim, inl, inr, refl, sym, ap, subst, ◌∙◌, ℕ, zero, suc, ◌+◌, ◌-◌, ◌==◌, ◌<◌, ◌≤◌, ◌^◌, List, [], ◌∷◌, ◌++◌, length, take, drop, get_or, arith, append_assoc, length-append, T}
-use Rattle.std.specs.Prelude.{if◌then◌else◌}
+use Rattle.std.specs.Prelude.{if◌then◌else◌, Option, Some, None, IfNone, is_some, true}
 use Rattle.std.specs.List.{AllByRecursion, flat_map}
 use Rattle.std.proofs.lemmas.Grind.{flat_map-append}
 use Rattle.std.proofs.lemmas.Bool.{cases_eq}
@@ -259,3 +259,8 @@ asked s t file i at n within is_at is_n one = ⊎_elim (λ none. inl none)
       read = subst (λ (p : ℕ). ReadIs s t (file_of file) p (length_of file i)) is_at
           (subst (λ (k : ℕ). ReadIs s t (file_of file) at k) is_n read);
     })) one
+
+-- where what none would say is false, there is some
+pub some_there : {V P : Type 0} (o : Option V) → (P → ⊥) → IfNone o P → is_some o ≡ true
+some_there None never h = absurd (never h)
+some_there (Some v) never h = refl

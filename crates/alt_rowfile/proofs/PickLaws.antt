@@ -29,7 +29,7 @@ length-piece p =
     omega (arith, length-append (field p.0) (field p.1), length-field p.0, length-field p.1)
 
 -- a piece has bytes
-piece_some : (p : Piece) → 0 < length (piece_bytes p)
+pub piece_some : (p : Piece) → 0 < length (piece_bytes p)
 piece_some p = omega (arith, length-piece p)
 
 -- whatever follows them, the bytes of a piece are those of one piece
@@ -209,7 +209,7 @@ abbrev pub sealed : Entry → Piece
 sealed e = (e.0, bytes_of_row e.1)
 
 -- rows have the bytes of their pieces
-sealed_bytes : (rows : List Entry) → rows_bytes rows ≡ flat_map piece_bytes (map sealed rows)
+pub sealed_bytes : (rows : List Entry) → rows_bytes rows ≡ flat_map piece_bytes (map sealed rows)
 unfolding entry_bytes
 sealed_bytes [] = refl
 sealed_bytes (e ∷ rows) = ap (λ (l : List ℕ). entry_bytes e ++ l) (sealed_bytes rows)

@@ -8,22 +8,24 @@ use Rattle.std.specs.declared.ops.Bound.TheVariants.{Included, Excluded, Unbound
 use Rattle.std.specs.Ordering.{is_gt, is_le, ordering_reverse}
 use Rattle.std.specs.BTreeMap.Range.{range_contains}
 use Rattle.std.specs.FinMap.Entries.{is_sorted}
-use Rattle.std.proofs.lemmas.List.{take-append-drop, take_at, drop_at, reverse-append, append-nil, take_all}
+use Rattle.std.proofs.lemmas.List.{take_at, drop_at, reverse-append, append-nil, take_all}
 use Rattle.std.proofs.lemmas.List.Elements.{filter-append}
-use Rattle.std.proofs.lemmas.Bool.{false≢true}
 use Rattle.alt_fields.proofs.Apart.{all_append}
 use Rattle.alt_disk.specs.Disk.{DiskState}
 use Rattle.alt_cells.specs.Keys.{key_cmp}
 use Rattle.alt_cells.proofs.CellLaws.{key_total}
-use Rattle.alt_rowfile.specs.Format.{Entry, rows_of, first_key, AreBlocks}
+use Rattle.alt_rowfile.specs.Format.{Entry, rows_of, first_key, AreBlocks, IsHeldEntry}
 use Rattle.alt_rowfile.specs.InHand.{Reads}
-use Rattle.alt_rowfile.specs.Cut.{IsBelow, IsFrom, CutsAt, IsCutFrom}
+use Rattle.alt_rowfile.specs.Cut.{IsBelow, IsFrom}
 use Rattle.alt_rowfile.specs.Searching.{EndsAt}
-use Rattle.alt_rowfile.specs.Walking.{list_from, LeftAs}
+use Rattle.alt_rowfile.specs.Holding.{IsCutBlock, IsInHand}
+use Rattle.alt_rowfile.specs.Walking.{list_from, LeftAs, IsLeft}
+use Rattle.alt_rowfile.specs.declared.hand.Hand.{Hand}
 use Rattle.alt_rowfile.specs.declared.rowfile.RowFile.{RowFile}
 use Rattle.alt_rowfile.proofs.BlockLaws.{rows_of-append}
 use Rattle.alt_rowfile.proofs.SearchLaws.{above_first, open_block, sorted_behind, AtBlock, at_block}
 use Rattle.alt_rowfile.proofs.CutLaws.{below_front, from_first}
+use Rattle.alt_rowfile.proofs.HandLaws.{from_cut, cut_in_hand}
 use Rattle.alt_rowfile.proofs.WalkLaws.{reads_at, count_blocks}
 
 -- ---- what passes a test
@@ -152,11 +154,11 @@ module _ (key : List ℕ) where
     pub from : AllByRecursion (IsFrom key) back
 
   -- where a key cuts a block, it cuts all rows there
-  pub cut_block : (blocks : List (List Entry)) (i n : ℕ) (at : AtBlock blocks i key)
-      → CutsAt key at.here n
-      → InTwo (rows_of blocks) (rows_of at.before ++ take n at.here)
-      (drop n at.here ++ rows_of at.behind)
-  cut_block blocks i n at cuts =
+  pub cut_block : (blocks : List (List Entry)) (i : ℕ) (at : AtBlock blocks i key)
+      → (front back : List Entry) → at.here ≡ front ++ back → AllByRecursion (IsBelow key) front
+      → AllByRecursion (IsFrom key) back
+      → InTwo (rows_of blocks) (rows_of at.before ++ front) (back ++ rows_of at.behind)
+  cut_block blocks i at front back parts below from =
       let b = at.here in
       let k = open_block b at.block in
       let whole : rows_of (at.before ++ b ∷ at.behind) ≡ rows_of at.before
@@ -168,15 +170,14 @@ module _ (key : List ℕ) where
       ap (λ (l : List Entry). rows_of at.before ++ (l ++ rows_of at.behind)) k.2 in
       record {
         is = ap rows_of at.is ∙ whole
-            ∙ ap (λ (l : List Entry). rows_of at.before ++ (l ++ rows_of at.behind))
-            (sym (take-append-drop n b))
-            ∙ regroup (rows_of at.before) (take n b) (drop n b) (rows_of at.behind);
-        below = all_append (IsBelow key) (rows_of at.before) (take n b)
+            ∙ ap (λ (l : List Entry). rows_of at.before ++ (l ++ rows_of at.behind)) parts
+            ∙ regroup (rows_of at.before) front back (rows_of at.behind);
+        below = all_append (IsBelow key) (rows_of at.before) front
             (below_front key (rows_of at.before) k.0 (k.1 ++ rows_of at.behind)
             (subst (λ (l : List Entry). T (is_sorted key_cmp l)) opened sorted)
             (subst (λ (l : List Entry). is_gt (key_cmp (first_key l) key) ≡ false) k.2 at.low))
-            cuts.below;
-        from = all_append (IsFrom key) (drop n b) (rows_of at.behind) cuts.from
+            below;
+        from = all_append (IsFrom key) back (rows_of at.behind) from
             (from_blocks at.behind at.cut
             (sorted_behind b (rows_of at.behind)
             (sorted_behind (rows_of at.before) (b ++ rows_of at.behind) sorted)) at.high);
@@ -200,67 +201,65 @@ module _ (s t : DiskState) (file : RowFile) (key : List ℕ) (rows : List Entry)
   at : AtBlock r.as_file.blocks i key
   at = at_block r.bytes file.marks.items file.end n i rows r.as_file key ends place
 
-  module _ (cut : ℕ) (cuts : CutsAt key (get_or r.as_file.blocks i []) cut) where
-    two : InTwo key (rows_of r.as_file.blocks) (rows_of at.before ++ take cut at.here)
-        (drop cut at.here ++ rows_of at.behind)
-    two = cut_block key r.as_file.blocks i cut at (subst (λ b. CutsAt key b cut) at.at cuts)
+  module _ (front back : List Entry) (parts : get_or r.as_file.blocks i [] ≡ front ++ back)
+      (below : AllByRecursion (IsBelow key) front) (from : AllByRecursion (IsFrom key) back) where
+    two : InTwo key (rows_of r.as_file.blocks) (rows_of at.before ++ front)
+        (back ++ rows_of at.behind)
+    two = cut_block key r.as_file.blocks i at front back (sym at.at ∙ parts) below from
 
-    -- forward the rows of the block from the key on, and the blocks behind it
-    pub sought_forward : (held : List Entry)
-        → reverse held ≡ drop cut (get_or r.as_file.blocks i [])
-        → LeftAs t file true n held (list_from rows (Some key) true)
-    sought_forward held is = record {
+    -- in a direction the rows of the block from the key on, and the blocks that come then
+    pub sought : (forward : Bool) (next : ℕ) → (forward ≡ true → next ≡ n)
+        → (forward ≡ false → next ≡ i)
+        → LeftAs t file forward next (from_cut forward front back)
+        (list_from rows (Some key) forward)
+    sought true next up down = record {
       all = rows;
       reads = reads_at s t file.file file.marks.items file.end rows same r;
-      within = ends.within;
+      within = omega (arith, ends.within, up refl);
       is = ap (λ l. list_from l (Some key) true) (r.as_file.are ∙ two.is)
-          ∙ cut_forward key (rows_of at.before ++ take cut at.here)
-          (drop cut at.here ++ rows_of at.behind) two.below two.from
-          ∙ (λ j. (ap (drop cut) (sym at.at) ∙ sym is) j ++ rows_of (sym behind j));
+          ∙ cut_forward key (rows_of at.before ++ front) (back ++ rows_of at.behind) two.below
+          two.from
+          ∙ ap (λ (l : List (List Entry)). back ++ rows_of l) (sym behind)
+          ∙ ap (λ (k : ℕ). back ++ rows_of (drop k r.as_file.blocks)) (sym (up refl));
     }
       where
         behind : drop n r.as_file.blocks ≡ at.behind
         behind = ap (drop n) at.is
             ∙ drop_behind at.before at.here at.behind n (omega (arith, at.size, place))
-
-    -- backward those below it, and the blocks before it
-    pub sought_backward : (held : List Entry) → held ≡ take cut (get_or r.as_file.blocks i [])
-        → LeftAs t file false i held (list_from rows (Some key) false)
-    sought_backward held is = record {
+    sought false next up down = record {
       all = rows;
       reads = reads_at s t file.file file.marks.items file.end rows same r;
-      within = omega (arith, ends.within, place);
+      within = omega (arith, ends.within, place, down refl);
       is = ap (λ l. list_from l (Some key) false) (r.as_file.are ∙ two.is)
-          ∙ cut_backward key (rows_of at.before ++ take cut at.here)
-          (drop cut at.here ++ rows_of at.behind) two.below two.from
-          ∙ reverse-append (rows_of at.before) (take cut at.here)
-          ∙ (λ j. reverse ((ap (take cut) (sym at.at) ∙ sym is) j)
-          ++ reverse (rows_of (sym before j)));
+          ∙ cut_backward key (rows_of at.before ++ front) (back ++ rows_of at.behind) two.below
+          two.from
+          ∙ reverse-append (rows_of at.before) front
+          ∙ ap (λ (l : List (List Entry)). reverse front ++ reverse (rows_of l)) (sym before)
+          ∙ ap (λ (k : ℕ). reverse front ++ reverse (rows_of (take k r.as_file.blocks)))
+          (sym (down refl));
     }
       where
         before : take i r.as_file.blocks ≡ at.before
         before = ap (take i) at.is ∙ take_at at.before (at.here ∷ at.behind) i at.size
 
-module _ (s t : DiskState) (file : RowFile) (key : List ℕ) (rows : List Entry)
-    (r : Reads s file rows)
-    (same : t.file file.file ≡ s.file file.file)
-    (n i : ℕ) (ends : EndsAt file.marks.items key n) (place : n ≡ i + 1) (block held : List Entry)
-    (loaded : block ≡ get_or r.as_file.blocks i []) where
-  -- upwards, what is left is the rest of the block and the blocks behind it
-  pub sought_up : (forward : Bool) → forward ≡ true → IsCutFrom key forward block held
-      → LeftAs t file forward n held (list_from rows (Some key) forward)
-  sought_up true e cut =
-      sought_forward s t file key rows r same n i ends place cut.0
-      (subst (λ b. CutsAt key b cut.0) loaded cut.1) held (cut.2 ∙ ap (drop cut.0) loaded)
-  sought_up false e cut = absurd (false≢true e)
+  -- with the block in hand, cut at the key, these are left
+  pub sought_in : (hand : Hand) (forward : Bool) (next : ℕ)
+      → IsCutBlock hand (Some key) forward (get_or r.as_file.blocks i [])
+      → AllByRecursion IsHeldEntry (get_or r.as_file.blocks i [])
+      → (forward ≡ true → next ≡ n) → (forward ≡ false → next ≡ i)
+      → IsLeft t file forward next hand (list_from rows (Some key) forward)
+  sought_in hand forward next c held up down = record {
+    held = from_cut forward c.front c.back;
+    in_hand = cut_in_hand hand (Some key) forward (get_or r.as_file.blocks i []) c held;
+    left = sought c.front c.back c.is c.cut.0 c.cut.1 forward next up down;
+  }
 
-  -- downwards, what is left is the front of the block and the blocks before it
-  pub sought_down : (forward : Bool) → forward ≡ false → IsCutFrom key forward block held
-      → LeftAs t file forward i held (list_from rows (Some key) forward)
-  sought_down false e cut =
-      sought_backward s t file key rows r same n i ends place cut.0
-      (subst (λ b. CutsAt key b cut.0) loaded cut.1) held (cut.2 ∙ ap (take cut.0) loaded)
-  sought_down true e cut = absurd (false≢true (sym e))
+-- with nothing in hand what is ahead is left
+pub nothing_held : (s : DiskState) (file : RowFile) (forward : Bool) (next : ℕ) (hand : Hand)
+    (rows : List Entry) → IsInHand hand forward [] → LeftAs s file forward next [] rows
+    → IsLeft s file forward next hand rows
+nothing_held s file forward next hand rows h left =
+    record { held = []; in_hand = h; left = left }
 
 -- below the first block there is nothing, and all is from there on
 module _ (s t : DiskState) (file : RowFile) (key : List ℕ) (rows : List Entry)
@@ -271,19 +270,17 @@ module _ (s t : DiskState) (file : RowFile) (key : List ℕ) (rows : List Entry)
   all_from = from_blocks key r.as_file.blocks r.as_file.file.cut r.as_file.file.rising
       (above_first r.bytes file.marks.items file.end n rows r.as_file key ends none)
 
-  -- upwards all rows are left
-  pub sought_all : LeftAs t file true 0 [] (list_from rows (Some key) true)
-  sought_all = record {
+  -- upwards all rows are left, and downwards none is
+  pub sought_first : (forward : Bool)
+      → LeftAs t file forward 0 [] (list_from rows (Some key) forward)
+  sought_first true = record {
     all = rows;
     reads = reads_at s t file.file file.marks.items file.end rows same r;
     within = omega arith;
     is = ap (λ l. list_from l (Some key) true) r.as_file.are
         ∙ cut_forward key [] (rows_of r.as_file.blocks) tt all_from;
   }
-
-  -- downwards none is
-  pub sought_none : LeftAs t file false 0 [] (list_from rows (Some key) false)
-  sought_none = record {
+  sought_first false = record {
     all = rows;
     reads = reads_at s t file.file file.marks.items file.end rows same r;
     within = omega arith;
@@ -291,46 +288,30 @@ module _ (s t : DiskState) (file : RowFile) (key : List ℕ) (rows : List Entry)
         ∙ cut_backward key [] (rows_of r.as_file.blocks) tt all_from;
   }
 
-  -- both, with nothing in hand
-  pub sought_first : (forward : Bool) (held : List Entry) → held ≡ []
-      → LeftAs t file forward 0 held (list_from rows (Some key) forward)
-  sought_first true held e =
-      subst (λ h. LeftAs t file true 0 h (list_from rows (Some key) true)) (sym e) sought_all
-  sought_first false held e =
-      subst (λ h. LeftAs t file false 0 h (list_from rows (Some key) false)) (sym e) sought_none
-
 -- with no key all is left
 module _ (s : DiskState) (file : RowFile) (rows : List Entry)
     (r : Reads s file rows) where
-  -- upwards from the first block
-  pub left_forward : LeftAs s file true 0 [] (list_from rows None true)
-  left_forward =
-      record { all = rows; reads = r; within = omega arith; is = all_forward rows ∙ r.as_file.are }
-
-  -- downwards from the last block
-  pub left_backward : (n : ℕ) → n ≡ length file.marks.items
-      → LeftAs s file false n [] (list_from rows None false)
-  left_backward n is = record {
+  -- from the first block on, or down from the last one
+  pub left_all : (forward : Bool) (n : ℕ) → (forward ≡ true → n ≡ 0)
+      → (forward ≡ false → n ≡ length file.marks.items)
+      → LeftAs s file forward n [] (list_from rows None forward)
+  left_all true n up down = record {
     all = rows;
     reads = r;
-    within = omega (arith, is);
+    within = omega (arith, up refl);
+    is = all_forward rows ∙ r.as_file.are
+        ∙ ap (λ (k : ℕ). rows_of (drop k r.as_file.blocks)) (sym (up refl));
+  }
+  left_all false n up down = record {
+    all = rows;
+    reads = r;
+    within = omega (arith, down refl);
     is = all_backward rows ∙ ap reverse r.as_file.are
         ∙ ap (λ l. reverse (rows_of l))
         (sym (take_all n r.as_file.blocks
-        (omega (arith, is, count_blocks s file.file file.marks.items file.end rows r))));
+        (omega (
+          arith,
+          down refl,
+          count_blocks s file.file file.marks.items file.end rows r,
+        ))));
   }
-
-  -- a walk that goes up, with nothing in hand
-  pub left_up : (forward : Bool) → forward ≡ true → (held : List Entry) → held ≡ []
-      → LeftAs s file forward 0 held (list_from rows None forward)
-  left_up true e held none =
-      subst (λ h. LeftAs s file true 0 h (list_from rows None true)) (sym none) left_forward
-  left_up false e held none = absurd (false≢true e)
-
-  -- a walk that goes down, with nothing in hand
-  pub left_down : (forward : Bool) → forward ≡ false → (held : List Entry) → held ≡ [] → (n : ℕ)
-      → n ≡ length file.marks.items → LeftAs s file forward n held (list_from rows None forward)
-  left_down false e held none n is =
-      subst (λ h. LeftAs s file false n h (list_from rows None false)) (sym none)
-      (left_backward n is)
-  left_down true e held none n is = absurd (false≢true (sym e))

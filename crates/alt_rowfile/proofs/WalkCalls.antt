@@ -1,5 +1,6 @@
 -- What calls on a walk keep, and why they fail.
 use Rattle.std.proofs.Common.{◌≡◌, ◌==◌, refl, sym, ap, subst, ℕ, IsTrue, Err, List}
+use Rattle.std.specs.Prelude.{Result, Ok, IfErr}
 use Rattle.std.specs.Result.{IsErrOf}
 use Rattle.std.proofs.lemmas.Bool.{false≢true}
 use Rattle.std.specs.FinMap.{entries}
@@ -53,3 +54,18 @@ module _ {T : Type 0} where
   well_failed (Damaged f at) w told = w (λ e. cc e)
   well_failed Failed w told = absurd (false≢true told)
   well_failed NoMemory w told = w (λ e. cc e)
+
+  -- the same where it isn't known yet whether it failed
+  pub result_fails : (s t : DiskState) (w : RowFileWalk) (r : Result T SourceFault)
+      → (IsErrOf r Failed → Rose s.faults t.faults)
+      → (IsTrue s.tells → (rows : List Entry) → Reads s w.file.now rows
+      → IfErr r (λ fault. IsDamaged fault → ⊥))
+      → IfErr r (IsDamageIn s w.file.now) → IfErr r (Fails walk_holds walk_reads s t w)
+  result_fails s t w (Ok v) cause sound damage = damage
+  result_fails s t w (Err fault) cause sound damage = walk_fails s t w fault cause sound damage
+
+  -- and any other answer leaves the count of faults
+  pub result_well : {P : Type 0} (r : Result T SourceFault) → ((IsErrOf r Failed → ⊥) → P)
+      → IsTrue (answered_by r) → P
+  result_well (Ok v) w told = w (λ e. cc e)
+  result_well (Err fault) w told = well_failed fault w told

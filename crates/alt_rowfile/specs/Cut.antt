@@ -1,5 +1,5 @@
--- Where a key cuts rows.
-use Rattle.std.specs.Prelude.{◌≡◌, ◌≢◌, ℕ, ◌≤◌, Bool, true, false, List, length, take, drop, reverse}
+-- Where a walk begins among rows.
+use Rattle.std.specs.Prelude.{◌≡◌, ◌≢◌, ℕ, Bool, true, false, List, [], Option, Some, None}
 use Rattle.std.specs.declared.cmp.Ordering.TheVariants.{Less}
 use Rattle.std.specs.List.{AllByRecursion}
 use Rattle.alt_cells.specs.Keys.{key_cmp}
@@ -13,13 +13,14 @@ IsBelow key e = key_cmp e.0 key ≡ Less
 abbrev pub IsFrom : List ℕ → Entry → Type 0
 IsFrom key e = key_cmp e.0 key ≢ Less
 
--- so many rows are below it, and the others are not
-pub record CutsAt (key : List ℕ) (rows : List Entry) (n : ℕ) : Type 0 where
-  pub within : n ≤ length rows
-  pub below : AllByRecursion (IsBelow key) (take n rows)
-  pub from : AllByRecursion (IsFrom key) (drop n rows)
+-- a walk from a key on begins between the rows below it and the others; with no key it begins before the first row, or behind the last one
+abbrev pub IsCut : Option (List ℕ) → Bool → List Entry → List Entry → Type 0
+IsCut (Some key) forward front back =
+    AllByRecursion (IsBelow key) front × AllByRecursion (IsFrom key) back
+IsCut None true front back = front ≡ []
+IsCut None false front back = back ≡ []
 
--- what a walk holds of these rows from the key on: they are taken from the end
-abbrev pub IsCutFrom : List ℕ → Bool → List Entry → List Entry → Type 0
-IsCutFrom key true rows held = (n : ℕ) × CutsAt key rows n × (reverse held ≡ drop n rows)
-IsCutFrom key false rows held = (n : ℕ) × CutsAt key rows n × (held ≡ take n rows)
+-- a walk passes a row of this key on its way, all where it goes to no key
+abbrev pub IsPassed : Option (List ℕ) → List ℕ → Type 0
+IsPassed None key = Unit {0}
+IsPassed (Some to) key = key_cmp key to ≡ Less

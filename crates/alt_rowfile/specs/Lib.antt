@@ -7,6 +7,7 @@ pub mod Writing
 pub mod Decoding
 pub mod Recovery
 pub mod Loading
+pub mod Holding
 pub mod Reading
 pub mod Searching
 pub mod Cut

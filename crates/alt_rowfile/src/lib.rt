@@ -6,6 +6,7 @@ mod body;
 mod decode;
 mod digest;
 mod fault;
+mod hand;
 mod law;
 mod load;
 mod pick;

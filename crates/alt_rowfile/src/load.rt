@@ -1,7 +1,8 @@
-//! One block of a row file, read from the disk: all its rows, or the one of a key.
+//! One block of a row file, read from the disk: in hand for its rows, or for the one of a key.
 
-ghost use Rattle.std.specs.Prelude.{◌≡◌, ◌≤◌, ◌<◌, ◌+◌, ◌==◌, if◌then◌else◌, ℕ, List, [], length, get_or, IfOk, IfErr, IfSome, IfNone, IsErrOf, IsTrue, T};
+ghost use Rattle.std.specs.Prelude.{◌≡◌, ◌≤◌, ◌<◌, ◌+◌, ◌==◌, if◌then◌else◌, true, ℕ, List, [], length, get_or, IfOk, IfErr, IfSome, IfNone, IsErrOf, IsTrue, T};
 ghost use Rattle.std.specs.FinMap.Entries.{find, is_sorted};
+ghost use Rattle.std.specs.Option.{option_copied};
 ghost use Rattle.alt_base.specs.Counts.{Rose};
 ghost use Rattle.alt_cells.specs.declared.source.SourceFault.TheVariants.{Damaged};
 ghost use Rattle.alt_disk.specs.Disk.{Goes, contents};
@@ -10,30 +11,34 @@ ghost use Rattle.alt_cells.specs.Keys.{key_cmp};
 ghost use Rattle.alt_cells.specs.Walks.{IsDamaged};
 ghost use Rattle.alt_rowfile.specs.Format.{Entry, block_bytes, IsHeldBlock};
 ghost use Rattle.alt_rowfile.specs.Damage.{IsDamageIn};
+ghost use Rattle.alt_rowfile.specs.Holding.{IsCutBlock};
 ghost use Rattle.alt_rowfile.specs.InHand.{Reads, count_of, file_of};
 ghost use Rattle.alt_rowfile.specs.Loading.{next_place, LoadedAt};
 ghost use Rattle.alt_rowfile.specs.Reading.{ReadsAtMostABlock, place_of};
 
 use crate::decode::{decode, take_field};
+use crate::hand::Hand;
 use crate::pick::pick;
 use crate::pieces::bytes_at;
 use crate::rowfile::RowFile;
 use alt_base::NoMemory;
 use alt_cells::{RowCells, SourceFault};
 use alt_disk::{Disk, DiskFault};
-use alt_fields::Bytes;
 use std::alloc::Global;
 
-/// The rows of a block, by one read of its bytes.
+/// A block in hand, at the place where a walk begins in it, by one read of its bytes.
 pub(crate) fn load<D: Disk>(
     file: &RowFile,
     disk: &mut D,
     i: usize,
-) -> Result<Vec<(Bytes, RowCells)>, SourceFault>
+    from: Option<&[u8]>,
+    forward: bool,
+) -> Result<Hand, SourceFault>
     requires { i < count_of file.now }
-    ensures rows { IsTrue (D.state disk.old).tells
-        → (rows : List Entry) (reads : Reads (D.state disk.old) file.now rows)
-        → IfOk result (λ v. v.items ≡ get_or reads.as_file.blocks i []) }
+    ensures block { IsTrue (D.state disk.old).tells → (b : List Entry)
+        → LoadedAt (contents (D.state disk.old) (file_of file.now)) file.now.marks.items
+        file.now.end i b
+        → IfOk result (λ hand. IsCutBlock hand (option_copied from.entry) forward b) }
     ensures undamaged { IsTrue (D.state disk.old).tells
         → (rows : List Entry) → Reads (D.state disk.old) file.now rows
         → IfErr result (λ fault. IsDamaged fault → ⊥) }
@@ -49,9 +54,36 @@ pub(crate) fn load<D: Disk>(
     ensures reads { (D.state disk.new).reads ≤ (D.state disk.old).reads + 1 }
 {
     match block_at(file, disk, i) {
-        Ok(bytes) => match rows_of(file.alloc, &bytes) {
-            Ok(Some(rows)) => Ok(rows),
+        Ok(bytes) => match Hand::of_block(file.alloc, bytes, from, forward) {
+            Ok(Some(hand)) => Ok(hand),
             Ok(None) => Err(damaged(file, i)),
+            Err(_) => Err(SourceFault::NoMemory),
+        },
+        Err(fault) => Err(fault),
+    }
+}
+
+/// Reads a block and tests each of its rows.
+pub(crate) fn test<D: Disk>(file: &RowFile, disk: &mut D, i: usize) -> Result<(), SourceFault>
+    requires { i < count_of file.now }
+    ensures undamaged { IsTrue (D.state disk.old).tells
+        → (rows : List Entry) → Reads (D.state disk.old) file.now rows
+        → IfErr result (λ fault. IsDamaged fault → ⊥) }
+    ensures damage { IfErr result (IsDamageIn (D.state disk.old) file.now) }
+    ensures quiet { IsTrue (D.state disk.old).tells
+        → Quiet (D.state disk.old) (D.state disk.new) }
+    ensures goes { Goes (D.state disk.old) (D.state disk.new) }
+    ensures cause { IsErrOf result SourceFault.Failed
+        → Rose (D.state disk.old).faults (D.state disk.new).faults }
+    ensures well { (IsErrOf result SourceFault.Failed → ⊥)
+        → (D.state disk.new).faults ≡ (D.state disk.old).faults }
+    ensures one_block { ReadsAtMostABlock (D.state disk.old) (D.state disk.new) file.now }
+    ensures reads { (D.state disk.new).reads ≤ (D.state disk.old).reads + 1 }
+{
+    match block_at(file, disk, i) {
+        Ok(bytes) => match are_rows(file.alloc, &bytes) {
+            Ok(true) => Ok(()),
+            Ok(false) => Err(damaged(file, i)),
             Err(_) => Err(SourceFault::NoMemory),
         },
         Err(fault) => Err(fault),
@@ -124,8 +156,8 @@ fn block_at<D: Disk>(file: &RowFile, disk: &mut D, i: usize) -> Result<Vec<u8>, 
     }
 }
 
-// Damage, of this block.
-fn damaged(file: &RowFile, i: usize) -> SourceFault
+/// Damage, of this block.
+pub(crate) fn damaged(file: &RowFile, i: usize) -> SourceFault
     requires { i < count_of file.now }
     ensures { result ≡ Damaged (file_of file.now) (place_of file.now i) }
 {
@@ -135,19 +167,17 @@ fn damaged(file: &RowFile, i: usize) -> SourceFault
     }
 }
 
-// The rows of the block whose bytes these are; none where they are no block's.
-fn rows_of(alloc: Global, bytes: &[u8]) -> Result<Option<Vec<(Bytes, RowCells)>>, NoMemory>
-    ensures some { (b : List Entry) → IsHeldBlock b → T (is_sorted key_cmp b)
-        → bytes.now ≡ block_bytes b → IfOk result (λ o. IfSome o (λ v. v.items ≡ b)) }
-    ensures none { (b : List Entry) → IsHeldBlock b → T (is_sorted key_cmp b)
-        → bytes.now ≡ block_bytes b → IfOk result (λ o. IfNone o ⊥) }
+// Whether these are the bytes of a block.
+fn are_rows(alloc: Global, bytes: &[u8]) -> Result<bool, NoMemory>
+    ensures { (b : List Entry) → IsHeldBlock b → T (is_sorted key_cmp b)
+        → bytes.now ≡ block_bytes b → IfOk result (λ are. are ≡ true) }
 {
     match take_field(bytes) {
-        Some((block, _)) => match decode(alloc, block)? {
-            Some(decoded) => Ok(Some(decoded.rows)),
-            None => Ok(None),
-        },
-        None => Ok(None),
+        Some((block, _)) => {
+            let decoded = decode(alloc, block)?;
+            Ok(decoded.is_some())
+        }
+        None => Ok(false),
     }
 }
 

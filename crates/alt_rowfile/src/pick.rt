@@ -84,8 +84,8 @@ fn is_above(last: Option<&[u8]>, next: &[u8]) -> bool
     }
 }
 
-// The key and the row's bytes at the front, and what follows them.
-fn take_piece(bytes: &[u8]) -> Option<(&[u8], &[u8], &[u8])>
+/// The key and the row's bytes at the front, and what follows them.
+pub(crate) fn take_piece(bytes: &[u8]) -> Option<(&[u8], &[u8], &[u8])>
     ensures some { IfSome result (λ p. IsShortPiece (p.0.now, p.1.now)
         × (bytes.now ≡ piece_bytes (p.0.now, p.1.now) ++ p.2.now)) }
     ensures none { IfNone result ((p : Piece) (x : List ℕ) → IsShortPiece p

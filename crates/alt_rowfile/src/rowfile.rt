@@ -1,6 +1,7 @@
 //! A finished row file in hand.
 
 use crate::fault::RowFileFault;
+use crate::hand::Hand;
 use crate::load::load_row;
 use crate::recover::recover_file;
 use crate::search::{blocks_up_to, ends_below};
@@ -110,7 +111,7 @@ impl RowFile {
             file: self,
             forward: true,
             next: self.marks.len(),
-            held: Vec::new(self.alloc),
+            hand: Hand::empty(self.alloc),
         }
     }
 }

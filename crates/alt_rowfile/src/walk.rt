@@ -1,31 +1,32 @@
-//! A walk over the rows of a file, in either direction, with the rows of one block in hand.
+//! A walk over the rows of a file, in either direction, with one block in hand, of which a row is decoded when it is given.
 
-ghost use Rattle.std.specs.Prelude.{◌≡◌, ◌≤◌, ◌+◌, ℕ, List, length, IfErr, OnOk, IsErrOf, IsTrue};
+ghost use Rattle.std.specs.Prelude.{◌≡◌, ◌<◌, ◌≤◌, ◌+◌, ◌^◌, ℕ, [], List, IfOk, IfErr, IfSome, IfNone, OnOk, IsErrOf, IsTrue};
 ghost use Rattle.alt_base.specs.Counts.{Rose};
 ghost use Rattle.alt_disk.specs.Disk.{Goes};
 ghost use Rattle.alt_disk.specs.Runs.{Quiet};
-ghost use Rattle.alt_cells.specs.Walks.{IsDamaged, answered_by};
+ghost use Rattle.alt_cells.specs.Walks.{Gives, IsDamaged, RowList, answered_by};
 ghost use Rattle.alt_rowfile.specs.Damage.{IsDamageIn};
 ghost use Rattle.alt_rowfile.specs.Format.{Entry};
-ghost use Rattle.alt_rowfile.specs.InHand.{Reads};
+ghost use Rattle.alt_rowfile.specs.Holding.{IsInHand};
+ghost use Rattle.alt_rowfile.specs.InHand.{Reads, count_of};
 ghost use Rattle.alt_rowfile.specs.Reading.{ReadsAtMostABlock};
-ghost use Rattle.alt_rowfile.specs.Walking.{walk_file, walk_left, AtEnd};
+ghost use Rattle.alt_rowfile.specs.Walking.{IsEnd, IsNext, IsUnreadIn, LeftAs, passed, walk_file, walk_left};
 
-use crate::load::load;
+use crate::hand::Hand;
+use crate::load::{damaged, load, test};
 use crate::rowfile::RowFile;
 use crate::seek::start;
 use alt_cells::{RowCells, RowSource, SourceFault};
 use alt_disk::Disk;
-use alt_fields::Bytes;
+use alt_fields::{Bytes, BytesFault};
 
-/// A walk. The rows in hand are those of one block, the next one last. Forward, `next` is the first block that is still to be read;
-/// backward, it is how many blocks are.
+/// A walk. Forward, `next` is the first block that is still to be read; backward, it is how many blocks are.
 #[derive(Drop)]
 pub struct RowFileWalk<'a> {
     pub(crate) file: &'a RowFile,
     pub(crate) forward: bool,
     pub(crate) next: usize,
-    pub(crate) held: Vec<(Bytes, RowCells)>,
+    pub(crate) hand: Hand,
 }
 
 impl<'a, D: Disk> RowSource<D> for RowFileWalk<'a> {
@@ -64,10 +65,10 @@ impl<'a, D: Disk> RowSource<D> for RowFileWalk<'a> {
             (walk_file self.old) }
     {
         match start(self.file, disk, from, forward) {
-            Ok((next, held)) => {
+            Ok((next, hand)) => {
                 self.forward = forward;
                 self.next = next;
-                self.held = held;
+                self.hand = hand;
                 Ok(())
             }
             Err(stop) => Err(stop),
@@ -90,20 +91,26 @@ impl<'a, D: Disk> RowSource<D> for RowFileWalk<'a> {
         ensures one_block { ReadsAtMostABlock (D.state disk.old) (D.state disk.new)
             (walk_file self.old) }
     {
-        match self.refill(disk) {
-            Ok(()) => Ok(self.held.pop()),
-            Err(fault) => Err(fault),
+        match self.hand.take(self.file.alloc, self.forward) {
+            Ok(Some(row)) => Ok(Some(row)),
+            Ok(None) => self.go_on(disk),
+            Err(BytesFault::Bad { at: _ }) => match self.test_held(disk) {
+                Ok(()) => Err(SourceFault::NoMemory),
+                Err(fault) => Err(fault),
+            },
+            Err(BytesFault::NoMemory) => Err(SourceFault::NoMemory),
         }
     }
 }
 
 impl<'a> RowFileWalk<'a> {
-    // Reads the next block where no row is in hand.
-    fn refill<D: Disk>(&mut self, disk: &mut D) -> Result<(), SourceFault>
+    // Reads the next block, if there is one, and gives its first row.
+    fn go_on<D: Disk>(&mut self, disk: &mut D) -> Result<Option<(Bytes, RowCells)>, SourceFault>
         ensures file { self.new.file ≡ self.old.file }
-        ensures left { IsTrue (D.state disk.old).tells
-            → (rows : List Entry) → walk_left (D.state disk.old) self.old rows
-            → OnOk result (walk_left (D.state disk.new) self.new rows × AtEnd self.new rows) }
+        ensures gives { IsTrue (D.state disk.old).tells → (rows : RowList)
+            → IsInHand self.old.hand self.old.forward []
+            → LeftAs (D.state disk.old) self.old.file.now self.old.forward self.old.next [] rows
+            → IfOk result (Gives (walk_left (D.state disk.new) self.new) rows) }
         ensures undamaged { IsTrue (D.state disk.old).tells
             → (rows : List Entry) → Reads (D.state disk.old) self.old.file.now rows
             → IfErr result (λ fault. IsDamaged fault → ⊥) }
@@ -119,24 +126,79 @@ impl<'a> RowFileWalk<'a> {
             (walk_file self.old) }
         ensures reads { (D.state disk.new).reads ≤ (D.state disk.old).reads + 1 }
     {
-        if !self.held.is_empty() {
-            return Ok(());
+        match following(self.forward, self.next, self.file.marks.len()) {
+            Some(i) => match load(self.file, disk, i, None, self.forward) {
+                Ok(hand) => self.begin(i, hand),
+                Err(unread) => Err(unread),
+            },
+            None => Ok(None),
         }
-        if self.forward {
-            if self.next >= self.file.marks.len() {
-                return Ok(());
-            }
-            let mut rows = load(self.file, disk, self.next)?;
-            rows.reverse();
-            self.held = rows;
-            self.next += 1;
-            return Ok(());
-        }
-        if self.next == 0 || self.next > self.file.marks.len() {
-            return Ok(());
-        }
-        self.held = load(self.file, disk, self.next - 1)?;
-        self.next -= 1;
-        Ok(())
     }
+
+    // Takes a block in hand, and gives its first row.
+    fn begin(&mut self, i: usize, hand: Hand) -> Result<Option<(Bytes, RowCells)>, SourceFault>
+        requires { i < count_of (walk_file self.old) }
+        ensures file { self.new.file ≡ self.old.file }
+        ensures forward { self.new.forward ≡ self.old.forward }
+        ensures next { self.new.next ≡ passed self.old.forward i }
+        ensures gives { (rows : List Entry) → IsInHand hand self.old.forward rows
+            → IfOk result (Gives (IsInHand self.new.hand self.old.forward) rows) }
+        ensures fault { IfErr result (IsUnreadIn (walk_file self.old) i self.old.forward hand) }
+    {
+        self.next = passed(self.forward, i);
+        self.hand = hand;
+        match self.hand.take(self.file.alloc, self.forward) {
+            Ok(row) => Ok(row),
+            Err(BytesFault::Bad { at: _ }) => Err(damaged(self.file, i)),
+            Err(BytesFault::NoMemory) => Err(SourceFault::NoMemory),
+        }
+    }
+
+    // Where what is in hand is no row, its block is read again: a disk that tells what it has gives the same bytes.
+    fn test_held<D: Disk>(&self, disk: &mut D) -> Result<(), SourceFault>
+        ensures undamaged { IsTrue (D.state disk.old).tells
+            → (rows : List Entry) → Reads (D.state disk.old) self.now.file.now rows
+            → IfErr result (λ fault. IsDamaged fault → ⊥) }
+        ensures damage { IfErr result (IsDamageIn (D.state disk.old) (walk_file self.now)) }
+        ensures quiet { IsTrue (D.state disk.old).tells
+            → Quiet (D.state disk.old) (D.state disk.new) }
+        ensures goes { Goes (D.state disk.old) (D.state disk.new) }
+        ensures cause { IsErrOf result SourceFault.Failed
+            → Rose (D.state disk.old).faults (D.state disk.new).faults }
+        ensures well { (IsErrOf result SourceFault.Failed → ⊥)
+            → (D.state disk.new).faults ≡ (D.state disk.old).faults }
+        ensures one_block { ReadsAtMostABlock (D.state disk.old) (D.state disk.new)
+            (walk_file self.now) }
+        ensures reads { (D.state disk.new).reads ≤ (D.state disk.old).reads + 1 }
+    {
+        let i = if self.forward {
+            self.next.saturating_sub(1)
+        } else {
+            self.next
+        };
+        if i < self.file.marks.len() {
+            test(self.file, disk, i)
+        } else {
+            Ok(())
+        }
+    }
+}
+
+// The next one of so many behind a place, in a direction, if there is one. Before the place lie `at` of them.
+fn following(forward: bool, at: usize, count: usize) -> Option<usize>
+    ensures some { IfSome result (IsNext forward at count) }
+    ensures none { IfNone result (IsEnd forward at count) }
+{
+    if !forward {
+        return at.min(count).checked_sub(1);
+    }
+    if at < count { Some(at) } else { None }
+}
+
+// The place behind one of them.
+fn passed(forward: bool, i: usize) -> usize
+    requires { i + 1 < 2 ^ 64 }
+    ensures { result ≡ passed forward i }
+{
+    if forward { i + 1 } else { i }
 }

@@ -11,11 +11,14 @@ use Rattle.alt_disk.specs.Disk.{DiskState}
 use Rattle.alt_machine.specs.Body.{of_shape}
 use Rattle.alt_machine.specs.Changes.{record_size}
 use Rattle.alt_machine.specs.Ops.GetRecords.{changes_from, get_records, page_length, page_of, pages, records_answer}
-use Rattle.alt_machine.specs.Outcomes.{says, refuses, with_found}
-use Rattle.alt_machine.specs.Refusals.{first_answer}
+use Rattle.alt_machine.specs.Outcomes.{Outcome, says, refuses, unless_refused, with_found}
+use Rattle.alt_machine.specs.Refusals.{first_answer, refuse_if}
 use Rattle.alt_machine.specs.State.{State, Table, Texts, descriptions}
 use Rattle.alt_machine.specs.Streams.{Iterator, is_stream, iterator_of, stream_at, table_of_stream}
+use Rattle.alt_machine.specs.Trimming.{is_trimmed}
 use Rattle.alt_machine.specs.Valid.{IsValid}
+use Rattle.alt_opening.specs.Trimmed.{AreTrimmedOf, number_at}
+use Rattle.alt_opening.specs.declared.trimmed.Trimmed.{Trimmed}
 use Rattle.alt_machine.proofs.Descriptions.{get-descriptions}
 use Rattle.alt_machine.proofs.Tests.{passed, stopped, found_some, found_none}
 use Rattle.alt_request.specs.declared.stop.Stop.{Stop}
@@ -25,13 +28,13 @@ use Rattle.alt_schema.specs.Stated.{text_of}
 use Rattle.alt_schema.specs.declared.schema.TableSchema.{TableSchema}
 use Rattle.alt_schema.specs.declared.schema.View.{View}
 use Rattle.alt_shape.specs.Bodies as bodies
-use Rattle.alt_shape.specs.Refusals.{Answer, answered, bad_stream_argument, not_found}
+use Rattle.alt_shape.specs.Refusals.{Answer, answered, bad_stream_argument, not_found, trimmed}
 use Rattle.alt_streams.specs.private.Named.{IsStreamOf, OnStream}
 use Rattle.alt_streams.specs.private.Paged.{iterator_at}
 use Rattle.alt_streams.specs.private.Placed.{IsPlace, OnStreaming, has_stream}
 use Rattle.alt_streams.specs.declared.records.Place.{Place}
 use Rattle.alt_streams.proofs.Entries.{behind, here}
-use Rattle.alt_tables.specs.Stands.{Stands, catalog_of}
+use Rattle.alt_tables.specs.Stands.{Stands, catalog_of, trimmed_of}
 use Rattle.alt_tables.specs.declared.tables.Tables.{Tables}
 use Rattle.alt_value.specs.Members.{text_order}
 use Rattle.alt_value.proofs.Places.{second}
@@ -187,6 +190,12 @@ module _ (s : State) (valid : IsValid s) (catalog : Texts TableSchema)
   pub reached : Reached
   reached = by_name (finite.get s.tables name) refl
 
+-- the number that is known of a table's name is what was trimmed of it
+pub known_at : (s : State) (known : List Trimmed) → AreTrimmedOf s.tables known → (name : List ℕ)
+    (t : Table) → finite.get s.tables name ≡ Some t → number_at name known ≡ t.trimmed
+known_at s known so name t at =
+    so name ∙ ap (λ o. option_map_or (λ (t : Table). t.trimmed) o 0) at
+
 -- ---- what a GetRecords comes to
 
 module _ (ms : Members) where
@@ -209,8 +218,12 @@ module _ (ms : Members) where
     records_unread s e = passed tests _ free ∙ found_none bad_stream_argument (iterator_of text) _ e
 
     module _ (i : Iterator) (reads : iterator_of text ≡ Some i) where
-      pub records_at : (s : State) → get_records s ms
-          ≡ with_found (stream_at s i.arn) (λ t. says (pages t ms i))
+      -- behind the test whether it was trimmed a page is answered
+      abbrev goes : Table → Outcome
+      goes t = unless_refused (refuse_if (is_trimmed t.trimmed i.from) trimmed ∷ [])
+          (says (pages t ms i))
+
+      pub records_at : (s : State) → get_records s ms ≡ with_found (stream_at s i.arn) goes
       unfolding get_records
       records_at s =
           passed tests _ free ∙ found_some bad_stream_argument (iterator_of text) _ i reads
@@ -227,8 +240,23 @@ module _ (ms : Members) where
           by (Some t) e = absurd (let no : ⊥ = cc in no)
 
       pub records_found : (s : State) (t : Table) → table_of_stream s i.arn ≡ Some t
-          → get_records s ms ≡ says (pages t ms i)
-      records_found s t is = records_at s ∙ found_some not_found (table_of_stream s i.arn) _ t is
+          → is_trimmed t.trimmed i.from ≡ false → get_records s ms ≡ says (pages t ms i)
+      records_found s t is kept =
+          records_at s ∙ found_some not_found (table_of_stream s i.arn) goes t is
+          ∙ ap (λ b. unless_refused (refuse_if b trimmed ∷ []) (says (pages t ms i))) kept
+
+      -- what was trimmed is refused
+      pub records_trimmed : (catalog : Texts TableSchema) (known : List Trimmed) (name : List ℕ)
+          → has_stream (finite.get catalog name) ≡ true
+          → IsStreamOf catalog i.arn (finite.get catalog name)
+          → (s : State) → IsValid s → descriptions s.tables ≡ catalog
+          → AreTrimmedOf s.tables known → is_trimmed (number_at name known) i.from ≡ true
+          → get_records s ms ≡ refuses trimmed
+      records_trimmed catalog known name stream named s valid same so e =
+          let (t, found, at) = reached s valid catalog same i.arn name stream named in
+          records_at s ∙ found_some not_found (table_of_stream s i.arn) goes t found
+          ∙ ap (λ b. unless_refused (refuse_if b trimmed ∷ []) (says (pages t ms i)))
+          (ap (λ n. is_trimmed n i.from) (sym (known_at s known so name t at)) ∙ e)
 
 -- the page of a table whose stream shows so much
 pub pages_so : (t : Table) (ms : Members) (i : Iterator) (shows : View)
@@ -242,7 +270,7 @@ pages_so t ms i shows e = ap (λ (o : Option View). option_map_or
     o (answered no_members)) e
 
 module _ (disk : DiskState) (tables : Tables) (ms : Members) (place : Place)
-    (is : IsPlace (catalog_of tables) ms place) (most : ℕ) (m : most ≡ page_length ms) where
+    (is : IsPlace (catalog_of tables) (trimmed_of tables) ms place) (most : ℕ) (m : most ≡ page_length ms) where
   -- the reply is the page's, in each state for which the tables stand
   abbrev pub Told : Answer → Type 0
   Told answer = (s : State) (t : Table) (shows : View) → Stands disk tables s
@@ -259,6 +287,9 @@ module _ (disk : DiskState) (tables : Tables) (ms : Members) (place : Place)
   by_view answer told s stands t found at named None view some = absurd (let no : ⊥ = cc in no)
   by_view answer told s stands t found at named (Some shows) view some =
       records_found ms is.body is.iterator is.reads s t found
+      (ap (λ n. is_trimmed n is.iterator.from)
+      (sym (known_at s (trimmed_of tables) stands.trimmed place.table t at))
+      ∙ ap (is_trimmed (number_at place.table (trimmed_of tables))) (sym is.from) ∙ is.kept)
       ∙ ap says (pages_so t ms is.iterator shows view
       ∙ sym (told s t shows stands at view
       ∙ (λ j. records_answer t.description (record { arn = named j; from = is.from j })

@@ -15,7 +15,7 @@ ghost use Rattle.alt_shape.specs.Refusals.{answer_of};
 ghost use Rattle.alt_streams.specs.private.Paged.{iterator_at};
 ghost use Rattle.alt_tables.specs.Stands.{Stands, limits_of};
 
-use crate::streams::{arn_in, may_be_shard, stream_target};
+use crate::streams::{arn_in, is_trimmed, may_be_shard, stream_target};
 use alt_base::NoMemory;
 use alt_changes::{iterator_text, sequence_number};
 use alt_disk::Disk;
@@ -47,6 +47,9 @@ pub fn get_shard_iterator<D: Disk>(
     unfit(body)?;
     let from = starts(tables.next_number(), body);
     let schema = stream_target(alloc, tables, arn_in(body))?;
+    if is_trimmed(tables.trimmed(schema.name.as_str()), from) {
+        return Err(Stop::Refused(Refusal::TRIMMED));
+    }
     iterator_reply(alloc, schema, from)
 }
 

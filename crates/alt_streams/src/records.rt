@@ -17,11 +17,11 @@ ghost use Rattle.alt_shape.specs.Refusals.{answer_of};
 ghost use Rattle.alt_streams.specs.private.Paged.{iterator_at, page_answer};
 ghost use Rattle.alt_streams.specs.private.Placed.{OnPlace, OnStreaming, has_stream};
 ghost use Rattle.alt_tables.specs.Faults.{IsFindFault};
-ghost use Rattle.alt_tables.specs.Stands.{AreReady, Reads, Stands, catalog_of, limits_of};
+ghost use Rattle.alt_tables.specs.Stands.{AreReady, Reads, Stands, catalog_of, limits_of, trimmed_of};
 
 use crate::page::Page;
 use crate::paging::fill;
-use crate::streams::stream_target;
+use crate::streams::{is_trimmed, stream_target};
 use alt_base::NoMemory;
 use alt_changes::{iterator_of, iterator_text};
 use alt_disk::Disk;
@@ -76,7 +76,8 @@ fn page_length(body: &Map<String, Value>) -> u64
 
 /// The place that the iterator of a body stands for.
 fn place_of(alloc: Global, tables: &Tables, body: &Map<String, Value>) -> Result<Place, Stop>
-    ensures place { OnPlace (catalog_of tables.now) (members_view body.now.entries) result }
+    ensures place { OnPlace (catalog_of tables.now) (trimmed_of tables.now)
+        (members_view body.now.entries) result }
 {
     if let Some(broken) = bodies::get_records(body) {
         return Err(Stop::Refused(Refusal::from(broken)));
@@ -84,10 +85,14 @@ fn place_of(alloc: Global, tables: &Tables, body: &Map<String, Value>) -> Result
     let Some((arn, from)) = iterator_of(iterator_in(body)) else {
         return Err(Stop::Refused(Refusal::BAD_STREAM_ARGUMENT));
     };
-    match table_named(alloc, tables, arn) {
-        Ok(table) => Ok(Place { table, from }),
-        Err(stop) => Err(stop),
+    let table = match table_named(alloc, tables, arn) {
+        Ok(table) => table,
+        Err(stop) => return Err(stop),
+    };
+    if is_trimmed(tables.trimmed(table.as_str()), from) {
+        return Err(Stop::Refused(Refusal::TRIMMED));
     }
+    Ok(Place { table, from })
 }
 
 /// The text of the iterator of a body.

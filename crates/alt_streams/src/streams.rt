@@ -4,6 +4,7 @@ ghost use Rattle.std.specs.Prelude.{◌≡◌, ◌<◌, ◌^◌, ℕ, List, Some
 ghost use Rattle.std.specs.Str.{bytes_eq};
 ghost use Rattle.serde_json.specs.View.{members_view};
 ghost use Rattle.alt_machine.specs.Streams.{arn_in, is_stream, may_be_shard};
+ghost use Rattle.alt_machine.specs.Trimming.{is_trimmed};
 ghost use Rattle.alt_schema.specs.Json.{stream_arn};
 ghost use Rattle.alt_streams.specs.private.Named.{IsStreamOf, OnStream};
 ghost use Rattle.alt_tables.specs.Stands.{catalog_of};
@@ -104,4 +105,11 @@ pub(crate) fn may_be_shard(body: &Map<String, Value>, name: &str) -> bool
         Some(text) => text == SHARD,
         None => true,
     }
+}
+
+/// Whether changes from a number on were kept once, and are no longer, where those up to another one were trimmed.
+pub(crate) fn is_trimmed(trimmed: u64, from: u64) -> bool
+    ensures { result ≡ is_trimmed trimmed from }
+{
+    1 <= from && from <= trimmed
 }

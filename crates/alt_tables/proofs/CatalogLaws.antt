@@ -12,7 +12,8 @@ use Rattle.alt_cells.specs.Changes.{CanShow, change_between}
 use Rattle.alt_cells.specs.Keys.{key_cmp}
 use Rattle.alt_cells.proofs.CellLaws.{key_total}
 use Rattle.alt_cells.proofs.ChangeLaws.{written-change_between, none_shown}
-use Rattle.alt_changes.specs.ChangeRows.{change_columns}
+use Rattle.alt_changes.specs.ChangeRows.{change_columns, row_key}
+use Rattle.alt_changes.specs.TrimRows.{trimmed_row}
 use Rattle.alt_hand.specs.InHand.{batch_write}
 use Rattle.alt_layout.specs.Layout.{Layout, shown, shown_by, change_of}
 use Rattle.alt_writes.specs.Writes.{Write}
@@ -35,7 +36,7 @@ use Rattle.alt_schema.specs.Held.{IsHeld}
 use Rattle.alt_schema.specs.Rules.{is_name}
 use Rattle.alt_schema.specs.declared.schema.IndexSchema.{IndexSchema}
 use Rattle.alt_schema.specs.declared.schema.TableSchema.{TableSchema}
-use Rattle.alt_opening.specs.StateRows.{HasMoment, IsHeldWhole, Shows, catalog_family, catalog_rows, item_rows, index_rows, change_rows, one_column, table_row, next_row}
+use Rattle.alt_opening.specs.StateRows.{HasMoment, IsHeldWhole, IsLeftover, Shows, catalog_family, catalog_rows, item_rows, index_rows, change_rows, keyed_changes, one_column, table_row, next_row}
 use Rattle.alt_tables.specs.RowChanges.{Turns, creation_changes, drop_changes}
 use Rattle.alt_opening.proofs.Ties.{tied, itself}
 use Rattle.alt_tables.proofs.ChangeLaws.{ShowsWrite, one_change, two_changes, other_family}
@@ -162,8 +163,9 @@ module _ (l : Layout) (s : State) (shows : Shows l s) (valid : IsValid s) where
     changes_after : (other : List ℕ) (u : Table) (b : Bool) → eq_by_cmp key_cmp other d.name ≡ b
         → cond b (Some (new_table d)) (map.get s.tables other) ≡ Some u → (g : ℕ)
         → u.description.stream_family ≡ Some g
-        → (key : List ℕ) → shown (with_write l w) g key ≡ change_rows u key
-    changes_after other u true e at g stream key =
+        → (key : List ℕ) → (IsLeftover u.trimmed key → ⊥)
+        → shown (with_write l w) g key ≡ change_rows u key
+    changes_after other u true e at g stream key counts =
         subst (λ u. u.description.stream_family ≡ Some g
         → shown (with_write l w) g key ≡ change_rows u key) (some _ _ at)
         (λ stream. let is = of_contained (λ f. (d.family ≤ f)
@@ -172,11 +174,16 @@ module _ (l : Layout) (s : State) (shows : Shows l s) (valid : IsValid s) where
         elsewhere g key
         (let low = valid.next_family.0 in omega (arith, low, family, is.0))
         ∙ shows.beyond g key (omega (arith, family, is.0))
-        ∙ sym (ap (option_map change_columns)
-        (map.get-from_sorted {X = Change} key_cmp [] key tt))) stream
-    changes_after other u false e at g stream key =
+        ∙ sym (no_stream (eq_by_cmp key_cmp key (row_key 0)) key)) stream
+      where
+        no_stream : (b : Bool) (key : List ℕ) → (if b then trimmed_row 0
+            else option_map change_columns (map.get (keyed_changes []) key)) ≡ None
+        no_stream true key = refl
+        no_stream false key = ap (option_map change_columns)
+            (map.get-from_sorted {X = Change} key_cmp [] key tt)
+    changes_after other u false e at g stream key counts =
         elsewhere g key (stream_within s other u (valid.tables other u at) g stream).0
-        ∙ shows.changes other u g at stream key
+        ∙ shows.changes other u g at stream key counts
 
     -- the rows are then those of the state with the table
     pub shows_creation : Shows (with_write l w) (with_table s d)
@@ -189,9 +196,10 @@ module _ (l : Layout) (s : State) (shows : Shows l s) (valid : IsValid s) where
           (eq_by_cmp key_cmp other d.name) refl
           (sym (map.get-insert key_total s.tables d.name (new_table d) other)
           ∙ at) n i at_index key;
-      changes = λ other u g at stream key. changes_after other u
+      changes = λ other u g at stream key counts. changes_after other u
           (eq_by_cmp key_cmp other d.name) refl
-          (sym (map.get-insert key_total s.tables d.name (new_table d) other) ∙ at) g stream key;
+          (sym (map.get-insert key_total s.tables d.name (new_table d) other) ∙ at) g stream key
+          counts;
       beyond = λ f key high. elsewhere f key
           (let low = valid.next_family.0 in omega (arith, low, family, high))
           ∙ shows.beyond f key (omega (arith, family, high));
@@ -253,12 +261,13 @@ module _ (l : Layout) (s : State) (shows : Shows l s) (valid : IsValid s) where
     changes_without : (other : List ℕ) (u : Table) (b : Bool)
         → cond b None (map.get s.tables other) ≡ Some u → (g : ℕ)
         → u.description.stream_family ≡ Some g
-        → (key : List ℕ) → shown (with_write l w) g key ≡ change_rows u key
-    changes_without other u true at_other g stream key =
+        → (key : List ℕ) → (IsLeftover u.trimmed key → ⊥)
+        → shown (with_write l w) g key ≡ change_rows u key
+    changes_without other u true at_other g stream key counts =
         absurd (let n : None ≡ Some u = at_other in cc n)
-    changes_without other u false at_other g stream key =
+    changes_without other u false at_other g stream key counts =
         kept g key (stream_within s other u (valid.tables other u at_other) g stream).0
-        ∙ shows.changes other u g at_other stream key
+        ∙ shows.changes other u g at_other stream key counts
 
     -- the rows are then those of the state without it
     pub shows_drop : Shows (with_write l w) (without_table s name)
@@ -270,9 +279,9 @@ module _ (l : Layout) (s : State) (shows : Shows l s) (valid : IsValid s) where
       indexes = λ other u n i at_other at_index key. indexes_without other u
           (eq_by_cmp key_cmp other name)
           (sym (map.get-remove key_total s.tables name other) ∙ at_other) n i at_index key;
-      changes = λ other u g at_other stream key. changes_without other u
+      changes = λ other u g at_other stream key counts. changes_without other u
           (eq_by_cmp key_cmp other name)
-          (sym (map.get-remove key_total s.tables name other) ∙ at_other) g stream key;
+          (sym (map.get-remove key_total s.tables name other) ∙ at_other) g stream key counts;
       beyond = λ f key high. kept f key (let low = valid.next_family.0 in omega (arith, low, high))
           ∙ shows.beyond f key high;
     }

@@ -8,12 +8,12 @@ use Rattle.alt_disk.proofs.Calls.{goes_refl, goes_on}
 use Rattle.alt_disk.proofs.Runs.{quiet_start, quiet_then, tells_of, trusted_back}
 use Rattle.alt_layout.specs.Files.{IsLayout}
 use Rattle.alt_layout.specs.Layout.{no_rows}
-use Rattle.alt_opening.proofs.Engine.{files_hold}
+use Rattle.alt_opening.proofs.Engine.{files_hold, one_layout_in_hand, stays_quiet}
 use Rattle.alt_machine.specs.State.{State, start}
 use Rattle.alt_opening.specs.Images.{StandsFor}
 use Rattle.alt_opening.specs.Recovery.{WasLeft}
 use Rattle.alt_tables.specs.Images.{AfterSome, IsWhole, Lasts, Leaves}
-use Rattle.alt_tables.specs.Stands.{AreReady, Stands, Reads}
+use Rattle.alt_tables.specs.Stands.{AreReady, HasRows, Stands, Reads}
 use Rattle.alt_tables.specs.declared.tables.Tables.{Tables}
 use Rattle.alt_tables.proofs.Holding.{each_holds, holds_quiet, leaves_behind, leaves_quiet}
 use Rattle.alt_tables.proofs.Holding as holding
@@ -47,7 +47,11 @@ stands_quiet a b t s tells honest quiet stands = record {
   number = stands.number;
   family = stands.family;
   live = stands.live;
+  trimmed = stands.trimmed;
   rows = holds_quiet a b t.engine s tells honest quiet stands.rows;
+  fronts = λ m rows. stands.fronts m (subst (λ l. HasRows a t l)
+      (one_layout_in_hand b t.engine stands.rows.layout m
+      (stays_quiet a b t.engine stands.rows.layout stands.rows.is quiet) rows) stands.rows.is);
   valid = stands.valid;
 }
 

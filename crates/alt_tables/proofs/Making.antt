@@ -1,10 +1,14 @@
 -- The writes of the tables: what they leave is what the machine's writes leave.
-use Rattle.std.proofs.Common.{◌≡◌, refl, sym, ap, subst, ◌∙◌, ℕ, ◌+◌, ◌<◌, ◌≤◌, ◌^◌, false, length, List, [], ◌∷◌, Option, Some, None, Err, Result, IfSome, Contains, arith}
+use Rattle.std.proofs.Common.{◌≡◌, refl, sym, ap, subst, ◌∙◌, ℕ, ◌+◌, ◌<◌, ◌≤◌, ◌^◌, false, length, drop, T, List, [], ◌∷◌, Option, Some, None, Err, Result, IfSome, Contains, arith}
 use Rattle.std.specs.Prelude.{if◌then◌else◌, ◌-◌, IsSome}
+use Rattle.std.specs.Option.{option_map_or}
 use Rattle.std.specs.Result.{IsErrAnd}
+use Rattle.std.specs.Str.{bytes_eq}
+use Rattle.std.proofs.lemmas.Slice.Eq.{bytes_eq-Decides}
 use Rattle.std.proofs.lemmas.Bool.{false≢true}
 use Rattle.std.proofs.lemmas.Result.{err_from_is_err_and}
 use Rattle.std.specs.FinMap as map
+use Rattle.alt_cells.specs.Batches.{is_distinct}
 use Rattle.alt_cells.specs.declared.batch.RowChange.{RowChange}
 use Rattle.alt_disk.specs.Disk.{DiskState}
 use Rattle.alt_machine.specs.declared.TheConstants.{NUMBERS_END, FAMILIES_END, MOST_FAMILIES, MOST_TABLES}
@@ -25,15 +29,30 @@ use Rattle.alt_tables.specs.Faults.{AreMade, AreSome, BreakOff, IsFindFault, Wri
 use Rattle.alt_opening.specs.Live.{with_all, without_all}
 use Rattle.alt_opening.specs.Opened.{Holds}
 use Rattle.alt_opening.proofs.LiveLaws.{live_insert, live_remove}
-use Rattle.alt_tables.specs.Stands.{Stands, catalog_of, number_of}
-use Rattle.alt_tables.specs.RowChanges.{Turns, item_changes, creation_changes, drop_changes}
+use Rattle.alt_layout.specs.Layout.{Layout, shown}
+use Rattle.alt_opening.specs.StateRows.{catalog_family}
+use Rattle.alt_opening.specs.Trimmed.{AreTrimmedOf, IsRenumbered, number_at, without}
+use Rattle.alt_opening.proofs.Engine.{one_layout_in_hand, stands_past}
+use Rattle.alt_opening.proofs.TrimmedLaws.{trimmed-new, trimmed-put, trimmed-remove}
+use Rattle.alt_tables.specs.Fronts.{AreFronts, IsFront, front_at, without_front}
+use Rattle.alt_tables.specs.Leftovers.{leftovers}
+use Rattle.alt_tables.specs.Stands.{HasRows, Stands, catalog_of, fronts_of, number_of, trimmed_of}
+use Rattle.alt_tables.specs.RowChanges.{Turns, changed_rows, write_changes, creation_changes, drop_changes}
+use Rattle.alt_tables.specs.private.Trims.{IsNoted, IsTrim}
+use Rattle.alt_tables.specs.declared.fronts.Front.{Front}
+use Rattle.alt_tables.specs.declared.trimming.Trim.{Trim}
+use Rattle.alt_tables.proofs.ChangeLaws.{AreOthers}
+use Rattle.alt_tables.proofs.Elsewhere.{shown_elsewhere, write_others}
+use Rattle.alt_tables.proofs.FrontLaws.{fronts_alike, fronts_gone, fronts_new, fronts_put}
+use Rattle.alt_tables.proofs.FrontTrims.{front_stays, front_then, left_then, leftovers_then, trimmed_then}
+use Rattle.alt_tables.proofs.StreamShows.{stream_family}
 use Rattle.alt_tables.specs.declared.faults.TableFault.{TableFault}
 use Rattle.alt_tables.specs.declared.faults.TableFault.TheVariants.{Spent, Damaged, BadRow, Failed, NoMemory}
 use Rattle.alt_tables.specs.declared.tables.Tables.{Tables}
 use Rattle.alt_tables.proofs.CatalogLaws.{creation_turns, drop_turns}
 use Rattle.alt_opening.proofs.OneState.{some}
-use Rattle.alt_tables.proofs.Standing.{descriptions-insert, descriptions-stay, descriptions-remove, known, there, absent, still_live}
-use Rattle.alt_tables.proofs.WriteLaws.{item_turns}
+use Rattle.alt_tables.proofs.Standing.{descriptions-insert, descriptions-stay, descriptions-remove, known, there, absent, still_live, still_trimmed}
+use Rattle.alt_tables.proofs.WriteLaws.{item_turns, stream_within}
 use Rattle.alt_value.specs.Tree.{Pair}
 use Rattle.alt_value.specs.Values.{IsItemOfValues}
 
@@ -73,6 +92,16 @@ broke now wants s r (BadRow family key) known = absurd known
 broke now wants s r Failed known = tt
 broke now wants s r NoMemory known = tt
 
+-- ---- fronts
+
+-- what is known of fronts is so of whichever layout the rows are
+fronts_of_rows : (now : DiskState) (new : Tables) (l : Layout) (tables : Texts Table)
+    → HasRows now new l → AreFronts l tables (fronts_of new) → (m : Layout) → HasRows now new m
+    → AreFronts m tables (fronts_of new)
+fronts_of_rows now new l tables rows are m other =
+    subst (λ x. AreFronts x tables (fronts_of new)) (one_layout_in_hand now new.engine l m rows other)
+    are
+
 -- ---- an item
 
 module _ (before : DiskState) (old : Tables) (s : State) (t : Table) (stands : Stands before old s)
@@ -86,42 +115,153 @@ module _ (before : DiskState) (old : Tables) (s : State) (t : Table) (stands : S
   item_differs differ = ap (λ b. if b then [] else after ∷ [])
       (ap (λ o. is_same o to) (sym there) ∙ differ)
 
-  -- its row change turns the rows of the state into those of the state after it
-  pub item_turned : (d : TableSchema) (number : ℕ) (batch : List RowChange)
-      → map.get (catalog_of old) name ≡ Some d → number ≡ number_of old
-      → batch ≡ item_changes d number moment place found to
-      → number_of old < NUMBERS_END → is_same found to ≡ false
-      → IfSome to (IsStored d place) → IfSome to IsItemOfValues → moment < 2 ^ 64
-      → Turns batch s after
-  item_turned d number batch described numbered is room differ stored given fits =
-      let same : t.description ≡ d = some _ _
-      (sym (known before old s name t stands at) ∙ described) in
-      subst (λ cs. Turns cs s after)
-      (ap (λ o. item_changes t.description s.next_number moment place o to) (sym there)
-      ∙ (λ i. item_changes (same i) (sym (numbered ∙ stands.number) i) moment place found to)
-      ∙ sym is)
-      (item_turns s moment name t place to stands.valid stands.rows.held
-      (omega (arith, room, stands.number)) at (ap (λ o. is_same o to) (sym there) ∙ differ)
-      (λ item e. subst (λ d. IsStored d place item) (sym same)
-      (of_some (IsStored d place) to item stored e)) given fits)
+  module _ (r : Trim) (is : IsTrim stands.rows.layout t moment r) (d : TableSchema) (number : ℕ)
+      (batch : List RowChange) (described : map.get (catalog_of old) name ≡ Some d)
+      (numbered : number ≡ number_of old)
+      (written : batch ≡ write_changes d number moment place found to
+      (number_at name (trimmed_of old)) r.number r.leftovers.items)
+      (differ : is_same found to ≡ false) where
+    -- the table then
+    abbrev table_after : Table
+    table_after = with_write s.next_number moment t place to
 
-  -- the tables stand for that
-  pub item_stands : (now : DiskState) (new : Tables) → Holds now new.engine after → IsValid after
-      → new.catalog ≡ old.catalog → new.live ≡ old.live → new.family ≡ old.family
-      → number_of new ≡ number_of old + 1 → Stands now new after
-  item_stands now new holds valid catalog live family number = record {
-    catalog = catalog ∙ stands.catalog ∙ sym (descriptions-stay s.tables name t
-        (with_write s.next_number moment t place to) at refl);
-    number = number ∙ ap (λ n. n + 1) stands.number;
-    family = family ∙ stands.family;
-    live = still_live old.catalog new.catalog old.live new.live catalog live stands.live;
-    rows = holds;
-    valid = valid;
-  }
+    same : t.description ≡ d
+    same = some _ _ (sym (known before old s name t stands at) ∙ described)
+
+    differs : is_same (map.get t.items place) to ≡ false
+    differs = ap (λ o. is_same o to) (sym there) ∙ differ
+
+    -- what was trimmed before
+    trimmed_is : number_at name (trimmed_of old) ≡ t.trimmed
+    trimmed_is = stands.trimmed name ∙ ap (λ o. option_map_or (λ (t : Table). t.trimmed) o 0) at
+
+    number_then : table_after.trimmed ≡ r.number
+    number_then = trimmed_then s name t at stands.valid moment place to differs stands.rows.layout r is
+
+    -- the row changes in words of the state
+    in_state : batch ≡ write_changes t.description s.next_number moment place (map.get t.items place)
+        to t.trimmed r.number r.leftovers.items
+    in_state = written
+        ∙ (λ i. write_changes (sym same i) ((numbered ∙ stands.number) i) moment place (there i) to
+        (trimmed_is i) r.number r.leftovers.items)
+
+    -- They turn the rows of the state into those of the state after it.
+    pub item_turned : number_of old < NUMBERS_END → IfSome to (IsStored d place)
+        → IfSome to IsItemOfValues → moment < 2 ^ 64 → Turns batch s after
+    item_turned room stored given fits =
+        subst (λ cs. Turns cs s after)
+        (ap (λ n. write_changes t.description s.next_number moment place (map.get t.items place) to
+        t.trimmed n r.leftovers.items) number_then
+        ∙ sym in_state)
+        (item_turns s moment name t place to r.leftovers.items stands.valid stands.rows.held
+        (omega (arith, room, stands.number)) at differs
+        (λ item e. subst (λ d. IsStored d place item) (sym same)
+        (of_some (IsStored d place) to item stored e)) given fits
+        (left_then s name t at stands.valid moment place to differs stands.rows.layout r is))
+
+    -- the rows of the stream's family show what the front is after it
+    pub item_leftovers : T (is_distinct batch) → (family : ℕ) → d.stream_family ≡ Some family
+        → leftovers (changed_rows stands.rows.layout batch) family r.number
+        ≡ drop 2 (leftovers stands.rows.layout family r.number)
+    item_leftovers distinct family stream = leftovers_then s name t at stands.valid moment place to
+        differs stands.rows.layout r is family
+        (ap (λ (x : TableSchema). x.stream_family) same ∙ stream)
+        (stands_past before old.engine stands.rows.layout stands.rows.is) batch in_state distinct
+
+    -- the families of another table show what they showed
+    others_stay : T (is_distinct batch) → (q : List ℕ) (v : Table) (family : ℕ)
+        → bytes_eq name q ≡ false → map.get s.tables q ≡ Some v
+        → v.description.stream_family ≡ Some family → (key : List ℕ)
+        → shown (changed_rows stands.rows.layout batch) family key
+        ≡ shown stands.rows.layout family key
+    others_stay distinct q v family apart at_v stream = shown_elsewhere stands.rows.layout batch
+        distinct (stands_past before old.engine stands.rows.layout stands.rows.is) family
+        (subst (AreOthers family) (sym in_state)
+        (write_others t.description s.next_number moment place (map.get t.items place) to t.trimmed
+        r.number r.leftovers.items family
+        (λ own. false≢true (sym apart ∙ (bytes_eq-Decides name q).1
+        (sym (stands.valid.families q name v t family at_v at
+        (stream_family v.description family stream) own))))))
+
+    -- so what is known of fronts is so
+    fronts_then : T (is_distinct batch) → (new : List Front)
+        → IsNoted d name moment r (fronts_of old) new
+        → AreFronts (changed_rows stands.rows.layout batch) after.tables new
+    fronts_then distinct new noted = fronts_put stands.rows.layout s.tables name (fronts_of old)
+        (stands.fronts stands.rows.layout stands.rows.is)
+        (changed_rows stands.rows.layout batch) table_after new
+        (own d.stream_family refl) (others d.stream_family refl) (others_stay distinct)
+      where
+        own : (o : Option ℕ) → d.stream_family ≡ o → (f : Front) → front_at name new ≡ Some f
+            → IsFront (changed_rows stands.rows.layout batch) table_after f
+        own (Some family) e f told = front_then s name t at stands.valid moment place to differs
+            stands.rows.layout r is family (ap (λ (x : TableSchema). x.stream_family) same ∙ e)
+            (changed_rows stands.rows.layout batch) (item_leftovers distinct family e) f
+            ((noted.stream family e).own f told)
+        own None e f told =
+            let (u, at_u, front) = stands.fronts stands.rows.layout stands.rows.is name f
+            (ap (front_at name) (sym (noted.none e)) ∙ told) in
+            front_stays s name t at stands.valid moment place to differs stands.rows.layout r is
+            (ap (λ (x : TableSchema). x.stream_family) same ∙ e)
+            (changed_rows stands.rows.layout batch) f
+            (subst (λ v. IsFront stands.rows.layout v f) (some _ _ (sym at_u ∙ at)) front)
+
+        others : (o : Option ℕ) → d.stream_family ≡ o → (q : List ℕ) → bytes_eq name q ≡ false
+            → front_at q new ≡ front_at q (fronts_of old)
+        others (Some family) e q apart = (noted.stream family e).others q apart
+        others None e q apart = ap (front_at q) (noted.none e)
+
+    -- The tables stand for the state after it.
+    pub item_stands : (now : DiskState) (new : Tables) → Holds now new.engine after → IsValid after
+        → HasRows now new (changed_rows stands.rows.layout batch) → T (is_distinct batch)
+        → new.catalog ≡ old.catalog → new.live ≡ old.live → new.family ≡ old.family
+        → IsRenumbered name r.number (trimmed_of old) (trimmed_of new)
+        → IsNoted d name moment r (fronts_of old) (fronts_of new)
+        → number_of new ≡ number_of old + 1 → Stands now new after
+    item_stands now new holds valid rows distinct catalog live family trimmed noted next = record {
+      catalog = catalog ∙ stands.catalog ∙ sym (descriptions-stay s.tables name t table_after at refl);
+      number = next ∙ ap (λ n. n + 1) stands.number;
+      family = family ∙ stands.family;
+      live = still_live old.catalog new.catalog old.live new.live catalog live stands.live;
+      trimmed = trimmed-put s.tables name (trimmed_of old) stands.trimmed table_after
+          (trimmed_of new)
+          (subst (λ n. IsRenumbered name n (trimmed_of old) (trimmed_of new)) (sym number_then)
+          trimmed);
+      rows = holds;
+      fronts = fronts_of_rows now new (changed_rows stands.rows.layout batch) after.tables rows
+          (fronts_then distinct (fronts_of new) noted);
+      valid = valid;
+    }
 
 -- ---- a table
 
+-- each of the row changes is of the catalog
+abbrev OfCatalog : List RowChange → Type 0
+OfCatalog [] = Unit {0}
+OfCatalog (c ∷ cs) = (c.family ≡ catalog_family) × OfCatalog cs
+
+-- so none is of another family
+catalog_others : (family : ℕ) → 1 ≤ family → (cs : List RowChange) → OfCatalog cs
+    → AreOthers family cs
+catalog_others family some [] of = tt
+catalog_others family some (c ∷ cs) of =
+    let own : c.family ≡ 0 = of.0 in (
+      λ same. let e : c.family ≡ family = same in omega (arith, own, e, some),
+      catalog_others family some cs of.1,
+    )
+
 module _ (before : DiskState) (old : Tables) (s : State) (stands : Stands before old s) where
+  -- row changes of the catalog leave what is known of fronts
+  catalog_fronts : (batch : List RowChange) → T (is_distinct batch) → OfCatalog batch
+      → AreFronts (changed_rows stands.rows.layout batch) s.tables (fronts_of old)
+  catalog_fronts batch distinct of = fronts_alike stands.rows.layout
+      (changed_rows stands.rows.layout batch) s.tables (fronts_of old)
+      (λ name t family at stream. shown_elsewhere stands.rows.layout batch distinct
+      (stands_past before old.engine stands.rows.layout stands.rows.is) family
+      (catalog_others family
+      (stream_within s name t (stands.valid.tables name t at) family stream).0 batch of))
+      (stands.fronts stands.rows.layout stands.rows.is)
+
   -- a table less
   pub drop_turned : (name : List ℕ) (d : TableSchema) (batch : List RowChange)
       → map.get (catalog_of old) name ≡ Some d → batch ≡ drop_changes d
@@ -137,24 +277,38 @@ module _ (before : DiskState) (old : Tables) (s : State) (stands : Stands before
       → Holds now new.engine (without_table s name) → IsValid (without_table s name)
       → new.catalog ≡ map.remove old.catalog name
       → new.live ≡ without_all (families_of d) old.live → new.family ≡ old.family
-      → number_of new ≡ number_of old + 1 → Stands now new (without_table s name)
-  drop_stands name d now new described holds valid catalog live family number = record {
-    catalog = catalog ∙ ap (λ (m : Texts TableSchema). map.remove m name) stands.catalog
-        ∙ sym (descriptions-remove s.tables name);
-    number = number ∙ ap (λ n. n + 1) stands.number;
-    family = family ∙ stands.family;
-    live = still_live (map.remove old.catalog name) new.catalog
-        (without_all (families_of d) old.live) new.live catalog live
-        (live_remove old.catalog old.live stands.live d name described
-        (λ other e f at apart of_other own.
-        let (t, there_t, same_t) = there before old s name d stands described in
-        let (u, there_u, same_u) = there before old s other e stands at in
-        apart (stands.valid.families other name u t f there_u there_t
-        (subst (λ (x : TableSchema). Contains (families_of x) f) (sym same_u) of_other)
-        (subst (λ (x : TableSchema). Contains (families_of x) f) (sym same_t) own))));
-    rows = holds;
-    valid = valid;
-  }
+      → trimmed_of new ≡ without name (trimmed_of old)
+      → fronts_of new ≡ without_front name (fronts_of old)
+      → number_of new ≡ number_of old + 1
+      → (batch : List RowChange) → batch ≡ drop_changes d → T (is_distinct batch)
+      → HasRows now new (changed_rows stands.rows.layout batch)
+      → Stands now new (without_table s name)
+  drop_stands name d now new described holds valid catalog live family trimmed fronts number batch is
+      distinct rows = record {
+        catalog = catalog ∙ ap (λ (m : Texts TableSchema). map.remove m name) stands.catalog
+            ∙ sym (descriptions-remove s.tables name);
+        number = number ∙ ap (λ n. n + 1) stands.number;
+        family = family ∙ stands.family;
+        live = still_live (map.remove old.catalog name) new.catalog
+            (without_all (families_of d) old.live) new.live catalog live
+            (live_remove old.catalog old.live stands.live d name described
+            (λ other e f at apart of_other own.
+            let (t, there_t, same_t) = there before old s name d stands described in
+            let (u, there_u, same_u) = there before old s other e stands at in
+            apart (stands.valid.families other name u t f there_u there_t
+            (subst (λ (x : TableSchema). Contains (families_of x) f) (sym same_u) of_other)
+            (subst (λ (x : TableSchema). Contains (families_of x) f) (sym same_t) own))));
+        trimmed = subst (AreTrimmedOf (map.remove s.tables name)) (sym trimmed)
+            (trimmed-remove s.tables name (trimmed_of old) stands.trimmed);
+        rows = holds;
+        fronts = fronts_of_rows now new (changed_rows stands.rows.layout batch)
+            (map.remove s.tables name) rows
+            (subst (AreFronts (changed_rows stands.rows.layout batch) (map.remove s.tables name))
+            (sym fronts)
+            (fronts_gone (changed_rows stands.rows.layout batch) s.tables name (fronts_of old)
+            (catalog_fronts batch distinct (subst OfCatalog (sym is) (refl, tt)))));
+        valid = valid;
+      }
 
   module _ (d : TableSchema) (few : map.len (catalog_of old) < MOST_TABLES) (made : IsMade d)
       (is_new : IsNew d) (number : d.number ≡ number_of old)
@@ -181,19 +335,33 @@ module _ (before : DiskState) (old : Tables) (s : State) (stands : Stands before
     pub table_stands : (now : DiskState) (new : Tables) → Holds now new.engine (with_table s d)
         → IsValid (with_table s d) → new.catalog ≡ map.insert old.catalog d.name d
         → new.live ≡ with_all (families_of d) old.live
-        → new.family ≡ old.family + length (families_of d)
-        → number_of new ≡ number_of old + 1 → Stands now new (with_table s d)
-    table_stands now new holds valid catalog live families numbers = record {
-      catalog = catalog ∙ ap (λ (m : Texts TableSchema). map.insert m d.name d) stands.catalog
-          ∙ sym (descriptions-insert s.tables d.name (new_table d));
-      number = numbers ∙ ap (λ n. n + 1) stands.number;
-      family = families ∙ ap (λ n. n + length (families_of d)) stands.family;
-      live = still_live (map.insert old.catalog d.name d) new.catalog
-          (with_all (families_of d) old.live) new.live catalog live
-          (live_insert old.catalog old.live stands.live d free);
-      rows = holds;
-      valid = valid;
-    }
+        → new.family ≡ old.family + length (families_of d) → new.trimmed ≡ old.trimmed
+        → new.fronts ≡ old.fronts → number_of new ≡ number_of old + 1
+        → (next : ℕ) (batch : List RowChange) → batch ≡ creation_changes old.family next d
+        → T (is_distinct batch) → HasRows now new (changed_rows stands.rows.layout batch)
+        → Stands now new (with_table s d)
+    table_stands now new holds valid catalog live families trimmed fronts numbers next batch is
+        distinct rows = record {
+          catalog = catalog ∙ ap (λ (m : Texts TableSchema). map.insert m d.name d) stands.catalog
+              ∙ sym (descriptions-insert s.tables d.name (new_table d));
+          number = numbers ∙ ap (λ n. n + 1) stands.number;
+          family = families ∙ ap (λ n. n + length (families_of d)) stands.family;
+          live = still_live (map.insert old.catalog d.name d) new.catalog
+              (with_all (families_of d) old.live) new.live catalog live
+              (live_insert old.catalog old.live stands.live d free);
+          trimmed = still_trimmed (map.insert s.tables d.name (new_table d)) old new trimmed
+              (trimmed-new s.tables d.name (trimmed_of old) stands.trimmed (new_table d)
+              (absent before old s d.name stands free) refl);
+          rows = holds;
+          fronts = fronts_of_rows now new (changed_rows stands.rows.layout batch)
+              (map.insert s.tables d.name (new_table d)) rows
+              (subst (λ known. AreFronts (changed_rows stands.rows.layout batch)
+              (map.insert s.tables d.name (new_table d)) known.items) (sym fronts)
+              (fronts_new (changed_rows stands.rows.layout batch) s.tables d.name (fronts_of old)
+              (catalog_fronts batch distinct (subst OfCatalog (sym is) (refl, (refl, tt))))
+              (new_table d) (absent before old s d.name stands free)));
+          valid = valid;
+        }
 
     -- or it can't be had
     pub table_lacked : (n : ℕ) → table_lack (number_of old) old.family ≡ Some n

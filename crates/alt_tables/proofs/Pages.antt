@@ -163,7 +163,7 @@ kept_row d i (p ∷ page) (x ∷ xs) (suc k) e kept within is =
 
 module _ {X : Type 0} (columns : X → Columns) where
   -- the row of an item is shown
-  abbrev as_row : X → Option Columns
+  abbrev pub as_row : X → Option Columns
   as_row item = Some (columns item)
 
   -- the row of an item at its place
@@ -171,7 +171,7 @@ module _ {X : Type 0} (columns : X → Columns) where
   row_at e = (e.0, columns e.1)
 
   -- the rows that are shown are those of all
-  shown_of-rows : (es : List (List ℕ × X)) → shown_of as_row es ≡ map row_at es
+  pub shown_of-rows : (es : List (List ℕ × X)) → shown_of as_row es ≡ map row_at es
   shown_of-rows [] = refl
   shown_of-rows (e ∷ es) = ap (λ rows. row_at e ∷ rows) (shown_of-rows es)
 
@@ -182,7 +182,7 @@ module _ {X : Type 0} (columns : X → Columns) where
   columns-rows (e ∷ es) = ap (λ cs. columns e.1 ∷ cs) (columns-rows es)
 
   -- the row of an item that may not be there
-  row_of : (o : Option X) → option_map columns o ≡ option_and_then as_row o
+  pub row_of : (o : Option X) → option_map columns o ≡ option_and_then as_row o
   row_of None = refl
   row_of (Some item) = refl
 

@@ -4,18 +4,22 @@ use Rattle.std.specs.Prelude.{◌↔◌}
 use Rattle.std.specs.Ordering.{eq_by_cmp}
 use Rattle.std.specs.FinMap as map
 use Rattle.alt_cells.specs.Changes.{Columns}
-use Rattle.alt_disk.specs.Disk.{DiskState, Goes}
-use Rattle.alt_disk.proofs.Runs.{trusted_on, trusted_back, tells_of}
-use Rattle.alt_engine.specs.InHand.{Reads as EngineReads}
+use Rattle.alt_disk.specs.Disk.{DiskState, Goes, IsTrusted}
+use Rattle.alt_disk.proofs.Calls.{goes_refl, goes_on}
+use Rattle.alt_disk.proofs.Runs.{quiet_start, quiet_then, trusted_on, trusted_back, tells_of}
+use Rattle.alt_engine.specs.InHand.{Reads as EngineReads, Stands as EngineStands}
 use Rattle.alt_engine.specs.Opened.{StaysOn}
 use Rattle.alt_layout.specs.Layout.{Layout, shown}
 use Rattle.alt_machine.specs.State.{State, Table, Texts, descriptions}
 use Rattle.alt_machine.proofs.Descriptions.{get-descriptions, no_description, table_of_description}
 use Rattle.alt_schema.specs.declared.schema.TableSchema.{TableSchema}
 use Rattle.alt_views.specs.ItemRows.{IsReadItem, item_columns}
-use Rattle.alt_tables.specs.Stands.{AreReady, Stands, catalog_of}
+use Rattle.alt_opening.proofs.Engine.{one_layout_in_hand}
+use Rattle.alt_tables.specs.Fronts.{AreFronts}
+use Rattle.alt_tables.specs.Stands.{AreReady, HasRows, Keeps, Stands, catalog_of, trimmed_of}
 use Rattle.alt_tables.specs.declared.tables.Tables.{Tables}
 use Rattle.alt_opening.specs.Live.{AreLiveIn}
+use Rattle.alt_opening.specs.Trimmed.{AreTrimmedOf, number_at}
 use Rattle.alt_opening.proofs.Ties.{tied}
 use Rattle.alt_tables.proofs.Holding.{one_held}
 use Rattle.alt_views.proofs.ItemRowLaws.{item_columns-one}
@@ -115,10 +119,17 @@ pub still_live : (m n : Texts TableSchema) (fs gs : List ℕ) → n ≡ m → gs
 still_live m n fs gs catalog live are = subst (λ (o : Texts TableSchema). AreLiveIn o gs)
     (sym catalog) (subst (AreLiveIn m) (sym live) are)
 
+-- what was trimmed of tables stays so
+pub still_trimmed : (tables : Texts Table) (t u : Tables) → u.trimmed ≡ t.trimmed
+    → AreTrimmedOf tables (trimmed_of t) → AreTrimmedOf tables (trimmed_of u)
+still_trimmed tables t u trimmed are name =
+    ap (λ known. number_at name known.items) trimmed ∙ are name
+
 -- ---- a call that reads alone
 
 module _ (old new : DiskState) (t u : Tables) (catalog : u.catalog ≡ t.catalog)
-    (live : u.live ≡ t.live) (family : u.family ≡ t.family) (goes : Goes old new)
+    (live : u.live ≡ t.live) (family : u.family ≡ t.family) (trimmed : u.trimmed ≡ t.trimmed)
+    (fronts : u.fronts ≡ t.fronts) (goes : Goes old new)
     (same : IsTrue old.tells → StaysOn old new t.engine u.engine) where
   -- the tables stand for what they stood for
   stays_on : (s : State) → Stands old t s → Stands new u s
@@ -128,6 +139,7 @@ module _ (old new : DiskState) (t u : Tables) (catalog : u.catalog ≡ t.catalog
         number = on.next ∙ stands.number;
         family = family ∙ stands.family;
         live = still_live t.catalog u.catalog t.live u.live catalog live stands.live;
+        trimmed = still_trimmed s.tables t u trimmed stands.trimmed;
         rows = record {
           trusted = trusted_on old new goes stands.rows.trusted;
           layout = stands.rows.layout;
@@ -135,6 +147,10 @@ module _ (old new : DiskState) (t u : Tables) (catalog : u.catalog ≡ t.catalog
           shows = stands.rows.shows;
           held = stands.rows.held;
         };
+        fronts = λ m rows. subst (λ known. AreFronts m s.tables known.items) (sym fronts)
+            (stands.fronts m (subst (λ l. EngineStands old t.engine l)
+            (one_layout_in_hand new u.engine stands.rows.layout m
+            (on.stands stands.rows.layout stands.rows.is) rows) stands.rows.is));
         valid = stands.valid;
       }
 
@@ -146,6 +162,67 @@ module _ (old new : DiskState) (t u : Tables) (catalog : u.catalog ≡ t.catalog
         let (r, before) = ready (trusted_back old new goes stands.rows.trusted) in
         subst (Stands old t) (one_stands new u r s (stays_on r before) stands) before,
   )
+
+-- ---- a call that keeps what is known
+
+module _ (old new : DiskState) (t u : Tables) (keeps : Keeps old new t u) where
+  -- the tables stand for what they stood for
+  pub stays_kept : AreReady old t → (s : State) → Stands old t s ↔ Stands new u s
+  stays_kept = stays old new t u keeps.catalog keeps.live keeps.family keeps.trimmed keeps.fronts
+      keeps.reads.goes keeps.same
+
+  pub stands_kept : (s : State) → Stands old t s → Stands new u s
+  stands_kept = stays_on old new t u keeps.catalog keeps.live keeps.family keeps.trimmed
+      keeps.fronts keeps.reads.goes keeps.same
+
+  -- they are ready
+  pub ready_kept : AreReady old t → AreReady new u
+  ready_kept ready trusted =
+      let (s, stands) = ready (trusted_back old new keeps.reads.goes trusted) in
+      (s, stands_kept s stands)
+
+  -- and the rows are those that they were
+  pub rows_kept : IsTrusted old → (l : Layout) → HasRows old t l → HasRows new u l
+  rows_kept trusted l rows = (keeps.same (tells_of old trusted)).stands l rows
+
+-- one after another
+pub keeps_then : (a b c : DiskState) (t u v : Tables) → Keeps a b t u → Keeps b c u v → Keeps a c t v
+keeps_then a b c t u v first then = record {
+  catalog = then.catalog ∙ first.catalog;
+  live = then.live ∙ first.live;
+  family = then.family ∙ first.family;
+  trimmed = then.trimmed ∙ first.trimmed;
+  fronts = then.fronts ∙ first.fronts;
+  limits = then.limits ∙ first.limits;
+  number = then.number ∙ first.number;
+  reads = record {
+    goes = goes_on a b c first.reads.goes then.reads.goes;
+    quiet = λ tells. quiet_then a b c (first.reads.quiet tells)
+        (then.reads.quiet (subst IsTrue (sym first.reads.goes.tells) tells));
+  };
+  same = λ tells.
+      let one = first.same tells in
+      let two = then.same (subst IsTrue (sym first.reads.goes.tells) tells) in
+      record {
+        next = two.next ∙ one.next;
+        reads = λ l reads. two.reads l (one.reads l reads);
+        stands = λ l stands. two.stands l (one.stands l stands);
+      };
+}
+
+-- no call keeps everything
+pub keeps_nothing : (a : DiskState) (t : Tables) → Keeps a a t t
+keeps_nothing a t = record {
+  catalog = refl;
+  live = refl;
+  family = refl;
+  trimmed = refl;
+  fronts = refl;
+  limits = refl;
+  number = refl;
+  reads = record { goes = goes_refl a; quiet = λ tells. quiet_start a };
+  same = λ tells. record { next = refl; reads = λ l reads. reads; stands = λ l stands. stands };
+}
 
 -- ---- the item that a row shows
 

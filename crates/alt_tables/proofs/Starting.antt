@@ -38,7 +38,7 @@ shows_start = record {
   catalog = λ key. nothing 0 key ∙ sym (no_catalog key);
   items = λ name t at key. no_table name t at;
   indexes = λ name t number i at at_index key. no_table name t at;
-  changes = λ name t family at stream key. no_table name t at;
+  changes = λ name t family at stream key counts. no_table name t at;
   beyond = λ family key high. nothing family key;
 }
 

@@ -1,36 +1,23 @@
--- The rows of a stream after an item changes: those of its changes with the one that the write leaves.
-use Rattle.std.proofs.Common.{◌≡◌, ◌≢◌, ◌<◌, ◌+◌, refl, sym, ap, subst, ◌∙◌, ℕ, suc, Bool, true, false, cond, List, [], ◌∷◌, ◌++◌, map, length, Option, Some, None, option_map, slice_get, Contains, arith}
+-- The family of a table's stream, and the changes of its rows by a write: they are of no other family.
+use Rattle.std.proofs.Common.{◌≡◌, ◌≢◌, ◌<◌, refl, sym, ap, ◌∙◌, ℕ, suc, Bool, true, false, List, [], ◌∷◌, ◌++◌, map, length, Option, Some, None, option_map, slice_get, Contains, arith}
 use Rattle.std.proofs.lemmas.Bool.{eqb-true}
 use Rattle.std.proofs.lemmas.Option.{slice_get-map, slice_get_within, get_or_from_slice_get}
-use Rattle.std.specs.FinMap as finite
 use Rattle.std.specs.Option.{option_map_or, option_to_list}
-use Rattle.std.specs.Ordering.{eq_by_cmp}
-use Rattle.std.specs.Prelude.{◌==◌, ◌&&◌, ◌||◌, if◌then◌else◌, is_some}
+use Rattle.std.specs.Prelude.{◌==◌, ◌&&◌, ◌||◌, if◌then◌else◌}
 use Rattle.std.specs.Str.{bytes_eq}
 use Rattle.alt_cells.specs.Batches.{has_row}
-use Rattle.alt_cells.specs.Keys.{key_cmp}
+use Rattle.alt_cells.specs.Changes.{change_between}
 use Rattle.alt_cells.specs.declared.batch.RowChange.{RowChange}
-use Rattle.alt_cells.proofs.ChangeLaws.{written-change_between}
-use Rattle.alt_changes.specs.ChangeRows.{change_columns, row_change, row_changes, row_key}
-use Rattle.alt_changes.proofs.RowLaws.{change_can_show}
-use Rattle.alt_layout.specs.Layout.{Layout, shown, shown_by, change_of}
-use Rattle.alt_writes.specs.Writes.{Write}
-use Rattle.alt_layout.specs.Writes.{with_write}
-use Rattle.alt_machine.specs.Changes.{change_left, with_change}
-use Rattle.alt_machine.specs.Same.{is_same}
+use Rattle.alt_changes.specs.ChangeRows.{row_change, row_changes, row_key}
+use Rattle.alt_changes.specs.TrimRows.{hidden, trim_changes, trimmed_changes, trimmed_row}
 use Rattle.alt_machine.specs.Sources.{index_at}
 use Rattle.alt_machine.specs.State.{Change, families_of}
-use Rattle.alt_machine.specs.Valid.{AreChanges, IsChange}
-use Rattle.alt_machine.specs.declared.TheConstants.{NUMBERS_END}
 use Rattle.alt_schema.specs.Indexes.{indexes}
 use Rattle.alt_schema.specs.declared.schema.IndexSchema.{IndexSchema}
 use Rattle.alt_schema.specs.declared.schema.TableSchema.{TableSchema}
 use Rattle.alt_opening.specs.Families.{HasOwnFamilies}
-use Rattle.alt_opening.specs.StateRows.{keyed_changes}
-use Rattle.alt_tables.proofs.ChangeLaws.{ShowsWrite, AreOthers, one_change}
+use Rattle.alt_tables.proofs.ChangeLaws.{AreOthers, others-append}
 use Rattle.alt_tables.proofs.IndexFamilies.{index_families, index_at_families, others-index_changes}
-use Rattle.alt_opening.proofs.KeptChanges.{are_small, each_so}
-use Rattle.alt_opening.proofs.StreamKeys.{keyed_more}
 use Rattle.alt_value.specs.Tree.{Pair}
 use Rattle.alt_views.specs.IndexRows.{index_changes}
 
@@ -84,6 +71,29 @@ stream_index_differs d differ n i at f stream same =
 
 -- ---- the change of a row of a stream
 
+-- what trimming changes is of no other family either
+pub others-trim_changes : (d : TableSchema) (before after : ℕ) (leftovers : List ℕ) (family : ℕ)
+    → ((f : ℕ) → d.stream_family ≡ Some f → f ≢ family)
+    → AreOthers family (trim_changes d before after leftovers)
+others-trim_changes d before after leftovers family apart = by d.stream_family apart
+  where
+    hidden_others : (f : ℕ) → f ≢ family → (ks : List ℕ) → AreOthers family (map (hidden f) ks)
+    hidden_others f other [] = tt
+    hidden_others f other (k ∷ ks) = (other, hidden_others f other ks)
+
+    front : (f : ℕ) → f ≢ family → (b : Bool) → AreOthers family (if b then [] else change_between f
+        (row_key 0) (trimmed_row before) (trimmed_row after) ∷ [])
+    front f other true = tt
+    front f other false = (other, tt)
+
+    by : (o : Option ℕ) → ((f : ℕ) → o ≡ Some f → f ≢ family)
+        → AreOthers family (option_map_or
+        (λ f. trimmed_changes f before after ++ map (hidden f) leftovers) o [])
+    by None apart = tt
+    by (Some f) apart = others-append family (trimmed_changes f before after)
+        (map (hidden f) leftovers) (front f (apart f refl) (before == after))
+        (hidden_others f (apart f refl) leftovers)
+
 -- it is of no other family
 pub others-row_changes : (d : TableSchema) (left : Option Change) (family : ℕ)
     → ((f : ℕ) → d.stream_family ≡ Some f → f ≢ family) → AreOthers family (row_changes d left)
@@ -116,62 +126,3 @@ change_new d differ old new c of_table family stream key =
       others-index_changes d old new family (indexes d)
           (λ n i at. stream_index_differs d differ n i at family stream),
     )
-
--- ---- a stream after a write
-
-module _ (d : TableSchema) (family : ℕ) (stream : d.stream_family ≡ Some family) (n moment : ℕ)
-    (old new : Option (List Pair)) (differ : is_same old new ≡ false) where
-  -- the change that the write leaves
-  abbrev change : Change
-  change = record { number = n; moment = moment; old = old; new = new }
-
-  is_left : change_left n moment old new ≡ Some change
-  is_left = ap (λ b. if b then None else Some change) differ
-
-  -- its row
-  row_left : row_changes d (change_left n moment old new) ≡ row_change family change ∷ []
-  row_left i = option_map_or (λ f. map (row_change f) (option_to_list (is_left i))) (stream i) []
-
-  -- the list with it
-  list_left : (cs : List Change)
-      → with_change d (change_left n moment old new) cs ≡ cs ++ change ∷ []
-  list_left cs i = if is_some (stream i) then cs ++ option_to_list (is_left i) else cs
-
-  -- What the family shows after the write are the changes with that one.
-  pub stream_shows : (l : Layout) (w : Write) → ShowsWrite l w → (cs : List Change)
-      → AreChanges d n cs → AreChanges d (n + 1) (with_change d (change_left n moment old new) cs)
-      → n < NUMBERS_END
-      → ((key : List ℕ) → change_of family key w.changes
-      ≡ change_of family key (row_changes d (change_left n moment old new)))
-      → ((key : List ℕ) → shown l family key
-      ≡ option_map change_columns (finite.get (keyed_changes cs) key))
-      → (key : List ℕ) → shown (with_write l w) family key
-      ≡ option_map change_columns (finite.get
-      (keyed_changes (with_change d (change_left n moment old new) cs)) key)
-  stream_shows l w law cs before after room changes shows key =
-      law family key
-      ∙ ap (λ c. shown_by c (shown l family key))
-      (changes key ∙ ap (change_of family key) row_left
-      ∙ one_change (row_change family change) key)
-      ∙ ap (shown_by (if eq_by_cmp key_cmp key (row_key n) then Some (row_change family change)
-      else None)) (shows key)
-      ∙ by (eq_by_cmp key_cmp key (row_key n)) (finite.get (keyed_changes cs) key)
-      ∙ ap (option_map change_columns) (sym (keyed_more cs change
-      (are_small d n cs (omega (arith, room)) before) before.rise
-      (are_small d (n + 1) (cs ++ change ∷ []) (omega (arith, room)) with_it) with_it.rise
-      (omega (arith, room))
-      (each_so (IsChange d n) (λ (x : Change). x.number < n) cs (λ c is. is.number) before.each)
-      key))
-      ∙ ap (λ list. option_map change_columns (finite.get (keyed_changes list) key))
-      (sym (list_left cs))
-    where
-      with_it : AreChanges d (n + 1) (cs ++ change ∷ [])
-      with_it = subst (AreChanges d (n + 1)) (list_left cs) after
-
-      by : (b : Bool) (o : Option Change)
-          → shown_by (if b then Some (row_change family change) else None)
-          (option_map change_columns o)
-          ≡ option_map change_columns (cond b (Some change) o)
-      by true o = written-change_between family (row_key n) None (Some (change_columns change))
-          (change_can_show change)
-      by false o = refl

@@ -23,10 +23,13 @@ use Rattle.alt_tables.specs.Faults.{IsWorkFault, told_by_tables}
 use Rattle.alt_tables.specs.declared.faults.TableFault.{TableFault}
 use Rattle.alt_tables.specs.Images.{StandAt}
 use Rattle.alt_tables.specs.Merged.{IsMergedFor}
-use Rattle.alt_tables.specs.Stands.{Stands, live_of, number_of}
+use Rattle.alt_opening.proofs.Engine.{one_layout_in_hand}
+use Rattle.alt_tables.specs.Fronts.{AreFronts}
+use Rattle.alt_tables.specs.Stands.{Stands, fronts_of, live_of, number_of}
 use Rattle.alt_tables.specs.declared.tables.Tables.{Tables}
+use Rattle.alt_tables.proofs.FrontLaws.{fronts_alike}
 use Rattle.alt_tables.proofs.IndexFamilies.{index_family}
-use Rattle.alt_tables.proofs.Standing.{still_live}
+use Rattle.alt_tables.proofs.Standing.{still_live, still_trimmed}
 use Rattle.alt_tables.proofs.StreamShows.{stream_family}
 
 -- the families of a table of the state are live
@@ -52,9 +55,9 @@ shows_worked live l m s are own works shows = record {
   indexes = λ name t number i at at_index key. works.lives i.family
       (family_live s live are name t at i.family (index_family t.description number i at_index)) key
       ∙ shows.indexes name t number i at at_index key;
-  changes = λ name t family at stream key. works.lives family
+  changes = λ name t family at stream key counts. works.lives family
       (family_live s live are name t at family (stream_family t.description family stream)) key
-      ∙ shows.changes name t family at stream key;
+      ∙ shows.changes name t family at stream key counts;
   beyond = λ family key high. ⊎_elim
       (λ (same : (k : List ℕ) → shown m family k ≡ shown l family k).
       same key ∙ shows.beyond family key high)
@@ -86,14 +89,16 @@ module _ (old new : DiskState) (t : Tables) (s : State) (stands : Stands old t s
 
   -- and the tables stand for it after work that is done
   pub worked_stands : (u : Tables) → Goes old new → u.catalog ≡ t.catalog → u.live ≡ t.live
-      → u.family ≡ t.family → number_of u ≡ number_of t
+      → u.family ≡ t.family → u.trimmed ≡ t.trimmed → u.fronts ≡ t.fronts
+      → number_of u ≡ number_of t
       → (m : Layout) × EngineStands new u.engine m × Works live stands.rows.layout m
       → Stands new u s
-  worked_stands u goes catalog lives family number after = record {
+  worked_stands u goes catalog lives family trimmed fronts number after = record {
     catalog = catalog ∙ stands.catalog;
     number = number ∙ stands.number;
     family = family ∙ stands.family;
     live = still_live t.catalog u.catalog t.live u.live catalog lives stands.live;
+    trimmed = still_trimmed s.tables t u trimmed stands.trimmed;
     rows = record {
       trusted = trusted_on old new goes stands.rows.trusted;
       layout = after.0;
@@ -102,6 +107,13 @@ module _ (old new : DiskState) (t : Tables) (s : State) (stands : Stands old t s
           stands.rows.shows;
       held = stands.rows.held;
     };
+    fronts = λ m rows. subst (λ x. AreFronts x s.tables (fronts_of u))
+        (one_layout_in_hand new u.engine after.0 m after.1 rows)
+        (fronts_alike stands.rows.layout after.0 s.tables (fronts_of u)
+        (λ name v family at stream. after.2.lives family
+        (family_live s live live_state name v at family (stream_family v.description family stream)))
+        (subst (λ known. AreFronts stands.rows.layout s.tables known.items) (sym fronts)
+        (stands.fronts stands.rows.layout stands.rows.is)));
     valid = stands.valid;
   }
 

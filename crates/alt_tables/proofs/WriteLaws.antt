@@ -1,7 +1,7 @@
 -- The rows of a state with the write of an item joined are the rows of the state after it.
 use Rattle.std.proofs.Common.{◌≡◌, ◌≢◌, ◌+◌, ◌<◌, ◌≤◌, ℕ, Bool, true, false, cond, List, [], ◌∷◌, Option, Some, None, IfSome, refl, sym, ap, subst, ◌∙◌, ◌⊎◌, inl, inr, Contains, arith}
 use Rattle.std.proofs.lemmas.Bool.{false≢true}
-use Rattle.std.proofs.Common.{append-nil}
+use Rattle.std.proofs.Common.{append-nil, append_assoc}
 use Rattle.std.proofs.lemmas.List.Elements.{All-push}
 use Rattle.std.specs.Option.{option_to_list}
 use Rattle.std.specs.Prelude.{if◌then◌else◌, ◌++◌, ◌^◌, is_some, option_map, All}
@@ -13,6 +13,7 @@ use Rattle.alt_cells.specs.Keys.{key_cmp}
 use Rattle.alt_cells.proofs.CellLaws.{key_total}
 use Rattle.alt_cells.proofs.ChangeLaws.{written-change_between}
 use Rattle.alt_changes.specs.ChangeRows.{row_changes}
+use Rattle.alt_changes.specs.TrimRows.{AreLeft, trim_changes}
 use Rattle.alt_hand.specs.InHand.{batch_write}
 use Rattle.alt_layout.specs.Layout.{Layout, shown, shown_by, change_of}
 use Rattle.alt_writes.specs.Writes.{Write}
@@ -28,19 +29,22 @@ use Rattle.alt_machine.specs.Writes.{with_item, with_write as with_row, after_it
 use Rattle.alt_machine.proofs.Families.{of_contained}
 use Rattle.alt_machine.proofs.Indexing.{index_apart}
 use Rattle.alt_machine.proofs.Looks.{at_insert}
-use Rattle.alt_machine.proofs.States.{after_item_valid, with_item_stored}
+use Rattle.alt_machine.proofs.States.{after_item_valid, change_is, changes_with, with_item_stored}
+use Rattle.alt_machine.proofs.Trimming.{kept_all}
+use Rattle.alt_machine.specs.Trimming.{kept}
 use Rattle.alt_schema.specs.Held.{IsHeld}
 use Rattle.alt_schema.specs.Indexes.{indexes}
 use Rattle.alt_schema.specs.declared.schema.IndexSchema.{IndexSchema}
 use Rattle.alt_views.specs.ItemRows.{item_columns}
-use Rattle.alt_opening.specs.StateRows.{HasMoment, IsHeldWhole, Shows, catalog_family, catalog_rows, item_rows, index_rows, change_rows, table_row, next_row}
-use Rattle.alt_tables.specs.RowChanges.{Turns, item_changes}
+use Rattle.alt_opening.specs.StateRows.{HasMoment, IsHeldWhole, IsLeftover, Shows, catalog_family, catalog_rows, item_rows, index_rows, change_rows, table_row, next_row}
+use Rattle.alt_tables.specs.RowChanges.{Turns, write_changes}
 use Rattle.alt_opening.proofs.Ties.{tied, itself}
 use Rattle.alt_tables.proofs.ChangeLaws.{ShowsWrite, one_change, other_family, AreOthers, others-append, change_of-none, change_of-front, change_of-behind}
 use Rattle.alt_opening.proofs.Families.{own_family}
 use Rattle.alt_tables.proofs.IndexShows.{change_of-index, index_shows}
 use Rattle.alt_tables.proofs.IndexFamilies.{index_family, index_family_differs, own_families, others-index_changes}
-use Rattle.alt_tables.proofs.StreamShows.{others-row_changes, stream_family, stream_family_differs, stream_index_differs, stream_shows}
+use Rattle.alt_tables.proofs.StreamShows.{others-row_changes, others-trim_changes, stream_family, stream_family_differs, stream_index_differs}
+use Rattle.alt_tables.proofs.StreamTrims.{stream_shows}
 use Rattle.alt_views.specs.IndexRows.{index_changes}
 use Rattle.alt_views.proofs.ItemRowLaws.{items_can_show}
 use Rattle.alt_opening.proofs.OneState.{some}
@@ -77,7 +81,8 @@ module _ (l : Layout) (s : State) (shows : Shows l s) (valid : IsValid s) (held 
     (place : List ℕ) (new : Option (List Pair)) (room : s.next_number < NUMBERS_END)
     (differ : is_same (map.get t.items place) new ≡ false)
     (stored : (item : List Pair) → new ≡ Some item → IsStored t.description place item)
-    (given : IfSome new IsItemOfValues) where
+    (given : IfSome new IsItemOfValues) (leftovers : List ℕ)
+    (left : AreLeft (with_row s.next_number moment t place new).trimmed leftovers) where
   -- what the write changes of the row
   abbrev change : RowChange
   change = change_between t.description.family place
@@ -120,10 +125,18 @@ module _ (l : Layout) (s : State) (shows : Shows l s) (valid : IsValid s) (held 
   is_table : IsTable s name t
   is_table = valid.tables name t at
 
-  -- and what the stream keeps
-  abbrev stream_part : List RowChange
-  stream_part = row_changes t.description
+  -- what the stream gets
+  abbrev row_part : List RowChange
+  row_part = row_changes t.description
       (change_left s.next_number moment (map.get t.items place) new)
+
+  -- and what it trims
+  abbrev trim_part : List RowChange
+  trim_part = trim_changes t.description t.trimmed changed.trimmed leftovers
+
+  -- both
+  abbrev stream_part : List RowChange
+  stream_part = row_part ++ trim_part
 
   -- changes of index rows are of none but their families
   index_part_apart : (family : ℕ)
@@ -135,8 +148,10 @@ module _ (l : Layout) (s : State) (shows : Shows l s) (valid : IsValid s) (held 
   -- and that of the stream's row, of the stream's
   stream_part_apart : (family : ℕ)
       → ((f : ℕ) → t.description.stream_family ≡ Some f → f ≢ family) → AreOthers family stream_part
-  stream_part_apart family apart = others-row_changes t.description
-      (change_left s.next_number moment (map.get t.items place) new) family apart
+  stream_part_apart family apart = others-append family row_part trim_part
+      (others-row_changes t.description
+      (change_left s.next_number moment (map.get t.items place) new) family apart)
+      (others-trim_changes t.description t.trimmed changed.trimmed leftovers family apart)
 
   -- none of those changes is of the table's own family
   rest_apart : AreOthers t.description.family (index_part ++ stream_part)
@@ -222,18 +237,21 @@ module _ (l : Layout) (s : State) (shows : Shows l s) (valid : IsValid s) (held 
             by_key (Some x) true given e = subst IsItemOfValues (some x item e) given
             by_key to false given e = held.items name q t item at e
 
-    -- the changes are as they have to be
-    after_changes : AreChanges t.description (s.next_number + 1) changed.changes
-    after_changes = ((after_item_valid s moment name t place new valid room at differ stored).tables
-        name changed (map.get-insert key_total s.tables name changed name
-        ∙ ap (λ b. cond b (Some changed) (map.get s.tables name)) (itself name))).changes
-
     -- that of the stream shows the change then
     behind : (f : ℕ) → t.description.stream_family ≡ Some f
-        → (key : List ℕ) → shown (with_write l w) f key ≡ change_rows changed key
-    behind f stream = stream_shows t.description f stream s.next_number moment
-        (map.get t.items place) new differ l w law t.changes is_table.changes
-        after_changes room
+        → (key : List ℕ) → (IsLeftover changed.trimmed key → ⊥)
+        → shown (with_write l w) f key ≡ change_rows changed key
+    behind f stream = stream_shows t.description f stream s.next_number moment t.trimmed
+        (map.get t.items place) new differ t.changes leftovers l w law valid.next_number.0
+        is_table.changes
+        (changes_with t.description s.next_number t.trimmed f (record {
+          number = s.next_number;
+          moment = moment;
+          old = map.get t.items place;
+          new = new;
+        }) t.changes stream refl
+        (change_is s moment name t place new valid room at differ stored) is_table.changes)
+        room left
         (λ key. ap (change_of f key) changes
         ∙ other_family change (index_part ++ stream_part) f key
         (stream_family_differs t.description is_table.differ f stream)
@@ -276,14 +294,15 @@ module _ (l : Layout) (s : State) (shows : Shows l s) (valid : IsValid s) (held 
     changes_after : (other : List ℕ) (u : Table) (b : Bool) → eq_by_cmp key_cmp other name ≡ b
         → cond b (Some changed) (map.get s.tables other) ≡ Some u → (f : ℕ)
         → u.description.stream_family ≡ Some f
-        → (key : List ℕ) → shown (with_write l w) f key ≡ change_rows u key
-    changes_after other u true e at_other f stream key =
-        subst (λ u. u.description.stream_family ≡ Some f
+        → (key : List ℕ) → (IsLeftover u.trimmed key → ⊥)
+        → shown (with_write l w) f key ≡ change_rows u key
+    changes_after other u true e at_other f stream key counts =
+        subst (λ u. u.description.stream_family ≡ Some f → (IsLeftover u.trimmed key → ⊥)
         → shown (with_write l w) f key ≡ change_rows u key)
-        (some _ _ at_other) (λ stream. behind f stream key) stream
-    changes_after other u false e at_other f stream key =
+        (some _ _ at_other) (λ stream. behind f stream key) stream counts
+    changes_after other u false e at_other f stream key counts =
         elsewhere f key (apart_from other u f at_other e (stream_family u.description f stream))
-        ∙ shows.changes other u f at_other stream key
+        ∙ shows.changes other u f at_other stream key counts
 
     -- the rows are then those of the state with the item
     pub shows_item : Shows (with_write l w) after
@@ -297,9 +316,10 @@ module _ (l : Layout) (s : State) (shows : Shows l s) (valid : IsValid s) (held 
       indexes = λ other u n i at_other at_index key. indexes_after other u
           (eq_by_cmp key_cmp other name) refl
           (sym (map.get-insert key_total s.tables name changed other) ∙ at_other) n i at_index key;
-      changes = λ other u f at_other stream key. changes_after other u
+      changes = λ other u f at_other stream key counts. changes_after other u
           (eq_by_cmp key_cmp other name) refl
-          (sym (map.get-insert key_total s.tables name changed other) ∙ at_other) f stream key;
+          (sym (map.get-insert key_total s.tables name changed other) ∙ at_other) f stream key
+          counts;
       beyond = λ family key high. elsewhere family key (λ of_table.
           let low = within_all family of_table in omega (arith, low.1, high))
           ∙ shows.beyond family key high;
@@ -349,15 +369,15 @@ held_after s moment name t place new held at given fits = record {
     all_left P last all = by (is_some t.description.stream_family)
         (is_same (map.get t.items place) new)
       where
-        by : (b c : Bool) → All P (if b then t.changes ++ option_to_list (if c then None else Some
-            (record {
+        by : (b c : Bool) → All P (if b then kept moment (t.changes
+            ++ option_to_list (if c then None else Some (record {
               number = s.next_number;
               moment = moment;
               old = map.get t.items place;
               new = new;
-            })) else t.changes)
-        by true true = subst (All P) (sym (append-nil t.changes)) all
-        by true false = All-push P t.changes _ all last
+            }))) else t.changes)
+        by true true = kept_all P moment _ (subst (All P) (sym (append-nil t.changes)) all)
+        by true false = kept_all P moment _ (All-push P t.changes _ all last)
         by false c = all
 
     was_held : (o : Option (List Pair)) → map.get t.items place ≡ o → IfSome o IsItemOfValues
@@ -386,23 +406,33 @@ held_after s moment name t place new held at given fits = record {
         (held.descriptions name t at)
     descriptions other u (inr old) = held.descriptions other u old
 
--- The change of an item's row, with those of its rows in the indexes and in the stream, turns the state into the one with that item.
+-- The change of an item's row, with those of its rows in the indexes and in the stream, turns the state into the one with that item,
+-- whichever rows that are left over go with it.
 pub item_turns : (s : State) (moment : ℕ) (name : List ℕ) (t : Table) (place : List ℕ)
-    (new : Option (List Pair)) → IsValid s → IsHeldWhole s → s.next_number < NUMBERS_END
+    (new : Option (List Pair)) (leftovers : List ℕ) → IsValid s → IsHeldWhole s
+    → s.next_number < NUMBERS_END
     → map.get s.tables name ≡ Some t → is_same (map.get t.items place) new ≡ false
     → ((item : List Pair) → new ≡ Some item → IsStored t.description place item)
     → IfSome new IsItemOfValues → moment < 2 ^ 64
-    → Turns (item_changes t.description s.next_number moment place (map.get t.items place) new) s
+    → AreLeft (with_row s.next_number moment t place new).trimmed leftovers
+    → Turns (write_changes t.description s.next_number moment place (map.get t.items place) new
+    t.trimmed (with_row s.next_number moment t place new).trimmed leftovers) s
     (after_item s moment name t place new)
-item_turns s moment name t place new valid held room at differ stored given fits = record {
-  shows = λ distinct l past shows. shows_item l s shows valid held.items moment name t at place new room
-      differ stored given
-      (batch_write l
-      (item_changes t.description s.next_number moment place (map.get t.items place) new)) refl refl
-      (shows_batch l
-      (batch_write l
-      (item_changes t.description s.next_number moment place (map.get t.items place) new)) distinct
-      past (omega arith));
-  valid = after_item_valid s moment name t place new valid room at differ stored;
-  held = held_after s moment name t place new held at given fits;
-}
+item_turns s moment name t place new leftovers valid held room at differ stored given fits left =
+    let changes : List RowChange =
+    write_changes t.description s.next_number moment place (map.get t.items place) new t.trimmed
+    (with_row s.next_number moment t place new).trimmed leftovers in
+    record {
+      shows = λ distinct l past shows. shows_item l s shows valid held.items moment name t at place
+          new room differ stored given leftovers left (batch_write l changes)
+          (ap (λ cs. change_between t.description.family place
+          (option_map item_columns (map.get t.items place)) (option_map item_columns new) ∷ cs)
+          (append_assoc (index_changes t.description (map.get t.items place) new)
+          (row_changes t.description
+          (change_left s.next_number moment (map.get t.items place) new))
+          (trim_changes t.description t.trimmed (with_row s.next_number moment t place new).trimmed
+          leftovers))) refl
+          (shows_batch l (batch_write l changes) distinct past (omega arith));
+      valid = after_item_valid s moment name t place new valid room at differ stored;
+      held = held_after s moment name t place new held at given fits;
+    }

@@ -1,6 +1,7 @@
 -- The laws of files and of tables that stand for a state.
 use Rattle.std.specs.Prelude.{◌≡◌, ◌<◌, ◌^◌, ℕ, false, List, Option, Some, IfSome}
 use Rattle.std.specs.FinMap as map
+use Rattle.alt_changes.specs.TrimRows.{AreLeft}
 use Rattle.alt_disk.specs.Disk.{DiskState, IsImage}
 use Rattle.alt_disk.specs.Runs.{Quiet}
 use Rattle.alt_layout.specs.Files.{IsLayout}
@@ -9,9 +10,9 @@ use Rattle.alt_machine.specs.declared.TheConstants.{NUMBERS_END}
 use Rattle.alt_machine.specs.Same.{is_same}
 use Rattle.alt_machine.specs.State.{State, Table, start}
 use Rattle.alt_machine.specs.Valid.{IsStored, IsValid}
-use Rattle.alt_machine.specs.Writes.{after_item}
+use Rattle.alt_machine.specs.Writes.{after_item, with_write}
 use Rattle.alt_opening.specs.StateRows.{IsHeldWhole}
-use Rattle.alt_tables.specs.RowChanges.{Turns, item_changes}
+use Rattle.alt_tables.specs.RowChanges.{Turns, write_changes}
 use Rattle.alt_value.specs.Tree.{Pair}
 use Rattle.alt_value.specs.Values.{IsItemOfValues}
 use Rattle.alt_opening.specs.Images.{StandsFor}
@@ -47,13 +48,16 @@ StaysQuiet = (a b : DiskState) (t : Tables) (s : State) → b.tells ≡ a.tells
 abbrev pub MadeStands : Type 0
 MadeStands = (image : ℕ → Option (List ℕ)) → IsLayout image no_rows → StandsFor image start
 
--- The changes of an item's row, of its rows in all indexes and of the row that the stream gets turn the rows of a state into those of the state
--- with that item, where it differs from what is there.
+-- The changes of an item's row, of its rows in all indexes and of the rows of the stream, whichever rows that are left over are hidden, turn the
+-- rows of a state into those of the state with that item, where it differs from what is there.
 abbrev pub ItemTurns : Type 0
 ItemTurns = (s : State) (moment : ℕ) (name : List ℕ) (t : Table) (place : List ℕ)
-    (new : Option (List Pair)) → IsValid s → IsHeldWhole s → s.next_number < NUMBERS_END
+    (new : Option (List Pair)) (leftovers : List ℕ) → IsValid s → IsHeldWhole s
+    → s.next_number < NUMBERS_END
     → map.get s.tables name ≡ Some t → is_same (map.get t.items place) new ≡ false
     → ((item : List Pair) → new ≡ Some item → IsStored t.description place item)
     → IfSome new IsItemOfValues → moment < 2 ^ 64
-    → Turns (item_changes t.description s.next_number moment place (map.get t.items place) new) s
+    → AreLeft (with_write s.next_number moment t place new).trimmed leftovers
+    → Turns (write_changes t.description s.next_number moment place (map.get t.items place) new
+    t.trimmed (with_write s.next_number moment t place new).trimmed leftovers) s
     (after_item s moment name t place new)

@@ -1,7 +1,9 @@
 pub mod Faults
 pub mod Found
+pub mod Fronts
 pub mod Images
 pub mod Laws
+pub mod Leftovers
 pub mod Merged
 pub mod Reading
 pub mod RowChanges

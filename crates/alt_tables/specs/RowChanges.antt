@@ -4,6 +4,7 @@ use Rattle.alt_cells.specs.Batches.{is_distinct}
 use Rattle.alt_cells.specs.declared.batch.RowChange.{RowChange}
 use Rattle.alt_cells.specs.Changes.{change_between}
 use Rattle.alt_changes.specs.ChangeRows.{row_changes}
+use Rattle.alt_changes.specs.TrimRows.{trim_changes}
 use Rattle.alt_hand.specs.InHand.{batch_write}
 use Rattle.alt_layout.specs.Layout.{Layout, IsPast}
 use Rattle.alt_layout.specs.Writes.{with_write}
@@ -23,6 +24,13 @@ abbrev pub item_changes : TableSchema → ℕ → ℕ → List ℕ → Option (L
 item_changes d number moment place old new = change_between d.family place
     (option_map item_columns old) (option_map item_columns new)
     ∷ (index_changes d old new ++ row_changes d (change_left number moment old new))
+
+-- of the write that leaves the item: these, the row of number 0 of the stream where the number of the last change that is trimmed rises, and rows
+-- left over of such changes, which are hidden
+abbrev pub write_changes : TableSchema → ℕ → ℕ → List ℕ → Option (List Pair) → Option (List Pair)
+    → ℕ → ℕ → List ℕ → List RowChange
+write_changes d number moment place old new before after leftovers =
+    item_changes d number moment place old new ++ trim_changes d before after leftovers
 
 -- of a new table: its description, and the next family
 abbrev pub creation_changes : ℕ → ℕ → TableSchema → List RowChange

@@ -3,6 +3,7 @@ use Rattle.std.specs.Prelude.{◌≡◌, ℕ, List}
 use Rattle.alt_disk.specs.Disk.{DiskState, IsTrusted, Goes}
 use Rattle.alt_disk.specs.Runs.{Quiet}
 use Rattle.std.specs.Prelude.{IsTrue}
+use Rattle.alt_engine.specs.Opened.{StaysOn}
 use Rattle.alt_engine.specs.InHand.{Stands as EngineStands, next_of, limits_of as engine_limits}
 use Rattle.alt_layout.specs.Layout.{Layout}
 use Rattle.alt_hand.specs.declared.hand.Limits.{Limits}
@@ -11,6 +12,10 @@ use Rattle.alt_machine.specs.Valid.{IsValid}
 use Rattle.alt_schema.specs.declared.schema.TableSchema.{TableSchema}
 use Rattle.alt_opening.specs.Live.{AreLiveIn}
 use Rattle.alt_opening.specs.Opened.{Holds}
+use Rattle.alt_opening.specs.Trimmed.{AreTrimmedOf}
+use Rattle.alt_opening.specs.declared.trimmed.Trimmed.{Trimmed}
+use Rattle.alt_tables.specs.Fronts.{AreFronts}
+use Rattle.alt_tables.specs.declared.fronts.Front.{Front}
 use Rattle.alt_tables.specs.declared.tables.Tables.{Tables}
 
 -- ---- what is known of the tables without the disk
@@ -26,6 +31,14 @@ number_of t = next_of t.engine
 -- the family that the next table gets
 abbrev pub family_of : Tables → ℕ
 family_of t = t.family
+
+-- what was trimmed of the changes of tables
+abbrev pub trimmed_of : Tables → List Trimmed
+trimmed_of t = t.trimmed.items
+
+-- the fronts of streams
+abbrev pub fronts_of : Tables → List Front
+fronts_of t = t.fronts.items
 
 -- the families that are live, in the order of their numbers
 abbrev pub live_of : Tables → List ℕ
@@ -44,19 +57,22 @@ pub record KeepsCatalog (old new : Tables) : Type 0 where
 
 -- ---- the state
 
--- The tables and the disk beneath them stand for a valid state of the machine: it has the tables that are known, and the next number
--- and the next family, and its rows are those on the disk. Live are the families of its tables.
+-- The rows beneath the tables are those of the layout, as the disk reads and in whatever a stop now leaves.
+abbrev pub HasRows : DiskState → Tables → Layout → Type 0
+HasRows disk t l = EngineStands disk t.engine l
+
+-- The tables and the disk beneath them stand for a valid state of the machine: it has the tables that are known, what was trimmed of their
+-- changes, and the next number and the next family, and its rows are those on the disk. Live are the families of its tables, and the fronts
+-- that are known are those of its streams.
 pub record Stands (disk : DiskState) (t : Tables) (s : State) : Type 0 where
   pub catalog : catalog_of t ≡ descriptions s.tables
   pub number : number_of t ≡ s.next_number
   pub family : family_of t ≡ s.next_family
   pub live : AreLiveIn (catalog_of t) (live_of t)
+  pub trimmed : AreTrimmedOf s.tables (trimmed_of t)
   pub rows : Holds disk t.engine s
+  pub fronts : (l : Layout) → HasRows disk t l → AreFronts l s.tables (fronts_of t)
   pub valid : IsValid s
-
--- The rows beneath the tables are those of the layout, as the disk reads and in whatever a stop now leaves.
-abbrev pub HasRows : DiskState → Tables → Layout → Type 0
-HasRows disk t l = EngineStands disk t.engine l
 
 -- On a disk that tells its contents and keeps what was synced the tables stand for a state: after a call that failed they don't, and
 -- then only a recovery goes on.
@@ -69,3 +85,15 @@ AreReady disk t = IsTrusted disk → (s : State) × Stands disk t s
 pub record Reads (old new : DiskState) : Type 0 where
   pub goes : Goes old new
   pub quiet : IsTrue old.tells → Quiet old new
+
+-- It leaves what is known of the tables, and the rows beneath them.
+pub record Keeps (old new : DiskState) (t u : Tables) : Type 0 where
+  pub catalog : u.catalog ≡ t.catalog
+  pub live : u.live ≡ t.live
+  pub family : u.family ≡ t.family
+  pub trimmed : u.trimmed ≡ t.trimmed
+  pub fronts : u.fronts ≡ t.fronts
+  pub limits : limits_of u ≡ limits_of t
+  pub number : number_of u ≡ number_of t
+  pub reads : Reads old new
+  pub same : IsTrue old.tells → StaysOn old new t.engine u.engine

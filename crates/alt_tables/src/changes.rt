@@ -1,6 +1,6 @@
 //! The changes of a table with a stream, in the order of their numbers.
 
-ghost use Rattle.std.specs.Prelude.{◌≡◌, ◌↔◌, ◌++◌, ◌<◌, ◌^◌, take, map as each, true, ℕ, List, Err, Some, None, IfOk, IfErr, IfSome, IsErrOf};
+ghost use Rattle.std.specs.Prelude.{◌≡◌, ◌↔◌, ◌++◌, ◌<◌, ◌+◌, ◌^◌, max, take, map as each, true, ℕ, List, Err, Some, None, IfOk, IfErr, IfSome, IsErrOf};
 ghost use Rattle.std.specs.FinMap as map;
 ghost use Rattle.alt_base.specs.Counts.{Rose};
 ghost use Rattle.alt_changes.specs.ChangeRows.{change_in, row_key};
@@ -10,7 +10,7 @@ ghost use Rattle.alt_machine.specs.State.{State, Table};
 ghost use Rattle.alt_tables.specs.Faults.{IsFindFault, IsReadFault, IsUnspent};
 ghost use Rattle.alt_tables.specs.private.Pages.{AreChangesOf};
 ghost use Rattle.alt_opening.specs.StreamScans.{IsChangeAt};
-ghost use Rattle.alt_tables.specs.Stands.{AreReady, Reads, Stands, KeepsCatalog, catalog_of};
+ghost use Rattle.alt_tables.specs.Stands.{AreReady, Keeps, Reads, Stands, KeepsCatalog, catalog_of};
 
 use crate::faults::TableFault;
 use crate::tables::Tables;
@@ -47,6 +47,8 @@ impl Tables {
         ensures fault { (s : State) → Stands (D.state disk.old) self.old s
             → IfErr result IsFindFault }
         ensures disk { Reads (D.state disk.old) (D.state disk.new) }
+        // It leaves what is known of the tables, and the rows beneath them.
+        ensures keeps { Keeps (D.state disk.old) (D.state disk.new) self.old self.new }
         ensures cause { IsErrOf result TableFault.Failed
             → Rose (D.state disk.old).faults (D.state disk.new).faults }
     {
@@ -56,6 +58,7 @@ impl Tables {
         let Some(family) = schema.stream_family else {
             return Ok(Vec::new(self.alloc));
         };
+        let from = from_kept(self.trimmed(table), from);
         let Ok(range) = range_from(self.alloc, from) else {
             return Err(TableFault::NoMemory);
         };
@@ -68,6 +71,13 @@ impl Tables {
             Err(fault) => Err(TableFault::from(fault)),
         }
     }
+}
+
+/// The first number from one on that isn't left over.
+fn from_kept(trimmed: u64, from: u64) -> u64
+    ensures { trimmed < 2 ^ 63 → result ≡ max from (trimmed + 1) }
+{
+    from.max(trimmed.saturating_add(1))
 }
 
 /// The keys of the rows of the changes from a number on.

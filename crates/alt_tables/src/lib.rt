@@ -4,10 +4,12 @@
 mod changes;
 mod faults;
 mod finding;
+mod fronts;
 mod laws;
 mod recover;
 mod rows;
 mod tables;
+mod trimming;
 mod walk;
 mod work;
 

@@ -65,6 +65,7 @@ impl Tables {
             engine,
             catalog,
             family,
+            trimmed,
         } = store;
         match catalog.live(alloc) {
             Ok(live) => Ok(Tables {
@@ -73,6 +74,8 @@ impl Tables {
                 catalog,
                 live,
                 family,
+                trimmed,
+                fronts: Vec::new(alloc),
             }),
             Err(_) => Err(OpenFault::NoMemory),
         }

@@ -1,9 +1,10 @@
 //! The items of tables: what stands at a place, and what is to stand there.
 
-ghost use Rattle.std.specs.Prelude.{◌≡◌, ◌↔◌, ◌∷◌, [], ℕ, true, false, None, Some, IsSome, IfOk, IfErr, IfSome, OnOk, IsErrOf, Ok, Err, List, Option, option_map};
+ghost use Rattle.std.specs.Prelude.{◌≡◌, ◌↔◌, ◌<◌, ◌++◌, ◌∷◌, [], drop, ℕ, true, false, None, Some, IsSome, IfOk, IfErr, IfSome, OnOk, IsErrOf, Ok, Err, List, Option, option_map};
 ghost use Rattle.std.specs.FinMap as map;
 ghost use Rattle.alt_base.specs.Counts.{Rose};
 ghost use Rattle.alt_cells.specs.Changes.{change_between};
+ghost use Rattle.alt_changes.specs.TrimRows.{trim_changes};
 ghost use Rattle.alt_disk.specs.Disk.{IsTrusted, Goes};
 ghost use Rattle.alt_layout.specs.Layout.{Layout};
 ghost use Rattle.alt_machine.specs.Keys.{place_of};
@@ -11,7 +12,8 @@ ghost use Rattle.alt_machine.specs.Outcomes.{a_number};
 ghost use Rattle.alt_machine.specs.Same.{is_same};
 ghost use Rattle.alt_machine.specs.State.{State, Table};
 ghost use Rattle.alt_machine.specs.Valid.{IsStored};
-ghost use Rattle.alt_machine.specs.Writes.{item_writes};
+ghost use Rattle.alt_machine.specs.Writes.{after_item, item_writes};
+ghost use Rattle.alt_opening.specs.Trimmed.{IsRenumbered, number_at};
 ghost use Rattle.alt_schema.specs.declared.schema.TableSchema.{TableSchema};
 ghost use Rattle.alt_opening.specs.Families.{HasOwnFamilies};
 ghost use Rattle.alt_tables.specs.Faults.{IsFindFault, IsUnspent, Writes};
@@ -19,21 +21,25 @@ ghost use Rattle.alt_tables.specs.Found.{IsFoundIn, number_taken};
 ghost use Rattle.alt_tables.specs.Images.{Leaves};
 ghost use Rattle.alt_views.specs.IndexRows.{index_changes};
 ghost use Rattle.alt_views.specs.ItemRows.{IsReadItem, item_columns};
-ghost use Rattle.alt_tables.specs.RowChanges.{changed_rows, item_changes};
-ghost use Rattle.alt_tables.specs.Stands.{AreReady, HasRows, Reads, Stands, KeepsCatalog, catalog_of, limits_of, number_of};
+ghost use Rattle.alt_tables.specs.Leftovers.{leftovers, lowest_left};
+ghost use Rattle.alt_tables.specs.RowChanges.{changed_rows, item_changes, write_changes};
+ghost use Rattle.alt_tables.specs.private.Trims.{CanTrim, IsNoted, IsTrim, IsWithin, IsWrittenAs};
+ghost use Rattle.alt_tables.specs.Stands.{AreReady, HasRows, Reads, Stands, KeepsCatalog, catalog_of, fronts_of, limits_of, number_of, trimmed_of};
 ghost use Rattle.alt_value.specs.Tree.{Pair};
 ghost use Rattle.alt_value.specs.Values.{IsItemOfValues};
 
 use crate::faults::TableFault;
 use crate::finding::Found;
+use crate::fronts::know_front;
 use crate::tables::Tables;
+use crate::trimming::Trim;
 use alt_base::NoMemory;
 use alt_cells::{Batch, RowChange, ShownRow};
-use alt_changes::change_row;
+use alt_changes::{change_row, trim_rows};
 use alt_disk::Disk;
 use alt_fields::Bytes;
 use alt_machine::NUMBERS_END;
-use alt_opening::same;
+use alt_opening::{renumber, same};
 use alt_schema::TableSchema;
 use alt_value::Item;
 use alt_views::{Unread, index_changes, item_of_row, place_of, row_of_item};
@@ -106,15 +112,24 @@ impl Tables {
             → map.get s.tables table.now ≡ Some t → Leaves (D.state disk.old) (D.state disk.new) s
             (item_writes s moment table.now t found.place new) }
         // The one entry of the write has these row changes: of an item that is made or goes its row is cleared, and what it has comes; of one that
-        // changes what differs comes, and what is gone goes.
+        // changes what differs comes, and what is gone goes; of a stream the row of number 0 where the number of the last change that is
+        // trimmed rises, and the lowest two of the rows that are left over then, which are hidden.
         ensures rows { IfOk result (λ n. IsSome n → IsTrusted (D.state disk.old)
             → (d : TableSchema) (l : Layout) → map.get (catalog_of self.old) table.now ≡ Some d
             → HasRows (D.state disk.old) self.old l → HasRows (D.state disk.new) self.new
-            (changed_rows l (item_changes d (number_of self.old) moment found.place found.item
-            new))) }
-        // On every disk: where memory is wanting no call of the disk is made.
+            (changed_rows l (write_changes d (number_of self.old) moment found.place found.item new
+            (number_at table.now (trimmed_of self.old)) (number_at table.now (trimmed_of self.new))
+            (lowest_left l d (number_at table.now (trimmed_of self.new)))))) }
+        // After it the rows that are left over are those from before with those of the changes that it trims, without the two lowest of them.
+        ensures leftovers { IfOk result (λ n. IsSome n → IsTrusted (D.state disk.old)
+            → (d : TableSchema) (family : ℕ) (l m : Layout)
+            → map.get (catalog_of self.old) table.now ≡ Some d → d.stream_family ≡ Some family
+            → HasRows (D.state disk.old) self.old l → HasRows (D.state disk.new) self.new m
+            → leftovers m family (number_at table.now (trimmed_of self.new))
+            ≡ drop 2 (leftovers l family (number_at table.now (trimmed_of self.new)))) }
+        // On every disk: where memory is wanting nothing is written.
         ensures no_memory { IsErrOf result TableFault.NoMemory
-            → D.state disk.new ≡ D.state disk.old }
+            → Reads (D.state disk.old) (D.state disk.new) }
         ensures goes { Goes (D.state disk.old) (D.state disk.new) }
         // On every disk: a call that answers that there was nothing to write makes no call of the disk.
         ensures unchanged { result ≡ Ok None → D.state disk.new ≡ D.state disk.old }
@@ -132,10 +147,67 @@ impl Tables {
         if number >= NUMBERS_END {
             return Err(TableFault::Spent { number });
         }
+        let trim = match self.trim(disk, table, moment) {
+            Ok(trim) => trim,
+            Err(fault) => return Err(fault),
+        };
+        self.write_trimmed(disk, table, found, new, moment, trim)
+    }
+
+    /// The same where what is found there differs, by what the write takes from the front of the table's stream.
+    fn write_trimmed<D: Disk>(
+        &mut self,
+        disk: &mut D,
+        table: &str,
+        found: Found,
+        new: Option<Item>,
+        moment: u64,
+        trim: Trim,
+    ) -> Result<Option<u64>, TableFault>
+        requires ready { AreReady (D.state disk.old) self.old }
+        requires there { map.contains_key (catalog_of self.old) table.now ≡ true }
+        requires found { (s : State) → Stands (D.state disk.old) self.old s
+            → IsFoundIn s table.now found }
+        requires new { (s : State) → Stands (D.state disk.old) self.old s → (d : TableSchema)
+            → map.get (catalog_of self.old) table.now ≡ Some d
+            → IfSome new (IsStored d found.place) }
+        requires differ { is_same found.item new ≡ false }
+        requires room { number_of self.old < NUMBERS_END }
+        requires trim { (s : State) (t : Table) (l : Layout) → Stands (D.state disk.old) self.old s
+            → map.get s.tables table.now ≡ Some t → HasRows (D.state disk.old) self.old l
+            → IsTrim l t moment trim }
+        requires within { (d : TableSchema) → map.get (catalog_of self.old) table.now ≡ Some d
+            → IsSome d.stream_family
+            → IsWithin (number_at table.now (trimmed_of self.old)) (number_of self.old) trim }
+        ensures writes { (s : State) (t : Table) → Stands (D.state disk.old) self.old s
+            → map.get s.tables table.now ≡ Some t
+            → Writes (Stands (D.state disk.new) self.new) a_number s
+            (after_item s moment table.now t found.place new ∷ []) result }
+        ensures number { IfOk result (λ n. n ≡ Some (number_of self.old)) }
+        ensures disk { (s : State) (t : Table) → Stands (D.state disk.old) self.old s
+            → map.get s.tables table.now ≡ Some t → Leaves (D.state disk.old) (D.state disk.new) s
+            (after_item s moment table.now t found.place new ∷ []) }
+        ensures rows { IfOk result (λ n. IsTrusted (D.state disk.old)
+            → (d : TableSchema) (l : Layout) → map.get (catalog_of self.old) table.now ≡ Some d
+            → HasRows (D.state disk.old) self.old l
+            → IsWrittenAs (D.state disk.new) self.new l (write_changes d (number_of self.old) moment
+            found.place found.item new (number_at table.now (trimmed_of self.old)) trim.number
+            trim.leftovers.items)) }
+        ensures trimmed { OnOk result (number_at table.now (trimmed_of self.new) ≡ trim.number) }
+        ensures no_memory { IsErrOf result TableFault.NoMemory
+            → D.state disk.new ≡ D.state disk.old }
+        ensures goes { Goes (D.state disk.old) (D.state disk.new) }
+        ensures catalog { catalog_of self.new ≡ catalog_of self.old }
+        ensures limits { limits_of self.new ≡ limits_of self.old }
+        ensures cause { IsErrOf result TableFault.Failed
+            → Rose (D.state disk.old).faults (D.state disk.new).faults }
+    {
+        let before = self.trimmed(table);
+        let number = self.engine.next_number();
         let Some(schema) = self.catalog.get(table) else {
             unreachable!();
         };
-        let batch = item_batch(
+        let mut batch = item_batch(
             self.alloc,
             schema,
             number,
@@ -145,10 +217,34 @@ impl Tables {
             &found.item,
             &new,
         )?;
+        put_trim(self.alloc, schema, before, &trim, &mut batch)?;
+        self.know(table, moment, &trim)?;
         match self.make(disk, &batch) {
             Ok(number) => Ok(Some(number)),
             Err(fault) => Err(fault),
         }
+    }
+
+    /// Makes known what a write at a moment leaves of the front of a table's stream.
+    fn know(&mut self, table: &str, moment: u64, trim: &Trim) -> Result<(), NoMemory>
+        requires there { map.contains_key (catalog_of self.old) table.now ≡ true }
+        ensures trimmed { OnOk result (IsRenumbered table.now trim.now.number (trimmed_of self.old)
+            (trimmed_of self.new)) }
+        ensures fronts { (d : TableSchema) → map.get (catalog_of self.old) table.now ≡ Some d
+            → OnOk result (IsNoted d table.now moment trim.now (fronts_of self.old)
+            (fronts_of self.new)) }
+        ensures kept { (self.new.engine ≡ self.old.engine) × (self.new.catalog ≡ self.old.catalog)
+            × (self.new.live ≡ self.old.live) × (self.new.family ≡ self.old.family) }
+    {
+        renumber(self.alloc, &mut self.trimmed, table, trim.number)?;
+        let Some(schema) = self.catalog.get(table) else {
+            unreachable!();
+        };
+        if schema.stream_family.is_none() {
+            return Ok(());
+        }
+        let oldest = trim.oldest.unwrap_or(moment);
+        know_front(self.alloc, &mut self.fronts, table, Some(oldest), trim.from)
     }
 }
 
@@ -230,10 +326,18 @@ impl Tables {
             → (d : TableSchema) (place : List ℕ) (l : Layout)
             → map.get (catalog_of self.old) table.now ≡ Some d → place_of d key.now ≡ Some place
             → HasRows (D.state disk.old) self.old l → HasRows (D.state disk.new) self.new
-            (changed_rows l (item_changes d (number_of self.old) moment place
-            (option_map (λ i. i.now) old.entry) (option_map (λ i. i.now) new.entry)))) }
+            (changed_rows l (write_changes d (number_of self.old) moment place
+            (option_map (λ i. i.now) old.entry) (option_map (λ i. i.now) new.entry)
+            (number_at table.now (trimmed_of self.old)) (number_at table.now (trimmed_of self.new))
+            (lowest_left l d (number_at table.now (trimmed_of self.new)))))) }
+        ensures leftovers { IfOk result (λ n. IsSome n → IsTrusted (D.state disk.old)
+            → (d : TableSchema) (family : ℕ) (l m : Layout)
+            → map.get (catalog_of self.old) table.now ≡ Some d → d.stream_family ≡ Some family
+            → HasRows (D.state disk.old) self.old l → HasRows (D.state disk.new) self.new m
+            → leftovers m family (number_at table.now (trimmed_of self.new))
+            ≡ drop 2 (leftovers l family (number_at table.now (trimmed_of self.new)))) }
         ensures no_memory { IsErrOf result TableFault.NoMemory
-            → D.state disk.new ≡ D.state disk.old }
+            → Reads (D.state disk.old) (D.state disk.new) }
         ensures goes { Goes (D.state disk.old) (D.state disk.new) }
         ensures unchanged { result ≡ Ok None → D.state disk.new ≡ D.state disk.old }
         ensures limits { limits_of self.new ≡ limits_of self.old }
@@ -319,6 +423,32 @@ fn item_batch(
         &mut batch,
     )?;
     Ok(batch)
+}
+
+/// Puts what a write does to the rows of the changes that the stream of a table trimmed behind the row changes of the item.
+fn put_trim(
+    alloc: Global,
+    schema: &TableSchema,
+    before: u64,
+    trim: &Trim,
+    batch: &mut Batch,
+) -> Result<(), NoMemory>
+    requires rows { (family : ℕ) → schema.now.stream_family ≡ Some family
+        → CanTrim before trim.now batch.old family }
+    ensures changes { OnOk result (batch.new ≡ batch.old
+        ++ trim_changes schema.now before trim.now.number trim.now.leftovers.items) }
+{
+    if schema.stream_family.is_none() {
+        return Ok(());
+    }
+    trim_rows(
+        alloc,
+        schema,
+        trim.number,
+        before,
+        trim.leftovers.as_slice(),
+        batch,
+    )
 }
 
 /// Those in its table and in the indexes: a row that is made or removed is cleared, and of one that changes only what differs is written.

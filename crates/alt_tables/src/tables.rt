@@ -1,8 +1,9 @@
 //! All tables: what is known of them by their names, the numbers and families that are left, and the writes of the catalog.
 
-ghost use Rattle.std.specs.Prelude.{◌≡◌, ◌∷◌, [], ◌+◌, ◌<◌, ◌≤◌, length, true, None, Some, IsSome, IfOk, IfErr, OnOk, IsErrOf, option_map, slice_get};
+ghost use Rattle.std.specs.Prelude.{◌≡◌, ◌∷◌, [], ◌+◌, ◌<◌, ◌≤◌, length, true, None, Some, IsSome, IfOk, IfErr, OnOk, IsErrOf, option_map, slice_get, T};
 ghost use Rattle.std.specs.FinMap as map;
 ghost use Rattle.alt_base.specs.Counts.{Rose};
+ghost use Rattle.alt_cells.specs.Batches.{is_distinct};
 ghost use Rattle.alt_disk.specs.Disk.{IsTrusted, Goes};
 ghost use Rattle.alt_layout.specs.Layout.{Layout};
 ghost use Rattle.alt_machine.specs.Ops.CreateTable.{with_table};
@@ -17,17 +18,21 @@ ghost use Rattle.alt_tables.specs.Faults.{IsFindFault, Writes};
 ghost use Rattle.alt_tables.specs.Images.{Leaves};
 ghost use Rattle.alt_opening.specs.Order.{first_after};
 ghost use Rattle.alt_tables.specs.RowChanges.{Turns, changed_rows, creation_changes, drop_changes};
-ghost use Rattle.alt_tables.specs.Stands.{AreReady, HasRows, Stands, catalog_of, number_of, family_of, limits_of};
+ghost use Rattle.alt_tables.specs.Stands.{AreReady, HasRows, Stands, catalog_of, number_of, family_of, limits_of, trimmed_of};
 ghost use Rattle.alt_opening.specs.Opened.{Holds};
+ghost use Rattle.alt_opening.specs.Trimmed.{number_at};
 
 use crate::faults::TableFault;
+use crate::fronts::{Front, forget_front};
 use alt_base::NoMemory;
 use alt_cells::{Batch, RowChange};
 use alt_disk::Disk;
 use alt_engine::Engine;
 use alt_fields::Bytes;
 use alt_machine::{FAMILIES_END, MOST_FAMILIES, MOST_TABLES, NUMBERS_END};
-use alt_opening::{CATALOG, Catalog, Live, row_of_family, row_of_schema};
+use alt_opening::{
+    CATALOG, Catalog, Live, Trimmed, forget, row_of_family, row_of_schema, trimmed_number,
+};
 use alt_schema::{TableSchema, held};
 use std::alloc::Global;
 
@@ -40,6 +45,8 @@ pub struct Tables {
     pub(crate) catalog: Catalog,
     pub(crate) live: Live,
     pub(crate) family: u32,
+    pub(crate) trimmed: Vec<Trimmed>,
+    pub(crate) fronts: Vec<Front>,
 }
 
 impl Tables {
@@ -59,6 +66,13 @@ impl Tables {
             ≡ slice_get (names_after name.now (catalog_of self.now)) 0 }
     {
         self.catalog.after(name)
+    }
+
+    /// The number of the last change of a table that was trimmed, 0 where none was, or no table has that name.
+    pub fn trimmed(&self, table: &str) -> u64
+        ensures trimmed { result ≡ number_at table.now (trimmed_of self.now) }
+    {
+        trimmed_number(self.trimmed.as_slice(), table)
     }
 
     /// How many tables there are.
@@ -161,6 +175,8 @@ impl Tables {
             Ok(_) => {
                 self.live = live;
                 self.catalog.remove(name);
+                forget(&mut self.trimmed, name);
+                forget_front(&mut self.fronts, name);
                 Ok(())
             }
             Err(fault) => Err(fault),
@@ -179,8 +195,10 @@ impl Tables {
             → HasRows (D.state disk.new) self.new (changed_rows l batch.now)) }
         ensures number { IfOk result (λ n. n ≡ number_of self.old) }
         ensures next { OnOk result (number_of self.new ≡ number_of self.old + 1) }
+        ensures distinct { OnOk result (T (is_distinct batch.now)) }
         ensures kept { (self.new.catalog ≡ self.old.catalog) × (self.new.live ≡ self.old.live)
-            × (self.new.family ≡ self.old.family) }
+            × (self.new.family ≡ self.old.family) × (self.new.trimmed ≡ self.old.trimmed)
+            × (self.new.fronts ≡ self.old.fronts) }
         ensures limits { limits_of self.new ≡ limits_of self.old }
         ensures fault { IfErr result IsFindFault }
         ensures no_memory { IsErrOf result TableFault.NoMemory

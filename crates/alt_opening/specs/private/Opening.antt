@@ -1,6 +1,7 @@
 -- What is read of the catalog while a store is opened.
-use Rattle.std.specs.Prelude.{◌≡◌, ◌≢◌, ◌<◌, ◌≤◌, ◌==◌, ◌&&◌, ℕ, Bool, true, not, nat_lt, nat_le, List, [], ◌∷◌, Option, Some, None, All, AllPairs, Contains, length, slice_index_or}
+use Rattle.std.specs.Prelude.{◌≡◌, ◌≢◌, ◌<◌, ◌≤◌, ◌==◌, ◌&&◌, ℕ, Bool, true, not, nat_lt, nat_le, List, [], ◌∷◌, Option, Some, None, All, AllPairs, Contains, if◌then◌else◌, length, slice_index_or}
 use Rattle.std.specs.List.{list_all, list_any}
+use Rattle.std.specs.Option.{option_map_or}
 use Rattle.std.specs.Str.{bytes_eq}
 use Rattle.std.specs.FinMap as map
 use Rattle.alt_cells.specs.Changes.{Columns}
@@ -15,7 +16,9 @@ use Rattle.alt_opening.specs.private.IndexScans.{IndexesRead, IsFirstOfOwn}
 use Rattle.alt_opening.specs.Recovery.{IsFirstWrong}
 use Rattle.alt_opening.specs.Scans.{IsBelow, ItemsRead}
 use Rattle.alt_opening.specs.StateRows.{Shows, IsHeldWhole, catalog_family, next_row, table_row}
-use Rattle.alt_opening.specs.StreamScans.{ChangesRead, IsFirstOfStream}
+use Rattle.alt_opening.specs.StreamScans.{ChangesRead, IsFirstOfStream, stream_trimmed}
+use Rattle.alt_opening.specs.Trimmed.{AreTrimmedOf, number_at}
+use Rattle.alt_opening.specs.declared.trimmed.Trimmed.{Trimmed}
 use Rattle.alt_faults.specs.Faults.{OnlyRow}
 use Rattle.alt_opening.specs.Faults.{told_by_opening}
 use Rattle.alt_opening.specs.declared.faults.OpenFault.{OpenFault}
@@ -191,14 +194,27 @@ pub record IsFirstIn (l : Layout) (catalog : Texts TableSchema) (family : ℕ)
 abbrev pub IsIndexesFault : Layout → Texts TableSchema → OpenFault → Type 0
 IsIndexesFault l catalog f = OnlyRow (IsFirstIn l catalog) (told_by_opening f)
 
--- A state whose rows these are with those of streams and of indexes, and whose tables are those of the catalog.
-pub record Assembled (l : Layout) (next : ℕ) (known : Texts TableSchema)
+-- What is known of tables is what the rows of their streams tell.
+abbrev pub AreTrimmedIn : Layout → Texts TableSchema → List Trimmed → Type 0
+AreTrimmedIn l catalog known = (name : List ℕ) → number_at name known
+    ≡ option_map_or (stream_trimmed l) (map.get catalog name) 0
+
+-- So it is of the tables up to a family, and of the others nothing is known.
+abbrev pub AreTrimmedUpTo : Layout → Texts TableSchema → ℕ → List Trimmed → Type 0
+AreTrimmedUpTo l catalog family known = (name : List ℕ) → number_at name known
+    ≡ option_map_or (λ (d : TableSchema). if nat_le d.family family then stream_trimmed l d else 0)
+    (map.get catalog name) 0
+
+-- A state whose rows these are with those of streams and of indexes, whose tables are those of the catalog, and of whose changes
+-- so much was trimmed as is known.
+pub record Assembled (l : Layout) (next : ℕ) (known : Texts TableSchema) (trimmed : List Trimmed)
     (s : State) : Type 0 where
   pub shows : Shows l s
   pub valid : IsValid s
   pub held : IsHeldWhole s
   pub catalog : descriptions s.tables ≡ known
   pub family : s.next_family ≡ next
+  pub trimmed_known : AreTrimmedOf s.tables trimmed
 
 -- a wrong row is the first one
 abbrev pub IsRowFault : Layout → OpenFault → Type 0

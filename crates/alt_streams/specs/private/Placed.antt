@@ -9,6 +9,7 @@ use Rattle.alt_machine.specs.Outcomes.{refuses}
 use Rattle.alt_machine.specs.Refusals.{first_answer}
 use Rattle.alt_machine.specs.State.{State, Texts, descriptions}
 use Rattle.alt_machine.specs.Streams.{Iterator, iterator_of}
+use Rattle.alt_machine.specs.Trimming.{is_trimmed}
 use Rattle.alt_machine.specs.Valid.{IsValid}
 use Rattle.alt_request.specs.declared.stop.Stop.{Stop}
 use Rattle.alt_request.specs.declared.stop.Stop.TheVariants.{Refused, Fault}
@@ -18,6 +19,8 @@ use Rattle.alt_shape.specs.Bodies as bodies
 use Rattle.alt_shape.specs.Refusals.{IsKnown, not_found}
 use Rattle.alt_streams.specs.private.Named.{IsStreamOf}
 use Rattle.alt_streams.specs.declared.records.Place.{Place}
+use Rattle.alt_opening.specs.Trimmed.{AreTrimmedOf, number_at}
+use Rattle.alt_opening.specs.declared.trimmed.Trimmed.{Trimmed}
 use Rattle.alt_tables.specs.Faults.{IsReadFault}
 
 -- a table is there, and has a stream
@@ -31,18 +34,20 @@ OnStreaming catalog arn (Ok name) = (has_stream (map.get catalog name) ≡ true)
 OnStreaming catalog arn (Err (Refused r)) = (r ≡ not_found) × IsStreamOf catalog arn None
 OnStreaming catalog arn (Err (Fault f)) = IsReadFault f
 
--- nothing refuses the body, and its iterator stands there
-pub record IsPlace (catalog : Texts TableSchema) (ms : Members) (place : Place) : Type 0 where
+-- Nothing refuses the body, its iterator stands there, and what it stands for isn't trimmed, where so much is known to be.
+pub record IsPlace (catalog : Texts TableSchema) (known : List Trimmed) (ms : Members)
+    (place : Place) : Type 0 where
   pub body : first_answer (of_shape (bodies.get_records ms) ∷ []) ≡ None
   pub iterator : Iterator
   pub reads : iterator_of (text_of (codes "ShardIterator") ms) ≡ Some iterator
   pub from : place.from ≡ iterator.from
   pub stream : has_stream (map.get catalog place.table) ≡ true
   pub named : IsStreamOf catalog iterator.arn (map.get catalog place.table)
+  pub kept : is_trimmed (number_at place.table known) place.from ≡ false
 
 -- That is so; or the machine refuses the request too; or memory was wanting.
-abbrev pub OnPlace : Texts TableSchema → Members → Result Place Stop → Type 0
-OnPlace catalog ms (Ok place) = IsPlace catalog ms place
-OnPlace catalog ms (Err (Refused r)) = IsKnown r × ((s : State) → IsValid s
-    → descriptions s.tables ≡ catalog → get_records s ms ≡ refuses r)
-OnPlace catalog ms (Err (Fault f)) = IsReadFault f
+abbrev pub OnPlace : Texts TableSchema → List Trimmed → Members → Result Place Stop → Type 0
+OnPlace catalog known ms (Ok place) = IsPlace catalog known ms place
+OnPlace catalog known ms (Err (Refused r)) = IsKnown r × ((s : State) → IsValid s
+    → descriptions s.tables ≡ catalog → AreTrimmedOf s.tables known → get_records s ms ≡ refuses r)
+OnPlace catalog known ms (Err (Fault f)) = IsReadFault f

@@ -1,7 +1,7 @@
 -- One row more.
 use Rattle.std.proofs.Common.{sym, ap, subst, ◌∙◌, ◌++◌, ◌∷◌, [], refl, Err, IsTrue}
 use Rattle.alt_opening.specs.Scans.{IsNextRow, IsFirstFrom}
-use Rattle.alt_opening.specs.StreamScans.{IsChangeRow}
+use Rattle.alt_opening.specs.StreamScans.{IsStreamRow}
 use Rattle.alt_opening.proofs.Ahead.{ahead_then, none_ahead}
 use Rattle.alt_opening.proofs.Scanning.{walk_start, walk_then, reads_on, rows_none, rows_next, rows_all, rows_more}
 use Rattle.alt_opening.proofs.DeviceFaults.{device_change}
@@ -11,7 +11,7 @@ pub rows-init : goal.rows-init
 rows-init g c = record {
   walked = walk_start (g.D.Disk.state c.args.disk.now) c.args.engine.now;
   changes = λ tells layout reads. rows_none layout c.args.family
-      (IsChangeRow c.args.schema.now c.args.next) c.from_vec-from.result
+      (IsStreamRow c.args.schema.now c.args.next c.args.trimmed) c.from_vec-from.result
       (c.from_vec-from.ensures.same ∙ c.new.ensures.items);
   ahead = λ tells layout reads. none_ahead layout c.args.family c.from_vec-from.result
       c.new-ahead.result.items c.new-ahead.ensures.items;
@@ -19,7 +19,7 @@ rows-init g c = record {
 
 pub returns-in-Ok-None-clause-read : goal.returns-in-Ok-None-clause-read
 returns-in-Ok-None-clause-read g c tells l reads =
-    rows_all l c.args.family (IsChangeRow c.args.schema.now c.args.next) c.rows.from
+    rows_all l c.args.family (IsStreamRow c.args.schema.now c.args.next c.args.trimmed) c.rows.from
     (c.rows.invariant.changes tells l reads)
     (subst (IsNextRow l c.args.family c.rows.from) c.in-Ok-None.field-0-is
     (c.in-Ok-None.ensures.row
@@ -40,7 +40,7 @@ returns-in-Err-Bad-clause-wrong g c tells l reads =
     (c.rows.invariant.ahead tells l reads)) in (
       refl,
       record {
-        before = rows_next l c.args.family (IsChangeRow c.args.schema.now c.args.next) c.rows.from
+        before = rows_next l c.args.family (IsStreamRow c.args.schema.now c.args.next c.args.trimmed) c.rows.from
             (c.rows.invariant.changes tells l reads)
             c.in-Ok-Some.next.0 c.in-Ok-Some.next.1 first;
         row = c.in-Ok-Some.next.1;
@@ -63,11 +63,11 @@ rows-preserved g c = record {
       (reads_on (g.D.Disk.state c.args.disk.now) (g.D.Disk.state c.rows.disk) c.args.engine.now
       c.rows.engine l c.rows.invariant.walked tells reads)
       (c.rows.invariant.ahead tells l reads)) in
-      rows_more l c.args.family (IsChangeRow c.args.schema.now c.args.next) c.in-Ok-Some.next.0
+      rows_more l c.args.family (IsStreamRow c.args.schema.now c.args.next c.args.trimmed) c.in-Ok-Some.next.0
       c.in-Ok-Some.next.1
-      (rows_next l c.args.family (IsChangeRow c.args.schema.now c.args.next) c.rows.from
+      (rows_next l c.args.family (IsStreamRow c.args.schema.now c.args.next c.args.trimmed) c.rows.from
       (c.rows.invariant.changes tells l reads)
-      c.in-Ok-Some.next.0 c.in-Ok-Some.next.1 first) first.shows c.in-Ok.ensures.change
+      c.in-Ok-Some.next.0 c.in-Ok-Some.next.1 first) first.shows c.in-Ok.ensures.row
       c.in-Ok-key_after.after
       (c.in-Ok-key_after.ensures ∙ ap (λ k. k ++ 0 ∷ []) c.as_slice.ensures.same);
   ahead = λ tells l reads. ahead_then l c.args.family c.in-Ok-Some.field-0 c.in-Ok-Some.next
@@ -112,7 +112,7 @@ returns-in-Err-key_after-clause-walked g c =
 
 pub returns-in-Err-clause-wrong : goal.returns-in-Err-clause-wrong
 returns-in-Err-clause-wrong g c tells l reads =
-    device_change l c.args.schema.now c.args.next c.args.family c.in-Err.fault
+    device_change l c.args.schema.now c.args.next c.args.trimmed c.args.family c.in-Err.fault
     (c.in-Err.ensures.fault (subst IsTrue (sym c.rows.invariant.walked.goes.tells) tells) l
     (reads_on (g.D.Disk.state c.args.disk.now) (g.D.Disk.state c.rows.disk) c.args.engine.now
     c.rows.engine l c.rows.invariant.walked tells reads))

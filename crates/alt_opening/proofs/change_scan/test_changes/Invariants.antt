@@ -11,7 +11,7 @@ invariant-rows g l = record {
   walked : Walked (g.D.Disk.state l.fn.disk) (g.D.Disk.state l.disk) l.fn.engine l.engine;
   changes : IsTrue (g.D.Disk.state l.fn.disk).tells → (layout : Layout)
       → Reads (g.D.Disk.state l.fn.disk) l.fn.engine layout
-      → ChangesWhere (λ k. IsBelow k l.from) layout l.schema l.next l.family;
+      → ChangesWhere (λ k. IsBelow k l.from) layout l.schema l.next l.trimmed l.family;
   ahead : IsTrue (g.D.Disk.state l.fn.disk).tells → (layout : Layout)
       → Reads (g.D.Disk.state l.fn.disk) l.fn.engine layout
       → IsAhead layout l.family l.from l.ahead.items;

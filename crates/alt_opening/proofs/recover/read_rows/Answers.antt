@@ -32,6 +32,11 @@ returns-in-Ok-read_indexes-clause-read g c tells l reads =
     c.args.engine.now c.read_state.new.engine l c.in-Ok.ensures.walked tells reads) tables in
     shown_state l c.in-Ok.opened.family c.in-Ok.opened.catalog tables
     (number_within (g.D.Disk.state c.args.disk.now) c.args.engine.now l reads) streams
+    c.in-Ok-read_streams.trimmed.items
+    (c.in-Ok-read_streams.ensures.trimmed
+    (subst IsTrue (sym c.in-Ok.ensures.walked.goes.tells) tells) l c.in-Ok.opened.family
+    (reads_on (g.D.Disk.state c.args.disk.now) (g.D.Disk.state c.read_state.new.disk)
+    c.args.engine.now c.read_state.new.engine l c.in-Ok.ensures.walked tells reads) tables)
     (c.in-Ok-read_indexes.ensures.read (subst IsTrue (sym both.goes.tells) tells) l
     c.in-Ok.opened.family
     (reads_on (g.D.Disk.state c.args.disk.now) (g.D.Disk.state c.read_streams.new.disk)

@@ -13,6 +13,12 @@ take_key-requires-clause-ready g c = ready_on (g.D.Disk.state c.args.disk.now)
     (g.D.Disk.state c.loop-key.disk) c.args.tables.now c.loop-key.tables
     c.loop-key.invariant.kept.reads.goes c.loop-key.invariant.kept.stays c.requires.ready
 
+pub returns-in_err-take_key-clause-stays : goal.returns-in_err-take_key-clause-stays
+returns-in_err-take_key-clause-stays g c s =
+    let before = c.loop-key.invariant.kept.stays s in
+    let behind = c.take_key.ensures.stays s in
+    (λ stands. behind.0 (before.0 stands), λ stands. before.1 (behind.1 stands))
+
 pub loop-key-preserved : goal.loop-key-preserved
 loop-key-preserved g c =
     let before : DiskState = g.D.Disk.state c.args.disk.now in

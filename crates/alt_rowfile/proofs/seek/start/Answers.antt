@@ -1,6 +1,10 @@
 -- From a key on, or all.
-use Rattle.std.proofs.Common.{arith}
-use Rattle.alt_rowfile.proofs.SeekLaws.{left_up, left_down}
+use Rattle.std.proofs.Common.{◌∙◌, sym, refl, arith}
+use Rattle.std.proofs.lemmas.Bool.{false≢true}
+use Rattle.alt_disk.specs.Disk.{DiskState}
+use Rattle.alt_rowfile.specs.Walking.{list_from}
+use Rattle.std.specs.Prelude.{None}
+use Rattle.alt_rowfile.proofs.SeekLaws.{left_all, nothing_held}
 use Rattle.alt_rowfile.proofs.seek.start.Goals as goal
 
 pub returns-in-Some-clause-left : goal.returns-in-Some-clause-left
@@ -9,15 +13,21 @@ returns-in-Some-clause-left g c =
 
 pub returns-then-forward-clause-left : goal.returns-then-forward-clause-left
 returns-then-forward-clause-left g c = λ told rows reads.
+    let s : DiskState = g.D.Disk.state c.args.disk.now in
+    let forward = c.args.forward in
     rw c.in-None.is
-    (left_up (g.D.Disk.state c.args.disk.now)
-    c.args.file.now rows reads c.args.forward c.if-forward.true c.new-held.result.items
-    c.new-held.ensures.items)
+    (nothing_held s c.args.file.now forward 0 c.empty-hand.result (list_from rows None forward)
+    (c.empty-hand.ensures forward)
+    (left_all s c.args.file.now rows reads forward 0 (λ up. refl)
+    (λ down. absurd (false≢true (sym down ∙ c.if-forward.true)))))
 
 pub returns-else-forward-clause-left : goal.returns-else-forward-clause-left
 returns-else-forward-clause-left g c = λ told rows reads.
+    let s : DiskState = g.D.Disk.state c.args.disk.now in
+    let forward = c.args.forward in
     rw c.in-None.is
-    (left_down (g.D.Disk.state c.args.disk.now)
-    c.args.file.now rows reads c.args.forward c.if-forward.false c.new-held.result.items
-    c.new-held.ensures.items c.len.result
-    (omega (arith, c.len.ensures, c.args.file.now.marks.ok)))
+    (nothing_held s c.args.file.now forward c.len.result c.empty-hand.result
+    (list_from rows None forward) (c.empty-hand.ensures forward)
+    (left_all s c.args.file.now rows reads forward c.len.result
+    (λ up. absurd (false≢true (sym c.if-forward.false ∙ up)))
+    (λ down. omega (arith, c.len.ensures, c.args.file.now.marks.ok))))

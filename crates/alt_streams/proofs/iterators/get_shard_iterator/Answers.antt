@@ -1,17 +1,18 @@
 -- The refusal, or that the stream isn't there, or its iterator.
-use Rattle.std.proofs.Common.{sym, subst, ◌∙◌}
+use Rattle.std.proofs.Common.{sym, subst, ◌∙◌, Err}
 use Rattle.serde_json.specs.Data.{Members}
 use Rattle.serde_json.specs.View.{members_view}
-use Rattle.alt_machine.specs.Ops.GetShardIterator.{get_shard_iterator, of_body, starts}
+use Rattle.alt_machine.specs.Ops.GetShardIterator.{get_shard_iterator, of_body}
 use Rattle.alt_machine.specs.State.{State}
-use Rattle.alt_machine.specs.Streams.{arn_in}
 use Rattle.alt_request.specs.Carried.{Carries}
-use Rattle.alt_request.proofs.Carrying.{said_or_not, untested}
+use Rattle.alt_request.specs.declared.stop.Stop.TheVariants.{Refused}
+use Rattle.alt_request.proofs.Carrying.{refused_so, said_or_not, untested}
 use Rattle.alt_request.proofs.Moving.{moves_stopped, moves_nothing, reply_unfailed, tested_unfailed}
 use Rattle.alt_request.proofs.Reaching.{err_is}
-use Rattle.alt_streams.proofs.Iterating.{gives, iterator-refused, iterator-on, iterator-said}
+use Rattle.alt_streams.proofs.Iterating.{ends, iterator-refused, iterator-on, iterator-said, iterator-trimmed}
 use Rattle.alt_streams.proofs.Reaching.{stream_passed, stream_unfailed}
 use Rattle.alt_streams.proofs.iterators.get_shard_iterator.Goals as goal
+use Rattle.alt_shape.specs.Refusals.{trimmed}
 use Rattle.alt_tables.specs.Stands.{Stands}
 
 pub returns-in_err-unfit-clause-carried : goal.returns-in_err-unfit-clause-carried
@@ -28,7 +29,7 @@ pub returns-in_err-schema-clause-carried : goal.returns-in_err-schema-clause-car
 returns-in_err-schema-clause-carried g c =
     let ms : Members = members_view c.args.body.now.entries in
     stream_passed (g.D.Disk.state c.args.disk.now) c.args.tables.now c.arn_in.result.now
-    (λ s. get_shard_iterator s ms) (λ s t. gives (record { arn = arn_in ms; from = starts s ms }))
+    (λ s. get_shard_iterator s ms) (λ s t. ends s ms t)
     (iterator-on ms c.arn_in.result.now c.arn_in.ensures c.in_ok-unfit.ensures.tested)
     (Stands (g.D.Disk.state c.args.disk.now) c.args.tables.now)
     c.from_residual-in_err-schema.result c.in_err-schema.field-0.0
@@ -44,7 +45,22 @@ returns-clause-carried g c =
     (iterator-said (g.D.Disk.state c.args.disk.now) c.args.tables.now ms c.arn_in.result.now
     c.arn_in.ensures c.in_ok-unfit.ensures.tested c.in_ok-schema.schema.now
     c.in_ok-schema.ensures.found c.starts-from.result
-    (λ s next. c.starts-from.ensures.starts s (next ∙ sym c.next_number.ensures.number)))
+    (λ s next. c.starts-from.ensures.starts s (next ∙ sym c.next_number.ensures.number))
+    c.as_str.result.now c.as_str.ensures.same c.trimmed.result c.trimmed.ensures.trimmed
+    (sym c.is_trimmed.ensures ∙ c.if-is_trimmed.false))
+    (λ s h. h)
+
+pub returns-then-is_trimmed-clause-carried : goal.returns-then-is_trimmed-clause-carried
+returns-then-is_trimmed-clause-carried g c =
+    let ms : Members = members_view c.args.body.now.entries in
+    let stands : State → Type 0 = Stands (g.D.Disk.state c.args.disk.now) c.args.tables.now in
+    refused_so (λ s. get_shard_iterator s ms) stands stands trimmed tt
+    (iterator-trimmed (g.D.Disk.state c.args.disk.now) c.args.tables.now ms c.arn_in.result.now
+    c.arn_in.ensures c.in_ok-unfit.ensures.tested c.in_ok-schema.schema.now
+    c.in_ok-schema.ensures.found c.starts-from.result
+    (λ s next. c.starts-from.ensures.starts s (next ∙ sym c.next_number.ensures.number))
+    c.as_str.result.now c.as_str.ensures.same c.trimmed.result c.trimmed.ensures.trimmed
+    (sym c.is_trimmed.ensures ∙ c.if-is_trimmed.true))
     (λ s h. h)
 
 pub returns-in_err-unfit-clause-moves : goal.returns-in_err-unfit-clause-moves
@@ -69,3 +85,8 @@ returns-clause-moves g c =
     c.args.tables.now
     (g.D.Disk.state c.args.disk.now) c.iterator_reply.result
     (reply_unfailed _ c.iterator_reply.result c.iterator_reply.ensures.cause)
+
+pub returns-then-is_trimmed-clause-moves : goal.returns-then-is_trimmed-clause-moves
+returns-then-is_trimmed-clause-moves g c =
+    moves_nothing (λ s. get_shard_iterator s (members_view c.args.body.now.entries))
+    c.args.tables.now (g.D.Disk.state c.args.disk.now) (Err (Refused trimmed)) tt

@@ -1,40 +1,39 @@
--- The row in hand is given.
-use Rattle.std.proofs.Common.{arith}
-use Rattle.alt_disk.specs.Disk.{DiskState}
-use Rattle.alt_rowfile.proofs.WalkLaws.{popped_any}
-use Rattle.alt_rowfile.proofs.WalkCalls.{walk_keeps, walk_fails, well_failed}
+-- The next row in hand is given, or the first one of the next block.
+use Rattle.alt_rowfile.proofs.WalkLaws.{left_next, left_none}
+use Rattle.alt_rowfile.proofs.WalkCalls.{walk_keeps, walk_fails, result_fails, result_well}
 use Rattle.alt_rowfile.proofs.walk.RowFileWalkRowSource.next.Goals as goal
 
-pub returns-in-Ok-clause-gives : goal.returns-in-Ok-clause-gives
-returns-in-Ok-clause-gives g c = λ told rows l.
-    let t : DiskState = g.D.Disk.state c.refill.new.disk in
-    let walk = c.refill.new.self in
-    let left = c.in-Ok.ensures.left told rows l in
-    popped_any t walk.file.now walk.forward walk.next walk.held.items c.pop.new.self.items rows
-    c.pop.result walk.held.len c.pop.new.self.len left.0 left.1
-    (omega (arith, walk.held.ok)) c.pop.ensures.items c.pop.ensures.cases
+pub returns-in-Ok-Some-clause-gives : goal.returns-in-Ok-Some-clause-gives
+returns-in-Ok-Some-clause-gives g c = λ told rows l.
+    let walk = c.args.self.now in
+    left_next (g.D.Disk.state c.args.disk.now) walk.file.now walk.forward walk.next c.take.new.self
+    rows l.held c.in-Ok-Some.row l.left
+    (rw c.in-Ok-Some.field-0-is at (c.in-Ok-Some.ensures.gives l.held l.in_hand))
 
-pub returns-in-Ok-clause-keeps : goal.returns-in-Ok-clause-keeps
-returns-in-Ok-clause-keeps g c =
-    walk_keeps (g.D.Disk.state c.args.disk.now)
-    (g.D.Disk.state c.refill.new.disk)
-    c.args.self.now _ c.in-Ok.ensures.file c.in-Ok.ensures.goes c.in-Ok.ensures.quiet
+pub returns-in-Ok-None-clause-gives : goal.returns-in-Ok-None-clause-gives
+returns-in-Ok-None-clause-gives g c = λ told rows l.
+    let walk = c.args.self.now in
+    let none = left_none (g.D.Disk.state c.args.disk.now) walk.file.now walk.forward walk.next
+    c.take.new.self rows l.held l.left
+    (rw c.in-Ok-None.field-0-is at (c.in-Ok-None.ensures.gives l.held l.in_hand)) in
+    c.go_on.ensures.gives told rows none.0 none.1
 
-pub returns-in-Ok-clause-well : goal.returns-in-Ok-clause-well
-returns-in-Ok-clause-well g c = λ t. c.in-Ok.ensures.well (λ e. cc e)
+pub returns-in-Ok-None-clause-keeps : goal.returns-in-Ok-None-clause-keeps
+returns-in-Ok-None-clause-keeps g c =
+    walk_keeps (g.D.Disk.state c.args.disk.now) (g.D.Disk.state c.go_on.new.disk)
+    c.args.self.now c.go_on.new.self c.go_on.ensures.file c.go_on.ensures.goes c.go_on.ensures.quiet
 
-pub returns-in-Err-clause-keeps : goal.returns-in-Err-clause-keeps
-returns-in-Err-clause-keeps g c =
-    walk_keeps (g.D.Disk.state c.args.disk.now)
-    (g.D.Disk.state c.refill.new.disk)
-    c.args.self.now _ c.in-Err.ensures.file c.in-Err.ensures.goes c.in-Err.ensures.quiet
+pub returns-in-Ok-None-clause-well : goal.returns-in-Ok-None-clause-well
+returns-in-Ok-None-clause-well g c = result_well c.go_on.result c.go_on.ensures.well
 
-pub returns-in-Err-clause-well : goal.returns-in-Err-clause-well
-returns-in-Err-clause-well g c = well_failed c.in-Err.fault c.in-Err.ensures.well
+pub returns-in-Ok-None-clause-fails : goal.returns-in-Ok-None-clause-fails
+returns-in-Ok-None-clause-fails g c =
+    result_fails (g.D.Disk.state c.args.disk.now) (g.D.Disk.state c.go_on.new.disk)
+    c.args.self.now c.go_on.result c.go_on.ensures.cause c.go_on.ensures.undamaged
+    c.go_on.ensures.damage
 
 pub returns-in-Err-clause-fails : goal.returns-in-Err-clause-fails
 returns-in-Err-clause-fails g c =
-    walk_fails (g.D.Disk.state c.args.disk.now)
-    (g.D.Disk.state c.refill.new.disk)
+    walk_fails (g.D.Disk.state c.args.disk.now) (g.D.Disk.state c.test_held.new.disk)
     c.args.self.now c.in-Err.fault c.in-Err.ensures.cause c.in-Err.ensures.undamaged
     c.in-Err.ensures.damage

@@ -4,7 +4,7 @@ use Rattle.std.proofs.lemmas.Result.{IfOk-weaker}
 use Rattle.alt_changes.specs.ChangeRows.{change_in}
 use Rattle.alt_machine.specs.Ops.GetRecords.{changes_from}
 use Rattle.alt_machine.specs.State.{Change}
-use Rattle.alt_tables.proofs.ChangePages.{no_changes, one_changes, page_changes, take_none}
+use Rattle.alt_tables.proofs.ChangePages.{first_kept, no_changes, one_changes, page_changes, take_none}
 use Rattle.alt_tables.proofs.Pages.{find_fault, engine_fault}
 use Rattle.alt_tables.proofs.Standing.{stays, there}
 use Rattle.alt_disk.proofs.Runs.{tells_of}
@@ -17,7 +17,10 @@ returns-in-Ok-rows-clause-changes g c s t stands at =
     (take c.args.most (changes_from c.args.from t.changes)) are
     (page_changes (g.D.Disk.state c.args.disk.now) c.args.self.now s c.args.table.now t
     c.in-Some.schema.now stands at (sym c.in-Some.ensures.table) c.in-Some-stream_family.family
-    c.in-Some-stream_family.is c.args.from (search rules) c.in-Ok.range.from
+    c.in-Some-stream_family.is c.args.from c.from_kept-from.result (search rules)
+    (first_kept (g.D.Disk.state c.args.disk.now) c.args.self.now s c.args.table.now t
+    c.in-Some.schema.now stands at (sym c.in-Some.ensures.table) c.args.from c.trimmed.result
+    c.from_kept-from.result c.trimmed.ensures.trimmed c.from_kept-from.ensures) c.in-Ok.range.from
     c.in-Ok.range.to c.args.most
     c.in-Ok.ensures.from c.in-Ok.ensures.to c.new-page.result.items c.rows.new.out.items
     c.new-page.ensures.items c.in-Ok-rows.ensures.rows))
@@ -31,19 +34,22 @@ returns-in-Ok-rows-clause-fault g c s stands =
     (take c.args.most (changes_from c.args.from t.changes))
     (page_changes (g.D.Disk.state c.args.disk.now) c.args.self.now s c.args.table.now t
     c.in-Some.schema.now stands at (sym c.in-Some.ensures.table) c.in-Some-stream_family.family
-    c.in-Some-stream_family.is c.args.from (search rules) c.in-Ok.range.from
+    c.in-Some-stream_family.is c.args.from c.from_kept-from.result (search rules)
+    (first_kept (g.D.Disk.state c.args.disk.now) c.args.self.now s c.args.table.now t
+    c.in-Some.schema.now stands at (sym c.in-Some.ensures.table) c.args.from c.trimmed.result
+    c.from_kept-from.result c.trimmed.ensures.trimmed c.from_kept-from.ensures) c.in-Ok.range.from
     c.in-Ok.range.to c.args.most
     c.in-Ok.ensures.from c.in-Ok.ensures.to c.new-page.result.items c.rows.new.out.items
     c.new-page.ensures.items c.in-Ok-rows.ensures.rows))
 
 pub returns-in-Ok-rows-clause-stays : goal.returns-in-Ok-rows-clause-stays
 returns-in-Ok-rows-clause-stays g c s = stays (g.D.Disk.state c.args.disk.now)
-    (g.D.Disk.state c.rows.new.disk) c.args.self.now _ refl refl refl c.rows.ensures.goes
+    (g.D.Disk.state c.rows.new.disk) c.args.self.now _ refl refl refl refl refl c.rows.ensures.goes
     c.rows.ensures.same c.requires.ready s
 
 pub returns-clause-stays : goal.returns-clause-stays
 returns-clause-stays g c s = stays (g.D.Disk.state c.args.disk.now)
-    (g.D.Disk.state c.rows.new.disk) c.args.self.now _ refl refl refl c.rows.ensures.goes
+    (g.D.Disk.state c.rows.new.disk) c.args.self.now _ refl refl refl refl refl c.rows.ensures.goes
     c.rows.ensures.same c.requires.ready s
 
 -- a table without a stream has no changes

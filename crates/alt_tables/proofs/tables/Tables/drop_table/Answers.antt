@@ -7,6 +7,8 @@ use Rattle.alt_machine.specs.Outcomes.{a_number}
 use Rattle.alt_machine.specs.State.{Texts}
 use Rattle.alt_schema.specs.declared.schema.TableSchema.{TableSchema}
 use Rattle.std.specs.FinMap as map
+use Rattle.alt_opening.specs.Trimmed.{without}
+use Rattle.alt_tables.specs.Fronts.{without_front}
 use Rattle.alt_tables.specs.Stands.{Stands}
 use Rattle.alt_tables.proofs.Holding.{leaves_quiet}
 use Rattle.alt_tables.proofs.Making.{broke, drop_stands, drop_turned, one_made}
@@ -44,7 +46,12 @@ returns-in-Ok-clause-writes g c s stands =
     (c.remove.ensures.rest
     ∙ ap (λ (m : Texts TableSchema). map.remove m c.args.name.now) c.make.ensures.kept.0)
     c.in_ok-live.ensures c.make.ensures.kept.2
-    c.in-Ok.ensures.next)
+    (c.forget.ensures ∙ ap (λ known. without c.args.name.now known.items) c.make.ensures.kept.3)
+    (c.forget_front.ensures
+    ∙ ap (λ known. without_front c.args.name.now known.items) c.make.ensures.kept.4)
+    c.in-Ok.ensures.next c.in_ok-batch.batch c.in_ok-batch.ensures.changes
+    c.in-Ok.ensures.distinct
+    (c.in-Ok.ensures.rows stands.rows.trusted stands.rows.layout stands.rows.is))
     (has_number s.next_number (omega (arith, stands.number, c.next_number-number.ensures.next, c.if-number-ge-NUMBERS_END.false)))
 
 pub returns-in-Ok-clause-disk : goal.returns-in-Ok-clause-disk

@@ -1,4 +1,6 @@
 -- The store that was opened stands for the state, and so do the tables that are made of it.
+use Rattle.std.proofs.Common.{◌≡◌, ◌∙◌, sym, ap, Some, None}
+use Rattle.alt_tables.specs.Fronts.{front_at}
 use Rattle.alt_tables.proofs.Left.{whole_on}
 use Rattle.alt_tables.proofs.tables.Tables.recover.Goals as goal
 
@@ -9,7 +11,10 @@ returns-in-Ok-live-clause-stands g c trusted s stood =
       number = opens.number;
       family = opens.family;
       live = c.in-Ok-live.ensures.live;
+      trimmed = opens.trimmed;
       rows = opens.rows;
+      fronts = λ l rows name f told. absurd (let no : None ≡ Some f =
+          sym (ap (front_at name) c.new.ensures.items) ∙ told in let e : ⊥ = cc no in e);
       valid = opens.valid;
     }
 

@@ -1,23 +1,35 @@
--- What is there differs from what is to be there, so one write is made.
-use Rattle.std.proofs.Common.{◌≡◌, sym, ap, ◌∙◌, List, Some, subst, arith, rules}
+-- What the write takes from the front of the stream is read, and then one write is made where what is there differs.
+use Rattle.std.proofs.Common.{◌≡◌, refl, sym, ap, ◌∙◌, ℕ, List, [], ◌∷◌, Option, Some, subst, arith, rules, Ok, IfOk, OnOk, T}
+use Rattle.std.specs.FinMap as map
+use Rattle.std.specs.Prelude.{IsSome, drop}
 use Rattle.alt_cells.specs.declared.batch.RowChange.{RowChange}
-use Rattle.alt_tables.specs.RowChanges.{changed_rows, item_changes}
-use Rattle.alt_disk.proofs.Runs.{quiet_start}
+use Rattle.alt_disk.specs.Disk.{DiskState, IsTrusted}
+use Rattle.alt_disk.proofs.Calls.{goes_on}
+use Rattle.alt_disk.proofs.Runs.{quiet_start, trusted_on}
+use Rattle.alt_layout.specs.Layout.{Layout}
 use Rattle.alt_machine.specs.Outcomes.{a_number}
-use Rattle.alt_machine.specs.State.{State}
-use Rattle.alt_machine.specs.Writes.{after_item, item_writes}
-use Rattle.alt_machine.proofs.Lacks.{has_number, lacks_number}
-use Rattle.alt_tables.specs.Faults.{AreMade, BreakOff}
-use Rattle.alt_tables.specs.Images.{Leaves}
-use Rattle.alt_tables.specs.Stands.{HasRows, Stands}
-use Rattle.alt_tables.specs.declared.faults.TableFault.TheVariants.{Spent}
+use Rattle.alt_machine.specs.State.{State, Table}
 use Rattle.alt_machine.specs.Wanted.{number_lack}
+use Rattle.alt_machine.specs.Writes.{after_item, item_writes}
+use Rattle.alt_machine.proofs.Lacks.{lacks_number}
+use Rattle.alt_opening.specs.Trimmed.{number_at}
+use Rattle.alt_schema.specs.declared.schema.TableSchema.{TableSchema}
+use Rattle.alt_tables.specs.Faults.{BreakOff, Writes}
+use Rattle.alt_tables.specs.Found.{number_taken}
+use Rattle.alt_tables.specs.Images.{Leaves}
+use Rattle.alt_tables.specs.Leftovers.{leftovers, lowest_left}
+use Rattle.alt_tables.specs.RowChanges.{changed_rows, write_changes}
+use Rattle.alt_tables.specs.Stands.{HasRows, Reads, Stands, catalog_of, number_of, trimmed_of}
+use Rattle.alt_tables.specs.declared.faults.TableFault.TheVariants.{Spent}
+use Rattle.alt_tables.specs.declared.tables.Tables.{Tables}
+use Rattle.alt_tables.specs.declared.trimming.Trim.{Trim}
+use Rattle.alt_tables.specs.private.Trims.{IsTrim, IsWithin, IsWrittenAs}
 use Rattle.alt_tables.proofs.Holding.{leaves_quiet}
-use Rattle.alt_tables.proofs.Making.{broke, item_differs, item_turned, item_stands, one_made, want_told, spent}
+use Rattle.alt_tables.proofs.Left.{leaves_after, leaves_reads, reads_then}
+use Rattle.alt_tables.proofs.Making.{broke, item_differs, spent}
+use Rattle.alt_tables.proofs.Standing.{ready_kept, rows_kept, stands_kept, stays_kept, there}
+use Rattle.alt_tables.proofs.Trimmed.{made_is, made_leftovers, ok_both, rows_back}
 use Rattle.alt_tables.proofs.tables.Tables.write.Goals as goal
-
-same_Some : {A : Type 0} (x y : A) → Some x ≡ Some y → x ≡ y
-same_Some x y e = cc
 
 pub returns-then-number-ge-NUMBERS_END-clause-disk :
     goal.returns-then-number-ge-NUMBERS_END-clause-disk
@@ -26,107 +38,6 @@ returns-then-number-ge-NUMBERS_END-clause-disk g c s t stands at =
     (g.D.Disk.state c.args.disk.now) c.args.self.now.engine s
     (item_writes s c.args.moment c.args.table.now t c.args.found.place c.args.new)
     stands.rows stands.valid (quiet_start (g.D.Disk.state c.args.disk.now))
-
-pub returns-in_err-batch-clause-writes : goal.returns-in_err-batch-clause-writes
-returns-in_err-batch-clause-writes g c s t stands at =
-    want_told (Stands (g.D.Disk.state c.args.disk.now) c.args.self.now) a_number s
-    (item_writes s c.args.moment c.args.table.now t c.args.found.place c.args.new)
-    c.from_residual.result c.from_residual.ensures.1
-
-pub returns-in_err-batch-clause-disk : goal.returns-in_err-batch-clause-disk
-returns-in_err-batch-clause-disk g c s t stands at =
-    leaves_quiet (g.D.Disk.state c.args.disk.now)
-    (g.D.Disk.state c.args.disk.now) c.args.self.now.engine s
-    (item_writes s c.args.moment c.args.table.now t c.args.found.place c.args.new)
-    stands.rows stands.valid (quiet_start (g.D.Disk.state c.args.disk.now))
-
-pub make-requires-clause-ready : goal.make-requires-clause-ready
-make-requires-clause-ready g c trusted =
-    let (s, stands) = c.requires.ready trusted in (s, stands.rows)
-
-pub returns-in-Ok-clause-writes : goal.returns-in-Ok-clause-writes
-returns-in-Ok-clause-writes g c s t stands at =
-    let turned = item_turned (g.D.Disk.state c.args.disk.now) c.args.self.now s t stands
-    c.args.moment c.args.table.now c.args.found.place c.args.found.item c.args.new at
-    (c.requires.found s stands t at)
-    c.in-Some.schema.now c.next_number-number.result c.in_ok-batch.batch
-    (sym c.in-Some.ensures.table) c.next_number-number.ensures.next c.in_ok-batch.ensures.changes
-    (omega (arith, c.next_number-number.ensures.next, c.if-number-ge-NUMBERS_END.false))
-    (sym c.if-same.ensures)
-    (c.requires.new s stands c.in-Some.schema.now (sym c.in-Some.ensures.table))
-    c.in_ok-batch.ensures.held (search rules) in
-    subst (λ (ts : List State). AreMade (Stands (g.D.Disk.state c.make.new.disk) c.make.new.self)
-    a_number s ts)
-    (sym (item_differs (g.D.Disk.state c.args.disk.now) c.args.self.now s t stands
-    c.args.moment c.args.table.now c.args.found.place c.args.found.item c.args.new at
-    (c.requires.found s stands t at)
-    (sym c.if-same.ensures)))
-    (one_made (Stands (g.D.Disk.state c.make.new.disk) c.make.new.self) a_number s
-    (after_item s c.args.moment c.args.table.now t c.args.found.place c.args.new)
-    (item_stands (g.D.Disk.state c.args.disk.now) c.args.self.now s t stands
-    c.args.moment c.args.table.now c.args.found.place c.args.found.item c.args.new at
-    (c.requires.found s stands t at)
-    (g.D.Disk.state c.make.new.disk) c.make.new.self (c.in-Ok.ensures.ok s
-    (after_item s c.args.moment c.args.table.now t c.args.found.place c.args.new)
-    stands.rows turned)
-    turned.valid c.make.ensures.kept.0 c.make.ensures.kept.1 c.make.ensures.kept.2
-    c.in-Ok.ensures.next)
-    (has_number s.next_number (omega (arith, stands.number, c.next_number-number.ensures.next, c.if-number-ge-NUMBERS_END.false))))
-
-pub returns-in-Ok-clause-disk : goal.returns-in-Ok-clause-disk
-returns-in-Ok-clause-disk g c s t stands at =
-    let turned = item_turned (g.D.Disk.state c.args.disk.now) c.args.self.now s t stands
-    c.args.moment c.args.table.now c.args.found.place c.args.found.item c.args.new at
-    (c.requires.found s stands t at)
-    c.in-Some.schema.now c.next_number-number.result c.in_ok-batch.batch
-    (sym c.in-Some.ensures.table) c.next_number-number.ensures.next c.in_ok-batch.ensures.changes
-    (omega (arith, c.next_number-number.ensures.next, c.if-number-ge-NUMBERS_END.false))
-    (sym c.if-same.ensures)
-    (c.requires.new s stands c.in-Some.schema.now (sym c.in-Some.ensures.table))
-    c.in_ok-batch.ensures.held (search rules) in
-    subst (λ (ts : List State). Leaves (g.D.Disk.state c.args.disk.now)
-    (g.D.Disk.state c.make.new.disk) s ts)
-    (sym (item_differs (g.D.Disk.state c.args.disk.now) c.args.self.now s t stands
-    c.args.moment c.args.table.now c.args.found.place c.args.found.item c.args.new at
-    (c.requires.found s stands t at)
-    (sym c.if-same.ensures)))
-    (c.make.ensures.disk s
-    (after_item s c.args.moment c.args.table.now t c.args.found.place c.args.new)
-    stands.rows stands.valid turned)
-
-pub returns-clause-writes : goal.returns-clause-writes
-returns-clause-writes g c s t stands at =
-    subst (λ (ts : List State). BreakOff
-    (Stands (g.D.Disk.state c.make.new.disk) c.make.new.self) a_number s ts
-    c.in-Err.fault)
-    (sym (item_differs (g.D.Disk.state c.args.disk.now) c.args.self.now s t stands
-    c.args.moment c.args.table.now c.args.found.place c.args.found.item c.args.new at
-    (c.requires.found s stands t at)
-    (sym c.if-same.ensures)))
-    (broke (Stands (g.D.Disk.state c.make.new.disk) c.make.new.self) a_number s
-    (after_item s c.args.moment c.args.table.now t c.args.found.place c.args.new) c.in-Err.fault
-    c.in-Err.ensures.fault)
-
-pub returns-clause-disk : goal.returns-clause-disk
-returns-clause-disk g c s t stands at =
-    let turned = item_turned (g.D.Disk.state c.args.disk.now) c.args.self.now s t stands
-    c.args.moment c.args.table.now c.args.found.place c.args.found.item c.args.new at
-    (c.requires.found s stands t at)
-    c.in-Some.schema.now c.next_number-number.result c.in_ok-batch.batch
-    (sym c.in-Some.ensures.table) c.next_number-number.ensures.next c.in_ok-batch.ensures.changes
-    (omega (arith, c.next_number-number.ensures.next, c.if-number-ge-NUMBERS_END.false))
-    (sym c.if-same.ensures)
-    (c.requires.new s stands c.in-Some.schema.now (sym c.in-Some.ensures.table))
-    c.in_ok-batch.ensures.held (search rules) in
-    subst (λ (ts : List State). Leaves (g.D.Disk.state c.args.disk.now)
-    (g.D.Disk.state c.make.new.disk) s ts)
-    (sym (item_differs (g.D.Disk.state c.args.disk.now) c.args.self.now s t stands
-    c.args.moment c.args.table.now c.args.found.place c.args.found.item c.args.new at
-    (c.requires.found s stands t at)
-    (sym c.if-same.ensures)))
-    (c.make.ensures.disk s
-    (after_item s c.args.moment c.args.table.now t c.args.found.place c.args.new)
-    stands.rows stands.valid turned)
 
 pub returns-then-number-ge-NUMBERS_END-clause-writes :
     goal.returns-then-number-ge-NUMBERS_END-clause-writes
@@ -143,13 +54,191 @@ returns-then-number-ge-NUMBERS_END-clause-writes g c s t stands at =
     ∙ lacks_number c.next_number-number.result
     (omega (arith, c.if-number-ge-NUMBERS_END.true))) stands)
 
-pub returns-in-Ok-clause-rows : goal.returns-in-Ok-clause-rows
-returns-in-Ok-clause-rows g c some trusted d l there rows =
-    let same : c.in-Some.schema.now ≡ d =
-    same_Some c.in-Some.schema.now d (c.in-Some.ensures.table ∙ there) in
-    subst (λ (cs : List RowChange). HasRows (g.D.Disk.state c.make.new.disk) c.make.new.self
-    (changed_rows l cs))
-    (c.in_ok-batch.ensures.changes
-    ∙ (λ i. item_changes (same i) (c.next_number-number.ensures.next i) c.args.moment
-    c.args.found.place c.args.found.item c.args.new))
-    (c.in-Ok.ensures.rows trusted l rows)
+-- ---- the front couldn't be read
+
+pub returns-in-Err-clause-writes : goal.returns-in-Err-clause-writes
+returns-in-Err-clause-writes g c s t stands at =
+    subst (λ (ts : List State). BreakOff (Stands (g.D.Disk.state c.trim.new.disk) c.trim.new.self)
+    a_number s ts c.in-Err.fault)
+    (sym (item_differs (g.D.Disk.state c.args.disk.now) c.args.self.now s t stands
+    c.args.moment c.args.table.now c.args.found.place c.args.found.item c.args.new at
+    (c.requires.found s stands t at) (sym c.if-same.ensures)))
+    (broke (Stands (g.D.Disk.state c.trim.new.disk) c.trim.new.self) a_number s
+    (after_item s c.args.moment c.args.table.now t c.args.found.place c.args.new) c.in-Err.fault
+    (c.in-Err.ensures.fault s stands))
+
+pub returns-in-Err-clause-disk : goal.returns-in-Err-clause-disk
+returns-in-Err-clause-disk g c s t stands at =
+    leaves_reads (g.D.Disk.state c.args.disk.now) (g.D.Disk.state c.trim.new.disk)
+    c.args.self.now s
+    (item_writes s c.args.moment c.args.table.now t c.args.found.place c.args.new)
+    c.in-Err.ensures.keeps.reads stands
+
+-- ---- what is asked of the write
+
+pub write_trimmed-requires-clause-ready : goal.write_trimmed-requires-clause-ready
+write_trimmed-requires-clause-ready g c = ready_kept (g.D.Disk.state c.args.disk.now)
+    (g.D.Disk.state c.trim.new.disk) c.args.self.now c.trim.new.self c.trim.ensures.keeps
+    c.requires.ready
+
+pub write_trimmed-requires-clause-there : goal.write_trimmed-requires-clause-there
+write_trimmed-requires-clause-there g c =
+    ap (λ m. map.contains_key m c.args.table.now) c.trim.ensures.keeps.catalog ∙ c.requires.there
+
+pub write_trimmed-requires-clause-found : goal.write_trimmed-requires-clause-found
+write_trimmed-requires-clause-found g c s stands = c.requires.found s
+    ((stays_kept (g.D.Disk.state c.args.disk.now) (g.D.Disk.state c.trim.new.disk)
+    c.args.self.now c.trim.new.self c.trim.ensures.keeps c.requires.ready s).1 stands)
+
+pub write_trimmed-requires-clause-new : goal.write_trimmed-requires-clause-new
+write_trimmed-requires-clause-new g c s stands d there = c.requires.new s
+    ((stays_kept (g.D.Disk.state c.args.disk.now) (g.D.Disk.state c.trim.new.disk)
+    c.args.self.now c.trim.new.self c.trim.ensures.keeps c.requires.ready s).1 stands) d
+    (ap (λ m. map.get m c.args.table.now) (sym c.trim.ensures.keeps.catalog) ∙ there)
+
+pub write_trimmed-requires-clause-room : goal.write_trimmed-requires-clause-room
+write_trimmed-requires-clause-room g c = omega (
+  arith,
+  c.trim.ensures.keeps.number,
+  c.next_number-number.ensures.next,
+  c.if-number-ge-NUMBERS_END.false,
+)
+
+pub write_trimmed-requires-clause-trim : goal.write_trimmed-requires-clause-trim
+write_trimmed-requires-clause-trim g c s t l stands at rows =
+    let before = (stays_kept (g.D.Disk.state c.args.disk.now) (g.D.Disk.state c.trim.new.disk)
+    c.args.self.now c.trim.new.self c.trim.ensures.keeps c.requires.ready s).1 stands in
+    c.in-Ok.ensures.trim s t l before at
+    (rows_back (g.D.Disk.state c.args.disk.now) (g.D.Disk.state c.trim.new.disk)
+    c.args.self.now c.trim.new.self c.trim.ensures.keeps s before l rows)
+
+pub write_trimmed-requires-clause-within : goal.write_trimmed-requires-clause-within
+write_trimmed-requires-clause-within g c d there has =
+    subst (λ (known : _). IsWithin (number_at c.args.table.now known) (number_of c.trim.new.self)
+    c.in-Ok.trim) (ap (λ v. v.items) (sym c.trim.ensures.keeps.trimmed))
+    (subst (λ n. IsWithin (number_at c.args.table.now (trimmed_of c.args.self.now)) n c.in-Ok.trim)
+    (sym c.trim.ensures.keeps.number)
+    (c.in-Ok.ensures.within d
+    (ap (λ m. map.get m c.args.table.now) (sym c.trim.ensures.keeps.catalog) ∙ there) has))
+
+-- ---- what it leaves
+
+pub returns-clause-writes : goal.returns-clause-writes
+returns-clause-writes g c s t stands at =
+    subst (λ (ts : List State). Writes (Stands (g.D.Disk.state c.write_trimmed.new.disk)
+    c.write_trimmed.new.self) a_number s ts c.write_trimmed.result)
+    (sym (item_differs (g.D.Disk.state c.args.disk.now) c.args.self.now s t stands
+    c.args.moment c.args.table.now c.args.found.place c.args.found.item c.args.new at
+    (c.requires.found s stands t at) (sym c.if-same.ensures)))
+    (c.write_trimmed.ensures.writes s t
+    (stands_kept (g.D.Disk.state c.args.disk.now) (g.D.Disk.state c.trim.new.disk)
+    c.args.self.now c.trim.new.self c.trim.ensures.keeps s stands) at)
+
+pub returns-clause-number : goal.returns-clause-number
+returns-clause-number g c s t stands at =
+    subst (λ (ts : List State). IfOk c.write_trimmed.result
+    (λ n. n ≡ number_taken (number_of c.args.self.now) ts))
+    (sym (item_differs (g.D.Disk.state c.args.disk.now) c.args.self.now s t stands
+    c.args.moment c.args.table.now c.args.found.place c.args.found.item c.args.new at
+    (c.requires.found s stands t at) (sym c.if-same.ensures)))
+    (subst (λ k. IfOk c.write_trimmed.result (λ n. n ≡ Some k)) c.trim.ensures.keeps.number
+    c.write_trimmed.ensures.number)
+
+pub returns-clause-disk : goal.returns-clause-disk
+returns-clause-disk g c s t stands at =
+    subst (λ (ts : List State). Leaves (g.D.Disk.state c.args.disk.now)
+    (g.D.Disk.state c.write_trimmed.new.disk) s ts)
+    (sym (item_differs (g.D.Disk.state c.args.disk.now) c.args.self.now s t stands
+    c.args.moment c.args.table.now c.args.found.place c.args.found.item c.args.new at
+    (c.requires.found s stands t at) (sym c.if-same.ensures)))
+    (leaves_after (g.D.Disk.state c.args.disk.now) (g.D.Disk.state c.trim.new.disk)
+    (g.D.Disk.state c.write_trimmed.new.disk) c.args.self.now s
+    (after_item s c.args.moment c.args.table.now t c.args.found.place c.args.new ∷ [])
+    c.trim.ensures.keeps.reads stands
+    (c.write_trimmed.ensures.disk s t
+    (stands_kept (g.D.Disk.state c.args.disk.now) (g.D.Disk.state c.trim.new.disk)
+    c.args.self.now c.trim.new.self c.trim.ensures.keeps s stands) at))
+
+pub returns-clause-rows : goal.returns-clause-rows
+returns-clause-rows g c =
+    let a : DiskState = g.D.Disk.state c.args.disk.now in
+    let m : DiskState = g.D.Disk.state c.trim.new.disk in
+    let b : DiskState = g.D.Disk.state c.write_trimmed.new.disk in
+    let old : Tables = c.args.self.now in
+    let mid : Tables = c.trim.new.self in
+    let new : Tables = c.write_trimmed.new.self in
+    let name : List ℕ = c.args.table.now in
+    let r : Trim = c.in-Ok.trim in
+    let changes : TableSchema → ℕ → ℕ → List RowChange = λ d number before. write_changes d number
+    c.args.moment c.args.found.place c.args.found.item c.args.new before r.number r.leftovers.items in
+    let in_old : (d : TableSchema) → changes d (number_of mid) (number_at name (trimmed_of mid))
+    ≡ changes d (number_of old) (number_at name (trimmed_of old)) =
+    λ d i. changes d (c.trim.ensures.keeps.number i)
+    (number_at name (c.trim.ensures.keeps.trimmed i).items) in
+    ok_both (λ (n : Option ℕ). IsTrusted m → (d : TableSchema) (l : Layout)
+    → map.get (catalog_of mid) name ≡ Some d → HasRows m mid l
+    → IsWrittenAs b new l (changes d (number_of mid) (number_at name (trimmed_of mid))))
+    (λ (n : Option ℕ). IsSome n → IsTrusted a → (d : TableSchema) (l : Layout)
+    → map.get (catalog_of old) name ≡ Some d → HasRows a old l
+    → HasRows b new (changed_rows l (write_changes d (number_of old) c.args.moment
+    c.args.found.place c.args.found.item c.args.new (number_at name (trimmed_of old))
+    (number_at name (trimmed_of new)) (lowest_left l d (number_at name (trimmed_of new))))))
+    (number_at name (trimmed_of new) ≡ r.number)
+    c.write_trimmed.result c.write_trimmed.ensures.rows c.write_trimmed.ensures.trimmed
+    (λ n rows after some trusted d l there_d rows_l.
+    let (s, stands) = c.requires.ready trusted in
+    let (t, at, same) = there a old s name d stands there_d in
+    subst (λ (cs : List RowChange). HasRows b new (changed_rows l cs))
+    (in_old d
+    ∙ made_is a b old new s t stands c.args.moment name c.args.found.place c.args.found.item
+    c.args.new at (c.requires.found s stands t at) r
+    (λ x has. c.in-Ok.ensures.trim s t x stands at has) d there_d (sym c.if-same.ensures)
+    (number_at name (trimmed_of new)) after l rows_l)
+    (rows (trusted_on a m c.trim.ensures.keeps.reads.goes trusted) d l
+    (ap (λ x. map.get x name) c.trim.ensures.keeps.catalog ∙ there_d)
+    (rows_kept a m old mid c.trim.ensures.keeps trusted l rows_l)).rows)
+
+pub returns-clause-leftovers : goal.returns-clause-leftovers
+returns-clause-leftovers g c =
+    let a : DiskState = g.D.Disk.state c.args.disk.now in
+    let m : DiskState = g.D.Disk.state c.trim.new.disk in
+    let b : DiskState = g.D.Disk.state c.write_trimmed.new.disk in
+    let old : Tables = c.args.self.now in
+    let mid : Tables = c.trim.new.self in
+    let new : Tables = c.write_trimmed.new.self in
+    let name : List ℕ = c.args.table.now in
+    let r : Trim = c.in-Ok.trim in
+    let changes : TableSchema → ℕ → ℕ → List RowChange = λ d number before. write_changes d number
+    c.args.moment c.args.found.place c.args.found.item c.args.new before r.number r.leftovers.items in
+    let in_old : (d : TableSchema) → changes d (number_of mid) (number_at name (trimmed_of mid))
+    ≡ changes d (number_of old) (number_at name (trimmed_of old)) =
+    λ d i. changes d (c.trim.ensures.keeps.number i)
+    (number_at name (c.trim.ensures.keeps.trimmed i).items) in
+    ok_both (λ (n : Option ℕ). IsTrusted m → (d : TableSchema) (l : Layout)
+    → map.get (catalog_of mid) name ≡ Some d → HasRows m mid l
+    → IsWrittenAs b new l (changes d (number_of mid) (number_at name (trimmed_of mid))))
+    (λ (n : Option ℕ). IsSome n → IsTrusted a → (d : TableSchema) (family : ℕ) (l x : Layout)
+    → map.get (catalog_of old) name ≡ Some d → d.stream_family ≡ Some family → HasRows a old l
+    → HasRows b new x → leftovers x family (number_at name (trimmed_of new))
+    ≡ drop 2 (leftovers l family (number_at name (trimmed_of new))))
+    (number_at name (trimmed_of new) ≡ r.number)
+    c.write_trimmed.result c.write_trimmed.ensures.rows c.write_trimmed.ensures.trimmed
+    (λ n rows after some trusted d family l x there_d stream rows_l rows_x.
+    let (s, stands) = c.requires.ready trusted in
+    let (t, at, same) = there a old s name d stands there_d in
+    let written : IsWrittenAs b new l (changes d (number_of old) (number_at name (trimmed_of old))) =
+    subst (IsWrittenAs b new l) (in_old d)
+    (rows (trusted_on a m c.trim.ensures.keeps.reads.goes trusted) d l
+    (ap (λ x. map.get x name) c.trim.ensures.keeps.catalog ∙ there_d)
+    (rows_kept a m old mid c.trim.ensures.keeps trusted l rows_l)) in
+    made_leftovers a b old new s t stands c.args.moment name c.args.found.place c.args.found.item
+    c.args.new at (c.requires.found s stands t at) r
+    (λ x has. c.in-Ok.ensures.trim s t x stands at has) d there_d (sym c.if-same.ensures)
+    (number_at name (trimmed_of new)) after written.distinct family stream l x rows_l written.rows
+    rows_x)
+
+-- where memory was wanting for the write, the reading is all there was
+pub returns-clause-no_memory : goal.returns-clause-no_memory
+returns-clause-no_memory g c none =
+    subst (λ (d : DiskState). Reads (g.D.Disk.state c.args.disk.now) d)
+    (sym (c.write_trimmed.ensures.no_memory none)) c.trim.ensures.keeps.reads

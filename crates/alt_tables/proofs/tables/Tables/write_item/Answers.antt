@@ -5,7 +5,7 @@ use Rattle.alt_cells.specs.declared.batch.RowChange.{RowChange}
 use Rattle.alt_disk.specs.Disk.{DiskState, IsTrusted}
 use Rattle.alt_layout.specs.Layout.{Layout}
 use Rattle.alt_schema.specs.declared.schema.TableSchema.{TableSchema}
-use Rattle.alt_tables.specs.RowChanges.{changed_rows, item_changes}
+use Rattle.alt_tables.specs.RowChanges.{changed_rows, write_changes}
 use Rattle.alt_tables.specs.declared.tables.Tables.{Tables}
 use Rattle.alt_value.specs.Tree.{Pair}
 use Rattle.alt_disk.proofs.Runs.{quiet_start}
@@ -15,8 +15,10 @@ use Rattle.alt_machine.specs.State.{State}
 use Rattle.alt_machine.specs.Writes.{item_writes}
 use Rattle.alt_tables.specs.Faults.{Writes}
 use Rattle.alt_tables.specs.Found.{number_taken}
+use Rattle.alt_opening.specs.Trimmed.{number_at}
 use Rattle.alt_tables.specs.Images.{Leaves}
-use Rattle.alt_tables.specs.Stands.{HasRows, Stands, catalog_of, number_of}
+use Rattle.alt_tables.specs.Leftovers.{lowest_left}
+use Rattle.alt_tables.specs.Stands.{HasRows, Stands, catalog_of, number_of, trimmed_of}
 use Rattle.alt_tables.proofs.Holding.{leaves_quiet}
 use Rattle.alt_tables.proofs.Standing.{known, one_place}
 use Rattle.alt_tables.proofs.tables.Tables.write_item.Goals as goal
@@ -97,21 +99,24 @@ returns-clause-rows g c =
     let b : DiskState = g.D.Disk.state c.write.new.disk in
     let old : Tables = c.args.self.now in
     let new : Tables = c.write.new.self in
-    let changes : TableSchema → List ℕ → Option (List Pair) → Option (List Pair)
-    → List RowChange = λ d. item_changes d (number_of old) c.args.moment in
+    let name : List ℕ = c.args.table.now in
+    let changes : TableSchema → List ℕ → Option (List Pair) → Option (List Pair) → Layout
+    → List RowChange = λ d place was to l. write_changes d (number_of old) c.args.moment place was to
+    (number_at name (trimmed_of old)) (number_at name (trimmed_of new))
+    (lowest_left l d (number_at name (trimmed_of new))) in
     at_ok (λ n. IsSome n → IsTrusted a → (d : TableSchema) (l : Layout)
-    → map.get (catalog_of old) c.args.table.now ≡ Some d → HasRows a old l
+    → map.get (catalog_of old) name ≡ Some d → HasRows a old l
     → HasRows b new (changed_rows l (changes d c.in-Ok.place c.in-Ok-copy_of.item
-    c.in-Ok-copy_of-2.new)))
+    c.in-Ok-copy_of-2.new l)))
     (λ n. IsSome n → IsTrusted a → (d : TableSchema) (place : List ℕ) (l : Layout)
-    → map.get (catalog_of old) c.args.table.now ≡ Some d
+    → map.get (catalog_of old) name ≡ Some d
     → place_of d c.args.key.now ≡ Some place → HasRows a old l
     → HasRows b new (changed_rows l (changes d place (option_map (λ i. i.now) c.args.old)
-    (option_map (λ i. i.now) c.args.new))))
+    (option_map (λ i. i.now) c.args.new) l)))
     (λ n h some trusted d place l there here rows.
     let same = one_place (place_of d c.args.key.now) c.in-Ok.place place
     (c.in-Ok.ensures.place d there) here in
     subst (λ cs. HasRows b new (changed_rows l cs))
-    (λ i. changes d (same i) (c.in-Ok-copy_of.ensures i) (c.in-Ok-copy_of-2.ensures i))
+    (λ i. changes d (same i) (c.in-Ok-copy_of.ensures i) (c.in-Ok-copy_of-2.ensures i) l)
     (h some trusted d l there rows))
     c.write.result c.write.ensures.rows

@@ -1,0 +1,58 @@
+-- The rows of a block stand at the end of its bytes.
+use Rattle.std.proofs.Common.{◌-◌, length, refl}
+use Rattle.std.specs.Int.{w64, to_be_bytes}
+use Rattle.alt_rowfile.specs.Decoding.{NoRows}
+use Rattle.alt_rowfile.proofs.LoadLaws.{no_block_field}
+use Rattle.alt_rowfile.proofs.PickLaws.{none_missing}
+use Rattle.alt_rowfile.proofs.HandLaws.{block_front, cut_front, some_either}
+use Rattle.alt_rowfile.proofs.hand.cut_in.Goals as goal
+
+pub returns-in-Some-from-clause-some : goal.returns-in-Some-from-clause-some
+returns-in-Some-from-clause-some c = λ b held sorted is.
+    let f = c.in-Some.ensures.some in
+    let p = block_front c.args.bytes.now c.in-Some.rows.now c.in-Some.field-0-1.now b held is f.0
+    f.1 in
+    rw c.in-Some-from.is
+    (some_either c.pass.result (λ v. v.0.items) (λ v. v.1) c.args.bytes.now c.in-Some-from.key.now
+    c.args.forward b
+    (c.pass.ensures.passed (to_be_bytes w64 (length c.in-Some.rows.now)) b (held.0, sorted) p.0 p.1))
+
+pub returns-in-Some-from-clause-none : goal.returns-in-Some-from-clause-none
+returns-in-Some-from-clause-none c = λ b held sorted is.
+    let f = c.in-Some.ensures.some in
+    let p = block_front c.args.bytes.now c.in-Some.rows.now c.in-Some.field-0-1.now b held is f.0
+    f.1 in
+    none_missing c.pass.result
+    (λ (none : NoRows c.in-Some.rows.now). none b (held.0, sorted) p.0) c.pass.ensures.none
+
+pub returns-then-forward-clause-some : goal.returns-then-forward-clause-some
+returns-then-forward-clause-some c = λ b held sorted is.
+    let f = c.in-Some.ensures.some in
+    let p = block_front c.args.bytes.now c.in-Some.rows.now c.in-Some.field-0-1.now b held is f.0
+    f.1 in
+    rw (c.in-None-from.is, c.if-forward.true)
+    (cut_front c.args.bytes.now (to_be_bytes w64 (length c.in-Some.rows.now)) c.in-Some.rows.now
+    c.new.result.items (length c.args.bytes.now - length c.in-Some.rows.now) b c.new.ensures.items
+    p.0 p.1 refl)
+
+pub returns-else-forward-clause-some : goal.returns-else-forward-clause-some
+returns-else-forward-clause-some c = λ b held sorted is.
+    let f = c.in-Some.ensures.some in
+    let p = block_front c.args.bytes.now c.in-Some.rows.now c.in-Some.field-0-1.now b held is f.0
+    f.1 in
+    rw (c.in-None-from.is, c.if-forward.false)
+    (c.pass-else-forward.ensures.passed (to_be_bytes w64 (length c.in-Some.rows.now)) b
+    (held.0, sorted) p.0 p.1)
+
+pub returns-else-forward-clause-none : goal.returns-else-forward-clause-none
+returns-else-forward-clause-none c = λ b held sorted is.
+    let f = c.in-Some.ensures.some in
+    let p = block_front c.args.bytes.now c.in-Some.rows.now c.in-Some.field-0-1.now b held is f.0
+    f.1 in
+    none_missing c.pass-else-forward.result
+    (λ (none : NoRows c.in-Some.rows.now). none b (held.0, sorted) p.0)
+    c.pass-else-forward.ensures.none
+
+pub returns-in-None-clause-none : goal.returns-in-None-clause-none
+returns-in-None-clause-none c =
+    λ b held sorted is. no_block_field c.args.bytes.now b held is c.in-None.ensures.none

@@ -43,8 +43,8 @@ class Edit:
         self.name = path.stem
         self.pairs = list(pairs(path.read_text(encoding='utf-8')))
         self.owners = {(at, owner((crate / at).read_text(encoding='utf-8'), old)) for at, old, _ in self.pairs if at.startswith('src/')}
-        # what is in no function, as a constant, is seen by the functions that read it
-        self.alone = any(function is None for _, function in self.owners)
+        # what is in no function, as a constant or a definition, is seen by all that read it
+        self.alone = not self.owners or any(function is None for _, function in self.owners)
 
     def applied(self, crate, texts):
         """The texts of the files with this edit too, None where it can't be applied to them."""

@@ -1,6 +1,7 @@
 pub mod Beginning
 pub mod Bringing
 pub mod Chaining
+pub mod EndingFor
 pub mod EndingLaws
 pub mod Hands
 pub mod Initing

@@ -1,5 +1,6 @@
 pub mod Behind
 pub mod Chains
+pub mod EndingOf
 pub mod Endings
 pub mod Faults
 pub mod Moments

@@ -3,6 +3,7 @@
 
 mod chain;
 mod ending;
+mod ending_of;
 mod init;
 mod lines;
 mod open;

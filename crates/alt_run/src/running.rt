@@ -25,6 +25,7 @@ ghost use Rattle.alt_run.specs.declared.words.Command.TheVariants.{Init, Over};
 ghost use Rattle.alt_hand.specs.declared.hand.Limits.{Limits as EngineLimits};
 
 use crate::ending::{Ending, noted, status_of};
+use crate::ending_of::ending_of;
 use crate::init::init;
 use crate::open::open;
 use crate::serve::pull;
@@ -209,14 +210,7 @@ fn finished<S: Shell>(alloc: Global, job: Job, limits: Limits, shell: &mut S) ->
 {
     match over_store(alloc, job, limits, shell) {
         Ok(()) => Ending::Whole,
-        Err(RunFault::Failed) => Ending::Device,
-        Err(RunFault::NoMemory) => Ending::Memory,
-        Err(RunFault::Spent { number }) => Ending::Spent { number },
-        Err(RunFault::Damaged { file, at }) => Ending::Damaged { file, at },
-        Err(RunFault::DigestDiffers { file, kept, found }) => {
-            Ending::DigestDiffers { file, kept, found }
-        }
-        Err(RunFault::BadRow { family, key }) => Ending::BadRow { family, key },
+        Err(fault) => ending_of(fault),
     }
 }
 

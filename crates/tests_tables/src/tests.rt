@@ -4,5 +4,6 @@ mod conditions;
 mod failures;
 mod indexes;
 mod stops;
+mod streams;
 mod updates;
 mod walks;

@@ -3,6 +3,7 @@ mod batches;
 mod conditions;
 mod failures;
 mod indexes;
+mod leftovers;
 mod reads;
 mod stops;
 mod streams;

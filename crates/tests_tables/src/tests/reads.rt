@@ -181,7 +181,10 @@ fn flush(tables: &mut Tables, disk: &mut MemoryDisk) -> Option<()>
 {
     match tables.work(disk, Task::FlushAll) {
         Ok(_) => Some(()),
-        Err(_) => None,
+        Err(fault) => {
+            let _spent = fault;
+            None
+        }
     }
 }
 

@@ -1,4 +1,5 @@
 mod cached;
+mod changed;
 mod doubted;
 mod failed;
 mod files;

@@ -125,15 +125,23 @@ pub(super) fn told(
     requires { AreReady (state_of disk.old) tables.old }
     ensures { IfSome result (λ _. AreReady (state_of disk.new) tables.new) }
 {
+    told_at(alloc, tables, disk, operation, body, 1_700_000_000)
+}
+
+/// The same at a moment, in seconds since 1970.
+pub(super) fn told_at(
+    alloc: Global,
+    tables: &mut Tables,
+    disk: &mut MemoryDisk,
+    operation: &str,
+    body: &str,
+    moment: u64,
+) -> Option<String>
+    requires { AreReady (state_of disk.old) tables.old }
+    ensures { IfSome result (λ _. AreReady (state_of disk.new) tables.new) }
+{
     let operation = operation_named(operation.as_bytes());
-    match answer(
-        alloc,
-        tables,
-        disk,
-        operation,
-        body.as_bytes(),
-        1_700_000_000,
-    ) {
+    match answer(alloc, tables, disk, operation, body.as_bytes(), moment) {
         Ok(reply) => text_of(alloc, &reply),
         Err(_) => None,
     }

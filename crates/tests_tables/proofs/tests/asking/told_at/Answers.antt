@@ -4,7 +4,7 @@ use Rattle.std.specs.Prelude.{IfSome}
 use Rattle.alt_disk.specs.MemoryState.{state_of}
 use Rattle.alt_disk.proofs.Runs.{trusted_back}
 use Rattle.alt_tables.specs.Stands.{AreReady}
-use Rattle.tests_tables.proofs.tests.asking.told.Goals as goal
+use Rattle.tests_tables.proofs.tests.asking.told_at.Goals as goal
 
 -- what holds anyway holds where there is an answer
 anyway : {A P : Type 0} (o : Option A) → P → IfSome o (λ _. P)

@@ -6,15 +6,17 @@ use Rattle.std.specs.FinMap.{empty}
 use Rattle.std.specs.Ordering.{nat_cmp}
 use Rattle.alt_disk.specs.Disk.{DiskState}
 use Rattle.alt_disk.specs.Runs.{Run, Spans}
+use Rattle.alt_disk.proofs.Runs.{spans_on, spans_weaker}
 use Rattle.alt_flush.specs.Drafts.{From, renumbered, with_segment}
-use Rattle.alt_flush.proofs.DraftLaws.{old_file, with_segment_drafted}
+use Rattle.alt_flush.proofs.DraftLaws.{from_untouched, layout_still, old_file, with_segment_drafted}
 use Rattle.alt_flush.proofs.SegmentLaws.{all_of-none, in_inserted, with_segment_same}
 use Rattle.alt_gatelog.specs.InHand.{file_of as log_file, form_of, Stands as LogStands}
 use Rattle.alt_gatelog.specs.declared.gatelog.GateLog.{GateLog}
 use Rattle.alt_gatelog.proofs.Elsewhere.{reads_log}
-use Rattle.alt_layout.specs.Families.{files_of, flushed_of, with_later}
-use Rattle.alt_layout.specs.Files.{all_of}
+use Rattle.alt_layout.specs.Families.{files_of, flushed_of, layout_of, with_later}
+use Rattle.alt_layout.specs.Files.{IsLayout, all_of}
 use Rattle.alt_layout.specs.Layout.{Layout}
+use Rattle.alt_layout.specs.Moments.{Has, HasEither}
 use Rattle.alt_layout.specs.Sizes.{IsSized}
 use Rattle.alt_memtable.specs.Rows.{most_bytes}
 use Rattle.alt_layout.proofs.SizeLaws.{sized_on, sized_with}
@@ -31,6 +33,7 @@ use Rattle.alt_hand.specs.Merging.{MayEnd}
 use Rattle.alt_hand.specs.declared.hand.Hand.{Hand}
 use Rattle.alt_hand.proofs.BesideLaws.{each_on, may_end_on}
 use Rattle.alt_hand.proofs.FlushesLaws.{versions_still}
+use Rattle.alt_hand.proofs.HandLaws.{lies_of}
 use Rattle.alt_hand.proofs.LogLaws.{holds_empty}
 use Rattle.alt_hand.proofs.MakesLaws.{makes_first, named_of, open_still}
 
@@ -129,3 +132,24 @@ carries_segment a b u families parts l makes P run family =
             reached = may.reached;
           };
     }
+
+-- ---- moments
+
+-- While files are made that no version names each image has the rows.
+pub keeping : (a b : DiskState) (e : Hand) (l : Layout) (stands : Stands a e l)
+    → Spans a b (From e.next_file) (λ t image. Unit {0}) → Spans a b (λ g. Unit {0}) (Has l)
+keeping a b e l stands spans =
+    let v = version_of e.manifest in
+    spans_weaker a b (From e.next_file) (λ g. Unit {0}) (Has l)
+    (Has (layout_of v stands.reads.held (all_of stands.reads.parts)))
+    (layout_still a b v stands.reads.held stands.reads.parts (From e.next_file)
+    (λ t image. Unit {0}) (lies_of a e l stands)
+    (λ g of low. from_untouched v e.next_file stands.reads.versions.is stands.reads.free g of low)
+    spans) (λ g it. tt) (λ t image has. subst (IsLayout image) (sym stands.reads.is) has)
+
+-- And so while a version is added with the same rows.
+pub keeping_on : (a b c : DiskState) (l : Layout) → Spans a b (λ g. Unit {0}) (Has l)
+    → Spans b c (λ g. Unit {0}) (HasEither l l) → Spans a c (λ g. Unit {0}) (Has l)
+keeping_on a b c l first later = spans_on a b c (λ g. Unit {0}) (Has l) first
+    (spans_weaker b c (λ g. Unit {0}) (λ g. Unit {0}) (Has l) (HasEither l l) later (λ g it. tt)
+    (λ t image has. ⊎_elim (λ (old : IsLayout image l). old) (λ (new : IsLayout image l). new) has))

@@ -1,5 +1,5 @@
 -- The log in hand and the bytes of all entries, where files change.
-use Rattle.std.proofs.Common.{◌≡◌, ℕ, List, min, ap, refl, arith}
+use Rattle.std.proofs.Common.{◌≡◌, ℕ, List, []}
 use Rattle.alt_disk.specs.Disk.{DiskState}
 use Rattle.alt_gatelog.specs.InHand.{Stands as LogStands}
 use Rattle.alt_gatelog.specs.declared.gatelog.GateLog.{GateLog}

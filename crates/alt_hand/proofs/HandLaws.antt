@@ -154,9 +154,11 @@ write_images a b e l changes entry stands is run =
     (HasEither before (with_write before (batch_write l changes)))
     (spans_writes a b v reads.held reads.parts (log_file e.log) reads.writes (form_of e.log)
     reads.log.entries entry (batch_write l changes ∷ []) (lies_of a e l stands) reads.ends
-    reads.log.holds is
-    ((let same : l.next_number ≡ before.next_number = ap (λ (m : Layout). m.next_number) reads.is in
-    omega (arith, same)), tt) run)
+    reads.log.holds is (
+      (let same : l.next_number ≡ before.next_number = ap (λ (m : Layout). m.next_number) reads.is in
+          omega (arith, same)),
+      tt,
+    ) run)
     (λ g it first. named_later v (log_file e.log) reads.versions.is
     (last_named v reads.parts (log_file e.log) reads.writes reads.ends) (sym it ∙ first))
     (λ t image has. subst (λ (m : Layout). IsLayout image m

@@ -58,12 +58,15 @@ fresh_layout image versions entries = record {
   parts = [] ∷ [];
   stored = record {
     files = tt;
-    segments = (record {
-      form = Two;
-      entries = [];
-      log = record { gate = 0; closed = omega arith; rest = []; is = entries; lengths = tt };
-      holds = record { groups = []; each = tt; are = refl };
-    }, tt);
+    segments = (
+      record {
+        form = Two;
+        entries = [];
+        log = record { gate = 0; closed = omega arith; rest = []; is = entries; lengths = tt };
+        holds = record { groups = []; each = tt; are = refl };
+      },
+      tt,
+    );
     writes = tt;
     rising = tt;
   };

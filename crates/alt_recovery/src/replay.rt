@@ -199,11 +199,7 @@ fn replay_entry<D: Disk>(
 }
 
 /// Joins writes whose numbers rise, one after another.
-fn join_writes(
-    alloc: Global,
-    replay: &mut Replay,
-    writes: &[LoggedWrite],
-) -> Result<(), NoMemory>
+fn join_writes(alloc: Global, replay: &mut Replay, writes: &[LoggedWrite]) -> Result<(), NoMemory>
     requires held { AllHeld (writes_of writes.now) }
     requires rising { AreRising replay.old.least (writes_of writes.now) }
     ensures joined { OnOk result (Replays replay.old replay.new (writes_of writes.now) 0) }

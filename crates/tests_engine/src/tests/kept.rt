@@ -29,12 +29,7 @@ fn kept(alloc: Global) -> Option<MemoryDisk> {
 }
 
 // Whether all rows are shown, in either direction, and the next number is this one.
-fn shows_all(
-    alloc: Global,
-    engine: &mut Engine,
-    disk: &mut MemoryDisk,
-    next: u64,
-) -> Option<bool> {
+fn shows_all(alloc: Global, engine: &mut Engine, disk: &mut MemoryDisk, next: u64) -> Option<bool> {
     Some(
         engine.next_number() == next
             && shows(alloc, engine, disk, true)?

@@ -5,6 +5,7 @@ use Rattle.std.specs.FinMap as finite
 use Rattle.std.specs.List.{list_any}
 use Rattle.std.specs.Option.{option_map_or}
 use Rattle.serde_json.specs.Data.{Data, Members, no_members}
+use Rattle.alt_codec.specs.declared.writer.Writer.TheVariants.{User}
 use Rattle.alt_machine.specs.declared.BatchMember.{BatchMember}
 use Rattle.alt_machine.specs.declared.PlacedMember.{PlacedMember}
 use Rattle.alt_machine.specs.declared.Sought.{Sought}
@@ -351,7 +352,7 @@ module _ (catalog : Texts TableSchema) (moment : ℕ) where
               ++ rest (last_state s (if b then [] else after ∷ [])))
           by true same = behind s known
           by false differ = first_step a_number s after (rest after) (λ v enough.
-              after_item_valid s moment m.table t m.place (left_by m) v
+              after_item_valid s moment User m.table t m.place (left_by m) v
               (number_room s enough) e differ
               (may t.description (known m.table t e)))
               (behind after (known_after catalog s moment m.table t m.place (left_by m) known e))

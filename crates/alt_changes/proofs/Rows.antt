@@ -32,7 +32,8 @@ columns_rise moment Expiry (Some o) None = tt
 columns_rise moment Expiry (Some o) (Some n) = tt
 
 -- the entries of a change's row are its columns in their order
-pub entries-change : (c : Change) → entries (change_columns c) ≡ columns_of c.moment c.by c.old c.new
+pub entries-change : (c : Change)
+    → entries (change_columns c) ≡ columns_of c.moment c.by c.old c.new
 entries-change c = entries-from_sorted key_cmp (columns_of c.moment c.by c.old c.new)
     (columns_rise c.moment c.by c.old c.new)
 

@@ -66,7 +66,8 @@ row_made family c cells e = ap change_of (e ∙ sym (ap (map with_value) (entrie
 
 -- ---- what a write leaves
 
-module _ (d : TableSchema) (number moment : ℕ) (writer : Writer) (old new : Option (List Pair)) where
+module _ (d : TableSchema) (number moment : ℕ) (writer : Writer)
+    (old new : Option (List Pair)) where
   -- the change of the write
   abbrev pub change_made : Change
   change_made = record {
@@ -84,8 +85,8 @@ module _ (d : TableSchema) (number moment : ℕ) (writer : Writer) (old new : Op
   pub none_kept : d.stream_family ≡ None
       → row_changes d (change_left number moment writer old new) ≡ []
   none_kept none = ap (λ o. option_map_or
-      (λ family. map (row_change family) (option_to_list (change_left number moment writer old new))) o [])
-      none
+      (λ family. map (row_change family)
+      (option_to_list (change_left number moment writer old new))) o []) none
 
   -- and nothing where the item stays
   pub none_left : is_same old new ≡ true

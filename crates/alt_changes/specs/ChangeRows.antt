@@ -48,7 +48,8 @@ writer_cell Expiry = Some []
 
 -- the column of that cell
 abbrev pub writer_column : Writer → List (List ℕ × List ℕ)
-writer_column writer = option_to_list (option_map (λ bytes. (codes "u", bytes)) (writer_cell writer))
+writer_column writer =
+    option_to_list (option_map (λ bytes. (codes "u", bytes)) (writer_cell writer))
 
 -- the columns of a change of that moment, by their names
 abbrev pub columns_of : ℕ → Writer → Option (List Pair) → Option (List Pair)

@@ -69,8 +69,8 @@ module _ (d : TableSchema) (number moment : ℕ) (writer : Writer) (place : List
         others-append family of_indexes of_stream
             (others-index_changes d old new family (indexes d) (λ n i at same.
             other (subst (Contains (families_of d)) same (index_family d n i at))))
-            (others-row_changes d (change_left number moment writer old new) family (λ f stream same.
-            other (subst (Contains (families_of d)) same (stream_family d f stream)))),
+            (others-row_changes d (change_left number moment writer old new) family
+            (λ f stream same. other (subst (Contains (families_of d)) same (stream_family d f stream)))),
       )
       (others-trim_changes d before after leftovers family (λ f stream same.
       other (subst (Contains (families_of d)) same (stream_family d f stream))))

@@ -118,8 +118,8 @@ module _ (s : State) (name : List ℕ) (t : Table) (at : map.get s.tables name �
         (shows_batch l (batch_write l changes) distinct past (omega arith)) refl refl below_then
         (let high = valid.next_number.1 in omega (arith, high))
         (λ key. (λ i. change_of family key (written i))
-        ∙ write_stream t.description s.next_number moment writer place (map.get t.items place) to t.trimmed
-        r.number r.leftovers.items differ (valid.tables name t at).differ family stream key
+        ∙ write_stream t.description s.next_number moment writer place (map.get t.items place) to
+        t.trimmed r.number r.leftovers.items differ (valid.tables name t at).differ family stream key
         ∙ ap (λ hs. change_of family key (row_change family change
         ∷ (trimmed_changes family t.trimmed r.number ++ map_list (hidden family) hs))) lowest_is)
 

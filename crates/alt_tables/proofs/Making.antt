@@ -112,7 +112,8 @@ module _ (before : DiskState) (old : Tables) (s : State) (t : Table) (stands : S
   after = after_item_by s moment writer name t place to
 
   -- one write is to be made
-  pub item_differs : is_same found to ≡ false → item_writes_by s moment writer name t place to ≡ after ∷ []
+  pub item_differs : is_same found to ≡ false
+      → item_writes_by s moment writer name t place to ≡ after ∷ []
   item_differs differ = ap (λ b. if b then [] else after ∷ [])
       (ap (λ o. is_same o to) (sym there) ∙ differ)
 
@@ -137,22 +138,23 @@ module _ (before : DiskState) (old : Tables) (s : State) (t : Table) (stands : S
     trimmed_is = stands.trimmed name ∙ ap (λ o. option_map_or (λ (t : Table). t.trimmed) o 0) at
 
     number_then : table_after.trimmed ≡ r.number
-    number_then = trimmed_then s name t at stands.valid moment writer place to differs stands.rows.layout r is
+    number_then = trimmed_then s name t at stands.valid moment writer place to differs
+        stands.rows.layout r is
 
     -- the row changes in words of the state
-    in_state : batch ≡ write_changes t.description s.next_number moment writer place (map.get t.items place)
-        to t.trimmed r.number r.leftovers.items
+    in_state : batch ≡ write_changes t.description s.next_number moment writer place
+        (map.get t.items place) to t.trimmed r.number r.leftovers.items
     in_state = written
-        ∙ (λ i. write_changes (sym same i) ((numbered ∙ stands.number) i) moment writer place (there i) to
-        (trimmed_is i) r.number r.leftovers.items)
+        ∙ (λ i. write_changes (sym same i) ((numbered ∙ stands.number) i) moment writer place
+        (there i) to (trimmed_is i) r.number r.leftovers.items)
 
     -- They turn the rows of the state into those of the state after it.
     pub item_turned : number_of old < NUMBERS_END → IfSome to (IsStored d place)
         → IfSome to IsItemOfValues → moment < 2 ^ 64 → Turns batch s after
     item_turned room stored given fits =
         subst (λ cs. Turns cs s after)
-        (ap (λ n. write_changes t.description s.next_number moment writer place (map.get t.items place) to
-        t.trimmed n r.leftovers.items) number_then
+        (ap (λ n. write_changes t.description s.next_number moment writer place
+        (map.get t.items place) to t.trimmed n r.leftovers.items) number_then
         ∙ sym in_state)
         (item_turns s moment writer name t place to r.leftovers.items stands.valid stands.rows.held
         (omega (arith, room, stands.number)) at differs
@@ -164,8 +166,8 @@ module _ (before : DiskState) (old : Tables) (s : State) (t : Table) (stands : S
     pub item_leftovers : T (is_distinct batch) → (family : ℕ) → d.stream_family ≡ Some family
         → leftovers (changed_rows stands.rows.layout batch) family r.number
         ≡ drop 2 (leftovers stands.rows.layout family r.number)
-    item_leftovers distinct family stream = leftovers_then s name t at stands.valid moment writer place to
-        differs stands.rows.layout r is family
+    item_leftovers distinct family stream = leftovers_then s name t at stands.valid moment writer
+        place to differs stands.rows.layout r is family
         (ap (λ (x : TableSchema). x.stream_family) same ∙ stream)
         (stands_past before old.engine stands.rows.layout stands.rows.is) batch in_state distinct
 
@@ -178,8 +180,8 @@ module _ (before : DiskState) (old : Tables) (s : State) (t : Table) (stands : S
     others_stay distinct q v family apart at_v stream = shown_elsewhere stands.rows.layout batch
         distinct (stands_past before old.engine stands.rows.layout stands.rows.is) family
         (subst (AreOthers family) (sym in_state)
-        (write_others t.description s.next_number moment writer place (map.get t.items place) to t.trimmed
-        r.number r.leftovers.items family
+        (write_others t.description s.next_number moment writer place (map.get t.items place) to
+        t.trimmed r.number r.leftovers.items family
         (λ own. false≢true (sym apart ∙ (bytes_eq-Decides name q).1
         (sym (stands.valid.families q name v t family at_v at
         (stream_family v.description family stream) own))))))
@@ -195,15 +197,15 @@ module _ (before : DiskState) (old : Tables) (s : State) (t : Table) (stands : S
       where
         own : (o : Option ℕ) → d.stream_family ≡ o → (f : Front) → front_at name new ≡ Some f
             → IsFront (changed_rows stands.rows.layout batch) table_after f
-        own (Some family) e f told = front_then s name t at stands.valid moment writer place to differs
-            stands.rows.layout r is family (ap (λ (x : TableSchema). x.stream_family) same ∙ e)
+        own (Some family) e f told = front_then s name t at stands.valid moment writer place to
+            differs stands.rows.layout r is family (ap (λ (x : TableSchema). x.stream_family) same ∙ e)
             (changed_rows stands.rows.layout batch) (item_leftovers distinct family e) f
             ((noted.stream family e).own f told)
         own None e f told =
             let (u, at_u, front) = stands.fronts stands.rows.layout stands.rows.is name f
             (ap (front_at name) (sym (noted.none e)) ∙ told) in
-            front_stays s name t at stands.valid moment writer place to differs stands.rows.layout r is
-            (ap (λ (x : TableSchema). x.stream_family) same ∙ e)
+            front_stays s name t at stands.valid moment writer place to differs stands.rows.layout r
+            is (ap (λ (x : TableSchema). x.stream_family) same ∙ e)
             (changed_rows stands.rows.layout batch) f
             (subst (λ v. IsFront stands.rows.layout v f) (some _ _ (sym at_u ∙ at)) front)
 

@@ -199,8 +199,8 @@ module _ (family moment before : ℕ) (change : Change) (cs : List Change) (left
 -- ---- in a table
 
 module _ (d : TableSchema) (family : ℕ) (stream : d.stream_family ≡ Some family) (n moment : ℕ)
-    (writer : Writer) (before : ℕ) (old new : Option (List Pair)) (differ : is_same old new ≡ false) (cs : List Change)
-    (leftovers : List ℕ) where
+    (writer : Writer) (before : ℕ) (old new : Option (List Pair)) (differ : is_same old new ≡ false)
+    (cs : List Change) (leftovers : List ℕ) where
   -- the change that the write leaves
   abbrev change_made : Change
   change_made = record {
@@ -228,7 +228,8 @@ module _ (d : TableSchema) (family : ℕ) (stream : d.stream_family ≡ Some fam
       if is_some (stream i) then trimmed_at moment before (cs ++ option_to_list (is_left i)) else before
 
   -- the row changes of the write in the family
-  is_changed : (row_changes d (change_left n moment writer old new) ++ trim_changes d before trimmed_then leftovers)
+  is_changed : (row_changes d (change_left n moment writer old new)
+      ++ trim_changes d before trimmed_then leftovers)
       ≡ row_change family change_made ∷ (trimmed_changes family before
       (trimmed_at moment before (cs ++ change_made ∷ [])) ++ map (hidden family) leftovers)
   is_changed i =

@@ -59,8 +59,8 @@ has_none (c ∷ cs) ds family key e f = by ((c.family == family) && bytes_eq c.k
     by false e rest = rest e
 
 -- The row changes of an item have none of the row of a lesser number.
-pub no_lesser_row : (d : TableSchema) → HasOwnFamilies d → (number moment : ℕ) (writer : Writer) (place : List ℕ)
-    (old new : Option (List Pair)) (family : ℕ) → d.stream_family ≡ Some family → (k : ℕ)
+pub no_lesser_row : (d : TableSchema) → HasOwnFamilies d → (number moment : ℕ) (writer : Writer)
+    (place : List ℕ) (old new : Option (List Pair)) (family : ℕ) → d.stream_family ≡ Some family → (k : ℕ)
     → k < number → number < 2 ^ 64
     → has_row (item_changes d number moment writer place old new) family (row_key k) ≡ false
 no_lesser_row d own number moment writer place old new family stream k less small = has_none
@@ -97,20 +97,21 @@ no_lesser_row d own number moment writer place old new family stream k less smal
     by false = of_own (family == family)
 
 -- So a write may trim behind them.
-pub can_trim : (d : TableSchema) → HasOwnFamilies d → (number moment : ℕ) (writer : Writer) (place : List ℕ)
-    (old new : Option (List Pair)) (batch : List RowChange)
+pub can_trim : (d : TableSchema) → HasOwnFamilies d → (number moment : ℕ) (writer : Writer)
+    (place : List ℕ) (old new : Option (List Pair)) (batch : List RowChange)
     → batch ≡ item_changes d number moment writer place old new → (before : ℕ) (r : Trim)
     → IsWithin before number r → number < 2 ^ 64 → (family : ℕ) → d.stream_family ≡ Some family
     → CanTrim before r batch family
-can_trim d own number moment writer place old new batch is before r within small family stream = record {
-  rise = within.rise;
-  left = within.left;
-  differ = within.differ;
-  zero = let low = within.below in free 0 (omega (arith, low));
-  rows = All-weaker (λ k. (1 ≤ k) × (k ≤ r.number)) (λ k. has_row batch family (row_key k) ≡ false)
-      (λ k left. let high = left.1 in let below = within.below in
-      free k (omega (arith, high, below))) r.leftovers.items within.left;
-}
+can_trim d own number moment writer place old new batch is before r within small family stream =
+    record {
+      rise = within.rise;
+      left = within.left;
+      differ = within.differ;
+      zero = let low = within.below in free 0 (omega (arith, low));
+      rows = All-weaker (λ k. (1 ≤ k) × (k ≤ r.number)) (λ k. has_row batch family (row_key k) ≡ false)
+          (λ k left. let high = left.1 in let below = within.below in
+          free k (omega (arith, high, below))) r.leftovers.items within.left;
+    }
   where
     free : (k : ℕ) → k < number → has_row batch family (row_key k) ≡ false
     free k less = subst (λ cs. has_row cs family (row_key k) ≡ false) (sym is)
@@ -136,8 +137,8 @@ module _ (a b : DiskState) (old new : Tables) (s : State) (t : Table) (stands : 
     (after : ℕ) (known_after : after ≡ r.number) where
   -- the row changes, as they are made and in words of what is known behind them
   abbrev pub made : List RowChange
-  made = write_changes d (number_of old) moment writer place found to (number_at name (trimmed_of old))
-      r.number r.leftovers.items
+  made = write_changes d (number_of old) moment writer place found to
+      (number_at name (trimmed_of old)) r.number r.leftovers.items
 
   -- the rows that go are the lowest that are left over
   lowest_is : (l : Layout) → HasRows a old l → r.leftovers.items ≡ lowest_left l d after

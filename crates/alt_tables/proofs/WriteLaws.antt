@@ -335,9 +335,11 @@ held_after : (s : State) (moment : ℕ) (writer : Writer) (name : List ℕ) (t :
 held_after s moment writer name t place new held at given fits = record {
   items = record {
     items = λ other q u item at_other here. items other u q item here
-        (at_insert s.tables name other u (with_row s.next_number moment writer t place new) at_other);
+        (at_insert s.tables name other u (with_row s.next_number moment writer t place new)
+        at_other);
     changes = λ other u at_other. changes other u
-        (at_insert s.tables name other u (with_row s.next_number moment writer t place new) at_other);
+        (at_insert s.tables name other u (with_row s.next_number moment writer t place new)
+        at_other);
   };
   moments = λ other u at_other. moments other u
       (at_insert s.tables name other u (with_row s.next_number moment writer t place new) at_other);
@@ -412,30 +414,31 @@ held_after s moment writer name t place new held at given fits = record {
 
 -- The change of an item's row, with those of its rows in the indexes and in the stream, turns the state into the one with that item,
 -- whichever rows that are left over go with it.
-pub item_turns : (s : State) (moment : ℕ) (writer : Writer) (name : List ℕ) (t : Table) (place : List ℕ)
-    (new : Option (List Pair)) (leftovers : List ℕ) → IsValid s → IsHeldWhole s
+pub item_turns : (s : State) (moment : ℕ) (writer : Writer) (name : List ℕ) (t : Table)
+    (place : List ℕ) (new : Option (List Pair)) (leftovers : List ℕ) → IsValid s → IsHeldWhole s
     → s.next_number < NUMBERS_END
     → map.get s.tables name ≡ Some t → is_same (map.get t.items place) new ≡ false
     → ((item : List Pair) → new ≡ Some item → IsStored t.description place item)
     → IfSome new IsItemOfValues → moment < 2 ^ 64
     → AreLeft (with_row s.next_number moment writer t place new).trimmed leftovers
-    → Turns (write_changes t.description s.next_number moment writer place (map.get t.items place) new
-    t.trimmed (with_row s.next_number moment writer t place new).trimmed leftovers) s
+    → Turns (write_changes t.description s.next_number moment writer place (map.get t.items place)
+    new t.trimmed (with_row s.next_number moment writer t place new).trimmed leftovers) s
     (after_item_by s moment writer name t place new)
-item_turns s moment writer name t place new leftovers valid held room at differ stored given fits left =
+item_turns s moment writer name t place new leftovers valid held room at differ stored given fits
+    left =
     let changes : List RowChange =
-    write_changes t.description s.next_number moment writer place (map.get t.items place) new t.trimmed
-    (with_row s.next_number moment writer t place new).trimmed leftovers in
+    write_changes t.description s.next_number moment writer place (map.get t.items place) new
+    t.trimmed (with_row s.next_number moment writer t place new).trimmed leftovers in
     record {
-      shows = λ distinct l past shows. shows_item l s shows valid held.items moment writer name t at place
-          new room differ stored given leftovers left (batch_write l changes)
+      shows = λ distinct l past shows. shows_item l s shows valid held.items moment writer name t at
+          place new room differ stored given leftovers left (batch_write l changes)
           (ap (λ cs. change_between t.description.family place
           (option_map item_columns (map.get t.items place)) (option_map item_columns new) ∷ cs)
           (append_assoc (index_changes t.description (map.get t.items place) new)
           (row_changes t.description
           (change_left s.next_number moment writer (map.get t.items place) new))
-          (trim_changes t.description t.trimmed (with_row s.next_number moment writer t place new).trimmed
-          leftovers))) refl
+          (trim_changes t.description t.trimmed (with_row s.next_number moment writer t place
+          new).trimmed leftovers))) refl
           (shows_batch l (batch_write l changes) distinct past (omega arith));
       valid = after_item_valid s moment writer name t place new valid room at differ stored;
       held = held_after s moment writer name t place new held at given fits;

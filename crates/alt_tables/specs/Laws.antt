@@ -59,6 +59,6 @@ ItemTurns = (s : State) (moment : ℕ) (writer : Writer) (name : List ℕ) (t : 
     → ((item : List Pair) → new ≡ Some item → IsStored t.description place item)
     → IfSome new IsItemOfValues → moment < 2 ^ 64
     → AreLeft (with_write_by s.next_number moment writer t place new).trimmed leftovers
-    → Turns (write_changes t.description s.next_number moment writer place (map.get t.items place) new
-    t.trimmed (with_write_by s.next_number moment writer t place new).trimmed leftovers) s
+    → Turns (write_changes t.description s.next_number moment writer place (map.get t.items place)
+    new t.trimmed (with_write_by s.next_number moment writer t place new).trimmed leftovers) s
     (after_item_by s moment writer name t place new)

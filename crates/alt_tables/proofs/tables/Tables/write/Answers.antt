@@ -171,7 +171,8 @@ returns-clause-rows g c =
     let name : List ℕ = c.args.table.now in
     let r : Trim = c.in-Ok.trim in
     let changes : TableSchema → ℕ → ℕ → List RowChange = λ d number before. write_changes d number
-    c.args.moment User c.args.found.place c.args.found.item c.args.new before r.number r.leftovers.items in
+    c.args.moment User c.args.found.place c.args.found.item c.args.new before r.number
+    r.leftovers.items in
     let in_old : (d : TableSchema) → changes d (number_of mid) (number_at name (trimmed_of mid))
     ≡ changes d (number_of old) (number_at name (trimmed_of old)) =
     λ d i. changes d (c.trim.ensures.keeps.number i)
@@ -210,7 +211,8 @@ returns-clause-leftovers g c =
     let name : List ℕ = c.args.table.now in
     let r : Trim = c.in-Ok.trim in
     let changes : TableSchema → ℕ → ℕ → List RowChange = λ d number before. write_changes d number
-    c.args.moment User c.args.found.place c.args.found.item c.args.new before r.number r.leftovers.items in
+    c.args.moment User c.args.found.place c.args.found.item c.args.new before r.number
+    r.leftovers.items in
     let in_old : (d : TableSchema) → changes d (number_of mid) (number_at name (trimmed_of mid))
     ≡ changes d (number_of old) (number_at name (trimmed_of old)) =
     λ d i. changes d (c.trim.ensures.keeps.number i)
@@ -232,7 +234,8 @@ returns-clause-leftovers g c =
     (rows (trusted_on a m c.trim.ensures.keeps.reads.goes trusted) d l
     (ap (λ x. map.get x name) c.trim.ensures.keeps.catalog ∙ there_d)
     (rows_kept a m old mid c.trim.ensures.keeps trusted l rows_l)) in
-    made_leftovers a b old new s t stands c.args.moment User name c.args.found.place c.args.found.item
+    made_leftovers a b old new s t stands c.args.moment User name c.args.found.place
+    c.args.found.item
     c.args.new at (c.requires.found s stands t at) r
     (λ x has. c.in-Ok.ensures.trim s t x stands at has) d there_d (sym c.if-same.ensures)
     (number_at name (trimmed_of new)) after written.distinct family stream l x rows_l written.rows

@@ -102,7 +102,8 @@ returns-clause-rows g c =
     let new : Tables = c.write.new.self in
     let name : List ℕ = c.args.table.now in
     let changes : TableSchema → List ℕ → Option (List Pair) → Option (List Pair) → Layout
-    → List RowChange = λ d place was to l. write_changes d (number_of old) c.args.moment User place was to
+    → List RowChange = λ d place was to l. write_changes d (number_of old) c.args.moment User place
+    was to
     (number_at name (trimmed_of old)) (number_at name (trimmed_of new))
     (lowest_left l d (number_at name (trimmed_of new))) in
     at_ok (λ n. IsSome n → IsTrusted a → (d : TableSchema) (l : Layout)

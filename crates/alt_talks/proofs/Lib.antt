@@ -3,6 +3,7 @@ pub mod Answering
 pub mod Arriving
 pub mod Fronts
 pub mod Hanging
+pub mod Owning
 pub mod Passing
 pub mod Responding
 pub mod Stepping

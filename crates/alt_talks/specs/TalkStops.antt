@@ -15,11 +15,16 @@ use Rattle.alt_talks.specs.declared.fault.RunFault.{RunFault}
 
 -- a text that is said, and nothing written
 abbrev pub saying : List ℕ → Deed
-saying text = record { text = text; atoms = []; lacks = None }
+saying text = record { text = text; atoms = []; own = []; lacks = None }
 
--- what a request comes to
+-- what a request comes to, with what the server does behind it
 abbrev pub carrying : Rules → State → Request → ℕ → Deed
-carrying r s q m = record { text = r.reply s q m; atoms = r.atoms s q m; lacks = r.wants s q m }
+carrying r s q m = record {
+  text = r.reply s q m;
+  atoms = r.atoms s q m;
+  own = r.own s q m;
+  lacks = r.wants s q m;
+}
 
 -- What turns come to, one after the other, as far as there are moments: the text that is said to each, and its writes.
 abbrev pub deeds : Rules → State → List Turn → List ℕ → List Deed

@@ -1,16 +1,14 @@
 //! Serving connections: from the bytes taken to the replies said. Each function says of the calls that it made which turns of
 //! the connection they did, or where among them it broke off, so that a run is put together from them.
 
-ghost use Rattle.std.specs.Prelude.{◌≡◌, ◌<◌, ◌≤◌, ◌+◌, ◌-◌, ◌^◌, ◌==◌, ◌||◌, nat_le, if◌then◌else◌, ℕ, [], ◌∷◌, take, drop, length, true, false, IfOk, OnOk, OnErr, IfErr, IsErrOf, MatchResult};
+ghost use Rattle.std.specs.Prelude.{◌≡◌, ◌<◌, ◌≤◌, ◌+◌, ◌-◌, ◌^◌, ◌==◌, ◌||◌, nat_le, if◌then◌else◌, ℕ, [], ◌∷◌, take, drop, length, true, false, IfOk, OnOk, IsErrOf, MatchResult};
 ghost use Rattle.alt_base.specs.Counts.{Rose};
-ghost use Rattle.alt_disk.specs.Disk.{Goes};
 ghost use Rattle.alt_machine.specs.State.{State};
 ghost use Rattle.alt_shell.specs.Calls.{Keeps};
 ghost use Rattle.alt_shell.specs.Log.{talks, takes_missed, says_missed};
 ghost use Rattle.alt_tables.specs.Stands.{AreReady, Stands};
 ghost use Rattle.alt_http.specs.Reading.{scan_of};
 ghost use Rattle.alt_talks.specs.Arrivals.{Came, CameAll, CameAtMost, CameOne};
-ghost use Rattle.alt_talks.specs.Faults.{IsWorkFault};
 ghost use Rattle.alt_talks.specs.private.HeadViews.{scan_in};
 ghost use Rattle.alt_talks.specs.Runs.{Leads, Passes, Stretch};
 ghost use Rattle.alt_talks.specs.Stretches.{Utters, AtRest};
@@ -18,17 +16,16 @@ ghost use Rattle.alt_talks.specs.TalkRules.{rules};
 ghost use Rattle.alt_talks.specs.TalkStops.{AnswersOn, AnswersSomeOn, CarriesOn, CarriesSomeOn, ComesOn, ComesSomeOn, EndsOn, GoesOn, GoesSomeOn, LeavesNow, MovesAllOn, MovesSomeOn, ServedOn, ServedSomeOn, StepsOn};
 ghost use Rattle.alt_talks.specs.TalkViews.{place_of, head_in, asking};
 ghost use Rattle.alt_talks.specs.Talks.{onward, asked, refused, greets};
-ghost use Rattle.alt_talks.specs.Works.{Works};
 
 use crate::fault::RunFault;
+use crate::following::follow;
 use crate::front::{Front, Head};
 use crate::response::{refusal_text, response};
-use crate::working::work;
 use alt_base::NoMemory;
 use alt_fields::Bytes;
 use alt_http::{CONTINUE, Scan};
 use alt_shell::Shell;
-use alt_tables::{Tables, Task};
+use alt_tables::Tables;
 use std::alloc::Global;
 
 /// A connection as it is served: the bytes taken that no turn has used, how many requests may come, whether the client of the head
@@ -103,8 +100,8 @@ fn refuse<S: Shell>(
     }
 }
 
-/// A request: it is carried out at the moment that the clock tells, and answered unless a say failed before. Behind a reply that was said
-/// one step of work is made.
+/// A request: it is carried out at the moment that the clock tells, and answered unless a say failed before. Then come the server's own
+/// requests behind it, and behind a reply that was said one step of work.
 fn respond<S: Shell>(
     alloc: Global,
     tables: &mut Tables,
@@ -136,30 +133,10 @@ fn respond<S: Shell>(
         Err(fault) => return Err(fault),
     };
     utter(mute, &text, shell);
-    match step(*mute, tables, shell) {
+    match follow(tables, shell, !*mute) {
         Ok(()) => Ok(()),
         Err(fault) => Err(fault),
     }
-}
-
-/// One step of work in the background, unless a say failed.
-fn step<S: Shell>(mute: bool, tables: &mut Tables, shell: &mut S) -> Result<(), RunFault>
-    requires ready { AreReady (S.state shell.old) tables.old }
-    ensures stands { (s : State) → Stands (S.state shell.old) tables.old s
-        → OnOk result (Stands (S.state shell.new) tables.new s) }
-    ensures works { (s : State) → Stands (S.state shell.old) tables.old s
-        → Works (S.state shell.old) (S.state shell.new) s }
-    ensures fault { (s : State) → Stands (S.state shell.old) tables.old s
-        → IfErr result IsWorkFault }
-    ensures heard { OnErr result (mute ≡ false) }
-    ensures goes { Goes (S.state shell.old) (S.state shell.new) }
-    ensures cause { IsErrOf result RunFault.Failed
-        → Rose (S.state shell.old).faults (S.state shell.new).faults }
-{
-    if mute {
-        return Ok(());
-    }
-    work(tables, shell, Task::Step)
 }
 
 /// Lets the client go on where it waits for that and wasn't let before.

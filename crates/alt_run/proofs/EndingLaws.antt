@@ -81,7 +81,7 @@ some_served r per count fault s es ms x = record {
   moments = x.moments;
   some = elim x.some [
     | inl none ↦ inl (none.0, tt)
-    | inr one ↦ inr (
+    | inr (inl one) ↦ inr (inl (
       one.0,
       one.1,
       record {
@@ -93,7 +93,12 @@ some_served r per count fault s es ms x = record {
         hung = one.2.hung;
         inside = one.2.inside;
       },
-    )
+    ))
+    | inr (inr one) ↦ inr (inr (
+      one.0,
+      one.1,
+      record { left = one.2.left; serves = one.2.serves; cause = tt },
+    ))
   ];
   most = x.most;
 }
@@ -301,7 +306,7 @@ module _ (b c : DiskState) (g : Grows b.beside c.beside [])
         y.0,
         (
           y.1.0,
-          leaves-before-aside o b c (LeftAmong rules per s y.1.0.all) aside y.1.1,
+          leaves-before-aside o b c (LeftAmong rules per 1 None s y.1.0.all) aside y.1.1,
         ),
         last_behind y.0 y.2,
       ))
@@ -317,7 +322,7 @@ module _ (b c : DiskState) (g : Grows b.beside c.beside [])
       {P = ServedSomeOn rules per count fault s}
       (λ es ms y. (
         y.0,
-        leaves-before-aside o b c (LeftAmong rules per s (y.0.all ++ y.0.last)) aside y.1,
+        leaves-before-aside o b c (LeftAmong rules per 1 None s (y.0.all ++ y.0.last)) aside y.1,
       ))
       x aside g m
   broken_behind fault (Trial seed count) s o x = stretch_quiet o b c

@@ -1,3 +1,4 @@
+pub mod Between
 pub mod Breaking
 pub mod Answering
 pub mod Arriving
@@ -20,5 +21,6 @@ pub mod TalkLeaving
 pub mod TalkLogs
 pub mod TalkPulls
 pub mod TalkReach
+pub mod Timing
 pub mod TurnLaws
 pub mod Uttering

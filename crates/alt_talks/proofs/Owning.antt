@@ -10,7 +10,7 @@ use Rattle.alt_tables.specs.Stands.{Stands}
 use Rattle.alt_tables.specs.declared.tables.Tables.{Tables}
 use Rattle.alt_tables.proofs.Left.{stands_left}
 use Rattle.alt_talks.specs.Faults.{IsCausedBy, told_by_run}
-use Rattle.alt_talks.specs.Own.{Own, none_own, own_behind}
+use Rattle.alt_talks.specs.Own.{Own, none_own, own_behind, own_between}
 use Rattle.alt_talks.specs.Stops.{AtEach, IsAmong}
 use Rattle.alt_talks.specs.Turns.{or_next}
 use Rattle.alt_talks.specs.Works.{Follows, Works}
@@ -20,6 +20,11 @@ use Rattle.alt_talks.proofs.Stopping.{leaves-here, leaves-weaker}
 pub none_behind : (s : State) → own_behind s ≡ none_own
 unfolding own_behind
 none_behind s = refl
+
+pub none_between : (number : ℕ) (moment : Option ℕ) (s : State)
+    → own_between number moment s ≡ none_own
+unfolding own_between
+none_between number moment s = refl
 
 -- ---- nothing follows
 

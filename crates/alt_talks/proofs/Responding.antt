@@ -1,5 +1,5 @@
 -- A request that was carried out and answered, and what follows it.
-use Rattle.std.proofs.Common.{◌≡◌, ◌∙◌, ⊎_elim, ℕ, List, [], ◌∷◌, Bool, true, false, Option, None, refl, sym, subst}
+use Rattle.std.proofs.Common.{◌≡◌, ◌∙◌, ⊎_elim, ℕ, List, [], ◌∷◌, Bool, true, false, Option, Some, None, refl, sym, subst}
 use Rattle.std.specs.Prelude.{not}
 use Rattle.alt_disk.specs.Disk.{DiskState}
 use Rattle.alt_machine.specs.Outcomes.{last_state}
@@ -9,7 +9,7 @@ use Rattle.alt_shell.specs.Calls.{Keeps}
 use Rattle.alt_shell.specs.Log.{Log}
 use Rattle.alt_talks.specs.Faults.{IsCausedBy, IsWorkFault}
 use Rattle.alt_talks.specs.Own.{FollowsNot, own_behind}
-use Rattle.alt_talks.specs.Runs.{OfStretch, Stretch}
+use Rattle.alt_talks.specs.Runs.{OfStretch, Stretch, Timed}
 use Rattle.alt_talks.specs.Stops.{AreWithin}
 use Rattle.alt_talks.specs.Stretches.{Utters}
 use Rattle.alt_talks.specs.Talks.{asked, Rules, Lawful, Request}
@@ -20,6 +20,7 @@ use Rattle.alt_talks.specs.declared.fault.RunFault.{RunFault}
 use Rattle.alt_talks.proofs.Owning.{cause_behind, enough_both}
 use Rattle.alt_talks.proofs.Stretching.{stretch_goes}
 use Rattle.alt_talks.proofs.TalkLaws.{lawful, rules-left, rules-own, rules-wants}
+use Rattle.alt_talks.proofs.Timing.{told_one}
 use Rattle.alt_talks.proofs.TalkLeaving.{Asked, asked_on, asked_own_on, asked_work_on, told_then}
 
 module _ (r : Rules) (w : Lawful r) (old done new last : DiskState) (s : State) (m n : Bool)
@@ -37,13 +38,15 @@ module _ (r : Rules) (w : Lawful r) (old done new last : DiskState) (s : State) 
       said follows.goes
 
   -- it was done
-  pub follow_made : r.wants s q at ≡ None
-      → Stretch old last (AnswersOn r s m (asked q ∷ []) (r.next s q at) n)
-  follow_made enough = told_then old done last {Q = Spoken}
-      {R = AnswersOn r s m (asked q ∷ []) (r.next s q at) n} at front.silent front.told front.later
-      front.trusts
-      (λ fs ns within x. asked_on r w old done new last s m n q at fs ns front here keeps x.0
-      follows.leaves x.1 enough)
+  pub follow_made : (before : Option ℕ) → r.wants s q at ≡ None
+      → Stretch old last (Timed before (Some at) (AnswersOn r s m (asked q ∷ []) (r.next s q at) n))
+  follow_made before enough = told_then old done last {Q = Spoken}
+      {R = Timed before (Some at) (AnswersOn r s m (asked q ∷ []) (r.next s q at) n)}
+      at front.silent front.told front.later front.trusts
+      (λ fs ns within x. (
+        asked_on r w old done new last s m n q at fs ns front here keeps x.0 follows.leaves x.1 enough,
+        told_one before at ns x.1.timeless,
+      ))
       spoken
 
   -- or the step of work in it broke off

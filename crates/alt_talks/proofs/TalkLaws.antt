@@ -16,7 +16,7 @@ use Rattle.alt_http.proofs.Answering.{scan_of-nothing, scan_of-refused, scan_of-
 use Rattle.alt_machine.specs.Outcomes.{last_state}
 use Rattle.alt_machine.specs.State.{State}
 use Rattle.alt_machine.specs.Wanted.{wanted}
-use Rattle.alt_talks.specs.Own.{after_behind, own_behind}
+use Rattle.alt_talks.specs.Own.{after_behind, own_behind, own_between}
 use Rattle.alt_talks.specs.TalkRules.{rules, outcome_of, left_by, http_text}
 use Rattle.alt_talks.specs.TalkViews.{scanned}
 use Rattle.alt_talks.specs.Turns.{or_next}
@@ -61,6 +61,11 @@ pub rules-own : (s : State) (q : Request) (m : ℕ)
     → rules.own s q m ≡ (own_behind (left_by s q m)).atoms
 unfolding rules
 rules-own s q m = refl
+
+pub rules-between : (number : ℕ) (moment : Option ℕ) (s : State)
+    → rules.between number moment s ≡ own_between number moment s
+unfolding rules
+rules-between number moment s = refl
 
 -- the state that a request's own writes leave
 pub rules-left : (s : State) (q : Request) (m : ℕ)

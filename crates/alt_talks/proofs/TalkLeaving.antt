@@ -1,5 +1,5 @@
 -- What a stop leaves while the turns of a connection are done, rung by rung.
-use Rattle.std.proofs.Common.{◌≡◌, ◌≤◌, ◌<◌, ◌-◌, ◌⊎◌, inl, inr, ◌&&◌, IsTrue, ℕ, List, [], ◌∷◌, ◌++◌, length, Bool, true, false, None, cond, drop, refl, sym, ap, subst, ◌∙◌, append-nil, arith}
+use Rattle.std.proofs.Common.{◌≡◌, ◌≤◌, ◌<◌, ◌-◌, ◌⊎◌, inl, inr, ◌&&◌, IsTrue, ℕ, List, [], ◌∷◌, ◌++◌, length, Bool, true, false, Option, None, cond, drop, refl, sym, ap, subst, ◌∙◌, append-nil, arith}
 use Rattle.std.specs.Prelude.{◌||◌, nat_le}
 use Rattle.std.proofs.lemmas.Bool.{true≢false, le-leb}
 use Rattle.alt_base.specs.Prefix.{IsPrefix}
@@ -13,7 +13,7 @@ use Rattle.alt_shell.specs.Log.{Log, Grows, Tells, moments_of, until, entry, tol
 use Rattle.alt_shell.proofs.Telling.{Grows-then, Tells-then}
 use Rattle.alt_tables.specs.Images.{StandsFor}
 use Rattle.alt_talks.specs.Faults.{IsCausedBy, IsWorkFault}
-use Rattle.alt_talks.specs.Runs.{OfStretch, Stretch}
+use Rattle.alt_talks.specs.Runs.{OfStretch, Stretch, Timed}
 use Rattle.alt_talks.specs.Stops.{Image, IsLeft, IsAmong, AtEach, AreWithin}
 use Rattle.alt_talks.specs.Stretches.{Utters, AtRest, Idle, Goes, Does, DoesSome}
 use Rattle.alt_talks.specs.Talks.{Turn, onward, asked, refused, Rules, Lawful, Request, Head, Place, at, unread, bad, good, greets, is_whole, size_of, request_of, turns, final, turns_at}
@@ -557,18 +557,21 @@ module _ (r : Rules) (w : Lawful r) (a b c : DiskState) where
   )
 
 -- a take that failed in a talk in which none had failed
-pub goes_missed_on : (r : Rules) (w : Lawful r) (p : Place) (s : State) (m : Bool) (rest : AtRest r p)
+pub goes_missed_on : (last : Option ℕ) (r : Rules) (w : Lawful r) (p : Place) (s : State) (m : Bool) (rest : AtRest r p)
     (ready : Idle r p s m [] []) (a b : DiskState) → talks a.beside ≡ true → takes_missed a.beside ≡ false
     → (Adds a b take_failed ⊎ Untold a b takes_failed takes_missed)
     → moments_of b.beside ≡ moments_of a.beside → Keeps a b → LeavesNow a s
-    → Stretch a b (GoesOn r false p s m p s m)
-goes_missed_on r w p s m rest ready a b talking none (inl told) moments keeps here =
-    stretch_one a b (GoesOn r false p s m p s m) _ told moments (keeps.later, omega arith, tt) keeps (
-      goes_failed r p s m rest b.moment (told_count a.beside) ready,
-      left_silent r w p s a b (entry b.moment (told_count a.beside) take_failed ∷ []) [] keeps refl
-          here,
+    → Stretch a b (Timed last last (GoesOn r false p s m p s m))
+goes_missed_on last r w p s m rest ready a b talking none (inl told) moments keeps here =
+    stretch_one a b (Timed last last (GoesOn r false p s m p s m)) _ told moments (keeps.later, omega arith, tt) keeps (
+      (
+        goes_failed r p s m rest b.moment (told_count a.beside) ready,
+        left_silent r w p s a b (entry b.moment (told_count a.beside) take_failed ∷ []) [] keeps refl
+            here,
+      ),
+      refl,
     )
-goes_missed_on r w p s m rest ready a b talking none (inr untold) moments keeps here =
+goes_missed_on last r w p s m rest ready a b talking none (inr untold) moments keeps here =
     let why = subst (λ (t : Bool). IsUntoldBy t a takes_failed takes_missed) talking untold.why in
     absurd (true≢false (sym why ∙ none))
 

@@ -9,7 +9,7 @@ use Rattle.alt_machine.specs.State.{State}
 use Rattle.alt_machine.specs.Step.{step}
 use Rattle.alt_machine.specs.Wanted.{wanted as wanted_by}
 use Rattle.alt_shape.specs.Refusals.{Answer}
-use Rattle.alt_talks.specs.Own.{after_behind, own_behind}
+use Rattle.alt_talks.specs.Own.{after_behind, own_behind, own_between}
 use Rattle.alt_talks.specs.Talks.{Rules, Request}
 use Rattle.alt_talks.specs.TalkViews.{scanned}
 use Rattle.alt_talks.specs.Turns.{or_next}
@@ -40,6 +40,7 @@ rules = record {
   reply = λ s q moment. http_text (outcome_of s q moment).answer moment q.close;
   wants = λ s q moment. or_next (wanted_by s (outcome_of s q moment))
       (own_behind (left_by s q moment)).lacks;
+  between = own_between;
   refusal = λ k moment. reply_text (refusal_status k) moment true (refusal_body k);
   greeting = continue_text;
 }

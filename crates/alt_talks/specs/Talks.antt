@@ -4,6 +4,7 @@ use Rattle.std.specs.List.{list_any}
 use Rattle.alt_machine.specs.Outcomes.{last_state}
 use Rattle.alt_machine.specs.State.{State}
 use Rattle.alt_machine.specs.Wanted.{Lack}
+use Rattle.alt_talks.specs.Own.{Own}
 
 -- a head of so many bytes, what its target is, the length of the body behind it, whether 100-continue is expected, and whether it closes
 pub record Head : Type 0 where
@@ -37,8 +38,8 @@ pub data Turn : Type 0 where
   asked : Request → Turn
   refused : ℕ → Turn
 
--- What the parts below give: how heads are read, the machine's step, what the server does by itself behind it, and the texts that are
--- said.
+-- What the parts below give: how heads are read, the machine's step, what the server does by itself behind it and behind a
+-- connection, and the texts that are said.
 pub record Rules : Type 0 where
   pub scan : List ℕ → Scanned
   pub next : State → Request → ℕ → State
@@ -46,6 +47,7 @@ pub record Rules : Type 0 where
   pub own : State → Request → ℕ → List State
   pub reply : State → Request → ℕ → List ℕ
   pub wants : State → Request → ℕ → Option Lack
+  pub between : ℕ → Option ℕ → State → Own
   pub refusal : ℕ → ℕ → List ℕ
   pub greeting : List ℕ
 

@@ -1,7 +1,7 @@
 //! Serving connections: from the bytes taken to the replies said. Each function says of the calls that it made which turns of
 //! the connection they did, or where among them it broke off, so that a run is put together from them.
 
-ghost use Rattle.std.specs.Prelude.{◌≡◌, ◌<◌, ◌≤◌, ◌+◌, ◌-◌, ◌^◌, ◌==◌, ◌||◌, nat_le, if◌then◌else◌, ℕ, [], ◌∷◌, take, drop, length, true, false, IfOk, OnOk, IsErrOf, MatchResult};
+ghost use Rattle.std.specs.Prelude.{◌≡◌, ◌<◌, ◌≤◌, ◌+◌, ◌-◌, ◌^◌, ◌==◌, ◌||◌, nat_le, if◌then◌else◌, ℕ, Option, [], ◌∷◌, take, drop, length, true, false, IfOk, OnOk, IsErrOf, MatchResult};
 ghost use Rattle.alt_base.specs.Counts.{Rose};
 ghost use Rattle.alt_machine.specs.State.{State};
 ghost use Rattle.alt_shell.specs.Calls.{Keeps};
@@ -10,7 +10,7 @@ ghost use Rattle.alt_tables.specs.Stands.{AreReady, Stands};
 ghost use Rattle.alt_http.specs.Reading.{scan_of};
 ghost use Rattle.alt_talks.specs.Arrivals.{Came, CameAll, CameAtMost, CameOne};
 ghost use Rattle.alt_talks.specs.private.HeadViews.{scan_in};
-ghost use Rattle.alt_talks.specs.Runs.{Leads, Passes, Stretch};
+ghost use Rattle.alt_talks.specs.Runs.{Leads, Passes, Stretch, Timed};
 ghost use Rattle.alt_talks.specs.Stretches.{Utters, AtRest};
 ghost use Rattle.alt_talks.specs.TalkRules.{rules};
 ghost use Rattle.alt_talks.specs.TalkStops.{AnswersOn, AnswersSomeOn, CarriesOn, CarriesSomeOn, ComesOn, ComesSomeOn, EndsOn, GoesOn, GoesSomeOn, LeavesNow, MovesAllOn, MovesSomeOn, ServedOn, ServedSomeOn, StepsOn};
@@ -18,7 +18,7 @@ ghost use Rattle.alt_talks.specs.TalkViews.{place_of, head_in, asking};
 ghost use Rattle.alt_talks.specs.Talks.{onward, asked, refused, greets};
 
 use crate::fault::RunFault;
-use crate::following::follow;
+use crate::following::{between, follow};
 use crate::front::{Front, Head};
 use crate::response::{refusal_text, response};
 use alt_base::NoMemory;
@@ -29,13 +29,14 @@ use alt_tables::Tables;
 use std::alloc::Global;
 
 /// A connection as it is served: the bytes taken that no turn has used, how many requests may come, whether the client of the head
-/// in front was let go on, and whether a say failed.
+/// in front was let go on, whether a say failed, and the last moment that was told in the run.
 #[derive(Drop)]
 pub(crate) struct Talk {
     front: Front,
     left: u32,
     greeted: bool,
     mute: bool,
+    last: Option<u64>,
 }
 
 /// Says a text, unless a say failed before.
@@ -67,6 +68,7 @@ fn refuse<S: Shell>(
     alloc: Global,
     number: u8,
     mute: &mut bool,
+    last: &mut Option<u64>,
     shell: &mut S,
 ) -> Result<(), RunFault>
     requires low { 1 ≤ number }
@@ -75,7 +77,8 @@ fn refuse<S: Shell>(
     requires hears { mute.old ≡ false → says_missed (S.state shell.old).beside ≡ false }
     ensures answered { (s : State) → LeavesNow (S.state shell.old) s → MatchResult result
         (λ _. Stretch (S.state shell.old) (S.state shell.new)
-        (AnswersOn rules s mute.old (refused number ∷ []) s mute.new))
+        (Timed last.old last.new
+        (AnswersOn rules s mute.old (refused number ∷ []) s mute.new)))
         (λ f. Stretch (S.state shell.old) (S.state shell.new)
         (AnswersSomeOn rules f s mute.old (refused number ∷ []))) }
     ensures hears { mute.new ≡ false → says_missed (S.state shell.new).beside ≡ false }
@@ -91,6 +94,7 @@ fn refuse<S: Shell>(
         return Ok(());
     }
     let moment = shell.now();
+    *last = Some(moment);
     match refusal_text(alloc, number, moment) {
         Ok(text) => {
             utter(mute, &text, shell);
@@ -109,6 +113,7 @@ fn respond<S: Shell>(
     body: &[u8],
     close: bool,
     mute: &mut bool,
+    last: &mut Option<u64>,
     shell: &mut S,
 ) -> Result<(), RunFault>
     requires ready { AreReady (S.state shell.old) tables.old }
@@ -116,7 +121,8 @@ fn respond<S: Shell>(
     requires hears { mute.old ≡ false → says_missed (S.state shell.old).beside ≡ false }
     ensures answered { (s : State) → Stands (S.state shell.old) tables.old s → MatchResult result
         (λ _. Leads (S.state shell.old) (S.state shell.new) tables.new
-        (λ t. AnswersOn rules s mute.old (asked (asking target.now body.now close) ∷ []) t mute.new))
+        (λ t. Timed last.old last.new
+        (AnswersOn rules s mute.old (asked (asking target.now body.now close) ∷ []) t mute.new)))
         (λ f. Stretch (S.state shell.old) (S.state shell.new)
         (AnswersSomeOn rules f s mute.old (asked (asking target.now body.now close) ∷ []))) }
     ensures hears { mute.new ≡ false → says_missed (S.state shell.new).beside ≡ false }
@@ -128,6 +134,7 @@ fn respond<S: Shell>(
     ensures passes { Passes (S.state shell.old) (S.state shell.new) }
 {
     let moment = shell.now();
+    *last = Some(moment);
     let text = match response(alloc, tables, shell, target, body, close, moment) {
         Ok(text) => text,
         Err(fault) => return Err(fault),
@@ -143,9 +150,9 @@ fn respond<S: Shell>(
 fn hello<S: Shell>(expect: bool, greeted: bool, mute: &mut bool, shell: &mut S)
     requires talking { talks (S.state shell.old).beside ≡ true }
     requires hears { mute.old ≡ false → says_missed (S.state shell.old).beside ≡ false }
-    ensures greeted { (s : State) → LeavesNow (S.state shell.old) s
-        → Stretch (S.state shell.old) (S.state shell.new)
-        (AnswersOn rules s mute.old (greets greeted expect) s mute.new) }
+    ensures greeted { (s : State) (last : Option ℕ) → LeavesNow (S.state shell.old) s
+        → Stretch (S.state shell.old) (S.state shell.new) (Timed last last
+        (AnswersOn rules s mute.old (greets greeted expect) s mute.new)) }
     ensures hears { mute.new ≡ false → says_missed (S.state shell.new).beside ≡ false }
     ensures takes { takes_missed (S.state shell.new).beside
         ≡ takes_missed (S.state shell.old).beside }
@@ -218,8 +225,9 @@ fn carry<S: Shell>(
     requires hears { talk.old.mute ≡ false → says_missed (S.state shell.old).beside ≡ false }
     ensures carried { (s : State) → Stands (S.state shell.old) tables.old s → MatchResult result
         (λ _. Leads (S.state shell.old) (S.state shell.new) tables.new
-        (λ t. CarriesOn rules (head_in head.now) (place_of talk.old) s talk.old.mute
-        (place_of talk.new) t talk.new.mute))
+        (λ t. Timed talk.old.last talk.new.last
+        (CarriesOn rules (head_in head.now) (place_of talk.old) s talk.old.mute
+        (place_of talk.new) t talk.new.mute)))
         (λ f. Stretch (S.state shell.old) (S.state shell.new)
         (CarriesSomeOn rules f (head_in head.now) (place_of talk.old) s
         talk.old.mute)) }
@@ -242,6 +250,7 @@ fn carry<S: Shell>(
         body_in(talk.front.as_slice(), head.taken, size),
         last,
         &mut talk.mute,
+        &mut talk.last,
         shell,
     ) {
         Ok(()) => {}
@@ -270,8 +279,9 @@ fn found<S: Shell>(
     requires hears { talk.old.mute ≡ false → says_missed (S.state shell.old).beside ≡ false }
     ensures stepped { (s : State) → Stands (S.state shell.old) tables.old s → MatchResult result
         (λ more. Leads (S.state shell.old) (S.state shell.new) tables.new
-        (λ t. StepsOn rules more (place_of talk.old) s talk.old.mute
-        (place_of talk.new) t talk.new.mute))
+        (λ t. Timed talk.old.last talk.new.last
+        (StepsOn rules more (place_of talk.old) s talk.old.mute
+        (place_of talk.new) t talk.new.mute)))
         (λ f. Stretch (S.state shell.old) (S.state shell.new)
         (MovesSomeOn rules f (place_of talk.old) s talk.old.mute)) }
     ensures fewer { IfOk result (λ more. more ≡ true → talk.new.left < talk.old.left) }
@@ -308,8 +318,9 @@ fn one<S: Shell>(
     requires hears { talk.old.mute ≡ false → says_missed (S.state shell.old).beside ≡ false }
     ensures stepped { (s : State) → Stands (S.state shell.old) tables.old s → MatchResult result
         (λ more. Leads (S.state shell.old) (S.state shell.new) tables.new
-        (λ t. StepsOn rules more (place_of talk.old) s talk.old.mute
-        (place_of talk.new) t talk.new.mute))
+        (λ t. Timed talk.old.last talk.new.last
+        (StepsOn rules more (place_of talk.old) s talk.old.mute
+        (place_of talk.new) t talk.new.mute)))
         (λ f. Stretch (S.state shell.old) (S.state shell.new)
         (MovesSomeOn rules f (place_of talk.old) s talk.old.mute)) }
     ensures fewer { IfOk result (λ more. more ≡ true → talk.new.left < talk.old.left) }
@@ -328,7 +339,7 @@ fn one<S: Shell>(
     match scan {
         Scan::More => Ok(false),
         Scan::Refused(number) => {
-            match refuse(alloc, number, &mut talk.mute, shell) {
+            match refuse(alloc, number, &mut talk.mute, &mut talk.last, shell) {
                 Ok(()) => {}
                 Err(fault) => return Err(fault),
             }
@@ -366,8 +377,9 @@ fn at_hand<S: Shell>(
     requires hears { talk.old.mute ≡ false → says_missed (S.state shell.old).beside ≡ false }
     ensures moved { (s : State) → Stands (S.state shell.old) tables.old s → MatchResult result
         (λ _. Leads (S.state shell.old) (S.state shell.new) tables.new
-        (λ t. MovesAllOn rules (place_of talk.old) s talk.old.mute
-        (place_of talk.new) t talk.new.mute))
+        (λ t. Timed talk.old.last talk.new.last
+        (MovesAllOn rules (place_of talk.old) s talk.old.mute
+        (place_of talk.new) t talk.new.mute)))
         (λ f. Stretch (S.state shell.old) (S.state shell.new)
         (MovesSomeOn rules f (place_of talk.old) s talk.old.mute)) }
     ensures hears { talk.new.mute ≡ false → says_missed (S.state shell.new).beside ≡ false }
@@ -406,8 +418,9 @@ fn pull<S: Shell>(
     ensures turned { (s : State) → Stands (S.state shell.old) tables.old s
         → AtRest rules (place_of talk.old) → MatchResult result
         (λ more. Leads (S.state shell.old) (S.state shell.new) tables.new
-        (λ t. GoesOn rules more (place_of talk.old) s talk.old.mute
-        (place_of talk.new) t talk.new.mute))
+        (λ t. Timed talk.old.last talk.new.last
+        (GoesOn rules more (place_of talk.old) s talk.old.mute
+        (place_of talk.new) t talk.new.mute)))
         (λ f. Stretch (S.state shell.old) (S.state shell.new)
         (GoesSomeOn rules f (place_of talk.old) s talk.old.mute)) }
     ensures hears { talk.new.mute ≡ false → says_missed (S.state shell.new).beside ≡ false }
@@ -456,8 +469,9 @@ fn pulls<S: Shell>(
     requires rest { AtRest rules (place_of talk.old) }
     ensures ended { (s : State) → Stands (S.state shell.old) tables.old s → MatchResult result
         (λ _. Leads (S.state shell.old) (S.state shell.new) tables.new
-        (λ t. EndsOn rules (place_of talk.old) s talk.old.mute
-        (place_of talk.new) t talk.new.mute))
+        (λ t. Timed talk.old.last talk.new.last
+        (EndsOn rules (place_of talk.old) s talk.old.mute
+        (place_of talk.new) t talk.new.mute)))
         (λ f. Stretch (S.state shell.old) (S.state shell.new)
         (GoesSomeOn rules f (place_of talk.old) s talk.old.mute)) }
     ensures cause { IsErrOf result RunFault.Failed
@@ -486,6 +500,7 @@ fn connection<S: Shell>(
     tables: &mut Tables,
     per: u32,
     buf: &mut [u8],
+    last: &mut Option<u64>,
     shell: &mut S,
 ) -> Result<bool, RunFault>
     requires ready { AreReady (S.state shell.old) tables.old }
@@ -494,7 +509,7 @@ fn connection<S: Shell>(
     requires quiet { talks (S.state shell.old).beside ≡ false }
     ensures served { (s : State) → Stands (S.state shell.old) tables.old s → MatchResult result
         (λ came. Leads (S.state shell.old) (S.state shell.new) tables.new
-        (λ t. ComesOn rules per came s t))
+        (λ t. Timed last.old last.new (ComesOn rules per came s t)))
         (λ f. Stretch (S.state shell.old) (S.state shell.new)
         (ComesSomeOn rules per f s)) }
     ensures cause { IsErrOf result RunFault.Failed
@@ -511,9 +526,11 @@ fn connection<S: Shell>(
                 left: per,
                 greeted: false,
                 mute: false,
+                last: *last,
             };
             let served = pulls(alloc, tables, buf, &mut talk, shell);
             shell.hang_up();
+            *last = talk.last;
             match served {
                 Ok(()) => Ok(true),
                 Err(fault) => Err(fault),
@@ -524,9 +541,9 @@ fn connection<S: Shell>(
     }
 }
 
-/// Serves connections, one after another, so many at most, with so many requests at most on each. Bytes are taken into `buf`. It ends early
-/// where none comes any more, and with an Err where a request has no answer for a reason that isn't its client's: then the connection at hand
-/// is hung up too.
+/// Serves connections, one after another, so many at most, with so many requests at most on each, and does behind each what the server does
+/// by itself. Bytes are taken into `buf`. It ends early where none comes any more, and with an Err where a request has no answer for a
+/// reason that isn't its client's: then the connection at hand is hung up too.
 pub fn connections<S: Shell>(
     alloc: Global,
     tables: &mut Tables,
@@ -552,13 +569,18 @@ pub fn connections<S: Shell>(
     ensures passes { Passes (S.state shell.old) (S.state shell.new) }
 {
     let mut served: u32 = 0;
+    let mut last = None;
     while served < count {
-        match connection(alloc, tables, per, buf, shell) {
+        match connection(alloc, tables, per, buf, &mut last, shell) {
             Ok(true) => {}
             Ok(false) => return Ok(()),
             Err(fault) => return Err(fault),
         }
         served += 1;
+        match between(tables, shell, served, last) {
+            Ok(()) => {}
+            Err(fault) => return Err(fault),
+        }
     }
     Ok(())
 }

@@ -7,7 +7,8 @@ ghost use Rattle.alt_disk.specs.Disk.{Goes};
 ghost use Rattle.alt_engine.specs.declared.work.Task.TheVariants.{Step};
 ghost use Rattle.alt_machine.specs.State.{State};
 ghost use Rattle.alt_tables.specs.Stands.{AreReady, Stands, limits_of};
-ghost use Rattle.alt_talks.specs.Own.{FollowsNot, after_behind, own_behind};
+ghost use Rattle.alt_talks.specs.Faults.{IsCausedBy};
+ghost use Rattle.alt_talks.specs.Own.{FollowsNot, after_behind, after_between, own_behind, own_between};
 ghost use Rattle.alt_talks.specs.Works.{AfterWork, Follows};
 
 use crate::fault::RunFault;
@@ -40,4 +41,28 @@ pub fn follow<D: Disk>(tables: &mut Tables, disk: &mut D, works: bool) -> Result
         Ok(()) => Ok(()),
         Err(fault) => Err(fault),
     }
+}
+
+/// What follows a connection: the server's own requests behind it. So many connections have come by then, and this was the last moment that
+/// was told while they were served, `None` where none was.
+pub(crate) fn between<D: Disk>(
+    tables: &mut Tables,
+    disk: &mut D,
+    number: u32,
+    moment: Option<u64>,
+) -> Result<(), RunFault>
+    requires ready { AreReady (D.state disk.old) tables.old }
+    ensures stands { (s : State) → Stands (D.state disk.old) tables.old s
+        → OnOk result (Stands (D.state disk.new) tables.new (after_between number moment s)) }
+    ensures follows { (s : State) → Stands (D.state disk.old) tables.old s
+        → Follows (D.state disk.old) (D.state disk.new) s (own_between number moment s).atoms }
+    ensures enough { (s : State) → Stands (D.state disk.old) tables.old s
+        → OnOk result ((own_between number moment s).lacks ≡ None) }
+    ensures fault { (s : State) → Stands (D.state disk.old) tables.old s
+        → IfErr result (IsCausedBy (own_between number moment s).lacks) }
+    ensures goes { Goes (D.state disk.old) (D.state disk.new) }
+    ensures cause { IsErrOf result RunFault.Failed
+        → Rose (D.state disk.old).faults (D.state disk.new).faults }
+{
+    Ok(())
 }

@@ -1,7 +1,7 @@
 use Rattle.std.proofs.Common.{◌∷◌, ◌++◌, ◌∙◌, [], inr, ℕ, List, Bool, true, false, refl, sym, subst, arith}
 use Rattle.alt_shell.specs.Calls.{Accepted}
 use Rattle.alt_shell.specs.Log.{Log, entry, hung_up, told_count}
-use Rattle.alt_talks.specs.Runs.{Leads, Stretch}
+use Rattle.alt_talks.specs.Runs.{Leads, Stretch, Timed}
 use Rattle.alt_talks.specs.Stops.{AreWithin}
 use Rattle.alt_talks.specs.Stretches.{AtRest}
 use Rattle.alt_talks.specs.TalkRules.{rules}
@@ -29,8 +29,10 @@ returns-in-Ok-clause-served g c = λ s stands.
     let n = c.pulls-served.new.talk.mute in
     let came = subst (λ (v : Bool). Accepted a b v) c.in-Ok-true.field-0-test
     c.in-Ok-true.ensures.accepted in
+    let l = c.args.last.now in
+    let k = c.pulls-served.new.talk.last in
     let served = subst (λ (bs : List ℕ). Leads b d c.pulls-served.new.tables
-    (λ t. EndsOn rules (at per false bs) s false q t n)) c.new.ensures
+    (λ t. Timed l k (EndsOn rules (at per false bs) s false q t n))) c.new.ensures
     (c.in-Ok.ensures.ended s
     (stands_kept a b c.in-Ok-true.ensures.call.keeps c.args.tables.now s stands)) in
     record {
@@ -38,27 +40,32 @@ returns-in-Ok-clause-served g c = λ s stands.
       stands = stands_kept d e c.hang_up.ensures.call.keeps c.pulls-served.new.tables served.to
           served.stands;
       calls = stretch_hung a b d e (told_count a.beside) (told_count d.beside)
-          (EndsOn rules (at per false []) s false q served.to n) (ComesOn rules per true s served.to)
+          (Timed l k (EndsOn rules (at per false []) s false q served.to n))
+          (Timed l k (ComesOn rules per true s served.to))
           came.0 c.in-Ok-true.ensures.moments c.in-Ok-true.ensures.call.keeps
           (c.hang_up.ensures.hung (c.pulls-served.ensures.passes.talking ∙ came.1))
           c.hang_up.ensures.moments c.hang_up.ensures.call
           (λ (es : Log) (ms : List ℕ) (within : AreWithin b.moment d.moment es) p. (
             (
-              record {
-                moment = b.moment;
-                clocked = told_count a.beside;
-                entries = es ++ entry e.moment (told_count d.beside) hung_up ∷ [];
-                told = ms;
-              },
-              serves_hung rules per s es ms b.moment (told_count a.beside) e.moment
-                  (told_count d.beside) q served.to n c.requires.some p.0,
-              refl,
-              refl,
+              (
+                record {
+                  moment = b.moment;
+                  clocked = told_count a.beside;
+                  entries = es ++ entry e.moment (told_count d.beside) hung_up ∷ [];
+                  told = ms;
+                },
+                serves_hung rules per s es ms b.moment (told_count a.beside) e.moment
+                    (told_count d.beside) q served.to n c.requires.some p.0.0,
+                refl,
+                refl,
+              ),
+              left_hung rules lawful (at per false []) s a b d e (told_count a.beside)
+                  (told_count d.beside)
+                  c.in-Ok-true.ensures.call.keeps c.hang_up.ensures.call
+                  (λ trusted image is. stands_left a c.args.tables.now s stands image is)
+                  es ms within c.pulls-served.ensures.passes.later p.0.1,
             ),
-            left_hung rules lawful (at per false []) s a b d e (told_count a.beside) (told_count d.beside)
-                c.in-Ok-true.ensures.call.keeps c.hang_up.ensures.call
-                (λ trusted image is. stands_left a c.args.tables.now s stands image is)
-                es ms within c.pulls-served.ensures.passes.later p.1,
+            p.1,
           ))
           served.calls;
     }
@@ -113,7 +120,7 @@ returns-in-Ok-false-clause-served g c = λ s stands.
     record {
       to = s;
       stands = stands_kept a b c.in-Ok-false.ensures.call.keeps c.args.tables.now s stands;
-      calls = none_comes rules lawful c.args.per s a b none.0 c.in-Ok-false.ensures.moments
+      calls = none_comes c.args.last.now rules lawful c.args.per s a b none.0 c.in-Ok-false.ensures.moments
           c.in-Ok-false.ensures.call.keeps
           (λ trusted image is. stands_left a c.args.tables.now s stands image is);
     }

@@ -1,7 +1,7 @@
 use Rattle.std.proofs.Common.{◌≡◌, ◌<◌, ◌++◌, ◌∷◌, [], ℕ, List, length, take, arith, length-take, refl, subst, true, false}
 use Rattle.alt_shell.specs.Log.{Log, Grows, entry, took, told_count}
 use Rattle.alt_tables.proofs.Left.{stands_left}
-use Rattle.alt_talks.specs.Runs.{Leads, Stretch}
+use Rattle.alt_talks.specs.Runs.{Leads, Stretch, Timed}
 use Rattle.alt_talks.specs.Stops.{AreWithin}
 use Rattle.alt_talks.specs.TalkRules.{rules}
 use Rattle.alt_talks.specs.TalkStops.{MovesAllOn, MovesSomeOn, GoesOn, GoesSomeOn}
@@ -32,22 +32,26 @@ returns-in-Ok-at_hand-clause-turned g c = λ s stands rest.
     let keeps = c.in-Ok.ensures.call.keeps in
     let some : 0 < length bytes = let l = length-take c.in-Ok.count c.take.new.buf in
     let k = c.in-Ok.ensures.count in grind arith in
+    let l = c.args.talk.now.last in
+    let k = c.at_hand.new.talk.last in
     let went = subst (λ (bs : List ℕ). Leads b d c.at_hand.new.tables
-    (λ t. MovesAllOn rules (at p.left p.greeted bs) s m q t n))
+    (λ t. Timed l k (MovesAllOn rules (at p.left p.greeted bs) s m q t n)))
     c.in-Ok-extend.ensures.more
     (c.in-Ok-at_hand.ensures.moved s (stands_kept a b keeps c.args.tables.now s stands)) in
     record {
       to = went.to;
       stands = went.stands;
       calls = took_then a b d (entry b.moment clocked (took bytes))
-          (MovesAllOn rules (at p.left p.greeted (p.bytes ++ bytes)) s m q went.to n)
-          (GoesOn rules true p s m q went.to n)
+          (Timed l k (MovesAllOn rules (at p.left p.greeted (p.bytes ++ bytes)) s m q went.to n))
+          (Timed l k (GoesOn rules true p s m q went.to n))
           c.in-Ok.ensures.taken c.in-Ok.ensures.moments keeps.later (omega arith) keeps
-          (λ (es : Log) (ms : List ℕ) (within : AreWithin b.moment d.moment es) x.
-          goes_taken_on rules p s a b d bytes clocked keeps
-          (λ trusted image is. stands_left a c.args.tables.now s stands image is)
-          lawful m (idle_start rules p s m rest c.requires.going c.requires.heard) q went.to n es ms
-          within some x)
+          (λ (es : Log) (ms : List ℕ) (within : AreWithin b.moment d.moment es) x. (
+            goes_taken_on rules p s a b d bytes clocked keeps
+                (λ trusted image is. stands_left a c.args.tables.now s stands image is)
+                lawful m (idle_start rules p s m rest c.requires.going c.requires.heard) q went.to n es
+                ms within some x.0,
+            x.1,
+          ))
           went.calls;
     }
 
@@ -88,7 +92,7 @@ returns-in-Err-clause-turned g c = λ s stands rest.
     record {
       to = s;
       stands = stands_kept a b keeps c.args.tables.now s stands;
-      calls = goes_missed_on rules lawful p s m rest
+      calls = goes_missed_on c.args.talk.now.last rules lawful p s m rest
           (idle_start rules p s m rest c.requires.going c.requires.heard) a b c.requires.talking c.requires.taking
           c.in-Err.ensures.taken c.in-Err.ensures.moments keeps
           (λ trusted image is. stands_left a c.args.tables.now s stands image is);
@@ -102,20 +106,24 @@ returns-then-count-eq0-clause-turned g c = λ s stands rest.
     let p = place_of c.args.talk.now in
     let m = c.args.talk.now.mute in
     let keeps = c.in-Ok.ensures.call.keeps in
+    let l = c.args.talk.now.last in
     let none : take c.in-Ok.count c.take.new.buf ≡ [] = grind arith in
     record {
       to = s;
       stands = stands_kept a b keeps c.args.tables.now s stands;
-      calls = stretch_one a b (GoesOn rules false p s m p s m)
+      calls = stretch_one a b (Timed l l (GoesOn rules false p s m p s m))
           (entry b.moment (told_count a.beside) (took []) ∷ [])
           (subst (λ (bs : List ℕ). Grows a.beside b.beside
           (entry b.moment (told_count a.beside) (took bs) ∷ [])) none c.in-Ok.ensures.taken)
           c.in-Ok.ensures.moments (keeps.later, omega arith, tt) keeps (
-            goes_end rules p s m rest b.moment (told_count a.beside)
-                (idle_start rules p s m rest c.requires.going c.requires.heard),
-            left_silent rules lawful p s a b
-                (entry b.moment (told_count a.beside) (took []) ∷ []) [] keeps refl
-                (λ trusted image is. stands_left a c.args.tables.now s stands image is),
+            (
+              goes_end rules p s m rest b.moment (told_count a.beside)
+                  (idle_start rules p s m rest c.requires.going c.requires.heard),
+              left_silent rules lawful p s a b
+                  (entry b.moment (told_count a.beside) (took []) ∷ []) [] keeps refl
+                  (λ trusted image is. stands_left a c.args.tables.now s stands image is),
+            ),
+            refl,
           );
     }
 

@@ -71,7 +71,7 @@ returns-in-Ok-follow-clause-answered g c = λ s stands.
           (c.deref.ensures.value ∙ c.in-Ok.ensures.text s here ∙ sym (rules-reply s q at))
           c.utter.ensures.said
           (own_follows new last s q at (c.in-Ok-follow.ensures.follows left there))
-          (rules-wants s q at ∙ enough_both _ _ (c.in-Ok.ensures.enough s here)
+          c.args.last.now (rules-wants s q at ∙ enough_both _ _ (c.in-Ok.ensures.enough s here)
           (c.in-Ok-follow.ensures.enough left there));
     }
 

@@ -249,6 +249,25 @@ some_asked r fault next s m q at es ms t w =
       quiet = quiet_none;
     }))
 
+-- its reply was said, and then it lacked something
+pub some_said : (r : Rules) (fault : RunFault) (next : ℕ) (s : State) (m n : Bool) (q : Request) (at : ℕ) (es : Log)
+    → IsCausedBy (r.wants s q at) fault → Utters m (r.reply s q at) n es []
+    → DoesSome r fault next s m (asked q ∷ []) es (at ∷ [])
+some_said r fault next s m n q at es w u = record {
+  said = subst (IsPrefix (said_in es)) (sym (append-nil (r.reply s q at)))
+      (some_of n (said_in es) (r.reply s q at) u.said);
+  most = omega arith;
+  wants = inl (subst (λ v. IsCausedBy v fault) (alone (r.wants s q at)) w);
+  silent = u.silent;
+  hush = u.hush;
+  still = u.still;
+  begins = begins_one r s (asked q) at refl;
+}
+  where
+    some_of : (n : Bool) (some whole : List ℕ) → SaidOf n some whole → IsPrefix some whole
+    some_of true some whole p = p
+    some_of false some whole e = ([], sym e ∙ sym (append-nil some))
+
 pub some_refused : (r : Rules) (next : ℕ) (s : State) (m : Bool) (k at : ℕ) (es : Log) (ms : List ℕ) → Clocked at es ms → AnswersSome r NoMemory next s m (refused k ∷ []) es ms
 some_refused r next s m k at es ms t =
     let none = t.nothing in let one = t.one in

@@ -1,5 +1,5 @@
 -- The refusals of a CreateTable, step by step, and what it comes to.
-use Rattle.std.proofs.Common.{◌≡◌, refl, sym, ap, subst, ◌∙◌, ℕ, zero, suc, ◌+◌, ◌<◌, ◌≤◌, take, Err, Bool, true, false, cond, not, nat_le, [], ◌∷◌, Option, Some, None, option_map, is_some, arith}
+use Rattle.std.proofs.Common.{◌≡◌, ⊎_elim, refl, sym, ap, subst, ◌∙◌, ℕ, zero, suc, ◌+◌, ◌<◌, ◌≤◌, take, Err, Bool, true, false, cond, not, nat_le, [], ◌∷◌, Option, Some, None, option_map, is_some, arith}
 use Rattle.std.specs.Prelude.{IsSome}
 use Rattle.std.proofs.lemmas.Bool.{le-leb}
 use Rattle.std.specs.FinMap as map
@@ -168,10 +168,10 @@ unfit_asked tables moment ms (Refused r) h = (h.1, λ s same. create-unfit s mom
 unfit_asked tables moment ms (Fault f) h = h
 
 -- what is asked stops the request
-pub asked_stops : (tables : Tables) (disk : DiskState) (now : State → Type 0) (moment : ℕ)
+pub asked_stops : {file : ℕ} (tables : Tables) (disk : DiskState) (now : State → Type 0) (moment : ℕ)
     (ms : Members) (stop : Stop) → IsAsked tables moment ms (Err stop)
     → ((s : State) → Stands disk tables s → now s)
-    → Carries (λ s. create_table s moment ms) (Stands disk tables) now (Err stop)
+    → Carries file (λ s. create_table s moment ms) (Stands disk tables) now (Err stop)
 asked_stops tables disk now moment ms (Refused r) h stays =
     refused_so (λ s. create_table s moment ms) (Stands disk tables) now r h.0
     (λ s stands. h.1 s (sym stands.catalog)) stays
@@ -257,10 +257,12 @@ module _ (s t u : State) (now : State → Type 0)
       before_of (Some lack) = lack.before
 
   -- where tables are alike, making one breaks off as making the other does
-  pub broken_alike : (f : TableFault) → BreakOff now a_table s (t ∷ []) f
-      → BreakOff now a_table s (u ∷ []) f
+  pub broken_alike : {file : ℕ} (f : TableFault) → BreakOff file now a_table s (t ∷ []) f
+      → BreakOff file now a_table s (u ∷ []) f
   broken_alike (Spent n) (before, lacks, h) =
-      let first : before ≡ 0 = at_first (table_lack s.next_number s.next_family) n before lacks in (
+      let first : before ≡ 0 = ⊎_elim
+      (λ (lack : lack_among a_table s (t ∷ []) ≡ Some (record { number = n; before = before })).
+      at_first (table_lack s.next_number s.next_family) n before lack) (λ last. last.0) lacks in (
         before,
         lacks,
         subst (λ k. now (state_after k s (u ∷ []))) (sym first)

@@ -1,4 +1,4 @@
-use Rattle.std.proofs.Common.{◌∙◌, ◌≤◌, ◌+◌, List, ℕ, [], ◌∷◌, not, Option, Some, sym, subst}
+use Rattle.std.proofs.Common.{◌⊎◌, ◌∙◌, ◌≤◌, ◌+◌, List, ℕ, [], ◌∷◌, not, Option, Some, sym, subst}
 use Rattle.alt_disk.proofs.Runs.{trusted_back}
 use Rattle.alt_machine.specs.Outcomes.{last_state}
 use Rattle.alt_machine.specs.State.{State}
@@ -8,7 +8,7 @@ use Rattle.alt_engine.specs.InHand.{Bounds}
 use Rattle.alt_tables.specs.Images.{StandsFor}
 use Rattle.alt_tables.specs.FilesLeft.{most_files}
 use Rattle.alt_tables.specs.Stands.{Stands, bounds_of}
-use Rattle.alt_talks.specs.Faults.{IsCausedBy}
+use Rattle.alt_talks.specs.Faults.{IsCausedBy, IsFileFault}
 use Rattle.alt_talks.specs.Own.{FollowsNot, own_behind}
 use Rattle.alt_talks.specs.Runs.{Counting, Timed}
 use Rattle.alt_talks.specs.Stops.{AtEach, IsAmong}
@@ -16,7 +16,7 @@ use Rattle.alt_talks.specs.TalkRules.{rules, left_by, outcome_of}
 use Rattle.alt_talks.specs.TalkStops.{AnswersOn}
 use Rattle.alt_talks.specs.TalkViews.{asking}
 use Rattle.alt_talks.specs.Talks.{asked}
-use Rattle.alt_talks.proofs.Owning.{cause_first, enough_both}
+use Rattle.alt_talks.proofs.Owning.{answer_first, enough_both}
 use Rattle.alt_talks.proofs.Responding.{asked_reach, follow_made, follow_broke, own_follows}
 use Rattle.alt_talks.proofs.Stopping.{ready_kept, stands_kept}
 use Rattle.alt_talks.proofs.Stretching.{stretch_as}
@@ -143,8 +143,9 @@ returns-in-Err-clause-answered g c = λ s stands.
     (sym (rules-atoms s q at)) (c.in-Err.ensures.leaves s here)) in
     asked_some_on rules lawful old done s m q at c.in-Err.fault
     (bounds_of c.args.tables.now).file front
-    (subst (λ (l : Option Lack). IsCausedBy l c.in-Err.fault) (sym (rules-wants s q at))
-    (cause_first _ _ c.in-Err.fault (c.in-Err.ensures.cause s here)))
+    (subst (λ (l : Option Lack). IsCausedBy l c.in-Err.fault
+    ⊎ IsFileFault (bounds_of c.args.tables.now).file c.in-Err.fault) (sym (rules-wants s q at))
+    (answer_first _ _ _ c.in-Err.fault (c.in-Err.ensures.cause s here)))
 
 pub returns-in-Ok-follow-clause-none : goal.returns-in-Ok-follow-clause-none
 returns-in-Ok-follow-clause-none g c =

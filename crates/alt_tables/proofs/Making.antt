@@ -72,10 +72,10 @@ none_made atoms = least (length atoms - 1)
     least n = omega arith
 
 -- want of memory, where a result tells it
-pub want_told : {X : Type 0} {file : ℕ} (now : State → Type 0) (wants : Wants) (s : State)
+pub want_told : {X : Type 0} (file : ℕ) (now : State → Type 0) (wants : Wants) (s : State)
     (atoms : List State) (r : Result X TableFault) → IsErrAnd r (λ f. f ≡ NoMemory)
     → Writes file now wants s atoms r
-want_told now wants s atoms r told =
+want_told file now wants s atoms r told =
     let (f, is, none) = err_from_is_err_and r told in
     subst (λ q. Writes file now wants s atoms q) (sym (is ∙ ap (λ e. Err e) none)) tt
 
@@ -91,13 +91,13 @@ pub spent_file : {file : ℕ} (now : State → Type 0) (wants : Wants) (s r : St
 spent_file now wants s r n has last stays = (0, inr (refl, one_has wants s r has, last), stays)
 
 -- one write that failed, or wanted memory
-pub broke : {file : ℕ} (now : State → Type 0) (wants : Wants) (s r : State) (f : TableFault) → IsFindFault f
+pub broke : (file : ℕ) (now : State → Type 0) (wants : Wants) (s r : State) (f : TableFault) → IsFindFault f
     → BreakOff file now wants s (r ∷ []) f
-broke now wants s r (Spent n) known = absurd known
-broke now wants s r (Damaged file at) known = absurd known
-broke now wants s r (BadRow family key) known = absurd known
-broke now wants s r Failed known = tt
-broke now wants s r NoMemory known = tt
+broke file now wants s r (Spent n) given = absurd given
+broke file now wants s r (Damaged f at) given = absurd given
+broke file now wants s r (BadRow family key) given = absurd given
+broke file now wants s r Failed given = tt
+broke file now wants s r NoMemory given = tt
 
 -- ---- fronts
 

@@ -4,7 +4,7 @@ use Rattle.alt_disk.proofs.Runs.{quiet_start}
 use Rattle.alt_machine.specs.Ops.CreateTable.{with_table}
 use Rattle.alt_machine.specs.Outcomes.{a_table}
 use Rattle.alt_machine.proofs.Families.{families_differ}
-use Rattle.alt_machine.proofs.Lacks.{has_table, lacks_table_family}
+use Rattle.alt_machine.proofs.Lacks.{has_table, lacks_table_family, lacks_table_number}
 use Rattle.alt_machine.specs.Wanted.{table_lack}
 use Rattle.alt_tables.specs.Faults.{BreakOff}
 use Rattle.alt_tables.specs.Stands.{Stands, bounds_of}
@@ -20,6 +20,16 @@ returns-then-number-ge-NUMBERS_END-clause-disk g c s stands =
     (g.D.Disk.state c.args.disk.now) c.args.self.now.engine s
     (with_table s c.args.schema ∷ []) stands.rows stands.valid
     (quiet_start (g.D.Disk.state c.args.disk.now))
+
+pub returns-then-number-ge-NUMBERS_END-clause-writes :
+    goal.returns-then-number-ge-NUMBERS_END-clause-writes
+returns-then-number-ge-NUMBERS_END-clause-writes g c s stands =
+    spent (Stands (g.D.Disk.state c.args.disk.now) c.args.self.now) a_table s
+    (with_table s c.args.schema) c.next_number-number.result
+    (sym (λ i. table_lack (stands.number i) (stands.family i))
+    ∙ ap (λ n. table_lack n c.args.self.now.family) (sym c.next_number-number.ensures.next)
+    ∙ lacks_table_number c.next_number-number.result c.args.self.now.family
+    (omega (arith, c.if-number-ge-NUMBERS_END.true))) stands
 
 pub returns-then-self-clause-writes : goal.returns-then-self-clause-writes
 returns-then-self-clause-writes g c s stands =
@@ -63,7 +73,7 @@ returns-in-Some-clause-disk g c s stands =
 
 pub returns-in_err-batch-clause-writes : goal.returns-in_err-batch-clause-writes
 returns-in_err-batch-clause-writes g c s stands =
-    want_told (Stands (g.D.Disk.state c.args.disk.now) c.args.self.now) a_table s
+    want_told (bounds_of c.args.self.now).file (Stands (g.D.Disk.state c.args.disk.now) c.args.self.now) a_table s
     (with_table s c.args.schema ∷ [])
     c.from_residual.result c.from_residual.ensures.1
 
@@ -76,7 +86,7 @@ returns-in_err-batch-clause-disk g c s stands =
 
 pub returns-in_err-live-clause-writes : goal.returns-in_err-live-clause-writes
 returns-in_err-live-clause-writes g c s stands =
-    want_told (Stands (g.D.Disk.state c.args.disk.now) c.args.self.now) a_table s
+    want_told (bounds_of c.args.self.now).file (Stands (g.D.Disk.state c.args.disk.now) c.args.self.now) a_table s
     (with_table s c.args.schema ∷ [])
     c.from_residual-in_err-live.result c.from_residual-in_err-live.ensures.1
 
@@ -92,7 +102,7 @@ add-requires-clause-families g c = families_differ c.args.schema c.requires.new
 
 pub returns-in_err-add-clause-writes : goal.returns-in_err-add-clause-writes
 returns-in_err-add-clause-writes g c s stands =
-    want_told (Stands (g.D.Disk.state c.args.disk.now) _) a_table s
+    want_told (bounds_of c.args.self.now).file (Stands (g.D.Disk.state c.args.disk.now) _) a_table s
     (with_table s c.args.schema ∷ [])
     c.from_residual-in_err-add.result c.from_residual-in_err-add.ensures.1
 
@@ -151,7 +161,7 @@ returns-in-Ok-clause-disk g c s stands =
 
 pub returns-clause-writes : goal.returns-clause-writes
 returns-clause-writes g c s stands =
-    broke (Stands (g.D.Disk.state c.make.new.disk) _) a_table s (with_table s c.args.schema)
+    broke (bounds_of c.args.self.now).file (Stands (g.D.Disk.state c.make.new.disk) _) a_table s (with_table s c.args.schema)
     c.in-Err.fault c.in-Err.ensures.fault
 
 pub returns-clause-disk : goal.returns-clause-disk

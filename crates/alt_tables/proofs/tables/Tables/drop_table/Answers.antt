@@ -1,17 +1,18 @@
 -- The table is taken out by one write.
 use Rattle.std.proofs.Common.{[], ◌∷◌, refl, sym, ap, ◌∙◌, arith}
 use Rattle.alt_disk.proofs.Runs.{quiet_start}
-use Rattle.alt_machine.proofs.Lacks.{has_number}
+use Rattle.alt_machine.proofs.Lacks.{has_number, lacks_number}
 use Rattle.alt_machine.specs.Ops.DeleteTable.{without_table}
 use Rattle.alt_machine.specs.Outcomes.{a_number}
 use Rattle.alt_machine.specs.State.{Texts}
+use Rattle.alt_machine.specs.Wanted.{number_lack}
 use Rattle.alt_schema.specs.declared.schema.TableSchema.{TableSchema}
 use Rattle.std.specs.FinMap as map
 use Rattle.alt_opening.specs.Trimmed.{without}
 use Rattle.alt_tables.specs.Fronts.{without_front}
-use Rattle.alt_tables.specs.Stands.{Stands}
+use Rattle.alt_tables.specs.Stands.{Stands, bounds_of}
 use Rattle.alt_tables.proofs.Holding.{leaves_quiet}
-use Rattle.alt_tables.proofs.Making.{broke, drop_stands, drop_turned, one_made, spent_file}
+use Rattle.alt_tables.proofs.Making.{broke, drop_stands, drop_turned, one_made, spent, spent_file}
 use Rattle.alt_tables.proofs.tables.Tables.drop_table.Goals as goal
 
 pub returns-then-number-ge-NUMBERS_END-clause-disk :
@@ -20,6 +21,15 @@ returns-then-number-ge-NUMBERS_END-clause-disk g c s stands =
     leaves_quiet (g.D.Disk.state c.args.disk.now) (g.D.Disk.state c.args.disk.now)
     c.args.self.now.engine s (without_table s c.args.name.now ∷ []) stands.rows stands.valid
     (quiet_start (g.D.Disk.state c.args.disk.now))
+
+pub returns-then-number-ge-NUMBERS_END-clause-writes :
+    goal.returns-then-number-ge-NUMBERS_END-clause-writes
+returns-then-number-ge-NUMBERS_END-clause-writes g c s stands =
+    spent (Stands (g.D.Disk.state c.args.disk.now) c.args.self.now) a_number s
+    (without_table s c.args.name.now) c.next_number-number.result
+    (ap number_lack (sym (c.next_number-number.ensures.next ∙ stands.number))
+    ∙ lacks_number c.next_number-number.result
+    (omega (arith, c.if-number-ge-NUMBERS_END.true))) stands
 
 pub returns-in-Some-clause-writes : goal.returns-in-Some-clause-writes
 returns-in-Some-clause-writes g c s stands =
@@ -90,7 +100,7 @@ returns-in_err-live-clause-disk g c s stands =
 
 pub returns-clause-writes : goal.returns-clause-writes
 returns-clause-writes g c s stands =
-    broke (Stands (g.D.Disk.state c.make.new.disk) c.make.new.self) a_number s
+    broke (bounds_of c.args.self.now).file (Stands (g.D.Disk.state c.make.new.disk) c.make.new.self) a_number s
     (without_table s c.args.name.now) c.in-Err.fault c.in-Err.ensures.fault
 
 pub returns-clause-disk : goal.returns-clause-disk

@@ -35,24 +35,24 @@ use Rattle.alt_tables.specs.declared.faults.TableFault.{TableFault}
 use Rattle.alt_tables.specs.declared.faults.TableFault.TheVariants.{Spent, Damaged, BadRow, Failed, NoMemory}
 
 -- an answer without a write that may be a refusal, or want of memory for it
-pub does_say : {file : ℕ} (now : State → Type 0) (answer : Answer) (s : State) (r : Result Reply Stop)
+pub does_say : (file : ℕ) (now : State → Type 0) (answer : Answer) (s : State) (r : Result Reply Stop)
     → Says answer r → now s → Does file now s (says answer) r
-does_say now answer s (Ok reply) h stands = record { reply = h.0; state = stands; enough = refl }
-does_say now answer s (Err (Refused q)) h stands = record {
+does_say file now answer s (Ok reply) h stands = record { reply = h.0; state = stands; enough = refl }
+does_say file now answer s (Err (Refused q)) h stands = record {
   answered = record { reply = h.0; state = stands; enough = refl };
   unwritten = refl;
 }
-does_say now answer s (Err (Fault f)) h stands =
-    subst (λ g. Does _ now s (says answer) (Err (Fault g))) (sym h) tt
+does_say file now answer s (Err (Fault f)) h stands =
+    subst (λ g. Does file now s (says answer) (Err (Fault g))) (sym h) tt
 
 -- a fault before anything was written
-pub unread : {file : ℕ} (now : State → Type 0) (s : State) (outcome : Outcome) (f : TableFault)
+pub unread : (file : ℕ) (now : State → Type 0) (s : State) (outcome : Outcome) (f : TableFault)
     → IsFindFault f → now s → Does file now s outcome (Err (Fault f))
-unread now s outcome (Spent n) known stands = absurd known
-unread now s outcome (Damaged file at) known stands = absurd known
-unread now s outcome (BadRow family key) known stands = absurd known
-unread now s outcome Failed known stands = tt
-unread now s outcome NoMemory known stands = tt
+unread file now s outcome (Spent n) known stands = absurd known
+unread file now s outcome (Damaged number at) known stands = absurd known
+unread file now s outcome (BadRow family key) known stands = absurd known
+unread file now s outcome Failed known stands = tt
+unread file now s outcome NoMemory known stands = tt
 
 -- a reply with an answer, or want of memory for it, says that answer
 pub says_so : (a : Answer) (r : Result Reply Stop) → IfOk r (λ reply. answer_of reply ≡ a)
@@ -187,7 +187,7 @@ module _ (disk : DiskState) (tables : Tables) (tests : List (Option Answer)) (ms
         → OnTable tests (catalog_of tables) ms (Err stop)
         → ((s : State) → Stands disk tables s → now s)
         → Carries file outcome (Stands disk tables) now r
-    table_passed now r stop same h stays = subst (Carries _ outcome (Stands disk tables) now)
+    table_passed {file = file} now r stop same h stays = subst (Carries file outcome (Stands disk tables) now)
         (sym (err_is r stop same)) (table_stopped now stop h stays)
 
     -- it is, and the operation goes on
@@ -221,7 +221,7 @@ module _ (disk : DiskState) (tables : Tables) (tests : List (Option Answer)) (ms
         → OnItem tests sought texts (catalog_of tables) ms (Err stop)
         → ((s : State) → Stands disk tables s → now s)
         → Carries file outcome (Stands disk tables) now r
-    item_passed now r stop same h stays = subst (Carries _ outcome (Stands disk tables) now)
+    item_passed {file = file} now r stop same h stays = subst (Carries file outcome (Stands disk tables) now)
         (sym (err_is r stop same)) (item_stopped now stop h stays)
 
     pub item_reached : (target : Target) → IsAt tests sought texts (catalog_of tables) ms target
@@ -250,8 +250,8 @@ module _ (disk : DiskState) (tables : Tables) (tests : List (Option Answer)) (ms
         → map.get s.tables (table_name ms) ≡ Some t → t.description ≡ target.schema.now
         → Does file now s (go s target.said target.item t target.place) r)
         → Carries file outcome (Stands disk tables) now r
-    item_done now target h r plain does = record {
+    item_done {file = file} now target h r plain does = record {
       does = λ s stands. let at = item_reached target h s stands in
-          subst (λ o. Does _ now s o r) (sym at.3) (does s at.0 stands at.1 at.2);
+          subst (λ o. Does file now s o r) (sym at.3) (does s at.0 stands at.1 at.2);
       plain = plain;
     }

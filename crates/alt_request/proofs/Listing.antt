@@ -138,7 +138,7 @@ module _ (disk : DiskState) (tables : Tables) (tests : List (Option Answer)) (ms
       → OnList tests texts (catalog_of tables) ms (Err stop)
       → ((s : State) → Stands disk tables s → now s)
       → Carries file outcome (Stands disk tables) now r
-  list_passed now r stop same h stays = subst (Carries _ outcome (Stands disk tables) now)
+  list_passed {file = file} now r stop same h stays = subst (Carries file outcome (Stands disk tables) now)
       (sym (err_is r stop same)) (list_stopped now stop h stays)
 
   -- it is, and the operation goes on

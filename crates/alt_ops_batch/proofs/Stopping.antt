@@ -42,7 +42,7 @@ module _ {A X : Type 0} (disk : DiskState) (tables : Tables) (of : X → A)
   pub asked_passed : {file : ℕ} (now : State → Type 0) (r : Result Reply Stop) (stop : Stop)
       → IsErr r × IsErrAnd r (λ e. e ≡ stop) → Comes of (asked (catalog_of tables)) (Err stop)
       → ((s : State) → Stands disk tables s → now s) → Carries file outcome (Stands disk tables) now r
-  asked_passed now r stop same h stays = subst (Carries _ outcome (Stands disk tables) now)
+  asked_passed {file = file} now r stop same h stays = subst (Carries file outcome (Stands disk tables) now)
       (sym (err_is r stop same)) (asked_stopped now stop h stays)
 
   -- a batch whose members are known comes to what its run makes of them

@@ -26,22 +26,22 @@ together_made now s (t ∷ ts) made = record {
 }
 
 -- or none is
-pub together_broke : {file : ℕ} (now : State → Type 0) (s : State) (ws : List State) (f : TableFault)
-    → s.next_number ≤ NUMBERS_END → BreakOffAll file now s ws f
+pub together_broke : (file : ℕ) (now : State → Type 0) (s : State) (ws : List State)
+    (f : TableFault) → s.next_number ≤ NUMBERS_END → BreakOffAll file now s ws f
     → BreakOff file now (numbers (length ws)) s (together s ws) f
-together_broke now s [] (Spent n) valid h = ⊎_elim
+together_broke file now s [] (Spent n) valid h = ⊎_elim
     (λ (over : (n ≡ NUMBERS_END) × (NUMBERS_END < s.next_number + 0)).
     let more = over.1 in absurd (omega (arith, valid, more)))
-    (λ (last : (s.next_number + 0 ≤ NUMBERS_END) × IsLastFile _ n).
+    (λ (last : (s.next_number + 0 ≤ NUMBERS_END) × IsLastFile file n).
     (0, inr (refl, refl, last.1), h.1)) h.0
-together_broke now s (t ∷ ts) (Spent n) valid h = ⊎_elim
+together_broke file now s (t ∷ ts) (Spent n) valid h = ⊎_elim
     (λ (over : (n ≡ NUMBERS_END) × (NUMBERS_END < s.next_number + length (t ∷ ts))). (
       0,
       inl (subst (λ m. one_lack m) (sym over.0) (one_lacks (numbers (length (t ∷ ts))) s
           (last_state t ts) NUMBERS_END (lacks_numbers (length (t ∷ ts)) s.next_number over.1))),
       h.1,
     ))
-    (λ (last : (s.next_number + length (t ∷ ts) ≤ NUMBERS_END) × IsLastFile _ n). (
+    (λ (last : (s.next_number + length (t ∷ ts) ≤ NUMBERS_END) × IsLastFile file n). (
       0,
       inr (
         refl,
@@ -56,10 +56,10 @@ together_broke now s (t ∷ ts) (Spent n) valid h = ⊎_elim
     one_lack : ℕ → Type 0
     one_lack m = lack_among (numbers (length (t ∷ ts))) s (last_state t ts ∷ [])
         ≡ Some (record { number = m; before = 0 })
-together_broke now s ws (Damaged file at) valid h = absurd h
-together_broke now s ws (BadRow family key) valid h = absurd h
-together_broke now s ws Failed valid h = tt
-together_broke now s ws NoMemory valid h = tt
+together_broke file now s ws (Damaged number at) valid h = absurd h
+together_broke file now s ws (BadRow family key) valid h = absurd h
+together_broke file now s ws Failed valid h = tt
+together_broke file now s ws NoMemory valid h = tt
 
 -- ---- the contract of the operation
 
@@ -87,6 +87,6 @@ module _ {file : ℕ} (outcome : State → Outcome) (old now : State → Type 0)
     does = λ s stands.
         let (ws, answer, is, valid, broke) = h s stands in
         subst (λ o. Does file now s o (Err (Fault f))) (sym is)
-        (together_broke now s ws f valid broke);
+        (together_broke file now s ws f valid broke);
     plain = tt;
   }

@@ -88,12 +88,12 @@ module _ (disk : DiskState) (tables : Tables) (s : State) (stands : Stands disk 
     there = index_at t.description index
 
     -- the page of the range that is asked for is that of the Query
-    pub query_page : {file : ℕ} (start : Option (List Pair))
+    pub query_page : (file : ℕ) (start : Option (List Pair))
         → IsAsked d (index_at d index) said.key_condition start (goes_forward ms) range
         → Does file now s (pages t.description there ms said
         (items_between t there range.from range.to (goes_forward ms))) r
         → Does file now s (queries ms said start t index) r
-    query_page start asked does = subst (λ o. Does _ now s o r)
+    query_page file start asked does = subst (λ o. Does file now s o r)
         (ap (pages t.description there ms said) (list_is (goes_forward ms) asked.place
         (passes said.key_condition) range asked.holds) ∙ sym found) does
       where
@@ -110,12 +110,12 @@ module _ (disk : DiskState) (tables : Tables) (s : State) (stands : Stands disk 
             ∙ asked.starts)
 
     -- and that of a segment's range is that of the Scan
-    pub scan_page : {file : ℕ} (start : Option (List Pair))
+    pub scan_page : (file : ℕ) (start : Option (List Pair))
         → IsOfSegment d (index_at d index) (segment_of ms) start range
         → Does file now s (pages t.description there ms said
         (items_between t there range.from range.to true)) r
         → Does file now s (scans ms said start t index) r
-    scan_page start asked does = subst (λ o. Does _ now s o r)
+    scan_page file start asked does = subst (λ o. Does file now s o r)
         (ap (pages t.description there ms said) (list_is true asked.place
         (is_in (hash_of t.description there) (segment_of ms)) range
         (subst (λ x. HoldsListed true asked.place
@@ -132,7 +132,7 @@ module _ (disk : DiskState) (tables : Tables) (s : State) (stands : Stands disk 
 
 -- ---- what stops an operation behind the steps to its list
 
-module _ {file : ℕ} (disk : DiskState) (tables : Tables) (now : State → Type 0) (ms : Members)
+module _ (file : ℕ) (disk : DiskState) (tables : Tables) (now : State → Type 0) (ms : Members)
     (target : ListTarget) (stop : Stop) (stays : (s : State) → Stands disk tables s → now s) where
   -- the index that is read, in a description
   abbrev there_in : TableSchema → Option IndexSchema
@@ -201,7 +201,7 @@ module _ {file : ℕ} (disk : DiskState) (tables : Tables) (now : State → Type
 
 -- ---- what answers it
 
-module _ {file : ℕ} (disk : DiskState) (tables : Tables) (now : State → Type 0) (ms : Members)
+module _ (file : ℕ) (disk : DiskState) (tables : Tables) (now : State → Type 0) (ms : Members)
     (target : ListTarget) (range : KeyRange) (r : Result Reply Stop) (plain : IsPlain r)
     (within : IfSome target.index (λ n. n < length (indexes target.schema.now))) where
   -- a Query is carried out by the page of the range that is asked for
@@ -225,7 +225,7 @@ module _ {file : ℕ} (disk : DiskState) (tables : Tables) (now : State → Type
         target.schema.now same target.index
         (within_of (catalog_of tables) (table_name ms) target.index target.schema.now
         is.there within)
-        ms target.said now r range target.start asked (does s t stands at));
+        ms target.said now r range file target.start asked (does s t stands at));
     plain = plain;
   }
 
@@ -249,7 +249,7 @@ module _ {file : ℕ} (disk : DiskState) (tables : Tables) (now : State → Type
         target.schema.now same target.index
         (within_of (catalog_of tables) (table_name ms) target.index target.schema.now
         is.there within)
-        ms target.said now r range target.start asked (does s t stands at));
+        ms target.said now r range file target.start asked (does s t stands at));
     plain = plain;
   }
 

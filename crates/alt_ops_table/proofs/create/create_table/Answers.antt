@@ -72,7 +72,8 @@ returns-in_err-create-clause-carried g c =
       created d,
       made.0,
       broken_alike s (with_table s c.in_ok-schema.schema) (with_table s d) now
-          (λ free. ap (λ (x : TableSchema). with_table s x) (made.1 free)) c.in_err-create.field-0.0
+          (λ free. ap (λ (x : TableSchema). with_table s x) (made.1 free))
+          (bounds_of c.args.tables.now).file c.in_err-create.field-0.0
           (c.in_err-create.ensures.writes s stands),
     )))
 

@@ -24,7 +24,7 @@ use Rattle.alt_run.proofs.EndingLaws.{honest_of}
 use Rattle.alt_run.specs.Chains.{Step, IsStep, behind, IsChain, LeftOf, LeftEarly, LeftLater, MayLeave, Holds}
 use Rattle.alt_run.specs.Endings.{BrokenFrom, HasRun, Done, Broken, BreaksOff, WasDamaged, IsReadable}
 use Rattle.alt_run.specs.Runs.{Answers, AnswersSome, LeftThen, IsOpening, Opened}
-use Rattle.alt_run.specs.Trials.{Tries, TriesSome, LeftOfTrial, as_turn}
+use Rattle.alt_run.specs.Trials.{Tries, TriesSome, LeftOfTrial}
 use Rattle.alt_run.specs.Wholes.{IsWhole, IsFoundBehind}
 use Rattle.alt_run.specs.declared.ending.Ending.{Ending}
 use Rattle.alt_run.specs.declared.ending.Ending.TheVariants.{Whole, Words, NotEmpty, Damaged, DigestDiffers, BadRow, Device, Memory, Spent}
@@ -36,17 +36,17 @@ use Rattle.alt_run.specs.declared.words.Job.TheVariants.{Replay, Serve, Trial}
 among_stands : (r : Rules) (per n : ℕ) (m : Option ℕ) (ks : List Connection) (s : State) (t : ℕ)
     (image : Image) → LeftAmong r per n m s ks t image → IsReadable image
 among_stands r per n m [] s t image left = (s, left)
-among_stands r per n m (k ∷ ks) s t image (inl x) = (_, x.0.stands)
+among_stands r per n m (k ∷ ks) s t image (inl x) = (_, x.0.behind.stands)
 among_stands r per n m (k ∷ ks) s t image (inr (inl x)) = (_, x.2.1)
 among_stands r per n m (k ∷ ks) s t image (inr (inr x)) =
     among_stands r per (suc n) (last_told m k.told) ks _ t image x.1
 
 left_stands : (job : Job) (s : State) (t : ℕ) (es : Log) (ms : List ℕ) (image : Image)
     → LeftOf job s t es ms image → IsReadable image
-left_stands Replay s t es ms image left = (_, left.stands)
+left_stands Replay s t es ms image left = (_, left.behind.stands)
 left_stands (Serve per count) s t es ms image left =
     among_stands rules per 1 None left.0 s t image left.4
-left_stands (Trial seed count) s t es ms image left = (_, left.stands)
+left_stands (Trial seed count) s t es ms image left = (_, left.behind.stands)
 
 -- ---- what a job leaves behind an opening, done or broken off
 

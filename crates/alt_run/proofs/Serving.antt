@@ -11,11 +11,11 @@ use Rattle.alt_shell.specs.Calls.{Adds, ShellCall, Untold}
 use Rattle.alt_shell.specs.Log.{Log, Grows, Tells, moments_of, until, entry, told_count, said, say_failed, says_failed, says_missed, taken, said_in, ended, crosses}
 use Rattle.alt_talks.specs.Runs.{Stretch, Leads}
 use Rattle.alt_run.specs.Runs.{Serves, Breaks, BreaksFor, IsAtWork, Rests, ServesAtHand, BreaksAtHand, LeftAtHand, IsWorking, IsWriting}
-use Rattle.alt_talks.specs.Stops.{IsLeft, IsAmong, AtEach, AreWithin}
+use Rattle.alt_talks.specs.Stops.{IsLeft, IsUncut, AtEach, AreWithin}
 use Rattle.alt_tables.specs.Stands.{Stands}
 use Rattle.alt_tables.specs.declared.tables.Tables.{Tables}
 use Rattle.alt_tables.specs.FilesLeft.{most_files}
-use Rattle.alt_talks.specs.Faults.{IsCausedBy, IsFileFault}
+use Rattle.alt_talks.specs.Faults.{IsAnswerFault, IsCausedBy, IsFileFault}
 use Rattle.alt_talks.specs.declared.fault.RunFault.{RunFault}
 use Rattle.alt_talks.specs.declared.fault.RunFault.TheVariants.{Failed, NoMemory}
 use Rattle.alt_run.specs.Faults.{IsControlFault}
@@ -94,7 +94,12 @@ breaks_for fault next now s t ls done begun es fs ms ns low p why =
           (next + tasks ((ls ++ done) ++ begun) * most_files)
           (let e = ap tasks (append_assoc ls done begun) in
           let l = tasks-append ls (done ++ begun) in omega (arith, e, l, low)) work.0,
-      ⊎_elim (λ (w : IsWriting begun). inl w) (λ (w : IsWorking t done begun fs ns). inr (record {
+      ⊎_elim (λ (w : IsWriting t done begun ns). inl (record {
+        line = w.line;
+        last = w.last;
+        asks = w.asks;
+        enough = same ∙ w.enough;
+      })) (λ (w : IsWorking t done begun fs ns). inr (record {
         line = w.line;
         last = w.last;
         enough = same ∙ w.enough;
@@ -115,7 +120,7 @@ pub breaks_same : (fault : RunFault) (next : ℕ) (s : State) (done begun : List
 breaks_same fault next s done begun es fs ms same why = ⊎_elim (λ cause. inl cause)
     (λ work. inr (
       work.0,
-      ⊎_elim (λ (w : IsWriting begun). inl w) (λ (w : IsWorking s done begun es ms). inr (record {
+      ⊎_elim (λ (w : IsWriting s done begun ms). inl w) (λ (w : IsWorking s done begun es ms). inr (record {
         line = w.line;
         last = w.last;
         enough = w.enough;
@@ -304,7 +309,7 @@ hand_none a tables s stands = record {
 
 -- ---- single calls
 
--- the front of a turn: its moment was asked for, and its writes were made or broken off
+-- the front of a turn: its moment was asked for, and it was carried out or broke off
 pub record Begins (old mid : DiskState) (s : State) (l : Asked) (t : Turn)
     (ms : List ℕ) : Type 0 where
   pub one : turns s (l ∷ []) ms ≡ t ∷ []
@@ -313,7 +318,7 @@ pub record Begins (old mid : DiskState) (s : State) (l : Asked) (t : Turn)
   pub told : Tells (moments_of old.beside) (moments_of mid.beside) ms
   pub later : old.moment ≤ mid.moment
   pub trusts : IsTrusted old → IsTrusted mid
-  pub leaves : AtEach old mid (λ _ image. IsAmong image s t.atoms)
+  pub leaves : AtEach old mid (λ _ image. IsUncut image s t.atoms)
 
 -- what a turn lacks is what its line lacks
 lacked : (next : ℕ) (s : State) (l : Asked) (t : Turn) (ms : List ℕ) (fault : RunFault) (es : Log)
@@ -537,14 +542,19 @@ unsaid old new s l t ms fault next b why =
 -- since it lacks what it wants or there is no memory
 pub turn_unsaid : (old new : DiskState) (s : State) (l : Asked) (t : Turn) (ms : List ℕ)
     (fault : RunFault) (next : ℕ) → requests (l ∷ []) ≡ 1 → tasks (l ∷ []) ≡ 1
-    → Begins old new s l t ms → IsCausedBy t.lacks fault ⊎ IsFileFault next fault
+    → Begins old new s l t ms → IsAnswerFault next t.lacks fault
     → Stretch old new (BreaksAtHand fault next s (l ∷ []))
 turn_unsaid old new s l t ms fault next asks task b cause =
     unsaid old new s l t ms fault next b (⊎_elim
     (λ (lack : IsCausedBy t.lacks fault). lacked next s l t ms fault [] b.one lack)
-    (λ (last : IsFileFault next fault). inr (
-      file_more fault next (next + tasks (l ∷ []) * most_files) (omega (arith, task)) last,
-      inl (record { line = l; last = refl; asks = asks }),
+    (λ (last : (t.lacks ≡ None) × IsFileFault next fault). inr (
+      file_more fault next (next + tasks (l ∷ []) * most_files) (omega (arith, task)) last.1,
+      inl (record {
+        line = l;
+        last = refl;
+        asks = asks;
+        enough = ap wanted b.one ∙ ap (λ w. or_next w None) last.0;
+      }),
     )) cause)
 
 -- or since what a word of control asks for isn't done

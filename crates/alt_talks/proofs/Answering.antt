@@ -1,12 +1,15 @@
 -- A request that was carried out, or has no answer.
-use Rattle.std.proofs.Common.{◌≡◌, ⊎_elim, inl, inr, ℕ, List, None, Some, option_map, ap, subst, sym}
+use Rattle.std.proofs.Common.{◌≡◌, ◌≤◌, ⊎_elim, inl, inr, ℕ, zero, suc, List, [], ◌∷◌, length, Option, None, Some, option_map, ap, subst, sym, arith}
 use Rattle.alt_disk.specs.Disk.{DiskState}
-use Rattle.alt_machine.specs.Outcomes.{Outcome}
+use Rattle.alt_machine.specs.Outcomes.{Outcome, state_after}
 use Rattle.alt_machine.specs.State.{State}
+use Rattle.alt_machine.specs.Step.{step}
 use Rattle.alt_machine.specs.Wanted.{Lack, lack_among, wanted}
-use Rattle.alt_talks.specs.Stops.{IsAmong, AtEach}
+use Rattle.alt_machine.specs.declared.Operation.{Operation}
+use Rattle.alt_machine.proofs.Steps.{one_atom}
+use Rattle.alt_talks.specs.Stops.{Image, IsUncut, AtEach}
 use Rattle.alt_tables.specs.Faults.{BreakOff, IsLastFile, told_by_tables}
-use Rattle.alt_tables.specs.Images.{Leaves}
+use Rattle.alt_tables.specs.Images.{Leaves, StandsFor}
 use Rattle.alt_tables.specs.Stands.{Stands}
 use Rattle.alt_tables.specs.declared.faults.TableFault.{TableFault}
 use Rattle.alt_tables.specs.declared.faults.TableFault.TheVariants.{Spent, Damaged, BadRow, Failed, NoMemory}
@@ -20,17 +23,29 @@ use Rattle.alt_tables.proofs.Left.{leaves_images}
 abbrev Lacks : State → Outcome → ℕ → Type 0
 Lacks s outcome n = option_map (λ (l : Lack). l.number) (wanted s outcome) ≡ Some n
 
--- what a request leaves at each moment stands for the state after some of its writes
-pub among_leaves : (a b : DiskState) (tables : Tables) (s : State) (atoms : List State)
-    → Stands a tables s → Leaves a b s atoms → AtEach a b (λ _ image. IsAmong image s atoms)
-among_leaves a b tables s atoms stands leaves trusted =
-    let p = leaves_images a b tables s atoms stands leaves in
+-- what is left of one state at most that is made lasting is that before it or that after it
+uncut_some : (image : Image) (s : State) (atoms : List State) → length atoms ≤ 1 → (k : ℕ)
+    → StandsFor image (state_after k s atoms) → IsUncut image s atoms
+uncut_some image s atoms few zero stands = inl stands
+uncut_some image s [] few (suc k) stands = inl stands
+uncut_some image s (t ∷ []) few (suc zero) stands = inr stands
+uncut_some image s (t ∷ []) few (suc (suc k)) stands = inr stands
+uncut_some image s (t ∷ u ∷ ts) few (suc k) stands = absurd (omega (arith, few))
+
+-- what a request leaves at each moment stands for the state before it or for that after it
+pub uncut_leaves : (a b : DiskState) (tables : Tables) (s : State) (o : Option Operation)
+    (body : List ℕ) (moment : ℕ) → Stands a tables s → Leaves a b s (step s o body moment).atoms
+    → AtEach a b (λ _ image. IsUncut image s (step s o body moment).atoms)
+uncut_leaves a b tables s o body moment stands leaves trusted =
+    let p = leaves_images a b tables s (step s o body moment).atoms stands leaves in
     record {
       later = p.later;
       past = p.past;
       file = λ g outside. absurd (outside tt);
       fates = λ t g outside low high. absurd (outside tt);
-      each = p.each;
+      each = λ t image low high is_image.
+          let some = p.each t image low high is_image in
+          uncut_some image s (step s o body moment).atoms (one_atom s o body moment) some.0 some.1;
     }
 
 -- what broke off a request is why it has no answer

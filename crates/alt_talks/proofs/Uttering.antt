@@ -9,7 +9,7 @@ use Rattle.std.proofs.lemmas.Bool.{true≢false}
 use Rattle.alt_disk.specs.Disk.{DiskState}
 use Rattle.alt_shell.specs.Calls.{Adds, Keeps, Untold, IsUntoldBy}
 use Rattle.alt_talks.specs.Runs.{Stretch}
-use Rattle.alt_talks.specs.Faults.{IsCausedBy, IsFileFault, reach}
+use Rattle.alt_talks.specs.Faults.{IsAnswerFault, IsCausedBy, reach}
 use Rattle.alt_talks.specs.declared.fault.RunFault.{RunFault}
 use Rattle.alt_talks.specs.declared.fault.RunFault.TheVariants.{NoMemory}
 use Rattle.alt_talks.specs.Turns.{or_next}
@@ -234,23 +234,23 @@ answers_some_none r next s m ts = record { some = record { said = (text r s ts [
 
 -- why a request has no answer is why it broke off
 asked_breaks : (r : Rules) (fault : RunFault) (next : ℕ) (s : State) (m : Bool) (q : Request) (at : ℕ)
-    → IsCausedBy (r.wants s q at) fault ⊎ IsFileFault next fault → BreaksFor r fault next s m (asked q ∷ []) [] (at ∷ [])
+    → IsAnswerFault next (r.wants s q at) fault → BreaksFor r fault next s m (asked q ∷ []) [] (at ∷ [])
 asked_breaks r fault next s m q at (inl w) =
     inl (subst (λ v. IsCausedBy v fault) (alone (r.wants s q at)) w)
 asked_breaks r fault next s m q at (inr last) = inr (
-  file_more fault next (reach next (at ∷ [])) (omega arith) last,
+  file_more fault next (reach next (at ∷ [])) (omega arith) last.1,
   inl (record {
     before = [];
     request = q;
     rest = [];
     parts = refl;
     count = refl;
-    enough = refl;
+    enough = sym (alone (r.wants s q at)) ∙ last.0;
   }),
 )
 
 pub some_asked : (r : Rules) (fault : RunFault) (next : ℕ) (s : State) (m : Bool) (q : Request) (at : ℕ) (es : Log) (ms : List ℕ)
-    → Clocked at es ms → IsCausedBy (r.wants s q at) fault ⊎ IsFileFault next fault → AnswersSome r fault next s m (asked q ∷ []) es ms
+    → Clocked at es ms → IsAnswerFault next (r.wants s q at) fault → AnswersSome r fault next s m (asked q ∷ []) es ms
 some_asked r fault next s m q at es ms t w =
     let none = t.nothing in let one = t.one in
     subst (λ (fs : Log). AnswersSome r fault next s m (asked q ∷ []) fs ms) (sym none)

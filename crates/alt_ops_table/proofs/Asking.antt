@@ -1,5 +1,5 @@
 -- The refusals of a CreateTable, step by step, and what it comes to.
-use Rattle.std.proofs.Common.{◌≡◌, inl, inr, refl, sym, ap, subst, ◌∙◌, ℕ, zero, suc, ◌+◌, ◌<◌, ◌≤◌, take, Err, Bool, true, false, cond, not, nat_le, [], ◌∷◌, Option, Some, None, option_map, is_some, arith}
+use Rattle.std.proofs.Common.{◌≡◌, inl, inr, refl, sym, ap, subst, ◌∙◌, ℕ, ◌+◌, ◌<◌, ◌≤◌, Err, Bool, true, false, cond, not, nat_le, [], ◌∷◌, Option, Some, None, option_map, is_some, arith}
 use Rattle.std.specs.Prelude.{IsSome}
 use Rattle.std.proofs.lemmas.Bool.{le-leb}
 use Rattle.std.specs.FinMap as map

@@ -111,8 +111,8 @@ module _ (disk : DiskState) (tables : Tables) (ms : Members) where
   pub place_passed : {file : ℕ} (r : Result Reply Stop) (stop : Stop) → IsErr r × IsErrAnd r (λ e. e ≡ stop)
       → OnPlace (catalog_of tables) (trimmed_of tables) ms (Err stop)
       → Carries file (λ s. get_records s ms) (Stands disk tables) (Stands disk tables) r
-  place_passed r stop same h = subst
-      (Carries _ (λ s. get_records s ms) (Stands disk tables) (Stands disk tables))
+  place_passed {file = file} r stop same h = subst
+      (Carries file (λ s. get_records s ms) (Stands disk tables) (Stands disk tables))
       (sym (err_is r stop same)) (place_stops stop h)
 
   -- nor did the device fail then

@@ -51,7 +51,8 @@ module _ (disk : DiskState) (tables : Tables) (arn : List ℕ) (outcome : State 
       → IsErr r × IsErrAnd r (λ e. e ≡ stop) → OnStream (catalog_of tables) arn (Err stop)
       → ((s : State) → Stands disk tables s → now s)
       → Carries file outcome (Stands disk tables) now r
-  stream_passed now r stop same h stays = subst (Carries _ outcome (Stands disk tables) now)
+  stream_passed {file = file} now r stop same h stays = subst
+      (Carries file outcome (Stands disk tables) now)
       (sym (err_is r stop same)) (stream_stopped now stop h stays)
 
   -- it is, and the operation goes on

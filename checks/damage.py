@@ -3,7 +3,8 @@
 A byte of a file is changed, in so many places at most, from the first of each file to the last in even steps: of the versions, of the log and
 of files of rows. What an opening has to say of it is read from the formats' pages (docs/formats) by a reader of its own: that a file is
 damaged, and where, or has another digest than that of its bytes, and which two. Where the files are those of a store all the same, it shows
-what it showed, or, without its last entries, what it showed before these; or a row is wrong, and named. And five stores that are none.
+what it showed, or, without its last entries, what it showed before these; or a row is wrong, and named. One of the stores has segments of
+both forms. And five stores that are none.
 """
 
 import concurrent.futures
@@ -14,7 +15,7 @@ import sys
 import tempfile
 
 from disks import lay
-from stores import MADE, SHOW, Script, at_once, batch, delete, ends, init, put, replay, seen, short, word
+from stores import KEPT, MADE, SHOW, Script, at_once, batch, delete, ends, init, kept_files, put, replay, seen, short, word
 
 PROGRAM, TRIES = sys.argv[1], int(sys.argv[2])
 FORMS = [b"ALTLOG01", b"ALTLOG02"]
@@ -154,7 +155,7 @@ def test_rows(number, data, greatest):
 
 
 def store_of(files):
-    """What files hold: the last version and the writes of its segments, each by its bytes."""
+    """What files hold: the last version and the entries of its segments, each by how many writes it has and its bytes."""
 
     def file(number):
         return files.get("%08x.alt" % number, b"")
@@ -172,7 +173,7 @@ def store_of(files):
     for _, greatest, numbers in families:
         for number in numbers:
             test_rows(number, file(number), greatest)
-    writes, before = [], 0
+    held, before = [], 0
     for number in segments:
         form, entries = log_of(number, file(number))
         for at, data in entries:
@@ -183,17 +184,20 @@ def store_of(files):
             if found[0] <= before:
                 raise damaged(number, at)
             before = found[-1]
-            writes.append(data)
-    return segments, families, writes
+            held.append((len(found), data))
+    return segments, families, held
 
 
 class Store:
-    """A store of some lines, its files and what it holds."""
+    """A store of some lines, its files and what it holds: a fresh one, or the one of the first form that is kept."""
 
-    def __init__(self, lines):
-        self.script = Script(lines)
+    def __init__(self, lines, before=None):
+        self.script = Script(lines, before, len(before.writes) if before else 0)
         with tempfile.TemporaryDirectory() as folder:
-            init(PROGRAM, folder)
+            if before:
+                lay(kept_files(), folder)
+            else:
+                init(PROGRAM, folder)
             replay(PROGRAM, folder, self.script.text(), check=True)
             self.files = {name: open(os.path.join(folder, name), "rb").read() for name in sorted(os.listdir(folder))}
         self.held = store_of(self.files)
@@ -204,10 +208,10 @@ class Store:
             held = store_of(files)
         except Bad as bad:
             return str(bad)
-        writes = len(held[2])
-        if held[:2] != self.held[:2] or held[2] != self.held[2][:writes]:
+        entries = len(held[2])
+        if held[:2] != self.held[:2] or held[2] != self.held[2][:entries]:
             return None
-        return len(self.script.writes) - (len(self.held[2]) - writes)
+        return len(self.script.writes) - sum(writes for writes, _ in self.held[2][entries:])
 
     def fault(self, change):
         """Why the store with a byte of a file changed isn't as it has to be, None where it is."""
@@ -266,13 +270,14 @@ def main():
     flushed = [MADE, put(1, "x", "first"), put(2, "y", "two"), word("@flush")]
     both = Store(flushed + [put(1, "y", "second"), batch(put(3, "x", "three"), delete(2))])
     alone = Store([MADE] + [put(n, "x", "%d %s" % (n, "f" * 30_000)) for n in range(4)])
+    forms = Store([batch(put(1, "x", "again"), delete(2)), put(3, "y", "third")], Script(KEPT))
     with concurrent.futures.ThreadPoolExecutor(at_once()) as pool:
-        for store in both, alone:
+        for store in both, alone, forms:
             places = [(name, at) for name, data in store.files.items() for at in range(len(data))]
             # of a long file the beginning and the end, and some places between
             places = [one for one in places if near(one[1], len(store.files[one[0]]))]
             tries = [(name, at, byte) for name, at in places for byte in (1, 255)]
-            tries = tries[:: max(1, -(-len(tries) // (TRIES // 2)))]
+            tries = tries[:: max(1, -(-len(tries) // (TRIES // 3)))]
             for why in pool.map(store.fault, tries):
                 if why:
                     faults.append(why)

@@ -19,14 +19,11 @@ use Rattle.alt_opening.specs.Opened.{Holds}
 use Rattle.alt_opening.proofs.Engine.{one_layout_in_hand, stands_past}
 use Rattle.alt_opening.proofs.OneState.{some}
 use Rattle.alt_schema.specs.declared.schema.TableSchema.{TableSchema}
-use Rattle.alt_tables.specs.Faults.{BreakOffAll, IsFindFault}
 use Rattle.alt_tables.specs.Fronts.{AreFronts}
 use Rattle.alt_tables.specs.Leftovers.{lowest_left}
 use Rattle.alt_tables.specs.RowChanges.{write_changes}
 use Rattle.alt_tables.specs.Several.{AreAllApart, AreDistinct, Every, IsFound, MayWrite, batch_of, batches_of, with_batches, written_at}
 use Rattle.alt_tables.specs.Stands.{HasRows, Keeps, Stands, catalog_of, fronts_of, number_of, trimmed_of}
-use Rattle.alt_tables.specs.declared.faults.TableFault.{TableFault}
-use Rattle.alt_tables.specs.declared.faults.TableFault.TheVariants.{Spent, Damaged, BadRow, Failed, NoMemory}
 use Rattle.alt_tables.specs.declared.several.ItemChange.{ItemChange}
 use Rattle.alt_tables.specs.declared.several.Noted.{Noted}
 use Rattle.alt_tables.specs.declared.several.Staged.{Staged}
@@ -334,12 +331,3 @@ pub together_last : (s : State) (ws : List State) → 1 ≤ length ws
     → together s ws ≡ last_state s ws ∷ []
 together_last s [] some = absurd (omega (arith, some))
 together_last s (t ∷ ts) some = refl
-
--- a fault of a call that reads, or that makes them, breaks them off
-pub broke_all : {file : ℕ} (now : State → Type 0) (s : State) (ws : List State) (f : TableFault)
-    → IsFindFault f → BreakOffAll file now s ws f
-broke_all now s ws (Spent n) known = absurd known
-broke_all now s ws (Damaged file at) known = absurd known
-broke_all now s ws (BadRow family key) known = absurd known
-broke_all now s ws Failed known = tt
-broke_all now s ws NoMemory known = tt

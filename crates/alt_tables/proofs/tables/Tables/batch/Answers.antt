@@ -1,6 +1,5 @@
 -- What goes with the write isn't changed yet.
-use Rattle.std.proofs.Common.{◌≡◌, ◌+◌, refl, sym, ap, subst, ℕ, IsSome, arith}
-use Rattle.alt_tables.specs.Stands.{number_of}
+use Rattle.std.proofs.Common.{◌+◌, refl, sym, subst, IsSome, arith}
 use Rattle.alt_tables.specs.private.Trims.{IsWithin}
 use Rattle.alt_tables.proofs.Trimmed.{can_trim}
 use Rattle.alt_tables.proofs.tables.Tables.batch.Goals as goal

@@ -1,5 +1,5 @@
 -- The last of the notes are known.
-use Rattle.std.proofs.Common.{◌≡◌, List, length}
+use Rattle.std.proofs.Common.{◌≡◌, length}
 use Rattle.alt_tables.specs.Stands.{catalog_of, fronts_of, trimmed_of}
 use Rattle.alt_tables.proofs.Noting.{AreLastKnown}
 use Rattle.alt_tables.proofs.tables.Tables.know_all.Given as goal

@@ -1,5 +1,5 @@
 -- The rows that are read are the lowest that are left over.
-use Rattle.std.proofs.Common.{◌≡◌, sym, ap, ◌∙◌, rules, arith}
+use Rattle.std.proofs.Common.{ap, ◌∙◌, arith}
 use Rattle.alt_disk.proofs.Runs.{tells_of}
 use Rattle.alt_faults.proofs.Telling.{memory-outside}
 use Rattle.alt_tables.specs.Faults.{told_by_tables}

@@ -1,5 +1,5 @@
 -- The row changes of the write are put behind the others, and what it takes before what they take.
-use Rattle.std.proofs.Common.{◌≡◌, ◌+◌, refl, sym, ap, subst, ◌∙◌, ℕ, List, length, rules, arith}
+use Rattle.std.proofs.Common.{◌+◌, refl, sym, ap, subst, ◌∙◌, rules, arith}
 use Rattle.std.specs.FinMap as map
 use Rattle.alt_disk.specs.Disk.{DiskState}
 use Rattle.alt_machine.specs.State.{Texts}
@@ -8,7 +8,7 @@ use Rattle.alt_tables.specs.Stands.{catalog_of, number_of}
 use Rattle.alt_tables.specs.declared.several.Staged.{Staged}
 use Rattle.alt_tables.specs.declared.tables.Tables.{Tables}
 use Rattle.alt_tables.specs.private.Staging.{IsAhead}
-use Rattle.alt_tables.proofs.Staged.{ahead_there, described_by, one_staged}
+use Rattle.alt_tables.proofs.Staged.{described_by, one_staged}
 use Rattle.alt_tables.proofs.tables.Tables.stage.Goals as goal
 
 pub returns-in-Err-clause-fault : goal.returns-in-Err-clause-fault

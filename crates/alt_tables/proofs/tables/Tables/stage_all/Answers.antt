@@ -1,5 +1,5 @@
 -- One more is got ready behind the others.
-use Rattle.std.proofs.Common.{◌≡◌, sym, ap, subst, List, [], ◌∷◌, length, arith, rules}
+use Rattle.std.proofs.Common.{sym, subst, List, [], ◌∷◌, arith}
 use Rattle.std.specs.Vec.Iter.{into_iter_items}
 use Rattle.std.proofs.lemmas.List.{nil_from_length}
 use Rattle.alt_disk.specs.Disk.{DiskState}

@@ -1,5 +1,5 @@
 -- What is trimmed and what is left over are read one after the other.
-use Rattle.std.proofs.Common.{◌≡◌, ◌≤◌, ◌<◌, sym, ap, subst, ◌∙◌, ℕ, List, Bool, true, false, Option, Some, None, All, arith}
+use Rattle.std.proofs.Common.{◌≡◌, ◌≤◌, ◌<◌, sym, ap, subst, ◌∙◌, ℕ, List, true, Some, None, All, arith}
 use Rattle.std.proofs.lemmas.Bool.{false≢true}
 use Rattle.std.proofs.lemmas.Bool.Decides.{nat_tests}
 use Rattle.std.specs.FinMap as map
@@ -8,10 +8,9 @@ use Rattle.alt_disk.specs.Disk.{DiskState}
 use Rattle.alt_machine.specs.State.{State, Table}
 use Rattle.alt_schema.specs.declared.schema.TableSchema.{TableSchema}
 use Rattle.alt_tables.specs.Leftovers.{leftovers}
-use Rattle.alt_tables.specs.Stands.{Stands, catalog_of, fronts_of, number_of}
+use Rattle.alt_tables.specs.Stands.{Stands, catalog_of}
 use Rattle.alt_tables.specs.declared.tables.Tables.{Tables}
 use Rattle.alt_tables.proofs.Pages.{same_table}
-use Rattle.alt_tables.proofs.Rising.{two_differ, two_left}
 use Rattle.alt_tables.proofs.Standing.{keeps_then, ready_kept, rows_kept, stands_kept, there}
 use Rattle.alt_tables.proofs.TrimSteps.{is_rest, is_trim, left_above, no_trim, trimmed_known, trimmed_rises, trimmed_stays_below}
 use Rattle.alt_tables.proofs.tables.Tables.trim.Goals as goal

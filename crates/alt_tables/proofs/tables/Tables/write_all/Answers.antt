@@ -1,5 +1,5 @@
 -- Those that change something are got ready, and then they are made as one entry.
-use Rattle.std.proofs.Common.{◌≡◌, ◌≤◌, ◌<◌, ◌+◌, ◌-◌, ◌^◌, ◌==◌, inl, inr, refl, sym, ap, subst, ◌∙◌, ℕ, zero, suc, Bool, true, false, cond, List, [], ◌∷◌, length, map as each, min, arith}
+use Rattle.std.proofs.Common.{◌≡◌, ◌≤◌, ◌<◌, ◌+◌, ◌-◌, ◌^◌, ◌==◌, inl, inr, refl, sym, ap, subst, ◌∙◌, ℕ, Bool, true, false, cond, List, [], ◌∷◌, length, map as each, min, arith}
 use Rattle.std.proofs.Math.Nat.{min-le_left}
 use Rattle.std.specs.Prelude.{not}
 use Rattle.alt_cells.specs.declared.batch.RowChange.{RowChange}

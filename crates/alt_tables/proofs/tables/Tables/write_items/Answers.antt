@@ -1,6 +1,5 @@
 -- The writes at the places of the keys.
-use Rattle.std.proofs.Common.{◌≡◌, subst, sym, List, map as each}
-use Rattle.alt_disk.specs.Disk.{DiskState}
+use Rattle.std.proofs.Common.{subst, sym, List, map as each}
 use Rattle.alt_disk.proofs.Runs.{quiet_start}
 use Rattle.alt_codec.specs.declared.writer.Writer.TheVariants.{User}
 use Rattle.alt_machine.specs.Ops.BatchWriteItem.{Written, writes_of_all_by}

@@ -109,8 +109,8 @@ module _ (d : TableSchema) (x : Option IndexSchema) (ms : Members) (ask : PageAs
 -- ---- what is done
 
 -- the page is answered, or memory was wanting for it
-pub page_does : (file : ℕ) (now : State → Type 0) (s : State) (d : TableSchema) (x : Option IndexSchema)
-    (ms : Members) (ask : PageAsk)
+pub page_does : (file : ℕ) (now : State → Type 0) (s : State) (d : TableSchema)
+    (x : Option IndexSchema) (ms : Members) (ask : PageAsk)
     (list : List (List Pair)) (filling : Filling) (r : Result Reply Stop) → now s
     → HasFilled filling ask list → ask.count_only ≡ selects (codes "COUNT") ms
     → IfOk r (λ reply. AnswersPage d x ms filling (answer_of reply))
@@ -124,18 +124,18 @@ page_does file now s d x ms ask list filling (Err stop) stands filled counts tol
     (does_say file now (answer_with d x ms ask list) s (Err (Fault NoMemory)) refl stands)
 
 -- the walk stopped before it
-pub fault_does : (file : ℕ) (now : State → Type 0) (s : State) (outcome : Outcome) (stop : Stop) → IsFault stop
-    → now s → Does file now s outcome (Err stop)
+pub fault_does : (file : ℕ) (now : State → Type 0) (s : State) (outcome : Outcome) (stop : Stop)
+    → IsFault stop → now s → Does file now s outcome (Err stop)
 fault_does file now s outcome (Refused r) h stands = absurd h
 fault_does file now s outcome (Fault (Spent n)) h stands = absurd h
-fault_does file now s outcome (Fault (Damaged number at)) h stands = absurd h
+fault_does _ now s outcome (Fault (Damaged file at)) h stands = absurd h
 fault_does file now s outcome (Fault (BadRow family key)) h stands = absurd h
 fault_does file now s outcome (Fault Failed) h stands = tt
 fault_does file now s outcome (Fault NoMemory) h stands = tt
 
 -- and that is what is handed on
-pub does_fault : (file : ℕ) (now : State → Type 0) (s : State) (outcome : Outcome) (r : Result Reply Stop)
-    (stop : Stop) → IsErr r × IsErrAnd r (λ e. e ≡ stop) → IsFault stop → now s
+pub does_fault : (file : ℕ) (now : State → Type 0) (s : State) (outcome : Outcome)
+    (r : Result Reply Stop) (stop : Stop) → IsErr r × IsErrAnd r (λ e. e ≡ stop) → IsFault stop → now s
     → Does file now s outcome r
 does_fault file now s outcome r stop same fault stands =
     subst (Does file now s outcome) (sym (err_is r stop same))

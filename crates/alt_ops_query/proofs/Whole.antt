@@ -221,8 +221,8 @@ module _ (file : ℕ) (disk : DiskState) (tables : Tables) (now : State → Type
         let (t, at, same, so) = list_reached disk tables
         (paired_refusals broken mismatched querying_of.rules ms) ms (λ s. query s ms) querying
         (λ s. queries ms) (query_is ms broken mismatched e f) target is s stands in
-        subst (λ o. Does file now s o r) (sym so) (query_page disk tables s stands (table_name ms) t at
-        target.schema.now same target.index
+        subst (λ o. Does file now s o r) (sym so)
+        (query_page disk tables s stands (table_name ms) t at target.schema.now same target.index
         (within_of (catalog_of tables) (table_name ms) target.index target.schema.now
         is.there within)
         ms target.said now r range file target.start asked (does s t stands at));
@@ -245,8 +245,8 @@ module _ (file : ℕ) (disk : DiskState) (tables : Tables) (now : State → Type
         let (t, at, same, so) = list_reached disk tables
         (paired_refusals broken mismatched scanning_of.rules ms) ms (λ s. scan s ms) scanning
         (λ s. scans ms) (scan_is ms broken mismatched e f) target is s stands in
-        subst (λ o. Does file now s o r) (sym so) (scan_page disk tables s stands (table_name ms) t at
-        target.schema.now same target.index
+        subst (λ o. Does file now s o r) (sym so)
+        (scan_page disk tables s stands (table_name ms) t at target.schema.now same target.index
         (within_of (catalog_of tables) (table_name ms) target.index target.schema.now
         is.there within)
         ms target.said now r range file target.start asked (does s t stands at));

@@ -168,8 +168,8 @@ unfit_asked tables moment ms (Refused r) h = (h.1, λ s same. create-unfit s mom
 unfit_asked tables moment ms (Fault f) h = h
 
 -- what is asked stops the request
-pub asked_stops : {file : ℕ} (tables : Tables) (disk : DiskState) (now : State → Type 0) (moment : ℕ)
-    (ms : Members) (stop : Stop) → IsAsked tables moment ms (Err stop)
+pub asked_stops : {file : ℕ} (tables : Tables) (disk : DiskState) (now : State → Type 0)
+    (moment : ℕ) (ms : Members) (stop : Stop) → IsAsked tables moment ms (Err stop)
     → ((s : State) → Stands disk tables s → now s)
     → Carries file (λ s. create_table s moment ms) (Stands disk tables) now (Err stop)
 asked_stops tables disk now moment ms (Refused r) h stays =

@@ -21,7 +21,8 @@ use Rattle.alt_ops_table.proofs.create.create_table.Goals as goal
 
 pub returns-in_err-schema-clause-carried : goal.returns-in_err-schema-clause-carried
 returns-in_err-schema-clause-carried g c =
-    subst (Carries (bounds_of c.args.tables.now).file (λ s. create_table s c.args.moment (members_view c.args.body.now.entries))
+    subst (Carries (bounds_of c.args.tables.now).file
+    (λ s. create_table s c.args.moment (members_view c.args.body.now.entries))
     (Stands (g.D.Disk.state c.args.disk.now) c.args.tables.now)
     (Stands (g.D.Disk.state c.args.disk.now) c.args.tables.now))
     (sym (err_is c.from_residual.result c.in_err-schema.field-0.0 c.from_residual.ensures))
@@ -32,7 +33,8 @@ returns-in_err-schema-clause-carried g c =
 
 pub returns-in_err-reply-clause-carried : goal.returns-in_err-reply-clause-carried
 returns-in_err-reply-clause-carried g c =
-    subst (Carries (bounds_of c.args.tables.now).file (λ s. create_table s c.args.moment (members_view c.args.body.now.entries))
+    subst (Carries (bounds_of c.args.tables.now).file
+    (λ s. create_table s c.args.moment (members_view c.args.body.now.entries))
     (Stands (g.D.Disk.state c.args.disk.now) c.args.tables.now)
     (Stands (g.D.Disk.state c.args.disk.now) c.args.tables.now))
     (sym (err_is c.from_residual-in_err-reply.result c.in_err-reply.field-0.0

@@ -1,5 +1,5 @@
 -- Why turns broke off, with more entries and behind more turns.
-use Rattle.std.proofs.Common.{◌≡◌, ◌≤◌, ◌⊎◌, ⊎_elim, inl, inr, ℕ, List, [], ◌∷◌, ◌++◌, length, Bool, true, false, Option, None, refl, sym, ap, subst, ◌∙◌, append_assoc, append-nil, arith, length-append}
+use Rattle.std.proofs.Common.{◌≡◌, ◌≤◌, ⊎_elim, inl, inr, ℕ, List, [], ◌∷◌, ◌++◌, length, Bool, true, false, Option, None, refl, sym, ap, subst, ◌∙◌, append_assoc, append-nil, arith, length-append}
 use Rattle.std.specs.Prelude.{◌||◌}
 use Rattle.std.proofs.lemmas.Bool.{true≢false}
 use Rattle.alt_machine.specs.State.{State}
@@ -8,7 +8,7 @@ use Rattle.alt_shell.specs.Log.{Log, said_in, says_failed}
 use Rattle.alt_talks.specs.Faults.{IsCausedBy, IsFileFault, reach}
 use Rattle.alt_talks.specs.Stretches.{SaidOf, Does, DoesSome, IsWorking, IsWriting, BreaksFor}
 use Rattle.alt_talks.specs.Talks.{Turn, asked, Request, Rules, has_refused}
-use Rattle.alt_talks.specs.TalkTexts.{text, after, asks, wanted}
+use Rattle.alt_talks.specs.TalkTexts.{text, asks, wanted}
 use Rattle.alt_talks.specs.declared.fault.RunFault.{RunFault}
 use Rattle.alt_talks.proofs.FileFaults.{file_more, reach_then, reach_wider}
 use Rattle.alt_talks.proofs.Stretching.{said_in-append}

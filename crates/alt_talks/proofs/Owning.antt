@@ -1,5 +1,5 @@
 -- What the server does by itself today: nothing but work.
-use Rattle.std.proofs.Common.{◌≡◌, inl, inr, ℕ, List, [], Option, Some, None, option_map, refl, ap}
+use Rattle.std.proofs.Common.{◌≡◌, inl, inr, ℕ, [], Option, Some, None, option_map, refl, ap}
 use Rattle.alt_disk.specs.Disk.{DiskState}
 use Rattle.alt_disk.proofs.Calls.{goes_refl}
 use Rattle.alt_machine.specs.State.{State}
@@ -11,7 +11,7 @@ use Rattle.alt_tables.specs.declared.tables.Tables.{Tables}
 use Rattle.alt_tables.proofs.Left.{stands_left}
 use Rattle.alt_talks.specs.Faults.{IsAnswerFault, IsCausedBy, told_by_run}
 use Rattle.alt_talks.specs.Own.{Own, none_own, own_behind, own_between}
-use Rattle.alt_talks.specs.Stops.{AtEach, IsAmong}
+use Rattle.alt_talks.specs.Stops.{IsAmong}
 use Rattle.alt_talks.specs.Turns.{or_next}
 use Rattle.alt_talks.specs.Works.{Follows, Works}
 use Rattle.alt_talks.specs.declared.fault.RunFault.{RunFault}

@@ -1,4 +1,4 @@
-use Rattle.std.proofs.Common.{◌∙◌, ◌≤◌, ◌+◌, List, ℕ, [], ◌∷◌, not, Option, Some, sym, subst}
+use Rattle.std.proofs.Common.{◌∙◌, ◌≤◌, ◌+◌, List, [], ◌∷◌, not, Option, Some, sym, subst}
 use Rattle.alt_disk.proofs.Runs.{trusted_back}
 use Rattle.alt_machine.specs.Outcomes.{last_state}
 use Rattle.alt_machine.specs.State.{State}
